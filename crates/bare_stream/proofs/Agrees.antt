@@ -1,23 +1,21 @@
 -- What holds of a head that agrees with the first one.
-use Rattle.std.proofs.Common.{◌≡◌, ◌≤◌, ◌<◌, ◌+◌, ◌-◌, ◌*◌, ◌%◌, ◌==◌, ℕ, List, ◌∷◌, refl, sym, ap, ◌∙◌, arith}
+use Rattle.std.proofs.Common.{◌≡◌, ◌≤◌, ◌<◌, ◌+◌, ◌*◌, ◌%◌, ◌==◌, ℕ, List, ◌∷◌, refl, sym, ap, ◌∙◌, arith}
 use Rattle.std.specs.Prelude.{Bool, true, false, not, nat_le, nat_lt, ◌&&◌, ◌||◌, if◌then◌else◌, Option, None}
 use Rattle.std.proofs.lemmas.Bool.Decides.{nat_tests}
 use Rattle.base_122.specs.Ranges.{is_within, rows_range}
-use Rattle.base_122.specs.Sizes.{block_count}
 use Rattle.segment_defs.specs.declared.head.SegmentHead.{SegmentHead}
 use Rattle.segment_defs.specs.declared.head.ImagePart.{ImagePart}
 use Rattle.segment_defs.specs.declared.fault.HeadFault.{HeadFault}
 use Rattle.segment_defs.specs.Reading.{refused_where, first_refusal}
 use Rattle.bare_text.specs.Agreement.{columns, blocks_before, first_agrees, blocks_agree, last_agrees, count_agrees, image_agrees, height_at, agreement_tests}
-use Rattle.std.specs.Int.{div_ceil}
 use Rattle.std.specs.Str.{bytes_eq}
 use Rattle.std.proofs.lemmas.Slice.Eq.{bytes_eq-Decides}
 use mathlib.Core.Bool.{beq}
-use Rattle.std.specs.Prelude.{◌^◌, max}
+use Rattle.std.specs.Prelude.{◌^◌}
 use Rattle.std.proofs.Math.Nat.{mul-le-mul}
-use Rattle.stream_defs.specs.Begun.{rows_reached}
-use Rattle.bare_stream.specs.BareStream.{AgreesWith, geometry_at}
-use Rattle.bare_stream.specs.SegmentsRead.{open_geometry, pixels_at}
+use Rattle.std.proofs.lemmas.Bool.{and_parts, leb-true, ltb-true, and_from, eqb-true}
+use Rattle.bare_stream.specs.BareStream.{AgreesWith}
+use Rattle.bare_stream.specs.SegmentsRead.{pixels_at}
 
 passes : (b : Bool) (fault : HeadFault) (tests : List (Option HeadFault)) → first_refusal (refused_where (not b) fault ∷ tests) ≡ None → (b ≡ true) × (first_refusal tests ≡ None)
 passes true fault tests e = (refl, e)
@@ -41,39 +39,26 @@ agrees first index head e =
     let f = passes (image_agrees head.image first.image) _ _ d.1 in
     record { flag = a.0; blocks = b.0; last = c.0; count = d.0; image = f.0 }
 
-both : (a b : Bool) → (a && b) ≡ true → (a ≡ true) × (b ≡ true)
-both true b e = (refl, e)
-both false b e = absurd cc
-
-le_of : (a b : ℕ) → nat_le a b ≡ true → a ≤ b
-le_of a b e = grind (arith, nat_tests)
-
-lt_of : (a b : ℕ) → nat_lt a b ≡ true → a < b
-lt_of a b e = grind (arith, nat_tests)
-
-eq_of : (a b : ℕ) → (a == b) ≡ true → a ≡ b
-eq_of a b e = grind (arith, nat_tests)
-
 -- the weights are those of the first head
 pub same_weights : (first : SegmentHead) (index : ℕ) (head : SegmentHead) → AgreesWith first index head → head.image.weights.shifts ≡ first.image.weights.shifts
 same_weights first index head e =
     let a = head.image in
     let b = first.image in
-    let signed = both (beq a.signed b.signed) ((a.depth == b.depth) && ((a.width == b.width) && ((a.word == b.word) && bytes_eq a.weights.shifts b.weights.shifts))) (agrees first index head e).image in
-    let depth = both (a.depth == b.depth) ((a.width == b.width) && ((a.word == b.word) && bytes_eq a.weights.shifts b.weights.shifts)) signed.1 in
-    let width = both (a.width == b.width) ((a.word == b.word) && bytes_eq a.weights.shifts b.weights.shifts) depth.1 in
-    let word = both (a.word == b.word) (bytes_eq a.weights.shifts b.weights.shifts) width.1 in
+    let signed = and_parts (beq a.signed b.signed) ((a.depth == b.depth) && ((a.width == b.width) && ((a.word == b.word) && bytes_eq a.weights.shifts b.weights.shifts))) (agrees first index head e).image in
+    let depth = and_parts (a.depth == b.depth) ((a.width == b.width) && ((a.word == b.word) && bytes_eq a.weights.shifts b.weights.shifts)) signed.1 in
+    let width = and_parts (a.width == b.width) ((a.word == b.word) && bytes_eq a.weights.shifts b.weights.shifts) depth.1 in
+    let word = and_parts (a.word == b.word) (bytes_eq a.weights.shifts b.weights.shifts) width.1 in
     (bytes_eq-Decides a.weights.shifts b.weights.shifts).0 word.1
 
 -- if the first segment isn't the last, each segment except the last has at least 16 blocks
 pub least_blocks : (first : SegmentHead) (index : ℕ) (head : SegmentHead) → AgreesWith first index head → first.last ≡ false → 16 ≤ first.blocks
 least_blocks first index head e more =
-    let b = both (if head.last then nat_le 1 head.blocks && nat_le head.blocks first.blocks else head.blocks == first.blocks) (nat_le 16 first.blocks || first.last) (agrees first index head e).blocks in
+    let b = and_parts (if head.last then nat_le 1 head.blocks && nat_le head.blocks first.blocks else head.blocks == first.blocks) (nat_le 16 first.blocks || first.last) (agrees first index head e).blocks in
     by (nat_le 16 first.blocks) first.last refl more b.1
   where
     by : (t last : Bool) → nat_le 16 first.blocks ≡ t → last ≡ false → (t || last) ≡ true → 16 ≤ first.blocks
-    by true last e f g = le_of 16 first.blocks e
-    by false last e f g = absurd (let both : true ≡ false = sym g ∙ f in cc)
+    by true last e f g = leb-true 16 first.blocks e
+    by false last e f g = absurd (let and_parts : true ≡ false = sym g ∙ f in cc)
 
 -- ---- a head that isn't the last
 
@@ -84,10 +69,10 @@ pub record Continues (first : SegmentHead) (index : ℕ) (head : SegmentHead) : 
 pub goes_on : (first : SegmentHead) (index : ℕ) (head : SegmentHead) → AgreesWith first index head → head.last ≡ false → Continues first index head
 goes_on first index head e more =
     let a = agrees first index head e in
-    let b = both (if head.last then nat_le 1 head.blocks && nat_le head.blocks first.blocks else head.blocks == first.blocks) (nat_le 16 first.blocks || first.last) a.blocks in
+    let b = and_parts (if head.last then nat_le 1 head.blocks && nat_le head.blocks first.blocks else head.blocks == first.blocks) (nat_le 16 first.blocks || first.last) a.blocks in
     record {
-      blocks = eq_of head.blocks first.blocks (ap (λ t. if t then nat_le 1 head.blocks && nat_le head.blocks first.blocks else head.blocks == first.blocks) (sym more) ∙ b.0);
-      room = lt_of _ _ (ap (λ t. if t then ((blocks_before first index + head.blocks) % columns first == 0) && is_within rows_range (height_at first index head) else nat_lt (blocks_before first index + first.blocks) (32768 * columns first)) (sym more) ∙ a.last);
+      blocks = eqb-true head.blocks first.blocks (ap (λ t. if t then nat_le 1 head.blocks && nat_le head.blocks first.blocks else head.blocks == first.blocks) (sym more) ∙ b.0);
+      room = ltb-true _ _ (ap (λ t. if t then ((blocks_before first index + head.blocks) % columns first == 0) && is_within rows_range (height_at first index head) else nat_lt (blocks_before first index + first.blocks) (32768 * columns first)) (sym more) ∙ a.last);
     }
 
 -- ---- the last head
@@ -102,12 +87,12 @@ pub record Ends (first : SegmentHead) (index : ℕ) (head : SegmentHead) : Type 
 pub ends : (first : SegmentHead) (index : ℕ) (head : SegmentHead) → AgreesWith first index head → head.last ≡ true → Ends first index head
 ends first index head e last =
     let a = agrees first index head e in
-    let b = both (if head.last then nat_le 1 head.blocks && nat_le head.blocks first.blocks else head.blocks == first.blocks) (nat_le 16 first.blocks || first.last) a.blocks in
-    let c = both (nat_le 1 head.blocks) (nat_le head.blocks first.blocks) (ap (λ t. if t then nat_le 1 head.blocks && nat_le head.blocks first.blocks else head.blocks == first.blocks) (sym last) ∙ b.0) in
-    let d = both ((blocks_before first index + head.blocks) % columns first == 0) (is_within rows_range (height_at first index head))
+    let b = and_parts (if head.last then nat_le 1 head.blocks && nat_le head.blocks first.blocks else head.blocks == first.blocks) (nat_le 16 first.blocks || first.last) a.blocks in
+    let c = and_parts (nat_le 1 head.blocks) (nat_le head.blocks first.blocks) (ap (λ t. if t then nat_le 1 head.blocks && nat_le head.blocks first.blocks else head.blocks == first.blocks) (sym last) ∙ b.0) in
+    let d = and_parts ((blocks_before first index + head.blocks) % columns first == 0) (is_within rows_range (height_at first index head))
     (ap (λ t. if t then ((blocks_before first index + head.blocks) % columns first == 0) && is_within rows_range (height_at first index head) else nat_lt (blocks_before first index + first.blocks) (32768 * columns first)) (sym last) ∙ a.last) in
-    let h = both (nat_le 17 (height_at first index head)) (nat_le (height_at first index head) 262144) d.1 in
-    record { some = le_of _ _ c.0; few = le_of _ _ c.1; whole = eq_of _ _ d.0; least = le_of _ _ h.0; most = le_of _ _ h.1 }
+    let h = and_parts (nat_le 17 (height_at first index head)) (nat_le (height_at first index head) 262144) d.1 in
+    record { some = leb-true _ _ c.0; few = leb-true _ _ c.1; whole = eqb-true _ _ d.0; least = leb-true _ _ h.0; most = leb-true _ _ h.1 }
 
 -- ---- pixels
 
@@ -115,11 +100,7 @@ known_rows : (n : ℕ) → 17 ≤ n → (n == 0) ≡ false
 known_rows n le = grind (arith, nat_tests)
 
 pub pixels_last : (first : SegmentHead) (index : ℕ) (head : SegmentHead) → AgreesWith first index head → head.last ≡ true → pixels_at first index head ≡ first.image.width * height_at first index head
-pixels_last first index head e last =
-    let some = known_rows (height_at first index head) (ends first index head e last).least in
-    let n = blocks_before first index + head.blocks in
-    ap (λ t. first.image.width * rows_reached (if t then geometry_at first index head else open_geometry first) n) last
-    ∙ ap (λ t. first.image.width * (if t then max 17 (8 * div_ceil n (block_count first.image.width) - 7) else height_at first index head)) some
+pixels_last first index head e last = grind (arith, nat_tests, known_rows, ends)
 
 -- a product of a width and a number of rows
 pub product_fits : (a b : ℕ) → a < 2 ^ 20 → b ≤ 2 ^ 36 → a * b < 2 ^ 64
@@ -127,41 +108,21 @@ product_fits a b few less = let p : a * b ≤ 2 ^ 20 * 2 ^ 36 = mul-le-mul (let 
 
 -- the blocks before the end of a segment that isn't the last are few
 pub few_blocks : (first : SegmentHead) (index : ℕ) (head : SegmentHead) → AgreesWith first index head → head.last ≡ false → first.image.width < 2 ^ 20 → blocks_before first index + head.blocks < 2 ^ 33
-few_blocks first index head e more wide =
-    let g = goes_on first index head e more in
-    let room = g.room in
-    let same = g.blocks in
-    omega (arith, room, same, wide)
+few_blocks first index head e more wide = grind (arith, nat_tests, goes_on)
 
 -- ---- heads that agree
 
 pub same_flag : (b : Bool) → beq b b ≡ true
-same_flag true = refl
-same_flag false = refl
+same_flag b = grind (arith, nat_tests)
 
 pub same_number : (n : ℕ) → (n == n) ≡ true
 same_number n = grind (arith, nat_tests)
 
-pub so_both : (a b : Bool) → a ≡ true → b ≡ true → (a && b) ≡ true
-so_both true b e f = f
-so_both false b e f = absurd cc
-
-pub is_le : (a b : ℕ) → a ≤ b → nat_le a b ≡ true
-is_le a b le = grind (arith, nat_tests)
-
-pub is_lt : (a b : ℕ) → a < b → nat_lt a b ≡ true
-is_lt a b lt = grind (arith, nat_tests)
-
-pub is_equal : (a b : ℕ) → a ≡ b → (a == b) ≡ true
-is_equal a b e = grind (arith, nat_tests)
-
 pub same_image : (image : ImagePart) → image_agrees image image ≡ true
-same_image a =
-    so_both _ _ (same_flag a.signed) (so_both _ _ (same_number a.depth) (so_both _ _ (same_number a.width) (so_both _ _ (same_number a.word) ((bytes_eq-Decides a.weights.shifts a.weights.shifts).1 refl))))
+same_image a = grind (arith, nat_tests, and_from, same_flag, same_number, bytes_eq-Decides)
 
 passed : (b : Bool) (fault : HeadFault) (tests : List (Option HeadFault)) → b ≡ true → first_refusal tests ≡ None → first_refusal (refused_where (not b) fault ∷ tests) ≡ None
-passed true fault tests e f = f
-passed false fault tests e f = absurd cc
+passed b fault tests e f = grind (arith, nat_tests)
 
 -- a head agrees if each test passes
 pub all_agree : (first : SegmentHead) (index : ℕ) (head : SegmentHead) → Agrees first index head → AgreesWith first index head

@@ -1,9 +1,10 @@
 -- The rows that a work took, and one more.
-use Rattle.std.proofs.Common.{◌≡◌, ℕ, ◌+◌, ◌*◌, ◌/◌, ◌<◌, ◌≤◌, ℤ, List, [], ◌++◌, length, take, min, refl, sym, ap, ◌∙◌, subst, arith, vec_len, inl, length-append}
+use Rattle.std.proofs.Common.{◌≡◌, ℕ, ◌+◌, ◌*◌, ◌<◌, ◌≤◌, ℤ, List, [], ◌++◌, length, take, min, refl, sym, ap, ◌∙◌, subst, arith, vec_len, inl, length-append}
 use Rattle.std.specs.Prelude.{Option, None, Bool, Err}
 use Rattle.std.proofs.lemmas.List.{length-take-le}
 use Rattle.std.proofs.lemmas.Nat.{div-mul-add}
 use Rattle.std.proofs.Math.Nat.{mul-le-mul_right}
+use Rattle.std.proofs.lemmas.Bool.Decides.{nat_tests}
 use Rattle.port_122.specs.Outside.{Outside, Exchange, GivenBy}
 use Rattle.port_122.proofs.Stretches.{since_start, rose_since}
 use Rattle.port_122.proofs.ReadCalls.{since_prompt}
@@ -24,8 +25,7 @@ use Rattle.stream_defs.specs.Output.{image_blocks, segments_of}
 use Rattle.stream_defs.specs.SettledImages.{settled_in}
 use Rattle.segment_code.specs.declared.encode.SegmentWriter.{SegmentWriter}
 use Rattle.strip_coder.specs.declared.work.Work.{Work}
-use Rattle.strip_coder.specs.Plans.{tallest}
-use Rattle.strip_coder.specs.Rasters.{row_length, most_length, image_of, AreInRange, whole_rows}
+use Rattle.strip_coder.specs.Rasters.{row_length, most_length, image_of, AreInRange}
 use Rattle.strip_coder.specs.Answers.{FirstBad}
 use Rattle.strip_coder.specs.Works.{IsMadeFor, IsRunning}
 use Rattle.strip_coder.specs.Steps.{NextRowIs}
@@ -154,12 +154,7 @@ module _ (s : Setting) (bare : IsBare s) (before : Option SegmentHead) (p q : Ou
 
   texts_within : (part : List ℕ) → length part < row_length s → texts_for s (come.took ++ part) ≡ come.gave
   unfolding texts_for
-  texts_within part short =
-      let size : length (come.took ++ part) ≡ k * row_length s + length part = length-append come.took part ∙ ap (λ n. n + length part) whole in
-      let count : length (come.took ++ part) / row_length s ≡ k = ap (λ n. n / row_length s) size ∙ div-mul-add k (row_length s) (length part) short in
-      let all = tall s bare in
-      let rows : whole_rows s (come.took ++ part) ≡ k = least_of (tallest s) (length (come.took ++ part) / row_length s) k count (omega (arith, less, all)) in
-      ap (settled_texts s (come.took ++ part)) rows ∙ texts_at part
+  texts_within part short = grind (arith, nat_tests, length-append, whole, div-mul-add, tall, least_of, texts_at)
 
   -- octets of the next row were taken
   part_taken : {m : Outside} (got : List ℕ) → Exchange q m got [] [] (InRow s.depth s.signed s.width got) → Exchange p m (come.took ++ got) come.gave [] (GivenBy (texts_for s) (come.took ++ got))
@@ -171,11 +166,7 @@ module _ (s : Setting) (bare : IsBare s) (before : Option SegmentHead) (p q : Ou
       omega (arith, r.1, ap length same))
 
   row_below : k * row_length s + row_length s ≤ most_length s
-  row_below =
-      let all = tall s bare in
-      let next : (k + 1) * row_length s ≤ tallest s * row_length s = mul-le-mul_right {m = k + 1} {n = tallest s} (row_length s) (omega (arith, less, all)) in
-      let one : (k + 1) * row_length s ≡ k * row_length s + row_length s = grind arith in
-      subst (λ n. n ≤ tallest s * row_length s) one next
+  row_below = grind (arith, nat_tests, tall, mul-le-mul_right)
 
   -- the row wasn't read to its end
   pub row_lacks : {T : Type 0} {m : Outside} (row : ℕ) (a b : List ℤ) (fault : RowFault) → row ≡ k → RowRead {T = T} s.depth s.signed s.width row q m a b (Err fault) →

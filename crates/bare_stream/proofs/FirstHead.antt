@@ -1,12 +1,12 @@
 -- The first head is read, or a decoder ends at it.
-use Rattle.std.proofs.Common.{◌≡◌, ◌+◌, ◌-◌, ◌*◌, ◌/◌, ℕ, List, [], ◌++◌, length, refl, sym, ap, ◌∙◌, subst, arith, inl, inr}
+use Rattle.std.proofs.Common.{◌≡◌, ◌+◌, ◌*◌, ℕ, List, [], ◌++◌, length, refl, sym, ap, ◌∙◌, subst, arith, inl, inr}
 use Rattle.std.specs.Prelude.{None, Some, Ok, Err}
 use Rattle.std.proofs.Math.Nat.{zero-div}
+use Rattle.std.proofs.lemmas.Bool.Decides.{nat_tests}
 use Rattle.port_122.specs.Outside.{Outside}
 use Rattle.port_122.proofs.Stretches.{since_start, since_weaker}
-use Rattle.base_122.specs.Sizes.{block_count, first_block}
+use Rattle.base_122.specs.Sizes.{block_count}
 use Rattle.base_122.specs.declared.wish.DecodeWish.{DecodeWish}
-use Rattle.stream_defs.specs.Picture.{first_rows}
 use Rattle.picture_rows.specs.Pictures.{picture_state, IsFresh}
 use Rattle.picture_rows.proofs.RowsOut.{no_rows}
 use Rattle.segment_defs.specs.declared.head.SegmentHead.{SegmentHead}
@@ -15,15 +15,15 @@ use Rattle.bare_text.specs.declared.read.BareHead.{BareHead}
 use Rattle.bare_text.specs.InForce.{none_in_force, bare_length, parts_after}
 use Rattle.bare_text.specs.Reading.{bare_head_read}
 use Rattle.bare_text.specs.Taken.{ReadsHead}
-use Rattle.bare_stream.specs.declared.fault.BareCause.TheVariants.{Head, BadOption, BadDelta, BadDepth, FalseFlag, Short, Trailing}
+use Rattle.bare_stream.specs.declared.fault.BareCause.TheVariants.{Head}
 use Rattle.bare_stream.specs.declared.fault.BareFault.{BareFault}
-use Rattle.bare_stream.specs.declared.fault.BareFault.TheVariants.{ReadFault, WriteFault, LongInput, Memory, TooManyPixels, Refused}
+use Rattle.bare_stream.specs.declared.fault.BareFault.TheVariants.{ReadFault, LongInput, Memory, Refused}
 use Rattle.bare_stream.specs.declared.input.PortIn.{PortIn}
 use Rattle.bare_stream.specs.declared.walk.Walk.{Walk}
 use Rattle.bare_stream.specs.Heads.{TakesHead, ChecksHead}
 use Rattle.bare_stream.specs.Input.{Went, waiting}
 use Rattle.bare_stream.specs.Inputs.{source_of}
-use Rattle.bare_stream.specs.SegmentsRead.{SegmentsRead, Told, block_rows_in, open_geometry, open_rows, segments_in, shape_with}
+use Rattle.bare_stream.specs.SegmentsRead.{SegmentsRead, Told, open_rows, shape_with}
 use Rattle.bare_stream.specs.Reads.{AsksIn, HasRead, InForceAfter}
 use Rattle.bare_stream.specs.Decoded.{BareReasons, Refuses, GivesRead, EndsSo, DecodesBare}
 use Rattle.bare_stream.specs.Walks.{IsReading, book_in}
@@ -38,10 +38,7 @@ none_read first = record { first = first; texts = []; blocks = []; ended = None 
 
 no_open_rows : (first : SegmentHead) → open_rows first [] ≡ []
 unfolding open_rows
-no_open_rows first =
-    let start : first_block first.blocks 0 ≡ 0 = omega arith in
-    let none : block_rows_in first 0 ≡ 0 = ap (λ n. n / block_count first.image.width) start ∙ zero-div (block_count first.image.width) in
-    ap (λ n. first_rows (open_geometry first) (segments_in []) n (8 * n - 21)) none
+no_open_rows first = grind (arith, nat_tests, zero-div)
 
 module _ {X : Type 0} (outside : X → Outside) (wish : DecodeWish) (s t : PortIn X) (fresh : waiting s ≡ []) (left : s.left ≡ wish.octets) where
   abbrev start : Outside
@@ -73,7 +70,6 @@ module _ {X : Type 0} (outside : X → Outside) (wish : DecodeWish) (s t : PortI
 
   pub first_faulted : (after : PartsInForce) (fault : BareFault) → TakesHead (source_of outside) none_in_force 0 (Err fault) s t after → DecodesBare wish start now (Err fault)
   first_faulted after ReadFault x = ended_first x.went ReadFault refl x.ends (λ all told. tt)
-  first_faulted after WriteFault x = absurd x
   first_faulted after LongInput (inl x) = ended_first x.went LongInput refl tt (λ all told.
       let here = told_now x.went all told in
       let long = ends_long now.rest (waiting t) here.0 t.left here.1 x.ends in
@@ -81,8 +77,6 @@ module _ {X : Type 0} (outside : X → Outside) (wish : DecodeWish) (s t : PortI
       let all = x.went.left in
       (omega (arith, none, all, left), tt))
   first_faulted after LongInput (inr x) = ended_first x.went LongInput refl tt (λ all told. let here = told_now x.went all told in absurd (not_broken now.rest (waiting t) here.0 t.left here.1 x.ends))
-  first_faulted after Memory x = absurd x
-  first_faulted after (TooManyPixels pixels) x = absurd x
   first_faulted after (Refused i (Head fault)) x =
       let reads = x.1 in
       ended_first reads.went (Refused i (Head fault)) refl tt (λ all told.
@@ -90,12 +84,7 @@ module _ {X : Type 0} (outside : X → Outside) (wish : DecodeWish) (s t : PortI
       let same = came_is outside s t reads.went reads.octets all told reads.came in
       let refused = head_refused outside wish.book wish.pixels None none_in_force i t here.0 reads.octets fault here.1 reads.ends.0 reads.ends.1 in
       (x.0, subst (λ l. Refuses wish.book wish.pixels None none_in_force i l now (Head fault)) (ap (λ l. l ++ waiting t) same ∙ sym (took_is reads.went)) refused))
-  first_faulted after (Refused i BadOption) x = absurd x
-  first_faulted after (Refused i BadDelta) x = absurd x
-  first_faulted after (Refused i BadDepth) x = absurd x
-  first_faulted after (Refused i FalseFlag) x = absurd x
-  first_faulted after (Refused i Short) x = absurd x
-  first_faulted after (Refused i Trailing) x = absurd x
+  first_faulted after other x = absurd x
 
   -- ---- with it
 

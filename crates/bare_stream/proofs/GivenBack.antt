@@ -5,7 +5,7 @@ use Rattle.std.proofs.lemmas.List.{append-nil}
 use Rattle.base_122.specs.declared.geometry.Geometry.{Geometry}
 use Rattle.base_122.specs.declared.setting.Setting.{Setting}
 use Rattle.bare_stream.specs.declared.fault.BareFault.{BareFault}
-use Rattle.bare_stream.specs.declared.fault.BareFault.TheVariants.{ReadFault, WriteFault, LongInput, Memory, TooManyPixels, Refused}
+use Rattle.bare_stream.specs.declared.fault.BareFault.TheVariants.{LongInput, TooManyPixels, Refused}
 use Rattle.bare_stream.specs.Bare.{bare}
 use Rattle.bare_stream.specs.BareStream.{BareStream}
 use Rattle.bare_stream.specs.Decoded.{StreamThen, rows_of_read}
@@ -29,12 +29,10 @@ module _ (streams : ImagesAreBareStreams) (s : Setting) (x : ℕ → ℕ → ℤ
 module _ (streams : ImagesAreBareStreams) (s : Setting) (x : ℕ → ℕ → ℤ) (is : IsBareImage s x) (gave : List ℕ) (w : List (List (List ℤ))) (says : SaysImage s x w) where
   gives_back : (result : Result Geometry BareFault) → ReadsWhole (bare_geometry s) w gave result → AnswersImage s x gave result
   gives_back (Ok g) whole = record { geometry = whole.0; same = λ sends. whole.1 ∙ ap (all_rows (bare_geometry s)) (says.exact sends) ∙ picture_is s x is }
-  gives_back (Err ReadFault) whole = tt
-  gives_back (Err WriteFault) whole = tt
   gives_back (Err LongInput) whole = absurd whole
-  gives_back (Err Memory) whole = tt
   gives_back (Err (TooManyPixels pixels)) whole = absurd whole
   gives_back (Err (Refused index cause)) whole = absurd whole
+  gives_back (Err other) whole = tt
 
 pub round_trip : ImagesAreBareStreams → StreamsAreRead → BareRoundTrip
 round_trip streams reads = record {

@@ -8,7 +8,7 @@ use Rattle.bit_pipe.specs.Sources.{End, IsOver, Plainly, TooLong, InPieces}
 use Rattle.base_122.specs.declared.book.Book.{Book}
 use Rattle.segment_defs.specs.declared.head.SegmentHead.{SegmentHead}
 use Rattle.segment_defs.specs.declared.fault.HeadFault.{HeadFault}
-use Rattle.segment_defs.specs.declared.fault.HeadFault.TheVariants.{HeadShort, MissingPart, Unsupported, DepthTooLarge, BadValue}
+use Rattle.segment_defs.specs.declared.fault.HeadFault.TheVariants.{HeadShort}
 use Rattle.bare_text.specs.declared.parts.PartsInForce.{PartsInForce}
 use Rattle.bare_text.specs.Reading.{bare_head_read}
 use Rattle.bare_text.specs.Taken.{RefusesAt}
@@ -25,16 +25,13 @@ abbrev IsEnd : End → End → Type 0
 IsEnd a b = a ≡ b
 
 plainly_or_long : (b : Bool) → IsEnd (if b then Plainly else TooLong) InPieces → ⊥
-plainly_or_long true e = cc
-plainly_or_long false e = cc
+plainly_or_long b e = grind (arith, nat_tests)
 
 is_plain : (b : Bool) → IsEnd (if b then Plainly else TooLong) Plainly → b ≡ true
-is_plain true e = refl
-is_plain false e = absurd cc
+is_plain b e = grind (arith, nat_tests)
 
 is_long : (b : Bool) → IsEnd (if b then Plainly else TooLong) TooLong → b ≡ false
-is_long false e = refl
-is_long true e = absurd cc
+is_long b e = grind (arith, nat_tests)
 
 no_front : (a b : List ℕ) → a ++ b ≡ [] → a ≡ []
 no_front [] b e = refl
@@ -45,8 +42,7 @@ no_rest [] b e = e
 no_rest (x ∷ a) b e = absurd cc
 
 none_taken : (n : ℕ) (xs : List ℕ) → length xs < n → take n xs ≡ [] → xs ≡ []
-none_taken n [] lt e = refl
-none_taken n (x ∷ xs) lt e = absurd (let size = ap length e in let all = length-take n (x ∷ xs) in omega (arith, size, all, lt))
+none_taken n xs lt e = grind (arith, nat_tests, length-take)
 
 -- nothing waits at the end, and fewer octets than the cap were taken
 pub record EndsPlain (left : ℕ) (o : Option (List ℕ)) (waits : List ℕ) : Type 0 where
@@ -75,8 +71,7 @@ ends_long (Some rest) waits all left told over =
 
 -- an input of a port doesn't break
 pub not_broken : (o : Option (List ℕ)) (waits all : List ℕ) (left : ℕ) → o ≡ Some all → IsOver (tail_with o waits left) InPieces → ⊥
-not_broken None waits all left told over = absurd cc
-not_broken (Some rest) waits all left told over = plainly_or_long (nat_lt (length rest) left) over.1
+not_broken o waits all left told over = grind (arith, nat_tests, plainly_or_long)
 
 -- ---- texts
 
@@ -89,18 +84,14 @@ are_so {P = P} {Q = Q} book first before index (t ∷ texts) (b ∷ blocks) f ar
 
 -- the first head, or this one if it is the first
 pub first_is : (first : SegmentHead) (texts : List (List ℕ)) (head : SegmentHead) → (texts ≡ [] → head ≡ first) → unwrap_or (first_of first texts) head ≡ first
-first_is first [] head starts = starts refl
-first_is first (t ∷ texts) head starts = refl
+first_is first texts head starts = grind (arith, nat_tests)
 
 -- ---- a head that is refused
 
 decides : {X : Type 0} (outside : X → Outside) (t : PortIn X) (all front : List ℕ) (fault : HeadFault) → (outside t.port.now).rest ≡ Some all → RefusesAt (source_of outside) fault front t → DecidesHead fault front (waiting t) (outside t.port.now)
 decides outside t all front (HeadShort count) told at =
     let ends = ends_plain (outside t.port.now).rest (waiting t) all t.left told at.1 in (ends.none, ends.end)
-decides outside t all front (MissingPart part) told at = at
-decides outside t all front (Unsupported odd) told at = at
-decides outside t all front (DepthTooLarge dc ac) told at = at
-decides outside t all front (BadValue field) told at = at
+decides outside t all front other told at = at
 
 pub head_refused : {X : Type 0} (outside : X → Outside) (book : Book) (pixels : ℕ) (first : Option SegmentHead) (before : PartsInForce) (index : ℕ) (t : PortIn X) (all front : List ℕ) (fault : HeadFault) → (outside t.port.now).rest ≡ Some all →
     bare_head_read before front ≡ Err fault → RefusesAt (source_of outside) fault front t → Refuses book pixels first before index (front ++ waiting t) (outside t.port.now) (Head fault)

@@ -1,12 +1,12 @@
 -- The heads of an image's segments agree with the first one.
-use Rattle.std.proofs.Common.{◌≡◌, ◌≤◌, ◌<◌, ◌+◌, ◌-◌, ◌*◌, ◌/◌, ◌%◌, ◌==◌, ℕ, ℤ, Bool, true, false, List, length, min, refl, sym, ap, ◌∙◌, arith}
+use Rattle.std.proofs.Common.{◌≡◌, ◌≤◌, ◌<◌, ◌+◌, ◌*◌, ◌%◌, ◌==◌, ℕ, ℤ, Bool, true, false, List, length, refl, sym, ap, ◌∙◌, arith}
 use Rattle.std.specs.Prelude.{nat_le, nat_lt, ◌&&◌, ◌||◌, if◌then◌else◌}
 use Rattle.std.proofs.Math.Nat.{mul-le-mul_left}
 use Rattle.std.proofs.lemmas.Bool.Decides.{nat_tests}
 use Rattle.std.proofs.lemmas.Nat.{div-mul-add, mod-mul-add}
+use Rattle.std.proofs.lemmas.Bool.{le-leb, lt-ltb, eq-eqb, and_from}
 use Rattle.base_122.specs.Ranges.{IsInRange, IsWithin, is_within, rows_range}
-use Rattle.base_122.specs.Sizes.{block_count, padded_size, total_blocks, segment_blocks}
-use Rattle.base_122.specs.declared.geometry.Geometry.{Geometry}
+use Rattle.base_122.specs.Sizes.{block_count, total_blocks, segment_blocks}
 use Rattle.base_122.specs.declared.setting.Setting.{Setting}
 use Rattle.base_122.proofs.SizeBounds.{three-le-block_count, nine-le-total_blocks, one-le-segment_blocks}
 use Rattle.segment_defs.specs.declared.head.SegmentHead.{SegmentHead}
@@ -14,7 +14,7 @@ use Rattle.stream_defs.specs.Output.{head_for, image_blocks, image_part, segment
 use Rattle.bare_text.specs.Agreement.{blocks_before, blocks_agree, last_agrees, height_at}
 use Rattle.bare_stream.specs.BareStream.{AgreesWith, geometry_at}
 use Rattle.bare_stream.specs.Images.{bare_geometry}
-use Rattle.bare_stream.proofs.Agrees.{all_agree, so_both, is_le, is_lt, is_equal, same_flag, same_number, same_image}
+use Rattle.bare_stream.proofs.Agrees.{all_agree, same_flag, same_number, same_image}
 use Rattle.bare_stream.proofs.SegmentCounts.{whole_before, room_before, few_last, all_blocks, least_first, least_is}
 
 module _ (s : Setting) (x : ℕ → ℕ → ℤ) (range : IsInRange s) (height : IsWithin rows_range s.rows)
@@ -48,39 +48,24 @@ module _ (s : Setting) (x : ℕ → ℕ → ℤ) (range : IsInRange s) (height :
   whole index more = sized index ∙ whole_before total s.segment range.segment.0 any index more ∙ sym (sized 0)
 
   room : (index : ℕ) → index + 1 < n → index * size 0 + size 0 < total
-  room index more =
-      let before = room_before total s.segment range.segment.0 any index more in
-      let first = sized 0 in
-      let times : index * size 0 ≡ index * segment_blocks total s.segment 0 = ap (λ k. index * k) first in
-      omega (arith, before, first, times)
+  room index more = grind (arith, nat_tests, room_before, any)
 
   few : (index : ℕ) → size index ≤ size 0
-  few index =
-      let less = few_last total s.segment range.segment.0 any index in
-      let here = sized index in
-      let first = sized 0 in
-      omega (arith, less, here, first)
+  few index = grind (arith, nat_tests, few_last, any)
 
   ended : (index : ℕ) → index + 1 ≡ n → index * size 0 + size index ≡ total
-  ended index last =
-      ap (λ k. index * k + size index) (sized 0) ∙ ap (λ k. index * segment_blocks total s.segment 0 + k) (sized index)
-      ∙ all_blocks total s.segment range.segment.0 any index last
+  ended index last = grind (arith, nat_tests, all_blocks, any)
 
   some : (index : ℕ) → index < n → 1 ≤ size index
-  some index lt =
-      let least = range.segment.0 in
-      let one = one-le-segment_blocks total s.segment index (omega (arith, least)) lt in
-      let here = sized index in
-      omega (arith, one, here)
+  some index lt = grind (arith, nat_tests, one-le-segment_blocks)
 
   -- ---- the number of blocks
 
   blocks_are : (index : ℕ) → index < n → blocks_agree (head 0) (head index) ≡ true
-  blocks_are index lt = so_both _ _ (by (index + 1 == n) refl) (ap (λ k. nat_le 16 k || (0 + 1 == n)) (sized 0) ∙ least_first total s.segment range.segment.0 any)
+  blocks_are index lt = and_from _ _ (by (index + 1 == n) refl) (ap (λ k. nat_le 16 k || (0 + 1 == n)) (sized 0) ∙ least_first total s.segment range.segment.0 any)
     where
       by : (b : Bool) → (index + 1 == n) ≡ b → (if b then nat_le 1 (size index) && nat_le (size index) (size 0) else size index == size 0) ≡ true
-      by true e = so_both _ _ (is_le 1 (size index) (some index lt)) (is_le (size index) (size 0) (few index))
-      by false e = is_equal (size index) (size 0) (whole index (let more : index + 1 < n = grind (arith, nat_tests) in more))
+      by b e = grind (arith, nat_tests, and_from, le-leb, some, few, eq-eqb, whole)
 
   -- ---- the last one, and the height
 
@@ -91,11 +76,7 @@ module _ (s : Setting) (x : ℕ → ℕ → ℤ) (range : IsInRange s) (height :
   some_columns = let three = three-le-block_count s.width range.width.0 in omega (arith, three)
 
   pub height_is : (index : ℕ) → index + 1 ≡ n → height_at (head 0) index (head index) ≡ s.rows
-  height_is index last =
-      let test : (index + 1 == n) ≡ true = is_equal (index + 1) n last in
-      let rows : (index * size 0 + size index) / c ≡ r = ap (λ k. k / c) (ended index last ∙ rows_total) ∙ div-mul-add r c 0 some_columns in
-      let pads : (head index).pad_rows ≡ padded_size s.rows - s.rows = ap (λ b. if b then padded_size s.rows - s.rows else 0) test in
-      omega (arith, rows, pads)
+  height_is index last = grind (arith, nat_tests, eq-eqb, ended, rows_total, div-mul-add, some_columns)
 
   last_are : (index : ℕ) → index < n → last_agrees (head 0) index (head index) ≡ true
   last_are index lt = by (index + 1 == n) refl
@@ -105,14 +86,14 @@ module _ (s : Setting) (x : ℕ → ℕ → ℤ) (range : IsInRange s) (height :
       by true e =
           let last : index + 1 ≡ n = grind (arith, nat_tests) in
           let rest : (index * size 0 + size index) % c ≡ 0 = ap (λ k. k % c) (ended index last ∙ rows_total) ∙ mod-mul-add r c 0 some_columns in
-          so_both _ _ (is_equal ((index * size 0 + size index) % c) 0 rest)
-          (ap (is_within rows_range) (height_is index last) ∙ so_both _ _ (is_le 17 s.rows height.0) (is_le s.rows 262144 height.1))
+          and_from _ _ (eq-eqb ((index * size 0 + size index) % c) 0 rest)
+          (ap (is_within rows_range) (height_is index last) ∙ and_from _ _ (le-leb 17 s.rows height.0) (le-leb s.rows 262144 height.1))
       by false e =
           let more : index + 1 < n = grind (arith, nat_tests) in
           let before = room index more in
           let rows : r ≤ 32768 = (let high = height.1 in omega (arith, high)) in
           let most : c * r ≤ c * 32768 = mul-le-mul_left c rows in
-          is_lt (index * size 0 + size 0) (32768 * c) (omega (arith, before, most))
+          lt-ltb (index * size 0 + size 0) (32768 * c) (omega (arith, before, most))
 
   pub heads_agree : (index : ℕ) → index < n → AgreesWith (head 0) index (head index)
   heads_agree index lt = all_agree (head 0) index (head index) record {
@@ -126,10 +107,4 @@ module _ (s : Setting) (x : ℕ → ℕ → ℤ) (range : IsInRange s) (height :
   -- ---- the geometry
 
   pub geometry_is : (index : ℕ) → index + 1 ≡ n → bare_geometry s ≡ geometry_at (head 0) index (head index)
-  geometry_is index last = ap (with s.rows) first ∙ ap (λ rows. with rows (size 0)) (sym (height_is index last))
-    where
-      with : (rows segment : ℕ) → Geometry
-      with rows segment = record (bare_geometry s) { rows = rows; segment = segment }
-
-      first : min s.segment total ≡ size 0
-      first = sym (sized 0 ∙ least_is total s.segment range.segment.0 any)
+  geometry_is index last = grind (arith, nat_tests, height_is, least_is, any)

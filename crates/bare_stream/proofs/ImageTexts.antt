@@ -1,17 +1,16 @@
 -- The octets that are written for an image are a bare stream.
-use Rattle.std.proofs.Common.{◌≡◌, ◌≤◌, ◌<◌, ◌+◌, ◌*◌, ◌%◌, ◌==◌, ◌⊎◌, ℕ, zero, suc, ℤ, List, [], ◌∷◌, ◌++◌, map, true, false, refl, sym, ap, subst, ◌∙◌, inl, inr, arith, append_assoc}
-use Rattle.std.specs.Prelude.{Some, if◌then◌else◌}
+use Rattle.std.proofs.Common.{◌≡◌, ◌≤◌, ◌<◌, ◌+◌, ◌%◌, ◌==◌, ◌⊎◌, ℕ, zero, suc, ℤ, List, [], ◌∷◌, ◌++◌, map, true, false, refl, sym, ap, subst, ◌∙◌, inl, inr, arith, append_assoc}
+use Rattle.std.specs.Prelude.{Some}
 use Rattle.std.specs.List.{range_with_len, flat_map}
 use Rattle.std.proofs.lemmas.Bool.{cases_lt}
 use Rattle.std.proofs.lemmas.Bool.Decides.{nat_tests}
 use Rattle.std.proofs.lemmas.List.FromFn.{get_or-map-range_with_len, length-map-range_with_len}
 use Rattle.base_122.specs.Ranges.{IsWithin, rows_range}
 use Rattle.base_122.specs.declared.setting.Setting.{Setting}
-use Rattle.base_122.specs.Sizes.{total_blocks}
 use Rattle.base_122.proofs.SizeBounds.{total-le-segments, nine-le-total_blocks}
 use Rattle.segment_defs.specs.declared.head.SegmentHead.{SegmentHead}
 use Rattle.segment_defs.specs.Head.{IsHead}
-use Rattle.stream_defs.specs.Output.{head_for, image_blocks, segment_of, segments_of, used_before}
+use Rattle.stream_defs.specs.Output.{head_for, image_blocks, segment_of, segments_of}
 use Rattle.stream_defs.proofs.ShareLaws.{share_none}
 use Rattle.strip_decoder.specs.RoundTrip.{SendsAll}
 use Rattle.strip_decoder.proofs.SpelledImages.{head_fits, spells, length-segment}
@@ -51,11 +50,7 @@ module _ (hold : BareTextsHold) (undo : BareHeadsUndo) (s : Setting) (x : ℕ �
   rows = rows_in s is.setting
 
   some_segments : 0 < n
-  some_segments = by n (total-le-segments (total_blocks s.width s.rows) s.segment (let least = is.setting.in_range.segment in omega (arith, least)))
-    where
-      by : (n : ℕ) → total_blocks s.width s.rows ≤ n * s.segment → 0 < n
-      by zero le = let nine = nine-le-total_blocks s.width s.rows is.setting.in_range.width.0 rows.0 in absurd (omega (arith, le, nine))
-      by (suc n) le = omega arith
+  some_segments = grind (arith, nat_tests, total-le-segments, rows, nine-le-total_blocks)
 
   -- ---- one text
 
@@ -95,13 +90,7 @@ module _ (hold : BareTextsHold) (undo : BareHeadsUndo) (s : Setting) (x : ℕ �
 
   exact_by : SendsAll s → (index : ℕ) (at : (index < n) ⊎ (n ≤ index)) → index < n → blocks_by index at ≡ segment_of s all index
   unfolding blocks_by
-  exact_by sends index (inl lt) inside =
-      (held index lt).exact (share_none s index (used_before s all index) sends.total ∙ sends.limit) record {
-        goes_on = sends.goes_on;
-        plane = ap (λ b. if b then 0 else s.stop.plane) sends.goes_on ∙ sends.plane;
-        stage = ap (λ b. if b then 3 else s.stop.stage) sends.goes_on ∙ sends.stage;
-      }
-  exact_by sends index (inr ge) inside = absurd (omega (arith, ge, inside))
+  exact_by sends index at inside = grind (arith, nat_tests, held, share_none)
 
   -- ---- all texts
 

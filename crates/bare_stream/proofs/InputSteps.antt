@@ -6,7 +6,7 @@ use Rattle.std.proofs.lemmas.List.{append-nil, append_cancel_right, length-take,
 use Rattle.std.proofs.Math.Seq.{take-append-add}
 use Rattle.port_122.specs.Outside.{Outside, Exchange, IsUsedUp, Loses}
 use Rattle.port_122.proofs.Stretches.{since_start, since_weaker}
-use Rattle.bit_pipe.specs.Sources.{End, Tail, Plainly, TooLong, Comes, IsOver}
+use Rattle.bit_pipe.specs.Sources.{Tail, Plainly, TooLong, Comes, IsOver}
 use Rattle.bit_pipe.specs.declared.fault.InFault.{InFault}
 use Rattle.bit_pipe.specs.declared.fault.InFault.TheVariants.{ReadFault, LongInput, Broken}
 use Rattle.bit_pipe.specs.Sources.{GivesOctet, Consumes}
@@ -16,9 +16,6 @@ use Rattle.bare_stream.specs.Inputs.{source_of}
 use Rattle.bare_stream.specs.Input.{Went, AsksWithin, FillsPiece, EndsReady, IsReady, GivesFirst, waiting, tail_of, tail_with}
 
 -- ---- octets that wait are given
-
-abbrev ends_with : ℕ → ℕ → End
-ends_with rest left = if nat_lt rest left then Plainly else TooLong
 
 comes_with : (o : Option (List ℕ)) (a b xs : List ℕ) (left : ℕ) → a ≡ xs ++ b → Comes (tail_with o a left) (tail_with o b left) xs
 comes_with None a b xs left e = tt
@@ -43,11 +40,7 @@ module _ {X : Type 0} (outside : X → Outside) (s t : PortIn X) (xs : List ℕ)
 -- ---- a piece is read
 
 later_less : (rest took left left' all : ℕ) → all ≡ took + rest → took + left' ≡ left → nat_lt all left ≡ nat_lt rest left'
-later_less rest took left left' all e f = by (nat_lt rest left') refl
-  where
-    by : (b : Bool) → nat_lt rest left' ≡ b → nat_lt all left ≡ b
-    by true lt = let low : rest < left' = grind (arith, nat_tests) in let high : all < left = omega (arith, low, e, f) in grind (arith, nat_tests)
-    by false more = let low : left' ≤ rest = grind (arith, nat_tests) in let high : left ≤ all = omega (arith, low, e, f) in grind (arith, nat_tests)
+later_less rest took left left' all e f = grind (arith, nat_tests)
 
 filled_with : (o o' : Option (List ℕ)) (took : List ℕ) (left left' : ℕ) → Loses o o' took → length took + left' ≡ left → Comes (tail_with o [] left) (tail_with o' took left') []
 filled_with None None took left left' loses count = tt
@@ -91,15 +84,7 @@ module _ {X : Type 0} (outside : X → Outside) (s t : PortIn X) (none : waiting
 
 module _ {X : Type 0} (outside : X → Outside) (s t : PortIn X) (went : Went outside s t) where
   came_with : (o o' : Option (List ℕ)) (octets : List ℕ) → Loses o o' went.took → (all : List ℕ) → o ≡ Some all → Comes (tail_with o (waiting s) s.left) (tail_with o' (waiting t) t.left) octets → octets ≡ went.gave
-  came_with None o' octets loses all told comes = absurd cc
-  came_with (Some rest) None octets loses all told comes = absurd loses
-  came_with (Some rest) (Some rest') octets loses all told comes =
-      let later = take t.left rest' in
-      let cut : take s.left rest ≡ went.took ++ later = ap (take s.left) loses ∙ ap (λ n. take n (went.took ++ rest')) (sym went.left) ∙ take-append-add went.took rest' t.left in
-      let both : (waiting s ++ went.took) ++ later ≡ (octets ++ waiting t) ++ later =
-      append_assoc (waiting s) went.took later ∙ ap (λ l. waiting s ++ l) (sym cut) ∙ comes.0 ∙ sym (append_assoc octets (waiting t) later) in
-      let front : waiting s ++ went.took ≡ octets ++ waiting t = append_cancel_right (waiting s ++ went.took) (octets ++ waiting t) later both in
-      append_cancel_right octets went.gave (waiting t) (sym front ∙ went.flow)
+  came_with o o' octets loses all told comes = grind (arith, nat_tests, take-append-add, append_assoc, append_cancel_right)
 
   -- if the port reports what is left
   pub came_is : (octets all : List ℕ) → (outside s.port.now).rest ≡ Some all → Comes (tail_of outside s) (tail_of outside t) octets → octets ≡ went.gave

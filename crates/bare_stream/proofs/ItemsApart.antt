@@ -1,11 +1,11 @@
 -- Octets that hold the items of a text are not refused, and no item is missing.
 use Rattle.base_122.specs.declared.book.Book.{Book}
-use Rattle.std.proofs.Common.{◌≡◌, ◌⊎◌, ℕ, ◌+◌, ◌*◌, ◌/◌, ◌<◌, inl, inr, Bool, cond, List, [], ◌∷◌, ◌++◌, length, take, refl, sym, ap, ◌∙◌, subst, arith, ℤ, append_assoc, length-append}
+use Rattle.std.proofs.Common.{◌≡◌, ◌⊎◌, ℕ, ◌+◌, ◌*◌, ◌/◌, ◌<◌, inl, inr, Bool, cond, List, [], ◌++◌, length, take, sym, ap, ◌∙◌, subst, arith, ℤ, append_assoc, length-append}
 use Rattle.std.proofs.lemmas.Bool.{cases_lt}
-use Rattle.std.proofs.lemmas.List.{append-nil}
+use Rattle.std.proofs.lemmas.List.{append-nil, nil_from_length}
 use Rattle.std.proofs.Math.Seq.{take-length}
 use Rattle.item_defs.specs.Bits.{bits_of_octets}
-use Rattle.item_defs.specs.Items.{Item, Refusal, IsSaid, spelling, text}
+use Rattle.item_defs.specs.Items.{Item, Refusal, spelling, text}
 use Rattle.item_defs.specs.Padding.{rounded}
 use Rattle.item_defs.specs.Readings.{item_at}
 use Rattle.item_defs.proofs.OctetBits.{octets_append}
@@ -15,14 +15,11 @@ use Rattle.segment_defs.specs.Head.{IsHead}
 use Rattle.segment_defs.specs.SegmentItems.{segment_items}
 use Rattle.text_defs.specs.Agreement.{ItemsAlike}
 use Rattle.text_defs.specs.Fronts.{Front, NothingFollows, RefusalFollows}
-use Rattle.text_defs.proofs.FrontLaws.{End, all_given, nothing_follows, refusal_follows, EndsSo, fronts_agree, next_alike, no_earlier_end}
+use Rattle.text_defs.proofs.FrontLaws.{End, all_given, nothing_follows, refusal_follows, EndsSo, fronts_agree, no_earlier_end, one_end}
 use Rattle.text_defs.proofs.SegmentAlike.{segment_alike}
+use Rattle.text_defs.proofs.SoundItems.{AllSound, segment_sound, sound_at}
 use Rattle.segment_code.specs.ItemsHeld.{wanted_octets, AreAll, HoldsItems, RefusesItem, LacksItems}
 use Rattle.bare_stream.proofs.StreamEnds.{two_fronts}
-
-pub none_long : (l : List ℕ) → length l ≡ 0 → l ≡ []
-none_long [] e = refl
-none_long (x ∷ l) e = absurd (omega (arith, e))
 
 -- items with which octets begin are those with which more octets begin
 further : {items : List Item} {m : ℕ} {left : List Bool} (rest more : List ℕ) → Front items m (bits_of_octets rest) left → Front items m (bits_of_octets (rest ++ more)) (left ++ bits_of_octets more)
@@ -55,51 +52,16 @@ module _ (is js : List Item) (same : ItemsAlike is js) (back : ItemsAlike js is)
     ]
   ]
 
-  -- what is left there, and the next items
-  pub record Alike : Type 0 where
-    pub left_same : left ≡ other
-    pub next : m < length is → (m < length js) × ((item_at is m).form ≡ (item_at js m).form)
-    pub whole : m ≡ length is → m ≡ length js
-
-  alike_there : m ≡ n → Alike
-  alike_there e =
-      let here : Front js m bits other = subst (λ k. Front js k bits other) (sym e) b in
-      let r = fronts_agree is js m left other same a.within here.within a.taken here.taken (sym a.read ∙ here.read) in
-      let next = next_alike is js m same a.within here.within a.taken r.0 in
-      record { left_same = r.1; next = next.0; whole = next.1 }
-
-  pub all_not_refused : (name : Refusal) → m ≡ length is → RefusalFollows js n other name → ⊥
-  all_not_refused name whole refused =
-      let e = one_place all_given (refusal_follows name) whole refused in
-      let all = (alike_there e).whole whole in
-      let within = refused.within in
-      omega (arith, e, all, within)
-
-  pub cut_not_refused : (name : Refusal) → NothingFollows is m left → RefusalFollows js n other name → ⊥
-  cut_not_refused name follows refused =
-      let e = one_place nothing_follows (refusal_follows name) follows refused in
-      let t = alike_there e in
-      let form = (t.next follows.within).1 in
-      let here : RefusalFollows js m other name = subst (λ k. RefusalFollows js k other name) (sym e) refused in
-      follows.lacks here.spelt here.after (subst (λ f. IsSaid f.shape here.spelt) (sym form) here.says) (subst (λ f. left ≡ spelling f.shape here.spelt ++ here.after) (sym form) (t.left_same ∙ here.read))
-
-  pub all_not_cut : m ≡ length is → NothingFollows js n other → ⊥
-  all_not_cut whole follows =
-      let e = one_place all_given nothing_follows whole follows in
-      let all = (alike_there e).whole whole in
-      let within = follows.within in
-      omega (arith, e, all, within)
-
-  pub cut_not_all : NothingFollows is m left → n ≡ length js → ⊥
-  cut_not_all follows whole =
-      let e = one_place nothing_follows all_given follows whole in
-      let next = ((alike_there e).next follows.within).0 in
-      omega (arith, e, next, whole)
+  -- if the first one has a next item there, both end in one way
+  pub one_way : AllSound is → m < length is → (s t : End) → EndsSo is m left s → EndsSo js n other t → s ≡ t
+  one_way sound lt s t p q =
+      let e : n ≡ m = sym (one_place s t p q) in
+      one_end is js bits same m left other s t (sound_at is m sound lt) a (subst (λ k. Front js k bits other) e b) p (subst (λ k. EndsSo js k other t) e q)
 
   pub same_text : m ≡ length is → n ≡ length js → length (text is) ≡ length (text js)
   same_text all others =
-      let e = one_place all_given all_given all others in
-      let rest = ap length (alike_there e).left_same in
+      let here : Front js m bits other = subst (λ k. Front js k bits other) (sym (one_place all_given all_given all others)) b in
+      let rest = ap length (fronts_agree is js m left other same a.within here.within a.taken here.taken (sym a.read ∙ here.read)).1 in
       let first : bits ≡ text is ++ left = a.read ∙ ap (λ l. text l ++ left) (ap (λ k. take k is) all ∙ take-length is) in
       let second : bits ≡ text js ++ other = b.read ∙ ap (λ l. text l ++ other) (ap (λ k. take k js) others ∙ take-length js) in
       omega (arith, rest, ap length first, ap length second, length-append (text is) left, length-append (text js) other)
@@ -124,21 +86,23 @@ module _ (book : Book) (head : SegmentHead) (size : ℕ) (fits : IsHead head) (r
     -- the octets that are cut reach at least as far
     cut_at : (left : List ℕ) → NothingFollows is a.count a.more → rest ≡ items ++ left → ⊥
     cut_at left follows parts =
-        cut_not_refused is others alike alike_back (bits_of_octets rest) a.count b.count a.more (b.more ++ bits_of_octets left) a.items.front
+        let no : nothing_follows ≡ refusal_follows name = one_way is others alike alike_back (bits_of_octets rest) a.count b.count a.more (b.more ++ bits_of_octets left) a.items.front
         (subst (λ l. Front others b.count (bits_of_octets l) (b.more ++ bits_of_octets left)) (sym parts) (further items left b.items.front))
-        name follows (refused_further (bits_of_octets left) b.refusal)
+        (segment_sound head a.blocks a.depths a.options a.items.known) follows.within nothing_follows (refusal_follows name) follows (refused_further (bits_of_octets left) b.refusal) in
+        cc
 
     by_end : AreAll head size rest is a.count a.more → ⊥
     by_end (inl whole) =
-        all_not_refused is others alike alike_back (bits_of_octets (rest ++ more)) a.count b.count (a.more ++ bits_of_octets more) (b.more ++ bits_of_octets after) (further rest more a.items.front)
-        (subst (λ l. Front others b.count (bits_of_octets l) (b.more ++ bits_of_octets after)) (sym e) (further items after b.items.front))
-        name whole.0 (refused_further (bits_of_octets after) b.refusal)
+        let no : refusal_follows name ≡ all_given = one_way others is alike_back alike (bits_of_octets (rest ++ more)) b.count a.count (b.more ++ bits_of_octets after) (a.more ++ bits_of_octets more)
+        (subst (λ l. Front others b.count (bits_of_octets l) (b.more ++ bits_of_octets after)) (sym e) (further items after b.items.front)) (further rest more a.items.front)
+        (segment_sound head b.blocks b.depths b.options b.items.known) b.refusal.within (refusal_follows name) all_given (refused_further (bits_of_octets after) b.refusal) whole.0 in
+        cc
     by_end (inr cut) = elim (two_fronts rest items more after e) [
       | inl longer ↦
           let within = b.items.within cut.1 in
           let full = cut.2 in
           let count = ap length longer.1 in
-          let none : longer.0 ≡ [] = none_long longer.0 (omega (arith, within, full, count, length-append rest longer.0)) in
+          let none : longer.0 ≡ [] = nil_from_length longer.0 (omega (arith, within, full, count, length-append rest longer.0)) in
           cut_at [] cut.0 (sym (append-nil rest) ∙ ap (λ l. rest ++ l) (sym none) ∙ sym longer.1 ∙ sym (append-nil items))
       | inr shorter ↦ cut_at shorter.0 cut.0 shorter.1
     ]
@@ -166,13 +130,18 @@ module _ (book : Book) (head : SegmentHead) (size : ℕ) (fits : IsHead head) (r
         let long = same_text is those same back (bits_of_octets (rest ++ more)) a.count b.count (a.more ++ bits_of_octets more) b.more front b.items.front whole.0 short.0 in
         let wanted : wanted_octets head size is ≡ wanted_octets head size those = ap (λ k. cond head.fill head.limit (rounded (8 * head.image.word) (8 * size + k) / 8)) long in
         omega (arith, whole.1, short.1, wanted, length-append rest more)
-    by_ends (inl whole) (inr ended) = all_not_cut is those same back (bits_of_octets (rest ++ more)) a.count b.count (a.more ++ bits_of_octets more) b.more front b.items.front whole.0 ended.0
+    by_ends (inl whole) (inr ended) =
+        let no : nothing_follows ≡ all_given = one_way those is back same (bits_of_octets (rest ++ more)) b.count a.count b.more (a.more ++ bits_of_octets more) b.items.front front
+        (segment_sound head b.blocks b.depths b.options b.items.known) ended.0.within nothing_follows all_given ended.0 whole.0 in
+        cc
     by_ends (inr cut) (inl short) =
         let within = b.items.within cut.1 in
         let full = cut.2 in
-        let none : more ≡ [] = none_long more (omega (arith, within, full, length-append rest more)) in
+        let none : more ≡ [] = nil_from_length more (omega (arith, within, full, length-append rest more)) in
         let here : rest ++ more ≡ rest = ap (λ l. rest ++ l) none ∙ append-nil rest in
-        cut_not_all is those same back (bits_of_octets rest) a.count b.count a.more b.more a.items.front (subst (λ l. Front those b.count (bits_of_octets l) b.more) here b.items.front) cut.0 short.0
+        let no : nothing_follows ≡ all_given = one_way is those same back (bits_of_octets rest) a.count b.count a.more b.more a.items.front (subst (λ l. Front those b.count (bits_of_octets l) b.more) here b.items.front)
+        (segment_sound head a.blocks a.depths a.options a.items.known) cut.0.within nothing_follows all_given cut.0 short.0 in
+        cc
     by_ends (inr cut) (inr (follows, inl none)) = absurd (cut.1 none)
     by_ends (inr cut) (inr (follows, inr fewer)) = let full = cut.2 in absurd (omega (arith, fewer, full, length-append rest more))
 

@@ -1,9 +1,9 @@
 -- The last segment, of which the text was read, is given to the picture.
-use Rattle.std.proofs.Common.{◌≡◌, ◌≤◌, ◌<◌, ◌+◌, ◌-◌, ◌*◌, ◌/◌, ◌^◌, ℕ, ℤ, List, [], ◌∷◌, ◌++◌, length, take, refl, sym, ap, ◌∙◌, subst, arith, length-append, append_assoc, ap₂, inl, inr}
+use Rattle.std.proofs.Common.{◌≡◌, ◌≤◌, ◌<◌, ◌+◌, ◌*◌, ◌^◌, ℕ, ℤ, List, [], ◌∷◌, ◌++◌, length, take, refl, sym, ap, ◌∙◌, subst, arith, length-append, append_assoc, ap₂}
 use Rattle.std.specs.Prelude.{Some, Err, true, false}
 use Rattle.std.specs.List.{concat}
-use Rattle.std.proofs.lemmas.Bool.{cases_lt}
 use Rattle.std.proofs.Math.Nat.{mul-le-mul_left, div-add-mod}
+use Rattle.std.proofs.lemmas.Bool.Decides.{nat_tests}
 use Rattle.port_122.specs.Outside.{Outside}
 use Rattle.port_122.proofs.Stretches.{since_weaker}
 use Rattle.base_122.specs.Ranges.{IsWithin, rows_range}
@@ -44,14 +44,7 @@ use Rattle.bare_stream.proofs.SegmentShown.{rows_now, rows_broken}
 
 -- the blocks of an image of this height are all blocks up to the last one
 pub last_total : (first : SegmentHead) (index : ℕ) (head : SegmentHead) → IsHead head → Ends first index head → total_blocks first.image.width (height_at first index head) ≡ blocks_before first index + head.blocks
-last_total first index head ok e =
-    let n = blocks_before first index + head.blocks in
-    let c = block_count first.image.width in
-    let q = n / c in
-    let least : 17 ≤ 8 * q - head.pad_rows = e.least in
-    let pads = ok.pad_rows in
-    let rows : block_count (8 * q - head.pad_rows) ≡ q = omega (arith, least, pads) in
-    ap (λ k. c * k) rows ∙ (let all = div-add-mod n c in let whole = e.whole in omega (arith, all, whole))
+last_total first index head ok e = grind (arith, nat_tests, div-add-mod)
 
 -- the first octets of the texts
 starts_all : (first : SegmentHead) (texts : List (List ℕ)) (t : List ℕ) → BeginsSo first (texts ++ t ∷ []) → StartsWith first (concat (texts ++ t ∷ []))
@@ -83,28 +76,13 @@ module _ (w : Walk) (read : BareHead) (sound : IsSound w) (next : IsNext w read)
   last_fewer = let rows = ap (λ (g : Geometry). g.rows) sound.geometry in let most = end.most in omega (arith, rows, most)
 
   pub last_more : passed_in (picture_state w.picture) < total_blocks w.picture.geometry.width height
-  last_more =
-      let wide = ap (λ (g : Geometry). total_blocks g.width height) sound.geometry in
-      let some = end.some in
-      omega (arith, wide, total, some, sound.passed)
+  last_more = grind (arith, nat_tests, end, total)
 
   pub last_long : 64 * read.head.blocks ≤ length w.room.blocks.items
   last_long = cells_long w read sound next end.few
 
   pub last_index : (0 < w.index → w.first.last ≡ false) → w.index + 1 < 2 ^ 32
-  last_index whole = by w.index refl
-    where
-      by : (n : ℕ) → w.index ≡ n → w.index + 1 < 2 ^ 32
-      by n e = elim (cases_lt 0 w.index) [
-        | inl lt ↦
-            let many = least_blocks w.first w.index read.head next.agrees (whole lt) in
-            let product : w.index * 16 ≤ w.index * w.first.blocks = mul-le-mul_left w.index many in
-            let left = sound.left in
-            let all = total_is w.first.image.width in
-            let wide = sound.first.image.width.1 in
-            omega (arith, product, left, all, wide)
-        | inr ge ↦ omega (arith, ge)
-      ]
+  last_index whole = grind (arith, nat_tests, least_blocks, mul-le-mul_left, total_is)
 
   -- the picture with this height
   module _ (e : PictureState) (ended : EndsAt height (picture_state w.picture) e) where
@@ -115,9 +93,7 @@ module _ (w : Walk) (read : BareHead) (sound : IsSound w) (next : IsNext w read)
     shape_ended = ended.geometry ∙ ap (λ (g : Geometry). record g { rows = height }) sound.geometry
 
     pub last_room : passed_in e + read.head.blocks ≤ total_in e
-    last_room =
-        let all = ap (λ (g : Geometry). total_blocks g.width g.rows) shape_ended in
-        omega (arith, all, total, passed_ended)
+    last_room = grind (arith, nat_tests, shape_ended, total, passed_ended)
 
     pub last_weights : (cells : List ℤ) → AreParts cells read.head.blocks read.head.image.weights.shifts → AreParts cells read.head.blocks e.geometry.weights.shifts
     last_weights cells parts = subst (AreParts cells read.head.blocks) (same_weights w.first w.index read.head next.agrees ∙ sym (ap (λ (g : Geometry). g.weights.shifts) shape_ended)) parts

@@ -2,6 +2,7 @@
 use Rattle.std.proofs.Common.{◌≡◌, ◌≤◌, ◌<◌, ◌+◌, ◌*◌, ◌^◌, ℕ, ℤ, List, [], ◌∷◌, ◌++◌, length, take, refl, sym, ap, ◌∙◌, subst, arith, length-append}
 use Rattle.std.specs.Prelude.{Option, None, Some, Ok, Err, false}
 use Rattle.std.proofs.Math.Nat.{mul-le-mul_left}
+use Rattle.std.proofs.lemmas.Bool.Decides.{nat_tests}
 use Rattle.port_122.specs.Outside.{Outside, Exchange, NoRead, Rose}
 use Rattle.port_122.proofs.Stretches.{since_weaker, rose_since}
 use Rattle.base_122.specs.Sizes.{block_count, first_block, total_blocks}
@@ -39,8 +40,7 @@ use Rattle.bare_stream.proofs.WholeGiven.{whole_read, whole_read-gave, whole_sho
 -- ---- the first head of the segments
 
 no_force : (book : Book) (first : SegmentHead) (before : PartsInForce) (blocks : List (List (List ℤ))) → AreTexts book first none_in_force 0 [] blocks (λ b. b ≡ before) → none_in_force ≡ before
-no_force book first before [] are = are
-no_force book first before (b ∷ blocks) are = absurd are
+no_force book first before blocks are = grind (arith, nat_tests)
 
 begins_more : (first : SegmentHead) (texts : List (List ℕ)) (t : List ℕ) → BeginsSo first texts → (texts ≡ [] → StartsWith first t) → BeginsSo first (texts ++ t ∷ [])
 begins_more first [] t begins starts = starts refl
@@ -78,14 +78,9 @@ module _ {X : Type 0} (outside : X → Outside) (wish : DecodeWish) (start : Out
 -- ---- a segment that isn't the last
 
 pub total_is : (width : ℕ) → total_blocks width 262144 ≡ 32768 * block_count width
-total_is width =
-    let e : block_count 262144 ≡ 32768 = omega arith in
-    ap (λ n. block_count width * n) e ∙ (let f : block_count width * 32768 ≡ 32768 * block_count width = grind arith in f)
+total_is width = grind (arith, nat_tests)
 
 module _ (w : Walk) (read : BareHead) (sound : IsSound w) (next : IsNext w read) where
-  pub passed_is : passed_in (picture_state w.picture) ≡ w.index * w.first.blocks
-  passed_is = sound.passed
-
   -- in the tallest image
   pub total_in-is : total_in (picture_state w.picture) ≡ 32768 * block_count w.first.image.width
   total_in-is = ap (λ (g : Geometry). total_blocks g.width g.rows) sound.geometry ∙ total_is w.first.image.width
@@ -162,10 +157,7 @@ module _ (w : Walk) (read : BareHead) (sound : IsSound w) (next : IsNext w read)
     force_next all told = (begins_so wish.book r before w front text read (head all told) (is_next all told), are_next all told)
 
     room_is : first_block r.first.blocks (length r.blocks) + r.first.blocks < total_blocks r.first.image.width 262144
-    room_is =
-        let on = goes_on w.first w.index read.head next.agrees going in
-        let here : first_block w.first.blocks w.index + w.first.blocks < total_blocks w.first.image.width 262144 = (let room = on.room in let total = total_is w.first.image.width in omega (arith, room, total)) in
-        rw (at.first, sym at.read.same, sym at.index) here
+    room_is = grind (arith, nat_tests, on, goes_on, total_is)
 
     long : 64 * read.head.blocks ≤ length cells
     long = next_long going

@@ -14,9 +14,9 @@ use Rattle.bare_text.specs.InForce.{none_in_force, bare_length, parts_after}
 use Rattle.bare_text.specs.Taken.{ReadsHead}
 use Rattle.bare_text.specs.Reading.{bare_head_read}
 use Rattle.bare_stream.specs.declared.input.PortIn.{PortIn}
-use Rattle.bare_stream.specs.declared.fault.BareCause.TheVariants.{Head, BadOption, BadDelta, BadDepth, FalseFlag, Short, Trailing}
+use Rattle.bare_stream.specs.declared.fault.BareCause.TheVariants.{Head}
 use Rattle.bare_stream.specs.declared.fault.BareFault.{BareFault}
-use Rattle.bare_stream.specs.declared.fault.BareFault.TheVariants.{ReadFault, WriteFault, LongInput, Memory, TooManyPixels, Refused}
+use Rattle.bare_stream.specs.declared.fault.BareFault.TheVariants.{ReadFault, LongInput, TooManyPixels, Refused}
 use Rattle.bare_stream.specs.Input.{waiting}
 use Rattle.bare_stream.specs.Inputs.{source_of}
 use Rattle.bare_stream.specs.Heads.{TakesHead, ChecksHead}
@@ -71,7 +71,6 @@ module _ {X : Type 0} (outside : X → Outside) (wish : DecodeWish) (start : Out
   head_faulted ReadFault x =
       let read = read_on outside wish.octets start r [] s t at x.went in
       ended_at outside wish start r x.went.gave t read (Err ReadFault) read.gave_is (rose_since at.since.faults.reads x.ends) (begins_with outside wish start r x.went.gave t read before force)
-  head_faulted WriteFault x = absurd x
   head_faulted LongInput (inl x) =
       let read = read_on outside wish.octets start r [] s t at x.went in
       ended_at outside wish start r x.went.gave t read (Err LongInput) read.gave_is tt
@@ -85,8 +84,6 @@ module _ {X : Type 0} (outside : X → Outside) (wish : DecodeWish) (start : Out
       let read = read_on outside wish.octets start r [] s t at x.went in
       ended_at outside wish start r x.went.gave t read (Err LongInput) read.gave_is tt
       (λ all told. let here = rest_told outside wish start r x.went.gave t read all told in absurd (not_broken (outside t.port.now).rest (waiting t) here.0 t.left here.1 x.ends))
-  head_faulted Memory x = absurd x
-  head_faulted (TooManyPixels pixels) x = absurd x
   head_faulted (Refused i (Head fault)) x =
       let reads = x.1 in
       let read = read_on outside wish.octets start r [] s t at reads.went in
@@ -97,12 +94,7 @@ module _ {X : Type 0} (outside : X → Outside) (wish : DecodeWish) (start : Out
       let refused = head_refused outside wish.book wish.pixels (first_of r.first r.texts) before i t here.0 reads.octets fault here.1 reads.ends.0 reads.ends.1 in
       read_then outside wish start r reads.went.gave t read before (λ first next b rest. (i ≡ next) × Refuses wish.book wish.pixels first b i rest (outside t.port.now) (Head fault)) (force all told)
       (x.0 ∙ is, subst (λ l. Refuses wish.book wish.pixels (first_of r.first r.texts) before i (l ++ waiting t) (outside t.port.now) (Head fault)) same refused))
-  head_faulted (Refused i BadOption) x = absurd x
-  head_faulted (Refused i BadDelta) x = absurd x
-  head_faulted (Refused i BadDepth) x = absurd x
-  head_faulted (Refused i FalseFlag) x = absurd x
-  head_faulted (Refused i Short) x = absurd x
-  head_faulted (Refused i Trailing) x = absurd x
+  head_faulted other x = absurd x
 
 -- the head was read, and doesn't agree or reports too many pixels
 module _ {X : Type 0} (outside : X → Outside) (wish : DecodeWish) (start : Outside) (r : SegmentsRead) (front : List ℕ) (t : PortIn X) (before : PartsInForce) (index : ℕ) (read : HasRead outside wish.octets start r front t) (force : InForceAfter wish.book start r before) (is : index ≡ length r.texts)
@@ -111,10 +103,6 @@ module _ {X : Type 0} (outside : X → Outside) (wish : DecodeWish) (start : Out
   first_head = sym (first_is r.first r.texts head starts)
 
   pub check_faulted : (fault : BareFault) → ChecksHead wish.pixels r.first index head (Err fault) → DecodesBare wish start (outside t.port.now) (Err fault)
-  check_faulted ReadFault x = absurd x
-  check_faulted WriteFault x = absurd x
-  check_faulted LongInput x = absurd x
-  check_faulted Memory x = absurd x
   check_faulted (TooManyPixels pixels) x =
       ended_at outside wish start r front t read (Err (TooManyPixels pixels)) read.gave_is tt
       (λ all told.
@@ -136,12 +124,7 @@ module _ {X : Type 0} (outside : X → Outside) (wish : DecodeWish) (start : Out
       let f = front_read all told in
       read_then outside wish start r front t read before (λ first next b rest. (i ≡ next) × Refuses wish.book wish.pixels first b i rest (outside t.port.now) (Head fault)) (force all told)
       (x.0 ∙ is, inr (record { front = front; rest = waiting t; head = head; parts = refl; read = f.0; whole = f.1; goes_on = subst (λ k. first_refusal (agreement_tests k i head) ≡ Some fault) first_head (subst (λ n. first_refusal (agreement_tests r.first n head) ≡ Some fault) (sym x.0) x.1) })))
-  check_faulted (Refused i BadOption) x = absurd x
-  check_faulted (Refused i BadDelta) x = absurd x
-  check_faulted (Refused i BadDepth) x = absurd x
-  check_faulted (Refused i FalseFlag) x = absurd x
-  check_faulted (Refused i Short) x = absurd x
-  check_faulted (Refused i Trailing) x = absurd x
+  check_faulted other x = absurd x
 
 -- ---- the head was read
 

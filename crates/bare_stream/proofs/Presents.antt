@@ -1,6 +1,6 @@
 -- The present segment of a work, which is full and was written.
-use Rattle.std.proofs.Common.{◌≡◌, ℕ, ◌+◌, ◌*◌, ◌^◌, ◌<◌, ◌≤◌, ◌==◌, ℤ, List, refl, sym, ap, ◌∙◌, subst, arith, length, inl, inr}
-use Rattle.std.specs.Prelude.{Bool, Option, true, false}
+use Rattle.std.proofs.Common.{◌≡◌, ℕ, ◌+◌, ◌*◌, ◌^◌, ◌<◌, ◌≤◌, ℤ, List, sym, ap, ◌∙◌, subst, arith, length}
+use Rattle.std.specs.Prelude.{Option}
 use Rattle.std.proofs.lemmas.Bool.Decides.{nat_tests}
 use Rattle.port_122.specs.Outside.{Outside}
 use Rattle.base_122.specs.Sizes.{block_count, total_blocks, first_block}
@@ -10,9 +10,7 @@ use Rattle.wave_defs.specs.Held.{signal}
 use Rattle.wave_defs.specs.Pyramid.{padded}
 use Rattle.wave_strip.specs.Strip.{rows_of, answered_of, is_standing, Follows}
 use Rattle.segment_defs.specs.declared.head.SegmentHead.{SegmentHead}
-use Rattle.segment_defs.specs.Depths.{depth_dc_of, depth_ac_of}
-use Rattle.stream_defs.specs.Output.{head_for, head_with, image_blocks, segment_of, segments_of, used_before}
-use Rattle.stream_defs.specs.Shares.{CanBeSaid}
+use Rattle.stream_defs.specs.Output.{head_for, image_blocks, segment_of, segments_of}
 use Rattle.stream_defs.proofs.ImageLaws.{length-image_blocks}
 use Rattle.stream_defs.proofs.ShareLaws.{share_none}
 use Rattle.strip_coder.specs.declared.work.Work.{Work}
@@ -26,26 +24,13 @@ use Rattle.bare_stream.specs.Steps.{SegmentOut, TextCut, PresentOut, PresentCut,
 use Rattle.bare_stream.proofs.Counts.{is_plan, some_blocks, first_below}
 use Rattle.bare_stream.proofs.Puts.{same_rows}
 
--- a head can have the limit of a setting in range
-pub limit_said : (s : Setting) → IsBare s → CanBeSaid s s.limit
-limit_said s bare = record {
-  limit = elim bare.in_range.limit [ inl unset ↦ inl unset | inr given ↦ inr (given.0.0, omega (arith, given.0), given.1) ];
-  fill = λ set. elim (bare.in_range.fill set) [ inl some ↦ some | inr other ↦ absurd (other bare.no_total) ];
-}
-
 -- without a total each segment has the limit of the setting
 pub head_is_now : (s : Setting) (all : List (List ℤ)) (index : ℕ) → IsBare s → head_now s index (segment_of s all index) ≡ head_for s all index
-head_is_now s all index bare =
-    let segment = segment_of s all index in
-    ap (λ limit. head_with s index limit (length segment) (depth_dc_of segment) (depth_ac_of segment)) (sym (share_none s index (used_before s all index) bare.no_total))
+head_is_now s all index bare = grind (arith, nat_tests, share_none)
 
 module _ (s : Setting) (bare : IsBare s) (column : ℕ) (w : Work) (at : IsAt s column w) (lt : w.at.index < segments_of s) where
   few_present : present_size s w ≤ most_blocks s
-  few_present = by (s.rows == 0) refl
-    where
-      by : (b : Bool) → (s.rows == 0) ≡ b → present_size s w ≤ most_blocks s
-      by true e = absurd (bare.known (grind (arith, nat_tests)))
-      by false e = rw e (omega arith)
+  few_present = grind (arith, nat_tests)
 
   pub cells_fit : 64 * w.at.filled ≤ length w.blocks.items
   cells_fit = let most = few_present in let room = at.made.blocks in let filled = at.filled in omega (arith, most, room, filled, w.blocks.ok.0)
@@ -65,8 +50,7 @@ module _ (s : Setting) (bare : IsBare s) (column : ℕ) (w : Work) (at : IsAt s 
 
     -- they are the blocks of the segment of each image that the work follows
     pub segment_held : (x : ℕ → ℕ → ℤ) → FollowsTo s x column w → present_blocks w ≡ segment_of s (image_blocks s x) w.at.index
-    segment_held x follows =
-        segment_is w.blocks.items (image_blocks s x) w.at.filled (first_block s.segment w.at.index) s.segment (total_blocks s.width s.rows) (length-image_blocks s x) full cells_fit follows.present.at
+    segment_held x follows = grind (arith, nat_tests, segment_is, length-image_blocks, cells_fit)
 
 -- ---- a work after its text was written
 

@@ -31,13 +31,6 @@ pub rows_of_all : (r : SegmentsRead) → length r.texts ≡ length r.blocks → 
 rows_of_all r same = sym (ap (λ b. if b then open_rows r.first (take (length r.texts) r.blocks) else rows_read r) (not_below (length r.texts) (length r.blocks) same))
 
 module _ {X : Type 0} (outside : X → Outside) (cap : ℕ) (start : Outside) (r : SegmentsRead) (part : List ℕ) (s t : PortIn X) (read : HasRead outside cap start r part s) (went : Went outside s t) where
-  sizes : length read.took + length went.took ≡ length (concat r.texts) + (length part + (length went.gave + length (waiting t)))
-  sizes =
-      let a = ap length read.octets ∙ length-append (concat r.texts) (part ++ waiting s) in
-      let b = length-append part (waiting s) in
-      let c = sym (length-append (waiting s) went.took) ∙ ap length went.flow ∙ length-append went.gave (waiting t) in
-      omega (arith, a, b, c)
-
   before : length read.took ≡ length (concat r.texts) + (length part + length (waiting s))
   before = (let a = ap length read.octets ∙ length-append (concat r.texts) (part ++ waiting s) in let b = length-append part (waiting s) in omega (arith, a, b))
 

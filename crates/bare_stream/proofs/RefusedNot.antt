@@ -1,8 +1,8 @@
 -- The next text of a bare stream isn't refused.
-use Rattle.std.proofs.Common.{◌≡◌, ◌≤◌, ◌<◌, ◌+◌, ◌*◌, ◌==◌, ℕ, List, [], ◌∷◌, ◌++◌, length, take, inl, inr, refl, sym, ap, ◌∙◌, subst, arith, append_assoc, length-append}
-use Rattle.std.specs.Prelude.{Bool, true, false, nat_lt, if◌then◌else◌, Option, None, Some, Result, Ok, Err, unwrap_or}
+use Rattle.std.proofs.Common.{◌≡◌, ◌≤◌, ◌<◌, ◌+◌, ◌*◌, ◌==◌, ℕ, List, [], ◌++◌, length, take, inl, inr, refl, sym, ap, ◌∙◌, subst, arith, append_assoc, length-append}
+use Rattle.std.specs.Prelude.{Option, None, Some, Result, Ok, Err, unwrap_or}
 use Rattle.std.proofs.lemmas.Bool.Decides.{nat_tests}
-use Rattle.std.proofs.lemmas.List.{append-nil, append_cancel_left, take-append-le}
+use Rattle.std.proofs.lemmas.List.{append-nil, append_cancel_left, take-append-le, nil_from_length}
 use Rattle.port_122.specs.Outside.{Outside, AtEnd, IsUsedUp}
 use Rattle.base_122.specs.declared.book.Book.{Book}
 use Rattle.base_122.specs.declared.geometry.Geometry.{Geometry}
@@ -10,22 +10,22 @@ use Rattle.item_defs.specs.Items.{Refusal, bad_option, bad_delta, bad_depth, fal
 use Rattle.segment_defs.specs.declared.head.SegmentHead.{SegmentHead}
 use Rattle.segment_defs.specs.declared.fault.HeadFault.{HeadFault}
 use Rattle.segment_defs.specs.declared.fault.HeadFault.TheVariants.{HeadShort, MissingPart, Unsupported, DepthTooLarge, BadValue}
-use Rattle.segment_defs.specs.Reading.{refused_where, first_refusal, head_read}
+use Rattle.segment_defs.specs.Reading.{first_refusal}
 use Rattle.segment_defs.specs.Fields.{number_in, is_set}
 use Rattle.segment_defs.specs.Head.{IsHead}
 use Rattle.segment_head.proofs.FieldBits.{number_in-within}
 use Rattle.segment_code.specs.ItemsHeld.{RefusesItem, LacksItems}
 use Rattle.bare_text.specs.declared.parts.PartsInForce.{PartsInForce}
 use Rattle.bare_text.specs.Agreement.{agreement_tests}
-use Rattle.bare_text.specs.InForce.{bare_length, completed}
+use Rattle.bare_text.specs.InForce.{bare_length}
 use Rattle.bare_text.specs.Laws.{BareHeadsEndThere}
-use Rattle.bare_text.specs.Reading.{bare_head_read, then_read, start_tests, carry_tests, whole_tests}
+use Rattle.bare_text.specs.Reading.{bare_head_read, then_read, carry_tests}
 use Rattle.bare_stream.specs.declared.fault.BareCause.{BareCause}
 use Rattle.bare_stream.specs.declared.fault.BareCause.TheVariants.{Head, BadOption, BadDelta, BadDepth, FalseFlag, Short, Trailing}
 use Rattle.bare_stream.specs.BareStream.{AgreesWith}
 use Rattle.bare_stream.specs.Decoded.{DecidesHead, HeadThen, HeadRefused, ItemRefused, MayFollow, Refuses}
 use Rattle.bare_stream.specs.SegmentsRead.{pixels_at}
-use Rattle.bare_stream.proofs.ItemsApart.{none_long, held_not_refused, held_not_lacking}
+use Rattle.bare_stream.proofs.ItemsApart.{held_not_refused, held_not_lacking}
 use Rattle.bare_stream.proofs.StreamEnds.{two_fronts, ok_one}
 use Rattle.bare_stream.proofs.StreamFollowed.{NextText}
 
@@ -46,11 +46,7 @@ none_some : {A : Type 0} (a : A) (o : Option A) → o ≡ None → o ≡ Some a 
 none_some a o e f = absurd cc
 
 least_octets : (octets : List ℕ) → 3 ≤ bare_length octets
-least_octets octets = let three = by (is_set octets 1) in omega (arith, three)
-  where
-    by : (last : Bool) → 3 ≤ (if last then 4 else 3)
-    by true = omega arith
-    by false = omega arith
+least_octets octets = grind (arith, nat_tests)
 
 -- ---- the first three octets show which parts are missing
 
@@ -60,32 +56,12 @@ then_ok (Some fault) later head e = absurd cc
 
 carries : (before : PartsInForce) (octets : List ℕ) (head : SegmentHead) → bare_head_read before octets ≡ Ok head → first_refusal (carry_tests before octets) ≡ None
 unfolding bare_head_read
-carries before octets head e =
-    let start = then_ok (first_refusal (start_tests octets)) (then_read (first_refusal (carry_tests before octets)) (then_read (first_refusal (whole_tests octets)) (head_read (completed before octets)))) head e in
-    (then_ok (first_refusal (carry_tests before octets)) (then_read (first_refusal (whole_tests octets)) (head_read (completed before octets))) head start.1).0
+carries before octets head e = grind (arith, nat_tests, then_ok)
 
 -- if the tests for missing parts pass and the reader names a missing part, the octets are a whole head
 missing_whole : (before : PartsInForce) (octets : List ℕ) (part : ℕ) → 3 ≤ length octets → first_refusal (carry_tests before octets) ≡ None → bare_head_read before octets ≡ Err (MissingPart part) → bare_length octets ≤ length octets
 unfolding bare_head_read
-missing_whole before octets part three carried e = by (nat_lt (length octets) (bare_length octets)) refl
-  where
-    last : Result SegmentHead HeadFault
-    last = head_read (completed before octets)
-
-    start : first_refusal (start_tests octets) ≡ None
-    start = let test : nat_lt (length octets) 3 ≡ false = grind (arith, nat_tests) in ap (λ b. first_refusal (refused_where b (HeadShort (length octets)) ∷ [])) test
-
-    after : then_read (first_refusal (whole_tests octets)) (head_read (completed before octets)) ≡ Err (MissingPart part)
-    after =
-        sym (ap (λ o. then_read o (then_read (first_refusal (carry_tests before octets)) (then_read (first_refusal (whole_tests octets)) (head_read (completed before octets))))) start
-        ∙ ap (λ o. then_read o (then_read (first_refusal (whole_tests octets)) (head_read (completed before octets)))) carried) ∙ e
-
-    by : (b : Bool) → nat_lt (length octets) (bare_length octets) ≡ b → bare_length octets ≤ length octets
-    by true t =
-        let short : refuses (HeadShort (length octets)) ≡ refuses (MissingPart part) =
-        sym (ap (λ b. then_read (first_refusal (refused_where b (HeadShort (length octets)) ∷ [])) (head_read (completed before octets))) t) ∙ after in
-        absurd (let names = fault_one (HeadShort (length octets)) (MissingPart part) short in other_name (length octets) part names)
-    by false t = grind (arith, nat_tests)
+missing_whole before octets part three carried e = grind (arith, nat_tests, fault_one, other_name)
 
 module _ (front more : List ℕ) (three : length front ≡ 3) where
   flag_same : (place : ℕ) → place + 1 ≤ 8 * 3 → is_set (front ++ more) place ≡ is_set front place
@@ -133,7 +109,7 @@ module _ (heads : BareHeadsEndThere) (book : Book) (first : SegmentHead) (g : Ge
         let end = ap length (nothing_beyond decides.1) in
         let all = ap length e in
         let size = ap length longer in
-        let no_more : more ≡ [] = none_long more (omega (
+        let no_more : more ≡ [] = nil_from_length more (omega (
           arith,
           none,
           end,

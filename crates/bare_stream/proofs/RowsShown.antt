@@ -1,6 +1,6 @@
 -- The rows that segments determine.
 use Rattle.std.proofs.Common.{◌≡◌, ◌≤◌, ◌<◌, ◌+◌, ◌-◌, ◌*◌, ◌/◌, ◌%◌, ◌==◌, ℕ, ℤ, pos, List, [], length, get_or, refl, ap, ◌∙◌, arith}
-use Rattle.std.specs.Prelude.{true, false, min, if◌then◌else◌}
+use Rattle.std.specs.Prelude.{true, min, if◌then◌else◌}
 use Rattle.std.proofs.lemmas.Bool.Decides.{nat_tests}
 use Rattle.std.proofs.lemmas.Nat.{div_below, div-mul-add}
 use Rattle.std.proofs.lemmas.Option.{unwrap_or-slice_get}
@@ -30,16 +30,10 @@ module _ (first : SegmentHead) (blocks : List (List (List ℤ))) (wide : 17 ≤ 
   m = block_rows_in first (length blocks)
 
   few : m < 32768
-  few =
-      let three = three-le-block_count first.image.width wide in
-      let most : total_blocks first.image.width 262144 ≡ c * 32768 = ap (λ n. c * n) (let e : block_count 262144 ≡ 32768 = omega arith in e) in
-      div_below (first_block first.blocks (length blocks)) c 32768 (omega (arith, three)) (omega (arith, room, most))
+  few = grind (arith, nat_tests, three-le-block_count, div_below)
 
   through : rows_through (shape_with first 262144) m ≡ 8 * m - 21
-  through =
-      let low = few in
-      let other : (m == block_count 262144) ≡ false = grind (arith, nat_tests, low) in
-      ap (λ b. if b then 262144 else 8 * m - 21) other
+  through = grind (arith, nat_tests, few)
 
   -- the rows of the tallest picture that they determine
   pub rows_open : rows_of (shape_with first 262144) (number_at g (segments_in blocks)) (rows_through (shape_with first 262144) (block_rows_before (shape_with first 262144) (first_block first.blocks (length blocks)))) ≡ open_rows first blocks

@@ -1,24 +1,24 @@
 -- Texts that were written one after another, and the end of a run.
-use Rattle.std.proofs.Common.{◌≡◌, ℕ, suc, ◌+◌, ◌*◌, ◌/◌, ◌<◌, ◌≤◌, ℤ, List, [], ◌∷◌, ◌++◌, length, take, min, refl, sym, ap, ◌∙◌, subst, arith, inl, inr, Bool, true, false, append_assoc, length-append}
+use Rattle.std.proofs.Common.{◌≡◌, ℕ, suc, ◌+◌, ◌*◌, ◌/◌, ◌<◌, ◌≤◌, ℤ, List, [], ◌∷◌, ◌++◌, length, take, min, refl, sym, ap, ◌∙◌, subst, arith, inr, true, false, append_assoc, length-append}
 use Rattle.std.specs.Prelude.{Option, Some, Ok, Err}
-use Rattle.std.proofs.lemmas.Bool.{cases_lt}
 use Rattle.std.proofs.lemmas.List.{append-nil, take_min, take-append-le}
 use Rattle.std.proofs.lemmas.Nat.{le-div}
 use Rattle.std.proofs.Math.Nat.{mul-le-mul, mul-le-mul_left}
 use Rattle.std.proofs.Math.Seq.{take-append-add, take-append_seam}
+use Rattle.std.proofs.lemmas.Bool.Decides.{nat_tests}
 use Rattle.port_122.specs.Outside.{Outside, Exchange, AtStart, GivenBy, ReadFailed}
 use Rattle.port_122.proofs.Stretches.{since_out, rose_since}
 use Rattle.port_122.proofs.ReadCalls.{since_prompt}
-use Rattle.base_122.specs.Sizes.{block_count, total_blocks, first_block}
+use Rattle.base_122.specs.Sizes.{block_count}
 use Rattle.base_122.specs.declared.setting.Setting.{Setting}
 use Rattle.base_122.proofs.SizeBounds.{total-le-segments}
 use Rattle.wave_defs.specs.Held.{SameWithin}
-use Rattle.wave_strip.specs.Strip.{answered_of, has_ended}
+use Rattle.wave_strip.specs.Strip.{answered_of}
 use Rattle.segment_defs.specs.declared.head.SegmentHead.{SegmentHead}
 use Rattle.raster_rows.specs.Ends.{SawEnd}
 use Rattle.raster_rows.proofs.PixelPlaces.{size_some}
 use Rattle.raster_rows.specs.Pixels.{pixel_size}
-use Rattle.stream_defs.specs.Output.{head_for, image_blocks, segment_of, segments_of}
+use Rattle.stream_defs.specs.Output.{head_for, image_blocks, segments_of}
 use Rattle.stream_defs.specs.Settled.{settled}
 use Rattle.stream_defs.proofs.ImageLaws.{blocks_whole, settled_whole}
 use Rattle.strip_coder.specs.declared.work.Work.{Work}
@@ -47,17 +47,10 @@ module _ (s : Setting) (is_bare : IsBare s) (column : ℕ) (before : Option Segm
     (full : old.at.filled ≡ present_size s old) where
   -- the text is that of the segment in each image that begins so
   text_is : (y : ℕ → ℕ → ℤ) → BeginsSo s come.took old y → bare_text s.book before (head_now s old.at.index (present_blocks old)) (present_blocks old) ≡ segment_octets s (image_blocks s y) old.at.index
-  text_is y begins =
-      let all = image_blocks s y in
-      let index = old.at.index in
-      let held = segment_held s is_bare column old come.at lt full y (come.follows y begins) in
-      ap (λ b. bare_text s.book b (head_now s index (present_blocks old)) (present_blocks old)) (come.head y begins)
-      ∙ ap (λ blocks. bare_text s.book (head_before s all index) (head_now s index blocks) blocks) held
-      ∙ ap (λ h. bare_text s.book (head_before s all index) h (segment_of s all index)) (head_is_now s all index is_bare)
+  text_is y begins = grind (arith, nat_tests, segment_held, head_is_now)
 
   head_is : (y : ℕ → ℕ → ℤ) → BeginsSo s come.took old y → head_now s old.at.index (present_blocks old) ≡ head_for s (image_blocks s y) old.at.index
-  head_is y begins =
-      ap (head_now s old.at.index) (segment_held s is_bare column old come.at lt full y (come.follows y begins)) ∙ head_is_now s (image_blocks s y) old.at.index is_bare
+  head_is y begins = grind (arith, nat_tests, segment_held, head_is_now)
 
   pub text_out : {r : Outside} (new : Work) (head : SegmentHead) → PresentOut s column before q r old new head → HasCome s column (Some head) p r new
   text_out new head out =
@@ -123,30 +116,10 @@ module _ (s : Setting) (is_bare : IsBare s) (column : ℕ) (before : Option Segm
 module _ (s : Setting) (is_bare : IsBare s) (column : ℕ) (before : Option SegmentHead) (p q : Outside) (w : Work) (come : HasCome s column before p q w) (last : w.at.index ≡ segments_of s) where
   -- all block rows were completed
   all_answered : block_count s.rows ≤ answered_of w.strip
-  all_answered = elim (cases_lt (answered_of w.strip) (block_count s.rows)) [
-    | inl lt ↦
-        let c = block_count s.width in
-        let total = total-le-segments (total_blocks s.width s.rows) s.segment (some_blocks s is_bare) in
-        let first : first_block s.segment w.at.index ≡ segments_of s * s.segment = ap (λ n. n * s.segment) last in
-        let next : c * (answered_of w.strip + 1) ≤ c * block_count s.rows = mul-le-mul_left c (omega (arith, lt)) in
-        let one : c * (answered_of w.strip + 1) ≡ c * answered_of w.strip + c = grind arith in
-        let count = come.at.count in
-        let within = come.at.columns in
-        let some = some_columns s is_bare in
-        absurd (omega (arith, total, first, next, one, count, within, some))
-    | inr le ↦ le
-  ]
+  all_answered = grind (arith, nat_tests, total-le-segments, some_blocks, mul-le-mul_left, some_columns)
 
   all_rows : raster_rows s w ≡ s.rows
-  all_rows = by (has_ended w.strip) refl
-    where
-      by : (b : Bool) → has_ended w.strip ≡ b → raster_rows s w ≡ s.rows
-      by true e = let rows = come.at.rows.ended e in let taken = come.at.rows.taken in omega (arith, rows, taken)
-      by false e =
-          let answered = come.at.rows.running e in
-          let most = come.at.rows.most in
-          let some = (rows_in s is_bare).0 in
-          absurd (omega (arith, answered, most, some, all_answered))
+  all_rows = grind (arith, nat_tests, rows_in, all_answered)
 
   itself : BeginsSo s come.took w (image_of s come.took)
   itself = record { at = λ i j hi hj. refl }

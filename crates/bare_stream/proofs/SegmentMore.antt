@@ -3,8 +3,9 @@ use Rattle.std.proofs.Common.{◌≡◌, ◌≤◌, ◌<◌, ◌+◌, ℕ, ℤ, 
 use Rattle.std.specs.Prelude.{nat_lt, Bool, true, false, if◌then◌else◌, Option, None}
 use Rattle.std.specs.List.{concat}
 use Rattle.std.proofs.lemmas.Bool.Decides.{nat_tests}
-use Rattle.std.proofs.lemmas.List.{append-nil, take-append-le}
+use Rattle.std.proofs.lemmas.List.{append-nil, take-append-le, length_push}
 use Rattle.std.proofs.Math.Seq.{take-length}
+use Rattle.std.proofs.lemmas.Bool.{lt-ltb}
 use Rattle.port_122.specs.Outside.{Outside, Exchange, NoRead}
 use Rattle.port_122.proofs.Stretches.{since_out, since_weaker}
 use Rattle.base_122.specs.declared.book.Book.{Book}
@@ -23,18 +24,12 @@ concat_more : (texts : List (List ℕ)) (t : List ℕ) → concat (texts ++ t �
 concat_more [] t = append-nil t
 concat_more (x ∷ texts) t = ap (λ l. x ++ l) (concat_more texts t) ∙ sym (append_assoc x (concat texts) t)
 
-length_more : {A : Type 0} (xs : List A) (x : A) → length (xs ++ x ∷ []) ≡ length xs + 1
-length_more xs x = length-append xs (x ∷ [])
-
 take_first : {A : Type 0} (k : ℕ) (xs : List A) (x : A) → k ≤ length xs → take k (xs ++ x ∷ []) ≡ take k xs
 take_first k xs x le = take-append-le k xs (x ∷ []) le
 
 -- with one more segment, which is the last one or not
 abbrev pub with_more : SegmentsRead → List ℕ → List (List ℤ) → Option Geometry → SegmentsRead
 with_more r text w ended = record { first = r.first; texts = r.texts ++ text ∷ []; blocks = r.blocks ++ w ∷ []; ended = ended }
-
-is_below : (k n : ℕ) → k < n → nat_lt k n ≡ true
-is_below k n lt = grind (arith, nat_tests)
 
 open_read : (r : SegmentsRead) → r.ended ≡ None → rows_read r ≡ open_rows r.first r.blocks
 open_read r going = rw going refl
@@ -48,14 +43,14 @@ module _ (r : SegmentsRead) (text : List ℕ) (w : List (List ℤ)) (ended : Opt
 
   all_before : octets_before r' (length r.texts + 1) ≡ length (concat r.texts) + length text
   all_before =
-      ap (λ l. length (concat l)) (ap (λ n. take n r'.texts) (sym (length_more r.texts text)) ∙ take-length r'.texts)
+      ap (λ l. length (concat l)) (ap (λ n. take n r'.texts) (sym (length_push r.texts text)) ∙ take-length r'.texts)
       ∙ ap length (concat_more r.texts text) ∙ length-append (concat r.texts) text
 
   rows_same : (k : ℕ) → k ≤ length r.texts → rows_after r k ≡ rows_after r' k
   rows_same k le = now ∙ sym (later ∙ ap (open_rows r.first) (take_first k r.blocks w (omega (arith, le, same))))
     where
       later : rows_after r' k ≡ open_rows r.first (take k r'.blocks)
-      later = ap (λ b. if b then open_rows r.first (take k r'.blocks) else rows_read r') (is_below k (length r'.blocks) (let size = length_more r.blocks w in omega (arith, le, same, size)))
+      later = ap (λ b. if b then open_rows r.first (take k r'.blocks) else rows_read r') (lt-ltb k (length r'.blocks) (let size = length_push r.blocks w in omega (arith, le, same, size)))
 
       by : (b : Bool) → nat_lt k (length r.blocks) ≡ b → (if b then open_rows r.first (take k r.blocks) else rows_read r) ≡ open_rows r.first (take k r.blocks)
       by true e = refl
@@ -73,7 +68,7 @@ module _ (r : SegmentsRead) (text : List ℕ) (w : List (List ℤ)) (ended : Opt
       let size = ap length (concat_more r.texts text) ∙ length-append (concat r.texts) text in (
         record {
           k = k;
-          most = (let m = p.most in omega (arith, m, length_more r.texts text));
+          most = (let m = p.most in omega (arith, m, length_push r.texts text));
           whole = (let m = before_same k p.most in let n = p.whole in omega (arith, m, n));
           next = λ lt. elim (split k (length r.texts) p.most) [
             | inl low ↦ let m = before_same (k + 1) (omega (arith, low)) in let n = p.next low in omega (arith, m, n)
@@ -105,7 +100,7 @@ module _ {X : Type 0} (outside : X → Outside) (cap : ℕ) (start : Outside) (r
   pub segment_read : read.gave ++ more ≡ rows_read (with_more r text w None) → HasRead outside cap start (with_more r text w None) [] u
   segment_read rows = record {
     going = refl;
-    same = length_more r.texts text ∙ ap (λ n. n + 1) read.same ∙ sym (length_more r.blocks w);
+    same = length_push r.texts text ∙ ap (λ n. n + 1) read.same ∙ sym (length_push r.blocks w);
     took = read.took;
     gave = read.gave ++ more;
     since = asks_all None;

@@ -1,10 +1,10 @@
 -- The blocks of one more segment are given to a picture.
-use Rattle.std.proofs.Common.{◌≡◌, ◌≤◌, ◌<◌, ◌+◌, ◌-◌, ◌*◌, ◌/◌, ◌%◌, ℕ, ℤ, pos, List, [], ◌∷◌, ◌++◌, length, take, drop, get_or, sym, ap, ◌∙◌, arith, length-append}
+use Rattle.std.proofs.Common.{◌≡◌, ◌≤◌, ◌<◌, ◌+◌, ◌*◌, ◌/◌, ◌%◌, ℕ, ℤ, pos, List, [], ◌∷◌, ◌++◌, length, take, get_or, sym, ap, ◌∙◌, arith, length-append}
 use Rattle.std.specs.Prelude.{Option}
-use Rattle.std.proofs.lemmas.List.{length-take-le, take-take, drop-take, get_or_append_left}
+use Rattle.std.proofs.lemmas.List.{length-take-le, get_or_append_left}
 use Rattle.std.proofs.Math.Seq.{get_or-append_seam}
-use Rattle.std.proofs.lemmas.List.FromFn.{get_or-map-range_with_len}
 use Rattle.std.proofs.lemmas.Nat.{div_below, div-mul-add, mod-mul-add}
+use Rattle.std.proofs.lemmas.Bool.Decides.{nat_tests}
 use Rattle.port_122.specs.Outside.{Outside}
 use Rattle.base_122.specs.Sizes.{first_block}
 use Rattle.base_122.specs.declared.geometry.Geometry.{Geometry}
@@ -19,24 +19,13 @@ use Rattle.bare_stream.specs.Reads.{AreNumbersOf, ShowsRead}
 use Rattle.bare_stream.specs.Blocks.{HasNextBlocks, HasPutBlocks}
 use Rattle.bare_stream.proofs.RowsShown.{number_is}
 use Rattle.bare_stream.proofs.SegmentMore.{with_more}
+use Rattle.strip_decoder.proofs.Showing.{block_in, front_block}
 
 -- ---- the blocks of a slice
 
-block_in : (cells : List ℤ) (k : ℕ) → 64 * k + 64 ≤ length cells → get_or (blocks_in cells) k [] ≡ block_at cells k
-unfolding blocks_in
-block_in cells k le = get_or-map-range_with_len (block_at cells) 0 (length cells / 64) k k [] (omega (arith, le)) (omega arith)
-
-front_block : (cells : List ℤ) (count k : ℕ) → k < count → block_at (take (64 * count) cells) k ≡ block_at cells k
-front_block cells count k lt =
-    let rest = 64 * (count - k) in
-    let parts : 64 * count ≡ 64 * k + rest = omega (arith, lt) in
-    ap (λ n. take 64 (drop (64 * k) (take n cells))) parts ∙ ap (take 64) (drop-take (64 * k) rest cells) ∙ take-take 64 rest (drop (64 * k) cells) (omega (arith, lt))
-
 -- those of the first ones
 pub block_of_front : (cells : List ℤ) (count k : ℕ) → 64 * count ≤ length cells → k < count → get_or (blocks_in (take (64 * count) cells)) k [] ≡ block_at cells k
-block_of_front cells count k long lt =
-    let size : length (take (64 * count) cells) ≡ 64 * count = length-take-le (64 * count) cells long in
-    block_in (take (64 * count) cells) k (omega (arith, size, lt)) ∙ front_block cells count k lt
+block_of_front cells count k long lt = grind (arith, nat_tests, length-take-le, block_in, front_block)
 
 -- ---- the numbers of the segments
 
@@ -89,9 +78,7 @@ module _ (g : Geometry) (r : SegmentsRead) (text : List ℕ) (w : List (List ℤ
 
   module _ {a b : Outside} (q : PictureState) (put : HasPutBlocks cells count a b p q) where
     given_now : (numbers : ℕ → ℕ → ℤ) → AreNumbersOf (with_more r text w ended) numbers → gave ++ put.goes.gave ≡ rows_of q.geometry numbers q.at.next
-    given_now numbers are =
-        ap (λ l. l ++ put.goes.gave) (given_before numbers are) ∙ put.goes.given numbers (next_blocks numbers are)
-        ∙ ap (λ g. rows_of g numbers q.at.next) (sym put.geometry)
+    given_now numbers are = grind (arith, nat_tests, given_before, next_blocks)
 
     -- a whole segment is passed
     pub shows_more : count ≡ r.first.blocks → ShowsRead g (with_more r text w ended) (gave ++ put.goes.gave) q

@@ -1,7 +1,9 @@
 -- Octets begin with at most one text, and so are at most one bare stream.
-use Rattle.std.proofs.Common.{◌≡◌, ℕ, ◌+◌, ℤ, List, [], ◌∷◌, ◌++◌, length, Bool, true, false, inl, inr, ◌⊎◌, refl, sym, ap, ◌∙◌, subst, append_assoc}
+use Rattle.std.proofs.Common.{◌≡◌, ℕ, ◌+◌, ℤ, List, [], ◌∷◌, ◌++◌, length, inl, inr, ◌⊎◌, refl, sym, ap, ◌∙◌, subst, append_assoc, arith}
 use Rattle.std.specs.Prelude.{Result, Ok}
 use Rattle.std.proofs.lemmas.List.{append-nil, append_cancel_left}
+use Rattle.std.proofs.lemmas.Bool.{both_ways}
+use Rattle.std.proofs.lemmas.Bool.Decides.{nat_tests}
 use Rattle.base_122.specs.declared.geometry.Geometry.{Geometry}
 use Rattle.bit_pipe.specs.declared.fault.Part.{Part}
 use Rattle.base_122.specs.declared.book.Book.{Book}
@@ -95,9 +97,6 @@ module _ (heads : BareHeadsEndThere) (items : ItemsEndThere) (book : Book) where
   nothing_left [] b e = e
   nothing_left (x ∷ a) b e = absurd cc
 
-  pub clash : (b : Bool) → b ≡ true → b ≡ false → ⊥
-  clash b e f = cc
-
   one_stream : (first : SegmentHead) (g h : Geometry) (before : PartsInForce) (index : ℕ) (octets more : List ℕ) (v w : List (List (List ℤ))) →
       TextsFrom book first g before index octets v → TextsFrom book first h before index (octets ++ more) w → SameStream more g h v w
   one_stream first g h before index octets more [] w a b = absurd a
@@ -113,10 +112,10 @@ module _ (heads : BareHeadsEndThere) (items : ItemsEndThere) (book : Book) where
       }
   one_stream first g h before index octets more (v ∷ []) (w ∷ (w' ∷ ws)) a b =
       let s = same first before index octets more v w _ _ a b in
-      absurd (clash b.head.last (ap (λ k. k.last) (sym s.head) ∙ a.goes_on.0) b.goes_on.0)
+      absurd (both_ways b.head.last b.goes_on.0 (ap (λ k. k.last) (sym s.head) ∙ a.goes_on.0))
   one_stream first g h before index octets more (v ∷ (v' ∷ vs)) (w ∷ []) a b =
       let s = same first before index octets more v w _ _ a b in
-      absurd (clash b.head.last b.goes_on.0 (ap (λ k. k.last) (sym s.head) ∙ a.goes_on.0))
+      absurd (both_ways b.head.last (ap (λ k. k.last) (sym s.head) ∙ a.goes_on.0) b.goes_on.0)
   one_stream first g h before index octets more (v ∷ (v' ∷ vs)) (w ∷ (w' ∷ ws)) a b =
       let s = same first before index octets more v w _ _ a b in
       let l = later first before index octets more v w _ _ a b in
@@ -129,10 +128,7 @@ module _ (heads : BareHeadsEndThere) (items : ItemsEndThere) (book : Book) where
       }
 
   pub one_first : (octets more : List ℕ) (a b : SegmentHead) → StartsWith a octets → StartsWith b (octets ++ more) → a ≡ b
-  one_first octets more a b x y =
-      let joined : x.front ++ (x.rest ++ more) ≡ y.front ++ y.rest = sym (append_assoc x.front x.rest more) ∙ ap (λ l. l ++ more) (sym x.parts) ∙ y.parts in
-      let front = heads.one none_in_force x.front y.front (x.rest ++ more) y.rest a b x.read y.read x.whole y.whole joined in
-      ok_one a b (sym x.read ∙ ap (λ l. bare_head_read none_in_force l) front ∙ y.read)
+  one_first octets more a b x y = grind (arith, nat_tests, append_assoc, ok_one)
 
   pub both : (octets more : List ℕ) (g h : Geometry) (v w : List (List (List ℤ))) → BareStream book octets g v → BareStream book (octets ++ more) h w → SameStream more g h v w
   both octets more g h v w a b =

@@ -7,6 +7,8 @@ use Rattle.std.proofs.lemmas.Grind.{div_ceil_times}
 use Rattle.std.proofs.lemmas.List.{append_cancel_left}
 use Rattle.std.proofs.lemmas.Nat.{div-add-mod'}
 use Rattle.std.proofs.Math.Nat.{mul-le-mul_left, mul-le-mul_right}
+use Rattle.std.proofs.lemmas.Bool.{both_ways}
+use Rattle.std.proofs.lemmas.Bool.Decides.{nat_tests}
 use Rattle.base_122.specs.Sizes.{block_count}
 use Rattle.base_122.specs.declared.book.Book.{Book}
 use Rattle.base_122.specs.declared.geometry.Geometry.{Geometry}
@@ -20,7 +22,7 @@ use Rattle.bare_text.specs.Laws.{BareHeadsEndThere}
 use Rattle.bare_stream.specs.BareStream.{AgreesWith, IsText, TextsFrom, geometry_at}
 use Rattle.bare_stream.specs.SegmentsRead.{AreTexts, open_geometry, pixels_at}
 use Rattle.bare_stream.proofs.Agrees.{ends, goes_on, pixels_last}
-use Rattle.bare_stream.proofs.StreamEnds.{one_text, clash}
+use Rattle.bare_stream.proofs.StreamEnds.{one_text}
 
 -- ---- what is left of a stream
 
@@ -70,7 +72,7 @@ module _ (heads : BareHeadsEndThere) (items : ItemsEndThere) (book : Book) (firs
   followed Continues before index octets rest (v ∷ []) (t ∷ texts) (c ∷ blocks) a b e =
       let joined : a.text ++ a.rest ≡ t ++ (concat texts ++ rest) = sym a.parts ∙ e ∙ append_assoc t (concat texts) rest in
       let same = one_text heads items book before a.text t a.rest (concat texts ++ rest) a.head b.head v c a.after b.after a.is b.is joined in
-      absurd (clash heads items book b.head.last (ap (λ h. h.last) (sym same.head) ∙ a.goes_on.0) b.goes_on.0)
+      absurd (both_ways b.head.last b.goes_on.0 (ap (λ h. h.last) (sym same.head) ∙ a.goes_on.0))
   followed Continues before index octets rest (v ∷ (v' ∷ vs)) (t ∷ texts) (c ∷ blocks) a b e =
       let joined : a.text ++ a.rest ≡ t ++ (concat texts ++ rest) = sym a.parts ∙ e ∙ append_assoc t (concat texts) rest in
       let same = one_text heads items book before a.text t a.rest (concat texts ++ rest) a.head b.head v c a.after b.after a.is b.is joined in
@@ -83,17 +85,7 @@ module _ (heads : BareHeadsEndThere) (items : ItemsEndThere) (book : Book) (firs
 
   -- a lower bound of the rows of an image that has more than n blocks
   reached : (n all c rows : ℕ) → 0 < c → n < all → all % c ≡ 0 → 8 * (all / c) ≤ rows + 7 → 17 ≤ rows → max 17 (8 * div_ceil n c - 7) ≤ rows
-  reached n all c rows some lt whole tall least =
-      let times = (div_ceil_times n c some).1 in
-      let parts = div-add-mod' all c in
-      let most : div_ceil n c ≤ all / c = by (div_ceil n c) (all / c) times (omega (arith, parts, whole)) in
-      omega (arith, most, tall, least)
-    where
-      by : (p q : ℕ) → p * c < n + c → q * c ≡ all → p ≤ q
-      by p q less e = below p q (λ above. let next : (q + 1) * c ≤ p * c = mul-le-mul_right c (omega (arith, above)) in let more : (q + 1) * c ≡ q * c + c = grind arith in omega (arith, next, more, less, e, lt))
-        where
-          below : (p q : ℕ) → (q < p → ⊥) → p ≤ q
-          below p q none = omega arith
+  reached n all c rows some lt whole tall least = grind (arith, nat_tests, div_ceil_times, div-add-mod', mul-le-mul_right)
 
   all_later : (before : PartsInForce) (index : ℕ) (octets : List ℕ) (v : List (List ℤ)) (w : List (List (List ℤ))) → TextsFrom book first g before index octets (v ∷ w) → (n : ℕ) × HasAll book first g index n × NextText book first g before index octets
   all_later before index octets v [] a =

@@ -10,9 +10,9 @@ use Rattle.base_122.specs.declared.geometry.Geometry.{Geometry}
 use Rattle.base_122.specs.declared.wish.DecodeWish.{DecodeWish}
 use Rattle.bit_pipe.specs.declared.fault.InFault.TheVariants as in_faults
 use Rattle.bit_pipe.specs.Sources.{Comes, IsOver, Plainly, GivesOctet}
-use Rattle.bare_stream.specs.declared.fault.BareCause.TheVariants.{Head, BadOption, BadDelta, BadDepth, FalseFlag, Short, Trailing}
+use Rattle.bare_stream.specs.declared.fault.BareCause.TheVariants.{Trailing}
 use Rattle.bare_stream.specs.declared.fault.BareFault.{BareFault}
-use Rattle.bare_stream.specs.declared.fault.BareFault.TheVariants.{ReadFault, WriteFault, LongInput, Memory, TooManyPixels, Refused}
+use Rattle.bare_stream.specs.declared.fault.BareFault.TheVariants.{ReadFault, LongInput, Refused}
 use Rattle.bare_stream.specs.declared.input.PortIn.{PortIn}
 use Rattle.bare_stream.specs.declared.walk.Walk.{Walk}
 use Rattle.bare_stream.specs.BareStream.{geometry_at}
@@ -120,20 +120,12 @@ module _ {X : Type 0} (outside : X → Outside) (wish : DecodeWish) (start : Out
 module _ {X : Type 0} (outside : X → Outside) (wish : DecodeWish) (start : Outside) (s t : PortIn X) (w : Walk) (ended : HasEnded outside wish start s w) where
   pub end_faulted : (fault : BareFault) → ExpectsEnd (source_of outside) w.index (Err fault) s t → DecodesBare wish start (outside t.port.now) (Err fault)
   end_faulted ReadFault x = read_failed outside wish start s t w ended x.went x
-  end_faulted WriteFault x = absurd x
   end_faulted LongInput (inl x) = was_long outside wish start s t w ended x.went x
   end_faulted LongInput (inr x) = was_broken outside wish start s t w ended x.went x
-  end_faulted Memory x = absurd x
-  end_faulted (TooManyPixels pixels) x = absurd x
-  end_faulted (Refused i (Head fault)) x = absurd x
-  end_faulted (Refused i BadOption) x = absurd x
-  end_faulted (Refused i BadDelta) x = absurd x
-  end_faulted (Refused i BadDepth) x = absurd x
-  end_faulted (Refused i FalseFlag) x = absurd x
-  end_faulted (Refused i Short) x = absurd x
   end_faulted (Refused i Trailing) x =
       let octet = x.1 in
       subst (λ n. DecodesBare wish start (outside t.port.now) (Err (Refused n Trailing))) (sym x.0) (goes_past outside wish start s t w ended octet.1.went octet.0 octet.1)
+  end_faulted other x = absurd x
 
   pub stream_read : (g : Geometry) → g ≡ record (geometry_at w.first 0 w.first) { rows = w.picture.geometry.rows } → GivesOctet (source_of outside) (Ok None) s t → DecodesBare wish start (outside t.port.now) (Ok g)
   stream_read g is x = subst (λ h. DecodesBare wish start (outside t.port.now) (Ok h)) (ended.g_is ∙ sym is) (ends_there outside wish start s t w ended x.went x)

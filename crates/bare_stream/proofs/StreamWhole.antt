@@ -13,9 +13,9 @@ use Rattle.bare_text.specs.InForce.{none_in_force}
 use Rattle.bare_text.specs.Laws.{BareHeadsEndThere}
 use Rattle.bare_text.specs.Reading.{bare_head_read}
 use Rattle.bare_stream.specs.declared.fault.BareCause.{BareCause}
-use Rattle.bare_stream.specs.declared.fault.BareCause.TheVariants.{Head, BadOption, BadDelta, BadDepth, FalseFlag, Short, Trailing}
+use Rattle.bare_stream.specs.declared.fault.BareCause.TheVariants.{Trailing}
 use Rattle.bare_stream.specs.declared.fault.BareFault.{BareFault}
-use Rattle.bare_stream.specs.declared.fault.BareFault.TheVariants.{ReadFault, WriteFault, LongInput, Memory, TooManyPixels, Refused}
+use Rattle.bare_stream.specs.declared.fault.BareFault.TheVariants.{LongInput, TooManyPixels, Refused}
 use Rattle.bare_stream.specs.BareStream.{AgreesWith, BareStream, BareStreamsEndThere, StartsWith}
 use Rattle.bare_stream.specs.Decoded.{BareReasons, EndsSo, GivesRead, HeadThen, ReadThen, Refuses, StreamThen, first_of, rows_of_read}
 use Rattle.bare_stream.specs.RoundTrip.{IsWithinCaps, ReadsWhole, StreamsAreRead}
@@ -115,18 +115,11 @@ module _ (heads : BareHeadsEndThere) (items : ItemsEndThere) (ends : BareStreams
 
     reads_whole : (result : Result Geometry BareFault) → GivesRead result gave read → EndsSo result old new → BareReasons wish new took read result → ReadsWhole g w gave result
     reads_whole (Ok h) gives at why = found h why.0 read at gives why.1
-    reads_whole (Err ReadFault) gives at why = tt
-    reads_whole (Err WriteFault) gives at why = tt
     reads_whole (Err LongInput) gives at why = (let short = caps.short in let size = ap length all in let count = why.0 in absurd (omega (arith, short, size, count, length-append took beyond)))
-    reads_whole (Err Memory) gives at why = tt
     reads_whole (Err (TooManyPixels pixels)) gives at why = many_never pixels why
-    reads_whole (Err (Refused index (Head fault))) gives at why = refused_never index (Head fault) why
-    reads_whole (Err (Refused index BadOption)) gives at why = refused_never index BadOption why
-    reads_whole (Err (Refused index BadDelta)) gives at why = refused_never index BadDelta why
-    reads_whole (Err (Refused index BadDepth)) gives at why = refused_never index BadDepth why
-    reads_whole (Err (Refused index FalseFlag)) gives at why = refused_never index FalseFlag why
-    reads_whole (Err (Refused index Short)) gives at why = refused_never index Short why
     reads_whole (Err (Refused index Trailing)) gives at why = trailing_never why.0 why.1 index why.2 read why.3
+    reads_whole (Err (Refused index cause)) gives at why = refused_never index cause why
+    reads_whole (Err other) gives at why = tt
 
 -- what the port still reports
 left_told : (now : Option (List ℕ)) (octets took : List ℕ) → Loses (Some octets) now took → (beyond : List ℕ) × (now ≡ Some beyond) × (octets ≡ took ++ beyond)

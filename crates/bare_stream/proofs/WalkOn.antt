@@ -1,7 +1,7 @@
 -- A walk advances from segment to segment.
-use Rattle.std.proofs.Common.{◌≡◌, ◌≤◌, ◌<◌, ◌+◌, ◌-◌, ◌*◌, ℕ, List, vec_len, refl, sym, ap, ◌∙◌, subst, arith, inl, inr}
+use Rattle.std.proofs.Common.{◌≡◌, ◌≤◌, ◌<◌, ◌+◌, ◌-◌, ◌*◌, ℕ, List, vec_len, refl, sym, ap, ◌∙◌, subst, arith}
 use Rattle.std.specs.Prelude.{Bool, true, false}
-use Rattle.std.proofs.lemmas.Bool.{cases_lt}
+use Rattle.std.proofs.lemmas.Bool.Decides.{nat_tests}
 use Rattle.port_122.specs.Outside.{Outside}
 use Rattle.base_122.specs.Sizes.{first_block, total_blocks}
 use Rattle.base_122.specs.declared.book.Book.{Book}
@@ -68,16 +68,8 @@ module _ (w v z n : Walk) (text : v ≡ record w { room = v.room }) (first : z.f
   index_is = ap (λ (x : Walk). x.index) same ∙ index ∙ ap (λ (x : Walk). x.index + 1) text
 
   pub less_left : IsSound w → total_blocks n.first.image.width 262144 - first_block n.first.blocks n.index < total_blocks w.first.image.width 262144 - first_block w.first.blocks w.index
-  less_left sound =
-      let some = sound.first.blocks.0 in
-      let left = sound.left in
-      let next : (w.index + 1) * w.first.blocks ≡ w.index * w.first.blocks + w.first.blocks = grind arith in
-      let lower : total_blocks w.first.image.width 262144 - first_block w.first.blocks (w.index + 1) < total_blocks w.first.image.width 262144 - first_block w.first.blocks w.index = omega (arith, some, left, next) in
-      rw (first_is, index_is) lower
+  less_left sound = grind (arith, nat_tests, first_is, index_is)
 
   -- the first segment isn't the last one
   pub still_fits : (read : BareHead) → (w.index ≡ 0 → read.head ≡ w.first) → (0 < w.index → w.first.last ≡ false) → read.head.last ≡ false → n.first.last ≡ false
-  still_fits read begins fits going = ap (λ (h : SegmentHead). h.last) first_is ∙ elim (cases_lt 0 w.index) [
-    | inl lt ↦ fits lt
-    | inr ge ↦ ap (λ (h : SegmentHead). h.last) (sym (begins (omega (arith, ge)))) ∙ going
-  ]
+  still_fits read begins fits going = grind (arith, nat_tests, first_is)

@@ -51,7 +51,7 @@ pub record HasPackets (settings : List Setting) (records : List CameraRow) : Typ
 
 -- ---- no record
 
-no_octets : (settings : List Setting) → mux_out settings [] ≡ []
+pub no_octets : (settings : List Setting) → mux_out settings [] ≡ []
 unfolding mux_out
 no_octets settings = refl
 

@@ -3,6 +3,7 @@ use Rattle.std.proofs.Common.{◌≡◌, ◌≤◌, ◌<◌, ◌+◌, ◌-◌, �
 use Rattle.std.specs.Prelude.{true, false, min, sum, slice_index, EachIndex, Ok, Err}
 use Rattle.std.proofs.lemmas.Bool.{cases_lt}
 use Rattle.std.proofs.lemmas.List.Sums.{sum_by-cons}
+use Rattle.camera_mux.proofs.CameraAlone.{no_octets}
 use Rattle.port_122.specs.Outside.{Outside, Exchange}
 use Rattle.port_122.proofs.Stretches.{since_start}
 use Rattle.port_122.proofs.ReadCalls.{since_asked}
@@ -19,10 +20,6 @@ use Rattle.camera_mux.specs.MuxAnswers.{Muxes}
 use Rattle.camera_mux.proofs.MuxRuns.{asks_at}
 
 -- ---- before the first record
-
-out_none : (settings : List Setting) → mux_out settings [] ≡ []
-unfolding mux_out
-out_none settings = refl
 
 sum_none : (measure : Setting → (ℕ → ℕ → ℤ) → ℕ) (settings : List Setting) → sum_of measure settings [] ≡ 0
 unfolding sum_of
@@ -53,7 +50,7 @@ pub none_muxed : {settings : List Setting} {works : List Work} (start : Outside)
 none_muxed {settings = settings} start v can x = record {
   records = [];
   accepted = record { each = λ i lt. absurd (omega (arith, lt)) };
-  since = subst (λ g. Exchange start start [] g [] (AsksMux settings [])) (sym (out_none settings)) (since_start start (AsksMux settings []));
+  since = subst (λ g. Exchange start start [] g [] (AsksMux settings [])) (sym (no_octets settings)) (since_start start (AsksMux settings []));
   left = λ camera lt. let left = x.left camera lt in omega (arith, left);
   others = x.others;
   ready = λ camera d lt. record { made = can.made camera d lt; stands = λ some less. absurd (omega (arith, some)) };

@@ -189,9 +189,6 @@ module _ {settings : List Setting} {works : List Work} {start now : Outside} {v 
   pub rows_taken : (setting_at settings camera).rows - slice_index v.left camera ≡ count_of camera come.records
   rows_taken = let left = come.left camera known in omega (arith, left)
 
-  pub works_made : (c : ℕ) (d : Work) → c < length settings → IsMadeFor (setting_at settings c) (slice_index_or works c d)
-  works_made c d lt = (come.ready c d lt).made
-
   pub work_taken : (d : Work) → 0 < slice_index v.left camera → 0 < (setting_at settings camera).rows - slice_index v.left camera →
       HasTaken (plan_of (setting_at settings camera) (tallest (setting_at settings camera))) ((setting_at settings camera).rows - slice_index v.left camera) (slice_index_or works camera d)
   work_taken d some rows =

@@ -1,18 +1,18 @@
 -- The steps of a pick.
 use Rattle.std.proofs.Common.{◌≡◌, ◌≤◌, ◌<◌, ◌+◌, ◌-◌, ℕ, List, [], ◌∷◌, ◌++◌, length, take, refl, sym, ap, subst, ◌∙◌, arith, append_assoc, length-append}
 use Rattle.std.specs.Prelude.{Bool, true, false, ◌||◌, cond, filter, Option, None, Some}
-use Rattle.std.specs.List.{AllByRecursion}
 use Rattle.std.proofs.lemmas.Bool.{false≢true}
 use Rattle.std.proofs.lemmas.List.{append-nil, take-append-le, take_all, take-append-drop}
 use Rattle.std.proofs.lemmas.List.Elements.{filter-append}
 use Rattle.std.proofs.Math.Seq.{take-append-add}
+use Rattle.packet_defs.proofs.Splits.{few_packets}
 use Rattle.port_122.specs.Outside.{Outside, Exchange, NoRead, IsUsedUp}
 use Rattle.port_122.proofs.Stretches.{since_start, since_out, since_weaker, each_of_both}
 use Rattle.port_122.proofs.ReadCalls.{since_in}
 use Rattle.base_122.specs.declared.wish.DecodeWish.{DecodeWish}
 use Rattle.packet_defs.specs.Packets.{joined}
 use Rattle.packet_defs.specs.Streams.{told_length, begins_packet, first_packet, after_packet, IsPacket, whole_packets}
-use Rattle.packet_defs.proofs.Fronts.{begins_so, first_is_packet, packet_begins}
+use Rattle.packet_defs.proofs.Fronts.{begins_so, first_is_packet}
 use Rattle.packet_defs.proofs.Joins.{joined-append}
 use Rattle.space_packets.specs.Intake.{Intake, unread, is_decided, text_mine, answered, fed}
 use Rattle.space_packets.specs.PacketReads.{AsksUndecided, TakenSoFar}
@@ -226,13 +226,6 @@ pub less_passed : {apid : ℕ} {image : Option ℕ} {old new : Outside} {v w : I
 less_passed x = less_past x.holds x.stands
 
 -- ---- how many there are
-
-few_packets : (packets : List (List ℕ)) → AllByRecursion IsPacket packets → length packets ≤ length (joined packets)
-few_packets [] p = omega arith
-few_packets (packet ∷ packets) p =
-    let rest : length packets ≤ length (joined packets) = few_packets packets p.1 in
-    let some = (packet_begins p.0).header in
-    omega (arith, rest, some, length-append packet (joined packets))
 
 few_filtered : (p : List ℕ → Bool) (packets : List (List ℕ)) → length (filter p packets) ≤ length packets
 few_filtered p [] = omega arith

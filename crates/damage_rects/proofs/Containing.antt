@@ -1,6 +1,7 @@
 -- What a decoder gives is the same outside the rectangles.
 use Rattle.std.proofs.Common.{◌≡◌, ℕ, ℤ, List, sym, ap, subst, ◌∙◌}
 use Rattle.std.specs.Prelude.{Some}
+use Rattle.std.proofs.lemmas.Option.{same_Some}
 use Rattle.port_122.specs.Outside.{Outside}
 use Rattle.base_122.specs.Setting.{image_geometry}
 use Rattle.base_122.specs.declared.geometry.Geometry.{Geometry}
@@ -17,7 +18,7 @@ use Rattle.strip_decoder.specs.declared.decode.DecodeDone.{DecodeDone}
 use Rattle.strip_decoder.specs.Answers.{IsPicture}
 use Rattle.strip_decoder.specs.Runs.{holds_after}
 use Rattle.strip_decoder.specs.Containment.{some_output, BeginsOne, reported, AreSome}
-use Rattle.strip_decoder.proofs.SublistPictures.{begun_few, geometry_there, some_geometry}
+use Rattle.strip_decoder.proofs.SublistPictures.{begun_few, geometry_there}
 use Rattle.damage_rects.specs.Containment.{GivesInRects, GivesAlikeInRects}
 use Rattle.damage_rects.proofs.SomePackets.{in_rects, sublist_in_rects}
 
@@ -43,7 +44,7 @@ decoded_alike short wish start new took gave every done s rows x parts is told a
     let n : ℕ = begun_in s.apid octets in
     let begun_same : begun_in wish.apid took ≡ n = ap (λ apid. begun_in apid took) apid ∙ ap (begun_in s.apid) took_is in
     let there : geometry_in s.apid octets ≡ Some done.geometry = subst (λ octets. geometry_in s.apid octets ≡ Some done.geometry) took_is (subst (λ n. geometry_in n took ≡ Some done.geometry) apid is.geometry) in
-    let same : done.geometry ≡ reported s rows parts = some_geometry (sym there ∙ geometry_there short s rows x parts are begins) in
+    let same : done.geometry ≡ reported s rows parts = same_Some _ _ (sym there ∙ geometry_there short s rows x parts are begins) in
     let mine : ReceivedIn (holds_after s.book) s.apid octets received = subst (λ octets. ReceivedIn (holds_after s.book) s.apid octets received) took_is (subst (λ n. ReceivedIn (holds_after s.book) n took received) apid (subst (λ b. ReceivedIn (holds_after b) wish.apid took received) book t.1)) in
     let written : done.written ≡ height done.geometry n = is.written ∙ ap (height done.geometry) begun_same in
     record {

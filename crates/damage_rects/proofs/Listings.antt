@@ -1,13 +1,13 @@
 -- How a search for rectangles ends.
-use Rattle.std.proofs.Common.{◌≡◌, ◌≤◌, ◌<◌, ◌+◌, ◌-◌, ◌*◌, ◌/◌, ◌%◌, ℕ, ℤ, List, [], length, take, refl, sym, ap, subst, ◌∙◌, inl, inr, arith}
-use Rattle.std.specs.Prelude.{Bool, not, if◌then◌else◌, All, Option, None, Some, is_some, slice_index_or, Result, Ok, Err, IsOk, IsErr}
+use Rattle.std.proofs.Common.{◌≡◌, ◌≤◌, ◌<◌, ◌+◌, ◌-◌, ◌*◌, ◌/◌, ◌%◌, ℕ, ℤ, List, [], take, refl, sym, ap, subst, ◌∙◌, inl, inr, arith}
+use Rattle.std.specs.Prelude.{Bool, not, if◌then◌else◌, All, Option, None, Some, is_some, slice_index_or, Result, Ok, Err, IsOk, IsErr, false}
 use Rattle.std.specs.List.{flat_map}
 use Rattle.std.specs.Option.{option_map}
 use Rattle.std.proofs.lemmas.Bool.{false≢true}
 use Rattle.std.proofs.lemmas.Nat.{le-div}
 use Rattle.std.proofs.Math.Nat.{div-le_of_le-mul, div-mul-le_self, mul-le-mul_right}
 use Rattle.port_122.specs.Outside.{Outside, Exchange, NoRead, WritesAll}
-use Rattle.port_122.proofs.Stretches.{since_out, since_weaker, rose_since}
+use Rattle.port_122.proofs.Stretches.{since_out, rose_since}
 use Rattle.base_122.specs.Sizes.{block_count}
 use Rattle.base_122.specs.declared.geometry.Geometry.{Geometry}
 use Rattle.base_122.specs.declared.wish.DecodeWish.{DecodeWish}
@@ -26,10 +26,11 @@ use Rattle.rect_defs.proofs.SameLost.{rects_same}
 use Rattle.strip_decoder.specs.declared.engine.Walked.{Walked}
 use Rattle.strip_decoder.specs.declared.decode.DecodeFault.{DecodeFault}
 use Rattle.strip_decoder.specs.declared.decode.DecodeFault.TheVariants.{ReadFault, WriteFault, NoSegment, TooManyPixels, LongInput, Memory}
-use Rattle.strip_decoder.specs.Finding.{AsksSilent}
 use Rattle.strip_decoder.specs.Runs.{Numbers, blocks_passed}
 use Rattle.strip_decoder.specs.Sinks.{blocks_with}
 use Rattle.strip_decoder.specs.Walks.{IsWalked, WalkAnswers, Walks}
+use Rattle.strip_decoder.proofs.Findings.{found_as, silent_since}
+use Rattle.strip_decoder.proofs.PictureWalks.{height_open, height_known, passed_open, passed_known}
 use Rattle.damage_rects.specs.declared.gaps.Gaps.{Gaps}
 use Rattle.damage_rects.specs.GapSinks.{HasKept, HasOpen, gap_sink, lost_in}
 use Rattle.damage_rects.specs.Listing.{AreLines, ListsRects, RectAnswers}
@@ -66,34 +67,22 @@ module _ (wish : DecodeWish) (old mid : Outside) (took gave : List ℕ) (walked 
   begun_is : n ≡ ended / c
   begun_is = rw x.geometry refl
 
-  passed_open : g.rows ≡ 0 → passed ≡ ended
-  passed_open none = ap (λ t. if t then ended else blocks_of g) (is_open g.rows none)
-
-  passed_known : (g.rows ≡ 0 → ⊥) → passed ≡ blocks_of g
-  passed_known known = ap (λ t. if t then ended else blocks_of g) (is_not_open g.rows known)
-
   rows_open : g.rows ≡ 0 → block_rows g n ≡ n
   rows_open none = ap (λ t. if t then n else block_count g.rows) (is_open g.rows none)
 
   rows_known : (g.rows ≡ 0 → ⊥) → block_rows g n ≡ block_count g.rows
   rows_known known = ap (λ t. if t then n else block_count g.rows) (is_not_open g.rows known)
 
-  height_open : g.rows ≡ 0 → height g n ≡ 8 * n - 21
-  height_open none = ap (λ t. if t then 8 * n - 21 else g.rows) (is_open g.rows none)
-
-  height_known : (g.rows ≡ 0 → ⊥) → height g n ≡ g.rows
-  height_known known = ap (λ t. if t then 8 * n - 21 else g.rows) (is_not_open g.rows known)
-
   -- the blocks of whole block rows were passed
   whole_passed : block_rows g n * c ≤ passed
   whole_passed = elim x.range.rows [
     | inl none ↦
         let whole = div-mul-le_self ended c in
-        omega (arith, whole, passed_open none, ap (λ m. m * c) (rows_open none), ap (λ m. m * c) begun_is)
+        omega (arith, whole, passed_open g ended none, ap (λ m. m * c) (rows_open none), ap (λ m. m * c) begun_is)
     | inr within ↦
         let known = within_not g.rows within in
         let turned : blocks_of g ≡ block_count g.rows * c = grind arith in
-        omega (arith, turned, passed_known known, ap (λ m. m * c) (rows_known known))
+        omega (arith, turned, passed_known g ended known, ap (λ m. m * c) (rows_known known))
   ]
 
   -- those after them don't reach a row that is given
@@ -101,11 +90,11 @@ module _ (wish : DecodeWish) (old mid : Outside) (took gave : List ℕ) (walked 
   unseen block low high = elim x.range.rows [
     | inl none ↦
         let at : n ≤ block / c = le-div n block c wide (omega (arith, low, ap (λ m. m * c) (rows_open none))) in
-        omega (arith, at, height_open none)
+        omega (arith, at, height_open g n none)
     | inr within ↦
         let known = within_not g.rows within in
         let turned : blocks_of g ≡ block_count g.rows * c = grind arith in
-        absurd (omega (arith, turned, low, high, passed_known known, ap (λ m. m * c) (rows_known known)))
+        absurd (omega (arith, turned, low, high, passed_known g ended known, ap (λ m. m * c) (rows_known known)))
   ]
 
   lost_same : (received : Numbers) (block : ℕ) → lost_in (blocks_with g received) block ≡ is_lost g received block
@@ -141,13 +130,13 @@ module _ (wish : DecodeWish) (old mid : Outside) (took gave : List ℕ) (walked 
       | inl none ↦
           let few = placed_few in
           let turned : 32768 * c ≡ c * 32768 = grind arith in
-          let low : ended / c ≤ 32768 = div-le_of_le-mul c (omega (arith, few, passed_open none, turned)) in
+          let low : ended / c ≤ 32768 = div-le_of_le-mul c (omega (arith, few, passed_open g ended none, turned)) in
           let written = x.written in
-          omega (arith, low, begun_is, written, height_open none)
+          omega (arith, low, begun_is, written, height_open g n none)
       | inr within ↦
           let most = within.1 in
           let written = x.written in
-          omega (arith, most, written, height_known (within_not g.rows within))
+          omega (arith, most, written, height_known g n (within_not g.rows within))
     ];
     width = x.range.width;
   }
@@ -166,19 +155,9 @@ module _ (wish : DecodeWish) (old mid : Outside) (took gave : List ℕ) (walked 
 
 -- ---- the answers
 
--- nothing was given while it read
-silent : (wish : DecodeWish) (old new : Outside) (r : Result (Walked Gaps) DecodeFault) → (x : Walks gap_sink wish old new r) → x.gave ≡ []
-silent wish old new r x = elim x.for_some [ inl none ↦ none | inr some ↦ some.part ]
-
-silent_since : (wish : DecodeWish) (old new : Outside) (r : Result (Walked Gaps) DecodeFault) → (x : Walks gap_sink wish old new r) → Exchange old new x.took [] [] (AsksSilent wish x.took)
-silent_since wish old new r x =
-    let none = silent wish old new r x in
-    subst (λ zs. Exchange old new x.took zs [] (AsksSilent wish x.took)) none
-    (since_weaker x.since (λ i j le asks. (omega (arith, asks.0, ap length none), asks.1)))
-
 -- a fault ended it
 pub list_fails : (wish : DecodeWish) (old new : Outside) (fault : DecodeFault) → Walks gap_sink wish old new (Err fault) → ListsRects wish old new (Err fault)
-list_fails wish old new fault x = record { took = x.took; gave = []; since = silent_since wish old new (Err fault) x; within = x.within; answer = by fault x.answer }
+list_fails wish old new fault x = record { took = x.took; gave = []; since = silent_since wish old new (Err fault) x (λ some. some.part); within = x.within; answer = by fault x.answer }
   where
     by : (fault : DecodeFault) → WalkAnswers gap_sink wish old new x.took x.gave (Err fault) → RectAnswers wish old new x.took [] (Err fault)
     by ReadFault a = (a.0, refl)
@@ -190,7 +169,7 @@ list_fails wish old new fault x = record { took = x.took; gave = []; since = sil
 
 -- memory for the gaps was refused
 pub list_refused : (wish : DecodeWish) (old new : Outside) (walked : Walked Gaps) → Walks gap_sink wish old new (Ok walked) → ListsRects wish old new (Err Memory)
-list_refused wish old new walked x = record { took = x.took; gave = []; since = silent_since wish old new (Ok walked) x; within = x.within; answer = refl }
+list_refused wish old new walked x = record { took = x.took; gave = []; since = silent_since wish old new (Ok walked) x (λ some. some.part); within = x.within; answer = refl }
 
 abbrev pub AllGaps : Walked Gaps → List Gap → Type 0
 AllGaps walked gaps = (lost : ℕ → Bool) → HasKept walked.sink lost walked.sink.passed → AreGaps (lost_below walked.sink.passed lost) 0 gaps (walked.sink.passed + 1)
@@ -201,16 +180,7 @@ lines_of walked gaps = rect_lines (flat_map (gap_rects walked.done.written walke
 -- what was found remains true after the lines
 found_later : {g : List ℕ} (wish : DecodeWish) (old mid new : Outside) (took gave : List ℕ) (walked : Walked Gaps) (gaps : List Gap) → IsWalked gap_sink wish old mid took gave walked → AllGaps walked gaps → Exchange mid new [] g [] NoRead → AreLines wish old new took (lines_of walked gaps) walked.done
 found_later wish old mid new took gave walked gaps found are out = record {
-  found = record {
-    geometry = found.geometry;
-    range = found.range;
-    few = found.few;
-    framing_is = found.framing_is;
-    out = out_later wish.octets mid new took out found.out;
-    written = found.written;
-    rows = found.rows;
-    told = λ all told. let t = found.told all told in (t.0, t.1, refl, t.3);
-  };
+  found = found_as false [] found (out_later wish.octets mid new took out found.out) (λ received follows. refl);
   told = λ all told. let t = found.told all told in (t.0, t.1, ap rect_lines (rects_are wish old mid took gave walked found t.0 gaps are t.2.kept));
 }
 
@@ -220,7 +190,7 @@ list_done wish old mid new walked gaps (Err e) is x are out = absurd (false≢tr
 list_done wish old mid new walked gaps (Ok y) is x are out = record {
   took = x.took;
   gave = lines_of walked gaps;
-  since = since_out (silent_since wish old mid (Ok walked) x) out;
+  since = since_out (silent_since wish old mid (Ok walked) x (λ some. some.part)) out;
   within = x.within;
   answer = found_later wish old mid new x.took x.gave walked gaps x.answer are out;
 }
@@ -234,7 +204,7 @@ list_cut wish old mid new walked gaps (Err e) is x are out =
     record {
       took = x.took;
       gave = take n (lines_of walked gaps);
-      since = since_out (silent_since wish old mid (Ok walked) x) since;
+      since = since_out (silent_since wish old mid (Ok walked) x (λ some. some.part)) since;
       within = x.within;
       answer = (
         rose_since x.since.faults.writes out.0,

@@ -71,10 +71,3 @@ lines_each p made (x ∷ xs) = ap (λ zs. rect_lines (filter p (made x ∷ [])) 
 pub lines_all : {X : Type 0} (made : X → List Rect) (xs : List X) → flat_map (λ x. rect_lines (made x)) xs ≡ rect_lines (flat_map made xs)
 lines_all made [] = refl
 lines_all made (x ∷ xs) = ap (λ zs. rect_lines (made x) ++ zs) (lines_all made xs) ∙ sym (flat_map-append rect_line (made x) (flat_map made xs))
-
--- nothing is given of one that isn't chosen, and its line of one that is
-pub line_none : (p : Rect → Bool) (r : Rect) → p r ≡ false → rect_lines (filter p (r ∷ [])) ≡ []
-line_none p r e = ap (λ b. rect_lines (cond b (r ∷ []) [])) e
-
-pub line_one : (p : Rect → Bool) (r : Rect) → p r ≡ true → rect_lines (filter p (r ∷ [])) ≡ rect_line r
-line_one p r e = ap (λ b. rect_lines (cond b (r ∷ []) [])) e ∙ append-nil (rect_line r)

@@ -3,9 +3,10 @@ use Rattle.std.proofs.Common.{◌≡◌, ◌⊎◌, inl, inr, ◌<◌, ◌+◌, 
 use Rattle.std.specs.Prelude.{Bool, true, false, filter, Contains, get_or, Some, None}
 use Rattle.std.specs.List.{range_with_len}
 use Rattle.std.specs.List.Sorted.{IsStrictlyIncreasing}
-use Rattle.std.proofs.lemmas.Bool.{cases_lt}
+use Rattle.std.proofs.lemmas.Bool.{cases_lt, cases_eq, cases_Bool}
 use Rattle.std.proofs.lemmas.List.{length-map}
 use Rattle.std.proofs.lemmas.List.Sums.{length-filter}
+use Rattle.std.proofs.lemmas.Option.{same_Some}
 use Rattle.packet_defs.specs.Reading.{flags_in}
 use Rattle.stream_defs.specs.declared.fate.LastPart.{LastPart}
 use Rattle.stream_defs.specs.declared.fate.FateState.{FateState}
@@ -15,6 +16,7 @@ use Rattle.stream_defs.proofs.KeptOrder.{does, at_none, at_same, at_other, shut,
 use Rattle.image_info.specs.declared.image.ImageId.{ImageId}
 use Rattle.image_info.specs.Images.{own_packets, kept_of, entry_of}
 use Rattle.image_info.specs.Laws.{CountsComplete}
+use Rattle.packet_assembly.proofs.Ends.{kept_nothing}
 
 -- a packet closes its segment
 abbrev closing : List ℕ → Bool
@@ -29,23 +31,6 @@ closed_some x xs e = rw e refl
 
 closed_none : (x : List ℕ) (xs : List (List ℕ)) → closing x ≡ false → closed_indices (x ∷ xs) ≡ closed_indices xs
 closed_none x xs e = rw e refl
-
-kept_none : (apid : ℕ) (s : FateState) → kept apid s [] ≡ []
-unfolding kept
-kept_none apid s = refl
-
-some_same : {a b : LastPart} → Some a ≡ Some b → a ≡ b
-some_same e = cc
-
-same_or_not : (m n : ℕ) → (m ≡ n) ⊎ (m ≡ n → ⊥)
-same_or_not m n = elim (cases_lt m n) [
-  | inl less ↦ inr (λ e. omega (arith, e, less))
-  | inr rest ↦ elim (cases_lt n m) [ inl more ↦ inr (λ e. omega (arith, e, more)) | inr least ↦ inl (omega (arith, rest, least)) ]
-]
-
-true_or_false : (b : Bool) → (b ≡ true) ⊎ (b ≡ false)
-true_or_false true = inl refl
-true_or_false false = inr refl
 
 -- ---- elements of a list
 
@@ -83,7 +68,7 @@ HasClosing (x ∷ xs) = (closing x ≡ true) ⊎ HasClosing xs
 
 closing_from : (index : ℕ) (packets : List (List ℕ)) → Has (closed_indices packets) index → HasClosing (packets_at index packets)
 closing_from index [] h = absurd h
-closing_from index (x ∷ xs) h = elim (true_or_false (closing x)) [
+closing_from index (x ∷ xs) h = elim (cases_Bool (closing x)) [
   | inl closed ↦ elim (subst (λ is. Has is index) (closed_some x xs closed) h) [
     | inl same ↦ subst HasClosing (sym (at_same index x xs same)) (inl closed)
     | inr later ↦ on (closing_from index xs later)
@@ -92,14 +77,14 @@ closing_from index (x ∷ xs) h = elim (true_or_false (closing x)) [
 ]
   where
     on : HasClosing (packets_at index xs) → HasClosing (packets_at index (x ∷ xs))
-    on c = elim (same_or_not (index_in x) index) [
+    on c = elim (cases_eq (index_in x) index) [
       | inl same ↦ subst HasClosing (sym (at_same index x xs same)) (inr c)
       | inr other ↦ subst HasClosing (sym (at_other index x xs other)) c
     ]
 
 closed_from : (index : ℕ) (packets : List (List ℕ)) → HasClosing (packets_at index packets) → Has (closed_indices packets) index
 closed_from index [] h = absurd (subst HasClosing (at_none index) h)
-closed_from index (x ∷ xs) h = elim (same_or_not (index_in x) index) [
+closed_from index (x ∷ xs) h = elim (cases_eq (index_in x) index) [
   | inl same ↦ elim (subst HasClosing (at_same index x xs same) h) [
     | inl closed ↦ subst (λ is. Has is index) (sym (closed_some x xs closed)) (inl same)
     | inr later ↦ on (closed_from index xs later)
@@ -108,7 +93,7 @@ closed_from index (x ∷ xs) h = elim (same_or_not (index_in x) index) [
 ]
   where
     on : Has (closed_indices xs) index → Has (closed_indices (x ∷ xs)) index
-    on c = elim (true_or_false (closing x)) [
+    on c = elim (cases_Bool (closing x)) [
       | inl closed ↦ subst (λ is. Has is index) (sym (closed_some x xs closed)) (inr c)
       | inr unclosed ↦ subst (λ is. Has is index) (sym (closed_none x xs unclosed)) c
     ]
@@ -162,11 +147,11 @@ none_parts n xs e = subst (Parts n) (sym e) tt
 
 -- so they are its parts from there on
 kept_parts : (index apid : ℕ) (s : FateState) (packets : List (List ℕ)) (n : ℕ) → Awaits index s n → Parts n (packets_at index (kept apid s packets))
-kept_parts index apid s [] n h = none_parts n _ (ap (packets_at index) (kept_none apid s) ∙ at_none index)
+kept_parts index apid s [] n h = none_parts n _ (ap (packets_at index) (kept_nothing apid s) ∙ at_none index)
 kept_parts index apid s (x ∷ xs) n h = elim (does apid s x) [
   | inl lost ↦ subst (Parts n) (sym (ap (packets_at index) (lost.kept_are xs))) (kept_parts index apid (after apid s x) xs n (subst (λ s. Awaits index s n) (sym lost.same) h))
   | inr here ↦ elim here [
-    | inl first ↦ subst (Parts n) (sym (ap (packets_at index) (first.kept_are xs))) (elim (same_or_not (index_in x) index) [
+    | inl first ↦ subst (Parts n) (sym (ap (packets_at index) (first.kept_are xs))) (elim (cases_eq (index_in x) index) [
       | inl same ↦ elim h [
         | inl none ↦ own same (first.part ∙ sym none.1) first.last (kept_parts index apid (after apid s x) xs (n + 1) (goes_on same (first.part ∙ sym none.1) first.last))
         | inr going ↦ absurd (let more = first.later going.0 going.1 in let is = going.2 in omega (arith, more, is, same))
@@ -184,7 +169,7 @@ kept_parts index apid s (x ∷ xs) n h = elim (does apid s x) [
           let other : index_in x ≡ index → ⊥ = λ e. none.0 next.before next.before_is (sym next.index ∙ e) in
           passed other (kept_parts index apid (after apid s x) xs n (inl (elsewhere next.last other, none.1)))
       | inr going ↦
-          let is : next.before ≡ going.0 = some_same (sym next.before_is ∙ going.1) in
+          let is : next.before ≡ going.0 = same_Some _ _ (sym next.before_is ∙ going.1) in
           let same : index_in x ≡ index = next.index ∙ ap (λ (l : LastPart). l.index) is ∙ going.2 in
           let part : number_of_part x ≡ n = next.part ∙ ap (λ (l : LastPart). l.part + 1) is ∙ sym going.3 in
           own same part next.last (kept_parts index apid (after apid s x) xs (n + 1) (goes_on same part next.last))
@@ -193,7 +178,7 @@ kept_parts index apid s (x ∷ xs) n h = elim (does apid s x) [
 ]
   where
     elsewhere : (after apid s x).last ≡ Some (part_in x) → (index_in x ≡ index → ⊥) → IsElsewhere index (after apid s x)
-    elsewhere last other l is e = other (ap (λ (l : LastPart). l.index) (some_same (sym last ∙ is)) ∙ e)
+    elsewhere last other l is e = other (ap (λ (l : LastPart). l.index) (same_Some _ _ (sym last ∙ is)) ∙ e)
 
     passed : (index_in x ≡ index → ⊥) → Parts n (packets_at index (kept apid (after apid s x) xs)) → Parts n (packets_at index (x ∷ kept apid (after apid s x) xs))
     passed other h = subst (Parts n) (sym (at_other index x (kept apid (after apid s x) xs) other)) h
@@ -210,7 +195,7 @@ kept_parts index apid s (x ∷ xs) n h = elim (does apid s x) [
 
 -- and each segment that they close is after those that were closed before
 kept_rise : (apid : ℕ) (s : FateState) (packets : List (List ℕ)) → Rises (closed_indices (kept apid s packets))
-kept_rise apid s [] = subst (λ ks. Rises (closed_indices ks)) (sym (kept_none apid s)) tt
+kept_rise apid s [] = subst (λ ks. Rises (closed_indices ks)) (sym (kept_nothing apid s)) tt
 kept_rise apid s (x ∷ xs) = elim (does apid s x) [
   | inl lost ↦ subst (λ ks. Rises (closed_indices ks)) (sym (lost.kept_are xs)) (kept_rise apid (after apid s x) xs)
   | inr here ↦ elim here [
@@ -229,7 +214,7 @@ kept_rise apid s (x ∷ xs) = elim (does apid s x) [
     ]
 
     own : (after apid s x).last ≡ Some (part_in x) → Rises (closed_indices (kept apid (after apid s x) xs)) → Rises (closed_indices (x ∷ kept apid (after apid s x) xs))
-    own last rest = elim (true_or_false (closing x)) [
+    own last rest = elim (cases_Bool (closing x)) [
       | inl closed ↦ subst Rises (sym (closed_some x (kept apid (after apid s x) xs) closed)) (above last closed, rest)
       | inr unclosed ↦ subst Rises (sym (closed_none x (kept apid (after apid s x) xs) unclosed)) rest
     ]

@@ -2,13 +2,13 @@
 use Rattle.std.proofs.Common.{◌≡◌, ◌≤◌, ◌+◌, ℕ, List, [], ◌∷◌, ◌++◌, length, take, refl, sym, ap, subst, ◌∙◌, arith, length-append}
 use Rattle.std.specs.Prelude.{false, Option, None, Some, Ok, Err}
 use Rattle.std.proofs.lemmas.Bool.{false≢true}
+use Rattle.std.proofs.lemmas.Bool.Decides.{nat_tests}
 use Rattle.bit_pipe.specs.declared.fault.InFault.{InFault}
 use Rattle.bit_pipe.specs.declared.fault.InFault.TheVariants as in_faults
 use Rattle.port_122.specs.Outside.{Outside, Exchange, NoRead, Rose}
 use Rattle.port_122.proofs.Stretches.{rose_since, since_out}
 use Rattle.packet_defs.specs.declared.packet.Framing.{Framing}
 use Rattle.packet_defs.specs.declared.packet.PacketRead.{PacketRead}
-use Rattle.packet_defs.specs.declared.packet.PacketRead.TheVariants.{Mine, Skipped, Ended, Fault}
 use Rattle.packet_defs.specs.Packets.{joined}
 use Rattle.packet_defs.specs.Reading.{apid_in}
 use Rattle.packet_defs.specs.Streams.{begins_packet, first_packet, after_packet, whole_packets}
@@ -23,7 +23,7 @@ use Rattle.packet_assembly.proofs.Readings.{read_within, whole_so, ended_packets
 use Rattle.image_info.specs.declared.image.ImageEntry.{ImageEntry}
 use Rattle.image_info.specs.declared.info.InfoWish.{InfoWish}
 use Rattle.image_info.specs.declared.info.InfoFault.{InfoFault}
-use Rattle.image_info.specs.declared.info.InfoFault.TheVariants.{ReadFault, WriteFault, LongInput, TooManyImages, Memory}
+use Rattle.image_info.specs.declared.info.InfoFault.TheVariants.{ReadFault, WriteFault, LongInput, TooManyImages}
 use Rattle.image_info.specs.declared.table.TableFull.{TableFull}
 use Rattle.image_info.specs.Images.{images, entries, most_images}
 use Rattle.image_info.specs.Lines.{lines_of}
@@ -37,10 +37,7 @@ use Rattle.image_info.proofs.Runs.{reading, HasTabled, filled, past_one}
 -- ---- what is read if there is no next packet
 
 pub over_so : (apid : ℕ) (u : Intake) (read : PacketRead) → begins_packet u.pending ≡ false → verdict apid u ≡ Some (Ok read) → verdict apid u ≡ Some (Ok (end_read (framing_in read)))
-over_so apid u (Mine head tells) none e = absurd (false≢true (sym none ∙ (mine_read apid u head tells e).whole))
-over_so apid u (Skipped skip) none e = absurd (false≢true (sym none ∙ (other_read apid u skip e).whole))
-over_so apid u Ended none e = e
-over_so apid u (Fault framing) none e = e
+over_so apid u read none e = grind (arith, nat_tests, false≢true, mine_read, other_read)
 
 pub long_so : (apid : ℕ) (u : Intake) (fault : InFault) → verdict apid u ≡ Some (Err fault) → verdict apid u ≡ Some (Err in_faults.LongInput)
 long_so apid u fault e = e ∙ ap (λ (f : InFault). Some (Err f)) (long_read apid u fault e).is
@@ -67,10 +64,7 @@ table_whole {wish = wish} come whole = come.table_of.table_is ∙ ap (entries wi
 
 few_whole : {wish : InfoWish} {start now : Outside} {v : Intake} {table : List ImageEntry} (come : HasTabled wish start now v table) → whole_packets come.took ≡ come.passed →
     image_count wish.apid come.took ≤ most_images
-few_whole {wish = wish} come whole =
-    let size = ap length (table_whole come whole) in
-    let few = come.few in
-    omega (arith, size, few, length-entries wish.apid (whole_packets come.took))
+few_whole {wish = wish} come whole = grind (arith, nat_tests, table_whole, length-entries)
 
 -- all lines were given
 pub all_informed : {wish : InfoWish} {start now new last : Outside} {v : Intake} {table : List ImageEntry} {found : Option Framing} (count : ℕ) → HasTabled wish start now v table → EndsInfo now new v found →
@@ -172,7 +166,6 @@ full_informed {wish = wish} {table = table} {after = after} full before x =
 pub info_failed : {wish : InfoWish} {start now : Outside} {v : Intake} {table : List ImageEntry} (new : Outside) (w : Intake) (after : List ImageEntry) (fault : InfoFault) → HasTabled wish start now v table →
     TakesNext wish.apid now new v w table after (Err fault) → Informs wish start new (Err fault)
 info_failed new w after ReadFault before x = read_failed before x
-info_failed new w after WriteFault before x = absurd x
 info_failed new w after LongInput before x = long_informed before x
 info_failed new w after TooManyImages before (full, x) = full_informed full before x
-info_failed new w after Memory before x = absurd x
+info_failed new w after other before x = absurd x

@@ -3,6 +3,7 @@ use Rattle.std.proofs.Common.{◌≡◌, ◌<◌, ℕ, zero, suc, List, [], ◌�
 use Rattle.std.specs.Prelude.{Bool, true, false, slice_index_or, slice_set, Option}
 use Rattle.std.proofs.lemmas.Bool.{and_parts, false≢true}
 use Rattle.std.proofs.lemmas.List.{map-append, length-map}
+use Rattle.std.proofs.lemmas.Bool.Decides.{nat_tests}
 use Rattle.packet_defs.specs.Reading.{apid_in}
 use Rattle.stream_defs.specs.declared.fate.FateState.{FateState}
 use Rattle.stream_defs.specs.Fates.{after, after_all, kept}
@@ -54,11 +55,7 @@ module _ (wanted : Option ℕ) (packets : List (List ℕ)) (packet : List ℕ) (
 
   -- an image of another packet
   others_same : (id : ImageId) → (id_in packet ≡ id → ⊥) → entry_of packets id ≡ entry_of (packets ++ packet ∷ []) id
-  others_same id other = by (is_own id packet) refl
-    where
-      by : (b : Bool) → is_own id packet ≡ b → entry_of packets id ≡ entry_of (packets ++ packet ∷ []) id
-      by true own = absurd (other (own_id id packet own))
-      by false own = sym (entry_other id packets packet own)
+  others_same id other = grind (arith, nat_tests, is_own, own_id, entry_other)
 
   none_begins : Loses wanted packets packet → begins_next wanted packets packet ≡ false
   none_begins loses = by (begins_next wanted packets packet) refl
@@ -71,16 +68,7 @@ module _ (wanted : Option ℕ) (packets : List (List ℕ)) (packet : List ℕ) (
           absurd (false≢true (sym (loses (id_in packet) two.0 (kept_own (state_of (id_in packet) packets) packet keeps)) ∙ keeps))
 
   pub entries_same : Loses wanted packets packet → entries wanted (packets ++ packet ∷ []) ≡ entries wanted packets
-  entries_same loses =
-      ap (map (entry_of (packets ++ packet ∷ []))) (images_same wanted packets packet (none_begins loses))
-      ∙ sym (map_same (entry_of packets) (entry_of (packets ++ packet ∷ [])) (images wanted packets) (λ j lt. each (id_at (images wanted packets) j) (known.wanted_each j lt)))
-    where
-      each : (id : ImageId) → is_wanted wanted id.apid ≡ true → entry_of packets id ≡ entry_of (packets ++ packet ∷ []) id
-      each id is = by (is_own id packet) refl
-        where
-          by : (b : Bool) → is_own id packet ≡ b → entry_of packets id ≡ entry_of (packets ++ packet ∷ []) id
-          by true own = sym (entry_lost id packets packet own (loses id is own))
-          by false own = sym (entry_other id packets packet own)
+  entries_same loses = grind (arith, nat_tests, images_same, none_begins, map_same, id_at, is_own, entry_lost, entry_other)
 
   -- the entry of an image that has begun, after a kept packet
   pub entries_counted : (i : ℕ) → i < length (images wanted packets) → id_at (images wanted packets) i ≡ id_in packet →

@@ -2,10 +2,11 @@
 use Rattle.std.proofs.Common.{◌≡◌, ◌<◌, ◌+◌, ◌≤◌, ℕ, zero, suc, List, [], ◌∷◌, ◌++◌, length, take, map, refl, sym, ap, subst, ◌∙◌, inl, inr, arith, append_assoc, length-append}
 use Rattle.std.specs.Prelude.{Bool, true, false, cond, ◌==◌, ◌&&◌, filter, slice_index_or, Option}
 use Rattle.std.specs.List.{range_with_len}
-use Rattle.std.proofs.lemmas.Bool.{and_parts, cases_lt, false≢true}
-use Rattle.std.proofs.lemmas.Bool.Decides.{nat_tests}
+use Rattle.std.proofs.lemmas.Bool.{and_parts, cases_lt, false≢true, eqb-true}
 use Rattle.std.proofs.lemmas.List.{append-nil, map-append, take-append-le, take_all}
 use Rattle.std.proofs.lemmas.List.Elements.{filter-append}
+use Rattle.std.proofs.Math.ListN.{get_or-append}
+use Rattle.std.proofs.Math.Seq.{get_or-append_seam}
 use Rattle.packet_defs.specs.Reading.{apid_in}
 use Rattle.stream_defs.specs.Fates.{kept}
 use Rattle.stream_defs.proofs.Outputs.{range_with_len-more}
@@ -15,22 +16,13 @@ use Rattle.image_info.proofs.OneImage.{is_own, is_kept_by, own_id, kept_own, kep
 
 -- ---- lists by place
 
-pub before_last : {A : Type 0} (xs : List A) (y d : A) (i : ℕ) → i < length xs → slice_index_or (xs ++ y ∷ []) i d ≡ slice_index_or xs i d
-before_last [] y d i lt = absurd (omega (arith, lt))
-before_last (x ∷ xs) y d zero lt = refl
-before_last (x ∷ xs) y d (suc i) lt = before_last xs y d i (omega (arith, lt))
-
-pub at_last : {A : Type 0} (xs : List A) (y d : A) → slice_index_or (xs ++ y ∷ []) (length xs) d ≡ y
-at_last [] y d = refl
-at_last (x ∷ xs) y d = at_last xs y d
-
 -- what holds of each element, and of one more, holds of each of them
 pub each_more : {A : Type 0} (P : A → Type 0) (xs : List A) (y d : A) → ((i : ℕ) → i < length xs → P (slice_index_or xs i d)) → P y → (i : ℕ) → i < length (xs ++ y ∷ []) → P (slice_index_or (xs ++ y ∷ []) i d)
 each_more P xs y d all last i lt = elim (cases_lt i (length xs)) [
-  | inl before ↦ subst P (sym (before_last xs y d i before)) (all i before)
+  | inl before ↦ subst P (sym (get_or-append xs (y ∷ []) d i before)) (all i before)
   | inr past ↦
       let here : i ≡ length xs = omega (arith, lt, past, length-append xs (y ∷ [])) in
-      subst P (sym (ap (λ k. slice_index_or (xs ++ y ∷ []) k d) here ∙ at_last xs y d)) last
+      subst P (sym (ap (λ k. slice_index_or (xs ++ y ∷ []) k d) here ∙ get_or-append_seam xs y [] d)) last
 ]
 
 -- the same places pass, and give the same
@@ -63,13 +55,13 @@ module _ (wanted : Option ℕ) (packets : List (List ℕ)) (packet : List ℕ) w
   test_before : (i : ℕ) → i < length packets → begins_at wanted (packets ++ packet ∷ []) i ≡ begins_at wanted packets i
   test_before i lt =
       let le : i ≤ length packets = omega (arith, lt) in
-      ap (λ p. is_wanted wanted (apid_in p) && begins_image (take i (packets ++ packet ∷ [])) p) (before_last packets packet [] i lt)
+      ap (λ p. is_wanted wanted (apid_in p) && begins_image (take i (packets ++ packet ∷ [])) p) (get_or-append packets (packet ∷ []) [] i lt)
       ∙ ap (λ ps. is_wanted wanted (apid_in (packet_at packets i)) && begins_image ps (packet_at packets i)) (take-append-le i packets (packet ∷ []) le)
 
   test_last : begins_at wanted (packets ++ packet ∷ []) (length packets) ≡ begins_next wanted packets packet
   test_last =
       let front : take (length packets) (packets ++ packet ∷ []) ≡ packets = take-append-le (length packets) packets (packet ∷ []) (omega arith) ∙ take_all (length packets) packets (omega arith) in
-      ap (λ p. is_wanted wanted (apid_in p) && begins_image (take (length packets) (packets ++ packet ∷ [])) p) (at_last packets packet [])
+      ap (λ p. is_wanted wanted (apid_in p) && begins_image (take (length packets) (packets ++ packet ∷ [])) p) (get_or-append_seam packets packet [] [])
       ∙ ap (λ ps. is_wanted wanted (apid_in packet) && begins_image ps packet) front
 
   pub images-more : images wanted (packets ++ packet ∷ []) ≡ images wanted packets ++ cond (begins_next wanted packets packet) (id_in packet ∷ []) []
@@ -85,9 +77,9 @@ module _ (wanted : Option ℕ) (packets : List (List ℕ)) (packet : List ℕ) w
       ∙ ap (λ r. map f (filter p r)) (range_with_len-more 0 n)
       ∙ ap (map f) (filter-append p (range_with_len 0 n) ((0 + n) ∷ []))
       ∙ map-append f (filter p (range_with_len 0 n)) (filter p ((0 + n) ∷ []))
-      ∙ ap (λ xs. xs ++ map f (filter p ((0 + n) ∷ []))) (same_places p q f g 0 n (λ i lt. test_before i (omega (arith, lt))) (λ i lt. ap id_in (before_last packets packet [] i (omega (arith, lt)))))
+      ∙ ap (λ xs. xs ++ map f (filter p ((0 + n) ∷ []))) (same_places p q f g 0 n (λ i lt. test_before i (omega (arith, lt))) (λ i lt. ap id_in (get_or-append packets (packet ∷ []) [] i (omega (arith, lt)))))
       ∙ ap (λ k. map g (filter q (range_with_len 0 n)) ++ map f (filter p (k ∷ []))) here
-      ∙ ap (λ xs. map g (filter q (range_with_len 0 n)) ++ xs) (last_one f n (p n) test_last (ap id_in (at_last packets packet [])))
+      ∙ ap (λ xs. map g (filter q (range_with_len 0 n)) ++ xs) (last_one f n (p n) test_last (ap id_in (get_or-append_seam packets packet [] [])))
     where
       last_one : (f : ℕ → ImageId) (n : ℕ) (b : Bool) → b ≡ begins_next wanted packets packet → f n ≡ id_in packet →
           map f (cond b (n ∷ []) []) ≡ cond (begins_next wanted packets packet) (id_in packet ∷ []) []
@@ -153,15 +145,6 @@ kept_grows id packets packet some = by (is_own id packet) refl
     by true own = by_kept own (is_kept_by id packets packet) refl
     by false own = let same = ap length (kept_other id packets packet own) in omega (arith, some, same)
 
-is_zero : (n : ℕ) → (n == 0) ≡ true → n ≡ 0
-is_zero n e = grind (arith, nat_tests)
-
-zero_is : (n : ℕ) → n ≡ 0 → (n == 0) ≡ true
-zero_is n e = grind (arith, nat_tests)
-
-both : (a b : Bool) → a ≡ true → b ≡ true → (a && b) ≡ true
-both a b e f = rw (e, f) refl
-
 -- if a packet of its image was kept before, a packet doesn't begin it
 pub begins_no_more : (wanted : Option ℕ) (packets : List (List ℕ)) (packet : List ℕ) → 0 < length (kept_of (id_in packet) packets) → begins_next wanted packets packet ≡ false
 begins_no_more wanted packets packet some = by (begins_next wanted packets packet) refl
@@ -170,15 +153,13 @@ begins_no_more wanted packets packet some = by (begins_next wanted packets packe
     by false e = refl
     by true e =
         let two = and_parts (is_wanted wanted (apid_in packet)) (begins_image packets packet) e in
-        let none = is_zero (length (kept_of (id_in packet) packets)) (and_parts (is_kept_after packets packet) (length (kept_of (id_in packet) packets) == 0) two.1).1 in
+        let none = eqb-true (length (kept_of (id_in packet) packets)) 0 (and_parts (is_kept_after packets packet) (length (kept_of (id_in packet) packets) == 0) two.1).1 in
         absurd (omega (arith, some, none))
 
 -- and if none was, a kept one does
 pub begins_so : (wanted : Option ℕ) (packets : List (List ℕ)) (packet : List ℕ) → is_wanted wanted (apid_in packet) ≡ true → is_kept_after packets packet ≡ true → kept_of (id_in packet) packets ≡ [] →
     begins_next wanted packets packet ≡ true
-begins_so wanted packets packet is keeps none =
-    both (is_wanted wanted (apid_in packet)) (begins_image packets packet) is
-    (both (is_kept_after packets packet) (length (kept_of (id_in packet) packets) == 0) keeps (zero_is (length (kept_of (id_in packet) packets)) (ap length none)))
+begins_so wanted packets packet is keeps none = rw (is, keeps, none) refl
 
 begun_more : (wanted : Option ℕ) (packets : List (List ℕ)) (packet : List ℕ) (ids : List ImageId) → begins_next wanted packets packet ≡ true → AreBegun wanted packets ids →
     AreBegun wanted (packets ++ packet ∷ []) (ids ++ id_in packet ∷ [])
@@ -186,7 +167,7 @@ begun_more wanted packets packet ids begins known =
     let q = id_in packet in
     let two = and_parts (is_wanted wanted (apid_in packet)) (begins_image packets packet) begins in
     let parts = and_parts (is_kept_after packets packet) (length (kept_of q packets) == 0) two.1 in
-    let none : length (kept_of q packets) ≡ 0 = is_zero (length (kept_of q packets)) parts.1 in
+    let none : length (kept_of q packets) ≡ 0 = eqb-true (length (kept_of q packets)) 0 parts.1 in
     let own : is_own q packet ≡ true = kept_own (state_of q packets) packet parts.0 in
     let now : 0 < length (kept_of q (packets ++ packet ∷ [])) = (let more = ap length (kept_more q packets packet own parts.0) in omega (arith, more, length-append (kept_of q packets) (packet ∷ []))) in
     record {
@@ -197,10 +178,10 @@ begun_more wanted packets packet ids begins known =
     }
   where
     before : (id : ImageId) → Misses (ids ++ id_in packet ∷ []) id → Misses ids id
-    before id misses i lt e = misses i (omega (arith, lt, length-append ids (id_in packet ∷ []))) (before_last ids (id_in packet) no_id i lt ∙ e)
+    before id misses i lt e = misses i (omega (arith, lt, length-append ids (id_in packet ∷ []))) (get_or-append ids ((id_in packet) ∷ []) no_id i lt ∙ e)
 
     others : (id : ImageId) → is_wanted wanted id.apid ≡ true → Misses (ids ++ id_in packet ∷ []) id → (b : Bool) → is_own id packet ≡ b → kept_of id (packets ++ packet ∷ []) ≡ []
-    others id is misses true own = absurd (misses (length ids) (omega (arith, length-append ids (id_in packet ∷ []))) (at_last ids (id_in packet) no_id ∙ own_id id packet own))
+    others id is misses true own = absurd (misses (length ids) (omega (arith, length-append ids (id_in packet ∷ []))) (get_or-append_seam ids (id_in packet) [] no_id ∙ own_id id packet own))
     others id is misses false own = kept_other id packets packet own ∙ known.others id is (before id misses)
 
     -- the new image isn't among those before
@@ -210,15 +191,15 @@ begun_more wanted packets packet ids begins known =
     apart : (i j : ℕ) → i < length (ids ++ id_in packet ∷ []) → j < length (ids ++ id_in packet ∷ []) → id_at (ids ++ id_in packet ∷ []) i ≡ id_at (ids ++ id_in packet ∷ []) j → length (kept_of (id_in packet) packets) ≡ 0 → i ≡ j
     apart i j lti ltj e none = elim (cases_lt i (length ids)) [
       | inl bi ↦ elim (cases_lt j (length ids)) [
-        | inl bj ↦ known.apart i j bi bj (sym (before_last ids (id_in packet) no_id i bi) ∙ e ∙ before_last ids (id_in packet) no_id j bj)
+        | inl bj ↦ known.apart i j bi bj (sym (get_or-append ids ((id_in packet) ∷ []) no_id i bi) ∙ e ∙ get_or-append ids ((id_in packet) ∷ []) no_id j bj)
         | inr pj ↦
             let here : j ≡ length ids = omega (arith, ltj, pj, length-append ids (id_in packet ∷ [])) in
-            absurd (new i bi none (sym (before_last ids (id_in packet) no_id i bi) ∙ e ∙ ap (id_at (ids ++ id_in packet ∷ [])) here ∙ at_last ids (id_in packet) no_id))
+            absurd (new i bi none (sym (get_or-append ids ((id_in packet) ∷ []) no_id i bi) ∙ e ∙ ap (id_at (ids ++ id_in packet ∷ [])) here ∙ get_or-append_seam ids (id_in packet) [] no_id))
       ]
       | inr pi ↦
           let there : i ≡ length ids = omega (arith, lti, pi, length-append ids (id_in packet ∷ [])) in
           elim (cases_lt j (length ids)) [
-            | inl bj ↦ absurd (new j bj none (sym (before_last ids (id_in packet) no_id j bj) ∙ sym e ∙ ap (id_at (ids ++ id_in packet ∷ [])) there ∙ at_last ids (id_in packet) no_id))
+            | inl bj ↦ absurd (new j bj none (sym (get_or-append ids ((id_in packet) ∷ []) no_id j bj) ∙ sym e ∙ ap (id_at (ids ++ id_in packet ∷ [])) there ∙ get_or-append_seam ids (id_in packet) [] no_id))
             | inr pj ↦ omega (arith, lti, pi, ltj, pj, length-append ids (id_in packet ∷ []))
           ]
     ]
@@ -237,10 +218,7 @@ begun_same wanted packets packet ids not known = record {
     by_kept id is none own true keeps =
         let q = id_in packet in
         let same : q ≡ id = own_id id packet own in
-        let wanted_is : is_wanted wanted q.apid ≡ true = ap (λ (q : ImageId). is_wanted wanted q.apid) same ∙ is in
-        let kept_is : is_kept_by q packets packet ≡ true = ap (λ (q : ImageId). is_kept_by q packets packet) same ∙ keeps in
-        let zero_of : (length (kept_of q packets) == 0) ≡ true = zero_is (length (kept_of q packets)) (ap (λ (q : ImageId). length (kept_of q packets)) same ∙ ap length none) in
-        absurd (false≢true (sym not ∙ both (is_wanted wanted q.apid) (begins_image packets packet) wanted_is (both (is_kept_after packets packet) (length (kept_of q packets) == 0) kept_is zero_of)))
+        absurd (false≢true (sym not ∙ begins_so wanted packets packet (ap (λ (q : ImageId). is_wanted wanted q.apid) same ∙ is) (ap (λ (q : ImageId). is_kept_by q packets packet) same ∙ keeps) (ap (λ (q : ImageId). kept_of q packets) same ∙ none)))
 
     others : (id : ImageId) → is_wanted wanted id.apid ≡ true → kept_of id packets ≡ [] → (b : Bool) → is_own id packet ≡ b → kept_of id (packets ++ packet ∷ []) ≡ []
     others id is none true own = by_kept id is none own (is_kept_by id packets packet) refl

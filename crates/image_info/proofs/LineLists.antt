@@ -10,9 +10,6 @@ use Rattle.image_info.specs.declared.image.ImageEntry.{ImageEntry}
 use Rattle.image_info.specs.Lines.{line_of, lines_of}
 
 module _ (entries : List ImageEntry) (i : ℕ) (d : ImageEntry) (lt : i < length entries) where
-  line : List ℕ
-  line = line_of (slice_index_or entries i d)
-
   lines_more : lines_of (take (i + 1) entries) ≡ lines_of (take i entries) ++ line_of (slice_index_or entries i d)
   lines_more =
       ap lines_of (take_more entries i d lt) ∙ flat_map-append line_of (take i entries) (slice_index_or entries i d ∷ [])

@@ -1,7 +1,7 @@
 -- What is known of an image, and one packet more.
-use Rattle.std.proofs.Common.{◌≡◌, ◌+◌, ℕ, List, [], ◌∷◌, ◌++◌, length, refl, ap, ◌∙◌, arith, length-append}
-use Rattle.std.specs.Prelude.{Bool, true, false, cond, ◌==◌, is_none, if◌then◌else◌, sum_by, count_by, Option, None, Some}
-use Rattle.std.proofs.lemmas.Bool.{and_parts}
+use Rattle.std.proofs.Common.{◌≡◌, ℕ, List, [], ◌∷◌, ◌++◌, length, refl, ap, ◌∙◌, arith, length-append}
+use Rattle.std.specs.Prelude.{Bool, true, false, cond, ◌==◌, is_none, Option, None, Some}
+use Rattle.std.proofs.lemmas.Bool.{and_parts, eqb-true}
 use Rattle.std.proofs.lemmas.Bool.Decides.{nat_tests}
 use Rattle.std.proofs.lemmas.List.{append-nil}
 use Rattle.std.proofs.lemmas.List.Elements.{filter-append}
@@ -16,7 +16,6 @@ use Rattle.stream_defs.proofs.KeptOrder.{is_kept_so, kept_tests}
 use Rattle.camera_defs.specs.Picked.{is_picked}
 use Rattle.camera_defs.proofs.Picking.{mine_own}
 use Rattle.image_info.specs.declared.image.ImageId.{ImageId}
-use Rattle.image_info.specs.declared.image.ImageEntry.{ImageEntry}
 use Rattle.image_info.specs.Images.{id_in, own_packets, state_of, kept_of, count_of, entry_of}
 use Rattle.image_info.specs.Tables.{count_with}
 
@@ -26,12 +25,8 @@ use Rattle.image_info.specs.Tables.{count_with}
 abbrev pub is_own : ImageId → List ℕ → Bool
 is_own id packet = is_picked id.apid (Some id.image) packet
 
-same_number : (m n : ℕ) → (m == n) ≡ true → m ≡ n
-same_number m n e = grind (arith, nat_tests)
-
 none_so : {A : Type 0} (o : Option A) → is_none o ≡ true → o ≡ None
-none_so None e = refl
-none_so (Some x) e = absurd cc
+none_so o e = grind (arith, nat_tests)
 
 pub own_skip : (id : ImageId) (packet : List ℕ) → is_own id packet ≡ true → skip_of id.apid packet ≡ None
 own_skip id packet e = none_so (skip_of id.apid packet) (and_parts (is_none (skip_of id.apid packet)) ((ancillary_in packet).image == id.image) e).0
@@ -39,9 +34,9 @@ own_skip id packet e = none_so (skip_of id.apid packet) (and_parts (is_none (ski
 -- it is of this image alone
 pub own_id : (id : ImageId) (packet : List ℕ) → is_own id packet ≡ true → id_in packet ≡ id
 own_id id packet e =
-    let apid : apid_in packet ≡ id.apid = same_number (apid_in packet) id.apid (mine_own id.apid packet (own_skip id packet e)) in
+    let apid : apid_in packet ≡ id.apid = eqb-true (apid_in packet) id.apid (mine_own id.apid packet (own_skip id packet e)) in
     let image : (ancillary_in packet).image ≡ id.image =
-    same_number (ancillary_in packet).image id.image (and_parts (is_none (skip_of id.apid packet)) ((ancillary_in packet).image == id.image) e).1 in
+    eqb-true (ancillary_in packet).image id.image (and_parts (is_none (skip_of id.apid packet)) ((ancillary_in packet).image == id.image) e).1 in
     λ i. record { apid = apid i; image = image i }
 
 -- a packet that isn't skipped for its own APID is of its image
@@ -55,8 +50,7 @@ kept_own s packet e = skip_own packet (kept_tests (apid_in packet) s packet (is_
 -- ---- one packet more
 
 pub own_other : (id : ImageId) (packets : List (List ℕ)) (packet : List ℕ) → is_own id packet ≡ false → own_packets id (packets ++ packet ∷ []) ≡ own_packets id packets
-own_other id packets packet other =
-    filter-append (is_own id) packets (packet ∷ []) ∙ ap (λ b. own_packets id packets ++ cond b (packet ∷ []) []) other ∙ append-nil (own_packets id packets)
+own_other id packets packet other = grind (arith, nat_tests, filter-append, append-nil)
 
 own_more : (id : ImageId) (packets : List (List ℕ)) (packet : List ℕ) → is_own id packet ≡ true → own_packets id (packets ++ packet ∷ []) ≡ own_packets id packets ++ packet ∷ []
 own_more id packets packet own = filter-append (is_own id) packets (packet ∷ []) ∙ ap (λ b. own_packets id packets ++ cond b (packet ∷ []) []) own
@@ -75,8 +69,7 @@ is_kept_by id packets packet = is_kept (fate id.apid (state_of id packets) packe
 
 -- a packet of another image changes nothing
 pub entry_other : (id : ImageId) (packets : List (List ℕ)) (packet : List ℕ) → is_own id packet ≡ false → entry_of (packets ++ packet ∷ []) id ≡ entry_of packets id
-entry_other id packets packet other =
-    ap (λ own. let e : ImageEntry = record { id = id; state = after_all id.apid fresh own; count = count_of (kept id.apid fresh own) } in e) (own_other id packets packet other)
+entry_other id packets packet other = grind (arith, nat_tests, own_other)
 
 pub kept_other : (id : ImageId) (packets : List (List ℕ)) (packet : List ℕ) → is_own id packet ≡ false → kept_of id (packets ++ packet ∷ []) ≡ kept_of id packets
 kept_other id packets packet other = ap (kept id.apid fresh) (own_other id packets packet other)
@@ -96,19 +89,12 @@ module _ (id : ImageId) (packets : List (List ℕ)) (packet : List ℕ) (own : i
   kept_more is = kept_both ∙ ap (λ ks. kept_of id packets ++ ks) (kept_one id.apid (state_of id packets) packet is)
 
   pub entry_lost : is_kept_by id packets packet ≡ false → entry_of (packets ++ packet ∷ []) id ≡ entry_of packets id
-  entry_lost lost =
-      let state : state_of id (packets ++ packet ∷ []) ≡ state_of id packets = state_more ∙ after_as_other id.apid (state_of id packets) packet lost in
-      let ks = kept_lost lost in
-      λ i. record { id = id; state = state i; count = count_of (ks i) }
+  entry_lost lost = grind (arith, nat_tests, state_more, after_as_other, kept_lost)
 
 -- ---- a packet that is kept
 
 count_more : (packets : List (List ℕ)) (packet : List ℕ) → count_of (packets ++ packet ∷ []) ≡ count_with (count_of packets) (length packet) (closes (flags_in packet))
-count_more packets packet =
-    let number : length (packets ++ packet ∷ []) ≡ length packets + 1 = length-append packets (packet ∷ []) in
-    let octets : sum_by length (packets ++ packet ∷ []) ≡ sum_by length packets + length packet = sum_by_push length packets packet in
-    let received : count_by (λ packet. closes (flags_in packet)) (packets ++ packet ∷ []) ≡ count_by (λ packet. closes (flags_in packet)) packets + (if closes (flags_in packet) then 1 else 0) = fold-append _ 0 packets (packet ∷ []) in
-    λ i. record { packets = number i; octets = octets i; received = received i }
+count_more packets packet = grind (arith, nat_tests, length-append, sum_by_push, fold-append)
 
 pub entry_more : (id : ImageId) (packets : List (List ℕ)) (packet : List ℕ) → is_own id packet ≡ true → is_kept_by id packets packet ≡ true →
     entry_of (packets ++ packet ∷ []) id ≡ record { id = id; state = after id.apid (state_of id packets) packet; count = count_with (count_of (kept_of id packets)) (length packet) (closes (flags_in packet)) }

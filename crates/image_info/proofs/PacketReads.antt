@@ -3,6 +3,7 @@ use Rattle.std.proofs.Common.{◌≡◌, ◌≤◌, ◌<◌, ◌+◌, ◌-◌, �
 use Rattle.std.specs.Prelude.{Bool, true, false, slice_set, Option, None, Some, Result, Ok, Err}
 use Rattle.std.proofs.lemmas.Bool.{false≢true, cases_lt}
 use Rattle.std.proofs.lemmas.List.{get_or-set_same, get_or-set_other, length-set}
+use Rattle.std.proofs.lemmas.Bool.Decides.{nat_tests}
 use Rattle.byteorder.specs.Endian.{big_number}
 use Rattle.bit_pipe.specs.declared.fault.InFault.{InFault}
 use Rattle.port_122.specs.Outside.{Outside}
@@ -14,7 +15,7 @@ use Rattle.packet_defs.specs.declared.packet.Skip.{Skip}
 use Rattle.packet_defs.specs.Reading.{apid_in, flags_in, head_in, ancillary_in, text_in, skip_of}
 use Rattle.packet_defs.specs.Streams.{told_length, begins_packet, first_packet, IsPacket}
 use Rattle.packet_defs.proofs.Fronts.{begins_so, first_is_packet, told_least}
-use Rattle.space_packets.specs.Intake.{Intake, verdict, answered, text_mine}
+use Rattle.space_packets.specs.Intake.{Intake, verdict, answered}
 use Rattle.space_packets.specs.PacketReads.{TakenSoFar}
 use Rattle.space_packets.proofs.Intakes.{answered_packet}
 use Rattle.packet_assembly.specs.Ranged.{IsRanged}
@@ -54,9 +55,7 @@ other_skip apid u (Fault fault) whole e not = absurd (false≢true (sym (over_re
 
 -- its text, if it is one of an image
 pub text_so : (apid : ℕ) (u w : Intake) → begins_packet u.pending ≡ true → skip_of apid (first_packet u.pending) ≡ None → w ≡ answered apid u → w.text ≡ text_in (first_packet u.pending)
-text_so apid u w whole mine stands =
-    let next : w.text ≡ text_mine apid (first_packet u.pending) = ap (λ (w : Intake). w.text) (stands ∙ answered_packet apid u whole) in
-    next ∙ (rw mine refl)
+text_so apid u w whole mine stands = grind (arith, nat_tests, answered_packet)
 
 -- ---- what is left of the table
 
@@ -66,9 +65,6 @@ skipped_passes wanted table packet skip other = rw other (by (is_wanted wanted (
     by : (b : Bool) → PassesBy table table packet b (Some skip) (Ok tt)
     by true = (refl, refl)
     by false = (refl, refl)
-
-pub unwanted_passes : (wanted : Option ℕ) (table : List ImageEntry) (packet : List ℕ) → is_wanted wanted (apid_in packet) ≡ false → PassesPacket wanted table table packet (Ok tt)
-unwanted_passes wanted table packet not = rw not (refl, refl)
 
 pub image_passes : (wanted : Option ℕ) (table after : List ImageEntry) (packet : List ℕ) (result : Result Unit TableFull) → is_wanted wanted (apid_in packet) ≡ true → skip_of (apid_in packet) packet ≡ None →
     PassesImage table after (id_in packet) (flags_in packet) (ancillary_in packet) (text_in packet) (length packet) result → PassesPacket wanted table after packet result

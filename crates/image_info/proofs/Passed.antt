@@ -2,12 +2,13 @@
 use Rattle.std.proofs.Common.{◌≡◌, ◌<◌, ◌≤◌, ℕ, List, [], ◌∷◌, ◌++◌, length, map, refl, sym, ap, subst, ◌∙◌, arith, length-append}
 use Rattle.std.specs.Prelude.{Bool, true, false, slice_set, Option, None, Some, Result, Ok, Err}
 use Rattle.std.proofs.lemmas.Bool.{false≢true}
+use Rattle.std.proofs.lemmas.Bool.Decides.{nat_tests}
 use Rattle.segment_defs.specs.declared.head.SegmentHead.{SegmentHead}
 use Rattle.packet_defs.specs.declared.packet.Skip.{Skip}
 use Rattle.packet_defs.specs.declared.ancillary.Ancillary.{Ancillary}
 use Rattle.packet_defs.specs.Reading.{apid_in, flags_in, ancillary_in, text_in, skip_of}
 use Rattle.stream_defs.specs.declared.fate.Fate.{Fate}
-use Rattle.stream_defs.specs.Fates.{fresh, is_kept, closes, after}
+use Rattle.stream_defs.specs.Fates.{is_kept, closes, after}
 use Rattle.packet_assembly.specs.Classification.{classified, past_kept}
 use Rattle.packet_assembly.proofs.FateSteps.{kept_so, classified_unkept}
 use Rattle.image_info.specs.declared.image.ImageId.{ImageId}
@@ -75,12 +76,10 @@ module _ (wanted : Option ℕ) (passed : List (List ℕ)) (packet : List ℕ) wh
     none_kept none = known.begun.others (id_in packet) is (misses_so none)
 
     state_so : (place : Option ℕ) → IsPlace table (id_in packet) place → state_at table place ≡ state_of (id_in packet) passed
-    state_so None none = sym (none_fresh (apid_in packet) fresh _ (none_kept none))
-    state_so (Some place) there = ap (λ (e : ImageEntry). e.state) (entry_so place there)
+    state_so place none = grind (arith, nat_tests, none_fresh, none_kept, entry_so)
 
     count_so : (place : Option ℕ) → IsPlace table (id_in packet) place → count_at table place ≡ count_of (kept_of (id_in packet) passed)
-    count_so None none = ap count_of (sym (none_kept none))
-    count_so (Some place) there = ap (λ (e : ImageEntry). e.count) (entry_so place there)
+    count_so place none = grind (arith, nat_tests, none_kept, entry_so)
 
     -- ---- a packet of its image, by its fate
 
@@ -175,13 +174,7 @@ module _ (wanted : Option ℕ) (passed : List (List ℕ)) (packet : List ℕ) wh
 
 few_leaves : (table after : List ImageEntry) (id : ImageId) (place : Option ℕ) (flags : ℕ) (a : Ancillary) (octets : ℕ) (r : Result (Option SegmentHead) Fate) → length table ≤ most_images →
     LeavesTable table after id place flags a octets r (Ok tt) → length after ≤ most_images
-few_leaves table after id place flags a octets (Err why) few leaves = subst (λ t. length t ≤ most_images) (sym leaves.1) few
-few_leaves table after id place flags a octets (Ok found) few leaves = leaves.1
+few_leaves table after id place flags a octets r few leaves = grind (arith, nat_tests)
 
 pub few_next : (wanted : Option ℕ) (packet : List ℕ) (table after : List ImageEntry) → length table ≤ most_images → PassesPacket wanted table after packet (Ok tt) → length after ≤ most_images
-few_next wanted packet table after few x = by (is_wanted wanted (apid_in packet)) (skip_of (apid_in packet) packet) x
-  where
-    by : (b : Bool) (o : Option Skip) → PassesBy table after packet b o (Ok tt) → length after ≤ most_images
-    by true None x = few_leaves table after (id_in packet) x.place (flags_in packet) (ancillary_in packet) (length packet) _ few x.leaves
-    by true (Some skip) x = subst (λ t. length t ≤ most_images) (sym x.1) few
-    by false o x = subst (λ t. length t ≤ most_images) (sym x.1) few
+few_next wanted packet table after few x = grind (arith, nat_tests, few_leaves)

@@ -1,10 +1,11 @@
 -- A list of images is continued by one packet.
 use Rattle.std.proofs.Common.{◌≡◌, ◌≤◌, ◌<◌, ◌+◌, ◌-◌, ◌^◌, ℕ, List, [], ◌∷◌, ◌++◌, length, take, refl, sym, ap, subst, ◌∙◌, arith, append_assoc, length-append}
-use Rattle.std.specs.Prelude.{Bool, true, false, ◌||◌, Option, None, Some, Result, Ok}
+use Rattle.std.specs.Prelude.{Bool, true, false, ◌||◌, Option, None, Result, Ok}
 use Rattle.std.proofs.lemmas.Bool.{false≢true}
 use Rattle.std.proofs.lemmas.List.{append-nil, take-append-le, take-append-drop}
 use Rattle.std.proofs.Math.Seq.{take-append-add}
-use Rattle.port_122.specs.Outside.{Outside, Exchange, IsUsedUp}
+use Rattle.std.proofs.lemmas.Bool.Decides.{nat_tests}
+use Rattle.port_122.specs.Outside.{Outside, Exchange}
 use Rattle.port_122.proofs.Stretches.{since_start, since_weaker, each_of_both}
 use Rattle.port_122.proofs.ReadCalls.{since_in}
 use Rattle.packet_defs.specs.declared.packet.Framing.{Framing}
@@ -14,7 +15,7 @@ use Rattle.packet_defs.specs.Streams.{told_length, begins_packet, first_packet, 
 use Rattle.packet_defs.proofs.Fronts.{begins_so, first_is_packet}
 use Rattle.packet_defs.proofs.Joins.{joined-append}
 use Rattle.stream_defs.specs.Fates.{fresh, after_all}
-use Rattle.space_packets.specs.Intake.{Intake, unread, is_decided, text_mine, answered, fed}
+use Rattle.space_packets.specs.Intake.{Intake, unread, is_decided, answered, fed}
 use Rattle.space_packets.specs.PacketReads.{AsksUndecided, TakenSoFar}
 use Rattle.space_packets.proofs.Intakes.{answered_packet}
 use Rattle.space_packets.proofs.StreamReads.{undecided_none}
@@ -22,7 +23,7 @@ use Rattle.packet_assembly.specs.Assembling.{Assembling}
 use Rattle.packet_assembly.specs.Passing.{whole_after, before_loses}
 use Rattle.packet_assembly.specs.Readings.{HasRead, SawEnd}
 use Rattle.packet_assembly.proofs.Comings.{decided_ended}
-use Rattle.packet_assembly.proofs.OneStep.{none_whole}
+use Rattle.packet_assembly.proofs.OneStep.{none_whole, nothing_left}
 use Rattle.packet_assembly.proofs.Verdicts.{shorter_past}
 use Rattle.image_info.specs.declared.image.ImageEntry.{ImageEntry}
 use Rattle.image_info.specs.declared.info.InfoWish.{InfoWish}
@@ -65,10 +66,6 @@ pub record HasTabled (wish : InfoWish) (start now : Outside) (v : Intake) (table
 asks_took : (wanted : Option ℕ) (took t : List ℕ) (i j : ℕ) → i ≤ length took → AsksFew wanted took i j → AsksFew wanted (took ++ t) i j
 asks_took wanted took t i j le asks = (asks.0, subst (λ zs. image_count wanted zs ≤ most_images) (sym (take-append-le i took t le)) asks.1)
 
-used_up : (o : Option (List ℕ)) (rest : List ℕ) → o ≡ Some rest → IsUsedUp o → rest ≡ []
-used_up None rest told over = absurd cc
-used_up (Some xs) rest told over = let same : xs ≡ rest = cc in sym same ∙ over
-
 module _ {wish : InfoWish} {start now new : Outside} {v u : Intake} {table : List ImageEntry} (come : HasTabled wish start now v table) (x : TakenSoFar now new v u) where
   -- at a read call of the step no packet more is whole
   same_whole : (i : ℕ) → is_decided (fed v (take i x.took) false) ≡ false → whole_packets (take (length come.took + i) (come.took ++ x.took)) ≡ come.passed
@@ -96,7 +93,7 @@ module _ {wish : InfoWish} {start now new : Outside} {v u : Intake} {table : Lis
           let none : x.took ≡ [] = x.at_once (decided_ended v e) in
           let early = come.at_end (x.took ++ rest) (before_loses now.rest new.rest x.took rest x.since.rest told) e in
           (ap (λ zs. zs ++ rest) (sym none) ∙ early.0, omega (arith, early.1, ap length none))
-      by false e over = (used_up new.rest rest told (x.end_seen over), x.end_below over)
+      by false e over = (nothing_left new told x.end_seen over, x.end_below over)
 
   -- the octets that decide what is next were taken
   pub filled : HasTabled wish start new u table
@@ -184,16 +181,7 @@ abbrev pub measure : Intake → ℕ
 measure v = (v.cap - v.taken) + length v.pending
 
 pub less_passed : {wanted : Option ℕ} {old new : Outside} {v w : Intake} {table after : List ImageEntry} {result : Result Unit TableFull} → TakesPacket wanted old new v w table after result → measure w < measure v
-less_passed {v = v} {w = w} x =
-    let u = x.full in
-    let apid = apid_in (first_packet u.pending) in
-    let t = x.taken.took in
-    let next : w ≡ record u { pending = after_packet u.pending; text = text_mine apid (first_packet u.pending) } = x.stands ∙ answered_packet apid u x.whole in
-    let cap : w.cap ≡ v.cap = ap (λ w. w.cap) next ∙ ap (λ u. u.cap) x.taken.stands in
-    let taken : w.taken ≡ v.taken + length t = ap (λ w. w.taken) next ∙ ap (λ u. u.taken) x.taken.stands in
-    let rest : length w.pending ≡ length (after_packet u.pending) = ap (λ w. length w.pending) next in
-    let waits : length u.pending ≡ length v.pending + length t = ap (λ u. length u.pending) x.taken.stands ∙ length-append v.pending t in
-    omega (arith, x.taken.within, cap, taken, rest, waits, shorter_past u x.whole)
+less_passed {v = v} {w = w} x = grind (arith, nat_tests, answered_packet, length-append, shorter_past)
 
 -- ---- room for the counts
 

@@ -1,8 +1,9 @@
 -- An image of which a packet is kept has a geometry.
 use Rattle.std.proofs.Common.{◌≡◌, ◌<◌, ◌+◌, ℕ, List, [], ◌∷◌, ◌++◌, length, refl, sym, ap, subst, ◌∙◌, inl, inr, arith, append_assoc}
-use Rattle.std.specs.Prelude.{true, false, ◌==◌, All, slice_index_or, Option, Some, None, IsSome, Result, Ok, Err}
+use Rattle.std.specs.Prelude.{true, ◌==◌, All, slice_index_or, Option, Some, None, IsSome, Result, Ok, Err}
 use Rattle.std.proofs.lemmas.List.{append-nil, get_or_default}
 use Rattle.std.proofs.lemmas.Bool.Decides.{nat_tests}
+use Rattle.std.proofs.lemmas.Bool.{eq-eqb, ne_eqb}
 use Rattle.base_122.specs.declared.geometry.Geometry.{Geometry}
 use Rattle.segment_defs.specs.declared.head.SegmentHead.{SegmentHead}
 use Rattle.segment_defs.specs.declared.fault.HeadFault.{HeadFault}
@@ -22,14 +23,9 @@ use Rattle.image_info.specs.Images.{own_packets, state_of, kept_of, entry_of, im
 use Rattle.image_info.specs.Tables.{no_entry}
 use Rattle.image_info.proofs.ImageLists.{id_at, AreBegun, images-none, begun_none, begun_next}
 use Rattle.image_info.proofs.EntryLists.{length-entries, entry_is}
+use Rattle.packet_assembly.proofs.Ends.{kept_nothing}
 
 -- ---- one packet
-
-equal : (m n : ℕ) → m ≡ n → (m == n) ≡ true
-equal m n e = grind (arith, nat_tests)
-
-apart : (m n : ℕ) → (m ≡ n → ⊥) → (m == n) ≡ false
-apart m n e = grind (arith, nat_tests)
 
 -- a head that isn't refused makes a geometry
 made : (standing : Option Geometry) (a : Ancillary) (read : Result SegmentHead HeadFault) → head_refusal standing a read ≡ None → IsSome (geometry_with standing a read)
@@ -38,14 +34,12 @@ made standing a (Err fault) e = absurd cc
 
 first_made : (standing : Option Geometry) (packet : List ℕ) → number_of_part packet ≡ 0 → refusal_in standing packet ≡ None → IsSome (geometry_after standing packet)
 first_made standing packet part none =
-    let first : ((ancillary_in packet).part == 0) ≡ true = equal (ancillary_in packet).part 0 part in
+    let first : ((ancillary_in packet).part == 0) ≡ true = eq-eqb (ancillary_in packet).part 0 part in
     let accepted : head_refusal standing (ancillary_in packet) (head_read (text_in packet)) ≡ None = rw first at none in
     rw first (made standing (ancillary_in packet) (head_read (text_in packet)) accepted)
 
 next_same : (standing : Option Geometry) (packet : List ℕ) (n : ℕ) → number_of_part packet ≡ n + 1 → geometry_after standing packet ≡ standing
-next_same standing packet n part =
-    let further : ((ancillary_in packet).part == 0) ≡ false = apart (ancillary_in packet).part 0 (λ e. omega (arith, e, part)) in
-    rw further refl
+next_same standing packet n part = grind (arith, nat_tests, ne_eqb)
 
 -- ---- all packets
 
@@ -70,12 +64,8 @@ size_after : (apid : ℕ) (s : FateState) (packets : List (List ℕ)) → HasSiz
 size_after apid s [] h = h
 size_after apid s (x ∷ xs) h = size_after apid (after apid s x) xs (size_on apid s x h)
 
-none_kept : (apid : ℕ) (s : FateState) → kept apid s [] ≡ []
-unfolding kept
-none_kept apid s = refl
-
 kept_last : (apid : ℕ) (s : FateState) (packets : List (List ℕ)) → 0 < length (kept apid s packets) → HasReached 0 (after_all apid s packets)
-kept_last apid s [] some = absurd (let none = ap length (none_kept apid s) in omega (arith, some, none))
+kept_last apid s [] some = absurd (let none = ap length (kept_nothing apid s) in omega (arith, some, none))
 kept_last apid s (x ∷ xs) some = elim (does apid s x) [
   | inl lost ↦ kept_last apid (after apid s x) xs (subst (λ ks. 0 < length ks) (lost.kept_are xs) some)
   | inr here ↦ elim here [

@@ -1,8 +1,8 @@
 -- What a segment header that agrees reports of its segment and of the image.
 use Rattle.std.proofs.Common.{◌≡◌, ◌⊎◌, inl, inr, ◌≤◌, ◌<◌, ◌+◌, ◌-◌, ◌*◌, ◌/◌, ◌%◌, ℕ, List, [], ◌∷◌, refl, sym, ap, subst, ◌∙◌, arith}
-use Rattle.std.specs.Prelude.{Bool, true, false, ◌==◌, ◌&&◌, not, nat_le, nat_lt, min, if◌then◌else◌}
+use Rattle.std.specs.Prelude.{Bool, true, false, ◌==◌, ◌&&◌, nat_le, nat_lt, min, if◌then◌else◌}
 use Rattle.std.specs.Str.{bytes_eq}
-use Rattle.std.proofs.lemmas.Bool.{false≢true, and_parts}
+use Rattle.std.proofs.lemmas.Bool.{false≢true, and_parts, leb-true, not-false, ltb-true, eqb-true}
 use Rattle.std.proofs.lemmas.Bool.Decides.{nat_tests}
 use Rattle.base_122.specs.Sizes.{block_count}
 use Rattle.base_122.specs.Ranges.{IsWithin, is_within, rows_range}
@@ -20,26 +20,13 @@ use Rattle.stream_defs.proofs.PlacedLaws.{blocks_open, blocks_known, within_not}
 
 -- ---- tests that pass
 
-pub not_true : (b : Bool) → not b ≡ false → b ≡ true
-not_true true e = refl
-not_true false e = absurd (false≢true (sym e))
-
-pub equal_so : (m n : ℕ) → (m == n) ≡ true → m ≡ n
-equal_so m n e = grind (arith, nat_tests)
-
-below_so : (m n : ℕ) → nat_lt m n ≡ true → m < n
-below_so m n e = grind (arith, nat_tests)
-
-most_so : (m n : ℕ) → nat_le m n ≡ true → m ≤ n
-most_so m n e = grind (arith, nat_tests)
-
 pub bytes_so : (xs ys : List ℕ) → bytes_eq xs ys ≡ true → xs ≡ ys
 bytes_so [] [] e = refl
 bytes_so [] (y ∷ ys) e = absurd (false≢true e)
 bytes_so (x ∷ xs) [] e = absurd (false≢true e)
 bytes_so (x ∷ xs) (y ∷ ys) e =
     let both = and_parts (x == y) (bytes_eq xs ys) e in
-    ap (λ n. n ∷ xs) (equal_so x y both.0) ∙ ap (λ zs. y ∷ zs) (bytes_so xs ys both.1)
+    ap (λ n. n ∷ xs) (eqb-true x y both.0) ∙ ap (λ zs. y ∷ zs) (bytes_so xs ys both.1)
 
 -- none of six tests refuses
 six_pass : (a b c d e f : Bool) (v w x y z u : HeadFault) → first_of (when a v ∷ when b w ∷ when c x ∷ when d y ∷ when e z ∷ when f u ∷ []) ≡ None →
@@ -63,13 +50,13 @@ passes : (g : Geometry) (a : Ancillary) (head : SegmentHead) → disagreement g 
 unfolding disagreement
 passes g a head e =
     let six = six_pass _ _ _ _ _ _ _ _ _ _ _ _ e in
-    let image = not_true (is_of_image g head.image) six.2 in
+    let image = not-false (is_of_image g head.image) six.2 in
     let depth = (and_parts (same_flag head.image.signed g.signed) _ image).1 in
     let width = and_parts (head.image.width == g.width) _ (and_parts (head.image.depth == g.depth) _ depth).1 in
     record {
-      blocks = not_true _ six.0;
-      ends = not_true _ six.1;
-      width = equal_so head.image.width g.width width.0;
+      blocks = not-false _ six.0;
+      ends = not-false _ six.1;
+      width = eqb-true head.image.width g.width width.0;
       shifts = bytes_so head.image.weights.shifts g.weights.shifts (and_parts (head.image.word == g.word) _ width.1).1;
     }
 
@@ -95,10 +82,7 @@ IsBefore g a = ((a.told_last ≡ true) × (g.rows ≡ 0)) ⊎ ((a.told_last ≡ 
 -- the height that a last header reports has the block rows that it ends
 ends_rows : (columns ended pads : ℕ) → 0 < columns → pads < 8 → ended % columns ≡ 0 → 17 ≤ 8 * (ended / columns) - pads →
     columns * block_count (8 * (ended / columns) - pads) ≡ ended
-ends_rows columns ended pads some few whole tall =
-    let rows : block_count (8 * (ended / columns) - pads) ≡ ended / columns = omega arith in
-    let all : columns * (ended / columns) ≡ ended = omega (arith, whole, some) in
-    ap (λ n. columns * n) rows ∙ all
+ends_rows columns ended pads some few whole tall = grind (arith, nat_tests)
 
 module _ (g : Geometry) (a : Ancillary) (head : SegmentHead) (is : IsHead head) (p : Passes g a head) where
   wide_there : 17 ≤ g.width
@@ -119,8 +103,8 @@ module _ (g : Geometry) (a : Ancillary) (head : SegmentHead) (is : IsHead head) 
         height = inr within;
         told = λ e. refl;
         wide = wide_there;
-        first = let lt = below_so a.first (blocks_of g) both.0 in subst (λ n. a.first < n) (sym total) lt;
-        blocks = equal_so head.blocks (min g.segment (blocks_of g - a.first)) both.1 ∙ ap (λ n. min g.segment (n - a.first)) (sym total);
+        first = let lt = ltb-true a.first (blocks_of g) both.0 in subst (λ n. a.first < n) (sym total) lt;
+        blocks = eqb-true head.blocks (min g.segment (blocks_of g - a.first)) both.1 ∙ ap (λ n. min g.segment (n - a.first)) (sym total);
         shifts = p.shifts;
         room = λ e. absurd (not_open e);
         shut = λ e. absurd (false≢true (sym told ∙ e));
@@ -131,8 +115,8 @@ module _ (g : Geometry) (a : Ancillary) (head : SegmentHead) (is : IsHead head) 
   told_later told untold last =
       let blocks : (head.blocks == g.segment) ≡ true = rw (told, last) at p.blocks in
       let room : nat_lt (a.first + g.segment) (32768 * block_count g.width) ≡ true = rw (told, last) at p.ends in
-      let size = equal_so head.blocks g.segment blocks in
-      let lt = below_so (a.first + g.segment) (32768 * block_count g.width) room in
+      let size = eqb-true head.blocks g.segment blocks in
+      let lt = ltb-true (a.first + g.segment) (32768 * block_count g.width) room in
       let total = blocks_open g untold in
       record {
         same = refl;
@@ -153,10 +137,10 @@ module _ (g : Geometry) (a : Ancillary) (head : SegmentHead) (is : IsHead head) 
       let blocks : (nat_le 1 head.blocks && nat_le head.blocks g.segment) ≡ true = rw (told, last) at p.blocks in
       let ends : (((a.first + head.blocks) % block_count g.width == 0) && is_within rows_range (told_height g a head)) ≡ true = rw (told, last) at p.ends in
       let size = and_parts (nat_le 1 head.blocks) _ blocks in
-      let some = most_so 1 head.blocks size.0 in
-      let most = most_so head.blocks g.segment size.1 in
+      let some = leb-true 1 head.blocks size.0 in
+      let most = leb-true head.blocks g.segment size.1 in
       let both = and_parts ((a.first + head.blocks) % block_count g.width == 0) _ ends in
-      let whole = equal_so ((a.first + head.blocks) % block_count g.width) 0 both.0 in
+      let whole = eqb-true ((a.first + head.blocks) % block_count g.width) 0 both.0 in
       let within = within_from rows_range (told_height g a head) both.1 in
       let not_open = within_not (told_height g a head) within in
       let all : blocks_of past ≡ a.first + head.blocks = ends_rows (block_count g.width) (a.first + head.blocks) head.pad_rows some_columns is.pad_rows whole within.0 in

@@ -1,7 +1,8 @@
 -- The state after packets from the first one of an image on, and what a segment that begins after them reports.
 use Rattle.std.proofs.Common.{◌≡◌, ◌⊎◌, inl, inr, ◌≤◌, ◌<◌, ◌+◌, ◌-◌, ◌*◌, ℕ, List, refl, sym, ap, subst, ◌∙◌, arith}
 use Rattle.std.specs.Prelude.{Bool, true, false, ◌==◌, not, min, Option, None, Some}
-use Rattle.std.proofs.lemmas.Bool.{false≢true}
+use Rattle.std.proofs.lemmas.Bool.{false≢true, false_from_ne_true, eqb-true, not-false}
+use Rattle.std.proofs.lemmas.Bool.Decides.{nat_tests}
 use Rattle.base_122.specs.Sizes.{block_count, first_block}
 use Rattle.base_122.specs.Ranges.{IsGeometryInRange, IsWithin, is_within, rows_range, segment_range}
 use Rattle.base_122.specs.declared.geometry.Geometry.{Geometry}
@@ -21,7 +22,7 @@ use Rattle.stream_defs.proofs.KeptOrder.{is_kept_so, kept_tests, Begins, does}
 use Rattle.stream_defs.proofs.PlacedLaws.{within_not}
 use Rattle.packet_assembly.specs.declared.note.SegmentStart.{SegmentStart}
 use Rattle.packet_assembly.specs.Assembling.{Starts, is_first}
-use Rattle.packet_assembly.proofs.Agreed.{Agrees, IsBefore, agrees, equal_so, not_true}
+use Rattle.packet_assembly.proofs.Agreed.{Agrees, IsBefore, agrees}
 use Rattle.packet_assembly.proofs.Ranges.{within_from}
 use Rattle.packet_assembly.proofs.OwnPackets.{or_first, or_rest, tells_so, own_so, past_segment}
 
@@ -96,14 +97,9 @@ record Before (s : FateState) (ended : ℕ) (a : Ancillary) (image : ImagePart) 
   through : ended ≤ a.first
   known : (before : Geometry) → s.geometry ≡ Some before → (before.rows ≡ 0 → ⊥) → a.told_last ≡ false
 
-unset : (b : Bool) → (b ≡ true → ⊥) → b ≡ false
-unset true none = absurd (none refl)
-unset false none = refl
-
 -- a height that isn't known is reported last
 pub told_if : (g : Geometry) (told : Bool) (index ended : ℕ) → Leaves g told index ended → g.rows ≡ 0 → told ≡ true
-told_if g true index ended leaves untold = refl
-told_if g false index ended leaves untold = absurd (within_not g.rows (leaves.told refl) untold)
+told_if g told index ended leaves untold = grind (arith, nat_tests)
 
 -- after packets of an image
 before_more : (s : FateState) (ended : ℕ) (a : Ancillary) (head : SegmentHead) → Tested s a head → HasBegun s ended → Before s ended a head.image
@@ -113,7 +109,7 @@ before_more s ended a head t begun =
     let own = own_so g s.told_last a (ap (λ (o : Option Geometry). differs o s.told_last a) (sym begun.geometry) ∙ t.own) in
     let later = past_segment g.segment begun.l.index a.index (t.later begun.l begun.last) in
     let first : a.first ≡ first_block g.segment a.index = t.first ∙ ap (λ n. a.index * n) own.segment in
-    let known : (g.rows ≡ 0 → ⊥) → a.told_last ≡ false = λ some. unset a.told_last (λ told. let shut = leaves.shut (sym own.told ∙ told) some in let inside = own.inside some in absurd (omega (arith, shut, inside, first, later))) in
+    let known : (g.rows ≡ 0 → ⊥) → a.told_last ≡ false = λ some. false_from_ne_true a.told_last (λ told. let shut = leaves.shut (sym own.told ∙ told) some in let inside = own.inside some in absurd (omega (arith, shut, inside, first, later))) in
     let here : IsBefore g a = elim leaves.height [
       | inl untold ↦ inl (own.told ∙ told_if g s.told_last begun.l.index ended leaves untold, untold)
       | inr within ↦ inr (known (within_not g.rows within), within)
@@ -232,7 +228,7 @@ begins_so apid s packet first =
       | inl lost ↦ absurd (false≢true (sym lost.lost ∙ k.0))
       | inr here ↦ elim here [
         | inl b ↦ b
-        | inr next ↦ absurd (let part = equal_so (ancillary_in packet).part 0 k.1 in omega (arith, part, next.part))
+        | inr next ↦ absurd (let part = eqb-true (ancillary_in packet).part 0 k.1 in omega (arith, part, next.part))
       ]
     ]
 
@@ -254,9 +250,9 @@ first_leaves apid s packet ended start left starts =
     let b = begins_so apid s packet starts.first in
     let own = or_rest _ _ (or_rest _ _ tests.own) in
     let tested : Tested s a start.head = record {
-      tells = not_true _ (or_first (not (tells_rows a)) _ tests.own);
-      segment = not_true _ (or_first (not (is_within segment_range a.segment)) _ (or_rest (not (tells_rows a)) _ tests.own));
-      first = equal_so a.first (a.index * a.segment) (not_true _ (or_first (not (a.first == a.index * a.segment)) _ own));
+      tells = not-false _ (or_first (not (tells_rows a)) _ tests.own);
+      segment = not-false _ (or_first (not (is_within segment_range a.segment)) _ (or_rest (not (tells_rows a)) _ tests.own));
+      first = eqb-true a.first (a.index * a.segment) (not-false _ (or_first (not (a.first == a.index * a.segment)) _ own));
       own = or_rest (not (a.first == a.index * a.segment)) _ own;
       agree = rw (k.1, starts.head_is) at tests.head;
       is = read_fits (text_in packet) start.head starts.head_is;

@@ -1,6 +1,6 @@
 -- What a reader can still take, before a read and after it.
 use Rattle.std.proofs.Common.{◌≡◌, ◌≤◌, ◌<◌, ◌+◌, ◌-◌, ℕ, List, [], ◌∷◌, ◌++◌, length, take, drop, refl, sym, ap, ◌∙◌, arith, append_assoc, length-append}
-use Rattle.std.specs.Prelude.{Bool, true, false, ◌==◌, ◌||◌, nat_lt, if◌then◌else◌}
+use Rattle.std.specs.Prelude.{Bool, true, false, ◌||◌, nat_lt, if◌then◌else◌}
 use Rattle.std.proofs.lemmas.Bool.{false≢true}
 use Rattle.std.proofs.lemmas.Bool.Decides.{nat_tests}
 use Rattle.std.proofs.lemmas.List.{append-nil, take_all, take-append-drop}
@@ -20,12 +20,7 @@ use Rattle.packet_assembly.proofs.Verdicts.{AtCap}
 
 pub decided_ended : (v : Intake) → v.ended ≡ true → is_decided (fed v [] false) ≡ true
 unfolding is_decided
-decided_ended v e = rw e (by_tests (has_bad_version (v.pending ++ [])) (begins_packet (v.pending ++ [])) (v.taken + 0 == v.cap))
-  where
-    by_tests : (a b c : Bool) → (a || (b || (true || c))) ≡ true
-    by_tests true b c = refl
-    by_tests false true c = refl
-    by_tests false false c = refl
+decided_ended v e = grind (arith, nat_tests)
 
 coming_by : (ended saw_end : Bool) (cap taken : ℕ) (pending took rest : List ℕ) → taken + length took ≤ cap → (ended ≡ true → took ≡ []) → (saw_end ≡ true → rest ≡ []) →
     pending ++ (if ended then [] else take (cap - taken) (took ++ rest)) ≡ (pending ++ took) ++ (if ended || saw_end then [] else take (cap - (taken + length took)) rest)
@@ -43,28 +38,14 @@ coming_by false false cap taken pending took rest within none seen =
 
 pub coming_on : (v : Intake) (took rest : List ℕ) (saw_end : Bool) → v.taken + length took ≤ v.cap → (is_decided (fed v [] false) ≡ true → took ≡ []) → (saw_end ≡ true → rest ≡ []) →
     coming v (took ++ rest) ≡ coming (fed v took saw_end) rest
-coming_on v took rest saw_end within at_once seen =
-    coming_by v.ended saw_end v.cap v.taken v.pending took rest within (λ e. at_once (decided_ended v e)) seen
+coming_on v took rest saw_end within at_once seen = grind (arith, nat_tests, coming_by, decided_ended)
 
 lt_past : (a r c t : ℕ) → t + a ≤ c → nat_lt (a + r) (c - t) ≡ nat_lt r (c - (t + a))
-lt_past a r c t le = by_test (nat_lt r (c - (t + a))) refl
-  where
-    by_test : (b : Bool) → nat_lt r (c - (t + a)) ≡ b → nat_lt (a + r) (c - t) ≡ nat_lt r (c - (t + a))
-    by_test true e = grind (arith, nat_tests)
-    by_test false e = grind (arith, nat_tests)
+lt_past a r c t le = grind (arith, nat_tests)
 
 sees_by : (ended saw_end : Bool) (cap taken : ℕ) (took rest : List ℕ) → taken + length took ≤ cap → (saw_end ≡ true → rest ≡ []) → (saw_end ≡ true → taken + length took < cap) →
     (ended || nat_lt (length (took ++ rest)) (cap - taken)) ≡ ((ended || saw_end) || nat_lt (length rest) (cap - (taken + length took)))
-sees_by true saw_end cap taken took rest within seen below = refl
-sees_by false true cap taken took rest within seen below =
-    let size : length (took ++ rest) ≡ length took = ap (λ zs. length (took ++ zs)) (seen refl) ∙ ap length (append-nil took) in
-    let less : length (took ++ rest) < cap - taken = omega (arith, size, below refl) in
-    is_less (length (took ++ rest)) (cap - taken) less
-  where
-    is_less : (m n : ℕ) → m < n → nat_lt m n ≡ true
-    is_less m n e = grind (arith, nat_tests)
-sees_by false false cap taken took rest within seen below =
-    ap (λ n. nat_lt n (cap - taken)) (length-append took rest) ∙ lt_past (length took) (length rest) cap taken within
+sees_by ended saw_end cap taken took rest within seen below = grind (arith, nat_tests, append-nil, length-append, lt_past)
 
 pub sees_on : (v : Intake) (took rest : List ℕ) (saw_end : Bool) → v.taken + length took ≤ v.cap → (saw_end ≡ true → rest ≡ []) → (saw_end ≡ true → v.taken + length took < v.cap) →
     sees_end v (took ++ rest) ≡ sees_end (fed v took saw_end) rest
@@ -109,8 +90,7 @@ ended_stops v rest none over =
     }
   where
     either : (a b : Bool) → (if a || (true || b) then InPieces else TooLong) ≡ InPieces
-    either true b = refl
-    either false b = refl
+    either a b = grind (arith, nat_tests)
 
 pub long_stops : {fault : InFault} (v : Intake) (rest : List ℕ) → AtCap v fault → StopsSo v rest TooLong
 long_stops v rest at =

@@ -4,9 +4,9 @@ use Rattle.std.specs.Prelude.{Bool, true, false, ◌==◌, max, if◌then◌else
 use Rattle.std.proofs.lemmas.Bool.{false≢true}
 use Rattle.std.proofs.lemmas.Bool.Decides.{nat_tests}
 use Rattle.std.proofs.lemmas.Grind.{fold-append}
+use Rattle.std.proofs.lemmas.Option.{same_Some}
 use Rattle.base_122.specs.declared.geometry.Geometry.{Geometry}
 use Rattle.segment_defs.specs.Reading.{head_read}
-use Rattle.packet_defs.specs.declared.ancillary.Ancillary.{Ancillary}
 use Rattle.packet_defs.specs.Reading.{ancillary_in, text_in}
 use Rattle.stream_defs.specs.declared.fate.FateState.{FateState}
 use Rattle.stream_defs.specs.declared.fate.LastPart.{LastPart}
@@ -51,7 +51,7 @@ kept_more : (apid : ℕ) (s : FateState) (x : List ℕ) (xs : List (List ℕ)) (
 kept_more apid s x xs n =
     ap (end_from n) (kept-append apid s (x ∷ []) xs) ∙ fold-append (λ most packet. max most (end_in packet)) n (kept apid s (x ∷ [])) (kept apid (after apid s x) xs)
 
-kept_nothing : (apid : ℕ) (s : FateState) → kept apid s [] ≡ []
+pub kept_nothing : (apid : ℕ) (s : FateState) → kept apid s [] ≡ []
 unfolding kept
 kept_nothing apid s = refl
 
@@ -74,8 +74,7 @@ none_begun apid s (x ∷ xs) none =
 
 -- a later segment isn't the same one
 not_back : (last : Option LastPart) (i j : ℕ) → ((l : LastPart) → last ≡ Some l → l.index < i) → i ≤ j → Some j ≡ last_index last → ⊥
-not_back None i j later least before = absurd cc
-not_back (Some l) i j later least before = let same : j ≡ l.index = cc in let lt = later l refl in absurd (omega (arith, same, lt, least))
+not_back last i j later least before = grind (arith, nat_tests)
 
 -- Packets begin no segment if the last place is in the same one after them, or if there is none.
 pub stays_none : (apid : ℕ) (s : FateState) (packets : List (List ℕ)) → last_index (after_all apid s packets).last ≡ last_index s.last → BeginsNone apid s packets
@@ -92,9 +91,6 @@ stays_none apid s (x ∷ xs) same = by (λ e. stays_none apid (after apid s x) x
 
 -- ---- what any packets leave
 
-some_same : {a b : LastPart} → Some a ≡ Some b → a ≡ b
-some_same e = cc
-
 -- a part that isn't the first of its segment
 next_left : (apid : ℕ) (s : FateState) (x : List ℕ) (n : ℕ) → IsLeft s n → Follows apid s x → IsLeft (after apid s x) n
 next_left apid s x n left next = elim left.by [
@@ -107,7 +103,7 @@ next_left apid s x n left next = elim left.by [
       let differ = or_rest (not (a.first == a.index * a.segment)) _ (or_rest _ _ (or_rest _ _ tests.own)) in
       let own = own_so begun.g s.told_last a (ap (λ (o : Option Geometry). differs o s.told_last a) (sym begun.geometry) ∙ differ) in
       let told : (after apid s x).told_last ≡ s.told_last = ap (λ (s : FateState). s.told_last) (after_as_kept apid s x is) ∙ own.told in
-      let same : next.before ≡ begun.l = some_same (sym next.before_is ∙ begun.last) in
+      let same : next.before ≡ begun.l = same_Some _ _ (sym next.before_is ∙ begun.last) in
       let index : begun.l.index ≡ (part_in x).index = ap (λ (l : LastPart). l.index) (sym same) ∙ sym next.index in
       record {
         by = inr record {
@@ -138,11 +134,7 @@ first_left apid s x n start left starts =
 pub first_reaches : (apid : ℕ) (s : FateState) (x : List ℕ) (start : SegmentStart) (n : ℕ) → Starts apid s x start → n ≤ start.ancillary.first →
     end_from n (kept apid s (x ∷ [])) ≡ start.ancillary.first + start.head.blocks
 unfolding kept
-first_reaches apid s x start n starts low =
-    let k = first_keeps apid s x starts.first in
-    let first : (ancillary_in x).first ≡ start.ancillary.first = ap (λ (a : Ancillary). a.first) (sym starts.ancillary_is) in
-    let end : end_in x ≡ (ancillary_in x).first + start.head.blocks = rw (k.1, starts.head_is) refl in
-    rw k.0 (omega (arith, end, first, low))
+first_reaches apid s x start n starts low = grind (arith, nat_tests)
 
 -- a head was read if a segment begins
 pub starts_with : (apid : ℕ) (s : FateState) (x : List ℕ) → is_first apid s x ≡ true → (start : SegmentStart) × Starts apid s x start

@@ -1,7 +1,8 @@
 -- The fate of a packet of the image is the classification of its fields.
-use Rattle.std.proofs.Common.{◌≡◌, ℕ, List, [], ◌∷◌, length, drop, refl, sym, ap, subst, ◌∙◌}
+use Rattle.std.proofs.Common.{◌≡◌, ℕ, List, [], ◌∷◌, length, drop, refl, sym, ap, subst, ◌∙◌, arith}
 use Rattle.std.specs.Prelude.{Bool, true, false, if◌then◌else◌, ◌==◌, Option, Some, None, Result, Ok, Err, unwrap_or}
 use Rattle.std.specs.Option.{option_map}
+use Rattle.std.proofs.lemmas.Bool.Decides.{nat_tests}
 use Rattle.base_122.specs.declared.geometry.Geometry.{Geometry}
 use Rattle.segment_defs.specs.declared.head.SegmentHead.{SegmentHead}
 use Rattle.segment_defs.specs.declared.fault.HeadFault.{HeadFault}
@@ -53,14 +54,11 @@ classified_ok None head found e = (refl, cc)
 classified_ok (Some why) head found e = absurd cc
 
 classified_not : (o : Option Fate) (head : Option SegmentHead) (why : Fate) → classified_by o head ≡ Err why → o ≡ Some why
-classified_not None head why e = absurd cc
-classified_not (Some other) head why e = cc
+classified_not o head why e = grind (arith, nat_tests)
 
 geometry_by : (standing : Option Geometry) (a : Ancillary) (b : Bool) (r : Result SegmentHead HeadFault) →
     geometry_left standing a (if b then ok_of r else None) ≡ (if b then geometry_with standing a r else standing)
-geometry_by standing a true (Ok head) = refl
-geometry_by standing a true (Err fault) = refl
-geometry_by standing a false r = refl
+geometry_by standing a b r = grind (arith, nat_tests)
 
 -- ---- a packet that is kept, with this head
 

@@ -1,7 +1,7 @@
 -- A text that continues, packet by packet.
-use Rattle.std.proofs.Common.{◌≡◌, [], ◌∷◌, refl, sym, ap, subst, ◌∙◌}
+use Rattle.std.proofs.Common.{◌≡◌, [], ◌∷◌, refl, sym, ap, subst, ◌∙◌, arith}
 use Rattle.std.specs.Prelude.{true, false, is_some, Option, None, Some, Ok, Err}
-use Rattle.std.proofs.lemmas.Bool.{false≢true}
+use Rattle.std.proofs.lemmas.Bool.Decides.{nat_tests}
 use Rattle.bit_pipe.specs.declared.fault.InFault.{InFault}
 use Rattle.bit_pipe.specs.declared.fault.InFault.TheVariants.{ReadFault, LongInput, Broken}
 use Rattle.bit_pipe.specs.Sources.{TooLong, InPieces}
@@ -17,7 +17,7 @@ use Rattle.packet_assembly.specs.Tails.{told_tail}
 use Rattle.packet_assembly.specs.Texts.{ComesSo, FailsSo, FillsText, Silent}
 use Rattle.packet_assembly.proofs.NoneReady.{Quiet, quiet_nothing, quiet_then, quiet_more}
 use Rattle.packet_assembly.proofs.KeptPackets.{none_first, some_first, stays}
-use Rattle.packet_assembly.proofs.OneStep.{NoneOn, FailsStep, one_on, end_on, fail_on}
+use Rattle.packet_assembly.proofs.OneStep.{NoneOn, FailsStep, one_on, end_on, fail_on, passes_as}
 use Rattle.packet_assembly.proofs.TailSteps.{tail_broken, tail_goes_on, tail_same, tail_ended, tail_long, comes_none, over_told, comes_then}
 
 -- packets were passed within a text, and no octet of it was given
@@ -34,8 +34,7 @@ pub filled_nothing : (p : Outside) (a : Assembling) → a.held ≡ None → Fill
 filled_nothing p a unheld = record { goes = goes_nowhere p a; quiet = quiet_nothing p a unheld; comes = comes_same p a; unheld = unheld }
 
 pub not_some : (o : Option SegmentStart) → is_some o ≡ false → o ≡ None
-not_some None e = refl
-not_some (Some start) e = absurd (false≢true (sym e))
+not_some o e = grind (arith, nat_tests)
 
 -- another segment was begun before
 pub filled_held : (p : Outside) (a : Assembling) → is_some a.held ≡ true → FillsText p p a a (Err Broken)
@@ -74,20 +73,7 @@ module _ {old mid new : Outside} {a b c : Assembling} {told : Passed} (x : Fille
   filled_other start some =
       let one = one_on {P = StaysOpen b} next (open_now b x.unheld going) in
       let p = one.passes in
-      let passes : Passes (StaysOpen b) mid new b (record c { held = Some start }) (one.packet ∷ []) = record {
-        took = p.took;
-        since = p.since;
-        octets_are = p.octets_are;
-        packets_are = p.packets_are;
-        apid = p.apid;
-        cap = p.cap;
-        taken = p.taken;
-        state = p.state;
-        count = p.count;
-        capped = p.capped;
-        comes = p.comes;
-        sees = p.sees;
-      } in
+      let passes : Passes (StaysOpen b) mid new b (record c { held = Some start }) (one.packet ∷ []) = passes_as c.text (Some start) p in
       let begins = some_first b.apid b.state one.packet start (sym (ap (λ (t : Passed). t.start) one.told_is) ∙ some) in
       let began : BeganAt b (one.packet ∷ []) start c.text = record { front = []; packet = one.packet; passed_are = refl; none_before = tt; starts = begins.starts; text_is = one.text ∙ begins.text } in
       let goes : Continues mid new b (record c { held = Some start }) = record {

@@ -1,7 +1,8 @@
 -- An octet of a text that is given.
-use Rattle.std.proofs.Common.{◌≡◌, ◌<◌, ◌+◌, ℕ, List, [], ◌∷◌, length, drop, get_or, refl, sym, ap, subst, ◌∙◌, arith, add-one, length-drop, drop-cons}
+use Rattle.std.proofs.Common.{◌≡◌, ◌<◌, ◌+◌, ℕ, List, [], ◌∷◌, length, drop, get_or, sym, ap, subst, ◌∙◌, arith, length-drop, drop-cons}
 use Rattle.std.specs.Prelude.{true, Option, None, Some, Ok}
 use Rattle.std.specs.Option.{option_map}
+use Rattle.std.proofs.lemmas.Bool.Decides.{nat_tests}
 use Rattle.bit_pipe.specs.Sources.{Tail, Comes}
 use Rattle.port_122.specs.Outside.{Outside}
 use Rattle.packet_assembly.specs.Assembling.{Assembling}
@@ -9,6 +10,7 @@ use Rattle.packet_assembly.specs.Segments.{Continues}
 use Rattle.packet_assembly.specs.Tails.{text_tail, told_tail}
 use Rattle.packet_assembly.specs.Texts.{FillsText, TakesOctet}
 use Rattle.packet_assembly.proofs.TailSteps.{unheld_tail, comes_then}
+use Rattle.packet_assembly.proofs.OneStep.{passes_as}
 
 -- one octet less waits
 abbrev with_octet : ℕ → Assembling → Assembling
@@ -23,29 +25,14 @@ tails_differ b octet (Some rest) unheld =
     (ap (λ (t : Tail). t.octets) e ∙ ap (λ (t : Tail). octet ∷ t.octets) (sym f), ap (λ (t : Tail). t.ends) e ∙ sym (ap (λ (t : Tail). t.ends) f))
 
 goes_less : {old new : Outside} {a b : Assembling} (octet : ℕ) → b.held ≡ None → Continues old new a (with_octet octet b) → Continues old new a b
-goes_less octet unheld g =
-    let p = g.passes in
-    record {
-      passed = g.passed;
-      passes = record {
-        took = p.took;
-        since = p.since;
-        octets_are = p.octets_are;
-        packets_are = p.packets_are;
-        apid = p.apid;
-        cap = p.cap;
-        taken = p.taken;
-        state = p.state;
-        count = p.count;
-        capped = p.capped;
-        comes = p.comes;
-        sees = p.sees;
-      };
-      still = g.still;
-      begins_none = g.begins_none;
-      began = λ e start h. absurd (let no : None ≡ Some start = sym unheld ∙ h in cc);
-      held_on = λ start h. absurd (let no : None ≡ Some start = sym unheld ∙ (g.held_on start h).1 in cc);
-    }
+goes_less {b = b} octet unheld g = record {
+  passed = g.passed;
+  passes = passes_as b.text b.held g.passes;
+  still = g.still;
+  begins_none = g.begins_none;
+  began = λ e start h. absurd (let no : None ≡ Some start = sym unheld ∙ h in cc);
+  held_on = λ start h. absurd (let no : None ≡ Some start = sym unheld ∙ (g.held_on start h).1 in cc);
+}
 
 pub gives_octet : {old new : Outside} {a b c : Assembling} (octet : ℕ) → FillsText old new a b (Ok true) → b ≡ with_octet octet c → octet < 256 → TakesOctet old new a c (Ok (Some octet))
 gives_octet {old = old} {new = new} {a = a} {b = b} {c = c} octet filled is small =
@@ -59,6 +46,4 @@ gives_octet {old = old} {new = new} {a = a} {b = b} {c = c} octet filled is smal
 
 -- the octet that waits first
 pub waits_first : (text : List ℕ) (next : ℕ) → 0 < length (drop next text) → drop next text ≡ get_or text next 0 ∷ drop (next + 1) text
-waits_first text next some =
-    let within : next < length text = omega (arith, some, length-drop next text) in
-    rw (add-one, drop-cons text next 0) refl
+waits_first text next some = grind (arith, nat_tests, length-drop, drop-cons)

@@ -3,6 +3,7 @@ use Rattle.std.proofs.Common.{◌≡◌, ◌⊎◌, inl, inr, ◌≤◌, ◌<◌
 use Rattle.std.specs.Prelude.{◌≢◌, Bool, true, false, ◌==◌, min, if◌then◌else◌, Option, None, Some, is_some, ℤ}
 use Rattle.std.proofs.lemmas.Grind.{fold-append}
 use Rattle.std.specs.Prelude.{max}
+use Rattle.std.proofs.lemmas.Bool.Decides.{nat_tests}
 use Rattle.base_122.specs.Sizes.{first_block, segment_blocks}
 use Rattle.base_122.specs.Ranges.{IsGeometryInRange, IsWithin, rows_range}
 use Rattle.base_122.specs.declared.geometry.Geometry.{Geometry}
@@ -63,11 +64,7 @@ module _ (apid : ℕ) (packets : List (List ℕ)) (g : Geometry) (geometry : (af
 
   -- while the height isn't reported, the kept heads don't reach the last block
   pub end_room : g.rows ≡ 0 → end_of (kept apid fresh packets) < blocks_of (placed g)
-  end_room untold =
-      let room = leaves_there.room untold in
-      let through = leaves_there.through in
-      let more : (there.l.index + 1) * g.segment ≡ there.l.index * g.segment + g.segment = grind arith in
-      omega (arith, room, through, more, blocks_open g untold)
+  end_room untold = grind (arith, nat_tests, leaves_there, there, blocks_open)
 
 module _ (apid : ℕ) (packets : List (List ℕ)) (g : Geometry) (index : ℕ) (geometry : (after_all apid fresh packets).geometry ≡ Some g)
     (last : last_index (after_all apid fresh packets).last ≡ Some index) where
@@ -108,9 +105,7 @@ through_open apid packets g received index geometry last =
 end_joined : (apid : ℕ) (before packets : List (List ℕ)) →
     end_of (kept apid fresh (before ++ packets)) ≡ end_from (end_of (kept apid fresh before)) (kept apid (after_all apid fresh before) packets)
 unfolding end_of
-end_joined apid before packets =
-    ap (end_from 0) (kept-append apid fresh before packets)
-    ∙ fold-append (λ most packet. max most (end_in packet)) 0 (kept apid fresh before) (kept apid (after_all apid fresh before) packets)
+end_joined apid before packets = grind (arith, nat_tests, end_from, kept-append, fold-append)
 
 end_rises : (n : ℕ) (packets : List (List ℕ)) → n ≤ end_from n packets
 end_rises n [] = omega arith
@@ -178,13 +173,7 @@ told_on apid s (x ∷ xs) g is =
 
 pub told_last_open : (apid : ℕ) (packets more : List (List ℕ)) (g : Geometry) → (after_all apid fresh packets).geometry ≡ Some g → g.rows ≡ 0 →
     (after_all apid (after_all apid fresh packets) more).told_last ≡ true
-told_last_open apid packets more g geometry untold =
-    told_on apid (after_all apid fresh packets) more g geometry ∙ (elim (all_left apid packets).by [
-      | inl none ↦ absurd (let no : None ≡ Some g = sym none.geometry ∙ geometry in cc)
-      | inr begun ↦
-          let leaves = leaves_at (after_all apid fresh packets) (end_of (kept apid fresh packets)) g begun.l (all_left apid packets) geometry begun.last in
-          told_if g (after_all apid fresh packets).told_last begun.l.index (end_of (kept apid fresh packets)) leaves untold
-    ])
+told_last_open apid packets more g geometry untold = grind (arith, nat_tests, told_on, all_left, leaves_at, told_if)
 
 -- ---- a segment that begins
 

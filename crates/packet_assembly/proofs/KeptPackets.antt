@@ -1,19 +1,18 @@
 -- Packets that are kept, and those that begin a segment.
-use Rattle.std.proofs.Common.{◌≡◌, ℕ, List, [], ◌∷◌, ◌++◌, drop, refl, sym, ap, ◌∙◌, arith}
-use Rattle.std.specs.Prelude.{Bool, true, false, not, ◌||◌, ◌==◌, if◌then◌else◌, Option, Some, None, Result, Ok, Err}
-use Rattle.std.proofs.lemmas.Bool.{false≢true, and_parts}
+use Rattle.std.proofs.Common.{◌≡◌, ℕ, List, [], ◌∷◌, ◌++◌, drop, refl, sym, ap, arith}
+use Rattle.std.specs.Prelude.{Bool, true, false, ◌==◌, if◌then◌else◌, Option, Some, None, Result, Ok, Err}
 use Rattle.std.proofs.lemmas.Bool.Decides.{nat_tests}
 use Rattle.base_122.specs.declared.geometry.Geometry.{Geometry}
 use Rattle.segment_defs.specs.declared.head.SegmentHead.{SegmentHead}
 use Rattle.segment_defs.specs.declared.fault.HeadFault.{HeadFault}
 use Rattle.segment_defs.specs.Reading.{head_read}
 use Rattle.packet_defs.specs.declared.ancillary.Ancillary.{Ancillary}
-use Rattle.packet_defs.specs.Reading.{flags_in, ancillary_in, text_in}
+use Rattle.packet_defs.specs.Reading.{ancillary_in, text_in}
 use Rattle.stream_defs.specs.declared.fate.Fate.TheVariants.{Kept}
 use Rattle.stream_defs.specs.declared.fate.FateState.{FateState}
 use Rattle.stream_defs.specs.declared.fate.LastPart.{LastPart}
 use Rattle.stream_defs.specs.Agreement.{head_refusal}
-use Rattle.stream_defs.specs.Fates.{fate, after, after_all, is_kept, begins, follows}
+use Rattle.stream_defs.specs.Fates.{fate, after, after_all, is_kept, follows}
 use Rattle.stream_defs.proofs.FateLaws.{after_as_kept, after_as_other}
 use Rattle.stream_defs.proofs.KeptOrder.{is_kept_so, kept_tests, or_second}
 use Rattle.packet_assembly.specs.declared.note.SegmentStart.{SegmentStart}
@@ -26,21 +25,11 @@ use Rattle.packet_assembly.specs.Notes.{head_octets, start_of, text_brought, sta
 -- whether a kept packet begins a segment
 start_by : (standing : Option Geometry) (a : Ancillary) (text : List ℕ) (b : Bool) (r : Result SegmentHead HeadFault) →
     (if b then head_refusal standing a r else None) ≡ None → start_of a (if b then ok_of r else None) ≡ None → b ≡ false
-start_by standing a text true (Ok head) good none = absurd cc
-start_by standing a text true (Err fault) good none = absurd cc
-start_by standing a text false r good none = refl
+start_by standing a text b r good none = grind (arith, nat_tests)
 
 pub none_first : (apid : ℕ) (s : FateState) (packet : List ℕ) → start_brought apid s packet ≡ None → is_first apid s packet ≡ false
 unfolding start_brought
-none_first apid s packet none = by_kept (is_kept (fate apid s packet)) refl
-  where
-    by_kept : (b : Bool) → is_kept (fate apid s packet) ≡ b → is_first apid s packet ≡ false
-    by_kept false e = rw e refl
-    by_kept true e =
-        let kept = kept_tests apid s packet (is_kept_so (fate apid s packet) e) in
-        let here : start_of (ancillary_in packet) (head_told (ancillary_in packet) (text_in packet)) ≡ None = rw e at none in
-        let part : ((ancillary_in packet).part == 0) ≡ false = start_by s.geometry (ancillary_in packet) (text_in packet) ((ancillary_in packet).part == 0) (head_read (text_in packet)) kept.head here in
-        rw e part
+none_first apid s packet none = grind (arith, nat_tests, kept_tests, is_kept_so, start_by)
 
 found_by : (a : Ancillary) (start : SegmentStart) (b : Bool) (r : Result SegmentHead HeadFault) → start_of a (if b then ok_of r else None) ≡ Some start →
     (b ≡ true) × (r ≡ Ok start.head) × (start.ancillary ≡ a) × ((if b then ok_of r else None) ≡ Some start.head)
@@ -76,26 +65,11 @@ some_first apid s packet start some = by_kept (is_kept (fate apid s packet)) ref
 -- ---- greater parts
 
 follows_index : (last : Option LastPart) (a : Ancillary) → follows last a ≡ true → Some a.index ≡ last_index last
-follows_index None a e = absurd (false≢true e)
-follows_index (Some last) a e =
-    let same : (a.index == last.index) ≡ true = (and_parts (a.index == last.index) _ e).0 in
-    ap Some (equal a.index last.index same)
-  where
-    equal : (m n : ℕ) → (m == n) ≡ true → m ≡ n
-    equal m n e = grind (arith, nat_tests)
+follows_index last a e = grind (arith, nat_tests)
 
 -- the state after a packet that begins no segment is at the same segment
 pub stays : (apid : ℕ) (s : FateState) (packet : List ℕ) → is_first apid s packet ≡ false → last_index (after apid s packet).last ≡ last_index s.last
-stays apid s packet none = by_kept (is_kept (fate apid s packet)) refl
-  where
-    by_kept : (b : Bool) → is_kept (fate apid s packet) ≡ b → last_index (after apid s packet).last ≡ last_index s.last
-    by_kept false e = ap (λ (s : FateState). last_index s.last) (after_as_other apid s packet e)
-    by_kept true e =
-        let is = is_kept_so (fate apid s packet) e in
-        let part : ((ancillary_in packet).part == 0) ≡ false = rw e at none in
-        let placed : (begins (flags_in packet) || not (follows s.last (ancillary_in packet))) ≡ false = rw part at (kept_tests apid s packet is).placed in
-        ap (λ (s : FateState). last_index s.last) (after_as_kept apid s packet is)
-        ∙ follows_index s.last (ancillary_in packet) (or_second (begins (flags_in packet)) (follows s.last (ancillary_in packet)) placed)
+stays apid s packet none = grind (arith, nat_tests, after_as_other, is_kept_so, kept_tests, after_as_kept, follows_index, or_second)
 
 pub begins_more : (apid : ℕ) (s : FateState) (packets : List (List ℕ)) (packet : List ℕ) → BeginsNone apid s packets → is_first apid (after_all apid s packets) packet ≡ false →
     BeginsNone apid s (packets ++ packet ∷ [])

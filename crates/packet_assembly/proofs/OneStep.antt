@@ -25,6 +25,7 @@ use Rattle.packet_assembly.proofs.Verdicts.{mine_read, other_read, over_read, lo
 use Rattle.packet_assembly.specs.Comings.{coming, sees_end}
 use Rattle.packet_assembly.proofs.Comings.{coming_on, coming_past, sees_on}
 use Rattle.packet_assembly.proofs.Steps.{passed}
+use Rattle.packet_assembly.specs.declared.note.SegmentStart.{SegmentStart}
 
 -- octets that can be passed still
 abbrev pub measure : Assembling → ℕ
@@ -47,6 +48,23 @@ AsksNone a took i j = (whole_packets (a.intake.pending ++ take i took) ≡ []) �
 asks_none : (a : Assembling) (took : List ℕ) (i j : ℕ) → AsksUndecided a.intake took i j → AsksNone a took i j
 asks_none a took i j r = (none_whole (a.intake.pending ++ take i took) (undecided_none (fed a.intake (take i took) false) r.0), r.1)
 
+-- packets that were passed are so whatever text the assembly has after them, and whatever segment it holds
+pub passes_as : {P : FateState → Type 0} {old new : Outside} {a b : Assembling} {passed : List (List ℕ)} (text : List ℕ) (held : Option SegmentStart) → Passes P old new a b passed → Passes P old new a (record b { text = text; held = held }) passed
+passes_as text held p = record {
+  took = p.took;
+  since = p.since;
+  octets_are = p.octets_are;
+  packets_are = p.packets_are;
+  apid = p.apid;
+  cap = p.cap;
+  taken = p.taken;
+  state = p.state;
+  count = p.count;
+  capped = p.capped;
+  comes = p.comes;
+  sees = p.sees;
+}
+
 -- ---- one packet more
 
 pub record OneOn (P : FateState → Type 0) (old new : Outside) (a b : Assembling) (told : Passed) : Type 0 where
@@ -63,7 +81,7 @@ pub record OneOn (P : FateState → Type 0) (old new : Outside) (a b : Assemblin
   pub sees : (rest : List ℕ) → new.rest ≡ Some rest → sees_end a.intake (passes.took ++ rest) ≡ sees_end b.intake rest
 
 -- if the end was reached, nothing is left
-nothing_left : (now : Outside) {saw_end : Bool} {left : List ℕ} → now.rest ≡ Some left → (saw_end ≡ true → AtEnd now) → saw_end ≡ true → left ≡ []
+pub nothing_left : (now : Outside) {saw_end : Bool} {left : List ℕ} → now.rest ≡ Some left → (saw_end ≡ true → AtEnd now) → saw_end ≡ true → left ≡ []
 nothing_left now {left = left} told seen e = used_up now.rest told (seen e)
   where
     used_up : (o : Option (List ℕ)) → o ≡ Some left → IsUsedUp o → left ≡ []

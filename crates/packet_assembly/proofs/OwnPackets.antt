@@ -1,7 +1,7 @@
 -- The fields of a packet that isn't foreign to an image.
-use Rattle.std.proofs.Common.{◌≡◌, ◌⊎◌, inl, inr, ◌≤◌, ◌<◌, ◌+◌, ℕ, refl, sym, arith}
+use Rattle.std.proofs.Common.{◌≡◌, ◌⊎◌, inl, inr, ◌≤◌, ◌<◌, ◌+◌, ℕ, refl, arith}
 use Rattle.std.specs.Prelude.{Bool, true, false, ◌==◌, ◌||◌, not, nat_le, if◌then◌else◌, Some}
-use Rattle.std.proofs.lemmas.Bool.{false≢true}
+use Rattle.std.proofs.lemmas.Bool.{eqb-true, not-false}
 use Rattle.std.proofs.lemmas.Bool.Decides.{nat_tests}
 use Rattle.std.proofs.Math.Nat.{mul-le-mul_right}
 use Rattle.base_122.specs.Sizes.{first_block}
@@ -11,29 +11,23 @@ use Rattle.packet_defs.specs.declared.ancillary.Ancillary.{Ancillary}
 use Rattle.stream_defs.specs.Agreement.{blocks_of, same_flag}
 use Rattle.stream_defs.specs.Fates.{tells_rows, differs, is_past}
 use Rattle.stream_defs.proofs.PlacedLaws.{is_not_open}
-use Rattle.packet_assembly.proofs.Agreed.{equal_so, not_true}
 use Rattle.packet_assembly.proofs.Ranges.{within_from}
 
 pub or_first : (a b : Bool) → (a || b) ≡ false → a ≡ false
-or_first true b e = absurd (false≢true (sym e))
-or_first false b e = refl
+or_first a b e = grind (arith, nat_tests)
 
 pub or_rest : (a b : Bool) → (a || b) ≡ false → b ≡ false
-or_rest true b e = absurd (false≢true (sym e))
-or_rest false b e = e
+or_rest a b e = grind (arith, nat_tests)
 
 pub tells_so : (a : Ancillary) → tells_rows a ≡ true → ((a.told_last ≡ true) × (a.rows ≡ 0)) ⊎ ((a.told_last ≡ false) × IsWithin rows_range a.rows)
 tells_so a e = by a.told_last refl e
   where
     by : (told : Bool) → a.told_last ≡ told → (if told then a.rows == 0 else is_within rows_range a.rows) ≡ true → ((a.told_last ≡ true) × (a.rows ≡ 0)) ⊎ ((a.told_last ≡ false) × IsWithin rows_range a.rows)
-    by true told e = inl (told, equal_so a.rows 0 e)
+    by true told e = inl (told, eqb-true a.rows 0 e)
     by false told e = inr (told, within_from rows_range a.rows e)
 
 same_so : (a b : Bool) → same_flag a b ≡ true → a ≡ b
-same_so true true e = refl
-same_so true false e = absurd (false≢true e)
-same_so false true e = absurd (false≢true e)
-same_so false false e = refl
+same_so a b e = grind (arith, nat_tests)
 
 -- the fields of a packet of the image with this geometry
 pub record IsOwn (g : Geometry) (told_last : Bool) (a : Ancillary) : Type 0 where
@@ -48,8 +42,8 @@ own_so g told_last a e =
     let two = or_rest (not (a.image == g.image)) _ one in
     let three = or_rest (not (a.rows == (if told_last then 0 else g.rows))) _ two in
     record {
-      told = same_so a.told_last told_last (not_true _ told);
-      segment = equal_so a.segment g.segment (not_true _ (or_first (not (a.segment == g.segment)) _ three));
+      told = same_so a.told_last told_last (not-false _ told);
+      segment = eqb-true a.segment g.segment (not-false _ (or_first (not (a.segment == g.segment)) _ three));
       inside = λ some. inside (is_not_open g.rows some) (or_rest (not (a.segment == g.segment)) _ three);
     }
   where

@@ -1,6 +1,6 @@
 -- A geometry that is known is in range.
 use Rattle.std.proofs.Common.{◌≡◌, ◌⊎◌, inl, inr, ◌≤◌, ◌+◌, ◌*◌, ◌%◌, ℕ, List, [], ◌∷◌, refl, sym, subst, arith}
-use Rattle.std.specs.Prelude.{Bool, true, false, not, ◌&&◌, ◌||◌, ◌==◌, nat_lt, if◌then◌else◌, Option, Some, None, Result, Ok, Err, IfSome}
+use Rattle.std.specs.Prelude.{Bool, true, false, not, ◌&&◌, ◌||◌, ◌==◌, nat_lt, if◌then◌else◌, Option, Some, None, Result, Ok, IfSome}
 use Rattle.std.proofs.lemmas.Bool.{false≢true, and_parts}
 use Rattle.std.proofs.lemmas.Bool.Decides.{nat_tests}
 use Rattle.base_122.specs.declared.range.FieldRange.{FieldRange}
@@ -46,8 +46,7 @@ own_sizes s a e =
     (rows_from a.told_last a.rows t.0, within_from segment_range a.segment t.1)
 
 own_by : (b c d : Bool) (o : Option HeadFault) → first_of (when b Foreign ∷ when c Late ∷ when d OutOfPlace ∷ option_map BadHead o ∷ []) ≡ None → b ≡ false
-own_by true c d o e = absurd cc
-own_by false c d o e = refl
+own_by b c d o e = grind (arith, nat_tests)
 
 -- a geometry that is made of a packet that is kept
 made_ranged : (s : FateState) (flags : ℕ) (a : Ancillary) (text : List ℕ) (head : SegmentHead) → classified s flags a text ≡ Ok (Some head) → IsHead head → a.image ≤ 65535 →
@@ -71,10 +70,7 @@ made_ranged s flags a text head e fits image =
 
 -- the third of the tests that a head passes
 third : (a b c d e f : Bool) (v w x y z u : HeadFault) → first_of (when (not a) v ∷ when (not b) w ∷ when (not c) x ∷ when (not d) y ∷ when (not e) z ∷ when (not f) u ∷ []) ≡ None → c ≡ true
-third true true true d e f v w x y z u none = refl
-third true true false d e f v w x y z u none = absurd cc
-third true false c d e f v w x y z u none = absurd cc
-third false b c d e f v w x y z u none = absurd cc
+third a b c d e f v w x y z u none = grind (arith, nat_tests)
 
 within_end : (told last : Bool) (g : Geometry) (a : Ancillary) (head : SegmentHead) → (told && last) ≡ true →
     (if told then (if last then ((a.first + head.blocks) % block_count g.width == 0) && is_within rows_range (told_height g a head) else nat_lt (a.first + g.segment) (32768 * block_count g.width)) else ends_where_told g a head) ≡ true →
@@ -92,18 +88,12 @@ agreed_height g a head none both =
     (BadValue First) (BadValue Blocks) (BadValue Last) (BadValue Count) (BadValue PadRows) (BadValue Image) none)
 
 head_by : (b c d : Bool) (o : Option HeadFault) → first_of (when b Foreign ∷ when c Late ∷ when d OutOfPlace ∷ option_map BadHead o ∷ []) ≡ None → o ≡ None
-head_by true c d o e = absurd cc
-head_by false true d o e = absurd cc
-head_by false false true o e = absurd cc
-head_by false false false (Some fault) e = absurd cc
-head_by false false false None e = refl
+head_by b c d o e = grind (arith, nat_tests)
 
 -- a head that is kept is in part 0 and agrees
 agreed : (standing : Option Geometry) (a : Ancillary) (first : Bool) (r : Result SegmentHead HeadFault) (head : SegmentHead) →
     (if first then head_refusal standing a r else None) ≡ None → (if first then ok_of r else None) ≡ Some head → disagreement (geometry_for standing a head.image) a head ≡ None
-agreed standing a true (Ok other) head none is = let same : other ≡ head = cc in subst (λ h. disagreement (geometry_for standing a h.image) a h ≡ None) same none
-agreed standing a true (Err fault) head none is = absurd cc
-agreed standing a false r head none is = absurd cc
+agreed standing a first r head none is = grind (arith, nat_tests)
 
 pub height_told : (s : FateState) (flags : ℕ) (a : Ancillary) (text : List ℕ) (head : SegmentHead) → classified s flags a text ≡ Ok (Some head) → TellsHeight s a head
 height_told s flags a text head e both =

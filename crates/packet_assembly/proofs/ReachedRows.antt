@@ -1,7 +1,7 @@
 -- Of a geometry only the height changes, and the rows that the kept heads reach don't fall.
 use Rattle.std.proofs.Common.{◌≡◌, ◌⊎◌, inl, inr, ◌≤◌, ◌<◌, ℕ, List, [], ◌∷◌, ◌++◌, refl, sym, ap, subst, ◌∙◌, arith}
 use Rattle.std.specs.Prelude.{◌≢◌, Bool, true, false, ◌==◌, None, Some}
-use Rattle.std.proofs.lemmas.Bool.{false≢true}
+use Rattle.std.proofs.lemmas.Bool.{false≢true, eqb-true}
 use Rattle.base_122.specs.Sizes.{block_count, total_blocks}
 use Rattle.base_122.specs.Ranges.{IsWithin, rows_range}
 use Rattle.base_122.specs.declared.geometry.Geometry.{Geometry}
@@ -12,7 +12,6 @@ use Rattle.stream_defs.specs.Begun.{end_of, placed, rows_reached}
 use Rattle.stream_defs.proofs.ChosenLaws.{after_all-append}
 use Rattle.stream_defs.proofs.PlacedLaws.{is_open, blocks_known, within_not, reached_known, reached_rises, reached_few}
 use Rattle.packet_assembly.specs.Assembling.{is_first}
-use Rattle.packet_assembly.proofs.Agreed.{equal_so}
 use Rattle.packet_assembly.proofs.Begun.{Leaves, HasBegun, IsLeft, first_leaves}
 use Rattle.packet_assembly.proofs.Ends.{end_from, starts_with, one_left, all_left}
 use Rattle.packet_assembly.proofs.Images.{leaves_at, geometry_none, geometry_known, end_more}
@@ -58,7 +57,7 @@ reached_by g h m n sized some le few height stays = by (g.rows == 0) refl
         omega (arith, low, reached_known h n known)
 
     by : (b : Bool) → (g.rows == 0) ≡ b → rows_reached g m ≤ rows_reached h n
-    by true e = reported (equal_so g.rows 0 e) height
+    by true e = reported (eqb-true g.rows 0 e) height
     by false e =
         let same : h ≡ g = stays (λ none. false≢true (sym e ∙ is_open g.rows none)) in
         subst (λ (k : Geometry). rows_reached g m ≤ rows_reached k n) (sym same) (reached_rises g m n some le)

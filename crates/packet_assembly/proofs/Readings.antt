@@ -1,7 +1,7 @@
 -- How a stream is read on, and to its end.
 use Rattle.std.proofs.Common.{◌≡◌, ◌≤◌, ◌<◌, ◌-◌, ℕ, List, [], ◌∷◌, ◌++◌, length, take, refl, sym, ap, ◌∙◌, inl, inr, arith, append_assoc, length-append}
 use Rattle.std.specs.Prelude.{Bool, true, false, nat_lt, ◌==◌, Option, None, Some, Result, Ok, Err}
-use Rattle.std.proofs.lemmas.Bool.{false≢true}
+use Rattle.std.proofs.lemmas.Bool.{ltb-true}
 use Rattle.std.proofs.lemmas.Bool.Decides.{nat_tests}
 use Rattle.std.proofs.lemmas.List.{append-nil, take_all}
 use Rattle.bit_pipe.specs.declared.fault.InFault.{InFault}
@@ -66,9 +66,6 @@ all_nothing (x ∷ took) rest e = absurd (let long = ap length e in omega (arith
 pub end_on : {P : FateState → Type 0} {old new : Outside} {a b : Assembling} {went : List (List ℕ)} → (q : Passes P old new a b went) → SawEnd old a → SawEnd new b
 end_on {old = old} {new = new} {a = a} {b = b} {went = went} q before rest told ended = by a.intake.ended refl
   where
-    less : (m k : ℕ) → nat_lt m k ≡ true → m < k
-    less m k e = grind (arith, nat_tests)
-
     by : (c : Bool) → a.intake.ended ≡ c → (rest ≡ []) × (b.intake.taken < b.intake.cap)
     by true e =
         let early = before (q.took ++ rest) (before_loses old.rest new.rest q.took rest q.since.rest told) e in
@@ -77,7 +74,7 @@ end_on {old = old} {new = new} {a = a} {b = b} {went = went} q before rest told 
     by false e =
         let n : ℕ = a.intake.cap - a.intake.taken in
         let sees : nat_lt (length (q.took ++ rest)) n ≡ true = rw (e, ended) at (q.sees rest told) in
-        let fewer : length (q.took ++ rest) < n = less (length (q.took ++ rest)) n sees in
+        let fewer : length (q.took ++ rest) < n = ltb-true (length (q.took ++ rest)) n sees in
         let comes : a.intake.pending ++ take n (q.took ++ rest) ≡ joined went ++ (b.intake.pending ++ []) = rw (e, ended) at (q.comes rest told) in
         let all : take n (q.took ++ rest) ≡ q.took ++ rest = take_all n (q.took ++ rest) (omega (arith, fewer)) in
         let long = ap length comes in
@@ -97,18 +94,14 @@ out_later cap now new took since (inr over) = inr (at_end_later since over.0, λ
 -- ---- the packets of the octets that were taken
 
 end_is_over : (o : Option Framing) → is_over (end_read o) ≡ true
-end_is_over None = refl
-end_is_over (Some fault) = refl
+end_is_over o = grind (arith, nat_tests)
 
 -- what is returned at the end
 abbrev end_answer : Option Framing → Option (Result PacketRead InFault)
 end_answer found = Some (Ok (end_read found))
 
 same_end : (a b : Option Framing) → end_answer a ≡ end_answer b → a ≡ b
-same_end None None e = refl
-same_end (Some x) (Some y) e = cc
-same_end None (Some y) e = absurd cc
-same_end (Some x) None e = absurd cc
+same_end a b e = grind (arith, nat_tests)
 
 abbrev answer_by : (bad begins ended full : Bool) (place : ℕ) (left : List ℕ) (read : PacketRead) → Option (Result PacketRead InFault)
 answer_by bad begins ended full place left read =
@@ -117,11 +110,7 @@ answer_by bad begins ended full place left read =
 -- why it ended
 by_tests : (bad begins ended full : Bool) (place : ℕ) (left : List ℕ) (read : PacketRead) (found : Option Framing) → has_bad_version left ≡ bad → begins ≡ false → answer_by bad begins ended full place left read ≡ end_answer found → found ≡ framing_at place left
 unfolding framing_at
-by_tests true begins ended full place left read found bad none e = sym (same_end (Some (BadVersion place)) found e) ∙ rw bad refl
-by_tests false true ended full place left read found bad none e = absurd (false≢true (sym none))
-by_tests false false true full place left read found bad none e = sym (same_end (framing_at place left) found e)
-by_tests false false false true place left read found bad none e = absurd cc
-by_tests false false false false place left read found bad none e = absurd cc
+by_tests bad begins ended full place left read found h8 none e = grind (arith, nat_tests)
 
 module _ {apid cap : ℕ} {b : Assembling} {took : List ℕ} {passed : List (List ℕ)} (read : HasRead apid cap b took passed) where
   -- if no whole packet waits

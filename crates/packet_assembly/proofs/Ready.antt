@@ -6,11 +6,12 @@ use Rattle.std.specs.Option.{option_map}
 use Rattle.bit_pipe.specs.Sources.{Comes}
 use Rattle.port_122.specs.Outside.{Outside}
 use Rattle.packet_assembly.specs.declared.note.SegmentStart.{SegmentStart}
-use Rattle.packet_assembly.specs.Assembling.{Assembling, Passes, StaysOpen}
+use Rattle.packet_assembly.specs.Assembling.{Assembling}
 use Rattle.packet_assembly.specs.Segments.{Continues}
 use Rattle.packet_assembly.specs.Tails.{text_tail, tail_after}
 use Rattle.packet_assembly.specs.TextSource.{text_ready}
 use Rattle.packet_assembly.specs.Passing.{passes_none}
+use Rattle.packet_assembly.proofs.OneStep.{passes_as}
 
 -- the assembly without them
 abbrev pub past : Assembling → ℕ → Assembling
@@ -35,26 +36,11 @@ module _ (a : Assembling) (count : ℕ) (le : count ≤ length (text_ready a)) w
       by (Some start) e = rw (e, none_where_held start e) (refl, refl)
 
   pub goes_past : (now : Outside) → Continues now now a (past a count)
-  goes_past now =
-      let p : Passes (StaysOpen a) now now a a [] = passes_none now a in
-      record {
-        passed = [];
-        passes = record {
-          took = p.took;
-          since = p.since;
-          octets_are = p.octets_are;
-          packets_are = p.packets_are;
-          apid = p.apid;
-          cap = p.cap;
-          taken = p.taken;
-          state = p.state;
-          count = p.count;
-          capped = p.capped;
-          comes = p.comes;
-          sees = p.sees;
-        };
-        still = λ e. (e, refl);
-        begins_none = λ e. tt;
-        began = λ e start h. absurd (let no : None ≡ Some start = sym e ∙ h in cc);
-        held_on = λ start h. (refl, h, ap (λ n. drop n a.text) (none_where_held start h));
-      }
+  goes_past now = record {
+    passed = [];
+    passes = passes_as (drop count a.text) a.held (passes_none now a);
+    still = λ e. (e, refl);
+    begins_none = λ e. tt;
+    began = λ e start h. absurd (let no : None ≡ Some start = sym e ∙ h in cc);
+    held_on = λ start h. (refl, h, ap (λ n. drop n a.text) (none_where_held start h));
+  }

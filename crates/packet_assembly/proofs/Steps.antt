@@ -1,6 +1,6 @@
 -- One packet, or none, by a reader and by the classification of its fields.
-use Rattle.std.proofs.Common.{◌≡◌, ◌≤◌, ◌<◌, ◌+◌, ◌-◌, ℕ, List, [], ◌∷◌, length, drop, refl, sym, ap, subst, ◌∙◌, arith, length-append, length-drop}
-use Rattle.std.specs.Prelude.{Bool, true, false, nat_lt, Option, Some, None, Result, Ok, Err}
+use Rattle.std.proofs.Common.{◌≡◌, ◌≤◌, ◌<◌, ◌+◌, ◌-◌, ℕ, List, [], length, drop, refl, sym, ap, subst, ◌∙◌, arith, length-append, length-drop}
+use Rattle.std.specs.Prelude.{Bool, true, false, Option, Some, None, Result, Ok, Err}
 use Rattle.std.proofs.lemmas.Bool.Decides.{nat_tests}
 use Rattle.bit_pipe.specs.declared.fault.InFault.{InFault}
 use Rattle.bit_pipe.specs.declared.fault.InFault.TheVariants.{ReadFault, LongInput, Broken}
@@ -12,8 +12,6 @@ use Rattle.packet_defs.specs.declared.packet.PacketRead.{PacketRead}
 use Rattle.packet_defs.specs.declared.packet.PacketRead.TheVariants.{Mine, Skipped, Ended, Fault}
 use Rattle.packet_defs.specs.declared.packet.Framing.{Framing}
 use Rattle.packet_defs.specs.declared.packet.Skip.{Skip}
-use Rattle.packet_defs.specs.declared.packet.Skip.TheVariants.{Idle, NotTelemetry, OtherApid, NoSecondary, ShortAncillary, OtherMark}
-use Rattle.packet_defs.specs.Tests.{when, first_of}
 use Rattle.packet_defs.specs.Reading.{skip_of, field_length, flags_in, head_in, ancillary_in, text_in}
 use Rattle.packet_defs.specs.Streams.{told_length, begins_packet, first_packet}
 use Rattle.packet_defs.proofs.Fronts.{begins_so, first_is_packet}
@@ -68,9 +66,7 @@ module _ (a : Assembling) (w : Intake) (packet : List ℕ) (mine : skip_of a.api
       same_assembling refl refl (sym k.after_is) refl (sym k.text_is) refl refl
 
   after_mine_is : after_mine (read_into a w) (head_in packet) (ancillary_in packet) ≡ past a packet w
-  after_mine_is =
-      ap (λ text. after_by (read_into a w) (head_in packet) (ancillary_in packet) (classified a.state (flags_in packet) (ancillary_in packet) text)) text_is
-      ∙ after_by_is classification refl
+  after_mine_is = grind (arith, nat_tests, after_by_is)
 
   told_by_is : (j : Result (Option SegmentHead) Fate) → (head_in packet).length - 24 ≡ length (text_in packet) → classification ≡ j → told_by (read_into a w) (head_in packet) (ancillary_in packet) j ≡ passed a packet
   told_by_is (Ok found) long e =
@@ -81,9 +77,7 @@ module _ (a : Assembling) (w : Intake) (packet : List ℕ) (mine : skip_of a.api
       same_passed (note_is a packet why long ∙ sym (x.0.note a.packets packet) ∙ ap (λ f. note_of a.packets f packet) (sym x.1.fate_is)) (sym x.1.start_is)
 
   told_mine_is : (head_in packet).length - 24 ≡ length (text_in packet) → told_mine (read_into a w) (head_in packet) (ancillary_in packet) ≡ passed a packet
-  told_mine_is long =
-      ap (λ text. told_by (read_into a w) (head_in packet) (ancillary_in packet) (classified a.state (flags_in packet) (ancillary_in packet) text)) text_is
-      ∙ told_by_is classification long refl
+  told_mine_is long = grind (arith, nat_tests, told_by_is)
 
 -- octets of the text of a packet that waits
 long_text : (apid : ℕ) (u : Intake) → begins_packet u.pending ≡ true → (head_in (first_packet u.pending)).length - 24 ≡ length (text_in (first_packet u.pending))
@@ -102,15 +96,7 @@ counted_packet apid v w took saw_end packets counted whole e =
 
 long_field : (apid : ℕ) (packet : List ℕ) → skip_of apid packet ≡ None → 24 ≤ field_length packet
 unfolding skip_of
-long_field apid packet mine = by_tests _ _ _ _ (nat_lt (field_length packet) 24) _ refl mine
-  where
-    by_tests : (a b c d t f : Bool) → nat_lt (field_length packet) 24 ≡ t → first_of (when a Idle ∷ when b NotTelemetry ∷ when c OtherApid ∷ when d NoSecondary ∷ when t ShortAncillary ∷ when f OtherMark ∷ []) ≡ None → 24 ≤ field_length packet
-    by_tests true b c d t f is e = absurd cc
-    by_tests false true c d t f is e = absurd cc
-    by_tests false false true d t f is e = absurd cc
-    by_tests false false false true t f is e = absurd cc
-    by_tests false false false false true f is e = absurd cc
-    by_tests false false false false false f is e = grind (arith, nat_tests)
+long_field apid packet mine = grind (arith, nat_tests)
 
 -- a packet of the image was read
 pub mine_passes : {old new : Outside} {a v b : Assembling} {w : Intake} {head : PacketHead} {tells : Ancillary} {told : Passed} →
@@ -201,7 +187,4 @@ counted_other packets {apid = apid} {p = p} {q = q} {v = v} {w = w} {skip = skip
 
 -- the data field of a packet of the image has its ancillary data
 pub mine_field : {apid : ℕ} {p q : Outside} {v w : Intake} {head : PacketHead} {tells : Ancillary} → ReadsPacket apid p q v w (Ok (Mine head tells)) → 24 ≤ head.length
-mine_field {apid = apid} {v = v} {head = head} {tells = tells} reads =
-    let u = fed v reads.took reads.saw_end in
-    let m = mine_read apid u head tells reads.ends.0 in
-    subst (λ h. 24 ≤ h.length) (sym m.head_is) (long_field apid (first_packet u.pending) m.mine)
+mine_field {apid = apid} {v = v} {head = head} {tells = tells} reads = grind (arith, nat_tests, mine_read, long_field)

@@ -4,6 +4,7 @@ use Rattle.std.specs.Prelude.{Bool, true, false, ◌==◌, if◌then◌else◌, 
 use Rattle.std.specs.List.{range_with_len}
 use Rattle.std.proofs.lemmas.Bool.{false≢true}
 use Rattle.std.proofs.lemmas.Bool.Decides.{nat_tests}
+use Rattle.std.proofs.lemmas.Option.{same_Some}
 use Rattle.bit_pipe.specs.Sources.{End, Plainly, InPieces, Tail}
 use Rattle.packet_defs.specs.Reading.{flags_in, text_in}
 use Rattle.stream_defs.specs.declared.fate.FateState.{FateState}
@@ -16,6 +17,7 @@ use Rattle.packet_assembly.specs.Assembling.{is_first, is_closed, last_index, Be
 use Rattle.packet_assembly.specs.Tails.{in_front, nothing, kept_tail, tail_over}
 use Rattle.packet_assembly.proofs.TailSteps.{over_none}
 use Rattle.packet_assembly.specs.Wholes.{parts_in, tail_past, TellsParts}
+use Rattle.packet_assembly.proofs.Ends.{kept_nothing}
 
 -- ---- packets that end with a closing one
 
@@ -58,7 +60,7 @@ brings_nothing : (first : ℕ) (ends : End) → (ends ≡ Plainly → ⊥) → B
 unfolding text_of_parts
 brings_nothing first ends other = record { numbers = refl; octets = refl; closed = λ e. absurd (other e); plain = λ c. absurd (none_closed c) }
 
-in_pieces : InPieces ≡ Plainly → ⊥
+pub in_pieces : InPieces ≡ Plainly → ⊥
 in_pieces e = cc
 
 brings_last : (x : List ℕ) (first : ℕ) → number_of_part x ≡ first → closes (flags_in x) ≡ true → Brings first (x ∷ []) (in_front (text_in x) (nothing Plainly))
@@ -81,24 +83,20 @@ brings_more x first parts later number unclosed b = record {
 }
 
 -- the tail at a packet
-over_lost : (apid : ℕ) (s : FateState) (x : List ℕ) (xs : List (List ℕ)) (stop : End) → is_kept (fate apid s x) ≡ false →
+pub over_lost : (apid : ℕ) (s : FateState) (x : List ℕ) (xs : List (List ℕ)) (stop : End) → is_kept (fate apid s x) ≡ false →
     tail_over apid s (x ∷ xs) stop ≡ tail_over apid (after apid s x) xs stop
 unfolding tail_over
 over_lost apid s x xs stop e = rw e refl
 
-over_kept : (apid : ℕ) (s : FateState) (x : List ℕ) (xs : List (List ℕ)) (stop : End) → is_kept (fate apid s x) ≡ true →
+pub over_kept : (apid : ℕ) (s : FateState) (x : List ℕ) (xs : List (List ℕ)) (stop : End) → is_kept (fate apid s x) ≡ true →
     tail_over apid s (x ∷ xs) stop ≡ kept_tail x (tail_over apid (after apid s x) xs stop)
 unfolding tail_over
 over_kept apid s x xs stop e = rw e refl
 
-kept_none : (apid : ℕ) (s : FateState) → kept apid s [] ≡ []
-unfolding kept
-kept_none apid s = refl
-
 zero_test : (n : ℕ) → n ≡ 0 → (n == 0) ≡ true
 zero_test n e = grind (arith, nat_tests)
 
-more_test : (n m : ℕ) → n ≡ m + 1 → (n == 0) ≡ false
+pub more_test : (n m : ℕ) → n ≡ m + 1 → (n == 0) ≡ false
 more_test n m e = grind (arith, nat_tests)
 
 -- the state is at an open text of this segment
@@ -109,13 +107,10 @@ pub record IsAt (index part : ℕ) (s : FateState) : Type 0 where
   pub part_is : last.part ≡ part
   pub unclosed : last.closed ≡ false
 
-some_same : {a b : LastPart} → Some a ≡ Some b → a ≡ b
-some_same e = cc
-
 brings : (index apid : ℕ) (stop : End) → (stop ≡ Plainly → ⊥) → (packets : List (List ℕ)) (part : ℕ) (s : FateState) → IsAt index part s →
     Brings (part + 1) (packets_at index (kept apid s packets)) (tail_over apid s packets stop)
 brings index apid stop other [] part s at =
-    subst (λ parts. Brings (part + 1) parts (tail_over apid s [] stop)) (sym (ap (packets_at index) (kept_none apid s) ∙ at_none index))
+    subst (λ parts. Brings (part + 1) parts (tail_over apid s [] stop)) (sym (ap (packets_at index) (kept_nothing apid s) ∙ at_none index))
     (subst (Brings (part + 1) []) (sym (over_none apid s stop)) (brings_nothing (part + 1) stop other))
 brings index apid stop other (x ∷ xs) part s at = elim (does apid s x) [
   | inl lost ↦
@@ -132,7 +127,7 @@ brings index apid stop other (x ∷ xs) part s at = elim (does apid s x) [
         subst (λ parts. Brings (part + 1) parts (tail_over apid s (x ∷ xs) stop)) (sym none)
         (subst (Brings (part + 1) []) (sym ends) (brings_nothing (part + 1) InPieces in_pieces))
     | inr next ↦
-        let same : next.before ≡ at.last = some_same (sym next.before_is ∙ at.last_is) in
+        let same : next.before ≡ at.last = same_Some _ _ (sym next.before_is ∙ at.last_is) in
         let index_is : index_in x ≡ index = next.index ∙ ap (λ (l : LastPart). l.index) same ∙ at.index_is in
         let part_is : number_of_part x ≡ part + 1 = next.part ∙ ap (λ (l : LastPart). l.part + 1) same ∙ ap (λ n. n + 1) at.part_is in
         let parts : packets_at index (kept apid s (x ∷ xs)) ≡ x ∷ packets_at index (kept apid (after apid s x) xs) =
@@ -163,11 +158,7 @@ first_is : (apid : ℕ) (s : FateState) (x : List ℕ) → is_kept (fate apid s 
 first_is apid s x keeps part = rw keeps (zero_test (number_of_part x) part)
 
 first_kept : (apid : ℕ) (s : FateState) (x : List ℕ) → is_first apid s x ≡ true → is_kept (fate apid s x) ≡ true
-first_kept apid s x e = by (is_kept (fate apid s x)) refl
-  where
-    by : (b : Bool) → is_kept (fate apid s x) ≡ b → is_kept (fate apid s x) ≡ true
-    by true is = is
-    by false is = absurd (let no : false ≡ true = rw is at e in false≢true no)
+first_kept apid s x e = grind (arith, nat_tests)
 
 first_part : (apid : ℕ) (s : FateState) (x : List ℕ) → is_first apid s x ≡ true → (number_of_part x == 0) ≡ true
 first_part apid s x e = rw (first_kept apid s x e) at e
@@ -190,12 +181,7 @@ module _ (apid : ℕ) (before : List (List ℕ)) (packet : List ℕ) (later : Li
 
   module _ (begins_it : Begins apid state packet) where
     parts_are : parts ≡ packet ∷ more
-    parts_are =
-        ap (packets_at index) (kept-append apid fresh before (packet ∷ later))
-        ∙ at_both index (kept apid fresh before) (kept apid state (packet ∷ later))
-        ∙ ap (λ xs. xs ++ packets_at index (kept apid state (packet ∷ later))) (before_none index apid fresh before begins_it.later)
-        ∙ ap (packets_at index) (begins_it.kept_are later)
-        ∙ at_same index packet (kept apid (after apid state packet) later) refl
+    parts_are = grind (arith, nat_tests, kept-append, at_both, before_none, at_same)
 
     closed_is : is_closed (after apid state packet).last ≡ closes (flags_in packet)
     closed_is = ap is_closed begins_it.last

@@ -1,20 +1,19 @@
 -- The rest of a text, before a packet and after it.
-use Rattle.std.proofs.Common.{◌≡◌, ℕ, List, [], ◌∷◌, ◌++◌, refl, sym, ap, ◌∙◌, inl, inr, append_assoc}
-use Rattle.std.specs.Prelude.{Bool, true, false, ◌||◌, ◌==◌, ◌⊎◌, if◌then◌else◌, Option, None, Some, Ok}
+use Rattle.std.proofs.Common.{◌≡◌, ℕ, List, [], ◌∷◌, ◌++◌, refl, sym, ap, ◌∙◌, append_assoc, arith}
+use Rattle.std.specs.Prelude.{Bool, true, false, ◌==◌, if◌then◌else◌, Option, None, Some}
 use Rattle.std.specs.Option.{option_map}
 use Rattle.std.proofs.lemmas.List.{append-nil}
+use Rattle.std.proofs.lemmas.Bool.Decides.{nat_tests}
 use Rattle.bit_pipe.specs.Sources.{End, Plainly, TooLong, InPieces, Tail, Comes, IsOver}
 use Rattle.port_122.specs.Outside.{Outside, Loses}
 use Rattle.packet_defs.specs.Packets.{joined}
 use Rattle.packet_defs.specs.Reading.{ancillary_in, flags_in, text_in}
-use Rattle.packet_defs.specs.Streams.{has_bad_version, begins_packet, whole_packets, left_over}
-use Rattle.packet_defs.specs.declared.packet.PacketRead.TheVariants.{Ended, Fault}
-use Rattle.packet_defs.specs.declared.packet.Framing.{Framing}
+use Rattle.packet_defs.specs.Streams.{whole_packets, left_over}
 use Rattle.stream_defs.specs.declared.fate.FateState.{FateState}
 use Rattle.stream_defs.specs.Fates.{fate, after, is_kept, closes}
 use Rattle.stream_defs.proofs.FateLaws.{after_as_kept, after_as_other}
 use Rattle.stream_defs.proofs.KeptOrder.{is_kept_so}
-use Rattle.space_packets.specs.Intake.{Intake, verdict, end_read}
+use Rattle.space_packets.specs.Intake.{Intake}
 use Rattle.packet_assembly.specs.declared.note.Passed.{Passed}
 use Rattle.packet_assembly.specs.declared.note.SegmentStart.{SegmentStart}
 use Rattle.packet_assembly.specs.Assembling.{Assembling, is_closed, is_first}
@@ -48,9 +47,7 @@ unfolding tail_over
 over_none apid s stop = refl
 
 stop_same : (v w : Intake) (before rest : List ℕ) → left_over (coming v before) ≡ left_over (coming w rest) → sees_end v before ≡ sees_end w rest → stop_of v before ≡ stop_of w rest
-stop_same v w before rest left sees =
-    ap (λ zs. if has_bad_version zs || sees_end v before then InPieces else TooLong) left
-    ∙ ap (λ (b : Bool). if has_bad_version (left_over (coming w rest)) || b then InPieces else TooLong) sees
+stop_same v w before rest left sees = grind (arith, nat_tests)
 
 no_text : (apid : ℕ) (s : FateState) (packet : List ℕ) → is_kept (fate apid s packet) ≡ false → text_brought apid s packet ≡ []
 unfolding text_brought
@@ -61,8 +58,7 @@ unfolding text_brought
 text_greater apid s packet e part = rw (e, part) refl
 
 into : (c : Bool) (text : List ℕ) (later : Tail) → (if c then in_front text (nothing Plainly) else in_front text later) ≡ in_front text (if c then nothing Plainly else later)
-into true text later = refl
-into false text later = refl
+into c text later = grind (arith, nat_tests)
 
 -- ---- a packet more
 
@@ -84,17 +80,10 @@ module _ {P : FateState → Type 0} {old new : Outside} {a b : Assembling} {told
   stops = stop_same a.intake b.intake before rest (ap left_over split ∙ left_after (one.packet ∷ []) (coming b.intake rest) (one.is_packet, tt)) (one.sees rest is)
 
   later_is : tail_over a.apid (after a.apid a.state one.packet) (whole_packets (coming b.intake rest)) (stop_of b.intake rest) ≡ later
-  later_is =
-      ap (λ s. tail_over a.apid s (whole_packets (coming b.intake rest)) (stop_of b.intake rest)) (sym one.state)
-      ∙ ap (λ n. tail_over n b.state (whole_packets (coming b.intake rest)) (stop_of b.intake rest)) (sym one.passes.apid)
+  later_is = grind (arith, nat_tests)
 
   tail_is : text_tail a before ≡ (if is_kept (fate a.apid a.state one.packet) then kept_tail one.packet later else later)
-  tail_is =
-      open_tail a before unheld empty going
-      ∙ ap (λ ps. tail_over a.apid a.state ps (stop_of a.intake before)) wholes
-      ∙ ap (tail_over a.apid a.state (one.packet ∷ whole_packets (coming b.intake rest))) stops
-      ∙ over_one a.apid a.state one.packet (whole_packets (coming b.intake rest)) (stop_of b.intake rest)
-      ∙ ap (λ t. if is_kept (fate a.apid a.state one.packet) then kept_tail one.packet t else t) later_is
+  tail_is = grind (arith, nat_tests, open_tail, wholes, stops, over_one, later_is)
 
   -- another segment was begun
   pub tail_broken : (start : SegmentStart) → told.start ≡ Some start → text_tail a before ≡ nothing InPieces
@@ -133,34 +122,13 @@ module _ {P : FateState → Type 0} {old new : Outside} {a b : Assembling} {told
 
 pub tail_same : {P : FateState → Type 0} {old new : Outside} {a b : Assembling} → (x : NoneOn P old new a b) → (rest : List ℕ) → new.rest ≡ Some rest →
     a.held ≡ None → a.text ≡ [] → is_closed a.state.last ≡ false → text_tail a (x.passes.took ++ rest) ≡ text_tail b rest
-tail_same {a = a} {b = b} x rest is unheld empty going =
-    let before = x.passes.took ++ rest in
-    let stops : stop_of a.intake before ≡ stop_of b.intake rest = stop_same a.intake b.intake before rest (ap left_over (x.comes rest is)) (x.sees rest is) in
-    open_tail a before unheld empty going
-    ∙ ap (λ zs. tail_over a.apid a.state (whole_packets zs) (stop_of a.intake before)) (x.comes rest is)
-    ∙ ap (tail_over a.apid a.state (whole_packets (coming b.intake rest))) stops
-    ∙ ap (λ s. tail_over a.apid s (whole_packets (coming b.intake rest)) (stop_of b.intake rest)) (sym x.state)
-    ∙ ap (λ n. tail_over n b.state (whole_packets (coming b.intake rest)) (stop_of b.intake rest)) (sym x.passes.apid)
-    ∙ sym (open_tail b rest (x.held ∙ unheld) x.text (ap (λ s. is_closed s.last) x.state ∙ going))
+tail_same {a = a} {b = b} x rest is unheld empty going = grind (arith, nat_tests)
 
 stopped : (b : Assembling) (rest : List ℕ) (stop : End) → b.held ≡ None → b.text ≡ [] → is_closed b.state.last ≡ false → StopsSo b.intake rest stop → text_tail b rest ≡ nothing stop
-stopped b rest stop unheld empty going s =
-    open_tail b rest unheld empty going ∙ ap (λ ps. tail_over b.apid b.state ps (stop_of b.intake rest)) s.none
-    ∙ over_none b.apid b.state (stop_of b.intake rest) ∙ ap nothing s.stops
+stopped b rest stop unheld empty going s = grind (arith, nat_tests, open_tail, over_none)
 
 pub tail_ended : (b : Assembling) (rest : List ℕ) → b.held ≡ None → b.text ≡ [] → is_closed b.state.last ≡ false → StandsEnded b → text_tail b rest ≡ nothing InPieces
-tail_ended b rest unheld empty going ended = by_framing b.framing ended
-  where
-    by_end : (begins_packet b.intake.pending ≡ false) × ((has_bad_version b.intake.pending ≡ true) ⊎ (b.intake.ended ≡ true)) → text_tail b rest ≡ nothing InPieces
-    by_end x = stopped b rest InPieces unheld empty going (either x.0 x.1)
-      where
-        either : begins_packet b.intake.pending ≡ false → (has_bad_version b.intake.pending ≡ true) ⊎ (b.intake.ended ≡ true) → StopsSo b.intake rest InPieces
-        either none (inl bad) = bad_stops b.intake rest bad
-        either none (inr over) = ended_stops b.intake rest none over
-
-    by_framing : (f : Option Framing) → verdict b.apid b.intake ≡ Some (Ok (end_read f)) → text_tail b rest ≡ nothing InPieces
-    by_framing None e = by_end (over_read b.apid b.intake Ended refl e)
-    by_framing (Some fault) e = by_end (over_read b.apid b.intake (Fault fault) refl e)
+tail_ended b rest unheld empty going ended = grind (arith, nat_tests, stopped, bad_stops, ended_stops, over_read)
 
 pub tail_long : (b : Assembling) (rest : List ℕ) → b.held ≡ None → b.text ≡ [] → is_closed b.state.last ≡ false → StandsLong b → text_tail b rest ≡ nothing TooLong
 tail_long b rest unheld empty going long = stopped b rest TooLong unheld empty going (long_stops b.intake rest (long_read b.apid b.intake _ long))

@@ -94,12 +94,10 @@ as_mine None packet head tells e = (refl, cc, cc)
 as_mine (Some skip) packet head tells e = absurd cc
 
 as_skipped : (o : Option Skip) (packet : List ℕ) (skip : Skip) → read_as o packet ≡ Skipped skip → o ≡ Some skip
-as_skipped None packet skip e = absurd cc
-as_skipped (Some other) packet skip e = cc
+as_skipped o packet skip e = grind (arith, nat_tests)
 
 as_none : (o : Option Skip) (packet : List ℕ) → is_over (read_as o packet) ≡ false
-as_none None packet = refl
-as_none (Some skip) packet = refl
+as_none o packet = grind (arith, nat_tests)
 
 pub mine_read : (apid : ℕ) (u : Intake) (head : PacketHead) (tells : Ancillary) → verdict apid u ≡ Some (Ok (Mine head tells)) → MineAt apid u head tells
 unfolding verdict packet_read

@@ -1,24 +1,21 @@
 -- How a list ends.
-use Rattle.std.proofs.Common.{◌≡◌, ◌≤◌, ◌+◌, ℕ, List, [], ◌++◌, length, take, sym, ap, subst, ◌∙◌, inl, inr, arith, length-append}
+use Rattle.std.proofs.Common.{◌≡◌, ◌≤◌, ◌+◌, ℕ, List, [], ◌++◌, length, take, sym, ap, subst, ◌∙◌, arith, length-append}
 use Rattle.std.specs.Prelude.{◌⊎◌, true, false, Option, None, Some, Result, Ok, Err}
 use Rattle.std.proofs.lemmas.Bool.{false≢true}
 use Rattle.std.proofs.lemmas.List.{append-nil, take-append-le}
 use Rattle.std.proofs.Math.Seq.{take-append-add}
+use Rattle.std.proofs.lemmas.Bool.Decides.{nat_tests}
 use Rattle.base_122.specs.declared.wish.DecodeWish.{DecodeWish}
 use Rattle.bit_pipe.specs.declared.fault.InFault.{InFault}
 use Rattle.bit_pipe.specs.declared.fault.InFault.TheVariants as in_faults
 use Rattle.port_122.specs.Outside.{Outside}
 use Rattle.port_122.proofs.Stretches.{rose_since}
 use Rattle.packet_defs.specs.declared.packet.Framing.{Framing}
-use Rattle.packet_defs.specs.declared.packet.PacketRead.{PacketRead}
-use Rattle.packet_defs.specs.declared.packet.PacketRead.TheVariants.{Mine, Skipped, Ended, Fault}
 use Rattle.packet_defs.specs.Streams.{begins_packet, whole_packets}
-use Rattle.space_packets.specs.Intake.{Intake, fed}
-use Rattle.space_packets.specs.PacketReads.{ReadsPacket}
 use Rattle.space_packets.proofs.StreamReads.{undecided_none}
 use Rattle.packet_assembly.specs.declared.note.Passed.{Passed}
 use Rattle.packet_assembly.specs.Assembling.{Assembling}
-use Rattle.packet_assembly.specs.Notes.{note_in, passed_for, PassesNext, ReadsNote}
+use Rattle.packet_assembly.specs.Notes.{note_in, PassesNext, ReadsNote}
 use Rattle.packet_assembly.specs.Passing.{whole_after}
 use Rattle.packet_assembly.proofs.OneStep.{NoneOn, EndOn}
 use Rattle.packet_assembly.proofs.OneStep.{end_on as step_end_on}
@@ -54,10 +51,7 @@ stays_listed {wish = wish} {b = b} come due none =
 -- If no whole packet waits afterwards, none did before, so all lines were given.
 all_given : {wish : DecodeWish} {start now new : Outside} {a b : Assembling} {packets : ℕ} {waiting : List ℕ} (come : HasListed wish start new b packets waiting) →
     (waiting ≡ []) ⊎ (begins_packet a.intake.pending ≡ true) → NoneOn Anywhere now new a b → begins_packet b.intake.pending ≡ false → come.gave ≡ lines_of wish.apid come.passed
-all_given {a = a} {b = b} come due none over = elim due [
-  | inl nothing ↦ sym (append-nil come.gave) ∙ ap (λ zs. come.gave ++ zs) (sym nothing) ∙ come.lines_are
-  | inr there ↦ absurd (false≢true (sym over ∙ ap begins_packet (sym none.passes.octets_are) ∙ begins_more a.intake.pending none.passes.took there))
-]
+all_given {a = a} {b = b} come due none over = grind (arith, nat_tests, append-nil, false≢true, begins_more)
 
 -- what is known once no packet was read
 record NoneMore (wish : DecodeWish) (start new : Outside) (b : Assembling) (packets : ℕ) : Type 0 where
@@ -105,16 +99,7 @@ all_listed {wish = wish} {new = new} {b = b} found before x is =
 
 -- a read failed when no whole packet waited
 fault_none : {now new : Outside} {a b : Assembling} → PassesNext now new a b (Err in_faults.ReadFault) → begins_packet b.intake.pending ≡ false
-fault_none {now = now} {new = new} {a = a} {b = b} x = by x.read x.reads x.answer
-  where
-    by : (read : Result PacketRead InFault) → (reads : ReadsPacket a.apid now new a.intake b.intake read) → Err in_faults.ReadFault ≡ passed_for a (fed a.intake reads.took reads.saw_end).pending read → begins_packet b.intake.pending ≡ false
-    by (Ok (Mine head tells)) reads is = absurd cc
-    by (Ok (Skipped skip)) reads is = absurd cc
-    by (Ok Ended) reads is = absurd cc
-    by (Ok (Fault fault)) reads is = absurd cc
-    by (Err in_faults.ReadFault) reads is = ap (λ (w : Intake). begins_packet w.pending) reads.ends.2 ∙ undecided_none (fed a.intake reads.took reads.saw_end) reads.ends.1
-    by (Err in_faults.LongInput) reads is = absurd cc
-    by (Err in_faults.Broken) reads is = absurd cc
+fault_none {now = now} {new = new} {a = a} {b = b} x = grind (arith, nat_tests, undecided_none)
 
 long_listed : {wish : DecodeWish} {start now new : Outside} {a b : Assembling} {packets : ℕ} {before waiting : List ℕ} → HasListed wish start now a packets before →
     ListsThen now new a b before waiting (Err in_faults.LongInput) → Lists wish start new (Err LongInput)

@@ -1,10 +1,11 @@
 -- The lines of packets, and one packet more.
 use Rattle.std.proofs.Common.{◌≡◌, ◌<◌, ◌+◌, ℕ, zero, suc, List, [], ◌∷◌, ◌++◌, length, refl, sym, ap, ◌∙◌, arith, append_assoc, length-append}
-use Rattle.std.specs.Prelude.{slice_index_or}
 use Rattle.std.specs.List.{range_with_len, flat_map}
 use Rattle.std.proofs.lemmas.Grind.{flat_map-append}
 use Rattle.std.proofs.lemmas.List.{append-nil}
-use Rattle.stream_defs.specs.declared.fate.Fate.TheVariants.{Kept}
+use Rattle.std.proofs.Math.ListN.{get_or-append}
+use Rattle.std.proofs.Math.Seq.{get_or-append_seam}
+use Rattle.std.proofs.lemmas.Bool.Decides.{nat_tests}
 use Rattle.stream_defs.specs.declared.fate.FateState.{FateState}
 use Rattle.stream_defs.specs.Fates.{fresh, fate, fates, after, after_all}
 use Rattle.stream_defs.proofs.Outputs.{range_with_len-more}
@@ -12,15 +13,6 @@ use Rattle.packet_assembly.specs.Notes.{note_of}
 use Rattle.packet_list.specs.Lines.{line_of, note_at, lines_of}
 
 -- ---- lists by place
-
-before_last : {A : Type 0} (xs : List A) (y d : A) (i : ℕ) → i < length xs → slice_index_or (xs ++ y ∷ []) i d ≡ slice_index_or xs i d
-before_last [] y d i lt = absurd (omega (arith, lt))
-before_last (x ∷ xs) y d zero lt = refl
-before_last (x ∷ xs) y d (suc i) lt = before_last xs y d i (omega (arith, lt))
-
-at_last : {A : Type 0} (xs : List A) (y d : A) → slice_index_or (xs ++ y ∷ []) (length xs) d ≡ y
-at_last [] y d = refl
-at_last (x ∷ xs) y d = at_last xs y d
 
 same_parts : (f g : ℕ → List ℕ) (a n : ℕ) → ((i : ℕ) → i < a + n → f i ≡ g i) → flat_map f (range_with_len a n) ≡ flat_map g (range_with_len a n)
 same_parts f g a zero same = refl
@@ -51,22 +43,11 @@ lines-none apid = refl
 module _ (apid : ℕ) (packets : List (List ℕ)) (packet : List ℕ) where
   -- the reports of earlier packets are unchanged
   note_before : (i : ℕ) → i < length packets → note_at apid (packets ++ packet ∷ []) i ≡ note_at apid packets i
-  note_before i lt =
-      let last = fate apid (after_all apid fresh packets) packet in
-      let long : i < length (fates apid fresh packets) = omega (arith, lt, length-fates apid fresh packets) in
-      ap (λ fs. note_of i (slice_index_or fs i Kept) (slice_index_or (packets ++ packet ∷ []) i [])) (fates-more apid fresh packets packet)
-      ∙ ap (λ f. note_of i f (slice_index_or (packets ++ packet ∷ []) i [])) (before_last (fates apid fresh packets) last Kept i long)
-      ∙ ap (note_of i (slice_index_or (fates apid fresh packets) i Kept)) (before_last packets packet [] i lt)
+  note_before i lt = grind (arith, nat_tests, length-fates, fates-more, get_or-append)
 
   -- and the last one by its fate after them
   note_last : note_at apid (packets ++ packet ∷ []) (length packets) ≡ note_of (length packets) (fate apid (after_all apid fresh packets) packet) packet
-  note_last =
-      let n = length packets in
-      let last = fate apid (after_all apid fresh packets) packet in
-      ap (λ fs. note_of n (slice_index_or fs n Kept) (slice_index_or (packets ++ packet ∷ []) n [])) (fates-more apid fresh packets packet)
-      ∙ ap (λ k. note_of n (slice_index_or (fates apid fresh packets ++ last ∷ []) k Kept) (slice_index_or (packets ++ packet ∷ []) n [])) (sym (length-fates apid fresh packets))
-      ∙ ap (λ f. note_of n f (slice_index_or (packets ++ packet ∷ []) n [])) (at_last (fates apid fresh packets) last Kept)
-      ∙ ap (note_of n last) (at_last packets packet [])
+  note_last = grind (arith, nat_tests, fates-more, length-fates, get_or-append_seam)
 
   -- so its line follows theirs
   pub lines-more : lines_of apid (packets ++ packet ∷ []) ≡ lines_of apid packets ++ line_of (note_of (length packets) (fate apid (after_all apid fresh packets) packet) packet)

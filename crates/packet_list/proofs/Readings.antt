@@ -1,9 +1,10 @@
 -- A list continues by one packet, or by none.
-use Rattle.std.proofs.Common.{◌≡◌, ◌≤◌, ◌<◌, ◌+◌, ℕ, List, [], ◌∷◌, ◌++◌, length, take, refl, sym, ap, subst, ◌∙◌, inl, inr, arith, append_assoc, length-append}
+use Rattle.std.proofs.Common.{◌≡◌, ◌≤◌, ◌<◌, ◌+◌, ℕ, List, [], ◌∷◌, ◌++◌, length, take, refl, sym, ap, subst, ◌∙◌, arith, append_assoc, length-append}
 use Rattle.std.specs.Prelude.{◌⊎◌, true, Option, None, Some, Result, Ok, Err}
 use Rattle.std.proofs.lemmas.Bool.{false≢true}
 use Rattle.std.proofs.lemmas.List.{append-nil, take-append-le, take_all}
 use Rattle.std.proofs.Math.Seq.{take-append-add}
+use Rattle.std.proofs.lemmas.Bool.Decides.{nat_tests}
 use Rattle.base_122.specs.declared.wish.DecodeWish.{DecodeWish}
 use Rattle.bit_pipe.specs.declared.fault.InFault.{InFault}
 use Rattle.bit_pipe.specs.declared.fault.InFault.TheVariants.{ReadFault, LongInput, Broken}
@@ -14,11 +15,10 @@ use Rattle.packet_defs.specs.Streams.{begins_packet, whole_packets, left_over}
 use Rattle.packet_defs.proofs.Fronts.{begins_so, so_begins, begins-append}
 use Rattle.packet_defs.proofs.Splits.{whole_splits}
 use Rattle.stream_defs.specs.declared.fate.FateState.{FateState}
-use Rattle.stream_defs.specs.Fates.{fresh, fate, after_all}
 use Rattle.packet_assembly.specs.declared.note.PacketNote.{PacketNote}
 use Rattle.packet_assembly.specs.declared.note.Passed.{Passed}
 use Rattle.packet_assembly.specs.Assembling.{Assembling, Passes, unread_assembly}
-use Rattle.packet_assembly.specs.Notes.{note_of, note_in, PassesNext, ReadsNote}
+use Rattle.packet_assembly.specs.Notes.{note_in, PassesNext, ReadsNote}
 use Rattle.packet_assembly.specs.Passing.{whole_after}
 use Rattle.packet_assembly.specs.Readings.{HasRead}
 use Rattle.packet_assembly.proofs.Readings.{none_read, read_on, end_on, end_later}
@@ -84,10 +84,7 @@ module _ {wish : DecodeWish} {start now new : Outside} {a b : Assembling} {packe
 
   -- and no line waits
   all_given : (i : ℕ) → whole_packets (a.intake.pending ++ take i q.took) ≡ [] → come.gave ≡ lines_of wish.apid come.passed
-  all_given i none = elim due [
-    | inl nothing ↦ sym (append-nil come.gave) ∙ ap (λ zs. come.gave ++ zs) (sym nothing) ∙ come.lines_are
-    | inr there ↦ absurd (some_whole a.intake.pending (take i q.took) there none)
-  ]
+  all_given i none = grind (arith, nat_tests, append-nil, some_whole)
 
   asks_now : (i j : ℕ) → AsksNone a q.took i j → AsksListed wish.apid (come.took ++ q.took) come.gave (length come.took + i) (length come.gave + j)
   asks_now i j r =
@@ -158,13 +155,7 @@ read_fault Broken never x = absurd ((fail_note Broken x).fails.fails)
 -- the line of the next packet
 pub next_line : {old new : Outside} {a b : Assembling} {note : PacketNote} (wish : DecodeWish) (took : List ℕ) (passed : List (List ℕ)) → HasRead wish.apid wish.octets a took passed → (x : NoteOn old new a b note) →
     lines_of wish.apid (passed ++ x.one.packet ∷ []) ≡ lines_of wish.apid passed ++ line_of note
-next_line {a = a} {note = note} wish took passed read x =
-    let packet = x.one.packet in
-    let told : note_of a.packets (fate a.apid a.state packet) packet ≡ note = sym (ap (λ (t : Passed). t.note) x.one.told_is) ∙ x.note_is in
-    let here : note_of a.packets (fate a.apid a.state packet) packet ≡ note_of (length passed) (fate wish.apid (after_all wish.apid fresh passed) packet) packet =
-    ap (λ n. note_of n (fate a.apid a.state packet) packet) read.count ∙ ap (λ n. note_of (length passed) (fate n a.state packet) packet) read.apid
-    ∙ ap (λ s. note_of (length passed) (fate wish.apid s packet) packet) read.state in
-    lines-more wish.apid passed packet ∙ ap (λ n. lines_of wish.apid passed ++ line_of n) (sym here ∙ told)
+next_line {a = a} {note = note} wish took passed read x = grind (arith, nat_tests, lines-more)
 
 -- one packet more was listed
 pub one_listed : {wish : DecodeWish} {start now new : Outside} {a b : Assembling} {packets : ℕ} {before waiting : List ℕ} → HasListed wish start now a packets before → ListsOne now new a b before waiting →

@@ -1,6 +1,7 @@
 -- A look at all packets of an image is its lowest band.
 use Rattle.std.proofs.Common.{◌≡◌, ◌<◌, ℕ, ℤ, List, refl, sym, ap, subst, ◌∙◌, arith}
 use Rattle.std.specs.Prelude.{Some}
+use Rattle.std.proofs.lemmas.Option.{same_Some}
 use Rattle.port_122.specs.Outside.{Outside}
 use Rattle.base_122.specs.Setting.{image_geometry}
 use Rattle.base_122.specs.Sizes.{block_count}
@@ -22,7 +23,6 @@ use Rattle.strip_decoder.specs.Containment.{IsImageFor}
 use Rattle.strip_decoder.specs.RoundTrip.{SendsAll}
 use Rattle.strip_decoder.specs.Runs.{Numbers, holds_after}
 use Rattle.strip_decoder.proofs.RoundTrips.{block_same}
-use Rattle.strip_decoder.proofs.SublistPictures.{some_geometry}
 use Rattle.strip_decoder.proofs.WholeImages.{geometry_told}
 use Rattle.quick_look.specs.Look.{look, look_octets}
 use Rattle.quick_look.specs.Looks.{IsLook}
@@ -63,7 +63,7 @@ given_back short holds exact wish start new took gave every done s rows x found 
     let n : ℕ = begun_in wish.apid took in
     let there : geometry_in s.apid (output s rows x) ≡ Some done.geometry =
     subst (λ octets. geometry_in s.apid octets ≡ Some done.geometry) took_is (subst (λ n. geometry_in n took ≡ Some done.geometry) apid found.found.geometry) in
-    let size : done.geometry ≡ image_geometry s rows = some_geometry (sym there ∙ geometry_told short s rows x is) in
+    let size : done.geometry ≡ image_geometry s rows = same_Some _ _ (sym there ∙ geometry_told short s rows x is) in
     let some : rows ≡ 0 → ⊥ = within_not rows is.height.0 in
     let all_rows : block_rows (image_geometry s rows) n ≡ block_count rows = rw (is_not_open rows some) refl in
     let mine : ReceivedIn (holds_after s.book) s.apid (output s rows x) received = subst (λ octets. ReceivedIn (holds_after s.book) s.apid octets received) took_is (subst (λ n. ReceivedIn (holds_after s.book) n took received) apid (subst (λ b. ReceivedIn (holds_after b) wish.apid took received) book t.1)) in

@@ -1,6 +1,6 @@
 -- What a walk with a row of a look gives.
-use Rattle.std.proofs.Common.{◌≡◌, ◌≤◌, ◌<◌, ◌+◌, ◌-◌, ◌*◌, ◌/◌, ℕ, List, ◌++◌, length, take, refl, sym, ap, subst, ◌∙◌, inl, inr, arith}
-use Rattle.std.specs.Prelude.{if◌then◌else◌, min, Some, Ok, Err}
+use Rattle.std.proofs.Common.{◌≡◌, ◌≤◌, ◌<◌, ◌+◌, ◌-◌, ◌*◌, ◌/◌, ℕ, List, ◌++◌, length, take, refl, sym, ap, subst, ◌∙◌, inl, inr, arith, []}
+use Rattle.std.specs.Prelude.{if◌then◌else◌, min, Some, Result, Ok, Err, false}
 use Rattle.std.proofs.lemmas.List.{take-append-le, take_min}
 use Rattle.std.proofs.lemmas.Nat.{div-mul-add}
 use Rattle.port_122.specs.Outside.{Outside}
@@ -14,7 +14,6 @@ use Rattle.packet_defs.specs.Streams.{whole_packets}
 use Rattle.raster_rows.specs.Pixels.{raster_octets}
 use Rattle.raster_rows.proofs.RasterLaws.{rows_from}
 use Rattle.raster_rows.proofs.MadeLaws.{rows_from-append}
-use Rattle.stream_defs.specs.Agreement.{blocks_of}
 use Rattle.stream_defs.specs.Begun.{begun_in, block_rows, end_of, placed}
 use Rattle.stream_defs.specs.Fates.{geometry_in, kept_in}
 use Rattle.stream_defs.specs.Picture.{number_at}
@@ -28,8 +27,10 @@ use Rattle.strip_decoder.specs.Sinks.{Numbers, blocks_with}
 use Rattle.strip_decoder.specs.Runs.{AsksPassed, PassedBy, PartBy, blocks_passed}
 use Rattle.strip_decoder.specs.Walks.{IsWalked, WalkAnswers, Walks, run_of}
 use Rattle.strip_decoder.proofs.Asking.{both_tell}
-use Rattle.strip_decoder.proofs.PictureWalks.{numbers_same}
+use Rattle.strip_decoder.proofs.PictureWalks.{numbers_same, passed_open, passed_known}
 use Rattle.strip_decoder.proofs.Staying.{known_or_not}
+use Rattle.strip_decoder.proofs.Findings.{found_as}
+use Rattle.strip_decoder.specs.declared.decode.DecodeDone.{DecodeDone}
 use Rattle.quick_look.specs.declared.row.LookRow.{LookRow}
 use Rattle.quick_look.specs.Look.{low_with, look_with, rows_with, look_rows, look_octets}
 use Rattle.quick_look.specs.LookSinks.{first_rows, look_sink}
@@ -75,10 +76,10 @@ module _ (apid : ℕ) (taken : List ℕ) (g : Geometry) (geometry : geometry_in 
   pub all_rows : blocks_passed g ended / c ≡ block_rows g b
   all_rows = elim (known_or_not g.rows) [
     | inl none ↦
-        ap (λ t. (if t then ended else blocks_of g) / c) (is_open g.rows none) ∙ sym begun_is ∙ sym (ap (λ t. if t then b else block_count g.rows) (is_open g.rows none))
+        ap (λ n. n / c) (passed_open g ended none) ∙ sym begun_is ∙ sym (ap (λ t. if t then b else block_count g.rows) (is_open g.rows none))
     | inr some ↦
         let turned : c * block_count g.rows ≡ block_count g.rows * c + 0 = grind arith in
-        ap (λ t. (if t then ended else blocks_of g) / c) (is_not_open g.rows some) ∙ ap (λ n. n / c) turned ∙ div-mul-add (block_count g.rows) c 0 wide
+        ap (λ n. n / c) (passed_known g ended some ∙ turned) ∙ div-mul-add (block_count g.rows) c 0 wide
         ∙ sym (ap (λ t. if t then b else block_count g.rows) (is_not_open g.rows some))
   ]
 
@@ -116,16 +117,7 @@ asks_by wish old took gave i j asks = (asks.0, asks.1, λ all told. prompt_by wi
 
 is_look : (wish : DecodeWish) (old new : Outside) (took gave : List ℕ) (walked : Walked LookRow) → IsWalked look_sink wish old new took gave walked → IsLook wish old new took gave walked.done
 is_look wish old new took gave walked x = record {
-  found = record {
-    geometry = x.geometry;
-    range = x.range;
-    few = x.few;
-    framing_is = x.framing_is;
-    out = x.out;
-    written = x.written;
-    rows = x.rows;
-    told = λ all told. let t = x.told all told in (t.0, t.1, refl, t.3);
-  };
+  found = found_as false [] x x.out (λ received follows. refl);
   look = λ all told received are.
       let t = x.told all told in
       let g = walked.done.geometry in
@@ -134,25 +126,23 @@ is_look wish old new took gave walked x = record {
       t.2.gave_is ∙ shown_rows g t.0 k ∙ ap (look_rows g t.0) (all_rows wish.apid took g x.geometry) ∙ ap (λ received. look_octets g received (begun_in wish.apid took)) same;
 }
 
--- a walk with a look ended without a fault
-pub looks : (wish : DecodeWish) (old new : Outside) (walked : Walked LookRow) → Walks look_sink wish old new (Ok walked) → Looks wish old new (Ok walked.done)
-looks wish old new walked x = record {
+-- what it took and gave, and when
+given_so : (wish : DecodeWish) (old new : Outside) (r : Result (Walked LookRow) DecodeFault) (result : Result DecodeDone DecodeFault) → (x : Walks look_sink wish old new r) → LookAnswers wish old new x.took x.gave result → Looks wish old new result
+given_so wish old new r result x answer = record {
   took = x.took;
   gave = x.gave;
   since = since_weaker x.since (λ i j le asks. asks_by wish old x.took x.gave i j asks);
   within = x.within;
-  answer = is_look wish old new x.took x.gave walked x.answer;
+  answer = answer;
 }
+
+-- a walk with a look ended without a fault
+pub looks : (wish : DecodeWish) (old new : Outside) (walked : Walked LookRow) → Walks look_sink wish old new (Ok walked) → Looks wish old new (Ok walked.done)
+looks wish old new walked x = given_so wish old new (Ok walked) (Ok walked.done) x (is_look wish old new x.took x.gave walked x.answer)
 
 -- a fault ended it
 pub look_fails : (wish : DecodeWish) (old new : Outside) (fault : DecodeFault) → Walks look_sink wish old new (Err fault) → Looks wish old new (Err fault)
-look_fails wish old new fault x = record {
-  took = x.took;
-  gave = x.gave;
-  since = since_weaker x.since (λ i j le asks. asks_by wish old x.took x.gave i j asks);
-  within = x.within;
-  answer = by fault x.answer;
-}
+look_fails wish old new fault x = given_so wish old new (Err fault) (Err fault) x (by fault x.answer)
   where
     front : ((all : List ℕ) → old.rest ≡ Some all → PartBy look_sink wish.book wish.apid x.took x.gave) → (all : List ℕ) → old.rest ≡ Some all → FrontLook wish.book wish.apid x.took x.gave
     front part all told = front_by wish.book wish.apid x.took x.gave (part all told)

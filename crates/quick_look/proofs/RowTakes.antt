@@ -16,11 +16,11 @@ use Rattle.wave_defs.proofs.BlockLaws.{table_of}
 use Rattle.raster_rows.specs.Pixels.{IsDepth, clamped, pixel_octets}
 use Rattle.raster_rows.proofs.RasterLaws.{row_pixels}
 use Rattle.raster_rows.proofs.MadeLaws.{raster_octets-more}
-use Rattle.strip_decoder.specs.Sinks.{Blocks, Begins, Takes, Fails, EndsImage}
+use Rattle.strip_decoder.specs.Sinks.{Blocks, Takes, Fails, EndsImage}
 use Rattle.strip_decoder.specs.PictureSinks.{numbers_in}
 use Rattle.quick_look.specs.declared.row.LookRow.{LookRow}
 use Rattle.quick_look.specs.Look.{low_with, look_with}
-use Rattle.quick_look.specs.LookSinks.{IsOpen, StandsAt, ShowsLook, first_rows, look_sink, low_of}
+use Rattle.quick_look.specs.LookSinks.{StandsAt, ShowsLook, first_rows, look_sink, low_of}
 
 -- the value at the next block was set, and the next column is this one
 pub record HasSet (value : ℤ) (next : ℕ) (s t : LookRow) : Type 0 where
@@ -187,18 +187,6 @@ none_gives (suc (suc (suc zero))) low = refl
 none_gives (suc (suc (suc (suc k)))) low = absurd (omega (arith, low))
 
 -- ---- no block was taken
-
-pub row_begins : (s : LookRow) (g : Geometry) → IsOpen s → s.depth ≡ g.depth → s.signed ≡ g.signed → s.shift ≡ get_or g.weights.shifts 9 0 → s.columns ≡ block_count g.width → s.column ≡ 0 → Begins look_sink g s
-row_begins s g is_open depth signed shift columns column =
-    let c = block_count g.width in
-    let some : 0 < c = let inside = is_open.column in omega (arith, inside, columns) in
-    let none : 0 ≡ 0 * c + 0 = omega arith in
-    let row : 0 / c ≡ 0 = ap (λ n. n / c) none ∙ div-mul-add 0 c 0 some in
-    let first : 0 % c ≡ 0 = ap (λ n. n % c) none ∙ mod-mul-add 0 c 0 some in
-    record {
-      stands = record { is_open = is_open; depth = depth; signed = signed; shift = shift; columns = columns; column = column ∙ sym first };
-      follows = λ blocks. record { gave_is = sym (ap (first_rows g blocks) row); values = λ j inside. absurd (omega (arith, inside, first)) };
-    }
 
 -- ---- the height becomes known
 

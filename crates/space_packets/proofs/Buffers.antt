@@ -1,9 +1,9 @@
 -- The octets that wait in a buffer.
 use Rattle.std.proofs.Common.{◌≡◌, ◌≤◌, ◌<◌, ◌+◌, ◌*◌, ◌^◌, ℕ, List, [], ◌++◌, length, take, drop, refl, ap, ◌∙◌, arith, length-take}
 use Rattle.std.specs.Prelude.{nat_lt, nat_le, Bool, true, false, Result, Ok, is_ok, if◌then◌else◌}
-use Rattle.std.proofs.lemmas.Bool.Decides.{nat_tests}
 use Rattle.std.specs.Bool.{OnTrue, OnFalse}
 use Rattle.std.proofs.lemmas.List.{drop_all, drop-append-le}
+use Rattle.std.proofs.lemmas.Bool.{ltb-false, ltb-true, leb-true}
 use Rattle.space_packets.specs.declared.stage.PacketiserState.{PacketiserState}
 use Rattle.space_packets.specs.declared.stage.PacketiserState.TheVariants.{Idle, Begun, Broken}
 use Rattle.space_packets.specs.declared.stage.Text.{Text}
@@ -54,23 +54,14 @@ on_false : {P : Type 0} (b : Bool) → (b ≡ false → P) → OnFalse b P
 on_false true f = tt
 on_false false f = f refl
 
-not_less : (a b : ℕ) → nat_lt a b ≡ false → b ≤ a
-not_less a b e = grind (arith, nat_tests)
-
-is_less : (a b : ℕ) → nat_lt a b ≡ true → a < b
-is_less a b e = grind (arith, nat_tests)
-
 pub on_less : {P : Type 0} (a b : ℕ) → (a < b → P) → OnTrue (nat_lt a b) P
-on_less a b f = on_true (nat_lt a b) (λ e. f (is_less a b e))
+on_less a b f = on_true (nat_lt a b) (λ e. f (ltb-true a b e))
 
 pub on_not_less : {P : Type 0} (a b : ℕ) → (b ≤ a → P) → OnFalse (nat_lt a b) P
-on_not_less a b f = on_false (nat_lt a b) (λ e. f (not_less a b e))
-
-at_most : (a b : ℕ) → nat_le a b ≡ true → a ≤ b
-at_most a b e = grind (arith, nat_tests)
+on_not_less a b f = on_false (nat_lt a b) (λ e. f (ltb-false a b e))
 
 pub on_at_most : {P : Type 0} (a b : ℕ) → (a ≤ b → P) → OnTrue (nat_le a b) P
-on_at_most a b f = on_true (nat_le a b) (λ e. f (at_most a b e))
+on_at_most a b f = on_true (nat_le a b) (λ e. f (leb-true a b e))
 
 -- a vector that took other items
 pub extended : {T E : Type 0} (r : Result T E) (x : T) (items now other octets : List ℕ) → r ≡ Ok x → now ≡ (if is_ok r then items ++ other else items) → other ≡ octets → now ≡ items ++ octets

@@ -5,6 +5,7 @@ use Rattle.std.proofs.lemmas.Bool.{cases_lt}
 use Rattle.std.proofs.lemmas.Int.{ints}
 use Rattle.std.proofs.lemmas.List.{same_lists, get_or_default, get_or_past, get_or-take, get_or-drop, length-take-le}
 use Rattle.std.proofs.lemmas.List.FromFn.{get_or-map-range_with_len, length-map-range_with_len}
+use Rattle.std.proofs.lemmas.Bool.Decides.{nat_tests}
 use borrow.Rule.Slice.PartMut.{put_mid}
 use Rattle.base_122.specs.Weights.{IsShift}
 use Rattle.wave_defs.specs.Blocks.{Place, place_of, weight_at}
@@ -21,11 +22,7 @@ use Rattle.strip_coder.specs.Steps.{PutsBlock}
 use Rattle.stream_defs.proofs.Small.{within_small}
 
 shift_small : (shifts : List ℕ) (k : ℕ) → All IsShift shifts → get_or shifts k 0 ≤ 3
-shift_small shifts k each =
-    elim (cases_lt k (length shifts)) [
-      | inl lt ↦ each k 0 lt
-      | inr ge ↦ let none = get_or_past shifts k 0 ge in omega (arith, none)
-    ]
+shift_small shifts k each = grind (arith, nat_tests, get_or_past)
 
 weighted : (w b : ℕ) (z : ℤ) → w ≤ 3 → IsWithin b z → IsWithin (8 * b) (z *ℤ pos (2 ^ w))
 weighted zero b z h k = record { above = omega (arith, ints); below = omega (arith, ints) }

@@ -4,6 +4,7 @@ use Rattle.std.specs.Prelude.{Ok, Err}
 use Rattle.std.proofs.lemmas.Bool.{cases_lt}
 use Rattle.std.proofs.lemmas.List.{append-nil}
 use Rattle.std.proofs.Math.Seq.{take-append_seam}
+use Rattle.std.proofs.lemmas.Bool.Decides.{nat_tests}
 use Rattle.port_122.specs.Outside.{Outside, Exchange, AtStart, GivenBy, ReadFailed}
 use Rattle.port_122.proofs.Stretches.{since_out, rose_since, used_up_later}
 use Rattle.port_122.proofs.ReadCalls.{since_prompt}
@@ -15,8 +16,8 @@ use Rattle.base_122.specs.declared.setting.Setting.{Setting}
 use Rattle.base_122.proofs.GeometryRanges.{in_range-sized}
 use Rattle.packet_defs.specs.Packets.{joined}
 use Rattle.raster_rows.specs.Ends.{SawEnd}
-use Rattle.stream_defs.specs.Output.{output, packets_of, segments_of, tells_last}
-use Rattle.stream_defs.specs.SettledImages.{front_packets, settled_in}
+use Rattle.stream_defs.specs.Output.{output, segments_of}
+use Rattle.stream_defs.specs.SettledImages.{front_packets}
 use Rattle.stream_defs.proofs.HeightLaws.{images_settle, settled_alike}
 use Rattle.stream_defs.proofs.ImageLaws.{blocks_whole}
 use Rattle.strip_coder.specs.declared.encode.EncodeDone.{EncodeDone}
@@ -57,15 +58,7 @@ module _ (s : Setting) (range : IsInRange s) (p q : Outside) (w : Work) (all : H
 
   -- what is given is that of the image of exactly these rows
   gave_is : joined (front_packets s (tallest s) (image_of s come.took) w.at.index) ≡ joined (front_packets s w.at.rows (image_of s come.took) w.at.index)
-  gave_is = elim (tall_or_open s w.at.rows range all.height) [
-    | inl tall ↦ ap (λ n. joined (front_packets s n (image_of s come.took) w.at.index)) (sym tall)
-    | inr other ↦
-        let x = image_of s come.took in
-        let index : w.at.index ≡ settled_in s (tallest s) w.at.rows = come.stands.taken.index (inr other.0) in
-        ap (λ n. joined (front_packets s (tallest s) x n)) index
-        ∙ ap joined (images_settle s (tallest s) w.at.rows w.at.rows range (tall_height s range) all.height most (omega arith) x x itself)
-        ∙ ap (λ n. joined (front_packets s w.at.rows x n)) (sym (index ∙ settled_alike s (tallest s) w.at.rows w.at.rows range (tall_height s range) all.height most (omega arith)))
-  ]
+  gave_is = grind (arith, nat_tests, tall_or_open, come, images_settle, tall_height, most, itself, settled_alike)
 
   so_far : Exchange p q come.took (joined (front_packets s w.at.rows (image_of s come.took) w.at.index)) [] (GivenBy (given_for s) come.took)
   so_far = subst (λ g. Exchange p q come.took g [] (GivenBy (given_for s) come.took)) gave_is come.since
@@ -86,10 +79,7 @@ module _ (s : Setting) (range : IsInRange s) (p q : Outside) (w : Work) (all : H
       -- what is given is that of each image with these rows
       gave_same : (rows : ℕ) (y : ℕ → ℕ → ℤ) → IsHeight s rows → w.at.rows ≤ rows → SameWithin w.at.rows s.width (image_of s come.took) y →
           joined (front_packets s w.at.rows (image_of s come.took) w.at.index) ≡ joined (front_packets s rows y w.at.index)
-      gave_same rows y other le same =
-          subst (λ n. joined (front_packets s w.at.rows (image_of s come.took) w.at.index) ≡ joined (front_packets s n y w.at.index)) (sym same_rows ∙ known_height s rows known other)
-          (ap (λ blocks. joined (packets_of (tells_last s) (sized s w.at.rows) blocks w.at.index))
-          (blocks_whole (sized s w.at.rows) (in_range-sized s w.at.rows range all.height) all.height.0 (image_of s come.took) y same))
+      gave_same rows y other le same = grind (arith, nat_tests, come, same_rows, known_height, blocks_whole, in_range-sized)
 
       known_breaks : EncodesImage s p r (Err WriteFault)
       known_breaks =
@@ -155,9 +145,7 @@ module _ (s : Setting) (range : IsInRange s) (p q : Outside) (w : Work) (all : H
       longest = come.whole ∙ ap (λ n. n * row_length s) (sym tall)
 
       all_so : (more : List ℕ) → given_for s (come.took ++ more) ≡ output s w.at.rows (image_of s come.took)
-      all_so more =
-          let same = known_height s w.at.rows known all.height in
-          given_all s come.took more range known (come.whole ∙ ap (λ n. n * row_length s) (sym same)) ∙ ap (λ n. output s n (image_of s come.took)) same
+      all_so more = grind (arith, nat_tests, known_height, given_all, come)
 
       -- the end is read
       asked_end : {d : Outside} {more : List ℕ} → Exchange r d more [] [] AtStart →

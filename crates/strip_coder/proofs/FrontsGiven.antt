@@ -3,7 +3,6 @@ use Rattle.std.proofs.Common.{◌≡◌, ◌≢◌, inl, inr, min, ℕ, ◌+◌,
 use Rattle.std.specs.Prelude.{Option, None, Some}
 use Rattle.std.proofs.Math.Seq.{take-append_seam}
 use Rattle.std.proofs.Math.Nat.{div-lt_iff_lt-mul, mul-le-mul_right}
-use Rattle.std.proofs.lemmas.Bool.{cases_lt}
 use Rattle.std.proofs.lemmas.List.{append-nil, append_cancel_left, take_min, take-append-le}
 use Rattle.port_122.specs.Outside.{Outside, Exchange, NoRead, Grows, GivenBy, Rose}
 use Rattle.port_122.proofs.Stretches.{asks_weaker, since_out, rose_since}
@@ -24,6 +23,7 @@ use Rattle.strip_coder.specs.declared.plan.Plan.{Plan}
 use Rattle.strip_coder.specs.Plans.{plan_of, tallest}
 use Rattle.strip_coder.specs.declared.encode.EncodeFault.TheVariants.{WriteFault}
 use Rattle.std.specs.Prelude.{Err}
+use Rattle.std.proofs.lemmas.Bool.Decides.{nat_tests}
 use Rattle.strip_coder.specs.Rasters.{image_of, given_for}
 use Rattle.strip_coder.specs.Answers.{TookRows, EncodesImage}
 use Rattle.strip_coder.specs.Steps.{StopsEarly}
@@ -33,9 +33,7 @@ use Rattle.strip_coder.proofs.SegmentRuns.{front_of}
 
 -- if the port reports what it was given, the octets that were added are determined
 one_gave : (before now : Option (List ℕ)) (octets a b : List ℕ) → now ≡ Some octets → Grows before now a → Grows before now b → a ≡ b
-one_gave before None octets a b e p q = absurd cc
-one_gave None (Some now) octets a b e p q = absurd p
-one_gave (Some before) (Some now) octets a b e p q = append_cancel_left before a b (sym p ∙ q)
+one_gave before now octets a b e p q = grind (arith, nat_tests, append_cancel_left)
 
 -- if it doesn't report them, the exchange also holds with none given
 untold : {p q : Outside} {gave : List ℕ} → q.given ≡ None → Exchange p q [] gave [] NoRead → Exchange p q [] [] [] NoRead
@@ -103,13 +101,7 @@ module _ (s : Setting) (range : IsInRange s) (k index : ℕ) where
   some_columns = let three = three-le-block_count s.width range.width.0 in omega (arith, three)
 
   before : (j : ℕ) → j ≤ index → first_block s.segment j + segment_blocks all_blocks s.segment j ≤ first_block s.segment index + segment_blocks all_blocks s.segment index
-  before j le = elim (cases_lt j index) [
-    | inl less ↦
-        let next : (j + 1) * s.segment ≤ index * s.segment = mul-le-mul_right s.segment (omega (arith, less)) in
-        let more : (j + 1) * s.segment ≡ j * s.segment + s.segment = omega arith in
-        omega (arith, next, more)
-    | inr far ↦ let e : j ≡ index = omega (arith, le, far) in subst (λ n. first_block s.segment n + segment_blocks all_blocks s.segment n ≤ first_block s.segment index + segment_blocks all_blocks s.segment index) (sym e) (omega arith)
-  ]
+  before j le = grind (arith, nat_tests, mul-le-mul_right)
 
   settled_at : index < segments_of (sized s (tallest s)) → first_block s.segment index + segment_blocks all_blocks s.segment index ≤ block_count s.width * block_rows_in k →
       (j : ℕ) → j ≤ index → is_settled (tells_last s) (sized s (tallest s)) k j ≡ true
@@ -125,9 +117,7 @@ module _ (s : Setting) (range : IsInRange s) (k index : ℕ) where
   pub through : index < segments_of (sized s (tallest s)) → first_block s.segment index + segment_blocks all_blocks s.segment index ≤ block_count s.width * block_rows_in k →
       index + 1 ≤ settled_in s (tallest s) k
   unfolding settled
-  through inside there =
-      count_many (is_settled (tells_last s) (sized s (tallest s)) k) (segments_of (sized s (tallest s))) 0 (index + 1) (omega (arith, inside))
-      (λ j low high. settled_at inside there j (omega (arith, high)))
+  through inside there = grind (arith, nat_tests, count_many, settled_at)
 
 settled_few : (told_last : Bool) (s : Setting) (k : ℕ) → settled told_last s k ≤ segments_of s
 unfolding settled

@@ -3,6 +3,7 @@ use Rattle.std.proofs.Common.{◌≡◌, ℕ, ◌+◌, ◌*◌, ◌<◌, ◌≤�
 use Rattle.std.specs.Result.{IsErr}
 use Rattle.std.proofs.lemmas.Bool.{cases_lt}
 use Rattle.std.proofs.lemmas.List.{append-nil}
+use Rattle.std.proofs.lemmas.Bool.Decides.{nat_tests}
 use Rattle.port_122.specs.Outside.{Outside, NoRead}
 use Rattle.port_122.proofs.Stretches.{since_start, rose_since}
 use Rattle.strip_coder.specs.Plans.{IsPlan, whole}
@@ -55,15 +56,7 @@ module _ (s : Plan) (range : IsPlan s) where
 
   -- a place below all blocks is in a segment
   pub more_segments : (w : Work) → HasGathered s w → gathered_in s w.at < total_blocks s.setting.width s.rows → w.at.index < segments_of (whole s)
-  more_segments w has lt = elim (cases_lt w.at.index (segments_of (whole s))) [
-    | inl below ↦ below
-    | inr above ↦
-        let le = has.index in
-        let e : w.at.index ≡ segments_of (whole s) = omega (arith, above, le) in
-        let all = total-le-segments (total_blocks s.setting.width s.rows) s.setting.segment some_blocks in
-        let first : first_block s.setting.segment w.at.index ≡ segments_of (whole s) * s.setting.segment = ap (λ n. n * s.setting.segment) e in
-        absurd (omega (arith, lt, all, first))
-  ]
+  more_segments w has lt = grind (arith, nat_tests, total-le-segments, some_blocks)
 
   put_holds : (old mid : Work) (numbers : List ℤ) → old.at.index < segments_of (whole s) → HasPut old mid numbers → (all : List (List ℤ)) → NextAre s old 1 (λ _. numbers) all →
       HoldsBlocks s all old → HoldsBlocks s all mid

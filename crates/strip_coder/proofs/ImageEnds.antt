@@ -2,8 +2,8 @@
 use Rattle.std.proofs.Common.{◌≡◌, ℕ, ◌-◌, ◌*◌, ℤ, [], length, refl, sym, ap, ◌∙◌, subst, arith, inl, inr, Result, Ok, Err}
 use Rattle.std.specs.Prelude.{MatchResult}
 use Rattle.std.specs.Result.{IsErr}
-use Rattle.std.proofs.lemmas.Bool.{cases_lt}
 use Rattle.std.proofs.lemmas.List.{append-nil}
+use Rattle.std.proofs.lemmas.Bool.Decides.{nat_tests}
 use Rattle.port_122.specs.Outside.{Outside, NoRead}
 use Rattle.port_122.proofs.Stretches.{since_start, rose_since}
 use Rattle.strip_coder.specs.Plans.{IsPlan, plan_of, tallest, whole}
@@ -19,7 +19,7 @@ use Rattle.stream_defs.specs.Output.{image_blocks, packets_of, segments_of, tell
 use Rattle.strip_coder.specs.declared.encode.EncodeDone.{EncodeDone}
 use Rattle.strip_coder.specs.declared.work.Work.{Work}
 use Rattle.strip_coder.specs.SegmentsOut.{progress_at}
-use Rattle.strip_coder.specs.Works.{gathered_in, IsRunning, HasTaken, FollowsImage, FollowsRows}
+use Rattle.strip_coder.specs.Works.{IsRunning, HasTaken, FollowsImage, FollowsRows}
 use Rattle.strip_coder.specs.Steps.{Continues, StopsEarly, IsEnding, HasFinished, HasFinishedOn, HasNoMore, HasNotFinished, AllOut, RowIs, LastRowIs, HasPushedOn, HasNotPushedOn, EndBreaks, EndsImage}
 use Rattle.strip_coder.proofs.PlanLaws.{tall_or_open}
 use Rattle.strip_coder.proofs.OtherHeights.{open_running, open_follows}
@@ -46,14 +46,7 @@ then_finished s old mid new so_far here = record {
 
 -- if all blocks were gathered, all segments were written
 all_segments : (s : Plan) (w : Work) → IsPlan s → IsEnding s w → answered_of w.strip ≡ block_count s.rows → w.at.index ≡ segments_of (whole s)
-all_segments s w range ending all = elim (cases_lt w.at.index (segments_of (whole s))) [
-  | inl below ↦
-      let place = place_is s range w below in
-      let count : gathered_in s w.at ≡ block_count s.setting.width * block_count s.rows = ending.count ∙ ap (λ n. block_count s.setting.width * n) all in
-      let few = ending.gathered.present below in
-      absurd (omega (arith, place, count, few))
-  | inr above ↦ let le = ending.gathered.index in omega (arith, above, le)
-]
+all_segments s w range ending all = grind (arith, nat_tests, place_is)
 
 pub all_out : {p q r : Outside} (s : Plan) (old mid new : Work) → IsPlan s → HasFinishedOn s p q old mid → HasNoMore s q r mid new → AllOut s p r old new
 all_out {p = p} {q = q} s old mid new range so_far none =

@@ -3,6 +3,7 @@ use Rattle.std.proofs.Common.{◌≡◌, inl, inr, ℕ, ◌+◌, ◌*◌, ◌/�
 use Rattle.std.specs.Prelude.{true}
 use Rattle.std.proofs.lemmas.Bool.{cases_lt}
 use Rattle.std.proofs.Math.Nat.{div-lt_iff_lt-mul, mul-le-mul_right, mul-le-mul_left}
+use Rattle.std.proofs.lemmas.Bool.Decides.{nat_tests}
 use Rattle.base_122.specs.Ranges.{IsInRange}
 use Rattle.base_122.specs.Setting.{IsHeight, sized}
 use Rattle.base_122.specs.Sizes.{block_count, total_blocks}
@@ -42,11 +43,7 @@ module _ (s : Setting) (range : IsInRange s) (left_open : s.rows ≡ 0) (rows : 
 
   -- the blocks gathered are fewer than those of this image
   few : w.at.index * s.segment + w.at.filled < total_blocks s.width rows
-  few =
-      let least = height.0.0 in
-      let next : block_count s.width * (block_rows_in rows + 1) ≤ block_count s.width * block_count rows = mul-le-mul_left (block_count s.width) (omega (arith, least)) in
-      let more : block_count s.width * (block_rows_in rows + 1) ≡ block_count s.width * block_rows_in rows + block_count s.width = grind arith in
-      omega (arith, placed, next, more, some_columns)
+  few = grind (arith, nat_tests, mul-le-mul_left, placed, some_columns)
 
   index_below : w.at.index < segments_of (whole here)
   index_below =
@@ -58,15 +55,10 @@ module _ (s : Setting) (range : IsInRange s) (left_open : s.rows ≡ 0) (rows : 
       ]
 
   part : w.at.filled < s.segment
-  part = elim (cases_lt w.at.index (segments_of (whole tall))) [
-    | inl lt ↦ let present = taken.running.gathered.present lt in omega (arith, present)
-    | inr far ↦ let le = taken.running.gathered.index in let none = taken.running.gathered.none (omega (arith, far, le)) in let segment = range.segment in omega (arith, none, segment)
-  ]
+  part = grind (arith, nat_tests)
 
   gathered_here : gathered_in here w.at ≡ block_count s.width * block_rows_in (rows_of w.strip)
-  gathered_here =
-      let e : block_count s.width * block_rows_in (rows_of w.strip) ≡ block_count s.width * block_rows_in rows = ap (λ n. block_count s.width * block_rows_in n) taken.strip_rows in
-      omega (arith, e, few, placed)
+  gathered_here = grind (arith, nat_tests, few, placed)
 
   pub open_running : IsRunning (plan_of s rows) w
   open_running = let has = taken.running.gathered in record {
@@ -116,11 +108,7 @@ module _ (s : Setting) (range : IsInRange s) (left_open : s.rows ≡ 0) (rows : 
         (before_same s range left_open rows (tallest s) rows (tall_height s range) height le (omega arith) x x itself w.at.index few_settled) octets_same
 
     near : (i : ℕ) → i < w.at.filled → 8 * ((w.at.index * s.segment + i) / block_count s.width) + 28 < rows
-    near i lt =
-        let turned : block_count s.width * block_rows_in rows ≡ block_rows_in rows * block_count s.width = grind arith in
-        let q : (w.at.index * s.segment + i) / block_count s.width < block_rows_in rows =
-        (div-lt_iff_lt-mul {k = block_count s.width} {x = w.at.index * s.segment + i} {y = block_rows_in rows} some_columns).1 (omega (arith, lt, placed, turned)) in
-        omega (arith, q)
+    near i lt = grind (arith, nat_tests, div-lt_iff_lt-mul, some_columns, placed)
 
     holds_here : HoldsBlocks tall tall_blocks w → HoldsBlocks here these_blocks w
     holds_here holds = record {

@@ -20,11 +20,7 @@ pub tall_plan : (s : Setting) → IsInRange s → IsPlan (plan_of s (tallest s))
 tall_plan s range = record { in_range = range; height = tall_height s range }
 
 pub tall_most : (s : Setting) (rows : ℕ) → IsInRange s → IsHeight s rows → rows ≤ tallest s
-tall_most s rows range height = by (s.rows == 0) refl
-  where
-    by : (b : Bool) → (s.rows == 0) ≡ b → rows ≤ tallest s
-    by true e = rw e (let most = height.0 in omega (arith, most))
-    by false e = rw e (elim height.1 [ inl none ↦ absurd (grind (arith, nat_tests)) | inr same ↦ omega (arith, same) ])
+tall_most s rows range height = grind (arith, nat_tests)
 
 -- ---- rows that aren't reported last
 

@@ -29,7 +29,7 @@ use Rattle.strip_coder.specs.declared.encode.EncodeFault.TheVariants as encode_f
 use Rattle.strip_coder.specs.declared.work.Work.{Work}
 use Rattle.strip_coder.specs.Rasters.{row_length, most_length, LacksRows, image_of, AreInRange, settled_octets, given_for}
 use Rattle.strip_coder.specs.Answers.{FirstBad, EncodesImage}
-use Rattle.strip_coder.specs.Works.{HasTaken, FollowsRows, RepresentsNone, gathered_in}
+use Rattle.strip_coder.specs.Works.{HasTaken, FollowsRows, RepresentsNone}
 use Rattle.strip_coder.specs.Steps.{IsRowInRange, RowIs, TakesRow, BreaksAt}
 use Rattle.strip_coder.specs.RowsIn.{fault_after, ends_here, ShortOf, HasCome, HasAll}
 use Rattle.strip_coder.proofs.RowTakes.{OnlyRow, row_follows_any}
@@ -44,13 +44,7 @@ use Rattle.strip_coder.proofs.FrontsGiven.{front_out, broke_off}
 
 -- the first segment is present
 none_index : (s : Setting) (w : Work) → IsInRange s → HasTaken (plan_of s (tallest s)) 0 w → w.at.index ≡ 0
-none_index s w range taken =
-    let tall = (tall_height s range).0.0 in
-    let less : 0 < tallest s = omega (arith, tall) in
-    let few = few_gathered (plan_of s (tallest s)) (tall_plan s range) 0 w taken.running taken.strip_rows (omega (arith, less)) in
-    let none : gathered_in (plan_of s (tallest s)) w.at ≡ 0 = omega (arith, count (plan_of s (tallest s)) (tall_plan s range) 0 w taken.running taken.strip_rows (omega (arith, less))) in
-    let least : w.at.index * 16 ≤ w.at.index * s.segment = mul-le-mul_left {m = 16} {n = s.segment} w.at.index range.segment.0 in
-    omega (arith, few, none, least)
+none_index s w range taken = grind (arith, nat_tests, tall_height, few_gathered, tall_plan, count, mul-le-mul_left)
 
 pub none_come : (s : Setting) (p : Outside) (w : Work) → IsInRange s → RepresentsNone s w → HasCome s 0 p p w
 none_come s p w range start =
@@ -102,10 +96,7 @@ fewer n k e = grind (arith, nat_tests)
 -- ---- a raster that ends in a row
 
 below_all : (t size k octets total : ℕ) → k < t → octets < size → total ≡ k * size + octets → total < t * size
-below_all t size k octets total less few is =
-    let next : (k + 1) * size ≤ t * size = mul-le-mul_right {m = k + 1} {n = t} size (omega (arith, less)) in
-    let one : (k + 1) * size ≡ k * size + size = grind arith in
-    omega (arith, next, one, few, is)
+below_all t size k octets total less few is = grind (arith, nat_tests, mul-le-mul_right)
 
 open_short : (k octets total size : ℕ) → octets < size → total ≡ k * size + octets → (nat_le 17 k && (octets == 0)) ≡ false → (total < 17 * size) ⊎ (total % size ≢ 0)
 open_short k octets total size few is h = elim (cases_lt 0 octets) [
@@ -114,8 +105,7 @@ open_short k octets total size few is h = elim (cases_lt 0 octets) [
 ]
   where
     alone : (a b : Bool) → b ≡ true → (a && b) ≡ false → a ≡ false
-    alone true b e f = absurd cc
-    alone false b e f = refl
+    alone a b e f = grind (arith, nat_tests)
 
 row_short : (s : Setting) (k octets total : ℕ) → k < tallest s → octets < row_length s → total ≡ k * row_length s + octets → ends_here s k (Short octets) ≡ false → LacksRows s total
 row_short s k octets total less few is goes_on = record {
@@ -150,10 +140,7 @@ module _ (s : Setting) (range : IsInRange s) (k : ℕ) (p q : Outside) (old : Wo
       omega (arith, r.1, ap length same))
 
   row_below : k * row_length s + row_length s ≤ most_length s
-  row_below =
-      let next : (k + 1) * row_length s ≤ tallest s * row_length s = mul-le-mul_right {m = k + 1} {n = tallest s} (row_length s) (omega (arith, less)) in
-      let one : (k + 1) * row_length s ≡ k * row_length s + row_length s = grind arith in
-      subst (λ n. n ≤ tallest s * row_length s) one next
+  row_below = grind (arith, nat_tests, mul-le-mul_right)
 
   -- the row wasn't read to its end
   pub row_lacks : {T : Type 0} {m : Outside} (before after : List ℤ) (fault : RowFault) → RowRead {T = T} s.depth s.signed s.width k q m before after (Err fault) → ends_here s k fault ≡ false →

@@ -3,6 +3,7 @@ use Rattle.std.proofs.Common.{◌≡◌, ℕ, ◌+◌, ◌*◌, ◌/◌, ◌<◌
 use Rattle.std.specs.Prelude.{MatchOption, is_some}
 use Rattle.std.specs.Result.{IsErr}
 use Rattle.std.proofs.Math.Nat.{mul-le-mul_left}
+use Rattle.std.proofs.lemmas.Bool.Decides.{nat_tests}
 use Rattle.port_122.specs.Outside.{Outside}
 use Rattle.strip_coder.specs.Plans.{IsPlan, whole}
 use Rattle.base_122.specs.Sizes.{block_count, total_blocks}
@@ -47,13 +48,7 @@ row_finished None old new e columns rows answer standing follows shows = absurd 
 
 -- there is room for it
 pub has_room : (s : Plan) (old : Work) (strip : StripWave) → IsEnding s old → StripFinished old.strip strip → gathered_in s old.at + block_count s.setting.width ≤ total_blocks s.setting.width s.rows
-has_room s old strip ending finished =
-    let lt = finished.below in
-    let rows = ending.rows in
-    let next : block_count s.setting.width * (answered_of old.strip + 1) ≤ block_count s.setting.width * block_count s.rows = mul-le-mul_left (block_count s.setting.width) (omega (arith, lt, rows)) in
-    let more : block_count s.setting.width * (answered_of old.strip + 1) ≡ block_count s.setting.width * answered_of old.strip + block_count s.setting.width = grind arith in
-    let at = ending.count in
-    omega (arith, next, at, more)
+has_room s old strip ending finished = grind (arith, nat_tests, mul-le-mul_left)
 
 module _ (s : Plan) (range : IsPlan s) (old mid : Work) (ending : IsEnding s old) (only : OnlyStrip old mid) (finished : StripFinished old.strip mid.strip) where
   all_rows : rows_of old.strip ≡ 8 * block_count s.rows

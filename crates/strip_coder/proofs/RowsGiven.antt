@@ -1,7 +1,8 @@
 -- What is given for the rows so far grows by prefixes, and doesn't depend on rows that weren't taken.
-use Rattle.std.proofs.Common.{◌≡◌, ◌≢◌, min, ℕ, ◌+◌, ◌*◌, ◌/◌, ◌<◌, ◌≤◌, ℤ, List, ◌++◌, length, sym, ap, subst, ◌∙◌, arith, length-append}
+use Rattle.std.proofs.Common.{◌≡◌, ◌≢◌, min, ℕ, ◌+◌, ◌*◌, ◌<◌, ◌≤◌, ℤ, List, ◌++◌, length, sym, ap, ◌∙◌, arith, length-append}
 use Rattle.std.proofs.lemmas.Nat.{div-mul-add, le-div}
 use Rattle.std.proofs.Math.Nat.{mul-le-mul, mul-le-mul_right, mul_assoc}
+use Rattle.std.proofs.lemmas.Bool.Decides.{nat_tests}
 use Rattle.base_122.specs.Ranges.{IsInRange}
 use Rattle.base_122.specs.Setting.{IsHeight, sized}
 use Rattle.base_122.specs.declared.setting.Setting.{Setting}
@@ -15,7 +16,7 @@ use Rattle.stream_defs.specs.SettledImages.{front_packets, settled_in}
 use Rattle.stream_defs.proofs.ImageLaws.{settled_whole}
 use Rattle.stream_defs.proofs.HeightLaws.{images_settle}
 use Rattle.strip_coder.specs.Plans.{tallest}
-use Rattle.strip_coder.specs.Rasters.{row_length, most_length, image_of, settled_octets, whole_rows, given_for}
+use Rattle.strip_coder.specs.Rasters.{row_length, most_length, image_of, settled_octets, given_for}
 use Rattle.strip_coder.proofs.PlanLaws.{tall_height, known_first, known_tallest}
 
 -- the octets of whole rows represent the same image, whatever follows them
@@ -38,8 +39,7 @@ settled_same s rows k taken y range height le le' same = ap joined (images_settl
 
 pub same_octets : (s : Setting) (k : ℕ) (took more : List ℕ) → IsInRange s → k ≤ tallest s → length took ≡ k * row_length s → settled_octets s (took ++ more) k ≡ settled_octets s took k
 unfolding settled_octets
-same_octets s k took more range le whole =
-    ap joined (images_settle s (tallest s) (tallest s) k range (tall_height s range) (tall_height s range) le le (image_of s (took ++ more)) (image_of s took) (same_rows s k took more whole))
+same_octets s k took more range le whole = grind (arith, nat_tests, images_settle, tall_height, same_rows)
 
 -- all rows, if it is known that they are all, settle all packets
 pub rows_whole : (s : Setting) (taken : List ℕ) → s.rows ≢ 0 → settled_octets s taken (tallest s) ≡ output s (tallest s) (image_of s taken)
@@ -58,25 +58,12 @@ most_of t n le = omega arith
 pub given_within : (s : Setting) (k : ℕ) (took part : List ℕ) → IsInRange s → k ≤ tallest s → length took ≡ k * row_length s → length part < row_length s →
     given_for s (took ++ part) ≡ settled_octets s took k
 unfolding given_for
-given_within s k took part range le whole short =
-    let size : length (took ++ part) ≡ k * row_length s + length part = length-append took part ∙ ap (λ n. n + length part) whole in
-    let count : length (took ++ part) / row_length s ≡ k = ap (λ n. n / row_length s) size ∙ div-mul-add k (row_length s) (length part) short in
-    let rows : whole_rows s (took ++ part) ≡ k = least_of (tallest s) (length (took ++ part) / row_length s) k count le in
-    ap (settled_octets s (took ++ part)) rows ∙ same_octets s k took part range le whole
+given_within s k took part range le whole short = grind (arith, nat_tests, length-append, div-mul-add, least_of, same_octets)
 
 -- once the tallest raster was taken, the packets that it settles are given
 pub given_whole : (s : Setting) (took more : List ℕ) → IsInRange s → length took ≡ most_length s → given_for s (took ++ more) ≡ settled_octets s took (tallest s)
 unfolding given_for
-given_whole s took more range whole =
-    let size = size_some s.depth in
-    let width = range.width.0 in
-    let some : 1 * 1 ≤ s.width * pixel_size s.depth = mul-le-mul {n₁ = 1} {m₁ = 1} {n₂ = s.width} {m₂ = pixel_size s.depth} (omega (arith, width)) (omega (arith, size)) in
-    let long : tallest s * row_length s ≤ length (took ++ more) = subst (λ n. n ≤ length (took ++ more)) whole (let n = length-append took more in omega (arith, n)) in
-    let count : tallest s ≤ length (took ++ more) / row_length s = le-div (tallest s) (length (took ++ more)) (row_length s) (omega (arith, some)) long in
-    let rows : whole_rows s (took ++ more) ≡ tallest s = most_of (tallest s) (length (took ++ more) / row_length s) count in
-    ap (settled_octets s (took ++ more)) rows ∙ same_octets s (tallest s) took more range (omega arith) whole
+given_whole s took more range whole = grind (arith, nat_tests, size_some, mul-le-mul, length-append, le-div, most_of, same_octets)
 
 pub given_all : (s : Setting) (raster more : List ℕ) → IsInRange s → s.rows ≢ 0 → length raster ≡ s.rows * row_length s → given_for s (raster ++ more) ≡ output s s.rows (image_of s raster)
-given_all s raster more range known whole =
-    let tall = known_tallest s known in
-    given_whole s raster more range (whole ∙ ap (λ n. n * row_length s) (sym tall)) ∙ rows_whole s raster known ∙ ap (λ n. output s n (image_of s raster)) tall
+given_all s raster more range known whole = grind (arith, nat_tests, known_tallest, given_whole, rows_whole)

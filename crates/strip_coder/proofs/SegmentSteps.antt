@@ -1,7 +1,6 @@
 -- One segment of an image is written from the work that gathered it.
-use Rattle.std.proofs.Common.{◌≡◌, ◌≢◌, ℕ, ◌+◌, ◌-◌, ◌*◌, ◌/◌, ◌^◌, ◌<◌, ◌≤◌, ◌==◌, Bool, true, false, ℤ, pos, List, [], ◌++◌, length, take, drop, refl, sym, ap, ◌∙◌, subst, arith, get_or, min, inl, inr, vec_len, length-append, length-take, length-drop}
+use Rattle.std.proofs.Common.{◌≡◌, ◌≢◌, ℕ, ◌+◌, ◌-◌, ◌*◌, ◌/◌, ◌^◌, ◌<◌, ◌≤◌, ℤ, pos, List, [], ◌++◌, length, take, drop, sym, ap, ◌∙◌, subst, arith, get_or, min, inl, inr, vec_len, length-append, length-take, length-drop}
 use Rattle.std.specs.Prelude.{unsigned_abs}
-use Rattle.std.proofs.lemmas.Bool.{cases_lt}
 use Rattle.std.proofs.lemmas.Bool.Decides.{nat_tests}
 use Rattle.std.proofs.lemmas.List.{same_lists, get_or_default, get_or-take, get_or-drop, length-take-le}
 use Rattle.std.proofs.lemmas.List.FromFn.{get_or-map-range_with_len}
@@ -9,17 +8,15 @@ use Rattle.std.proofs.Math.Seq.{take-append-add}
 use Rattle.port_122.specs.Outside.{Outside}
 use Rattle.segment_code.specs.declared.encode.SegmentWriter.{SegmentWriter}
 use Rattle.strip_coder.specs.Plans.{IsPlan, whole}
-use Rattle.base_122.specs.Sizes.{total_blocks, first_block}
+use Rattle.base_122.specs.Sizes.{total_blocks}
 use Rattle.strip_coder.specs.declared.plan.Plan.{Plan}
 use Rattle.base_122.specs.Ranges.{IsInRange}
 use Rattle.base_122.specs.declared.setting.Setting.{Setting}
 use Rattle.base_122.proofs.GeometryRanges.{in_range-sized}
 use Rattle.base_122.proofs.SizeBounds.{first_block-lt, one-le-segment_blocks}
-use Rattle.segment_defs.specs.Depths.{depth_dc_of, depth_ac_of}
-use Rattle.segment_defs.specs.Coded.{coded}
-use Rattle.packet_defs.specs.Packets.{joined, part_count, part_size}
+use Rattle.packet_defs.specs.Packets.{joined}
 use Rattle.wave_defs.specs.Held.{block_at, blocks_in}
-use Rattle.stream_defs.specs.Output.{head_with, packets_before, packets_of, segment_of, segment_packets, segment_text, segments_of, share, tells_last, used_before}
+use Rattle.stream_defs.specs.Output.{packets_of, segment_packets, segment_text, segments_of, share, tells_last, used_before}
 use Rattle.stream_defs.proofs.Outputs.{packets_before-more, used_before-more}
 use Rattle.stream_defs.proofs.ShareLaws.{left_next, segment_within, share_none}
 use Rattle.space_packets.specs.Progress.{Progress}
@@ -79,29 +76,19 @@ small_part cells n small = record {
 -- ---- its packets
 
 progress_more : {a b : Outside} (s : Plan) (all : List (List ℤ)) (n : ℕ) (w : Progress) → TextOut (text_of s n) a b (progress_at s all n) w (segment_text (whole s) all n) → w ≡ progress_at s all (n + 1)
-progress_more s all n w at =
-    at.stands
-    ∙ same_progress s.setting.packet (n + 1) (n + 1) (packets_before (whole s) all n + part_count (part_size s.setting.packet) (length (segment_text (whole s) all n))) (packets_before (whole s) all (n + 1))
-    (length (joined (packets_of (tells_last s.setting) (whole s) all n)) + length (joined (segment_packets (tells_last s.setting) (whole s) all n))) (length (joined (packets_of (tells_last s.setting) (whole s) all (n + 1))))
-    refl (sym (packets_before-more (whole s) all n)) (sym (ap length (octets-more s all n) ∙ length-append (joined (packets_of (tells_last s.setting) (whole s) all n)) (joined (segment_packets (tells_last s.setting) (whole s) all n))))
+progress_more s all n w at = grind (arith, nat_tests, same_progress, packets_before-more, octets-more, length-append)
 
 -- a prefix of the packets of one segment, after those of the segments before it, is a prefix of all up to it
 front_is : (s : Plan) (all : List (List ℤ)) (n some : ℕ) →
     joined (packets_of (tells_last s.setting) (whole s) all n) ++ take some (joined (segment_packets (tells_last s.setting) (whole s) all n))
     ≡ take (length (joined (packets_of (tells_last s.setting) (whole s) all n)) + some) (joined (packets_of (tells_last s.setting) (whole s) all (n + 1)))
-front_is s all n some =
-    let done = joined (packets_of (tells_last s.setting) (whole s) all n) in
-    let text = joined (segment_packets (tells_last s.setting) (whole s) all n) in
-    sym (ap (take (length done + some)) (octets-more s all n) ∙ take-append-add done text some)
+front_is s all n some = grind (arith, nat_tests, octets-more, take-append-add)
 
 -- ---- shares
 
 -- what was counted matters only if there is a bound on all
 share_same : (s : Setting) (index a b : ℕ) → (s.total ≢ 0 → a ≡ b) → share s index a ≡ share s index b
-share_same s index a b same = elim (cases_lt 0 s.total) [
-  | inl lt ↦ ap (share s index) (same (λ none. omega (arith, none, lt)))
-  | inr le ↦ let none : s.total ≡ 0 = omega (arith, le) in share_none s index a none ∙ sym (share_none s index b none)
-]
+share_same s index a b same = grind (arith, nat_tests, share_none)
 
 pub share_kept : (s : Setting) (a b : ImageAt) → b.index ≡ a.index → b.used ≡ a.used → KeepsShare s a → KeepsShare s b
 share_kept s a b index used keeps = record { left = rw (index, used) keeps.left }
@@ -113,14 +100,7 @@ counted a n m c total most is le = omega arith
 -- ---- the present segment of a work
 
 most_filled : (s : Plan) (old : Work) → IsPlan s → IsFull s old → old.at.filled ≤ most_blocks s.setting
-most_filled s old range full = by (s.setting.rows == 0) refl
-  where
-    by : (b : Bool) → (s.setting.rows == 0) ≡ b → old.at.filled ≤ most_blocks s.setting
-    by true e = rw e (let f = full.full in omega (arith, f))
-    by false e =
-        let f = full.full in
-        let same : s.setting.rows ≡ s.rows = elim range.height.1 [ inl none ↦ absurd (grind (arith, nat_tests)) | inr here ↦ here ] in
-        rw e (rw same (omega (arith, f)))
+most_filled s old range full = grind (arith, nat_tests)
 
 pub cells_fit : (s : Plan) (old : Work) → IsPlan s → IsFull s old → 64 * old.at.filled ≤ length old.blocks.items
 cells_fit s old range full = let most = most_filled s old range full in let room = full.made.blocks in omega (arith, most, room, old.blocks.ok.0)
@@ -129,22 +109,14 @@ pub marks_fit : (s : Plan) (old : Work) → IsPlan s → IsFull s old → old.at
 marks_fit s old range full = let most = most_filled s old range full in let room = full.made.marks in omega (arith, most, room, old.marks.ok.0)
 
 pub some_filled : (s : Plan) (old : Work) → IsPlan s → IsFull s old → 1 ≤ old.at.filled
-some_filled s old range full =
-    let segment = range.in_range.segment in
-    let some = one-le-segment_blocks (total_blocks s.setting.width s.rows) s.setting.segment old.at.index (omega (arith, segment)) full.index in
-    let f = full.full in
-    omega (arith, some, f)
+some_filled s old range full = grind (arith, nat_tests, one-le-segment_blocks)
 
 pub few_filled : (s : Plan) (old : Work) → IsPlan s → IsFull s old → old.at.filled ≤ 1048575
 few_filled s old range full = let f = full.full in let segment = range.in_range.segment in omega (arith, f, segment)
 
 pub text_is : (s : Plan) (old : Work) → IsPlan s → IsFull s old → (all : List (List ℤ)) → length all ≡ total_blocks s.setting.width s.rows → HoldsBlocks s all old →
     text_for s old.at.index old.at.used (blocks_in (take (64 * old.at.filled) old.blocks.items)) ≡ segment_text (whole s) all old.at.index
-text_is s old range full all long holds =
-    let index = old.at.index in
-    let segment = segment_of (whole s) all index in
-    ap (text_for s index old.at.used) (segment_is old.blocks.items all old.at.filled (first_block s.setting.segment index) s.setting.segment (total_blocks s.setting.width s.rows) long full.full (cells_fit s old range full) holds.blocks)
-    ∙ ap (λ limit. coded s.setting.book (head_with (whole s) index limit (length segment) (depth_dc_of segment) (depth_ac_of segment)) segment) (share_same (whole s) index old.at.used (used_before (whole s) all index) holds.used)
+text_is s old range full all long holds = grind (arith, nat_tests, segment_is, cells_fit, share_same)
 
 -- what differs in a work after its present segment was given to be written
 pub record Rewritten (old new : Work) : Type 0 where
@@ -179,17 +151,13 @@ module _ (s : Plan) (old new : Work) (range : IsPlan s) (full : IsFull s old) (s
 
   -- what is left after its text
   left_now : s.setting.total ≢ 0 → old.at.used + length (present_text s old) + 36 * (segments_of (whole s) - (old.at.index + 1)) ≤ s.setting.total
-  left_now some =
-      left_next (whole s) sized_range some old.at.index old.at.used (length (present_text s old)) full.index (full.share.left some)
-      (segment_within (whole s) sized_range some (present_blocks old) old.at.index old.at.used full.index (full.share.left some))
+  left_now some = grind (arith, nat_tests, left_next, sized_range, segment_within)
 
   total_most : s.setting.total ≢ 0 → s.setting.total ≤ 2 ^ 40
   total_most some = elim range.in_range.total [ inl none ↦ absurd (some none) | inr has ↦ let within = has.within in omega (arith, within) ]
 
   used_now : (octets : ℕ) → octets ≡ length (present_text s old) → new.at.used ≡ min (old.at.used + octets) (2 ^ 64 - 1) → s.setting.total ≢ 0 → new.at.used ≡ old.at.used + length (present_text s old)
-  used_now octets e counts some =
-      counted old.at.used (length (present_text s old)) (36 * (segments_of (whole s) - (old.at.index + 1))) new.at.used s.setting.total (total_most some)
-      (subst (λ n. new.at.used ≡ min (old.at.used + n) (2 ^ 64 - 1)) e counts) (left_now some)
+  used_now octets e counts some = grind (arith, nat_tests, counted, total_most, left_now)
 
   sent_of : {a b : Outside} (w : Progress) (all : List (List ℤ)) → length all ≡ total_blocks s.setting.width s.rows → HoldsBlocks s all old →
       TextOut (text_of s old.at.index) a b old.packets w (present_text s old) → TextOut (text_of s old.at.index) a b (progress_at s all old.at.index) w (segment_text (whole s) all old.at.index)

@@ -1,5 +1,5 @@
 -- The text of one segment of an image.
-use Rattle.std.proofs.Common.{◌≡◌, ◌≢◌, ℕ, ◌+◌, ◌-◌, ◌*◌, ◌/◌, ◌<◌, ◌≤◌, ◌==◌, ℤ, Bool, true, false, if◌then◌else◌, List, length, refl, sym, ap, subst, ◌∙◌, arith, inl, inr, take, length-append, length-take}
+use Rattle.std.proofs.Common.{◌≡◌, ◌≢◌, ℕ, ◌+◌, ◌-◌, ◌/◌, ◌<◌, ◌≤◌, ◌==◌, ℤ, Bool, false, if◌then◌else◌, List, length, refl, sym, ap, subst, arith, inl, inr, length-append, length-take}
 use Rattle.std.proofs.lemmas.Bool.{cases_lt}
 use Rattle.std.proofs.lemmas.Bool.Decides.{nat_tests}
 use Rattle.std.proofs.Math.Nat.{le-div_iff_mul-le, mul-le-mul_right}
@@ -9,18 +9,15 @@ use Rattle.base_122.proofs.GeometryRanges.{in_range-sized}
 use Rattle.base_122.specs.declared.book.Book.{Book}
 use Rattle.strip_coder.specs.Plans.{IsPlan, whole}
 use Rattle.strip_coder.specs.declared.plan.Plan.{Plan}
-use Rattle.item_defs.specs.Bits.{copies, octets_of, bits_of}
-use Rattle.item_defs.specs.Padding.{padded, padding, rounded}
-use Rattle.item_defs.specs.Items.{text}
+use Rattle.item_defs.specs.Bits.{bits_of}
 use Rattle.item_defs.proofs.BitLists.{length-copies}
 use Rattle.item_defs.proofs.OctetBits.{length-octets_of}
 use Rattle.segment_defs.specs.declared.head.SegmentHead.{SegmentHead}
 use Rattle.wave_defs.specs.Held.{block_at, blocks_in}
-use Rattle.segment_defs.specs.Depths.{block_depths, depth_dc_of, depth_ac_of}
+use Rattle.segment_defs.specs.Depths.{depth_dc_of, depth_ac_of}
 use Rattle.segment_defs.specs.Head.{head_bits, head_fields, IsHead}
 use Rattle.segment_defs.specs.Text.{cut, text_octets}
-use Rattle.segment_defs.specs.SegmentItems.{segment_items}
-use Rattle.segment_defs.specs.Coded.{coded, coded_bits, chosen_options}
+use Rattle.segment_defs.specs.Coded.{coded}
 use Rattle.stream_defs.specs.Output.{head_with, segments_of, share}
 use Rattle.stream_defs.specs.Shares.{CanBeSaid}
 use Rattle.stream_defs.proofs.ShareLaws.{said_by, share_none}
@@ -55,20 +52,16 @@ head_is s index limit count depth_dc depth_ac range said some most least_dc most
 }
   where
     plane_least : (dc : Bool) (plane : ℕ) → plane < 32 → (if dc then 0 else plane) < 32
-    plane_least true plane h = omega arith
-    plane_least false plane h = h
+    plane_least dc plane h = grind (arith, nat_tests)
 
     stage_least : (dc : Bool) (stage : ℕ) → stage < 4 → (if dc then 3 else stage) < 4
-    stage_least true stage h = omega arith
-    stage_least false stage h = h
+    stage_least dc stage h = grind (arith, nat_tests)
 
     pads : (last : Bool) (rows : ℕ) → (if last then padded_size rows - rows else 0) < 8
-    pads true rows = omega arith
-    pads false rows = omega arith
+    pads last rows = grind (arith, nat_tests)
 
     none : (last : Bool) (rows : ℕ) → last ≡ false → (if last then padded_size rows - rows else 0) ≡ 0
-    none true rows e = absurd cc
-    none false rows e = refl
+    none last rows e = grind (arith, nat_tests)
 
 -- a head isn't empty
 head_some : (h : SegmentHead) → 1 ≤ length (head_bits h)
@@ -77,27 +70,12 @@ head_some h = omega arith
 
 -- nor is what a limit leaves of octets
 cut_some : (limit : ℕ) (octets : List ℕ) → 0 < length octets → 0 < length (cut limit octets)
-cut_some limit octets some = by_limit (limit == 0) refl
-  where
-    by_limit : (none : Bool) → (limit == 0) ≡ none → 0 < length (if none then octets else take limit octets)
-    by_limit true e = some
-    by_limit false e = let least : 1 ≤ limit = grind (arith, nat_tests) in omega (arith, some, least, length-take limit octets)
+cut_some limit octets some = grind (arith, nat_tests, length-take)
 
 -- nor is a text that has one
 pub coded_some : (book : Book) (h : SegmentHead) (blocks : List (List ℤ)) → 1 ≤ h.image.word → 0 < length (coded book h blocks)
 unfolding coded text_octets
-coded_some book h blocks word =
-    let bits = coded_bits book h blocks in
-    let unit = 8 * h.image.word in
-    let some : 1 ≤ length bits = omega (arith, head_some h, length-append (head_bits h) (text (segment_items h blocks (block_depths blocks) (chosen_options book h blocks)))) in
-    let least : 1 * unit ≤ rounded unit (length bits) = mul-le-mul_right {m = 1} {n = (length bits + (unit - 1)) / unit} unit (one_word unit (length bits) (omega (arith, word)) some) in
-    let long : length (padded h.image.word h.limit h.fill bits) ≡ length bits + padding h.image.word h.limit h.fill (length bits) =
-    length-append bits (copies (padding h.image.word h.limit h.fill (length bits)) false) ∙ ap (λ n. length bits + n) (length-copies (padding h.image.word h.limit h.fill (length bits)) false) in
-    let eight : 8 ≤ length (padded h.image.word h.limit h.fill bits) = omega (arith, long, least, word) in
-    cut_some h.limit (octets_of (padded h.image.word h.limit h.fill bits)) (omega (arith, length-octets_of (padded h.image.word h.limit h.fill bits), eight))
-  where
-    one_word : (unit n : ℕ) → 8 ≤ unit → 1 ≤ n → 1 ≤ (n + (unit - 1)) / unit
-    one_word unit n some more = (le-div_iff_mul-le {k = unit} {x = 1} {y = n + (unit - 1)} (omega arith)).1 (omega arith)
+coded_some book h blocks word = grind (arith, nat_tests, head_some, length-append, mul-le-mul_right, length-copies, cut_some, length-octets_of, le-div_iff_mul-le)
 
 -- the head is the segment's own if its depths are those of the blocks
 pub text_same : (s : Plan) (index used count depth_dc depth_ac : ℕ) (segment : List (List ℤ)) → count ≡ length segment →

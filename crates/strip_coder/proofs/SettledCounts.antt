@@ -1,8 +1,7 @@
 -- The segments before the present one are those that the rows so far settle.
-use Rattle.std.proofs.Common.{◌≡◌, ℕ, zero, suc, ◌+◌, ◌-◌, ◌*◌, ◌<◌, ◌≤◌, refl, sym, ap, ◌∙◌, arith, inl, inr}
-use Rattle.std.specs.Prelude.{Bool, true, false, ◌==◌, ◌&&◌, ◌||◌, not, nat_lt, cond}
+use Rattle.std.proofs.Common.{◌≡◌, ℕ, zero, suc, ◌+◌, ◌-◌, ◌*◌, ◌<◌, ◌≤◌, sym, ap, ◌∙◌, arith}
+use Rattle.std.specs.Prelude.{Bool, true, false, cond}
 use Rattle.std.specs.List.{count_by, range_with_len}
-use Rattle.std.proofs.lemmas.Bool.{cases_lt}
 use Rattle.std.proofs.lemmas.Bool.Decides.{nat_tests}
 use Rattle.std.proofs.lemmas.List.Sums.{sum_by-cons}
 use Rattle.std.proofs.lemmas.Nat.{le-div}
@@ -42,23 +41,10 @@ count_first p (suc n) a (suc m) le holds fails =
     one false e = absurd cc
 
 pub settled_so : (s : Plan) (k i : ℕ) → 8 * last_block_row (whole s) i + 28 < k → is_settled (tells_last s.setting) (whole s) k i ≡ true
-settled_so s k i near = by_test (not (tells_last s.setting) && (k == s.rows)) (let t : nat_lt (8 * last_block_row (whole s) i + 28) k ≡ true = grind (arith, nat_tests) in t)
-  where
-    by_test : (b : Bool) → nat_lt (8 * last_block_row (whole s) i + 28) k ≡ true → (b || nat_lt (8 * last_block_row (whole s) i + 28) k) ≡ true
-    by_test true t = refl
-    by_test false t = t
+settled_so s k i near = grind (arith, nat_tests)
 
 unsettled_so : (s : Plan) (k i : ℕ) → MoreMayCome s k → k ≤ 8 * last_block_row (whole s) i + 28 → is_settled (tells_last s.setting) (whole s) k i ≡ false
-unsettled_so s k i more far =
-    let b : nat_lt (8 * last_block_row (whole s) i + 28) k ≡ false = grind (arith, nat_tests) in
-    elim more [
-      | inl less ↦ let a : (k == s.rows) ≡ false = grind (arith, nat_tests) in rw (a, b) (none (not (tells_last s.setting)))
-      | inr left_open ↦ let a = open_last s.setting left_open in rw (a, b) refl
-    ]
-  where
-    none : (t : Bool) → (t && false || false) ≡ false
-    none true = refl
-    none false = refl
+unsettled_so s k i more far = grind (arith, nat_tests, open_last)
 
 module _ (s : Plan) (range : IsPlan s) (k : ℕ) (w : Work) (running : IsRunning s w) (rows : rows_of w.strip ≡ k) (least : k ≤ s.rows) where
   some_columns : 0 < block_count s.setting.width
@@ -71,12 +57,7 @@ module _ (s : Plan) (range : IsPlan s) (k : ℕ) (w : Work) (running : IsRunning
   count = running.count ∙ ap (λ n. block_count s.setting.width * block_rows_in n) rows
 
   pub few_gathered : gathered_in s w.at < total_blocks s.setting.width s.rows
-  few_gathered =
-      let high = range.height.0.0 in
-      let below : block_rows_in k + 1 ≤ block_count s.rows = omega (arith, least, high) in
-      let next = mul-le-mul_left (block_count s.setting.width) below in
-      let more : block_count s.setting.width * (block_rows_in k + 1) ≡ block_count s.setting.width * block_rows_in k + block_count s.setting.width = grind arith in
-      omega (arith, count, next, more, some_columns)
+  few_gathered = grind (arith, nat_tests, mul-le-mul_left, count, some_columns)
 
   pub below : w.at.index < segments_of (whole s)
   below = more_segments s range w running.gathered few_gathered
@@ -106,22 +87,7 @@ module _ (s : Plan) (range : IsPlan s) (k : ℕ) (w : Work) (running : IsRunning
       unsettled_so s k i more (omega (arith, row))
     where
       far : block_rows_in k * block_count s.setting.width ≤ i * s.setting.segment + segment_blocks (total_blocks s.setting.width s.rows) s.setting.segment i - 1
-      far =
-          let total = total_blocks s.setting.width s.rows in
-          let some = one-le-segment_blocks total s.setting.segment i some_blocks lt in
-          let present = running.gathered.present below in
-          let at = place in
-          let turned : block_count s.setting.width * block_rows_in k ≡ block_rows_in k * block_count s.setting.width = grind arith in
-          elim (cases_lt w.at.index i) [
-            | inl later ↦
-                let next : (w.at.index + 1) * s.setting.segment ≤ i * s.setting.segment = mul-le-mul_right s.setting.segment (omega (arith, later)) in
-                let more : (w.at.index + 1) * s.setting.segment ≡ w.at.index * s.setting.segment + s.setting.segment = omega arith in
-                omega (arith, some, present, at, turned, next, more)
-            | inr same ↦
-                let e : i ≡ w.at.index = omega (arith, same, le) in
-                let f : i * s.setting.segment + segment_blocks total s.setting.segment i ≡ w.at.index * s.setting.segment + segment_blocks total s.setting.segment w.at.index = ap (λ n. n * s.setting.segment + segment_blocks total s.setting.segment n) e in
-                omega (arith, present, at, turned, f)
-          ]
+      far = grind (arith, nat_tests, one-le-segment_blocks, some_blocks, below, place, mul-le-mul_right)
 
   pub index_settled : MoreMayCome s k → w.at.index ≡ settled (tells_last s.setting) (whole s) k
   unfolding settled

@@ -2,10 +2,11 @@
 use Rattle.std.proofs.Common.{◌≡◌, ◌≤◌, ◌<◌, ◌+◌, ◌*◌, ◌/◌, ℕ, ℤ, List, [], ◌∷◌, ◌++◌, length, take, drop, refl, sym, ap, subst, ◌∙◌, inl, inr, arith, append_assoc, length-append}
 use Rattle.std.specs.Prelude.{◌%◌, if◌then◌else◌, true, false, Option, None, Some, is_some, slice_index_or, MatchOption}
 use Rattle.std.specs.Option.{option_map}
-use Rattle.std.proofs.lemmas.Bool.{cases_lt, false≢true}
+use Rattle.std.proofs.lemmas.Bool.{false≢true}
 use Rattle.std.proofs.lemmas.List.{append-nil, take-append-le, take-append-drop}
 use Rattle.std.proofs.lemmas.Nat.{div_below}
 use Rattle.std.proofs.Math.Seq.{take-append-add}
+use Rattle.std.proofs.lemmas.Bool.Decides.{nat_tests}
 use Rattle.port_122.specs.Outside.{Outside, Exchange, NoRead}
 use Rattle.port_122.proofs.Stretches.{since_then, since_out, since_weaker}
 use Rattle.base_122.specs.Sizes.{first_block}
@@ -163,10 +164,7 @@ few_known pixels apid passed next g geometry few known h there = elim (known_or_
 -- two results for the same segment agree
 pub both_tell : (book : Book) (packets : List (List ℕ)) (index : ℕ) (r s : Option (List (List ℤ))) → MatchOption r ((w : List (List ℤ)) → IsReceived (holds_after book) packets index w → ⊥) (IsReceived (holds_after book) packets index) →
     MatchOption s ((w : List (List ℤ)) → IsReceived (holds_after book) packets index w → ⊥) (IsReceived (holds_after book) packets index) → r ≡ s
-both_tell book packets index None None x y = refl
-both_tell book packets index (Some v) (Some w) x y = ap Some (one_received book packets index v w x y)
-both_tell book packets index None (Some w) x y = absurd (x w y)
-both_tell book packets index (Some v) None x y = absurd (y v x)
+both_tell book packets index r s x y = grind (arith, nat_tests, one_received)
 
 -- the first blocks are those of the segments that are received
 pub of_received : (g : Geometry) (sofar received : Numbers) (n bound : ℕ) → 0 < g.segment → n ≤ first_block g.segment bound → ((index : ℕ) → index < bound → received index ≡ sofar index) → AreOf g sofar n (blocks_with g received)
@@ -176,22 +174,11 @@ of_received g sofar received n bound some few same = record {
 
 -- the blocks that a state settles
 settled_is : (s : FateState) (received : Numbers) (g : Geometry) (l : LastPart) → s.geometry ≡ Some g → s.last ≡ Some l → settled_blocks s received ≡ blocks_through g received l.index
-settled_is s received g l geometry last =
-    let known : FateState = record { geometry = Some g; told_last = s.told_last; last = Some l } in
-    let same : s ≡ known = λ i. record { geometry = geometry i; told_last = s.told_last; last = last i } in
-    ap (λ s. settled_blocks s received) same
+settled_is s received g l geometry last = grind (arith, nat_tests)
 
 -- the blocks that were passed are no more than those that are passed in the end
 pub within_passed : (g h : Geometry) (n ended : ℕ) → MayEnd g (placed h) n → n ≤ blocks_of g → (h.rows ≡ 0 → n ≤ ended) → n ≤ blocks_passed h ended
-within_passed g h n ended ends few begun = elim (known_or_not h.rows) [
-  | inl none ↦ subst (λ b. n ≤ (if b then ended else blocks_of h)) (sym (is_open h.rows none)) (begun none)
-  | inr some ↦
-      let same = blocks_known h some in
-      subst (λ b. n ≤ (if b then ended else blocks_of h)) (sym (is_not_open h.rows some)) (elim ends [
-        | inl here ↦ let total : blocks_of (placed h) ≡ blocks_of g = ap blocks_of here in omega (arith, same, total, few)
-        | inr e ↦ omega (arith, same, e.more)
-      ])
-]
+within_passed g h n ended ends few begun = grind (arith, nat_tests, known_or_not, is_open, blocks_known, is_not_open)
 
 -- the blocks of segments of this size
 abbrev pub blocks_by : (size : ℕ) → Numbers → Blocks
@@ -276,9 +263,4 @@ module _ {S : Type 0} (k : SinkOf S) (w : Run) (a : Assembling) (p : Walking S) 
   }
     where
       all_same : (received : Numbers) → ReceivedIn (holds_after w.book) w.apid (took ++ octets) received → (index : ℕ) → received index ≡ sofar index
-      all_same received are index = elim (cases_lt index bound) [
-        | inl low ↦ known_same received are index low
-        | inr high ↦
-            let told = subst (λ packets. MatchOption (received index) ((v : List (List ℤ)) → IsReceived (holds_after w.book) packets index v → ⊥) (IsReceived (holds_after w.book) packets index)) kept_are (are.at index) in
-            both_tell w.book (kept w.apid fresh (passed ++ next)) index (received index) (sofar index) told (rw (above index high) (λ v x. beyond_none index v high x))
-      ]
+      all_same received are index = grind (arith, nat_tests, known_same, kept_are, both_tell)

@@ -2,8 +2,10 @@
 use Rattle.std.proofs.Common.{◌≡◌, ◌≤◌, ◌<◌, ◌+◌, ◌*◌, ℕ, List, [], ◌∷◌, ◌++◌, refl, sym, ap, subst, ◌∙◌, inl, inr, arith}
 use Rattle.std.specs.Prelude.{Option, None, Some, Ok}
 use Rattle.std.proofs.Math.Nat.{mul-le-mul_left, mul-le-mul_right}
+use Rattle.std.proofs.lemmas.Option.{same_Some}
+use Rattle.std.proofs.lemmas.Bool.Decides.{nat_tests}
 use Rattle.port_122.specs.Outside.{Outside, NoFewerFaults}
-use Rattle.base_122.specs.Sizes.{block_count, first_block}
+use Rattle.base_122.specs.Sizes.{first_block}
 use Rattle.base_122.specs.Ranges.{IsGeometryInRange}
 use Rattle.base_122.specs.declared.geometry.Geometry.{Geometry}
 use Rattle.stream_defs.specs.declared.fate.FateState.{FateState}
@@ -24,11 +26,7 @@ use Rattle.strip_decoder.proofs.Staying.{last_some, fits_begun, stays_here, stay
 
 -- an image of fewer rows has no more blocks
 pub fewer_blocks : (g h : Geometry) → h ≡ record g { rows = h.rows } → h.rows ≤ g.rows → blocks_of h ≤ blocks_of g
-fewer_blocks g h same fewer =
-    let width : block_count h.width ≡ block_count g.width = ap (λ (g : Geometry). block_count g.width) same in
-    let rows : block_count h.rows ≤ block_count g.rows = omega (arith, fewer) in
-    let most : block_count g.width * block_count h.rows ≤ block_count g.width * block_count g.rows = mul-le-mul_left (block_count g.width) rows in
-    omega (arith, ap (λ n. n * block_count h.rows) width, most)
+fewer_blocks g h same fewer = grind (arith, nat_tests, mul-le-mul_left)
 
 -- a segment is one of the image that ends earlier if a segment of that image follows it
 pub fits_ended : (g h : Geometry) (n : ℕ) (start next : SegmentStart) → MayEnd g h n → FitsImage g start → FitsImage h next → start.ancillary.index < next.ancillary.index → FitsImage h start
@@ -170,9 +168,7 @@ may_follow a b p start at goes le = by b.held refl
 
 -- a walk at a segment's first block is before the next segment
 pub segment_low : {S : Type 0} (p : Walking S) (start : SegmentStart) → FitsImage p.geometry start → passed_in p ≡ start.ancillary.first → passed_in p ≤ first_block p.geometry.segment (start.ancillary.index + 1)
-segment_low p start fits there =
-    let more : (start.ancillary.index + 1) * p.geometry.segment ≡ start.ancillary.index * p.geometry.segment + p.geometry.segment = grind arith in
-    omega (arith, there, fits.first, more)
+segment_low p start fits there = grind (arith, nat_tests)
 
 -- a segment was returned
 pub found_at : {S : Type 0} {old new : Outside} (a b : Assembling) (p : Walking S) (start : SegmentStart) → IsBetween a p → FindsSegment old new a b (Ok (Some start)) → IsFound b p start
@@ -216,9 +212,6 @@ finds_faults {old = old} {new = new} a b (Some start) finds = elim finds.ends [
 
 -- ---- the first segment
 
-some_geometry : {x y : Geometry} → Some x ≡ Some y → x ≡ y
-some_geometry e = cc
-
 -- the first segment was returned
 pub found_first : {S : Type 0} {old new : Outside} (k : SinkOf S) (apid cap : ℕ) (a b : Assembling) (p : Walking S) (start : SegmentStart) (g : Geometry) → a ≡ unread_assembly apid cap → FindsSegment old new a b (Ok (Some start)) → b.state.geometry ≡ Some g → IsGeometryInRange g →
     IsFresh k (placed g) p → IsAt b p start
@@ -230,7 +223,7 @@ found_first {old = old} {new = new} k apid cap a b p start g unread finds geomet
           let there = after_all apid fresh found.front in
           let b' = begun_by apid found.front found.packet start found.starts in
           let state = found.passed.state ∙ after_more apid fresh found.front found.packet in
-          let made : b'.image ≡ g = some_geometry (sym b'.geometry ∙ sym (ap (λ (s : FateState). s.geometry) state) ∙ geometry) in
+          let made : b'.image ≡ g = same_Some _ _ (sym b'.geometry ∙ sym (ap (λ (s : FateState). s.geometry) state) ∙ geometry) in
           record {
             image = g;
             has = record { passed = found.front ++ found.packet ∷ []; state = found.passed.state ∙ ap (λ n. after_all n fresh (found.front ++ found.packet ∷ [])) (sym found.passed.apid); geometry = geometry; range = range };

@@ -6,20 +6,20 @@ use Rattle.std.proofs.lemmas.Bool.{false≢true}
 use Rattle.std.proofs.lemmas.Bool.Decides.{nat_tests}
 use Rattle.std.proofs.lemmas.List.{append-nil}
 use Rattle.std.proofs.lemmas.Nat.{div-mul-add}
+use Rattle.stream_defs.proofs.OpenContaining.{any_chosen}
 use Rattle.port_122.specs.Outside.{Outside, NoRead}
 use Rattle.port_122.proofs.Stretches.{since_start, since_out, rose_since}
 use Rattle.base_122.specs.Sizes.{block_count}
 use Rattle.base_122.specs.declared.geometry.Geometry.{Geometry}
 use Rattle.stream_defs.specs.Marks.{Marks, marked, and_missing, most_block_rows}
-use Rattle.damage_rows.proofs.TableLaws.{any_there, any_none, filter_same}
+use Rattle.damage_rows.proofs.TableLaws.{any_none, filter_same}
 use Rattle.strip_decoder.specs.Sinks.{Blocks, SinkOf, Takes, Fails}
 use Rattle.strip_decoder.specs.Steps.{Walking, IsCurrent, HasRoom, Follows, AreNext, HasPassed, StopsEarly, PassesBlocks, HasAdvanced, passed_in, is_marked, is_lost, IsListed}
 
 -- ---- marks
 
 or_none : (b : Bool) → (b || false) ≡ b
-or_none true = refl
-or_none false = refl
+or_none b = grind (arith, nat_tests)
 
 marked_row : (m : Marks) (r row : ℕ) → row < most_block_rows → is_marked (marked m r).missing row ≡ (is_marked m.missing row || (r == row))
 unfolding and_missing
@@ -35,7 +35,7 @@ marked_row m r row low = by (f row) refl
     same = ap (λ b. is_marked m.missing row || b) (turned row r)
 
     by : (b : Bool) → f row ≡ b → list_any (λ k. k == row) (filter f (range_with_len 0 most_block_rows)) ≡ (is_marked m.missing row || (r == row))
-    by true e = any_there (λ k. k == row) f most_block_rows 0 row (omega arith) (omega (arith, low)) e (grind (arith, nat_tests)) ∙ sym e ∙ same
+    by true e = any_chosen (λ k. k == row) f most_block_rows 0 row (omega arith) (omega (arith, low)) e (grind (arith, nat_tests)) ∙ sym e ∙ same
     by false e = any_none (λ k. k == row) f most_block_rows 0 (λ i from below set. other i (i == row) refl set) ∙ sym e ∙ same
       where
         other : (i : ℕ) (b : Bool) → (i == row) ≡ b → f i ≡ true → b ≡ false
@@ -58,12 +58,10 @@ marks_past None m row = marked m row
 marks_past (Some xs) m row = m
 
 past_rows : (v : Option (List ℤ)) (m : Marks) (row : ℕ) → (marks_past v m row).rows ≡ m.rows
-past_rows None m row = refl
-past_rows (Some xs) m row = refl
+past_rows v m row = grind (arith, nat_tests)
 
 past_marked : (v : Option (List ℤ)) (m : Marks) (r row : ℕ) → row < most_block_rows → is_marked (marks_past v m r).missing row ≡ (is_marked m.missing row || (not (is_some v) && (r == row)))
-past_marked None m r row low = marked_row m r row low
-past_marked (Some xs) m r row low = sym (or_none (is_marked m.missing row))
+past_marked v m r row low = grind (arith, nat_tests, marked_row, or_none)
 
 past_listed : (v : Option (List ℤ)) (m : Marks) (r : ℕ) → IsListed m → IsListed (marks_past v m r)
 past_listed None m r listed = marked_listed m r
@@ -83,9 +81,7 @@ any_more f a (suc n) =
 
 -- one block more
 lost_more : (g : Geometry) (blocks : Blocks) (m row : ℕ) → is_lost g blocks (m + 1) row ≡ (is_lost g blocks m row || (not (is_some (blocks m)) && (m / block_count g.width == row)))
-lost_more g blocks m row =
-    let test : ℕ → Bool = λ block. not (is_some (blocks block)) && (block / block_count g.width == row) in
-    any_more test 0 m ∙ ap (λ n. is_lost g blocks m row || test n) (omega arith)
+lost_more g blocks m row = grind (arith, nat_tests, any_more)
 
 -- ---- one block
 
@@ -101,13 +97,7 @@ module _ {S : Type 0} (k : SinkOf S) (v : Option (List ℤ)) (p z : Walking S) (
   next_is blocks next = ap blocks (omega arith) ∙ next.at 0 (omega arith)
 
   marked_past : (blocks : Blocks) (gave : List ℕ) → Follows k p blocks gave → AreNext (λ i. v) 1 p blocks → (row : ℕ) → row < most_block_rows → is_marked (marks_past v p.damage p.at.row).missing row ≡ is_lost p.geometry blocks (passed_in p + 1) row
-  marked_past blocks gave f next row low =
-      let at : passed_in p / c ≡ p.at.row = div-mul-add p.at.row c p.at.column standing.column in
-      past_marked v p.damage p.at.row row low
-      ∙ ap (λ q. q || (not (is_some v) && (p.at.row == row))) (f.marked row low)
-      ∙ ap (λ o. is_lost p.geometry blocks (passed_in p) row || (not (is_some o) && (p.at.row == row))) (sym (next_is blocks next))
-      ∙ ap (λ n. is_lost p.geometry blocks (passed_in p) row || (not (is_some (blocks (passed_in p))) && (n == row))) (sym at)
-      ∙ sym (lost_more p.geometry blocks (passed_in p) row)
+  marked_past blocks gave f next row low = grind (arith, nat_tests, div-mul-add, past_marked, next_is, lost_more)
 
   -- it was passed
   pub one_passed : Takes k p.geometry (passed_in p) v a b p.sink t → HasAdvanced past z → HasPassed k (λ i. v) 1 a b p z

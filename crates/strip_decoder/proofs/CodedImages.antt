@@ -1,5 +1,5 @@
 -- The texts of an image's segments begin with their heads.
-use Rattle.std.proofs.Common.{◌≡◌, ◌≤◌, ◌<◌, ◌+◌, ◌-◌, ◌*◌, ◌%◌, ◌^◌, ℕ, ℤ, Bool, true, false, List, ◌++◌, length, take, drop, min, refl, sym, ap, ◌∙◌, inl, inr, arith, append_assoc, length-append, length-drop}
+use Rattle.std.proofs.Common.{◌≡◌, ◌≤◌, ◌<◌, ◌+◌, ◌-◌, ◌*◌, ◌%◌, ◌^◌, ℕ, ℤ, Bool, true, false, List, ◌++◌, length, take, drop, min, sym, ap, ◌∙◌, inl, inr, arith, append_assoc, length-append, length-drop}
 use Rattle.std.specs.Prelude.{◌==◌, if◌then◌else◌, Ok, IsTrue}
 use Rattle.std.proofs.lemmas.Bool.{cases_lt}
 use Rattle.std.proofs.lemmas.Bool.Decides.{nat_tests}
@@ -49,19 +49,14 @@ first_octets n bits = elim (cases_lt (length bits) (8 * n)) [
         ∙ take_at (octets_of front) (octets_of (drop (8 * n) bits)) n (length-octets_of front ∙ omega (arith, long))
 
 head_most : (last : Bool) → (if last then 20 else 19) ≤ 20
-head_most true = omega arith
-head_most false = omega arith
+head_most last = grind (arith, nat_tests)
 
 head_least : (last : Bool) → 19 ≤ (if last then 20 else 19)
-head_least true = omega arith
-head_least false = omega arith
+head_least last = grind (arith, nat_tests)
 
 -- a prefix of a prefix is a prefix
 take_less : (m n : ℕ) (xs : List ℕ) → take m (take n xs) ≡ take (min m n) xs
-take_less m n xs = elim (cases_lt n m) [
-  | inl more ↦ take_all m (take n xs) (omega (arith, more, length-take n xs)) ∙ ap (λ k. take k xs) (omega (arith, more))
-  | inr less ↦ take-take m n xs less ∙ ap (λ k. take k xs) (omega (arith, less))
-]
+take_less m n xs = grind (arith, nat_tests, take_all, length-take, take-take)
 
 module _ (book : Book) (h : SegmentHead) (blocks : List (List ℤ)) (ok : IsHead h) (ten : length h.image.weights.shifts ≡ 10) (small : h.count < 256) where
   abbrev bits : List Bool
@@ -97,13 +92,7 @@ module _ (book : Book) (h : SegmentHead) (blocks : List (List ℤ)) (ok : IsHead
   -- and so do those of the text, which the limit may cut
   text_tells : (m : ℕ) → 20 ≤ m → head_read (take m (coded book h blocks)) ≡ Ok h
   unfolding coded text_octets
-  text_tells m some = by (h.limit == 0) refl
-    where
-      by : (b : Bool) → (h.limit == 0) ≡ b → head_read (take m (if b then all else take h.limit all)) ≡ Ok h
-      by true e = told m some
-      by false e =
-          let least : 20 ≤ h.limit = elim ok.limit [ inl none ↦ absurd (let t : (h.limit == 0) ≡ true = grind (arith, nat_tests) in cc) | inr given ↦ omega (arith, given.0) ] in
-          ap head_read (take_less m h.limit all) ∙ told (min m h.limit) (omega (arith, some, least))
+  text_tells m some = grind (arith, nat_tests, told, take_less)
 
   -- it isn't too long
   text_short : length (head_bits h ++ text (segment_items h blocks (block_depths blocks) (chosen_options book h blocks))) < 2 ^ 34 → length (coded book h blocks) < 2 ^ 32
@@ -153,9 +142,4 @@ images_coded short s x range sound height ten pixels = record {
     count_small index = omega arith
 
     heads : (index : ℕ) → index < segments_of s → head_read (part_of (part_size s.packet) 0 (segment_text s (image_blocks s x) index)) ≡ Ok (head_for s (image_blocks s x) index)
-    heads index lt =
-        let blocks = segment_of s (image_blocks s x) index in
-        let packet = range.packet in
-        let none : 0 * part_size s.packet ≡ 0 = omega arith in
-        ap (λ n. head_read (take (part_size s.packet) (drop n (segment_text s (image_blocks s x) index)))) none
-        ∙ text_tells s.book (head_for s (image_blocks s x) index) blocks (head_fits s x range height pixels index lt) ten (count_small index) (part_size s.packet) (omega (arith, packet))
+    heads index lt = grind (arith, nat_tests, text_tells, head_fits, count_small)

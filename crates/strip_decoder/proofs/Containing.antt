@@ -1,8 +1,8 @@
 -- No pixel outside the damaged rows depends on what was lost.
-use Rattle.std.proofs.Common.{◌≡◌, ◌≤◌, ◌<◌, ◌+◌, ◌*◌, ◌/◌, ◌^◌, ℕ, ℤ, get_or, refl, sym, ap, subst, ◌∙◌, inl, inr, arith}
-use Rattle.std.specs.Prelude.{Bool, true, false, ◌&&◌, not, nat_lt, is_some}
+use Rattle.std.proofs.Common.{◌≡◌, ◌<◌, ◌+◌, ◌*◌, ◌/◌, ◌^◌, ℕ, ℤ, get_or, refl, sym, ap, subst, ◌∙◌, inl, inr, arith}
+use Rattle.std.specs.Prelude.{Bool, true, false, not, nat_lt, is_some}
 use Rattle.std.specs.List.{list_any}
-use Rattle.std.proofs.lemmas.Bool.{false≢true}
+use Rattle.std.proofs.lemmas.Bool.{false≢true, not-false, and_from}
 use Rattle.std.proofs.lemmas.Bool.Decides.{nat_tests}
 use Rattle.std.proofs.Math.Nat.{mul-le-mul_right}
 use Rattle.base_122.specs.Sizes.{block_count}
@@ -17,10 +17,9 @@ use Rattle.wave_defs.proofs.ReachLaws.{rows-reach}
 use Rattle.stream_defs.specs.Begun.{band_rows, block_rows, height}
 use Rattle.stream_defs.specs.Damage.{is_missing, whole_missing, is_damaged, damage, whole_damage, is_covered, missing_below}
 use Rattle.stream_defs.specs.Picture.{number_at, picture, picture_octets, picture_with, whole_octets, whole_picture, whole_with, picture_of}
-use Rattle.stream_defs.proofs.OpenContaining.{contained_open}
+use Rattle.stream_defs.proofs.OpenContaining.{contained_open, any_chosen}
 use Rattle.stream_defs.proofs.PlacedLaws.{is_open, is_not_open, within_not}
 use Rattle.stream_defs.proofs.DamageLaws.{whole_damage as damage_whole}
-use Rattle.damage_rows.proofs.TableLaws.{any_there}
 use Rattle.picture_rows.specs.Fronts.{bands_of}
 use Rattle.strip_decoder.specs.Runs.{Numbers}
 use Rattle.strip_decoder.specs.Containment.{AreWith, SameOutside}
@@ -43,18 +42,11 @@ module _ (g : Geometry) (received : Numbers) (numbers : ℕ → ℕ → ℤ) (n 
 
   -- a block of a block row that isn't missing is in a received segment
   kept_there : (t k : ℕ) → missing t ≡ false → k < c → is_some (received ((t * c + k) / g.segment)) ≡ true
-  kept_there t k kept lt = by (is_some (received ((t * c + k) / g.segment))) (any_at (λ column. not (is_some (received ((t * c + column) / g.segment)))) c k kept lt)
-    where
-      by : (b : Bool) → not b ≡ false → b ≡ true
-      by true e = refl
-      by false e = absurd (false≢true (sym e))
+  kept_there t k kept lt = not-false (is_some (received ((t * c + k) / g.segment))) (any_at (λ column. not (is_some (received ((t * c + column) / g.segment)))) c k kept lt)
 
   -- it is before the last one
   block_low : (t k : ℕ) → t < r → k < c → t * c + k < block_rows g n * c
-  block_low t k low lt =
-      let next : (t + 1) * c ≤ r * c = mul-le-mul_right c (omega (arith, low)) in
-      let more : (t + 1) * c ≡ t * c + c = grind arith in
-      omega (arith, next, more, lt, ap (λ m. m * c) (known_rows g height n))
+  block_low t k low lt = grind (arith, nat_tests, mul-le-mul_right, known_rows)
 
   -- and is the same
   block_same : (t k : ℕ) → t < r → k < c → missing t ≡ false → SameBlock (bands_of g numbers) (bands_of g (number_at g received)) t k
@@ -71,12 +63,8 @@ module _ (g : Geometry) (received : Numbers) (numbers : ℕ → ℕ → ℤ) (n 
   unreached i t inside uncovered low lost reached =
       let rows : nat_lt i g.rows ≡ true = grind (arith, nat_tests) in
       let undamaged : is_damaged g.rows (whole_missing g received) i ≡ false = sym ((damage_whole g.rows (whole_missing g received)).0.each i) ∙ uncovered in
-      let some = any_there (λ t. reaches t i) missing r 0 t (omega arith) (omega (arith, low)) lost reached in
-      absurd (false≢true (sym undamaged ∙ both (nat_lt i g.rows) (list_any (λ t. reaches t i) (whole_missing g received)) rows some))
-    where
-      both : (a b : Bool) → a ≡ true → b ≡ true → (a && b) ≡ true
-      both true b e h = h
-      both false b e h = e
+      let some = any_chosen (λ t. reaches t i) missing r 0 t (omega arith) (omega (arith, low)) lost reached in
+      absurd (false≢true (sym undamaged ∙ and_from (nat_lt i g.rows) (list_any (λ t. reaches t i) (whole_missing g received)) rows some))
 
   pub known_contained : SameOutside g.rows g.width (whole_damage g received) (whole_with g numbers) (whole_picture g received)
   unfolding picture_of

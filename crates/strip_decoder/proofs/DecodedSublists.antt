@@ -1,6 +1,7 @@
 -- What a decoder gives of some packets of an image.
 use Rattle.std.proofs.Common.{◌≡◌, ℕ, ℤ, List, sym, ap, subst, ◌∙◌}
 use Rattle.std.specs.Prelude.{Some}
+use Rattle.std.proofs.lemmas.Option.{same_Some}
 use Rattle.port_122.specs.Outside.{Outside}
 use Rattle.base_122.specs.Setting.{image_geometry}
 use Rattle.base_122.specs.declared.geometry.Geometry.{Geometry}
@@ -18,7 +19,7 @@ use Rattle.strip_decoder.specs.Answers.{IsPicture}
 use Rattle.strip_decoder.specs.Runs.{holds_after}
 use Rattle.strip_decoder.specs.Containment.{SameOutside, some_output, BeginsOne, reported, AreSome, told_damage, GivesContained, GivesAlike}
 use Rattle.strip_decoder.proofs.Containing.{contained}
-use Rattle.strip_decoder.proofs.SublistPictures.{begun_few, geometry_there, some_geometry, sublist_same}
+use Rattle.strip_decoder.proofs.SublistPictures.{begun_few, geometry_there, sublist_same}
 use Rattle.strip_decoder.proofs.SublistSegments.{receives_those}
 
 pub decoded_contained : (wish : DecodeWish) (start new : Outside) (took gave every : List ℕ) (done : DecodeDone) → IsPicture wish start new took gave done → start.rest ≡ Some every → GivesContained wish took gave done
@@ -44,7 +45,7 @@ decoded_alike short holds wish start new took gave every done s rows x parts is 
     let n : ℕ = begun_in s.apid octets in
     let begun_same : begun_in wish.apid took ≡ n = ap (λ apid. begun_in apid took) apid ∙ ap (begun_in s.apid) took_is in
     let there : geometry_in s.apid octets ≡ Some done.geometry = subst (λ octets. geometry_in s.apid octets ≡ Some done.geometry) took_is (subst (λ n. geometry_in n took ≡ Some done.geometry) apid is.geometry) in
-    let same : done.geometry ≡ reported s rows parts = some_geometry (sym there ∙ geometry_there short s rows x parts are begins) in
+    let same : done.geometry ≡ reported s rows parts = same_Some _ _ (sym there ∙ geometry_there short s rows x parts are begins) in
     let mine : ReceivedIn (holds_after s.book) s.apid octets received = subst (λ octets. ReceivedIn (holds_after s.book) s.apid octets received) took_is (subst (λ n. ReceivedIn (holds_after s.book) n took received) apid (subst (λ b. ReceivedIn (holds_after b) wish.apid took received) book t.1)) in
     let written : done.written ≡ height done.geometry n = is.written ∙ ap (height done.geometry) begun_same in
     let damaged : told_damage done ≡ damage done.geometry received n = t.3.ranges_are ∙ ap (damage done.geometry received) begun_same in

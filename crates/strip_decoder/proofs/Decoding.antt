@@ -1,15 +1,16 @@
 -- How a whole walk ends.
-use Rattle.std.proofs.Common.{◌≡◌, ◌≤◌, ◌<◌, ◌+◌, ◌-◌, ◌*◌, ◌/◌, ℕ, List, [], ◌∷◌, ◌++◌, refl, sym, ap, subst, ◌∙◌, inl, inr, arith}
+use Rattle.std.proofs.Common.{◌≡◌, ◌≤◌, ◌<◌, ◌-◌, ◌*◌, ◌/◌, ℕ, List, [], ◌∷◌, ◌++◌, refl, sym, ap, subst, ◌∙◌, inl, inr, arith}
 use Rattle.std.specs.Prelude.{if◌then◌else◌, Option, None, Some, Ok, Err}
-use Rattle.std.proofs.lemmas.Bool.{cases_lt, false≢true}
+use Rattle.std.proofs.lemmas.Bool.{false≢true}
 use Rattle.std.proofs.Math.Nat.{mul-le-mul_right}
 use Rattle.std.proofs.lemmas.List.{append-nil}
 use Rattle.std.proofs.lemmas.Nat.{div-mul-add}
+use Rattle.std.proofs.lemmas.Bool.Decides.{nat_tests}
 use Rattle.port_122.specs.Outside.{Outside}
 use Rattle.port_122.proofs.Stretches.{rose_since, since_start}
 use Rattle.base_122.specs.Sizes.{block_count}
 use Rattle.base_122.specs.Ranges.{IsGeometryInRange}
-use Rattle.base_122.proofs.SizeBounds.{block_count-rows, three-le-block_count}
+use Rattle.base_122.proofs.SizeBounds.{block_count-rows}
 use Rattle.base_122.specs.declared.geometry.Geometry.{Geometry}
 use Rattle.base_122.specs.declared.wish.DecodeWish.{DecodeWish}
 use Rattle.packet_defs.specs.declared.packet.Framing.{Framing}
@@ -103,10 +104,7 @@ first_fails k wish old new a b unread LongInput finds =
       for_some = inl refl;
       answer = (long_full read long, long_good read long, none_few wish.pixels wish.apid found.passes.took none, λ all told. first_part k wish.book wish.apid found.passes.took);
     }
-first_fails k wish old new a b unread WriteFault finds = absurd finds
-first_fails k wish old new a b unread NoSegment finds = absurd finds
-first_fails k wish old new a b unread (TooManyPixels pixels) finds = absurd finds
-first_fails k wish old new a b unread Memory finds = absurd finds
+first_fails k wish old new a b unread other finds = absurd finds
 
 -- ---- the first segment
 
@@ -168,32 +166,15 @@ module _ {S : Type 0} (k : SinkOf S) (wish : DecodeWish) (old new : Outside) (b 
 -- ---- all blocks
 
 rows_within : (m n c : ℕ) → 0 < c → m * c ≤ n * c → m ≤ n
-rows_within m n c some le = elim (cases_lt n m) [
-  | inl lt ↦ absurd (let more : (n + 1) * c ≤ m * c = mul-le-mul_right c (omega (arith, lt)) in let one : (n + 1) * c ≡ n * c + c = grind arith in omega (arith, more, one, le, some))
-  | inr ge ↦ omega (arith, ge)
-]
+rows_within m n c some le = grind (arith, nat_tests, mul-le-mul_right)
 
 -- a walk has passed no more block rows than an image has
 pub rows_few : {S : Type 0} (k : SinkOf S) (q : Walking S) → IsCurrent k q → q.at.row ≤ 32768
-rows_few k q standing =
-    let few = standing.few in
-    let rows = block_count-rows q.geometry.rows standing.height in
-    let column = standing.column in
-    let turned : block_count q.geometry.width * block_count q.geometry.rows ≡ block_count q.geometry.rows * block_count q.geometry.width = grind arith in
-    let low : q.at.row * block_count q.geometry.width ≤ block_count q.geometry.rows * block_count q.geometry.width = omega (arith, few, turned) in
-    let most : q.at.row ≤ block_count q.geometry.rows = rows_within q.at.row (block_count q.geometry.rows) (block_count q.geometry.width) (omega (arith, column)) low in
-    omega (arith, most, rows)
+rows_few k q standing = grind (arith, nat_tests, block_count-rows, rows_within)
 
 -- so its picture has no more rows
 pub written_few : (g : Geometry) (r : ℕ) → IsGeometryInRange g → r ≤ 32768 → height g r ≤ 262144
-written_few g r range few = elim range.rows [
-  | inl none ↦ let tall : height g r ≡ 8 * r - 21 = ap (λ b. if b then 8 * r - 21 else g.rows) (is_open g.rows none) in omega (arith, tall, few)
-  | inr within ↦
-      let some : g.rows ≡ 0 → ⊥ = λ none. (let least = within.0 in omega (arith, none, least)) in
-      let known : height g r ≡ g.rows = ap (λ b. if b then 8 * r - 21 else g.rows) (is_not_open g.rows some) in
-      let most = within.1 in
-      omega (arith, known, most)
-]
+written_few g r range few = grind (arith, nat_tests, is_open, is_not_open)
 
 -- the damage of what was passed
 module _ {S : Type 0} (k : SinkOf S) (w : Run) (now : Outside) (image : Geometry) (q : Walking S) (found : Option Framing) (whole : HasPassedAll k w now image q found) where
@@ -206,9 +187,6 @@ module _ {S : Type 0} (k : SinkOf S) (w : Run) (now : Outside) (image : Geometry
   abbrev c : ℕ
   c = block_count image.width
 
-  wide : 0 < c
-  wide = let least = three-le-block_count image.width whole.range.width.0 in omega (arith, least)
-
   begun_is : n ≡ ended / c
   begun_is = rw whole.geometry refl
 
@@ -217,18 +195,11 @@ module _ {S : Type 0} (k : SinkOf S) (w : Run) (now : Outside) (image : Geometry
 
   -- the block rows that were passed, while the height isn't known
   pub rows_passed : image.rows ≡ 0 → q.at.row ≡ n
-  rows_passed none =
-      let column = whole.standing.column in
-      let all : passed_in q ≡ ended = whole.all ∙ ap (λ b. if b then ended else blocks_of image) (is_open image.rows none) in
-      let quotient : passed_in q / block_count q.geometry.width ≡ q.at.row = div-mul-add q.at.row (block_count q.geometry.width) q.at.column column in
-      sym (begun_is ∙ ap (λ m. m / c) (sym all) ∙ ap (λ m. passed_in q / m) (sym width) ∙ quotient)
+  rows_passed none = grind (arith, nat_tests, is_open, width, div-mul-add, begun_is)
 
   -- the rows of the picture
   pub written_is : height image q.at.row ≡ height image n
-  written_is = elim (known_or_not image.rows) [
-    | inl none ↦ ap (height image) (rows_passed none)
-    | inr some ↦ ap (λ b. if b then 8 * q.at.row - 21 else image.rows) (is_not_open image.rows some) ∙ sym (ap (λ b. if b then 8 * n - 21 else image.rows) (is_not_open image.rows some))
-  ]
+  written_is = grind (arith, nat_tests, known_or_not, rows_passed, is_not_open)
 
   pub damage_is : (received : Numbers) (gave : List ℕ) → Follows k q (blocks_with image received) gave → IsDamageOf image received n (ended_at q.damage (height image q.at.row))
   damage_is received gave follows =

@@ -1,10 +1,10 @@
 -- For each stream it is decided which segments are received.
-use Rattle.std.proofs.Common.{◌≡◌, ◌⊎◌, ◌==◌, ℕ, ℤ, List, [], ◌∷◌, ◌++◌, length, drop, map, refl, sym, ap, subst, ◌∙◌, inl, inr, arith, length-append}
-use Rattle.std.specs.Prelude.{Bool, true, false, ◌&&◌, Option, None, Some, Result, Ok, Err, MatchOption, slice_index_or, IsTrue}
+use Rattle.std.proofs.Common.{◌≡◌, ◌⊎◌, ℕ, ℤ, List, [], ◌∷◌, ◌++◌, length, drop, map, refl, sym, ap, subst, ◌∙◌, inl, inr, arith, length-append}
+use Rattle.std.specs.Prelude.{Bool, true, false, Option, None, Some, Result, Ok, Err, MatchOption, slice_index_or, IsTrue}
 use Rattle.std.specs.List.{range_with_len}
 use Rattle.std.specs.Str.{bytes_eq}
 use Rattle.std.proofs.lemmas.Bool.{false≢true}
-use Rattle.std.proofs.lemmas.Bool.Decides.{nat_tests}
+use Rattle.std.proofs.lemmas.Slice.Eq.{bytes_eq-Decides}
 use Rattle.base_122.specs.declared.book.Book.{Book}
 use Rattle.segment_defs.specs.declared.head.SegmentHead.{SegmentHead}
 use Rattle.segment_defs.specs.declared.fault.HeadFault.{HeadFault}
@@ -18,6 +18,7 @@ use Rattle.packet_defs.specs.Reading.{flags_in, text_in}
 use Rattle.stream_defs.specs.Fates.{closes, kept_in}
 use Rattle.stream_defs.specs.Received.{number_of_part, packets_at, IsComplete, text_of_parts, IsReceived, ReceivedIn}
 use Rattle.strip_decoder.specs.Runs.{Numbers, holds_after}
+use Rattle.strip_decoder.proofs.Receiving.{some_head}
 use Rattle.packet_assembly.proofs.Agreed.{bytes_so}
 
 -- ---- the last of some packets
@@ -38,20 +39,6 @@ last_is : (d : List ℕ) (front : List (List ℕ)) (closing : List ℕ) → last
 last_is d [] closing = refl
 last_is d (x ∷ front) closing = last_is x front closing
 
-same_bytes : (xs ys : List ℕ) → xs ≡ ys → bytes_eq xs ys ≡ true
-same_bytes xs ys e = subst (λ ys. bytes_eq xs ys ≡ true) e (itself xs)
-  where
-    test : (n : ℕ) → (n == n) ≡ true
-    test n = grind (arith, nat_tests)
-
-    both : (a b : Bool) → a ≡ true → b ≡ true → (a && b) ≡ true
-    both true b e h = h
-    both false b e h = absurd (false≢true e)
-
-    itself : (xs : List ℕ) → bytes_eq xs xs ≡ true
-    itself [] = refl
-    itself (x ∷ xs) = both (x == x) (bytes_eq xs xs) (test x) (itself xs)
-
 -- ---- whether they are complete
 
 decide_complete : (parts : List (List ℕ)) → IsComplete parts ⊎ (IsComplete parts → ⊥)
@@ -60,7 +47,7 @@ decide_complete (x ∷ xs) = by (bytes_eq (map number_of_part (x ∷ xs)) (range
   where
     by : (a b : Bool) → bytes_eq (map number_of_part (x ∷ xs)) (range_with_len 0 (length (x ∷ xs))) ≡ a → closes (flags_in (last_in x xs)) ≡ b → IsComplete (x ∷ xs) ⊎ (IsComplete (x ∷ xs) → ⊥)
     by true true e h = inl record { front = front_in x xs; closing = last_in x xs; parts_are = parted x xs; numbers = bytes_so _ _ e; closed = h }
-    by false b e h = inr (λ c. absurd (false≢true (sym e ∙ same_bytes _ _ c.numbers)))
+    by false b e h = inr (λ c. absurd (false≢true (sym e ∙ (bytes_eq-Decides _ _).1 c.numbers)))
     by true false e h = inr (λ c.
         let same : last_in x xs ≡ c.closing = ap (last_in []) c.parts_are ∙ last_is [] c.front c.closing in
         absurd (false≢true (sym h ∙ ap (λ p. closes (flags_in p)) same ∙ c.closed)))
@@ -76,9 +63,6 @@ decide_received book packets index sound = elim (decide_complete (packets_at ind
   | inl whole ↦ by_head whole (head_read (text_in (slice_index_or (packets_at index packets) 0 []))) refl
 ]
   where
-    some_head : (r : Result SegmentHead HeadFault) (x y : SegmentHead) → r ≡ Ok x → r ≡ Ok y → x ≡ y
-    some_head r x y e h = cc
-
     by_head : IsComplete (packets_at index packets) → (r : Result SegmentHead HeadFault) → head_read (text_in (slice_index_or (packets_at index packets) 0 [])) ≡ r → Decided book packets index
     by_head whole (Err fault) e = inr (λ w x. absurd (let both = sym e ∙ x.head_is in cc))
     by_head whole (Ok head) e =

@@ -14,10 +14,10 @@ pub mod RunEnds
 pub mod RunStarts
 pub mod RunFinishes
 pub mod Decoding
-pub mod PictureWalks
 pub mod Existing
 pub mod LinesGiven
 pub mod Findings
+pub mod PictureWalks
 pub mod Containing
 pub mod SublistPictures
 pub mod SpelledImages
@@ -25,4 +25,5 @@ pub mod CodedImages
 pub mod SublistSegments
 pub mod DecodedSublists
 pub mod WholeImages
+pub mod SameImages
 pub mod RoundTrips

@@ -4,6 +4,7 @@ use Rattle.std.specs.Prelude.{Bool, true, false, if◌then◌else◌, min, Optio
 use Rattle.std.specs.Option.{option_map}
 use Rattle.std.proofs.lemmas.Bool.Decides.{nat_tests}
 use Rattle.std.proofs.lemmas.Nat.{div_below, div-mul-add}
+use Rattle.std.proofs.lemmas.Bool.{ne_eqb}
 use Rattle.port_122.specs.Outside.{Outside}
 use Rattle.port_122.proofs.Stretches.{since_weaker}
 use Rattle.base_122.specs.Sizes.{block_count}
@@ -38,7 +39,9 @@ use Rattle.strip_decoder.specs.Runs.{AsksPassed, PassedBy, PartBy, blocks_passed
 use Rattle.strip_decoder.specs.Walks.{IsWalked, WalkAnswers, Walks, run_of}
 use Rattle.strip_decoder.specs.Answers.{PromptBy, FrontBy, Asks, IsPicture, Answers, Decodes}
 use Rattle.strip_decoder.specs.PictureSinks.{numbers_in, StandsAt, ShowsBlocks, GivesRows, picture_sink, rows_given}
+use Rattle.strip_decoder.proofs.Findings.{found_as}
 use Rattle.strip_decoder.proofs.Staying.{known_or_not}
+use Rattle.strip_decoder.specs.declared.decode.DecodeDone.{DecodeDone}
 
 -- ---- the numbers of the blocks
 
@@ -133,9 +136,18 @@ ready_settled s received g geometry rows le = by s.last refl
     by (Some l) e =
         subst (λ s. ready s received ≤ rows) (sym (state (Some l) e)) (subst (λ s. rows_through g (block_rows_before g (settled_blocks s received)) ≤ rows) (state (Some l) e) le)
 
--- the rows of the image as it is placed are those of its picture
-not_equal : (m n : ℕ) → (m ≡ n → ⊥) → (m == n) ≡ false
-not_equal m n e = grind (arith, nat_tests)
+-- the rows and the blocks of an image, whose height isn't known or is
+pub height_open : (g : Geometry) (n : ℕ) → g.rows ≡ 0 → height g n ≡ 8 * n - 21
+height_open g n none = rw (is_open g.rows none) refl
+
+pub height_known : (g : Geometry) (n : ℕ) → (g.rows ≡ 0 → ⊥) → height g n ≡ g.rows
+height_known g n some = rw (is_not_open g.rows some) refl
+
+pub passed_open : (g : Geometry) (ended : ℕ) → g.rows ≡ 0 → blocks_passed g ended ≡ ended
+passed_open g ended none = rw (is_open g.rows none) refl
+
+pub passed_known : (g : Geometry) (ended : ℕ) → (g.rows ≡ 0 → ⊥) → blocks_passed g ended ≡ blocks_of g
+passed_known g ended some = rw (is_not_open g.rows some) refl
 
 module _ (apid : ℕ) (taken : List ℕ) (g : Geometry) (geometry : geometry_in apid taken ≡ Some g) where
   abbrev b : ℕ
@@ -160,16 +172,10 @@ module _ (apid : ℕ) (taken : List ℕ) (g : Geometry) (geometry : geometry_in 
       let low : ended / c < 32768 = div_below ended c 32768 (omega (arith, wide)) (omega (arith, room, blocks_open g none)) in
       omega (arith, low, begun_is)
 
-  height_open : g.rows ≡ 0 → height g b ≡ 8 * b - 21
-  height_open none = ap (λ t. if t then 8 * b - 21 else g.rows) (is_open g.rows none)
-
-  height_known : (g.rows ≡ 0 → ⊥) → height g b ≡ g.rows
-  height_known some = ap (λ t. if t then 8 * b - 21 else g.rows) (is_not_open g.rows some)
-
   height_few : height g b ≤ placed_rows g
   height_few = elim (known_or_not g.rows) [
-    | inl none ↦ let few = begun_few none in omega (arith, height_open none, placed_open g none, few)
-    | inr some ↦ omega (arith, height_known some, placed_known g some)
+    | inl none ↦ let few = begun_few none in omega (arith, height_open g b none, placed_open g none, few)
+    | inr some ↦ omega (arith, height_known g b some, placed_known g some)
   ]
 
   pub shown_rows : (numbers : ℕ → ℕ → ℤ) (k : ℕ) → k ≤ height g b → rows_of (placed g) numbers k ≡ raster_octets g.depth k g.width (picture_with g numbers b)
@@ -181,7 +187,7 @@ module _ (apid : ℕ) (taken : List ℕ) (g : Geometry) (geometry : geometry_in 
         | inl none ↦
             let low = begun_few none in
             let most : block_count (placed_rows g) ≡ 32768 = ap block_count (placed_open g none) in
-            placed_octets g numbers none (omega (arith, wide)) b k (omega (arith, le, height_open none)) (omega (arith, low, most))
+            placed_octets g numbers none (omega (arith, wide)) b k (omega (arith, le, height_open g b none)) (omega (arith, low, most))
         | inr some ↦
             ap (λ g'. raster_octets g.depth k g.width (whole_with g' numbers)) (placed_same g some)
             ∙ ap (λ t. raster_octets g.depth k g.width (picture_of g numbers (if t then b + 3 else block_count g.rows))) (sym (is_not_open g.rows some))
@@ -189,25 +195,19 @@ module _ (apid : ℕ) (taken : List ℕ) (g : Geometry) (geometry : geometry_in 
 
   -- rows that whole block rows determine before the last one
   through_open : (s : ℕ) → g.rows ≡ 0 → s < 32768 → rows_through (placed g) s ≡ 8 * s - 21
-  through_open s none lt = ap (λ t. if t then placed_rows g else 8 * s - 21) (not_equal s (block_count (placed_rows g)) (λ e. omega (arith, e, lt, ap block_count (placed_open g none))))
-
-  passed_open : g.rows ≡ 0 → blocks_passed g ended ≡ ended
-  passed_open none = ap (λ t. if t then ended else blocks_of g) (is_open g.rows none)
-
-  passed_known : (g.rows ≡ 0 → ⊥) → blocks_passed g ended ≡ blocks_of g
-  passed_known some = ap (λ t. if t then ended else blocks_of g) (is_not_open g.rows some)
+  through_open s none lt = ap (λ t. if t then placed_rows g else 8 * s - 21) (ne_eqb s (block_count (placed_rows g)) (λ e. omega (arith, e, lt, ap block_count (placed_open g none))))
 
   -- the rows that some blocks determine
   pub rows_within : (n : ℕ) → n ≤ blocks_passed g ended → rows_through (placed g) (block_rows_before (placed g) n) ≤ height g b
   rows_within n le = elim (known_or_not g.rows) [
     | inl none ↦
-        let rise : n / c ≤ ended / c = rows_rise n ended c (omega (arith, wide)) (omega (arith, le, passed_open none)) in
+        let rise : n / c ≤ ended / c = rows_rise n ended c (omega (arith, wide)) (omega (arith, le, passed_open g ended none)) in
         let low = begun_few none in
         let through = through_open (n / c) none (omega (arith, rise, low, begun_is)) in
-        omega (arith, through, rise, begun_is, height_open none)
+        omega (arith, through, rise, begun_is, height_open g b none)
     | inr some ↦
-        let most = rows_through-most (placed g) n (omega (arith, wide)) (omega (arith, le, passed_known some, blocks_known g some)) in
-        omega (arith, most, height_known some, placed_known g some)
+        let most = rows_through-most (placed g) n (omega (arith, wide)) (omega (arith, le, passed_known g ended some, blocks_known g some)) in
+        omega (arith, most, height_known g b some, placed_known g some)
   ]
 
   -- after all blocks they are all rows
@@ -215,11 +215,11 @@ module _ (apid : ℕ) (taken : List ℕ) (g : Geometry) (geometry : geometry_in 
   all_through = elim (known_or_not g.rows) [
     | inl none ↦
         let low = begun_few none in
-        ap (λ n. rows_through (placed g) (n / c)) (passed_open none) ∙ through_open (ended / c) none (omega (arith, low, begun_is)) ∙ ap (λ n. 8 * n - 21) (sym begun_is) ∙ sym (height_open none)
+        ap (λ n. rows_through (placed g) (n / c)) (passed_open g ended none) ∙ through_open (ended / c) none (omega (arith, low, begun_is)) ∙ ap (λ n. 8 * n - 21) (sym begun_is) ∙ sym (height_open g b none)
     | inr some ↦
         let turned : c * block_count g.rows ≡ block_count g.rows * c + 0 = grind arith in
         let last : blocks_of g / c ≡ block_count g.rows = ap (λ n. n / c) turned ∙ div-mul-add (block_count g.rows) c 0 (omega (arith, wide)) in
-        ap (λ n. rows_through (placed g) (n / c)) (passed_known some) ∙ ap (λ h. rows_through h (blocks_of g / c)) (placed_same g some) ∙ ap (rows_through g) last ∙ through_all ∙ sym (height_known some)
+        ap (λ n. rows_through (placed g) (n / c)) (passed_known g ended some) ∙ ap (λ h. rows_through h (blocks_of g / c)) (placed_same g some) ∙ ap (rows_through g) last ∙ through_all ∙ sym (height_known g b some)
   ]
     where
       through_all : rows_through g (block_count g.rows) ≡ g.rows
@@ -232,12 +232,12 @@ module _ (apid : ℕ) (taken : List ℕ) (g : Geometry) (geometry : geometry_in 
       ready_settled (state_after apid taken) received g geometry (rows_through (placed g) (block_rows_before (placed g) n)) (elim (known_or_not g.rows) [
         | inl none ↦
             let rise : m / c ≤ n / c = rows_rise m n c (omega (arith, wide)) settled in
-            let top : n / c ≤ ended / c = rows_rise n ended c (omega (arith, wide)) (omega (arith, le, passed_open none)) in
+            let top : n / c ≤ ended / c = rows_rise n ended c (omega (arith, wide)) (omega (arith, le, passed_open g ended none)) in
             let low = begun_few none in
             open_rows (m / c) (n / c) none rise (omega (arith, top, low, begun_is))
         | inr some ↦
             subst (λ h. rows_through g (block_rows_before g m) ≤ rows_through h (block_rows_before h n)) (sym (placed_same g some))
-            (rows_through-rises g m n (omega (arith, wide)) settled (omega (arith, le, passed_known some)))
+            (rows_through-rises g m n (omega (arith, wide)) settled (omega (arith, le, passed_known g ended some)))
       ])
     where
       open_rows : (r s : ℕ) → g.rows ≡ 0 → r ≤ s → s < 32768 → rows_through g r ≤ rows_through (placed g) s
@@ -289,40 +289,28 @@ whole_rows apid taken g received gave there given =
     ∙ shown_rows apid taken g there (number_at g received) (height g (begun_in apid taken)) (omega arith)
 
 is_picture : (wish : DecodeWish) (old new : Outside) (took gave : List ℕ) (walked : Walked Picture) → IsWalked picture_sink wish old new took gave walked → IsPicture wish old new took gave walked.done
-is_picture wish old new took gave walked x = record {
-  geometry = x.geometry;
-  range = x.range;
-  few = x.few;
-  framing_is = x.framing_is;
-  out = x.out;
-  written = x.written;
-  rows = x.rows;
-  told = λ all told.
-      let t = x.told all told in
-      let g = walked.done.geometry in
-      let n : ℕ = blocks_passed g (end_of (kept_in wish.apid took)) in
-      (t.0, t.1, whole_rows wish.apid took g t.0 gave x.geometry (rows_given walked.sink (placed g) (blocks_with g t.0) n gave x.stands t.2), t.3);
+is_picture wish old new took gave walked x = found_as true gave x x.out (λ received follows.
+    let g = walked.done.geometry in
+    let n : ℕ = blocks_passed g (end_of (kept_in wish.apid took)) in
+    whole_rows wish.apid took g received gave x.geometry (rows_given walked.sink (placed g) (blocks_with g received) n gave x.stands follows))
+
+-- what it took and gave, and when
+given_so : (wish : DecodeWish) (old new : Outside) (r : Result (Walked Picture) DecodeFault) (result : Result DecodeDone DecodeFault) → (x : Walks picture_sink wish old new r) → Answers wish old new x.took x.gave result → Decodes wish old new result
+given_so wish old new r result x answer = record {
+  took = x.took;
+  gave = x.gave;
+  since = since_weaker x.since (λ i j le asks. asks_by wish old x.took x.gave i j asks);
+  within = x.within;
+  answer = answer;
 }
 
 -- a walk with a picture ended without a fault
 pub decodes : (wish : DecodeWish) (old new : Outside) (walked : Walked Picture) → Walks picture_sink wish old new (Ok walked) → Decodes wish old new (Ok walked.done)
-decodes wish old new walked x = record {
-  took = x.took;
-  gave = x.gave;
-  since = since_weaker x.since (λ i j le asks. asks_by wish old x.took x.gave i j asks);
-  within = x.within;
-  answer = is_picture wish old new x.took x.gave walked x.answer;
-}
+decodes wish old new walked x = given_so wish old new (Ok walked) (Ok walked.done) x (is_picture wish old new x.took x.gave walked x.answer)
 
 -- a fault ended it
 pub decode_fails : (wish : DecodeWish) (old new : Outside) (fault : DecodeFault) → Walks picture_sink wish old new (Err fault) → Decodes wish old new (Err fault)
-decode_fails wish old new fault x = record {
-  took = x.took;
-  gave = x.gave;
-  since = since_weaker x.since (λ i j le asks. asks_by wish old x.took x.gave i j asks);
-  within = x.within;
-  answer = by fault x.answer;
-}
+decode_fails wish old new fault x = given_so wish old new (Err fault) (Err fault) x (by fault x.answer)
   where
     front : ((all : List ℕ) → old.rest ≡ Some all → PartBy picture_sink wish.book wish.apid x.took x.gave) → (all : List ℕ) → old.rest ≡ Some all → FrontBy wish.book wish.apid x.took x.gave
     front part all told = front_by wish.book wish.apid x.took x.gave (part all told)

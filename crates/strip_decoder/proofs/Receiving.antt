@@ -3,6 +3,7 @@ use Rattle.std.proofs.Common.{◌≡◌, ◌≤◌, ◌<◌, ℕ, ℤ, List, [],
 use Rattle.std.specs.Prelude.{true, false, None, Some, Result, Ok, MatchOption, slice_index_or}
 use Rattle.std.proofs.lemmas.Bool.{cases_lt}
 use Rattle.std.proofs.lemmas.List.{drop-append-le}
+use Rattle.std.proofs.lemmas.Bool.Decides.{nat_tests}
 use Rattle.bit_pipe.specs.Sources.{Plainly, InPieces, Tail}
 use Rattle.base_122.specs.declared.book.Book.{Book}
 use Rattle.segment_defs.specs.declared.head.SegmentHead.{SegmentHead}
@@ -26,14 +27,11 @@ use Rattle.packet_assembly.specs.Tails.{stop_of, in_front, tail_from, text_tail}
 use Rattle.packet_assembly.specs.Wholes.{tail_past, TellsParts}
 use Rattle.packet_assembly.proofs.Begun.{begins_so}
 use Rattle.packet_assembly.proofs.Images.{begun_by}
-use Rattle.packet_assembly.proofs.TailParts.{tells_parts}
+use Rattle.packet_assembly.proofs.TailParts.{tells_parts, in_pieces}
 use Rattle.packet_assembly.proofs.TailSteps.{unheld_tail}
 use Rattle.packet_assembly.proofs.HeadLengths.{head_within}
 use Rattle.strip_decoder.specs.Runs.{holds_after, Numbers, Knows, IsBegun, future}
 use Rattle.strip_decoder.proofs.TailLaws.{from_more, from_closes, from_closed}
-
-in_pieces : InPieces ≡ Plainly → ⊥
-in_pieces e = absurd cc
 
 -- ---- one list of numbers
 
@@ -45,7 +43,7 @@ one_held book head rest v w ok h k =
     (subst (λ n. Reading head rest k.blocks k.depths k.options n k.more) (sym count) k.reading) in
     h.given ∙ same ∙ ap (given_blocks head k.blocks k.depths k.options) count ∙ sym k.given
 
-some_head : (r : Result SegmentHead HeadFault) (x y : SegmentHead) → r ≡ Ok x → r ≡ Ok y → x ≡ y
+pub some_head : (r : Result SegmentHead HeadFault) (x y : SegmentHead) → r ≡ Ok x → r ≡ Ok y → x ≡ y
 some_head r x y e h = cc
 
 -- a segment is received with one list of numbers
@@ -57,10 +55,7 @@ one_received book packets index v w x y =
 
 -- none of its packets is kept
 pub none_received : (book : Book) (packets : List (List ℕ)) (index : ℕ) (w : List (List ℤ)) → packets_at index packets ≡ [] → IsReceived (holds_after book) packets index w → ⊥
-none_received book packets index w none x = by x.whole.front x.whole.closing (sym x.whole.parts_are ∙ none)
-  where
-    by : (front : List (List ℕ)) (closing : List ℕ) → front ++ closing ∷ [] ≡ [] → ⊥
-    by front closing e = let long = ap length e in absurd (omega (arith, long, length-append front (closing ∷ [])))
+none_received book packets index w none x = grind (arith, nat_tests, length-append)
 
 -- ---- a segment that is begun
 
@@ -141,17 +136,12 @@ module _ (book : Book) (apid : ℕ) (passed : List (List ℕ)) (a : Assembling) 
 
   -- what they report in all, if these octets are left
   whole_tail : (rest : List ℕ) → text_tail a rest ≡ in_front a.text (tail_from apid there (future a rest) (stop_of a.intake rest))
-  whole_tail rest =
-      unheld_tail a rest unheld
-      ∙ ap (λ s. in_front a.text (tail_from a.apid s (future a rest) (stop_of a.intake rest))) there_is
-      ∙ ap (λ n. in_front a.text (tail_from n there (future a rest) (stop_of a.intake rest))) apid_is
+  whole_tail rest = grind (arith, nat_tests, unheld_tail, there_is)
 
   -- if the first of the next packets complete it, they carry all of it
   all_there : (rest : List ℕ) (next more : List (List ℕ)) → future a rest ≡ next ++ more → (tail_past apid b.before b.packet next InPieces).ends ≡ Plainly →
       text_tail a rest ≡ in_front a.text (tail_past apid b.before b.packet next InPieces)
-  all_there rest next more are plain =
-      whole_tail rest ∙ ap (λ xs. in_front a.text (tail_from apid there xs (stop_of a.intake rest))) are
-      ∙ ap (in_front a.text) (from_more apid there next more (stop_of a.intake rest) InPieces in_pieces plain)
+  all_there rest next more are plain = grind (arith, nat_tests, whole_tail, from_more, in_pieces)
 
   -- it was accepted, and the packets that were passed have closed it: so it is received, whatever follows
   pub is_received : (rest : List ℕ) (went next : List (List ℕ)) (later : List (List ℕ)) (w : List (List ℤ)) → future a rest ≡ went ++ later → last_index (after_all apid there went).last ≡ Some index → is_closed (after_all apid there went).last ≡ true →
@@ -183,7 +173,4 @@ module _ (book : Book) (apid : ℕ) (passed : List (List ℕ)) (a : Assembling) 
 
   -- while its text is open it isn't received
   pub open_received : (next : List (List ℕ)) (w : List (List ℤ)) → last_index (after_all apid there next).last ≡ Some index → is_closed (after_all apid there next).last ≡ false → IsReceived (holds_after book) (kept apid fresh (passed ++ next)) index w → ⊥
-  open_received next w last going x =
-      let plain = (tells next).plain x.whole in
-      let closed = from_closes apid index there next (part_in b.packet) last_is index_is plain last in
-      absurd (let no : false ≡ true = sym going ∙ closed in cc)
+  open_received next w last going x = grind (arith, nat_tests, tells, from_closes, last_is, index_is)

@@ -1,27 +1,26 @@
 -- A run that is at the end of its packets.
-use Rattle.std.proofs.Common.{◌≡◌, ◌≤◌, ◌<◌, ◌+◌, ◌-◌, ◌*◌, ◌/◌, ◌%◌, ◌==◌, ℕ, ℤ, zero, suc, Bool, true, false, List, [], ◌∷◌, refl, sym, ap, subst, ◌∙◌, inl, inr, arith, get_or}
-use Rattle.std.specs.Prelude.{◌||◌, ◌&&◌, not, filter, Option, None, Some, is_some, MatchOption}
-use Rattle.std.specs.Option.{option_map}
+use Rattle.std.proofs.Common.{◌≡◌, ◌≤◌, ◌<◌, ◌+◌, ◌-◌, ◌*◌, ◌/◌, ◌%◌, ◌==◌, ℕ, ℤ, zero, suc, Bool, true, false, List, [], refl, sym, ap, subst, ◌∙◌, inl, inr, arith}
+use Rattle.std.specs.Prelude.{◌&&◌, not, filter, Some, is_some, MatchOption}
 use Rattle.std.specs.List.{range_with_len, list_any}
-use Rattle.std.proofs.lemmas.Bool.{cases_lt, false≢true}
+use Rattle.std.proofs.lemmas.Bool.{cases_lt, false≢true, or_right, or_left, or_from, and_right, ne_eqb}
 use Rattle.std.proofs.lemmas.Bool.Decides.{nat_tests}
 use Rattle.std.proofs.lemmas.List.{append-nil}
 use Rattle.std.proofs.lemmas.Nat.{div-add-mod', mod_below, div_below, div-mul-add}
 use Rattle.std.proofs.Math.Nat.{mul-le-mul_right}
+use Rattle.stream_defs.proofs.OpenContaining.{any_chosen}
 use Rattle.port_122.specs.Outside.{Outside}
 use Rattle.base_122.specs.Sizes.{block_count}
 use Rattle.base_122.specs.declared.geometry.Geometry.{Geometry}
 use Rattle.base_122.proofs.SizeBounds.{block_count-rows}
 use Rattle.packet_defs.specs.Streams.{whole_packets}
-use Rattle.stream_defs.specs.declared.fate.FateState.{FateState}
-use Rattle.stream_defs.specs.Fates.{fresh, after_all, kept}
+use Rattle.stream_defs.specs.Fates.{fresh, kept}
 use Rattle.stream_defs.specs.Received.{IsReceived, ReceivedIn, packets_at}
 use Rattle.stream_defs.specs.Begun.{placed}
 use Rattle.stream_defs.specs.Damage.{is_missing, ranges, whole_missing, missing_below}
 use Rattle.stream_defs.proofs.RangeLaws.{ranges_below}
 use Rattle.stream_defs.specs.Marks.{most_block_rows}
 use Rattle.stream_defs.proofs.KeptOrder.{before_none}
-use Rattle.damage_rows.proofs.TableLaws.{any_none, any_there, filter_front, most_is}
+use Rattle.damage_rows.proofs.TableLaws.{any_none, filter_front, most_is}
 use Rattle.packet_assembly.specs.Assembling.{Assembling, last_index}
 use Rattle.strip_decoder.specs.Sinks.{Numbers, Blocks, SinkOf, blocks_with}
 use Rattle.strip_decoder.specs.Steps.{Walking, IsCurrent, Follows, passed_in, total_in, is_marked, is_lost}
@@ -34,25 +33,13 @@ use Rattle.strip_decoder.proofs.RunFinds.{last_of}
 any_hit : (f : ℕ → Bool) (a n i : ℕ) → a ≤ i → i < a + n → f i ≡ true → list_any f (range_with_len a n) ≡ true
 any_hit f a zero i low high e = absurd (omega (arith, low, high))
 any_hit f a (suc n) i low high e = elim (cases_lt a i) [
-  | inl later ↦ or_true (f a) (list_any f (range_with_len (a + 1) n)) (any_hit f (a + 1) n i (omega (arith, later)) (omega (arith, high)) e)
-  | inr here ↦ let same : i ≡ a = omega (arith, here, low) in true_or (f a) (list_any f (range_with_len (a + 1) n)) (sym (ap f same) ∙ e)
+  | inl later ↦ or_right (f a) (list_any f (range_with_len (a + 1) n)) (any_hit f (a + 1) n i (omega (arith, later)) (omega (arith, high)) e)
+  | inr here ↦ let same : i ≡ a = omega (arith, here, low) in or_left (f a) (list_any f (range_with_len (a + 1) n)) (sym (ap f same) ∙ e)
 ]
-  where
-    or_true : (a b : Bool) → b ≡ true → (a || b) ≡ true
-    or_true true b e = refl
-    or_true false b e = e
-
-    true_or : (a b : Bool) → a ≡ true → (a || b) ≡ true
-    true_or true b e = refl
-    true_or false b e = absurd (false≢true e)
 
 pub any_miss : (f : ℕ → Bool) (a n : ℕ) → ((i : ℕ) → a ≤ i → i < a + n → f i ≡ false) → list_any f (range_with_len a n) ≡ false
 any_miss f a zero none = refl
-any_miss f a (suc n) none = both (f a) (list_any f (range_with_len (a + 1) n)) (none a (omega arith) (omega arith)) (any_miss f (a + 1) n (λ i low high. none i (omega (arith, low)) (omega (arith, high))))
-  where
-    both : (a b : Bool) → a ≡ false → b ≡ false → (a || b) ≡ false
-    both true b e h = absurd (false≢true (sym e))
-    both false b e h = h
+any_miss f a (suc n) none = or_from (f a) (list_any f (range_with_len (a + 1) n)) (none a (omega arith) (omega arith)) (any_miss f (a + 1) n (λ i low high. none i (omega (arith, low)) (omega (arith, high))))
 
 pub any_at : (f : ℕ → Bool) (n i : ℕ) → list_any f (range_with_len 0 n) ≡ false → i < n → f i ≡ false
 any_at f n i none lt = by (f i) refl
@@ -105,13 +92,7 @@ module _ (g : Geometry) (blocks : Blocks) (row : ℕ) (wide : 0 < block_count g.
       equal_test m n e = grind (arith, nat_tests)
 
   pub lost_missing : (m : ℕ) → (row + 1) * c ≤ m → is_lost g blocks m row ≡ misses
-  lost_missing m le = by (is_lost g blocks m row) (misses) refl refl
-    where
-      by : (a b : Bool) → is_lost g blocks m row ≡ a → misses ≡ b → is_lost g blocks m row ≡ misses
-      by true true e h = e ∙ sym h
-      by false false e h = e ∙ sym h
-      by true false e h = absurd (false≢true (sym (none_lost m h) ∙ e))
-      by false true e h = absurd (false≢true (sym (none_missing m le e) ∙ h))
+  lost_missing m le = grind (arith, nat_tests, false≢true, none_lost, none_missing)
 
   -- a row past the last one has no blocks
   pub lost_past : (r : ℕ) → r ≤ row → is_lost g blocks (c * r) row ≡ false
@@ -119,33 +100,11 @@ module _ (g : Geometry) (blocks : Blocks) (row : ℕ) (wide : 0 < block_count g.
       any_miss (λ block. not (is_some (blocks block)) && (block / c == row)) 0 (c * r) (λ block low high.
       let turned : c * r ≡ r * c = grind arith in
       let below = div_below block c r wide (omega (arith, high, turned)) in
-      and_false (not (is_some (blocks block))) (block / c == row) (other_test (block / c) row (λ e. omega (arith, e, below, ge))))
-    where
-      and_false : (a b : Bool) → b ≡ false → (a && b) ≡ false
-      and_false true b e = e
-      and_false false b e = refl
-
-      other_test : (m n : ℕ) → (m ≡ n → ⊥) → (m == n) ≡ false
-      other_test m n e = grind (arith, nat_tests)
+      and_right (not (is_some (blocks block))) (block / c == row) (ne_eqb (block / c) row (λ e. omega (arith, e, below, ge))))
 
 -- a block row is missing from received segments if some block of it is
 missing_is : (g : Geometry) (sofar : Numbers) (row : ℕ) (wide : 0 < block_count g.width) → is_missing g sofar row ≡ misses g (blocks_with g sofar) row wide
-missing_is g sofar row wide = any_same (range_with_len 0 (block_count g.width))
-  where
-    some_same : (block : ℕ) (o : Option (List (List ℤ))) → not (is_some o) ≡ not (is_some (option_map (λ numbers. get_or numbers (block % g.segment) []) o))
-    some_same block None = refl
-    some_same block (Some numbers) = refl
-
-    f : ℕ → Bool
-    f column = not (is_some (sofar ((row * block_count g.width + column) / g.segment)))
-
-    h : ℕ → Bool
-    h column = not (is_some (blocks_with g sofar (row * block_count g.width + column)))
-
-    any_same : (xs : List ℕ) → list_any f xs ≡ list_any h xs
-    any_same [] = refl
-    any_same (x ∷ xs) =
-        ap (λ b. b || list_any f xs) (some_same (row * block_count g.width + x) (sofar ((row * block_count g.width + x) / g.segment))) ∙ ap (λ b. h x || b) (any_same xs)
+missing_is g sofar row wide = grind (arith, nat_tests)
 
 -- the marks of the block rows that were passed whole
 pub row_missing : {S : Type 0} (k : SinkOf S) (p : Walking S) (sofar : Numbers) (gave : List ℕ) (row : ℕ) → IsCurrent k p → Follows k p (blocks_with p.geometry sofar) gave → row < most_block_rows → (row + 1) * block_count p.geometry.width ≤ passed_in p → is_marked p.damage.missing row ≡ is_missing p.geometry sofar row
@@ -172,11 +131,8 @@ all_missing k p sofar gave standing follows all =
     (λ i lt. row_missing k p sofar gave i standing follows (omega (arith, lt, few, most_is)) (let next : (i + 1) * c ≤ r * c = mul-le-mul_right c (omega (arith, lt)) in omega (arith, next, turned, all)))
     (λ i ge. elim (cases_lt i most_block_rows) [
       | inl low ↦ follows.marked i low ∙ ap (λ n. is_lost g blocks n i) all ∙ lost_past g blocks i wide r ge
-      | inr high ↦ ap (λ xs. is_marked xs i) follows.listed ∙ any_none (λ k. k == i) (is_marked p.damage.missing) most_block_rows 0 (λ k from below set. other_test k i (λ e. omega (arith, e, below, high)))
+      | inr high ↦ ap (λ xs. is_marked xs i) follows.listed ∙ any_none (λ k. k == i) (is_marked p.damage.missing) most_block_rows 0 (λ k from below set. ne_eqb k i (λ e. omega (arith, e, below, high)))
     ])
-  where
-    other_test : (m n : ℕ) → (m ≡ n → ⊥) → (m == n) ≡ false
-    other_test m n e = grind (arith, nat_tests)
 
 -- a list of missing block rows holds exactly these
 missing_there : (g : Geometry) (sofar : Numbers) (n row : ℕ) → row < n → is_marked (missing_below g sofar n) row ≡ is_missing g sofar row
@@ -187,7 +143,7 @@ missing_there g sofar n row lt = by (is_missing g sofar row) refl
     here k e = grind (arith, nat_tests)
 
     by : (b : Bool) → is_missing g sofar row ≡ b → list_any (λ k. k == row) (filter (is_missing g sofar) (range_with_len 0 n)) ≡ is_missing g sofar row
-    by true e = any_there (λ k. k == row) (is_missing g sofar) n 0 row (omega arith) (omega (arith, lt)) e (grind (arith, nat_tests)) ∙ sym e
+    by true e = any_chosen (λ k. k == row) (is_missing g sofar) n 0 row (omega arith) (omega (arith, lt)) e (grind (arith, nat_tests)) ∙ sym e
     by false e = any_none (λ k. k == row) (is_missing g sofar) n 0 (λ i low high set. other i (i == row) refl set) ∙ sym e
       where
         other : (i : ℕ) (b : Bool) → (i == row) ≡ b → is_missing g sofar i ≡ true → b ≡ false
@@ -219,6 +175,4 @@ all_received w now a index took known last rest told whole = record {
 }
   where
     none_at : (i : ℕ) → index + 1 ≤ i → packets_at i (kept w.apid fresh (whole_packets took)) ≡ []
-    none_at i high =
-        ap (λ xs. packets_at i (kept w.apid fresh xs)) whole
-        ∙ before_none i w.apid fresh known.passed (λ l is. let e = last_of (after_all w.apid fresh known.passed).last index l (ap (λ (s : FateState). last_index s.last) (sym known.read.state) ∙ last) is in omega (arith, e, high))
+    none_at i high = grind (arith, nat_tests, before_none, last_of)

@@ -1,8 +1,9 @@
 -- A run advances to the next segment.
 use Rattle.std.proofs.Common.{◌≡◌, ◌≤◌, ◌+◌, ◌*◌, ◌/◌, ℕ, ℤ, List, [], ◌∷◌, ◌++◌, refl, sym, ap, subst, ◌∙◌, inl, inr, arith, append_assoc}
-use Rattle.std.specs.Prelude.{Bool, true, false, if◌then◌else◌, Option, None, Some, is_some, Ok}
+use Rattle.std.specs.Prelude.{Bool, if◌then◌else◌, Option, None, Some, is_some, Ok}
 use Rattle.std.proofs.lemmas.Bool.{cases_lt}
 use Rattle.std.proofs.lemmas.Nat.{le-div}
+use Rattle.std.proofs.lemmas.Bool.Decides.{nat_tests}
 use Rattle.port_122.specs.Outside.{Outside, Exchange}
 use Rattle.base_122.specs.Sizes.{first_block, segment_blocks}
 use Rattle.base_122.specs.declared.geometry.Geometry.{Geometry}
@@ -196,8 +197,7 @@ stays_come k w now new a b p went standing between past unheld q =
     some none = let least = standing.height.0 in absurd (omega (arith, none, least))
 
     through : (b : Bool) → first_block p.geometry.segment past.index + (if b then blocks_in p.geometry past.index else 0) ≤ passed_in p
-    through true = subst (λ n. first_block p.geometry.segment past.index + n ≤ passed_in p) (sym (ap (λ b. if b then p.geometry.segment else segment_blocks (total_in p) p.geometry.segment past.index) (is_not_open p.geometry.rows some))) past.reached
-    through false = omega (arith, past.reached)
+    through b = grind (arith, nat_tests, is_not_open, some)
 
 -- that was found
 found_new : {S : Type 0} (k : SinkOf S) (w : Run) (now new : Outside) (a b : Assembling) (p : Walking S) (start : SegmentStart) → IsCurrent k p → IsBetween a p → (past : WalksPast k w now a p) → WasFound now new a b start → IsFound b p start → WalksAfter k w new b p start

@@ -2,6 +2,7 @@
 use Rattle.std.proofs.Common.{◌≡◌, ◌≤◌, ◌<◌, ◌+◌, ◌*◌, ◌/◌, ◌-◌, ◌==◌, ℕ, List, ◌++◌, refl, sym, ap, subst, ◌∙◌, inl, inr, arith}
 use Rattle.std.specs.Prelude.{Bool, not, if◌then◌else◌, None, Some, Err}
 use Rattle.std.proofs.lemmas.Nat.{le-div}
+use Rattle.std.proofs.lemmas.Bool.Decides.{nat_tests}
 use Rattle.port_122.specs.Outside.{Outside}
 use Rattle.packet_defs.specs.Streams.{whole_packets}
 use Rattle.stream_defs.specs.declared.fate.FateState.{FateState}
@@ -18,7 +19,7 @@ use Rattle.packet_assembly.specs.Segments.{FoundNone, StandsEnded, StandsLong}
 use Rattle.packet_assembly.proofs.Readings.{read_within, out_later, ended_packets, ended_framing, ended_out, long_packets, long_full, long_good}
 use Rattle.packet_assembly.proofs.Images.{end_within, untold_room}
 use Rattle.strip_decoder.specs.declared.decode.DecodeFault.{DecodeFault}
-use Rattle.strip_decoder.specs.declared.decode.DecodeFault.TheVariants.{ReadFault, WriteFault, NoSegment, TooManyPixels, LongInput, Memory}
+use Rattle.strip_decoder.specs.declared.decode.DecodeFault.TheVariants.{ReadFault, TooManyPixels, LongInput}
 use Rattle.strip_decoder.specs.Sinks.{Numbers, SinkOf, blocks_with}
 use Rattle.strip_decoder.specs.Steps.{Walking, IsCurrent, Follows, HasPassed, StopsEarly, missing, passed_in, total_in}
 use Rattle.strip_decoder.specs.Segments.{FollowsFound, FollowsHead, HasImage, IsBetween, IsFound, FindsNext}
@@ -85,10 +86,7 @@ module _ {S : Type 0} (k : SinkOf S) (w : Run) (now new : Outside) (a b : Assemb
 pub find_breaks : {S : Type 0} (k : SinkOf S) (w : Run) (now new : Outside) (a b : Assembling) (p : Walking S) → IsCurrent k p → IsBetween a p → WalksPast k w now a p → (fault : DecodeFault) → FindsNext now new a b (Err fault) → BreaksRun k w new fault
 find_breaks k w now new a b p standing between past ReadFault finds = run_broken k w now new a b p standing between past finds.ends.0
 find_breaks k w now new a b p standing between past LongInput finds = run_long k w now new a b p standing between past finds.ends.0 finds.ends.1
-find_breaks k w now new a b p standing between past WriteFault finds = absurd finds
-find_breaks k w now new a b p standing between past NoSegment finds = absurd finds
-find_breaks k w now new a b p standing between past (TooManyPixels pixels) finds = absurd finds
-find_breaks k w now new a b p standing between past Memory finds = absurd finds
+find_breaks k w now new a b p standing between past other finds = absurd finds
 
 -- ---- a segment is begun
 
@@ -133,11 +131,7 @@ found_breaks k w now a p q start standing found after fault follows = by fault (
         many_broken k w now a p start.ancillary.index to.come start start.ancillary.index standing
         (record { image = found.image; geometry = found.has.geometry; range = found.has.range; ends = found.next.ends; index = start.ancillary.index; last = found.last; before = omega (arith, found.next.reached, first, more) })
         to.begun to.few after.image after.geometry found.image found.has.geometry pixels x.0 x.1
-    by ReadFault x = absurd x
-    by WriteFault x = absurd x
-    by NoSegment x = absurd x
-    by LongInput x = absurd x
-    by Memory x = absurd x
+    by other x = absurd x
 
 -- ---- the rest is lost
 
@@ -165,19 +159,10 @@ module _ {S : Type 0} (k : SinkOf S) (w : Run) (now new : Outside) (a : Assembli
   all_left some = ap (λ b. left_in b p) (known_is ∙ ap not (is_not_open image.rows some))
 
   left_few : passed_in p + left ≤ total_in p
-  left_few = let few = standing.few in elim (known_or_not image.rows) [
-    | inl none ↦ omega (arith, few, none_left none)
-    | inr some ↦ omega (arith, few, all_left some)
-  ]
+  left_few = grind (arith, nat_tests, known_or_not, none_left, all_left)
 
   rest_lost : (i : ℕ) → i < left → blocks_with p.geometry known (passed_in p + i) ≡ None
-  rest_lost i lt =
-      let size = p.geometry.segment in
-      let few = left_few in
-      let block : ℕ = passed_in p + i in
-      let more : (end.index + 1) * size ≡ end.index * size + size = grind arith in
-      let past : (end.index + 1) * size ≤ block = omega (arith, more, end.reached, lt, few) in
-      block_lost p.geometry known block (end.come.known.above (block / size) (le-div (end.index + 1) block size (omega (arith, standing.range.segment.0)) past))
+  rest_lost i lt = grind (arith, nat_tests, left_few, block_lost, le-div)
 
   whole : whole_packets end.come.took ≡ end.come.known.passed
   whole = ended_packets end.come.known.read end.ended
@@ -198,16 +183,7 @@ module _ {S : Type 0} (k : SinkOf S) (w : Run) (now new : Outside) (a : Assembli
 
   -- while the height isn't known, the blocks that were passed are those of the segments that were begun
   all_begun : image.rows ≡ 0 → passed_in p ≡ end_of (kept w.apid fresh end.come.known.passed)
-  all_begun none =
-      let there : (after_all w.apid fresh end.come.known.passed).geometry ≡ Some image = ap (λ (s : FateState). s.geometry) (sym end.come.known.read.state) ∙ end.has.geometry in
-      let last : last_index (after_all w.apid fresh end.come.known.passed).last ≡ Some end.index = ap (λ (s : FateState). last_index s.last) (sym end.come.known.read.state) ∙ end.last in
-      let most = end_within w.apid end.come.known.passed image end.index there last in
-      let room = untold_room w.apid end.come.known.passed image end.index there last none in
-      let more : (end.index + 1) * image.segment ≡ end.index * image.segment + image.segment = grind arith in
-      let total : total_in p ≡ blocks_of (placed image) = ap blocks_of end.goes_by in
-      let segment : p.geometry.segment ≡ image.segment = ap (λ (g : Geometry). g.segment) end.goes_by in
-      let first : end.index * p.geometry.segment ≡ end.index * image.segment = ap (λ n. end.index * n) segment in
-      omega (arith, end.come.begun, most, room, more, total, segment, first, end.reached)
+  all_begun none = grind (arith, nat_tests, end_within, untold_room)
 
   all_passed : (z : Walking S) → passed_in z ≡ passed_in p + left → passed_in z ≡ blocks_passed image (end_of (kept_in w.apid end.come.took))
   all_passed z count = elim (known_or_not image.rows) [

@@ -1,10 +1,11 @@
 -- A run past the blocks of a segment, or to a fault.
-use Rattle.std.proofs.Common.{◌≡◌, ◌≤◌, ◌<◌, ◌+◌, ◌-◌, ◌*◌, ◌/◌, ℕ, ℤ, List, [], ◌∷◌, ◌++◌, length, take, refl, sym, ap, subst, ◌∙◌, inl, inr, arith}
-use Rattle.std.specs.Prelude.{Bool, true, false, if◌then◌else◌, Option, None, Some, Result, Ok, Err, IsOk, IsErr, MatchOption}
+use Rattle.std.proofs.Common.{◌≡◌, ◌≤◌, ◌<◌, ◌+◌, ◌-◌, ◌*◌, ℕ, ℤ, List, [], ◌∷◌, ◌++◌, length, take, refl, sym, ap, subst, ◌∙◌, inl, inr, arith}
+use Rattle.std.specs.Prelude.{Bool, true, if◌then◌else◌, Option, None, Some, Result, Ok, Err, IsOk, IsErr, MatchOption}
 use Rattle.std.proofs.lemmas.Bool.{false≢true}
 use Rattle.std.proofs.lemmas.List.{append-nil}
 use Rattle.std.proofs.lemmas.Nat.{div-mul-add}
 use Rattle.std.proofs.Math.Nat.{mul-le-mul_right}
+use Rattle.std.proofs.lemmas.Bool.Decides.{nat_tests}
 use Rattle.port_122.specs.Outside.{Outside}
 use Rattle.base_122.specs.Sizes.{first_block, segment_blocks}
 use Rattle.base_122.specs.Ranges.{IsGeometryInRange}
@@ -22,11 +23,11 @@ use Rattle.packet_assembly.specs.Segments.{Continues}
 use Rattle.packet_assembly.proofs.Images.{end_begun, geometry_known, told_last_open}
 use Rattle.packet_assembly.proofs.Readings.{read_within}
 use Rattle.strip_decoder.specs.declared.decode.DecodeFault.{DecodeFault}
-use Rattle.strip_decoder.specs.declared.decode.DecodeFault.TheVariants.{ReadFault, WriteFault, NoSegment, TooManyPixels, LongInput, Memory}
+use Rattle.strip_decoder.specs.declared.decode.DecodeFault.TheVariants.{ReadFault, TooManyPixels}
 use Rattle.strip_decoder.specs.Sinks.{Numbers, SinkOf, blocks_with}
 use Rattle.strip_decoder.specs.Steps.{Walking, IsCurrent, HasPassed, StopsEarly, PassesBlocks, missing, passed_in, total_in}
 use Rattle.strip_decoder.specs.Segments.{FitsImage, FollowsFound, FollowsHead, FollowsHeld, IsAt, ReadsText, HasFailed, pixels_reached, segment_values}
-use Rattle.strip_decoder.specs.Runs.{Run, PartBy, HasFew, HasFewKnown, HasWalkedTo, IsBegun, WalksIn, WalksPast, HasBroken, HasFailedWrite, HasMany, BreaksRun, RunsReach, RunsSegment, future}
+use Rattle.strip_decoder.specs.Runs.{Run, PartBy, HasFew, HasFewKnown, HasWalkedTo, IsBegun, WalksIn, WalksPast, HasBroken, HasFailedWrite, HasMany, BreaksRun, RunsReach, future}
 use Rattle.strip_decoder.proofs.TextReads.{left_after}
 use Rattle.strip_decoder.proofs.Showing.{block_lost, block_held, shows_passed}
 use Rattle.strip_decoder.proofs.Staying.{StaysIn, known_or_not, stays_here, stays_on}
@@ -212,12 +213,7 @@ reach_runs {T = T} {E = E} k w now new a p q start n r in_it at standing n_is pa
 -- its blocks are those that were read, or missing
 values_are : (g : Geometry) (sofar : Numbers) (start : SegmentStart) (accepted : Bool) (cells : List ℤ) → FitsImage g start → 64 * start.head.blocks ≤ length cells → sofar start.ancillary.index ≡ value_of accepted start.head cells →
     (i : ℕ) → i < start.head.blocks → blocks_with g sofar (start.ancillary.first + i) ≡ segment_values accepted cells i
-values_are g sofar start true cells fits long is i lt =
-    ap (λ n. blocks_with g sofar (n + i)) fits.first ∙ block_held g sofar start.ancillary.index start.head.blocks i cells (omega (arith, fits.blocks)) lt long is
-values_are g sofar start false cells fits long is i lt =
-    let index = start.ancillary.index in
-    let at : (start.ancillary.first + i) / g.segment ≡ index = ap (λ n. (n + i) / g.segment) fits.first ∙ div-mul-add index g.segment i (omega (arith, lt, fits.blocks)) in
-    block_lost g sofar (start.ancillary.first + i) (ap sofar at ∙ is)
+values_are g sofar start accepted cells fits long is i lt = grind (arith, nat_tests, block_held, div-mul-add, block_lost)
 
 -- the walk takes the geometry that is known by now
 pub come_followed : {S : Type 0} (k : SinkOf S) (w : Run) (new : Outside) (b : Assembling) (p q : Walking S) (start : SegmentStart) (pixels bound : ℕ) → HasFollowed k pixels b p q start → HasWalkedTo k w new b p bound → HasWalkedTo k w new b q bound
@@ -258,9 +254,7 @@ module _ {S : Type 0} (k : SinkOf S) (w : Run) (new last_out : Outside) (b : Ass
   there = followed.count ∙ there0
 
   next_few : passed_in p + start.head.blocks ≤ first_block p.geometry.segment (index + 1)
-  next_few =
-      let more : (index + 1) * p.geometry.segment ≡ index * p.geometry.segment + p.geometry.segment = grind arith in
-      omega (arith, there, fits.first, fits.blocks, more)
+  next_few = grind (arith, nat_tests, there)
 
   values_there : (i : ℕ) → i < start.head.blocks → blocks_with p.geometry after.come.known.sofar (passed_in p + i) ≡ segment_values accepted cells i
   values_there i lt = ap (λ n. blocks_with p.geometry after.come.known.sofar (n + i)) there ∙ values_are p.geometry after.come.known.sofar start accepted cells fits long after.value_is i lt
@@ -347,11 +341,7 @@ module _ {S : Type 0} (k : SinkOf S) (w : Run) (w1 w2 : Outside) (a b : Assembli
 
   pub text_breaks : (fault : DecodeFault) (cells : List ℤ) → ReadsText w.book w1 w2 a b start.head cells (Err fault) → BreaksRun k w w2 fault
   text_breaks ReadFault cells failed = text_broken failed
-  text_breaks WriteFault cells failed = absurd failed
-  text_breaks NoSegment cells failed = absurd failed
-  text_breaks (TooManyPixels pixels) cells failed = absurd failed
-  text_breaks LongInput cells failed = absurd failed
-  text_breaks Memory cells failed = absurd failed
+  text_breaks other cells failed = absurd failed
 
   -- the head of the next segment reports too many pixels
   pub held_breaks : (q : Walking S) (accepted : Bool) (cells : List ℤ) → (reads : ReadsText w.book w1 w2 a b start.head cells (Ok accepted)) → (fault : DecodeFault) → FollowsHeld k w.pixels b p q (Err fault) → BreaksRun k w w2 fault
@@ -367,16 +357,8 @@ module _ {S : Type 0} (k : SinkOf S) (w : Run) (w1 w2 : Outside) (a b : Assembli
       many next e image geometry (TooManyPixels pixels) x =
           let n = after.begun next e in
           many_broken k w w2 b p (start.ancillary.index + 1) after.come next (start.ancillary.index + 1) standing (stays_past goes) n.begun n.few n.image n.geometry image geometry pixels x.0 x.1
-      many next e image geometry ReadFault x = absurd x
-      many next e image geometry WriteFault x = absurd x
-      many next e image geometry NoSegment x = absurd x
-      many next e image geometry LongInput x = absurd x
-      many next e image geometry Memory x = absurd x
+      many next e image geometry other x = absurd x
 
       by : (o : Option SegmentStart) → b.held ≡ o → MatchOption o ((IsOk (failed fault)) × (q ≡ p)) (λ next. FollowsFound k w.pixels b next p q (failed fault)) → BreaksRun k w w2 fault
       by None e x = absurd (false≢true x.0)
       by (Some next) e x = let c = held_next a b at.image start.ancillary.index next at.has at.unheld at.last goes e in many next e c.0.image c.0.geometry fault (x c.0.image c.0.geometry)
-
--- a fault ended it
-pub broken_runs : {S : Type 0} (k : SinkOf S) (w : Run) (now : Outside) (a : Assembling) (p : Walking S) (fault : DecodeFault) → BreaksRun k w now fault → RunsSegment k w now a p (Err fault)
-broken_runs k w now a p fault broken = broken

@@ -1,17 +1,17 @@
 -- A run begins.
-use Rattle.std.proofs.Common.{◌≡◌, ◌≤◌, ◌<◌, ℕ, zero, suc, List, [], ◌∷◌, ◌++◌, take, refl, sym, ap, subst, ◌∙◌, inl, inr, arith}
+use Rattle.std.proofs.Common.{◌≡◌, ◌≤◌, ◌<◌, ℕ, List, [], ◌∷◌, ◌++◌, take, refl, sym, ap, subst, ◌∙◌, inl, inr, arith}
 use Rattle.std.specs.Prelude.{true, false, filter, None, Some, Ok}
 use Rattle.std.specs.List.{range_with_len}
 use Rattle.std.proofs.lemmas.Bool.{false≢true}
+use Rattle.std.proofs.lemmas.Bool.Decides.{nat_tests}
 use Rattle.port_122.specs.Outside.{Outside, Exchange}
 use Rattle.port_122.proofs.Stretches.{since_weaker}
 use Rattle.base_122.specs.Sizes.{block_count}
 use Rattle.base_122.specs.Ranges.{IsGeometryInRange, IsWithin, rows_range}
 use Rattle.base_122.specs.declared.book.Book.{Book}
 use Rattle.base_122.specs.declared.geometry.Geometry.{Geometry}
-use Rattle.packet_defs.specs.Streams.{whole_packets}
 use Rattle.stream_defs.specs.declared.fate.FateState.{FateState}
-use Rattle.stream_defs.specs.Fates.{fresh, after, after_all, kept, state_after, geometry_in, part_in}
+use Rattle.stream_defs.specs.Fates.{fresh, after, after_all, kept, geometry_in, part_in}
 use Rattle.stream_defs.specs.Begun.{HasFewPixels, placed}
 use Rattle.stream_defs.specs.Marks.{Marks, most_block_rows}
 use Rattle.stream_defs.proofs.KeptOrder.{does, reached_on}
@@ -50,10 +50,7 @@ first_read w new a b went unread q = read_on w.apid w.cap (subst (λ a. HasRead 
 
 -- there is no geometry if the last place is unchanged
 none_yet : (w : Run) (a : Assembling) (octets : List ℕ) → a ≡ unread_assembly w.apid w.cap → StaysAt a (state_with a octets) → geometry_in w.apid octets ≡ None
-none_yet w a octets unread stays =
-    let last : last_index (state_with a octets).last ≡ None = stays ∙ ap (λ (a : Assembling). last_index a.state.last) unread in
-    let state : state_with a octets ≡ state_after w.apid octets = ap (λ (a : Assembling). state_with a octets) unread in
-    none_kept w.apid (whole_packets octets) (sym (ap (λ (s : FateState). last_index s.last) state) ∙ last)
+none_yet w a octets unread stays = grind (arith, nat_tests, none_kept)
 
 -- no image was reported, so it has few pixels
 pub none_few : (pixels apid : ℕ) (octets : List ℕ) → geometry_in apid octets ≡ None → HasFewPixels pixels apid octets
@@ -74,8 +71,7 @@ first_asks k w new a b went unread q =
     ))
   where
     nothing : (j : ℕ) → take j (let xs : List ℕ = [] in xs) ≡ []
-    nothing zero = refl
-    nothing (suc j) = refl
+    nothing j = grind (arith, nat_tests)
 
 -- no octets are a part of what is given
 pub first_part : {S : Type 0} (k : SinkOf S) (book : Book) (apid : ℕ) (took : List ℕ) → PartBy k book apid took []

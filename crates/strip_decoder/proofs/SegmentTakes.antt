@@ -4,6 +4,7 @@ use Rattle.std.specs.Prelude.{Bool, true, false, Option, None, Some, Result, Ok,
 use Rattle.std.proofs.lemmas.Bool.{false≢true}
 use Rattle.std.proofs.lemmas.List.{length-take-le}
 use Rattle.std.proofs.Math.Nat.{mul-le-mul_right}
+use Rattle.std.proofs.lemmas.Bool.Decides.{nat_tests}
 use Rattle.port_122.specs.Outside.{Outside, NoFewerFaults, Rose}
 use Rattle.port_122.proofs.Stretches.{rose_since}
 use Rattle.base_122.specs.Sizes.{first_block}
@@ -25,7 +26,7 @@ use Rattle.stream_defs.specs.Begun.{placed}
 use Rattle.picture_rows.proofs.BandBlocks.{part_is}
 use Rattle.strip_decoder.specs.Sinks.{Blocks, SinkOf, MayEnd}
 use Rattle.strip_decoder.specs.declared.decode.DecodeFault.{DecodeFault}
-use Rattle.strip_decoder.specs.declared.decode.DecodeFault.TheVariants.{ReadFault, WriteFault, NoSegment, TooManyPixels, LongInput, Memory}
+use Rattle.strip_decoder.specs.declared.decode.DecodeFault.TheVariants.{ReadFault, TooManyPixels}
 use Rattle.strip_decoder.specs.Steps.{Walking, IsCurrent, Follows, PassesBlocks, AreBlocks, missing, passed_in, total_in}
 use Rattle.strip_decoder.specs.Rooms.{IsRoom}
 use Rattle.strip_decoder.specs.Segments.{FitsImage, FollowsFound, FollowsHead, FollowsHeld, TakesSegment, HasImage, IsAt, IsBetween, IsFound, IsShorter, ReadsText, HasTaken, HasReached, ReachesSegment, cells_of, pixels_reached}
@@ -76,9 +77,7 @@ faults_then a b = record { reads = omega (arith, a.reads, b.reads); writes = ome
 
 -- a segment's blocks end at the first block of the next one, or with the image
 pub segment_end : (g : Geometry) (start : SegmentStart) → FitsImage g start → start.ancillary.first + start.head.blocks ≤ first_block g.segment (start.ancillary.index + 1)
-segment_end g start fits =
-    let more : (start.ancillary.index + 1) * g.segment ≡ start.ancillary.index * g.segment + g.segment = grind arith in
-    omega (arith, fits.first, fits.blocks, more)
+segment_end g start fits = grind (arith, nat_tests)
 
 -- ---- a whole segment
 
@@ -174,20 +173,12 @@ has_followed k pixels a b p q start at standing there goes follows = by b.held r
 -- a read failed in its text
 pub read_takes : {S : Type 0} (k : SinkOf S) (book : Book) (w0 w1 w2 : Outside) (a b : Assembling) (p0 p : Walking S) (head : SegmentHead) (cells : List ℤ) (fault : DecodeFault) → NoFewerFaults w0 w1 → ReadsText book w1 w2 a b head cells (Err fault) → TakesSegment k w0 w2 a b p0 p (Err fault)
 read_takes k book w0 w1 w2 a b p0 p head cells ReadFault faults failed = rose_since faults.reads failed.rose
-read_takes k book w0 w1 w2 a b p0 p head cells WriteFault faults failed = absurd failed
-read_takes k book w0 w1 w2 a b p0 p head cells NoSegment faults failed = absurd failed
-read_takes k book w0 w1 w2 a b p0 p head cells (TooManyPixels pixels) faults failed = absurd failed
-read_takes k book w0 w1 w2 a b p0 p head cells LongInput faults failed = absurd failed
-read_takes k book w0 w1 w2 a b p0 p head cells Memory faults failed = absurd failed
+read_takes k book w0 w1 w2 a b p0 p head cells other faults failed = absurd failed
 
 -- the head of the next segment reports too many pixels
 head_takes : {S : Type 0} (k : SinkOf S) (pixels : ℕ) (w0 w2 : Outside) (a b : Assembling) (p0 p q : Walking S) (image : Geometry) (next : SegmentStart) (fault : DecodeFault) → FollowsHead k pixels image next p q (Err fault) → TakesSegment k w0 w2 a b p0 p (Err fault)
 head_takes k pixels w0 w2 a b p0 p q image next (TooManyPixels found) x = tt
-head_takes k pixels w0 w2 a b p0 p q image next ReadFault x = absurd x
-head_takes k pixels w0 w2 a b p0 p q image next WriteFault x = absurd x
-head_takes k pixels w0 w2 a b p0 p q image next NoSegment x = absurd x
-head_takes k pixels w0 w2 a b p0 p q image next LongInput x = absurd x
-head_takes k pixels w0 w2 a b p0 p q image next Memory x = absurd x
+head_takes k pixels w0 w2 a b p0 p q image next other x = absurd x
 
 abbrev is_failed : DecodeFault → Result (Unit {0}) DecodeFault
 is_failed fault = Err fault
@@ -195,11 +186,7 @@ is_failed fault = Err fault
 -- it states nothing of the walk
 head_only : {S : Type 0} (k : SinkOf S) (pixels : ℕ) (image : Geometry) (next : SegmentStart) (p q : Walking S) (fault : DecodeFault) → FollowsHead k pixels image next p q (Err fault) → FollowsHead k pixels image next q q (Err fault)
 head_only k pixels image next p q (TooManyPixels found) x = x
-head_only k pixels image next p q ReadFault x = absurd x
-head_only k pixels image next p q WriteFault x = absurd x
-head_only k pixels image next p q NoSegment x = absurd x
-head_only k pixels image next p q LongInput x = absurd x
-head_only k pixels image next p q Memory x = absurd x
+head_only k pixels image next p q other x = absurd x
 
 pub follow_takes : {S : Type 0} (k : SinkOf S) (pixels : ℕ) (w0 w2 w1 : Outside) (a b : Assembling) (p0 p q : Walking S) (start : SegmentStart) (fault : DecodeFault) → IsAt a p start → passed_in p ≡ start.ancillary.first → Continues w1 w2 a b → FollowsHeld k pixels b p q (Err fault) → TakesSegment k w0 w2 a b p0 q (Err fault)
 follow_takes k pixels w0 w2 w1 a b p0 p q start fault at there goes follows = by b.held refl follows
@@ -276,9 +263,7 @@ found_follows k pixels a p q start found follows =
     }
 
 pub fewer_left : {S : Type 0} {a : Assembling} {start : SegmentStart} (k : SinkOf S) (old p q : Walking S) → total_in p - passed_in p < total_in old - passed_in old → HasFollowedFound k a p q start → total_in q - passed_in q < total_in old - passed_in old
-fewer_left k old p q less followed =
-    let fewer = fewer_blocks p.geometry q.geometry followed.shorter.same followed.shorter.fewer in
-    omega (arith, less, fewer, followed.count)
+fewer_left k old p q less followed = grind (arith, nat_tests, fewer_blocks)
 
 -- its head reports too many pixels
 pub found_takes : {S : Type 0} (k : SinkOf S) (pixels : ℕ) (w0 w2 : Outside) (a b : Assembling) (p0 p q : Walking S) (start : SegmentStart) (fault : DecodeFault) → IsFound b p start → FollowsFound k pixels b start p q (is_failed fault) → TakesAll k w0 w2 a b p0 q (Err fault)
@@ -286,11 +271,7 @@ found_takes k pixels w0 w2 a b p0 p q start fault found follows = by fault (foll
   where
     by : (fault : DecodeFault) → FollowsHead k pixels found.image start p q (is_failed fault) → TakesAll k w0 w2 a b p0 q (Err fault)
     by (TooManyPixels n) x = tt
-    by ReadFault x = absurd x
-    by WriteFault x = absurd x
-    by NoSegment x = absurd x
-    by LongInput x = absurd x
-    by Memory x = absurd x
+    by other x = absurd x
 
 -- all segments were taken
 pub all_takes : {S : Type 0} (k : SinkOf S) (w0 w1 w2 : Outside) (a0 a b : Assembling) (p0 p : Walking S) → IsCurrent k p → IsBetween a p → FindsSegment w1 w2 a b (Ok None) → NoFewerFaults w0 w2 → TookAll k w0 w2 a0 b p0 p
@@ -326,6 +307,4 @@ blocks_fit g start blocks marks room fits =
 
 -- each segment leaves fewer blocks
 pub more_taken : {S : Type 0} {p q : Outside} {a b : Assembling} (k : SinkOf S) (old new : Walking S) → HasTaken k p q a b old new → total_in new - passed_in new < total_in old - passed_in old
-more_taken k old new taken =
-    let total = fewer_blocks old.geometry new.geometry taken.geometry.same taken.geometry.fewer in
-    omega (arith, total, taken.standing.few, taken.more)
+more_taken k old new taken = grind (arith, nat_tests, fewer_blocks)

@@ -5,6 +5,7 @@ use Rattle.std.specs.Option.{option_map}
 use Rattle.std.proofs.lemmas.List.{length-take-le, take-take, drop-take}
 use Rattle.std.proofs.lemmas.List.FromFn.{get_or-map-range_with_len}
 use Rattle.std.proofs.lemmas.Nat.{div-mul-add, mod-mul-add}
+use Rattle.std.proofs.lemmas.Bool.Decides.{nat_tests}
 use Rattle.port_122.specs.Outside.{Outside}
 use Rattle.base_122.specs.Sizes.{first_block}
 use Rattle.base_122.specs.declared.geometry.Geometry.{Geometry}
@@ -19,10 +20,7 @@ use Rattle.strip_decoder.specs.Runs.{AreOf, Shows}
 -- the number of a block in the segment that has it
 pub number_in : (g : Geometry) (sofar : Numbers) (index k i : ℕ) (w : List (List ℤ)) → k < g.segment → sofar index ≡ Some w → number_at g sofar (index * g.segment + k) i ≡ get_or (get_or w k []) i (pos 0)
 unfolding number_at
-number_in g sofar index k i w lt some =
-    ap (λ n. get_or (get_or (unwrap_or (sofar n) []) ((index * g.segment + k) % g.segment) []) i (pos 0)) (div-mul-add index g.segment k lt)
-    ∙ ap (λ o. get_or (get_or (unwrap_or o []) ((index * g.segment + k) % g.segment) []) i (pos 0)) some
-    ∙ ap (λ n. get_or (get_or w n []) i (pos 0)) (mod-mul-add index g.segment k lt)
+number_in g sofar index k i w lt some = grind (arith, nat_tests, pos, div-mul-add, mod-mul-add)
 
 -- the number of a block is that of its segment alone
 pub number_by : (g : Geometry) (a b : Numbers) (block i : ℕ) → a (block / g.segment) ≡ b (block / g.segment) → number_at g a block i ≡ number_at g b block i
@@ -52,14 +50,7 @@ front_block cells count k lt =
 
 -- the blocks of a segment that holds these numbers
 pub block_held : (g : Geometry) (sofar : Numbers) (index n k : ℕ) (cells : List ℤ) → n ≤ g.segment → k < n → 64 * n ≤ length cells → sofar index ≡ Some (blocks_in (take (64 * n) cells)) → blocks_with g sofar (first_block g.segment index + k) ≡ Some (block_at cells k)
-block_held g sofar index n k cells few lt long some =
-    let front = take (64 * n) cells in
-    let size : length front ≡ 64 * n = length-take-le (64 * n) cells long in
-    let block : ℕ = index * g.segment + k in
-    ap (λ i. option_map (λ numbers. get_or numbers (block % g.segment) []) (sofar i)) (div-mul-add index g.segment k (omega (arith, lt, few)))
-    ∙ ap (option_map (λ numbers. get_or numbers (block % g.segment) [])) some
-    ∙ ap (λ i. Some (get_or (blocks_in front) i [])) (mod-mul-add index g.segment k (omega (arith, lt, few)))
-    ∙ ap Some (block_in front k (omega (arith, size, lt)) ∙ front_block cells n k lt)
+block_held g sofar index n k cells few lt long some = grind (arith, nat_tests, length-take-le, div-mul-add, mod-mul-add, block_in, front_block)
 
 -- ---- the first blocks
 

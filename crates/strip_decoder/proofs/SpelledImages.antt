@@ -61,20 +61,16 @@ head_said s index limit count depth_dc depth_ac range said some most least_dc mo
 }
   where
     plane_least : (dc : Bool) (plane : ℕ) → plane < 32 → (if dc then 0 else plane) < 32
-    plane_least true plane h = omega arith
-    plane_least false plane h = h
+    plane_least dc plane h = grind (arith, nat_tests)
 
     stage_least : (dc : Bool) (stage : ℕ) → stage < 4 → (if dc then 3 else stage) < 4
-    stage_least true stage h = omega arith
-    stage_least false stage h = h
+    stage_least dc stage h = grind (arith, nat_tests)
 
     pads : (last : Bool) (rows : ℕ) → (if last then padded_size rows - rows else 0) < 8
-    pads true rows = omega arith
-    pads false rows = omega arith
+    pads last rows = grind (arith, nat_tests)
 
     none : (last : Bool) (rows : ℕ) → last ≡ false → (if last then padded_size rows - rows else 0) ≡ 0
-    none true rows e = absurd cc
-    none false rows e = refl
+    none last rows e = grind (arith, nat_tests)
 
 -- ---- numbers that are small and multiples of their weights
 
@@ -104,15 +100,7 @@ module _ (p : Pyramid) (weights : List ℕ) (r c t k : ℕ) (within : PyramidWit
 
   whole_number : (i : ℕ) → (i < 64) ⊎ (64 ≤ i) → magnitude (block p weights t k) i ≡ 2 ^ shift weights i * part_of_number i
   unfolding part_of_number
-  whole_number i (inl lt) =
-      let test : nat_lt i 64 ≡ true = grind (arith, nat_tests) in
-      let turned : unsigned_abs (coefficient p t k i) * 2 ^ shift weights i ≡ 2 ^ shift weights i * unsigned_abs (coefficient p t k i) = grind arith in
-      ap unsigned_abs (number_at i lt) ∙ unsigned_abs-mul (coefficient p t k i) (weight_at weights i) ∙ turned
-      ∙ sym (ap (λ b. 2 ^ shift weights i * (if b then unsigned_abs (coefficient p t k i) else 0)) test)
-  whole_number i (inr ge) =
-      let test : nat_lt i 64 ≡ false = grind (arith, nat_tests) in
-      let none : 0 ≡ 2 ^ shift weights i * 0 = omega arith in
-      none_past i ge ∙ none ∙ sym (ap (λ b. 2 ^ shift weights i * (if b then unsigned_abs (coefficient p t k i) else 0)) test)
+  whole_number i h1 = grind (arith, nat_tests, number_at, unsigned_abs-mul, none_past)
 
   pub sound_block : IsSound weights (block p weights t k)
   sound_block = record {
@@ -157,9 +145,7 @@ module _ (s : Setting) (x : ℕ → ℕ → ℤ) (range : IsInRange s) (height :
   segment_sound index = All-take (IsSound s.weights.shifts) s.segment (drop (first_block s.segment index) (image_blocks s x)) (All-drop (IsSound s.weights.shifts) (first_block s.segment index) (image_blocks s x) all_sound)
 
   pub length-segment : (index : ℕ) → length (segment_of s (image_blocks s x) index) ≡ segment_blocks (total_blocks s.width s.rows) s.segment index
-  length-segment index =
-      length-take s.segment (drop (first_block s.segment index) (image_blocks s x))
-      ∙ ap (min s.segment) (length-drop (first_block s.segment index) (image_blocks s x) ∙ ap (λ n. n - first_block s.segment index) (length-image_blocks s x))
+  length-segment index = grind (arith, nat_tests, length-take, length-drop, length-image_blocks)
 
   -- ---- a segment with its head
 

@@ -5,6 +5,7 @@ use Rattle.std.proofs.lemmas.Bool.{false≢true}
 use Rattle.std.proofs.lemmas.Bool.Decides.{nat_tests}
 use Rattle.std.proofs.lemmas.List.{append-nil}
 use Rattle.std.proofs.Math.Nat.{mul-le-mul_right}
+use Rattle.std.proofs.lemmas.Option.{same_Some}
 use Rattle.base_122.specs.Sizes.{first_block}
 use Rattle.base_122.specs.Ranges.{IsGeometryInRange, IsWithin, rows_range}
 use Rattle.base_122.specs.declared.geometry.Geometry.{Geometry}
@@ -51,9 +52,6 @@ placed_range g range = record {
 pub last_some : (o : Option LastPart) (n : ℕ) → last_index o ≡ Some n → (l : LastPart) × (o ≡ Some l) × (l.index ≡ n)
 last_some None n e = absurd (let no : None ≡ Some n = e in cc)
 last_some (Some l) n e = (l, refl, let same : Some l.index ≡ Some n = e in cc)
-
-some_same : {x y : Geometry} → Some x ≡ Some y → x ≡ y
-some_same e = cc
 
 -- ---- a packet that begins a segment
 
@@ -117,7 +115,7 @@ module _ (apid : ℕ) (before : List (List ℕ)) (g : Geometry) (n : ℕ) (stays
       let later = b.later l.0 l.1 in
       let past = b.past l.0 l.1 in
       let parts : b.image ≡ record stays.image { rows = b.image.rows } = b.same stays.image stays.geometry in
-      let range : IsGeometryInRange b.image = b.range (λ none. absurd (let no : None ≡ Some stays.image = sym none ∙ stays.geometry in cc)) (λ h is. let same : stays.image ≡ h = (let e : Some stays.image ≡ Some h = sym stays.geometry ∙ is in some_same e) in subst IsGeometryInRange same stays.range) in
+      let range : IsGeometryInRange b.image = b.range (λ none. absurd (let no : None ≡ Some stays.image = sym none ∙ stays.geometry in cc)) (λ h is. let same : stays.image ≡ h = (let e : Some stays.image ≡ Some h = sym stays.geometry ∙ is in same_Some _ _ e) in subst IsGeometryInRange same stays.range) in
       let segment : b.image.segment ≡ g.segment = ap (λ (g : Geometry). g.segment) parts ∙ ends_segment g (placed stays.image) n stays.ends in
       let low : n ≤ start.ancillary.first = omega (arith, stays.before, past, ap (λ m. first_block m (l.0.index + 1)) segment, ap (λ i. first_block g.segment (i + 1)) l.2) in
       let more : (stays.index + 1) * g.segment ≤ (start.ancillary.index + 1) * g.segment = mul-le-mul_right g.segment (omega (arith, later, l.2)) in
@@ -170,7 +168,7 @@ stays_here s g image n index geometry range same last before = record { image = 
 
 -- an image that packets left is the one
 pub stays_at : (s : FateState) (g : Geometry) (n : ℕ) (image : Geometry) → StaysIn s g n → s.geometry ≡ Some image → IsGeometryInRange image × MayEnd g (placed image) n
-stays_at s g n image stays is = let same : stays.image ≡ image = some_same (sym stays.geometry ∙ is) in subst (λ h. IsGeometryInRange h × MayEnd g (placed h) n) same (stays.range, stays.ends)
+stays_at s g n image stays is = let same : stays.image ≡ image = same_Some _ _ (sym stays.geometry ∙ is) in subst (λ h. IsGeometryInRange h × MayEnd g (placed h) n) same (stays.range, stays.ends)
 
 -- as far as fewer blocks
 pub ends_fewer : (g h : Geometry) (m n : ℕ) → m ≤ n → MayEnd g h n → MayEnd g h m
@@ -180,12 +178,6 @@ ends_fewer g h m n le ends = elim ends [
 ]
 
 -- ---- what a sink gives of it
-
-pub given_ends : {S : Type 0} (k : SinkOf S) (g h : Geometry) (blocks : Blocks) (n : ℕ) (gave : List ℕ) → MayEnd g h n → k.Given g blocks n gave → k.Given h blocks n gave
-given_ends k g h blocks n gave ends given = elim ends [
-  | inl same ↦ subst (λ h. k.Given h blocks n gave) (sym same) given
-  | inr e ↦ k.given_ended g h blocks n gave e given
-]
 
 pub part_ends : {S : Type 0} (k : SinkOf S) (g h : Geometry) (blocks : Blocks) (n : ℕ) (gave : List ℕ) → MayEnd g h n → k.Part g blocks n gave → k.Part h blocks n gave
 part_ends k g h blocks n gave ends part = elim ends [

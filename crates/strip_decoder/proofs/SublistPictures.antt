@@ -137,9 +137,7 @@ module _ (short : TextsAreShort) (s : Setting) (rows : ℕ) (x : ℕ → ℕ →
 
   -- the segment of a block
   pub segment_within : (block : ℕ) → block < total_blocks s.width rows → block / s.segment < segments_of t
-  segment_within block lt =
-      let some = image.range.segment.0 in
-      div_below block s.segment (segments_of t) (omega (arith, some)) (omega (arith, lt, total-le-segments (total_blocks s.width rows) s.segment (omega (arith, some))))
+  segment_within block lt = grind (arith, nat_tests, div_below, total-le-segments)
 
 -- ---- the rows that they report
 
@@ -152,38 +150,13 @@ reported_is s rows parts = by (tells_last s) refl (is_begun (parts (segments_of 
     by true e true = inl refl
     by true e false = inr (grind (arith, nat_tests), refl)
 
--- if the height is reported first
-pub reported_known : (s : Setting) (rows : ℕ) (parts : ℕ → List ℕ) → (s.rows ≡ 0 → ⊥) → reported_rows s rows parts ≡ rows
-reported_known s rows parts some = rw (is_not_open s.rows some) refl
-
 -- if the last segment is begun
 pub reported_begun : (s : Setting) (rows : ℕ) (parts : ℕ → List ℕ) → is_begun (parts (segments_of (sized s rows) - 1)) ≡ true → reported_rows s rows parts ≡ rows
-reported_begun s rows parts begun = by (tells_last s) (is_begun (parts (segments_of (sized s rows) - 1))) begun
-  where
-    by : (b c : Bool) → c ≡ true → (if b && not c then 0 else rows) ≡ rows
-    by b false e = absurd (false≢true e)
-    by false true e = refl
-    by true true e = refl
+reported_begun s rows parts begun = grind (arith, nat_tests, false≢true)
 
 -- whether the last segment is begun
 begun_last : (s : Setting) (parts : ℕ → List ℕ) (last : ℕ) → last < segments_of s → IsLastBegun s parts last → (last + 1 == segments_of s) ≡ is_begun (parts (segments_of s - 1))
-begun_last s parts last lt is = by (last + 1 == segments_of s) refl (parts (segments_of s - 1)) refl
-  where
-    by : (b : Bool) → (last + 1 == segments_of s) ≡ b → (ks : List ℕ) → parts (segments_of s - 1) ≡ ks → b ≡ is_begun ks
-    by true e ks f =
-        let same : last ≡ segments_of s - 1 = let at : last + 1 ≡ segments_of s = grind (arith, nat_tests) in omega (arith, at) in
-        ap is_begun (sym is.begun ∙ ap parts same ∙ f)
-    by false e [] f = refl
-    by false e (suc k ∷ ks) f = refl
-    by false e (zero ∷ ks) f =
-        let past : last < segments_of s - 1 = let other : last + 1 ≡ segments_of s → ⊥ = λ at. no at e in below last (segments_of s) lt other in
-        absurd (is.none_after (segments_of s - 1) past (omega (arith, lt)) ks f)
-      where
-        no : last + 1 ≡ segments_of s → (last + 1 == segments_of s) ≡ false → ⊥
-        no at e = grind (arith, nat_tests)
-
-        below : (m n : ℕ) → m < n → (m + 1 ≡ n → ⊥) → m < n - 1
-        below m n lt other = grind arith
+begun_last s parts last lt is = grind (arith, nat_tests)
 
 module _ (short : TextsAreShort) (s : Setting) (rows : ℕ) (x : ℕ → ℕ → ℤ) (parts : ℕ → List ℕ) (are : AreSome s rows x parts) where
   abbrev u : Setting
@@ -272,22 +245,11 @@ module _ (short : TextsAreShort) (s : Setting) (rows : ℕ) (x : ℕ → ℕ →
       not_open same = is_not_open r (λ none. within_not rows are.image.height.0 (sym same ∙ none))
 
       pub few_blocks : block_rows g n ≤ block_count rows
-      few_blocks = elim is [
-        | inl same ↦ rw (not_open same) (let e = ap block_count same in omega (arith, e))
-        | inr none ↦ rw (is_open r none.1) few
-      ]
+      few_blocks = grind (arith, nat_tests, not_open, is_open)
 
       -- that of the rows which are given for these is that of the image
       bands_same : (i j : ℕ) → i < height g n → j < s.width → picture_of g numbers (band_rows g n) i j ≡ picture_of g numbers (block_count rows) i j
-      bands_same i j inside across = elim is [
-        | inl same ↦
-            let bands : band_rows g n ≡ block_count rows = rw (not_open same) (ap block_count same) in
-            ap (λ b. picture_of g numbers b i j) bands
-        | inr none ↦
-            let bands : band_rows g n ≡ n + 3 = rw (is_open r none.1) refl in
-            let high : height g n ≡ 8 * n - 21 = rw (is_open r none.1) refl in
-            heights_alike g numbers (band_rows g n) (block_count rows) n i j (omega (arith, wide)) (omega (arith, bands)) few (omega (arith, inside, high)) across
-      ]
+      bands_same i j inside across = grind (arith, nat_tests, not_open, is_open, heights_alike, wide)
 
       pub all_shows : (i j : ℕ) → i < height g n → j < s.width → picture_with g numbers n i j ≡ whole_picture (image_geometry s rows) whole i j
       all_shows i j inside across =
@@ -305,6 +267,3 @@ module _ (short : TextsAreShort) (s : Setting) (rows : ℕ) (x : ℕ → ℕ →
     sublist_same n few = same_at (reported_rows s rows parts) n (reported_is s rows parts) few
 
 -- ---- geometries
-
-pub some_geometry : {x y : Geometry} → Some x ≡ Some y → x ≡ y
-some_geometry e = cc

@@ -1,41 +1,24 @@
 -- When the packets of a text close it.
 use Rattle.std.proofs.Common.{◌≡◌, ◌+◌, ℕ, List, [], ◌∷◌, ◌++◌, refl, sym, ap, ◌∙◌, inl, inr, arith}
-use Rattle.std.specs.Prelude.{Bool, true, false, ◌==◌, Option, Some}
+use Rattle.std.specs.Prelude.{Bool, true, false, Option, Some}
 use Rattle.std.proofs.lemmas.Bool.{false≢true}
 use Rattle.std.proofs.lemmas.Bool.Decides.{nat_tests}
+use Rattle.std.proofs.lemmas.Option.{same_Some}
 use Rattle.bit_pipe.specs.Sources.{End, Plainly, InPieces, Tail}
-use Rattle.packet_defs.specs.Reading.{ancillary_in, flags_in, text_in}
+use Rattle.packet_defs.specs.Reading.{flags_in}
 use Rattle.stream_defs.specs.declared.fate.FateState.{FateState}
 use Rattle.stream_defs.specs.declared.fate.LastPart.{LastPart}
 use Rattle.stream_defs.specs.Fates.{fate, after, after_all, is_kept, closes, part_in}
 use Rattle.stream_defs.specs.Received.{number_of_part}
 use Rattle.stream_defs.proofs.KeptOrder.{Begins, Follows, does, HasReached, reached_on}
 use Rattle.packet_assembly.specs.Assembling.{last_index, is_closed}
-use Rattle.packet_assembly.specs.Tails.{in_front, nothing, kept_tail, tail_over, tail_from}
-
-in_pieces : InPieces ≡ Plainly → ⊥
-in_pieces e = absurd cc
-
-over_none : (apid : ℕ) (s : FateState) (stop : End) → tail_over apid s [] stop ≡ nothing stop
-unfolding tail_over
-over_none apid s stop = refl
-
-over_lost : (apid : ℕ) (s : FateState) (x : List ℕ) (xs : List (List ℕ)) (stop : End) → is_kept (fate apid s x) ≡ false → tail_over apid s (x ∷ xs) stop ≡ tail_over apid (after apid s x) xs stop
-unfolding tail_over
-over_lost apid s x xs stop e = rw e refl
-
-over_kept : (apid : ℕ) (s : FateState) (x : List ℕ) (xs : List (List ℕ)) (stop : End) → is_kept (fate apid s x) ≡ true → tail_over apid s (x ∷ xs) stop ≡ kept_tail x (tail_over apid (after apid s x) xs stop)
-unfolding tail_over
-over_kept apid s x xs stop e = rw e refl
+use Rattle.packet_assembly.specs.Tails.{kept_tail, tail_over, tail_from}
+use Rattle.packet_assembly.proofs.TailSteps.{over_none}
+use Rattle.packet_assembly.proofs.TailParts.{in_pieces, over_lost, over_kept, more_test}
 
 -- what a kept packet brings doesn't depend on later packets, if it closes the text
 kept_same : (x : List ℕ) (a b : Tail) → ((kept_tail x a).ends ≡ Plainly) → (a.ends ≡ Plainly → b ≡ a) → kept_tail x b ≡ kept_tail x a
-kept_same x a b e same = by ((ancillary_in x).part == 0) (closes (flags_in x)) refl refl
-  where
-    by : (c d : Bool) → ((ancillary_in x).part == 0) ≡ c → closes (flags_in x) ≡ d → kept_tail x b ≡ kept_tail x a
-    by true d ec ed = rw ec refl
-    by false true ec ed = rw (ec, ed) refl
-    by false false ec ed = let plain : a.ends ≡ Plainly = rw (ec, ed) at e in rw (ec, ed) (ap (in_front (text_in x)) (same plain))
+kept_same x a b e same = grind (arith, nat_tests)
 
 -- a text that is closed stays so, whatever follows
 pub over_more : (apid : ℕ) (s : FateState) (xs ys : List (List ℕ)) (stop other : End) → (other ≡ Plainly → ⊥) → (tail_over apid s xs other).ends ≡ Plainly → tail_over apid s (xs ++ ys) stop ≡ tail_over apid s xs other
@@ -52,16 +35,9 @@ over_more apid s (x ∷ xs) ys stop other never e = by (is_kept (fate apid s x))
         ∙ sym (over_kept apid s x xs other keeps)
 
 pub from_more : (apid : ℕ) (s : FateState) (xs ys : List (List ℕ)) (stop other : End) → (other ≡ Plainly → ⊥) → (tail_from apid s xs other).ends ≡ Plainly → tail_from apid s (xs ++ ys) stop ≡ tail_from apid s xs other
-from_more apid s xs ys stop other never e = by (is_closed s.last) refl
-  where
-    by : (b : Bool) → is_closed s.last ≡ b → tail_from apid s (xs ++ ys) stop ≡ tail_from apid s xs other
-    by true closed = rw closed refl
-    by false going = let plain : (tail_over apid s xs other).ends ≡ Plainly = rw going at e in rw going (over_more apid s xs ys stop other never plain)
+from_more apid s xs ys stop other never e = grind (arith, nat_tests, over_more)
 
 -- ---- states
-
-some_same : {a b : LastPart} → Some a ≡ Some b → a ≡ b
-some_same e = cc
 
 some_index : (o : Option LastPart) (l : LastPart) (n : ℕ) → o ≡ Some l → last_index o ≡ Some n → l.index ≡ n
 some_index o l n e h = let same : Some l.index ≡ Some n = sym (ap last_index e) ∙ h in cc
@@ -84,12 +60,9 @@ closed_stays apid n s (x ∷ xs) l is e closed last = elim (does apid s x) [
   | inl lost ↦ closed_stays apid n (after apid s x) xs l (ap (λ (s : FateState). s.last) lost.same ∙ is) e closed last
   | inr here ↦ elim here [
     | inl b ↦ absurd (not_back apid n (after apid s x) xs (reached_by apid n s x l is e b) last)
-    | inr next ↦ absurd (false≢true (sym next.unclosed ∙ ap (λ (l : LastPart). l.closed) (some_same (sym next.before_is ∙ is)) ∙ closed))
+    | inr next ↦ absurd (false≢true (sym next.unclosed ∙ ap (λ (l : LastPart). l.closed) (same_Some _ _ (sym next.before_is ∙ is)) ∙ closed))
   ]
 ]
-
-zero_test : (n m : ℕ) → n ≡ m + 1 → (n == 0) ≡ false
-zero_test n m e = grind (arith, nat_tests)
 
 -- ---- closing
 
@@ -101,17 +74,17 @@ over_closes apid n s (x ∷ xs) l is e plain last = elim (does apid s x) [
   | inl lost ↦ over_closes apid n (after apid s x) xs l (ap (λ (s : FateState). s.last) lost.same ∙ is) e (sym (ap (λ (t : Tail). t.ends) (over_lost apid s x xs InPieces lost.lost)) ∙ plain) last
   | inr here ↦ elim here [
     | inl b ↦ absurd (not_back apid n (after apid s x) xs (reached_by apid n s x l is e b) last)
-    | inr next ↦ by_flags next (closes (flags_in x)) refl (over_closes apid n (after apid s x) xs (part_in x) next.last (next.index ∙ ap (λ (l : LastPart). l.index) (some_same (sym next.before_is ∙ is)) ∙ e))
+    | inr next ↦ by_flags next (closes (flags_in x)) refl (over_closes apid n (after apid s x) xs (part_in x) next.last (next.index ∙ ap (λ (l : LastPart). l.index) (same_Some _ _ (sym next.before_is ∙ is)) ∙ e))
   ]
 ]
   where
     by_flags : Follows apid s x → (b : Bool) → closes (flags_in x) ≡ b →
         ((tail_over apid (after apid s x) xs InPieces).ends ≡ Plainly → last_index (after_all apid (after apid s x) xs).last ≡ Some n → is_closed (after_all apid (after apid s x) xs).last ≡ true) →
         is_closed (after_all apid (after apid s x) xs).last ≡ true
-    by_flags next true f more = closed_stays apid n (after apid s x) xs (part_in x) next.last (next.index ∙ ap (λ (l : LastPart). l.index) (some_same (sym next.before_is ∙ is)) ∙ e) f last
+    by_flags next true f more = closed_stays apid n (after apid s x) xs (part_in x) next.last (next.index ∙ ap (λ (l : LastPart). l.index) (same_Some _ _ (sym next.before_is ∙ is)) ∙ e) f last
     by_flags next false f more =
         let here : (kept_tail x (tail_over apid (after apid s x) xs InPieces)).ends ≡ Plainly = sym (ap (λ (t : Tail). t.ends) (over_kept apid s x xs InPieces next.is_kept)) ∙ plain in
-        let later : (tail_over apid (after apid s x) xs InPieces).ends ≡ Plainly = rw (zero_test (number_of_part x) next.before.part next.part, f) at here in
+        let later : (tail_over apid (after apid s x) xs InPieces).ends ≡ Plainly = rw (more_test (number_of_part x) next.before.part next.part, f) at here in
         more later last
 
 -- and if they have closed it, it ends plainly
@@ -123,31 +96,19 @@ over_closed apid n s (x ∷ xs) l is e going last closed = elim (does apid s x) 
   | inr here ↦ elim here [
     | inl b ↦ absurd (not_back apid n (after apid s x) xs (reached_by apid n s x l is e b) last)
     | inr next ↦ ap (λ (t : Tail). t.ends) (over_kept apid s x xs InPieces next.is_kept)
-        ∙ by_flags next (closes (flags_in x)) refl (over_closed apid n (after apid s x) xs (part_in x) next.last (next.index ∙ ap (λ (l : LastPart). l.index) (some_same (sym next.before_is ∙ is)) ∙ e))
+        ∙ by_flags next (closes (flags_in x)) refl (over_closed apid n (after apid s x) xs (part_in x) next.last (next.index ∙ ap (λ (l : LastPart). l.index) (same_Some _ _ (sym next.before_is ∙ is)) ∙ e))
   ]
 ]
   where
     by_flags : Follows apid s x → (b : Bool) → closes (flags_in x) ≡ b →
         (closes (flags_in x) ≡ false → last_index (after_all apid (after apid s x) xs).last ≡ Some n → is_closed (after_all apid (after apid s x) xs).last ≡ true → (tail_over apid (after apid s x) xs InPieces).ends ≡ Plainly) →
         (kept_tail x (tail_over apid (after apid s x) xs InPieces)).ends ≡ Plainly
-    by_flags next true f more = rw (zero_test (number_of_part x) next.before.part next.part, f) refl
-    by_flags next false f more = rw (zero_test (number_of_part x) next.before.part next.part, f) (more f last closed)
+    by_flags next b f more = grind (arith, nat_tests, more_test)
 
 pub from_closes : (apid n : ℕ) (s : FateState) (xs : List (List ℕ)) (l : LastPart) → s.last ≡ Some l → l.index ≡ n → (tail_from apid s xs InPieces).ends ≡ Plainly → last_index (after_all apid s xs).last ≡ Some n →
     is_closed (after_all apid s xs).last ≡ true
-from_closes apid n s xs l is e plain last = by l.closed refl
-  where
-    by : (b : Bool) → l.closed ≡ b → is_closed (after_all apid s xs).last ≡ true
-    by true closed = closed_stays apid n s xs l is e closed last
-    by false going =
-        let open_now : is_closed s.last ≡ false = ap is_closed is ∙ going in
-        let here : (tail_over apid s xs InPieces).ends ≡ Plainly = rw open_now at plain in
-        over_closes apid n s xs l is e here last
+from_closes apid n s xs l is e plain last = grind (arith, nat_tests, closed_stays, over_closes)
 
 pub from_closed : (apid n : ℕ) (s : FateState) (xs : List (List ℕ)) (l : LastPart) → s.last ≡ Some l → l.index ≡ n → last_index (after_all apid s xs).last ≡ Some n → is_closed (after_all apid s xs).last ≡ true →
     (tail_from apid s xs InPieces).ends ≡ Plainly
-from_closed apid n s xs l is e last closed = by l.closed refl
-  where
-    by : (b : Bool) → l.closed ≡ b → (tail_from apid s xs InPieces).ends ≡ Plainly
-    by true shut = rw (ap is_closed is ∙ shut) refl
-    by false going = rw (ap is_closed is ∙ going) (over_closed apid n s xs l is e going last closed)
+from_closed apid n s xs l is e last closed = grind (arith, nat_tests, over_closed)

@@ -3,6 +3,7 @@ use Rattle.std.proofs.Common.{◌≡◌, ◌*◌, ℕ, ℤ, List, [], ◌∷◌,
 use Rattle.std.specs.Prelude.{Bool, true, false, Option, None, Some, Result, Ok, Err}
 use Rattle.std.specs.Option.{option_map}
 use Rattle.std.proofs.lemmas.List.{append-nil, take-append-le}
+use Rattle.std.proofs.lemmas.Bool.Decides.{nat_tests}
 use Rattle.port_122.specs.Outside.{Outside, Loses}
 use Rattle.port_122.proofs.Stretches.{rose_since}
 use Rattle.base_122.specs.declared.book.Book.{Book}
@@ -23,7 +24,7 @@ use Rattle.packet_assembly.specs.Passing.{goes_both}
 use Rattle.packet_assembly.specs.Tails.{text_tail}
 use Rattle.packet_assembly.specs.TextSource.{segment_source}
 use Rattle.strip_decoder.specs.declared.decode.DecodeFault.{DecodeFault}
-use Rattle.strip_decoder.specs.declared.decode.DecodeFault.TheVariants.{ReadFault, WriteFault, NoSegment, TooManyPixels, LongInput, Memory}
+use Rattle.strip_decoder.specs.declared.decode.DecodeFault.TheVariants.{ReadFault}
 use Rattle.strip_decoder.specs.Segments.{EndsText, ReadsText, Refuses, cells_of}
 
 -- what is left after octets were taken
@@ -107,11 +108,7 @@ module _ {X : Type 0} (outside : X → Outside) (book : Book) (s t : SegmentText
           e.told left.rest left.told none.0 none.1;
     }
     ends_by (Err ReadFault) e = record { goes = goes_both goes e.goes; rose = rose_since goes.passes.since.faults.reads e.rose }
-    ends_by (Err WriteFault) e = absurd e
-    ends_by (Err NoSegment) e = absurd e
-    ends_by (Err (TooManyPixels pixels)) e = absurd e
-    ends_by (Err LongInput) e = absurd e
-    ends_by (Err Memory) e = absurd e
+    ends_by (Err other) e = absurd e
 
     pub text_read : (p x : X) (a y : Assembling) (result : Result Bool DecodeFault) → s.port.now ≡ p → s.assembly.now ≡ a → x ≡ t.port.now → y ≡ t.assembly.now → EndsText (outside x) new y b result →
         ReadsText book (outside p) new a b head (cells ++ more) result
@@ -138,10 +135,7 @@ module _ {X : Type 0} (outside : X → Outside) (book : Book) (s t : SegmentText
 
     -- as it ends otherwise
     by_break : (ends : End) → (ends ≡ Plainly → ⊥) → IsOver ((segment_source outside).tail t) ends → (before : List ℕ) → old.rest ≡ Some before → (text_tail s.assembly.now before).ends ≡ Plainly → ⊥
-    by_break ends other over before told plain =
-        let x = come d.octets before d.went.goes d.came told in
-        let none = over_by t.assembly.now now.rest x.rest ends x.told over in
-        other (sym none.1 ∙ sym x.ends ∙ plain)
+    by_break ends other over before told plain = grind (arith, nat_tests, come, goes, over_by)
 
   pub text_refused : (head : SegmentHead) (cells : List ℤ) (fault : SegmentFault) → IsHead head → (fault ≡ faults.ReadFault → ⊥) → DecodesSegment (segment_source outside) book head (Err fault) s t cells →
       (p x : X) (a y : Assembling) → s.port.now ≡ p → s.assembly.now ≡ a → x ≡ t.port.now → y ≡ t.assembly.now → Refuses book (outside p) (outside x) a y head

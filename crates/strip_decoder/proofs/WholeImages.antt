@@ -1,15 +1,16 @@
 -- All packets of an image: each of its segments is received.
 use Rattle.std.proofs.Common.{◌≡◌, ◌≤◌, ◌<◌, ◌+◌, ◌-◌, ◌*◌, ◌/◌, ℕ, zero, suc, ℤ, List, [], ◌∷◌, refl, ap, subst, ◌∙◌, arith}
-use Rattle.std.specs.Prelude.{Bool, true, false, cond, not, None, Some, is_some, filter, length}
+use Rattle.std.specs.Prelude.{Bool, true, false, cond, not, None, Some, is_some, filter}
 use Rattle.std.specs.List.{range_with_len}
 use Rattle.std.proofs.lemmas.Nat.{le-div}
 use Rattle.std.proofs.Math.Nat.{mul-le-mul_right}
+use Rattle.std.proofs.lemmas.Bool.Decides.{nat_tests}
 use Rattle.base_122.specs.Setting.{image_geometry, sized}
 use Rattle.base_122.specs.Sizes.{block_count, total_blocks}
 use Rattle.base_122.specs.declared.geometry.Geometry.{Geometry}
 use Rattle.base_122.specs.declared.setting.Setting.{Setting}
 use Rattle.base_122.proofs.SizeBounds.{total-le-segments, nine-le-total_blocks}
-use Rattle.packet_defs.specs.Packets.{joined, part_size}
+use Rattle.packet_defs.specs.Packets.{joined}
 use Rattle.packet_defs.specs.Streams.{left_over, place_after, framing, framing_at}
 use Rattle.packet_defs.proofs.Splits.{joined_splits, splits_left}
 use Rattle.segment_code.specs.Laws.{CodedHolds, TextsAreShort}
@@ -84,18 +85,10 @@ module _ (short : TextsAreShort) (s : Setting) (rows : ℕ) (x : ℕ → ℕ →
   -- ---- its geometry
 
   some_segments : 0 < segments_of t
-  some_segments = by (segments_of t) (total-le-segments (total_blocks s.width rows) s.segment (omega (arith, is.range.segment.0)))
-    where
-      by : (n : ℕ) → total_blocks s.width rows ≤ n * s.segment → 0 < n
-      by zero le = absurd (omega (arith, le, nine-le-total_blocks s.width rows is.range.width.0 is.height.0.0))
-      by (suc n) le = omega arith
+  some_segments = grind (arith, nat_tests, total-le-segments, nine-le-total_blocks)
 
   some_parts : (index : ℕ) → index < segments_of t → 1 ≤ parts_of t all index
-  some_parts index lt =
-      let size = part_size s.packet in
-      let packet = is.range.packet in
-      let some = coded.some index lt in
-      le-div 1 (length (segment_text t all index) + size - 1) size (omega (arith, packet)) (omega (arith, some))
+  some_parts index lt = grind (arith, nat_tests, coded, le-div)
 
   begins : BeginsOne s rows (all_parts t all)
   begins = by (parts_of t all 0) refl (some_parts 0 some_segments)
@@ -106,18 +99,13 @@ module _ (short : TextsAreShort) (s : Setting) (rows : ℕ) (x : ℕ → ℕ →
 
   -- the last segment is begun, so that the height is reported
   last_begun : is_begun (all_parts t all (segments_of t - 1)) ≡ true
-  last_begun = by (parts_of t all (segments_of t - 1)) (some_parts (segments_of t - 1) (omega (arith, some_segments)))
-    where
-      by : (n : ℕ) → 1 ≤ n → is_begun (range_with_len 0 n) ≡ true
-      by zero some = absurd (omega (arith, some))
-      by (suc n) some = refl
+  last_begun = grind (arith, nat_tests, some_parts, some_segments)
 
   are : AreSome s rows x (all_parts t all)
   are = record { image = is; choice = choice }
 
   pub geometry_told : geometry_in s.apid (output s rows x) ≡ Some (image_geometry s rows)
-  geometry_told = ap (geometry_in s.apid) all_are ∙ geometry_there short s rows x (all_parts t all) are begins
-      ∙ ap (λ n. Some (image_geometry s n)) (reported_begun s rows (all_parts t all) last_begun)
+  geometry_told = grind (arith, nat_tests, all_are, geometry_there, are, begins, reported_begun, last_begun)
 
   -- ---- what is received
 
