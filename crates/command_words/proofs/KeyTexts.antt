@@ -1,12 +1,10 @@
 -- An argument has at most one key, and one text after it.
-use Rattle.std.proofs.Common.{◌≡◌, ◌≢◌, ◌<◌, ℕ, zero, suc, List, [], ◌∷◌, ◌++◌, length, get_or, refl, sym, ◌∙◌, ap, append_assoc, arith, true, false, lit<}
-use Rattle.std.specs.Prelude.{codes, Bool, not, cond, find, Option, Some, None, is_some, ◌==◌, MatchOption}
-use Rattle.std.specs.Borrow.{Bor}
+use Rattle.std.proofs.Common.{◌≡◌, ◌≢◌, ◌<◌, ℕ, zero, suc, List, [], ◌∷◌, ◌++◌, length, get_or, refl, sym, ◌∙◌, ap, append_assoc, arith, true, false}
+use Rattle.std.specs.Prelude.{codes, Bool, not, cond, find, Option, Some, None, is_some, ◌==◌}
 use Rattle.std.specs.List.{list_all}
 use Rattle.std.specs.Str.{bytes_eq}
 use Rattle.std.proofs.lemmas.Bool.{false≢true, and_parts, eq-eqb}
 use Rattle.std.proofs.lemmas.Slice.Eq.{bytes_eq-Decides}
-use Rattle.std.proofs.lemmas.Str.Pattern.{split_after, IsSplitOnceResult}
 use Rattle.command_words.proofs.Separators.{split_one}
 use Rattle.command_words.specs.declared.tables.Key.{Key}
 use Rattle.command_words.specs.declared.tables.Key.TheVariants.{Width}
@@ -45,12 +43,6 @@ found_passes p (other ∷ keys) key e = passes_here p key other (find p keys) (p
 
 pub text_of_named : (text : List ℕ) (key : Key) → key_named text ≡ Some key → key_text key ≡ text
 text_of_named text key e = (bytes_eq-Decides (key_text key) text).0 (found_passes (λ own. bytes_eq (key_text own) text) ALL key e)
-
--- the parts before and after the first equals sign of an argument with a key
-pub keyed_parts : (word text : List ℕ) (key : Key) (r : Option (Bor (List ℕ) × Bor (List ℕ))) → IsSplitOnceResult 61 word r → IsKeyed word key text →
-    MatchOption r ⊥ (λ x. (x.0.now ≡ key_text key) × (x.1.now ≡ text))
-keyed_parts word text key r split keyed =
-    split_after 61 word (key_text key) text r split (lit< tt) (keyed ∙ append_assoc (key_text key) (codes "=") text) (plain_at (key_text key) (plain_key key))
 
 pub keyed_from_parts : (word before text : List ℕ) (key : Key) → word ≡ before ++ (61 ∷ text) → key_named before ≡ Some key → IsKeyed word key text
 keyed_from_parts word before text key e named =

@@ -1,5 +1,5 @@
 -- The texts of values.
-use Rattle.std.proofs.Common.{◌≡◌, ◌≢◌, ◌<◌, ◌≤◌, ◌+◌, ◌^◌, ◌-◌, ◌/◌, ◌%◌, ℕ, zero, suc, List, [], ◌∷◌, ◌++◌, length, get_or, map, decimal, arith, append_assoc, sym, ◌∙◌, ap, subst}
+use Rattle.std.proofs.Common.{◌≡◌, ◌≢◌, ◌<◌, ◌≤◌, ◌+◌, ◌^◌, ◌-◌, ◌/◌, ◌%◌, ℕ, zero, suc, List, [], ◌∷◌, ◌++◌, length, get_or, map, decimal, arith, append_assoc, sym, ◌∙◌, subst}
 use Rattle.std.specs.Prelude.{codes, All}
 use Rattle.std.proofs.lemmas.Grind.{common_steps}
 use Rattle.std.proofs.lemmas.Fmt.{decimal_by_steps}
@@ -41,16 +41,6 @@ not_stop text dc dot (CapValue n) is = is.0
 not_stop text dc dot (FlagValue b) is = is.0
 not_stop text dc dot (WeightsValue w) is = is.0
 not_stop text dc dot (SelectValue s) is = is.0
-
--- a text of weights has ten digits 0 to 3
-pub length-weights : (text : List ℕ) (value : Value) → IsValueText Weights text value → length text ≡ 10
-length-weights text (WeightsValue w) is = ap length is.1 ∙ length-map w.shifts (λ shift. 48 + shift) ∙ is.0.0
-length-weights text (NumberValue n) is = absurd is.0
-length-weights text (CapValue n) is = absurd is.0
-length-weights text (FlagValue b) is = absurd is.0
-length-weights text StopDc is = absurd is.0
-length-weights text (StopAt p s) is = absurd is.0
-length-weights text (SelectValue s) is = absurd is.0
 
 digit_of_shift : (n : ℕ) → IsShift n → IsWeightDigit (48 + n)
 digit_of_shift n small = (omega arith, omega arith)

@@ -1,6 +1,6 @@
 -- The arguments, one by one.
-use Rattle.std.proofs.Common.{◌≡◌, ◌≤◌, ◌-◌, ◌+◌, ℕ, List, [], ◌∷◌, length, sym, ◌∙◌, ap, arith, take, drop, get_or, refl, inl, inr}
-use Rattle.std.specs.Prelude.{String, string_bytes, Result, Err}
+use Rattle.std.proofs.Common.{◌≡◌, ◌≤◌, ◌-◌, ◌+◌, ℕ, List, [], ◌∷◌, length, sym, ◌∙◌, ap, arith, take, drop, get_or, inr}
+use Rattle.std.specs.Prelude.{String, string_bytes, Result}
 use Rattle.std.specs.declared.alloc.Global.{Global}
 use Rattle.std.proofs.lemmas.List.{take_rest}
 use Rattle.command_words.specs.Tables.{Finds}
@@ -8,7 +8,7 @@ use Rattle.command_words.specs.declared.tables.Key.{Key}
 use Rattle.command_words.specs.declared.entries.Entry.{Entry}
 use Rattle.command_words.specs.declared.command.WordFault.{WordFault}
 use Rattle.command_words.specs.Words.{texts}
-use Rattle.command_words.specs.Entries.{IsEntry, WordSays, EntriesSay, with_entry}
+use Rattle.command_words.specs.Entries.{IsEntry, EntriesSay, with_entry}
 
 -- the first argument and those after it
 pub first_word : (words : List (String Global)) (word : String Global) → 1 ≤ length words → word ≡ get_or words 0 word →
@@ -21,7 +21,3 @@ first_word (w ∷ ws) word some is =
 pub entry_first : (keys : List Key) (finds : Finds) (place : ℕ) (word : List ℕ) (words after : List (List ℕ)) (entry : Entry) (said : Result Finds WordFault) →
     words ≡ word ∷ after → IsEntry keys finds word entry → EntriesSay keys (with_entry finds entry) (place + 1) after said → EntriesSay keys finds place words said
 entry_first keys finds place word words after entry said is spells more = rw is (inr (entry, spells, more))
-
-pub fault_first : (keys : List Key) (finds : Finds) (place : ℕ) (word : List ℕ) (words after : List (List ℕ)) (fault : WordFault) →
-    words ≡ word ∷ after → WordSays keys finds place word (Err fault) → EntriesSay keys finds place words (Err fault)
-fault_first keys finds place word words after fault is says = rw is (inl (fault, says, refl))

@@ -21,7 +21,7 @@ left_over a None xs less told p = absurd (let at : Loses (Some xs) None less = r
 left_over a (Some rest) xs less told p = let at : xs ≡ less ++ rest = rw told at p in (rest, refl, at)
 
 -- two prefixes of the same length, and what follows them
-same_parts : (xs ys more less : List ℕ) → length xs ≡ length ys → xs ++ more ≡ ys ++ less → (xs ≡ ys) × (more ≡ less)
+pub same_parts : (xs ys more less : List ℕ) → length xs ≡ length ys → xs ++ more ≡ ys ++ less → (xs ≡ ys) × (more ≡ less)
 same_parts [] [] more less long e = (refl, e)
 same_parts [] (y ∷ ys) more less long e = absurd (omega (arith, long))
 same_parts (x ∷ xs) [] more less long e = absurd (omega (arith, long))

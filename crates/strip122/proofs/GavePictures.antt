@@ -3,6 +3,7 @@ use Rattle.std.proofs.Common.{◌≡◌, ◌≤◌, ℕ, ℤ, List, [], ◌∷�
 use Rattle.std.specs.Prelude.{◌≢◌, ◌⊎◌, ◌&&◌, nat_le, nat_lt, Bool, Option, None, Some, Result, Ok, Err}
 use Rattle.std.proofs.lemmas.Bool.{false≢true}
 use Rattle.std.proofs.lemmas.Bool.Decides.{nat_tests}
+use Rattle.std.proofs.Math.Bool.{and-false}
 use Rattle.port_122.specs.Outside.{Outside}
 use Rattle.base_122.specs.declared.geometry.Geometry.{Geometry}
 use Rattle.base_122.specs.declared.setting.Setting.{Setting}
@@ -39,11 +40,7 @@ use Rattle.strip122.proofs.Decoded.{fault_statuses, some_known}
 -- ---- if nothing is missing, nothing is damaged
 
 unharmed : (rows row : ℕ) → is_damaged rows [] row ≡ false
-unharmed rows row = never (nat_lt row rows)
-  where
-    never : (b : Bool) → (b && false) ≡ false
-    never true = refl
-    never false = refl
+unharmed rows row = and-false (nat_lt row rows)
 
 begun : (r : RowRange) (rs : List RowRange) → r.first ≤ r.last → is_covered (r ∷ rs) r.first ≡ true
 begun r rs le = let e : (nat_le r.first r.first && nat_le r.first r.last) ≡ true = both r.first r.last le in rw e refl

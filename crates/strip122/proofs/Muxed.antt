@@ -2,6 +2,7 @@
 use Rattle.std.proofs.Common.{◌≡◌, ◌<◌, ◌≤◌, ◌+◌, ◌*◌, ℕ, ℤ, zero, suc, Bool, List, [], ◌∷◌, ◌++◌, length, take, refl, sym, ◌∙◌, ap, subst, arith, append_assoc, length-append, inl, inr}
 use Rattle.std.specs.Prelude.{Result, Ok, Err, Some}
 use Rattle.std.proofs.lemmas.List.{append-nil}
+use Rattle.strip122.proofs.BookRuns.{same_parts}
 use Rattle.port_122.specs.Outside.{Outside, Exchange, NoRead, AtEnd}
 use Rattle.port_122.proofs.Stretches.{since_start, since_note, at_end_later}
 use Rattle.port_122.proofs.Told.{end_told}
@@ -18,7 +19,7 @@ use Rattle.camera_mux.specs.MuxOut.{mux_out}
 use Rattle.camera_mux.specs.MuxProgress.{AreSettings, AsksMux}
 use Rattle.camera_mux.specs.MuxAnswers.{Answers, IsAwaited, IsPart, HasBadPixel, Muxes as MuxesOver}
 use Rattle.camera_mux.specs.MuxLaws.{CamerasAreKept}
-use Rattle.strip122.specs.Notes.{IsNoted, Notes, mux_fault_status, mux_fault_line, memory_line}
+use Rattle.strip122.specs.Notes.{IsNoted, Notes, mux_fault_status, mux_fault_line}
 use Rattle.strip122.specs.Muxing.{mux_status, mux_line, MuxesRecords, Muxes, MuxedWhole, MuxRefuses, AreRecords, muxes}
 use Rattle.strip122.proofs.NoteLines.{noted_since, nothing_noted}
 use Rattle.strip122.proofs.Behaviours.{AtStatus, Law}
@@ -37,10 +38,6 @@ causes_later settings a b c records rest gave wrote (Err (Short octets)) n k = (
 causes_later settings a b c records rest gave wrote (Err Long) n k = k
 causes_later settings a b c records rest gave wrote (Err (BadCamera place camera)) n k = k
 causes_later settings a b c records rest gave wrote (Err (BadPixel camera row column value)) n k = k
-
--- there is too little memory, and this is noted
-pub lacks_works : (settings : List Setting) (a b : Outside) → Notes a b memory_line → Muxes settings a b 6
-lacks_works settings a b n = inl (record { wrote = n.0; since = n.1; status_is = refl; noted = n.2 })
 
 module _ (settings : List Setting) (kept : CamerasAreKept) (are : AreSettings settings) (a b : Outside) where
   pub muxed : (done : MuxDone) → MuxesOver settings a b (Ok done) → Muxes settings a b 0
@@ -74,17 +71,6 @@ module _ (settings : List Setting) (kept : CamerasAreKept) (are : AreSettings se
   }
 
 -- ---- records of the same octets
-
-same_front : (xs ys us vs : List ℕ) → length xs ≡ length ys → xs ++ us ≡ ys ++ vs → (xs ≡ ys) × (us ≡ vs)
-same_front [] [] us vs size e = (refl, e)
-same_front [] (y ∷ ys) us vs size e = absurd (omega (arith, size))
-same_front (x ∷ xs) [] us vs size e = absurd (omega (arith, size))
-same_front (x ∷ xs) (y ∷ ys) us vs size e =
-    let first : x ≡ y = cc in
-    let more : xs ++ us ≡ ys ++ vs = cc in
-    let rest = same_front xs ys us vs (omega (arith, size)) more in
-    let same = rest.0 in
-    (cc, rest.1)
 
 shorter_front : (xs ys us vs : List ℕ) → length ys ≤ length xs → xs ++ us ≡ ys ++ vs → (ws : List ℕ) × (xs ≡ ys ++ ws)
 shorter_front xs [] us vs size e = (xs, refl)
@@ -134,7 +120,7 @@ goes_on settings before (a ∷ front) (r ∷ records) octets one other e =
     let camera : r.camera ≡ a.camera = cc in
     let rows : r.row ++ octets_of records ≡ (a.row ++ octets_of front) ++ octets = cc in
     let size : length r.row ≡ length a.row = their.whole ∙ ap (λ c. row_length (setting_at settings c)) camera ∙ sym own.whole in
-    let both = same_front r.row a.row (octets_of records) (octets_of front ++ octets) size (rows ∙ append_assoc a.row (octets_of front) octets) in
+    let both = same_parts r.row a.row (octets_of records) (octets_of front ++ octets) size (rows ∙ append_assoc a.row (octets_of front) octets) in
     let make : ℕ → List ℕ → CameraRow = λ c row. record { camera = c; row = row } in
     let same : r ≡ a = ap (λ c. make c r.row) camera ∙ ap (make a.camera) both.0 in
     let more = goes_on settings (before ++ a ∷ []) front records octets (rest_follows settings before a front one)

@@ -9,7 +9,7 @@ use Rattle.raster_rows.specs.declared.made.MadeImage.{MadeImage}
 use Rattle.raster_rows.specs.Made.{made_value}
 use Rattle.strip122.specs.declared.trial.TrialDone.{TrialDone}
 use Rattle.strip122.specs.MadeRasters.{made_raster}
-use Rattle.strip122.specs.Notes.{Notes, word_line, memory_line}
+use Rattle.strip122.specs.Notes.{Notes, word_line}
 use Rattle.strip122.specs.Trials.{made_with, trial_line, IsTried}
 use Rattle.strip122.specs.Behaviours.{Behaviour}
 use Rattle.strip122.specs.Run.{Refuses, Gives, Tries, makes, tries}
@@ -43,13 +43,6 @@ given_cut octets a b c f n = record {
     noted = noted_since a b c n.0 _ f.1.2.faults.notes n.2;
   });
 }
-
--- there is too little memory for a trial, and this is noted
-pub lacks_trial : (s : Setting) (seed : ℕ) (a b : Outside) → Notes a b memory_line → Tries s seed a b 6
-lacks_trial s seed a b n = inl (record { wrote = n.0; since = n.1; status_is = refl; noted = n.2 })
-
-pub tried_whole : (s : Setting) (seed : ℕ) (done : TrialDone) (a b : Outside) → IsTried s (made_value (made_with s seed)) done → Exchange a b [] (trial_line s done) [] NoRead → Tries s seed a b 0
-tried_whole s seed done a b tried since = inr (record { done = done; tried = tried; gives = given_whole (trial_line s done) a b since })
 
 pub tried_cut : (s : Setting) (seed : ℕ) (done : TrialDone) (a b c : Outside) → IsTried s (made_value (made_with s seed)) done →
     Rose a.write_faults b.write_faults × ((n : ℕ) × (n ≤ length (trial_line s done)) × Exchange a b [] (take n (trial_line s done)) [] NoRead) →

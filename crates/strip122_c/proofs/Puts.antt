@@ -1,8 +1,7 @@
 -- Items that are put into places, one after another.
-use Rattle.std.proofs.Common.{◌≡◌, ◌≤◌, ◌<◌, ℕ, List, [], ◌∷◌, ◌++◌, length, take, drop, refl, ap, arith, inl, inr, length-append, length-drop}
+use Rattle.std.proofs.Common.{◌≡◌, ◌≤◌, ◌<◌, List, [], ◌∷◌, ◌++◌, length, take, drop, refl, ap, arith, inl, inr, length-append, length-drop}
 use Rattle.std.specs.Prelude.{nat_lt, if◌then◌else◌, slice_set, true, false}
-use Rattle.std.proofs.lemmas.Bool.{cases_lt}
-use Rattle.std.proofs.lemmas.Bool.Decides.{nat_tests}
+use Rattle.std.proofs.lemmas.Bool.{cases_lt, lt-ltb, le-ltb}
 use Rattle.std.proofs.lemmas.List.{length-take}
 use Rattle.strip122_c.specs.Ranges.{put_over}
 
@@ -34,15 +33,9 @@ pub put_more : {A : Type 0} (xs : List A) (x : A) (ps : List A) →
     put_over (xs ++ x ∷ []) ps ≡ (if nat_lt (length xs) (length (put_over xs ps)) then slice_set (put_over xs ps) (length xs) x else put_over xs ps)
 put_more xs x ps = elim (cases_lt (length xs) (length ps)) [
   | inl lt ↦
-      let test : nat_lt (length xs) (length (put_over xs ps)) ≡ true = is_below (length xs) (length (put_over xs ps)) (omega (arith, lt, length-put_over xs ps)) in
+      let test : nat_lt (length xs) (length (put_over xs ps)) ≡ true = lt-ltb (length xs) (length (put_over xs ps)) (omega (arith, lt, length-put_over xs ps)) in
       rw test (put_before xs x ps lt)
   | inr le ↦
-      let test : nat_lt (length xs) (length (put_over xs ps)) ≡ false = is_above (length xs) (length (put_over xs ps)) (omega (arith, le, length-put_over xs ps)) in
+      let test : nat_lt (length xs) (length (put_over xs ps)) ≡ false = le-ltb (length xs) (length (put_over xs ps)) (omega (arith, le, length-put_over xs ps)) in
       rw test (put_beyond xs x ps le)
 ]
-  where
-    is_below : (m n : ℕ) → m < n → nat_lt m n ≡ true
-    is_below m n lt = grind (arith, nat_tests)
-
-    is_above : (m n : ℕ) → n ≤ m → nat_lt m n ≡ false
-    is_above m n le = grind (arith, nat_tests)

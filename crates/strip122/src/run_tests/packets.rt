@@ -201,19 +201,34 @@ fn no_room_for_the_whole_image_is_taken(rt: HostRuntime) -> Result<(), Fail> {
 
 #[test]
 fn each_call_fails_in_turn(rt: HostRuntime) -> Result<(), Fail> {
-    // A read of the packet, a write for each row, and the read that finds the end.
+    // A read of the packet, a write of all rows, since the last row of blocks determines them, and the read that finds the end.
     let one = black(&rt)?;
     for (text, number, status, count, note) in [
         ("decode", 0, 4, 0, "strip122: read fault\n"),
         ("decode", 1, 5, 0, "strip122: write fault\n"),
-        ("decode", 3, 5, 34, "strip122: write fault\n"),
-        ("decode", 18, 4, 289, "strip122: read fault\n"),
+        ("decode", 2, 4, 289, "strip122: read fault\n"),
         ("damage", 1, 4, 0, "strip122: read fault\n"),
         ("list", 1, 5, 0, "strip122: write fault\n"),
         ("list", 2, 4, 14, "strip122: read fault\n"),
     ] {
         let given = ended(&rt, text, &one, &[number], WHOLE, status, note)?;
         assert_eq!(rt; given.len(), count, "{text}, call {number}");
+    }
+    Ok(())
+}
+
+#[test]
+fn each_row_of_blocks_is_a_write(rt: HostRuntime) -> Result<(), Fail> {
+    // Row r of blocks determines the pixel rows below 8r - 13 if r is at least 2, and the last one determines all: 3 rows, 12 times 8 and 29.
+    let whole = eight(&rt)?;
+    for (number, status, count, note) in [
+        (1, 5, 0, "strip122: write fault\n"),
+        (3, 5, 704, "strip122: write fault\n"),
+        (14, 5, 6336, "strip122: write fault\n"),
+        (15, 4, 8192, "strip122: read fault\n"),
+    ] {
+        let given = ended(&rt, "decode", &whole, &[number], WHOLE, status, note)?;
+        assert_eq!(rt; given.len(), count, "call {number}");
     }
     Ok(())
 }
