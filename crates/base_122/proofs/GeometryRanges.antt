@@ -1,5 +1,5 @@
 -- The geometry of an image of a setting in range is in range, and so is the setting with the image's height.
-use Rattle.std.proofs.Common.{◌≡◌, ◌⊎◌, inl, inr, ℕ, sym, subst}
+use Rattle.std.proofs.Common.{◌≡◌, ◌⊎◌, inl, inr, ℕ, subst}
 use Rattle.base_122.specs.declared.setting.Setting.{Setting}
 use Rattle.base_122.specs.Setting.{IsHeight, sized, geometry_of, image_geometry}
 use Rattle.base_122.specs.Ranges.{IsWithin, rows_range, HasTotal, IsInRange, IsGeometryInRange}

@@ -1,6 +1,5 @@
 -- A check finds no field out of range exactly if the setting is in range.
-use Rattle.std.proofs.Common.{◌≡◌, ◌≢◌, ◌≤◌, ◌%◌, ℕ, List, refl, sym, ◌∙◌, inl, inr, true, false, arith}
-use Rattle.std.specs.Prelude.{◌⊎◌, All, Bool, not, cond, ◌&&◌, ◌||◌, ◌==◌, nat_le, Option, Some, None}
+use Rattle.std.proofs.Common.{◌≡◌, ◌≢◌, ◌≤◌, ◌%◌, ℕ, List, refl, sym, ◌∙◌, inl, inr, true, false, arith, ◌⊎◌, All, Bool, not, cond, ◌&&◌, ◌||◌, ◌==◌, nat_le, Option, Some, None}
 use Rattle.std.specs.Bool.{Decides}
 use Rattle.std.specs.List.{list_all}
 use Rattle.std.proofs.lemmas.Bool.{or_cases, or_left, or_right, and_parts, and_from, not-true, not_from_false, false≢true, ne_eqb, eqb-true, eq-eqb, leb-true, le-leb}

@@ -1,6 +1,5 @@
 -- Bounds of the padded sizes and of the segments.
-use Rattle.std.proofs.Common.{◌≡◌, ℕ, ◌+◌, ◌*◌, ◌^◌, ◌<◌, ◌≤◌, arith}
-use Rattle.std.proofs.Math.Nat.{mul-le-mul, mul-le-mul_right}
+use Rattle.std.proofs.Common.{◌≡◌, ℕ, ◌+◌, ◌*◌, ◌^◌, ◌<◌, ◌≤◌, arith, mul-le-mul, mul-le-mul_right}
 use Rattle.std.proofs.lemmas.Grind.{div_ceil_times}
 use Rattle.base_122.specs.Ranges.{IsWithin, width_range, rows_range}
 use Rattle.base_122.specs.Sizes.{block_count, total_blocks, segment_count, first_block, segment_blocks}

@@ -1,5 +1,5 @@
 -- The image and the geometry in a setting.
-use Rattle.std.specs.Prelude.{◌≡◌, ◌⊎◌, ◌^◌, ℕ, true, false}
+use Rattle.std.specs.Prelude.{◌≡◌, ◌⊎◌, ◌^◌, ℕ, false}
 use Rattle.base_122.specs.declared.setting.Setting.{Setting}
 use Rattle.base_122.specs.declared.setting.Select.TheVariants.{Optimal}
 use Rattle.base_122.specs.declared.geometry.Geometry.{Geometry}

@@ -1,6 +1,5 @@
 -- What is picked of a stream is whole packets, which are picked again.
-use Rattle.std.proofs.Common.{◌≡◌, ℕ, List, [], ◌∷◌, refl, sym, ap, ◌∙◌}
-use Rattle.std.specs.Prelude.{Bool, true, false, cond, not, ◌==◌, is_none, filter, Option, None, Some}
+use Rattle.std.proofs.Common.{◌≡◌, ℕ, List, [], ◌∷◌, refl, sym, ap, ◌∙◌, Bool, true, false, cond, not, ◌==◌, is_none, filter, Option, None, Some}
 use Rattle.std.specs.List.{AllByRecursion}
 use Rattle.std.proofs.lemmas.Bool.{false≢true, and_parts}
 use Rattle.packet_defs.specs.declared.packet.Skip.{Skip}
@@ -12,6 +11,7 @@ use Rattle.packet_defs.specs.Tests.{when, first_of}
 use Rattle.packet_defs.proofs.Splits.{splits_whole, splits_left, whole_splits, joined_splits}
 use Rattle.camera_defs.specs.Picked.{is_picked, picked_of, picked}
 use Rattle.camera_defs.specs.PickLaws.{PicksWhole}
+use Rattle.packet_defs.proofs.Equations.{skip_of-is}
 
 -- ---- a filter of packets
 
@@ -45,10 +45,9 @@ own_by false false true rest e = refl
 own_by false false false rest e = absurd cc
 
 pub mine_own : (apid : ℕ) (packet : List ℕ) → skip_of apid packet ≡ None → is_picked apid None packet ≡ true
-unfolding skip_of
-mine_own apid packet e = own_by (apid_in packet == idle_apid) (type_in packet == 1) (apid_in packet == apid) _ e
+mine_own apid packet e = own_by (apid_in packet == idle_apid) (type_in packet == 1) (apid_in packet == apid) _ (sym (skip_of-is apid packet) ∙ e)
 
-none_so : {A : Type 0} (o : Option A) → is_none o ≡ true → o ≡ None
+pub none_so : {A : Type 0} (o : Option A) → is_none o ≡ true → o ≡ None
 none_so None e = refl
 none_so (Some x) e = absurd (false≢true e)
 

@@ -1,8 +1,7 @@
 -- Lists of bits of one kind, and prefixes of lists.
-use Rattle.std.proofs.Common.{◌≡◌, ℕ, zero, suc, ◌+◌, ◌-◌, ◌<◌, ◌≤◌, List, [], ◌∷◌, ◌++◌, length, take, Bool, true, false, eqb, refl, ap, ◌∙◌, append_assoc, arith, zero-add, inl, inr, length-append}
+use Rattle.std.proofs.Common.{◌≡◌, ℕ, zero, suc, ◌+◌, ◌<◌, ◌≤◌, List, [], ◌∷◌, ◌++◌, length, take, Bool, true, false, eqb, refl, ap, ◌∙◌, append_assoc, arith, zero-add, inl, inr, length-append, append-nil}
 use Rattle.std.proofs.lemmas.Bool.{cases_eq}
 use Rattle.std.proofs.lemmas.Bool.Decides.{nat_tests}
-use Rattle.std.proofs.lemmas.List.{append-nil}
 use Rattle.item_defs.specs.Bits.{copies}
 use Rattle.item_defs.specs.Items.{zeros_and_one}
 
@@ -21,6 +20,10 @@ length-copies (suc n) b = ap suc (length-copies n b)
 pub copies_none : (b : Bool) → copies 0 b ≡ []
 unfolding copies
 copies_none b = refl
+
+pub copies-more : (n : ℕ) (b : Bool) → copies (suc n) b ≡ b ∷ copies n b
+unfolding copies
+copies-more n b = refl
 
 pub copies_then : (m n : ℕ) (b : Bool) → copies m b ++ copies n b ≡ copies (m + n) b
 unfolding copies

@@ -4,5 +4,5 @@ pub mod OctetBits
 pub mod Texts
 pub mod Spellings
 pub mod ReadingLaws
-pub mod Stopping
 pub mod Rounding
+pub mod Equations

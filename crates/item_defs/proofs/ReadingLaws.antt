@@ -1,6 +1,5 @@
 -- Two readings of one text agree.
-use Rattle.std.proofs.Common.{◌≡◌, ℕ, zero, suc, List, [], ◌∷◌, ◌++◌, length, take, map, Bool, refl, sym, ap, subst, ◌∙◌, arith, inl, inr}
-use Rattle.std.specs.Prelude.{Option, None, Some}
+use Rattle.std.proofs.Common.{◌≡◌, ℕ, zero, suc, List, [], ◌∷◌, ◌++◌, length, take, map, Bool, refl, sym, ap, subst, ◌∙◌, arith, inl, inr, Option, None, Some}
 use Rattle.item_defs.specs.Items.{Item, Refusal, item_bits, text, spelling, IsSaid}
 use Rattle.item_defs.specs.Readings.{IsSound, AreItems, StepsAlike, refused, later, Stops}
 use Rattle.item_defs.specs.Laws.{said_of, ReadsOnce, StopsOnce}
@@ -86,3 +85,14 @@ stops_once (i ∷ is) (j ∷ js) bits s t alike a b (inr (inr p)) (inr (inr q)) 
     let other : i.form.refusal p.spelt ≡ Some q.name = subst (λ k. i.form.refusal k ≡ Some q.name) (sym r.0) (subst (λ k. k.refusal q.spelt ≡ Some q.name) (sym alike.0) q.refuses) in
     let name : p.name ≡ q.name = some_of (i.form.refusal p.spelt) p.name q.name p.refuses other in
     p.stops ∙ ap (λ k. refused 0 k p.name) r.0 ∙ ap (refused 0 q.spelt) name ∙ sym q.stops
+
+-- lists that step alike, and say the same together with what follows
+pub said_split : (is js is' js' : List Item) → StepsAlike is js → said_of (is ++ is') ≡ said_of (js ++ js') → (said_of is ≡ said_of js) × (said_of is' ≡ said_of js')
+said_split [] [] is' js' p e = (refl, e)
+said_split [] (j ∷ js) is' js' p e = absurd p
+said_split (i ∷ is) [] is' js' p e = absurd p
+said_split (i ∷ is) (j ∷ js) is' js' p e =
+    let first : i.said ≡ j.said = cc in
+    let others : said_of (is ++ is') ≡ said_of (js ++ js') = cc in
+    let r = said_split is js is' js' (p.1 first) others in
+    (let t : said_of (i ∷ is) ≡ said_of (j ∷ js) = cc (first, r.0) in t, r.1)

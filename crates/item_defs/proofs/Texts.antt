@@ -1,6 +1,5 @@
 -- Texts of consecutive items.
-use Rattle.std.proofs.Common.{◌≡◌, ℕ, zero, suc, ◌+◌, ◌<◌, ◌≤◌, List, [], ◌∷◌, ◌++◌, length, get_or, take, drop, map, Bool, refl, sym, ap, ◌∙◌, append_assoc, arith}
-use Rattle.std.proofs.Math.ListN.{set}
+use Rattle.std.proofs.Common.{◌≡◌, ℕ, zero, suc, ◌+◌, ◌<◌, ◌≤◌, List, [], ◌∷◌, ◌++◌, length, get_or, take, drop, map, Bool, refl, sym, ap, ◌∙◌, append_assoc, arith, set}
 use Rattle.std.proofs.lemmas.List.{append-nil, take_more, take_all, take_more_set, take-append-drop, map-append, get_or-append-add, get_or_append_left}
 use Rattle.std.proofs.lemmas.List.Concat.{flat_map-append, flat_map-cons}
 use Rattle.item_defs.specs.Items.{Item, item_bits, text}

@@ -1,6 +1,5 @@
 -- The bits that a choice counts are those of the items.
-use Rattle.std.proofs.Common.{◌≡◌, ℕ, ◌+◌, ◌*◌, ◌-◌, ◌/◌, ◌^◌, ◌<◌, ◌≤◌, List, [], ◌∷◌, ◌++◌, length, map, true, false, eqb, cond, refl, sym, ap, ◌∙◌, arith, length-append}
-use Rattle.std.specs.Prelude.{sum_by, IsTrue}
+use Rattle.std.proofs.Common.{◌≡◌, ℕ, ◌+◌, ◌*◌, ◌-◌, ◌/◌, ◌^◌, ◌<◌, ◌≤◌, List, [], ◌∷◌, ◌++◌, length, map, true, false, eqb, cond, refl, sym, ap, ◌∙◌, arith, length-append, sum_by, IsTrue}
 use Rattle.std.proofs.lemmas.Bool.Decides.{nat_tests}
 use Rattle.std.proofs.lemmas.Nat.{shr_below}
 use Rattle.std.proofs.lemmas.List.Sums.{sum_by-cons}

@@ -1,8 +1,6 @@
 -- The bits of block depths.
-use Rattle.std.proofs.Common.{◌≡◌, ℕ, ◌+◌, ◌-◌, ◌^◌, ◌<◌, ◌≤◌, true, false, leb, refl, arith}
-use Rattle.std.specs.Prelude.{find, Some}
+use Rattle.std.proofs.Common.{◌≡◌, ℕ, ◌+◌, ◌-◌, ◌^◌, ◌<◌, ◌≤◌, true, false, leb, refl, arith, find, Some, pow_mono}
 use Rattle.std.specs.List.{range_with_len}
-use Rattle.std.proofs.Math.Pow.{pow_mono}
 use Rattle.std.proofs.lemmas.Bool.Decides.{nat_tests}
 use Rattle.number_defs.specs.Depths.{depth_bits}
 use Rattle.number_defs.proofs.Searching.{first_of_range}

@@ -1,11 +1,9 @@
 -- Numbers, their heights and their two's complement form.
-use Rattle.std.proofs.Common.{◌≡◌, ℕ, suc, ◌+◌, ◌*◌, ◌-◌, ◌%◌, ◌^◌, ◌<◌, ◌≤◌, ℤ, pos, negsuc, ◌+ℤ◌, ◌-ℤ◌, Bool, true, false, arith, ap, sym, ◌∙◌, inl, inr}
-use Rattle.std.specs.Prelude.{nat_abs}
+use Rattle.std.proofs.Common.{◌≡◌, ℕ, suc, ◌+◌, ◌*◌, ◌-◌, ◌%◌, ◌^◌, ◌<◌, ◌≤◌, ℤ, pos, negsuc, ◌+ℤ◌, ◌-ℤ◌, Bool, true, false, arith, ap, sym, ◌∙◌, inl, inr, nat_abs, pow_mono}
 use Rattle.std.proofs.lemmas.Int.{ints}
 use Rattle.std.proofs.lemmas.Nat.{mod_low}
 use Rattle.std.proofs.Math.Nat.{mod-eq_of_lt, pow-succ'}
 use Rattle.std.proofs.lemmas.Bool.{cases_lt}
-use Rattle.std.proofs.Math.Pow.{pow_mono}
 use Rattle.std.proofs.lemmas.Bool.Decides.{nat_tests}
 use Rattle.number_defs.specs.Ranges.{IsInRange, negatives, number_at, height_of, complement}
 

@@ -1,3 +1,4 @@
+pub mod Equations
 pub mod MappingLaws
 pub mod Heights
 pub mod CodedBits
@@ -12,3 +13,4 @@ pub mod SegmentSteps
 pub mod CellPlaces
 pub mod NotRefused
 pub mod AreItems
+pub mod DcPlanes

@@ -1,8 +1,7 @@
 -- The items of two DC parts, and of two lists of block depths, step alike.
-use Rattle.std.proofs.Common.{◌≡◌, ℕ, zero, suc, ◌-◌, ◌^◌, ◌<◌, ℤ, pos, List, [], length, map, get_or, true, false, eqb, cond, sym, ◌∙◌, refl, arith}
+use Rattle.std.proofs.Common.{◌≡◌, ℕ, zero, suc, ◌-◌, ◌^◌, ◌<◌, ℤ, pos, List, [], length, map, get_or, true, false, eqb, cond, sym, ◌∙◌, refl, arith, pow_pos}
 use Rattle.std.specs.Int.{int_shr}
 use Rattle.std.proofs.lemmas.List.{get_or_past, get_or-map, length-map}
-use Rattle.std.proofs.lemmas.Nat.{pow_pos}
 use Rattle.std.proofs.lemmas.Bool.Decides.{nat_tests}
 use Rattle.item_defs.specs.Items.{raw}
 use Rattle.item_defs.specs.Readings.{StepsAlike}

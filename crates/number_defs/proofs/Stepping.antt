@@ -8,23 +8,12 @@ use Rattle.std.proofs.lemmas.Nat.{shr_split}
 use Rattle.item_defs.specs.Items.{Item}
 use Rattle.item_defs.specs.Readings.{StepsAlike}
 use Rattle.item_defs.specs.Laws.{said_of}
-use Rattle.item_defs.proofs.ReadingLaws.{steps_append}
+use Rattle.item_defs.proofs.ReadingLaws.{steps_append, said_split}
 use Rattle.number_defs.specs.Ranges.{negatives, number_at, complement}
 use Rattle.number_defs.specs.Mapping.{unmapped}
 use Rattle.number_defs.specs.Gaggles.{Kind, uncoded, value_at, first_place, places, uncoded_form, unary_form, rest_form, uncoded_value, unary_part, rest_part, value_items, lead_items, gaggle_items, items_before, gaggle_count, number_items}
 use Rattle.number_defs.proofs.MappingLaws.{mapped_back}
 use Rattle.number_defs.proofs.Heights.{complement_back}
-
--- lists that step alike, and say the same together with what follows
-said_split : (is js is' js' : List Item) → StepsAlike is js → said_of (is ++ is') ≡ said_of (js ++ js') → (said_of is ≡ said_of js) × (said_of is' ≡ said_of js')
-said_split [] [] is' js' p e = (refl, e)
-said_split [] (j ∷ js) is' js' p e = absurd p
-said_split (i ∷ is) [] is' js' p e = absurd p
-said_split (i ∷ is) (j ∷ js) is' js' p e =
-    let first : i.said ≡ j.said = cc in
-    let others : said_of (is ++ is') ≡ said_of (js ++ js') = cc in
-    let r = said_split is js is' js' (p.1 first) others in
-    (let t : said_of (i ∷ is) ≡ said_of (j ∷ js) = cc (first, r.0) in t, r.1)
 
 -- Items at the places from low on, below high: the form of each is determined by the number before, and what
 -- it says determines the next number.

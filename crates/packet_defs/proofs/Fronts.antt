@@ -1,9 +1,7 @@
 -- Octets that begin with a packet.
-use Rattle.std.proofs.Common.{◌≡◌, ◌≤◌, ◌<◌, ℕ, List, ◌++◌, length, take, drop, refl, sym, ap, ◌∙◌, arith, length-append, length-take}
-use Rattle.std.specs.Prelude.{Bool, true, false, slice_index, nat_le, ◌&&◌, not}
+use Rattle.std.proofs.Common.{◌≡◌, ◌≤◌, ◌<◌, ℕ, List, ◌++◌, length, take, drop, refl, sym, ap, ◌∙◌, arith, length-append, length-take, Bool, true, false, slice_index, nat_le, ◌&&◌, not, leb-true}
 use Rattle.std.proofs.lemmas.Bool.Decides.{nat_tests}
 use Rattle.std.proofs.lemmas.List.{length-take-le, take-append-drop, get_or-drop, get_or_append_left, take_at, drop_at}
-use Rattle.std.proofs.lemmas.Bool.{leb-true}
 use Rattle.packet_defs.specs.Reading.{header_length}
 use Rattle.packet_defs.specs.Streams.{has_bad_version, told_length, begins_packet, first_packet, after_packet, IsPacket}
 

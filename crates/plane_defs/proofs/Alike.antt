@@ -1,6 +1,5 @@
 -- Two blocks that are the same above a plane send entries of one kind for as long as they send the same.
-use Rattle.std.proofs.Common.{◌≡◌, ℕ, ◌<◌, Bool, true, false, ◌&&◌, cond, List, [], ◌∷◌, ◌++◌, length, refl, ap, sym, ◌∙◌, subst, arith, ℤ, pos, get_or}
-use Rattle.std.specs.Prelude.{map, filter, nat_lt}
+use Rattle.std.proofs.Common.{◌≡◌, ℕ, ◌<◌, Bool, true, false, ◌&&◌, cond, List, [], ◌∷◌, ◌++◌, length, refl, ap, sym, ◌∙◌, subst, arith, ℤ, pos, get_or, map, filter, nat_lt}
 use Rattle.std.specs.List.{flat_map, AllByRecursion}
 use Rattle.std.proofs.lemmas.List.{length-map}
 use Rattle.std.proofs.lemmas.Bool.Decides.{nat_tests}
@@ -135,6 +134,13 @@ pub of_quad : (u v : List ℤ) (plane i j : ℕ) → set_significant u plane (Gr
 unfolding enclosing_significant
 of_quad u v plane i j same = same
 
+pub known_families : AllByRecursion IsKnown three_families
+known_families = (omega arith, (omega arith, (omega arith, tt)))
+
+pub enclosed_families : (u v : List ℤ) (plane : ℕ) → set_significant u plane Descendants ≡ set_significant v plane Descendants →
+    AllByRecursion (λ s. enclosing_significant u plane s ≡ enclosing_significant v plane s) three_families
+enclosed_families u v plane same = (of_family u v plane 0 same, (of_family u v plane 1 same, (of_family u v plane 2 same, tt)))
+
 module _ (u v : List ℤ) (weights : List ℕ) (plane : ℕ) (alike : AreAlike u v weights plane) where
   types_length : (ps : List ℕ) → length (types u weights plane ps) ≡ length (types v weights plane ps)
   types_length ps = grind (arith, nat_tests, length_map_same, filter_same, all_of, type_above)
@@ -181,13 +187,6 @@ module _ (u v : List ℤ) (weights : List ℕ) (plane : ℕ) (alike : AreAlike u
       subst (λ l. EntriesAlike (children_types u weights plane) (flat_map (sent v) l)) chosen
       (flat_step (sent u) (sent v) (filter (passes u) (span 0 3)) (all_of (filter (passes u) (span 0 3)) (λ i. typed_step (span (children_of i) 4))))
 
-  enclosed_families : set_significant u plane Descendants ≡ set_significant v plane Descendants →
-      AllByRecursion (λ s. enclosing_significant u plane s ≡ enclosing_significant v plane s) three_families
-  enclosed_families same = (of_family u v plane 0 same, (of_family u v plane 1 same, (of_family u v plane 2 same, tt)))
-
-  known_families : AllByRecursion IsKnown three_families
-  known_families = (omega arith, (omega arith, (omega arith, tt)))
-
   free : AllByRecursion (λ s. enclosing_significant u plane s ≡ enclosing_significant v plane s) (Descendants ∷ [])
   free = (of_descendants u v plane, tt)
 
@@ -202,7 +201,7 @@ module _ (u v : List ℤ) (weights : List ℕ) (plane : ℕ) (alike : AreAlike u
       (word (flags u weights plane three_families) ∷ children_types u weights plane) (word (flags v weights plane three_families) ∷ children_types v weights plane)
       (lengths_step (flags u weights plane (Descendants ∷ [])) (flags v weights plane (Descendants ∷ [])) (flags_length (Descendants ∷ []) free))
       (λ same.
-      flags_step three_families (children_types u weights plane) (children_types v weights plane) known_families (enclosed_families (descendants_same same)) children_types_step)
+      flags_step three_families (children_types u weights plane) (children_types v weights plane) known_families (enclosed_families u v plane (descendants_same same)) children_types_step)
 
   pub families_settle : children u weights plane ≡ children v weights plane → SameSets u v plane three_families
   families_settle same =
@@ -211,7 +210,7 @@ module _ (u v : List ℤ) (weights : List ℕ) (plane : ℕ) (alike : AreAlike u
       let long : length (first u) ≡ length (first v) =
       length-map (flags u weights plane (Descendants ∷ [])) Bit ∙ flags_length (Descendants ∷ []) free ∙ sym (length-map (flags v weights plane (Descendants ∷ [])) Bit) in
       let parts = split_front (first u) (first v) (rest u) (rest v) long same in
-      let enclosing = enclosed_families (descendants_same parts.0) in
+      let enclosing = enclosed_families u v plane (descendants_same parts.0) in
       settle_flags three_families known_families enclosing
       (same_bits (flags u weights plane three_families) (flags v weights plane three_families) (flags_length three_families enclosing) (word_value _ _ _ _ parts.1))
 

@@ -1,6 +1,5 @@
 -- Two blocks whose AC numbers are the same above a plane send steps of one kind for as long as they send the same.
-use Rattle.std.proofs.Common.{◌≡◌, ℕ, zero, suc, ◌+◌, ◌-◌, ◌/◌, ◌%◌, ◌<◌, ◌≤◌, inl, inr, Bool, true, false, not, ◌&&◌, cond, List, [], ◌∷◌, ◌++◌, length, refl, ap, sym, ◌∙◌, subst, arith, ℤ, pos, get_or}
-use Rattle.std.specs.Prelude.{map, filter, nat_lt, ◌||◌}
+use Rattle.std.proofs.Common.{◌≡◌, ℕ, zero, suc, ◌+◌, ◌-◌, ◌/◌, ◌%◌, ◌<◌, ◌≤◌, inl, inr, Bool, true, false, not, ◌&&◌, cond, List, [], ◌∷◌, ◌++◌, length, refl, ap, sym, ◌∙◌, subst, arith, ℤ, pos, get_or, map, filter, nat_lt, ◌||◌}
 use Rattle.std.specs.List.{flat_map, list_any, AllByRecursion}
 use Rattle.std.proofs.lemmas.Bool.{cases_lt, or_parts}
 use Rattle.plane_defs.proofs.Determined.{enclosed}
@@ -17,7 +16,7 @@ use Rattle.plane_defs.specs.Steps.{Check, free, ones_at, some_one_where, Told, f
 use Rattle.plane_defs.specs.Laws.{SameSets, three_families}
 use Rattle.plane_defs.specs.StepLaws.{entry_of, entries_of, SameSteps, IsAc, SameAc, AcsAlike, value_of_entry}
 use Rattle.plane_defs.proofs.Settled.{head_same, tail_same}
-use Rattle.plane_defs.proofs.Alike.{all_filter, filter_same, same_bits, length_map_same, in_three, in_four, bits_inside, of_descendants, of_family, of_grandchildren, of_quad}
+use Rattle.plane_defs.proofs.Alike.{all_filter, filter_same, same_bits, length_map_same, in_three, in_four, bits_inside, of_descendants, of_grandchildren, of_quad, known_families, enclosed_families}
 use Rattle.plane_defs.proofs.ReadingTexts.{map_map}
 use Rattle.plane_defs.proofs.Above.{all_acs, all_zip, set_above, flags_settle, due_filter, types_settle, types_filter, newly_same, refined_same}
 
@@ -183,13 +182,6 @@ module _ (u v : List ℤ) (weights : List ℕ) (plane : ℕ) (alike : AcsAlike u
 
   -- ---- stage 2
 
-  known_families : AllByRecursion IsKnown three_families
-  known_families = (omega arith, (omega arith, (omega arith, tt)))
-
-  enclosed_families : set_significant u plane Descendants ≡ set_significant v plane Descendants →
-      AllByRecursion (λ s. enclosing_significant u plane s ≡ enclosing_significant v plane s) three_families
-  enclosed_families same = (of_family u v plane 0 same, (of_family u v plane 1 same, (of_family u v plane 2 same, tt)))
-
   descendants_raw : SameSteps (map alone (flags u weights plane (Descendants ∷ []))) (map alone (flags v weights plane (Descendants ∷ [])))
   descendants_raw = raw_same _ _ (flags_length (Descendants ∷ []) (tt, tt) (of_descendants u v plane, tt))
 
@@ -234,10 +226,10 @@ module _ (u v : List ℤ) (weights : List ℕ) (plane : ℕ) (alike : AcsAlike u
       steps_both (map alone (flags u weights plane (Descendants ∷ []))) (map alone (flags v weights plane (Descendants ∷ [])))
       (families_step u ∷ children_types_steps u weights plane) (families_step v ∷ children_types_steps v weights plane) descendants_raw
       (λ e. (
-        flags_length three_families known_families (enclosed_families (descendants_same e)),
+        flags_length three_families known_families (enclosed_families u v plane (descendants_same e)),
         ap some_one_where (new_same Descendants tt (descendants_same e)),
         refl,
-        λ f. children_types_same (flags_word three_families known_families (enclosed_families (descendants_same e)) f),
+        λ f. children_types_same (flags_word three_families known_families (enclosed_families u v plane (descendants_same e)) f),
       ))
 
   -- what the stage says
@@ -250,7 +242,7 @@ module _ (u v : List ℤ) (weights : List ℕ) (plane : ℕ) (alike : AcsAlike u
 
     pub families_same : SameSets u v plane three_families
     families_same =
-        flags_word three_families known_families (enclosed_families (descendants_same children_parts.0)) (head_same _ _ _ _ children_parts.1)
+        flags_word three_families known_families (enclosed_families u v plane (descendants_same children_parts.0)) (head_same _ _ _ _ children_parts.1)
 
     children_said : AllByRecursion (λ i. set_significant u plane (Family i) ≡ true → entries_of (children_sent u i) ≡ entries_of (children_sent v i)) (span 0 3)
     children_said =

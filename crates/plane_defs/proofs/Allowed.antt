@@ -1,6 +1,5 @@
 -- No word that a block sends is refused in its place.
-use Rattle.std.proofs.Common.{◌≡◌, ◌⊎◌, ℕ, zero, suc, ◌+◌, ◌-◌, ◌/◌, ◌<◌, ◌≤◌, inl, inr, Bool, true, false, not, ◌&&◌, cond, List, [], ◌∷◌, ◌++◌, length, refl, ap, sym, ◌∙◌, subst, arith, ℤ}
-use Rattle.std.specs.Prelude.{map, filter, nat_lt, ◌||◌}
+use Rattle.std.proofs.Common.{◌≡◌, ◌⊎◌, ℕ, zero, suc, ◌+◌, ◌-◌, ◌/◌, ◌<◌, ◌≤◌, inl, inr, Bool, true, false, not, ◌&&◌, cond, List, [], ◌∷◌, ◌++◌, length, refl, ap, sym, ◌∙◌, subst, arith, ℤ, map, filter, nat_lt, ◌||◌}
 use Rattle.std.specs.List.{flat_map, list_any, AllByRecursion}
 use Rattle.std.proofs.lemmas.Bool.{cases_lt, and_parts, false_from_ne_true}
 use Rattle.std.proofs.lemmas.Bool.Decides.{nat_tests}
@@ -24,13 +23,13 @@ use Rattle.plane_defs.proofs.Settled.{type_undue}
 use Rattle.plane_defs.proofs.Alike.{all_filter}
 use Rattle.plane_defs.proofs.Above.{all_append, all_span, all_zip}
 use Rattle.plane_defs.proofs.AlikeSteps.{of_filter, none_any, left_all, at_span, in_family, in_quad, true_false, all_both}
+use Rattle.item_defs.proofs.BitLists.{copies_none, copies-more}
 
 -- ---- words of zeros
 
 all_zeros : (n : ℕ) → AllByRecursion (λ b. b ≡ false) (copies n false)
-unfolding copies
-all_zeros zero = tt
-all_zeros (suc n) = (refl, all_zeros n)
+all_zeros zero = simp (copies_none, copies-more) (tt)
+all_zeros (suc n) = simp (copies_none, copies-more) ((refl, all_zeros n))
 
 zero_bits : (bits : List Bool) → value_of bits ≡ 0 → AllByRecursion (λ b. b ≡ false) bits
 zero_bits bits none =

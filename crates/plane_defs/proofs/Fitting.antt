@@ -1,8 +1,6 @@
 -- The words of a block have at most four bits.
-use Rattle.std.proofs.Common.{ℕ, ◌≤◌, Bool, true, false, cond, List, [], ◌∷◌, ◌++◌, length, arith, ℤ, pos, get_or}
-use Rattle.std.specs.Prelude.{map, filter, nat_lt}
+use Rattle.std.proofs.Common.{ℕ, ◌≤◌, Bool, true, false, cond, List, [], ◌∷◌, ◌++◌, length, arith, ℤ, pos, get_or, map, filter, nat_lt, ◌&&◌}
 use Rattle.std.specs.List.{AllByRecursion, flat_map}
-use Rattle.std.specs.Prelude.{◌&&◌}
 use Rattle.item_defs.specs.Bits.{bit}
 use Rattle.item_defs.proofs.NumberBits.{value_below}
 use Rattle.plane_defs.specs.declared.sets.Set.{Set}

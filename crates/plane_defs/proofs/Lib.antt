@@ -1,3 +1,4 @@
+pub mod Equations
 pub mod SpanLists
 pub mod Determined
 pub mod Settled
@@ -17,3 +18,6 @@ pub mod Chosen
 pub mod Freedom
 pub mod Seen
 pub mod ProfileSound
+pub mod SymbolTables
+pub mod Cheapest
+pub mod Counting

@@ -1,14 +1,12 @@
 -- Two planes whose AC numbers above are the same have items that step alike; a whole plane that says the same determines its numbers.
-use Rattle.std.proofs.Common.{◌≡◌, ℕ, zero, suc, ◌-◌, ◌*◌, ◌/◌, ◌^◌, ◌<◌, ◌≤◌, inl, inr, min, Bool, true, false, cond, List, [], ◌∷◌, ◌++◌, length, refl, ap, sym, ◌∙◌, subst, arith, ℤ, get_or, add-one, zero-add}
-use Rattle.std.specs.Prelude.{nat_lt}
+use Rattle.std.proofs.Common.{◌≡◌, ℕ, zero, suc, ◌-◌, ◌*◌, ◌/◌, ◌^◌, ◌<◌, ◌≤◌, inl, inr, min, Bool, true, false, cond, List, [], ◌∷◌, ◌++◌, length, refl, ap, sym, ◌∙◌, subst, arith, ℤ, get_or, add-one, zero-add, nat_lt, pow_mono}
 use Rattle.std.specs.List.{flat_map, AllByRecursion}
 use Rattle.std.proofs.lemmas.Bool.{cases_lt}
 use Rattle.std.proofs.lemmas.Bool.Decides.{nat_tests}
-use Rattle.std.proofs.Math.Pow.{pow_mono}
 use Rattle.item_defs.specs.Items.{Item}
 use Rattle.item_defs.specs.Readings.{StepsAlike}
 use Rattle.item_defs.specs.Laws.{said_of}
-use Rattle.item_defs.proofs.ReadingLaws.{steps_append}
+use Rattle.item_defs.proofs.ReadingLaws.{steps_append, said_split}
 use Rattle.base_122.specs.declared.book.Book.{Book}
 use Rattle.plane_defs.specs.declared.stages.Stage.{Stage}
 use Rattle.plane_defs.specs.declared.stages.Stage.TheVariants as stages
@@ -26,7 +24,7 @@ use Rattle.plane_defs.proofs.ReadingTexts.{steps_entries, gaggle_entries}
 use Rattle.plane_defs.proofs.Alike.{all_of}
 use Rattle.plane_defs.proofs.Above.{all_append, all_span, all_zip}
 use Rattle.plane_defs.proofs.AlikeSteps.{at_span, flat_steps, flat_parts, dcs_same, parents_same, children_same, grandchildren_same, refinement_same, plane_settles}
-use Rattle.plane_defs.proofs.StepItems.{said_split, flat_alike, AreOptionsOf, OptionsAgree, none_agree, Fits, after_alike}
+use Rattle.plane_defs.proofs.StepItems.{flat_alike, AreOptionsOf, OptionsAgree, none_agree, Fits, after_alike}
 
 -- ---- a stage of a block
 

@@ -1,6 +1,5 @@
 -- The codes of a sound table are distinguished by the next bits.
-use Rattle.std.proofs.Common.{◌≡◌, ℕ, zero, suc, ◌+◌, ◌^◌, ◌<◌, ◌≤◌, ◌⊎◌, inl, inr, Bool, true, false, cond, List, [], ◌∷◌, ◌++◌, length, take, get_or, refl, sym, ap, ◌∙◌, arith, add-one, zero-add, append_assoc}
-use Rattle.std.specs.Prelude.{count_by}
+use Rattle.std.proofs.Common.{◌≡◌, ℕ, zero, suc, ◌+◌, ◌^◌, ◌<◌, ◌≤◌, ◌⊎◌, inl, inr, Bool, true, false, cond, List, [], ◌∷◌, ◌++◌, length, take, get_or, refl, sym, ap, ◌∙◌, arith, add-one, zero-add, append_assoc, count_by}
 use Rattle.std.proofs.lemmas.List.{append_cancel_left, length-append, length-take-le}
 use Rattle.std.proofs.lemmas.List.Sums.{sum_by-append}
 use Rattle.std.proofs.lemmas.Bool.Decides.{nat_tests}
@@ -31,7 +30,7 @@ one_if b h = rw h refl
 none_if : (b : Bool) → b ≡ false → cond {A = ℕ} b 1 0 ≡ 0
 none_if b h = rw h refl
 
-below_or_at : (k n : ℕ) → k < suc n → (k < n) ⊎ (k ≡ n)
+pub below_or_at : (k n : ℕ) → k < suc n → (k < n) ⊎ (k ≡ n)
 below_or_at k n h = grind arith
 
 -- a test that passes at one place, and at two

@@ -1,6 +1,5 @@
 -- A plane's items only depend on what the plane has of the numbers.
-use Rattle.std.proofs.Common.{◌≡◌, ℕ, ◌+◌, ◌*◌, ◌<◌, Bool, true, false, ◌&&◌, cond, List, [], ◌∷◌, ◌++◌, refl, ap, sym, ◌∙◌, arith, ℤ, pos, get_or}
-use Rattle.std.specs.Prelude.{map, filter, nat_lt}
+use Rattle.std.proofs.Common.{◌≡◌, ℕ, ◌+◌, ◌<◌, Bool, true, false, ◌&&◌, cond, List, [], ◌∷◌, ◌++◌, refl, ap, sym, ◌∙◌, arith, ℤ, pos, get_or, map, filter, nat_lt}
 use Rattle.std.specs.List.{flat_map, AllByRecursion}
 use Rattle.std.proofs.lemmas.Bool.{and_parts}
 use Rattle.std.proofs.lemmas.Bool.Decides.{nat_tests}
@@ -18,7 +17,7 @@ use Rattle.plane_defs.specs.Entries.{word, types, flags, signs, typed, negative,
 use Rattle.plane_defs.specs.Laws.{three_families}
 use Rattle.plane_defs.specs.Steps.{Step, three_grandchildren, block_steps}
 use Rattle.plane_defs.specs.StepLaws.{entries_of, SameSteps, IsAc, SeenAlike, PlaneSees}
-use Rattle.plane_defs.specs.Planes.{Plane, gaggle_size, before_stage}
+use Rattle.plane_defs.specs.Planes.{Plane, before_stage}
 use Rattle.plane_defs.specs.Reading.{steps_of_gaggle, gaggle_reading, plane_reading}
 use Rattle.plane_defs.proofs.Settled.{head_same, tail_same}
 use Rattle.plane_defs.proofs.Alike.{all_filter, filter_same, all_of}
@@ -169,9 +168,6 @@ module _ (book : Book) (options : ℕ → List ℕ) (xs ys : List (List ℤ)) (d
     (seen : (r : ℕ) → SeenAlike (get_or xs r []) (get_or ys r []) weights number) where
   abbrev with_blocks : List (List ℤ) → Plane
   with_blocks blocks = record { blocks = blocks; depths = depths; weights = weights; number = number; q = q }
-
-  abbrev rows : ℕ → List ℕ
-  rows g = span (16 * g) (gaggle_size (with_blocks xs) g)
 
   sent_before : (k g : ℕ) → before_stage (with_blocks xs) k g ≡ before_stage (with_blocks ys) k g
   sent_before k g = grind (arith, nat_tests, flat_equal, all_of, entries_seen)

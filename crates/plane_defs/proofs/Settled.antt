@@ -1,6 +1,5 @@
 -- Two blocks that are the same above a plane and send the same word have the same values for the word.
-use Rattle.std.proofs.Common.{◌≡◌, ℕ, ◌+◌, Bool, true, false, not, ◌&&◌, List, [], ◌∷◌, refl, ap, sym, ◌∙◌, ℤ, arith}
-use Rattle.std.specs.Prelude.{map, filter, cond}
+use Rattle.std.proofs.Common.{◌≡◌, ℕ, ◌+◌, Bool, true, false, not, ◌&&◌, List, [], ◌∷◌, refl, ap, sym, ◌∙◌, ℤ, arith, map, filter, cond}
 use Rattle.std.specs.List.{list_any, AllByRecursion}
 use Rattle.std.proofs.lemmas.Bool.Decides.{nat_tests}
 use Rattle.plane_defs.specs.declared.sets.Set.{Set}
@@ -29,7 +28,7 @@ settle f g d e (x ∷ xs) known h = by_due (d x) (e x) known.0.0 known.0.1 h (se
     by_due true false same alike h rest = cc
     by_due false true same alike h rest = cc
 
-any_same : (p q : ℕ → Bool) (xs : List ℕ) → ((n : ℕ) → p n ≡ q n) → list_any p xs ≡ list_any q xs
+pub any_same : (p q : ℕ → Bool) (xs : List ℕ) → ((n : ℕ) → p n ≡ q n) → list_any p xs ≡ list_any q xs
 any_same p q xs same = grind (arith, nat_tests)
 
 set_above : (u v : List ℤ) (plane : ℕ) (s : Set) → SameAbove u v plane → set_significant u (plane + 1) s ≡ set_significant v (plane + 1) s

@@ -1,6 +1,5 @@
 -- A span grows by one position at its end.
-use Rattle.std.proofs.Common.{◌≡◌, ℕ, suc, ◌+◌, Bool, false, List, [], ◌∷◌, ◌++◌, refl, ap, add-one, arith, cond, length, length-append, ◌≤◌, ◌<◌, zero, get_or}
-use Rattle.std.specs.Prelude.{◌||◌, map, filter}
+use Rattle.std.proofs.Common.{◌≡◌, ℕ, suc, ◌+◌, Bool, false, List, [], ◌∷◌, ◌++◌, refl, ap, add-one, arith, cond, length, length-append, ◌≤◌, ◌<◌, zero, get_or, sum_by, ◌||◌, map, filter}
 use Rattle.std.specs.List.{list_any, flat_map}
 use Rattle.std.proofs.lemmas.List.Folds.{list_any-append}
 use Rattle.std.proofs.lemmas.List.Elements.{filter-append}
@@ -8,6 +7,7 @@ use Rattle.std.proofs.lemmas.List.{map-append, append-nil}
 use Rattle.std.proofs.lemmas.Grind.{flat_map-append}
 use Rattle.std.proofs.Common.{◌⊎◌, inl, inr, ◌∙◌, sym, append_assoc}
 use Rattle.std.proofs.lemmas.Bool.{cases_lt}
+use Rattle.std.proofs.lemmas.List.Sums.{sum_by-append}
 use Rattle.std.proofs.lemmas.List.{get_or_append_left}
 use Rattle.std.proofs.Math.Seq.{get_or-append_seam}
 use Rattle.std.proofs.Math.Bool.{or-false}
@@ -38,6 +38,16 @@ flat_map-span-none f start = refl
 pub filter-span-none : (p : ℕ → Bool) (start : ℕ) → filter p (span start 0) ≡ []
 unfolding span
 filter-span-none p start = refl
+
+sum_by-last : (f : ℕ → ℕ) (xs : List ℕ) (y : ℕ) → sum_by f (xs ++ y ∷ []) ≡ sum_by f xs + f y
+sum_by-last f xs y = sum_by-append f xs (y ∷ []) ∙ ap (λ n. sum_by f xs + n) (omega arith)
+
+pub sum_by-span-suc : (f : ℕ → ℕ) (start count : ℕ) → sum_by f (span start (count + 1)) ≡ sum_by f (span start count) + f (start + count)
+sum_by-span-suc f start count = ap (sum_by f) (span-suc start count) ∙ sum_by-last f (span start count) (start + count)
+
+pub sum_by-span-none : (f : ℕ → ℕ) (start : ℕ) → sum_by f (span start 0) ≡ 0
+unfolding span
+sum_by-span-none f start = refl
 
 -- the chosen elements with one more position
 pub map-filter-span-suc : {A : Type 0} (f : ℕ → A) (p : ℕ → Bool) (start count : ℕ) →

@@ -1,6 +1,5 @@
 -- The items of steps alike: for as long as they say the same, they have one form.
-use Rattle.std.proofs.Common.{◌≡◌, ℕ, zero, suc, ◌^◌, ◌<◌, ◌≤◌, inl, inr, Bool, true, false, cond, eqb, List, [], ◌∷◌, ◌++◌, refl, ap, sym, ◌∙◌, subst, arith, append_assoc, append-nil}
-use Rattle.std.specs.Prelude.{◌||◌, ◌==◌}
+use Rattle.std.proofs.Common.{◌≡◌, ℕ, zero, suc, ◌^◌, ◌<◌, ◌≤◌, inl, inr, Bool, true, false, cond, eqb, List, [], ◌∷◌, ◌++◌, refl, ap, sym, ◌∙◌, subst, arith, append_assoc, append-nil, ◌||◌, ◌==◌}
 use Rattle.std.specs.List.{list_any, list_all, flat_map, AllByRecursion}
 use Rattle.std.proofs.lemmas.Bool.Decides.{nat_tests}
 use Rattle.std.proofs.lemmas.List.Folds.{list_any-append}
@@ -10,7 +9,7 @@ use Rattle.item_defs.specs.Bits.{digit}
 use Rattle.item_defs.specs.Items.{Item, raw}
 use Rattle.item_defs.specs.Readings.{StepsAlike}
 use Rattle.item_defs.specs.Laws.{said_of}
-use Rattle.item_defs.proofs.ReadingLaws.{steps_append}
+use Rattle.item_defs.proofs.ReadingLaws.{steps_append, said_split}
 use Rattle.base_122.specs.declared.book.Book.{Book}
 use Rattle.plane_defs.specs.declared.entries.Entry.{Entry}
 use Rattle.plane_defs.specs.declared.entries.Entry.TheVariants.{Bit, Word}
@@ -25,16 +24,6 @@ use Rattle.plane_defs.proofs.Tables.{list_all-span-zero}
 use Rattle.plane_defs.proofs.Settled.{head_same, tail_same}
 
 -- ---- lists of items
-
--- lists that step alike, and say the same together with what follows
-pub said_split : (is js is' js' : List Item) → StepsAlike is js → said_of (is ++ is') ≡ said_of (js ++ js') → (said_of is ≡ said_of js) × (said_of is' ≡ said_of js')
-said_split [] [] is' js' p e = (refl, e)
-said_split [] (j ∷ js) is' js' p e = absurd p
-said_split (i ∷ is) [] is' js' p e = absurd p
-said_split (i ∷ is) (j ∷ js) is' js' p e =
-    let first : i.said ≡ j.said = head_same i.said j.said (said_of (is ++ is')) (said_of (js ++ js')) e in
-    let r = said_split is js is' js' (p.1 first) (tail_same i.said j.said (said_of (is ++ is')) (said_of (js ++ js')) e) in
-    (ap (λ n. n ∷ said_of is) first ∙ ap (λ l. j.said ∷ l) r.0, r.1)
 
 -- lists that step alike part by part, and what each part says
 pub flat_alike : {X : Type 0} (f h : X → List Item) (P : X → Type 0) (xs : List X) →
@@ -92,7 +81,7 @@ agree_more before e o u known new = record {
 
 -- ---- words
 
-word_shape : (book : Book) (n option v w : ℕ) → (word_item book n option v).form.shape ≡ (word_item book n option w).form.shape
+pub word_shape : (book : Book) (n option v w : ℕ) → (word_item book n option v).form.shape ≡ (word_item book n option w).form.shape
 word_shape book n option v w = grind (arith, nat_tests)
 
 word_number : (book : Book) (n option v w : ℕ) → 2 ≤ n → n ≤ 4 → v < 2 ^ n → w < 2 ^ n → (word_item book n option v).said ≡ (word_item book n option w).said → v ≡ w

@@ -1,9 +1,7 @@
 -- What a test of a whole table says of one entry.
-use Rattle.std.proofs.Common.{◌≡◌, ℕ, zero, suc, ◌+◌, ◌^◌, ◌<◌, ◌≤◌, ◌⊎◌, inl, inr, Bool, true, List, [], ◌∷◌, sym, ◌∙◌, arith, zero-add}
-use Rattle.std.specs.Prelude.{◌==◌, ◌&&◌, nat_le, count_by}
+use Rattle.std.proofs.Common.{refl, ap, ◌≡◌, ℕ, zero, suc, ◌+◌, ◌^◌, ◌<◌, ◌≤◌, ◌⊎◌, inl, inr, Bool, true, List, [], ◌∷◌, sym, ◌∙◌, arith, zero-add, ◌==◌, ◌&&◌, nat_le, count_by, leb-true, eqb-true}
 use Rattle.std.specs.List.{list_all}
 use Rattle.std.proofs.lemmas.List.Folds.{list_all-append}
-use Rattle.std.proofs.lemmas.Bool.{leb-true}
 use Rattle.std.proofs.lemmas.Bool.Decides.{nat_tests}
 use Rattle.item_defs.specs.Bits.{bits_of}
 use Rattle.base_122.specs.declared.book.Code.{Code}
@@ -16,6 +14,15 @@ and-left a b h = grind (arith, nat_tests)
 
 pub and-right : (a b : Bool) → (a && b) ≡ true → b ≡ true
 and-right a b h = grind (arith, nat_tests)
+
+-- a test that each place passes is passed by the span
+pub list_all-span : (p : ℕ → Bool) (count : ℕ) → ((k : ℕ) → k < count → p k ≡ true) → list_all p (span 0 count) ≡ true
+unfolding span
+list_all-span p zero each = refl
+list_all-span p (suc count) each =
+    let before = list_all-span p count (λ k lt. each k (omega arith)) in
+    let last : p (0 + count) ≡ true = ap p (zero-add count) ∙ each count (omega arith) in
+    rw (list_all-append, before, last) refl
 
 -- a test that a whole span passes is passed at each of its places
 pub list_all-span-at : (p : ℕ → Bool) (start count k : ℕ) → list_all p (span start count) ≡ true → k < count → p (start + k) ≡ true
@@ -40,15 +47,12 @@ table_len t count s sound below =
     let here = list_all-span-zero (λ s. nat_le 1 (entry t s).len && nat_le (entry t s).len 8) count s (and-left _ _ sound) below in
     (leb-true 1 (entry t s).len (and-left _ _ here), leb-true (entry t s).len 8 (and-right _ _ here))
 
-one_from_test : (n : ℕ) → (n == 1) ≡ true → n ≡ 1
-one_from_test n h = grind arith
-
 -- each string of eight bits begins with exactly one code
 pub table_begins : (t : List Code) (count v : ℕ) → is_table_sound t count ≡ true → v < 256 →
     count_by (λ s. is_prefix (code_bits (entry t s)) (bits_of 8 v)) (span 0 count) ≡ 1
 unfolding is_table_sound
 table_begins t count v sound below =
-    one_from_test _ (list_all-span-zero (λ v. count_by (λ s. is_prefix (code_bits (entry t s)) (bits_of 8 v)) (span 0 count) == 1) 256 v (and-right _ _ sound) below)
+    eqb-true _ 1 (list_all-span-zero (λ v. count_by (λ s. is_prefix (code_bits (entry t s)) (bits_of 8 v)) (span 0 count) == 1) 256 v (and-right _ _ sound) below)
 
 pub sound_table : (book : Book) (length option : ℕ) → is_book_sound book ≡ true → 2 ≤ length → length ≤ 4 → option + 1 < length →
     is_table_sound (table book (table_place length option)) (2 ^ length) ≡ true

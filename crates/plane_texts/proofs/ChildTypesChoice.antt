@@ -1,6 +1,5 @@
 -- The types or a sign of a family's children may be chosen; if a new family would have no child then, a grandchild is chosen too.
-use Rattle.std.proofs.Common.{◌≡◌, ◌⊎◌, ℕ, zero, suc, ◌+◌, ◌-◌, ◌<◌, ◌≤◌, inl, inr, Bool, true, false, not, ◌&&◌, cond, List, [], ◌∷◌, length, refl, ap, sym, ◌∙◌, subst, arith, ℤ, length-append}
-use Rattle.std.specs.Prelude.{nat_lt, ◌||◌, ◌==◌, map}
+use Rattle.std.proofs.Common.{◌≡◌, ◌⊎◌, ℕ, zero, suc, ◌+◌, ◌-◌, ◌<◌, ◌≤◌, inl, inr, Bool, true, false, not, ◌&&◌, cond, List, [], ◌∷◌, length, refl, ap, sym, ◌∙◌, subst, arith, ℤ, length-append, nat_lt, ◌||◌, ◌==◌, map}
 use Rattle.std.specs.List.{list_any}
 use Rattle.std.proofs.lemmas.Bool.{cases_lt, eqb-true, eqb-false, ne_eqb, or_left, or_right}
 use Rattle.std.proofs.lemmas.List.{length-map}
@@ -11,7 +10,7 @@ use Rattle.plane_defs.specs.declared.entries.Entry.{Entry}
 use Rattle.plane_defs.specs.declared.entries.Entry.TheVariants.{Bit, Word}
 use Rattle.plane_defs.specs.declared.sets.Set.TheVariants.{Descendants, Family, Grandchildren}
 use Rattle.plane_defs.specs.Spans.{span}
-use Rattle.plane_defs.specs.Sets.{significant, members, set_significant, enclosing_significant, live, type_due, children_of, grandchildren_of}
+use Rattle.plane_defs.specs.Sets.{significant, members, set_significant, live, type_due, children_of, grandchildren_of}
 use Rattle.plane_defs.specs.Entries.{word, flags, children_types}
 use Rattle.plane_defs.specs.Laws.{three_families}
 use Rattle.plane_defs.specs.Steps.{free, some_one, Step, step, flags_alone, some_one_where, typed_steps, flags_step, descendants_check, children_check, children_types_steps, children_steps}
@@ -29,6 +28,8 @@ use Rattle.plane_texts.proofs.ParentsChoice.{StageChosen, MayComplete', from_com
 use Rattle.plane_texts.proofs.ChildrenChoice as kids
 use Rattle.plane_texts.proofs.ChildrenChoice.{any_member, in_span, family_sends, family_steps, types_sent, types_said, family_entries, children_sent, descendants_choice, families_choice}
 use Rattle.plane_texts.proofs.SmallFacts.{true_false, strictly}
+use Rattle.plane_defs.proofs.Equations.{enclosing-grandchildren}
+use Rattle.plane_defs.proofs.Settled.{any_same}
 
 -- a raw bit of a list
 raw_at : (j : ℕ) (ys : List Bool) → j < length ys → (y : Bool) × (step_at (map (λ y. step free flags_alone (Bit y)) ys) j ≡ step free flags_alone (Bit y))
@@ -105,17 +106,13 @@ module _ (w : List ℤ) (weights : List ℕ) (b d q : ℕ) (chosen minus : ℕ �
       as_is : set_significant made b (Family i) ≡ true → Kept
       as_is is_true = record { more = r.new; may_more = r.may_new; same = λ p out. refl; family = is_true }
 
-      any_same : ((p : ℕ) → chosen p ≡ r.new p) → (xs : List ℕ) → list_any chosen xs ≡ list_any r.new xs
-      any_same same xs = grind (arith, nat_tests)
-
       child_in : list_any (significant made b) (span (children_of i) 4) ≡ true → set_significant made b (Family i) ≡ true
       child_in has =
           two.any_here w weights b r.new r.minus' r.may_new (Family i) (children_of i) 4
           (λ f any. list_any-append f (span (children_of i) 4) (span (grandchildren_of i) 16) ∙ or_left (list_any f (span (children_of i) 4)) _ any) has
 
       none_above : set_significant w (b + 1) (Family i) ≡ false → set_significant w (b + 1) (Grandchildren i) ≡ true → ⊥
-      unfolding enclosing_significant
-      none_above above g = true_false (sym (enclosed w (b + 1) (Grandchildren i) known g) ∙ above)
+      none_above above g = true_false (sym (enclosed w (b + 1) (Grandchildren i) known g) ∙ enclosing-grandchildren w (b + 1) i ∙ above)
 
       must_have : set_significant w (b + 1) (Family i) ≡ false → live weights b (Grandchildren i) ≡ false → children_check old weights b i ≡ some_one
       must_have above dead =
@@ -135,7 +132,7 @@ module _ (w : List ℤ) (weights : List ℕ) (b d q : ℕ) (chosen minus : ℕ �
       by_set some false h = by_above h some (set_significant w (b + 1) (Family i)) refl
 
       by_kind : ((p : ℕ) → chosen p ≡ r.new p) ⊎ (children_check old weights b i ≡ some_one → list_any (significant made b) (span (children_of i) 4) ≡ true) → Kept
-      by_kind (inl same) = as_is (sym (two.set_same w weights b chosen minus r.new r.minus' may r.may_new (Family i) known (any_same same (members (Family i)))) ∙ reached)
+      by_kind (inl same) = as_is (sym (two.set_same w weights b chosen minus r.new r.minus' may r.may_new (Family i) known (any_same chosen r.new (members (Family i)) same)) ∙ reached)
       by_kind (inr some) = by_set some (set_significant made b (Family i)) refl
 
       -- the family stays significant
@@ -187,8 +184,7 @@ module _ (w : List ℤ) (weights : List ℕ) (b d q : ℕ) (chosen minus : ℕ �
                 ∙ sym (list_any-append k.more (span (children_of h) 4) (span (grandchildren_of h) 16)))
 
         descendants_kept : set_significant old b Descendants ≡ set_significant last b Descendants
-        unfolding enclosing_significant
-        descendants_kept = two.encloses w weights b chosen minus may (Family i) known reached ∙ sym (two.encloses w weights b k.more r.minus' k.may_more (Family i) known k.family)
+        descendants_kept = two.all_encloses w weights b chosen minus may i known reached ∙ sym (two.all_encloses w weights b k.more r.minus' k.may_more i known k.family)
 
         -- entries of the families before
         sends_before : (h : ℕ) → h < i → entries_of (family_sends old weights b h) ≡ entries_of (family_sends last weights b h)

@@ -1,6 +1,5 @@
 -- The flags, the types or a sign in the stage of the children may be chosen.
-use Rattle.std.proofs.Common.{◌≡◌, ℕ, zero, suc, ◌+◌, ◌-◌, ◌^◌, ◌<◌, ◌≤◌, Bool, true, false, cond, List, [], ◌∷◌, length, refl, ap, sym, ◌∙◌, subst, arith, ℤ}
-use Rattle.std.specs.Prelude.{nat_lt, ◌||◌, ◌==◌, map}
+use Rattle.std.proofs.Common.{◌≡◌, ℕ, zero, suc, ◌+◌, ◌-◌, ◌^◌, ◌<◌, ◌≤◌, Bool, true, false, cond, List, [], ◌∷◌, length, refl, ap, sym, ◌∙◌, subst, arith, ℤ, nat_lt, ◌||◌, ◌==◌, map}
 use Rattle.std.specs.List.{flat_map, list_any}
 use Rattle.std.proofs.lemmas.Bool.Decides.{nat_tests}
 use Rattle.std.proofs.lemmas.List.{length-map}
@@ -11,7 +10,7 @@ use Rattle.plane_defs.specs.declared.entries.Entry.TheVariants.{Bit, Word}
 use Rattle.plane_defs.specs.declared.sets.Set.TheVariants.{Descendants, Family}
 use Rattle.plane_defs.specs.declared.stages.Stage.TheVariants as stages
 use Rattle.plane_defs.specs.Spans.{span}
-use Rattle.plane_defs.specs.Sets.{set_significant, enclosing_significant, flag_due, children_of}
+use Rattle.plane_defs.specs.Sets.{set_significant, flag_due, children_of}
 use Rattle.plane_defs.specs.Entries.{word, flags, typed, parents, children_types, children, stage_number, block_entries, significant_families}
 use Rattle.plane_defs.specs.Laws.{three_families}
 use Rattle.plane_defs.specs.Steps.{some_one, refuses, Step, some_one_where, typed_steps, descendants_check, children_check, children_types_steps, children_steps, block_steps}
@@ -28,6 +27,8 @@ use Rattle.plane_texts.proofs.WordParts.{word_is}
 use Rattle.plane_texts.proofs.Completions as two
 use Rattle.plane_texts.proofs.FlagChoice as flagged
 use Rattle.plane_texts.proofs.ParentsChoice.{StageChosen, dc_kept}
+use Rattle.plane_defs.proofs.Equations.{span-none, span-more, children_stage, parents_entries, children_entries, enclosing-family, enclosing-descendants}
+use Rattle.item_defs.proofs.NumberBits.{bits_none, bits_cons}
 
 -- ---- members
 
@@ -48,8 +49,7 @@ any_member f g (x ∷ xs) e h = by_first (x == g) refl e (λ later. any_member f
 -- ---- the stage's parts
 
 families_listed : three_families ≡ map Family (span 0 3)
-unfolding span
-families_listed = refl
+families_listed = grind (arith, nat_tests, span-none, span-more)
 
 -- what a family sends of its children
 pub family_sends : List ℤ → List ℕ → ℕ → ℕ → List Step
@@ -78,16 +78,13 @@ family_entries v weights b i t e = ap (λ s. entries_of (cond s (typed_steps v w
     by_test false = refl
 
 pub children_sent : (v : List ℤ) (d : ℕ) (weights : List ℕ) (b q : ℕ) (t : Bool) → nat_lt b d ≡ t → block_steps stages.Children v d weights b q ≡ cond t (children_steps v weights b) []
-unfolding block_steps
-children_sent v d weights b q t e = ap (λ t. cond t (children_steps v weights b) []) e
+children_sent v d weights b q t e = simp children_stage (ap (λ t. cond t (children_steps v weights b) []) e)
 
 children_said : (v : List ℤ) (d : ℕ) (weights : List ℕ) (b q : ℕ) → nat_lt b d ≡ true → block_entries stages.Children v d weights b q ≡ children v weights b
-unfolding block_entries
-children_said v d weights b q e = ap (λ t. cond t (children v weights b) []) e
+children_said v d weights b q e = simp children_entries (ap (λ t. cond t (children v weights b) []) e)
 
 parents_same : (u v : List ℤ) (d : ℕ) (weights : List ℕ) (b q : ℕ) → parents u weights b ≡ parents v weights b → block_entries stages.Parents u d weights b q ≡ block_entries stages.Parents v d weights b q
-unfolding block_entries
-parents_same u v d weights b q e = ap (λ l. cond (nat_lt b d) l []) e
+parents_same u v d weights b q e = simp parents_entries (ap (λ l. cond (nat_lt b d) l []) e)
 
 module _ (w : List ℤ) (weights : List ℕ) (b d q : ℕ) (chosen minus : ℕ → Bool) (may : MayComplete w weights b chosen) (deep : nat_lt b d ≡ true) where
   abbrev old : List ℤ
@@ -109,14 +106,12 @@ module _ (w : List ℤ) (weights : List ℕ) (b d q : ℕ) (chosen minus : ℕ �
 
     -- the flag of all descendants
     pub descendants_same : set_significant old b Descendants ≡ set_significant made b Descendants → flags old weights b (Descendants ∷ []) ≡ flags made weights b (Descendants ∷ [])
-    unfolding enclosing_significant
-    descendants_same e = flags_kept old made weights b (two.alike w weights b chosen minus new minus' may may') (Descendants ∷ []) ((tt, refl, e), tt)
+    descendants_same e = flags_kept old made weights b (two.alike w weights b chosen minus new minus' may may') (Descendants ∷ []) ((tt, simp enclosing-descendants, e), tt)
 
     pub families_same : set_significant old b Descendants ≡ set_significant made b Descendants → ((i : ℕ) → i < 3 → set_significant old b (Family i) ≡ set_significant made b (Family i)) → flags old weights b three_families ≡ flags made weights b three_families
-    unfolding enclosing_significant
     families_same e same =
         flags_kept old made weights b (two.alike w weights b chosen minus new minus' may may') three_families
-        ((omega arith, e, same 0 (omega arith)), ((omega arith, e, same 1 (omega arith)), ((omega arith, e, same 2 (omega arith)), tt)))
+        (simp enclosing-family ((omega arith, e, same 0 (omega arith)), ((omega arith, e, same 1 (omega arith)), ((omega arith, e, same 2 (omega arith)), tt))))
 
     -- ---- how the stage's entries are chosen
 
@@ -151,15 +146,16 @@ module _ (w : List ℤ) (weights : List ℕ) (b d q : ℕ) (chosen minus : ℕ �
   one_set : AreApart (λ i. Descendants) descendants_owner 1
   one_set = record { known = λ j lt. tt; owned = λ j p lt e. owner_of p (in_span 4 60 p e).0 ∙ (let z : 0 ≡ j = omega (arith, lt) in z) }
 
+  all_listed : Descendants ∷ [] ≡ map (λ i. Descendants) (span 0 1)
+  all_listed = grind (arith, nat_tests, span-none, span-more)
+
   due_list : (t : Bool) → flag_due old weights b Descendants ≡ t → flags old weights b (Descendants ∷ []) ≡ cond t (set_significant old b Descendants ∷ []) []
   due_list t e = grind (arith, nat_tests)
 
   bits_one : (y : Bool) → bits_of 1 (digit y) ≡ y ∷ []
-  unfolding bits_of
-  bits_one y = grind (arith, nat_tests)
+  bits_one y = grind (arith, nat_tests, bits_none, bits_cons)
 
   pub descendants_choice : (j : ℕ) (y : Bool) → j < length (flags old weights b (Descendants ∷ [])) → StageChosen w weights b d q 2 chosen minus j (Bit y)
-  unfolding span enclosing_significant
   descendants_choice j y lt = by_due (flag_due old weights b Descendants) refl
     where
       by_due : (t : Bool) → flag_due old weights b Descendants ≡ t → StageChosen w weights b d q 2 chosen minus j (Bit y)
@@ -167,10 +163,10 @@ module _ (w : List ℤ) (weights : List ℕ) (b d q : ℕ) (chosen minus : ℕ �
       by_due true e =
           let one : length (flags old weights b (Descendants ∷ [])) ≡ 1 = ap length (due_list true e) in
           let first : j ≡ 0 = omega (arith, lt, one) in
-          let r = flagged.flags_choice w weights b chosen minus may (λ i. Descendants) descendants_owner 1 one_set (digit y) 1 one in
+          let r = flagged.flags_choice w weights b chosen minus may (λ i. Descendants) descendants_owner 1 one_set (digit y) 1 (ap (λ l. length (flags old weights b l)) (sym all_listed) ∙ one) in
           let v : List ℤ = completed w b r.new minus in
           let says : flags v weights b (Descendants ∷ []) ≡ y ∷ [] =
-          flagged.flags_are w weights b chosen minus may (λ i. Descendants) descendants_owner 1 one_set (digit y) 1 r (λ i lt. flag_same v old weights b (two.alike w weights b r.new minus chosen minus r.may_new may) Descendants tt refl) ∙ bits_one y in
+          ap (flags v weights b) all_listed ∙ flagged.flags_are w weights b chosen minus may (λ i. Descendants) descendants_owner 1 one_set (digit y) 1 r (λ i lt. flag_same v old weights b (two.alike w weights b r.new minus chosen minus r.may_new may) Descendants tt (simp enclosing-descendants)) ∙ bits_one y in
           let picked : EntriesChoose 0 (Bit y) (map Bit (flags old weights b (Descendants ∷ []))) (map Bit (flags v weights b (Descendants ∷ []))) =
           subst (λ l. EntriesChoose 0 (Bit y) (map Bit (flags old weights b (Descendants ∷ []))) (map Bit l)) (sym says) (record { within = omega arith; before = refl; next = refl }) in
           record {
@@ -187,19 +183,18 @@ module _ (w : List ℤ) (weights : List ℕ) (b d q : ℕ) (chosen minus : ℕ �
 
   pub families_choice : (j x n : ℕ) → j ≡ length (map Bit (flags old weights b (Descendants ∷ []))) → length (flags old weights b three_families) ≡ n → 1 ≤ n → x < 2 ^ n → refuses (descendants_check old b) x ≡ false →
       StageChosen w weights b d q 2 chosen minus j (Word (record { value = x; count = n }))
-  unfolding enclosing_significant
   families_choice j x n at long some small passes =
       let apart = words_chosen.families in
       let long' : length (flags old weights b (map Family (span 0 3))) ≡ n = ap (λ l. length (flags old weights b l)) (sym families_listed) ∙ long in
       let r = flagged.flags_choice w weights b chosen minus may Family family_of 3 apart x n long' in
       let v : List ℤ = completed w b r.new minus in
       let one = flagged.some_due w weights b chosen minus may Family family_of 3 apart (omega (arith, long', some)) in
-      let old_d : set_significant old b Descendants ≡ true = flagged.due_encloses w weights b chosen minus may Family family_of 3 apart one.0 one.1.1 in
+      let old_d : set_significant old b Descendants ≡ true = sym (enclosing-family old b one.0) ∙ flagged.due_encloses w weights b chosen minus may Family family_of 3 apart one.0 one.1.1 in
       let new_d : set_significant v b Descendants ≡ true = by_above (set_significant w (b + 1) Descendants) refl r old_d in
       let both : set_significant old b Descendants ≡ set_significant v b Descendants = old_d ∙ sym new_d in
       let says : flags v weights b three_families ≡ bits_of n x =
       ap (flags v weights b) families_listed
-      ∙ flagged.flags_are w weights b chosen minus may Family family_of 3 apart x n r (λ i lt. flag_same v old weights b (two.alike w weights b r.new minus chosen minus r.may_new may) (Family i) lt (sym both)) in
+      ∙ flagged.flags_are w weights b chosen minus may Family family_of 3 apart x n r (λ i lt. flag_same v old weights b (two.alike w weights b r.new minus chosen minus r.may_new may) (Family i) lt (simp enclosing-family (sym both))) in
       let none : j - length (map Bit (flags old weights b (Descendants ∷ []))) ≡ 0 = omega (arith, at) in
       record {
         new = r.new;
@@ -220,4 +215,4 @@ module _ (w : List ℤ) (weights : List ℕ) (b d q : ℕ) (chosen minus : ℕ �
       by_above false e r old_d =
           let is_some : descendants_check old b ≡ some_one = ap some_one_where (two.is_new_here w weights b chosen minus may Descendants tt e old_d) in
           let f = flagged.some_has w weights b chosen minus may Family family_of 3 words_chosen.families x n r small (eqb-false x 0 (subst (λ k. refuses k x ≡ false) is_some passes)) in
-          two.encloses w weights b r.new minus r.may_new (Family f.0) f.1.0 f.2
+          two.all_encloses w weights b r.new minus r.may_new f.0 f.1.0 f.2

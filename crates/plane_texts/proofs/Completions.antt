@@ -1,11 +1,11 @@
 -- Two completions of the same numbers: what a plane has the same in both.
-use Rattle.std.proofs.Common.{◌≡◌, ℕ, ◌+◌, ◌-◌, ◌^◌, ◌<◌, ◌≤◌, Bool, true, false, not, ◌&&◌, cond, List, ap, sym, ◌∙◌, ℤ, pos, negsuc, get_or, arith}
-use Rattle.std.specs.Prelude.{nat_le, ◌||◌, unsigned_abs}
+use Rattle.std.proofs.Common.{◌≡◌, ℕ, ◌+◌, ◌-◌, ◌^◌, ◌<◌, ◌≤◌, Bool, true, false, not, ◌&&◌, cond, List, ap, sym, ◌∙◌, ℤ, pos, negsuc, get_or, arith, nat_le, ◌||◌, unsigned_abs}
 use Rattle.std.specs.List.{list_any}
 use Rattle.std.proofs.lemmas.Bool.Decides.{nat_tests}
 use Rattle.plane_defs.specs.declared.sets.Set.{Set}
+use Rattle.plane_defs.specs.declared.sets.Set.TheVariants.{Descendants, Family, Grandchildren, Quad}
 use Rattle.plane_defs.specs.Spans.{span}
-use Rattle.plane_defs.specs.Sets.{significant, coded, members, set_significant, enclosing_significant, type_due, IsKnown}
+use Rattle.plane_defs.specs.Sets.{significant, coded, members, set_significant, type_due, IsKnown}
 use Rattle.plane_defs.specs.Entries.{negative}
 use Rattle.plane_defs.specs.Steps.{is_new}
 use Rattle.plane_defs.specs.StepLaws.{IsAc, AcsAlike}
@@ -15,10 +15,10 @@ use Rattle.plane_defs.proofs.SpanLists.{get_or-map-span}
 use Rattle.plane_defs.proofs.Determined.{enclosed}
 use Rattle.plane_defs.proofs.Completing.{completes}
 use Rattle.plane_texts.proofs.StageParts.{SeenAt}
+use Rattle.plane_defs.proofs.Equations.{significant-is, completed-is, type_due-is, is_new-is, set_significant-is, enclosing-family, enclosing-grandchildren, enclosing-quad}
 
 pub significant_same : (u v : List ℤ) (plane p : ℕ) → get_or u p (pos 0) ≡ get_or v p (pos 0) → significant u plane p ≡ significant v plane p
-unfolding significant
-significant_same u v plane p e = ap (λ z. nat_le (2 ^ plane) (unsigned_abs z)) e
+significant_same u v plane p e = simp significant-is (ap (λ z. nat_le (2 ^ plane) (unsigned_abs z)) e)
 
 -- ---- one completion
 
@@ -27,16 +27,14 @@ module _ (w : List ℤ) (weights : List ℕ) (b : ℕ) (chosen minus : ℕ → B
   done = completed w b chosen minus
 
   pub number_at : (p : ℕ) → p < 64 → get_or done p (pos 0) ≡ completed_number w b chosen minus p
-  unfolding completed
-  number_at p lt = get_or-map-span (completed_number w b chosen minus) 64 p (pos 0) lt
+  number_at p lt = simp completed-is (get_or-map-span (completed_number w b chosen minus) 64 p (pos 0) lt)
 
   pub sign_at : (p : ℕ) → p < 64 → chosen p ≡ true → negative (get_or done p (pos 0)) ≡ minus p
   sign_at p lt e = grind (arith, nat_tests, number_at)
 
   -- the types that are due are those of the numbers below
   pub due_is : (p : ℕ) → IsAc p → type_due done weights b p ≡ type_due w weights b p
-  unfolding type_due
-  due_is p ac = ap (λ t. not t && coded weights b p) ((completes w weights b chosen minus may).above p ac)
+  due_is p ac = simp type_due-is (ap (λ t. not t && coded weights b p) ((completes w weights b chosen minus may).above p ac))
 
   pub here_is : (p : ℕ) → IsAc p → significant done b p ≡ (significant w (b + 1) p || chosen p)
   here_is p ac = (completes w weights b chosen minus may).here p ac
@@ -56,15 +54,20 @@ module _ (w : List ℤ) (weights : List ℕ) (b : ℕ) (chosen minus : ℕ → B
 
   -- a set that was not is new if it is significant
   pub is_new_here : (s : Set) → IsKnown s → set_significant w (b + 1) s ≡ false → set_significant done b s ≡ true → is_new done b s ≡ true
-  unfolding is_new
-  is_new_here s known none e = ap (λ t. t && not (set_significant done (b + 1) s)) e ∙ ap not (set_above_is s known ∙ none)
+  is_new_here s known none e = simp is_new-is (ap (λ t. t && not (set_significant done (b + 1) s)) e ∙ ap not (set_above_is s known ∙ none))
 
   pub any_here : (s : Set) (start count : ℕ) → ((f : ℕ → Bool) → list_any f (span start count) ≡ true → list_any f (members s) ≡ true) → list_any (significant done b) (span start count) ≡ true → set_significant done b s ≡ true
-  unfolding set_significant
-  any_here s start count inside e = inside (significant done b) e
+  any_here s start count inside e = simp set_significant-is (inside (significant done b) e)
 
-  pub encloses : (s : Set) → IsKnown s → set_significant done b s ≡ true → enclosing_significant done b s ≡ true
-  encloses s known e = enclosed done b s known e
+  -- the set that encloses a significant set is significant
+  pub all_encloses : (i : ℕ) → i < 3 → set_significant done b (Family i) ≡ true → set_significant done b Descendants ≡ true
+  all_encloses i lt e = sym (enclosing-family done b i) ∙ enclosed done b (Family i) lt e
+
+  pub family_encloses : (i : ℕ) → i < 3 → set_significant done b (Grandchildren i) ≡ true → set_significant done b (Family i) ≡ true
+  family_encloses i lt e = sym (enclosing-grandchildren done b i) ∙ enclosed done b (Grandchildren i) lt e
+
+  pub sixteen_encloses : (i j : ℕ) → (i < 3) × (j < 4) → set_significant done b (Quad i j) ≡ true → set_significant done b (Grandchildren i) ≡ true
+  sixteen_encloses i j lt e = sym (enclosing-quad done b i j) ∙ enclosed done b (Quad i j) lt e
 
 -- ---- two of them
 

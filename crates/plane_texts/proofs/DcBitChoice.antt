@@ -1,8 +1,6 @@
 -- The DC's bit in a plane may be chosen.
-use Rattle.std.proofs.Common.{◌≡◌, ℕ, zero, suc, ◌+◌, ◌*◌, ◌/◌, ◌^◌, ◌<◌, ◌≤◌, Bool, true, false, ◌&&◌, cond, List, [], ◌∷◌, length, set, refl, ap, sym, ◌∙◌, subst, arith, ℤ, pos, get_or, length-set}
-use Rattle.std.specs.Prelude.{◌==◌, nat_lt, unsigned_abs}
+use Rattle.std.proofs.Common.{◌≡◌, ℕ, zero, suc, ◌+◌, ◌*◌, ◌/◌, ◌^◌, ◌<◌, ◌≤◌, Bool, true, false, ◌&&◌, cond, List, [], ◌∷◌, length, set, refl, ap, sym, ◌∙◌, subst, arith, ℤ, pos, get_or, length-set, ◌==◌, nat_lt, unsigned_abs, get_or-set_same, get_or-set_other}
 use Rattle.std.specs.Int.{int_shr}
-use Rattle.std.proofs.lemmas.List.{get_or-set_same, get_or-set_other}
 use Rattle.std.proofs.lemmas.Bool.{leb-true, ltb-true, eqb-true, eqb-false, and_parts}
 use Rattle.std.proofs.lemmas.Bool.Decides.{nat_tests}
 use Rattle.item_defs.proofs.NumberBits.{digit_small}
@@ -11,18 +9,18 @@ use Rattle.plane_defs.specs.declared.entries.Entry.{Entry}
 use Rattle.plane_defs.specs.declared.entries.Entry.TheVariants.{Bit, Word}
 use Rattle.plane_defs.specs.Sets.{magnitude, coded, shift}
 use Rattle.plane_defs.specs.Laws.{IsMultiple}
-use Rattle.plane_defs.specs.Entries.{negative, twos_bit, block_entries}
-use Rattle.plane_defs.specs.Steps.{Step, step, free, bit_at, block_steps}
+use Rattle.plane_defs.specs.Entries.{negative, twos_bit}
+use Rattle.plane_defs.specs.Steps.{Step, step, free, bit_at}
 use Rattle.plane_texts.proofs.LowBits.{twos}
 use Rattle.plane_texts.proofs.DcShifts.{with_bit, bit_chosen, bit_above, bit_times, IsTimes}
 use Rattle.plane_texts.specs.Candidates.{EntriesChoose, step_at, Replaces, BlockChosen, MayChoose}
+use Rattle.plane_defs.proofs.Equations.{coded-is, dc_stage, dc_entries}
 
 pub digit_back : (x : Bool) → (digit x == 1) ≡ x
 digit_back x = grind (arith, nat_tests)
 
 pub shift_low : (weights : List ℕ) (b p : ℕ) → coded weights b p ≡ true → shift weights p ≤ b
-unfolding coded
-shift_low weights b p e = leb-true (shift weights p) b e
+shift_low weights b p e = grind (arith, nat_tests, coded-is, leb-true)
 
 -- a multiple stays a multiple if another number of the block is changed
 pub set_multiple : (u : List ℤ) (weights : List ℕ) (p : ℕ) (z : ℤ) → IsMultiple u weights → p < length u → IsTimes (shift weights p) z → IsMultiple (set u p z) weights
@@ -38,8 +36,7 @@ abbrev SentEntries : Bool → ℤ → ℕ → List Entry
 SentEntries t z b = cond t (Bit (twos_bit z b) ∷ []) []
 
 pub dc_bit_choice : MayChoose 0
-unfolding block_steps block_entries
-dc_bit_choice u d weights b q j e long m below lt replaces = by_sent (coded weights b 0 && nat_lt b q) refl lt replaces
+dc_bit_choice u d weights b q j e long m below lt replaces = let lt = simp dc_stage at lt in let replaces = simp dc_stage at replaces in by_sent (coded weights b 0 && nat_lt b q) refl lt replaces
   where
     chosen : (j : ℕ) (e : Entry) → (coded weights b 0 && nat_lt b q) ≡ true → j < 1 → Replaces (step_at (Sent true (get_or u 0 (pos 0)) b) j).check (step_at (Sent true (get_or u 0 (pos 0)) b) j).entry e → BlockChosen u d weights b q 0 j e
     chosen (suc j) e sent lt r = absurd (omega (arith, lt))
@@ -66,8 +63,8 @@ dc_bit_choice u d weights b q j e long m below lt replaces = by_sent (coded weig
           above = record { mags = λ p ac. ap (λ y. unsigned_abs y / 2 ^ (b + 1)) (sym (other p ac.0)); signs = λ p ac e. ap negative (sym (other p ac.0)) };
           before = λ i none. absurd (omega arith);
           here =
-              subst (λ t. EntriesChoose 0 (Bit x) (SentEntries t old b) (SentEntries t (get_or v 0 (pos 0)) b)) (sym sent)
-              (record { within = omega arith; before = refl; next = ap Bit says });
+              simp dc_entries (subst (λ t. EntriesChoose 0 (Bit x) (SentEntries t old b) (SentEntries t (get_or v 0 (pos 0)) b)) (sym sent)
+              (record { within = omega arith; before = refl; next = ap Bit says }));
         }
 
     by_sent : (t : Bool) → (coded weights b 0 && nat_lt b q) ≡ t → j < length (Sent t (get_or u 0 (pos 0)) b) → Replaces (step_at (Sent t (get_or u 0 (pos 0)) b) j).check (step_at (Sent t (get_or u 0 (pos 0)) b) j).entry e → BlockChosen u d weights b q 0 j e

@@ -1,6 +1,5 @@
 -- An entry or a step of a list that is made part by part, and what is chosen in it.
-use Rattle.std.proofs.Common.{◌≡◌, ℕ, zero, suc, ◌+◌, ◌-◌, ◌<◌, ◌≤◌, inl, inr, List, [], ◌∷◌, ◌++◌, length, take, refl, ap, sym, ◌∙◌, subst, arith, length-append, add-one}
-use Rattle.std.specs.List.{flat_map}
+use Rattle.std.proofs.Common.{◌≡◌, ℕ, zero, suc, ◌+◌, ◌-◌, ◌<◌, ◌≤◌, inl, inr, List, [], ◌∷◌, ◌++◌, length, take, refl, ap, sym, ◌∙◌, subst, arith, length-append, add-one, flat_map}
 use Rattle.std.proofs.lemmas.Bool.{cases_lt}
 use Rattle.std.proofs.lemmas.List.{map-append, length-map}
 use Rattle.plane_defs.specs.declared.entries.Entry.{Entry}
@@ -10,6 +9,7 @@ use Rattle.plane_defs.specs.StepLaws.{entry_of, entries_of}
 use Rattle.plane_defs.proofs.SpanLists.{flat_map-span-suc}
 use Rattle.plane_defs.proofs.Settled.{head_same, tail_same}
 use Rattle.plane_texts.specs.Candidates.{EntriesChoose, step_at}
+use Rattle.plane_defs.proofs.Equations.{span-none}
 
 pub flat_more : {A : Type 0} (f : ℕ → List A) (start count : ℕ) → flat_map f (span start (suc count)) ≡ flat_map f (span start count) ++ f (start + count)
 flat_more f start count = ap (λ m. flat_map f (span start m)) (sym (add-one count)) ∙ flat_map-span-suc f start count
@@ -57,8 +57,7 @@ entries_both : (ss ss' : List Step) → entries_of (ss ++ ss') ≡ entries_of ss
 entries_both ss ss' = map-append entry_of ss ss'
 
 entries_flat : (f h : ℕ → List Step) (start n : ℕ) → ((j : ℕ) → j < n → entries_of (f (start + j)) ≡ entries_of (h (start + j))) → entries_of (flat_map f (span start n)) ≡ entries_of (flat_map h (span start n))
-unfolding span
-entries_flat f h start zero same = refl
+entries_flat f h start zero same = simp span-none
 entries_flat f h start (suc n) same =
     ap entries_of (flat_more f start n) ∙ entries_both (flat_map f (span start n)) (f (start + n)) ∙ ap (λ l. l ++ entries_of (f (start + n))) (entries_flat f h start n (λ j lt. same j (omega arith)))
     ∙ ap (λ l. entries_of (flat_map h (span start n)) ++ l) (same n (omega arith)) ∙ sym (entries_both (flat_map h (span start n)) (h (start + n))) ∙ ap entries_of (sym (flat_more h start n))
@@ -74,8 +73,7 @@ pub record StepLocated (f : ℕ → List Step) (start count m : ℕ) : Type 0 wh
       EntriesChoose m e (entries_of (flat_map f (span start count))) (entries_of (flat_map h (span start count)))
 
 pub locate_step : (f : ℕ → List Step) (start count m : ℕ) → m < length (flat_map f (span start count)) → StepLocated f start count m
-unfolding span
-locate_step f start zero m lt = absurd (omega (arith, lt))
+locate_step f start zero m lt = let lt = simp span-none at lt in (absurd (omega (arith, lt)))
 locate_step f start (suc n) m lt =
     let early = flat_map f (span start n) in
     let here = f (start + n) in

@@ -1,6 +1,5 @@
 -- The flags of some sets may be chosen.
-use Rattle.std.proofs.Common.{◌≡◌, ℕ, ◌+◌, ◌^◌, ◌<◌, ◌≤◌, Bool, true, false, not, ◌&&◌, cond, List, [], ◌∷◌, length, refl, ap, sym, ◌∙◌, arith, ℤ}
-use Rattle.std.specs.Prelude.{nat_lt, ◌||◌, map, filter}
+use Rattle.std.proofs.Common.{◌≡◌, ℕ, ◌+◌, ◌^◌, ◌<◌, ◌≤◌, Bool, true, false, not, ◌&&◌, cond, List, [], ◌∷◌, length, refl, ap, sym, ◌∙◌, arith, ℤ, nat_lt, ◌||◌, map, filter}
 use Rattle.std.specs.List.{list_any, AllByRecursion}
 use Rattle.std.proofs.lemmas.List.{length-map}
 use Rattle.std.proofs.lemmas.Bool.{and_parts, ltb-true}
@@ -25,6 +24,7 @@ use Rattle.plane_texts.proofs.WordParts.{spread, spread_is, some_bit, any_of_map
 use Rattle.plane_texts.proofs.Completions as two
 use Rattle.plane_texts.proofs.SmallFacts.{lt_to}
 use Rattle.plane_defs.proofs.AlikeSteps.{map_equal}
+use Rattle.plane_defs.proofs.Equations.{flag_due-is}
 
 filter_map : {X A : Type 0} (f : X → A) (t : A → Bool) (xs : List X) → filter t (map f xs) ≡ map f (filter (λ x. t (f x)) xs)
 filter_map f t [] = refl
@@ -58,8 +58,8 @@ module _ (w : List ℤ) (weights : List ℕ) (b : ℕ) (chosen minus : ℕ → B
       ∙ ap (map sets) (filter_same (λ i. flag_due v weights b (sets i)) due (span 0 count) (all_span (λ i. flag_due v weights b (sets i) ≡ due i) 0 count (λ i low high. same i (omega (arith, high)))))
 
   due_parts : (i : ℕ) → i < count → due i ≡ true → (set_significant w (b + 1) (sets i) ≡ false) × (live weights b (sets i) ≡ true) × (enclosing_significant old b (sets i) ≡ true)
-  unfolding flag_due
-  due_parts i lt e =
+  due_parts i lt h =
+      let e = simp flag_due-is at h in
       let first = (and_parts (not (set_significant old (b + 1) (sets i)) && live weights b (sets i)) (enclosing_significant old b (sets i)) e).0 in
       let none = not_false (set_significant old (b + 1) (sets i)) (and_parts (not (set_significant old (b + 1) (sets i))) (live weights b (sets i)) first).0 in (
         sym (two.set_above_is w weights b chosen minus may (sets i) (apart.known i lt)) ∙ none,
@@ -68,8 +68,7 @@ module _ (w : List ℤ) (weights : List ℕ) (b : ℕ) (chosen minus : ℕ → B
       )
 
   pub due_encloses : (i : ℕ) → due i ≡ true → enclosing_significant old b (sets i) ≡ true
-  unfolding flag_due
-  due_encloses i e = (and_parts (not (set_significant old (b + 1) (sets i)) && live weights b (sets i)) (enclosing_significant old b (sets i)) e).1
+  due_encloses i e = grind (arith, nat_tests, flag_due-is, and_parts, not)
 
   -- if a word of them has bits, one is due
   pub some_due : 1 ≤ length (flags old weights b listed) → (i : ℕ) × ((i < count) × (due i ≡ true))

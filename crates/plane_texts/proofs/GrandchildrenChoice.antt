@@ -1,6 +1,5 @@
 -- The flags of the sets of sixteen grandchildren may be chosen; and what stays if only one of them changes.
-use Rattle.std.proofs.Common.{◌≡◌, ℕ, suc, ◌+◌, ◌-◌, ◌^◌, ◌<◌, ◌≤◌, inl, inr, Bool, true, false, not, ◌&&◌, cond, List, [], ◌∷◌, length, refl, ap, sym, ◌∙◌, subst, arith, ℤ}
-use Rattle.std.specs.Prelude.{nat_lt, ◌||◌, map, filter}
+use Rattle.std.proofs.Common.{◌≡◌, ℕ, suc, ◌+◌, ◌-◌, ◌^◌, ◌<◌, ◌≤◌, inl, inr, Bool, true, false, not, ◌&&◌, cond, List, [], ◌∷◌, length, refl, ap, sym, ◌∙◌, subst, arith, ℤ, nat_lt, ◌||◌, map, filter}
 use Rattle.std.specs.List.{flat_map, list_any}
 use Rattle.std.proofs.lemmas.Bool.{cases_lt, eqb-true, eqb-false, or_left}
 use Rattle.std.proofs.lemmas.Bool.Decides.{nat_tests}
@@ -12,7 +11,7 @@ use Rattle.plane_defs.specs.declared.entries.Entry.TheVariants.{Word}
 use Rattle.plane_defs.specs.declared.sets.Set.TheVariants.{Descendants, Family, Grandchildren, Quad}
 use Rattle.plane_defs.specs.declared.stages.Stage.TheVariants as stages
 use Rattle.plane_defs.specs.Spans.{span}
-use Rattle.plane_defs.specs.Sets.{significant, set_significant, enclosing_significant, flag_due, children_of, grandchildren_of, quad_of}
+use Rattle.plane_defs.specs.Sets.{significant, set_significant, flag_due, children_of, grandchildren_of, quad_of}
 use Rattle.plane_defs.specs.Entries.{word, flags, typed, children, quads, quads_types, all_quads, grandchildren, stage_number, block_entries, significant_families}
 use Rattle.plane_defs.specs.Steps.{refuses, Step, some_one_where, is_new, is_forced, three_grandchildren, typed_steps, grandchildren_check, quads_types_steps, quads_steps, all_quads_steps, grandchildren_steps, block_steps}
 use Rattle.plane_defs.specs.StepLaws.{entry_of, entries_of, IsAc}
@@ -31,12 +30,12 @@ use Rattle.plane_texts.proofs.FlagChoice as flagged
 use Rattle.plane_texts.proofs.ParentsChoice.{StageChosen}
 use Rattle.plane_texts.proofs.ChildrenChoice as kids
 use Rattle.plane_texts.proofs.SmallFacts.{strictly}
+use Rattle.plane_defs.proofs.Equations.{span-none, span-more, grandchildren_stage, children_entries, grandchildren_entries, enclosing-grandchildren, is_forced-grandchildren}
 
 -- ---- the stage's parts
 
 sixteens_listed : three_grandchildren ≡ map Grandchildren (span 0 3)
-unfolding span
-sixteens_listed = refl
+sixteens_listed = grind (arith, nat_tests, span-none, span-more)
 
 -- what a family sends of its grandchildren, by their sets of four
 pub quad_sends : List ℤ → List ℕ → (b i j : ℕ) → List Step
@@ -91,16 +90,13 @@ sixteens_said : (v : List ℤ) (weights : List ℕ) (b : ℕ) → all_quads v we
 sixteens_said v weights b = sym (map_flat entry_of (quads_steps v weights b) (quads v weights b) (quads_entries v weights b) (significant_families v b Grandchildren)) ∙ ap entries_of (sixteens_sent v weights b)
 
 pub grandchildren_sent : (v : List ℤ) (d : ℕ) (weights : List ℕ) (b q : ℕ) (t : Bool) → nat_lt b d ≡ t → block_steps stages.Grandchildren v d weights b q ≡ cond t (grandchildren_steps v weights b) []
-unfolding block_steps
-grandchildren_sent v d weights b q t e = ap (λ t. cond t (grandchildren_steps v weights b) []) e
+grandchildren_sent v d weights b q t e = simp grandchildren_stage (ap (λ t. cond t (grandchildren_steps v weights b) []) e)
 
 grandchildren_said : (v : List ℤ) (d : ℕ) (weights : List ℕ) (b q : ℕ) → nat_lt b d ≡ true → block_entries stages.Grandchildren v d weights b q ≡ grandchildren v weights b
-unfolding block_entries
-grandchildren_said v d weights b q e = ap (λ t. cond t (grandchildren v weights b) []) e
+grandchildren_said v d weights b q e = simp grandchildren_entries (ap (λ t. cond t (grandchildren v weights b) []) e)
 
 children_same : (u v : List ℤ) (d : ℕ) (weights : List ℕ) (b q : ℕ) → children u weights b ≡ children v weights b → block_entries stages.Children u d weights b q ≡ block_entries stages.Children v d weights b q
-unfolding block_entries
-children_same u v d weights b q e = ap (λ l. cond (nat_lt b d) l []) e
+children_same u v d weights b q e = simp children_entries (ap (λ l. cond (nat_lt b d) l []) e)
 
 module _ (w : List ℤ) (weights : List ℕ) (b d q : ℕ) (chosen minus : ℕ → Bool) (may : MayComplete w weights b chosen) (deep : nat_lt b d ≡ true) where
   abbrev old : List ℤ
@@ -171,38 +167,34 @@ module _ (w : List ℤ) (weights : List ℕ) (b d q : ℕ) (chosen minus : ℕ �
           (ap (λ l. refuses (grandchildren_check old weights b l) x) (sym sixteens_listed) ∙ passes) h lt is_due wants
 
       by_child : (h : ℕ) → h < 3 → flag_due old weights b (Grandchildren h) ≡ true → is_new old b (Family h) ≡ true → (t : Bool) → list_any (significant old b) (span (children_of h) 4) ≡ t → set_significant set b (Family h) ≡ true
-      unfolding is_forced enclosing_significant
       by_child h lt is_due new true e =
           two.any_here w weights b r.new minus r.may_new (Family h) (children_of h) 4
           (λ f any. list_any-append f (span (children_of h) 4) (span (grandchildren_of h) 16) ∙ or_left (list_any f (span (children_of h) 4)) _ any) (sym (children_alike h lt) ∙ e)
       by_child h lt is_due new false e =
-          two.encloses w weights b r.new minus r.may_new (Grandchildren h) lt
-          (hope h lt is_due (ap (λ t. t && not (list_any (significant old b) (span (children_of h) 4))) new ∙ ap not e))
+          two.family_encloses w weights b r.new minus r.may_new h lt
+          (hope h lt is_due (is_forced-grandchildren old b h ∙ ap (λ t. t && not (list_any (significant old b) (span (children_of h) 4))) new ∙ ap not e))
 
       family_stays : (h : ℕ) → h < 3 → flag_due old weights b (Grandchildren h) ≡ true → set_significant old b (Family h) ≡ true → (t : Bool) → set_significant w (b + 1) (Family h) ≡ t → set_significant set b (Family h) ≡ true
       family_stays h lt is_due reached true above = two.set_stays w weights b r.new minus r.may_new (Family h) lt above
       family_stays h lt is_due reached false above = by_child h lt is_due (two.is_new_here w weights b chosen minus may (Family h) lt above reached) (list_any (significant old b) (span (children_of h) 4)) refl
 
       old_family : (h : ℕ) → flag_due old weights b (Grandchildren h) ≡ true → set_significant old b (Family h) ≡ true
-      unfolding enclosing_significant
-      old_family h is_due = flagged.due_encloses w weights b chosen minus may Grandchildren sixteen_of 3 words_chosen.sixteens h is_due
+      old_family h is_due = sym (enclosing-grandchildren old b h) ∙ flagged.due_encloses w weights b chosen minus may Grandchildren sixteen_of 3 words_chosen.sixteens h is_due
 
       families : (h : ℕ) → h < 3 → set_significant old b (Family h) ≡ set_significant set b (Family h)
       families h lt = grind (arith, nat_tests, unmoved, old_family, family_stays)
 
       descendants : set_significant old b Descendants ≡ set_significant set b Descendants
-      unfolding enclosing_significant
       descendants =
           let one = flagged.some_due w weights b chosen minus may Grandchildren sixteen_of 3 words_chosen.sixteens (omega (arith, listed_long, some)) in
           let reached = old_family one.0 one.1.1 in
-          two.encloses w weights b chosen minus may (Family one.0) one.1.0 reached ∙ sym (two.encloses w weights b r.new minus r.may_new (Family one.0) one.1.0 (sym (families one.0 one.1.0) ∙ reached))
+          two.all_encloses w weights b chosen minus may one.0 one.1.0 reached ∙ sym (two.all_encloses w weights b r.new minus r.may_new one.0 one.1.0 (sym (families one.0 one.1.0) ∙ reached))
 
       says : flags set weights b three_grandchildren ≡ bits_of n x
-      unfolding enclosing_significant
       says =
           ap (flags set weights b) sixteens_listed
           ∙ flagged.flags_are w weights b chosen minus may Grandchildren sixteen_of 3 words_chosen.sixteens x n r
-          (λ i lt. flag_same set old weights b (two.alike w weights b r.new minus chosen minus r.may_new may) (Grandchildren i) lt (sym (families i lt)))
+          (λ i lt. flag_same set old weights b (two.alike w weights b r.new minus chosen minus r.may_new may) (Grandchildren i) lt (simp enclosing-grandchildren (sym (families i lt))))
 
       sixteens_made : (j : ℕ) → j ≡ 0 → StageChosen w weights b d q 3 chosen minus j (Word (record { value = x; count = n }))
       sixteens_made j at = record {
@@ -246,12 +238,10 @@ module _ (w : List ℤ) (weights : List ℕ) (b d q : ℕ) (chosen minus : ℕ �
         ∙ sym (list_any-append new (span (children_of h) 4) (span (grandchildren_of h) 16)))
 
     family_old : set_significant old b (Family i) ≡ true
-    unfolding enclosing_significant
-    family_old = two.encloses w weights b chosen minus may (Grandchildren i) known reached
+    family_old = two.family_encloses w weights b chosen minus may i known reached
 
     family_now : set_significant now b (Family i) ≡ true
-    unfolding enclosing_significant
-    family_now = two.encloses w weights b new minus' may' (Grandchildren i) known still
+    family_now = two.family_encloses w weights b new minus' may' i known still
 
     pub sixteens_kept : (h : ℕ) → h < 3 → set_significant old b (Grandchildren h) ≡ set_significant now b (Grandchildren h)
     sixteens_kept h lt = grind (arith, nat_tests, eqb-true, other_sixteens, eqb-false)
@@ -260,8 +250,7 @@ module _ (w : List ℤ) (weights : List ℕ) (b d q : ℕ) (chosen minus : ℕ �
     families_kept h lt = grind (arith, nat_tests, eqb-true, family_old, family_now, other_families, eqb-false)
 
     pub descendants_kept : set_significant old b Descendants ≡ set_significant now b Descendants
-    unfolding enclosing_significant
-    descendants_kept = two.encloses w weights b chosen minus may (Family i) known family_old ∙ sym (two.encloses w weights b new minus' may' (Family i) known family_now)
+    descendants_kept = two.all_encloses w weights b chosen minus may i known family_old ∙ sym (two.all_encloses w weights b new minus' may' i known family_now)
 
     sends_before : (h : ℕ) → h < i → entries_of (sixteen_sends old weights b h) ≡ entries_of (sixteen_sends now weights b h)
     sends_before h lt = by_set (set_significant old b (Grandchildren h)) refl

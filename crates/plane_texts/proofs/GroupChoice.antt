@@ -1,6 +1,5 @@
 -- The types or a sign of some consecutive numbers may be chosen.
-use Rattle.std.proofs.Common.{◌≡◌, ◌⊎◌, ℕ, zero, suc, ◌+◌, ◌-◌, ◌^◌, ◌<◌, ◌≤◌, inl, inr, Bool, true, false, ◌&&◌, cond, List, [], ◌∷◌, length, refl, ap, sym, ◌∙◌, subst, arith, ℤ, pos, get_or}
-use Rattle.std.specs.Prelude.{nat_le, nat_lt, ◌==◌, ◌||◌, map, filter}
+use Rattle.std.proofs.Common.{◌≡◌, ◌⊎◌, ℕ, zero, suc, ◌+◌, ◌-◌, ◌^◌, ◌<◌, ◌≤◌, inl, inr, Bool, true, false, ◌&&◌, cond, List, [], ◌∷◌, length, refl, ap, sym, ◌∙◌, subst, arith, ℤ, pos, get_or, nat_le, nat_lt, ◌==◌, ◌||◌, map, filter}
 use Rattle.std.specs.List.{flat_map, list_any}
 use Rattle.std.proofs.lemmas.List.{length-map}
 use Rattle.std.proofs.lemmas.Bool.{leb-true, ltb-true, le-leb, eqb-false, ne_eqb, and_parts}
@@ -31,6 +30,7 @@ use Rattle.plane_texts.proofs.WordParts.{spread, spread_is, word_is, some_bit, a
 use Rattle.plane_texts.proofs.Completions as two
 use Rattle.plane_texts.proofs.SmallFacts.{lt_to}
 use Rattle.plane_defs.proofs.AlikeSteps.{map_equal}
+use Rattle.plane_defs.proofs.Equations.{newly_significant-is}
 
 -- the positions of a range
 inside : (start count : ℕ) → ℕ → Bool
@@ -181,11 +181,11 @@ module _ (w : List ℤ) (weights : List ℕ) (b : ℕ) (chosen minus : ℕ → B
 
   -- a number that is newly significant is chosen
   is_chosen : (p : ℕ) → IsAc p → newly_significant old weights b p ≡ true → chosen p ≡ true
-  unfolding newly_significant
   is_chosen p ac e =
+      let e = simp newly_significant-is at e in (
       let parts = and_parts (type_due old weights b p) (significant old b p) e in
       let due : type_due w weights b p ≡ true = sym (two.due_is w weights b chosen minus may p ac) ∙ parts.0 in
-      sym (ap (λ t. t || chosen p) (due_above w weights b p due)) ∙ sym (two.here_is w weights b chosen minus may p ac) ∙ parts.1
+      sym (ap (λ t. t || chosen p) (due_above w weights b p due)) ∙ sym (two.here_is w weights b chosen minus may p ac) ∙ parts.1)
 
   sign_choice : (check : Check) (r : ℕ) (y : Bool) (l : StepLocated (sign_of old) start count r) → newly_significant old weights b l.at ≡ true → l.rest ≡ 0 → GroupChosen check (suc r) (Bit y)
   sign_choice check r y l new rest =

@@ -1,6 +1,5 @@
 -- A block as it is in a plane: the numbers that were significant above it, and those that become significant in it.
-use Rattle.std.proofs.Common.{◌≡◌, ℕ, suc, ◌+◌, ◌-◌, ◌*◌, ◌/◌, ◌^◌, ◌<◌, ◌≤◌, inl, inr, Bool, true, false, not, ◌&&◌, cond, eqb, List, length, refl, ap, sym, ◌∙◌, arith, ℤ, pos, negsuc, get_or}
-use Rattle.std.specs.Prelude.{nat_le, nat_lt, ◌||◌, unsigned_abs, map}
+use Rattle.std.proofs.Common.{◌≡◌, ℕ, suc, ◌+◌, ◌-◌, ◌*◌, ◌/◌, ◌^◌, ◌<◌, ◌≤◌, inl, inr, Bool, true, false, not, ◌&&◌, cond, eqb, List, length, refl, ap, sym, ◌∙◌, arith, ℤ, pos, negsuc, get_or, nat_le, nat_lt, ◌||◌, unsigned_abs, map}
 use Rattle.std.specs.Int.{int_shr}
 use Rattle.std.proofs.lemmas.Bool.{cases_lt, leb-true, ltb-true, le-leb, and_parts}
 use Rattle.std.proofs.lemmas.Bool.Decides.{nat_tests}
@@ -13,7 +12,7 @@ use Rattle.item_defs.specs.Bits.{bit}
 use Rattle.plane_defs.specs.declared.entries.Entry.{Entry}
 use Rattle.plane_defs.specs.declared.stages.Stage.{Stage}
 use Rattle.plane_defs.specs.Spans.{span}
-use Rattle.plane_defs.specs.Sets.{magnitude, significant, coded, shift, type_due}
+use Rattle.plane_defs.specs.Sets.{magnitude, significant, coded, shift}
 use Rattle.plane_defs.specs.Laws.{IsMultiple}
 use Rattle.plane_defs.specs.Entries.{negative, twos_bit, stage_number, block_entries}
 use Rattle.plane_defs.specs.Steps.{block_steps}
@@ -28,14 +27,13 @@ use Rattle.plane_texts.specs.Candidates.{EntriesChoose, AboveSame, BlockChosen}
 use Rattle.plane_texts.proofs.EntryChoices.{entries_as}
 use Rattle.plane_texts.proofs.SmallFacts.{lt_to, true_false}
 use Rattle.plane_texts.proofs.Completions.{significant_same}
+use Rattle.plane_defs.proofs.Equations.{significant-is, type_due-is, completed-is}
 
 insignificant_zero : (block : List ℤ) (plane p : ℕ) → get_or block p (pos 0) ≡ pos 0 → significant block plane p ≡ false
-unfolding significant
-insignificant_zero block plane p e = grind (arith, nat_tests, pow_pos)
+insignificant_zero block plane p e = simp significant-is (grind (arith, nat_tests, pow_pos))
 
 small_from : (block : List ℤ) (plane p : ℕ) → significant block plane p ≡ false → magnitude block p < 2 ^ plane
-unfolding significant
-small_from block plane p e = grind (arith, nat_tests)
+small_from block plane p e = grind (arith, nat_tests, significant-is)
 
 no_quotient : (n w : ℕ) → n < w → n / w ≡ 0
 no_quotient n w lt = let z : 0 * w + n ≡ n = omega arith in sym (ap (λ x. x / w) z) ∙ div-mul-add 0 w n lt
@@ -118,7 +116,6 @@ module _ (u : List ℤ) (weights : List ℕ) (b : ℕ) (long : length u ≡ 64) 
   new_is p ac = ap (λ t. (t && nat_lt p 64) && (significant u b p && not (significant u (b + 1) p))) (le-leb 1 p ac.0) ∙ ap (λ t. t && (significant u b p && not (significant u (b + 1) p))) (lt_to p 64 ac.1)
 
   pub may_new : MayComplete upper weights b new_here
-  unfolding type_due
   may_new = record {
     whole = upper_long;
     multiple = upper_multiple;
@@ -126,7 +123,7 @@ module _ (u : List ℤ) (weights : List ℕ) (b : ℕ) (long : length u ≡ 64) 
     chosen_acs = λ p e. (new_from p e).0;
     chosen_due = λ p e.
         let f = new_from p e in
-        ap (λ t. not t && coded weights b p) (upper_above p f.0.0 ∙ f.2) ∙ is_coded p f.1 f.2 (coded weights b p) refl;
+        simp type_due-is (ap (λ t. not t && coded weights b p) (upper_above p f.0.0 ∙ f.2) ∙ is_coded p f.1 f.2 (coded weights b p) refl);
   }
     where
       is_coded : (p : ℕ) → significant u b p ≡ true → significant u (b + 1) p ≡ false → (t : Bool) → coded weights b p ≡ t → coded weights b p ≡ true
@@ -142,8 +139,7 @@ module _ (u : List ℤ) (weights : List ℕ) (b : ℕ) (long : length u ≡ 64) 
     v = completed upper b chosen minus
 
     v_at : (p : ℕ) → p < 64 → get_or v p (pos 0) ≡ completed_number upper b chosen minus p
-    unfolding completed
-    v_at p lt = get_or-map-span (completed_number upper b chosen minus) 64 p (pos 0) lt
+    v_at p lt = simp completed-is (get_or-map-span (completed_number upper b chosen minus) 64 p (pos 0) lt)
 
     not_chosen : (p : ℕ) → p < 64 → chosen p ≡ false → get_or v p (pos 0) ≡ get_or upper p (pos 0)
     not_chosen p lt e = v_at p lt ∙ ap (λ t. cond t (cond (minus p) (negsuc (2 ^ b - 1)) (pos (2 ^ b))) (get_or upper p (pos 0))) e

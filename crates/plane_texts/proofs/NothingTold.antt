@@ -1,6 +1,5 @@
 -- Steps that take no item report nothing.
-use Rattle.std.proofs.Common.{◌≡◌, ℕ, ◌-◌, ◌≤◌, Bool, true, false, cond, List, [], ◌∷◌, ◌++◌, length, map, refl, ap, sym, ◌∙◌, subst, arith, ℤ, length-append}
-use Rattle.std.specs.Prelude.{nat_le, ◌||◌, ◌==◌}
+use Rattle.std.proofs.Common.{◌≡◌, ℕ, ◌-◌, ◌≤◌, Bool, true, false, cond, List, [], ◌∷◌, ◌++◌, length, map, refl, ap, sym, ◌∙◌, subst, arith, ℤ, length-append, nat_le, ◌||◌, ◌==◌}
 use Rattle.std.specs.List.{flat_map, list_any}
 use Rattle.std.proofs.lemmas.List.{length-map}
 use Rattle.std.proofs.lemmas.Bool.Decides.{nat_tests}
@@ -14,6 +13,7 @@ use Rattle.plane_defs.specs.Steps.{Check, Told, flags_alone, types_at, sign_at, 
 use Rattle.plane_defs.specs.Reading.{entry_reading, step_reading}
 use Rattle.plane_texts.specs.Given.{whole_steps, tells_bit, tells_sign, has_bit_in, has_sign_in}
 use Rattle.plane_texts.proofs.Says.{Tells, AllSay}
+use Rattle.plane_defs.proofs.Equations.{bit_reading, word_reading}
 
 abbrev pub any_bit : ℕ → List Step → Bool
 any_bit p steps = has_bit_in steps p
@@ -25,12 +25,10 @@ abbrev pub TellsNone : List Step → Type 0
 TellsNone steps = (p : ℕ) → (any_bit p steps ≡ false) × (any_sign p steps ≡ false)
 
 empty_entry : (book : Book) (o : List ℕ) (before : List Entry) (check : Check) (e : Entry) → length (entry_reading book o before check e) ≤ 0 → (b : Bool) → e ≡ Bit b → ⊥
-unfolding entry_reading
-empty_entry book o before check e le b same = let long : length (entry_reading book o before check (Bit b)) ≤ 0 = subst (λ k. length (entry_reading book o before check k) ≤ 0) same le in omega (arith, long)
+empty_entry book o before check e le b same = grind (arith, nat_tests, bit_reading, length, subst)
 
 empty_word : (book : Book) (o : List ℕ) (before : List Entry) (check : Check) (bits : List Bool) → length (entry_reading book o before check (word bits)) ≤ 0 → length bits ≡ 0
-unfolding entry_reading
-empty_word book o before check bits le = grind (arith, nat_tests, length-append)
+empty_word book o before check bits le = grind (arith, nat_tests, word_reading, length-append)
 
 pub nothing_told : (u : List ℤ) (plane : ℕ) (book : Book) (o : List ℕ) (before : List Entry) (ss : List Step) → AllSay u plane ss → TellsNone (whole_steps book o before 0 ss)
 nothing_told u plane book o before [] a = λ p. (refl, refl)

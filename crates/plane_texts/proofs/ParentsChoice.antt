@@ -1,7 +1,5 @@
 -- The types or a sign of the parents may be chosen.
-use Rattle.std.proofs.Common.{◌≡◌, ℕ, ◌<◌, Bool, true, false, ◌&&◌, cond, List, [], ◌∷◌, length, refl, ap, sym, ◌∙◌, subst, arith, ℤ}
-use Rattle.std.specs.Prelude.{nat_lt}
-use Rattle.std.proofs.lemmas.Bool.{ltb-true}
+use Rattle.std.proofs.Common.{◌≡◌, ℕ, ◌<◌, Bool, true, false, ◌&&◌, cond, List, [], ◌∷◌, length, refl, ap, sym, ◌∙◌, subst, arith, ℤ, nat_lt, ltb-true}
 use Rattle.std.proofs.lemmas.Bool.Decides.{nat_tests}
 use Rattle.plane_defs.specs.declared.entries.Entry.{Entry}
 use Rattle.plane_defs.specs.declared.entries.Entry.TheVariants.{Bit}
@@ -16,6 +14,7 @@ use Rattle.plane_texts.specs.Candidates.{EntriesChoose, step_at, Replaces, Block
 use Rattle.plane_texts.proofs.EntryChoices.{entries_as}
 use Rattle.plane_texts.proofs.NormalForm.{upper, new_here, minus_here, may_new, steps_shown, from_completion}
 use Rattle.plane_texts.proofs.GroupChoice.{group_choice}
+use Rattle.plane_defs.proofs.Equations.{dc_entries, parents_entries, parents_stage}
 
 -- ---- choices of a completion
 
@@ -49,19 +48,16 @@ from_completions k none may u d weights b q j e long m below lt replaces = by_de
 -- the DC's bit is that of the numbers below
 pub dc_kept : (w : List ℤ) (weights : List ℕ) (b d q : ℕ) (chosen minus chosen' minus' : ℕ → Bool) → MayComplete w weights b chosen → MayComplete w weights b chosen' →
     block_entries stages.DcBits (completed w b chosen minus) d weights b q ≡ block_entries stages.DcBits (completed w b chosen' minus') d weights b q
-unfolding block_entries
-dc_kept w weights b d q chosen minus chosen' minus' may may' =
-    ap (λ z. cond (coded weights b 0 && nat_lt b q) (Bit (twos_bit z b) ∷ []) []) ((completes w weights b chosen minus may).dc ∙ sym (completes w weights b chosen' minus' may').dc)
+dc_kept w weights b d q chosen minus chosen' minus' may may' = simp dc_entries (
+    ap (λ z. cond (coded weights b 0 && nat_lt b q) (Bit (twos_bit z b) ∷ []) []) ((completes w weights b chosen minus may).dc ∙ sym (completes w weights b chosen' minus' may').dc))
 
 -- ---- the parents
 
 parents_sent : (u : List ℤ) (d : ℕ) (weights : List ℕ) (b q : ℕ) (t : Bool) → nat_lt b d ≡ t → block_steps stages.Parents u d weights b q ≡ cond t (typed_steps u weights b free (span 1 3)) []
-unfolding block_steps
-parents_sent u d weights b q t e = ap (λ t. cond t (parents_steps u weights b) []) e
+parents_sent u d weights b q t e = simp parents_stage (ap (λ t. cond t (parents_steps u weights b) []) e)
 
 parents_said : (u : List ℤ) (d : ℕ) (weights : List ℕ) (b q : ℕ) → nat_lt b d ≡ true → block_entries stages.Parents u d weights b q ≡ typed u weights b (span 1 3)
-unfolding block_entries
-parents_said u d weights b q e = ap (λ t. cond t (parents u weights b) []) e
+parents_said u d weights b q e = simp parents_entries (ap (λ t. cond t (parents u weights b) []) e)
 
 complete_parents : MayComplete' 1
 complete_parents w weights b d q chosen minus j e may deep lt replaces =

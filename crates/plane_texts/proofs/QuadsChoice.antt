@@ -1,6 +1,5 @@
 -- The flags, the types or a sign of a family's grandchildren may be chosen.
-use Rattle.std.proofs.Common.{◌≡◌, ◌⊎◌, ℕ, zero, suc, ◌+◌, ◌-◌, ◌/◌, ◌^◌, ◌<◌, ◌≤◌, inl, inr, Bool, true, false, ◌&&◌, cond, List, [], ◌∷◌, length, refl, ap, sym, ◌∙◌, subst, arith, ℤ}
-use Rattle.std.specs.Prelude.{nat_le, nat_lt, ◌==◌, map}
+use Rattle.std.proofs.Common.{◌≡◌, ◌⊎◌, ℕ, zero, suc, ◌+◌, ◌-◌, ◌/◌, ◌^◌, ◌<◌, ◌≤◌, inl, inr, Bool, true, false, ◌&&◌, cond, List, [], ◌∷◌, length, refl, ap, sym, ◌∙◌, subst, arith, ℤ, nat_le, nat_lt, ◌==◌, map}
 use Rattle.std.specs.List.{list_any}
 use Rattle.std.proofs.lemmas.Bool.{cases_lt, lt-leb, le-ltb, le-leb, eqb-true, eqb-false}
 use Rattle.std.proofs.Math.Bool.{and-false}
@@ -11,7 +10,7 @@ use Rattle.plane_defs.specs.declared.entries.Entry.TheVariants.{Bit, Word}
 use Rattle.plane_defs.specs.declared.sets.Set.{Set}
 use Rattle.plane_defs.specs.declared.sets.Set.TheVariants.{Grandchildren, Quad}
 use Rattle.plane_defs.specs.Spans.{span}
-use Rattle.plane_defs.specs.Sets.{significant, members, set_significant, enclosing_significant, grandchildren_of, quad_of}
+use Rattle.plane_defs.specs.Sets.{significant, members, set_significant, grandchildren_of, quad_of}
 use Rattle.plane_defs.specs.Entries.{word, flags, quads, quads_types}
 use Rattle.plane_defs.specs.Steps.{Check, some_one, refuses, Step, some_one_where, is_new, typed_steps, quads_types_steps, quads_steps, all_quads_steps, grandchildren_steps}
 use Rattle.plane_defs.specs.StepLaws.{entries_of, IsAc}
@@ -30,6 +29,8 @@ use Rattle.plane_texts.proofs.ChildrenChoice.{in_span}
 use Rattle.plane_texts.proofs.GrandchildrenChoice as grand
 use Rattle.plane_texts.proofs.GrandchildrenChoice.{quad_sends, quad_steps, quad_entries, quads_sent, quads_said, sixteen_sends, sixteen_steps, sixteens_sent, grandchildren_sent, sixteens_choice}
 use Rattle.plane_texts.proofs.SmallFacts.{lt_to, strictly}
+use Rattle.plane_defs.proofs.Equations.{span-none, span-more, enclosing-quad}
+use Rattle.plane_defs.proofs.Settled.{any_same}
 
 -- ---- the sets of four of a family
 
@@ -37,8 +38,8 @@ quads_of : ℕ → List Set
 quads_of i = Quad i 0 ∷ Quad i 1 ∷ Quad i 2 ∷ Quad i 3 ∷ []
 
 quads_listed : (i : ℕ) → quads_of i ≡ map (Quad i) (span 0 4)
-unfolding span quads_of
-quads_listed i = refl
+unfolding quads_of
+quads_listed i = grind (arith, nat_tests, span-none, span-more)
 
 -- the number of the set that a position belongs to; for other positions a number that no set has
 quad_owner : ℕ → ℕ → ℕ
@@ -86,22 +87,20 @@ module _ (w : List ℤ) (weights : List ℕ) (b d q : ℕ) (chosen minus : ℕ �
         outside p out = (r.elsewhere p (λ h. absurd (omega (arith, h, no_owner i p out))), refl)
 
         stays_by : (t : Bool) → set_significant w (b + 1) (Grandchildren i) ≡ t → set_significant set b (Grandchildren i) ≡ true
-        unfolding enclosing_significant
         stays_by true e = two.set_stays w weights b r.new minus r.may_new (Grandchildren i) known e
         stays_by false e =
             let is_some : some_one_where (is_new old b (Grandchildren i)) ≡ some_one = ap some_one_where (two.is_new_here w weights b chosen minus may (Grandchildren i) known e reached) in
             let f = flagged.some_has w weights b chosen minus may (Quad i) (quad_owner i) 4 (apart_quads i known) x n r small (eqb-false x 0 (subst (λ k. refuses k x ≡ false) is_some passes)) in
-            two.encloses w weights b r.new minus r.may_new (Quad i f.0) (known, f.1.0) f.2
+            two.sixteen_encloses w weights b r.new minus r.may_new i f.0 (known, f.1.0) f.2
 
         still : set_significant set b (Grandchildren i) ≡ true
         still = stays_by (set_significant w (b + 1) (Grandchildren i)) refl
 
         says : flags set weights b (quads_of i) ≡ bits_of n x
-        unfolding enclosing_significant
         says =
             ap (flags set weights b) (quads_listed i)
             ∙ flagged.flags_are w weights b chosen minus may (Quad i) (quad_owner i) 4 (apart_quads i known) x n r
-            (λ j lt. flag_same set old weights b (two.alike w weights b r.new minus chosen minus r.may_new may) (Quad i j) (known, lt) (still ∙ sym reached))
+            (λ j lt. flag_same set old weights b (two.alike w weights b r.new minus chosen minus r.may_new may) (Quad i j) (known, lt) (simp enclosing-quad (still ∙ sym reached)))
 
         first_word : EntriesChoose 0 (Word (record { value = x; count = n })) (quads old weights b i) (quads set weights b i)
         unfolding quads_of
@@ -126,9 +125,6 @@ module _ (w : List ℤ) (weights : List ℕ) (b d q : ℕ) (chosen minus : ℕ �
         abbrev made : List ℤ
         made = completed w b r.new r.minus'
 
-        any_same : ((p : ℕ) → chosen p ≡ r.new p) → (xs : List ℕ) → list_any chosen xs ≡ list_any r.new xs
-        any_same same xs = grind (arith, nat_tests)
-
         by_above : (check ≡ some_one → list_any (significant made b) (span (quad_of i j) 4) ≡ true) → (t : Bool) → set_significant w (b + 1) (Quad i j) ≡ t → set_significant made b (Quad i j) ≡ true
         by_above some true above = two.set_stays w weights b r.new r.minus' r.may_new (Quad i j) (known, which) above
         by_above some false above =
@@ -136,15 +132,14 @@ module _ (w : List ℤ) (weights : List ℕ) (b d q : ℕ) (chosen minus : ℕ �
             (some (ap some_one_where (two.is_new_here w weights b chosen minus may (Quad i j) (known, which) above quad_reached)))
 
         by_kind : ((p : ℕ) → chosen p ≡ r.new p) ⊎ (check ≡ some_one → list_any (significant made b) (span (quad_of i j) 4) ≡ true) → set_significant made b (Quad i j) ≡ true
-        by_kind (inl same) = sym (two.set_same w weights b chosen minus r.new r.minus' may r.may_new (Quad i j) (known, which) (any_same same (members (Quad i j)))) ∙ quad_reached
+        by_kind (inl same) = sym (two.set_same w weights b chosen minus r.new r.minus' may r.may_new (Quad i j) (known, which) (any_same chosen r.new (members (Quad i j)) same)) ∙ quad_reached
         by_kind (inr some) = by_above some (set_significant w (b + 1) (Quad i j)) refl
 
         quad_still : set_significant made b (Quad i j) ≡ true
         quad_still = by_kind r.stays
 
         sixteen_still : set_significant made b (Grandchildren i) ≡ true
-        unfolding enclosing_significant
-        sixteen_still = two.encloses w weights b r.new r.minus' r.may_new (Quad i j) (known, which) quad_still
+        sixteen_still = two.sixteen_encloses w weights b r.new r.minus' r.may_new i j (known, which) quad_still
 
         wider : (p : ℕ) → Outside (grandchildren_of i) 16 p → Outside (quad_of i j) 4 p
         wider p (inl under) = inl (omega (arith, under))
@@ -168,11 +163,11 @@ module _ (w : List ℤ) (weights : List ℕ) (b d q : ℕ) (chosen minus : ℕ �
                 (two.range_same w weights b chosen minus r.new r.minus' may r.may_new (quad_of i h) 4 (λ p low high. (elsewhere h lt (eqb-false h j s) p low high).0))
 
         flags_same : flags old weights b (quads_of i) ≡ flags made weights b (quads_of i)
-        unfolding quads_of enclosing_significant
+        unfolding quads_of
         flags_same =
             let both : set_significant old b (Grandchildren i) ≡ set_significant made b (Grandchildren i) = reached ∙ sym sixteen_still in
             flags_kept old made weights b (two.alike w weights b chosen minus r.new r.minus' may r.may_new) (quads_of i)
-            (((known, omega arith), both, quads_kept 0 (omega arith)), (((known, omega arith), both, quads_kept 1 (omega arith)), (((known, omega arith), both, quads_kept 2 (omega arith)), (((known, omega arith), both, quads_kept 3 (omega arith)), tt))))
+            (simp enclosing-quad (((known, omega arith), both, quads_kept 0 (omega arith)), (((known, omega arith), both, quads_kept 1 (omega arith)), (((known, omega arith), both, quads_kept 2 (omega arith)), (((known, omega arith), both, quads_kept 3 (omega arith)), tt)))))
 
         sends_before : (h : ℕ) → h < j → entries_of (quad_sends old weights b i h) ≡ entries_of (quad_sends made weights b i h)
         sends_before h lt = by_set (set_significant old b (Quad i h)) refl

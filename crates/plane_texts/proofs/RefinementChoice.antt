@@ -1,10 +1,7 @@
 -- A refinement bit in a plane may be chosen.
-use Rattle.std.proofs.Common.{◌≡◌, ℕ, zero, suc, ◌+◌, ◌-◌, ◌*◌, ◌/◌, ◌^◌, ◌<◌, ◌≤◌, Bool, true, false, ◌&&◌, cond, List, [], ◌∷◌, length, set, refl, ap, sym, ◌∙◌, subst, arith, ℤ, pos, negsuc, get_or, length-set}
-use Rattle.std.specs.Prelude.{◌==◌, nat_le, nat_lt, unsigned_abs}
+use Rattle.std.proofs.Common.{◌≡◌, ℕ, zero, suc, ◌+◌, ◌-◌, ◌*◌, ◌/◌, ◌^◌, ◌<◌, ◌≤◌, Bool, true, false, ◌&&◌, cond, List, [], ◌∷◌, length, set, refl, ap, sym, ◌∙◌, subst, arith, ℤ, pos, negsuc, get_or, length-set, ◌==◌, nat_le, nat_lt, unsigned_abs, flat_map, get_or-set_same, get_or-set_other}
 use Rattle.std.specs.Int.{int_shr}
-use Rattle.std.specs.List.{flat_map}
 use Rattle.std.proofs.lemmas.Bool.Decides.{nat_tests}
-use Rattle.std.proofs.lemmas.List.{get_or-set_same, get_or-set_other}
 use Rattle.std.proofs.lemmas.Nat.{pow_pos, pow-add, shl-shr, shr-shr, shr_below}
 use Rattle.std.proofs.lemmas.Bool.{leb-true, ltb-true, eqb-true, eqb-false, and_parts}
 use Rattle.item_defs.proofs.NumberBits.{digit_small}
@@ -13,7 +10,7 @@ use Rattle.plane_defs.specs.declared.entries.Entry.{Entry}
 use Rattle.plane_defs.specs.declared.entries.Entry.TheVariants.{Bit, Word}
 use Rattle.plane_defs.specs.declared.stages.Stage.TheVariants as stages
 use Rattle.plane_defs.specs.Spans.{span}
-use Rattle.plane_defs.specs.Sets.{magnitude, significant, coded, refined, shift}
+use Rattle.plane_defs.specs.Sets.{magnitude, significant, coded, shift}
 use Rattle.plane_defs.specs.Laws.{IsMultiple}
 use Rattle.plane_defs.specs.Entries.{negative, stage_number, block_entries}
 use Rattle.plane_defs.specs.Steps.{Step, step, free, bit_at, block_steps, refinement_steps}
@@ -27,14 +24,14 @@ use Rattle.plane_texts.proofs.DcBitChoice.{digit_back, shift_low, set_multiple}
 use Rattle.plane_texts.proofs.StageParts.{SeenAt, map_filter_flat, parents_kept, children_kept, grandchildren_kept, sets_seen}
 use Rattle.plane_texts.proofs.SmallFacts.{set_at}
 use Rattle.plane_texts.proofs.Completions.{significant_same}
+use Rattle.plane_defs.proofs.Equations.{dc_entries, parents_entries, children_entries, grandchildren_entries, refined-is, significant-is, refinement_stage}
 
 -- ---- stages before the refinement
 
 -- blocks with the same AC numbers in a plane send the same before it
 pub stages_kept : (u v : List ℤ) (d : ℕ) (weights : List ℕ) (b q : ℕ) → AcsAlike u v weights b → ((p : ℕ) → IsAc p → SeenAt u v b p) → get_or u 0 (pos 0) ≡ get_or v 0 (pos 0) → (i : ℕ) → i < 4 →
     block_entries (stage_number i) u d weights b q ≡ block_entries (stage_number i) v d weights b q
-unfolding block_entries
-stages_kept u v d weights b q alike seen dc i lt = grind (arith, nat_tests, parents_kept, children_kept, sets_seen, grandchildren_kept)
+stages_kept u v d weights b q alike seen dc i lt = grind (arith, nat_tests, dc_entries, parents_entries, children_entries, grandchildren_entries, parents_kept, children_kept, sets_seen, grandchildren_kept)
 
 -- ---- a number with another bit
 
@@ -102,12 +99,11 @@ sends : List ℤ → List ℕ → (b p : ℕ) → List Step
 sends u weights b p = Sent weights b p (get_or u p (pos 0))
 
 sent_flat : (u : List ℤ) (weights : List ℕ) (b : ℕ) → refinement_steps u weights b ≡ flat_map (sends u weights b) (span 1 63)
-unfolding sends refined significant
-sent_flat u weights b = map_filter_flat (λ p. step free (bit_at p) (Bit (bit (magnitude u p) b))) (refined u weights b) (span 1 63)
+unfolding sends
+sent_flat u weights b = grind (arith, nat_tests, refined-is, significant-is, map_filter_flat)
 
 block_sent : (u : List ℤ) (d : ℕ) (weights : List ℕ) (b q : ℕ) (t : Bool) → nat_lt b d ≡ t → block_steps stages.Refinement u d weights b q ≡ cond t (flat_map (sends u weights b) (span 1 63)) []
-unfolding block_steps
-block_sent u d weights b q t e = ap (λ t. cond t (refinement_steps u weights b) []) e ∙ ap (λ l. cond t l []) (sent_flat u weights b)
+block_sent u d weights b q t e = simp refinement_stage (ap (λ t. cond t (refinement_steps u weights b) []) e ∙ ap (λ l. cond t l []) (sent_flat u weights b))
 
 module _ (u : List ℤ) (d : ℕ) (weights : List ℕ) (b q : ℕ) (long : length u ≡ 64) (m : IsMultiple u weights) (below : (p : ℕ) → 1 ≤ p → magnitude u p < 2 ^ d) (deep : nat_lt b d ≡ true) where
   module _ (p : ℕ) (first : 1 ≤ p) (last : p < 64) (x : Bool) (reached : 2 ^ (b + 1) ≤ magnitude u p) (is_coded : coded weights b p ≡ true) where
@@ -160,8 +156,7 @@ module _ (u : List ℤ) (d : ℕ) (weights : List ℕ) (b q : ℕ) (long : lengt
     alike = record { above = acs_above u v b above (b + 1) (omega arith); first = m; second = multiple }
 
     reached_is : significant u (b + 1) p ≡ true
-    unfolding significant
-    reached_is = grind (arith, nat_tests)
+    reached_is = simp significant-is (grind (arith, nat_tests))
 
     here_same : significant u b p ≡ significant v b p
     here_same = still_significant u b p reached_is ∙ sym (still_significant v b p (sym (acs_above u v b above (b + 1) (omega arith) p (first, last)) ∙ reached_is))
@@ -183,8 +178,8 @@ module _ (u : List ℤ) (d : ℕ) (weights : List ℕ) (b q : ℕ) (long : lengt
     bit_new = ap (λ y. bit (unsigned_abs y) b) new ∙ ap (λ n. bit n b) z_size ∙ size_bit (magnitude u p) b (digit x) (digit_small x) ∙ digit_back x
 
     sends_new : sends v weights b p ≡ step free (bit_at p) (Bit x) ∷ []
-    unfolding sends significant
-    sends_new = grind (arith, nat_tests, v, reached_new, bit_new)
+    unfolding sends
+    sends_new = grind (arith, nat_tests, significant-is, v, reached_new, bit_new)
 
     sends_other : (i : ℕ) → (i ≡ p → ⊥) → sends u weights b i ≡ sends v weights b i
     unfolding sends

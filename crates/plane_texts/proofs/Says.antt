@@ -1,6 +1,5 @@
 -- What a block's steps report is what their entries say of the block.
-use Rattle.std.proofs.Common.{◌≡◌, ℕ, zero, suc, ◌+◌, ◌≤◌, Bool, true, false, cond, List, [], ◌∷◌, map, refl, arith, ℤ, pos, get_or}
-use Rattle.std.specs.Prelude.{filter, nat_lt, not, ◌&&◌}
+use Rattle.std.proofs.Common.{◌≡◌, ℕ, zero, suc, ◌+◌, ◌≤◌, Bool, true, false, cond, List, [], ◌∷◌, map, refl, arith, ℤ, pos, get_or, filter, nat_lt, not, ◌&&◌}
 use Rattle.std.specs.List.{flat_map, AllByRecursion}
 use Rattle.std.proofs.lemmas.Bool.Decides.{nat_tests}
 use Rattle.item_defs.specs.Bits.{bit}
@@ -15,6 +14,7 @@ use Rattle.plane_defs.specs.Entries.{twos_bit, negative, word, flags, significan
 use Rattle.plane_defs.specs.Steps.{Check, free, Told, flags_alone, types_at, sign_at, bit_at, Step, step, some_one_where, is_new, typed_steps, dc_steps, children_check, children_steps, quads_steps, grandchildren_steps, refinement_steps, block_steps}
 use Rattle.plane_defs.proofs.Above.{all_append, all_span, all_zip}
 use Rattle.plane_defs.proofs.Alike.{all_filter}
+use Rattle.plane_defs.proofs.Equations.{type_due-is, dc_stage, parents_stage, children_stage, grandchildren_stage, refinement_stage}
 
 -- a number's bit of the plane
 abbrev pub bit_there : List ℤ → ℕ → ℕ → Bool
@@ -63,8 +63,7 @@ not_above a b e = grind (arith, nat_tests)
 
 module _ (block : List ℤ) (weights : List ℕ) (plane : ℕ) where
   due_typed : (p : ℕ) → 1 ≤ p → type_due block weights plane p ≡ true → IsTyped block plane p
-  unfolding type_due
-  due_typed p first due = (first, not_above (significant block (plane + 1) p) (coded weights plane p) due)
+  due_typed p first due = grind (arith, nat_tests, type_due-is, not_above)
 
   typed_say : (check : Check) (ps : List ℕ) → AllByRecursion (λ p. 1 ≤ p) ps → AllSay block plane (typed_steps block weights plane check ps)
   typed_say check ps acs = (
@@ -107,9 +106,8 @@ sent_say block plane true steps all = all
 sent_say block plane false steps all = tt
 
 pub steps_say : (stage : Stage) (block : List ℤ) (d : ℕ) (weights : List ℕ) (plane q : ℕ) → AllSay block plane (block_steps stage block d weights plane q)
-unfolding block_steps
-steps_say stages.DcBits block d weights plane q = dc_say block weights plane q
-steps_say stages.Parents block d weights plane q = sent_say block plane (nat_lt plane d) _ (span_typed block weights plane free 1 3 (omega arith))
-steps_say stages.Children block d weights plane q = sent_say block plane (nat_lt plane d) _ (children_say block weights plane)
-steps_say stages.Grandchildren block d weights plane q = sent_say block plane (nat_lt plane d) _ (grandchildren_say block weights plane)
-steps_say stages.Refinement block d weights plane q = sent_say block plane (nat_lt plane d) _ (refinement_say block weights plane)
+steps_say stages.DcBits block d weights plane q = simp dc_stage (dc_say block weights plane q)
+steps_say stages.Parents block d weights plane q = simp parents_stage (sent_say block plane (nat_lt plane d) _ (span_typed block weights plane free 1 3 (omega arith)))
+steps_say stages.Children block d weights plane q = simp children_stage (sent_say block plane (nat_lt plane d) _ (children_say block weights plane))
+steps_say stages.Grandchildren block d weights plane q = simp grandchildren_stage (sent_say block plane (nat_lt plane d) _ (grandchildren_say block weights plane))
+steps_say stages.Refinement block d weights plane q = simp refinement_stage (sent_say block plane (nat_lt plane d) _ (refinement_say block weights plane))

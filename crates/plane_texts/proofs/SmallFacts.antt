@@ -1,10 +1,7 @@
 -- Tests on numbers, and lists under a test.
-use Rattle.std.proofs.Common.{◌≡◌, ℕ, ◌<◌, ◌≤◌, Bool, true, false, List, [], length, set, get_or, refl, ap, sym, ◌∙◌, subst, arith}
-use Rattle.std.specs.Prelude.{nat_lt, ◌==◌, ◌||◌}
-use Rattle.std.proofs.lemmas.Bool.{leb-true, ltb-true, le-leb, eqb-true, eqb-false, ne_eqb, and_parts}
+use Rattle.std.proofs.Common.{◌≡◌, ℕ, ◌<◌, ◌≤◌, Bool, true, false, List, length, set, get_or, refl, ap, sym, ◌∙◌, subst, arith, nat_lt, ◌==◌, ◌||◌, get_or-set_same, get_or-set_other}
+use Rattle.std.proofs.lemmas.Bool.{eqb-true, eqb-false}
 use Rattle.std.proofs.lemmas.Bool.Decides.{nat_tests}
-use Rattle.std.proofs.lemmas.List.{get_or-set_same, get_or-set_other}
-use Rattle.plane_defs.proofs.Chosen.{equal_self}
 
 -- ---- tests
 

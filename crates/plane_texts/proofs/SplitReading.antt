@@ -1,8 +1,6 @@
 -- What a reading gives of the blocks if it has reached one block of a stage: all that precedes, the whole steps of this block,
 -- and nothing of what follows.
-use Rattle.std.proofs.Common.{◌≡◌, ℕ, zero, suc, ◌+◌, ◌-◌, ◌*◌, ◌/◌, ◌<◌, ◌≤◌, inl, inr, List, [], ◌++◌, length, ap, sym, ◌∙◌, subst, arith, get_or, zero-add}
-use Rattle.std.specs.Prelude.{◌||◌}
-use Rattle.std.specs.List.{flat_map}
+use Rattle.std.proofs.Common.{◌≡◌, ℕ, zero, suc, ◌+◌, ◌-◌, ◌*◌, ◌/◌, ◌<◌, ◌≤◌, inl, inr, List, [], ◌++◌, length, ap, sym, ◌∙◌, subst, arith, get_or, zero-add, ◌||◌, flat_map}
 use Rattle.std.proofs.lemmas.Bool.{cases_lt}
 use Rattle.std.proofs.lemmas.List.Folds.{list_any-append}
 use Rattle.std.proofs.Math.Bool.{or-false}

@@ -1,6 +1,5 @@
 -- Parts of a stage that are the same in two blocks.
-use Rattle.std.proofs.Common.{◌≡◌, ℕ, ◌+◌, ◌<◌, ◌≤◌, Bool, true, false, cond, List, [], ◌∷◌, ◌++◌, refl, ap, sym, ◌∙◌, arith, ℤ, pos, get_or}
-use Rattle.std.specs.Prelude.{map, filter}
+use Rattle.std.proofs.Common.{◌≡◌, ℕ, ◌+◌, ◌<◌, ◌≤◌, Bool, true, false, cond, List, [], ◌∷◌, ◌++◌, refl, ap, sym, ◌∙◌, arith, ℤ, pos, get_or, map, filter}
 use Rattle.std.specs.List.{flat_map, AllByRecursion}
 use Rattle.std.proofs.lemmas.Bool.Decides.{nat_tests}
 use Rattle.plane_defs.proofs.Seen.{flat_equal, passed, newly_here}
@@ -19,6 +18,7 @@ use Rattle.plane_defs.proofs.ReadingTexts.{map_map}
 use Rattle.plane_defs.proofs.Above.{all_zip, all_span, members_acs, any_alike, due_filter, types_filter, newly_same}
 use Rattle.plane_defs.proofs.AlikeSteps.{all_both}
 use Rattle.plane_defs.proofs.AlikeSteps.{map_equal}
+use Rattle.plane_defs.proofs.Equations.{enclosing-descendants, enclosing-family, enclosing-grandchildren, enclosing-quad, set_significant-is}
 
 -- ---- chosen parts of a list
 
@@ -100,29 +100,25 @@ module _ (u v : List ℤ) (weights : List ℕ) (b : ℕ) (alike : AcsAlike u v w
 
   module _ (descendants : set_significant u b Descendants ≡ set_significant v b Descendants) (families : (i : ℕ) → i < 3 → set_significant u b (Family i) ≡ set_significant v b (Family i)) where
     pub descendants_kept : flags u weights b (Descendants ∷ []) ≡ flags v weights b (Descendants ∷ [])
-    unfolding enclosing_significant
-    descendants_kept = flags_kept (Descendants ∷ []) ((tt, refl, descendants), tt)
+    descendants_kept = flags_kept (Descendants ∷ []) ((tt, enclosing-descendants u b ∙ sym (enclosing-descendants v b), descendants), tt)
 
     pub families_kept : flags u weights b three_families ≡ flags v weights b three_families
-    unfolding enclosing_significant
-    families_kept = flags_kept three_families ((omega arith, descendants, families 0 (omega arith)), ((omega arith, descendants, families 1 (omega arith)), ((omega arith, descendants, families 2 (omega arith)), tt)))
+    families_kept = flags_kept three_families (simp enclosing-family ((omega arith, descendants, families 0 (omega arith)), ((omega arith, descendants, families 1 (omega arith)), ((omega arith, descendants, families 2 (omega arith)), tt))))
 
     pub children_kept : ((p : ℕ) → IsAc p → 4 ≤ p → p < 16 → SeenAt u v b p) → children u weights b ≡ children v weights b
     children_kept seen = grind (arith, nat_tests, parts_kept, typed_kept, span_seen, descendants_kept, families_kept)
 
     module _ (grandchildren_same : (i : ℕ) → i < 3 → set_significant u b (Grandchildren i) ≡ set_significant v b (Grandchildren i)) where
       pub grandchildren_flags_kept : flags u weights b three_grandchildren ≡ flags v weights b three_grandchildren
-      unfolding enclosing_significant
       grandchildren_flags_kept =
           flags_kept three_grandchildren
-          ((omega arith, families 0 (omega arith), grandchildren_same 0 (omega arith)), ((omega arith, families 1 (omega arith), grandchildren_same 1 (omega arith)), ((omega arith, families 2 (omega arith), grandchildren_same 2 (omega arith)), tt)))
+          (simp enclosing-grandchildren ((omega arith, families 0 (omega arith), grandchildren_same 0 (omega arith)), ((omega arith, families 1 (omega arith), grandchildren_same 1 (omega arith)), ((omega arith, families 2 (omega arith), grandchildren_same 2 (omega arith)), tt))))
 
       pub quads_kept : (i : ℕ) → i < 3 → ((j : ℕ) → j < 4 → set_significant u b (Quad i j) ≡ set_significant v b (Quad i j)) → ((p : ℕ) → IsAc p → quad_of i 0 ≤ p → p < quad_of i 0 + 16 → SeenAt u v b p) → quads u weights b i ≡ quads v weights b i
-      unfolding enclosing_significant
       quads_kept i lt same seen =
           let sets : List Set = Quad i 0 ∷ Quad i 1 ∷ Quad i 2 ∷ Quad i 3 ∷ [] in
           let g = grandchildren_same i lt in
-          let first = flags_kept sets (((lt, omega arith), g, same 0 (omega arith)), (((lt, omega arith), g, same 1 (omega arith)), (((lt, omega arith), g, same 2 (omega arith)), (((lt, omega arith), g, same 3 (omega arith)), tt)))) in
+          let first = flags_kept sets (simp enclosing-quad (((lt, omega arith), g, same 0 (omega arith)), (((lt, omega arith), g, same 1 (omega arith)), (((lt, omega arith), g, same 2 (omega arith)), (((lt, omega arith), g, same 3 (omega arith)), tt))))) in
           let second : quads_types u weights b i ≡ quads_types v weights b i =
           parts_kept 0 4 (Quad i) (λ j. typed u weights b (span (quad_of i j) 4)) (λ j. typed v weights b (span (quad_of i j) 4)) (λ j low high. same j (omega arith))
           (λ j low high e. typed_kept (span (quad_of i j) 4) (span_seen (quad_of i j) 4 (omega arith) (omega arith) (λ p ac from to. seen p ac (omega arith) (omega arith)))) in
@@ -130,8 +126,7 @@ module _ (u v : List ℤ) (weights : List ℕ) (b : ℕ) (alike : AcsAlike u v w
 
   -- all sets are the same if all numbers are
   pub sets_seen : ((p : ℕ) → IsAc p → SeenAt u v b p) → (s : Set) → IsKnown s → set_significant u b s ≡ set_significant v b s
-  unfolding set_significant
-  sets_seen seen s known = any_alike (significant u b) (significant v b) (members s) (members_acs s known) (λ p ac. (seen p ac).here)
+  sets_seen seen s known = simp set_significant-is (any_alike (significant u b) (significant v b) (members s) (members_acs s known) (λ p ac. (seen p ac).here))
 
   pub grandchildren_kept : ((p : ℕ) → IsAc p → SeenAt u v b p) → grandchildren u weights b ≡ grandchildren v weights b
   grandchildren_kept seen =

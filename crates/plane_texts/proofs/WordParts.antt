@@ -1,9 +1,7 @@
 -- The bits of a word, spread over the places that are due.
-use Rattle.std.proofs.Common.{◌≡◌, ℕ, zero, suc, ◌+◌, ◌-◌, ◌^◌, ◌<◌, ◌≤◌, Bool, true, false, not, cond, List, [], ◌∷◌, ◌++◌, length, take, map, refl, ap, sym, ◌∙◌, arith, get_or, add-one, length-append, append-nil}
-use Rattle.std.specs.Prelude.{filter, ◌||◌, ◌&&◌}
+use Rattle.std.proofs.Common.{◌≡◌, ℕ, zero, suc, ◌+◌, ◌-◌, ◌^◌, ◌<◌, ◌≤◌, Bool, true, false, not, cond, List, [], ◌∷◌, ◌++◌, length, take, map, refl, ap, sym, ◌∙◌, arith, get_or, add-one, length-append, append-nil, filter, ◌||◌, ◌&&◌, mod-eq_of_lt}
 use Rattle.std.specs.List.{list_any, AllByRecursion}
 use Rattle.std.proofs.lemmas.List.{map-append, take_more, take_all}
-use Rattle.std.proofs.Math.Nat.{mod-eq_of_lt}
 use Rattle.std.proofs.lemmas.Bool.{or_right}
 use Rattle.std.proofs.lemmas.Bool.Decides.{nat_tests}
 use Rattle.item_defs.specs.Bits.{bits_of, copies}
@@ -13,6 +11,8 @@ use Rattle.plane_defs.specs.Spans.{span}
 use Rattle.plane_defs.specs.Entries.{word}
 use Rattle.plane_defs.specs.Steps.{lacks_one}
 use Rattle.plane_defs.proofs.SpanLists.{filter-span-suc}
+use Rattle.plane_defs.proofs.Equations.{span-none}
+use Rattle.item_defs.proofs.BitLists.{copies_none, copies-more}
 
 -- the bit that a place has
 pub spread : (start : ℕ) → (due : ℕ → Bool) → (bits : List Bool) → ℕ → Bool
@@ -32,8 +32,7 @@ module _ (start : ℕ) (due : ℕ → Bool) (bits : List Bool) where
   one_more n t e le before = grind (arith, nat_tests, filter_more, length-append, spread, map-append, spread_at, take_more, append-nil)
 
   spread_front : (n : ℕ) → length (filter due (span start n)) ≤ length bits → map (spread start due bits) (filter due (span start n)) ≡ take (length (filter due (span start n))) bits
-  unfolding span
-  spread_front zero le = refl
+  spread_front zero le = simp span-none
   spread_front (suc n) le = one_more n (due (start + n)) refl le (spread_front n)
 
   pub spread_is : (n : ℕ) → length bits ≡ length (filter due (span start n)) → map (spread start due bits) (filter due (span start n)) ≡ bits
@@ -44,10 +43,9 @@ word_is n x lt = grind (arith, nat_tests, value_of-bits_of, mod-eq_of_lt, length
 
 -- a word that is not 0 has a one
 no_one : (bits : List Bool) → list_any (λ b. b) bits ≡ false → bits ≡ copies (length bits) false
-unfolding copies
-no_one [] e = refl
+no_one [] e = simp copies_none
 no_one (true ∷ bits) e = cc
-no_one (false ∷ bits) e = ap (λ l. false ∷ l) (no_one bits e)
+no_one (false ∷ bits) e = simp copies-more (ap (λ l. false ∷ l) (no_one bits e))
 
 pub some_bit : (n x : ℕ) → x < 2 ^ n → (x ≡ 0 → ⊥) → list_any (λ b. b) (bits_of n x) ≡ true
 some_bit n x lt some = by_any (list_any (λ b. b) (bits_of n x)) refl

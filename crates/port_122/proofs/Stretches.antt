@@ -1,10 +1,8 @@
 -- Stretches of calls, one after another.
-use Rattle.std.proofs.Common.{◌≡◌, ◌≤◌, ◌+◌, ℕ, List, [], ◌∷◌, ◌++◌, length, refl, sym, ap, subst, arith, append_assoc, length-append, ◌-◌, take, drop}
-use Rattle.std.specs.Prelude.{Option, None, Some, Result, Ok, Err, IsErr}
+use Rattle.std.proofs.Common.{◌≡◌, ◌≤◌, ◌+◌, ℕ, List, [], ◌∷◌, ◌++◌, length, refl, sym, ap, subst, arith, append_assoc, length-append, ◌-◌, take, drop, Option, None, Some, Result, Ok, Err, IsErr, take-add}
 use Rattle.std.specs.List.{AllByRecursion}
 use Rattle.std.proofs.lemmas.List.{append-nil, take_rest}
 use Rattle.std.proofs.lemmas.Bool.{false≢true}
-use Rattle.std.proofs.Math.Seq.{take-add}
 use Rattle.port_122.specs.Outside.{Outside, IsUsedUp, AtEnd, Grows, Loses, AsksOnly, CountedFrom, Exchange, NoRead, Written, WriteFailed, Noted, NoteFailed, WritesAll, NotesAll, Rose}
 
 -- a reported list grows by nothing

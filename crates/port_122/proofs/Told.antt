@@ -1,7 +1,5 @@
 -- What a port that reports its octets shows of a stretch of calls.
-use Rattle.std.proofs.Common.{◌≡◌, ℕ, List, ◌++◌, sym, ◌∙◌, ap}
-use Rattle.std.specs.Prelude.{Option, Some, None}
-use Rattle.std.proofs.lemmas.List.{append-nil}
+use Rattle.std.proofs.Common.{◌≡◌, ℕ, List, ◌++◌, sym, ◌∙◌, ap, Option, Some, None, append-nil}
 use Rattle.port_122.specs.Outside.{Outside, Exchange, Grows, Loses, IsUsedUp, AtEnd}
 
 grown : (a b : Option (List ℕ)) (xs ys more : List ℕ) → a ≡ Some xs → b ≡ Some ys → Grows a b more → ys ≡ xs ++ more

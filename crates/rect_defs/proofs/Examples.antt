@@ -1,6 +1,5 @@
 -- The rectangles of examples that were calculated by hand.
-use Rattle.std.proofs.Common.{◌≡◌, ℕ, [], ◌∷◌, ◌/◌, refl}
-use Rattle.std.specs.Prelude.{◌==◌, ◌||◌}
+use Rattle.std.proofs.Common.{◌≡◌, ℕ, [], ◌∷◌, ◌/◌, refl, ◌==◌, ◌||◌}
 use Rattle.rect_defs.specs.declared.rect.Rect.{Rect}
 use Rattle.rect_defs.specs.Rects.{rects_before, rects_of}
 

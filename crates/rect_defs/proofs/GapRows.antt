@@ -1,11 +1,9 @@
 -- The runs of missing blocks that begin from a block on, one after another.
-use Rattle.std.proofs.Common.{◌≡◌, ◌⊎◌, inl, inr, ◌≤◌, ◌<◌, ◌+◌, ◌-◌, ◌*◌, ◌/◌, ◌%◌, ℕ, zero, suc, Bool, true, false, List, [], ◌∷◌, ◌++◌, map, sym, ap, subst, ◌∙◌, arith, append_assoc}
-use Rattle.std.specs.Prelude.{cond, ◌==◌, ◌&&◌, ◌||◌, not, max, min, filter}
+use Rattle.std.proofs.Common.{◌≡◌, ◌⊎◌, inl, inr, ◌≤◌, ◌<◌, ◌+◌, ◌-◌, ◌*◌, ◌/◌, ◌%◌, ℕ, zero, suc, Bool, true, false, List, [], ◌∷◌, ◌++◌, map, sym, ap, subst, ◌∙◌, arith, append_assoc, cond, ◌==◌, ◌&&◌, ◌||◌, not, max, min, filter, mul-le-mul_right}
 use Rattle.std.specs.List.{range_with_len, prefix_len}
 use Rattle.std.proofs.lemmas.Bool.{cases_lt, false≢true, and_from}
 use Rattle.std.proofs.lemmas.Bool.Decides.{nat_tests}
 use Rattle.std.proofs.lemmas.Nat.{div-add-mod', mod_below, div-mul-add, mod-mul-add}
-use Rattle.std.proofs.Math.Nat.{mul-le-mul_right}
 use Rattle.std.proofs.Math.Bool.{and-false}
 use Rattle.base_122.specs.Sizes.{block_count}
 use Rattle.rect_defs.specs.declared.gap.Gap.{Gap}
@@ -138,10 +136,6 @@ module _ (rows width : ℕ) (lost : ℕ → Bool) (m : ℕ) (some : 0 < width) w
 
   last_high : (gap : Gap) → gap.last < (gap.last / c + 1) * c
   last_high gap = grind (arith, nat_tests, div-add-mod', mod_below, wide, next_row)
-
-  -- the last block of the part
-  last_in : (gap : Gap) (r : ℕ) → ℕ
-  last_in gap r = min gap.last (r * c + c - 1)
 
   joined_one : (x : Rect) (ys : List Rect) (rest : List Rect) → kept (x ∷ []) ++ (kept ys ++ rest) ≡ kept (x ∷ ys) ++ rest
   joined_one x ys rest = sym (append_assoc (kept (x ∷ [])) (kept ys) rest) ∙ ap (λ zs. zs ++ rest) (sym (one_more (has_pixels rows width x) x (kept ys)))

@@ -1,22 +1,21 @@
 -- The rectangles have exactly the pixels that missing blocks reach.
-use Rattle.std.proofs.Common.{◌≡◌, ◌≤◌, ◌<◌, ◌+◌, ◌-◌, ◌*◌, ◌/◌, ◌%◌, ℕ, Bool, true, false, List, sym, ap, subst, ◌∙◌, refl, arith}
-use Rattle.std.specs.Prelude.{ℤ, ◌==◌, ◌&&◌, ◌||◌, not, nat_le, nat_lt, min, Option}
+use Rattle.std.proofs.Common.{◌≡◌, ◌≤◌, ◌<◌, ◌+◌, ◌-◌, ◌*◌, ◌/◌, ◌%◌, ℕ, Bool, true, false, List, sym, ap, subst, ◌∙◌, refl, arith, ℤ, ◌==◌, ◌&&◌, ◌||◌, not, nat_le, nat_lt, min, Option, mul-le-mul_right}
 use Rattle.std.specs.List.{range_with_len, list_any}
 use Rattle.std.proofs.lemmas.Bool.{false≢true, and_from, leb-true, le-leb, lt-ltb}
 use Rattle.std.proofs.lemmas.Nat.{div-add-mod', mod_below, div_below}
-use Rattle.std.proofs.Math.Nat.{mul-le-mul_right}
 use Rattle.std.proofs.lemmas.Bool.Decides.{nat_tests}
 use Rattle.base_122.specs.Sizes.{block_count}
 use Rattle.base_122.specs.declared.geometry.Geometry.{Geometry}
 use Rattle.wave_defs.specs.Reach.{reaches}
 use Rattle.stream_defs.specs.Begun.{block_rows, height}
-use Rattle.stream_defs.specs.Damage.{damage, is_covered, is_damaged, is_missing, missing_below, missing_rows}
+use Rattle.stream_defs.specs.Damage.{damage, is_covered, is_damaged, is_missing, missing_rows}
 use Rattle.stream_defs.proofs.DamageLaws.{whole_damage}
 use Rattle.rect_defs.specs.declared.rect.Rect.{Rect}
 use Rattle.rect_defs.specs.Rects.{begins_run, run_length, reach_of, rect_from, has_pixels, rects_before, rects_of, rects, is_lost}
 use Rattle.rect_defs.specs.RectLaws.{has_pixel, has_some, is_reached}
 use Rattle.rect_defs.proofs.Tests.{and_first, and_second, same_tests, any_map, any_filter, Hit, any_some, any_hit, prefix_least, prefix_most, prefix_all}
 use Rattle.rect_defs.proofs.Runs.{in_row, run_of, run_long}
+use Rattle.stream_defs.proofs.Equations.{missing_below-is}
 
 -- ---- the reach of columns c to d of block row r
 
@@ -165,7 +164,6 @@ module _ (g : Geometry) (received : ℕ → Option (List (List ℤ))) (n i j : �
 
   -- a missing block's row is damaged if the block reaches it
   damaged : Hit lost_reaches 0 (height_in * width_in) → is_damaged (height g n) (missing_rows g received n) i ≡ true
-  unfolding missing_below
   damaged h =
       let b = h.place in
       let t = b / width_in in
@@ -177,7 +175,8 @@ module _ (g : Geometry) (received : ℕ → Option (List (List ℤ))) (n i j : �
       let low : t < height_in = div_below b width_in height_in wide (omega (arith, h.most)) in
       let missing : is_missing g received t ≡ true = any_hit (λ column. is_lost g received (t * width_in + column)) 0 width_in s (omega arith) (omega (arith, mod_below b width_in wide)) (ap (is_lost g received) whole ∙ e) in
       and_from (nat_lt i (height g n)) (list_any (λ r. reaches r i) (missing_rows g received n)) (lt-ltb i (height g n) inside)
-      (any_filter (λ r. reaches r i) (is_missing g received) (range_with_len 0 height_in)
+      (ap (list_any (λ r. reaches r i)) (missing_below-is g received height_in)
+      ∙ any_filter (λ r. reaches r i) (is_missing g received) (range_with_len 0 height_in)
       ∙ any_hit (λ r. is_missing g received r && reaches r i) 0 height_in t (omega arith) (omega (arith, low)) (and_from (is_missing g received t) (reaches t i) missing row))
 
   pub undamaged : is_covered (damage g received n) i ≡ false → has_some (rects g received n) i j ≡ false

@@ -1,10 +1,8 @@
 -- No pixel outside the rectangles depends on what was lost.
-use Rattle.std.proofs.Common.{◌≡◌, ◌≤◌, ◌<◌, ◌+◌, ◌-◌, ◌*◌, ◌/◌, ◌%◌, ℕ, ℤ, Bool, true, false, List, inl, inr, refl, sym, ap, ◌∙◌, arith}
-use Rattle.std.specs.Prelude.{◌&&◌, ◌||◌, not, nat_le, Option, is_some}
+use Rattle.std.proofs.Common.{◌≡◌, ◌≤◌, ◌<◌, ◌+◌, ◌-◌, ◌*◌, ◌/◌, ◌%◌, ℕ, ℤ, Bool, true, false, List, inl, inr, refl, sym, ap, ◌∙◌, arith, ◌&&◌, ◌||◌, not, nat_le, Option, is_some, mul-le-mul_right}
 use Rattle.std.proofs.lemmas.Bool.{false≢true, or_parts, and_from, leb-true}
 use Rattle.std.proofs.lemmas.Bool.Decides.{nat_tests}
 use Rattle.std.proofs.lemmas.Nat.{div-mul-add, mod-mul-add}
-use Rattle.std.proofs.Math.Nat.{mul-le-mul_right}
 use Rattle.base_122.specs.Sizes.{block_count}
 use Rattle.base_122.specs.Ranges.{IsGeometryInRange}
 use Rattle.base_122.specs.declared.geometry.Geometry.{Geometry}
@@ -14,13 +12,14 @@ use Rattle.wave_defs.specs.Reach.{reaches, Reaches, SameReceived}
 use Rattle.wave_defs.specs.Pyramid.{Pyramid}
 use Rattle.wave_defs.proofs.ReachLaws.{blocks-reach}
 use Rattle.stream_defs.specs.Begun.{band_rows, block_rows, height}
-use Rattle.stream_defs.specs.Picture.{picture_of, picture_with, pyramid_with}
+use Rattle.stream_defs.specs.Picture.{picture_with, pyramid_with}
 use Rattle.stream_defs.proofs.BandPlaces.{same_block}
 use Rattle.stream_defs.proofs.PlacedLaws.{is_open, is_not_open, within_not}
 use Rattle.rect_defs.specs.Rects.{rects, is_lost}
 use Rattle.rect_defs.specs.RectLaws.{has_some, SameWhereReceived, SameOutsideRects}
 use Rattle.rect_defs.proofs.Tests.{and_first, any_hit}
 use Rattle.rect_defs.proofs.RectCovers.{covers}
+use Rattle.stream_defs.proofs.Equations.{picture_of-is}
 
 -- How many block rows the bands have, and which of them can't be seen: those after the first block rows are below all rows that are given.
 record AreTall (g : Geometry) (n : ℕ) : Type 0 where
@@ -102,12 +101,11 @@ module _ (g : Geometry) (received : ℕ → Option (List (List ℤ))) (n : ℕ) 
           false≢true (sym none ∙ covers (height g n) g.width r (is_lost g received) i j inside across ∙ hit)
 
   pub stays : SameOutsideRects (height g n) g.width (rects g received n) (picture_with g p n) (picture_with g q n)
-  unfolding picture_of
   stays = record {
     at = λ i j inside across none.
         let tall = are_tall g n range in
         let wide = three-le-block_count g.width range.width.0 in
-        ap (clamped g.depth g.signed)
+        simp picture_of-is (ap (clamped g.depth g.signed)
         (blocks-reach (bands p) (bands q) free (band_rows g n) c i j tall.some (omega (arith, wide)) (omega (arith, inside, tall.rows)) (omega (arith, across)) same_received
-        (λ t s under few gone row column. unreached i j t s inside across none under few gone row column));
+        (λ t s under few gone row column. unreached i j t s inside across none under few gone row column)));
   }

@@ -1,8 +1,7 @@
 -- Tests over lists of numbers.
-use Rattle.std.proofs.Common.{◌≡◌, ◌≤◌, ◌<◌, ◌+◌, ℕ, zero, suc, Bool, true, false, List, [], ◌∷◌, map, refl, sym, ap, ◌∙◌, inl, inr, arith}
-use Rattle.std.specs.Prelude.{cond, ◌&&◌, ◌||◌, filter}
+use Rattle.std.proofs.Common.{◌≡◌, ◌≤◌, ◌<◌, ◌+◌, ℕ, zero, suc, Bool, true, false, List, [], ◌∷◌, map, refl, sym, ap, ◌∙◌, inl, inr, arith, cond, ◌&&◌, ◌||◌, filter}
 use Rattle.std.specs.List.{range_with_len, list_any, prefix_len}
-use Rattle.std.proofs.lemmas.Bool.{cases_lt, false≢true, and_from, leb-true, le-leb, lt-ltb, or_right, or_left}
+use Rattle.std.proofs.lemmas.Bool.{cases_lt, false≢true, or_right, or_left}
 use Rattle.std.proofs.lemmas.List.FromFn.{length-range_with_len, get_or-range_with_len}
 use Rattle.std.proofs.lemmas.List.Sums.{prefix_len-le-length, prefix_len_passes}
 use Rattle.std.proofs.lemmas.Bool.Decides.{nat_tests}

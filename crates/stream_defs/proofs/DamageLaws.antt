@@ -1,6 +1,5 @@
 -- The ranges of damaged rows cover exactly these, and have a row between them.
-use Rattle.std.proofs.Common.{◌≡◌, inl, inr, ◌≤◌, ◌<◌, ◌+◌, ◌-◌, ℕ, zero, suc, List, [], ◌∷◌, length, map, refl, sym, ap, subst, ◌∙◌, arith}
-use Rattle.std.specs.Prelude.{Bool, true, false, ◌==◌, ◌&&◌, ◌||◌, not, nat_le, nat_lt, filter, take_while}
+use Rattle.std.proofs.Common.{◌≡◌, inl, inr, ◌≤◌, ◌<◌, ◌+◌, ◌-◌, ℕ, zero, suc, List, [], ◌∷◌, length, map, refl, sym, ap, subst, ◌∙◌, arith, Bool, true, false, ◌==◌, ◌&&◌, ◌||◌, not, nat_le, nat_lt, filter, take_while}
 use Rattle.std.specs.List.{range_with_len}
 use Rattle.std.proofs.lemmas.Bool.{cases_lt, or_left, and_left}
 use Rattle.std.proofs.lemmas.Bool.Decides.{nat_tests}
@@ -27,9 +26,6 @@ apart_earlier m n [] le a = tt
 apart_earlier m n (r ∷ rs) le a = let low = a.0 in ((omega (arith, low, le)), a.1, a.2)
 
 module _ (rows : ℕ) (missing : List ℕ) where
-  d : ℕ → Bool
-  d row = is_damaged rows missing row
-
   -- the ranges that begin among n rows from a on
   some_ranges : (a n : ℕ) → List RowRange
   some_ranges a n = map (range_from rows missing) (filter (begins_range rows missing) (range_with_len a n))

@@ -1,7 +1,5 @@
 -- The definitions at examples that were calculated by hand.
-use Rattle.std.proofs.Common.{◌≡◌, ◌*◌, ℕ, List, [], ◌∷◌, ◌++◌, refl, take, drop}
-use Rattle.std.specs.Prelude.{None, Some, map}
-use Rattle.std.specs.Option.{option_map}
+use Rattle.std.proofs.Common.{◌≡◌, ◌*◌, ℕ, List, [], ◌∷◌, ◌++◌, refl, take, drop, None, Some, map, option_map}
 use Rattle.std.specs.List.{range_with_len}
 use Rattle.base_122.specs.declared.geometry.Geometry.{Geometry}
 use Rattle.base_122.specs.declared.setting.Setting.{Setting}
@@ -37,15 +35,19 @@ black = (0x08 ∷ 0x64 ∷ 0xC0 ∷ 0 ∷ 0 ∷ 0x2D ∷ []) ++ (ancillary 0 17 
 abbrev changed : (a b flags image rows first t u pads blocks : ℕ) → List ℕ
 changed a b flags image rows first t u pads blocks = (a ∷ b ∷ flags ∷ 0 ∷ 0 ∷ 0x2D ∷ []) ++ (ancillary image rows first ++ text t u pads blocks)
 
-kept_once : fates 100 fresh (black ∷ black ∷ changed 0x08 0x64 0xC0 1 17 0 0xC0 0x02 0xE0 0x9C ∷ changed 0x0F 0xFF 0xC0 0 17 0 0xC0 0x02 0xE0 0x9C ∷ [])
-    ≡ Kept ∷ Late ∷ Foreign ∷ Skipped skips.Idle ∷ []
-unfolding fates fate after skip_of head_read presence_tests support_tests depth_tests value_tests number_in disagreement value_of bits_of_octets bits_of
-kept_once = refl
-
 alone : List ℕ → Fate
 alone packet = fate 100 fresh packet
 
-refusals : map alone (
+-- the same image with its height reported last: its only head reports it
+told_last : (blocks pads : ℕ) → List ℕ
+told_last blocks pads =
+    (0x08 ∷ 0x64 ∷ 0xC0 ∷ 0 ∷ 0 ∷ 0x2D ∷ []) ++ (0x12 ∷ 0x21 ∷ drop 2 (ancillary 0 0 0) ++ text 0xC0 0x02 pads blocks)
+
+-- A packet is kept once. Packets that are skipped, foreign, out of place or have a bad head. With the other mark the padding rows are not
+-- tested, but the height has to be in range, and a packet has no rows in its ancillary data.
+fates_compute : (fates 100 fresh (black ∷ black ∷ changed 0x08 0x64 0xC0 1 17 0 0xC0 0x02 0xE0 0x9C ∷ changed 0x0F 0xFF 0xC0 0 17 0 0xC0 0x02 0xE0 0x9C ∷ [])
+    ≡ Kept ∷ Late ∷ Foreign ∷ Skipped skips.Idle ∷ [])
+    × (map alone (
     changed 0x18 0x64 0xC0 0 17 0 0xC0 0x02 0xE0 0x9C
     ∷ changed 0x00 0x64 0xC0 0 17 0 0xC0 0x02 0xE0 0x9C
     ∷ changed 0x08 0x64 0xC0 0 16 0 0xC0 0x02 0xE0 0x9C
@@ -57,22 +59,13 @@ refusals : map alone (
     ∷ changed 0x08 0x64 0xC0 0 17 0 0xC0 0x02 0xC0 0x9C
     ∷ [])
     ≡ Skipped skips.NotTelemetry ∷ Skipped skips.NoSecondary ∷ Foreign ∷ Foreign ∷ OutOfPlace ∷ BadHead (BadValue fields.First) ∷ BadHead (BadValue fields.Count)
-    ∷ BadHead (BadValue fields.Blocks) ∷ BadHead (BadValue fields.PadRows) ∷ []
-unfolding alone fate skip_of head_read presence_tests support_tests depth_tests value_tests number_in disagreement value_of bits_of_octets bits_of
-refusals = refl
-
--- the same image with its height reported last: its only head reports it
-told_last : (blocks pads : ℕ) → List ℕ
-told_last blocks pads =
-    (0x08 ∷ 0x64 ∷ 0xC0 ∷ 0 ∷ 0 ∷ 0x2D ∷ []) ++ (0x12 ∷ 0x21 ∷ drop 2 (ancillary 0 0 0) ++ text 0xC0 0x02 pads blocks)
-
--- The padding rows are not tested, but the height has to be in range. A packet with this mark has no rows in its ancillary data.
-height_told : (fates 100 fresh (told_last 0x9C 0xE0 ∷ black ∷ []) ≡ Kept ∷ Foreign ∷ [])
+    ∷ BadHead (BadValue fields.Blocks) ∷ BadHead (BadValue fields.PadRows) ∷ [])
+    × (fates 100 fresh (told_last 0x9C 0xE0 ∷ black ∷ []) ≡ Kept ∷ Foreign ∷ [])
     × (map (λ packet. option_map (λ (g : Geometry). g.rows) (after 100 fresh packet).geometry) (told_last 0x9C 0xE0 ∷ told_last 0x9C 0xC0 ∷ []) ≡ Some 17 ∷ Some 18 ∷ [])
     × (alone (told_last 0x8C 0xE0) ≡ BadHead (BadValue fields.Last))
     × (alone (changed 0x08 0x64 0xC0 0 0 0 0xC0 0x02 0xE0 0x9C) ≡ Foreign)
 unfolding told_last alone fates fate after skip_of head_read presence_tests support_tests depth_tests value_tests number_in disagreement value_of bits_of_octets bits_of
-height_told = (refl, refl, refl, refl)
+fates_compute = (refl, refl, refl, refl, refl, refl)
 
 -- the shares of 400 octets for eight texts of 21 octets each
 evenly : Setting → (i : ℕ) → ℕ

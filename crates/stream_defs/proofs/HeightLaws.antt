@@ -1,9 +1,7 @@
 -- Images of one setting, of the same height or not, whose first rows agree: the packets of the segments that these settle are the same.
-use Rattle.std.proofs.Common.{◌≡◌, ◌⊎◌, inl, inr, ◌≤◌, ◌<◌, ◌+◌, ◌-◌, ◌*◌, ◌/◌, ◌%◌, ℕ, zero, suc, ℤ, List, [], ◌++◌, length, take, drop, refl, sym, ap, subst, ◌∙◌, arith, get_or, length-take, length-drop}
-use Rattle.std.specs.Prelude.{true, false, ◌==◌, nat_lt}
+use Rattle.std.proofs.Common.{◌≡◌, ◌⊎◌, inl, inr, ◌≤◌, ◌<◌, ◌+◌, ◌-◌, ◌*◌, ◌/◌, ◌%◌, ℕ, zero, suc, ℤ, List, [], ◌++◌, length, take, drop, refl, sym, ap, subst, ◌∙◌, arith, get_or, length-take, length-drop, true, false, ◌==◌, nat_lt, ext_get_or, get_or-take, get_or-drop}
 use Rattle.std.proofs.lemmas.Bool.{cases_lt}
 use Rattle.std.proofs.lemmas.Bool.Decides.{nat_tests}
-use Rattle.std.proofs.lemmas.List.{ext_get_or, get_or-take, get_or-drop}
 use Rattle.std.proofs.Math.Nat.{lt-div-mul-add, mul-le-mul_right, mul-le-mul_left}
 use Rattle.wave_defs.specs.Held.{SameWithin}
 use Rattle.wave_defs.specs.Reach.{SameBlock}

@@ -1,16 +1,14 @@
 -- The first rows of a picture, whatever the height, and how the blocks that aren't received change them.
-use Rattle.std.proofs.Common.{◌≡◌, ◌≤◌, ◌<◌, ◌+◌, ◌-◌, ◌*◌, ℕ, zero, suc, ℤ, List, map, ◌++◌, refl, ap, ◌∙◌, arith}
-use Rattle.std.specs.Prelude.{Option}
+use Rattle.std.proofs.Common.{◌≡◌, ◌≤◌, ◌<◌, ◌+◌, ◌-◌, ◌*◌, ℕ, zero, suc, ℤ, List, map, ◌++◌, refl, ap, ◌∙◌, arith, Option}
 use Rattle.std.specs.List.{range_with_len, flat_map}
 use Rattle.std.proofs.lemmas.Bool.Decides.{nat_tests}
 use Rattle.base_122.specs.Sizes.{block_count}
-use Rattle.base_122.specs.Ranges.{IsWithin, rows_range}
 use Rattle.base_122.specs.declared.geometry.Geometry.{Geometry}
 use Rattle.raster_rows.specs.Pixels.{raster_octets, pixel_octets}
 use Rattle.wave_defs.proofs.ReachLaws.{rising-reach}
 use Rattle.stream_defs.specs.Begun.{band_rows, placed, placed_rows}
 use Rattle.stream_defs.specs.Picture.{number_at, picture_of, picture_with, whole_with}
-use Rattle.stream_defs.proofs.PlacedLaws.{is_open, placed_open}
+use Rattle.stream_defs.proofs.PlacedLaws.{is_open}
 
 -- ---- octets
 
@@ -65,7 +63,3 @@ module _ (g : Geometry) (numbers : ℕ → ℕ → ℤ) (untold : g.rows ≡ 0) 
 
   pub placed_octets : n ≤ block_count (placed_rows g) → raster_octets g.depth k g.width (whole_with (placed g) numbers) ≡ raster_octets g.depth k g.width (picture_with g numbers n)
   placed_octets few = raster_same g.depth k g.width (whole_with (placed g) numbers) (picture_with g numbers n) (placed_pixels few)
-
-  -- and those of the image, once it is
-  pub sized_pixels : (rows : ℕ) → IsWithin rows_range rows → n ≤ block_count rows → (i j : ℕ) → i < k → j < g.width → whole_with (placed g) numbers i j ≡ whole_with (record g { rows = rows }) numbers i j
-  sized_pixels rows within few i j row column = grind (arith, nat_tests, placed_open, sized_same, heights_alike)

@@ -1,11 +1,9 @@
 -- The first rows of an image determine the packets of the segments that they settle.
-use Rattle.std.proofs.Common.{◌≡◌, ◌≤◌, ◌<◌, ◌+◌, ◌-◌, ◌*◌, ◌/◌, ◌%◌, ℕ, zero, suc, ℤ, List, [], length, refl, sym, subst, ◌∙◌, arith, min, get_or}
-use Rattle.std.specs.Prelude.{Bool, true, false, ◌==◌, cond}
+use Rattle.std.proofs.Common.{◌≡◌, ◌≤◌, ◌<◌, ◌+◌, ◌-◌, ◌*◌, ◌/◌, ◌%◌, ℕ, zero, suc, ℤ, List, [], length, refl, sym, subst, ◌∙◌, arith, min, get_or, Bool, true, false, ◌==◌, cond, div-lt_iff_lt-mul}
 use Rattle.std.specs.List.{count_by, range_with_len}
 use Rattle.std.proofs.lemmas.Bool.Decides.{nat_tests}
 use Rattle.std.proofs.lemmas.List.{same_lists}
 use Rattle.std.proofs.lemmas.List.Sums.{sum_by-cons}
-use Rattle.std.proofs.Math.Nat.{div-lt_iff_lt-mul}
 use Rattle.wave_defs.specs.Held.{SameWithin}
 use Rattle.wave_defs.specs.Pyramid.{padded, pyramid}
 use Rattle.wave_defs.specs.Blocks.{block}

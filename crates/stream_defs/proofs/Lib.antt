@@ -1,3 +1,4 @@
+pub mod Equations
 pub mod Outputs
 mod Examples
 pub mod OutPackets

@@ -1,10 +1,8 @@
 -- No pixel of the first rows outside the damage depends on what was lost, while the height isn't reported.
-use Rattle.std.proofs.Common.{◌≡◌, inl, inr, ◌≤◌, ◌<◌, ◌+◌, ◌-◌, ◌*◌, ◌/◌, ℕ, zero, suc, ℤ, List, ◌∷◌, refl, sym, ap, ◌∙◌, arith}
-use Rattle.std.specs.Prelude.{Bool, true, false, ◌||◌, not, nat_le, nat_lt, if◌then◌else◌, Option, is_some, filter}
+use Rattle.std.proofs.Common.{◌≡◌, inl, inr, ◌≤◌, ◌<◌, ◌+◌, ◌-◌, ◌*◌, ◌/◌, ℕ, zero, suc, ℤ, List, ◌∷◌, refl, sym, ap, ◌∙◌, arith, Bool, true, false, ◌||◌, not, nat_le, nat_lt, if◌then◌else◌, Option, is_some, filter, mul-le-mul_right}
 use Rattle.std.specs.List.{range_with_len, list_any}
 use Rattle.std.proofs.lemmas.Bool.{false≢true, cases_lt, or_right, and_from, or_parts}
 use Rattle.std.proofs.lemmas.Bool.Decides.{nat_tests}
-use Rattle.std.proofs.Math.Nat.{mul-le-mul_right}
 use Rattle.base_122.specs.Sizes.{block_count}
 use Rattle.base_122.specs.declared.geometry.Geometry.{Geometry}
 use Rattle.raster_rows.specs.Pixels.{clamped}

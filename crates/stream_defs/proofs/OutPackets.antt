@@ -1,7 +1,5 @@
 -- The fields of a packet of an image, by its place.
-use Rattle.std.proofs.Common.{◌≡◌, ◌≤◌, ◌<◌, ◌+◌, ◌-◌, ◌*◌, ◌^◌, ℕ, ℤ, List, length, drop, ap, ◌∙◌, arith, length-take}
-use Rattle.std.specs.Prelude.{Bool, ◌==◌, if◌then◌else◌}
-use Rattle.std.proofs.Math.Nat.{div-mul-le_self, mul-le-mul_left, mul-le-mul_right}
+use Rattle.std.proofs.Common.{◌≡◌, ◌≤◌, ◌<◌, ◌+◌, ◌*◌, ◌^◌, ℕ, ℤ, List, length, drop, ap, ◌∙◌, arith, length-take, Bool, ◌==◌, if◌then◌else◌, div-mul-le_self, mul-le-mul_left, mul-le-mul_right}
 use Rattle.std.proofs.lemmas.Bool.Decides.{nat_tests}
 use Rattle.base_122.specs.Ranges.{IsWithin, rows_range}
 use Rattle.base_122.specs.Sizes.{total_blocks}
@@ -27,7 +25,7 @@ flags_say first last = grind (arith, nat_tests)
 flags_close : (first last : Bool) → closes ((if first then 1 else 0) + (if last then 2 else 0)) ≡ last
 flags_close first last = grind (arith, nat_tests)
 
-flags_few : (first last : Bool) → (if first then 1 else 0) + (if last then 2 else 0) < 4
+pub flags_few : (first last : Bool) → (if first then 1 else 0) + (if last then 2 else 0) < 4
 flags_few first last = grind (arith, nat_tests)
 
 -- there are no more parts than octets

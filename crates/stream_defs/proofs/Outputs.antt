@@ -1,6 +1,5 @@
 -- The packets of an image, segment by segment.
-use Rattle.std.proofs.Common.{◌≡◌, ℕ, zero, suc, ◌+◌, ℤ, List, [], ◌∷◌, ◌++◌, length, refl, sym, ap, ◌∙◌, subst, arith, length-append}
-use Rattle.std.specs.Prelude.{Bool}
+use Rattle.std.proofs.Common.{◌≡◌, ℕ, zero, suc, ◌+◌, ℤ, List, [], ◌∷◌, ◌++◌, length, refl, sym, ap, ◌∙◌, subst, arith, length-append, Bool}
 use Rattle.std.specs.List.{range_with_len, flat_map, sum_by}
 use Rattle.std.proofs.lemmas.Grind.{flat_map-append}
 use Rattle.std.proofs.lemmas.List.{append-nil, length-map}
@@ -8,8 +7,9 @@ use Rattle.std.proofs.lemmas.List.Sums.{sum_by_push}
 use Rattle.std.proofs.lemmas.List.FromFn.{length-range_with_len}
 use Rattle.std.proofs.lemmas.Bool.Decides.{nat_tests}
 use Rattle.base_122.specs.declared.setting.Setting.{Setting}
-use Rattle.packet_defs.specs.Packets.{part_count, part_size, text_packets}
+use Rattle.packet_defs.specs.Packets.{part_count, part_size}
 use Rattle.stream_defs.specs.Output.{packets_before, packets_of, segment_packets, segment_text, used_before}
+use Rattle.packet_defs.proofs.Equations.{text_packets-is}
 
 -- one more number at the end of a range
 pub range_with_len-more : (a n : ℕ) → range_with_len a (n + 1) ≡ range_with_len a n ++ (a + n) ∷ []
@@ -57,8 +57,7 @@ used_before-more s all n = let e : n + 1 ≡ suc n = omega arith in ap (used_bef
 -- a text has one packet for each part
 pub length-segment_packets : (told_last : Bool) (s : Setting) (all : List (List ℤ)) (n : ℕ) →
     length (segment_packets told_last s all n) ≡ part_count (part_size s.packet) (length (segment_text s all n))
-unfolding text_packets
-length-segment_packets told_last s all n = grind (arith, nat_tests, length-map, length-range_with_len)
+length-segment_packets told_last s all n = simp text_packets-is (grind (arith, nat_tests, length-map, length-range_with_len))
 
 pub length-packets_of : (told_last : Bool) (s : Setting) (all : List (List ℤ)) (n : ℕ) → length (packets_of told_last s all n) ≡ packets_before s all n
 length-packets_of told_last s all zero = ap length (packets_of-none told_last s all) ∙ sym (packets_before-none s all)

@@ -1,6 +1,5 @@
 -- Damaged rows depend only on the missing block rows that can reach them.
-use Rattle.std.proofs.Common.{◌≡◌, ◌≤◌, ◌<◌, ◌+◌, ◌-◌, ◌*◌, ℕ, List, [], ◌∷◌, length, map, refl, ap, ◌∙◌, arith}
-use Rattle.std.specs.Prelude.{Bool, true, false, ◌==◌, ◌&&◌, ◌||◌, not, nat_lt, filter, take_while}
+use Rattle.std.proofs.Common.{◌≡◌, ◌≤◌, ◌<◌, ◌+◌, ◌-◌, ◌*◌, ℕ, List, [], ◌∷◌, length, map, refl, ap, ◌∙◌, arith, Bool, true, false, ◌==◌, ◌&&◌, ◌||◌, not, nat_lt, filter, take_while}
 use Rattle.std.specs.List.{range_with_len, list_any}
 use Rattle.std.proofs.lemmas.Bool.{false≢true, eqb-true, or_left, or_right, ltb-true}
 use Rattle.std.proofs.lemmas.Bool.Decides.{nat_tests}

@@ -1,13 +1,10 @@
 -- The packets of settled segments are determined by the blocks that the rows so far determine.
-use Rattle.std.proofs.Common.{◌≡◌, ◌≤◌, ◌<◌, ◌+◌, ◌-◌, ◌*◌, ◌/◌, ℕ, zero, suc, ℤ, List, [], length, take, drop, refl, sym, ap, subst, ◌∙◌, arith, length-take, length-drop}
-use Rattle.std.specs.Prelude.{Bool, true, false, ◌==◌, ◌&&◌, ◌||◌, not, nat_lt, cond}
+use Rattle.std.proofs.Common.{◌≡◌, ◌≤◌, ◌<◌, ◌+◌, ◌-◌, ◌*◌, ◌/◌, ℕ, zero, suc, ℤ, List, [], length, take, drop, refl, sym, ap, subst, ◌∙◌, arith, length-take, length-drop, Bool, true, false, ◌==◌, ◌&&◌, ◌||◌, not, nat_lt, cond, ext_get_or, get_or-take, get_or-drop, div-mul-le_self, mul-le-mul_right}
 use Rattle.std.specs.List.{count_by, range_with_len}
 use Rattle.std.proofs.lemmas.Bool.{false≢true}
 use Rattle.std.proofs.lemmas.Bool.Decides.{nat_tests}
-use Rattle.std.proofs.lemmas.List.{ext_get_or, get_or-take, get_or-drop}
 use Rattle.std.proofs.lemmas.List.Sums.{sum_by-cons}
 use Rattle.std.proofs.lemmas.Nat.{le-div}
-use Rattle.std.proofs.Math.Nat.{div-mul-le_self, mul-le-mul_right}
 use Rattle.base_122.specs.Ranges.{IsInRange}
 use Rattle.base_122.specs.Sizes.{block_count, total_blocks, segment_blocks}
 use Rattle.base_122.specs.declared.setting.Setting.{Setting}

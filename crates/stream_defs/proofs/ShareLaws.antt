@@ -1,6 +1,5 @@
 -- Shares of a total.
-use Rattle.std.proofs.Common.{◌≡◌, ◌≢◌, inl, inr, ◌≤◌, ◌<◌, ◌+◌, ◌-◌, ◌*◌, ◌/◌, ◌%◌, ℕ, zero, suc, ℤ, List, length, refl, sym, subst, arith, min, length-take}
-use Rattle.std.specs.Prelude.{Bool, true, false, ◌==◌}
+use Rattle.std.proofs.Common.{◌≡◌, ◌≢◌, inl, inr, ◌≤◌, ◌<◌, ◌+◌, ◌-◌, ◌*◌, ◌/◌, ◌%◌, ℕ, zero, suc, ℤ, List, length, refl, sym, subst, arith, min, length-take, Bool, true, false, ◌==◌}
 use Rattle.std.proofs.lemmas.Bool.Decides.{nat_tests}
 use Rattle.std.proofs.lemmas.Nat.{le-div}
 use Rattle.std.proofs.Math.Nat.{div-mul-le_self, mul-mod_left, mul-le-mul_left}
@@ -9,14 +8,13 @@ use Rattle.base_122.specs.declared.setting.Setting.{Setting}
 use Rattle.base_122.specs.declared.book.Book.{Book}
 use Rattle.segment_defs.specs.declared.head.SegmentHead.{SegmentHead}
 use Rattle.segment_defs.specs.Coded.{coded}
-use Rattle.segment_defs.specs.Text.{text_octets}
 use Rattle.stream_defs.specs.Output.{segment_of, segments_of, share, head_of, text_with, used_before}
 use Rattle.stream_defs.specs.Shares.{CanBeSaid}
+use Rattle.segment_defs.proofs.Equations.{coded-is, text_octets-is}
 
 -- a text is no longer than its limit
 pub coded_within : (book : Book) (head : SegmentHead) (blocks : List (List ℤ)) → head.limit ≢ 0 → length (coded book head blocks) ≤ head.limit
-unfolding coded text_octets
-coded_within book head blocks some = grind (arith, nat_tests, length-take)
+coded_within book head blocks some = simp (coded-is, text_octets-is) (grind (arith, nat_tests, length-take))
 
 -- 36 octets are whole code words
 words_hold : (q word : ℕ) → 1 ≤ word → word ≤ 4 → 36 ≤ q → 36 ≤ q / word * word

@@ -1,6 +1,5 @@
 -- All packets of an image, and some of them.
-use Rattle.std.proofs.Common.{◌≡◌, ◌<◌, ◌+◌, ℕ, zero, suc, ℤ, List, ◌++◌, length, refl, sym, ap, subst, ◌∙◌, arith}
-use Rattle.std.specs.Prelude.{Bool}
+use Rattle.std.proofs.Common.{◌≡◌, ◌<◌, ◌+◌, ℕ, zero, suc, ℤ, List, ◌++◌, length, refl, sym, ap, subst, ◌∙◌, arith, Bool}
 use Rattle.std.proofs.lemmas.Bool.Decides.{nat_tests}
 use Rattle.base_122.specs.declared.setting.Setting.{Setting}
 use Rattle.segment_defs.specs.Coded.{coded}
@@ -14,11 +13,12 @@ use Rattle.stream_defs.proofs.Outputs.{packets_of-none, packets_of-more, packets
 use Rattle.stream_defs.proofs.ChosenLaws.{chosen_kept, geometry_left}
 use Rattle.stream_defs.proofs.Runs.{run-range}
 use Rattle.stream_defs.proofs.SublistLaws.{all_rise, complete_where_all, complete_there, text_there, head_there}
+use Rattle.packet_defs.proofs.Equations.{text_packets-is}
 
 -- all packets are all parts
 whole_choice : (told_last : Bool) (s : Setting) (all : List (List ℤ)) (n : ℕ) → chosen told_last s all (all_parts s all) n ≡ packets_of told_last s all n
-unfolding chosen packets_of text_packets
-whole_choice told_last s all n = refl
+unfolding chosen packets_of
+whole_choice told_last s all n = grind (arith, nat_tests, text_packets-is)
 
 pub all_kept : (told_last : Bool) (s : Setting) (all : List (List ℤ)) → AreCoded s all → kept s.apid fresh (packets_of told_last s all (segments_of s)) ≡ packets_of told_last s all (segments_of s)
 all_kept told_last s all are =

@@ -1,9 +1,8 @@
 -- Numbers can be chosen that have any value that the next item of some numbers may have.
-use Rattle.std.proofs.Common.{◌≡◌, ℕ, zero, suc, ◌+◌, ◌*◌, ◌-◌, ◌%◌, ◌^◌, ◌<◌, ◌≤◌, min, List, ◌∷◌, length, get_or, Bool, true, false, eqb, cond, refl, sym, ap, subst, ◌∙◌, arith, inl, inr, length-append}
+use Rattle.std.proofs.Common.{◌≡◌, ℕ, zero, suc, ◌+◌, ◌*◌, ◌-◌, ◌%◌, ◌^◌, ◌<◌, ◌≤◌, min, List, ◌∷◌, length, get_or, Bool, true, false, eqb, cond, refl, sym, ap, subst, ◌∙◌, arith, inl, inr, length-append, mod-eq_of_lt}
 use Rattle.std.proofs.lemmas.Bool.{cases_lt}
 use Rattle.std.proofs.lemmas.Bool.Decides.{nat_tests}
 use Rattle.std.proofs.lemmas.Nat.{pow_pos, mod_below, mod_low}
-use Rattle.std.proofs.Math.Nat.{mod-eq_of_lt}
 use Rattle.item_defs.specs.Items.{identifier}
 use Rattle.item_defs.specs.Readings.{item_at}
 use Rattle.item_defs.specs.Laws.{said_of}
@@ -13,9 +12,8 @@ use Rattle.number_defs.proofs.Heights.{half, complement_is}
 use Rattle.text_defs.proofs.NumbersChoice.{left_at, right_at, before_said, lead_said, with_value, with_long, with_few, with_first, value_here, value_there}
 use Rattle.text_defs.proofs.ValueChoice.{MaySay, may_same, pick}
 use Rattle.text_defs.proofs.Choices.{Chooses, choose_left, choose_right}
-
-itself : (x : ℕ) → eqb x x ≡ true
-itself x = grind (arith, nat_tests)
+use Rattle.number_defs.proofs.Equations.{gaggle_items-is, items_before-none, items_before-more}
+use Rattle.plane_defs.proofs.Chosen.{equal_self}
 
 -- a reference may have any form in two's complement
 any_reference : (signed : Bool) (N said : ℕ) → 1 ≤ N → said < 2 ^ N → complement N (number_at signed N ((said + negatives signed N) % 2 ^ N)) ≡ said
@@ -31,7 +29,6 @@ module _ (kind : Kind) (some : 1 ≤ kind.bits) (xs : List ℕ) (few : (i : ℕ)
     pub chosen : Chooses k said (gaggle_items kind xs (o g) g) (gaggle_items kind ys (u g) g)
 
   at_identifier : (g said : ℕ) → GaggleChosen g 0 said
-  unfolding gaggle_items
   at_identifier g said =
       let u : ℕ → ℕ = λ j. cond (eqb j g) said (o j) in
       record {
@@ -40,14 +37,13 @@ module _ (kind : Kind) (some : 1 ≤ kind.bits) (xs : List ℕ) (few : (i : ℕ)
         fits = few;
         long = refl;
         before = before_said kind xs xs refl o u g (λ e. refl) (λ j lt. sym (ap (λ t. cond t said (o j)) (apart j lt))) (λ j low high inside. refl);
-        chosen = record { within = omega arith; before = refl; next = ap (λ t. cond t said (o g)) (itself g) };
+        chosen = simp gaggle_items-is (record { within = omega arith; before = refl; next = ap (λ t. cond t said (o g)) (equal_self g) });
       }
     where
       apart : (j : ℕ) → j < g → eqb j g ≡ false
       apart j lt = grind (arith, nat_tests)
 
   at_lead : (g k said : ℕ) → 0 < length xs → k < length (lead_items kind xs g) → MaySay (item_at (lead_items kind xs g) k) said → GaggleChosen g (suc k) said
-  unfolding gaggle_items
   at_lead (suc g) k said inside lt may = absurd (omega (arith, lt))
   at_lead zero (suc k) said inside lt may = absurd (omega (arith, lt))
   at_lead zero zero said inside lt may =
@@ -60,18 +56,18 @@ module _ (kind : Kind) (some : 1 ≤ kind.bits) (xs : List ℕ) (few : (i : ℕ)
         fits = with_few kind xs few first 0 0 small (pow_pos kind.bits);
         long = with_long kind xs few first 0 0 small (pow_pos kind.bits);
         before = before_said kind xs ys (with_long kind xs few first 0 0 small (pow_pos kind.bits)) o o 0 (λ e. absurd (omega (arith, e))) (λ j lt. refl) (λ j low high inside. absurd (omega (arith, low, high)));
-        chosen = record {
-          within = omega arith;
-          before = refl;
-          next =
-              ap (λ h. complement kind.bits (number_at kind.signed kind.bits h)) (with_first kind xs few first 0 0 small (pow_pos kind.bits) inside)
-              ∙ any_reference kind.signed kind.bits said some may.0;
-        };
+        chosen =
+            simp gaggle_items-is (record {
+              within = omega arith;
+              before = refl;
+              next =
+                  ap (λ h. complement kind.bits (number_at kind.signed kind.bits h)) (with_first kind xs few first 0 0 small (pow_pos kind.bits) inside)
+                  ∙ any_reference kind.signed kind.bits said some may.0;
+            });
       }
 
   at_value : (g k said : ℕ) → 0 < length xs → is_option kind.bits (o g) ≡ true → k < length (value_items kind xs (o g) (places (length xs) g)) → MaySay (item_at (value_items kind xs (o g) (places (length xs) g)) k) said →
       GaggleChosen g (suc (length (lead_items kind xs g) + k)) said
-  unfolding gaggle_items
   at_value g k said inside known lt may =
       let a : ℕ = first_place g in
       let n : ℕ = min (length xs) (16 * g + 16) - a in
@@ -89,16 +85,16 @@ module _ (kind : Kind) (some : 1 ≤ kind.bits) (xs : List ℕ) (few : (i : ℕ)
         long = long;
         before = before_said kind xs ys long o o g (λ e. first) (λ j lt. refl) (λ j low high inside. there j low inside (λ e. omega (arith, e, high, p.from)));
         chosen =
-            choose_right (suc (length (lead_items kind xs g) + k)) said (identifier (identifier_bits kind.bits) (is_option kind.bits) (o g) ∷ lead_items kind xs g) (identifier (identifier_bits kind.bits) (is_option kind.bits) (o g) ∷ lead_items kind ys g)
+            simp gaggle_items-is (choose_right (suc (length (lead_items kind xs g) + k)) said (identifier (identifier_bits kind.bits) (is_option kind.bits) (o g) ∷ lead_items kind xs g) (identifier (identifier_bits kind.bits) (is_option kind.bits) (o g) ∷ lead_items kind ys g)
             (value_items kind xs (o g) (places (length xs) g)) (value_items kind ys (o g) (places (length ys) g)) (omega arith) (ap (λ l. o g ∷ l) (lead_said kind xs ys long g first))
             (subst (λ c. Chooses c said (value_items kind xs (o g) (places (length xs) g)) (value_items kind ys (o g) (places (length ys) g))) z
-            (subst (λ l. Chooses k said (value_items kind xs (o g) (places (length xs) g)) (value_items kind ys (o g) (places l g))) (sym long) chosen));
+            (subst (λ l. Chooses k said (value_items kind xs (o g) (places (length xs) g)) (value_items kind ys (o g) (places l g))) (sym long) chosen)));
       }
 
   gaggle_choice : (g k said : ℕ) → 0 < length xs → (1 ≤ k → is_option kind.bits (o g) ≡ true) → k < length (gaggle_items kind xs (o g) g) → MaySay (item_at (gaggle_items kind xs (o g) g) k) said → GaggleChosen g k said
-  unfolding gaggle_items
   gaggle_choice g zero said inside known lt may = at_identifier g said
   gaggle_choice g (suc k) said inside known lt may =
+      let lt = simp gaggle_items-is at lt in let may = simp gaggle_items-is at may in (
       let lead = lead_items kind xs g in
       let values = value_items kind xs (o g) (places (length xs) g) in
       elim (cases_lt k (length lead)) [
@@ -107,7 +103,7 @@ module _ (kind : Kind) (some : 1 ≤ kind.bits) (xs : List ℕ) (few : (i : ℕ)
             let z : suc (length lead + (k - length lead)) ≡ suc k = omega (arith, late) in
             subst (λ c. GaggleChosen g c said) z
             (at_value g (k - length lead) said inside (known (omega arith)) (omega (arith, lt, late, length-append lead values)) (may_same _ _ said (right_at k lead values late) may))
-      ]
+      ])
 
   pub record NumbersChosen (count m said : ℕ) : Type 0 where
     pub ys : List ℕ
@@ -119,16 +115,17 @@ module _ (kind : Kind) (some : 1 ≤ kind.bits) (xs : List ℕ) (few : (i : ℕ)
   -- of the first gaggles, if the options that were read exist
   pub any_numbers : (count m said : ℕ) → 0 < length xs → ((g : ℕ) → g < count → length (items_before kind xs o g) < m → is_option kind.bits (o g) ≡ true) → m < length (items_before kind xs o count) →
       MaySay (item_at (items_before kind xs o count) m) said → NumbersChosen count m said
-  unfolding items_before
-  any_numbers zero m said inside known lt may = absurd (omega (arith, lt))
+  any_numbers zero m said inside known lt may = let none = simp items_before-none at lt in absurd (omega (arith, none))
   any_numbers (suc g) m said inside known lt may =
+      let lt = simp items_before-more at lt in
+      let may = simp items_before-more at may in
       let early = items_before kind xs o g in
       let here = gaggle_items kind xs (o g) g in
       elim (cases_lt m (length early)) [
         | inl low ↦
             let r = any_numbers g m said inside (λ j below read. known j (omega (arith, below)) read) low (may_same _ _ said (left_at m early here low) may) in
-            record { ys = r.ys; u = r.u; fits = r.fits; long = r.long; chosen = choose_left m said early (items_before kind r.ys r.u g) here (gaggle_items kind r.ys (r.u g) g) low r.chosen }
+            record { ys = r.ys; u = r.u; fits = r.fits; long = r.long; chosen = simp items_before-more (choose_left m said early (items_before kind r.ys r.u g) here (gaggle_items kind r.ys (r.u g) g) low r.chosen) }
         | inr high ↦
             let r = gaggle_choice g (m - length early) said inside (λ e. known g (omega arith) (omega (arith, e))) (omega (arith, lt, high, length-append early here)) (may_same _ _ said (right_at m early here high) may) in
-            record { ys = r.ys; u = r.u; fits = r.fits; long = r.long; chosen = choose_right m said early (items_before kind r.ys r.u g) here (gaggle_items kind r.ys (r.u g) g) high r.before r.chosen }
+            record { ys = r.ys; u = r.u; fits = r.fits; long = r.long; chosen = simp items_before-more (choose_right m said early (items_before kind r.ys r.u g) here (gaggle_items kind r.ys (r.u g) g) high r.before r.chosen) }
       ]

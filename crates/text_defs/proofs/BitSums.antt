@@ -1,25 +1,13 @@
 -- A number is the sum of its bits.
-use Rattle.std.proofs.Common.{◌≡◌, ℕ, zero, suc, ◌+◌, ◌-◌, ◌*◌, ◌/◌, ◌%◌, ◌^◌, ◌<◌, cond, List, [], ◌∷◌, ◌++◌, refl, ap, sym, ◌∙◌, arith, ℤ, pos, negsuc}
-use Rattle.std.specs.Prelude.{◌==◌, sum_by, ◌+ℤ◌, ◌*ℤ◌}
+use Rattle.std.proofs.Common.{◌≡◌, ℕ, zero, suc, ◌+◌, ◌-◌, ◌*◌, ◌/◌, ◌%◌, ◌^◌, ◌<◌, cond, ap, sym, ◌∙◌, arith, ℤ, pos, negsuc, ◌==◌, sum_by, ◌+ℤ◌, ◌*ℤ◌}
 use Rattle.std.specs.Int.{int_shr}
 use Rattle.std.proofs.lemmas.Nat.{pow_pos, pow-add, mod_below, shr_split}
-use Rattle.std.proofs.lemmas.List.Sums.{sum_by-append}
 use Rattle.std.proofs.lemmas.Bool.Decides.{nat_tests}
 use Rattle.item_defs.specs.Bits.{bit}
 use Rattle.number_defs.specs.Ranges.{complement}
 use Rattle.plane_defs.specs.Spans.{span}
+use Rattle.plane_defs.proofs.Counting.{sum_suc, sum_none}
 use lib.Pow as pow
-
-sum_more : (f : ℕ → ℕ) (xs : List ℕ) (x : ℕ) → sum_by f (xs ++ x ∷ []) ≡ sum_by f xs + f x
-sum_more f xs x = sum_by-append f xs (x ∷ []) ∙ ap (λ n. sum_by f xs + n) (let z : 0 + f x ≡ f x = omega arith in z)
-
-pub sum_span : (f : ℕ → ℕ) (w : ℕ) → sum_by f (span 0 (suc w)) ≡ sum_by f (span 0 w) + f w
-unfolding span
-sum_span f w = sum_more f (span 0 w) (0 + w) ∙ (let z : 0 + w ≡ w = omega arith in ap (λ k. sum_by f (span 0 w) + f k) z)
-
-pub sum_none : (f : ℕ → ℕ) → sum_by f (span 0 0) ≡ 0
-unfolding span
-sum_none f = refl
 
 above : (n w : ℕ) → n % 2 ^ suc w ≡ n / 2 ^ w % 2 * 2 ^ w + n % 2 ^ w
 above n w = let z : suc w ≡ 1 + w = omega arith in ap (λ k. n % 2 ^ k) z ∙ pow.mod-pow-add n 1 w
@@ -30,7 +18,7 @@ doubled w = let z : suc w ≡ 1 + w = omega arith in ap (λ k. 2 ^ k) z ∙ pow-
 pub sum_bits : (n w : ℕ) → sum_by (λ b. cond (bit n b) (2 ^ b) 0) (span 0 w) ≡ n % 2 ^ w
 sum_bits n zero = sum_none (λ b. cond (bit n b) (2 ^ b) 0) ∙ (let z : 0 ≡ n % 2 ^ 0 = omega arith in z)
 sum_bits n (suc w) =
-    sum_span (λ b. cond (bit n b) (2 ^ b) 0) w ∙ ap (λ s. s + cond (bit n w) (2 ^ w) 0) (sum_bits n w) ∙ ap (λ x. n % 2 ^ w + x) (by_bit (n / 2 ^ w % 2) (2 ^ w) (omega arith))
+    sum_suc (λ b. cond (bit n b) (2 ^ b) 0) w ∙ ap (λ s. s + cond (bit n w) (2 ^ w) 0) (sum_bits n w) ∙ ap (λ x. n % 2 ^ w + x) (by_bit (n / 2 ^ w % 2) (2 ^ w) (omega arith))
     ∙ (let e = above n w in omega (arith, e))
   where
     by_bit : (d p : ℕ) → d < 2 → cond (d == 1) p 0 ≡ d * p
@@ -59,7 +47,7 @@ sum_low (negsuc n) w = minus w
     minus : (w : ℕ) → sum_by (low_bit (negsuc n)) (span 0 w) ≡ 2 ^ w - 1 - n % 2 ^ w
     minus zero = sum_none (low_bit (negsuc n)) ∙ (let z : 0 ≡ 2 ^ 0 - 1 - n % 2 ^ 0 = omega arith in z)
     minus (suc w) =
-        sum_span (low_bit (negsuc n)) w ∙ ap (λ s. s + low_bit (negsuc n) w) (minus w) ∙ ap (λ x. 2 ^ w - 1 - n % 2 ^ w + x) (by_bit (n / 2 ^ w % 2) (2 ^ w) (omega arith))
+        sum_suc (low_bit (negsuc n)) w ∙ ap (λ s. s + low_bit (negsuc n) w) (minus w) ∙ ap (λ x. 2 ^ w - 1 - n % 2 ^ w + x) (by_bit (n / 2 ^ w % 2) (2 ^ w) (omega arith))
         ∙ by_parts (n % 2 ^ w) (n / 2 ^ w % 2) (2 ^ w) (n % 2 ^ suc w) (mod_below n (2 ^ w) (pow_pos w)) (omega arith) (above n w) ∙ ap (λ x. x - 1 - n % 2 ^ suc w) (sym (doubled w))
 
 -- the high part and the low bits make the number

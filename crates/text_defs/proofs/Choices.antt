@@ -1,6 +1,5 @@
 -- A reading continues by one item if some values say the same up to it, and this number in it.
-use Rattle.std.proofs.Common.{◌≡◌, ℕ, zero, suc, ◌+◌, ◌-◌, ◌<◌, ◌≤◌, Bool, List, [], ◌∷◌, ◌++◌, length, take, map, refl, ap, sym, ◌∙◌, subst, arith, ℤ}
-use Rattle.std.specs.Prelude.{None}
+use Rattle.std.proofs.Common.{◌≡◌, ℕ, zero, suc, ◌+◌, ◌-◌, ◌<◌, ◌≤◌, Bool, List, [], ◌∷◌, ◌++◌, length, take, map, refl, ap, sym, ◌∙◌, subst, arith, ℤ, None}
 use Rattle.std.specs.List.{range_with_len}
 use Rattle.item_defs.specs.Items.{Item, item_bits, text, IsSaid, spelling}
 use Rattle.item_defs.specs.Readings.{IsItem, IsSound, AreItems, item_at}

@@ -20,6 +20,7 @@ use Rattle.text_defs.proofs.OptionsRead.{numbers_further}
 use Rattle.text_defs.proofs.Choices.{Chooses, choose_left, choose_right}
 use Rattle.plane_texts.proofs.SmallFacts.{set_at}
 use Rattle.plane_texts.proofs.DcShifts.{lifted, lifted_back, lifted_times, with_bit, bit_chosen, bit_above, bit_times, IsTimes}
+use Rattle.number_defs.proofs.Equations.{planes_before-none, planes_before-more, dc_items-is}
 
 -- ---- a bit of each number of a list
 
@@ -53,12 +54,11 @@ bit_small b (x ∷ vs) (suc k) said lt may = bit_small b vs k said (omega (arith
 -- ---- the planes below q
 
 planes_said : (q n : ℕ) (vs ws : List ℤ) → length ws ≡ length vs → ((i c : ℕ) → q - n ≤ c → c < q → complement 1 (int_shr (At vs i) c) ≡ complement 1 (int_shr (At ws i) c)) → n ≤ q → said_of (planes_before q vs n) ≡ said_of (planes_before q ws n)
-unfolding planes_before
-planes_said q zero vs ws long same le = refl
-planes_said q (suc n) vs ws long same le =
+planes_said q zero vs ws long same le = simp planes_before-none
+planes_said q (suc n) vs ws long same le = simp planes_before-more (
     said_both (planes_before q vs n) (planes_before q ws n) (map (dc_bit (q - suc n)) vs) (map (dc_bit (q - suc n)) ws)
     (planes_said q n vs ws long (λ i c low high. same i c (omega (arith, low)) high) (omega (arith, le)))
-    (bits_said (dc_bit (q - suc n)) vs ws long (λ i lt. same i (q - suc n) (omega arith) (omega (arith, le))))
+    (bits_said (dc_bit (q - suc n)) vs ws long (λ i lt. same i (q - suc n) (omega arith) (omega (arith, le)))))
 
 -- bit b of the number at this place is changed, and in all numbers the bits above it stay
 record PlanesChosen (q n : ℕ) (vs : List ℤ) (k said : ℕ) : Type 0 where
@@ -78,9 +78,10 @@ keeps_all : (f : ℤ → ℕ) (vs : List ℤ) (place i : ℕ) (z : ℤ) → plac
 keeps_all f vs place i z inside e = set_at vs place i z (pos 0) (λ x. f (At vs i) ≡ f x) inside (λ s. ap (λ j. f (At vs j)) s ∙ e) refl
 
 planes_choice : (q n : ℕ) (vs : List ℤ) (k said : ℕ) → n ≤ q → k < length (planes_before q vs n) → MaySay (item_at (planes_before q vs n) k) said → PlanesChosen q n vs k said
-unfolding planes_before
-planes_choice q zero vs k said le lt may = absurd (omega (arith, lt))
+planes_choice q zero vs k said le lt may = let none = simp planes_before-none at lt in absurd (omega (arith, none))
 planes_choice q (suc n) vs k said le lt may =
+    let lt = simp planes_before-more at lt in
+    let may = simp planes_before-more at may in
     let early = planes_before q vs n in
     let b : ℕ = q - suc n in
     let here = map (dc_bit b) vs in
@@ -88,7 +89,7 @@ planes_choice q (suc n) vs k said le lt may =
       | inl low ↦
           let r = planes_choice q n vs k said (omega (arith, le)) low (may_same _ _ said (left_at k early here low) may) in
           let ws = set vs r.place (with_bit (At vs r.place) r.b said) in
-          record { place = r.place; b = r.b; inside = r.inside; low = omega (arith, r.low); high = r.high; bit = r.bit; chosen = choose_left k said early (planes_before q ws n) here (map (dc_bit b) ws) low r.chosen }
+          record { place = r.place; b = r.b; inside = r.inside; low = omega (arith, r.low); high = r.high; bit = r.bit; chosen = simp planes_before-more (choose_left k said early (planes_before q ws n) here (map (dc_bit b) ws) low r.chosen) }
       | inr late ↦
           let r : ℕ = k - length early in
           let inside : r < length vs = omega (arith, lt, late, length-append early here, length-map vs (dc_bit b)) in
@@ -100,7 +101,7 @@ planes_choice q (suc n) vs k said le lt may =
           let bits : Chooses r said here (map (dc_bit b) ws) =
           bits_chosen (dc_bit b) vs ws r said (length-set vs r z) inside (λ i low. ap (λ x. complement 1 (int_shr x b)) (sym (get_or-set_other vs r i z (pos 0) (λ e. omega (arith, e, low)))))
           (ap (λ x. complement 1 (int_shr x b)) (get_or-set_same vs r z (pos 0) inside) ∙ bit_chosen (At vs r) b said small) in
-          record { place = r; b = b; inside = inside; low = omega arith; high = omega (arith, le); bit = small; chosen = choose_right k said early (planes_before q ws n) here (map (dc_bit b) ws) late above bits }
+          record { place = r; b = b; inside = inside; low = omega arith; high = omega (arith, le); bit = small; chosen = simp planes_before-more (choose_right k said early (planes_before q ws n) here (map (dc_bit b) ws) late above bits) }
     ]
 
 -- ---- the high part
@@ -222,8 +223,10 @@ first_are (suc k) (i ∷ is) js all = (all.0, first_are k is js all.1)
 
 pub dc_choice : (depth_dc depth_ac shift : ℕ) (vs : List ℤ) (o : ℕ → ℕ) (k said : ℕ) → 0 < length vs → DcsFit depth_dc depth_ac shift vs → ((i : ℕ) → IsTimes shift (At vs i)) → AreItems (take k (dc_items depth_dc depth_ac shift vs o)) →
     k < length (dc_items depth_dc depth_ac shift vs o) → MaySay (item_at (dc_items depth_dc depth_ac shift vs o) k) said → DcChosen depth_dc depth_ac shift vs o k said
-unfolding dc_items
 dc_choice depth_dc depth_ac shift vs o k said inside fit times all lt may =
+    let all = simp dc_items-is at all in
+    let lt = simp dc_items-is at lt in
+    let may = simp dc_items-is at may in
     let N : ℕ = dc_bits depth_dc depth_ac shift in
     let q : ℕ = dc_q depth_dc depth_ac shift in
     let n : ℕ = dc_planes depth_dc depth_ac shift in
@@ -232,7 +235,7 @@ dc_choice depth_dc depth_ac shift vs o k said inside fit times all lt may =
     elim (cases_lt k (length high)) [
       | inl early ↦
           let r = high_choice N q vs o k said (omega arith) inside fit (first_are k high low all) early (may_same _ _ said (left_at k high low early) may) in
-          record { zs = r.zs; u = r.u; long = r.long; fit = r.fit; times = r.times shift (omega arith) times; chosen = choose_left k said high (high_items N q r.zs r.u) low (planes_before q r.zs n) early r.chosen }
+          record { zs = r.zs; u = r.u; long = r.long; fit = r.fit; times = r.times shift (omega arith) times; chosen = simp dc_items-is (choose_left k said high (high_items N q r.zs r.u) low (planes_before q r.zs n) early r.chosen) }
       | inr late ↦
           let r = planes_choice q n vs (k - length high) said (omega arith) (omega (arith, lt, late, length-append high low)) (may_same _ _ said (right_at k high low late) may) in
           let z : ℤ = with_bit (At vs r.place) r.b said in
@@ -245,7 +248,7 @@ dc_choice depth_dc depth_ac shift vs o k said inside fit times all lt may =
             long = length-set vs r.place z;
             fit = λ i lt. one_other vs r.place i z (λ x. IsInRange true N (int_shr x q)) r.inside (subst (IsInRange true N) (sym above) (fit r.place r.inside)) (fit i (omega (arith, lt, length-set vs r.place z)));
             times = λ i. one_other vs r.place i z (IsTimes shift) r.inside (bit_times (At vs r.place) r.b said shift (omega (arith, r.low))) (times i);
-            chosen = choose_right k said high (high_items N q zs o) low (planes_before q zs n) late (ap said_of same) r.chosen;
+            chosen = simp dc_items-is (choose_right k said high (high_items N q zs o) low (planes_before q zs n) late (ap said_of same) r.chosen);
           }
     ]
   where

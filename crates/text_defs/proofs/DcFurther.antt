@@ -1,8 +1,6 @@
 -- A reading that stops within the DC part continues by one item.
-use Rattle.std.proofs.Common.{◌≡◌, ℕ, zero, suc, ◌*◌, ◌^◌, ◌<◌, ◌≤◌, Bool, cond, List, [], ◌∷◌, ◌++◌, length, take, map, refl, ap, sym, ◌∙◌, subst, arith, ℤ, pos, get_or, length-append}
-use Rattle.std.specs.Prelude.{unsigned_abs}
+use Rattle.std.proofs.Common.{◌≡◌, ℕ, zero, suc, ◌*◌, ◌^◌, ◌<◌, ◌≤◌, Bool, cond, List, [], ◌∷◌, ◌++◌, length, take, map, refl, ap, sym, ◌∙◌, subst, arith, ℤ, pos, get_or, length-append, unsigned_abs, pow_pos}
 use Rattle.std.proofs.lemmas.List.{length-map, get_or-map, append-nil}
-use Rattle.std.proofs.lemmas.Nat.{pow_pos}
 use Rattle.std.proofs.lemmas.Bool.Decides.{nat_tests}
 use Rattle.item_defs.specs.Items.{Item, spelling}
 use Rattle.item_defs.specs.Readings.{AreItems, item_at}
@@ -25,6 +23,7 @@ use Rattle.text_defs.proofs.ValueChoice.{MaySay, may_same}
 use Rattle.text_defs.proofs.Choices.{Chooses, choose_left, further_from}
 use Rattle.plane_texts.proofs.DcShifts.{IsTimes}
 use Rattle.text_defs.proofs.DcChoice.{dc_choice, first_are, choose_as}
+use Rattle.segment_defs.proofs.Equations.{segment_items-is}
 
 -- the DC's band has position 0
 pub dc_band : (head : SegmentHead) → shift head.image.weights.shifts 0 ≡ dc_shift head
@@ -87,8 +86,8 @@ after_dc : SegmentHead → List (List ℤ) → List ℕ → Options → List Ite
 after_dc head blocks depths options = cond head.stop.dc [] (items_after_dc head blocks depths options)
 
 segment_parts : (head : SegmentHead) (blocks : List (List ℤ)) (depths : List ℕ) (options : Options) → segment_items head blocks depths options ≡ dc_part_items head blocks options ++ after_dc head blocks depths options
-unfolding segment_items after_dc
-segment_parts head blocks depths options = grind (arith, nat_tests, append-nil)
+unfolding after_dc
+segment_parts head blocks depths options = simp segment_items-is (grind (arith, nat_tests, append-nil))
 
 dc_times : (weights : List ℕ) (blocks : List (List ℤ)) → ((r : ℕ) → IsMultiple (get_or blocks r []) weights) → (i : ℕ) → IsTimes (shift weights 0) (get_or (dcs_of blocks) i (pos 0))
 dc_times weights [] each i = (0, omega arith)

@@ -1,6 +1,5 @@
 -- The DC numbers that the first items of two readings give are the same.
-use Rattle.std.proofs.Common.{◌≡◌, ◌⊎◌, ℕ, zero, suc, ◌+◌, ◌-◌, ◌*◌, ◌<◌, ◌≤◌, inl, inr, Bool, true, false, cond, eqb, List, [], ◌∷◌, length, map, refl, ap, sym, ◌∙◌, subst, arith, ℤ, pos, get_or, length-append}
-use Rattle.std.specs.Prelude.{nat_le, nat_lt, ◌&&◌}
+use Rattle.std.proofs.Common.{◌≡◌, ◌⊎◌, ℕ, zero, suc, ◌+◌, ◌-◌, ◌*◌, ◌<◌, ◌≤◌, inl, inr, Bool, true, false, cond, eqb, List, [], ◌∷◌, length, map, refl, ap, sym, ◌∙◌, subst, arith, ℤ, pos, get_or, length-append, nat_le, nat_lt, ◌&&◌}
 use Rattle.std.specs.Int.{int_shr}
 use Rattle.std.proofs.lemmas.Bool.{cases_lt, and_parts, ltb-true, leb-true, lt-leb}
 use Rattle.std.proofs.lemmas.Bool.Decides.{nat_tests}
@@ -10,7 +9,7 @@ use Rattle.text_defs.proofs.SameTold.{nothing}
 use Rattle.item_defs.specs.Items.{Item}
 use Rattle.number_defs.specs.Ranges.{IsInRange, shifted_height, number_at, complement}
 use Rattle.number_defs.specs.Gaggles.{number_items}
-use Rattle.number_defs.specs.DcPart.{dc_bits, dc_kind, dc_bit, high_items, planes_before, dc_planes, dc_items}
+use Rattle.number_defs.specs.DcPart.{dc_bits, dc_kind, dc_bit, high_items, planes_before, dc_planes}
 use Rattle.number_defs.proofs.Heights.{number_back}
 use Rattle.number_defs.proofs.SegmentSteps.{few_anywhere, heights_few, high_step}
 use Rattle.plane_defs.proofs.Settled.{head_same, tail_same}
@@ -22,6 +21,8 @@ use Rattle.number_defs.specs.Given.{numbers_through}
 use Rattle.text_defs.specs.Given.{dc_through, high_count, is_dc_bit_given}
 use Rattle.text_defs.proofs.Prefixes.{SaySame, Inside, Past, split, first_part}
 use Rattle.text_defs.proofs.NumbersTold.{by_length, numbers_told}
+use Rattle.number_defs.proofs.Equations.{planes_before-more, dc_items-is}
+use Rattle.number_defs.proofs.DcPlanes.{length-planes_before}
 
 -- ---- bits of each number of a list
 
@@ -32,35 +33,27 @@ each_place f (v ∷ vs) (w ∷ ws) zero r e lt a b = absurd (omega (arith, lt))
 each_place f (v ∷ vs) (w ∷ ws) (suc k) zero e lt a b = head_same _ _ _ _ e
 each_place f (v ∷ vs) (w ∷ ws) (suc k) (suc r) e lt a b = each_place f vs ws k r (tail_same _ _ _ _ e) (omega (arith, lt)) (omega (arith, a)) (omega (arith, b))
 
-planes_long : (q : ℕ) (dcs : List ℤ) (n : ℕ) → length (planes_before q dcs n) ≡ n * length dcs
-unfolding planes_before
-planes_long q dcs zero = omega arith
-planes_long q dcs (suc n) =
-    length-append (planes_before q dcs n) (map (dc_bit (q - suc n)) dcs) ∙ ap (λ l. l + length (map (dc_bit (q - suc n)) dcs)) (planes_long q dcs n)
-    ∙ ap (λ l. n * length dcs + l) (length-map dcs (dc_bit (q - suc n))) ∙ (let z : n * length dcs + length dcs ≡ suc n * length dcs = omega arith in z)
-
 -- the nth plane's bit of a number
 planes_said : (q : ℕ) (vs ws : List ℤ) → length vs ≡ length ws → (count k n r : ℕ) → SaySame k (planes_before q vs count) (planes_before q ws count) → n < count → r < length vs → n * length vs + r + 1 ≤ k →
     complement 1 (int_shr (get_or vs r (pos 0)) (q - suc n)) ≡ complement 1 (int_shr (get_or ws r (pos 0)) (q - suc n))
-unfolding planes_before
 planes_said q vs ws same zero k n r e lt within le = absurd (omega (arith, lt))
 planes_said q vs ws same (suc count) k n r e lt within le =
-    let long : length (planes_before q vs count) ≡ length (planes_before q ws count) = planes_long q vs count ∙ ap (λ l. count * l) same ∙ sym (planes_long q ws count) in
+    let e = simp planes_before-more at e in (
+    let long : length (planes_before q vs count) ≡ length (planes_before q ws count) = length-planes_before q vs count ∙ ap (λ l. count * l) same ∙ sym (length-planes_before q ws count) in
     let parts = by_length k (planes_before q vs count) (planes_before q ws count) (map (dc_bit (q - suc count)) vs) (map (dc_bit (q - suc count)) ws) long e in
     elim (cases_lt n count) [
       | inl early ↦ planes_said q vs ws same count k n r parts.0 early within le
       | inr last ↦
           let at : count ≡ n = omega arith in
-          let here : r < k - length (planes_before q vs count) = omega (arith, planes_long q vs count, le, ap (λ c. c * length vs) at) in
+          let here : r < k - length (planes_before q vs count) = omega (arith, length-planes_before q vs count, le, ap (λ c. c * length vs) at) in
           let said = each_place (dc_bit (q - suc count)) vs ws (k - length (planes_before q vs count)) r parts.1 here within (omega (arith, within, same)) in
           subst (λ c. complement 1 (int_shr (get_or vs r (pos 0)) (q - suc c)) ≡ complement 1 (int_shr (get_or ws r (pos 0)) (q - suc c))) at said
-    ]
+    ])
 
 -- the items of the DC part
 pub dc_long : (head : SegmentHead) (blocks : List (List ℤ)) (options : Options) →
     length (dc_part_items head blocks options) ≡ high_count head blocks options + dc_planes head.depth_dc head.depth_ac (dc_shift head) * length blocks
-unfolding dc_items
-dc_long head blocks options = grind (arith, nat_tests, length-append, planes_long, length-map)
+dc_long head blocks options = simp dc_items-is (grind (arith, nat_tests, length-append, length-planes_before, length-map))
 
 -- a number of one bit is known from that bit
 one_bit : (a b : ℤ) → IsInRange true 1 a → IsInRange true 1 b → complement 1 a ≡ complement 1 b → a ≡ b
@@ -111,12 +104,10 @@ module _ (head : SegmentHead) (xs ys : List (List ℤ)) (ds es : List ℕ) (o u 
   low blocks = planes_before (q_of head) (dcs_of blocks) (dc_planes head.depth_dc head.depth_ac (dc_shift head))
 
   both : Inside m (high xs o) (high ys u) ⊎ Past m (high xs o) (high ys u) (low xs) (low ys)
-  unfolding dc_items
-  both = split m (high xs o) (high ys u) (low xs) (low ys) (high_step N (q_of head) (dcs_of xs) (dcs_of ys) o.dcs u.dcs long p.dcs_fit q.dcs_fit) said
+  both = grind (arith, nat_tests, dc_items-is, split, high_step, long)
 
   high_said : SaySame m (high xs o) (high ys u)
-  unfolding dc_items
-  high_said = first_part m (high xs o) (high ys u) (low xs) (low ys) (high_step N (q_of head) (dcs_of xs) (dcs_of ys) o.dcs u.dcs long p.dcs_fit q.dcs_fit) said
+  high_said = grind (arith, nat_tests, dc_items-is, first_part, high_step, long)
 
   module _ (r : ℕ) (inside : r < head.blocks) where
     at_x : r < length (dcs_of xs)

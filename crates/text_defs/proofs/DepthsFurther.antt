@@ -1,8 +1,6 @@
 -- A reading that stops within the block depths continues by one item.
-use Rattle.std.proofs.Common.{◌≡◌, ℕ, zero, suc, ◌+◌, ◌-◌, ◌*◌, ◌^◌, ◌<◌, ◌≤◌, Bool, true, false, cond, eqb, List, [], ◌∷◌, ◌++◌, length, take, map, refl, ap, sym, ◌∙◌, subst, arith, ℤ, pos, get_or, length-append}
-use Rattle.std.specs.Prelude.{unsigned_abs}
+use Rattle.std.proofs.Common.{◌≡◌, ℕ, zero, suc, ◌+◌, ◌-◌, ◌*◌, ◌^◌, ◌<◌, ◌≤◌, Bool, true, false, cond, eqb, List, [], ◌∷◌, ◌++◌, length, take, map, refl, ap, sym, ◌∙◌, subst, arith, ℤ, pos, get_or, length-append, unsigned_abs, pow_pos}
 use Rattle.std.proofs.lemmas.Bool.Decides.{nat_tests}
-use Rattle.std.proofs.lemmas.Nat.{pow_pos}
 use Rattle.std.proofs.lemmas.List.{length-map, get_or-map}
 use Rattle.item_defs.specs.Items.{Item, IsSaid, raw, spelling}
 use Rattle.item_defs.specs.Readings.{AreItems, item_at}
@@ -31,6 +29,7 @@ use Rattle.text_defs.proofs.ValueChoice.{MaySay, may_same}
 use Rattle.text_defs.proofs.OptionsRead.{numbers_further}
 use Rattle.text_defs.proofs.Choices.{Chooses, choose_left, choose_right, further_from}
 use Rattle.text_defs.proofs.DcChoice.{choose_as, first_are}
+use Rattle.number_defs.proofs.Equations.{depth_items-is}
 
 -- ---- the depths
 
@@ -77,13 +76,11 @@ abbrev Items : ℕ → Bool → Bool → List ℕ → (ℕ → ℕ) → List Ite
 Items depth_ac t z es u = cond t [] (cond z (map raw es) (number_items (depth_kind depth_ac) es u))
 
 items_are : (depth_ac : ℕ) (t z : Bool) (es : List ℕ) (u : ℕ → ℕ) → eqb depth_ac 0 ≡ t → eqb depth_ac 1 ≡ z → depth_items depth_ac es u ≡ Items depth_ac t z es u
-unfolding depth_items
-items_are depth_ac t z es u e f = ap (λ t. Items depth_ac t (eqb depth_ac 1) es u) e ∙ ap (λ z. Items depth_ac t z es u) f
+items_are depth_ac t z es u e f = simp depth_items-is (ap (λ t. Items depth_ac t (eqb depth_ac 1) es u) e ∙ ap (λ z. Items depth_ac t z es u) f)
 
 any_depths : (depth_ac : ℕ) (ds : List ℕ) (o : ℕ → ℕ) (k said : ℕ) → depth_ac ≤ 27 → AreFew (depth_bits depth_ac) ds → 0 < length ds → AreItems (take k (depth_items depth_ac ds o)) → k < length (depth_items depth_ac ds o) →
     MaySay (item_at (depth_items depth_ac ds o) k) said → DepthsChosen depth_ac ds o k said
-unfolding depth_items
-any_depths depth_ac ds o k said le few inside all lt may = by_depth (eqb depth_ac 0) (eqb depth_ac 1) refl refl all lt may
+any_depths depth_ac ds o k said le few inside all lt may = let all = simp depth_items-is at all in let lt = simp depth_items-is at lt in let may = simp depth_items-is at may in (by_depth (eqb depth_ac 0) (eqb depth_ac 1) refl refl all lt may)
   where
     by_depth : (t z : Bool) → eqb depth_ac 0 ≡ t → eqb depth_ac 1 ≡ z → AreItems (take k (Items depth_ac t z ds o)) → k < length (Items depth_ac t z ds o) → MaySay (item_at (Items depth_ac t z ds o) k) said → DepthsChosen depth_ac ds o k said
     by_depth true z e f all lt may = absurd (omega (arith, lt))

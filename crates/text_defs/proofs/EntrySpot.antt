@@ -1,9 +1,7 @@
 -- The next item of an entry says any number that it does not refuse, by another entry or by another option.
-use Rattle.std.proofs.Common.{◌≡◌, ◌⊎◌, ℕ, zero, suc, ◌+◌, ◌^◌, ◌<◌, ◌≤◌, inl, inr, Bool, true, false, cond, eqb, List, [], ◌∷◌, ◌++◌, length, refl, ap, sym, ◌∙◌, subst, arith, zero-add}
-use Rattle.std.specs.Prelude.{◌==◌, ◌||◌, None, Some, nat_lt}
-use Rattle.std.specs.List.{list_any, list_all}
+use Rattle.std.proofs.Common.{◌≡◌, ◌⊎◌, ℕ, zero, suc, ◌+◌, ◌^◌, ◌<◌, ◌≤◌, inl, inr, Bool, true, false, cond, eqb, List, [], ◌∷◌, ◌++◌, length, refl, ap, sym, ◌∙◌, subst, arith, zero-add, ◌==◌, ◌||◌, None, Some, eqb-true}
+use Rattle.std.specs.List.{list_any}
 use Rattle.std.proofs.lemmas.Bool.Decides.{nat_tests}
-use Rattle.std.proofs.lemmas.Bool.{eqb-true, ltb-true}
 use Rattle.item_defs.specs.Bits.{digit}
 use Rattle.item_defs.specs.Items.{Item, raw, plain, code, false_flag, IsSaid}
 use Rattle.item_defs.specs.Readings.{item_at}
@@ -19,41 +17,13 @@ use Rattle.plane_defs.specs.Steps.{Check, refuses}
 use Rattle.plane_defs.specs.StepLaws.{value_of_entry}
 use Rattle.plane_defs.specs.Reading.{word_of, checked, checked_word, entry_reading}
 use Rattle.plane_defs.proofs.SpanLists.{length-map-span, list_any-span-suc}
-use Rattle.plane_defs.proofs.Tables.{list_all-span-zero}
+use Rattle.plane_defs.proofs.SymbolTables.{symbol-word_of, word_of-below}
 use Rattle.plane_defs.proofs.StepItems.{AreOptionsOf}
 use Rattle.plane_texts.specs.Candidates.{Replaces}
 use Rattle.text_defs.proofs.OptionsRead.{named}
 use Rattle.text_defs.proofs.ValueChoice.{MaySay}
 use Rattle.text_defs.proofs.Choices.{Chooses}
-
--- ---- words and their symbols
-
-abbrev below : (n v : ℕ) → Bool
-below n v = nat_lt v n
-
-words_again : (n : ℕ) → 2 ≤ n → n ≤ 4 → list_all (λ s. symbol n (word_of n s) == s) (span 0 (2 ^ n)) ≡ true
-unfolding word_of symbol span lib.Count.ones
-words_again zero low high = absurd (omega arith)
-words_again (suc zero) low high = absurd (omega arith)
-words_again (suc (suc zero)) low high = refl
-words_again (suc (suc (suc zero))) low high = refl
-words_again (suc (suc (suc (suc zero)))) low high = refl
-words_again (suc (suc (suc (suc (suc n))))) low high = absurd (omega arith)
-
-words_below : (n : ℕ) → 2 ≤ n → n ≤ 4 → list_all (λ s. below (2 ^ n) (word_of n s)) (span 0 (2 ^ n)) ≡ true
-unfolding word_of symbol span lib.Count.ones
-words_below zero low high = absurd (omega arith)
-words_below (suc zero) low high = absurd (omega arith)
-words_below (suc (suc zero)) low high = refl
-words_below (suc (suc (suc zero))) low high = refl
-words_below (suc (suc (suc (suc zero)))) low high = refl
-words_below (suc (suc (suc (suc (suc n))))) low high = absurd (omega arith)
-
-symbol-word : (n s : ℕ) → 2 ≤ n → n ≤ 4 → s < 2 ^ n → symbol n (word_of n s) ≡ s
-symbol-word n s low high lt = eqb-true (symbol n (word_of n s)) s (list_all-span-zero (λ s. symbol n (word_of n s) == s) (2 ^ n) s (words_again n low high) lt)
-
-word-small : (n s : ℕ) → 2 ≤ n → n ≤ 4 → s < 2 ^ n → word_of n s < 2 ^ n
-word-small n s low high lt = ltb-true (word_of n s) (2 ^ n) (list_all-span-zero (λ s. below (2 ^ n) (word_of n s)) (2 ^ n) s (words_below n low high) lt)
+use Rattle.plane_defs.proofs.Equations.{span-none, bit_reading, word_reading}
 
 -- all options are the same except that of this length
 abbrev pub Elsewhere : ℕ → List ℕ → List ℕ → Type 0
@@ -81,8 +51,7 @@ module _ (book : Book) where
 
   -- an option of this name
   some_option : (n said k : ℕ) → list_any (λ option. identifier_number n option == said) (span 0 k) ≡ true → (option : ℕ) × (option < k) × (identifier_number n option ≡ said)
-  unfolding span
-  some_option n said zero e = absurd (none e)
+  some_option n said zero e = let e = simp span-none at e in (absurd (none e))
     where
       none : false ≡ true → ⊥
       none e = cc
@@ -124,7 +93,7 @@ module _ (book : Book) where
       by_option true e m = record { w = said; small = m.0; passes = passed (refuses check said) m.1; says = word_says n option said said check true e refl }
       by_option false e m =
           let lt : said < 2 ^ n = omega (arith, m.0, length-map-span (λ s. code_bits (code_at book n option s)) (2 ^ n)) in
-          record { w = word_of n said; small = word-small n said low high lt; passes = passed (refuses check (word_of n said)) m.1; says = word_says n option (word_of n said) said check false e (symbol-word n said low high lt) }
+          record { w = word_of n said; small = word_of-below n said low high lt; passes = passed (refuses check (word_of n said)) m.1; says = word_says n option (word_of n said) said check false e (symbol-word_of n said low high lt) }
 
   -- ---- an entry's items
 
@@ -154,8 +123,7 @@ module _ (book : Book) where
 
   items_are : (o : List ℕ) (before : List Entry) (check : Check) (n v : ℕ) (none one opened : Bool) → eqb n 0 ≡ none → eqb n 1 ≡ one → list_any (is_word_of n) before ≡ opened →
       entry_reading book o before check (WordOf n v) ≡ Items none one opened o check n v
-  unfolding entry_reading
-  items_are o before check n v none one opened e f g = grind (arith, nat_tests)
+  items_are o before check n v none one opened e f g = simp word_reading (grind (arith, nat_tests))
 
   module _ (o : List ℕ) (known : AreOptionsOf o) (before : List Entry) (check : Check) (n v : ℕ) (most : n ≤ 4) (small : v < 2 ^ n) (c said : ℕ) where
     -- another word
@@ -216,14 +184,14 @@ module _ (book : Book) where
 
   pub entry_spot : (o : List ℕ) → AreOptionsOf o → (before : List Entry) (check : Check) (x : Entry) (c said : ℕ) → IsEntry x → refuses check (value_of_entry x) ≡ false →
       c < length (entry_reading book o before check x) → MaySay (item_at (entry_reading book o before check x) c) said → Found o before check x c said
-  unfolding entry_reading
   entry_spot o known before check (Bit b) c said fit allowed lt may =
-      let low : c < 1 = lt in
+      let may = simp bit_reading at may in
+      let low : c < 1 = simp bit_reading at lt in
       let m : MaySay (raw (digit b)) said = at_only (raw (digit b)) c said low may in
       let small : said < 2 ^ 1 = m.0 in
-      inl (record { e = Bit (said == 1); replaces = record { kind = tt; fit = tt; passes = allowed; has_bits = tt }; chosen = one_only (raw (digit b)) (raw (digit (said == 1))) c said low (digit_of said (omega (arith, small))) })
+      inl (record { e = Bit (said == 1); replaces = record { kind = tt; fit = tt; passes = allowed; has_bits = tt }; chosen = simp bit_reading (one_only (raw (digit b)) (raw (digit (said == 1))) c said low (digit_of said (omega (arith, small)))) })
     where
       digit_of : (d : ℕ) → d < 2 → digit (d == 1) ≡ d
       digit_of d lt = grind (arith, nat_tests)
   entry_spot o known before check (Word bits) c said fit allowed lt may =
-      by_count o known before check bits.count bits.value fit.0 fit.1 c said (eqb bits.count 0) (eqb bits.count 1) (list_any (is_word_of bits.count) before) refl refl refl lt may
+      by_count o known before check bits.count bits.value fit.0 fit.1 c said (eqb bits.count 0) (eqb bits.count 1) (list_any (is_word_of bits.count) before) refl refl refl (simp word_reading at lt) (simp word_reading at may)

@@ -1,6 +1,5 @@
 -- Small segments, with all of their octets.
-use Rattle.std.proofs.Common.{◌≡◌, ℕ, ℤ, pos, negsuc, List, [], ◌∷◌, ◌++◌, replicate, refl, true, false, length, get_or, ◌-◌}
-use Rattle.std.specs.Prelude.{Some, take}
+use Rattle.std.proofs.Common.{◌≡◌, ℕ, ℤ, pos, negsuc, List, [], ◌∷◌, ◌++◌, replicate, refl, true, false, length, get_or, ◌-◌, Some, take}
 use Rattle.item_defs.specs.Bits.{bits_of, copies, value_of, bits_of_octets, octets_of}
 use Rattle.item_defs.specs.Items.{text, Item, false_flag, bad_option}
 use Rattle.item_defs.specs.Readings.{item_at}
@@ -103,6 +102,7 @@ many_options = chosen_options profile many_head many_blocks
 -- Of the first segment: its octets; what all of its items give, and what the first do: the DC's reference alone, its high bits, a number before
 -- its sign and after it, no number with a family's flag, and all except a last bit. Of the second one: its octets, and those up to a stop,
 -- which leaves the grandchildren out. Of many blocks: the octets up to the limit have 73 items, which give the numbers of blocks 0 to 67.
+-- Octets that are refused: B8 35 90, in which no family follows the flag of all descendants, and B9 00, whose identifier has no option.
 segments_compute : (depth_dc_of first_blocks ≡ 4) × (depth_ac_of first_blocks ≡ 2)
     × (octets_for first_head first_blocks ≡ 0xB8 ∷ 0x35 ∷ 0x89 ∷ 0x91 ∷ 0x40 ∷ [])
     × (given_after first_head first_blocks (length (items_of first_head first_blocks)) ≡ first_blocks)
@@ -120,13 +120,9 @@ segments_compute : (depth_dc_of first_blocks ≡ 4) × (depth_ac_of first_blocks
     × (length (text (take 73 (segment_items many_head many_blocks (replicate 100 0) many_options))) ≡ 96)
     × (get_or (given_blocks many_head many_blocks (replicate 100 0) many_options 73) 67 [] ≡ pos 1600 ∷ replicate 63 (pos 0))
     × (get_or (given_blocks many_head many_blocks (replicate 100 0) many_options 73) 68 [] ≡ replicate 64 (pos 0))
-unfolding size_of bits_of copies value_of bits_of_octets octets_of mapped unmapped value_items gaggle_items items_before coded_bits optimal heuristic greatest_suiting planes_before dc_items depth_items span symbol cost is_cheapest cheapest profile significant coded set_significant live enclosing_significant type_due flag_due newly_significant refined block_entries is_new is_forced block_steps word_of entry_reading segment_items blocks.place_of lib.Count.ones given_blocks
-segments_compute = (refl, refl, refl, refl, refl, refl, refl, refl, refl, refl, refl, refl, refl, refl, refl, refl, refl, refl)
-
--- Octets that are refused: B8 35 90, in which no family follows the flag of all descendants, and B9 00, whose identifier has no option.
-refusals_compute : ((item_at (items_of first_head first_blocks) 14).form.refusal 0 ≡ Some false_flag)
+    × ((item_at (items_of first_head first_blocks) 14).form.refusal 0 ≡ Some false_flag)
     × (text (take 14 (items_of first_head first_blocks)) ++ true ∷ [] ≡ take 20 (bits_of_octets (0xB8 ∷ 0x35 ∷ 0x90 ∷ [])))
     × ((item_at (items_of first_head first_blocks) 5).form.refusal 2 ≡ Some bad_option)
     × (text (take 5 (items_of first_head first_blocks)) ++ true ∷ false ∷ [] ≡ take 9 (bits_of_octets (0xB9 ∷ 0x00 ∷ [])))
-unfolding size_of bits_of copies value_of bits_of_octets octets_of mapped unmapped value_items gaggle_items items_before coded_bits optimal heuristic greatest_suiting planes_before dc_items depth_items span symbol cost is_cheapest cheapest profile significant coded set_significant live enclosing_significant type_due flag_due newly_significant refined block_entries is_new is_forced block_steps word_of entry_reading segment_items blocks.place_of lib.Count.ones
-refusals_compute = (refl, refl, refl, refl)
+unfolding size_of bits_of copies value_of bits_of_octets octets_of mapped unmapped value_items gaggle_items items_before coded_bits optimal heuristic greatest_suiting planes_before dc_items depth_items span symbol cost is_cheapest cheapest profile significant coded set_significant live enclosing_significant type_due flag_due newly_significant refined block_entries is_new is_forced block_steps word_of entry_reading segment_items blocks.place_of lib.Count.ones given_blocks
+segments_compute = (refl, refl, refl, refl, refl, refl, refl, refl, refl, refl, refl, refl, refl, refl, refl, refl, refl, refl, refl, refl, refl, refl)

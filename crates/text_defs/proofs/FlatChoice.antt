@@ -1,6 +1,5 @@
 -- An item of a list that is made part by part, and what is chosen in it.
-use Rattle.std.proofs.Common.{◌≡◌, ℕ, zero, suc, ◌+◌, ◌-◌, ◌<◌, ◌≤◌, inl, inr, List, ◌++◌, length, refl, ap, sym, ◌∙◌, subst, arith, length-append}
-use Rattle.std.specs.List.{flat_map}
+use Rattle.std.proofs.Common.{◌≡◌, ℕ, zero, suc, ◌+◌, ◌-◌, ◌<◌, ◌≤◌, inl, inr, List, ◌++◌, length, ap, sym, ◌∙◌, subst, arith, length-append, flat_map}
 use Rattle.std.proofs.lemmas.Bool.{cases_lt}
 use Rattle.item_defs.specs.Items.{Item}
 use Rattle.item_defs.specs.Readings.{item_at}
@@ -11,10 +10,10 @@ use Rattle.text_defs.proofs.ValueChoice.{MaySay, may_same}
 use Rattle.text_defs.proofs.Choices.{Chooses, choose_left, choose_right}
 use Rattle.text_defs.proofs.DcChoice.{choose_as}
 use Rattle.plane_texts.proofs.EntryChoices.{flat_more}
+use Rattle.plane_defs.proofs.Equations.{span-none}
 
 pub said_flat : (f h : ℕ → List Item) (start n : ℕ) → ((j : ℕ) → j < n → said_of (f (start + j)) ≡ said_of (h (start + j))) → said_of (flat_map f (span start n)) ≡ said_of (flat_map h (span start n))
-unfolding span
-said_flat f h start zero same = refl
+said_flat f h start zero same = simp span-none
 said_flat f h start (suc n) same =
     ap said_of (flat_more f start n) ∙ said_both (flat_map f (span start n)) (flat_map h (span start n)) (f (start + n)) (h (start + n)) (said_flat f h start n (λ j lt. same j (omega arith))) (same n (omega arith))
     ∙ ap said_of (sym (flat_more h start n))
@@ -29,8 +28,7 @@ pub record Located (f : ℕ → List Item) (start count m said : ℕ) : Type 0 w
   pub chosen : (h : ℕ → List Item) → ((j : ℕ) → start ≤ j → j < at → said_of (f j) ≡ said_of (h j)) → Chooses rest said (f at) (h at) → Chooses m said (flat_map f (span start count)) (flat_map h (span start count))
 
 pub locate : (f : ℕ → List Item) (start count m said : ℕ) → m < length (flat_map f (span start count)) → MaySay (item_at (flat_map f (span start count)) m) said → Located f start count m said
-unfolding span
-locate f start zero m said lt may = absurd (omega (arith, lt))
+locate f start zero m said lt may = let lt = simp span-none at lt in let may = simp span-none at may in (absurd (omega (arith, lt)))
 locate f start (suc n) m said lt may =
     let early = flat_map f (span start n) in
     let here = f (start + n) in

@@ -1,6 +1,5 @@
 -- Two readings of the same bits agree as far as both extend, and stop in the same way.
-use Rattle.std.proofs.Common.{◌≡◌, ℕ, zero, suc, ◌<◌, ◌≤◌, List, [], ◌∷◌, ◌++◌, length, take, Bool, refl, sym, ap, subst, ◌∙◌, arith}
-use Rattle.std.specs.Prelude.{Some}
+use Rattle.std.proofs.Common.{◌≡◌, ℕ, zero, suc, ◌<◌, ◌≤◌, List, [], ◌∷◌, ◌++◌, length, take, Bool, refl, sym, ap, subst, ◌∙◌, arith, Some}
 use Rattle.item_defs.proofs.ReadingLaws.{not_refused, some_of}
 use Rattle.item_defs.specs.Items.{Item, Refusal, item_bits, text, spelling, IsSaid}
 use Rattle.item_defs.specs.Readings.{IsSound, IsItem, AreItems, StepsAlike, item_at}

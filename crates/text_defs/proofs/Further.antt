@@ -11,10 +11,10 @@ use Rattle.text_defs.proofs.DepthsFurther.{depths_further}
 use Rattle.text_defs.proofs.DcFurther.{dc_further}
 use Rattle.plane_texts.proofs.BlocksChoose.{may_choose}
 use Rattle.text_defs.proofs.PlanesFurther.{planes_further}
+use Rattle.segment_defs.proofs.Equations.{segment_items-is}
 
 dc_alone : (head : SegmentHead) (blocks : List (List ℤ)) (depths : List ℕ) (options : Options) → head.stop.dc ≡ true → segment_items head blocks depths options ≡ dc_part_items head blocks options
-unfolding segment_items
-dc_alone head blocks depths options e = ap (λ t. cond t (dc_part_items head blocks options) (dc_part_items head blocks options ++ items_after_dc head blocks depths options)) e
+dc_alone head blocks depths options e = simp segment_items-is (ap (λ t. cond t (dc_part_items head blocks options) (dc_part_items head blocks options ++ items_after_dc head blocks depths options)) e)
 
 pub goes_further : GoesFurther
 goes_further head rest m xs ds o more after said fits a lt says allowed read =

@@ -1,6 +1,5 @@
 -- Two readings of the same number of items give the same numbers.
-use Rattle.std.proofs.Common.{◌≡◌, ◌⊎◌, ℕ, zero, suc, ◌+◌, ◌-◌, ◌*◌, ◌^◌, ◌<◌, ◌≤◌, inl, inr, Bool, true, false, cond, List, [], ◌∷◌, ◌++◌, length, take, map, refl, ap, sym, ◌∙◌, subst, arith, ℤ, pos, get_or}
-use Rattle.std.specs.Prelude.{nat_le, nat_lt, ◌&&◌, ◌||◌, ◌==◌, sum_by, neg_ℤ, ◌+ℤ◌, ◌*ℤ◌}
+use Rattle.std.proofs.Common.{◌≡◌, ◌⊎◌, ℕ, zero, suc, ◌+◌, ◌-◌, ◌*◌, ◌^◌, ◌<◌, ◌≤◌, inl, inr, Bool, true, false, cond, List, [], ◌∷◌, ◌++◌, length, take, map, refl, ap, sym, ◌∙◌, subst, arith, ℤ, pos, get_or, nat_le, nat_lt, ◌&&◌, ◌||◌, ◌==◌, sum_by, neg_ℤ, ◌+ℤ◌, ◌*ℤ◌}
 use Rattle.std.specs.Int.{int_shr}
 use Rattle.std.specs.List.{list_any, AllByRecursion}
 use Rattle.std.proofs.lemmas.Bool.{cases_lt, leb-true, lt-ltb}
@@ -36,6 +35,7 @@ use Rattle.text_defs.specs.Laws.{SameGiven}
 use Rattle.text_defs.proofs.OutcomeLaws.{step_law}
 use Rattle.plane_texts.proofs.LowBits.{none_below, twos, left_over}
 use Rattle.text_defs.proofs.DcTold.{through_told, bits_told, dc_long}
+use Rattle.segment_defs.proofs.Equations.{segment_items-is}
 
 -- ---- tests that have the same result
 
@@ -94,8 +94,7 @@ part_none head blocks depths options m r b lt = by_stop head.stop.dc
 module _ (head : SegmentHead) (fits : IsHead head) (xs ys : List (List ℤ)) (ds es : List ℕ) (o u : Options) (p : IsSpellable head xs ds) (q : IsSpellable head ys es) (k : AreWordOptions o) (l : AreWordOptions u) (books : o.book ≡ u.book) (m : ℕ)
     (said : SaySame m (segment_items head xs ds o) (segment_items head ys es u)) (all : AreItems (take m (segment_items head xs ds o))) (r : ℕ) (inside : r < head.blocks) where
   dc_said : SaySame m (dc_part_items head xs o) (dc_part_items head ys u)
-  unfolding segment_items
-  dc_said = by_stop head.stop.dc said
+  dc_said = by_stop head.stop.dc (simp segment_items-is at said)
     where
       by_stop : (t : Bool) →
           SaySame m (cond t (dc_part_items head xs o) (dc_part_items head xs o ++ (depth_items head.depth_ac ds o.depths ++ planes_items head xs ds o head.depth_ac)))

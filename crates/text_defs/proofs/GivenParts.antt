@@ -1,17 +1,14 @@
 -- The numbers that a text holds are multiples of their weights, and small.
-use Rattle.std.proofs.Common.{◌≡◌, ◌⊎◌, inl, inr, ℕ, zero, suc, ◌+◌, ◌-◌, ◌*◌, ◌^◌, ◌<◌, ◌≤◌, ◌==◌, max, Bool, true, false, cond, List, [], ◌∷◌, length, map, refl, ap, sym, subst, ◌∙◌, arith, ℤ, pos, negsuc, get_or}
-use Rattle.std.specs.Prelude.{◌&&◌, ◌||◌, nat_le, nat_lt, neg_ℤ, ◌+ℤ◌, ◌*ℤ◌, unsigned_abs, sum_by, All}
+use Rattle.std.proofs.Common.{◌≡◌, ◌⊎◌, inl, inr, ℕ, zero, suc, ◌+◌, ◌-◌, ◌*◌, ◌^◌, ◌<◌, ◌≤◌, ◌==◌, Bool, true, false, cond, List, [], length, refl, ap, sym, subst, ◌∙◌, arith, ℤ, pos, negsuc, get_or, ◌&&◌, ◌||◌, nat_le, neg_ℤ, ◌+ℤ◌, ◌*ℤ◌, unsigned_abs, sum_by, All, pow_pos, pow-add, pow_mono}
 use Rattle.std.specs.Int.{int_shr}
-use Rattle.std.proofs.lemmas.Bool.{cases_lt, cases_Bool}
+use Rattle.std.proofs.lemmas.Bool.{cases_lt}
 use Rattle.std.proofs.lemmas.Bool.Decides.{nat_tests}
 use Rattle.std.proofs.lemmas.Int.{ints}
 use Rattle.std.proofs.lemmas.List.{get_or_past}
-use Rattle.std.proofs.lemmas.Nat.{pow_pos, pow-add}
 use Rattle.std.proofs.Math.IntN.{negsuc-*ℤ-pos, pos-*ℤ-pos}
 use Rattle.std.proofs.Math.ListN.{get_or-map}
 use Rattle.std.proofs.lemmas.List.{length-map, get_or-map as get_or-map'}
 use Rattle.std.proofs.Math.Nat.{mul-le-mul_right, mul-sub}
-use Rattle.std.proofs.Math.Pow.{pow_mono}
 use Rattle.item_defs.specs.Bits.{bit}
 use Rattle.number_defs.specs.Ranges.{IsInRange, complement}
 use Rattle.number_defs.specs.DcPart.{dc_q, dc_bits}
@@ -25,11 +22,13 @@ use Rattle.segment_defs.specs.Head.{IsHead}
 use Rattle.segment_defs.specs.Depths.{dc_of, dcs_of}
 use Rattle.segment_defs.specs.SegmentItems.{Options, dc_shift, q_of}
 use Rattle.text_defs.specs.Spellable.{IsSpellable, block_of}
-use Rattle.text_defs.specs.Given.{has_bit, has_sign, is_dc_bit_given, dc_through, given_magnitude, given_ac, given_low, given_dc, given_block, given_blocks}
+use Rattle.text_defs.specs.Given.{has_bit, is_dc_bit_given, dc_through, given_magnitude, given_ac, given_low, given_dc, given_block, given_blocks}
 use Rattle.text_defs.specs.Outcomes.{Holds}
 use Rattle.text_defs.proofs.GivesAll.{span_long, span_at}
 use Rattle.plane_texts.proofs.LowBits.{even_part, halves, none_below}
-use Rattle.text_defs.proofs.BitSums.{sum_span, sum_none, doubled}
+use Rattle.plane_defs.proofs.Counting.{sum_suc, sum_none}
+use Rattle.text_defs.proofs.BitSums.{doubled}
+use Rattle.wave_defs.proofs.BlockLaws.{place_of-first}
 
 -- a multiple of 2 ^ s, by at most 2 ^ 27 in magnitude
 pub record IsPart (s : ℕ) (z : ℤ) : Type 0 where
@@ -60,7 +59,7 @@ one_more s w n m x (inr one) =
 
 sum_from : (s : ℕ) (f : ℕ → ℕ) → ((b : ℕ) → IsBitFrom s b (f b)) → (w : ℕ) → BitsFrom s w (sum_by f (span 0 w))
 sum_from s f each zero = record { part = 0; whole = omega (arith, sum_none f); few = omega (arith, sum_none f, pow_pos 0) }
-sum_from s f each (suc w) = subst (BitsFrom s (suc w)) (sym (sum_span f w)) (one_more s w (sum_by f (span 0 w)) (f w) (sum_from s f each w) (each w))
+sum_from s f each (suc w) = subst (BitsFrom s (suc w)) (sym (sum_suc f w)) (one_more s w (sum_by f (span 0 w)) (f w) (sum_from s f each w) (each w))
 
 -- a bit if two tests hold, of which the second fails below the place
 tested : (s b : ℕ) (t c : Bool) → (b < s → c ≡ false) → IsBitFrom s b (cond (t && c) (2 ^ b) 0)
@@ -153,8 +152,7 @@ pub shift_low : (shifts : List ℕ) (k : ℕ) → All (λ shift. shift ≤ 3) sh
 shift_low shifts k each = grind (arith, nat_tests, get_or_past)
 
 dc_shift_is : (head : SegmentHead) → dc_shift head ≡ shift head.image.weights.shifts 0
-unfolding place_of
-dc_shift_is head = refl
+dc_shift_is head = simp place_of-first
 
 module _ (head : SegmentHead) (blocks : List (List ℤ)) (depths : List ℕ) (options : Options) (m : ℕ) (ok : IsHead head) (p : IsSpellable head blocks depths) (r : ℕ) (lt : r < length blocks) where
   abbrev weights : List ℕ

@@ -1,14 +1,11 @@
 -- All items of a segment without a stop give all of its numbers.
-use Rattle.std.proofs.Common.{◌≡◌, ◌⊎◌, ℕ, zero, suc, ◌+◌, ◌-◌, ◌*◌, ◌/◌, ◌^◌, ◌<◌, ◌≤◌, min, inl, inr, Bool, true, false, cond, eqb, List, [], ◌∷◌, ◌++◌, length, map, refl, ap, sym, ◌∙◌, subst, arith, ℤ, pos, get_or, length-append}
-use Rattle.std.specs.Prelude.{nat_le, nat_lt, ◌&&◌, ◌||◌, ◌==◌, neg_ℤ, unsigned_abs}
+use Rattle.std.proofs.Common.{◌≡◌, ◌⊎◌, ℕ, zero, suc, ◌+◌, ◌-◌, ◌*◌, ◌/◌, ◌^◌, ◌<◌, ◌≤◌, min, inl, inr, Bool, true, false, cond, eqb, List, [], ◌∷◌, ◌++◌, length, map, refl, ap, sym, ◌∙◌, subst, arith, ℤ, pos, get_or, length-append, nat_le, nat_lt, ◌&&◌, ◌||◌, ◌==◌, neg_ℤ, unsigned_abs, mod-eq_of_lt, pow_mono}
 use Rattle.std.specs.Int.{int_shr}
 use Rattle.std.specs.List.{range_with_len}
 use Rattle.std.proofs.lemmas.Bool.{cases_lt, le-leb, lt-ltb, lt-leb}
 use Rattle.std.proofs.lemmas.Bool.Decides.{nat_tests}
 use Rattle.std.proofs.lemmas.List.{get_or_past, length-map, get_or-map, get_or_append_left}
 use Rattle.std.proofs.Math.Seq.{get_or-append_seam}
-use Rattle.std.proofs.Math.Nat.{mod-eq_of_lt}
-use Rattle.std.proofs.Math.Pow.{pow_mono}
 use Rattle.std.proofs.lemmas.List.FromFn.{length-range_with_len}
 use Rattle.item_defs.specs.Bits.{bit}
 use Rattle.number_defs.specs.Ranges.{complement}
@@ -39,43 +36,41 @@ use Rattle.text_defs.proofs.AllSent.{all_stages, bit_sent, sign_sent, dc_sent}
 use Rattle.text_defs.proofs.BitSums.{sum_bits, low_bit, sum_low, parts_whole}
 use Rattle.plane_texts.proofs.PlaneParts.{part_long}
 use Rattle.text_defs.proofs.WholeGiven.{segment_long, given_whole}
+use Rattle.plane_defs.proofs.Equations.{span-none, span-more, significant-is, coded-is}
+use Rattle.number_defs.proofs.Equations.{value_items-is, gaggle_items-is}
 
 -- ---- tests
 
 -- a condition that holds whenever a bit is 1 does not change the bit
-absorbs : (h c : Bool) → (c ≡ true → h ≡ true) → (h && c) ≡ c
+pub absorbs : (h c : Bool) → (c ≡ true → h ≡ true) → (h && c) ≡ c
 absorbs h c f = grind (arith, nat_tests)
 
-either_true : (a b : Bool) → (a ≡ true) ⊎ (b ≡ true) → (a || b) ≡ true
+pub either_true : (a b : Bool) → (a ≡ true) ⊎ (b ≡ true) → (a || b) ≡ true
 either_true a b h = grind (arith, nat_tests)
 
 pub span_long : (a n : ℕ) → length (span a n) ≡ n
-unfolding span
-span_long a zero = refl
-span_long a (suc n) = length-append (span a n) ((a + n) ∷ []) ∙ (let e = span_long a n in omega (arith, e))
+span_long a zero = simp span-none
+span_long a (suc n) = simp span-more (length-append (span a n) ((a + n) ∷ []) ∙ (let e = span_long a n in omega (arith, e)))
 
 pub span_at : (a n i : ℕ) → i < n → get_or (span a n) i 0 ≡ a + i
-unfolding span
 span_at a zero i lt = absurd (omega arith)
-span_at a (suc n) i lt =
+span_at a (suc n) i lt = simp span-more (
     elim (cases_lt i n) [
       | inl early ↦ get_or_append_left (span a n) ((a + n) ∷ []) 0 i (omega (arith, early, span_long a n)) ∙ span_at a n i early
       | inr last ↦
           let here : i ≡ length (span a n) = omega (arith, lt, last, span_long a n) in
           let same : a + n ≡ a + i = omega arith in
           ap (λ k. get_or (span a n ++ (a + n) ∷ []) k 0) here ∙ get_or-append_seam (span a n) (a + n) [] 0 ∙ same
-    ]
+    ])
 
 -- ---- numbers by differences
 
 values_fit : (kind : Kind) (heights : List ℕ) (option a n i : ℕ) → a ≤ i → i < a + n →
     cond (eqb option (uncoded kind.bits) || eqb option 0) 0 n + (i - a + 1) ≤ length (value_items kind heights option (range_with_len a n))
-unfolding value_items
-values_fit kind heights option a n i low high = grind (arith, nat_tests, map_long, length-append)
+values_fit kind heights option a n i low high = simp value_items-is (grind (arith, nat_tests, map_long, length-append))
 
 gaggle_long : (kind : Kind) (heights : List ℕ) (option g : ℕ) → length (gaggle_items kind heights option g) ≡ 1 + (length (lead_items kind heights g) + length (value_items kind heights option (places (length heights) g)))
-unfolding gaggle_items
-gaggle_long kind heights option g = omega (arith, length-append (lead_items kind heights g) (value_items kind heights option (places (length heights) g)))
+gaggle_long kind heights option g = simp gaggle_items-is (omega (arith, length-append (lead_items kind heights g) (value_items kind heights option (places (length heights) g))))
 
 pub numbers_fit : (kind : Kind) (heights : List ℕ) (options : ℕ → ℕ) (i : ℕ) → i < length heights → numbers_through kind heights options i ≤ length (number_items kind heights options)
 numbers_fit kind heights options i lt =
@@ -111,7 +106,7 @@ top (suc w) n some lt =
 signed : (z : ℤ) (s : Bool) (size : ℕ) → size ≡ unsigned_abs z → (negative z ≡ true → s ≡ true) → cond (s && negative z) (neg_ℤ (pos size)) (pos size) ≡ z
 signed z s size e f = grind (arith, nat_tests)
 
-some_size : (z : ℤ) → negative z ≡ true → 1 ≤ unsigned_abs z
+pub some_size : (z : ℤ) → negative z ≡ true → 1 ≤ unsigned_abs z
 some_size z e = grind (arith, nat_tests)
 
 module _ (head : SegmentHead) (blocks : List (List ℤ)) (depths : List ℕ) (options : Options) (p : IsSpellable head blocks depths) (goes_on : head.stop.dc ≡ false) (low_plane : head.stop.plane ≡ 0) (last_stage : head.stop.stage ≡ 3)
@@ -142,12 +137,10 @@ module _ (head : SegmentHead) (blocks : List (List ℤ)) (depths : List ℕ) (op
       ∙ sum_bits (magnitude B n) head.depth_ac ∙ mod-eq_of_lt (below n first)
 
   reached : (b n : ℕ) → 2 ^ b ≤ magnitude B n → significant B b n ≡ true
-  unfolding significant
-  reached b n le = le-leb (2 ^ b) (magnitude B n) le
+  reached b n le = simp significant-is (le-leb (2 ^ b) (magnitude B n) le)
 
   missed : (b n : ℕ) → magnitude B n < 2 ^ b → significant B b n ≡ false
-  unfolding significant
-  missed b n lt = lt-leb (2 ^ b) (magnitude B n) lt
+  missed b n lt = simp significant-is (lt-leb (2 ^ b) (magnitude B n) lt)
 
   minus : (n : ℕ) → 1 ≤ n → n < 64 → negative (get_or B n (pos 0)) ≡ true → has_sign head blocks depths options m r n ≡ true
   minus n first last e =
@@ -177,8 +170,8 @@ module _ (head : SegmentHead) (blocks : List (List ℤ)) (depths : List ℕ) (op
   below_shift b lt = let whole : IsMultiple B head.image.weights.shifts = p.multiples r in none_below (dc_of B) b shift (whole.part 0) (whole.whole 0) lt
 
   dc_coded : (b : ℕ) → shift ≤ b → coded head.image.weights.shifts b 0 ≡ true
-  unfolding coded wave_blocks.place_of
-  dc_coded b le = le-leb shift b le
+  unfolding wave_blocks.place_of
+  dc_coded b le = simp coded-is (le-leb shift b le)
 
   -- a low bit that is not 0 is given
   bit_given : (b : ℕ) → b < q_of head → (complement 1 (int_shr (dc_of B) b) == 1) ≡ true → (is_dc_bit_given head blocks options m r b || has_bit head blocks depths options m r 0 b) ≡ true

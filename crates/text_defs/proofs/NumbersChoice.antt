@@ -1,17 +1,17 @@
 -- Numbers by differences may be chosen so that the next item says any number that it does not refuse.
-use Rattle.std.proofs.Common.{◌≡◌, ℕ, zero, suc, ◌+◌, ◌*◌, ◌-◌, ◌/◌, ◌%◌, ◌^◌, ◌<◌, ◌≤◌, min, List, [], ◌∷◌, ◌++◌, length, map, get_or, Bool, true, false, eqb, cond, refl, sym, ap, ◌∙◌, arith}
+use Rattle.std.proofs.Common.{◌≡◌, ℕ, zero, suc, ◌+◌, ◌*◌, ◌-◌, ◌/◌, ◌%◌, ◌^◌, ◌<◌, ◌≤◌, min, List, [], ◌∷◌, ◌++◌, length, map, get_or, Bool, true, false, eqb, cond, refl, sym, ap, ◌∙◌, arith, pow_pos}
 use Rattle.std.specs.List.{range_with_len}
 use Rattle.std.proofs.lemmas.Bool.Decides.{nat_tests}
 use Rattle.std.proofs.lemmas.List.{map-append, get_or_past}
-use Rattle.std.proofs.lemmas.Nat.{pow_pos}
 use Rattle.item_defs.specs.Items.{Item}
 use Rattle.item_defs.specs.Readings.{item_at}
 use Rattle.item_defs.specs.Laws.{said_of}
 use Rattle.number_defs.specs.Mapping.{mapped, unmapped}
-use Rattle.number_defs.specs.Gaggles.{Kind, uncoded, value_at, first_place, places, uncoded_value, unary_part, rest_part, value_items, lead_items, gaggle_items, items_before}
+use Rattle.number_defs.specs.Gaggles.{Kind, uncoded, value_at, first_place, places, uncoded_value, unary_part, rest_part, value_items, lead_items, items_before}
 use Rattle.number_defs.proofs.MappingLaws.{mapped_below, unmapped_below, unmapped_back}
 use Rattle.plane_defs.specs.Spans.{span}
 use Rattle.plane_defs.proofs.SpanLists.{length-map-span, get_or-map-span}
+use Rattle.number_defs.proofs.Equations.{value_items-is, items_before-none, items_before-more, gaggle_items-is}
 
 pub said_both : (is js is' js' : List Item) → said_of is ≡ said_of js → said_of is' ≡ said_of js' → said_of (is ++ is') ≡ said_of (js ++ js')
 said_both is js is' js' e f = grind (arith, nat_tests, map-append)
@@ -98,8 +98,7 @@ module _ (kind : Kind) (xs : List ℕ) (few : (i : ℕ) → get_or xs i 0 < 2 ^ 
 module _ (kind : Kind) (xs ys : List ℕ) (long : length ys ≡ length xs) where
   pub values_said : (option a n : ℕ) → ((j : ℕ) → a ≤ j → j < a + n → value_at kind.bits xs j ≡ value_at kind.bits ys j) →
       said_of (value_items kind xs option (range_with_len a n)) ≡ said_of (value_items kind ys option (range_with_len a n))
-  unfolding value_items
-  values_said option a n same = by_option (eqb option (uncoded kind.bits)) (eqb option 0)
+  values_said option a n same = simp value_items-is (by_option (eqb option (uncoded kind.bits)) (eqb option 0))
     where
       unaries : said_of (map (unary_part kind xs option) (range_with_len a n)) ≡ said_of (map (unary_part kind ys option) (range_with_len a n))
       unaries = map_said (unary_part kind xs option) (unary_part kind ys option) a n (λ j low high. ap (λ w. w / 2 ^ option) (same j low high))
@@ -117,12 +116,11 @@ module _ (kind : Kind) (xs ys : List ℕ) (long : length ys ≡ length xs) where
 
   pub before_said : (o u : ℕ → ℕ) (g : ℕ) → (1 ≤ g → get_or xs 0 0 ≡ get_or ys 0 0) → ((j : ℕ) → j < g → o j ≡ u j) → ((j : ℕ) → 1 ≤ j → j < 16 * g → j < length xs → value_at kind.bits xs j ≡ value_at kind.bits ys j) →
       said_of (items_before kind xs o g) ≡ said_of (items_before kind ys u g)
-  unfolding items_before gaggle_items
-  before_said o u zero e options same = refl
-  before_said o u (suc g) e options same =
+  before_said o u zero e options same = simp items_before-none
+  before_said o u (suc g) e options same = simp (items_before-more, gaggle_items-is) (
       said_both (items_before kind xs o g) (items_before kind ys u g) _ _ (before_said o u g (λ some. e (omega arith)) (λ j lt. options j (omega arith)) (λ j some lt within. same j some (omega arith) within))
       (ap (λ x. x ∷ said_of (lead_items kind xs g ++ value_items kind xs (o g) (places (length xs) g))) (options g (omega arith))
       ∙ ap (λ l. u g ∷ l) (said_both (lead_items kind xs g) (lead_items kind ys g) _ _ (lead_said g (e (omega arith)))
       (ap (λ w. said_of (value_items kind xs w (places (length xs) g))) (options g (omega arith))
       ∙ values_said (u g) (first_place g) (min (length xs) (16 * g + 16) - first_place g) (λ j low high. same j (omega arith) (omega arith) (omega arith))
-      ∙ ap (λ n. said_of (value_items kind ys (u g) (places n g))) (sym long))))
+      ∙ ap (λ n. said_of (value_items kind ys (u g) (places n g))) (sym long)))))

@@ -1,6 +1,5 @@
 -- The numbers by differences that the first items of two readings make whole are the same.
-use Rattle.std.proofs.Common.{◌≡◌, ℕ, zero, suc, ◌+◌, ◌*◌, ◌-◌, ◌/◌, ◌%◌, ◌^◌, ◌<◌, ◌≤◌, min, List, [], ◌∷◌, ◌++◌, length, take, map, get_or, Bool, true, false, eqb, cond, refl, sym, ap, subst, ◌∙◌, arith, inl, inr, append_assoc, append-nil, length-append}
-use Rattle.std.specs.Prelude.{◌||◌}
+use Rattle.std.proofs.Common.{◌≡◌, ℕ, zero, suc, ◌+◌, ◌*◌, ◌-◌, ◌/◌, ◌%◌, ◌^◌, ◌<◌, ◌≤◌, min, List, [], ◌∷◌, ◌++◌, length, take, map, get_or, Bool, true, false, eqb, cond, refl, sym, ap, subst, ◌∙◌, arith, inl, inr, append_assoc, append-nil, length-append, ◌||◌}
 use Rattle.std.specs.List.{range_with_len}
 use Rattle.std.proofs.lemmas.Bool.{cases_lt}
 use Rattle.std.proofs.lemmas.Bool.Decides.{nat_tests}
@@ -15,6 +14,7 @@ use Rattle.number_defs.specs.Given.{numbers_through}
 use Rattle.text_defs.proofs.Prefixes.{SaySame, split}
 use Rattle.plane_texts.proofs.PlaneParts.{Parts}
 use Rattle.text_defs.proofs.PlaneTold.{say_as}
+use Rattle.number_defs.proofs.Equations.{value_items-is, items_before-more, gaggle_items-is}
 
 -- ---- lists of one length that say the same
 
@@ -59,13 +59,11 @@ unary_of kind option n = cond (eqb option (uncoded kind.bits) || eqb option 0) 0
 
 module _ (kind : Kind) (xs ys : List ℕ) (p : (i : ℕ) → get_or xs i 0 < 2 ^ kind.bits) (q : (i : ℕ) → get_or ys i 0 < 2 ^ kind.bits) where
   values_long : (option a n : ℕ) → length (value_items kind xs option (range_with_len a n)) ≡ length (value_items kind ys option (range_with_len a n))
-  unfolding value_items
-  values_long option a n = grind (arith, nat_tests, length-append, map_long)
+  values_long option a n = simp value_items-is (grind (arith, nat_tests, length-append, map_long))
 
   value_told : (option a n k i : ℕ) → SaySame k (value_items kind xs option (range_with_len a n)) (value_items kind ys option (range_with_len a n)) → a ≤ i → i < a + n →
       unary_of kind option n + (i - a + 1) ≤ k → value_at kind.bits xs i ≡ value_at kind.bits ys i
-  unfolding value_items
-  value_told option a n k i e low high le = by_option (eqb option (uncoded kind.bits)) (eqb option 0) refl e le
+  value_told option a n k i e low high le = let e = simp value_items-is at e in (by_option (eqb option (uncoded kind.bits)) (eqb option 0) refl e le)
     where
       by_option : (t z : Bool) → eqb option 0 ≡ z → SaySame k (cond t (map (uncoded_value kind xs) (range_with_len a n)) (map (unary_part kind xs option) (range_with_len a n) ++ cond z [] (map (rest_part kind xs option) (range_with_len a n))))
           (cond t (map (uncoded_value kind ys) (range_with_len a n)) (map (unary_part kind ys option) (range_with_len a n) ++ cond z [] (map (rest_part kind ys option) (range_with_len a n)))) →
@@ -97,9 +95,8 @@ module _ (kind : Kind) (xs ys : List ℕ) (p : (i : ℕ) → get_or xs i 0 < 2 ^
   lead_long g = grind (arith, nat_tests)
 
 pub before_parts : (kind : Kind) (heights : List ℕ) (options : ℕ → ℕ) (count g : ℕ) → g < count → Parts (items_before kind heights options count) (items_before kind heights options g) (gaggle_items kind heights (options g) g)
-unfolding items_before
 before_parts kind heights options zero g lt = absurd (omega arith)
-before_parts kind heights options (suc count) g lt =
+before_parts kind heights options (suc count) g lt = simp items_before-more (
     elim (cases_lt g count) [
       | inl early ↦
           let r = before_parts kind heights options count g early in
@@ -113,7 +110,7 @@ before_parts kind heights options (suc count) g lt =
       | inr last ↦
           let same : count ≡ g = omega arith in
           record { others = []; same = ap (λ c. items_before kind heights options c ++ gaggle_items kind heights (options c) c) same ∙ ap (λ l. items_before kind heights options g ++ l) (sym (append-nil (gaggle_items kind heights (options g) g))) }
-    ]
+    ])
 
 -- ---- all numbers
 
@@ -126,9 +123,9 @@ module _ (kind : Kind) (xs ys : List ℕ) (p : (i : ℕ) → get_or xs i 0 < 2 ^
 
   gaggle_told : (g c : ℕ) → ((j : ℕ) → j < 16 * g → get_or xs j 0 ≡ get_or ys j 0) → (rest other : List Item) →
       SaySame c (gaggle_items kind xs (o g) g ++ rest) (gaggle_items kind ys (u g) g ++ other) → 1 + length (lead_items kind xs g) ≤ c → NumbersGiven g c
-  unfolding gaggle_items
   gaggle_told g zero known rest other e le = absurd (omega (arith, le))
   gaggle_told g (suc c) known rest other e le =
+      let e = simp gaggle_items-is at e in (
       let a : ℕ = first_place g in
       let n : ℕ = min (length xs) (16 * g + 16) - a in
       let option : o g ≡ u g = head_same _ _ _ _ e in
@@ -152,7 +149,7 @@ module _ (kind : Kind) (xs ys : List ℕ) (p : (i : ℕ) → get_or xs i 0 < 2 ^
             let at : a + d - 1 ≡ i = omega arith in
             subst (λ j. get_or xs j 0 ≡ get_or ys j 0) at
             (walk kind xs ys p q a d (omega arith) before (λ j from to. value_told kind xs ys p q (o g) a n k j values from (omega arith) (omega (arith, counted)))),
-      )
+      ))
 
   abbrev lead_of : List ℕ → (ℕ → ℕ) → ℕ → ℕ
   lead_of zs w g = length (items_before kind zs w g) + 1 + length (lead_items kind zs g)

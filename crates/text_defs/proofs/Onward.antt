@@ -1,9 +1,7 @@
 -- If each item that is not refused is the next item of some reading, each text has an outcome.
-use Rattle.std.proofs.Common.{◌≡◌, ◌⊎◌, ℕ, zero, suc, ◌-◌, ◌^◌, ◌<◌, ◌≤◌, inl, inr, Bool, true, false, List, [], ◌∷◌, ◌++◌, length, map, refl, ap, sym, ◌∙◌, subst, arith, ℤ, pos, get_or, length-append}
-use Rattle.std.specs.Prelude.{◌≢◌, Option, None, Some, unsigned_abs}
+use Rattle.std.proofs.Common.{◌≡◌, ◌⊎◌, ℕ, zero, suc, ◌-◌, ◌^◌, ◌<◌, ◌≤◌, inl, inr, Bool, true, false, List, [], ◌∷◌, ◌++◌, length, map, refl, ap, sym, ◌∙◌, subst, arith, ℤ, pos, get_or, length-append, ◌≢◌, Option, None, Some, unsigned_abs, pow_pos}
 use Rattle.std.proofs.lemmas.Bool.{cases_lt}
 use Rattle.std.proofs.lemmas.Int.{ints}
-use Rattle.std.proofs.lemmas.Nat.{pow_pos}
 use Rattle.item_defs.specs.Items.{Item, Refusal, Shape, fixed, zeros_to, coded, IsSaid, spelling}
 use Rattle.item_defs.specs.Readings.{Lacks, item_at}
 use Rattle.number_defs.specs.Ranges.{IsInRange}

@@ -1,6 +1,5 @@
 -- Options of numbers whose identifiers were read exist; so numbers continue by one item.
-use Rattle.std.proofs.Common.{◌≡◌, ℕ, zero, suc, ◌-◌, ◌^◌, ◌<◌, ◌≤◌, Bool, true, not, cond, List, [], ◌∷◌, ◌++◌, length, take, get_or, refl, ap, sym, ◌∙◌, subst, arith, length-append}
-use Rattle.std.specs.Prelude.{None, Some}
+use Rattle.std.proofs.Common.{◌≡◌, ℕ, zero, suc, ◌-◌, ◌^◌, ◌<◌, ◌≤◌, Bool, true, not, cond, List, [], ◌∷◌, ◌++◌, length, take, get_or, ap, sym, ◌∙◌, subst, arith, length-append, None, Some}
 use Rattle.std.proofs.lemmas.Bool.Decides.{nat_tests}
 use Rattle.item_defs.specs.Items.{Item, bad_option, identifier}
 use Rattle.item_defs.specs.Readings.{IsItem, AreItems, item_at}
@@ -9,6 +8,7 @@ use Rattle.text_defs.proofs.NumbersTold.{before_parts}
 use Rattle.text_defs.proofs.NumbersChoice.{right_at}
 use Rattle.text_defs.proofs.ValueChoice.{MaySay}
 use Rattle.text_defs.proofs.AnyNumbers.{NumbersChosen, any_numbers}
+use Rattle.number_defs.proofs.Equations.{gaggle_items-is}
 
 pub are_at : (m k : ℕ) (items : List Item) → AreItems (take m items) → k < m → k < length items → IsItem (item_at items k)
 are_at m k [] all lt within = absurd (omega (arith, within))
@@ -21,12 +21,10 @@ named b e = grind (arith, nat_tests)
 
 module _ (kind : Kind) (xs : List ℕ) (o : ℕ → ℕ) where
   first_of : (g : ℕ) (rest : List Item) → item_at (gaggle_items kind xs (o g) g ++ rest) 0 ≡ identifier (identifier_bits kind.bits) (is_option kind.bits) (o g)
-  unfolding gaggle_items
-  first_of g rest = refl
+  first_of g rest = simp gaggle_items-is
 
   some_items : (g : ℕ) → 0 < length (gaggle_items kind xs (o g) g)
-  unfolding gaggle_items
-  some_items g = omega arith
+  some_items g = simp gaggle_items-is (omega arith)
 
   pub option_read : (m g : ℕ) → AreItems (take m (number_items kind xs o)) → g < gaggle_count (length xs) → length (items_before kind xs o g) < m → is_option kind.bits (o g) ≡ true
   option_read m g all lt read =

@@ -1,9 +1,7 @@
 -- No item of a plane of values that can be coded is refused.
-use Rattle.std.proofs.Common.{◌≡◌, ℕ, zero, suc, ◌*◌, ◌^◌, ◌<◌, ◌≤◌, Bool, true, false, cond, eqb, List, [], ◌∷◌, ◌++◌, refl, subst, arith, get_or}
-use Rattle.std.specs.Prelude.{◌==◌, None, Some, nat_lt}
-use Rattle.std.specs.List.{flat_map, list_any, list_all, AllByRecursion}
+use Rattle.std.proofs.Common.{◌≡◌, ℕ, zero, suc, ◌*◌, ◌^◌, ◌<◌, ◌≤◌, Bool, true, false, cond, eqb, List, [], ◌∷◌, ◌++◌, refl, subst, arith, get_or, ◌==◌, None, Some}
+use Rattle.std.specs.List.{flat_map, list_any, AllByRecursion}
 use Rattle.std.proofs.lemmas.Bool.Decides.{nat_tests}
-use Rattle.std.proofs.lemmas.Bool.{ltb-true}
 use Rattle.item_defs.specs.Bits.{digit}
 use Rattle.item_defs.specs.Items.{Item, raw, plain, code, false_flag, IsSaid, refused_where}
 use Rattle.item_defs.specs.Readings.{IsItem, AreItems}
@@ -21,45 +19,33 @@ use Rattle.plane_defs.specs.StepLaws.{IsAllowed, value_of_entry}
 use Rattle.plane_defs.specs.Laws.{IsMultiple}
 use Rattle.plane_defs.specs.Planes.{Plane, gaggles, gaggle_size, before_stage}
 use Rattle.plane_defs.specs.Reading.{word_of, checked, checked_word, entry_reading, step_reading, read_after, steps_of_block, steps_of_gaggle, gaggle_reading, stage_reading, plane_reading}
+use Rattle.plane_defs.proofs.SymbolTables.{symbol-below}
 use Rattle.plane_defs.proofs.SpanLists.{length-map-span}
-use Rattle.plane_defs.proofs.Tables.{list_all-span-zero}
 use Rattle.plane_defs.proofs.Above.{all_append}
 use Rattle.plane_defs.proofs.Allowed.{block_is_allowed}
 use Rattle.plane_defs.proofs.StepItems.{AreOptionsOf, Fits, word_of-symbol}
 use Rattle.plane_defs.proofs.PlaneSteps.{block_fits, flat_fits}
 use Rattle.text_defs.proofs.SoundItems.{word_sound}
+use Rattle.plane_defs.proofs.Equations.{span-none, span-more, bit_reading, word_reading}
 
 -- ---- options and symbols
 
 option_is_item : (n o : ℕ) → 2 ≤ n → n ≤ 4 → o < n → IsItem (option_item n o)
-unfolding span
 option_is_item zero o low high lt = absurd (omega arith)
 option_is_item (suc zero) o low high lt = absurd (omega arith)
-option_is_item (suc (suc zero)) zero low high lt = (tt, omega arith, refl)
-option_is_item (suc (suc zero)) (suc zero) low high lt = (tt, omega arith, refl)
+option_is_item (suc (suc zero)) zero low high lt = grind (arith, nat_tests, span-none, span-more)
+option_is_item (suc (suc zero)) (suc zero) low high lt = grind (arith, nat_tests, span-none, span-more)
 option_is_item (suc (suc zero)) (suc (suc o)) low high lt = absurd (omega arith)
-option_is_item (suc (suc (suc zero))) zero low high lt = (tt, omega arith, refl)
-option_is_item (suc (suc (suc zero))) (suc zero) low high lt = (tt, omega arith, refl)
-option_is_item (suc (suc (suc zero))) (suc (suc zero)) low high lt = (tt, omega arith, refl)
+option_is_item (suc (suc (suc zero))) zero low high lt = grind (arith, nat_tests, span-none, span-more)
+option_is_item (suc (suc (suc zero))) (suc zero) low high lt = grind (arith, nat_tests, span-none, span-more)
+option_is_item (suc (suc (suc zero))) (suc (suc zero)) low high lt = grind (arith, nat_tests, span-none, span-more)
 option_is_item (suc (suc (suc zero))) (suc (suc (suc o))) low high lt = absurd (omega arith)
-option_is_item (suc (suc (suc (suc zero)))) zero low high lt = (tt, omega arith, refl)
-option_is_item (suc (suc (suc (suc zero)))) (suc zero) low high lt = (tt, omega arith, refl)
-option_is_item (suc (suc (suc (suc zero)))) (suc (suc zero)) low high lt = (tt, omega arith, refl)
-option_is_item (suc (suc (suc (suc zero)))) (suc (suc (suc zero))) low high lt = (tt, omega arith, refl)
+option_is_item (suc (suc (suc (suc zero)))) zero low high lt = grind (arith, nat_tests, span-none, span-more)
+option_is_item (suc (suc (suc (suc zero)))) (suc zero) low high lt = grind (arith, nat_tests, span-none, span-more)
+option_is_item (suc (suc (suc (suc zero)))) (suc (suc zero)) low high lt = grind (arith, nat_tests, span-none, span-more)
+option_is_item (suc (suc (suc (suc zero)))) (suc (suc (suc zero))) low high lt = grind (arith, nat_tests, span-none, span-more)
 option_is_item (suc (suc (suc (suc zero)))) (suc (suc (suc (suc o)))) low high lt = absurd (omega arith)
 option_is_item (suc (suc (suc (suc (suc n))))) o low high lt = absurd (omega arith)
-
-symbols_below : (n : ℕ) → 2 ≤ n → n ≤ 4 → list_all (λ v. nat_lt (symbol n v) (2 ^ n)) (span 0 (2 ^ n)) ≡ true
-unfolding symbol span lib.Count.ones
-symbols_below zero low high = absurd (omega arith)
-symbols_below (suc zero) low high = absurd (omega arith)
-symbols_below (suc (suc zero)) low high = refl
-symbols_below (suc (suc (suc zero))) low high = refl
-symbols_below (suc (suc (suc (suc zero)))) low high = refl
-symbols_below (suc (suc (suc (suc (suc n))))) low high = absurd (omega arith)
-
-symbol_below : (n v : ℕ) → 2 ≤ n → n ≤ 4 → v < 2 ^ n → symbol n v < 2 ^ n
-symbol_below n v low high lt = ltb-true (symbol n v) (2 ^ n) (list_all-span-zero (λ v. nat_lt (symbol n v) (2 ^ n)) (2 ^ n) v (symbols_below n low high) lt)
 
 -- ---- lists of parts
 
@@ -83,7 +69,7 @@ module _ (book : Book) (sound : is_book_sound book ≡ true) where
     where
       said : (b : Bool) → IsSaid (cond b (plain n value) (code (codes_of book n option) (symbol n value))).form.shape (cond b (plain n value) (code (codes_of book n option) (symbol n value))).said
       said true = lt
-      said false = omega (arith, symbol_below n value low high lt, length-map-span (λ s. code_bits (code_at book n option s)) (2 ^ n))
+      said false = omega (arith, symbol-below n value low high lt, length-map-span (λ s. code_bits (code_at book n option s)) (2 ^ n))
 
       taken : (b : Bool) → refused_where (λ k. refuses check (cond b k (word_of n k))) false_flag (cond b (plain n value) (code (codes_of book n option) (symbol n value))).said ≡ None
       taken b = grind (arith, nat_tests, allowed, word_of-symbol)
@@ -92,9 +78,8 @@ module _ (book : Book) (sound : is_book_sound book ≡ true) where
   digit_below b = grind (arith, nat_tests)
 
   entry_are_items : (options : List ℕ) → AreOptionsOf options → (before : List Entry) (check : Check) (e : Entry) → IsEntry e → refuses check (value_of_entry e) ≡ false → AreItems (entry_reading book options before check e)
-  unfolding entry_reading
-  entry_are_items options known before check (Bit b) fit passes = ((tt, digit_below b, refl), tt)
-  entry_are_items options known before check (Word bits) fit passes = by_count (eqb bits.count 0) (eqb bits.count 1) refl refl
+  entry_are_items options known before check (Bit b) fit passes = simp bit_reading (((tt, digit_below b, refl), tt))
+  entry_are_items options known before check (Word bits) fit passes = simp word_reading (by_count (eqb bits.count 0) (eqb bits.count 1) refl refl)
     where
       opened : 2 ≤ bits.count → (b : Bool) → AreItems (cond b [] (option_item bits.count (option_of options bits.count) ∷ []))
       opened two true = tt

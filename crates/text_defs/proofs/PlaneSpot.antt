@@ -1,6 +1,5 @@
 -- The next item of a plane says any number that it does not refuse, by another entry of one block or by another option.
-use Rattle.std.proofs.Common.{◌≡◌, ◌⊎◌, ℕ, zero, suc, ◌+◌, ◌*◌, ◌<◌, ◌≤◌, inl, inr, Bool, false, List, [], ◌∷◌, ◌++◌, length, refl, ap, sym, ◌∙◌, subst, arith, ℤ, get_or}
-use Rattle.std.specs.Prelude.{◌||◌}
+use Rattle.std.proofs.Common.{◌≡◌, ◌⊎◌, ℕ, zero, suc, ◌+◌, ◌*◌, ◌<◌, ◌≤◌, inl, inr, Bool, false, List, [], ◌∷◌, ◌++◌, length, refl, ap, sym, ◌∙◌, subst, arith, ℤ, get_or, ◌||◌}
 use Rattle.std.specs.List.{flat_map, list_any}
 use Rattle.std.proofs.lemmas.Bool.{cases_lt}
 use Rattle.std.proofs.lemmas.List.Folds.{list_any-append}
@@ -49,7 +48,6 @@ read_same book o before (s ∷ ss) (t ∷ ts) same e =
 
 -- no part of a list has what is missing in the whole
 none_in : (t : Entry → Bool) (f : ℕ → List Entry) (k i : ℕ) → list_any t (flat_map f (span 0 k)) ≡ false → i < k → list_any t (f i) ≡ false
-unfolding span
 none_in t f zero i none lt = absurd (omega arith)
 none_in t f (suc k) i none lt =
     let parts : (list_any t (flat_map f (span 0 k)) || list_any t (f (0 + k))) ≡ false = sym (ap (list_any t) (flat_more f 0 k) ∙ list_any-append t (flat_map f (span 0 k)) (f (0 + k))) ∙ none in

@@ -1,9 +1,8 @@
 -- A reading that stops within the planes continues by one item, if each step of a block may have any entry that is not refused.
-use Rattle.std.proofs.Common.{◌≡◌, ℕ, zero, suc, ◌+◌, ◌-◌, ◌^◌, ◌<◌, ◌≤◌, inl, inr, min, Bool, true, false, cond, eqb, List, [], ◌∷◌, ◌++◌, length, map, set, refl, ap, sym, ◌∙◌, subst, arith, ℤ, pos, get_or, length-append, length-set}
+use Rattle.std.proofs.Common.{◌≡◌, ℕ, zero, suc, ◌+◌, ◌-◌, ◌^◌, ◌<◌, ◌≤◌, inl, inr, min, Bool, true, false, cond, eqb, List, [], ◌∷◌, ◌++◌, length, map, set, refl, ap, sym, ◌∙◌, subst, arith, ℤ, pos, get_or, length-append, length-set, ne_eqb}
 use Rattle.std.specs.Int.{int_shr}
 use Rattle.std.proofs.lemmas.Bool.Decides.{nat_tests}
 use Rattle.std.proofs.lemmas.List.{length-map, get_or-set_same}
-use Rattle.std.proofs.lemmas.Bool.{ne_eqb}
 use Rattle.plane_defs.proofs.Chosen.{equal_self}
 use Rattle.item_defs.specs.Items.{raw, spelling}
 use Rattle.item_defs.specs.Readings.{item_at}
@@ -37,6 +36,8 @@ use Rattle.plane_texts.specs.Candidates.{EntriesChoose, BlockChosen, MayChoose}
 use Rattle.text_defs.proofs.EntrySpot.{Elsewhere}
 use Rattle.text_defs.proofs.PlaneSpot as spots
 use Rattle.plane_texts.proofs.BlockChoice.{acs_above, seen_above}
+use Rattle.number_defs.proofs.Equations.{planes_before-none, planes_before-more, dc_items-is}
+use Rattle.segment_defs.proofs.Equations.{segment_items-is}
 
 -- ---- the DC part depends only on the high bits
 
@@ -47,16 +48,14 @@ map_at f (v ∷ vs) [] long same = absurd (omega (arith, long))
 map_at f (v ∷ vs) (w ∷ ws) long same = ap (λ x. x ∷ map f vs) (same 0) ∙ ap (λ l. f w ∷ l) (map_at f vs ws (omega (arith, long)) (λ i. same (suc i)))
 
 planes_same : (q n : ℕ) (vs ws : List ℤ) → length ws ≡ length vs → n ≤ q → ((i c : ℕ) → q - n ≤ c → c < q → int_shr (get_or vs i (pos 0)) c ≡ int_shr (get_or ws i (pos 0)) c) → planes_before q vs n ≡ planes_before q ws n
-unfolding planes_before
-planes_same q zero vs ws long le same = refl
-planes_same q (suc n) vs ws long le same =
+planes_same q zero vs ws long le same = simp planes_before-none
+planes_same q (suc n) vs ws long le same = simp planes_before-more (
     ap (λ l. l ++ map (dc_bit (q - suc n)) vs) (planes_same q n vs ws long (omega (arith, le)) (λ i c low high. same i c (omega (arith, low)) high))
-    ∙ ap (λ l. planes_before q ws n ++ l) (map_at (dc_bit (q - suc n)) vs ws long (λ i. ap (λ x. raw (complement 1 x)) (same i (q - suc n) (omega arith) (omega (arith, le)))))
+    ∙ ap (λ l. planes_before q ws n ++ l) (map_at (dc_bit (q - suc n)) vs ws long (λ i. ap (λ x. raw (complement 1 x)) (same i (q - suc n) (omega arith) (omega (arith, le))))))
 
 pub dc_same : (depth_dc depth_ac shift : ℕ) (vs ws : List ℤ) (o : ℕ → ℕ) → length ws ≡ length vs →
     ((i c : ℕ) → min depth_ac (dc_q depth_dc depth_ac shift) ≤ c → int_shr (get_or vs i (pos 0)) c ≡ int_shr (get_or ws i (pos 0)) c) → dc_items depth_dc depth_ac shift vs o ≡ dc_items depth_dc depth_ac shift ws o
-unfolding dc_items
-dc_same depth_dc depth_ac shift vs ws o long same = grind (arith, nat_tests, map_at, planes_same)
+dc_same depth_dc depth_ac shift vs ws o long same = simp dc_items-is (grind (arith, nat_tests, map_at, planes_same))
 
 -- ---- another option
 
@@ -93,8 +92,7 @@ in_plane w b g new c = cond (eqb c b) (in_gaggle (w c) g new) (w c)
 
 pub planes_are : (head : SegmentHead) (blocks : List (List ℤ)) (depths : List ℕ) (options : Options) → head.stop.dc ≡ false →
     segment_items head blocks depths options ≡ dc_part_items head blocks options ++ (depth_items head.depth_ac depths options.depths ++ planes_items head blocks depths options head.depth_ac)
-unfolding segment_items
-planes_are head blocks depths options e = grind (arith, nat_tests)
+planes_are head blocks depths options e = simp segment_items-is (grind (arith, nat_tests))
 
 pub record PlanesChosen (head : SegmentHead) (xs : List (List ℤ)) (ds : List ℕ) (o : Options) (c said : ℕ) : Type 0 where
   pub ys : List (List ℤ)

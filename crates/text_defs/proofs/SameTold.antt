@@ -1,6 +1,5 @@
 -- Two lists of steps that report the same of two blocks.
-use Rattle.std.proofs.Common.{◌≡◌, ℕ, ◌+◌, ◌-◌, ◌*◌, ◌/◌, ◌%◌, ◌^◌, ◌<◌, inl, inr, Bool, true, false, cond, List, [], ◌∷◌, ◌++◌, length, map, refl, ap, sym, ◌∙◌, subst, arith, ℤ, pos, get_or}
-use Rattle.std.specs.Prelude.{nat_le, ◌||◌, ◌==◌}
+use Rattle.std.proofs.Common.{◌≡◌, ℕ, ◌+◌, ◌-◌, ◌*◌, ◌/◌, ◌%◌, ◌^◌, ◌<◌, inl, inr, Bool, true, false, cond, List, [], ◌∷◌, ◌++◌, length, map, refl, ap, sym, ◌∙◌, subst, arith, ℤ, pos, get_or, nat_le, ◌||◌, ◌==◌}
 use Rattle.std.specs.List.{flat_map, list_any, AllByRecursion}
 use Rattle.std.proofs.lemmas.List.{length-map}
 use Rattle.std.proofs.lemmas.Bool.{or_cases, cases_lt, leb-false, le-leb, lt-leb, eqb-true}
@@ -23,6 +22,7 @@ use Rattle.plane_texts.specs.Given.{whole_steps, tells_bit, tells_sign}
 use Rattle.plane_texts.proofs.NothingTold.{any_bit, any_sign, TellsNone}
 use Rattle.text_defs.proofs.Told.{ToldAlike}
 use Rattle.plane_texts.proofs.Says.{bit_there, IsTyped, Tells, Says, AllSay}
+use Rattle.plane_defs.proofs.Equations.{significant-is}
 
 pub record SameTold (u v : List ℤ) (plane : ℕ) (ss ts : List Step) : Type 0 where
   pub bits : (p : ℕ) → any_bit p ss ≡ any_bit p ts
@@ -58,8 +58,7 @@ told_flat u v plane f g (x ∷ xs) all = told_both u v plane (f x) (g x) (flat_m
 
 -- a number below two to a plane and one more has the plane's bit if it reaches the plane
 pub bit_reached : (u : List ℤ) (plane p : ℕ) → significant u (plane + 1) p ≡ false → bit (magnitude u p) plane ≡ significant u plane p
-unfolding significant
-bit_reached u plane p e = by_size (magnitude u p) (2 ^ plane) (2 ^ (plane + 1)) (omega (arith, pow-add 2 plane 1)) e
+bit_reached u plane p e = let e = simp significant-is at e in simp significant-is (by_size (magnitude u p) (2 ^ plane) (2 ^ (plane + 1)) (omega (arith, pow-add 2 plane 1)) e)
   where
     by_size : (n a b : ℕ) → b ≡ 2 * a → nat_le b n ≡ false → (n / a % 2 == 1) ≡ nat_le a n
     by_size n a b double e =

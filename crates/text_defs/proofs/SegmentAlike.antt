@@ -1,14 +1,12 @@
 -- Two lists of values that can be coded have items of one form for as long as the items say the same and none is refused.
-use Rattle.std.proofs.Common.{◌≡◌, ◌⊎◌, ℕ, zero, suc, ◌+◌, ◌-◌, ◌^◌, ◌<◌, ◌≤◌, inl, inr, Bool, true, false, cond, List, [], ◌∷◌, ◌++◌, length, refl, ap, sym, ◌∙◌, subst, arith, ℤ, get_or, add-one, zero-add}
-use Rattle.std.specs.List.{flat_map}
+use Rattle.std.proofs.Common.{◌≡◌, ◌⊎◌, ℕ, zero, suc, ◌+◌, ◌-◌, ◌^◌, ◌<◌, ◌≤◌, inl, inr, Bool, true, false, cond, List, [], ◌∷◌, ◌++◌, length, refl, ap, sym, ◌∙◌, subst, arith, ℤ, get_or, add-one, zero-add, flat_map, pow_mono}
 use Rattle.std.proofs.lemmas.Bool.{cases_lt}
 use Rattle.std.proofs.lemmas.Bool.Decides.{nat_tests}
 use Rattle.std.proofs.lemmas.List.{get_or_past, length-map}
-use Rattle.std.proofs.Math.Pow.{pow_mono}
 use Rattle.item_defs.specs.Items.{Item}
 use Rattle.item_defs.specs.Readings.{AreItems, StepsAlike}
 use Rattle.item_defs.specs.Laws.{said_of}
-use Rattle.item_defs.proofs.ReadingLaws.{steps_append}
+use Rattle.item_defs.proofs.ReadingLaws.{steps_append, said_split}
 use Rattle.number_defs.specs.Depths.{depth_items}
 use Rattle.number_defs.proofs.SegmentSteps.{dcs_alike, depths_alike}
 use Rattle.number_defs.proofs.NotRefused.{depths_allowed, depths_said}
@@ -17,7 +15,6 @@ use Rattle.plane_defs.specs.Sets.{magnitude, significant}
 use Rattle.plane_defs.specs.Reading.{plane_reading}
 use Rattle.plane_defs.specs.StepLaws.{SameAc, AcsAlike}
 use Rattle.plane_defs.proofs.SpanLists.{flat_map-span-suc}
-use Rattle.plane_defs.proofs.StepItems.{said_split}
 use Rattle.plane_defs.proofs.PlaneSteps.{plane_both, numbers_settle}
 use Rattle.segment_defs.specs.declared.head.SegmentHead.{SegmentHead}
 use Rattle.segment_defs.specs.Head.{IsHead}
@@ -26,6 +23,8 @@ use Rattle.segment_defs.specs.SegmentItems.{Options, dc_shift, q_of, plane_at, s
 use Rattle.text_defs.specs.Spellable.{IsSpellable, AreWordOptions}
 use Rattle.text_defs.specs.Agreement.{ItemsAlike}
 use Rattle.text_defs.proofs.FrontLaws.{alike_from, alike_append}
+use Rattle.plane_defs.proofs.Equations.{significant-is, span-none}
+use Rattle.segment_defs.proofs.Equations.{segment_items-is}
 
 -- ---- the stages that are sent
 
@@ -48,8 +47,7 @@ list_same (x ∷ xs) (y ∷ ys) d long same =
     ap (λ a. a ∷ xs) (same 0) ∙ ap (λ l. y ∷ l) (list_same xs ys d (omega arith) (λ i. same (suc i)))
 
 none_reached : (w : List ℤ) (plane d p : ℕ) → d ≤ plane → magnitude w p < 2 ^ d → significant w plane p ≡ false
-unfolding significant
-none_reached w plane d p deep small = grind (arith, nat_tests, pow_mono)
+none_reached w plane d p deep small = simp significant-is (grind (arith, nat_tests, pow_mono))
 
 -- ---- the planes
 
@@ -74,13 +72,12 @@ module _ (head : SegmentHead) (fits : IsHead head) (xs ys : List (List ℤ)) (de
 
   nth_both : (n : ℕ) → n < head.depth_ac → (head.stop.plane < head.depth_ac - n → Reached (head.depth_ac - n)) →
       Sent (suc n) (nth_plane_items head xs depths o n) (nth_plane_items head ys depths u n)
-  unfolding span
   nth_both n within reached =
       let b = nth_plane head n in
       elim (cases_lt b head.stop.plane) [
         | inl below ↦
             let none = sent_none head b below in (
-              subst (λ s. StepsAlike (plane_reading o.book (o.words b) (plane_at head xs depths b) s) (plane_reading u.book (u.words b) (plane_at head ys depths b) s)) (sym none) tt,
+              subst (λ s. StepsAlike (plane_reading o.book (o.words b) (plane_at head xs depths b) s) (plane_reading u.book (u.words b) (plane_at head ys depths b) s)) (sym none) (simp span-none tt),
               λ said more. absurd (omega arith),
             )
         | inr sent ↦
@@ -111,8 +108,7 @@ module _ (head : SegmentHead) (fits : IsHead head) (xs ys : List (List ℤ)) (de
   pub planes_both : (n : ℕ) → n ≤ head.depth_ac →
       StepsAlike (planes_items head xs depths o n) (planes_items head ys depths u n)
       × (said_of (planes_items head xs depths o n) ≡ said_of (planes_items head ys depths u n) → (n ≡ 0) ⊎ (head.stop.plane < head.depth_ac - n) → Reached (head.depth_ac - n))
-  unfolding span
-  planes_both zero within = (tt, λ said full. let none : head.depth_ac ≡ head.depth_ac - 0 = omega arith in subst Reached none top)
+  planes_both zero within = simp span-none ((tt, λ said full. let none : head.depth_ac ≡ head.depth_ac - 0 = omega arith in subst Reached none top))
   planes_both (suc n) within =
       let before = planes_both n (omega arith) in
       let more = λ (s : said_of (planes_items head xs depths o n) ≡ said_of (planes_items head ys depths u n)). nth_both n (omega arith) (λ full. before.1 s (inr full)) in
@@ -131,8 +127,7 @@ module _ (head : SegmentHead) (fits : IsHead head) (xs ys : List (List ℤ)) (de
 
 pub segment_alike : (head : SegmentHead) (xs ys : List (List ℤ)) (ds es : List ℕ) (o u : Options) → IsHead head → IsSpellable head xs ds → IsSpellable head ys es → AreWordOptions o → AreWordOptions u → o.book ≡ u.book →
     ItemsAlike (segment_items head xs ds o) (segment_items head ys es u)
-unfolding segment_items
-segment_alike head xs ys ds es o u fits p q k l books = by_stop head.stop.dc
+segment_alike head xs ys ds es o u fits p q k l books = simp segment_items-is (by_stop head.stop.dc)
   where
     same_blocks : length (dcs_of xs) ≡ length (dcs_of ys)
     same_blocks = length-map xs dc_of ∙ p.blocks_all ∙ sym q.blocks_all ∙ sym (length-map ys dc_of)

@@ -1,9 +1,7 @@
 -- No item of a segment is refused if its values can be coded, its options exist and its depths are within the head's.
-use Rattle.std.proofs.Common.{◌≡◌, ℕ, ◌<◌, ◌≤◌, Bool, true, false, cond, List, ◌++◌, length, refl, ◌∙◌, subst, arith, ℤ, get_or}
-use Rattle.std.specs.Prelude.{nat_le}
+use Rattle.std.proofs.Common.{◌≡◌, ℕ, ◌<◌, ◌≤◌, Bool, true, false, cond, List, ◌++◌, length, ◌∙◌, subst, arith, ℤ, get_or, nat_le, leb-true}
 use Rattle.std.specs.List.{list_all}
 use Rattle.std.proofs.lemmas.List.{length-map}
-use Rattle.std.proofs.lemmas.Bool.{leb-true}
 use Rattle.item_defs.specs.Readings.{AreItems}
 use Rattle.item_defs.proofs.ReadingLaws.{are_append}
 use Rattle.number_defs.specs.Gaggles.{gaggle_count}
@@ -17,18 +15,19 @@ use Rattle.segment_defs.specs.Depths.{dc_of, dcs_of}
 use Rattle.segment_defs.specs.SegmentItems.{Options, dc_shift, plane_at, stages_sent, dc_part_items, nth_plane, nth_plane_items, planes_items, segment_items}
 use Rattle.text_defs.specs.Spellable.{IsSpellable, AreWordOptions, AreNumberOptions}
 use Rattle.text_defs.proofs.PlaneItems.{plane_are_items, flat_items}
+use Rattle.segment_defs.proofs.Equations.{segment_items-is}
+use Rattle.plane_defs.proofs.Equations.{span-none, span-more}
+use Rattle.std.proofs.lemmas.Bool.Decides.{nat_tests}
 
 depths_fit : list_all (λ d. nat_le (depth_bits d) 10) (span 0 28) ≡ true
-unfolding span
-depths_fit = refl
+depths_fit = grind (arith, nat_tests, span-none, span-more)
 
 pub depth_bits_few : (depth_ac : ℕ) → depth_ac ≤ 27 → depth_bits depth_ac ≤ 10
 depth_bits_few depth_ac le = leb-true (depth_bits depth_ac) 10 (list_all-span-zero (λ d. nat_le (depth_bits d) 10) 28 depth_ac depths_fit (omega arith))
 
 pub segment_are_items : (head : SegmentHead) (blocks : List (List ℤ)) (depths : List ℕ) (options : Options) → IsHead head → IsSpellable head blocks depths → AreWordOptions options → AreNumberOptions head options →
     ((r : ℕ) → r < length depths → get_or depths r 0 ≤ head.depth_ac) → AreItems (segment_items head blocks depths options)
-unfolding segment_items
-segment_are_items head blocks depths options fits spellable words numbers low = by_stop head.stop.dc
+segment_are_items head blocks depths options fits spellable words numbers low = simp segment_items-is (by_stop head.stop.dc)
   where
     counted : length (dcs_of blocks) ≡ head.blocks
     counted = length-map blocks dc_of ∙ spellable.blocks_all

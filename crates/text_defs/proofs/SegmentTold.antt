@@ -29,6 +29,7 @@ use Rattle.plane_texts.proofs.SplitReading.{given_none}
 use Rattle.plane_texts.proofs.PlaneParts.{parts_of}
 use Rattle.text_defs.proofs.SameTold.{SameTold, none_told, from_none}
 use Rattle.text_defs.proofs.PlaneTold as planes
+use Rattle.segment_defs.proofs.Equations.{segment_items-is}
 
 pub plane_none : (book : Book) (options : ℕ → List ℕ) (p : Plane) (stages m r : ℕ) → m ≡ 0 → TellsNone (steps_given book options p stages m r)
 plane_none book options p stages m r e = subst (λ n. TellsNone (steps_given book options p stages n r)) (sym e) (given_none book options p stages r)
@@ -92,8 +93,7 @@ module _ (head : SegmentHead) (fits : IsHead head) (xs ys : List (List ℤ)) (o 
   pub told_in : (ds es : List ℕ) (p : IsSpellable head xs ds) (q : IsSpellable head ys es) (m r b : ℕ) → b < head.depth_ac → r < head.blocks →
       SaySame m (segment_items head xs ds o) (segment_items head ys es u) → AreItems (take m (segment_items head xs ds o)) →
       SameTold (block_of xs r) (block_of ys r) b (given_in head xs ds o m r b) (given_in head ys es u m r b)
-  unfolding segment_items
-  told_in ds es p q m r b high inside e all = by_stop head.stop.dc e all
+  told_in ds es p q m r b high inside e all = let e = simp segment_items-is at e in let all = simp segment_items-is at all in (by_stop head.stop.dc e all)
     where
       by_stop : (t : Bool) →
           SaySame m (cond t (dc_part_items head xs o) (dc_part_items head xs o ++ (depth_items head.depth_ac ds o.depths ++ planes_items head xs ds o head.depth_ac)))

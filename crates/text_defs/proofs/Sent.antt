@@ -1,10 +1,8 @@
 -- The steps of a number's block report its bits and its sign.
-use Rattle.std.proofs.Common.{◌≡◌, ℕ, zero, suc, ◌+◌, ◌-◌, ◌*◌, ◌/◌, ◌%◌, ◌^◌, ◌<◌, ◌≤◌, inl, inr, Bool, true, false, cond, List, [], ◌∷◌, ◌++◌, map, ap, ◌∙◌, arith, ℤ, pos, get_or}
-use Rattle.std.specs.Prelude.{filter, ◌==◌}
+use Rattle.std.proofs.Common.{◌≡◌, ℕ, zero, suc, ◌+◌, ◌-◌, ◌*◌, ◌/◌, ◌%◌, ◌^◌, ◌<◌, ◌≤◌, inl, inr, Bool, true, false, cond, List, [], ◌∷◌, ◌++◌, map, ap, ◌∙◌, arith, ℤ, pos, get_or, filter, ◌==◌, pow_pos}
 use Rattle.std.specs.List.{flat_map, list_any}
 use Rattle.std.proofs.lemmas.Bool.{cases_lt, or_cases, or_left, or_right, eqb-true, le-leb}
 use Rattle.std.proofs.lemmas.Bool.Decides.{nat_tests}
-use Rattle.std.proofs.lemmas.Nat.{pow_pos}
 use Rattle.std.proofs.lemmas.List.Folds.{list_any-append}
 use Rattle.plane_defs.proofs.Chosen.{equal_self}
 use Rattle.item_defs.specs.Bits.{bit}
@@ -18,6 +16,7 @@ use Rattle.plane_defs.specs.Steps.{Check, free, flags_alone, sign_at, Step, step
 use Rattle.plane_texts.specs.Given.{tells_sign}
 use Rattle.plane_texts.proofs.NothingTold.{any_bit, any_sign}
 use Rattle.plane_texts.proofs.LowBits.{even_part, halves}
+use Rattle.plane_defs.proofs.Equations.{span-more, coded-is, set_significant-is}
 
 -- ---- members of lists
 
@@ -31,15 +30,14 @@ right_any : {X : Type 0} (t : X → Bool) (xs ys : List X) → list_any t ys ≡
 right_any t xs ys e = list_any-append t xs ys ∙ or_right (list_any t xs) (list_any t ys) e
 
 pub has_span : (start count x : ℕ) → start ≤ x → x < start + count → Has x (span start count)
-unfolding span
 has_span start zero x low high = absurd (omega arith)
-has_span start (suc count) x low high =
+has_span start (suc count) x low high = simp span-more (
     elim (cases_lt x (start + count)) [
       | inl early ↦ left_any (λ y. y == x) (span start count) ((start + count) ∷ []) (has_span start count x low early)
       | inr last ↦
           let same : x ≡ start + count = omega arith in
           right_any (λ y. y == x) (span start count) ((start + count) ∷ []) (or_left (start + count == x) false (ap (λ y. start + count == y) same ∙ equal_self (start + count)))
-    ]
+    ])
 
 pub has_filter : (p : ℕ → Bool) (x : ℕ) (xs : List ℕ) → Has x xs → p x ≡ true → Has x (filter p xs)
 has_filter p x [] h e = h
@@ -82,13 +80,12 @@ some_member t x (y ∷ xs) h e =
 
 -- if a number has a bit, the plane can have one
 pub bit_coded : (block : List ℤ) (weights : List ℕ) (plane p : ℕ) → IsMultiple block weights → bit (magnitude block p) plane ≡ true → coded weights plane p ≡ true
-unfolding coded
-bit_coded block weights plane p whole e =
+bit_coded block weights plane p whole e = simp coded-is (
     elim (cases_lt plane (shift weights p)) [
       | inl under ↦ let none : magnitude block p / 2 ^ plane % 2 ≡ 0 = even_part (2 ^ plane) (2 ^ (shift weights p - plane - 1)) (whole.part p) (magnitude block p) (pow_pos plane) (whole.whole p ∙ ap (λ x. x * whole.part p) (halves plane (shift weights p) under)) in
           absurd (not_one (magnitude block p / 2 ^ plane % 2) none e)
       | inr over ↦ le-leb (shift weights p) plane over
-    ]
+    ])
   where
     not_one : (a : ℕ) → a ≡ 0 → (a == 1) ≡ true → ⊥
     not_one a z e = grind (arith, nat_tests)
@@ -105,16 +102,13 @@ module _ (block : List ℤ) (weights : List ℕ) (plane : ℕ) where
 
   -- the sets that a number is in
   in_family : (i p : ℕ) → Has p (members (Family i)) → significant block plane p ≡ true → set_significant block plane (Family i) ≡ true
-  unfolding set_significant
-  in_family i p h e = some_member (significant block plane) p (members (Family i)) h e
+  in_family i p h e = simp set_significant-is (some_member (significant block plane) p (members (Family i)) h e)
 
   in_grandchildren : (i p : ℕ) → Has p (members (Grandchildren i)) → significant block plane p ≡ true → set_significant block plane (Grandchildren i) ≡ true
-  unfolding set_significant
-  in_grandchildren i p h e = some_member (significant block plane) p (members (Grandchildren i)) h e
+  in_grandchildren i p h e = simp set_significant-is (some_member (significant block plane) p (members (Grandchildren i)) h e)
 
   in_quad : (i j p : ℕ) → Has p (members (Quad i j)) → significant block plane p ≡ true → set_significant block plane (Quad i j) ≡ true
-  unfolding set_significant
-  in_quad i j p h e = some_member (significant block plane) p (members (Quad i j)) h e
+  in_quad i j p h e = simp set_significant-is (some_member (significant block plane) p (members (Quad i j)) h e)
 
   -- what a child sends, by a test of its word and signs
   pub child_sent : (t : Step → Bool) (p : ℕ) → 4 ≤ p → p < 16 → significant block plane p ≡ true →

@@ -1,12 +1,10 @@
--- The shapes of a text's items: in none of them a code begins another one.
-use Rattle.std.proofs.Common.{◌≡◌, ℕ, zero, suc, ◌+◌, ◌-◌, ◌*◌, ◌^◌, ◌<◌, ◌≤◌, Bool, true, false, cond, eqb, List, [], ◌∷◌, ◌++◌, length, refl, arith, get_or, ℤ, map}
-use Rattle.std.specs.Prelude.{◌==◌}
+-- The shapes of a text's items: in none of them a code begins another one, and each item takes some bits.
+use Rattle.std.proofs.Common.{◌≡◌, ℕ, zero, suc, ◌+◌, ◌-◌, ◌*◌, ◌^◌, ◌<◌, ◌≤◌, Bool, true, false, cond, eqb, List, [], ◌∷◌, ◌++◌, length, refl, arith, get_or, ℤ, map, ◌==◌, pow_mono, pow_pos}
 use Rattle.std.specs.List.{flat_map, list_any, AllByRecursion}
 use Rattle.std.proofs.lemmas.Bool.Decides.{nat_tests}
-use Rattle.std.proofs.Math.Pow.{pow_mono}
 use Rattle.item_defs.specs.Items.{Item, Shape, fixed, zeros_to, coded, raw, plain, code}
 use Rattle.item_defs.specs.Readings.{IsSound, item_at}
-use Rattle.number_defs.specs.Gaggles.{Kind, identifier_bits, uncoded, uncoded_value, unary_part, rest_part, value_items, lead_items, gaggle_items, items_before, places, gaggle_count}
+use Rattle.number_defs.specs.Gaggles.{Kind, identifier_bits, uncoded, uncoded_value, unary_part, rest_part, value_items, lead_items, gaggle_items, items_before, places, gaggle_count, number_items}
 use Rattle.number_defs.specs.DcPart.{dc_q, dc_bits, dc_kind, dc_bit, high_items, planes_before, dc_planes, dc_items}
 use Rattle.number_defs.specs.Ranges.{shifted_height}
 use Rattle.number_defs.specs.Depths.{depth_bits, depth_kind, depth_items}
@@ -29,10 +27,13 @@ use Rattle.segment_defs.specs.declared.head.SegmentHead.{SegmentHead}
 use Rattle.segment_defs.specs.Depths.{dcs_of}
 use Rattle.segment_defs.specs.SegmentItems.{Options, dc_shift, plane_at, stages_sent, dc_part_items, nth_plane, nth_plane_items, segment_items}
 use Rattle.text_defs.specs.Spellable.{AreWordOptions}
+use Rattle.number_defs.proofs.Equations.{value_items-is, gaggle_items-is, items_before-none, items_before-more, planes_before-none, planes_before-more, dc_items-is, depth_items-is}
+use Rattle.plane_defs.proofs.Equations.{bit_reading, word_reading}
+use Rattle.segment_defs.proofs.Equations.{segment_items-is}
 
 -- ---- what holds of the shapes of a text's items: of any fixed number of bits, of unary parts up to a limit and of the words' codes
 
-module _ (book : Book) (P : Shape → Type 0) (most : ℕ) (fixed_is : (w : ℕ) → P (fixed w)) (zeros_is : (limit : ℕ) → limit ≤ most → P (zeros_to limit))
+module _ (book : Book) (P : Shape → Type 0) (least most : ℕ) (few : least ≤ 1) (fixed_is : (w : ℕ) → least ≤ w → P (fixed w)) (zeros_is : (limit : ℕ) → 1 ≤ limit → limit ≤ most → P (zeros_to limit))
     (codes_are : (n option : ℕ) → 2 ≤ n → n ≤ 4 → option + 1 < n → P (coded (codes_of book n option))) where
   abbrev pub HasShape : Item → Type 0
   HasShape i = P i.form.shape
@@ -55,54 +56,52 @@ module _ (book : Book) (P : Shape → Type 0) (most : ℕ) (fixed_is : (w : ℕ)
   where_true true is js p q = p
   where_true false is js p q = q
 
-  pub shape_at : (is : List Item) (m : ℕ) → AllShapes is → m < length is → HasShape (item_at is m)
-  shape_at [] m all lt = absurd (omega arith)
-  shape_at (i ∷ is) zero all lt = all.0
-  shape_at (i ∷ is) (suc m) all lt = shape_at is m all.1 (omega arith)
-
   -- ---- numbers
 
-  module _ (kind : Kind) (small : 2 ^ kind.bits ≤ most) (heights : List ℕ) (options : ℕ → ℕ) where
+  module _ (kind : Kind) (some : least ≤ kind.bits) (small : 2 ^ kind.bits ≤ most) (heights : List ℕ) (options : ℕ → ℕ) where
     unary : (option i : ℕ) → HasShape (unary_part kind heights option i)
-    unary option i = zeros_is (2 ^ (kind.bits - option)) (let le : 2 ^ (kind.bits - option) ≤ 2 ^ kind.bits = pow_mono (omega arith) in omega (arith, le))
+    unary option i = zeros_is (2 ^ (kind.bits - option)) (pow_pos (kind.bits - option)) (let le : 2 ^ (kind.bits - option) ≤ 2 ^ kind.bits = pow_mono (omega arith) in omega (arith, le))
 
     values : (option : ℕ) (at : List ℕ) → AllShapes (value_items kind heights option at)
-    unfolding value_items
-    values option at =
-        where_true (eqb option (uncoded kind.bits)) _ _ (each (uncoded_value kind heights) (λ i. fixed_is kind.bits) at)
-        (both (map (unary_part kind heights option) at) _ (each (unary_part kind heights option) (unary option) at)
-        (where_true (eqb option 0) [] _ tt (each (rest_part kind heights option) (λ i. fixed_is option) at)))
+    values option at = simp value_items-is (
+        where_true (eqb option (uncoded kind.bits)) _ _ (each (uncoded_value kind heights) (λ i. fixed_is kind.bits some) at)
+        (both (map (unary_part kind heights option) at) _ (each (unary_part kind heights option) (unary option) at) (rests (eqb option 0) refl)))
+      where
+        rests : (t : Bool) → eqb option 0 ≡ t → AllShapes (cond t [] (map (rest_part kind heights option) at))
+        rests true e = tt
+        rests false e = let low : least ≤ option = grind (arith, nat_tests) in each (rest_part kind heights option) (λ i. fixed_is option low) at
 
     lead : (g : ℕ) → AllShapes (lead_items kind heights g)
-    lead zero = (fixed_is kind.bits, tt)
+    lead zero = (fixed_is kind.bits some, tt)
     lead (suc g) = tt
 
+    identified : least ≤ identifier_bits kind.bits
+    identified = grind (arith, nat_tests)
+
     gaggle : (option g : ℕ) → AllShapes (gaggle_items kind heights option g)
-    unfolding gaggle_items
-    gaggle option g = (fixed_is (identifier_bits kind.bits), both (lead_items kind heights g) _ (lead g) (values option (places (length heights) g)))
+    gaggle option g = simp gaggle_items-is ((fixed_is (identifier_bits kind.bits) identified, both (lead_items kind heights g) _ (lead g) (values option (places (length heights) g))))
 
     before : (g : ℕ) → AllShapes (items_before kind heights options g)
-    unfolding items_before
-    before zero = tt
-    before (suc g) = both (items_before kind heights options g) _ (before g) (gaggle (options g) g)
+    before zero = simp items_before-none tt
+    before (suc g) = simp items_before-more (both (items_before kind heights options g) _ (before g) (gaggle (options g) g))
 
   dc_planes_are : (q : ℕ) (dcs : List ℤ) (n : ℕ) → AllShapes (planes_before q dcs n)
-  unfolding planes_before
-  dc_planes_are q dcs zero = tt
-  dc_planes_are q dcs (suc n) = both (planes_before q dcs n) _ (dc_planes_are q dcs n) (each (dc_bit (q - suc n)) (λ d. fixed_is 1) dcs)
+  dc_planes_are q dcs zero = simp planes_before-none tt
+  dc_planes_are q dcs (suc n) = simp planes_before-more (both (planes_before q dcs n) _ (dc_planes_are q dcs n) (each (dc_bit (q - suc n)) (λ d. fixed_is 1 few) dcs))
 
   dcs_are : (depth_dc depth_ac shift : ℕ) (dcs : List ℤ) (options : ℕ → ℕ) → 2 ^ dc_bits depth_dc depth_ac shift ≤ most → AllShapes (dc_items depth_dc depth_ac shift dcs options)
-  unfolding dc_items
-  dcs_are depth_dc depth_ac shift dcs options small =
+  dcs_are depth_dc depth_ac shift dcs options small = simp dc_items-is (
       let N = dc_bits depth_dc depth_ac shift in
       let q = dc_q depth_dc depth_ac shift in
-      both (high_items N q dcs options) _ (where_true (eqb N 1) _ _ (each (dc_bit q) (λ d. fixed_is 1) dcs)
-      (before (dc_kind N) small (map (shifted_height true N q) dcs) options (gaggle_count (length (map (shifted_height true N q) dcs))))) (dc_planes_are q dcs (dc_planes depth_dc depth_ac shift))
+      both (high_items N q dcs options) _ (where_true (eqb N 1) _ _ (each (dc_bit q) (λ d. fixed_is 1 few) dcs)
+      (before (dc_kind N) (omega arith) small (map (shifted_height true N q) dcs) options (gaggle_count (length (map (shifted_height true N q) dcs))))) (dc_planes_are q dcs (dc_planes depth_dc depth_ac shift)))
 
-  depths_are : (depth_ac : ℕ) (depths : List ℕ) (options : ℕ → ℕ) → 2 ^ depth_bits depth_ac ≤ most → AllShapes (depth_items depth_ac depths options)
-  unfolding depth_items
-  depths_are depth_ac depths options small =
-      where_true (eqb depth_ac 0) [] _ tt (where_true (eqb depth_ac 1) _ _ (each raw (λ d. fixed_is 1) depths) (before (depth_kind depth_ac) small depths options (gaggle_count (length depths))))
+  depths_are : (depth_ac : ℕ) (depths : List ℕ) (options : ℕ → ℕ) → (eqb depth_ac 0 ≡ false → least ≤ depth_bits depth_ac) → 2 ^ depth_bits depth_ac ≤ most → AllShapes (depth_items depth_ac depths options)
+  depths_are depth_ac depths options some small = simp depth_items-is (by_depth (eqb depth_ac 0) refl)
+    where
+      by_depth : (t : Bool) → eqb depth_ac 0 ≡ t → AllShapes (cond t [] (cond (eqb depth_ac 1) (map raw depths) (number_items (depth_kind depth_ac) depths options)))
+      by_depth true e = tt
+      by_depth false e = where_true (eqb depth_ac 1) _ _ (each raw (λ d. fixed_is 1 few) depths) (before (depth_kind depth_ac) (some e) small depths options (gaggle_count (length depths)))
 
   -- ---- words
 
@@ -110,22 +109,24 @@ module _ (book : Book) (P : Shape → Type 0) (most : ℕ) (fixed_is : (w : ℕ)
   word_is n option value low high known = by_option (option == codes.uncoded n) refl
     where
       by_option : (b : Bool) → (option == codes.uncoded n) ≡ b → P (cond b (plain n value) (code (codes_of book n option) (symbol n value))).form.shape
-      by_option true e = fixed_is n
+      by_option true e = fixed_is n (omega arith)
       by_option false e = let more : option + 1 < n = grind (arith, nat_tests) in codes_are n option low high more
 
   entry_is : (options : List ℕ) → AreOptionsOf options → (before : List Entry) (check : Check) (e : Entry) → IsEntry e → AllShapes (entry_reading book options before check e)
-  unfolding entry_reading
-  entry_is options known before check (Bit b) fit = (fixed_is 1, tt)
-  entry_is options known before check (Word bits) fit = by_count (eqb bits.count 0) (eqb bits.count 1) refl refl
+  entry_is options known before check (Bit b) fit = simp bit_reading ((fixed_is 1 few, tt))
+  entry_is options known before check (Word bits) fit = simp word_reading (by_count (eqb bits.count 0) (eqb bits.count 1) refl refl)
     where
+      wide : least ≤ codes.identifier_width bits.count
+      wide = grind (arith, nat_tests)
+
       opened : (b : Bool) → AllShapes (cond b [] (option_item bits.count (option_of options bits.count) ∷ []))
       opened true = tt
-      opened false = (fixed_is (codes.identifier_width bits.count), tt)
+      opened false = (fixed_is (codes.identifier_width bits.count) wide, tt)
 
       by_count : (none one : Bool) → eqb bits.count 0 ≡ none → eqb bits.count 1 ≡ one →
           AllShapes (cond none [] (cond one (checked (refuses check) (raw bits.value) ∷ []) (opening options before bits.count ++ checked_word book bits.count (option_of options bits.count) bits.value check ∷ [])))
       by_count true one e f = tt
-      by_count false true e f = (fixed_is 1, tt)
+      by_count false true e f = (fixed_is 1 few, tt)
       by_count false false e f =
           let two : 2 ≤ bits.count = grind (arith, nat_tests) in
           both (opening options before bits.count) _ (opened (list_any (is_word_of bits.count) before))
@@ -146,20 +147,34 @@ module _ (book : Book) (P : Shape → Type 0) (most : ℕ) (fixed_is : (w : ℕ)
 
   -- ---- the whole text
 
-  pub segment_shapes : (head : SegmentHead) (blocks : List (List ℤ)) (depths : List ℕ) (dcs numbers : ℕ → ℕ) (words : ℕ → ℕ → List ℕ) →
+  pub shapes_of : (head : SegmentHead) (blocks : List (List ℤ)) (depths : List ℕ) (dcs numbers : ℕ → ℕ) (words : ℕ → ℕ → List ℕ) →
       let options : Options = record { book = book; dcs = dcs; depths = numbers; words = words } in
-      AreWordOptions options → 2 ^ dc_bits head.depth_dc head.depth_ac (dc_shift head) ≤ most → 2 ^ depth_bits head.depth_ac ≤ most →
+      AreWordOptions options → (eqb head.depth_ac 0 ≡ false → least ≤ depth_bits head.depth_ac) → 2 ^ dc_bits head.depth_dc head.depth_ac (dc_shift head) ≤ most → 2 ^ depth_bits head.depth_ac ≤ most →
       AllShapes (segment_items head blocks depths options)
-  unfolding segment_items
-  segment_shapes head blocks depths dcs numbers words known dc_small depth_small =
+  shapes_of head blocks depths dcs numbers words known some dc_small depth_small = simp segment_items-is (
       let options : Options = record { book = book; dcs = dcs; depths = numbers; words = words } in
       let first = dcs_are head.depth_dc head.depth_ac (dc_shift head) (dcs_of blocks) options.dcs dc_small in
       where_true head.stop.dc _ _ first
       (both (dc_part_items head blocks options) _ first
-      (both (depth_items head.depth_ac depths options.depths) _ (depths_are head.depth_ac depths options.depths depth_small)
+      (both (depth_items head.depth_ac depths options.depths) _ (depths_are head.depth_ac depths options.depths some depth_small)
       (flat (nth_plane_items head blocks depths options)
       (λ n. plane_is (options.words (nth_plane head n)) (λ g. record { at = λ k low high. known.at (nth_plane head n) g k low high }) (plane_at head blocks depths (nth_plane head n)) (stages_sent head (nth_plane head n)))
-      (span 0 head.depth_ac))))
+      (span 0 head.depth_ac)))))
+
+-- of any number of bits
+module _ (book : Book) (P : Shape → Type 0) (most : ℕ) (fixed_is : (w : ℕ) → P (fixed w)) (zeros_is : (limit : ℕ) → limit ≤ most → P (zeros_to limit))
+    (codes_are : (n option : ℕ) → 2 ≤ n → n ≤ 4 → option + 1 < n → P (coded (codes_of book n option))) where
+  pub shape_at : (is : List Item) (m : ℕ) → AllByRecursion (λ i. P i.form.shape) is → m < length is → P (item_at is m).form.shape
+  shape_at [] m all lt = absurd (omega arith)
+  shape_at (i ∷ is) zero all lt = all.0
+  shape_at (i ∷ is) (suc m) all lt = shape_at is m all.1 (omega arith)
+
+  pub segment_shapes : (head : SegmentHead) (blocks : List (List ℤ)) (depths : List ℕ) (dcs numbers : ℕ → ℕ) (words : ℕ → ℕ → List ℕ) →
+      let options : Options = record { book = book; dcs = dcs; depths = numbers; words = words } in
+      AreWordOptions options → 2 ^ dc_bits head.depth_dc head.depth_ac (dc_shift head) ≤ most → 2 ^ depth_bits head.depth_ac ≤ most →
+      AllByRecursion (λ i. P i.form.shape) (segment_items head blocks depths options)
+  segment_shapes head blocks depths dcs numbers words known dc_small depth_small =
+      shapes_of book P 0 most (omega arith) (λ w low. fixed_is w) (λ limit low le. zeros_is limit le) codes_are head blocks depths dcs numbers words known (λ e. omega arith) dc_small depth_small
 
 -- ---- no code is a prefix of another
 
@@ -178,7 +193,7 @@ sound_at (i ∷ is) zero all lt = all.0
 sound_at (i ∷ is) (suc m) all lt = sound_at is m all.1 (omega arith)
 
 pub word_sound : (book : Book) → is_book_sound book ≡ true → (n option value : ℕ) → 2 ≤ n → n ≤ 4 → option < n → HasSound (word_item book n option value)
-word_sound book sound n option value low high known = word_is book IsSound 0 (λ w. tt) (λ limit le. tt) (codes_sound book sound) n option value low high known
+word_sound book sound n option value low high known = word_is book IsSound 0 0 (omega arith) (λ w low. tt) (λ limit low le. tt) (codes_sound book sound) n option value low high known
 
 pub segment_sound : (head : SegmentHead) (blocks : List (List ℤ)) (depths : List ℕ) (options : Options) → AreWordOptions options → AllSound (segment_items head blocks depths options)
 segment_sound head blocks depths options known =

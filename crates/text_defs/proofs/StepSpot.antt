@@ -1,21 +1,19 @@
 -- The next item of some steps says any number that it does not refuse, by another entry of one step or by another option.
-use Rattle.std.proofs.Common.{◌≡◌, ◌⊎◌, ℕ, suc, ◌-◌, ◌<◌, ◌≤◌, inl, inr, Bool, false, cond, List, [], ◌∷◌, ◌++◌, length, refl, ap, sym, ◌∙◌, subst, arith, length-append}
-use Rattle.std.specs.Prelude.{◌||◌}
+use Rattle.std.proofs.Common.{◌≡◌, ◌⊎◌, ℕ, suc, ◌-◌, ◌<◌, ◌≤◌, inl, inr, false, List, [], ◌∷◌, ◌++◌, length, refl, ap, sym, ◌∙◌, subst, arith, length-append, ◌||◌}
 use Rattle.std.specs.List.{list_any, AllByRecursion}
 use Rattle.std.proofs.lemmas.Bool.{cases_lt, eqb-false}
 use Rattle.std.proofs.lemmas.Bool.Decides.{nat_tests}
 use Rattle.std.proofs.lemmas.List.Folds.{list_any-append}
 use Rattle.std.proofs.Math.Bool.{or-false}
-use Rattle.item_defs.specs.Items.{Item, raw}
 use Rattle.item_defs.specs.Readings.{item_at}
 use Rattle.item_defs.specs.Laws.{said_of}
 use Rattle.base_122.specs.declared.book.Book.{Book}
 use Rattle.plane_defs.specs.declared.entries.Entry.{Entry}
 use Rattle.plane_defs.specs.Entries.{IsEntry}
-use Rattle.plane_defs.specs.Spelled.{is_word_of, option_of, opening}
-use Rattle.plane_defs.specs.Steps.{Check, refuses, Step}
+use Rattle.plane_defs.specs.Spelled.{is_word_of, option_of}
+use Rattle.plane_defs.specs.Steps.{Check, Step}
 use Rattle.plane_defs.specs.StepLaws.{entries_of, SameSteps, IsAllowed}
-use Rattle.plane_defs.specs.Reading.{checked, checked_word, entry_reading, step_reading, read_after}
+use Rattle.plane_defs.specs.Reading.{entry_reading, step_reading, read_after}
 use Rattle.plane_defs.proofs.Settled.{head_same, tail_same}
 use Rattle.plane_defs.proofs.StepItems.{AreOptionsOf, Fits}
 use Rattle.text_defs.proofs.NumbersChoice.{left_at, right_at}
@@ -24,17 +22,13 @@ use Rattle.text_defs.proofs.Choices.{Chooses, choose_left, choose_right}
 use Rattle.plane_texts.specs.Candidates.{EntriesChoose, step_at, Replaces}
 use Rattle.text_defs.proofs.EntrySpot.{Elsewhere, entry_spot}
 use Rattle.plane_texts.proofs.SmallFacts.{neither_left, neither_right}
+use Rattle.plane_defs.proofs.Equations.{bit_reading, word_reading}
 
 module _ (book : Book) where
   -- ---- options of other lengths
 
-  abbrev Items : (none one : Bool) → List ℕ → List Entry → Check → (n v : ℕ) → List Item
-  Items none one o before check n v =
-      cond none [] (cond one (checked (refuses check) (raw v) ∷ []) (opening o before n ++ checked_word book n (option_of o n) v check ∷ []))
-
   pub entry_options : (n : ℕ) (o u : List ℕ) → Elsewhere n o u → (before : List Entry) (check : Check) (x : Entry) → IsEntry x → is_word_of n x ≡ false → entry_reading book o before check x ≡ entry_reading book u before check x
-  unfolding entry_reading
-  entry_options n o u same before check x fit other = grind (arith, nat_tests, eqb-false)
+  entry_options n o u same before check x fit other = grind (arith, nat_tests, bit_reading, word_reading, eqb-false)
 
   pub read_options : (n : ℕ) (o u : List ℕ) → Elsewhere n o u → (before : List Entry) (ss : List Step) → Fits ss → list_any (is_word_of n) (entries_of ss) ≡ false → read_after book o before ss ≡ read_after book u before ss
   read_options n o u same before [] fit none = refl

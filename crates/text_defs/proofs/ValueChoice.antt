@@ -1,6 +1,5 @@
 -- The next item of a gaggle's mapped values says any number that it does not refuse, if one value is chosen for it.
-use Rattle.std.proofs.Common.{◌≡◌, ◌⊎◌, ℕ, ◌+◌, ◌*◌, ◌-◌, ◌/◌, ◌%◌, ◌^◌, ◌<◌, ◌≤◌, List, [], ◌++◌, length, map, get_or, Bool, true, false, eqb, cond, refl, sym, ap, subst, ◌∙◌, arith, inl, inr, length-append}
-use Rattle.std.specs.Prelude.{None, Some, Option}
+use Rattle.std.proofs.Common.{◌≡◌, ◌⊎◌, ℕ, ◌+◌, ◌*◌, ◌-◌, ◌/◌, ◌%◌, ◌^◌, ◌<◌, ◌≤◌, List, [], ◌++◌, length, map, get_or, Bool, true, false, eqb, cond, refl, sym, ap, subst, ◌∙◌, arith, inl, inr, length-append, None, Some, Option}
 use Rattle.std.specs.List.{range_with_len}
 use Rattle.std.proofs.lemmas.Bool.{cases_lt}
 use Rattle.std.proofs.lemmas.Bool.Decides.{nat_tests}
@@ -12,6 +11,7 @@ use Rattle.number_defs.proofs.MappingLaws.{mapped_below}
 use Rattle.text_defs.proofs.NumbersTold.{map_long}
 use Rattle.text_defs.proofs.NumbersChoice.{left_at, right_at, range_at, map_said}
 use Rattle.text_defs.proofs.Choices.{Chooses, choose_left, choose_right, choose_place}
+use Rattle.number_defs.proofs.Equations.{value_items-is}
 
 -- an item says this number if its form does not refuse it
 abbrev pub MaySay : Item → ℕ → Type 0
@@ -51,15 +51,13 @@ module _ (kind : Kind) (xs : List ℕ) (few : (i : ℕ) → get_or xs i 0 < 2 ^ 
 
   items_are : (zs : List ℕ) (t z : Bool) → eqb option (uncoded kind.bits) ≡ t → eqb option 0 ≡ z → value_items kind zs option (range_with_len a n) ≡
       cond t (map (uncoded_value kind zs) (range_with_len a n)) (map (unary_part kind zs option) (range_with_len a n) ++ cond z [] (map (rest_part kind zs option) (range_with_len a n)))
-  unfolding value_items
-  items_are zs t z e f = grind (arith, nat_tests)
+  items_are zs t z e f = simp value_items-is (grind (arith, nat_tests))
 
   choose_as : (k said : ℕ) (is js is' js' : List Item) → is ≡ is' → js ≡ js' → Chooses k said is' js' → Chooses k said is js
   choose_as k said is js is' js' p q c = subst (λ x. Chooses k said x js) (sym p) (subst (λ x. Chooses k said is' x) (sym q) c)
 
   pub pick : (k said : ℕ) → k < length (value_items kind xs option (range_with_len a n)) → MaySay (item_at (value_items kind xs option (range_with_len a n)) k) said → Picked k said
-  unfolding value_items
-  pick k said lt may = by_option (eqb option (uncoded kind.bits)) (eqb option 0) refl refl lt may
+  pick k said lt may = let lt = simp value_items-is at lt in let may = simp value_items-is at may in (by_option (eqb option (uncoded kind.bits)) (eqb option 0) refl refl lt may)
     where
       by_option : (t z : Bool) → eqb option (uncoded kind.bits) ≡ t → eqb option 0 ≡ z →
           k < length (cond t (map (uncoded_value kind xs) (range_with_len a n)) (map (unary_part kind xs option) (range_with_len a n) ++ cond z [] (map (rest_part kind xs option) (range_with_len a n)))) →

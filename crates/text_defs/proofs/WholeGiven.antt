@@ -13,6 +13,7 @@ use Rattle.text_defs.specs.Given.{before_plane, given_in}
 use Rattle.plane_texts.proofs.PlaneParts.{part_long, parts_of}
 use Rattle.plane_texts.proofs.SplitReading.{given_all}
 use Rattle.text_defs.proofs.AllSent.{all_stages}
+use Rattle.segment_defs.proofs.Equations.{segment_items-is}
 
 -- all stages of a block
 pub plane_whole : (book : Book) (options : ℕ → List ℕ) (blocks : List (List ℤ)) (depths weights : List ℕ) (number q m r : ℕ) →
@@ -23,8 +24,7 @@ plane_whole book options blocks depths weights number q m r within le = grind (a
 module _ (head : SegmentHead) (blocks : List (List ℤ)) (depths : List ℕ) (options : Options) (goes_on : head.stop.dc ≡ false) (low_plane : head.stop.plane ≡ 0) (last_stage : head.stop.stage ≡ 3) where
   pub segment_long : length (segment_items head blocks depths options) ≡
       length (dc_part_items head blocks options) + (length (depth_items head.depth_ac depths options.depths) + length (planes_items head blocks depths options head.depth_ac))
-  unfolding segment_items
-  segment_long = grind (arith, nat_tests, length-append)
+  segment_long = simp segment_items-is (grind (arith, nat_tests, length-append))
 
   sent : (b : ℕ) → stages_sent head b ≡ 5
   sent b = grind (arith, nat_tests)

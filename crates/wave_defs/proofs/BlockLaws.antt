@@ -1,6 +1,5 @@
 -- The numbers of a block, by block and position.
-use Rattle.std.proofs.Common.{◌≡◌, ℕ, zero, suc, Bool, true, ◌+◌, ◌*◌, ◌/◌, ◌%◌, ◌^◌, ◌<◌, ◌≤◌, ℤ, pos, ◌*ℤ◌, List, length, get_or, map, refl, ap, ◌∙◌, arith}
-use Rattle.std.specs.Prelude.{nat_lt, ◌&&◌, slice_index}
+use Rattle.std.proofs.Common.{◌≡◌, ℕ, zero, suc, Bool, true, ◌+◌, ◌*◌, ◌/◌, ◌%◌, ◌^◌, ◌<◌, ◌≤◌, ℤ, pos, ◌*ℤ◌, List, length, get_or, map, refl, ap, ◌∙◌, arith, nat_lt, ◌&&◌, slice_index}
 use Rattle.std.specs.List.{range_with_len, list_all}
 use Rattle.std.proofs.lemmas.Bool.Decides.{nat_tests}
 use Rattle.std.proofs.lemmas.List.{same_lists, get_or_default}
@@ -56,12 +55,17 @@ place_holds : (p : Place) → is_place p ≡ true → IsPlace p
 unfolding is_place
 place_holds p e = record { band = grind (arith, nat_tests); row = grind (arith, nat_tests); column = grind (arith, nat_tests) }
 
+-- the first number of a block is of the band LL3
+pub place_of-first : (place_of 0).band ≡ 9
+unfolding place_of
+place_of-first = refl
+
 pub place_of-is_place : (i : ℕ) → i < 64 → IsPlace (place_of i)
 place_of-is_place i h = place_holds (place_of i) (passes (λ i. is_place (place_of i)) 64 i all_places h)
 
 -- ---- bounds on the weighted numbers
 
-weighted-within : (w b : ℕ) (z : ℤ) → w ≤ 3 → IsWithin b z → IsWithin (8 * b) (z *ℤ pos (2 ^ w))
+pub weighted-within : (w b : ℕ) (z : ℤ) → w ≤ 3 → IsWithin b z → IsWithin (8 * b) (z *ℤ pos (2 ^ w))
 weighted-within zero b z h k = record { above = omega (arith, ints); below = omega (arith, ints) }
 weighted-within (suc zero) b z h k = record { above = omega (arith, ints); below = omega (arith, ints) }
 weighted-within (suc (suc zero)) b z h k = record { above = omega (arith, ints); below = omega (arith, ints) }

@@ -1,3 +1,4 @@
+pub mod Equations
 pub mod Mirror
 pub mod Floors
 pub mod Shifts
@@ -19,3 +20,5 @@ pub mod BlockLaws
 pub mod BlockPlaces
 pub mod RollingLaws
 pub mod SettledLaws
+pub mod PairLemmas
+pub mod PassLemmas

@@ -1,5 +1,5 @@
 -- The first rows of an image determine the first rows of its bands.
-use Rattle.std.proofs.Common.{◌≡◌, ℕ, ◌+◌, ◌-◌, ◌*◌, ◌<◌, ◌≤◌, ℤ, arith}
+use Rattle.std.proofs.Common.{◌≡◌, ℕ, ◌+◌, ◌*◌, ◌<◌, ◌≤◌, ℤ, arith}
 use Rattle.std.proofs.lemmas.Bool.Decides.{nat_tests}
 use Rattle.wave_defs.specs.Line.{high_of, low_of, prediction}
 use Rattle.wave_defs.specs.Level.{level, columns_low, columns_high}

@@ -1,6 +1,4 @@
-use Rattle.std.proofs.Common.{ap}
-use Rattle.std.specs.Prelude.{◌+◌, ◌*◌, ◌-◌, if◌then◌else◌}
-use Rattle.std.proofs.lemmas.Bool.{ne_eqb}
+use Rattle.std.proofs.Common.{ap, ◌+◌, ◌*◌, ◌-◌, if◌then◌else◌, ne_eqb}
 use Rattle.base_122.specs.Sizes.{block_count}
 use Rattle.raster_rows.specs.Pixels.{raster_octets}
 use Rattle.stream_defs.specs.Picture.{number_at, picture_of}

@@ -1,5 +1,4 @@
-use Rattle.std.proofs.Common.{rules, arith, ◌≡◌, ◌≤◌, ◌<◌, ◌-◌, length, take, drop}
-use Rattle.std.specs.Prelude.{None}
+use Rattle.std.proofs.Common.{rules, arith, ◌≡◌, ◌≤◌, ◌<◌, ◌-◌, length, take, drop, None}
 use Rattle.std.proofs.lemmas.Grind.{common_steps}
 use Rattle.port_122.specs.Steady.{outside_of}
 use Rattle.port_122.proofs.MemoryReads.{memory_read}
