@@ -1,11 +1,11 @@
 -- Stretches of a list that are filled one after another.
-use Rattle.std.proofs.Common.{◌≡◌, ℕ, ◌+◌, ◌<◌, ◌≤◌, ℤ, pos, List, length, map, inl, inr, sym, ap, ◌∙◌, arith}
-use Rattle.std.specs.Prelude.{slice_set}
+use Rattle.std.proofs.Common.{◌≡◌, ℕ, ◌+◌, ◌<◌, ◌≤◌, ℤ, pos, List, length, map, inl, inr, sym, ap, ◌∙◌, arith, slice_set}
 use Rattle.std.specs.List.{range_with_len}
 use Rattle.std.proofs.lemmas.Bool.{cases_lt}
 use Rattle.std.proofs.lemmas.List.{length-set, get_or-set_other, same_lists, get_or_default}
 use Rattle.std.proofs.lemmas.List.FromFn.{length-map-range_with_len, get_or-map-range_with_len}
 use Rattle.std.proofs.lemmas.Grind.{get_or-set_at}
+use Rattle.std.proofs.lemmas.Bool.Decides.{nat_tests}
 use Rattle.block_families.specs.Gathering.{Fills}
 
 -- the same values in another form
@@ -51,9 +51,4 @@ fills_four value at a b c d old room ea eb ec ed =
 
 -- the whole list
 pub fills_all : (value : ℕ → ℤ) (count : ℕ) (old new : List ℤ) → length old ≡ count → Fills value 0 count old new → new ≡ map value (range_with_len 0 count)
-fills_all value count old new long f =
-    let whole : length new ≡ count = f.whole ∙ long in
-    same_lists new (map value (range_with_len 0 count)) (whole ∙ sym (length-map-range_with_len value 0 count))
-    (λ k d h.
-    let below : k < count = omega arith in
-    get_or_default new k d (pos 0) h ∙ f.there k (omega arith) (omega arith) ∙ sym (get_or-map-range_with_len value 0 count k k d below (omega arith)))
+fills_all value count old new long f = grind (arith, nat_tests, same_lists, map, length-map-range_with_len, get_or_default, pos, get_or-map-range_with_len)

@@ -1,12 +1,11 @@
 -- The places of a block are in its block row, and are different.
-use Rattle.std.proofs.Common.{◌≡◌, ℕ, ◌+◌, ◌*◌, ◌/◌, ◌%◌, ◌<◌, ◌≤◌, true, refl, sym, ap, ◌∙◌, arith}
-use Rattle.std.specs.Prelude.{◌==◌, if◌then◌else◌, nat_lt}
+use Rattle.std.proofs.Common.{◌≡◌, ℕ, ◌+◌, ◌*◌, ◌/◌, ◌%◌, ◌<◌, ◌≤◌, true, refl, sym, ap, ◌∙◌, arith, ◌==◌, if◌then◌else◌, nat_lt, mul-le-mul_left}
 use Rattle.std.specs.List.{list_all, range_with_len}
-use Rattle.std.proofs.Math.Nat.{mul-le-mul_left}
 use Rattle.wave_defs.specs.Blocks.{place_of, block_side}
-use Rattle.wave_defs.proofs.BlockLaws.{place_of-is_place}
-use Rattle.block_families.proofs.Passing.{passed, same_from_test}
+use Rattle.wave_defs.proofs.BlockLaws.{place_of-is_place, passes}
+use Rattle.block_families.proofs.Passing.{same_from_test}
 use Rattle.block_families.specs.Places.{place_in, IsWithin}
+use Rattle.wave_defs.proofs.Equations.{place_of-is}
 
 pub place_within : (columns column i : ℕ) → column < columns → i < 64 → IsWithin columns (place_in column i)
 place_within columns column i inside below =
@@ -27,12 +26,12 @@ position_at band row column =
     (if nat_lt band 6 then 4 + 4 * family_at band + (2 * row + column) else 1 + family_at band))
 
 all_back : list_all (λ i. position_at (place_of i).band (place_of i).row (place_of i).column == i) (range_with_len 0 64) ≡ true
-unfolding place_of position_at family_at
-all_back = refl
+unfolding position_at family_at
+all_back = simp place_of-is refl
 
 back : (i : ℕ) → i < 64 → position_at (place_of i).band (place_of i).row (place_of i).column ≡ i
 back i below =
-    same_from_test _ _ (passed (λ i. position_at (place_of i).band (place_of i).row (place_of i).column == i) 64 i all_back below)
+    same_from_test _ _ (passes (λ i. position_at (place_of i).band (place_of i).row (place_of i).column == i) 64 i all_back below)
 
 same_rest : (side s a b : ℕ) → side * s + a ≡ side * s + b → a ≡ b
 same_rest side s a b h = omega arith

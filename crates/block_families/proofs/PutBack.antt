@@ -1,7 +1,7 @@
 -- Numbers that are put back, stretch by stretch.
-use Rattle.std.proofs.Common.{◌≡◌, inl, inr, ℕ, zero, suc, [], ◌∷◌, ◌*◌, ◌+◌, ◌-◌, ◌<◌, ◌≤◌, ◌^◌, ℤ, pos, ◌*ℤ◌, List, get_or, ap, sym, ◌∙◌, subst, arith}
-use Rattle.std.specs.Prelude.{All, slice_index, unsigned_abs}
+use Rattle.std.proofs.Common.{◌≡◌, inl, inr, ℕ, zero, suc, [], ◌∷◌, ◌*◌, ◌+◌, ◌-◌, ◌<◌, ◌≤◌, ◌^◌, ℤ, pos, ◌*ℤ◌, List, get_or, ap, sym, ◌∙◌, subst, arith, All, slice_index, unsigned_abs}
 use Rattle.std.proofs.lemmas.Bool.{cases_lt}
+use Rattle.std.proofs.lemmas.Bool.Decides.{nat_tests}
 use Rattle.base_122.specs.Weights.{IsShift}
 use Rattle.wave_defs.specs.Blocks.{Place, place_of, weight_at, block_side}
 use Rattle.wave_defs.specs.Line.{floor_div}
@@ -14,9 +14,7 @@ use Rattle.block_families.proofs.Placing.{one_place, place_within}
 -- the number at a position without its weight
 pub part_of : (numbers : List ℤ) (weights : List ℕ) (i s : ℕ) (z : ℤ) (p : AreWeighted numbers weights) → i < 64 → All IsShift weights → s ≡ slice_index weights (place_of i).band →
     z ≡ floor_div (get_or numbers i (pos 0)) (2 ^ s) → z ≡ p.part i
-part_of numbers weights i s z p below shifts es e =
-    let k = slice_index weights (place_of i).band in
-    e ∙ ap (λ n. floor_div (get_or numbers i (pos 0)) (2 ^ n)) es ∙ ap (λ n. floor_div n (2 ^ k)) (p.whole i below) ∙ divided (p.part i) k (shift_small weights (place_of i).band shifts)
+part_of numbers weights i s z p below shifts es e = grind (arith, nat_tests, slice_index, get_or, pos, divided, shift_small)
 
 pub part_small : (numbers : List ℤ) (weights : List ℕ) (i : ℕ) (z : ℤ) (p : AreWeighted numbers weights) → i < 64 → z ≡ p.part i → unsigned_abs z ≤ 2 ^ 27
 part_small numbers weights i z p below e = rw e (p.small i below)
@@ -41,9 +39,7 @@ square_rows columns column at p inside below e =
     omega (arith, within.row)
 
 pub square_inside : (columns column at : ℕ) (p : Place) → column < columns → at + 3 < 64 → in_square p 3 ≡ place_in column (at + 3) → p.column + 2 ≤ block_side p.band * columns
-square_inside columns column at p inside below e =
-    let within = subst (λ (q : Place). IsWithin columns q) (sym e) (place_within columns column (at + 3) inside below) in
-    omega (arith, within.column)
+square_inside columns column at p inside below e = grind (arith, nat_tests, place_within)
 
 -- one stretch and then the next
 pub puts_on : (weights : List ℕ) (column : ℕ) (numbers : List ℤ) (from a b next count : ℕ) (old mid new : Place → ℤ) → next ≡ from + a → count ≡ a + b → from + count ≤ 64 →
@@ -59,9 +55,6 @@ puts_on weights column numbers from a b next count old mid new en ec most x y = 
       ];
   others = λ p out. y.others p (λ i u v e. out i (omega arith) (omega arith) e) ∙ x.others p (λ i u v e. out i u (omega arith) e);
 }
-
-pub puts_none : (weights : List ℕ) (column : ℕ) (numbers : List ℤ) (from : ℕ) (old new : Place → ℤ) → ((p : Place) → new p ≡ old p) → PutsBack weights column numbers from 0 old new
-puts_none weights column numbers from old new same = record { block = λ i h k. absurd (omega arith); others = λ p out. same p }
 
 pub puts_all : (weights : List ℕ) (column : ℕ) (numbers : List ℤ) (old new : Place → ℤ) → PutsBack weights column numbers 0 64 old new → Scatters old new weights column numbers
 puts_all weights column numbers old new x = record {

@@ -1,47 +1,38 @@
 -- The numbers of a block, by its squares of two rows and two columns.
-use Rattle.std.proofs.Common.{◌≡◌, ℕ, zero, suc, ◌+◌, ◌-◌, ◌*◌, ◌/◌, ◌%◌, ◌^◌, ◌<◌, ◌≤◌, ℤ, pos, ◌*ℤ◌, List, length, get_or, refl, sym, ap, ◌∙◌, arith}
-use Rattle.std.specs.Prelude.{slice_index, slice_set, unsigned_abs}
-use Rattle.std.proofs.Math.Nat.{mul-le-mul_left}
+use Rattle.std.proofs.Common.{◌≡◌, ℕ, zero, suc, ◌+◌, ◌-◌, ◌*◌, ◌/◌, ◌%◌, ◌^◌, ◌<◌, ◌≤◌, ℤ, pos, ◌*ℤ◌, List, length, get_or, refl, sym, ap, ◌∙◌, arith, slice_index, slice_set, unsigned_abs, mul-le-mul_left}
+use Rattle.std.proofs.lemmas.Bool.Decides.{nat_tests}
 use Rattle.wave_defs.specs.Blocks.{Place, place_of, block_side, family_band}
 use Rattle.block_families.specs.Gathering.{weighted_at, Fills, square}
 use Rattle.block_families.specs.Places.{place_in}
 use Rattle.block_families.specs.Scattering.{in_square}
 use Rattle.block_families.proofs.Filling.{fills_as, fills_four}
+use Rattle.wave_defs.proofs.Equations.{place_of-is}
 
 same_place : (b b' r r' c c' : ℕ) → b ≡ b' → r ≡ r' → c ≡ c' → ◌≡◌ {A = Place} (record { band = b; row = r; column = c }) (record { band = b'; row = r'; column = c' })
-same_place b b' r r' c c' eb er ec =
-    let place : ℕ → ℕ → ℕ → Place = λ x y z. record { band = x; row = y; column = z } in
-    ap (λ q. place q r c) eb ∙ ap (λ q. place b' q c) er ∙ ap (place b' r') ec
+same_place b b' r r' c c' eb er ec = grind (arith, nat_tests)
 
 -- ---- where the numbers are
 
 pub top_place : (i : ℕ) → i < 4 → place_of i ≡ record { band = (place_of i).band; row = 0; column = 0 }
-unfolding place_of
-top_place zero h = refl
-top_place (suc zero) h = refl
-top_place (suc (suc zero)) h = refl
-top_place (suc (suc (suc zero))) h = refl
-top_place (suc (suc (suc (suc i)))) h = absurd (omega arith)
+top_place zero h = rw place_of-is refl
+top_place (suc zero) h = rw place_of-is refl
+top_place (suc (suc zero)) h = rw place_of-is refl
+top_place (suc (suc (suc zero))) h = rw place_of-is refl
+top_place (suc (suc (suc (suc i)))) h = rw place_of-is (absurd (omega arith))
 
 child_place : (i : ℕ) → 4 ≤ i → i < 16 → place_of i ≡ record { band = family_band 2 ((i - 4) / 4); row = i % 4 / 2; column = i % 4 % 2 }
-unfolding place_of
-child_place i h k = grind arith
+child_place i h k = rw place_of-is (grind arith)
 
 grandchild_place : (i : ℕ) → 16 ≤ i → place_of i ≡ record { band = family_band 1 ((i - 16) / 16); row = 2 * (i % 16 / 4 / 2) + i % 4 / 2; column = 2 * (i % 16 / 4 % 2) + i % 4 % 2 }
-unfolding place_of
-grandchild_place i h = grind arith
+grandchild_place i h = rw place_of-is (grind arith)
 
 pub children_at : (band family at : ℕ) → band ≡ family_band 2 family → family < 3 → at ≡ 4 + 4 * family → (i : ℕ) → at ≤ i → i < at + 4 →
     place_of i ≡ record { band = band; row = 0 + (i - at) / 2; column = 0 + (i - at) % 2 }
-children_at band family at eb hf ea i h k =
-    let same : (i - 4) / 4 ≡ family = omega arith in
-    child_place i (omega arith) (omega arith) ∙ same_place _ _ _ _ _ _ (ap (family_band 2) same ∙ sym eb) (omega arith) (omega arith)
+children_at band family at eb hf ea i h k = grind (arith, nat_tests, child_place, same_place)
 
 pub grandchildren_at : (band half q row at : ℕ) → band ≡ family_band 1 (half / 2) → half < 6 → q < 2 → row ≡ 2 * (half % 2) → at ≡ 16 + 8 * half + 4 * q → (i : ℕ) → at ≤ i → i < at + 4 →
     place_of i ≡ record { band = band; row = row + (i - at) / 2; column = 2 * q + (i - at) % 2 }
-grandchildren_at band half q row at eb hh hq er ea i h k =
-    let same : (i - 16) / 16 ≡ half / 2 = omega arith in
-    grandchild_place i (omega arith) ∙ same_place _ _ _ _ _ _ (ap (family_band 1) same ∙ sym eb) (omega arith) (omega arith)
+grandchildren_at band half q row at eb hh hq er ea i h k = grind (arith, nat_tests, grandchild_place, same_place)
 
 pub side_two : (band family : ℕ) → band ≡ family_band 2 family → block_side band ≡ 2
 side_two band family e = grind arith
@@ -85,44 +76,30 @@ square_put upper lower start s at old a b c d room ea eb ec ed =
 
 pub weighted_there : (number : Place → ℤ) (weights : List ℕ) (column i : ℕ) (p : Place) → place_of i ≡ p →
     weighted_at number weights column i ≡ number (record { band = p.band; row = p.row; column = block_side p.band * column + p.column }) *ℤ pos (2 ^ slice_index weights p.band)
-weighted_there number weights column i p e =
-    ap (λ (q : Place). number (record { band = q.band; row = q.row; column = block_side q.band * column + q.column }) *ℤ pos (2 ^ slice_index weights q.band)) e
+weighted_there number weights column i p e = grind (arith, nat_tests, pos, slice_index)
 
 top_side : (i : ℕ) → i < 4 → block_side (place_of i).band ≡ 1
-unfolding place_of
-top_side zero h = refl
-top_side (suc zero) h = refl
-top_side (suc (suc zero)) h = refl
-top_side (suc (suc (suc zero))) h = refl
-top_side (suc (suc (suc (suc i)))) h = absurd (omega arith)
+top_side zero h = rw place_of-is refl
+top_side (suc zero) h = rw place_of-is refl
+top_side (suc (suc zero)) h = rw place_of-is refl
+top_side (suc (suc (suc zero))) h = rw place_of-is refl
+top_side (suc (suc (suc (suc i)))) h = rw place_of-is (absurd (omega arith))
 
 -- the number of a row of one of the four upper bands
 pub top_at : (number : Place → ℤ) (weights : List ℕ) (columns column i band s : ℕ) (row : List ℤ) → i < 4 → column < columns → band ≡ (place_of i).band → s ≡ slice_index weights band →
     ((j : ℕ) → j < block_side band * columns → get_or row j (pos 0) ≡ number (record { band = band; row = 0; column = j })) →
     get_or row column (pos 0) *ℤ pos (2 ^ s) ≡ weighted_at number weights column i
-top_at number weights columns column i band s row few inside eb es numbers =
-    let b = (place_of i).band in
-    let side : block_side band ≡ 1 = ap block_side eb ∙ top_side i few in
-    let here : column < block_side band * columns = rw side (omega arith) in
-    let at : column ≡ block_side b * column + 0 = rw (top_side i few) (omega arith) in
-    ap (λ z. z *ℤ pos (2 ^ s)) (numbers column here ∙ ap number (same_place _ _ _ _ _ _ eb refl at)) ∙
-    ap (λ n. number (record { band = b; row = 0; column = block_side b * column + 0 }) *ℤ pos (2 ^ n)) (es ∙ ap (slice_index weights) eb)
-    ∙ sym (weighted_there number weights column i (record { band = b; row = 0; column = 0 }) (top_place i few))
+top_at number weights columns column i band s row few inside eb es numbers = grind (arith, nat_tests, top_side, pos, same_place, slice_index, weighted_there, top_place)
 
 pub top_is : (band column i : ℕ) → i < 4 → band ≡ (place_of i).band → record { band = band; row = 0; column = column } ≡ place_in column i
-top_is band column i few eb =
-    let at : column ≡ block_side (place_of i).band * column + 0 = rw (top_side i few) (omega arith) in
-    same_place _ _ _ _ _ _ eb refl at ∙ sym (placed column i _ (top_place i few))
+top_is band column i few eb = grind (arith, nat_tests, top_side, same_place, placed, top_place)
 
 module _ (number : Place → ℤ) (weights : List ℕ) (columns column band row next x s start : ℕ) (upper lower : List ℤ)
     (inside : column < columns) (room : x + 2 ≤ block_side band) (begin : start ≡ block_side band * column + x) (shift : s ≡ slice_index weights band) (after : next ≡ row + 1)
     (above : (j : ℕ) → j < block_side band * columns → get_or upper j (pos 0) ≡ number (record { band = band; row = row; column = j }))
     (below : (j : ℕ) → j < block_side band * columns → get_or lower j (pos 0) ≡ number (record { band = band; row = next; column = j })) where
   in_row : (d : ℕ) → d < 2 → start + d < block_side band * columns
-  in_row d h =
-      let whole : block_side band * (column + 1) ≤ block_side band * columns = mul-le-mul_left (block_side band) (omega arith) in
-      let more : block_side band * (column + 1) ≡ block_side band * column + block_side band = grind arith in
-      omega arith
+  in_row d h = grind (arith, nat_tests, mul-le-mul_left)
 
   same_number : (r r' c c' : ℕ) → r ≡ r' → c ≡ c' → number (record { band = band; row = r; column = c }) ≡ number (record { band = band; row = r'; column = c' })
   same_number r r' c c' er ec = ap number (same_place band band r r' c c' refl er ec)
@@ -136,9 +113,7 @@ module _ (number : Place → ℤ) (weights : List ℕ) (columns column band row 
 
   square_at : (i k : ℕ) → k < 4 → place_of i ≡ record { band = band; row = row + k / 2; column = x + k % 2 } →
       square upper lower start k *ℤ pos (2 ^ s) ≡ weighted_at number weights column i
-  square_at i k h e =
-      ap (λ z. z *ℤ pos (2 ^ s)) (part k h) ∙ ap (λ n. number (record { band = band; row = row + k / 2; column = block_side band * column + (x + k % 2) }) *ℤ pos (2 ^ n)) shift
-      ∙ sym (weighted_there number weights column i _ e)
+  square_at i k h e = grind (arith, nat_tests, pos, part, weighted_there)
 
   pub square_fits : (at : ℕ) → at + 4 ≤ 64 → ((i : ℕ) → at ≤ i → i < at + 4 → place_of i ≡ record { band = band; row = row + (i - at) / 2; column = x + (i - at) % 2 }) →
       ((i : ℕ) → i < 64 → unsigned_abs (weighted_at number weights column i) < 2 ^ 31) →

@@ -1,6 +1,5 @@
 -- The places of a block row in a list: each has a number of its own.
-use Rattle.std.proofs.Common.{◌≡◌, ℕ, Bool, true, false, ◌+◌, ◌*◌, ◌-◌, ◌<◌, ◌≤◌, ◌≢◌, ℤ, pos, List, length, take, drop, [], set, subst, if◌then◌else◌, refl, sym, ap, ◌∙◌, ⊎_elim, get_or-set_other, get_or-set_same, arith}
-use Rattle.std.specs.Prelude.{replicate}
+use Rattle.std.proofs.Common.{◌≡◌, ℕ, Bool, true, false, ◌+◌, ◌*◌, ◌-◌, ◌<◌, ◌≤◌, ◌≢◌, ℤ, pos, List, length, take, drop, [], set, subst, if◌then◌else◌, refl, sym, ap, ◌∙◌, ⊎_elim, get_or-set_other, get_or-set_same, arith, replicate}
 use Rattle.std.proofs.lemmas.Bool.{cases_lt}
 use Rattle.std.proofs.lemmas.List.{places, get_or-replicate, get_or_past, length-replicate}
 use Rattle.std.proofs.lemmas.Bool.Decides.{nat_tests}

@@ -8,3 +8,5 @@ pub mod SampleLemmas
 pub mod NextLemmas
 pub mod SquareLemmas
 mod ZeroRows
+mod Bounds
+mod PairLemmas

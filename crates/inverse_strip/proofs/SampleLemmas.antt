@@ -23,14 +23,13 @@ ring-samples n w rows s =
     let count = s.count_is in
     rows-samples w rows (λ t h. s.wide t (omega arith)) ∙ ap (λ (k : ℕ). k * w) s.count_is
 
-columns-samples : (s : Columns) → columns_samples s ≡ 8 * s.width
+columns-samples : (s : Columns) → columns_samples s ≡ 7 * s.width
 columns-samples s =
     let evens = ring-samples 4 s.width s.evens s.stand.evens in
     let highs = ring-samples 3 s.width s.highs s.stand.highs in
-    let room = s.room_stands in
     omega arith
 
-level-samples : (s : InverseLevel) → level_samples s ≡ 18 * s.left.width
+level-samples : (s : InverseLevel) → level_samples s ≡ 16 * s.left.width
 level-samples s =
     let left = columns-samples s.left in
     let right = columns-samples s.right in
@@ -39,7 +38,7 @@ level-samples s =
     let c = s.right_room in
     omega arith
 
-stage-samples : (n : ℕ) (s : LevelStage) → s.kept ≡ n → stage_samples s ≡ 19 * s.level.left.width + (n * s.level.left.width + n * s.level.left.width + n * s.level.left.width)
+stage-samples : (n : ℕ) (s : LevelStage) → s.kept ≡ n → stage_samples s ≡ 16 * s.level.left.width + (n * s.level.left.width + n * s.level.left.width + n * s.level.left.width)
 stage-samples n s e =
     let w = s.level.left.width in
     let level = level-samples s.level in
@@ -47,10 +46,9 @@ stage-samples n s e =
     let hl = ring-samples s.kept w s.hl s.hl_stands in
     let lh = ring-samples s.kept w s.lh s.lh_stands in
     let hh = ring-samples s.kept w s.hh s.hh_stands in
-    let low = s.low_room in
     omega arith
 
-pub strip-samples : (s : StripInverse) → strip_samples s ≡ 396 * s.third.left.width
+pub strip-samples : (s : StripInverse) → strip_samples s ≡ 376 * s.third.left.width
 strip-samples s =
     let third = level-samples s.third in
     let second = stage-samples 6 s.second s.second_kept in

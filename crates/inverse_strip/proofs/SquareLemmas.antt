@@ -1,7 +1,6 @@
 -- A square of numbers that are set one after another.
-use Rattle.std.proofs.Common.{◌≡◌, ◌≢◌, ℕ, zero, suc, ◌+◌, ◌*◌, ◌/◌, ◌%◌, ◌<◌, ◌≤◌, refl, ℤ, pos, List, length, get_or, set, get_or-set_same, get_or-set_other, inl, inr, ⊎_elim, subst, sym, ap, ◌∙◌, arith}
+use Rattle.std.proofs.Common.{◌≡◌, ◌≢◌, ℕ, zero, suc, ◌+◌, ◌*◌, ◌/◌, ◌%◌, ◌<◌, ◌≤◌, refl, ℤ, pos, List, length, get_or, set, get_or-set_same, get_or-set_other, inl, inr, ⊎_elim, subst, sym, ap, ◌∙◌, arith, length-set}
 use Rattle.std.proofs.lemmas.Bool.{cases_order}
-use Rattle.std.proofs.lemmas.List.{length-set}
 use Rattle.wave_defs.specs.Blocks.{Place, block_side}
 use Rattle.wave_defs.specs.Held.{signal}
 use Rattle.wave_defs.specs.Within.{IsWithin, AllWithin}

@@ -1,40 +1,19 @@
 -- Three levels, one after another.
-use Rattle.std.proofs.Common.{◌≡◌, ℕ, ◌+◌, ◌*◌, ◌<◌, ◌≤◌, ℤ, List, refl, ap, sym, ◌∙◌, subst, ⊎_elim, arith}
+use Rattle.std.proofs.Common.{◌≡◌, ℕ, ◌+◌, ◌*◌, ◌<◌, ℤ, List, refl, ap, sym, ◌∙◌, subst, ⊎_elim, arith}
 use Rattle.wave_defs.specs.Level.{joined}
 use Rattle.wave_defs.specs.Pyramid.{Pyramid, rebuilt, first_of, second_of, third_of}
 use Rattle.wave_defs.specs.Blocks.{block_side}
 use Rattle.wave_defs.specs.Held.{Agrees, signal}
 use Rattle.inverse_strip.specs.Cells.{HasBlockRow, number_in}
-use Rattle.wave_defs.specs.Rings.{RowsWithin}
-use Rattle.wave_defs.proofs.LevelWithin.{IsWithin-more}
-use Rattle.inverse_strip.specs.Kept.{AreSmall, half_more, Counts, HasRow}
-use Rattle.inverse_strip.specs.declared.level.InverseLevel.{InverseLevel}
-use Rattle.inverse_strip.specs.Level.{IsSmallLevel}
-
--- wider bounds
-rows-more : (b m w : ℕ) (rows : List (List ℤ)) → b ≤ m → RowsWithin b w rows → RowsWithin m w rows
-rows-more b m w rows le s = record { at = λ t h. let row = s.at t h in record { at = λ k l. IsWithin-more b m _ le (row.at k l) } }
-
-small-more : (b m w : ℕ) (evens highs : List (List ℤ)) → b ≤ m → AreSmall b w evens highs → AreSmall m w evens highs
-small-more b m w evens highs le s = record {
-  evens = rows-more (half_more b) (half_more m) w evens (omega arith) s.evens;
-  highs = rows-more b m w highs le s.highs;
-}
-
-pub IsSmallLevel-more : (b m : ℕ) (s : InverseLevel) → b ≤ m → IsSmallLevel b s → IsSmallLevel m s
-IsSmallLevel-more b m s le small = record {
-  left = small-more b m _ _ _ le small.left;
-  right = small-more b m _ _ _ le small.right;
-}
+use Rattle.inverse_strip.specs.Kept.{Counts, HasRow}
+use Rattle.wave_defs.proofs.Equations.{second_of-is, first_of-is, rebuilt-is}
 
 -- the low band of a level is what the level before it makes
 pub second-low : (p : Pyramid) (r w : ℕ) → (second_of p r w).ll ≡ joined (third_of p) r w
-unfolding second_of
-second-low p r w = refl
+second-low p r w = rw second_of-is refl
 
 pub first-low : (p : Pyramid) (r w v : ℕ) → v ≡ 2 * w → (first_of p r w).ll ≡ joined (second_of p r w) (2 * r) v
-unfolding first_of
-first-low p r w v e = ap (λ (k : ℕ). joined (second_of p r w) (2 * r) k) (sym e)
+first-low p r w v e = rw first_of-is (ap (λ (k : ℕ). joined (second_of p r w) (2 * r) k) (sym e))
 
 -- one more row of the second level
 pub Counts-second : (n third second first height : ℕ) → Counts n third second first height → HasRow third second (2 * height) → Counts n third (second + 1) first height
@@ -70,12 +49,11 @@ Counts-first n third second first height c row =
 
 -- the row of the image
 pub made-row : (p : Pyramid) (r w v g k : ℕ) (y : ℕ → ℤ) → v ≡ 4 * w → g ≡ k → Agrees (2 * v) y (joined (first_of p r w) (4 * r) v g) → Agrees (8 * w) y (rebuilt p r w k)
-unfolding rebuilt
-made-row p r w v g k y ev eg made = record {
+made-row p r w v g k y ev eg made = rw rebuilt-is (record {
   at = λ j h.
       let e = made.at j (omega arith) in
       e ∙ ap (λ (m : ℕ). joined (first_of p r w) (4 * r) m g j) ev ∙ ap (λ (i : ℕ). joined (first_of p r w) (4 * r) (4 * w) i j) eg;
-}
+})
 
 -- ---- the block row that is set next
 

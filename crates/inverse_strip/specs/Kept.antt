@@ -1,7 +1,8 @@
 -- The rings of the columns of a level of the inverse, and what they hold.
-use Rattle.std.specs.Prelude.{◌≡◌, ℕ, ◌+◌, ◌-◌, ◌*◌, ◌/◌, ◌≤◌, ◌<◌, ◌⊎◌, ℤ, List}
+use Rattle.std.specs.Prelude.{◌≡◌, ℕ, ◌+◌, ◌-◌, ◌*◌, ◌/◌, ◌^◌, ◌≤◌, ◌<◌, ◌⊎◌, ℤ, List}
 use Rattle.wave_defs.specs.Lifted.{columns_even}
-use Rattle.wave_defs.specs.Rings.{AreRows, RowsWithin, AreNewest}
+use Rattle.wave_defs.specs.Within.{EachWithin}
+use Rattle.wave_defs.specs.Rings.{AreRows, AreNewest}
 
 -- four even rows and three high ones, each of w samples
 pub record AreRings (w : ℕ) (es hs : List (List ℤ)) : Type 0 where
@@ -14,14 +15,24 @@ pub record HoldPairs (c d : ℕ → ℕ → ℤ) (w n : ℕ) (es hs : List (List
   pub evens : AreNewest (columns_even c d) w n es
   pub highs : AreNewest d w n hs
 
--- half as much again
-abbrev pub half_more : ℕ → ℕ
-half_more m = m + (m + 1) / 2
+-- n pairs of low rows within m and high rows within 2 ^ 27, after which the rings are as they are
+pub record PairsWithin (m w n : ℕ) (es hs : List (List ℤ)) : Type 0 where
+  pub low : ℕ → ℕ → ℤ
+  pub high : ℕ → ℕ → ℤ
+  pub hold : HoldPairs low high w n es hs
+  pub low_within : EachWithin m n w low
+  pub high_within : EachWithin (2 ^ 27) n w high
 
--- the samples of a level whose low and high rows are within m
-pub record AreSmall (m w : ℕ) (es hs : List (List ℤ)) : Type 0 where
-  pub evens : RowsWithin (half_more m) w es
-  pub highs : RowsWithin m w hs
+-- there are such pairs
+abbrev pub ArePairsWithin : (m w n : ℕ) (es hs : List (List ℤ)) → Type 0
+ArePairsWithin m w n es hs = ∥ PairsWithin m w n es hs ∥₁
+
+-- the bound of the rows that such pairs make, and of the rows of a level whose left columns are made of them
+abbrev pub column_bound : ℕ → ℕ
+column_bound m = 5 * m / 4 + (2 ^ 27 + 2)
+
+abbrev pub level_bound : ℕ → ℕ
+level_bound m = 5 * column_bound m / 4 + (column_bound (2 ^ 27) + 2)
 
 -- In what follows, n rows of each band were taken and i rows of the image were given.
 

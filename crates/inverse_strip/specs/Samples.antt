@@ -10,13 +10,13 @@ row_samples [] = 0
 row_samples (x ∷ xs) = length x + row_samples xs
 
 abbrev pub columns_samples : Columns → ℕ
-columns_samples s = row_samples s.evens + row_samples s.highs + vec_len s.room
+columns_samples s = row_samples s.evens + row_samples s.highs
 
 abbrev pub level_samples : InverseLevel → ℕ
 level_samples s = columns_samples s.left + columns_samples s.right + vec_len s.left_row + vec_len s.right_row
 
 abbrev pub stage_samples : LevelStage → ℕ
-stage_samples s = level_samples s.level + vec_len s.low + row_samples s.hl + row_samples s.lh + row_samples s.hh
+stage_samples s = level_samples s.level + row_samples s.hl + row_samples s.lh + row_samples s.hh
 
 abbrev pub strip_samples : StripInverse → ℕ
 strip_samples s =

@@ -1,83 +1,85 @@
 //! The columns of one level, put together row by row.
 
-ghost use Rattle.std.specs.Prelude.{◌≡◌, ℕ, ◌+◌, ◌*◌, ◌-◌, ◌/◌, ◌^◌, ◌<◌, ◌≤◌, ℤ, length, vec_len};
-ghost use Rattle.wave_defs.specs.Lifted.{columns_even, columns_odd};
+ghost use Rattle.std.specs.Prelude.{◌≡◌, ℕ, ◌+◌, ◌*◌, ◌-◌, ◌/◌, ◌^◌, ◌<◌, ◌≤◌, ℤ, length, vec_len, true};
+ghost use Rattle.std.specs.Bool.{OnTrue};
+ghost use Rattle.wave_defs.specs.Lifted.{columns_even, columns_odd, plus_predicted};
 ghost use Rattle.wave_defs.specs.Within.{AllWithin};
 ghost use Rattle.wave_defs.specs.Held.{Agrees, signal};
 ghost use Rattle.wave_defs.specs.Rings.{AreRows, RowsWithin, AreNewest};
-ghost use Rattle.inverse_strip.specs.Kept.{AreRings, HoldPairs, AreSmall, half_more};
+ghost use Rattle.inverse_strip.specs.Kept.{AreRings, ArePairsWithin};
 
-use lift_rows::{mirrored_after, mirrored_before, predict_onto, update_onto};
+use lift_rows::{
+    mirrored_after, mirrored_before, predict_add_narrow, predict_add_widened, update_add_narrow,
+};
 use line_rings::RowRing;
 use std::alloc::{AllocError, Global};
 
-/// Computes even row j from low row j, high row j and the high row before it, which is the newest of the ring
-/// (docs/formats.md, "A line"). The first high row is used in place of the one before it.
-fn even_row(highs: &RowRing<i32>, j: usize, low: &[i64], high: &[i32], into: &mut [i64])
-    requires highs { AreRows 3 (length into.old) highs.now }
-    requires wide_low { length low.now ≡ length into.old }
-    requires wide_high { length high.now ≡ length into.old }
-    requires small_highs { RowsWithin (2 ^ 27) (length into.old) highs.now }
-    requires small_low { AllWithin (2 ^ 36) (length into.old) (signal low.now) }
-    requires small_high { AllWithin (2 ^ 27) (length into.old) (signal high.now) }
-    ensures value { (c d : ℕ → ℕ → ℤ) → AreNewest d (length into.old) j highs.now
-        → Agrees (length into.old) (signal low.now) (c j)
-        → Agrees (length into.old) (signal high.now) (d j)
-        → Agrees (length into.old) (signal into.new) (columns_even c d j) }
-    ensures small { (m : ℕ) → 1 ≤ m → RowsWithin m (length into.old) highs.now
-        → AllWithin m (length into.old) (signal low.now)
-        → AllWithin m (length into.old) (signal high.now)
-        → AllWithin (half_more m) (length into.old) (signal into.new) }
+/// Makes even row j of low row j, which is in `row`, of high row j and of the high row before it, which is the newest of the
+/// ring (docs/formats.md, "A line"). The first high row is used in place of the one before it.
+fn even_row(highs: &RowRing<i32>, j: usize, high: &[i32], row: &mut [i32])
+    requires highs { AreRows 3 (length row.old) highs.now }
+    requires wide_high { length high.now ≡ length row.old }
+    requires small_highs { RowsWithin (2 ^ 27) (length row.old) highs.now }
+    requires small_low { AllWithin (375 * 2 ^ 22) (length row.old) (signal row.old) }
+    requires small_high { AllWithin (2 ^ 27) (length row.old) (signal high.now) }
+    ensures { (c d : ℕ → ℕ → ℤ) → AreNewest d (length row.old) j highs.now
+        → Agrees (length row.old) (signal row.old) (c j)
+        → Agrees (length row.old) (signal high.now) (d j)
+        → Agrees (length row.old) (signal row.new) (columns_even c d j) }
 {
     if j == 0 {
-        update_onto(into, low, high, high);
+        update_add_narrow(row, high, high);
         return;
     }
-    update_onto(into, low, highs.at(2), high);
+    update_add_narrow(row, highs.at(2), high);
 }
 
-/// Computes odd row k, if n pairs were taken and the even and the high rows that it needs are kept
-/// (docs/formats.md, "A line"). The line ends after the n pairs.
-fn odd_row(evens: &RowRing<i64>, highs: &RowRing<i32>, n: usize, k: usize, into: &mut [i64])
-    requires rings { AreRings (length into.old) evens.now highs.now }
-    requires small { AreSmall (2 ^ 36) (length into.old) evens.now highs.now }
-    requires narrow { RowsWithin (2 ^ 27) (length into.old) highs.now }
-    requires inside { k < n }
-    requires kept { n ≤ k + 3 }
-    requires long { 3 ≤ n }
-    requires few { n < 2 ^ 32 }
-    ensures value { (c d : ℕ → ℕ → ℤ) → HoldPairs c d (length into.old) n evens.now highs.now
-        → Agrees (length into.old) (signal into.new) (columns_odd (columns_even c d) d n k) }
-    ensures small { (m : ℕ) → 9 ≤ m → AreSmall m (length into.old) evens.now highs.now
-        → AllWithin (3 * m) (length into.old) (signal into.new) }
+/// Adds to a high row what the even rows round it predict. What it makes fits 32 bits, and if `small` the sums do too.
+fn predict(row: &mut [i32], a: &[i32], b: &[i32], c: &[i32], d: &[i32], small: bool)
+    requires long_a { length a.now ≡ length row.old }
+    requires long_b { length b.now ≡ length row.old }
+    requires long_c { length c.now ≡ length row.old }
+    requires long_d { length d.now ≡ length row.old }
+    requires bounded { AllWithin (2 ^ 27) (length row.old) (signal row.old) }
+    requires bounded_a { AllWithin (2 ^ 31 - 1) (length row.old) (signal a.now) }
+    requires bounded_b { AllWithin (2 ^ 31 - 1) (length row.old) (signal b.now) }
+    requires bounded_c { AllWithin (2 ^ 31 - 1) (length row.old) (signal c.now) }
+    requires bounded_d { AllWithin (2 ^ 31 - 1) (length row.old) (signal d.now) }
+    requires fits { AllWithin (2 ^ 31 - 1) (length row.old)
+        (plus_predicted (signal row.old) (signal a.now) (signal b.now) (signal c.now) (signal d.now)) }
+    requires small_a { OnTrue small (AllWithin (7 * 2 ^ 26) (length row.old) (signal a.now)) }
+    requires small_b { OnTrue small (AllWithin (7 * 2 ^ 26) (length row.old) (signal b.now)) }
+    requires small_c { OnTrue small (AllWithin (7 * 2 ^ 26) (length row.old) (signal c.now)) }
+    requires small_d { OnTrue small (AllWithin (7 * 2 ^ 26) (length row.old) (signal d.now)) }
+    ensures { Agrees (length row.old) (signal row.new)
+        (plus_predicted (signal row.old) (signal a.now) (signal b.now) (signal c.now) (signal d.now)) }
 {
-    predict_onto(
-        into,
-        highs.at(k + 3 - n),
-        evens.at(mirrored_before(k) + 4 - n),
-        evens.at(k + 4 - n),
-        evens.at(mirrored_after(n, k + 1) + 4 - n),
-        evens.at(mirrored_after(n, k + 2) + 4 - n),
-    );
+    if small {
+        predict_add_narrow(row, a, b, c, d);
+    } else {
+        predict_add_widened(row, a, b, c, d);
+    }
 }
 
-/// The rows that are kept of the pairs of a low and a high row that were taken. The high rows have 32 bits, as those of the bands.
+/// The rows that are kept of the pairs of a low and a high row that were taken, and whether the low rows are within 2^27. All
+/// rows fit 32 bits, since the low rows are within 375 * 2^22 and the high ones within 2^27.
 #[derive(Drop)]
 pub struct Columns {
     pub width: usize,
     pub taken: usize,
-    pub evens: RowRing<i64>,
+    pub evens: RowRing<i32>,
     pub highs: RowRing<i32>,
-    pub room: Vec<i64>,
+    pub small: bool,
     ghost stand: { AreRings width evens highs },
-    ghost small: { AreSmall (2 ^ 36) width evens highs },
     ghost narrow: { RowsWithin (2 ^ 27) width highs },
-    ghost room_stands: { vec_len room ≡ width },
+    ghost within: { ArePairsWithin (375 * 2 ^ 22) width taken evens highs },
+    ghost small_within: { small ≡ true → ArePairsWithin (2 ^ 27) width taken evens highs },
 }
 
 impl Columns {
-    ghost use Rattle.std.specs.Prelude.{◌≡◌, ℕ, ◌+◌, ◌*◌, ◌-◌, ◌/◌, ◌%◌, ◌^◌, ◌<◌, ◌≤◌, ℤ, length, vec_len, IfOk};
+    ghost use Rattle.std.specs.Prelude.{◌≡◌, ℕ, ◌+◌, ◌*◌, ◌-◌, ◌/◌, ◌%◌, ◌^◌, ◌<◌, ◌≤◌, ℤ, length, vec_len, IfOk, ◌&&◌, true};
     ghost use Rattle.wave_defs.specs.Level.{columns_merged};
+    ghost use Rattle.wave_defs.specs.Lifted.{columns_even, columns_odd};
     ghost use Rattle.wave_defs.specs.Within.{AllWithin};
     ghost use Rattle.wave_defs.specs.Held.{Agrees, signal};
     ghost use Rattle.inverse_strip.specs.Columns.{Follow, IsSmall};
@@ -86,74 +88,84 @@ impl Columns {
     pub fn new(alloc: Global, width: usize) -> Result<Columns, AllocError>
         ensures width { IfOk result (λ s. s.width ≡ width) }
         ensures taken { IfOk result (λ s. s.taken ≡ 0) }
+        ensures small { IfOk result (λ s. s.small ≡ true) }
         ensures follows { IfOk result (λ s. (c d : ℕ → ℕ → ℤ) → Follow c d s) }
-        ensures small { IfOk result (λ s. (m : ℕ) → IsSmall m s) }
+        ensures within { IfOk result (λ s. (m : ℕ) → IsSmall m s) }
     {
         let evens = RowRing::new(alloc, 4, width, 0)?;
         let highs = RowRing::new(alloc, 3, width, 0)?;
-        let room = vec![in alloc; 0; width]?;
         Ok(Columns {
             width,
             taken: 0,
             evens,
             highs,
-            room,
+            small: true,
         })
     }
 
-    /// Takes the next pair.
-    pub fn push(&mut self, low: &[i64], high: &[i32])
-        requires wide_low { length low.now ≡ self.old.width }
+    /// Takes the next pair. The low row is in `row`, in which a row of the same width is left. If `small`, it is within 2^27.
+    pub fn push(&mut self, row: &mut Vec<i32>, high: &[i32], small: bool)
+        requires wide_low { vec_len row.old ≡ self.old.width }
         requires wide_high { length high.now ≡ self.old.width }
         requires few { self.old.taken < 2 ^ 32 - 1 }
-        requires small_low { AllWithin (2 ^ 36) self.old.width (signal low.now) }
+        requires small_low { AllWithin (375 * 2 ^ 22) self.old.width (signal row.old.items) }
         requires small_high { AllWithin (2 ^ 27) self.old.width (signal high.now) }
+        requires small { small ≡ true → AllWithin (2 ^ 27) self.old.width (signal row.old.items) }
         ensures width { self.new.width ≡ self.old.width }
         ensures taken { self.new.taken ≡ self.old.taken + 1 }
+        ensures small { self.new.small ≡ (self.old.small && small) }
+        ensures room { vec_len row.new ≡ self.old.width }
         ensures follows { (c d : ℕ → ℕ → ℤ) → Follow c d self.old
-            → Agrees self.old.width (signal low.now) (c self.old.taken)
+            → Agrees self.old.width (signal row.old.items) (c self.old.taken)
             → Agrees self.old.width (signal high.now) (d self.old.taken)
             → Follow c d self.new }
-        ensures small { (m : ℕ) → 1 ≤ m → IsSmall m self.old
-            → AllWithin m self.old.width (signal low.now)
-            → AllWithin m self.old.width (signal high.now)
+        ensures within { (m : ℕ) → IsSmall m self.old
+            → AllWithin m self.old.width (signal row.old.items)
             → IsSmall m self.new }
     {
-        even_row(&self.highs, self.taken, low, high, &mut self.room);
-        self.evens.turn_swap(&mut self.room);
+        even_row(&self.highs, self.taken, high, row);
+        self.evens.turn_swap(row);
         self.highs.turn_copy(high);
         self.taken += 1;
+        self.small &= small;
     }
 
-    /// Returns row i, which is even, of the columns that end after the pairs that were taken. It is one of the newest.
-    pub fn even(&self, i: usize) -> &[i64]
-        requires even { i % 2 ≡ 0 }
-        requires inside { i < 2 * self.now.taken }
-        requires kept { self.now.taken ≤ i / 2 + 3 }
+    // Makes odd row k of the columns that end after the pairs that were taken. It is one of the newest.
+    fn odd(&self, k: usize, into: &mut [i32])
+        requires wide { length into.old ≡ self.now.width }
+        requires inside { k < self.now.taken }
+        requires kept { self.now.taken ≤ k + 3 }
         requires long { 3 ≤ self.now.taken }
         requires few { self.now.taken < 2 ^ 32 }
-        ensures wide { length result.now ≡ self.now.width }
-        ensures value { (c d : ℕ → ℕ → ℤ) → Follow c d self.now
-            → Agrees self.now.width (signal result.now) (columns_merged c d self.now.taken i) }
-        ensures small { (m : ℕ) → 9 ≤ m → IsSmall m self.now
-            → AllWithin (3 * m) self.now.width (signal result.now) }
+        ensures { (c d : ℕ → ℕ → ℤ) → Follow c d self.now
+            → Agrees self.now.width (signal into.new) (columns_odd (columns_even c d) d self.now.taken k) }
     {
-        self.evens.at(i / 2 + 4 - self.taken)
+        let n = self.taken;
+        into.copy_from_slice(self.highs.at(k + 3 - n));
+        predict(
+            into,
+            self.evens.at(mirrored_before(k) + 4 - n),
+            self.evens.at(k + 4 - n),
+            self.evens.at(mirrored_after(n, k + 1) + 4 - n),
+            self.evens.at(mirrored_after(n, k + 2) + 4 - n),
+            self.small,
+        );
     }
 
-    /// Computes row i, which is odd, of the columns that end after the pairs that were taken. It is one of the newest.
-    pub fn odd(&self, i: usize, into: &mut [i64])
-        requires odd { i % 2 ≡ 1 }
+    /// Makes row i of the columns that end after the pairs that were taken. It is one of the newest.
+    pub fn row(&self, i: usize, into: &mut [i32])
         requires wide { length into.old ≡ self.now.width }
         requires inside { i < 2 * self.now.taken }
         requires kept { self.now.taken ≤ i / 2 + 3 }
         requires long { 3 ≤ self.now.taken }
         requires few { self.now.taken < 2 ^ 32 }
-        ensures value { (c d : ℕ → ℕ → ℤ) → Follow c d self.now
+        ensures { (c d : ℕ → ℕ → ℤ) → Follow c d self.now
             → Agrees self.now.width (signal into.new) (columns_merged c d self.now.taken i) }
-        ensures small { (m : ℕ) → 9 ≤ m → IsSmall m self.now
-            → AllWithin (3 * m) self.now.width (signal into.new) }
     {
-        odd_row(&self.evens, &self.highs, self.taken, i / 2, into);
+        if i % 2 == 0 {
+            into.copy_from_slice(self.evens.at(i / 2 + 4 - self.taken));
+            return;
+        }
+        self.odd(i / 2, into);
     }
 }

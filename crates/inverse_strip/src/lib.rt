@@ -6,8 +6,8 @@ mod block_row;
 mod columns;
 mod level;
 mod sink;
+mod small;
 mod stage;
 mod strip;
-mod wide;
 
 pub use strip::StripInverse;

@@ -8,18 +8,15 @@ use crate::level::InverseLevel;
 use line_rings::RowRing;
 use std::alloc::{AllocError, Global};
 
-/// A level, the newest rows of its three high bands, the number of rows that arrived, and room for a row. The numbers of rows that
-/// wait have 32 bits.
+/// A level, the newest rows of its three high bands, and the number of rows that arrived.
 #[derive(Drop)]
 pub struct LevelStage {
     pub level: InverseLevel,
-    pub low: Vec<i64>,
     pub kept: usize,
     pub came: usize,
     pub hl: RowRing<i32>,
     pub lh: RowRing<i32>,
     pub hh: RowRing<i32>,
-    ghost low_room: { vec_len low ≡ level.left.width },
     ghost some: { 1 ≤ kept },
     ghost hl_stands: { AreRows kept level.left.width hl },
     ghost lh_stands: { AreRows kept level.left.width lh },
@@ -35,8 +32,9 @@ impl LevelStage {
     ghost use Rattle.wave_defs.specs.Level.{Quarters, joined};
     ghost use Rattle.wave_defs.specs.Within.{AllWithin};
     ghost use Rattle.wave_defs.specs.Held.{Agrees, signal};
-    ghost use Rattle.inverse_strip.specs.Kept.{HasRow, IsDrained};
-    ghost use Rattle.inverse_strip.specs.Level.{FollowLevel, IsSmallLevel};
+    ghost use Rattle.inverse_strip.specs.Kept.{HasRow, IsDrained, level_bound};
+    ghost use Rattle.inverse_strip.specs.Columns.{IsSmall};
+    ghost use Rattle.inverse_strip.specs.Level.{FollowLevel};
     ghost use Rattle.inverse_strip.specs.Stage.{FollowStage};
     ghost use Rattle.wave_defs.specs.Blocks.{block_side};
     ghost use Rattle.inverse_strip.specs.Cells.{HasBlockRow};
@@ -51,16 +49,14 @@ impl LevelStage {
         ensures kept { IfOk result (λ s. s.kept ≡ kept) }
         ensures came { IfOk result (λ s. s.came ≡ 0) }
         ensures follows { IfOk result (λ s. (q : Quarters) → FollowStage q s) }
-        ensures small { IfOk result (λ s. (m : ℕ) → IsSmallLevel m s.level) }
+        ensures within { IfOk result (λ s. (m : ℕ) → IsSmall m s.level.left) }
     {
         let level = InverseLevel::new(alloc, width)?;
-        let low = vec![in alloc; 0; width]?;
         let hl = RowRing::new(alloc, kept, width, 0)?;
         let lh = RowRing::new(alloc, kept, width, 0)?;
         let hh = RowRing::new(alloc, kept, width, 0)?;
         Ok(LevelStage {
             level,
-            low,
             kept,
             came: 0,
             hl,
@@ -132,7 +128,7 @@ impl LevelStage {
         requires few_came { self.old.came < 2 ^ 32 }
         requires few_kept { self.old.kept < 2 ^ 32 }
         requires drained { IsDrained self.old.level.left.taken self.old.level.given }
-        requires small { IsSmallLevel (2 ^ 32) before.old }
+        requires within { IsSmall (21 * 2 ^ 25) before.old.left }
         ensures width { self.new.level.left.width ≡ self.old.level.left.width }
         ensures taken { self.new.level.left.taken ≡ self.old.level.left.taken + 1 }
         ensures given { self.new.level.given ≡ self.old.level.given }
@@ -142,21 +138,20 @@ impl LevelStage {
         ensures before_taken { before.new.left.taken ≡ before.old.left.taken }
         ensures before_given { before.new.given ≡ before.old.given + 1 }
         ensures before_follows { (q : Quarters) → FollowLevel q before.old → FollowLevel q before.new }
-        ensures before_small { (m : ℕ) → IsSmallLevel m before.old → IsSmallLevel m before.new }
+        ensures before_within { (m : ℕ) → IsSmall m before.old.left → IsSmall m before.new.left }
         ensures follows { (b q : Quarters) (n : ℕ) → FollowLevel b before.old
             → before.old.left.taken ≤ n → (before.old.left.taken ≡ height → n ≡ height)
             → q.ll ≡ joined b n before.old.left.width
             → FollowStage q self.old → FollowStage q self.new }
-        ensures small { (m : ℕ) → 2 ^ 27 ≤ m → IsSmallLevel m before.old
-            → IsSmallLevel (9 * m) self.old.level → IsSmallLevel (9 * m) self.new.level }
+        ensures within { (m k : ℕ) → IsSmall m before.old.left → level_bound m ≤ k
+            → IsSmall k self.old.level.left → IsSmall k self.new.level.left }
     {
-        before.next_row(height, &mut self.low);
+        before.next_row(height, &mut self.level.left_row);
         let i = self.level.left.taken + self.kept - self.came;
-        self.level
-            .push(&self.low, self.hl.at(i), self.lh.at(i), self.hh.at(i));
+        self.level.push(self.hl.at(i), self.lh.at(i), self.hh.at(i));
     }
 
-    /// Gives the level's next row, if the bands have `height` rows in all.
+    /// Gives the level's next row in 64 bits, if the bands have `height` rows in all.
     pub fn next_row(&mut self, height: usize, into: &mut [i64])
         requires wide { length into.old ≡ 2 * self.old.level.left.width }
         requires few { self.old.level.left.taken < 2 ^ 32 }
@@ -172,6 +167,6 @@ impl LevelStage {
             → Agrees (2 * self.old.level.left.width) (signal into.new)
             (joined q n self.old.level.left.width self.old.level.given) }
     {
-        self.level.next_row(height, into);
+        self.level.next_row_widened(height, into);
     }
 }

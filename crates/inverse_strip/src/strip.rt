@@ -3,7 +3,7 @@
 ghost use Rattle.std.specs.Prelude.{◌≡◌, ℕ, ◌+◌, ◌*◌, ◌-◌, ◌^◌, ◌<◌, ◌≤◌, ℤ, length, vec_len};
 ghost use Rattle.base_122.specs.Weights.{band_place};
 ghost use Rattle.inverse_strip.specs.Kept.{Counts};
-ghost use Rattle.inverse_strip.specs.Level.{IsSmallLevel};
+ghost use Rattle.inverse_strip.specs.Columns.{IsSmall};
 
 use crate::block_row::BlockRow;
 use crate::level::InverseLevel;
@@ -36,8 +36,8 @@ pub struct StripInverse {
     ghost second_came: { second.came ≡ 2 * third.left.taken },
     ghost first_came: { first.came ≡ 4 * third.left.taken },
     ghost counts: { Counts third.left.taken third.given second.level.given first.level.given height },
-    ghost third_small: { IsSmallLevel (2 ^ 27) third },
-    ghost second_small: { IsSmallLevel (9 * 2 ^ 27) second.level },
+    ghost third_within: { IsSmall (2 ^ 27) third.left },
+    ghost second_within: { IsSmall (21 * 2 ^ 25) second.level.left },
 }
 
 // Returns the number of a band.
@@ -140,7 +140,7 @@ impl StripInverse {
         ensures follows { (p : Pyramid) (r : ℕ) → FollowStrip p r self.old
             → IsNext p (taken_of self.old) self.old → FollowStrip p r self.new }
     {
-        self.third.push_narrow(
+        self.third.push_bands(
             self.next.row(9, 0),
             self.next.row(7, 0),
             self.next.row(8, 0),
@@ -244,7 +244,7 @@ impl StripInverse {
         ensures all { result ≡ strip_samples self.now }
         ensures bound { result ≤ 80 * (8 * columns_of self.now) }
     {
-        396 * self.third.left.width as u64
+        376 * self.third.left.width as u64
     }
 
     /// Returns the next row of the inverse, if it can be made before the next block row (docs/formats.md, "Levels and

@@ -56,17 +56,6 @@ module _ (w : Width) (n k : ℕ) (inside : k < n) where
   pub Lane-long : (lanes : List ℕ) (z : ℤ) → Lane w n lanes k z → length (map (to_z w) lanes) ≡ n
   Lane-long lanes z a = length-map lanes (to_z w) ∙ a.many
 
--- a lane of 32 bits, continued in 64
-pub Lane-widened : (n k : ℕ) (lanes : List ℕ) (z : ℤ) → k < n → Lane w32 n lanes k z → Lane w64 n (map (λ a. of_z w64 (to_z w32 a)) lanes) k z
-Lane-widened n k lanes z h a =
-    let l = a.many in
-    let fits = a.fits.sfits in
-    record {
-      many = length-map lanes (λ a. of_z w64 (to_z w32 a)) ∙ a.many;
-      at = get_or-map (λ a. of_z w64 (to_z w32 a)) lanes k 0 0 (omega arith) ∙ ap (λ (v : ℕ). of_z w64 (to_z w32 v)) a.at ∙ ap (of_z w64) (to_z-of_z w32 z a.fits);
-      fits = record { sfits = omega (arith, fits) };
-    }
-
 -- bits below 2 ^ 32 that represent z
 same_bits : (w : Width) (a : ℕ) (z : ℤ) → a < 2 ^ bits w → to_z w a ≡ z → a ≡ of_z w z
 same_bits w a z h e = sym (of_z-to_z w a h) ∙ ap (of_z w) e

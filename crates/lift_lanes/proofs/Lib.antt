@@ -1,3 +1,4 @@
 mod LaneSteps
 mod Loads
 mod Steps
+mod TwoSteps

@@ -2,17 +2,19 @@
 //! sums fit by the bounds that the caller guarantees.
 #![tactic(auto)]
 
+mod back;
+mod back_samples;
 mod lanes;
 mod narrow;
 mod narrow_onto;
 mod samples;
 mod wide;
-mod wide_onto;
 mod wide_samples;
 
+pub use back::{predict_add_narrow, predict_add_widened, update_add_narrow};
+pub use back_samples::{even_sample_narrow, odd_sample_narrow};
 pub use narrow::{predict_sub, update_sub};
 pub use narrow_onto::{predict_sub_onto, update_sub_onto};
 pub use samples::{high_sample, low_sample};
 pub use wide::{predict_add, update_add};
-pub use wide_onto::{predict_onto, update_onto};
 pub use wide_samples::{even_sample, odd_sample};

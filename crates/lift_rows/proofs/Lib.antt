@@ -1,3 +1,4 @@
 mod Ends
 mod HalfLemmas
 mod Values
+pub mod Fits

@@ -1,18 +1,21 @@
-//! This crate has one line of the wavelet transform, forward in i32 and its inverse in i64, and the lifting
+//! This crate has one line of the wavelet transform, forward in i32 and its inverse in i32 and in i64, and the lifting
 //! of whole rows.
 #![tactic(auto)]
 
 ghost use Rattle.std.specs.Prelude.{◌≡◌, ℕ, ◌+◌, ◌*◌, ◌-◌, ◌^◌, ◌<◌, ◌≤◌, length};
-ghost use Rattle.wave_defs.specs.Line.{even_before, even_within, high_of, low_of, merged};
+ghost use Rattle.std.specs.Bool.{OnTrue};
+ghost use Rattle.wave_defs.specs.Line.{even_before, even_within, high_of, low_of, even_of, odd_of, merged};
 ghost use Rattle.wave_defs.specs.Within.{AllWithin};
 ghost use Rattle.wave_defs.specs.Held.{Agrees, signal};
 
 mod back;
+mod back_halves;
+mod back_widened;
 mod halves;
 
 pub use lift_lanes::{
-    predict_add, predict_onto, predict_sub, predict_sub_onto, update_add, update_onto, update_sub,
-    update_sub_onto,
+    predict_add, predict_add_narrow, predict_add_widened, predict_sub, predict_sub_onto,
+    update_add, update_add_narrow, update_sub, update_sub_onto,
 };
 
 /// Returns the number of the even sample before even sample `j`, if the line is mirrored (docs/formats.md, "A
@@ -79,6 +82,84 @@ pub fn inverse_row(low: &[i64], high: &[i64], row: &mut [i64])
     back::put_odd(low, high, row, n - 1);
 }
 
+/// Computes the even and the odd samples of the line that has these low and high samples, in their places (docs/formats.md,
+/// "A line"). All samples fit 32 bits. If `small`, the sums fit them too.
+fn inverse_halves(low: &mut [i32], high: &mut [i32], small: bool)
+    requires same { length high.old ≡ length low.old }
+    requires long { 3 ≤ length low.old }
+    requires low_bounded { AllWithin (3 * 2 ^ 29) (length low.old) (signal low.old) }
+    requires high_bounded { AllWithin (3 * 2 ^ 27) (length low.old) (signal high.old) }
+    requires fits { AllWithin (2 ^ 31 - 1) (length low.old)
+        (odd_of (signal low.old) (signal high.old) (length low.old)) }
+    requires small_low { OnTrue small (AllWithin (9 * 2 ^ 25 + 2) (length low.old) (signal low.old)) }
+    requires small_high { OnTrue small (AllWithin (9 * 2 ^ 25 + 2) (length low.old) (signal high.old)) }
+    ensures even { Agrees (length low.old) (signal low.new) (even_of (signal low.old) (signal high.old)) }
+    ensures odd { Agrees (length low.old) (signal high.new)
+        (odd_of (signal low.old) (signal high.old) (length low.old)) }
+{
+    back_halves::lift_even(low, high);
+    back_halves::lift_odd(high, low, small);
+}
+
+/// Computes the line that has these low and high samples (docs/formats.md, "A line"). It fits 32 bits. In place of the low and
+/// the high samples it leaves the even and the odd ones. If `small`, the sums fit 32 bits too.
+pub fn inverse_row_narrow(low: &mut [i32], high: &mut [i32], row: &mut [i32], small: bool)
+    requires halves { length row.old ≡ 2 * length low.old }
+    requires same { length high.old ≡ length low.old }
+    requires long { 3 ≤ length low.old }
+    requires low_bounded { AllWithin (3 * 2 ^ 29) (length low.old) (signal low.old) }
+    requires high_bounded { AllWithin (3 * 2 ^ 27) (length low.old) (signal high.old) }
+    requires fits { AllWithin (2 ^ 31 - 1) (length low.old)
+        (odd_of (signal low.old) (signal high.old) (length low.old)) }
+    requires small_low { OnTrue small (AllWithin (9 * 2 ^ 25 + 2) (length low.old) (signal low.old)) }
+    requires small_high { OnTrue small (AllWithin (9 * 2 ^ 25 + 2) (length low.old) (signal high.old)) }
+    ensures { Agrees (2 * length low.old) (signal row.new)
+        (merged (signal low.old) (signal high.old) (length low.old)) }
+{
+    inverse_halves(low, high, small);
+    back_halves::interleave(low, high, row);
+}
+
+// Computes the line that has these low and high samples, in sums of 64 bits.
+fn inverse_row_long(low: &[i32], high: &[i32], row: &mut [i64])
+    requires halves { length row.old ≡ 2 * length low.now }
+    requires same { length high.now ≡ length low.now }
+    requires long { 3 ≤ length low.now }
+    requires low_bounded { AllWithin (2 ^ 31 - 1) (length low.now) (signal low.now) }
+    requires high_bounded { AllWithin (2 ^ 31 - 1) (length low.now) (signal high.now) }
+    ensures { Agrees (2 * length low.now) (signal row.new)
+        (merged (signal low.now) (signal high.now) (length low.now)) }
+{
+    let n = low.len();
+    'evens: for j in 0..n {
+        back_widened::put_even_widened(low, high, row, j);
+    }
+    'odds: for j in 0..n {
+        back_widened::put_odd_widened(low, high, row, j);
+    }
+}
+
+/// Computes the line that has these low and high samples (docs/formats.md, "A line"), of which 64 bits are needed. If `small`,
+/// the sums fit 32 bits; then it leaves the even and the odd samples in place of the low and the high ones.
+pub fn inverse_row_widened(low: &mut [i32], high: &mut [i32], row: &mut [i64], small: bool)
+    requires halves { length row.old ≡ 2 * length low.old }
+    requires same { length high.old ≡ length low.old }
+    requires long { 3 ≤ length low.old }
+    requires low_bounded { AllWithin (2 ^ 31 - 1) (length low.old) (signal low.old) }
+    requires high_bounded { AllWithin (2 ^ 31 - 1) (length low.old) (signal high.old) }
+    requires small_low { OnTrue small (AllWithin (9 * 2 ^ 25 + 2) (length low.old) (signal low.old)) }
+    requires small_high { OnTrue small (AllWithin (9 * 2 ^ 25 + 2) (length low.old) (signal high.old)) }
+    ensures { Agrees (2 * length low.old) (signal row.new)
+        (merged (signal low.old) (signal high.old) (length low.old)) }
+{
+    if small {
+        inverse_halves(low, high, true);
+        back_halves::interleave_widened(low, high, row);
+        return;
+    }
+    inverse_row_long(low, high, row);
+}
+
 #[cfg(test)]
 mod tests {
     use super::*;
@@ -120,13 +201,30 @@ mod tests {
     }
 
     #[test]
-    fn kernels_put_onto_another_row(rt: HostRuntime) -> Result<(), Fail> {
-        let mut odd = [0; 2];
-        predict_onto(&mut odd, &[7, -3], &[0, -1], &[-3, 2], &[0, -9], &[1, 4]);
+    fn kernels_add_in_32_bits(rt: HostRuntime) -> Result<(), Fail> {
+        let mut odd = [7, -3];
+        predict_add_narrow(&mut odd, &[0, -1], &[-3, 2], &[0, -9], &[1, 4]);
         assert_eq!(rt; odd, [5, -7]);
-        let mut even = [0; 2];
-        update_onto(&mut even, &[12, -4], &[3, -6], &[4, -5]);
+        let mut odd = [7, -3];
+        predict_add_widened(&mut odd, &[0, -1], &[-3, 2], &[0, -9], &[1, 4]);
+        assert_eq!(rt; odd, [5, -7]);
+        let mut even = [12, -4];
+        update_add_narrow(&mut even, &[3, -6], &[4, -5]);
         assert_eq!(rt; even, [10, -1]);
+        Ok(())
+    }
+
+    #[test]
+    fn lines_of_32_bits_are_joined(rt: HostRuntime) -> Result<(), Fail> {
+        let mut line = [0; 8];
+        inverse_row_narrow(&mut [1, 3, 5, 7], &mut [0, 0, 0, 1], &mut line, true);
+        assert_eq!(rt; line, [1, 2, 3, 4, 5, 6, 7, 8]);
+        let mut line = [0; 8];
+        inverse_row_widened(&mut [1, 3, 5, 7], &mut [0, 0, 0, 1], &mut line, true);
+        assert_eq!(rt; line, [1, 2, 3, 4, 5, 6, 7, 8]);
+        let mut line = [0; 6];
+        inverse_row_widened(&mut [6, 4, 5], &mut [7, 4, -4], &mut line, false);
+        assert_eq!(rt; line, [3, 9, 1, 7, 5, 2]);
         Ok(())
     }
 

@@ -1,10 +1,9 @@
 -- The numbers of a block row of bands over a whole array.
-use Rattle.std.proofs.Common.{◌≡◌, ℕ, zero, suc, ◌+◌, ◌*◌, ◌/◌, ◌<◌, ◌≤◌, ℤ, refl, sym, ap, ◌∙◌, arith, vec_len}
-use Rattle.std.specs.Prelude.{Some, slice_get, map}
-use Rattle.std.specs.Option.{option_map}
+use Rattle.std.proofs.Common.{◌≡◌, ℕ, zero, suc, ◌+◌, ◌*◌, ◌/◌, ◌<◌, ◌≤◌, ℤ, refl, sym, ap, ◌∙◌, arith, vec_len, Some, slice_get, map, option_map}
 use Rattle.std.proofs.lemmas.Option.{get_or_from_slice_get, slice_get-map}
 use Rattle.std.proofs.lemmas.Int.{ints}
 use Rattle.std.proofs.lemmas.Nat.{rows}
+use Rattle.std.proofs.lemmas.Bool.Decides.{nat_tests}
 use Rattle.wave_defs.specs.Pyramid.{band_of}
 use Rattle.wave_defs.specs.Within.{IsWithin}
 use Rattle.wave_defs.specs.Blocks.{Place, block_side}
@@ -36,10 +35,7 @@ plane_shows b band p e =
 
 -- a place of a block row is in its band
 place_row : (b : Bands) (row : ℕ) (p : Place) → IsBlockRow b row → places.IsWithin (b.width / 8) p → block_side p.band * row + p.row < block_side p.band * (b.rows / 8)
-place_row b row p is in_row =
-    let stands = is.stands in
-    let inside = in_row.row in
-    grind (arith, rows)
+place_row b row p is in_row = grind (arith, nat_tests, rows)
 
 pub number_is : (b : Bands) (row : ℕ) (p : Place) (plane : Plane) → IsBlockRow b row → places.IsWithin (b.width / 8) p → slice_get b.planes.items p.band ≡ Some plane →
     image_of plane (block_side p.band * row + p.row) p.column ≡ number_in b row p

@@ -1,6 +1,5 @@
 -- From the bands of three levels, as the code has them, to the pyramid of the image.
-use Rattle.std.proofs.Common.{◌≡◌, ℕ, zero, suc, ◌*◌, ◌/◌, ◌^◌, ◌≤◌, ℤ, List, [], ◌∷◌, map, Some, refl, ap, subst, arith, vec_len, slice_get}
-use Rattle.std.specs.Prelude.{slice_index_or}
+use Rattle.std.proofs.Common.{◌≡◌, ℕ, zero, suc, ◌*◌, ◌/◌, ◌^◌, ◌≤◌, ℤ, List, [], ◌∷◌, map, Some, refl, ap, subst, arith, vec_len, slice_get, slice_index_or}
 use Rattle.wave_plain.specs.declared.Plane.{Plane}
 use Rattle.wave_plain.specs.declared.Bands.{Bands}
 use Rattle.wave_plain.specs.declared.samples.Samples.{Samples}

@@ -2,6 +2,7 @@
 use Rattle.std.proofs.Common.{◌≡◌, ℕ, ◌*◌, ◌^◌, ◌≤◌, ℤ, Some, sym, ◌∙◌, ap, subst, slice_get, arith}
 use Rattle.std.proofs.lemmas.List.{get_or-map}
 use Rattle.std.proofs.lemmas.Option.{get_or_from_slice_get, slice_get_within}
+use Rattle.std.proofs.lemmas.Bool.Decides.{nat_tests}
 use Rattle.wave_plain.specs.declared.Plane.{Plane}
 use Rattle.wave_plain.specs.declared.Bands.{Bands}
 use Rattle.wave_defs.specs.Level.{Quarters, joined}
@@ -11,6 +12,7 @@ use Rattle.wave_defs.specs.Held.{SameWithin}
 use Rattle.wave_defs.proofs.LevelSame.{SameWithin-trans, joined-same}
 use Rattle.wave_defs.proofs.LevelWithin.{EachWithin-more, EachWithin-same}
 use Rattle.wave_plain.specs.Images.{image_of, band_in, quarters_in, zeros, HasSize, Shows}
+use Rattle.wave_defs.proofs.Equations.{third_of-is, second_of-is, first_of-is, rebuilt-is}
 
 pub image_at : (b : Bands) (k : ℕ) (p : Plane) → slice_get b.planes.items k ≡ Some p → image_of p ≡ band_in b k
 image_at b k p e =
@@ -36,10 +38,7 @@ pub record Four (n m : ℕ) (q : Quarters) (ll hl lh hh : Plane) : Type 0 where
   pub both : Shows n m q.hh hh
 
 pub four_sized : (n m rows width : ℕ) (q : Quarters) (ll hl lh hh : Plane) → rows ≡ 2 * n → width ≡ 2 * m → Four n m q ll hl lh hh → (rows ≡ 2 * ll.rows) × (width ≡ 2 * ll.width)
-four_sized n m rows width q ll hl lh hh hn hm f =
-    let er = f.low.size.rows_are in
-    let ew = f.low.size.columns_are in
-    (omega arith, omega arith)
+four_sized n m rows width q ll hl lh hh hn hm f = grind (arith, nat_tests)
 
 pub four_within : (b n m : ℕ) (q : Quarters) (ll hl lh hh : Plane) → b ≤ 2 ^ 34 → Four n m q ll hl lh hh → QuartersWithin b n m q → QuartersWithin (2 ^ 34) ll.rows ll.width (quarters_in ll hl lh hh)
 four_within b n m q ll hl lh hh le f within =
@@ -60,28 +59,26 @@ four_joined n m q ll hl lh hh p hn hm f made =
 -- ---- the three levels of bands, P their pyramid
 
 pub third_shown : (r c : ℕ) (P : Pyramid) (ll hl lh hh : Plane) → Shows r c P.ll3 ll → Shows r c P.hl3 hl → Shows r c P.lh3 lh → Shows r c P.hh3 hh → Four r c (third_of P) ll hl lh hh
-unfolding third_of
-third_shown r c P ll hl lh hh a b d e = record { low = a; across = b; down = d; both = e }
+third_shown r c P ll hl lh hh a b d e = rw third_of-is (record { low = a; across = b; down = d; both = e })
 
 pub second_shown : (r c : ℕ) (P : Pyramid) (x y z t ll hl lh hh : Plane) → 2 ≤ r → 2 ≤ c → Four r c (third_of P) x y z t → Shows (2 * x.rows) (2 * x.width) (joined (quarters_in x y z t) x.rows x.width) ll → Shows (2 * r) (2 * c) P.hl2 hl → Shows (2 * r) (2 * c) P.lh2 lh → Shows (2 * r) (2 * c) P.hh2 hh → Four (2 * r) (2 * c) (second_of P r c) ll hl lh hh
-unfolding second_of
-second_shown r c P x y z t ll hl lh hh hr hc f made b d e = record {
+second_shown r c P x y z t ll hl lh hh hr hc f made b d e = rw second_of-is (record {
   low = four_joined r c (third_of P) x y z t ll hr hc f made;
   across = b;
   down = d;
   both = e;
-}
+})
 
 pub first_shown : (r c : ℕ) (P : Pyramid) (x y z t ll hl lh hh : Plane) → 2 ≤ r → 2 ≤ c → Four (2 * r) (2 * c) (second_of P r c) x y z t → Shows (2 * x.rows) (2 * x.width) (joined (quarters_in x y z t) x.rows x.width) ll → Shows (4 * r) (4 * c) P.hl1 hl → Shows (4 * r) (4 * c) P.lh1 lh → Shows (4 * r) (4 * c) P.hh1 hh → Four (4 * r) (4 * c) (first_of P r c) ll hl lh hh
-unfolding first_of
-first_shown r c P x y z t ll hl lh hh hr hc f made b d e = record {
+first_shown r c P x y z t ll hl lh hh hr hc f made b d e = rw first_of-is (record {
   low = resized _ _ (4 * r) (4 * c) _ ll (omega arith) (omega arith) (four_joined (2 * r) (2 * c) (second_of P r c) x y z t ll (omega arith) (omega arith) f made);
   across = b;
   down = d;
   both = e;
-}
+})
 
 pub rebuilt_shown : (r c rows width : ℕ) (P : Pyramid) (x y z t p : Plane) → rows ≡ 8 * r → width ≡ 8 * c → 2 ≤ r → 2 ≤ c → Four (4 * r) (4 * c) (first_of P r c) x y z t → Shows (2 * x.rows) (2 * x.width) (joined (quarters_in x y z t) x.rows x.width) p → Shows rows width (rebuilt P r c) p
-unfolding rebuilt
 rebuilt_shown r c rows width P x y z t p er ec hr hc f made =
+    rw rebuilt-is (
     resized _ _ rows width _ p (omega arith) (omega arith) (four_joined (4 * r) (4 * c) (first_of P r c) x y z t p (omega arith) (omega arith) f made)
+    )

@@ -12,22 +12,21 @@ use Rattle.wave_defs.proofs.LevelWithin.{EachWithin-more, EachWithin-same}
 use Rattle.wave_defs.proofs.LiftLaws.{SameWithin-columns_merged}
 use Rattle.wave_plain.specs.Images.{image_of, Shows}
 use Rattle.wave_defs.specs.Rings.{even_rows, odd_rows}
+use Rattle.wave_defs.proofs.Equations.{columns_even-is, columns_odd-is}
 
 SameWithin-sym : (r w : ℕ) (x y : ℕ → ℕ → ℤ) → SameWithin r w x y → SameWithin r w y x
 SameWithin-sym r w x y s = record { at = λ i j hi hj. sym (s.at i j hi hj) }
 
 columns_even-within : (m n w : ℕ) (c d : ℕ → ℕ → ℤ) → 1 ≤ m → EachWithin m n w c → EachWithin m n w d → EachWithin (2 * m) n w (columns_even c d)
-unfolding columns_even
 columns_even-within m n w c d one wc wd = record {
-  at = λ i j hi hj. even_of-within m n i (λ r. c r j) (λ r. d r j) one hi (record { at = λ k h. wc.at k j h hj }) (record { at = λ k h. wd.at k j h hj });
+  at = λ i j hi hj. rw columns_even-is (even_of-within m n i (λ r. c r j) (λ r. d r j) one hi (record { at = λ k h. wc.at k j h hj }) (record { at = λ k h. wd.at k j h hj }));
 }
 
 columns_odd-same : (n w : ℕ) (e f d : ℕ → ℕ → ℤ) → 2 ≤ n → SameWithin n w e f → SameWithin n w (columns_odd e d n) (columns_odd f d n)
-unfolding columns_odd
 columns_odd-same n w e f d two s = record {
   at = λ i j hi hj.
       let p = prediction-same n i (λ r. e r j) (λ r. f r j) two hi (record { at = λ k h. s.at k j h hj }) in
-      cc;
+      grind (arith, columns_odd-is);
 }
 
 -- the even rows that were made are bounded

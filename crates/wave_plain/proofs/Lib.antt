@@ -1,4 +1,3 @@
-mod PassLemmas
 mod LevelLemmas
 mod ForwardLemmas
 mod JoinLemmas

@@ -1,6 +1,5 @@
 -- A low row that is passed from a level to the one below.
-use Rattle.std.proofs.Common.{◌≡◌, ℕ, ◌*◌, ◌<◌, ◌≤◌, ℤ, pos, List, take, sym, ◌∙◌, subst, arith}
-use Rattle.std.proofs.lemmas.List.{get_or-take}
+use Rattle.std.proofs.Common.{◌≡◌, ℕ, ◌*◌, ◌<◌, ◌≤◌, ℤ, pos, List, take, sym, ◌∙◌, subst, arith, get_or-take}
 use Rattle.wave_defs.specs.Level.{level}
 use Rattle.wave_defs.specs.Within.{AllWithin}
 use Rattle.wave_defs.specs.Held.{Agrees, signal}

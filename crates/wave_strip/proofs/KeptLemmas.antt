@@ -1,19 +1,18 @@
 -- Rings that take a row.
-use Rattle.std.proofs.Common.{◌≡◌, ℕ, ◌+◌, ◌*◌, ◌≤◌, ℤ, List, [], ◌∷◌, ◌++◌, pos, length, get_or, replicate, take, drop, ap, ◌∙◌, subst, arith}
-use Rattle.std.proofs.lemmas.Int.{ints}
-use Rattle.std.proofs.lemmas.List.{take-append-le, take_all, length-replicate, get_or-replicate}
+use Rattle.std.proofs.Common.{◌≡◌, ℕ, ◌+◌, ◌*◌, ◌≤◌, ℤ, List, [], ◌∷◌, ◌++◌, length, take, drop, subst, arith}
+use Rattle.std.proofs.lemmas.List.{take-append-le, take_all}
+use Rattle.std.proofs.lemmas.Bool.Decides.{nat_tests}
 use Rattle.wave_defs.specs.Within.{AllWithin}
 use Rattle.wave_defs.specs.Held.{Agrees, signal}
 use Rattle.wave_defs.specs.Rolling.{open_high, open_low}
-use Rattle.wave_defs.specs.Rings.{AreRows, RowsWithin, AreNewest, even_rows, odd_rows}
+use Rattle.wave_defs.specs.Rings.{RowsWithin, even_rows, odd_rows}
 use Rattle.wave_defs.proofs.LevelWithin.{IsWithin-more}
 use Rattle.wave_defs.proofs.RingLaws.{AreRows-turn, RowsWithin-turn, AreNewest-turn}
 use Rattle.wave_strip.specs.Kept.{AreRings, HoldPairs, AreSmall}
 
 -- what a `Vec` holds after its whole slice was lent and was returned as out
 pub written_whole : (n : ℕ) (out old : List ℤ) → length out ≡ n → length old ≡ n → take n (out ++ drop (length out) old) ≡ out
-written_whole n out old lo ln =
-    take-append-le n out (drop (length out) old) (omega arith) ∙ take_all n out (omega arith)
+written_whole n out old lo ln = grind (arith, nat_tests, take-append-le, take_all)
 
 -- a row that becomes the newest of the even or of the odd rows
 module _ (w kept : ℕ) (es os ls hs : List (List ℤ)) (row : List ℤ) (s : AreRings w kept es os ls hs) where
@@ -25,9 +24,6 @@ module _ (w kept : ℕ) (es os ls hs : List (List ℤ)) (row : List ℤ) (s : Ar
 
   pub HoldPairs-even : (a : ℕ → ℕ → ℤ) (e o p : ℕ) → HoldPairs a w e o p es os ls hs → Agrees w (signal row) (a (2 * e)) → HoldPairs a w (e + 1) o p (drop 1 es ++ row ∷ []) os ls hs
   HoldPairs-even a e o p f new = let n = s.evens.count_is in record { evens = AreNewest-turn (even_rows a) w e es row (omega arith) f.evens new; odds = f.odds; lows = f.lows; highs = f.highs }
-
-  pub AreRings-odd : length row ≡ w → AreRings w kept es (drop 1 os ++ row ∷ []) ls hs
-  AreRings-odd lr = record { evens = s.evens; odds = AreRows-turn 2 w os row (omega arith) s.odds lr; lows = s.lows; highs = s.highs; two = s.two }
 
   pub AreSmall-odd : (m : ℕ) → AreSmall m w es os ls hs → AllWithin (2 * m) w (signal row) → AreSmall m w es (drop 1 os ++ row ∷ []) ls hs
   AreSmall-odd m b br = let n = s.odds.count_is in record { evens = b.evens; odds = RowsWithin-turn (2 * m) w os row (omega arith) b.odds br; lows = b.lows; highs = b.highs }
@@ -71,24 +67,3 @@ pub RowsWithin-more : (b c w : ℕ) (rows : List (List ℤ)) → b ≤ c → Row
 RowsWithin-more b c w rows le s = record { at = λ t h. AllWithin-more b c w _ le (s.at t h) }
 
 -- ---- rows of zeros
-
-pub AreRows-zeros : (count w : ℕ) → AreRows count w (replicate count (replicate w (pos 0)))
-AreRows-zeros count w = record {
-  count_is = length-replicate count (replicate w (pos 0));
-  wide = λ t h. ap length (get_or-replicate count t (replicate w (pos 0)) [] h) ∙ length-replicate w (pos 0);
-}
-
-pub RowsWithin-zeros : (b count w : ℕ) → RowsWithin b w (replicate count (replicate w (pos 0)))
-RowsWithin-zeros b count w =
-    let long = length-replicate count (replicate w (pos 0)) in
-    record {
-      at = λ t h. record {
-        at = λ k hk.
-            let zero : signal (get_or (replicate count (replicate w (pos 0))) t []) k ≡ pos 0 = ap (λ (x : List ℤ). signal x k) (get_or-replicate count t (replicate w (pos 0)) [] (omega arith)) ∙ get_or-replicate w k (pos 0) (pos 0) hk in
-            rw zero (record { above = omega (arith, ints); below = omega (arith, ints) });
-      };
-    }
-
--- no rows are the newest of no rows
-pub AreNewest-none : (f : ℕ → ℕ → ℤ) (w : ℕ) (rows : List (List ℤ)) → AreNewest f w 0 rows
-AreNewest-none f w rows = record { at = λ t h le. absurd (omega arith) }

@@ -1,4 +1,3 @@
-pub mod PairLemmas
 pub mod KeptLemmas
 pub mod LevelLemmas
 pub mod ChainLemmas

@@ -1,6 +1,7 @@
 -- What the rings of a strip show of an image.
-use Rattle.std.proofs.Common.{◌≡◌, ℕ, ◌+◌, ◌-◌, ◌*◌, ◌<◌, ◌≤◌, ℤ, List, length, sym, ap, ◌∙◌, subst, arith}
-use Rattle.wave_defs.specs.Level.{level, columns_low, columns_high}
+use Rattle.std.proofs.Common.{◌≡◌, ℕ, ◌+◌, ◌-◌, ◌*◌, ◌<◌, ◌≤◌, ℤ, List, length, sym, subst, arith}
+use Rattle.std.proofs.lemmas.Bool.Decides.{nat_tests}
+use Rattle.wave_defs.specs.Level.{level}
 use Rattle.wave_defs.specs.Held.{Agrees}
 use Rattle.wave_defs.specs.Rolling.{open_low, open_high, mirrored, parted, beside}
 use Rattle.wave_defs.specs.Rings.{AreNewest}
@@ -21,19 +22,13 @@ newest_sample f w kept made j i rows s long hj hk hi =
     (newest_at f w made (j + kept - made) j rows s (omega arith) (omega arith)).at i hi
 
 pub shown_ll : (x : ℕ → ℕ → ℤ) (n m w kept made j i : ℕ) (rows : List (List ℤ)) → AreNewest (open_low (mirrored (beside x m) n)) w made rows → length rows ≡ kept → 2 ≤ n → w ≡ 2 * m → j < made → made ≤ j + kept → j < n → i < m → kept_sample rows kept made j i ≡ (level x n m).ll j i
-shown_ll x n m w kept made j i rows s long two ew hj hk hn hi =
-    newest_sample _ w kept made j i rows s long hj hk (omega arith) ∙ open_low-mirrored (beside x m) n j i two hn ∙ ll-beside x n m j i hi
+shown_ll x n m w kept made j i rows s long two ew hj hk hn hi = grind (arith, nat_tests, newest_sample, open_low-mirrored, ll-beside)
 
 pub shown_hl : (x : ℕ → ℕ → ℤ) (n m h w kept made j i : ℕ) (rows : List (List ℤ)) → AreNewest (open_low (mirrored (beside x m) n)) w made rows → length rows ≡ kept → 2 ≤ n → h ≡ m → w ≡ 2 * m → j < made → made ≤ j + kept → j < n → i < m → kept_sample rows kept made j (h + i) ≡ (level x n m).hl j i
-shown_hl x n m h w kept made j i rows s long two eh ew hj hk hn hi =
-    newest_sample _ w kept made j (h + i) rows s long hj hk (omega arith) ∙ open_low-mirrored (beside x m) n j (h + i) two hn
-    ∙ ap (λ (q : ℕ). columns_low (beside x m) n j (q + i)) eh ∙ hl-beside x n m j i
+shown_hl x n m h w kept made j i rows s long two eh ew hj hk hn hi = grind (arith, nat_tests, newest_sample, open_low-mirrored, hl-beside)
 
 pub shown_lh : (x : ℕ → ℕ → ℤ) (n m w kept made j i : ℕ) (rows : List (List ℤ)) → AreNewest (open_high (mirrored (beside x m) n)) w made rows → length rows ≡ kept → 2 ≤ n → w ≡ 2 * m → j < made → made ≤ j + kept → j < n → i < m → kept_sample rows kept made j i ≡ (level x n m).lh j i
-shown_lh x n m w kept made j i rows s long two ew hj hk hn hi =
-    newest_sample _ w kept made j i rows s long hj hk (omega arith) ∙ open_high-mirrored (beside x m) n j i two hn ∙ lh-beside x n m j i hi
+shown_lh x n m w kept made j i rows s long two ew hj hk hn hi = grind (arith, nat_tests, newest_sample, open_high-mirrored, lh-beside)
 
 pub shown_hh : (x : ℕ → ℕ → ℤ) (n m h w kept made j i : ℕ) (rows : List (List ℤ)) → AreNewest (open_high (mirrored (beside x m) n)) w made rows → length rows ≡ kept → 2 ≤ n → h ≡ m → w ≡ 2 * m → j < made → made ≤ j + kept → j < n → i < m → kept_sample rows kept made j (h + i) ≡ (level x n m).hh j i
-shown_hh x n m h w kept made j i rows s long two eh ew hj hk hn hi =
-    newest_sample _ w kept made j (h + i) rows s long hj hk (omega arith) ∙ open_high-mirrored (beside x m) n j (h + i) two hn
-    ∙ ap (λ (q : ℕ). columns_high (beside x m) n j (q + i)) eh ∙ hh-beside x n m j i
+shown_hh x n m h w kept made j i rows s long two eh ew hj hk hn hi = grind (arith, nat_tests, newest_sample, open_high-mirrored, hh-beside)

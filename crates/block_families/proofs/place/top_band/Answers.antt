@@ -1,11 +1,9 @@
 use Rattle.std.proofs.Common.{arith}
-use Rattle.wave_defs.specs.Blocks.{place_of}
 use Rattle.block_families.proofs.place.top_band.Goals as goal
+use Rattle.wave_defs.proofs.Equations.{place_of-is}
 
 pub returns-then-position-eq0 : goal.returns-then-position-eq0
-unfolding place_of
-returns-then-position-eq0 c = grind arith
+returns-then-position-eq0 c = rw place_of-is (grind arith)
 
 pub returns : goal.returns
-unfolding place_of
-returns c = grind arith
+returns c = rw place_of-is (grind arith)

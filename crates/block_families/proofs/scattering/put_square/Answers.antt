@@ -1,5 +1,4 @@
-use Rattle.std.proofs.Common.{◌≡◌, ℕ, ◌+◌, ◌*◌, ◌<◌, pos, ◌*ℤ◌, get_or, ap, ◌∙◌, arith}
-use Rattle.std.specs.Prelude.{slice_index}
+use Rattle.std.proofs.Common.{◌≡◌, ℕ, ◌+◌, ◌*◌, ◌<◌, pos, ◌*ℤ◌, get_or, ap, ◌∙◌, arith, slice_index}
 use Rattle.base_122.specs.Weights.{band_place}
 use Rattle.wave_defs.specs.Blocks.{Place, weight_at}
 use Rattle.block_families.specs.Places.{named}

@@ -1,5 +1,4 @@
-use Rattle.std.proofs.Common.{rules, ◌≡◌, ◌+◌, ◌^◌, ◌<◌, ap, ◌∙◌, FitsSigned, w32, w64, get_or, pos, arith}
-use Rattle.std.specs.Prelude.{slice_index}
+use Rattle.std.proofs.Common.{rules, ◌≡◌, ◌+◌, ◌^◌, ◌<◌, ap, ◌∙◌, FitsSigned, w32, w64, get_or, pos, arith, slice_index}
 use Rattle.std.proofs.lemmas.Int.{to_z-of_z}
 use Rattle.base_122.specs.Weights.{band_place}
 use Rattle.wave_defs.specs.Line.{floor_div}

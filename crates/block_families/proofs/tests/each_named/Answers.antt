@@ -1,5 +1,4 @@
-use Rattle.std.proofs.Common.{ℕ, ◌≤◌, pos, get_or, replicate, inl, inr, arith, ap, length}
-use Rattle.std.specs.Prelude.{unsigned_abs}
+use Rattle.std.proofs.Common.{ℕ, ◌≤◌, pos, get_or, replicate, inl, inr, arith, ap, length, unsigned_abs}
 use Rattle.std.proofs.lemmas.Bool.{cases_lt}
 use Rattle.std.proofs.lemmas.List.{get_or-replicate, get_or_past, length-replicate}
 use Rattle.block_families.proofs.tests.each_named.Goals as goal

@@ -1,5 +1,4 @@
-use Rattle.std.proofs.Common.{◌≤◌, ℕ, pos, get_or}
-use Rattle.std.specs.Prelude.{unsigned_abs}
+use Rattle.std.proofs.Common.{◌≤◌, ℕ, pos, get_or, unsigned_abs}
 use Rattle.block_families.proofs.tests.each_named.Given as goal
 
 abbrev pub invariant-loop-i : goal.invariant-loop-i

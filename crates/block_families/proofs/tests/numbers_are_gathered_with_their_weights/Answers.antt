@@ -1,8 +1,5 @@
-use Rattle.std.proofs.Common.{rules, ℕ, zero, suc, ◌+◌, ◌*◌, ◌<◌, ◌≤◌, ◌^◌, ℤ, pos, negsuc, ◌*ℤ◌, arith}
-use Rattle.std.specs.Prelude.{slice_index, unsigned_abs}
+use Rattle.std.proofs.Common.{rules, ℕ, zero, suc, ◌+◌, ◌*◌, ◌<◌, ◌≤◌, ◌^◌, ℤ, pos, negsuc, ◌*ℤ◌, arith, slice_index, unsigned_abs, mul-le-mul, pow_mono}
 use Rattle.std.proofs.lemmas.Int.{unsigned_abs-mul}
-use Rattle.std.proofs.Math.Nat.{mul-le-mul}
-use Rattle.std.proofs.Math.Pow.{pow_mono}
 use Rattle.base_122.specs.Weights.{usual_shifts}
 use Rattle.wave_defs.specs.Blocks.{place_of}
 use Rattle.block_families.proofs.Passing.{shift_small}

@@ -1,5 +1,4 @@
-use Rattle.std.proofs.Common.{◌^◌, ℤ, w32, w64, to_z, of_z, ap, ◌∙◌, arith}
-use Rattle.std.specs.Prelude.{slice_set}
+use Rattle.std.proofs.Common.{◌^◌, ℤ, w32, w64, to_z, of_z, ap, ◌∙◌, arith, slice_set}
 use Rattle.std.proofs.lemmas.Int.{to_z-of_z}
 use Rattle.wave_defs.proofs.Shifts.{kept}
 use Rattle.inverse_strip.proofs.block_row.set_cell.Goals as goal

@@ -1,27 +1,26 @@
-use Rattle.std.proofs.Common.{ℕ, pos, ◌^◌, ◌<◌, refl, arith, w32, w64}
+use Rattle.std.proofs.Common.{ℕ, pos, ◌*◌, ◌^◌, ◌<◌, refl, arith, w32}
 use Rattle.std.proofs.lemmas.Int.{ints}
 use Rattle.wave_defs.specs.Line.{correction}
 use Rattle.wave_defs.specs.Lifted.{plus_correction}
 use Rattle.wave_defs.proofs.Floors.{correction-within}
-use Rattle.lift_lanes.proofs.LaneSteps.{Lane-of, Lane-splat, Lane-shr, Lane-value, Lane-long, Lane-widened, add_32, sub_32, add_64}
+use Rattle.lift_lanes.proofs.LaneSteps.{Lane-of, Lane-splat, Lane-shr, Lane-value, Lane-long, add_32, sub_32}
 use Rattle.lift_lanes.proofs.lanes.even_lanes_narrow.Goals as goal
 
 pub returns : goal.returns
 unfolding plus_correction correction
 returns c =
-    let lane = λ (k : ℕ) (h : k < 4).
+    let lane = λ (k : ℕ) (h : k < 8).
     let re = c.requires.bounded.at k h in
     let rb = c.requires.bounded_before.at k h in
     let ra = c.requires.bounded_after.at k h in
-    let e = Lane-of w64 4 k h c.args.low c.requires.many.0 (omega (arith, ints)) in
-    let b = Lane-of w32 4 k h c.args.before c.requires.many.1 (omega (arith, ints)) in
-    let a = Lane-of w32 4 k h c.args.after c.requires.many.2 (omega (arith, ints)) in
-    let both = add_32 4 k h _ _ _ _ b a (omega (arith, ints)) in
-    let less = sub_32 4 k h _ _ _ _ (Lane-splat w32 4 k h (pos 2) (omega (arith, ints))) both (omega (arith, ints)) in
-    let small = correction-within (2 ^ 28) _ _ (omega arith) rb ra in
-    let narrow = Lane-shr w32 4 k h 2 4 _ _ _ refl refl less (Lane-splat w32 4 k h (pos 2) (omega (arith, ints))) in
-    add_64 k h _ _ _ _ e (Lane-widened 4 k _ _ h narrow) (omega (arith, ints)) in
+    let e = Lane-of w32 8 k h c.args.low c.requires.many.0 (omega (arith, ints)) in
+    let b = Lane-of w32 8 k h c.args.before c.requires.many.1 (omega (arith, ints)) in
+    let a = Lane-of w32 8 k h c.args.after c.requires.many.2 (omega (arith, ints)) in
+    let both = add_32 8 k h _ _ _ _ b a (omega (arith, ints)) in
+    let less = sub_32 8 k h _ _ _ _ (Lane-splat w32 8 k h (pos 2) (omega (arith, ints))) both (omega (arith, ints)) in
+    let small = correction-within (3 * 2 ^ 27) _ _ (omega arith) rb ra in
+    add_32 8 k h _ _ _ _ e (Lane-shr w32 8 k h 2 4 _ _ _ refl refl less (Lane-splat w32 8 k h (pos 2) (omega (arith, ints)))) (omega (arith, ints)) in
     record {
-      long = Lane-long w64 4 0 (omega arith) _ _ (lane 0 (omega arith));
-      value = record { at = λ k h. Lane-value w64 4 k h _ _ (lane k h) };
+      long = Lane-long w32 8 0 (omega arith) _ _ (lane 0 (omega arith));
+      value = record { at = λ k h. Lane-value w32 8 k h _ _ (lane k h) };
     }

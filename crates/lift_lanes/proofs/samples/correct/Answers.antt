@@ -1,13 +1,12 @@
 use Rattle.std.proofs.Common.{◌^◌, arith, w32}
 use Rattle.std.proofs.lemmas.Int.{ints}
-use Rattle.wave_defs.specs.Line.{correction}
 use Rattle.wave_defs.proofs.Floors.{correction-within}
 use Rattle.wave_defs.proofs.Shifts.{shifted}
 use Rattle.lift_lanes.proofs.samples.correct.Goals as goal
+use Rattle.wave_defs.proofs.Equations.{correction-is}
 
 pub returns-clause-value : goal.returns-clause-value
-unfolding correction
-returns-clause-value c = shifted w32 4 _ _ (omega (arith, ints)) (omega (arith, ints))
+returns-clause-value c = rw correction-is (shifted w32 4 _ _ (omega (arith, ints)) (omega (arith, ints)))
 
 pub returns-clause-small : goal.returns-clause-small
 returns-clause-small c =

@@ -1,7 +1,7 @@
 use Rattle.std.proofs.Common.{◌+◌, ◌*◌, ◌≤◌, arith}
 use Rattle.wave_defs.proofs.GridLaws.{row_ends, SameWithin-put_at}
 use Rattle.wave_defs.proofs.LiftLaws.{Agrees-columns_even}
-use Rattle.wave_plain.proofs.PassLemmas.{Agrees-part}
+use Rattle.wave_defs.proofs.PassLemmas.{Agrees-part}
 use Rattle.wave_plain.proofs.columns.join_even_rows.Goals as goal
 
 pub loop-i-preserved : goal.loop-i-preserved

@@ -1,24 +1,21 @@
-use Rattle.std.proofs.Common.{ℕ, ◌+◌, ◌*◌, ◌<◌, ◌≤◌, ◌^◌, arith}
+use Rattle.std.proofs.Common.{ℕ, ◌+◌, ◌*◌, ◌<◌, ◌≤◌, arith}
+use Rattle.std.proofs.lemmas.Grind.{common_steps}
 use Rattle.wave_defs.proofs.GridLaws.{row_ends, SameWithin-put_at, SameWithin-put_off}
 use Rattle.wave_defs.proofs.LiftLaws.{Agrees-columns_odd, Agrees-trans, Agrees-row_of}
-use Rattle.wave_plain.proofs.PassLemmas.{Agrees-part, AllWithin-copy}
+use Rattle.wave_defs.proofs.PassLemmas.{Agrees-part}
 use Rattle.wave_plain.proofs.columns.join_odd_rows.Goals as goal
 
 pub odd_row-requires-clause-bounded_a : goal.odd_row-requires-clause-bounded_a
-odd_row-requires-clause-bounded_a c =
-    AllWithin-copy (2 ^ 40) c.args.n c.args.w _ c.mirrored_before.result _ _ _ (omega arith) c.row_of-odd.ensures.whole (Agrees-part c.args.w _ _ _ c.row_of-before.ensures.row) c.loop-i.invariant.even c.requires.even_bounded
+odd_row-requires-clause-bounded_a c = grind (arith, common_steps)
 
 pub odd_row-requires-clause-bounded_b : goal.odd_row-requires-clause-bounded_b
-odd_row-requires-clause-bounded_b c =
-    AllWithin-copy (2 ^ 40) c.args.n c.args.w _ c.loop-i.i _ _ _ (omega arith) c.row_of-odd.ensures.whole (Agrees-part c.args.w _ _ _ c.row_of-here.ensures.row) c.loop-i.invariant.even c.requires.even_bounded
+odd_row-requires-clause-bounded_b c = grind (arith, common_steps)
 
 pub odd_row-requires-clause-bounded_c : goal.odd_row-requires-clause-bounded_c
-odd_row-requires-clause-bounded_c c =
-    AllWithin-copy (2 ^ 40) c.args.n c.args.w _ c.mirrored_after.result _ _ _ (omega arith) c.row_of-odd.ensures.whole (Agrees-part c.args.w _ _ _ c.row_of-after.ensures.row) c.loop-i.invariant.even c.requires.even_bounded
+odd_row-requires-clause-bounded_c c = grind (arith, common_steps)
 
 pub odd_row-requires-clause-bounded_d : goal.odd_row-requires-clause-bounded_d
-odd_row-requires-clause-bounded_d c =
-    AllWithin-copy (2 ^ 40) c.args.n c.args.w _ c.mirrored_after-in-loop-i.result _ _ _ (omega arith) c.row_of-odd.ensures.whole (Agrees-part c.args.w _ _ _ c.row_of-second.ensures.row) c.loop-i.invariant.even c.requires.even_bounded
+odd_row-requires-clause-bounded_d c = grind (arith, common_steps)
 
 pub loop-i-preserved : goal.loop-i-preserved
 loop-i-preserved c =

@@ -1,7 +1,7 @@
 use Rattle.std.proofs.Common.{ℕ, ◌+◌, ◌*◌, ◌^◌, ◌<◌, ◌≤◌, arith}
 use Rattle.wave_defs.proofs.GridLaws.{row_ends, SameWithin-write_row}
 use Rattle.wave_defs.proofs.LiftLaws.{Agrees-columns_high, Agrees-columns_low, Agrees-trans, Agrees-row_of}
-use Rattle.wave_plain.proofs.PassLemmas.{Agrees-part, AllWithin-high}
+use Rattle.wave_defs.proofs.PassLemmas.{Agrees-part, AllWithin-high}
 use Rattle.wave_plain.proofs.columns.split_columns.Goals as goal
 
 pub highs-preserved : goal.highs-preserved

@@ -1,15 +1,14 @@
-use Rattle.std.proofs.Common.{◌+◌, ◌*◌, ◌≤◌, ◌^◌, arith}
+use Rattle.std.proofs.Common.{◌+◌, ◌*◌, ◌≤◌, arith}
+use Rattle.std.proofs.lemmas.Grind.{common_steps}
 use Rattle.wave_defs.proofs.GridLaws.{row_ends, SameWithin-write_row}
-use Rattle.wave_plain.proofs.PassLemmas.{Agrees-part, AllWithin-part, Agrees-rows_merged}
+use Rattle.wave_defs.proofs.PassLemmas.{Agrees-part, Agrees-rows_merged}
 use Rattle.wave_plain.proofs.rows.join_rows.Goals as goal
 
 pub inverse_row-requires-clause-low_bounded : goal.inverse_row-requires-clause-low_bounded
-inverse_row-requires-clause-low_bounded c =
-    AllWithin-part (2 ^ 38) (2 ^ 38) c.args.n _ c.args.rows c.loop-i.i _ _ (omega arith) c.row_of-low_row.ensures.whole (omega arith) c.requires.low_bounded c.row_of-low_row.ensures.row
+inverse_row-requires-clause-low_bounded c = grind (arith, common_steps)
 
 pub inverse_row-requires-clause-high_bounded : goal.inverse_row-requires-clause-high_bounded
-inverse_row-requires-clause-high_bounded c =
-    AllWithin-part (2 ^ 38) (2 ^ 38) c.args.n _ c.args.rows c.loop-i.i _ _ (omega arith) c.row_of-low_row.ensures.whole (omega arith) c.requires.high_bounded c.row_of-high_row.ensures.row
+inverse_row-requires-clause-high_bounded c = grind (arith, common_steps)
 
 pub loop-i-preserved : goal.loop-i-preserved
 loop-i-preserved c =

@@ -1,61 +1,55 @@
-use Rattle.std.proofs.Common.{◌≡◌, ℕ, ◌*◌, ◌≤◌, length, subst, ◌∙◌, arith}
+use Rattle.std.proofs.Common.{◌≡◌, ℕ, ◌-◌, ◌*◌, ◌^◌, ◌≤◌, length, sym, subst, ap, arith}
+use Rattle.wave_defs.specs.Line.{merged, odd_of}
 use Rattle.wave_defs.specs.Level.{columns_merged}
 use Rattle.wave_defs.specs.Within.{AllWithin}
 use Rattle.wave_defs.specs.Held.{Agrees, signal}
-use Rattle.inverse_strip.proofs.RingLemmas.{written_whole}
-use Rattle.inverse_strip.proofs.LevelLemmas.{joined-row, joined-height, joined-small}
+use Rattle.inverse_strip.specs.Kept.{column_bound}
+use Rattle.inverse_strip.specs.declared.columns.Columns.{Columns}
+use Rattle.inverse_strip.proofs.LevelLemmas.{joined-row, joined-height, joined-within, odd_of-within}
 use Rattle.inverse_strip.proofs.level.InverseLevel.next_row.Goals as goal
 
-pub returns-then-i-eq0-clause-value : goal.returns-then-i-eq0-clause-value
-returns-then-i-eq0-clause-value c = λ q n follow more end.
+pub inverse_row_narrow-requires-clause-fits : goal.inverse_row_narrow-requires-clause-fits
+inverse_row_narrow-requires-clause-fits c =
     let s = c.args.self.now in
     let w = s.left.width in
-    let right = c.even-then-i-eq0.result.now in
-    let wide : length c.even.result.now ≡ w = c.even.ensures.wide in
-    let made = simp wide at c.inverse_row.ensures in
-    let here = c.even.ensures.value q.ll q.lh follow.left in
-    let beside = subst (λ (v : ℕ). Agrees v (signal right) (columns_merged q.hl q.hh s.right.taken s.given)) s.same_width (c.even-then-i-eq0.ensures.value q.hl q.hh follow.right) in
-    let there = subst (λ (t : ℕ). Agrees w (signal right) (columns_merged q.hl q.hh t s.given)) s.same_taken beside in
-    let two : 2 ≤ w = omega (arith, s.wide) in
-    joined-height q s.left.taken n c.args.height w s.given _ two c.requires.row more end (joined-row q s.left.taken w s.given _ _ _ two here there made)
-
-pub returns-then-i-eq0-clause-small_row : goal.returns-then-i-eq0-clause-small_row
-returns-then-i-eq0-clause-small_row c = λ m nine small.
-    let s = c.args.self.now in
-    let w = s.left.width in
-    let right = c.even-then-i-eq0.result.now in
-    let wide : length c.even.result.now ≡ w = c.even.ensures.wide in
-    let made = simp wide at c.inverse_row.ensures in
-    let here = c.even.ensures.small m nine small.left in
-    let there = subst (λ (v : ℕ). AllWithin (3 * m) v (signal right)) s.same_width (c.even-then-i-eq0.ensures.small m nine small.right) in
-    joined-small m w _ _ _ nine (omega (arith, s.wide)) here there made
+    let left = c.deref_mut.result.now in
+    let right = c.deref_mut-2.result.now in
+    let room = c.make_halves.new.self.left_room in
+    let same = ap (λ (l : Columns). l.width) c.make_halves.ensures.left in
+    let long = c.deref_mut.ensures.len in
+    let wide : length left ≡ w = omega arith in
+    let here : AllWithin (column_bound (21 * 2 ^ 25)) w (signal left) = rw c.deref_mut.ensures.value (c.make_halves.ensures.left_within (21 * 2 ^ 25) c.requires.within) in
+    let there : AllWithin (column_bound (2 ^ 27)) w (signal right) = rw c.deref_mut-2.ensures.value c.make_halves.ensures.right_within in
+    let fits = odd_of-within (column_bound (21 * 2 ^ 25)) (2 ^ 31 - 1) w (signal left) (signal right) s.wide (omega arith) here there in
+    subst (λ (v : ℕ). AllWithin (2 ^ 31 - 1) v (odd_of (signal left) (signal right) v)) (sym wide) fits
 
 pub returns-clause-value : goal.returns-clause-value
 returns-clause-value c = λ q n follow more end.
     let s = c.args.self.now in
     let w = s.left.width in
-    let left = c.odd.new.into in
-    let right = c.odd-2.new.into in
-    let left_whole = c.deref.ensures.value ∙ written_whole s.left_row.len left s.left_row.items (omega arith) (omega arith) in
-    let right_whole = c.deref-2.ensures.value ∙ written_whole s.right_row.len right s.right_row.items (omega arith) (omega arith) in
+    let left = c.deref_mut.result.now in
+    let right = c.deref_mut-2.result.now in
+    let room = c.make_halves.new.self.left_room in
+    let same = ap (λ (l : Columns). l.width) c.make_halves.ensures.left in
+    let long = c.deref_mut.ensures.len in
     let wide : length left ≡ w = omega arith in
-    let made = simp (left_whole, right_whole, wide) at c.inverse_row-2.ensures in
-    let here = c.odd.ensures.value q.ll q.lh follow.left in
-    let beside = subst (λ (v : ℕ). Agrees v (signal right) (columns_merged q.hl q.hh s.right.taken s.given)) s.same_width (c.odd-2.ensures.value q.hl q.hh follow.right) in
-    let there = subst (λ (t : ℕ). Agrees w (signal right) (columns_merged q.hl q.hh t s.given)) s.same_taken beside in
-    let two : 2 ≤ w = omega arith in
-    joined-height q s.left.taken n c.args.height w s.given _ two c.requires.row more end (joined-row q s.left.taken w s.given _ _ _ two here there made)
+    let made = subst (λ (v : ℕ). Agrees (2 * v) (signal c.inverse_row_narrow.new.row) (merged (signal left) (signal right) v)) wide c.inverse_row_narrow.ensures in
+    let here : Agrees w (signal left) (columns_merged q.ll q.lh s.left.taken s.given) = rw c.deref_mut.ensures.value (c.make_halves.ensures.left_row q follow) in
+    let there : Agrees w (signal right) (columns_merged q.hl q.hh s.left.taken s.given) = rw c.deref_mut-2.ensures.value (c.make_halves.ensures.right_row q follow) in
+    let two : 2 ≤ w = omega (arith, s.wide) in
+    joined-height q s.left.taken n c.args.height w s.given _ two c.requires.row more end (joined-row q s.left.taken w s.given (signal left) (signal right) _ two here there made)
 
-pub returns-clause-small_row : goal.returns-clause-small_row
-returns-clause-small_row c = λ m nine small.
+pub returns-clause-row_within : goal.returns-clause-row_within
+returns-clause-row_within c = λ m some.
     let s = c.args.self.now in
     let w = s.left.width in
-    let left = c.odd.new.into in
-    let right = c.odd-2.new.into in
-    let left_whole = c.deref.ensures.value ∙ written_whole s.left_row.len left s.left_row.items (omega arith) (omega arith) in
-    let right_whole = c.deref-2.ensures.value ∙ written_whole s.right_row.len right s.right_row.items (omega arith) (omega arith) in
+    let left = c.deref_mut.result.now in
+    let right = c.deref_mut-2.result.now in
+    let room = c.make_halves.new.self.left_room in
+    let same = ap (λ (l : Columns). l.width) c.make_halves.ensures.left in
+    let long = c.deref_mut.ensures.len in
     let wide : length left ≡ w = omega arith in
-    let made = simp (left_whole, right_whole, wide) at c.inverse_row-2.ensures in
-    let here = c.odd.ensures.small m nine small.left in
-    let there = subst (λ (v : ℕ). AllWithin (3 * m) v (signal right)) s.same_width (c.odd-2.ensures.small m nine small.right) in
-    joined-small m w _ _ _ nine (omega arith) here there made
+    let made = subst (λ (v : ℕ). Agrees (2 * v) (signal c.inverse_row_narrow.new.row) (merged (signal left) (signal right) v)) wide c.inverse_row_narrow.ensures in
+    let here : AllWithin (column_bound m) w (signal left) = rw c.deref_mut.ensures.value (c.make_halves.ensures.left_within m some) in
+    let there : AllWithin (column_bound (2 ^ 27)) w (signal right) = rw c.deref_mut-2.ensures.value c.make_halves.ensures.right_within in
+    joined-within (column_bound m) w (signal left) (signal right) _ s.wide here there made

@@ -7,7 +7,6 @@ invariant_of-self c =
     let s = c.args.self.now in
     let w = s.level.left.width in
     record {
-      low_room = omega arith;
       some = omega arith;
       hl_stands = rw c.turn_copy.ensures (came-stands s.kept w s.hl c.args.hl.now s.some s.hl_stands c.requires.wide_hl);
       lh_stands = rw c.turn_copy-2.ensures (came-stands s.kept w s.lh c.args.lh.now s.some s.lh_stands c.requires.wide_lh);

@@ -1,8 +1,10 @@
-use Rattle.std.proofs.Common.{◌≡◌, ℕ, ◌*◌, ◌^◌, sym, ◌∙◌, subst, arith}
+use Rattle.std.proofs.Common.{◌≡◌, ℕ, ◌*◌, ◌^◌, sym, subst, arith}
 use Rattle.wave_defs.specs.Within.{AllWithin}
 use Rattle.wave_defs.specs.Held.{signal}
 use Rattle.wave_defs.specs.Rings.{AreNewest}
 use Rattle.inverse_strip.proofs.RingLemmas.{written_whole}
+use Rattle.inverse_strip.specs.Kept.{level_bound}
+use Rattle.lift_rows.proofs.Fits.{AllWithin-more}
 use Rattle.inverse_strip.proofs.StageLemmas.{waiting-at, waiting-small, low-at}
 use Rattle.inverse_strip.proofs.stage.LevelStage.feed.Goals as goal
 
@@ -27,7 +29,7 @@ returns-clause-follows c = λ b q n below more end same follow.
     let w = s.level.left.width in
     let k = s.level.left.taken in
     let row = c.next_row.new.into in
-    let whole = c.deref.ensures.value ∙ written_whole s.low.len row s.low.items (omega arith) (omega arith) in
+    let whole = written_whole s.level.left_row.len row s.level.left_row.items (omega arith) (omega arith) in
     let made = c.next_row.ensures.value b n below more end in
     let ll = low-at q b n w c.args.before.now.left.width c.args.before.now.given k row _ c.requires.wide c.requires.next same whole made in
     let hl = waiting-at q.hl w s.kept s.came k s.hl _ s.hl_stands c.at.ensures (omega arith) s.waits follow.hl in
@@ -35,23 +37,28 @@ returns-clause-follows c = λ b q n below more end same follow.
     let hh = waiting-at q.hh w s.kept s.came k s.hh _ s.hh_stands c.at-3.ensures (omega arith) s.waits follow.hh in
     let width = sym c.push.ensures.width in
     record {
-      level = c.push.ensures.follows q follow.level ll hl lh hh;
+      level = c.push.ensures.follows q (record { left = follow.level.left; right = follow.level.right }) ll hl lh hh;
       hl = subst (λ (v : ℕ). AreNewest q.hl v s.came s.hl) width follow.hl;
       lh = subst (λ (v : ℕ). AreNewest q.lh v s.came s.lh) width follow.lh;
       hh = subst (λ (v : ℕ). AreNewest q.hh v s.came s.hh) width follow.hh;
     }
 
-pub returns-clause-small : goal.returns-clause-small
-returns-clause-small c = λ m more below small.
+pub push-requires-clause-small_ll : goal.push-requires-clause-small_ll
+push-requires-clause-small_ll c =
     let s = c.args.self.now in
     let w = s.level.left.width in
     let row = c.next_row.new.into in
-    let whole = c.deref.ensures.value ∙ written_whole s.low.len row s.low.items (omega arith) (omega arith) in
-    let made = c.next_row.ensures.small_row m (omega arith) below in
+    let whole = written_whole s.level.left_row.len row s.level.left_row.items (omega arith) (omega arith) in
     let wide : 2 * c.args.before.now.left.width ≡ w = omega arith in
-    let ll = subst (λ (v : ℕ). AllWithin (9 * m) v (signal row)) wide made in
-    c.push.ensures.small (9 * m) (omega arith) small
-    (rw whole ll)
-    (waiting-small (2 ^ 27) (9 * m) w s.kept _ s.hl _ s.hl_stands c.at.ensures (omega arith) (omega arith) s.hl_small)
-    (waiting-small (2 ^ 27) (9 * m) w s.kept _ s.lh _ s.lh_stands c.at-2.ensures (omega arith) (omega arith) s.lh_small)
-    (waiting-small (2 ^ 27) (9 * m) w s.kept _ s.hh _ s.hh_stands c.at-3.ensures (omega arith) (omega arith) s.hh_small)
+    let within = subst (λ (v : ℕ). AllWithin (level_bound (21 * 2 ^ 25)) v (signal row)) wide (c.next_row.ensures.row_within (21 * 2 ^ 25) c.requires.within) in
+    rw whole (AllWithin-more _ (375 * 2 ^ 22) w _ (omega arith) within)
+
+pub returns-clause-within : goal.returns-clause-within
+returns-clause-within c = λ m k below le small.
+    let s = c.args.self.now in
+    let w = s.level.left.width in
+    let row = c.next_row.new.into in
+    let whole = written_whole s.level.left_row.len row s.level.left_row.items (omega arith) (omega arith) in
+    let wide : 2 * c.args.before.now.left.width ≡ w = omega arith in
+    let within = subst (λ (v : ℕ). AllWithin (level_bound m) v (signal row)) wide (c.next_row.ensures.row_within m below) in
+    c.push.ensures.within k small (rw whole (AllWithin-more (level_bound m) k w (signal row) le within))

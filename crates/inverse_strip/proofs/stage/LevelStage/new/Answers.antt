@@ -8,7 +8,6 @@ invariant_of-result c =
     let w = c.args.width in
     let wide = c.in_ok-level.ensures.width in
     record {
-      low_room = search rules;
       some = search rules;
       hl_stands = rw wide (AreRows-zeros n w _ c.in_ok-hl.ensures);
       lh_stands = rw wide (AreRows-zeros n w _ c.in_ok-lh.ensures);

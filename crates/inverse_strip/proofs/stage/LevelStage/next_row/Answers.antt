@@ -5,13 +5,13 @@ use Rattle.inverse_strip.proofs.stage.LevelStage.next_row.Goals as goal
 pub returns-clause-follows : goal.returns-clause-follows
 returns-clause-follows c = λ q follow.
     let s = c.args.self.now in
-    let width = sym c.next_row.ensures.width in
+    let width = sym c.next_row_widened.ensures.width in
     record {
-      level = c.next_row.ensures.follows q follow.level;
+      level = c.next_row_widened.ensures.follows q follow.level;
       hl = subst (λ (v : ℕ). AreNewest q.hl v s.came s.hl) width follow.hl;
       lh = subst (λ (v : ℕ). AreNewest q.lh v s.came s.lh) width follow.lh;
       hh = subst (λ (v : ℕ). AreNewest q.hh v s.came s.hh) width follow.hh;
     }
 
 pub returns-clause-value : goal.returns-clause-value
-returns-clause-value c = λ q n follow more end. c.next_row.ensures.value q n follow.level more end
+returns-clause-value c = λ q n follow more end. c.next_row_widened.ensures.value q n follow.level more end

@@ -1,11 +1,11 @@
 use Rattle.std.proofs.Common.{◌*◌, ◌^◌, arith}
 use Rattle.inverse_strip.proofs.strip.StripInverse.new.Goals as goal
 
-pub invariant_of-result-clause-third_small : goal.invariant_of-result-clause-third_small
-invariant_of-result-clause-third_small c = c.in_ok-third.ensures.small (2 ^ 27)
+pub invariant_of-result-clause-third_within : goal.invariant_of-result-clause-third_within
+invariant_of-result-clause-third_within c = c.in_ok-third.ensures.within (2 ^ 27)
 
-pub invariant_of-result-clause-second_small : goal.invariant_of-result-clause-second_small
-invariant_of-result-clause-second_small c = c.in_ok-second.ensures.small (9 * 2 ^ 27)
+pub invariant_of-result-clause-second_within : goal.invariant_of-result-clause-second_within
+invariant_of-result-clause-second_within c = c.in_ok-second.ensures.within (21 * 2 ^ 25)
 
 pub invariant_of-result-clause-counts : goal.invariant_of-result-clause-counts
 invariant_of-result-clause-counts c =

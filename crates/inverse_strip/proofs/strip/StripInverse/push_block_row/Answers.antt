@@ -27,9 +27,9 @@ returns-clause-follows c = λ p r follow next.
     (block_row-at p.hl1 1 (4 * t) s.first.came columns cells s.first_came (next.band 1 (omega arith)))
     (block_row-at p.lh1 2 (4 * t) s.first.came columns cells s.first_came (next.band 2 (omega arith)))
     (block_row-at p.hh1 0 (4 * t) s.first.came columns cells s.first_came (next.band 0 (omega arith))) in
-    let width = sym c.push_narrow.ensures.width in
+    let width = sym c.push_bands.ensures.width in
     record {
-      third = c.push_narrow.ensures.follows (third_of p) follow.third ll hl lh hh;
+      third = c.push_bands.ensures.follows (third_of p) follow.third ll hl lh hh;
       second = subst (λ (v : ℕ). FollowStage (second_of p r v) c.come_rows.new.self) width second;
       first = subst (λ (v : ℕ). FollowStage (first_of p r v) c.come_rows-2.new.self) width first;
     }

@@ -3,17 +3,15 @@ use Rattle.wave_defs.specs.Pyramid.{first_of, second_of, third_of}
 use Rattle.wave_defs.specs.Rings.{AreNewest}
 use Rattle.inverse_strip.specs.Kept.{HasRow}
 use Rattle.inverse_strip.specs.Stage.{FollowStage}
-use Rattle.inverse_strip.proofs.StripLemmas.{IsSmallLevel-more, second-low, first-low, Counts-second}
+use Rattle.inverse_strip.proofs.StripLemmas.{second-low, first-low, Counts-second}
+use Rattle.inverse_strip.proofs.PairLemmas.{ArePairsWithin-more}
 use Rattle.inverse_strip.proofs.strip.StripInverse.step.Goals as goal
 
-pub feed-requires-clause-small : goal.feed-requires-clause-small
-feed-requires-clause-small c = IsSmallLevel-more (9 * 2 ^ 27) (2 ^ 32) _ (omega arith) c.args.self.now.second_small
+pub feed-requires-then-has_row-2-clause-within : goal.feed-requires-then-has_row-2-clause-within
+feed-requires-then-has_row-2-clause-within c = let s = c.args.self.now.third.left in ArePairsWithin-more (2 ^ 27) (21 * 2 ^ 25) s.width s.taken s.evens s.highs (omega arith) c.args.self.now.third_within
 
-pub feed-requires-then-has_row-2-clause-small : goal.feed-requires-then-has_row-2-clause-small
-feed-requires-then-has_row-2-clause-small c = IsSmallLevel-more (2 ^ 27) (2 ^ 32) _ (omega arith) c.args.self.now.third_small
-
-pub invariant_of-self-then-has_row-clause-second_small : goal.invariant_of-self-then-has_row-clause-second_small
-invariant_of-self-then-has_row-clause-second_small c = c.feed.ensures.before_small (9 * 2 ^ 27) c.args.self.now.second_small
+pub invariant_of-self-then-has_row-clause-second_within : goal.invariant_of-self-then-has_row-clause-second_within
+invariant_of-self-then-has_row-clause-second_within c = c.feed.ensures.before_within (21 * 2 ^ 25) c.args.self.now.second_within
 
 pub invariant_of-self-then-has_row-clause-counts : goal.invariant_of-self-then-has_row-clause-counts
 invariant_of-self-then-has_row-clause-counts c =

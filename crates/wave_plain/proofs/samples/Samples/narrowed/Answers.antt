@@ -1,5 +1,5 @@
 use Rattle.std.proofs.Common.{◌^◌, ◌∙◌}
-use Rattle.wave_plain.proofs.PassLemmas.{AllWithin-whole}
+use Rattle.wave_defs.proofs.PassLemmas.{AllWithin-whole}
 use Rattle.wave_plain.proofs.samples.Samples.narrowed.Goals as goal
 
 pub narrow-requires-clause-bounded : goal.narrow-requires-clause-bounded

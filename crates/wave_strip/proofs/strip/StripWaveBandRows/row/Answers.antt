@@ -1,5 +1,4 @@
-use Rattle.std.proofs.Common.{ℕ, ◌+◌, ◌*◌, ◌<◌, pos, ap, subst, ◌∙◌, arith}
-use Rattle.std.proofs.lemmas.List.{get_or-take}
+use Rattle.std.proofs.Common.{ℕ, ◌+◌, ◌*◌, ◌<◌, pos, ap, subst, ◌∙◌, arith, get_or-take}
 use Rattle.base_122.specs.declared.weights.Band.{Band}
 use Rattle.base_122.specs.Weights.{band_place}
 use Rattle.wave_defs.specs.Blocks.{block_side}
