@@ -1,6 +1,5 @@
 -- A bare text is its head and what holds its items.
-use Rattle.std.proofs.Common.{◌≡◌, ℕ, ◌+◌, ◌*◌, ◌≤◌, ◌<◌, List, ◌++◌, length, get_or, Bool, true, false, if◌then◌else◌, refl, sym, ap, ◌∙◌, subst, arith, length-append}
-use Rattle.std.specs.List.{flat_map}
+use Rattle.std.proofs.Common.{◌≡◌, ℕ, ◌+◌, ◌*◌, ◌≤◌, ◌<◌, List, ◌++◌, length, get_or, Bool, true, false, if◌then◌else◌, refl, sym, ap, ◌∙◌, subst, arith, length-append, flat_map}
 use Rattle.item_defs.proofs.OctetBits.{length-octets_of}
 use Rattle.segment_defs.specs.declared.head.SegmentHead.{SegmentHead}
 use Rattle.segment_defs.specs.Depths.{block_depth, block_depths}
@@ -8,7 +7,7 @@ use Rattle.segment_defs.specs.Head.{Field, field_bits, part_2, part_3, part_4}
 use Rattle.segment_defs.specs.Coded.{chosen_options}
 use Rattle.segment_head.specs.declared.carried.Carried.{Carried}
 use Rattle.segment_head.specs.Parts.{part_1}
-use Rattle.segment_head.proofs.WrittenFields.{width_of, length-bits_in}
+use Rattle.segment_defs.proofs.WrittenFields.{width_of, length-bits_in}
 use Rattle.segment_head.proofs.WrittenHeads.{length_4}
 use Rattle.text_defs.specs.Given.{given_blocks}
 use Rattle.text_defs.specs.Laws.{AllGiven}

@@ -1,7 +1,5 @@
 -- Part 1 with some flags, and with all.
-use Rattle.std.proofs.Common.{◌≡◌, ℕ, ◌+◌, ◌*◌, ◌/◌, ◌^◌, ◌<◌, List, [], ◌∷◌, ◌++◌, length, take, drop, get_or, Bool, refl, sym, ap, ◌∙◌, subst, arith, append_assoc, length-append, length-drop}
-use Rattle.std.specs.List.{flat_map}
-use Rattle.std.proofs.lemmas.List.{append-nil, take-append-drop, length-take-le, take_at}
+use Rattle.std.proofs.Common.{◌≡◌, ℕ, ◌+◌, ◌*◌, ◌/◌, ◌^◌, ◌<◌, List, [], ◌∷◌, ◌++◌, length, take, drop, get_or, Bool, refl, sym, ap, ◌∙◌, subst, arith, append_assoc, length-append, length-drop, flat_map, append-nil, take-append-drop, length-take-le, take_at}
 use Rattle.std.proofs.lemmas.List.Concat.{flat_map-append}
 use Rattle.item_defs.specs.Bits.{bits_of, value_of, octets_of}
 use Rattle.item_defs.proofs.NumberBits.{bits_join, value_of-append, value_of-bits_of, value_below}
@@ -11,7 +9,7 @@ use Rattle.segment_defs.specs.Head.{Field, field, flag, reserved, field_bits, pa
 use Rattle.segment_defs.specs.Reading.{part_1_length}
 use Rattle.segment_head.specs.declared.carried.Carried.{Carried}
 use Rattle.segment_head.specs.Parts.{all_carried, part_1}
-use Rattle.segment_head.proofs.WrittenFields.{octets_of-append, length-bits_in}
+use Rattle.segment_defs.proofs.WrittenFields.{octets_of-append, length-bits_in}
 use Rattle.bare_text.specs.InForce.{whole_part_1}
 
 module _ (h : SegmentHead) where

@@ -1,6 +1,5 @@
 -- Octets after a head change nothing in it.
-use Rattle.std.proofs.Common.{◌≡◌, ℕ, ◌+◌, ◌-◌, ◌*◌, ◌/◌, ◌≤◌, List, ◌∷◌, ◌++◌, inl, inr, length, take, drop, get_or, Bool, true, false, ◌||◌, if◌then◌else◌, refl, sym, ap, ◌∙◌, arith, length-append, length-drop}
-use Rattle.std.specs.Prelude.{Option, None, Some, Ok, Err}
+use Rattle.std.proofs.Common.{◌≡◌, ℕ, ◌+◌, ◌-◌, ◌*◌, ◌/◌, ◌≤◌, List, ◌∷◌, ◌++◌, inl, inr, length, take, drop, get_or, Bool, true, false, ◌||◌, if◌then◌else◌, refl, sym, ap, ◌∙◌, arith, length-append, length-drop, Option, None, Some, Ok, Err}
 use Rattle.std.proofs.lemmas.Bool.{cases_lt}
 use Rattle.std.proofs.lemmas.List.{take-append-le, drop-append-le, get_or_append_left, take_at}
 use Rattle.segment_defs.specs.declared.head.SegmentHead.{SegmentHead}
@@ -9,7 +8,7 @@ use Rattle.segment_defs.specs.declared.fault.HeadFault.TheVariants.{HeadShort}
 use Rattle.segment_defs.specs.Fields.{is_set}
 use Rattle.segment_defs.specs.Reading.{part_1_length, first_refusal, head_read}
 use Rattle.segment_defs.specs.Head.{IsHead}
-use Rattle.segment_head.proofs.ReadHeads.{read_fits}
+use Rattle.segment_defs.proofs.ReadHeads.{read_fits}
 use Rattle.bare_text.specs.declared.parts.PartsInForce.{PartsInForce}
 use Rattle.bare_text.specs.InForce.{bare_length, second_in, third_in, fourth_in, part_or, rest_after, parts_after, completed, completed_with, whole_part_1}
 use Rattle.bare_text.specs.Reading.{carry_tests, bare_head_read}

@@ -1,12 +1,11 @@
 -- The numbers of bits of the parts of a head.
-use Rattle.std.proofs.Common.{◌≡◌, ◌+◌, ◌*◌, ◌≤◌, List, [], ◌∷◌, ◌++◌, length, Bool, true, false, if◌then◌else◌, refl, sym, ap, ◌∙◌, subst, arith}
-use Rattle.std.specs.List.{flat_map}
+use Rattle.std.proofs.Common.{◌≡◌, ◌+◌, ◌*◌, ◌≤◌, List, [], ◌∷◌, ◌++◌, length, Bool, true, false, if◌then◌else◌, refl, sym, ap, ◌∙◌, subst, arith, flat_map}
 use Rattle.segment_head.proofs.WrittenHeads.{octets_of_last}
 use Rattle.segment_defs.specs.declared.head.SegmentHead.{SegmentHead}
 use Rattle.segment_defs.specs.Head.{Field, field, reserved, field_bits, part_2, part_3, head_length}
 use Rattle.segment_head.specs.declared.carried.Carried.{Carried}
 use Rattle.segment_head.specs.Parts.{part_1a, part_1}
-use Rattle.segment_head.proofs.WrittenFields.{width_of, length-bits_in}
+use Rattle.segment_defs.proofs.WrittenFields.{width_of, length-bits_in}
 use Rattle.bare_text.specs.Writing.{fields_where}
 
 pub length_first : (carried : Carried) (h : SegmentHead) (last : Bool) → h.last ≡ last → length (flat_map field_bits (part_1 carried h)) ≡ 8 * (if last then 4 else 3)

@@ -1,7 +1,5 @@
 -- The fields of a head in those of its octets that were taken.
-use Rattle.std.proofs.Common.{◌≡◌, ℕ, ◌+◌, ◌<◌, ◌≤◌, List, ◌++◌, length, take, sym, ap, ◌∙◌, subst, arith, length-append}
-use Rattle.std.specs.Prelude.{None, Some, Result, Ok, Err}
-use Rattle.std.proofs.lemmas.List.{take_at, take_all}
+use Rattle.std.proofs.Common.{◌≡◌, ℕ, ◌+◌, ◌<◌, ◌≤◌, List, ◌++◌, length, take, sym, ap, ◌∙◌, subst, arith, length-append, None, Some, Result, Ok, Err, take_at, take_all}
 use Rattle.item_defs.proofs.OctetBits.{octets_both}
 use Rattle.bit_pipe.specs.declared.fault.InFault.{InFault}
 use Rattle.bit_pipe.specs.declared.fault.InFault.TheVariants as inputs
@@ -12,8 +10,8 @@ use Rattle.segment_defs.specs.declared.head.SegmentHead.{SegmentHead}
 use Rattle.segment_defs.specs.declared.fault.HeadFault.{HeadFault}
 use Rattle.segment_defs.specs.declared.fault.HeadFault.TheVariants.{HeadShort}
 use Rattle.segment_defs.specs.Reading.{first_refusal, answer, head_read}
-use Rattle.segment_head.proofs.HeadTests.{passed, refused}
-use Rattle.segment_head.proofs.LaterTests.{later_test}
+use Rattle.segment_defs.proofs.HeadTests.{passed, refused}
+use Rattle.segment_defs.proofs.LaterTests.{later_test}
 use Rattle.bare_text.specs.declared.parts.PartsInForce.{PartsInForce}
 use Rattle.bare_text.specs.declared.read.BareHead.{BareHead}
 use Rattle.bare_text.specs.declared.read.BareHeadFault.{BareHeadFault}

@@ -1,8 +1,6 @@
 -- A text holds its items, whatever head is before them.
-use Rattle.std.proofs.Common.{◌≡◌, ℕ, ℤ, ◌+◌, ◌-◌, ◌*◌, ◌/◌, ◌<◌, ◌≤◌, inl, inr, Bool, true, false, cond, List, ◌++◌, length, take, refl, sym, ap, ◌∙◌, subst, arith, append_assoc, length-append}
-use Rattle.std.specs.Prelude.{◌≢◌}
+use Rattle.std.proofs.Common.{◌≡◌, ℕ, ℤ, ◌+◌, ◌-◌, ◌*◌, ◌/◌, ◌<◌, ◌≤◌, inl, inr, Bool, true, false, cond, List, ◌++◌, length, take, refl, sym, ap, ◌∙◌, subst, arith, append_assoc, length-append, ◌≢◌, append-nil, length-take-le}
 use Rattle.std.proofs.lemmas.Bool.{cases_lt, cases_Bool}
-use Rattle.std.proofs.lemmas.List.{append-nil, length-take-le}
 use Rattle.std.proofs.Math.Seq.{take-append-add}
 use Rattle.item_defs.specs.Bits.{copies, octets_of}
 use Rattle.item_defs.specs.Items.{Item, text}
@@ -16,7 +14,7 @@ use Rattle.segment_defs.specs.declared.head.SegmentHead.{SegmentHead}
 use Rattle.segment_defs.specs.Head.{IsHead}
 use Rattle.segment_defs.specs.SegmentItems.{Options, segment_items}
 use Rattle.segment_defs.specs.Text.{text_octets}
-use Rattle.segment_head.proofs.WrittenFields.{octets_of-append}
+use Rattle.segment_defs.proofs.WrittenFields.{octets_of-append}
 use Rattle.text_defs.specs.Fronts.{Front}
 use Rattle.text_defs.specs.Given.{given_blocks}
 use Rattle.text_defs.specs.Spellable.{IsSpellable, AreWordOptions}

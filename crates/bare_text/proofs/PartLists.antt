@@ -1,16 +1,12 @@
 -- Parts put one after another, and split again.
-use Rattle.std.proofs.Common.{◌≡◌, if◌then◌else◌, ℕ, ◌+◌, ◌≤◌, List, [], ◌∷◌, ◌++◌, length, take, drop, Bool, true, false, ◌||◌, refl, sym, ap, ◌∙◌, subst, arith, append_assoc, length-append, length-drop}
-use Rattle.std.proofs.lemmas.List.{append-nil, take_at}
+use Rattle.std.proofs.Common.{◌≡◌, if◌then◌else◌, ℕ, ◌+◌, ◌≤◌, List, [], ◌++◌, length, take, drop, Bool, true, false, ◌||◌, refl, sym, ap, ◌∙◌, subst, arith, append_assoc, length-append, length-drop, append-nil, take_at}
 use Rattle.segment_defs.specs.Fields.{is_set}
 use Rattle.segment_defs.specs.Reading.{part_1_length, after_part_1}
 use Rattle.segment_head.specs.declared.carried.Carried.{Carried}
 use Rattle.segment_head.specs.Parts.{carried_in}
 use Rattle.bare_text.specs.declared.parts.PartsInForce.{PartsInForce}
 use Rattle.bare_text.specs.InForce.{bare_length, second_in, third_in, fourth_in, part_or, rest_after, parts_after}
-
-empty : (l : List ℕ) → length l ≡ 0 → l ≡ []
-empty [] e = refl
-empty (x ∷ l) e = absurd (omega (arith, e))
+use Rattle.segment_code.proofs.ItemEnds.{none_long}
 
 -- three parts put into sixteen octets
 pub three_put : (zeros s t f a b c : List ℕ) → length s ≡ 5 → length t ≡ 3 → length f ≡ 8 → length zeros ≡ 16 →
@@ -21,7 +17,7 @@ three_put zeros s t f a b c ls lt lf lz p q r =
     let second : b ≡ (s ++ t) ++ drop (5 + length t) a = q ∙ ap (λ l. l ++ (t ++ drop (5 + length t) a)) one ∙ sym (append_assoc s t (drop (5 + length t) a)) in
     let two : take 8 b ≡ s ++ t = ap (take 8) second ∙ take_at (s ++ t) (drop (5 + length t) a) 8 (omega (arith, ls, lt, length-append s t)) in
     let lb : length b ≡ 16 = ap length second ∙ omega (arith, ls, lt, la, length-append (s ++ t) (drop (5 + length t) a), length-append s t, length-drop (5 + length t) a) in
-    let none : drop (8 + length f) b ≡ [] = empty (drop (8 + length f) b) (omega (arith, lb, lf, length-drop (8 + length f) b)) in
+    let none : drop (8 + length f) b ≡ [] = none_long (drop (8 + length f) b) (omega (arith, lb, lf, length-drop (8 + length f) b)) in
     r ∙ ap (λ l. l ++ (f ++ drop (8 + length f) b)) two ∙ ap (λ l. (s ++ t) ++ (f ++ l)) none ∙ ap (λ l. (s ++ t) ++ l) (append-nil f) ∙ append_assoc s t f
 
 -- the parts after a head, as code makes them

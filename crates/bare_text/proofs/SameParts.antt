@@ -8,7 +8,7 @@ use Rattle.segment_defs.specs.declared.head.ImagePart.{ImagePart}
 use Rattle.segment_defs.specs.Fields.{number_in, is_set}
 use Rattle.segment_defs.specs.Head.{part_2, part_3, part_4, IsHead, IsImagePart}
 use Rattle.segment_defs.specs.Reading.{stop_in, image_in}
-use Rattle.segment_head.proofs.WrittenFields.{length-bits_in}
+use Rattle.segment_defs.proofs.WrittenFields.{length-bits_in}
 use Rattle.segment_head.proofs.WrittenParts.{says_second, says_third, says_fourth}
 use Rattle.segment_head.proofs.WrittenHeads.{has_whole, length_4}
 use Rattle.bare_text.specs.Writing.{part_octets}

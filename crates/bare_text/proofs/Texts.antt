@@ -1,7 +1,5 @@
 -- A text with a short head that was put into a sink, and ended.
-use Rattle.std.proofs.Common.{◌≡◌, ℕ, ℤ, ◌*◌, ◌≤◌, List, ◌++◌, length, Bool, true, false, inl, inr, subst, arith, length-append}
-use Rattle.std.specs.Prelude.{IsTrue, Option, Result, Ok, Err, MatchResult}
-use Rattle.std.specs.List.{flat_map}
+use Rattle.std.proofs.Common.{◌≡◌, ℕ, ℤ, ◌*◌, ◌≤◌, List, ◌++◌, length, Bool, true, false, inl, inr, subst, arith, length-append, IsTrue, Option, Result, Ok, Err, MatchResult, flat_map}
 use Rattle.item_defs.specs.Items.{text}
 use Rattle.bit_pipe.specs.Sinks.{SinkOf}
 use Rattle.base_122.specs.declared.book.Book.{Book}

@@ -1,13 +1,11 @@
 -- A head that is completed has all parts.
-use Rattle.std.proofs.Common.{◌≡◌, ℕ, ◌+◌, ◌*◌, ◌/◌, ◌%◌, ◌^◌, ◌<◌, ◌≤◌, List, [], ◌∷◌, ◌++◌, length, take, drop, Bool, true, false, ◌==◌, if◌then◌else◌, refl, sym, ap, ◌∙◌, arith, length-append, length-drop}
-use Rattle.std.specs.Prelude.{None}
-use Rattle.std.proofs.lemmas.List.{length-take-le}
+use Rattle.std.proofs.Common.{◌≡◌, ℕ, ◌+◌, ◌*◌, ◌/◌, ◌%◌, ◌^◌, ◌<◌, ◌≤◌, List, [], ◌∷◌, ◌++◌, length, take, drop, Bool, true, false, ◌==◌, if◌then◌else◌, refl, sym, ap, ◌∙◌, arith, length-append, length-drop, None, length-take-le}
 use Rattle.item_defs.specs.Bits.{AreOctets}
 use Rattle.item_defs.proofs.OctetBits.{octets_both, octet_alone}
 use Rattle.segment_defs.specs.Fields.{number_in, is_set}
 use Rattle.segment_defs.specs.Reading.{part_1_length, first_refusal, presence_tests}
 use Rattle.segment_head.proofs.FieldBits.{number_in-within, number_in-read}
-use Rattle.segment_head.proofs.LaterTests.{none_absent}
+use Rattle.segment_defs.proofs.LaterTests.{none_absent}
 use Rattle.bare_text.specs.InForce.{completed_with}
 
 -- ---- the first octets of a completed head

@@ -1,8 +1,5 @@
 -- A head with absent parts is read as it was written.
-use Rattle.std.proofs.Common.{◌≡◌, ℕ, ◌+◌, ◌*◌, ◌<◌, ◌≤◌, List, [], ◌∷◌, ◌++◌, length, take, drop, Bool, true, false, not, ◌||◌, bytes_eq, if◌then◌else◌, refl, sym, ap, ◌∙◌, subst, arith, append_assoc, length-append}
-use Rattle.std.specs.Prelude.{Option, None, Some, Ok}
-use Rattle.std.specs.List.{flat_map}
-use Rattle.std.proofs.lemmas.List.{append-nil, take_at, drop_at}
+use Rattle.std.proofs.Common.{◌≡◌, ℕ, ◌+◌, ◌*◌, ◌<◌, ◌≤◌, List, [], ◌∷◌, ◌++◌, length, take, drop, Bool, true, false, not, ◌||◌, bytes_eq, if◌then◌else◌, refl, sym, ap, ◌∙◌, subst, arith, append_assoc, length-append, Option, None, Some, Ok, flat_map, append-nil, take_at, drop_at}
 use Rattle.std.proofs.lemmas.Slice.Eq.{bytes_eq-Decides}
 use Rattle.std.proofs.Math.Bool.{or-true}
 use Rattle.item_defs.specs.Bits.{octets_of, bits_of_octets}
@@ -15,7 +12,7 @@ use Rattle.segment_defs.specs.Head.{Field, field_bits, head_bits, part_2, part_3
 use Rattle.segment_defs.specs.Reading.{part_1_length, after_part_1, refused_where, first_refusal, head_read}
 use Rattle.segment_head.specs.declared.carried.Carried.{Carried}
 use Rattle.segment_head.specs.Parts.{all_carried, part_1}
-use Rattle.segment_head.proofs.WrittenFields.{octets_of-append, length-bits_in, width_of}
+use Rattle.segment_defs.proofs.WrittenFields.{octets_of-append, length-bits_in, width_of}
 use Rattle.segment_head.proofs.WrittenParts.{Has, number_at, flag_of}
 use Rattle.segment_head.proofs.WrittenHeads.{has_front, length_4, split_bits, head_undoes}
 use Rattle.bare_text.specs.declared.parts.PartsInForce.{PartsInForce}
@@ -26,10 +23,7 @@ use Rattle.bare_text.specs.Laws.{in_force, bare_head}
 use Rattle.bare_text.proofs.FirstPart.{whole_flags}
 use Rattle.bare_text.proofs.HeadLengths.{length_first}
 use Rattle.bare_text.proofs.HeadTests.{read_last}
-
-none_long : (l : List ℕ) → length l ≡ 0 → l ≡ []
-none_long [] e = refl
-none_long (x ∷ l) e = absurd (omega (arith, e))
+use Rattle.segment_code.proofs.ItemEnds.{none_long}
 
 no_bits : octets_of [] ≡ []
 no_bits = none_long (octets_of []) (length-octets_of [])

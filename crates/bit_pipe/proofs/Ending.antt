@@ -1,6 +1,5 @@
 -- A text padded and filled.
-use Rattle.std.proofs.Common.{◌≡◌, ℕ, ◌+◌, ◌-◌, ◌*◌, ◌/◌, ◌%◌, ◌^◌, ◌<◌, ◌≤◌, min, ◌++◌, length, Bool, true, false, sym, ap, subst, ◌∙◌, append_assoc, arith, length-append}
-use Rattle.std.specs.Prelude.{Result, Ok, Err, IsErr}
+use Rattle.std.proofs.Common.{◌≡◌, ℕ, ◌+◌, ◌-◌, ◌*◌, ◌/◌, ◌%◌, ◌^◌, ◌<◌, ◌≤◌, min, ◌++◌, length, Bool, true, false, sym, ap, subst, ◌∙◌, append_assoc, arith, length-append, Result, Ok, Err, IsErr}
 use Rattle.std.proofs.lemmas.Grind.{div_ceil_times}
 use Rattle.item_defs.specs.Bits.{bits_of, copies}
 use Rattle.item_defs.specs.Padding.{rounded, padded_length, padding}

@@ -1,6 +1,5 @@
 -- What an ending says of the items read, and of the answer.
-use Rattle.std.proofs.Common.{◌≡◌, ℕ, ◌+◌, ◌<◌, List, length, Ok, Err, refl, subst}
-use Rattle.std.specs.Prelude.{Result}
+use Rattle.std.proofs.Common.{◌≡◌, ℕ, ◌+◌, ◌<◌, List, length, Ok, Err, refl, subst, Result}
 use Rattle.item_defs.specs.Items.{Item}
 use Rattle.item_defs.specs.Readings.{whole, ended, refused}
 use Rattle.bit_pipe.specs.declared.fault.Part.{Part}

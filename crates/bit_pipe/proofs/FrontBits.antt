@@ -1,7 +1,6 @@
 -- The first bits of octets.
-use Rattle.std.proofs.Common.{◌≡◌, ℕ, ◌+◌, ◌-◌, ◌*◌, ◌/◌, ◌%◌, ◌^◌, ◌<◌, ◌≤◌, ◌++◌, take, refl, sym, ap, ◌∙◌, arith}
+use Rattle.std.proofs.Common.{◌≡◌, ℕ, ◌+◌, ◌-◌, ◌*◌, ◌/◌, ◌%◌, ◌^◌, ◌<◌, ◌≤◌, ◌++◌, take, refl, sym, ap, ◌∙◌, arith, take_at}
 use Rattle.std.proofs.lemmas.Nat.{pow_pos, shr-shr, shr_high, mod_low}
-use Rattle.std.proofs.lemmas.List.{take_at}
 use Rattle.item_defs.specs.Bits.{bits_of}
 use Rattle.item_defs.proofs.NumberBits.{length-bits_of, bits_of-mod, bits_of-split, bits_between, take-bits_of}
 use Rattle.bit_pipe.specs.Fronts.{first_bits, hand_of}

@@ -1,6 +1,5 @@
 -- Items taken by a table.
-use Rattle.std.proofs.Common.{◌≡◌, ℕ, ◌+◌, ◌-◌, ◌/◌, ◌^◌, ◌<◌, ◌≤◌, List, Bool, ◌++◌, refl, sym, ap, subst, ◌∙◌, arith, inl, inr, append-nil}
-use Rattle.std.specs.Prelude.{Ok, Err, Some, None}
+use Rattle.std.proofs.Common.{◌≡◌, ℕ, ◌+◌, ◌-◌, ◌/◌, ◌^◌, ◌<◌, ◌≤◌, List, Bool, ◌++◌, refl, sym, ap, subst, ◌∙◌, arith, inl, inr, append-nil, Ok, Err, Some, None}
 use Rattle.std.proofs.lemmas.Bool.{cases_lt}
 use Rattle.item_defs.specs.Bits.{bits_of}
 use Rattle.item_defs.specs.Items.{Item, item_bits, spelling}

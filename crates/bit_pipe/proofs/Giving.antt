@@ -1,7 +1,5 @@
 -- Octets given one after another.
-use Rattle.std.proofs.Common.{ℕ, ◌<◌, ◌≤◌, List, [], ◌∷◌, ◌++◌, Bool, sym, ap, ◌∙◌, append_assoc, arith, length-append}
-use Rattle.std.specs.Prelude.{Result, Ok, Err, IsErr}
-use Rattle.std.proofs.lemmas.List.{append-nil}
+use Rattle.std.proofs.Common.{ℕ, ◌<◌, ◌≤◌, List, [], ◌∷◌, ◌++◌, Bool, sym, ap, ◌∙◌, append_assoc, arith, length-append, Result, Ok, Err, IsErr, append-nil}
 use Rattle.item_defs.specs.Bits.{bits_of, bits_of_octets}
 use Rattle.item_defs.proofs.NumberBits.{length-bits_of}
 use Rattle.item_defs.proofs.OctetBits.{no_octets, octets_one, octets_append, octets_nil, octets_both, octet_alone}

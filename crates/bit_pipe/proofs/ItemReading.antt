@@ -1,7 +1,5 @@
 -- Items read one after another.
-use Rattle.std.proofs.Common.{◌≡◌, ℕ, ◌+◌, ◌<◌, ◌≤◌, List, ◌++◌, length, get_or, take, map, ap, ◌∙◌, arith, length-append}
-use Rattle.std.specs.Prelude.{Ok, Err, None}
-use Rattle.std.proofs.Math.ListN.{set}
+use Rattle.std.proofs.Common.{◌≡◌, ℕ, ◌+◌, ◌<◌, ◌≤◌, List, ◌++◌, length, get_or, take, map, ap, ◌∙◌, arith, length-append, Ok, Err, None, set}
 use Rattle.std.proofs.lemmas.List.{take-append-le, take_all, take-map, length-map}
 use Rattle.item_defs.specs.Items.{Item, Form, Refusal, item_bits, text, spelling}
 use Rattle.item_defs.specs.Readings.{item_at, whole, ended, refused}

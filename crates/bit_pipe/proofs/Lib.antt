@@ -5,7 +5,6 @@ pub mod PuttingEach
 pub mod Taking
 pub mod ItemReading
 pub mod OneItem
-pub mod ReadStops
 pub mod OctetSteps
 mod BitSteps
 mod ZeroSteps

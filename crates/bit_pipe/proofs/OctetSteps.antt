@@ -1,6 +1,5 @@
 -- Octets of a number and octets of zeros, one more at a time.
-use Rattle.std.proofs.Common.{◌≡◌, ℕ, ◌+◌, ◌-◌, ◌*◌, ◌/◌, ◌%◌, ◌^◌, ◌<◌, ◌≤◌, [], ◌++◌, false, sym, ap, subst, ◌∙◌, append_assoc, arith}
-use Rattle.std.specs.Prelude.{bit_and, Result, Ok, Err}
+use Rattle.std.proofs.Common.{◌≡◌, ℕ, ◌+◌, ◌-◌, ◌*◌, ◌/◌, ◌%◌, ◌^◌, ◌<◌, ◌≤◌, [], ◌++◌, false, sym, ap, subst, ◌∙◌, append_assoc, arith, bit_and, Result, Ok, Err}
 use Rattle.std.proofs.lemmas.Nat.{and_mask, mod_below, one_shl, pow_pos}
 use Rattle.item_defs.specs.Bits.{bits_of, copies}
 use Rattle.item_defs.proofs.BitLists.{copies_none, copies_then, length-copies}

@@ -1,6 +1,5 @@
 -- One item read.
-use Rattle.std.proofs.Common.{◌≡◌, ℕ, [], ◌∷◌, arith, subst, sym}
-use Rattle.std.specs.Prelude.{None, Some, Ok, Err}
+use Rattle.std.proofs.Common.{◌≡◌, ℕ, [], ◌∷◌, arith, subst, sym, None, Some, Ok, Err}
 use Rattle.item_defs.specs.Items.{Item, Refusal, item_bits, spelling, IsSaid}
 use Rattle.item_defs.specs.Readings.{whole, ended, refused}
 use Rattle.item_defs.proofs.Texts.{text-one}

@@ -1,8 +1,6 @@
 -- The first bits of an octet, and numbers made of them.
-use Rattle.std.proofs.Common.{◌≡◌, ℕ, ◌+◌, ◌-◌, ◌*◌, ◌/◌, ◌%◌, ◌^◌, ◌<◌, ◌≤◌, [], ◌∷◌, ◌++◌, sym, ap, subst, ◌∙◌, arith}
-use Rattle.std.specs.Prelude.{bit_and, bit_or, nat_eq, min, Ok, Some}
-use Rattle.std.proofs.lemmas.Nat.{and_mask, one_shl, mod_below, pow_pos, shl_whole, or_shifted, pow-add, mul-add-lt}
-use Rattle.std.proofs.Math.Pow.{pow_mono}
+use Rattle.std.proofs.Common.{◌≡◌, ℕ, ◌+◌, ◌-◌, ◌*◌, ◌/◌, ◌%◌, ◌^◌, ◌<◌, ◌≤◌, [], ◌∷◌, ◌++◌, sym, ap, subst, ◌∙◌, arith, bit_and, bit_or, nat_eq, min, Ok, Some}
+use Rattle.std.proofs.lemmas.Nat.{and_mask, one_shl, shl_whole, or_shifted, pow-add, mul-add-lt}
 use Rattle.item_defs.specs.Bits.{bits_of}
 use Rattle.item_defs.proofs.NumberBits.{bits_of-mod, bits_of-split, bits_join, bits_first, bit_is, length-bits_of}
 use Rattle.bit_pipe.specs.declared.piece.Piece.{Piece}
@@ -16,12 +14,6 @@ first_value : (bits count : ℕ) → count ≤ 8 → bit_and bits ((1 * 2 ^ coun
 first_value bits count le =
     let one : (1 * 2 ^ count) % 2 ^ 16 ≡ 2 ^ count = one_shl count 16 (omega arith) in
     ap (λ n. bit_and bits (n - 1)) one ∙ and_mask bits count
-
-pub first_fits : (bits count : ℕ) → count ≤ 8 → bit_and bits ((1 * 2 ^ count) % 2 ^ 16 - 1) < 2 ^ count
-first_fits bits count le = let v = first_value bits count le in omega (arith, v, mod_below bits (2 ^ count) (pow_pos count))
-
-pub first_small : (bits count : ℕ) → count ≤ 8 → bit_and bits ((1 * 2 ^ count) % 2 ^ 16 - 1) < 2 ^ 8
-first_small bits count le = omega (arith, first_fits bits count le, pow_mono le)
 
 pub first_bits : (octet o left count : ℕ) → o ≡ octet → count ≤ 8 → count ≤ left →
     bits_of left octet ≡ bits_of count (bit_and (o / 2 ^ (left - count)) ((1 * 2 ^ count) % 2 ^ 16 - 1)) ++ bits_of (left - count) octet

@@ -1,6 +1,5 @@
 -- Bits put one after another.
-use Rattle.std.proofs.Common.{◌≡◌, ℕ, ◌+◌, ◌-◌, ◌<◌, List, [], ◌++◌, length, take, Bool, refl, sym, ap, subst, ◌∙◌, append_assoc, arith, length-append, inl, inr}
-use Rattle.std.specs.Prelude.{Result, Ok, Err}
+use Rattle.std.proofs.Common.{◌≡◌, ℕ, ◌+◌, ◌-◌, ◌<◌, List, [], ◌++◌, length, take, Bool, refl, sym, ap, subst, ◌∙◌, append_assoc, arith, length-append, inl, inr, Result, Ok, Err}
 use Rattle.std.proofs.lemmas.Bool.{cases_lt}
 use Rattle.std.proofs.lemmas.List.{append-nil, take-append-le, take_all}
 use Rattle.item_defs.proofs.BitLists.{take_past}
@@ -113,11 +112,6 @@ puts_none k s xs h e lt =
 
 pub open_later : {S : Type 0} {k : SinkOf S} {a b : Standing S} {xs : List Bool} → IsOpen a → Adds k a b xs → IsOpen b
 open_later {S} {k} {a} {b} {xs} h p = record { whole = omega (arith, h.whole, p.used, p.room, p.bound); bound = rw p.bound h.bound; pending = p.pending }
-
-ends_name : {S T : Type 0} (k : SinkOf S) (r : Result T PutFault) (a b : Standing S) (xs : List Bool) → EndsPut k r a b xs → b.name ≡ a.name
-ends_name k (Ok x) a b xs p = p.name
-ends_name k (Err Stopped) a b xs p = p.1.name
-ends_name k (Err WriteFault) a b xs p = p.name
 
 -- after a call that put its bits, more may be put
 pub open_after : {S T : Type 0} {k : SinkOf S} {x : T} {a b : Standing S} {xs : List Bool} → IsOpen a → Puts k (Ok x) a b xs → IsOpen b

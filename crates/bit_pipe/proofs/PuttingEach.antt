@@ -1,6 +1,5 @@
 -- Items put one after another, as a loop over a list does.
-use Rattle.std.proofs.Common.{ℕ, ◌+◌, ◌<◌, ◌≤◌, List, length, get_or, take, drop, map}
-use Rattle.std.specs.Prelude.{Ok, Err}
+use Rattle.std.proofs.Common.{ℕ, ◌+◌, ◌<◌, ◌≤◌, List, length, get_or, take, drop, map, Ok, Err}
 use Rattle.item_defs.specs.Items.{Item, item_bits, text}
 use Rattle.item_defs.proofs.Texts.{text_more, text_goes_on, text_all}
 use Rattle.bit_pipe.specs.Sinks.{SinkOf}

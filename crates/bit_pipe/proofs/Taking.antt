@@ -1,7 +1,5 @@
 -- Bits taken one after another.
-use Rattle.std.proofs.Common.{◌≡◌, ℕ, ◌+◌, ◌-◌, ◌<◌, ◌≤◌, List, [], ◌∷◌, ◌++◌, length, Bool, inl, inr, refl, sym, ap, ◌∙◌, append_assoc, arith, length-append}
-use Rattle.std.specs.Prelude.{Option, None, Some, Ok, Err}
-use Rattle.std.proofs.lemmas.List.{append-nil}
+use Rattle.std.proofs.Common.{◌≡◌, ℕ, ◌+◌, ◌-◌, ◌<◌, ◌≤◌, List, [], ◌∷◌, ◌++◌, length, Bool, inl, inr, refl, sym, ap, ◌∙◌, append_assoc, arith, length-append, Option, None, Some, Ok, Err, append-nil}
 use Rattle.bit_pipe.proofs.Putting.{regroup}
 use Rattle.item_defs.specs.Bits.{bits_of, bits_of_octets}
 use Rattle.item_defs.proofs.NumberBits.{bits_none, length-bits_of}

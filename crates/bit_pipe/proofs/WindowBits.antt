@@ -1,10 +1,7 @@
 -- Bits that are available, as one number.
-use Rattle.std.proofs.Common.{◌≡◌, ℕ, ◌+◌, ◌-◌, ◌*◌, ◌/◌, ◌%◌, ◌^◌, ◌<◌, ◌≤◌, List, ◌++◌, length, take, drop, refl, sym, ap, subst, ◌∙◌, arith}
-use Rattle.std.specs.Prelude.{bit_and, bit_or}
+use Rattle.std.proofs.Common.{◌≡◌, ℕ, ◌+◌, ◌-◌, ◌*◌, ◌/◌, ◌%◌, ◌^◌, ◌<◌, ◌≤◌, List, ◌++◌, length, take, drop, refl, sym, ap, subst, ◌∙◌, arith, bit_and, bit_or, take_at, take-take, take-append-drop, length-take-le, pow_mono}
 use Rattle.std.specs.Int.{w64, to_be_bytes}
 use Rattle.std.proofs.lemmas.Nat.{pow_pos, shr-shr, shr_high, mod_low, and_mask, shr_below}
-use Rattle.std.proofs.lemmas.List.{take_at, take-take, take-append-drop, length-take-le}
-use Rattle.std.proofs.Math.Pow.{pow_mono}
 use Rattle.std.proofs.lemmas.List.Elements.{All-take}
 use Rattle.std.specs.Array.{IsFirstChunk}
 use Rattle.item_defs.specs.Bits.{bits_of, bits_of_octets, AreOctets}

@@ -1,6 +1,5 @@
 -- Zeros put a number of them at a time.
-use Rattle.std.proofs.Common.{◌≡◌, ℕ, ◌+◌, ◌-◌, ◌≤◌, ◌++◌, false, sym, ap, subst, ◌∙◌, arith}
-use Rattle.std.specs.Prelude.{Result, Err}
+use Rattle.std.proofs.Common.{◌≡◌, ℕ, ◌+◌, ◌-◌, ◌≤◌, ◌++◌, false, sym, ap, subst, ◌∙◌, arith, Result, Err}
 use Rattle.item_defs.specs.Bits.{bits_of, copies}
 use Rattle.item_defs.proofs.BitLists.{copies_none, copies_then}
 use Rattle.item_defs.proofs.NumberBits.{bits_of_zero}

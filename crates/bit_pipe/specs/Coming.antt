@@ -1,9 +1,9 @@
 -- Bits that are read from octets.
-use Rattle.std.specs.Prelude.{◌≡◌, ◌≤◌, ◌<◌, ◌⊎◌, ℕ, ◌+◌, ◌*◌, ◌^◌, List, [], ◌∷◌, ◌++◌, length, take, Bool, Option, None, Some, Result, Ok, Err}
+use Rattle.std.specs.Prelude.{◌≡◌, ◌≤◌, ◌<◌, ◌⊎◌, ℕ, ◌+◌, ◌*◌, ◌^◌, List, [], ◌∷◌, ◌++◌, length, Bool, Option, None, Some, Result, Ok, Err}
 use Rattle.item_defs.specs.Bits.{bits_of, bits_of_octets, AreOctets}
 use Rattle.item_defs.specs.Items.{Shape, IsSaid, spelling}
 use Rattle.item_defs.specs.Readings.{Lacks}
-use Rattle.bit_pipe.specs.Sources.{Tail, SourceOf, Comes, IsOver, Plainly, Fails}
+use Rattle.bit_pipe.specs.Sources.{SourceOf, Comes, IsOver, Plainly, Fails}
 use Rattle.bit_pipe.specs.declared.fault.InFault.{InFault}
 use Rattle.bit_pipe.specs.declared.bit_in.BitIn.{BitIn}
 
@@ -24,10 +24,6 @@ coming b = record {
   room = b.room;
   name = b.input.ghost_name;
 }
-
--- the bits that are left up to the bound, if the source gives what is left
-abbrev pub bits_to_come : {I : Type 0} → Coming I → Tail → List Bool
-bits_to_come s tail = take s.room (s.pending ++ bits_of_octets tail.octets)
 
 -- bits may be taken
 pub record IsIn {I : Type 0} (s : Coming I) : Type 0 where

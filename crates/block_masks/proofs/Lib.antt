@@ -12,3 +12,4 @@ pub mod Marking
 pub mod Agreeing
 pub mod MaskParts
 pub mod Bands
+pub mod Equations

@@ -1,6 +1,5 @@
 -- Masks of masks, bit by bit.
-use Rattle.std.proofs.Common.{◌≡◌, ℕ, zero, suc, ◌+◌, ◌-◌, ◌*◌, ◌/◌, ◌%◌, ◌<◌, ◌≤◌, ◌^◌, inl, inr, min, max, Bool, true, false, not, ◌&&◌, ◌||◌, nat_eq, bit_and, bit_or, bit_xor, ap, sym, ◌∙◌, subst, arith, w64, shr-shr, eq-zero-or-pos, add-one}
-use Rattle.std.specs.Prelude.{◌==◌}
+use Rattle.std.proofs.Common.{◌≡◌, ℕ, zero, suc, ◌+◌, ◌-◌, ◌*◌, ◌/◌, ◌%◌, ◌<◌, ◌≤◌, ◌^◌, inl, inr, min, max, Bool, true, false, not, ◌&&◌, ◌||◌, nat_eq, bit_and, bit_or, bit_xor, ap, sym, ◌∙◌, subst, arith, w64, shr-shr, eq-zero-or-pos, add-one, ◌==◌}
 use Rattle.std.specs.Int.{trailing_zeros}
 use Rattle.std.specs.List.{list_any}
 use Rattle.std.proofs.Math.Bool.{and-true}

@@ -1,9 +1,7 @@
 -- The tables of what is picked and of what is spread, entry by entry.
-use Rattle.std.proofs.Math.Pow.{pow_mono}
 use Rattle.std.proofs.lemmas.Bool.{cases_lt, eqb-true, eqb-false, ltb-true, lt-ltb, false≢true}
 use Rattle.std.proofs.lemmas.Nat.Bits.{bit_at_above}
-use Rattle.std.proofs.Common.{◌≡◌, inl, inr, ◌≤◌, ◌-◌, ℕ, zero, suc, ◌+◌, ◌*◌, ◌/◌, ◌%◌, ◌^◌, ◌<◌, Bool, true, false, not, ◌&&◌, cond, List, [], ◌∷◌, ◌++◌, length, map, filter, nat_lt, slice_index_or, refl, ap, sym, ◌∙◌, subst, arith, length-append}
-use Rattle.std.specs.Prelude.{◌==◌, ◌||◌, count_ones}
+use Rattle.std.proofs.Common.{◌≡◌, inl, inr, ◌≤◌, ◌-◌, ℕ, zero, suc, ◌+◌, ◌*◌, ◌/◌, ◌%◌, ◌^◌, ◌<◌, Bool, true, false, not, ◌&&◌, cond, List, [], ◌∷◌, ◌++◌, length, map, filter, nat_lt, slice_index_or, refl, ap, sym, ◌∙◌, subst, arith, length-append, pow_mono, ◌==◌, ◌||◌, count_ones}
 use Rattle.std.specs.List.{list_all}
 use Rattle.std.proofs.lemmas.Bool.Decides.{nat_tests}
 use Rattle.item_defs.specs.Bits.{bit, digit, value_of}
@@ -42,10 +40,10 @@ fitting_entry i j hi hj =
 abbrev four : Bool → Bool → Bool → Bool → ℕ
 four a b c d = digit a + 2 * digit b + 4 * digit c + 8 * digit d
 
-digit_of : (n : ℕ) (b : Bool) → n < 2 → (n == 1) ≡ b → n ≡ digit b
+pub digit_of : (n : ℕ) (b : Bool) → n < 2 → (n == 1) ≡ b → n ≡ digit b
 digit_of n b small e = grind (arith, nat_tests)
 
-four_is : (m start : ℕ) (f : ℕ → Bool) → Shows m f start 4 → m ≡ four (f (start + 0)) (f (start + 1)) (f (start + 2)) (f (start + 3))
+pub four_is : (m start : ℕ) (f : ℕ → Bool) → Shows m f start 4 → m ≡ four (f (start + 0)) (f (start + 1)) (f (start + 2)) (f (start + 3))
 four_is m start f p = grind (arith, nat_tests, digit_of)
 
 -- ---- what is picked of four
@@ -71,7 +69,7 @@ chosen_is f g start =
 abbrev each : (Bool → Bool) → Bool
 each p = p true && p false
 
-of_each : (p : Bool → Bool) → each p ≡ true → (b : Bool) → p b ≡ true
+pub of_each : (p : Bool → Bool) → each p ≡ true → (b : Bool) → p b ≡ true
 of_each p all b = grind (arith, nat_tests, and-left, and-right)
 
 abbrev agrees : Bool → Bool → Bool → Bool → Bool → Bool → Bool → Bool → Bool
@@ -285,7 +283,7 @@ all_ones : each_four (λ p q r s. ones_there p q r s) ≡ true
 unfolding lib.Count.ones
 all_ones = refl
 
-or_from : (a b : Bool) → (not a || b) ≡ true → a ≡ true → b ≡ true
+pub or_from : (a b : Bool) → (not a || b) ≡ true → a ≡ true → b ≡ true
 or_from a b e h = grind (arith, nat_tests, false≢true)
 
 -- the bits that are at the due places

@@ -1,12 +1,10 @@
 -- Sixteen numbers that are given a bit and a sign.
-use Rattle.std.proofs.Common.{◌≡◌, inl, inr, ℕ, zero, suc, ◌+◌, ◌-◌, ◌*◌, ◌%◌, ◌<◌, ◌≤◌, ◌^◌, ℤ, pos, negsuc, neg_ℤ, Bool, true, false, not, cond, List, [], length, map, get_or, replicate, unsigned_abs, bit_and, bit_or, FitsSigned, refl, ap, sym, ◌∙◌, subst, arith, w32, nat_eq}
-use Rattle.std.specs.Prelude.{◌||◌, ◌&&◌, if◌then◌else◌}
+use Rattle.std.proofs.Common.{◌≡◌, inl, inr, ℕ, zero, suc, ◌+◌, ◌-◌, ◌*◌, ◌%◌, ◌<◌, ◌≤◌, ◌^◌, ℤ, pos, negsuc, neg_ℤ, Bool, true, false, not, cond, List, length, map, get_or, replicate, unsigned_abs, bit_and, bit_or, FitsSigned, refl, ap, sym, ◌∙◌, subst, arith, w32, nat_eq, ◌||◌, ◌&&◌, if◌then◌else◌, pow_mono}
 use Rattle.std.specs.List.{range_with_len}
 use Rattle.std.specs.Int.{bit_at}
 use Rattle.std.specs.Int.Bits.{bit_xor, or_add_and, xor_add_and, xor_zero_r, or_zero_r}
 use Rattle.std.specs.Simd.Lanes.{top, zip2, sel_l}
 use Rattle.std.proofs.Math.Facts.{sfits_to_z}
-use Rattle.std.proofs.Math.Pow.{pow_mono}
 use Rattle.std.proofs.lemmas.Nat.{pow_pos, and_mask, and_comm}
 use Rattle.std.proofs.lemmas.Nat.Bits.{and_pow}
 use Rattle.std.proofs.lemmas.Int.{ints}

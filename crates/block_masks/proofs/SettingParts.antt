@@ -1,6 +1,5 @@
 -- A block whose numbers are given a bit, sixteen positions after sixteen.
-use Rattle.std.proofs.Common.{◌≡◌, inl, inr, ℕ, ◌+◌, ◌-◌, ◌<◌, ◌≤◌, ◌^◌, ℤ, pos, true, false, List, length, map, get_or, FitsSigned, refl, ap, sym, ◌∙◌, subst, arith, w32}
-use Rattle.std.specs.Prelude.{◌==◌, ◌&&◌, unsigned_abs}
+use Rattle.std.proofs.Common.{◌≡◌, inl, inr, ℕ, ◌+◌, ◌-◌, ◌<◌, ◌≤◌, ◌^◌, ℤ, pos, true, false, List, length, map, get_or, FitsSigned, refl, ap, sym, ◌∙◌, subst, arith, w32, ◌==◌, ◌&&◌, unsigned_abs}
 use Rattle.std.specs.Simd.Lanes.{chunk, put_chunk}
 use Rattle.std.proofs.lemmas.Bool.{cases_lt, false≢true}
 use Rattle.std.proofs.lemmas.Int.{to_z-of_z}

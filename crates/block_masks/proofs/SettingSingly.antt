@@ -1,10 +1,7 @@
 -- Numbers of a block that are given a bit, one after the other.
-use Rattle.std.proofs.Common.{◌≡◌, ◌≢◌, inl, inr, ℕ, ◌+◌, ◌*◌, ◌%◌, ◌<◌, ◌≤◌, ◌^◌, Bool, true, false, not, List, length, set, get_or, bit_and, bit_or, refl, ap, sym, ◌∙◌, subst, arith, ℤ, pos, neg_ℤ, ◌-ℤ◌, to_z, of_z, w32}
-use Rattle.std.specs.Prelude.{◌||◌, unsigned_abs, if◌then◌else◌}
-use Rattle.std.proofs.Math.Pow.{pow_mono}
+use Rattle.std.proofs.Common.{◌≡◌, ◌≢◌, inl, inr, ℕ, ◌+◌, ◌*◌, ◌%◌, ◌<◌, ◌≤◌, ◌^◌, Bool, true, false, not, List, length, set, get_or, bit_and, bit_or, refl, ap, sym, ◌∙◌, subst, arith, ℤ, pos, neg_ℤ, ◌-ℤ◌, to_z, of_z, w32, ◌||◌, unsigned_abs, if◌then◌else◌, pow_mono, get_or-set_same, get_or-set_other, length-set}
 use Rattle.std.proofs.lemmas.Bool.{cases_eq, true≢false}
 use Rattle.std.proofs.lemmas.Int.{ints, to_z-of_z}
-use Rattle.std.proofs.lemmas.List.{get_or-set_same, get_or-set_other, length-set}
 use Rattle.std.proofs.lemmas.Nat.{and_mask}
 use Rattle.std.proofs.lemmas.Bool.Decides.{nat_tests}
 use lib.Signed.{lt_z}
@@ -33,7 +30,7 @@ size_kept n plane small low =
 taken_from_zero : (n : ℕ) → n < 2147483648 → to_z w32 (of_z w32 (pos 0 -ℤ to_z w32 n)) ≡ neg_ℤ (pos n)
 taken_from_zero n small = omega (arith, ints)
 
-as_positive : (n : ℕ) → n < 2147483648 → to_z w32 n ≡ pos n
+pub as_positive : (n : ℕ) → n < 2147483648 → to_z w32 n ≡ pos n
 as_positive n small = omega (arith, ints)
 
 module _ (z : ℤ) (plane : ℕ) (minus : Bool) (small : unsigned_abs z < 2 ^ 30) (low : plane < 27) where

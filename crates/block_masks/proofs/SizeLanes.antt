@@ -1,8 +1,6 @@
 -- The magnitudes of sixteen numbers, and their bits.
-use Rattle.std.proofs.Common.{◌≡◌, ℕ, ◌+◌, ◌-◌, ◌*◌, ◌%◌, ◌<◌, ◌≤◌, ◌^◌, ℤ, pos, Bool, not, cond, eqb, List, [], ◌∷◌, length, map, get_or, replicate, unsigned_abs, bit_and, FitsSigned, refl, ap, sym, ◌∙◌, subst, arith, w32}
+use Rattle.std.proofs.Common.{◌≡◌, ℕ, ◌+◌, ◌-◌, ◌*◌, ◌%◌, ◌<◌, ◌≤◌, ◌^◌, ℤ, pos, Bool, not, cond, eqb, List, [], ◌∷◌, length, map, get_or, replicate, unsigned_abs, bit_and, FitsSigned, refl, ap, sym, ◌∙◌, subst, arith, w32, pow_mono, map-id}
 use Rattle.std.specs.Simd.Lanes.{mask_l, top, zip2, sel_l}
-use Rattle.std.proofs.Math.Pow.{pow_mono}
-use Rattle.std.proofs.lemmas.List.{map-id}
 use Rattle.std.proofs.lemmas.Nat.Bits.{and_pow}
 use Rattle.std.proofs.lemmas.Simd.{zip2_splat_left, zip2_of_maps, splat_is_map, map-map}
 use Rattle.std.proofs.lemmas.Bool.Decides.{nat_tests}

@@ -1,9 +1,6 @@
 -- What the masks of a block say of its positions and sets.
-use Rattle.std.proofs.Common.{◌≡◌, ℕ, ◌+◌, ◌*◌, ◌/◌, ◌%◌, ◌^◌, ◌<◌, ◌≤◌, ℤ, Bool, true, false, ◌||◌, List, ◌++◌, nat_le, ap, sym, ◌∙◌, subst, arith, zero-add, zero, suc, add-one}
-use Rattle.std.specs.Prelude.{◌==◌}
+use Rattle.std.proofs.Common.{◌≡◌, ℕ, ◌+◌, ◌*◌, ◌/◌, ◌%◌, ◌^◌, ◌<◌, ◌≤◌, ℤ, Bool, true, false, ◌||◌, List, ◌++◌, nat_le, ap, sym, ◌∙◌, subst, arith, zero-add, zero, suc, add-one, ◌==◌, pow-suc, pow_mono}
 use Rattle.std.specs.List.{list_any}
-use Rattle.std.proofs.Math.Nat.{pow-suc}
-use Rattle.std.proofs.Math.Pow.{pow_mono}
 use Rattle.std.proofs.lemmas.List.Folds.{list_any-append}
 use Rattle.std.proofs.lemmas.Nat.{pow_pos, mod_below, div-add-mod'}
 use Rattle.item_defs.specs.Bits.{bit}

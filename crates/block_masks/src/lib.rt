@@ -2,10 +2,10 @@
 //! share (docs/formats.md, "Bit planes").
 //!
 //! Bit k of a mask is for the k-th position. `plan` makes a `CodedPlane` of a `PlanePlan`, once for all blocks. `masks` reads
-//! a block, `nibbles` makes masks of masks, `sets` finds the sets of positions that have a member of a mask, and `picks`
+//! a block, `mask_sets` makes masks of masks, `sets` finds the sets of positions that have a member of a mask, and `picks`
 //! collects the bits of up to four positions. `walk` goes over the positions of a mask, and `setting` gives the numbers at
-//! them a bit. `stages` has the stages by their numbers. From one stage to the next `gaggle` keeps in the states of blocks
-//! which options and words the gaggles have, and which families of a block are significant.
+//! them a bit. From one stage to the next `gaggle` keeps in the states of blocks which options and words the gaggles have, and
+//! which families of a block are significant.
 #![tactic(auto)]
 
 mod gaggle;
@@ -15,7 +15,6 @@ mod picks;
 mod plan;
 mod sets;
 mod setting;
-mod stages;
 mod walk;
 
 pub use gaggle::{Gaggle, depth_of, families_of, gaggle_in, load, mark_of, store, with_families};
@@ -25,5 +24,4 @@ pub use picks::{pick, spread, spread_first};
 pub use plan::{CodedPlane, PlanePlan};
 pub use sets::{Sets, fours_of, is_any_of, quads_of};
 pub use setting::set_bits;
-pub use stages::stage_at;
 pub use walk::{Parted, first_in, split_lowest, without};

@@ -1,6 +1,5 @@
 -- A book that was read whole, and which books are read.
-use Rattle.std.proofs.Common.{◌≡◌, ◌<◌, ℕ, Bool, true, false, List, [], length, refl, sym, ap, ◌∙◌, subst, arith, Option, None, Some, IfSome, IfOk, IfErr, IsTrue, Result, Ok, Err, if◌then◌else◌}
-use Rattle.std.proofs.lemmas.List.{take_all}
+use Rattle.std.proofs.Common.{◌≡◌, ◌<◌, ℕ, Bool, true, false, List, [], length, refl, sym, ap, ◌∙◌, subst, arith, Option, None, Some, IfSome, IfOk, IfErr, IsTrue, Result, Ok, Err, if◌then◌else◌, take_all}
 use Rattle.std.proofs.lemmas.Bool.Decides.{nat_tests}
 use Rattle.port_122.specs.Outside.{Outside, Exchange}
 use Rattle.base_122.specs.declared.book.Book.{Book}

@@ -1,6 +1,5 @@
 -- Two codes of which one is a prefix of the other, found one after another.
-use Rattle.std.proofs.Common.{◌≡◌, ◌≤◌, ◌<◌, ◌+◌, ◌-◌, ◌/◌, ◌^◌, ℕ, suc, Bool, true, false, List, [], ◌∷◌, length, refl, ap, subst, ◌∙◌, arith}
-use Rattle.std.specs.Prelude.{◌==◌, ◌||◌, not, if◌then◌else◌, Option, Some, None}
+use Rattle.std.proofs.Common.{◌≡◌, ◌≤◌, ◌<◌, ◌+◌, ◌-◌, ◌/◌, ◌^◌, ℕ, suc, Bool, true, false, List, [], ◌∷◌, length, ap, subst, ◌∙◌, arith, ◌==◌, ◌||◌, Option, Some, None}
 use Rattle.std.specs.List.{list_all}
 use Rattle.std.proofs.lemmas.Bool.{false≢true}
 use Rattle.std.proofs.lemmas.Bool.Decides.{nat_tests}
@@ -9,6 +8,7 @@ use Rattle.item_defs.proofs.NumberBits.{length-bits_of}
 use Rattle.base_122.specs.declared.book.Code.{Code}
 use Rattle.plane_defs.specs.Spans.{span}
 use Rattle.plane_defs.specs.Codes.{code_bits, is_prefix}
+use Rattle.plane_defs.proofs.Counting.{same, bits_agree, all_agree}
 use Rattle.plane_defs.proofs.Tables.{list_all-span-at, list_all-span-zero}
 use Rattle.code_book.specs.declared.fault.BookFault.{BookFault}
 use Rattle.code_book.specs.declared.fault.BookFault.TheVariants.{Clash}
@@ -30,16 +30,6 @@ module _ (t : ℕ) (codes : List Code) (count : ℕ) where
   clash_nowhere whole i bound so_far le = let e : bound - i ≡ 0 = omega (arith, le) in so_far ∙ ap (clash_from t codes count i) e
 
 -- ---- a code is a prefix of another one if its bits are the other's first ones: tested for all codes
-
-abbrev same : Bool → Bool → Bool
-same b c = if b then c else not c
-
-abbrev bits_agree : (n m : ℕ) → Bool
-bits_agree n m = list_all (λ x. list_all (λ y. same (is_prefix (bits_of n x) (bits_of m y)) (y / 2 ^ (m - n) == x)) (span 0 (2 ^ m))) (span 0 (2 ^ n))
-
-all_agree : list_all (λ m. list_all (λ n. bits_agree n m) (span 1 m)) (span 1 8) ≡ true
-unfolding span bits_of
-all_agree = refl
 
 same_so : (b c : Bool) → same b c ≡ true → b ≡ c
 same_so b c e = grind (arith, nat_tests, false≢true)

@@ -1,4 +1,3 @@
-pub mod Counting
 pub mod Rooms
 pub mod Firsts
 pub mod Checks

@@ -1,33 +1,17 @@
 -- A table whose codes are free of prefixes is sound exactly if they leave no room.
-use Rattle.std.proofs.Common.{◌≡◌, inl, inr, ◌≤◌, ◌<◌, ◌+◌, ◌-◌, ◌^◌, ℕ, zero, suc, List, [], ◌∷◌, refl, sym, subst, ◌∙◌, arith}
-use Rattle.std.specs.Prelude.{Bool, true, false, ◌==◌, ◌&&◌, ◌||◌, count_by, nat_le}
-use Rattle.std.specs.List.{list_all, sum_by}
-use Rattle.std.proofs.lemmas.Bool.{cases_lt, false≢true, eqb-true, eq-eqb, or_left, or_right}
+use Rattle.std.proofs.Common.{◌≡◌, inl, inr, ◌≤◌, ◌<◌, ◌+◌, ◌-◌, ◌^◌, ℕ, List, refl, sym, subst, ◌∙◌, arith, Bool, true, false, ◌==◌, ◌&&◌, ◌||◌, count_by, nat_le, sum_by}
+use Rattle.std.proofs.lemmas.Bool.{cases_lt, false≢true, eqb-true, eq-eqb, or_left, or_right, le-leb}
 use Rattle.std.proofs.lemmas.Bool.Decides.{nat_tests}
-use Rattle.std.proofs.lemmas.List.Folds.{list_all-append}
 use Rattle.plane_defs.proofs.ReadOnce.{count_one, counted_somewhere}
 use Rattle.item_defs.specs.Bits.{bits_of}
 use Rattle.base_122.specs.declared.book.Code.{Code}
 use Rattle.plane_defs.specs.Spans.{span}
 use Rattle.plane_defs.specs.Codes.{code_bits, entry, is_prefix, is_table_sound}
-use Rattle.plane_defs.proofs.Tables.{list_all-span-at, list_all-span-zero}
+use Rattle.plane_defs.proofs.Tables.{list_all-span, list_all-span-at, list_all-span-zero}
 use Rattle.code_book.specs.Sound.{IsCode, AreCodes, IsTableSound}
 use Rattle.code_book.specs.Tests.{clashes, room, room_of}
-use Rattle.code_book.proofs.Counting.{counted_twice, count_once, sum_same, sum_full, sum_ones, nested, leaves_room, rooms}
-
-least : (m n : ℕ) → m ≤ n → nat_le m n ≡ true
-least m n le = grind (arith, nat_tests)
-
--- a property of each place is one of all
-pub all_span : (p : ℕ → Bool) (n : ℕ) → ((k : ℕ) → k < n → p k ≡ true) → list_all p (span 0 n) ≡ true
-unfolding span
-all_span p zero each = refl
-all_span p (suc n) each =
-    let last : p (0 + n) ≡ true = each (0 + n) (omega arith) in
-    list_all-append p (span 0 n) ((0 + n) ∷ []) ∙ both (list_all p (span 0 n)) (p (0 + n)) (all_span p n (λ k lt. each k (omega (arith, lt)))) last
-  where
-    both : (a b : Bool) → a ≡ true → b ≡ true → (a && (b && true)) ≡ true
-    both a b x y = rw (x, y) refl
+use Rattle.plane_defs.proofs.Counting.{counted_twice, count_once, sum_same, sum_full, sum_ones, nested, leaves_room, rooms}
+use Rattle.plane_defs.proofs.Equations.{is_table_sound-is}
 
 -- strings of 8 bits that begin with a code
 code_room : (c : Code) → IsCode c → count_by (λ v. is_prefix (code_bits c) (bits_of 8 v)) (span 0 256) ≡ room c
@@ -84,15 +68,15 @@ module _ (codes : List Code) (count : ℕ) where
   }
 
   pub usable_from : AreCodes codes count → AreApart → room_of codes count ≡ 256 → is_table_sound codes count ≡ true
-  unfolding is_table_sound
   usable_from are apart full =
+      simp is_table_sound-is (
       both _ _
-      (all_span (λ s. nat_le 1 (entry codes s).len && nat_le (entry codes s).len 8) count (λ s lt.
+      (list_all-span (λ s. nat_le 1 (entry codes s).len && nat_le (entry codes s).len 8) count (λ s lt.
       let is = are.each s lt in
       let some = is.some in
       let few = is.few in
-      both _ _ (least 1 (entry codes s).len some) (least (entry codes s).len 8 few)))
-      (all_span (λ v. begun v == 1) 256 (λ v lt. eq-eqb (begun v) 1 (one_begun are apart full v lt)))
+      both _ _ (le-leb 1 (entry codes s).len some) (le-leb (entry codes s).len 8 few)))
+      (list_all-span (λ v. begun v == 1) 256 (λ v lt. eq-eqb (begun v) 1 (one_begun are apart full v lt))))
     where
       both : (a b : Bool) → a ≡ true → b ≡ true → (a && b) ≡ true
       both a b x y = rw (x, y) refl

@@ -1,6 +1,5 @@
 -- A table's codes, read code by code.
-use Rattle.std.proofs.Common.{◌≡◌, ◌≢◌, ◌<◌, ◌+◌, ◌*◌, ◌∙◌, inl, inr, ℕ, List, length, sym, ap, nat_lt, if◌then◌else◌, get_or, set, get_or-set_same, get_or-set_other, arith}
-use Rattle.std.proofs.lemmas.List.{ext_get_or, length-set}
+use Rattle.std.proofs.Common.{◌≡◌, ◌≢◌, ◌<◌, ◌+◌, ◌*◌, ◌∙◌, inl, inr, ℕ, List, length, sym, ap, nat_lt, if◌then◌else◌, get_or, set, get_or-set_same, get_or-set_other, arith, ext_get_or, length-set}
 use Rattle.std.proofs.lemmas.List.FromFn.{get_or-map-range_with_len, length-map-range_with_len}
 use Rattle.std.proofs.lemmas.Bool.{cases_eq}
 use Rattle.std.proofs.lemmas.Bool.Decides.{nat_tests}

@@ -1,11 +1,8 @@
 -- DCs that are written.
-use Rattle.std.proofs.Common.{◌≡◌, ℕ, ◌+◌, ◌*◌, ◌<◌, ◌≤◌, ℤ, pos, List, length, cond, true, false, refl, sym, ◌∙◌, arith, inl, inr}
-use Rattle.std.specs.Prelude.{nat_lt}
+use Rattle.std.proofs.Common.{◌≡◌, ℕ, ◌+◌, ◌*◌, ◌<◌, ◌≤◌, ℤ, pos, List, length, cond, true, false, refl, sym, ◌∙◌, arith, inl, inr, nat_lt, set, get_or-set_same, get_or-set_other, length-set}
 use Rattle.std.specs.Int.{div_ceil}
-use Rattle.std.proofs.Math.ListN.{set}
 use Rattle.std.proofs.lemmas.Bool.{cases_eq}
 use Rattle.std.proofs.lemmas.Bool.Decides.{nat_tests}
-use Rattle.std.proofs.lemmas.List.{get_or-set_same, get_or-set_other, length-set}
 use Rattle.number_defs.specs.Cells.{cell_at}
 use Rattle.dc_depths.specs.TakenDc.{SetsDcs}
 use Rattle.dc_depths.specs.DcReading.{zero_dc}

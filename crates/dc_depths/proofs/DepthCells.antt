@@ -1,6 +1,5 @@
 -- Block depths as numbers of a range.
-use Rattle.std.proofs.Common.{◌≡◌, ℕ, suc, ◌+◌, ◌*◌, ◌^◌, ◌<◌, ℤ, pos, List, [], ◌∷◌, length, get_or, map, false, refl, sym, ap, ◌∙◌, arith}
-use Rattle.std.specs.Prelude.{nat_abs}
+use Rattle.std.proofs.Common.{◌≡◌, ℕ, suc, ◌+◌, ◌*◌, ◌^◌, ◌<◌, ℤ, pos, List, [], ◌∷◌, length, get_or, map, false, refl, sym, ap, ◌∙◌, arith, nat_abs}
 use Rattle.std.specs.List.{range_with_len}
 use Rattle.std.specs.Int.{int_shr, div_ceil}
 use Rattle.std.proofs.lemmas.Int.{ints}
@@ -8,6 +7,7 @@ use Rattle.std.proofs.lemmas.Bool.Decides.{nat_tests}
 use Rattle.number_defs.specs.Ranges.{shifted_height}
 use Rattle.number_defs.specs.Cells.{cell_at, strided, AreInRange}
 use Rattle.dc_depths.specs.Marks.{depths_of, AreDepths}
+use Rattle.number_defs.proofs.Equations.{strided-is}
 
 -- a list is determined by its values at its places
 by_places : (f : ℕ → ℤ) (a : ℕ) (xs : List ℤ) → ((k : ℕ) → k < length xs → get_or xs k (pos 0) ≡ f (a + k)) → map f (range_with_len a (length xs)) ≡ xs
@@ -18,10 +18,9 @@ by_places f a (x ∷ xs) h =
     ap (λ y. y ∷ map f (range_with_len (a + 1) (length xs))) here ∙ ap (λ ys. x ∷ ys) others
 
 every_cell : (xs : List ℤ) → strided 1 xs ≡ xs
-unfolding strided
 every_cell xs =
     let n : div_ceil (length xs) 1 ≡ length xs = omega arith in
-    rw n (by_places (cell_at 1 xs) 0 xs (λ k lt. let e : k ≡ (0 + k) * 1 = omega arith in ap (λ i. get_or xs i (pos 0)) e))
+    strided-is 1 xs ∙ rw n (by_places (cell_at 1 xs) 0 xs (λ k lt. let e : k ≡ (0 + k) * 1 = omega arith in ap (λ i. get_or xs i (pos 0)) e))
 
 unshifted : (z : ℤ) → int_shr z 0 ≡ z
 unshifted z = grind (arith, nat_tests)

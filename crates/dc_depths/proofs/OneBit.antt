@@ -1,6 +1,5 @@
 -- Numbers as single bits.
-use Rattle.std.proofs.Common.{◌≡◌, ℕ, ◌-◌, ◌/◌, ◌%◌, ◌^◌, ◌<◌, ◌≤◌, ℤ, pos, List, [], ◌∷◌, length, get_or, eqb, ap, sym, ◌∙◌, arith}
-use Rattle.std.specs.Prelude.{bit_and, nat_abs, ◌≤ℤ◌}
+use Rattle.std.proofs.Common.{◌≡◌, ℕ, ◌/◌, ◌%◌, ◌^◌, ◌<◌, ℤ, pos, List, [], ◌∷◌, length, get_or, eqb, ap, sym, ◌∙◌, arith, bit_and, nat_abs, ◌≤ℤ◌}
 use Rattle.std.specs.Int.{int_shr, div_ceil}
 use mir.Val.{to_z, of_z, SFits}
 use mir.Syntax.{w32}

@@ -1,8 +1,7 @@
 -- The parts of a DC part, and what their items are.
-use Rattle.std.proofs.Common.{◌≡◌, ℕ, ◌≤◌, ℤ, List, [], ◌++◌, map, true, false, eqb, refl, arith}
-use Rattle.std.specs.Prelude.{◌≢◌, Result, Err}
+use Rattle.std.proofs.Common.{◌≡◌, ℕ, ℤ, List, ◌++◌, map, true, false, eqb, refl, arith, ◌≢◌, Result, Err}
 use Rattle.std.proofs.lemmas.Bool.Decides.{nat_tests}
-use Rattle.item_defs.specs.Items.{raw, text}
+use Rattle.item_defs.specs.Items.{text}
 use Rattle.item_defs.proofs.Texts.{text-append}
 use Rattle.bit_pipe.specs.Sinks.{SinkOf}
 use Rattle.bit_pipe.specs.Standing.{Standing, Adds, Puts}
@@ -11,7 +10,7 @@ use Rattle.bit_pipe.proofs.Putting.{puts_then, puts_cut}
 use Rattle.number_defs.specs.Ranges.{shifted_height}
 use Rattle.number_defs.specs.Gaggles.{number_items}
 use Rattle.number_defs.specs.DcPart.{dc_kind, dc_bit, high_items, planes_before, dc_q, dc_bits, dc_planes, dc_items}
-use Rattle.number_defs.specs.Depths.{depth_kind, depth_items}
+use Rattle.number_defs.proofs.Equations.{dc_items-is}
 
 pub high_raw : (N q : ℕ) (dcs : List ℤ) (options : ℕ → ℕ) → N ≡ 1 → high_items N q dcs options ≡ map (dc_bit q) dcs
 high_raw N q dcs options e = let t : eqb N 1 ≡ true = grind (arith, nat_tests) in rw t refl
@@ -19,23 +18,10 @@ high_raw N q dcs options e = let t : eqb N 1 ≡ true = grind (arith, nat_tests)
 pub high_coded : (N q : ℕ) (dcs : List ℤ) (options : ℕ → ℕ) → N ≢ 1 → high_items N q dcs options ≡ number_items (dc_kind N) (map (shifted_height true N q) dcs) options
 high_coded N q dcs options ne = let t : eqb N 1 ≡ false = grind (arith, nat_tests) in rw t refl
 
-pub depths_none : (depth_ac : ℕ) (depths : List ℕ) (options : ℕ → ℕ) → depth_ac ≡ 0 → depth_items depth_ac depths options ≡ []
-unfolding depth_items
-depths_none depth_ac depths options e = let t : eqb depth_ac 0 ≡ true = grind (arith, nat_tests) in rw t refl
-
-pub depths_raw : (depth_ac : ℕ) (depths : List ℕ) (options : ℕ → ℕ) → depth_ac ≡ 1 → depth_items depth_ac depths options ≡ map raw depths
-unfolding depth_items
-depths_raw depth_ac depths options e = grind (arith, nat_tests)
-
-pub depths_coded : (depth_ac : ℕ) (depths : List ℕ) (options : ℕ → ℕ) → 2 ≤ depth_ac → depth_items depth_ac depths options ≡ number_items (depth_kind depth_ac) depths options
-unfolding depth_items
-depths_coded depth_ac depths options low = grind (arith, nat_tests)
-
 module _ (depth_dc depth_ac shift : ℕ) (dcs : List ℤ) (options : ℕ → ℕ) where
   dc_text : text (dc_items depth_dc depth_ac shift dcs options)
       ≡ text (high_items (dc_bits depth_dc depth_ac shift) (dc_q depth_dc depth_ac shift) dcs options) ++ text (planes_before (dc_q depth_dc depth_ac shift) dcs (dc_planes depth_dc depth_ac shift))
-  unfolding dc_items
-  dc_text = text-append (high_items (dc_bits depth_dc depth_ac shift) (dc_q depth_dc depth_ac shift) dcs options) (planes_before (dc_q depth_dc depth_ac shift) dcs (dc_planes depth_dc depth_ac shift))
+  dc_text = simp dc_items-is (text-append (high_items (dc_bits depth_dc depth_ac shift) (dc_q depth_dc depth_ac shift) dcs options) (planes_before (dc_q depth_dc depth_ac shift) dcs (dc_planes depth_dc depth_ac shift)))
 
   pub high_cut : {S T U : Type 0} {k : SinkOf S} {e : PutFault} {a b : Standing S} → Puts {T = T} k (Err e) a b (text (high_items (dc_bits depth_dc depth_ac shift) (dc_q depth_dc depth_ac shift) dcs options)) →
       Puts {T = U} k (Err e) a b (text (dc_items depth_dc depth_ac shift dcs options))

@@ -1,6 +1,5 @@
 -- The DC part that was read.
-use Rattle.std.proofs.Common.{◌≡◌, ◌⊎◌, ℕ, ◌+◌, ◌-◌, ◌*◌, ◌^◌, ◌<◌, ◌≤◌, ℤ, pos, ◌+ℤ◌, ◌*ℤ◌, List, ◌++◌, length, map, get_or, true, false, cond, refl, sym, ap, subst, ◌∙◌, arith, inl, inr, length-append}
-use Rattle.std.specs.Prelude.{Result, ◌&&◌, nat_lt, nat_le}
+use Rattle.std.proofs.Common.{◌≡◌, ◌⊎◌, ℕ, ◌+◌, ◌-◌, ◌*◌, ◌^◌, ◌<◌, ◌≤◌, ℤ, pos, ◌+ℤ◌, ◌*ℤ◌, List, ◌++◌, length, map, get_or, true, false, cond, refl, sym, ap, subst, ◌∙◌, arith, inl, inr, length-append, Result, ◌&&◌, nat_lt, nat_le, pow_pos}
 use Rattle.std.specs.Int.{int_shr, div_ceil}
 use Rattle.std.specs.List.{range_with_len}
 use Rattle.std.proofs.Math.Nat.{zero-mod}
@@ -8,7 +7,6 @@ use Rattle.std.proofs.lemmas.Bool.{cases_lt}
 use Rattle.std.proofs.lemmas.Bool.Decides.{nat_tests}
 use Rattle.std.proofs.lemmas.Int.{ints}
 use Rattle.std.proofs.lemmas.List.FromFn.{length-map-range_with_len, get_or-map-range_with_len}
-use Rattle.std.proofs.lemmas.Nat.{pow_pos}
 use Rattle.item_defs.specs.Items.{text}
 use Rattle.item_defs.specs.Readings.{whole}
 use Rattle.bit_pipe.specs.declared.fault.Part.{Part}
@@ -20,13 +18,14 @@ use Rattle.bit_pipe.specs.Answers.{items_read}
 use Rattle.bit_pipe.proofs.ItemReading.{reads_then, reads_cut}
 use Rattle.number_defs.specs.Ranges.{IsInRange, complement}
 use Rattle.number_defs.specs.Cells.{cell_at}
-use Rattle.number_defs.specs.DcPart.{dc_q, dc_bits, dc_planes, high_items, planes_before, dc_items}
+use Rattle.number_defs.specs.DcPart.{dc_q, dc_bits, dc_planes, high_items, planes_before}
 use Rattle.dc_depths.specs.TakenDc.{dc_through, given_dcs, TakesDc}
 use Rattle.dc_depths.specs.DcReading.{block_count, HasNumbers, HasBits, high_parts, with_low, TakesHigh, TakesPlanes}
 use Rattle.dc_depths.proofs.DcCells.{dcs_as, dcs_then}
 use Rattle.dc_depths.proofs.DcNumbers.{dc_with, number_stays, low_bit, no_bit_below}
-use Rattle.dc_depths.proofs.TakenPlanes.{planes_long}
+use Rattle.number_defs.proofs.DcPlanes.{length-planes_before}
 use Rattle.bit_pipe.proofs.Endings.{later_answer, in_whole, cut_read}
+use Rattle.number_defs.proofs.Equations.{dc_items-is}
 
 -- ---- DCs of numbers and low parts
 
@@ -74,7 +73,6 @@ module _ {I : Type 0} {k : SourceOf I} {a b : Coming I} {before mid : List ℤ} 
       in_whole i w (h.read (dcs_of q (block_count before) h.number (λ r. 0)) (has_numbers q (block_count before) h.number (λ r. 0) (λ r. pow_pos q)))
 
   pub dc_cut : IsCut h.ending → TakesDc k depth_dc depth_ac shift answered a b before mid
-  unfolding dc_items
   dc_cut cut =
       let N = dc_bits depth_dc depth_ac shift in
       let q = dc_q depth_dc depth_ac shift in
@@ -89,12 +87,12 @@ module _ {I : Type 0} {k : SourceOf I} {a b : Coming I} {before mid : List ℤ} 
         options = h.options;
         known = h.known;
         ending = h.ending;
-        read = reads_cut (planes_before q dcs (dc_planes depth_dc depth_ac shift)) cut (h.read dcs numbers);
+        read = simp dc_items-is (reads_cut (planes_before q dcs (dc_planes depth_dc depth_ac shift)) cut (h.read dcs numbers));
         answer = h.answer;
         given = h.given;
-        given_are = λ r lt. subst (λ m. (r < h.given → dc_through N q dcs h.options r ≤ m) × (dc_through N q dcs h.options r ≤ m → r < h.given))
+        given_are = λ r lt. simp dc_items-is (subst (λ m. (r < h.given → dc_through N q dcs h.options r ≤ m) × (dc_through N q dcs h.options r ≤ m → r < h.given))
             (cut_read (length (high_items N q dcs h.options)) (length (high_items N q dcs h.options ++ planes_before q dcs (dc_planes depth_dc depth_ac shift))) h.ending cut)
-            (h.given_are dcs numbers r (omega (arith, lt, long)));
+            (h.given_are dcs numbers r (omega (arith, lt, long))));
         bits = λ r bit lt less none. bits.at r bit (omega (arith, lt, long)) less (omega arith) ∙ no_bit_below 0 q bit (zero-mod (2 ^ q)) less;
         cells = dcs_as (high_parts q h.given h.number) (given_dcs h.given dcs)
             (λ r lt. ap (λ z. cond (nat_lt r h.given) z (pos 0)) (sym (dcs_at q (block_count before) h.number (λ j. 0) r (omega (arith, lt)) ∙ no_low (h.number r *ℤ pos (2 ^ q))))) h.cells;
@@ -102,7 +100,6 @@ module _ {I : Type 0} {k : SourceOf I} {a b : Coming I} {before mid : List ℤ} 
 
   pub dc_then : {c : Coming I} {now : List ℤ} {result : Result Part TextFault} → h.ending ≡ stopped whole → TakesPlanes k (dc_q depth_dc depth_ac shift) (dc_planes depth_dc depth_ac shift) result b c mid now →
       TakesDc k depth_dc depth_ac shift result a c before now
-  unfolding dc_items
   dc_then {c} {now} {result} w p =
       let N = dc_bits depth_dc depth_ac shift in
       let q = dc_q depth_dc depth_ac shift in
@@ -114,7 +111,7 @@ module _ {I : Type 0} {k : SourceOf I} {a b : Coming I} {before mid : List ℤ} 
       let bits : HasBits q planes (block_count mid) p.low dcs = subst (λ n. HasBits q planes n p.low dcs) (sym same) (has_bits q (block_count before) h.number p.low planes p.small) in
       let high = high_items N q dcs h.options in
       let first : Takes k a b (text high) = (subst (λ x. Reads k high x a b) w (h.read dcs numbers)).ends in
-      let size : length (high ++ planes_before q dcs planes) ≡ length high + planes * block_count mid = length-append high (planes_before q dcs planes) ∙ ap (λ n. length high + n) (planes_long q dcs planes ∙ ap (λ n. planes * n) (long ∙ sym same)) in
+      let size : length (high ++ planes_before q dcs planes) ≡ length high + planes * block_count mid = length-append high (planes_before q dcs planes) ∙ ap (λ n. length high + n) (length-planes_before q dcs planes ∙ ap (λ n. planes * n) (long ∙ sym same)) in
       let items = later_items (length high) (planes * block_count mid) (length (high ++ planes_before q dcs planes)) p.ending size in
       record {
         dcs = dcs;
@@ -123,7 +120,7 @@ module _ {I : Type 0} {k : SourceOf I} {a b : Coming I} {before mid : List ℤ} 
         options = h.options;
         known = h.known;
         ending = later_by (length high) p.ending;
-        read = reads_then high first (p.read dcs bits);
+        read = simp dc_items-is (reads_then high first (p.read dcs bits));
         answer = p.answer ∙ sym (later_answer (length high) p.ending);
         given = block_count before;
         given_are = λ r lt.
@@ -131,13 +128,13 @@ module _ {I : Type 0} {k : SourceOf I} {a b : Coming I} {before mid : List ℤ} 
             let all = h.all_given w in
             let whole_high : items_read (length high) h.ending ≡ length high = ap (items_read (length high)) w in
             let through = (h.given_are dcs numbers r within).0 (omega (arith, within, all)) in
-            (λ g. omega (arith, through, whole_high, items), λ g. within);
+            simp dc_items-is ((λ g. omega (arith, through, whole_high, items), λ g. within));
         bits = λ r bit lt less none.
             let within : r < block_count mid = omega (arith, lt, long, same) in
             let at : (q - (bit + 1)) * length dcs ≡ (q - (bit + 1)) * block_count mid = ap (λ n. (q - (bit + 1)) * n) (long ∙ sym same) in
             (has_bits q (block_count before) h.number p.low q p.small).at r bit (omega (arith, lt, long)) less (omega arith)
             ∙ p.none r bit within less (subst (λ n. (planes ≤ q - (bit + 1)) ⊎ (items_read (planes * block_count mid) p.ending ≤ n + r)) at
-            (not_given (q - (bit + 1)) planes (length high) (items_read (planes * block_count mid) p.ending) (items_read (length (high ++ planes_before q dcs planes)) (later_by (length high) p.ending)) (length dcs) r none items));
+            (not_given (q - (bit + 1)) planes (length high) (items_read (planes * block_count mid) p.ending) (items_read (length (high ++ planes_before q dcs planes)) (later_by (length high) p.ending)) (length dcs) r (simp dc_items-is at none) items));
         cells = dcs_then (high_parts q h.given h.number) (with_low mid p.low) (given_dcs (block_count before) dcs) (cell_is p.low) h.cells p.cells;
       }
     where

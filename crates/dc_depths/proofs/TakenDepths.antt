@@ -1,7 +1,5 @@
 -- Block depths that were read.
-use Rattle.std.proofs.Common.{◌≡◌, ℕ, ◌+◌, ◌*◌, ◌^◌, ◌<◌, ◌≤◌, ℤ, pos, ◌*ℤ◌, List, length, map, take, get_or, Bool, true, false, cond, Ok, Err, refl, sym, ap, subst, ◌∙◌, arith, inl, inr, length-take}
-use Rattle.std.specs.Prelude.{Result, Some, None, ◌==◌, nat_abs, nat_lt}
-use Rattle.std.proofs.Math.ListN.{set}
+use Rattle.std.proofs.Common.{◌≡◌, ℕ, ◌+◌, ◌*◌, ◌^◌, ◌<◌, ◌≤◌, ℤ, pos, ◌*ℤ◌, List, length, map, take, get_or, Bool, true, false, cond, Ok, Err, refl, sym, ap, subst, ◌∙◌, arith, inl, inr, length-take, Result, Some, None, ◌==◌, nat_abs, nat_lt, set}
 use Rattle.std.proofs.lemmas.Bool.{cases_lt, cases_eq, ltb-false}
 use Rattle.std.proofs.lemmas.Bool.Decides.{nat_tests}
 use Rattle.std.proofs.lemmas.Int.{ints}
@@ -20,11 +18,12 @@ use Rattle.bit_pipe.specs.Answers.{part_answer, items_read}
 use Rattle.bit_pipe.proofs.Taking.{takes_start}
 use Rattle.bit_pipe.proofs.ItemReading.{reads_whole, each_set, each_ended, each_failed, each_whole}
 use Rattle.number_defs.specs.Ranges.{number_at}
-use Rattle.number_defs.specs.Depths.{depth_bits, depth_kind, depth_items}
+use Rattle.number_defs.specs.Depths.{depth_bits, depth_kind}
 use Rattle.gaggle_codes.specs.Given.{given_number}
 use Rattle.gaggle_codes.specs.Taken.{TakesNumbers, numbers_answer}
 use Rattle.dc_depths.specs.Marks.{depths_of}
 use Rattle.dc_depths.specs.Taken.{TakesDepths}
+use Rattle.number_defs.proofs.Equations.{depth_items-is, depths_coded}
 
 abbrev of_parts : Part × ℕ → Result (Part × ℕ) TextFault
 of_parts p = Ok p
@@ -35,7 +34,6 @@ same_parts h = cc
 -- ---- nothing is sent
 
 pub no_depths : {I : Type 0} {k : SourceOf I} (depth_ac : ℕ) (a : Coming I) (now : List ℤ) → depth_ac ≡ 0 → IsIn a → ((i : ℕ) → get_or now i (pos 0) ≡ pos 0) → TakesDepths k depth_ac (Ok Whole) a a now
-unfolding depth_items
 no_depths {I} {k} depth_ac a now e h none = rw e (record {
   depths = map nat_abs now;
   all = length-map now nat_abs;
@@ -43,10 +41,10 @@ no_depths {I} {k} depth_ac a now e h none = rw e (record {
   options = λ g. 0;
   known = λ two. absurd (omega (arith, two));
   ending = stopped whole;
-  read = reads_whole (takes_start k a h);
+  read = simp depth_items-is (reads_whole (takes_start k a h));
   answer = refl;
   given = length now;
-  given_are = λ i lt. (λ g. omega arith, λ g. omega (arith, lt, length-map now nat_abs));
+  given_are = λ i lt. simp depth_items-is ((λ g. omega arith, λ g. omega (arith, lt, length-map now nat_abs)));
   low = λ i lt within. rw (zero_at i) (omega arith);
   marks = λ i lt. none i ∙ ap pos (sym (either i (nat_lt i (length now))));
 })
@@ -100,7 +98,6 @@ module _ {I : Type 0} {k : SourceOf I} where
       }
 
   raw_result : {r : Result Part TextFault} {a b c : Coming I} {i : ℕ} (now : List ℤ) (e : Ending) → RawSoFar k i a b now → items_read (length (map raw (depths_of now))) e ≡ i → Reads k (map raw (depths_of now)) e a c → r ≡ part_answer e → TakesDepths k 1 r a c now
-  unfolding depth_items
   raw_result {i = n} now e s at read answer =
       let long = length-map now nat_abs in
       record {
@@ -110,10 +107,10 @@ module _ {I : Type 0} {k : SourceOf I} where
         options = λ g. 0;
         known = λ two. absurd (omega (arith, two));
         ending = e;
-        read = read;
+        read = simp depth_items-is read;
         answer = answer;
         given = items_read (length (map raw (depths_of now))) e;
-        given_are = λ i lt. (λ g. omega (arith, g), λ g. omega (arith, g));
+        given_are = λ i lt. simp depth_items-is ((λ g. omega (arith, g), λ g. omega (arith, g)));
         low = λ i lt within. omega (arith, s.few i);
         marks = λ i lt. s.are i ∙ ap pos (sym (either i));
       }
@@ -149,7 +146,6 @@ number_is N h = omega (arith, ints)
 
 pub coded_depths : {I : Type 0} {k : SourceOf I} {r : Result (Part × ℕ) TextFault} {a b : Coming I} {before now : List ℤ} (depth_ac N : ℕ) (answer : Result Part TextFault) → 2 ≤ depth_ac → N ≡ depth_bits depth_ac → length now ≡ length before →
     ((e : Ending) (given : ℕ) → r ≡ numbers_answer e given → answer ≡ part_answer e) → TakesNumbers k (depth_kind depth_ac) (record { signed = false; bits = N }) 0 1 r a b before now → TakesDepths k depth_ac answer a b now
-unfolding depth_items
 coded_depths {now = now} depth_ac N answer low bits same_size like t =
     let z : (depth_ac == 0) ≡ false = grind (arith, nat_tests) in
     let o : (depth_ac == 1) ≡ false = grind (arith, nat_tests) in
@@ -161,10 +157,10 @@ coded_depths {now = now} depth_ac N answer low bits same_size like t =
       options = t.options;
       known = λ two g. t.known g;
       ending = t.ending;
-      read = rw (z, o) t.read;
+      read = rw (depths_coded depth_ac t.heights t.options low) t.read;
       answer = like t.ending t.given t.answer;
       given = t.given;
-      given_are = λ i lt. rw (z, o) (t.given_are i lt);
+      given_are = λ i lt. rw (z, o, depths_coded depth_ac t.heights t.options low) (t.given_are i lt);
       low = λ i lt within. ltb-false depth_ac (get_or t.heights i 0) (t.allowed i lt within);
       marks = λ i lt.
           let place : i * 1 ≡ i = omega arith in

@@ -1,15 +1,11 @@
 -- Numbers of DCs that were read.
-use Rattle.std.proofs.Common.{◌≡◌, ℕ, zero, suc, ◌+◌, ◌*◌, ◌^◌, ◌<◌, ◌≤◌, ℤ, pos, ◌+ℤ◌, ◌*ℤ◌, List, length, map, take, get_or, cond, eqb, true, false, refl, sym, ap, subst, ◌∙◌, arith, inl, inr, unsigned_abs, length-take}
-use Rattle.std.specs.Prelude.{Result, Bool, neg_ℤ, nat_lt}
+use Rattle.std.proofs.Common.{◌≡◌, ℕ, zero, suc, ◌+◌, ◌*◌, ◌^◌, ◌<◌, ◌≤◌, ℤ, pos, ◌+ℤ◌, ◌*ℤ◌, List, length, map, take, get_or, cond, eqb, true, false, refl, sym, ap, subst, ◌∙◌, arith, inl, inr, unsigned_abs, length-take, Result, Bool, neg_ℤ, nat_lt, mul-le-mul_right, pow_mono, pow-add}
 use Rattle.std.specs.Int.{div_ceil}
-use Rattle.std.proofs.Math.Nat.{mul-le-mul_right}
-use Rattle.std.proofs.Math.Pow.{pow_mono}
 use Rattle.std.proofs.lemmas.Bool.{cases_lt}
 use Rattle.std.proofs.lemmas.Bool.Decides.{nat_tests}
 use Rattle.std.proofs.lemmas.Int.{ints, unsigned_abs-mul}
 use Rattle.std.proofs.lemmas.List.{length-map, get_or-map, get_or-take}
 use Rattle.std.proofs.lemmas.Grind.{same_number_lists}
-use Rattle.std.proofs.lemmas.Nat.{pow-add}
 use Rattle.item_defs.specs.Items.{raw}
 use Rattle.bit_pipe.specs.declared.fault.Part.{Part}
 use Rattle.bit_pipe.specs.declared.fault.TextFault.{TextFault}

@@ -1,25 +1,21 @@
 -- DC bit planes that were read.
-use Rattle.std.proofs.Common.{◌≡◌, ◌⊎◌, ℕ, zero, suc, ◌+◌, ◌-◌, ◌*◌, ◌%◌, ◌^◌, ◌<◌, ◌≤◌, ℤ, pos, ◌+ℤ◌, ◌*ℤ◌, List, [], ◌∷◌, ◌++◌, length, map, get_or, Ok, Err, refl, sym, ap, subst, ◌∙◌, arith, inl, inr, length-append, append_assoc}
-use Rattle.std.specs.Prelude.{Result}
+use Rattle.std.proofs.Common.{◌≡◌, ◌⊎◌, ℕ, suc, ◌+◌, ◌-◌, ◌*◌, ◌%◌, ◌^◌, ◌<◌, ◌≤◌, ℤ, pos, ◌+ℤ◌, ◌*ℤ◌, List, [], ◌∷◌, ◌++◌, length, map, get_or, Ok, refl, sym, ap, subst, ◌∙◌, arith, inl, inr, Result, pow_mono, pow_pos}
 use Rattle.std.specs.Int.{div_ceil}
 use Rattle.std.proofs.Math.IntN.{pos-*ℤ-pos}
 use Rattle.std.proofs.Math.Nat.{mul-le-mul_right, zero-mod}
-use Rattle.std.proofs.Math.Pow.{pow_mono}
 use Rattle.std.proofs.lemmas.Bool.{cases_lt, cases_eq}
 use Rattle.std.proofs.lemmas.Int.{ints}
-use Rattle.std.proofs.lemmas.List.{append-nil, length-map}
-use Rattle.std.proofs.lemmas.Nat.{pow_pos}
-use Rattle.item_defs.specs.Items.{Item, raw, text}
-use Rattle.item_defs.specs.Readings.{whole, ended, refused}
+use Rattle.item_defs.specs.Items.{raw, text}
+use Rattle.item_defs.specs.Readings.{whole}
 use Rattle.bit_pipe.specs.declared.fault.Part.{Part}
-use Rattle.bit_pipe.specs.declared.fault.Part.TheVariants.{Whole, Ended}
+use Rattle.bit_pipe.specs.declared.fault.Part.TheVariants.{Whole}
 use Rattle.bit_pipe.specs.declared.fault.TextFault.{TextFault}
 use Rattle.bit_pipe.specs.Sources.{SourceOf}
 use Rattle.bit_pipe.specs.Coming.{Coming, IsIn, Takes}
-use Rattle.bit_pipe.specs.Reading.{Ending, stopped, failed, Reads, later_by, IsCut}
+use Rattle.bit_pipe.specs.Reading.{stopped, Reads, later_by, IsCut}
 use Rattle.bit_pipe.specs.Answers.{part_answer, items_read}
-use Rattle.bit_pipe.proofs.Taking.{takes_start, takes_then, in_later}
-use Rattle.bit_pipe.proofs.Endings.{later_answer, read_later, whole_ending, ended_cut, err_cut, in_whole}
+use Rattle.bit_pipe.proofs.Taking.{takes_start, takes_then}
+use Rattle.bit_pipe.proofs.Endings.{later_answer, read_later}
 use Rattle.bit_pipe.proofs.ItemReading.{reads_then, reads_cut, reads_whole}
 use Rattle.number_defs.specs.Cells.{cell_at}
 use Rattle.number_defs.specs.DcPart.{dc_bit, planes_before}
@@ -29,6 +25,8 @@ use Rattle.dc_depths.proofs.DcCells.{dcs_same, dcs_as, dcs_then}
 use Rattle.dc_depths.proofs.DcNumbers.{bit_added, bits_above, added_multiple, added_small, no_bit_below}
 use Rattle.dc_depths.proofs.Planes.{one_more}
 use Rattle.dc_depths.proofs.TakenBits.{abs_sum}
+use Rattle.number_defs.proofs.DcPlanes.{length-planes_before, planes_split}
+use Rattle.number_defs.proofs.Equations.{planes_before-none}
 
 -- lists with equal images
 pub same_maps : {X Y Z : Type 0} (f : X → Z) (g : Y → Z) (xs : List X) (ys : List Y) (d : X) (e : Y) → length xs ≡ length ys → ((i : ℕ) → i < length xs → f (get_or xs i d) ≡ g (get_or ys i e)) → map f xs ≡ map g ys
@@ -40,27 +38,6 @@ same_maps f g (x ∷ xs) (y ∷ ys) d e long same =
     ap (λ z. z ∷ map f xs) (same 0 (omega arith)) ∙ ap (λ zs. g y ∷ zs) rest
 
 -- ---- the items of planes
-
-pub planes_long : (q : ℕ) (dcs : List ℤ) (n : ℕ) → length (planes_before q dcs n) ≡ n * length dcs
-unfolding planes_before
-planes_long q dcs zero = omega arith
-planes_long q dcs (suc n) =
-    let more : suc n * length dcs ≡ n * length dcs + length dcs = grind arith in
-    omega (arith, more, length-append (planes_before q dcs n) (map (dc_bit (q - suc n)) dcs), length-map dcs (dc_bit (q - suc n)), planes_long q dcs n)
-
-planes_split : (q : ℕ) (dcs : List ℤ) (m n plane : ℕ) → n < m → plane ≡ q - (n + 1) → (rest : List Item) × (planes_before q dcs m ≡ planes_before q dcs n ++ (map (dc_bit plane) dcs ++ rest))
-unfolding planes_before
-planes_split q dcs zero n plane lt e = absurd (omega arith)
-planes_split q dcs (suc m) n plane lt e = elim (cases_lt n m) [
-  | inl less ↦
-      let r = planes_split q dcs m n plane less e in
-      let last = map (dc_bit (q - suc m)) dcs in
-      (r.0 ++ last, ap (λ items. items ++ last) r.1 ∙ append_assoc (planes_before q dcs n) (map (dc_bit plane) dcs ++ r.0) last ∙ ap (λ items. planes_before q dcs n ++ items) (append_assoc (map (dc_bit plane) dcs) r.0 last))
-  | inr ge ↦
-      let same : m ≡ n = omega arith in
-      let here : q - suc m ≡ plane = omega arith in
-      ([], ap (λ j. planes_before q dcs j ++ map (dc_bit (q - suc m)) dcs) same ∙ ap (λ b. planes_before q dcs n ++ map (dc_bit b) dcs) here ∙ ap (λ items. planes_before q dcs n ++ items) (sym (append-nil (map (dc_bit plane) dcs))))
-]
 
 -- ---- one more plane
 
@@ -79,12 +56,11 @@ join : (z : ℤ) (l b m : ℕ) → (z +ℤ pos l) +ℤ (pos b *ℤ pos m) ≡ z 
 join z l b m = ap (λ y. (z +ℤ pos l) +ℤ y) (pos-*ℤ-pos b m) ∙ omega (arith, ints)
 
 pub planes_start : {I : Type 0} {k : SourceOf I} (q plane : ℕ) (a : Coming I) (now : List ℤ) → plane ≡ q → IsIn a → PlanesSoFar k q plane a a now now
-unfolding planes_before
 planes_start {I} {k} q plane a now e h = record {
   low = λ r. 0;
   small = λ r. pow_pos q;
   multiple = λ r. zero-mod (2 ^ plane);
-  so_far = λ dcs b. let z : q - plane ≡ 0 = omega arith in rw z (takes_start k a h);
+  so_far = λ dcs b. let z : q - plane ≡ 0 = omega arith in rw (z, planes_before-none) (takes_start k a h);
   cells = dcs_as (cell_at 64 now) (with_low now (λ r. 0)) (λ r lt. sym (no_low (cell_at 64 now r))) (dcs_same now);
 }
 
@@ -156,7 +132,7 @@ module _ {I : Type 0} {k : SourceOf I} {result : Result Part TextFault} {a b c :
     ending = later_by ((q - plane) * block_count before) t.ending;
     read = λ dcs h.
         let split = planes_split q dcs n (q - plane) p (omega arith) (omega arith) in
-        let long : length (planes_before q dcs (q - plane)) ≡ (q - plane) * block_count before = planes_long q dcs (q - plane) ∙ ap (λ m. (q - plane) * m) h.all in
+        let long : length (planes_before q dcs (q - plane)) ≡ (q - plane) * block_count before = length-planes_before q dcs (q - plane) ∙ ap (λ m. (q - plane) * m) h.all in
         let part = reads_cut split.0 cut (subst (λ items. Reads k items t.ending b c) (sym (this_plane n dcs far h)) t.read) in
         let both = reads_then (planes_before q dcs (q - plane)) (s.so_far dcs (bits_before n dcs far h)) part in
         subst (λ items. Reads k items (later_by ((q - plane) * block_count before) t.ending) a c) (sym split.1)

@@ -1,6 +1,5 @@
 -- How many items make numbers whole.
-use Rattle.std.proofs.Common.{◌≡◌, ℕ, zero, suc, ◌+◌, ◌-◌, ◌*◌, ◌<◌, ◌≤◌, min, List, [], ◌++◌, length, get_or, Bool, true, false, cond, refl, ap, ◌∙◌, arith, inl, inr, length-append, add-one}
-use Rattle.std.specs.Prelude.{◌||◌, ◌==◌, nat_lt}
+use Rattle.std.proofs.Common.{◌≡◌, ℕ, zero, suc, ◌+◌, ◌-◌, ◌*◌, ◌<◌, ◌≤◌, min, List, ◌++◌, length, get_or, Bool, true, false, cond, ap, ◌∙◌, arith, inl, inr, length-append, add-one, ◌||◌, ◌==◌, nat_lt}
 use Rattle.std.specs.List.{range_with_len}
 use Rattle.std.proofs.lemmas.Bool.{cases_lt}
 use Rattle.std.proofs.lemmas.Bool.Decides.{nat_tests}
@@ -10,6 +9,7 @@ use Rattle.number_defs.specs.Given.{numbers_through}
 use Rattle.gaggle_codes.specs.Taken.{given_in}
 use Rattle.gaggle_codes.proofs.RangeItems.{range_long}
 use Rattle.gaggle_codes.proofs.GaggleRead.{values_same}
+use Rattle.number_defs.proofs.Equations.{value_items-is, gaggle_items-is, items_before-none, items_before-more}
 
 -- values that are whole by themselves, or after all unary parts
 abbrev pub whole_alone : ℕ → ℕ → Bool
@@ -30,16 +30,13 @@ through_in N option size (suc g) j = 1 + cond (whole_alone N option) 0 size + (j
 
 module _ (kind : Kind) (xs : List ℕ) where
   pub value_count : (option a n : ℕ) → length (value_items kind xs option (range_with_len a n)) ≡ value_total kind.bits option n
-  unfolding value_items
-  value_count option a n = grind (arith, nat_tests, range_long, length-append)
+  value_count option a n = simp value_items-is (grind (arith, nat_tests, range_long, length-append))
 
   pub gaggle_count_is : (option g size : ℕ) → min (length xs) (16 * g + 16) - 16 * g ≡ size → 1 ≤ size → length (gaggle_items kind xs option g) ≡ gaggle_total kind.bits option size g
-  unfolding gaggle_items
-  gaggle_count_is option g size e some = grind (arith, nat_tests, value_count)
+  gaggle_count_is option g size e some = simp gaggle_items-is (grind (arith, nat_tests, value_count))
 
   pub before_more : (o : ℕ → ℕ) (g : ℕ) → length (items_before kind xs o (g + 1)) ≡ length (items_before kind xs o g) + length (gaggle_items kind xs (o g) g)
-  unfolding items_before
-  before_more o g = ap (λ n. length (items_before kind xs o n)) (add-one g) ∙ length-append (items_before kind xs o g) (gaggle_items kind xs (o g) g)
+  before_more o g = ap (λ n. length (items_before kind xs o n)) (add-one g) ∙ ap length (items_before-more kind xs o g) ∙ length-append (items_before kind xs o g) (gaggle_items kind xs (o g) g)
 
   pub before_grows : (o : ℕ → ℕ) (g d : ℕ) → length (items_before kind xs o g) ≤ length (items_before kind xs o (g + d))
   before_grows o g zero = let z : g + 0 ≡ g = omega arith in rw z (omega arith)
@@ -107,12 +104,11 @@ module _ (N option size : ℕ) where
 
 module _ (kind : Kind) (xs ys : List ℕ) (long : length xs ≡ length ys) where
   pub gaggle_same : (option g : ℕ) → ((i : ℕ) → i < 16 * g + 16 → get_or xs i 0 ≡ get_or ys i 0) → gaggle_items kind xs option g ≡ gaggle_items kind ys option g
-  unfolding gaggle_items
-  gaggle_same option g same = grind (arith, nat_tests, values_same)
+  gaggle_same option g same = simp gaggle_items-is (grind (arith, nat_tests, values_same))
 
   pub before_same : (o u : ℕ → ℕ) (g : ℕ) → ((i : ℕ) → i < 16 * g → get_or xs i 0 ≡ get_or ys i 0) → ((h : ℕ) → h < g → o h ≡ u h) → items_before kind xs o g ≡ items_before kind ys u g
-  unfolding items_before
-  before_same o u zero same options = refl
+  before_same o u zero same options = simp (items_before-none, items_before-more)
   before_same o u (suc g) same options =
+      simp (items_before-none, items_before-more) (
       ap (λ l. l ++ gaggle_items kind xs (o g) g) (before_same o u g (λ i lt. same i (omega arith)) (λ h lt. options h (omega arith)))
-      ∙ ap (λ l. items_before kind ys u g ++ l) (gaggle_same (o g) g (λ i lt. same i (omega arith)) ∙ ap (λ p. gaggle_items kind ys p g) (options g (omega arith)))
+      ∙ ap (λ l. items_before kind ys u g ++ l) (gaggle_same (o g) g (λ i lt. same i (omega arith)) ∙ ap (λ p. gaggle_items kind ys p g) (options g (omega arith))))

@@ -1,38 +1,34 @@
 -- The items of mapped values, in the order in which they are read.
-use Rattle.std.proofs.Common.{◌≡◌, ◌⊎◌, ℕ, ◌+◌, ◌-◌, ◌^◌, ◌<◌, List, [], ◌∷◌, ◌++◌, length, map, take, true, Ok, Err, refl, sym, ap, subst, ◌∙◌, arith, length-append}
-use Rattle.std.specs.Prelude.{Result}
+use Rattle.std.proofs.Common.{◌≡◌, ◌⊎◌, ℕ, ◌+◌, ◌-◌, ◌^◌, ◌<◌, List, [], ◌∷◌, ◌++◌, length, map, take, true, Ok, refl, sym, ap, subst, ◌∙◌, arith, length-append, Result, append-nil}
 use Rattle.std.specs.List.{range_with_len}
 use Rattle.std.proofs.lemmas.Bool.Decides.{nat_tests}
-use Rattle.std.proofs.lemmas.List.{append-nil}
-use Rattle.item_defs.specs.Items.{Item, text}
-use Rattle.item_defs.specs.Readings.{whole, ended, refused}
+use Rattle.item_defs.specs.Items.{text}
 use Rattle.bit_pipe.specs.declared.fault.Part.{Part}
-use Rattle.bit_pipe.specs.declared.fault.Part.TheVariants.{Whole, Ended}
+use Rattle.bit_pipe.specs.declared.fault.Part.TheVariants.{Whole}
 use Rattle.bit_pipe.specs.declared.fault.TextFault.{TextFault}
 use Rattle.bit_pipe.specs.Sources.{SourceOf}
 use Rattle.bit_pipe.specs.Coming.{Coming, IsIn, Takes}
-use Rattle.bit_pipe.specs.Reading.{Ending, stopped, failed, Reads, IsCut, later_by}
-use Rattle.bit_pipe.specs.Answers.{part_answer, items_read}
+use Rattle.bit_pipe.specs.Reading.{Reads, later_by}
+use Rattle.bit_pipe.specs.Answers.{items_read}
 use Rattle.bit_pipe.proofs.Taking.{in_later}
-use Rattle.bit_pipe.proofs.Endings.{whole_ending, cut_within, later_read, later_answer, ended_differs, err_differs, cut_from, of_part, of_fault, cut_read}
+use Rattle.bit_pipe.proofs.Endings.{whole_ending, cut_within, later_read, later_answer, cut_from}
 use Rattle.bit_pipe.proofs.ItemReading.{reads_then, reads_cut}
-use Rattle.number_defs.specs.Gaggles.{Kind, uncoded, is_option, unary_part, value_items}
+use Rattle.number_defs.specs.Gaggles.{Kind, uncoded, is_option, unary_part}
 use Rattle.gaggle_codes.specs.Taken.{whole_item, whole_items, whole_of, difference_items, TakesZeros, TakesWhole, TakesDifferences}
 use Rattle.gaggle_codes.proofs.RangeItems.{range_same, range_long}
 use Rattle.gaggle_codes.proofs.Wholes.{chain_none, fill}
+use Rattle.number_defs.proofs.Equations.{value_items-is}
 
 -- ---- items
 
 module _ (kind : Kind) (option : ℕ) (xs : List ℕ) where
   -- the items, if each makes a number whole
   pub alone : (n : ℕ) → (option ≡ 0) ⊎ (option ≡ uncoded kind.bits) → difference_items kind option n xs ≡ whole_items kind option n xs
-  unfolding value_items
-  alone n h = grind (arith, nat_tests, range_same, append-nil)
+  alone n h = simp value_items-is (grind (arith, nat_tests, range_same, append-nil))
 
   -- the items, if all unary parts are first
   pub split : (n : ℕ) → (option ≡ uncoded kind.bits → ⊥) → (option ≡ 0 → ⊥) → difference_items kind option n xs ≡ map (unary_part kind xs option) (range_with_len 1 n) ++ whole_items kind option n xs
-  unfolding value_items
-  split n a b = grind (arith, nat_tests, range_same)
+  split n a b = simp value_items-is (grind (arith, nat_tests, range_same))
 
   pub whole_alone : (n m : ℕ) → (option ≡ 0) ⊎ (option ≡ uncoded kind.bits) → whole_of kind.bits option n m ≡ m
   whole_alone n m h2 = grind (arith, nat_tests)

@@ -1,8 +1,6 @@
 -- The parts of a gaggle, read one after another.
-use Rattle.std.proofs.Common.{◌≡◌, ℕ, zero, suc, ◌+◌, ◌-◌, ◌^◌, ◌<◌, ◌≤◌, List, [], ◌∷◌, ◌++◌, length, map, take, get_or, true, cond, eqb, Ok, Err, refl, sym, ap, subst, ◌∙◌, arith, add-one}
-use Rattle.std.specs.Prelude.{Result, Option, Some, None, nat_lt}
+use Rattle.std.proofs.Common.{◌≡◌, ℕ, zero, suc, ◌+◌, ◌-◌, ◌^◌, ◌<◌, ◌≤◌, List, [], ◌∷◌, ◌++◌, length, map, take, get_or, true, cond, eqb, Ok, Err, refl, sym, ap, subst, ◌∙◌, arith, add-one, Result, Option, Some, None, nat_lt, pow_pos}
 use Rattle.std.proofs.lemmas.Bool.Decides.{nat_tests}
-use Rattle.std.proofs.lemmas.Nat.{pow_pos}
 use Rattle.std.specs.List.{range_with_len}
 use Rattle.item_defs.specs.Items.{Item, text}
 use Rattle.item_defs.specs.Readings.{whole, ended, refused}
@@ -19,6 +17,7 @@ use Rattle.number_defs.specs.Gaggles.{Kind, uncoded, uncoded_value, unary_part, 
 use Rattle.gaggle_codes.specs.Taken.{whole_of, difference_items, IsOption, option_item, TakesReference, TakesDifferences, given_in, HasGaggle, TakesGaggle}
 use Rattle.gaggle_codes.proofs.RangeItems.{range_same}
 use Rattle.bit_pipe.proofs.Endings.{later_read, later_answer, cut_within}
+use Rattle.number_defs.proofs.Equations.{value_items-is, gaggle_items-is}
 
 -- ---- one item
 
@@ -49,14 +48,14 @@ module _ (kind : Kind) (option : ℕ) (xs ys : List ℕ) (a b n : ℕ) (before :
   each_same f looks = grind (arith, nat_tests, range_same)
 
   pub values_same : value_items kind xs option (range_with_len a n) ≡ value_items kind ys option (range_with_len b n)
-  unfolding value_items
   values_same =
+      simp value_items-is (
       let u = each_same (uncoded_value kind) (λ zs i. refl) in
       let v = each_same (λ zs. unary_part kind zs option) (λ zs i. refl) in
       let w = each_same (λ zs. rest_part kind zs option) (λ zs i. refl) in
       ap (λ l. cond (eqb option (uncoded kind.bits)) l (map (unary_part kind xs option) (range_with_len a n) ++ cond (eqb option 0) [] (map (rest_part kind xs option) (range_with_len a n)))) u
       ∙ ap (λ l. cond (eqb option (uncoded kind.bits)) (map (uncoded_value kind ys) (range_with_len b n)) (l ++ cond (eqb option 0) [] (map (rest_part kind xs option) (range_with_len a n)))) v
-      ∙ ap (λ l. cond (eqb option (uncoded kind.bits)) (map (uncoded_value kind ys) (range_with_len b n)) (map (unary_part kind ys option) (range_with_len b n) ++ cond (eqb option 0) [] l)) w
+      ∙ ap (λ l. cond (eqb option (uncoded kind.bits)) (map (uncoded_value kind ys) (range_with_len b n)) (map (unary_part kind ys option) (range_with_len b n) ++ cond (eqb option 0) [] l)) w)
 
 -- ---- the items of a gaggle
 
@@ -65,15 +64,15 @@ module _ (kind : Kind) (option size : ℕ) where
   next_items p heights = option_item kind.bits option ∷ difference_items kind option size (p ∷ heights)
 
   pub next_same : (g p : ℕ) (heights xs : List ℕ) → HasGaggle (g + 1) p size heights xs → gaggle_items kind xs option (g + 1) ≡ next_items p heights
-  unfolding gaggle_items next_items
-  next_same g p heights xs h = grind (arith, nat_tests, values_same)
+  unfolding next_items
+  next_same g p heights xs h = simp gaggle_items-is (grind (arith, nat_tests, values_same))
 
   pub first_items : List ℕ → List Item
   first_items heights = option_item kind.bits option ∷ reference kind (get_or heights 0 0) ∷ difference_items kind option (size - 1) heights
 
   pub first_same : (p : ℕ) (heights xs : List ℕ) → 1 ≤ size → HasGaggle 0 p size heights xs → gaggle_items kind xs option 0 ≡ first_items heights
-  unfolding gaggle_items first_items
-  first_same p heights xs some h = grind (arith, nat_tests, values_same)
+  unfolding first_items
+  first_same p heights xs some h = simp gaggle_items-is (grind (arith, nat_tests, values_same))
 
 -- ---- the results of calls
 

@@ -1,6 +1,5 @@
 -- The first option of the fewest bits.
-use Rattle.std.proofs.Common.{◌≡◌, ℕ, suc, ◌+◌, ◌*◌, ◌-◌, ◌/◌, ◌^◌, ◌<◌, ◌≤◌, List, [], ◌∷◌, length, get_or, true, false, refl, sym, ap, ◌∙◌, arith, leb, eqb, inl, inr}
-use Rattle.std.specs.Prelude.{◌⊎◌, ◌&&◌, sum, sum_by, find, Some}
+use Rattle.std.proofs.Common.{◌≡◌, ℕ, suc, ◌+◌, ◌*◌, ◌-◌, ◌/◌, ◌^◌, ◌<◌, ◌≤◌, List, [], ◌∷◌, length, get_or, true, false, refl, sym, ap, ◌∙◌, arith, leb, eqb, inl, inr, ◌⊎◌, ◌&&◌, sum, sum_by, find, Some}
 use Rattle.std.specs.List.{range_with_len, list_all}
 use Rattle.std.proofs.lemmas.Bool.Decides.{nat_tests}
 use Rattle.std.proofs.lemmas.List.Sums.{sum_by-cons}
@@ -9,6 +8,7 @@ use Rattle.number_defs.specs.Choice.{coded_bits, is_least, optimal}
 use Rattle.number_defs.proofs.Searching.{all_of_range, not_all_of_range, first_of_range}
 use Rattle.gaggle_codes.specs.Options.{name_of, named}
 use Rattle.gaggle_codes.proofs.Names.{uncoded_above, name_k, name_uncoded}
+use Rattle.number_defs.proofs.Equations.{coded_bits-is, optimal-is}
 
 -- ---- lists
 
@@ -36,12 +36,10 @@ pub record IsBest (N : ℕ) (values : List ℕ) (k best fewest : ℕ) : Type 0 w
   pub first : (best ≡ 15) ⊎ Beats N values k best fewest
 
 uncoded_bits : (N : ℕ) (values : List ℕ) → N * length values ≡ coded_bits N values (uncoded N)
-unfolding coded_bits
-uncoded_bits N values = let e : eqb (uncoded N) (uncoded N) ≡ true = grind (arith, nat_tests) in rw e refl
+uncoded_bits N values = simp coded_bits-is (let e : eqb (uncoded N) (uncoded N) ≡ true = grind (arith, nat_tests) in rw e refl)
 
 split_bits : (N : ℕ) (values : List ℕ) (k : ℕ) → 2 ≤ N → N ≤ 10 → k ≤ N - 2 → sum_by (λ v. (v / 2 ^ k + 1) + k) values ≡ coded_bits N values k
-unfolding coded_bits
-split_bits N values k low high le = grind (arith, nat_tests, uncoded_above)
+split_bits N values k low high le = simp coded_bits-is (grind (arith, nat_tests, uncoded_above))
 
 named_k : (N k : ℕ) → k < 15 → named N k ≡ k
 named_k N k lt = let e : eqb k 15 ≡ false = grind (arith, nat_tests) in rw e refl
@@ -94,8 +92,8 @@ module _ (N : ℕ) (values : List ℕ) where
       ]
 
   pub best_of_all : (best fewest : ℕ) → 2 ≤ N → N ≤ 10 → IsBest N values (N - 1) best fewest → best ≡ name_of N (optimal N values)
-  unfolding optimal
   best_of_all best fewest low high b =
+      simp optimal-is (
       elim b.first [
         | inl none ↦
             let same : fewest ≡ coded_bits N values (uncoded N) = b.cost ∙ ap (λ n. coded_bits N values (named N n)) none in
@@ -110,4 +108,4 @@ module _ (N : ℕ) (values : List ℕ) where
             first_of_range (is_least N values) 0 (N - 1) best (omega arith) (omega (arith, beats.below)) it
             (λ i le lt. not_least_where i best beats.below (omega (arith, same, beats.earlier_more i lt))) in
             rw (un, found) (name_k N best low high (omega (arith, beats.below)))
-      ]
+      ])

@@ -4,6 +4,7 @@ use Rattle.std.proofs.lemmas.Bool.Decides.{nat_tests}
 use Rattle.item_defs.specs.Bits.{bits_of}
 use Rattle.number_defs.specs.Gaggles.{identifier_bits, uncoded, is_option}
 use Rattle.gaggle_codes.specs.Options.{name_of}
+use Rattle.item_defs.proofs.NumberBits.{bits_none, bits_cons}
 
 -- each k is below the option that is all ones
 pub uncoded_above : (N : ℕ) → 2 ≤ N → N ≤ 10 → N - 2 < uncoded N
@@ -23,15 +24,14 @@ name_small N option high is = grind (arith, nat_tests)
 
 -- the low bits of 15 are all ones
 ones : (w : ℕ) → w ≤ 4 → bits_of w 15 ≡ bits_of w (2 ^ w - 1)
-unfolding bits_of
-ones zero le = refl
-ones (suc zero) le = refl
-ones (suc (suc zero)) le = refl
-ones (suc (suc (suc zero))) le = refl
+ones zero le = simp (bits_none, bits_cons)
+ones (suc zero) le = grind (arith, nat_tests, bits_none, bits_cons)
+ones (suc (suc zero)) le = grind (arith, nat_tests, bits_none, bits_cons)
+ones (suc (suc (suc zero))) le = grind (arith, nat_tests, bits_none, bits_cons)
 ones (suc (suc (suc (suc zero)))) le = refl
 ones (suc (suc (suc (suc (suc w))))) le = absurd (omega arith)
 
-few_identifier_bits : (N : ℕ) → identifier_bits N ≤ 4
+pub few_identifier_bits : (N : ℕ) → identifier_bits N ≤ 4
 few_identifier_bits N = grind (arith, nat_tests)
 
 -- an identifier's bits are those of the number that represents the option

@@ -1,11 +1,9 @@
 -- Numbers, read gaggle by gaggle.
-use Rattle.std.proofs.Common.{◌≡◌, ℕ, zero, suc, ◌+◌, ◌-◌, ◌*◌, ◌/◌, ◌%◌, ◌^◌, ◌<◌, ◌≤◌, min, ℤ, List, [], ◌++◌, length, map, take, get_or, Bool, true, false, cond, eqb, Ok, Err, refl, sym, ap, subst, ◌∙◌, append_assoc, arith, inl, inr, length-append, length-take}
-use Rattle.std.specs.Prelude.{Result}
+use Rattle.std.proofs.Common.{◌≡◌, ℕ, zero, suc, ◌+◌, ◌-◌, ◌*◌, ◌/◌, ◌%◌, ◌^◌, ◌<◌, ◌≤◌, min, ℤ, List, [], ◌++◌, length, map, take, get_or, Bool, true, false, cond, eqb, Ok, Err, refl, sym, ap, subst, ◌∙◌, append_assoc, arith, inl, inr, length-append, length-take, add-one, Result, pow_pos}
 use Rattle.std.specs.List.{range_with_len}
 use Rattle.std.specs.Int.{div_ceil}
 use Rattle.std.proofs.lemmas.Bool.{cases_lt}
 use Rattle.std.proofs.lemmas.Bool.Decides.{nat_tests}
-use Rattle.std.proofs.lemmas.Nat.{pow_pos}
 use Rattle.std.proofs.lemmas.List.{append-nil, take_all, get_or_append_left, get_or-append-add, get_or_past, get_or-take, get_or_default, same_lists}
 use Rattle.item_defs.proofs.BitLists.{take_past}
 use Rattle.std.proofs.lemmas.List.FromFn.{length-map-range_with_len, get_or-map-range_with_len}
@@ -30,6 +28,7 @@ use Rattle.gaggle_codes.specs.Given.{SetsCells}
 use Rattle.gaggle_codes.specs.Taken.{IsOption, given_in, HasGaggle, TakesGaggle, TakesNumbers, numbers_answer}
 use Rattle.bit_pipe.proofs.Endings.{of_fault, ended_differs, err_differs, whole_ending, cut_from, cut_within, read_later}
 use Rattle.number_defs.specs.Gaggles.{uncoded}
+use Rattle.number_defs.proofs.Equations.{items_before-none, items_before-more}
 use Rattle.gaggle_codes.proofs.Setting.{sets_as}
 use Rattle.gaggle_codes.proofs.Counting.{gaggle_total, through_in, gaggle_count_is, before_more, before_grows, through_is, given_whole, given_where, through_within, given_few, before_same}
 
@@ -106,13 +105,12 @@ take_padded count n xs within fits =
 
 -- what follows the first gaggles
 gaggles_rest : (kind : Kind) (xs : List ℕ) (o : ℕ → ℕ) (g d : ℕ) → (more : List Item) × (items_before kind xs o (g + d) ≡ items_before kind xs o g ++ more)
-unfolding items_before
 gaggles_rest kind xs o g zero = ([], (let z : g + 0 ≡ g = omega arith in ap (items_before kind xs o) z) ∙ sym (append-nil (items_before kind xs o g)))
 gaggles_rest kind xs o g (suc d) =
     let r = gaggles_rest kind xs o g d in
     let z : g + suc d ≡ suc (g + d) = omega arith in
     let last = gaggle_items kind xs (o (g + d)) (g + d) in
-    (r.0 ++ last, ap (items_before kind xs o) z ∙ ap (λ l. l ++ last) r.1 ∙ append_assoc (items_before kind xs o g) r.0 last)
+    (r.0 ++ last, ap (items_before kind xs o) z ∙ items_before-more kind xs o (g + d) ∙ ap (λ l. l ++ last) r.1 ∙ append_assoc (items_before kind xs o g) r.0 last)
 
 -- ---- the first gaggles
 
@@ -131,7 +129,6 @@ pub record SoFar {I : Type 0} (k : SourceOf I) (range : NumberRange) (too_great 
 
 module _ {I : Type 0} {k : SourceOf I} (range : NumberRange) (too_great : ℕ → Bool) (shift stride count : ℕ) where
   pub so_start : (a : Coming I) {before now : List ℤ} → IsIn a → SetsCells range shift stride [] before now → SoFar k range too_great shift stride count 0 0 a a before now
-  unfolding items_before
   so_start a h c = record {
     heights = [];
     all = omega arith;
@@ -143,7 +140,7 @@ module _ {I : Type 0} {k : SourceOf I} (range : NumberRange) (too_great : ℕ �
     last_is = λ lt. absurd (omega (arith, lt));
     small = pow_pos range.bits;
     cells = c;
-    so_far = takes_start k a h;
+    so_far = simp items_before-none (takes_start k a h);
   }
 
   -- ---- a gaggle after them
@@ -181,8 +178,11 @@ module _ {I : Type 0} {k : SourceOf I} (range : NumberRange) (too_great : ℕ �
 
       with_more : items_before (kind_of range too_great) (padded count (s.heights ++ t.heights)) (with_option s.options g t.option) (g + 1) ≡
           items_before (kind_of range too_great) (padded count (s.heights ++ t.heights)) (with_option s.options g t.option) g ++ t.items
-      unfolding items_before
-      with_more = grind (arith, nat_tests, padded, with_option, with_here, here_items)
+      with_more =
+          ap (items_before (kind_of range too_great) (padded count (s.heights ++ t.heights)) (with_option s.options g t.option)) (add-one g)
+          ∙ items_before-more (kind_of range too_great) (padded count (s.heights ++ t.heights)) (with_option s.options g t.option) g
+          ∙ ap (λ l. items_before (kind_of range too_great) (padded count (s.heights ++ t.heights)) (with_option s.options g t.option) g ++ l)
+          (ap (λ o. gaggle_items (kind_of range too_great) (padded count (s.heights ++ t.heights)) o g) (with_here s.options g t.option) ∙ here_items)
 
       kind : Kind
       kind = kind_of range too_great

@@ -1,10 +1,9 @@
 -- Heights as sums of 32 bits.
-use Rattle.std.proofs.Common.{◌≡◌, ℕ, ◌^◌, ◌≤◌, ℤ, pos, ◌+ℤ◌, ap, ◌∙◌, arith, Bool}
+use Rattle.std.proofs.Common.{◌≡◌, ℕ, ◌^◌, ◌≤◌, ℤ, pos, ◌+ℤ◌, ap, ◌∙◌, arith, Bool, pow_mono}
 use Rattle.std.specs.Int.{int_shr}
 use mir.Val.{to_z, of_z, SFits}
 use mir.Syntax.{w32}
 use Rattle.std.proofs.lemmas.Int.{ints, to_z-of_z}
-use Rattle.std.proofs.Math.Pow.{pow_mono}
 use Rattle.std.proofs.lemmas.Bool.Decides.{nat_tests}
 use Rattle.number_defs.specs.Ranges.{negatives, IsInRange, height_of}
 use Rattle.number_defs.proofs.Heights.{height_below, negatives_fit}

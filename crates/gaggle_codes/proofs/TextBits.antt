@@ -1,6 +1,5 @@
 -- The bits of the items of numbers.
-use Rattle.std.proofs.Common.{◌≡◌, ℕ, zero, suc, ◌+◌, ◌-◌, ◌/◌, ◌^◌, ◌<◌, ◌≤◌, List, [], ◌∷◌, ◌++◌, map, get_or, Bool, true, eqb, cond, refl, sym, ap, ◌∙◌, arith}
-use Rattle.std.specs.Prelude.{flat_map}
+use Rattle.std.proofs.Common.{◌≡◌, ℕ, zero, suc, ◌-◌, ◌/◌, ◌^◌, ◌<◌, ◌≤◌, List, [], ◌∷◌, ◌++◌, map, get_or, Bool, true, eqb, cond, refl, sym, ap, ◌∙◌, arith, flat_map}
 use Rattle.std.proofs.lemmas.Bool.Decides.{nat_tests}
 use Rattle.std.proofs.lemmas.List.Concat.{flat_map-cons}
 use Rattle.number_defs.proofs.AreItems.{option_within}
@@ -13,6 +12,7 @@ use Rattle.number_defs.proofs.MappingLaws.{mapped_below}
 use Rattle.gaggle_codes.specs.Options.{name_of}
 use Rattle.gaggle_codes.specs.GaggleBits.{unary_bits, rest_bits, value_bits, lead_bits, gaggle_bits, bits_before}
 use Rattle.gaggle_codes.proofs.Names.{name_bits}
+use Rattle.number_defs.proofs.Equations.{value_items-is, gaggle_items-is, items_before-none, items_before-more}
 
 each_text : (f : ℕ → Item) (g : ℕ → ℕ) (b : ℕ → List Bool) → ((i : ℕ) → item_bits (f i) ≡ b (g i)) → (at : List ℕ) → text (map f at) ≡ flat_map b (map g at)
 each_text f g b same [] = refl
@@ -32,21 +32,20 @@ module _ (kind : Kind) (heights : List ℕ) (few : (i : ℕ) → get_or heights 
   split_text k at le = grind (arith, nat_tests, each_text, unary_text, text-append)
 
   values_text : (option : ℕ) (at : List ℕ) → is_option kind.bits option ≡ true → text (value_items kind heights option at) ≡ value_bits kind.bits (name_of kind.bits option) (map (value_at kind.bits heights) at)
-  unfolding value_items
-  values_text option at is = grind (arith, nat_tests, each_text, option_within, split_text)
+  values_text option at is = simp value_items-is (grind (arith, nat_tests, each_text, option_within, split_text))
 
   lead_text : (g : ℕ) → text (lead_items kind heights g) ≡ lead_bits kind.signed kind.bits heights g
   lead_text zero = text-one (reference kind (get_or heights 0 0))
   lead_text (suc g) = refl
 
   gaggle_text : (option g : ℕ) → is_option kind.bits option ≡ true → text (gaggle_items kind heights option g) ≡ gaggle_bits kind.signed kind.bits heights (name_of kind.bits option) g
-  unfolding gaggle_items
-  gaggle_text option g is = grind (arith, nat_tests, text-cons, name_bits, text-append, lead_text, values_text)
+  gaggle_text option g is = simp gaggle_items-is (grind (arith, nat_tests, text-cons, name_bits, text-append, lead_text, values_text))
 
   pub before_text : (options : ℕ → ℕ) → ((g : ℕ) → is_option kind.bits (options g) ≡ true) → (g : ℕ) → text (items_before kind heights options g) ≡ bits_before kind.signed kind.bits heights (λ h. name_of kind.bits (options h)) g
-  unfolding items_before bits_before
-  before_text options are zero = refl
+  unfolding bits_before
+  before_text options are zero = simp (items_before-none, items_before-more)
   before_text options are (suc g) =
+      simp (items_before-none, items_before-more) (
       text-append (items_before kind heights options g) (gaggle_items kind heights (options g) g)
       ∙ ap (λ r. r ++ text (gaggle_items kind heights (options g) g)) (before_text options are g)
-      ∙ ap (λ r. bits_before kind.signed kind.bits heights (λ h. name_of kind.bits (options h)) g ++ r) (gaggle_text (options g) g (are g))
+      ∙ ap (λ r. bits_before kind.signed kind.bits heights (λ h. name_of kind.bits (options h)) g ++ r) (gaggle_text (options g) g (are g)))

@@ -1,10 +1,8 @@
 -- The bits of mapped values under an option.
-use Rattle.std.proofs.Common.{◌≡◌, ℕ, List, ◌++◌, true, false, eqb, refl, arith}
-use Rattle.std.specs.Prelude.{◌≢◌, Result, Err, flat_map}
+use Rattle.std.proofs.Common.{◌≡◌, ℕ, List, ◌++◌, true, false, eqb, refl, arith, ◌≢◌, Result, Err, flat_map, append-nil}
 use Rattle.std.proofs.lemmas.Bool.{cases_eq}
 use Rattle.std.proofs.Common.{inl, inr}
 use Rattle.std.proofs.lemmas.Bool.Decides.{nat_tests}
-use Rattle.std.proofs.lemmas.List.{append-nil}
 use Rattle.item_defs.specs.Bits.{bits_of}
 use Rattle.bit_pipe.specs.Sinks.{SinkOf}
 use Rattle.bit_pipe.specs.Standing.{Standing, Adds, Puts}

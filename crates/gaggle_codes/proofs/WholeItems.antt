@@ -1,6 +1,5 @@
 -- Items that make numbers whole, each given by the number before and the number.
-use Rattle.std.proofs.Common.{◌≡◌, ℕ, ◌/◌, ◌^◌, ◌<◌, [], ◌∷◌, Bool, cond, sym, ap, ◌∙◌, arith}
-use Rattle.std.specs.Prelude.{Some, None}
+use Rattle.std.proofs.Common.{◌≡◌, ℕ, ◌/◌, ◌^◌, ◌<◌, [], ◌∷◌, Bool, cond, sym, ap, ◌∙◌, arith, Some, None}
 use Rattle.std.proofs.lemmas.Bool.Decides.{nat_tests}
 use Rattle.std.proofs.lemmas.Nat.{mod_low}
 use Rattle.item_defs.specs.Items.{fixed, zeros_to, Item, IsSaid, spelling, item_bits, bad_delta, bad_depth}

@@ -1,9 +1,7 @@
 -- The result of a loop that reads the numbers of a gaggle.
-use Rattle.std.proofs.Common.{◌≡◌, ℕ, ◌+◌, ◌-◌, ◌/◌, ◌^◌, ◌<◌, ◌≤◌, List, [], ◌∷◌, ◌++◌, length, map, take, get_or, Bool, true, Ok, Err, refl, sym, ap, subst, ◌∙◌, append_assoc, arith, inl, inr}
-use Rattle.std.specs.Prelude.{Some, None}
+use Rattle.std.proofs.Common.{◌≡◌, ℕ, ◌+◌, ◌-◌, ◌/◌, ◌^◌, ◌<◌, ◌≤◌, List, [], ◌∷◌, ◌++◌, length, map, take, get_or, Bool, true, Ok, Err, refl, sym, ap, subst, ◌∙◌, append_assoc, arith, inl, inr, Some, None, append-nil, take_at, take_all}
 use Rattle.std.specs.List.{range_with_len}
 use Rattle.std.proofs.lemmas.Bool.Decides.{nat_tests}
-use Rattle.std.proofs.lemmas.List.{append-nil, take_at, take_all}
 use Rattle.std.proofs.lemmas.Nat.{div-mul-add}
 use Rattle.item_defs.specs.Items.{zeros_to, IsSaid, spelling, text, bad_delta, bad_depth}
 use Rattle.item_defs.specs.Readings.{whole, ended, refused}

@@ -1,8 +1,6 @@
 -- The values that items make whole.
-use Rattle.std.proofs.Common.{◌≡◌, ℕ, ◌+◌, ◌-◌, ◌*◌, ◌%◌, ◌^◌, ◌<◌, ◌≤◌, true, Ok, Err, sym, ◌∙◌, arith}
-use Rattle.std.specs.Prelude.{Option, Some, None, Result}
+use Rattle.std.proofs.Common.{◌≡◌, ℕ, ◌+◌, ◌-◌, ◌*◌, ◌%◌, ◌^◌, ◌<◌, ◌≤◌, true, Ok, Err, sym, ◌∙◌, arith, Option, Some, None, Result, pow_mono}
 use Rattle.std.proofs.lemmas.Nat.{pow-add, mul-add-lt, pow_pos}
-use Rattle.std.proofs.Math.Pow.{pow_mono}
 use Rattle.std.proofs.lemmas.Bool.Decides.{nat_tests}
 use Rattle.item_defs.specs.Items.{Shape, fixed, zeros_to}
 use Rattle.bit_pipe.specs.declared.fault.TextFault.{TextFault}

@@ -1,10 +1,6 @@
 -- The zeros of unary parts, read one after another.
-use Rattle.std.proofs.Common.{◌≡◌, ℕ, ◌+◌, ◌-◌, ◌/◌, ◌^◌, ◌<◌, ◌≤◌, List, length, map, get_or, Bool, Ok, Err, eqb, refl, sym, subst, ◌∙◌, arith, inl, inr}
-use Rattle.std.specs.Prelude.{Some, None}
+use Rattle.std.proofs.Common.{◌≡◌, ℕ, ◌+◌, ◌-◌, ◌/◌, ◌^◌, ◌<◌, ◌≤◌, List, length, map, get_or, Bool, Ok, Err, eqb, refl, sym, subst, ◌∙◌, arith, inl, inr, Some, None, set, get_or-set_same, get_or-set_other, pow_pos}
 use Rattle.std.specs.List.{range_with_len}
-use Rattle.std.proofs.Math.ListN.{set}
-use Rattle.std.proofs.lemmas.List.{get_or-set_same, get_or-set_other}
-use Rattle.std.proofs.lemmas.Nat.{pow_pos}
 use Rattle.std.proofs.lemmas.Bool.Decides.{nat_tests}
 use Rattle.item_defs.specs.Items.{zeros_to, spelling, item_bits, text, bad_delta}
 use Rattle.item_defs.specs.Readings.{whole, ended, refused}

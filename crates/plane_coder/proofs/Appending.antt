@@ -1,10 +1,7 @@
 -- Entries that are added one after another, and put together.
-use Rattle.std.proofs.Common.{◌≡◌, ℕ, zero, suc, ◌+◌, ◌*◌, ◌-◌, ◌/◌, ◌%◌, ◌<◌, ◌≤◌, Bool, true, false, cond, ◌||◌, List, [], ◌∷◌, ◌++◌, length, map, nat_lt, get_or, set, refl, ap, sym, ◌∙◌, subst, arith, append_assoc, append-nil}
-use Rattle.std.specs.Prelude.{Result, if◌then◌else◌}
-use Rattle.std.specs.List.{list_any, flat_map}
+use Rattle.std.proofs.Common.{◌≡◌, ℕ, zero, suc, ◌+◌, ◌-◌, ◌/◌, ◌%◌, ◌<◌, ◌≤◌, Bool, true, false, List, [], ◌∷◌, ◌++◌, length, map, nat_lt, get_or, set, refl, ap, sym, ◌∙◌, subst, arith, append_assoc, append-nil, Result, if◌then◌else◌}
+use Rattle.std.specs.List.{list_any}
 use Rattle.std.proofs.lemmas.Bool.Decides.{nat_tests}
-use Rattle.plane_defs.specs.Spans.{span}
-use Rattle.plane_defs.proofs.SpanLists.{flat_map-span-suc, flat_map-span-none}
 use Rattle.item_defs.specs.Bits.{bits_of}
 use Rattle.item_defs.specs.Items.{item_bits, text}
 use Rattle.item_defs.proofs.NumberBits.{bits_none}
@@ -23,12 +20,10 @@ use Rattle.block_masks.specs.declared.gaggle.Gaggle.{Gaggle}
 use Rattle.block_masks.specs.Gaggles.{Agrees}
 use Rattle.plane_coder.specs.Spells.{Spells}
 use Rattle.plane_coder.specs.declared.pending.PendingBits.{PendingBits}
-use Rattle.plane_coder.specs.declared.plane_masks.Typed.{Typed}
-use Rattle.plane_coder.specs.Picked.{word_of, raws_of, entries_of}
+use Rattle.plane_coder.specs.Picked.{word_of}
 use Rattle.plane_coder.specs.Coding.{word_bits, option_for, unopened}
 use Rattle.plane_coder.specs.Appends.{Appends, Opens, identified, said, load}
 use Rattle.block_masks.proofs.Agreeing.{agrees_other, agrees_again, agrees_first}
-use Rattle.plane_coder.proofs.FourTypes.{IsTyped}
 use Rattle.plane_coder.proofs.Spelling.{on_ok, puts_open, raw_text, short_text, again_text, first_text}
 
 -- no entries add nothing
@@ -57,25 +52,6 @@ appends_both {book} {a} {b} {c} {xs} {ys} m n first second = record {
   options = second.options ∙ first.options;
   load = omega (arith, first.load, second.load);
 }
-
--- the places of a span, and one more
-pub appends_more : {book : Book} {a b c : PendingBits} (f : ℕ → List Entry) (start n most : ℕ) → Appends book a b (flat_map f (span start n)) (most * n) → Appends book b c (f (start + n)) most →
-    Appends book a c (flat_map f (span start (n + 1))) (most * (n + 1))
-appends_more {book} {a} {b} {c} f start n most p q =
-    let whole : most * n + most ≡ most * (n + 1) = grind arith in
-    subst (λ m. Appends book a c (flat_map f (span start (n + 1))) m) whole (subst (λ l. Appends book a c l (most * n + most)) (sym (flat_map-span-suc f start n)) (appends_both (most * n) most p q))
-
-pub appends_start : (book : Book) (a : PendingBits) (f : ℕ → List Entry) (start most : ℕ) → Appends book a a (flat_map f (span start 0)) (most * 0)
-appends_start book a f start most =
-    let none : 0 ≡ most * 0 = omega arith in
-    subst (Appends book a a (flat_map f (span start 0))) none (subst (λ l. Appends book a a l 0) (sym (flat_map-span-none f start)) (appends_none book a))
-
--- entries that are added if a test holds
-pub appends_if_not : {book : Book} {b : Bool} (a : PendingBits) (xs : List Entry) (most : ℕ) → b ≡ false → Appends book a a (cond b xs []) most
-appends_if_not {book} a xs most not_so = subst (λ b. Appends book a a (cond b xs []) most) (sym not_so) (appends_less 0 most (omega arith) (appends_none book a))
-
-pub appends_if : {book : Book} {a c : PendingBits} {b : Bool} {xs ys : List Entry} {most : ℕ} → b ≡ true → xs ≡ ys → Appends book a c xs most → Appends book a c (cond b ys []) most
-appends_if {book} {a} {c} {b} {xs} {ys} {most} so same p = subst (λ b. Appends book a c (cond b ys []) most) (sym so) (subst (λ l. Appends book a c l most) same p)
 
 -- where no bits wait, nothing is said
 pub silent_said : (a : PendingBits) → a.count ≡ 0 → said a ≡ []
@@ -107,7 +83,7 @@ spells_said {S} {k} {book} {a} {b} {g} {r} {s} {t} {xs} most opened silent p put
 less : (n : ℕ) → n < 2 → nat_lt n 2 ≡ true
 less n h = grind arith
 
-no_less : (n : ℕ) → 2 ≤ n → nat_lt n 2 ≡ false
+pub no_less : (n : ℕ) → 2 ≤ n → nat_lt n 2 ≡ false
 no_less n h = grind arith
 
 pub opens_short : (n : ℕ) (a : PendingBits) → n < 2 → Opens n a a
@@ -142,10 +118,6 @@ is_long n a is = grind (arith, nat_tests)
 
 pub is_due : (n : ℕ) (a : PendingBits) → get_or a.opened n false ≡ false → get_or a.gaggle.sent (n - 2) false ≡ false
 is_due n a is = grind (arith, nat_tests)
-
--- the identifier was sent
-pub opened_there : (n : ℕ) (opened sent : List Bool) → 2 ≤ n → opened ≡ true ∷ true ∷ sent → set opened n true ≡ true ∷ true ∷ set sent (n - 2) true
-opened_there n opened sent low is = grind (arith, nat_tests, set)
 
 pub opens_first : (n : ℕ) (a b : PendingBits) → 2 ≤ n → n ≤ 4 → length a.gaggle.sent ≡ 3 → get_or a.gaggle.sent (n - 2) false ≡ false →
     said b ≡ said a ++ item_bits (option_item n (option_of a.gaggle.options n)) → b.gaggle.sent ≡ set a.gaggle.sent (n - 2) true → b.gaggle.options ≡ a.gaggle.options → Opens n a b
@@ -216,23 +188,3 @@ appends_raws book a b bits most put kept more = record {
   options = ap (λ g. g.options) kept;
   load = more;
 }
-
--- a word of no bits adds nothing
-pub appends_nothing : {book : Book} {a c : PendingBits} {most : ℕ} → Appends book a c (word_of 0 ∷ map Bit (bits_of 0 0)) most → Appends book a c [] most
-unfolding bits_of
-appends_nothing {book} {a} {c} p = record {
-  bits = λ before agrees. p.bits before agrees ∙ ap (λ l. said a ++ l) (said_text book a.gaggle.options before (record { value = 0; count = 0 }));
-  agrees = λ before agrees. record { at = λ n low high. (p.agrees before agrees).at n low high ∙ no_longer before n low };
-  options = p.options;
-  load = p.load;
-}
-  where
-    no_longer : (before : List Entry) (n : ℕ) → 2 ≤ n → list_any (is_word_of n) (before ++ word_of 0 ∷ []) ≡ list_any (is_word_of n) (before ++ [])
-    no_longer [] n low = let other : is_word_of n (word_of 0) ≡ false = grind arith in ap (λ b. b || false) other
-    no_longer (x ∷ before) n low = ap (λ b. is_word_of n x || b) (no_longer before n low)
-
--- types and signs that are added if a test holds
-pub appends_typed : {book : Book} {a c : PendingBits} {b : Bool} {t : Typed} {entries : List Entry} {most : ℕ} → IsTyped b t entries → Appends book a c (entries_of t) most → Appends book a c (cond b entries []) most
-appends_typed {book} {a} {c} {b = true} {most = most} is p = subst (λ l. Appends book a c l most) (is.said refl) p
-appends_typed {book} {a} {c} {b = false} {t} {most = most} is p =
-    appends_nothing (subst (λ v. Appends book a c (word_of 0 ∷ raws_of v) most) (is.no_signs refl) (subst (λ w. Appends book a c (word_of w ∷ raws_of t.signs) most) (is.no_word refl) p))

@@ -1,6 +1,5 @@
 -- One block of many.
-use Rattle.std.proofs.Common.{◌≡◌, ℕ, ◌+◌, ◌-◌, ◌*◌, ◌<◌, ◌≤◌, ℤ, pos, List, [], length, take, drop, arith, get_or}
-use Rattle.std.specs.List.{slice_range}
+use Rattle.std.proofs.Common.{◌≡◌, ℕ, ◌+◌, ◌*◌, ◌<◌, ◌≤◌, ℤ, pos, List, [], length, take, drop, arith, get_or, slice_range}
 use Rattle.std.proofs.lemmas.List.FromFn.{get_or-map-range_with_len}
 use Rattle.std.proofs.lemmas.Bool.Decides.{nat_tests}
 use Rattle.plane_defs.specs.declared.stages.Stage.{Stage}
@@ -8,10 +7,10 @@ use Rattle.plane_defs.specs.Entries.{block_entries}
 use Rattle.wave_defs.specs.Held.{blocks_in}
 use Rattle.plane_defs.specs.Marks.{depth_of, depths_of}
 use Rattle.block_masks.proofs.Marking.{depth_there}
+use Rattle.wave_defs.proofs.Equations.{blocks_in-is}
 
 block_there : (cells : List ℤ) (r : ℕ) → 64 * r + 64 ≤ length cells → get_or (blocks_in cells) r [] ≡ take 64 (drop (64 * r) cells)
-unfolding blocks_in
-block_there cells r within = grind (arith, nat_tests, get_or-map-range_with_len)
+block_there cells r within = rw blocks_in-is (grind (arith, nat_tests, get_or-map-range_with_len))
 
 pub stage_there : (stage : Stage) (cells marks : List ℤ) (weights : List ℕ) (plane q r d : ℕ) → length cells ≡ 64 * length marks → r < length marks →
     d ≡ depth_of (get_or marks r (pos 0)) →

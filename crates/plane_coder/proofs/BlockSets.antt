@@ -12,6 +12,7 @@ use Rattle.plane_defs.specs.Spans.{span}
 use Rattle.plane_defs.specs.Sets.{magnitude, set_significant, refined, children_of, quad_of}
 use Rattle.plane_defs.specs.Entries.{typed, children_types, quads, quads_types, all_quads}
 use Rattle.plane_coder.specs.Refining.{refining}
+use Rattle.plane_defs.proofs.Equations.{span-none, span-more}
 
 span_both : (s m n : ℕ) → span s m ++ span (s + m) n ≡ span s (m + n)
 unfolding span
@@ -78,8 +79,7 @@ module _ (block : List ℤ) (weights : List ℕ) (plane : ℕ) where
       sym (map-append f (filter d (span s m)) (filter d (span (s + m) n))) ∙ ap (map f) (sym (filter-append d (span s m) (span (s + m) n)) ∙ ap (filter d) (span_both s m n))
 
   pub refining_none : (s : ℕ) → refining block weights plane s 0 ≡ []
-  unfolding span
-  refining_none s = refl
+  refining_none s = grind (arith, nat_tests, span-none, span-more)
 
   -- this number of fours, and one more
   pub refining_more : (from k : ℕ) → from ≤ k → refining block weights plane (4 * from) (4 * (k - from)) ++ refining block weights plane (4 * k) 4 ≡ refining block weights plane (4 * from) (4 * ((k + 1) - from))

@@ -1,28 +1,29 @@
 -- The options of one gaggle after another.
-use Rattle.std.proofs.Common.{◌≡◌, ◌⊎◌, inl, inr, ℕ, suc, ◌+◌, ◌*◌, ◌^◌, ◌<◌, ◌≤◌, ℤ, false, List, [], ◌∷◌, ◌++◌, length, refl, ap, sym, ◌∙◌, subst, arith, get_or}
-use Rattle.std.specs.Prelude.{sum}
-use Rattle.std.specs.List.{flat_map}
+use Rattle.std.proofs.Common.{◌≡◌, ◌⊎◌, inl, inr, ℕ, suc, ◌+◌, ◌*◌, ◌^◌, ◌<◌, ◌≤◌, ℤ, false, List, [], ◌∷◌, ◌++◌, length, refl, ap, sym, ◌∙◌, subst, arith, get_or, sum}
 use Rattle.std.proofs.lemmas.List.Sums.{sum_by-cons}
 use Rattle.std.specs.Int.{div_ceil}
 use Rattle.std.proofs.lemmas.List.{same_lists, append-nil}
 use Rattle.std.proofs.lemmas.Bool.Decides.{nat_tests}
 use Rattle.base_122.specs.declared.book.Book.{Book}
 use Rattle.plane_defs.specs.declared.entries.Entry.{Entry}
-use Rattle.plane_defs.specs.Spans.{span}
 use Rattle.plane_defs.specs.Choice.{cheapest, has_symbol, symbol_counts}
-use Rattle.plane_defs.specs.declared.stages.Stage.{Stage}
 use Rattle.plane_defs.specs.declared.stages.Stage.TheVariants.{Parents, Children, Grandchildren}
-use Rattle.plane_defs.specs.Planes.{Plane, of_block, gaggle_size, counted, chosen}
+use Rattle.plane_defs.specs.Planes.{Plane, of_gaggle, counted, chosen}
 use Rattle.plane_defs.specs.Marks.{depths_of}
-use Rattle.plane_defs.proofs.SpanLists.{length-map-span, get_or-map-span, flat_map-span-suc, flat_map-span-none}
+use Rattle.plane_defs.proofs.SpanLists.{length-map-span, get_or-map-span}
 use Rattle.plane_coder.specs.declared.tally.Tally.{Tally}
 use Rattle.plane_coder.specs.declared.view.View.{View}
 use Rattle.block_masks.specs.Gaggles.{first_mark, AreOptions, options_in, sent_in}
 use Rattle.block_masks.specs.Stored.{Stores}
 use Rattle.plane_coder.specs.Tallies.{count_at, counts_in, Counts, CountsOf, AreAtMost}
 use Rattle.plane_coder.specs.Views.{plane_in}
-use Rattle.plane_coder.proofs.Tallying.{count_by-append, counts_none, counts_less}
-use Rattle.plane_coder.specs.Chosen.{HasOptions, ChoosesFirst, Chooses, words_of_block}
+use Rattle.plane_coder.specs.declared.collect.GaggleWords.{GaggleWords}
+use Rattle.plane_coder.specs.Listed.{listed}
+use Rattle.plane_coder.specs.Collected.{HasWords}
+use Rattle.plane_coder.proofs.Tallying.{count_by-append}
+use Rattle.plane_coder.proofs.Alike.{count_alike}
+use Rattle.plane_coder.specs.Chosen.{HasOptions, ChoosesFirst, Chooses}
+use Rattle.plane_defs.proofs.Equations.{span-none, span-more}
 
 pub from_nothing : {a b : Tally} {xs : List Entry} (most : ℕ) → AreAtMost a 0 → Counts a b xs most → CountsOf b xs
 from_nothing most none p = record { at = λ n s low high below. omega (arith, none.at (16 * n + s), p.at n s low high below) }
@@ -57,58 +58,32 @@ sum_of_counts t n small =
     let wide : length (counts_in t n) * 2 ^ 13 ≡ 16 * 2 ^ 13 = ap (λ m. m * 2 ^ 13) whole in
     omega (arith, bound, wide)
 
--- ---- block after block: the stages are counted together, and follow one another
+-- ---- the words of a gaggle
 
-counts_three : {a b c : Tally} (m n : ℕ) (xs ys zs x y z : List Entry) → Counts a b (xs ++ (ys ++ zs)) m → Counts b c (x ++ (y ++ z)) n → Counts a c ((xs ++ x) ++ ((ys ++ y) ++ (zs ++ z))) (m + n)
-counts_three m n xs ys zs x y z p q = record {
-  at = λ k s low high below.
-      let h = has_symbol k s in
+-- those of its three stages are counted
+counted_is : (p : Plane) (g : ℕ) → of_gaggle p Parents g ++ (of_gaggle p Children g ++ of_gaggle p Grandchildren g) ≡ counted p g
+counted_is p g = grind (arith, nat_tests, append-nil, span-none, span-more)
+
+pub counts_of_words : (p : Plane) (g : ℕ) (t : Tally) (words : GaggleWords) → HasWords 0 (λ stage. of_gaggle p stage g) words →
+    CountsOf t (listed words.parents ++ (listed words.children ++ listed words.grandchildren)) → CountsOf t (counted p g)
+counts_of_words p g t words has counts = subst (CountsOf t) (counted_is p g) record {
+  at = λ n s low high below.
+      let h = has_symbol n s in
+      let x = of_gaggle p Parents g in
+      let y = of_gaggle p Children g in
+      let z = of_gaggle p Grandchildren g in
       omega (
         arith,
-        p.at k s low high below,
-        q.at k s low high below,
-        count_by-append h xs (ys ++ zs),
-        count_by-append h ys zs,
+        counts.at n s low high below,
+        count_by-append h (listed words.parents) (listed words.children ++ listed words.grandchildren),
+        count_by-append h (listed words.children) (listed words.grandchildren),
         count_by-append h x (y ++ z),
         count_by-append h y z,
-        count_by-append h (xs ++ x) ((ys ++ y) ++ (zs ++ z)),
-        count_by-append h (ys ++ y) (zs ++ z),
-        count_by-append h xs x,
-        count_by-append h ys y,
-        count_by-append h zs z,
+        count_alike n s (listed words.parents) x low (has.parents refl),
+        count_alike n s (listed words.children) y low (has.children refl),
+        count_alike n s (listed words.grandchildren) z low (has.grandchildren refl),
       );
-  most = λ i. omega (arith, p.most i, q.most i);
 }
-
--- the words of this number of blocks of a gaggle
-abbrev pub so_far : Plane → ℕ → ℕ → List Entry
-so_far p start n =
-    flat_map (of_block p Parents) (span start n) ++ (flat_map (of_block p Children) (span start n) ++ flat_map (of_block p Grandchildren) (span start n))
-
-pub none_counted : (p : Plane) (start : ℕ) (t : Tally) → Counts t t (so_far p start 0) (21 * 0)
-none_counted p start t =
-    let e = λ (s : Stage). flat_map-span-none (of_block p s) start in
-    let none : so_far p start 0 ≡ [] = ap (λ l. l ++ (flat_map (of_block p Children) (span start 0) ++ flat_map (of_block p Grandchildren) (span start 0))) (e Parents) ∙
-    ap (λ l. l ++ flat_map (of_block p Grandchildren) (span start 0)) (e Children) ∙ e Grandchildren in
-    subst (λ l. Counts t t l (21 * 0)) (sym none) (counts_less 0 (21 * 0) (omega arith) (counts_none t))
-
-pub one_counted : {a b c : Tally} (p : Plane) (start n : ℕ) → Counts a b (so_far p start n) (21 * n) → Counts b c (words_of_block p (start + n)) 21 → Counts a c (so_far p start (n + 1)) (21 * (n + 1))
-one_counted {a} {b} {c} p start n first next =
-    let f = λ (s : Stage). flat_map (of_block p s) (span start n) in
-    let g = λ (s : Stage). of_block p s (start + n) in
-    let e = λ (s : Stage). flat_map-span-suc (of_block p s) start n in
-    let whole : (f Parents ++ g Parents) ++ ((f Children ++ g Children) ++ (f Grandchildren ++ g Grandchildren)) ≡ so_far p start (n + 1) =
-    ap (λ l. l ++ ((f Children ++ g Children) ++ (f Grandchildren ++ g Grandchildren))) (sym (e Parents)) ∙
-    ap (λ l. flat_map (of_block p Parents) (span start (n + 1)) ++ (l ++ (f Grandchildren ++ g Grandchildren))) (sym (e Children)) ∙
-    ap (λ l. flat_map (of_block p Parents) (span start (n + 1)) ++ (flat_map (of_block p Children) (span start (n + 1)) ++ l)) (sym (e Grandchildren)) in
-    let most : 21 * n + 21 ≡ 21 * (n + 1) = omega arith in
-    subst (Counts a c (so_far p start (n + 1))) most (subst (λ l. Counts a c l (21 * n + 21)) whole
-    (counts_three (21 * n) 21 (f Parents) (f Children) (f Grandchildren) (g Parents) (g Children) (g Grandchildren) first next))
-
--- the words of stages 1 to 3 are counted
-pub counted_is : (p : Plane) (g : ℕ) → so_far p (16 * g) (gaggle_size p g) ≡ counted p g
-unfolding span
-counted_is p g = grind (arith, nat_tests, append-nil)
 
 has_later : (view : View) (depths : List ℕ) (old new : List ℤ) (h : ℕ) → first_mark new h ≡ first_mark old h → HasOptions view depths old h → HasOptions view depths new h
 has_later view depths old new h same p = record {

@@ -1,6 +1,5 @@
 -- The codes of all words, row by row.
-use Rattle.std.proofs.Common.{◌≡◌, true, false, ◌/◌, ℕ, zero, suc, ◌+◌, ◌*◌, ◌%◌, ◌<◌, ◌≤◌, ◌^◌, List, [], ◌∷◌, replicate, nat_lt, refl, ap, sym, ◌∙◌, arith, get_or, cond}
-use Rattle.std.proofs.Math.Pow.{pow_mono}
+use Rattle.std.proofs.Common.{◌≡◌, ℕ, zero, suc, ◌+◌, ◌*◌, ◌%◌, ◌<◌, ◌≤◌, ◌^◌, List, [], ◌∷◌, replicate, refl, ap, sym, ◌∙◌, arith, get_or, cond, pow_mono}
 use Rattle.std.proofs.lemmas.Nat.{one_shl}
 use Rattle.std.proofs.lemmas.Bool.Decides.{nat_tests}
 use Rattle.item_defs.specs.Bits.{bits_of}
@@ -11,13 +10,8 @@ use Rattle.base_122.specs.declared.book.Book.{Book}
 use Rattle.base_122.specs.Profile.{no_code}
 use Rattle.plane_defs.specs.Codes.{code_bits, word_item}
 use Rattle.plane_coder.specs.Coding.{IsCodeOf, IsWordOf, row_of, code_in, option_for}
+use Rattle.plane_coder.proofs.Appending.{no_less}
 use Rattle.block_masks.specs.Gaggles.{AreOptions}
-use Rattle.plane_coder.specs.Picked.{IsPacked}
-use Rattle.plane_defs.specs.Spelled.{option_of}
-use Rattle.block_masks.proofs.Agreeing.{option_known}
-
-no_less : (n : ℕ) → 2 ≤ n → nat_lt n 2 ≡ false
-no_less n h = grind arith
 
 pub coded_word : (book : Book) (length option v : ℕ) (code : Code) → 2 ≤ length → code_bits code ≡ item_bits (word_item book length option v) → code.len ≤ 8 → code.bits < 2 ^ code.len → IsCodeOf book length option v code
 coded_word book length option v code long is few fits = record {
@@ -83,11 +77,3 @@ rows_chosen options n le = grind (arith, nat_tests)
 
 pub rows_within : (options : List ℕ) → AreOptions options → (n : ℕ) → n ≤ 4 → get_or (rows options) n 0 < 11
 rows_within options known n le = grind (arith, nat_tests)
-
-pub word_of_length : (options : List ℕ) (word : ℕ) → AreOptions options → IsPacked word → IsWordOf (word / 16) (option_for options (word / 16)) (word % 16)
-word_of_length options word known packed = record {
-  long = packed.length;
-  known = λ low. let e = no_less (word / 16) low in rw e (option_known options (word / 16) known low packed.length);
-  short = λ low. let e : nat_lt (word / 16) 2 ≡ true = grind arith in ap (λ b. cond b 0 (option_of options (word / 16))) e;
-  fits = packed.value;
-}

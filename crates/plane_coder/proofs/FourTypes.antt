@@ -1,6 +1,5 @@
 -- What the masks of types have, four positions at a time.
-use Rattle.std.proofs.Common.{◌≡◌, ℕ, zero, suc, ◌+◌, ◌-◌, ◌*◌, ◌/◌, ◌%◌, ◌^◌, ◌<◌, ◌≤◌, ℤ, pos, Bool, true, false, not, ◌&&◌, ◌||◌, cond, List, [], ◌∷◌, ◌++◌, map, filter, get_or, nat_lt, slice_index_or, refl, ap, sym, ◌∙◌, subst, arith}
-use Rattle.std.specs.Prelude.{◌==◌}
+use Rattle.std.proofs.Common.{◌≡◌, ℕ, zero, suc, ◌+◌, ◌-◌, ◌*◌, ◌/◌, ◌%◌, ◌^◌, ◌<◌, ◌≤◌, ℤ, pos, Bool, true, false, not, ◌&&◌, ◌||◌, cond, List, [], ◌∷◌, ◌++◌, map, filter, get_or, nat_lt, slice_index_or, refl, ap, sym, ◌∙◌, subst, arith, ◌==◌}
 use Rattle.std.specs.List.{list_all, list_any}
 use Rattle.std.proofs.lemmas.Bool.{eqb-true, ltb-true, lt-ltb, false≢true}
 use Rattle.std.proofs.lemmas.Bool.Decides.{nat_tests}
@@ -15,50 +14,46 @@ use Rattle.plane_defs.proofs.SpanLists.{map-filter-span-suc, map-filter-span-non
 use Rattle.plane_defs.proofs.SpanLists.{list_any-span-suc, list_any-span-none}
 use Rattle.block_masks.specs.Masks.{Shows}
 use Rattle.block_masks.specs.Picks.{packed}
-use Rattle.plane_coder.specs.declared.fours.TheConstants.{WORDS, SIGNS, FILLED, SOME}
+use Rattle.block_masks.proofs.Picking.{four_is, of_each, or_from}
+use Rattle.plane_coder.specs.declared.fours.TheConstants.{TYPED, FILLED, SOME}
 use Rattle.plane_coder.specs.declared.plane_masks.Typed.{Typed}
-use Rattle.plane_coder.specs.Picked.{entries_of, IsPacked, ArePacked}
+use Rattle.plane_coder.specs.Picked.{word_in, signs_in, entries_of, IsPacked, ArePacked}
 use Rattle.plane_coder.specs.Fours.{ArePicked}
 use Rattle.plane_coder.proofs.GroupsPushed.{typed_is, is_packed}
+use Rattle.plane_defs.proofs.Equations.{span-none, span-more}
+use Rattle.block_masks.proofs.Equations.{packed-is}
+use Rattle.item_defs.proofs.Equations.{value_of-is}
 
 -- ---- the tables
 
 abbrev pub entry : List (List ℕ) → ℕ → ℕ → ℕ
 entry table row column = slice_index_or (slice_index_or table row []) column 0
 
-abbrev is_packed_at : (List (List ℕ)) → ℕ → ℕ → Bool
-is_packed_at table i j = nat_lt (entry table i j) 80 && nat_lt (entry table i j % 16) (2 ^ (entry table i j / 16))
+abbrev is_packed_number : ℕ → Bool
+is_packed_number n = nat_lt n 80 && nat_lt (n % 16) (2 ^ (n / 16))
 
-words_packed : list_all (λ i. list_all (λ j. is_packed_at WORDS i j) (span 0 16)) (span 0 16) ≡ true
-unfolding span
-words_packed = refl
+abbrev are_packed_at : ℕ → ℕ → Bool
+are_packed_at i j = is_packed_number (entry TYPED i j % 256) && is_packed_number (entry TYPED i j / 256)
 
-signs_packed : list_all (λ i. list_all (λ j. is_packed_at SIGNS i j) (span 0 16)) (span 0 16) ≡ true
-unfolding span
-signs_packed = refl
+all_packed : list_all (λ i. list_all (are_packed_at i) (span 0 16)) (span 0 16) ≡ true
+all_packed = grind (arith, nat_tests, span-none, span-more)
 
-entry_packed : (table : List (List ℕ)) (i j : ℕ) → i < 16 → j < 16 → list_all (λ i. list_all (λ j. is_packed_at table i j) (span 0 16)) (span 0 16) ≡ true → IsPacked (entry table i j)
-entry_packed table i j hi hj all =
-    let row = list_all-span-zero (λ i. list_all (λ j. is_packed_at table i j) (span 0 16)) 16 i all hi in
-    let test : is_packed_at table i j ≡ true = list_all-span-zero (λ j. is_packed_at table i j) 16 j row hj in
-    is_packed (entry table i j) (ltb-true _ _ (and-left _ _ test)) (ltb-true _ _ (and-right _ _ test))
+packed_number : (n : ℕ) → is_packed_number n ≡ true → IsPacked n
+packed_number n test = is_packed n (ltb-true _ _ (and-left _ _ test)) (ltb-true _ _ (and-right _ _ test))
 
-pub are_packed : (i j : ℕ) (t : Typed) → i < 16 → j < 16 → t.word ≡ entry WORDS i j → t.signs ≡ entry SIGNS i j → ArePacked t
-are_packed i j t hi hj w s = record {
-  word = subst IsPacked (sym w) (entry_packed WORDS i j hi hj words_packed);
-  signs = subst IsPacked (sym s) (entry_packed SIGNS i j hi hj signs_packed);
-}
+pub are_packed : (i j : ℕ) (t : Typed) → i < 16 → j < 16 → t.pair ≡ entry TYPED i j → ArePacked t
+are_packed i j t hi hj is =
+    let row = list_all-span-zero (λ i. list_all (are_packed_at i) (span 0 16)) 16 i all_packed hi in
+    let test : are_packed_at i j ≡ true = list_all-span-zero (are_packed_at i) 16 j row hj in
+    record {
+      word = subst (λ n. IsPacked (n % 256)) (sym is) (packed_number (entry TYPED i j % 256) (and-left _ _ test));
+      signs = subst (λ n. IsPacked (n / 256)) (sym is) (packed_number (entry TYPED i j / 256) (and-right _ _ test));
+    }
 
 -- ---- masks of four by their bits
 
 abbrev four : Bool → Bool → Bool → Bool → ℕ
 four a b c d = digit a + 2 * digit b + 4 * digit c + 8 * digit d
-
-digit_of : (n : ℕ) (b : Bool) → n < 2 → (n == 1) ≡ b → n ≡ digit b
-digit_of n b small e = grind (arith, nat_tests)
-
-four_is : (m start : ℕ) (f : ℕ → Bool) → Shows m f start 4 → m ≡ four (f (start + 0)) (f (start + 1)) (f (start + 2)) (f (start + 3))
-four_is m start f p = grind (arith, nat_tests, digit_of)
 
 abbrev due_there : Bool → Bool → List Bool
 due_there due b = cond due (b ∷ []) []
@@ -84,9 +79,6 @@ chosen_same a b c d e f g h p q r s = cc
 abbrev each : (Bool → Bool) → Bool
 each p = p true && p false
 
-of_each : (p : Bool → Bool) → each p ≡ true → (b : Bool) → p b ≡ true
-of_each p all b = grind (arith, nat_tests, and-left, and-right)
-
 abbrev each_eight : (Bool → Bool → Bool → Bool → Bool → Bool → Bool → Bool → Bool) → Bool
 each_eight t = each (λ p. each (λ q. each (λ r. each (λ s. each (λ a. each (λ b. each (λ c. each (λ d. t p q r s a b c d))))))))
 
@@ -103,19 +95,17 @@ of_each_eight t all p q r s a b c d =
 
 -- the word has the positions of both masks, and the bits of the second
 abbrev is_word : Bool → Bool → Bool → Bool → Bool → Bool → Bool → Bool → Bool
-is_word p q r s a b c d = entry WORDS (four p q r s) (four a b c d) == packed (chosen (due_there (p || a) a) (due_there (q || b) b) (due_there (r || c) c) (due_there (s || d) d))
+is_word p q r s a b c d = entry TYPED (four p q r s) (four a b c d) % 256 == packed (chosen (due_there (p || a) a) (due_there (q || b) b) (due_there (r || c) c) (due_there (s || d) d))
 
 all_words : each_eight is_word ≡ true
-unfolding packed value_of
-all_words = refl
+all_words = grind (arith, nat_tests, packed-is, value_of-is)
 
 -- the signs are of the second mask's positions, and 1 if the first has none
 abbrev are_signs : Bool → Bool → Bool → Bool → Bool → Bool → Bool → Bool → Bool
-are_signs p q r s a b c d = entry SIGNS (four p q r s) (four a b c d) == packed (chosen (due_there a (not p)) (due_there b (not q)) (due_there c (not r)) (due_there d (not s)))
+are_signs p q r s a b c d = entry TYPED (four p q r s) (four a b c d) / 256 == packed (chosen (due_there a (not p)) (due_there b (not q)) (due_there c (not r)) (due_there d (not s)))
 
 all_signs : each_eight are_signs ≡ true
-unfolding packed value_of
-all_signs = refl
+all_signs = grind (arith, nat_tests, packed-is, value_of-is)
 
 -- ---- what is picked
 
@@ -128,22 +118,23 @@ one_due d f n = grind (arith, nat_tests)
 one_sign : (d f n : Bool) → due_there (d && f) (not (plain_of d f n)) ≡ due_there (d && f) n
 one_sign d f n = grind (arith, nat_tests)
 
-pub picked : (d f n : ℕ → Bool) (start i j : ℕ) (t : Typed) → t.word ≡ entry WORDS i j → t.signs ≡ entry SIGNS i j →
+pub picked : (d f n : ℕ → Bool) (start i j : ℕ) (t : Typed) → t.pair ≡ entry TYPED i j →
     Shows i (λ p. not ((d p && f p) && n p) && d p) start 4 → Shows j (λ p. d p && f p) start 4 → ArePicked d f n start t
-picked d f n start i j t w s plain ones =
+picked d f n start i j t is plain ones =
     let P = λ (k : ℕ). plain_of (d (start + k)) (f (start + k)) (n (start + k)) in
     let Q = λ (k : ℕ). d (start + k) && f (start + k) in
     let rows : i ≡ four (P 0) (P 1) (P 2) (P 3) = four_is i start (λ p. not ((d p && f p) && n p) && d p) plain in
     let columns : j ≡ four (Q 0) (Q 1) (Q 2) (Q 3) = four_is j start (λ p. d p && f p) ones in
+    let there = is ∙ ap (λ r. entry TYPED r j) rows ∙ ap (entry TYPED (four (P 0) (P 1) (P 2) (P 3))) columns in
     let due = λ (k : ℕ). one_due (d (start + k)) (f (start + k)) (n (start + k)) in
     let sign = λ (k : ℕ). one_sign (d (start + k)) (f (start + k)) (n (start + k)) in
     record {
       word =
-          w ∙ ap (λ r. entry WORDS r j) rows ∙ ap (entry WORDS (four (P 0) (P 1) (P 2) (P 3))) columns ∙
+          ap (λ n. n % 256) there ∙
           eqb-true _ _ (of_each_eight is_word all_words (P 0) (P 1) (P 2) (P 3) (Q 0) (Q 1) (Q 2) (Q 3)) ∙
           ap packed (chosen_same _ _ _ _ _ _ _ _ (due 0) (due 1) (due 2) (due 3) ∙ sym (chosen_is f d start));
       signs =
-          s ∙ ap (λ r. entry SIGNS r j) rows ∙ ap (entry SIGNS (four (P 0) (P 1) (P 2) (P 3))) columns ∙
+          ap (λ n. n / 256) there ∙
           eqb-true _ _ (of_each_eight are_signs all_signs (P 0) (P 1) (P 2) (P 3) (Q 0) (Q 1) (Q 2) (Q 3)) ∙
           ap packed (chosen_same _ _ _ _ _ _ _ _ (sign 0) (sign 1) (sign 2) (sign 3) ∙ sym (chosen_is n (λ p. d p && f p) start));
     }
@@ -154,18 +145,13 @@ abbrev pub filling : ℕ → ℕ
 filling m = slice_index_or FILLED m 0
 
 fills : list_all (λ m. list_all (λ k. (bit (filling m) k && bit m (k / 4)) || (not (bit (filling m) k) && not (bit m (k / 4)))) (span 0 16)) (span 0 16) ≡ true
-unfolding span
-fills = refl
+fills = grind (arith, nat_tests, span-none, span-more)
 
 fills_small : list_all (λ m. list_all (λ n. not (nat_lt m (2 ^ n)) || nat_lt (filling m) (2 ^ (4 * n))) (span 0 5)) (span 0 16) ≡ true
-unfolding span
-fills_small = refl
+fills_small = grind (arith, nat_tests, span-none, span-more)
 
 same_bit : (a b : Bool) → ((a && b) || (not a && not b)) ≡ true → a ≡ b
 same_bit a b h = grind (arith, nat_tests, false≢true)
-
-or_from : (a b : Bool) → (not a || b) ≡ true → a ≡ true → b ≡ true
-or_from a b e h = grind (arith, nat_tests, false≢true)
 
 pub shows_filled : (m count start : ℕ) (f : ℕ → Bool) → m < 16 → count ≤ 4 → Shows m f 0 count → Shows (filling m) (λ p. f ((p - start) / 4)) start (4 * count)
 shows_filled m count start f low few p = record {
@@ -235,8 +221,8 @@ shows_later m at f p = record {
 
 pub record IsTyped (b : Bool) (t : Typed) (entries : List Entry) : Type 0 where
   pub said : b ≡ true → entries_of t ≡ entries
-  pub no_word : b ≡ false → t.word ≡ 0
-  pub no_signs : b ≡ false → t.signs ≡ 0
+  pub no_word : b ≡ false → word_in t ≡ 0
+  pub no_signs : b ≡ false → signs_in t ≡ 0
 
 same_choice : (f d e : ℕ → Bool) (start count : ℕ) → ((k : ℕ) → k < count → d (start + k) ≡ e (start + k)) → map f (filter d (span start count)) ≡ map f (filter e (span start count))
 same_choice f d e start zero same = map-filter-span-none f d start ∙ sym (map-filter-span-none f e start)

@@ -1,6 +1,5 @@
 -- What is picked, as entries.
-use Rattle.std.proofs.Common.{◌≡◌, ℕ, ◌/◌, ◌%◌, ◌<◌, ◌≤◌, ◌^◌, ℤ, pos, Bool, true, false, cond, List, [], ◌∷◌, length, map, filter, get_or, refl, ap, ◌∙◌, arith}
-use Rattle.std.proofs.Math.Pow.{pow_mono}
+use Rattle.std.proofs.Common.{◌≡◌, ℕ, ◌/◌, ◌%◌, ◌<◌, ◌≤◌, ◌^◌, ℤ, pos, Bool, true, false, cond, List, [], ◌∷◌, length, map, filter, get_or, refl, ap, ◌∙◌, arith, pow_mono}
 use Rattle.item_defs.specs.Bits.{bit, value_of}
 use Rattle.item_defs.proofs.NumberBits.{value_below, bits_of-value_of}
 use Rattle.plane_defs.specs.declared.sets.Set.{Set}
@@ -13,15 +12,17 @@ use Rattle.std.proofs.lemmas.Simd.{map-map}
 use Rattle.std.proofs.lemmas.Bool.Decides.{nat_tests}
 use Rattle.block_masks.specs.Picks.{packed}
 use Rattle.plane_coder.specs.declared.plane_masks.Typed.{Typed}
-use Rattle.plane_coder.specs.Picked.{word_of, raws_of, entries_of, IsPacked}
+use Rattle.plane_coder.specs.Picked.{word_in, signs_in, word_of, raws_of, entries_of, IsPacked}
 use Rattle.plane_coder.specs.Refining.{refining}
+use Rattle.block_masks.proofs.Equations.{packed-is}
 
 unpacked : (bits : List Bool) → length bits ≤ 4 → (packed bits / 16 ≡ length bits) × (packed bits % 16 ≡ value_of bits)
-unfolding packed
 unpacked bits few =
+    rw packed-is (
     let small : 2 ^ length bits ≤ 2 ^ 4 = pow_mono few in
     let below = value_below bits in
     (omega (arith, small, below), omega (arith, small, below))
+    )
 
 pub word_is : (n : ℕ) (bits : List Bool) → length bits ≤ 4 → n ≡ packed bits → word_of n ≡ word bits
 word_is n bits few is = grind (arith, nat_tests, unpacked)
@@ -34,19 +35,19 @@ is_packed n most fits = record { length = omega arith; value = fits }
 
 -- the types and signs of some positions
 module _ (block : List ℤ) (weights : List ℕ) (plane : ℕ) where
-  pub typed_is : (s : Typed) (start count : ℕ) → count ≤ 4 → s.word ≡ packed (types block weights plane (span start count)) →
-      s.signs ≡ packed (map (λ q. negative (get_or block q (pos 0))) (filter (newly_significant block weights plane) (span start count))) → entries_of s ≡ typed block weights plane (span start count)
+  pub typed_is : (s : Typed) (start count : ℕ) → count ≤ 4 → word_in s ≡ packed (types block weights plane (span start count)) →
+      signs_in s ≡ packed (map (λ q. negative (get_or block q (pos 0))) (filter (newly_significant block weights plane) (span start count))) → entries_of s ≡ typed block weights plane (span start count)
   typed_is s start count few w v =
       let bits = types block weights plane (span start count) in
       let sign = λ (q : ℕ). negative (get_or block q (pos 0)) in
       let ends = map sign (filter (newly_significant block weights plane) (span start count)) in
       let some = length-chosen (significant block plane) (type_due block weights plane) start count in
       let more = length-chosen sign (newly_significant block weights plane) start count in
-      let first : word_of s.word ≡ word bits = word_is s.word bits (omega (arith, some)) w in
-      let rest : raws_of s.signs ≡ signs block weights plane (span start count) =
-      raws_are s.signs ends (omega (arith, more)) v ∙
+      let first : word_of (word_in s) ≡ word bits = word_is (word_in s) bits (omega (arith, some)) w in
+      let rest : raws_of (signs_in s) ≡ signs block weights plane (span start count) =
+      raws_are (signs_in s) ends (omega (arith, more)) v ∙
       map-map Bit sign (filter (newly_significant block weights plane) (span start count)) in
-      ap (λ e. e ∷ raws_of s.signs) first ∙ ap (λ l. word bits ∷ l) rest
+      ap (λ e. e ∷ raws_of (signs_in s)) first ∙ ap (λ l. word bits ∷ l) rest
 
   pub refining_is : (n start count : ℕ) → count ≤ 4 → n ≡ packed (map (λ p. bit (magnitude block p) plane) (filter (refined block weights plane) (span start count))) → raws_of n ≡ refining block weights plane start count
   refining_is n start count few is =

@@ -1,7 +1,5 @@
 -- The masks that are kept.
-use Rattle.std.proofs.Common.{◌≡◌, ◌<◌, ◌≤◌, ◌+◌, ◌*◌, ℕ, zero, suc, ℤ, List, length, get_or, inl, inr, refl, sym, ap, ◌≢◌, ◌∙◌, subst, arith}
-use Rattle.std.specs.Prelude.{Option, None, Some, IfSome, slice_range}
-use Rattle.std.proofs.Math.ListN.{set, replicate}
+use Rattle.std.proofs.Common.{◌≡◌, ◌<◌, ◌≤◌, ◌+◌, ◌*◌, ℕ, zero, suc, ℤ, List, length, get_or, inl, inr, refl, sym, ap, ◌≢◌, ◌∙◌, subst, arith, Option, None, Some, IfSome, slice_range, set, replicate}
 use Rattle.std.proofs.lemmas.Bool.{cases_eq, cases_lt}
 use Rattle.std.proofs.lemmas.List.{get_or-set_same, get_or-set_other, get_or_past}
 use Rattle.plane_coder.specs.declared.masks.Masks.{Masks}

@@ -3,6 +3,10 @@ mod Pushing
 mod GroupsPushed
 mod Keeping
 mod Appending
+mod Listing
+mod Alike
+mod Waiting
+mod Collecting
 mod BlockSets
 mod CodeRows
 mod Spelling

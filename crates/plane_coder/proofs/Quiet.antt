@@ -1,22 +1,19 @@
 -- A first stage in which no block sends a bit.
-use Rattle.std.proofs.Common.{◌≡◌, ℕ, zero, suc, add-one, ◌+◌, ◌*◌, ◌&&◌, nat_lt, false, cond, List, [], ◌∷◌, ◌++◌, ap, sym, ◌∙◌, subst, append-nil, ℤ, pos, get_or, arith}
-use Rattle.std.specs.Prelude.{Ok}
-use Rattle.std.specs.List.{flat_map}
+use Rattle.std.proofs.Common.{◌≡◌, ℕ, zero, suc, add-one, ◌+◌, ◌*◌, ◌&&◌, nat_lt, false, List, [], ◌++◌, ap, sym, ◌∙◌, subst, append-nil, ℤ, arith, Ok, flat_map}
 use Rattle.std.proofs.lemmas.Bool.Decides.{nat_tests}
 use Rattle.item_defs.specs.Items.{text}
 use Rattle.bit_pipe.specs.Sinks.{SinkOf}
 use Rattle.bit_pipe.specs.Standing.{Standing, IsOpen, Adds, Puts}
 use Rattle.bit_pipe.proofs.Putting.{adds_start, puts_whole}
 use Rattle.base_122.specs.declared.book.Book.{Book}
-use Rattle.plane_defs.specs.declared.entries.Entry.TheVariants.{Bit}
 use Rattle.plane_defs.specs.declared.stages.Stage.TheVariants.{DcBits}
 use Rattle.plane_defs.specs.Spans.{span}
 use Rattle.plane_defs.specs.Sets.{coded}
-use Rattle.plane_defs.specs.Entries.{block_entries, twos_bit}
 use Rattle.plane_defs.specs.Planes.{Plane, gaggle_size, of_block, of_gaggle, before_stage, stage_items}
 use Rattle.plane_defs.proofs.SpanLists.{flat_map-span-suc, flat_map-span-none}
 use Rattle.block_masks.specs.Gaggles.{Agrees, AllAgree, sent_at}
 use Rattle.plane_coder.proofs.Sending.{before_more}
+use Rattle.plane_defs.proofs.Equations.{dc_entries, parents_entries, children_entries, grandchildren_entries, refinement_entries}
 
 nothing : {A : Type 0} (f : ℕ → List A) (start n : ℕ) → ((i : ℕ) → f i ≡ []) → flat_map f (span start n) ≡ []
 nothing f start zero each = flat_map-span-none f start
@@ -26,8 +23,7 @@ nothing f start (suc n) each =
 
 module _ (p : Plane) (none : (coded p.weights p.number 0 && nat_lt p.number p.q) ≡ false) where
   quiet_block : (r : ℕ) → of_block p DcBits r ≡ []
-  unfolding block_entries
-  quiet_block r = ap (λ b. cond b (Bit (twos_bit (get_or (get_or p.blocks r []) 0 (pos 0)) p.number) ∷ []) []) none
+  quiet_block r = grind (arith, nat_tests, dc_entries, parents_entries, children_entries, grandchildren_entries, refinement_entries)
 
   quiet_gaggle : (g : ℕ) → of_gaggle p DcBits g ≡ []
   quiet_gaggle g = nothing (of_block p DcBits) (16 * g) (gaggle_size p g) quiet_block

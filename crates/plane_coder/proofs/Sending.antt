@@ -1,9 +1,7 @@
 -- Items put one stretch of a span after another.
-use Rattle.std.proofs.Common.{◌≡◌, ℕ, zero, suc, add-one, ◌+◌, ◌-◌, ◌*◌, ◌/◌, ◌<◌, ℤ, false, List, [], ◌∷◌, ◌++◌, length, ap, sym, ◌∙◌, subst, arith, append_assoc, zero-add, get_or}
-use Rattle.std.specs.Prelude.{Result, Ok, Err, OnOk}
+use Rattle.std.proofs.Common.{◌≡◌, ℕ, zero, suc, add-one, ◌+◌, ◌-◌, ◌*◌, ◌/◌, ◌<◌, ℤ, false, List, [], ◌∷◌, ◌++◌, length, ap, sym, ◌∙◌, subst, arith, append_assoc, zero-add, get_or, Result, Ok, Err, OnOk}
 use Rattle.std.specs.List.{flat_map, list_any}
 use Rattle.std.proofs.lemmas.Bool.Decides.{nat_tests}
-use Rattle.base_122.specs.declared.weights.Weights.{Weights}
 use Rattle.item_defs.specs.Items.{Item, text}
 use Rattle.item_defs.proofs.Texts.{text-append}
 use Rattle.bit_pipe.specs.Sinks.{SinkOf}
@@ -16,7 +14,6 @@ use Rattle.plane_defs.specs.declared.stages.Stage.{Stage}
 use Rattle.plane_defs.specs.Spans.{span}
 use Rattle.plane_defs.specs.Entries.{stage_number}
 use Rattle.plane_defs.specs.Spelled.{spelled_after, is_word_of}
-use Rattle.wave_defs.specs.Held.{blocks_in}
 use Rattle.plane_defs.specs.Planes.{Plane, gaggles, of_gaggle, before_stage, gaggle_items, stage_items, plane_items, chosen}
 use Rattle.plane_defs.specs.Marks.{depths_of}
 use Rattle.plane_defs.proofs.SpanLists.{flat_map-span-suc, flat_map-span-none, flat_map-span-parts}
@@ -24,10 +21,9 @@ use Rattle.block_masks.specs.declared.gaggle.Gaggle.{Gaggle}
 use Rattle.plane_coder.specs.declared.view.View.{View}
 use Rattle.block_masks.specs.Gaggles.{Agrees, AreKnown, SameMarks, options_at, AllAgree}
 use Rattle.plane_coder.specs.Spells.{Spells}
-use Rattle.block_masks.specs.declared.plan.PlanePlan.{PlanePlan}
 use Rattle.plane_coder.specs.Chosen.{Chooses}
 use Rattle.plane_coder.specs.Sends.{chosen_items}
-use Rattle.plane_coder.specs.Views.{plane_of, plane_in}
+use Rattle.plane_coder.specs.Views.{plane_in}
 use Rattle.block_masks.proofs.Marking.{length-depths_of}
 use Rattle.plane_coder.proofs.Spelling.{on_ok_map, spells_none, spells_both, spells_cut}
 
@@ -52,6 +48,12 @@ module _ {S : Type 0} {k : SinkOf S} {book : Book} (f : ℕ → List Entry) (sta
       let same : (flat_map f (span start n) ++ xs) ++ parts.0 ≡ flat_map f (span start count) =
       ap (λ l. (flat_map f (span start n) ++ l) ++ parts.0) is ∙ sym parts.1 in
       subst (λ l. Spells k book a c (Err e) s u l) same (spells_cut parts.0 (spells_both p q))
+
+  -- a call failed before the entries of later places
+  pub spelled_cut : {a b : Gaggle} {e : PutFault} {s t : Standing S} (n count : ℕ) → n < count → Spells k book a b (Err e) s t (flat_map f (span start n)) → Spells k book a b (Err e) s t (flat_map f (span start count))
+  spelled_cut {a} {b} {e} {s} {t} n count below p =
+      let parts = flat_map-span-parts f start count n below in
+      subst (λ l. Spells k book a b (Err e) s t l) (sym parts.1) (spells_cut parts.0 (spells_cut (f (start + n)) p))
 
 -- ---- items of one stretch after another
 
@@ -109,7 +111,7 @@ gaggle_agrees view d0 d1 stage j g {a} {b} {r} same is agrees p =
 
 -- ---- the same items by equal options and depths
 
-flat_map-span-below : {A : Type 0} (f f' : ℕ → List A) (start count : ℕ) → ((n : ℕ) → n < count → f (start + n) ≡ f' (start + n)) → flat_map f (span start count) ≡ flat_map f' (span start count)
+pub flat_map-span-below : {A : Type 0} (f f' : ℕ → List A) (start count : ℕ) → ((n : ℕ) → n < count → f (start + n) ≡ f' (start + n)) → flat_map f (span start count) ≡ flat_map f' (span start count)
 flat_map-span-below f f' start zero each = flat_map-span-none f start ∙ sym (flat_map-span-none f' start)
 flat_map-span-below {A} f f' start (suc count) each =
     let before = flat_map-span-below f f' start count (λ n lt. each n (omega arith)) in
@@ -163,15 +165,6 @@ plane_whole view m0 m1 last chooses =
     λ g below. (chooses.each g (omega (arith, gaggle_below m1 g below, chooses.whole))).options in
     plane_same book (options_at m1) (chosen book (plane_in view (depths_of m0))) (plane_in view (depths_of m1)) (last + 1) options ∙
     ap (λ d. plane_items book (chosen book (plane_in view (depths_of m0))) (plane_in view d) (last + 1)) chooses.depths
-
--- the same plane by equal fields
-pub plane_fields : (cells : List ℤ) (depths : List ℕ) (plan : PlanePlan) (weights : Weights) (number q : ℕ) → weights ≡ plan.weights → number ≡ plan.plane → q ≡ plan.q →
-    record { blocks = blocks_in cells; depths = depths; weights = weights.shifts; number = number; q = q } ≡ plane_of cells depths plan
-plane_fields cells depths plan weights number q w n e = grind (arith, nat_tests)
-
-pub plane_puts : {S : Type 0} {k : SinkOf S} (book : Book) (r : Result (Unit {0}) PutFault) (s t : Standing S) (p p' : Plane) (last : ℕ) → p ≡ p' →
-    Puts k r s t (text (chosen_items book p last)) → Puts k r s t (text (chosen_items book p' last))
-plane_puts {S} {k} book r s t p p' last same put = subst (λ (x : Plane). Puts k r s t (text (chosen_items book x last))) same put
 
 -- a stage with the states as they are now is the stage with the states before
 pub stage_then : {S : Type 0} {k : SinkOf S} (view : View) (book : Book) (m0 m1 : List ℤ) (j : ℕ) {r : Result (Unit {0}) PutFault} {s t : Standing S} → SameMarks m0 m1 →

@@ -1,6 +1,5 @@
 -- Entries put one after another.
-use Rattle.std.proofs.Common.{◌≡◌, ℕ, ◌<◌, ◌≤◌, Bool, true, false, cond, List, [], ◌∷◌, ◌++◌, refl, ap, sym, ◌∙◌, subst, arith, append_assoc, append-nil}
-use Rattle.std.specs.Prelude.{◌==◌, Result, Ok, Err, OnOk}
+use Rattle.std.proofs.Common.{◌≡◌, ℕ, ◌<◌, ◌≤◌, Bool, true, false, cond, List, [], ◌∷◌, ◌++◌, refl, ap, sym, ◌∙◌, subst, arith, append_assoc, append-nil, ◌==◌, Result, Ok, Err, OnOk}
 use Rattle.std.specs.List.{list_any}
 use Rattle.std.proofs.lemmas.Bool.Decides.{nat_tests}
 use Rattle.item_defs.specs.Bits.{bits_of}
@@ -22,6 +21,8 @@ use Rattle.block_masks.specs.declared.gaggle.Gaggle.{Gaggle}
 use Rattle.block_masks.specs.Gaggles.{Agrees}
 use Rattle.block_masks.proofs.Agreeing.{agrees_other}
 use Rattle.plane_coder.specs.Spells.{Spells}
+use Rattle.plane_defs.proofs.Equations.{entry_items-bit, entry_items-word}
+use Rattle.item_defs.proofs.Equations.{bits_of-none, bits_of-more}
 
 pub on_ok : {T E P : Type 0} (r : Result T E) → P → OnOk r P
 on_ok (Ok x) h = h
@@ -79,9 +80,6 @@ module _ {S : Type 0} {k : SinkOf S} {book : Book} where
   }
 
   -- after a failure nothing is claimed of what was sent
-  pub spells_failed : {a b : Gaggle} {e : PutFault} {s t : Standing S} {xs : List Entry} → Spells k book a b (Err e) s t xs → Spells k book a a (Err e) s t xs
-  spells_failed p = record { puts = p.puts; agrees = λ before agrees. tt; is_open = tt; options = refl }
-
   -- one entry, whose items were put
   pub one_entry : {a b : Gaggle} {r : Result (Unit {0}) PutFault} {s t : Standing S} (x : Entry) →
       ((before : List Entry) → Agrees a.sent before → Puts k r s t (text (entry_items book a.options before x))) →
@@ -101,23 +99,19 @@ equal_no m n h = grind arith
 
 module _ (book : Book) (options : List ℕ) (before : List Entry) where
   pub raw_text : (b : Bool) → text (entry_items book options before (Bit b)) ≡ b ∷ []
-  unfolding entry_items bits_of
-  raw_text b = grind (arith, nat_tests)
+  raw_text b = grind (arith, nat_tests, entry_items-bit, entry_items-word, bits_of-none, bits_of-more)
 
   pub short_text : (bits : Bits) → bits.count < 2 → text (entry_items book options before (Word bits)) ≡ bits_of bits.count bits.value
-  unfolding entry_items
-  short_text bits short = grind (arith, nat_tests, bits_none, append-nil)
+  short_text bits short = grind (arith, nat_tests, bits_none, append-nil, entry_items-bit, entry_items-word)
 
   pub again_text : (bits : Bits) → 2 ≤ bits.count → list_any (is_word_of bits.count) before ≡ true →
       text (entry_items book options before (Word bits)) ≡ item_bits (word_item book bits.count (option_of options bits.count) bits.value)
-  unfolding entry_items
-  again_text bits long was = grind (arith, nat_tests, equal_no, append-nil)
+  again_text bits long was = grind (arith, nat_tests, equal_no, append-nil, entry_items-bit, entry_items-word)
 
   pub first_text : (bits : Bits) → 2 ≤ bits.count → list_any (is_word_of bits.count) before ≡ false →
       text (entry_items book options before (Word bits)) ≡
       item_bits (option_item bits.count (option_of options bits.count)) ++ item_bits (word_item book bits.count (option_of options bits.count) bits.value)
-  unfolding entry_items
-  first_text bits long was = grind (arith, nat_tests, equal_no, append-nil)
+  first_text bits long was = grind (arith, nat_tests, equal_no, append-nil, entry_items-bit, entry_items-word)
 
 pub puts_open : {S : Type 0} {k : SinkOf S} (r : Result (Unit {0}) PutFault) (s t : Standing S) (xs : List Bool) → IsOpen s → Puts k r s t xs → OnOk r (IsOpen t)
 puts_open (Ok x) s t xs h p = open_later h p.ends

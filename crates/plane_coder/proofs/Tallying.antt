@@ -1,6 +1,5 @@
 -- Words counted one after another.
-use Rattle.std.proofs.Common.{◌≡◌, ◌≢◌, ℕ, zero, suc, ◌+◌, ◌*◌, ◌/◌, ◌%◌, ◌^◌, ◌<◌, ◌≤◌, ◌⊎◌, inl, inr, Bool, true, false, cond, List, [], ◌∷◌, ◌++◌, length, map, refl, ap, sym, ◌∙◌, subst, arith, get_or, set, get_or-set_same, get_or-set_other, nat_lt, replicate}
-use Rattle.std.specs.Prelude.{count_by, ◌==◌, ◌&&◌}
+use Rattle.std.proofs.Common.{◌≡◌, ◌≢◌, ℕ, zero, suc, ◌+◌, ◌*◌, ◌/◌, ◌%◌, ◌^◌, ◌<◌, ◌≤◌, ◌⊎◌, inl, inr, Bool, true, false, cond, List, [], ◌∷◌, ◌++◌, length, map, refl, sym, subst, arith, get_or, set, get_or-set_same, get_or-set_other, nat_lt, replicate, count_by, ◌==◌, ◌&&◌}
 use Rattle.std.specs.List.{flat_map, list_all}
 use lib.Count.{ones}
 use Rattle.std.proofs.lemmas.List.Sums.{sum_by-append}
@@ -14,20 +13,15 @@ use Rattle.plane_defs.proofs.SpanLists.{flat_map-span-suc, flat_map-span-none}
 use Rattle.plane_defs.proofs.Tables.{list_all-span-zero}
 use Rattle.plane_coder.specs.declared.tally.Tally.{Tally}
 use Rattle.plane_coder.specs.declared.tally.TheConstants.{PLACES}
-use Rattle.item_defs.specs.Bits.{bits_of}
-use Rattle.plane_coder.specs.declared.plane_masks.Typed.{Typed}
 use Rattle.plane_coder.specs.Picked.{word_of, IsPacked}
 use Rattle.plane_coder.specs.Tallies.{Counts, AreAtMost, count_at}
-use Rattle.plane_coder.proofs.FourTypes.{IsTyped}
+use Rattle.plane_defs.proofs.Equations.{span-none, span-more, symbol-is}
 
 pub count_by-append : (p : Entry → Bool) (xs ys : List Entry) → count_by p (xs ++ ys) ≡ count_by p xs + count_by p ys
 count_by-append p xs ys = sum_by-append (λ x. cond (p x) 1 0) xs ys
 
 pub counts_none : (t : Tally) → Counts t t [] 0
 counts_none t = record { at = λ n s low high below. omega arith; most = λ i. omega arith }
-
-pub counts_less : {a b : Tally} {xs : List Entry} (m n : ℕ) → m ≤ n → Counts a b xs m → Counts a b xs n
-counts_less m n le p = record { at = p.at; most = λ i. omega (arith, p.most i) }
 
 pub counts_both : {a b c : Tally} {xs ys : List Entry} (m n : ℕ) → Counts a b xs m → Counts b c ys n → Counts a c (xs ++ ys) (m + n)
 counts_both {xs = xs} {ys = ys} m n p q = record {
@@ -57,19 +51,6 @@ counts_raws {xs = xs} bits p = record {
   most = p.most;
 }
 
-pub counts_before : {a b : Tally} {xs : List Entry} {most : ℕ} (bits : List Bool) → Counts a b xs most → Counts a b (map Bit bits ++ xs) most
-counts_before {xs = xs} bits p = record {
-  at = λ n s low high below. omega (arith, p.at n s low high below, count_by-append (has_symbol n s) (map Bit bits) xs, raws_count n s bits);
-  most = p.most;
-}
-
--- words that are counted if a test holds
-pub counts_if_not : {b : Bool} (a : Tally) (xs : List Entry) (most : ℕ) → b ≡ false → Counts a a (cond b xs []) most
-counts_if_not a xs most not_so = subst (λ b. Counts a a (cond b xs []) most) (sym not_so) (counts_less 0 most (omega arith) (counts_none a))
-
-pub counts_if : {a c : Tally} {b : Bool} {xs ys : List Entry} {most : ℕ} → b ≡ true → xs ≡ ys → Counts a c xs most → Counts a c (cond b ys []) most
-counts_if {a} {c} {b} {xs} {ys} {most} so same p = subst (λ b. Counts a c (cond b ys []) most) (sym so) (subst (λ l. Counts a c l most) same p)
-
 pub at_most_later : {a b : Tally} {xs : List Entry} (m n most : ℕ) → AreAtMost a m → Counts a b xs n → m + n ≤ most → AreAtMost b most
 at_most_later m n most p q le = record { at = λ i. omega (arith, p.at i, q.most i) }
 
@@ -82,8 +63,7 @@ abbrev place : ℕ → ℕ
 place word = get_or PLACES word 0
 
 places_within : list_all (λ w. nat_lt (place w) 80) (span 0 80) ≡ true
-unfolding span
-places_within = refl
+places_within = grind (arith, nat_tests, span-none, span-more)
 
 pub place_within : (w : ℕ) → w < 80 → place w < 80
 place_within w lt = let test = list_all-span-zero (λ w. nat_lt (place w) 80) 80 w places_within lt in grind (arith, test)
@@ -93,8 +73,7 @@ abbrev is_in_row : ℕ → Bool
 is_in_row w = place w / 16 == w / 16
 
 places_in_rows : list_all is_in_row (span 0 80) ≡ true
-unfolding span
-places_in_rows = refl
+places_in_rows = grind (arith, nat_tests, span-none, span-more)
 
 equal_from : (m n : ℕ) → (m == n) ≡ true → m ≡ n
 equal_from m n h = grind arith
@@ -106,16 +85,16 @@ abbrev is_place : ℕ → ℕ → Bool
 is_place n v = place (16 * n + v) == 16 * n + symbol n v
 
 places_of_two : list_all (is_place 2) (span 0 4) ≡ true
-unfolding symbol span ones
-places_of_two = refl
+unfolding ones
+places_of_two = grind (arith, nat_tests, span-none, span-more, symbol-is)
 
 places_of_three : list_all (is_place 3) (span 0 8) ≡ true
-unfolding symbol span ones
-places_of_three = refl
+unfolding ones
+places_of_three = grind (arith, nat_tests, span-none, span-more, symbol-is)
 
 places_of_four : list_all (is_place 4) (span 0 16) ≡ true
-unfolding symbol span ones
-places_of_four = refl
+unfolding ones
+places_of_four = grind (arith, nat_tests, span-none, span-more, symbol-is)
 
 long_place : (n v : ℕ) → 2 ≤ n → n ≤ 4 → v < 2 ^ n → place (16 * n + v) ≡ 16 * n + symbol n v
 long_place zero v low high fits = absurd (omega arith)
@@ -158,16 +137,6 @@ module _ (a b : Tally) (word : ℕ) (packed : IsPacked word) (more : b.counts �
   }
 
 -- ---- types that are counted if a test holds
-
--- a word of no bits is not counted for any length
-pub counts_typed : {a c : Tally} {b : Bool} {t : Typed} {entries : List Entry} → IsTyped b t entries → Counts a c (word_of t.word ∷ []) 1 → Counts a c (cond b entries []) 1
-counts_typed {a} {c} {b = true} {t} is p = subst (λ l. Counts a c l 1) (is.said refl) (counts_raws (bits_of (t.signs / 16) (t.signs % 16)) p)
-counts_typed {a} {c} {b = false} is p =
-    let q = subst (λ w. Counts a c (word_of w ∷ []) 1) (is.no_word refl) p in
-    record { at = λ n s low high below. q.at n s low high below ∙ ap (λ k. count_at a n s + k) (none n s low); most = q.most }
-  where
-    none : (n s : ℕ) → 2 ≤ n → count_by (has_symbol n s) (word_of 0 ∷ []) ≡ count_by (has_symbol n s) []
-    none n s low = let other : (0 == n && symbol n 0 == s) ≡ false = grind arith in ap (λ x. 0 + cond x 1 0) other
 
 pub none_at_first : (n i : ℕ) → get_or (replicate n 0) i 0 ≤ 0
 none_at_first zero i = omega arith

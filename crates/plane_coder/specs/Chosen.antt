@@ -1,16 +1,10 @@
 -- The options of the gaggles are chosen, and no word was sent.
-use Rattle.std.specs.Prelude.{◌≡◌, ◌<◌, ℕ, ◌*◌, ℤ, false, List, [], ◌∷◌, ◌++◌, length}
-use Rattle.plane_defs.specs.declared.entries.Entry.{Entry}
-use Rattle.plane_defs.specs.declared.stages.Stage.TheVariants.{Parents, Children, Grandchildren}
-use Rattle.plane_defs.specs.Planes.{Plane, of_block, chosen}
+use Rattle.std.specs.Prelude.{◌≡◌, ◌<◌, ℕ, ◌*◌, ℤ, false, List, [], ◌∷◌, length}
+use Rattle.plane_defs.specs.Planes.{chosen}
 use Rattle.plane_defs.specs.Marks.{depths_of}
 use Rattle.plane_coder.specs.declared.view.View.{View}
 use Rattle.block_masks.specs.Gaggles.{AreOptions, options_at, sent_at}
 use Rattle.plane_coder.specs.Views.{plane_in}
-
--- what block r sends in the stages whose words count
-abbrev pub words_of_block : Plane → ℕ → List Entry
-words_of_block p r = of_block p Parents r ++ (of_block p Children r ++ of_block p Grandchildren r)
 
 pub record HasOptions (view : View) (depths : List ℕ) (marks : List ℤ) (g : ℕ) : Type 0 where
   pub options : options_at marks g ≡ chosen view.tables.now.book (plane_in view depths) g

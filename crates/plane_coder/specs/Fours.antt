@@ -5,6 +5,7 @@ use Rattle.block_masks.specs.Masks.{Shows}
 use Rattle.block_masks.specs.Picks.{packed}
 use Rattle.plane_coder.specs.declared.fours.Fours.{Fours}
 use Rattle.plane_coder.specs.declared.plane_masks.Typed.{Typed}
+use Rattle.plane_coder.specs.Picked.{word_in, signs_in}
 
 -- the masks of positions: `due` has the types that are due, `one` those that are 1, and `minus` the negative numbers
 pub record AreFours (due one minus : ℕ → Bool) (start count : ℕ) (m : Fours) : Type 0 where
@@ -13,5 +14,5 @@ pub record AreFours (due one minus : ℕ → Bool) (start count : ℕ) (m : Four
 
 -- the word and the signs of four positions from a start on
 pub record ArePicked (due one minus : ℕ → Bool) (start : ℕ) (t : Typed) : Type 0 where
-  pub word : t.word ≡ packed (map one (filter due (span start 4)))
-  pub signs : t.signs ≡ packed (map minus (filter (λ p. due p && one p) (span start 4)))
+  pub word : word_in t ≡ packed (map one (filter due (span start 4)))
+  pub signs : signs_in t ≡ packed (map minus (filter (λ p. due p && one p) (span start 4)))

@@ -10,3 +10,5 @@ pub mod Coding
 pub mod Appends
 pub mod Fours
 pub mod Coders
+pub mod Listed
+pub mod Collected

@@ -13,9 +13,19 @@ word_of n = Word (record { value = n % 16; count = n / 16 })
 abbrev pub raws_of : ℕ → List Entry
 raws_of n = map Bit (bits_of (n / 16) (n % 16))
 
+abbrev pub word_in : Typed → ℕ
+word_in s = s.pair % 256
+
+abbrev pub signs_in : Typed → ℕ
+signs_in s = s.pair / 256
+
 -- a word and the signs after it
 abbrev pub entries_of : Typed → List Entry
-entries_of s = word_of s.word ∷ raws_of s.signs
+entries_of s = word_of (word_in s) ∷ raws_of (signs_in s)
+
+-- an empty word
+abbrev pub no_word : Typed
+no_word = record { pair = 0 }
 
 -- up to four bits
 pub record IsPacked (picked : ℕ) : Type 0 where
@@ -23,5 +33,5 @@ pub record IsPacked (picked : ℕ) : Type 0 where
   pub value : picked % 16 < 2 ^ (picked / 16)
 
 pub record ArePacked (s : Typed) : Type 0 where
-  pub word : IsPacked s.word
-  pub signs : IsPacked s.signs
+  pub word : IsPacked (word_in s)
+  pub signs : IsPacked (signs_in s)

@@ -1,45 +1,31 @@
 // The options of all gaggles, by the words of stages 1 to 3.
 
-ghost use Rattle.std.specs.Prelude.{◌≡◌, ◌+◌, ◌*◌, ◌<◌, ◌≤◌, ◌^◌, ℕ, false, [], ◌∷◌, length};
+ghost use Rattle.std.specs.Prelude.{◌≡◌, ◌+◌, ◌*◌, ◌<◌, ◌^◌, ◌++◌, [], ◌∷◌, length};
 ghost use Rattle.plane_defs.specs.Choice.{cheapest};
-ghost use Rattle.plane_defs.specs.Planes.{counted, chosen};
+ghost use Rattle.plane_defs.specs.Planes.{of_gaggle, chosen};
 ghost use Rattle.plane_defs.specs.Marks.{depths_of};
-ghost use Rattle.block_masks.specs.Gaggles.{AreOptions, options_at, sent_at};
-ghost use Rattle.plane_coder.specs.Tallies.{Counts, CountsOf, AreAtMost, counts_in};
-ghost use Rattle.plane_coder.specs.Chosen.{Chooses, words_of_block};
+ghost use Rattle.block_masks.specs.Gaggles.{AreOptions};
+ghost use Rattle.plane_coder.specs.Tallies.{CountsOf, AreAtMost, counts_in};
+ghost use Rattle.plane_coder.specs.Listed.{listed};
+ghost use Rattle.plane_coder.specs.Collected.{HasWords, FirstCollected, AreCollected};
+ghost use Rattle.plane_coder.specs.Chosen.{Chooses};
 ghost use Rattle.plane_coder.specs.Views.{plane_in};
 
+use crate::collect::{ALL, GaggleWords, collect_gaggle};
 use crate::tally::Tally;
 use crate::view::View;
 use base_122::Book;
-use block_masks::{Gaggle, depth_of, store};
+use block_masks::{Gaggle, store};
 use word_codes::best_option;
 
-// Counts the words of stages 1 to 3 of block r.
-#[inline(always)]
-fn tally_block(tally: &mut Tally, view: &View, marks: &[i32], r: usize)
-    requires whole { length view.now.blocks.now ≡ 64 * length marks.now }
-    requires within { r < length marks.now }
-    requires small { AreAtMost tally.old (2 ^ 15) }
-    ensures { Counts tally.old tally.new (words_of_block (plane_in view.now (depths_of marks.now)) r) 21 }
-{
-    if depth_of(marks[r]) <= view.plan.plane {
-        return;
-    }
-    tally.add_block(&view.plane_masks(r));
-}
-
-fn tally_gaggle(view: &View, marks: &[i32], g: usize) -> Tally
-    requires whole { length view.now.blocks.now ≡ 64 * length marks.now }
-    requires within { 16 * g < length marks.now }
-    ensures counts { CountsOf result (counted (plane_in view.now (depths_of marks.now)) g) }
+fn tally_gaggle(words: &GaggleWords) -> Tally
+    ensures counts { CountsOf result (listed words.now.parents ++ (listed words.now.children ++ listed words.now.grandchildren)) }
     ensures small { AreAtMost result (2 ^ 13) }
 {
     let mut tally = Tally::new();
-    let first = 16 * g;
-    for place in 0..(marks.len() - first).min(16) {
-        tally_block(&mut tally, view, marks, first + place);
-    }
+    tally.add_words(&words.parents);
+    tally.add_words(&words.children);
+    tally.add_words(&words.grandchildren);
     tally
 }
 
@@ -55,24 +41,41 @@ fn best_options(book: &Book, tally: &Tally) -> [u8; 3]
     ]
 }
 
-// Returns the options of gaggle g.
-fn choose_options(view: &View, marks: &[i32], g: usize) -> [u8; 3]
+// Finds the words of gaggle g, and returns its options.
+fn choose_options(words: &mut GaggleWords, view: &View, marks: &[i32], g: usize) -> [u8; 3]
     requires whole { length view.now.blocks.now ≡ 64 * length marks.now }
     requires within { 16 * g < length marks.now }
     ensures chosen { result ≡ chosen view.now.tables.now.book (plane_in view.now (depths_of marks.now)) g }
     ensures known { AreOptions result }
+    ensures words { HasWords 0 (λ stage. of_gaggle (plane_in view.now (depths_of marks.now)) stage g) words.new }
 {
-    let tally = tally_gaggle(view, marks, g);
+    collect_gaggle(words, view, marks, g, ALL);
+    let tally = tally_gaggle(words);
     best_options(&view.tables.book, &tally)
 }
 
-// Stores the options of each gaggle in the states, with no word sent yet.
-pub(crate) fn choose_all(view: &View, marks: &mut [i32])
+// Returns the options of gaggle g. Its words stay in its place, if there is room for it.
+fn choose_kept(room: &mut [GaggleWords], view: &View, marks: &[i32], g: usize) -> [u8; 3]
+    requires whole { length view.now.blocks.now ≡ 64 * length marks.now }
+    requires within { 16 * g < length marks.now }
+    ensures chosen { result ≡ chosen view.now.tables.now.book (plane_in view.now (depths_of marks.now)) g }
+    ensures known { AreOptions result }
+    ensures keeps { FirstCollected (plane_in view.now (depths_of marks.now)) g room.old → FirstCollected (plane_in view.now (depths_of marks.now)) (g + 1) room.new }
+{
+    if g < room.len() {
+        return choose_options(&mut room[g], view, marks, g);
+    }
+    choose_options(&mut GaggleWords::new(), view, marks, g)
+}
+
+// Stores the options of each gaggle in the states, with no word sent yet. The words of as many gaggles as there is room for stay there.
+pub(crate) fn choose_all(view: &View, marks: &mut [i32], room: &mut [GaggleWords])
     requires whole { length view.now.blocks.now ≡ 64 * length marks.old }
-    ensures { Chooses view.now marks.old marks.new }
+    ensures chosen { Chooses view.now marks.old marks.new }
+    ensures words { AreCollected (plane_in view.now (depths_of marks.old)) room.new }
 {
     for g in 0..marks.len().div_ceil(16) {
-        let options = choose_options(view, marks, g);
+        let options = choose_kept(room, view, marks, g);
         let sent = [false; 3];
         store(marks, g, Gaggle { options, sent });
     }

@@ -7,6 +7,7 @@ ghost use Rattle.plane_defs.specs.Marks.{depths_of};
 ghost use Rattle.plane_coder.specs.Sends.{chosen_items};
 ghost use Rattle.plane_coder.specs.Views.{plane_of};
 
+use crate::collect::GaggleWords;
 use crate::masks::{Masks, lower_masks};
 use crate::plane::{put_plane_with, put_stages};
 use crate::tables::CodeTables;
@@ -20,6 +21,8 @@ pub struct PlaneCoder<'a> {
     tables: &'a CodeTables,
     plane: u8,
     kept: [Option<Masks>; 64],
+    // The words of the present plane. They are here so that no plane fills their room with nothing.
+    room: [GaggleWords; 4],
 }
 
 impl<'a> PlaneCoder<'a> {
@@ -36,6 +39,7 @@ impl<'a> PlaneCoder<'a> {
             tables,
             plane: 0,
             kept: [None; 64],
+            room: [GaggleWords::new(); 4],
         }
     }
 
@@ -82,6 +86,6 @@ impl<'a> PlaneCoder<'a> {
             tables: self.tables,
             kept: &self.kept,
         };
-        put_stages(out, &view, marks, plan.last)
+        put_stages(out, &view, marks, &mut self.room, plan.last)
     }
 }

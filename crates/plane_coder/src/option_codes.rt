@@ -20,6 +20,7 @@ fn rows_of(options: [u8; 3]) -> [u8; 5]
 }
 
 // The code of each word as it is picked, under the option of its length.
+#[inline(always)]
 fn codes_of(tables: &CodeTables, options: [u8; 3]) -> [Code; 80]
     requires { AreOptions options }
     ensures { (word : ℕ) → IsPacked word → IsCodeOf tables.now.book (word / 16) (option_for options (word / 16)) (word % 16) (slice_index_or result word no_code) }
@@ -43,6 +44,7 @@ pub(crate) struct OptionCodes<'a> {
 }
 
 impl<'a> OptionCodes<'a> {
+    #[inline(always)]
     pub fn new(tables: &'a CodeTables, options: [u8; 3]) -> OptionCodes<'a>
         requires { AreOptions options }
         ensures tables { result.tables.now ≡ tables.now }

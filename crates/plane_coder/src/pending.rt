@@ -1,6 +1,7 @@
 // The bits of a gaggle that are not put yet.
 
 ghost use Rattle.std.specs.Prelude.{◌≡◌, ◌+◌, ◌-◌, ◌/◌, ◌%◌, ◌≤◌, ◌<◌, ◌^◌, ◌++◌, [], ◌∷◌, ℕ, false, true, slice_index_or, slice_set};
+ghost use Rattle.std.specs.Bool.{OnTrue};
 ghost use Rattle.item_defs.specs.Bits.{bits_of};
 ghost use Rattle.item_defs.specs.Items.{item_bits};
 ghost use Rattle.plane_defs.specs.Codes.{option_item, identifier_width as width_of, identifier_number as number_of};
@@ -144,8 +145,18 @@ impl PendingBits {
         requires room { load self.old + 12 ≤ 63 }
         ensures { Appends option_codes.now.tables.now.book self.old self.new (entries_of typed) 12 }
     {
-        self.word(option_codes, typed.word);
-        self.raws(typed.signs);
+        let word = typed.word();
+        let signs = typed.signs();
+        self.word(option_codes, word);
+        self.raws(signs);
+    }
+
+    // Returns whether there is room for a word and the bits after it.
+    #[inline(always)]
+    pub fn has_room(&self) -> bool
+        ensures { OnTrue result (load self.now + 12 ≤ 63) }
+    {
+        self.count <= 46
     }
 
     // Puts the bits, so that none are left.

@@ -10,6 +10,7 @@ ghost use Rattle.plane_coder.specs.Viewed.{AreKept};
 ghost use Rattle.plane_coder.specs.Views.{plane_of, plane_in, plane_from};
 
 use crate::choose::choose_all;
+use crate::collect::GaggleWords;
 use crate::masks::{Masks, keep_masks};
 use crate::stages::put_stage;
 use crate::tables::CodeTables;
@@ -23,6 +24,7 @@ pub(crate) fn put_stages<O: OctetOut>(
     out: &mut BitOut<O>,
     view: &View,
     marks: &mut [i32],
+    room: &mut [GaggleWords],
     last: u8,
 ) -> Result<(), PutFault>
     requires open { IsReady O.sink out.old }
@@ -31,9 +33,9 @@ pub(crate) fn put_stages<O: OctetOut>(
     ensures puts { Writes O.sink result out.old out.new (text (chosen_items view.now.tables.now.book (plane_in view.now (depths_of marks.old)) last)) }
     ensures depths { depths_of marks.new ≡ depths_of marks.old }
 {
-    choose_all(view, marks);
+    choose_all(view, marks, room);
     for number in 0..last + 1 {
-        put_stage(out, number, view, marks)?;
+        put_stage(out, number, view, marks, room)?;
     }
     Ok(())
 }
@@ -47,12 +49,13 @@ pub(crate) struct Source<'a> {
     pub last: u8,
 }
 
-// Puts a plane, and keeps the masks of as many blocks as there is room for, where none are kept yet.
+// Puts a plane, and keeps the masks of as many blocks and the words of as many gaggles as there is room for. No masks are kept yet.
 fn put_kept<O: OctetOut>(
     out: &mut BitOut<O>,
     source: &Source,
     marks: &mut [i32],
     kept: &mut [Option<Masks>],
+    room: &mut [GaggleWords],
 ) -> Result<(), PutFault>
     requires open { IsReady O.sink out.old }
     requires whole { length source.now.blocks.now ≡ 64 * length marks.old }
@@ -68,59 +71,28 @@ fn put_kept<O: OctetOut>(
         tables: source.tables,
         kept,
     };
-    put_stages(out, &view, marks, source.last)
+    put_stages(out, &view, marks, room, source.last)
 }
 
-// Puts a plane of up to 64 blocks.
+// Puts a plane with room for the masks of `BLOCKS` blocks and the words of `GAGGLES` gaggles. Each room has a stack frame of its own, since a segment of fewer blocks
+// would fill it with nothing for each plane.
 #[inline(never)]
-fn put_few<O: OctetOut>(
+fn put_with_room<O: OctetOut, const BLOCKS: usize, const GAGGLES: usize>(
     out: &mut BitOut<O>,
     source: &Source,
     marks: &mut [i32],
 ) -> Result<(), PutFault>
+    requires room { BLOCKS ≤ 4096 }
+    requires words { GAGGLES ≤ 256 }
     requires open { IsReady O.sink out.old }
     requires whole { length source.now.blocks.now ≡ 64 * length marks.old }
     requires last { source.now.last ≤ 4 }
     ensures puts { Writes O.sink result out.old out.new (text (chosen_items source.now.tables.now.book (plane_from source.now (depths_of marks.old)) source.now.last)) }
     ensures depths { depths_of marks.new ≡ depths_of marks.old }
 {
-    let mut kept = [None; 64];
-    put_kept(out, source, marks, &mut kept)
-}
-
-// Puts a plane of more blocks. The room for masks is 16 kB.
-#[inline(never)]
-fn put_some<O: OctetOut>(
-    out: &mut BitOut<O>,
-    source: &Source,
-    marks: &mut [i32],
-) -> Result<(), PutFault>
-    requires open { IsReady O.sink out.old }
-    requires whole { length source.now.blocks.now ≡ 64 * length marks.old }
-    requires last { source.now.last ≤ 4 }
-    ensures puts { Writes O.sink result out.old out.new (text (chosen_items source.now.tables.now.book (plane_from source.now (depths_of marks.old)) source.now.last)) }
-    ensures depths { depths_of marks.new ≡ depths_of marks.old }
-{
-    let mut kept = [None; 512];
-    put_kept(out, source, marks, &mut kept)
-}
-
-// Puts a plane of many blocks, of which the first 4,096 have their masks kept. The room for masks is 128 kB, which smaller segments
-// don't fill with nothing for each plane.
-#[inline(never)]
-fn put_many<O: OctetOut>(
-    out: &mut BitOut<O>,
-    source: &Source,
-    marks: &mut [i32],
-) -> Result<(), PutFault>
-    requires open { IsReady O.sink out.old }
-    requires whole { length source.now.blocks.now ≡ 64 * length marks.old }
-    requires last { source.now.last ≤ 4 }
-    ensures puts { Writes O.sink result out.old out.new (text (chosen_items source.now.tables.now.book (plane_from source.now (depths_of marks.old)) source.now.last)) }
-    ensures depths { depths_of marks.new ≡ depths_of marks.old }
-{
-    let mut kept = [None; 4096];
-    put_kept(out, source, marks, &mut kept)
+    let mut kept = [None; BLOCKS];
+    let mut room = [GaggleWords::new(); GAGGLES];
+    put_kept(out, source, marks, &mut kept, &mut room)
 }
 
 /// Puts a bit plane of a segment up to the plan's last stage (docs/formats.md, "Bit planes" and "Words
@@ -173,8 +145,9 @@ pub fn put_plane_with<O: OctetOut>(
         last: plan.last,
     };
     match marks.len() {
-        0..=64 => put_few(out, &source, marks),
-        65..=512 => put_some(out, &source, marks),
-        _ => put_many(out, &source, marks),
+        0..=64 => put_with_room::<O, 64, 4>(out, &source, marks),
+        65..=256 => put_with_room::<O, 256, 16>(out, &source, marks),
+        257..=1024 => put_with_room::<O, 1024, 64>(out, &source, marks),
+        _ => put_with_room::<O, 4096, 256>(out, &source, marks),
     }
 }

@@ -13,11 +13,38 @@ use crate::fours::{Fours, filled, four_sets};
 use crate::masks::Masks;
 use block_masks::{CodedPlane, Sets, both, either, except, masked, one, part, pick};
 
-// The word of the types of some positions and the signs after it, each as it is picked.
+// The word of the types of some positions in the low octet, and the signs after it in the high one, each as it is picked.
 #[derive(Clone, Copy)]
 pub(crate) struct Typed {
-    pub word: u8,
-    pub signs: u8,
+    pub pair: u16,
+}
+
+impl Typed {
+    ghost use Rattle.plane_coder.specs.Picked.{word_in, signs_in};
+
+    #[inline(always)]
+    pub fn new(word: u8, signs: u8) -> Typed
+        ensures word { word_in result ≡ word }
+        ensures signs { signs_in result ≡ signs }
+    {
+        Typed {
+            pair: u16::from(word) + 256 * u16::from(signs),
+        }
+    }
+
+    #[inline(always)]
+    pub fn word(&self) -> u8
+        ensures { result ≡ word_in self.now }
+    {
+        (self.pair % 256) as u8
+    }
+
+    #[inline(always)]
+    pub fn signs(&self) -> u8
+        ensures { result ≡ signs_in self.now }
+    {
+        (self.pair / 256) as u8
+    }
 }
 
 // The numbers that are significant in the plane, those that were above it, those whose types are due, those that
@@ -74,10 +101,9 @@ impl<'a> PlaneMasks<'a> {
         ensures packed { ArePacked result }
     {
         let new = both(self.due, self.reached);
-        Typed {
-            word: pick(part(self.due, at, count), part(self.reached, at, count)),
-            signs: pick(part(new, at, count), part(self.negative, at, count)),
-        }
+        let word = pick(part(self.due, at, count), part(self.reached, at, count));
+        let signs = pick(part(new, at, count), part(self.negative, at, count));
+        Typed::new(word, signs)
     }
 
     // Returns the types of those of some positions that a mask has.

@@ -1,13 +1,12 @@
-// The stages of a block.
+// The stages of a block, and the words of a list.
 
-ghost use Rattle.std.specs.Prelude.{◌≡◌, ◌+◌, ◌*◌, ◌&&◌, ◌<◌, ◌≤◌, [], cond, false, length, nat_lt, slice_range};
+ghost use Rattle.std.specs.Prelude.{◌≡◌, ◌+◌, ◌*◌, ◌&&◌, ◌<◌, ◌≤◌, false, length, nat_lt, slice_range};
 ghost use Rattle.std.specs.Bool.{OnTrue};
 ghost use Rattle.bit_pipe.specs.Standing.{stand, IsReady};
-ghost use Rattle.plane_defs.specs.declared.sets.Set.TheVariants.{Grandchildren};
-ghost use Rattle.plane_defs.specs.Sets.{significant, set_significant, coded};
-ghost use Rattle.plane_defs.specs.Entries.{twos_bit, dc_bits, parents, children, quads, all_quads, grandchildren, refinement, block_entries, stage_number};
-ghost use Rattle.block_masks.specs.Gaggles.{AreOptions};
-ghost use Rattle.block_masks.specs.SetMasks.{AreSets};
+ghost use Rattle.plane_defs.specs.Sets.{coded};
+ghost use Rattle.plane_defs.specs.Entries.{twos_bit, dc_bits, refinement, block_entries, stage_number};
+ghost use Rattle.plane_coder.specs.Listed.{listed};
+ghost use Rattle.plane_coder.specs.Collected.{HasNoWords};
 ghost use Rattle.plane_coder.specs.Spells.{Spells};
 ghost use Rattle.base_122.specs.declared.book.Book.{Book as BookValue};
 ghost use Rattle.block_masks.specs.declared.gaggle.Gaggle.{Gaggle as GaggleValue};
@@ -15,10 +14,11 @@ ghost use Rattle.block_masks.specs.declared.gaggle.Gaggle.{Gaggle as GaggleValue
 use crate::option_codes::OptionCodes;
 use crate::pending::PendingBits;
 use crate::plane_masks::PlaneMasks;
-use crate::pushes::{push_children, push_parents, push_quads, push_refinement};
+use crate::pushes::push_refinement;
 use crate::view::View;
+use crate::words::Words;
 use bit_pipe::{BitOut, OctetOut, PutFault};
-use block_masks::{CodedPlane, Sets, has, is_any_of};
+use block_masks::{CodedPlane, has, is_any_of};
 
 // Returns the bit of weight 2^place of a two's complement form.
 fn twos_bit_at(number: i32, place: u8) -> bool
@@ -57,103 +57,27 @@ fn put_dc_bit<O: OctetOut>(
     out.put(twos_bit_at(block[0], plan.plane))
 }
 
+// Puts the words of a list.
 #[inline(always)]
-fn put_parents<O: OctetOut>(
+pub(crate) fn put_words<O: OctetOut, const MOST: usize>(
     out: &mut BitOut<O>,
     pending: &mut PendingBits,
     option_codes: &OptionCodes,
-    plane_masks: &PlaneMasks,
+    words: &Words<MOST>,
 ) -> Result<(), PutFault>
     requires open { IsReady O.sink out.old }
     requires same { option_codes.now.options ≡ pending.old.gaggle.options }
     requires silent { pending.old.count ≡ 0 }
-    ensures spells { Spells O.sink option_codes.now.tables.now.book pending.old.gaggle pending.new.gaggle result (stand O.sink out.old) (stand O.sink out.new) (parents plane_masks.now.block.now plane_masks.now.plan.now.weights.shifts plane_masks.now.plan.now.plane) }
+    ensures spells { Spells O.sink option_codes.now.tables.now.book pending.old.gaggle pending.new.gaggle result (stand O.sink out.old) (stand O.sink out.new) (listed words.now) }
     ensures silent { pending.new.count ≡ 0 }
 {
-    push_parents(pending, option_codes, plane_masks);
-    pending.put(out)
-}
-
-#[inline(always)]
-fn put_children<O: OctetOut>(
-    out: &mut BitOut<O>,
-    pending: &mut PendingBits,
-    option_codes: &OptionCodes,
-    plane_masks: &PlaneMasks,
-) -> Result<(), PutFault>
-    requires open { IsReady O.sink out.old }
-    requires same { option_codes.now.options ≡ pending.old.gaggle.options }
-    requires silent { pending.old.count ≡ 0 }
-    ensures spells { Spells O.sink option_codes.now.tables.now.book pending.old.gaggle pending.new.gaggle result (stand O.sink out.old) (stand O.sink out.new) (children plane_masks.now.block.now plane_masks.now.plan.now.weights.shifts plane_masks.now.plan.now.plane) }
-    ensures silent { pending.new.count ≡ 0 }
-{
-    push_children(pending, option_codes, plane_masks);
-    pending.put(out)
-}
-
-// Puts the sets of four grandchildren in family i, if its grandchildren are significant.
-#[inline(always)]
-fn put_quads<O: OctetOut>(
-    out: &mut BitOut<O>,
-    pending: &mut PendingBits,
-    option_codes: &OptionCodes,
-    plane_masks: &PlaneMasks,
-    is_said: bool,
-    i: u8,
-) -> Result<(), PutFault>
-    requires open { IsReady O.sink out.old }
-    requires family { i < 3 }
-    requires enclosing { is_said ≡ set_significant plane_masks.now.block.now plane_masks.now.plan.now.plane (Grandchildren i) }
-    requires same { option_codes.now.options ≡ pending.old.gaggle.options }
-    requires silent { pending.old.count ≡ 0 }
-    ensures spells { Spells O.sink option_codes.now.tables.now.book pending.old.gaggle pending.new.gaggle result (stand O.sink out.old) (stand O.sink out.new)
-        (cond is_said (quads plane_masks.now.block.now plane_masks.now.plan.now.weights.shifts plane_masks.now.plan.now.plane i) []) }
-    ensures silent { pending.new.count ≡ 0 }
-{
-    if !is_said {
-        return Ok(());
+    for i in 0..words.count() {
+        if !pending.has_room() {
+            pending.put(out)?;
+        }
+        pending.typed(option_codes, words.at(i));
     }
-    push_quads(pending, option_codes, plane_masks, i);
     pending.put(out)
-}
-
-#[inline(always)]
-fn put_all_quads<O: OctetOut>(
-    out: &mut BitOut<O>,
-    pending: &mut PendingBits,
-    option_codes: &OptionCodes,
-    plane_masks: &PlaneMasks,
-    sets: Sets,
-) -> Result<(), PutFault>
-    requires open { IsReady O.sink out.old }
-    requires sets { AreSets (significant plane_masks.now.block.now plane_masks.now.plan.now.plane) sets }
-    requires same { option_codes.now.options ≡ pending.old.gaggle.options }
-    requires silent { pending.old.count ≡ 0 }
-    ensures spells { Spells O.sink option_codes.now.tables.now.book pending.old.gaggle pending.new.gaggle result (stand O.sink out.old) (stand O.sink out.new) (all_quads plane_masks.now.block.now plane_masks.now.plan.now.weights.shifts plane_masks.now.plan.now.plane) }
-    ensures silent { pending.new.count ≡ 0 }
-{
-    let families = sets.grandchildren;
-    put_quads(out, pending, option_codes, plane_masks, has(families, 0), 0)?;
-    put_quads(out, pending, option_codes, plane_masks, has(families, 1), 1)?;
-    put_quads(out, pending, option_codes, plane_masks, has(families, 2), 2)
-}
-
-#[inline(always)]
-fn put_grandchildren<O: OctetOut>(
-    out: &mut BitOut<O>,
-    pending: &mut PendingBits,
-    option_codes: &OptionCodes,
-    plane_masks: &PlaneMasks,
-) -> Result<(), PutFault>
-    requires open { IsReady O.sink out.old }
-    requires same { option_codes.now.options ≡ pending.old.gaggle.options }
-    requires silent { pending.old.count ≡ 0 }
-    ensures spells { Spells O.sink option_codes.now.tables.now.book pending.old.gaggle pending.new.gaggle result (stand O.sink out.old) (stand O.sink out.new) (grandchildren plane_masks.now.block.now plane_masks.now.plan.now.weights.shifts plane_masks.now.plan.now.plane) }
-    ensures silent { pending.new.count ≡ 0 }
-{
-    pending.word(option_codes, plane_masks.flags_of_grandchildren());
-    pending.put(out)?;
-    put_all_quads(out, pending, option_codes, plane_masks, plane_masks.sets())
 }
 
 #[inline(always)]
@@ -180,32 +104,29 @@ fn put_refinement<O: OctetOut>(
     pending.put(out)
 }
 
-// Puts the stage of this number of block r, which has this depth. The number is known to the compiler, so each stage has code of its own.
+// Puts the stage of this number of block r, which has this depth: the first or the last, in which no words are sent. The number is
+// known to the compiler, so each stage has code of its own.
 #[inline(always)]
 pub(crate) fn put_block_stage<O: OctetOut, const STAGE: u8>(
     out: &mut BitOut<O>,
     pending: &mut PendingBits,
-    option_codes: &OptionCodes,
     view: &View,
     depth: u8,
     r: usize,
 ) -> Result<(), PutFault>
     requires open { IsReady O.sink out.old }
-    requires stage { STAGE < 5 }
+    requires stage { HasNoWords STAGE }
     requires within { 64 * r + 64 ≤ length view.now.blocks.now }
-    requires same { option_codes.now.options ≡ pending.old.gaggle.options }
     requires silent { pending.old.count ≡ 0 }
-    ensures spells { Spells O.sink option_codes.now.tables.now.book pending.old.gaggle pending.new.gaggle result (stand O.sink out.old) (stand O.sink out.new)
+    ensures spells { (book : BookValue) → Spells O.sink book pending.old.gaggle pending.new.gaggle result (stand O.sink out.old) (stand O.sink out.new)
         (block_entries (stage_number STAGE) (slice_range view.now.blocks.now (64 * r) (64 * r + 64)) depth view.now.plan.now.weights.shifts view.now.plan.now.plane view.now.plan.now.q) }
     ensures silent { pending.new.count ≡ 0 }
 {
-    let is_deep = view.plan.plane < depth;
-    match STAGE {
-        0 => put_dc_bit(out, &view.blocks[64 * r..64 * r + 64], view.plan),
-        1 if is_deep => put_parents(out, pending, option_codes, &view.plane_masks(r)),
-        2 if is_deep => put_children(out, pending, option_codes, &view.plane_masks(r)),
-        3 if is_deep => put_grandchildren(out, pending, option_codes, &view.plane_masks(r)),
-        4 if is_deep => put_refinement(out, pending, &view.plane_masks(r)),
-        _ => Ok(()),
+    if STAGE == 0 {
+        return put_dc_bit(out, &view.blocks[64 * r..64 * r + 64], view.plan);
     }
+    if depth <= view.plan.plane {
+        return Ok(());
+    }
+    put_refinement(out, pending, &view.plane_masks(r))
 }

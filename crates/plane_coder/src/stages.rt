@@ -1,18 +1,23 @@
 // The stages of a plane, gaggle by gaggle.
 
-ghost use Rattle.std.specs.Prelude.{◌≡◌, ◌+◌, ◌*◌, ◌<◌, ◌≤◌, OnOk, length};
+ghost use Rattle.std.specs.Prelude.{◌≡◌, ◌+◌, ◌*◌, ◌<◌, List, OnOk, length};
 ghost use Rattle.item_defs.specs.Items.{text};
-ghost use Rattle.bit_pipe.specs.Standing.{stand, Puts, IsReady, Writes};
+ghost use Rattle.bit_pipe.specs.Standing.{stand, IsReady, Writes};
 ghost use Rattle.plane_defs.specs.Planes.{of_block, of_gaggle, stage_items};
 ghost use Rattle.plane_defs.specs.Entries.{stage_number};
+ghost use Rattle.plane_defs.specs.declared.entries.Entry.{Entry};
+ghost use Rattle.plane_defs.specs.declared.stages.Stage.{Stage};
 ghost use Rattle.plane_defs.specs.Marks.{depths_of};
 ghost use Rattle.block_masks.specs.Gaggles.{AllAgree, AreOptions, AreKnown, SameMarks, options_at};
+ghost use Rattle.plane_coder.specs.Collected.{HasNoWords, HasWords, AreCollected};
 ghost use Rattle.plane_coder.specs.Spells.{Spells};
 ghost use Rattle.plane_coder.specs.Views.{plane_in};
 
+use crate::collect::{GaggleWords, collect_gaggle};
 use crate::option_codes::OptionCodes;
 use crate::pending::PendingBits;
-use crate::put::{is_quiet, put_block_stage};
+use crate::put::{is_quiet, put_block_stage, put_words};
+use crate::tables::CodeTables;
 use crate::view::View;
 use bit_pipe::{BitOut, OctetOut, PutFault};
 use block_masks::{depth_of, load, store};
@@ -22,22 +27,88 @@ use block_masks::{depth_of, load, store};
 fn put_block_at<O: OctetOut, const STAGE: u8>(
     out: &mut BitOut<O>,
     pending: &mut PendingBits,
-    option_codes: &OptionCodes,
     view: &View,
     marks: &[i32],
     r: usize,
 ) -> Result<(), PutFault>
-    requires stage { STAGE < 5 }
+    requires stage { HasNoWords STAGE }
     requires open { IsReady O.sink out.old }
-    requires same { option_codes.now.options ≡ pending.old.gaggle.options }
     requires silent { pending.old.count ≡ 0 }
-    requires tables { option_codes.now.tables.now ≡ view.now.tables.now }
     requires whole { length view.now.blocks.now ≡ 64 * length marks.now }
     requires within { r < length marks.now }
     ensures spells { Spells O.sink view.now.tables.now.book pending.old.gaggle pending.new.gaggle result (stand O.sink out.old) (stand O.sink out.new) (of_block (plane_in view.now (depths_of marks.now)) (stage_number STAGE) r) }
     ensures silent { pending.new.count ≡ 0 }
 {
-    put_block_stage::<O, STAGE>(out, pending, option_codes, view, depth_of(marks[r]), r)
+    put_block_stage::<O, STAGE>(out, pending, view, depth_of(marks[r]), r)
+}
+
+// Puts the stage of this number of the blocks of gaggle g: a stage without words.
+#[inline(always)]
+fn put_blocks<O: OctetOut, const STAGE: u8>(
+    out: &mut BitOut<O>,
+    pending: &mut PendingBits,
+    view: &View,
+    marks: &[i32],
+    g: usize,
+) -> Result<(), PutFault>
+    requires stage { HasNoWords STAGE }
+    requires open { IsReady O.sink out.old }
+    requires silent { pending.old.count ≡ 0 }
+    requires whole { length view.now.blocks.now ≡ 64 * length marks.now }
+    requires within { 16 * g < length marks.now }
+    ensures { Spells O.sink view.now.tables.now.book pending.old.gaggle pending.new.gaggle result (stand O.sink out.old) (stand O.sink out.new) (of_gaggle (plane_in view.now (depths_of marks.now)) (stage_number STAGE) g) }
+{
+    let first = 16 * g;
+    for place in 0..(marks.len() - first).min(16) {
+        put_block_at::<O, STAGE>(out, pending, view, marks, first + place)?;
+    }
+    Ok(())
+}
+
+// Puts the words of a gaggle in the stage of this number.
+#[inline(always)]
+fn put_stage_words<O: OctetOut, const STAGE: u8>(
+    out: &mut BitOut<O>,
+    pending: &mut PendingBits,
+    tables: &CodeTables,
+    words: &GaggleWords,
+) -> Result<(), PutFault>
+    requires first { 0 < STAGE }
+    requires last { STAGE < 4 }
+    requires open { IsReady O.sink out.old }
+    requires silent { pending.old.count ≡ 0 }
+    ensures { (sent : Stage → List Entry) → HasWords STAGE sent words.now →
+        Spells O.sink tables.now.book pending.old.gaggle pending.new.gaggle result (stand O.sink out.old) (stand O.sink out.new) (sent (stage_number STAGE)) }
+{
+    let option_codes = OptionCodes::new(tables, pending.gaggle.options);
+    match STAGE {
+        1 => put_words(out, pending, &option_codes, &words.parents),
+        2 => put_words(out, pending, &option_codes, &words.children),
+        _ => put_words(out, pending, &option_codes, &words.grandchildren),
+    }
+}
+
+// Puts the words of gaggle g in the stage of this number, which are found again. Only segments of very many blocks have such gaggles.
+#[cold]
+#[inline(never)]
+fn put_again<O: OctetOut, const STAGE: u8>(
+    out: &mut BitOut<O>,
+    pending: &mut PendingBits,
+    view: &View,
+    marks: &[i32],
+    g: usize,
+) -> Result<(), PutFault>
+    requires first { 0 < STAGE }
+    requires last { STAGE < 4 }
+    requires open { IsReady O.sink out.old }
+    requires silent { pending.old.count ≡ 0 }
+    requires whole { length view.now.blocks.now ≡ 64 * length marks.now }
+    requires within { 16 * g < length marks.now }
+    ensures { Spells O.sink view.now.tables.now.book pending.old.gaggle pending.new.gaggle result (stand O.sink out.old) (stand O.sink out.new) (of_gaggle (plane_in view.now (depths_of marks.now)) (stage_number STAGE) g) }
+{
+    let mut words = GaggleWords::new();
+    collect_gaggle(&mut words, view, marks, g, STAGE);
+    put_stage_words::<O, STAGE>(out, pending, view.tables, &words)
 }
 
 // Puts the stage of this number of gaggle g.
@@ -45,26 +116,26 @@ fn put_block_at<O: OctetOut, const STAGE: u8>(
 fn put_gaggle<O: OctetOut, const STAGE: u8>(
     out: &mut BitOut<O>,
     pending: &mut PendingBits,
-    option_codes: &OptionCodes,
     view: &View,
     marks: &[i32],
+    room: &[GaggleWords],
     g: usize,
 ) -> Result<(), PutFault>
     requires stage { STAGE < 5 }
     requires open { IsReady O.sink out.old }
-    requires same { option_codes.now.options ≡ pending.old.gaggle.options }
     requires silent { pending.old.count ≡ 0 }
-    requires tables { option_codes.now.tables.now ≡ view.now.tables.now }
     requires whole { length view.now.blocks.now ≡ 64 * length marks.now }
     requires within { 16 * g < length marks.now }
-    ensures spells { Spells O.sink view.now.tables.now.book pending.old.gaggle pending.new.gaggle result (stand O.sink out.old) (stand O.sink out.new) (of_gaggle (plane_in view.now (depths_of marks.now)) (stage_number STAGE) g) }
-    ensures silent { pending.new.count ≡ 0 }
+    requires words { AreCollected (plane_in view.now (depths_of marks.now)) room.now }
+    ensures { Spells O.sink view.now.tables.now.book pending.old.gaggle pending.new.gaggle result (stand O.sink out.old) (stand O.sink out.new) (of_gaggle (plane_in view.now (depths_of marks.now)) (stage_number STAGE) g) }
 {
-    let first = 16 * g;
-    for place in 0..(marks.len() - first).min(16) {
-        put_block_at::<O, STAGE>(out, pending, option_codes, view, marks, first + place)?;
+    if STAGE == 0 || STAGE == 4 {
+        return put_blocks::<O, STAGE>(out, pending, view, marks, g);
     }
-    Ok(())
+    if g >= room.len() {
+        return put_again::<O, STAGE>(out, pending, view, marks, g);
+    }
+    put_stage_words::<O, STAGE>(out, pending, view.tables, &room[g])
 }
 
 // Puts the stage of this number of all blocks, gaggle by gaggle.
@@ -73,11 +144,13 @@ fn put_gaggles<O: OctetOut, const STAGE: u8>(
     out: &mut BitOut<O>,
     view: &View,
     marks: &mut [i32],
+    room: &[GaggleWords],
 ) -> Result<(), PutFault>
     requires open { IsReady O.sink out.old }
     requires stage { STAGE < 5 }
     requires whole { length view.now.blocks.now ≡ 64 * length marks.old }
     requires known { AreKnown marks.old }
+    requires words { AreCollected (plane_in view.now (depths_of marks.old)) room.now }
     requires agree { AllAgree (plane_in view.now (depths_of marks.old)) STAGE marks.old }
     ensures puts { Writes O.sink result out.old out.new (text (stage_items view.now.tables.now.book (options_at marks.old) (plane_in view.now (depths_of marks.old)) STAGE)) }
     ensures is_open { OnOk result (IsReady O.sink out.new) }
@@ -89,8 +162,7 @@ fn put_gaggles<O: OctetOut, const STAGE: u8>(
     }
     for g in 0..marks.len().div_ceil(16) {
         let mut pending = PendingBits::new(load(marks, g));
-        let option_codes = OptionCodes::new(view.tables, pending.gaggle.options);
-        put_gaggle::<O, STAGE>(out, &mut pending, &option_codes, view, marks, g)?;
+        put_gaggle::<O, STAGE>(out, &mut pending, view, marks, room, g)?;
         store(marks, g, pending.gaggle);
     }
     Ok(())
@@ -103,11 +175,13 @@ pub(crate) fn put_stage<O: OctetOut>(
     number: u8,
     view: &View,
     marks: &mut [i32],
+    room: &[GaggleWords],
 ) -> Result<(), PutFault>
     requires open { IsReady O.sink out.old }
     requires number { number < 5 }
     requires whole { length view.now.blocks.now ≡ 64 * length marks.old }
     requires known { AreKnown marks.old }
+    requires words { AreCollected (plane_in view.now (depths_of marks.old)) room.now }
     requires agree { AllAgree (plane_in view.now (depths_of marks.old)) number marks.old }
     ensures puts { Writes O.sink result out.old out.new (text (stage_items view.now.tables.now.book (options_at marks.old) (plane_in view.now (depths_of marks.old)) number)) }
     ensures is_open { OnOk result (IsReady O.sink out.new) }
@@ -115,10 +189,10 @@ pub(crate) fn put_stage<O: OctetOut>(
     ensures kept { SameMarks marks.old marks.new }
 {
     match number {
-        0 => put_gaggles::<O, 0>(out, view, marks),
-        1 => put_gaggles::<O, 1>(out, view, marks),
-        2 => put_gaggles::<O, 2>(out, view, marks),
-        3 => put_gaggles::<O, 3>(out, view, marks),
-        _ => put_gaggles::<O, 4>(out, view, marks),
+        0 => put_gaggles::<O, 0>(out, view, marks, room),
+        1 => put_gaggles::<O, 1>(out, view, marks, room),
+        2 => put_gaggles::<O, 2>(out, view, marks, room),
+        3 => put_gaggles::<O, 3>(out, view, marks, room),
+        _ => put_gaggles::<O, 4>(out, view, marks, room),
     }
 }

@@ -8,8 +8,8 @@ use crate::plane_masks::PlaneMasks;
 use crate::tables::CodeTables;
 use block_masks::CodedPlane;
 
-// The blocks of a segment, 64 numbers each, with the plane and the codes. The masks that are kept are used in all stages;
-// those of other blocks are computed again in each.
+// The blocks of a segment, 64 numbers each, with the plane and the codes. The masks that are kept are used for the words and in the
+// last stage; those of other blocks are computed again.
 #[derive(Drop)]
 pub(crate) struct View<'a> {
     pub blocks: &'a [i32],

@@ -1,7 +1,5 @@
 -- What is significant above the plane below this one: what was significant above this one, and what has this one's bit.
-use Rattle.std.proofs.Common.{◌≡◌, ℕ, ◌+◌, ◌*◌, ◌<◌, ◌≤◌, ◌^◌, ◌||◌, Bool, true, false, List, length, get_or, refl, ap, sym, ◌∙◌, arith, ℤ, pos}
-use Rattle.std.specs.Prelude.{nat_le, unsigned_abs}
-use Rattle.std.proofs.Math.Pow.{pow_mono}
+use Rattle.std.proofs.Common.{◌≡◌, ℕ, ◌+◌, ◌*◌, ◌<◌, ◌≤◌, ◌^◌, ◌||◌, Bool, true, false, List, length, get_or, refl, ap, sym, ◌∙◌, arith, ℤ, pos, nat_le, unsigned_abs, pow_mono}
 use Rattle.item_defs.specs.Bits.{bit}
 use Rattle.wave_defs.specs.Held.{block_at}
 use Rattle.plane_defs.specs.Marks.{depths_of}

@@ -1,18 +1,13 @@
 -- The DC is given the bit of a plane.
-use Rattle.std.proofs.Common.{◌≡◌, ℕ, ◌+◌, ◌-◌, ◌*◌, ◌%◌, ◌<◌, ◌≤◌, ◌^◌, ap, sym, ◌∙◌, arith, ℤ, pos, negsuc, ◌+ℤ◌, to_z, of_z, w32}
-use Rattle.std.proofs.Math.Pow.{pow_mono}
+use Rattle.std.proofs.Common.{◌≡◌, ℕ, ◌+◌, ◌-◌, ◌*◌, ◌%◌, ◌<◌, ◌≤◌, ◌^◌, ap, sym, ◌∙◌, arith, ℤ, pos, negsuc, ◌+ℤ◌, to_z, of_z, w32, pow_mono, mul-le-mul_left, pow_pos, pow-add}
 use Rattle.std.proofs.lemmas.Int.{ints, to_z-of_z, wrapping_add-bits, int_wrap_fits, fits_signed_from_abs}
-use Rattle.std.proofs.Math.Nat.{mul-le-mul_left}
 use Rattle.std.specs.Int.{int_wrap}
 use Rattle.std.specs.Int.RustNames.{FitsSigned}
 use mir.Val.{SFits}
-use Rattle.std.proofs.lemmas.Nat.{pow_pos, pow-add}
 use Rattle.std.proofs.lemmas.Bool.Decides.{nat_tests}
 use Rattle.plane_reader.specs.Taken.{IsCleared}
 use Rattle.plane_reader.proofs.ToldNumbers.{pow_more}
-
-as_positive : (n : ℕ) → n < 2147483648 → to_z w32 n ≡ pos n
-as_positive n small = omega (arith, ints)
+use Rattle.block_masks.proofs.SettingSingly.{as_positive}
 
 -- above a multiple there is room for all below the next one
 room_above : (a k m : ℕ) → a * k < a * m → a * k + a ≤ a * m

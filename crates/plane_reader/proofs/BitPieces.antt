@@ -1,6 +1,5 @@
 -- Raw bits of several positions, read at once.
-use Rattle.std.proofs.Common.{◌≡◌, ℕ, suc, ◌<◌, Bool, false, ◌&&◌, ◌||◌, ℤ, List, [], ◌∷◌, ◌++◌, length, refl, ap, sym, ◌∙◌, subst, append-nil, append_assoc, arith}
-use Rattle.std.specs.Prelude.{◌==◌, Ok, Some, map, filter}
+use Rattle.std.proofs.Common.{◌≡◌, ℕ, suc, ◌<◌, Bool, false, ◌&&◌, ◌||◌, ℤ, List, [], ◌∷◌, ◌++◌, length, refl, ap, sym, ◌∙◌, subst, append-nil, append_assoc, arith, ◌==◌, Ok, Some, map, filter}
 use Rattle.std.specs.List.{list_any}
 use Rattle.std.proofs.lemmas.List.Folds.{list_any-append}
 use Rattle.std.proofs.lemmas.Bool.Decides.{nat_tests}
@@ -17,6 +16,7 @@ use Rattle.plane_defs.specs.declared.entries.Entry.TheVariants.{Bit}
 use Rattle.plane_defs.specs.Steps.{free, Told, Step, step}
 use Rattle.plane_defs.specs.StepLaws.{entries_of}
 use Rattle.plane_defs.specs.Reading.{read_after}
+use Rattle.plane_defs.proofs.Settled.{tail_same, head_same}
 use Rattle.block_masks.specs.declared.gaggle.Gaggle.{Gaggle}
 use Rattle.block_masks.specs.Gaggles.{AreOptions, Agrees}
 use Rattle.bit_pipe.specs.Sources.{SourceOf}
@@ -26,7 +26,7 @@ use Rattle.plane_reader.specs.Frames.{Frame, Sends, Possible, Leads}
 use Rattle.plane_reader.specs.Pieces.{Piece, Anything}
 use Rattle.plane_reader.proofs.DueReading.{one_bit}
 use Rattle.plane_reader.proofs.PieceLaws.{leads_rest, leads_on}
-use Rattle.plane_reader.proofs.StepPieces.{bit_agrees, bit_items, head_of, entry_same, bit_same, possible_more, none_possible}
+use Rattle.plane_reader.proofs.StepPieces.{bit_agrees, bit_items, entry_same, bit_same, possible_more, none_possible}
 
 module _ (tells : ℕ → Told) where
   -- the steps that report one bit for each position
@@ -44,9 +44,6 @@ no_length n e = absurd cc
 
 less : (a b : ℕ) → suc a ≡ suc b → a ≡ b
 less a b e = cc
-
-tail_of : {A : Type 0} (x y : A) (xs ys : List A) → x ∷ xs ≡ y ∷ ys → xs ≡ ys
-tail_of x y xs ys e = cc
 
 said : (t u : Told) (x y : Bool) → step free t (Bit x) ≡ step free u (Bit y) → y ≡ x
 said t u x y e = sym (bit_same x y (entry_same free free t u (Bit x) (Bit y) e))
@@ -87,8 +84,8 @@ module _ (tells : ℕ → Told) (so : List ℤ → ℕ → Bool) where
   same_bits v [] (x ∷ bits) rest more e same = no_length (length bits) (sym e)
   same_bits v (p ∷ ps) [] rest more e same = no_length (length ps) e
   same_bits v (p ∷ ps) (x ∷ bits) rest more e same =
-      let here : so v p ≡ x = said (tells p) (tells p) x (so v p) (head_of (step free (tells p) (Bit x)) (step free (tells p) (Bit (so v p))) _ _ same) in
-      let there : map (so v) ps ≡ bits = same_bits v ps bits rest more (less (length bits) (length ps) e) (tail_of (step free (tells p) (Bit x)) (step free (tells p) (Bit (so v p))) _ _ same) in
+      let here : so v p ≡ x = said (tells p) (tells p) x (so v p) (head_same (step free (tells p) (Bit x)) (step free (tells p) (Bit (so v p))) _ _ same) in
+      let there : map (so v) ps ≡ bits = same_bits v ps bits rest more (less (length bits) (length ps) e) (tail_same (step free (tells p) (Bit x)) (step free (tells p) (Bit (so v p))) _ _ same) in
       ap (λ y. y ∷ map (so v) ps) here ∙ ap (λ l. x ∷ l) there
 
   -- a block that has them sends them
@@ -109,7 +106,7 @@ module _ (tells : ℕ → Told) (so : List ℤ → ℕ → Bool) where
         let first : Possible f stage earlier (done ++ step free (tells q) (Bit x) ∷ []) =
         possible_more f stage below earlier done p.block p.sends (step free (tells q) (Bit (so p.block q))) (steps_at tells so ps p.block ++ after p.block) (Bit x) (leads.at p.block p.sends) (record { kind = tt; fit = tt; passes = refl; has_bits = tt }) in
         let same = λ (v : List ℤ) (s : Sends f stage earlier (done ++ step free (tells q) (Bit x) ∷ []) v).
-        sym (ap (λ z. z ∷ []) (head_of (step free (tells q) (Bit x)) (step free (tells q) (Bit (so v q))) _ _ (leads_rest done (step free (tells q) (Bit x) ∷ []) leads v s))) in
+        sym (ap (λ z. z ∷ []) (head_same (step free (tells q) (Bit x)) (step free (tells q) (Bit (so v q))) _ _ (leads_rest done (step free (tells q) (Bit x) ∷ []) leads v s))) in
         let on : Leads f stage earlier (done ++ step free (tells q) (Bit x) ∷ []) (steps_at tells so ps) after = leads_on {next = λ v. step free (tells q) (Bit (so v q)) ∷ []} done (step free (tells q) (Bit x) ∷ []) leads same in
         subst (Possible f stage earlier) (append_assoc done (step free (tells q) (Bit x) ∷ []) (told_steps tells ps bits)) (possible_bits ps bits (done ++ step free (tells q) (Bit x) ∷ []) (less (length bits) (length ps) e) on first)
 

@@ -1,6 +1,5 @@
 -- A number that is given the bit of a plane has it, and a number that has it keeps its magnitude if it is given it again.
-use Rattle.std.proofs.Common.{◌≡◌, ℕ, ◌+◌, ◌<◌, ◌^◌, Bool, true, not, max, ap, sym, ◌∙◌, arith, ℤ, pos, neg_ℤ}
-use Rattle.std.specs.Prelude.{◌==◌, ◌||◌, unsigned_abs, if◌then◌else◌}
+use Rattle.std.proofs.Common.{◌≡◌, ℕ, ◌+◌, ◌<◌, ◌^◌, Bool, true, not, max, ap, sym, ◌∙◌, arith, ℤ, pos, neg_ℤ, ◌==◌, ◌||◌, unsigned_abs, if◌then◌else◌}
 use Rattle.std.specs.Int.{bit_at}
 use Rattle.std.proofs.lemmas.Nat.Bits.{bit_at_or, bit_at-pow_same, bit_at_above}
 use Rattle.std.proofs.lemmas.Bool.Decides.{nat_tests}
@@ -31,7 +30,7 @@ signed b n = if b then neg_ℤ (pos n) else pos n
 sign_is : (b : Bool) (n : ℕ) → 0 < n → negative (signed b n) ≡ b
 sign_is b n some = grind (arith, nat_tests)
 
-or_more : (a b c : Bool) → ((a || b) || c) ≡ (a || (b || c))
+pub or_more : (a b c : Bool) → ((a || b) || c) ≡ (a || (b || c))
 or_more a b c = grind (arith, nat_tests)
 
 module _ (plane : ℕ) (z : ℤ) (minus : Bool) where

@@ -1,10 +1,9 @@
 -- A stage of a block that is not deep enough: nothing of it is sent.
-use Rattle.std.proofs.Common.{◌≡◌, ℕ, ◌<◌, ◌≤◌, false, ℤ, List, [], refl, sym, subst, arith, append-nil}
-use Rattle.std.specs.Prelude.{Ok, nat_lt}
+use Rattle.std.proofs.Common.{◌≡◌, ℕ, ◌<◌, ◌≤◌, false, ℤ, List, [], refl, sym, subst, arith, append-nil, Ok, nat_lt}
 use Rattle.std.proofs.lemmas.Bool.Decides.{nat_tests}
 use Rattle.item_defs.specs.Readings.{whole}
 use Rattle.base_122.specs.declared.book.Book.{Book}
-use Rattle.plane_defs.specs.Steps.{Step, block_steps}
+use Rattle.plane_defs.specs.Steps.{Step}
 use Rattle.block_masks.specs.declared.gaggle.Gaggle.{Gaggle}
 use Rattle.block_masks.specs.declared.plan.CodedPlane.{CodedPlane}
 use Rattle.block_masks.specs.Gaggles.{AreOptions, Agrees}
@@ -17,14 +16,14 @@ use Rattle.plane_reader.specs.Pieces.{ReadsSteps}
 use Rattle.plane_reader.specs.Stages.{StandsBefore, StageTaken}
 use Rattle.plane_reader.specs.Terms.{IsFrame}
 use Rattle.plane_reader.proofs.ToldBlocks.{told_none}
+use Rattle.plane_defs.proofs.Equations.{parents_stage, children_stage, grandchildren_stage, refinement_stage}
 
 module _ (f : Frame) (low : f.depth ≤ f.plane) (v : List ℤ) where
   not_deep : nat_lt f.plane f.depth ≡ false
   not_deep = grind (arith, nat_tests)
 
   none_sent : (k : ℕ) → 1 ≤ k → k < 5 → steps_of f k v ≡ []
-  unfolding block_steps
-  none_sent k some below = grind (arith, nat_tests, not_deep)
+  none_sent k some below = grind (arith, nat_tests, not_deep, parents_stage, children_stage, grandchildren_stage, refinement_stage)
 
 pub stage_none : {I : Type 0} {k : SourceOf I} {book : Book} {f : Frame} {plan : CodedPlane} {depth stage : ℕ} {earlier : ℕ → List Step} {g : Gaggle} {mark : ℤ} {x : List ℤ} {a : Coming I} → AreOptions g.options → IsIn a → Takes k a a [] → 1 ≤ stage → stage < 5 → depth ≤ plan.plane →
     IsFrame f plan depth → StandsBefore f stage earlier mark x → StageTaken k book f stage earlier (Ok Whole) g g mark x a a

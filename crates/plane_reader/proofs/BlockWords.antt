@@ -1,6 +1,5 @@
 -- A stage of a block that is deep enough: what is next, given what the block is above the plane and what was read of it.
-use Rattle.std.proofs.Common.{◌≡◌, ℕ, ◌+◌, ◌<◌, ◌≤◌, Bool, true, false, not, ◌&&◌, ◌||◌, cond, ℤ, List, [], ◌∷◌, refl, ap, sym, ◌∙◌, subst, arith, append-nil}
-use Rattle.std.specs.Prelude.{Result, Option, map, filter, nat_lt}
+use Rattle.std.proofs.Common.{◌≡◌, ℕ, ◌+◌, ◌<◌, ◌≤◌, Bool, true, false, not, ◌&&◌, ◌||◌, cond, ℤ, List, [], ◌∷◌, refl, ap, sym, ◌∙◌, subst, arith, append-nil, Result, Option, map, filter, nat_lt}
 use Rattle.std.specs.List.{flat_map, list_any}
 use Rattle.std.proofs.lemmas.Bool.Decides.{nat_tests}
 use Rattle.std.proofs.lemmas.List.Folds.{list_any-append}
@@ -10,7 +9,7 @@ use Rattle.plane_defs.specs.declared.entries.Entry.TheVariants.{Bit}
 use Rattle.plane_defs.specs.declared.sets.Set.TheVariants.{Descendants, Family}
 use Rattle.plane_defs.specs.Spans.{span}
 use Rattle.plane_defs.specs.Sets.{magnitude, significant, coded, set_significant, type_due, refined, children_of}
-use Rattle.plane_defs.specs.Steps.{Step, step, free, flags_alone, typed_steps, children_check, flags_step, descendants_check, parents_steps, children_types_steps, children_steps, grandchildren_steps, refinement_steps, block_steps}
+use Rattle.plane_defs.specs.Steps.{Step, step, free, flags_alone, typed_steps, children_check, flags_step, descendants_check, parents_steps, children_types_steps, children_steps, grandchildren_steps, refinement_steps}
 use Rattle.plane_defs.specs.StepLaws.{IsAc}
 use Rattle.plane_defs.specs.Entries.{flags}
 use Rattle.plane_defs.proofs.Determined.{not_coded, still_significant, list_any-span-here}
@@ -38,6 +37,7 @@ use Rattle.plane_reader.proofs.TypePieces.{among}
 use Rattle.plane_reader.proofs.IndexPieces.{found_as}
 use Rattle.plane_reader.proofs.ChildStage.{types_marked}
 use Rattle.plane_reader.proofs.ToldBlocks.{told_above, told_here, told_still}
+use Rattle.plane_defs.proofs.Equations.{parents_stage, children_stage, grandchildren_stage, refinement_stage}
 
 -- ---- the steps of a block that is deep enough
 
@@ -46,20 +46,16 @@ module _ (f : Frame) (deep : f.plane < f.depth) (v : List ℤ) where
   is_deep = grind (arith, nat_tests)
 
   pub deep_parents : steps_of f 1 v ≡ parents_steps v f.weights f.plane
-  unfolding block_steps
-  deep_parents = ap (λ t. cond t (parents_steps v f.weights f.plane) []) is_deep
+  deep_parents = grind (arith, nat_tests, parents_stage, children_stage, grandchildren_stage, refinement_stage)
 
   pub deep_children : steps_of f 2 v ≡ children_steps v f.weights f.plane
-  unfolding block_steps
-  deep_children = ap (λ t. cond t (children_steps v f.weights f.plane) []) is_deep
+  deep_children = grind (arith, nat_tests, parents_stage, children_stage, grandchildren_stage, refinement_stage)
 
   pub deep_grandchildren : steps_of f 3 v ≡ grandchildren_steps v f.weights f.plane
-  unfolding block_steps
-  deep_grandchildren = ap (λ t. cond t (grandchildren_steps v f.weights f.plane) []) is_deep
+  deep_grandchildren = grind (arith, nat_tests, parents_stage, children_stage, grandchildren_stage, refinement_stage)
 
   pub deep_refinement : steps_of f 4 v ≡ refinement_steps v f.weights f.plane
-  unfolding block_steps
-  deep_refinement = ap (λ t. cond t (refinement_steps v f.weights f.plane) []) is_deep
+  deep_refinement = grind (arith, nat_tests, parents_stage, children_stage, grandchildren_stage, refinement_stage)
 
 -- ---- what is next
 

@@ -1,6 +1,5 @@
 -- The calls of the stage of the children.
-use Rattle.std.proofs.Common.{ℕ, Bool, not, ◌&&◌, ◌||◌, ℤ, List, ◌∷◌, ◌++◌}
-use Rattle.std.specs.Prelude.{Ok, Err, Some, None, Result, Option}
+use Rattle.std.proofs.Common.{ℕ, Bool, not, ◌&&◌, ◌||◌, ℤ, List, ◌∷◌, ◌++◌, Ok, Err, Some, None, Result, Option}
 use Rattle.std.specs.List.{list_any}
 use Rattle.item_defs.specs.Bits.{bit}
 use Rattle.base_122.specs.declared.book.Book.{Book}
@@ -61,9 +60,6 @@ module _ {I : Type 0} {k : SourceOf I} {book : Book} {f : Frame} {stage : ℕ} {
         (types_is : (x y : ℕ → Bool) → Shows above x 0 64 → Shows plan.coded y 0 64 → Shows types (λ p. not (x p) && y p) 0 64) (own : Shows above (λ p. bit above p) 0 64) where
       types_shown : Shows types (λ p. not (bit above p) && coded f.weights f.plane p) 0 64
       types_shown = types_is (λ p. bit above p) (coded f.weights f.plane) own (plane_is next).shown
-
-      families_part : List Step
-      families_part = done ++ (both_pieces next (plane_is next) s sets all flag_piece new (word_at word)).piece.part
 
       groups_at : {i : Gaggle} {q : Found} {d : Coming I} {r : Result (Option (Unit {0})) TextFault} → GroupsCall k book 4 3 types families wanted r h i m q c d →
           FoundPiece k book f stage earlier (done ++ (both_pieces next (plane_is next) s sets all flag_piece new (word_at word)).piece.part) (group_steps f 4 3 (λ i. bit families i) (λ i. bit wanted i)) Anything r h i m q c d

@@ -1,11 +1,10 @@
 -- What a block sends of its children, piece by piece.
-use Rattle.std.proofs.Common.{◌≡◌, ◌⊎◌, ℕ, ◌+◌, Bool, true, false, not, ◌&&◌, ◌||◌, cond, ℤ, List, [], ◌∷◌, ◌++◌, ap, sym, ◌∙◌, arith}
-use Rattle.std.specs.Prelude.{Ok, Some, Result, Option}
+use Rattle.std.proofs.Common.{◌≡◌, ◌⊎◌, ℕ, Bool, true, false, not, ◌&&◌, ◌||◌, cond, ℤ, List, [], ◌∷◌, ◌++◌, ap, sym, ◌∙◌, arith, Ok, Some, Result, Option}
 use Rattle.std.proofs.lemmas.Bool.Decides.{nat_tests}
 use Rattle.base_122.specs.declared.book.Book.{Book}
 use Rattle.plane_defs.specs.declared.entries.Entry.TheVariants.{Bit}
 use Rattle.plane_defs.specs.declared.sets.Set.TheVariants.{Descendants}
-use Rattle.plane_defs.specs.Sets.{set_significant, enclosing_significant, flag_due}
+use Rattle.plane_defs.specs.Sets.{set_significant, flag_due}
 use Rattle.plane_defs.specs.Steps.{free, flags_alone, Step, step}
 use Rattle.block_masks.specs.declared.gaggle.Gaggle.{Gaggle}
 use Rattle.block_masks.specs.Gaggles.{AreOptions}
@@ -21,13 +20,13 @@ use Rattle.plane_reader.proofs.StepPieces.{bit_step}
 use Rattle.plane_reader.proofs.IndexPieces.{found_as, leads_as, found_nothing}
 use Rattle.plane_reader.proofs.FoundPieces.{flags_piece}
 use Rattle.plane_reader.proofs.SetFacts.{flag_is, set_now}
+use Rattle.plane_defs.proofs.Equations.{enclosing_significant-descendants, enclosing_significant-family, enclosing_significant-grandchildren, enclosing_significant-quad}
 
 -- ---- the flag of all descendants
 
 module _ {f : Frame} {stage : ℕ} {earlier : ℕ → List Step} {done : List Step} {is_live was : Bool} {after : List ℤ → List Step} (next : DescendantsNext f stage earlier done is_live was after) where
   due_all : (v : List ℤ) → Sends f stage earlier done v → flag_due v f.weights f.plane Descendants ≡ (not was && is_live)
-  unfolding enclosing_significant
-  due_all v s = grind (arith, nat_tests, flag_is)
+  due_all v s = grind (arith, nat_tests, flag_is, enclosing_significant-descendants, enclosing_significant-family, enclosing_significant-grandchildren, enclosing_significant-quad)
 
   as_one : (v : List ℤ) (t : Bool) → flag_due v f.weights f.plane Descendants ≡ t → descendants_steps f v ≡ cond t (step free flags_alone (Bit (set_significant v f.plane Descendants)) ∷ []) []
   as_one v t e = grind (arith, nat_tests)

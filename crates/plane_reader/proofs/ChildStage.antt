@@ -1,6 +1,5 @@
 -- The stage of the children: the flag of all descendants, the word of the families, and their children's types.
-use Rattle.std.proofs.Common.{◌≡◌, ℕ, ◌+◌, ◌*◌, ◌<◌, ◌^◌, Bool, true, false, not, ◌&&◌, ◌||◌, cond, ℤ, List, [], ◌∷◌, ◌++◌, refl, ap, sym, ◌∙◌, subst, arith, append_assoc, append-nil}
-use Rattle.std.specs.Prelude.{Ok, Err, Some, None, Result, Option}
+use Rattle.std.proofs.Common.{◌≡◌, ℕ, ◌+◌, ◌*◌, ◌<◌, ◌^◌, Bool, true, false, not, ◌&&◌, ◌||◌, cond, ℤ, List, [], ◌∷◌, ◌++◌, refl, ap, sym, ◌∙◌, subst, arith, append_assoc, append-nil, Ok, Err, Some, None, Result, Option}
 use Rattle.std.specs.List.{list_any}
 use Rattle.std.proofs.lemmas.Bool.Decides.{nat_tests}
 use Rattle.item_defs.specs.Bits.{bit}
@@ -92,9 +91,6 @@ module _ {f : Frame} {stage : ℕ} {earlier : ℕ → List Step} {done : List St
   due_shown all mask shows = shows_range (λ i lt. ap (λ t. (not t && list_any (coded f.weights f.plane) (members (Family (0 + i)))) && all) (marked_set f above next.marked (Family (0 + i)) (omega (arith, lt))) ∙ ap (λ t. (not (set_significant f.block (f.plane + 1) (Family (0 + i))) && t) && all) (live_set f.weights f.plane (Family (0 + i)))) shows
 
   module _ {I : Type 0} {k : SourceOf I} {book : Book} {g : Gaggle} {m n : Found} {a b : Coming I} (all : Bool) (p : FoundPiece k book f stage earlier done (descendants_steps f) (AreDescendants f) (Ok (Some all)) g g m n a b) where
-    abbrev part1 : List Step
-    part1 = done ++ p.piece.part
-
     all_is : (v : List ℤ) → Sends f stage earlier (done ++ p.piece.part) v → set_significant v f.plane Descendants ≡ all
     all_is v sends = grind (arith, nat_tests, one_given)
 
@@ -258,6 +254,3 @@ module _ {f : Frame} {stage : ℕ} {earlier : ℕ → List Step} {done : List St
         children_read x =
             found_as book f stage earlier done (λ v. children_steps v f.weights f.plane) (λ v t. parts v)
             (say_as families (all_pieces x) (λ v t also. families_are v (sends_front (done ++ both_pieces.piece.part) (types_piece x).piece.part (subst (λ l. Sends f stage earlier l v) (sym (append_assoc done both_pieces.piece.part (types_piece x).piece.part)) t))))
-
-        pub families_small : families < 2 ^ 3
-        families_small = (families_are both_pieces.piece.possible.block both_pieces.piece.possible.sends).small

@@ -1,6 +1,5 @@
 -- The DC's bit of a block.
-use Rattle.std.proofs.Common.{◌≡◌, ℕ, Bool, true, false, ◌&&◌, cond, ℤ, pos, List, [], ◌∷◌, ◌++◌, get_or, ap, sym, ◌∙◌, arith}
-use Rattle.std.specs.Prelude.{Ok, Some, Result, Option, nat_lt}
+use Rattle.std.proofs.Common.{◌≡◌, ℕ, Bool, true, false, ◌&&◌, cond, ℤ, pos, List, [], ◌∷◌, ◌++◌, get_or, ap, sym, ◌∙◌, arith, Ok, Some, Result, Option, nat_lt}
 use Rattle.base_122.specs.declared.book.Book.{Book}
 use Rattle.plane_defs.specs.declared.entries.Entry.TheVariants.{Bit}
 use Rattle.plane_defs.specs.Sets.{coded}

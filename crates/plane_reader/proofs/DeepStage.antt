@@ -1,6 +1,5 @@
 -- A stage of a block that is deep enough: what its words give, put into the block.
-use Rattle.std.proofs.Common.{◌≡◌, ℕ, ◌<◌, ◌≤◌, ℤ, List, [], refl, ap, sym, subst, arith}
-use Rattle.std.specs.Prelude.{Ok, Err, Some, None, Result, Option}
+use Rattle.std.proofs.Common.{◌≡◌, ℕ, ◌<◌, ◌≤◌, ℤ, List, [], refl, sym, subst, arith, Ok, Err, Some, None, Result, Option}
 use Rattle.std.proofs.lemmas.Bool.Decides.{nat_tests}
 use Rattle.base_122.specs.declared.book.Book.{Book}
 use Rattle.plane_defs.specs.Steps.{Step}
@@ -23,17 +22,15 @@ use Rattle.plane_reader.specs.Applied.{Applies}
 use Rattle.plane_reader.proofs.PieceLaws.{sends_front}
 use Rattle.plane_reader.proofs.ToldBlocks.{finds_none}
 use Rattle.plane_reader.proofs.ToldFurther.{told_further}
+use Rattle.plane_reader.proofs.SignPieces.{from_err}
 
 -- ---- the answer
 
 abbrev err : (A : Type 0) → TextFault → Result A TextFault
 err A x = Err x
 
-err_same : {A B : Type 0} {x y : TextFault} → err A x ≡ err A y → err B x ≡ err B y
-err_same {A} {B} {x} {y} e = let p : x ≡ y = cc in ap (err B) p
-
 fault_part : (fault : TextFault) (value : Unit {0}) (ending : Ending) → Err fault ≡ item_answer value ending → Err fault ≡ part_answer ending
-fault_part fault value ending e = grind (arith, nat_tests, err_same)
+fault_part fault value ending e = grind (arith, nat_tests, from_err)
 
 given_part : (read : Option (Unit {0})) (part : Part) → ((read ≡ Some tt → part ≡ Whole) × (read ≡ None → part ≡ Ended)) → (value : Unit {0}) (ending : Ending) → Ok read ≡ item_answer value ending → Ok part ≡ part_answer ending
 given_part read part is value ending e = grind (arith, nat_tests)

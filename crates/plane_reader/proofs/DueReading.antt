@@ -1,8 +1,6 @@
 -- The word of some due places, read.
-use Rattle.std.proofs.Common.{◌≡◌, ℕ, ◌-◌, ◌<◌, ◌≤◌, ◌^◌, Bool, true, false, [], ◌∷◌, refl, ap, sym, ◌∙◌, subst, arith}
-use Rattle.std.specs.Prelude.{Ok, Err, Some, None, Option, nat_le, count_ones, ◌&&◌, map, filter}
+use Rattle.std.proofs.Common.{◌≡◌, ℕ, ◌-◌, ◌<◌, ◌≤◌, ◌^◌, Bool, true, false, [], ◌∷◌, refl, ap, sym, ◌∙◌, subst, arith, Ok, Err, Some, None, Option, nat_le, count_ones, ◌&&◌, map, filter, pow_mono}
 use Rattle.std.specs.List.{list_all}
-use Rattle.std.proofs.Math.Pow.{pow_mono}
 use Rattle.std.proofs.lemmas.Bool.Decides.{nat_tests}
 use Rattle.plane_defs.proofs.Tables.{list_all-span-zero}
 use Rattle.item_defs.specs.Bits.{bit, bits_of, digit, value_of}
@@ -25,6 +23,8 @@ use Rattle.bit_pipe.specs.Answers.{item_answer}
 use Rattle.plane_reader.specs.Pieces.{TakesWord}
 use Rattle.plane_reader.specs.Words.{TakesDue, TakesFlag}
 use Rattle.plane_reader.proofs.WordReading.{one_given, one_missing, one_fault, same_cut}
+use Rattle.plane_defs.proofs.Equations.{span-none, span-more}
+use Rattle.item_defs.proofs.Equations.{bits_of-none, bits_of-more}
 
 small_word : (n w : ℕ) → n ≤ 4 → w < 2 ^ n → w < 16
 small_word n w few lt = let most : 2 ^ n ≤ 2 ^ 4 = pow_mono few in omega (arith, lt, most)
@@ -70,12 +70,10 @@ module _ {I : Type 0} {k : SourceOf I} (book : Book) (due : ℕ) (due_small : du
 -- ---- a raw bit
 
 pub one_bit : (b : Bool) → bits_of 1 (digit b) ≡ b ∷ []
-unfolding bits_of
-one_bit b = grind (arith, nat_tests)
+one_bit b = grind (arith, nat_tests, bits_of-none, bits_of-more)
 
 lacks_bit : Lacks (fixed 1) []
-unfolding bits_of
-lacks_bit n more said e = cc
+lacks_bit n more said e = grind (arith, nat_tests, bits_of-none, bits_of-more)
 
 module _ {I : Type 0} {k : SourceOf I} where
   pub flag_given : {a b : Coming I} (x : Bool) → IsIn a → EndsBit k (Ok (Some x)) a b → TakesFlag k (Ok (Some x)) a b
@@ -112,8 +110,8 @@ module _ {I : Type 0} {k : SourceOf I} where
 -- ---- how many places are due
 
 few_ones_all : list_all (λ n. nat_le (count_ones n) 4) (span 0 16) ≡ true
-unfolding span lib.Count.ones
-few_ones_all = refl
+unfolding lib.Count.ones
+few_ones_all = grind (arith, nat_tests, span-none, span-more)
 
 pub few_ones : (n : ℕ) → n < 16 → count_ones n ≤ 4
 few_ones n lt = from_test (count_ones n) 4 (list_all-span-zero (λ n. nat_le (count_ones n) 4) 16 n few_ones_all lt)

@@ -1,6 +1,5 @@
 -- Pieces with what they found, put together with what their answers say.
-use Rattle.std.proofs.Common.{◌≡◌, ◌⊎◌, inl, inr, ℕ, Bool, false, ◌||◌, ◌&&◌, ℤ, pos, List, [], ◌∷◌, ◌++◌, get_or, refl, ap, sym, ◌∙◌, subst, append_assoc, append-nil, arith}
-use Rattle.std.specs.Prelude.{Ok, Err, Some, None, Result, Option}
+use Rattle.std.proofs.Common.{◌≡◌, ◌⊎◌, inl, inr, ℕ, Bool, false, ◌||◌, ◌&&◌, ℤ, pos, List, [], ◌∷◌, ◌++◌, get_or, refl, ap, sym, ◌∙◌, subst, append_assoc, append-nil, arith, Ok, Err, Some, None, Result, Option}
 use Rattle.std.proofs.lemmas.List.Folds.{list_any-append}
 use Rattle.std.proofs.lemmas.Bool.Decides.{nat_tests}
 use Rattle.item_defs.specs.Bits.{bit}

@@ -1,6 +1,5 @@
 -- A stage, gaggle by gaggle: what the states keep of a gaggle is loaded, and stored again.
-use Rattle.std.proofs.Common.{◌≡◌, ℕ, ◌+◌, ◌/◌, inl, inr, ℤ, List, length, refl, ap, sym, ◌∙◌}
-use Rattle.std.specs.Prelude.{Ok, Err}
+use Rattle.std.proofs.Common.{◌≡◌, ℕ, ◌+◌, ◌/◌, inl, inr, ℤ, List, length, refl, ap, sym, ◌∙◌, Ok, Err}
 use Rattle.base_122.specs.declared.book.Book.{Book}
 use Rattle.block_masks.specs.declared.gaggle.Gaggle.{Gaggle}
 use Rattle.block_masks.specs.declared.plan.CodedPlane.{CodedPlane}

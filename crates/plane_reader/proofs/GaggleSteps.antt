@@ -1,6 +1,5 @@
 -- A call for a block of a gaggle, whose loop continues with it or stops.
-use Rattle.std.proofs.Common.{◌≡◌, ℕ, ◌+◌, ◌-◌, ◌*◌, ◌<◌, ◌≤◌, min, ℤ, pos, List, [], length, get_or, set, take, drop, refl, ap, sym, ◌∙◌, subst, arith, get_or-set_same, get_or-set_other}
-use Rattle.std.specs.Prelude.{Result, Ok}
+use Rattle.std.proofs.Common.{◌≡◌, ℕ, ◌+◌, ◌-◌, ◌*◌, ◌<◌, ◌≤◌, min, ℤ, pos, List, [], length, get_or, set, take, drop, refl, ap, sym, ◌∙◌, subst, arith, get_or-set_same, get_or-set_other, Result, Ok}
 use borrow.Rule.Slice.PartMut.{put_mid}
 use Rattle.item_defs.specs.Readings.{whole, ended, refused}
 use Rattle.wave_defs.specs.Held.{block_at}
@@ -34,9 +33,6 @@ use Rattle.plane_reader.proofs.GaggleMarks.{one_there, one_other, kept_same, blo
 pub goes_to : {I : Type 0} {source : SourceOf I} {book : Book} {plan : CodedPlane} {above : List ℕ} {k g c stage gaggle block : ℕ} {old new : Held I} → Continues source book plan above k g c old →
     Reaches source book plan above k g c stage gaggle block old new → Continues source book plan above stage gaggle block new
 goes_to goes reaches = record { start = goes.start; from = goes.from; is_start = goes.is_start; so_far = reaches.so_far goes.start goes.from goes.is_start goes.so_far }
-
-pub reaches_none : {I : Type 0} {source : SourceOf I} {book : Book} {plan : CodedPlane} {above : List ℕ} {k g c : ℕ} (now : Held I) → Reaches source book plan above k g c k g c now now
-reaches_none now = record { so_far = λ s from start p. p }
 
 -- ---- what a call for a block may use
 

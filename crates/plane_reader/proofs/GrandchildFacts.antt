@@ -1,14 +1,12 @@
 -- What a block sends of its sets of grandchildren: which are new, and which parts of a stage are sent.
-use Rattle.std.proofs.Common.{◌≡◌, ℕ, ◌+◌, ◌<◌, ◌^◌, Bool, not, ◌&&◌, cond, ℤ, List, [], ◌∷◌, ◌++◌, refl, ap, sym, ◌∙◌, arith, zero-add}
-use Rattle.std.specs.Prelude.{filter}
+use Rattle.std.proofs.Common.{◌≡◌, ℕ, ◌+◌, ◌<◌, ◌^◌, Bool, not, ◌&&◌, cond, ℤ, List, [], ◌∷◌, ◌++◌, refl, ap, sym, ◌∙◌, arith, zero-add, filter}
 use Rattle.std.specs.List.{flat_map, AllByRecursion}
 use Rattle.std.proofs.lemmas.Bool.Decides.{nat_tests}
 use Rattle.item_defs.specs.Bits.{bit}
 use Rattle.plane_defs.specs.declared.sets.Set.{Set}
 use Rattle.plane_defs.specs.Spans.{span}
-use Rattle.plane_defs.specs.Sets.{significant, coded, set_significant, type_due, flag_due, IsKnown}
+use Rattle.plane_defs.specs.Sets.{set_significant, flag_due, IsKnown}
 use Rattle.plane_defs.specs.Steps.{is_new}
-use Rattle.plane_defs.specs.StepLaws.{IsAc}
 use Rattle.plane_defs.proofs.Above.{all_span}
 use Rattle.plane_texts.specs.Candidates.{IsCandidate}
 use Rattle.plane_texts.proofs.StageParts.{filter_flat}
@@ -54,9 +52,3 @@ module _ (f : Frame) (v : List ℤ) (c : IsCandidate f.weights f.plane f.q f.dep
   new_due s known = grind (arith, nat_tests, new_is, flag_is, set_now)
 
 -- ---- types
-
--- the positions above the plane, and those that are coded in it, determine which types are due
-pub types_due : (f : Frame) (above types : ℕ) → ((p : ℕ) → IsAc p → bit above p ≡ significant f.block (f.plane + 1) p) → Shows types (λ p. not (bit above p) && coded f.weights f.plane p) 0 64 →
-    (p : ℕ) → IsAc p → bit types p ≡ type_due f.block f.weights f.plane p
-unfolding type_due
-types_due f above types marked shown p ac = at_zero shown p ac.1 ∙ ap (λ t. not t && coded f.weights f.plane p) (marked p ac)

@@ -1,6 +1,5 @@
 -- The word of the flags of the sets of sixteen grandchildren, and what follows it.
-use Rattle.std.proofs.Common.{◌≡◌, ℕ, ◌+◌, ◌<◌, ◌≤◌, Bool, true, false, not, ◌&&◌, ◌||◌, cond, ℤ, List, [], ◌∷◌, ◌++◌, refl, ap, sym, ◌∙◌, subst, arith}
-use Rattle.std.specs.Prelude.{Ok, Err, Some, None, Result, Option, map, filter}
+use Rattle.std.proofs.Common.{◌≡◌, ℕ, ◌+◌, ◌<◌, ◌≤◌, Bool, true, false, not, ◌&&◌, ◌||◌, cond, ℤ, List, [], ◌∷◌, ◌++◌, refl, ap, sym, ◌∙◌, subst, arith, Ok, Err, Some, None, Result, Option, map, filter}
 use Rattle.std.specs.List.{list_any, AllByRecursion}
 use Rattle.item_defs.specs.Bits.{bit}
 use Rattle.base_122.specs.declared.book.Book.{Book}

@@ -1,7 +1,5 @@
 -- What the significant sets of sixteen grandchildren send, one after another.
-use Rattle.std.proofs.Common.{◌≡◌, ℕ, ◌+◌, ◌<◌, Bool, true, false, cond, ℤ, List, [], ◌++◌, ap, sym, ◌∙◌, subst, arith, append-nil, zero-add}
-use Rattle.std.specs.Prelude.{Ok, Err, Some, None, Result, Option}
-use Rattle.std.specs.List.{flat_map}
+use Rattle.std.proofs.Common.{◌≡◌, ℕ, ◌+◌, ◌<◌, Bool, true, false, cond, ℤ, List, [], ◌++◌, ap, sym, ◌∙◌, subst, arith, append-nil, zero-add, Ok, Err, Some, None, Result, Option, flat_map}
 use Rattle.item_defs.specs.Bits.{bit}
 use Rattle.base_122.specs.declared.book.Book.{Book}
 use Rattle.plane_defs.specs.declared.sets.Set.TheVariants.{Grandchildren}

@@ -1,7 +1,6 @@
 -- Groups that are read from a window.
-use Rattle.std.proofs.Common.{◌≡◌, ℕ, ◌+◌, ◌*◌, ◌/◌, ◌%◌, ◌^◌, Bool, List, [], subst, arith}
+use Rattle.std.proofs.Common.{◌≡◌, ℕ, ◌+◌, ◌*◌, ◌/◌, ◌%◌, ◌^◌, Bool, List, [], subst, arith, mul_assoc}
 use Rattle.std.proofs.lemmas.Nat.{mul-mod_first, pow-add}
-use Rattle.std.proofs.Math.Nat.{mul_assoc}
 use Rattle.std.proofs.lemmas.Bool.Decides.{nat_tests}
 use Rattle.item_defs.proofs.NumberBits.{bits_none}
 use Rattle.base_122.specs.declared.book.Book.{Book}

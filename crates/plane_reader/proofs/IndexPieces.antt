@@ -1,9 +1,7 @@
 -- Pieces one after another by an index: those of the positions of a group, of families, of sets of four.
-use Rattle.std.proofs.Common.{◌≡◌, ℕ, zero, suc, ◌+◌, ◌-◌, ◌<◌, ℤ, List, [], ◌++◌, refl, ap, sym, ◌∙◌, subst, arith, append_assoc, append-nil}
-use Rattle.std.specs.Prelude.{Ok, Some, Result, Option}
+use Rattle.std.proofs.Common.{◌≡◌, ℕ, zero, suc, ◌+◌, ◌-◌, ◌<◌, ℤ, List, [], ◌++◌, ap, sym, ◌∙◌, subst, arith, append_assoc, append-nil, Ok, Some, Result, Option}
 use Rattle.item_defs.specs.Readings.{whole}
 use Rattle.base_122.specs.declared.book.Book.{Book}
-use Rattle.plane_defs.specs.Spans.{span}
 use Rattle.plane_defs.specs.Steps.{Step}
 use Rattle.plane_defs.proofs.SpanLists.{flat_map-span-suc}
 use Rattle.block_masks.specs.declared.gaggle.Gaggle.{Gaggle}
@@ -17,6 +15,8 @@ use Rattle.plane_reader.specs.declared.found.Found.{Found}
 use Rattle.plane_reader.specs.Frames.{Frame, Sends, Possible, Leads}
 use Rattle.plane_reader.specs.Pieces.{ReadsSteps, Piece, FoundPiece, Finds, Anything, pieces, SoFar}
 use Rattle.plane_reader.proofs.PieceLaws.{sends_front, leads_on, nothing, cut_piece, joined, later_cut}
+use Rattle.plane_defs.proofs.Equations.{span-none, span-more}
+use Rattle.std.proofs.lemmas.Bool.Decides.{nat_tests}
 
 -- ---- the same steps, written in another way
 
@@ -81,8 +81,7 @@ module _ {I : Type 0} {k : SourceOf I} (book : Book) (f : Frame) (stage : ℕ) (
 -- ---- by an index
 
 pub pieces_none : (item : ℕ → List ℤ → List Step) (start : ℕ) (v : List ℤ) → pieces item start 0 v ≡ []
-unfolding span
-pieces_none item start v = refl
+pieces_none item start v = grind (arith, nat_tests, span-none, span-more)
 
 pub pieces_more : (item : ℕ → List ℤ → List Step) (start n : ℕ) (v : List ℤ) → pieces item start n v ++ item (start + n) v ≡ pieces item start (n + 1) v
 pieces_more item start n v = sym (flat_map-span-suc (λ i. item i v) start n)

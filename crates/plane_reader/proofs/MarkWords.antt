@@ -1,6 +1,5 @@
 -- The words of the children, and what the block's state says then.
-use Rattle.std.proofs.Common.{◌≡◌, ℕ, ℤ, List, [], sym, subst, append-nil}
-use Rattle.std.specs.Prelude.{Ok, Err, Some, None}
+use Rattle.std.proofs.Common.{◌≡◌, ℕ, ℤ, List, [], sym, subst, append-nil, Ok, Err, Some, None}
 use Rattle.base_122.specs.declared.book.Book.{Book}
 use Rattle.plane_defs.specs.Steps.{Step, children_steps}
 use Rattle.block_masks.specs.declared.gaggle.Gaggle.{Gaggle}

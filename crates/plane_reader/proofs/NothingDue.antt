@@ -1,6 +1,5 @@
 -- A word of types of which none is due: it has no bits.
-use Rattle.std.proofs.Common.{◌≡◌, inl, inr, ℕ, ◌+◌, ◌-◌, ◌/◌, ◌^◌, Bool, true, false, ◌&&◌, ◌||◌, ℤ, List, refl, ap, sym, ◌∙◌, subst, arith}
-use Rattle.std.specs.Prelude.{◌==◌, Ok, Some, count_ones}
+use Rattle.std.proofs.Common.{◌≡◌, inl, inr, ℕ, ◌+◌, ◌-◌, ◌/◌, ◌^◌, Bool, true, false, ◌&&◌, ◌||◌, ℤ, List, refl, ap, sym, ◌∙◌, subst, arith, ◌==◌, Ok, Some, count_ones}
 use Rattle.std.proofs.lemmas.Bool.{cases_lt, true≢false}
 use Rattle.std.proofs.lemmas.Nat.{ones_le_self}
 use Rattle.std.proofs.lemmas.Nat.Bits.{bit_at_above}
@@ -26,6 +25,8 @@ use Rattle.plane_reader.specs.Window.{IsWordIn, AreTypesIn}
 use Rattle.plane_reader.specs.Pieces.{FoundPiece, Anything}
 use Rattle.plane_reader.proofs.FoundMasks.{before_inside, past_inside}
 use Rattle.plane_reader.proofs.TypesAtHand.{types_at_hand}
+use Rattle.item_defs.proofs.Equations.{bits_of-none, bits_of-more}
+use Rattle.std.proofs.lemmas.Bool.Decides.{nat_tests}
 
 none_spread : AreSpread 0 0 0
 none_spread = are_spread 0 0 (omega arith) (omega arith)
@@ -34,8 +35,8 @@ no_ones : count_ones 0 ≡ 0
 no_ones = omega (arith, ones_le_self 0)
 
 no_value : value_of (bits_of 0 0) ≡ 0
-unfolding value_of bits_of
-no_value = refl
+unfolding value_of
+no_value = grind (arith, nat_tests, bits_of-none, bits_of-more)
 
 abbrev no_types : Types
 no_types = record { new = 0; minus = 0; len = 0 }

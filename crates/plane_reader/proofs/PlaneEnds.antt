@@ -1,6 +1,5 @@
 -- A plane's stages, one after another.
-use Rattle.std.proofs.Common.{◌≡◌, ℕ, ◌+◌, ◌*◌, ℤ, List, length, get_or, refl, sym, subst, arith}
-use Rattle.std.specs.Prelude.{Ok}
+use Rattle.std.proofs.Common.{◌≡◌, ℕ, ◌+◌, ◌*◌, ℤ, List, length, get_or, refl, sym, subst, arith, Ok}
 use Rattle.base_122.specs.declared.book.Book.{Book}
 use Rattle.plane_defs.specs.Marks.{depths_of}
 use Rattle.block_masks.proofs.Marking.{length-depths_of}

@@ -1,7 +1,5 @@
 -- A plane that was read up to the end, or up to a stop within a block of a stage.
-use Rattle.std.proofs.Common.{◌≡◌, ℕ, suc, ◌+◌, ◌-◌, ◌*◌, ◌/◌, ◌^◌, ◌<◌, ◌≤◌, ◌+ℤ◌, inl, inr, ℤ, pos, List, [], ◌∷◌, ◌++◌, length, get_or, refl, ap, sym, ◌∙◌, subst, arith, add-one, length-append}
-use Rattle.std.specs.Prelude.{Result, Ok, ◌&&◌, if◌then◌else◌}
-use Rattle.std.proofs.Math.ListN.{length-set}
+use Rattle.std.proofs.Common.{◌≡◌, ℕ, suc, ◌+◌, ◌-◌, ◌*◌, ◌/◌, ◌^◌, ◌<◌, ◌≤◌, ◌+ℤ◌, inl, inr, ℤ, pos, List, [], ◌∷◌, ◌++◌, length, get_or, refl, ap, sym, ◌∙◌, subst, arith, add-one, length-append, Result, Ok, ◌&&◌, if◌then◌else◌, length-set}
 use Rattle.std.proofs.lemmas.Bool.{cases_lt}
 use Rattle.std.proofs.lemmas.Bool.Decides.{nat_tests}
 use Rattle.item_defs.specs.Bits.{bit}
@@ -29,7 +27,7 @@ use Rattle.bit_pipe.specs.declared.fault.TextFault.{TextFault}
 use Rattle.bit_pipe.specs.Sources.{SourceOf}
 use Rattle.bit_pipe.specs.Coming.{Coming, Takes}
 use Rattle.bit_pipe.specs.Reading.{Ending, stopped, failed, Reads, later_by, IsCut}
-use Rattle.bit_pipe.specs.Answers.{part_answer, items_read}
+use Rattle.bit_pipe.specs.Answers.{items_read}
 use Rattle.bit_pipe.proofs.Endings.{later_answer, read_later}
 use Rattle.bit_pipe.proofs.ItemReading.{reads_then, reads_cut, reads_whole}
 use Rattle.plane_reader.specs.Frames.{steps_of}

@@ -1,12 +1,11 @@
 -- What a significant set of sixteen grandchildren sends, piece by piece.
-use Rattle.std.proofs.Common.{◌≡◌, ℕ, ◌+◌, ◌*◌, ◌<◌, Bool, not, ◌&&◌, ◌||◌, ℤ, List, [], ◌∷◌, ◌++◌, ap, sym, ◌∙◌, subst, arith}
-use Rattle.std.specs.Prelude.{Ok, Err, Some, None, Result, Option, map}
+use Rattle.std.proofs.Common.{◌≡◌, ℕ, ◌+◌, ◌*◌, ◌<◌, Bool, not, ◌&&◌, ◌||◌, ℤ, List, [], ◌∷◌, ◌++◌, ap, sym, ◌∙◌, subst, arith, Ok, Err, Some, None, Result, Option, map}
 use Rattle.std.proofs.lemmas.Bool.Decides.{nat_tests}
 use Rattle.item_defs.specs.Bits.{bit}
 use Rattle.base_122.specs.declared.book.Book.{Book}
 use Rattle.plane_defs.specs.declared.sets.Set.TheVariants.{Grandchildren, Quad}
 use Rattle.plane_defs.specs.Spans.{span}
-use Rattle.plane_defs.specs.Sets.{coded, set_significant, live, enclosing_significant, flag_due, quad_of}
+use Rattle.plane_defs.specs.Sets.{coded, set_significant, live, flag_due, quad_of}
 use Rattle.plane_defs.specs.Entries.{word, flags}
 use Rattle.plane_defs.specs.Steps.{some_one_where, flags_alone, is_new, Step, step, typed_steps, quads_types_steps, quads_steps}
 use Rattle.block_masks.specs.declared.plan.CodedPlane.{CodedPlane}
@@ -26,7 +25,9 @@ use Rattle.plane_reader.proofs.IndexPieces.{found_as, leads_as, found_joined}
 use Rattle.plane_reader.proofs.SignPieces.{found_whole}
 use Rattle.plane_reader.proofs.FoundPieces.{flags_piece, missing_more, fault_more}
 use Rattle.plane_reader.proofs.SetFacts.{marked_set, live_set, flag_is, set_now, flags_by, four_quads_are}
-use Rattle.plane_reader.proofs.GrandchildFacts.{at_zero, shows_within, own_bits, flat_chosen, new_due, types_due}
+use Rattle.plane_reader.proofs.GrandchildFacts.{at_zero, shows_within, own_bits, flat_chosen, new_due}
+use Rattle.plane_reader.proofs.ChildStage.{types_marked}
+use Rattle.plane_defs.proofs.Equations.{enclosing_significant-descendants, enclosing_significant-family, enclosing_significant-grandchildren, enclosing_significant-quad}
 
 module _ {f : Frame} {stage : ℕ} {earlier : ℕ → List Step} {done : List Step} {plan : CodedPlane} {above i : ℕ} {new : Bool} {after : List ℤ → List Step} (known : i < 3) (next : QuadsNext f stage earlier done plan above i new after) where
   -- which sets of four were significant above, and whose flag is due
@@ -46,8 +47,7 @@ module _ {f : Frame} {stage : ℕ} {earlier : ℕ → List Step} {done : List St
   types_of v = quads_types_steps v f.weights f.plane i
 
   due_is : (v : List ℤ) → Sends f stage earlier done v → (j : ℕ) → j < 4 → flag_due v f.weights f.plane (Quad i j) ≡ quad_due j
-  unfolding enclosing_significant
-  due_is v s j lt = grind (arith, nat_tests, flag_is)
+  due_is v s j lt = grind (arith, nat_tests, flag_is, enclosing_significant-descendants, enclosing_significant-family, enclosing_significant-grandchildren, enclosing_significant-quad)
 
   parts : (v : List ℤ) → Sends f stage earlier done v → quads_steps v f.weights f.plane i ≡ word_of v ++ types_of v
   parts v s =
@@ -123,7 +123,7 @@ module _ {f : Frame} {stage : ℕ} {earlier : ℕ → List Step} {done : List St
             below = next.next.below;
             some = omega arith;
             within = omega (arith, known);
-            marked = types_due f above types next.next.marked
+            marked = types_marked f above types next.next.marked
                 (subst (λ n. Shows types (λ p. not (bit above p) && coded f.weights n p) 0 64) (sym next.next.plane) (subst (λ x. Shows types (λ p. not (bit above p) && coded x plan.plane p) 0 64) (sym next.next.weights) types_shown));
             now_shown = own_bits ((either (λ j. quad_due j && quad_now possible.block j) shown).small);
             wanted_shown = own_bits shown.small;

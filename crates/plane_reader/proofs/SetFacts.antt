@@ -1,6 +1,5 @@
 -- The sets of a block above a plane, as masks, and what its candidates share.
-use Rattle.std.proofs.Common.{◌≡◌, ℕ, ◌+◌, ◌<◌, Bool, true, false, not, ◌&&◌, ◌||◌, cond, ℤ, List, [], ◌∷◌, refl, ap, sym, arith}
-use Rattle.std.specs.Prelude.{map, filter}
+use Rattle.std.proofs.Common.{◌≡◌, ℕ, ◌+◌, ◌<◌, Bool, true, false, not, ◌&&◌, ◌||◌, cond, ℤ, List, [], ◌∷◌, refl, ap, sym, arith, map, filter}
 use Rattle.std.specs.List.{list_any}
 use Rattle.std.proofs.lemmas.Bool.Decides.{nat_tests}
 use Rattle.item_defs.specs.Bits.{bit}
@@ -16,6 +15,7 @@ use Rattle.plane_texts.specs.Candidates.{IsCandidate}
 use Rattle.plane_texts.proofs.BlockChoice.{acs_above}
 use Rattle.plane_reader.specs.Frames.{Frame, due_bits}
 use Rattle.plane_reader.proofs.TypePieces.{filter_span}
+use Rattle.plane_defs.proofs.Equations.{span-none, span-more, live-is}
 
 -- a mask of the AC numbers that are significant above gives the same for sets
 pub marked_set : (f : Frame) (mask : ℕ) → ((p : ℕ) → IsAc p → bit mask p ≡ significant f.block (f.plane + 1) p) → (s : Set) → IsKnown s → list_any (λ p. bit mask p) (members s) ≡ set_significant f.block (f.plane + 1) s
@@ -23,8 +23,7 @@ unfolding set_significant
 marked_set f mask marked s known = any_alike (λ p. bit mask p) (significant f.block (f.plane + 1)) (members s) (members_acs s known) marked
 
 pub live_set : (weights : List ℕ) (plane : ℕ) (s : Set) → list_any (coded weights plane) (members s) ≡ live weights plane s
-unfolding live
-live_set weights plane s = refl
+live_set weights plane s = rw live-is refl
 
 module _ (f : Frame) (v : List ℤ) (c : IsCandidate f.weights f.plane f.q f.depth f.block v) where
   pub above_same : (s : Set) → IsKnown s → set_significant v (f.plane + 1) s ≡ set_significant f.block (f.plane + 1) s
@@ -56,13 +55,10 @@ pub flags_by : (v : List ℤ) (weights : List ℕ) (plane : ℕ) (F : ℕ → Se
 flags_by v weights plane F count due same = grind (arith, nat_tests, map_filter_index, filter_span)
 
 pub three_families_are : (Family 0 ∷ Family 1 ∷ Family 2 ∷ []) ≡ map Family (span 0 3)
-unfolding span
-three_families_are = refl
+three_families_are = grind (arith, nat_tests, span-none, span-more)
 
 pub three_grandchildren_are : (Grandchildren 0 ∷ Grandchildren 1 ∷ Grandchildren 2 ∷ []) ≡ map Grandchildren (span 0 3)
-unfolding span
-three_grandchildren_are = refl
+three_grandchildren_are = grind (arith, nat_tests, span-none, span-more)
 
 pub four_quads_are : (i : ℕ) → (Quad i 0 ∷ Quad i 1 ∷ Quad i 2 ∷ Quad i 3 ∷ []) ≡ map (Quad i) (span 0 4)
-unfolding span
-four_quads_are i = refl
+four_quads_are i = grind (arith, nat_tests, span-none, span-more)

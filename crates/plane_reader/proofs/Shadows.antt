@@ -1,7 +1,6 @@
 -- What bits mean does not depend on their source. So bits that were taken at once may be treated as bits that arrive in two parts,
 -- from a source that is only what is left.
-use Rattle.std.proofs.Common.{◌≡◌, ℕ, ◌+◌, ◌-◌, ◌*◌, ◌/◌, ◌%◌, ◌^◌, ◌<◌, ◌≤◌, ℤ, List, [], ◌++◌, Bool, length, take, drop, refl, sym, ap, subst, ◌∙◌, append_assoc, append-nil, length-append, arith}
-use Rattle.std.specs.Prelude.{Option, None, Some, Ok}
+use Rattle.std.proofs.Common.{◌≡◌, ℕ, ◌+◌, ◌-◌, ◌*◌, ◌/◌, ◌%◌, ◌^◌, ◌<◌, ◌≤◌, ℤ, List, [], ◌++◌, Bool, length, take, drop, refl, sym, ap, subst, ◌∙◌, append_assoc, append-nil, length-append, arith, Option, None, Some, Ok}
 use Rattle.std.proofs.lemmas.Nat.{pow_pos, shr-shr, shr_high}
 use Rattle.std.proofs.lemmas.List.{take_at, take-append-drop, take-append-le, length-take-le, append_cancel_left}
 use Rattle.std.proofs.lemmas.List.Elements.{All-take, All-drop}

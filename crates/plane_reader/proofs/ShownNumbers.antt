@@ -1,6 +1,5 @@
 -- What a number and a block show, with what waits for them.
-use Rattle.std.proofs.Common.{◌≡◌, inl, inr, ℕ, ◌+◌, ◌<◌, ◌≤◌, ◌^◌, Bool, true, false, ◌||◌, List, length, get_or, refl, ap, sym, ◌∙◌, subst, arith, ℤ, pos, ◌+ℤ◌}
-use Rattle.std.specs.Prelude.{◌==◌, nat_le, unsigned_abs, if◌then◌else◌}
+use Rattle.std.proofs.Common.{◌≡◌, inl, inr, ℕ, ◌+◌, ◌<◌, ◌≤◌, ◌^◌, Bool, true, false, ◌||◌, List, length, get_or, refl, ap, sym, ◌∙◌, subst, arith, ℤ, pos, ◌+ℤ◌, ◌==◌, nat_le, unsigned_abs}
 use Rattle.std.proofs.Math.Bool.{or-true, or-false, and-true, and-false}
 use Rattle.std.proofs.lemmas.Bool.{cases_lt}
 use Rattle.std.proofs.lemmas.Bool.Decides.{nat_tests}
@@ -48,9 +47,6 @@ module _ (plane : ℕ) (found : Found) (block : List ℤ) where
 
   pub block_dc : get_or (shown_block plane found block) 0 (pos 0) ≡ get_or block 0 (pos 0)
   block_dc = block_number 0 (omega arith)
-
-  block_past : (p : ℕ) → 64 ≤ p → get_or (shown_block plane found block) p (pos 0) ≡ pos 0
-  block_past p past = get_or_past (shown_block plane found block) p (pos 0) (omega (arith, past, block_long))
 
   -- an AC number is significant in the plane if it was, or if its bit waits
   pub block_reaches : (p : ℕ) → IsAc p → significant (shown_block plane found block) plane p ≡ (significant block plane p || bit found.bits p)

@@ -1,6 +1,5 @@
 -- One step of a block, read as a piece.
-use Rattle.std.proofs.Common.{◌≡◌, ℕ, ◌<◌, Bool, false, ℤ, List, [], ◌∷◌, ◌++◌, length, refl, ap, sym, ◌∙◌, subst, append-nil, append_assoc}
-use Rattle.std.specs.Prelude.{Ok, Some, Result, Option}
+use Rattle.std.proofs.Common.{◌≡◌, ℕ, ◌<◌, Bool, false, ℤ, List, [], ◌∷◌, ◌++◌, length, refl, ap, sym, ◌∙◌, subst, append-nil, append_assoc, Ok, Some, Result, Option}
 use Rattle.item_defs.specs.Bits.{digit}
 use Rattle.item_defs.specs.Items.{raw}
 use Rattle.item_defs.specs.Readings.{whole, ended, refused}
@@ -9,6 +8,7 @@ use Rattle.plane_defs.specs.declared.entries.Entry.{Entry}
 use Rattle.plane_defs.specs.declared.entries.Entry.TheVariants.{Bit}
 use Rattle.plane_defs.specs.Steps.{Check, free, Told, Step, step}
 use Rattle.plane_defs.specs.Reading.{entry_reading, step_reading, read_after}
+use Rattle.plane_defs.proofs.Settled.{head_same}
 use Rattle.plane_texts.specs.Candidates.{Replaces}
 use Rattle.plane_texts.proofs.Advance.{advance}
 use Rattle.block_masks.specs.declared.gaggle.Gaggle.{Gaggle}
@@ -34,9 +34,6 @@ bit_agrees g sent b a = agrees_other g.sent sent (Bit b) (λ n low. refl) a
 pub bit_items : (book : Book) (options : List ℕ) (sent : List Entry) (check : Check) (tells : Told) (b : Bool) → step_reading book options sent (step check tells (Bit b)) ≡ raw (digit b) ∷ []
 unfolding entry_reading
 bit_items book options sent check tells b = refl
-
-pub head_of : {A : Type 0} (x y : A) (xs ys : List A) → x ∷ xs ≡ y ∷ ys → x ≡ y
-head_of x y xs ys e = cc
 
 pub entry_same : (c d : Check) (t u : Told) (x y : Entry) → step c t x ≡ step d u y → x ≡ y
 entry_same c d t u x y e = ap (λ s. s.entry) e
@@ -68,10 +65,7 @@ module _ (f : Frame) (stage : ℕ) (below : stage < 5) (earlier : ℕ → List S
   module _ {after : List ℤ → List Step} (check : Check) (tells : Told) (entry : List ℤ → Entry) (leads : Leads f stage earlier done (λ v. step check tells (entry v) ∷ []) after) where
     -- a block that has this entry next has it there
     sent_next : (e : Entry) (v : List ℤ) → Sends f stage earlier (done ++ step check tells e ∷ []) v → entry v ≡ e
-    sent_next e v s = entry_same check check tells tells (entry v) e (sym (head_of (step check tells e) (step check tells (entry v)) _ _ (leads_rest done (step check tells e ∷ []) leads v s)))
-
-    first_step : (v : List ℤ) → Sends f stage earlier done v → steps_of f stage v ≡ done ++ step check tells (entry v) ∷ after v
-    first_step v s = leads.at v s
+    sent_next e v s = entry_same check check tells tells (entry v) e (sym (head_same (step check tells e) (step check tells (entry v)) _ _ (leads_rest done (step check tells e ∷ []) leads v s)))
 
     -- the step is not read: nothing is
     pub unread_step : {I A : Type 0} {k : SourceOf I} (book : Book) (value : A) (Is : A → List ℤ → Type 0) (ending : Ending) {g h : Gaggle} {a b : Coming I} → IsCut ending → Possible f stage earlier done →

@@ -1,7 +1,6 @@
 -- One step read: a raw bit, or a word with the check of its place.
-use Rattle.std.proofs.Common.{◌≡◌, ◌⊎◌, ℕ, zero, suc, ◌+◌, ◌<◌, ◌≤◌, ◌^◌, inl, inr, Bool, true, false, cond, List, [], ◌∷◌, ◌++◌, length, take, refl, ap, sym, ◌∙◌, subst, arith, length-append, append-nil}
+use Rattle.std.proofs.Common.{◌≡◌, ◌⊎◌, ℕ, zero, suc, ◌+◌, ◌<◌, ◌≤◌, ◌^◌, inl, inr, Bool, true, false, cond, List, [], ◌∷◌, ◌++◌, length, take, refl, ap, sym, ◌∙◌, subst, arith, length-append, append-nil, ◌==◌, None, Some, nat_lt}
 use Rattle.std.proofs.lemmas.List.{take-append-le, take_all}
-use Rattle.std.specs.Prelude.{◌==◌, None, Some, nat_lt}
 use Rattle.std.specs.List.{list_all}
 use Rattle.std.proofs.lemmas.Bool.{cases_lt}
 use Rattle.std.proofs.lemmas.Bool.Decides.{nat_tests}
@@ -20,9 +19,10 @@ use Rattle.plane_defs.specs.Steps.{Check, free, refuses, Step}
 use Rattle.plane_defs.specs.Reading.{entry_reading, step_reading, checked, checked_word, word_said}
 use Rattle.plane_defs.proofs.ReadingTexts.{entry_text}
 use Rattle.plane_defs.proofs.SpanLists.{length-map-span}
-use Rattle.plane_defs.proofs.StepItems.{word_of-symbol}
+use Rattle.plane_defs.proofs.StepItems.{word_of-symbol, word_shape}
 use Rattle.plane_defs.proofs.Tables.{list_all-span-zero}
 use Rattle.plane_reader.specs.Pieces.{word_with, CutAfter, StopsAfter}
+use Rattle.plane_defs.proofs.Equations.{span-none, span-more, symbol-is}
 
 no : {A : Type 0} → true ≡ false → A
 no e = cc
@@ -117,12 +117,6 @@ stops_at_first book options sent s ending cut r =
 
 -- ---- words
 
-word_refuses_none : (book : Book) (n option value m : ℕ) → (word_item book n option value).form.refusal m ≡ None
-word_refuses_none book n option value m = grind (arith, nat_tests)
-
-word_shape : (book : Book) (n option v w : ℕ) → (word_item book n option v).form.shape ≡ (word_item book n option w).form.shape
-word_shape book n option v w = grind (arith, nat_tests)
-
 -- the items of a word
 abbrev pub word_items : Book → List ℕ → List Entry → Check → (n value : ℕ) → Bool → Bool → List Item
 word_items book options sent check n value none one =
@@ -153,13 +147,13 @@ word_whole {I} {k} book options sent check n v {a} {b} r =
 -- ---- a word that its check refuses
 
 symbols_below : (n : ℕ) → 2 ≤ n → n ≤ 4 → list_all (λ w. nat_lt (symbol n w) (2 ^ n)) (span 0 (2 ^ n)) ≡ true
-unfolding symbol span lib.Count.ones
-symbols_below zero low high = absurd (omega arith)
-symbols_below (suc zero) low high = absurd (omega arith)
-symbols_below (suc (suc zero)) low high = refl
-symbols_below (suc (suc (suc zero))) low high = refl
-symbols_below (suc (suc (suc (suc zero)))) low high = refl
-symbols_below (suc (suc (suc (suc (suc n))))) low high = absurd (omega arith)
+unfolding lib.Count.ones
+symbols_below zero low high = grind (arith, nat_tests, span-none, span-more, symbol-is)
+symbols_below (suc zero) low high = grind (arith, nat_tests, span-none, span-more, symbol-is)
+symbols_below (suc (suc zero)) low high = grind (arith, nat_tests, span-none, span-more, symbol-is)
+symbols_below (suc (suc (suc zero))) low high = grind (arith, nat_tests, span-none, span-more, symbol-is)
+symbols_below (suc (suc (suc (suc zero)))) low high = grind (arith, nat_tests, span-none, span-more, symbol-is)
+symbols_below (suc (suc (suc (suc (suc n))))) low high = grind (arith, nat_tests, span-none, span-more, symbol-is)
 
 symbol_below : (n w : ℕ) → 2 ≤ n → n ≤ 4 → w < 2 ^ n → symbol n w < 2 ^ n
 symbol_below n w low high lt = from_test (symbol n w) (2 ^ n) (list_all-span-zero (λ w. nat_lt (symbol n w) (2 ^ n)) (2 ^ n) w (symbols_below n low high) lt)

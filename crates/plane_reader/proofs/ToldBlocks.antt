@@ -1,8 +1,5 @@
 -- A block in a plane, with what steps report of it: what it has above the plane and in it.
-use Rattle.std.proofs.Common.{◌≡◌, ℕ, ◌+◌, ◌^◌, Bool, true, false, ◌&&◌, List, [], ◌++◌, ap, sym, ◌∙◌, subst, arith, ℤ, pos, get_or}
-use Rattle.std.specs.Prelude.{◌==◌, nat_le, unsigned_abs}
-use Rattle.std.proofs.lemmas.List.{append-nil}
-use Rattle.std.proofs.lemmas.Nat.{pow_pos}
+use Rattle.std.proofs.Common.{◌≡◌, ℕ, ◌+◌, ◌^◌, Bool, true, false, ◌&&◌, List, [], ◌++◌, ap, sym, ◌∙◌, subst, arith, ℤ, pos, get_or, ◌==◌, nat_le, unsigned_abs, append-nil, pow_pos}
 use Rattle.std.proofs.lemmas.Nat.Bits.{bit_at_above}
 use Rattle.item_defs.specs.Bits.{bit}
 use Rattle.plane_defs.specs.Sets.{magnitude, significant}

@@ -1,6 +1,5 @@
 -- What the steps of a stage report of the DC: its bit in the first stage, and nothing in the others.
-use Rattle.std.proofs.Common.{◌≡◌, ℕ, zero, suc, ◌<◌, ◌≤◌, Bool, true, false, ◌&&◌, cond, List, [], ◌∷◌, ◌++◌, map, refl, ap, sym, ◌∙◌, arith, ℤ, pos, get_or}
-use Rattle.std.specs.Prelude.{◌==◌, ◌||◌, filter, nat_lt}
+use Rattle.std.proofs.Common.{◌≡◌, ℕ, zero, suc, ◌<◌, ◌≤◌, Bool, true, false, ◌&&◌, cond, List, [], ◌∷◌, ◌++◌, map, refl, ap, sym, ◌∙◌, arith, ℤ, pos, get_or, ◌==◌, ◌||◌, filter, nat_lt}
 use Rattle.std.specs.List.{flat_map, list_any, AllByRecursion}
 use Rattle.std.proofs.lemmas.List.Folds.{list_any-append}
 use Rattle.std.proofs.lemmas.Bool.{ltb-true, ne_eqb, and_parts, or_left}
@@ -16,6 +15,7 @@ use Rattle.plane_defs.proofs.Above.{all_span}
 use Rattle.plane_defs.proofs.Alike.{all_filter}
 use Rattle.plane_texts.specs.Given.{tells_bit, tells_sign, has_bit_in, has_sign_in}
 use Rattle.plane_texts.proofs.SmallFacts.{true_false, neither_left}
+use Rattle.plane_texts.proofs.Says.{anything}
 use Rattle.plane_reader.specs.Frames.{Frame, Sends}
 
 -- ---- steps that report nothing of the DC
@@ -34,11 +34,7 @@ no_dc_map : {X : Type 0} (g : X → Step) (xs : List X) → AllByRecursion (λ x
 no_dc_map g [] all = refl
 no_dc_map g (x ∷ xs) all = ap (λ b. b || has_bit_in (map g xs) 0) all.0 ∙ no_dc_map g xs all.1
 
-each_of : {X : Type 0} (P : X → Type 0) → ((x : X) → P x) → (xs : List X) → AllByRecursion P xs
-each_of P each [] = tt
-each_of P each (x ∷ xs) = (each x, each_of P each xs)
-
-not_first : (ps : List ℕ) → AllByRecursion (λ p. 1 ≤ p) ps → list_any (λ q. q == 0) ps ≡ false
+pub not_first : (ps : List ℕ) → AllByRecursion (λ p. 1 ≤ p) ps → list_any (λ q. q == 0) ps ≡ false
 not_first [] all = refl
 not_first (p ∷ ps) all = ap (λ b. b || list_any (λ q. q == 0) ps) (ne_eqb p 0 (λ e. omega (arith, e, all.0))) ∙ not_first ps all.1
 
@@ -47,7 +43,7 @@ module _ (v : List ℤ) (weights : List ℕ) (plane : ℕ) where
   no_dc_typed check start count first =
       ap (λ b. b || has_bit_in (map sign (filter (newly_significant v weights plane) (span start count))) 0)
       (not_first (filter (type_due v weights plane) (span start count)) (all_filter (λ p. 1 ≤ p) (type_due v weights plane) (span start count) (all_span (λ p. 1 ≤ p) start count (λ k low high. omega arith))))
-      ∙ no_dc_map sign (filter (newly_significant v weights plane) (span start count)) (each_of _ (λ p. refl) (filter (newly_significant v weights plane) (span start count)))
+      ∙ no_dc_map sign (filter (newly_significant v weights plane) (span start count)) (anything _ (λ p. refl) (filter (newly_significant v weights plane) (span start count)))
     where
       sign : ℕ → Step
       sign p = step free (sign_at p) (Bit (negative (get_or v p (pos 0))))
@@ -55,7 +51,7 @@ module _ (v : List ℤ) (weights : List ℕ) (plane : ℕ) where
   no_dc_children : no_dc (children_steps v weights plane)
   no_dc_children =
       no_dc_both (map (λ b. step free flags_alone (Bit b)) (flags v weights plane (Descendants ∷ []))) _
-      (no_dc_map (λ b. step free flags_alone (Bit b)) (flags v weights plane (Descendants ∷ [])) (each_of _ (λ b. refl) (flags v weights plane (Descendants ∷ []))))
+      (no_dc_map (λ b. step free flags_alone (Bit b)) (flags v weights plane (Descendants ∷ [])) (anything _ (λ b. refl) (flags v weights plane (Descendants ∷ []))))
       (no_dc_flat (λ i. typed_steps v weights plane (children_check v weights plane i) (span (children_of i) 4)) (λ i. no_dc_typed (children_check v weights plane i) (children_of i) 4 (omega arith)) (significant_families v plane Family))
 
   no_dc_quads : (i : ℕ) → no_dc (quads_steps v weights plane i)

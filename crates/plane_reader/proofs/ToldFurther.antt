@@ -1,7 +1,5 @@
 -- A block that has what was reported of it before, and is then given what was found in a stage.
-use Rattle.std.proofs.Common.{◌≡◌, ℕ, ◌+◌, ◌*◌, ◌/◌, ◌%◌, ◌<◌, ◌≤◌, ◌^◌, Bool, true, false, ◌&&◌, List, [], ◌++◌, refl, ap, sym, ◌∙◌, subst, arith, ℤ, pos, neg_ℤ, ◌+ℤ◌, get_or}
-use Rattle.std.specs.Prelude.{◌==◌, ◌||◌, unsigned_abs, if◌then◌else◌}
-use Rattle.std.proofs.Math.Pow.{pow_mono}
+use Rattle.std.proofs.Common.{◌≡◌, ℕ, ◌+◌, ◌*◌, ◌/◌, ◌%◌, ◌<◌, ◌≤◌, ◌^◌, Bool, true, false, ◌&&◌, List, [], ◌++◌, refl, ap, sym, ◌∙◌, subst, arith, ℤ, pos, neg_ℤ, ◌+ℤ◌, get_or, ◌==◌, ◌||◌, unsigned_abs, if◌then◌else◌, pow_mono}
 use Rattle.std.proofs.lemmas.Int.{ints}
 use Rattle.std.proofs.lemmas.List.Folds.{list_any-append}
 use Rattle.std.proofs.lemmas.Nat.{pow_pos, div-mul-add}
@@ -25,14 +23,9 @@ use Rattle.plane_reader.specs.Applied.{Applies, AddsDc}
 use Rattle.plane_reader.proofs.ToldNumbers.{weight, abs_told, pow_more, weight_below}
 use Rattle.plane_reader.proofs.ToldSigns.{sign_with_bit, covered_part, covered_before}
 use Rattle.plane_reader.proofs.ToldDc.{no_dc_part, dc_part_alone, dc_part_below}
+use Rattle.plane_reader.proofs.BitsTwice.{or_more}
 
 -- ---- a number that is given its bit, of which something may have been reported before
-
-abbrev signed : Bool → ℕ → ℤ
-signed b n = if b then neg_ℤ (pos n) else pos n
-
-or_more : (a b c : Bool) → ((a || b) || c) ≡ (a || (b || c))
-or_more a b c = grind (arith, nat_tests)
 
 below_zero : (n : ℕ) → 0 < n → negative (neg_ℤ (pos n)) ≡ true
 below_zero n some = grind (arith, nat_tests)

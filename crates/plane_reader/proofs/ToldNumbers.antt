@@ -1,9 +1,6 @@
 -- A number that has no bit of a plane or below it, and then that bit or none.
-use Rattle.std.proofs.Common.{◌≡◌, ℕ, zero, suc, ◌+◌, ◌*◌, ◌<◌, ◌≤◌, ◌^◌, Bool, true, false, ap, ◌∙◌, arith, ℤ, pos, neg_ℤ}
-use Rattle.std.specs.Prelude.{◌||◌, nat_le, unsigned_abs, if◌then◌else◌}
+use Rattle.std.proofs.Common.{◌≡◌, ℕ, zero, suc, ◌+◌, ◌*◌, ◌<◌, ◌≤◌, ◌^◌, Bool, true, false, ap, ◌∙◌, arith, ℤ, pos, neg_ℤ, ◌||◌, nat_le, unsigned_abs, if◌then◌else◌, pow_pos, pow-suc}
 use Rattle.std.proofs.lemmas.Bool.Decides.{nat_tests}
-use Rattle.std.proofs.lemmas.Nat.{pow_pos}
-use Rattle.std.proofs.Math.Nat.{pow-suc}
 use Rattle.plane_defs.specs.Entries.{negative}
 use Rattle.plane_texts.specs.Given.{told_number}
 use Rattle.plane_reader.specs.Taken.{IsCleared}
@@ -25,13 +22,13 @@ pow_more plane = let e : plane + 1 ≡ suc plane = omega arith in let p = pow-su
 pub weight_below : (plane : ℕ) (more : Bool) → weight plane more < 2 ^ (plane + 1)
 weight_below plane more = grind (arith, nat_tests, pow_more, pow_pos)
 
-le_true : (a b : ℕ) → a ≤ b → nat_le a b ≡ true
+pub le_true : (a b : ℕ) → a ≤ b → nat_le a b ≡ true
 le_true a b le = grind (arith, nat_tests)
 
-le_false : (a b : ℕ) → b < a → nat_le a b ≡ false
+pub le_false : (a b : ℕ) → b < a → nat_le a b ≡ false
 le_false a b lt = grind (arith, nat_tests)
 
-from_le_true : (a b : ℕ) → nat_le a b ≡ true → a ≤ b
+pub from_le_true : (a b : ℕ) → nat_le a b ≡ true → a ≤ b
 from_le_true a b e = grind (arith, nat_tests)
 
 from_le_false : (a b : ℕ) → nat_le a b ≡ false → b < a

@@ -1,6 +1,5 @@
 -- The types of a group of positions, and the signs of those that become significant.
-use Rattle.std.proofs.Common.{◌≡◌, ℕ, zero, suc, ◌+◌, ◌-◌, ◌<◌, ◌≤◌, Bool, true, false, not, ◌&&◌, ◌||◌, cond, ℤ, pos, List, [], ◌∷◌, ◌++◌, get_or, refl, ap, sym, ◌∙◌, subst, arith}
-use Rattle.std.specs.Prelude.{◌==◌, Ok, Err, Some, None, Result, Option, map, filter, nat_le, nat_lt}
+use Rattle.std.proofs.Common.{◌≡◌, ℕ, zero, suc, ◌+◌, ◌-◌, ◌<◌, ◌≤◌, Bool, true, false, not, ◌&&◌, ◌||◌, cond, ℤ, pos, List, [], ◌∷◌, ◌++◌, get_or, refl, ap, sym, ◌∙◌, subst, arith, ◌==◌, Ok, Err, Some, None, Result, Option, map, filter, nat_le, nat_lt}
 use Rattle.std.specs.List.{list_any, AllByRecursion}
 use Rattle.std.proofs.lemmas.Bool.Decides.{nat_tests}
 use Rattle.std.proofs.lemmas.List.Folds.{list_any-append}
@@ -10,7 +9,7 @@ use Rattle.plane_defs.specs.declared.entries.Entry.{Entry}
 use Rattle.plane_defs.specs.declared.entries.Entry.TheVariants.{Bit}
 use Rattle.plane_defs.specs.Spans.{span}
 use Rattle.plane_defs.specs.Sets.{magnitude, significant, coded, type_due, newly_significant}
-use Rattle.plane_defs.specs.Entries.{negative, word, types}
+use Rattle.plane_defs.specs.Entries.{negative, word}
 use Rattle.plane_defs.specs.Steps.{Check, free, types_at, sign_at, Step, step, some_one_where, typed_steps}
 use Rattle.plane_defs.specs.StepLaws.{IsAc}
 use Rattle.plane_defs.proofs.Above.{all_span}
@@ -88,9 +87,6 @@ module _ (f : Frame) (v : List ℤ) (c : IsCandidate f.weights f.plane f.q f.dep
   module _ (start count : ℕ) (first : 1 ≤ start) (within : start + count ≤ 64) where
     filter_due : filter (type_due v f.weights f.plane) (span start count) ≡ filter (type_due f.block f.weights f.plane) (span start count)
     filter_due = filter_span (type_due v f.weights f.plane) (type_due f.block f.weights f.plane) start count (λ p low high. due_same p (omega arith, omega arith))
-
-    pub types_are : types v f.weights f.plane (span start count) ≡ due_bits (type_due f.block f.weights f.plane) (λ x. significant x f.plane) start count v
-    types_are = ap (map (significant v f.plane)) filter_due
 
     pub typed_are : (check : Check) → typed_steps v f.weights f.plane check (span start count) ≡
         step check (types_at (filter (type_due f.block f.weights f.plane) (span start count))) (word (due_bits (type_due f.block f.weights f.plane) (λ x. significant x f.plane) start count v)) ∷ sign_steps (newly_significant v f.weights f.plane) start count v

@@ -1,8 +1,6 @@
 -- The types of a group and their signs, read at once.
-use Rattle.std.proofs.Common.{◌≡◌, ℕ, zero, suc, ◌+◌, ◌-◌, ◌*◌, ◌/◌, ◌%◌, ◌^◌, ◌<◌, ◌≤◌, Bool, ◌&&◌, ◌||◌, ℤ, List, [], ◌++◌, length, drop, bit_and, refl, sym, ap, subst, ◌∙◌, arith, inl, inr, get_or}
-use Rattle.std.specs.Prelude.{Ok, Option, Some, count_ones}
+use Rattle.std.proofs.Common.{◌≡◌, ℕ, zero, suc, ◌+◌, ◌-◌, ◌*◌, ◌/◌, ◌%◌, ◌^◌, ◌<◌, ◌≤◌, Bool, ◌&&◌, ◌||◌, ℤ, List, [], ◌++◌, length, drop, bit_and, refl, sym, ap, subst, ◌∙◌, arith, inl, inr, get_or, Ok, Some, count_ones, mod-eq_of_lt}
 use Rattle.std.proofs.Math.Seq.{drop-append_seam}
-use Rattle.std.proofs.Math.Nat.{mod-eq_of_lt}
 use Rattle.std.proofs.lemmas.Nat.{and_mask, and_le_r}
 use Rattle.std.proofs.lemmas.Bool.{cases_lt}
 use Rattle.item_defs.specs.Bits.{bit, value_of}
@@ -17,7 +15,7 @@ use Rattle.block_masks.specs.declared.gaggle.Gaggle.{Gaggle}
 use Rattle.block_masks.specs.Gaggles.{AreOptions}
 use Rattle.block_masks.specs.Masks.{Shows}
 use Rattle.bit_pipe.specs.declared.front.Front.{Front}
-use Rattle.bit_pipe.specs.Sources.{Tail, SourceOf}
+use Rattle.bit_pipe.specs.Sources.{SourceOf}
 use Rattle.bit_pipe.specs.Coming.{Coming, IsIn, Takes}
 use Rattle.bit_pipe.specs.Reading.{stopped}
 use Rattle.bit_pipe.specs.Answers.{IsBelow, TakesOne}
@@ -32,7 +30,7 @@ use Rattle.plane_reader.specs.Pieces.{FoundPiece, Anything, TakesWord}
 use Rattle.block_masks.specs.Places.{inside}
 use Rattle.plane_reader.specs.Shadows.{told, shadow}
 use Rattle.plane_reader.proofs.DueReading.{due_given, few_ones}
-use Rattle.plane_reader.proofs.Shadows.{takes_shadow, shadow_in, found_back, between, takes_first, takes_rest, window_parts}
+use Rattle.plane_reader.proofs.Shadows.{takes_shadow, shadow_in, found_back, takes_first, takes_rest, window_parts}
 use Rattle.plane_reader.proofs.SignWindows.{signs_at_once, word_value}
 use Rattle.plane_reader.proofs.TypePieces.{due_part, types_word, types_given}
 use Rattle.plane_reader.proofs.WordReading.{word_none, word_raw, opens_known, opened_word, option_fits}
@@ -108,9 +106,6 @@ module _ {I : Type 0} {k : SourceOf I} {book : Book} {g : Gaggle} (known : AreOp
 
   in_parts : Takes told (shadow k a) (shadow k b) (first_of t.word.len window ++ first_of ones rest)
   in_parts = takes_shadow (subst (Takes k a b) (ap (λ n. first_of n window) t.len ∙ window_parts window t.word.len ones (omega (arith, few, t.is_word.few))) taken)
-
-  abbrev mid : Coming (Option Tail)
-  mid = between (shadow k a) (shadow k b) (first_of t.word.len window) (first_of ones rest) (shadow_in k a is_in) in_parts
 
   module _ {m n o : Found} (no_minus : n.minus ≡ m.minus)
       (bits : (f' g' : ℕ → Bool) (c : ℕ) → start + c ≤ 64 → Shows m.bits f' 0 64 → Shows types.new g' start c → Shows n.bits (λ p. f' p || (inside start c p && g' p)) 0 64)

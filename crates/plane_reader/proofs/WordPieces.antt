@@ -1,11 +1,9 @@
 -- The word of some due places, read as a piece of a block's steps.
-use Rattle.std.proofs.Common.{◌≡◌, inl, inr, ℕ, ◌+◌, ◌-◌, ◌<◌, ◌≤◌, ◌^◌, Bool, true, false, cond, ℤ, List, [], ◌∷◌, ◌++◌, length, refl, ap, sym, ◌∙◌, subst, arith, append_assoc, get_or, length-append}
-use Rattle.std.specs.Prelude.{◌==◌, ◌||◌, Ok, Err, Some, Result, Option, count_ones}
+use Rattle.std.proofs.Common.{◌≡◌, inl, inr, ℕ, ◌+◌, ◌-◌, ◌<◌, ◌≤◌, ◌^◌, Bool, true, false, cond, ℤ, List, [], ◌∷◌, ◌++◌, length, refl, ap, sym, ◌∙◌, subst, arith, append_assoc, get_or, length-append, ◌==◌, ◌||◌, Ok, Err, Some, Result, Option, count_ones, pow_mono}
 use Rattle.std.specs.List.{list_any, AllByRecursion}
 use Rattle.std.proofs.lemmas.Bool.{cases_eq}
 use Rattle.std.proofs.lemmas.Bool.Decides.{nat_tests}
 use Rattle.std.proofs.lemmas.List.Folds.{list_any-append}
-use Rattle.std.proofs.Math.Pow.{pow_mono}
 use Rattle.item_defs.specs.Bits.{value_of}
 use Rattle.item_defs.specs.Items.{false_flag}
 use Rattle.item_defs.specs.Readings.{whole, refused}

@@ -1,11 +1,8 @@
 -- A word read, with the identifier of its option.
-use Rattle.std.proofs.Common.{◌≡◌, ℕ, zero, suc, ◌+◌, ◌-◌, ◌<◌, ◌≤◌, ◌^◌, inl, inr, true, false, cond, List, [], ◌∷◌, ◌++◌, length, get_or, set, refl, ap, sym, ◌∙◌, subst, arith}
-use Rattle.std.specs.Prelude.{◌==◌, None, Some, Ok, Err}
+use Rattle.std.proofs.Common.{◌≡◌, ℕ, zero, suc, ◌-◌, ◌<◌, ◌≤◌, ◌^◌, inl, inr, true, false, cond, List, [], ◌∷◌, ◌++◌, length, get_or, set, refl, ap, sym, ◌∙◌, subst, arith, ◌==◌, None, Some, Ok, Err, get_or-set_same, get_or-set_other, pow_pos}
 use Rattle.std.proofs.lemmas.Bool.{cases_eq}
 use Rattle.std.proofs.lemmas.Bool.Decides.{nat_tests}
-use Rattle.std.proofs.lemmas.List.{get_or-set_same, get_or-set_other}
-use Rattle.std.proofs.lemmas.Nat.{pow_pos}
-use Rattle.item_defs.specs.Items.{Item, Refusal, raw, text, item_bits}
+use Rattle.item_defs.specs.Items.{Item, Refusal, raw, text}
 use Rattle.item_defs.specs.Readings.{whole, ended, refused}
 use Rattle.bit_pipe.specs.Sources.{SourceOf}
 use Rattle.bit_pipe.specs.Coming.{Coming, Takes, IsIn}
@@ -64,9 +61,6 @@ pub reads_cut_as : {I : Type 0} {k : SourceOf I} (i j : Item) {ending : Ending} 
 reads_cut_as {k = k} i j cut e q = reads_cut_as' k i j cut e q
 
 -- ---- a raw word
-
-raw_checked : (n : ℕ) → (raw n).form.refusal n ≡ None
-raw_checked n = refl
 
 empty_agrees : (g : Gaggle) (sent : List Entry) (n value : ℕ) → n < 2 → Agrees g.sent sent → Agrees g.sent (sent ++ word_with n value ∷ [])
 empty_agrees g sent n value few a = agrees_other g.sent sent (word_with n value) (λ m low. other m low) a
@@ -195,9 +189,6 @@ module _ {I : Type 0} {k : SourceOf I} (g : Gaggle) (n : ℕ) (low : 2 ≤ n) (h
   }
 
 -- ---- a coded word after it
-
-word_form_same : (book : Book) (n option value : ℕ) → (word_item book n option value).form.shape ≡ (checked_word book n option value free).form.shape
-word_form_same book n option value = refl
 
 word_refuses_none : (book : Book) (n option value m : ℕ) → (word_item book n option value).form.refusal m ≡ None
 word_refuses_none book n option value m = grind (arith, nat_tests)

@@ -1,9 +1,7 @@
 -- A text without a limit never reaches the bound: an item that is not given has few bits.
-use Rattle.std.proofs.Common.{◌≡◌, ℕ, zero, suc, ◌+◌, ◌^◌, ◌<◌, ◌≤◌, inl, inr, List, [], ◌∷◌, ◌++◌, length, take, drop, get_or, Bool, true, false, cond, eqb, refl, sym, ap, ◌∙◌, subst, append_assoc, arith, ℤ, length-append}
+use Rattle.std.proofs.Common.{◌≡◌, ℕ, zero, suc, ◌+◌, ◌^◌, ◌<◌, ◌≤◌, inl, inr, List, [], ◌∷◌, ◌++◌, length, take, drop, get_or, Bool, true, false, cond, eqb, refl, sym, ap, ◌∙◌, subst, append_assoc, arith, ℤ, length-append, take-append-drop, length-take-le, pow_mono}
 use Rattle.std.proofs.lemmas.Bool.{cases_lt}
 use Rattle.std.proofs.lemmas.Bool.Decides.{nat_tests}
-use Rattle.std.proofs.lemmas.List.{take-append-drop, length-take-le}
-use Rattle.std.proofs.Math.Pow.{pow_mono}
 use Rattle.item_defs.specs.Bits.{bits_of, copies, value_of}
 use Rattle.item_defs.specs.Items.{Item, Shape, fixed, zeros_to, coded, item_bits, spelling, text}
 use Rattle.item_defs.specs.Readings.{Lacks, item_at}
@@ -28,6 +26,7 @@ use Rattle.text_defs.specs.Spellable.{IsSpellable, AreWordOptions, AreNumberOpti
 use Rattle.text_defs.proofs.SegmentItems.{depth_bits_few}
 use Rattle.text_defs.proofs.SoundItems.{shape_at, segment_shapes}
 use Rattle.segment_code.proofs.TextBits.{texts_are_short}
+use Rattle.word_codes.proofs.CodeSearch.{past_prefix}
 
 -- ---- enough bits begin with a code of the shape
 
@@ -64,14 +63,6 @@ zeros_first (suc limit) (false ∷ bits) enough =
     next : (a b : ℕ) → eqb a b ≡ eqb (suc a) (suc b)
     next a b = grind (arith, nat_tests)
 
-prefix_split : (xs bits : List Bool) → is_prefix xs bits ≡ true → (more : List Bool) × (bits ≡ xs ++ more)
-prefix_split [] bits e = (bits, refl)
-prefix_split (x ∷ xs) [] e = absurd cc
-prefix_split (true ∷ xs) (true ∷ bits) e = let r = prefix_split xs bits e in (r.0, ap (λ l. true ∷ l) r.1)
-prefix_split (true ∷ xs) (false ∷ bits) e = absurd cc
-prefix_split (false ∷ xs) (true ∷ bits) e = absurd cc
-prefix_split (false ∷ xs) (false ∷ bits) e = let r = prefix_split xs bits e in (r.0, ap (λ l. false ∷ l) r.1)
-
 coded_first : (book : Book) → is_book_sound book ≡ true → (n option : ℕ) → 2 ≤ n → n ≤ 4 → option + 1 < n → (bits : List Bool) → Lacks (coded (codes_of book n option)) bits → length bits < 8
 coded_first book sound n option low high known bits lacks = elim (cases_lt (length bits) 8) [
   | inl lt ↦ lt
@@ -81,7 +72,7 @@ coded_first book sound n option low high known bits lacks = elim (cases_lt (leng
       let small : value_of first < 2 ^ 8 = subst (λ n. value_of first < 2 ^ n) long (value_below first) in
       let same : bits_of 8 (value_of first) ≡ first = ap (λ n. bits_of n (value_of first)) (sym long) ∙ bits_of-value_of first in
       let c = begins (table book (table_place n option)) (2 ^ n) (value_of first) (sound_table book n option sound low high known) (omega (arith, small)) in
-      let split = prefix_split (code_bits (code_at book n option c.0)) first (ap (is_prefix (code_bits (code_at book n option c.0))) (sym same) ∙ c.2) in
+      let split = past_prefix (code_bits (code_at book n option c.0)) first (ap (is_prefix (code_bits (code_at book n option c.0))) (sym same) ∙ c.2) in
       let code : get_or (codes_of book n option) c.0 [] ≡ code_bits (code_at book n option c.0) = get_or-map-span (λ s. code_bits (code_at book n option s)) (2 ^ n) c.0 [] c.1 in
       let whole : bits ≡ code_bits (code_at book n option c.0) ++ (split.0 ++ drop 8 bits) =
       sym (take-append-drop 8 bits) ∙ ap (λ l. l ++ drop 8 bits) split.1 ∙ append_assoc (code_bits (code_at book n option c.0)) split.0 (drop 8 bits) in

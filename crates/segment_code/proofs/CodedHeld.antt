@@ -1,6 +1,5 @@
 -- A coded text holds values: all items are read, or those before the cut.
-use Rattle.std.proofs.Common.{◌≡◌, ℕ, ◌+◌, ◌-◌, ◌*◌, ◌/◌, ◌<◌, ◌≤◌, inl, inr, Bool, true, false, cond, List, ◌++◌, length, take, drop, refl, ap, sym, ◌∙◌, subst, arith, ℤ, get_or, length-append, append_assoc}
-use Rattle.std.specs.Prelude.{◌==◌}
+use Rattle.std.proofs.Common.{◌≡◌, ℕ, ◌+◌, ◌-◌, ◌*◌, ◌/◌, ◌<◌, ◌≤◌, inl, inr, Bool, true, false, cond, List, ◌++◌, length, take, drop, refl, ap, sym, ◌∙◌, subst, arith, ℤ, get_or, length-append, append_assoc, ◌==◌}
 use Rattle.std.proofs.lemmas.Bool.{cases_lt, cases_Bool}
 use Rattle.std.proofs.lemmas.Bool.Decides.{nat_tests}
 use Rattle.std.proofs.lemmas.List.{take_all, length-take, drop_at, take-append-le, length-take-le}
@@ -17,7 +16,7 @@ use Rattle.segment_defs.specs.Depths.{block_depths}
 use Rattle.segment_defs.specs.Text.{text_octets}
 use Rattle.segment_defs.specs.SegmentItems.{segment_items}
 use Rattle.segment_defs.specs.Coded.{chosen_options, coded_bits, coded}
-use Rattle.segment_head.proofs.WrittenFields.{octets_of-append}
+use Rattle.segment_defs.proofs.WrittenFields.{octets_of-append}
 use Rattle.segment_head.proofs.WrittenHeads.{length-head_bits}
 use Rattle.text_defs.specs.Fronts.{Front}
 use Rattle.text_defs.specs.Spellable.{IsSpellable, AreWordOptions, AreNumberOptions}

@@ -1,6 +1,5 @@
 -- The options that a writer chooses exist, and no block depth is above the head's.
-use Rattle.std.proofs.Common.{◌≡◌, ℕ, zero, suc, ◌<◌, ◌≤◌, max, Bool, true, List, [], ◌∷◌, refl, arith, ℤ, get_or}
-use Rattle.std.specs.Prelude.{map, filter, nat_le, fold, ◌||◌, not}
+use Rattle.std.proofs.Common.{◌≡◌, ℕ, zero, suc, ◌<◌, ◌≤◌, max, Bool, true, List, [], ◌∷◌, refl, arith, ℤ, get_or, map, filter, nat_le, fold, ◌||◌, not}
 use Rattle.std.specs.List.{list_all, AllByRecursion}
 use Rattle.std.proofs.lemmas.Bool.Decides.{nat_tests}
 use Rattle.number_defs.specs.Gaggles.{is_option}

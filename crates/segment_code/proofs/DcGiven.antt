@@ -1,6 +1,5 @@
 -- Blocks of which a text gives only the DC.
-use Rattle.std.proofs.Common.{◌≡◌, ℕ, zero, suc, ◌+◌, ◌-◌, ◌*◌, ◌/◌, ◌%◌, ◌^◌, ◌<◌, ◌≤◌, Bool, true, false, cond, List, [], ◌∷◌, length, map, refl, ap, ◌∙◌, arith, ℤ, pos, get_or, length-append}
-use Rattle.std.specs.Prelude.{◌&&◌, ◌||◌, ◌==◌, neg_ℤ, ◌+ℤ◌, ◌*ℤ◌, nat_le}
+use Rattle.std.proofs.Common.{◌≡◌, ℕ, ◌/◌, ◌%◌, ◌^◌, ◌<◌, ◌≤◌, Bool, true, false, cond, List, [], ◌∷◌, length, map, refl, ap, ◌∙◌, arith, ℤ, pos, get_or, length-append, ◌&&◌, ◌||◌, ◌==◌, neg_ℤ, ◌+ℤ◌, ◌*ℤ◌, nat_le}
 use Rattle.std.specs.Int.{int_shr}
 use Rattle.std.proofs.lemmas.Bool.Decides.{nat_tests}
 use Rattle.std.proofs.lemmas.List.{length-map, get_or-map}
@@ -21,8 +20,10 @@ use Rattle.text_defs.specs.Given.{dc_through, is_dc_bit_given, has_bit, has_sign
 use Rattle.text_defs.proofs.GivenAlike.{sum_alike}
 use Rattle.text_defs.proofs.BitSums.{low_bit, sum_low, parts_whole}
 use Rattle.text_defs.proofs.DcTold.{dc_long}
-use Rattle.text_defs.proofs.GivesAll.{span_long, numbers_fit}
-use Rattle.segment_code.proofs.GivenTests.{at_least_test, less_test, absorbs}
+use Rattle.text_defs.proofs.GivesAll.{span_long, numbers_fit, absorbs}
+use Rattle.text_defs.proofs.Onward.{zero_number}
+use Rattle.plane_texts.proofs.SmallFacts.{lt_to}
+use Rattle.plane_reader.proofs.ToldNumbers.{le_true}
 use Rattle.segment_code.proofs.LowParts.{sum_zeros}
 
 -- ---- a block with this DC, in which all other numbers are 0
@@ -33,13 +34,8 @@ zeros = map (λ i. pos 0) (span 1 63)
 abbrev pub dc_block : ℤ → List ℤ
 dc_block z = z ∷ zeros
 
-zeros_at : (xs : List ℕ) (i : ℕ) → get_or (map (λ j. pos 0) xs) i (pos 0) ≡ pos 0
-zeros_at [] i = refl
-zeros_at (x ∷ xs) zero = refl
-zeros_at (x ∷ xs) (suc i) = zeros_at xs i
-
 pub ac_zero : (z : ℤ) (p : ℕ) → 1 ≤ p → get_or (dc_block z) p (pos 0) ≡ pos 0
-ac_zero z p first = grind (arith, nat_tests, zeros_at)
+ac_zero z p first = grind (arith, nat_tests, zero_number)
 
 pub dc_block_long : (z : ℤ) → length (dc_block z) ≡ 64
 dc_block_long z = omega (arith, length-map (span 1 63) (λ i. pos 0), span_long 1 63)
@@ -99,4 +95,4 @@ through_within head values options r lt = grind (arith, nat_tests, length-append
 -- a bit of the DC part is in it
 pub dc_bit_there : (head : SegmentHead) (values : List (List ℤ)) (options : Options) (m r c : ℕ) → head.depth_ac ≤ c → dc_shift head ≤ c → c < q_of head → r < length values → length (dc_part_items head values options) ≤ m →
     is_dc_bit_given head values options m r c ≡ true
-dc_bit_there head values options m r c past over under count given = grind (arith, nat_tests, left_over, dc_long, less_test, at_least_test)
+dc_bit_there head values options m r c past over under count given = grind (arith, nat_tests, left_over, dc_long, lt_to, le_true)

@@ -1,11 +1,9 @@
 -- What the DC part of a segment gives, if nothing is given after it.
-use Rattle.std.proofs.Common.{◌≡◌, ◌⊎◌, ℕ, ◌+◌, ◌-◌, ◌*◌, ◌^◌, ◌<◌, ◌≤◌, inl, inr, Bool, true, false, cond, List, [], length, map, drop, refl, sym, ap, ◌∙◌, subst, arith, ℤ, pos, get_or, length-drop, length-take}
-use Rattle.std.specs.Prelude.{◌&&◌, ◌||◌, ◌==◌, nat_lt, nat_le, unsigned_abs, Result}
+use Rattle.std.proofs.Common.{◌≡◌, ◌⊎◌, ℕ, ◌+◌, ◌-◌, ◌*◌, ◌^◌, ◌<◌, ◌≤◌, inl, inr, Bool, true, false, cond, List, [], length, map, drop, refl, sym, ap, ◌∙◌, subst, arith, ℤ, pos, get_or, length-drop, length-take, ◌&&◌, ◌||◌, ◌==◌, nat_lt, nat_le, unsigned_abs, Result, pow_pos}
 use Rattle.std.specs.Int.{int_shr}
 use Rattle.std.proofs.lemmas.Bool.{cases_lt}
 use Rattle.std.proofs.lemmas.Bool.Decides.{nat_tests}
 use Rattle.std.proofs.lemmas.List.{get_or_past, length-map}
-use Rattle.std.proofs.lemmas.Nat.{pow_pos}
 use Rattle.base_122.specs.declared.book.Book.{Book}
 use Rattle.wave_defs.specs.Blocks as wave_blocks
 use Rattle.wave_defs.specs.Held.{block_at}

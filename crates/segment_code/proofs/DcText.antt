@@ -1,6 +1,5 @@
 -- The DC part that is put from the cells.
-use Rattle.std.proofs.Common.{◌≡◌, ℕ, ◌*◌, List, length, refl}
-use Rattle.std.specs.Prelude.{ℤ}
+use Rattle.std.proofs.Common.{◌≡◌, ℕ, ◌*◌, List, length, refl, ℤ}
 use Rattle.item_defs.specs.Items.{text}
 use Rattle.number_defs.specs.Cells.{strided}
 use Rattle.number_defs.specs.DcPart.{dc_items, dc_choices}

@@ -1,9 +1,7 @@
 -- What the items that were read and the octets after them say of a text that has no end from outside.
-use Rattle.std.proofs.Common.{◌≡◌, ◌⊎◌, ℕ, ◌+◌, ◌*◌, ◌/◌, ◌^◌, ◌<◌, ◌≤◌, inl, inr, Bool, true, false, cond, List, [], ◌∷◌, ◌++◌, length, take, refl, sym, ap, ◌∙◌, subst, arith, ℤ, append_assoc, length-append}
-use Rattle.std.specs.Prelude.{◌≢◌, ◌==◌, Result, Ok, Err}
+use Rattle.std.proofs.Common.{◌≡◌, ◌⊎◌, ℕ, ◌+◌, ◌*◌, ◌/◌, ◌^◌, ◌<◌, ◌≤◌, inl, inr, Bool, true, false, cond, List, [], ◌∷◌, ◌++◌, length, take, refl, sym, ap, ◌∙◌, subst, arith, ℤ, append_assoc, length-append, ◌≢◌, ◌==◌, Result, Ok, Err, append-nil, take_all}
 use Rattle.std.specs.Int.{div_ceil}
 use Rattle.std.proofs.lemmas.Bool.Decides.{nat_tests}
-use Rattle.std.proofs.lemmas.List.{append-nil, take_all}
 use Rattle.item_defs.specs.Bits.{bits_of_octets}
 use Rattle.item_defs.specs.Items.{Item, Refusal, bad_option, bad_delta, bad_depth, false_flag, text, spelling}
 use Rattle.item_defs.specs.Padding.{rounded, padded_length}

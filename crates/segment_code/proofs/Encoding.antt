@@ -1,9 +1,7 @@
 -- A text that was put into a sink, and ended.
-use Rattle.std.proofs.Common.{◌≡◌, ◌⊎◌, ℕ, ◌+◌, ◌*◌, ◌^◌, ◌<◌, ◌≤◌, List, [], ◌++◌, length, take, Bool, false, refl, sym, ap, subst, ◌∙◌, arith, inl, inr, append_assoc, length-append, length-take}
-use Rattle.std.specs.Prelude.{◌==◌, Result, Ok, Err, MatchResult}
+use Rattle.std.proofs.Common.{◌≡◌, ◌⊎◌, ℕ, ◌+◌, ◌*◌, ◌^◌, ◌<◌, ◌≤◌, List, [], ◌++◌, length, take, Bool, false, refl, sym, ap, subst, ◌∙◌, arith, inl, inr, append_assoc, length-append, length-take, ◌==◌, Result, Ok, Err, MatchResult, append-nil, take_all, ℤ}
 use Rattle.std.proofs.lemmas.Bool.{cases_lt}
 use Rattle.std.proofs.lemmas.Bool.Decides.{nat_tests}
-use Rattle.std.proofs.lemmas.List.{append-nil, take_all}
 use Rattle.item_defs.specs.Bits.{copies, octets_of, bits_of_octets, AreOctets}
 use Rattle.item_defs.specs.Padding.{padded_length, padding, padded}
 use Rattle.item_defs.proofs.BitLists.{length-copies}
@@ -14,11 +12,10 @@ use Rattle.bit_pipe.specs.Bounds.{bound_of}
 use Rattle.bit_pipe.specs.Sinks.{SinkOf, BrokeBits}
 use Rattle.bit_pipe.specs.Standing.{Standing, IsOpen, Begins, Adds, Breaks, Finishes, Closes}
 use Rattle.bit_pipe.proofs.Closing.{gave_octets, text_gave, text_broke, text_broke_at_end}
-use Rattle.std.specs.Prelude.{ℤ}
 use Rattle.segment_defs.specs.declared.head.SegmentHead.{SegmentHead}
 use Rattle.segment_defs.specs.Coded.{coded, coded_bits}
 use Rattle.segment_defs.specs.Text.{text_octets}
-use Rattle.segment_head.proofs.WrittenFields.{octets_of-append}
+use Rattle.segment_defs.proofs.WrittenFields.{octets_of-append}
 use Rattle.segment_code.specs.Text.{GivesText, BreaksWithin}
 use Rattle.segment_code.proofs.TextOctets.{IsLimit, padded_within, text_within, text_unlimited, text_cut}
 
@@ -130,10 +127,6 @@ module _ {S : Type 0} (k : SinkOf S) (out : S) (s t : Standing S) (word limit : 
       by_result (Err e) same m = subst (BreaksWithin k out u) same m
 
 -- ---- exactly the bits that fit were put
-
--- all bits were put
-pub fits_whole : {S : Type 0} {k : SinkOf S} {s t : Standing S} {bits : List Bool} → Adds k s t bits → Adds k s t (take s.room bits)
-fits_whole {S} {k} {s} {t} {bits} p = subst (Adds k s t) (sym (take_all s.room bits (omega (arith, p.room)))) p
 
 module _ {S : Type 0} (k : SinkOf S) (out : S) (s t : Standing S) (word limit : ℕ) (fill : Bool) (bits : List Bool)
     (begins : Begins k out (bound_of limit) s) (is_open : IsOpen s) (none : (k.counts out).given ≡ 0) where

@@ -1,8 +1,6 @@
 -- A coded text with neither a stop nor a limit holds exactly the blocks that were coded.
-use Rattle.std.proofs.Common.{◌≡◌, ◌≤◌, ◌<◌, ◌+◌, ◌-◌, ◌*◌, ◌/◌, ℕ, ℤ, Bool, true, false, cond, List, ◌++◌, length, take, drop, get_or, refl, sym, ap, subst, ◌∙◌, inl, inr, arith, append_assoc, length-append}
-use Rattle.std.specs.Prelude.{◌==◌, ◌↔◌}
+use Rattle.std.proofs.Common.{◌≡◌, ◌≤◌, ◌<◌, ◌-◌, ◌*◌, ◌/◌, ℕ, ℤ, Bool, true, false, cond, List, ◌++◌, length, take, drop, get_or, refl, sym, ap, subst, ◌∙◌, inl, inr, arith, append_assoc, length-append, ◌==◌, ◌↔◌, drop_at}
 use Rattle.std.proofs.lemmas.Bool.Decides.{nat_tests}
-use Rattle.std.proofs.lemmas.List.{drop_at}
 use Rattle.item_defs.specs.Bits.{copies, bits_of_octets, octets_of}
 use Rattle.item_defs.specs.Items.{Item, text}
 use Rattle.item_defs.specs.Padding.{padded_length, padding, padded}
@@ -17,10 +15,11 @@ use Rattle.segment_defs.specs.Depths.{block_depth, block_depths, depth_ac_of}
 use Rattle.segment_defs.specs.Head.{IsHead, head_bits, head_length}
 use Rattle.segment_defs.specs.SegmentItems.{Options, segment_items}
 use Rattle.segment_defs.specs.Text.{text_octets}
-use Rattle.segment_head.proofs.WrittenFields.{octets_of-append}
+use Rattle.segment_defs.proofs.WrittenFields.{octets_of-append}
 use Rattle.segment_head.proofs.WrittenHeads.{length-head_bits}
 use Rattle.segment_code.specs.Laws.{CodedHoldsExactly}
 use Rattle.segment_code.proofs.CodedOptions.{coded_holds, numbers_are, words_are, within_greatest}
+use Rattle.segment_code.proofs.CodedHeld.{whole_octets}
 use Rattle.text_defs.specs.Fronts.{Front}
 use Rattle.text_defs.specs.Given.{given_blocks}
 use Rattle.text_defs.specs.Laws.{SameGiven, AllGiven}
@@ -32,9 +31,6 @@ use Rattle.text_defs.proofs.OutcomeLaws.{ends_once}
 use Rattle.text_defs.proofs.SegmentItems.{segment_are_items}
 
 -- ---- whole octets
-
-padded_octets : (word limit used : ℕ) (fill : Bool) → padded_length word limit fill used ≡ 8 * (padded_length word limit fill used / 8)
-padded_octets word limit used fill = grind (arith, nat_tests)
 
 module _ (book : Book) (sound : is_book_sound book ≡ true) (h : SegmentHead) (blocks : List (List ℤ)) (ok : IsHead h) (ten : length h.image.weights.shifts ≡ 10) (none : h.limit ≡ 0) where
   abbrev options : Options
@@ -67,7 +63,7 @@ module _ (book : Book) (sound : is_book_sound book ≡ true) (h : SegmentHead) (
         arith,
         least,
         count,
-        padded_octets h.image.word h.limit (length (coded_bits book h blocks)) h.fill,
+        whole_octets h.image.word h.limit (length (coded_bits book h blocks)) h.fill,
         length-append (text items) zeros,
         length-append (head_bits h) (text items),
         length-head_bits h ten,

@@ -1,6 +1,5 @@
 -- A text read from an input that is after the head, with the end that was found.
-use Rattle.std.proofs.Common.{◌≡◌, ℕ, ◌*◌, ◌≤◌, List, length, take, sym, ap, ◌∙◌, subst, ℤ, arith}
-use Rattle.std.specs.Prelude.{Result, Ok, Err}
+use Rattle.std.proofs.Common.{◌≡◌, ℕ, ◌*◌, ◌≤◌, List, length, take, sym, ap, ◌∙◌, subst, ℤ, arith, Result, Ok, Err}
 use Rattle.std.proofs.lemmas.Bool.Decides.{nat_tests}
 use Rattle.item_defs.specs.Readings.{AreItems, whole, ended, refused}
 use Rattle.base_122.specs.declared.book.Book.{Book}

@@ -1,6 +1,5 @@
 -- Octets that hold the items of a text have no proper prefix that does, and hold one list of blocks.
-use Rattle.std.proofs.Common.{◌≡◌, ℕ, ◌+◌, ◌*◌, ◌/◌, ◌≤◌, inl, inr, Bool, false, cond, List, [], ◌∷◌, ◌++◌, length, take, refl, sym, ap, ◌∙◌, subst, arith, ℤ, append_assoc, length-append}
-use Rattle.std.specs.Prelude.{◌≢◌}
+use Rattle.std.proofs.Common.{◌≡◌, ℕ, ◌+◌, ◌*◌, ◌/◌, ◌≤◌, inl, inr, Bool, false, cond, List, [], ◌∷◌, ◌++◌, length, take, refl, sym, ap, ◌∙◌, subst, arith, ℤ, append_assoc, length-append, ◌≢◌}
 use Rattle.std.proofs.lemmas.Bool.{cases_lt}
 use Rattle.std.proofs.Math.Seq.{take-length}
 use Rattle.item_defs.specs.Bits.{bits_of_octets}
@@ -22,12 +21,12 @@ use Rattle.text_defs.proofs.FrontLaws.{End, all_given, nothing_follows, EndsSo, 
 use Rattle.text_defs.proofs.SegmentAlike.{segment_alike}
 use Rattle.segment_code.specs.ItemsHeld.{wanted_octets, ItemsIn, AreAll, HoldsItems}
 
-none_long : (l : List ℕ) → length l ≡ 0 → l ≡ []
+pub none_long : (l : List ℕ) → length l ≡ 0 → l ≡ []
 none_long [] e = refl
 none_long (x ∷ l) e = absurd (omega (arith, e))
 
 -- a prefix of octets is one of more octets
-further : {items : List Item} {m : ℕ} {left : List Bool} (rest more : List ℕ) → Front items m (bits_of_octets rest) left → Front items m (bits_of_octets (rest ++ more)) (left ++ bits_of_octets more)
+pub further : {items : List Item} {m : ℕ} {left : List Bool} (rest more : List ℕ) → Front items m (bits_of_octets rest) left → Front items m (bits_of_octets (rest ++ more)) (left ++ bits_of_octets more)
 further {items} {m} {left} rest more p = record {
   within = p.within;
   taken = p.taken;

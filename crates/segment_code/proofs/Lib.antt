@@ -10,7 +10,7 @@ mod PlaneParts
 mod EntryBits
 mod PlaneBits
 mod NumberBits
-mod TextBits
+pub mod TextBits
 mod DepthMarks
 mod EndOctets
 mod Decoding
@@ -34,4 +34,4 @@ pub mod CodedHeld
 pub mod CodedOptions
 mod NoneAbove
 mod ExactTexts
-mod ItemEnds
+pub mod ItemEnds

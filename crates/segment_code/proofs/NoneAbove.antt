@@ -1,8 +1,6 @@
 -- Before the planes no AC number is significant.
-use Rattle.std.proofs.Common.{◌≡◌, ℕ, ◌*◌, ◌<◌, ◌^◌, false, List, length, replicate, ap, sym, ◌∙◌, arith, ℤ}
-use Rattle.std.specs.Prelude.{◌==◌, nat_le, unsigned_abs}
+use Rattle.std.proofs.Common.{◌≡◌, ℕ, ◌*◌, ◌<◌, ◌^◌, false, List, length, replicate, ap, sym, ◌∙◌, arith, ℤ, ◌==◌, nat_le, unsigned_abs, pow_pos}
 use Rattle.std.proofs.lemmas.List.{get_or-replicate}
-use Rattle.std.proofs.lemmas.Nat.{pow_pos}
 use Rattle.std.proofs.lemmas.Nat.Bits.{bit_at_above}
 use Rattle.std.proofs.lemmas.Bool.Decides.{nat_tests}
 use Rattle.item_defs.specs.Bits.{bit}

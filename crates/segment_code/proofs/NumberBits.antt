@@ -1,19 +1,14 @@
 -- How many bits the numbers of a text have at most.
-use Rattle.std.proofs.Common.{◌≡◌, ℕ, zero, suc, ◌+◌, ◌-◌, ◌*◌, ◌/◌, ◌^◌, ◌<◌, ◌≤◌, List, [], ◌∷◌, ◌++◌, length, map, min, get_or, Bool, true, false, cond, eqb, refl, ap, arith, inl, inr, length-append}
-use Rattle.std.specs.Prelude.{ℤ, pos, slice_index, nat_le, nat_lt, ◌&&◌}
+use Rattle.std.proofs.Common.{◌≡◌, ℕ, zero, suc, ◌+◌, ◌-◌, ◌*◌, ◌/◌, ◌^◌, ◌<◌, ◌≤◌, List, [], ◌∷◌, ◌++◌, length, map, min, get_or, Bool, true, false, cond, eqb, refl, ap, arith, inl, inr, length-append, ℤ, slice_index, nat_le, nat_lt, ◌&&◌, pow_mono, All, mul-le-mul_right, div-le_self}
 use Rattle.std.specs.List.{list_all}
-use Rattle.std.specs.Int.{int_shr}
-use Rattle.number_defs.proofs.Heights.{height_below}
 use Rattle.std.proofs.lemmas.Bool.{cases_Bool}
 use Rattle.std.proofs.lemmas.Bool.Decides.{nat_tests}
-use Rattle.std.proofs.lemmas.Nat.{pow_pos}
-use Rattle.std.proofs.lemmas.List.{get_or_past, get_or-map, length-map}
+use Rattle.std.proofs.lemmas.List.{length-map}
 use Rattle.std.proofs.lemmas.List.FromFn.{length-range_with_len}
-use Rattle.std.proofs.Math.Pow.{pow_mono}
 use Rattle.item_defs.specs.Items.{Item, text, item_bits, raw, identifier}
 use Rattle.item_defs.proofs.Texts.{text-append, text-cons, text-one}
 use Rattle.item_defs.proofs.NumberBits.{length-bits_of}
-use Rattle.number_defs.specs.Ranges.{shifted_height, IsInRange}
+use Rattle.number_defs.specs.Ranges.{shifted_height}
 use Rattle.number_defs.specs.Gaggles.{Kind, reference, is_option, identifier_bits, value_at, places, first_place, value_items, lead_items, gaggle_items, items_before, number_items, gaggle_count}
 use Rattle.number_defs.specs.Choice.{coded_bits}
 use Rattle.number_defs.specs.DcPart.{dc_q, dc_bits, dc_kind, dc_bit, high_items, planes_before, dc_planes, dc_items}
@@ -22,18 +17,14 @@ use Rattle.number_defs.specs.Laws.{AreFew, DcsFit}
 use Rattle.number_defs.proofs.CodedBits.{counts_bits}
 use Rattle.number_defs.proofs.MappingLaws.{mapped_below}
 use Rattle.number_defs.proofs.DcBits.{few_bits, q_small}
-use Rattle.gaggle_codes.proofs.Names.{uncoded_small}
-use Rattle.std.specs.Prelude.{All}
+use Rattle.number_defs.proofs.SegmentSteps.{few_anywhere, heights_few}
+use Rattle.gaggle_codes.proofs.Names.{uncoded_small, few_identifier_bits}
 use Rattle.std.proofs.lemmas.List.Sums.{sum_by-le}
 use Rattle.std.proofs.lemmas.List.Elements.{All-map}
-use Rattle.std.proofs.Math.Nat.{mul-le-mul_right, div-le_self}
 use Rattle.plane_defs.specs.Spans.{span}
 use Rattle.plane_defs.proofs.Tables.{list_all-span-zero}
 
 -- ---- bits of a gaggle
-
-few_anywhere : (N : ℕ) (xs : List ℕ) → AreFew N xs → (i : ℕ) → get_or xs i 0 < 2 ^ N
-few_anywhere N xs few i = grind (arith, nat_tests, get_or_past, pow_pos)
 
 option_small : (N option : ℕ) → is_option N option ≡ true → N ≤ 10 → option ≤ 15
 option_small N option h le = let most = uncoded_small N in grind (arith, nat_tests)
@@ -48,9 +39,6 @@ coded_few N option values le small below = grind (arith, nat_tests, mul-le-mul_r
 
 values_count : (count g : ℕ) → length (places count g) ≤ 16
 values_count count g = omega (arith, length-range_with_len (first_place g) (min count (16 * g + 16) - first_place g))
-
-identifier_small : (N : ℕ) → identifier_bits N ≤ 4
-identifier_small N = grind (arith, nat_tests)
 
 lead_few : (kind : Kind) (heights : List ℕ) (g : ℕ) → kind.bits ≤ 10 → length (text (lead_items kind heights g)) ≤ 10
 lead_few kind heights zero le =
@@ -84,7 +72,7 @@ module _ (kind : Kind) (heights : List ℕ) (few : kind.bits ≤ 10) (below : Ar
         length-append (item_bits ident) (text (lead ++ items)),
         length-append (text lead) (text items),
         length-bits_of (identifier_bits kind.bits) option,
-        identifier_small kind.bits,
+        few_identifier_bits kind.bits,
         lead_few kind heights g few,
         length-map at (value_at kind.bits heights),
         values_count (length heights) g,
@@ -123,12 +111,6 @@ planes_few q dcs (suc n) =
 -- options that exist, for this number of numbers of N bits
 abbrev Known : (N count : ℕ) (options : ℕ → ℕ) → Type 0
 Known N count options = (g : ℕ) → g < gaggle_count count → is_option N (options g) ≡ true
-
-heights_few : (N q : ℕ) (dcs : List ℤ) → ((i : ℕ) → i < length dcs → IsInRange true N (int_shr (get_or dcs i (pos 0)) q)) → AreFew N (map (shifted_height true N q) dcs)
-heights_few N q dcs fit i lt =
-    let within : i < length dcs = omega (arith, length-map dcs (shifted_height true N q)) in
-    let e : get_or (map (shifted_height true N q) dcs) i 0 ≡ shifted_height true N q (get_or dcs i (pos 0)) = get_or-map (shifted_height true N q) dcs i (pos 0) 0 within in
-    rw e (height_below true N (int_shr (get_or dcs i (pos 0)) q) (fit i within))
 
 high_few : (N q : ℕ) (dcs : List ℤ) (options : ℕ → ℕ) → 1 ≤ N → N ≤ 10 → length dcs < 2 ^ 20 → AreFew N (map (shifted_height true N q) dcs) →
     (2 ≤ N → Known N (length dcs) options) → length (text (high_items N q dcs options)) ≤ 2 ^ 31

@@ -1,18 +1,17 @@
 -- Numbers down to a bit.
-use Rattle.std.proofs.Common.{◌≡◌, ℕ, zero, suc, ◌+◌, ◌-◌, ◌*◌, ◌/◌, ◌%◌, ◌^◌, ◌<◌, ◌≤◌, inl, inr, cond, sym, ap, ◌∙◌, subst, arith, ℤ, pos}
-use Rattle.std.specs.Prelude.{sum_by, ◌+ℤ◌, ◌*ℤ◌}
+use Rattle.std.proofs.Common.{◌≡◌, ℕ, zero, suc, ◌+◌, ◌-◌, ◌*◌, ◌/◌, ◌%◌, ◌^◌, ◌<◌, ◌≤◌, inl, inr, cond, sym, ap, ◌∙◌, subst, arith, ℤ, pos, sum_by, ◌+ℤ◌, ◌*ℤ◌, mod-eq_of_lt}
 use Rattle.std.specs.Int.{int_shr}
 use Rattle.std.proofs.lemmas.Bool.{cases_lt}
 use Rattle.std.proofs.lemmas.Int.{ints}
 use Rattle.std.proofs.lemmas.Nat.{pow_pos, shr_split, div-mul-add}
-use Rattle.std.proofs.Math.Nat.{mod-eq_of_lt}
 use Rattle.std.proofs.lemmas.Bool.Decides.{nat_tests}
 use Rattle.item_defs.specs.Bits.{bit}
 use Rattle.number_defs.specs.Ranges.{complement}
 use Rattle.plane_defs.specs.Spans.{span}
 use Rattle.plane_defs.proofs.Above.{all_span}
 use Rattle.plane_texts.proofs.DcShifts.{lifted, lifted_back, lifted_times, shr_twice}
-use Rattle.text_defs.proofs.BitSums.{sum_span, sum_bits, low_bit, sum_low, parts_whole}
+use Rattle.plane_defs.proofs.Counting.{sum_suc}
+use Rattle.text_defs.proofs.BitSums.{sum_bits, low_bit, sum_low, parts_whole}
 use Rattle.text_defs.proofs.GivenAlike.{sum_alike}
 use Rattle.segment_code.proofs.LowParts.{sum_zeros, low_of_multiple}
 
@@ -28,11 +27,11 @@ sum_split F g b (suc w) lt none same =
       | inl below ↦
           let rest = sum_split F g b w below none (λ c low high. same c low (omega arith)) in
           let here = same w below (omega arith) in
-          omega (arith, sum_span F w, sum_span g w, rest, here)
+          omega (arith, sum_suc F w, sum_suc g w, rest, here)
       | inr last ↦
           let at : b ≡ w = omega arith in
           let zeros = sum_below F b none in
-          let f : sum_by F (span 0 (suc w)) ≡ sum_by F (span 0 b) + F b = ap (λ n. sum_by F (span 0 (suc n))) (sym at) ∙ sum_span F b in
+          let f : sum_by F (span 0 (suc w)) ≡ sum_by F (span 0 b) + F b = ap (λ n. sum_by F (span 0 (suc n))) (sym at) ∙ sum_suc F b in
           let g' : sum_by g (span 0 (suc w)) ≡ sum_by g (span 0 (suc b)) = ap (λ n. sum_by g (span 0 (suc n))) (sym at) in
           omega (arith, f, g', zeros)
     ]
@@ -52,7 +51,7 @@ bit_weight n b = cond (bit n b) (2 ^ b) 0
 pub upper_step : (n w : ℕ) → upper n (w + 1) + bit_weight n w ≡ upper n w
 upper_step n w =
     let a : sum_by (λ b. bit_weight n b) (span 0 (suc w)) ≡ n % 2 ^ (w + 1) = sum_bits n (suc w) ∙ (let z : suc w ≡ w + 1 = omega arith in ap (λ k. n % 2 ^ k) z) in
-    omega (arith, a, sum_span (λ b. bit_weight n b) w, sum_bits n w, upper_split n w, upper_split n (w + 1))
+    omega (arith, a, sum_suc (λ b. bit_weight n b) w, sum_bits n w, upper_split n w, upper_split n (w + 1))
 
 -- the given bits of a magnitude: all above a plane, and this one's
 pub magnitude_given : (F : ℕ → ℕ) (n b w : ℕ) → b < w → n < 2 ^ w → ((c : ℕ) → c < b → F c ≡ 0) → ((c : ℕ) → b < c → c < w → F c ≡ bit_weight n c) → sum_by F (span 0 w) ≡ upper n (b + 1) + F b
@@ -101,7 +100,7 @@ cut_from y z w low same = sym (ap (λ x. lifted x w) same ∙ cut_whole y w low)
 pub cut_step : (z : ℤ) (w : ℕ) → cut z (w + 1) +ℤ pos (low_bit z w) ≡ cut z w
 cut_step z w =
     let a : sum_by (low_bit z) (span 0 (suc w)) ≡ complement (w + 1) z = sum_low z (suc w) ∙ (let y : suc w ≡ w + 1 = omega arith in ap (λ k. complement k z) y) in
-    let more : complement (w + 1) z ≡ complement w z + low_bit z w = omega (arith, a, sum_span (low_bit z) w, sum_low z w) in
+    let more : complement (w + 1) z ≡ complement w z + low_bit z w = omega (arith, a, sum_suc (low_bit z) w, sum_low z w) in
     omega (arith, ints, more, cut_parts z w, cut_parts z (w + 1))
 
 -- the number of a DC and its given low bits, those from a place on and some more

@@ -1,11 +1,9 @@
 -- The parts of a segment's text, read one after another.
-use Rattle.std.proofs.Common.{◌≡◌, ℕ, ◌+◌, ◌-◌, ◌*◌, ◌^◌, ◌<◌, ◌≤◌, min, inl, inr, Bool, true, false, cond, eqb, List, [], ◌++◌, length, map, take, refl, sym, ap, ◌∙◌, subst, arith, ℤ, pos, get_or, length-append}
-use Rattle.std.specs.Prelude.{nat_lt, unsigned_abs, Result}
+use Rattle.std.proofs.Common.{◌≡◌, ℕ, ◌+◌, ◌-◌, ◌*◌, ◌^◌, ◌<◌, ◌≤◌, min, inl, inr, Bool, true, false, cond, eqb, List, [], ◌++◌, length, map, take, refl, sym, ap, ◌∙◌, subst, arith, ℤ, pos, get_or, length-append, nat_lt, unsigned_abs, Result, pow_pos}
 use Rattle.std.specs.Int.{int_shr}
 use Rattle.std.proofs.lemmas.Bool.{cases_lt}
 use Rattle.std.proofs.lemmas.Bool.Decides.{nat_tests}
 use Rattle.std.proofs.lemmas.List.{get_or_past, length-map, get_or-map, take-append-le}
-use Rattle.std.proofs.lemmas.Nat.{pow_pos}
 use Rattle.item_defs.specs.Items.{Item, text, raw}
 use Rattle.item_defs.specs.Readings.{AreItems, whole}
 use Rattle.item_defs.proofs.ReadingLaws.{are_append}

@@ -1,8 +1,7 @@
 -- The parts of a coded text, one after another.
-use Rattle.std.proofs.Common.{◌≡◌, ℤ, true, false, cond, List, [], ◌++◌, ap, arith}
+use Rattle.std.proofs.Common.{◌≡◌, ℤ, true, false, cond, List, [], ◌++◌, ap, arith, append-nil}
 use Rattle.item_defs.specs.Items.{text}
 use Rattle.item_defs.proofs.Texts.{text-append}
-use Rattle.std.proofs.lemmas.List.{append-nil}
 use Rattle.std.proofs.lemmas.Bool.Decides.{nat_tests}
 use Rattle.base_122.specs.declared.book.Book.{Book}
 use Rattle.segment_defs.specs.declared.head.SegmentHead.{SegmentHead}

@@ -1,8 +1,5 @@
 -- How many bits a plane of a segment takes at most.
-use Rattle.std.proofs.Common.{◌≡◌, ℕ, zero, suc, add-one, zero-add, ◌+◌, ◌*◌, ◌^◌, ◌<◌, ◌≤◌, Bool, true, cond, List, [], ◌∷◌, ◌++◌, length, get_or, ℤ, pos, ap, sym, ◌∙◌, arith, length-append}
-use Rattle.std.specs.Prelude.{map, filter, nat_lt, ◌&&◌}
-use Rattle.std.specs.List.{flat_map}
-use Rattle.std.proofs.Math.Nat.{mul-le-mul_right}
+use Rattle.std.proofs.Common.{◌≡◌, ℕ, zero, suc, add-one, zero-add, ◌+◌, ◌*◌, ◌^◌, ◌<◌, ◌≤◌, Bool, true, cond, List, [], ◌∷◌, ◌++◌, length, get_or, ℤ, pos, ap, sym, ◌∙◌, arith, length-append, map, filter, nat_lt, ◌&&◌, flat_map, mul-le-mul_right}
 use Rattle.std.proofs.lemmas.Bool.Decides.{nat_tests}
 use Rattle.item_defs.specs.Bits.{bit}
 use Rattle.item_defs.specs.Items.{text}

@@ -1,11 +1,9 @@
 -- What a text gives of a block if its planes are read down to one plane, and that one up to where the text ends.
-use Rattle.std.proofs.Common.{◌≡◌, ◌⊎◌, ℕ, zero, suc, ◌+◌, ◌-◌, ◌*◌, ◌/◌, ◌^◌, ◌<◌, ◌≤◌, min, inl, inr, Bool, true, false, cond, List, length, refl, sym, ap, ◌∙◌, arith, ℤ, pos, get_or}
-use Rattle.std.specs.Prelude.{◌&&◌, ◌||◌, ◌==◌, neg_ℤ, ◌+ℤ◌, ◌*ℤ◌, nat_lt, unsigned_abs}
+use Rattle.std.proofs.Common.{◌≡◌, ◌⊎◌, ℕ, zero, suc, ◌+◌, ◌-◌, ◌*◌, ◌/◌, ◌^◌, ◌<◌, ◌≤◌, min, inl, inr, Bool, true, false, cond, List, length, refl, sym, ap, ◌∙◌, arith, ℤ, pos, get_or, ◌&&◌, ◌||◌, ◌==◌, neg_ℤ, ◌+ℤ◌, ◌*ℤ◌, nat_lt, unsigned_abs, pow_mono}
 use Rattle.std.specs.Int.{int_shr}
 use Rattle.std.specs.List.{list_any}
 use Rattle.std.proofs.lemmas.Bool.{cases_lt}
 use Rattle.std.proofs.lemmas.Nat.{pow_pos, mod_below, shr_split}
-use Rattle.std.proofs.Math.Pow.{pow_mono}
 use Rattle.std.proofs.lemmas.Bool.Decides.{nat_tests}
 use Rattle.item_defs.specs.Bits.{bit}
 use Rattle.number_defs.specs.Ranges.{complement}
@@ -28,12 +26,13 @@ use Rattle.text_defs.specs.Spellable.{block_of}
 use Rattle.text_defs.specs.Given.{dc_through, is_dc_bit_given, given_in, has_bit, has_sign, given_magnitude, given_ac, given_low, given_dc, given_block}
 use Rattle.text_defs.proofs.AllSent.{all_stages, bit_sent, sign_sent, dc_sent}
 use Rattle.text_defs.proofs.BitSums.{low_bit, sum_low}
-use Rattle.text_defs.proofs.GivesAll.{top}
+use Rattle.text_defs.proofs.GivesAll.{top, absorbs, either_true, some_size}
 use Rattle.plane_texts.proofs.NothingTold.{any_bit, any_sign, TellsNone}
 use Rattle.text_defs.proofs.Sent.{has_span, some_member}
 use Rattle.segment_code.proofs.DcGiven.{dc_bit_there}
 use Rattle.segment_code.proofs.GivenParts.{block_is}
-use Rattle.segment_code.proofs.GivenTests.{at_least, at_least_test, below_test, not_less_test, absorbs, none_without, no_both, either_true, not_both, no_size, some_size}
+use Rattle.segment_code.proofs.GivenTests.{not_less_test, none_without, no_both, not_both, no_size}
+use Rattle.plane_reader.proofs.ToldNumbers.{le_true, le_false, from_le_true}
 use Rattle.segment_code.proofs.NumberCuts.{sum_split, sum_below, upper, magnitude_given, upper_from, cut, cut_from, dc_parts}
 use Rattle.segment_code.proofs.StepFacts.{ArePlain, all_plain, sign_reached, no_dc_bit}
 
@@ -107,19 +106,19 @@ module _ (head : SegmentHead) (values : List (List ℤ)) (depths : List ℕ) (op
 
     reached : (c : ℕ) → 2 ^ c ≤ n → significant V c i ≡ true
     unfolding significant
-    reached c le = at_least_test (2 ^ c) n le
+    reached c le = le_true (2 ^ c) n le
 
     missed : (c : ℕ) → n < 2 ^ c → significant V c i ≡ false
     unfolding significant
-    missed c lt = below_test (2 ^ c) n lt
+    missed c lt = le_false (2 ^ c) n lt
 
     from_reached : (c : ℕ) → significant V c i ≡ true → 2 ^ c ≤ n
     unfolding significant
-    from_reached c e = at_least (2 ^ c) n e
+    from_reached c e = from_le_true (2 ^ c) n e
 
     stands : 2 ^ (p + 1) ≤ unsigned_abs (get_or before i (pos 0)) → significant before (p + 1) i ≡ true
     unfolding significant
-    stands le = at_least_test (2 ^ (p + 1)) (unsigned_abs (get_or before i (pos 0))) le
+    stands le = le_true (2 ^ (p + 1)) (unsigned_abs (get_or before i (pos 0))) le
 
     -- a number that was significant above has its sign from the planes above
     sign_above : 2 ^ (p + 1) ≤ n → negative (get_or V i (pos 0)) ≡ true → has_sign head values depths options m r i ≡ true
@@ -193,7 +192,7 @@ module _ (head : SegmentHead) (values : List (List ℤ)) (depths : List ℕ) (op
 
     dc_coded : (c : ℕ) → shift ≤ c → coded weights c 0 ≡ true
     unfolding coded wave_blocks.place_of
-    dc_coded c le = at_least_test shift c le
+    dc_coded c le = le_true shift c le
 
     -- no bit below BitDepthAC is in the DC part
     in_planes : (c : ℕ) → c < head.depth_ac → c < q → is_dc_bit_given head values options m r c ≡ false
@@ -246,7 +245,7 @@ module _ (head : SegmentHead) (values : List (List ℤ)) (depths : List ℕ) (op
         let above : int_shr z w ≡ int_shr (get_or before 0 (pos 0)) w = candidate.dc w (omega arith) in
         let base : get_or before 0 (pos 0) ≡ cut z w = cut_from (get_or before 0 (pos 0)) z w low above in
         tells.dc ∙ ap (λ y. y +ℤ pos (cond (has_bit_in (given_in head values depths options m r p) 0 && twos_bit z p) (2 ^ p) 0)) base
-        ∙ sym (ap (λ t. cond t ((int_shr z q *ℤ pos (2 ^ q)) +ℤ pos (given_low head values depths options m r)) (pos 0)) (at_least_test (dc_through head values options r) m through)
+        ∙ sym (ap (λ t. cond t ((int_shr z q *ℤ pos (2 ^ q)) +ℤ pos (given_low head values depths options m r)) (pos 0)) (le_true (dc_through head values options r) m through)
         ∙ dc_parts z q w (given_low head values depths options m r) (cond (has_bit_in (given_in head values depths options m r p) 0 && twos_bit z p) (2 ^ p) 0) low_is)
 
     pub block_given : now ≡ given_block head values depths options m r

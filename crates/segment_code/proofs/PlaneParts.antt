@@ -1,6 +1,5 @@
 -- What is put of a plane is that plane of the coded text.
-use Rattle.std.proofs.Common.{◌≡◌, ℕ, ◌+◌, ℤ, List, [], ap, sym, subst, ◌∙◌, arith}
-use Rattle.std.specs.Prelude.{Result, Ok}
+use Rattle.std.proofs.Common.{◌≡◌, ℕ, ◌+◌, ℤ, List, [], ap, sym, subst, ◌∙◌, arith, Result, Ok}
 use Rattle.std.proofs.lemmas.Bool.Decides.{nat_tests}
 use Rattle.item_defs.specs.Items.{text}
 use Rattle.bit_pipe.specs.Sinks.{SinkOf}

@@ -1,12 +1,9 @@
 -- The planes of a segment, read one after another.
-use Rattle.std.proofs.Common.{◌≡◌, ◌⊎◌, ℕ, zero, suc, ◌+◌, ◌-◌, ◌*◌, ◌^◌, ◌<◌, ◌≤◌, min, inl, inr, Bool, true, false, cond, eqb, List, [], ◌++◌, length, map, refl, sym, ap, ◌∙◌, subst, arith, ℤ, pos, get_or, Ok, length-append}
-use Rattle.std.specs.Prelude.{◌==◌, ◌||◌, unsigned_abs, Result}
+use Rattle.std.proofs.Common.{◌≡◌, ◌⊎◌, ℕ, zero, suc, ◌+◌, ◌-◌, ◌*◌, ◌^◌, ◌<◌, ◌≤◌, min, inl, inr, Bool, true, false, cond, eqb, List, [], ◌++◌, length, map, refl, sym, ap, ◌∙◌, subst, arith, ℤ, pos, get_or, Ok, length-append, ◌==◌, ◌||◌, unsigned_abs, Result, flat_map, pow_pos}
 use Rattle.std.specs.Int.{int_shr}
-use Rattle.std.specs.List.{flat_map}
 use Rattle.std.proofs.lemmas.Bool.{cases_lt}
 use Rattle.std.proofs.lemmas.Bool.Decides.{nat_tests}
 use Rattle.std.proofs.lemmas.List.{append-nil, get_or_past}
-use Rattle.std.proofs.lemmas.Nat.{pow_pos}
 use Rattle.item_defs.specs.Items.{Item, text}
 use Rattle.item_defs.specs.Readings.{whole}
 use Rattle.item_defs.proofs.Texts.{text-append}
@@ -53,7 +50,8 @@ use Rattle.plane_texts.proofs.TableReading.{flat_same}
 use Rattle.text_defs.proofs.WholeGiven.{plane_whole}
 use Rattle.segment_code.specs.TakenPlanes.{low_bits, IsSpelled, HasDc, HaveDcs, with_words, AreKnown, PlanesAbove, TakesPlanes}
 use Rattle.segment_code.proofs.DcGiven.{no_ac, dc_whole, through_within, dc_bit_there}
-use Rattle.segment_code.proofs.GivenTests.{not_both, either_true}
+use Rattle.segment_code.proofs.GivenTests.{not_both}
+use Rattle.text_defs.proofs.GivesAll.{either_true}
 use Rattle.segment_code.proofs.DcReads.{empty_multiple}
 use Rattle.segment_code.proofs.GivenParts.{block_is}
 use Rattle.segment_code.proofs.ItemFronts.{read_most}

@@ -1,6 +1,5 @@
 -- A block of which a whole plane was read awaits the next one.
-use Rattle.std.proofs.Common.{◌≡◌, ◌⊎◌, ℕ, zero, suc, ◌+◌, ◌-◌, ◌*◌, ◌/◌, ◌^◌, ◌<◌, ◌≤◌, min, inl, inr, Bool, true, false, cond, List, refl, sym, ap, ◌∙◌, subst, arith, ℤ, pos, get_or}
-use Rattle.std.specs.Prelude.{◌&&◌, ◌||◌, ◌==◌, neg_ℤ, ◌+ℤ◌, unsigned_abs}
+use Rattle.std.proofs.Common.{◌≡◌, ◌⊎◌, ℕ, zero, suc, ◌+◌, ◌-◌, ◌*◌, ◌/◌, ◌^◌, ◌<◌, ◌≤◌, min, inl, inr, Bool, true, false, cond, List, refl, sym, ap, ◌∙◌, subst, arith, ℤ, pos, get_or, ◌&&◌, ◌||◌, ◌==◌, neg_ℤ, ◌+ℤ◌, unsigned_abs}
 use Rattle.std.specs.Int.{int_shr}
 use Rattle.std.proofs.lemmas.Bool.{cases_lt}
 use Rattle.std.proofs.lemmas.Int.{ints}
@@ -21,7 +20,9 @@ use Rattle.plane_reader.specs.Taken.{AwaitsPlane}
 use Rattle.text_defs.proofs.AllSent.{all_stages, bit_sent, sign_sent, dc_sent}
 use Rattle.segment_code.proofs.LowParts.{multiple_from, low_of_multiple, lesser}
 use Rattle.segment_code.proofs.NumberCuts.{upper, upper_step, upper_from, upper_back, upper_least, cut, cut_whole, cut_above, cut_low, cut_from, cut_step}
-use Rattle.segment_code.proofs.GivenTests.{at_least, at_least_test, below_test, absorbs, none_without, not_both, no_size}
+use Rattle.segment_code.proofs.GivenTests.{none_without, not_both, no_size}
+use Rattle.text_defs.proofs.GivesAll.{absorbs}
+use Rattle.plane_reader.proofs.ToldNumbers.{le_true, le_false, from_le_true}
 use Rattle.segment_code.proofs.StepFacts.{all_plain, no_dc_bit}
 
 -- a magnitude from a bit on is a multiple as it was before
@@ -81,19 +82,19 @@ module _ (weights : List ℕ) (q d p : ℕ) (some : 1 ≤ p) (V B N : List ℤ) 
 
     from_stands : significant N p i ≡ true → 2 ^ p ≤ magnitude N i
     unfolding significant
-    from_stands e = at_least (2 ^ p) (magnitude N i) e
+    from_stands e = from_le_true (2 ^ p) (magnitude N i) e
 
     reached : 2 ^ p ≤ n → significant V p i ≡ true
     unfolding significant
-    reached le = at_least_test (2 ^ p) n le
+    reached le = le_true (2 ^ p) n le
 
     missed : n < 2 ^ (p + 1) → significant V (p + 1) i ≡ false
     unfolding significant
-    missed lt = below_test (2 ^ (p + 1)) n lt
+    missed lt = le_false (2 ^ (p + 1)) n lt
 
     stood : 2 ^ (p + 1) ≤ unsigned_abs (get_or B i (pos 0)) → significant B (p + 1) i ≡ true
     unfolding significant
-    stood le = at_least_test (2 ^ (p + 1)) (unsigned_abs (get_or B i (pos 0))) le
+    stood le = le_true (2 ^ (p + 1)) (unsigned_abs (get_or B i (pos 0))) le
 
     sign_is : significant N p i ≡ true → negative (get_or N i (pos 0)) ≡ negative (get_or V i (pos 0))
     sign_is e =
@@ -124,7 +125,7 @@ module _ (weights : List ℕ) (q d p : ℕ) (some : 1 ≤ p) (V B N : List ℤ) 
 
   dc_coded : shift weights 0 ≤ p → coded weights p 0 ≡ true
   unfolding coded
-  dc_coded le = at_least_test (shift weights 0) p le
+  dc_coded le = le_true (shift weights 0) p le
 
   dc_is : get_or N 0 (pos 0) ≡ cut z (min p q)
   dc_is =

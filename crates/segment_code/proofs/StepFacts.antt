@@ -1,8 +1,7 @@
 -- What a block's steps in a plane report besides their entries: a sign is reported only for a number that has a bit in the plane,
 -- and the DC has a bit only in the planes that the DC part left out.
-use Rattle.std.proofs.Common.{◌≡◌, ℕ, ◌-◌, ◌/◌, ◌≤◌, inl, inr, Bool, true, false, cond, List, [], ◌∷◌, ◌++◌, length, map, refl, ap, ◌∙◌, subst, arith, ℤ, pos, get_or}
-use Rattle.std.specs.Prelude.{filter, nat_lt, nat_le, ◌&&◌, ◌||◌, ◌==◌}
-use Rattle.std.specs.List.{flat_map, list_any, AllByRecursion}
+use Rattle.std.proofs.Common.{◌≡◌, ℕ, ◌-◌, ◌/◌, ◌≤◌, inl, inr, Bool, true, false, cond, List, [], ◌∷◌, ◌++◌, length, map, refl, ap, ◌∙◌, subst, arith, ℤ, pos, get_or, filter, nat_lt, nat_le, ◌&&◌, ◌||◌, ◌==◌}
+use Rattle.std.specs.List.{flat_map, AllByRecursion}
 use Rattle.std.proofs.lemmas.Bool.{or_cases}
 use Rattle.std.proofs.lemmas.Bool.Decides.{nat_tests}
 use Rattle.plane_defs.proofs.Seen.{newly_here}
@@ -25,6 +24,8 @@ use Rattle.plane_texts.specs.Given.{whole_steps, entries_before, count_before, s
 use Rattle.plane_texts.proofs.NothingTold.{any_bit, any_sign}
 use Rattle.plane_texts.proofs.Says.{kept, anything}
 use Rattle.text_defs.proofs.AllSent.{all_stages}
+use Rattle.text_defs.proofs.SameTold.{nothing}
+use Rattle.plane_reader.proofs.ToldDc.{not_first}
 
 pub record IsPlain (block : List ℤ) (plane q : ℕ) (s : Step) : Type 0 where
   pub signs : (p : ℕ) → tells_sign p s.tells ≡ true → significant block plane p ≡ true
@@ -36,15 +37,8 @@ ArePlain block plane q steps = AllByRecursion (IsPlain block plane q) steps
 same_place : (q p : ℕ) → (q == p) ≡ true → q ≡ p
 same_place q p e = grind (arith, nat_tests)
 
-never : {X : Type 0} → false ≡ true → X
-never e = absurd cc
-
 not_dc : (p : ℕ) → 1 ≤ p → (p == 0) ≡ false
 not_dc p first = grind (arith, nat_tests)
-
-no_dc : (ps : List ℕ) → AllByRecursion (λ p. 1 ≤ p) ps → list_any (λ q. q == 0) ps ≡ false
-no_dc [] all = refl
-no_dc (p ∷ ps) all = ap (λ b. b || list_any (λ q. q == 0) ps) (not_dc p all.0) ∙ no_dc ps all.1
 
 each_plain : {X : Type 0} (block : List ℤ) (plane q : ℕ) (f : X → Step) (xs : List X) → AllByRecursion (λ x. IsPlain block plane q (f x)) xs → ArePlain block plane q (map f xs)
 each_plain block plane q f [] all = tt
@@ -60,7 +54,7 @@ both_all P Q f (x ∷ xs) all = (f x all.0, both_all P Q f xs all.1)
 
 module _ (block : List ℤ) (weights : List ℕ) (plane q : ℕ) where
   flags_plain : (check : Check) (e : Entry) → IsPlain block plane q (step check flags_alone e)
-  flags_plain check e = record { signs = λ p h. never h; dc = λ le. refl }
+  flags_plain check e = record { signs = λ p h. nothing h; dc = λ le. refl }
 
   sign_plain : (p : ℕ) → newly_significant block weights plane p ≡ true → IsPlain block plane q (step free (sign_at p) (Bit (negative (get_or block p (pos 0)))))
   sign_plain p new = record { signs = λ r h. subst (λ n. significant block plane n ≡ true) (same_place p r h) (newly_here block weights plane p new); dc = λ le. refl }
@@ -68,8 +62,8 @@ module _ (block : List ℤ) (weights : List ℕ) (plane q : ℕ) where
   typed_plain : (check : Check) (ps : List ℕ) → AllByRecursion (λ p. 1 ≤ p) ps → ArePlain block plane q (typed_steps block weights plane check ps)
   typed_plain check ps acs = (
     record {
-      signs = λ p h. never h;
-      dc = λ le. no_dc (filter (type_due block weights plane) ps) (both_all (λ p. (1 ≤ p) × (type_due block weights plane p ≡ true)) (λ p. 1 ≤ p) (λ p h. h.0) (filter (type_due block weights plane) ps) (kept (λ p. 1 ≤ p) (type_due block weights plane) ps acs));
+      signs = λ p h. nothing h;
+      dc = λ le. not_first (filter (type_due block weights plane) ps) (both_all (λ p. (1 ≤ p) × (type_due block weights plane p ≡ true)) (λ p. 1 ≤ p) (λ p h. h.0) (filter (type_due block weights plane) ps) (kept (λ p. 1 ≤ p) (type_due block weights plane) ps acs));
     },
     each_plain block plane q (λ p. step free (sign_at p) (Bit (negative (get_or block p (pos 0))))) (filter (newly_significant block weights plane) ps)
         (both_all (λ p. (1 ≤ p) × (newly_significant block weights plane p ≡ true)) _ (λ p h. sign_plain p h.1) (filter (newly_significant block weights plane) ps) (kept (λ p. 1 ≤ p) (newly_significant block weights plane) ps acs)),
@@ -85,7 +79,7 @@ module _ (block : List ℤ) (weights : List ℕ) (plane q : ℕ) where
       below le = grind (arith, nat_tests)
 
       either : (b : Bool) → (q ≤ plane → b ≡ false) → ArePlain block plane q (cond b (step free (bit_at 0) (Bit (twos_bit (get_or block 0 (pos 0)) plane)) ∷ []) [])
-      either true none = (record { signs = λ p h. never h; dc = λ le. absurd (let e = none le in cc) }, tt)
+      either true none = (record { signs = λ p h. nothing h; dc = λ le. absurd (let e = none le in cc) }, tt)
       either false none = tt
 
   children_plain : ArePlain block plane q (children_steps block weights plane)
@@ -103,7 +97,7 @@ module _ (block : List ℤ) (weights : List ℕ) (plane q : ℕ) where
   refinement_plain : ArePlain block plane q (refinement_steps block weights plane)
   refinement_plain =
       each_plain block plane q (λ p. step free (bit_at p) (Bit (bit (magnitude block p) plane))) (filter (refined block weights plane) (span 1 63))
-      (all_filter _ (refined block weights plane) (span 1 63) (all_span _ 1 63 (λ p low high. record { signs = λ r h. never h; dc = λ le. not_dc p low })))
+      (all_filter _ (refined block weights plane) (span 1 63) (all_span _ 1 63 (λ p low high. record { signs = λ r h. nothing h; dc = λ le. not_dc p low })))
 
 sent_plain : (block : List ℤ) (plane q : ℕ) (b : Bool) (steps : List Step) → ArePlain block plane q steps → ArePlain block plane q (cond b steps [])
 sent_plain block plane q true steps all = all
@@ -141,7 +135,7 @@ given_plain book options p stages m r =
 -- ---- what they report
 
 pub sign_reached : (block : List ℤ) (plane q p : ℕ) (steps : List Step) → ArePlain block plane q steps → any_sign p steps ≡ true → significant block plane p ≡ true
-sign_reached block plane q p [] all e = never e
+sign_reached block plane q p [] all e = nothing e
 sign_reached block plane q p (s ∷ ss) all e = elim (or_cases (tells_sign p s.tells) (any_sign p ss) e) [
   | inl here ↦ all.0.signs p here
   | inr later ↦ sign_reached block plane q p ss all.1 later

@@ -1,6 +1,5 @@
 -- How many bits a text has at most, before it is padded.
-use Rattle.std.proofs.Common.{◌≡◌, ℕ, ◌+◌, ◌*◌, ◌^◌, ◌<◌, ◌≤◌, Bool, List, ◌++◌, length, ℤ, arith, length-append}
-use Rattle.std.specs.Prelude.{if◌then◌else◌}
+use Rattle.std.proofs.Common.{◌≡◌, ℕ, ◌+◌, ◌*◌, ◌^◌, ◌<◌, ◌≤◌, Bool, List, ◌++◌, length, ℤ, arith, length-append, if◌then◌else◌}
 use Rattle.std.proofs.lemmas.Bool.Decides.{nat_tests}
 use Rattle.std.proofs.lemmas.List.{length-map}
 use Rattle.item_defs.specs.Items.{text}
@@ -12,19 +11,17 @@ use Rattle.plane_defs.proofs.ReadingTexts.{plane_text}
 use Rattle.segment_defs.specs.declared.head.SegmentHead.{SegmentHead}
 use Rattle.segment_defs.specs.Depths.{dcs_of}
 use Rattle.segment_defs.specs.Head.{IsHead, head_bits}
-use Rattle.segment_defs.specs.SegmentItems.{Options, dc_shift, stages_sent, dc_part_items, nth_plane_items, planes_items, items_after_dc, segment_items}
+use Rattle.segment_defs.specs.SegmentItems.{Options, dc_shift, dc_part_items, nth_plane_items, planes_items, items_after_dc, segment_items}
 use Rattle.segment_head.proofs.WrittenHeads.{length-head_bits}
 use Rattle.text_defs.specs.Spellable.{AreWordOptions, AreNumberOptions}
+use Rattle.text_defs.proofs.SegmentAlike.{sent_most}
 use Rattle.segment_code.specs.Laws.{TextsAreShort}
 use Rattle.segment_code.proofs.NumberBits.{dc_few, depths_few}
 use Rattle.segment_code.proofs.EntryBits.{text_each, length_span}
 use Rattle.segment_code.proofs.PlaneBits.{plane_few}
 
-head_short : (last : Bool) → (if last then 20 else 19) ≤ 20
+pub head_short : (last : Bool) → (if last then 20 else 19) ≤ 20
 head_short last = grind (arith, nat_tests)
-
-sent_most : (head : SegmentHead) (b : ℕ) → head.stop.stage < 4 → stages_sent head b ≤ 5
-sent_most head b lt = grind (arith, nat_tests)
 
 module _ (h : SegmentHead) (blocks : List (List ℤ)) (depths : List ℕ) (o : Options) (ok : IsHead h) (ten : length h.image.weights.shifts ≡ 10) (blocks_all : length blocks ≡ h.blocks)
     (depths_all : length depths ≡ h.blocks) (fit : DcsFit h.depth_dc h.depth_ac (dc_shift h) (dcs_of blocks)) (few : AreFew (depth_bits h.depth_ac) depths) (words : AreWordOptions o) (known : AreNumberOptions h o) where

@@ -1,6 +1,5 @@
 -- The octets of a text that was put whole, or up to its limit.
-use Rattle.std.proofs.Common.{◌≡◌, ℕ, ◌*◌, ◌%◌, ◌≤◌, List, ◌++◌, length, take, drop, Bool, false, refl, sym, ap, ◌∙◌, arith, length-append}
-use Rattle.std.specs.Prelude.{◌==◌}
+use Rattle.std.proofs.Common.{◌≡◌, ℕ, ◌*◌, ◌%◌, ◌≤◌, List, ◌++◌, length, take, drop, Bool, false, refl, sym, ap, ◌∙◌, arith, length-append, ◌==◌}
 use Rattle.std.proofs.lemmas.Bool.Decides.{nat_tests}
 use Rattle.std.proofs.lemmas.List.{append-nil, take_all, take_at, take-append-le, take-append-drop, length-take-le}
 use Rattle.item_defs.specs.Bits.{copies, octets_of}
@@ -9,7 +8,7 @@ use Rattle.item_defs.proofs.BitLists.{length-copies, copies_none}
 use Rattle.item_defs.proofs.OctetBits.{length-octets_of}
 use Rattle.item_defs.proofs.Rounding.{rounded_bounds, rounded_least}
 use Rattle.segment_defs.specs.Text.{text_octets}
-use Rattle.segment_head.proofs.WrittenFields.{octets_of-append}
+use Rattle.segment_defs.proofs.WrittenFields.{octets_of-append}
 
 -- the first octets are those of the first bits
 pub take-octets_of : (n : ℕ) (bits : List Bool) → 8 * n ≤ length bits → take n (octets_of bits) ≡ octets_of (take (8 * n) bits)

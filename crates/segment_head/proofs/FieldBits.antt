@@ -1,10 +1,9 @@
 -- The number that octets represent, and the fields in its bits.
-use Rattle.std.proofs.Common.{◌≡◌, ℕ, zero, suc, ◌+◌, ◌-◌, ◌*◌, ◌/◌, ◌%◌, ◌^◌, ◌<◌, ◌≤◌, List, [], ◌∷◌, ◌++◌, length, take, drop, get_or, sym, ap, subst, ◌∙◌, arith, inl, inr, length-drop}
+use Rattle.std.proofs.Common.{◌≡◌, ℕ, zero, suc, ◌+◌, ◌-◌, ◌*◌, ◌/◌, ◌%◌, ◌^◌, ◌<◌, ◌≤◌, List, [], ◌∷◌, ◌++◌, length, take, drop, get_or, sym, ap, subst, ◌∙◌, arith, inl, inr, length-drop, bit_and}
 use Rattle.std.proofs.lemmas.Bool.{cases_lt}
 use Rattle.std.proofs.lemmas.Nat.{and_mask, one_shl}
 use Rattle.std.proofs.lemmas.List.{drop-drop, drop_at, take-append-drop, take-append-le, drop-append-le, length-take-le, get_or_past}
 use Rattle.std.proofs.lemmas.List.Elements.{All-take, All-drop, All-from_get_or}
-use Rattle.std.specs.Prelude.{bit_and}
 use Rattle.std.specs.Int.{div_ceil}
 use Rattle.bit_pipe.proofs.WordOctets.{octets_wide}
 use Rattle.byteorder.specs.Endian.{big_number, big_from}
@@ -13,6 +12,7 @@ use Rattle.item_defs.specs.Bits.{bits_of, value_of, AreOctets, bits_of_octets}
 use Rattle.item_defs.proofs.NumberBits.{bits_none, bits_join, take-bits_of, drop-bits_of, value_of-bits_of}
 use Rattle.item_defs.proofs.OctetBits.{no_octets, octets_first, octets_append, octets_rest, length-bits_of_octets}
 use Rattle.segment_defs.specs.Fields.{number_in}
+use Rattle.segment_defs.proofs.Equations.{number_in-is}
 
 octet_at : (xs : List ℕ) → AreOctets xs → (k : ℕ) → get_or xs k 0 < 256
 octet_at xs h k = elim (cases_lt k (length xs)) [ inl lt ↦ h k 0 lt | inr ge ↦ omega (arith, get_or_past xs k 0 ge) ]
@@ -48,8 +48,7 @@ bits_within octets n r w le fit =
 
 -- a field within the first n octets
 pub number_in-within : (octets : List ℕ) (n start width : ℕ) → n ≤ length octets → start + width ≤ 8 * n → number_in octets start width ≡ number_in (take n octets) start width
-unfolding number_in
-number_in-within octets n start width le fit = ap value_of (bits_within octets n start width le fit)
+number_in-within octets n start width le fit = simp number_in-is (ap value_of (bits_within octets n start width le fit))
 
 -- the number in `w` bits of n octets' number
 field_of_number : (n r w below number : ℕ) → 8 * n ≡ r + (w + below) → value_of (take w (drop r (bits_of (8 * n) number))) ≡ number / 2 ^ below % 2 ^ w
@@ -59,8 +58,8 @@ field_of_number n r w below number e =
 -- the number of a field, from the octets in which it is
 pub number_in-read : (octets : List ℕ) (first n start width below : ℕ) → AreOctets octets → first + n ≤ length octets → 8 * first ≤ start → 8 * (first + n) ≡ start + width + below →
     big_number n (take n (drop first octets)) / 2 ^ below % 2 ^ width ≡ number_in octets start width
-unfolding number_in
 number_in-read octets first n start width below h le from upto =
+    simp number_in-is (
     let r = start - 8 * first in
     let after = drop first octets in
     let these = take n after in
@@ -74,7 +73,7 @@ number_in-read octets first n start width below h le from upto =
     ∙ ap value_of (bits_within after n r width room (omega arith))
     ∙ ap (λ bits. value_of (take width (drop r bits))) spelt
     ∙ field_of_number n r width below (big_number n these) (omega arith)
-    )
+    ))
 
 -- the same as code computes it, by a shift and a mask
 pub number_in-masked : (octets : List ℕ) (start width past number : ℕ) → ((i : ℕ) → get_or octets i 0 < 256) → 1 ≤ width → width ≤ 32 → start + width ≤ 8 * length octets →

@@ -1,9 +1,6 @@
 -- Fields put one after another.
-use Rattle.std.proofs.Common.{◌≡◌, ℕ, ◌≤◌, List, [], ◌∷◌, ◌++◌, length, map, Bool, refl, sym, ap, ◌∙◌, append_assoc, arith, true, false}
-use Rattle.std.specs.Str.{bytes_eq}
+use Rattle.std.proofs.Common.{◌≡◌, ℕ, ◌≤◌, List, [], ◌∷◌, ◌++◌, length, map, Bool, refl, sym, ap, ◌∙◌, append_assoc, arith, true, false, bytes_eq, Result, Ok, Err, ◌≢◌, flat_map}
 use Rattle.base_122.specs.Weights.{usual_shifts}
-use Rattle.std.specs.Prelude.{Result, Ok, Err, ◌≢◌}
-use Rattle.std.specs.List.{flat_map}
 use Rattle.std.proofs.lemmas.List.Concat.{flat_map-append, flat_map-cons}
 use Rattle.item_defs.specs.Items.{Item, item_bits, plain, text}
 use Rattle.bit_pipe.specs.Sinks.{SinkOf}
@@ -13,10 +10,11 @@ use Rattle.bit_pipe.specs.declared.fault.PutFault.TheVariants.{Stopped, WriteFau
 use Rattle.bit_pipe.proofs.Putting.{puts_cut, puts_then}
 use Rattle.segment_defs.specs.declared.head.SegmentHead.{SegmentHead}
 use Rattle.segment_defs.specs.declared.head.ImagePart.{ImagePart}
-use Rattle.segment_defs.specs.Head.{Field, field, field_bits, flag, reserved, part_1a, part_1b, part_2, part_3, part_4, weight_fields, head_fields, head_bits}
+use Rattle.segment_defs.specs.Head.{Field, field, field_bits, flag, reserved, part_1a, part_1b, part_2, part_3, part_4, weight_fields, head_bits}
 use Rattle.segment_head.specs.declared.carried.Carried.{Carried}
 use Rattle.segment_head.specs.Parts as parts
 use Rattle.segment_head.specs.Writing.{first_parts, plain_fields}
+use Rattle.segment_defs.proofs.Equations.{head_bits-is}
 
 -- a field as an item of a text
 abbrev pub item_of : Field → Item
@@ -69,8 +67,7 @@ first_bits h =
     )
 
 pub head_bits_parts : (h : SegmentHead) → flat_map field_bits (first_parts h) ++ flat_map field_bits (part_4 h.image) ≡ head_bits h
-unfolding head_bits head_fields
-head_bits_parts h = sym (flat_map-append field_bits (first_parts h) (part_4 h.image))
+head_bits_parts h = simp (head_bits-is, head_bits-is) (sym (flat_map-append field_bits (first_parts h) (part_4 h.image)))
 
 -- bits for which there is room are never stopped
 pub never_stops : {S T : Type 0} {k : SinkOf S} {r : Result T PutFault} {a b : Standing S} {bits : List Bool} → length bits ≤ a.room → Puts k r a b bits → r ≢ Err Stopped

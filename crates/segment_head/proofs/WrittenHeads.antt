@@ -1,8 +1,5 @@
 -- A head is read as it was written.
-use Rattle.std.proofs.Common.{◌≡◌, ℕ, ◌+◌, ◌*◌, ◌%◌, ◌^◌, ◌<◌, ◌≤◌, List, [], ◌∷◌, ◌++◌, length, take, drop, map, Bool, true, false, refl, sym, ap, subst, ◌∙◌, arith, append_assoc, inl, inr, length-append}
-use Rattle.std.proofs.lemmas.List.{append-nil}
-use Rattle.std.specs.Prelude.{◌==◌, ◌⊎◌, if◌then◌else◌, not, nat_lt, ◌||◌, ◌&&◌, Option, None, Ok}
-use Rattle.std.specs.Str.{bytes_eq}
+use Rattle.std.proofs.Common.{◌≡◌, ℕ, ◌+◌, ◌*◌, ◌%◌, ◌<◌, ◌≤◌, List, [], ◌∷◌, ◌++◌, length, take, drop, map, Bool, true, false, refl, sym, ap, subst, ◌∙◌, arith, append_assoc, length-append, append-nil, ◌==◌, if◌then◌else◌, None, Ok, bytes_eq}
 use Rattle.std.proofs.lemmas.Bool.Decides.{nat_tests}
 use Rattle.std.proofs.lemmas.List.Concat.{flat_map-append}
 use Rattle.item_defs.specs.Bits.{octets_of, bits_of_octets, value_of}
@@ -10,17 +7,17 @@ use Rattle.base_122.specs.Weights.{usual_shifts}
 use Rattle.base_122.specs.declared.setting.Stop.{Stop}
 use Rattle.segment_defs.specs.declared.head.SegmentHead.{SegmentHead}
 use Rattle.segment_defs.specs.declared.head.ImagePart.{ImagePart}
-use Rattle.segment_defs.specs.Head.{Field, field, flag, reserved, field_bits, part_1a, part_1b, part_2, part_3, part_4, word_pattern, head_fields, head_bits, head_length, IsHead}
-use Rattle.segment_defs.specs.declared.fault.HeadFault.{HeadFault}
+use Rattle.segment_defs.specs.Head.{Field, field, flag, reserved, field_bits, part_1a, part_1b, part_2, part_3, part_4, word_pattern, head_bits, head_length, IsHead}
 use Rattle.segment_defs.specs.Fields.{number_in, is_set}
 use Rattle.segment_defs.specs.Reading as reading
 use Rattle.segment_defs.specs.Reading.{part_1_length, head_of, head_in, head_read, image_in, stop_in, refused_where, first_refusal, is_bad_limit, presence_tests, support_tests, depth_tests, value_tests}
-use Rattle.segment_head.proofs.WrittenFields.{bits_in, width_of, length-bits_in, number_in-octets_of, number_in-front, parts_split, parts_length, after_first, second_part, third_part, fourth_part}
+use Rattle.segment_defs.proofs.WrittenFields.{bits_in, width_of, length-bits_in, number_in-octets_of, number_in-front, parts_split, parts_length, after_first, second_part, third_part, fourth_part}
 use Rattle.segment_head.proofs.WrittenParts.{Has, SaysFirst, SaysSecond, SaysThird, SaysFourth, says_first, says_second, says_third, says_fourth}
 use Rattle.segment_head.specs.Writing.{first_parts}
 use Rattle.segment_head.proofs.PuttingFields.{first_bits, head_bits_parts}
-use Rattle.segment_head.proofs.HeadTests.{passed_all}
-use Rattle.segment_head.proofs.LaterTests.{passes, none_absent}
+use Rattle.segment_defs.proofs.HeadTests.{passed_all}
+use Rattle.segment_defs.proofs.LaterTests.{none_absent, all_supported, depth_passes, value_passes}
+use Rattle.segment_defs.proofs.Equations.{head_bits-is}
 
 -- ---- bits of whole parts
 
@@ -49,8 +46,8 @@ length_4 image ten =
 
 -- the head's bits, part by part, and those after it
 pub split_bits : (h : SegmentHead) (more : List Bool) → head_bits h ++ more ≡ bits_in (part_1a h ++ part_1b h) ++ (bits_in (part_2 h) ++ (bits_in (part_3 h) ++ (bits_in (part_4 h.image) ++ more)))
-unfolding head_bits head_fields
 split_bits h more =
+    simp (head_bits-is, head_bits-is) (
     let one = part_1a h ++ part_1b h in
     let b1 = bits_in one in
     let b2 = bits_in (part_2 h) in
@@ -60,7 +57,7 @@ split_bits h more =
     flat_map-append field_bits (one ++ part_2 h ++ part_3 h) (part_4 h.image)
     ∙ ap (λ r. r ++ b4) (flat_map-append field_bits (one ++ part_2 h) (part_3 h) ∙ ap (λ r. r ++ b3) (flat_map-append field_bits one (part_2 h)))
     in
-    ap (λ r. r ++ more) parts ∙ append_assoc (b1 ++ b2 ++ b3) b4 more ∙ append_assoc (b1 ++ b2) b3 (b4 ++ more) ∙ append_assoc b1 b2 (b3 ++ (b4 ++ more))
+    ap (λ r. r ++ more) parts ∙ append_assoc (b1 ++ b2 ++ b3) b4 more ∙ append_assoc (b1 ++ b2) b3 (b4 ++ more) ∙ append_assoc b1 b2 (b3 ++ (b4 ++ more)))
 
 -- ---- what the octets of a head say, and the tests that they pass
 
@@ -111,37 +108,11 @@ even_pattern : (n word : ℕ) → n ≡ word_pattern word → (n % 2 == 1) ≡ f
 even_pattern n word e = let z : n % 2 ≡ 0 = omega (arith, e) in rw z refl
 
 support_passes : (h : SegmentHead) (third fourth : List ℕ) → IsHead h → SaysThird h third → SaysFourth h.image fourth → first_refusal (support_tests third fourth) ≡ None
-unfolding support_tests
 support_passes h third fourth ok says_3 says_4 =
     let word : (number_in fourth 29 3 % 2 == 1) ≡ false = even_pattern (number_in fourth 29 3) h.image.word says_4.pattern in
     let width : (number_in fourth 8 20 == 0) ≡ false = grind (arith, nat_tests, says_4.width, ok.image.width) in
     let blocks : (number_in third 0 20 == 0) ≡ false = grind (arith, nat_tests, says_3.blocks, ok.blocks) in
-    passes _ _ _ (ap not says_4.integer) (passes _ _ _ says_4.extended (passes _ _ _ says_4.transpose (passes _ _ _ word (passes _ _ _ width (passes _ _ _ blocks refl)))))
-
-depth_passes : (h : SegmentHead) → IsHead h → first_refusal (depth_tests h.depth_dc h.depth_ac) ≡ None
-unfolding depth_tests
-depth_passes h ok =
-    let small : (nat_lt 28 h.depth_dc || nat_lt 27 h.depth_ac) ≡ false = grind (arith, nat_tests, ok.depth_dc, ok.depth_ac) in
-    passes _ _ _ small refl
-
-good_limit : (limit word : ℕ) → (limit ≡ 0) ⊎ ((32 ≤ limit) × (limit < 2 ^ 27) × (limit % word ≡ 0)) → is_bad_limit limit word ≡ false
-good_limit limit word (inl none) = rw none refl
-good_limit limit word (inr some) =
-    let a : (limit == 0) ≡ false = grind (arith, nat_tests, some.0) in
-    let b : nat_lt limit 32 ≡ false = grind (arith, nat_tests, some.0) in
-    let c : (limit % word == 0) ≡ true = grind (arith, nat_tests, some.2) in
-    rw (a, b, c) refl
-
-value_passes : (h : SegmentHead) → IsHead h → first_refusal (value_tests h) ≡ None
-unfolding value_tests
-value_passes h ok =
-    let dc : (h.depth_dc == 0) ≡ false = grind (arith, nat_tests, ok.depth_dc) in
-    let width : nat_lt h.image.width 17 ≡ false = grind (arith, nat_tests, ok.image.width) in
-    passes _ _ _ dc (passes _ _ _ width (passes _ _ _ (good_limit h.limit h.image.word ok.limit) (passes _ _ _ (filled h.fill h.limit ok.fill) refl)))
-  where
-    filled : (fill : Bool) (limit : ℕ) → (fill ≡ true → limit ≡ 0 → ⊥) → (fill && (limit == 0)) ≡ false
-    filled true limit f = let ne = f refl in grind (arith, nat_tests)
-    filled false limit f = refl
+    all_supported third fourth says_4.integer says_4.extended says_4.transpose word width blocks
 
 -- ---- the head that is read
 

@@ -1,7 +1,5 @@
 -- What each part of a head that was written says.
-use Rattle.std.proofs.Common.{◌≡◌, ℕ, zero, suc, ◌+◌, ◌*◌, ◌%◌, ◌^◌, ◌<◌, ◌≤◌, List, [], ◌∷◌, ◌++◌, length, take, drop, map, get_or, Bool, true, false, refl, sym, ap, subst, ◌∙◌, arith, inl, inr, length-append}
-use Rattle.std.specs.Prelude.{◌==◌, if◌then◌else◌}
-use Rattle.std.specs.Str.{bytes_eq}
+use Rattle.std.proofs.Common.{◌≡◌, ℕ, zero, suc, ◌+◌, ◌*◌, ◌%◌, ◌^◌, ◌<◌, ◌≤◌, List, [], ◌∷◌, ◌++◌, length, take, drop, map, get_or, Bool, true, false, refl, sym, ap, subst, ◌∙◌, arith, inl, inr, length-append, ◌==◌, if◌then◌else◌, bytes_eq}
 use Rattle.std.proofs.lemmas.List.{length-map}
 use Rattle.std.proofs.lemmas.List.FromFn.{fill_by_all}
 use Rattle.std.proofs.lemmas.Bool.Decides.{nat_tests}
@@ -14,7 +12,7 @@ use Rattle.segment_defs.specs.declared.head.ImagePart.{ImagePart}
 use Rattle.segment_defs.specs.Head.{Field, field, flag, reserved, part_1a, part_1b, part_2, part_3, part_4, word_pattern, IsHead, IsImagePart}
 use Rattle.segment_defs.specs.Fields.{number_in, is_set}
 use Rattle.segment_defs.specs.Reading.{depth_of, word_of, custom_shifts, stop_in, image_in}
-use Rattle.segment_head.proofs.WrittenFields.{bits_in, start_of, field_at, value_at_place}
+use Rattle.segment_defs.proofs.WrittenFields.{bits_in, start_of, field_at, value_at_place}
 
 -- the octets begin with these fields
 pub record Has (octets : List ℕ) (fields : List Field) (rest : List Bool) : Type 0 where

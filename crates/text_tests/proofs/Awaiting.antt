@@ -1,7 +1,5 @@
 -- The blocks of which the tests read a plane await it.
-use Rattle.std.proofs.Common.{◌≡◌, ℕ, zero, suc, ◌+◌, ◌*◌, ◌^◌, ◌<◌, ◌≤◌, ℤ, pos, List, [], ◌∷◌, length, refl, sym, subst, ap, ◌∙◌, arith, get_or}
-use Rattle.std.specs.Prelude.{replicate, unsigned_abs}
-use Rattle.std.proofs.lemmas.Nat.{pow_pos}
+use Rattle.std.proofs.Common.{◌≡◌, ℕ, zero, suc, ◌*◌, ◌^◌, ◌<◌, ◌≤◌, ℤ, pos, List, [], ◌∷◌, refl, sym, subst, ap, ◌∙◌, arith, get_or, replicate, unsigned_abs, pow_pos}
 use Rattle.wave_defs.specs.Held.{block_at}
 use Rattle.plane_defs.specs.Sets.{magnitude, shift}
 use Rattle.plane_defs.specs.StepLaws.{IsAc}

@@ -1,6 +1,5 @@
 -- The bits that represent a word in a coded option.
-use Rattle.std.proofs.Common.{◌≡◌, ℕ, ◌+◌, ◌<◌, ◌^◌, Bool, false, ◌∙◌, sym, ap, arith}
-use Rattle.std.specs.Prelude.{◌==◌, if◌then◌else◌}
+use Rattle.std.proofs.Common.{◌≡◌, ℕ, ◌+◌, ◌<◌, ◌^◌, Bool, false, ◌∙◌, sym, ap, arith, ◌==◌, if◌then◌else◌}
 use Rattle.item_defs.specs.Items.{item_bits, plain, code}
 use Rattle.base_122.specs.declared.book.Book.{Book}
 use Rattle.plane_defs.specs.Codes.{symbol, uncoded, code_at, code_bits, codes_of, word_item}

@@ -1,20 +1,8 @@
 -- A sum over a span, one position more.
-use Rattle.std.proofs.Common.{◌≡◌, ℕ, ◌+◌, ◌*◌, ◌<◌, ◌≤◌, List, [], ◌∷◌, ◌++◌, refl, arith, take, get_or, length, ap, ◌∙◌, zero-add}
-use Rattle.std.specs.Prelude.{sum, sum_by}
+use Rattle.std.proofs.Common.{◌≡◌, ℕ, ◌+◌, ◌*◌, ◌<◌, ◌≤◌, List, arith, take, get_or, length, ap, zero-add, sum, sum_by}
 use Rattle.std.proofs.lemmas.Grind.{common_steps}
-use Rattle.std.proofs.lemmas.List.Sums.{sum_by-append}
 use Rattle.plane_defs.specs.Spans.{span}
-use Rattle.plane_defs.proofs.SpanLists.{span-suc}
-
-sum_by-last : (f : ℕ → ℕ) (xs : List ℕ) (y : ℕ) → sum_by f (xs ++ y ∷ []) ≡ sum_by f xs + f y
-sum_by-last f xs y = sum_by-append f xs (y ∷ []) ∙ ap (λ n. sum_by f xs + n) (omega arith)
-
-pub sum_by-span-suc : (f : ℕ → ℕ) (start count : ℕ) → sum_by f (span start (count + 1)) ≡ sum_by f (span start count) + f (start + count)
-sum_by-span-suc f start count = ap (sum_by f) (span-suc start count) ∙ sum_by-last f (span start count) (start + count)
-
-pub sum_by-span-none : (f : ℕ → ℕ) (start : ℕ) → sum_by f (span start 0) ≡ 0
-unfolding span
-sum_by-span-none f start = refl
+use Rattle.plane_defs.proofs.SpanLists.{sum_by-span-suc, sum_by-span-none}
 
 pub ruleset costs = (sum_by-span-none)
 

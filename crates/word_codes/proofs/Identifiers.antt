@@ -1,6 +1,5 @@
 -- Identifiers of options, and identifiers that have no option.
-use Rattle.std.proofs.Common.{◌≡◌, ◌<◌, ◌^◌, ℕ, refl, sym, subst, Bool, false, cond}
-use Rattle.std.specs.Prelude.{Some, None, not}
+use Rattle.std.proofs.Common.{◌≡◌, ◌<◌, ◌^◌, ℕ, refl, sym, subst, Bool, false, cond, Some, None, not}
 use Rattle.item_defs.specs.Bits.{bits_of}
 use Rattle.item_defs.specs.Items.{bad_option}
 use Rattle.bit_pipe.specs.Sources.{SourceOf}
@@ -11,7 +10,6 @@ use Rattle.bit_pipe.specs.Answers.{IsBelow, TakesOne}
 use Rattle.bit_pipe.specs.declared.fault.TextFault.TheVariants.{BadOption}
 use Rattle.std.proofs.Common.{Ok, Err}
 use Rattle.bit_pipe.proofs.OneItem.{one_whole, one_refused}
-use Rattle.plane_defs.specs.Spans.{span}
 use Rattle.plane_defs.specs.Codes.{identifier_width, identifier_number, names_option, option_item}
 
 if_none : (b : Bool) → b ≡ false → cond (not b) (Some bad_option) None ≡ Some bad_option
@@ -38,11 +36,3 @@ names_none length number some fits none p = record {
   read = one_refused (option_item length 0) number bad_option fits (if_none (names_option length number) none) p;
   answer = refl;
 }
-
-none_of_three : names_option 3 2 ≡ false
-unfolding span
-none_of_three = refl
-
--- identifier 10 of length 3 has no option
-pub names_no_option : (length number : ℕ) → length ≡ 3 → number ≡ 2 → names_option length number ≡ false
-names_no_option length number e f = rw (e, f) none_of_three

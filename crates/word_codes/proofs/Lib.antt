@@ -1,8 +1,6 @@
-mod SymbolTables
 mod Costs
-mod Cheapest
 mod CodedItems
 mod Identifiers
-mod CodeSearch
+pub mod CodeSearch
 mod Words
 mod WordFronts

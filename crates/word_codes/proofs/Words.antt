@@ -1,6 +1,5 @@
 -- The result of a call for a word's code.
-use Rattle.std.proofs.Common.{◌≡◌, ℕ, ◌+◌, ◌/◌, ◌^◌, ◌<◌, List, true, false, sym, ◌∙◌, arith}
-use Rattle.std.specs.Prelude.{◌==◌}
+use Rattle.std.proofs.Common.{◌≡◌, ℕ, ◌+◌, ◌/◌, ◌^◌, ◌<◌, List, true, false, sym, ◌∙◌, arith, ◌==◌}
 use Rattle.item_defs.specs.Items.{Item, item_bits}
 use Rattle.bit_pipe.specs.declared.front.Front.{Front}
 use Rattle.bit_pipe.specs.Fronts.{Tells, front_at}

@@ -1,5 +1,5 @@
 use Rattle.segment_head.proofs.WrittenHeads.{head_undoes}
-use Rattle.segment_head.proofs.ReadHeads.{read_fits}
+use Rattle.segment_defs.proofs.ReadHeads.{read_fits}
 use Rattle.segment_head.proofs.heads_undo.Goals as goal
 
 pub returns : goal.returns

@@ -1,5 +1,4 @@
-use Rattle.std.proofs.Common.{arith, refl}
-use Rattle.std.proofs.Math.ListN.{length-set}
+use Rattle.std.proofs.Common.{arith, refl, length-set}
 use Rattle.bare_text.proofs.Filling.{one_filled}
 use Rattle.bare_text.proofs.read.fill.Goals as goal
 

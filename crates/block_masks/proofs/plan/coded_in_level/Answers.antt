@@ -1,5 +1,4 @@
-use Rattle.std.proofs.Common.{◌≡◌, ◌+◌, ◌-◌, ◌*◌, ◌^◌, ◌≤◌, subst, arith}
-use Rattle.std.proofs.Math.Pow.{pow_mono}
+use Rattle.std.proofs.Common.{◌≡◌, ◌+◌, ◌-◌, ◌*◌, ◌^◌, ◌≤◌, subst, arith, pow_mono}
 use Rattle.plane_defs.specs.Sets.{coded}
 use Rattle.block_masks.specs.Masks.{Shows}
 use Rattle.block_masks.proofs.plan.coded_in_level.Goals as goal

@@ -1,5 +1,4 @@
-use Rattle.std.proofs.Common.{◌∙◌, ap, arith}
-use Rattle.std.specs.Prelude.{◌&&◌}
+use Rattle.std.proofs.Common.{◌∙◌, ap, arith, ◌&&◌}
 use Rattle.item_defs.specs.Bits.{bit}
 use Rattle.block_masks.proofs.SettingLanes.{shows_own}
 use Rattle.block_masks.proofs.SettingParts.{without_signs}

@@ -1,5 +1,4 @@
-use Rattle.std.proofs.Common.{◌≡◌, ◌-◌, sym, ap, ◌∙◌, arith}
-use Rattle.std.specs.Prelude.{not}
+use Rattle.std.proofs.Common.{◌≡◌, ◌-◌, sym, ap, ◌∙◌, arith, not}
 use Rattle.plane_defs.specs.Codes.{entry}
 use Rattle.code_book.specs.Tests.{first_from, bad_length, has_length}
 use Rattle.code_book.proofs.Firsts.{found, past, nowhere}

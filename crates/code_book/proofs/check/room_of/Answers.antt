@@ -1,8 +1,7 @@
-use Rattle.std.proofs.Common.{◌≡◌, ◌≤◌, ◌-◌, ◌^◌, sym, ap, ◌∙◌, arith}
-use Rattle.std.proofs.Math.Pow.{pow_mono}
+use Rattle.std.proofs.Common.{◌≡◌, ◌≤◌, ◌-◌, ◌^◌, sym, ap, ◌∙◌, arith, pow_mono}
 use Rattle.plane_defs.specs.Codes.{entry}
 use Rattle.code_book.specs.Tests.{room, room_of}
-use Rattle.code_book.proofs.Counting.{sum_last, sum_none}
+use Rattle.plane_defs.proofs.Counting.{sum_last, sum_none}
 use Rattle.code_book.proofs.check.room_of.Goals as goal
 
 pub loop-symbol-init : goal.loop-symbol-init

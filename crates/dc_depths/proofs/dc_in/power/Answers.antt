@@ -1,5 +1,4 @@
-use Rattle.std.proofs.Common.{◌≤◌, ◌^◌, ap, ◌∙◌, arith, to_z, w32}
-use Rattle.std.proofs.Math.Pow.{pow_mono}
+use Rattle.std.proofs.Common.{◌≤◌, ◌^◌, ap, ◌∙◌, arith, to_z, w32, pow_mono}
 use Rattle.std.proofs.lemmas.Nat.{one_shl}
 use Rattle.std.proofs.lemmas.Int.{to_z_pos}
 use Rattle.dc_depths.proofs.dc_in.power.Goals as goal

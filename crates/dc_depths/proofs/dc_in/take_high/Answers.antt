@@ -1,6 +1,4 @@
-use Rattle.std.proofs.Common.{◌≡◌, ◌≤◌, ◌^◌, ◌∙◌, sym, ap, subst, arith, rules, w32, to_z, of_z, pos, ◌-ℤ◌}
-use Rattle.std.specs.Prelude.{neg_ℤ}
-use Rattle.std.proofs.Math.Pow.{pow_mono}
+use Rattle.std.proofs.Common.{◌≡◌, ◌≤◌, ◌^◌, ◌∙◌, sym, ap, subst, arith, rules, w32, to_z, of_z, pos, ◌-ℤ◌, neg_ℤ, pow_mono}
 use Rattle.std.proofs.lemmas.Int.{ints, to_z-of_z, fits_signed_from_abs}
 use Rattle.std.proofs.lemmas.Result.{err_from_is_err_and}
 use Rattle.number_defs.specs.DcPart.{dc_q, dc_bits}

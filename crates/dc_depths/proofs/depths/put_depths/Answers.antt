@@ -1,11 +1,10 @@
-use Rattle.std.proofs.Common.{◌≤◌, arith}
-use Rattle.std.specs.Prelude.{nat_lt}
+use Rattle.std.proofs.Common.{◌≤◌, arith, nat_lt}
 use Rattle.bit_pipe.proofs.Putting.{adds_start, puts_whole}
 use Rattle.number_defs.specs.Depths.{depth_choices}
 use Rattle.gaggle_codes.specs.Options.{choice_of}
 use Rattle.dc_depths.specs.Marks.{depths_of}
 use Rattle.dc_depths.proofs.DepthCells.{heights_are, marks_in_range}
-use Rattle.dc_depths.proofs.Parts.{depths_none, depths_raw, depths_coded}
+use Rattle.number_defs.proofs.Equations.{depths_none, depths_raw, depths_coded}
 use Rattle.dc_depths.proofs.depths.put_depths.Goals as goal
 
 pub put_values-requires-clause-in_range : goal.put_values-requires-clause-in_range

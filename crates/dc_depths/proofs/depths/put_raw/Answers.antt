@@ -1,5 +1,4 @@
-use Rattle.std.proofs.Common.{◌<◌, ◌∙◌, ap, sym, pos, get_or, length, arith}
-use Rattle.std.specs.Prelude.{nat_abs}
+use Rattle.std.proofs.Common.{◌<◌, ◌∙◌, ap, sym, pos, get_or, length, arith, nat_abs}
 use Rattle.std.proofs.lemmas.Result.{err_from_is_err_and}
 use Rattle.std.proofs.lemmas.List.{length-map, get_or-map}
 use Rattle.item_defs.specs.Bits.{bits_of}

@@ -1,10 +1,9 @@
-use Rattle.std.proofs.Common.{arith, ap, ◌∙◌, ◌≤◌, ◌*◌, ◌^◌, length}
-use Rattle.std.specs.Prelude.{sum}
-use Rattle.std.proofs.Math.Pow.{pow_mono}
-use Rattle.number_defs.specs.Choice.{by_total, heuristic}
+use Rattle.std.proofs.Common.{arith, ap, ◌∙◌, ◌≤◌, ◌*◌, ◌^◌, length, sum, pow_mono}
+use Rattle.number_defs.specs.Choice.{by_total}
 use Rattle.gaggle_codes.proofs.Least.{sum_small}
 use Rattle.gaggle_codes.specs.Options.{name_of}
 use Rattle.gaggle_codes.proofs.choice.heuristic_of.Goals as goal
+use Rattle.number_defs.proofs.Equations.{heuristic-is}
 
 pub option_by_total-requires-clause-total : goal.option_by_total-requires-clause-total
 option_by_total-requires-clause-total c =
@@ -14,5 +13,4 @@ option_by_total-requires-clause-total c =
     omega (arith, s, c.total_of.ensures)
 
 pub returns : goal.returns
-unfolding heuristic
-returns c = c.option_by_total.ensures ∙ ap (λ t. name_of c.args.bits (by_total c.args.bits (length c.args.values.now) t)) c.total_of.ensures
+returns c = simp heuristic-is (c.option_by_total.ensures ∙ ap (λ t. name_of c.args.bits (by_total c.args.bits (length c.args.values.now) t)) c.total_of.ensures)

@@ -1,5 +1,4 @@
-use Rattle.std.proofs.Common.{◌≡◌, ◌-◌, ◌^◌, ◌≤◌, arith}
-use Rattle.std.proofs.Math.Pow.{pow_mono}
+use Rattle.std.proofs.Common.{◌≡◌, ◌-◌, ◌^◌, ◌≤◌, arith, pow_mono}
 use Rattle.number_defs.specs.Gaggles.{uncoded}
 use Rattle.gaggle_codes.proofs.WholeValues.{value_as, shape_unary, value_unary, k_below, parts_below, parts_code, rest_value}
 use Rattle.gaggle_codes.proofs.mapped_values.take_value.Goals as goal

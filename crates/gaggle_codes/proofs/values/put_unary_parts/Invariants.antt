@@ -1,5 +1,4 @@
-use Rattle.std.proofs.Common.{take}
-use Rattle.std.specs.Prelude.{flat_map}
+use Rattle.std.proofs.Common.{take, flat_map}
 use Rattle.bit_pipe.specs.Standing.{stand, IsOpen, Adds}
 use Rattle.gaggle_codes.specs.GaggleBits.{unary_bits}
 use Rattle.gaggle_codes.proofs.values.put_unary_parts.Given as goal

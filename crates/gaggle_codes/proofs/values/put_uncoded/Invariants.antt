@@ -1,5 +1,4 @@
-use Rattle.std.proofs.Common.{take}
-use Rattle.std.specs.Prelude.{flat_map}
+use Rattle.std.proofs.Common.{take, flat_map}
 use Rattle.item_defs.specs.Bits.{bits_of}
 use Rattle.bit_pipe.specs.Standing.{stand, IsOpen, Adds}
 use Rattle.gaggle_codes.proofs.values.put_uncoded.Given as goal

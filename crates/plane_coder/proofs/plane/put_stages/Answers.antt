@@ -1,5 +1,6 @@
-use Rattle.std.proofs.Common.{◌≡◌, ◌+◌, ◌<◌, ◌∙◌, arith}
+use Rattle.std.proofs.Common.{◌+◌, ◌<◌, ◌∙◌, arith}
 use Rattle.std.proofs.lemmas.Result.{err_from_is_err_and}
+use Rattle.std.proofs.lemmas.Grind.{common_steps}
 use Rattle.plane_defs.specs.Planes.{stage_items}
 use Rattle.plane_defs.specs.Marks.{depths_of}
 use Rattle.block_masks.specs.Gaggles.{options_at}
@@ -9,16 +10,7 @@ use Rattle.plane_coder.proofs.Sending.{none_put, more_put, put_ended, put_whole,
 use Rattle.plane_coder.proofs.plane.put_stages.Goals as goal
 
 pub loop-number-init : goal.loop-number-init
-loop-number-init g c =
-    let view = c.args.view.now in
-    let m1 = c.choose_all.new.marks in
-    record {
-      so_far = none_put (stage_items view.tables.now.book (options_at m1) (plane_in view (depths_of m1))) _ c.requires.open;
-      is_open = c.requires.open;
-      same = same_marks m1;
-      agree = chosen_agree view c.args.marks.now m1 c.choose_all.ensures;
-      known = chosen_known view c.args.marks.now m1 c.choose_all.ensures;
-    }
+loop-number-init g c = grind (arith, common_steps, none_put, same_marks, chosen_agree, chosen_known)
 
 pub put_stage-requires-clause-agree : goal.put_stage-requires-clause-agree
 put_stage-requires-clause-agree g c = agree_back c.args.view.now c.choose_all.new.marks c.loop-number.marks c.loop-number.marks c.loop-number.number c.loop-number.invariant.same c.loop-number.invariant.agree
@@ -50,21 +42,11 @@ returns-in_err-put_stage g c =
     let below : c.loop-number.number < c.args.last + 1 = omega (arith, c.loop-number-test.true) in
     let put = stage_then view view.tables.now.book m1 m2 c.loop-number.number i.same p.puts in
     let whole = put_ended (stage_items view.tables.now.book (options_at m1) (plane_in view (depths_of m1))) c.loop-number.number (c.args.last + 1) below i.so_far put in
-    let items = plane_whole view c.args.marks.now m1 c.args.last c.choose_all.ensures in
+    let items = plane_whole view c.args.marks.now m1 c.args.last c.choose_all.ensures.chosen in
     rw (e.1, e.2) (record {
       puts = rw (← items) whole;
-      depths = p.kept.depths ∙ i.same.depths ∙ c.choose_all.ensures.depths;
+      depths = p.kept.depths ∙ i.same.depths ∙ c.choose_all.ensures.chosen.depths;
     })
 
 pub returns : goal.returns
-returns g c =
-    let i = c.loop-number.invariant in
-    let view = c.args.view.now in
-    let m1 = c.choose_all.new.marks in
-    let all : c.loop-number.number ≡ c.args.last + 1 = omega (arith, c.loop-number-test.false, c.loop-number.auto.number-end) in
-    let whole = put_whole (stage_items view.tables.now.book (options_at m1) (plane_in view (depths_of m1))) c.loop-number.number (c.args.last + 1) all i.so_far in
-    let items = plane_whole view c.args.marks.now m1 c.args.last c.choose_all.ensures in
-    record {
-      puts = rw (← items) whole;
-      depths = i.same.depths ∙ c.choose_all.ensures.depths;
-    }
+returns g c = grind (arith, common_steps, put_whole, plane_whole)

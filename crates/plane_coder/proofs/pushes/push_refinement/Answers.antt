@@ -1,6 +1,6 @@
 use Rattle.std.proofs.Common.{◌≡◌, ◌+◌, ◌*◌, ◌-◌, ◌∙◌, ap, sym, subst, arith}
+use Rattle.std.proofs.lemmas.Grind.{common_steps}
 use Rattle.base_122.specs.Profile.{profile}
-use Rattle.plane_defs.specs.Sets.{refined}
 use Rattle.plane_coder.specs.Refining.{refining}
 use Rattle.plane_coder.specs.Appends.{Appends}
 use Rattle.plane_coder.proofs.Appending.{appends_none, appends_less, appends_both}
@@ -8,11 +8,7 @@ use Rattle.plane_coder.proofs.BlockSets.{refining_none, refining_more, refining_
 use Rattle.plane_coder.proofs.pushes.push_refinement.Goals as goal
 
 pub returns-then-not-is_any_of : goal.returns-then-not-is_any_of
-returns-then-not-is_any_of c book =
-    let s = c.args.plane_masks.now in
-    let told = sym c.if-not-is_any_of.true ∙ c.is_any_of.ensures (refined s.block.now s.plan.now.weights.shifts s.plan.now.plane) c.requires.shown in
-    subst (λ l. Appends book c.args.pending.now c.args.pending.now l (4 * (c.args.to - c.args.from))) (refining_nothing s.block.now s.plan.now.weights.shifts s.plan.now.plane (4 * c.args.from) (4 * (c.args.to - c.args.from)) told)
-    (appends_less 0 (4 * (c.args.to - c.args.from)) (omega arith) (appends_none book c.args.pending.now))
+returns-then-not-is_any_of c book = grind (arith, common_steps, refining_nothing, appends_less, appends_none)
 
 pub loop-k-init : goal.loop-k-init
 loop-k-init c = record {

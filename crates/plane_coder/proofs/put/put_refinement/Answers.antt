@@ -1,6 +1,6 @@
-use Rattle.std.proofs.Common.{◌∙◌, sym, subst, arith}
-use Rattle.std.specs.Prelude.{Ok, Err}
+use Rattle.std.proofs.Common.{◌∙◌, sym, subst, arith, Ok, Err}
 use Rattle.std.proofs.lemmas.Result.{err_from_is_err_and}
+use Rattle.std.proofs.lemmas.Grind.{common_steps}
 use Rattle.bit_pipe.specs.Standing.{stand}
 use Rattle.base_122.specs.Profile.{profile}
 use Rattle.plane_defs.specs.Sets.{refined}
@@ -47,13 +47,7 @@ push_refinement-requires-2 g c = record {
 }
 
 pub push_refinement-requires-3 : goal.push_refinement-requires-3
-push_refinement-requires-3 g c = record {
-  order = omega arith;
-  start = omega arith;
-  within = omega arith;
-  shown = c.refined-refined.ensures;
-  room = omega (arith, silent_load c.put.new.self c.in_ok-put.ensures.silent);
-}
+push_refinement-requires-3 g c = grind (arith, common_steps, silent_load)
 
 pub push_refinement-requires-4 : goal.push_refinement-requires-4
 push_refinement-requires-4 g c = record {

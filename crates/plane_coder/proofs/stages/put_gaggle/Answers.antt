@@ -1,63 +1,14 @@
-use Rattle.std.proofs.Common.{◌≡◌, ◌*◌, ◌<◌, ◌∙◌, refl, sym, subst, arith}
-use Rattle.std.specs.Prelude.{Ok}
-use Rattle.std.specs.List.{flat_map}
-use Rattle.std.proofs.lemmas.Result.{err_from_is_err_and}
-use Rattle.bit_pipe.specs.Standing.{stand}
-use Rattle.plane_defs.specs.Entries.{stage_number}
-use Rattle.plane_defs.specs.Spans.{span}
-use Rattle.plane_defs.specs.Planes.{of_block, gaggle_size}
+use Rattle.std.proofs.Common.{sym, subst, arith}
 use Rattle.plane_defs.specs.Marks.{depths_of}
-use Rattle.plane_coder.specs.Spells.{Spells}
+use Rattle.plane_defs.specs.Planes.{of_gaggle}
+use Rattle.plane_coder.specs.Collected.{HasWords}
 use Rattle.plane_coder.specs.Views.{plane_in}
 use Rattle.block_masks.proofs.Marking.{length-depths_of}
-use Rattle.plane_coder.proofs.Sending.{none_spelled, more_spelled, spelled_ended}
+use Rattle.plane_coder.proofs.Collecting.{has_one}
 use Rattle.plane_coder.proofs.stages.put_gaggle.Goals as goal
-
-pub loop-place-init : goal.loop-place-init
-loop-place-init g c =
-    let f = of_block (plane_in c.args.view.now (depths_of c.args.marks.now)) (stage_number g.row.STAGE) in
-    record { so_far = none_spelled f (16 * c.args.g) _ _ c.requires.«open»; is_open = c.requires.«open»; silent = c.requires.silent }
-
-pub put_block_at-requires : goal.put_block_at-requires
-put_block_at-requires g c = record {
-  stage = c.requires.stage;
-  «open» = c.loop-place.invariant.is_open;
-  same = c.requires.same ∙ sym c.loop-place.invariant.so_far.options;
-  silent = c.loop-place.invariant.silent;
-  tables = c.requires.tables;
-  whole = c.requires.whole;
-  within = omega (arith, c.min-place-end.ensures, c.loop-place-test.true, c.requires.within);
-}
-
-pub loop-place-preserved : goal.loop-place-preserved
-loop-place-preserved g c =
-    let i = c.loop-place.invariant in
-    let f = of_block (plane_in c.args.view.now (depths_of c.args.marks.now)) (stage_number g.row.STAGE) in
-    let p = c.in_ok-put_block_at.ensures.spells in
-    record {
-      so_far = more_spelled f (16 * c.args.g) c.loop-place.place _ refl i.so_far p;
-      is_open = p.is_open;
-      silent = c.in_ok-put_block_at.ensures.silent;
-    }
-
-pub returns-in_err-put_block_at : goal.returns-in_err-put_block_at
-returns-in_err-put_block_at g c =
-    let p = err_from_is_err_and c.from_residual.result c.from_residual.ensures.1 in
-    let plane = plane_in c.args.view.now (depths_of c.args.marks.now) in
-    let below : c.loop-place.place < gaggle_size plane c.args.g = omega (arith, c.min-place-end.ensures, c.loop-place-test.true, length-depths_of c.args.marks.now) in
-    record {
-      spells = rw (p.1, p.2)
-          (spelled_ended (of_block plane (stage_number g.row.STAGE)) (16 * c.args.g) c.loop-place.place (gaggle_size plane c.args.g) _ below refl c.loop-place.invariant.so_far c.in_err-put_block_at.ensures.spells);
-      silent = c.in_err-put_block_at.ensures.silent;
-    }
 
 pub returns : goal.returns
 returns g c =
-    let plane = plane_in c.args.view.now (depths_of c.args.marks.now) in
-    let all : c.loop-place.place ≡ gaggle_size plane c.args.g =
-    omega (arith, c.min-place-end.ensures, c.loop-place-test.false, c.loop-place.auto.place-end, length-depths_of c.args.marks.now) in
-    record {
-      spells = subst (λ n. Spells g.O.OctetOut.sink c.args.view.now.tables.now.book c.args.pending.now.gaggle c.loop-place.pending.gaggle (Ok tt) (stand g.O.OctetOut.sink c.args.out.now) (stand g.O.OctetOut.sink c.loop-place.out)
-          (flat_map (of_block plane (stage_number g.row.STAGE)) (span (16 * c.args.g) n))) all c.loop-place.invariant.so_far;
-      silent = c.loop-place.invariant.silent;
-    }
+    let p = plane_in c.args.view.now (depths_of c.args.marks.now) in
+    let has = has_one g.row.STAGE (c.requires.words.at c.args.g c.index-room-g.result (omega (arith, c.requires.within, length-depths_of c.args.marks.now)) c.if-g-room.false) in
+    c.put_stage_words.ensures (λ stage. of_gaggle p stage c.args.g) (subst (HasWords g.row.STAGE (λ stage. of_gaggle p stage c.args.g)) (sym c.index-room-g.is) has)

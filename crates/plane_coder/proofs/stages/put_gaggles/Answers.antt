@@ -1,10 +1,12 @@
-use Rattle.std.proofs.Common.{◌≡◌, ◌*◌, ◌<◌, length, ap, ◌∙◌, refl, sym, subst, arith}
+use Rattle.std.proofs.Common.{◌≡◌, ◌<◌, ap, ◌∙◌, refl, sym, subst, arith}
 use Rattle.block_masks.specs.declared.gaggle.Gaggle.{Gaggle}
 use Rattle.std.proofs.lemmas.Result.{err_from_is_err_and}
+use Rattle.std.proofs.lemmas.Grind.{common_steps}
 use Rattle.plane_defs.specs.Planes.{gaggles, gaggle_items, before_stage}
 use Rattle.plane_defs.specs.Entries.{stage_number}
 use Rattle.plane_defs.specs.Marks.{depths_of}
-use Rattle.block_masks.specs.Gaggles.{Agrees, AreOptions, options_at}
+use Rattle.block_masks.specs.Gaggles.{Agrees, options_at}
+use Rattle.plane_coder.specs.Collected.{AreCollected}
 use Rattle.plane_coder.specs.Views.{plane_in}
 use Rattle.block_masks.proofs.Marking.{length-depths_of}
 use Rattle.block_masks.proofs.Marking.{same_marks, same_stored}
@@ -14,31 +16,13 @@ use Rattle.plane_coder.proofs.Quiet.{quiet_puts, quiet_agree}
 use Rattle.plane_coder.proofs.stages.put_gaggles.Goals as goal
 
 pub returns-then-is_quiet : goal.returns-then-is_quiet
-returns-then-is_quiet g c =
-    let m0 = c.args.marks.now in
-    let p = plane_in c.args.view.now (depths_of m0) in
-    let quiet = rw c.if-is_quiet.true at c.is_quiet.ensures in
-    record {
-      puts = quiet_puts p quiet.1 c.args.view.now.tables.now.book (options_at m0) g.row.STAGE _ quiet.0 c.requires.open;
-      is_open = c.requires.open;
-      agree = quiet_agree p quiet.1 m0 g.row.STAGE quiet.0 c.requires.agree;
-      kept = same_marks m0;
-    }
+returns-then-is_quiet g c = grind (arith, common_steps, quiet_puts, quiet_agree, same_marks)
 
 pub loop-g-init : goal.loop-g-init
-loop-g-init g c =
-    let p = plane_in c.args.view.now (depths_of c.args.marks.now) in
-    record {
-      so_far = none_put (gaggle_items c.args.view.now.tables.now.book (options_at c.args.marks.now) p g.row.STAGE) _ c.requires.open;
-      is_open = c.requires.open;
-      same = same_marks c.args.marks.now;
-      agree = none_agree p g.row.STAGE c.args.marks.now c.requires.agree;
-    }
+loop-g-init g c = grind (arith, common_steps, none_put, same_marks, none_agree)
 
-pub new-pending-requires : goal.new-pending-requires
-new-pending-requires g c =
-    let within : 16 * c.loop-g.g < length c.args.marks.now = omega (arith, c.div_ceil-g-end.ensures, c.loop-g-test.true) in
-    subst AreOptions (sym (c.load.ensures.options ∙ c.loop-g.invariant.same.options c.loop-g.g)) (c.requires.known.at c.loop-g.g within)
+pub put_gaggle-requires-clause-words : goal.put_gaggle-requires-clause-words
+put_gaggle-requires-clause-words g c = subst (λ d. AreCollected (plane_in c.args.view.now d) c.args.room.now) (sym c.loop-g.invariant.same.depths) c.requires.words
 
 pub loop-g-preserved : goal.loop-g-preserved
 loop-g-preserved g c =
@@ -51,12 +35,12 @@ loop-g-preserved g c =
     let gaggle = c.new-pending.ensures.gaggle in
     let options = ap (λ (h : Gaggle). h.options) gaggle ∙ c.load.ensures.options ∙ i.same.options c.loop-g.g in
     let agrees = subst (λ f. Agrees f (before_stage p g.row.STAGE c.loop-g.g)) (sym (ap (λ (h : Gaggle). h.sent) gaggle ∙ c.load.ensures.sent)) (i.agree.todo c.loop-g.g (omega arith) below) in
-    let put = gaggle_puts view (depths_of m0) (depths_of m1) (options_at m0) (stage_number g.row.STAGE) g.row.STAGE c.loop-g.g i.same.depths refl options agrees c.in_ok-put_gaggle.ensures.spells in
-    let later = gaggle_agrees view (depths_of m0) (depths_of m1) (stage_number g.row.STAGE) g.row.STAGE c.loop-g.g i.same.depths refl agrees c.in_ok-put_gaggle.ensures.spells in
+    let put = gaggle_puts view (depths_of m0) (depths_of m1) (options_at m0) (stage_number g.row.STAGE) g.row.STAGE c.loop-g.g i.same.depths refl options agrees c.in_ok-put_gaggle.ensures in
+    let later = gaggle_agrees view (depths_of m0) (depths_of m1) (stage_number g.row.STAGE) g.row.STAGE c.loop-g.g i.same.depths refl agrees c.in_ok-put_gaggle.ensures in
     record {
       so_far = more_put (gaggle_items view.tables.now.book (options_at m0) p g.row.STAGE) c.loop-g.g i.so_far put.ends;
-      is_open = c.in_ok-put_gaggle.ensures.spells.is_open;
-      same = same_stored m0 m1 _ c.loop-g.g _ i.same c.store.ensures (c.in_ok-put_gaggle.ensures.spells.options ∙ ap (λ (h : Gaggle). h.options) gaggle ∙ c.load.ensures.options);
+      is_open = c.in_ok-put_gaggle.ensures.is_open;
+      same = same_stored m0 m1 _ c.loop-g.g _ i.same c.store.ensures (c.in_ok-put_gaggle.ensures.options ∙ ap (λ (h : Gaggle). h.options) gaggle ∙ c.load.ensures.options);
       agree = more_agree p g.row.STAGE m1 _ c.loop-g.g _ i.agree c.store.ensures later;
     }
 
@@ -72,7 +56,7 @@ returns-in_err-put_gaggle g c =
     let gaggle = c.new-pending.ensures.gaggle in
     let options = ap (λ (h : Gaggle). h.options) gaggle ∙ c.load.ensures.options ∙ i.same.options c.loop-g.g in
     let agrees = subst (λ f. Agrees f (before_stage p g.row.STAGE c.loop-g.g)) (sym (ap (λ (h : Gaggle). h.sent) gaggle ∙ c.load.ensures.sent)) (i.agree.todo c.loop-g.g (omega arith) below) in
-    let put = gaggle_puts view (depths_of m0) (depths_of m1) (options_at m0) (stage_number g.row.STAGE) g.row.STAGE c.loop-g.g i.same.depths refl options agrees c.in_err-put_gaggle.ensures.spells in
+    let put = gaggle_puts view (depths_of m0) (depths_of m1) (options_at m0) (stage_number g.row.STAGE) g.row.STAGE c.loop-g.g i.same.depths refl options agrees c.in_err-put_gaggle.ensures in
     rw (e.1, e.2) (record {
       puts = put_ended (gaggle_items view.tables.now.book (options_at m0) p g.row.STAGE) c.loop-g.g (gaggles p) below i.so_far put;
       is_open = tt;

@@ -1,4 +1,4 @@
-use Rattle.std.specs.List.{flat_map}
+use Rattle.std.proofs.Common.{flat_map}
 use Rattle.item_defs.specs.Items.{text}
 use Rattle.bit_pipe.specs.Standing.{stand, IsOpen, Adds}
 use Rattle.plane_defs.specs.Spans.{span}

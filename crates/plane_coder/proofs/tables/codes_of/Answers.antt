@@ -1,5 +1,4 @@
-use Rattle.std.proofs.Common.{◌≢◌, ◌<◌, length, arith, below_more, get_or-set_other, get_or-set_same, refl, ◌∙◌}
-use Rattle.std.proofs.Math.ListN.{length-set}
+use Rattle.std.proofs.Common.{◌≢◌, ◌<◌, length, arith, below_more, get_or-set_other, get_or-set_same, refl, ◌∙◌, length-set}
 use Rattle.plane_coder.proofs.CodeRows.{coded_word, word_within, all_words}
 use Rattle.plane_coder.proofs.tables.codes_of.Goals as goal
 

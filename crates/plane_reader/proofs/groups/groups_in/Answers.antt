@@ -1,4 +1,5 @@
 use Rattle.std.proofs.Common.{rules, ◌≡◌, ◌+◌, ◌*◌, ◌%◌, ◌^◌, ◌<◌, ◌≤◌, ◌++◌, ◌∙◌, false, refl, ap, sym, subst, arith}
+use Rattle.std.proofs.lemmas.Grind.{common_steps}
 use Rattle.item_defs.specs.Bits.{bit}
 use Rattle.block_masks.proofs.Viewing.{from_zero}
 use Rattle.bit_pipe.specs.Coming.{Takes}
@@ -26,20 +27,13 @@ loop-read-init c = record {
 }
 
 pub overflow_add-start : goal.overflow_add-start
-overflow_add-start c =
-    let inside = bit_inside c.loop-read.read.left c.args.groups.count c.first_in-j.result c.loop-read.invariant.small c.first_in-j.ensures.here in
-    let room : c.args.groups.first + 4 * c.first_in-j.result < 2 ^ 8 = omega (arith, inside, c.requires.within) in
-    search rules
+overflow_add-start c = grind (arith, common_steps, bit_inside)
 
 pub part-here-requires-clause-at : goal.part-here-requires-clause-at
-part-here-requires-clause-at c =
-    let inside = bit_inside c.loop-read.read.left c.args.groups.count c.first_in-j.result c.loop-read.invariant.small c.first_in-j.ensures.here in
-    omega (arith, inside, c.requires.within)
+part-here-requires-clause-at c = grind (arith, common_steps, bit_inside)
 
 pub add_bits-requires-clause-start : goal.add_bits-requires-clause-start
-add_bits-requires-clause-start c =
-    let inside = bit_inside c.loop-read.read.left c.args.groups.count c.first_in-j.result c.loop-read.invariant.small c.first_in-j.ensures.here in
-    omega (arith, inside, c.requires.within)
+add_bits-requires-clause-start c = grind (arith, common_steps, bit_inside)
 
 pub add_bits-requires-clause-room : goal.add_bits-requires-clause-room
 add_bits-requires-clause-room c =
@@ -47,9 +41,7 @@ add_bits-requires-clause-room c =
     room_four c.in-Some.types.new (c.args.groups.first + 4 * c.first_in-j.result) (omega (arith, inside, c.requires.within)) c.in-Some.ensures.new.small
 
 pub add_minus-requires-clause-start : goal.add_minus-requires-clause-start
-add_minus-requires-clause-start c =
-    let inside = bit_inside c.loop-read.read.left c.args.groups.count c.first_in-j.result c.loop-read.invariant.small c.first_in-j.ensures.here in
-    omega (arith, inside, c.requires.within)
+add_minus-requires-clause-start c = grind (arith, common_steps, bit_inside)
 
 pub add_minus-requires-clause-room : goal.add_minus-requires-clause-room
 add_minus-requires-clause-room c =

@@ -1,5 +1,4 @@
-use Rattle.std.proofs.Common.{◌≡◌, ℕ, ℤ, ◌*◌, ◌%◌, ◌<◌, ◌≤◌, ◌^◌, Bool, List}
-use Rattle.std.specs.Prelude.{Option}
+use Rattle.std.proofs.Common.{◌≡◌, ℕ, ℤ, ◌*◌, ◌%◌, ◌<◌, ◌≤◌, ◌^◌, Bool, List, Option}
 use Rattle.plane_defs.specs.Steps.{Step}
 use Rattle.block_masks.specs.declared.gaggle.Gaggle.{Gaggle}
 use Rattle.bit_pipe.specs.Sources.{Tail}

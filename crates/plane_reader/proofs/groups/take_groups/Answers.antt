@@ -1,5 +1,6 @@
-use Rattle.std.proofs.Common.{rules, ◌≡◌, ◌+◌, ◌*◌, ◌^◌, ◌<◌, ◌∙◌, arith, ap, refl}
+use Rattle.std.proofs.Common.{◌≡◌, ◌+◌, ◌<◌, ◌∙◌, arith, ap, refl}
 use Rattle.std.proofs.lemmas.Result.{err_from_is_err_and}
+use Rattle.std.proofs.lemmas.Grind.{common_steps}
 use Rattle.bit_pipe.specs.Coming.{coming}
 use Rattle.bit_pipe.proofs.Taking.{takes_start}
 use Rattle.plane_reader.proofs.SignsPassed.{bit_inside}
@@ -69,12 +70,7 @@ pub loop-left-smaller : goal.loop-left-smaller
 loop-left-smaller g c = omega (arith, c.take_from_window-left-in-loop-left.ensures.fewer, c.without.ensures.fewer c.first_in-j.ensures.here)
 
 pub overflow_add-group : goal.overflow_add-group
-overflow_add-group g c =
-    let inside = bit_inside c.loop-left.left c.args.groups.count c.first_in-j.result c.loop-left.invariant.small c.first_in-j.ensures.here in
-    let room : c.args.groups.first + 4 * c.first_in-j.result < 2 ^ 8 = omega (arith, inside, c.requires.within) in
-    search rules
+overflow_add-group g c = grind (arith, common_steps, bit_inside)
 
 pub take_types-requires-clause-start : goal.take_types-requires-clause-start
-take_types-requires-clause-start g c =
-    let inside = bit_inside c.loop-left.left c.args.groups.count c.first_in-j.result c.loop-left.invariant.small c.first_in-j.ensures.here in
-    omega (arith, inside, c.requires.within)
+take_types-requires-clause-start g c = grind (arith, common_steps, bit_inside)

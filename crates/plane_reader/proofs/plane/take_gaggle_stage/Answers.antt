@@ -1,5 +1,6 @@
 use Rattle.std.proofs.Common.{◌+◌, ◌-◌, ◌*◌, ◌<◌, ◌∙◌, arith, length}
 use Rattle.std.proofs.lemmas.Result.{err_from_is_err_and}
+use Rattle.std.proofs.lemmas.Grind.{common_steps}
 use Rattle.bit_pipe.specs.Coming.{coming}
 use Rattle.plane_reader.specs.BlocksShown.{shown}
 use Rattle.plane_reader.proofs.GaggleMarks.{keeps_none, keeps_one, keeps_then, acs_stay, put_long}
@@ -46,9 +47,7 @@ returns-in_err-take_block-clause-advances g c =
     })
 
 pub returns-in_err-take_block-clause-marks : goal.returns-in_err-take_block-clause-marks
-returns-in_err-take_block-clause-marks g c =
-    let h = c.in_err-take_block.ensures in
-    keeps_one c.args.marks.now c.loop-r.marks c.loop-r.r c.take_block.new.mark (omega (arith, c.loop-r-test.true, c.min-r-end.ensures, c.loop-r.auto.marks)) h.depth h.options h.sent c.loop-r.invariant.marks
+returns-in_err-take_block-clause-marks g c = grind (arith, common_steps, keeps_one)
 
 pub returns-in_default-clause-advances : goal.returns-in_default-clause-advances
 returns-in_default-clause-advances g c =
@@ -65,9 +64,7 @@ returns-in_default-clause-advances g c =
     }
 
 pub returns-in_default-clause-marks : goal.returns-in_default-clause-marks
-returns-in_default-clause-marks g c =
-    let h = c.in_ok-take_block.ensures in
-    keeps_one c.args.marks.now c.loop-r.marks c.loop-r.r c.take_block.new.mark (omega (arith, c.loop-r-test.true, c.min-r-end.ensures, c.loop-r.auto.marks)) h.depth h.options h.sent c.loop-r.invariant.marks
+returns-in_default-clause-marks g c = grind (arith, common_steps, keeps_one)
 
 pub returns-clause-advances : goal.returns-clause-advances
 returns-clause-advances g c =

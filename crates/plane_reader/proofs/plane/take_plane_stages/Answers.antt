@@ -1,5 +1,6 @@
-use Rattle.std.proofs.Common.{◌+◌, ◌∙◌, refl, arith}
+use Rattle.std.proofs.Common.{◌+◌, ◌∙◌, arith}
 use Rattle.std.proofs.lemmas.Result.{err_from_is_err_and}
+use Rattle.std.proofs.lemmas.Grind.{common_steps}
 use Rattle.bit_pipe.specs.Coming.{coming}
 use Rattle.plane_reader.specs.Progress.{start_of}
 use Rattle.plane_reader.proofs.GaggleMarks.{acs_then}
@@ -7,12 +8,7 @@ use Rattle.plane_reader.proofs.PlaneEnds.{plane_begins, is_coded, plane_ends}
 use Rattle.plane_reader.proofs.plane.take_plane_stages.Goals as goal
 
 pub loop-number-init : goal.loop-number-init
-loop-number-init g c = record {
-  so_far = plane_begins g.I.OctetIn.source c.args.terms.now.tables.now.book c.args.terms.now.plan.now c.args.marks.now c.clear.new.marks c.args.blocks.now c.args.waiting.now (coming c.args.input.now) c.requires.nothing c.requires.awaits c.clear.ensures c.requires.«open»;
-  depths = c.clear.ensures.depths;
-  acs = λ r low p ac. refl;
-  size = refl;
-}
+loop-number-init g c = grind (arith, common_steps, plane_begins)
 
 pub take_stage-requires-clause-goes : goal.take_stage-requires-clause-goes
 take_stage-requires-clause-goes g c = record {

@@ -1,7 +1,7 @@
-use Rattle.std.proofs.Common.{◌≡◌, ◌≤◌, ◌%◌, ◌^◌, bit_and, subst, sym, arith}
-use Rattle.std.specs.Prelude.{count_ones}
+use Rattle.std.proofs.Common.{◌≡◌, ◌≤◌, ◌%◌, ◌^◌, bit_and, subst, sym, arith, count_ones}
 use lib.Count.{ones-le}
 use Rattle.std.proofs.lemmas.Nat.{and_mask, ones_le_self}
+use Rattle.std.proofs.lemmas.Grind.{common_steps}
 use Rattle.plane_reader.specs.Refining.{IsFront}
 use Rattle.plane_reader.proofs.Dealing.{front_ones, front_all, front_low}
 use Rattle.plane_reader.proofs.refine.served.Goals as goal
@@ -13,10 +13,7 @@ low_part : (mask : _) → bit_and mask 72057594037927935 ≡ mask % 2 ^ 56
 low_part mask = and_mask mask 56
 
 pub returns-else-mask-le56-clause-some : goal.returns-else-mask-le56-clause-some
-returns-else-mask-le56-clause-some c =
-    let low = c.args.mask % 2 ^ 56 in
-    let most : count_ones low ≤ low = ones_le_self low in
-    omega (arith, low_part c.args.mask, most, front_ones c.args.mask c.ranges.mask.fits, c.if-mask-le56.false)
+returns-else-mask-le56-clause-some c = grind (arith, common_steps, ones_le_self, low_part, front_ones)
 
 pub returns-else-mask-le56-clause-few : goal.returns-else-mask-le56-clause-few
 returns-else-mask-le56-clause-few c =

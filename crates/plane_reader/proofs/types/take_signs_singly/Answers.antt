@@ -1,5 +1,6 @@
 use Rattle.std.proofs.Common.{◌<◌, ◌+◌, arith, sym}
 use Rattle.std.proofs.lemmas.Result.{err_from_is_err_and}
+use Rattle.std.proofs.lemmas.Grind.{common_steps}
 use Rattle.bit_pipe.proofs.Taking.{takes_start}
 use Rattle.plane_reader.proofs.SignPieces.{flag_in, one_shown}
 use Rattle.plane_reader.proofs.SignsPassed.{bit_inside, signs_start, signs_all, signs_more, signs_missing, signs_fault}
@@ -53,6 +54,4 @@ add_minus-requires-clause-room g c =
     room_one c.one.result (c.args.start + c.first_in-k.result) (omega (arith, inside, c.requires.within)) c.one.ensures.within
 
 pub add_minus-requires-clause-start : goal.add_minus-requires-clause-start
-add_minus-requires-clause-start g c =
-    let inside = bit_inside c.loop-left.left c.args.count c.first_in-k.result c.loop-left.invariant.small c.first_in-k.ensures.here in
-    omega (arith, inside, c.requires.within)
+add_minus-requires-clause-start g c = grind (arith, common_steps, bit_inside)

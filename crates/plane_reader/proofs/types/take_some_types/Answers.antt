@@ -1,5 +1,7 @@
 use Rattle.std.proofs.Common.{◌≡◌, true, false, inl, inr, sym, ◌∙◌}
 use Rattle.std.proofs.lemmas.Result.{err_from_is_err_and}
+use Rattle.std.proofs.Common.{arith}
+use Rattle.std.proofs.lemmas.Grind.{common_steps}
 use Rattle.plane_reader.proofs.WordTests.{due_within, places_fault, places_missing, some_given, some_false}
 use Rattle.plane_reader.proofs.types.take_some_types.Goals as goal
 
@@ -30,6 +32,4 @@ returns-clause-places g c = λ f stage earlier done tells start count due so aft
     never e = cc
 
 pub returns-clause-small : goal.returns-clause-small
-returns-clause-small g c = λ count few below.
-    let d = rw c.in-Some.is at c.in_ok-places.ensures in
-    due_within d count few below
+returns-clause-small g c = grind (arith, common_steps, due_within)

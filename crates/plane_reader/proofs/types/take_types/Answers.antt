@@ -1,5 +1,4 @@
-use Rattle.std.proofs.Common.{rules, ◌≡◌, false, sym, subst}
-use Rattle.std.specs.Prelude.{Ok, Some}
+use Rattle.std.proofs.Common.{rules, ◌≡◌, false, sym, subst, Ok, Some}
 use Rattle.item_defs.specs.Bits.{bit}
 use Rattle.bit_pipe.specs.Coming.{coming}
 use Rattle.plane_defs.specs.Spans.{span}

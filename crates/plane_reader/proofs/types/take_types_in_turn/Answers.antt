@@ -1,5 +1,4 @@
-use Rattle.std.proofs.Common.{arith}
-use Rattle.std.specs.Prelude.{filter}
+use Rattle.std.proofs.Common.{arith, filter}
 use Rattle.plane_defs.specs.Spans.{span}
 use Rattle.plane_defs.specs.Sets.{significant, type_due}
 use Rattle.plane_defs.specs.Steps.{types_at}
@@ -35,8 +34,3 @@ returns-clause-types g c = λ f stage earlier done mask after next seen.
     let t = rw c.in-Some.is at c.in_ok-new.ensures in
     let w = t.places f stage earlier done (types_at (filter (type_due f.block f.weights f.plane) (span c.args.group.start c.args.group.count))) c.args.group.start c.args.group.count (type_due f.block f.weights f.plane) (λ v. significant v f.plane) _ (types_word next c.args.due shown) in
     types_given next c.in-Some.new w c.add_bits.ensures.minus c.add_bits.ensures.bits t.options c.take_signs.ensures.signs
-
-pub take_signs-requires-clause-few : goal.take_signs-requires-clause-few
-take_signs-requires-clause-few g c =
-    let t = rw c.in-Some.is at c.in_ok-new.ensures in
-    t.small c.args.group.count c.requires.few c.requires.due

@@ -1,5 +1,7 @@
 use Rattle.std.proofs.Common.{sym, ◌∙◌}
 use Rattle.std.proofs.lemmas.Result.{err_from_is_err_and}
+use Rattle.std.proofs.Common.{arith}
+use Rattle.std.proofs.lemmas.Grind.{common_steps}
 use Rattle.plane_reader.proofs.WordTests.{due_within, places_fault, places_missing, places_given, places_refused, beside_places, wanted_test, shown_here}
 use Rattle.plane_reader.proofs.types.take_wanted.Goals as goal
 
@@ -28,6 +30,4 @@ returns-clause-places g c = λ f stage earlier done tells start count due forced
     places_given next c.in-Some.places d (wanted_test forced next c.in-Some.places d ∙ sym test ∙ c.if-is_any.false)
 
 pub returns-clause-small : goal.returns-clause-small
-returns-clause-small g c = λ count few below.
-    let d = rw c.in-Some.is at c.in_ok-places.ensures in
-    due_within d count few below
+returns-clause-small g c = grind (arith, common_steps, due_within)

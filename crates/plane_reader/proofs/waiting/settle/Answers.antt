@@ -1,16 +1,6 @@
-use Rattle.std.proofs.Common.{◌+◌, ◌*◌, ◌<◌, ◌≤◌, length, arith, refl}
+use Rattle.std.proofs.Common.{◌+◌, ◌*◌, ◌<◌, ◌≤◌, length, arith}
 use Rattle.plane_reader.proofs.Settling.{settles_more, all_settled}
 use Rattle.plane_reader.proofs.waiting.settle.Goals as goal
-
-pub loop-r-init : goal.loop-r-init
-loop-r-init c = record {
-  size = refl;
-  put = λ i lt. absurd (omega (arith, lt));
-  left = λ i le. refl;
-  long = c.told-above;
-  marked = λ i p lt few. absurd (omega (arith, lt));
-  unmarked = λ i le. refl;
-}
 
 pub loop-r-preserved : goal.loop-r-preserved
 loop-r-preserved c =

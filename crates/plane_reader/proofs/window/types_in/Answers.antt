@@ -1,7 +1,4 @@
-use Rattle.std.proofs.Common.{◌+◌, ◌≤◌, ◌<◌, ◌*◌, ◌%◌, ◌^◌, refl, ap, sym, ◌∙◌, subst, inl, inr, arith}
-use Rattle.std.specs.Prelude.{count_ones}
-use Rattle.std.proofs.Math.Pow.{pow_mono}
-use Rattle.std.proofs.lemmas.Bool.{true≢false}
+use Rattle.std.proofs.Common.{◌+◌, ◌≤◌, ◌<◌, ◌*◌, ◌%◌, ◌^◌, refl, ap, sym, ◌∙◌, subst, inl, inr, arith, count_ones, pow_mono, true≢false}
 use Rattle.plane_reader.proofs.DueReading.{few_ones}
 use Rattle.plane_reader.proofs.SignWindows.{word_small}
 use Rattle.block_masks.specs.Picks.{AreSpread}

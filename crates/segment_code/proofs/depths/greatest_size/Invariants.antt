@@ -1,5 +1,4 @@
-use Rattle.std.proofs.Common.{◌≡◌, take}
-use Rattle.std.specs.Prelude.{unsigned_abs}
+use Rattle.std.proofs.Common.{◌≡◌, take, unsigned_abs}
 use Rattle.segment_defs.specs.Size.{greatest}
 use Rattle.segment_code.proofs.depths.greatest_size.Given as goal
 

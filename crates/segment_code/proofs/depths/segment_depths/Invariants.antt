@@ -1,5 +1,4 @@
-use Rattle.std.proofs.Common.{◌≡◌, ◌<◌, ◌≤◌, ℕ, map, get_or}
-use Rattle.std.specs.Prelude.{pos}
+use Rattle.std.proofs.Common.{◌≡◌, ◌<◌, ◌≤◌, ℕ, map, get_or, pos}
 use Rattle.std.specs.List.{range_with_len}
 use Rattle.segment_defs.specs.Size.{greatest}
 use Rattle.wave_defs.specs.Held.{block_at}

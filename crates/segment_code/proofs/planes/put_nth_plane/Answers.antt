@@ -1,7 +1,7 @@
 use Rattle.std.proofs.Common.{◌≡◌, ◌-◌, ap, sym, ◌∙◌, arith}
+use Rattle.std.proofs.lemmas.Grind.{common_steps}
 use Rattle.wave_defs.specs.Held.{blocks_in}
 use Rattle.segment_defs.specs.SegmentItems.{stages_sent, nth_plane}
-use Rattle.plane_defs.specs.Marks.{depths_of}
 use Rattle.plane_coder.specs.Coders.{book_of}
 use Rattle.segment_code.proofs.PlaneParts.{plane_put, none_sent}
 use Rattle.segment_code.proofs.planes.put_nth_plane.Goals as goal
@@ -14,10 +14,4 @@ returns-then-stages-eq0-clause-puts g c =
     none_sent g.O.OctetOut.sink _ (book_of c.args.coder.now) h (blocks_in c.args.blocks.now) c.args.n c.requires.open stages
 
 pub returns-clause-puts : goal.returns-clause-puts
-returns-clause-puts g c =
-    let h = c.args.head.now in
-    let plan = c.plane_plan-plan in
-    let place : nth_plane h c.args.n ≡ h.depth_ac - 1 - c.args.n = omega arith in
-    let stages : stages_sent h (nth_plane h c.args.n) ≡ c.stages_sent-stages.result = ap (stages_sent h) place ∙ sym c.stages_sent-stages.ensures.is in
-    plane_put (book_of c.args.coder.now) h c.args.blocks.now (depths_of c.args.marks.now) plan.result c.args.n c.requires.depths
-    (plan.ensures.plane ∙ sym place) plan.ensures.q plan.ensures.weights (omega (arith, plan.ensures.last, stages, c.if-stages-eq0.false)) c.put.ensures.puts
+returns-clause-puts g c = grind (arith, common_steps, plane_put)

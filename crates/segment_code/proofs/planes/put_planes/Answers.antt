@@ -1,5 +1,6 @@
-use Rattle.std.proofs.Common.{◌≡◌, ◌<◌, refl, ◌∙◌, arith}
+use Rattle.std.proofs.Common.{◌≡◌, ◌<◌, ◌∙◌, arith}
 use Rattle.std.proofs.lemmas.Result.{err_from_is_err_and}
+use Rattle.std.proofs.lemmas.Grind.{common_steps}
 use Rattle.wave_defs.specs.Held.{blocks_in}
 use Rattle.bit_pipe.proofs.Putting.{open_later}
 use Rattle.plane_coder.proofs.Sending.{none_put, more_put, put_ended, put_whole}
@@ -7,13 +8,7 @@ use Rattle.segment_code.specs.Parts.{coded_plane}
 use Rattle.segment_code.proofs.planes.put_planes.Goals as goal
 
 pub loop-n-init : goal.loop-n-init
-loop-n-init g c = record {
-  so_far = none_put (coded_plane c.args.tables.now.book c.args.head.now (blocks_in c.args.blocks.now)) _ c.requires.open;
-  is_open = c.requires.open;
-  depths = refl;
-  book = c.new-coder.ensures.book;
-  keeps = c.new-coder.ensures.keeps c.args.blocks.now;
-}
+loop-n-init g c = grind (arith, common_steps, none_put)
 
 pub put_nth_plane-requires-clause-open : goal.put_nth_plane-requires-clause-open
 put_nth_plane-requires-clause-open g c = c.loop-n.invariant.is_open
@@ -22,17 +17,7 @@ pub put_nth_plane-requires-clause-depths : goal.put_nth_plane-requires-clause-de
 put_nth_plane-requires-clause-depths g c = c.loop-n.invariant.depths ∙ c.requires.depths
 
 pub loop-n-preserved : goal.loop-n-preserved
-loop-n-preserved g c =
-    let i = c.loop-n.invariant in
-    let p = c.in_ok-put_nth_plane.ensures in
-    let puts = rw i.book at p.puts in
-    record {
-      so_far = more_put (coded_plane c.args.tables.now.book c.args.head.now (blocks_in c.args.blocks.now)) c.loop-n.n i.so_far puts.ends;
-      is_open = open_later i.is_open puts.ends;
-      depths = p.depths ∙ i.depths;
-      book = p.book ∙ i.book;
-      keeps = p.keeps;
-    }
+loop-n-preserved g c = grind (arith, common_steps, more_put, open_later)
 
 pub returns-in_err-put_nth_plane : goal.returns-in_err-put_nth_plane
 returns-in_err-put_nth_plane g c =

@@ -1,6 +1,7 @@
 use Rattle.std.proofs.Common.{◌≡◌, ◌+◌, arith, refl, ◌∙◌}
 use Rattle.std.proofs.lemmas.Result.{err_from_is_err_and}
 use Rattle.std.proofs.lemmas.Bool.Decides.{nat_tests}
+use Rattle.std.proofs.lemmas.Grind.{common_steps}
 use Rattle.bit_pipe.specs.Coming.{coming}
 use Rattle.plane_defs.specs.Marks.{depths_of}
 use Rattle.segment_defs.specs.declared.head.SegmentHead.{SegmentHead}
@@ -16,20 +17,13 @@ pub returns-then-head-clause-takes : goal.returns-then-head-clause-takes
 returns-then-head-clause-takes g c = none_sent g.I.OctetIn.source c.args.tables.now.book c.args.head.now (depths_of c.args.marks.now) (coming c.args.input.now) c.args.blocks.now c.requires.open c.requires.dcs (omega arith)
 
 pub returns-in_err-take_whole_planes-clause-takes : goal.returns-in_err-take_whole_planes-clause-takes
-returns-in_err-take_whole_planes-clause-takes g c =
-    let e = err_from_is_err_and c.from_residual.result c.from_residual.ensures.1 in
-    rw (e.1, e.2) c.in_err-take_whole_planes.ensures.takes.ends
+returns-in_err-take_whole_planes-clause-takes g c = grind (arith, common_steps, err_from_is_err_and)
 
 pub returns-in_default-clause-takes : goal.returns-in_default-clause-takes
 returns-in_default-clause-takes g c = let t = rw c.in_default.is at c.in_ok-take_whole_planes.ensures.takes in t.ends
 
 pub take_stages_sent-requires-clause-open : goal.take_stages_sent-requires-clause-open
 take_stages_sent-requires-clause-open g c = let t = rw c.in-Whole.is at c.in_ok-take_whole_planes.ensures.takes in in_above c.requires.open t.ends
-
-pub take_stages_sent-requires-clause-awaits : goal.take_stages_sent-requires-clause-awaits
-take_stages_sent-requires-clause-awaits g c =
-    let t = rw c.in-Whole.is at c.in_ok-take_whole_planes.ensures.takes in
-    rw c.in_ok-take_whole_planes.ensures.depths t.ends.awaits
 
 pub returns-clause-takes : goal.returns-clause-takes
 returns-clause-takes g c =

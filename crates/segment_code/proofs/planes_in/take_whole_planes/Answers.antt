@@ -64,14 +64,6 @@ loop-n-preserved g c =
       is_in = in_whole c.loop-n.invariant.is_in ended t.read;
     }
 
-pub returns-clause-takes : goal.returns-clause-takes
-returns-clause-takes g c =
-    let head = c.args.head.now in
-    let last : head.depth_ac - 1 - c.loop-n.n ≡ head.stop.plane = omega (arith, c.loop-n-test.false, c.loop-n.auto.n-end, c.requires.sent) in
-    record {
-      ends = subst (λ p. PlanesAbove g.I.OctetIn.source c.args.tables.now.book head (depths_of c.args.marks.now) p (coming c.args.input.now) (coming c.loop-n.input) c.args.blocks.now c.loop-n.blocks) last c.loop-n.invariant.above;
-    }
-
 pub take_stages_sent-requires-clause-above : goal.take_stages_sent-requires-clause-above
 take_stages_sent-requires-clause-above g c =
     let head = c.args.head.now in

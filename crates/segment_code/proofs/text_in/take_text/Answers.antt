@@ -1,5 +1,6 @@
 use Rattle.std.proofs.Common.{◌≡◌, ◌*◌, length, arith}
 use Rattle.std.proofs.lemmas.Result.{err_from_is_err_and}
+use Rattle.std.proofs.lemmas.Grind.{common_steps}
 use Rattle.bit_pipe.proofs.Endings.{whole_ending, ended_cut, err_cut, in_whole}
 use Rattle.segment_code.proofs.PartReads.{dc_stops, dc_cut, depths_cut, dcs_before, marks_are, planes_read}
 use Rattle.segment_code.proofs.text_in.take_text.Goals as goal
@@ -18,15 +19,10 @@ returns-in_default-clause-takes g c =
     dc_cut c.args.tables.now.book c.args.tables.now.sound c.args.head.now c.requires.fits t c.requires.clear (omega (arith, c.requires.count, c.requires.marks)) (ended_cut t.ending t.answer)
 
 pub returns-then-head-clause-takes : goal.returns-then-head-clause-takes
-returns-then-head-clause-takes g c =
-    let p = c.plan_of-plan.ensures in
-    let t = rw (p.dc, p.ac, p.shift, c.in-Whole.is) at c.in_ok-take_dc.ensures in
-    dc_stops c.args.tables.now.book c.args.tables.now.sound c.args.head.now c.requires.fits t c.requires.clear (omega (arith, c.requires.count, c.requires.marks)) c.if-head.true
+returns-then-head-clause-takes g c = grind (arith, common_steps, dc_stops)
 
 pub take_depths-requires-clause-open : goal.take_depths-requires-clause-open
-take_depths-requires-clause-open g c =
-    let t = rw c.in-Whole.is at c.in_ok-take_dc.ensures in
-    in_whole c.requires.open (whole_ending t.ending t.answer) t.read
+take_depths-requires-clause-open g c = grind (arith, common_steps, in_whole, whole_ending)
 
 pub returns-in_err-take_depths-clause-takes : goal.returns-in_err-take_depths-clause-takes
 returns-in_err-take_depths-clause-takes g c =
@@ -44,10 +40,7 @@ returns-in_default-2-clause-takes g c =
     depths_cut c.args.tables.now.book c.args.tables.now.sound c.args.head.now c.requires.fits t c.requires.clear (omega (arith, c.requires.count, c.requires.marks)) (whole_ending t.ending t.answer) c.if-head.false d (omega (arith, c.take_depths.auto.marks, c.requires.marks)) (ended_cut d.ending d.answer)
 
 pub take_planes-requires-clause-open : goal.take_planes-requires-clause-open
-take_planes-requires-clause-open g c =
-    let t = rw c.in-Whole.is at c.in_ok-take_dc.ensures in
-    let d = rw c.in-Whole-2.is at c.in_ok-take_depths.ensures in
-    in_whole (in_whole c.requires.open (whole_ending t.ending t.answer) t.read) (whole_ending d.ending d.answer) d.read
+take_planes-requires-clause-open g c = grind (arith, common_steps, in_whole, whole_ending)
 
 pub take_planes-requires-clause-dcs : goal.take_planes-requires-clause-dcs
 take_planes-requires-clause-dcs g c =

@@ -1,8 +1,8 @@
 use Rattle.std.proofs.Common.{◌≡◌, sym}
 use Rattle.std.proofs.lemmas.Result.{err_from_is_err_and}
 use Rattle.segment_defs.specs.Reading.{head_in}
-use Rattle.segment_head.proofs.ReadHeads.{read_fits}
-use Rattle.segment_head.proofs.HeadTests.{passed, refused, refused_presence, refused_support, refused_depths, refused_values, passed_all}
+use Rattle.segment_defs.proofs.ReadHeads.{read_fits}
+use Rattle.segment_defs.proofs.HeadTests.{passed, refused, refused_presence, refused_support, refused_depths, refused_values, passed_all}
 use Rattle.segment_head.proofs.read.read_head.Goals as goal
 
 pub returns-in_err-check_presence-clause-value : goal.returns-in_err-check_presence-clause-value

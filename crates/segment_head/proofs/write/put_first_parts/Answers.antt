@@ -1,5 +1,4 @@
-use Rattle.std.proofs.Common.{refl}
-use Rattle.std.specs.List.{flat_map}
+use Rattle.std.proofs.Common.{refl, flat_map}
 use Rattle.std.proofs.lemmas.Result.{err_from_is_err_and}
 use Rattle.segment_defs.specs.Head.{part_3, field_bits}
 use Rattle.segment_head.proofs.PuttingFields.{put_both, put_cut, first_bits}

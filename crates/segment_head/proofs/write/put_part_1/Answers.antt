@@ -1,5 +1,4 @@
-use Rattle.std.proofs.Common.{◌∷◌, [], ◌++◌, map, ◌∙◌, ap}
-use Rattle.std.specs.List.{flat_map}
+use Rattle.std.proofs.Common.{◌∷◌, [], ◌++◌, map, ◌∙◌, ap, flat_map}
 use Rattle.std.proofs.lemmas.Result.{err_from_is_err_and}
 use Rattle.segment_defs.specs.Head.{part_1b, field, field_bits}
 use Rattle.segment_head.specs.Parts.{part_1}

@@ -1,11 +1,10 @@
-use Rattle.std.proofs.Common.{◌++◌, [], ◌∷◌, ap, ◌∙◌, arith, length}
-use Rattle.std.specs.List.{flat_map}
+use Rattle.std.proofs.Common.{◌++◌, [], ◌∷◌, ap, ◌∙◌, arith, length, flat_map}
 use Rattle.std.proofs.lemmas.Result.{err_from_is_err_and}
 use Rattle.bit_pipe.proofs.Putting.{puts_ended}
 use Rattle.segment_head.specs.Writing.{plain_fields}
 use Rattle.segment_defs.specs.Head.{field_bits, weight_fields, reserved}
 use Rattle.segment_head.proofs.PuttingFields.{put_both, put_cut, part_4_bits, never_stops}
-use Rattle.segment_head.proofs.WrittenFields.{length-bits_in}
+use Rattle.segment_defs.proofs.WrittenFields.{length-bits_in}
 use Rattle.segment_head.proofs.WrittenHeads.{length_4}
 use Rattle.segment_head.proofs.write.put_part_4.Goals as goal
 

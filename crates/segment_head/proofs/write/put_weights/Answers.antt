@@ -1,5 +1,4 @@
-use Rattle.std.proofs.Common.{◌∷◌, [], map, sym}
-use Rattle.std.specs.List.{flat_map}
+use Rattle.std.proofs.Common.{◌∷◌, [], map, sym, flat_map}
 use Rattle.std.proofs.lemmas.Result.{err_from_is_err_and}
 use Rattle.segment_defs.specs.Head.{field, field_bits, weight_fields}
 use Rattle.segment_head.specs.Writing.{said}

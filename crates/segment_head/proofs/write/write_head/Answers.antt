@@ -1,5 +1,4 @@
-use Rattle.std.proofs.Common.{arith}
-use Rattle.std.specs.List.{flat_map}
+use Rattle.std.proofs.Common.{arith, flat_map}
 use Rattle.std.proofs.lemmas.Result.{err_from_is_err_and}
 use Rattle.segment_defs.specs.Head.{part_4, field_bits}
 use Rattle.segment_head.proofs.PuttingFields.{put_both, put_cut, head_bits_parts, never_stops}

@@ -1,5 +1,4 @@
-use Rattle.std.proofs.Common.{refl, pos}
-use Rattle.std.specs.Prelude.{replicate}
+use Rattle.std.proofs.Common.{refl, pos, replicate}
 use Rattle.text_tests.proofs.Awaiting.{one_awaits, pair_awaits}
 use Rattle.text_tests.proofs.planes_read.lowest.Goals as goal
 

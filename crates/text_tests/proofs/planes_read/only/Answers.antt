@@ -1,5 +1,4 @@
-use Rattle.std.proofs.Common.{refl, pos, arith}
-use Rattle.std.specs.Prelude.{replicate}
+use Rattle.std.proofs.Common.{refl, pos, arith, replicate}
 use Rattle.text_tests.proofs.Awaiting.{one_awaits, zeros_await}
 use Rattle.text_tests.proofs.planes_read.only.Goals as goal
 

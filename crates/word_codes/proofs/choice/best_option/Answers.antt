@@ -1,6 +1,6 @@
 use Rattle.std.proofs.Common.{arith, ◌≤◌, ◌<◌, ℕ}
 use Rattle.plane_defs.specs.Choice.{cost}
-use Rattle.word_codes.proofs.Cheapest.{cheapest_is}
+use Rattle.plane_defs.proofs.Cheapest.{cheapest_is}
 use Rattle.word_codes.proofs.choice.best_option.Goals as goal
 
 pub returns-clause-cheapest : goal.returns-clause-cheapest

@@ -1,5 +1,4 @@
-use Rattle.std.proofs.Common.{◌≡◌, ◌≤◌, ◌*◌, take, get_or}
-use Rattle.std.specs.Prelude.{sum, sum_by}
+use Rattle.std.proofs.Common.{◌≡◌, ◌≤◌, ◌*◌, take, get_or, sum, sum_by}
 use Rattle.plane_defs.specs.Spans.{span}
 use Rattle.plane_defs.specs.Choice.{code_length}
 use Rattle.word_codes.proofs.choice.cost_of.Given as goal

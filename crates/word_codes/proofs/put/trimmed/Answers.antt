@@ -1,5 +1,4 @@
-use Rattle.std.proofs.Common.{◌≡◌, ◌*◌, ◌%◌, ◌^◌, ◌≤◌, ap, ◌∙◌, arith}
-use Rattle.std.proofs.Math.Pow.{pow_mono}
+use Rattle.std.proofs.Common.{◌≡◌, ◌*◌, ◌%◌, ◌^◌, ◌≤◌, ap, ◌∙◌, arith, pow_mono}
 use Rattle.item_defs.specs.Bits.{bits_of}
 use Rattle.item_defs.proofs.NumberBits.{bits_of-mod}
 use Rattle.word_codes.proofs.put.trimmed.Goals as goal

@@ -1,5 +1,5 @@
 use Rattle.std.proofs.Common.{arith, ◌≡◌}
-use Rattle.word_codes.proofs.SymbolTables.{symbol-of_two, symbol-of_three, symbol-of_four}
+use Rattle.plane_defs.proofs.SymbolTables.{symbol-of_two, symbol-of_three, symbol-of_four}
 use Rattle.word_codes.proofs.symbols.symbol_of.Goals as goal
 
 pub returns-in-2-clause-value : goal.returns-in-2-clause-value

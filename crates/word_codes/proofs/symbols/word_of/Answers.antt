@@ -1,5 +1,5 @@
 use Rattle.std.proofs.Common.{arith}
-use Rattle.word_codes.proofs.SymbolTables.{word_at_two, word_at_three, word_at_four}
+use Rattle.plane_defs.proofs.SymbolTables.{word_at_two, word_at_three, word_at_four}
 use Rattle.word_codes.proofs.symbols.word_of.Goals as goal
 
 pub returns-in-2-clause-value : goal.returns-in-2-clause-value

@@ -1,5 +1,4 @@
-use Rattle.std.proofs.Common.{◌≢◌, ◌<◌, ◌-◌, ◌*◌, ◌^◌, inl, inr, length, arith, refl, ◌∙◌, get_or-set_other, get_or-set_same}
-use Rattle.std.proofs.Math.ListN.{length-set}
+use Rattle.std.proofs.Common.{◌≢◌, ◌<◌, ◌-◌, ◌*◌, ◌^◌, inl, inr, length, arith, refl, ◌∙◌, get_or-set_other, get_or-set_same, length-set}
 use Rattle.std.proofs.lemmas.Bool.{cases_lt, cases_eq}
 use Rattle.word_codes.proofs.WordFronts.{wide_is, first_is, whole_room, within_is, is_within}
 use Rattle.word_codes.proofs.tables.put_front.Goals as goal

@@ -1,5 +1,5 @@
 use Rattle.std.proofs.Common.{arith}
-use Rattle.word_codes.proofs.Identifiers.{names_no_option}
+use Rattle.plane_defs.proofs.SymbolTables.{names_no_option}
 use Rattle.word_codes.proofs.take.option_named.Goals as goal
 
 pub returns-then-number-eq2 : goal.returns-then-number-eq2

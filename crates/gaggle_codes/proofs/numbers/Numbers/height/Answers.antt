@@ -1,6 +1,4 @@
-use Rattle.std.proofs.Common.{◌<◌, ◌≤◌, ◌*◌, ◌^◌, ◌∙◌, length, ap, sym, arith, rules}
-use Rattle.std.specs.Prelude.{nat_abs}
-use Rattle.std.proofs.Math.Pow.{pow_mono}
+use Rattle.std.proofs.Common.{◌<◌, ◌≤◌, ◌*◌, ◌^◌, ◌∙◌, length, ap, sym, arith, rules, nat_abs, pow_mono}
 use mir.Val.{SFits}
 use mir.Syntax.{w32}
 use Rattle.number_defs.specs.Ranges.{shifted_height}

@@ -5,6 +5,6 @@ use Rattle.plane_coder.proofs.fours.Fours.four.Goals as goal
 pub returns : goal.returns
 returns c = record {
   picked = λ d f n start count p within.
-      picked d f n (start + c.args.at) _ _ _ refl refl (c.part-plain.ensures.told _ start count p.plain within) (c.part-ones.ensures.told _ start count p.ones within);
-  packed = are_packed _ _ _ (omega arith) (omega arith) refl refl;
+      picked d f n (start + c.args.at) _ _ _ refl (c.part-plain.ensures.told _ start count p.plain within) (c.part-ones.ensures.told _ start count p.ones within);
+  packed = are_packed _ _ _ (omega arith) (omega arith) refl;
 }

@@ -1,4 +1,6 @@
 use Rattle.std.proofs.Common.{rules, ◌≡◌, length, refl}
+use Rattle.std.proofs.Common.{arith}
+use Rattle.std.proofs.lemmas.Grind.{common_steps}
 use Rattle.plane_coder.proofs.Appending.{opens_already, opens_first, is_long, is_due}
 use Rattle.plane_coder.proofs.pending.PendingBits.open_first.Goals as goal
 
@@ -6,11 +8,7 @@ pub returns-then-self-length : goal.returns-then-self-length
 returns-then-self-length c = record { opens = opens_already c.args.length c.args.self.now c.requires c.if-self-length.true; load = refl }
 
 pub open-requires : goal.open-requires
-open-requires c = record {
-  short = is_long c.args.length c.args.self.now c.if-self-length.false;
-  long = c.requires;
-  new = is_due c.args.length c.args.self.now c.if-self-length.false;
-}
+open-requires c = grind (arith, common_steps, is_long, is_due)
 
 pub returns : goal.returns
 returns c =

@@ -1,5 +1,5 @@
 use Rattle.std.proofs.Common.{◌+◌, ◌*◌, ◌^◌, ◌<◌, ◌≤◌, ◌%◌, bit_or, ap, sym, ◌∙◌, subst, arith}
-use Rattle.item_defs.specs.Bits.{bits_of}
+use Rattle.std.proofs.lemmas.Grind.{common_steps}
 use Rattle.plane_coder.proofs.Pushing.{joined, joined_below, joined_bits}
 use Rattle.plane_coder.proofs.pending.PendingBits.push.Goals as goal
 
@@ -16,8 +16,4 @@ invariant_of-self c =
     }
 
 pub returns-clause-said : goal.returns-clause-said
-returns-clause-said c =
-    let s = c.args.self.now in
-    let room : s.count + c.args.count ≤ 64 = omega (arith, c.requires.room) in
-    let whole = ap (bit_or (s.value * 2 ^ c.args.count % 18446744073709551616)) c.from.ensures ∙ joined s.value c.args.value s.count c.args.count s.fits c.requires.fits room in
-    ap (bits_of (s.count + c.args.count)) whole ∙ joined_bits s.value c.args.value s.count c.args.count s.fits c.requires.fits
+returns-clause-said c = grind (arith, common_steps, bit_or, joined, joined_bits)

@@ -1,0 +1,31 @@
+use Rattle.std.proofs.Common.{rules, ◌≡◌, ◌+◌, ◌*◌, FitsSigned, w32, get_or, pos, sym, ◌∙◌, slice_range}
+use Rattle.std.proofs.lemmas.Int.{to_z-of_z}
+use Rattle.std.proofs.Common.{arith}
+use Rattle.std.proofs.lemmas.Grind.{common_steps}
+use Rattle.plane_defs.specs.declared.stages.Stage.{Stage}
+use Rattle.plane_defs.specs.declared.stages.Stage.TheVariants as stages
+use Rattle.plane_defs.specs.Marks.{depth_of}
+use Rattle.plane_coder.proofs.Listing.{lists_nothing}
+use Rattle.plane_coder.proofs.Collecting.{collects_same}
+use Rattle.plane_coder.proofs.BlockReads.{stage_there}
+use Rattle.plane_coder.proofs.BlockStages.{shallow}
+use Rattle.plane_coder.proofs.collect.collect_block.Goals as goal
+
+pub returns-then-depth-view : goal.returns-then-depth-view
+returns-then-depth-view c =
+    let fits : FitsSigned w32 (get_or c.args.marks.now c.args.r (pos 0)) = search rules in
+    let depth : c.depth_of-depth.result ≡ depth_of (get_or c.args.marks.now c.args.r (pos 0)) = simp to_z-of_z at c.depth_of-depth.ensures.value in
+    let cells = c.args.view.now.blocks.now in
+    let plan = c.args.view.now.plan.now in
+    let d = c.depth_of-depth.result in
+    let block = slice_range cells (64 * c.args.r) (64 * c.args.r + 64) in
+    let w = plan.weights.shifts in
+    let there = λ (s : Stage). stage_there s cells c.args.marks.now w plan.plane plan.q c.args.r d c.requires.whole c.requires.within depth in
+    record {
+      parents = lists_nothing c.args.words.now.parents _ 1 (sym (shallow stages.Parents block w plan.plane plan.q d (λ e. absurd cc) c.if-depth-view.true) ∙ there stages.Parents);
+      children = lists_nothing c.args.words.now.children _ 5 (sym (shallow stages.Children block w plan.plane plan.q d (λ e. absurd cc) c.if-depth-view.true) ∙ there stages.Children);
+      grandchildren = lists_nothing c.args.words.now.grandchildren _ 16 (sym (shallow stages.Grandchildren block w plan.plane plan.q d (λ e. absurd cc) c.if-depth-view.true) ∙ there stages.Grandchildren);
+    }
+
+pub returns : goal.returns
+returns c = grind (arith, common_steps, w32, get_or, pos, to_z-of_z, slice_range, collects_same, stage_there)
