@@ -1,60 +1,20 @@
 -- A camera's next row is read into its work, and taken.
-use Rattle.std.proofs.Common.{◌≡◌, ◌≤◌, ◌<◌, ◌+◌, ℕ, ℤ, List, ◌++◌, length, sym, ap, ◌∙◌, subst}
-use Rattle.std.specs.Prelude.{Vec, Ok}
-use Rattle.std.specs.Vec.{with_items}
-use Rattle.std.proofs.lemmas.List.{with_items_is}
+use Rattle.std.proofs.Common.{◌+◌, ℕ, ℤ, List, ◌++◌, sym, ap, ◌∙◌, subst, Ok}
 use Rattle.port_122.specs.Outside.{Outside}
 use Rattle.base_122.specs.Ranges.{IsInRange}
-use Rattle.base_122.specs.Sizes.{block_count}
 use Rattle.base_122.specs.declared.setting.Setting.{Setting}
 use Rattle.packet_defs.specs.Packets.{joined}
-use Rattle.wave_defs.specs.Held.{signal}
-use Rattle.wave_defs.specs.Pyramid.{padded}
-use Rattle.wave_strip.specs.Strip.{rows_of, Follows}
-use Rattle.raster_rows.specs.Pixels.{IsPixel, pixel_at}
-use Rattle.raster_rows.specs.RowReads.{FirstInRange, BeginsWith, RowRead}
-use Rattle.stream_defs.specs.Output.{image_blocks}
+use Rattle.raster_rows.specs.Pixels.{IsPixel}
+use Rattle.raster_rows.specs.RowReads.{RowRead}
 use Rattle.stream_defs.specs.SettledImages.{front_packets, settled_in}
-use Rattle.strip_coder.specs.declared.plan.Plan.{Plan}
 use Rattle.strip_coder.specs.declared.work.Work.{Work}
-use Rattle.strip_coder.specs.Plans.{plan_of, tallest, whole}
-use Rattle.strip_coder.specs.Works.{HoldsBlocks, FollowsRows}
-use Rattle.strip_coder.specs.Steps.{IsRowInRange, RowIs, TakesRow, BreaksAt}
+use Rattle.strip_coder.specs.Plans.{tallest}
+use Rattle.strip_coder.specs.Steps.{RowIs, TakesRow, BreaksAt}
+use Rattle.strip_coder.proofs.RowTakes.{OnlyRow, row_follows_any}
+use Rattle.strip_coder.proofs.RowComes.{HoldsRow, row_values}
 use Rattle.camera_mux.proofs.SettledThrough.{settled_through}
 use Rattle.camera_mux.proofs.FrontPackets.{cut_of_more}
 use Rattle.camera_mux.specs.RowSteps.{HasRow, TakesOctets, TakesCameraRow, CutsCameraRow}
-
--- a row has the pixels of these octets
-pub record HoldsRow (s : Setting) (got : List ℕ) (row : List ℤ) : Type 0 where
-  pub at : (column : ℕ) → column < s.width → signal row column ≡ pixel_at s.depth s.signed got column
-
-pub row_holds : {A : Type 0} (s : Setting) (got : List ℕ) (v : Vec ℤ A) (before after : List ℤ) → length after ≡ v.len → BeginsWith s.depth s.signed got s.width before after →
-    HoldsRow s got (with_items v after).items
-row_holds s got v before after long begins = record { at = λ column lt. ap (λ xs. signal xs column) (with_items_is v after long) ∙ begins.first column lt }
-
-pub row_values : (s : Setting) (got : List ℕ) (row : List ℤ) → FirstInRange s.depth s.signed got s.width → HoldsRow s got row → IsRowInRange s row
-row_values s got row in_range holds = record { each = λ column lt. subst (IsPixel s.depth s.signed) (sym (holds.at column lt)) (in_range.each column lt) }
-
--- only the row's numbers were changed
-pub record OnlyRow (old mid : Work) : Type 0 where
-  pub strip : mid.strip ≡ old.strip
-  pub blocks : mid.blocks ≡ old.blocks
-  pub packets : mid.packets ≡ old.packets
-  pub at : mid.at ≡ old.at
-
-holds_still : (s : Plan) (all : List (List ℤ)) (old mid : Work) → OnlyRow old mid → HoldsBlocks s all old → HoldsBlocks s all mid
-holds_still s all old mid only holds = record { blocks = rw (only.at, only.blocks) holds.blocks; packets = rw (only.at, only.packets) holds.packets; used = rw only.at holds.used }
-
-follows_still : (s : Setting) (x : ℕ → ℕ → ℤ) (old mid : Work) → OnlyRow old mid → FollowsRows s x old → FollowsRows s x mid
-follows_still s x old mid only f =
-    let tall = plan_of s (tallest s) in
-    record {
-      tall = record {
-        strip = subst (λ t. Follows (padded x (tallest s) s.width) (block_count (tallest s)) t) (sym only.strip) f.tall.strip;
-        holds = holds_still tall (image_blocks (whole tall) x) old mid only f.tall.holds;
-      };
-      any = λ rows height le. subst (λ t. Follows (padded x rows s.width) (block_count rows) t) (sym only.strip) (f.any rows height (subst (λ t. rows_of t ≤ rows) only.strip le));
-    }
 
 module _ (s : Setting) (k : ℕ) (p q r : Outside) (old mid : Work) {T : Type 0} (before after : List ℤ) (done : T) (read : RowRead s.depth s.signed s.width k p q before after (Ok done)) (only : OnlyRow old mid)
     (holds : HoldsRow s read.took mid.row.items) where
@@ -73,9 +33,9 @@ module _ (s : Setting) (k : ℕ) (p q r : Outside) (old mid : Work) {T : Type 0}
     values = record { each = λ column lt. subst (IsPixel s.depth s.signed) (sym (takes.row.at column lt)) ((row_values s read.took mid.row.items read.answer.1 holds).each column lt) };
     row = λ x has. record { at = λ j lt. takes.row.at j lt ∙ (row_is x has).at j lt };
     faults = takes.faults;
-    follows = λ x f has. takes.follows x (follows_still s x old mid only f) (row_is x has);
+    follows = λ x f has. takes.follows x (row_follows_any s x old mid only f) (row_is x has);
     goes = λ x f has.
-        let goes = takes.goes x (follows_still s x old mid only f) (row_is x has) in
+        let goes = takes.goes x (row_follows_any s x old mid only f) (row_is x has) in
         record { gave = goes.gave; out = goes.out; then_are = ap (λ a. joined (front_packets s (tallest s) x a.index) ++ goes.gave) (sym only.at) ∙ goes.then_are };
   }
 
@@ -86,7 +46,7 @@ module _ (s : Setting) (k : ℕ) (p q r : Outside) (old mid : Work) {T : Type 0}
     octets = octets;
     rose = breaks.rose;
     cut = λ x f has.
-        let broke = breaks.breaks x (follows_still s x old mid only f) (row_is x has) in
+        let broke = breaks.breaks x (row_follows_any s x old mid only f) (row_is x has) in
         let few = settled_through s range (k + 1) broke.index broke.inside broke.there in
         let part = cut_of_more s (tallest s) x broke.some (broke.index + 1) (settled_in s (tallest s) (k + 1)) few in
         record {

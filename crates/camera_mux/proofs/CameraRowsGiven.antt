@@ -1,6 +1,5 @@
 -- What is given once a camera's next row is taken.
-use Rattle.std.proofs.Common.{◌≡◌, ◌≢◌, inl, ◌≤◌, ◌<◌, ◌+◌, ◌-◌, ◌*◌, ℕ, ℤ, List, ◌++◌, length, take, refl, sym, ap, ◌∙◌, subst, arith, append_assoc}
-use Rattle.std.proofs.Math.Nat.{mul_assoc}
+use Rattle.std.proofs.Common.{◌≡◌, ◌≢◌, inl, ◌≤◌, ◌<◌, ◌+◌, ◌-◌, ◌*◌, ℕ, ℤ, List, ◌++◌, length, take, refl, sym, ap, ◌∙◌, subst, arith, append_assoc, mul_assoc}
 use Rattle.port_122.specs.Outside.{Outside}
 use Rattle.port_122.proofs.Stretches.{since_out, rose_since}
 use Rattle.wave_defs.specs.Held.{SameWithin}

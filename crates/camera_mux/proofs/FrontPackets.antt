@@ -1,6 +1,5 @@
 -- The packets of the first segments of an image, and those of more.
-use Rattle.std.proofs.Common.{◌≡◌, ◌≤◌, ◌+◌, ◌-◌, ℕ, zero, suc, ℤ, min, List, ◌++◌, length, take, sym, ap, ◌∙◌, arith, append_assoc}
-use Rattle.std.specs.Prelude.{Bool}
+use Rattle.std.proofs.Common.{◌≡◌, ◌≤◌, ◌+◌, ◌-◌, ℕ, zero, suc, ℤ, min, List, ◌++◌, length, take, sym, ap, ◌∙◌, arith, append_assoc, Bool}
 use Rattle.std.specs.List.{range_with_len, flat_map}
 use Rattle.std.proofs.lemmas.List.{append-nil, take_min, take-append-le}
 use Rattle.base_122.specs.Setting.{sized}

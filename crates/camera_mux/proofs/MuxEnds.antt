@@ -1,6 +1,5 @@
 -- How a mux begins and ends.
-use Rattle.std.proofs.Common.{◌≡◌, ◌≤◌, ◌<◌, ◌+◌, ◌-◌, ◌*◌, ◌^◌, ℕ, ℤ, List, [], ◌∷◌, length, inl, inr, refl, sym, ap, ◌∙◌, subst, arith, suc}
-use Rattle.std.specs.Prelude.{true, false, min, sum, slice_index, EachIndex, Ok, Err}
+use Rattle.std.proofs.Common.{◌≡◌, ◌≤◌, ◌<◌, ◌+◌, ◌-◌, ◌*◌, ◌^◌, ℕ, ℤ, List, [], ◌∷◌, length, inl, inr, refl, sym, ap, ◌∙◌, subst, arith, suc, true, false, min, sum, slice_index, EachIndex, Ok, Err}
 use Rattle.std.proofs.lemmas.Bool.{cases_lt}
 use Rattle.std.proofs.lemmas.List.Sums.{sum_by-cons}
 use Rattle.camera_mux.proofs.CameraAlone.{no_octets}

@@ -1,8 +1,6 @@
 -- The steps of a mux.
-use Rattle.std.proofs.Common.{◌≡◌, ◌⊎◌, inl, inr, ◌≤◌, ◌<◌, ◌+◌, ℕ, List, [], ◌∷◌, ◌++◌, length, take, refl, sym, ap, ◌∙◌, subst, arith, append_assoc, length-append}
-use Rattle.std.specs.Prelude.{slice_index, EachIndex, None, Some, Err}
+use Rattle.std.proofs.Common.{◌≡◌, ◌⊎◌, inl, inr, ◌≤◌, ◌<◌, ◌+◌, ℕ, List, [], ◌∷◌, ◌++◌, length, take, refl, sym, ap, ◌∙◌, subst, arith, append_assoc, length-append, slice_index, EachIndex, None, Some, Err, append-nil, take_all}
 use Rattle.std.proofs.lemmas.Bool.{cases_lt}
-use Rattle.std.proofs.lemmas.List.{append-nil, take_all}
 use Rattle.port_122.specs.Outside.{Outside, Exchange, NoRead, ReadFailed}
 use Rattle.port_122.proofs.Stretches.{since_out, since_weaker, rose_since}
 use Rattle.port_122.proofs.ReadCalls.{since_in, since_asked}

@@ -1,11 +1,7 @@
 -- A record more is taken.
-use Rattle.std.proofs.Common.{◌≡◌, ◌≢◌, inl, inr, ◌≤◌, ◌<◌, ◌+◌, ◌-◌, ◌*◌, ◌^◌, ℕ, ℤ, List, [], ◌∷◌, ◌++◌, length, set, refl, sym, ap, ◌∙◌, subst, arith, length-append}
-use Rattle.std.specs.List.{flat_map}
-use Rattle.std.specs.Prelude.{cond, ◌==◌, min, sum, slice_index, slice_index_or, Some, if◌then◌else◌}
+use Rattle.std.proofs.Common.{◌≡◌, ◌≢◌, inl, inr, ◌≤◌, ◌<◌, ◌+◌, ◌-◌, ◌*◌, ◌^◌, ℕ, ℤ, List, [], ◌∷◌, ◌++◌, length, set, refl, sym, ap, ◌∙◌, subst, arith, length-append, flat_map, cond, ◌==◌, min, sum, slice_index, slice_index_or, Some, if◌then◌else◌, length-set, get_or-set_same, get_or-set_other, mul-le-mul}
 use Rattle.std.proofs.lemmas.Bool.{cases_eq, eq-eqb, ne_eqb}
-use Rattle.std.proofs.lemmas.List.{length-set, get_or-set_same, get_or-set_other}
 use Rattle.std.proofs.lemmas.List.Sums.{sum_by-set}
-use Rattle.std.proofs.Math.Nat.{mul-le-mul}
 use Rattle.port_122.specs.Outside.{Outside, Exchange}
 use Rattle.base_122.specs.Ranges.{IsInRange}
 use Rattle.base_122.specs.declared.setting.Setting.{Setting}

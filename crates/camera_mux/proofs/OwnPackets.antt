@@ -1,8 +1,6 @@
 -- The packets of an image are whole and have its APID, so they are all picked by it, and by no other.
-use Rattle.std.proofs.Common.{◌≡◌, ◌≤◌, ◌<◌, ◌+◌, ◌-◌, ◌*◌, ◌%◌, ◌^◌, ℕ, zero, suc, ℤ, List, [], ◌∷◌, ◌++◌, length, map, drop, refl, sym, ap, subst, ◌∙◌, arith, length-append, length-take}
-use Rattle.std.specs.Prelude.{Bool, true, false, cond, ◌==◌, if◌then◌else◌, None}
+use Rattle.std.proofs.Common.{◌≡◌, ◌≤◌, ◌<◌, ◌+◌, ◌-◌, ◌*◌, ◌%◌, ◌^◌, ℕ, zero, suc, ℤ, List, [], ◌∷◌, ◌++◌, length, map, drop, refl, sym, ap, subst, ◌∙◌, arith, length-append, length-take, Bool, false, cond, ◌==◌, None, eq-eqb, ne_eqb}
 use Rattle.std.specs.List.{AllByRecursion, range_with_len}
-use Rattle.std.proofs.lemmas.Bool.{eq-eqb, ne_eqb}
 use Rattle.byteorder.specs.Endian.{big_bytes}
 use Rattle.byteorder.specs.Numbers.{big_number-reads_back}
 use Rattle.port_122.proofs.Stretches.{each_of_both}
@@ -15,6 +13,7 @@ use Rattle.packet_defs.specs.Written.{IsAncillary}
 use Rattle.packet_defs.proofs.Fronts.{told-append, version-append}
 use Rattle.packet_defs.proofs.ReadBack.{reads_back}
 use Rattle.stream_defs.specs.Output.{ancillary_of, packets_before, segment_packets, segment_text}
+use Rattle.stream_defs.proofs.OutPackets.{flags_few}
 use Rattle.camera_defs.specs.Picked.{picked_of}
 use Rattle.camera_mux.proofs.FrontPackets.{packets_from}
 
@@ -61,19 +60,13 @@ own_packet apid flags number a text own few room =
       own = ap (λ n. n % 2 ^ 11) first ∙ (let e : identification apid % 2 ^ 11 ≡ apid = omega (arith, own) in e);
     }
 
-few_flags : (first last : Bool) → (if first then 1 else 0) + (if last then 2 else 0) < 4
-few_flags true true = omega arith
-few_flags true false = omega arith
-few_flags false true = omega arith
-few_flags false false = omega arith
-
 -- ---- the packets of a text, and of segments
 
 module _ (apid packet : ℕ) (known : apid < 2047) (least : 64 ≤ packet) (most : packet ≤ 65536) where
   own_parts : (a : Ancillary) (before n : ℕ) (text : List ℕ) (parts : List ℕ) → AllByRecursion (IsOwn apid) (map (λ part. part_packet apid a packet before n part text) parts)
   own_parts a before n text [] = tt
   own_parts a before n text (part ∷ parts) = (
-    own_packet apid (sequence_flags part n) (before + part) (record a { part = part }) (part_of (part_size packet) part text) known (few_flags (part == 0) (part + 1 == n))
+    own_packet apid (sequence_flags part n) (before + part) (record a { part = part }) (part_of (part_size packet) part text) known (flags_few (part == 0) (part + 1 == n))
         (omega (arith, least, most, length-take (part_size packet) (drop (part * part_size packet) text))),
     own_parts a before n text parts,
   )

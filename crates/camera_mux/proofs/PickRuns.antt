@@ -1,31 +1,23 @@
 -- The steps of a pick.
-use Rattle.std.proofs.Common.{◌≡◌, ◌≤◌, ◌<◌, ◌+◌, ◌-◌, ℕ, List, [], ◌∷◌, ◌++◌, length, take, refl, sym, ap, subst, ◌∙◌, arith, append_assoc, length-append}
-use Rattle.std.specs.Prelude.{Bool, true, false, ◌||◌, cond, filter, Option, None, Some}
-use Rattle.std.proofs.lemmas.Bool.{false≢true}
-use Rattle.std.proofs.lemmas.List.{append-nil, take-append-le, take_all, take-append-drop}
+use Rattle.std.proofs.Common.{◌≡◌, ◌≤◌, ◌<◌, ◌+◌, ℕ, List, [], ◌∷◌, ◌++◌, length, take, refl, sym, ap, subst, ◌∙◌, arith, length-append, Bool, true, false, cond, filter, Option, None}
+use Rattle.std.proofs.lemmas.List.{append-nil, take-append-le, take_all}
 use Rattle.std.proofs.lemmas.List.Elements.{filter-append}
-use Rattle.std.proofs.Math.Seq.{take-append-add}
 use Rattle.packet_defs.proofs.Splits.{few_packets}
-use Rattle.port_122.specs.Outside.{Outside, Exchange, NoRead, IsUsedUp}
-use Rattle.port_122.proofs.Stretches.{since_start, since_out, since_weaker, each_of_both}
+use Rattle.port_122.specs.Outside.{Outside, Exchange, NoRead}
+use Rattle.port_122.proofs.Stretches.{since_start, since_out, since_weaker}
 use Rattle.port_122.proofs.ReadCalls.{since_in}
 use Rattle.base_122.specs.declared.wish.DecodeWish.{DecodeWish}
 use Rattle.packet_defs.specs.Packets.{joined}
-use Rattle.packet_defs.specs.Streams.{told_length, begins_packet, first_packet, after_packet, IsPacket, whole_packets}
-use Rattle.packet_defs.proofs.Fronts.{begins_so, first_is_packet}
+use Rattle.packet_defs.specs.Streams.{first_packet}
 use Rattle.packet_defs.proofs.Joins.{joined-append}
-use Rattle.space_packets.specs.Intake.{Intake, unread, is_decided, text_mine, answered, fed}
+use Rattle.space_packets.specs.Intake.{Intake, unread}
 use Rattle.space_packets.specs.PacketReads.{AsksUndecided, TakenSoFar}
-use Rattle.space_packets.proofs.Intakes.{answered_packet}
-use Rattle.space_packets.proofs.StreamReads.{undecided_none}
-use Rattle.packet_assembly.specs.Passing.{whole_after, before_loses}
-use Rattle.packet_assembly.specs.Readings.{HasRead, SawEnd}
-use Rattle.packet_assembly.proofs.Comings.{decided_ended}
-use Rattle.packet_assembly.proofs.OneStep.{none_whole}
-use Rattle.packet_assembly.proofs.Verdicts.{shorter_past}
+use Rattle.packet_assembly.proofs.Readings.{end_later}
+use Rattle.packet_assembly.specs.PacketSteps.{reading}
+use Rattle.packet_assembly.proofs.PacketSteps.{unread_so, unended_so, whole_so_far, read_more, end_more, read_past, end_past, octets_left, less_left}
 use Rattle.camera_defs.specs.Picked.{is_picked, picked_of, picked}
-use Rattle.camera_mux.specs.PickProgress.{AsksPicked, reading, HasPicked}
-use Rattle.camera_mux.specs.PickSteps.{HoldsNext, GivesNext, PassesOther}
+use Rattle.camera_mux.specs.PickProgress.{AsksPicked, HasPicked}
+use Rattle.camera_mux.specs.PickSteps.{GivesNext, PassesOther}
 
 -- ---- one packet more
 
@@ -70,92 +62,25 @@ gave_on {wish = wish} {image = image} {g = g} come gives =
 
 -- ---- octets more
 
-used_up : (o : Option (List ℕ)) (rest : List ℕ) → o ≡ Some rest → IsUsedUp o → rest ≡ []
-used_up None rest told over = absurd cc
-used_up (Some xs) rest told over = let same : xs ≡ rest = cc in sym same ∙ over
-
-module _ {wish : DecodeWish} {image : Option ℕ} {start now new : Outside} {v u : Intake} {packets : ℕ} (come : HasPicked wish image start now v packets) (x : TakenSoFar now new v u) where
-  gave : List ℕ
-  gave = joined (picked_of wish.apid image come.passed)
-
-  -- at a read call of the step no packet more is whole
-  same_whole : (i : ℕ) → is_decided (fed v (take i x.took) false) ≡ false → whole_packets (take (length come.took + i) (come.took ++ x.took)) ≡ come.passed
-  same_whole i undecided =
-      let none : whole_packets (v.pending ++ take i x.took) ≡ [] = none_whole (v.pending ++ take i x.took) (undecided_none (fed v (take i x.took) false) undecided) in
-      let octets : take (length come.took + i) (come.took ++ x.took) ≡ joined come.passed ++ (v.pending ++ take i x.took) =
-      take-append-add come.took x.took i ∙ ap (λ zs. zs ++ take i x.took) come.read.octets_are ∙ append_assoc (joined come.passed) v.pending (take i x.took) in
-      ap whole_packets octets ∙ whole_after come.passed (v.pending ++ take i x.took) come.read.packets_are ∙ ap (λ xs. come.passed ++ xs) none ∙ append-nil come.passed
-
-  asks_now : (i j : ℕ) → AsksUndecided v x.took i j →
-      AsksPicked wish.apid image (come.took ++ x.took) (joined (picked_of wish.apid image come.passed)) (length come.took + i) (length (joined (picked_of wish.apid image come.passed)) + j)
-  asks_now i j r =
-      let given = joined (picked_of wish.apid image come.passed) in
-      let here : length given + j ≡ length given = omega (arith, r.1) in (
-        omega (arith, here),
-        ap (λ n. take n given) here ∙ take_all (length given) given (omega arith) ∙ ap (λ ps. joined (picked_of wish.apid image ps)) (sym (same_whole i r.0)),
-      )
-
-  since_filled : Exchange start new (come.took ++ x.took) (joined (picked_of wish.apid image come.passed)) [] (AsksPicked wish.apid image (come.took ++ x.took) (joined (picked_of wish.apid image come.passed)))
-  since_filled =
-      let given = joined (picked_of wish.apid image come.passed) in
-      since_in (since_weaker come.since (λ i j le r. asks_took wish.apid image come.took x.took given i j le r)) x.since (λ i j le r. asks_now i j r)
-
-  -- if the end was reached, nothing is left
-  end_filled : SawEnd new (reading wish.apid (fed v x.took x.saw_end) come.passed None)
-  end_filled rest told ended = by v.ended refl ended
-    where
-      by : (b : Bool) → v.ended ≡ b → (b || x.saw_end) ≡ true → (rest ≡ []) × (v.taken + length x.took < v.cap)
-      by true e over =
-          let none : x.took ≡ [] = x.at_once (decided_ended v e) in
-          let early = come.at_end (x.took ++ rest) (before_loses now.rest new.rest x.took rest x.since.rest told) e in
-          (ap (λ zs. zs ++ rest) (sym none) ∙ early.0, omega (arith, early.1, ap length none))
-      by false e over = (used_up new.rest rest told (x.end_seen over), x.end_below over)
-
-  -- the octets that decide what is next were taken
-  pub filled : HasPicked wish image start new u packets
-  filled = subst (λ u. HasPicked wish image start new u packets) (sym x.stands) (record {
-    took = come.took ++ x.took;
-    passed = come.passed;
-    since = since_filled;
-    read = record {
-      apid = refl;
-      taken = omega (arith, come.read.taken, length-append come.took x.took);
-      cap = come.read.cap;
-      capped = x.within;
-      octets_are = ap (λ zs. zs ++ x.took) come.read.octets_are ∙ append_assoc (joined come.passed) v.pending x.took;
-      packets_are = come.read.packets_are;
-      state = refl;
-      count = refl;
-    };
-    at_end = end_filled;
-    packets_are = come.packets_are;
-  })
-
--- ---- the next packet
-
--- the reader is after the packet with which the octets that wait begin
-pub past_one : (apid cap : ℕ) (u : Intake) (took : List ℕ) (passed : List (List ℕ)) → HasRead apid cap (reading apid u passed None) took passed → begins_packet u.pending ≡ true →
-    HasRead apid cap (reading apid (answered apid u) (passed ++ first_packet u.pending ∷ []) None) took (passed ++ first_packet u.pending ∷ [])
-past_one apid cap u took passed read whole =
-    let packet = first_packet u.pending in
-    let all = passed ++ packet ∷ [] in
-    subst (λ v. HasRead apid cap (reading apid v all None) took all) (sym (answered_packet apid u whole)) (record {
-      apid = refl;
-      taken = read.taken;
-      cap = read.cap;
-      capped = read.capped;
-      octets_are = read.octets_are ∙ ap (λ zs. joined passed ++ zs) (sym (take-append-drop (told_length u.pending) u.pending))
-          ∙ sym (append_assoc (joined passed) packet (after_packet u.pending))
-          ∙ ap (λ zs. (joined passed ++ zs) ++ after_packet u.pending) (sym (append-nil packet))
-          ∙ ap (λ zs. zs ++ after_packet u.pending) (sym (joined-append passed (packet ∷ [])));
-      packets_are = each_of_both IsPacket passed (packet ∷ []) read.packets_are (first_is_packet (begins_so u.pending whole), tt);
-      state = refl;
-      count = refl;
+-- the octets that decide what is next were taken
+pub filled : {wish : DecodeWish} {image : Option ℕ} {start now new : Outside} {v u : Intake} {packets : ℕ} → HasPicked wish image start now v packets → TakenSoFar now new v u → HasPicked wish image start new u packets
+filled {wish = wish} {image = image} {start = start} {new = new} {v = v} {packets = packets} come x =
+    let given = joined (picked_of wish.apid image come.passed) in
+    let asks_now : (i j : ℕ) → AsksUndecided v x.took i j → AsksPicked wish.apid image (come.took ++ x.took) given (length come.took + i) (length given + j) = λ i j r.
+    let here : length given + j ≡ length given = omega (arith, r.1) in (
+      omega (arith, here),
+      ap (λ n. take n given) here ∙ take_all (length given) given (omega arith) ∙ ap (λ ps. joined (picked_of wish.apid image ps)) (sym (whole_so_far come.read x i r.0)),
+    ) in
+    subst (λ u. HasPicked wish image start new u packets) (sym x.stands) (record {
+      took = come.took ++ x.took;
+      passed = come.passed;
+      since = since_in (since_weaker come.since (λ i j le r. asks_took wish.apid image come.took x.took given i j le r)) x.since (λ i j le r. asks_now i j r);
+      read = read_more come.read x;
+      at_end = end_more come.read x come.at_end;
+      packets_are = come.packets_are;
     })
 
-end_past : (apid : ℕ) (now new : Outside) (u : Intake) (xs ys : List (List ℕ)) {g : List ℕ} {Q : ℕ → ℕ → Type 0} → Exchange now new [] g [] Q → begins_packet u.pending ≡ true → SawEnd now (reading apid u xs None) → SawEnd new (reading apid (answered apid u) ys None)
-end_past apid now new u xs ys gives whole before = subst (λ v. SawEnd new (reading apid v ys None)) (sym (answered_packet apid u whole))
-    (λ rest told ended. before rest (before_loses now.rest new.rest [] rest gives.rest told) ended)
+-- ---- the next packet
 
 -- it was picked and written
 pub given_one : {wish : DecodeWish} {image : Option ℕ} {start now new : Outside} {v w : Intake} {packets : ℕ} → HasPicked wish image start now v packets → GivesNext wish.apid image now new v w →
@@ -169,8 +94,8 @@ given_one {wish = wish} {image = image} {start = start} {new = new} {packets = p
       took = come.took;
       passed = all;
       since = subst (λ gave. Exchange start new come.took gave [] (AsksPicked wish.apid image come.took gave)) (sym more) (gave_on come x.gives);
-      read = past_one wish.apid wish.octets x.full come.took come.passed come.read x.holds.whole;
-      at_end = end_past wish.apid x.between new x.full come.passed all x.gives x.holds.whole come.at_end;
+      read = read_past wish.apid wish.apid x.full come.passed x.holds.whole wish.octets come.took come.read;
+      at_end = end_past wish.apid wish.apid x.full come.passed x.holds.whole new (end_later (reading wish.apid x.full come.passed None) x.gives come.at_end);
       packets_are = ap (λ n. n + 1) come.packets_are ∙ sym (count_more wish.apid image come.passed packet x.holds.test);
     })
 
@@ -186,8 +111,8 @@ passed_one {wish = wish} {image = image} {start = start} {new = new} {packets = 
       took = come.took;
       passed = all;
       since = subst (λ ps. Exchange start new come.took (joined ps) [] (AsksPicked wish.apid image come.took (joined ps))) (sym same) come.since;
-      read = past_one wish.apid wish.octets x.full come.took come.passed come.read x.holds.whole;
-      at_end = end_past wish.apid new new x.full come.passed all (since_start new NoRead) x.holds.whole come.at_end;
+      read = read_past wish.apid wish.apid x.full come.passed x.holds.whole wish.octets come.took come.read;
+      at_end = end_past wish.apid wish.apid x.full come.passed x.holds.whole new come.at_end;
       packets_are = come.packets_are ∙ ap length (sym same);
     })
 
@@ -198,32 +123,18 @@ none_picked wish image start v is = subst (λ v. HasPicked wish image start star
   took = [];
   passed = [];
   since = since_start start _;
-  read = record { apid = refl; taken = refl; cap = refl; capped = omega arith; octets_are = refl; packets_are = tt; state = refl; count = refl };
-  at_end = λ rest told ended. absurd (false≢true ended);
+  read = unread_so wish.apid wish.octets;
+  at_end = unended_so wish.apid wish.octets start;
   packets_are = refl;
 })
 
 -- ---- what is left
 
--- octets that can still be passed
-abbrev pub measure : Intake → ℕ
-measure v = (v.cap - v.taken) + length v.pending
+pub less_given : {apid : ℕ} {image : Option ℕ} {old new : Outside} {v w : Intake} → GivesNext apid image old new v w → octets_left w < octets_left v
+less_given x = less_left _ x.holds.taken x.holds.whole x.stands
 
-less_past : {apid : ℕ} {image : Option ℕ} {old now : Outside} {v u w : Intake} {is : Bool} → HoldsNext apid image old now v u is → w ≡ answered apid u → measure w < measure v
-less_past {apid = apid} {v = v} {u = u} {w = w} x stands =
-    let t = x.taken.took in
-    let next : w ≡ record u { pending = after_packet u.pending; text = text_mine apid (first_packet u.pending) } = stands ∙ answered_packet apid u x.whole in
-    let cap : w.cap ≡ v.cap = ap (λ w. w.cap) next ∙ ap (λ u. u.cap) x.taken.stands in
-    let taken : w.taken ≡ v.taken + length t = ap (λ w. w.taken) next ∙ ap (λ u. u.taken) x.taken.stands in
-    let rest : length w.pending ≡ length (after_packet u.pending) = ap (λ w. length w.pending) next in
-    let waits : length u.pending ≡ length v.pending + length t = ap (λ u. length u.pending) x.taken.stands ∙ length-append v.pending t in
-    omega (arith, x.taken.within, cap, taken, rest, waits, shorter_past u x.whole)
-
-pub less_given : {apid : ℕ} {image : Option ℕ} {old new : Outside} {v w : Intake} → GivesNext apid image old new v w → measure w < measure v
-less_given x = less_past x.holds x.stands
-
-pub less_passed : {apid : ℕ} {image : Option ℕ} {old new : Outside} {v w : Intake} → PassesOther apid image old new v w → measure w < measure v
-less_passed x = less_past x.holds x.stands
+pub less_passed : {apid : ℕ} {image : Option ℕ} {old new : Outside} {v w : Intake} → PassesOther apid image old new v w → octets_left w < octets_left v
+less_passed x = less_left _ x.holds.taken x.holds.whole x.stands
 
 -- ---- how many there are
 

@@ -1,6 +1,5 @@
 -- One record more.
-use Rattle.std.proofs.Common.{◌≡◌, ◌⊎◌, ◌≤◌, ◌<◌, ◌+◌, ◌-◌, ℕ, ℤ, zero, suc, List, [], ◌∷◌, ◌++◌, length, take, drop, refl, sym, ap, ◌∙◌, subst, arith, length-append, length-take, inl, inr}
-use Rattle.std.specs.Prelude.{cond, ◌==◌, slice_index_or}
+use Rattle.std.proofs.Common.{◌≡◌, ◌⊎◌, ◌≤◌, ◌<◌, ◌+◌, ◌-◌, ℕ, ℤ, zero, suc, List, [], ◌∷◌, ◌++◌, length, take, drop, refl, sym, ap, ◌∙◌, subst, arith, length-append, length-take, inl, inr, cond, ◌==◌, slice_index_or}
 use Rattle.std.specs.List.{range_with_len, flat_map, sum_by}
 use Rattle.std.proofs.lemmas.Bool.{cases_lt, eq-eqb, ne_eqb}
 use Rattle.std.proofs.lemmas.Grind.{flat_map-append}
@@ -12,6 +11,7 @@ use Rattle.base_122.specs.declared.setting.Setting.{Setting}
 use Rattle.stream_defs.proofs.Outputs.{range_with_len-more}
 use Rattle.camera_mux.specs.Records.{CameraRow, record_at, octets_of, records_of, count_of, raster_of, CanFollow, AreAccepted}
 use Rattle.camera_mux.specs.MuxOut.{settled_by, settled_at, mux_out, of_whole, sum_of}
+use Rattle.packet_list.proofs.LineLaws.{same_parts}
 
 -- ---- lists
 
@@ -23,12 +23,6 @@ before_last (x ∷ xs) y d (suc i) lt = before_last xs y d i (omega (arith, lt))
 at_last : (xs : List CameraRow) (y d : CameraRow) → slice_index_or (xs ++ y ∷ []) (length xs) d ≡ y
 at_last [] y d = refl
 at_last (x ∷ xs) y d = at_last xs y d
-
-same_parts : (f g : ℕ → List ℕ) (a n : ℕ) → ((i : ℕ) → i < a + n → f i ≡ g i) → flat_map f (range_with_len a n) ≡ flat_map g (range_with_len a n)
-same_parts f g a zero same = refl
-same_parts f g a (suc n) same =
-    ap (λ xs. xs ++ flat_map f (range_with_len (a + 1) n)) (same a (omega arith))
-    ∙ ap (λ xs. g a ++ xs) (same_parts f g (a + 1) n (λ i lt. same i (omega (arith, lt))))
 
 same_sum : (f g : ℕ → ℕ) (n : ℕ) → ((i : ℕ) → i < n → f i ≡ g i) → sum_by f (range_with_len 0 n) ≡ sum_by g (range_with_len 0 n)
 same_sum f g zero same = refl

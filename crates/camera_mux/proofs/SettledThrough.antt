@@ -1,8 +1,6 @@
 -- The segments whose blocks are there with some rows are settled by these.
-use Rattle.std.proofs.Common.{◌≡◌, inl, inr, ◌+◌, ◌-◌, ◌*◌, ◌<◌, ◌≤◌, ℕ, sym, subst, arith}
-use Rattle.std.specs.Prelude.{true}
+use Rattle.std.proofs.Common.{◌≡◌, inl, inr, ◌+◌, ◌-◌, ◌*◌, ◌<◌, ◌≤◌, ℕ, sym, subst, arith, true, div-lt_iff_lt-mul, mul-le-mul_right}
 use Rattle.std.proofs.lemmas.Bool.{cases_lt}
-use Rattle.std.proofs.Math.Nat.{div-lt_iff_lt-mul, mul-le-mul_right}
 use Rattle.base_122.specs.Ranges.{IsInRange}
 use Rattle.base_122.specs.Setting.{sized}
 use Rattle.base_122.specs.Sizes.{block_count, total_blocks, first_block, segment_blocks}

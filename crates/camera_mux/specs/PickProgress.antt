@@ -2,29 +2,15 @@
 use Rattle.std.specs.Prelude.{◌≡◌, ◌≤◌, ℕ, List, [], length, take, Option, None}
 use Rattle.port_122.specs.Outside.{Outside, Exchange}
 use Rattle.base_122.specs.declared.wish.DecodeWish.{DecodeWish}
-use Rattle.packet_defs.specs.declared.packet.Framing.{Framing}
 use Rattle.packet_defs.specs.Packets.{joined}
-use Rattle.stream_defs.specs.Fates.{fresh, after_all}
 use Rattle.space_packets.specs.Intake.{Intake}
-use Rattle.packet_assembly.specs.Assembling.{Assembling}
 use Rattle.packet_assembly.specs.Readings.{HasRead, SawEnd}
+use Rattle.packet_assembly.specs.PacketSteps.{reading}
 use Rattle.camera_defs.specs.Picked.{picked_of, picked}
 
 -- a read call with i octets taken and j given: what is given is the picked packets of those that are whole by then
 abbrev pub AsksPicked : (apid : ℕ) (image : Option ℕ) → (took gave : List ℕ) → ℕ → ℕ → Type 0
 AsksPicked apid image took gave i j = (j ≤ length gave) × (take j gave ≡ picked (take i took) apid image)
-
--- what an assembly for this APID would be after these packets, with a reader in this state and this result at its end
-abbrev pub reading : (apid : ℕ) → Intake → List (List ℕ) → Option Framing → Assembling
-reading apid v passed found = record {
-  apid = apid;
-  intake = v;
-  state = after_all apid fresh passed;
-  packets = length passed;
-  text = [];
-  held = None;
-  framing = found;
-}
 
 -- Some packets were passed, and those that are picked, this number of them, were given.
 pub record HasPicked (wish : DecodeWish) (image : Option ℕ) (start now : Outside) (v : Intake) (packets : ℕ) : Type 0 where

@@ -1,25 +1,16 @@
 -- The effect of a step that picks one packet. This project's own.
-use Rattle.std.specs.Prelude.{◌≡◌, ◌≤◌, ℕ, Bool, true, false, [], length, take, Option, None, Some, Result, Ok, Err}
+use Rattle.std.specs.Prelude.{◌≡◌, ◌≤◌, ℕ, Bool, true, false, [], length, take, Option, Result, Ok, Err}
 use Rattle.bit_pipe.specs.declared.fault.InFault.TheVariants as in_faults
 use Rattle.port_122.specs.Outside.{Outside, Exchange, NoRead, Rose}
-use Rattle.packet_defs.specs.declared.packet.Framing.{Framing}
-use Rattle.packet_defs.specs.declared.packet.PacketRead.{PacketRead}
-use Rattle.packet_defs.specs.declared.packet.PacketRead.TheVariants.{Mine, Skipped, Ended, Fault}
 use Rattle.packet_defs.specs.Streams.{begins_packet, first_packet}
-use Rattle.space_packets.specs.Intake.{Intake, end_read, verdict, answered}
+use Rattle.space_packets.specs.Intake.{Intake, answered}
 use Rattle.space_packets.specs.PacketReads.{ReadsPacket, TakenSoFar}
+use Rattle.packet_assembly.specs.PacketSteps.{FindsEnd, FindsCap}
 use Rattle.camera_defs.specs.Picked.{is_picked}
 use Rattle.packet_list.specs.declared.list.ListFault.{ListFault}
 use Rattle.packet_list.specs.declared.list.ListFault.TheVariants.{ReadFault, WriteFault, LongInput, Memory}
 use Rattle.camera_mux.specs.declared.picking.Step.{Step}
 use Rattle.camera_mux.specs.declared.picking.Step.TheVariants.{Given, Passed, Over}
-
--- why a stream can't be read on, if this was read of it
-abbrev pub framing_in : PacketRead → Option Framing
-framing_in (Mine head ancillary) = None
-framing_in (Skipped skip) = None
-framing_in Ended = None
-framing_in (Fault framing) = Some framing
 
 -- The octets that were taken hold the next packet, and it is picked or isn't.
 pub record HoldsNext (apid : ℕ) (image : Option ℕ) (old now : Outside) (v u : Intake) (is : Bool) : Type 0 where
@@ -51,23 +42,11 @@ pub record FailsToGive (apid : ℕ) (image : Option ℕ) (old new : Outside) (v 
   pub within : some ≤ length (first_packet full.pending)
   pub gives : Exchange between new [] (take some (first_packet full.pending)) [] NoRead
 
--- there is no next packet: the end is read, or what can't be read on
-pub record EndsPick (apid : ℕ) (old new : Outside) (v : Intake) (found : Option Framing) : Type 0 where
-  pub full : Intake
-  pub taken : TakenSoFar old new v full
-  pub over : verdict apid full ≡ Some (Ok (end_read found))
-
--- or all octets that may be taken were taken
-pub record StopsPick (apid : ℕ) (old new : Outside) (v : Intake) : Type 0 where
-  pub full : Intake
-  pub taken : TakenSoFar old new v full
-  pub over : verdict apid full ≡ Some (Err in_faults.LongInput)
-
 abbrev pub PicksNext : (apid : ℕ) (image : Option ℕ) → (old new : Outside) (v w : Intake) → Result Step ListFault → Type 0
 PicksNext apid image old new v w (Ok Given) = GivesNext apid image old new v w
 PicksNext apid image old new v w (Ok Passed) = PassesOther apid image old new v w
-PicksNext apid image old new v w (Ok (Over found)) = EndsPick apid old new v found
+PicksNext apid image old new v w (Ok (Over found)) = FindsEnd apid old new v found
 PicksNext apid image old new v w (Err ReadFault) = ReadsPacket apid old new v w (Err in_faults.ReadFault)
 PicksNext apid image old new v w (Err WriteFault) = FailsToGive apid image old new v
-PicksNext apid image old new v w (Err LongInput) = StopsPick apid old new v
+PicksNext apid image old new v w (Err LongInput) = FindsCap apid old new v
 PicksNext apid image old new v w (Err Memory) = ⊥

@@ -2,12 +2,12 @@
 ghost use Rattle.std.specs.Prelude.{◌≡◌};
 ghost use Rattle.packet_defs.specs.Streams.{IsPacket};
 ghost use Rattle.camera_defs.specs.Picked.{is_picked};
-ghost use Rattle.camera_mux.specs.PickSteps.{framing_in, PicksNext};
+ghost use Rattle.camera_mux.specs.PickSteps.{PicksNext};
 ghost use Rattle.camera_mux.specs.PickAnswers.{Picks};
 
 use base_122::DecodeWish;
 use byteorder::{BigEndian, ByteOrder};
-use packet_defs::{Framing, PacketRead};
+use packet_assembly::{Framing, framing_in};
 use packet_list::{ListDone, ListFault};
 use port_122::{Port, write_all};
 use space_packets::{PacketReader, skip_of};
@@ -77,16 +77,6 @@ fn pick_next<X: Port>(
         Ok(Step::Given)
     } else {
         Ok(Step::Passed)
-    }
-}
-
-// Returns why the stream can't be read on, if that was read.
-fn framing_in(read: PacketRead) -> Option<Framing>
-    ensures { result ≡ framing_in read }
-{
-    match read {
-        PacketRead::Fault(framing) => Some(framing),
-        _ => None,
     }
 }
 

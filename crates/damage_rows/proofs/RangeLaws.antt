@@ -1,15 +1,15 @@
 -- The first range of damaged rows from a row on.
-use Rattle.std.proofs.Common.{◌≡◌, ◌≤◌, ◌<◌, ◌+◌, ◌-◌, ◌*◌, ℕ, zero, suc, List, ◌∷◌, length, map, take, refl, sym, ◌∙◌, ap, inl, inr, arith}
-use Rattle.std.specs.Prelude.{Bool, true, false, ◌&&◌, nat_le, nat_lt, filter, find, take_while, Option, Some, None}
-use Rattle.std.specs.List.{range_with_len, prefix_len, list_any}
+use Rattle.std.proofs.Common.{◌≡◌, ◌≤◌, ◌<◌, ◌+◌, ◌-◌, ◌*◌, ℕ, zero, suc, List, length, map, refl, sym, ◌∙◌, ap, inl, inr, arith, Bool, true, false, ◌&&◌, nat_le, nat_lt, filter, find, take_while, Option, Some, None}
+use Rattle.std.specs.List.{range_with_len, list_any}
 use Rattle.std.proofs.lemmas.Bool.Decides.{nat_tests}
 use Rattle.std.proofs.lemmas.Bool.{cases_lt, and_right}
 use Rattle.wave_defs.specs.Reach.{reaches}
 use Rattle.stream_defs.specs.declared.range.RowRange.{RowRange}
 use Rattle.stream_defs.specs.Marks.{next_range}
-use Rattle.stream_defs.specs.Damage.{is_damaged, begins_range, range_from, run_length, ranges}
+use Rattle.stream_defs.specs.Damage.{is_damaged, begins_range, range_from, run_length}
 use Rattle.damage_rows.specs.Table.{is_missing}
 use Rattle.damage_rows.proofs.TableLaws.{any_listed, none_listed}
+use Rattle.stream_defs.proofs.Equations.{ranges-is}
 
 -- ---- damaged rows
 
@@ -49,11 +49,7 @@ module _ (rows : ℕ) (missing : List ℕ) where
 
   going_on : (a n : ℕ) → is_damaged rows missing a ≡ true → going a (suc n) ≡ suc (going (a + 1) n)
   unfolding going
-  going_on a n e =
-      let rest = range_with_len (a + 1) n in
-      let m = prefix_len (is_damaged rows missing) rest in
-      let one : 1 + m ≡ suc m = omega arith in
-      rw e (ap (λ k. length (take k (a ∷ rest))) one)
+  going_on a n e = grind (arith, nat_tests)
 
   -- one more damaged row
   pub run_on : (a : ℕ) → is_damaged rows missing a ≡ true → run_length rows missing a ≡ suc (run_length rows missing (a + 1))
@@ -90,8 +86,8 @@ module _ (rows : ℕ) (missing : List ℕ) where
   found_from from a = found from a (rows - a)
 
   pub found_from_start : (from a : ℕ) → a ≤ from → next_range (record { rows = rows; missing = missing }) from ≡ found_from from a
-  unfolding found found_from ranges
-  found_from_start from zero le = ap (found from 0) (let whole : rows ≡ rows - 0 = omega arith in whole)
+  unfolding found found_from
+  found_from_start from zero le = simp ranges-is (ap (found from 0) (let whole : rows ≡ rows - 0 = omega arith in whole))
   found_from_start from (suc a) le =
       found_from_start from a (omega (arith, le)) ∙ elim (cases_lt a rows) [
         | inl within ↦ ap (found from a) (let left : rows - a ≡ suc (rows - (a + 1)) = omega (arith, within) in left) ∙ found_past from a (rows - (a + 1)) (omega (arith, le)) ∙ ap (found from (a + 1)) (let same : rows - (a + 1) ≡ rows - suc a = omega arith in same) ∙ ap (λ k. found from k (rows - suc a)) (let next : a + 1 ≡ suc a = omega arith in next)

@@ -1,8 +1,6 @@
 -- Block rows in a table of bits.
-use Rattle.std.proofs.Common.{◌≡◌, ◌≢◌, ◌≤◌, ◌<◌, ◌+◌, ◌*◌, ◌/◌, ◌%◌, ◌^◌, ℕ, zero, suc, List, [], ◌∷◌, length, refl, sym, ◌∙◌, ap, inl, inr, arith, get_or-set_other}
-use Rattle.std.specs.Prelude.{Bool, true, false, cond, ◌==◌, ◌||◌, ◌⊎◌, filter, slice_index, slice_set, replicate, bit_and}
+use Rattle.std.proofs.Common.{◌≡◌, ◌≢◌, ◌≤◌, ◌<◌, ◌+◌, ◌*◌, ◌/◌, ◌%◌, ◌^◌, ℕ, zero, suc, List, [], ◌∷◌, length, refl, sym, ◌∙◌, ap, inl, inr, arith, get_or-set_other, Bool, true, false, cond, ◌==◌, ◌||◌, ◌⊎◌, filter, slice_index, slice_set, replicate, bit_and, bit_or}
 use Rattle.std.specs.Int.{bit_at, w64}
-use Rattle.std.specs.Int.Bits.{bit_or}
 use Rattle.std.specs.List.{range_with_len, list_any}
 use Rattle.std.proofs.lemmas.Bool.Decides.{nat_tests}
 use Rattle.std.proofs.lemmas.Bool.{cases_lt, or_left, or_right, eq-eqb, eqb-true}
@@ -12,8 +10,9 @@ use Rattle.std.proofs.lemmas.Nat.Bits.{bit_at_set_same, bit_at_set_other, bit_at
 use Rattle.std.proofs.Math.Bool.{or-false}
 use Rattle.stream_defs.proofs.OpenContaining.{any_chosen}
 use Rattle.stream_defs.proofs.DamageLaws.{false_or}
-use Rattle.stream_defs.specs.Marks.{Marks, most_block_rows, and_missing, marked}
+use Rattle.stream_defs.specs.Marks.{Marks, most_block_rows, marked}
 use Rattle.damage_rows.specs.Table.{is_missing, is_set, set_rows}
+use Rattle.stream_defs.proofs.Equations.{most_is, and_missing-is}
 
 equal_false : (m n : ℕ) → m ≢ n → (m == n) ≡ false
 equal_false m n e = grind (arith, nat_tests)
@@ -76,10 +75,6 @@ filter_front p q m n le same none = by 0 m n le (λ i low high. same i (omega (a
         ∙ ap (λ xs. cond (q a) (a ∷ xs) xs) (by (a + 1) m n (omega (arith, le)) (λ i low high. same i (omega (arith, low)) (omega (arith, high))) (λ i far. none i (omega (arith, far))))
 
 -- ---- the table
-
-pub most_is : most_block_rows ≡ 32768
-unfolding most_block_rows
-most_is = refl
 
 -- a block row is listed if its bit is set
 listed_by : (words : List ℕ) (r : ℕ) → r < 32768 → (b : Bool) → is_set words r ≡ b → is_missing (set_rows words) r ≡ b
@@ -153,10 +148,10 @@ bit_other words r i within other = by_word (i / 64 == r / 64) refl
 -- it is the table of the block rows with this one
 pub marked_by_bit : (words : List ℕ) (rows r : ℕ) → length words ≡ 512 → r < 32768 →
     record { rows = rows; missing = set_rows (with_bit words r) } ≡ marked (record { rows = rows; missing = set_rows words }) r
-unfolding set_rows and_missing
+unfolding set_rows
 marked_by_bit words rows r long low =
     ap (λ missing. let m : Marks = record { rows = rows; missing = missing } in m)
-    (filter_same (is_set (with_bit words r)) (λ i. is_missing (set_rows words) i || (i == r)) most_block_rows 0 (λ i from below. at i (omega (arith, below, most_is)) (i == r) refl))
+    (filter_same (is_set (with_bit words r)) (λ i. is_missing (set_rows words) i || (i == r)) most_block_rows 0 (λ i from below. at i (omega (arith, below, most_is)) (i == r) refl) ∙ sym (and_missing-is (set_rows words) r))
   where
     at : (i : ℕ) → i < 32768 → (b : Bool) → (i == r) ≡ b → is_set (with_bit words r) i ≡ (is_missing (set_rows words) i || b)
     at i small true same =

@@ -1,13 +1,12 @@
 -- The counts of an image are at most the octets of all packets.
-use Rattle.std.proofs.Common.{◌≡◌, ◌≤◌, ℕ, List, [], ◌∷◌, length, sym, subst, inl, inr, arith, length-append}
-use Rattle.std.specs.Prelude.{Bool, true, false, cond, filter, sum_by}
+use Rattle.std.proofs.Common.{◌≡◌, ◌≤◌, ℕ, List, [], ◌∷◌, length, sym, subst, inl, inr, arith, Bool, true, false, cond, filter, sum_by}
 use Rattle.std.specs.List.{AllByRecursion}
 use Rattle.std.proofs.lemmas.List.Sums.{sum_by-cons, count_by-le-length}
 use Rattle.std.proofs.lemmas.List.Concat.{length-flat_map}
 use Rattle.packet_defs.specs.Packets.{joined}
 use Rattle.packet_defs.specs.Reading.{flags_in}
 use Rattle.packet_defs.specs.Streams.{IsPacket}
-use Rattle.packet_defs.proofs.Fronts.{packet_begins}
+use Rattle.packet_defs.proofs.Splits.{few_packets}
 use Rattle.stream_defs.specs.declared.fate.FateState.{FateState}
 use Rattle.stream_defs.specs.Fates.{fresh, closes, after, kept}
 use Rattle.stream_defs.proofs.KeptOrder.{does}
@@ -54,13 +53,6 @@ fewer_kept apid s (x ∷ xs) = elim (does apid s x) [
     | inr next ↦ subst (λ ks. AreFewer ks (x ∷ xs)) (sym (next.kept_are xs)) (both_more x _ xs (fewer_kept apid (after apid s x) xs))
   ]
 ]
-
-few_packets : (packets : List (List ℕ)) → AllByRecursion IsPacket packets → length packets ≤ length (joined packets)
-few_packets [] p = omega arith
-few_packets (packet ∷ packets) p =
-    let rest : length packets ≤ length (joined packets) = few_packets packets p.1 in
-    let some = (packet_begins p.0).header in
-    omega (arith, rest, some, length-append packet (joined packets))
 
 pub counts_below : (id : ImageId) (packets : List (List ℕ)) → AllByRecursion IsPacket packets → CountsBelow (count_of (kept_of id packets)) (length (joined packets))
 counts_below id packets whole =

@@ -1,24 +1,17 @@
 -- How a list of images ends.
-use Rattle.std.proofs.Common.{◌≡◌, ◌≤◌, ◌+◌, ℕ, List, [], ◌∷◌, ◌++◌, length, take, refl, sym, ap, subst, ◌∙◌, arith, length-append}
-use Rattle.std.specs.Prelude.{false, Option, None, Some, Ok, Err}
-use Rattle.std.proofs.lemmas.Bool.{false≢true}
+use Rattle.std.proofs.Common.{◌≡◌, ◌≤◌, ◌+◌, ℕ, List, [], ◌∷◌, ◌++◌, length, take, refl, sym, ap, subst, ◌∙◌, arith, length-append, Option, Ok, Err}
 use Rattle.std.proofs.lemmas.Bool.Decides.{nat_tests}
-use Rattle.bit_pipe.specs.declared.fault.InFault.{InFault}
 use Rattle.bit_pipe.specs.declared.fault.InFault.TheVariants as in_faults
 use Rattle.port_122.specs.Outside.{Outside, Exchange, NoRead, Rose}
 use Rattle.port_122.proofs.Stretches.{rose_since, since_out}
 use Rattle.packet_defs.specs.declared.packet.Framing.{Framing}
-use Rattle.packet_defs.specs.declared.packet.PacketRead.{PacketRead}
-use Rattle.packet_defs.specs.Packets.{joined}
 use Rattle.packet_defs.specs.Reading.{apid_in}
-use Rattle.packet_defs.specs.Streams.{begins_packet, first_packet, after_packet, whole_packets}
-use Rattle.space_packets.specs.Intake.{Intake, end_read, verdict, answered, fed}
-use Rattle.space_packets.specs.PacketReads.{ReadsPacket, TakenSoFar}
-use Rattle.space_packets.proofs.Intakes.{answered_packet}
+use Rattle.packet_defs.specs.Streams.{first_packet, after_packet, whole_packets}
+use Rattle.space_packets.specs.Intake.{Intake}
+use Rattle.space_packets.specs.PacketReads.{ReadsPacket}
 use Rattle.space_packets.proofs.StreamReads.{undecided_none}
-use Rattle.packet_assembly.specs.Passing.{whole_after}
-use Rattle.packet_assembly.specs.Readings.{HasRead}
-use Rattle.packet_assembly.proofs.Verdicts.{mine_read, other_read, long_read}
+use Rattle.packet_assembly.specs.PacketSteps.{FindsEnd, FindsCap}
+use Rattle.packet_assembly.proofs.PacketSteps.{whole_past, taken_by, read_found}
 use Rattle.packet_assembly.proofs.Readings.{read_within, whole_so, ended_packets, ended_framing, ended_out, out_later, long_packets, long_good, long_full}
 use Rattle.image_info.specs.declared.image.ImageEntry.{ImageEntry}
 use Rattle.image_info.specs.declared.info.InfoWish.{InfoWish}
@@ -28,34 +21,13 @@ use Rattle.image_info.specs.declared.table.TableFull.{TableFull}
 use Rattle.image_info.specs.Images.{images, entries, most_images}
 use Rattle.image_info.specs.Lines.{lines_of}
 use Rattle.image_info.specs.Answers.{image_count, Informs}
-use Rattle.image_info.specs.Steps.{framing_in, TakesPacket, EndsInfo, StopsInfo, TakesNext}
+use Rattle.image_info.specs.Steps.{TakesPacket, TakesNext}
 use Rattle.image_info.proofs.ImageLists.{images-front}
 use Rattle.image_info.proofs.EntryLists.{length-entries}
 use Rattle.image_info.proofs.Passed.{table_full}
-use Rattle.image_info.proofs.Runs.{reading, HasTabled, filled, past_one}
-
--- ---- what is read if there is no next packet
-
-pub over_so : (apid : ℕ) (u : Intake) (read : PacketRead) → begins_packet u.pending ≡ false → verdict apid u ≡ Some (Ok read) → verdict apid u ≡ Some (Ok (end_read (framing_in read)))
-over_so apid u read none e = grind (arith, nat_tests, false≢true, mine_read, other_read)
-
-pub long_so : (apid : ℕ) (u : Intake) (fault : InFault) → verdict apid u ≡ Some (Err fault) → verdict apid u ≡ Some (Err in_faults.LongInput)
-long_so apid u fault e = e ∙ ap (λ (f : InFault). Some (Err f)) (long_read apid u fault e).is
+use Rattle.image_info.proofs.Runs.{HasTabled, filled}
 
 -- ---- all packets were passed
-
--- whatever the result at the end will be
-with_answer : (cap : ℕ) (v : Intake) (took : List ℕ) (passed : List (List ℕ)) (found : Option Framing) → HasRead 0 cap (reading v passed None) took passed → HasRead 0 cap (reading v passed found) took passed
-with_answer cap v took passed found read = record {
-  apid = read.apid;
-  taken = read.taken;
-  cap = read.cap;
-  capped = read.capped;
-  octets_are = read.octets_are;
-  packets_are = read.packets_are;
-  state = read.state;
-  count = read.count;
-}
 
 -- the table has all images of the octets that were taken
 table_whole : {wish : InfoWish} {start now : Outside} {v : Intake} {table : List ImageEntry} (come : HasTabled wish start now v table) → whole_packets come.took ≡ come.passed →
@@ -67,11 +39,11 @@ few_whole : {wish : InfoWish} {start now : Outside} {v : Intake} {table : List I
 few_whole {wish = wish} come whole = grind (arith, nat_tests, table_whole, length-entries)
 
 -- all lines were given
-pub all_informed : {wish : InfoWish} {start now new last : Outside} {v : Intake} {table : List ImageEntry} {found : Option Framing} (count : ℕ) → HasTabled wish start now v table → EndsInfo now new v found →
+pub all_informed : {wish : InfoWish} {start now new last : Outside} {v : Intake} {table : List ImageEntry} {found : Option Framing} (count : ℕ) → HasTabled wish start now v table → FindsEnd 0 now new v found →
     Exchange new last [] (lines_of table) [] NoRead → count ≡ length table → Informs wish start last (Ok (record { images = count; framing = found }))
 all_informed {wish = wish} {new = new} {last = last} {table = table} {found = found} count before x gives is =
     let come = filled before x.taken in
-    let read = with_answer wish.octets x.full come.took come.passed found come.read in
+    let read = read_found found come.read in
     let whole = ended_packets read x.over in
     let images_are : count ≡ image_count wish.apid come.took = is ∙ ap length (table_whole come whole) ∙ length-entries wish.apid (whole_packets come.took) in
     record {
@@ -89,11 +61,11 @@ all_informed {wish = wish} {new = new} {last = last} {table = table} {found = fo
     }
 
 -- a prefix of them was given
-pub write_failed : {wish : InfoWish} {start now new last : Outside} {v : Intake} {table : List ImageEntry} {found : Option Framing} → HasTabled wish start now v table → EndsInfo now new v found →
+pub write_failed : {wish : InfoWish} {start now new last : Outside} {v : Intake} {table : List ImageEntry} {found : Option Framing} → HasTabled wish start now v table → FindsEnd 0 now new v found →
     Rose new.write_faults last.write_faults × ((n : ℕ) × (n ≤ length (lines_of table)) × Exchange new last [] (take n (lines_of table)) [] NoRead) → Informs wish start last (Err WriteFault)
 write_failed {wish = wish} {new = new} {last = last} {table = table} {found = found} before x (rose, (n, le, gives)) =
     let come = filled before x.taken in
-    let read = with_answer wish.octets x.full come.took come.passed found come.read in
+    let read = read_found found come.read in
     let whole = ended_packets read x.over in
     record {
       took = come.took;
@@ -111,7 +83,7 @@ write_failed {wish = wish} {new = new} {last = last} {table = table} {found = fo
 -- ---- not all were passed
 
 -- all octets that may be taken were taken
-long_informed : {wish : InfoWish} {start now new : Outside} {v : Intake} {table : List ImageEntry} → HasTabled wish start now v table → StopsInfo now new v → Informs wish start new (Err LongInput)
+long_informed : {wish : InfoWish} {start now new : Outside} {v : Intake} {table : List ImageEntry} → HasTabled wish start now v table → FindsCap 0 now new v → Informs wish start new (Err LongInput)
 long_informed {wish = wish} before x =
     let come = filled before x.taken in
     record {
@@ -126,10 +98,8 @@ long_informed {wish = wish} before x =
 read_failed : {wish : InfoWish} {start now new : Outside} {v w : Intake} {table : List ImageEntry} → HasTabled wish start now v table → ReadsPacket 0 now new v w (Err in_faults.ReadFault) →
     Informs wish start new (Err ReadFault)
 read_failed {wish = wish} {now = now} {new = new} {v = v} before x =
-    let u = fed v x.took x.saw_end in
-    let taken : TakenSoFar now new v u = record { took = x.took; saw_end = x.saw_end; since = x.since; end_seen = x.end_seen; within = x.within; at_once = x.at_once; end_below = x.end_below; stands = refl } in
-    let come = filled before taken in
-    let whole = whole_so come.read (undecided_none u x.ends.1) in
+    let come = filled before (taken_by x) in
+    let whole = whole_so come.read (undecided_none _ x.ends.1) in
     record {
       took = come.took;
       gave = [];
@@ -147,10 +117,7 @@ full_informed {wish = wish} {table = table} {after = after} full before x =
     let apid = apid_in packet in
     let rest = after_packet x.full.pending in
     let all = come.passed ++ packet ∷ [] in
-    let past = past_one apid wish.octets x.full come.took come.passed come.read x.whole in
-    let rest_is : (answered apid x.full).pending ≡ rest = ap (λ (w : Intake). w.pending) (answered_packet apid x.full x.whole) in
-    let whole : whole_packets come.took ≡ all ++ whole_packets rest =
-    ap whole_packets (past.octets_are ∙ ap (λ zs. joined all ++ zs) rest_is) ∙ whole_after all rest past.packets_are in
+    let whole = whole_past 0 apid x.full come.passed x.whole wish.octets come.took come.read in
     let many = table_full wish.apid come.passed packet table after full come.table_of x.passes in
     let more = images-front wish.apid all (whole_packets rest) in
     let size : image_count wish.apid come.took ≡ length (images wish.apid all) + length more.0 =

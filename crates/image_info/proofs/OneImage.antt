@@ -1,9 +1,7 @@
 -- What is known of an image, and one packet more.
-use Rattle.std.proofs.Common.{◌≡◌, ℕ, List, [], ◌∷◌, ◌++◌, length, refl, ap, ◌∙◌, arith, length-append}
-use Rattle.std.specs.Prelude.{Bool, true, false, cond, ◌==◌, is_none, Option, None, Some}
+use Rattle.std.proofs.Common.{◌≡◌, ℕ, List, [], ◌∷◌, ◌++◌, length, refl, ap, ◌∙◌, arith, length-append, Bool, true, false, cond, ◌==◌, is_none, None, Some, append-nil}
 use Rattle.std.proofs.lemmas.Bool.{and_parts, eqb-true}
 use Rattle.std.proofs.lemmas.Bool.Decides.{nat_tests}
-use Rattle.std.proofs.lemmas.List.{append-nil}
 use Rattle.std.proofs.lemmas.List.Elements.{filter-append}
 use Rattle.std.proofs.lemmas.List.Sums.{sum_by_push}
 use Rattle.std.proofs.lemmas.Grind.{fold-append}
@@ -14,7 +12,7 @@ use Rattle.stream_defs.proofs.ChosenLaws.{kept-append, after_all-append}
 use Rattle.stream_defs.proofs.FateLaws.{after_as_other}
 use Rattle.stream_defs.proofs.KeptOrder.{is_kept_so, kept_tests}
 use Rattle.camera_defs.specs.Picked.{is_picked}
-use Rattle.camera_defs.proofs.Picking.{mine_own}
+use Rattle.camera_defs.proofs.Picking.{mine_own, none_so}
 use Rattle.image_info.specs.declared.image.ImageId.{ImageId}
 use Rattle.image_info.specs.Images.{id_in, own_packets, state_of, kept_of, count_of, entry_of}
 use Rattle.image_info.specs.Tables.{count_with}
@@ -24,9 +22,6 @@ use Rattle.image_info.specs.Tables.{count_with}
 -- a packet of an image with its own APID
 abbrev pub is_own : ImageId → List ℕ → Bool
 is_own id packet = is_picked id.apid (Some id.image) packet
-
-none_so : {A : Type 0} (o : Option A) → is_none o ≡ true → o ≡ None
-none_so o e = grind (arith, nat_tests)
 
 pub own_skip : (id : ImageId) (packet : List ℕ) → is_own id packet ≡ true → skip_of id.apid packet ≡ None
 own_skip id packet e = none_so (skip_of id.apid packet) (and_parts (is_none (skip_of id.apid packet)) ((ancillary_in packet).image == id.image) e).0

@@ -1,8 +1,6 @@
 -- What was read of the next packet, and that there is room for its counts.
-use Rattle.std.proofs.Common.{◌≡◌, ◌≤◌, ◌<◌, ◌+◌, ◌-◌, ◌%◌, ℕ, List, length, refl, sym, ap, subst, ◌∙◌, inl, inr, arith, length-append, length-take}
-use Rattle.std.specs.Prelude.{Bool, true, false, slice_set, Option, None, Some, Result, Ok, Err}
+use Rattle.std.proofs.Common.{◌≡◌, ◌≤◌, ◌<◌, ◌+◌, ◌-◌, ◌%◌, ℕ, List, length, refl, sym, ap, subst, ◌∙◌, inl, inr, arith, length-append, length-take, Bool, true, false, slice_set, Option, None, Some, Result, Ok, Err, get_or-set_same, get_or-set_other, length-set}
 use Rattle.std.proofs.lemmas.Bool.{false≢true, cases_lt}
-use Rattle.std.proofs.lemmas.List.{get_or-set_same, get_or-set_other, length-set}
 use Rattle.std.proofs.lemmas.Bool.Decides.{nat_tests}
 use Rattle.byteorder.specs.Endian.{big_number}
 use Rattle.bit_pipe.specs.declared.fault.InFault.{InFault}
@@ -19,7 +17,7 @@ use Rattle.space_packets.specs.Intake.{Intake, verdict, answered}
 use Rattle.space_packets.specs.PacketReads.{TakenSoFar}
 use Rattle.space_packets.proofs.Intakes.{answered_packet}
 use Rattle.packet_assembly.specs.Ranged.{IsRanged}
-use Rattle.packet_assembly.proofs.Verdicts.{other_read, over_read, long_read}
+use Rattle.space_packets.proofs.Verdicts.{other_read, over_read, long_read}
 use Rattle.image_info.specs.declared.image.ImageId.{ImageId}
 use Rattle.image_info.specs.declared.image.ImageEntry.{ImageEntry}
 use Rattle.image_info.specs.declared.table.TableFull.{TableFull}

@@ -1,14 +1,12 @@
 -- The effect of a step that passes one packet of the stream. This project's own.
-use Rattle.std.specs.Prelude.{◌≡◌, ◌≤◌, ◌<◌, ◌+◌, ◌^◌, ℕ, true, List, length, Option, None, Some, Result, Ok, Err}
+use Rattle.std.specs.Prelude.{◌≡◌, ◌≤◌, ◌<◌, ◌+◌, ◌^◌, ℕ, true, List, length, Option, Result, Ok, Err}
 use Rattle.bit_pipe.specs.declared.fault.InFault.TheVariants as in_faults
 use Rattle.port_122.specs.Outside.{Outside}
-use Rattle.packet_defs.specs.declared.packet.Framing.{Framing}
-use Rattle.packet_defs.specs.declared.packet.PacketRead.{PacketRead}
-use Rattle.packet_defs.specs.declared.packet.PacketRead.TheVariants.{Mine, Skipped, Ended, Fault}
 use Rattle.packet_defs.specs.Reading.{apid_in}
 use Rattle.packet_defs.specs.Streams.{begins_packet, first_packet}
-use Rattle.space_packets.specs.Intake.{Intake, end_read, verdict, answered}
+use Rattle.space_packets.specs.Intake.{Intake, answered}
 use Rattle.space_packets.specs.PacketReads.{ReadsPacket, TakenSoFar}
+use Rattle.packet_assembly.specs.PacketSteps.{FindsEnd, FindsCap}
 use Rattle.image_info.specs.declared.image.ImageCount.{ImageCount}
 use Rattle.image_info.specs.declared.image.ImageEntry.{ImageEntry}
 use Rattle.image_info.specs.declared.info.InfoFault.{InfoFault}
@@ -17,13 +15,6 @@ use Rattle.image_info.specs.declared.table.TableFull.{TableFull}
 use Rattle.image_info.specs.declared.engine.Step.{Step}
 use Rattle.image_info.specs.declared.engine.Step.TheVariants.{Passed, Over}
 use Rattle.image_info.specs.Tables.{entry_at, AreRanged, PassesPacket}
-
--- why a stream can't be read on, if this was read of it
-abbrev pub framing_in : PacketRead → Option Framing
-framing_in (Mine head ancillary) = None
-framing_in (Skipped skip) = None
-framing_in Ended = None
-framing_in (Fault framing) = Some framing
 
 -- the counts are at most the number of octets of the packets that were passed
 pub record CountsBelow (count : ImageCount) (octets : ℕ) : Type 0 where
@@ -46,23 +37,11 @@ pub record TakesPacket (wanted : Option ℕ) (old new : Outside) (v w : Intake) 
   pub passes : PassesPacket wanted table after (first_packet full.pending) result
   pub stands : w ≡ answered (apid_in (first_packet full.pending)) full
 
--- there is no next packet: the end is read, or what can't be read on
-pub record EndsInfo (old new : Outside) (v : Intake) (found : Option Framing) : Type 0 where
-  pub full : Intake
-  pub taken : TakenSoFar old new v full
-  pub over : verdict 0 full ≡ Some (Ok (end_read found))
-
--- or all octets that may be taken were taken
-pub record StopsInfo (old new : Outside) (v : Intake) : Type 0 where
-  pub full : Intake
-  pub taken : TakenSoFar old new v full
-  pub over : verdict 0 full ≡ Some (Err in_faults.LongInput)
-
 abbrev pub TakesNext : (wanted : Option ℕ) → (old new : Outside) (v w : Intake) (table after : List ImageEntry) → Result Step InfoFault → Type 0
 TakesNext wanted old new v w table after (Ok Passed) = TakesPacket wanted old new v w table after (Ok tt)
-TakesNext wanted old new v w table after (Ok (Over found)) = EndsInfo old new v found × (after ≡ table)
+TakesNext wanted old new v w table after (Ok (Over found)) = FindsEnd 0 old new v found × (after ≡ table)
 TakesNext wanted old new v w table after (Err ReadFault) = ReadsPacket 0 old new v w (Err in_faults.ReadFault)
 TakesNext wanted old new v w table after (Err WriteFault) = ⊥
-TakesNext wanted old new v w table after (Err LongInput) = StopsInfo old new v
+TakesNext wanted old new v w table after (Err LongInput) = FindsCap 0 old new v
 TakesNext wanted old new v w table after (Err TooManyImages) = (full : TableFull) × TakesPacket wanted old new v w table after (Err full)
 TakesNext wanted old new v w table after (Err Memory) = ⊥

@@ -1,14 +1,14 @@
 // Lists the images of a stream as lines.
 ghost use Rattle.std.specs.Prelude.{◌≡◌};
 ghost use Rattle.image_info.specs.Answers.{Informs};
-ghost use Rattle.image_info.specs.Steps.{framing_in, CanTake, TakesNext};
+ghost use Rattle.image_info.specs.Steps.{CanTake, TakesNext};
 ghost use Rattle.image_info.specs.Tables.{AreRanged};
 
 use crate::giving::give_lines;
 use crate::info::{InfoDone, InfoFault, InfoWish};
 use crate::passing::pass_packet;
 use crate::table::Table;
-use packet_defs::{Framing, PacketRead};
+use packet_assembly::{Framing, framing_in};
 use port_122::Port;
 use space_packets::PacketReader;
 use std::alloc::Global;
@@ -86,14 +86,4 @@ fn take_next<X: Port>(
         return Err(InfoFault::TooManyImages);
     };
     Ok(Step::Passed)
-}
-
-// Returns why the stream can't be read on, if that was read.
-fn framing_in(read: PacketRead) -> Option<Framing>
-    ensures { result ≡ framing_in read }
-{
-    match read {
-        PacketRead::Fault(framing) => Some(framing),
-        _ => None,
-    }
 }

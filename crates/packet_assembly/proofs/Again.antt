@@ -1,8 +1,6 @@
 -- If the end was reached, or the stream can't be read on, each further read returns the same.
-use Rattle.std.proofs.Common.{◌≡◌, ◌⊎◌, ℕ, List, [], ◌∷◌, refl, ap, ◌∙◌, arith, add-zero}
-use Rattle.std.specs.Prelude.{Bool, true, false, ◌==◌, ◌||◌, Option, Some, None, Result, Ok, Err}
+use Rattle.std.proofs.Common.{sym, ◌≡◌, ◌⊎◌, ℕ, List, [], ◌∷◌, refl, ap, ◌∙◌, arith, add-zero, Bool, true, false, ◌==◌, ◌||◌, Option, Some, None, Result, Ok, Err, append-nil}
 use Rattle.std.proofs.lemmas.Bool.{false≢true}
-use Rattle.std.proofs.lemmas.List.{append-nil}
 use Rattle.std.proofs.lemmas.Bool.Decides.{nat_tests}
 use Rattle.bit_pipe.specs.declared.fault.InFault.{InFault}
 use Rattle.bit_pipe.specs.declared.fault.InFault.TheVariants.{LongInput}
@@ -14,18 +12,18 @@ use Rattle.packet_defs.specs.Streams.{has_bad_version, begins_packet}
 use Rattle.space_packets.specs.Intake.{Intake, is_decided, end_read, verdict, fed}
 use Rattle.space_packets.specs.PacketReads.{ReadsPacket, EndsPacket}
 use Rattle.space_packets.proofs.Intakes.{same_intake, verdict_bad}
+use Rattle.space_packets.proofs.Equations.{is_decided-is, verdict-is}
 use Rattle.packet_assembly.specs.declared.note.Passed.{Passed}
 use Rattle.packet_assembly.specs.Assembling.{Assembling}
 use Rattle.packet_assembly.specs.Notes.{passed_for, PassesNext}
 use Rattle.packet_assembly.specs.Segments.{StandsEnded, StandsLong}
-use Rattle.packet_assembly.proofs.Verdicts.{is_over, over_read, long_read}
+use Rattle.space_packets.proofs.Verdicts.{is_over, over_read, long_read}
 
 decided_by : (a b c d : Bool) (x y z w r : Result PacketRead InFault) → first_of (when a x ∷ when b y ∷ when c z ∷ when d w ∷ []) ≡ Some r → (a || (b || (c || d))) ≡ true
 decided_by a b c d x y z w r e = grind (arith, nat_tests)
 
 decided : (apid : ℕ) (v : Intake) (r : Result PacketRead InFault) → verdict apid v ≡ Some r → is_decided v ≡ true
-unfolding verdict is_decided
-decided apid v r e = decided_by (has_bad_version v.pending) (begins_packet v.pending) v.ended (v.taken == v.cap) _ _ _ _ r e
+decided apid v r e = is_decided-is v ∙ decided_by (has_bad_version v.pending) (begins_packet v.pending) v.ended (v.taken == v.cap) _ _ _ _ r (sym (verdict-is apid v) ∙ e)
 
 or_false : (b : Bool) → (b || false) ≡ b
 or_false b = grind (arith, nat_tests)
@@ -35,12 +33,10 @@ fed_quiet : (v : Intake) → fed v [] false ≡ record v { text = [] }
 fed_quiet v = same_intake refl (add-zero v.taken) (append-nil v.pending) refl (or_false v.ended)
 
 textless : (apid : ℕ) (v : Intake) → verdict apid (record v { text = [] }) ≡ verdict apid v
-unfolding verdict
-textless apid v = refl
+textless apid v = verdict-is apid (record v { text = [] }) ∙ sym (verdict-is apid v)
 
 textless_decided : (v : Intake) → is_decided (record v { text = [] }) ≡ is_decided v
-unfolding is_decided
-textless_decided v = refl
+textless_decided v = is_decided-is (record v { text = [] }) ∙ sym (is_decided-is v)
 
 quiet_verdict : (apid : ℕ) (v : Intake) → verdict apid (fed v [] false) ≡ verdict apid v
 quiet_verdict apid v = ap (verdict apid) (fed_quiet v) ∙ textless apid v

@@ -1,7 +1,5 @@
 -- What a segment header that agrees reports of its segment and of the image.
-use Rattle.std.proofs.Common.{◌≡◌, ◌⊎◌, inl, inr, ◌≤◌, ◌<◌, ◌+◌, ◌-◌, ◌*◌, ◌/◌, ◌%◌, ℕ, List, [], ◌∷◌, refl, sym, ap, subst, ◌∙◌, arith}
-use Rattle.std.specs.Prelude.{Bool, true, false, ◌==◌, ◌&&◌, nat_le, nat_lt, min, if◌then◌else◌}
-use Rattle.std.specs.Str.{bytes_eq}
+use Rattle.std.proofs.Common.{◌≡◌, ◌⊎◌, inl, inr, ◌≤◌, ◌<◌, ◌+◌, ◌-◌, ◌*◌, ◌/◌, ◌%◌, ℕ, List, [], ◌∷◌, refl, sym, ap, subst, ◌∙◌, arith, Bool, true, false, ◌==◌, ◌&&◌, nat_le, nat_lt, min, if◌then◌else◌, bytes_eq, None}
 use Rattle.std.proofs.lemmas.Bool.{false≢true, and_parts, leb-true, not-false, ltb-true, eqb-true}
 use Rattle.std.proofs.lemmas.Bool.Decides.{nat_tests}
 use Rattle.base_122.specs.Sizes.{block_count}
@@ -12,7 +10,6 @@ use Rattle.segment_defs.specs.declared.head.SegmentHead.{SegmentHead}
 use Rattle.segment_defs.specs.declared.fault.HeadFault.{HeadFault}
 use Rattle.packet_defs.specs.declared.ancillary.Ancillary.{Ancillary}
 use Rattle.packet_defs.specs.Tests.{when, first_of}
-use Rattle.std.specs.Prelude.{None}
 use Rattle.stream_defs.specs.Agreement.{geometry_past, blocks_of, same_flag, is_of_image, has_blocks, may_have_blocks, ends_where_told, may_end, told_height, disagreement}
 use Rattle.stream_defs.specs.Begun.{placed}
 use Rattle.packet_assembly.proofs.Ranges.{within_from}

@@ -1,6 +1,5 @@
 -- The state after packets from the first one of an image on, and what a segment that begins after them reports.
-use Rattle.std.proofs.Common.{◌≡◌, ◌⊎◌, inl, inr, ◌≤◌, ◌<◌, ◌+◌, ◌-◌, ◌*◌, ℕ, List, refl, sym, ap, subst, ◌∙◌, arith}
-use Rattle.std.specs.Prelude.{Bool, true, false, ◌==◌, not, min, Option, None, Some}
+use Rattle.std.proofs.Common.{◌≡◌, ◌⊎◌, inl, inr, ◌≤◌, ◌<◌, ◌+◌, ◌-◌, ◌*◌, ℕ, List, refl, sym, ap, subst, ◌∙◌, arith, Bool, true, false, ◌==◌, not, min, Option, None, Some}
 use Rattle.std.proofs.lemmas.Bool.{false≢true, false_from_ne_true, eqb-true, not-false}
 use Rattle.std.proofs.lemmas.Bool.Decides.{nat_tests}
 use Rattle.base_122.specs.Sizes.{block_count, first_block}
@@ -9,7 +8,7 @@ use Rattle.base_122.specs.declared.geometry.Geometry.{Geometry}
 use Rattle.segment_defs.specs.Head.{IsHead}
 use Rattle.segment_defs.specs.declared.head.SegmentHead.{SegmentHead}
 use Rattle.segment_defs.specs.declared.head.ImagePart.{ImagePart}
-use Rattle.segment_head.proofs.ReadHeads.{read_fits}
+use Rattle.segment_defs.proofs.ReadHeads.{read_fits}
 use Rattle.packet_defs.specs.declared.ancillary.Ancillary.{Ancillary}
 use Rattle.packet_defs.specs.Reading.{ancillary_in, text_in}
 use Rattle.stream_defs.specs.declared.fate.FateState.{FateState}

@@ -1,9 +1,6 @@
 -- What a reader can still take, before a read and after it.
-use Rattle.std.proofs.Common.{◌≡◌, ◌≤◌, ◌<◌, ◌+◌, ◌-◌, ℕ, List, [], ◌∷◌, ◌++◌, length, take, drop, refl, sym, ap, ◌∙◌, arith, append_assoc, length-append}
-use Rattle.std.specs.Prelude.{Bool, true, false, ◌||◌, nat_lt, if◌then◌else◌}
-use Rattle.std.proofs.lemmas.Bool.{false≢true}
+use Rattle.std.proofs.Common.{◌≡◌, ◌≤◌, ◌<◌, ◌+◌, ◌-◌, ℕ, List, [], ◌++◌, length, take, drop, refl, sym, ap, ◌∙◌, arith, append_assoc, length-append, Bool, true, false, ◌||◌, nat_lt, if◌then◌else◌, append-nil, take_all, take-append-drop}
 use Rattle.std.proofs.lemmas.Bool.Decides.{nat_tests}
-use Rattle.std.proofs.lemmas.List.{append-nil, take_all, take-append-drop}
 use Rattle.std.proofs.Math.Seq.{take-append-add}
 use Rattle.bit_pipe.specs.Sources.{End, TooLong, InPieces}
 use Rattle.bit_pipe.specs.declared.fault.InFault.{InFault}
@@ -12,24 +9,22 @@ use Rattle.packet_defs.proofs.Fronts.{version-append}
 use Rattle.packet_defs.proofs.Splits.{splits_whole, splits_left}
 use Rattle.space_packets.specs.Intake.{Intake, is_decided, fed}
 use Rattle.space_packets.proofs.Intakes.{no_begin}
+use Rattle.space_packets.proofs.Equations.{is_decided-is}
 use Rattle.packet_assembly.specs.Comings.{coming, sees_end}
 use Rattle.packet_assembly.specs.Tails.{stop_of}
-use Rattle.packet_assembly.proofs.Verdicts.{AtCap}
+use Rattle.packet_assembly.proofs.BadVersions.{bad_some}
+use Rattle.space_packets.proofs.Verdicts.{AtCap}
 
 -- ---- a read
 
 pub decided_ended : (v : Intake) → v.ended ≡ true → is_decided (fed v [] false) ≡ true
-unfolding is_decided
-decided_ended v e = grind (arith, nat_tests)
+decided_ended v e = grind (arith, nat_tests, is_decided-is)
 
 coming_by : (ended saw_end : Bool) (cap taken : ℕ) (pending took rest : List ℕ) → taken + length took ≤ cap → (ended ≡ true → took ≡ []) → (saw_end ≡ true → rest ≡ []) →
     pending ++ (if ended then [] else take (cap - taken) (took ++ rest)) ≡ (pending ++ took) ++ (if ended || saw_end then [] else take (cap - (taken + length took)) rest)
 coming_by true saw_end cap taken pending took rest within none seen =
     sym (append-nil (pending ++ took) ∙ ap (λ zs. pending ++ zs) (none refl))
-coming_by false true cap taken pending took rest within none seen =
-    let all : take (cap - taken) (took ++ rest) ≡ took =
-    ap (λ zs. take (cap - taken) (took ++ zs)) (seen refl) ∙ ap (take (cap - taken)) (append-nil took) ∙ take_all (cap - taken) took (omega (arith, within)) in
-    ap (λ zs. pending ++ zs) all ∙ sym (append-nil (pending ++ took))
+coming_by false true cap taken pending took rest within none seen = grind (arith, nat_tests, append-nil, take_all)
 coming_by false false cap taken pending took rest within none seen =
     let size : cap - taken ≡ length took + (cap - (taken + length took)) = omega (arith, within) in
     ap (λ n. pending ++ take n (took ++ rest)) size
@@ -66,10 +61,6 @@ none_split octets none = record { octets_are = refl; packets_are = tt; none_left
 pub record StopsSo (v : Intake) (rest : List ℕ) (stop : End) : Type 0 where
   pub none : whole_packets (coming v rest) ≡ []
   pub stops : stop_of v rest ≡ stop
-
-bad_some : (xs : List ℕ) → has_bad_version xs ≡ true → 0 < length xs
-bad_some [] e = absurd (false≢true e)
-bad_some (x ∷ xs) e = omega arith
 
 pub bad_stops : (v : Intake) (rest : List ℕ) → has_bad_version v.pending ≡ true → StopsSo v rest InPieces
 bad_stops v rest bad =

@@ -1,6 +1,5 @@
 -- How far the heads of kept packets reach, and the geometry, from one packet on to another.
-use Rattle.std.proofs.Common.{◌≡◌, inl, inr, ◌≤◌, ◌<◌, ◌+◌, ◌*◌, ℕ, List, [], ◌∷◌, refl, sym, ap, subst, ◌∙◌, arith}
-use Rattle.std.specs.Prelude.{Bool, true, false, ◌==◌, max, if◌then◌else◌, Option, None, Some, fold, not, Result, Ok, Err}
+use Rattle.std.proofs.Common.{◌≡◌, inl, inr, ◌≤◌, ◌<◌, ◌+◌, ◌*◌, ℕ, List, [], ◌∷◌, refl, sym, ap, subst, ◌∙◌, arith, Bool, true, false, ◌==◌, max, if◌then◌else◌, Option, None, Some, fold, not, Result, Ok, Err}
 use Rattle.std.proofs.lemmas.Bool.{false≢true}
 use Rattle.std.proofs.lemmas.Bool.Decides.{nat_tests}
 use Rattle.std.proofs.lemmas.Grind.{fold-append}
@@ -24,6 +23,7 @@ use Rattle.packet_assembly.specs.Assembling.{Starts, BeginsNone, is_first, last_
 use Rattle.packet_assembly.proofs.KeptPackets.{stays}
 use Rattle.packet_assembly.proofs.OwnPackets.{own_so, or_rest}
 use Rattle.packet_assembly.proofs.Begun.{Leaves, IsLeft, fresh_left, first_leaves, first_keeps, begins_so}
+use Rattle.stream_defs.proofs.Equations.{kept-none, kept-cons, end_of-is}
 
 -- the greatest of a number and the ends of packets
 abbrev pub end_from : (ended : ℕ) → List (List ℕ) → ℕ
@@ -34,17 +34,12 @@ end_from ended packets = fold (λ most packet. max most (end_in packet)) ended p
 -- a packet that begins no segment reaches nothing
 pub none_reaches : (apid : ℕ) (s : FateState) (packet : List ℕ) → is_first apid s packet ≡ false →
     ((after apid s packet).geometry ≡ s.geometry) × ((n : ℕ) → end_from n (kept apid s (packet ∷ [])) ≡ n)
-unfolding kept
-none_reaches apid s packet none = by_kept (is_kept (fate apid s packet)) refl
+none_reaches apid s packet none = simp (kept-none, kept-cons) (by_kept (is_kept (fate apid s packet)) refl)
   where
     by_kept : (b : Bool) → is_kept (fate apid s packet) ≡ b →
         ((after apid s packet).geometry ≡ s.geometry) × ((n : ℕ) → end_from n (if is_kept (fate apid s packet) then packet ∷ [] else []) ≡ n)
     by_kept false e = (ap (λ (s : FateState). s.geometry) (after_as_other apid s packet e), λ n. rw e refl)
-    by_kept true e =
-        let part : ((ancillary_in packet).part == 0) ≡ false = rw e at none in
-        let is = is_kept_so (fate apid s packet) e in
-        let end : end_in packet ≡ 0 = rw part refl in
-        (ap (λ (s : FateState). s.geometry) (after_as_kept apid s packet is) ∙ rw part refl, λ n. rw e (omega (arith, end)))
+    by_kept true e = grind (arith, nat_tests, false, is_kept_so, after_as_kept)
 
 kept_more : (apid : ℕ) (s : FateState) (x : List ℕ) (xs : List (List ℕ)) (n : ℕ) →
     end_from n (kept apid s (x ∷ xs)) ≡ end_from (end_from n (kept apid s (x ∷ []))) (kept apid (after apid s x) xs)
@@ -52,8 +47,7 @@ kept_more apid s x xs n =
     ap (end_from n) (kept-append apid s (x ∷ []) xs) ∙ fold-append (λ most packet. max most (end_in packet)) n (kept apid s (x ∷ [])) (kept apid (after apid s x) xs)
 
 pub kept_nothing : (apid : ℕ) (s : FateState) → kept apid s [] ≡ []
-unfolding kept
-kept_nothing apid s = refl
+kept_nothing apid s = simp (kept-none, kept-cons)
 
 -- the state after packets that begin no segment
 pub record StaysSo (apid : ℕ) (s : FateState) (packets : List (List ℕ)) : Type 0 where
@@ -133,8 +127,7 @@ first_left apid s x n start left starts =
 -- what a packet that begins a segment reaches
 pub first_reaches : (apid : ℕ) (s : FateState) (x : List ℕ) (start : SegmentStart) (n : ℕ) → Starts apid s x start → n ≤ start.ancillary.first →
     end_from n (kept apid s (x ∷ [])) ≡ start.ancillary.first + start.head.blocks
-unfolding kept
-first_reaches apid s x start n starts low = grind (arith, nat_tests)
+first_reaches apid s x start n starts low = simp (kept-none, kept-cons) (grind (arith, nat_tests))
 
 -- a head was read if a segment begins
 pub starts_with : (apid : ℕ) (s : FateState) (x : List ℕ) → is_first apid s x ≡ true → (start : SegmentStart) × Starts apid s x start
@@ -174,8 +167,7 @@ more_left apid s (x ∷ xs) n left =
 
 -- the state after any packets, and how far their heads reach
 pub all_left : (apid : ℕ) (packets : List (List ℕ)) → IsLeft (after_all apid fresh packets) (end_of (kept apid fresh packets))
-unfolding end_of
-all_left apid packets = more_left apid fresh packets 0 fresh_left
+all_left apid packets = simp end_of-is (more_left apid fresh packets 0 fresh_left)
 
 -- whether the height is reported last doesn't change after the first kept packet
 pub told_one : (apid : ℕ) (s : FateState) (x : List ℕ) (g : Geometry) → s.geometry ≡ Some g → (h : Geometry) × ((after apid s x).geometry ≡ Some h) × ((after apid s x).told_last ≡ s.told_last)

@@ -1,6 +1,5 @@
 -- The reason why a stream can't be read on, once it was found, remains true.
-use Rattle.std.proofs.Common.{◌≡◌, ℕ, refl, ap, ◌∙◌}
-use Rattle.std.specs.Prelude.{Option, Some, None, Ok, Err}
+use Rattle.std.proofs.Common.{◌≡◌, ℕ, refl, ap, ◌∙◌, Option, Some, None, Ok, Err}
 use Rattle.bit_pipe.specs.declared.fault.InFault.{InFault}
 use Rattle.port_122.specs.Outside.{Outside}
 use Rattle.packet_defs.specs.declared.ancillary.Ancillary.{Ancillary}
@@ -13,7 +12,7 @@ use Rattle.space_packets.specs.PacketReads.{ReadsPacket}
 use Rattle.packet_assembly.specs.Held.{StandsAtFault}
 use Rattle.packet_assembly.proofs.Again.{over_answers}
 use Rattle.packet_assembly.proofs.OneStep.{same_intake}
-use Rattle.packet_assembly.proofs.Verdicts.{over_read}
+use Rattle.space_packets.proofs.Verdicts.{over_read}
 
 -- the reason that was found before is true
 abbrev pub ToldSo : (apid : ℕ) → Intake → Option Framing → Type 0

@@ -1,7 +1,5 @@
 -- An octet of a text that is given.
-use Rattle.std.proofs.Common.{◌≡◌, ◌<◌, ◌+◌, ℕ, List, [], ◌∷◌, length, drop, get_or, sym, ap, subst, ◌∙◌, arith, length-drop, drop-cons}
-use Rattle.std.specs.Prelude.{true, Option, None, Some, Ok}
-use Rattle.std.specs.Option.{option_map}
+use Rattle.std.proofs.Common.{◌≡◌, ◌<◌, ◌+◌, ℕ, List, [], ◌∷◌, length, drop, get_or, sym, ap, subst, ◌∙◌, arith, length-drop, drop-cons, true, Option, None, Some, Ok, option_map}
 use Rattle.std.proofs.lemmas.Bool.Decides.{nat_tests}
 use Rattle.bit_pipe.specs.Sources.{Tail, Comes}
 use Rattle.port_122.specs.Outside.{Outside}

@@ -1,8 +1,6 @@
 -- The laws of an image's geometry and of what the kept heads reach, whether its height is known or reported last.
-use Rattle.std.proofs.Common.{◌≡◌, ◌⊎◌, inl, inr, ◌≤◌, ◌<◌, ◌+◌, ◌-◌, ◌*◌, ℕ, List, [], ◌∷◌, ◌++◌, refl, sym, ap, subst, ◌∙◌, arith}
-use Rattle.std.specs.Prelude.{◌≢◌, Bool, true, false, ◌==◌, min, if◌then◌else◌, Option, None, Some, is_some, ℤ}
+use Rattle.std.proofs.Common.{◌≡◌, ◌⊎◌, inl, inr, ◌≤◌, ◌<◌, ◌+◌, ◌-◌, ◌*◌, ℕ, List, [], ◌∷◌, ◌++◌, refl, sym, ap, subst, ◌∙◌, arith, ◌≢◌, Bool, true, false, ◌==◌, min, if◌then◌else◌, Option, None, Some, is_some, ℤ, max}
 use Rattle.std.proofs.lemmas.Grind.{fold-append}
-use Rattle.std.specs.Prelude.{max}
 use Rattle.std.proofs.lemmas.Bool.Decides.{nat_tests}
 use Rattle.base_122.specs.Sizes.{first_block, segment_blocks}
 use Rattle.base_122.specs.Ranges.{IsGeometryInRange, IsWithin, rows_range}
@@ -21,6 +19,7 @@ use Rattle.packet_assembly.specs.declared.note.SegmentStart.{SegmentStart}
 use Rattle.packet_assembly.specs.Assembling.{Starts, BeginsNone, is_first, last_index}
 use Rattle.packet_assembly.proofs.Begun.{Leaves, HasBegun, IsLeft, first_leaves, told_if}
 use Rattle.packet_assembly.proofs.Ends.{end_from, none_begun, stays_none, first_reaches, starts_with, one_left, all_left, told_one}
+use Rattle.stream_defs.proofs.Equations.{end_of-is}
 
 -- ---- the last place
 
@@ -97,15 +96,13 @@ module _ (apid : ℕ) (packets : List (List ℕ)) (g : Geometry) (index : ℕ) (
 -- so blocks are passed as in the image that they are placed in
 pub through_open : (apid : ℕ) (packets : List (List ℕ)) (g : Geometry) (received : ℕ → Option (List (List ℤ))) (index : ℕ) → (after_all apid fresh packets).geometry ≡ Some g →
     last_index (after_all apid fresh packets).last ≡ Some index → blocks_through g received index ≡ blocks_through (placed g) received index
-through_open apid packets g received index geometry last =
-    ap (λ n. first_block g.segment index + (if is_some (received index) then n else 0)) (blocks_there apid packets g index geometry last)
+through_open apid packets g received index geometry last = grind (arith, nat_tests, is_some, blocks_there)
 
 -- ---- what the kept heads reach, from one packet to another
 
 end_joined : (apid : ℕ) (before packets : List (List ℕ)) →
     end_of (kept apid fresh (before ++ packets)) ≡ end_from (end_of (kept apid fresh before)) (kept apid (after_all apid fresh before) packets)
-unfolding end_of
-end_joined apid before packets = grind (arith, nat_tests, end_from, kept-append, fold-append)
+end_joined apid before packets = simp end_of-is (grind (arith, nat_tests, end_from, kept-append, fold-append))
 
 end_rises : (n : ℕ) (packets : List (List ℕ)) → n ≤ end_from n packets
 end_rises n [] = omega arith

@@ -1,6 +1,5 @@
 -- Packets that are kept, and those that begin a segment.
-use Rattle.std.proofs.Common.{◌≡◌, ℕ, List, [], ◌∷◌, ◌++◌, drop, refl, sym, ap, arith}
-use Rattle.std.specs.Prelude.{Bool, true, false, ◌==◌, if◌then◌else◌, Option, Some, None, Result, Ok, Err}
+use Rattle.std.proofs.Common.{◌≡◌, ℕ, List, [], ◌∷◌, ◌++◌, drop, refl, ap, arith, Bool, true, false, ◌==◌, if◌then◌else◌, Option, Some, None, Result, Ok, Err}
 use Rattle.std.proofs.lemmas.Bool.Decides.{nat_tests}
 use Rattle.base_122.specs.declared.geometry.Geometry.{Geometry}
 use Rattle.segment_defs.specs.declared.head.SegmentHead.{SegmentHead}
@@ -33,10 +32,7 @@ none_first apid s packet none = grind (arith, nat_tests, kept_tests, is_kept_so,
 
 found_by : (a : Ancillary) (start : SegmentStart) (b : Bool) (r : Result SegmentHead HeadFault) → start_of a (if b then ok_of r else None) ≡ Some start →
     (b ≡ true) × (r ≡ Ok start.head) × (start.ancillary ≡ a) × ((if b then ok_of r else None) ≡ Some start.head)
-found_by a start true (Ok head) e =
-    let same : record { ancillary = a; head = head } ≡ start = cc in
-    let h : head ≡ start.head = ap (λ (x : SegmentStart). x.head) same in
-    (refl, ap Ok h, sym (ap (λ (x : SegmentStart). x.ancillary) same), ap Some h)
+found_by a start true (Ok head) e = grind (arith, nat_tests)
 found_by a start true (Err fault) e = absurd cc
 found_by a start false r e = absurd cc
 

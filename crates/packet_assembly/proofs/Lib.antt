@@ -1,8 +1,8 @@
-pub mod Verdicts
 pub mod FateSteps
 pub mod HeadLengths
 pub mod Steps
 pub mod KeptPackets
+pub mod BadVersions
 pub mod Comings
 pub mod Again
 pub mod OneStep
@@ -22,3 +22,4 @@ pub mod ReachedRows
 pub mod Framings
 pub mod Ready
 pub mod Readings
+pub mod PacketSteps

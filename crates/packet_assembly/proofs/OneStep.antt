@@ -1,7 +1,5 @@
 -- The effect of one read on a stretch: one packet more, or none.
-use Rattle.std.proofs.Common.{◌≡◌, ◌<◌, ◌+◌, ◌-◌, ℕ, List, [], ◌∷◌, ◌++◌, length, take, refl, sym, ap, subst, ◌∙◌, arith, add-zero, length-append}
-use Rattle.std.specs.Prelude.{Bool, true, false, Option, Some, None, Result, Ok, Err}
-use Rattle.std.proofs.lemmas.List.{append-nil, take-append-drop}
+use Rattle.std.proofs.Common.{◌≡◌, ◌<◌, ◌+◌, ◌-◌, ℕ, List, [], ◌∷◌, ◌++◌, length, take, refl, sym, ap, subst, ◌∙◌, arith, add-zero, length-append, Bool, true, false, Option, Some, None, Result, Ok, Err, append-nil, take-append-drop}
 use Rattle.bit_pipe.specs.declared.fault.InFault.{InFault}
 use Rattle.bit_pipe.specs.declared.fault.InFault.TheVariants.{ReadFault, LongInput, Broken}
 use Rattle.port_122.specs.Outside.{Outside, Exchange, AtEnd, IsUsedUp, Rose}
@@ -21,7 +19,7 @@ use Rattle.packet_assembly.specs.declared.note.Passed.{Passed}
 use Rattle.packet_assembly.specs.Assembling.{Assembling, AsksAt, Passes}
 use Rattle.packet_assembly.specs.Notes.{text_brought, passed_for, stands_after, past_next, at_end, PassesNext}
 use Rattle.packet_assembly.specs.Segments.{StandsEnded, StandsLong}
-use Rattle.packet_assembly.proofs.Verdicts.{mine_read, other_read, over_read, long_read, shorter_past}
+use Rattle.space_packets.proofs.Verdicts.{mine_read, other_read, over_read, long_read, shorter_past}
 use Rattle.packet_assembly.specs.Comings.{coming, sees_end}
 use Rattle.packet_assembly.proofs.Comings.{coming_on, coming_past, sees_on}
 use Rattle.packet_assembly.proofs.Steps.{passed}

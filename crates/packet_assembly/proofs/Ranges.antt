@@ -1,6 +1,5 @@
 -- A geometry that is known is in range.
-use Rattle.std.proofs.Common.{◌≡◌, ◌⊎◌, inl, inr, ◌≤◌, ◌+◌, ◌*◌, ◌%◌, ℕ, List, [], ◌∷◌, refl, sym, subst, arith}
-use Rattle.std.specs.Prelude.{Bool, true, false, not, ◌&&◌, ◌||◌, ◌==◌, nat_lt, if◌then◌else◌, Option, Some, None, Result, Ok, IfSome}
+use Rattle.std.proofs.Common.{◌≡◌, ◌⊎◌, inl, inr, ◌≤◌, ◌+◌, ◌*◌, ◌%◌, ℕ, List, [], ◌∷◌, refl, sym, subst, arith, Bool, true, false, not, ◌&&◌, ◌||◌, ◌==◌, nat_lt, if◌then◌else◌, Option, Some, None, Result, Ok, IfSome, option_map}
 use Rattle.std.proofs.lemmas.Bool.{false≢true, and_parts}
 use Rattle.std.proofs.lemmas.Bool.Decides.{nat_tests}
 use Rattle.base_122.specs.declared.range.FieldRange.{FieldRange}
@@ -15,11 +14,10 @@ use Rattle.segment_defs.specs.Head.{IsHead}
 use Rattle.segment_defs.specs.Reading.{head_read}
 use Rattle.packet_defs.specs.declared.ancillary.Ancillary.{Ancillary}
 use Rattle.packet_defs.specs.Tests.{when, first_of}
-use Rattle.std.specs.Option.{option_map}
 use Rattle.stream_defs.specs.declared.fate.FateState.{FateState}
 use Rattle.stream_defs.specs.declared.fate.Fate.TheVariants.{Foreign, Late, OutOfPlace, BadHead}
 use Rattle.stream_defs.specs.Agreement.{geometry_told, geometry_for, same_flag, is_of_image, head_refusal, has_blocks, pads_as_told, may_have_blocks, ends_where_told, told_height, may_end, disagreement, geometry_past}
-use Rattle.stream_defs.specs.Fates.{tells_rows, differs, is_foreign, is_late, is_out_of_place}
+use Rattle.stream_defs.specs.Fates.{is_foreign, is_late, is_out_of_place}
 use Rattle.packet_assembly.specs.Classification.{unkept, refusal_told, ok_of, head_told, classified, past_kept}
 use Rattle.packet_assembly.specs.Ranged.{IsRanged, TellsHeight}
 use Rattle.packet_assembly.proofs.FateSteps.{classified_ok}
@@ -41,9 +39,7 @@ rows_from false rows e = inr (within_from rows_range rows e)
 
 -- the sizes in a packet that isn't foreign
 own_sizes : (s : FateState) (a : Ancillary) → is_foreign s a ≡ false → ((a.rows ≡ 0) ⊎ IsWithin rows_range a.rows) × IsWithin segment_range a.segment
-own_sizes s a e =
-    let t = both_true (tells_rows a) (is_within segment_range a.segment) (not (a.first == a.index * a.segment) || differs s.geometry s.told_last a) e in
-    (rows_from a.told_last a.rows t.0, within_from segment_range a.segment t.1)
+own_sizes s a e = grind (arith, nat_tests, both_true, not, rows_from, within_from)
 
 own_by : (b c d : Bool) (o : Option HeadFault) → first_of (when b Foreign ∷ when c Late ∷ when d OutOfPlace ∷ option_map BadHead o ∷ []) ≡ None → b ≡ false
 own_by b c d o e = grind (arith, nat_tests)

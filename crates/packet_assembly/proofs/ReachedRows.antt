@@ -1,7 +1,7 @@
 -- Of a geometry only the height changes, and the rows that the kept heads reach don't fall.
-use Rattle.std.proofs.Common.{◌≡◌, ◌⊎◌, inl, inr, ◌≤◌, ◌<◌, ℕ, List, [], ◌∷◌, ◌++◌, refl, sym, ap, subst, ◌∙◌, arith}
-use Rattle.std.specs.Prelude.{◌≢◌, Bool, true, false, ◌==◌, None, Some}
+use Rattle.std.proofs.Common.{◌≡◌, ◌⊎◌, inl, inr, ◌≤◌, ◌<◌, ℕ, List, [], ◌∷◌, ◌++◌, refl, sym, ap, subst, ◌∙◌, arith, ◌≢◌, Bool, true, false, ◌==◌, Some}
 use Rattle.std.proofs.lemmas.Bool.{false≢true, eqb-true}
+use Rattle.std.proofs.lemmas.Bool.Decides.{nat_tests}
 use Rattle.base_122.specs.Sizes.{block_count, total_blocks}
 use Rattle.base_122.specs.Ranges.{IsWithin, rows_range}
 use Rattle.base_122.specs.declared.geometry.Geometry.{Geometry}
@@ -58,9 +58,7 @@ reached_by g h m n sized some le few height stays = by (g.rows == 0) refl
 
     by : (b : Bool) → (g.rows == 0) ≡ b → rows_reached g m ≤ rows_reached h n
     by true e = reported (eqb-true g.rows 0 e) height
-    by false e =
-        let same : h ≡ g = stays (λ none. false≢true (sym e ∙ is_open g.rows none)) in
-        subst (λ (k : Geometry). rows_reached g m ≤ rows_reached k n) (sym same) (reached_rises g m n some le)
+    by false e = grind (arith, nat_tests, false≢true, is_open, reached_rises)
 
 -- the rows that the kept heads reach don't fall
 pub reached_more : (apid : ℕ) (before packets : List (List ℕ)) (g h : Geometry) → (after_all apid fresh before).geometry ≡ Some g → (after_all apid fresh (before ++ packets)).geometry ≡ Some h →
@@ -75,16 +73,4 @@ reached_more apid before packets g h first last = by (geometry_more apid before 
 
     by : (k : Geometry) × ((after_all apid (after_all apid fresh before) packets).geometry ≡ Some k) × (k ≡ record g { rows = k.rows }) →
         rows_reached g (end_of (kept apid fresh before)) ≤ rows_reached h (end_of (kept apid fresh (before ++ packets)))
-    by there = elim (all_left apid (before ++ packets)).by [
-      | inl none ↦ absurd (let no : None ≡ Some h = sym none.geometry ∙ last in cc)
-      | inr begun ↦
-          let left = leaves begun in
-          let at : (after_all apid (after_all apid fresh before) packets).geometry ≡ Some h = ap (λ (s : FateState). s.geometry) (sym joined) ∙ last in
-          let same : there.0 ≡ h = let e : Some there.0 ≡ Some h = sym there.1 ∙ at in cc in
-          let sized : h ≡ record g { rows = h.rows } = subst (λ (k : Geometry). k ≡ record g { rows = k.rows }) same there.2 in
-          let width : h.width ≡ g.width = ap (λ (k : Geometry). k.width) sized in
-          let wide = left.wide in
-          let rise : end_of (kept apid fresh before) ≤ end_of (kept apid fresh (before ++ packets)) = end_more apid before packets in
-          reached_by g h (end_of (kept apid fresh before)) (end_of (kept apid fresh (before ++ packets))) sized (omega (arith, wide, width)) rise left.within left.height
-          (λ some. let e : Some h ≡ Some g = sym at ∙ geometry_known apid before packets g first some in cc)
-    ]
+    by there = grind (arith, nat_tests, all_left, leaves, joined, end_more, reached_by, geometry_known)

@@ -1,9 +1,6 @@
 -- How a stream is read on, and to its end.
-use Rattle.std.proofs.Common.{◌≡◌, ◌≤◌, ◌<◌, ◌-◌, ℕ, List, [], ◌∷◌, ◌++◌, length, take, refl, sym, ap, ◌∙◌, inl, inr, arith, append_assoc, length-append}
-use Rattle.std.specs.Prelude.{Bool, true, false, nat_lt, ◌==◌, Option, None, Some, Result, Ok, Err}
-use Rattle.std.proofs.lemmas.Bool.{ltb-true}
+use Rattle.std.proofs.Common.{◌≡◌, ◌≤◌, ◌<◌, ◌-◌, ℕ, List, [], ◌∷◌, ◌++◌, length, take, refl, sym, ap, ◌∙◌, inl, inr, arith, append_assoc, length-append, Bool, true, false, nat_lt, ◌==◌, Option, None, Some, Result, Ok, Err, ltb-true, append-nil, take_all}
 use Rattle.std.proofs.lemmas.Bool.Decides.{nat_tests}
-use Rattle.std.proofs.lemmas.List.{append-nil, take_all}
 use Rattle.bit_pipe.specs.declared.fault.InFault.{InFault}
 use Rattle.bit_pipe.specs.declared.fault.InFault.TheVariants as in_faults
 use Rattle.port_122.specs.Outside.{Outside, Exchange, IsUsedUp}
@@ -20,12 +17,14 @@ use Rattle.packet_defs.proofs.Splits.{splits_whole, splits_left}
 use Rattle.stream_defs.specs.declared.fate.FateState.{FateState}
 use Rattle.stream_defs.specs.Fates.{fresh, after_all}
 use Rattle.stream_defs.proofs.ChosenLaws.{after_all-append}
-use Rattle.space_packets.specs.Intake.{verdict, end_read, place_of}
+use Rattle.space_packets.specs.Intake.{end_read, place_of}
+use Rattle.space_packets.proofs.Equations.{verdict-is}
 use Rattle.packet_assembly.specs.Assembling.{Assembling, Passes, unread_assembly}
 use Rattle.packet_assembly.specs.Segments.{StandsEnded, StandsLong}
 use Rattle.packet_assembly.specs.Passing.{before_loses}
 use Rattle.packet_assembly.specs.Readings.{HasRead, SawEnd, IsReadOut}
-use Rattle.packet_assembly.proofs.Verdicts.{is_over, over_read, long_read}
+use Rattle.space_packets.proofs.Verdicts.{is_over, over_read, long_read}
+use Rattle.packet_defs.proofs.Equations.{framing_at-is}
 
 -- ---- further
 
@@ -100,17 +99,13 @@ end_is_over o = grind (arith, nat_tests)
 abbrev end_answer : Option Framing → Option (Result PacketRead InFault)
 end_answer found = Some (Ok (end_read found))
 
-same_end : (a b : Option Framing) → end_answer a ≡ end_answer b → a ≡ b
-same_end a b e = grind (arith, nat_tests)
-
 abbrev answer_by : (bad begins ended full : Bool) (place : ℕ) (left : List ℕ) (read : PacketRead) → Option (Result PacketRead InFault)
 answer_by bad begins ended full place left read =
     first_of (when bad (Ok (Fault (BadVersion place))) ∷ when begins (Ok read) ∷ when ended (Ok (end_read (framing_at place left))) ∷ when full (Err in_faults.LongInput) ∷ [])
 
 -- why it ended
 by_tests : (bad begins ended full : Bool) (place : ℕ) (left : List ℕ) (read : PacketRead) (found : Option Framing) → has_bad_version left ≡ bad → begins ≡ false → answer_by bad begins ended full place left read ≡ end_answer found → found ≡ framing_at place left
-unfolding framing_at
-by_tests bad begins ended full place left read found h8 none e = grind (arith, nat_tests)
+by_tests bad begins ended full place left read found h8 none e = grind (arith, nat_tests, framing_at-is)
 
 module _ {apid cap : ℕ} {b : Assembling} {took : List ℕ} {passed : List (List ℕ)} (read : HasRead apid cap b took passed) where
   -- if no whole packet waits
@@ -129,12 +124,11 @@ module _ {apid cap : ℕ} {b : Assembling} {took : List ℕ} {passed : List (Lis
   ended_packets ended = whole_so (ended_none ended)
 
   pub ended_framing : StandsEnded b → b.framing ≡ framing took
-  unfolding verdict
   ended_framing ended =
       let v = b.intake in
       let splits = splits_so (ended_none ended) in
       let place : place_after took ≡ place_of v = ap (λ xs. length (joined xs)) (splits_whole splits) ∙ (let size = ap length read.octets_are in omega (arith, size, length-append (joined passed) v.pending, read.taken)) in
-      by_tests (has_bad_version v.pending) (begins_packet v.pending) v.ended (v.taken == v.cap) (place_of v) v.pending _ b.framing refl (ended_none ended) ended
+      by_tests (has_bad_version v.pending) (begins_packet v.pending) v.ended (v.taken == v.cap) (place_of v) v.pending _ b.framing refl (ended_none ended) (sym (verdict-is b.apid v) ∙ ended)
       ∙ ap (λ n. framing_at n v.pending) (sym place) ∙ ap (framing_at (place_after took)) (sym (splits_left splits))
 
   -- the end was read, or what can't be read on

@@ -1,8 +1,5 @@
 -- Octets of a text that were read and not given yet, passed at once.
-use Rattle.std.proofs.Common.{◌≡◌, ℕ, ◌≤◌, List, [], length, take, drop, refl, sym, ap, ◌∙◌, arith, append_assoc, ◌++◌}
-use Rattle.std.specs.Prelude.{Option, None, Some}
-use Rattle.std.proofs.lemmas.List.{take-append-drop}
-use Rattle.std.specs.Option.{option_map}
+use Rattle.std.proofs.Common.{◌≡◌, ℕ, ◌≤◌, List, [], length, take, drop, refl, sym, ap, ◌∙◌, arith, append_assoc, ◌++◌, Option, None, Some, take-append-drop, option_map}
 use Rattle.bit_pipe.specs.Sources.{Comes}
 use Rattle.port_122.specs.Outside.{Outside}
 use Rattle.packet_assembly.specs.declared.note.SegmentStart.{SegmentStart}

@@ -1,6 +1,5 @@
 -- One packet, or none, by a reader and by the classification of its fields.
-use Rattle.std.proofs.Common.{◌≡◌, ◌≤◌, ◌<◌, ◌+◌, ◌-◌, ℕ, List, [], length, drop, refl, sym, ap, subst, ◌∙◌, arith, length-append, length-drop}
-use Rattle.std.specs.Prelude.{Bool, true, false, Option, Some, None, Result, Ok, Err}
+use Rattle.std.proofs.Common.{◌≡◌, ◌≤◌, ◌<◌, ◌+◌, ◌-◌, ℕ, List, [], length, drop, refl, sym, ap, subst, ◌∙◌, arith, length-append, length-drop, Bool, true, false, Option, Some, None, Result, Ok, Err}
 use Rattle.std.proofs.lemmas.Bool.Decides.{nat_tests}
 use Rattle.bit_pipe.specs.declared.fault.InFault.{InFault}
 use Rattle.bit_pipe.specs.declared.fault.InFault.TheVariants.{ReadFault, LongInput, Broken}
@@ -26,8 +25,9 @@ use Rattle.packet_assembly.specs.Assembling.{Assembling}
 use Rattle.packet_assembly.specs.Classification.{classified}
 use Rattle.packet_assembly.specs.Notes.{note_of, text_brought, start_brought, at_end, PassesNext}
 use Rattle.packet_assembly.specs.Held.{note_told, told_mine, after_mine, told_by, after_by, told_other, after_other}
-use Rattle.packet_assembly.proofs.Verdicts.{mine_read, other_read, over_read, long_read, ends_go, shorter_past, answered_none_text}
+use Rattle.space_packets.proofs.Verdicts.{mine_read, other_read, over_read, long_read, ends_go, shorter_past, answered_none_text}
 use Rattle.packet_assembly.proofs.FateSteps.{note_mine, kept_so, classified_unkept, unkept_so, fate_other}
+use Rattle.packet_defs.proofs.Equations.{skip_of-is}
 
 -- two assemblies are the same by their parts that a packet changes
 pub same_assembling : {a b : Assembling} → a.apid ≡ b.apid → a.intake ≡ b.intake → a.state ≡ b.state → a.packets ≡ b.packets → a.text ≡ b.text → a.held ≡ b.held → a.framing ≡ b.framing → a ≡ b
@@ -95,8 +95,7 @@ counted_packet apid v w took saw_end packets counted whole e =
     omega (arith, counted, shorter_past u whole, length-append v.pending took, ap (λ w. length w.pending) next, ap (λ w. w.taken) next)
 
 long_field : (apid : ℕ) (packet : List ℕ) → skip_of apid packet ≡ None → 24 ≤ field_length packet
-unfolding skip_of
-long_field apid packet mine = grind (arith, nat_tests)
+long_field apid packet mine = grind (arith, nat_tests, skip_of-is)
 
 -- a packet of the image was read
 pub mine_passes : {old new : Outside} {a v b : Assembling} {w : Intake} {head : PacketHead} {tells : Ancillary} {told : Passed} →
@@ -167,10 +166,7 @@ failed_passes {old = old} {new = new} {a = a} {b = b} {w = w} {fault = fault} re
 
 pub counted_on : (packets : ℕ) {apid : ℕ} {p q : Outside} {v w : Intake} {result : Result PacketRead InFault} → packets + length v.pending ≤ v.taken → ReadsPacket apid p q v w result →
     (packets + length w.pending ≤ w.taken) × (w.taken ≤ w.cap) × (w.cap ≡ v.cap)
-counted_on packets {apid = apid} {p = p} {q = q} {v = v} {w = w} {result = result} counted reads =
-    let u = fed v reads.took reads.saw_end in
-    let on = ends_go apid p q u w result reads.ends in
-    (omega (arith, counted, on.taken, on.shorter, length-append v.pending reads.took), omega (arith, on.taken, on.cap, reads.within), on.cap)
+counted_on packets {apid = apid} {p = p} {q = q} {v = v} {w = w} {result = result} counted reads = grind (arith, nat_tests, ends_go, length-append)
 
 pub counted_mine : (packets : ℕ) {apid : ℕ} {p q : Outside} {v w : Intake} {head : PacketHead} {tells : Ancillary} → packets + length v.pending ≤ v.taken → ReadsPacket apid p q v w (Ok (Mine head tells)) →
     packets + length w.pending < w.taken

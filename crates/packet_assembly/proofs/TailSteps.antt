@@ -1,8 +1,5 @@
 -- The rest of a text, before a packet and after it.
-use Rattle.std.proofs.Common.{◌≡◌, ℕ, List, [], ◌∷◌, ◌++◌, refl, sym, ap, ◌∙◌, append_assoc, arith}
-use Rattle.std.specs.Prelude.{Bool, true, false, ◌==◌, if◌then◌else◌, Option, None, Some}
-use Rattle.std.specs.Option.{option_map}
-use Rattle.std.proofs.lemmas.List.{append-nil}
+use Rattle.std.proofs.Common.{◌≡◌, ℕ, List, [], ◌∷◌, ◌++◌, refl, sym, ap, ◌∙◌, append_assoc, arith, Bool, true, false, ◌==◌, if◌then◌else◌, Option, None, Some, option_map, append-nil}
 use Rattle.std.proofs.lemmas.Bool.Decides.{nat_tests}
 use Rattle.bit_pipe.specs.Sources.{End, Plainly, TooLong, InPieces, Tail, Comes, IsOver}
 use Rattle.port_122.specs.Outside.{Outside, Loses}
@@ -22,7 +19,7 @@ use Rattle.packet_assembly.specs.Segments.{StandsEnded, StandsLong}
 use Rattle.packet_assembly.specs.Passing.{whole_after, left_after}
 use Rattle.packet_assembly.specs.Comings.{coming, sees_end}
 use Rattle.packet_assembly.specs.Tails.{stop_of, in_front, nothing, kept_tail, tail_over, tail_after, text_tail, told_tail}
-use Rattle.packet_assembly.proofs.Verdicts.{over_read, long_read}
+use Rattle.space_packets.proofs.Verdicts.{over_read, long_read}
 use Rattle.packet_assembly.proofs.KeptPackets.{none_first, some_first}
 use Rattle.packet_assembly.proofs.Comings.{StopsSo, bad_stops, ended_stops, long_stops}
 use Rattle.packet_assembly.proofs.OneStep.{OneOn, NoneOn}

@@ -12,3 +12,4 @@ pub mod TextSource
 pub mod Laws
 pub mod Wholes
 pub mod Readings
+pub mod PacketSteps

@@ -19,6 +19,7 @@ mod assembly;
 mod classification;
 mod laws;
 mod note;
+mod packet_steps;
 #[cfg(test)]
 mod tests;
 mod text;
@@ -28,5 +29,6 @@ pub use classification::{classify, past_kept};
 pub use laws::{answers_again, tails_tell};
 pub use note::{PacketNote, SegmentStart};
 pub use packet_defs::{Ancillary, Framing, Skip};
+pub use packet_steps::framing_in;
 pub use stream_defs::Fate;
 pub use text::SegmentText;

@@ -1,6 +1,5 @@
 -- How a list ends.
-use Rattle.std.proofs.Common.{◌≡◌, ◌≤◌, ◌+◌, ℕ, List, [], ◌++◌, length, take, sym, ap, subst, ◌∙◌, arith, length-append}
-use Rattle.std.specs.Prelude.{◌⊎◌, true, false, Option, None, Some, Result, Ok, Err}
+use Rattle.std.proofs.Common.{◌≡◌, ◌≤◌, ◌+◌, ℕ, List, [], ◌++◌, length, take, sym, ap, subst, ◌∙◌, arith, length-append, ◌⊎◌, true, false, Option, None, Some, Result, Ok, Err}
 use Rattle.std.proofs.lemmas.Bool.{false≢true}
 use Rattle.std.proofs.lemmas.List.{append-nil, take-append-le}
 use Rattle.std.proofs.Math.Seq.{take-append-add}
@@ -19,7 +18,7 @@ use Rattle.packet_assembly.specs.Notes.{note_in, PassesNext, ReadsNote}
 use Rattle.packet_assembly.specs.Passing.{whole_after}
 use Rattle.packet_assembly.proofs.OneStep.{NoneOn, EndOn}
 use Rattle.packet_assembly.proofs.OneStep.{end_on as step_end_on}
-use Rattle.packet_assembly.proofs.Verdicts.{long_read}
+use Rattle.space_packets.proofs.Verdicts.{long_read}
 use Rattle.packet_assembly.specs.Readings.{HasRead}
 use Rattle.packet_assembly.proofs.Readings.{read_on, read_within, end_on, whole_so, ended_none, ended_packets, ended_framing, ended_out, long_packets, long_good, long_full}
 use Rattle.packet_list.specs.declared.list.ListFault.{ListFault}

@@ -1,8 +1,6 @@
 -- A block of a picture that is passed.
-use Rattle.std.proofs.Common.{◌≡◌, ◌<◌, ◌≤◌, ◌+◌, ◌*◌, ◌/◌, ◌*ℤ◌, ℕ, ℤ, pos, List, [], ◌++◌, take, get_or, refl, sym, ap, subst, ◌∙◌, arith, inl, inr}
-use Rattle.std.specs.Prelude.{Result, Ok, Err}
+use Rattle.std.proofs.Common.{◌≡◌, ◌<◌, ◌≤◌, ◌+◌, ◌*◌, ◌/◌, ◌*ℤ◌, ℕ, ℤ, pos, List, [], ◌++◌, take, get_or, refl, sym, ap, subst, ◌∙◌, arith, inl, inr, Result, Ok, Err, append-nil}
 use Rattle.std.proofs.lemmas.Bool.{cases_lt}
-use Rattle.std.proofs.lemmas.List.{append-nil}
 use Rattle.std.proofs.lemmas.Nat.{div-mul-add}
 use Rattle.port_122.specs.Outside.{Outside, NoRead}
 use Rattle.port_122.proofs.Stretches.{since_start}
@@ -21,7 +19,8 @@ use Rattle.picture_rows.specs.declared.picture.PictureAt.{PictureAt}
 use Rattle.picture_rows.specs.Fronts.{bands_of, rows_of}
 use Rattle.picture_rows.specs.Pictures.{PictureState, IsSized, IsCurrent, Represents, HasRoom, passed_in}
 use Rattle.picture_rows.specs.Steps.{Continues, StopsEarly, Represented, HasNone, HasNextSet, HasNextNumbers, HasPassed, PassesBlock, GivesRows}
-use Rattle.picture_rows.proofs.BandBlocks.{coefficient_with, part_is, zero_is}
+use Rattle.picture_rows.proofs.BandBlocks.{part_is, zero_is}
+use Rattle.stream_defs.proofs.BandPlaces.{coefficient_with}
 use Rattle.picture_rows.proofs.RowGives.{completes_before, goes_then, breaks_then}
 
 -- ---- past one block

@@ -5,3 +5,5 @@ pub mod RowsOut
 mod RowsGathered
 pub mod Heights
 pub mod Ends
+pub mod SameImages
+pub mod Equations

@@ -1,7 +1,5 @@
 -- Rows of a picture that are gathered one after another, and then given.
-use Rattle.std.proofs.Common.{◌≡◌, ◌<◌, ◌≤◌, ◌+◌, ◌-◌, ◌*◌, ℕ, ℤ, List, [], ◌++◌, length, take, map, refl, sym, ap, subst, ◌∙◌, arith, ⊎_elim, append_assoc, length-append}
-use Rattle.std.specs.Prelude.{Result, Ok, Err}
-use Rattle.std.proofs.lemmas.List.{append-nil}
+use Rattle.std.proofs.Common.{◌≡◌, ◌<◌, ◌≤◌, ◌+◌, ◌-◌, ◌*◌, ℕ, ℤ, List, [], ◌++◌, length, take, map, refl, sym, ap, subst, ◌∙◌, arith, ⊎_elim, append_assoc, length-append, Result, Ok, Err, append-nil}
 use Rattle.std.proofs.Math.Seq.{take-append-add}
 use Rattle.port_122.specs.Outside.{Outside, Exchange, NoRead, WritesAll}
 use Rattle.port_122.proofs.Stretches.{since_start, since_out, rose_since}

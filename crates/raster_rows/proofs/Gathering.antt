@@ -1,9 +1,9 @@
 -- Octets that wait behind others, and those that are given.
-use Rattle.std.proofs.Common.{◌≡◌, ◌≤◌, ◌+◌, ℕ, ℤ, List, [], ◌++◌, length, take, map, sym, ap, subst, ◌∙◌, arith, length-append}
-use Rattle.std.specs.Prelude.{Result, Ok, Err, IsErr}
+use Rattle.std.proofs.Common.{◌≡◌, ◌≤◌, ◌+◌, ℕ, ℤ, List, [], ◌++◌, length, take, map, sym, ap, subst, ◌∙◌, arith, length-append, Result, Ok, Err, IsErr}
 use Rattle.std.proofs.lemmas.Bool.{false≢true}
 use Rattle.std.proofs.lemmas.List.{append-nil, take-append-le}
 use Rattle.std.proofs.Math.Seq.{take-append-add}
+use Rattle.std.proofs.lemmas.Bool.Decides.{nat_tests}
 use Rattle.port_122.specs.Outside.{Outside, Exchange, NoRead, Rose, WritesAll}
 use Rattle.port_122.proofs.Stretches.{since_start, since_out, rose_since}
 use Rattle.raster_rows.specs.Pixels.{pixel_octets, clamped}
@@ -51,5 +51,4 @@ given_alone {p = p} {before = before} s after octets (Err e) out none then = rec
 -- rows of one form have the same octets
 pub form_same : (old new : GatheredRows) (values : List ℤ) → IsAlike old new →
     pixel_octets (depth_of new) (map (clamped (depth_of new) (is_signed new)) values) ≡ pixel_octets (depth_of old) (map (clamped (depth_of old) (is_signed old)) values)
-form_same old new values alike =
-    ap (λ d. pixel_octets d (map (clamped d (is_signed new)) values)) alike.depth ∙ ap (λ s. pixel_octets (depth_of old) (map (clamped (depth_of old) s) values)) alike.signed
+form_same old new values alike = grind (arith, nat_tests, map)

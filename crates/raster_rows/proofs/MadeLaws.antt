@@ -1,14 +1,13 @@
 -- The made image is in range, and its raster is made part by part.
-use Rattle.std.proofs.Common.{◌≡◌, ◌<◌, ◌+◌, ◌-◌, ◌*◌, ◌/◌, ◌%◌, ◌^◌, ◌∙◌, ℕ, ℤ, zero, suc, pos, ◌-ℤ◌, Bool, true, false, nat_lt, List, [], ◌∷◌, ◌++◌, map, refl, ap, arith}
-use Rattle.std.specs.Prelude.{if◌then◌else◌}
-use Rattle.std.specs.List.{flat_map, range_with_len}
+use Rattle.std.proofs.Common.{◌≡◌, ◌<◌, ◌+◌, ◌-◌, ◌*◌, ◌/◌, ◌%◌, ◌^◌, ◌∙◌, ℕ, ℤ, zero, suc, pos, ◌-ℤ◌, Bool, true, false, nat_lt, List, [], ◌∷◌, ◌++◌, map, refl, ap, arith, if◌then◌else◌}
+use Rattle.std.specs.List.{range_with_len}
 use Rattle.std.proofs.lemmas.Int.{ints}
 use Rattle.std.proofs.lemmas.Bool.Decides.{nat_tests}
 use Rattle.std.proofs.lemmas.List.{append-nil, map-append}
 use Rattle.std.proofs.lemmas.Grind.{flat_map-append}
 use Rattle.std.proofs.lemmas.Nat.{pow_pos, div_below, mod_below}
 use Rattle.raster_rows.specs.declared.made.MadeImage.{MadeImage}
-use Rattle.raster_rows.specs.Pixels.{IsDepth, IsPixel, number_of, octets_of, pixel_octets, raster_octets, clamped}
+use Rattle.raster_rows.specs.Pixels.{IsDepth, IsPixel, pixel_octets, raster_octets, clamped}
 use Rattle.raster_rows.specs.Made.{ramp, noise, made_value}
 use Rattle.raster_rows.proofs.Ranges.{twice_half, level_shift}
 use Rattle.raster_rows.proofs.Numbers.{clamped_is}
@@ -24,10 +23,7 @@ ramp_most seed row column = folded ((3 * row + 5 * column + seed) % 512) (mod_be
 
 -- the noise has 8 bits
 pub noise_most : (seed row column : ℕ) → noise seed row column < 256
-noise_most seed row column =
-    let sum : ℕ = 1664525 * row + 22695477 * column + 1013904223 * seed in
-    let few : sum % 2 ^ 32 < 2 ^ 32 = mod_below sum (2 ^ 32) (pow_pos 32) in
-    div_below (sum % 2 ^ 32) (2 ^ 24) 256 (pow_pos 24) (omega (arith, few))
+noise_most seed row column = grind (arith, nat_tests, mod_below, pow_pos, div_below)
 
 -- a level of 12 bits at a depth is a pixel
 level_in_range : (level depth : ℕ) (signed : Bool) → level < 2 ^ 12 → IsDepth depth →
@@ -58,10 +54,7 @@ map-clamped depth signed pixel (k ∷ places) is each =
 
 -- some numbers, and more of them
 pub range-append : (a n m : ℕ) → range_with_len a (n + m) ≡ range_with_len a n ++ range_with_len (a + n) m
-range-append a zero m =
-    let none : zero + m ≡ m = omega arith in
-    let first : a ≡ a + zero = omega arith in
-    ap (range_with_len a) none ∙ ap (λ k. range_with_len k m) first
+range-append a zero m = grind (arith, nat_tests)
 range-append a (suc n) m =
     let more : suc n + m ≡ suc (n + m) = omega arith in
     let next : a + 1 + n ≡ a + suc n = omega arith in
@@ -70,17 +63,12 @@ range-append a (suc n) m =
 -- the octets of a row, part by part
 pub row_octets-append : (depth : ℕ) (pixel : ℕ → ℤ) (from n m : ℕ) →
     pixel_octets depth (map pixel (range_with_len from (n + m))) ≡ pixel_octets depth (map pixel (range_with_len from n)) ++ pixel_octets depth (map pixel (range_with_len (from + n) m))
-row_octets-append depth pixel from n m =
-    ap (λ places. pixel_octets depth (map pixel places)) (range-append from n m) ∙
-    ap (pixel_octets depth) (map-append pixel (range_with_len from n) (range_with_len (from + n) m)) ∙
-    flat_map-append (λ v. octets_of depth (number_of depth v)) (map pixel (range_with_len from n)) (map pixel (range_with_len (from + n) m))
+row_octets-append depth pixel from n m = grind (arith, nat_tests, map, range-append, map-append, flat_map-append)
 
 -- the octets of a raster, rows by rows
 pub rows_from-append : (depth width : ℕ) (image : ℕ → ℕ → ℤ) (from n m : ℕ) →
     rows_from depth width image from (n + m) ≡ rows_from depth width image from n ++ rows_from depth width image (from + n) m
-rows_from-append depth width image from n m =
-    ap (flat_map (λ row. pixel_octets depth (row_pixels width (image row)))) (range-append from n m) ∙
-    flat_map-append (λ row. pixel_octets depth (row_pixels width (image row))) (range_with_len from n) (range_with_len (from + n) m)
+rows_from-append depth width image from n m = grind (arith, nat_tests, row_pixels, range-append, flat_map-append)
 
 -- one more row of a raster
 pub raster_octets-more : (depth rows width : ℕ) (image : ℕ → ℕ → ℤ) →

@@ -1,30 +1,21 @@
 -- Numbers that represent pixels.
-use Rattle.std.proofs.Common.{◌≡◌, ◌<◌, ◌≤◌, ◌-◌, ◌*◌, ◌^◌, ℕ, ℤ, pos, negsuc, ◌+ℤ◌, ◌-ℤ◌, ◌≤ℤ◌, ◌<ℤ◌, Bool, true, false, nat_le, refl, arith}
-use Rattle.std.specs.Prelude.{if◌then◌else◌}
+use Rattle.std.proofs.Common.{◌≡◌, ◌<◌, ◌≤◌, ◌-◌, ◌*◌, ◌^◌, ℕ, ℤ, pos, negsuc, ◌+ℤ◌, ◌≤ℤ◌, ◌<ℤ◌, Bool, true, false, nat_le, refl, arith, pow_mono, pow_pos}
 use Rattle.std.specs.Int.{int_min, int_max}
 use Rattle.std.proofs.lemmas.Int.{ints, clamps}
 use Rattle.std.proofs.lemmas.Bool.Decides.{nat_tests}
-use Rattle.std.proofs.Math.Pow.{pow_mono}
-use Rattle.std.proofs.lemmas.Nat.{pow_pos}
 use Rattle.raster_rows.specs.Pixels.{IsDepth, IsPixel, sign_weight, least_pixel, greatest_pixel, number_of, clamped}
 use Rattle.raster_rows.proofs.Ranges.{twice_half}
 
 -- half of the values are at most the weight of the sign bit
 pub half_most : (depth : ℕ) → IsDepth depth → 2 ^ (depth - 1) ≤ sign_weight depth
-half_most depth is =
-    let low : depth ≤ 8 → 2 ^ (depth - 1) ≤ 2 ^ 7 = λ le. let few : depth - 1 ≤ 7 = omega arith in pow_mono few in
-    let few : depth - 1 ≤ 15 = omega (arith, is.1) in
-    let high : 2 ^ (depth - 1) ≤ 2 ^ 15 = pow_mono few in
-    grind (arith, nat_tests)
+half_most depth is = grind (arith, nat_tests, pow_mono)
 
 -- the weight of the sign bit
 pub sign_some : (depth : ℕ) → 0 < sign_weight depth
-sign_some depth = let P : Bool → Type 0 = λ b. 0 < (if b then 2 ^ 7 else 2 ^ 15) in
-    elim (nat_le depth 8) as P [ true ↦ omega arith | false ↦ omega arith ]
+sign_some depth = grind (arith, nat_tests, nat_le, true, false)
 
 pub sign_most : (depth : ℕ) → sign_weight depth ≤ 2 ^ 15
-sign_most depth = let P : Bool → Type 0 = λ b. (if b then 2 ^ 7 else 2 ^ 15) ≤ 2 ^ 15 in
-    elim (nat_le depth 8) as P [ true ↦ omega arith | false ↦ omega arith ]
+sign_most depth = grind (arith, nat_tests, nat_le, true, false)
 
 pub sign_of_octet : (depth : ℕ) → depth ≤ 8 → sign_weight depth ≡ 2 ^ 7
 sign_of_octet depth le = grind (arith, nat_tests)
@@ -47,39 +38,20 @@ number_of-neg depth (negsuc n) lt some = omega (arith, ints, some)
 
 -- the least value is not above the greatest
 pub least_most : (depth : ℕ) (signed : Bool) → IsDepth depth → least_pixel depth signed ≤ℤ greatest_pixel depth signed
-least_most depth true is =
-    let half : 0 < 2 ^ (depth - 1) = pow_pos (depth - 1) in
-    omega (arith, ints, half)
-least_most depth false is =
-    let whole : 0 < 2 ^ depth = pow_pos depth in
-    omega (arith, ints, whole)
+least_most depth true is = grind (arith, nat_tests, pow_pos, ints)
+least_most depth false is = grind (arith, nat_tests, pow_pos, ints)
 
 -- a pixel has the range of its octets
 pub pixel_bounds : (depth : ℕ) (signed : Bool) (pixel : ℤ) → IsDepth depth → IsPixel depth signed pixel →
     (pos 0 ≤ℤ (pixel +ℤ pos (sign_weight depth))) × (pixel <ℤ pos (2 * sign_weight depth))
-pixel_bounds depth true pixel is here =
-    let half : 2 ^ (depth - 1) ≤ sign_weight depth = half_most depth is in
-    let some : 0 < 2 ^ (depth - 1) = pow_pos (depth - 1) in
-    let low : (pos 0 -ℤ pos (2 ^ (depth - 1))) ≤ℤ pixel = here.low in
-    let high : pixel ≤ℤ pos (2 ^ (depth - 1) - 1) = here.high in
-    (omega (arith, ints, half, low), omega (arith, ints, half, high, some))
-pixel_bounds depth false pixel is here =
-    let half : 2 ^ (depth - 1) ≤ sign_weight depth = half_most depth is in
-    let twice : 2 ^ depth ≡ 2 * 2 ^ (depth - 1) = twice_half depth is.0 in
-    let some : 0 < 2 ^ (depth - 1) = pow_pos (depth - 1) in
-    let low : pos 0 ≤ℤ pixel = here.low in
-    let high : pixel ≤ℤ pos (2 ^ depth - 1) = here.high in
-    (omega (arith, ints, low), omega (arith, ints, half, twice, high, some))
+pixel_bounds depth true pixel is here = grind (arith, nat_tests, half_most, pow_pos, pos, ints)
+pixel_bounds depth false pixel is here = grind (arith, nat_tests, half_most, twice_half, pow_pos, pos, ints)
 
 -- the number that represents a pixel
 pub pixel_spelt : (depth : ℕ) (signed : Bool) (pixel : ℤ) → IsDepth depth → IsPixel depth signed pixel →
     (pixel <ℤ pos 0 → pos (number_of depth pixel) ≡ pixel +ℤ pos (2 * sign_weight depth)) × (pos 0 ≤ℤ pixel → pos (number_of depth pixel) ≡ pixel) ×
     (number_of depth pixel < 2 * sign_weight depth) × (sign_weight depth ≤ 2 ^ 15) × (depth ≤ 8 → sign_weight depth ≡ 2 ^ 7)
-pixel_spelt depth signed pixel is here =
-    let bounds = pixel_bounds depth signed pixel is here in
-    let negative : pixel <ℤ pos 0 → pos (number_of depth pixel) ≡ pixel +ℤ pos (2 * sign_weight depth) =
-    λ lt. number_of-neg depth pixel lt (omega (arith, ints, bounds.0)) in
-    (negative, number_of-pos depth pixel, number_below depth pixel bounds.1, sign_most depth, sign_of_octet depth)
+pixel_spelt depth signed pixel is here = grind (arith, nat_tests, pixel_bounds, pos, number_of-neg, ints, number_of-pos, number_below, sign_most, sign_of_octet)
 
 -- the nearest value of a range
 nearest_of : (least greatest value : ℤ) → least ≤ℤ greatest →

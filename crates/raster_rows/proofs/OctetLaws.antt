@@ -1,11 +1,11 @@
 -- The octets of the pixels that octets represent are those octets.
-use Rattle.std.proofs.Common.{◌≡◌, ◌<◌, ◌≤◌, ◌+◌, ◌-◌, ◌*◌, ◌/◌, ◌%◌, ◌^◌, ◌∙◌, inl, inr, ℕ, zero, suc, pos, negsuc, ◌-ℤ◌, Bool, true, false, nat_le, List, [], ◌∷◌, ◌++◌, length, get_or, take, map, append_assoc, refl, sym, ap, arith}
-use Rattle.std.specs.Prelude.{if◌then◌else◌}
+use Rattle.std.proofs.Common.{◌≡◌, ◌<◌, ◌≤◌, ◌+◌, ◌-◌, ◌*◌, ◌/◌, ◌%◌, ◌^◌, ◌∙◌, ℕ, zero, suc, pos, negsuc, ◌-ℤ◌, Bool, true, false, nat_le, List, [], ◌∷◌, ◌++◌, length, get_or, take, map, append_assoc, refl, sym, ap, arith, if◌then◌else◌}
 use Rattle.std.specs.List.{range_with_len}
 use Rattle.std.proofs.lemmas.Int.{ints}
 use Rattle.std.proofs.lemmas.Bool.{lt-ltb, le-ltb, cases_lt}
 use Rattle.std.proofs.lemmas.List.{append-nil, take_more}
 use Rattle.std.proofs.lemmas.Nat.{div-mul-add, mod-mul-add}
+use Rattle.std.proofs.lemmas.Bool.Decides.{nat_tests}
 use Rattle.raster_rows.specs.Pixels.{pixel_size, sign_weight, number_at, value_of, pixel_at, number_of, octets_of, pixel_octets}
 use Rattle.raster_rows.proofs.PixelPlaces.{whole_before}
 use Rattle.raster_rows.proofs.MadeLaws.{row_octets-append}
@@ -17,10 +17,7 @@ below_zero n m lt = omega (arith, ints)
 -- the number that represents the value of a number
 pub number_of-value_of : (depth : ℕ) (signed : Bool) (number : ℕ) → number < 2 * sign_weight depth → number_of depth (value_of depth signed number) ≡ number
 number_of-value_of depth false number lt = refl
-number_of-value_of depth true number lt = elim (cases_lt number (sign_weight depth)) [
-  | inl low ↦ rw (lt-ltb number (sign_weight depth) low)
-  | inr high ↦ rw (le-ltb number (sign_weight depth) high, below_zero number (2 * sign_weight depth) lt) (omega arith)
-]
+number_of-value_of depth true number lt = grind (arith, nat_tests, cases_lt, lt-ltb, le-ltb, below_zero)
 
 -- the number of a pixel's octets is below that of its bits
 octets_below : (b : Bool) (octets : List ℕ) (k : ℕ) → ((i : ℕ) → get_or octets i 0 < 256) →
@@ -34,10 +31,7 @@ spelt_again : (b : Bool) (octets : List ℕ) (k : ℕ) → ((i : ℕ) → get_or
     (if b then (if b then get_or octets k 0 else 256 * get_or octets (2 * k) 0 + get_or octets (2 * k + 1) 0) ∷ []
     else (if b then get_or octets k 0 else 256 * get_or octets (2 * k) 0 + get_or octets (2 * k + 1) 0) / 256 ∷ (if b then get_or octets k 0 else 256 * get_or octets (2 * k) 0 + get_or octets (2 * k + 1) 0) % 256 ∷ []) ≡
     take ((k + 1) * (if b then 1 else 2)) octets
-spelt_again true octets k each le =
-    let at : k * 1 ≡ k = omega arith in
-    let next : (k + 1) * 1 ≡ k + 1 = omega arith in
-    ap (λ n. take n octets ++ get_or octets k 0 ∷ []) at ∙ sym (take_more octets k 0 (omega (arith, le))) ∙ ap (λ n. take n octets) (sym next)
+spelt_again true octets k each le = grind (arith, nat_tests, get_or, take_more)
 spelt_again false octets k each le =
     let high : ℕ = get_or octets (2 * k) 0 in
     let low : ℕ = get_or octets (2 * k + 1) 0 in
@@ -56,8 +50,7 @@ spelt_again false octets k each le =
 -- the octets of the first pixels of some octets
 pub pixel_octets-pixel_at : (depth : ℕ) (signed : Bool) (octets : List ℕ) (n : ℕ) → ((i : ℕ) → get_or octets i 0 < 256) → n * pixel_size depth ≤ length octets →
     pixel_octets depth (map (pixel_at depth signed octets) (range_with_len 0 n)) ≡ take (n * pixel_size depth) octets
-pixel_octets-pixel_at depth signed octets zero each le =
-    let none : zero * pixel_size depth ≡ zero = omega arith in ap (λ n. take n octets) (sym none)
+pixel_octets-pixel_at depth signed octets zero each le = grind (arith, nat_tests)
 pixel_octets-pixel_at depth signed octets (suc n) each le =
     let next : suc n ≡ n + 1 = omega arith in
     let first : 0 + n ≡ n = omega arith in

@@ -1,27 +1,9 @@
 -- Pixels that are put into a row, one after another.
-use Rattle.std.proofs.Common.{◌≡◌, ◌<◌, ◌≤◌, ◌+◌, ◌*◌, ◌≢◌, below_more, get_or-set_same, get_or-set_other, ℕ, ℤ, pos, Bool, true, false, ◌&&◌, List, length, get_or, refl, subst, arith, ◌∙◌}
+use Rattle.std.proofs.Common.{◌≡◌, ◌<◌, ◌+◌, ◌≢◌, below_more, get_or-set_same, get_or-set_other, ℕ, ℤ, pos, Bool, true, false, ◌&&◌, List, length, get_or, refl, subst, arith, ◌∙◌, set, length-set}
 use Rattle.std.specs.Bool.{OnTrue}
-use Rattle.std.proofs.Math.ListN.{set, length-set}
-use Rattle.std.proofs.Math.Nat.{mul-le-mul_left}
 use Rattle.raster_rows.specs.Pixels.{IsPixel, pixel_at}
 use Rattle.raster_rows.specs.RowReads.{FirstInRange}
 use Rattle.raster_rows.specs.Pieces.{PixelsPut}
-
--- a pixel of some that are whole is whole
-pub whole_within : (size place count n : ℕ) → place < count → count * size ≤ n → (place + 1) * size ≤ n
-whole_within size place count n lt le =
-    let next : place + 1 ≤ count = omega arith in
-    omega (arith, mul-le-mul_left {m = place + 1} {n = count} size next)
-
--- no pixel yet
-pub none_put : (depth : ℕ) (signed : Bool) (octets : List ℕ) (column : ℕ) (into : List ℤ) → PixelsPut depth signed octets column 0 into into
-none_put depth signed octets column into = record {
-  in_range = λ k lt. absurd (omega arith);
-  put = λ k lt. absurd (omega arith);
-  below = λ k lt. refl;
-  above = λ k le. refl;
-  same = refl;
-}
 
 -- one more pixel
 pub one_put : (depth : ℕ) (signed : Bool) (octets : List ℕ) (column n : ℕ) (value : ℤ) (before mid : List ℤ) →

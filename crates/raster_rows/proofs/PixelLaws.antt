@@ -1,11 +1,9 @@
 -- Pixels and their octets undo each other.
-use Rattle.std.proofs.Common.{◌≡◌, ◌<◌, ◌≤◌, ◌+◌, ◌-◌, ◌*◌, ◌/◌, ◌%◌, ◌^◌, ◌∙◌, ℕ, ℤ, zero, suc, pos, negsuc, ◌-ℤ◌, ◌≤ℤ◌, Bool, true, false, nat_le, List, [], ◌∷◌, ◌++◌, length, get_or, refl, ap, arith, length-append}
-use Rattle.std.specs.Prelude.{if◌then◌else◌}
+use Rattle.std.proofs.Common.{◌≡◌, ◌<◌, ◌+◌, ◌*◌, ◌∙◌, ℕ, ℤ, zero, suc, pos, negsuc, ◌≤ℤ◌, Bool, true, false, nat_le, List, [], ◌∷◌, ◌++◌, length, get_or, refl, ap, arith, length-append, lt-ltb, le-ltb, pow_pos}
 use Rattle.std.proofs.lemmas.Int.{ints}
-use Rattle.std.proofs.lemmas.Bool.{lt-ltb, le-ltb}
-use Rattle.std.proofs.lemmas.Nat.{pow_pos}
 use Rattle.std.proofs.Math.Nat.{div-add-mod}
-use Rattle.raster_rows.specs.Pixels.{IsDepth, IsPixel, pixel_size, sign_weight, number_at, value_of, pixel_at, number_of, octets_of, pixel_octets}
+use Rattle.std.proofs.lemmas.Bool.Decides.{nat_tests}
+use Rattle.raster_rows.specs.Pixels.{IsDepth, IsPixel, pixel_size, number_at, value_of, pixel_at, number_of, octets_of, pixel_octets}
 use Rattle.raster_rows.proofs.Numbers.{half_most}
 use Rattle.raster_rows.proofs.PixelPlaces.{pixel_at-append_left, pixel_at-append_right}
 
@@ -13,30 +11,16 @@ use Rattle.raster_rows.proofs.PixelPlaces.{pixel_at-append_left, pixel_at-append
 pub value_of-number_of : (depth : ℕ) (signed : Bool) (pixel : ℤ) → IsDepth depth → IsPixel depth signed pixel → value_of depth signed (number_of depth pixel) ≡ pixel
 value_of-number_of depth false (pos n) is here = refl
 value_of-number_of depth false (negsuc n) is here = let low : pos 0 ≤ℤ negsuc n = here.low in absurd (omega (arith, ints, low))
-value_of-number_of depth true (pos n) is here =
-    let half : 2 ^ (depth - 1) ≤ sign_weight depth = half_most depth is in
-    let some : 0 < 2 ^ (depth - 1) = pow_pos (depth - 1) in
-    let high : pos n ≤ℤ pos (2 ^ (depth - 1) - 1) = here.high in
-    let below : n < sign_weight depth = omega (arith, ints, high, half, some) in
-    rw (lt-ltb n (sign_weight depth) below)
-value_of-number_of depth true (negsuc n) is here =
-    let half : 2 ^ (depth - 1) ≤ sign_weight depth = half_most depth is in
-    let low : (pos 0 -ℤ pos (2 ^ (depth - 1))) ≤ℤ negsuc n = here.low in
-    let above : sign_weight depth ≤ 2 * sign_weight depth - (n + 1) = omega (arith, ints, low, half) in
-    let few : n + 1 ≤ sign_weight depth = omega (arith, ints, low, half) in
-    rw (le-ltb (2 * sign_weight depth - (n + 1)) (sign_weight depth) above) (omega (arith, ints, few))
+value_of-number_of depth true (pos n) is here = grind (arith, nat_tests, half_most, pow_pos, ints, lt-ltb)
+value_of-number_of depth true (negsuc n) is here = grind (arith, nat_tests, half_most, pos, ints, le-ltb)
 
 -- the octets of a number are those of a pixel
 pub length-octets_of : (depth number : ℕ) → length (octets_of depth number) ≡ pixel_size depth
-length-octets_of depth number = let P : Bool → Type 0 = λ b. length (if b then number ∷ [] else number / 256 ∷ number % 256 ∷ []) ≡ (if b then 1 else 2) in
-    elim (nat_le depth 8) as P [ true ↦ refl | false ↦ refl ]
+length-octets_of depth number = grind (arith, nat_tests, nat_le, true, false)
 
 -- the number that its octets represent
 pub number_at-octets_of : (depth number : ℕ) → number_at depth (octets_of depth number) 0 ≡ number
-number_at-octets_of depth number =
-    let octets : Bool → List ℕ = λ b. if b then number ∷ [] else number / 256 ∷ number % 256 ∷ [] in
-    let P : Bool → Type 0 = λ b. (if b then get_or (octets b) 0 0 else 256 * get_or (octets b) (2 * 0) 0 + get_or (octets b) (2 * 0 + 1) 0) ≡ number in
-    elim (nat_le depth 8) as P [ true ↦ refl | false ↦ div-add-mod number 256 ]
+number_at-octets_of depth number = grind (arith, nat_tests, get_or, nat_le, true, false, div-add-mod)
 
 -- the pixel that its octets represent
 pub pixel_at-octets_of : (depth : ℕ) (signed : Bool) (pixel : ℤ) → IsDepth depth → IsPixel depth signed pixel →

@@ -1,16 +1,14 @@
 -- The octets of lists of pixels.
-use Rattle.std.proofs.Common.{◌≡◌, ◌<◌, ◌+◌, ◌∙◌, ℕ, ℤ, pos, Bool, List, [], ◌∷◌, ◌++◌, length, get_or, map, take, drop, sym, ap}
+use Rattle.std.proofs.Common.{◌≡◌, ◌<◌, ◌+◌, ◌∙◌, ℕ, ℤ, pos, Bool, List, [], ◌∷◌, ◌++◌, length, get_or, map, take, drop, sym, ap, take-add, arith}
 use Rattle.std.proofs.lemmas.List.{append-nil, map-append, take_more, take-append-drop}
 use Rattle.std.proofs.lemmas.Grind.{flat_map-append}
-use Rattle.std.proofs.Math.Seq.{take-add}
+use Rattle.std.proofs.lemmas.Bool.Decides.{nat_tests}
 use Rattle.raster_rows.specs.Pixels.{number_of, octets_of, pixel_octets, clamped}
 
 -- the octets of two lists of values, one after the other
 pub pixel_octets-append : (depth : ℕ) (signed : Bool) (xs ys : List ℤ) →
     pixel_octets depth (map (clamped depth signed) (xs ++ ys)) ≡ pixel_octets depth (map (clamped depth signed) xs) ++ pixel_octets depth (map (clamped depth signed) ys)
-pixel_octets-append depth signed xs ys =
-    ap (pixel_octets depth) (map-append (clamped depth signed) xs ys) ∙
-    flat_map-append (λ pixel. octets_of depth (number_of depth pixel)) (map (clamped depth signed) xs) (map (clamped depth signed) ys)
+pixel_octets-append depth signed xs ys = grind (arith, nat_tests, map-append, flat_map-append, map)
 
 -- one more value
 pub one_spelt : (depth : ℕ) (signed : Bool) (values : List ℤ) (place number : ℕ) (pixel : ℤ) (before after : List ℕ) → place < length values →
@@ -30,8 +28,7 @@ one_spelt depth signed values place number pixel before after lt pixel_is number
 pub more_spelt : (depth : ℕ) (signed : Bool) (values : List ℤ) (done n : ℕ) →
     pixel_octets depth (map (clamped depth signed) (take (done + n) values)) ≡
     pixel_octets depth (map (clamped depth signed) (take done values)) ++ pixel_octets depth (map (clamped depth signed) (take n (drop done values)))
-more_spelt depth signed values done n =
-    ap (λ zs. pixel_octets depth (map (clamped depth signed) zs)) (take-add done n values) ∙ pixel_octets-append depth signed (take done values) (take n (drop done values))
+more_spelt depth signed values done n = grind (arith, nat_tests, map, take-add, pixel_octets-append)
 
 -- some values, n more, and the rest
 pub all_spelt : (depth : ℕ) (signed : Bool) (values : List ℤ) (done n : ℕ) →

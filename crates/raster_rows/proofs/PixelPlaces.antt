@@ -1,19 +1,16 @@
 -- Pixels at places of longer lists of octets.
-use Rattle.std.proofs.Common.{◌≡◌, ◌<◌, ◌≤◌, ◌+◌, ◌*◌, ◌/◌, ◌∙◌, ℕ, Bool, true, false, nat_le, List, ◌++◌, length, get_or, take, drop, sym, ap, arith}
-use Rattle.std.specs.Prelude.{if◌then◌else◌}
+use Rattle.std.proofs.Common.{◌≡◌, ◌<◌, ◌≤◌, ◌+◌, ◌*◌, ◌/◌, ◌∙◌, ℕ, Bool, true, false, nat_le, List, ◌++◌, length, get_or, take, drop, sym, ap, arith, if◌then◌else◌, mul-le-mul_right}
 use Rattle.std.proofs.lemmas.List.{get_or_append_left, get_or-append-add, length-take-le, take-append-drop}
 use Rattle.std.proofs.lemmas.Nat.{div-mul-add, le-div}
-use Rattle.std.proofs.Math.Nat.{mul-le-mul_right}
+use Rattle.std.proofs.lemmas.Bool.Decides.{nat_tests}
 use Rattle.raster_rows.specs.Pixels.{pixel_size, value_of, pixel_at, whole_pixels}
 
 -- a pixel has one or two octets
 pub size_some : (depth : ℕ) → 0 < pixel_size depth
-size_some depth = let P : Bool → Type 0 = λ b. 0 < (if b then 1 else 2) in
-    elim (nat_le depth 8) as P [ true ↦ omega arith | false ↦ omega arith ]
+size_some depth = grind (arith, nat_tests, nat_le, true, false)
 
 pub size_most : (depth : ℕ) → pixel_size depth ≤ 2
-size_most depth = let P : Bool → Type 0 = λ b. (if b then 1 else 2) ≤ 2 in
-    elim (nat_le depth 8) as P [ true ↦ omega arith | false ↦ omega arith ]
+size_most depth = grind (arith, nat_tests, nat_le, true, false)
 
 -- the pixels at two places are the same if their octets are
 same_numbers : (b : Bool) (xs ys : List ℕ) (i j : ℕ) →
@@ -44,16 +41,12 @@ same_pixels depth signed xs ys i j h = ap (value_of depth signed) (same_numbers 
 -- a pixel that is whole in the first of two lists
 pub pixel_at-append_left : (depth : ℕ) (signed : Bool) (xs ys : List ℕ) (k : ℕ) → (k + 1) * pixel_size depth ≤ length xs →
     pixel_at depth signed (xs ++ ys) k ≡ pixel_at depth signed xs k
-pixel_at-append_left depth signed xs ys k le = same_pixels depth signed (xs ++ ys) xs k k
-    (λ m lt. get_or_append_left xs ys 0 (k * pixel_size depth + m) (omega arith))
+pixel_at-append_left depth signed xs ys k le = grind (arith, nat_tests, same_pixels, get_or_append_left)
 
 -- a pixel of the second of two lists, if the first has whole pixels
 pub pixel_at-append_right : (depth : ℕ) (signed : Bool) (xs ys : List ℕ) (n k : ℕ) → length xs ≡ n * pixel_size depth →
     pixel_at depth signed (xs ++ ys) (n + k) ≡ pixel_at depth signed ys k
-pixel_at-append_right depth signed xs ys n k len = same_pixels depth signed (xs ++ ys) ys (n + k) k
-    (λ m lt.
-    let place : (n + k) * pixel_size depth + m ≡ length xs + (k * pixel_size depth + m) = omega (arith, len) in
-    ap (λ i. get_or (xs ++ ys) i 0) place ∙ get_or-append-add xs ys (k * pixel_size depth + m) 0)
+pixel_at-append_right depth signed xs ys n k len = grind (arith, nat_tests, same_pixels, get_or, get_or-append-add)
 
 -- a pixel that is whole in a part of a list
 pub pixel_at-take : (depth : ℕ) (signed : Bool) (xs : List ℕ) (m k : ℕ) → m ≤ length xs → (k + 1) * pixel_size depth ≤ m →
@@ -71,9 +64,7 @@ whole_pixels-is depth octets n rest len few = ap (λ k. k / pixel_size depth) le
 
 -- a pixel that is whole
 pub whole_pixels-above : (depth : ℕ) (octets : List ℕ) (k : ℕ) → (k + 1) * pixel_size depth ≤ length octets → k < whole_pixels depth octets
-whole_pixels-above depth octets k le =
-    let most : k + 1 ≤ whole_pixels depth octets = le-div (k + 1) (length octets) (pixel_size depth) (size_some depth) le in
-    omega arith
+whole_pixels-above depth octets k le = grind (arith, nat_tests, le-div, size_some)
 
 -- a pixel before the n-th is whole in n pixels
 pub whole_before : (size k n : ℕ) → k < n → (k + 1) * size ≤ n * size

@@ -1,10 +1,8 @@
 -- Values that are pixels without a sign, by the bits that they have together.
-use Rattle.std.proofs.Common.{◌≡◌, ◌<◌, ◌≤◌, ◌^◌, ℕ, ℤ, pos, negsuc, Bool, true, false, List, length, get_or, SFits, w64, of_z, refl, arith}
+use Rattle.std.proofs.Common.{◌≡◌, ◌<◌, ◌≤◌, ◌^◌, ℕ, ℤ, pos, negsuc, Bool, true, false, List, length, get_or, SFits, w64, of_z, refl, arith, leb-true, pow_mono}
 use Rattle.std.specs.Bool.{OnTrue}
 use lib.Dec.{leb}
-use Rattle.std.proofs.lemmas.Bool.{leb-true}
 use Rattle.std.proofs.lemmas.Int.{ints}
-use Rattle.std.proofs.Math.Pow.{pow_mono}
 use Rattle.raster_rows.specs.Pixels.{IsDepth, IsPixel, greatest_pixel}
 use Rattle.raster_rows.specs.Pieces.{ArePlain}
 

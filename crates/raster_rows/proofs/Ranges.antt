@@ -1,8 +1,7 @@
 -- Powers of two that bound pixels.
-use Rattle.std.proofs.Common.{◌≡◌, ◌<◌, ◌≤◌, ◌+◌, ◌-◌, ◌*◌, ◌/◌, ◌%◌, ◌^◌, ℕ, suc, ap, arith}
+use Rattle.std.proofs.Common.{◌≡◌, ◌<◌, ◌≤◌, ◌-◌, ◌*◌, ◌/◌, ◌%◌, ◌^◌, ℕ, suc, ap, arith, pow_mono, pow-suc, mul-lt-mul_of_pos_right}
 use Rattle.std.proofs.lemmas.Nat.{one_shl, shl_whole, pow_pos, div_below}
-use Rattle.std.proofs.Math.Pow.{pow_mono}
-use Rattle.std.proofs.Math.Nat.{pow-suc, mul-lt-mul_of_pos_right}
+use Rattle.std.proofs.lemmas.Bool.Decides.{nat_tests}
 use Rattle.raster_rows.specs.Pixels.{IsDepth}
 
 -- all values are twice half of them
@@ -15,14 +14,9 @@ twice_half depth some =
 
 -- half of the values, by a shift
 pub half_shift : (depth : ℕ) → IsDepth depth → (1 * 2 ^ (depth - 1) % 2 ^ 32 ≡ 2 ^ (depth - 1)) × (1 ≤ 2 ^ (depth - 1)) × (2 ^ (depth - 1) ≤ 2 ^ 15)
-half_shift depth is =
-    let most : depth - 1 ≤ 15 = omega (arith, is.1) in
-    (one_shl (depth - 1) 32 (omega arith), pow_pos (depth - 1), pow_mono most)
+half_shift depth is = grind (arith, nat_tests, one_shl, pow_pos, pow_mono)
 
 -- a level of 12 bits at a depth, by a shift
 pub level_shift : (level depth : ℕ) → level < 2 ^ 12 → IsDepth depth →
     (level * 2 ^ depth % 2 ^ 32 ≡ level * 2 ^ depth) × (level * 2 ^ depth / 4096 < 2 ^ depth) × (2 ^ depth ≤ 2 ^ 16)
-level_shift level depth lt is =
-    let room : 12 + depth ≤ 32 = omega (arith, is.1) in
-    let below : level * 2 ^ depth < 2 ^ depth * 4096 = omega (arith, mul-lt-mul_of_pos_right {m = level} {n = 4096} {k = 2 ^ depth} lt (pow_pos depth)) in
-    (shl_whole level 12 depth 32 lt room, div_below (level * 2 ^ depth) 4096 (2 ^ depth) (omega arith) below, pow_mono is.1)
+level_shift level depth lt is = grind (arith, nat_tests, mul-lt-mul_of_pos_right, pow_pos, shl_whole, div_below, pow_mono)

@@ -1,7 +1,8 @@
 -- A raster and its image undo each other.
-use Rattle.std.proofs.Common.{◌≡◌, ◌<◌, ◌≤◌, ◌+◌, ◌*◌, ◌∙◌, ℕ, ℤ, zero, suc, pos, Bool, List, ◌++◌, length, get_or, map, sym, ap, subst, arith, length-append}
+use Rattle.std.proofs.Common.{◌≡◌, ◌<◌, ◌+◌, ◌*◌, ◌∙◌, ℕ, ℤ, zero, suc, pos, Bool, List, ◌++◌, length, get_or, map, ap, arith, length-append}
 use Rattle.std.specs.List.{flat_map, range_with_len}
 use Rattle.std.proofs.lemmas.List.FromFn.{length-map-range_with_len, get_or-map-range_with_len}
+use Rattle.std.proofs.lemmas.Bool.Decides.{nat_tests}
 use Rattle.raster_rows.specs.Pixels.{IsDepth, IsPixel, pixel_size, pixel_at, raster_pixel, pixel_octets, raster_octets}
 use Rattle.raster_rows.proofs.PixelPlaces.{pixel_at-append_left, pixel_at-append_right, whole_before}
 use Rattle.raster_rows.proofs.PixelLaws.{length-pixel_octets, pixel_at-pixel_octets}
@@ -12,20 +13,12 @@ row_pixels width pixel = map pixel (range_with_len 0 width)
 
 -- how many octets a row has
 pub length-row_octets : (depth width : ℕ) (pixel : ℕ → ℤ) → length (pixel_octets depth (row_pixels width pixel)) ≡ width * pixel_size depth
-length-row_octets depth width pixel =
-    length-pixel_octets depth (row_pixels width pixel) ∙ ap (λ n. n * pixel_size depth) (length-map-range_with_len pixel 0 width)
+length-row_octets depth width pixel = grind (arith, nat_tests, length-pixel_octets, row_pixels, length-map-range_with_len)
 
 -- each pixel of a row's octets
 pub pixel_at-row_octets : (depth : ℕ) (signed : Bool) (width : ℕ) (pixel : ℕ → ℤ) (column : ℕ) → IsDepth depth →
     ((k : ℕ) → k < width → IsPixel depth signed (pixel k)) → column < width → pixel_at depth signed (pixel_octets depth (row_pixels width pixel)) column ≡ pixel column
-pixel_at-row_octets depth signed width pixel column is each lt =
-    let size : length (row_pixels width pixel) ≡ width = length-map-range_with_len pixel 0 width in
-    let here : (k : ℕ) → k < width → get_or (row_pixels width pixel) k (pos 0) ≡ pixel k = λ k less. get_or-map-range_with_len pixel 0 width k k (pos 0) less (omega arith) in
-    let all : (k : ℕ) → k < length (row_pixels width pixel) → IsPixel depth signed (get_or (row_pixels width pixel) k (pos 0)) =
-    λ k less.
-    let inside : k < width = omega (arith, less, size) in
-    subst (IsPixel depth signed) (sym (here k inside)) (each k inside) in
-    pixel_at-pixel_octets depth signed (row_pixels width pixel) column is all (omega (arith, lt, size)) ∙ here column lt
+pixel_at-row_octets depth signed width pixel column is each lt = grind (arith, nat_tests, row_pixels, length-map-range_with_len, get_or, pos, get_or-map-range_with_len, pixel_at-pixel_octets)
 
 -- the rows of an image from one on
 abbrev pub rows_from : ℕ → ℕ → (ℕ → ℕ → ℤ) → ℕ → ℕ → List ℕ
@@ -35,16 +28,7 @@ pixel_at-rows_from : (depth : ℕ) (signed : Bool) (width : ℕ) (image : ℕ �
     ((i j : ℕ) → i < from + rows → j < width → IsPixel depth signed (image i j)) → row < rows → column < width →
     pixel_at depth signed (rows_from depth width image from rows) (row * width + column) ≡ image (from + row) column
 pixel_at-rows_from depth signed width image zero from row column is each lt inside = absurd (omega (arith, lt))
-pixel_at-rows_from depth signed width image (suc rows) from zero column is each lt inside =
-    let front : List ℕ = pixel_octets depth (row_pixels width (image from)) in
-    let size : length front ≡ width * pixel_size depth = length-row_octets depth width (image from) in
-    let whole : (column + 1) * pixel_size depth ≤ width * pixel_size depth = whole_before (pixel_size depth) column width inside in
-    let place : 0 * width + column ≡ column = omega arith in
-    let first : from + 0 ≡ from = omega arith in
-    ap (pixel_at depth signed (front ++ rows_from depth width image (from + 1) rows)) place ∙
-    pixel_at-append_left depth signed front (rows_from depth width image (from + 1) rows) column (omega (arith, size, whole)) ∙
-    pixel_at-row_octets depth signed width (image from) column is (λ k less. each from k (omega arith) less) inside ∙
-    ap (λ i. image i column) (sym first)
+pixel_at-rows_from depth signed width image (suc rows) from zero column is each lt inside = grind (arith, nat_tests, row_pixels, length-row_octets, whole_before, rows_from, pixel_at-append_left, pixel_at-row_octets)
 pixel_at-rows_from depth signed width image (suc rows) from (suc row) column is each lt inside =
     let front : List ℕ = pixel_octets depth (row_pixels width (image from)) in
     let size : length front ≡ width * pixel_size depth = length-row_octets depth width (image from) in

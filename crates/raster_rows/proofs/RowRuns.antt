@@ -1,9 +1,9 @@
 -- A row that is read piece by piece.
-use Rattle.std.proofs.Common.{◌≡◌, ◌<◌, ◌≤◌, ◌+◌, ◌-◌, ◌*◌, ◌∙◌, inl, inr, ℕ, ℤ, pos, Bool, List, [], ◌++◌, length, get_or, take, refl, sym, subst, arith, length-append}
-use Rattle.std.specs.Prelude.{Err}
+use Rattle.std.proofs.Common.{◌≡◌, ◌<◌, ◌≤◌, ◌+◌, ◌-◌, ◌*◌, ◌∙◌, inl, inr, ℕ, ℤ, pos, Bool, List, [], ◌++◌, length, get_or, take, refl, sym, subst, arith, length-append, Err}
 use Rattle.std.proofs.lemmas.Bool.{cases_lt}
 use Rattle.std.proofs.lemmas.List.{append-nil, length-take-le, take-append-le}
 use Rattle.std.proofs.Math.Seq.{take-length}
+use Rattle.std.proofs.lemmas.Bool.Decides.{nat_tests}
 use Rattle.port_122.specs.Outside.{Outside, Exchange, Read, ReadFailed}
 use Rattle.port_122.proofs.Stretches.{since_start, since_weaker}
 use Rattle.port_122.proofs.ReadCalls.{since_unread, since_end, unread_rose}
@@ -27,16 +27,12 @@ pub record RowSoFar (depth : ℕ) (signed : Bool) (width : ℕ) (old now : Outsi
 -- a pixel of the whole ones so far
 pub earlier_pixel : (depth : ℕ) (signed : Bool) (front more : List ℕ) (column k : ℕ) → length front ≡ column * pixel_size depth → k < column →
     pixel_at depth signed (front ++ more) k ≡ pixel_at depth signed front k
-earlier_pixel depth signed front more column k len lt =
-    let whole : (k + 1) * pixel_size depth ≤ column * pixel_size depth = whole_before (pixel_size depth) k column lt in
-    pixel_at-append_left depth signed front more k (omega (arith, whole, len))
+earlier_pixel depth signed front more column k len lt = grind (arith, nat_tests, whole_before, pixel_at-append_left)
 
 -- a pixel of the piece that follows
 pub later_pixel : (depth : ℕ) (signed : Bool) (front piece : List ℕ) (column k n m : ℕ) → length front ≡ column * pixel_size depth →
     n * pixel_size depth ≤ m → m ≤ length piece → k < n → pixel_at depth signed (front ++ take m piece) (column + k) ≡ pixel_at depth signed piece k
-later_pixel depth signed front piece column k n m len le room lt =
-    let whole : (k + 1) * pixel_size depth ≤ n * pixel_size depth = whole_before (pixel_size depth) k n lt in
-    pixel_at-append_right depth signed front (take m piece) column k len ∙ pixel_at-take depth signed piece m k room (omega (arith, whole, le))
+later_pixel depth signed front piece column k n m len le room lt = grind (arith, nat_tests, whole_before, pixel_at-append_right, pixel_at-take)
 
 -- a property of each column before another and of n from there on
 pub both_parts : (P : ℕ → Type 0) (column n : ℕ) → ((k : ℕ) → k < column → P k) → ((k : ℕ) → k < n → P (column + k)) → (k : ℕ) → k < column + n → P k
@@ -85,8 +81,7 @@ still_begins depth signed front more column before after len p = record {
 -- how many octets were taken
 pub so_far_size : {depth width column held : ℕ} {signed : Bool} {old now : Outside} {before after : List ℤ} {buffer : List ℕ} →
     (p : RowSoFar depth signed width old now before after buffer column held) → length (p.front ++ take held buffer) ≡ column * pixel_size depth + held
-so_far_size {held = held} {buffer = buffer} p =
-    omega (arith, length-append p.front (take held buffer), p.size, length-take-le held buffer p.room)
+so_far_size {held = held} {buffer = buffer} p = grind (arith, nat_tests, length-append, length-take-le)
 
 -- a row that is not read to its end
 unfinished : {depth width column held : ℕ} {signed : Bool} {old now : Outside} {before after : List ℤ} {buffer : List ℕ} →

@@ -1,11 +1,10 @@
 -- A piece of a row that was read, and what follows it.
-use Rattle.std.proofs.Common.{◌≡◌, ◌<◌, ◌≤◌, ◌+◌, ◌-◌, ◌*◌, ◌/◌, ◌%◌, ◌∙◌, ℕ, ℤ, Bool, List, [], ◌++◌, length, take, drop, refl, sym, ap, subst, arith, length-append, append_assoc}
-use Rattle.std.specs.Prelude.{Ok, Err}
+use Rattle.std.proofs.Common.{◌≡◌, ◌<◌, ◌≤◌, ◌+◌, ◌-◌, ◌*◌, ◌/◌, ◌%◌, ◌∙◌, ℕ, ℤ, Bool, List, [], ◌++◌, length, take, drop, refl, sym, ap, subst, arith, length-append, append_assoc, Ok, Err, div-mul-le_self, le_of_mul-le-mul_right}
 use Rattle.std.proofs.lemmas.List.{length-take-le, take-append-drop, take-append-le, take-take}
 use Rattle.std.proofs.lemmas.Nat.{div-add-mod', mod_below}
 use Rattle.std.proofs.Math.Seq.{take-append-add}
-use Rattle.std.proofs.Math.Nat.{div-mul-le_self, le_of_mul-le-mul_right}
-use borrow.Rule.Slice.PartMut.{put_mid, post_of}
+use Rattle.std.proofs.lemmas.Bool.Decides.{nat_tests}
+use borrow.Rule.Slice.PartMut.{put_mid}
 use Rattle.port_122.specs.Outside.{Outside, Exchange, Read}
 use Rattle.port_122.proofs.ReadCalls.{since_read}
 use Rattle.raster_rows.specs.Pixels.{IsPixel, pixel_size}
@@ -18,12 +17,7 @@ use Rattle.raster_rows.proofs.RowRuns.{RowSoFar, so_far_size, asks_here, asked_s
 -- the first octets of a buffer into whose middle some were read
 pub buffer_more : (buffer piece : List ℕ) (held count k : ℕ) → held ≤ length buffer → count ≤ length piece →
     take (held + count) (put_mid held k buffer piece) ≡ take held buffer ++ take count piece
-buffer_more buffer piece held count k le room =
-    let size : length (take held buffer) ≡ held = length-take-le held buffer le in
-    let parts : take (length (take held buffer) + count) (take held buffer ++ (piece ++ post_of held k buffer)) ≡ take held buffer ++ take count (piece ++ post_of held k buffer) =
-    take-append-add (take held buffer) (piece ++ post_of held k buffer) count in
-    subst (λ n. take (n + count) (take held buffer ++ (piece ++ post_of held k buffer)) ≡ take held buffer ++ take count (piece ++ post_of held k buffer)) size parts ∙
-    ap (λ zs. take held buffer ++ zs) (take-append-le count piece (post_of held k buffer) room)
+buffer_more buffer piece held count k le room = grind (arith, nat_tests, length-take-le, take-append-add, take-append-le)
 
 -- a piece of a row was read to the end of what a buffer holds
 pub record PieceRead (depth : ℕ) (signed : Bool) (width : ℕ) (old now new : Outside) (before mid : List ℤ) (buffer piece filled : List ℕ) (column held count : ℕ) : Type 0 where
@@ -123,7 +117,4 @@ row_done {depth = depth} {width = width} {column = column} {held = held} {signed
 -- what is left of a row bounds a read
 pub left_within : (size width column held count left : ℕ) → column ≤ width → column * size + held ≤ width * size → left ≡ (width - column) * size - held → count ≤ left →
     column * size + (held + count) ≤ width * size
-left_within size width column held count left le inside is fits =
-    let parts : width ≡ column + (width - column) = omega arith in
-    let whole : width * size ≡ (column + (width - column)) * size = ap (λ w. w * size) parts in
-    omega (arith, whole, is, fits, inside)
+left_within size width column held count left le inside is fits = grind (arith, nat_tests)

@@ -1,9 +1,7 @@
 -- The octets that wait in a buffer.
-use Rattle.std.proofs.Common.{◌≡◌, ◌≤◌, ◌<◌, ◌+◌, ◌*◌, ◌^◌, ℕ, List, [], ◌++◌, length, take, drop, refl, ap, ◌∙◌, arith, length-take}
-use Rattle.std.specs.Prelude.{nat_lt, nat_le, Bool, true, false, Result, Ok, is_ok, if◌then◌else◌}
+use Rattle.std.proofs.Common.{◌≡◌, ◌≤◌, ◌<◌, ◌+◌, ◌*◌, ◌^◌, ℕ, List, [], ◌++◌, length, take, drop, refl, ap, ◌∙◌, arith, length-take, nat_lt, nat_le, Bool, true, false, Result, Ok, is_ok, if◌then◌else◌, ltb-false, ltb-true, leb-true}
 use Rattle.std.specs.Bool.{OnTrue, OnFalse}
 use Rattle.std.proofs.lemmas.List.{drop_all, drop-append-le}
-use Rattle.std.proofs.lemmas.Bool.{ltb-false, ltb-true, leb-true}
 use Rattle.space_packets.specs.declared.stage.PacketiserState.{PacketiserState}
 use Rattle.space_packets.specs.declared.stage.PacketiserState.TheVariants.{Idle, Begun, Broken}
 use Rattle.space_packets.specs.declared.stage.Text.{Text}

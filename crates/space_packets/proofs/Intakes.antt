@@ -1,6 +1,5 @@
 -- The effect of further octets, and of results, on a reader's state.
-use Rattle.std.proofs.Common.{◌≡◌, ◌≢◌, ◌≤◌, ◌<◌, ◌+◌, ◌-◌, ℕ, List, [], ◌∷◌, ◌++◌, length, take, drop, refl, sym, ap, subst, ◌∙◌, arith, append_assoc, add_assoc, add-zero, length-append, length-drop}
-use Rattle.std.specs.Prelude.{Bool, true, false, ◌||◌, ◌==◌, Some, None, Result, Ok, Err, slice_range}
+use Rattle.std.proofs.Common.{◌≡◌, ◌≢◌, ◌≤◌, ◌<◌, ◌+◌, ◌-◌, ℕ, List, [], ◌∷◌, ◌++◌, length, take, drop, refl, sym, ap, subst, ◌∙◌, arith, append_assoc, add_assoc, add-zero, length-append, length-drop, Bool, true, false, ◌||◌, ◌==◌, Some, None, Result, Ok, Err, slice_range}
 use Rattle.std.proofs.lemmas.Bool.{false≢true, or_parts}
 use Rattle.std.proofs.lemmas.Bool.Decides.{nat_tests}
 use Rattle.std.proofs.lemmas.List.{append-nil, take-append-le, drop-append-le, drop-take, drop-drop, length-take-le, take-take, take_at, with_items_is}
@@ -22,6 +21,7 @@ use Rattle.packet_defs.specs.declared.packet.Skip.{Skip}
 use Rattle.packet_defs.specs.Reading.{packet_read, read_as, skip_of, head_in, ancillary_in, text_in}
 use Rattle.packet_defs.specs.Streams.{has_bad_version, begins_packet, first_packet, after_packet, framing_at, missing}
 use Rattle.space_packets.specs.Intake.{Intake, place_of, is_decided, end_read, verdict, text_mine, answered, fed}
+use Rattle.packet_defs.proofs.Equations.{begins_packet-is, framing_at-is, packet_read-is}
 
 -- two states are the same if their parts are
 pub same_intake : {v w : Intake} → v.cap ≡ w.cap → v.taken ≡ w.taken → v.pending ≡ w.pending → v.text ≡ w.text → v.ended ≡ w.ended → v ≡ w
@@ -57,9 +57,7 @@ waits_more xs piece start end count k order within few =
 -- octets that wait after they were moved within a buffer
 pub waits_moved : (v : Vec ℕ) (old moved xs : List ℕ) (start s held : ℕ) → old ≡ v.items → take held (drop s moved) ≡ take held (drop start old) → length moved ≡ length old →
     xs ≡ (with_items v moved).items → take held (drop s xs) ≡ take held (drop start v.items)
-waits_moved v old moved xs start s held was same long is =
-    let size : length moved ≡ v.len = long ∙ ap length was ∙ sym v.ok.0 in
-    ap (λ zs. take held (drop s zs)) (is ∙ with_items_is v moved size) ∙ same ∙ ap (λ zs. take held (drop start zs)) was
+waits_moved v old moved xs start s held was same long is = grind (arith, nat_tests, with_items_is)
 
 -- the length of what waits is within its bounds
 pub length-waits : (xs : List ℕ) (start end : ℕ) → start ≤ end → end ≤ length xs → length (slice_range xs start end) ≡ end - start
@@ -69,11 +67,7 @@ length-waits xs start end order within = length-take-le (end - start) (drop star
 pub fed_piece : (v : Intake) (now xs piece : List ℕ) (s held count k : ℕ) (ended saw_end : Bool) → now ≡ put_mid (s + held) k xs piece → take held (drop s xs) ≡ v.pending → s + held ≤ length xs → count ≤ length piece →
     ended ≡ (v.ended || saw_end) →
     record { cap = v.cap; taken = v.taken + count; pending = slice_range now s (s + held + count); text = []; ended = ended } ≡ fed v (take count piece) saw_end
-fed_piece v now xs piece s held count k ended saw_end is waits within few over =
-    let n : s + held - s ≡ held = omega arith in
-    let here : slice_range xs s (s + held) ≡ v.pending = ap (λ m. take m (drop s xs)) n ∙ waits in
-    same_intake refl (ap (λ m. v.taken + m) (sym (length-take-le count piece few)))
-    (ap (λ zs. slice_range zs s (s + held + count)) is ∙ waits_more xs piece s (s + held) count k (omega arith) within few ∙ ap (λ zs. zs ++ take count piece) here) refl over
+fed_piece v now xs piece s held count k ended saw_end is waits within few over = grind (arith, nat_tests, slice_range, same_intake, length-take-le, waits_more)
 
 pub fed_nothing : (v : Intake) (now xs piece : List ℕ) (s held k : ℕ) → now ≡ put_mid (s + held) k xs piece → take held (drop s xs) ≡ v.pending → s + held ≤ length xs →
     record { cap = v.cap; taken = v.taken; pending = slice_range now s (s + held); text = []; ended = v.ended } ≡ fed v [] false
@@ -101,8 +95,7 @@ or_none false n e = grind (arith, nat_tests)
 -- ---- what is decided
 
 pub no_begin : (xs : List ℕ) → has_bad_version xs ≡ true → begins_packet xs ≡ false
-unfolding begins_packet
-no_begin xs bad = rw bad refl
+no_begin xs bad = simp begins_packet-is (rw bad refl)
 
 pub verdict_bad : (apid : ℕ) (v : Intake) → has_bad_version v.pending ≡ true → verdict apid v ≡ Some (Ok (Fault (BadVersion (place_of v))))
 unfolding verdict
@@ -115,18 +108,11 @@ verdict_end apid v good none over = rw (good, none, over) refl
 
 pub verdict_ended : (apid : ℕ) (v : Intake) → has_bad_version v.pending ≡ false → begins_packet v.pending ≡ false → v.ended ≡ true → length v.pending ≡ 0 →
     verdict apid v ≡ Some (Ok Ended)
-unfolding framing_at
-verdict_ended apid v good none over empty =
-    let e : framing_at (place_of v) v.pending ≡ None = rw (good, empty) refl in
-    verdict_end apid v good none over ∙ ap (λ f. Some (Ok (end_read f))) e
+verdict_ended apid v good none over empty = grind (arith, nat_tests, framing_at-is, verdict_end)
 
 pub verdict_cut : (apid : ℕ) (v : Intake) → has_bad_version v.pending ≡ false → begins_packet v.pending ≡ false → v.ended ≡ true → length v.pending ≢ 0 →
     verdict apid v ≡ Some (Ok (Fault (CutPacket (missing v.pending))))
-unfolding framing_at
-verdict_cut apid v good none over some =
-    let t : (length v.pending == 0) ≡ false = grind (arith, nat_tests) in
-    let e : framing_at (place_of v) v.pending ≡ Some (CutPacket (missing v.pending)) = rw (good, t) refl in
-    verdict_end apid v good none over ∙ ap (λ f. Some (Ok (end_read f))) e
+verdict_cut apid v good none over some = grind (arith, nat_tests, framing_at-is, length, verdict_end)
 
 pub answered_packet : (apid : ℕ) (v : Intake) → begins_packet v.pending ≡ true →
     answered apid v ≡ record v { pending = after_packet v.pending; text = text_mine apid (first_packet v.pending) }
@@ -138,25 +124,19 @@ unfolding answered
 answered_none apid v none no_text = rw none (same_intake refl refl refl (sym no_text) refl)
 
 pub read_skipped : (apid : ℕ) (packet : List ℕ) (skip : Skip) → skip_of apid packet ≡ Some skip → packet_read apid packet ≡ Skipped skip
-unfolding packet_read
-read_skipped apid packet skip e = ap (λ o. read_as o packet) e
+read_skipped apid packet skip e = simp packet_read-is (ap (λ o. read_as o packet) e)
 
 pub read_mine : (apid : ℕ) (packet : List ℕ) → skip_of apid packet ≡ None → packet_read apid packet ≡ Mine (head_in packet) (ancillary_in packet)
-unfolding packet_read
-read_mine apid packet e = ap (λ o. read_as o packet) e
+read_mine apid packet e = simp packet_read-is (ap (λ o. read_as o packet) e)
 
 -- the state after a packet of the image, and after another
 pub passed_mine : (apid : ℕ) (v : Intake) (text : List ℕ) (after : List ℕ) → begins_packet v.pending ≡ true → skip_of apid (first_packet v.pending) ≡ None →
     after ≡ after_packet v.pending → text ≡ text_in (first_packet v.pending) → record v { pending = after; text = text } ≡ answered apid v
-passed_mine apid v text after whole mine rest is =
-    let t : text_mine apid (first_packet v.pending) ≡ text_in (first_packet v.pending) = rw mine refl in
-    same_intake refl refl rest (is ∙ sym t) refl ∙ sym (answered_packet apid v whole)
+passed_mine apid v text after whole mine rest is = grind (arith, nat_tests, same_intake, answered_packet)
 
 pub passed_other : (apid : ℕ) (v : Intake) (text after : List ℕ) (skip : Skip) → begins_packet v.pending ≡ true → skip_of apid (first_packet v.pending) ≡ Some skip →
     after ≡ after_packet v.pending → text ≡ [] → record v { pending = after; text = text } ≡ answered apid v
-passed_other apid v text after skip whole other rest is =
-    let t : text_mine apid (first_packet v.pending) ≡ [] = rw other refl in
-    same_intake refl refl rest (is ∙ sym t) refl ∙ sym (answered_packet apid v whole)
+passed_other apid v text after skip whole other rest is = grind (arith, nat_tests, same_intake, answered_packet)
 
 -- a part of the octets from a place on
 drop_of_take : (n k : ℕ) (zs : List ℕ) → k ≤ n → drop k (take n zs) ≡ take (n - k) (drop k zs)
@@ -166,19 +146,12 @@ drop_of_take n k zs within =
 
 -- the octets that wait, after the first of them
 pub waits_past : (xs : List ℕ) (start end count : ℕ) → start + count ≤ end → slice_range xs (start + count) end ≡ drop count (slice_range xs start end)
-waits_past xs start end count within =
-    let few : end - (start + count) ≡ (end - start) - count = omega arith in
-    ap (λ n. take n (drop (start + count) xs)) few ∙ ap (take ((end - start) - count)) (sym (drop-drop count start xs))
-    ∙ sym (drop_of_take (end - start) count (drop start xs) (omega arith))
+waits_past xs start end count within = grind (arith, nat_tests, drop-drop, drop_of_take)
 
 -- the text within them
 pub text_waits : (xs : List ℕ) (start end k count : ℕ) → start + count ≤ end → k ≤ count →
     slice_range xs (start + k) (start + count) ≡ drop k (take count (slice_range xs start end))
-text_waits xs start end k count within few =
-    let n : (start + count) - (start + k) ≡ count - k = omega arith in
-    ap (λ m. take m (drop (start + k) xs)) n ∙ ap (take (count - k)) (sym (drop-drop k start xs))
-    ∙ sym (drop_of_take count k (drop start xs) few)
-    ∙ ap (drop k) (sym (take-take count (end - start) (drop start xs) (omega arith)))
+text_waits xs start end k count within few = grind (arith, nat_tests, drop-drop, drop_of_take, take-take)
 
 -- ---- up to an answer
 

@@ -6,3 +6,5 @@ mod Sound
 mod MoreOctets
 pub mod Intakes
 pub mod StreamReads
+pub mod Equations
+pub mod Verdicts

@@ -1,24 +1,20 @@
 -- A text is continued by octets that its part has room for, or by one after a full part.
-use Rattle.std.proofs.Common.{◌≡◌, ◌≤◌, ◌+◌, ◌*◌, ℕ, List, [], ◌∷◌, ◌++◌, length, take, drop, refl, sym, ◌∙◌, ap, subst, arith, add-zero, length-append}
-use Rattle.std.specs.Prelude.{false}
-use Rattle.std.proofs.Math.Nat.{zero-mul, one-mul}
-use Rattle.std.proofs.lemmas.List.{append-nil, drop_at, take_at}
+use Rattle.std.proofs.Common.{◌≡◌, ◌≤◌, ◌+◌, ◌*◌, ℕ, List, [], ◌∷◌, ◌++◌, length, take, drop, refl, sym, ◌∙◌, ap, subst, arith, add-zero, length-append, false, zero-mul, one-mul, append-nil, drop_at, take_at}
+use Rattle.std.proofs.lemmas.Bool.Decides.{nat_tests}
 use Rattle.port_122.specs.Outside.{Outside, Exchange, NoRead}
 use Rattle.port_122.proofs.Stretches.{since_start}
-use Rattle.packet_defs.specs.Packets.{part_of, part_size}
+use Rattle.packet_defs.specs.Packets.{part_size}
 use Rattle.space_packets.specs.declared.stage.PacketiserState.TheVariants.{Begun, Broken}
 use Rattle.space_packets.specs.declared.stage.Text.{Text}
 use Rattle.space_packets.specs.Parts.{text_at, packet_of}
 use Rattle.space_packets.specs.Progress.{Progress, IsOpen, full_count, full_packet, first_packets, first_octets, written, after, broken}
 use Rattle.space_packets.specs.Writes.{Continues, StopsEarly, PacketOut, PacketFailed}
-use Rattle.space_packets.specs.FullParts.{full_parts_is, full_parts_none}
 use Rattle.space_packets.specs.Going.{same_progress, text_here}
 
 -- ---- if the part has room
 
 none_full : {t : Text} {v : Progress} → IsOpen t v → (octets : List ℕ) → length v.pending + length octets ≤ part_size v.packet → full_count v octets ≡ 0
-none_full {v = v} going octets room =
-    full_parts_none (part_size v.packet) (length (v.pending ++ octets)) (omega (arith, length-append v.pending octets, room)) (omega (arith, going.packet))
+none_full {v = v} going octets room = grind (arith, nat_tests, length-append)
 
 pub goes_on_in : {t : Text} {p : Outside} {v w : Progress} → IsOpen t v → (octets : List ℕ) → length v.pending + length octets ≤ part_size v.packet →
     w ≡ record v { pending = v.pending ++ octets } → Continues t p p v w octets
@@ -39,18 +35,11 @@ goes_on_in {t = t} {p = p} {v = v} {w = w} going octets room e =
 -- ---- if the part is full
 
 one_full : {t : Text} {v : Progress} → IsOpen t v → (octet : ℕ) → length v.pending ≡ part_size v.packet → full_count v (octet ∷ []) ≡ 1
-one_full {v = v} going octet full =
-    full_parts_is (part_size v.packet) (length (v.pending ++ octet ∷ [])) 1 1 (omega (arith, length-append v.pending (octet ∷ []), full)) (omega arith) (omega (arith, going.packet))
+one_full {v = v} going octet full = grind (arith, nat_tests, length-append)
 
 first_is : (t : Text) (v : Progress) (octet : ℕ) → length v.pending ≡ part_size v.packet →
     full_packet t v (octet ∷ []) 0 ≡ packet_of t v.packets false v.pending
-first_is t v octet full =
-    let all = v.pending ++ octet ∷ [] in
-    let part : part_of (part_size v.packet) 0 all ≡ v.pending =
-    ap (λ n. take (part_size v.packet) (drop n all)) (zero-mul (part_size v.packet)) ∙ take_at v.pending (octet ∷ []) (part_size v.packet) full in
-    ap (λ u. packet_of u (v.packets + 0) false (part_of (part_size v.packet) 0 all)) (text_here t)
-    ∙ ap (λ n. packet_of t n false (part_of (part_size v.packet) 0 all)) (add-zero v.packets)
-    ∙ ap (packet_of t v.packets false) part
+first_is t v octet full = grind (arith, nat_tests, zero-mul, take_at, false, add-zero)
 
 pub goes_on_past : {t : Text} {p q : Outside} {v u w : Progress} → IsOpen t v → (octet : ℕ) → length v.pending ≡ part_size v.packet →
     PacketOut p q v u (Begun (text_at t 1)) (packet_of t v.packets false v.pending) → w ≡ record u { pending = u.pending ++ octet ∷ [] } →

@@ -1,9 +1,7 @@
 -- What holds of a packetiser's fields is preserved.
-use Rattle.std.proofs.Common.{◌≡◌, ◌≤◌, ◌<◌, ◌+◌, ◌-◌, ◌*◌, ◌^◌, ℕ, length, ap, sym, subst, arith}
-use Rattle.std.specs.Prelude.{Bool, true, false, if◌then◌else◌, vec_capacity}
+use Rattle.std.proofs.Common.{◌≡◌, ◌≤◌, ◌<◌, ◌+◌, ◌-◌, ◌*◌, ◌^◌, ℕ, length, ap, sym, subst, arith, Bool, true, false, if◌then◌else◌, vec_capacity, mul-le-mul_left}
 use Rattle.std.specs.Bool.{OnFalse}
 use Rattle.std.specs.Global.{Vec}
-use Rattle.std.proofs.Math.Nat.{mul-le-mul_left}
 use Rattle.packet_defs.specs.Packets.{part_size}
 use Rattle.space_packets.specs.declared.packetiser.Packetiser.TheInside.{Inside}
 use Rattle.space_packets.specs.declared.stage.PacketiserState.{PacketiserState}

@@ -1,6 +1,5 @@
 -- A reader reads a stream packet by packet: its result is that of the stream's definitions.
-use Rattle.std.proofs.Common.{◌≡◌, refl, sym}
-use Rattle.std.specs.Prelude.{Bool, true, false, ◌||◌}
+use Rattle.std.proofs.Common.{◌≡◌, refl, sym, Bool, true, false, ◌||◌}
 use Rattle.std.proofs.lemmas.Bool.{false≢true}
 use Rattle.packet_defs.specs.Streams.{has_bad_version, begins_packet}
 use Rattle.space_packets.specs.Intake.{Intake, is_decided}

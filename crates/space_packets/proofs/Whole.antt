@@ -1,10 +1,8 @@
 -- A whole text: the packets that are written are those of the text.
-use Rattle.std.proofs.Common.{◌≡◌, ◌≤◌, ◌<◌, ◌+◌, ◌-◌, ◌*◌, ◌/◌, ℕ, List, [], ◌∷◌, ◌++◌, length, drop, map, ◌∙◌, ap, arith, length-drop}
-use Rattle.std.specs.Prelude.{Bool, true, false, if◌then◌else◌, ◌==◌}
+use Rattle.std.proofs.Common.{◌≡◌, ◌≤◌, ◌<◌, ◌+◌, ◌*◌, ℕ, List, [], ◌∷◌, ◌++◌, length, drop, map, ◌∙◌, ap, arith, length-drop, Bool, true, false, if◌then◌else◌, ◌==◌, append-nil, take_all}
 use Rattle.std.specs.List.{range_with_len}
 use Rattle.std.proofs.Math.Nat.{add-mul-div_right}
 use Rattle.std.proofs.lemmas.Bool.Decides.{nat_tests}
-use Rattle.std.proofs.lemmas.List.{append-nil, take_all}
 use Rattle.std.proofs.lemmas.List.FromFn.{map-range_with_len_more}
 use Rattle.packet_defs.specs.Packets.{ancillary_octets, packet_with, sequence_flags, part_count, part_of, part_packet, part_size, text_packets}
 use Rattle.packet_defs.specs.Packets.{joined}
@@ -14,12 +12,11 @@ use Rattle.space_packets.specs.Parts.{flags_of, full_parts, text_at, packet_of}
 use Rattle.space_packets.specs.Progress.{Progress, begun, full_count, full_packet, first_packets, written, after, last_packet}
 use Rattle.space_packets.specs.PartLists.{map_same}
 use Rattle.space_packets.specs.FullParts.{full_parts_left}
+use Rattle.packet_defs.proofs.Equations.{text_packets-is}
 
 -- all parts except one are full and not the last
 pub parts_and_last : (size octets : ℕ) → 0 < size → 0 < octets → part_count size octets ≡ full_parts size octets + 1
-parts_and_last size octets some more =
-    let sum : octets + size - 1 ≡ (octets - 1) + 1 * size = omega arith in
-    ap (λ n. n / size) sum ∙ add-mul-div_right (octets - 1) 1 {z = size} some
+parts_and_last size octets some more = grind (arith, nat_tests, add-mul-div_right)
 
 not_last : (part n : ℕ) → part < n → (part + 1 == n + 1) ≡ false
 not_last part n few = grind (arith, nat_tests)
@@ -41,8 +38,9 @@ packet_is t packet before n part last text first e =
 pub whole_text : (v : Progress) (t : Text) (text : List ℕ) → 64 ≤ v.packet → t.ancillary.part ≡ 0 → 0 < length text →
     joined (text_packets t.apid t.ancillary v.packet v.packets text)
     ≡ written t (begun v t) text ++ last_packet (text_at t (full_count (begun v t) text)) (after t (begun v t) text)
-unfolding text_packets first_packets
+unfolding first_packets
 whole_text v t text least first some =
+    simp text_packets-is (
     let size = part_size v.packet in
     let n = full_parts size (length text) in
     let count : part_count size (length text) ≡ n + 1 = parts_and_last size (length text) (omega arith) some in
@@ -60,4 +58,4 @@ whole_text v t text least first some =
     ∙ ap joined (map-range_with_len_more f 0 n n (omega arith))
     ∙ joined-append (map f (range_with_len 0 n)) (f n ∷ [])
     ∙ ap (λ xs. joined xs ++ joined (f n ∷ [])) front
-    ∙ ap (λ xs. joined (map g (range_with_len 0 n)) ++ xs) (append-nil (f n) ∙ last)
+    ∙ ap (λ xs. joined (map g (range_with_len 0 n)) ++ xs) (append-nil (f n) ∙ last))

@@ -1,9 +1,8 @@
 -- A whole text by its calls: begin, octets, and close, or a failure among them.
-use Rattle.std.proofs.Common.{◌≡◌, ◌≤◌, ◌<◌, ◌+◌, ◌-◌, ◌*◌, ℕ, suc, List, [], ◌++◌, length, take, drop, map, refl, sym, ◌∙◌, ap, subst, arith, append_assoc, length-append, length-drop, zero-add}
-use Rattle.std.specs.Prelude.{Result, Ok, Err, MatchResult}
+use Rattle.std.proofs.Common.{◌≡◌, ◌≤◌, ◌<◌, ◌+◌, ◌-◌, ℕ, suc, List, [], ◌++◌, length, take, drop, map, refl, sym, ◌∙◌, ap, subst, arith, append_assoc, length-append, length-drop, zero-add, Result, Ok, Err, MatchResult, take-append-drop}
 use Rattle.std.specs.List.{range_with_len}
 use Rattle.std.proofs.Math.Seq.{take-append_seam}
-use Rattle.std.proofs.lemmas.List.{take-append-drop}
+use Rattle.std.proofs.lemmas.Bool.Decides.{nat_tests}
 use Rattle.port_122.specs.Outside.{Outside, Exchange, NoRead, Rose}
 use Rattle.port_122.proofs.Stretches.{since_out, rose_since}
 use Rattle.packet_defs.specs.Packets.{part_size, part_count, text_packets}
@@ -11,11 +10,10 @@ use Rattle.packet_defs.specs.Packets.{joined}
 use Rattle.packet_defs.proofs.Joins.{joined-append}
 use Rattle.space_packets.specs.declared.stage.PacketiserState.TheVariants.{Idle, Begun}
 use Rattle.space_packets.specs.declared.stage.Text.{Text}
-use Rattle.space_packets.specs.Parts.{full_parts, text_at}
+use Rattle.space_packets.specs.Parts.{text_at}
 use Rattle.space_packets.specs.Progress.{Progress, IsOpen, begun, full_count, full_packet, first_packets, first_octets, written, after, last_packet, past_packet, broken, stopped, ended}
 use Rattle.space_packets.specs.Writes.{Continues, StopsEarly, PacketOut, PacketFailed, WritesPacket, TextOut, TextCut}
 use Rattle.space_packets.specs.PartLists.{map_split}
-use Rattle.space_packets.specs.FullParts.{full_parts_below}
 use Rattle.space_packets.specs.Going.{same_progress, octets_both, written_both}
 use Rattle.space_packets.proofs.Whole.{whole_text, parts_and_last}
 
@@ -25,11 +23,7 @@ begun_open v t least = record { stage = refl; packet = least; pending = omega ar
 
 -- octets wait if a text isn't empty
 pub some_wait : {t : Text} {p q : Outside} (v : Progress) {w : Progress} (text : List ℕ) → 0 < length text → Continues t p q (begun v t) w text → 0 < length w.pending
-some_wait {t = t} v {w = w} text some first =
-    let size = part_size v.packet in
-    let n = full_parts size (length text) in
-    let left : length w.pending ≡ length text - n * size = ap (λ (w : Progress). length w.pending) first.stands ∙ length-drop (n * size) text in
-    omega (arith, left, full_parts_below size (length text) some)
+some_wait {t = t} v {w = w} text some first = grind (arith, nat_tests, length-drop)
 
 -- the state at the end
 ended_is : (v : Progress) (t : Text) (text : List ℕ) → 64 ≤ v.packet → t.ancillary.part ≡ 0 → 0 < length text →

@@ -1,19 +1,17 @@
 -- One block of a block row among those of a segment.
-use Rattle.std.proofs.Common.{◌≡◌, ℕ, zero, suc, ◌+◌, ◌-◌, ◌*◌, ◌^◌, ◌<◌, ◌≤◌, ℤ, pos, ◌*ℤ◌, List, length, drop, sym, ap, ◌∙◌, subst, arith, get_or, inl, inr, length-drop}
-use Rattle.std.specs.Prelude.{All, unsigned_abs}
+use Rattle.std.proofs.Common.{◌≡◌, ℕ, ◌+◌, ◌-◌, ◌*◌, ◌^◌, ◌<◌, ◌≤◌, ℤ, pos, ◌*ℤ◌, List, length, drop, sym, ap, ◌∙◌, subst, arith, get_or, inl, inr, length-drop, All, unsigned_abs}
 use Rattle.std.proofs.lemmas.Bool.{cases_lt}
-use Rattle.std.proofs.lemmas.Int.{ints}
-use Rattle.std.proofs.lemmas.List.{same_lists, get_or_default, get_or_past, get_or-take, get_or-drop, length-take-le}
+use Rattle.std.proofs.lemmas.List.{same_lists, get_or_default, get_or-take, get_or-drop, length-take-le}
 use Rattle.std.proofs.lemmas.List.FromFn.{get_or-map-range_with_len, length-map-range_with_len}
-use Rattle.std.proofs.lemmas.Bool.Decides.{nat_tests}
 use borrow.Rule.Slice.PartMut.{put_mid}
 use Rattle.base_122.specs.Weights.{IsShift}
 use Rattle.wave_defs.specs.Blocks.{Place, place_of, weight_at}
 use Rattle.wave_defs.specs.Held.{block_at}
-use Rattle.wave_defs.specs.Within.{IsWithin}
 use Rattle.wave_defs.proofs.GridLaws.{part_at, part_below}
+use Rattle.wave_defs.proofs.BlockLaws.{weighted-within}
 use Rattle.block_families.specs.Places.{place_in, gathered}
 use Rattle.block_families.proofs.Placing.{place_within}
+use Rattle.block_families.proofs.Passing.{shift_small}
 use Rattle.wave_strip.specs.declared.strip.StripWave.{StripWave}
 use Rattle.wave_strip.specs.Strip.{columns_of, number_in}
 use Rattle.wave_strip.proofs.NumberBounds.{number_small}
@@ -21,21 +19,11 @@ use Rattle.strip_coder.specs.Works.{AreSmall}
 use Rattle.strip_coder.specs.Steps.{PutsBlock}
 use Rattle.stream_defs.proofs.Small.{within_small}
 
-shift_small : (shifts : List ℕ) (k : ℕ) → All IsShift shifts → get_or shifts k 0 ≤ 3
-shift_small shifts k each = grind (arith, nat_tests, get_or_past)
-
-weighted : (w b : ℕ) (z : ℤ) → w ≤ 3 → IsWithin b z → IsWithin (8 * b) (z *ℤ pos (2 ^ w))
-weighted zero b z h k = record { above = omega (arith, ints); below = omega (arith, ints) }
-weighted (suc zero) b z h k = record { above = omega (arith, ints); below = omega (arith, ints) }
-weighted (suc (suc zero)) b z h k = record { above = omega (arith, ints); below = omega (arith, ints) }
-weighted (suc (suc (suc zero))) b z h k = record { above = omega (arith, ints); below = omega (arith, ints) }
-weighted (suc (suc (suc (suc w)))) b z h k = absurd (omega arith)
-
 -- the numbers of a block row, with their weights
 pub weighted_small : (strip : StripWave) (weights : List ℕ) (column i : ℕ) → All IsShift weights → column < columns_of strip → i < 64 →
     unsigned_abs (number_in strip (place_in column i) *ℤ weight_at weights i) < 2 ^ 27
 weighted_small strip weights column i shifts inside lt =
-    within_small _ (weighted (get_or weights (place_of i).band 0) 16000000 _ (shift_small weights (place_of i).band shifts) (number_small strip (place_in column i) (place_within (columns_of strip) column i inside lt)))
+    within_small _ (weighted-within (get_or weights (place_of i).band 0) 16000000 _ (shift_small weights (place_of i).band shifts) (number_small strip (place_in column i) (place_within (columns_of strip) column i inside lt)))
 
 length-gathered : (number : Place → ℤ) (weights : List ℕ) (column : ℕ) → length (gathered number weights column) ≡ 64
 length-gathered number weights column = length-map-range_with_len (λ i. number (place_in column i) *ℤ weight_at weights i) 0 64

@@ -1,6 +1,5 @@
 -- The counts of an encoder.
-use Rattle.std.proofs.Common.{◌≡◌, ℕ, ℤ, List, length, sym, ap, ◌∙◌}
-use Rattle.std.specs.List.{flat_map}
+use Rattle.std.proofs.Common.{◌≡◌, ℕ, ℤ, List, length, sym, ap, ◌∙◌, flat_map}
 use Rattle.strip_coder.specs.declared.plan.Plan.{Plan}
 use Rattle.strip_coder.specs.Plans.{IsPlan, whole}
 use Rattle.stream_defs.specs.Output.{image_blocks, packets_of, segments_of, tells_last}

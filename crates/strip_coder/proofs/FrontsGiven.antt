@@ -1,8 +1,6 @@
 -- Octets that broke off and are a prefix of the packets of each image that begins with some rows.
-use Rattle.std.proofs.Common.{◌≡◌, ◌≢◌, inl, inr, min, ℕ, ◌+◌, ◌-◌, ◌*◌, ◌<◌, ◌≤◌, Bool, true, ℤ, List, [], ◌++◌, length, take, refl, sym, ap, ◌∙◌, subst, arith}
-use Rattle.std.specs.Prelude.{Option, None, Some}
+use Rattle.std.proofs.Common.{◌≡◌, ◌≢◌, inl, inr, min, ℕ, ◌+◌, ◌-◌, ◌*◌, ◌<◌, ◌≤◌, Bool, true, ℤ, List, [], ◌++◌, length, take, refl, sym, ap, ◌∙◌, subst, arith, Option, None, Some, div-lt_iff_lt-mul, mul-le-mul_right, Err}
 use Rattle.std.proofs.Math.Seq.{take-append_seam}
-use Rattle.std.proofs.Math.Nat.{div-lt_iff_lt-mul, mul-le-mul_right}
 use Rattle.std.proofs.lemmas.List.{append-nil, append_cancel_left, take_min, take-append-le}
 use Rattle.port_122.specs.Outside.{Outside, Exchange, NoRead, Grows, GivenBy, Rose}
 use Rattle.port_122.proofs.Stretches.{asks_weaker, since_out, rose_since}
@@ -22,7 +20,6 @@ use Rattle.stream_defs.proofs.HeightLaws.{packets_same, settled_alike}
 use Rattle.strip_coder.specs.declared.plan.Plan.{Plan}
 use Rattle.strip_coder.specs.Plans.{plan_of, tallest}
 use Rattle.strip_coder.specs.declared.encode.EncodeFault.TheVariants.{WriteFault}
-use Rattle.std.specs.Prelude.{Err}
 use Rattle.std.proofs.lemmas.Bool.Decides.{nat_tests}
 use Rattle.strip_coder.specs.Rasters.{image_of, given_for}
 use Rattle.strip_coder.specs.Answers.{TookRows, EncodesImage}
@@ -30,6 +27,7 @@ use Rattle.strip_coder.specs.Steps.{StopsEarly}
 use Rattle.strip_coder.proofs.PlanLaws.{tall_height, tall_or_open, open_last, known_height}
 use Rattle.strip_coder.proofs.SettledCounts.{settled_so}
 use Rattle.strip_coder.proofs.SegmentRuns.{front_of}
+use Rattle.stream_defs.proofs.Equations.{settled-is}
 
 -- if the port reports what it was given, the octets that were added are determined
 one_gave : (before now : Option (List ℕ)) (octets a b : List ℕ) → now ≡ Some octets → Grows before now a → Grows before now b → a ≡ b
@@ -52,7 +50,7 @@ pub record FrontOut (s : Setting) (k : ℕ) (x : ℕ → ℕ → ℤ) (from : �
   pub out : Exchange p q [] gave [] NoRead
   pub each : (rows : ℕ) (y : ℕ → ℕ → ℤ) → IsHeight s rows → k ≤ rows → SameWithin k s.width x y → (n : ℕ) × (joined (front_packets s rows y from) ++ gave ≡ take n (output s rows y))
 
-take_front : (some : ℕ) (xs rest : List ℕ) → (n : ℕ) × (take some xs ≡ take n (xs ++ rest))
+pub take_front : (some : ℕ) (xs rest : List ℕ) → (n : ℕ) × (take some xs ≡ take n (xs ++ rest))
 take_front some xs rest =
     let n = min some (length xs) in
     (n, sym (take_min some xs) ∙ sym (take-append-le n xs rest (omega arith)))
@@ -116,12 +114,10 @@ module _ (s : Setting) (range : IsInRange s) (k index : ℕ) where
 
   pub through : index < segments_of (sized s (tallest s)) → first_block s.segment index + segment_blocks all_blocks s.segment index ≤ block_count s.width * block_rows_in k →
       index + 1 ≤ settled_in s (tallest s) k
-  unfolding settled
-  through inside there = grind (arith, nat_tests, count_many, settled_at)
+  through inside there = rw settled-is (grind (arith, nat_tests, count_many, settled_at))
 
 settled_few : (told_last : Bool) (s : Setting) (k : ℕ) → settled told_last s k ≤ segments_of s
-unfolding settled
-settled_few told_last s k = count_most (is_settled told_last s k) (segments_of s) 0
+settled_few told_last s k = rw settled-is (count_most (is_settled told_last s k) (segments_of s) 0)
 
 -- the packets of settled segments are the same for each height
 module _ (s : Setting) (range : IsInRange s) (left_open : s.rows ≡ 0) (k rows : ℕ) (height : IsHeight s rows) (le : k ≤ tallest s) (le' : k ≤ rows) (y : ℕ → ℕ → ℤ) where

@@ -1,8 +1,6 @@
 -- Blocks are gathered one after another, and segments are written as they become full.
-use Rattle.std.proofs.Common.{◌≡◌, ℕ, ◌+◌, ◌*◌, ◌<◌, ◌≤◌, ℤ, List, [], refl, sym, ap, ◌∙◌, subst, arith, get_or, inl, inr, Result, Ok, Err}
-use Rattle.std.specs.Result.{IsErr}
+use Rattle.std.proofs.Common.{◌≡◌, ℕ, ◌+◌, ◌*◌, ◌<◌, ◌≤◌, ℤ, List, [], refl, sym, ap, ◌∙◌, subst, arith, get_or, inl, inr, Result, Ok, Err, IsErr, append-nil}
 use Rattle.std.proofs.lemmas.Bool.{cases_lt}
-use Rattle.std.proofs.lemmas.List.{append-nil}
 use Rattle.std.proofs.lemmas.Bool.Decides.{nat_tests}
 use Rattle.port_122.specs.Outside.{Outside, NoRead}
 use Rattle.port_122.proofs.Stretches.{since_start, rose_since}

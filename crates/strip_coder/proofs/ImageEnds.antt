@@ -1,8 +1,5 @@
 -- The end of an image: all block rows gathered.
-use Rattle.std.proofs.Common.{◌≡◌, ℕ, ◌-◌, ◌*◌, ℤ, [], length, refl, sym, ap, ◌∙◌, subst, arith, inl, inr, Result, Ok, Err}
-use Rattle.std.specs.Prelude.{MatchResult}
-use Rattle.std.specs.Result.{IsErr}
-use Rattle.std.proofs.lemmas.List.{append-nil}
+use Rattle.std.proofs.Common.{◌≡◌, ℕ, ◌-◌, ◌*◌, ℤ, [], length, refl, sym, ap, ◌∙◌, subst, arith, inl, inr, Result, Ok, Err, MatchResult, IsErr, append-nil}
 use Rattle.std.proofs.lemmas.Bool.Decides.{nat_tests}
 use Rattle.port_122.specs.Outside.{Outside, NoRead}
 use Rattle.port_122.proofs.Stretches.{since_start, rose_since}

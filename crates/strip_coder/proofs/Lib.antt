@@ -18,7 +18,7 @@ mod ImageEnds
 pub mod SettledCounts
 mod OtherHeights
 pub mod RowsGiven
-mod FrontsGiven
+pub mod FrontsGiven
 pub mod RowsTakenLaws
 pub mod RowComes
 mod TallEnds

@@ -1,6 +1,5 @@
 -- The padded row in its room.
-use Rattle.std.proofs.Common.{◌≡◌, ◌∙◌, sym, ap, subst, ℕ, List, ℤ, length}
-use Rattle.std.specs.Prelude.{Vec, vec_len}
+use Rattle.std.proofs.Common.{◌≡◌, ◌∙◌, sym, ap, subst, ℕ, List, ℤ, length, Vec, vec_len}
 use Rattle.std.specs.Vec.{with_items}
 use Rattle.std.proofs.lemmas.List.{with_items_is}
 use Rattle.raster_rows.specs.Padding.{IsPadded}

@@ -1,6 +1,5 @@
 -- The heights that an image of a setting may have, and its tallest image.
-use Rattle.std.proofs.Common.{◌≡◌, ◌≢◌, ◌⊎◌, ◌≤◌, ◌<◌, inl, inr, ℕ, refl, arith}
-use Rattle.std.specs.Prelude.{Bool, true, false, ◌==◌}
+use Rattle.std.proofs.Common.{◌≡◌, ◌≢◌, ◌⊎◌, ◌≤◌, ◌<◌, inl, inr, ℕ, refl, arith, Bool, true, false, ◌==◌}
 use Rattle.std.proofs.lemmas.Bool.{cases_lt}
 use Rattle.std.proofs.lemmas.Bool.Decides.{nat_tests}
 use Rattle.base_122.specs.Ranges.{IsInRange}
@@ -40,13 +39,4 @@ open_last s none = grind (arith, nat_tests)
 
 -- an image is the tallest one, or its height is reported last
 pub tall_or_open : (s : Setting) (rows : ℕ) → IsInRange s → IsHeight s rows → (rows ≡ tallest s) ⊎ ((s.rows ≡ 0) × (rows < tallest s))
-tall_or_open s rows range height = elim (cases_lt rows (tallest s)) [
-  | inl less ↦ elim height.1 [
-    | inl none ↦ inr (none, less)
-    | inr same ↦
-        let least = height.0.0 in
-        let e = known_tallest s (λ none. omega (arith, none, same, least)) in
-        absurd (omega (arith, e, same, less))
-  ]
-  | inr far ↦ let most = tall_most s rows range height in let e : rows ≡ tallest s = omega (arith, far, most) in inl e
-]
+tall_or_open s rows range height = grind (arith, nat_tests, cases_lt, known_tallest, tall_most)

@@ -1,6 +1,5 @@
 -- One more row of a raster.
-use Rattle.std.proofs.Common.{◌≡◌, ◌≢◌, ◌⊎◌, inl, inr, ◌/◌, ◌%◌, ◌==◌, Bool, true, false, ℕ, ◌+◌, ◌-◌, ◌*◌, ◌<◌, ◌≤◌, ℤ, List, [], ◌++◌, length, take, refl, sym, ap, ◌∙◌, subst, arith, length-append}
-use Rattle.std.specs.Prelude.{Err, Vec, ◌&&◌, nat_le}
+use Rattle.std.proofs.Common.{◌≡◌, ◌≢◌, ◌⊎◌, inl, inr, ◌/◌, ◌%◌, ◌==◌, Bool, true, false, ℕ, ◌+◌, ◌-◌, ◌*◌, ◌<◌, ◌≤◌, ℤ, List, [], ◌++◌, length, take, refl, sym, ap, ◌∙◌, subst, arith, length-append, Err, Vec, ◌&&◌, nat_le}
 use Rattle.std.proofs.lemmas.Bool.{cases_lt}
 use Rattle.std.proofs.lemmas.Bool.Decides.{nat_tests}
 use Rattle.std.proofs.lemmas.Nat.{mod-mul-add}
@@ -25,13 +24,14 @@ use Rattle.stream_defs.specs.SettledImages.{front_packets, settled_in}
 use Rattle.stream_defs.proofs.HeightLaws.{settled_alike}
 use Rattle.stream_defs.proofs.ImageLaws.{settled_rises}
 use Rattle.stream_defs.proofs.Outputs.{packets_of-none}
+use Rattle.stream_defs.proofs.KeptOrder.{is_zero}
 use Rattle.strip_coder.specs.declared.encode.EncodeFault.TheVariants as encode_faults
 use Rattle.strip_coder.specs.declared.work.Work.{Work}
 use Rattle.strip_coder.specs.Rasters.{row_length, most_length, LacksRows, image_of, AreInRange, settled_octets, given_for}
 use Rattle.strip_coder.specs.Answers.{FirstBad, EncodesImage}
 use Rattle.strip_coder.specs.Works.{HasTaken, FollowsRows, RepresentsNone}
 use Rattle.strip_coder.specs.Steps.{IsRowInRange, RowIs, TakesRow, BreaksAt}
-use Rattle.strip_coder.specs.RowsIn.{fault_after, ends_here, ShortOf, HasCome, HasAll}
+use Rattle.strip_coder.specs.RowsIn.{fault_after, ends_here, HasCome, HasAll}
 use Rattle.strip_coder.proofs.RowTakes.{OnlyRow, row_follows_any}
 use Rattle.strip_coder.proofs.RowsGiven.{same_rows, settled_same, same_octets, given_within}
 use Rattle.strip_coder.proofs.RowsTakenLaws.{row_pixels, all_whole, in_range-more, all_in_range-more, first_bad-more}
@@ -60,13 +60,6 @@ none_come s p w range start =
       since = subst (λ g. Exchange p p [] g [] (GivenBy (given_for s) [])) (sym none) (since_start p (GivenBy (given_for s) []));
     }
 
--- a row that is short has fewer octets
-pub short_of : {T : Type 0} {a b : Outside} (s : Setting) (r : ℕ) (before after : List ℤ) (fault : RowFault) →
-    RowRead {T = T} s.depth s.signed s.width r a b before after (Err fault) → ShortOf fault (row_length s)
-short_of s r before after ReadFault read = tt
-short_of s r before after (Short octets) read = omega (arith, read.answer.0, read.answer.2.inside)
-short_of s r before after (BadPixel row column value) read = tt
-
 -- a row has the pixels of these octets
 pub record HoldsRow (s : Setting) (got : List ℕ) (row : List ℤ) : Type 0 where
   pub at : (column : ℕ) → column < s.width → signal row column ≡ pixel_at s.depth s.signed got column
@@ -83,9 +76,6 @@ row_values s got row in_range holds = record { each = λ column lt. subst (IsPix
 and_true : (a b : Bool) → (a && b) ≡ true → (a ≡ true) × (b ≡ true)
 and_true true b e = (refl, e)
 and_true false b e = absurd cc
-
-open_rows : (n : ℕ) → (n == 0) ≡ true → n ≡ 0
-open_rows n e = grind (arith, nat_tests)
 
 at_least : (n k : ℕ) → nat_le n k ≡ true → n ≤ k
 at_least n k e = grind (arith, nat_tests)
@@ -199,10 +189,10 @@ module _ (s : Setting) (range : IsInRange s) (k : ℕ) (p q : Outside) (old : Wo
   row_ends {m = m} mid before after (Short octets) read ends only taken here there =
       let tests = and_true (s.rows == 0) (nat_le 17 k && (octets == 0)) ends in
       let more = and_true (nat_le 17 k) (octets == 0) tests.1 in
-      let left_open : s.rows ≡ 0 = open_rows s.rows tests.0 in
+      let left_open : s.rows ≡ 0 = is_zero s.rows tests.0 in
       let least : 17 ≤ k = at_least 17 k more.0 in
       let most = (tall_height s range).0.1 in
-      let empty : length read.took ≡ 0 = sym read.answer.0 ∙ open_rows octets more.1 in
+      let empty : length read.took ≡ 0 = sym read.answer.0 ∙ is_zero octets more.1 in
       let same_took : come.took ++ read.took ≡ come.took = ap (λ t. come.took ++ t) (nil_from_length read.took empty) ∙ append-nil come.took in
       let pixels : whole_pixels s.depth read.took ≡ 0 =
       ap (λ n. n / pixel_size s.depth) (empty ∙ (let z : 0 ≡ 0 * pixel_size s.depth = omega arith in z)) ∙ mul-div_left 0 {n = pixel_size s.depth} (size_some s.depth) in

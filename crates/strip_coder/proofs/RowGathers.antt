@@ -1,9 +1,9 @@
 -- The block row in a strip is that of each image that the work follows.
-use Rattle.std.proofs.Common.{◌≡◌, ℕ, ◌+◌, ◌-◌, ◌*◌, ◌/◌, ◌%◌, ◌<◌, ◌≤◌, ℤ, ◌*ℤ◌, List, [], refl, sym, ap, ◌∙◌, arith, get_or}
+use Rattle.std.proofs.Common.{◌≡◌, ℕ, ◌+◌, ◌-◌, ◌*◌, ◌/◌, ◌%◌, ◌<◌, ◌≤◌, ℤ, ◌*ℤ◌, List, [], refl, sym, ap, ◌∙◌, arith, get_or, mul-le-mul_left}
 use Rattle.std.proofs.lemmas.List.{same_lists}
 use Rattle.std.proofs.lemmas.List.FromFn.{get_or-map-range_with_len, length-map-range_with_len}
 use Rattle.std.proofs.lemmas.Nat.{div-mul-add, mod-mul-add}
-use Rattle.std.proofs.Math.Nat.{mul-le-mul_left}
+use Rattle.std.proofs.lemmas.Bool.Decides.{nat_tests}
 use Rattle.strip_coder.specs.Plans.{IsPlan, whole}
 use Rattle.base_122.specs.Sizes.{block_count, total_blocks}
 use Rattle.strip_coder.specs.declared.plan.Plan.{Plan}
@@ -19,11 +19,11 @@ use Rattle.stream_defs.proofs.ImageLaws.{length-image_blocks, image_block}
 use Rattle.strip_coder.specs.declared.work.Work.{Work}
 use Rattle.strip_coder.specs.Works.{gathered_in}
 use Rattle.strip_coder.specs.Steps.{NextAre}
+use Rattle.wave_defs.proofs.Equations.{coefficient-is}
 
 -- a number of a block as the definition has it
 coefficient_is : (p : Pyramid) (row column i : ℕ) → coefficient p row column i ≡ band_of p (place_in column i).band (block_side (place_in column i).band * row + (place_in column i).row) (place_in column i).column
-unfolding coefficient
-coefficient_is p row column i = refl
+coefficient_is p row column i = rw coefficient-is refl
 
 -- what is gathered from the block row in the strip
 shown_block : (image : ℕ → ℕ → ℤ) (strip : StripWave) (weights : List ℕ) (r row column : ℕ) → ShowsBlockRow image r strip → answered_of strip ≡ row + 1 → column < columns_of strip →
@@ -43,9 +43,7 @@ shown_block image strip weights r row column shows answered inside =
     get_or-map-range_with_len f 0 64 i i d lt (omega arith) ∙ ap (λ z. z *ℤ weight_at weights i) value ∙ sym (get_or-block p weights row column i d lt))
 
 quotient : (c r j : ℕ) → j < c → ((c * r + j) / c ≡ r) × ((c * r + j) % c ≡ j)
-quotient c r j lt =
-    let e : c * r + j ≡ r * c + j = grind arith in
-    (ap (λ n. n / c) e ∙ div-mul-add r c j lt, ap (λ n. n % c) e ∙ mod-mul-add r c j lt)
+quotient c r j lt = grind (arith, nat_tests, div-mul-add, mod-mul-add)
 
 pub next_are : (s : Plan) (x : ℕ → ℕ → ℤ) (w : Work) (row : ℕ) → IsPlan s → columns_of w.strip ≡ block_count s.setting.width → answered_of w.strip ≡ row + 1 → row < block_count s.rows →
     gathered_in s w.at ≡ block_count s.setting.width * row → ShowsBlockRow (padded x s.rows s.setting.width) (block_count s.rows) w.strip →

@@ -1,7 +1,5 @@
 -- A row that was pushed into a work's strip.
-use Rattle.std.proofs.Common.{◌≡◌, ◌≢◌, ℕ, ◌+◌, ◌-◌, ◌*◌, ◌/◌, ◌<◌, ◌≤◌, ℤ, List, [], sym, ap, ◌∙◌, subst, arith, vec_len, Option, Some, None, Result, Ok, Err, true, false}
-use Rattle.std.specs.Prelude.{MatchOption, is_some}
-use Rattle.std.proofs.lemmas.List.{append-nil}
+use Rattle.std.proofs.Common.{◌≡◌, ◌≢◌, ℕ, ◌+◌, ◌-◌, ◌*◌, ◌/◌, ◌<◌, ◌≤◌, ℤ, List, [], sym, ap, ◌∙◌, subst, arith, vec_len, Option, Some, None, Result, Ok, Err, true, false, MatchOption, is_some, append-nil}
 use Rattle.port_122.specs.Outside.{Outside, NoRead}
 use Rattle.port_122.proofs.Stretches.{since_start}
 use Rattle.segment_code.specs.declared.encode.SegmentWriter.{SegmentWriter}

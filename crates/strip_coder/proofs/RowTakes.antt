@@ -55,9 +55,13 @@ module _ (s : Plan) (range : IsPlan s) (row after : List ℤ) (pad : IsPadded s.
 
 -- only the row's numbers were changed
 pub record OnlyRow (old mid : Work) : Type 0 where
+  pub row : vec_len mid.row ≡ vec_len old.row
   pub strip : mid.strip ≡ old.strip
   pub blocks : mid.blocks ≡ old.blocks
+  pub marks : mid.marks ≡ old.marks
   pub packets : mid.packets ≡ old.packets
+  pub writer : mid.writer ≡ old.writer
+  pub room : mid.room ≡ old.room
   pub at : mid.at ≡ old.at
 
 -- only the count of rows was changed
@@ -121,6 +125,34 @@ count_running s mid new only run =
         texts = ap (λ v. v.texts) only.packets ∙ has.texts ∙ sym index;
       };
       count = rw (index, filled, only.strip) run.count;
+      answered = rw only.strip run.answered;
+      running = ap has_ended only.strip ∙ run.running;
+    }
+
+pub row_running : (s : Plan) (old mid : Work) → OnlyRow old mid → IsRunning s old → IsRunning s mid
+row_running s old mid only run =
+    let has = run.gathered in
+    let made = has.made in
+    record {
+      gathered = record {
+        made = record {
+          row = only.row ∙ made.row;
+          blocks = rw only.blocks made.blocks;
+          marks = rw only.marks made.marks;
+          strip = ap columns_of only.strip ∙ made.strip;
+          packet = ap (λ v. v.packet) only.packets ∙ made.packet;
+          writer = ap (λ (v : SegmentWriter). v.tables.book) only.writer ∙ made.writer;
+          room = only.room ∙ made.room;
+        };
+        share = rw only.at has.share;
+        index = rw only.at has.index;
+        present = rw only.at has.present;
+        none = rw only.at has.none;
+        small = rw (only.at, only.blocks) has.small;
+        idle = ap (λ v. v.stage) only.packets ∙ has.idle;
+        texts = rw (only.at, only.packets) has.texts;
+      };
+      count = rw (only.at, only.strip) run.count;
       answered = rw only.strip run.answered;
       running = ap has_ended only.strip ∙ run.running;
     }

@@ -1,7 +1,6 @@
 -- What is given for the rows so far grows by prefixes, and doesn't depend on rows that weren't taken.
-use Rattle.std.proofs.Common.{◌≡◌, ◌≢◌, min, ℕ, ◌+◌, ◌*◌, ◌<◌, ◌≤◌, ℤ, List, ◌++◌, length, sym, ap, ◌∙◌, arith, length-append}
+use Rattle.std.proofs.Common.{◌≡◌, ◌≢◌, min, ℕ, ◌+◌, ◌*◌, ◌<◌, ◌≤◌, ℤ, List, ◌++◌, length, sym, ap, ◌∙◌, arith, length-append, mul-le-mul, mul-le-mul_right, mul_assoc}
 use Rattle.std.proofs.lemmas.Nat.{div-mul-add, le-div}
-use Rattle.std.proofs.Math.Nat.{mul-le-mul, mul-le-mul_right, mul_assoc}
 use Rattle.std.proofs.lemmas.Bool.Decides.{nat_tests}
 use Rattle.base_122.specs.Ranges.{IsInRange}
 use Rattle.base_122.specs.Setting.{IsHeight, sized}
@@ -48,10 +47,10 @@ rows_whole s taken known =
     ap (λ n. joined (front_packets s (tallest s) (image_of s taken) n))
     (ap (λ b. settled b (sized s (tallest s)) (tallest s)) (known_first s known) ∙ settled_whole (sized s (tallest s)))
 
-least_of : (t n k : ℕ) → n ≡ k → k ≤ t → min t n ≡ k
+pub least_of : (t n k : ℕ) → n ≡ k → k ≤ t → min t n ≡ k
 least_of t n k e le = omega arith
 
-most_of : (t n : ℕ) → t ≤ n → min t n ≡ t
+pub most_of : (t n : ℕ) → t ≤ n → min t n ≡ t
 most_of t n le = omega arith
 
 -- within a row that isn't whole, the packets that the rows before it settle are given

@@ -1,6 +1,5 @@
 -- How many segments an image has at most.
-use Rattle.std.proofs.Common.{ℕ, ◌^◌, ◌<◌, arith}
-use Rattle.std.proofs.Math.Nat.{mul-le-mul_left}
+use Rattle.std.proofs.Common.{ℕ, ◌^◌, ◌<◌, arith, mul-le-mul_left}
 use Rattle.std.proofs.lemmas.Bool.Decides.{nat_tests}
 use Rattle.strip_coder.specs.Plans.{IsPlan, whole}
 use Rattle.strip_coder.specs.declared.plan.Plan.{Plan}

@@ -1,6 +1,5 @@
 -- The packets of an image, segment after segment.
-use Rattle.std.proofs.Common.{◌≡◌, ℕ, zero, suc, ◌+◌, ℤ, List, [], ◌++◌, sym, ap, ◌∙◌, arith, append_assoc}
-use Rattle.std.proofs.lemmas.List.{append-nil}
+use Rattle.std.proofs.Common.{◌≡◌, ℕ, zero, suc, ◌+◌, ℤ, List, [], ◌++◌, sym, ap, ◌∙◌, arith, append_assoc, append-nil}
 use Rattle.strip_coder.specs.declared.plan.Plan.{Plan}
 use Rattle.strip_coder.specs.Plans.{whole}
 use Rattle.packet_defs.specs.Packets.{joined}

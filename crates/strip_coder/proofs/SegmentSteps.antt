@@ -1,6 +1,5 @@
 -- One segment of an image is written from the work that gathered it.
-use Rattle.std.proofs.Common.{◌≡◌, ◌≢◌, ℕ, ◌+◌, ◌-◌, ◌*◌, ◌/◌, ◌^◌, ◌<◌, ◌≤◌, ℤ, pos, List, [], ◌++◌, length, take, drop, sym, ap, ◌∙◌, subst, arith, get_or, min, inl, inr, vec_len, length-append, length-take, length-drop}
-use Rattle.std.specs.Prelude.{unsigned_abs}
+use Rattle.std.proofs.Common.{◌≡◌, ◌≢◌, ℕ, ◌+◌, ◌-◌, ◌*◌, ◌/◌, ◌^◌, ◌<◌, ◌≤◌, ℤ, pos, List, [], ◌++◌, length, take, drop, sym, ap, ◌∙◌, subst, arith, get_or, min, inl, inr, vec_len, length-append, length-take, length-drop, unsigned_abs}
 use Rattle.std.proofs.lemmas.Bool.Decides.{nat_tests}
 use Rattle.std.proofs.lemmas.List.{same_lists, get_or_default, get_or-take, get_or-drop, length-take-le}
 use Rattle.std.proofs.lemmas.List.FromFn.{get_or-map-range_with_len}
@@ -31,6 +30,7 @@ use Rattle.strip_coder.specs.Steps.{PresentOut, PresentCut}
 use Rattle.strip_coder.proofs.SegmentRuns.{same_progress, octets-more}
 use Rattle.strip_coder.proofs.SegmentTexts.{length-blocks_in}
 use Rattle.strip_coder.proofs.BlockPuts.{block_cell, length-block_at}
+use Rattle.wave_defs.proofs.Equations.{blocks_in-is}
 
 -- ---- the blocks of the present segment
 
@@ -48,23 +48,11 @@ part_block cells n i lt le =
     ∙ sym (get_or_default (block_at cells i) j d (pos 0) (omega (arith, few, b))))
 
 block_of : (cells : List ℤ) (i : ℕ) (d : List ℤ) → i < length cells / 64 → get_or (blocks_in cells) i d ≡ block_at cells i
-unfolding blocks_in
-block_of cells i d lt = get_or-map-range_with_len (block_at cells) 0 (length cells / 64) i i d lt (omega arith)
+block_of cells i d lt = rw blocks_in-is (get_or-map-range_with_len (block_at cells) 0 (length cells / 64) i i d lt (omega arith))
 
 pub segment_is : (cells : List ℤ) (all : List (List ℤ)) (n first S total : ℕ) → length all ≡ total → n ≡ min S (total - first) → 64 * n ≤ length cells →
     ((i : ℕ) → i < n → block_at cells i ≡ get_or all (first + i) []) → blocks_in (take (64 * n) cells) ≡ take S (drop first all)
-segment_is cells all n first S total whole e le each =
-    let front = take (64 * n) cells in
-    let long : length front ≡ 64 * n = length-take-le (64 * n) cells le in
-    let count : length (blocks_in front) ≡ n = omega (arith, length-blocks_in front, long) in
-    let size : length (take S (drop first all)) ≡ n = omega (arith, length-take S (drop first all), length-drop first all, whole, e) in
-    same_lists (blocks_in front) (take S (drop first all)) (count ∙ sym size)
-    (λ i d h.
-    let lt : i < n = omega (arith, h, count) in
-    let few : i < S = omega (arith, lt, e) in
-    let there : first + i < length all = omega (arith, lt, e, whole) in
-    block_of front i d (omega (arith, lt, long)) ∙ part_block cells n i lt le ∙ each i lt
-    ∙ sym (get_or-take S (drop first all) i d few ∙ get_or-drop first all i d ∙ get_or_default all (first + i) d [] there))
+segment_is cells all n first S total whole e le each = grind (arith, nat_tests, length-take-le, length-blocks_in, length-take, length-drop, same_lists, block_of, part_block, get_or-take, get_or-drop, get_or_default)
 
 pub small_part : (cells : List ℤ) (n : ℕ) → AreSmall n cells → AreBounded (take (64 * n) cells)
 small_part cells n small = record {

@@ -1,22 +1,20 @@
 -- The text of one segment of an image.
-use Rattle.std.proofs.Common.{◌≡◌, ◌≢◌, ℕ, ◌+◌, ◌-◌, ◌/◌, ◌<◌, ◌≤◌, ◌==◌, ℤ, Bool, false, if◌then◌else◌, List, length, refl, sym, ap, subst, arith, inl, inr, length-append, length-take}
+use Rattle.std.proofs.Common.{◌≡◌, ◌≢◌, ℕ, ◌+◌, ◌-◌, ◌/◌, ◌<◌, ◌≤◌, ◌==◌, ℤ, Bool, false, if◌then◌else◌, List, length, refl, sym, ap, subst, arith, inl, inr, length-append, length-take, le-div_iff_mul-le, mul-le-mul_right}
 use Rattle.std.proofs.lemmas.Bool.{cases_lt}
 use Rattle.std.proofs.lemmas.Bool.Decides.{nat_tests}
-use Rattle.std.proofs.Math.Nat.{le-div_iff_mul-le, mul-le-mul_right}
 use Rattle.std.proofs.lemmas.List.FromFn.{length-map-range_with_len}
 use Rattle.base_122.specs.Sizes.{padded_size}
 use Rattle.base_122.proofs.GeometryRanges.{in_range-sized}
 use Rattle.base_122.specs.declared.book.Book.{Book}
 use Rattle.strip_coder.specs.Plans.{IsPlan, whole}
 use Rattle.strip_coder.specs.declared.plan.Plan.{Plan}
-use Rattle.item_defs.specs.Bits.{bits_of}
 use Rattle.item_defs.proofs.BitLists.{length-copies}
 use Rattle.item_defs.proofs.OctetBits.{length-octets_of}
 use Rattle.segment_defs.specs.declared.head.SegmentHead.{SegmentHead}
 use Rattle.wave_defs.specs.Held.{block_at, blocks_in}
 use Rattle.segment_defs.specs.Depths.{depth_dc_of, depth_ac_of}
 use Rattle.segment_defs.specs.Head.{head_bits, head_fields, IsHead}
-use Rattle.segment_defs.specs.Text.{cut, text_octets}
+use Rattle.segment_defs.specs.Text.{cut}
 use Rattle.segment_defs.specs.Coded.{coded}
 use Rattle.stream_defs.specs.Output.{head_with, segments_of, share}
 use Rattle.stream_defs.specs.Shares.{CanBeSaid}
@@ -24,10 +22,12 @@ use Rattle.stream_defs.proofs.ShareLaws.{said_by, share_none}
 use Rattle.strip_coder.specs.declared.work.ImageAt.{ImageAt}
 use Rattle.strip_coder.specs.Works.{KeepsShare}
 use Rattle.strip_coder.specs.SegmentsOut.{text_for}
+use Rattle.wave_defs.proofs.Equations.{blocks_in-is}
+use Rattle.segment_defs.proofs.Equations.{head_bits-is, coded-is, text_octets-is}
+use Rattle.item_defs.proofs.Equations.{bits_of-none, bits_of-more}
 
 pub length-blocks_in : (cells : List ℤ) → length (blocks_in cells) ≡ length cells / 64
-unfolding blocks_in
-length-blocks_in cells = length-map-range_with_len (block_at cells) 0 (length cells / 64)
+length-blocks_in cells = rw blocks_in-is (length-map-range_with_len (block_at cells) 0 (length cells / 64))
 
 -- a head of a setting in range can be written
 pub head_is : (s : Plan) (index limit count depth_dc depth_ac : ℕ) → IsPlan s → CanBeSaid (whole s) limit → 1 ≤ count → count ≤ 1048575 →
@@ -65,8 +65,8 @@ head_is s index limit count depth_dc depth_ac range said some most least_dc most
 
 -- a head isn't empty
 head_some : (h : SegmentHead) → 1 ≤ length (head_bits h)
-unfolding head_bits head_fields bits_of
-head_some h = omega arith
+unfolding head_fields
+head_some h = grind (arith, nat_tests, head_bits-is, bits_of-none, bits_of-more)
 
 -- nor is what a limit leaves of octets
 cut_some : (limit : ℕ) (octets : List ℕ) → 0 < length octets → 0 < length (cut limit octets)
@@ -74,8 +74,7 @@ cut_some limit octets some = grind (arith, nat_tests, length-take)
 
 -- nor is a text that has one
 pub coded_some : (book : Book) (h : SegmentHead) (blocks : List (List ℤ)) → 1 ≤ h.image.word → 0 < length (coded book h blocks)
-unfolding coded text_octets
-coded_some book h blocks word = grind (arith, nat_tests, head_some, length-append, mul-le-mul_right, length-copies, cut_some, length-octets_of, le-div_iff_mul-le)
+coded_some book h blocks word = rw (coded-is, text_octets-is) (grind (arith, nat_tests, head_some, length-append, mul-le-mul_right, length-copies, cut_some, length-octets_of, le-div_iff_mul-le))
 
 -- the head is the segment's own if its depths are those of the blocks
 pub text_same : (s : Plan) (index used count depth_dc depth_ac : ℕ) (segment : List (List ℤ)) → count ≡ length segment →

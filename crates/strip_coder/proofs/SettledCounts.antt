@@ -1,11 +1,9 @@
 -- The segments before the present one are those that the rows so far settle.
-use Rattle.std.proofs.Common.{◌≡◌, ℕ, zero, suc, ◌+◌, ◌-◌, ◌*◌, ◌<◌, ◌≤◌, sym, ap, ◌∙◌, arith}
-use Rattle.std.specs.Prelude.{Bool, true, false, cond}
+use Rattle.std.proofs.Common.{◌≡◌, ℕ, zero, suc, ◌+◌, ◌-◌, ◌*◌, ◌<◌, ◌≤◌, sym, ap, ◌∙◌, arith, Bool, true, false, cond, div-lt_iff_lt-mul, mul-le-mul_right, mul-le-mul_left}
 use Rattle.std.specs.List.{count_by, range_with_len}
 use Rattle.std.proofs.lemmas.Bool.Decides.{nat_tests}
 use Rattle.std.proofs.lemmas.List.Sums.{sum_by-cons}
 use Rattle.std.proofs.lemmas.Nat.{le-div}
-use Rattle.std.proofs.Math.Nat.{div-lt_iff_lt-mul, mul-le-mul_right, mul-le-mul_left}
 use Rattle.strip_coder.specs.Plans.{IsPlan, MoreMayCome, whole}
 use Rattle.strip_coder.proofs.PlanLaws.{open_last}
 use Rattle.base_122.specs.Sizes.{block_count, total_blocks, segment_blocks}
@@ -18,6 +16,7 @@ use Rattle.stream_defs.specs.Settled.{last_block_row, is_settled, settled}
 use Rattle.strip_coder.specs.declared.work.Work.{Work}
 use Rattle.strip_coder.specs.Works.{IsRunning, gathered_in}
 use Rattle.strip_coder.proofs.GatherSteps.{more_segments, place_is}
+use Rattle.stream_defs.proofs.Equations.{settled-is}
 
 count_first : (p : ℕ → Bool) (n a m : ℕ) → m ≤ n → ((i : ℕ) → a ≤ i → i < a + m → p i ≡ true) → ((i : ℕ) → a + m ≤ i → i < a + n → p i ≡ false) → count_by p (range_with_len a n) ≡ m
 count_first p zero a m le holds fails = let t : 0 ≡ m = omega (arith, le) in t
@@ -90,5 +89,4 @@ module _ (s : Plan) (range : IsPlan s) (k : ℕ) (w : Work) (running : IsRunning
       far = grind (arith, nat_tests, one-le-segment_blocks, some_blocks, below, place, mul-le-mul_right)
 
   pub index_settled : MoreMayCome s k → w.at.index ≡ settled (tells_last s.setting) (whole s) k
-  unfolding settled
-  index_settled more = sym (count_first (is_settled (tells_last s.setting) (whole s) k) (segments_of (whole s)) 0 w.at.index (let b = below in omega (arith, b)) (λ i low high. before i (omega (arith, high))) (λ i low high. after i more (omega (arith, low)) (omega (arith, high))))
+  index_settled more = rw settled-is (sym (count_first (is_settled (tells_last s.setting) (whole s) k) (segments_of (whole s)) 0 w.at.index (let b = below in omega (arith, b)) (λ i low high. before i (omega (arith, high))) (λ i low high. after i more (omega (arith, low)) (omega (arith, high)))))

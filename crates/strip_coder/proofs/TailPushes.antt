@@ -1,7 +1,5 @@
 -- The last row of an image, pushed again for each row that pads it.
-use Rattle.std.proofs.Common.{◌*◌, ◌≡◌, ℕ, ◌+◌, ◌-◌, ℤ, [], refl, ap, ◌∙◌, arith, min, Result, Ok, Err}
-use Rattle.std.specs.Result.{IsErr}
-use Rattle.std.proofs.lemmas.List.{append-nil}
+use Rattle.std.proofs.Common.{◌*◌, ◌≡◌, ℕ, ◌+◌, ◌-◌, ℤ, [], refl, ap, ◌∙◌, arith, min, Result, Ok, Err, IsErr, append-nil}
 use Rattle.port_122.specs.Outside.{Outside, NoRead}
 use Rattle.port_122.proofs.Stretches.{since_start, rose_since}
 use Rattle.strip_coder.specs.declared.plan.Plan.{Plan}

@@ -1,7 +1,5 @@
 -- The tallest raster of a setting whose rows are reported last: the end has to follow.
-use Rattle.std.proofs.Common.{◌≡◌, ◌+◌, inr, ℕ, List, [], ◌∷◌, ◌++◌, length, take, sym, ap, ◌∙◌, subst, arith, length-append, true, false}
-use Rattle.std.specs.Prelude.{Err}
-use Rattle.std.proofs.lemmas.List.{append-nil}
+use Rattle.std.proofs.Common.{◌≡◌, ◌+◌, inr, ℕ, List, [], ◌∷◌, ◌++◌, length, take, sym, ap, ◌∙◌, subst, arith, length-append, true, false, Err, append-nil}
 use Rattle.std.proofs.Math.Seq.{take-append_seam}
 use Rattle.port_122.specs.Outside.{Outside, Exchange, AtStart, GivenBy, ReadFailed}
 use Rattle.port_122.proofs.Stretches.{rose_since}

@@ -1,5 +1,4 @@
-use Rattle.std.proofs.Common.{◌≡◌, length}
-use Rattle.std.specs.Prelude.{sum}
+use Rattle.std.proofs.Common.{◌≡◌, length, sum}
 use Rattle.camera_mux.specs.MuxProgress.{HasMuxed}
 use Rattle.camera_mux.proofs.muxing.mux_rows.Given as goal
 

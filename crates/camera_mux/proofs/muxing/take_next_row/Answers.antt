@@ -1,5 +1,4 @@
-use Rattle.std.proofs.Common.{◌*◌, sym, ap, ◌∙◌, subst}
-use Rattle.std.specs.Prelude.{MatchResult}
+use Rattle.std.proofs.Common.{◌*◌, sym, ap, ◌∙◌, subst, MatchResult}
 use Rattle.strip_coder.specs.Rasters.{row_length, image_of}
 use Rattle.strip_coder.specs.Works.{Represents}
 use Rattle.camera_mux.specs.RowSteps.{GivesRow, FailsAtRow}

@@ -1,5 +1,4 @@
-use Rattle.std.proofs.Common.{◌≡◌, ◌<◌, ◌≤◌, ◌+◌, ◌-◌, ◌*◌, length, inl, inr, refl, sym, ap, ◌∙◌, subst, arith}
-use Rattle.std.specs.Prelude.{sum, slice_index, slice_index_or, slice_set, Some}
+use Rattle.std.proofs.Common.{◌≡◌, ◌<◌, ◌≤◌, ◌+◌, ◌-◌, ◌*◌, length, inl, inr, refl, sym, ap, ◌∙◌, subst, arith, sum, slice_index, slice_index_or, slice_set, Some}
 use Rattle.strip_coder.specs.Rasters.{row_length}
 use Rattle.camera_mux.specs.declared.camera_rows.Place.{Place}
 use Rattle.camera_mux.specs.Records.{setting_at, raster_of}

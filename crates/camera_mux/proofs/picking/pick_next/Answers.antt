@@ -1,9 +1,8 @@
-use Rattle.std.proofs.Common.{◌≡◌, sym, ap, ◌∙◌}
-use Rattle.std.specs.Prelude.{true, Some, Ok}
+use Rattle.std.proofs.Common.{◌≡◌, sym, ap, ◌∙◌, true, Some, Ok}
 use Rattle.packet_defs.specs.Streams.{begins_packet}
 use Rattle.packet_defs.proofs.Fronts.{begins_so, first_is_packet}
 use Rattle.space_packets.specs.Intake.{end_read}
-use Rattle.camera_mux.proofs.PickEnds.{over_so, long_so}
+use Rattle.packet_assembly.proofs.PacketSteps.{over_so, long_so}
 use Rattle.camera_mux.proofs.picking.pick_next.Goals as goal
 
 pub returns-in_default-answer : goal.returns-in_default-answer

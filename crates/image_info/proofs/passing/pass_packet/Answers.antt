@@ -1,13 +1,11 @@
-use Rattle.std.proofs.Common.{◌≡◌, ◌+◌, ◌%◌, sym, ap, subst, ◌∙◌, arith}
-use Rattle.std.specs.Prelude.{Ok, Some, None, true}
-use Rattle.packet_defs.specs.declared.packet.PacketHead.{PacketHead}
+use Rattle.std.proofs.Common.{◌≡◌, ◌%◌, sym, ap, subst, ◌∙◌, arith, None, true}
+use Rattle.std.proofs.lemmas.Grind.{common_steps}
 use Rattle.packet_defs.specs.Reading.{apid_in, skip_of}
 use Rattle.packet_defs.specs.Streams.{first_packet}
 use Rattle.packet_defs.proofs.Fronts.{begins_so, first_is_packet}
-use Rattle.space_packets.specs.Intake.{verdict, answered}
-use Rattle.packet_assembly.proofs.Verdicts.{mine_read}
+use Rattle.space_packets.specs.Intake.{answered}
+use Rattle.space_packets.proofs.Verdicts.{mine_read}
 use Rattle.image_info.specs.Images.{is_wanted}
-use Rattle.image_info.specs.Tables.{CanCount}
 use Rattle.image_info.proofs.PacketReads.{apid_so, packet_long, no_fault, other_skip, skipped_passes, image_passes, image_said, text_so, length_told}
 use Rattle.image_info.proofs.passing.pass_packet.Goals as goal
 
@@ -18,24 +16,10 @@ pub returns-in_default-clause-passed : goal.returns-in_default-clause-passed
 returns-in_default-clause-passed c = absurd (no_fault _ c.args.reader.now c.in_default.field-0 c.requires.whole (rw c.in_default.is at c.answer.ensures.answer))
 
 pub returns-in_default-read : goal.returns-in_default-read
-returns-in_default-read c =
-    let u = c.args.reader.now in
-    let packet = first_packet u.pending in
-    let apid : c.read_u16.result % 2048 ≡ apid_in packet = apid_so c.octets.result.now packet c.read_u16.result c.octets.ensures c.read_u16.ensures in
-    let told : verdict (apid_in packet) u ≡ Some (Ok c.in-Ok.read) = subst (λ a. verdict a u ≡ Some (Ok c.in-Ok.read)) apid (rw c.in-Ok.is at c.answer.ensures.answer) in
-    let skip = other_skip (apid_in packet) u c.in-Ok.read c.requires.whole told c.in_default-read.not-Mine in
-    record {
-      passed = skipped_passes c.args.wanted c.args.table.now.entries.items packet skip.0 skip.1;
-      in_range = c.requires.ranged;
-      stands = c.answer.ensures.stands ∙ ap (λ a. answered a u) apid;
-    }
+returns-in_default-read c = grind (arith, common_steps, apid_so, other_skip, skipped_passes)
 
 pub pass_image-requires-clause-room : goal.pass_image-requires-clause-room
-pass_image-requires-clause-room c =
-    let u = c.args.reader.now in
-    let packet = first_packet u.pending in
-    let mine = mine_read (c.read_u16.result % 2048) u c.in-Mine.head c.in-Mine.ancillary (rw (c.in-Ok.is, c.in-Mine.is) at c.answer.ensures.answer) in
-    subst (CanCount c.args.table.now.entries.items) (length_told packet (first_is_packet (begins_so u.pending c.requires.whole)) ∙ ap (λ (h : PacketHead). 6 + h.length) (sym mine.head_is)) c.requires.room
+pass_image-requires-clause-room c = grind (arith, common_steps, mine_read, length_told, first_is_packet, begins_so)
 
 pub returns-clause-passed : goal.returns-clause-passed
 returns-clause-passed c =

@@ -1,13 +1,11 @@
-use Rattle.std.proofs.Common.{sym, subst}
-use Rattle.packet_list.specs.Progress.{HasListed}
+use Rattle.std.proofs.Common.{arith}
+use Rattle.std.proofs.lemmas.Grind.{common_steps}
 use Rattle.packet_list.proofs.Readings.{none_listed, less_left, one_listed}
 use Rattle.packet_list.proofs.Endings.{all_listed, lists_failed}
 use Rattle.packet_list.proofs.engine.list_packets.Goals as goal
 
 pub packets-init : goal.packets-init
-packets-init g c =
-    subst (HasListed c.args.wish.now (g.X.Port.outside c.args.port.now) (g.X.Port.outside c.args.port.now) c.in-Ok.assembly 0) (sym c.new-lines.ensures)
-    (none_listed c.args.wish.now (g.X.Port.outside c.args.port.now) c.in-Ok.assembly c.in-Ok.ensures)
+packets-init g c = grind (arith, common_steps, none_listed)
 
 pub packets-smaller : goal.packets-smaller
 packets-smaller g c = less_left (rw c.in-Ok-true.field-0-test at c.in-Ok-true.ensures)

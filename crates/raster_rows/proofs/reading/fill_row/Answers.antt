@@ -1,5 +1,6 @@
 use Rattle.std.proofs.Common.{rules, arith, ◌≡◌, ◌<◌, ◌-◌, ◌*◌, ℕ, ℤ, Bool, List, min, length, w32, to_z, of_z}
 use Rattle.std.proofs.lemmas.Int.{to_z-of_z}
+use Rattle.std.proofs.lemmas.Grind.{common_steps}
 use borrow.Rule.Slice.PartMut.{put_mid}
 use mir.Val.{SFits}
 use Rattle.port_122.specs.Outside.{Outside, Read}
@@ -27,14 +28,7 @@ piece_of : {depth width column held count left : ℕ} {signed : Bool} {old now n
     RowSoFar depth signed width old now before mid buffer column held → column < width → Read now new piece count →
     left ≡ (width - column) * pixel_size depth → length piece ≡ min (left - held) (length buffer - held) → length (put_mid held k buffer piece) ≡ length buffer →
     PieceRead depth signed width old now new before mid buffer piece (put_mid held k buffer piece) column held count
-piece_of {depth = depth} {width = width} {column = column} {held = held} {count = count} {left = left} {buffer = buffer} {piece = piece} k p lt q left_is long same = record {
-  so_far = p;
-  inside = lt;
-  read = q;
-  filled_is = buffer_more buffer piece held count k p.room q.within;
-  room = omega (arith, p.room, q.within, long, same);
-  left = left_within (pixel_size depth) width column held (length piece) (left - held) (omega arith) p.inside (omega (arith, left_is)) (omega (arith, long));
-}
+piece_of {depth = depth} {width = width} {column = column} {held = held} {count = count} {left = left} {buffer = buffer} {piece = piece} k p lt q left_is long same = grind (arith, common_steps, buffer_more, left_within)
 
 pub returns-in-Err : goal.returns-in-Err
 returns-in-Err g c =
@@ -45,8 +39,4 @@ returns-in-Err g c =
     c.pixels-whole.ensures c.in-Err.ensures (to_z-of_z w32 c.in-Err.bad.value fits)
 
 pub loop-column-preserved : goal.loop-column-preserved
-loop-column-preserved g c =
-    let h = c.read.auto.into in
-    row_next c.carry-held.new.buffer
-    (piece_of _ c.loop-column.invariant c.loop-column-test.true c.in-Ok.ensures c.octets.ensures (search rules) (search rules))
-    c.pixels-whole.ensures c.in_default-take_pixels.ensures (search rules) (search rules) (search rules)
+loop-column-preserved g c = grind (arith, common_steps, row_next, piece_of)

@@ -1,4 +1,5 @@
 use Rattle.std.proofs.Common.{rules, arith, ◌≡◌, ◌+◌, ◌-◌, ◌++◌, ◌∙◌, ℕ, ℤ, Bool, List, [], ap, subst, sym, map, take, drop}
+use Rattle.std.proofs.lemmas.Grind.{common_steps}
 use Rattle.port_122.specs.Outside.{Exchange, NoRead, WritesAll}
 use Rattle.port_122.proofs.Stretches.{since_out}
 use Rattle.port_122.proofs.Parts.{failed_part}
@@ -10,9 +11,7 @@ use Rattle.raster_rows.proofs.writing.give_pixels.Goals as goal
 part_is : (depth : ℕ) (signed : Bool) (values : List ℤ) (done n : ℕ) (octets : List ℕ) →
     octets ≡ pixel_octets depth (map (clamped depth signed) (take (done + n - done) (drop done values))) →
     octets ≡ pixel_octets depth (map (clamped depth signed) (take n (drop done values)))
-part_is depth signed values done n octets is =
-    let same : done + n - done ≡ n = omega arith in
-    is ∙ ap (λ k. pixel_octets depth (map (clamped depth signed) (take k (drop done values)))) same
+part_is depth signed values done n octets is = grind (arith, common_steps, map)
 
 pub returns-in_err-write_all : goal.returns-in_err-write_all
 returns-in_err-write_all g c =

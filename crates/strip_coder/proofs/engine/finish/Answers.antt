@@ -1,4 +1,5 @@
 use Rattle.std.proofs.Common.{arith}
+use Rattle.std.proofs.lemmas.Grind.{common_steps}
 use Rattle.strip_coder.proofs.ImageEnds.{none_finished, then_finished, then_unfinished, all_out}
 use Rattle.strip_coder.proofs.engine.finish.Goals as goal
 
@@ -14,11 +15,7 @@ returns-in_err-finish_one g c =
     c.from_residual.ensures.0 c.loop.invariant c.in_err-finish_one.ensures
 
 pub loop-smaller : goal.loop-smaller
-loop-smaller g c =
-    let here = rw c.if-branch.true at c.in_ok-finish_one.ensures in
-    let answered = here.answered in
-    let most = here.ending.most in
-    omega (arith, answered, most)
+loop-smaller g c = grind (arith, common_steps)
 
 pub loop-preserved : goal.loop-preserved
 loop-preserved g c = then_finished c.args.plan.now c.args.work.now c.loop.work c.finish_one.new.work c.loop.invariant (rw c.if-branch.true at c.in_ok-finish_one.ensures)

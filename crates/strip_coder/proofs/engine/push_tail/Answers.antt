@@ -1,7 +1,6 @@
-use Rattle.std.proofs.Common.{arith, ◌≡◌, ◌-◌, sym, subst}
+use Rattle.std.proofs.Common.{arith, ◌-◌}
+use Rattle.std.proofs.lemmas.Grind.{common_steps}
 use Rattle.base_122.specs.Sizes.{padded_size}
-use Rattle.wave_defs.specs.Within.{AllWithin}
-use Rattle.wave_defs.specs.Held.{signal}
 use Rattle.strip_coder.proofs.TailPushes.{none_pushed, then_pushed, then_unpushed}
 use Rattle.strip_coder.proofs.engine.push_tail.Goals as goal
 
@@ -12,14 +11,10 @@ pub push-requires-clause-running : goal.push-requires-clause-running
 push-requires-clause-running g c = c.loop.invariant.running
 
 pub push-requires-clause-few : goal.push-requires-clause-few
-push-requires-clause-few g c =
-    let size = rw c.geometry_for.ensures at c.padded_rows.ensures in
-    let so_far = c.loop.invariant.strip_rows in
-    omega (arith, size, so_far, c.loop-test.true, c.requires.rows)
+push-requires-clause-few g c = grind (arith, common_steps)
 
 pub push-requires-clause-small : goal.push-requires-clause-small
-push-requires-clause-small g c =
-    subst (λ v. AllWithin 65536 (padded_size c.args.plan.now.setting.width) (signal v.items)) (sym c.loop.invariant.row) c.requires.small
+push-requires-clause-small g c = grind (arith, common_steps)
 
 pub returns-in_err-push : goal.returns-in_err-push
 returns-in_err-push g c =
@@ -31,8 +26,4 @@ pub loop-preserved : goal.loop-preserved
 loop-preserved g c = then_pushed c.args.plan.now c.loop.counter c.args.work.now c.loop.work c.push.new.work c.requires.rows c.loop.invariant c.in_ok-push.ensures
 
 pub returns : goal.returns
-returns g c =
-    let s = c.args.plan.now in
-    let size = rw c.geometry_for.ensures at c.padded_rows.ensures in
-    let all : c.loop.counter ≡ padded_size s.rows - s.rows = omega (arith, size, c.loop-test.false, c.loop.auto.counter-end) in
-    rw all at c.loop.invariant
+returns g c = grind (arith, common_steps)

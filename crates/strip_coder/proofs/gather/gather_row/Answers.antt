@@ -1,4 +1,5 @@
 use Rattle.std.proofs.Common.{arith, ◌≡◌, ◌<◌, ◌∙◌, ap}
+use Rattle.std.proofs.lemmas.Grind.{common_steps}
 use Rattle.base_122.specs.Sizes.{block_count}
 use Rattle.block_families.specs.Places.{gathered}
 use Rattle.wave_strip.specs.Strip.{number_in, is_standing}
@@ -12,19 +13,13 @@ pub gather_column-requires-clause-gathered : goal.gather_column-requires-clause-
 gather_column-requires-clause-gathered g c = c.loop-column.invariant.gathered
 
 pub gather_column-requires-clause-more : goal.gather_column-requires-clause-more
-gather_column-requires-clause-more g c =
-    let columns = rw c.geometry_for.ensures at c.padded_width-columns.ensures in
-    let so_far = c.loop-column.invariant in
-    let count = so_far.count in
-    more_segments c.args.plan.now c.requires.in_range c.loop-column.work so_far.gathered (omega (arith, columns, c.loop-column-test.true, c.requires.room, count))
+gather_column-requires-clause-more g c = grind (arith, common_steps, more_segments)
 
 pub gather_column-requires-clause-stands : goal.gather_column-requires-clause-stands
 gather_column-requires-clause-stands g c = ap is_standing c.loop-column.invariant.stays.strip ∙ c.requires.stands
 
 pub gather_column-requires-clause-column : goal.gather_column-requires-clause-column
-gather_column-requires-clause-column g c =
-    let columns = rw c.geometry_for.ensures at c.padded_width-columns.ensures in
-    omega (arith, columns, c.loop-column-test.true)
+gather_column-requires-clause-column g c = grind (arith, common_steps)
 
 pub returns-in_err-gather_column : goal.returns-in_err-gather_column
 returns-in_err-gather_column g c =

@@ -2,6 +2,7 @@ use Rattle.std.proofs.Common.{arith, refl, sym, ap, ◌∙◌}
 use Rattle.std.proofs.lemmas.List.{with_items_is}
 use Rattle.wave_defs.specs.Held.{signal}
 use Rattle.strip_coder.proofs.PlanLaws.{tall_height}
+use Rattle.strip_coder.proofs.RowTakes.{row_running}
 use Rattle.strip_coder.proofs.RowComes.{row_holds, row_values, row_lacks, row_ends, row_comes, row_breaks_off}
 use Rattle.strip_coder.proofs.rows.take_row.Goals as goal
 
@@ -19,40 +20,10 @@ returns-then-ends_here-clause-row g c start come =
     let s = c.args.setting.now in
     let w = c.args.work.now in
     let t = c.requires.taken in
-    let run = t.running in
-    let has = run.gathered in
-    let made = has.made in
     let long = c.read_row.auto.into ∙ c.deref_mut.ensures.len in
     row_ends s c.requires.in_range w.at.rows start (g.X.Port.outside c.args.port.now) w c.requires.few come _ c.deref_mut.result.now c.read_row.new.into c.in-Err.fault c.in-Err.ensures
-    (sym c.ends_here.ensures ∙ c.if-ends_here.true) (record { strip = refl; blocks = refl; packets = refl; at = refl })
-    (record {
-      running = record {
-        gathered = record {
-          made = record {
-            row = made.row;
-            blocks = made.blocks;
-            marks = made.marks;
-            strip = made.strip;
-            packet = made.packet;
-            writer = made.writer;
-            room = made.room;
-          };
-          share = has.share;
-          index = has.index;
-          present = has.present;
-          none = has.none;
-          small = has.small;
-          idle = has.idle;
-          texts = has.texts;
-        };
-        count = run.count;
-        answered = run.answered;
-        running = run.running;
-      };
-      rows = t.rows;
-      strip_rows = t.strip_rows;
-      index = t.index;
-    })
+    (sym c.ends_here.ensures ∙ c.if-ends_here.true) (record { row = refl; strip = refl; blocks = refl; marks = refl; packets = refl; writer = refl; room = refl; at = refl })
+    (record { running = row_running _ w _ (record { row = refl; strip = refl; blocks = refl; marks = refl; packets = refl; writer = refl; room = refl; at = refl }) t.running; rows = t.rows; strip_rows = t.strip_rows; index = t.index })
     (λ j. ap (λ xs. signal xs j) (with_items_is w.row c.read_row.new.into long)) (λ j. ap (λ xs. signal xs j) c.deref_mut.ensures.value)
 
 pub row_in-requires-clause-values : goal.row_in-requires-clause-values
@@ -67,7 +38,7 @@ returns-in_default-row_in-clause-row g c start come =
     let w = c.args.work.now in
     let read = c.in_default.ensures in
     row_breaks_off s c.requires.in_range w.at.rows start (g.X.Port.outside c.args.port.now) w c.requires.few come _ (g.X.Port.outside c.read_row.new.port) read.took read.since
-    (record { strip = refl; blocks = refl; packets = refl; at = refl }) read.answer.0 read.answer.1
+    (record { row = refl; strip = refl; blocks = refl; marks = refl; packets = refl; writer = refl; room = refl; at = refl }) read.answer.0 read.answer.1
     (row_holds s read.took w.row c.deref_mut.result.now c.read_row.new.into (c.read_row.auto.into ∙ c.deref_mut.ensures.len) read.answer.2)
     c.row_in.new.work c.in_default-row_in.ensures
 
@@ -77,6 +48,6 @@ returns-clause-row g c start come =
     let w = c.args.work.now in
     let read = c.in_default.ensures in
     row_comes s c.requires.in_range w.at.rows start (g.X.Port.outside c.args.port.now) w c.requires.few come _ (g.X.Port.outside c.read_row.new.port) read.took read.since
-    (record { strip = refl; blocks = refl; packets = refl; at = refl }) read.answer.0 read.answer.1
+    (record { row = refl; strip = refl; blocks = refl; marks = refl; packets = refl; writer = refl; room = refl; at = refl }) read.answer.0 read.answer.1
     (row_holds s read.took w.row c.deref_mut.result.now c.read_row.new.into (c.read_row.auto.into ∙ c.deref_mut.ensures.len) read.answer.2)
     c.row_in.new.work c.in-Ok.ensures

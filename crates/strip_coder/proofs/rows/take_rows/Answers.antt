@@ -1,5 +1,6 @@
 use Rattle.std.proofs.Common.{◌≡◌, ◌+◌, ap, sym, subst, arith}
 use Rattle.std.proofs.lemmas.Result.{err_from_is_err_and}
+use Rattle.std.proofs.lemmas.Grind.{common_steps}
 use Rattle.strip_coder.specs.Plans.{tallest}
 use Rattle.strip_coder.specs.declared.plan.Plan.{Plan}
 use Rattle.strip_coder.specs.RowsIn.{HasCome}
@@ -36,10 +37,7 @@ returns-then-not-branch-clause-rows g c =
     ended.1
 
 pub returns-then-setting-ne0-clause-rows : goal.returns-then-setting-ne0-clause-rows
-returns-then-setting-ne0-clause-rows g c =
-    let s = c.args.setting.now in
-    let all : c.loop.counter ≡ tallest s = (let e = ap (λ (p : Plan). p.rows) c.tallest-end.ensures in omega (arith, e, c.loop-test.false, c.loop.auto.counter-end)) in
-    known_all s c.requires.in_range (g.X.Port.outside c.args.port.now) (g.X.Port.outside c.loop.port) c.loop.work (rw all at c.loop.invariant) c.if-setting-ne0.true
+returns-then-setting-ne0-clause-rows g c = grind (arith, common_steps, known_all)
 
 pub returns-in-Ok-true-clause-rows : goal.returns-in-Ok-true-clause-rows
 returns-in-Ok-true-clause-rows g c =

@@ -1,6 +1,6 @@
-use Rattle.std.proofs.Common.{◌≡◌, ◌-◌, ◌∙◌, sym, ap, arith}
+use Rattle.std.proofs.Common.{sym, arith}
+use Rattle.std.proofs.lemmas.Grind.{common_steps}
 use Rattle.strip_coder.specs.Plans.{whole}
-use Rattle.stream_defs.specs.Output.{segments_of}
 use Rattle.stream_defs.proofs.ShareLaws.{share_none, share_some}
 use Rattle.strip_coder.proofs.segments.share.Goals as goal
 
@@ -11,8 +11,4 @@ pub overflow_sub-left : goal.overflow_sub-left
 overflow_sub-left c = let left = c.requires.left.left c.if-setting-eq0.false in omega (arith, left)
 
 pub returns : goal.returns
-returns c =
-    let s = whole c.args.plan.now in
-    let index = c.args.at.now.index in
-    let count : c.from-segments.result ≡ segments_of s - index = c.from-segments.ensures ∙ ap (λ n. n - index) (rw c.geometry_for.ensures at c.segments.ensures) in
-    rw (c.min.ensures, count, c.from-word.ensures) (sym (share_some s index c.args.at.now.used c.if-setting-eq0.false))
+returns c = grind (arith, common_steps, share_some)

@@ -1,4 +1,5 @@
 use Rattle.std.proofs.Common.{rules, Ok, Err, ◌≡◌, ◌<◌, ◌≤◌, ◌*◌, ◌∙◌, ◌++◌, ℕ, ℤ, List, length, refl, sym, ap, subst, arith}
+use Rattle.std.proofs.lemmas.Grind.{common_steps}
 use Rattle.port_122.specs.Outside.{Outside}
 use Rattle.base_122.specs.declared.book.Book.{Book}
 use Rattle.strip_coder.specs.Plans.{IsPlan, whole}
@@ -25,13 +26,11 @@ use Rattle.strip_coder.proofs.segments.write_segment.Goals as goal
 -- after a loan the place holds the last value under its name
 sent_to : {X : Type 0} (outside : X → Outside) (x y : X) (w u : Progress) {t : Text} {p : Outside} {v : Progress} {text : List ℕ} → x ≡ y → w ≡ u →
     Continues t p (outside y) v u text → Continues t p (outside x) v w text
-sent_to outside x y w u {t = t} {p = p} {v = v} {text = text} e f sent =
-    subst (λ x. Continues t p (outside x) v w text) (sym e) (subst (λ w. Continues t p (outside y) v w text) (sym f) sent)
+sent_to outside x y w u {t = t} {p = p} {v = v} {text = text} e f sent = grind (arith, common_steps)
 
 cut_to : {X : Type 0} (outside : X → Outside) (x y : X) (w u : Progress) {t : Text} {p : Outside} {v : Progress} {text : List ℕ} → x ≡ y → w ≡ u →
     TextCut t p (outside y) v u text → TextCut t p (outside x) v w text
-cut_to outside x y w u {t = t} {p = p} {v = v} {text = text} e f cut =
-    subst (λ x. TextCut t p (outside x) v w text) (sym e) (subst (λ w. TextCut t p (outside y) v w text) (sym f) cut)
+cut_to outside x y w u {t = t} {p = p} {v = v} {text = text} e f cut = grind (arith, common_steps)
 
 begun_stands : (stage : PacketiserState) (t : Text) → stage ≡ Begun t → IsBegun stage
 begun_stands stage t e = subst IsBegun (sym e) tt
@@ -47,15 +46,11 @@ begun_to a b e begun = subst IsBegun (sym e) begun
 made : (book : Book) (s : Plan) → book ≡ s.setting.book → (index used limit count depth_dc depth_ac : ℕ) (head : SegmentHead) (cells : List ℤ) → head ≡ head_with (whole s) index limit count depth_dc depth_ac →
     limit ≡ share (whole s) index used → length cells ≡ 64 * count → depth_dc ≡ depth_dc_of (blocks_in cells) → depth_ac ≡ depth_ac_of (blocks_in cells) →
     coded book head (blocks_in cells) ≡ text_for s index used (blocks_in cells)
-made book s own index used limit count depth_dc depth_ac head cells e l f dc ac =
-    ap (λ b. coded b head (blocks_in cells)) own
-    ∙ ap (λ h. coded s.setting.book h (blocks_in cells)) (e ∙ ap (λ n. head_with (whole s) index n count depth_dc depth_ac) l)
-    ∙ text_same s index used count depth_dc depth_ac (blocks_in cells) (omega (arith, length-blocks_in cells, f)) dc ac
+made book s own index used limit count depth_dc depth_ac head cells e l f dc ac = grind (arith, common_steps, text_same, length-blocks_in)
 
 -- and it isn't empty
 some_text : (s : Plan) (index used : ℕ) (cells : List ℤ) → IsPlan s → 0 < length (text_for s index used (blocks_in cells))
-some_text s index used cells range =
-    coded_some s.setting.book (head_with (whole s) index (share (whole s) index used) (length (blocks_in cells)) (depth_dc_of (blocks_in cells)) (depth_ac_of (blocks_in cells))) (blocks_in cells) range.in_range.word.0
+some_text s index used cells range = grind (arith, common_steps, coded_some)
 
 -- it can be written
 pub encode-requires-clause-fits : goal.encode-requires-clause-fits

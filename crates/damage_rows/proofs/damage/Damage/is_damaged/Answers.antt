@@ -1,5 +1,4 @@
-use Rattle.std.proofs.Common.{◌≡◌, ◌<◌, ◌≤◌, ◌+◌, ◌*◌, sym, ◌∙◌, ap, arith, ℕ}
-use Rattle.std.specs.Prelude.{true, false}
+use Rattle.std.proofs.Common.{◌≡◌, ◌<◌, ◌≤◌, ◌+◌, ◌*◌, sym, ◌∙◌, ap, arith, ℕ, true, false}
 use Rattle.damage_rows.specs.Table.{is_missing}
 use Rattle.damage_rows.proofs.RangeLaws.{damaged_by, undamaged_by}
 use Rattle.damage_rows.proofs.TableLaws.{missing_low}

@@ -1,5 +1,4 @@
-use Rattle.std.proofs.Common.{◌≡◌, ◌≤◌, ◌<◌, ◌*◌, ◌+◌, ℕ}
-use Rattle.std.specs.Prelude.{false}
+use Rattle.std.proofs.Common.{◌≡◌, ◌≤◌, ◌<◌, ◌*◌, ◌+◌, ℕ, false}
 use Rattle.damage_rows.specs.Table.{is_missing}
 use Rattle.damage_rows.proofs.damage.Damage.is_damaged.Given as goal
 

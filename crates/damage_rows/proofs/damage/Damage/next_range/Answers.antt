@@ -1,5 +1,4 @@
-use Rattle.std.proofs.Common.{◌≡◌, sym, ◌∙◌, ap, arith}
-use Rattle.std.specs.Prelude.{Some}
+use Rattle.std.proofs.Common.{◌≡◌, sym, ◌∙◌, ap, arith, Some}
 use Rattle.stream_defs.specs.declared.range.RowRange.{RowRange}
 use Rattle.damage_rows.proofs.RangeLaws.{found_from_start, found_begins, found_on, found_none}
 use Rattle.damage_rows.proofs.damage.Damage.next_range.Goals as goal

@@ -1,5 +1,4 @@
-use Rattle.std.proofs.Common.{◌≡◌, sym, ap, ◌∙◌}
-use Rattle.std.specs.Prelude.{false, is_some}
+use Rattle.std.proofs.Common.{◌≡◌, sym, ap, ◌∙◌, false, is_some}
 use Rattle.packet_assembly.specs.Assembling.{Assembling, is_closed}
 use Rattle.packet_assembly.proofs.OneStep.{one_on}
 use Rattle.packet_assembly.proofs.Filling.{filled_nothing, filled_held, not_some, filled_more, filled_other, filled_end, filled_failed}

@@ -1,4 +1,4 @@
-use Rattle.std.proofs.Common.{◌≡◌, ◌<◌, ◌+◌, ◌∷◌, length, drop, get_or, refl, sym, ap, subst, ◌∙◌, rules}
+use Rattle.std.proofs.Common.{◌≡◌, ◌<◌, ◌+◌, ◌∷◌, length, drop, get_or, sym, ap, subst, ◌∙◌, rules}
 use Rattle.packet_assembly.specs.Assembling.{Assembling}
 use Rattle.packet_assembly.proofs.Giving.{gives_octet, waits_first}
 use Rattle.packet_assembly.proofs.assembly.Assembly.take_octet.Goals as goal
@@ -14,13 +14,3 @@ returns g c =
     gives_octet octet filled
     (sym c.self.view_is ∙ (λ i. record { apid = x.apid; intake = x.reader; state = x.state; packets = x.packets; text = first i; held = x.held; framing = x.framing }))
     (search rules)
-
-pub returns-in-Ok-false : goal.returns-in-Ok-false
-returns-in-Ok-false g c =
-    let filled = rw c.in-Ok-false.field-0-test at c.in-Ok-false.ensures in
-    record { goes = filled.goes; silent = filled.silent; closed = λ e. (filled.unheld, filled.closed refl); ends = (filled.comes, filled.ends) }
-
-pub returns-in-Err : goal.returns-in-Err
-returns-in-Err g c =
-    let filled = c.in-Err.ensures in
-    record { goes = filled.goes; silent = filled.silent; closed = λ e. absurd cc; ends = (filled.comes, filled.ends) }

@@ -1,5 +1,4 @@
-use Rattle.std.proofs.Common.{◌+◌, ◌-◌}
-use Rattle.std.specs.Prelude.{if◌then◌else◌}
+use Rattle.std.proofs.Common.{◌+◌, ◌-◌, if◌then◌else◌}
 use Rattle.space_packets.specs.PacketReads.{TakenSoFar}
 use Rattle.space_packets.proofs.packet_reader.PacketReader.fill.Given as goal
 

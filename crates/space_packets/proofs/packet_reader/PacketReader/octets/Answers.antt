@@ -1,5 +1,4 @@
-use Rattle.std.proofs.Common.{length, sym, ap, ◌∙◌, arith}
-use Rattle.std.proofs.lemmas.List.{length-take-le}
+use Rattle.std.proofs.Common.{length, sym, ap, ◌∙◌, arith, length-take-le}
 use Rattle.packet_defs.specs.Streams.{told_length}
 use Rattle.packet_defs.proofs.Fronts.{begins_so}
 use Rattle.space_packets.proofs.packet_reader.PacketReader.octets.Goals as goal

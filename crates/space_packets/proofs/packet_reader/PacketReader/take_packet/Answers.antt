@@ -1,9 +1,7 @@
-use Rattle.std.proofs.Common.{List, [], ℕ, ◌≡◌, ◌≤◌, ◌+◌, ◌-◌, length, take, drop, sym, ap, ◌∙◌, arith, length-take}
-use Rattle.std.proofs.lemmas.List.{length-take-le}
+use Rattle.std.proofs.Common.{List, [], ℕ, ◌≡◌, ◌≤◌, ◌+◌, ◌-◌, length, take, drop, sym, ap, ◌∙◌, arith, length-take, length-take-le, slice_range, true}
+use Rattle.std.proofs.lemmas.Grind.{common_steps}
 use Rattle.packet_defs.specs.Streams.{told_length, begins_packet, first_packet}
-use Rattle.packet_defs.specs.Reading.{skip_of, head_in, ancillary_in}
-use Rattle.packet_defs.specs.declared.packet.PacketRead.TheVariants.{Mine}
-use Rattle.std.specs.Prelude.{slice_range, true}
+use Rattle.packet_defs.specs.Reading.{skip_of}
 use Rattle.space_packets.specs.Held.{intake}
 use Rattle.packet_defs.proofs.Fronts.{begins_so, first_is_packet}
 use Rattle.space_packets.proofs.Intakes.{read_skipped, read_mine, passed_mine, passed_other, waits_past, text_waits}
@@ -64,9 +62,7 @@ invariant_of-self-2 c =
     }
 
 pub returns-in-Some-clause-read : goal.returns-in-Some-clause-read
-returns-in-Some-clause-read c =
-    let packet = packet_is c.args.self.now.pending c.pending.result.now c.pending-2.result.now c.told_length-length.result c.pending-2.ensures.waiting c.told_length-length.ensures.value c.pending.ensures.waiting in
-    sym (read_skipped c.args.apid (first_packet c.args.self.now.pending) c.in-Some.skip (sym (ap (skip_of c.args.apid) packet) ∙ sym c.in-Some.ensures.value))
+returns-in-Some-clause-read c = grind (arith, common_steps, packet_is, read_skipped)
 
 pub returns-in-Some-clause-stands : goal.returns-in-Some-clause-stands
 returns-in-Some-clause-stands c =
@@ -84,10 +80,7 @@ returns-in-Some-clause-stands c =
     (waits_past c.self.inside.buffer.items c.self.inside.start c.self.inside.end c.told_length-length.result order ∙ ap (λ n. drop n v.pending) told) no_text)
 
 pub returns-clause-read : goal.returns-clause-read
-returns-clause-read c =
-    let packet = packet_is c.args.self.now.pending c.pending.result.now c.pending-2.result.now c.told_length-length.result c.pending-2.ensures.waiting c.told_length-length.ensures.value c.pending.ensures.waiting in
-    let mine = sym (ap (skip_of c.args.apid) packet) ∙ sym c.in_default.ensures.value in
-    c.mine_in-read.ensures ∙ ap (λ p. Mine (head_in p) (ancillary_in p)) packet ∙ sym (read_mine c.args.apid (first_packet c.args.self.now.pending) mine)
+returns-clause-read c = grind (arith, common_steps, packet_is, read_mine)
 
 pub returns-clause-stands : goal.returns-clause-stands
 returns-clause-stands c =

@@ -1,5 +1,6 @@
 use Rattle.packet_defs.specs.Packets.{part_size}
 use Rattle.std.proofs.Common.{length, ◌∷◌, [], arith}
+use Rattle.std.proofs.lemmas.Grind.{common_steps}
 use Rattle.space_packets.proofs.Buffers.{given_text}
 use Rattle.space_packets.proofs.MoreOctets.{goes_on_in, goes_on_past, breaks_off_at}
 use Rattle.space_packets.proofs.packetiser.Packetiser.put.Goals as goal
@@ -16,13 +17,7 @@ returns-then-has_room g c =
     }
 
 pub returns-in_default : goal.returns-in_default
-returns-in_default g c =
-    let going = c.text-text.ensures.is_open in
-    record {
-      text = c.text-text.result;
-      was_open = going;
-      ends = breaks_off_at going c.args.octet c.if-has_room.ensures.full c.in_default.ensures;
-    }
+returns-in_default g c = grind (arith, common_steps, breaks_off_at)
 
 pub returns : goal.returns
 returns g c =

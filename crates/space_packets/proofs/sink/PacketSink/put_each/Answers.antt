@@ -1,4 +1,5 @@
 use Rattle.std.proofs.Common.{arith, refl}
+use Rattle.std.proofs.lemmas.Grind.{common_steps}
 use Rattle.bit_pipe.proofs.Giving.{puts_broke}
 use Rattle.bit_pipe.proofs.OctetSteps.{number_start, number_more, number_broke, number_room, number_all, number_all_broke}
 use Rattle.space_packets.specs.PacketSink.{packet_sink}
@@ -11,13 +12,7 @@ pub put-requires : goal.put-requires
 put-requires g c = let i = c.loop-left.invariant in number_room (packet_sink g.X.Port.outside) 64 c.loop-left.left c.args.word (omega (arith, i.last)) i.within (omega (arith, c.requires)) i.so_far
 
 pub loop-left-preserved : goal.loop-left-preserved
-loop-left-preserved g c =
-    let i = c.loop-left.invariant in
-    record {
-      within = omega arith;
-      last = omega (arith, i.last);
-      so_far = number_more (packet_sink g.X.Port.outside) 64 c.loop-left.left c.args.word (omega (arith, i.last)) i.within i.so_far c.in_ok-put.ensures;
-    }
+loop-left-preserved g c = grind (arith, common_steps, number_more)
 
 pub returns-in_err-put : goal.returns-in_err-put
 returns-in_err-put g c =

@@ -1,6 +1,5 @@
 -- What a reader's results imply for the octets that decided them.
-use Rattle.std.proofs.Common.{◌≡◌, ◌≤◌, ◌+◌, ℕ, List, [], ◌∷◌, length, refl, sym, ap, subst, ◌∙◌, arith, inl, inr, length-drop}
-use Rattle.std.specs.Prelude.{Bool, true, false, Option, Some, None, Result, Ok, Err, ◌⊎◌, ◌==◌}
+use Rattle.std.proofs.Common.{◌≡◌, ◌≤◌, ◌+◌, ℕ, List, [], ◌∷◌, length, refl, sym, ap, subst, ◌∙◌, arith, inl, inr, length-drop, Bool, true, false, Option, Some, None, Result, Ok, Err, ◌⊎◌, ◌==◌}
 use Rattle.std.proofs.lemmas.Bool.{false≢true}
 use Rattle.std.proofs.lemmas.Bool.Decides.{nat_tests}
 use Rattle.bit_pipe.specs.declared.fault.InFault.{InFault}
@@ -19,6 +18,7 @@ use Rattle.packet_defs.proofs.Fronts.{begins_so, told_least}
 use Rattle.space_packets.specs.Intake.{Intake, end_read, verdict, answered}
 use Rattle.space_packets.specs.PacketReads.{EndsPacket}
 use Rattle.space_packets.proofs.Intakes.{no_begin}
+use Rattle.packet_defs.proofs.Equations.{packet_read-is}
 
 -- ---- the test that decided
 
@@ -100,27 +100,25 @@ as_none : (o : Option Skip) (packet : List ℕ) → is_over (read_as o packet) �
 as_none o packet = grind (arith, nat_tests)
 
 pub mine_read : (apid : ℕ) (u : Intake) (head : PacketHead) (tells : Ancillary) → verdict apid u ≡ Some (Ok (Mine head tells)) → MineAt apid u head tells
-unfolding verdict packet_read
+unfolding verdict
 mine_read apid u head tells e =
     let x = mine_by (has_bad_version u.pending) (begins_packet u.pending) u.ended (u.taken == u.cap) _ (packet_read apid (first_packet u.pending)) _ head tells e in
-    let y = as_mine (skip_of apid (first_packet u.pending)) (first_packet u.pending) head tells x.1 in
+    let y = as_mine (skip_of apid (first_packet u.pending)) (first_packet u.pending) head tells (sym (packet_read-is apid (first_packet u.pending)) ∙ x.1) in
     record { whole = x.0; mine = y.0; head_is = y.1; ancillary_is = y.2 }
 
 pub other_read : (apid : ℕ) (u : Intake) (skip : Skip) → verdict apid u ≡ Some (Ok (Skipped skip)) → OtherAt apid u skip
-unfolding verdict packet_read
+unfolding verdict
 other_read apid u skip e =
     let x = skipped_by (has_bad_version u.pending) (begins_packet u.pending) u.ended (u.taken == u.cap) _ (packet_read apid (first_packet u.pending)) _ skip e in
-    record { whole = x.0; other = as_skipped (skip_of apid (first_packet u.pending)) (first_packet u.pending) skip x.1 }
+    record { whole = x.0; other = as_skipped (skip_of apid (first_packet u.pending)) (first_packet u.pending) skip (sym (packet_read-is apid (first_packet u.pending)) ∙ x.1) }
 
 pub over_read : (apid : ℕ) (u : Intake) (r : PacketRead) → is_over r ≡ true → verdict apid u ≡ Some (Ok r) →
     (begins_packet u.pending ≡ false) × ((has_bad_version u.pending ≡ true) ⊎ (u.ended ≡ true))
-unfolding verdict packet_read
-over_read apid u r over e =
-    over_by (has_bad_version u.pending) (begins_packet u.pending) u.ended (u.taken == u.cap) _ (packet_read apid (first_packet u.pending)) _ r over
-    (as_none (skip_of apid (first_packet u.pending)) (first_packet u.pending)) (no_begin u.pending) e
+unfolding verdict
+over_read apid u r over e = grind (arith, nat_tests, packet_read-is, over_by, as_none, no_begin)
 
 pub long_read : (apid : ℕ) (u : Intake) (fault : InFault) → verdict apid u ≡ Some (Err fault) → AtCap u fault
-unfolding verdict packet_read
+unfolding verdict
 long_read apid u fault e =
     long_by u (has_bad_version u.pending) (begins_packet u.pending) u.ended (u.taken == u.cap) _ (packet_read apid (first_packet u.pending)) _ fault refl refl refl refl e
 
