@@ -1,6 +1,5 @@
 -- What holds of a head that agrees with the first one.
-use Rattle.std.proofs.Common.{◌≡◌, ◌≤◌, ◌<◌, ◌+◌, ◌*◌, ◌%◌, ◌==◌, ℕ, List, ◌∷◌, refl, sym, ap, ◌∙◌, arith}
-use Rattle.std.specs.Prelude.{Bool, true, false, not, nat_le, nat_lt, ◌&&◌, ◌||◌, if◌then◌else◌, Option, None}
+use Rattle.std.proofs.Common.{◌≡◌, ◌≤◌, ◌<◌, ◌+◌, ◌*◌, ◌%◌, ◌==◌, ℕ, List, ◌∷◌, refl, sym, ap, ◌∙◌, arith, Bool, true, false, not, nat_le, nat_lt, ◌&&◌, ◌||◌, if◌then◌else◌, Option, None, bytes_eq, ◌^◌, mul-le-mul}
 use Rattle.std.proofs.lemmas.Bool.Decides.{nat_tests}
 use Rattle.base_122.specs.Ranges.{is_within, rows_range}
 use Rattle.segment_defs.specs.declared.head.SegmentHead.{SegmentHead}
@@ -8,11 +7,8 @@ use Rattle.segment_defs.specs.declared.head.ImagePart.{ImagePart}
 use Rattle.segment_defs.specs.declared.fault.HeadFault.{HeadFault}
 use Rattle.segment_defs.specs.Reading.{refused_where, first_refusal}
 use Rattle.bare_text.specs.Agreement.{columns, blocks_before, first_agrees, blocks_agree, last_agrees, count_agrees, image_agrees, height_at, agreement_tests}
-use Rattle.std.specs.Str.{bytes_eq}
 use Rattle.std.proofs.lemmas.Slice.Eq.{bytes_eq-Decides}
 use mathlib.Core.Bool.{beq}
-use Rattle.std.specs.Prelude.{◌^◌}
-use Rattle.std.proofs.Math.Nat.{mul-le-mul}
 use Rattle.std.proofs.lemmas.Bool.{and_parts, leb-true, ltb-true, and_from, eqb-true}
 use Rattle.bare_stream.specs.BareStream.{AgreesWith}
 use Rattle.bare_stream.specs.SegmentsRead.{pixels_at}

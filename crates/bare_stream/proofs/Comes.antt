@@ -1,9 +1,6 @@
 -- The rows that a work took, and one more.
-use Rattle.std.proofs.Common.{◌≡◌, ℕ, ◌+◌, ◌*◌, ◌<◌, ◌≤◌, ℤ, List, [], ◌++◌, length, take, min, refl, sym, ap, ◌∙◌, subst, arith, vec_len, inl, length-append}
-use Rattle.std.specs.Prelude.{Option, None, Bool, Err}
-use Rattle.std.proofs.lemmas.List.{length-take-le}
+use Rattle.std.proofs.Common.{◌≡◌, ℕ, ◌+◌, ◌*◌, ◌<◌, ◌≤◌, ℤ, List, [], ◌++◌, length, take, refl, sym, ap, ◌∙◌, subst, arith, vec_len, inl, length-append, Option, None, Bool, Err, length-take-le, mul-le-mul_right}
 use Rattle.std.proofs.lemmas.Nat.{div-mul-add}
-use Rattle.std.proofs.Math.Nat.{mul-le-mul_right}
 use Rattle.std.proofs.lemmas.Bool.Decides.{nat_tests}
 use Rattle.port_122.specs.Outside.{Outside, Exchange, GivenBy}
 use Rattle.port_122.proofs.Stretches.{since_start, rose_since}
@@ -32,9 +29,10 @@ use Rattle.strip_coder.specs.Steps.{NextRowIs}
 use Rattle.strip_coder.specs.RowsIn.{fault_after}
 use Rattle.strip_coder.proofs.RowComes.{HoldsRow}
 use Rattle.strip_coder.proofs.RowTakes.{padded_next}
-use Rattle.strip_coder.proofs.RowsGiven.{same_rows}
+use Rattle.strip_coder.proofs.RowsGiven.{same_rows, least_of}
 use Rattle.strip_coder.proofs.RowsTakenLaws.{row_pixels, in_range-more, all_in_range-more, first_bad-more}
 use Rattle.strip_coder.proofs.SettledCounts.{index_settled}
+use Rattle.strip_coder.proofs.RowTakes.{OnlyRow}
 use Rattle.bare_stream.specs.Bare.{first_texts, head_before}
 use Rattle.bare_stream.specs.Rasters.{IsBare, settled_texts, texts_for}
 use Rattle.bare_stream.specs.Answers.{EncodesBare}
@@ -116,9 +114,6 @@ settled_now s w bare at lt more less =
     index_settled (plan s) (is_plan s bare) (rows_of w.strip) (picture_state s w) running refl (omega (arith, less)) (inl less)
 
 -- ---- one more row
-
-least_of : (t n k : ℕ) → n ≡ k → k ≤ t → min t n ≡ k
-least_of t n k e le = omega arith
 
 module _ (s : Setting) (bare : IsBare s) (before : Option SegmentHead) (p q : Outside) (old : Work) (lt : old.at.index < segments_of s) (more : old.at.filled < present_size s old)
     (less : old.at.rows < s.rows) (come : HasCome s (block_count s.width) before p q old) where
@@ -219,16 +214,6 @@ module _ (s : Setting) (bare : IsBare s) (before : Option SegmentHead) (p q : Ou
       }
 
 -- ---- the row was read
-
--- only the row's numbers were changed
-pub record OnlyRow (old mid : Work) : Type 0 where
-  pub strip : mid.strip ≡ old.strip
-  pub blocks : mid.blocks ≡ old.blocks
-  pub marks : mid.marks ≡ old.marks
-  pub packets : mid.packets ≡ old.packets
-  pub writer : mid.writer ≡ old.writer
-  pub room : mid.room ≡ old.room
-  pub at : mid.at ≡ old.at
 
 module _ (s : Setting) (bare : IsBare s) (old mid : Work) (less : old.at.rows < s.rows) (at : IsAt s (block_count s.width) old) (only : OnlyRow old mid) (long : vec_len mid.row ≡ padded_size s.width) where
   mid_made : IsMadeFor s mid

@@ -1,7 +1,5 @@
 -- The bare stream of an image gives the image back.
-use Rattle.std.proofs.Common.{◌≡◌, ℕ, ℤ, List, [], sym, ap, subst, ◌∙◌}
-use Rattle.std.specs.Prelude.{Option, None, Some, Result, Ok, Err}
-use Rattle.std.proofs.lemmas.List.{append-nil}
+use Rattle.std.proofs.Common.{◌≡◌, ℕ, ℤ, List, [], sym, ap, subst, ◌∙◌, Option, None, Some, Result, Ok, Err, append-nil}
 use Rattle.base_122.specs.declared.geometry.Geometry.{Geometry}
 use Rattle.base_122.specs.declared.setting.Setting.{Setting}
 use Rattle.bare_stream.specs.declared.fault.BareFault.{BareFault}

@@ -1,8 +1,6 @@
 -- A decoder that ends at the head of a segment.
-use Rattle.std.proofs.Common.{◌≡◌, ◌≤◌, ◌<◌, ◌+◌, ℕ, ℤ, List, [], ◌∷◌, ◌++◌, length, take, refl, ap, arith, inl}
-use Rattle.std.specs.Prelude.{nat_lt, Bool, true, false, if◌then◌else◌, Option, None, Some, unwrap_or, Err}
+use Rattle.std.proofs.Common.{◌≡◌, ◌≤◌, ◌<◌, ◌+◌, ℕ, ℤ, List, [], ◌∷◌, ◌++◌, length, take, refl, ap, arith, inl, nat_lt, Bool, true, false, if◌then◌else◌, Option, None, Some, unwrap_or, Err, length-take}
 use Rattle.std.proofs.lemmas.Bool.Decides.{nat_tests}
-use Rattle.std.proofs.lemmas.List.{length-take}
 use Rattle.port_122.specs.Outside.{Outside, IsUsedUp}
 use Rattle.bit_pipe.specs.Sources.{End, IsOver, Plainly, TooLong, InPieces}
 use Rattle.base_122.specs.declared.book.Book.{Book}

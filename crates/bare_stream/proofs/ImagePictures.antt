@@ -1,6 +1,5 @@
 -- The picture of an image's segments is the image.
-use Rattle.std.proofs.Common.{◌≡◌, ◌<◌, ◌*◌, ◌/◌, ◌%◌, ℕ, ℤ, pos, List, [], drop, get_or, ap, ◌∙◌, arith}
-use Rattle.std.proofs.lemmas.List.{get_or-take, get_or-drop}
+use Rattle.std.proofs.Common.{◌≡◌, ◌<◌, ◌*◌, ◌/◌, ◌%◌, ℕ, ℤ, pos, List, [], drop, get_or, ap, ◌∙◌, arith, get_or-take, get_or-drop}
 use Rattle.std.proofs.lemmas.List.FromFn.{get_or-map-range_with_len}
 use Rattle.base_122.specs.Ranges.{IsWithin, rows_range}
 use Rattle.base_122.specs.Sizes.{first_block, total_blocks}
@@ -11,7 +10,7 @@ use Rattle.raster_rows.specs.Pixels.{raster_octets}
 use Rattle.stream_defs.specs.Output.{image_blocks, segment_of, segments_of}
 use Rattle.stream_defs.specs.Picture.{number_at, picture_of, whole_with}
 use Rattle.stream_defs.proofs.HeightPictures.{raster_same}
-use Rattle.strip_decoder.proofs.SameImages as images
+use Rattle.picture_rows.proofs.SameImages as images
 use Rattle.bare_stream.specs.Images.{IsBareImage, bare_geometry, image_segments}
 use Rattle.bare_stream.specs.SegmentsRead.{all_rows, segments_in}
 use Rattle.bare_stream.proofs.Counts.{rows_in}
@@ -50,7 +49,7 @@ module _ (s : Setting) (x : ℕ → ℕ → ℤ) (is : IsBareImage s x) where
 
   pixel_same : (i j : ℕ) → i < s.rows → j < s.width → whole_with g numbers i j ≡ x i j
   unfolding picture_of
-  pixel_same = images.pixel_same s x is.setting.in_range rows is.pixels numbers number_here
+  pixel_same = images.pixel_same s x is.setting.in_range rows is.pixels.at numbers number_here
 
   pub picture_is : all_rows (bare_geometry s) (image_segments s x) ≡ raster_octets s.depth s.rows s.width x
   picture_is = raster_same s.depth s.rows s.width (whole_with g numbers) x pixel_same

@@ -1,6 +1,5 @@
 -- The octets that are written for an image are a bare stream.
-use Rattle.std.proofs.Common.{◌≡◌, ◌≤◌, ◌<◌, ◌+◌, ◌%◌, ◌==◌, ◌⊎◌, ℕ, zero, suc, ℤ, List, [], ◌∷◌, ◌++◌, map, true, false, refl, sym, ap, subst, ◌∙◌, inl, inr, arith, append_assoc}
-use Rattle.std.specs.Prelude.{Some}
+use Rattle.std.proofs.Common.{◌≡◌, ◌≤◌, ◌<◌, ◌+◌, ◌%◌, ◌==◌, ◌⊎◌, ℕ, zero, suc, ℤ, List, [], ◌∷◌, ◌++◌, map, true, false, refl, sym, ap, subst, ◌∙◌, inl, inr, arith, append_assoc, Some}
 use Rattle.std.specs.List.{range_with_len, flat_map}
 use Rattle.std.proofs.lemmas.Bool.{cases_lt}
 use Rattle.std.proofs.lemmas.Bool.Decides.{nat_tests}
@@ -12,8 +11,8 @@ use Rattle.segment_defs.specs.declared.head.SegmentHead.{SegmentHead}
 use Rattle.segment_defs.specs.Head.{IsHead}
 use Rattle.stream_defs.specs.Output.{head_for, image_blocks, segment_of, segments_of}
 use Rattle.stream_defs.proofs.ShareLaws.{share_none}
-use Rattle.strip_decoder.specs.RoundTrip.{SendsAll}
-use Rattle.strip_decoder.proofs.SpelledImages.{head_fits, spells, length-segment}
+use Rattle.segment_walk.specs.Images.{SendsAll}
+use Rattle.segment_walk.proofs.SpelledImages.{head_fits, spells, length-segment}
 use Rattle.bare_text.specs.declared.parts.PartsInForce.{PartsInForce}
 use Rattle.bare_text.specs.InForce.{none_in_force}
 use Rattle.bare_text.specs.Laws.{BareHeadsUndo, BareTextsHold, HoldsText, in_force, bare_head}

@@ -1,6 +1,5 @@
 -- The numbers that items after a head of any size hold are multiples of their weights, and small.
-use Rattle.std.proofs.Common.{◌≡◌, ℕ, ◌-◌, ◌*◌, ◌^◌, ◌<◌, ◌≤◌, List, [], length, take, ap, sym, subst, ◌∙◌, arith, ℤ, pos, get_or}
-use Rattle.std.specs.Prelude.{◌*ℤ◌, unsigned_abs}
+use Rattle.std.proofs.Common.{◌≡◌, ℕ, ◌*◌, ◌^◌, ◌<◌, ◌≤◌, List, [], length, take, ap, sym, subst, ◌∙◌, arith, ℤ, pos, get_or, ◌*ℤ◌, unsigned_abs}
 use Rattle.plane_defs.proofs.SpanLists.{get_or-map-span}
 use Rattle.plane_defs.specs.Sets.{shift}
 use Rattle.base_122.specs.declared.book.Book.{Book}

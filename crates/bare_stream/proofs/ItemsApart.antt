@@ -8,7 +8,6 @@ use Rattle.item_defs.specs.Bits.{bits_of_octets}
 use Rattle.item_defs.specs.Items.{Item, Refusal, spelling, text}
 use Rattle.item_defs.specs.Padding.{rounded}
 use Rattle.item_defs.specs.Readings.{item_at}
-use Rattle.item_defs.proofs.OctetBits.{octets_append}
 use Rattle.bit_pipe.specs.declared.fault.Part.{Part}
 use Rattle.segment_defs.specs.declared.head.SegmentHead.{SegmentHead}
 use Rattle.segment_defs.specs.Head.{IsHead}
@@ -19,15 +18,8 @@ use Rattle.text_defs.proofs.FrontLaws.{End, all_given, nothing_follows, refusal_
 use Rattle.text_defs.proofs.SegmentAlike.{segment_alike}
 use Rattle.text_defs.proofs.SoundItems.{AllSound, segment_sound, sound_at}
 use Rattle.segment_code.specs.ItemsHeld.{wanted_octets, AreAll, HoldsItems, RefusesItem, LacksItems}
+use Rattle.segment_code.proofs.ItemEnds.{further}
 use Rattle.bare_stream.proofs.StreamEnds.{two_fronts}
-
--- items with which octets begin are those with which more octets begin
-further : {items : List Item} {m : ℕ} {left : List Bool} (rest more : List ℕ) → Front items m (bits_of_octets rest) left → Front items m (bits_of_octets (rest ++ more)) (left ++ bits_of_octets more)
-further {items} {m} {left} rest more p = record {
-  within = p.within;
-  taken = p.taken;
-  read = octets_append rest more ∙ ap (λ l. l ++ bits_of_octets more) p.read ∙ append_assoc (text (take m items)) left (bits_of_octets more);
-}
 
 -- what is refused is so before more bits
 refused_further : {items : List Item} {m : ℕ} {left : List Bool} {name : Refusal} (more : List Bool) → RefusalFollows items m left name → RefusalFollows items m (left ++ more) name

@@ -1,6 +1,5 @@
 -- A decoder that ends at the head of the next segment.
-use Rattle.std.proofs.Common.{◌≡◌, ◌<◌, ℕ, List, [], ◌++◌, length, refl, sym, ap, ◌∙◌, subst, arith, inl, inr}
-use Rattle.std.specs.Prelude.{Option, Some, Result, Ok, Err, unwrap_or}
+use Rattle.std.proofs.Common.{◌≡◌, ◌<◌, ℕ, List, [], ◌++◌, length, refl, sym, ap, ◌∙◌, subst, arith, inl, inr, Option, Some, Result, Ok, Err, unwrap_or}
 use Rattle.port_122.specs.Outside.{Outside}
 use Rattle.port_122.proofs.Stretches.{since_weaker, rose_since}
 use Rattle.base_122.specs.declared.geometry.Geometry.{Geometry}

@@ -1,6 +1,5 @@
 -- The present segment of a work, which is full and was written.
-use Rattle.std.proofs.Common.{◌≡◌, ℕ, ◌+◌, ◌*◌, ◌^◌, ◌<◌, ◌≤◌, ℤ, List, sym, ap, ◌∙◌, subst, arith, length}
-use Rattle.std.specs.Prelude.{Option}
+use Rattle.std.proofs.Common.{◌≡◌, ℕ, ◌+◌, ◌*◌, ◌^◌, ◌<◌, ◌≤◌, ℤ, List, sym, ap, ◌∙◌, subst, arith, length, Option}
 use Rattle.std.proofs.lemmas.Bool.Decides.{nat_tests}
 use Rattle.port_122.specs.Outside.{Outside}
 use Rattle.base_122.specs.Sizes.{block_count, total_blocks, first_block}

@@ -1,6 +1,5 @@
 -- A row that was put into the strip of a work.
-use Rattle.std.proofs.Common.{◌≡◌, ◌≢◌, ℕ, ◌+◌, ◌-◌, ◌*◌, ◌/◌, ◌<◌, ◌≤◌, ℤ, [], refl, sym, ap, ◌∙◌, subst, arith, vec_len, get_or, min, true, false, Option, Some, None}
-use Rattle.std.specs.Prelude.{MatchOption, is_some}
+use Rattle.std.proofs.Common.{◌≡◌, ◌≢◌, ℕ, ◌+◌, ◌-◌, ◌*◌, ◌/◌, ◌<◌, ◌≤◌, ℤ, [], refl, sym, ap, ◌∙◌, subst, arith, vec_len, get_or, min, true, false, Option, Some, None, MatchOption, is_some}
 use Rattle.base_122.specs.Sizes.{block_count, padded_size}
 use Rattle.base_122.specs.declared.setting.Setting.{Setting}
 use Rattle.base_122.proofs.SizeBounds.{three-le-block_count}

@@ -1,6 +1,5 @@
 -- Octets of the next segment are read.
-use Rattle.std.proofs.Common.{◌≡◌, ◌≤◌, ◌+◌, ℕ, List, ◌++◌, length, take, refl, sym, ap, ◌∙◌, arith, append_assoc, length-append}
-use Rattle.std.specs.Prelude.{nat_lt, false, if◌then◌else◌, Option, None, Some}
+use Rattle.std.proofs.Common.{◌≡◌, ◌≤◌, ◌+◌, ℕ, List, ◌++◌, length, take, refl, sym, ap, ◌∙◌, arith, append_assoc, length-append, nat_lt, false, if◌then◌else◌, Option, None, Some}
 use Rattle.std.specs.List.{concat}
 use Rattle.std.proofs.lemmas.Bool.Decides.{nat_tests}
 use Rattle.std.proofs.Math.Seq.{take-length}

@@ -1,9 +1,7 @@
 -- Texts that were written one after another, and the end of a run.
-use Rattle.std.proofs.Common.{◌≡◌, ℕ, suc, ◌+◌, ◌*◌, ◌/◌, ◌<◌, ◌≤◌, ℤ, List, [], ◌∷◌, ◌++◌, length, take, min, refl, sym, ap, ◌∙◌, subst, arith, inr, true, false, append_assoc, length-append}
-use Rattle.std.specs.Prelude.{Option, Some, Ok, Err}
+use Rattle.std.proofs.Common.{◌≡◌, ℕ, suc, ◌+◌, ◌*◌, ◌/◌, ◌<◌, ◌≤◌, ℤ, List, [], ◌∷◌, ◌++◌, length, take, min, refl, sym, ap, ◌∙◌, subst, arith, inr, true, false, append_assoc, length-append, Option, Some, Ok, Err, mul-le-mul, mul-le-mul_left}
 use Rattle.std.proofs.lemmas.List.{append-nil, take_min, take-append-le}
 use Rattle.std.proofs.lemmas.Nat.{le-div}
-use Rattle.std.proofs.Math.Nat.{mul-le-mul, mul-le-mul_left}
 use Rattle.std.proofs.Math.Seq.{take-append-add, take-append_seam}
 use Rattle.std.proofs.lemmas.Bool.Decides.{nat_tests}
 use Rattle.port_122.specs.Outside.{Outside, Exchange, AtStart, GivenBy, ReadFailed}
@@ -28,7 +26,7 @@ use Rattle.strip_coder.specs.Plans.{tallest}
 use Rattle.strip_coder.specs.Rasters.{row_length, most_length, image_of, whole_rows}
 use Rattle.strip_coder.specs.Answers.{AllInRange}
 use Rattle.strip_coder.proofs.PlanLaws.{known_first}
-use Rattle.strip_coder.proofs.RowsGiven.{same_rows}
+use Rattle.strip_coder.proofs.RowsGiven.{same_rows, most_of}
 use Rattle.strip_coder.proofs.RowsTakenLaws.{all_whole}
 use Rattle.bare_text.specs.Writing.{bare_text}
 use Rattle.bare_stream.specs.Bare.{bare, first_texts, head_before, segment_octets}
@@ -142,9 +140,6 @@ module _ (s : Setting) (is_bare : IsBare s) (column : ℕ) (before : Option Segm
       }
 
 -- ---- the end of the input is read
-
-most_of : (t n : ℕ) → t ≤ n → min t n ≡ t
-most_of t n le = omega arith
 
 -- the octets of a whole raster, and any after them
 module _ (s : Setting) (is_bare : IsBare s) (raster : List ℕ) (whole : length raster ≡ s.rows * row_length s) where

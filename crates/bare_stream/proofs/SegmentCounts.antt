@@ -1,6 +1,5 @@
 -- The numbers of blocks of the segments.
-use Rattle.std.proofs.Common.{◌≡◌, ◌≤◌, ◌<◌, ◌+◌, ◌*◌, ◌/◌, ◌%◌, ◌==◌, ℕ, sym, ap, ◌∙◌, min, arith}
-use Rattle.std.specs.Prelude.{Bool, true, nat_le, ◌||◌}
+use Rattle.std.proofs.Common.{◌≡◌, ◌≤◌, ◌<◌, ◌+◌, ◌*◌, ◌/◌, ◌%◌, ◌==◌, ℕ, sym, ap, ◌∙◌, min, arith, Bool, true, nat_le, ◌||◌}
 use Rattle.std.proofs.lemmas.Bool.Decides.{nat_tests}
 use Rattle.std.proofs.lemmas.Nat.{div-add-mod', mod_below, div_below}
 use Rattle.base_122.specs.Sizes.{segment_blocks, segment_count}

@@ -1,11 +1,9 @@
 -- One more segment is read.
-use Rattle.std.proofs.Common.{◌≡◌, ◌≤◌, ◌<◌, ◌+◌, ℕ, ℤ, List, [], ◌∷◌, ◌++◌, length, take, refl, sym, ap, ◌∙◌, subst, arith, append_assoc, length-append, inl, inr, ◌⊎◌}
-use Rattle.std.specs.Prelude.{nat_lt, Bool, true, false, if◌then◌else◌, Option, None}
+use Rattle.std.proofs.Common.{◌≡◌, ◌≤◌, ◌<◌, ◌+◌, ℕ, ℤ, List, [], ◌∷◌, ◌++◌, length, take, refl, sym, ap, ◌∙◌, subst, arith, append_assoc, length-append, inl, inr, ◌⊎◌, nat_lt, Bool, true, false, if◌then◌else◌, Option, None, lt-ltb}
 use Rattle.std.specs.List.{concat}
 use Rattle.std.proofs.lemmas.Bool.Decides.{nat_tests}
 use Rattle.std.proofs.lemmas.List.{append-nil, take-append-le, length_push}
 use Rattle.std.proofs.Math.Seq.{take-length}
-use Rattle.std.proofs.lemmas.Bool.{lt-ltb}
 use Rattle.port_122.specs.Outside.{Outside, Exchange, NoRead}
 use Rattle.port_122.proofs.Stretches.{since_out, since_weaker}
 use Rattle.base_122.specs.declared.book.Book.{Book}

@@ -1,6 +1,5 @@
 -- The blocks of one more segment are given to a picture.
-use Rattle.std.proofs.Common.{◌≡◌, ◌≤◌, ◌<◌, ◌+◌, ◌*◌, ◌/◌, ◌%◌, ℕ, ℤ, pos, List, [], ◌∷◌, ◌++◌, length, take, get_or, sym, ap, ◌∙◌, arith, length-append}
-use Rattle.std.specs.Prelude.{Option}
+use Rattle.std.proofs.Common.{◌≡◌, ◌≤◌, ◌<◌, ◌+◌, ◌*◌, ◌/◌, ◌%◌, ℕ, ℤ, pos, List, [], ◌∷◌, ◌++◌, length, take, get_or, sym, ap, ◌∙◌, arith, length-append, Option}
 use Rattle.std.proofs.lemmas.List.{length-take-le, get_or_append_left}
 use Rattle.std.proofs.Math.Seq.{get_or-append_seam}
 use Rattle.std.proofs.lemmas.Nat.{div_below, div-mul-add, mod-mul-add}
@@ -19,7 +18,7 @@ use Rattle.bare_stream.specs.Reads.{AreNumbersOf, ShowsRead}
 use Rattle.bare_stream.specs.Blocks.{HasNextBlocks, HasPutBlocks}
 use Rattle.bare_stream.proofs.RowsShown.{number_is}
 use Rattle.bare_stream.proofs.SegmentMore.{with_more}
-use Rattle.strip_decoder.proofs.Showing.{block_in, front_block}
+use Rattle.segment_walk.proofs.Showing.{block_in, front_block}
 
 -- ---- the blocks of a slice
 

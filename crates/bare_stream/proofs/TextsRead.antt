@@ -1,7 +1,5 @@
 -- The text of the next segment is read, or a decoder ends in it.
-use Rattle.std.proofs.Common.{◌≡◌, ◌≤◌, ℕ, ℤ, List, [], ◌++◌, length, refl, sym, ap, ◌∙◌, subst, arith, append_assoc}
-use Rattle.std.specs.Prelude.{Some, unwrap_or, Result, Ok, Err}
-use Rattle.std.proofs.lemmas.List.{append-nil}
+use Rattle.std.proofs.Common.{◌≡◌, ◌≤◌, ℕ, ℤ, List, [], ◌++◌, length, refl, sym, ap, ◌∙◌, subst, arith, append_assoc, Some, unwrap_or, Result, Ok, Err, append-nil}
 use Rattle.port_122.specs.Outside.{Outside}
 use Rattle.port_122.proofs.Stretches.{rose_since}
 use Rattle.base_122.specs.declared.wish.DecodeWish.{DecodeWish}

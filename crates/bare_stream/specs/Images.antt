@@ -7,8 +7,7 @@ use Rattle.base_122.specs.declared.geometry.Geometry.{Geometry}
 use Rattle.base_122.specs.declared.setting.Setting.{Setting}
 use Rattle.plane_defs.specs.Codes.{is_book_sound}
 use Rattle.stream_defs.specs.Output.{head_for, image_blocks, segment_of, segments_of}
-use Rattle.strip_decoder.specs.Containment.{ArePixels}
-use Rattle.strip_decoder.specs.RoundTrip.{SendsAll}
+use Rattle.segment_walk.specs.Images.{ArePixels, SendsAll}
 use Rattle.bare_text.specs.Laws.{in_force}
 use Rattle.bare_stream.specs.Bare.{bare, head_before, segment_octets}
 use Rattle.bare_stream.specs.BareStream.{IsText, BareStream}

@@ -5,7 +5,7 @@ use Rattle.base_122.specs.declared.geometry.Geometry.{Geometry}
 use Rattle.base_122.specs.declared.setting.Setting.{Setting}
 use Rattle.base_122.specs.declared.wish.DecodeWish.{DecodeWish}
 use Rattle.raster_rows.specs.Pixels.{raster_octets}
-use Rattle.strip_decoder.specs.RoundTrip.{SendsAll}
+use Rattle.segment_walk.specs.Images.{SendsAll}
 use Rattle.bare_stream.specs.declared.fault.BareFault.{BareFault}
 use Rattle.bare_stream.specs.declared.fault.BareFault.TheVariants.{ReadFault, WriteFault, Memory}
 use Rattle.bare_stream.specs.Bare.{bare}

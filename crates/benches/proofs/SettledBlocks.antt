@@ -1,9 +1,7 @@
 -- Blocks that have no bit of a plane or below it await that plane.
-use Rattle.std.proofs.Common.{◌≡◌, ◌∙◌, ℕ, zero, suc, inl, inr, ◌+◌, ◌-◌, ◌*◌, ◌/◌, ◌%◌, ◌^◌, ◌<◌, ◌≤◌, ℤ, pos, List, length, refl, sym, ap, subst, arith, get_or}
-use Rattle.std.specs.Prelude.{replicate, unsigned_abs, take, drop}
+use Rattle.std.proofs.Common.{◌≡◌, ◌∙◌, ℕ, zero, suc, inl, inr, ◌+◌, ◌*◌, ◌/◌, ◌%◌, ◌^◌, ◌<◌, ◌≤◌, ℤ, pos, List, length, refl, sym, ap, subst, arith, get_or, replicate, unsigned_abs, drop, pow_pos}
 use Rattle.std.proofs.lemmas.Bool.{cases_lt}
 use Rattle.std.proofs.lemmas.List.{get_or-take, get_or-drop, get_or_past, length-take-le, length-drop}
-use Rattle.std.proofs.lemmas.Nat.{pow_pos}
 use Rattle.wave_defs.specs.Held.{block_at}
 use Rattle.plane_defs.specs.Marks.{depth_of, depths_of}
 use Rattle.plane_defs.specs.Sets.{magnitude, shift}

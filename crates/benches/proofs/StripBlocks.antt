@@ -1,10 +1,7 @@
 -- Blocks that are gathered fit, and a block of zeros can be put back.
-use Rattle.std.proofs.Common.{◌≡◌, ℕ, ◌*◌, ◌^◌, ◌<◌, ◌≤◌, ℤ, pos, negsuc, ◌*ℤ◌, List, replicate, get_or, ap, ◌∙◌, arith}
-use Rattle.std.specs.Prelude.{All, unsigned_abs}
+use Rattle.std.proofs.Common.{◌≡◌, ℕ, ◌*◌, ◌^◌, ◌<◌, ◌≤◌, ℤ, pos, negsuc, ◌*ℤ◌, List, replicate, get_or, ap, ◌∙◌, arith, All, unsigned_abs, mul-le-mul, pow_mono}
 use Rattle.std.proofs.lemmas.Int.{ints, unsigned_abs-mul}
 use Rattle.std.proofs.lemmas.List.{get_or-replicate}
-use Rattle.std.proofs.Math.Nat.{mul-le-mul}
-use Rattle.std.proofs.Math.Pow.{pow_mono}
 use Rattle.base_122.specs.Weights.{IsShift}
 use Rattle.wave_defs.specs.Blocks.{place_of, weight_at}
 use Rattle.wave_defs.specs.Within.{IsWithin}

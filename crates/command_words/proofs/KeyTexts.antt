@@ -1,10 +1,9 @@
 -- An argument has at most one key, and one text after it.
-use Rattle.std.proofs.Common.{◌≡◌, ◌≢◌, ◌<◌, ℕ, zero, suc, List, [], ◌∷◌, ◌++◌, length, get_or, refl, sym, ◌∙◌, ap, append_assoc, arith, true, false}
-use Rattle.std.specs.Prelude.{codes, Bool, not, cond, find, Option, Some, None, is_some, ◌==◌}
+use Rattle.std.proofs.Common.{◌≡◌, ◌≢◌, ◌<◌, ℕ, zero, suc, List, [], ◌∷◌, ◌++◌, length, get_or, refl, sym, ◌∙◌, ap, append_assoc, arith, true, false, codes, Bool, not, cond, find, Option, Some, None, is_some, ◌==◌, bytes_eq}
 use Rattle.std.specs.List.{list_all}
-use Rattle.std.specs.Str.{bytes_eq}
 use Rattle.std.proofs.lemmas.Bool.{false≢true, and_parts, eq-eqb}
 use Rattle.std.proofs.lemmas.Slice.Eq.{bytes_eq-Decides}
+use Rattle.std.proofs.lemmas.Bool.Decides.{nat_tests}
 use Rattle.command_words.proofs.Separators.{split_one}
 use Rattle.command_words.specs.declared.tables.Key.{Key}
 use Rattle.command_words.specs.declared.tables.Key.TheVariants.{Width}
@@ -18,9 +17,7 @@ is_plain text = list_all (λ b. not (b == 61)) text
 
 plain_at : (text : List ℕ) → is_plain text ≡ true → (i : ℕ) → i < length text → get_or text i 0 ≢ 61
 plain_at [] plain i below e = absurd (omega arith)
-plain_at (b ∷ bs) plain zero below e =
-    let first = (and_parts (not (b == 61)) (is_plain bs) plain).0 in
-    false≢true (ap not (sym (eq-eqb b 61 e)) ∙ first)
+plain_at (b ∷ bs) plain zero below e = grind (arith, nat_tests, and_parts, not, is_plain, false≢true, eq-eqb)
 plain_at (b ∷ bs) plain (suc i) below e = plain_at bs (and_parts (not (b == 61)) (is_plain bs) plain).1 i (omega arith) e
 
 plain_key : (key : Key) → is_plain (key_text key) ≡ true
@@ -50,11 +47,7 @@ keyed_from_parts word before text key e named =
 
 -- two readings of one argument have the same key and the same text
 pub keyed_one : (word text text' : List ℕ) (key key' : Key) → IsKeyed word key text → IsKeyed word key' text' → (key ≡ key') × (text ≡ text')
-keyed_one word text text' key key' is is' =
-    let parts = split_one 61 (key_text key) (key_text key') text text' (plain_at (key_text key) (plain_key key)) (plain_at (key_text key') (plain_key key'))
-    (sym (append_assoc (key_text key) (codes "=") text) ∙ sym is ∙ is' ∙ append_assoc (key_text key') (codes "=") text') in
-    let found : Some key ≡ Some key' = sym (named_text key) ∙ ap key_named parts.0 ∙ named_text key' in
-    (cc, parts.1)
+keyed_one word text text' key key' is is' = grind (arith, nat_tests, split_one, plain_at, plain_key, append_assoc, codes, named_text)
 
 pub none_from : {A : Type 0} (o : Option A) → is_some o ≡ false → o ≡ None
 none_from None e = refl

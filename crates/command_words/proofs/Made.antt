@@ -1,7 +1,5 @@
 -- The command that is made of the values is in range.
-use Rattle.std.proofs.Common.{◌≡◌, ◌≤◌, ◌+◌, ◌*◌, ℕ, List, [], ◌∷◌, refl, arith, ap, subst, true, false}
-use Rattle.std.specs.Prelude.{Option, Some, None, Result, Ok, IfOk, IfSome, Bool, not, unwrap_or, cond, find, nat_le, ◌==◌, ◌||◌}
-use Rattle.std.specs.Option.{option_map}
+use Rattle.std.proofs.Common.{◌≡◌, ◌≤◌, ◌+◌, ◌*◌, ℕ, List, [], ◌∷◌, refl, arith, ap, subst, true, false, Option, Some, None, Result, Ok, IfOk, IfSome, Bool, not, unwrap_or, cond, find, nat_le, ◌==◌, ◌||◌, option_map}
 use Rattle.std.proofs.lemmas.Bool.{and_parts, or_right}
 use Rattle.std.proofs.lemmas.Bool.Decides.{nat_tests}
 use Rattle.base_122.specs.Ranges.{rows_range, apid_range, image_range, pixels_range, octets_range, IsWithin, is_within, field_test, fields, IsInRange as IsSettingInRange, IsWishInRange}

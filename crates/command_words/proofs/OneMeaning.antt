@@ -1,8 +1,8 @@
 -- Arguments have at most one meaning.
-use Rattle.std.proofs.Common.{◌≡◌, ◌<◌, ◌≤◌, ◌+◌, ◌^◌, ℕ, List, [], ◌∷◌, ◌++◌, map, decimal, get_or, refl, sym, ◌∙◌, ap, subst, inl, inr, arith, append_assoc, true, false}
-use Rattle.std.specs.Prelude.{codes, Some, None, Result, Ok, Err}
+use Rattle.std.proofs.Common.{◌≡◌, ◌<◌, ◌≤◌, ◌+◌, ◌^◌, ℕ, List, [], ◌∷◌, ◌++◌, map, decimal, get_or, refl, sym, ◌∙◌, ap, subst, inl, inr, arith, append_assoc, true, false, codes, Some, None, Result, Ok, Err}
 use Rattle.std.proofs.lemmas.Fmt.{decimal_injective, decimal_nonempty}
 use Rattle.std.proofs.lemmas.List.{get_or_append_left}
+use Rattle.std.proofs.lemmas.Bool.Decides.{nat_tests}
 use Rattle.base_122.specs.declared.weights.Weights.{Weights as TenWeights}
 use Rattle.base_122.specs.declared.setting.Select.TheVariants.{Heuristic, Optimal}
 use Rattle.command_words.specs.declared.tables.Task.{Task}
@@ -40,12 +40,7 @@ one_cap m n p q e = decimal_injective m n (omega arith) (omega arith) e
 
 one_stop : (p s q t : ℕ) → p < 2 ^ 32 → s < 2 ^ 32 → q < 2 ^ 32 → t < 2 ^ 32 →
     decimal p ++ codes "." ++ decimal s ≡ decimal q ++ codes "." ++ decimal t → StopAt p s ≡ StopAt q t
-one_stop p s q t in_p in_s in_q in_t e =
-    let parts = split_one 46 (decimal p) (decimal q) (decimal s) (decimal t) (no_dot p in_p) (no_dot q in_q)
-    (sym (append_assoc (decimal p) (codes ".") (decimal s)) ∙ e ∙ append_assoc (decimal q) (codes ".") (decimal t)) in
-    let plane = one_number p q in_p in_q parts.0 in
-    let stage = one_number s t in_s in_t parts.1 in
-    ap (λ n. StopAt n s) plane ∙ ap (StopAt q) stage
+one_stop p s q t in_p in_s in_q in_t e = grind (arith, nat_tests, split_one, decimal, no_dot, append_assoc, codes, one_number)
 
 one_shifts : (xs ys : List ℕ) → map (λ shift. 48 + shift) xs ≡ map (λ shift. 48 + shift) ys → xs ≡ ys
 one_shifts [] [] e = refl

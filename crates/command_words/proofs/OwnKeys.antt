@@ -1,9 +1,6 @@
 -- The arguments have no other keys than those of the command.
-use Rattle.std.proofs.Common.{◌≡◌, ◌+◌, ℕ, List, [], ◌∷◌, refl, sym, ◌∙◌, ap, subst, T, inl, inr, true, false}
-use Rattle.std.specs.Prelude.{◌==◌, Bool, cond, if◌then◌else◌, find, map, Option, Some, None, Result, Ok, Err}
+use Rattle.std.proofs.Common.{◌≡◌, ◌+◌, ℕ, List, [], ◌∷◌, refl, sym, ◌∙◌, ap, subst, T, inl, inr, true, false, ◌==◌, Bool, cond, if◌then◌else◌, find, map, Some, None, Ok, option_map, bytes_eq}
 use Rattle.std.specs.List.{list_any}
-use Rattle.std.specs.Option.{option_map}
-use Rattle.std.specs.Str.{bytes_eq}
 use Rattle.std.proofs.lemmas.Bool.{false≢true}
 use Rattle.std.proofs.Math.Facts.{eqb_yes}
 use Rattle.command_words.specs.declared.tables.Task.{Task}

@@ -1,6 +1,5 @@
 -- A fault's place is that of an argument.
-use Rattle.std.proofs.Common.{◌≡◌, ◌<◌, ◌+◌, ℕ, List, [], ◌∷◌, length, sym, subst, inl, inr, arith}
-use Rattle.std.specs.Prelude.{Result, Ok, Err, Option, Some, None, IfErr, String, string_bytes}
+use Rattle.std.proofs.Common.{◌≡◌, ◌<◌, ◌+◌, ℕ, List, [], ◌∷◌, length, sym, subst, inl, inr, arith, Result, Ok, Err, Option, Some, None, IfErr, String, string_bytes}
 use Rattle.std.specs.declared.alloc.Global.{Global}
 use Rattle.std.proofs.lemmas.List.{length-map}
 use Rattle.base_122.specs.declared.field.Field.{Field}

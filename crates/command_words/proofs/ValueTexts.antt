@@ -1,10 +1,10 @@
 -- The texts of values.
-use Rattle.std.proofs.Common.{◌≡◌, ◌≢◌, ◌<◌, ◌≤◌, ◌+◌, ◌^◌, ◌-◌, ◌/◌, ◌%◌, ℕ, zero, suc, List, [], ◌∷◌, ◌++◌, length, get_or, map, decimal, arith, append_assoc, sym, ◌∙◌, subst}
-use Rattle.std.specs.Prelude.{codes, All}
+use Rattle.std.proofs.Common.{◌≡◌, ◌≢◌, ◌<◌, ◌≤◌, ◌+◌, ◌^◌, ◌-◌, ◌/◌, ◌%◌, ℕ, zero, suc, List, [], ◌∷◌, ◌++◌, length, get_or, map, decimal, arith, append_assoc, sym, ◌∙◌, subst, codes, All}
 use Rattle.std.proofs.lemmas.Grind.{common_steps}
 use Rattle.std.proofs.lemmas.Fmt.{decimal_by_steps}
 use Rattle.std.proofs.lemmas.List.{length-map, get_or-map, ext_get_or}
 use Rattle.std.proofs.lemmas.List.Elements.{All-map, All-weaker, All-get_or, All-from_get_or}
+use Rattle.std.proofs.lemmas.Bool.Decides.{nat_tests}
 use Rattle.base_122.specs.Weights.{IsShift}
 use Rattle.command_words.specs.declared.tables.Form.TheVariants.{Stop, Weights}
 use Rattle.command_words.specs.declared.values.Value.{Value}
@@ -67,9 +67,4 @@ weights_from_digits text shifts ten as_many digits each = (All-from_get_or IsShi
     small k below = let k_below : k < 10 = omega arith in let d = in_digits k k_below in let e = each k k_below in omega (arith, d.0, d.1, e)
 
     same : (k : ℕ) → k < length text → get_or text k 0 ≡ get_or (map (λ shift. 48 + shift) shifts) k 0
-    same k below =
-        let k_below : k < 10 = omega arith in
-        let d = in_digits k k_below in
-        let e = each k k_below in
-        let m = get_or-map (λ shift. 48 + shift) shifts k 0 0 (omega arith) in
-        omega (arith, d.0, d.1, e, m)
+    same k below = grind (arith, nat_tests, in_digits, get_or-map)

@@ -1,6 +1,5 @@
 -- The arguments, one by one.
-use Rattle.std.proofs.Common.{◌≡◌, ◌≤◌, ◌-◌, ◌+◌, ℕ, List, [], ◌∷◌, length, sym, ◌∙◌, ap, arith, take, drop, get_or, inr}
-use Rattle.std.specs.Prelude.{String, string_bytes, Result}
+use Rattle.std.proofs.Common.{◌≡◌, ◌≤◌, ◌-◌, ◌+◌, ℕ, List, [], ◌∷◌, length, sym, ◌∙◌, ap, arith, take, drop, get_or, inr, String, string_bytes, Result}
 use Rattle.std.specs.declared.alloc.Global.{Global}
 use Rattle.std.proofs.lemmas.List.{take_rest}
 use Rattle.command_words.specs.Tables.{Finds}

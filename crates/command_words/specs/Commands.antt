@@ -10,7 +10,7 @@ use Rattle.raster_rows.specs.declared.made.MadeImage.{MadeImage}
 use Rattle.command_words.specs.declared.tables.Task.{Task}
 use Rattle.command_words.specs.declared.tables.Task.TheVariants.{Encode as to_encode, BareEncode as to_bare_encode, Trial as to_try}
 use Rattle.command_words.specs.declared.tables.Key.{Key}
-use Rattle.command_words.specs.declared.tables.Key.TheVariants.{Width, Rows, Limit, Word, Total, Apid, Cameras, Image}
+use Rattle.command_words.specs.declared.tables.Key.TheVariants.{Width, Rows, Limit, Word, Total, Apid}
 use Rattle.command_words.specs.declared.tables.Range.{Range}
 use Rattle.command_words.specs.declared.tables.Range.TheVariants.{All as any_value, Number as number_range, Cap as cap_range, Rows as few_rows, Limit as limit_range, Total as total_range, Fill as fill_range, Stop as stop_range, Weights as weights_range, Cameras as cameras_range}
 use Rattle.command_words.specs.declared.tables.TheConstants.{ALL}

@@ -1,40 +1,13 @@
 -- The lines of all packets of octets in memory.
-use Rattle.std.proofs.Common.{◌≡◌, ◌<◌, ◌∙◌, ℕ, true, false, List, [], ◌∷◌, ◌++◌, length, refl, sym, ap, subst, inl, inr, arith, append_assoc}
-use Rattle.std.specs.Prelude.{Some, None, Option, Ok}
-use Rattle.std.proofs.lemmas.Bool.{false≢true}
-use Rattle.std.proofs.lemmas.List.{append-nil}
+use Rattle.std.proofs.Common.{◌≡◌, ◌∙◌, ℕ, List, [], ◌++◌, sym, ap, subst, inl, inr, Some, None, Option, Ok, append-nil}
 use Rattle.port_122.specs.Outside.{Outside, Loses, Grows, IsUsedUp}
 use Rattle.base_122.specs.declared.wish.DecodeWish.{DecodeWish}
-use Rattle.packet_defs.specs.Packets.{joined}
-use Rattle.packet_defs.specs.Streams.{begins_packet, has_bad_version, left_over, whole_packets}
-use Rattle.packet_defs.proofs.Fronts.{version-append}
-use Rattle.packet_defs.proofs.Splits.{splits_whole, whole_splits}
+use Rattle.packet_defs.specs.Streams.{whole_packets}
 use Rattle.packet_list.specs.declared.list.ListDone.{ListDone}
 use Rattle.packet_list.specs.Lines.{lines_of, listing}
 use Rattle.packet_assembly.specs.Readings.{IsReadOut}
+use Rattle.packet_assembly.proofs.BadVersions.{bad_stays}
 use Rattle.packet_list.specs.Answers.{Lists}
-
--- ---- octets that can't be read on
-
-some_octets : (xs : List ℕ) → has_bad_version xs ≡ true → 0 < length xs
-some_octets [] bad = absurd (false≢true bad)
-some_octets (x ∷ xs) bad = omega arith
-
-none_begins : (xs : List ℕ) → has_bad_version xs ≡ true → begins_packet xs ≡ false
-unfolding begins_packet
-none_begins xs bad = rw bad refl
-
--- nothing that follows them adds a packet
-bad_stays : (took more : List ℕ) → has_bad_version (left_over took) ≡ true → whole_packets (took ++ more) ≡ whole_packets took
-bad_stays took more bad =
-    let parts = whole_splits took in
-    splits_whole {left = left_over took ++ more} (record {
-      octets_are = ap (λ xs. xs ++ more) parts.octets_are ∙ append_assoc (joined (whole_packets took)) (left_over took) more;
-      packets_are = parts.packets_are;
-      none_left = none_begins _ (version-append (left_over took) more (some_octets (left_over took) bad) ∙ bad);
-    })
-
--- ---- a list over memory
 
 -- what was taken of these octets, and what is left of them
 left_of : (octets took : List ℕ) (now : Option (List ℕ)) → Loses (Some octets) now took → (rest : List ℕ) × (octets ≡ took ++ rest) × (IsUsedUp now → rest ≡ [])

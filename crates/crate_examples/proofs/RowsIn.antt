@@ -1,9 +1,7 @@
 -- Rows that are taken, and packets that are given.
-use Rattle.std.proofs.Common.{◌≡◌, ◌≢◌, ◌<◌, ◌≤◌, ◌+◌, ◌-◌, ◌*◌, min, ℕ, zero, suc, ℤ, pos, Bool, false, List, [], ◌++◌, length, take, drop, refl, sym, ap, subst, ◌∙◌, arith, inl, inr, append_assoc}
-use Rattle.std.specs.Prelude.{Result, Ok, Err, MatchResult, OnOk, Vec}
+use Rattle.std.proofs.Common.{◌≡◌, ◌≢◌, ◌<◌, ◌≤◌, ◌+◌, ◌-◌, ◌*◌, ℕ, zero, suc, ℤ, pos, Bool, false, List, [], ◌++◌, length, take, drop, refl, sym, ap, subst, ◌∙◌, arith, inl, inr, append_assoc, Result, Ok, Err, MatchResult, OnOk, Vec, mul-le-mul_left, mul-le-mul_right}
 use Rattle.std.specs.Vec.{with_items}
-use Rattle.std.proofs.lemmas.List.{append-nil, with_items_is, get_or-take, get_or-drop, take_min, take-append-le}
-use Rattle.std.proofs.Math.Nat.{mul-le-mul_left, mul-le-mul_right}
+use Rattle.std.proofs.lemmas.List.{append-nil, with_items_is, get_or-take, get_or-drop}
 use Rattle.port_122.specs.Outside.{Outside, Exchange, NoRead, Rose}
 use Rattle.port_122.proofs.Stretches.{since_start, since_out, rose_since}
 use Rattle.base_122.specs.Ranges.{IsInRange}
@@ -25,6 +23,7 @@ use Rattle.strip_coder.specs.Plans.{plan_of, tallest}
 use Rattle.strip_coder.proofs.PlanLaws.{known_tallest}
 use Rattle.strip_coder.specs.Works.{IsMadeFor, HasTaken, FollowsRows, RepresentsNone}
 use Rattle.strip_coder.specs.Steps.{Continues, StopsEarly, IsRowInRange, RowIs, TakesRow, BreaksAt, EndsImage, EndBreaks}
+use Rattle.strip_coder.proofs.FrontsGiven.{take_front}
 use Rattle.crate_examples.specs.Frames.{HasOctets, LastStands, HasGiven, GaveAll, BrokeOff}
 
 -- ---- octets in a row
@@ -77,11 +76,6 @@ front_of last s all n (suc more) =
           ∙ joined-append (packets_of last s all (n + more)) (segment_packets last s all (n + more))
           ∙ ap (λ xs. xs ++ next) before.1 ∙ append_assoc (joined (packets_of last s all n)) before.0 next,
     )
-
-take_front : (some : ℕ) (xs rest : List ℕ) → (n : ℕ) × (take some xs ≡ take n (xs ++ rest))
-take_front some xs rest =
-    let n = min some (length xs) in
-    (n, sym (take_min some xs) ∙ sym (take-append-le n xs rest (omega arith)))
 
 module _ (s : Setting) (rows : ℕ) (image : ℕ → ℕ → ℤ) where
   -- a prefix of the packets of some segments is one of all packets

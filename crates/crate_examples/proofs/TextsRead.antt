@@ -1,6 +1,5 @@
 -- What was decoded of octets in memory.
-use Rattle.std.proofs.Common.{◌≡◌, ◌-◌, ℕ, ℤ, List, [], ◌++◌, length, take, drop, sym, ap, subst, ◌∙◌, arith}
-use Rattle.std.specs.Prelude.{Result, Ok, Err, MatchResult}
+use Rattle.std.proofs.Common.{◌≡◌, ◌-◌, ℕ, ℤ, List, [], ◌++◌, length, take, drop, sym, ap, subst, ◌∙◌, arith, Result, Ok, Err, MatchResult}
 use Rattle.std.proofs.lemmas.List.{append-nil, take_rest}
 use Rattle.bit_pipe.specs.declared.slice_in.SliceIn.{SliceIn}
 use Rattle.bit_pipe.specs.declared.fault.Part.{Part}

@@ -1,6 +1,5 @@
 -- What a decoder gives is the same outside the rectangles.
-use Rattle.std.proofs.Common.{◌≡◌, ℕ, ℤ, List, sym, ap, subst, ◌∙◌}
-use Rattle.std.specs.Prelude.{Some}
+use Rattle.std.proofs.Common.{◌≡◌, ℕ, ℤ, List, sym, ap, subst, ◌∙◌, Some}
 use Rattle.std.proofs.lemmas.Option.{same_Some}
 use Rattle.port_122.specs.Outside.{Outside}
 use Rattle.base_122.specs.Setting.{image_geometry}
@@ -14,11 +13,11 @@ use Rattle.stream_defs.specs.Picture.{picture, picture_octets, picture_with, who
 use Rattle.stream_defs.specs.Received.{ReceivedIn}
 use Rattle.rect_defs.specs.Rects.{rects}
 use Rattle.rect_defs.specs.RectLaws.{SameOutsideRects}
-use Rattle.strip_decoder.specs.declared.decode.DecodeDone.{DecodeDone}
-use Rattle.strip_decoder.specs.Answers.{IsPicture}
-use Rattle.strip_decoder.specs.Runs.{holds_after}
-use Rattle.strip_decoder.specs.Containment.{some_output, BeginsOne, reported, AreSome}
-use Rattle.strip_decoder.proofs.SublistPictures.{begun_few, geometry_there}
+use Rattle.segment_walk.specs.declared.ending.DecodeDone.{DecodeDone}
+use Rattle.segment_walk.specs.Answers.{IsPicture}
+use Rattle.segment_walk.specs.Runs.{holds_after}
+use Rattle.segment_walk.specs.Images.{some_output, BeginsOne, reported, AreSome}
+use Rattle.segment_walk.proofs.SublistPictures.{begun_few, geometry_there}
 use Rattle.damage_rects.specs.Containment.{GivesInRects, GivesAlikeInRects}
 use Rattle.damage_rects.proofs.SomePackets.{in_rects, sublist_in_rects}
 

@@ -1,6 +1,5 @@
 -- The gaps are kept while blocks are passed.
-use Rattle.std.proofs.Common.{◌≡◌, ◌≤◌, ◌<◌, ◌+◌, ◌*◌, ℕ, ℤ, Bool, true, false, List, [], ◌∷◌, ◌++◌, inl, inr, refl, sym, ap, subst, ◌∙◌, arith}
-use Rattle.std.specs.Prelude.{◌==◌, ◌&&◌, if◌then◌else◌, nat_lt, Option, None, Some, unwrap_or, All}
+use Rattle.std.proofs.Common.{◌≡◌, ◌≤◌, ◌<◌, ◌+◌, ◌*◌, ℕ, ℤ, Bool, true, false, List, [], ◌∷◌, ◌++◌, inl, inr, refl, sym, ap, subst, ◌∙◌, arith, ◌==◌, ◌&&◌, if◌then◌else◌, nat_lt, Option, None, Some, unwrap_or, All}
 use Rattle.std.proofs.lemmas.Bool.{cases_lt}
 use Rattle.std.proofs.lemmas.Bool.Decides.{nat_tests}
 use Rattle.std.proofs.lemmas.List.Elements.{All-cons, All-nil}
@@ -14,7 +13,7 @@ use Rattle.stream_defs.specs.Agreement.{blocks_of}
 use Rattle.rect_defs.specs.declared.gap.Gap.{Gap}
 use Rattle.rect_defs.specs.Gaps.{AreAll, AreGaps, lost_below}
 use Rattle.rect_defs.proofs.GapRects.{gaps_low}
-use Rattle.strip_decoder.specs.Sinks.{Blocks, Begins, EndsAt, Ends, Takes}
+use Rattle.segment_walk.specs.Sinks.{Blocks, Begins, EndsAt, Ends, Takes}
 use Rattle.damage_rects.specs.declared.gaps.Gaps.{Gaps}
 use Rattle.damage_rects.specs.GapSinks.{AreGapsOf, HasKept, StandsAt, gap_sink, lost_in}
 use Rattle.damage_rects.specs.Sizes.{IsWithinImage}

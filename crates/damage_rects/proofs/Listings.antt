@@ -1,8 +1,5 @@
 -- How a search for rectangles ends.
-use Rattle.std.proofs.Common.{◌≡◌, ◌≤◌, ◌<◌, ◌+◌, ◌-◌, ◌*◌, ◌/◌, ◌%◌, ℕ, ℤ, List, [], take, refl, sym, ap, subst, ◌∙◌, inl, inr, arith}
-use Rattle.std.specs.Prelude.{Bool, not, if◌then◌else◌, All, Option, None, Some, is_some, slice_index_or, Result, Ok, Err, IsOk, IsErr, false}
-use Rattle.std.specs.List.{flat_map}
-use Rattle.std.specs.Option.{option_map}
+use Rattle.std.proofs.Common.{◌≡◌, ◌≤◌, ◌<◌, ◌+◌, ◌-◌, ◌*◌, ◌/◌, ◌%◌, ℕ, ℤ, List, [], take, refl, sym, ap, subst, ◌∙◌, inl, inr, arith, Bool, not, if◌then◌else◌, All, Option, None, Some, is_some, slice_index_or, Result, Ok, Err, IsOk, IsErr, false, flat_map, option_map}
 use Rattle.std.proofs.lemmas.Bool.{false≢true}
 use Rattle.std.proofs.lemmas.Nat.{le-div}
 use Rattle.std.proofs.Math.Nat.{div-le_of_le-mul, div-mul-le_self, mul-le-mul_right}
@@ -23,14 +20,13 @@ use Rattle.rect_defs.specs.RectLines.{rect_lines}
 use Rattle.rect_defs.specs.Rects.{is_lost, rects}
 use Rattle.rect_defs.proofs.GapRects.{gaps_give}
 use Rattle.rect_defs.proofs.SameLost.{rects_same}
-use Rattle.strip_decoder.specs.declared.engine.Walked.{Walked}
-use Rattle.strip_decoder.specs.declared.decode.DecodeFault.{DecodeFault}
-use Rattle.strip_decoder.specs.declared.decode.DecodeFault.TheVariants.{ReadFault, WriteFault, NoSegment, TooManyPixels, LongInput, Memory}
-use Rattle.strip_decoder.specs.Runs.{Numbers, blocks_passed}
-use Rattle.strip_decoder.specs.Sinks.{blocks_with}
-use Rattle.strip_decoder.specs.Walks.{IsWalked, WalkAnswers, Walks}
-use Rattle.strip_decoder.proofs.Findings.{found_as, silent_since}
-use Rattle.strip_decoder.proofs.PictureWalks.{height_open, height_known, passed_open, passed_known}
+use Rattle.segment_walk.specs.declared.engine.Walked.{Walked}
+use Rattle.segment_walk.specs.declared.ending.DecodeFault.{DecodeFault}
+use Rattle.segment_walk.specs.declared.ending.DecodeFault.TheVariants.{ReadFault, WriteFault, NoSegment, TooManyPixels, LongInput, Memory}
+use Rattle.segment_walk.specs.Runs.{Numbers, blocks_passed}
+use Rattle.segment_walk.specs.Sinks.{blocks_with}
+use Rattle.segment_walk.specs.Walks.{IsWalked, WalkAnswers, Walks}
+use Rattle.segment_walk.proofs.Endings.{found_as, silent_since, height_open, height_known, passed_open, passed_known}
 use Rattle.damage_rects.specs.declared.gaps.Gaps.{Gaps}
 use Rattle.damage_rects.specs.GapSinks.{HasKept, HasOpen, gap_sink, lost_in}
 use Rattle.damage_rects.specs.Listing.{AreLines, ListsRects, RectAnswers}

@@ -13,9 +13,9 @@ use Rattle.stream_defs.specs.Received.{ReceivedIn}
 use Rattle.rect_defs.specs.Rects.{rects}
 use Rattle.rect_defs.specs.RectLaws.{SameOutsideRects}
 use Rattle.rect_defs.proofs.RectReach.{stays}
-use Rattle.strip_decoder.specs.Runs.{Numbers, holds_after}
-use Rattle.strip_decoder.specs.Containment.{AreWith, AreSome, reported, reported_rows, some_output}
-use Rattle.strip_decoder.proofs.SublistPictures.{all_shows, few_blocks, geometry_range, reported_is, with_all}
+use Rattle.segment_walk.specs.Runs.{Numbers, holds_after}
+use Rattle.segment_walk.specs.Images.{AreWith, AreSome, reported, reported_rows, some_output}
+use Rattle.segment_walk.proofs.SublistPictures.{all_shows, few_blocks, geometry_range, reported_is, with_all}
 
 -- whatever numbers the missing blocks have
 pub in_rects : (g : Geometry) (received : Numbers) (numbers : ℕ → ℕ → ℤ) (n : ℕ) → IsGeometryInRange g → AreWith g received numbers n →

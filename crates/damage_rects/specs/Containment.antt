@@ -13,10 +13,10 @@ use Rattle.stream_defs.specs.Picture.{picture, picture_octets, picture_with, who
 use Rattle.stream_defs.specs.Received.{ReceivedIn}
 use Rattle.rect_defs.specs.Rects.{rects}
 use Rattle.rect_defs.specs.RectLaws.{SameOutsideRects}
-use Rattle.strip_decoder.specs.declared.decode.DecodeDone.{DecodeDone}
-use Rattle.strip_decoder.specs.Answers.{IsPicture}
-use Rattle.strip_decoder.specs.Containment.{AreWith, AreSome, BeginsOne, reported, some_output}
-use Rattle.strip_decoder.specs.Runs.{Numbers, holds_after}
+use Rattle.segment_walk.specs.declared.ending.DecodeDone.{DecodeDone}
+use Rattle.segment_walk.specs.Answers.{IsPicture}
+use Rattle.segment_walk.specs.Images.{AreWith, AreSome, BeginsOne, reported, some_output}
+use Rattle.segment_walk.specs.Runs.{Numbers, holds_after}
 
 -- What is given is the picture of these segments, and whatever numbers the blocks of others have, no pixel outside their rectangles changes.
 pub record GivesInRects (wish : DecodeWish) (took gave : List ℕ) (done : DecodeDone) : Type 0 where

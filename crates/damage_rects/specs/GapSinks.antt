@@ -5,7 +5,7 @@ use Rattle.base_122.specs.declared.geometry.Geometry.{Geometry}
 use Rattle.stream_defs.specs.Agreement.{blocks_of}
 use Rattle.rect_defs.specs.declared.gap.Gap.{Gap}
 use Rattle.rect_defs.specs.Gaps.{AreAll, AreGaps}
-use Rattle.strip_decoder.specs.Sinks.{Blocks, SinkOf}
+use Rattle.segment_walk.specs.Sinks.{Blocks, SinkOf}
 use Rattle.damage_rects.specs.declared.gaps.Gaps.{Gaps}
 
 -- a block is missing

@@ -9,13 +9,12 @@ use Rattle.stream_defs.specs.Received.{ReceivedIn}
 use Rattle.packet_assembly.specs.Readings.{IsReadOut}
 use Rattle.rect_defs.specs.RectLines.{rect_lines}
 use Rattle.rect_defs.specs.Rects.{rects}
-use Rattle.strip_decoder.specs.declared.decode.DecodeDone.{DecodeDone}
-use Rattle.strip_decoder.specs.declared.decode.DecodeFault.{DecodeFault}
-use Rattle.strip_decoder.specs.declared.decode.DecodeFault.TheVariants.{ReadFault, WriteFault, NoSegment, TooManyPixels, LongInput, Memory}
-use Rattle.strip_decoder.specs.Answers.{PictureBy}
-use Rattle.strip_decoder.specs.Finding.{AsksSilent}
-use Rattle.strip_decoder.specs.Runs.{Numbers, HasFewKnown, holds_after}
-use Rattle.strip_decoder.specs.Walks.{HasTooMany}
+use Rattle.segment_walk.specs.declared.ending.DecodeDone.{DecodeDone}
+use Rattle.segment_walk.specs.declared.ending.DecodeFault.{DecodeFault}
+use Rattle.segment_walk.specs.declared.ending.DecodeFault.TheVariants.{ReadFault, WriteFault, NoSegment, TooManyPixels, LongInput, Memory}
+use Rattle.segment_walk.specs.Answers.{PictureBy, AsksSilent}
+use Rattle.segment_walk.specs.Runs.{Numbers, HasFewKnown, holds_after}
+use Rattle.segment_walk.specs.Walks.{HasTooMany}
 
 -- For the octets that were taken the answer is a decoder's, and these are the lines of the rectangles that the missing blocks reach.
 pub record AreLines (wish : DecodeWish) (start new : Outside) (took lines : List ℕ) (done : DecodeDone) : Type 0 where

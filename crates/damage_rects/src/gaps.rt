@@ -6,8 +6,8 @@ ghost use Rattle.damage_rects.specs.GapSinks.{HasKept, HasOpen};
 use base_122::Geometry;
 use port_122::{Failed, Port};
 use rect_defs::Gap;
+use segment_walk::BlockSink;
 use std::alloc::{AllocError, Global};
-use strip_decoder::BlockSink;
 
 /// A sink that keeps the gaps between the blocks of an image, in a list that grows while blocks are passed.
 ///

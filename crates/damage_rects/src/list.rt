@@ -7,8 +7,8 @@ use crate::gaps::{Gaps, into_gaps};
 use crate::lines::{PictureSize, give_rects};
 use base_122::DecodeWish;
 use port_122::Port;
+use segment_walk::{DecodeDone, DecodeFault, walk_segments};
 use std::alloc::Global;
-use strip_decoder::{DecodeDone, DecodeFault, walk_segments};
 
 /// Takes the packets of an APID as `decode_packets` does and returns what it returns. It gives no row: after all is read, it gives a line
 /// `27-77 0-63` for each rectangle that missing blocks reach, rows first, then columns (docs/formats.md, "Picture and damage"). Segments

@@ -1,9 +1,8 @@
 -- A look at all packets of an image is its lowest band.
-use Rattle.std.proofs.Common.{◌≡◌, ◌<◌, ℕ, ℤ, List, refl, sym, ap, subst, ◌∙◌, arith}
-use Rattle.std.specs.Prelude.{Some}
+use Rattle.std.proofs.Common.{◌≡◌, ◌<◌, ℕ, ℤ, List, refl, sym, ap, subst, ◌∙◌, arith, Some}
 use Rattle.std.proofs.lemmas.Option.{same_Some}
 use Rattle.port_122.specs.Outside.{Outside}
-use Rattle.base_122.specs.Setting.{image_geometry}
+use Rattle.base_122.specs.Setting.{image_geometry, sized}
 use Rattle.base_122.specs.Sizes.{block_count}
 use Rattle.base_122.specs.declared.geometry.Geometry.{Geometry}
 use Rattle.base_122.specs.declared.setting.Setting.{Setting}
@@ -18,12 +17,12 @@ use Rattle.stream_defs.specs.Received.{ReceivedIn}
 use Rattle.stream_defs.proofs.HeightPictures.{raster_same}
 use Rattle.stream_defs.proofs.PlacedLaws.{is_not_open, within_not}
 use Rattle.wave_defs.specs.Pyramid.{Pyramid, padded, pyramid}
-use Rattle.strip_decoder.specs.declared.decode.DecodeDone.{DecodeDone}
-use Rattle.strip_decoder.specs.Containment.{IsImageFor}
-use Rattle.strip_decoder.specs.RoundTrip.{SendsAll}
-use Rattle.strip_decoder.specs.Runs.{Numbers, holds_after}
-use Rattle.strip_decoder.proofs.RoundTrips.{block_same}
-use Rattle.strip_decoder.proofs.WholeImages.{geometry_told}
+use Rattle.segment_walk.specs.declared.ending.DecodeDone.{DecodeDone}
+use Rattle.segment_walk.specs.Images.{IsImageFor, SendsAll}
+use Rattle.segment_walk.specs.Runs.{Numbers, holds_after}
+use Rattle.picture_rows.proofs.SameImages.{block_same}
+use Rattle.segment_walk.proofs.SublistPictures.{sized_range}
+use Rattle.segment_walk.proofs.WholeImages.{geometry_told, number_is}
 use Rattle.quick_look.specs.Look.{look, look_octets}
 use Rattle.quick_look.specs.Looks.{IsLook}
 use Rattle.quick_look.specs.LookLaws.{low_image}
@@ -49,7 +48,8 @@ module _ (short : TextsAreShort) (holds : CodedHolds) (exact : CodedHoldsExactly
   pub look_is : (t k : ℕ) → t < r → k < c → look g received t k ≡ low_image s rows x t k
   look_is t k row column =
       let low = pyramid_with (number_at g received) c weights in
-      let there : low.ll3 t k ≡ bands.ll3 t k = sym (first_is low t k) ∙ (block_same short holds exact s rows x is received received_is sends t k row column).at 0 (omega arith) ∙ first_is bands t k in
+      let same = block_same (sized s rows) x (sized_range short s rows x is) is.height.0 is.pixels.at (number_at g received) (number_is short s rows x is received received_is holds exact sends) t k row column in
+      let there : low.ll3 t k ≡ bands.ll3 t k = sym (first_is low t k) ∙ same.at 0 (omega arith) ∙ first_is bands t k in
       ap (clamped s.depth s.signed) (low_is g (number_at g received) t k ∙ there)
 
 -- ---- what a look gives

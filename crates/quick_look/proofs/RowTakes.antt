@@ -1,10 +1,8 @@
 -- A row of a look that takes a block.
-use Rattle.std.proofs.Common.{◌≡◌, ◌≤◌, ◌<◌, ◌+◌, ◌*◌, ◌/◌, ◌%◌, ℕ, zero, suc, ℤ, pos, List, [], ◌∷◌, ◌++◌, length, take, map, set, get_or, refl, sym, ap, subst, ◌∙◌, inl, inr, arith}
-use Rattle.std.specs.Prelude.{Option, None, Result, Ok, Err, MatchResult, vec_len}
+use Rattle.std.proofs.Common.{◌≡◌, ◌≤◌, ◌<◌, ◌+◌, ◌*◌, ◌/◌, ◌%◌, ℕ, zero, suc, ℤ, pos, List, [], ◌∷◌, ◌++◌, length, take, map, set, get_or, refl, sym, ap, subst, ◌∙◌, inl, inr, arith, Option, None, Result, Ok, Err, MatchResult, vec_len, append-nil, get_or-set_other}
 use Rattle.std.specs.List.{range_with_len}
 use Rattle.std.proofs.lemmas.Bool.{cases_lt}
 use Rattle.std.proofs.lemmas.Grind.{get_or-set_at}
-use Rattle.std.proofs.lemmas.List.{append-nil, get_or-set_other}
 use Rattle.std.proofs.lemmas.List.FromFn.{take-map-range_with_len}
 use Rattle.std.proofs.lemmas.Nat.{div-add-mod', div-mul-add, mod-mul-add, mod_below}
 use Rattle.std.proofs.Math.Seq.{take-append-add}
@@ -16,8 +14,7 @@ use Rattle.wave_defs.proofs.BlockLaws.{table_of}
 use Rattle.raster_rows.specs.Pixels.{IsDepth, clamped, pixel_octets}
 use Rattle.raster_rows.proofs.RasterLaws.{row_pixels}
 use Rattle.raster_rows.proofs.MadeLaws.{raster_octets-more}
-use Rattle.strip_decoder.specs.Sinks.{Blocks, Takes, Fails, EndsImage}
-use Rattle.strip_decoder.specs.PictureSinks.{numbers_in}
+use Rattle.segment_walk.specs.Sinks.{Blocks, Takes, Fails, EndsImage, numbers_in}
 use Rattle.quick_look.specs.declared.row.LookRow.{LookRow}
 use Rattle.quick_look.specs.Look.{low_with, look_with}
 use Rattle.quick_look.specs.LookSinks.{StandsAt, ShowsLook, first_rows, look_sink, low_of}

@@ -9,10 +9,9 @@ use Rattle.raster_rows.specs.Pixels.{clamped, raster_octets}
 use Rattle.wave_defs.specs.Pyramid.{padded, pyramid}
 use Rattle.stream_defs.specs.Output.{output}
 use Rattle.stream_defs.specs.Received.{ReceivedIn}
-use Rattle.strip_decoder.specs.declared.decode.DecodeDone.{DecodeDone}
-use Rattle.strip_decoder.specs.Containment.{IsImageFor}
-use Rattle.strip_decoder.specs.RoundTrip.{SendsAll}
-use Rattle.strip_decoder.specs.Runs.{Numbers, holds_after}
+use Rattle.segment_walk.specs.declared.ending.DecodeDone.{DecodeDone}
+use Rattle.segment_walk.specs.Images.{IsImageFor, SendsAll}
+use Rattle.segment_walk.specs.Runs.{Numbers, holds_after}
 use Rattle.quick_look.specs.Look.{look}
 use Rattle.quick_look.specs.Looks.{IsLook}
 

@@ -1,9 +1,7 @@
 -- The effect of a run of `bare-encode` and `bare-decode` after its note, and what follows for each status.
-use Rattle.std.proofs.Common.{◌≡◌, ◌≤◌, ◌+◌, ℕ, ℤ, List, [], ◌∷◌, ◌++◌, length, refl, sym, ◌∙◌, ap, subst, arith, length-append, inl, inr}
-use Rattle.std.specs.Prelude.{Option, None, Some, Result, Ok, Err}
-use Rattle.std.proofs.lemmas.List.{append-nil}
-use Rattle.port_122.specs.Outside.{Outside, Exchange, NoRead, Rose, GivenBy, AtEnd, Grows}
-use Rattle.port_122.proofs.Stretches.{since_start, at_end_later}
+use Rattle.std.proofs.Common.{◌≡◌, ℕ, List, [], length, refl, sym, ◌∙◌, ap, subst, arith, inl, inr, Option, None, Some, Result, Ok, Err, append-nil}
+use Rattle.port_122.specs.Outside.{Outside, Exchange, NoRead, GivenBy, AtEnd, Grows}
+use Rattle.port_122.proofs.Stretches.{at_end_later}
 use Rattle.port_122.proofs.Told.{end_told}
 use Rattle.base_122.specs.declared.book.Book.{Book}
 use Rattle.base_122.specs.declared.geometry.Geometry.{Geometry}
@@ -25,15 +23,13 @@ use Rattle.bare_stream.specs.declared.fault.BareFault.TheVariants.{ReadFault as 
 use Rattle.bare_stream.specs.Rasters.{texts_for}
 use Rattle.bare_stream.specs.Answers.{BareAnswers, EncodesBare as EncodesOver}
 use Rattle.bare_stream.specs.BareStream.{BareStream}
-use Rattle.bare_stream.specs.SegmentsRead.{SegmentsRead, Told, rows_with}
-use Rattle.bare_stream.specs.Decoded.{DecidesHead, Refuses, first_of, ReadThen, StreamThen, BareReasons, GivesRead, EndsSo, AsksRead, DecodesBare}
-use Rattle.bare_stream.specs.Bare.{bare}
-use Rattle.bare_stream.specs.Images.{IsBareImage}
-use Rattle.bare_stream.specs.RoundTrip.{ReadsWhole, StreamsAreRead, GivesImage, BareRoundTrip}
+use Rattle.bare_stream.specs.SegmentsRead.{SegmentsRead, rows_with}
+use Rattle.bare_stream.specs.Decoded.{DecidesHead, Refuses, first_of, ReadThen, BareReasons, GivesRead, EndsSo, AsksRead, DecodesBare}
+use Rattle.bare_stream.specs.RoundTrip.{ReadsWhole, StreamsAreRead, BareRoundTrip}
 use Rattle.bare_stream.proofs.HeadsRefused.{are_so}
 use Rattle.strip122.specs.Notes.{IsNoted, Notes, fault_status, fault_line, memory_line, bare_fault_status, bare_fault_line}
 use Rattle.strip122.specs.Ran.{CausedWithin}
-use Rattle.strip122.specs.BareStreams.{EncodesBare, EncodedBare, encodes_bare, bare_status, bare_line, BareCauses, AsksBare, DecodesStream, IsStreamOf, GivesPicture, BareRefuses, decodes_bare, GaveBare}
+use Rattle.strip122.specs.BareStreams.{EncodesBare, EncodedBare, encodes_bare, bare_status, bare_line, BareCauses, DecodesStream, IsStreamOf, GivesPicture, BareRefuses, decodes_bare, GaveBare}
 use Rattle.strip122.proofs.NoteLines.{ran_on, nothing_noted}
 use Rattle.strip122.proofs.Behaviours.{AtStatus, Law}
 use Rattle.strip122.proofs.Encoded.{EncoderSays, IsEncoder, encoder_law}
@@ -70,10 +66,6 @@ bare_encode_law s = encoder_law s (BareAnswers s) (texts_for s) (EncodedBare s) 
 -- there is too little memory, and this is noted
 pub bare_lacks_memory : (s : Setting) (a b : Outside) → Notes a b memory_line → EncodesBare s a b 6
 bare_lacks_memory s a b n = inl (record { wrote = n.0; since = n.1; status_is = refl; noted = n.2 })
-
--- the encoder's run, and nothing to note
-pub bare_encoded : (s : Setting) (a b : Outside) (done : EncodeDone) → EncodesOver s a b (Ok done) → EncodesBare s a b 0
-bare_encoded s a b done run = inr (ran_on a b b (Ok done) run.took run.gave [] 0 run.since run.answer (since_start b NoRead) refl (inl refl))
 
 -- the encoder's run, and then its note
 pub bare_encode_failed : (s : Setting) (a b c : Outside) (fault : EncodeFault) (status : ℕ) → EncodesOver s a b (Err fault) → Notes b c (fault_line fault) → status ≡ fault_status fault → EncodesBare s a c status
@@ -145,13 +137,6 @@ ends_later a b c wrote n (Err LongInput) k = tt
 ends_later a b c wrote n (Err read_failed) k = omega (arith, k, n.faults.reads)
 ends_later a b c wrote n (Err write_failed) k = omega (arith, k, n.faults.writes)
 ends_later a b c wrote n (Err Memory) k = tt
-
--- a bare stream was read, and there is nothing to note
-pub bare_decoded : (wish : DecodeWish) (a b : Outside) (g : Geometry) → DecodesBare wish a b (Ok g) → DecodesStream wish a b 0
-bare_decoded wish a b g run = (
-  run.read,
-  ran_on a b b (Ok g) run.took run.gave [] 0 run.since (record { within = run.within; cause = record { gives = run.gives; ends = run.ends; reason = run.reason } }) (since_start b NoRead) refl (inl refl),
-)
 
 -- the decoder's run, and then its note
 pub bare_decode_failed : (wish : DecodeWish) (a b c : Outside) (fault : BareFault) (status : ℕ) → DecodesBare wish a b (Err fault) → Notes b c (bare_fault_line fault) → status ≡ bare_fault_status fault → DecodesStream wish a c status

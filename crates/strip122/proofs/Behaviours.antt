@@ -1,6 +1,5 @@
 -- What follows for each status of a command, from the law of its behaviour.
-use Rattle.std.proofs.Common.{◌≡◌, ℕ, zero, suc, refl, sym, subst, inl, inr}
-use Rattle.std.specs.Prelude.{◌⊎◌}
+use Rattle.std.proofs.Common.{◌≡◌, ℕ, zero, suc, refl, sym, subst, inl, inr, ◌⊎◌}
 use Rattle.port_122.specs.Outside.{Outside, Rose}
 use Rattle.strip122.specs.Behaviours.{Behaviour, IsSteady, Completes, memory_first}
 

@@ -1,7 +1,6 @@
 -- The law of a command whose input begins with a code book.
-use Rattle.std.proofs.Common.{◌≡◌, ◌<◌, ◌≤◌, ◌+◌, ℕ, zero, suc, List, [], ◌∷◌, ◌++◌, length, refl, sym, ◌∙◌, ap, subst, arith, inl, inr, length-append}
-use Rattle.std.specs.Prelude.{◌⊎◌, Bool, true, false, Option, Some, None, Result, Ok, Err}
-use Rattle.port_122.specs.Outside.{Outside, Exchange, Loses, Rose, AtEnd}
+use Rattle.std.proofs.Common.{◌≡◌, ◌≤◌, ℕ, zero, suc, List, [], ◌∷◌, ◌++◌, length, refl, sym, ◌∙◌, ap, subst, arith, inl, inr, length-append, ◌⊎◌, Bool, true, false, Option, Some, None, Ok, Err}
+use Rattle.port_122.specs.Outside.{Outside, Loses}
 use Rattle.port_122.proofs.Stretches.{rose_since}
 use Rattle.port_122.proofs.Told.{end_told}
 use Rattle.base_122.specs.declared.book.Book.{Book}
@@ -10,7 +9,7 @@ use Rattle.code_book.specs.declared.fault.BookFault.{BookFault}
 use Rattle.code_book.specs.declared.fault.BookFault.TheVariants.{ReadFault, Short, BadMark, BadLength, BadBits, Clash, Incomplete}
 use Rattle.code_book.specs.Reading.{ReadsBook, book_read}
 use Rattle.strip122.specs.Behaviours.{Behaviour}
-use Rattle.strip122.specs.Books.{AfterBook, LacksBook, EndsAtBook, RefusesBook, BeginsWithBook, BeginsWithNone, ByBook, book_status, by_book, with_book}
+use Rattle.strip122.specs.Books.{AfterBook, LacksBook, BeginsWithBook, BeginsWithNone, ByBook, book_status, by_book, with_book}
 use Rattle.strip122.proofs.Behaviours.{AtStatus, Law}
 
 -- ---- the octets of the book

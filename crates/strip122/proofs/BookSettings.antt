@@ -6,9 +6,6 @@ use Rattle.base_122.specs.declared.book.Book.{Book}
 use Rattle.base_122.specs.declared.setting.Setting.{Setting}
 use Rattle.plane_defs.specs.Codes.{is_book_sound}
 use Rattle.plane_defs.proofs.ProfileSound.{profile_sound}
-use Rattle.segment_code.specs.declared.encode.SegmentWriter.{SegmentWriter}
-use Rattle.strip_coder.specs.declared.work.Work.{Work}
-use Rattle.strip_coder.specs.Works.{IsMadeFor}
 
 -- the profile's book is sound
 pub sound_profile : {book : Book} → book ≡ profile → is_book_sound book ≡ true
@@ -35,7 +32,3 @@ range_with_book s book range = record {
     | inr has ↦ inr (record { rows = has.rows; limit = has.limit; within = has.within })
   ];
 }
-
--- a work goes by the other fields, if its writer has the book
-pub made_with_book : (s : Setting) (book : Book) (w : Work) (writer : SegmentWriter) → IsMadeFor s w → writer.tables.book ≡ book → IsMadeFor (record s { book = book }) (record w { writer = writer })
-made_with_book s book w writer made is = record { row = made.row; blocks = made.blocks; marks = made.marks; strip = made.strip; packet = made.packet; writer = is; room = made.room }

@@ -1,7 +1,5 @@
 -- The note on damaged rows, range by range.
-use Rattle.std.proofs.Common.{◌≡◌, ◌≤◌, ◌+◌, ℕ, List, [], ◌∷◌, ◌++◌, length, take, sym, ◌∙◌, ap, subst, arith, length-append, append_assoc}
-use Rattle.std.specs.Prelude.{Bool, true, Option, None, Some, Result, Ok, Err, IsErr, codes}
-use Rattle.std.specs.List.{flat_map}
+use Rattle.std.proofs.Common.{◌≡◌, ◌≤◌, ◌+◌, ℕ, List, [], ◌∷◌, ◌++◌, length, take, sym, ◌∙◌, ap, subst, arith, length-append, append_assoc, Bool, true, Option, None, Some, Result, Ok, Err, IsErr, codes, flat_map}
 use Rattle.std.proofs.lemmas.Bool.{false≢true}
 use Rattle.std.proofs.lemmas.Grind.{flat_map-append}
 use Rattle.std.proofs.lemmas.List.{append-nil, take-append-le}
@@ -70,11 +68,6 @@ noted_all m old now from noted found =
 -- there is none
 pub none_there : (m : Marks) → None ≡ next_range m 0 → damaged m ≡ []
 none_there m found = (walk_start m).parts ∙ walk_ends m 0 (walk_start m) found
-
-pub some_there : (m : Marks) (range : RowRange) → Some range ≡ next_range m 0 → ranges_text (damaged m) ≡ flat_map range_text (damaged m)
-some_there m range found =
-    let next = stands_next m 0 (walk_start m) range found in
-    ap ranges_text next.after_is ∙ sym (ap (flat_map range_text) next.after_is)
 
 -- ---- the whole line
 

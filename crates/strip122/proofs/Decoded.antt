@@ -1,6 +1,5 @@
 -- The effect of a run of `decode`, `damage`, `look` and `rects` after its note, and what follows for each status.
-use Rattle.std.proofs.Common.{◌≡◌, ◌≤◌, ◌<◌, ◌*◌, ℕ, List, [], ◌∷◌, length, refl, sym, ◌∙◌, ap, subst, arith, inl, inr, true, false}
-use Rattle.std.specs.Prelude.{◌≢◌, ◌⊎◌, ◌==◌, Bool, not, Option, None, Some, Result, Ok, Err, filter, All}
+use Rattle.std.proofs.Common.{◌≡◌, ◌≤◌, ◌<◌, ◌*◌, ℕ, List, [], ◌∷◌, length, refl, sym, ◌∙◌, ap, subst, arith, inl, inr, true, false, ◌≢◌, ◌⊎◌, ◌==◌, Bool, not, Option, None, Some, Result, Ok, Err, filter, All}
 use Rattle.std.specs.List.{range_with_len}
 use Rattle.std.proofs.lemmas.Bool.{false≢true, eq-eqb}
 use Rattle.std.proofs.lemmas.List.Elements.{All-filter, All-get_or, All-from_get_or}
@@ -14,20 +13,22 @@ use Rattle.packet_defs.specs.Streams.{left_over, has_bad_version}
 use Rattle.packet_defs.specs.declared.packet.Framing.{Framing}
 use Rattle.stream_defs.specs.declared.range.RowRange.{RowRange}
 use Rattle.stream_defs.specs.Damage.{is_covered, is_damaged, is_missing as is_missing_of, missing_below}
-use Rattle.stream_defs.specs.Begun.{HasFewPixels, begun_in, height}
+use Rattle.stream_defs.specs.Begun.{HasFewPixels, begun_in}
 use Rattle.stream_defs.specs.Fates.{geometry_in}
 use Rattle.stream_defs.specs.Marks.{Marks}
 use Rattle.stream_defs.proofs.DamageLaws.{whole_damage}
 use Rattle.stream_defs.proofs.PlacedLaws.{is_open, is_not_open}
 use Rattle.damage_rows.specs.Table.{is_missing}
 use Rattle.damage_rows.proofs.RangeLaws.{damaged_by}
-use Rattle.strip_decoder.specs.declared.decode.DecodeDone.{DecodeDone}
-use Rattle.strip_decoder.specs.declared.decode.DecodeFault.{DecodeFault}
-use Rattle.strip_decoder.specs.declared.decode.DecodeFault.TheVariants.{ReadFault, WriteFault, NoSegment, TooManyPixels, LongInput, Memory}
+use Rattle.segment_walk.specs.declared.ending.DecodeDone.{DecodeDone}
+use Rattle.segment_walk.specs.declared.ending.DecodeFault.{DecodeFault}
+use Rattle.segment_walk.specs.declared.ending.DecodeFault.TheVariants.{ReadFault, WriteFault, NoSegment, TooManyPixels, LongInput, Memory}
 use Rattle.packet_assembly.specs.Readings.{IsReadOut}
-use Rattle.strip_decoder.specs.Answers.{PictureBy, Answers, Asks, Decodes as DecodesOver}
+use Rattle.segment_walk.specs.Answers.{PictureBy}
+use Rattle.strip_decoder.specs.Answers.{Answers, Asks, Decodes as DecodesOver}
 use Rattle.strip_decoder.specs.Finding.{GivesSome, FindAnswers, Finds}
-use Rattle.strip_decoder.specs.Runs.{ReportsMany}
+use Rattle.segment_walk.specs.Runs.{ReportsMany}
+use Rattle.segment_walk.proofs.Endings.{height_known}
 use Rattle.quick_look.specs.Looks.{LookAnswers, LookAsks, Looks}
 use Rattle.damage_rects.specs.Listing.{AreLines, GivesSome as GivesSomeLines, RectAnswers, ListsRects}
 use Rattle.strip122.specs.Notes.{IsNoted, Notes, decoder_fault_status, decoder_fault_line}
@@ -159,9 +160,6 @@ known_some g known none = let open_rows = is_open g.rows none in let shut : not 
 
 pub some_known : (g : Geometry) → g.rows ≢ 0 → is_known g ≡ true
 some_known g some = ap not (is_not_open g.rows some)
-
-height_known : (g : Geometry) (n : ℕ) → g.rows ≢ 0 → height g n ≡ g.rows
-height_known g n some = let e = is_not_open g.rows some in rw e refl
 
 -- ---- nothing is damaged only if nothing is missing
 

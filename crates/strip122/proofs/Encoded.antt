@@ -1,18 +1,17 @@
 -- The effect of a run of `encode` after its note, and what follows for each status.
-use Rattle.std.proofs.Common.{◌≡◌, ◌+◌, ◌*◌, ℕ, List, [], ◌++◌, length, refl, sym, ◌∙◌, ap, subst, arith, length-append, inl, inr}
-use Rattle.std.specs.Prelude.{Result, Ok, Err, Some}
+use Rattle.std.proofs.Common.{◌≡◌, ◌+◌, ◌*◌, ℕ, List, [], ◌++◌, length, refl, sym, ◌∙◌, ap, subst, arith, length-append, inl, inr, Result, Ok, Err, Some}
 use Rattle.port_122.specs.Outside.{Outside, Exchange, NoRead, Rose, GivenBy, AtEnd}
-use Rattle.port_122.proofs.Stretches.{since_start, at_end_later}
+use Rattle.port_122.proofs.Stretches.{at_end_later}
 use Rattle.port_122.proofs.Told.{end_told}
 use Rattle.base_122.specs.declared.book.Book.{Book}
 use Rattle.base_122.specs.declared.setting.Setting.{Setting}
 use Rattle.strip_coder.specs.declared.encode.EncodeDone.{EncodeDone}
 use Rattle.strip_coder.specs.declared.encode.EncodeFault.{EncodeFault}
 use Rattle.strip_coder.specs.declared.encode.EncodeFault.TheVariants.{ReadFault, WriteFault, Short, Long, BadPixel}
-use Rattle.strip_coder.specs.Rasters.{row_length, most_length, LacksRows, given_for}
+use Rattle.strip_coder.specs.Rasters.{most_length, LacksRows, given_for}
 use Rattle.strip_coder.specs.Answers.{Answers, AllInRange, FirstBad, TookRaster, EncodesImage}
 use Rattle.strip122.specs.Notes.{IsNoted, Notes, fault_status, fault_line, memory_line}
-use Rattle.strip122.specs.Encoding.{EncoderCauses, AsksGiven, encode_status, encode_line, RunsRaster, EncodedWhole, EncoderRefuses, takes_raster, encoder, encodes_raster, encodes, encodes_with_book}
+use Rattle.strip122.specs.Encoding.{EncoderCauses, encode_status, encode_line, RunsRaster, EncodedWhole, EncoderRefuses, takes_raster, encoder, encodes_raster, encodes, encodes_with_book}
 use Rattle.strip122.specs.Books.{with_book}
 use Rattle.strip122.specs.Ran.{LacksMemory}
 use Rattle.strip122.proofs.BookRuns.{with_book_law}
@@ -135,10 +134,6 @@ encode_book_law s =
 -- there is too little memory, and this is noted
 pub lacks_memory : (a b : Outside) → Notes a b memory_line → LacksMemory a b 6
 lacks_memory a b n = record { wrote = n.0; since = n.1; status_is = refl; noted = n.2 }
-
--- the encoder's run, and nothing to note
-pub encoded : (s : Setting) (a b : Outside) (done : EncodeDone) → EncodesImage s a b (Ok done) → (encodes_raster s).performs a b 0
-encoded s a b done run = (ran_on a b b (Ok done) run.took run.gave [] 0 run.since run.answer (since_start b NoRead) refl (inl refl))
 
 -- the encoder's run, and then its note
 pub encode_failed : (s : Setting) (a b c : Outside) (fault : EncodeFault) (status : ℕ) → EncodesImage s a b (Err fault) → Notes b c (fault_line fault) →

@@ -1,6 +1,5 @@
 -- What a picture that `decode` gave shows, and what a look shows.
-use Rattle.std.proofs.Common.{◌≡◌, ◌≤◌, ℕ, ℤ, List, [], ◌∷◌, sym, ◌∙◌, ap, subst, arith, refl, inl, inr, true, false}
-use Rattle.std.specs.Prelude.{◌≢◌, ◌⊎◌, ◌&&◌, nat_le, nat_lt, Bool, Option, None, Some, Result, Ok, Err}
+use Rattle.std.proofs.Common.{◌≡◌, ◌≤◌, ℕ, ℤ, List, [], ◌∷◌, sym, ◌∙◌, ap, subst, arith, refl, inl, inr, true, false, ◌≢◌, ◌⊎◌, ◌&&◌, nat_le, nat_lt, Bool, Option, None, Some, Result, Ok, Err}
 use Rattle.std.proofs.lemmas.Bool.{false≢true}
 use Rattle.std.proofs.lemmas.Bool.Decides.{nat_tests}
 use Rattle.std.proofs.Math.Bool.{and-false}
@@ -20,17 +19,19 @@ use Rattle.stream_defs.specs.Picture.{picture_octets}
 use Rattle.stream_defs.specs.Received.{AreReceived}
 use Rattle.stream_defs.proofs.DamageLaws.{whole_damage}
 use Rattle.stream_defs.proofs.PlacedLaws.{within_not}
-use Rattle.strip_decoder.specs.declared.decode.DecodeDone.{DecodeDone}
-use Rattle.strip_decoder.specs.declared.decode.DecodeFault.{DecodeFault}
-use Rattle.strip_decoder.specs.Answers.{Answers, IsPicture}
-use Rattle.strip_decoder.specs.Runs.{holds_after}
-use Rattle.strip_decoder.specs.Walks.{IsDamageOf}
+use Rattle.segment_walk.specs.declared.ending.DecodeDone.{DecodeDone}
+use Rattle.segment_walk.specs.declared.ending.DecodeFault.{DecodeFault}
+use Rattle.strip_decoder.specs.Answers.{Answers}
+use Rattle.segment_walk.specs.Answers.{IsPicture}
+use Rattle.segment_walk.specs.Runs.{holds_after}
+use Rattle.segment_walk.specs.Walks.{IsDamageOf}
 use Rattle.camera_defs.specs.Picked.{picked}
 use Rattle.camera_defs.specs.PickLaws.{PickingKeeps}
 use Rattle.damage_rects.specs.Containment.{LossesStay}
 use Rattle.quick_look.specs.Looks.{LookAnswers}
 use Rattle.quick_look.specs.LookLaws.{LooksOfImages}
-use Rattle.strip_decoder.specs.Containment.{DecodedContained, IsImageFor}
+use Rattle.strip_decoder.specs.Containment.{DecodedContained}
+use Rattle.segment_walk.specs.Images.{IsImageFor}
 use Rattle.strip_decoder.specs.RoundTrip.{RoundTrip, GivesBack}
 use Rattle.strip122.specs.DamageNotes.{damaged, is_known, done_status}
 use Rattle.strip122.specs.Decoding.{Decodes, LooksAt, decode_status}

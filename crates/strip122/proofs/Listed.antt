@@ -1,6 +1,5 @@
 -- The effect of a run of `list`, `pick` and `info` after its note, and what follows for each status.
-use Rattle.std.proofs.Common.{◌≡◌, ◌≤◌, ◌<◌, ℕ, List, [], ◌+◌, ◌++◌, length, refl, sym, ◌∙◌, subst, arith, ap, length-append, inl, inr, true, false}
-use Rattle.std.specs.Prelude.{◌⊎◌, Option, Result, Ok, Err}
+use Rattle.std.proofs.Common.{◌≡◌, ◌≤◌, ℕ, List, [], ◌+◌, ◌++◌, length, refl, sym, ◌∙◌, subst, arith, ap, length-append, inl, inr, true, false, ◌⊎◌, Option, Result, Ok, Err}
 use Rattle.port_122.specs.Outside.{Outside, Exchange, NoRead, Rose}
 use Rattle.base_122.specs.declared.wish.DecodeWish.{DecodeWish}
 use Rattle.packet_defs.specs.Streams.{whole_packets, left_over, has_bad_version}
@@ -17,10 +16,9 @@ use Rattle.image_info.specs.declared.info.InfoWish.{InfoWish}
 use Rattle.image_info.specs.Answers.{Answers as InfoAnswers, image_count}
 use Rattle.image_info.specs.Images.{images as images_of}
 use Rattle.image_info.proofs.ImageLists.{images-front}
-use Rattle.strip_decoder.proofs.Asking.{front_packets}
+use Rattle.segment_walk.proofs.Asking.{front_packets}
 use Rattle.strip122.specs.Notes.{IsNoted, Notes, list_fault_status, list_fault_line, memory_line}
 use Rattle.strip122.specs.DamageNotes.{done_status, done_line, TellsDone}
-use Rattle.strip122.specs.Ran.{CausedWithin}
 use Rattle.strip122.specs.Listing.{Reader, WithMemory, reader_status, reader_line, Reads, HasFew, HasTooMany, HasMany, reads_packets, lister, picker, informer, info_fault_of}
 use Rattle.strip122.proofs.NoteLines.{ran_on, nothing_noted}
 use Rattle.strip122.proofs.Behaviours.{AtStatus, Law}

@@ -1,6 +1,5 @@
 -- A made raster is given part by part.
-use Rattle.std.proofs.Common.{◌≡◌, ◌<◌, ◌≤◌, ◌+◌, ◌-◌, ◌∙◌, ℕ, suc, ℤ, List, [], ◌∷◌, ◌++◌, length, map, take, sym, ap, subst, arith}
-use Rattle.std.specs.Prelude.{slice_set, Result, IsErr}
+use Rattle.std.proofs.Common.{◌≡◌, ◌<◌, ◌≤◌, ◌+◌, ◌-◌, ◌∙◌, ℕ, suc, ℤ, List, [], ◌∷◌, ◌++◌, length, map, take, sym, ap, subst, arith, slice_set, Result, IsErr}
 use Rattle.std.specs.List.{range_with_len}
 use Rattle.std.proofs.lemmas.List.{map-append, take_more_set}
 use Rattle.port_122.specs.Outside.{Outside, Exchange, NoRead, Rose, WritesAll}

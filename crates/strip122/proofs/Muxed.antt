@@ -1,10 +1,8 @@
 -- The effect of a run of `mux` after its note, and what follows for each status.
-use Rattle.std.proofs.Common.{◌≡◌, ◌<◌, ◌≤◌, ◌+◌, ◌*◌, ℕ, ℤ, zero, suc, Bool, List, [], ◌∷◌, ◌++◌, length, take, refl, sym, ◌∙◌, ap, subst, arith, append_assoc, length-append, inl, inr}
-use Rattle.std.specs.Prelude.{Result, Ok, Err, Some}
-use Rattle.std.proofs.lemmas.List.{append-nil}
+use Rattle.std.proofs.Common.{◌≡◌, ◌<◌, ◌≤◌, ◌*◌, ℕ, ℤ, suc, Bool, List, [], ◌∷◌, ◌++◌, length, take, refl, sym, ◌∙◌, ap, subst, arith, append_assoc, length-append, inl, inr, Result, Ok, Err, append-nil}
 use Rattle.strip122.proofs.BookRuns.{same_parts}
-use Rattle.port_122.specs.Outside.{Outside, Exchange, NoRead, AtEnd}
-use Rattle.port_122.proofs.Stretches.{since_start, since_note, at_end_later}
+use Rattle.port_122.specs.Outside.{Outside, Exchange, NoRead}
+use Rattle.port_122.proofs.Stretches.{since_note, at_end_later}
 use Rattle.port_122.proofs.Told.{end_told}
 use Rattle.base_122.specs.declared.setting.Setting.{Setting}
 use Rattle.raster_rows.specs.Pixels.{pixel_size, whole_pixels}
@@ -14,13 +12,12 @@ use Rattle.strip_coder.specs.Rasters.{row_length}
 use Rattle.camera_mux.specs.declared.mux.MuxDone.{MuxDone}
 use Rattle.camera_mux.specs.declared.mux.MuxFault.{MuxFault}
 use Rattle.camera_mux.specs.declared.mux.MuxFault.TheVariants.{ReadFault, WriteFault, Short, Long, BadCamera, BadPixel}
-use Rattle.camera_mux.specs.Records.{CameraRow, setting_at, record_at, octets_of, count_of, CanFollow, AreAccepted, AreFull}
-use Rattle.camera_mux.specs.MuxOut.{mux_out}
+use Rattle.camera_mux.specs.Records.{CameraRow, setting_at, record_at, octets_of, CanFollow, AreAccepted, AreFull}
 use Rattle.camera_mux.specs.MuxProgress.{AreSettings, AsksMux}
 use Rattle.camera_mux.specs.MuxAnswers.{Answers, IsAwaited, IsPart, HasBadPixel, Muxes as MuxesOver}
 use Rattle.camera_mux.specs.MuxLaws.{CamerasAreKept}
 use Rattle.strip122.specs.Notes.{IsNoted, Notes, mux_fault_status, mux_fault_line}
-use Rattle.strip122.specs.Muxing.{mux_status, mux_line, MuxesRecords, Muxes, MuxedWhole, MuxRefuses, AreRecords, muxes}
+use Rattle.strip122.specs.Muxing.{mux_status, mux_line, Muxes, MuxedWhole, MuxRefuses, AreRecords, muxes}
 use Rattle.strip122.proofs.NoteLines.{noted_since, nothing_noted}
 use Rattle.strip122.proofs.Behaviours.{AtStatus, Law}
 use Rattle.strip122.proofs.Inputs.{not_in_range}

@@ -1,8 +1,6 @@
 -- The effect of the packets of an input on a run without a fault.
-use Rattle.std.proofs.Common.{◌≡◌, ◌*◌, ℕ, List, [], ◌∷◌, ◌++◌, length, sym, subst, ◌∙◌, ap, arith, append_assoc, length-append, inl, inr, false}
-use Rattle.std.specs.Prelude.{◌⊎◌, Some, None, Ok, Err}
+use Rattle.std.proofs.Common.{◌≡◌, ◌*◌, ℕ, List, [], ◌∷◌, ◌++◌, length, sym, subst, ◌∙◌, ap, arith, append_assoc, length-append, inl, inr, false, ◌⊎◌, Some, None, Ok, Err, mul-le-mul_left}
 use Rattle.std.proofs.lemmas.Bool.{false≢true}
-use Rattle.std.proofs.Math.Nat.{mul-le-mul_left}
 use Rattle.port_122.specs.Outside.{Outside, Exchange, Loses}
 use Rattle.port_122.proofs.Told.{end_told}
 use Rattle.base_122.specs.declared.geometry.Geometry.{Geometry}
@@ -12,18 +10,19 @@ use Rattle.stream_defs.specs.Begun.{HasFewPixels, end_of, rows_reached}
 use Rattle.stream_defs.specs.Fates.{fresh, after_all, geometry_in, kept}
 use Rattle.stream_defs.specs.declared.fate.FateState.{FateState}
 use Rattle.stream_defs.proofs.ChosenLaws.{after_all-append}
-use Rattle.strip_decoder.specs.declared.decode.DecodeDone.{DecodeDone}
-use Rattle.strip_decoder.specs.declared.decode.DecodeFault.{DecodeFault}
-use Rattle.strip_decoder.specs.declared.decode.DecodeFault.TheVariants.{ReadFault, WriteFault, NoSegment, TooManyPixels, LongInput, Memory}
+use Rattle.segment_walk.specs.declared.ending.DecodeDone.{DecodeDone}
+use Rattle.segment_walk.specs.declared.ending.DecodeFault.{DecodeFault}
+use Rattle.segment_walk.specs.declared.ending.DecodeFault.TheVariants.{ReadFault, WriteFault, NoSegment, TooManyPixels, LongInput, Memory}
 use Rattle.packet_assembly.specs.Readings.{IsReadOut}
 use Rattle.packet_assembly.proofs.ReachedRows.{geometry_more, reached_more}
-use Rattle.strip_decoder.specs.Runs.{ReportsMany, HasFew}
-use Rattle.strip_decoder.proofs.Asking.{front_packets}
+use Rattle.segment_walk.specs.Runs.{ReportsMany, HasFew}
+use Rattle.segment_walk.proofs.Asking.{front_packets}
 use Rattle.strip122.specs.Notes.{decoder_fault_status}
 use Rattle.strip122.specs.Listing.{HasPackets, HasTooMany}
 use Rattle.strip122.specs.Decoding.{Causes, TellsNone, TellsMany, HasPicture, HasNoPicture, DecoderRefuses, reads_picture}
 use Rattle.strip122.specs.Ran.{Asking, CausedWithin}
-use Rattle.strip122.proofs.ReadOut.{took_front, bad_stays, all_within, not_read_out}
+use Rattle.packet_assembly.proofs.BadVersions.{bad_stays}
+use Rattle.strip122.proofs.ReadOut.{took_front, all_within, not_read_out}
 use Rattle.strip122.proofs.Decoded.{SawImage, Says, AllSay, picture_ends}
 use Rattle.strip122.proofs.Behaviours.{Law}
 

@@ -1,33 +1,20 @@
 -- The effect of a run of `make` and `trial`, or of one that refuses the arguments, after its note, and what follows for each status.
-use Rattle.std.proofs.Common.{◌≡◌, ◌≤◌, ℕ, List, [], length, refl, sym, subst, arith, take, inl, inr}
-use Rattle.std.specs.Prelude.{Result, Ok, Err, codes}
-use Rattle.port_122.specs.Outside.{Outside, Exchange, NoRead, Rose, GivenBy}
-use Rattle.port_122.proofs.Stretches.{since_start, since_note, at_end_later}
+use Rattle.std.proofs.Common.{◌≤◌, ℕ, List, [], length, refl, sym, subst, arith, take, inl, inr, codes}
+use Rattle.port_122.specs.Outside.{Outside, Exchange, NoRead, Rose}
+use Rattle.port_122.proofs.Stretches.{since_note}
 use Rattle.base_122.specs.declared.setting.Setting.{Setting}
-use Rattle.command_words.specs.declared.command.WordFault.{WordFault}
 use Rattle.raster_rows.specs.declared.made.MadeImage.{MadeImage}
 use Rattle.raster_rows.specs.Made.{made_value}
 use Rattle.strip122.specs.declared.trial.TrialDone.{TrialDone}
 use Rattle.strip122.specs.MadeRasters.{made_raster}
-use Rattle.strip122.specs.Notes.{Notes, word_line}
+use Rattle.strip122.specs.Notes.{Notes}
 use Rattle.strip122.specs.Trials.{made_with, trial_line, IsTried}
 use Rattle.strip122.specs.Behaviours.{Behaviour}
-use Rattle.strip122.specs.Run.{Refuses, Gives, Tries, makes, tries}
+use Rattle.strip122.specs.Run.{Gives, Tries, makes, tries}
 use Rattle.strip122.proofs.NoteLines.{noted_since}
 use Rattle.strip122.proofs.Behaviours.{AtStatus, Law}
 
 -- ---- after the note
-
-pub refuses : (words : List (List ℕ)) (fault : WordFault) (p q : Outside) → Notes p q (word_line words fault) → Refuses words fault p q 2
-refuses words fault p q n = record { wrote = n.0; since = n.1; status_is = refl; noted = n.2 }
-
-pub given_whole : (octets : List ℕ) (a b : Outside) → Exchange a b [] octets [] NoRead → Gives octets a b 0
-given_whole octets a b s = record {
-  gave = octets;
-  wrote = [];
-  since = s;
-  ending = inl (record { status_is = refl; whole = refl; silent = refl });
-}
 
 pub given_cut : (octets : List ℕ) (a b c : Outside) →
     Rose a.write_faults b.write_faults × ((n : ℕ) × (n ≤ length octets) × Exchange a b [] (take n octets) [] NoRead) →

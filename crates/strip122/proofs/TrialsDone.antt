@@ -1,6 +1,5 @@
 -- The steps of a trial: the raster, its packets, and their picture.
-use Rattle.std.proofs.Common.{◌≡◌, ◌≤◌, ◌<◌, ◌+◌, ◌-◌, ◌*◌, ◌^◌, ◌∙◌, ℕ, ℤ, ◌≤ℤ◌, Bool, List, [], length, min, refl, sym, ap, subst, inl, inr, arith}
-use Rattle.std.specs.Prelude.{true, Some, Result, Ok, Err, IfOk}
+use Rattle.std.proofs.Common.{◌≡◌, ◌≤◌, ◌<◌, ◌+◌, ◌-◌, ◌*◌, ◌^◌, ◌∙◌, ℕ, ℤ, ◌≤ℤ◌, Bool, List, [], length, min, refl, sym, ap, subst, inl, inr, arith, true, Some, Result, Ok, Err, IfOk}
 use Rattle.plane_defs.specs.Codes.{is_book_sound}
 use Rattle.std.specs.Int.{int_min, int_max}
 use Rattle.std.proofs.lemmas.Int.{ints, clamps}
@@ -34,9 +33,9 @@ use Rattle.stream_defs.proofs.PlacedLaws.{within_not}
 use Rattle.strip_coder.specs.declared.encode.EncodeDone.{EncodeDone}
 use Rattle.strip_coder.specs.Answers.{EncodesImage, DoneFor, TookRaster}
 use Rattle.strip_coder.specs.Rasters.{image_of}
-use Rattle.strip_decoder.specs.Containment.{ArePixels, IsImageFor}
-use Rattle.strip_decoder.specs.Runs.{Numbers, holds_after}
-use Rattle.strip_decoder.proofs.WholeImages.{none_left, geometry_told}
+use Rattle.segment_walk.specs.Images.{ArePixels, IsImageFor}
+use Rattle.segment_walk.specs.Runs.{Numbers, holds_after}
+use Rattle.segment_walk.proofs.WholeImages.{none_left, geometry_told}
 use Rattle.strip122.specs.declared.trial.TrialDone.{TrialDone}
 use Rattle.strip122.specs.MadeRasters.{made_raster}
 use Rattle.strip122.specs.Trials.{made_with, raster_length, equal_places, HasDecoded, AreEqualIn, IsTried}

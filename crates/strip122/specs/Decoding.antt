@@ -5,10 +5,11 @@ use Rattle.base_122.specs.declared.geometry.Geometry.{Geometry}
 use Rattle.base_122.specs.declared.wish.DecodeWish.{DecodeWish}
 use Rattle.stream_defs.specs.Begun.{HasFewPixels, end_of, rows_reached}
 use Rattle.stream_defs.specs.Fates.{geometry_in, kept_in}
-use Rattle.strip_decoder.specs.declared.decode.DecodeDone.{DecodeDone}
-use Rattle.strip_decoder.specs.declared.decode.DecodeFault.{DecodeFault}
+use Rattle.segment_walk.specs.declared.ending.DecodeDone.{DecodeDone}
+use Rattle.segment_walk.specs.declared.ending.DecodeFault.{DecodeFault}
 use Rattle.strip_decoder.specs.Answers.{Answers, Asks}
-use Rattle.strip_decoder.specs.Finding.{FindAnswers, AsksSilent}
+use Rattle.strip_decoder.specs.Finding.{FindAnswers}
+use Rattle.segment_walk.specs.Answers.{AsksSilent}
 use Rattle.quick_look.specs.Looks.{LookAnswers, LookAsks}
 use Rattle.damage_rects.specs.Listing.{RectAnswers}
 use Rattle.strip122.specs.Notes.{IsNoted, decoder_fault_status, decoder_fault_line}

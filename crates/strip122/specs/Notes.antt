@@ -8,8 +8,8 @@ use Rattle.strip_coder.specs.declared.encode.EncodeFault.{EncodeFault}
 use Rattle.strip_coder.specs.declared.encode.EncodeFault.TheVariants.{ReadFault, WriteFault, Short, Long, BadPixel}
 use Rattle.camera_mux.specs.declared.mux.MuxFault.{MuxFault}
 use Rattle.camera_mux.specs.declared.mux.MuxFault.TheVariants.{ReadFault as mux_read_failed, WriteFault as mux_write_failed, Short as mux_short, Long as mux_long, BadCamera, BadPixel as bad_camera_pixel}
-use Rattle.strip_decoder.specs.declared.decode.DecodeFault.{DecodeFault}
-use Rattle.strip_decoder.specs.declared.decode.DecodeFault.TheVariants.{ReadFault as read_failed, WriteFault as write_failed, NoSegment, TooManyPixels, LongInput, Memory}
+use Rattle.segment_walk.specs.declared.ending.DecodeFault.{DecodeFault}
+use Rattle.segment_walk.specs.declared.ending.DecodeFault.TheVariants.{ReadFault as read_failed, WriteFault as write_failed, NoSegment, TooManyPixels, LongInput, Memory}
 use Rattle.bare_stream.specs.declared.fault.BareFault.{BareFault}
 use Rattle.bare_stream.specs.declared.fault.BareFault.TheVariants.{ReadFault as bare_read_failed, WriteFault as bare_write_failed, TooManyPixels as bare_many_pixels, LongInput as bare_long, Refused, Memory as bare_memory}
 use Rattle.packet_list.specs.declared.list.ListFault.{ListFault}

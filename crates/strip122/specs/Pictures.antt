@@ -10,13 +10,14 @@ use Rattle.stream_defs.specs.Fates.{geometry_in}
 use Rattle.stream_defs.specs.Output.{output}
 use Rattle.stream_defs.specs.Picture.{picture_octets}
 use Rattle.stream_defs.specs.Received.{ReceivedIn}
-use Rattle.strip_decoder.specs.declared.decode.DecodeDone.{DecodeDone}
+use Rattle.segment_walk.specs.declared.ending.DecodeDone.{DecodeDone}
 use Rattle.strip_decoder.specs.Answers.{Asks}
-use Rattle.strip_decoder.specs.Runs.{Numbers, holds_after}
-use Rattle.strip_decoder.specs.Walks.{IsDamageOf}
+use Rattle.segment_walk.specs.Runs.{Numbers, holds_after}
+use Rattle.segment_walk.specs.Walks.{IsDamageOf}
 use Rattle.camera_defs.specs.Picked.{picked}
-use Rattle.strip_decoder.specs.Containment.{some_output, IsImageFor, AreSome, BeginsOne, GivesContained, GivesAlike}
-use Rattle.strip_decoder.specs.RoundTrip.{GivesBack, SendsAll}
+use Rattle.segment_walk.specs.Images.{some_output, IsImageFor, AreSome, BeginsOne, SendsAll}
+use Rattle.strip_decoder.specs.Containment.{GivesContained, GivesAlike}
+use Rattle.strip_decoder.specs.RoundTrip.{GivesBack}
 use Rattle.damage_rects.specs.Containment.{GivesInRects, GivesAlikeInRects}
 use Rattle.quick_look.specs.Looks.{LookAsks, IsLook}
 use Rattle.quick_look.specs.LookLaws.{low_image}

@@ -1,2 +1,9 @@
+pub mod Admitted
+pub mod WholeEncoded
+pub mod ReadOut
+pub mod Found
+pub mod Written
+pub mod WholeDecoded
+pub mod RasterBack
 pub mod Puts
 pub mod RangesPut

@@ -1,8 +1,6 @@
 -- Items that are put into places, one after another.
-use Rattle.std.proofs.Common.{◌≡◌, ◌≤◌, ◌<◌, List, [], ◌∷◌, ◌++◌, length, take, drop, refl, ap, arith, inl, inr, length-append, length-drop}
-use Rattle.std.specs.Prelude.{nat_lt, if◌then◌else◌, slice_set, true, false}
+use Rattle.std.proofs.Common.{◌≡◌, ◌≤◌, ◌<◌, List, [], ◌∷◌, ◌++◌, length, take, drop, refl, ap, arith, inl, inr, length-append, length-drop, nat_lt, if◌then◌else◌, slice_set, true, false, length-take}
 use Rattle.std.proofs.lemmas.Bool.{cases_lt, lt-ltb, le-ltb}
-use Rattle.std.proofs.lemmas.List.{length-take}
 use Rattle.strip122_c.specs.Ranges.{put_over}
 
 pub put_none : {A : Type 0} (places : List A) → put_over [] places ≡ places

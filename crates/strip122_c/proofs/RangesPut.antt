@@ -1,7 +1,5 @@
 -- The ranges of damaged rows that are put into places so far.
-use Rattle.std.proofs.Common.{◌≡◌, ◌≤◌, ◌+◌, ◌∙◌, ℕ, List, [], ◌∷◌, ◌++◌, length, map, refl, sym, ap, arith, length-append}
-use Rattle.std.specs.Prelude.{None, Some, nat_lt, if◌then◌else◌, slice_set}
-use Rattle.std.proofs.lemmas.List.{append-nil}
+use Rattle.std.proofs.Common.{◌≡◌, ◌≤◌, ◌+◌, ◌∙◌, ℕ, List, [], ◌∷◌, ◌++◌, length, map, refl, sym, ap, arith, length-append, None, Some, nat_lt, if◌then◌else◌, slice_set, append-nil}
 use Rattle.stream_defs.specs.declared.range.RowRange.{RowRange}
 use Rattle.stream_defs.specs.Marks.{Marks, next_range}
 use Rattle.damage_rows.proofs.RangeWalk.{Walk, walk_start, stands_next, walk_on, walk_ends}

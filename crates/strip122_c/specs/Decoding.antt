@@ -5,10 +5,10 @@ use Rattle.base_122.specs.Ranges.{IsGeometryInRange, rows_range}
 use Rattle.base_122.specs.declared.geometry.Geometry.{Geometry}
 use Rattle.packet_defs.specs.declared.packet.Framing.{Framing}
 use Rattle.packet_defs.specs.declared.packet.Framing.TheVariants.{BadVersion, CutPacket}
-use Rattle.strip_decoder.specs.declared.decode.DecodeDone.{DecodeDone}
-use Rattle.lent_122.specs.declared.decode.DecodeRefusal.{DecodeRefusal}
-use Rattle.lent_122.specs.declared.decode.DecodeRefusal.TheVariants.{NoSegment, SmallRoom, Memory}
-use Rattle.lent_122.specs.Decoding.{picture_length, Decodes, BringsBack}
+use Rattle.segment_walk.specs.declared.ending.DecodeDone.{DecodeDone}
+use Rattle.strip122_c.specs.declared.decode.DecodeRefusal.{DecodeRefusal}
+use Rattle.strip122_c.specs.declared.decode.DecodeRefusal.TheVariants.{NoSegment, SmallRoom, Memory}
+use Rattle.strip122_c.specs.WholeDecoding.{picture_length, Decodes, BringsBack}
 use Rattle.strip122_c.specs.declared.decoded.Strip122Decoded.{Strip122Decoded}
 use Rattle.strip122_c.specs.declared.ranges.Strip122Range.{Strip122Range}
 use Rattle.strip122_c.specs.Ranges.{ranges_of, put_over}

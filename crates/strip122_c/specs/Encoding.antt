@@ -4,9 +4,9 @@ use Rattle.base_122.specs.declared.field.Field.{Field}
 use Rattle.base_122.specs.declared.field.Field.TheVariants.{Width, Rows, Depth, Segment, Limit, Fill, Word, Stop, Weights, Apid, Image, Packet, Pixels, Octets, Total, Cameras}
 use Rattle.base_122.specs.declared.setting.Setting.{Setting}
 use Rattle.strip_coder.specs.declared.encode.EncodeDone.{EncodeDone}
-use Rattle.lent_122.specs.declared.encode.EncodeRefusal.{EncodeRefusal}
-use Rattle.lent_122.specs.declared.encode.EncodeRefusal.TheVariants.{OutOfRange, Short, Long, BadPixel, SmallRoom, Memory}
-use Rattle.lent_122.specs.Encoding.{Encodes}
+use Rattle.strip122_c.specs.declared.encode.EncodeRefusal.{EncodeRefusal}
+use Rattle.strip122_c.specs.declared.encode.EncodeRefusal.TheVariants.{OutOfRange, Short, Long, BadPixel, SmallRoom, Memory}
+use Rattle.strip122_c.specs.WholeEncoding.{Encodes}
 use Rattle.strip122_c.specs.declared.encoded.Strip122Encoded.{Strip122Encoded}
 
 -- the fields from 1 on, in the order of `Field`; a setting as C has it has none of the last four

@@ -3,8 +3,8 @@ use Rattle.std.specs.Prelude.{List, [], ◌++◌, length, map, take, drop, Resul
 use Rattle.stream_defs.specs.declared.range.RowRange.{RowRange}
 use Rattle.stream_defs.specs.Damage.{ranges}
 use Rattle.stream_defs.specs.Marks.{Marks}
-use Rattle.strip_decoder.specs.declared.decode.DecodeDone.{DecodeDone}
-use Rattle.lent_122.specs.declared.decode.DecodeRefusal.{DecodeRefusal}
+use Rattle.segment_walk.specs.declared.ending.DecodeDone.{DecodeDone}
+use Rattle.strip122_c.specs.declared.decode.DecodeRefusal.{DecodeRefusal}
 use Rattle.strip122_c.specs.declared.ranges.Strip122Range.{Strip122Range}
 
 abbrev pub range_of : RowRange → Strip122Range

@@ -3,8 +3,9 @@ ghost use Rattle.std.specs.Prelude.{◌≡◌, ◌≤◌};
 ghost use Rattle.base_122.specs.Ranges.{IsGeometryInRange, rows_range};
 ghost use Rattle.strip122_c.specs.Decoding.{geometry_report, framing_report, report_with, answer_with, HasSizeInRange};
 
+use crate::decode::DecodeRefusal;
+use crate::geometry::picture_length;
 use base_122::Geometry;
-use lent_122::{DecodeRefusal, picture_length};
 use packet_defs::Framing;
 use strip_decoder::DecodeDone;
 

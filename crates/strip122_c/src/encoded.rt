@@ -2,8 +2,8 @@
 ghost use Rattle.std.specs.Prelude.{◌≡◌};
 ghost use Rattle.strip122_c.specs.Encoding.{field_number, report_of, answer_of};
 
+use crate::encode::EncodeRefusal;
 use base_122::Field;
-use lent_122::EncodeRefusal;
 use strip_coder::EncodeDone;
 
 /// What was done, or why it was not. A field that the answer does not need is 0.

@@ -1,12 +1,20 @@
-//! The coder for C: whole images (docs/c.md; c/strip122.h has its declarations for C).
+//! The coder for C: whole images over memory that a caller lends, a raster in and its packets out, and back (docs/c.md; c/strip122.h has its
+//! declarations for C).
 #![tactic(auto)]
 
+mod decode;
 mod decoded;
+mod encode;
 mod encoded;
+mod geometry;
+mod laws;
+mod port;
 mod ranges;
 mod setting;
 #[cfg(test)]
 mod tests;
+#[cfg(test)]
+mod whole_tests;
 
 ghost use Rattle.base_122.specs.Ranges.{IsInRange};
 ghost use Rattle.strip_coder.specs.Answers.{TookRaster};
@@ -15,9 +23,11 @@ ghost use Rattle.strip122_c.specs.Encoding.{ReportsEncoding, IsAccepted};
 ghost use Rattle.strip122_c.specs.Decoding.{ReportsDecoding};
 
 use base_122::Book;
+use decode::decode_whole;
 pub use decoded::Strip122Decoded;
+use encode::encode_whole;
 pub use encoded::Strip122Encoded;
-use lent_122::{decode_whole, encode_whole};
+pub use laws::rasters_come_back;
 pub use ranges::Strip122Range;
 pub use setting::Strip122Setting;
 use std::alloc::Global;

@@ -2,8 +2,8 @@
 ghost use Rattle.std.specs.Prelude.{◌≡◌, ◌≤◌, length, IfOk, slice_set, nat_lt, if◌then◌else◌};
 ghost use Rattle.strip122_c.specs.Ranges.{range_of, ranges_of, ranges_in, put_over};
 
+use crate::decode::DecodeRefusal;
 use damage_rows::{Damage, RowRange};
-use lent_122::DecodeRefusal;
 use strip_decoder::DecodeDone;
 
 /// The rows from `first` to `last`, both included.

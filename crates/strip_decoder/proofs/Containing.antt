@@ -1,10 +1,8 @@
 -- No pixel outside the damaged rows depends on what was lost.
-use Rattle.std.proofs.Common.{◌≡◌, ◌<◌, ◌+◌, ◌*◌, ◌/◌, ◌^◌, ℕ, ℤ, get_or, refl, sym, ap, subst, ◌∙◌, inl, inr, arith}
-use Rattle.std.specs.Prelude.{Bool, true, false, not, nat_lt, is_some}
+use Rattle.std.proofs.Common.{◌≡◌, ◌<◌, ◌+◌, ◌*◌, ◌/◌, ◌^◌, ℕ, ℤ, get_or, refl, sym, ap, subst, ◌∙◌, inl, inr, arith, Bool, true, false, not, nat_lt, is_some, mul-le-mul_right}
 use Rattle.std.specs.List.{list_any}
 use Rattle.std.proofs.lemmas.Bool.{false≢true, not-false, and_from}
 use Rattle.std.proofs.lemmas.Bool.Decides.{nat_tests}
-use Rattle.std.proofs.Math.Nat.{mul-le-mul_right}
 use Rattle.base_122.specs.Sizes.{block_count}
 use Rattle.base_122.specs.Ranges.{IsGeometryInRange, IsWithin, rows_range}
 use Rattle.base_122.specs.declared.geometry.Geometry.{Geometry}
@@ -21,10 +19,11 @@ use Rattle.stream_defs.proofs.OpenContaining.{contained_open, any_chosen}
 use Rattle.stream_defs.proofs.PlacedLaws.{is_open, is_not_open, within_not}
 use Rattle.stream_defs.proofs.DamageLaws.{whole_damage as damage_whole}
 use Rattle.picture_rows.specs.Fronts.{bands_of}
-use Rattle.strip_decoder.specs.Runs.{Numbers}
-use Rattle.strip_decoder.specs.Containment.{AreWith, SameOutside}
-use Rattle.picture_rows.proofs.BandBlocks.{coefficient_with}
-use Rattle.strip_decoder.proofs.RunEnds.{any_at}
+use Rattle.segment_walk.specs.Runs.{Numbers}
+use Rattle.segment_walk.specs.Images.{AreWith}
+use Rattle.strip_decoder.specs.Containment.{SameOutside}
+use Rattle.stream_defs.proofs.BandPlaces.{coefficient_with}
+use Rattle.segment_walk.proofs.RunEnds.{any_at}
 
 -- the block rows of an image whose height is known
 known_rows : (g : Geometry) → IsWithin rows_range g.rows → (n : ℕ) → block_rows g n ≡ block_count g.rows

@@ -1,6 +1,5 @@
--- What a decoder gives of some packets of an image.
-use Rattle.std.proofs.Common.{◌≡◌, ℕ, ℤ, List, sym, ap, subst, ◌∙◌}
-use Rattle.std.specs.Prelude.{Some}
+-- The picture of some packets of an image, and what a decoder gives of them.
+use Rattle.std.proofs.Common.{◌≡◌, ℕ, ℤ, List, sym, ap, subst, ◌∙◌, ◌≤◌, ◌⊎◌, Some}
 use Rattle.std.proofs.lemmas.Option.{same_Some}
 use Rattle.port_122.specs.Outside.{Outside}
 use Rattle.base_122.specs.Setting.{image_geometry}
@@ -12,15 +11,38 @@ use Rattle.stream_defs.specs.declared.range.RowRange.{RowRange}
 use Rattle.stream_defs.specs.Begun.{begun_in, height}
 use Rattle.stream_defs.specs.Damage.{damage}
 use Rattle.stream_defs.specs.Fates.{geometry_in}
-use Rattle.stream_defs.specs.Picture.{picture, picture_octets, picture_with, whole_picture}
+use Rattle.stream_defs.specs.Picture.{picture, picture_octets, picture_with, whole_picture, number_at}
 use Rattle.stream_defs.specs.Received.{ReceivedIn}
-use Rattle.strip_decoder.specs.declared.decode.DecodeDone.{DecodeDone}
-use Rattle.strip_decoder.specs.Answers.{IsPicture}
-use Rattle.strip_decoder.specs.Runs.{holds_after}
-use Rattle.strip_decoder.specs.Containment.{SameOutside, some_output, BeginsOne, reported, AreSome, told_damage, GivesContained, GivesAlike}
+use Rattle.segment_walk.specs.declared.ending.DecodeDone.{DecodeDone}
+use Rattle.segment_walk.specs.Answers.{IsPicture}
+use Rattle.segment_walk.specs.Runs.{holds_after, Numbers}
+use Rattle.strip_decoder.specs.Containment.{SameOutside, told_damage, GivesContained, GivesAlike}
+use Rattle.segment_walk.specs.Images.{some_output, BeginsOne, reported, AreSome, reported_rows}
 use Rattle.strip_decoder.proofs.Containing.{contained}
-use Rattle.strip_decoder.proofs.SublistPictures.{begun_few, geometry_there, sublist_same}
-use Rattle.strip_decoder.proofs.SublistSegments.{receives_those}
+use Rattle.segment_walk.proofs.SublistPictures.{begun_few, geometry_there, reported_is, with_all, geometry_range, few_blocks, all_shows}
+use Rattle.segment_walk.proofs.SublistSegments.{receives_those}
+use Rattle.base_122.specs.Sizes.{block_count}
+use Rattle.stream_defs.specs.Output.{output}
+
+module _ (short : TextsAreShort) (s : Setting) (rows : ℕ) (x : ℕ → ℕ → ℤ) (parts : ℕ → List ℕ) (are : AreSome s rows x parts) (received whole : Numbers)
+    (some_are : ReceivedIn (holds_after s.book) s.apid (some_output s rows x parts) received) (all_are : ReceivedIn (holds_after s.book) s.apid (output s rows x) whole) where
+  -- whether the height is reported or not
+  module _ (r n : ℕ) (is : (r ≡ rows) ⊎ ((s.rows ≡ 0) × (r ≡ 0))) (few : n ≤ block_count rows) where
+    abbrev g : Geometry
+    g = image_geometry s r
+
+    same_at : SameOutside (height g n) s.width (damage g received n) (picture g received n) (whole_picture (image_geometry s rows) whole)
+    same_at =
+        let range = geometry_range short s rows x parts are received whole some_are all_are r n is few in
+        let blocks = few_blocks short s rows x parts are received whole some_are all_are r n is few in
+        let there = contained g received (number_at g whole) n range (with_all short s rows x parts are received whole some_are all_are r n blocks) in
+        record { at = λ i j inside across uncovered. sym (there.at i j inside across uncovered) ∙ all_shows short s rows x parts are received whole some_are all_are r n is few i j inside across }
+
+  pub sublist_same : (n : ℕ) → n ≤ block_count rows →
+      SameOutside (height (reported s rows parts) n) s.width (damage (reported s rows parts) received n) (picture (reported s rows parts) received n) (whole_picture (image_geometry s rows) whole)
+  sublist_same n few = same_at (reported_rows s rows parts) n (reported_is s rows parts) few
+
+-- ---- what a decoder gives
 
 pub decoded_contained : (wish : DecodeWish) (start new : Outside) (took gave every : List ℕ) (done : DecodeDone) → IsPicture wish start new took gave done → start.rest ≡ Some every → GivesContained wish took gave done
 decoded_contained wish start new took gave every done is told =

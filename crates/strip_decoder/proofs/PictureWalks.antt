@@ -1,10 +1,7 @@
 -- What a walk with a picture gives.
-use Rattle.std.proofs.Common.{◌≡◌, ◌≤◌, ◌<◌, ◌+◌, ◌-◌, ◌*◌, ◌/◌, ◌%◌, ◌==◌, ℕ, ℤ, pos, List, [], ◌++◌, take, get_or, refl, sym, ap, subst, ◌∙◌, inl, inr, arith}
-use Rattle.std.specs.Prelude.{Bool, true, false, if◌then◌else◌, min, Option, None, Some, Result, Ok, Err, MatchResult, IfOk, unwrap_or}
-use Rattle.std.specs.Option.{option_map}
+use Rattle.std.proofs.Common.{◌≡◌, ◌≤◌, ◌<◌, ◌+◌, ◌-◌, ◌*◌, ◌/◌, ◌==◌, ℕ, ℤ, pos, List, [], ◌++◌, take, get_or, refl, sym, ap, subst, ◌∙◌, inl, inr, arith, Bool, true, false, if◌then◌else◌, min, Option, None, Some, Result, Ok, Err, MatchResult, unwrap_or, ne_eqb}
 use Rattle.std.proofs.lemmas.Bool.Decides.{nat_tests}
 use Rattle.std.proofs.lemmas.Nat.{div_below, div-mul-add}
-use Rattle.std.proofs.lemmas.Bool.{ne_eqb}
 use Rattle.port_122.specs.Outside.{Outside}
 use Rattle.port_122.proofs.Stretches.{since_weaker}
 use Rattle.base_122.specs.Sizes.{block_count}
@@ -22,7 +19,7 @@ use Rattle.stream_defs.specs.Fates.{geometry_in, kept_in, state_after}
 use Rattle.stream_defs.specs.Picture.{number_at, picture_octets, picture_of, picture_with, whole_with}
 use Rattle.stream_defs.specs.Settled.{ready, rows_through, block_rows_before}
 use Rattle.stream_defs.proofs.HeightPictures.{placed_octets}
-use Rattle.stream_defs.proofs.PlacedLaws.{is_open, is_not_open, blocks_known, blocks_open, placed_known, placed_open, placed_same}
+use Rattle.stream_defs.proofs.PlacedLaws.{is_not_open, blocks_known, blocks_open, placed_known, placed_open, placed_same}
 use Rattle.stream_defs.proofs.SettledLaws.{rows_rise}
 use Rattle.packet_assembly.proofs.Images.{end_room, image_wide}
 use Rattle.picture_rows.specs.declared.picture.Picture.{Picture}
@@ -31,28 +28,20 @@ use Rattle.picture_rows.specs.Fronts.{rows_of}
 use Rattle.picture_rows.specs.Pictures.{picture_state, IsFresh}
 use Rattle.picture_rows.specs.Steps.{HasEnded, HasNextNumbers, PassesBlock}
 use Rattle.picture_rows.proofs.RowsOut.{front_within, no_rows, rows_through-most, rows_through-rises}
-use Rattle.strip_decoder.specs.declared.engine.Walked.{Walked}
-use Rattle.strip_decoder.specs.declared.decode.DecodeFault.{DecodeFault}
-use Rattle.strip_decoder.specs.declared.decode.DecodeFault.TheVariants.{ReadFault, WriteFault, NoSegment, TooManyPixels, LongInput, Memory}
-use Rattle.strip_decoder.specs.Sinks.{Numbers, Blocks, Begins, Takes, Fails, EndsImage, blocks_with}
-use Rattle.strip_decoder.specs.Runs.{AsksPassed, PassedBy, PartBy, blocks_passed, settled_blocks}
-use Rattle.strip_decoder.specs.Walks.{IsWalked, WalkAnswers, Walks, run_of}
-use Rattle.strip_decoder.specs.Answers.{PromptBy, FrontBy, Asks, IsPicture, Answers, Decodes}
-use Rattle.strip_decoder.specs.PictureSinks.{numbers_in, StandsAt, ShowsBlocks, GivesRows, picture_sink, rows_given}
-use Rattle.strip_decoder.proofs.Findings.{found_as}
-use Rattle.strip_decoder.proofs.Staying.{known_or_not}
-use Rattle.strip_decoder.specs.declared.decode.DecodeDone.{DecodeDone}
-
--- ---- the numbers of the blocks
-
--- those of received segments are the picture's
-pub numbers_same : (g : Geometry) (received : Numbers) → numbers_in (blocks_with g received) ≡ number_at g received
-unfolding number_at
-numbers_same g received = λ j block i. by (received (block / g.segment)) block i j
-  where
-    by : (o : Option (List (List ℤ))) (block i : ℕ) → get_or (unwrap_or (option_map (λ numbers. get_or numbers (block % g.segment) []) o) []) i (pos 0) ≡ get_or (get_or (unwrap_or o []) (block % g.segment) []) i (pos 0)
-    by None block i = refl
-    by (Some numbers) block i = refl
+use Rattle.segment_walk.specs.declared.engine.Walked.{Walked}
+use Rattle.segment_walk.specs.declared.ending.DecodeFault.{DecodeFault}
+use Rattle.segment_walk.specs.declared.ending.DecodeFault.TheVariants.{ReadFault, WriteFault, NoSegment, TooManyPixels, LongInput, Memory}
+use Rattle.segment_walk.specs.Sinks.{Numbers, Blocks, Begins, Takes, Fails, EndsImage, blocks_with, numbers_in}
+use Rattle.segment_walk.specs.Runs.{AsksPassed, PassedBy, PartBy, blocks_passed, settled_blocks}
+use Rattle.segment_walk.specs.Walks.{IsWalked, WalkAnswers, Walks, run_of}
+use Rattle.strip_decoder.specs.Answers.{PromptBy, FrontBy, Asks, Answers, Decodes}
+use Rattle.segment_walk.specs.Answers.{IsPicture}
+use Rattle.strip_decoder.specs.declared.pictures.PictureSink.{PictureSink}
+use Rattle.strip_decoder.specs.PictureSinks.{StandsAt, ShowsBlocks, GivesRows, picture_sink, rows_given}
+use Rattle.segment_walk.proofs.Endings.{found_as, height_open, height_known, passed_open, passed_known}
+use Rattle.segment_walk.proofs.Staying.{known_or_not}
+use Rattle.segment_walk.specs.declared.ending.DecodeDone.{DecodeDone}
+use Rattle.segment_walk.proofs.Showing.{numbers_same}
 
 -- ---- a block
 
@@ -64,61 +53,60 @@ next_is p v g n at blocks before f is = record {
 }
 
 -- it was taken
-pub picture_takes : {T E : Type 0} (r : Result T E) (p t : Picture) (v : Option (List ℤ)) (a b : Outside) → PassesBlock r (HasNextNumbers (unwrap_or v []) (picture_state p)) a b (picture_state p) (picture_state t) → (g : Geometry) (n : ℕ) → StandsAt p g n →
-    MatchResult r (λ x. Takes picture_sink g n v a b p t) (λ x. Fails picture_sink g n v a b p)
-picture_takes (Ok x) p t v a b passed g n at = record {
+pub picture_takes : {T E : Type 0} (r : Result T E) (s t : PictureSink) (v : Option (List ℤ)) (a b : Outside) → PassesBlock r (HasNextNumbers (unwrap_or v []) (picture_state s.picture)) a b (picture_state s.picture) (picture_state t.picture) → (g : Geometry) (n : ℕ) → StandsAt s.picture g n →
+    MatchResult r (λ x. Takes picture_sink g n v a b s t) (λ x. Fails picture_sink g n v a b s)
+picture_takes (Ok x) s t v a b passed g n at = record {
   gave = passed.goes.gave;
   out = passed.goes.out;
   stands = record { standing = passed.standing; geometry = passed.geometry ∙ at.geometry; passed = passed.count ∙ ap (λ m. m + 1) at.passed };
   follows = λ blocks before f is.
-      let next = next_is p v g n at blocks before f is in
+      let next = next_is s.picture v g n at blocks before f is in
       record {
         stands = passed.goes.follows (numbers_in blocks) next;
         gave_is = ap (λ zs. zs ++ passed.goes.gave) f.gave_is
-            ∙ subst (λ g. rows_of g (numbers_in blocks) p.at.next ++ passed.goes.gave ≡ rows_of g (numbers_in blocks) t.at.next) at.geometry (passed.goes.given (numbers_in blocks) next);
+            ∙ subst (λ g. rows_of g (numbers_in blocks) s.picture.at.next ++ passed.goes.gave ≡ rows_of g (numbers_in blocks) t.picture.at.next) at.geometry (passed.goes.given (numbers_in blocks) next);
       };
 }
-picture_takes (Err e) p t v a b broken g n at = record {
+picture_takes (Err e) s t v a b broken g n at = record {
   gave = broken.gave;
   out = broken.out;
   rose = broken.rose;
   part = λ blocks before f is.
-      let there = broken.given (numbers_in blocks) (next_is p v g n at blocks before f is) in
+      let there = broken.given (numbers_in blocks) (next_is s.picture v g n at blocks before f is) in
       record {
         some = there.0;
         gave_is = ap (λ zs. zs ++ broken.gave) f.gave_is
-            ∙ subst (λ (g : Geometry). rows_of g (numbers_in blocks) p.at.next ++ broken.gave ≡ take there.0 (rows_of g (numbers_in blocks) (rows_through g (block_rows_before g (n + 1))))) at.geometry
-            (there.1 ∙ ap (λ m. take there.0 (rows_of p.geometry (numbers_in blocks) (rows_through p.geometry (block_rows_before p.geometry (m + 1))))) at.passed);
+            ∙ subst (λ (g : Geometry). rows_of g (numbers_in blocks) s.picture.at.next ++ broken.gave ≡ take there.0 (rows_of g (numbers_in blocks) (rows_through g (block_rows_before g (n + 1))))) at.geometry
+            (there.1 ∙ ap (λ m. take there.0 (rows_of s.picture.geometry (numbers_in blocks) (rows_through s.picture.geometry (block_rows_before s.picture.geometry (m + 1))))) at.passed);
       };
 }
 
 -- a picture that begins
-pub picture_begins : {E : Type 0} (r : Result Picture E) (g : Geometry) → IfOk r (λ p. IsFresh g (picture_state p)) → IfOk r (Begins picture_sink g)
-picture_begins (Err e) g fresh = fresh
-picture_begins (Ok p) g fresh = record {
+pub picture_begins : (s : PictureSink) (g : Geometry) → IsFresh g (picture_state s.picture) → Begins picture_sink g s
+picture_begins s g fresh = record {
   stands = record {
     standing = fresh.standing;
     geometry = fresh.geometry;
-    passed = ap (λ n. n * block_count p.geometry.width + p.at.column) fresh.row ∙ ap (λ n. 0 * block_count p.geometry.width + n) fresh.column ∙ omega arith;
+    passed = ap (λ n. n * block_count s.picture.geometry.width + s.picture.at.column) fresh.row ∙ ap (λ n. 0 * block_count s.picture.geometry.width + n) fresh.column ∙ omega arith;
   };
-  follows = λ blocks. record { stands = fresh.stands (numbers_in blocks); gave_is = no_rows g (numbers_in blocks) p.at.next fresh.next };
+  follows = λ blocks. record { stands = fresh.stands (numbers_in blocks); gave_is = no_rows g (numbers_in blocks) s.picture.at.next fresh.next };
 }
 
 -- a picture whose height becomes known
-pub picture_ends : (p t : Picture) (h : Geometry) → HasEnded h.rows (picture_state p) (picture_state t) → EndsImage picture_sink h p t
-picture_ends p t h ended g n at ends =
-    let rows : record p.geometry { rows = h.rows } ≡ h = (λ i. record (at.geometry i) { rows = h.rows }) ∙ sym ends.same in
-    let geometry : t.geometry ≡ h = ended.geometry ∙ rows in
-    let width : block_count t.geometry.width ≡ block_count p.geometry.width = ap (λ (g : Geometry). block_count g.width) ended.geometry in
+pub picture_ends : (s t : PictureSink) (h : Geometry) → HasEnded h.rows (picture_state s.picture) (picture_state t.picture) → EndsImage picture_sink h s t
+picture_ends s t h ended g n at ends =
+    let rows : record s.picture.geometry { rows = h.rows } ≡ h = (λ i. record (at.geometry i) { rows = h.rows }) ∙ sym ends.same in
+    let geometry : t.picture.geometry ≡ h = ended.geometry ∙ rows in
+    let width : block_count t.picture.geometry.width ≡ block_count s.picture.geometry.width = ap (λ (g : Geometry). block_count g.width) ended.geometry in
     record {
       stands = record {
         standing = ended.standing;
         geometry = geometry;
-        passed = ap (λ (a : PictureAt). a.row * block_count t.geometry.width + a.column) ended.at ∙ ap (λ m. p.at.row * m + p.at.column) width ∙ at.passed;
+        passed = ap (λ (a : PictureAt). a.row * block_count t.picture.geometry.width + a.column) ended.at ∙ ap (λ m. s.picture.at.row * m + s.picture.at.column) width ∙ at.passed;
       };
       follows = λ blocks gave f. record {
         stands = ended.follows (numbers_in blocks) f.stands;
-        gave_is = f.gave_is ∙ ap (λ g. rows_of g (numbers_in blocks) p.at.next) (sym at.geometry) ∙ sym (ended.given (numbers_in blocks)) ∙ ap (λ g. rows_of g (numbers_in blocks) t.at.next) geometry;
+        gave_is = f.gave_is ∙ ap (λ g. rows_of g (numbers_in blocks) s.picture.at.next) (sym at.geometry) ∙ sym (ended.given (numbers_in blocks)) ∙ ap (λ g. rows_of g (numbers_in blocks) t.picture.at.next) geometry;
       };
     }
 
@@ -135,19 +123,6 @@ ready_settled s received g geometry rows le = by s.last refl
     by None e = subst (λ n. n ≤ rows) (sym (ap (λ s. ready s received) (state None e))) (omega arith)
     by (Some l) e =
         subst (λ s. ready s received ≤ rows) (sym (state (Some l) e)) (subst (λ s. rows_through g (block_rows_before g (settled_blocks s received)) ≤ rows) (state (Some l) e) le)
-
--- the rows and the blocks of an image, whose height isn't known or is
-pub height_open : (g : Geometry) (n : ℕ) → g.rows ≡ 0 → height g n ≡ 8 * n - 21
-height_open g n none = rw (is_open g.rows none) refl
-
-pub height_known : (g : Geometry) (n : ℕ) → (g.rows ≡ 0 → ⊥) → height g n ≡ g.rows
-height_known g n some = rw (is_not_open g.rows some) refl
-
-pub passed_open : (g : Geometry) (ended : ℕ) → g.rows ≡ 0 → blocks_passed g ended ≡ ended
-passed_open g ended none = rw (is_open g.rows none) refl
-
-pub passed_known : (g : Geometry) (ended : ℕ) → (g.rows ≡ 0 → ⊥) → blocks_passed g ended ≡ blocks_of g
-passed_known g ended some = rw (is_not_open g.rows some) refl
 
 module _ (apid : ℕ) (taken : List ℕ) (g : Geometry) (geometry : geometry_in apid taken ≡ Some g) where
   abbrev b : ℕ
@@ -288,14 +263,14 @@ whole_rows apid taken g received gave there given =
     ∙ ap (rows_of (placed g) (number_at g received)) (all_through apid taken g there)
     ∙ shown_rows apid taken g there (number_at g received) (height g (begun_in apid taken)) (omega arith)
 
-is_picture : (wish : DecodeWish) (old new : Outside) (took gave : List ℕ) (walked : Walked Picture) → IsWalked picture_sink wish old new took gave walked → IsPicture wish old new took gave walked.done
+is_picture : (wish : DecodeWish) (old new : Outside) (took gave : List ℕ) (walked : Walked PictureSink) → IsWalked picture_sink wish old new took gave walked → IsPicture wish old new took gave walked.done
 is_picture wish old new took gave walked x = found_as true gave x x.out (λ received follows.
     let g = walked.done.geometry in
     let n : ℕ = blocks_passed g (end_of (kept_in wish.apid took)) in
-    whole_rows wish.apid took g received gave x.geometry (rows_given walked.sink (placed g) (blocks_with g received) n gave x.stands follows))
+    whole_rows wish.apid took g received gave x.geometry (rows_given walked.sink.picture (placed g) (blocks_with g received) n gave x.stands follows))
 
 -- what it took and gave, and when
-given_so : (wish : DecodeWish) (old new : Outside) (r : Result (Walked Picture) DecodeFault) (result : Result DecodeDone DecodeFault) → (x : Walks picture_sink wish old new r) → Answers wish old new x.took x.gave result → Decodes wish old new result
+given_so : (wish : DecodeWish) (old new : Outside) (r : Result (Walked PictureSink) DecodeFault) (result : Result DecodeDone DecodeFault) → (x : Walks picture_sink wish old new r) → Answers wish old new x.took x.gave result → Decodes wish old new result
 given_so wish old new r result x answer = record {
   took = x.took;
   gave = x.gave;
@@ -305,7 +280,7 @@ given_so wish old new r result x answer = record {
 }
 
 -- a walk with a picture ended without a fault
-pub decodes : (wish : DecodeWish) (old new : Outside) (walked : Walked Picture) → Walks picture_sink wish old new (Ok walked) → Decodes wish old new (Ok walked.done)
+pub decodes : (wish : DecodeWish) (old new : Outside) (walked : Walked PictureSink) → Walks picture_sink wish old new (Ok walked) → Decodes wish old new (Ok walked.done)
 decodes wish old new walked x = given_so wish old new (Ok walked) (Ok walked.done) x (is_picture wish old new x.took x.gave walked x.answer)
 
 -- a fault ended it

@@ -1,22 +1,22 @@
 -- How a decoder ends, by what it took and gave. This project's own.
-use Rattle.std.specs.Prelude.{◌≡◌, ◌≤◌, ℕ, Bool, true, List, [], length, take, false, None, Some, Result, Ok, Err}
+use Rattle.std.specs.Prelude.{◌≡◌, ◌≤◌, ℕ, List, [], length, take, false, None, Some, Result, Ok, Err}
 use Rattle.port_122.specs.Outside.{Outside, Exchange, Rose}
-use Rattle.base_122.specs.Ranges.{IsGeometryInRange}
 use Rattle.base_122.specs.declared.book.Book.{Book}
 use Rattle.base_122.specs.declared.geometry.Geometry.{Geometry}
 use Rattle.base_122.specs.declared.wish.DecodeWish.{DecodeWish}
-use Rattle.packet_defs.specs.Streams.{left_over, has_bad_version, framing}
+use Rattle.packet_defs.specs.Streams.{left_over, has_bad_version}
 use Rattle.stream_defs.specs.Begun.{HasFewPixels, begun_in, height}
 use Rattle.stream_defs.specs.Fates.{geometry_in, state_after}
 use Rattle.stream_defs.specs.Received.{ReceivedIn}
 use Rattle.stream_defs.specs.Picture.{first_rows, picture_octets}
 use Rattle.stream_defs.specs.Settled.{ready}
 use Rattle.packet_assembly.specs.Readings.{IsReadOut}
-use Rattle.strip_decoder.specs.declared.decode.DecodeDone.{DecodeDone}
-use Rattle.strip_decoder.specs.declared.decode.DecodeFault.{DecodeFault}
-use Rattle.strip_decoder.specs.declared.decode.DecodeFault.TheVariants.{ReadFault, WriteFault, NoSegment, TooManyPixels, LongInput, Memory}
-use Rattle.strip_decoder.specs.Runs.{Numbers, holds_after, HasFewKnown}
-use Rattle.strip_decoder.specs.Walks.{IsDamageOf, HasTooMany}
+use Rattle.segment_walk.specs.declared.ending.DecodeDone.{DecodeDone}
+use Rattle.segment_walk.specs.declared.ending.DecodeFault.{DecodeFault}
+use Rattle.segment_walk.specs.declared.ending.DecodeFault.TheVariants.{ReadFault, WriteFault, NoSegment, TooManyPixels, LongInput, Memory}
+use Rattle.segment_walk.specs.Runs.{Numbers, holds_after, HasFewKnown}
+use Rattle.segment_walk.specs.Walks.{HasTooMany}
+use Rattle.segment_walk.specs.Answers.{IsPicture}
 
 -- ---- what is given
 
@@ -33,28 +33,7 @@ pub record FrontBy (book : Book) (apid : ℕ) (taken given : List ℕ) : Type 0 
   pub some : (g : Geometry) (received : Numbers) → geometry_in apid taken ≡ Some g → ReceivedIn (holds_after book) apid taken received →
       (n : ℕ) × (given ≡ take n (picture_octets g received (begun_in apid taken)))
 
--- what is given of a whole picture, if the kept heads reach n block rows
-abbrev pub octets_of : (gives : Bool) → Geometry → Numbers → (n : ℕ) → List ℕ
-octets_of true g received n = picture_octets g received n
-octets_of false g received n = []
-
 -- ---- the decoder
-
--- What is given is the picture of the segments that are received in the octets that were taken, if it is asked for. Its damage is
--- that of the missing block rows, and the octets were read to the end, or can't be read on for this reason.
-pub record PictureBy (gives : Bool) (wish : DecodeWish) (start new : Outside) (took gave : List ℕ) (done : DecodeDone) : Type 0 where
-  pub geometry : geometry_in wish.apid took ≡ Some done.geometry
-  pub range : IsGeometryInRange done.geometry
-  pub few : HasFewPixels wish.pixels wish.apid took
-  pub framing_is : done.framing ≡ framing took
-  pub out : IsReadOut wish.octets new took
-  pub written : done.written ≡ height done.geometry (begun_in wish.apid took)
-  pub rows : done.damage.rows ≡ done.written
-  pub told : (all : List ℕ) → start.rest ≡ Some all → (received : Numbers) × ReceivedIn (holds_after wish.book) wish.apid took received
-      × (gave ≡ octets_of gives done.geometry received (begun_in wish.apid took)) × IsDamageOf done.geometry received (begun_in wish.apid took) done.damage
-
-abbrev pub IsPicture : (wish : DecodeWish) (start new : Outside) (took gave : List ℕ) (done : DecodeDone) → Type 0
-IsPicture = PictureBy true
 
 -- a prefix of the picture for the octets that were taken, if the port reports what is left
 abbrev pub GivesFront : DecodeWish → Outside → (took gave : List ℕ) → Type 0

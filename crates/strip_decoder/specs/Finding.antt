@@ -5,13 +5,13 @@ use Rattle.base_122.specs.declared.wish.DecodeWish.{DecodeWish}
 use Rattle.packet_defs.specs.Streams.{left_over, has_bad_version}
 use Rattle.stream_defs.specs.Begun.{HasFewPixels}
 use Rattle.stream_defs.specs.Fates.{geometry_in}
-use Rattle.strip_decoder.specs.declared.decode.DecodeDone.{DecodeDone}
-use Rattle.strip_decoder.specs.declared.decode.DecodeFault.{DecodeFault}
-use Rattle.strip_decoder.specs.declared.decode.DecodeFault.TheVariants.{ReadFault, WriteFault, NoSegment, TooManyPixels, LongInput, Memory}
+use Rattle.segment_walk.specs.declared.ending.DecodeDone.{DecodeDone}
+use Rattle.segment_walk.specs.declared.ending.DecodeFault.{DecodeFault}
+use Rattle.segment_walk.specs.declared.ending.DecodeFault.TheVariants.{ReadFault, WriteFault, NoSegment, TooManyPixels, LongInput, Memory}
 use Rattle.packet_assembly.specs.Readings.{IsReadOut}
-use Rattle.strip_decoder.specs.Runs.{HasFewKnown}
-use Rattle.strip_decoder.specs.Walks.{HasTooMany}
-use Rattle.strip_decoder.specs.Answers.{PictureBy}
+use Rattle.segment_walk.specs.Runs.{HasFewKnown}
+use Rattle.segment_walk.specs.Walks.{HasTooMany}
+use Rattle.segment_walk.specs.Answers.{PictureBy, AsksSilent}
 use Rattle.strip_decoder.specs.Lines.{damage_lines}
 
 -- For the octets that were taken the answer is a decoder's, and what is given is the lines of the damage.
@@ -40,10 +40,6 @@ FindAnswers wish old new took gave (Err LongInput) = (length took ≡ wish.octet
 FindAnswers wish old new took gave (Err ReadFault) = Rose old.read_faults new.read_faults × (gave ≡ [])
 FindAnswers wish old new took gave (Err WriteFault) = Rose old.write_faults new.write_faults × HasFewKnown wish.pixels wish.apid took × GivesSome wish old new took gave
 FindAnswers wish old new took gave (Err Memory) = gave ≡ []
-
--- A read call with i octets taken, and none given. If the octets report too many pixels, no more is read.
-abbrev pub AsksSilent : DecodeWish → (took : List ℕ) → ℕ → ℕ → Type 0
-AsksSilent wish took i j = (j ≡ 0) × HasFewPixels wish.pixels wish.apid (take i took)
 
 -- One run over a port: what it took and gave, when, and why it ended so. However it ends, it takes at most the number of octets in the
 -- wish. At each read call nothing is given.

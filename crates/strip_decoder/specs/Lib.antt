@@ -1,13 +1,6 @@
-pub mod Sinks
-pub mod Steps
-pub mod Rooms
-pub mod Segments
-pub mod Runs
-pub mod Walks
 pub mod Answers
 pub mod PictureSinks
 pub mod Lines
 pub mod Finding
-pub mod Laws
 pub mod Containment
 pub mod RoundTrip

@@ -1,6 +1,7 @@
 -- The meaning of the sinks with which a decoder and a search for damage walk. This project's own.
-use Rattle.std.specs.Prelude.{◌≡◌, ℕ, ℤ, pos, List, [], ◌∷◌, length, take, unwrap_or, slice_index_or, refl}
+use Rattle.std.specs.Prelude.{◌≡◌, ℕ, List, [], length, take, refl}
 use Rattle.std.proofs.Common.{sym, ap, ◌∙◌}
+use Rattle.std.proofs.Math.Seq.{take-length}
 use Rattle.base_122.specs.declared.geometry.Geometry.{Geometry}
 use Rattle.stream_defs.specs.Settled.{rows_through, block_rows_before}
 use Rattle.picture_rows.specs.declared.picture.Picture.{Picture}
@@ -10,11 +11,8 @@ use Rattle.picture_rows.specs.Pictures as pictures
 use Rattle.picture_rows.proofs.RowsOut.{rows_out}
 use Rattle.picture_rows.proofs.Heights.{rows_of_ended}
 use Rattle.strip_decoder.specs.declared.find.NoPicture.{NoPicture}
-use Rattle.strip_decoder.specs.Sinks.{Blocks, SinkOf, EndsAt}
-
--- the numbers of blocks; those of a missing one are 0
-abbrev pub numbers_in : Blocks → (block i : ℕ) → ℤ
-numbers_in blocks block i = slice_index_or (unwrap_or (blocks block) []) i (pos 0)
+use Rattle.strip_decoder.specs.declared.pictures.PictureSink.{PictureSink}
+use Rattle.segment_walk.specs.Sinks.{Blocks, SinkOf, EndsAt, numbers_in}
 
 -- ---- a picture
 
@@ -42,12 +40,8 @@ pub rows_given : (p : Picture) (g : Geometry) (blocks : Blocks) (n : ℕ) (gave 
 rows_given p g blocks n gave stands shows =
     rows_out (picture_state p) g n (numbers_in blocks) gave stands.standing stands.geometry stands.passed shows.gave_is
 
-take_whole : (xs : List ℕ) → take (length xs) xs ≡ xs
-take_whole [] = refl
-take_whole (x ∷ xs) = ap (λ zs. x ∷ zs) (take_whole xs)
-
 pub front_given : (g : Geometry) (blocks : Blocks) (n : ℕ) (gave : List ℕ) → GivesRows g blocks n gave → GivesFront g blocks n gave
-front_given g blocks n gave given = record { some = length gave; gave_is = sym (ap (take (length gave)) (sym given) ∙ take_whole gave) }
+front_given g blocks n gave given = record { some = length gave; gave_is = sym (ap (take (length gave)) (sym given) ∙ take-length gave) }
 
 pub rows_ended : (g h : Geometry) (blocks : Blocks) (n : ℕ) (gave : List ℕ) → EndsAt g h n → GivesRows g blocks n gave → GivesRows h blocks n gave
 rows_ended g h blocks n gave ends given = given ∙ sym (rows_of_ended g h n (numbers_in blocks) ends.range ends.height ends.same ends.fewer ends.more)
@@ -58,8 +52,18 @@ front_ended g h blocks n gave ends front = record {
   gave_is = front.gave_is ∙ ap (take front.some) (sym (rows_of_ended g h n (numbers_in blocks) ends.range ends.height ends.same ends.fewer ends.more));
 }
 
-abbrev pub picture_sink : SinkOf Picture
-picture_sink = record { Stands = StandsAt; Follows = ShowsBlocks; Given = GivesRows; Part = GivesFront; given_of = rows_given; part_of = front_given; part_none = λ g blocks. record { some = 0; gave_is = refl }; given_ended = rows_ended; part_ended = front_ended }
+abbrev pub picture_sink : SinkOf PictureSink
+picture_sink = record {
+  Stands = λ s. StandsAt s.picture;
+  Follows = λ s. ShowsBlocks s.picture;
+  Given = GivesRows;
+  Part = GivesFront;
+  given_of = λ s. rows_given s.picture;
+  part_of = front_given;
+  part_none = λ g blocks. record { some = 0; gave_is = refl };
+  given_ended = rows_ended;
+  part_ended = front_ended;
+}
 
 -- ---- no picture
 

@@ -1,34 +1,17 @@
 -- The round trip: what is given if all packets of an image are decoded. This project's own.
-use Rattle.std.specs.Prelude.{◌≡◌, ◌<◌, ℕ, ℤ, false, List, [], None, Some}
+use Rattle.std.specs.Prelude.{◌≡◌, ◌<◌, ℕ, ℤ, List, [], None, Some}
 use Rattle.port_122.specs.Outside.{Outside}
 use Rattle.base_122.specs.Setting.{image_geometry}
 use Rattle.base_122.specs.declared.setting.Setting.{Setting}
 use Rattle.base_122.specs.declared.wish.DecodeWish.{DecodeWish}
-use Rattle.packet_defs.specs.Streams.{framing}
 use Rattle.raster_rows.specs.Pixels.{raster_octets}
-use Rattle.stream_defs.specs.Damage.{whole_missing}
-use Rattle.stream_defs.specs.Fates.{geometry_in}
 use Rattle.stream_defs.specs.Output.{output}
 use Rattle.stream_defs.specs.Picture.{whole_picture, whole_octets}
 use Rattle.stream_defs.specs.Received.{ReceivedIn}
-use Rattle.strip_decoder.specs.declared.decode.DecodeDone.{DecodeDone}
-use Rattle.strip_decoder.specs.Answers.{IsPicture}
-use Rattle.strip_decoder.specs.Containment.{IsImageFor}
-use Rattle.strip_decoder.specs.Runs.{Numbers, holds_after}
-
--- nothing is omitted: the stop is the last stage of plane 0, and there is neither a limit nor a total
-pub record SendsAll (s : Setting) : Type 0 where
-  pub goes_on : s.stop.dc ≡ false
-  pub plane : s.stop.plane ≡ 0
-  pub stage : s.stop.stage ≡ 3
-  pub limit : s.limit ≡ 0
-  pub total : s.total ≡ 0
-
--- its packets report its size, each block row is received, and they can be read to their end
-pub record ComesWhole (s : Setting) (rows : ℕ) (x : ℕ → ℕ → ℤ) (received : Numbers) : Type 0 where
-  pub geometry : geometry_in s.apid (output s rows x) ≡ Some (image_geometry s rows)
-  pub missing : whole_missing (image_geometry s rows) received ≡ []
-  pub framing_is : framing (output s rows x) ≡ None
+use Rattle.segment_walk.specs.declared.ending.DecodeDone.{DecodeDone}
+use Rattle.segment_walk.specs.Answers.{IsPicture}
+use Rattle.segment_walk.specs.Images.{IsImageFor, ComesWhole, SendsAll}
+use Rattle.segment_walk.specs.Runs.{Numbers, holds_after}
 
 -- the picture of these segments is the image
 pub record ComesSame (s : Setting) (rows : ℕ) (x : ℕ → ℕ → ℤ) (received : Numbers) : Type 0 where

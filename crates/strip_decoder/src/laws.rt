@@ -1,14 +1,8 @@
 // The laws on which a decoder's clauses rest.
 ghost use Rattle.strip_decoder.specs.Containment.{DecodedContained, LossesContained};
-ghost use Rattle.strip_decoder.specs.Laws.{ReceivedIsTold};
 ghost use Rattle.strip_decoder.specs.RoundTrip.{RoundTrip};
 
 use segment_code::{coded_holds, coded_holds_exactly, texts_are_short};
-
-/// The octets of a stream and a sound code book determine which segments are received, and with which numbers, in exactly one way.
-pub const fn received_is_told()
-    ensures { ReceivedIsTold }
-{}
 
 /// Whatever numbers the lost blocks have, no pixel outside the damaged rows changes. So if some packets of an image are read, in order,
 /// each pixel outside their damage is that of the picture for all of them, and exactly the segments with all their packets are received.

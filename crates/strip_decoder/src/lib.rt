@@ -1,5 +1,5 @@
-//! One walk over the segments that the packets of a stream carry, and what it is done for: the picture, row by row and in the memory
-//! of a strip, and the rows that losses damage.
+//! The picture of the segments that the packets of a stream carry, row by row and in the memory of a strip, and the lines of the rows that
+//! losses damage. Both are a walk of `segment_walk`.
 //!
 //! Packets in memory are decoded so (`a_packet_gives_its_picture` of `crate_examples`):
 //!
@@ -14,18 +14,12 @@
 //! ```
 #![tactic(auto)]
 
-mod blocks;
 mod decode;
-mod engine;
 mod find;
 mod laws;
 mod pictures;
-mod segments;
-mod sink;
-mod walk;
 
-pub use decode::{DecodeDone, DecodeFault, decode_packets};
-pub use engine::{Walked, walk_segments};
+pub use decode::decode_packets;
 pub use find::{NoPicture, find_damage};
-pub use laws::{decoding_contains, losses_are_contained, received_is_told, round_trip};
-pub use sink::BlockSink;
+pub use laws::{decoding_contains, losses_are_contained, round_trip};
+pub use segment_walk::{DecodeDone, DecodeFault};

@@ -1,5 +1,4 @@
-use Rattle.std.proofs.Common.{subst}
-use Rattle.std.specs.Prelude.{Err}
+use Rattle.std.proofs.Common.{subst, Err}
 use Rattle.bare_stream.specs.Heads.{TakesHead}
 use Rattle.bare_stream.specs.Inputs.{source_of}
 use Rattle.bare_stream.proofs.FirstHead.{first_faulted, first_refused, no_memory, first_reading}

@@ -1,5 +1,4 @@
-use Rattle.std.proofs.Common.{◌≡◌}
-use Rattle.std.specs.Prelude.{IfSome}
+use Rattle.std.proofs.Common.{◌≡◌, IfSome}
 use Rattle.segment_defs.specs.Head.{IsHead}
 use Rattle.bare_stream.specs.RowsIn.{HasCome}
 use Rattle.bare_stream.proofs.encode.write_texts.Given as goal

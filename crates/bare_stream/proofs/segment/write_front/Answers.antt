@@ -1,5 +1,4 @@
-use Rattle.std.proofs.Common.{arith, ◌*◌}
-use Rattle.std.proofs.lemmas.List.{length-take-le}
+use Rattle.std.proofs.Common.{arith, ◌*◌, length-take-le}
 use Rattle.strip_coder.proofs.SegmentSteps.{small_part}
 use Rattle.bare_stream.proofs.segment.write_front.Goals as goal
 

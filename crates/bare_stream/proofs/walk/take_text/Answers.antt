@@ -1,5 +1,4 @@
-use Rattle.std.proofs.Common.{rules, arith, ◌≤◌, ◌≡◌, ◌*◌, ◌++◌, length, take, refl, sym, subst, vec_len}
-use Rattle.std.specs.Prelude.{Ok, Err}
+use Rattle.std.proofs.Common.{rules, arith, ◌≤◌, ◌≡◌, ◌*◌, ◌++◌, length, take, refl, sym, subst, vec_len, Ok, Err}
 use Rattle.std.proofs.lemmas.List.{with_items_is}
 use Rattle.wave_defs.specs.Held.{blocks_in}
 use Rattle.segment_code.specs.DecodedItems.{DecodesItems}

@@ -1,5 +1,4 @@
-use Rattle.std.proofs.Common.{rules}
-use Rattle.std.specs.Prelude.{string_bytes}
+use Rattle.std.proofs.Common.{rules, string_bytes}
 use Rattle.command_words.specs.Entries.{IsEntry}
 use Rattle.command_words.specs.Given.{finds_of}
 use Rattle.command_words.proofs.WordLists.{first_word, entry_first}

@@ -1,5 +1,4 @@
-use Rattle.std.proofs.Common.{sym, ◌∙◌, ap, subst, lit<}
-use Rattle.std.specs.Prelude.{Some}
+use Rattle.std.proofs.Common.{sym, ◌∙◌, ap, subst, lit<, Some}
 use Rattle.std.proofs.lemmas.Str.Pattern.{split_parts}
 use Rattle.command_words.specs.Values.{form_of, HasForm}
 use Rattle.command_words.specs.Entries.{IsKeyed}

@@ -1,6 +1,6 @@
-use Rattle.std.proofs.Common.{sym, ◌∙◌, subst, ap}
-use Rattle.std.specs.Prelude.{string_bytes, length, IfOk, IfErr, Ok, Err}
-use Rattle.command_words.specs.declared.command.WordFault.TheVariants.{BadWord}
+use Rattle.std.proofs.Common.{sym, ◌∙◌, subst, ap, string_bytes, length, IfOk, IfErr, Ok, Err}
+use Rattle.std.proofs.Common.{arith}
+use Rattle.std.proofs.lemmas.Grind.{common_steps}
 use Rattle.command_words.specs.Tables.{command_named}
 use Rattle.command_words.specs.Words.{texts, IsPlaced}
 use Rattle.command_words.specs.Commands.{IsInRange}
@@ -13,14 +13,10 @@ use Rattle.command_words.proofs.OwnKeys.{lacks_total}
 use Rattle.command_words.proofs.reading.read_words.Goals as goal
 
 pub make_command-requires : goal.make_command-requires
-make_command-requires c = lacks_total (string_bytes c.first-item.result) c.in-Some.task c.in-Some.keys.now _ (finds_of c.in-Ok.given)
-    (ap command_named (sym c.as_str.ensures.value) ∙ c.in-Some.ensures) c.in-Ok.ensures
+make_command-requires c = grind (arith, common_steps, lacks_total, string_bytes)
 
 pub returns-in_default-command_named-clause-only : goal.returns-in_default-command_named-clause-only
-returns-in_default-command_named-clause-only c said says =
-    let first = first_word c.args.words.now c.first-item.result c.in-len1-up.len_at_least c.first-item.is in
-    says_one (texts c.args.words.now) said (Err (BadWord 0)) says
-    (says_first (texts c.args.words.now) _ (string_bytes c.first-item.result) first (ap command_named (sym c.as_str.ensures.value) ∙ c.in_default-command_named.ensures))
+returns-in_default-command_named-clause-only c said says = grind (arith, common_steps, first_word, says_one, says_first, string_bytes)
 
 pub returns-in-Ok-clause-only : goal.returns-in-Ok-clause-only
 returns-in-Ok-clause-only c said says =

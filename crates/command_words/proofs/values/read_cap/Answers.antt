@@ -1,5 +1,4 @@
-use Rattle.std.proofs.Common.{arith, ◌≡◌, decimal, ap, sym, ◌∙◌}
-use Rattle.std.specs.Prelude.{Ok}
+use Rattle.std.proofs.Common.{arith, ◌≡◌, decimal, ap, sym, ◌∙◌, Ok}
 use Rattle.std.proofs.lemmas.Fmt.{parse-decimal}
 use Rattle.std.proofs.lemmas.Bool.{false≢true}
 use Rattle.command_words.proofs.values.read_cap.Goals.{else-number-le-MOST-via-then-number-le-MOST+else-is_written_so, else-number-le-MOST-via-else-number-le-MOST}

@@ -1,5 +1,4 @@
-use Rattle.std.proofs.Common.{decimal, ◌∙◌, lit<}
-use Rattle.std.specs.Prelude.{codes, Some, None}
+use Rattle.std.proofs.Common.{decimal, ◌∙◌, lit<, codes, Some, None}
 use Rattle.std.proofs.lemmas.Bool.{false≢true}
 use Rattle.std.proofs.lemmas.Slice.Eq.{bytes_eq-Decides}
 use Rattle.std.proofs.lemmas.Str.Pattern.{split_after}

@@ -1,5 +1,4 @@
-use Rattle.std.proofs.Common.{◌≡◌, length, arith, refl, sym, ◌∙◌, subst}
-use Rattle.std.specs.Prelude.{All}
+use Rattle.std.proofs.Common.{◌≡◌, length, arith, refl, sym, ◌∙◌, subst, All}
 use Rattle.std.proofs.lemmas.Bool.{false≢true}
 use Rattle.command_words.specs.Values.{IsWeightDigit}
 use Rattle.command_words.proofs.ValueTexts.{All-weights, weights_from_digits}

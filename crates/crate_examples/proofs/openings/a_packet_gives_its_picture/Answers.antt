@@ -1,5 +1,4 @@
-use Rattle.std.proofs.Common.{sym, subst, ap}
-use Rattle.std.specs.Prelude.{IsTrue}
+use Rattle.std.proofs.Common.{sym, subst, ap, IsTrue}
 use Rattle.base_122.specs.declared.wish.DecodeWish.{DecodeWish}
 use Rattle.plane_defs.specs.Codes.{is_book_sound}
 use Rattle.plane_defs.proofs.ProfileSound.{profile_sound}

@@ -1,5 +1,4 @@
-use Rattle.std.proofs.Common.{drop, sym, subst, ◌∙◌, arith}
-use Rattle.std.specs.Prelude.{Ok, Err}
+use Rattle.std.proofs.Common.{drop, sym, subst, ◌∙◌, arith, Ok, Err}
 use Rattle.std.proofs.lemmas.List.{with_items_is}
 use Rattle.packet_assembly.proofs.HeadLengths.{head_within}
 use Rattle.base_122.specs.Profile.{profile}

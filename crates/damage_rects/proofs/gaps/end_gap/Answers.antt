@@ -1,5 +1,4 @@
-use Rattle.std.proofs.Common.{sym, ap, refl, arith, subst, ◌∙◌, ◌≡◌, ◌<◌, ◌+◌, ◌-◌, ◌++◌, [], ◌∷◌}
-use Rattle.std.specs.Prelude.{not, true, is_ok, if◌then◌else◌}
+use Rattle.std.proofs.Common.{sym, ap, refl, arith, subst, ◌∙◌, ◌≡◌, ◌<◌, ◌+◌, ◌-◌, ◌++◌, [], ◌∷◌, not, true, is_ok, if◌then◌else◌}
 use Rattle.rect_defs.specs.declared.gap.Gap.{Gap}
 use Rattle.rect_defs.specs.Gaps.{AreGaps}
 use Rattle.damage_rects.proofs.Keeping.{ends_none, ends_one}

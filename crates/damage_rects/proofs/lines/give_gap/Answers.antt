@@ -1,6 +1,4 @@
-use Rattle.std.proofs.Common.{◌≡◌, ◌-◌, ◌/◌, ◌+◌, ◌≤◌, [], ◌∷◌, List, ℕ, arith, sym, subst, take}
-use Rattle.std.specs.Prelude.{filter}
-use Rattle.std.specs.List.{flat_map}
+use Rattle.std.proofs.Common.{◌≡◌, ◌-◌, ◌/◌, ◌+◌, ◌≤◌, [], ◌∷◌, List, ℕ, arith, sym, subst, take, filter, flat_map}
 use Rattle.port_122.specs.Outside.{Exchange, NoRead, WritesAll}
 use Rattle.base_122.specs.Sizes.{block_count}
 use Rattle.rect_defs.specs.declared.gap.Gap.{Gap}

@@ -1,6 +1,4 @@
-use Rattle.std.proofs.Common.{◌-◌, ◌/◌, take, [], ◌∷◌}
-use Rattle.std.specs.Prelude.{filter}
-use Rattle.std.specs.List.{flat_map}
+use Rattle.std.proofs.Common.{◌-◌, ◌/◌, take, [], ◌∷◌, filter, flat_map}
 use Rattle.port_122.specs.Outside.{Exchange, NoRead}
 use Rattle.base_122.specs.Sizes.{block_count}
 use Rattle.rect_defs.specs.Gaps.{gap_rect, gap_rows}

@@ -1,5 +1,4 @@
-use Rattle.std.proofs.Common.{take, []}
-use Rattle.std.specs.List.{flat_map}
+use Rattle.std.proofs.Common.{take, [], flat_map}
 use Rattle.port_122.specs.Outside.{Exchange, NoRead}
 use Rattle.rect_defs.specs.Gaps.{gap_rects}
 use Rattle.rect_defs.specs.RectLines.{rect_lines}

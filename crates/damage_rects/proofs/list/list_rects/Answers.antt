@@ -1,5 +1,4 @@
-use Rattle.std.proofs.Common.{ap, subst, sym}
-use Rattle.std.specs.Prelude.{is_ok, is_err}
+use Rattle.std.proofs.Common.{ap, subst, sym, is_ok, is_err}
 use Rattle.damage_rects.proofs.Listings.{AllGaps, all_within, has_open, is_size, list_fails, list_refused, list_done, list_cut}
 use Rattle.damage_rects.proofs.list.list_rects.Goals as goal
 

@@ -1,5 +1,4 @@
-use Rattle.std.proofs.Common.{◌≢◌, ◌<◌, ℕ, zero, suc, [], ◌∷◌, arith, refl}
-use Rattle.std.specs.Prelude.{slice_index_or}
+use Rattle.std.proofs.Common.{◌≢◌, ◌<◌, ℕ, zero, suc, [], ◌∷◌, arith, refl, slice_index_or}
 use Rattle.base_122.specs.Ranges.{IsInRange}
 use Rattle.base_122.specs.declared.setting.Setting.{Setting}
 use Rattle.strip_coder.specs.declared.work.Work.{Work}

@@ -1,4 +1,4 @@
-use Rattle.strip122.proofs.BareRuns.{bare_decoded, bare_decode_failed}
+use Rattle.strip122.proofs.BareRuns.{bare_decode_failed}
 use Rattle.strip122.proofs.bare.bare_decode.Goals as goal
 
 pub returns-in-Err : goal.returns-in-Err

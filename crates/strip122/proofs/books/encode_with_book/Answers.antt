@@ -1,5 +1,5 @@
-use Rattle.std.proofs.Common.{inl, inr}
-use Rattle.strip122.proofs.BookSettings.{range_with_book, made_with_book}
+use Rattle.std.proofs.Common.{inl}
+use Rattle.strip122.proofs.BookSettings.{range_with_book}
 use Rattle.strip122.proofs.Encoded.{lacks_memory}
 use Rattle.strip122.proofs.books.encode_with_book.Goals as goal
 

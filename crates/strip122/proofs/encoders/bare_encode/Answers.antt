@@ -1,4 +1,4 @@
-use Rattle.strip122.proofs.BareRuns.{bare_lacks_memory, bare_encoded, bare_encode_failed}
+use Rattle.strip122.proofs.BareRuns.{bare_lacks_memory, bare_encode_failed}
 use Rattle.strip122.proofs.encoders.bare_encode.Goals as goal
 
 pub returns-in_default : goal.returns-in_default

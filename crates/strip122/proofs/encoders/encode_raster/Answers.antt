@@ -1,4 +1,4 @@
-use Rattle.strip122.proofs.Encoded.{encoded, encode_failed}
+use Rattle.strip122.proofs.Encoded.{encode_failed}
 use Rattle.strip122.proofs.encoders.encode_raster.Goals as goal
 
 pub returns-in-Err : goal.returns-in-Err

@@ -1,5 +1,4 @@
-use Rattle.std.proofs.Common.{◌≡◌, ◌∙◌, [], true, false, sym, ap, rules}
-use Rattle.std.specs.Prelude.{Bool, not, nat_le, Option, None, is_some, find}
+use Rattle.std.proofs.Common.{◌≡◌, ◌∙◌, [], true, false, sym, ap, rules, Bool, not, nat_le, Option, None, is_some, find}
 use Rattle.std.proofs.lemmas.Bool.{false≢true}
 use Rattle.strip122.specs.DamageNotes.{damaged, is_known}
 use Rattle.strip122.proofs.Decoded.{known_some, tells_nothing, tells_damage}

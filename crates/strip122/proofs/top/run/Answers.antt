@@ -1,5 +1,4 @@
-use Rattle.std.proofs.Common.{◌≡◌, sym, subst}
-use Rattle.std.specs.Prelude.{Ok}
+use Rattle.std.proofs.Common.{◌≡◌, sym, subst, Ok}
 use Rattle.command_words.specs.declared.command.Command.TheVariants.{Read, BareDecode}
 use Rattle.command_words.specs.declared.tables.Reading.TheVariants.{Decode, Look}
 use Rattle.command_words.specs.Words.{texts, Says}

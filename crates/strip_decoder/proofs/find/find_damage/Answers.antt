@@ -1,5 +1,4 @@
-use Rattle.std.proofs.Common.{ap}
-use Rattle.std.specs.Prelude.{is_ok, is_err}
+use Rattle.std.proofs.Common.{ap, is_ok, is_err}
 use Rattle.strip_decoder.proofs.Findings.{find_fails, find_done, find_cut}
 use Rattle.strip_decoder.proofs.find.find_damage.Goals as goal
 

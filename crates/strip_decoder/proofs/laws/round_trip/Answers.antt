@@ -1,5 +1,5 @@
 use Rattle.strip_decoder.proofs.RoundTrips.{comes_same, decoded_back}
-use Rattle.strip_decoder.proofs.WholeImages.{comes_whole}
+use Rattle.segment_walk.proofs.WholeImages.{comes_whole}
 use Rattle.strip_decoder.proofs.laws.round_trip.Goals as goal
 
 pub returns : goal.returns

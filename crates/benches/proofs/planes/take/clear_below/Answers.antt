@@ -1,5 +1,4 @@
-use Rattle.std.proofs.Common.{◌≡◌, ◌≢◌, ◌<◌, ◌/◌, ◌∙◌, ap, subst, ℤ, pos, length, arith, below_more, get_or, get_or-set_other, get_or-set_same, w32, to_z, of_z, rules}
-use Rattle.std.proofs.Math.ListN.{length-set}
+use Rattle.std.proofs.Common.{◌≡◌, ◌≢◌, ◌<◌, ◌/◌, ◌∙◌, ap, subst, ℤ, pos, length, arith, below_more, get_or, get_or-set_other, get_or-set_same, w32, to_z, of_z, rules, length-set}
 use Rattle.std.proofs.lemmas.Int.{to_z-of_z}
 use Rattle.plane_defs.specs.Marks.{depth_of}
 use Rattle.benches.specs.Settled.{IsAbove}

@@ -1,4 +1,4 @@
-use Rattle.std.proofs.Common.{◌*◌, ◌/◌, ◌^◌, ◌∙◌, arith}
+use Rattle.std.proofs.Common.{◌^◌, ◌∙◌, arith}
 use Rattle.benches.proofs.FlatRow.{flat_within}
 use Rattle.benches.proofs.transform.forward.measure.Goals as goal
 

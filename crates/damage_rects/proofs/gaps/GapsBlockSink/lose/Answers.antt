@@ -1,5 +1,4 @@
-use Rattle.std.proofs.Common.{refl, ap, ◌+◌}
-use Rattle.std.specs.Prelude.{None, Some, not, is_some, true}
+use Rattle.std.proofs.Common.{refl, ap, ◌+◌, None, Some, not, is_some, true}
 use Rattle.damage_rects.specs.declared.gaps.Gaps.{Gaps}
 use Rattle.damage_rects.proofs.Keeping.{takes, keeps_lost}
 use Rattle.damage_rects.proofs.gaps.GapsBlockSink.lose.Goals as goal

@@ -1,5 +1,4 @@
-use Rattle.std.proofs.Common.{ap, arith, ◌+◌}
-use Rattle.std.specs.Prelude.{Some, not, is_some, false}
+use Rattle.std.proofs.Common.{ap, arith, ◌+◌, Some, not, is_some, false}
 use Rattle.damage_rects.proofs.Keeping.{takes, keeps_put}
 use Rattle.damage_rects.proofs.gaps.GapsBlockSink.put.Goals as goal
 

@@ -1,4 +1,4 @@
-use Rattle.std.specs.Prelude.{None}
+use Rattle.std.proofs.Common.{None}
 use Rattle.quick_look.proofs.RowTakes.{none_gives}
 use Rattle.quick_look.proofs.row.LookRowBlockSink.lose.Goals as goal
 

@@ -1,5 +1,0 @@
-use Rattle.lent_122.proofs.Encoded.{accepts}
-use Rattle.lent_122.proofs.encode.encode_whole.Goals as goal
-
-pub returns-clause-accepts : goal.returns-clause-accepts
-returns-clause-accepts c = accepts c.args.setting.now c.args.raster.now c.args.room.now c.put_packets.new.room c.put_packets.result c.put_packets.ensures

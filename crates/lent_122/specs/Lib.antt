@@ -1,4 +1,0 @@
-pub mod Lent
-pub mod Encoding
-pub mod Decoding
-pub mod ComingBack

@@ -1,0 +1,180 @@
+-- Blocks that a walk passes, one after another.
+use Rattle.std.proofs.Common.{◌≡◌, ◌<◌, ◌≤◌, ◌+◌, ◌/◌, ◌==◌, ℕ, ℤ, zero, suc, Bool, true, false, List, [], ◌++◌, refl, sym, ap, subst, ◌∙◌, arith, append_assoc, ◌||◌, ◌&&◌, not, is_some, filter, Option, None, Some, Result, Ok, Err, IsErr, append-nil}
+use Rattle.std.specs.List.{range_with_len, list_any}
+use Rattle.std.proofs.lemmas.Bool.{false≢true}
+use Rattle.std.proofs.lemmas.Bool.Decides.{nat_tests}
+use Rattle.std.proofs.lemmas.Nat.{div-mul-add}
+use Rattle.stream_defs.proofs.OpenContaining.{any_chosen}
+use Rattle.port_122.specs.Outside.{Outside, NoRead}
+use Rattle.port_122.proofs.Stretches.{since_start, since_out, rose_since}
+use Rattle.base_122.specs.Sizes.{block_count}
+use Rattle.base_122.specs.declared.geometry.Geometry.{Geometry}
+use Rattle.stream_defs.specs.Marks.{Marks, marked, and_missing, most_block_rows}
+use Rattle.damage_rows.proofs.TableLaws.{any_none, filter_same}
+use Rattle.segment_walk.specs.Sinks.{Blocks, SinkOf, Takes, Fails}
+use Rattle.segment_walk.specs.Steps.{Walking, IsCurrent, HasRoom, Follows, AreNext, HasPassed, StopsEarly, PassesBlocks, HasAdvanced, passed_in, is_marked, is_lost, IsListed}
+
+-- ---- marks
+
+or_none : (b : Bool) → (b || false) ≡ b
+or_none b = grind (arith, nat_tests)
+
+marked_row : (m : Marks) (r row : ℕ) → row < most_block_rows → is_marked (marked m r).missing row ≡ (is_marked m.missing row || (r == row))
+unfolding and_missing
+marked_row m r row low = by (f row) refl
+  where
+    f : ℕ → Bool
+    f i = is_marked m.missing i || (i == r)
+
+    turned : (i j : ℕ) → (i == j) ≡ (j == i)
+    turned i j = grind (arith, nat_tests)
+
+    same : f row ≡ (is_marked m.missing row || (r == row))
+    same = ap (λ b. is_marked m.missing row || b) (turned row r)
+
+    by : (b : Bool) → f row ≡ b → list_any (λ k. k == row) (filter f (range_with_len 0 most_block_rows)) ≡ (is_marked m.missing row || (r == row))
+    by true e = any_chosen (λ k. k == row) f most_block_rows 0 row (omega arith) (omega (arith, low)) e (grind (arith, nat_tests)) ∙ sym e ∙ same
+    by false e = any_none (λ k. k == row) f most_block_rows 0 (λ i from below set. other i (i == row) refl set) ∙ sym e ∙ same
+      where
+        other : (i : ℕ) (b : Bool) → (i == row) ≡ b → f i ≡ true → b ≡ false
+        other i true here set = let at : i ≡ row = grind (arith, nat_tests) in sym set ∙ ap f at ∙ e
+        other i false here set = refl
+
+-- and the rows stay listed
+marked_listed : (m : Marks) (r : ℕ) → IsListed (marked m r)
+unfolding and_missing
+marked_listed m r =
+    filter_same (λ i. is_marked m.missing i || (i == r)) (is_marked (marked m r).missing) most_block_rows 0
+    (λ i low high. sym (marked_row m r i (omega (arith, high)) ∙ ap (λ b. is_marked m.missing i || b) (turned r i)))
+  where
+    turned : (i j : ℕ) → (i == j) ≡ (j == i)
+    turned i j = grind (arith, nat_tests)
+
+-- the marks after a block, which may be missing
+abbrev pub marks_past : Option (List ℤ) → Marks → (row : ℕ) → Marks
+marks_past None m row = marked m row
+marks_past (Some xs) m row = m
+
+past_rows : (v : Option (List ℤ)) (m : Marks) (row : ℕ) → (marks_past v m row).rows ≡ m.rows
+past_rows v m row = grind (arith, nat_tests)
+
+past_marked : (v : Option (List ℤ)) (m : Marks) (r row : ℕ) → row < most_block_rows → is_marked (marks_past v m r).missing row ≡ (is_marked m.missing row || (not (is_some v) && (r == row)))
+past_marked v m r row low = grind (arith, nat_tests, marked_row, or_none)
+
+past_listed : (v : Option (List ℤ)) (m : Marks) (r : ℕ) → IsListed m → IsListed (marks_past v m r)
+past_listed None m r listed = marked_listed m r
+past_listed (Some xs) m r listed = listed
+
+any_more : (f : ℕ → Bool) (a n : ℕ) → list_any f (range_with_len a (n + 1)) ≡ (list_any f (range_with_len a n) || f (a + n))
+any_more f a zero = ap (λ i. list_any f (range_with_len a i)) (let e : 0 + 1 ≡ suc 0 = omega arith in e) ∙ or_none (f a) ∙ ap f (omega arith)
+any_more f a (suc n) =
+    let more : suc n + 1 ≡ suc (n + 1) = omega arith in
+    let last : a + 1 + n ≡ a + suc n = omega arith in
+    ap (λ i. list_any f (range_with_len a i)) more ∙ ap (λ b. f a || b) (any_more f (a + 1) n ∙ ap (λ i. list_any f (range_with_len (a + 1) n) || f i) last)
+    ∙ or_assoc (f a) (list_any f (range_with_len (a + 1) n)) (f (a + suc n))
+  where
+    or_assoc : (a b c : Bool) → (a || (b || c)) ≡ ((a || b) || c)
+    or_assoc true b c = refl
+    or_assoc false b c = refl
+
+-- one block more
+lost_more : (g : Geometry) (blocks : Blocks) (m row : ℕ) → is_lost g blocks (m + 1) row ≡ (is_lost g blocks m row || (not (is_some (blocks m)) && (m / block_count g.width == row)))
+lost_more g blocks m row = grind (arith, nat_tests, any_more)
+
+-- ---- one block
+
+module _ {S : Type 0} (k : SinkOf S) (v : Option (List ℤ)) (p z : Walking S) (t : S) (a b : Outside) (standing : IsCurrent k p) (room : HasRoom 1 p) where
+  abbrev c : ℕ
+  c = block_count p.geometry.width
+
+  abbrev past : Walking S
+  past = record p { sink = t; damage = marks_past v p.damage p.at.row }
+
+  -- the numbers of the next block
+  next_is : (blocks : Blocks) → AreNext (λ i. v) 1 p blocks → blocks (passed_in p) ≡ v
+  next_is blocks next = ap blocks (omega arith) ∙ next.at 0 (omega arith)
+
+  marked_past : (blocks : Blocks) (gave : List ℕ) → Follows k p blocks gave → AreNext (λ i. v) 1 p blocks → (row : ℕ) → row < most_block_rows → is_marked (marks_past v p.damage p.at.row).missing row ≡ is_lost p.geometry blocks (passed_in p + 1) row
+  marked_past blocks gave f next row low = grind (arith, nat_tests, div-mul-add, past_marked, next_is, lost_more)
+
+  -- it was passed
+  pub one_passed : Takes k p.geometry (passed_in p) v a b p.sink t → HasAdvanced past z → HasPassed k (λ i. v) 1 a b p z
+  one_passed takes on = subst (λ z. HasPassed k (λ i. v) 1 a b p z) (sym on.same) (record {
+    standing = record {
+      range = standing.range;
+      height = standing.height;
+      column = on.column;
+      few = omega (arith, on.count, room);
+      damage = past_rows v p.damage p.at.row ∙ standing.damage;
+      stands = subst (λ n. k.Stands t p.geometry n) (sym on.count) takes.stands;
+    };
+    geometry = refl;
+    count = on.count;
+    gave = takes.gave;
+    out = takes.out;
+    follows = λ blocks before f next. record {
+      sink = subst (λ n. k.Follows t p.geometry blocks n (before ++ takes.gave)) (sym on.count) (takes.follows blocks before f.sink (next_is blocks next));
+      marked = λ row low. marked_past blocks before f next row low ∙ ap (λ n. is_lost p.geometry blocks n row) (sym on.count);
+      listed = past_listed v p.damage p.at.row f.listed;
+    };
+  })
+
+  -- a write failed
+  pub one_failed : Fails k p.geometry (passed_in p) v a b p.sink → StopsEarly k (λ i. v) 1 a b p
+  one_failed fails = record {
+    gave = fails.gave;
+    out = fails.out;
+    rose = fails.rose;
+    part = λ blocks before f next. (passed_in p + 1, omega arith, fails.part blocks before f.sink (next_is blocks next));
+  }
+
+-- ---- more of them
+
+pub passes_failed : {S T E : Type 0} {a b : Outside} {p : Walking S} (k : SinkOf S) (r : Result T E) (values : ℕ → Option (List ℤ)) (n : ℕ) (z : Walking S) → IsErr r → StopsEarly k values n a b p → PassesBlocks k r values n a b p z
+passes_failed k (Ok x) values n z is broken = absurd (false≢true is)
+passes_failed k (Err e) values n z is broken = broken
+
+-- none was passed
+pub none_passed : {S : Type 0} (k : SinkOf S) (values : ℕ → Option (List ℤ)) (p : Walking S) (a : Outside) → IsCurrent k p → HasPassed k values 0 a a p p
+none_passed k values p a standing = record {
+  standing = standing;
+  geometry = refl;
+  count = omega arith;
+  gave = [];
+  out = since_start a NoRead;
+  follows = λ blocks before f next. subst (Follows k p blocks) (sym (append-nil before)) f;
+}
+
+module _ {S : Type 0} (k : SinkOf S) (values : ℕ → Option (List ℤ)) (i : ℕ) {a b : Outside} (p x : Walking S) (passed : HasPassed k values i a b p x) where
+  first_ones : (n : ℕ) (blocks : Blocks) → i ≤ n → AreNext values n p blocks → AreNext values i p blocks
+  first_ones n blocks le next = record { at = λ j lt. next.at j (omega (arith, lt, le)) }
+
+  next_one : (n : ℕ) (blocks : Blocks) → i < n → AreNext values n p blocks → AreNext (λ j. values i) 1 x blocks
+  next_one n blocks lt next = record { at = λ j few. ap blocks (omega (arith, few, passed.count)) ∙ next.at i lt }
+
+  -- one more was passed
+  pub passed_then : {c : Outside} (z : Walking S) → HasPassed k (λ j. values i) 1 b c x z → HasPassed k values (i + 1) a c p z
+  passed_then z one = record {
+    standing = one.standing;
+    geometry = one.geometry ∙ passed.geometry;
+    count = omega (arith, one.count, passed.count);
+    gave = passed.gave ++ one.gave;
+    out = since_out passed.out one.out;
+    follows = λ blocks before f next.
+        subst (Follows k z blocks) (append_assoc before passed.gave one.gave)
+        (one.follows blocks (before ++ passed.gave) (passed.follows blocks before f (first_ones (i + 1) blocks (omega arith) next)) (next_one (i + 1) blocks (omega arith) next));
+  }
+
+  -- a write failed at it
+  pub failed_then : {c : Outside} (n : ℕ) → i < n → StopsEarly k (λ j. values i) 1 b c x → StopsEarly k values n a c p
+  failed_then n lt broken = record {
+    gave = passed.gave ++ broken.gave;
+    out = since_out passed.out broken.out;
+    rose = rose_since passed.out.faults.writes broken.rose;
+    part = λ blocks before f next.
+        let x' = broken.part blocks (before ++ passed.gave) (passed.follows blocks before f (first_ones n blocks (omega (arith, lt)) next)) (next_one n blocks lt next) in (
+          x'.0,
+          omega (arith, x'.1, passed.count, lt),
+          subst (λ g. k.Part g blocks x'.0 (before ++ (passed.gave ++ broken.gave))) passed.geometry (subst (k.Part x.geometry blocks x'.0) (append_assoc before passed.gave broken.gave) x'.2),
+        );
+  }

@@ -1,0 +1,88 @@
+-- For each stream it is decided which segments are received.
+use Rattle.std.proofs.Common.{◌≡◌, ◌⊎◌, ℕ, ℤ, List, [], ◌∷◌, ◌++◌, length, drop, map, refl, sym, ap, subst, ◌∙◌, inl, inr, arith, length-append, Bool, true, false, Option, None, Some, Result, Ok, Err, MatchOption, slice_index_or, IsTrue, bytes_eq}
+use Rattle.std.specs.List.{range_with_len}
+use Rattle.std.proofs.lemmas.Bool.{false≢true}
+use Rattle.std.proofs.lemmas.Slice.Eq.{bytes_eq-Decides}
+use Rattle.base_122.specs.declared.book.Book.{Book}
+use Rattle.segment_defs.specs.declared.head.SegmentHead.{SegmentHead}
+use Rattle.segment_defs.specs.declared.fault.HeadFault.{HeadFault}
+use Rattle.segment_defs.specs.Head.{head_length}
+use Rattle.segment_defs.specs.Reading.{head_read}
+use Rattle.segment_defs.proofs.ReadHeads.{read_fits}
+use Rattle.text_defs.proofs.OutcomeLaws.{outcomes_exclude}
+use Rattle.text_defs.proofs.Further.{has_outcome}
+use Rattle.plane_defs.specs.Codes.{is_book_sound}
+use Rattle.packet_defs.specs.Reading.{flags_in, text_in}
+use Rattle.stream_defs.specs.Fates.{closes, kept_in}
+use Rattle.stream_defs.specs.Received.{number_of_part, packets_at, IsComplete, text_of_parts, IsReceived, ReceivedIn}
+use Rattle.segment_walk.specs.Runs.{Numbers, holds_after}
+use Rattle.segment_walk.proofs.Receiving.{some_head}
+use Rattle.packet_assembly.proofs.Agreed.{bytes_so}
+
+-- ---- the last of some packets
+
+abbrev last_in : List ℕ → List (List ℕ) → List ℕ
+last_in d [] = d
+last_in d (x ∷ xs) = last_in x xs
+
+abbrev front_in : List ℕ → List (List ℕ) → List (List ℕ)
+front_in x [] = []
+front_in x (y ∷ ys) = x ∷ front_in y ys
+
+parted : (x : List ℕ) (xs : List (List ℕ)) → x ∷ xs ≡ front_in x xs ++ last_in x xs ∷ []
+parted x [] = refl
+parted x (y ∷ ys) = ap (λ zs. x ∷ zs) (parted y ys)
+
+last_is : (d : List ℕ) (front : List (List ℕ)) (closing : List ℕ) → last_in d (front ++ closing ∷ []) ≡ closing
+last_is d [] closing = refl
+last_is d (x ∷ front) closing = last_is x front closing
+
+-- ---- whether they are complete
+
+decide_complete : (parts : List (List ℕ)) → IsComplete parts ⊎ (IsComplete parts → ⊥)
+decide_complete [] = inr (λ x. let long = ap length x.parts_are in absurd (omega (arith, long, length-append x.front (x.closing ∷ []))))
+decide_complete (x ∷ xs) = by (bytes_eq (map number_of_part (x ∷ xs)) (range_with_len 0 (length (x ∷ xs)))) (closes (flags_in (last_in x xs))) refl refl
+  where
+    by : (a b : Bool) → bytes_eq (map number_of_part (x ∷ xs)) (range_with_len 0 (length (x ∷ xs))) ≡ a → closes (flags_in (last_in x xs)) ≡ b → IsComplete (x ∷ xs) ⊎ (IsComplete (x ∷ xs) → ⊥)
+    by true true e h = inl record { front = front_in x xs; closing = last_in x xs; parts_are = parted x xs; numbers = bytes_so _ _ e; closed = h }
+    by false b e h = inr (λ c. absurd (false≢true (sym e ∙ (bytes_eq-Decides _ _).1 c.numbers)))
+    by true false e h = inr (λ c.
+        let same : last_in x xs ≡ c.closing = ap (last_in []) c.parts_are ∙ last_is [] c.front c.closing in
+        absurd (false≢true (sym h ∙ ap (λ p. closes (flags_in p)) same ∙ c.closed)))
+
+-- ---- whether a segment is received
+
+abbrev Decided : (book : Book) (packets : List (List ℕ)) (index : ℕ) → Type 0
+Decided book packets index = ((w : List (List ℤ)) × IsReceived (holds_after book) packets index w) ⊎ ((w : List (List ℤ)) → IsReceived (holds_after book) packets index w → ⊥)
+
+decide_received : (book : Book) (packets : List (List ℕ)) (index : ℕ) → IsTrue (is_book_sound book) → Decided book packets index
+decide_received book packets index sound = elim (decide_complete (packets_at index packets)) [
+  | inr never ↦ inr (λ w x. never x.whole)
+  | inl whole ↦ by_head whole (head_read (text_in (slice_index_or (packets_at index packets) 0 []))) refl
+]
+  where
+    by_head : IsComplete (packets_at index packets) → (r : Result SegmentHead HeadFault) → head_read (text_in (slice_index_or (packets_at index packets) 0 [])) ≡ r → Decided book packets index
+    by_head whole (Err fault) e = inr (λ w x. absurd (let both = sym e ∙ x.head_is in cc))
+    by_head whole (Ok head) e =
+        let ok = read_fits _ head e in
+        let octets = drop (head_length head) (text_of_parts (packets_at index packets)) in
+        elim (has_outcome book sound head octets ok) [
+          | inl held ↦ inl (held.0, record { whole = whole; head = head; head_is = e; accepted = held.1 })
+          | inr refused ↦ inr (λ w x.
+              let there = subst (λ h. holds_after book h (text_of_parts (packets_at index packets)) w) (some_head _ x.head head x.head_is e) x.accepted in
+              outcomes_exclude.not_both book head octets w refused.0 ok there refused.1)
+        ]
+
+number_of : (book : Book) (packets : List (List ℕ)) (index : ℕ) → Decided book packets index → Option (List (List ℤ))
+number_of book packets index (inl held) = Some held.0
+number_of book packets index (inr never) = None
+
+number_told : (book : Book) (packets : List (List ℕ)) (index : ℕ) (d : Decided book packets index) → MatchOption (number_of book packets index d) ((w : List (List ℤ)) → IsReceived (holds_after book) packets index w → ⊥) (IsReceived (holds_after book) packets index)
+unfolding number_of
+number_told book packets index (inl held) = held.1
+number_told book packets index (inr never) = never
+
+pub some_received : (book : Book) → IsTrue (is_book_sound book) → (apid : ℕ) (taken : List ℕ) → (received : Numbers) × ReceivedIn (holds_after book) apid taken received
+some_received book sound apid taken =
+    let packets = kept_in apid taken in
+    ((λ index. number_of book packets index (decide_received book packets index sound)), record { at = λ index. number_told book packets index (decide_received book packets index sound) })

@@ -1,0 +1,154 @@
+-- A segment's text that was read, by what its packets bring.
+use Rattle.std.proofs.Common.{◌≡◌, ◌*◌, ℕ, ℤ, List, [], ◌∷◌, ◌++◌, length, take, refl, sym, ap, subst, ◌∙◌, arith, Bool, true, false, Option, None, Some, Result, Ok, Err, option_map}
+use Rattle.std.proofs.lemmas.List.{append-nil, take-append-le}
+use Rattle.std.proofs.lemmas.Bool.Decides.{nat_tests}
+use Rattle.port_122.specs.Outside.{Outside, Loses}
+use Rattle.port_122.proofs.Stretches.{rose_since}
+use Rattle.base_122.specs.declared.book.Book.{Book}
+use Rattle.wave_defs.specs.Held.{blocks_in}
+use Rattle.bit_pipe.specs.declared.fault.Part.{Part}
+use Rattle.bit_pipe.specs.Sources.{End, Plainly, TooLong, InPieces, Comes, IsOver}
+use Rattle.segment_defs.specs.declared.head.SegmentHead.{SegmentHead}
+use Rattle.segment_defs.specs.Head.{IsHead}
+use Rattle.text_defs.specs.Outcomes.{Holds, Refused, SegmentRefusal, short_segment}
+use Rattle.text_defs.proofs.OutcomeLaws.{outcomes_exclude}
+use Rattle.segment_code.specs.Decoded.{DecodesSegment, RefusedBy}
+use Rattle.segment_code.specs.declared.decode.SegmentFault.{SegmentFault}
+use Rattle.segment_code.specs.declared.decode.SegmentFault.TheVariants as faults
+use Rattle.packet_assembly.specs.declared.text.SegmentText.{SegmentText}
+use Rattle.packet_assembly.specs.Assembling.{Assembling}
+use Rattle.packet_assembly.specs.Segments.{Continues}
+use Rattle.packet_assembly.specs.Passing.{goes_both}
+use Rattle.packet_assembly.specs.Tails.{text_tail}
+use Rattle.packet_assembly.specs.TextSource.{segment_source}
+use Rattle.segment_walk.specs.declared.ending.DecodeFault.{DecodeFault}
+use Rattle.segment_walk.specs.declared.ending.DecodeFault.TheVariants.{ReadFault}
+use Rattle.segment_walk.specs.Segments.{EndsText, ReadsText, Refuses, cells_of}
+
+-- what is left after octets were taken
+pub record IsLeft (now : Option (List ℕ)) (took before : List ℕ) : Type 0 where
+  pub rest : List ℕ
+  pub told : now ≡ Some rest
+  pub are : before ≡ took ++ rest
+
+pub left_after : (o n : Option (List ℕ)) (took before : List ℕ) → Loses o n took → o ≡ Some before → IsLeft n took before
+left_after None None took before loses told = absurd cc
+left_after (Some xs) (Some now) took before loses told = let same : xs ≡ before = cc in record { rest = now; told = refl; are = sym same ∙ loses }
+left_after None (Some now) took before loses told = absurd loses
+left_after (Some xs) None took before loses told = absurd loses
+
+-- what was read of a text, if the port reports what is left
+pub record HasCome (a b : Assembling) (before : List ℕ) (now : Option (List ℕ)) (octets : List ℕ) : Type 0 where
+  pub rest : List ℕ
+  pub told : now ≡ Some rest
+  pub octets_are : (text_tail a before).octets ≡ octets ++ (text_tail b rest).octets
+  pub ends : (text_tail a before).ends ≡ (text_tail b rest).ends
+
+come_by : (a b : Assembling) (o n : Option (List ℕ)) (before : List ℕ) (took octets : List ℕ) → Loses o n took → o ≡ Some before → Comes (option_map (text_tail a) o) (option_map (text_tail b) n) octets → HasCome a b before n octets
+come_by a b o n before took octets loses told came =
+    let left = left_after o n took before loses told in
+    let here : Comes (option_map (text_tail a) (Some before)) (option_map (text_tail b) (Some left.rest)) octets = rw (told, left.told) at came in
+    record { rest = left.rest; told = left.told; octets_are = here.0; ends = here.1 }
+
+over_by : (b : Assembling) (n : Option (List ℕ)) (rest : List ℕ) (ends : End) → n ≡ Some rest → IsOver (option_map (text_tail b) n) ends → ((text_tail b rest).octets ≡ []) × ((text_tail b rest).ends ≡ ends)
+over_by b n rest ends told over = let here : IsOver (option_map (text_tail b) (Some rest)) ends = rw told at over in here
+
+take_all : (xs : List ℤ) → take (length xs) xs ≡ xs
+take_all [] = refl
+take_all (x ∷ xs) = ap (λ zs. x ∷ zs) (take_all xs)
+
+module _ {X : Type 0} (outside : X → Outside) (book : Book) (s t : SegmentText X) where
+  abbrev old : Outside
+  old = outside s.port.now
+
+  abbrev now : Outside
+  now = outside t.port.now
+
+  come : (octets before : List ℕ) → (g : Continues old now s.assembly.now t.assembly.now) → Comes ((segment_source outside).tail s) ((segment_source outside).tail t) octets → old.rest ≡ Some before →
+      HasCome s.assembly.now t.assembly.now before now.rest octets
+  come octets before g came told = come_by s.assembly.now t.assembly.now old.rest now.rest before g.passes.took octets g.passes.since.rest told came
+
+  -- ---- a text that holds something
+
+  module _ (head : SegmentHead) (part : Part) (cells more : List ℤ) (long : length cells ≡ 64 * head.blocks) (d : DecodesSegment (segment_source outside) book head (Ok part) s t cells) (new : Outside) (b : Assembling) where
+    goes : Continues old now s.assembly.now t.assembly.now
+    goes = d.went.goes
+
+    cells_are : cells ≡ cells_of head (cells ++ more)
+    cells_are = sym (ap (λ n. take n (cells ++ more)) (sym long) ∙ take-append-le (length cells) cells more (omega arith) ∙ take_all cells)
+
+    -- all of it was read
+    whole : (before : List ℕ) → old.rest ≡ Some before → ((text_tail s.assembly.now before).ends ≡ Plainly) × ((text_tail s.assembly.now before).octets ≡ d.octets)
+    whole before told =
+        let x = come d.octets before goes d.came told in
+        let over = over_by t.assembly.now now.rest x.rest Plainly x.told d.ends.0 in
+        (x.ends ∙ over.1, x.octets_are ∙ ap (λ zs. d.octets ++ zs) over.0 ∙ append-nil d.octets)
+
+    none_left : (before : List ℕ) → now.rest ≡ Some before → ((text_tail t.assembly.now before).octets ≡ []) × ((text_tail t.assembly.now before).ends ≡ Plainly)
+    none_left before told = over_by t.assembly.now now.rest before Plainly told d.ends.0
+
+    ends_by : (result : Result Bool DecodeFault) → EndsText now new t.assembly.now b result → ReadsText book old new s.assembly.now b head (cells ++ more) result
+    ends_by (Ok true) e = record {
+      goes = goes_both goes e.goes;
+      unheld = e.unheld;
+      closed = e.closed;
+      some = d.octets;
+      holds = subst (λ xs. Holds book head d.octets (blocks_in xs)) cells_are d.ends.1.holds;
+      told = λ before told.
+          let x = whole before told in
+          (x.0, subst (λ zs. Holds book head zs (blocks_in (cells_of head (cells ++ more)))) (sym x.1) (subst (λ xs. Holds book head d.octets (blocks_in xs)) cells_are d.ends.1.holds));
+    }
+    ends_by (Ok false) e = record {
+      goes = goes_both goes e.goes;
+      told = λ before told plain w holds.
+          let left = left_after old.rest now.rest goes.passes.took before goes.passes.since.rest told in
+          let none = none_left left.rest left.told in
+          e.told left.rest left.told none.0 none.1;
+    }
+    ends_by (Err ReadFault) e = record { goes = goes_both goes e.goes; rose = rose_since goes.passes.since.faults.reads e.rose }
+    ends_by (Err other) e = absurd e
+
+    pub text_read : (p x : X) (a y : Assembling) (result : Result Bool DecodeFault) → s.port.now ≡ p → s.assembly.now ≡ a → x ≡ t.port.now → y ≡ t.assembly.now → EndsText (outside x) new y b result →
+        ReadsText book (outside p) new a b head (cells ++ more) result
+    text_read p x a y result begins from e f ends =
+        subst (λ p. ReadsText book (outside p) new a b head (cells ++ more) result) begins (subst (λ a. ReadsText book old new a b head (cells ++ more) result) from
+        (ends_by result (subst (λ y. EndsText now new y b result) f (subst (λ x. EndsText (outside x) new y b result) e ends))))
+
+  -- ---- a text that is refused
+
+  module _ (head : SegmentHead) (cells : List ℤ) (fault : SegmentFault) (ok : IsHead head) (d : DecodesSegment (segment_source outside) book head (Err fault) s t cells) where
+    -- by its first octets
+    by_name : (name : SegmentRefusal) → RefusedBy book head d.octets name → (before : List ℕ) → old.rest ≡ Some before → (w : List (List ℤ)) → Holds book head (text_tail s.assembly.now before).octets w → ⊥
+    by_name name refused before told w holds =
+        let x = come d.octets before d.went.goes d.came told in
+        outcomes_exclude.not_both book head (text_tail s.assembly.now before).octets w name ok holds (subst (λ zs. Refused book head zs name) (sym x.octets_are) (refused (text_tail t.assembly.now x.rest).octets))
+
+    -- as it is too short
+    by_end : IsOver ((segment_source outside).tail t) Plainly → Refused book head d.octets short_segment → (before : List ℕ) → old.rest ≡ Some before → (w : List (List ℤ)) → Holds book head (text_tail s.assembly.now before).octets w → ⊥
+    by_end over refused before told w holds =
+        let x = come d.octets before d.went.goes d.came told in
+        let none = over_by t.assembly.now now.rest x.rest Plainly x.told over in
+        let whole : (text_tail s.assembly.now before).octets ≡ d.octets = x.octets_are ∙ ap (λ zs. d.octets ++ zs) none.0 ∙ append-nil d.octets in
+        outcomes_exclude.not_both book head (text_tail s.assembly.now before).octets w short_segment ok holds (subst (λ zs. Refused book head zs short_segment) (sym whole) refused)
+
+    -- as it ends otherwise
+    by_break : (ends : End) → (ends ≡ Plainly → ⊥) → IsOver ((segment_source outside).tail t) ends → (before : List ℕ) → old.rest ≡ Some before → (text_tail s.assembly.now before).ends ≡ Plainly → ⊥
+    by_break ends other over before told plain = grind (arith, nat_tests, come, goes, over_by)
+
+  pub text_refused : (head : SegmentHead) (cells : List ℤ) (fault : SegmentFault) → IsHead head → (fault ≡ faults.ReadFault → ⊥) → DecodesSegment (segment_source outside) book head (Err fault) s t cells →
+      (p x : X) (a y : Assembling) → s.port.now ≡ p → s.assembly.now ≡ a → x ≡ t.port.now → y ≡ t.assembly.now → Refuses book (outside p) (outside x) a y head
+  text_refused head cells fault ok other d p x a y begins from e f =
+      subst (λ p. Refuses book (outside p) (outside x) a y head) begins (subst (λ a. Refuses book old (outside x) a y head) from
+      (subst (λ x. Refuses book old (outside x) s.assembly.now y head) (sym e) (subst (λ y. Refuses book old now s.assembly.now y head) (sym f) record { goes = d.went.goes; told = by fault other d })))
+    where
+      by : (fault : SegmentFault) → (fault ≡ faults.ReadFault → ⊥) → DecodesSegment (segment_source outside) book head (Err fault) s t cells →
+          (before : List ℕ) → old.rest ≡ Some before → (text_tail s.assembly.now before).ends ≡ Plainly → (w : List (List ℤ)) → Holds book head (text_tail s.assembly.now before).octets w → ⊥
+      by faults.BadOption other d before told plain w holds = by_name head cells faults.BadOption ok d _ d.ends before told w holds
+      by faults.BadDelta other d before told plain w holds = by_name head cells faults.BadDelta ok d _ d.ends before told w holds
+      by faults.BadDepth other d before told plain w holds = by_name head cells faults.BadDepth ok d _ d.ends before told w holds
+      by faults.FalseFlag other d before told plain w holds = by_name head cells faults.FalseFlag ok d _ d.ends before told w holds
+      by faults.ShortSegment other d before told plain w holds = by_end head cells faults.ShortSegment ok d d.ends.0 d.ends.1 before told w holds
+      by faults.Overlong other d before told plain w holds = by_name head cells faults.Overlong ok d _ d.ends before told w holds
+      by faults.BrokenSegment other d before told plain w holds = by_break head cells faults.BrokenSegment ok d InPieces (λ e. absurd cc) d.ends before told plain
+      by faults.LongInput other d before told plain w holds = by_break head cells faults.LongInput ok d TooLong (λ e. absurd cc) d.ends before told plain
+      by faults.ReadFault other d before told plain w holds = other refl

@@ -1,0 +1,100 @@
+// A port over a slice that never fails.
+ghost use Rattle.std.specs.Prelude.{◌≡◌, ◌≤◌, ◌+◌, ◌++◌, ◌-◌, [], length, min, vec_capacity, IfOk, IfSome, Ok, Some, None, MatchResult, nat_le, if◌then◌else◌};
+ghost use Rattle.port_122.specs.Outside.{Outside, Read, ReadFailed, Written, WriteFailed, Noted, NoteFailed};
+
+use port_122::{Failed, Port};
+use std::alloc::{AllocError, Global};
+
+/// A port that reads from a slice and never fails (docs/architecture.md, "The outside").
+///
+/// It keeps and reports the octets that it is given while they fit its room, and none from the first octets that don't. It reports neither
+/// notes nor read calls.
+#[derive(Drop)]
+pub struct LentPort<'a> {
+    input: &'a [u8],
+    at: usize,
+    room: usize,
+    given: Vec<u8>,
+    full: bool,
+    ghost within: { at ≤ length input.now },
+    ghost given_room: { room ≤ vec_capacity given },
+}
+
+impl<'a> LentPort<'a> {
+    ghost use Rattle.strip122_c.specs.Lent.{outside_of};
+
+    /// Returns a port at the start of this input, with room for this number of octets.
+    pub fn new(alloc: Global, input: &'a [u8], room: usize) -> Result<LentPort<'a>, AllocError>
+        ensures outside { IfOk result (λ port. outside_of port ≡ record {
+          rest = Some input.now;
+          taken = Some [];
+          given = Some [];
+          noted = None;
+          asked = None;
+          read_faults = 0;
+          write_faults = 0;
+          note_faults = 0;
+        }) }
+    {
+        Ok(LentPort {
+            input,
+            at: 0,
+            room,
+            given: Vec::with_capacity(alloc, room)?,
+            full: false,
+        })
+    }
+
+    /// Returns the octets that it was given, if all of them fit the room.
+    pub fn given(&self) -> Option<&[u8]>
+        ensures { IfSome result (λ octets. (outside_of self.now).given ≡ Some octets.now) }
+    {
+        if self.full { None } else { Some(&self.given) }
+    }
+}
+
+// Keeps the octets if they fit the room, and returns whether they did.
+fn keep(kept: &mut Vec<u8>, room: usize, bytes: &[u8]) -> bool
+    requires { room ≤ vec_capacity kept.old }
+    ensures fits { result ≡ nat_le (length kept.old.items + length bytes.now) room }
+    ensures items { kept.new.items ≡ (if result then kept.old.items ++ bytes.now else kept.old.items) }
+    ensures capacity { room ≤ vec_capacity kept.new }
+{
+    kept.len() <= room && bytes.len() <= room - kept.len() && kept.extend_from_slice(bytes).is_ok()
+}
+
+impl<'a> Port for LentPort<'a> {
+    ghost use Rattle.strip122_c.specs.Lent.{outside_of};
+
+    ghost outside = { outside_of };
+
+    fn read(&mut self, into: &mut [u8]) -> Result<usize, Failed>
+        ensures octets { MatchResult result
+            (λ n. Read (outside_of self.old) (outside_of self.new) into.new n)
+            (λ _. ReadFailed (outside_of self.old) (outside_of self.new)) }
+    {
+        let count = into.len().min(self.input.len() - self.at);
+        into[..count].copy_from_slice(&self.input[self.at..self.at + count]);
+        self.at += count;
+        Ok(count)
+    }
+
+    fn write(&mut self, bytes: &[u8]) -> Result<usize, Failed>
+        ensures octets { MatchResult result
+            (λ n. Written (outside_of self.old) (outside_of self.new) bytes.now n)
+            (λ _. WriteFailed (outside_of self.old) (outside_of self.new)) }
+    {
+        if !self.full && !keep(&mut self.given, self.room, bytes) {
+            self.full = true;
+        }
+        Ok(bytes.len())
+    }
+
+    fn note(&mut self, bytes: &[u8]) -> Result<usize, Failed>
+        ensures octets { MatchResult result
+            (λ n. Noted (outside_of self.old) (outside_of self.new) bytes.now n)
+            (λ _. NoteFailed (outside_of self.old) (outside_of self.new)) }
+    {
+        Ok(bytes.len())
+    }
+}

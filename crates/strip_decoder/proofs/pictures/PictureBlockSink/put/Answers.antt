@@ -1,7 +1,0 @@
-use Rattle.std.specs.Prelude.{Some}
-use Rattle.strip_decoder.proofs.PictureWalks.{picture_takes}
-use Rattle.strip_decoder.proofs.pictures.PictureBlockSink.put.Goals as goal
-
-pub returns : goal.returns
-returns g c g' n at within =
-    picture_takes c.put_block.result c.args.self.now c.put_block.new.picture (Some c.args.numbers.now) (g.X.Port.outside c.args.port.now) (g.X.Port.outside c.put_block.new.port) c.put_block.ensures g' n at
