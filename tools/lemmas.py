@@ -16,6 +16,8 @@ NAME = r"[^\s(){}\[\],;:.]+"
 DECLARED = re.compile(rf"^(?:(?:abbrev|unfoldable|pub) )*(?:(?:record|data) ({NAME}) (?:[({{]|: Type)|({NAME}) : )")
 WORD = re.compile(r"[^\s(){}\[\],;.]+")
 UNFOLDS = re.compile(r"^\s*unfolding (.+)$")
+CRATES = {folder.name for folder in (TOP / "crates").iterdir()}
+MODULE = re.compile(r"^\s*use Rattle\.(\w+)\.[\w.]+ as (\w+)$")
 IMPORT = re.compile(r"^\s*(?:pub )?(?:ghost )?use Rattle\.(\w+)\.((?:specs|proofs)\.[\w.]+?)\.\{(.*)\};?$")
 
 
@@ -74,6 +76,15 @@ def is_answer(file: Path) -> bool:
     return file.name in {"Answers.antt", "Invariants.antt", "Proof.antt", "Lib.antt"}
 
 
+def foreign_unfoldings(file: Path) -> list[str]:
+    """The names that a file unfolds and imports from another crate of the repository."""
+    lines = file.read_text(encoding="utf-8").splitlines()
+    home = {name.strip().split(" as ")[-1]: match[1] for match in map(IMPORT.match, lines) if match for name in match[3].split(",")}
+    home |= {match[2]: match[1] for match in map(MODULE.match, lines) if match}
+    unfolded = [name for match in map(UNFOLDS.match, lines) if match for name in match[1].split()]
+    return [name for name in unfolded if home.get(name.split(".")[0], crate_of(file)) in CRATES - {crate_of(file)}]
+
+
 def main() -> None:
     words = [word for word in sys.argv[1:] if not word.startswith("--")]
     shows = "--list" in sys.argv
@@ -89,14 +100,7 @@ def main() -> None:
     for file in sources(".rt"):
         cited.update(set(re.findall(r"[\w'-]+", file.read_text(encoding="utf-8"))))
     dead = [b for f, bs in files.items() if not is_answer(f) for b in bs if not cited[b.name]]
-    home = {b.name: crate_of(f) for f, bs in files.items() if "specs" in f.parts for b in bs}
-    breaches: Counter = Counter()
-    for file in files:
-        for line in file.read_text(encoding="utf-8").splitlines():
-            match = UNFOLDS.match(line)
-            for name in match[1].split() if match else []:
-                if home.get(name, crate_of(file)) != crate_of(file):
-                    breaches[crate_of(file)] += 1
+    breaches = Counter(crate_of(file) for file in files for _ in foreign_unfoldings(file))
     twins = defaultdict(list)
     for f, bs in files.items():
         for b in bs:
