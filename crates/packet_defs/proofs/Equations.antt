@@ -8,7 +8,6 @@ use Rattle.packet_defs.specs.Tests.{when, first_of}
 use Rattle.packet_defs.specs.Packets.{ancillary_length, part_count, part_size, part_packet, text_packets}
 use Rattle.packet_defs.specs.Reading.{header_length, idle_apid, apid_in, type_in, secondary_in, field_length, has_mark, skip_of, read_as, packet_read}
 use Rattle.packet_defs.specs.Streams.{has_bad_version, told_length, begins_packet, missing, framing_at}
-use Rattle.std.specs.Prelude.{◌+◌}
 
 pub text_packets-is : (apid : ℕ) (a : Ancillary) (packet before : ℕ) (text : List ℕ) →
     text_packets apid a packet before text ≡ map (λ part. part_packet apid a packet before (part_count (part_size packet) (length text)) part text) (range_with_len 0 (part_count (part_size packet) (length text)))
@@ -32,7 +31,3 @@ module _ (octets : List ℕ) where
   pub framing_at-is : (place : ℕ) → framing_at place octets ≡ first_of (when (has_bad_version octets) (BadVersion place) ∷ when (not (length octets == 0)) (CutPacket (missing octets)) ∷ [])
   unfolding framing_at
   framing_at-is place = refl
-
-pub told_length-is : (octets : List ℕ) → told_length octets ≡ header_length + field_length octets
-unfolding told_length
-told_length-is octets = refl

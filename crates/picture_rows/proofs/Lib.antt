@@ -6,4 +6,3 @@ mod RowsGathered
 pub mod Heights
 pub mod Ends
 pub mod SameImages
-pub mod Equations

@@ -20,7 +20,6 @@ use Rattle.plane_defs.specs.Steps.{Check, refuses, is_new, is_forced, dc_steps, 
 use Rattle.plane_defs.specs.Reading.{checked, checked_word, entry_reading}
 use Rattle.plane_defs.specs.Completed.{completed, completed_number}
 use Rattle.std.specs.Prelude.{if◌then◌else◌, ◌==◌}
-use Rattle.plane_defs.specs.Marks.{depth_of, depths_of}
 
 -- ---- spans
 
@@ -156,10 +155,6 @@ module _ (book : Book) (options : List ℕ) (before : List Entry) (check : Check
 pub symbol-is : (length w : ℕ) → symbol length w ≡ count_by (precedes w) (span 0 (2 ^ length))
 unfolding symbol
 symbol-is length w = refl
-
-pub depths_of-is : (marks : List ℤ) → depths_of marks ≡ map depth_of marks
-unfolding depths_of
-depths_of-is marks = refl
 
 pub live-is : (weights : List ℕ) (plane : ℕ) (s : Set) → live weights plane s ≡ list_any (coded weights plane) (members s)
 unfolding live

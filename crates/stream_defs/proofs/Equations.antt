@@ -2,31 +2,20 @@
 use Rattle.std.specs.List.{range_with_len, list_any, flat_map, count_by}
 use Rattle.base_122.specs.Sizes.{block_count}
 use Rattle.base_122.specs.declared.geometry.Geometry.{Geometry}
-use Rattle.wave_defs.specs.Pyramid.{rebuilt, padded, pyramid}
+use Rattle.wave_defs.specs.Pyramid.{rebuilt}
 use Rattle.raster_rows.specs.Pixels.{clamped}
 use Rattle.stream_defs.specs.Begun.{end_in, end_of}
 use Rattle.stream_defs.specs.Picture.{pyramid_with, picture_of, number_at}
 use Rattle.stream_defs.specs.Damage.{is_missing, missing_below, begins_range, range_from, ranges}
 use Rattle.stream_defs.specs.Marks.{most_block_rows, and_missing}
 use Rattle.stream_defs.specs.declared.fate.FateState.{FateState}
-use Rattle.stream_defs.specs.Fates.{fate, is_kept, after, kept, is_foreign, is_late, is_out_of_place, refusal_in, after_kept}
+use Rattle.stream_defs.specs.Fates.{fate, is_kept, after, kept}
 use Rattle.std.proofs.Common.{refl, ℕ, ◌==◌, ℤ, List, [], Option, ◌≡◌, ◌||◌, ◌∷◌, map, filter, if◌then◌else◌, max, fold}
-use Rattle.std.specs.Prelude.{◌/◌, ◌%◌, Bool, not, unwrap_or, pos, slice_index_or}
-use Rattle.segment_defs.specs.declared.head.SegmentHead.{SegmentHead}
-use Rattle.segment_defs.specs.declared.fault.HeadFault.TheVariants.{BadValue}
-use Rattle.segment_defs.specs.declared.fault.HeadField.TheVariants.{First, Blocks, Last, Count, PadRows, Image}
-use Rattle.packet_defs.specs.declared.ancillary.Ancillary.{Ancillary}
-use Rattle.packet_defs.specs.Tests.{when, first_of}
-use Rattle.stream_defs.specs.Agreement.{same_flag, is_of_image, has_blocks, ends_where_told, pads_as_told, may_have_blocks, may_end, disagreement}
+use Rattle.std.specs.Prelude.{◌/◌, ◌%◌, Bool, unwrap_or, pos, slice_index_or}
 use Rattle.base_122.specs.declared.setting.Setting.{Setting}
-use Rattle.stream_defs.specs.Output.{segments_of, image_blocks}
+use Rattle.stream_defs.specs.Output.{segments_of}
 use Rattle.stream_defs.specs.Places.{packet_at}
 use Rattle.stream_defs.specs.Chosen.{chosen}
-use Rattle.std.specs.Option.{option_map}
-use Rattle.packet_defs.specs.Reading.{skip_of, flags_in, ancillary_in, text_in}
-use Rattle.stream_defs.specs.declared.fate.Fate.TheVariants.{Kept, Skipped, Foreign, Late, OutOfPlace, BadHead}
-use Rattle.wave_defs.specs.Blocks.{blocks}
-use Rattle.stream_defs.specs.Received.{text_of_parts}
 use Rattle.stream_defs.specs.Settled.{is_settled, settled}
 
 pub picture_of-is : (g : Geometry) (numbers : ℕ → ℕ → ℤ) (r i j : ℕ) → picture_of g numbers r i j ≡ (let c = block_count g.width in clamped g.depth g.signed (rebuilt (pyramid_with numbers c g.weights.shifts) r c i j))
@@ -63,33 +52,13 @@ pub ranges-is : (rows : ℕ) (missing : List ℕ) → ranges rows missing ≡ ma
 unfolding ranges
 ranges-is rows missing = refl
 
-pub disagreement-is : (g : Geometry) (a : Ancillary) (head : SegmentHead) → disagreement g a head ≡ first_of (when (not (same_flag head.first (a.index == 0))) (BadValue First) ∷ when (not (if a.told_last then may_have_blocks g head else has_blocks g a head)) (BadValue Blocks) ∷ when (not (if a.told_last then may_end g a head else ends_where_told g a head)) (BadValue Last) ∷ when (not (head.count == a.index % 256)) (BadValue Count) ∷ when (not (a.told_last || pads_as_told g head)) (BadValue PadRows) ∷ when (not (is_of_image g head.image)) (BadValue Image) ∷ [])
-unfolding disagreement
-disagreement-is g a head = refl
-
 pub chosen-is : (told_last : Bool) (s : Setting) (all : List (List ℤ)) (parts : ℕ → List ℕ) (n : ℕ) → chosen told_last s all parts n ≡ flat_map (λ index. map (packet_at told_last s all index) (parts index)) (range_with_len 0 n)
 unfolding chosen
 chosen-is told_last s all parts n = refl
 
-pub fate-is : (apid : ℕ) (s : FateState) (packet : List ℕ) → fate apid s packet ≡ unwrap_or (first_of (option_map Skipped (skip_of apid packet) ∷ when (is_foreign s (ancillary_in packet)) Foreign ∷ when (is_late s.last (ancillary_in packet)) Late ∷ when (is_out_of_place s.last (flags_in packet) (ancillary_in packet)) OutOfPlace ∷ option_map BadHead (refusal_in s.geometry packet) ∷ [])) Kept
-unfolding fate
-fate-is apid s packet = refl
-
-pub after-is : (apid : ℕ) (s : FateState) (packet : List ℕ) → after apid s packet ≡ if is_kept (fate apid s packet) then after_kept s packet else s
-unfolding after
-after-is apid s packet = refl
-
-pub image_blocks-is : (s : Setting) (x : ℕ → ℕ → ℤ) → image_blocks s x ≡ let r = block_count s.rows in let c = block_count s.width in blocks (pyramid (padded x s.rows s.width) r c) s.weights.shifts r c
-unfolding image_blocks
-image_blocks-is s x = refl
-
 pub number_at-is : (g : Geometry) (received : (ℕ → Option (List (List ℤ)))) (block i : ℕ) → number_at g received block i ≡ slice_index_or (slice_index_or (unwrap_or (received (block / g.segment)) []) (block % g.segment) []) i (pos 0)
 unfolding number_at
 number_at-is g received block i = refl
-
-pub text_of_parts-is : (parts : List (List ℕ)) → text_of_parts parts ≡ flat_map text_in parts
-unfolding text_of_parts
-text_of_parts-is parts = refl
 
 pub settled-is : (told_last : Bool) (s : Setting) (k : ℕ) → settled told_last s k ≡ count_by (is_settled told_last s k) (range_with_len 0 (segments_of s))
 unfolding settled

@@ -1,13 +1,13 @@
 -- What the definitions compute to: outside this crate these equations are cited, and nothing is unfolded.
 use Rattle.std.proofs.Common.{◌≡◌, refl, ℕ, ◌+◌, ◌-◌, ◌*◌, ◌/◌, ◌%◌, ℤ, pos, ◌*ℤ◌, List, map, if◌then◌else◌, nat_lt, ◌==◌, length, ◌+ℤ◌, ◌-ℤ◌}
 use Rattle.std.specs.List.{range_with_len}
-use Rattle.wave_defs.specs.Pyramid.{Pyramid, band_of, pyramid_of, pyramid, third_of, second_of, first_of, rebuilt}
+use Rattle.wave_defs.specs.Pyramid.{Pyramid, band_of, third_of, second_of, first_of, rebuilt}
 use Rattle.wave_defs.specs.Blocks.{family_band, block_side, child_place, grandchild_place, place_of, coefficient, weight_at, block}
 use Rattle.wave_defs.specs.Level.{Quarters, rows_low, rows_high, columns_low, columns_high, rows_merged, columns_merged, level, joined}
 use Rattle.wave_defs.specs.Held.{block_at, blocks_in}
 use Rattle.wave_defs.specs.Line.{low_of, high_of, merged, predicted, correction, prediction, even_of, floor_div, even_before, even_within, odd_of}
 use Rattle.wave_defs.specs.Lifted.{less_predicted, less_correction, plus_predicted, plus_correction, columns_even, columns_odd}
-use Rattle.wave_defs.specs.Rolling.{open_high, open_low, parted}
+use Rattle.wave_defs.specs.Rolling.{open_high, open_low}
 
 pub place_of-is : (i : ℕ) → place_of i ≡ if i == 0 then record { band = 9; row = 0; column = 0 } else (if nat_lt i 4 then record { band = family_band 3 (i - 1); row = 0; column = 0 } else (if nat_lt i 16 then child_place ((i - 4) / 4) (i % 4) else grandchild_place ((i - 16) / 16) (i % 16 / 4) (i % 4)))
 unfolding place_of
@@ -21,25 +21,9 @@ pub blocks_in-is : (cells : List ℤ) → blocks_in cells ≡ map (block_at cell
 unfolding blocks_in
 blocks_in-is cells = refl
 
-pub rows_low-is : (a : ℕ → ℕ → ℤ) (n i j : ℕ) → rows_low a n i j ≡ low_of (a i) n j
-unfolding rows_low
-rows_low-is a n i j = refl
-
-pub rows_high-is : (a : ℕ → ℕ → ℤ) (n i j : ℕ) → rows_high a n i j ≡ high_of (a i) n j
-unfolding rows_high
-rows_high-is a n i j = refl
-
-pub columns_low-is : (a : ℕ → ℕ → ℤ) (n i j : ℕ) → columns_low a n i j ≡ low_of (λ r. a r j) n i
-unfolding columns_low
-columns_low-is a n i j = refl
-
 pub columns_high-is : (a : ℕ → ℕ → ℤ) (n i j : ℕ) → columns_high a n i j ≡ high_of (λ r. a r j) n i
 unfolding columns_high
 columns_high-is a n i j = refl
-
-pub rows_merged-is : (c d : ℕ → ℕ → ℤ) (n i j : ℕ) → rows_merged c d n i j ≡ merged (c i) (d i) n j
-unfolding rows_merged
-rows_merged-is c d n i j = refl
 
 pub columns_merged-is : (c d : ℕ → ℕ → ℤ) (n i j : ℕ) → columns_merged c d n i j ≡ merged (λ r. c r j) (λ r. d r j) n i
 unfolding columns_merged
@@ -105,14 +89,6 @@ pub odd_of-is : (c d : ℕ → ℤ) (n j : ℕ) → odd_of c d n j ≡ d j +ℤ 
 unfolding odd_of
 odd_of-is c d n j = refl
 
-pub pyramid_of-is : (first second third : Quarters) → pyramid_of first second third ≡ record { hh1 = first.hh; hl1 = first.hl; lh1 = first.lh; hh2 = second.hh; hl2 = second.hl; lh2 = second.lh; hh3 = third.hh; hl3 = third.hl; lh3 = third.lh; ll3 = third.ll }
-unfolding pyramid_of
-pyramid_of-is first second third = refl
-
-pub pyramid-is : (a : ℕ → ℕ → ℤ) (r c : ℕ) → pyramid a r c ≡ let first = level a (4 * r) (4 * c) in let second = level first.ll (2 * r) (2 * c) in pyramid_of first second (level second.ll r c)
-unfolding pyramid
-pyramid-is a r c = refl
-
 pub third_of-is : (p : Pyramid) → third_of p ≡ record { ll = p.ll3; hl = p.hl3; lh = p.lh3; hh = p.hh3 }
 unfolding third_of
 third_of-is p = refl
@@ -136,10 +112,6 @@ open_high-is a j c = refl
 pub open_low-is : (a : ℕ → ℕ → ℤ) (j c : ℕ) → open_low a j c ≡ a (2 * j) c -ℤ correction (open_high a (j - 1) c) (open_high a j c)
 unfolding open_low
 open_low-is a j c = refl
-
-pub parted-is : (x : ℕ → ℤ) (m c : ℕ) → parted x m c ≡ if nat_lt c m then low_of x m c else high_of x m (c - m)
-unfolding parted
-parted-is x m c = refl
 
 pub block-is : (p : Pyramid) (weights : List ℕ) (r s : ℕ) → block p weights r s ≡ map (λ i. coefficient p r s i *ℤ weight_at weights i) (range_with_len 0 64)
 unfolding block
