@@ -13,3 +13,6 @@ pub mod Agreeing
 pub mod MaskParts
 pub mod Bands
 pub mod Equations
+pub mod SlicePlaces
+pub mod Settling
+pub mod SliceNumbers

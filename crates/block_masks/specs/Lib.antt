@@ -6,3 +6,4 @@ pub mod Stored
 pub mod BitsSet
 pub mod Places
 pub mod Walk
+pub mod Slices

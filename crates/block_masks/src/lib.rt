@@ -15,6 +15,7 @@ mod picks;
 mod plan;
 mod sets;
 mod setting;
+mod slices;
 mod walk;
 
 pub use gaggle::{Gaggle, depth_of, families_of, gaggle_in, load, mark_of, store, with_families};
@@ -24,4 +25,5 @@ pub use picks::{pick, spread, spread_first};
 pub use plan::{CodedPlane, PlanePlan};
 pub use sets::{Sets, fours_of, is_any_of, quads_of};
 pub use setting::set_bits;
+pub use slices::{ABOVE, DC, MINUS, mask_of, put_mask, settle_above};
 pub use walk::{Parted, first_in, split_lowest, without};

@@ -1,0 +1,34 @@
+-- What is significant above a plane, from plane to plane.
+use Rattle.std.proofs.Common.{◌≡◌, ◌<◌, ℕ, ◌+◌, ◌*◌, inl, inr, refl, ap, sym, ◌∙◌, subst, arith, ℤ, Bool, ◌||◌, List, length}
+use Rattle.std.proofs.lemmas.Bool.{cases_eq}
+use Rattle.block_masks.specs.Masks.{Shows}
+use Rattle.block_masks.specs.Slices.{mask_in, PutsMask, Settles}
+
+pub none_settled : (plane : ℕ) (cells : List ℤ) → Settles plane 0 cells cells
+none_settled plane cells = record {
+  long = refl;
+  told = λ r f g lt. absurd (omega (arith, lt));
+  later = λ r le known. refl;
+  other_slots = λ r s known few other. refl;
+}
+
+-- the mask of one more block
+pub more_settled : {plane r mask : ℕ} {old now new : List ℤ} → plane < 28 → 64 * r < length old → Settles plane r old now → PutsMask r 29 mask now new →
+    ((f g : ℕ → Bool) (start count : ℕ) → Shows (mask_in now r 29) f start count → Shows (mask_in now r plane) g start count → Shows mask (λ p. f p || g p) start count) →
+    Settles plane (r + 1) old new
+more_settled {plane} {r} {mask} {old} {now} {new} low known so_far put told = record {
+  long = put.long ∙ so_far.long;
+  told = λ q f g before there f_shown g_shown. elim (cases_eq q r) [
+    | inl same ↦
+        let f_now = subst (λ m. Shows m f 0 64) (sym (so_far.later r (omega arith) known)) (subst (λ k. Shows (mask_in old k 29) f 0 64) same f_shown) in
+        let g_now = subst (λ m. Shows m g 0 64) (sym (so_far.other_slots r plane known (omega (arith, low)) (λ e. omega (arith, e, low)))) (subst (λ k. Shows (mask_in old k plane) g 0 64) same g_shown) in
+        subst (λ m. Shows m (λ p. f p || g p) 0 64) (sym (ap (λ k. mask_in new k 29) same ∙ put.here)) (told f g 0 64 f_now g_now)
+    | inr other ↦
+        subst (λ m. Shows m (λ p. f p || g p) 0 64) (sym (put.other_blocks q 29 (omega (arith, there, so_far.long)) (omega arith) other)) (so_far.told q f g (omega (arith, before, other)) there f_shown g_shown)
+  ];
+  later = λ q le there. put.other_blocks q 29 (omega (arith, there, so_far.long)) (omega arith) (λ e. omega (arith, e, le)) ∙ so_far.later q (omega (arith, le)) there;
+  other_slots = λ q s there few other. elim (cases_eq q r) [
+    | inl same ↦ subst (λ k. mask_in new k s ≡ mask_in old k s) (sym same) (put.other_slots s few other ∙ so_far.other_slots r s known few other)
+    | inr apart ↦ put.other_blocks q s (omega (arith, there, so_far.long)) few apart ∙ so_far.other_slots q s there few other
+  ];
+}
