@@ -1,10 +1,10 @@
 -- One block of many.
-use Rattle.std.proofs.Common.{◌≡◌, ℕ, ◌+◌, ◌*◌, ◌<◌, ◌≤◌, ℤ, pos, List, [], length, take, drop, arith, get_or, slice_range}
+use Rattle.std.proofs.Common.{◌≡◌, ℕ, ◌+◌, ◌*◌, ◌<◌, ◌≤◌, ℤ, pos, List, [], length, take, drop, arith, get_or}
 use Rattle.std.proofs.lemmas.List.FromFn.{get_or-map-range_with_len}
 use Rattle.std.proofs.lemmas.Bool.Decides.{nat_tests}
 use Rattle.plane_defs.specs.declared.stages.Stage.{Stage}
 use Rattle.plane_defs.specs.Entries.{block_entries}
-use Rattle.wave_defs.specs.Held.{blocks_in}
+use Rattle.wave_defs.specs.Held.{block_at, blocks_in}
 use Rattle.plane_defs.specs.Marks.{depth_of, depths_of}
 use Rattle.block_masks.proofs.Marking.{depth_there}
 use Rattle.wave_defs.proofs.Equations.{blocks_in-is}
@@ -14,5 +14,5 @@ block_there cells r within = rw blocks_in-is (grind (arith, nat_tests, get_or-ma
 
 pub stage_there : (stage : Stage) (cells marks : List ℤ) (weights : List ℕ) (plane q r d : ℕ) → length cells ≡ 64 * length marks → r < length marks →
     d ≡ depth_of (get_or marks r (pos 0)) →
-    block_entries stage (slice_range cells (64 * r) (64 * r + 64)) d weights plane q ≡ block_entries stage (get_or (blocks_in cells) r []) (get_or (depths_of marks) r 0) weights plane q
+    block_entries stage (block_at cells r) d weights plane q ≡ block_entries stage (get_or (blocks_in cells) r []) (get_or (depths_of marks) r 0) weights plane q
 stage_there stage cells marks weights plane q r d whole within is = grind (arith, nat_tests, block_there, depth_there)

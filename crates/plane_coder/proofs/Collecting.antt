@@ -1,5 +1,5 @@
 -- The words of a gaggle, block by block.
-use Rattle.std.proofs.Common.{◌≡◌, ℕ, ◌+◌, ◌*◌, ◌<◌, ◌≤◌, inl, inr, cond, List, [], length, set, refl, sym, subst, arith, get_or-set_same, get_or-set_other, length-set, flat_map}
+use Rattle.std.proofs.Common.{◌≡◌, ℕ, ◌+◌, ◌*◌, ◌<◌, ◌≤◌, ◌-◌, ◌≢◌, ◌∙◌, min, inl, inr, cond, List, [], length, set, refl, sym, subst, arith, get_or-set_same, get_or-set_other, length-set, flat_map}
 use Rattle.std.proofs.lemmas.Bool.{cases_eq}
 use Rattle.plane_defs.specs.declared.entries.Entry.{Entry}
 use Rattle.plane_defs.specs.declared.stages.Stage.{Stage}
@@ -66,17 +66,30 @@ all_found p wanted g n words all so =
 pub no_gaggle : (p : Plane) (room : List GaggleWords) → FirstCollected p 0 room
 no_gaggle p room = record { at = λ g d below within. absurd (omega arith) }
 
-pub one_kept : (p : Plane) (g : ℕ) (room : List GaggleWords) (words : GaggleWords) → g < length room → HasWords 0 (λ stage. of_gaggle p stage g) words →
-    FirstCollected p g room → FirstCollected p (g + 1) (set room g words)
-one_kept p g room words within is so = record {
-  at = λ h d below inside. elim (cases_eq h g) [
-    | inl same ↦ rw same (subst (HasWords 0 (λ stage. of_gaggle p stage g)) (sym (get_or-set_same room g words d within)) is)
-    | inr other ↦ subst (HasWords 0 (λ stage. of_gaggle p stage h)) (sym (get_or-set_other room g h words d other)) (so.at h d (omega (arith, other)) (omega (arith, length-set room g words)))
-  ];
+-- the words are in the gaggle's place, or in the last one
+pub one_kept : (p : Plane) (g place : ℕ) (room : List GaggleWords) (words : GaggleWords) → 0 < length room → place ≡ min g (length room - 1) →
+    HasWords 0 (λ stage. of_gaggle p stage g) words → FirstCollected p g room → FirstCollected p (g + 1) (set room place words)
+one_kept p g place room words some here is so = record {
+  at = λ h d below inside.
+      let long : length (set room place words) ≡ length room = length-set room place words in
+      elim (cases_eq h g) [
+        | inl same ↦
+            let at : h ≡ place = omega (arith, same, here, inside, long) in
+            rw at (subst (HasWords 0 (λ stage. of_gaggle p stage place)) (sym (get_or-set_same room place words d (omega (arith, here, some)))) (subst (λ n. HasWords 0 (λ stage. of_gaggle p stage n) words) (sym same ∙ at) is))
+        | inr other ↦
+            let apart : h ≢ place = λ e. omega (arith, e, other, below, inside, here, long) in
+            subst (HasWords 0 (λ stage. of_gaggle p stage h)) (sym (get_or-set_other room place h words d apart)) (so.at h d (omega (arith, other, below)) (omega (arith, inside, long)))
+      ];
 }
 
-pub none_to_keep : (p : Plane) (g : ℕ) (room : List GaggleWords) → length room ≤ g → FirstCollected p g room → FirstCollected p (g + 1) room
-none_to_keep p g room past so = record { at = λ h d below inside. so.at h d (omega arith) inside }
+-- the last place has no words that are kept
+pub last_free : (p : Plane) (n last : ℕ) (room : List GaggleWords) (words : GaggleWords) → last ≡ length room - 1 → FirstCollected p n room → FirstCollected p n (set room last words)
+last_free p n last room words is so = record {
+  at = λ h d below inside.
+      let long : length (set room last words) ≡ length room = length-set room last words in
+      let apart : h ≢ last = λ e. omega (arith, e, is, inside, long) in
+      subst (HasWords 0 (λ stage. of_gaggle p stage h)) (sym (get_or-set_other room last h words d apart)) (so.at h d below (omega (arith, inside, long)));
+}
 
 pub first_gaggles : (p : Plane) (room : List GaggleWords) (n : ℕ) → gaggles p ≤ n → FirstCollected p n room → AreCollected p room
 first_gaggles p room n all so = record { at = λ g d below inside. so.at g d (omega arith) inside }

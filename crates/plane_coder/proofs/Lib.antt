@@ -1,7 +1,6 @@
 mod FourTypes
 mod Pushing
 mod GroupsPushed
-mod Keeping
 mod Appending
 mod Listing
 mod Alike
@@ -16,3 +15,7 @@ mod BlockStages
 mod Choosing
 pub mod Sending
 mod Quiet
+mod Settled
+mod Sliced
+mod SlicedGroups
+mod SlicedNumbers

@@ -1,5 +1,5 @@
 -- The words of a gaggle, stage by stage: of all three stages, or of only one.
-use Rattle.std.specs.Prelude.{◌≡◌, ◌<◌, ◌≤◌, ℕ, ◌*◌, ◌==◌, ◌||◌, ◌⊎◌, Bool, true, List, [], cond, length}
+use Rattle.std.specs.Prelude.{◌≡◌, ◌<◌, ◌≤◌, ℕ, ◌+◌, ◌*◌, ◌==◌, ◌||◌, ◌⊎◌, Bool, true, List, [], cond, length}
 use lib.ListN.{get_or}
 use Rattle.plane_defs.specs.declared.entries.Entry.{Entry}
 use Rattle.plane_defs.specs.declared.stages.Stage.{Stage}
@@ -28,9 +28,9 @@ pub record HasWords (wanted : ℕ) (sent : Stage → List Entry) (words : Gaggle
   pub children : wants wanted 2 ≡ true → AreAlike (listed words.children) (sent Children)
   pub grandchildren : wants wanted 3 ≡ true → AreAlike (listed words.grandchildren) (sent Grandchildren)
 
--- the words of the first `count` gaggles, of as many as there is room for
+-- the words of the first `count` gaggles, of as many as there is room for: the last place is for those of each other gaggle in turn
 pub record FirstCollected (p : Plane) (count : ℕ) (room : List GaggleWords) : Type 0 where
-  pub at : (g : ℕ) (d : GaggleWords) → g < count → g < length room → HasWords 0 (λ stage. of_gaggle p stage g) (get_or room g d)
+  pub at : (g : ℕ) (d : GaggleWords) → g < count → g + 1 < length room → HasWords 0 (λ stage. of_gaggle p stage g) (get_or room g d)
 
 abbrev pub AreCollected : Plane → List GaggleWords → Type 0
 AreCollected p room = FirstCollected p (gaggles p) room

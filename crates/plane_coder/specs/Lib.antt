@@ -12,3 +12,4 @@ pub mod Fours
 pub mod Coders
 pub mod Listed
 pub mod Collected
+pub mod Sliced

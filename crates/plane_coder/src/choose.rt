@@ -43,34 +43,36 @@ fn best_options(book: &Book, tally: &Tally) -> [u8; 3]
 
 // Finds the words of gaggle g, and returns its options.
 fn choose_options(words: &mut GaggleWords, view: &View, marks: &[i32], g: usize) -> [u8; 3]
-    requires whole { length view.now.blocks.now ≡ 64 * length marks.now }
+    requires whole { length view.now.cells.now ≡ 64 * length marks.now }
     requires within { 16 * g < length marks.now }
     ensures chosen { result ≡ chosen view.now.tables.now.book (plane_in view.now (depths_of marks.now)) g }
     ensures known { AreOptions result }
     ensures words { HasWords 0 (λ stage. of_gaggle (plane_in view.now (depths_of marks.now)) stage g) words.new }
 {
-    collect_gaggle(words, view, marks, g, ALL);
+    collect_gaggle::<ALL>(words, view, marks, g);
     let tally = tally_gaggle(words);
     best_options(&view.tables.book, &tally)
 }
 
-// Returns the options of gaggle g. Its words stay in its place, if there is room for it.
+// Returns the options of gaggle g. Its words stay in its place if it has one, and are in the last place otherwise.
 fn choose_kept(room: &mut [GaggleWords], view: &View, marks: &[i32], g: usize) -> [u8; 3]
-    requires whole { length view.now.blocks.now ≡ 64 * length marks.now }
+    requires whole { length view.now.cells.now ≡ 64 * length marks.now }
     requires within { 16 * g < length marks.now }
+    requires room { 0 < length room.old }
     ensures chosen { result ≡ chosen view.now.tables.now.book (plane_in view.now (depths_of marks.now)) g }
     ensures known { AreOptions result }
+    ensures long { length room.new ≡ length room.old }
     ensures keeps { FirstCollected (plane_in view.now (depths_of marks.now)) g room.old → FirstCollected (plane_in view.now (depths_of marks.now)) (g + 1) room.new }
 {
-    if g < room.len() {
-        return choose_options(&mut room[g], view, marks, g);
-    }
-    choose_options(&mut GaggleWords::new(), view, marks, g)
+    let place = g.min(room.len() - 1);
+    choose_options(&mut room[place], view, marks, g)
 }
 
 // Stores the options of each gaggle in the states, with no word sent yet. The words of as many gaggles as there is room for stay there.
 pub(crate) fn choose_all(view: &View, marks: &mut [i32], room: &mut [GaggleWords])
-    requires whole { length view.now.blocks.now ≡ 64 * length marks.old }
+    requires whole { length view.now.cells.now ≡ 64 * length marks.old }
+    requires room { 0 < length room.old }
+    ensures long { length room.new ≡ length room.old }
     ensures chosen { Chooses view.now marks.old marks.new }
     ensures words { AreCollected (plane_in view.now (depths_of marks.old)) room.new }
 {

@@ -10,6 +10,7 @@ ghost use Rattle.block_masks.specs.SetMasks.{AreSets};
 ghost use Rattle.plane_coder.specs.Listed.{Lists};
 ghost use Rattle.plane_coder.specs.Collected.{Collects, HasWords, AreFew, wants};
 ghost use Rattle.plane_coder.specs.Views.{plane_in};
+ghost use Rattle.plane_coder.specs.Viewed.{block_in};
 
 use crate::plane_masks::PlaneMasks;
 use crate::view::View;
@@ -29,16 +30,16 @@ pub(crate) struct GaggleWords {
 
 // Returns whether the words of the stage of this number are wanted.
 #[inline(always)]
-fn is_wanted(wanted: u8, number: u8) -> bool
-    ensures { result ≡ wants wanted number }
+fn is_wanted<const WANTED: u8>(number: u8) -> bool
+    ensures { result ≡ wants WANTED number }
 {
-    wanted == ALL || wanted == number
+    WANTED == ALL || WANTED == number
 }
 
 #[inline(always)]
 fn add_parents(words: &mut Words<16>, plane_masks: &PlaneMasks, is_wanted: bool)
     requires { words.old.count + 1 ≤ 16 }
-    ensures { Lists words.old words.new (cond is_wanted (parents plane_masks.now.block.now plane_masks.now.plan.now.weights.shifts plane_masks.now.plan.now.plane) []) 1 }
+    ensures { Lists words.old words.new (cond is_wanted (parents (block_in plane_masks.now) plane_masks.now.plan.now.weights.shifts plane_masks.now.plan.now.plane) []) 1 }
 {
     if !is_wanted {
         return;
@@ -48,9 +49,9 @@ fn add_parents(words: &mut Words<16>, plane_masks: &PlaneMasks, is_wanted: bool)
 
 #[inline(always)]
 fn add_children_types(words: &mut Words<80>, plane_masks: &PlaneMasks, sets: Sets)
-    requires sets { AreSets (significant plane_masks.now.block.now plane_masks.now.plan.now.plane) sets }
+    requires sets { AreSets (significant (block_in plane_masks.now) plane_masks.now.plan.now.plane) sets }
     requires room { words.old.count + 3 ≤ 80 }
-    ensures { Lists words.old words.new (children_types plane_masks.now.block.now plane_masks.now.plan.now.weights.shifts plane_masks.now.plan.now.plane) 3 }
+    ensures { Lists words.old words.new (children_types (block_in plane_masks.now) plane_masks.now.plan.now.weights.shifts plane_masks.now.plan.now.plane) 3 }
 {
     let types = plane_masks.types_of_children(sets);
     for i in 0..3u8 {
@@ -60,9 +61,9 @@ fn add_children_types(words: &mut Words<80>, plane_masks: &PlaneMasks, sets: Set
 
 #[inline(always)]
 fn add_children(words: &mut Words<80>, plane_masks: &PlaneMasks, sets: Sets, is_wanted: bool)
-    requires sets { AreSets (significant plane_masks.now.block.now plane_masks.now.plan.now.plane) sets }
+    requires sets { AreSets (significant (block_in plane_masks.now) plane_masks.now.plan.now.plane) sets }
     requires room { words.old.count + 5 ≤ 80 }
-    ensures { Lists words.old words.new (cond is_wanted (children plane_masks.now.block.now plane_masks.now.plan.now.weights.shifts plane_masks.now.plan.now.plane) []) 5 }
+    ensures { Lists words.old words.new (cond is_wanted (children (block_in plane_masks.now) plane_masks.now.plan.now.weights.shifts plane_masks.now.plan.now.plane) []) 5 }
 {
     if !is_wanted {
         return;
@@ -76,7 +77,7 @@ fn add_children(words: &mut Words<80>, plane_masks: &PlaneMasks, sets: Sets, is_
 fn add_quads_types(words: &mut Words<256>, plane_masks: &PlaneMasks, i: u8)
     requires family { i < 3 }
     requires room { words.old.count + 4 ≤ 256 }
-    ensures { Lists words.old words.new (quads_types plane_masks.now.block.now plane_masks.now.plan.now.weights.shifts plane_masks.now.plan.now.plane i) 4 }
+    ensures { Lists words.old words.new (quads_types (block_in plane_masks.now) plane_masks.now.plan.now.weights.shifts plane_masks.now.plan.now.plane i) 4 }
 {
     let types = plane_masks.types_of_quads(i);
     for j in 0..4u8 {
@@ -87,9 +88,9 @@ fn add_quads_types(words: &mut Words<256>, plane_masks: &PlaneMasks, i: u8)
 #[inline(always)]
 fn add_quads(words: &mut Words<256>, plane_masks: &PlaneMasks, is_said: bool, i: u8)
     requires family { i < 3 }
-    requires enclosing { is_said ≡ set_significant plane_masks.now.block.now plane_masks.now.plan.now.plane (Grandchildren i) }
+    requires enclosing { is_said ≡ set_significant (block_in plane_masks.now) plane_masks.now.plan.now.plane (Grandchildren i) }
     requires room { words.old.count + 5 ≤ 256 }
-    ensures { Lists words.old words.new (cond is_said (quads plane_masks.now.block.now plane_masks.now.plan.now.weights.shifts plane_masks.now.plan.now.plane i) []) 5 }
+    ensures { Lists words.old words.new (cond is_said (quads (block_in plane_masks.now) plane_masks.now.plan.now.weights.shifts plane_masks.now.plan.now.plane i) []) 5 }
 {
     if !is_said {
         return;
@@ -100,9 +101,9 @@ fn add_quads(words: &mut Words<256>, plane_masks: &PlaneMasks, is_said: bool, i:
 
 #[inline(always)]
 fn add_all_quads(words: &mut Words<256>, plane_masks: &PlaneMasks, sets: Sets)
-    requires sets { AreSets (significant plane_masks.now.block.now plane_masks.now.plan.now.plane) sets }
+    requires sets { AreSets (significant (block_in plane_masks.now) plane_masks.now.plan.now.plane) sets }
     requires room { words.old.count + 15 ≤ 256 }
-    ensures { Lists words.old words.new (all_quads plane_masks.now.block.now plane_masks.now.plan.now.weights.shifts plane_masks.now.plan.now.plane) 15 }
+    ensures { Lists words.old words.new (all_quads (block_in plane_masks.now) plane_masks.now.plan.now.weights.shifts plane_masks.now.plan.now.plane) 15 }
 {
     for i in 0..3u8 {
         add_quads(words, plane_masks, has(sets.grandchildren, i), i);
@@ -111,9 +112,9 @@ fn add_all_quads(words: &mut Words<256>, plane_masks: &PlaneMasks, sets: Sets)
 
 #[inline(always)]
 fn add_grandchildren(words: &mut Words<256>, plane_masks: &PlaneMasks, sets: Sets, is_wanted: bool)
-    requires sets { AreSets (significant plane_masks.now.block.now plane_masks.now.plan.now.plane) sets }
+    requires sets { AreSets (significant (block_in plane_masks.now) plane_masks.now.plan.now.plane) sets }
     requires room { words.old.count + 16 ≤ 256 }
-    ensures { Lists words.old words.new (cond is_wanted (grandchildren plane_masks.now.block.now plane_masks.now.plan.now.weights.shifts plane_masks.now.plan.now.plane) []) 16 }
+    ensures { Lists words.old words.new (cond is_wanted (grandchildren (block_in plane_masks.now) plane_masks.now.plan.now.weights.shifts plane_masks.now.plan.now.plane) []) 16 }
 {
     if !is_wanted {
         return;
@@ -133,57 +134,61 @@ impl GaggleWords {
 
     // Adds the words of a block that is deep enough to have a bit of the plane.
     #[inline(always)]
-    fn add_block(&mut self, plane_masks: &PlaneMasks, wanted: u8, depth: u8)
+    fn add_block<const WANTED: u8>(&mut self, plane_masks: &PlaneMasks, depth: u8)
         requires few { AreFew self.old 15 }
         requires deep { plane_masks.now.plan.now.plane < depth }
-        ensures { Collects wanted self.old self.new (λ stage. block_entries stage plane_masks.now.block.now depth plane_masks.now.plan.now.weights.shifts plane_masks.now.plan.now.plane plane_masks.now.plan.now.q) }
+        ensures { Collects WANTED self.old self.new (λ stage. block_entries stage (block_in plane_masks.now) depth plane_masks.now.plan.now.weights.shifts plane_masks.now.plan.now.plane plane_masks.now.plan.now.q) }
     {
         let sets = plane_masks.sets();
-        add_parents(&mut self.parents, plane_masks, is_wanted(wanted, 1));
-        add_children(&mut self.children, plane_masks, sets, is_wanted(wanted, 2));
+        add_parents(&mut self.parents, plane_masks, is_wanted::<WANTED>(1));
+        add_children(
+            &mut self.children,
+            plane_masks,
+            sets,
+            is_wanted::<WANTED>(2),
+        );
         add_grandchildren(
             &mut self.grandchildren,
             plane_masks,
             sets,
-            is_wanted(wanted, 3),
+            is_wanted::<WANTED>(3),
         );
     }
 }
 
 // Adds the words of block r.
 #[inline(always)]
-fn collect_block(words: &mut GaggleWords, view: &View, marks: &[i32], r: usize, wanted: u8)
-    requires whole { length view.now.blocks.now ≡ 64 * length marks.now }
+fn collect_block<const WANTED: u8>(words: &mut GaggleWords, view: &View, marks: &[i32], r: usize)
+    requires whole { length view.now.cells.now ≡ 64 * length marks.now }
     requires within { r < length marks.now }
     requires few { AreFew words.old 15 }
-    ensures { Collects wanted words.old words.new (λ stage. of_block (plane_in view.now (depths_of marks.now)) stage r) }
+    ensures { Collects WANTED words.old words.new (λ stage. of_block (plane_in view.now (depths_of marks.now)) stage r) }
 {
     let depth = depth_of(marks[r]);
     if depth <= view.plan.plane {
         return;
     }
-    words.add_block(&view.plane_masks(r), wanted, depth);
+    words.add_block::<WANTED>(&view.plane_masks(r), depth);
 }
 
-// Finds the words of gaggle g in all three stages, or in the one of which `wanted` is the number.
-// All callers share its code, so the loop has that of a block inline.
+// Finds the words of gaggle g in all three stages, or in the one of which `WANTED` is the number: the compiler knows it, so a loop
+// has nothing of the other stages. All callers share its code, so the loop has that of a block inline.
 #[inline(never)]
-pub(crate) fn collect_gaggle(
+pub(crate) fn collect_gaggle<const WANTED: u8>(
     words: &mut GaggleWords,
     view: &View,
     marks: &[i32],
     g: usize,
-    wanted: u8,
 )
-    requires whole { length view.now.blocks.now ≡ 64 * length marks.now }
+    requires whole { length view.now.cells.now ≡ 64 * length marks.now }
     requires within { 16 * g < length marks.now }
-    ensures { HasWords wanted (λ stage. of_gaggle (plane_in view.now (depths_of marks.now)) stage g) words.new }
+    ensures { HasWords WANTED (λ stage. of_gaggle (plane_in view.now (depths_of marks.now)) stage g) words.new }
 {
     words.parents.clear();
     words.children.clear();
     words.grandchildren.clear();
     let first = 16 * g;
     for place in 0..(marks.len() - first).min(16) {
-        collect_block(words, view, marks, first + place, wanted);
+        collect_block::<WANTED>(words, view, marks, first + place);
     }
 }

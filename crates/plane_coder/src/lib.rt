@@ -1,13 +1,15 @@
 //! This crate writes a bit plane of a segment as raw bits and coded words (docs/formats.md, "Bit planes" and "Words and codes").
 //!
-//! `masks` computes what the numbers of a block are in a plane, and `view` keeps the masks of the first blocks. `plane_masks` has
-//! the word and the signs that each set of positions and flags sends, by masks and tables. `fours` looks up the types of four
-//! positions with their signs, without a test of whether their set is significant. `collect` makes lists of the words of a gaggle
-//! in stages 1 to 3 (`words`), without those that have no bits. `choose` counts the words of these lists with `tally` and
-//! chooses the gaggle's options. Then `stages` puts the lists stage by stage with `put`, which collects bits in a `pending`; the
-//! first and the last stage, which have no words, go over the blocks. The states of the blocks keep the options meanwhile.
+//! `slice` puts masks of the numbers of a segment in the place of the numbers, once for all planes, and `view` reads those of a
+//! block in a plane. `plane_masks` has the word and the signs that each set of positions and flags sends, by masks and tables.
+//! `fours` looks up the types of four positions with their signs, without a test of whether their set is significant. `collect`
+//! makes lists of the words of a gaggle in stages 1 to 3 (`words`), without those that have no bits. `choose` counts the words of
+//! these lists with `tally` and chooses the gaggle's options. Then `stages` puts the lists stage by stage with `put`, which collects
+//! bits in a `pending`; the first and the last stage, which have no words, go over the blocks. The states of the blocks keep the
+//! options meanwhile. At the end of a plane, the masks are prepared for the plane below (`plane`).
 //!
-//! `block_masks` has what the reader of planes needs too: plans, masks, sets of positions and the states of blocks.
+//! `block_masks` has what the reader of planes needs too: plans, masks and their places, sets of positions and the
+//! states of blocks.
 #![tactic(auto)]
 
 mod choose;
@@ -21,6 +23,7 @@ mod plane;
 mod plane_masks;
 mod pushes;
 mod put;
+mod slice;
 mod stages;
 mod tables;
 mod tally;
@@ -30,4 +33,5 @@ mod words;
 pub use block_masks::PlanePlan;
 pub use coder::PlaneCoder;
 pub use plane::{put_plane, put_plane_with};
+pub use slice::slice_planes;
 pub use tables::CodeTables;

@@ -7,7 +7,9 @@ ghost use Rattle.plane_defs.specs.declared.entries.Entry.TheVariants.{Bit as Bit
 ghost use Rattle.plane_defs.specs.Spans.{span};
 ghost use Rattle.plane_defs.specs.Sets.{magnitude, significant, set_significant, type_due, refined as is_refined};
 ghost use Rattle.plane_defs.specs.Entries.{negative as is_negative, word, typed, flags};
+ghost use Rattle.wave_defs.specs.Held.{block_at};
 ghost use Rattle.block_masks.specs.Masks.{Shows};
+ghost use Rattle.block_masks.specs.Slices.{numbers_in};
 
 use crate::fours::{Fours, filled, four_sets};
 use crate::masks::Masks;
@@ -47,41 +49,41 @@ impl Typed {
     }
 }
 
-// The numbers that are significant in the plane, those that were above it, those whose types are due, those that
-// have the plane's bit, and those that are negative.
+// Of the numbers of block r: those that are significant in the plane, those that were above it, those whose types are due, those
+// that have the plane's bit, and those that are negative.
 #[derive(Clone, Copy)]
 pub(crate) struct PlaneMasks<'a> {
-    pub block: &'a [i32],
+    pub cells: &'a [i32],
+    pub r: usize,
     pub plan: &'a CodedPlane,
     reached: u64,
     above: u64,
     due: u64,
     bits: u64,
     negative: u64,
-    ghost whole: { length block.now ≡ 64 },
-    ghost reached_shown: { Shows reached (significant block.now plan.now.plane) 0 64 },
-    ghost above_shown: { Shows above (significant block.now (plan.now.plane + 1)) 0 64 },
-    ghost due_shown: { Shows due (type_due block.now plan.now.weights.shifts plan.now.plane) 0 64 },
-    ghost bits_shown: { Shows bits (λ p. bit (magnitude block.now p) plan.now.plane) 0 64 },
-    ghost negative_shown: { Shows negative (λ p. is_negative (slice_index_or block.now p (pos 0))) 0 64 },
+    ghost reached_shown: { Shows reached (significant (block_at (numbers_in cells.now) r) plan.now.plane) 0 64 },
+    ghost above_shown: { Shows above (significant (block_at (numbers_in cells.now) r) (plan.now.plane + 1)) 0 64 },
+    ghost due_shown: { Shows due (type_due (block_at (numbers_in cells.now) r) plan.now.weights.shifts plan.now.plane) 0 64 },
+    ghost bits_shown: { Shows bits (λ p. bit (magnitude (block_at (numbers_in cells.now) r) p) plan.now.plane) 0 64 },
+    ghost negative_shown: { Shows negative (λ p. is_negative (slice_index_or (block_at (numbers_in cells.now) r) p (pos 0))) 0 64 },
 }
 
 impl<'a> PlaneMasks<'a> {
     ghost use Rattle.block_masks.specs.SetMasks.{AreSets, AreQuads};
     ghost use Rattle.plane_coder.specs.Fours.{AreFours};
-    ghost use Rattle.plane_coder.specs.Viewed.{IsView};
+    ghost use Rattle.plane_coder.specs.Viewed.{IsView, block_in};
     ghost use Rattle.plane_coder.specs.Refining.{refining};
     ghost use Rattle.plane_coder.specs.Picked.{IsPacked, ArePacked, word_of, raws_of, entries_of};
 
     #[inline(always)]
-    pub fn new(block: &'a [i32], plan: &'a CodedPlane, masks: Masks) -> PlaneMasks<'a>
-        requires whole { length block.now ≡ 64 }
-        requires view { IsView block.now plan.now.plane masks }
-        ensures block { result.block.now ≡ block.now }
+    pub fn new(cells: &'a [i32], r: usize, plan: &'a CodedPlane, masks: Masks) -> PlaneMasks<'a>
+        requires view { IsView (block_at (numbers_in cells.now) r) plan.now.plane masks }
+        ensures block { block_in result ≡ block_at (numbers_in cells.now) r }
         ensures plan { result.plan.now ≡ plan.now }
     {
         PlaneMasks {
-            block,
+            cells,
+            r,
             plan,
             reached: either(masks.above, masks.bits),
             above: masks.above,
@@ -97,7 +99,7 @@ impl<'a> PlaneMasks<'a> {
         requires few { count ≤ 4 }
         requires within { at + count ≤ 64 }
         requires at { at < 64 }
-        ensures typed { entries_of result ≡ typed self.now.block.now self.now.plan.now.weights.shifts self.now.plan.now.plane (span at count) }
+        ensures typed { entries_of result ≡ typed (block_in self.now) self.now.plan.now.weights.shifts self.now.plan.now.plane (span at count) }
         ensures packed { ArePacked result }
     {
         let new = both(self.due, self.reached);
@@ -112,7 +114,7 @@ impl<'a> PlaneMasks<'a> {
         requires few { count ≤ 16 }
         requires within { at + count ≤ 64 }
         requires at { at < 64 }
-        ensures { (g : ℕ → Bool) → Shows among g at count → AreFours (λ p. type_due self.now.block.now self.now.plan.now.weights.shifts self.now.plan.now.plane p && g p) (significant self.now.block.now self.now.plan.now.plane) (λ p. is_negative (slice_index_or self.now.block.now p (pos 0))) at count result }
+        ensures { (g : ℕ → Bool) → Shows among g at count → AreFours (λ p. type_due (block_in self.now) self.now.plan.now.weights.shifts self.now.plan.now.plane p && g p) (significant (block_in self.now) self.now.plan.now.plane) (λ p. is_negative (slice_index_or (block_in self.now) p (pos 0))) at count result }
     {
         let due = both(part(self.due, at, count), among);
         let ones = both(due, part(self.reached, at, count));
@@ -126,8 +128,8 @@ impl<'a> PlaneMasks<'a> {
     // Returns the types of the children of significant families.
     #[inline(always)]
     pub fn types_of_children(&self, sets: Sets) -> Fours
-        requires { AreSets (significant self.now.block.now self.now.plan.now.plane) sets }
-        ensures { AreFours (λ p. type_due self.now.block.now self.now.plan.now.weights.shifts self.now.plan.now.plane p && set_significant self.now.block.now self.now.plan.now.plane (Family ((p - 4) / 4))) (significant self.now.block.now self.now.plan.now.plane) (λ p. is_negative (slice_index_or self.now.block.now p (pos 0))) 4 12 result }
+        requires { AreSets (significant (block_in self.now) self.now.plan.now.plane) sets }
+        ensures { AreFours (λ p. type_due (block_in self.now) self.now.plan.now.weights.shifts self.now.plan.now.plane p && set_significant (block_in self.now) self.now.plan.now.plane (Family ((p - 4) / 4))) (significant (block_in self.now) self.now.plan.now.plane) (λ p. is_negative (slice_index_or (block_in self.now) p (pos 0))) 4 12 result }
     {
         self.types_in(4, 12, filled(sets.families))
     }
@@ -136,7 +138,7 @@ impl<'a> PlaneMasks<'a> {
     #[inline(always)]
     pub fn types_of_quads(&self, i: u8) -> Fours
         requires { i < 3 }
-        ensures { AreFours (λ p. type_due self.now.block.now self.now.plan.now.weights.shifts self.now.plan.now.plane p && set_significant self.now.block.now self.now.plan.now.plane (Quad i ((p - (16 + 16 * i)) / 4))) (significant self.now.block.now self.now.plan.now.plane) (λ p. is_negative (slice_index_or self.now.block.now p (pos 0))) (16 + 16 * i) 16 result }
+        ensures { AreFours (λ p. type_due (block_in self.now) self.now.plan.now.weights.shifts self.now.plan.now.plane p && set_significant (block_in self.now) self.now.plan.now.plane (Quad i ((p - (16 + 16 * i)) / 4))) (significant (block_in self.now) self.now.plan.now.plane) (λ p. is_negative (slice_index_or (block_in self.now) p (pos 0))) (16 + 16 * i) 16 result }
     {
         self.types_in(16 + 16 * i, 16, filled(self.quads(i)))
     }
@@ -144,7 +146,7 @@ impl<'a> PlaneMasks<'a> {
     // Returns the sets that are significant in the plane.
     #[inline(always)]
     pub fn sets(&self) -> Sets
-        ensures { AreSets (significant self.now.block.now self.now.plan.now.plane) result }
+        ensures { AreSets (significant (block_in self.now) self.now.plan.now.plane) result }
     {
         Sets::of(self.reached)
     }
@@ -152,7 +154,7 @@ impl<'a> PlaneMasks<'a> {
     // Returns the flag of all descendants, if it is due.
     #[inline(always)]
     pub fn flag_of_all(&self) -> u8
-        ensures flag { raws_of result ≡ map BitEntry (flags self.now.block.now self.now.plan.now.weights.shifts self.now.plan.now.plane (Descendants ∷ [])) }
+        ensures flag { raws_of result ≡ map BitEntry (flags (block_in self.now) self.now.plan.now.weights.shifts self.now.plan.now.plane (Descendants ∷ [])) }
         ensures packed { IsPacked result }
     {
         let new = except(
@@ -165,7 +167,7 @@ impl<'a> PlaneMasks<'a> {
     // Returns the flags of the families.
     #[inline(always)]
     pub fn flags_of_families(&self) -> u8
-        ensures flags { word_of result ≡ word (flags self.now.block.now self.now.plan.now.weights.shifts self.now.plan.now.plane (Family 0 ∷ Family 1 ∷ Family 2 ∷ [])) }
+        ensures flags { word_of result ≡ word (flags (block_in self.now) self.now.plan.now.weights.shifts self.now.plan.now.plane (Family 0 ∷ Family 1 ∷ Family 2 ∷ [])) }
         ensures packed { IsPacked result }
     {
         let sets = self.sets();
@@ -176,7 +178,7 @@ impl<'a> PlaneMasks<'a> {
     // Returns the flags of the families' grandchildren.
     #[inline(always)]
     pub fn flags_of_grandchildren(&self) -> u8
-        ensures flags { word_of result ≡ word (flags self.now.block.now self.now.plan.now.weights.shifts self.now.plan.now.plane (Grandchildren 0 ∷ Grandchildren 1 ∷ Grandchildren 2 ∷ [])) }
+        ensures flags { word_of result ≡ word (flags (block_in self.now) self.now.plan.now.weights.shifts self.now.plan.now.plane (Grandchildren 0 ∷ Grandchildren 1 ∷ Grandchildren 2 ∷ [])) }
         ensures packed { IsPacked result }
     {
         let sets = self.sets();
@@ -191,7 +193,7 @@ impl<'a> PlaneMasks<'a> {
     #[inline(always)]
     pub fn quads(&self, i: u8) -> u64
         requires { i < 3 }
-        ensures { AreQuads (significant self.now.block.now self.now.plan.now.plane) i result }
+        ensures { AreQuads (significant (block_in self.now) self.now.plan.now.plane) i result }
     {
         four_sets(self.reached, 16 + 16 * i)
     }
@@ -200,8 +202,8 @@ impl<'a> PlaneMasks<'a> {
     #[inline(always)]
     pub fn flags_of_quads(&self, i: u8) -> u8
         requires family { i < 3 }
-        requires enclosing { set_significant self.now.block.now self.now.plan.now.plane (Grandchildren i) ≡ true }
-        ensures flags { word_of result ≡ word (flags self.now.block.now self.now.plan.now.weights.shifts self.now.plan.now.plane (Quad i 0 ∷ Quad i 1 ∷ Quad i 2 ∷ Quad i 3 ∷ [])) }
+        requires enclosing { set_significant (block_in self.now) self.now.plan.now.plane (Grandchildren i) ≡ true }
+        ensures flags { word_of result ≡ word (flags (block_in self.now) self.now.plan.now.weights.shifts self.now.plan.now.plane (Quad i 0 ∷ Quad i 1 ∷ Quad i 2 ∷ Quad i 3 ∷ [])) }
         ensures packed { IsPacked result }
     {
         let before = four_sets(self.above, 16 + 16 * i);
@@ -212,7 +214,7 @@ impl<'a> PlaneMasks<'a> {
     // Returns the positions whose bits refine a number.
     #[inline(always)]
     pub fn refined(&self) -> u64
-        ensures { Shows result (is_refined self.now.block.now self.now.plan.now.weights.shifts self.now.plan.now.plane) 0 64 }
+        ensures { Shows result (is_refined (block_in self.now) self.now.plan.now.weights.shifts self.now.plan.now.plane) 0 64 }
     {
         both(self.above, self.plan.coded)
     }
@@ -223,8 +225,8 @@ impl<'a> PlaneMasks<'a> {
         requires few { count ≤ 4 }
         requires within { at + count ≤ 64 }
         requires at { at < 64 }
-        requires refined { Shows refined (is_refined self.now.block.now self.now.plan.now.weights.shifts self.now.plan.now.plane) 0 64 }
-        ensures bits { raws_of result ≡ refining self.now.block.now self.now.plan.now.weights.shifts self.now.plan.now.plane at count }
+        requires refined { Shows refined (is_refined (block_in self.now) self.now.plan.now.weights.shifts self.now.plan.now.plane) 0 64 }
+        ensures bits { raws_of result ≡ refining (block_in self.now) self.now.plan.now.weights.shifts self.now.plan.now.plane at count }
         ensures packed { IsPacked result }
     {
         pick(part(refined, at, count), part(self.bits, at, count))

@@ -6,6 +6,7 @@ ghost use Rattle.base_122.specs.declared.book.Book.{Book as BookValue};
 ghost use Rattle.block_masks.specs.Masks.{Shows};
 ghost use Rattle.plane_coder.specs.Appends.{Appends, load};
 ghost use Rattle.plane_coder.specs.Refining.{refining};
+ghost use Rattle.plane_coder.specs.Viewed.{block_in};
 
 use crate::pending::PendingBits;
 use crate::plane_masks::PlaneMasks;
@@ -23,10 +24,10 @@ pub(crate) fn push_refinement(
     requires order { from < to }
     requires start { 0 < from }
     requires within { to ≤ 16 }
-    requires shown { Shows refined (is_refined plane_masks.now.block.now plane_masks.now.plan.now.weights.shifts plane_masks.now.plan.now.plane) 0 64 }
+    requires shown { Shows refined (is_refined (block_in plane_masks.now) plane_masks.now.plan.now.weights.shifts plane_masks.now.plan.now.plane) 0 64 }
     requires room { load pending.old + 4 * (to - from) ≤ 63 }
     ensures { (book : BookValue) → Appends book pending.old pending.new
-        (refining plane_masks.now.block.now plane_masks.now.plan.now.weights.shifts plane_masks.now.plan.now.plane (4 * from) (4 * (to - from))) (4 * (to - from)) }
+        (refining (block_in plane_masks.now) plane_masks.now.plan.now.weights.shifts plane_masks.now.plan.now.plane (4 * from) (4 * (to - from))) (4 * (to - from)) }
 {
     if !is_any_of(refined, 4 * from, 4 * (to - from)) {
         return;

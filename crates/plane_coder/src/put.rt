@@ -1,13 +1,16 @@
 // The stages of a block, and the words of a list.
 
-ghost use Rattle.std.specs.Prelude.{◌≡◌, ◌+◌, ◌*◌, ◌&&◌, ◌<◌, ◌≤◌, false, length, nat_lt, slice_range};
+ghost use Rattle.std.specs.Prelude.{◌≡◌, ◌+◌, ◌*◌, ◌&&◌, ◌<◌, ◌≤◌, ◌%◌, false, length, nat_lt, pos, slice_index_or};
 ghost use Rattle.std.specs.Bool.{OnTrue};
 ghost use Rattle.bit_pipe.specs.Standing.{stand, IsReady};
+ghost use Rattle.wave_defs.specs.Held.{block_at};
 ghost use Rattle.plane_defs.specs.Sets.{coded};
 ghost use Rattle.plane_defs.specs.Entries.{twos_bit, dc_bits, refinement, block_entries, stage_number};
+ghost use Rattle.block_masks.specs.Slices.{numbers_in};
 ghost use Rattle.plane_coder.specs.Listed.{listed};
 ghost use Rattle.plane_coder.specs.Collected.{HasNoWords};
 ghost use Rattle.plane_coder.specs.Spells.{Spells};
+ghost use Rattle.plane_coder.specs.Viewed.{block_in};
 ghost use Rattle.base_122.specs.declared.book.Book.{Book as BookValue};
 ghost use Rattle.block_masks.specs.declared.gaggle.Gaggle.{Gaggle as GaggleValue};
 
@@ -18,7 +21,7 @@ use crate::pushes::push_refinement;
 use crate::view::View;
 use crate::words::Words;
 use bit_pipe::{BitOut, OctetOut, PutFault};
-use block_masks::{CodedPlane, has, is_any_of};
+use block_masks::{CodedPlane, DC, has, is_any_of, mask_of};
 
 // Returns the bit of weight 2^place of a two's complement form.
 fn twos_bit_at(number: i32, place: u8) -> bool
@@ -42,19 +45,33 @@ pub(crate) fn is_quiet(plan: &CodedPlane, number: u8) -> bool
     number == 0 && !is_dc_bit_due(plan)
 }
 
+// Returns the DC of block r.
+#[inline(always)]
+fn dc_of(cells: &[i32], r: usize) -> i32
+    requires whole { length cells.now % 64 ≡ 0 }
+    requires within { 64 * r < length cells.now }
+    ensures { result ≡ slice_index_or (block_at (numbers_in cells.now) r) 0 (pos 0) }
+{
+    let low = mask_of(cells, r, DC) % 0x1_0000_0000;
+    (low as u32).cast_signed()
+}
+
+#[inline(always)]
 fn put_dc_bit<O: OctetOut>(
     out: &mut BitOut<O>,
-    block: &[i32],
+    cells: &[i32],
+    r: usize,
     plan: &CodedPlane,
 ) -> Result<(), PutFault>
     requires open { IsReady O.sink out.old }
-    requires whole { length block.now ≡ 64 }
-    ensures { (book : BookValue) (gaggle : GaggleValue) → Spells O.sink book gaggle gaggle result (stand O.sink out.old) (stand O.sink out.new) (dc_bits block.now plan.now.weights.shifts plan.now.plane plan.now.q) }
+    requires whole { length cells.now % 64 ≡ 0 }
+    requires within { 64 * r < length cells.now }
+    ensures { (book : BookValue) (gaggle : GaggleValue) → Spells O.sink book gaggle gaggle result (stand O.sink out.old) (stand O.sink out.new) (dc_bits (block_at (numbers_in cells.now) r) plan.now.weights.shifts plan.now.plane plan.now.q) }
 {
     if !is_dc_bit_due(plan) {
         return Ok(());
     }
-    out.put(twos_bit_at(block[0], plan.plane))
+    out.put(twos_bit_at(dc_of(cells, r), plan.plane))
 }
 
 // Puts the words of a list.
@@ -88,7 +105,7 @@ fn put_refinement<O: OctetOut>(
 ) -> Result<(), PutFault>
     requires open { IsReady O.sink out.old }
     requires silent { pending.old.count ≡ 0 }
-    ensures spells { (book : BookValue) → Spells O.sink book pending.old.gaggle pending.new.gaggle result (stand O.sink out.old) (stand O.sink out.new) (refinement plane_masks.now.block.now plane_masks.now.plan.now.weights.shifts plane_masks.now.plan.now.plane) }
+    ensures spells { (book : BookValue) → Spells O.sink book pending.old.gaggle pending.new.gaggle result (stand O.sink out.old) (stand O.sink out.new) (refinement (block_in plane_masks.now) plane_masks.now.plan.now.weights.shifts plane_masks.now.plan.now.plane) }
     ensures silent { pending.new.count ≡ 0 }
 {
     let refined = plane_masks.refined();
@@ -116,14 +133,14 @@ pub(crate) fn put_block_stage<O: OctetOut, const STAGE: u8>(
 ) -> Result<(), PutFault>
     requires open { IsReady O.sink out.old }
     requires stage { HasNoWords STAGE }
-    requires within { 64 * r + 64 ≤ length view.now.blocks.now }
+    requires within { 64 * r < length view.now.cells.now }
     requires silent { pending.old.count ≡ 0 }
     ensures spells { (book : BookValue) → Spells O.sink book pending.old.gaggle pending.new.gaggle result (stand O.sink out.old) (stand O.sink out.new)
-        (block_entries (stage_number STAGE) (slice_range view.now.blocks.now (64 * r) (64 * r + 64)) depth view.now.plan.now.weights.shifts view.now.plan.now.plane view.now.plan.now.q) }
+        (block_entries (stage_number STAGE) (block_at (numbers_in view.now.cells.now) r) depth view.now.plan.now.weights.shifts view.now.plan.now.plane view.now.plan.now.q) }
     ensures silent { pending.new.count ≡ 0 }
 {
     if STAGE == 0 {
-        return put_dc_bit(out, &view.blocks[64 * r..64 * r + 64], view.plan);
+        return put_dc_bit(out, view.cells, r, view.plan);
     }
     if depth <= view.plan.plane {
         return Ok(());

@@ -34,7 +34,7 @@ fn put_block_at<O: OctetOut, const STAGE: u8>(
     requires stage { HasNoWords STAGE }
     requires open { IsReady O.sink out.old }
     requires silent { pending.old.count ≡ 0 }
-    requires whole { length view.now.blocks.now ≡ 64 * length marks.now }
+    requires whole { length view.now.cells.now ≡ 64 * length marks.now }
     requires within { r < length marks.now }
     ensures spells { Spells O.sink view.now.tables.now.book pending.old.gaggle pending.new.gaggle result (stand O.sink out.old) (stand O.sink out.new) (of_block (plane_in view.now (depths_of marks.now)) (stage_number STAGE) r) }
     ensures silent { pending.new.count ≡ 0 }
@@ -54,7 +54,7 @@ fn put_blocks<O: OctetOut, const STAGE: u8>(
     requires stage { HasNoWords STAGE }
     requires open { IsReady O.sink out.old }
     requires silent { pending.old.count ≡ 0 }
-    requires whole { length view.now.blocks.now ≡ 64 * length marks.now }
+    requires whole { length view.now.cells.now ≡ 64 * length marks.now }
     requires within { 16 * g < length marks.now }
     ensures { Spells O.sink view.now.tables.now.book pending.old.gaggle pending.new.gaggle result (stand O.sink out.old) (stand O.sink out.new) (of_gaggle (plane_in view.now (depths_of marks.now)) (stage_number STAGE) g) }
 {
@@ -88,27 +88,33 @@ fn put_stage_words<O: OctetOut, const STAGE: u8>(
     }
 }
 
-// Puts the words of gaggle g in the stage of this number, which are found again. Only segments of very many blocks have such gaggles.
-#[cold]
+// Puts the words of gaggle g in the stage of this number, which are found again, in the last place of the room. Only segments of very
+// many blocks have such gaggles.
 #[inline(never)]
 fn put_again<O: OctetOut, const STAGE: u8>(
     out: &mut BitOut<O>,
     pending: &mut PendingBits,
     view: &View,
     marks: &[i32],
+    room: &mut [GaggleWords],
     g: usize,
 ) -> Result<(), PutFault>
     requires first { 0 < STAGE }
     requires last { STAGE < 4 }
     requires open { IsReady O.sink out.old }
     requires silent { pending.old.count ≡ 0 }
-    requires whole { length view.now.blocks.now ≡ 64 * length marks.now }
+    requires whole { length view.now.cells.now ≡ 64 * length marks.now }
     requires within { 16 * g < length marks.now }
-    ensures { Spells O.sink view.now.tables.now.book pending.old.gaggle pending.new.gaggle result (stand O.sink out.old) (stand O.sink out.new) (of_gaggle (plane_in view.now (depths_of marks.now)) (stage_number STAGE) g) }
+    requires room { 0 < length room.old }
+    requires words { AreCollected (plane_in view.now (depths_of marks.now)) room.old }
+    ensures words { AreCollected (plane_in view.now (depths_of marks.now)) room.new }
+    ensures long { length room.new ≡ length room.old }
+    ensures spells { Spells O.sink view.now.tables.now.book pending.old.gaggle pending.new.gaggle result (stand O.sink out.old) (stand O.sink out.new) (of_gaggle (plane_in view.now (depths_of marks.now)) (stage_number STAGE) g) }
 {
-    let mut words = GaggleWords::new();
-    collect_gaggle(&mut words, view, marks, g, STAGE);
-    put_stage_words::<O, STAGE>(out, pending, view.tables, &words)
+    let last = room.len() - 1;
+    let words = &mut room[last];
+    collect_gaggle::<STAGE>(words, view, marks, g);
+    put_stage_words::<O, STAGE>(out, pending, view.tables, words)
 }
 
 // Puts the stage of this number of gaggle g.
@@ -118,22 +124,25 @@ fn put_gaggle<O: OctetOut, const STAGE: u8>(
     pending: &mut PendingBits,
     view: &View,
     marks: &[i32],
-    room: &[GaggleWords],
+    room: &mut [GaggleWords],
     g: usize,
 ) -> Result<(), PutFault>
     requires stage { STAGE < 5 }
     requires open { IsReady O.sink out.old }
     requires silent { pending.old.count ≡ 0 }
-    requires whole { length view.now.blocks.now ≡ 64 * length marks.now }
+    requires whole { length view.now.cells.now ≡ 64 * length marks.now }
     requires within { 16 * g < length marks.now }
-    requires words { AreCollected (plane_in view.now (depths_of marks.now)) room.now }
-    ensures { Spells O.sink view.now.tables.now.book pending.old.gaggle pending.new.gaggle result (stand O.sink out.old) (stand O.sink out.new) (of_gaggle (plane_in view.now (depths_of marks.now)) (stage_number STAGE) g) }
+    requires room { 0 < length room.old }
+    requires words { AreCollected (plane_in view.now (depths_of marks.now)) room.old }
+    ensures words { AreCollected (plane_in view.now (depths_of marks.now)) room.new }
+    ensures long { length room.new ≡ length room.old }
+    ensures spells { Spells O.sink view.now.tables.now.book pending.old.gaggle pending.new.gaggle result (stand O.sink out.old) (stand O.sink out.new) (of_gaggle (plane_in view.now (depths_of marks.now)) (stage_number STAGE) g) }
 {
     if STAGE == 0 || STAGE == 4 {
         return put_blocks::<O, STAGE>(out, pending, view, marks, g);
     }
-    if g >= room.len() {
-        return put_again::<O, STAGE>(out, pending, view, marks, g);
+    if g + 1 >= room.len() {
+        return put_again::<O, STAGE>(out, pending, view, marks, room, g);
     }
     put_stage_words::<O, STAGE>(out, pending, view.tables, &room[g])
 }
@@ -144,18 +153,21 @@ fn put_gaggles<O: OctetOut, const STAGE: u8>(
     out: &mut BitOut<O>,
     view: &View,
     marks: &mut [i32],
-    room: &[GaggleWords],
+    room: &mut [GaggleWords],
 ) -> Result<(), PutFault>
     requires open { IsReady O.sink out.old }
     requires stage { STAGE < 5 }
-    requires whole { length view.now.blocks.now ≡ 64 * length marks.old }
+    requires whole { length view.now.cells.now ≡ 64 * length marks.old }
     requires known { AreKnown marks.old }
-    requires words { AreCollected (plane_in view.now (depths_of marks.old)) room.now }
+    requires room { 0 < length room.old }
+    requires words { AreCollected (plane_in view.now (depths_of marks.old)) room.old }
     requires agree { AllAgree (plane_in view.now (depths_of marks.old)) STAGE marks.old }
     ensures puts { Writes O.sink result out.old out.new (text (stage_items view.now.tables.now.book (options_at marks.old) (plane_in view.now (depths_of marks.old)) STAGE)) }
     ensures is_open { OnOk result (IsReady O.sink out.new) }
     ensures agree { OnOk result (AllAgree (plane_in view.now (depths_of marks.old)) (STAGE + 1) marks.new) }
     ensures kept { SameMarks marks.old marks.new }
+    ensures words { AreCollected (plane_in view.now (depths_of marks.old)) room.new }
+    ensures long { length room.new ≡ length room.old }
 {
     if is_quiet(view.plan, STAGE) {
         return Ok(());
@@ -175,18 +187,21 @@ pub(crate) fn put_stage<O: OctetOut>(
     number: u8,
     view: &View,
     marks: &mut [i32],
-    room: &[GaggleWords],
+    room: &mut [GaggleWords],
 ) -> Result<(), PutFault>
     requires open { IsReady O.sink out.old }
     requires number { number < 5 }
-    requires whole { length view.now.blocks.now ≡ 64 * length marks.old }
+    requires whole { length view.now.cells.now ≡ 64 * length marks.old }
     requires known { AreKnown marks.old }
-    requires words { AreCollected (plane_in view.now (depths_of marks.old)) room.now }
+    requires room { 0 < length room.old }
+    requires words { AreCollected (plane_in view.now (depths_of marks.old)) room.old }
     requires agree { AllAgree (plane_in view.now (depths_of marks.old)) number marks.old }
     ensures puts { Writes O.sink result out.old out.new (text (stage_items view.now.tables.now.book (options_at marks.old) (plane_in view.now (depths_of marks.old)) number)) }
     ensures is_open { OnOk result (IsReady O.sink out.new) }
     ensures agree { OnOk result (AllAgree (plane_in view.now (depths_of marks.old)) (number + 1) marks.new) }
     ensures kept { SameMarks marks.old marks.new }
+    ensures words { AreCollected (plane_in view.now (depths_of marks.old)) room.new }
+    ensures long { length room.new ≡ length room.old }
 {
     match number {
         0 => put_gaggles::<O, 0>(out, view, marks, room),

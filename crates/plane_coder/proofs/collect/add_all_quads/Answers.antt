@@ -5,20 +5,21 @@ use Rattle.plane_defs.specs.Sets.{set_significant}
 use Rattle.plane_coder.specs.Listed.{Lists}
 use Rattle.plane_coder.proofs.Listing.{lists_start, lists_more}
 use Rattle.plane_coder.proofs.BlockSets.{of_family, of_family_is, families_are}
+use Rattle.plane_coder.specs.Viewed.{block_in}
 use Rattle.plane_coder.proofs.collect.add_all_quads.Goals as goal
 
 pub loop-i-init : goal.loop-i-init
 loop-i-init c =
     let s = c.args.plane_masks.now in
-    record { lists = lists_start c.args.words.now (of_family s.block.now s.plan.now.weights.shifts s.plan.now.plane) 0 5 }
+    record { lists = lists_start c.args.words.now (of_family (block_in s) s.plan.now.weights.shifts s.plan.now.plane) 0 5 }
 
 pub add_quads-requires : goal.add_quads-requires
 unfolding set_significant
 add_quads-requires c = record {
   family = c.loop-i-test.true;
   enclosing =
-      let told : c.has.result ≡ set_significant c.args.plane_masks.now.block.now c.args.plane_masks.now.plan.now.plane (Grandchildren (0 + c.loop-i.i)) = c.has.ensures _ 0 3 c.requires.sets.grandchildren c.loop-i-test.true in
-      told ∙ ap (λ n. set_significant c.args.plane_masks.now.block.now c.args.plane_masks.now.plan.now.plane (Grandchildren n)) (zero-add c.loop-i.i);
+      let told : c.has.result ≡ set_significant (block_in c.args.plane_masks.now) c.args.plane_masks.now.plan.now.plane (Grandchildren (0 + c.loop-i.i)) = c.has.ensures _ 0 3 c.requires.sets.grandchildren c.loop-i-test.true in
+      told ∙ ap (λ n. set_significant (block_in c.args.plane_masks.now) c.args.plane_masks.now.plan.now.plane (Grandchildren n)) (zero-add c.loop-i.i);
   room = omega (arith, c.loop-i.invariant.lists.more, c.loop-i-test.true, c.requires.room);
 }
 
@@ -27,7 +28,7 @@ unfolding set_significant
 loop-i-preserved c =
     let s = c.args.plane_masks.now in
     let i = c.loop-i.i in
-    let block = s.block.now in
+    let block = block_in s in
     let weights = s.plan.now.weights.shifts in
     let plane = s.plan.now.plane in
     let told : c.has.result ≡ set_significant block plane (Grandchildren (0 + i)) = c.has.ensures _ 0 3 c.requires.sets.grandchildren c.loop-i-test.true in

@@ -6,12 +6,13 @@ use Rattle.plane_coder.specs.Listed.{Lists}
 use Rattle.plane_coder.proofs.Listing.{lists_start, lists_more, lists_typed}
 use Rattle.plane_coder.proofs.FourTypes.{children_typed}
 use Rattle.plane_coder.proofs.BlockSets.{of_children, of_children_is, children_are}
+use Rattle.plane_coder.specs.Viewed.{block_in}
 use Rattle.plane_coder.proofs.collect.add_children_types.Goals as goal
 
 pub loop-i-init : goal.loop-i-init
 loop-i-init c =
     let s = c.args.plane_masks.now in
-    record { lists = lists_start c.args.words.now (of_children s.block.now s.plan.now.weights.shifts s.plan.now.plane) 0 1 }
+    record { lists = lists_start c.args.words.now (of_children (block_in s) s.plan.now.weights.shifts s.plan.now.plane) 0 1 }
 
 pub push-requires : goal.push-requires
 push-requires c = (omega arith, (c.four.ensures.packed, omega (arith, c.loop-i.invariant.lists.more, c.loop-i-test.true, c.requires.room)))
@@ -20,7 +21,7 @@ pub loop-i-preserved : goal.loop-i-preserved
 loop-i-preserved c =
     let s = c.args.plane_masks.now in
     let i = c.loop-i.i in
-    let block = s.block.now in
+    let block = block_in s in
     let weights = s.plan.now.weights.shifts in
     let plane = s.plan.now.plane in
     let b = set_significant block plane (Family (0 + i)) in

@@ -6,12 +6,13 @@ use Rattle.plane_coder.specs.Listed.{Lists}
 use Rattle.plane_coder.proofs.Listing.{lists_start, lists_more, lists_typed}
 use Rattle.plane_coder.proofs.FourTypes.{quads_typed}
 use Rattle.plane_coder.proofs.BlockSets.{of_quad, of_quad_is, quads_are}
+use Rattle.plane_coder.specs.Viewed.{block_in}
 use Rattle.plane_coder.proofs.collect.add_quads_types.Goals as goal
 
 pub loop-j-init : goal.loop-j-init
 loop-j-init c =
     let s = c.args.plane_masks.now in
-    record { lists = lists_start c.args.words.now (of_quad s.block.now s.plan.now.weights.shifts s.plan.now.plane c.args.i) 0 1 }
+    record { lists = lists_start c.args.words.now (of_quad (block_in s) s.plan.now.weights.shifts s.plan.now.plane c.args.i) 0 1 }
 
 pub push-requires : goal.push-requires
 push-requires c = (omega arith, (c.four.ensures.packed, omega (arith, c.loop-j.invariant.lists.more, c.loop-j-test.true, c.requires.room)))
@@ -21,7 +22,7 @@ loop-j-preserved c =
     let s = c.args.plane_masks.now in
     let i = c.args.i in
     let j = c.loop-j.j in
-    let block = s.block.now in
+    let block = block_in s in
     let weights = s.plan.now.weights.shifts in
     let plane = s.plan.now.plane in
     let b = set_significant block plane (Quad i (0 + j)) in

@@ -7,14 +7,14 @@ use Rattle.plane_coder.proofs.Collecting.{none_found, more_found, all_found}
 use Rattle.plane_coder.proofs.collect.collect_gaggle.Goals as goal
 
 pub loop-place-init : goal.loop-place-init
-loop-place-init c = none_found (plane_in c.args.view.now (depths_of c.args.marks.now)) c.args.wanted (16 * c.args.g) _ c.clear.ensures c.clear-2.ensures c.clear-3.ensures
+loop-place-init g c = none_found (plane_in c.args.view.now (depths_of c.args.marks.now)) g.row.WANTED (16 * c.args.g) _ c.clear.ensures c.clear-2.ensures c.clear-3.ensures
 
 pub loop-place-preserved : goal.loop-place-preserved
-loop-place-preserved c = more_found (plane_in c.args.view.now (depths_of c.args.marks.now)) c.args.wanted (16 * c.args.g) c.loop-place.place c.loop-place.invariant c.collect_block.ensures
+loop-place-preserved g c = more_found (plane_in c.args.view.now (depths_of c.args.marks.now)) g.row.WANTED (16 * c.args.g) c.loop-place.place c.loop-place.invariant c.collect_block.ensures
 
 pub returns : goal.returns
-returns c =
+returns g c =
     let p = plane_in c.args.view.now (depths_of c.args.marks.now) in
     let all : c.loop-place.place ≡ gaggle_size p c.args.g =
     omega (arith, c.min-place-end.ensures, c.loop-place-test.false, c.loop-place.auto.place-end, length-depths_of c.args.marks.now) in
-    all_found p c.args.wanted c.args.g c.loop-place.place _ all c.loop-place.invariant
+    all_found p g.row.WANTED c.args.g c.loop-place.place _ all c.loop-place.invariant

@@ -5,6 +5,7 @@ use Rattle.plane_coder.specs.Refining.{refining}
 use Rattle.plane_coder.specs.Appends.{Appends}
 use Rattle.plane_coder.proofs.Appending.{appends_none, appends_less, appends_both}
 use Rattle.plane_coder.proofs.BlockSets.{refining_none, refining_more, refining_nothing}
+use Rattle.plane_coder.specs.Viewed.{block_in}
 use Rattle.plane_coder.proofs.pushes.push_refinement.Goals as goal
 
 pub returns-then-not-is_any_of : goal.returns-then-not-is_any_of
@@ -14,7 +15,7 @@ pub loop-k-init : goal.loop-k-init
 loop-k-init c = record {
   says = λ book.
       let s = c.args.plane_masks.now in
-      let block = s.block.now in
+      let block = block_in s in
       let weights = s.plan.now.weights.shifts in
       let plane = s.plan.now.plane in
       let zero : 0 ≡ 4 * (c.args.from - c.args.from) = omega arith in
@@ -32,7 +33,7 @@ pub loop-k-preserved : goal.loop-k-preserved
 loop-k-preserved c = record {
   says = λ book.
       let s = c.args.plane_masks.now in
-      let block = s.block.now in
+      let block = block_in s in
       let weights = s.plan.now.weights.shifts in
       let plane = s.plan.now.plane in
       let k = c.loop-k.k in
@@ -48,4 +49,4 @@ pub returns : goal.returns
 returns c book =
     let s = c.args.plane_masks.now in
     let all : c.loop-k.k ≡ c.args.to = omega (arith, c.loop-k-test.false, c.loop-k.auto.k-end, c.requires.order) in
-    subst (λ n. Appends book c.args.pending.now c.loop-k.pending (refining s.block.now s.plan.now.weights.shifts s.plan.now.plane (4 * c.args.from) (4 * (n - c.args.from))) (4 * (n - c.args.from))) all (c.loop-k.invariant.says book)
+    subst (λ n. Appends book c.args.pending.now c.loop-k.pending (refining (block_in s) s.plan.now.weights.shifts s.plan.now.plane (4 * c.args.from) (4 * (n - c.args.from))) (4 * (n - c.args.from))) all (c.loop-k.invariant.says book)

@@ -1,4 +1,4 @@
-use Rattle.std.proofs.Common.{rules, ◌≡◌, FitsSigned, w32, get_or, pos, sym, ◌∙◌, [], ◌∷◌, subst}
+use Rattle.std.proofs.Common.{rules, ◌≡◌, FitsSigned, w32, ap, sym, ◌∙◌, [], ◌∷◌, subst}
 use Rattle.std.proofs.lemmas.Int.{to_z-of_z}
 use Rattle.bit_pipe.specs.Standing.{stand, Puts}
 use Rattle.plane_defs.specs.Entries.{twos_bit}
@@ -10,8 +10,9 @@ returns-then-not-is_dc_bit_due g c book gaggle = spells_if_not _ (sym c.is_dc_bi
 
 pub returns : goal.returns
 returns g c book gaggle =
-    let fits : FitsSigned w32 (get_or c.args.block.now 0 (pos 0)) = search rules in
-    let same : c.twos_bit_at.result ≡ twos_bit (get_or c.args.block.now 0 (pos 0)) c.args.plan.now.plane = simp to_z-of_z at c.twos_bit_at.ensures in
+    let fits : FitsSigned w32 c.dc_of.result = search rules in
+    let told : c.twos_bit_at.result ≡ twos_bit c.dc_of.result c.args.plan.now.plane = simp to_z-of_z at c.twos_bit_at.ensures in
+    let same = told ∙ ap (λ n. twos_bit n c.args.plan.now.plane) c.dc_of.ensures in
     spells_if _ (sym c.is_dc_bit_due.ensures ∙ c.if-not-is_dc_bit_due.false)
     (spells_raw gaggle c.put.result _ _ _ c.requires.open
     (subst (λ b. Puts g.O.OctetOut.sink c.put.result (stand g.O.OctetOut.sink c.args.out.now) (stand g.O.OctetOut.sink c.put.new.self) (b ∷ [])) same c.put.ensures))

@@ -10,12 +10,13 @@ use Rattle.plane_coder.specs.Appends.{Appends}
 use Rattle.plane_coder.proofs.Appending.{silent_load, appends_both, spells_said}
 use Rattle.plane_coder.proofs.Spelling.{spells_none, spells_both, spells_cut}
 use Rattle.plane_coder.proofs.BlockSets.{refining_both, refining_nothing, refining_parts}
+use Rattle.plane_coder.specs.Viewed.{block_in}
 use Rattle.plane_coder.proofs.put.put_refinement.Goals as goal
 
 pub returns-then-not-is_any_of : goal.returns-then-not-is_any_of
 returns-then-not-is_any_of g c =
     let s = c.args.plane_masks.now in
-    let block = s.block.now in
+    let block = block_in s in
     let weights = s.plan.now.weights.shifts in
     let plane = s.plan.now.plane in
     let k = g.O.OctetOut.sink in
@@ -61,7 +62,7 @@ push_refinement-requires-4 g c = record {
 pub returns-in_err-put : goal.returns-in_err-put
 returns-in_err-put g c =
     let s = c.args.plane_masks.now in
-    let block = s.block.now in
+    let block = block_in s in
     let weights = s.plan.now.weights.shifts in
     let plane = s.plan.now.plane in
     let k = g.O.OctetOut.sink in
@@ -79,7 +80,7 @@ returns-in_err-put g c =
 pub returns : goal.returns
 returns g c =
     let s = c.args.plane_masks.now in
-    let block = s.block.now in
+    let block = block_in s in
     let weights = s.plan.now.weights.shifts in
     let plane = s.plan.now.plane in
     let k = g.O.OctetOut.sink in

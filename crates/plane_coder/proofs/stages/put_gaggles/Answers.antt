@@ -22,7 +22,7 @@ pub loop-g-init : goal.loop-g-init
 loop-g-init g c = grind (arith, common_steps, none_put, same_marks, none_agree)
 
 pub put_gaggle-requires-clause-words : goal.put_gaggle-requires-clause-words
-put_gaggle-requires-clause-words g c = subst (λ d. AreCollected (plane_in c.args.view.now d) c.args.room.now) (sym c.loop-g.invariant.same.depths) c.requires.words
+put_gaggle-requires-clause-words g c = subst (λ d. AreCollected (plane_in c.args.view.now d) c.loop-g.room) (sym c.loop-g.invariant.same.depths) c.loop-g.invariant.words
 
 pub loop-g-preserved : goal.loop-g-preserved
 loop-g-preserved g c =
@@ -35,13 +35,15 @@ loop-g-preserved g c =
     let gaggle = c.new-pending.ensures.gaggle in
     let options = ap (λ (h : Gaggle). h.options) gaggle ∙ c.load.ensures.options ∙ i.same.options c.loop-g.g in
     let agrees = subst (λ f. Agrees f (before_stage p g.row.STAGE c.loop-g.g)) (sym (ap (λ (h : Gaggle). h.sent) gaggle ∙ c.load.ensures.sent)) (i.agree.todo c.loop-g.g (omega arith) below) in
-    let put = gaggle_puts view (depths_of m0) (depths_of m1) (options_at m0) (stage_number g.row.STAGE) g.row.STAGE c.loop-g.g i.same.depths refl options agrees c.in_ok-put_gaggle.ensures in
-    let later = gaggle_agrees view (depths_of m0) (depths_of m1) (stage_number g.row.STAGE) g.row.STAGE c.loop-g.g i.same.depths refl agrees c.in_ok-put_gaggle.ensures in
+    let put = gaggle_puts view (depths_of m0) (depths_of m1) (options_at m0) (stage_number g.row.STAGE) g.row.STAGE c.loop-g.g i.same.depths refl options agrees c.in_ok-put_gaggle.ensures.spells in
+    let later = gaggle_agrees view (depths_of m0) (depths_of m1) (stage_number g.row.STAGE) g.row.STAGE c.loop-g.g i.same.depths refl agrees c.in_ok-put_gaggle.ensures.spells in
     record {
       so_far = more_put (gaggle_items view.tables.now.book (options_at m0) p g.row.STAGE) c.loop-g.g i.so_far put.ends;
-      is_open = c.in_ok-put_gaggle.ensures.is_open;
-      same = same_stored m0 m1 _ c.loop-g.g _ i.same c.store.ensures (c.in_ok-put_gaggle.ensures.options ∙ ap (λ (h : Gaggle). h.options) gaggle ∙ c.load.ensures.options);
+      is_open = c.in_ok-put_gaggle.ensures.spells.is_open;
+      same = same_stored m0 m1 _ c.loop-g.g _ i.same c.store.ensures (c.in_ok-put_gaggle.ensures.spells.options ∙ ap (λ (h : Gaggle). h.options) gaggle ∙ c.load.ensures.options);
       agree = more_agree p g.row.STAGE m1 _ c.loop-g.g _ i.agree c.store.ensures later;
+      words = subst (λ d. AreCollected (plane_in view d) c.put_gaggle.new.room) i.same.depths c.in_ok-put_gaggle.ensures.words;
+      long = c.in_ok-put_gaggle.ensures.long ∙ i.long;
     }
 
 pub returns-in_err-put_gaggle : goal.returns-in_err-put_gaggle
@@ -56,12 +58,14 @@ returns-in_err-put_gaggle g c =
     let gaggle = c.new-pending.ensures.gaggle in
     let options = ap (λ (h : Gaggle). h.options) gaggle ∙ c.load.ensures.options ∙ i.same.options c.loop-g.g in
     let agrees = subst (λ f. Agrees f (before_stage p g.row.STAGE c.loop-g.g)) (sym (ap (λ (h : Gaggle). h.sent) gaggle ∙ c.load.ensures.sent)) (i.agree.todo c.loop-g.g (omega arith) below) in
-    let put = gaggle_puts view (depths_of m0) (depths_of m1) (options_at m0) (stage_number g.row.STAGE) g.row.STAGE c.loop-g.g i.same.depths refl options agrees c.in_err-put_gaggle.ensures in
+    let put = gaggle_puts view (depths_of m0) (depths_of m1) (options_at m0) (stage_number g.row.STAGE) g.row.STAGE c.loop-g.g i.same.depths refl options agrees c.in_err-put_gaggle.ensures.spells in
     rw (e.1, e.2) (record {
       puts = put_ended (gaggle_items view.tables.now.book (options_at m0) p g.row.STAGE) c.loop-g.g (gaggles p) below i.so_far put;
       is_open = tt;
       agree = tt;
       kept = i.same;
+      words = subst (λ d. AreCollected (plane_in view d) c.put_gaggle.new.room) i.same.depths c.in_err-put_gaggle.ensures.words;
+      long = c.in_err-put_gaggle.ensures.long ∙ i.long;
     })
 
 pub returns : goal.returns
@@ -75,4 +79,6 @@ returns g c =
       is_open = i.is_open;
       agree = all_agree p g.row.STAGE c.loop-g.marks c.loop-g.g (omega (arith, all)) i.agree;
       kept = i.same;
+      words = i.words;
+      long = i.long;
     }

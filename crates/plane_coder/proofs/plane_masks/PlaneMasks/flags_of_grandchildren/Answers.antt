@@ -3,6 +3,7 @@ use Rattle.plane_defs.specs.declared.sets.Set.TheVariants.{Family, Grandchildren
 use Rattle.plane_defs.specs.Spans.{span}
 use Rattle.plane_defs.specs.Sets.{significant, live, flag_due, set_significant, enclosing_significant}
 use Rattle.plane_coder.proofs.GroupsPushed.{flags_word, is_packed}
+use Rattle.plane_coder.specs.Viewed.{block_in}
 use Rattle.plane_coder.proofs.plane_masks.PlaneMasks.flags_of_grandchildren.Goals as goal
 
 pub pick-requires : goal.pick-requires
@@ -17,7 +18,7 @@ pub returns : goal.returns
 unfolding live flag_due set_significant enclosing_significant span
 returns c =
     let s = c.args.self.now in
-    let block = s.block.now in
+    let block = block_in s in
     let weights = s.plan.now.weights.shifts in
     let plane = s.plan.now.plane in
     let sets = c.sets-sets.ensures in

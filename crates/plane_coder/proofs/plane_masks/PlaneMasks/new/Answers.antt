@@ -1,5 +1,7 @@
 use Rattle.std.proofs.Common.{◌+◌}
 use Rattle.item_defs.specs.Bits.{bit}
+use Rattle.wave_defs.specs.Held.{block_at}
+use Rattle.block_masks.specs.Slices.{numbers_in}
 use Rattle.plane_defs.specs.Sets.{significant, magnitude, coded, type_due}
 use Rattle.block_masks.proofs.LaneMasks.{shows_same}
 use Rattle.block_masks.proofs.Viewing.{reached_is}
@@ -8,11 +10,10 @@ use Rattle.plane_coder.proofs.plane_masks.PlaneMasks.new.Goals as goal
 pub invariant_of-result : goal.invariant_of-result
 unfolding type_due
 invariant_of-result c =
-    let block = c.args.block.now in
+    let block = block_at (numbers_in c.args.cells.now) c.args.r in
     let plane = c.args.plan.now.plane in
     let v = c.requires.view in
     record {
-      whole = c.requires.whole;
       reached_shown = shows_same (reached_is block plane) (c.either.ensures (significant block (plane + 1)) (λ p. bit (magnitude block p) plane) 0 64 v.above v.bits);
       above_shown = v.above;
       due_shown = c.except.ensures.told (significant block (plane + 1)) (coded c.args.plan.now.weights.shifts plane) 0 64 v.above c.args.plan.now.shown;

@@ -1,5 +1,6 @@
 use Rattle.plane_defs.specs.Sets.{significant}
+use Rattle.plane_coder.specs.Viewed.{block_in}
 use Rattle.plane_coder.proofs.plane_masks.PlaneMasks.quads.Goals as goal
 
 pub returns : goal.returns
-returns c = let s = c.args.self.now in record { shown = c.four_sets.ensures (significant s.block.now s.plan.now.plane) s.reached_shown }
+returns c = let s = c.args.self.now in record { shown = c.four_sets.ensures (significant (block_in s) s.plan.now.plane) s.reached_shown }

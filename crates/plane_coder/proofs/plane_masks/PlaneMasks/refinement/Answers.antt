@@ -3,6 +3,7 @@ use Rattle.item_defs.specs.Bits.{bit}
 use Rattle.plane_defs.specs.Sets.{magnitude, refined}
 use Rattle.block_masks.proofs.Viewing.{from_zero, nibble_small}
 use Rattle.plane_coder.proofs.GroupsPushed.{refining_is, is_packed}
+use Rattle.plane_coder.specs.Viewed.{block_in}
 use Rattle.plane_coder.proofs.plane_masks.PlaneMasks.refinement.Goals as goal
 
 pub pick-requires : goal.pick-requires
@@ -14,7 +15,7 @@ pick-requires c = record {
 pub returns : goal.returns
 returns c =
     let s = c.args.self.now in
-    let block = s.block.now in
+    let block = block_in s in
     let weights = s.plan.now.weights.shifts in
     let plane = s.plan.now.plane in
     let f = λ (p : ℕ). bit (magnitude block p) plane in

@@ -4,6 +4,7 @@ use Rattle.plane_defs.specs.Entries.{negative}
 use Rattle.block_masks.proofs.Viewing.{from_zero, nibble_small}
 use Rattle.plane_coder.specs.Picked.{IsPacked}
 use Rattle.plane_coder.proofs.GroupsPushed.{typed_is, is_packed}
+use Rattle.plane_coder.specs.Viewed.{block_in}
 use Rattle.plane_coder.proofs.plane_masks.PlaneMasks.types.Goals as goal
 
 pub pick-word-requires : goal.pick-word-requires
@@ -22,7 +23,7 @@ pub returns : goal.returns
 unfolding newly_significant
 returns c =
     let s = c.args.self.now in
-    let block = s.block.now in
+    let block = block_in s in
     let weights = s.plan.now.weights.shifts in
     let plane = s.plan.now.plane in
     let at = c.args.at in

@@ -2,12 +2,13 @@ use Rattle.std.proofs.Common.{ℕ, ◌&&◌, get_or, pos}
 use Rattle.plane_defs.specs.Sets.{significant, type_due}
 use Rattle.plane_defs.specs.Entries.{negative}
 use Rattle.block_masks.proofs.Viewing.{from_zero}
+use Rattle.plane_coder.specs.Viewed.{block_in}
 use Rattle.plane_coder.proofs.plane_masks.PlaneMasks.types_in.Goals as goal
 
 pub returns : goal.returns
 returns c g among =
     let s = c.args.self.now in
-    let block = s.block.now in
+    let block = block_in s in
     let plane = s.plan.now.plane in
     let at = c.args.at in
     let count = c.args.count in

@@ -1,0 +1,8 @@
+use Rattle.plane_coder.specs.Sliced.{HasPlanes, KeepsOthers}
+use Rattle.plane_coder.proofs.slice.put_masks_of_planes.Given as goal
+
+abbrev pub invariant-loop-plane : goal.invariant-loop-plane
+invariant-loop-plane l = record {
+  others : KeepsOthers l.r l.initial.cells l.cells;
+  so_far : HasPlanes l.plane l.block l.cells l.r;
+}
