@@ -52,3 +52,7 @@ shallow same le = omega (arith, same, le)
 
 pub first_or_later : (stage : ℕ) → (stage ≡ 0 → ⊥) → 1 ≤ stage
 first_or_later stage other = grind (arith, nat_tests)
+
+-- a frame has its own depth
+pub own_frame : {f : Frame} {plan : CodedPlane} {depth : ℕ} → IsFrame f plan depth → IsFrame f plan f.depth
+own_frame frame = record { weights = frame.weights; plane = frame.plane; q = frame.q; deep = refl; awaits = frame.awaits }

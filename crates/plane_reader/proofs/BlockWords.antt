@@ -71,10 +71,9 @@ module _ {f : Frame} {plan : CodedPlane} {depth k : ℕ} {earlier : ℕ → List
   }
 
   -- what the block has above the plane is what it had before
-  pub above_shown : (above : ℕ) → Shows above (significant x (plan.plane + 1)) 0 64 → IsAbove f above
-  above_shown above shows p ac =
-      let z : 0 + p ≡ p = omega arith in
-      shows.at p ac.1 ∙ ap (significant x (plan.plane + 1)) z ∙ ap (λ b. significant x (b + 1) p) (sym frame.plane)
+  pub above_still : (above : ℕ) → ((p : ℕ) → IsAc p → bit above p ≡ significant x (plan.plane + 1) p) → IsAbove f above
+  above_still above shown p ac =
+      shown p ac ∙ ap (λ b. significant x (b + 1) p) (sym frame.plane)
       ∙ told_above f frame.awaits (told_before earlier k) stands.possible.block x (stands.tells stands.possible.block stands.possible.sends) p ac
 
   pub refine_next : (mask above : ℕ) → k < 5 → ((p : ℕ) → IsAc p → bit above p ≡ significant f.block (f.plane + 1) p) → Shows mask (λ p. bit above p && coded f.weights f.plane p) 0 64 → ((v : List ℤ) → steps_of f k v ≡ refinement_steps v f.weights f.plane) →
@@ -214,11 +213,11 @@ children_shown {f} {plan} {depth} {earlier} {mark} {x} frame deep stands v sends
 
 -- the grandchildren, after the families and the children were read
 pub grandchildren_next : {f : Frame} {plan : CodedPlane} {depth : ℕ} {earlier : ℕ → List Step} {mark : ℤ} {x : List ℤ} (frame : IsFrame f plan depth) → f.plane < f.depth → (stands : StandsBefore f 3 earlier mark x) →
-    (above : ℕ) → IsAbove f above → (now : ℕ) → ((p : ℕ) → 1 ≤ p → p < 16 → bit now p ≡ significant x plan.plane p) → (families : ℕ) → families ≡ families_in mark →
+    (above : ℕ) → IsAbove f above → (now : ℕ) → ((p : ℕ) → IsAc p → bit now p ≡ significant x plan.plane p) → (families : ℕ) → families ≡ families_in mark →
     GrandchildrenNext f 3 earlier [] plan above now families (λ v. [])
 grandchildren_next {f} {plan} {depth} {earlier} {mark} {x} frame deep stands above is now shown families same = record {
   next = stage_next frame stands above is (omega arith) (λ v. grandchildren_steps v f.weights f.plane) (deep_grandchildren f deep);
   families_are = λ v s. subst (λ t. AreFamilies f t v) (sym same) (stands.families refl deep v s);
   children_are = λ v s i p lt reached low high.
-      shown p (omega (arith, low)) (omega (arith, high, lt)) ∙ ap (λ b. significant x b p) (sym frame.plane) ∙ children_shown frame deep stands v s i p lt reached low high;
+      shown p (omega (arith, low), omega (arith, high, lt)) ∙ ap (λ b. significant x b p) (sym frame.plane) ∙ children_shown frame deep stands v s i p lt reached low high;
 }

@@ -1,5 +1,5 @@
 -- A stage of a block that is deep enough: what its words give, put into the block.
-use Rattle.std.proofs.Common.{◌≡◌, ℕ, ◌<◌, ◌≤◌, ℤ, List, [], refl, sym, subst, arith, Ok, Err, Some, None, Result, Option}
+use Rattle.std.proofs.Common.{◌≡◌, ℕ, ◌<◌, ◌≤◌, ℤ, List, [], sym, subst, arith, Ok, Err, Some, None, Result, Option}
 use Rattle.std.proofs.lemmas.Bool.Decides.{nat_tests}
 use Rattle.base_122.specs.declared.book.Book.{Book}
 use Rattle.plane_defs.specs.Steps.{Step}
@@ -65,7 +65,3 @@ module _ {I : Type 0} {k : SourceOf I} {book : Book} {f : Frame} {plan : CodedPl
 
   pub deep_given : (read : Option (Unit {0})) (part : Part) → ((read ≡ Some tt → part ≡ Whole) × (read ≡ None → part ≡ Ended)) → FoundPiece k book f stage earlier [] (steps_of f stage) (MarkSays f stage mark) (Ok read) g h (record { bits = 0; minus = 0 }) n a b → Applies plan.plane n.bits n.minus x y → StageTaken k book f stage earlier (Ok part) g h mark y a b
   deep_given read part is = deep_taken (Ok part) (given_part read part is)
-
--- a frame has its own depth
-pub own_frame : {f : Frame} {plan : CodedPlane} {depth : ℕ} → IsFrame f plan depth → IsFrame f plan f.depth
-own_frame frame = record { weights = frame.weights; plane = frame.plane; q = frame.q; deep = refl; awaits = frame.awaits }

@@ -1,18 +1,14 @@
--- What stays of the states and the blocks if a call reads one block.
-use Rattle.std.proofs.Common.{rules, ◌≡◌, ℕ, ◌+◌, ◌-◌, ◌*◌, ◌<◌, ◌≤◌, inl, inr, ℤ, pos, false, cond, List, [], ◌∷◌, length, get_or, set, take, drop, refl, ap, sym, ◌∙◌, subst, arith, get_or-set_same, get_or-set_other}
-use borrow.Rule.Slice.PartMut.{put_mid}
+-- What stays of the states if a call reads one block.
+use Rattle.std.proofs.Common.{◌≡◌, ℕ, ◌+◌, ◌*◌, ◌<◌, ◌≤◌, inl, inr, ℤ, pos, false, cond, List, [], ◌∷◌, length, get_or, set, refl, ap, sym, ◌∙◌, subst, arith, get_or-set_same, get_or-set_other}
 use Rattle.std.proofs.Math.ListN.{get_or-eq_default}
 use Rattle.std.proofs.Math.Seq.{map-set_same}
 use Rattle.std.proofs.lemmas.Bool.{cases_lt, ne_eqb}
-use Rattle.std.proofs.lemmas.Slice.{between_is, between-put_mid, take-put_mid_below, drop-put_mid, overwrites}
 use Rattle.std.proofs.lemmas.Bool.Decides.{nat_tests}
 use Rattle.plane_defs.proofs.Chosen.{equal_self}
-use Rattle.wave_defs.specs.Held.{block_at}
 use Rattle.plane_defs.specs.Marks.{depth_of, depths_of}
 use Rattle.block_masks.specs.declared.gaggle.Gaggle.{Gaggle}
 use Rattle.block_masks.specs.Gaggles.{AreOptions, options_in, sent_in}
 use Rattle.block_masks.proofs.Marking.{same_or_other}
-use Rattle.plane_reader.specs.BlocksShown.{SameAcs, KeepsAcs}
 use Rattle.plane_reader.specs.Progress.{kept, with_one, KeepsGaggles, IsClear, Clears}
 
 -- ---- gaggles
@@ -85,35 +81,3 @@ clears_all old new n all depths clear = record {
   where
     le : {r : ℕ} → n ≤ r → length new ≤ r
     le high = omega (arith, high)
-
--- ---- blocks
-
-block_between : (cells : List ℤ) (i : ℕ) → block_at cells i ≡ drop (64 * i) (take (64 * i + 64) cells)
-block_between cells i =
-    let size : 64 ≡ 64 * i + 64 - 64 * i = omega arith in
-    ap (λ n. take n (drop (64 * i) cells)) size ∙ between_is cells (64 * i) (64 * i + 64)
-
-module _ (cells : List ℤ) (r n : ℕ) (b : List ℤ) (within : 64 * r + 64 ≤ length cells) (size : n ≡ 64) (whole : length b ≡ 64) where
-  pub block_put : block_at (put_mid (64 * r) n cells b) r ≡ b
-  block_put =
-      let width : 64 ≡ 64 * r + 64 - 64 * r = omega arith in
-      ap (λ k. take k (drop (64 * r) (put_mid (64 * r) n cells b))) width ∙ between-put_mid (64 * r) n cells b (64 * r + 64) (omega arith) (omega arith)
-
-  pub blocks_stay : (i : ℕ) → (i ≡ r → ⊥) → block_at (put_mid (64 * r) n cells b) i ≡ block_at cells i
-  blocks_stay i apart = grind (arith, nat_tests, block_between, take-put_mid_below, drop-put_mid)
-
-  pub put_long : length (put_mid (64 * r) n cells b) ≡ length cells
-  put_long = search (rules, overwrites)
-
--- the AC numbers of the first blocks stay if they stay in one more block
-pub acs_stay : (first cells : List ℤ) (r n : ℕ) (b : List ℤ) → 64 * r + 64 ≤ length cells → n ≡ 64 → length b ≡ 64 → (r < 64 → SameAcs (take n (drop (64 * r) cells)) b) → KeepsAcs first cells → KeepsAcs first (put_mid (64 * r) n cells b)
-acs_stay first cells r n b within size whole same keeps i low p ac =
-    elim (same_or_other i r) [
-      | inl e ↦
-          subst (λ k. get_or (block_at (put_mid (64 * r) n cells b) k) p (pos 0) ≡ get_or (block_at first k) p (pos 0)) (sym e)
-          (ap (λ x. get_or x p (pos 0)) (block_put cells r n b within size whole) ∙ same (omega (arith, low, e)) p ac ∙ ap (λ k. get_or (take k (drop (64 * r) cells)) p (pos 0)) size ∙ keeps r (omega (arith, low, e)) p ac)
-      | inr apart ↦ ap (λ x. get_or x p (pos 0)) (blocks_stay cells r n b within size whole i apart) ∙ keeps i low p ac
-    ]
-
-pub acs_then : (a b c : List ℤ) → KeepsAcs a b → KeepsAcs b c → KeepsAcs a c
-acs_then a b c first second r low p ac = second r low p ac ∙ first r low p ac

@@ -44,27 +44,27 @@ store_same marks stored blocks i g y stores = record {
   input = refl;
 }
 
-pub reaches_same : {I : Type 0} {source : SourceOf I} {book : Book} {plan : CodedPlane} {above : List ℕ} {k g c stage gaggle block : ℕ} {old now new : Held I} → SameHeld now new →
-    Reaches source book plan above k g c stage gaggle block old now → Reaches source book plan above k g c stage gaggle block old new
+pub reaches_same : {I : Type 0} {source : SourceOf I} {book : Book} {plan : CodedPlane} {k g c stage gaggle block : ℕ} {old now new : Held I} → SameHeld now new →
+    Reaches source book plan k g c stage gaggle block old now → Reaches source book plan k g c stage gaggle block old new
 reaches_same same reaches = record { so_far = λ s from start p. held_same same (reaches.so_far s from start p) }
 
 -- a call for the next gaggle
-pub next_gaggle : {I : Type 0} {source : SourceOf I} {book : Book} {plan : CodedPlane} {above : List ℕ} {k g c stage gaggle next : ℕ} {old now new : Held I} → Reaches source book plan above k g c stage gaggle 0 old now →
-    Advances source book plan above stage gaggle stage next (Ok Whole) now new → Reaches source book plan above k g c stage next 0 old new
+pub next_gaggle : {I : Type 0} {source : SourceOf I} {book : Book} {plan : CodedPlane} {k g c stage gaggle next : ℕ} {old now new : Held I} → Reaches source book plan k g c stage gaggle 0 old now →
+    Advances source book plan stage gaggle stage next (Ok Whole) now new → Reaches source book plan k g c stage next 0 old new
 next_gaggle reaches advances = record { so_far = λ s from start p. advances.leaves s from start (reaches.so_far s from start p) }
 
 -- a call for a gaggle that stops within it
-pub ended_gaggle : {I : Type 0} {source : SourceOf I} {book : Book} {plan : CodedPlane} {above : List ℕ} {k g stage gaggle next : ℕ} {old now new : Held I} (gaggles : ℕ → Gaggle) (marks : List ℤ) → Reaches source book plan above k 0 0 k g 0 old now →
-    Advances source book plan above k g k next (Ok Ended) now new → Advances source book plan above k 0 stage gaggle (Ok Ended) old (held gaggles marks new.blocks new.input)
+pub ended_gaggle : {I : Type 0} {source : SourceOf I} {book : Book} {plan : CodedPlane} {k g stage gaggle next : ℕ} {old now new : Held I} (gaggles : ℕ → Gaggle) (marks : List ℤ) → Reaches source book plan k 0 0 k g 0 old now →
+    Advances source book plan k g k next (Ok Ended) now new → Advances source book plan k 0 stage gaggle (Ok Ended) old (held gaggles marks new.blocks new.input)
 ended_gaggle gaggles marks reaches advances = record { leaves = λ s from start p. advances.leaves s from start (reaches.so_far s from start p) }
 
-pub failed_gaggle : {I : Type 0} {source : SourceOf I} {book : Book} {plan : CodedPlane} {above : List ℕ} {k g stage gaggle next : ℕ} {fault : TextFault} {old now new : Held I} (gaggles : ℕ → Gaggle) (marks : List ℤ) → Reaches source book plan above k 0 0 k g 0 old now →
-    Advances source book plan above k g k next (Err fault) now new → Advances source book plan above k 0 stage gaggle (Err fault) old (held gaggles marks new.blocks new.input)
+pub failed_gaggle : {I : Type 0} {source : SourceOf I} {book : Book} {plan : CodedPlane} {k g stage gaggle next : ℕ} {fault : TextFault} {old now new : Held I} (gaggles : ℕ → Gaggle) (marks : List ℤ) → Reaches source book plan k 0 0 k g 0 old now →
+    Advances source book plan k g k next (Err fault) now new → Advances source book plan k 0 stage gaggle (Err fault) old (held gaggles marks new.blocks new.input)
 failed_gaggle gaggles marks reaches advances = record { leaves = λ s from start p. advances.leaves s from start (reaches.so_far s from start p) }
 
 -- a stage's end
-pub stage_ends : {I : Type 0} {source : SourceOf I} {book : Book} {plan : CodedPlane} {above : List ℕ} {k : ℕ} (g : ℕ) {old now : Held I} → g ≡ (length now.marks + 15) / 16 →
-    Reaches source book plan above k 0 0 k g 0 old now → Advances source book plan above k 0 (k + 1) 0 (Ok Whole) old now
+pub stage_ends : {I : Type 0} {source : SourceOf I} {book : Book} {plan : CodedPlane} {k : ℕ} (g : ℕ) {old now : Held I} → g ≡ (length now.marks + 15) / 16 →
+    Reaches source book plan k 0 0 k g 0 old now → Advances source book plan k 0 (k + 1) 0 (Ok Whole) old now
 stage_ends g {old = old} {now = now} all reaches = record {
   leaves = λ s from start p.
       let so_far = reaches.so_far s from start p in

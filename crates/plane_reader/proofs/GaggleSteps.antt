@@ -1,6 +1,5 @@
 -- A call for a block of a gaggle, whose loop continues with it or stops.
-use Rattle.std.proofs.Common.{◌≡◌, ℕ, ◌+◌, ◌-◌, ◌*◌, ◌<◌, ◌≤◌, min, ℤ, pos, List, [], length, get_or, set, take, drop, refl, ap, sym, ◌∙◌, subst, arith, get_or-set_same, get_or-set_other, Result, Ok}
-use borrow.Rule.Slice.PartMut.{put_mid}
+use Rattle.std.proofs.Common.{◌≡◌, ℕ, ◌+◌, ◌-◌, ◌*◌, ◌<◌, ◌≤◌, min, ℤ, pos, List, [], length, get_or, set, refl, ap, sym, ◌∙◌, subst, arith, get_or-set_same, get_or-set_other, Result, Ok}
 use Rattle.item_defs.specs.Readings.{whole, ended, refused}
 use Rattle.wave_defs.specs.Held.{block_at}
 use Rattle.base_122.specs.declared.book.Book.{Book}
@@ -20,51 +19,46 @@ use Rattle.bit_pipe.specs.Answers.{part_answer}
 use Rattle.plane_reader.specs.Frames.{Frame, steps_of}
 use Rattle.plane_reader.specs.Stages.{StandsBefore, StageTaken}
 use Rattle.plane_reader.specs.Terms.{IsFrame}
-use Rattle.plane_reader.specs.Above.{KeepsAbove}
-use Rattle.plane_reader.specs.declared.found.Found.{Found}
-use Rattle.plane_reader.specs.BlocksShown.{nothing, shown_block, shown}
+use Rattle.block_masks.specs.Slices.{numbers_in}
+use Rattle.block_masks.proofs.SliceNumbers.{length-numbers_in}
+use Rattle.plane_reader.specs.Above.{ChangesBlock}
 use Rattle.plane_reader.specs.Progress.{Start, IsStart, frame_of, Held, held, kept, with_one, Progress, Continues, Stops, Leaves, Reaches, Advances, KeepsGaggles}
 use Rattle.plane_reader.proofs.PlaneSteps.{ReadsBlock, block_further, gaggle_further}
 use Rattle.plane_reader.proofs.PlaneStop.{plane_cut}
-use Rattle.plane_reader.proofs.ShownBlocks.{shown_long, block_shown, shown_alike}
-use Rattle.plane_reader.proofs.GaggleMarks.{one_there, one_other, kept_same, block_put, blocks_stay, put_long}
+use Rattle.plane_reader.proofs.GaggleMarks.{one_there, one_other, kept_same}
 
 -- a reading up to some place continues from there
-pub goes_to : {I : Type 0} {source : SourceOf I} {book : Book} {plan : CodedPlane} {above : List ℕ} {k g c stage gaggle block : ℕ} {old new : Held I} → Continues source book plan above k g c old →
-    Reaches source book plan above k g c stage gaggle block old new → Continues source book plan above stage gaggle block new
+pub goes_to : {I : Type 0} {source : SourceOf I} {book : Book} {plan : CodedPlane} {k g c stage gaggle block : ℕ} {old new : Held I} → Continues source book plan k g c old →
+    Reaches source book plan k g c stage gaggle block old new → Continues source book plan stage gaggle block new
 goes_to goes reaches = record { start = goes.start; from = goes.from; is_start = goes.is_start; so_far = reaches.so_far goes.start goes.from goes.is_start goes.so_far }
 
 -- ---- what a call for a block may use
 
-pub goes_in : {I : Type 0} {source : SourceOf I} {book : Book} {plan : CodedPlane} {above : List ℕ} {k g c : ℕ} {now : Held I} → Continues source book plan above k g c now → IsIn now.input
+pub goes_in : {I : Type 0} {source : SourceOf I} {book : Book} {plan : CodedPlane} {k g c : ℕ} {now : Held I} → Continues source book plan k g c now → IsIn now.input
 goes_in goes = goes.so_far.is_in
 
-pub goes_known : {I : Type 0} {source : SourceOf I} {book : Book} {plan : CodedPlane} {above : List ℕ} {k g c : ℕ} (h : ℕ) (marks blocks : List ℤ) (x : Gaggle) (input : Coming I) →
-    Continues source book plan above k g c (held (with_one (kept marks) h x) marks blocks input) → AreOptions x.options
+pub goes_known : {I : Type 0} {source : SourceOf I} {book : Book} {plan : CodedPlane} {k g c : ℕ} (h : ℕ) (marks blocks : List ℤ) (x : Gaggle) (input : Coming I) →
+    Continues source book plan k g c (held (with_one (kept marks) h x) marks blocks input) → AreOptions x.options
 goes_known h marks blocks x input goes = subst (λ y. AreOptions y.options) (one_there (kept marks) h x) (goes.so_far.known h)
 
--- a call changes block r in the slices, and what waits for it
-pub changes_block : {I : Type 0} (plane : ℕ) (marks blocks : List ℤ) (v w : List Found) (g r n : ℕ) (m : ℤ) (b : List ℤ) (x y : Gaggle) (i j : Coming I) → r < length marks → length blocks ≡ 64 * length marks → n ≡ 64 → length b ≡ 64 →
-    length (put_mid (64 * r) n blocks b) ≡ length blocks → KeepsGaggles marks (set marks r m) → ((h : ℕ) → (h ≡ r → ⊥) → get_or w h nothing ≡ get_or v h nothing) →
-    ReadsBlock g r m (shown_block plane (get_or w r nothing) b) (held (with_one (kept marks) g x) marks (shown plane v blocks) i)
-    (held (with_one (kept (set marks r m)) g y) (set marks r m) (shown plane w (put_mid (64 * r) n blocks b)) j)
-changes_block plane marks blocks v w g r n m b x y i j within cells size long same keeps others =
-    let room : 64 * r + 64 ≤ length blocks = omega (arith, within, cells) in
-    record {
-      others = λ h apart. one_other (kept (set marks r m)) g y h apart ∙ kept_same marks (set marks r m) keeps h ∙ sym (one_other (kept marks) g x h apart);
-      mark = get_or-set_same marks r m (pos 0) within;
-      marks = λ h apart. get_or-set_other marks r h m (pos 0) apart;
-      block = block_shown plane w (put_mid (64 * r) n blocks b) r (omega (arith, room, same)) ∙ ap (shown_block plane (get_or w r nothing)) (block_put blocks r n b room size long);
-      blocks = λ h apart. shown_alike plane v w blocks (put_mid (64 * r) n blocks b) h same (length marks) cells (others h apart) (blocks_stay blocks r n b room size long h apart);
-      size = shown_long plane w (put_mid (64 * r) n blocks b) ∙ same ∙ sym (shown_long plane v blocks);
-      depths = keeps.depths;
-    }
+-- a call changes block r
+pub changes_block : {I : Type 0} (marks before now : List ℤ) (g r : ℕ) (m : ℤ) (x y : Gaggle) (i j : Coming I) → r < length marks → KeepsGaggles marks (set marks r m) → ChangesBlock r before now →
+    ReadsBlock g r m (block_at (numbers_in now) r) (held (with_one (kept marks) g x) marks (numbers_in before) i) (held (with_one (kept (set marks r m)) g y) (set marks r m) (numbers_in now) j)
+changes_block marks before now g r m x y i j within keeps changes = record {
+  others = λ h apart. one_other (kept (set marks r m)) g y h apart ∙ kept_same marks (set marks r m) keeps h ∙ sym (one_other (kept marks) g x h apart);
+  mark = get_or-set_same marks r m (pos 0) within;
+  marks = λ h apart. get_or-set_other marks r h m (pos 0) apart;
+  block = refl;
+  blocks = changes.others;
+  size = length-numbers_in now ∙ changes.long ∙ sym (length-numbers_in before);
+  depths = keeps.depths;
+}
 
 -- ---- one block
 
-module _ {I : Type 0} {source : SourceOf I} {book : Book} {plan : CodedPlane} {above : List ℕ} {k : ℕ} (g c r : ℕ) {now : Held I} {mark : ℤ} {block : List ℤ}
+module _ {I : Type 0} {source : SourceOf I} {book : Book} {plan : CodedPlane} {k : ℕ} (g c r : ℕ) {now : Held I} {mark : ℤ} {block : List ℤ}
     (place : 16 * g + c ≡ r) (within : r < length now.marks) (mark_is : get_or now.marks r (pos 0) ≡ mark) (block_is : block_at now.blocks r ≡ block)
-    (s : Start) {from : Coming I} (start : IsStart s plan above) (so_far : Progress source book s k g c from now) where
+    (s : Start) {from : Coming I} (start : IsStart s plan) (so_far : Progress source book s k g c from now) where
   pub inside : 16 * g + c < length s.depths
   inside = omega (arith, place, within, ap length so_far.depths, length-depths_of now.marks)
 
@@ -83,9 +77,6 @@ module _ {I : Type 0} {source : SourceOf I} {book : Book} {plan : CodedPlane} {a
     awaits = start.awaits (16 * g + c) inside;
   }
 
-  pub above_there : KeepsAbove above r (frame_of s (16 * g + c))
-  above_there = subst (λ n. KeepsAbove above n (frame_of s (16 * g + c))) place (start.masks (16 * g + c) inside)
-
   -- the block is before its stage
   pub stands_there : StandsBefore (frame_of s (16 * g + c)) k (λ j. steps_of (frame_of s (16 * g + c)) j (get_or so_far.values (16 * g + c) [])) mark block
   stands_there =
@@ -94,11 +85,11 @@ module _ {I : Type 0} {source : SourceOf I} {book : Book} {plan : CodedPlane} {a
       (subst (λ z. StandsBefore (frame_of s (16 * g + c)) k earlier (get_or now.marks (16 * g + c) (pos 0)) z) block_there
       (so_far.after (16 * g + c) (omega arith) inside))
 
-module _ {I : Type 0} {source : SourceOf I} {book : Book} {plan : CodedPlane} {above : List ℕ} {k : ℕ} (g c r : ℕ) {now new : Held I} {result : Result Part TextFault} {mark m : ℤ} {block b : List ℤ} (x y : Gaggle)
+module _ {I : Type 0} {source : SourceOf I} {book : Book} {plan : CodedPlane} {k : ℕ} (g c r : ℕ) {now new : Held I} {result : Result Part TextFault} {mark m : ℤ} {block b : List ℤ} (x y : Gaggle)
     (few : c < 16) (place : 16 * g + c ≡ r) (within : r < length now.marks) (mark_is : get_or now.marks r (pos 0) ≡ mark) (block_is : block_at now.blocks r ≡ block) (x_is : now.gaggles g ≡ x) (y_is : new.gaggles g ≡ y)
     (read : ReadsBlock g r m b now new)
-    (call : (f : Frame) (earlier : ℕ → List Step) → IsFrame f plan (depth_of mark) → KeepsAbove above r f → StandsBefore f k earlier mark block → StageTaken source book f k earlier result x y m b now.input new.input)
-    (s : Start) (from : Coming I) (start : IsStart s plan above) (so_far : Progress source book s k g c from now) where
+    (call : (f : Frame) (earlier : ℕ → List Step) → IsFrame f plan (depth_of mark) → StandsBefore f k earlier mark block → StageTaken source book f k earlier result x y m b now.input new.input)
+    (s : Start) (from : Coming I) (start : IsStart s plan) (so_far : Progress source book s k g c from now) where
   within_plane : 16 * g + c < length s.depths
   within_plane = inside g c r place within mark_is block_is s start so_far
 
@@ -112,7 +103,7 @@ module _ {I : Type 0} {source : SourceOf I} {book : Book} {plan : CodedPlane} {a
   taken =
       subst (λ z. StageTaken source book (frame_of s (16 * g + c)) k earlier result z (new.gaggles g) m b now.input new.input) (sym x_is)
       (subst (λ z. StageTaken source book (frame_of s (16 * g + c)) k earlier result x z m b now.input new.input) (sym y_is)
-      (call (frame_of s (16 * g + c)) earlier (frame_there g c r place within mark_is block_is s start so_far) (above_there g c r place within mark_is block_is s start so_far) (stands_there g c r place within mark_is block_is s start so_far)))
+      (call (frame_of s (16 * g + c)) earlier (frame_there g c r place within mark_is block_is s start so_far) (stands_there g c r place within mark_is block_is s start so_far)))
 
   abbrev Next : Type 0
   Next = Progress source book s k g (c + 1) from new
@@ -132,34 +123,25 @@ module _ {I : Type 0} {source : SourceOf I} {book : Book} {plan : CodedPlane} {a
       by_ending (stopped (refused n spelt name)) h = subst (λ z. Leaves z Next Stop) (sym (taken.answer ∙ ap part_answer h)) (stop (subst IsCut (sym h) tt))
       by_ending (failed n fault) h = subst (λ z. Leaves z Next Stop) (sym (taken.answer ∙ ap part_answer h)) (stop (subst IsCut (sym h) tt))
 
--- a call for block r, with slices of the states and the blocks
-pub call_leaves : {I : Type 0} {source : SourceOf I} {book : Book} {plan : CodedPlane} {above : List ℕ} {k : ℕ} (g r : ℕ) (marks blocks : List ℤ) (v w : List Found) (x y : Gaggle) (i j : Coming I) (m : ℤ) (b : List ℤ) {result : Result Part TextFault} {old : Held I} →
-    16 * g ≤ r → r < 16 * g + 16 → r < length marks → length blocks ≡ 64 * length marks → length b ≡ 64 → KeepsGaggles marks (set marks r m) → ((h : ℕ) → (h ≡ r → ⊥) → get_or w h nothing ≡ get_or v h nothing) →
-    Reaches source book plan above k g 0 k g (r - 16 * g) old (held (with_one (kept marks) g x) marks (shown plan.plane v blocks) i) →
-    ((f : Frame) (earlier : ℕ → List Step) → IsFrame f plan (depth_of (get_or marks r (pos 0))) → KeepsAbove above r f →
-    StandsBefore f k earlier (get_or marks r (pos 0)) (shown_block plan.plane (get_or v r nothing) (take (64 * r + 64 - 64 * r) (drop (64 * r) blocks))) →
-    StageTaken source book f k earlier result x y m (shown_block plan.plane (get_or w r nothing) b) i j) →
-    (s : Start) (from : Coming I) → IsStart s plan above → Progress source book s k g 0 from old →
-    Leaves result (Progress source book s k g (r + 1 - 16 * g) from (held (with_one (kept (set marks r m)) g y) (set marks r m) (shown plan.plane w (put_mid (64 * r) (64 * r + 64 - 64 * r) blocks b)) j))
-    (Stops source book s k result from j (shown plan.plane w (put_mid (64 * r) (64 * r + 64 - 64 * r) blocks b)))
-call_leaves {I = I} {source = source} {book = book} {plan = plan} {k = k} g r marks blocks v w x y i j m b {result = result} low high within cells long keeps others reaches call s from start p =
-    let n : ℕ = 64 * r + 64 - 64 * r in
-    let size : n ≡ 64 = omega arith in
-    let room : 64 * r + 64 ≤ length blocks = omega (arith, within, cells) in
-    let now : Held I = held (with_one (kept marks) g x) marks (shown plan.plane v blocks) i in
-    let new : Held I = held (with_one (kept (set marks r m)) g y) (set marks r m) (shown plan.plane w (put_mid (64 * r) n blocks b)) j in
-    let same : length (put_mid (64 * r) n blocks b) ≡ length blocks = put_long blocks r n b room size long in
+-- a call for block r
+pub call_leaves : {I : Type 0} {source : SourceOf I} {book : Book} {plan : CodedPlane} {k : ℕ} (g r : ℕ) (marks before now : List ℤ) (x y : Gaggle) (i j : Coming I) (m : ℤ) {result : Result Part TextFault} {old : Held I} →
+    16 * g ≤ r → r < 16 * g + 16 → r < length marks → KeepsGaggles marks (set marks r m) → ChangesBlock r before now →
+    Reaches source book plan k g 0 k g (r - 16 * g) old (held (with_one (kept marks) g x) marks (numbers_in before) i) →
+    ((f : Frame) (earlier : ℕ → List Step) → IsFrame f plan (depth_of (get_or marks r (pos 0))) → StandsBefore f k earlier (get_or marks r (pos 0)) (block_at (numbers_in before) r) →
+    StageTaken source book f k earlier result x y m (block_at (numbers_in now) r) i j) →
+    (s : Start) (from : Coming I) → IsStart s plan → Progress source book s k g 0 from old →
+    Leaves result (Progress source book s k g (r + 1 - 16 * g) from (held (with_one (kept (set marks r m)) g y) (set marks r m) (numbers_in now) j)) (Stops source book s k result from j (numbers_in now))
+call_leaves {I = I} {source = source} {book = book} {plan = plan} {k = k} g r marks before now x y i j m {result = result} low high within keeps changes reaches call s from start p =
+    let new : Held I = held (with_one (kept (set marks r m)) g y) (set marks r m) (numbers_in now) j in
     let next : r + 1 - 16 * g ≡ r - 16 * g + 1 = omega (arith, low) in
-    let seen : block_at (shown plan.plane v blocks) r ≡ shown_block plan.plane (get_or v r nothing) (take n (drop (64 * r) blocks)) =
-    block_shown plan.plane v blocks r room ∙ ap (λ k. shown_block plan.plane (get_or v r nothing) (take k (drop (64 * r) blocks))) (sym size) in
-    subst (λ c. Leaves result (Progress source book s k g c from new) (Stops source book s k result from j (shown plan.plane w (put_mid (64 * r) n blocks b)))) (sym next)
-    (block_leaves g (r - 16 * g) r x y (omega (arith, low, high)) (omega (arith, low)) within refl seen (one_there (kept marks) g x) (one_there (kept (set marks r m)) g y)
-    (changes_block plan.plane marks blocks v w g r n m b x y i j within cells size long same keeps others) call s from start (reaches.so_far s from start p))
+    subst (λ c. Leaves result (Progress source book s k g c from new) (Stops source book s k result from j (numbers_in now))) (sym next)
+    (block_leaves g (r - 16 * g) r x y (omega (arith, low, high)) (omega (arith, low)) within refl refl (one_there (kept marks) g x) (one_there (kept (set marks r m)) g y)
+    (changes_block marks before now g r m x y i j within keeps changes) call s from start (reaches.so_far s from start p))
 
 -- ---- a gaggle's end
 
-pub gaggle_ends : {I : Type 0} {source : SourceOf I} {book : Book} {plan : CodedPlane} {above : List ℕ} {k : ℕ} (g c : ℕ) {old now : Held I} → c ≡ min 16 (length now.marks - 16 * g) →
-    Reaches source book plan above k g 0 k g c old now → Advances source book plan above k g k (g + 1) (Ok Whole) old now
+pub gaggle_ends : {I : Type 0} {source : SourceOf I} {book : Book} {plan : CodedPlane} {k : ℕ} (g c : ℕ) {old now : Held I} → c ≡ min 16 (length now.marks - 16 * g) →
+    Reaches source book plan k g 0 k g c old now → Advances source book plan k g k (g + 1) (Ok Whole) old now
 gaggle_ends g c {old = old} {now = now} all reaches = record {
   leaves = λ s from start p.
       let so_far = reaches.so_far s from start p in

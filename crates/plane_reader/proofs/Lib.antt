@@ -5,10 +5,12 @@ pub mod PlaneStart
 pub mod PlaneStop
 pub mod GaggleMarks
 pub mod BitsTwice
-pub mod ShownNumbers
-pub mod ShownBlocks
-pub mod Settling
-mod AboveNext
+pub mod CellNumbers
+pub mod ApplyCells
+pub mod SettledCells
+pub mod CellGroups
+pub mod SlicedCells
+pub mod JoinedCells
 pub mod GaggleSteps
 pub mod GaggleStages
 pub mod PlaneEnds

@@ -1,36 +1,29 @@
 -- A plane's stages, one after another.
-use Rattle.std.proofs.Common.{◌≡◌, ℕ, ◌+◌, ◌*◌, ℤ, List, length, get_or, refl, sym, subst, arith, Ok}
+use Rattle.std.proofs.Common.{◌≡◌, ℕ, ◌*◌, ℤ, List, refl, sym, subst, Ok}
 use Rattle.base_122.specs.declared.book.Book.{Book}
 use Rattle.plane_defs.specs.Marks.{depths_of}
-use Rattle.block_masks.proofs.Marking.{length-depths_of}
 use Rattle.block_masks.specs.declared.plan.CodedPlane.{CodedPlane}
 use Rattle.bit_pipe.specs.declared.fault.Part.TheVariants.{Whole}
 use Rattle.bit_pipe.specs.Sources.{SourceOf}
 use Rattle.bit_pipe.specs.Coming.{Coming, IsIn}
-use Rattle.plane_reader.specs.declared.found.Found.{Found}
-use Rattle.plane_reader.specs.BlocksShown.{nothing, shown}
-use Rattle.plane_reader.specs.Above.{AreSignificant}
 use Rattle.plane_reader.specs.Taken.{AwaitPlane, TakesPlane}
 use Rattle.plane_reader.specs.Progress.{Start, start_of, IsStart, Held, held, kept, Progress, Clears}
-use Rattle.plane_reader.proofs.ShownBlocks.{shown_own}
 use Rattle.plane_reader.proofs.PlaneStart.{HasNone, not_begun}
 use Rattle.plane_reader.proofs.PlaneStop.{plane_whole}
 
 -- clear states are a plane's start
-pub plane_begins : {I : Type 0} (source : SourceOf I) (book : Book) (plan : CodedPlane) (old marks blocks : List ℤ) (waiting : List Found) (input : Coming I) → ((r : ℕ) → get_or waiting r nothing ≡ nothing) →
-    AwaitPlane plan.weights.shifts plan.plane plan.q (depths_of old) blocks → Clears old marks → IsIn input → Progress source book (start_of plan old blocks) 0 0 0 input (held (kept marks) marks (shown plan.plane waiting blocks) input)
-plane_begins source book plan old marks blocks waiting input none awaits clears opened =
-    not_begun source book (start_of plan old blocks) input (held (kept marks) marks (shown plan.plane waiting blocks) input) awaits (shown_own plan.plane waiting blocks none) clears.depths
+pub plane_begins : {I : Type 0} (source : SourceOf I) (book : Book) (plan : CodedPlane) (old marks blocks : List ℤ) (input : Coming I) →
+    AwaitPlane plan.weights.shifts plan.plane plan.q (depths_of old) blocks → Clears old marks → IsIn input → Progress source book (start_of plan old blocks) 0 0 0 input (held (kept marks) marks blocks input)
+plane_begins source book plan old marks blocks input awaits clears opened =
+    not_begun source book (start_of plan old blocks) input (held (kept marks) marks blocks input) awaits refl clears.depths
     (λ h. subst HasNone (sym (clears.marks (16 * h)).sent) (record { two = refl; three = refl; four = refl })) (λ h. (clears.marks (16 * h)).options) refl opened
 
-pub is_coded : (plan : CodedPlane) (marks blocks : List ℤ) (above : List ℕ) → length blocks ≡ 64 * length marks → AwaitPlane plan.weights.shifts plan.plane plan.q (depths_of marks) blocks →
-    AreSignificant (plan.plane + 1) blocks above → IsStart (start_of plan marks blocks) plan above
-is_coded plan marks blocks above whole awaits told = record {
+pub is_coded : (plan : CodedPlane) (marks blocks : List ℤ) → AwaitPlane plan.weights.shifts plan.plane plan.q (depths_of marks) blocks → IsStart (start_of plan marks blocks) plan
+is_coded plan marks blocks awaits = record {
   weights = refl;
   plane = refl;
   q = refl;
   awaits = awaits;
-  masks = λ r within few p ac. told r p few (omega (arith, within, length-depths_of marks, whole)) ac;
 }
 
 -- the last stage is the end

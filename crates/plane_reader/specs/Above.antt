@@ -1,20 +1,28 @@
--- What is significant above a plane, kept for the first blocks of a segment. (This project's own.)
-use Rattle.std.specs.Prelude.{◌≡◌, ◌<◌, ℕ, ◌+◌, ◌*◌, ℤ, List, length}
+-- The masks of a segment whose planes are read one after the other. (This project's own.)
+use Rattle.std.specs.Prelude.{◌≡◌, ◌<◌, ℕ, ◌+◌, ◌*◌, ℤ, pos, true, List, length}
 use lib.ListN.{get_or}
 use Rattle.item_defs.specs.Bits.{bit}
 use Rattle.wave_defs.specs.Held.{block_at}
 use Rattle.plane_defs.specs.Sets.{significant}
 use Rattle.plane_defs.specs.StepLaws.{IsAc}
+use Rattle.block_masks.specs.Slices.{minus_slot, above_slot, mask_in, size_in, numbers_in}
 use Rattle.plane_reader.specs.Frames.{Frame}
-
--- the masks say which AC numbers of the first 64 blocks are significant in a plane
-abbrev pub AreSignificant : (plane : ℕ) → (blocks : List ℤ) → (masks : List ℕ) → Type 0
-AreSignificant plane blocks masks = (r p : ℕ) → r < 64 → 64 * r < length blocks → IsAc p → bit (get_or masks r 0) p ≡ significant (block_at blocks r) plane p
 
 -- a mask says which AC numbers of a block are significant above its plane
 abbrev pub IsAbove : Frame → ℕ → Type 0
 IsAbove f mask = (p : ℕ) → IsAc p → bit mask p ≡ significant f.block (f.plane + 1) p
 
--- the mask of block r does so, if it is one of the first 64
-abbrev pub KeepsAbove : (masks : List ℕ) → (r : ℕ) → Frame → Type 0
-KeepsAbove masks r f = r < 64 → IsAbove f (get_or masks r 0)
+-- The AC numbers that are marked as negative are not 0, and the masks of what is significant say which AC numbers are significant in
+-- a plane.
+pub record AreReady (plane : ℕ) (cells : List ℤ) : Type 0 where
+  pub signed : (r p : ℕ) → 64 * r < length cells → IsAc p → bit (mask_in cells r minus_slot) p ≡ true → 0 < size_in cells r p
+  pub above : (r p : ℕ) → 64 * r < length cells → IsAc p → bit (mask_in cells r above_slot) p ≡ significant (block_at (numbers_in cells) r) plane p
+
+-- all blocks except one have the same numbers
+pub record ChangesBlock (r : ℕ) (old new : List ℤ) : Type 0 where
+  pub long : length new ≡ length old
+  pub others : (q : ℕ) → (q ≡ r → ⊥) → block_at (numbers_in new) q ≡ block_at (numbers_in old) q
+
+-- all AC numbers are 0
+abbrev pub HasNoAcs : List ℤ → Type 0
+HasNoAcs blocks = (r p : ℕ) → 64 * r < length blocks → IsAc p → get_or (block_at blocks r) p (pos 0) ≡ pos 0

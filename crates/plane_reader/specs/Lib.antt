@@ -9,7 +9,7 @@ pub mod Progress
 pub mod Children
 pub mod Refining
 pub mod Applied
-pub mod BlocksShown
+pub mod Joined
 pub mod Grandchildren
 pub mod Blocks
 pub mod Window

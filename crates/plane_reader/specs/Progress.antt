@@ -23,7 +23,6 @@ use Rattle.bit_pipe.specs.Coming.{Coming, IsIn, Takes}
 use Rattle.plane_reader.specs.Frames.{Frame, steps_of}
 use Rattle.plane_reader.specs.Pieces.{Knows}
 use Rattle.plane_reader.specs.Stages.{StandsBefore}
-use Rattle.plane_reader.specs.Above.{KeepsAbove}
 use Rattle.plane_reader.specs.Taken.{plane_with, AwaitPlane, TakesPlane}
 
 -- a plane before it is read
@@ -40,13 +39,12 @@ start_of plan marks blocks = record { weights = plan.weights.shifts; plane = pla
 abbrev pub frame_of : Start → ℕ → Frame
 frame_of s r = record { weights = s.weights; plane = s.plane; q = s.q; depth = get_or s.depths r 0; block = block_at s.blocks r }
 
--- it is the plane of this plan, its blocks await it, and the masks say which numbers of the first blocks are significant above it
-pub record IsStart (s : Start) (plan : CodedPlane) (above : List ℕ) : Type 0 where
+-- it is the plane of this plan, and its blocks await it
+pub record IsStart (s : Start) (plan : CodedPlane) : Type 0 where
   pub weights : s.weights ≡ plan.weights.shifts
   pub plane : s.plane ≡ plan.plane
   pub q : s.q ≡ plan.q
   pub awaits : AwaitPlane s.weights s.plane s.q s.depths s.blocks
-  pub masks : (r : ℕ) → r < length s.depths → KeepsAbove above r (frame_of s r)
 
 -- the plane of these values
 abbrev pub plane_of : Start → List (List ℤ) → Plane
@@ -101,10 +99,10 @@ pub record Progress {I : Type 0} (source : SourceOf I) (book : Book) (s : Start)
   pub is_in : IsIn now.input
 
 -- some plane was read up to there
-pub record Continues {I : Type 0} (source : SourceOf I) (book : Book) (plan : CodedPlane) (above : List ℕ) (k g c : ℕ) (now : Held I) : Type 0 where
+pub record Continues {I : Type 0} (source : SourceOf I) (book : Book) (plan : CodedPlane) (k g c : ℕ) (now : Held I) : Type 0 where
   pub start : Start
   pub from : Coming I
-  pub is_start : IsStart start plan above
+  pub is_start : IsStart start plan
   pub so_far : Progress source book start k g c from now
 
 -- the plane was read up to a stop in stage k
@@ -118,12 +116,12 @@ Leaves (Ok Ended) next stop = stop
 Leaves (Err e) next stop = stop
 
 -- a reading up to block c of gaggle g in stage k was continued up to this place
-pub record Reaches {I : Type 0} (source : SourceOf I) (book : Book) (plan : CodedPlane) (above : List ℕ) (k g c stage gaggle block : ℕ) (old new : Held I) : Type 0 where
-  pub so_far : (s : Start) (from : Coming I) → IsStart s plan above → Progress source book s k g c from old → Progress source book s stage gaggle block from new
+pub record Reaches {I : Type 0} (source : SourceOf I) (book : Book) (plan : CodedPlane) (k g c stage gaggle block : ℕ) (old new : Held I) : Type 0 where
+  pub so_far : (s : Start) (from : Coming I) → IsStart s plan → Progress source book s k g c from old → Progress source book s stage gaggle block from new
 
 -- a call continued from a gaggle in stage k up to another one, or up to a stop
-pub record Advances {I : Type 0} (source : SourceOf I) (book : Book) (plan : CodedPlane) (above : List ℕ) (k g stage gaggle : ℕ) (result : Result Part TextFault) (old new : Held I) : Type 0 where
-  pub leaves : (s : Start) (from : Coming I) → IsStart s plan above → Progress source book s k g 0 from old →
+pub record Advances {I : Type 0} (source : SourceOf I) (book : Book) (plan : CodedPlane) (k g stage gaggle : ℕ) (result : Result Part TextFault) (old new : Held I) : Type 0 where
+  pub leaves : (s : Start) (from : Coming I) → IsStart s plan → Progress source book s k g 0 from old →
       Leaves result (Progress source book s stage gaggle 0 from new) (Stops source book s k result from new.input new.blocks)
 
 -- the states keep the depths of blocks and what is kept of gaggles

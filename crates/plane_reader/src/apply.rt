@@ -1,29 +1,44 @@
-// Puts what was found of a block's numbers into it.
+// Puts what was found of a block's numbers into its masks.
 
-ghost use Rattle.std.specs.Prelude.{◌≡◌, ◌<◌, length};
+ghost use Rattle.std.specs.Prelude.{◌≡◌, ◌+◌, ◌*◌, ◌%◌, ◌<◌, length};
+ghost use Rattle.wave_defs.specs.Held.{block_at};
+ghost use Rattle.block_masks.specs.Slices.{numbers_in};
+ghost use Rattle.plane_reader.specs.Above.{AreReady, ChangesBlock};
 ghost use Rattle.plane_reader.specs.Applied.{Applies, AddsDc};
 
 use crate::found::Found;
-use block_masks::{set_bits, without};
+use block_masks::{DC, MINUS, both, either, mask_of, put_mask};
 
-// Gives the plane's bit to the AC numbers that were found to have it, and their signs.
+// Gives the plane's bit to the AC numbers of block r that were found to have it, and their signs.
 #[inline]
-pub(crate) fn apply(found: Found, plane: u8, block: &mut [i32])
-    requires whole { length block.old ≡ 64 }
+pub(crate) fn apply(found: Found, plane: u8, cells: &mut [i32], r: usize)
+    requires whole { length cells.old % 64 ≡ 0 }
+    requires block { 64 * r < length cells.old }
     requires low { plane < 27 }
-    ensures { Applies plane found.bits found.minus block.old block.new }
+    requires ready { AreReady (plane + 1) cells.old }
+    ensures applied { Applies plane found.bits found.minus (block_at (numbers_in cells.old) r) (block_at (numbers_in cells.new) r) }
+    ensures ready { AreReady (plane + 1) cells.new }
+    ensures others { ChangesBlock r cells.old cells.new }
 {
-    set_bits(block, plane, without(found.bits, 0), found.minus);
+    let bits = either(mask_of(cells, r, plane), found.bits);
+    let minus = either(mask_of(cells, r, MINUS), both(found.minus, found.bits));
+    put_mask(cells, r, plane, bits);
+    put_mask(cells, r, MINUS, minus);
 }
 
-// Adds the plane's bit to the DC.
+// Adds the plane's bit to the DC of block r.
 #[inline]
-pub(crate) fn add_dc(bit: bool, plane: u8, block: &mut [i32])
-    requires whole { length block.old ≡ 64 }
+pub(crate) fn add_dc(bit: bool, plane: u8, cells: &mut [i32], r: usize)
+    requires whole { length cells.old % 64 ≡ 0 }
+    requires block { 64 * r < length cells.old }
     requires low { plane < 27 }
-    ensures { AddsDc plane bit block.old block.new }
+    requires ready { AreReady (plane + 1) cells.old }
+    ensures added { AddsDc plane bit (block_at (numbers_in cells.old) r) (block_at (numbers_in cells.new) r) }
+    ensures ready { AreReady (plane + 1) cells.new }
+    ensures others { ChangesBlock r cells.old cells.new }
 {
     if bit {
-        block[0] = block[0].wrapping_add(1 << plane);
+        let dc = (mask_of(cells, r, DC) % 0x1_0000_0000) as u32;
+        put_mask(cells, r, DC, u64::from(dc.wrapping_add(1 << plane)));
     }
 }

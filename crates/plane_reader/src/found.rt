@@ -1,12 +1,10 @@
 // What the words of a block give in a stage.
 
 ghost use Rattle.std.specs.Prelude.{◌≡◌, ◌+◌, ◌-◌, ◌≤◌, ◌<◌, ◌^◌, ◌&&◌, ◌||◌, ℕ, Bool};
-ghost use Rattle.item_defs.specs.Bits.{bit as bit_in};
 ghost use Rattle.block_masks.specs.Masks.{Shows};
 ghost use Rattle.block_masks.specs.Places.{inside};
-ghost use Rattle.plane_reader.specs.BlocksShown.{Joins};
 
-use block_masks::{both, either, joined};
+use block_masks::{either, joined};
 
 // Masks of the positions that have the plane's bit, and of those whose sign was read as negative.
 #[derive(Clone, Copy)]
@@ -28,34 +26,6 @@ pub(crate) fn placed(mask: u64, start: u8) -> u64
 impl Found {
     // The masks if nothing was found.
     pub const NOTHING: Found = Found { bits: 0, minus: 0 };
-
-    // Adds the positions of a mask that have the bit.
-    #[inline(always)]
-    pub fn with(self, mask: u64) -> u64
-        ensures { (p : ℕ) → p < 64 → bit_in result p ≡ (bit_in mask p || bit_in self.bits p) }
-    {
-        either(mask, self.bits)
-    }
-
-    // Returns those of the negative signs whose numbers have the bit.
-    #[inline(always)]
-    fn signs(self) -> u64
-        ensures { (p : ℕ) → p < 64 → bit_in result p ≡ (bit_in self.minus p && bit_in self.bits p) }
-    {
-        both(self.minus, self.bits)
-    }
-
-    // Returns these masks with those that were found after them.
-    #[inline(always)]
-    pub fn and(self, more: Found) -> Found
-        ensures { Joins self more result }
-    {
-        let minus = self.signs();
-        Found {
-            bits: more.with(self.bits),
-            minus: either(minus, more.signs()),
-        }
-    }
 
     // Adds the positions from `start` on that have the plane's bit.
     #[inline]

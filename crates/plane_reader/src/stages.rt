@@ -1,6 +1,6 @@
 // The reader of the stages of a block.
 
-ghost use Rattle.std.specs.Prelude.{◌≡◌, ◌≤◌, ◌<◌, ◌⊎◌, ℕ, ℤ, List, [], length, Some, None};
+ghost use Rattle.std.specs.Prelude.{◌≡◌, ◌≤◌, ◌<◌, ◌⊎◌, ◌+◌, ◌*◌, ◌%◌, ℕ, ℤ, List, [], length, Some, None};
 ghost use Rattle.bit_pipe.specs.declared.fault.Part.TheVariants.{Whole, Ended};
 ghost use Rattle.bit_pipe.specs.Coming.{coming, IsIn};
 ghost use Rattle.plane_defs.specs.Marks.{depth_of as depth_in};
@@ -8,42 +8,43 @@ ghost use Rattle.plane_defs.specs.Steps.{Step, parents_steps, children_steps};
 ghost use Rattle.base_122.specs.declared.book.Book.{Book as BookValue};
 ghost use Rattle.block_masks.specs.declared.gaggle.Gaggle.{Gaggle as GaggleValue};
 ghost use Rattle.block_masks.specs.Gaggles.{AreOptions, options_in, sent_in};
-ghost use Rattle.plane_reader.specs.declared.found.Found.{Found as FoundValue};
 ghost use Rattle.plane_reader.specs.Frames.{Frame, steps_of};
 ghost use Rattle.plane_reader.specs.Pieces.{FoundPiece, Anything, OnSome};
 ghost use Rattle.plane_reader.specs.Children.{StageNext};
 ghost use Rattle.plane_reader.specs.Blocks.{MarkSays};
 ghost use Rattle.plane_reader.specs.Stages.{StandsBefore, StageTaken};
 ghost use Rattle.plane_reader.specs.Terms.{IsFrame};
-ghost use lib.ListN.{get_or};
-ghost use Rattle.plane_reader.specs.Above.{IsAbove, KeepsAbove};
-ghost use Rattle.plane_reader.specs.BlocksShown.{nothing, shown_block, SameAcs};
+ghost use Rattle.item_defs.specs.Bits.{bit as bit_in};
+ghost use Rattle.wave_defs.specs.Held.{block_at};
+ghost use Rattle.plane_defs.specs.Sets.{significant};
+ghost use Rattle.plane_defs.specs.StepLaws.{IsAc};
+ghost use Rattle.block_masks.specs.Slices.{numbers_in};
+ghost use Rattle.plane_reader.specs.Above.{IsAbove, AreReady, ChangesBlock};
 
-use crate::above::mask_above;
-use crate::apply::add_dc;
+use crate::apply::{add_dc, apply};
 use crate::children::take_children;
 use crate::found::Found;
 use crate::grandchildren::take_grandchildren;
 use crate::refine::{take_dc_bit, take_refinement};
 use crate::types::{Group, take_types};
-use crate::waiting::{KEPT, defer, deferred_for, first_reaching};
 use bit_pipe::{BitIn, OctetIn, Part, TextFault};
-use block_masks::{CodedPlane, Gaggle, both, depth_of, except, families_of, with_families};
+use block_masks::{
+    ABOVE, CodedPlane, Gaggle, both, depth_of, either, except, families_of, mask_of, with_families,
+};
 use word_codes::WordTables;
 
-// A plane, the codes of its words, and masks of the numbers of the first blocks that are significant above it.
+// A plane, and the codes of its words.
 #[derive(Clone, Copy)]
 pub(crate) struct Terms<'a> {
     pub plan: &'a CodedPlane,
     pub tables: &'a WordTables,
-    pub above: &'a [u64; KEPT],
 }
 
-// What is known of a block before a stage: which of its numbers are significant above the plane, and what waits for it.
+// Which AC numbers of a block are significant before a stage: above the plane, and in the plane so far.
 #[derive(Clone, Copy)]
 struct Seen {
     above: u64,
-    waits: Found,
+    now: u64,
 }
 
 // Reads the types of the parents, and their signs.
@@ -107,14 +108,13 @@ fn take_words<I: OctetIn>(
     number: u8,
     mark: &mut i32,
     seen: Seen,
-    block: &[i32],
 ) -> Result<Option<()>, TextFault>
     requires open { IsIn (coming input.old) }
     requires known { AreOptions gaggle.old.options }
     requires some { 1 ≤ number }
     requires number { number < 5 }
-    requires whole { length block.now ≡ 64 }
-    ensures words { (f : Frame) (earlier : ℕ → List Step) → IsFrame f terms.now.plan.now (depth_in mark.old) → f.plane < f.depth → IsAbove f seen.above → StandsBefore f number earlier mark.old (shown_block terms.now.plan.now.plane seen.waits block.now) →
+    ensures words { (f : Frame) (earlier : ℕ → List Step) (block : List ℤ) → IsFrame f terms.now.plan.now (depth_in mark.old) → f.plane < f.depth → IsAbove f seen.above →
+        ((p : ℕ) → IsAc p → bit_in seen.now p ≡ significant block terms.now.plan.now.plane p) → StandsBefore f number earlier mark.old block →
         FoundPiece I.source terms.now.tables.now.book f number earlier [] (steps_of f number) (MarkSays f number mark.new) result gaggle.old gaggle.new found.old found.new (coming input.old) (coming input.new) }
     ensures depth { depth_in mark.new ≡ depth_in mark.old }
     ensures options_kept { options_in mark.new ≡ options_in mark.old }
@@ -126,9 +126,8 @@ fn take_words<I: OctetIn>(
         1 => take_parents(input, terms, gaggle, found, seen.above),
         2 => take_families(input, terms, gaggle, found, seen.above, mark),
         3 => {
-            let now = first_reaching(block, terms.plan.plane, seen.waits);
             let families = families_of(*mark);
-            take_grandchildren(input, terms, gaggle, found, seen.above, now, families)
+            take_grandchildren(input, terms, gaggle, found, seen.above, seen.now, families)
         }
         _ => take_refinement(input, found, both(seen.above, terms.plan.coded)),
     }
@@ -150,23 +149,43 @@ fn part_of(read: Option<()>) -> Part
 fn take_dc<I: OctetIn>(
     input: &mut BitIn<I>,
     plan: &CodedPlane,
-    block: &mut [i32],
+    cells: &mut [i32],
+    r: usize,
 ) -> Result<Part, TextFault>
     requires open { IsIn (coming input.old) }
-    requires whole { length block.old ≡ 64 }
-    ensures taken { (book : BookValue) (gaggle : GaggleValue) (mark : ℤ) (waits : FoundValue) (f : Frame) (earlier : ℕ → List Step) → AreOptions gaggle.options → IsFrame f plan.now f.depth →
-        StandsBefore f 0 earlier mark (shown_block plan.now.plane waits block.old) → StageTaken I.source book f 0 earlier result gaggle gaggle mark (shown_block plan.now.plane waits block.new) (coming input.old) (coming input.new) }
-    ensures acs { SameAcs block.old block.new }
-    ensures size { length block.new ≡ 64 }
+    requires whole { length cells.old % 64 ≡ 0 }
+    requires block { 64 * r < length cells.old }
+    requires ready { AreReady (plan.now.plane + 1) cells.old }
+    ensures taken { (book : BookValue) (gaggle : GaggleValue) (mark : ℤ) (f : Frame) (earlier : ℕ → List Step) → AreOptions gaggle.options → IsFrame f plan.now f.depth →
+        StandsBefore f 0 earlier mark (block_at (numbers_in cells.old) r) → StageTaken I.source book f 0 earlier result gaggle gaggle mark (block_at (numbers_in cells.new) r) (coming input.old) (coming input.new) }
+    ensures ready { AreReady (plan.now.plane + 1) cells.new }
+    ensures others { ChangesBlock r cells.old cells.new }
 {
     let Some(bit) = take_dc_bit(input, plan)? else {
         return Ok(Part::Ended);
     };
-    add_dc(bit, plan.plane, block);
+    add_dc(bit, plan.plane, cells, r);
     Ok(Part::Whole)
 }
 
-// Reads the words of a stage of a block that is deep enough. What they give waits, or is put into the block.
+// Returns which AC numbers of block r are significant in a plane of which a part was read.
+#[inline(always)]
+fn seen_before(cells: &[i32], r: usize, plane: u8) -> Seen
+    requires whole { length cells.now % 64 ≡ 0 }
+    requires block { 64 * r < length cells.now }
+    requires low { plane < 27 }
+    requires ready { AreReady (plane + 1) cells.now }
+    ensures above { (p : ℕ) → IsAc p → bit_in result.above p ≡ significant (block_at (numbers_in cells.now) r) (plane + 1) p }
+    ensures now { (p : ℕ) → IsAc p → bit_in result.now p ≡ significant (block_at (numbers_in cells.now) r) plane p }
+{
+    let above = mask_of(cells, r, ABOVE);
+    Seen {
+        above,
+        now: either(above, mask_of(cells, r, plane)),
+    }
+}
+
+// Reads the words of a stage of a block that is deep enough, and puts what they give into its masks.
 fn take_deep<I: OctetIn>(
     input: &mut BitIn<I>,
     terms: &Terms,
@@ -174,31 +193,28 @@ fn take_deep<I: OctetIn>(
     number: u8,
     r: usize,
     mark: &mut i32,
-    waiting: &mut [Found; KEPT],
-    block: &mut [i32],
+    cells: &mut [i32],
 ) -> Result<Part, TextFault>
     requires open { IsIn (coming input.old) }
     requires known { AreOptions gaggle.old.options }
     requires some { 1 ≤ number }
     requires number { number < 5 }
-    requires whole { length block.old ≡ 64 }
-    ensures taken { (f : Frame) (earlier : ℕ → List Step) → IsFrame f terms.now.plan.now (depth_in mark.old) → f.plane < f.depth → KeepsAbove terms.now.above.now r f →
-        StandsBefore f number earlier mark.old (shown_block terms.now.plan.now.plane (get_or waiting.old r nothing) block.old) →
-        StageTaken I.source terms.now.tables.now.book f number earlier result gaggle.old gaggle.new mark.new (shown_block terms.now.plan.now.plane (get_or waiting.new r nothing) block.new) (coming input.old) (coming input.new) }
+    requires whole { length cells.old % 64 ≡ 0 }
+    requires block { 64 * r < length cells.old }
+    requires ready { AreReady (terms.now.plan.now.plane + 1) cells.old }
+    ensures taken { (f : Frame) (earlier : ℕ → List Step) → IsFrame f terms.now.plan.now (depth_in mark.old) → f.plane < f.depth →
+        StandsBefore f number earlier mark.old (block_at (numbers_in cells.old) r) →
+        StageTaken I.source terms.now.tables.now.book f number earlier result gaggle.old gaggle.new mark.new (block_at (numbers_in cells.new) r) (coming input.old) (coming input.new) }
     ensures depth { depth_in mark.new ≡ depth_in mark.old }
     ensures options { options_in mark.new ≡ options_in mark.old }
     ensures sent { sent_in mark.new ≡ sent_in mark.old }
-    ensures others { (i : ℕ) → (i ≡ r → ⊥) → get_or waiting.new i nothing ≡ get_or waiting.old i nothing }
-    ensures acs { r < 64 → SameAcs block.old block.new }
-    ensures size { length block.new ≡ 64 }
+    ensures ready { AreReady (terms.now.plan.now.plane + 1) cells.new }
+    ensures others { ChangesBlock r cells.old cells.new }
 {
     let mut found = Found::NOTHING;
-    let seen = Seen {
-        above: mask_above(terms, r, block),
-        waits: deferred_for(waiting, r),
-    };
-    let read = take_words(input, terms, gaggle, &mut found, number, mark, seen, block);
-    defer(waiting, r, found, terms.plan.plane, block);
+    let seen = seen_before(cells, r, terms.plan.plane);
+    let read = take_words(input, terms, gaggle, &mut found, number, mark, seen);
+    apply(found, terms.plan.plane, cells, r);
     Ok(part_of(read?))
 }
 
@@ -210,28 +226,28 @@ pub(crate) fn take_block<I: OctetIn>(
     number: u8,
     r: usize,
     mark: &mut i32,
-    waiting: &mut [Found; KEPT],
-    block: &mut [i32],
+    cells: &mut [i32],
 ) -> Result<Part, TextFault>
     requires open { IsIn (coming input.old) }
     requires number { number < 5 }
     requires known { AreOptions gaggle.old.options }
-    requires whole { length block.old ≡ 64 }
-    ensures taken { (f : Frame) (earlier : ℕ → List Step) → IsFrame f terms.now.plan.now (depth_in mark.old) → KeepsAbove terms.now.above.now r f →
-        StandsBefore f number earlier mark.old (shown_block terms.now.plan.now.plane (get_or waiting.old r nothing) block.old) →
-        StageTaken I.source terms.now.tables.now.book f number earlier result gaggle.old gaggle.new mark.new (shown_block terms.now.plan.now.plane (get_or waiting.new r nothing) block.new) (coming input.old) (coming input.new) }
+    requires whole { length cells.old % 64 ≡ 0 }
+    requires block { 64 * r < length cells.old }
+    requires ready { AreReady (terms.now.plan.now.plane + 1) cells.old }
+    ensures taken { (f : Frame) (earlier : ℕ → List Step) → IsFrame f terms.now.plan.now (depth_in mark.old) →
+        StandsBefore f number earlier mark.old (block_at (numbers_in cells.old) r) →
+        StageTaken I.source terms.now.tables.now.book f number earlier result gaggle.old gaggle.new mark.new (block_at (numbers_in cells.new) r) (coming input.old) (coming input.new) }
     ensures depth { depth_in mark.new ≡ depth_in mark.old }
     ensures options { options_in mark.new ≡ options_in mark.old }
     ensures sent { sent_in mark.new ≡ sent_in mark.old }
-    ensures others { (i : ℕ) → (i ≡ r → ⊥) → get_or waiting.new i nothing ≡ get_or waiting.old i nothing }
-    ensures acs { r < 64 → SameAcs block.old block.new }
-    ensures size { length block.new ≡ 64 }
+    ensures ready { AreReady (terms.now.plan.now.plane + 1) cells.new }
+    ensures others { ChangesBlock r cells.old cells.new }
 {
     if number == 0 {
-        return take_dc(input, terms.plan, block);
+        return take_dc(input, terms.plan, cells, r);
     }
     if depth_of(*mark) <= terms.plan.plane {
         return Ok(Part::Whole);
     }
-    take_deep(input, terms, gaggle, number, r, mark, waiting, block)
+    take_deep(input, terms, gaggle, number, r, mark, cells)
 }

@@ -1,16 +1,18 @@
-use Rattle.std.proofs.Common.{subst, sym}
-use Rattle.plane_reader.specs.Above.{AreSignificant}
-use Rattle.plane_reader.proofs.AboveNext.{small_before, significant_now}
-use Rattle.plane_reader.proofs.ShownBlocks.{nothing_each}
+use Rattle.std.proofs.Common.{◌+◌, sym, subst, arith}
+use Rattle.bit_pipe.specs.Coming.{coming}
+use Rattle.plane_defs.specs.Marks.{depths_of}
+use Rattle.block_masks.specs.Slices.{numbers_in}
+use Rattle.plane_reader.specs.Taken.{TakesPlane}
+use Rattle.plane_reader.proofs.SettledCells.{settled_numbers, settled_ready}
 use Rattle.plane_reader.proofs.plane.take_plane_with.Goals as goal
 
-pub take_plane_stages-read-requires-clause-nothing : goal.take_plane_stages-read-requires-clause-nothing
-take_plane_stages-read-requires-clause-nothing g c = nothing_each 64
+pub returns-clause-takes : goal.returns-clause-takes
+returns-clause-takes g c =
+    let t = rw (c.new-coded.ensures.plane, c.new-coded.ensures.q, c.new-coded.ensures.weights) at c.take_plane_stages-read.ensures.takes in
+    subst (λ b. TakesPlane g.I.OctetIn.source c.args.tables.now.book c.args.plan.now.plane c.args.plan.now.q c.args.plan.now.weights.shifts (c.args.plan.now.last + 1) (depths_of c.args.marks.now) c.take_plane_stages-read.result (coming c.args.input.now) (coming c.take_plane_stages-read.new.input) (numbers_in c.args.cells.now) b)
+    (sym (settled_numbers (omega (arith, c.requires.plane)) (omega (arith, c.requires.whole, c.take_plane_stages-read.ensures.size)) c.read_masks.ensures c.read_masks-2.ensures c.settle_above.ensures)) t
 
-pub settle-requires-clause-small : goal.settle-requires-clause-small
-settle-requires-clause-small g c = small_before c.args.marks.now c.args.blocks.now c.take_plane_stages-read.new.blocks c.requires.awaits c.requires.whole c.take_plane_stages-read.ensures.acs c.take_plane_stages-read.ensures.size
-
-pub returns-clause-above : goal.returns-clause-above
-returns-clause-above g c =
-    subst (λ b. AreSignificant c.args.plan.now.plane b c.settle.new.above) (sym c.settle.ensures.blocks)
-    (significant_now c.args.marks.now c.args.blocks.now c.take_plane_stages-read.new.blocks c.requires.awaits c.requires.whole c.take_plane_stages-read.ensures.acs c.take_plane_stages-read.ensures.size c.take_plane_stages-read.new.waiting c.args.above.now c.settle.new.above c.requires.above c.settle.ensures.above)
+pub returns-clause-ready : goal.returns-clause-ready
+returns-clause-ready g c =
+    let ready = rw c.new-coded.ensures.plane at c.take_plane_stages-read.ensures.ready in
+    settled_ready (omega (arith, c.requires.plane)) (omega (arith, c.requires.whole, c.take_plane_stages-read.ensures.size)) c.read_masks.ensures c.read_masks-2.ensures c.settle_above.ensures ready

@@ -8,28 +8,28 @@ use Rattle.plane_reader.proofs.BlockWords.{deep_parents, deep_children, deep_gra
 use Rattle.plane_reader.proofs.stages.take_words.Goals as goal
 
 pub returns-in-1-clause-words : goal.returns-in-1-clause-words
-returns-in-1-clause-words g c = λ f earlier frame deep is stands.
+returns-in-1-clause-words g c = λ f earlier block frame deep is now stands.
     let own = rw c.in-1.is at stands in
     rw c.in-1.is (words_as c.args.mark.now (λ e. cc) (deep_parents f deep)
     (c.take_parents.ensures.parents f 1 earlier [] (λ v. []) (stage_next frame own c.args.seen.above is (omega arith) (λ v. parents_steps v f.weights f.plane) (deep_parents f deep))))
 
 pub returns-in-2-clause-words : goal.returns-in-2-clause-words
-returns-in-2-clause-words g c = λ f earlier frame deep is stands.
+returns-in-2-clause-words g c = λ f earlier block frame deep is now stands.
     let own = rw c.in-2.is at stands in
     rw c.in-2.is (children_words c.take_families.new.mark (deep_children f deep)
     (c.take_families.ensures.children f earlier [] (λ v. []) (stage_next frame own c.args.seen.above is (omega arith) (λ v. children_steps v f.weights f.plane) (deep_children f deep))))
 
 pub returns-in-3-clause-words : goal.returns-in-3-clause-words
-returns-in-3-clause-words g c = λ f earlier frame deep is stands.
+returns-in-3-clause-words g c = λ f earlier block frame deep is now stands.
     let own = rw c.in-3.is at stands in
     let fits : FitsSigned w32 c.args.mark.now = search rules in
     let kept : c.families_of-families.result ≡ families_in c.args.mark.now = rw (to_z-of_z w32 c.args.mark.now fits) at c.families_of-families.ensures.value in
     rw c.in-3.is (words_as c.args.mark.now (λ e. cc) (deep_grandchildren f deep)
     (c.take_grandchildren.ensures.grandchildren f 3 earlier [] (λ v. [])
-    (grandchildren_next frame deep own c.args.seen.above is c.first_reaching-now.result c.first_reaching-now.ensures c.families_of-families.result kept)))
+    (grandchildren_next frame deep own c.args.seen.above is c.args.seen.now now c.families_of-families.result kept)))
 
 pub returns-in_default-clause-words : goal.returns-in_default-clause-words
-returns-in_default-clause-words g c = λ f earlier frame deep is stands.
+returns-in_default-clause-words g c = λ f earlier block frame deep is now stands.
     let four : c.args.number ≡ 4 = omega (arith, c.requires.some, c.requires.number, c.in_default) in
     let own = rw four at stands in
     let next = stage_next frame own c.args.seen.above is (omega arith) (λ v. refinement_steps v f.weights f.plane) (deep_refinement f deep) in
