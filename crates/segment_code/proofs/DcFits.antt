@@ -30,7 +30,7 @@ dcs_strided cells n e =
     each [] = refl
     each (k ∷ ks) = let here = dc_cell cells k in let rest = each ks in cc
 
-signed_size_at : (cells : List ℤ) (n m : ℕ) → length cells ≡ 64 * n → m < n → signed_size (cell_at 64 cells m) ≤ depth_dc_of (blocks_in cells)
+pub signed_size_at : (cells : List ℤ) (n m : ℕ) → length cells ≡ 64 * n → m < n → signed_size (cell_at 64 cells m) ≤ depth_dc_of (blocks_in cells)
 unfolding blocks_in
 signed_size_at cells n m e lt =
     let count : length cells / 64 ≡ n = omega (arith, e) in

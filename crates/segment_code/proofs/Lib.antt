@@ -6,6 +6,7 @@ mod DcText
 pub mod Encoding
 pub mod Bounded
 mod Parts
+mod NumberSizes
 mod PlaneParts
 mod EntryBits
 mod PlaneBits
@@ -32,6 +33,5 @@ mod Joined
 mod ReadNames
 pub mod CodedHeld
 pub mod CodedOptions
-mod NoneAbove
 mod ExactTexts
 pub mod ItemEnds

@@ -41,6 +41,7 @@ impl SegmentWriter {
     /// Writes the text of a segment, and returns its length in octets (docs/formats.md, "Stops, cut and fill"). The sink was given
     /// nothing yet. The blocks are 64 weighted numbers each. The depths of the head and the marks are those of the blocks, as
     /// `segment_depths` returns them; the marks keep them in their lowest five bits, and their other bits have no meaning afterwards.
+    /// The call may put masks of bits in the place of the numbers of `blocks`, which have no meaning afterwards.
     ///
     /// # Errors
     ///
@@ -49,19 +50,20 @@ impl SegmentWriter {
         &self,
         out: &mut O,
         head: &SegmentHead,
-        blocks: &[i32],
+        blocks: &mut [i32],
         marks: &mut [i32],
     ) -> Result<u64, Failed>
         requires fits { IsHead head.now }
-        requires count { length blocks.now ≡ 64 * head.now.blocks }
-        requires dc { head.now.depth_dc ≡ depth_dc_of (blocks_in blocks.now) }
-        requires ac { head.now.depth_ac ≡ depth_ac_of (blocks_in blocks.now) }
-        requires marks { marks.old ≡ map pos (block_depths (blocks_in blocks.now)) }
+        requires count { length blocks.old ≡ 64 * head.now.blocks }
+        requires dc { head.now.depth_dc ≡ depth_dc_of (blocks_in blocks.old) }
+        requires ac { head.now.depth_ac ≡ depth_ac_of (blocks_in blocks.old) }
+        requires marks { marks.old ≡ map pos (block_depths (blocks_in blocks.old)) }
         requires none { (O.sink.counts out.old).given ≡ 0 }
         ensures text { MatchResult result
-            (λ octets. GivesText O.sink out.old out.new (coded self.now.tables.book head.now (blocks_in blocks.now)) octets)
-            (λ _. BreaksWithin O.sink out.old out.new (coded self.now.tables.book head.now (blocks_in blocks.now))) }
+            (λ octets. GivesText O.sink out.old out.new (coded self.now.tables.book head.now (blocks_in blocks.old)) octets)
+            (λ _. BreaksWithin O.sink out.old out.new (coded self.now.tables.book head.now (blocks_in blocks.old))) }
         ensures depths { depths_of marks.new ≡ depths_of marks.old }
+        ensures long { length blocks.new ≡ length blocks.old }
     {
         let mut bits = BitOut::new(out, u64::from(head.limit), 0);
         put_fitting(&mut bits, head, blocks, marks, &self.tables)?;
@@ -78,17 +80,18 @@ impl SegmentWriter {
         &self,
         out: &mut BitOut<O>,
         head: &SegmentHead,
-        blocks: &[i32],
+        blocks: &mut [i32],
         marks: &mut [i32],
     ) -> Result<(), PutFault>
         requires fits { IsHead head.now }
         requires open { IsReady O.sink out.old }
-        requires count { length blocks.now ≡ 64 * head.now.blocks }
-        requires dc { head.now.depth_dc ≡ depth_dc_of (blocks_in blocks.now) }
-        requires ac { head.now.depth_ac ≡ depth_ac_of (blocks_in blocks.now) }
-        requires marks { marks.old ≡ map pos (block_depths (blocks_in blocks.now)) }
-        ensures encodes { EncodesItems O.sink self.now.tables.book head.now (blocks_in blocks.now) result (stand O.sink out.old) (stand O.sink out.new) }
+        requires count { length blocks.old ≡ 64 * head.now.blocks }
+        requires dc { head.now.depth_dc ≡ depth_dc_of (blocks_in blocks.old) }
+        requires ac { head.now.depth_ac ≡ depth_ac_of (blocks_in blocks.old) }
+        requires marks { marks.old ≡ map pos (block_depths (blocks_in blocks.old)) }
+        ensures encodes { EncodesItems O.sink self.now.tables.book head.now (blocks_in blocks.old) result (stand O.sink out.old) (stand O.sink out.new) }
         ensures depths { depths_of marks.new ≡ depths_of marks.old }
+        ensures long { length blocks.new ≡ length blocks.old }
     {
         put_items(out, head, &plan_of(head), blocks, marks, &self.tables)
     }
@@ -102,21 +105,22 @@ impl SegmentWriter {
 pub fn encode_segment<O: OctetOut>(
     out: &mut O,
     head: &SegmentHead,
-    blocks: &[i32],
+    blocks: &mut [i32],
     marks: &mut [i32],
     book: &Book,
 ) -> Result<u64, Failed>
     requires sound { IsTrue (is_book_sound book.now) }
     requires fits { IsHead head.now }
-    requires count { length blocks.now ≡ 64 * head.now.blocks }
-    requires dc { head.now.depth_dc ≡ depth_dc_of (blocks_in blocks.now) }
-    requires ac { head.now.depth_ac ≡ depth_ac_of (blocks_in blocks.now) }
-    requires marks { marks.old ≡ map pos (block_depths (blocks_in blocks.now)) }
+    requires count { length blocks.old ≡ 64 * head.now.blocks }
+    requires dc { head.now.depth_dc ≡ depth_dc_of (blocks_in blocks.old) }
+    requires ac { head.now.depth_ac ≡ depth_ac_of (blocks_in blocks.old) }
+    requires marks { marks.old ≡ map pos (block_depths (blocks_in blocks.old)) }
     requires none { (O.sink.counts out.old).given ≡ 0 }
     ensures text { MatchResult result
-        (λ octets. GivesText O.sink out.old out.new (coded book.now head.now (blocks_in blocks.now)) octets)
-        (λ _. BreaksWithin O.sink out.old out.new (coded book.now head.now (blocks_in blocks.now))) }
+        (λ octets. GivesText O.sink out.old out.new (coded book.now head.now (blocks_in blocks.old)) octets)
+        (λ _. BreaksWithin O.sink out.old out.new (coded book.now head.now (blocks_in blocks.old))) }
     ensures depths { depths_of marks.new ≡ depths_of marks.old }
+    ensures long { length blocks.new ≡ length blocks.old }
 {
     SegmentWriter::new(book).encode(out, head, blocks, marks)
 }
@@ -125,22 +129,23 @@ pub fn encode_segment<O: OctetOut>(
 fn put_fitting<O: OctetOut>(
     out: &mut BitOut<O>,
     head: &SegmentHead,
-    blocks: &[i32],
+    blocks: &mut [i32],
     marks: &mut [i32],
     tables: &CodeTables,
 ) -> Result<(), Failed>
     requires fits { IsHead head.now }
     requires open { IsReady O.sink out.old }
     requires room { 8 * head_length head.now ≤ (stand O.sink out.old).room }
-    requires count { length blocks.now ≡ 64 * head.now.blocks }
-    requires dc { head.now.depth_dc ≡ depth_dc_of (blocks_in blocks.now) }
-    requires ac { head.now.depth_ac ≡ depth_ac_of (blocks_in blocks.now) }
-    requires marks { marks.old ≡ map pos (block_depths (blocks_in blocks.now)) }
+    requires count { length blocks.old ≡ 64 * head.now.blocks }
+    requires dc { head.now.depth_dc ≡ depth_dc_of (blocks_in blocks.old) }
+    requires ac { head.now.depth_ac ≡ depth_ac_of (blocks_in blocks.old) }
+    requires marks { marks.old ≡ map pos (block_depths (blocks_in blocks.old)) }
     ensures puts { MatchResult result
-        (λ _. Adds O.sink (stand O.sink out.old) (stand O.sink out.new) (take (stand O.sink out.old).room (coded_bits tables.now.book head.now (blocks_in blocks.now))))
-        (λ _. Breaks O.sink (stand O.sink out.old) (stand O.sink out.new) (take (stand O.sink out.old).room (coded_bits tables.now.book head.now (blocks_in blocks.now)))) }
+        (λ _. Adds O.sink (stand O.sink out.old) (stand O.sink out.new) (take (stand O.sink out.old).room (coded_bits tables.now.book head.now (blocks_in blocks.old))))
+        (λ _. Breaks O.sink (stand O.sink out.old) (stand O.sink out.new) (take (stand O.sink out.old).room (coded_bits tables.now.book head.now (blocks_in blocks.old)))) }
     ensures ten { length head.now.image.weights.shifts ≡ 10 }
     ensures depths { depths_of marks.new ≡ depths_of marks.old }
+    ensures long { length blocks.new ≡ length blocks.old }
 {
     match put_text(out, head, blocks, marks, tables) {
         Ok(()) => Ok(()),
@@ -153,20 +158,21 @@ fn put_fitting<O: OctetOut>(
 fn put_text<O: OctetOut>(
     out: &mut BitOut<O>,
     head: &SegmentHead,
-    blocks: &[i32],
+    blocks: &mut [i32],
     marks: &mut [i32],
     tables: &CodeTables,
 ) -> Result<(), PutFault>
     requires fits { IsHead head.now }
     requires open { IsReady O.sink out.old }
     requires room { 8 * head_length head.now ≤ (stand O.sink out.old).room }
-    requires count { length blocks.now ≡ 64 * head.now.blocks }
-    requires dc { head.now.depth_dc ≡ depth_dc_of (blocks_in blocks.now) }
-    requires ac { head.now.depth_ac ≡ depth_ac_of (blocks_in blocks.now) }
-    requires marks { marks.old ≡ map pos (block_depths (blocks_in blocks.now)) }
-    ensures puts { Writes O.sink result out.old out.new (coded_bits tables.now.book head.now (blocks_in blocks.now)) }
+    requires count { length blocks.old ≡ 64 * head.now.blocks }
+    requires dc { head.now.depth_dc ≡ depth_dc_of (blocks_in blocks.old) }
+    requires ac { head.now.depth_ac ≡ depth_ac_of (blocks_in blocks.old) }
+    requires marks { marks.old ≡ map pos (block_depths (blocks_in blocks.old)) }
+    ensures puts { Writes O.sink result out.old out.new (coded_bits tables.now.book head.now (blocks_in blocks.old)) }
     ensures ten { length head.now.image.weights.shifts ≡ 10 }
     ensures depths { depths_of marks.new ≡ depths_of marks.old }
+    ensures long { length blocks.new ≡ length blocks.old }
 {
     let plan = plan_of(head);
     write_head(out, head)?;
@@ -178,7 +184,7 @@ fn put_items<O: OctetOut>(
     out: &mut BitOut<O>,
     head: &SegmentHead,
     plan: &DcPlan,
-    blocks: &[i32],
+    blocks: &mut [i32],
     marks: &mut [i32],
     tables: &CodeTables,
 ) -> Result<(), PutFault>
@@ -187,12 +193,13 @@ fn put_items<O: OctetOut>(
     requires plan_dc { plan.now.depth_dc ≡ head.now.depth_dc }
     requires plan_ac { plan.now.depth_ac ≡ head.now.depth_ac }
     requires plan_shift { plan.now.shift ≡ dc_shift head.now }
-    requires count { length blocks.now ≡ 64 * head.now.blocks }
-    requires dc { head.now.depth_dc ≡ depth_dc_of (blocks_in blocks.now) }
-    requires ac { head.now.depth_ac ≡ depth_ac_of (blocks_in blocks.now) }
-    requires marks { marks.old ≡ map pos (block_depths (blocks_in blocks.now)) }
-    ensures encodes { EncodesItems O.sink tables.now.book head.now (blocks_in blocks.now) result (stand O.sink out.old) (stand O.sink out.new) }
+    requires count { length blocks.old ≡ 64 * head.now.blocks }
+    requires dc { head.now.depth_dc ≡ depth_dc_of (blocks_in blocks.old) }
+    requires ac { head.now.depth_ac ≡ depth_ac_of (blocks_in blocks.old) }
+    requires marks { marks.old ≡ map pos (block_depths (blocks_in blocks.old)) }
+    ensures encodes { EncodesItems O.sink tables.now.book head.now (blocks_in blocks.old) result (stand O.sink out.old) (stand O.sink out.new) }
     ensures depths { depths_of marks.new ≡ depths_of marks.old }
+    ensures long { length blocks.new ≡ length blocks.old }
 {
     put_dc(out, blocks, plan, select_of(head.best_dc))?;
     put_rest(out, head, blocks, marks, tables)
@@ -202,17 +209,19 @@ fn put_items<O: OctetOut>(
 fn put_rest<O: OctetOut>(
     out: &mut BitOut<O>,
     head: &SegmentHead,
-    blocks: &[i32],
+    blocks: &mut [i32],
     marks: &mut [i32],
     tables: &CodeTables,
 ) -> Result<(), PutFault>
     requires fits { IsHead head.now }
     requires open { IsReady O.sink out.old }
-    requires count { length blocks.now ≡ 64 * head.now.blocks }
-    requires ac { head.now.depth_ac ≡ depth_ac_of (blocks_in blocks.now) }
-    requires marks { marks.old ≡ map pos (block_depths (blocks_in blocks.now)) }
-    ensures puts { Writes O.sink result out.old out.new (text (coded_rest tables.now.book head.now (blocks_in blocks.now))) }
+    requires count { length blocks.old ≡ 64 * head.now.blocks }
+    requires dc { head.now.depth_dc ≡ depth_dc_of (blocks_in blocks.old) }
+    requires ac { head.now.depth_ac ≡ depth_ac_of (blocks_in blocks.old) }
+    requires marks { marks.old ≡ map pos (block_depths (blocks_in blocks.old)) }
+    ensures puts { Writes O.sink result out.old out.new (text (coded_rest tables.now.book head.now (blocks_in blocks.old))) }
     ensures depths { depths_of marks.new ≡ depths_of marks.old }
+    ensures long { length blocks.new ≡ length blocks.old }
 {
     if head.stop.dc {
         return Ok(());

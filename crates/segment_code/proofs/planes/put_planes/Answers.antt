@@ -1,41 +1,70 @@
-use Rattle.std.proofs.Common.{◌≡◌, ◌<◌, ◌∙◌, arith}
+use Rattle.std.proofs.Common.{◌≡◌, ◌<◌, ◌-◌, ◌+◌, ◌∙◌, ap, sym, arith}
 use Rattle.std.proofs.lemmas.Result.{err_from_is_err_and}
 use Rattle.std.proofs.lemmas.Grind.{common_steps}
 use Rattle.wave_defs.specs.Held.{blocks_in}
-use Rattle.bit_pipe.proofs.Putting.{open_later}
-use Rattle.plane_coder.proofs.Sending.{none_put, more_put, put_ended, put_whole}
-use Rattle.segment_code.specs.Parts.{coded_plane}
+use Rattle.bit_pipe.proofs.Putting.{open_later, puts_whole}
+use Rattle.plane_coder.proofs.Sending.{none_put, more_put, put_ended}
+use Rattle.segment_defs.specs.Depths.{block_depths}
+use Rattle.segment_code.specs.Parts.{coded_plane, coded_planes}
+use Rattle.segment_code.proofs.PlaneParts.{planes_ended, no_planes}
+use Rattle.segment_code.proofs.NumberSizes.{all_below, ac_small}
 use Rattle.segment_code.proofs.planes.put_planes.Goals as goal
+
+pub returns-then-head-clause-puts : goal.returns-then-head-clause-puts
+returns-then-head-clause-puts g c = no_planes g.O.OctetOut.sink _ c.args.tables.now.book c.args.head.now (blocks_in c.args.blocks.now) c.requires.«open» c.if-head.true
+
+pub slice_planes-requires-clause-small : goal.slice_planes-requires-clause-small
+slice_planes-requires-clause-small g c = rw c.max.ensures (all_below c.args.blocks.now _ c.requires.count c.args.head.now.depth_dc c.args.head.now.depth_ac c.requires.dc c.requires.ac)
+
+pub slice_planes-requires-clause-small_ac : goal.slice_planes-requires-clause-small_ac
+slice_planes-requires-clause-small_ac g c = ac_small c.args.blocks.now _ c.requires.count c.args.head.now.depth_ac c.requires.fits.depth_ac c.requires.ac
 
 pub loop-n-init : goal.loop-n-init
 loop-n-init g c = grind (arith, common_steps, none_put)
 
-pub put_nth_plane-requires-clause-open : goal.put_nth_plane-requires-clause-open
-put_nth_plane-requires-clause-open g c = c.loop-n.invariant.is_open
-
 pub put_nth_plane-requires-clause-depths : goal.put_nth_plane-requires-clause-depths
-put_nth_plane-requires-clause-depths g c = c.loop-n.invariant.depths ∙ c.requires.depths
+put_nth_plane-requires-clause-depths g c = c.loop-n.invariant.depths ∙ c.requires.depths ∙ ap (λ b. block_depths (blocks_in b)) (sym c.loop-n.invariant.numbers)
 
 pub loop-n-preserved : goal.loop-n-preserved
-loop-n-preserved g c = grind (arith, common_steps, more_put, open_later)
+loop-n-preserved g c =
+    let i = c.loop-n.invariant in
+    let p = c.in_ok-put_nth_plane.ensures in
+    let puts = rw (i.book, i.numbers) at p.puts in
+    record {
+      so_far = more_put (coded_plane c.args.tables.now.book c.args.head.now (blocks_in c.args.blocks.now)) c.loop-n.n i.so_far puts.ends;
+      is_open = open_later i.is_open puts.ends;
+      depths = p.depths ∙ i.depths;
+      book = p.book ∙ i.book;
+      long = p.long ∙ i.long;
+      numbers = p.numbers ∙ i.numbers;
+      sliced = p.sliced;
+      above = p.above;
+    }
 
 pub returns-in_err-put_nth_plane : goal.returns-in_err-put_nth_plane
 returns-in_err-put_nth_plane g c =
     let e = err_from_is_err_and c.from_residual.result c.from_residual.ensures.1 in
     let i = c.loop-n.invariant in
     let p = c.in_err-put_nth_plane.ensures in
-    let puts = rw i.book at p.puts in
+    let puts = rw (i.book, i.numbers) at p.puts in
     let below : c.loop-n.n < c.args.head.now.depth_ac = omega (arith, c.loop-n-test.true) in
     rw (e.1, e.2) (record {
       puts = (put_ended (coded_plane c.args.tables.now.book c.args.head.now (blocks_in c.args.blocks.now)) c.loop-n.n c.args.head.now.depth_ac below i.so_far puts);
       depths = p.depths ∙ i.depths;
+      long = p.long ∙ i.long;
     })
 
 pub returns : goal.returns
 returns g c =
     let i = c.loop-n.invariant in
-    let all : c.loop-n.n ≡ c.args.head.now.depth_ac = omega (arith, c.loop-n-test.false, c.loop-n.auto.n-end) in
+    let h = c.args.head.now in
+    let blocks = blocks_in c.args.blocks.now in
+    let sent : c.loop-n.n ≡ h.depth_ac - h.stop.plane = omega (arith, c.loop-n-test.false, c.loop-n.auto.n-end) in
+    let rest : c.loop-n.n + h.stop.plane ≡ h.depth_ac = omega (arith, sent, c.if-head.false) in
+    let ended : coded_planes c.args.tables.now.book h blocks h.depth_ac ≡ coded_planes c.args.tables.now.book h blocks c.loop-n.n =
+    ap (coded_planes c.args.tables.now.book h blocks) (sym rest) ∙ planes_ended c.args.tables.now.book h blocks c.loop-n.n h.stop.plane (omega (arith, rest)) (omega (arith, rest)) in
     record {
-      puts = (put_whole (coded_plane c.args.tables.now.book c.args.head.now (blocks_in c.args.blocks.now)) c.loop-n.n c.args.head.now.depth_ac all i.so_far);
+      puts = rw ended (puts_whole i.so_far);
       depths = i.depths;
+      long = i.long;
     }

@@ -1,39 +1,24 @@
-use Rattle.std.proofs.Common.{◌≡◌, ◌+◌, arith, refl, ◌∙◌}
-use Rattle.std.proofs.lemmas.Result.{err_from_is_err_and}
-use Rattle.std.proofs.lemmas.Bool.Decides.{nat_tests}
-use Rattle.std.proofs.lemmas.Grind.{common_steps}
+use Rattle.std.proofs.Common.{sym, subst, arith}
 use Rattle.bit_pipe.specs.Coming.{coming}
 use Rattle.plane_defs.specs.Marks.{depths_of}
-use Rattle.segment_defs.specs.declared.head.SegmentHead.{SegmentHead}
-use Rattle.segment_defs.specs.SegmentItems.{stages_sent}
-use Rattle.segment_code.proofs.PlaneStates.{none_sent, takes_stop, in_above}
-use Rattle.segment_code.proofs.NoneAbove.{none_significant}
+use Rattle.block_masks.proofs.Marking.{length-depths_of}
+use Rattle.segment_code.specs.TakenPlanes.{HaveDcs, TakesPlanes}
+use Rattle.segment_code.proofs.PlaneStates.{none_sent}
 use Rattle.segment_code.proofs.planes_in.take_planes.Goals as goal
-
-at_stop : (head : SegmentHead) → stages_sent head head.stop.plane ≡ head.stop.stage + 1 + 1
-at_stop head = let e : stages_sent head head.stop.plane ≡ head.stop.stage + 2 = grind (arith, nat_tests) in e ∙ omega arith
 
 pub returns-then-head-clause-takes : goal.returns-then-head-clause-takes
 returns-then-head-clause-takes g c = none_sent g.I.OctetIn.source c.args.tables.now.book c.args.head.now (depths_of c.args.marks.now) (coming c.args.input.now) c.args.blocks.now c.requires.open c.requires.dcs (omega arith)
 
-pub returns-in_err-take_whole_planes-clause-takes : goal.returns-in_err-take_whole_planes-clause-takes
-returns-in_err-take_whole_planes-clause-takes g c = grind (arith, common_steps, err_from_is_err_and)
+pub slice_numbers-requires-clause-no_acs : goal.slice_numbers-requires-clause-no_acs
+slice_numbers-requires-clause-no_acs g c = λ r p known ac. (c.requires.dcs.at r (omega (arith, known, c.requires.count, length-depths_of c.args.marks.now))).acs p ac
 
-pub returns-in_default-clause-takes : goal.returns-in_default-clause-takes
-returns-in_default-clause-takes g c = let t = rw c.in_default.is at c.in_ok-take_whole_planes.ensures.takes in t.ends
+pub take_sliced-read-requires-clause-dcs : goal.take_sliced-read-requires-clause-dcs
+take_sliced-read-requires-clause-dcs g c = subst (HaveDcs c.args.head.now (depths_of c.args.marks.now)) (sym c.slice_numbers.ensures.numbers) c.requires.dcs
 
-pub take_stages_sent-requires-clause-open : goal.take_stages_sent-requires-clause-open
-take_stages_sent-requires-clause-open g c = let t = rw c.in-Whole.is at c.in_ok-take_whole_planes.ensures.takes in in_above c.requires.open t.ends
+pub take_sliced-read-requires-clause-ready : goal.take_sliced-read-requires-clause-ready
+take_sliced-read-requires-clause-ready g c = c.slice_numbers.ensures.ready c.args.head.now.depth_ac
 
 pub returns-clause-takes : goal.returns-clause-takes
 returns-clause-takes g c =
-    let head = c.args.head.now in
-    let t = rw c.in-Whole.is at c.in_ok-take_whole_planes.ensures.takes in
-    let p = rw c.in_ok-take_whole_planes.ensures.depths at c.take_stages_sent.ensures.takes in
-    takes_stop head c.requires.goes_on (depths_of c.args.marks.now) head.stop.plane (head.stop.stage + 1 + 1) (omega arith) (omega arith) (at_stop head) t.ends p refl c.requires.dcs.deep
-
-pub take_whole_planes-requires-clause-above : goal.take_whole_planes-requires-clause-above
-take_whole_planes-requires-clause-above g c = none_significant c.args.head.now c.args.marks.now c.args.blocks.now c.requires.count c.requires.dcs
-
-pub take_stages_sent-requires-clause-above : goal.take_stages_sent-requires-clause-above
-take_stages_sent-requires-clause-above g c = let a = rw c.in-Whole.is at c.in_ok-take_whole_planes.ensures.above in a refl
+    let t = rw c.slice_numbers.ensures.numbers at c.take_sliced-read.ensures.takes in
+    subst (λ b. TakesPlanes g.I.OctetIn.source c.args.tables.now.book c.args.head.now (depths_of c.args.marks.now) c.take_sliced-read.result (coming c.args.input.now) (coming c.take_sliced-read.new.input) c.args.blocks.now b) (sym c.join_numbers.ensures) t
