@@ -15,6 +15,7 @@ use Rattle.stream_defs.proofs.HeightPictures.{placed_octets}
 use Rattle.picture_rows.specs.Fronts.{rows_of}
 use Rattle.picture_rows.proofs.RowsOut.{all_rows as rows_all}
 use Rattle.bare_stream.specs.SegmentsRead.{open_geometry, segments_in, block_rows_in, open_rows, shape_with}
+use Rattle.stream_defs.proofs.Equations.{number_at-is}
 
 -- ---- before the last segment
 
@@ -62,5 +63,4 @@ module _ (g : Geometry) (wide : 17 ≤ g.width) (numbers : ℕ → ℕ → ℤ) 
 -- ---- the numbers of blocks
 
 pub number_is : (g : Geometry) (w : List (List (List ℤ))) (block i : ℕ) → number_at g (segments_in w) block i ≡ get_or (get_or (get_or w (block / g.segment) []) (block % g.segment) []) i (pos 0)
-unfolding number_at
-number_is g w block i = ap (λ x. get_or (get_or x (block % g.segment) []) i (pos 0)) (unwrap_or-slice_get w (block / g.segment) [])
+number_is g w block i = number_at-is g (segments_in w) block i ∙ ap (λ x. get_or (get_or x (block % g.segment) []) i (pos 0)) (unwrap_or-slice_get w (block / g.segment) [])

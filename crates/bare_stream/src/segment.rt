@@ -30,7 +30,7 @@ fn write_segment<X: Port>(
     port: &mut X,
     setting: &Setting,
     place: &SegmentPlace,
-    blocks: &[i32],
+    blocks: &mut [i32],
     marks: &mut [i32],
 ) -> Result<(SegmentHead, u64), Failed>
     requires bare { IsBare setting.now }
@@ -39,9 +39,9 @@ fn write_segment<X: Port>(
     requires before { IfSome place.now.writer.before (λ h. IsHead h) }
     requires some { 1 ≤ length marks.old }
     requires most { length marks.old ≤ 1048575 }
-    requires blocks { length blocks.now ≡ 64 * length marks.old }
-    requires bounded { AreBounded blocks.now }
-    ensures { WritesSegment result setting.now place.now.index place.now.writer.before (blocks_in blocks.now) (X.outside port.old) (X.outside port.new) }
+    requires blocks { length blocks.old ≡ 64 * length marks.old }
+    requires bounded { AreBounded blocks.old }
+    ensures { WritesSegment result setting.now place.now.index place.now.writer.before (blocks_in blocks.old) (X.outside port.old) (X.outside port.new) }
 {
     let (depth_dc, depth_ac) = segment_depths(blocks, marks);
     let plan = Plan::new(setting, setting.rows);
@@ -64,7 +64,7 @@ fn write_front<X: Port>(
     port: &mut X,
     setting: &Setting,
     place: &SegmentPlace,
-    blocks: &[i32],
+    blocks: &mut [i32],
     marks: &mut [i32],
 ) -> Result<(SegmentHead, u64), Failed>
     requires bare { IsBare setting.now }
@@ -73,17 +73,17 @@ fn write_front<X: Port>(
     requires before { IfSome place.now.writer.before (λ h. IsHead h) }
     requires some { 1 ≤ place.now.count }
     requires most { place.now.count ≤ 1048575 }
-    requires blocks { 64 * place.now.count ≤ length blocks.now }
+    requires blocks { 64 * place.now.count ≤ length blocks.old }
     requires marks { place.now.count ≤ length marks.old }
-    requires small { AreSmall place.now.count blocks.now }
-    ensures { WritesSegment result setting.now place.now.index place.now.writer.before (blocks_in (take (64 * place.now.count) blocks.now)) (X.outside port.old) (X.outside port.new) }
+    requires small { AreSmall place.now.count blocks.old }
+    ensures { WritesSegment result setting.now place.now.index place.now.writer.before (blocks_in (take (64 * place.now.count) blocks.old)) (X.outside port.old) (X.outside port.new) }
 {
     let count = place.count;
     write_segment(
         port,
         setting,
         place,
-        &blocks[..64 * count],
+        &mut blocks[..64 * count],
         &mut marks[..count],
     )
 }
@@ -112,7 +112,7 @@ pub fn write_present<X: Port>(
             items: &work.writer,
         },
     };
-    let Ok((head, octets)) = write_front(port, setting, &place, &work.blocks, &mut work.marks)
+    let Ok((head, octets)) = write_front(port, setting, &place, &mut work.blocks, &mut work.marks)
     else {
         return Err(Failed);
     };

@@ -17,18 +17,18 @@ pub fn write_text<X: Port>(
     port: &mut X,
     writer: &BareWriter,
     head: &SegmentHead,
-    blocks: &[i32],
+    blocks: &mut [i32],
     marks: &mut [i32],
 ) -> Result<u64, Failed>
     requires before { IfSome writer.now.before (λ h. IsHead h) }
     requires fits { IsHead head.now }
-    requires count { length blocks.now ≡ 64 * head.now.blocks }
-    requires dc { head.now.depth_dc ≡ depth_dc_of (blocks_in blocks.now) }
-    requires ac { head.now.depth_ac ≡ depth_ac_of (blocks_in blocks.now) }
-    requires marks { marks.old ≡ map pos (block_depths (blocks_in blocks.now)) }
+    requires count { length blocks.old ≡ 64 * head.now.blocks }
+    requires dc { head.now.depth_dc ≡ depth_dc_of (blocks_in blocks.old) }
+    requires ac { head.now.depth_ac ≡ depth_ac_of (blocks_in blocks.old) }
+    requires marks { marks.old ≡ map pos (block_depths (blocks_in blocks.old)) }
     ensures { MatchResult result
-        (λ octets. TextOut (X.outside port.old) (X.outside port.new) (bare_text writer.now.items.now.tables.book writer.now.before head.now (blocks_in blocks.now)) octets)
-        (λ _. TextCut (X.outside port.old) (X.outside port.new) (bare_text writer.now.items.now.tables.book writer.now.before head.now (blocks_in blocks.now))) }
+        (λ octets. TextOut (X.outside port.old) (X.outside port.new) (bare_text writer.now.items.now.tables.book writer.now.before head.now (blocks_in blocks.old)) octets)
+        (λ _. TextCut (X.outside port.old) (X.outside port.new) (bare_text writer.now.items.now.tables.book writer.now.before head.now (blocks_in blocks.old))) }
 {
     let mut sink = TextSink::new(port);
     let Ok(octets) = writer.encode_text(&mut sink, head, blocks, marks) else {

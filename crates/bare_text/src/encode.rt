@@ -25,7 +25,7 @@ pub struct BareWriter<'a> {
 impl BareWriter<'_> {
     /// Writes the text of a segment as it is in a bare stream, and returns its length in octets (docs/formats.md, "Bare texts"). Its head
     /// carries the parts that differ from those in force, which are those of the head before; the first head carries all. The limit counts
-    /// this head. Sink, blocks and `marks` are as for `SegmentWriter::encode`.
+    /// this head. Sink, blocks and `marks` are as for `SegmentWriter::encode`, which leaves no meaning in the blocks.
     ///
     /// # Errors
     ///
@@ -34,19 +34,19 @@ impl BareWriter<'_> {
         &self,
         out: &mut O,
         head: &SegmentHead,
-        blocks: &[i32],
+        blocks: &mut [i32],
         marks: &mut [i32],
     ) -> Result<u64, Failed>
         requires before { IfSome self.now.before (λ h. IsHead h) }
         requires fits { IsHead head.now }
-        requires count { length blocks.now ≡ 64 * head.now.blocks }
-        requires dc { head.now.depth_dc ≡ depth_dc_of (blocks_in blocks.now) }
-        requires ac { head.now.depth_ac ≡ depth_ac_of (blocks_in blocks.now) }
-        requires marks { marks.old ≡ map pos (block_depths (blocks_in blocks.now)) }
+        requires count { length blocks.old ≡ 64 * head.now.blocks }
+        requires dc { head.now.depth_dc ≡ depth_dc_of (blocks_in blocks.old) }
+        requires ac { head.now.depth_ac ≡ depth_ac_of (blocks_in blocks.old) }
+        requires marks { marks.old ≡ map pos (block_depths (blocks_in blocks.old)) }
         requires none { (O.sink.counts out.old).given ≡ 0 }
         ensures text { MatchResult result
-            (λ octets. GivesText O.sink out.old out.new (bare_text self.now.items.now.tables.book self.now.before head.now (blocks_in blocks.now)) octets)
-            (λ _. BreaksWithin O.sink out.old out.new (bare_text self.now.items.now.tables.book self.now.before head.now (blocks_in blocks.now))) }
+            (λ octets. GivesText O.sink out.old out.new (bare_text self.now.items.now.tables.book self.now.before head.now (blocks_in blocks.old)) octets)
+            (λ _. BreaksWithin O.sink out.old out.new (bare_text self.now.items.now.tables.book self.now.before head.now (blocks_in blocks.old))) }
         ensures depths { depths_of marks.new ≡ depths_of marks.old }
     {
         let mut bits = BitOut::new(out, limit_of(*head), 0);
@@ -68,20 +68,20 @@ fn put_fitting<O: OctetOut>(
     out: &mut BitOut<O>,
     writer: &BareWriter,
     head: &SegmentHead,
-    blocks: &[i32],
+    blocks: &mut [i32],
     marks: &mut [i32],
 ) -> Result<(), Failed>
     requires before { IfSome writer.now.before (λ h. IsHead h) }
     requires fits { IsHead head.now }
     requires open { IsReady O.sink out.old }
     requires room { 8 * head_length head.now ≤ (stand O.sink out.old).room }
-    requires count { length blocks.now ≡ 64 * head.now.blocks }
-    requires dc { head.now.depth_dc ≡ depth_dc_of (blocks_in blocks.now) }
-    requires ac { head.now.depth_ac ≡ depth_ac_of (blocks_in blocks.now) }
-    requires marks { marks.old ≡ map pos (block_depths (blocks_in blocks.now)) }
+    requires count { length blocks.old ≡ 64 * head.now.blocks }
+    requires dc { head.now.depth_dc ≡ depth_dc_of (blocks_in blocks.old) }
+    requires ac { head.now.depth_ac ≡ depth_ac_of (blocks_in blocks.old) }
+    requires marks { marks.old ≡ map pos (block_depths (blocks_in blocks.old)) }
     ensures puts { MatchResult result
-        (λ _. Adds O.sink (stand O.sink out.old) (stand O.sink out.new) (take (stand O.sink out.old).room (bare_bits writer.now.items.now.tables.book writer.now.before head.now (blocks_in blocks.now))))
-        (λ _. Breaks O.sink (stand O.sink out.old) (stand O.sink out.new) (take (stand O.sink out.old).room (bare_bits writer.now.items.now.tables.book writer.now.before head.now (blocks_in blocks.now)))) }
+        (λ _. Adds O.sink (stand O.sink out.old) (stand O.sink out.new) (take (stand O.sink out.old).room (bare_bits writer.now.items.now.tables.book writer.now.before head.now (blocks_in blocks.old))))
+        (λ _. Breaks O.sink (stand O.sink out.old) (stand O.sink out.new) (take (stand O.sink out.old).room (bare_bits writer.now.items.now.tables.book writer.now.before head.now (blocks_in blocks.old)))) }
     ensures depths { depths_of marks.new ≡ depths_of marks.old }
 {
     match put_text(out, writer, head, blocks, marks) {
@@ -96,18 +96,18 @@ fn put_text<O: OctetOut>(
     out: &mut BitOut<O>,
     writer: &BareWriter,
     head: &SegmentHead,
-    blocks: &[i32],
+    blocks: &mut [i32],
     marks: &mut [i32],
 ) -> Result<(), PutFault>
     requires before { IfSome writer.now.before (λ h. IsHead h) }
     requires fits { IsHead head.now }
     requires open { IsReady O.sink out.old }
     requires room { 8 * head_length head.now ≤ (stand O.sink out.old).room }
-    requires count { length blocks.now ≡ 64 * head.now.blocks }
-    requires dc { head.now.depth_dc ≡ depth_dc_of (blocks_in blocks.now) }
-    requires ac { head.now.depth_ac ≡ depth_ac_of (blocks_in blocks.now) }
-    requires marks { marks.old ≡ map pos (block_depths (blocks_in blocks.now)) }
-    ensures puts { Writes O.sink result out.old out.new (bare_bits writer.now.items.now.tables.book writer.now.before head.now (blocks_in blocks.now)) }
+    requires count { length blocks.old ≡ 64 * head.now.blocks }
+    requires dc { head.now.depth_dc ≡ depth_dc_of (blocks_in blocks.old) }
+    requires ac { head.now.depth_ac ≡ depth_ac_of (blocks_in blocks.old) }
+    requires marks { marks.old ≡ map pos (block_depths (blocks_in blocks.old)) }
+    ensures puts { Writes O.sink result out.old out.new (bare_bits writer.now.items.now.tables.book writer.now.before head.now (blocks_in blocks.old)) }
     ensures depths { depths_of marks.new ≡ depths_of marks.old }
 {
     put_bare_head(out, writer.before, head)?;

@@ -100,13 +100,13 @@ fn encode(
     rt: &impl Abort,
     before: Option<SegmentHead>,
     head: &SegmentHead,
-    blocks: &[i32],
+    blocks: &mut [i32],
     marks: &mut [i32],
     into: &mut [u8],
 ) -> u64
     requires before { IfSome before (λ h. IsHead h) }
     requires fits { IsHead head.now }
-    requires count { length blocks.now ≡ 64 * length marks.old }
+    requires count { length blocks.old ≡ 64 * length marks.old }
     requires some { 1 ≤ length marks.old }
     requires most { length marks.old ≤ 16 }
 {
@@ -154,7 +154,7 @@ fn expect_text(
         rt,
         before,
         &read.head,
-        &[0; 1024],
+        &mut [0; 1024],
         &mut [0; 16],
         &mut octets,
     );

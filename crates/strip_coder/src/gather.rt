@@ -52,7 +52,7 @@ fn write_front<X: Port>(
     plan: &Plan,
     at: &ImageAt,
     count: usize,
-    blocks: &[i32],
+    blocks: &mut [i32],
     marks: &mut [i32],
     packets: &mut Packetiser,
     writer: &SegmentWriter,
@@ -63,22 +63,22 @@ fn write_front<X: Port>(
     requires share { KeepsShare (whole plan.now) at.now }
     requires some { 1 ≤ count }
     requires most { count ≤ 1048575 }
-    requires blocks { 64 * count ≤ length blocks.now }
+    requires blocks { 64 * count ≤ length blocks.old }
     requires marks { count ≤ length marks.old }
-    requires small { AreSmall count blocks.now }
+    requires small { AreSmall count blocks.old }
     requires packet { packets.old.packet ≡ plan.now.setting.packet }
     requires idle { packets.old.stage ≡ Idle }
     requires texts { packets.old.texts < 2 ^ 28 }
     ensures { MatchResult result
-        (λ octets. TextOut (text_of plan.now at.now.index) (X.outside port.old) (X.outside port.new) packets.old packets.new (text_for plan.now at.now.index at.now.used (blocks_in (take (64 * count) blocks.now)))
-        × (octets ≡ length (text_for plan.now at.now.index at.now.used (blocks_in (take (64 * count) blocks.now)))))
-        (λ _. TextCut (text_of plan.now at.now.index) (X.outside port.old) (X.outside port.new) packets.old packets.new (text_for plan.now at.now.index at.now.used (blocks_in (take (64 * count) blocks.now)))) }
+        (λ octets. TextOut (text_of plan.now at.now.index) (X.outside port.old) (X.outside port.new) packets.old packets.new (text_for plan.now at.now.index at.now.used (blocks_in (take (64 * count) blocks.old)))
+        × (octets ≡ length (text_for plan.now at.now.index at.now.used (blocks_in (take (64 * count) blocks.old)))))
+        (λ _. TextCut (text_of plan.now at.now.index) (X.outside port.old) (X.outside port.new) packets.old packets.new (text_for plan.now at.now.index at.now.used (blocks_in (take (64 * count) blocks.old)))) }
 {
     write_segment(
         port,
         plan,
         at,
-        &blocks[..64 * count],
+        &mut blocks[..64 * count],
         &mut marks[..count],
         packets,
         writer,
@@ -97,7 +97,7 @@ fn write_present<X: Port>(port: &mut X, plan: &Plan, work: &mut Work) -> Result<
         plan,
         &work.at,
         count,
-        &work.blocks,
+        &mut work.blocks,
         &mut work.marks,
         &mut work.packets,
         &work.writer,

@@ -23,7 +23,7 @@ pub fn write_segment<X: Port>(
     port: &mut X,
     plan: &Plan,
     at: &ImageAt,
-    blocks: &[i32],
+    blocks: &mut [i32],
     marks: &mut [i32],
     packets: &mut Packetiser,
     writer: &SegmentWriter,
@@ -34,15 +34,15 @@ pub fn write_segment<X: Port>(
     requires share { KeepsShare (whole plan.now) at.now }
     requires some { 1 ≤ length marks.old }
     requires most { length marks.old ≤ 1048575 }
-    requires blocks { length blocks.now ≡ 64 * length marks.old }
-    requires bounded { AreBounded blocks.now }
+    requires blocks { length blocks.old ≡ 64 * length marks.old }
+    requires bounded { AreBounded blocks.old }
     requires packet { packets.old.packet ≡ plan.now.setting.packet }
     requires idle { packets.old.stage ≡ Idle }
     requires texts { packets.old.texts < 2 ^ 28 }
     ensures { MatchResult result
-        (λ octets. TextOut (text_of plan.now at.now.index) (X.outside port.old) (X.outside port.new) packets.old packets.new (text_for plan.now at.now.index at.now.used (blocks_in blocks.now))
-        × (octets ≡ length (text_for plan.now at.now.index at.now.used (blocks_in blocks.now))))
-        (λ _. TextCut (text_of plan.now at.now.index) (X.outside port.old) (X.outside port.new) packets.old packets.new (text_for plan.now at.now.index at.now.used (blocks_in blocks.now))) }
+        (λ octets. TextOut (text_of plan.now at.now.index) (X.outside port.old) (X.outside port.new) packets.old packets.new (text_for plan.now at.now.index at.now.used (blocks_in blocks.old))
+        × (octets ≡ length (text_for plan.now at.now.index at.now.used (blocks_in blocks.old))))
+        (λ _. TextCut (text_of plan.now at.now.index) (X.outside port.old) (X.outside port.new) packets.old packets.new (text_for plan.now at.now.index at.now.used (blocks_in blocks.old))) }
 {
     let (depth_dc, depth_ac) = segment_depths(blocks, marks);
     let limit = share(plan, at);

@@ -9,15 +9,15 @@ pub write_front-requires-clause-most : goal.write_front-requires-clause-most
 write_front-requires-clause-most g c = few_filled c.args.setting.now c.requires.bare c.args.column c.args.work.now c.requires.at c.requires.index
 
 pub write_front-requires-clause-blocks : goal.write_front-requires-clause-blocks
-write_front-requires-clause-blocks g c = rw c.deref.ensures.value (cells_fit c.args.setting.now c.requires.bare c.args.column c.args.work.now c.requires.at c.requires.index)
+write_front-requires-clause-blocks g c = rw c.deref_mut.ensures.value (cells_fit c.args.setting.now c.requires.bare c.args.column c.args.work.now c.requires.at c.requires.index)
 
 pub write_front-requires-clause-marks : goal.write_front-requires-clause-marks
-write_front-requires-clause-marks g c = rw c.deref_mut.ensures.value (marks_fit c.args.setting.now c.requires.bare c.args.column c.args.work.now c.requires.at c.requires.index)
+write_front-requires-clause-marks g c = rw c.deref_mut-2.ensures.value (marks_fit c.args.setting.now c.requires.bare c.args.column c.args.work.now c.requires.at c.requires.index)
 
 pub returns-in_default : goal.returns-in_default
 returns-in_default g c =
     present_cut c.args.setting.now c.requires.bare c.args.column c.args.work.now _ c.requires.at c.requires.index c.requires.full (record { strip = refl; row = refl; blocks = refl; marks = refl; writer = refl; room = refl }) refl
-    c.args.before (rw c.deref.ensures.value at c.in_default.ensures)
+    c.args.before (rw c.deref_mut.ensures.value at c.in_default.ensures)
 
 pub overflow_add-work : goal.overflow_add-work
 overflow_add-work g c = let few = index_few c.args.setting.now c.requires.bare c.args.column c.args.work.now c.requires.at c.requires.index in omega (arith, few)
@@ -32,4 +32,4 @@ overflow_add-work-2 g c =
 pub returns : goal.returns
 returns g c =
     present_out c.args.setting.now c.requires.bare c.args.column c.args.work.now _ c.requires.at c.requires.index c.requires.full (record { strip = refl; row = refl; blocks = refl; marks = refl; writer = refl; room = refl }) refl
-    refl refl refl c.in-Ok.octets c.in-Ok.ensures.text.few refl c.args.before c.in-Ok.head (rw c.deref.ensures.value at c.in-Ok.ensures)
+    refl refl refl c.in-Ok.octets c.in-Ok.ensures.text.few refl c.args.before c.in-Ok.head (rw c.deref_mut.ensures.value at c.in-Ok.ensures)

@@ -10,10 +10,10 @@ pub write_front-requires-clause-most : goal.write_front-requires-clause-most
 write_front-requires-clause-most g c = few_filled c.args.plan.now c.args.work.now c.requires.in_range c.requires.full
 
 pub write_front-requires-clause-blocks : goal.write_front-requires-clause-blocks
-write_front-requires-clause-blocks g c = rw c.deref.ensures.value (cells_fit c.args.plan.now c.args.work.now c.requires.in_range c.requires.full)
+write_front-requires-clause-blocks g c = rw c.deref_mut.ensures.value (cells_fit c.args.plan.now c.args.work.now c.requires.in_range c.requires.full)
 
 pub write_front-requires-clause-marks : goal.write_front-requires-clause-marks
-write_front-requires-clause-marks g c = rw c.deref_mut.ensures.value (marks_fit c.args.plan.now c.args.work.now c.requires.in_range c.requires.full)
+write_front-requires-clause-marks g c = rw c.deref_mut-2.ensures.value (marks_fit c.args.plan.now c.args.work.now c.requires.in_range c.requires.full)
 
 pub write_front-requires-clause-texts : goal.write_front-requires-clause-texts
 write_front-requires-clause-texts g c =
@@ -25,7 +25,7 @@ pub returns-in_default : goal.returns-in_default
 returns-in_default g c =
     let s = c.args.plan.now in
     let w = c.args.work.now in
-    present_cut s w _ c.requires.in_range c.requires.full (record { strip = refl; row = refl; blocks = refl; marks = refl; writer = refl; room = refl }) (rw c.deref.ensures.value at c.in_default.ensures)
+    present_cut s w _ c.requires.in_range c.requires.full (record { strip = refl; row = refl; blocks = refl; marks = refl; writer = refl; room = refl }) (rw c.deref_mut.ensures.value at c.in_default.ensures)
 
 pub overflow_add-work : goal.overflow_add-work
 overflow_add-work g c =
@@ -36,4 +36,4 @@ pub returns : goal.returns
 returns g c =
     let s = c.args.plan.now in
     let w = c.args.work.now in
-    present_out s w _ c.requires.in_range c.requires.full (record { strip = refl; row = refl; blocks = refl; marks = refl; writer = refl; room = refl }) c.in-Ok.octets refl refl refl c.saturating_add-work.ensures (rw c.deref.ensures.value at c.in-Ok.ensures)
+    present_out s w _ c.requires.in_range c.requires.full (record { strip = refl; row = refl; blocks = refl; marks = refl; writer = refl; room = refl }) c.in-Ok.octets refl refl refl c.saturating_add-work.ensures (rw c.deref_mut.ensures.value at c.in-Ok.ensures)
