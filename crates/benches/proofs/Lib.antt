@@ -1,3 +1,2 @@
 mod FlatRow
 mod StripBlocks
-mod SettledBlocks

@@ -4,9 +4,9 @@
 #![tactic(auto)]
 
 mod bits;
+mod dc;
 mod packets;
 mod pictures;
-mod planes;
 mod random;
 mod segments;
 mod texts;
@@ -28,7 +28,7 @@ const REFUSED: u8 = 2;
 const USAGE: &str = "\
 usage: benches bits [MIB]                    bits put and taken, and packets read
        benches transform [ROWS]              the transform and its inverse
-       benches planes [THOUSANDS]            DC part and bit planes of so many thousand blocks
+       benches dc [THOUSANDS]                DC part of so many thousand blocks
        benches segments [THOUSANDS]          segments of so many thousand blocks, both ways
        benches trials [TEXTS [SEED [tell]]]  changed texts of segments, and their answers
        benches all                           a little of each
@@ -39,7 +39,7 @@ fn measure(rt: &HostRuntime, subject: Subject) -> io::Result<bool> {
     match subject {
         Subject::Bits(mib) => bits::measure(rt, mib),
         Subject::Transform(rows) => transform::measure(rt, rows),
-        Subject::Planes(thousands) => planes::measure(rt, thousands),
+        Subject::Dc(thousands) => dc::measure(rt, thousands),
         Subject::Segments(thousands) => segments::measure(rt, thousands),
         Subject::Trials(wish) => trials::measure(rt, wish),
     }

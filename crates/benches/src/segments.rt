@@ -10,8 +10,8 @@ use std::io;
 use word_codes::profile_book;
 
 // Puts the texts of all segments, and the number of octets of each. Returns the number of all octets.
-fn put_texts(into: &mut [u8], lengths: &mut [u64], blocks: &[i32], marks: &mut [i32]) -> u64
-    requires count { length blocks.now ≡ 64 * length marks.old }
+fn put_texts(into: &mut [u8], lengths: &mut [u64], blocks: &mut [i32], marks: &mut [i32]) -> u64
+    requires count { length blocks.old ≡ 64 * length marks.old }
     requires segments { 64 * length lengths.old ≤ length marks.old }
     requires room { 4096 * length lengths.old ≤ length into.old }
 {
@@ -22,7 +22,7 @@ fn put_texts(into: &mut [u8], lengths: &mut [u64], blocks: &[i32], marks: &mut [
             &writer,
             &mut into[TEXT * s..TEXT * s + TEXT],
             &HeadFields::PLAIN,
-            &blocks[NUMBERS * s..NUMBERS * s + NUMBERS],
+            &mut blocks[NUMBERS * s..NUMBERS * s + NUMBERS],
             &mut marks[SEGMENT * s..SEGMENT * s + SEGMENT],
         );
         all = all.saturating_add(lengths[s]);
@@ -54,20 +54,21 @@ pub(crate) fn measure(rt: &HostRuntime, thousands: Option<u16>) -> io::Result<bo
     let segments = blocks_of(thousands) / SEGMENT;
     let count = SEGMENT * segments;
     let mut blocks = vec![in rt.alloc(); 0i32; BLOCK * count]?;
-    let mut read = vec![in rt.alloc(); 7i32; BLOCK * count]?;
+    let mut made = vec![in rt.alloc(); 0i32; BLOCK * count]?;
     let mut marks = vec![in rt.alloc(); 0i32; count]?;
     let mut octets = vec![in rt.alloc(); 0u8; TEXT * segments]?;
     let mut lengths = vec![in rt.alloc(); 0u64; segments]?;
     fill(&mut blocks, &mut marks);
+    made.copy_from_slice(&blocks);
 
     let watch = Watch::start(rt)?;
-    let given = put_texts(&mut octets, &mut lengths, &blocks, &mut marks);
-    watch.tell(rt, "SegmentWriter::encode", blocks.len(), "pixel")?;
+    let given = put_texts(&mut octets, &mut lengths, &mut blocks, &mut marks);
+    watch.tell(rt, "SegmentWriter::encode", made.len(), "pixel")?;
     eprintln!(rt; "texts of {given} octets")?;
 
     let watch = Watch::start(rt)?;
-    let taken = take_texts(&octets, &lengths, &mut read, &mut marks);
-    watch.tell(rt, "decode_segment", blocks.len(), "pixel")?;
+    let taken = take_texts(&octets, &lengths, &mut blocks, &mut marks);
+    watch.tell(rt, "decode_segment", made.len(), "pixel")?;
 
-    Ok(taken && read == blocks)
+    Ok(taken && blocks == made)
 }

@@ -58,15 +58,15 @@ fn head_octets(fields: &HeadFields, depths: (u8, u8), blocks: u32) -> [u8; 19] {
     octets
 }
 
-// Puts the text of a segment, and returns how many octets it has, or 0 if it has none.
+// Puts the text of a segment, and returns how many octets it has, or 0 if it has none. The numbers of the blocks have no meaning afterwards.
 pub(crate) fn put_text(
     writer: &SegmentWriter,
     into: &mut [u8],
     fields: &HeadFields,
-    blocks: &[i32],
+    blocks: &mut [i32],
     marks: &mut [i32],
 ) -> u64
-    requires count { length blocks.now ≡ 64 * length marks.old }
+    requires count { length blocks.old ≡ 64 * length marks.old }
     requires some { 1 ≤ length marks.old }
     requires most { length marks.old ≤ 64 }
 {

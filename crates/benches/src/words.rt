@@ -14,7 +14,7 @@ pub(crate) struct Trials {
 pub(crate) enum Subject {
     Bits(Option<u16>),
     Transform(Option<u16>),
-    Planes(Option<u16>),
+    Dc(Option<u16>),
     Segments(Option<u16>),
     Trials(Trials),
 }
@@ -39,7 +39,7 @@ const FEW_TRIALS: Trials = Trials {
 pub(crate) const LITTLE: [Subject; 5] = [
     Subject::Bits(None),
     Subject::Transform(None),
-    Subject::Planes(None),
+    Subject::Dc(None),
     Subject::Segments(None),
     Subject::Trials(FEW_TRIALS),
 ];
@@ -85,7 +85,7 @@ pub(crate) fn read_words(words: &[String]) -> Result<Wish, BadWords> {
     Ok(match subject.as_str() {
         "bits" => Wish::One(Subject::Bits(amount(more)?)),
         "transform" => Wish::One(Subject::Transform(amount(more)?)),
-        "planes" => Wish::One(Subject::Planes(amount(more)?)),
+        "dc" => Wish::One(Subject::Dc(amount(more)?)),
         "segments" => Wish::One(Subject::Segments(amount(more)?)),
         "trials" => Wish::One(Subject::Trials(read_trials(more)?)),
         "all" if more.is_empty() => Wish::LittleOfEach,

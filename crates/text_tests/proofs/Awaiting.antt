@@ -1,10 +1,11 @@
 -- The blocks of which the tests read a plane await it.
-use Rattle.std.proofs.Common.{◌≡◌, ℕ, zero, suc, ◌*◌, ◌^◌, ◌<◌, ◌≤◌, ℤ, pos, List, [], ◌∷◌, refl, sym, subst, ap, ◌∙◌, arith, get_or, replicate, unsigned_abs, pow_pos}
+use Rattle.std.proofs.Common.{◌≡◌, ℕ, zero, suc, ◌*◌, ◌%◌, ◌^◌, ◌<◌, ◌≤◌, ℤ, pos, List, [], ◌∷◌, refl, sym, subst, ap, ◌∙◌, arith, get_or, replicate, unsigned_abs, pow_pos}
 use Rattle.wave_defs.specs.Held.{block_at}
 use Rattle.plane_defs.specs.Sets.{magnitude, shift}
 use Rattle.plane_defs.specs.StepLaws.{IsAc}
 use Rattle.plane_defs.specs.Marks.{depth_of, depths_of}
 use Rattle.plane_reader.specs.Taken.{AwaitsPlane, AwaitPlane, IsCleared}
+use Rattle.plane_reader.specs.Above.{HasNoAcs}
 
 -- one block
 pub one_awaits : (weights : List ℕ) (plane q : ℕ) (mark : ℤ) (block : List ℤ) → block_at block 0 ≡ block → AwaitsPlane weights plane q (depth_of mark) block
@@ -37,6 +38,12 @@ zeros_await weights plane q depth low = record {
     cleared : (p : ℕ) → IsCleared plane (get_or (replicate 64 (pos 0)) p (pos 0))
     cleared p = record { part = 0; whole = none p ∙ omega arith }
 
+-- it has no AC numbers
+pub zeros_have_no_acs : HasNoAcs (replicate 64 (pos 0))
+zeros_have_no_acs r p known ac =
+    let first : r ≡ 0 = omega (arith, known) in
+    rw first (same 64 (pos 0) p)
+
 -- a block of two numbers and zeros
 abbrev pub pair : ℤ → ℤ → List ℤ
 pair x y = x ∷ y ∷ replicate 62 (pos 0)
@@ -67,3 +74,12 @@ pair_awaits x y four two = record {
     cleared zero ac = absurd (let first = ac.0 in omega (arith, first))
     cleared (suc zero) ac = record { part = 1; whole = omega (arith, two) }
     cleared (suc (suc i)) ac = record { part = 0; whole = further i ∙ omega arith }
+
+-- and their magnitudes have three bits
+pub pair_small : (x y : ℤ) → unsigned_abs x ≡ 4 → unsigned_abs y ≡ 2 → (i : ℕ) → magnitude (pair x y) i < 2 ^ 3
+pair_small x y four two zero = omega (arith, four)
+pair_small x y four two (suc zero) = omega (arith, two)
+pair_small x y four two (suc (suc i)) = (let n = ap unsigned_abs (same 62 (pos 0) i) in omega (arith, n))
+
+pub pair_small_ac : (x y : ℤ) → unsigned_abs x ≡ 4 → unsigned_abs y ≡ 2 → (i : ℕ) → (i % 64 ≡ 0 → ⊥) → magnitude (pair x y) i < 2 ^ 27
+pair_small_ac x y four two i other = (let small = pair_small x y four two i in omega (arith, small))

@@ -1,1 +1,2 @@
 mod Awaiting
+mod Ready

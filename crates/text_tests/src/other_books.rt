@@ -24,7 +24,7 @@ fn a_block_is_written_with_its_book(rt: HostRuntime) {
     let book = exchanged();
     assert_eq!(rt; check_book(&book), Ok(()));
     let head = read_head(&DIAGONAL).expect(&rt, "a head");
-    let blocks = diagonal();
+    let mut blocks = diagonal();
     let mut marks = [7];
     assert!(rt;
         blocks
@@ -39,7 +39,7 @@ fn a_block_is_written_with_its_book(rt: HostRuntime) {
     let count = encode_segment(
         &mut SliceOut::new(&mut octets),
         &head,
-        &blocks,
+        &mut blocks,
         &mut marks,
         &book,
     );

@@ -1,9 +1,23 @@
 // Planes of one block, calculated by hand.
+ghost use Rattle.std.specs.Prelude.{◌≡◌, ◌≤◌, length};
+ghost use Rattle.block_masks.specs.Slices.{numbers_in};
+ghost use Rattle.plane_coder.specs.Sliced.{AreSliced, AreAbove};
 
 use base_122::Weights;
 use bit_pipe::{BitOut, PutFault, SliceOut};
-use plane_coder::{PlanePlan, put_plane};
+use plane_coder::{PlanePlan, put_plane, slice_planes};
+use std::process::Abort;
 use word_codes::profile_book;
+
+// Puts the masks of a block in its place: plane `top - 1` can be put first. No magnitude has more than four bits.
+fn slice(rt: &impl Abort, block: &mut [i32; 64], top: u8)
+    requires top { top ≤ 4 }
+    ensures sliced { AreSliced block.new }
+    ensures above { AreAbove top block.new }
+{
+    assert!(rt; block.iter().all(|number| number.unsigned_abs() < 16));
+    slice_planes(block, 4, top);
+}
 
 #[test]
 fn one_plane_of_a_block(rt: HostRuntime) {
@@ -21,7 +35,8 @@ fn one_plane_of_a_block(rt: HostRuntime) {
         weights: Weights { shifts: [0; 10] },
         last: 4,
     };
-    let put = put_plane(&mut out, &block, &mut marks, &plan, &profile_book());
+    slice(&rt, &mut block, 1);
+    let put = put_plane(&mut out, &mut block, &mut marks, &plan, &profile_book());
     assert_eq!(rt; put, Ok(()));
     // DC 1; parents' types 00 as 0 1; flag 1; families' flags 100 as 00 01; children's types 0000 as 00 1;
     // grandchildren's flag 1; quads' flags 0100 as 001; types 0010 as 0001 and sign 0; refinement 1.
@@ -47,7 +62,8 @@ fn only_the_finest_diagonal_band_has_a_bit(rt: HostRuntime) {
     };
     // Only HH1 can have a bit: flags 1, 1 and 1 are raw bits. Then quads' flags 1000 as 00 01, and types 1000
     // as 01, of which the bound lets one bit through.
-    let put = put_plane(&mut out, &block, &mut marks, &plan, &profile_book());
+    slice(&rt, &mut block, 1);
+    let put = put_plane(&mut out, &mut block, &mut marks, &plan, &profile_book());
     assert_eq!(rt; put, Err(PutFault::Stopped));
     assert_eq!(rt; out.end(1, false), Ok(1));
     assert_eq!(rt; octets, [0b1110_0010, 0, 0, 0]);
@@ -72,10 +88,11 @@ fn two_planes_end_a_text(rt: HostRuntime) {
         last: 4,
     };
     // DC 0; parents' types 100 as 00 01 and sign 1; flag 0.
-    let put = put_plane(&mut out, &block, &mut marks, &plan, &profile_book());
+    slice(&rt, &mut block, 2);
+    let put = put_plane(&mut out, &mut block, &mut marks, &plan, &profile_book());
     assert_eq!(rt; put, Ok(()));
     plan.plane = 0;
-    let put = put_plane(&mut out, &block, &mut marks, &plan, &profile_book());
+    let put = put_plane(&mut out, &mut block, &mut marks, &plan, &profile_book());
     assert_eq!(rt; put, Ok(()));
     assert_eq!(rt; out.end(1, false), Ok(5));
     assert_eq!(rt; octets, [0xB8, 0x35, 0x89, 0x91, 0x40]);
@@ -98,7 +115,8 @@ fn a_plane_of_one_raw_flag_ends_a_text(rt: HostRuntime) {
         weights: Weights::usual(),
         last: 4,
     };
-    let put = put_plane(&mut out, &block, &mut marks, &plan, &profile_book());
+    slice(&rt, &mut block, 1);
+    let put = put_plane(&mut out, &mut block, &mut marks, &plan, &profile_book());
     assert_eq!(rt; put, Ok(()));
     assert_eq!(rt; out.end(1, false), Ok(2));
     assert_eq!(rt; octets, [0xBE, 0x28]);

@@ -1,34 +1,37 @@
 // Planes of one block from bits.
-ghost use Rattle.std.specs.Prelude.{◌≡◌, ◌<◌, ◌≤◌, [], ◌∷◌, length};
+ghost use Rattle.std.specs.Prelude.{◌≡◌, ◌<◌, ◌≤◌, ◌+◌, [], ◌∷◌, length};
 ghost use Rattle.plane_defs.specs.Marks.{depths_of};
+ghost use Rattle.block_masks.specs.Slices.{numbers_in};
+ghost use Rattle.plane_reader.specs.Above.{AreReady};
 ghost use Rattle.plane_reader.specs.Taken.{AwaitPlane};
 
 use base_122::Weights;
 use bit_pipe::{BitIn, Part, SliceIn, TextFault};
-use plane_coder::PlanePlan;
-use plane_reader::take_plane;
+use plane_coder::{PlanePlan, slice_planes};
+use plane_reader::{join_numbers, slice_numbers, take_plane};
 use std::process::Abort;
 use word_codes::profile_book;
 
-// Returns the plane of one block with this state; the octets begin with a number of bits without meaning.
+// Reads the plane of one block with this state into its masks; the octets begin with a number of bits without meaning.
 #[tactic(auto, using(bit_pipe::proofs::Taking::in_after_item))]
 fn take(
     octets: &[u8],
     lead: u8,
-    block: &mut [i32],
+    cells: &mut [i32],
     mark: i32,
     plan: &PlanePlan,
 ) -> Result<Part, TextFault>
     requires lead { lead < 8 }
-    requires whole { length block.old ≡ 64 }
+    requires whole { length cells.old ≡ 64 }
     requires plane { plan.now.plane ≤ 26 }
     requires last { plan.now.last ≤ 4 }
-    requires awaits { AwaitPlane plan.now.weights.shifts plan.now.plane plan.now.q (depths_of (mark ∷ [])) block.old }
+    requires awaits { AwaitPlane plan.now.weights.shifts plan.now.plane plan.now.q (depths_of (mark ∷ [])) (numbers_in cells.old) }
+    requires ready { AreReady (plan.now.plane + 1) cells.old }
 {
     let mut source = SliceIn::new(octets);
     let mut input = BitIn::new(&mut source, 0, 0);
     input.take_bits(lead)?;
-    take_plane(&mut input, block, &mut [mark], plan, &profile_book())
+    take_plane(&mut input, cells, &mut [mark], plan, &profile_book())
 }
 
 // Returns a number of these bits, right-aligned, and the number of bits before them in the first octet.
@@ -54,8 +57,10 @@ fn lowest(bits: u64, count: usize) -> (Result<Part, TextFault>, [i32; 64])
     let mut block = [0; 64];
     block[0] = 4;
     block[1] = -2;
+    slice_planes(&mut block, 3, 1);
     let (octets, first, lead) = aligned(bits, count);
     let result = take(&octets[first..], lead, &mut block, 2, &plan);
+    join_numbers(&mut block);
     (result, block)
 }
 
@@ -92,8 +97,10 @@ fn only(bits: u64, count: usize, weights: Weights) -> (Result<Part, TextFault>, 
         last: 4,
     };
     let mut block = [0; 64];
+    slice_numbers(&mut block);
     let (octets, first, lead) = aligned(bits, count);
     let result = take(&octets[first..], lead, &mut block, 1, &plan);
+    join_numbers(&mut block);
     (result, block)
 }
 

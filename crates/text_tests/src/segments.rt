@@ -26,8 +26,14 @@ fn depths_of(rt: &impl Abort, blocks: &[i32], marks: &mut [i32]) -> (u8, u8)
 }
 
 // Encodes blocks under the head with which these octets begin.
-fn encode(rt: &impl Abort, octets: &[u8], blocks: &[i32], marks: &mut [i32], into: &mut [u8]) -> u64
-    requires count { length blocks.now ≡ 64 * length marks.old }
+fn encode(
+    rt: &impl Abort,
+    octets: &[u8],
+    blocks: &mut [i32],
+    marks: &mut [i32],
+    into: &mut [u8],
+) -> u64
+    requires count { length blocks.old ≡ 64 * length marks.old }
     requires some { 1 ≤ length marks.old }
     requires most { length marks.old ≤ 100 }
 {
@@ -67,10 +73,13 @@ pub(crate) fn flat_blocks() -> [i32; 576] {
 
 #[test]
 fn flat_image(rt: HostRuntime) {
-    let blocks = flat_blocks();
+    let mut blocks = flat_blocks();
     let mut marks = [7; 9];
     let mut octets = [0xaa; 24];
-    assert_eq!(rt; encode(&rt, &FLAT, &blocks, &mut marks, &mut octets), 23);
+    assert_eq!(rt;
+        encode(&rt, &FLAT, &mut blocks, &mut marks, &mut octets),
+        23
+    );
     let mut text = [0xaa; 24];
     text[..23].copy_from_slice(&FLAT);
     assert_eq!(rt; octets, text);
@@ -79,24 +88,30 @@ fn flat_image(rt: HostRuntime) {
 
 #[test]
 fn words_of_four_octets(rt: HostRuntime) {
-    let blocks = flat_blocks();
+    let mut blocks = flat_blocks();
     let mut text = [0; 24];
     text[..23].copy_from_slice(&FLAT);
     text[15] = 0x16;
     let mut octets = [0xaa; 24];
-    assert_eq!(rt; encode(&rt, &text, &blocks, &mut [0; 9], &mut octets), 24);
+    assert_eq!(rt;
+        encode(&rt, &text, &mut blocks, &mut [0; 9], &mut octets),
+        24
+    );
     assert_eq!(rt; octets, text);
 }
 
 #[test]
 fn filled_to_the_limit(rt: HostRuntime) {
-    let blocks = flat_blocks();
+    let mut blocks = flat_blocks();
     let mut text = [0; 64];
     text[..23].copy_from_slice(&FLAT);
     text[6] = 0x08;
     text[8] = 0x70;
     let mut octets = [0xaa; 64];
-    assert_eq!(rt; encode(&rt, &text, &blocks, &mut [0; 9], &mut octets), 64);
+    assert_eq!(rt;
+        encode(&rt, &text, &mut blocks, &mut [0; 9], &mut octets),
+        64
+    );
     assert_eq!(rt; octets, text);
 }
 
@@ -113,7 +128,10 @@ fn cut_at_the_limit(rt: HostRuntime) {
         blocks[64 * i] = if i % 2 == 0 { 1600 } else { -1600 };
     }
     let mut octets = [0xaa; 33];
-    assert_eq!(rt; encode(&rt, &CUT, &blocks, &mut [0; 16], &mut octets), 32);
+    assert_eq!(rt;
+        encode(&rt, &CUT, &mut blocks, &mut [0; 16], &mut octets),
+        32
+    );
     let mut text = [0xaa; 33];
     text[..32].copy_from_slice(&CUT);
     assert_eq!(rt; octets, text);
@@ -131,9 +149,9 @@ fn depths_of_two_blocks(rt: HostRuntime) {
 }
 
 // Expects that the text is that of its own header and these blocks, and that nothing follows it.
-pub(crate) fn assert_coded(rt: &impl Abort, text: &[u8], blocks: &[i32], marks: &mut [i32])
+pub(crate) fn assert_coded(rt: &impl Abort, text: &[u8], blocks: &mut [i32], marks: &mut [i32])
     requires short { length text.now ≤ 63 }
-    requires count { length blocks.now ≡ 64 * length marks.old }
+    requires count { length blocks.old ≡ 64 * length marks.old }
     requires some { 1 ≤ length marks.old }
     requires most { length marks.old ≤ 100 }
 {
@@ -156,5 +174,5 @@ fn flat_image_cut_at_the_limit(rt: HostRuntime) {
     for i in 0..100 {
         blocks[64 * i] = 1600;
     }
-    assert_coded(&rt, &LIMITED, &blocks, &mut [0; 100]);
+    assert_coded(&rt, &LIMITED, &mut blocks, &mut [0; 100]);
 }

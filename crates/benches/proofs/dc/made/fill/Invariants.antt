@@ -1,6 +1,6 @@
 use Rattle.std.proofs.Common.{◌≡◌, ◌<◌, ℕ, pos, true, get_or, length}
 use Rattle.number_defs.specs.Ranges.{IsInRange}
-use Rattle.benches.proofs.planes.made.fill.Given as goal
+use Rattle.benches.proofs.dc.made.fill.Given as goal
 
 abbrev pub invariant-loop-place : goal.invariant-loop-place
 invariant-loop-place l = record {

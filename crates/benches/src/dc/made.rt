@@ -1,4 +1,4 @@
-// Made numbers of up to 10 bits, for a DC part and for a dense plane.
+// Made numbers of up to 10 bits, for a DC part.
 ghost use Rattle.std.specs.Prelude.{◌≡◌, true, length};
 ghost use Rattle.number_defs.specs.Cells.{AreInRange};
 ghost use Rattle.number_defs.specs.DcPart.{dc_q, dc_bits};

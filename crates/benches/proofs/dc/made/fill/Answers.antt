@@ -1,7 +1,7 @@
 use Rattle.std.proofs.Common.{◌≢◌, ◌*◌, ◌<◌, ◌∙◌, length, arith, below_more, get_or-set_other, get_or-set_same, w32, FitsSigned, length-set}
 use Rattle.std.proofs.lemmas.Int.{ints, to_z-of_z}
 use Rattle.number_defs.proofs.DcRange.{dcs_fit}
-use Rattle.benches.proofs.planes.made.fill.Goals as goal
+use Rattle.benches.proofs.dc.made.fill.Goals as goal
 
 pub loop-place-preserved : goal.loop-place-preserved
 loop-place-preserved c =

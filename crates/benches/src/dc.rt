@@ -5,12 +5,15 @@ ghost use Rattle.std.specs.Int.{div_ceil};
 ghost use Rattle.number_defs.specs.Cells.{AreInRange};
 ghost use Rattle.number_defs.specs.DcPart.{dc_q, dc_bits};
 
+mod made;
+
 use crate::pictures::BLOCK;
-use crate::planes::made::fill;
 use crate::watch::Watch;
+use crate::words::blocks_of;
 use base_122::Select;
 use bit_pipe::{BitIn, BitOut, Part, PutFault, SliceIn, SliceOut, TextFault};
 use dc_depths::{DcPlan, put_dc, take_dc};
+use made::fill;
 use std::io;
 
 const DC_PLAN: DcPlan = DcPlan {
@@ -50,10 +53,9 @@ fn have_same_dcs(blocks: &[i32], read: &[i32]) -> bool
     all
 }
 
-// Times the DC part of this number of blocks.
-pub(crate) fn measure(rt: &HostRuntime, count: usize) -> io::Result<bool>
-    requires { count < 2 ^ 20 }
-{
+// Times the DC part of this number of thousand blocks, or 64 blocks.
+pub(crate) fn measure(rt: &HostRuntime, thousands: Option<u16>) -> io::Result<bool> {
+    let count = blocks_of(thousands);
     let mut blocks = vec![in rt.alloc(); 0i32; BLOCK * count]?;
     let mut read = vec![in rt.alloc(); 7i32; BLOCK * count]?;
     let mut octets = vec![in rt.alloc(); 0u8; 32 * count]?;

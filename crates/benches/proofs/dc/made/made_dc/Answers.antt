@@ -1,7 +1,7 @@
 use Rattle.std.proofs.Common.{◌*◌, ◌/◌, ◌%◌, ◌^◌, ◌<◌, arith, w32}
 use Rattle.std.proofs.lemmas.Int.{ints, to_z_pos}
 use Rattle.std.proofs.lemmas.Nat.{shr_le}
-use Rattle.benches.proofs.planes.made.made_dc.Goals as goal
+use Rattle.benches.proofs.dc.made.made_dc.Goals as goal
 
 pub returns : goal.returns
 returns c =
