@@ -8,7 +8,7 @@ use Rattle.wave_defs.specs.Lifted.{columns_even}
 use Rattle.wave_defs.specs.Within.{IsWithin, AllWithin, EachWithin}
 use Rattle.wave_defs.proofs.Floors.{floor_4, floor_16}
 use Rattle.wave_defs.proofs.LevelWithin.{IsWithin-more}
-use Rattle.wave_defs.proofs.Equations.{correction-is, even_of-is, odd_of-is, prediction-is, merged-is, columns_merged-is, columns_even-is}
+use Rattle.wave_defs.proofs.Equations.{correction-is, predicted-is, even_of-is, odd_of-is, prediction-is, merged-is, columns_merged-is, columns_even-is}
 use Rattle.std.proofs.lemmas.Bool.Decides.{nat_tests}
 
 correction-turned : (a b : ℤ) → correction a b ≡ correction b a
@@ -18,8 +18,8 @@ correction-turned a b = grind (arith, nat_tests, correction-is)
 -- from these cancel in part, so their bound counts once.
 spread-within : (m d : ℕ) (a b c e v w x y z : ℤ) → IsWithin m a → IsWithin m b → IsWithin m c → IsWithin m e → IsWithin d v → IsWithin d w → IsWithin d x → IsWithin d y → IsWithin d z
     → IsWithin (5 * m / 4 + d + 2) (x +ℤ predicted (a +ℤ correction v w) (b +ℤ correction w x) (c +ℤ correction x y) (e +ℤ correction y z))
-unfolding predicted correction
 spread-within m d a b c e v w x y z wa wb wc we wv ww wx wy wz =
+    simp (predicted-is, correction-is) (
     let f0 = floor_4 (pos 2 -ℤ (v +ℤ w)) in
     let f1 = floor_4 (pos 2 -ℤ (w +ℤ x)) in
     let f2 = floor_4 (pos 2 -ℤ (x +ℤ y)) in
@@ -30,6 +30,7 @@ spread-within m d a b c e v w x y z wa wb wc we wv ww wx wy wz =
     let e3 = e +ℤ floor_div (pos 2 -ℤ (y +ℤ z)) 4 in
     let p = floor_16 (pos 9 *ℤ (e1 +ℤ e2) -ℤ (e0 +ℤ e3) +ℤ pos 8) in
     record { above = omega (arith, ints); below = omega (arith, ints) }
+    )
 
 pub even_of-bound : (m d n j : ℕ) (c h : ℕ → ℤ) → j < n → AllWithin m n c → AllWithin d n h → IsWithin (m + (d + 1) / 2) (even_of c h j)
 even_of-bound m d n j c h l wc wh =

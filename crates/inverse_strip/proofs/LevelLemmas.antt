@@ -8,6 +8,7 @@ use Rattle.wave_defs.proofs.LineLaws.{merged-same}
 use Rattle.wave_defs.proofs.LevelWithin.{IsWithin-more}
 use Rattle.wave_defs.proofs.LineReach.{SameMirror-same, SameMirror-far}
 use Rattle.wave_defs.proofs.LevelReach.{joined-reach}
+use Rattle.wave_defs.proofs.Equations.{joined-is}
 use Rattle.inverse_strip.specs.Kept.{HasRow, column_bound}
 use Rattle.inverse_strip.proofs.Bounds.{merged-bound, odd_of-bound}
 
@@ -17,10 +18,10 @@ HasRow-inside n i h row = ⊎_elim (λ (a : i + 3 < 2 * n). omega arith) (λ (b 
 
 -- row i from row i of the columns on both sides
 pub joined-row : (q : Quarters) (n w i : ℕ) (l r y : ℕ → ℤ) → 2 ≤ w → Agrees w l (columns_merged q.ll q.lh n i) → Agrees w r (columns_merged q.hl q.hh n i) → Agrees (2 * w) y (merged l r w) → Agrees (2 * w) y (joined q n w i)
-unfolding joined rows_merged
+unfolding rows_merged
 joined-row q n w i l r y two left right made =
     let same = merged-same w l (columns_merged q.ll q.lh n i) r (columns_merged q.hl q.hh n i) two left right in
-    record { at = λ j h. made.at j h ∙ same.at j h }
+    rw joined-is (record { at = λ j h. made.at j h ∙ same.at j h })
 
 -- A row that can be given is the same for every height that the bands may have.
 pub joined-height : (q : Quarters) (n n' h w i : ℕ) (y : ℕ → ℤ) → 2 ≤ w → HasRow n i h → n ≤ n' → (n ≡ h → n' ≡ h) → Agrees (2 * w) y (joined q n w i) → Agrees (2 * w) y (joined q n' w i)

@@ -1,13 +1,13 @@
 -- The rings of a level's columns that take a pair, and the row that they give.
 use Rattle.std.proofs.Common.{◌≡◌, ℕ, ◌+◌, ◌*◌, ◌/◌, ℤ, List, [], ◌∷◌, ◌++◌, length, take, drop, ap, ◌∙◌, sym, subst, arith}
 use Rattle.std.proofs.lemmas.List.{take-append-le, take_all}
-use Rattle.wave_defs.specs.Line.{odd_of}
 use Rattle.wave_defs.specs.Lifted.{columns_even, columns_odd}
 use Rattle.wave_defs.specs.Level.{columns_merged}
 use Rattle.wave_defs.specs.Held.{Agrees, signal}
 use Rattle.wave_defs.specs.Rings.{AreNewest}
 use Rattle.wave_defs.proofs.LineLaws.{even_of-merged, odd_of-merged}
 use Rattle.wave_defs.proofs.RingLaws.{AreRows-turn, AreNewest-turn}
+use Rattle.wave_defs.proofs.Equations.{columns_even-is, columns_odd-is, columns_merged-is, odd_of-is, prediction-is}
 use Rattle.inverse_strip.specs.Kept.{AreRings, HoldPairs}
 
 -- what a `Vec` holds after its whole slice was lent and was returned as out
@@ -45,14 +45,16 @@ HoldPairs-pushed w v n es hs es' hs' low start out made high s ev lo lh is em ee
 
 -- the even and the odd rows of the columns
 pub columns_merged-even : (c d : ℕ → ℕ → ℤ) (n i w : ℕ) (y : ℕ → ℤ) → i ≡ 2 * (i / 2) → Agrees w y (columns_even c d (i / 2)) → Agrees w y (columns_merged c d n i)
-unfolding columns_merged columns_even
 columns_merged-even c d n i w y e a = record {
-  at = λ j h. a.at j h ∙ sym (even_of-merged (λ r. c r j) (λ r. d r j) n (i / 2)) ∙ ap (λ (k : ℕ). columns_merged c d n k j) (sym e);
+  at = λ j h.
+      a.at j h ∙ columns_even-is c d (i / 2) j ∙ sym (even_of-merged (λ r. c r j) (λ r. d r j) n (i / 2))
+      ∙ sym (columns_merged-is c d n (2 * (i / 2)) j) ∙ ap (λ (k : ℕ). columns_merged c d n k j) (sym e);
 }
 
 odd_of-row : (c d : ℕ → ℕ → ℤ) (n k j : ℕ) → columns_merged c d n (2 * k + 1) j ≡ columns_odd (columns_even c d) d n k j
-unfolding columns_merged columns_odd columns_even odd_of
-odd_of-row c d n k j = odd_of-merged (λ r. c r j) (λ r. d r j) n k
+odd_of-row c d n k j =
+    columns_merged-is c d n (2 * k + 1) j ∙ odd_of-merged (λ r. c r j) (λ r. d r j) n k
+    ∙ grind (arith, odd_of-is, prediction-is, columns_odd-is, columns_even-is)
 
 pub columns_merged-odd : (c d : ℕ → ℕ → ℤ) (n i w : ℕ) (y : ℕ → ℤ) → i ≡ 2 * (i / 2) + 1 → Agrees w y (columns_odd (columns_even c d) d n (i / 2)) → Agrees w y (columns_merged c d n i)
 columns_merged-odd c d n i w y e a = record {

@@ -1,11 +1,12 @@
 -- The number of samples that the parts of the rolling inverse hold.
-use Rattle.std.proofs.Common.{◌≡◌, ℕ, suc, ◌+◌, ◌*◌, ◌<◌, ℤ, List, [], ◌∷◌, length, get_or, ap, ◌∙◌, arith}
+use Rattle.std.proofs.Common.{◌≡◌, ℕ, suc, ◌+◌, ◌*◌, ◌<◌, ℤ, List, [], ◌∷◌, length, map, get_or, refl, ap, ◌∙◌, arith}
 use native.Mathlib.Nat.{add-mul}
 use Rattle.wave_defs.specs.Rings.{AreRows}
 use Rattle.inverse_strip.specs.declared.columns.Columns.{Columns}
 use Rattle.inverse_strip.specs.declared.level.InverseLevel.{InverseLevel}
 use Rattle.inverse_strip.specs.declared.stage.LevelStage.{LevelStage}
 use Rattle.inverse_strip.specs.declared.strip.StripInverse.{StripInverse}
+use Rattle.inverse_strip.specs.Cells.{AreBandRows, row_widths}
 use Rattle.inverse_strip.specs.Samples.{row_samples, columns_samples, level_samples, stage_samples, strip_samples}
 
 rows-samples : (w : ℕ) (rows : List (List ℤ)) → ((t : ℕ) → t < length rows → length (get_or rows t []) ≡ w) → row_samples rows ≡ length rows * w
@@ -48,6 +49,21 @@ stage-samples n s e =
     let hh = ring-samples s.kept w s.hh s.hh_stands in
     omega arith
 
+-- the rows of a block row, whose lengths are known
+abbrev total : List ℕ → ℕ
+total [] = 0
+total (n ∷ ns) = n + total ns
+
+lengths-total : (rows : List (List ℤ)) → row_samples rows ≡ total (map length rows)
+lengths-total [] = refl
+lengths-total (x ∷ xs) = ap (λ (n : ℕ). length x + n) (lengths-total xs)
+
+widths-total : (columns : ℕ) → total (row_widths columns) ≡ 64 * columns
+widths-total columns = omega arith
+
+block_row-samples : (columns : ℕ) (rows : List (List ℤ)) → AreBandRows columns rows → row_samples rows ≡ 64 * columns
+block_row-samples columns rows s = lengths-total rows ∙ ap total s.widths ∙ widths-total columns
+
 pub strip-samples : (s : StripInverse) → strip_samples s ≡ 376 * s.third.left.width
 strip-samples s =
     let third = level-samples s.third in
@@ -56,6 +72,6 @@ strip-samples s =
     let a = s.second_wide in
     let b = s.first_wide in
     let c = s.row_room in
-    let d = s.next.whole in
+    let d = block_row-samples s.next.columns s.next.rows s.next.whole in
     let e = s.next_wide in
     omega arith

@@ -1,5 +1,5 @@
 -- Rows that wait for a level, and the row of its low band.
-use Rattle.std.proofs.Common.{◌≡◌, ℕ, ◌+◌, ◌-◌, ◌*◌, ◌<◌, ◌≤◌, ℤ, List, [], ◌∷◌, ◌++◌, length, get_or, drop, ap, sym, ◌∙◌, subst, arith}
+use Rattle.std.proofs.Common.{◌≡◌, ℕ, ◌+◌, ◌-◌, ◌*◌, ◌^◌, ◌<◌, ◌≤◌, ℤ, List, [], ◌∷◌, ◌++◌, length, get_or, drop, ap, sym, ◌∙◌, subst, arith}
 use Rattle.wave_defs.specs.Level.{Quarters, joined}
 use Rattle.wave_defs.specs.Within.{AllWithin}
 use Rattle.wave_defs.specs.Held.{Agrees, signal}
@@ -18,6 +18,15 @@ waiting-small b m w kept t rows x s e less le within =
     let count = s.count_is in
     let row = within.at t (omega arith) in
     subst (λ (y : List ℤ). AllWithin m w (signal y)) (sym e) (record { at = λ k h. IsWithin-more b m _ le (row.at k h) })
+
+-- the oldest row of a ring
+pub oldest-wide : (kept w v : ℕ) (rows : List (List ℤ)) → 1 ≤ kept → AreRows kept w rows → w ≡ v → length (get_or rows 0 []) ≡ v
+oldest-wide kept w v rows some s e = s.wide 0 (omega arith) ∙ e
+
+pub oldest-small : (kept w v : ℕ) (rows : List (List ℤ)) → 1 ≤ kept → AreRows kept w rows → w ≡ v → RowsWithin (2 ^ 27) w rows → AllWithin (2 ^ 27) v (signal (get_or rows 0 []))
+oldest-small kept w v rows some s e small =
+    let count = s.count_is in
+    subst (λ (n : ℕ). AllWithin (2 ^ 27) n (signal (get_or rows 0 []))) e (small.at 0 (omega arith))
 
 -- the row of the low band
 pub low-at : (q b : Quarters) (n w v i k : ℕ) (x y : List ℤ) → w ≡ 2 * v → i ≡ k → q.ll ≡ joined b n v → y ≡ x → Agrees (2 * v) (signal x) (joined b n v i) → Agrees w (signal y) (q.ll k)

@@ -1,10 +1,12 @@
 -- Three levels, one after another.
-use Rattle.std.proofs.Common.{◌≡◌, ℕ, ◌+◌, ◌*◌, ◌<◌, ℤ, List, refl, ap, sym, ◌∙◌, subst, ⊎_elim, arith}
+use Rattle.std.proofs.Common.{◌≡◌, ℕ, ◌+◌, ◌*◌, ◌<◌, ℤ, List, [], get_or, refl, ap, sym, ◌∙◌, subst, ⊎_elim, arith}
 use Rattle.wave_defs.specs.Level.{joined}
 use Rattle.wave_defs.specs.Pyramid.{Pyramid, rebuilt, first_of, second_of, third_of}
 use Rattle.wave_defs.specs.Blocks.{block_side}
 use Rattle.wave_defs.specs.Held.{Agrees, signal}
-use Rattle.inverse_strip.specs.Cells.{HasBlockRow, number_in}
+use Rattle.std.proofs.lemmas.Bool.Decides.{nat_tests}
+use Rattle.inverse_strip.specs.Cells.{HasBlockRow, first_row, row_place, number_in}
+use Rattle.inverse_strip.proofs.CellLemmas.{number-same}
 use Rattle.inverse_strip.specs.Kept.{Counts, HasRow}
 use Rattle.wave_defs.proofs.Equations.{second_of-is, first_of-is, rebuilt-is}
 
@@ -58,7 +60,7 @@ made-row p r w v g k y ev eg made = rw rebuilt-is (record {
 -- ---- the block row that is set next
 
 -- the one row of a band of the third level
-pub row-comes : (f : ℕ → ℕ → ℤ) (band t columns : ℕ) (cells x : List ℤ) → block_side band ≡ 1 → HasBlockRow f band (block_side band * t) columns cells → ((j : ℕ) → j < block_side band * columns → signal x j ≡ number_in columns cells (record { band = band; row = 0; column = j })) → Agrees columns (signal x) (f t)
+pub row-comes : (f : ℕ → ℕ → ℤ) (band t columns : ℕ) (cells : List (List ℤ)) (x : List ℤ) → block_side band ≡ 1 → HasBlockRow f band (block_side band * t) columns cells → ((j : ℕ) → j < block_side band * columns → signal x j ≡ number_in columns cells (record { band = band; row = 0; column = j })) → Agrees columns (signal x) (f t)
 row-comes f band t columns cells x side has number = record {
   at = λ j h.
       let wide : block_side band * columns ≡ 1 * columns = ap (λ (k : ℕ). k * columns) side in
@@ -67,5 +69,13 @@ row-comes f band t columns cells x side has number = record {
       number j (omega arith) ∙ sym (has.at 0 j (omega arith) (omega arith)) ∙ ap (λ (k : ℕ). f k j) row;
 }
 
-pub block_row-at : (f : ℕ → ℕ → ℤ) (band n m columns : ℕ) (cells : List ℤ) → m ≡ n → HasBlockRow f band n columns cells → HasBlockRow f band m columns cells
+pub block_row-at : (f : ℕ → ℕ → ℤ) (band n m columns : ℕ) (cells : List (List ℤ)) → m ≡ n → HasBlockRow f band n columns cells → HasBlockRow f band m columns cells
 block_row-at f band n m columns cells e has = subst (λ (k : ℕ). HasBlockRow f band k columns cells) (sym e) has
+
+-- and after other rows took the place of those of later bands
+pub block_row-moved : (f : ℕ → ℕ → ℤ) (band n columns m : ℕ) (xs ys : List (List ℤ)) → band < 3 → m ≡ columns → ((i : ℕ) → i < first_row 3 → get_or ys i [] ≡ get_or xs i []) → HasBlockRow f band n columns xs → HasBlockRow f band n m ys
+block_row-moved f band n columns m xs ys hb em same has = subst (λ (k : ℕ). HasBlockRow f band n k ys) (sym em) (record {
+  at = λ y j hy hj.
+      has.at y j hy hj
+      ∙ number-same columns xs ys (record { band = band; row = y; column = j }) (λ is. ap (λ (x : List ℤ). signal x j) (sym (same (row_place band y) (grind (arith, nat_tests)))));
+})

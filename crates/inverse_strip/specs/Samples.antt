@@ -20,4 +20,4 @@ stage_samples s = level_samples s.level + row_samples s.hl + row_samples s.lh + 
 
 abbrev pub strip_samples : StripInverse → ℕ
 strip_samples s =
-    level_samples s.third + stage_samples s.second + stage_samples s.first + vec_len s.row + vec_len s.next.cells
+    level_samples s.third + stage_samples s.second + stage_samples s.first + vec_len s.row + row_samples s.next.rows

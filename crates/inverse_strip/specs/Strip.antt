@@ -28,7 +28,7 @@ row_of s = s.row.items
 
 -- the numbers of the block row that is set next
 abbrev pub numbers_of : StripInverse → Place → ℤ
-numbers_of s = number_in s.next.columns s.next.cells.items
+numbers_of s = number_in s.next.columns s.next.rows
 
 -- it is as after the first block rows of this pyramid, of r block rows in all
 pub record FollowStrip (p : Pyramid) (r : ℕ) (s : StripInverse) : Type 0 where
@@ -39,7 +39,7 @@ pub record FollowStrip (p : Pyramid) (r : ℕ) (s : StripInverse) : Type 0 where
 -- the block row that is set next is block row t of this pyramid
 pub record IsNext (p : Pyramid) (t : ℕ) (s : StripInverse) : Type 0 where
   pub band : (band : ℕ) → band < 10
-      → HasBlockRow (band_of p band) band (block_side band * t) s.next.columns s.next.cells.items
+      → HasBlockRow (band_of p band) band (block_side band * t) s.next.columns s.next.rows
 
 -- if a number is set, all else stays, and it follows the same images
 pub record Keeps (old new : StripInverse) : Type 0 where

@@ -1,89 +1,55 @@
 //! The numbers of one block row.
 
-ghost use Rattle.std.specs.Prelude.{◌≡◌, ℕ, ◌+◌, ◌*◌, ◌^◌, ◌<◌, ◌≤◌, ℤ, length, vec_len, slice_set};
+ghost use Rattle.std.specs.Prelude.{◌≡◌, ℕ, ◌+◌, ◌*◌, ◌^◌, ◌<◌, ◌≤◌, ℤ};
 ghost use Rattle.wave_defs.specs.Blocks.{block_side};
-ghost use Rattle.wave_defs.specs.Within.{AllWithin, IsWithin};
-ghost use Rattle.wave_defs.specs.Held.{signal};
-ghost use Rattle.inverse_strip.specs.Cells.{first_cell, first_of_row};
+ghost use Rattle.inverse_strip.specs.Cells.{first_row, AreBandRows};
 
+use line_rings::{RowRing, RowTable};
 use std::alloc::{AllocError, Global};
 
 /// The numbers of a block row of this number of blocks, band after band. They have 32 bits, so those that wait take half the memory.
 #[derive(Drop)]
 pub struct BlockRow {
     pub columns: usize,
-    pub cells: Vec<i32>,
+    pub rows: RowTable,
     ghost few: { columns ≤ 2 ^ 17 },
-    ghost whole: { vec_len cells ≡ 64 * columns },
-    ghost small: { AllWithin (2 ^ 27) (64 * columns) (signal cells.items) },
+    ghost whole: { AreBandRows columns rows },
 }
 
-/// Returns the number of rows, and of columns, that a band has in one block.
+/// Returns the number of rows of a block row that precede those of a band.
 #[inline(always)]
-pub fn side_of(band: usize) -> usize
-    ensures { result ≡ block_side band }
-{
-    if band < 3 {
-        return 4;
-    }
-    if band < 6 {
-        return 2;
-    }
-    1
-}
-
-/// Returns the number of numbers of a block that precede those of a band.
-#[inline(always)]
-fn numbers_before(band: usize) -> usize
+fn rows_before(band: usize) -> usize
     requires { band < 10 }
-    ensures { result ≡ first_cell band }
+    ensures { result ≡ first_row band }
 {
     if band < 3 {
-        return 16 * band;
+        return 4 * band;
     }
     if band < 6 {
-        return 36 + 4 * band;
+        return 6 + 2 * band;
     }
-    54 + band
-}
-
-// Makes a value the number of a cell.
-#[inline(always)]
-fn set_cell(cells: &mut [i32], at: usize, value: i64)
-    requires inside { at < length cells.old }
-    requires small { IsWithin (2 ^ 27) value }
-    ensures { cells.new ≡ slice_set cells.old at value }
-{
-    cells[at] = value as i32;
+    12 + band
 }
 
 impl BlockRow {
-    ghost use Rattle.std.specs.Prelude.{◌≡◌, ℕ, ◌+◌, ◌*◌, ◌-◌, ◌^◌, ◌<◌, ◌≤◌, ℤ, pos, length, vec_len, IfOk, slice_index_or, slice_set};
+    ghost use Rattle.std.specs.Prelude.{◌≡◌, ◌≢◌, ℕ, ◌+◌, ◌*◌, ◌-◌, ◌^◌, ◌<◌, ◌≤◌, ℤ, pos, [], ◌∷◌, ◌++◌, drop, length, IfOk, slice_index_or};
     ghost use Rattle.wave_defs.specs.Blocks.{Place, block_side};
     ghost use Rattle.wave_defs.specs.Within.{AllWithin, IsWithin};
     ghost use Rattle.wave_defs.specs.Held.{signal};
     ghost use Rattle.block_families.specs.Scattering.{SetsSquare};
-    ghost use Rattle.inverse_strip.specs.Cells.{first_of_row, number_in};
+    ghost use Rattle.inverse_strip.specs.Cells.{row_place, number_in};
 
     /// Returns a block row in which all numbers are 0.
     pub fn new(alloc: Global, columns: usize) -> Result<BlockRow, AllocError>
         requires { columns ≤ 2 ^ 17 }
         ensures columns { IfOk result (λ s. s.columns ≡ columns) }
-        ensures zero { IfOk result (λ s. (p : Place) → number_in s.columns s.cells.items p ≡ pos 0) }
+        ensures zero { IfOk result (λ s. (p : Place) → number_in s.columns s.rows p ≡ pos 0) }
     {
-        let cells = vec![in alloc; 0; 64 * columns]?;
-        Ok(BlockRow { columns, cells })
-    }
-
-    /// Returns where a row of a band begins.
-    #[inline(always)]
-    fn start_of(&self, band: usize, row: usize) -> usize
-        requires band { band < 10 }
-        requires row { row < block_side band }
-        ensures start { result ≡ first_of_row band row * self.now.columns }
-        ensures fits { result + block_side band * self.now.columns ≤ 64 * self.now.columns }
-    {
-        (numbers_before(band) + side_of(band) * row) * self.columns
+        let mut rows = RowTable::new(alloc);
+        rows.add(alloc, 12, 4 * columns)?;
+        rows.add(alloc, 6, 2 * columns)?;
+        rows.add(alloc, 4, columns)?;
+        Ok(BlockRow { columns, rows })
     }
 
     /// Returns a row of a band.
@@ -92,32 +58,11 @@ impl BlockRow {
         requires row { row < block_side band }
         ensures wide { length result.now ≡ block_side band * self.now.columns }
         ensures value { (j : ℕ) → j < block_side band * self.now.columns → signal result.now j
-            ≡ number_in self.now.columns self.now.cells.items
+            ≡ number_in self.now.columns self.now.rows
             (record { band = band; row = row; column = j }) }
         ensures small { AllWithin (2 ^ 27) (block_side band * self.now.columns) (signal result.now) }
     {
-        let start = self.start_of(band, row);
-        let width = side_of(band) * self.columns;
-        &self.cells[start..start + width]
-    }
-
-    // Makes a value the number at a place of a row of a band, which begins at `start`.
-    #[inline(always)]
-    fn set_in_row(&mut self, band: usize, row: usize, start: usize, column: usize, value: i64)
-        requires band { band < 10 }
-        requires row { row < block_side band }
-        requires start { start ≡ first_of_row band row * self.old.columns }
-        requires fits { start + block_side band * self.old.columns ≤ 64 * self.old.columns }
-        requires column { column < block_side band * self.old.columns }
-        requires small { IsWithin (2 ^ 27) value }
-        ensures columns { self.new.columns ≡ self.old.columns }
-        ensures value { number_in self.new.columns self.new.cells.items
-            (record { band = band; row = row; column = column }) ≡ value }
-        ensures others { (p : Place) → (p ≡ record { band = band; row = row; column = column } → ⊥)
-            → number_in self.new.columns self.new.cells.items p
-            ≡ number_in self.old.columns self.old.cells.items p }
-    {
-        self.cells[start + column] = value as i32;
+        self.rows.at(rows_before(band) + row)
     }
 
     /// Makes a value the number at a place.
@@ -128,14 +73,13 @@ impl BlockRow {
         requires column { column < block_side band * self.old.columns }
         requires small { IsWithin (2 ^ 27) value }
         ensures columns { self.new.columns ≡ self.old.columns }
-        ensures value { number_in self.new.columns self.new.cells.items
+        ensures value { number_in self.new.columns self.new.rows
             (record { band = band; row = row; column = column }) ≡ value }
         ensures others { (p : Place) → (p ≡ record { band = band; row = row; column = column } → ⊥)
-            → number_in self.new.columns self.new.cells.items p
-            ≡ number_in self.old.columns self.old.cells.items p }
+            → number_in self.new.columns self.new.rows p
+            ≡ number_in self.old.columns self.old.rows p }
     {
-        let start = self.start_of(band, row);
-        self.set_in_row(band, row, start, column, value);
+        self.rows.set(rows_before(band) + row, column, value as i32);
     }
 
     /// Makes four values the numbers of a square of two rows and two columns, the upper two first.
@@ -146,25 +90,35 @@ impl BlockRow {
         requires inside { column + 2 ≤ block_side band * self.old.columns }
         requires small { (k : ℕ) → k < 4 → IsWithin (2 ^ 27) (slice_index_or values k (pos 0)) }
         ensures columns { self.new.columns ≡ self.old.columns }
-        ensures values { SetsSquare (number_in self.old.columns self.old.cells.items)
-            (number_in self.new.columns self.new.cells.items)
+        ensures values { SetsSquare (number_in self.old.columns self.old.rows)
+            (number_in self.new.columns self.new.rows)
             (record { band = band; row = row; column = column }) values }
     {
-        let upper = self.start_of(band, row);
-        let lower = self.start_of(band, row + 1);
-        // The list is accessed once for all four.
-        let cells = self.cells.as_mut_slice();
-        set_cell(cells, upper + column, values[0]);
-        set_cell(cells, upper + column + 1, values[1]);
-        set_cell(cells, lower + column, values[2]);
-        set_cell(cells, lower + column + 1, values[3]);
+        self.set(band, row, column, values[0]);
+        self.set(band, row, column + 1, values[1]);
+        self.set(band, row + 1, column, values[2]);
+        self.set(band, row + 1, column + 1, values[3]);
+    }
+
+    /// Makes a row of a band the newest of a ring, and takes the oldest of the ring in its place.
+    pub fn turn_into(&mut self, band: usize, row: usize, ring: &mut RowRing<i32>)
+        requires band { band < 10 }
+        requires row { row < block_side band }
+        requires wide { length (slice_index_or ring.old 0 []) ≡ block_side band * self.old.columns }
+        requires small { AllWithin (2 ^ 27) (block_side band * self.old.columns) (signal (slice_index_or ring.old 0 [])) }
+        ensures columns { self.new.columns ≡ self.old.columns }
+        ensures ring { ring.new ≡ drop 1 ring.old ++ slice_index_or self.old.rows (row_place band row) [] ∷ [] }
+        ensures others { (i : ℕ) → i ≢ row_place band row
+            → slice_index_or self.new.rows i [] ≡ slice_index_or self.old.rows i [] }
+    {
+        self.rows.turn_into(rows_before(band) + row, ring);
     }
 
     /// Makes all numbers 0.
     pub fn clear(&mut self)
         ensures columns { self.new.columns ≡ self.old.columns }
-        ensures zero { (p : Place) → number_in self.new.columns self.new.cells.items p ≡ pos 0 }
+        ensures zero { (p : Place) → number_in self.new.columns self.new.rows p ≡ pos 0 }
     {
-        self.cells.fill(0);
+        self.rows.clear();
     }
 }

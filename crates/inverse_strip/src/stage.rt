@@ -28,7 +28,7 @@ pub struct LevelStage {
 }
 
 impl LevelStage {
-    ghost use Rattle.std.specs.Prelude.{◌≡◌, ◌≢◌, ℕ, ◌+◌, ◌*◌, ◌-◌, ◌/◌, ◌^◌, ◌<◌, ◌≤◌, ℤ, length, vec_len, IfOk};
+    ghost use Rattle.std.specs.Prelude.{◌≡◌, ◌≢◌, ℕ, ◌+◌, ◌*◌, ◌-◌, ◌/◌, ◌^◌, ◌<◌, ◌≤◌, ℤ, [], length, vec_len, IfOk, slice_index_or};
     ghost use Rattle.wave_defs.specs.Level.{Quarters, joined};
     ghost use Rattle.wave_defs.specs.Within.{AllWithin};
     ghost use Rattle.wave_defs.specs.Held.{Agrees, signal};
@@ -37,7 +37,7 @@ impl LevelStage {
     ghost use Rattle.inverse_strip.specs.Level.{FollowLevel};
     ghost use Rattle.inverse_strip.specs.Stage.{FollowStage};
     ghost use Rattle.wave_defs.specs.Blocks.{block_side};
-    ghost use Rattle.inverse_strip.specs.Cells.{HasBlockRow};
+    ghost use Rattle.inverse_strip.specs.Cells.{HasBlockRow, first_row, row_place};
 
     /// Returns a level to which no row arrived. The bands have rows of `width` samples, and `kept` rows of each high one may wait.
     pub fn new(alloc: Global, width: usize, kept: usize) -> Result<LevelStage, AllocError>
@@ -65,55 +65,56 @@ impl LevelStage {
         })
     }
 
-    /// Adds the next row of each high band. There is room for it.
-    pub fn come(&mut self, hl: &[i32], lh: &[i32], hh: &[i32])
-        requires wide_hl { length hl.now ≡ self.old.level.left.width }
-        requires wide_lh { length lh.now ≡ self.old.level.left.width }
-        requires wide_hh { length hh.now ≡ self.old.level.left.width }
+    // Takes row y of its high bands out of a block row, in which it leaves other rows. There is room for them.
+    fn come(&mut self, bands: &mut BlockRow, high: usize, y: usize)
+        requires high { high < 8 }
+        requires row { y < block_side high }
+        requires side_hl { block_side (high + 1) ≡ block_side high }
+        requires side_lh { block_side (high + 2) ≡ block_side high }
+        requires wide { self.old.level.left.width ≡ block_side high * bands.old.columns }
         requires room { self.old.came < self.old.level.left.taken + self.old.kept }
         requires few { self.old.came < 2 ^ 32 }
-        requires small_hl { AllWithin (2 ^ 27) self.old.level.left.width (signal hl.now) }
-        requires small_lh { AllWithin (2 ^ 27) self.old.level.left.width (signal lh.now) }
-        requires small_hh { AllWithin (2 ^ 27) self.old.level.left.width (signal hh.now) }
         ensures level { self.new.level ≡ self.old.level }
         ensures kept { self.new.kept ≡ self.old.kept }
         ensures came { self.new.came ≡ self.old.came + 1 }
+        ensures columns { bands.new.columns ≡ bands.old.columns }
+        ensures others { (i : ℕ) → i ≢ row_place high y → i ≢ row_place (high + 1) y → i ≢ row_place (high + 2) y
+            → slice_index_or bands.new.rows i [] ≡ slice_index_or bands.old.rows i [] }
         ensures follows { (q : Quarters) → FollowStage q self.old
-            → Agrees self.old.level.left.width (signal hl.now) (q.hl self.old.came)
-            → Agrees self.old.level.left.width (signal lh.now) (q.lh self.old.came)
-            → Agrees self.old.level.left.width (signal hh.now) (q.hh self.old.came)
+            → Agrees self.old.level.left.width (signal (slice_index_or bands.old.rows (row_place (high + 1) y) [])) (q.hl self.old.came)
+            → Agrees self.old.level.left.width (signal (slice_index_or bands.old.rows (row_place (high + 2) y) [])) (q.lh self.old.came)
+            → Agrees self.old.level.left.width (signal (slice_index_or bands.old.rows (row_place high y) [])) (q.hh self.old.came)
             → FollowStage q self.new }
     {
-        self.hl.turn_copy(hl);
-        self.lh.turn_copy(lh);
-        self.hh.turn_copy(hh);
+        bands.turn_into(high + 1, y, &mut self.hl);
+        bands.turn_into(high + 2, y, &mut self.lh);
+        bands.turn_into(high, y, &mut self.hh);
         self.came += 1;
     }
 
-    /// Adds the rows of its high bands, as they are in a block row. HH has the number `high`, and HL and LH have the next two.
-    pub fn come_rows(&mut self, bands: &BlockRow, high: usize, side: usize)
+    /// Takes the rows of its high bands out of a block row, in which it leaves other rows. HH has the number `high`, and HL and LH have
+    /// the next two.
+    pub fn come_rows(&mut self, bands: &mut BlockRow, high: usize, side: usize)
         requires high { high < 8 }
         requires side { block_side high ≡ side }
         requires side_hl { block_side (high + 1) ≡ side }
         requires side_lh { block_side (high + 2) ≡ side }
-        requires wide { self.old.level.left.width ≡ side * bands.now.columns }
+        requires wide { self.old.level.left.width ≡ side * bands.old.columns }
         requires room { self.old.came + side ≤ self.old.level.left.taken + self.old.kept }
         requires few { self.old.came < 2 ^ 31 }
         ensures level { self.new.level ≡ self.old.level }
         ensures kept { self.new.kept ≡ self.old.kept }
         ensures came { self.new.came ≡ self.old.came + side }
+        ensures columns { bands.new.columns ≡ bands.old.columns }
+        ensures others { (i : ℕ) → i < first_row high → slice_index_or bands.new.rows i [] ≡ slice_index_or bands.old.rows i [] }
         ensures follows { (q : Quarters) → FollowStage q self.old
-            → HasBlockRow q.hl (high + 1) self.old.came bands.now.columns bands.now.cells.items
-            → HasBlockRow q.lh (high + 2) self.old.came bands.now.columns bands.now.cells.items
-            → HasBlockRow q.hh high self.old.came bands.now.columns bands.now.cells.items
+            → HasBlockRow q.hl (high + 1) self.old.came bands.old.columns bands.old.rows
+            → HasBlockRow q.lh (high + 2) self.old.came bands.old.columns bands.old.rows
+            → HasBlockRow q.hh high self.old.came bands.old.columns bands.old.rows
             → FollowStage q self.new }
     {
         for y in 0..side {
-            self.come(
-                bands.row(high + 1, y),
-                bands.row(high + 2, y),
-                bands.row(high, y),
-            );
+            self.come(bands, high, y);
         }
     }
 

@@ -1,7 +1,7 @@
-//! This crate has rings of rows of one width.
+//! This crate has rings of rows of one width, and tables of rows that are exchanged for those of a ring.
 #![tactic(auto)]
 
-ghost use Rattle.std.specs.Prelude.{◌≡◌, ℕ, ◌+◌, ◌<◌, ◌≤◌, length, List, [], ◌∷◌, ◌++◌, map, drop, slice_index_or, vec_len, IfOk, replicate};
+ghost use Rattle.std.specs.Prelude.{◌≡◌, ℕ, ◌+◌, ◌<◌, ◌≤◌, length, List, [], ◌∷◌, ◌++◌, map, drop, slice_index_or, slice_set, vec_len, IfOk, replicate, ℤ, pos};
 
 use circular_buffer::HeapCircularBuffer;
 use std::alloc::{AllocError, Global};
@@ -102,6 +102,81 @@ impl<T: Copy> RowRing<T> {
     }
 }
 
+/// A fixed number of rows, in which numbers are set. A row can be exchanged for the oldest of a ring.
+#[derive(Drop)]
+pub struct RowTable {
+    rows: Vec<Vec<i32>>,
+}
+
+impl Model for RowTable {
+    ghost use Rattle.std.specs.Prelude.{List, map, ℤ};
+
+    ghost Value = { List (List ℤ) };
+
+    ghost view = { λ s. map (λ v. v.items) s.rows.items };
+}
+
+impl RowTable {
+    /// Returns a table without rows.
+    pub fn new(alloc: Global) -> RowTable
+        ensures { result ≡ [] }
+    {
+        RowTable {
+            rows: Vec::new(alloc),
+        }
+    }
+
+    /// Adds rows of `width` places that all hold 0. The only error is a lack of memory.
+    pub fn add(&mut self, alloc: Global, count: usize, width: usize) -> Result<(), AllocError>
+        ensures { IfOk result (λ _. self.new ≡ self.old ++ replicate count (replicate width (pos 0))) }
+    {
+        for _ in 0..count {
+            let row = row_of(alloc, width, 0)?;
+            self.rows.push(row)?;
+        }
+        Ok(())
+    }
+
+    /// Returns a row.
+    #[inline(always)]
+    pub fn at(&self, i: usize) -> &[i32]
+        requires { i < length self.now }
+        ensures { result.now ≡ slice_index_or self.now i [] }
+    {
+        &self.rows[i]
+    }
+
+    /// Makes a value the number at a place of a row.
+    #[inline(always)]
+    pub fn set(&mut self, i: usize, column: usize, value: i32)
+        requires row { i < length self.old }
+        requires inside { column < length (slice_index_or self.old i []) }
+        ensures { self.new ≡ slice_set self.old i (slice_set (slice_index_or self.old i []) column value) }
+    {
+        self.rows[i][column] = value;
+    }
+
+    /// Makes all numbers 0.
+    pub fn clear(&mut self)
+        ensures wide { map length self.new ≡ map length self.old }
+        ensures zero { (i k : ℕ) → slice_index_or (slice_index_or self.new i []) k (pos 0) ≡ pos 0 }
+    {
+        for i in 0..self.rows.len() {
+            self.rows[i].fill(0);
+        }
+    }
+
+    /// Makes a row the newest of a ring, and puts the oldest of the ring in its place. Both have the same width.
+    pub fn turn_into(&mut self, i: usize, ring: &mut RowRing<i32>)
+        requires row { i < length self.old }
+        requires wide { length (slice_index_or self.old i []) ≡ length (slice_index_or ring.old 0 []) }
+        ensures ring { ring.new ≡ drop 1 ring.old ++ slice_index_or self.old i [] ∷ [] }
+        ensures rows { self.new ≡ slice_set self.old i (slice_index_or ring.old 0 []) }
+    {
+        ring.turn_swap(&mut self.rows[i]);
+    }
+}
+
 #[cfg(test)]
 mod tests {
     use super::*;
@@ -122,6 +197,23 @@ mod tests {
         ring.turn_swap(&mut row);
         assert_eq!(rt; row.as_slice(), [4, 5, 6].as_slice());
         assert_eq!(rt; ring.at(1), [10, 11, 12].as_slice());
+        Ok(())
+    }
+
+    #[test]
+    fn a_row_is_exchanged_for_the_oldest(rt: HostRuntime) -> Result<(), Fail> {
+        let alloc = rt.alloc();
+        let mut ring = RowRing::new(alloc, 2, 3, 7)?;
+        let mut table = RowTable::new(alloc);
+        table.add(alloc, 2, 3)?;
+        table.set(1, 2, 5);
+        table.turn_into(1, &mut ring);
+        assert_eq!(rt; ring.at(0), [7, 7, 7].as_slice());
+        assert_eq!(rt; ring.at(1), [0, 0, 5].as_slice());
+        assert_eq!(rt; table.at(0), [0, 0, 0].as_slice());
+        assert_eq!(rt; table.at(1), [7, 7, 7].as_slice());
+        table.clear();
+        assert_eq!(rt; table.at(1), [0, 0, 0].as_slice());
         Ok(())
     }
 }

@@ -6,6 +6,7 @@ use Rattle.wave_defs.specs.Held.{signal}
 use Rattle.wave_defs.specs.Lifted.{plus_predicted}
 use Rattle.wave_defs.proofs.Shifts.{kept}
 use Rattle.wave_defs.proofs.Filled.{Agrees-set}
+use Rattle.wave_defs.proofs.Equations.{plus_predicted-is}
 use Rattle.lift_lanes.proofs.Loads.{AllWithin-left, AllWithin-load, load, store, length-passed}
 use Rattle.lift_lanes.proofs.Steps.{plus_predicted-narrow, plus_predicted-same}
 use Rattle.lift_lanes.proofs.back.predict_add_narrow.Goals as goal
@@ -55,12 +56,11 @@ lanes-preserved c =
     }
 
 pub odd_sample_narrow-requires : goal.odd_sample_narrow-requires
-unfolding plus_predicted
 odd_sample_narrow-requires c =
     let j = c.rest.j in
     let h : j < length c.args.odd.now = omega arith in
     let e = c.rest.invariant.left j (omega arith) in
-    let small = plus_predicted-narrow j (signal c.args.odd.now) (signal c.args.a.now) (signal c.args.b.now) (signal c.args.c.now) (signal c.args.d.now) (c.requires.bounded.at j h) (c.requires.bounded_a.at j h) (c.requires.bounded_b.at j h) (c.requires.bounded_c.at j h) (c.requires.bounded_d.at j h) in
+    let small = rw plus_predicted-is at (plus_predicted-narrow j (signal c.args.odd.now) (signal c.args.a.now) (signal c.args.b.now) (signal c.args.c.now) (signal c.args.d.now) (c.requires.bounded.at j h) (c.requires.bounded_a.at j h) (c.requires.bounded_b.at j h) (c.requires.bounded_c.at j h) (c.requires.bounded_d.at j h)) in
     let ko : to_z w32 (of_z w32 (signal c.rest.odd j)) ≡ signal c.args.odd.now j = ap (λ (v : ℤ). to_z w32 (of_z w32 v)) e ∙ kept w32 (2 ^ 30) _ (omega arith) (c.requires.bounded.at j h) in
     let ka = kept w32 (7 * 2 ^ 26) (signal c.args.a.now j) (omega arith) (c.requires.bounded_a.at j h) in
     let kb = kept w32 (7 * 2 ^ 26) (signal c.args.b.now j) (omega arith) (c.requires.bounded_b.at j h) in
@@ -69,10 +69,9 @@ odd_sample_narrow-requires c =
     record { fits = rw (ko, ka, kb, kc, kd) small }
 
 pub rest-preserved : goal.rest-preserved
-unfolding plus_predicted
 rest-preserved c =
     let e = c.rest.invariant.left c.rest.j (omega arith) in
     record {
-      done = Agrees-set _ _ _ _ (omega arith) c.rest.invariant.done (grind (arith, to_z-of_z));
+      done = Agrees-set _ _ _ _ (omega arith) c.rest.invariant.done (grind (arith, to_z-of_z, plus_predicted-is));
       left = λ p h. let ne : p ≢ c.rest.j = omega arith in rw get_or-set_other (c.rest.invariant.left p (omega arith));
     }

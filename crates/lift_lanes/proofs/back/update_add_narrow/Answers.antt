@@ -6,6 +6,7 @@ use Rattle.wave_defs.specs.Held.{signal}
 use Rattle.wave_defs.specs.Lifted.{plus_correction}
 use Rattle.wave_defs.proofs.Shifts.{kept}
 use Rattle.wave_defs.proofs.Filled.{Agrees-set}
+use Rattle.wave_defs.proofs.Equations.{plus_correction-is}
 use Rattle.lift_lanes.proofs.Loads.{AllWithin-left, AllWithin-load, load, store, length-passed}
 use Rattle.lift_lanes.proofs.Steps.{plus_correction-narrow, plus_correction-same}
 use Rattle.lift_lanes.proofs.back.update_add_narrow.Goals as goal
@@ -45,22 +46,20 @@ lanes-preserved c =
     }
 
 pub even_sample_narrow-requires : goal.even_sample_narrow-requires
-unfolding plus_correction
 even_sample_narrow-requires c =
     let j = c.rest.j in
     let h : j < length c.args.even.now = omega arith in
     let e = c.rest.invariant.left j (omega arith) in
-    let small = plus_correction-narrow j (signal c.args.even.now) (signal c.args.before.now) (signal c.args.after.now) (c.requires.bounded.at j h) (c.requires.bounded_before.at j h) (c.requires.bounded_after.at j h) in
+    let small = rw plus_correction-is at (plus_correction-narrow j (signal c.args.even.now) (signal c.args.before.now) (signal c.args.after.now) (c.requires.bounded.at j h) (c.requires.bounded_before.at j h) (c.requires.bounded_after.at j h)) in
     let ke : to_z w32 (of_z w32 (signal c.rest.even j)) ≡ signal c.args.even.now j = ap (λ (v : ℤ). to_z w32 (of_z w32 v)) e ∙ kept w32 (3 * 2 ^ 29) _ (omega arith) (c.requires.bounded.at j h) in
     let kb = kept w32 (3 * 2 ^ 27) (signal c.args.before.now j) (omega arith) (c.requires.bounded_before.at j h) in
     let ka = kept w32 (3 * 2 ^ 27) (signal c.args.after.now j) (omega arith) (c.requires.bounded_after.at j h) in
     record { fits = rw (ke, kb, ka) small }
 
 pub rest-preserved : goal.rest-preserved
-unfolding plus_correction
 rest-preserved c =
     let e = c.rest.invariant.left c.rest.j (omega arith) in
     record {
-      done = Agrees-set _ _ _ _ (omega arith) c.rest.invariant.done (grind (arith, to_z-of_z));
+      done = Agrees-set _ _ _ _ (omega arith) c.rest.invariant.done (grind (arith, to_z-of_z, plus_correction-is));
       left = λ p h. let ne : p ≢ c.rest.j = omega arith in rw get_or-set_other (c.rest.invariant.left p (omega arith));
     }

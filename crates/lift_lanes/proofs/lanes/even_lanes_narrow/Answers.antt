@@ -1,13 +1,11 @@
 use Rattle.std.proofs.Common.{ℕ, pos, ◌*◌, ◌^◌, ◌<◌, refl, arith, w32}
 use Rattle.std.proofs.lemmas.Int.{ints}
-use Rattle.wave_defs.specs.Line.{correction}
-use Rattle.wave_defs.specs.Lifted.{plus_correction}
 use Rattle.wave_defs.proofs.Floors.{correction-within}
+use Rattle.wave_defs.proofs.Equations.{correction-is, plus_correction-is}
 use Rattle.lift_lanes.proofs.LaneSteps.{Lane-of, Lane-splat, Lane-shr, Lane-value, Lane-long, add_32, sub_32}
 use Rattle.lift_lanes.proofs.lanes.even_lanes_narrow.Goals as goal
 
 pub returns : goal.returns
-unfolding plus_correction correction
 returns c =
     let lane = λ (k : ℕ) (h : k < 8).
     let re = c.requires.bounded.at k h in
@@ -18,9 +16,9 @@ returns c =
     let a = Lane-of w32 8 k h c.args.after c.requires.many.2 (omega (arith, ints)) in
     let both = add_32 8 k h _ _ _ _ b a (omega (arith, ints)) in
     let less = sub_32 8 k h _ _ _ _ (Lane-splat w32 8 k h (pos 2) (omega (arith, ints))) both (omega (arith, ints)) in
-    let small = correction-within (3 * 2 ^ 27) _ _ (omega arith) rb ra in
+    let small = rw correction-is at (correction-within (3 * 2 ^ 27) _ _ (omega arith) rb ra) in
     add_32 8 k h _ _ _ _ e (Lane-shr w32 8 k h 2 4 _ _ _ refl refl less (Lane-splat w32 8 k h (pos 2) (omega (arith, ints)))) (omega (arith, ints)) in
     record {
       long = Lane-long w32 8 0 (omega arith) _ _ (lane 0 (omega arith));
-      value = record { at = λ k h. Lane-value w32 8 k h _ _ (lane k h) };
+      value = record { at = λ k h. rw (plus_correction-is, correction-is) (Lane-value w32 8 k h _ _ (lane k h)) };
     }

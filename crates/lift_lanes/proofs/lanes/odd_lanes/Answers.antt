@@ -1,13 +1,11 @@
 use Rattle.std.proofs.Common.{ℕ, pos, ◌^◌, ◌<◌, refl, arith, w64}
 use Rattle.std.proofs.lemmas.Int.{ints}
-use Rattle.wave_defs.specs.Line.{predicted}
-use Rattle.wave_defs.specs.Lifted.{plus_predicted}
 use Rattle.wave_defs.proofs.Floors.{predicted-within}
+use Rattle.wave_defs.proofs.Equations.{plus_predicted-is, predicted-is}
 use Rattle.lift_lanes.proofs.LaneSteps.{Lane-of, Lane-splat, Lane-shr, Lane-value, Lane-long, add_64, sub_64, mul_64}
 use Rattle.lift_lanes.proofs.lanes.odd_lanes.Goals as goal
 
 pub returns : goal.returns
-unfolding plus_predicted predicted
 returns c =
     let lane = λ (k : ℕ) (h : k < 4).
     let ro = c.requires.bounded.at k h in
@@ -23,9 +21,9 @@ returns c =
     let near = mul_64 k h _ _ _ _ (Lane-splat w64 4 k h (pos 9) (omega (arith, ints))) (add_64 k h _ _ _ _ b e (omega (arith, ints))) (omega (arith, ints)) in
     let far = add_64 k h _ _ _ _ a d (omega (arith, ints)) in
     let sum = add_64 k h _ _ _ _ (sub_64 k h _ _ _ _ near far (omega (arith, ints))) (Lane-splat w64 4 k h (pos 8) (omega (arith, ints))) (omega (arith, ints)) in
-    let small = predicted-within (2 ^ 39) _ _ _ _ (omega arith) ra rb rc rd in
+    let small = rw predicted-is at (predicted-within (2 ^ 39) _ _ _ _ (omega arith) ra rb rc rd) in
     add_64 k h _ _ _ _ o (Lane-shr w64 4 k h 4 16 _ _ _ refl refl sum (Lane-splat w64 4 k h (pos 4) (omega (arith, ints)))) (omega (arith, ints)) in
     record {
       long = Lane-long w64 4 0 (omega arith) _ _ (lane 0 (omega arith));
-      value = record { at = λ k h. Lane-value w64 4 k h _ _ (lane k h) };
+      value = record { at = λ k h. rw (plus_predicted-is, predicted-is) (Lane-value w64 4 k h _ _ (lane k h)) };
     }

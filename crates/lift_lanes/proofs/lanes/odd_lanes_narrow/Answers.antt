@@ -1,14 +1,13 @@
 use Rattle.std.proofs.Common.{ℕ, pos, ◌*◌, ◌^◌, ◌<◌, ◌∙◌, ap, ◌+ℤ◌, ℤ, refl, arith, w32}
 use Rattle.std.proofs.lemmas.Int.{ints}
 use Rattle.wave_defs.specs.Held.{signal}
-use Rattle.wave_defs.specs.Lifted.{plus_predicted}
 use Rattle.wave_defs.proofs.Floors.{predicted-within}
+use Rattle.wave_defs.proofs.Equations.{plus_predicted-is}
 use Rattle.lift_lanes.proofs.LaneSteps.{Lane-of, Lane-splat, Lane-shr, Lane-value, Lane-long, add_32, sub_32}
 use Rattle.lift_lanes.proofs.TwoSteps.{eighth-within, in_two_steps}
 use Rattle.lift_lanes.proofs.lanes.odd_lanes_narrow.Goals as goal
 
 pub returns : goal.returns
-unfolding plus_predicted
 returns c =
     let lane = λ (k : ℕ) (h : k < 8).
     let ro = c.requires.bounded.at k h in
@@ -32,5 +31,5 @@ returns c =
     add_32 8 k h _ _ _ _ o (Lane-shr w32 8 k h 1 2 _ _ _ refl refl both (Lane-splat w32 8 k h (pos 1) (omega (arith, ints)))) (rw same (omega (arith, ints))) in
     record {
       long = Lane-long w32 8 0 (omega arith) _ _ (lane 0 (omega arith));
-      value = record { at = λ k h. Lane-value w32 8 k h _ _ (lane k h) ∙ ap (λ (z : ℤ). signal c.args.high k +ℤ z) (in_two_steps (signal c.args.a k) (signal c.args.b k) (signal c.args.c k) (signal c.args.d k)) };
+      value = record { at = λ k h. rw plus_predicted-is (Lane-value w32 8 k h _ _ (lane k h) ∙ ap (λ (z : ℤ). signal c.args.high k +ℤ z) (in_two_steps (signal c.args.a k) (signal c.args.b k) (signal c.args.c k) (signal c.args.d k))) };
     }

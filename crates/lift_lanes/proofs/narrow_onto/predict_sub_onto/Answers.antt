@@ -3,6 +3,7 @@ use Rattle.std.proofs.lemmas.Int.{to_z-of_z}
 use Rattle.wave_defs.specs.Held.{signal}
 use Rattle.wave_defs.specs.Lifted.{less_predicted}
 use Rattle.wave_defs.proofs.Filled.{Agrees-set}
+use Rattle.wave_defs.proofs.Equations.{less_predicted-is}
 use Rattle.lift_lanes.proofs.Loads.{AllWithin-load, load, store, length-passed}
 use Rattle.lift_lanes.proofs.Steps.{less_predicted-within, less_predicted-same}
 use Rattle.lift_lanes.proofs.narrow_onto.predict_sub_onto.Goals as goal
@@ -47,5 +48,4 @@ lanes-preserved c =
     record { at = λ p h. stored.at p (omega arith) }
 
 pub rest-preserved : goal.rest-preserved
-unfolding less_predicted
-rest-preserved c = Agrees-set _ _ _ _ (omega arith) c.rest.invariant (grind (arith, to_z-of_z))
+rest-preserved c = Agrees-set _ _ _ _ (omega arith) c.rest.invariant (grind (arith, to_z-of_z, less_predicted-is))

@@ -5,6 +5,7 @@ use Rattle.wave_defs.specs.Within.{IsWithin}
 use Rattle.wave_defs.specs.Held.{signal}
 use Rattle.wave_defs.specs.Lifted.{plus_correction}
 use Rattle.wave_defs.proofs.Filled.{Agrees-set}
+use Rattle.wave_defs.proofs.Equations.{plus_correction-is}
 use Rattle.lift_lanes.proofs.Loads.{AllWithin-left, AllWithin-load, load, store, length-passed}
 use Rattle.lift_lanes.proofs.Steps.{plus_correction-within, plus_correction-same}
 use Rattle.lift_lanes.proofs.wide.update_add.Goals as goal
@@ -44,10 +45,9 @@ lanes-preserved c =
     }
 
 pub rest-preserved : goal.rest-preserved
-unfolding plus_correction
 rest-preserved c =
     let e = c.rest.invariant.left c.rest.j (omega arith) in
     record {
-      done = Agrees-set _ _ _ _ (omega arith) c.rest.invariant.done (grind (arith, to_z-of_z));
+      done = Agrees-set _ _ _ _ (omega arith) c.rest.invariant.done (grind (arith, to_z-of_z, plus_correction-is));
       left = λ p h. let ne : p ≢ c.rest.j = omega arith in rw get_or-set_other (c.rest.invariant.left p (omega arith));
     }

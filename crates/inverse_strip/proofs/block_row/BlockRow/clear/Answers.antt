@@ -1,9 +1,5 @@
-use Rattle.std.proofs.Common.{List, ℤ, ap, ◌∙◌}
-use Rattle.wave_defs.specs.Held.{signal}
-use Rattle.inverse_strip.proofs.CellLemmas.{number-zero, zero-at}
+use Rattle.inverse_strip.proofs.CellLemmas.{number-zero}
 use Rattle.inverse_strip.proofs.block_row.BlockRow.clear.Goals as goal
 
 pub returns-clause-zero : goal.returns-clause-zero
-returns-clause-zero c = λ p.
-    let items = c.fill.ensures.items (λ y e. e) in
-    number-zero c.args.self.now.columns p _ (λ k. ap (λ (xs : List ℤ). signal xs k) items ∙ zero-at _ k)
+returns-clause-zero c = λ p. number-zero c.args.self.now.columns p _ c.clear.ensures.zero

@@ -1,15 +1,16 @@
-use Rattle.std.proofs.Common.{◌≡◌, ℕ, ◌+◌, ◌*◌, ℤ, List, sym, ap, ◌∙◌, arith}
-use Rattle.wave_defs.specs.Blocks.{block_side}
+use Rattle.std.proofs.Common.{ℕ, ◌+◌, length, get_or, [], sym, ap, ◌∙◌}
 use Rattle.wave_defs.specs.Held.{signal}
-use Rattle.inverse_strip.proofs.CellLemmas.{number-at, part-at}
+use Rattle.inverse_strip.proofs.CellLemmas.{number-at, row-wide}
 use Rattle.inverse_strip.proofs.block_row.BlockRow.row.Goals as goal
+
+pub returns-clause-wide : goal.returns-clause-wide
+returns-clause-wide c =
+    let s = c.args.self.now in
+    ap length c.at.ensures ∙ ap (λ (n : ℕ). length (get_or s.rows (n + c.args.row) [])) c.rows_before.ensures
+    ∙ row-wide s.columns c.args.band c.args.row s.rows s.whole c.requires.band c.requires.row
 
 pub returns-clause-value : goal.returns-clause-value
 returns-clause-value c = λ j h.
     let s = c.args.self.now in
-    let side = c.side_of.ensures in
-    let wide : c.side_of.result * s.columns ≡ block_side c.args.band * s.columns = ap (λ (n : ℕ). n * s.columns) side in
-    let part = part-at c.start_of-start.result (c.side_of.result * s.columns) j c.deref.result.now (omega arith) (omega arith) in
-    let number = number-at s.columns s.cells.items (record { band = c.args.band; row = c.args.row; column = j }) (record { band = c.requires.band; row = c.requires.row; column = h }) in
-    let start = ap (λ (n : ℕ). signal s.cells.items (n + j)) c.start_of-start.ensures.start in
-    part ∙ ap (λ (xs : List ℤ). signal xs (c.start_of-start.result + j)) c.deref.ensures.value ∙ start ∙ sym number
+    ap (λ x. signal x j) c.at.ensures ∙ ap (λ (n : ℕ). signal (get_or s.rows (n + c.args.row) []) j) c.rows_before.ensures
+    ∙ sym (number-at s.columns s.rows (record { band = c.args.band; row = c.args.row; column = j }) (record { band = c.requires.band; row = c.requires.row; column = h }))
