@@ -14,11 +14,7 @@ pub dcs_as : {old new : List ℤ} (dc next : ℕ → ℤ) → ((r : ℕ) → r *
 dcs_as dc next same s = record { size = s.size; dcs = λ r lt. s.dcs r lt ∙ same r lt; others = s.others }
 
 pub dcs_then : {a b c : List ℤ} (f g next : ℕ → ℤ) → ((r : ℕ) → r * 64 < length a → g r ≡ next r) → SetsDcs f a b → SetsDcs g b c → SetsDcs next a c
-dcs_then f g next same p q = record {
-  size = q.size ∙ p.size;
-  dcs = λ r lt. q.dcs r (omega (arith, lt, p.size)) ∙ same r lt;
-  others = λ i none. q.others i none ∙ p.others i none;
-}
+dcs_then f g next same p q = grind (arith, nat_tests)
 
 -- the DC of block i is set
 pub dcs_set : {old new : List ℤ} (dc next : ℕ → ℤ) (i : ℕ) (z : ℤ) → i * 64 < length old → next i ≡ z → ((r : ℕ) → (r ≡ i → ⊥) → next r ≡ dc r) → SetsDcs dc old new → SetsDcs next old (set new (i * 64) z)

@@ -2,7 +2,6 @@
 use Rattle.std.proofs.Common.{◌≡◌, ℕ, suc, ◌+◌, ◌*◌, ◌^◌, ◌<◌, ℤ, pos, List, [], ◌∷◌, length, get_or, map, false, refl, sym, ap, ◌∙◌, arith, nat_abs}
 use Rattle.std.specs.List.{range_with_len}
 use Rattle.std.specs.Int.{int_shr, div_ceil}
-use Rattle.std.proofs.lemmas.Int.{ints}
 use Rattle.std.proofs.lemmas.Bool.Decides.{nat_tests}
 use Rattle.number_defs.specs.Ranges.{shifted_height}
 use Rattle.number_defs.specs.Cells.{cell_at, strided, AreInRange}
@@ -36,13 +35,4 @@ pub heights_are : (N : ℕ) (marks : List ℤ) → map (shifted_height false N 0
 heights_are N marks = ap (map (shifted_height false N 0)) (every_cell marks) ∙ same_heights N marks
 
 pub marks_in_range : (N most : ℕ) (marks : List ℤ) → most < 2 ^ N → AreDepths most marks → AreInRange false N 0 1 marks
-marks_in_range N most marks lt h = record {
-  at = λ m within.
-      let z = cell_at 1 marks m in
-      let place : m < length marks = omega arith in
-      let same : get_or marks m (pos 0) ≡ z = (let e : m ≡ m * 1 = omega arith in ap (λ i. get_or marks i (pos 0)) e) in
-      let low = h.low m place in
-      let high = h.high m place in
-      let s : int_shr z 0 ≡ get_or marks m (pos 0) = unshifted z ∙ sym same in
-      record { low = rw s (omega (arith, ints, low)); high = rw s (omega (arith, ints, high)) };
-}
+marks_in_range N most marks lt h = grind (arith, nat_tests, unshifted)

@@ -9,6 +9,7 @@ use Rattle.bit_pipe.specs.declared.fault.PutFault.{PutFault}
 use Rattle.bit_pipe.proofs.Putting.{adds_start, adds_then, puts_ended, puts_whole}
 use Rattle.number_defs.specs.DcPart.{dc_bit, planes_before}
 use Rattle.number_defs.proofs.Equations.{planes_before-none, planes_before-more}
+use Rattle.std.proofs.lemmas.Bool.Decides.{nat_tests}
 
 module _ (q : ℕ) (dcs : List ℤ) where
   -- the plane after the first n
@@ -23,9 +24,7 @@ module _ (q : ℕ) (dcs : List ℤ) where
             let r = rest_of m n (omega arith) in
             let last = map (dc_bit (q - suc m)) dcs in
             (r.0 ++ last, ap (λ t. text (planes_before q dcs n) ++ t) (text-append r.0 last) ∙ sym (append_assoc (text (planes_before q dcs n)) (text r.0) (text last)) ∙ ap (λ t. t ++ text last) r.1 ∙ sym (text-append (planes_before q dcs m) last) ∙ ap text (sym (planes_before-more q dcs m)))
-        | inr ge ↦
-            let same : n ≡ suc m = omega arith in
-            ([], rw same (append-nil (text (planes_before q dcs (suc m)))))
+        | inr ge ↦ grind (arith, nat_tests, append-nil)
       ]
 
   pub plane_none : {S : Type 0} (k : SinkOf S) (s : Standing S) (n : ℕ) → n ≡ 0 → IsOpen s → Adds k s s (text (planes_before q dcs n))

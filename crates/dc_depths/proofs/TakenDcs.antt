@@ -1,9 +1,8 @@
 -- The DC part that was read.
-use Rattle.std.proofs.Common.{◌≡◌, ◌⊎◌, ℕ, ◌+◌, ◌-◌, ◌*◌, ◌^◌, ◌<◌, ◌≤◌, ℤ, pos, ◌+ℤ◌, ◌*ℤ◌, List, ◌++◌, length, map, get_or, true, false, cond, refl, sym, ap, subst, ◌∙◌, arith, inl, inr, length-append, Result, ◌&&◌, nat_lt, nat_le, pow_pos}
+use Rattle.std.proofs.Common.{◌≡◌, ◌⊎◌, ℕ, ◌+◌, ◌-◌, ◌*◌, ◌^◌, ◌<◌, ◌≤◌, ℤ, pos, ◌+ℤ◌, ◌*ℤ◌, List, ◌++◌, length, map, get_or, true, false, cond, refl, sym, ap, subst, ◌∙◌, arith, length-append, Result, ◌&&◌, nat_lt, nat_le, pow_pos}
 use Rattle.std.specs.Int.{int_shr, div_ceil}
 use Rattle.std.specs.List.{range_with_len}
 use Rattle.std.proofs.Math.Nat.{zero-mod}
-use Rattle.std.proofs.lemmas.Bool.{cases_lt}
 use Rattle.std.proofs.lemmas.Bool.Decides.{nat_tests}
 use Rattle.std.proofs.lemmas.Int.{ints}
 use Rattle.std.proofs.lemmas.List.FromFn.{length-map-range_with_len, get_or-map-range_with_len}
@@ -55,14 +54,7 @@ later_items n d c e h = grind (arith, nat_tests)
 
 -- a bit that is not given is below the last plane, or after what was read
 not_given : (n planes high rest m count r : ℕ) → (nat_lt n planes && nat_le (high + n * count + r + 1) m) ≡ false → m ≡ high + rest → (planes ≤ n) ⊎ (rest ≤ n * count + r)
-not_given n planes high rest m count r h e = elim (cases_lt n planes) [
-  | inl lt ↦
-      let t : nat_lt n planes ≡ true = grind (arith, nat_tests) in
-      let g : nat_le (high + n * count + r + 1) m ≡ false = rw t at h in
-      let past : m < high + n * count + r + 1 = grind (arith, nat_tests) in
-      inr (omega (arith, past, e))
-  | inr ge ↦ inl ge
-]
+not_given n planes high rest m count r h e = grind (arith, nat_tests)
 
 module _ {I : Type 0} {k : SourceOf I} {a b : Coming I} {before mid : List ℤ} (depth_dc depth_ac shift : ℕ) {answered : Result Part TextFault}
     (h : TakesHigh k (dc_bits depth_dc depth_ac shift) (dc_q depth_dc depth_ac shift) answered a b before mid) where

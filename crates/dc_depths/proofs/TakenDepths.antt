@@ -1,5 +1,5 @@
 -- Block depths that were read.
-use Rattle.std.proofs.Common.{◌≡◌, ℕ, ◌+◌, ◌*◌, ◌^◌, ◌<◌, ◌≤◌, ℤ, pos, ◌*ℤ◌, List, length, map, take, get_or, Bool, true, false, cond, Ok, Err, refl, sym, ap, subst, ◌∙◌, arith, inl, inr, length-take, Result, Some, None, ◌==◌, nat_abs, nat_lt, set}
+use Rattle.std.proofs.Common.{◌≡◌, ℕ, ◌+◌, ◌*◌, ◌^◌, ◌<◌, ◌≤◌, ℤ, pos, ◌*ℤ◌, List, length, map, take, get_or, Bool, false, cond, Ok, Err, refl, sym, ap, subst, ◌∙◌, arith, inl, inr, length-take, Result, Some, None, ◌==◌, nat_abs, nat_lt, set}
 use Rattle.std.proofs.lemmas.Bool.{cases_lt, cases_eq, ltb-false}
 use Rattle.std.proofs.lemmas.Bool.Decides.{nat_tests}
 use Rattle.std.proofs.lemmas.Int.{ints}
@@ -56,8 +56,7 @@ no_depths {I} {k} depth_ac a now e h none = rw e (record {
     ]
 
     either : (i : ℕ) (t : Bool) → cond t (get_or (map nat_abs now) i 0) 0 ≡ 0
-    either i true = zero_at i
-    either i false = refl
+    either i t = grind (arith, nat_tests, zero_at)
 
 -- ---- a bit for each
 
@@ -164,8 +163,7 @@ coded_depths {now = now} depth_ac N answer low bits same_size like t =
       low = λ i lt within. ltb-false depth_ac (get_or t.heights i 0) (t.allowed i lt within);
       marks = λ i lt.
           let place : i * 1 ≡ i = omega arith in
-          let at : get_or now i (pos 0) ≡ given_number (record { signed = false; bits = N }) 0 (take t.given t.heights) i =
-          ap (λ n. get_or now n (pos 0)) (sym place) ∙ t.cells.numbers i (omega (arith, lt, same_size)) in
+          let at : get_or now i (pos 0) ≡ given_number (record { signed = false; bits = N }) 0 (take t.given t.heights) i = grind (arith, nat_tests) in
           at ∙ mark_is t.heights t.given i (omega (arith, lt, count));
     }
   where

@@ -1,5 +1,5 @@
 -- Numbers of DCs that were read.
-use Rattle.std.proofs.Common.{◌≡◌, ℕ, zero, suc, ◌+◌, ◌*◌, ◌^◌, ◌<◌, ◌≤◌, ℤ, pos, ◌+ℤ◌, ◌*ℤ◌, List, length, map, take, get_or, cond, eqb, true, false, refl, sym, ap, subst, ◌∙◌, arith, inl, inr, unsigned_abs, length-take, Result, Bool, neg_ℤ, nat_lt, mul-le-mul_right, pow_mono, pow-add}
+use Rattle.std.proofs.Common.{◌≡◌, ℕ, ◌+◌, ◌*◌, ◌^◌, ◌<◌, ◌≤◌, ℤ, pos, ◌+ℤ◌, ◌*ℤ◌, List, length, map, take, get_or, cond, eqb, true, false, sym, ap, subst, ◌∙◌, arith, inl, inr, unsigned_abs, length-take, Result, Bool, neg_ℤ, mul-le-mul_right, pow_mono, pow-add}
 use Rattle.std.specs.Int.{div_ceil}
 use Rattle.std.proofs.lemmas.Bool.{cases_lt}
 use Rattle.std.proofs.lemmas.Bool.Decides.{nat_tests}
@@ -14,15 +14,13 @@ use Rattle.bit_pipe.specs.Coming.{Coming}
 use Rattle.bit_pipe.specs.Reading.{Ending, Reads}
 use Rattle.bit_pipe.specs.Answers.{part_answer, items_read}
 use Rattle.number_defs.specs.Ranges.{IsInRange, number_at, height_of, shifted_height, complement}
-use Rattle.number_defs.specs.Cells.{cell_at}
 use Rattle.number_defs.specs.Gaggles.{number_items}
-use Rattle.number_defs.specs.Given.{numbers_through}
 use Rattle.number_defs.specs.DcPart.{dc_kind, dc_bit, high_items}
 use Rattle.number_defs.proofs.Heights.{height_back, negatives_fit}
 use Rattle.gaggle_codes.specs.Given.{given_number}
 use Rattle.gaggle_codes.specs.Taken.{TakesNumbers, numbers_answer}
 use Rattle.gaggle_codes.proofs.AllGiven.{numbers_within}
-use Rattle.dc_depths.specs.TakenDc.{SetsDcs, dc_through}
+use Rattle.dc_depths.specs.TakenDc.{SetsDcs}
 use Rattle.dc_depths.specs.DcReading.{block_count, zero_dc, HasRoom, with_bits, TakesBits, HasNumbers, high_parts, TakesHigh}
 use Rattle.dc_depths.proofs.DcCells.{dcs_then}
 use Rattle.dc_depths.proofs.Parts.{high_raw, high_coded}
@@ -31,9 +29,7 @@ use Rattle.dc_depths.proofs.TakenPlanes.{same_maps}
 -- ---- a bit for each
 
 raw_range : (N bit : ℕ) → N ≡ 1 → bit < 2 → IsInRange true N (neg_ℤ (pos bit))
-raw_range N zero e lt = rw e (record { low = omega (arith, ints); high = omega (arith, ints) })
-raw_range N (suc zero) e lt = rw e (record { low = omega (arith, ints); high = omega (arith, ints) })
-raw_range N (suc (suc bit)) e lt = absurd (omega arith)
+raw_range N bit e lt = grind (arith, nat_tests)
 
 raw_bit : (bit : ℕ) → bit < 2 → complement 1 (neg_ℤ (pos bit)) ≡ bit
 raw_bit bit lt = grind (arith, nat_tests)
@@ -55,11 +51,7 @@ raw_high {I} {k} {result} {a} {b} {before} {mid} {now} N q one z t = record {
   read = λ dcs h. subst (λ items. Reads k items t.ending a b) (sym (items dcs h)) t.read;
   answer = t.answer;
   given = items_read (length t.bits) t.ending;
-  given_are = λ dcs h i lt.
-      let same : items_read (length (high_items N q dcs (λ g. 0))) t.ending ≡ items_read (length t.bits) t.ending = ap (λ n. items_read n t.ending) (ap length (items dcs h) ∙ length-map t.bits raw) in
-      let test : eqb N 1 ≡ true = grind (arith, nat_tests) in
-      let through : dc_through N q dcs (λ g. 0) i ≡ i + 1 = rw test refl in
-      (λ g. omega (arith, g, same, through), λ g. omega (arith, g, same, through));
+  given_are = λ dcs h i lt. grind (arith, nat_tests, items, length-map);
   all_given = λ w. rw w (omega (arith, long));
   cells = dcs_then zero_dc (with_bits mid (neg_ℤ (pos (2 ^ q))) t.bits) (high_parts q (items_read (length t.bits) t.ending) (λ i. neg_ℤ (pos (get_or t.bits i 0)))) part z t.cells;
 }
@@ -73,10 +65,7 @@ raw_high {I} {k} {result} {a} {b} {before} {mid} {now} N q one z t = record {
         ∙ same_maps (dc_bit q) raw dcs t.bits (pos 0) 0 (h.all ∙ sym long) (λ i lt. ap raw (ap (complement 1) (h.at i (omega (arith, lt, h.all))) ∙ raw_bit (get_or t.bits i 0) (t.few i)))
 
     part : (r : ℕ) → r * 64 < length before → with_bits mid (neg_ℤ (pos (2 ^ q))) t.bits r ≡ high_parts q (items_read (length t.bits) t.ending) (λ i. neg_ℤ (pos (get_or t.bits i 0))) r
-    part r lt = elim (cases_lt r (items_read (length t.bits) t.ending)) [
-      | inl less ↦ (let test : nat_lt r (items_read (length t.bits) t.ending) ≡ true = grind (arith, nat_tests) in rw test (raw_part (2 ^ q) (get_or t.bits r 0) (cell_at 64 mid r) (t.few r) (z.dcs r lt)))
-      | inr more ↦ (let test : nat_lt r (items_read (length t.bits) t.ending) ≡ false = grind (arith, nat_tests) in rw test (no_part (2 ^ q) (get_or t.bits r 0) (cell_at 64 mid r) (t.none r more) (z.dcs r lt)))
-    ]
+    part r lt = grind (arith, nat_tests, raw_part, no_part)
 
 -- ---- numbers by differences
 
@@ -94,11 +83,7 @@ coded_high {I} {k} {r} {a} {b} {before} {now} N q answer two like t = record {
   read = λ dcs h. subst (λ items. Reads k items t.ending a b) (sym (items dcs h)) t.read;
   answer = like t.ending t.given t.answer;
   given = t.given;
-  given_are = λ dcs h i lt.
-      let same : items_read (length (high_items N q dcs t.options)) t.ending ≡ items_read (length (number_items (dc_kind N) t.heights t.options)) t.ending = ap (λ is. items_read (length is) t.ending) (items dcs h) in
-      let through : dc_through N q dcs t.options i ≡ numbers_through (dc_kind N) t.heights t.options i = rw test (ap (λ hs. numbers_through (dc_kind N) hs t.options i) (heights_are dcs h)) in
-      let are = t.given_are i (omega (arith, lt, t.all)) in
-      (λ g. let x = are.0 g in omega (arith, x, same, through), λ g. are.1 (omega (arith, g, same, through)));
+  given_are = λ dcs h i lt. grind (arith, nat_tests, items, test, heights_are);
   all_given = λ w. elim (cases_lt t.given (block_count before)) [
     | inl less ↦
         let within = numbers_within (dc_kind N) t.heights t.options t.given (omega (arith, less, t.all)) in
@@ -123,16 +108,7 @@ coded_high {I} {k} {r} {a} {b} {before} {now} N q answer two like t = record {
     items dcs h = high_coded N q dcs t.options (λ e. omega (arith, e, two)) ∙ ap (λ hs. number_items (dc_kind N) hs t.options) (heights_are dcs h)
 
     part : (i : ℕ) → i < length t.heights → given_number (record { signed = true; bits = N }) q (take t.given t.heights) i ≡ high_parts q t.given (λ j. number_at true N (get_or t.heights j 0)) i
-    part i lt = elim (cases_lt i t.given) [
-      | inl less ↦
-          (let u : nat_lt i (length (take t.given t.heights)) ≡ true = (let n : i < length (take t.given t.heights) = omega (arith, length-take t.given t.heights, lt, less) in grind (arith, nat_tests)) in
-          let v : nat_lt i t.given ≡ true = grind (arith, nat_tests) in
-          rw (u, v, get_or-take t.given t.heights i 0 less) refl)
-      | inr more ↦
-          (let u : nat_lt i (length (take t.given t.heights)) ≡ false = (let n : length (take t.given t.heights) ≤ i = omega (arith, length-take t.given t.heights, more) in grind (arith, nat_tests)) in
-          let v : nat_lt i t.given ≡ false = grind (arith, nat_tests) in
-          rw (u, v) refl)
-    ]
+    part i lt = grind (arith, nat_tests, length-take, get_or-take)
 
 -- ---- their bounds
 
@@ -141,9 +117,7 @@ number_abs N z h = let n = negatives_fit true N in let low = h.low in let high =
 
 pub high_room : {I : Type 0} {k : SourceOf I} {result : Result Part TextFault} {a b : Coming I} {before now : List ℤ} (N q : ℕ) → N + q ≤ 28 → TakesHigh k N q result a b before now → HasRoom (pos 1073741824) now
 high_room {before = before} N q both t = record {
-  at = λ r within.
-      let place : r * 64 < length before = omega (arith, within, t.cells.size) in
-      rw (t.cells.dcs r place) (small r (omega (arith, place)) (nat_lt r t.given));
+  at = λ r within. grind (arith, nat_tests, small);
 }
   where
     small : (r : ℕ) → r < block_count before → (given : Bool) → unsigned_abs (cond given (t.number r *ℤ pos (2 ^ q)) (pos 0)) + 1073741824 < 2147483648

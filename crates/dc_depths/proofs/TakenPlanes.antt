@@ -20,13 +20,14 @@ use Rattle.bit_pipe.proofs.ItemReading.{reads_then, reads_cut, reads_whole}
 use Rattle.number_defs.specs.Cells.{cell_at}
 use Rattle.number_defs.specs.DcPart.{dc_bit, planes_before}
 use Rattle.dc_depths.specs.TakenDc.{SetsDcs}
-use Rattle.dc_depths.specs.DcReading.{block_count, HasRoom, HasBits, with_low, with_bits, TakesBits, TakesPlanes}
+use Rattle.dc_depths.specs.DcReading.{block_count, HasRoom, HasBits, with_low, TakesBits, TakesPlanes}
 use Rattle.dc_depths.proofs.DcCells.{dcs_same, dcs_as, dcs_then}
 use Rattle.dc_depths.proofs.DcNumbers.{bit_added, bits_above, added_multiple, added_small, no_bit_below}
 use Rattle.dc_depths.proofs.Planes.{one_more}
 use Rattle.dc_depths.proofs.TakenBits.{abs_sum}
 use Rattle.number_defs.proofs.DcPlanes.{length-planes_before, planes_split}
 use Rattle.number_defs.proofs.Equations.{planes_before-none}
+use Rattle.std.proofs.lemmas.Bool.Decides.{nat_tests}
 
 -- lists with equal images
 pub same_maps : {X Y Z : Type 0} (f : X → Z) (g : Y → Z) (xs : List X) (ys : List Y) (d : X) (e : Y) → length xs ≡ length ys → ((i : ℕ) → i < length xs → f (get_or xs i d) ≡ g (get_or ys i e)) → map f xs ≡ map g ys
@@ -95,15 +96,10 @@ module _ {I : Type 0} {k : SourceOf I} {result : Result Part TextFault} {a b c :
   multiple_after r = added_multiple (s.low r) p (get_or t.bits r 0) (t.few r) (multiple_above r)
 
   cells_after : SetsDcs (with_low before after) before now
-  cells_after =
-      dcs_then (with_low before s.low) (with_bits mid (pos (2 ^ p)) t.bits) (with_low before after)
-      (λ r lt. ap (λ z. z +ℤ (pos (get_or t.bits r 0) *ℤ pos (2 ^ p))) (s.cells.dcs r lt) ∙ join (cell_at 64 before r) (s.low r) (get_or t.bits r 0) (2 ^ p)) s.cells t.cells
+  cells_after = grind (arith, nat_tests, dcs_then, join)
 
   bits_before : (n : ℕ) (dcs : List ℤ) → q - p ≤ n → HasBits q n (block_count before) after dcs → HasBits q (q - plane) (block_count before) s.low dcs
-  bits_before n dcs far h = record {
-    all = h.all;
-    at = λ r bit lt less within. h.at r bit lt less (omega (arith, within)) ∙ bits_above (s.low r) p (get_or t.bits r 0) (t.few r) (multiple_above r) bit (omega (arith, within));
-  }
+  bits_before n dcs far h = grind (arith, nat_tests, bits_above, multiple_above)
 
   this_plane : (n : ℕ) (dcs : List ℤ) → q - p ≤ n → HasBits q n (block_count before) after dcs → map (dc_bit p) dcs ≡ map raw t.bits
   this_plane n dcs far h =
@@ -150,12 +146,7 @@ module _ {I : Type 0} {k : SourceOf I} {result : Result Part TextFault} {a b c :
     where
       unread : (r bit : ℕ) → r < block_count before → bit ≡ p → (n ≤ q - (bit + 1)) ⊎ (items_read (n * block_count before) (later_by ((q - plane) * block_count before) t.ending) ≤ (q - (bit + 1)) * block_count before + r) →
           items_read (length t.bits) t.ending ≤ r
-      unread r bit lt here (inl none) = absurd (omega (arith, none, here))
-      unread r bit lt here (inr past) =
-          let later = read_later (n * block_count before) (length t.bits) ((q - plane) * block_count before) t.ending cut in
-          let same : q - (bit + 1) ≡ q - plane = omega arith in
-          let at : (q - (bit + 1)) * block_count before ≡ (q - plane) * block_count before = ap (λ m. m * block_count before) same in
-          omega (arith, past, later, at)
+      unread r bit lt here h4 = grind (arith, nat_tests, read_later)
 
       too_far : (r bit : ℕ) → r < block_count before → bit < q → p < bit → (n ≤ q - (bit + 1)) ⊎ (items_read (n * block_count before) (later_by ((q - plane) * block_count before) t.ending) ≤ (q - (bit + 1)) * block_count before + r) → ⊥
       too_far r bit lt less above (inl none) = omega (arith, none)

@@ -11,11 +11,9 @@ numbers_within kind heights options i less =
     let size = min (length heights) (16 * g + 16) - 16 * g in
     let parts : i ≡ 16 * g + j = omega arith in
     let j_few : j < size = omega (arith, less) in
-    let through = ap (numbers_through kind heights options) parts ∙ through_is kind heights options g j size refl j_few (omega arith) in
     let inside = through_within kind.bits (options g) size g j j_few in
     let of_g = before_more kind heights options g in
     let long_g = gaggle_count_is kind heights (options g) g size refl (omega (arith, j_few)) in
-    let grows = before_grows kind heights options (g + 1) (gaggle_count (length heights) - (g + 1)) in
     let z : g + 1 + (gaggle_count (length heights) - (g + 1)) ≡ gaggle_count (length heights) = omega (arith, less) in
-    let up = rw z at grows in
-    omega (arith, through, inside, of_g, long_g, up)
+    let up = rw z at (before_grows kind heights options (g + 1) (gaggle_count (length heights) - (g + 1))) in
+    omega (arith, ap (numbers_through kind heights options) parts ∙ through_is kind heights options g j size refl j_few (omega arith), inside, of_g, long_g, up)

@@ -1,7 +1,7 @@
 -- How an option is chosen by the total.
-use Rattle.std.proofs.Common.{◌≡◌, ℕ, zero, suc, ◌+◌, ◌*◌, ◌-◌, ◌^◌, ◌<◌, ◌≤◌, true, arith, sub-one}
+use Rattle.std.proofs.Common.{◌≡◌, ℕ, zero, suc, ◌+◌, ◌*◌, ◌-◌, ◌^◌, ◌<◌, ◌≤◌, arith, sub-one}
 use Rattle.std.proofs.lemmas.Bool.Decides.{nat_tests}
-use Rattle.number_defs.specs.Choice.{suits, greatest_suiting, by_total}
+use Rattle.number_defs.specs.Choice.{greatest_suiting, by_total}
 use Rattle.number_defs.proofs.Suiting.{greatest_suiting-taken, greatest_suiting-passed, greatest_suiting-none}
 use Rattle.gaggle_codes.specs.Options.{name_of}
 use Rattle.gaggle_codes.proofs.Names.{name_k}
@@ -11,9 +11,7 @@ suits_less count total k lt over = grind (arith, nat_tests, sub-one, greatest_su
 
 pub suits_here : (count total k : ℕ) → count * 2 ^ (k + 7) ≤ 128 * total + 49 * count → greatest_suiting count total k ≡ k
 suits_here count total zero fits = greatest_suiting-none count total
-suits_here count total (suc k) fits =
-    let e : suits count total (suc k) ≡ true = grind (arith, nat_tests) in
-    greatest_suiting-taken count total k e
+suits_here count total (suc k) fits = grind (arith, nat_tests, greatest_suiting-taken)
 
 pub suits_none : (count total k : ℕ) → k ≤ 0 → greatest_suiting count total k ≡ k
 suits_none count total zero le = greatest_suiting-none count total

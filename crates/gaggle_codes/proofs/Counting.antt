@@ -1,7 +1,6 @@
 -- How many items make numbers whole.
-use Rattle.std.proofs.Common.{◌≡◌, ℕ, zero, suc, ◌+◌, ◌-◌, ◌*◌, ◌<◌, ◌≤◌, min, List, ◌++◌, length, get_or, Bool, true, false, cond, ap, ◌∙◌, arith, inl, inr, length-append, add-one, ◌||◌, ◌==◌, nat_lt}
+use Rattle.std.proofs.Common.{◌≡◌, ℕ, zero, suc, ◌+◌, ◌-◌, ◌*◌, ◌<◌, ◌≤◌, min, List, length, get_or, Bool, cond, ap, ◌∙◌, arith, length-append, add-one, ◌||◌, ◌==◌}
 use Rattle.std.specs.List.{range_with_len}
-use Rattle.std.proofs.lemmas.Bool.{cases_lt}
 use Rattle.std.proofs.lemmas.Bool.Decides.{nat_tests}
 use Rattle.std.proofs.lemmas.List.FromFn.{length-range_with_len}
 use Rattle.number_defs.specs.Gaggles.{Kind, uncoded, value_items, gaggle_items, items_before}
@@ -42,9 +41,7 @@ module _ (kind : Kind) (xs : List ℕ) where
   before_grows o g zero = let z : g + 0 ≡ g = omega arith in rw z (omega arith)
   before_grows o g (suc d) =
       let z : g + suc d ≡ g + d + 1 = omega arith in
-      let m = before_more o (g + d) in
-      let r = before_grows o g d in
-      rw z (omega (arith, m, r))
+      rw z (omega (arith, before_more o (g + d), before_grows o g d))
 
   -- the number of items up to the end of the number at a place
   pub through_is : (o : ℕ → ℕ) (g j size : ℕ) → min (length xs) (16 * g + 16) - 16 * g ≡ size → j < size → j < 16 → numbers_through kind xs o (16 * g + j) ≡ length (items_before kind xs o g) + through_in kind.bits (o g) size g j
@@ -52,50 +49,16 @@ module _ (kind : Kind) (xs : List ℕ) where
 
 -- ---- within one gaggle
 
-abbrev first_through : ℕ → Bool → ℕ → ℕ
-first_through size t zero = 2
-first_through size t (suc j) = 2 + cond t 0 (size - 1) + (j + 1)
-
 module _ (N option size : ℕ) where
   pub given_whole : (g : ℕ) → 1 ≤ size → given_in N option size g (gaggle_total N option size g) ≡ size
   given_whole g some = grind (arith, nat_tests)
 
   -- a number is given if its items are given
   pub given_where : (g j m : ℕ) → j < size → (j < given_in N option size g m → through_in N option size g j ≤ m) × (through_in N option size g j ≤ m → j < given_in N option size g m)
-  given_where zero j m lt = by_test (whole_alone N option) j lt
-    where
-      too_few : (t : Bool) (j : ℕ) → m < 2 → first_through size t j ≤ m → ⊥
-      too_few t j less h = grind (arith, nat_tests)
-
-      by_both : (t : Bool) (j : ℕ) → 2 ≤ m → (j < 1 + cond t (m - 2) (m - 2 - (size - 1)) → first_through size t j ≤ m) × (first_through size t j ≤ m → j < 1 + cond t (m - 2) (m - 2 - (size - 1)))
-      by_both t zero more = (λ h. more, λ h. omega arith)
-      by_both true (suc j) more = (λ h. omega (arith, h), λ h. omega (arith, h))
-      by_both false (suc j) more = (λ h. omega (arith, h), λ h. omega (arith, h))
-
-      by_test : (t : Bool) (j : ℕ) → j < size →
-          (j < cond (nat_lt m 2) 0 (1 + cond t (m - 2) (m - 2 - (size - 1))) → first_through size t j ≤ m) × (first_through size t j ≤ m → j < cond (nat_lt m 2) 0 (1 + cond t (m - 2) (m - 2 - (size - 1))))
-      by_test t j lt = elim (cases_lt m 2) [
-        | inl less ↦ (let s : nat_lt m 2 ≡ true = grind (arith, nat_tests) in rw s (λ h. absurd (omega (arith, h)), λ h. absurd (too_few t j less h)))
-        | inr more ↦ (let s : nat_lt m 2 ≡ false = grind (arith, nat_tests) in rw s (by_both t j more))
-      ]
-  given_where (suc g) j m lt = by_test (whole_alone N option)
-    where
-      by_test : (t : Bool) → (j < cond t (m - 1) (m - 1 - size) → 1 + cond t 0 size + (j + 1) ≤ m) × (1 + cond t 0 size + (j + 1) ≤ m → j < cond t (m - 1) (m - 1 - size))
-      by_test true = (λ h. omega (arith, h), λ h. omega (arith, h))
-      by_test false = (λ h. omega (arith, h), λ h. omega (arith, h))
+  given_where g j m lt = grind (arith, nat_tests)
 
   pub through_within : (g j : ℕ) → j < size → (1 ≤ through_in N option size g j) × (through_in N option size g j ≤ gaggle_total N option size g)
-  through_within zero zero lt = (omega arith, omega arith)
-  through_within zero (suc j) lt = by_test (whole_alone N option)
-    where
-      by_test : (t : Bool) → (1 ≤ 2 + cond t 0 (size - 1) + (j + 1)) × (2 + cond t 0 (size - 1) + (j + 1) ≤ 2 + cond t (size - 1) (size - 1 + (size - 1)))
-      by_test true = (omega arith, omega arith)
-      by_test false = (omega arith, omega arith)
-  through_within (suc g) j lt = by_test (whole_alone N option)
-    where
-      by_test : (t : Bool) → (1 ≤ 1 + cond t 0 size + (j + 1)) × (1 + cond t 0 size + (j + 1) ≤ 1 + cond t size (size + size))
-      by_test true = (omega arith, omega arith)
-      by_test false = (omega arith, omega arith)
+  through_within g j lt = grind (arith, nat_tests)
 
   pub given_few : (g m : ℕ) → m ≤ gaggle_total N option size g → 1 ≤ size → given_in N option size g m ≤ size
   given_few g m le some = grind (arith, nat_tests)
@@ -108,7 +71,4 @@ module _ (kind : Kind) (xs ys : List ℕ) (long : length xs ≡ length ys) where
 
   pub before_same : (o u : ℕ → ℕ) (g : ℕ) → ((i : ℕ) → i < 16 * g → get_or xs i 0 ≡ get_or ys i 0) → ((h : ℕ) → h < g → o h ≡ u h) → items_before kind xs o g ≡ items_before kind ys u g
   before_same o u zero same options = simp (items_before-none, items_before-more)
-  before_same o u (suc g) same options =
-      simp (items_before-none, items_before-more) (
-      ap (λ l. l ++ gaggle_items kind xs (o g) g) (before_same o u g (λ i lt. same i (omega arith)) (λ h lt. options h (omega arith)))
-      ∙ ap (λ l. items_before kind ys u g ++ l) (gaggle_same (o g) g (λ i lt. same i (omega arith)) ∙ ap (λ p. gaggle_items kind ys p g) (options g (omega arith))))
+  before_same o u (suc g) same options = grind (arith, nat_tests, items_before-none, items_before-more, gaggle_same, before_same o u g (λ i lt. same i (omega arith)) (λ h lt. options h (omega arith)))

@@ -40,21 +40,7 @@ module _ (kind : Kind) (option : ℕ) (xs : List ℕ) where
 
 module _ {I : Type 0} {k : SourceOf I} (kind : Kind) (option p count : ℕ) (zeros : List ℕ) (long : length zeros ≡ count) where
   pub differences_alone : {r : Result Part TextFault} {a b : Coming I} {before now : List ℕ} → (option ≡ 0) ⊎ (option ≡ uncoded kind.bits) → TakesWhole k kind option p zeros r a b before now → TakesDifferences k kind option p count r a b before now
-  differences_alone {r} {a} {b} {before} {now} h w =
-      let items = alone kind option (p ∷ w.heights) count h in
-      let wholes = whole_items kind option count (p ∷ w.heights) in
-      let size : length wholes ≡ length zeros = range_long (whole_item kind option (p ∷ w.heights)) 1 count ∙ sym long in
-      let read : Reads k wholes w.ending a b = subst (λ n. Reads k (whole_items kind option n (p ∷ w.heights)) w.ending a b) long w.read in
-      record {
-        heights = w.heights;
-        all = w.count ∙ long;
-        few = w.few;
-        ending = w.ending;
-        read = subst (λ l. Reads k l w.ending a b) (sym items) read;
-        answer = w.answer;
-        whole = w.whole ∙ ap (λ m. before ++ take m w.heights)
-            (ap (λ n. items_read n w.ending) (sym size ∙ ap length (sym items)) ∙ sym (whole_alone kind option (p ∷ w.heights) count (items_read (length (difference_items kind option count (p ∷ w.heights))) w.ending) h));
-      }
+  differences_alone {r} {a} {b} {before} {now} h w = grind (arith, nat_tests, alone, range_long, whole_alone)
 
   module _ (known : is_option kind.bits option ≡ true) (low : p < 2 ^ kind.bits) (a' : option ≡ uncoded kind.bits → ⊥) (b' : option ≡ 0 → ⊥) where
     -- the unary parts were not all read
@@ -90,21 +76,19 @@ module _ {I : Type 0} {k : SourceOf I} (kind : Kind) (option p count : ℕ) (zer
         let wholes = whole_items kind option count (p ∷ w.heights) in
         let taken : Takes k a b (text unary) = subst (λ n. Takes k a b (text (map (unary_part kind (p ∷ w.heights) option) (range_with_len 1 n)))) long first.ends in
         let read : Reads k wholes w.ending b c = subst (λ n. Reads k (whole_items kind option n (p ∷ w.heights)) w.ending b c) long w.read in
-        let both = reads_then unary taken read in
         let items = split kind option (p ∷ w.heights) count a' b' in
         let u = range_long (unary_part kind (p ∷ w.heights) option) 1 count in
         let v = range_long (whole_item kind option (p ∷ w.heights)) 1 count in
         let total : length (difference_items kind option count (p ∷ w.heights)) ≡ length unary + length wholes = ap length items ∙ length-append unary wholes in
         let end = later_by (length unary) w.ending in
-        let size : items_read (length (difference_items kind option count (p ∷ w.heights))) end ≡ length unary + items_read (length wholes) w.ending =
-        ap (λ n. items_read n end) total ∙ later_read (length unary) (length wholes) w.ending in
+        let size : items_read (length (difference_items kind option count (p ∷ w.heights))) end ≡ length unary + items_read (length wholes) w.ending = grind (arith, nat_tests, later_read) in
         let same : items_read (length wholes) w.ending ≡ items_read (length zeros) w.ending = ap (λ n. items_read n w.ending) (v ∙ sym long) in
         record {
           heights = w.heights;
           all = w.count ∙ long;
           few = w.few;
           ending = end;
-          read = subst (λ l. Reads k l end a c) (sym items) both;
+          read = subst (λ l. Reads k l end a c) (sym items) (reads_then unary taken read);
           answer = w.answer ∙ sym (later_answer (length unary) w.ending);
           whole = w.whole ∙ ap (λ m. before ++ take m w.heights)
               (sym (whole_split kind option (p ∷ w.heights) count (items_read (length (difference_items kind option count (p ∷ w.heights))) end) a' b' ∙ omega (arith, size, u, same)));
@@ -114,10 +98,9 @@ module _ {I : Type 0} {k : SourceOf I} (kind : Kind) (option p count : ℕ) (zer
     pub in_after_zeros : {a b : Coming I} → IsIn a → TakesZeros k kind.bits option zeros (Ok Whole) a b → IsIn b
     in_after_zeros {a} {b} h z =
         let f = fill kind.bits option p zeros known z.few (length zeros) 0 p [] (chain_none kind.bits option p zeros low) in
-        let n : 0 + length zeros ≡ length zeros = omega arith in
         let heights = [] ++ f.rest in
         let first = subst (λ e. Reads k (map (unary_part kind (p ∷ heights) option) (range_with_len 1 (length zeros))) e a b) (whole_ending z.ending z.answer)
-        (z.read kind (p ∷ heights) refl (λ j lt. f.chained.zeros_are a' b' j (omega (arith, n, lt)))) in
+        (z.read kind (p ∷ heights) refl (λ j lt. f.chained.zeros_are a' b' j (omega (arith, lt)))) in
         in_later h first.ends
 
 -- the same, with what was read first

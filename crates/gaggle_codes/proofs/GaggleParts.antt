@@ -9,13 +9,13 @@ use Rattle.bit_pipe.proofs.Putting.{adds_start, adds_then, puts_then, puts_cut, 
 use Rattle.item_defs.specs.Bits.{bits_of}
 use Rattle.number_defs.specs.Gaggles.{identifier_bits, gaggle_values, gaggle_count}
 use Rattle.gaggle_codes.specs.GaggleBits.{value_bits, lead_bits, gaggle_bits, bits_before}
+use Rattle.std.proofs.lemmas.Bool.Decides.{nat_tests}
 
 pub ceil16 : (n : ℕ) → div_ceil n 16 ≡ gaggle_count n
 ceil16 n = omega arith
 
 pub lead_later : {S : Type 0} (k : SinkOf S) (s : Standing S) (signed : Bool) (N : ℕ) (heights : List ℕ) (g : ℕ) → IsOpen s → 0 < g → Puts {T = Unit {0}} k (Ok tt) s s (lead_bits signed N heights g)
-lead_later k s signed N heights zero h lt = absurd (omega arith)
-lead_later k s signed N heights (suc g) h lt = puts_whole (adds_start k s h)
+lead_later k s signed N heights g h lt = grind (arith, nat_tests, puts_whole, adds_start)
 
 module _ (signed : Bool) (N : ℕ) (heights : List ℕ) (names : ℕ → ℕ) where
   one_more : (g : ℕ) → bits_before signed N heights names g ++ gaggle_bits signed N heights (names g) g ≡ bits_before signed N heights names (g + 1)

@@ -3,13 +3,13 @@ use Rattle.std.proofs.Common.{◌≡◌, ℕ, zero, suc, ◌+◌, ◌-◌, ◌^�
 use Rattle.std.proofs.lemmas.Bool.Decides.{nat_tests}
 use Rattle.std.specs.List.{range_with_len}
 use Rattle.item_defs.specs.Items.{Item, text}
-use Rattle.item_defs.specs.Readings.{whole, ended, refused}
+use Rattle.item_defs.specs.Readings.{whole}
 use Rattle.bit_pipe.specs.declared.fault.Part.{Part}
 use Rattle.bit_pipe.specs.declared.fault.Part.TheVariants.{Ended}
 use Rattle.bit_pipe.specs.declared.fault.TextFault.{TextFault}
 use Rattle.bit_pipe.specs.Sources.{SourceOf}
 use Rattle.bit_pipe.specs.Coming.{Coming, IsIn, Takes}
-use Rattle.bit_pipe.specs.Reading.{Ending, stopped, failed, Reads, IsCut, later_by}
+use Rattle.bit_pipe.specs.Reading.{Ending, stopped, Reads, IsCut, later_by}
 use Rattle.bit_pipe.specs.Answers.{part_answer, item_answer, items_read, TakesOne}
 use Rattle.bit_pipe.proofs.Taking.{in_later}
 use Rattle.bit_pipe.proofs.ItemReading.{reads_then, reads_cut}
@@ -23,23 +23,14 @@ use Rattle.number_defs.proofs.Equations.{value_items-is, gaggle_items-is}
 
 -- the item was read if a value is returned
 pub one_from : {A : Type 0} (e : Ending) (v w : A) → Ok (Some v) ≡ item_answer w e → (e ≡ stopped whole) × (v ≡ w)
-one_from (stopped whole) v w h = (refl, cc)
-one_from (stopped (ended m)) v w h = absurd cc
-one_from (stopped (refused m n name)) v w h = absurd cc
-one_from (failed m e) v w h = absurd cc
+one_from e v w h = grind (arith, nat_tests)
 
 -- otherwise it was not, and the answer for a part is the same
 pub none_from : {A : Type 0} (e : Ending) (w : A) → Ok None ≡ item_answer w e → IsCut e × (Ok Ended ≡ part_answer e)
-none_from (stopped whole) w h = absurd cc
-none_from (stopped (ended m)) w h = (tt, refl)
-none_from (stopped (refused m n name)) w h = absurd cc
-none_from (failed m e) w h = absurd cc
+none_from e w h = grind (arith, nat_tests)
 
 pub fault_from : {A : Type 0} (e : Ending) (w : A) (fault : TextFault) → Err fault ≡ item_answer w e → IsCut e × (Err fault ≡ part_answer e)
-fault_from (stopped whole) w fault h = absurd cc
-fault_from (stopped (ended m)) w fault h = absurd cc
-fault_from (stopped (refused m n name)) w fault h = (tt, cc)
-fault_from (failed m e) w fault h = (tt, cc)
+fault_from e w fault h = grind (arith, nat_tests)
 
 -- ---- values of two lists that have the same numbers
 
@@ -136,11 +127,8 @@ module _ {I : Type 0} {k : SourceOf I} (kind : Kind) where
   unfolding next_items
   next_read {r} {a} {b} {c} {now} g p size option t d =
       let o = one_from t.ending option t.value t.answer in
-      let first : Takes k a b (text (option_item kind.bits option ∷ [])) =
-      (let q = subst (λ e. Reads k (option_item kind.bits t.value ∷ []) e a b) o.0 t.read in subst (λ v. Takes k a b (text (option_item kind.bits v ∷ []))) (sym o.1) q.ends) in
       let diff = difference_items kind option size (p ∷ d.heights) in
-      let m : items_read (length (next_items kind option size p d.heights)) (later_by 1 d.ending) ≡ 1 + items_read (length diff) d.ending =
-      (let z : length (next_items kind option size p d.heights) ≡ 1 + length diff = omega arith in ap (λ n. items_read n (later_by 1 d.ending)) z ∙ later_read 1 (length diff) d.ending) in
+      let m : items_read (length (next_items kind option size p d.heights)) (later_by 1 d.ending) ≡ 1 + items_read (length diff) d.ending = grind (arith, nat_tests, later_read) in
       record {
         heights = d.heights;
         all = d.all;
@@ -150,7 +138,7 @@ module _ {I : Type 0} {k : SourceOf I} (kind : Kind) where
         items = next_items kind option size p d.heights;
         same = λ xs h. next_same kind option size g p d.heights xs h;
         ending = later_by 1 d.ending;
-        read = reads_then (option_item kind.bits option ∷ []) first d.read;
+        read = reads_then (option_item kind.bits option ∷ []) (grind (arith, nat_tests)) d.read;
         answer = d.answer ∙ sym (later_answer 1 d.ending);
         whole = d.whole ∙ ap (λ n. take n d.heights)
             (sym (given_next kind.bits option size g (items_read (length (next_items kind option size p d.heights)) (later_by 1 d.ending))
@@ -180,10 +168,7 @@ module _ {I : Type 0} {k : SourceOf I} (kind : Kind) where
       }
 
   option_taken : {a b : Coming I} (option : ℕ) → TakesOne k (IsOption kind.bits) (option_item kind.bits) (Ok (Some option)) a b → Takes k a b (text (option_item kind.bits option ∷ [])) × IsOption kind.bits option
-  option_taken {a} {b} option t =
-      let o = one_from t.ending option t.value t.answer in
-      let q = subst (λ e. Reads k (option_item kind.bits t.value ∷ []) e a b) o.0 t.read in
-      (subst (λ v. Takes k a b (text (option_item kind.bits v ∷ []))) (sym o.1) q.ends, subst (λ v. IsOption kind.bits v) (sym o.1) t.known)
+  option_taken {a} {b} option t = grind (arith, nat_tests, one_from)
 
   -- the first number is missing, or too great
   pub first_unled : {o : Result (Option ℕ) TextFault} {r : Result Part TextFault} {a b c : Coming I} {now : List ℕ} (p size option : ℕ) → 1 ≤ size → ((e : Ending) (v : ℕ) → o ≡ item_answer v e → IsCut e × (r ≡ part_answer e)) →
@@ -197,9 +182,7 @@ module _ {I : Type 0} {k : SourceOf I} (kind : Kind) where
       let m = cut_within (reference kind f.height ∷ []) (length items) f.ending q.0 f.read in
       let one = cut_within (reference kind f.height ∷ []) 1 f.ending q.0 f.read in
       let e = later_by 1 f.ending in
-      let both = reads_then (option_item kind.bits option ∷ []) u.0 (reads_cut (difference_items kind option (size - 1) hs) q.0 f.read) in
-      let read_here : items_read (length items) e ≡ 1 + items_read (length items - 1) f.ending =
-      (let z : length items ≡ 1 + (length items - 1) = omega arith in ap (λ n. items_read n e) z ∙ later_read 1 (length items - 1) f.ending) in
+      let read_here : items_read (length items) e ≡ 1 + items_read (length items - 1) f.ending = grind (arith, nat_tests, later_read) in
       let small = cut_within (reference kind f.height ∷ []) (length items - 1) f.ending q.0 f.read in
       let none : now ≡ [] = f.whole ∙ sym (none_given (f.height ∷ []) (let z : items_read 1 f.ending ≡ 0 = omega (arith, one) in z)) in
       record {
@@ -211,7 +194,7 @@ module _ {I : Type 0} {k : SourceOf I} (kind : Kind) where
         items = items;
         same = λ xs h. first_same kind option size p hs xs some h;
         ending = e;
-        read = both;
+        read = (reads_then (option_item kind.bits option ∷ []) u.0 (reads_cut (difference_items kind option (size - 1) hs) q.0 f.read));
         answer = q.1 ∙ sym (later_answer 1 f.ending);
         whole = none ∙ none_given hs (first_none kind.bits option size (items_read (length items) e) (omega (arith, read_here, small)));
       }
@@ -231,8 +214,7 @@ module _ {I : Type 0} {k : SourceOf I} (kind : Kind) where
       let diff = difference_items kind option (size - 1) hs in
       let e = later_by 1 (later_by 1 n.ending) in
       let read = reads_then (option_item kind.bits option ∷ []) u.0 (reads_then (reference kind height ∷ []) lead n.read) in
-      let m : items_read (length items) e ≡ 2 + items_read (length diff) n.ending =
-      (let z : length items ≡ 1 + (1 + length diff) = omega arith in ap (λ l. items_read l e) z ∙ later_read 1 (1 + length diff) (later_by 1 n.ending) ∙ ap (λ l. 1 + l) (later_read 1 (length diff) n.ending) ∙ omega arith) in
+      let m : items_read (length items) e ≡ 2 + items_read (length diff) n.ending = grind (arith, nat_tests, later_read) in
       let led : then ≡ height ∷ [] = f.whole ∙ ap (λ q. take (items_read 1 q) (f.height ∷ [])) o.0 ∙ ap (λ v. v ∷ []) (sym o.1) in
       let count = whole_of kind.bits option (size - 1) (items_read (length diff) n.ending) in
       let given : given_in kind.bits option size 0 (items_read (length items) e) ≡ suc count = ap (given_in kind.bits option size 0) m ∙ first_some kind.bits option size (items_read (length diff) n.ending) ∙ omega arith in
@@ -258,12 +240,7 @@ module _ {I : Type 0} {k : SourceOf I} (kind : Kind) where
   in_after_option {a} {b} {option} h t = in_later h (option_taken option t).0
 
   pub in_after_reference : {a b : Coming I} {height : ℕ} {before now : List ℕ} → IsIn a → TakesReference k kind (Ok (Some height)) a b before now → IsIn b
-  in_after_reference {a} {b} {height} h f =
-      let o = one_from f.ending height f.height f.answer in
-      let q = subst (λ e. Reads k (reference kind f.height ∷ []) e a b) o.0 f.read in
-      in_later h q.ends
+  in_after_reference {a} {b} {height} h f = grind (arith, nat_tests, one_from, in_later)
 
   pub reference_led : {a b : Coming I} {height : ℕ} {now : List ℕ} → TakesReference k kind (Ok (Some height)) a b [] now → (now ≡ height ∷ []) × (height < 2 ^ kind.bits)
-  reference_led {height = height} f =
-      let o = one_from f.ending height f.height f.answer in
-      (f.whole ∙ ap (λ q. take (items_read 1 q) (f.height ∷ [])) o.0 ∙ ap (λ v. v ∷ []) (sym o.1), rw o.1 f.few)
+  reference_led {height = height} f = grind (arith, nat_tests, one_from)

@@ -102,8 +102,7 @@ module _ (kind : Kind) (c : ℕ) (some : 1 ≤ kind.bits) (lt : c < 2 ^ kind.bit
       TakesReference k kind (Err BadDepth) a b before before
   unfolding height
   reference_great {I} {k} {a} {b} most h before bound e above p =
-      let t : kind.too_great ((c + negatives kind.signed kind.bits) % 2 ^ kind.bits) ≡ true =
-      bound.at ((c + negatives kind.signed kind.bits) % 2 ^ kind.bits) height_few ∙ (let q : nat_lt most ((c + negatives kind.signed kind.bits) % 2 ^ kind.bits) ≡ true = rw (← e) (above_test above) in q) in
+      let t : kind.too_great ((c + negatives kind.signed kind.bits) % 2 ^ kind.bits) ≡ true = grind (arith, nat_tests, height_few, above_test) in
       record {
         height = 0;
         few = pow_pos kind.bits;

@@ -1,5 +1,5 @@
 -- The first option of the fewest bits.
-use Rattle.std.proofs.Common.{◌≡◌, ℕ, suc, ◌+◌, ◌*◌, ◌-◌, ◌/◌, ◌^◌, ◌<◌, ◌≤◌, List, [], ◌∷◌, length, get_or, true, false, refl, sym, ap, ◌∙◌, arith, leb, eqb, inl, inr, ◌⊎◌, ◌&&◌, sum, sum_by, find, Some}
+use Rattle.std.proofs.Common.{◌≡◌, ℕ, suc, ◌+◌, ◌*◌, ◌-◌, ◌/◌, ◌^◌, ◌<◌, ◌≤◌, List, [], ◌∷◌, length, get_or, true, false, refl, ap, ◌∙◌, arith, leb, eqb, inl, inr, ◌⊎◌, ◌&&◌, sum, sum_by, find, Some}
 use Rattle.std.specs.List.{range_with_len, list_all}
 use Rattle.std.proofs.lemmas.Bool.Decides.{nat_tests}
 use Rattle.std.proofs.lemmas.List.Sums.{sum_by-cons}
@@ -14,11 +14,7 @@ use Rattle.number_defs.proofs.Equations.{coded_bits-is, optimal-is}
 
 pub sum_small : (m : ℕ) (xs : List ℕ) → ((i : ℕ) → i < length xs → get_or xs i 0 ≤ m) → sum xs ≤ length xs * m
 sum_small m [] h = omega arith
-sum_small m (x ∷ xs) h =
-    let here : x ≤ m = h 0 (omega arith) in
-    let more : sum xs ≤ length xs * m = sum_small m xs (λ i lt. h (suc i) (omega arith)) in
-    let e = sum_by-cons (λ v. v) x xs in
-    omega (arith, here, more, e)
+sum_small m (x ∷ xs) h = omega (arith, h 0 (omega arith), sum_small m xs (λ i lt. h (suc i) (omega arith)), sum_by-cons (λ v. v) x xs)
 
 -- ---- costs
 
@@ -51,43 +47,18 @@ module _ (N : ℕ) (values : List ℕ) where
       record { cost = same; no_more = omega arith; no_more_k = λ j lt. absurd (omega arith); first = inl refl }
 
   pub best_changes : (k best fewest needed : ℕ) → 2 ≤ N → N ≤ 10 → k < N - 1 → needed ≡ sum_by (λ v. (v / 2 ^ k + 1) + k) values → needed < fewest → IsBest N values k best fewest → IsBest N values (k + 1) k needed
-  best_changes k best fewest needed low high lt is less b =
-      let same : needed ≡ coded_bits N values k = is ∙ split_bits N values k low high (omega arith) in
-      record {
-        cost = same ∙ ap (coded_bits N values) (sym (named_k N k (omega arith)));
-        no_more = omega (arith, b.no_more);
-        no_more_k = λ j below. elim (eqb j k) as (λ t. eqb j k ≡ t → needed ≤ coded_bits N values j) [
-          | true ↦ λ s. let at : j ≡ k = grind (arith, nat_tests) in rw at (omega (arith, same))
-          | false ↦ λ s. let under : j < k = grind (arith, nat_tests) in omega (arith, b.no_more_k j under)
-        ] refl;
-        first = inr (record { below = omega arith; uncoded_more = omega (arith, b.no_more); earlier_more = λ j under. omega (arith, b.no_more_k j under) });
-      }
+  best_changes k best fewest needed low high lt is less b = grind (arith, nat_tests, split_bits, named_k)
 
   pub best_stays : (k best fewest needed : ℕ) → 2 ≤ N → N ≤ 10 → k < N - 1 → needed ≡ sum_by (λ v. (v / 2 ^ k + 1) + k) values → fewest ≤ needed → IsBest N values k best fewest → IsBest N values (k + 1) best fewest
-  best_stays k best fewest needed low high lt is more b =
-      let same : needed ≡ coded_bits N values k = is ∙ split_bits N values k low high (omega arith) in
-      record {
-        cost = b.cost;
-        no_more = b.no_more;
-        no_more_k = λ j below. elim (eqb j k) as (λ t. eqb j k ≡ t → fewest ≤ coded_bits N values j) [
-          | true ↦ λ s. let at : j ≡ k = grind (arith, nat_tests) in rw at (omega (arith, same))
-          | false ↦ λ s. let under : j < k = grind (arith, nat_tests) in b.no_more_k j under
-        ] refl;
-        first = elim b.first [
-          | inl none ↦ inl none
-          | inr beats ↦ inr (record { below = omega (arith, beats.below); uncoded_more = beats.uncoded_more; earlier_more = beats.earlier_more })
-        ];
-      }
+  best_stays k best fewest needed low high lt is more b = grind (arith, nat_tests, split_bits)
 
   least_where : (o : ℕ) → coded_bits N values o ≤ coded_bits N values (uncoded N) → ((j : ℕ) → j < N - 1 → coded_bits N values o ≤ coded_bits N values j) → is_least N values o ≡ true
   least_where o p h = grind (arith, nat_tests, all_of_range)
 
   not_least_where : (o j : ℕ) → j < N - 1 → coded_bits N values j < coded_bits N values o → is_least N values o ≡ false
   not_least_where o j lt less =
-      let s : leb (coded_bits N values o) (coded_bits N values j) ≡ false = grind (arith, nat_tests) in
-      let r : list_all (λ other. leb (coded_bits N values o) (coded_bits N values other)) (range_with_len 0 (N - 1)) ≡ false = not_all_of_range _ 0 (N - 1) j (omega arith) (omega arith) s in
       elim (leb (coded_bits N values o) (coded_bits N values (uncoded N))) as (λ t. (t && list_all (λ other. leb (coded_bits N values o) (coded_bits N values other)) (range_with_len 0 (N - 1))) ≡ false) [
-        | true ↦ r
+        | true ↦ (not_all_of_range _ 0 (N - 1) j (omega arith) (omega arith) (grind (arith, nat_tests)))
         | false ↦ refl
       ]
 
@@ -95,13 +66,9 @@ module _ (N : ℕ) (values : List ℕ) where
   best_of_all best fewest low high b =
       simp optimal-is (
       elim b.first [
-        | inl none ↦
-            let same : fewest ≡ coded_bits N values (uncoded N) = b.cost ∙ ap (λ n. coded_bits N values (named N n)) none in
-            let e : is_least N values (uncoded N) ≡ true = least_where (uncoded N) (omega arith) (λ j lt. omega (arith, same, b.no_more_k j lt)) in
-            rw e (none ∙ name_uncoded N)
+        | inl none ↦ grind (arith, nat_tests, least_where, name_uncoded)
         | inr beats ↦
-            let small : best < 15 = omega (arith, beats.below) in
-            let same : fewest ≡ coded_bits N values best = b.cost ∙ ap (coded_bits N values) (named_k N best small) in
+            let same : fewest ≡ coded_bits N values best = b.cost ∙ ap (coded_bits N values) (named_k N best (omega (arith, beats.below))) in
             let un : is_least N values (uncoded N) ≡ false = not_least_where (uncoded N) best beats.below (omega (arith, same, beats.uncoded_more)) in
             let it : is_least N values best ≡ true = least_where best (omega (arith, same, b.no_more)) (λ j lt. omega (arith, same, b.no_more_k j lt)) in
             let found : find (is_least N values) (range_with_len 0 (N - 1)) ≡ Some best =

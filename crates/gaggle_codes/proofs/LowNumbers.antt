@@ -19,8 +19,7 @@ low_push most height ys le low = record {
       | inl past ↦ (let e = get_or_past (ys ++ height ∷ []) i 0 (omega (arith, past, length-append ys (height ∷ []))) in omega (arith, e))
       | inr here ↦
           (let same : i ≡ length ys = omega arith in
-          let e : get_or (ys ++ height ∷ []) i 0 ≡ height = ap (λ n. get_or (ys ++ height ∷ []) n 0) same ∙ get_or-append_seam ys height [] 0 in
-          omega (arith, e, le))
+          omega (arith, ap (λ n. get_or (ys ++ height ∷ []) n 0) same ∙ get_or-append_seam ys height [] 0, le))
     ]
   ];
 }

@@ -71,8 +71,7 @@ both_allowed : (too_great : ℕ → Bool) (xs ys : List ℕ) → ((i : ℕ) → 
 both_allowed too_great xs ys first more i lt = elim (cases_lt i (length xs)) [
   | inl less ↦ ap too_great (get_or_append_left xs ys 0 i less) ∙ first i less
   | inr ge ↦
-      let z : i ≡ length xs + (i - length xs) = omega arith in
-      let e : get_or (xs ++ ys) i 0 ≡ get_or ys (i - length xs) 0 = ap (λ n. get_or (xs ++ ys) n 0) z ∙ get_or-append-add xs ys (i - length xs) 0 in
+      let e : get_or (xs ++ ys) i 0 ≡ get_or ys (i - length xs) 0 = ap (λ n. get_or (xs ++ ys) n 0) (omega arith) ∙ get_or-append-add xs ys (i - length xs) 0 in
       ap too_great e ∙ more (i - length xs) (omega (arith, lt, ge, length-append xs ys))
 ]
 
@@ -89,11 +88,7 @@ with_other o g option h lt = let t : eqb h g ≡ false = grind (arith, nat_tests
 
 with_known : (N : ℕ) (o : ℕ → ℕ) (g option : ℕ) → ((h : ℕ) → IsOption N (o h)) → IsOption N option → (h : ℕ) → IsOption N (with_option o g option h)
 unfolding with_option
-with_known N o g option known here h = by_test (eqb h g)
-  where
-    by_test : (t : Bool) → IsOption N (cond t option (o h))
-    by_test true = here
-    by_test false = known h
+with_known N o g option known here h = grind (arith, nat_tests)
 
 take_padded : (count n : ℕ) (xs : List ℕ) → n ≤ length xs → length xs ≤ count → take n (padded count xs) ≡ take n xs
 take_padded count n xs within fits =
@@ -208,11 +203,8 @@ module _ {I : Type 0} {k : SourceOf I} (range : NumberRange) (too_great : ℕ �
           let base = length (items_before kind list options g) in
           let more = gaggles_rest kind list options (g + 1) (gaggle_count count - (g + 1)) in
           let gaggles : g + 1 + (gaggle_count count - (g + 1)) ≡ gaggle_count count = omega (arith, lt) in
-          let first = taken t.option t.heights in
-          let both = reads_then (items_before kind list options g) first (reads_cut more.0 cut t.read) in
-          let joined : items_before kind list options g ++ (t.items ++ more.0) ≡ number_items kind list options =
-          sym (append_assoc (items_before kind list options g) t.items more.0) ∙ ap (λ l. l ++ more.0) (sym with_more) ∙ sym more.1
-          ∙ ap (items_before kind list options) (gaggles ∙ ap gaggle_count (sym (length-padded count (s.heights ++ t.heights)))) in
+          let both = reads_then (items_before kind list options g) (taken t.option t.heights) (reads_cut more.0 cut t.read) in
+          let joined : items_before kind list options g ++ (t.items ++ more.0) ≡ number_items kind list options = grind (arith, nat_tests, append_assoc, options, with_more, length-padded) in
           let size_given : length got ≡ given_in range.bits t.option size g m = ap length t.whole ∙ length-take (given_in range.bits t.option size g m) t.heights ∙ given_min in
           record {
             heights = list;
@@ -240,12 +232,7 @@ module _ {I : Type 0} {k : SourceOf I} (range : NumberRange) (too_great : ℕ �
           given_min = (let f = given_few range.bits t.option size g m m_few some_size in omega (arith, f, t.all))
 
           front_given : length got ≡ given_in range.bits t.option size g m → take (16 * g + length got) list ≡ s.heights ++ got
-          front_given e =
-              let d : 16 * g + length got ≡ length s.heights + length got = omega (arith, long) in
-              let within : 16 * g + length got ≤ length (s.heights ++ t.heights) = omega (arith, e, length-append s.heights t.heights, long, t.all, given_few range.bits t.option size g m m_few some_size) in
-              let fits : length (s.heights ++ t.heights) ≤ count = omega (arith, length-append s.heights t.heights, long, t.all, size_is, lt) in
-              take_padded count (16 * g + length got) (s.heights ++ t.heights) within fits ∙ ap (λ n. take n (s.heights ++ t.heights)) d ∙ take_past s.heights t.heights (length got)
-              ∙ ap (λ n. s.heights ++ take n t.heights) e ∙ ap (λ l. s.heights ++ l) (sym t.whole)
+          front_given e = grind (arith, nat_tests, long, length-append, given_few, m_few, some_size, take_padded, take_past)
 
           given_there : length got ≡ given_in range.bits t.option size g m → (i : ℕ) → i < count →
               (i < 16 * g + length got → numbers_through kind list options i ≤ items_read (length (number_items kind list options)) (later_by (length (items_before kind list options g)) t.ending)) ×
@@ -260,21 +247,18 @@ module _ {I : Type 0} {k : SourceOf I} (range : NumberRange) (too_great : ℕ �
               let read = read_later (length (number_items kind list options)) (length t.items) base t.ending cut in
               let through = ap (numbers_through kind list options) parts ∙ through_is kind list options q j size_i refl j_few (omega arith) in
               let inside = through_within range.bits (options q) size_i q j j_few in
-              let of_q = before_more kind list options q in
               let long_q = gaggle_count_is kind list (options q) q size_i refl (omega (arith, j_few)) in
               let w = cut_within t.items (length t.items) t.ending cut t.read in
               elim (cases_lt q g) [
                 | inl before ↦
-                    let grows = before_grows kind list options (q + 1) (g - (q + 1)) in
                     let z : q + 1 + (g - (q + 1)) ≡ g = omega arith in
-                    let up = rw z at grows in
+                    let up = rw z at (before_grows kind list options (q + 1) (g - (q + 1))) in
                     let small : i < 16 * g = omega arith in
-                    (λ h. omega (arith, through, inside, of_q, long_q, up, read), λ h. omega (arith, small))
+                    (λ h. omega (arith, through, inside, before_more kind list options q, long_q, up, read), λ h. omega (arith, small))
                 | inr from ↦ elim (cases_lt g q) [
                   | inl after ↦
-                      let grows = before_grows kind list options (g + 1) (q - (g + 1)) in
                       let z : g + 1 + (q - (g + 1)) ≡ q = omega arith in
-                      let up = rw z at grows in
+                      let up = rw z at (before_grows kind list options (g + 1) (q - (g + 1))) in
                       let joined = ap length with_more ∙ length-append (items_before kind list options g) t.items in
                       let large : 16 * g + 16 ≤ i = omega arith in
                       let few_given : length got ≤ 16 = omega (arith, e, given_few range.bits t.option size g m m_few some_size, size_is) in
@@ -306,9 +290,6 @@ module _ {I : Type 0} {k : SourceOf I} (range : NumberRange) (too_great : ℕ �
         unfolding kind list options
         so_more {now} next low e cells =
             let here : Takes k b c (text t.items) = (let q = subst (λ x. Reads k t.items x b c) whole_here t.read in q.ends) in
-            let both = takes_then (taken t.option t.heights) here in
-            let joined : text (items_before kind list options g) ++ text t.items ≡ text (items_before kind list options (g + 1)) =
-            sym (text-append (items_before kind list options g) t.items) ∙ ap text (sym with_more) in
             record {
               heights = s.heights ++ t.heights;
               all = omega (arith, length-append s.heights t.heights, long, t.all, size_is, lt);
@@ -317,13 +298,10 @@ module _ {I : Type 0} {k : SourceOf I} (range : NumberRange) (too_great : ℕ �
               options = options;
               known = with_known range.bits s.options g t.option s.known t.known;
               first = λ z. absurd (omega (arith, z));
-              last_is = λ some more.
-                  let full : size ≡ 16 = omega (arith, more, size_is) in
-                  let z : 16 * (g + 1) - 1 ≡ length s.heights + (length got - 1) = omega (arith, long, full, ap length got_all, t.all) in
-                  e ∙ ap (λ l. get_or l (length got - 1) 0) got_all ∙ sym (ap (λ n. get_or (s.heights ++ t.heights) n 0) z ∙ get_or-append-add s.heights t.heights (length got - 1) 0);
+              last_is = λ some more. grind (arith, nat_tests, long, got_all, get_or-append-add);
               small = rw e (got_few (length got - 1));
               cells = sets_as range shift stride (ap (λ l. s.heights ++ l) got_all) cells;
-              so_far = subst (Takes k a c) joined both;
+              so_far = subst (Takes k a c) (grind (arith, nat_tests, text-append, options, with_more)) (takes_then (taken t.option t.heights) here);
             }
 
         pub in_after_gaggle : IsIn b → IsIn c
@@ -369,13 +347,10 @@ module _ {I : Type 0} {k : SourceOf I} (range : NumberRange) (too_great : ℕ �
           let parts : i ≡ 16 * q + j = omega arith in
           let j_few : j < size_i = omega (arith, length-padded count s.heights, less) in
           let through = ap (numbers_through kind list s.options) parts ∙ through_is kind list s.options q j size_i refl j_few (omega arith) in
-          let inside = through_within range.bits (s.options q) size_i q j j_few in
-          let of_q = before_more kind list s.options q in
           let long_q = gaggle_count_is kind list (s.options q) q size_i refl (omega (arith, j_few)) in
-          let grows = before_grows kind list s.options (q + 1) (gaggle_count (length list) - (q + 1)) in
           let z : q + 1 + (gaggle_count (length list) - (q + 1)) ≡ gaggle_count (length list) = omega (arith, length-padded count s.heights, less) in
-          let up = rw z at grows in
-          omega (arith, through, inside, of_q, long_q, up)
+          let up = rw z at (before_grows kind list s.options (q + 1) (gaggle_count (length list) - (q + 1))) in
+          omega (arith, through, through_within range.bits (s.options q) size_i q j j_few, before_more kind list s.options q, long_q, up)
 
 -- ---- the result of the code
 

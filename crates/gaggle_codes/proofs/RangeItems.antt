@@ -1,5 +1,5 @@
 -- Items of consecutive places, read one after another.
-use Rattle.std.proofs.Common.{◌≡◌, ℕ, zero, suc, ◌+◌, ◌<◌, ◌≤◌, [], ◌∷◌, ◌++◌, length, take, map, refl, sym, ap, ◌∙◌, subst, arith, add-one, None, Some, Ok, Err}
+use Rattle.std.proofs.Common.{◌≡◌, ℕ, zero, suc, ◌+◌, ◌<◌, ◌≤◌, [], ◌∷◌, ◌++◌, length, take, map, refl, ap, ◌∙◌, arith, add-one, None, Some, Ok, Err}
 use Rattle.std.specs.List.{range_with_len}
 use Rattle.item_defs.specs.Items.{Item, Refusal, IsSaid, spelling, item_bits, text}
 use Rattle.item_defs.specs.Readings.{item_at, ended, refused}
@@ -9,6 +9,7 @@ use Rattle.bit_pipe.specs.Sources.{SourceOf}
 use Rattle.bit_pipe.specs.Coming.{Coming, Takes, EndsItem}
 use Rattle.bit_pipe.specs.Reading.{stopped, failed, Reads}
 use Rattle.bit_pipe.proofs.Taking.{takes_then, fails_so_later}
+use Rattle.std.proofs.lemmas.Bool.Decides.{nat_tests}
 
 pub range_long : (f : ℕ → Item) (a n : ℕ) → length (map f (range_with_len a n)) ≡ n
 range_long f a zero = refl
@@ -34,53 +35,21 @@ range_same f h a b (suc n) same =
 
 range_suc : (f : ℕ → Item) (a n : ℕ) → map f (range_with_len a (suc n)) ≡ map f (range_with_len a n) ++ f (a + n) ∷ []
 range_suc f a zero = let z : a ≡ a + 0 = omega arith in ap (λ x. f x ∷ []) z
-range_suc f a (suc n) =
-    let z : a + 1 + n ≡ a + suc n = omega arith in
-    ap (λ l. f a ∷ l) (range_suc f (a + 1) n ∙ ap (λ x. map f (range_with_len (a + 1) n) ++ f x ∷ []) z)
+range_suc f a (suc n) = grind (arith, nat_tests, range_suc f (a + 1) n)
 
 range_last : (f : ℕ → Item) (a n : ℕ) → map f (range_with_len a (n + 1)) ≡ map f (range_with_len a n) ++ f (a + n) ∷ []
 range_last f a n = ap (λ m. map f (range_with_len a m)) (add-one n) ∙ range_suc f a n
 
 module _ (f : ℕ → Item) (a n : ℕ) {I : Type 0} {k : SourceOf I} {A B C : Coming I} where
   pub range_taken : (i : ℕ) → Takes k A B (text (map f (range_with_len a i))) → Takes k B C (item_bits (f (a + i))) → Takes k A C (text (map f (range_with_len a (i + 1))))
-  range_taken i p q =
-      let e : text (map f (range_with_len a (i + 1))) ≡ text (map f (range_with_len a i)) ++ item_bits (f (a + i)) =
-      ap text (range_last f a i) ∙ text-append (map f (range_with_len a i)) (f (a + i) ∷ []) ∙ ap (λ r. text (map f (range_with_len a i)) ++ r) (text-one (f (a + i))) in
-      subst (Takes k A C) (sym e) (takes_then p q)
+  range_taken i p q = grind (arith, nat_tests, range_last, text-append, text-one, takes_then)
 
   pub range_ended : (i : ℕ) → i < n → Takes k A B (text (map f (range_with_len a i))) → EndsItem k (f (a + i)).form.shape (Ok None) B C → Reads k (map f (range_with_len a n)) (stopped (ended i)) A C
-  range_ended i lt p q = record {
-    ends = (
-      record {
-        within = omega (arith, lt, range_long f a n);
-        some = q.0.some;
-        taken = rw (range_front f a n i (omega arith)) (takes_then p q.0.taken);
-        lacks = rw (range_at f a n i lt) q.0.lacks;
-      },
-      q.1,
-    );
-  }
+  range_ended i lt p q = grind (arith, nat_tests, range_long, range_front, takes_then, range_at)
 
   pub range_failed : (i : ℕ) (e : InFault) → i < n → Takes k A B (text (map f (range_with_len a i))) → EndsItem k (f (a + i)).form.shape (Err e) B C → Reads k (map f (range_with_len a n)) (failed i e) A C
-  range_failed i e lt p q = record {
-    ends = (
-      record {
-        within = omega (arith, lt, range_long f a n);
-        some = q.0.some;
-        taken = rw (range_front f a n i (omega arith)) (takes_then p q.0.taken);
-        lacks = rw (range_at f a n i lt) q.0.lacks;
-      },
-      fails_so_later p q.1,
-    );
-  }
+  range_failed i e lt p q = grind (arith, nat_tests, range_long, range_front, takes_then, range_at, fails_so_later)
 
   pub range_refused : (i said : ℕ) (name : Refusal) → i < n → IsSaid (f (a + i)).form.shape said → (f (a + i)).form.refusal said ≡ Some name →
       Takes k A B (text (map f (range_with_len a i))) → Takes k B C (spelling (f (a + i)).form.shape said) → Reads k (map f (range_with_len a n)) (stopped (refused i said name)) A C
-  range_refused i said name lt says bad p q = record {
-    ends = record {
-      within = omega (arith, lt, range_long f a n);
-      says = rw (range_at f a n i lt) says;
-      refuses = rw (range_at f a n i lt) bad;
-      taken = rw (range_at f a n i lt, range_front f a n i (omega arith)) (takes_then p q);
-    };
-  }
+  range_refused i said name lt says bad p q = grind (arith, nat_tests, range_long, range_at, range_front, takes_then)

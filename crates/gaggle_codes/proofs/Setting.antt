@@ -1,5 +1,5 @@
 -- Numbers that are written into every `stride`-th cell.
-use Rattle.std.proofs.Common.{subst, ◌≡◌, ℕ, ◌+◌, ◌*◌, ◌^◌, ◌<◌, ◌≤◌, ℤ, pos, ◌*ℤ◌, List, [], ◌∷◌, ◌++◌, length, get_or, true, false, refl, ap, ◌∙◌, arith, inl, inr, length-append, nat_lt, set, mul-le-mul_right}
+use Rattle.std.proofs.Common.{subst, ◌≡◌, ℕ, ◌+◌, ◌*◌, ◌^◌, ◌<◌, ◌≤◌, ℤ, pos, ◌*ℤ◌, List, [], ◌∷◌, ◌++◌, length, get_or, true, refl, ap, ◌∙◌, arith, inl, inr, length-append, nat_lt, set, mul-le-mul_right}
 use Rattle.std.proofs.lemmas.Bool.{cases_lt}
 use Rattle.std.proofs.lemmas.Bool.Decides.{nat_tests}
 use Rattle.std.proofs.lemmas.List.{get_or-set_same, get_or-set_other, length-set, get_or_append_left}
@@ -46,14 +46,7 @@ module _ (stride : ℕ) (low : 1 ≤ stride) where
   }
 
   pub clears_all : (range : NumberRange) (shift : ℕ) {old now : List ℤ} (i : ℕ) → ((m : ℕ) → m * stride < length old → m < i) → Clears stride i old now → SetsCells range shift stride [] old now
-  clears_all range shift i all c = record {
-    size = c.size;
-    numbers = λ m lt. c.cleared m (all m lt) lt ∙ none m;
-    others = c.others;
-  }
-    where
-      none : (m : ℕ) → pos 0 ≡ given_number range shift [] m
-      none m = let t : nat_lt m 0 ≡ false = grind (arith, nat_tests) in rw t refl
+  clears_all range shift i all c = grind (arith, nat_tests)
 
   -- one number more
   module _ (range : NumberRange) (shift : ℕ) where
@@ -78,16 +71,12 @@ module _ (stride : ℕ) (low : 1 ≤ stride) where
             rw (t, u, get_or_append_left heights (h ∷ []) 0 m (omega (arith, e, below))) refl
 
         past : (m : ℕ) → i < m → given_number range shift heights m ≡ given_number range shift (heights ++ h ∷ []) m
-        past m above =
-            let t : nat_lt m (length heights) ≡ false = (let q : length heights ≤ m = omega (arith, e, above) in grind (arith, nat_tests)) in
-            let u : nat_lt m (length (heights ++ h ∷ [])) ≡ false = (let q : length (heights ++ h ∷ []) ≤ m = omega (arith, e, above, length-append heights (h ∷ [])) in grind (arith, nat_tests)) in
-            rw (t, u) refl
+        past m above = grind (arith, nat_tests, length-append)
 
         new : number_at range.signed range.bits h *ℤ pos (2 ^ shift) ≡ given_number range shift (heights ++ h ∷ []) i
         new =
             let u : nat_lt i (length (heights ++ h ∷ [])) ≡ true = (let q : i < length (heights ++ h ∷ []) = omega (arith, e, length-append heights (h ∷ [])) in grind (arith, nat_tests)) in
-            let at : get_or (heights ++ h ∷ []) i 0 ≡ h = ap (λ n. get_or (heights ++ h ∷ []) n 0) e ∙ get_or-append_seam heights h [] 0 in
-            rw (u, at) refl
+            rw (u, ap (λ n. get_or (heights ++ h ∷ []) n 0) e ∙ get_or-append_seam heights h [] 0) refl
 
 pub sets_as : (range : NumberRange) (shift stride : ℕ) {heights more : List ℕ} {old new : List ℤ} → heights ≡ more → SetsCells range shift stride heights old new → SetsCells range shift stride more old new
 sets_as range shift stride {heights} {more} {old} {new} e s = subst (λ l. SetsCells range shift stride l old new) e s

@@ -1,5 +1,5 @@
 -- The bits of the items of numbers.
-use Rattle.std.proofs.Common.{◌≡◌, ℕ, zero, suc, ◌-◌, ◌/◌, ◌^◌, ◌<◌, ◌≤◌, List, [], ◌∷◌, ◌++◌, map, get_or, Bool, true, eqb, cond, refl, sym, ap, ◌∙◌, arith, flat_map}
+use Rattle.std.proofs.Common.{◌≡◌, ℕ, zero, suc, ◌-◌, ◌/◌, ◌^◌, ◌<◌, ◌≤◌, List, [], ◌∷◌, ◌++◌, map, get_or, Bool, true, eqb, cond, refl, sym, arith, flat_map}
 use Rattle.std.proofs.lemmas.Bool.Decides.{nat_tests}
 use Rattle.std.proofs.lemmas.List.Concat.{flat_map-cons}
 use Rattle.number_defs.proofs.AreItems.{option_within}
@@ -16,8 +16,7 @@ use Rattle.number_defs.proofs.Equations.{value_items-is, gaggle_items-is, items_
 
 each_text : (f : ℕ → Item) (g : ℕ → ℕ) (b : ℕ → List Bool) → ((i : ℕ) → item_bits (f i) ≡ b (g i)) → (at : List ℕ) → text (map f at) ≡ flat_map b (map g at)
 each_text f g b same [] = refl
-each_text f g b same (x ∷ at) =
-    text-cons (f x) (map f at) ∙ ap (λ r. r ++ text (map f at)) (same x) ∙ ap (λ r. b (g x) ++ r) (each_text f g b same at) ∙ sym (flat_map-cons b (g x) (map g at))
+each_text f g b same (x ∷ at) = grind (arith, nat_tests, text-cons, flat_map-cons, each_text f g b same at)
 
 module _ (kind : Kind) (heights : List ℕ) (few : (i : ℕ) → get_or heights i 0 < 2 ^ kind.bits) (low : 2 ≤ kind.bits) (high : kind.bits ≤ 10) where
   value_below : (i : ℕ) → value_at kind.bits heights i < 2 ^ kind.bits
@@ -44,8 +43,4 @@ module _ (kind : Kind) (heights : List ℕ) (few : (i : ℕ) → get_or heights 
   pub before_text : (options : ℕ → ℕ) → ((g : ℕ) → is_option kind.bits (options g) ≡ true) → (g : ℕ) → text (items_before kind heights options g) ≡ bits_before kind.signed kind.bits heights (λ h. name_of kind.bits (options h)) g
   unfolding bits_before
   before_text options are zero = simp (items_before-none, items_before-more)
-  before_text options are (suc g) =
-      simp (items_before-none, items_before-more) (
-      text-append (items_before kind heights options g) (gaggle_items kind heights (options g) g)
-      ∙ ap (λ r. r ++ text (gaggle_items kind heights (options g) g)) (before_text options are g)
-      ∙ ap (λ r. bits_before kind.signed kind.bits heights (λ h. name_of kind.bits (options h)) g ++ r) (gaggle_text (options g) g (are g)))
+  before_text options are (suc g) = grind (arith, nat_tests, items_before-none, items_before-more, text-append, gaggle_text, before_text options are g)

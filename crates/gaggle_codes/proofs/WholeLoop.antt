@@ -3,7 +3,7 @@ use Rattle.std.proofs.Common.{◌≡◌, ℕ, ◌+◌, ◌-◌, ◌/◌, ◌^◌
 use Rattle.std.specs.List.{range_with_len}
 use Rattle.std.proofs.lemmas.Bool.Decides.{nat_tests}
 use Rattle.std.proofs.lemmas.Nat.{div-mul-add}
-use Rattle.item_defs.specs.Items.{zeros_to, IsSaid, spelling, text, bad_delta, bad_depth}
+use Rattle.item_defs.specs.Items.{IsSaid, spelling, text, bad_delta, bad_depth}
 use Rattle.item_defs.specs.Readings.{whole, ended, refused}
 use Rattle.bit_pipe.specs.declared.fault.Part.TheVariants.{Whole, Ended}
 use Rattle.bit_pipe.specs.declared.fault.TextFault.{TextFault}
@@ -41,12 +41,7 @@ zeros_of N option zeros said v w h a b = grind (arith, nat_tests, div-mul-add)
 
 module _ {I : Type 0} {k : SourceOf I} (range : NumberRange) (option p : ℕ) (zeros : List ℕ) where
   pub whole_start : (first : List ℕ) (a : Coming I) → IsIn a → p < 2 ^ range.bits → WholeSoFar k range option p zeros 0 p a a first first
-  whole_start first a h low = record {
-    heights = [];
-    chained = chain_none range.bits option p zeros low;
-    now_is = sym (append-nil first);
-    so_far = λ too_great. takes_start k a h;
-  }
+  whole_start first a h low = grind (arith, nat_tests, chain_none, append-nil, takes_start)
 
   pub whole_more : {i last : ℕ} {a b c : Coming I} {first now then : List ℕ} (v h : ℕ) → WholeSoFar k range option p zeros i last a b first now →
       EndsValue k (whole_shape range.bits option) (whole_value range.bits option (get_or zeros i 0)) (2 ^ range.bits) (Ok (Some v)) b c → h ≡ unmapped range.bits last v → then ≡ now ++ h ∷ [] →
@@ -90,13 +85,12 @@ module _ {I : Type 0} {k : SourceOf I} (range : NumberRange) (option p : ℕ) (z
         let kind = kind_of range too_great in
         let n : i + (length zeros - i) ≡ length zeros = omega arith in
         let r = fill N option p zeros known fewer (length zeros - i) i last s.heights s.chained in
-        let long = r.chained.count ∙ n in
         let before = subst (λ l. Takes k a b (text l)) (sym (front_items kind option p s.heights r.rest i (omega (arith, s.chained.count)))) (s.so_far too_great) in
         let place : 1 + i - 1 ≡ i = omega arith in
         let here = ap (λ m. get_or (p ∷ (s.heights ++ r.rest)) m 0) place ∙ front_at N option p zeros s.heights r.rest i (omega (arith, s.chained.count)) ∙ sym s.chained.last_is in
         record {
           heights = s.heights ++ r.rest;
-          count = long;
+          count = (r.chained.count ∙ n);
           few = r.chained.few;
           zeros_are = λ u v j le. r.chained.zeros_are u v j (omega (arith, n, le));
           ending = ending;
@@ -121,9 +115,8 @@ module _ {I : Type 0} {k : SourceOf I} (range : NumberRange) (option p : ℕ) (z
     whole_fault {i} {last} {a} {b} {c} too_great fault lt s (inr q) =
         rw q.2 (whole_stop too_great (stopped (refused i q.0 bad_delta)) lt s refl (λ xs before here parts.
         let shape = after_shape (kind_of range too_great) option (get_or (p ∷ xs) (1 + i - 1) 0) (get_or (p ∷ xs) (1 + i) 0) in
-        let said : IsSaid (zeros_to q.0) q.0 = omega arith in
         range_refused (whole_item (kind_of range too_great) option (p ∷ xs)) 1 (length zeros) i q.0 bad_delta lt
-        (subst (λ sh. IsSaid sh q.0) (sym (shape ∙ q.1)) said)
+        (subst (λ sh. IsSaid sh q.0) (sym (shape ∙ q.1)) (omega arith))
         (after_delta (kind_of range too_great) option (get_or (p ∷ xs) (1 + i - 1) 0) (get_or (p ∷ xs) (1 + i) 0) q.0 q.1)
         before
         (subst (λ sh. Takes k b c (spelling sh q.0)) (sym shape) q.3)))

@@ -1,5 +1,5 @@
 -- The values that items make whole.
-use Rattle.std.proofs.Common.{◌≡◌, ℕ, ◌+◌, ◌-◌, ◌*◌, ◌%◌, ◌^◌, ◌<◌, ◌≤◌, true, Ok, Err, sym, ◌∙◌, arith, Option, Some, None, Result, pow_mono}
+use Rattle.std.proofs.Common.{◌≡◌, ℕ, ◌+◌, ◌-◌, ◌*◌, ◌%◌, ◌^◌, ◌<◌, ◌≤◌, true, Ok, arith, Option, Some, Result, pow_mono}
 use Rattle.std.proofs.lemmas.Nat.{pow-add, mul-add-lt, pow_pos}
 use Rattle.std.proofs.lemmas.Bool.Decides.{nat_tests}
 use Rattle.item_defs.specs.Items.{Shape, fixed, zeros_to}
@@ -11,9 +11,7 @@ use Rattle.gaggle_codes.specs.Taken.{TakesValue, EndsValue, whole_shape, whole_v
 
 ends_as : {I : Type 0} (k : SourceOf I) (s t : Shape) (f g : ℕ → ℕ) (low high : ℕ) (r : Result (Option ℕ) TextFault) (a b : Coming I) → s ≡ t → ((n : ℕ) → f n ≡ g n) → low ≤ high →
     EndsValue k s f low r a b → EndsValue k t g high r a b
-ends_as k s t f g low high (Ok (Some v)) a b e same le p = rw (← e) (p.0, p.1, sym (same p.0) ∙ p.2, omega (arith, p.3, le), p.4)
-ends_as k s t f g low high (Ok None) a b e same le p = rw (← e) p
-ends_as k s t f g low high (Err fault) a b e same le p = rw (← e) p
+ends_as k s t f g low high r a b e same le p = grind (arith, nat_tests)
 
 -- the same value of another shape with the same items
 pub value_as : {I : Type 0} {k : SourceOf I} {s t : Shape} {f g : ℕ → ℕ} {low high : ℕ} {r : Result (Option ℕ) TextFault} {a b : Coming I} → s ≡ t → ((n : ℕ) → f n ≡ g n) → low ≤ high →
@@ -42,10 +40,7 @@ module _ (N option : ℕ) where
 
   -- what the code computes from them
   pub parts_code : (zeros : ℕ) → N ≤ 10 → option ≤ N → zeros < 2 ^ (N - option) → zeros * 2 ^ option % 65536 ≡ zeros * 2 ^ option
-  parts_code zeros high le p =
-      let below = parts_below zeros 0 le p (pow_pos option) in
-      let small : 2 ^ N ≤ 2 ^ 10 = pow_mono high in
-      omega (arith, below, small)
+  parts_code zeros high le p = omega (arith, parts_below zeros 0 le p (pow_pos option), pow_mono high)
 
   pub rest_value : {I : Type 0} {k : SourceOf I} {a b : Coming I} (zeros rest : ℕ) → (option ≡ uncoded N → ⊥) → (option ≡ 0 → ⊥) → zeros * 2 ^ option + rest < 2 ^ N → EndsItem k (fixed option) (Ok (Some rest)) a b →
       TakesValue k (whole_shape N option) (whole_value N option zeros) (2 ^ N) (Ok (Some (zeros * 2 ^ option + rest))) a b

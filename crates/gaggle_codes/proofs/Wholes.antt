@@ -22,13 +22,7 @@ pub record Chained (N option p : ℕ) (zeros : List ℕ) (i last : ℕ) (heights
 
 module _ (N option p : ℕ) (zeros : List ℕ) where
   pub chain_none : p < 2 ^ N → Chained N option p zeros 0 p []
-  chain_none low = record {
-    count = refl;
-    few = λ j. pow_pos N;
-    last_is = refl;
-    small = low;
-    zeros_are = λ a b j lt. absurd (omega (arith, lt));
-  }
+  chain_none low = grind (arith, nat_tests)
 
   pub front_at : (heights more : List ℕ) (j : ℕ) → j ≤ length heights → get_or (p ∷ (heights ++ more)) j 0 ≡ get_or (p ∷ heights) j 0
   front_at heights more j le = get_or_append_left (p ∷ heights) more 0 j (omega arith)
@@ -47,11 +41,10 @@ module _ (N option p : ℕ) (zeros : List ℕ) where
       Chained N option p zeros (i + 1) (unmapped N last v) (heights ++ unmapped N last v ∷ [])
   chain_more {i} {last} {heights} v h small parts =
       let below = unmapped_below N last v h.small small in
-      let e : i + 1 ≡ 1 + i = omega arith in
       record {
         count = omega (arith, length-append heights (unmapped N last v ∷ []), h.count);
         few = few_at below;
-        last_is = sym (ap (λ n. get_or (p ∷ (heights ++ unmapped N last v ∷ [])) n 0) e ∙ next_at heights (unmapped N last v) i h.count);
+        last_is = sym (ap (λ n. get_or (p ∷ (heights ++ unmapped N last v ∷ [])) n 0) (omega arith) ∙ next_at heights (unmapped N last v) i h.count);
         small = below;
         zeros_are = λ a b j lt. by_place a b j (cases_lt j i) lt;
       }
@@ -66,10 +59,7 @@ module _ (N option p : ℕ) (zeros : List ℕ) where
       ]
 
       by_place : (option ≡ uncoded N → ⊥) → (option ≡ 0 → ⊥) → (j : ℕ) → (j < i) ⊎ (i ≤ j) → j < i + 1 → value_at N (p ∷ (heights ++ unmapped N last v ∷ [])) (1 + j) / 2 ^ option ≡ get_or zeros j 0
-      by_place a b j (inl lt) k = ap (λ n. n / 2 ^ option) (same_values heights (unmapped N last v ∷ []) j (omega (arith, h.count, lt))) ∙ h.zeros_are a b j lt
-      by_place a b j (inr ge) k =
-          let z : j ≡ i = omega arith in
-          ap (λ n. value_at N (p ∷ (heights ++ unmapped N last v ∷ [])) (1 + n) / 2 ^ option) z ∙ ap (λ n. n / 2 ^ option) (next_value v h small) ∙ parts a b ∙ ap (λ n. get_or zeros n 0) (sym z)
+      by_place a b j h3 k = grind (arith, nat_tests, same_values, next_value)
 
   -- numbers that were not read, with rests of 0
   module _ (known : is_option N option ≡ true) (fewer : (j : ℕ) → get_or zeros j 0 < 2 ^ (N - option)) where
@@ -97,8 +87,7 @@ module _ (N option p : ℕ) (zeros : List ℕ) where
     fill zero i last heights h = record { last = last; rest = []; chained = rw (add-zero, append-nil) h }
     fill (suc d) i last heights h =
         let f = filler_is i in
-        let more = chain_more (filler i) h f.0 f.1 in
-        let r = fill d (i + 1) (unmapped N last (filler i)) (heights ++ unmapped N last (filler i) ∷ []) more in
+        let r = fill d (i + 1) (unmapped N last (filler i)) (heights ++ unmapped N last (filler i) ∷ []) (chain_more (filler i) h f.0 f.1) in
         let e : i + 1 + d ≡ i + suc d = omega arith in
         let P : ℕ → Type 0 = λ n. Chained N option p zeros n r.last (heights ++ (unmapped N last (filler i) ∷ [] ++ r.rest)) in
         record {

@@ -11,6 +11,7 @@ use Rattle.plane_defs.proofs.Seen.{steps_equal}
 use Rattle.plane_texts.specs.Candidates.{AboveSame, IsCandidate, Replaces, EntriesChoose, step_at, BlockChosen}
 use Rattle.plane_texts.proofs.BlockChoice.{acs_above}
 use Rattle.plane_texts.proofs.BlocksChoose.{may_choose}
+use Rattle.std.proofs.lemmas.Bool.Decides.{nat_tests}
 
 -- the first steps, one with this entry in its place, and some that follow
 pub record Continues (done : List Step) (s : Step) (e : Entry) (ts : List Step) : Type 0 where
@@ -26,15 +27,11 @@ goes_on [] s more (t ∷ ts) e same c = record {
 goes_on (d ∷ done) s more [] e same c = absurd same
 goes_on (d ∷ done) s more (t ∷ ts) e same c =
     let es = entries_of (done ++ s ∷ more) in
-    let first : d.entry ≡ t.entry = head_same d.entry t.entry (take (length done) es) (take (length done) (entries_of ts)) c.before in
-    let r = goes_on done s more ts e (same.3 first)
+    let r = goes_on done s more ts e (same.3 (head_same d.entry t.entry (take (length done) es) (take (length done) (entries_of ts)) c.before))
     (record { within = omega (arith, c.within); before = tail_same d.entry t.entry (take (length done) es) (take (length done) (entries_of ts)) c.before; next = c.next }) in
     record {
       more = r.more;
-      whole =
-          ap (λ l. t ∷ l) r.whole
-          ∙ ap (λ x. x ∷ (done ++ step s.check s.tells e ∷ r.more))
-          (ap (λ k. step k t.tells t.entry) (sym same.1) ∙ ap (λ k. step d.check k t.entry) (sym same.2) ∙ ap (λ x. step d.check d.tells x) (sym first));
+      whole = grind (arith, nat_tests);
     }
 
 -- ---- candidates
@@ -49,10 +46,7 @@ module _ (weights : List ℕ) (b q d : ℕ) (u v w : List ℤ) (first : IsCandid
 
 -- a block from which a candidate is made is a candidate
 above_both : (u v w : List ℤ) (b : ℕ) → AboveSame u v b → AboveSame v w b → AboveSame u w b
-above_both u v w b f g = record {
-  mags = λ p ac. f.mags p ac ∙ g.mags p ac;
-  signs = λ p ac e. f.signs p ac e ∙ g.signs p ac (sym (acs_above u v b f (b + 1) (omega arith) p ac) ∙ e);
-}
+above_both u v w b f g = grind (arith, nat_tests, acs_above)
 
 -- ---- one step more
 
@@ -75,32 +69,19 @@ place_there (d ∷ done) s more = omega (arith, place_there done s more)
 module _ (weights : List ℕ) (b q d : ℕ) (u v : List ℤ) (candidate : IsCandidate weights b q d u v) (k : ℕ) (below : k < 5) where
   chosen : (done : List Step) (s : Step) (more : List Step) (e : Entry) → block_steps (stage_number k) v d weights b q ≡ done ++ s ∷ more → Replaces s.check s.entry e →
       BlockChosen v d weights b q k (length done) e
-  chosen done s more e sends fits =
-      may_choose k below v d weights b q (length done) e candidate.whole candidate.multiple candidate.below
-      (subst (λ l. length done < length l) (sym sends) (place_there done s more))
-      (let there : step_at (block_steps (stage_number k) v d weights b q) (length done) ≡ s = ap (λ l. step_at l (length done)) sends ∙ step_there done s more in
-      subst (λ t. Replaces t.check t.entry e) (sym there) fits)
+  chosen done s more e sends fits = grind (arith, nat_tests, may_choose, place_there, step_there)
 
   candidate_still : (done : List Step) (e : Entry) → (c : BlockChosen v d weights b q k (length done) e) → IsCandidate weights b q d u c.v
-  candidate_still done e c = record {
-    whole = c.whole;
-    multiple = c.multiple;
-    below = c.below;
-    dc = λ n le. c.dc n le ∙ candidate.dc n le;
-    above = above_both u v c.v b candidate.above c.above;
-  }
+  candidate_still done e c = grind (arith, nat_tests, above_both)
 
   pub advance : (done : List Step) (s : Step) (more : List Step) (e : Entry) → block_steps (stage_number k) v d weights b q ≡ done ++ s ∷ more → Replaces s.check s.entry e → Advanced weights b q d u v k done s e
   advance done s more e sends fits =
       let c = chosen done s more e sends fits in
       let now = candidate_still done e c in
       let alike = candidates_alike weights b q d u v c.v candidate now in
-      let entries_in : (x : List ℤ) (i : ℕ) → entries_of (block_steps (stage_number i) x d weights b q) ≡ block_entries (stage_number i) x d weights b q =
-      λ x i. steps_entries (stage_number i) x d weights b q in
-      let said : (i : ℕ) → i < k → entries_of (block_steps (stage_number i) v d weights b q) ≡ entries_of (block_steps (stage_number i) c.v d weights b q) =
-      λ i lt. entries_in v i ∙ c.before i lt ∙ sym (entries_in c.v i) in
-      let same : (i : ℕ) → i < 5 → i ≤ k → SameSteps (block_steps (stage_number i) v d weights b q) (block_steps (stage_number i) c.v d weights b q) =
-      λ i lt le. block_same v c.v d weights b q alike i lt (λ three. said 2 (omega (arith, three, le))) in
+      let entries_in : (x : List ℤ) (i : ℕ) → entries_of (block_steps (stage_number i) x d weights b q) ≡ block_entries (stage_number i) x d weights b q = grind (arith, nat_tests, steps_entries) in
+      let said : (i : ℕ) → i < k → entries_of (block_steps (stage_number i) v d weights b q) ≡ entries_of (block_steps (stage_number i) c.v d weights b q) = grind (arith, nat_tests) in
+      let same : (i : ℕ) → i < 5 → i ≤ k → SameSteps (block_steps (stage_number i) v d weights b q) (block_steps (stage_number i) c.v d weights b q) = grind (arith, nat_tests, block_same) in
       let r = goes_on done s more (block_steps (stage_number k) c.v d weights b q) e
       (subst (λ l. SameSteps l (block_steps (stage_number k) c.v d weights b q)) sends (same k below (omega arith)))
       (subst (λ l. EntriesChoose (length done) e (entries_of l) (entries_of (block_steps (stage_number k) c.v d weights b q))) sends

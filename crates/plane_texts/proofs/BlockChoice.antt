@@ -1,9 +1,8 @@
 -- A block with another entry in one step of a plane: what it keeps.
-use Rattle.std.proofs.Common.{◌≡◌, ℕ, ◌+◌, ◌-◌, ◌/◌, ◌%◌, ◌^◌, ◌<◌, ◌≤◌, true, List, ap, sym, ◌∙◌, subst, arith, ℤ, pos, get_or, nat_le, ◌==◌, pow_mono}
+use Rattle.std.proofs.Common.{◌≡◌, ℕ, ◌+◌, ◌-◌, ◌/◌, ◌^◌, ◌<◌, ◌≤◌, true, List, ap, sym, ◌∙◌, subst, arith, ℤ, pos, get_or, nat_le, pow_mono}
 use Rattle.std.specs.Int.{int_shr}
 use Rattle.std.proofs.lemmas.Bool.Decides.{nat_tests}
 use Rattle.std.proofs.lemmas.Nat.{pow_pos, shr-shr, div-mul-add, div-add-mod', mod_below}
-use Rattle.number_defs.specs.Ranges.{complement}
 use Rattle.plane_defs.specs.Sets.{magnitude, significant}
 use Rattle.plane_defs.specs.Laws.{IsMultiple}
 use Rattle.plane_defs.specs.StepLaws.{SameAc, SeenAlike}
@@ -20,9 +19,7 @@ same_test : (w m n : ℕ) → 1 ≤ w → m / w ≡ n / w → nat_le w m ≡ nat
 same_test w m n some e = grind (arith, nat_tests, reaches)
 
 higher : (m n a c : ℕ) → a ≤ c → m / 2 ^ a ≡ n / 2 ^ a → m / 2 ^ c ≡ n / 2 ^ c
-higher m n a c le e =
-    let z : a + (c - a) ≡ c = omega arith in
-    subst (λ k. m / 2 ^ k ≡ n / 2 ^ k) z (sym (shr-shr m a (c - a)) ∙ ap (λ x. x / 2 ^ (c - a)) e ∙ shr-shr n a (c - a))
+higher m n a c le e = subst (λ k. m / 2 ^ k ≡ n / 2 ^ k) (omega arith) (sym (shr-shr m a (c - a)) ∙ ap (λ x. x / 2 ^ (c - a)) e ∙ shr-shr n a (c - a))
 
 module _ (u v : List ℤ) (b : ℕ) (same : AboveSame u v b) where
   pub acs_above : (c : ℕ) → b < c → SameAc u v c
@@ -32,10 +29,4 @@ module _ (u v : List ℤ) (b : ℕ) (same : AboveSame u v b) where
   lower c p lt e = grind (arith, nat_tests, significant-is, pow_mono)
 
   pub seen_above : (weights : List ℕ) (c : ℕ) → b < c → IsMultiple u weights → IsMultiple v weights → int_shr (get_or u 0 (pos 0)) c ≡ int_shr (get_or v 0 (pos 0)) c → SeenAlike u v weights c
-  seen_above weights c lt first second dc = record {
-    alike = record { above = acs_above (c + 1) (omega (arith, lt)); first = first; second = second };
-    here = acs_above c lt;
-    signs = λ p ac e. same.signs p ac (lower c p lt e);
-    bits = λ p ac e. ap (λ x. x % 2 == 1) (higher (magnitude u p) (magnitude v p) (b + 1) c (omega (arith, lt)) (same.mags p ac));
-    dc = twos (get_or u 0 (pos 0)) c ∙ ap (λ z. complement 1 z == 1) dc ∙ sym (twos (get_or v 0 (pos 0)) c);
-  }
+  seen_above weights c lt first second dc = grind (arith, nat_tests, acs_above, lower, higher, twos)

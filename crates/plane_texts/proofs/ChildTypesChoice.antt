@@ -51,17 +51,7 @@ module _ (w : List ℤ) (weights : List ℕ) (b : ℕ) (new minus : ℕ → Bool
 
   may_with : (g : ℕ) → IsAc g → type_due w weights b g ≡ true → MayComplete w weights b (with_one g)
   unfolding with_one
-  may_with g ac due = record {
-    whole = may.whole;
-    multiple = may.multiple;
-    none_new = may.none_new;
-    chosen_acs = λ p e. split IsAc p ac (may.chosen_acs p) (p == g) refl e;
-    chosen_due = λ p e. split (λ n. type_due w weights b n ≡ true) p due (may.chosen_due p) (p == g) refl e;
-  }
-    where
-      split : (P : ℕ → Type 0) (p : ℕ) → P g → (new p ≡ true → P p) → (t : Bool) → (p == g) ≡ t → (t || new p) ≡ true → P p
-      split P p here there true h e = subst P (sym (eqb-true p g h)) here
-      split P p here there false h e = there e
+  may_with g ac due = grind (arith, nat_tests, eqb-true)
 
   extend : live weights b (Grandchildren i) ≡ true → (set_significant w (b + 1) (Grandchildren i) ≡ true → ⊥) → Extended
   unfolding with_one
@@ -120,16 +110,14 @@ module _ (w : List ℤ) (weights : List ℕ) (b d q : ℕ) (chosen minus : ℕ �
 
       by_live : set_significant made b (Family i) ≡ false → set_significant w (b + 1) (Family i) ≡ false → (children_check old weights b i ≡ some_one → list_any (significant made b) (span (children_of i) 4) ≡ true) →
           (t : Bool) → live weights b (Grandchildren i) ≡ t → Kept
-      by_live h above some true is_live = extend w weights b r.new r.minus' r.may_new i known is_live (none_above above)
-      by_live h above some false dead = absurd (true_false (sym (child_in (some (must_have above dead))) ∙ h))
+      by_live h above some t dead = grind (arith, nat_tests, extend, none_above, true_false, child_in, must_have)
 
       by_above : set_significant made b (Family i) ≡ false → (children_check old weights b i ≡ some_one → list_any (significant made b) (span (children_of i) 4) ≡ true) → (t : Bool) → set_significant w (b + 1) (Family i) ≡ t → Kept
       by_above h some true above = absurd (true_false (sym (two.set_stays w weights b r.new r.minus' r.may_new (Family i) known above) ∙ h))
       by_above h some false above = by_live h above some (live weights b (Grandchildren i)) refl
 
       by_set : (children_check old weights b i ≡ some_one → list_any (significant made b) (span (children_of i) 4) ≡ true) → (t : Bool) → set_significant made b (Family i) ≡ t → Kept
-      by_set some true h = as_is h
-      by_set some false h = by_above h some (set_significant w (b + 1) (Family i)) refl
+      by_set some t h = grind (arith, nat_tests, as_is, by_above)
 
       by_kind : ((p : ℕ) → chosen p ≡ r.new p) ⊎ (children_check old weights b i ≡ some_one → list_any (significant made b) (span (children_of i) 4) ≡ true) → Kept
       by_kind (inl same) = as_is (sym (two.set_same w weights b chosen minus r.new r.minus' may r.may_new (Family i) known (any_same chosen r.new (members (Family i)) same)) ∙ reached)
@@ -153,22 +141,10 @@ module _ (w : List ℤ) (weights : List ℕ) (b d q : ℕ) (chosen minus : ℕ �
 
         -- children of other families
         other_children : (h : ℕ) → h < 3 → (h ≡ i → ⊥) → (p : ℕ) → children_of h ≤ p → p < children_of h + 4 → Same p
-        other_children h lt apart p low high =
-            elim (cases_lt h i) [
-              | inl before ↦ outside p (inl (omega (arith, high, before))) (inl (omega (arith, high, lt)))
-              | inr later ↦
-                  let more : i < h = strictly i h later apart in
-                  outside p (inr (omega (arith, low, more))) (inl (omega (arith, high, lt)))
-            ]
+        other_children h lt apart p low high = grind (arith, nat_tests, outside, strictly)
 
         other_grandchildren : (h : ℕ) → h < 3 → (h ≡ i → ⊥) → (p : ℕ) → grandchildren_of h ≤ p → p < grandchildren_of h + 16 → Same p
-        other_grandchildren h lt apart p low high =
-            elim (cases_lt h i) [
-              | inl before ↦ outside p (inr (omega (arith, low, known))) (inl (omega (arith, high, before)))
-              | inr later ↦
-                  let more : i < h = strictly i h later apart in
-                  outside p (inr (omega (arith, low, known))) (inr (omega (arith, low, more)))
-            ]
+        other_grandchildren h lt apart p low high = grind (arith, nat_tests, outside, strictly)
 
         families_kept : (h : ℕ) → h < 3 → set_significant old b (Family h) ≡ set_significant last b (Family h)
         families_kept h lt = by_place (h == i) refl
@@ -213,17 +189,14 @@ module _ (w : List ℤ) (weights : List ℕ) (b d q : ℕ) (chosen minus : ℕ �
 
         stage_chosen : (j s : ℕ) → (l : StepLocated (family_sends old weights b) 0 3 s) → l.at ≡ i → l.rest ≡ c → j ≡ length (A old) + suc s → StageChosen w weights b d q 2 chosen minus j e
         stage_chosen j s l at rest place =
-            let there : EntriesChoose l.rest e (entries_of (family_sends old weights b l.at)) (entries_of (family_sends last weights b l.at)) =
-            subst (λ n. EntriesChoose n e (entries_of (family_sends old weights b l.at)) (entries_of (family_sends last weights b l.at))) (sym rest)
-            (subst (λ n. EntriesChoose c e (entries_of (family_sends old weights b n)) (entries_of (family_sends last weights b n))) (sym at) sends_here) in
+            let there : EntriesChoose l.rest e (entries_of (family_sends old weights b l.at)) (entries_of (family_sends last weights b l.at)) = grind (arith, nat_tests, sends_here) in
             let entries = l.chosen (family_sends last weights b) e (λ h from to. sends_before h (omega (arith, to, at))) there in
             let types : EntriesChoose s e (children_types old weights b) (children_types last weights b) = entries_as s e _ _ _ _ (types_said old weights b) (types_said last weights b) entries in
-            let z : suc s - length (word (flags old weights b three_families) ∷ []) ≡ s = omega arith in
             let y : j - length (A old) ≡ suc s = omega (arith, place) in
             let rest_chosen : EntriesChoose (suc s) e (word (flags old weights b three_families) ∷ children_types old weights b) (word (flags last weights b three_families) ∷ children_types last weights b) =
             entries_right (suc s) e (word (flags old weights b three_families) ∷ []) (word (flags last weights b three_families) ∷ []) (children_types old weights b) (children_types last weights b) (omega arith)
             (ap (λ l. word l ∷ []) (kids.families_same w weights b d q chosen minus may deep k.more r.minus' k.may_more descendants_kept families_kept))
-            (subst (λ n. EntriesChoose n e (children_types old weights b) (children_types last weights b)) (sym z) types) in
+            (subst (λ n. EntriesChoose n e (children_types old weights b) (children_types last weights b)) (sym (omega arith)) types) in
             record {
               new = k.more;
               minus' = r.minus';
@@ -258,8 +231,7 @@ module _ (w : List ℤ) (weights : List ℕ) (b d q : ℕ) (chosen minus : ℕ �
               stage_chosen l.at known h l.rest e g (keep_family l.at known h l.rest e g) j s l refl refl place
 
   in_raw : (j : ℕ) (e : Entry) (y : Bool) → j < length (flags old weights b (Descendants ∷ [])) → Replaces free (Bit y) e → StageChosen w weights b d q 2 chosen minus j e
-  in_raw j (Word bits) y lt r = absurd r.kind
-  in_raw j (Bit z) y lt r = descendants_choice w weights b d q chosen minus may deep j z lt
+  in_raw j e y lt r = grind (arith, nat_tests, descendants_choice)
 
   raw_steps : List Step
   raw_steps = map (λ y. step free flags_alone (Bit y)) (flags old weights b (Descendants ∷ []))
@@ -274,8 +246,7 @@ module _ (w : List ℤ) (weights : List ℕ) (b d q : ℕ) (chosen minus : ℕ �
         | inl early ↦
             let at = raw_at j (flags old weights b (Descendants ∷ [])) (omega (arith, early, many)) in
             in_raw j e at.0 (omega (arith, early, many)) (subst (λ x. Replaces x.check x.entry e) (step_left j raw_steps rest early ∙ at.1) replaces)
-        | inr late ↦
-            after_raw (j - length raw_steps) e (omega (arith, late, many, bits)) (omega (arith, lt, late, length-append raw_steps rest)) (subst (λ x. Replaces x.check x.entry e) (step_right j raw_steps rest late) replaces)
+        | inr late ↦ grind (arith, nat_tests, after_raw, length-append, step_right)
       ]
     where
       after_raw : (s : ℕ) (e : Entry) → j ≡ length (A old) + s → s < length (flags_step old weights b (descendants_check old b) three_families ∷ children_types_steps old weights b) →
@@ -286,9 +257,7 @@ module _ (w : List ℤ) (weights : List ℕ) (b d q : ℕ) (chosen minus : ℕ �
       after_raw (suc s) e place lt r = in_types j s e place (omega (arith, lt)) r
 
 children_complete : MayComplete' 2
-children_complete w weights b d q chosen minus j e may deep lt replaces =
-    let steps = children_sent (completed w b chosen minus) d weights b q true deep in
-    complete_children w weights b d q chosen minus may deep j e (subst (λ ss. j < length ss) steps lt) (subst (λ ss. Replaces (step_at ss j).check (step_at ss j).entry e) steps replaces)
+children_complete w weights b d q chosen minus j e may deep lt replaces = grind (arith, nat_tests, children_sent, complete_children)
 
 pub children_choice : MayChoose 2
 children_choice = from_completions 2 (λ u d weights b q j h lt. subst (λ ss. j < length ss) (children_sent u d weights b q false h) lt) children_complete

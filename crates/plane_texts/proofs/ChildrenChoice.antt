@@ -43,8 +43,7 @@ any_member f g [] e h = e
 any_member f g (x ∷ xs) e h = by_first (x == g) refl e (λ later. any_member f g xs later h)
   where
     by_first : (t : Bool) → (x == g) ≡ t → (t || list_any (λ q. q == g) xs) ≡ true → (list_any (λ q. q == g) xs ≡ true → list_any f xs ≡ true) → (f x || list_any f xs) ≡ true
-    by_first true s e more = ap (λ t. t || list_any f xs) (ap f (eqb-true x g s) ∙ h)
-    by_first false s e more = or_right (f x) (list_any f xs) (more e)
+    by_first t s e more = grind (arith, nat_tests, eqb-true, or_right)
 
 -- ---- the stage's parts
 
@@ -119,9 +118,7 @@ module _ (w : List ℤ) (weights : List ℕ) (b d q : ℕ) (chosen minus : ℕ �
     A v = map Bit (flags v weights b (Descendants ∷ []))
 
     pub in_first : (j : ℕ) (e : Entry) → j < length (A old) → EntriesChoose j e (A old) (A made) → EntriesChoose j e (block_entries stages.Children old d weights b q) (block_entries stages.Children made d weights b q)
-    in_first j e lt c =
-        entries_as j e _ _ _ _ (children_said old d weights b q deep) (children_said made d weights b q deep)
-        (entries_left j e (A old) (A made) (word (flags old weights b three_families) ∷ children_types old weights b) (word (flags made weights b three_families) ∷ children_types made weights b) lt c)
+    in_first j e lt c = grind (arith, nat_tests, entries_as, children_said, entries_left)
 
     pub in_rest : (j : ℕ) (e : Entry) → length (A old) ≤ j → set_significant old b Descendants ≡ set_significant made b Descendants →
         EntriesChoose (j - length (A old)) e (word (flags old weights b three_families) ∷ children_types old weights b) (word (flags made weights b three_families) ∷ children_types made weights b) →
@@ -167,8 +164,7 @@ module _ (w : List ℤ) (weights : List ℕ) (b d q : ℕ) (chosen minus : ℕ �
           let v : List ℤ = completed w b r.new minus in
           let says : flags v weights b (Descendants ∷ []) ≡ y ∷ [] =
           ap (flags v weights b) all_listed ∙ flagged.flags_are w weights b chosen minus may (λ i. Descendants) descendants_owner 1 one_set (digit y) 1 r (λ i lt. flag_same v old weights b (two.alike w weights b r.new minus chosen minus r.may_new may) Descendants tt (simp enclosing-descendants)) ∙ bits_one y in
-          let picked : EntriesChoose 0 (Bit y) (map Bit (flags old weights b (Descendants ∷ []))) (map Bit (flags v weights b (Descendants ∷ []))) =
-          subst (λ l. EntriesChoose 0 (Bit y) (map Bit (flags old weights b (Descendants ∷ []))) (map Bit l)) (sym says) (record { within = omega arith; before = refl; next = refl }) in
+          let picked : EntriesChoose 0 (Bit y) (map Bit (flags old weights b (Descendants ∷ []))) (map Bit (flags v weights b (Descendants ∷ []))) = grind (arith, nat_tests) in
           record {
             new = r.new;
             minus' = minus;

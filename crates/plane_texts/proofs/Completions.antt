@@ -1,5 +1,5 @@
 -- Two completions of the same numbers: what a plane has the same in both.
-use Rattle.std.proofs.Common.{◌≡◌, ℕ, ◌+◌, ◌-◌, ◌^◌, ◌<◌, ◌≤◌, Bool, true, false, not, ◌&&◌, cond, List, ap, sym, ◌∙◌, ℤ, pos, negsuc, get_or, arith, nat_le, ◌||◌, unsigned_abs}
+use Rattle.std.proofs.Common.{◌≡◌, ℕ, ◌+◌, ◌^◌, ◌<◌, ◌≤◌, Bool, true, false, not, ◌&&◌, List, ap, sym, ◌∙◌, ℤ, pos, get_or, arith, nat_le, ◌||◌, unsigned_abs}
 use Rattle.std.specs.List.{list_any}
 use Rattle.std.proofs.lemmas.Bool.Decides.{nat_tests}
 use Rattle.plane_defs.specs.declared.sets.Set.{Set}
@@ -89,13 +89,7 @@ module _ (w : List ℤ) (weights : List ℕ) (b : ℕ) (chosen minus chosen' min
   Same p = (chosen p ≡ chosen' p) × (minus p ≡ minus' p)
 
   pub seen_same : (p : ℕ) → IsAc p → Same p → SeenAt first second b p
-  seen_same p ac same =
-      let e : get_or first p (pos 0) ≡ get_or second p (pos 0) =
-      number_at w weights b chosen minus may p ac.1
-      ∙ ap (λ t. cond t (cond (minus p) (negsuc (2 ^ b - 1)) (pos (2 ^ b))) (get_or w p (pos 0))) same.0
-      ∙ ap (λ t. cond (chosen' p) (cond t (negsuc (2 ^ b - 1)) (pos (2 ^ b))) (get_or w p (pos 0))) same.1
-      ∙ sym (number_at w weights b chosen' minus' may' p ac.1) in
-      record { here = significant_same first second b p e; sign = λ s. ap negative e }
+  seen_same p ac same = grind (arith, nat_tests, number_at, significant_same)
 
   pub set_same : (s : Set) → IsKnown s → list_any chosen (members s) ≡ list_any chosen' (members s) → set_significant first b s ≡ set_significant second b s
   set_same s known e = set_is w weights b chosen minus may s known ∙ ap (λ t. set_significant w (b + 1) s || t) e ∙ sym (set_is w weights b chosen' minus' may' s known)

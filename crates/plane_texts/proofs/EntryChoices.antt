@@ -10,6 +10,7 @@ use Rattle.plane_defs.proofs.SpanLists.{flat_map-span-suc}
 use Rattle.plane_defs.proofs.Settled.{head_same, tail_same}
 use Rattle.plane_texts.specs.Candidates.{EntriesChoose, step_at}
 use Rattle.plane_defs.proofs.Equations.{span-none}
+use Rattle.std.proofs.lemmas.Bool.Decides.{nat_tests}
 
 pub flat_more : {A : Type 0} (f : ℕ → List A) (start count : ℕ) → flat_map f (span start (suc count)) ≡ flat_map f (span start count) ++ f (start + count)
 flat_more f start count = ap (λ m. flat_map f (span start m)) (sym (add-one count)) ∙ flat_map-span-suc f start count
@@ -21,17 +22,13 @@ entries_left zero e es [] es' fs' lt c = absurd (omega (arith, c.within))
 entries_left zero e es (f ∷ fs) es' fs' lt c = record { within = omega arith; before = refl; next = c.next }
 entries_left (suc j) e [] fs es' fs' lt c = absurd (omega (arith, lt))
 entries_left (suc j) e (x ∷ es) [] es' fs' lt c = absurd (omega (arith, c.within))
-entries_left (suc j) e (x ∷ es) (f ∷ fs) es' fs' lt c =
-    let first : x ≡ f = head_same x f (take j es) (take j fs) c.before in
-    let r = entries_left j e es fs es' fs' (omega (arith, lt)) (record { within = omega (arith, c.within); before = tail_same x f (take j es) (take j fs) c.before; next = c.next }) in
-    record { within = omega (arith, r.within); before = ap (λ a. a ∷ take j (es ++ es')) first ∙ ap (λ l. f ∷ l) r.before; next = r.next }
+entries_left (suc j) e (x ∷ es) (f ∷ fs) es' fs' lt c = grind (arith, nat_tests, head_same, tail_same, entries_left j e es fs es' fs' (omega (arith, lt)) (record { within = omega (arith, c.within); before = tail_same x f (take j es) (take j fs) c.before; next = c.next }))
 
 entries_after : (j : ℕ) (e : Entry) (fs es' fs' : List Entry) → length fs ≤ j → EntriesChoose (j - length fs) e es' fs' → EntriesChoose j e (fs ++ es') (fs ++ fs')
 entries_after j e [] es' fs' le c = let z : j - 0 ≡ j = omega arith in subst (λ k. EntriesChoose k e es' fs') z c
 entries_after zero e (f ∷ fs) es' fs' le c = absurd (omega (arith, le))
 entries_after (suc j) e (f ∷ fs) es' fs' le c =
-    let z : suc j - length (f ∷ fs) ≡ j - length fs = omega arith in
-    let r = entries_after j e fs es' fs' (omega (arith, le)) (subst (λ k. EntriesChoose k e es' fs') z c) in
+    let r = entries_after j e fs es' fs' (omega (arith, le)) (subst (λ k. EntriesChoose k e es' fs') (omega arith) c) in
     record { within = omega (arith, r.within); before = ap (λ l. f ∷ l) r.before; next = r.next }
 
 pub entries_right : (j : ℕ) (e : Entry) (es fs es' fs' : List Entry) → length es ≤ j → es ≡ fs → EntriesChoose (j - length es) e es' fs' → EntriesChoose j e (es ++ es') (fs ++ fs')
@@ -58,9 +55,7 @@ entries_both ss ss' = map-append entry_of ss ss'
 
 entries_flat : (f h : ℕ → List Step) (start n : ℕ) → ((j : ℕ) → j < n → entries_of (f (start + j)) ≡ entries_of (h (start + j))) → entries_of (flat_map f (span start n)) ≡ entries_of (flat_map h (span start n))
 entries_flat f h start zero same = simp span-none
-entries_flat f h start (suc n) same =
-    ap entries_of (flat_more f start n) ∙ entries_both (flat_map f (span start n)) (f (start + n)) ∙ ap (λ l. l ++ entries_of (f (start + n))) (entries_flat f h start n (λ j lt. same j (omega arith)))
-    ∙ ap (λ l. entries_of (flat_map h (span start n)) ++ l) (same n (omega arith)) ∙ sym (entries_both (flat_map h (span start n)) (h (start + n))) ∙ ap entries_of (sym (flat_more h start n))
+entries_flat f h start (suc n) same = grind (arith, nat_tests, flat_more, entries_both, entries_flat f h start n (λ j lt. same j (omega arith)))
 
 pub record StepLocated (f : ℕ → List Step) (start count m : ℕ) : Type 0 where
   pub at : ℕ

@@ -1,5 +1,5 @@
 -- The flags of some sets may be chosen.
-use Rattle.std.proofs.Common.{◌≡◌, ℕ, ◌+◌, ◌^◌, ◌<◌, ◌≤◌, Bool, true, false, not, ◌&&◌, cond, List, [], ◌∷◌, length, refl, ap, sym, ◌∙◌, arith, ℤ, nat_lt, ◌||◌, map, filter}
+use Rattle.std.proofs.Common.{◌≡◌, ℕ, ◌+◌, ◌^◌, ◌<◌, ◌≤◌, Bool, true, false, not, ◌&&◌, List, [], ◌∷◌, length, refl, ap, sym, ◌∙◌, arith, ℤ, nat_lt, map, filter}
 use Rattle.std.specs.List.{list_any, AllByRecursion}
 use Rattle.std.proofs.lemmas.List.{length-map}
 use Rattle.std.proofs.lemmas.Bool.{and_parts, ltb-true}
@@ -28,19 +28,11 @@ use Rattle.plane_defs.proofs.Equations.{flag_due-is}
 
 filter_map : {X A : Type 0} (f : X → A) (t : A → Bool) (xs : List X) → filter t (map f xs) ≡ map f (filter (λ x. t (f x)) xs)
 filter_map f t [] = refl
-filter_map {X} f t (x ∷ xs) = by_test (t (f x)) (filter_map f t xs)
-  where
-    by_test : (s : Bool) → filter t (map f xs) ≡ map f (filter (λ x. t (f x)) xs) → cond s (f x ∷ filter t (map f xs)) (filter t (map f xs)) ≡ map f (cond s (x ∷ filter (λ x. t (f x)) xs) (filter (λ x. t (f x)) xs))
-    by_test true e = ap (λ l. f x ∷ l) e
-    by_test false e = e
+filter_map {X} f t (x ∷ xs) = grind (arith, nat_tests, filter_map f t xs)
 
 pub any_found : {X : Type 0} (f : X → Bool) (P : X → Type 0) (xs : List X) → AllByRecursion P xs → list_any f xs ≡ true → (x : X) × P x × (f x ≡ true)
 any_found f P [] all e = absurd cc
-any_found {X} f P (x ∷ xs) all e = by_first (f x) refl e (any_found f P xs all.1)
-  where
-    by_first : (t : Bool) → f x ≡ t → (t || list_any f xs) ≡ true → (list_any f xs ≡ true → (x : X) × P x × (f x ≡ true)) → (x : X) × P x × (f x ≡ true)
-    by_first true h e more = (x, all.0, h)
-    by_first false h e more = more e
+any_found {X} f P (x ∷ xs) all e = grind (arith, nat_tests, any_found f P xs all.1)
 
 module _ (w : List ℤ) (weights : List ℕ) (b : ℕ) (chosen minus : ℕ → Bool) (may : MayComplete w weights b chosen) (sets : ℕ → Set) (owner : ℕ → ℕ) (count : ℕ) (apart : AreApart sets owner count) where
   abbrev old : List ℤ
@@ -73,8 +65,7 @@ module _ (w : List ℤ) (weights : List ℕ) (b : ℕ) (chosen minus : ℕ → B
   -- if a word of them has bits, one is due
   pub some_due : 1 ≤ length (flags old weights b listed) → (i : ℕ) × ((i < count) × (due i ≡ true))
   some_due some =
-      let long : length (flags old weights b listed) ≡ length (filter due (span 0 count)) =
-      length-map (filter (flag_due old weights b) listed) (set_significant old b) ∙ ap length (due_filter old (λ i lt. refl)) ∙ length-map (filter due (span 0 count)) sets in
+      let long : length (flags old weights b listed) ≡ length (filter due (span 0 count)) = grind (arith, nat_tests, length-map, due_filter) in
       first_of (filter due (span 0 count)) (all_both (λ i. i < count) (λ i. due i ≡ true) (filter due (span 0 count)) (all_filter (λ i. i < count) due (span 0 count) (all_span (λ i. i < count) 0 count (λ i low high. omega (arith, high)))) (passed due (span 0 count))) (omega (arith, some, long))
     where
       first_of : {P : ℕ → Type 0} (xs : List ℕ) → AllByRecursion P xs → 1 ≤ length xs → (i : ℕ) × P i

@@ -79,8 +79,7 @@ pub sixteen_entries : (v : List ℤ) (weights : List ℕ) (b i : ℕ) (t : Bool)
 sixteen_entries v weights b i t e = ap entries_of (sixteen_steps v weights b i t e) ∙ by_test t
   where
     by_test : (t : Bool) → entries_of (cond t (quads_steps v weights b i) []) ≡ cond t (quads v weights b i) []
-    by_test true = quads_entries v weights b i
-    by_test false = refl
+    by_test t = grind (arith, nat_tests, quads_entries)
 
 pub sixteens_sent : (v : List ℤ) (weights : List ℕ) (b : ℕ) → all_quads_steps v weights b ≡ flat_map (sixteen_sends v weights b) (span 0 3)
 unfolding sixteen_sends
@@ -135,10 +134,7 @@ module _ (w : List ℤ) (weights : List ℕ) (b d q : ℕ) (chosen minus : ℕ �
       set = completed w b r.new minus
 
       low_same : (p : ℕ) → p < 16 → (chosen p ≡ r.new p) × (minus p ≡ minus p)
-      low_same p low = (r.elsewhere p (λ h. absurd (no_sixteen p low h)), refl)
-        where
-          no_sixteen : (p : ℕ) → p < 16 → sixteen_of p < 3 → ⊥
-          no_sixteen p low h = grind (arith, nat_tests)
+      low_same p low = grind (arith, nat_tests)
 
       -- a family whose set of sixteen is not due
       unmoved : (h : ℕ) → h < 3 → flag_due old weights b (Grandchildren h) ≡ false → set_significant old b (Family h) ≡ set_significant set b (Family h)
@@ -202,10 +198,7 @@ module _ (w : List ℤ) (weights : List ℕ) (b d q : ℕ) (chosen minus : ℕ �
         minus' = minus;
         may_new = r.may_new;
         before = stages_before r.new minus r.may_new low_same descendants families;
-        here =
-            subst (λ k. EntriesChoose k (Word (record { value = x; count = n })) (block_entries stages.Grandchildren old d weights b q) (block_entries stages.Grandchildren set d weights b q)) (sym at)
-            (entries_as 0 (Word (record { value = x; count = n })) _ _ _ _ (grandchildren_said old d weights b q deep) (grandchildren_said set d weights b q deep)
-            (record { within = omega arith; before = refl; next = ap word says ∙ word_is n x small }));
+        here = grind (arith, nat_tests, entries_as, grandchildren_said, says, word_is);
       }
 
     pub sixteens_choice : StageChosen w weights b d q 3 chosen minus 0 (Word (record { value = x; count = n }))
@@ -219,11 +212,7 @@ module _ (w : List ℤ) (weights : List ℕ) (b d q : ℕ) (chosen minus : ℕ �
     now = completed w b new minus'
 
     elsewhere : (h : ℕ) → h < 3 → (h ≡ i → ⊥) → (p : ℕ) → grandchildren_of h ≤ p → p < grandchildren_of h + 16 → (chosen p ≡ new p) × (minus p ≡ minus' p)
-    elsewhere h lt apart p low high =
-        elim (cases_lt h i) [
-          | inl before ↦ outside p (inl (omega (arith, high, before)))
-          | inr later ↦ let more : i < h = strictly i h later apart in outside p (inr (omega (arith, low, more)))
-        ]
+    elsewhere h lt apart p low high = grind (arith, nat_tests, strictly)
 
     other_sixteens : (h : ℕ) → h < 3 → (h ≡ i → ⊥) → set_significant old b (Grandchildren h) ≡ set_significant now b (Grandchildren h)
     other_sixteens h lt apart =
@@ -277,9 +266,7 @@ module _ (w : List ℤ) (weights : List ℕ) (b d q : ℕ) (chosen minus : ℕ �
     pub stage_chosen : (c : ℕ) (e : Entry) → EntriesChoose c e (quads old weights b i) (quads now weights b i) → (s : ℕ) (l : StepLocated (sixteen_sends old weights b) 0 3 s) → l.at ≡ i → l.rest ≡ c → StageChosen w weights b d q 3 chosen minus (suc s) e
     stage_chosen c e picked s l at rest =
         let here : EntriesChoose c e (entries_of (sixteen_sends old weights b i)) (entries_of (sixteen_sends now weights b i)) = entries_as c e _ _ _ _ (sixteen_entries old weights b i true reached) (sixteen_entries now weights b i true still) picked in
-        let there : EntriesChoose l.rest e (entries_of (sixteen_sends old weights b l.at)) (entries_of (sixteen_sends now weights b l.at)) =
-        subst (λ n. EntriesChoose n e (entries_of (sixteen_sends old weights b l.at)) (entries_of (sixteen_sends now weights b l.at))) (sym rest)
-        (subst (λ n. EntriesChoose c e (entries_of (sixteen_sends old weights b n)) (entries_of (sixteen_sends now weights b n))) (sym at) here) in
+        let there : EntriesChoose l.rest e (entries_of (sixteen_sends old weights b l.at)) (entries_of (sixteen_sends now weights b l.at)) = grind (arith, nat_tests) in
         let entries = entries_as s e _ _ _ _ (sixteens_said old weights b) (sixteens_said now weights b) (l.chosen (sixteen_sends now weights b) e (λ h from to. sends_before h (omega (arith, to, at))) there) in
         let z : suc s - length (word (flags old weights b three_grandchildren) ∷ []) ≡ s = omega arith in
         record {

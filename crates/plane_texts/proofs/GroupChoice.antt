@@ -145,17 +145,11 @@ module _ (w : List ℤ) (weights : List ℕ) (b : ℕ) (chosen minus : ℕ → B
     sign_other : (i : ℕ) → IsAc i → (i ≡ p → ⊥) → sign_of old i ≡ sign_of turned i
     unfolding sign_of
     sign_other i ac apart =
-        let same : SeenAt old turned b i = two.seen_same w weights b chosen minus chosen signed may may i ac (refl, signed_other i apart) in
-        by_new (newly_significant old weights b i) refl same
+        by_new (newly_significant old weights b i) refl (two.seen_same w weights b chosen minus chosen signed may may i ac (refl, signed_other i apart))
       where
         by_new : (t : Bool) → newly_significant old weights b i ≡ t → SeenAt old turned b i →
             cond (newly_significant old weights b i) (step free (sign_at i) (Bit (negative (get_or old i (pos 0)))) ∷ []) [] ≡ cond (newly_significant turned weights b i) (step free (sign_at i) (Bit (negative (get_or turned i (pos 0)))) ∷ []) []
-        by_new true e same =
-            ap (λ t. cond t (step free (sign_at i) (Bit (negative (get_or old i (pos 0)))) ∷ []) []) (newly_kept i ac)
-            ∙ ap (λ y. cond (newly_significant turned weights b i) (step free (sign_at i) (Bit y) ∷ []) []) (same.sign (newly_here old weights b i e))
-        by_new false e same =
-            ap (λ t. cond t (step free (sign_at i) (Bit (negative (get_or old i (pos 0)))) ∷ []) []) e
-            ∙ sym (ap (λ t. cond t (step free (sign_at i) (Bit (negative (get_or turned i (pos 0)))) ∷ []) []) (sym (newly_kept i ac) ∙ e))
+        by_new t e same = grind (arith, nat_tests, newly_kept, newly_here)
 
     sign_here : newly_significant old weights b p ≡ true → chosen p ≡ true → sign_of turned p ≡ step free (sign_at p) (Bit y) ∷ []
     unfolding sign_of
@@ -192,8 +186,7 @@ module _ (w : List ℤ) (weights : List ℕ) (b : ℕ) (chosen minus : ℕ → B
       let p : ℕ = l.at in
       let minus' : ℕ → Bool = signed p l.low l.high y in
       let v : List ℤ = completed w b chosen minus' in
-      let picked : EntriesChoose 0 (Bit y) (entries_of (sign_of old p)) (entries_of (sign_of v p)) =
-      subst (λ s. EntriesChoose 0 (Bit y) (entries_of (sign_of old p)) (entries_of s)) (sym (sign_here p l.low l.high y new (is_chosen p (ac_of p l.low l.high) new))) (record { within = omega arith; before = refl; next = refl }) in
+      let picked : EntriesChoose 0 (Bit y) (entries_of (sign_of old p)) (entries_of (sign_of v p)) = grind (arith, nat_tests, sign_here, is_chosen, ac_of) in
       let entries = l.chosen (sign_of v) (Bit y) (λ i from to. ap entries_of (sign_other p l.low l.high y i (ac_of i from (omega (arith, to, l.high))) (λ e. omega (arith, e, to))))
       (subst (λ c. EntriesChoose c (Bit y) (entries_of (sign_of old p)) (entries_of (sign_of v p))) (sym rest) picked) in
       let z : suc r - length (word (types old weights b ps) ∷ []) ≡ r = omega arith in
@@ -202,10 +195,7 @@ module _ (w : List ℤ) (weights : List ℕ) (b : ℕ) (chosen minus : ℕ → B
         minus' = minus';
         may_new = may;
         outside = λ i out. (refl, signed_other p l.low l.high y i (λ e. apart i out e));
-        here =
-            entries_right (suc r) (Bit y) (word (types old weights b ps) ∷ []) (word (types v weights b ps) ∷ []) (signs old weights b ps) (signs v weights b ps) (omega arith)
-            (ap (λ t. word t ∷ []) (types_same p l.low l.high y))
-            (subst (λ k. EntriesChoose k (Bit y) (signs old weights b ps) (signs v weights b ps)) (sym z) (entries_as r (Bit y) _ _ _ _ (signs_are old) (signs_are v) entries));
+        here = grind (arith, nat_tests, entries_right, types_same, entries_as, signs_are);
         stays = inl (λ i. refl);
       }
     where
@@ -217,10 +207,7 @@ module _ (w : List ℤ) (weights : List ℕ) (b : ℕ) (chosen minus : ℕ → B
 
   at_sign : (check : Check) (j : ℕ) (e : Entry) (l : StepLocated (sign_of old) start count j) (c : ℕ) → l.rest ≡ c → (t : Bool) → newly_significant old weights b l.at ≡ t → c < length (SignIf t l.at) →
       Replaces (step_at (SignIf t l.at) c).check (step_at (SignIf t l.at) c).entry e → GroupChosen check (suc j) e
-  at_sign check j e l c at false h lt r = absurd (omega (arith, lt))
-  at_sign check j e l (suc c) at true h lt r = absurd (omega (arith, lt))
-  at_sign check j (Word bits) l zero at true h lt r = absurd r.kind
-  at_sign check j (Bit y) l zero at true h lt r = sign_choice check j y l h at
+  at_sign check j e l c at t h lt r = grind (arith, nat_tests, sign_choice)
 
   in_signs : (check : Check) (j : ℕ) (e : Entry) → j < length (flat_map (sign_of old) ps) → Replaces (step_at (flat_map (sign_of old) ps) j).check (step_at (flat_map (sign_of old) ps) j).entry e → GroupChosen check (suc j) e
   unfolding sign_of
@@ -231,6 +218,4 @@ module _ (w : List ℤ) (weights : List ℕ) (b : ℕ) (chosen minus : ℕ → B
   pub group_choice : (check : Check) (j : ℕ) (e : Entry) → j < length (typed_steps old weights b check ps) → Replaces (step_at (typed_steps old weights b check ps) j).check (step_at (typed_steps old weights b check ps) j).entry e → GroupChosen check j e
   group_choice check zero (Bit y) lt r = absurd r.kind
   group_choice check zero (Word bits) lt r = types_choice bits.value bits.count r.fit.1 r.kind check r.passes
-  group_choice check (suc j) e lt r =
-      let low : j < length (map (λ i. step free (sign_at i) (Bit (negative (get_or old i (pos 0))))) (filter (newly_significant old weights b) ps)) = omega (arith, lt) in
-      in_signs check j e (subst (λ ss. j < length ss) (sign_steps old) low) (subst (λ ss. Replaces (step_at ss j).check (step_at ss j).entry e) (sign_steps old) r)
+  group_choice check (suc j) e lt r = grind (arith, nat_tests, in_signs, sign_steps)

@@ -1,7 +1,7 @@
 -- A block as it is in a plane: the numbers that were significant above it, and those that become significant in it.
 use Rattle.std.proofs.Common.{◌≡◌, ℕ, suc, ◌+◌, ◌-◌, ◌*◌, ◌/◌, ◌^◌, ◌<◌, ◌≤◌, inl, inr, Bool, true, false, not, ◌&&◌, cond, eqb, List, length, refl, ap, sym, ◌∙◌, arith, ℤ, pos, negsuc, get_or, nat_le, nat_lt, ◌||◌, unsigned_abs, map}
 use Rattle.std.specs.Int.{int_shr}
-use Rattle.std.proofs.lemmas.Bool.{cases_lt, leb-true, ltb-true, le-leb, and_parts}
+use Rattle.std.proofs.lemmas.Bool.{cases_lt, leb-true, ltb-true, le-leb}
 use Rattle.std.proofs.lemmas.Bool.Decides.{nat_tests}
 use Rattle.std.proofs.lemmas.List.{get_or_past}
 use Rattle.std.proofs.lemmas.Nat.{pow_pos, div-mul-add}
@@ -69,14 +69,7 @@ module _ (u : List ℤ) (weights : List ℕ) (b : ℕ) (long : length u ≡ 64) 
 
   upper_at : (p : ℕ) → get_or upper p (pos 0) ≡ kept p
   unfolding upper kept
-  upper_at p =
-      elim (cases_lt p 64) [
-        | inl lt ↦ get_or-map-span kept 64 p (pos 0) lt
-        | inr le ↦ get_or_past upper p (pos 0) (omega (arith, le, upper_long)) ∙ sym (none (eqb p 0 || significant u (b + 1) p) (past_end p le))
-      ]
-    where
-      none : {z : ℤ} (t : Bool) → z ≡ pos 0 → cond t z (pos 0) ≡ pos 0
-      none t e = grind (arith, nat_tests)
+  upper_at p = grind (arith, nat_tests, get_or-map-span, kept, get_or_past, upper_long, past_end)
 
   kept_above : (p : ℕ) → significant u (b + 1) p ≡ true → get_or upper p (pos 0) ≡ get_or u p (pos 0)
   unfolding kept
@@ -105,11 +98,7 @@ module _ (u : List ℤ) (weights : List ℕ) (b : ℕ) (long : length u ≡ 64) 
 
   new_from : (p : ℕ) → new_here p ≡ true → IsAc p × (significant u b p ≡ true) × (significant u (b + 1) p ≡ false)
   unfolding new_here
-  new_from p e =
-      let parts = and_parts _ _ e in
-      let range = and_parts (nat_le 1 p) (nat_lt p 64) parts.0 in
-      let here = and_parts (significant u b p) _ parts.1 in
-      ((leb-true 1 p range.0, ltb-true p 64 range.1), here.0, not_false (significant u (b + 1) p) here.1)
+  new_from p e = grind (arith, nat_tests, leb-true, ltb-true, not_false)
 
   new_is : (p : ℕ) → IsAc p → new_here p ≡ (significant u b p && not (significant u (b + 1) p))
   unfolding new_here
@@ -121,9 +110,7 @@ module _ (u : List ℤ) (weights : List ℕ) (b : ℕ) (long : length u ≡ 64) 
     multiple = upper_multiple;
     none_new = λ p ac. upper_here p ac.0;
     chosen_acs = λ p e. (new_from p e).0;
-    chosen_due = λ p e.
-        let f = new_from p e in
-        simp type_due-is (ap (λ t. not t && coded weights b p) (upper_above p f.0.0 ∙ f.2) ∙ is_coded p f.1 f.2 (coded weights b p) refl);
+    chosen_due = λ p e. grind (arith, nat_tests, new_from, type_due-is, upper_above, is_coded);
   }
     where
       is_coded : (p : ℕ) → significant u b p ≡ true → significant u (b + 1) p ≡ false → (t : Bool) → coded weights b p ≡ t → coded weights b p ≡ true
@@ -176,10 +163,7 @@ module _ (u : List ℤ) (weights : List ℕ) (b : ℕ) (long : length u ≡ 64) 
         by_test false f = let none : magnitude v p ≡ 0 = ap unsigned_abs (not_chosen p ac.1 f ∙ dropped p ac.0 e) in omega (arith, none, pow_pos (b + 1))
 
     above_same : AboveSame u v b
-    above_same = record { mags = λ p ac. by_test p ac (significant u (b + 1) p) refl; signs = λ p ac e. ap negative (sym (reached_same p ac e)) }
-      where
-        by_test : (p : ℕ) → IsAc p → (t : Bool) → significant u (b + 1) p ≡ t → magnitude u p / 2 ^ (b + 1) ≡ magnitude v p / 2 ^ (b + 1)
-        by_test p ac t e = grind (arith, nat_tests, reached_same, no_quotient, small_from, small_here)
+    above_same = grind (arith, nat_tests, reached_same, no_quotient, small_from, small_here)
 
     upper_small : (d p : ℕ) → 1 ≤ p → magnitude u p < 2 ^ d → magnitude upper p < 2 ^ d
     upper_small d p some lt = grind (arith, nat_tests, upper, kept_above, dropped, pow_pos)
@@ -189,8 +173,7 @@ module _ (u : List ℤ) (weights : List ℕ) (b : ℕ) (long : length u ≡ 64) 
         elim (cases_lt p 64) [
           | inl lt ↦ (completes upper weights b chosen minus may).below d p deep (some, lt) (upper_small d p some (below p some))
           | inr le ↦
-              let none : magnitude v p ≡ 0 = ap unsigned_abs (get_or_past v p (pos 0) (omega (arith, le, (completes upper weights b chosen minus may).whole))) in
-              omega (arith, none, pow_pos d)
+              omega (arith, ap unsigned_abs (get_or_past v p (pos 0) (omega (arith, le, (completes upper weights b chosen minus may).whole))), pow_pos d)
         ]
 
   seen_shown : SeenAlike u shown weights b

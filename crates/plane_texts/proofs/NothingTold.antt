@@ -1,15 +1,14 @@
 -- Steps that take no item report nothing.
-use Rattle.std.proofs.Common.{◌≡◌, ℕ, ◌-◌, ◌≤◌, Bool, true, false, cond, List, [], ◌∷◌, ◌++◌, length, map, refl, ap, sym, ◌∙◌, subst, arith, ℤ, length-append, nat_le, ◌||◌, ◌==◌}
-use Rattle.std.specs.List.{flat_map, list_any}
+use Rattle.std.proofs.Common.{◌≡◌, ℕ, ◌-◌, ◌≤◌, Bool, true, false, cond, List, [], ◌∷◌, ◌++◌, length, refl, subst, arith, ℤ, length-append, nat_le}
+use Rattle.std.specs.List.{flat_map}
 use Rattle.std.proofs.lemmas.List.{length-map}
 use Rattle.std.proofs.lemmas.Bool.Decides.{nat_tests}
 use Rattle.std.proofs.lemmas.List.Folds.{list_any-append}
 use Rattle.base_122.specs.declared.book.Book.{Book}
 use Rattle.plane_defs.specs.declared.entries.Entry.{Entry}
 use Rattle.plane_defs.specs.declared.entries.Entry.TheVariants.{Bit}
-use Rattle.plane_defs.specs.Sets.{significant}
 use Rattle.plane_defs.specs.Entries.{word}
-use Rattle.plane_defs.specs.Steps.{Check, Told, flags_alone, types_at, sign_at, bit_at, Step}
+use Rattle.plane_defs.specs.Steps.{Check, Told, Step}
 use Rattle.plane_defs.specs.Reading.{entry_reading, step_reading}
 use Rattle.plane_texts.specs.Given.{whole_steps, tells_bit, tells_sign, has_bit_in, has_sign_in}
 use Rattle.plane_texts.proofs.Says.{Tells, AllSay}
@@ -45,26 +44,12 @@ nothing_told u plane book o before (s ∷ ss) a =
     none_list (x ∷ xs) e = absurd (omega (arith, e))
 
     told_none : (t : Told) → Tells u plane t s.entry → length (step_reading book o before s) ≤ 0 → (p : ℕ) → (tells_bit p t ≡ false) × (tells_sign p t ≡ false)
-    told_none flags_alone says le p = (refl, refl)
-    told_none (types_at ps) says le p =
-        let long : length (entry_reading book o before s.check (word (map (significant u plane) ps))) ≤ 0 = subst (λ e. length (entry_reading book o before s.check e) ≤ 0) says.0 le in
-        let none : ps ≡ [] = none_list ps (sym (length-map ps (significant u plane)) ∙ empty_word book o before s.check (map (significant u plane) ps) long) in
-        (ap (list_any (λ q. q == p)) none, refl)
-    told_none (sign_at q) says le p = absurd (empty_entry book o before s.check s.entry le _ says)
-    told_none (bit_at q) says le p = absurd (empty_entry book o before s.check s.entry le _ says)
+    told_none t says le p = grind (arith, nat_tests, none_list, length-map, empty_word, empty_entry)
 
     by_test : (b : Bool) → nat_le (length (step_reading book o before s)) 0 ≡ b → TellsNone (whole_steps book o (before ++ s.entry ∷ []) (0 - length (step_reading book o before s)) ss) →
         TellsNone (cond b (s ∷ whole_steps book o (before ++ s.entry ∷ []) (0 - length (step_reading book o before s)) ss) [])
-    by_test false e rest p = (refl, refl)
-    by_test true e rest p =
-        let here = told_none s.tells a.0 (low _ e) p in (
-          ap (λ x. x || any_bit p (whole_steps book o (before ++ s.entry ∷ []) (0 - length (step_reading book o before s)) ss)) here.0 ∙ (rest p).0,
-          ap (λ x. x || any_sign p (whole_steps book o (before ++ s.entry ∷ []) (0 - length (step_reading book o before s)) ss)) here.1 ∙ (rest p).1,
-        )
+    by_test b e rest p = grind (arith, nat_tests, told_none, low)
 
 pub none_flat : {X : Type 0} (f : X → List Step) → ((x : X) → TellsNone (f x)) → (xs : List X) → TellsNone (flat_map f xs)
 none_flat f each [] p = (refl, refl)
-none_flat f each (x ∷ xs) p = (
-  list_any-append (λ s. tells_bit p s.tells) (f x) (flat_map f xs) ∙ ap (λ b. b || any_bit p (flat_map f xs)) (each x p).0 ∙ (none_flat f each xs p).0,
-  list_any-append (λ s. tells_sign p s.tells) (f x) (flat_map f xs) ∙ ap (λ b. b || any_sign p (flat_map f xs)) (each x p).1 ∙ (none_flat f each xs p).1,
-)
+none_flat f each (x ∷ xs) p = grind (arith, nat_tests, list_any-append, none_flat f each xs p)

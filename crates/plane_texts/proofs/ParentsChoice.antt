@@ -35,10 +35,7 @@ pub from_completions : (k : ℕ) → ((u : List ℤ) (d : ℕ) (weights : List �
 from_completions k none may u d weights b q j e long m below lt replaces = by_depth (nat_lt b d) refl
   where
     by_depth : (t : Bool) → nat_lt b d ≡ t → BlockChosen u d weights b q k j e
-    by_depth false h = absurd (past (none u d weights b q j h lt))
-      where
-        past : j < 0 → ⊥
-        past lt = omega (arith, lt)
+    by_depth false h = grind (arith, nat_tests)
     by_depth true h =
         let same = steps_shown u weights b long m (stage_number k) d q in
         let r = may (upper u weights b long m) weights b d q (new_here u weights b long m) (minus_here u weights b long m) j e (may_new u weights b long m) h

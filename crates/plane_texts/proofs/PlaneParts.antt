@@ -9,7 +9,7 @@ use Rattle.plane_defs.specs.Entries.{stage_number}
 use Rattle.plane_defs.specs.Steps.{Step}
 use Rattle.plane_defs.specs.StepLaws.{entries_of}
 use Rattle.plane_defs.specs.Planes.{Plane, gaggles, gaggle_size, before_stage}
-use Rattle.plane_defs.specs.Reading.{step_reading, read_after, steps_of_block, gaggle_reading, stage_reading, plane_reading}
+use Rattle.plane_defs.specs.Reading.{read_after, steps_of_block, gaggle_reading, stage_reading, plane_reading}
 use Rattle.plane_defs.proofs.SpanLists.{flat_map-span-parts}
 use Rattle.plane_defs.proofs.ReadingTexts.{map_flat, steps_entries}
 use Rattle.plane_texts.specs.Given.{entries_before, count_before}
@@ -18,10 +18,7 @@ use Rattle.plane_texts.specs.Given.{entries_before, count_before}
 pub read_append : (book : Book) (options : List ℕ) (before : List Entry) (ss ts : List Step) →
     read_after book options before (ss ++ ts) ≡ read_after book options before ss ++ read_after book options (before ++ entries_of ss) ts
 read_append book options before [] ts = ap (λ b. read_after book options b ts) (sym (append-nil before))
-read_append book options before (s ∷ ss) ts =
-    ap (λ l. step_reading book options before s ++ l) (read_append book options (before ++ s.entry ∷ []) ss ts)
-    ∙ sym (append_assoc (step_reading book options before s) (read_after book options (before ++ s.entry ∷ []) ss) _)
-    ∙ ap (λ b. (step_reading book options before s ++ read_after book options (before ++ s.entry ∷ []) ss) ++ read_after book options b ts) (append_assoc before (s.entry ∷ []) (entries_of ss))
+read_append book options before (s ∷ ss) ts = grind (arith, nat_tests, append_assoc, read_append book options (before ++ s.entry ∷ []) ss ts)
 
 -- a list of which a part is after others
 pub record Parts (whole first second : List Item) : Type 0 where
@@ -38,12 +35,7 @@ parts_of f count place lt =
 
 -- a part of a part
 pub parts_within : (w a b c e : List Item) → Parts w a b → Parts b c e → Parts w (a ++ c) e
-parts_within w a b c e p q = record {
-  others = q.others ++ p.others;
-  same =
-      p.same ∙ ap (λ l. a ++ (l ++ p.others)) q.same ∙ ap (λ l. a ++ l) (append_assoc c (e ++ q.others) p.others ∙ ap (λ l. c ++ l) (append_assoc e q.others p.others))
-      ∙ sym (append_assoc a c (e ++ (q.others ++ p.others)));
-}
+parts_within w a b c e p q = grind (arith, nat_tests, append_assoc)
 
 -- ---- a gaggle
 
@@ -69,14 +61,11 @@ module _ (book : Book) (o : ℕ → List ℕ) (p : Plane) where
       let f : ℕ → List Step = steps_of_block p (stage_number k) in
       let s = flat_map-span-parts f (16 * g) c (r - 16 * g) (omega (arith, within)) in
       let at : 16 * g + (r - 16 * g) ≡ r = omega arith in
-      let whole : flat_map f (span (16 * g) c) ≡ steps_before p k r ++ (f r ++ s.0) =
-      s.1 ∙ ap (λ j. (steps_before p k r ++ f j) ++ s.0) at ∙ append_assoc (steps_before p k r) (f r) s.0 in
+      let whole : flat_map f (span (16 * g) c) ≡ steps_before p k r ++ (f r ++ s.0) = grind (arith, nat_tests, append_assoc) in
       let b : List Entry = before_stage p k g in
       record {
         others = read_after book (o g) (entries_before p k r ++ entries_of (f r)) s.0;
-        same =
-            ap (read_after book (o g) b) whole ∙ read_append book (o g) b (steps_before p k r) (f r ++ s.0)
-            ∙ ap (λ l. read_before book o p k r ++ l) (ap (λ c. read_after book (o g) c (f r ++ s.0)) (before_entries p k r) ∙ read_append book (o g) (entries_before p k r) (f r) s.0);
+        same = grind (arith, nat_tests, read_append, before_entries);
       }
 
   pub gaggle_parts : (k r : ℕ) → r < length p.depths → Parts (gaggle_reading book o p k (r / 16)) (read_before book o p k r) (read_here book o p k r)

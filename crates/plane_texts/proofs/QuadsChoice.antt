@@ -1,7 +1,7 @@
 -- The flags, the types or a sign of a family's grandchildren may be chosen.
 use Rattle.std.proofs.Common.{◌≡◌, ◌⊎◌, ℕ, zero, suc, ◌+◌, ◌-◌, ◌/◌, ◌^◌, ◌<◌, ◌≤◌, inl, inr, Bool, true, false, ◌&&◌, cond, List, [], ◌∷◌, length, refl, ap, sym, ◌∙◌, subst, arith, ℤ, nat_le, nat_lt, ◌==◌, map}
 use Rattle.std.specs.List.{list_any}
-use Rattle.std.proofs.lemmas.Bool.{cases_lt, lt-leb, le-ltb, le-leb, eqb-true, eqb-false}
+use Rattle.std.proofs.lemmas.Bool.{lt-leb, le-ltb, le-leb, eqb-true, eqb-false}
 use Rattle.std.proofs.Math.Bool.{and-false}
 use Rattle.std.proofs.lemmas.Bool.Decides.{nat_tests}
 use Rattle.item_defs.specs.Bits.{bits_of}
@@ -12,7 +12,7 @@ use Rattle.plane_defs.specs.declared.sets.Set.TheVariants.{Grandchildren, Quad}
 use Rattle.plane_defs.specs.Spans.{span}
 use Rattle.plane_defs.specs.Sets.{significant, members, set_significant, grandchildren_of, quad_of}
 use Rattle.plane_defs.specs.Entries.{word, flags, quads, quads_types}
-use Rattle.plane_defs.specs.Steps.{Check, some_one, refuses, Step, some_one_where, is_new, typed_steps, quads_types_steps, quads_steps, all_quads_steps, grandchildren_steps}
+use Rattle.plane_defs.specs.Steps.{Check, some_one, refuses, Step, some_one_where, is_new, typed_steps, quads_steps, grandchildren_steps}
 use Rattle.plane_defs.specs.StepLaws.{entries_of, IsAc}
 use Rattle.plane_defs.specs.Completed.{completed, MayComplete}
 use Rattle.plane_defs.specs.Choosing.{AreApart}
@@ -142,16 +142,11 @@ module _ (w : List ℤ) (weights : List ℕ) (b d q : ℕ) (chosen minus : ℕ �
         sixteen_still = two.sixteen_encloses w weights b r.new r.minus' r.may_new i j (known, which) quad_still
 
         wider : (p : ℕ) → Outside (grandchildren_of i) 16 p → Outside (quad_of i j) 4 p
-        wider p (inl under) = inl (omega (arith, under))
-        wider p (inr over) = inr (omega (arith, over, which))
+        wider p h1 = grind (arith, nat_tests)
 
         -- other sets of four
         elsewhere : (h : ℕ) → h < 4 → (h ≡ j → ⊥) → (p : ℕ) → quad_of i h ≤ p → p < quad_of i h + 4 → (chosen p ≡ r.new p) × (minus p ≡ r.minus' p)
-        elsewhere h lt apart p low high =
-            elim (cases_lt h j) [
-              | inl before ↦ r.outside p (inl (omega (arith, high, before)))
-              | inr later ↦ let more : j < h = strictly j h later apart in r.outside p (inr (omega (arith, low, more)))
-            ]
+        elsewhere h lt apart p low high = grind (arith, nat_tests, strictly)
 
         quads_kept : (h : ℕ) → h < 4 → set_significant old b (Quad i h) ≡ set_significant made b (Quad i h)
         quads_kept h lt = by_place (h == j) refl
@@ -189,13 +184,10 @@ module _ (w : List ℤ) (weights : List ℕ) (b d q : ℕ) (chosen minus : ℕ �
         unfolding quads_of
         quads_picked s l at rest =
             let here : EntriesChoose c e (entries_of (quad_sends old weights b i j)) (entries_of (quad_sends made weights b i j)) = entries_as c e _ _ _ _ (quad_entries old weights b i j true quad_reached) (quad_entries made weights b i j true quad_still) r.here in
-            let there : EntriesChoose l.rest e (entries_of (quad_sends old weights b i l.at)) (entries_of (quad_sends made weights b i l.at)) =
-            subst (λ n. EntriesChoose n e (entries_of (quad_sends old weights b i l.at)) (entries_of (quad_sends made weights b i l.at))) (sym rest)
-            (subst (λ n. EntriesChoose c e (entries_of (quad_sends old weights b i n)) (entries_of (quad_sends made weights b i n))) (sym at) here) in
+            let there : EntriesChoose l.rest e (entries_of (quad_sends old weights b i l.at)) (entries_of (quad_sends made weights b i l.at)) = grind (arith, nat_tests) in
             let entries = entries_as s e _ _ _ _ (quads_said old weights b i) (quads_said made weights b i) (l.chosen (quad_sends made weights b i) e (λ h from to. sends_before h (omega (arith, to, at))) there) in
-            let z : suc s - length (word (flags old weights b (quads_of i)) ∷ []) ≡ s = omega arith in
             entries_right (suc s) e (word (flags old weights b (quads_of i)) ∷ []) (word (flags made weights b (quads_of i)) ∷ []) (quads_types old weights b i) (quads_types made weights b i) (omega arith) (ap (λ f. word f ∷ []) flags_same)
-            (subst (λ n. EntriesChoose n e (quads_types old weights b i) (quads_types made weights b i)) (sym z) entries)
+            (subst (λ n. EntriesChoose n e (quads_types old weights b i) (quads_types made weights b i)) (sym (omega arith)) entries)
 
         types_made : (t : ℕ) (m : StepLocated (quad_sends old weights b i) 0 4 t) → m.at ≡ j → m.rest ≡ c → (s : ℕ) (l : StepLocated (sixteen_sends old weights b) 0 3 s) → l.at ≡ i → l.rest ≡ suc t → StageChosen w weights b d q 3 chosen minus (suc s) e
         types_made t m at rest s l at' rest' =
@@ -210,9 +202,8 @@ module _ (w : List ℤ) (weights : List ℕ) (b d q : ℕ) (chosen minus : ℕ �
         m.rest < length (Types m.at y) → Replaces (step_at (Types m.at y) m.rest).check (step_at (Types m.at y) m.rest).entry e → StageChosen w weights b d q 3 chosen minus (suc s) e
     at_quad e t m s l at rest false h lt r = absurd (omega (arith, lt))
     at_quad e t m s l at rest true h lt r =
-        let which : m.at < 4 = m.high in
-        let g = group_choice w weights b chosen minus may (quad_of i m.at) 4 (quad_low i m.at) (quad_high i m.at known which) (some_one_where (is_new old b (Quad i m.at))) m.rest e lt r in
-        types_made m.at which h m.rest e g t m refl refl s l at rest
+        let g = group_choice w weights b chosen minus may (quad_of i m.at) 4 (quad_low i m.at) (quad_high i m.at known m.high) (some_one_where (is_new old b (Quad i m.at))) m.rest e lt r in
+        types_made m.at m.high h m.rest e g t m refl refl s l at rest
 
     in_quads : (e : Entry) (c : ℕ) (s : ℕ) (l : StepLocated (sixteen_sends old weights b) 0 3 s) → l.at ≡ i → l.rest ≡ c → c < length (quads_steps old weights b i) → Replaces (step_at (quads_steps old weights b i) c).check (step_at (quads_steps old weights b i) c).entry e →
         StageChosen w weights b d q 3 chosen minus (suc s) e
@@ -221,8 +212,7 @@ module _ (w : List ℤ) (weights : List ℕ) (b d q : ℕ) (chosen minus : ℕ �
     in_quads (Word bits) zero s l at rest lt r = quads_flags bits.value bits.count r.kind r.fit.1 r.passes s l at rest
     in_quads e (suc t) s l at rest lt r =
         let types = quads_sent old weights b i in
-        let low : t < length (quads_types_steps old weights b i) = omega (arith, lt) in
-        let m = locate_step (quad_sends old weights b i) 0 4 t (subst (λ ss. t < length ss) types low) in
+        let m = locate_step (quad_sends old weights b i) 0 4 t (subst (λ ss. t < length ss) types (omega (arith, lt))) in
         let there = subst (λ x. Replaces x.check x.entry e) m.same (subst (λ ss. Replaces (step_at ss t).check (step_at ss t).entry e) types r) in
         let y : Bool = set_significant old b (Quad i m.at) in
         let steps = quad_steps old weights b i m.at y refl in
@@ -243,17 +233,14 @@ module _ (w : List ℤ) (weights : List ℕ) (b d q : ℕ) (chosen minus : ℕ �
   complete_grandchildren zero (Word bits) lt r = sixteens_choice w weights b d q chosen minus may deep bits.value bits.count r.kind r.has_bits r.fit.1 r.passes
   complete_grandchildren (suc s) e lt r =
       let all = sixteens_sent old weights b in
-      let low : s < length (all_quads_steps old weights b) = omega (arith, lt) in
-      let l = locate_step (sixteen_sends old weights b) 0 3 s (subst (λ ss. s < length ss) all low) in
+      let l = locate_step (sixteen_sends old weights b) 0 3 s (subst (λ ss. s < length ss) all (omega (arith, lt))) in
       let there = subst (λ x. Replaces x.check x.entry e) l.same (subst (λ ss. Replaces (step_at ss s).check (step_at ss s).entry e) all r) in
       let y : Bool = set_significant old b (Grandchildren l.at) in
       let steps = sixteen_steps old weights b l.at y refl in
       at_sixteen e s l y refl (subst (λ ss. l.rest < length ss) steps l.inside) (subst (λ ss. Replaces (step_at ss l.rest).check (step_at ss l.rest).entry e) steps there)
 
 grandchildren_complete : MayComplete' 3
-grandchildren_complete w weights b d q chosen minus j e may deep lt replaces =
-    let steps = grandchildren_sent (completed w b chosen minus) d weights b q true deep in
-    complete_grandchildren w weights b d q chosen minus may deep j e (subst (λ ss. j < length ss) steps lt) (subst (λ ss. Replaces (step_at ss j).check (step_at ss j).entry e) steps replaces)
+grandchildren_complete w weights b d q chosen minus j e may deep lt replaces = grind (arith, nat_tests, grandchildren_sent, complete_grandchildren)
 
 pub grandchildren_choice : MayChoose 3
 grandchildren_choice = from_completions 3 (λ u d weights b q j h lt. subst (λ ss. j < length ss) (grandchildren_sent u d weights b q false h) lt) grandchildren_complete

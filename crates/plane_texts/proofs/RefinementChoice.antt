@@ -76,18 +76,13 @@ module _ (m b x : ℕ) (lt : x < 2) where
   size_below : (d : ℕ) → b < d → m < 2 ^ d → refined_size m b x < 2 ^ d
   unfolding refined_size
   size_below d deep small =
-      let z : d - (b + 1) + (b + 1) ≡ d = omega arith in
       let y : d ≡ 1 + (d - (b + 1)) + b = omega arith in
-      let a : m / 2 ^ (b + 1) < 2 ^ (d - (b + 1)) = shr_below m (d - (b + 1)) (b + 1) (subst (λ n. m < 2 ^ n) (sym z) small) in
+      let a : m / 2 ^ (b + 1) < 2 ^ (d - (b + 1)) = shr_below m (d - (b + 1)) (b + 1) (subst (λ n. m < 2 ^ n) (sym (omega arith)) small) in
       let whole : 2 ^ d ≡ 2 * 2 ^ (d - (b + 1)) * 2 ^ b = ap (λ n. 2 ^ n) y ∙ pow-add 2 (1 + (d - (b + 1))) b ∙ ap (λ n. n * 2 ^ b) (pow-add 2 1 (d - (b + 1))) in
       subst (λ n. (2 * (m / 2 ^ (b + 1)) + x) * 2 ^ b < n) (sym whole) (under (m / 2 ^ (b + 1)) (2 ^ (d - (b + 1))) (2 ^ b) a (pow_pos b))
     where
       under : (a k w : ℕ) → a < k → 1 ≤ w → (2 * a + x) * w < 2 * k * w
-      under a k w less some =
-          let r : ℕ = 2 * k - (2 * a + x + 1) in
-          let e : 2 * k ≡ 2 * a + x + 1 + r = omega (arith, lt, less) in
-          let f : 2 * k * w ≡ (2 * a + x + 1 + r) * w = ap (λ n. n * w) e in
-          omega (arith, f, some)
+      under a k w less some = grind (arith, nat_tests)
 
 -- ---- the choice
 
@@ -162,13 +157,7 @@ module _ (u : List ℤ) (d : ℕ) (weights : List ℕ) (b q : ℕ) (long : lengt
     here_same = still_significant u b p reached_is ∙ sym (still_significant v b p (sym (acs_above u v b above (b + 1) (omega arith) p (first, last)) ∙ reached_is))
 
     seen : (n : ℕ) → IsAc n → SeenAt u v b n
-    seen n ac = test (n == p) refl
-      where
-        test : (t : Bool) → (n == p) ≡ t → SeenAt u v b n
-        test true e =
-            let same = eqb-true n p e in
-            subst (SeenAt u v b) (sym same) (record { here = here_same; sign = λ s. z_sign ∙ ap negative (sym new) })
-        test false e = let kept = sym (other n (eqb-false n p e)) in record { here = significant_same u v b n kept; sign = λ s. ap negative kept }
+    seen n ac = grind (arith, nat_tests, eqb-true, here_same, z_sign, new, other, eqb-false, significant_same)
 
     reached_new : significant v (b + 1) p ≡ true
     reached_new = sym (acs_above u v b above (b + 1) (omega arith) p (first, last)) ∙ reached_is
@@ -186,9 +175,7 @@ module _ (u : List ℤ) (d : ℕ) (weights : List ℕ) (b q : ℕ) (long : lengt
     sends_other i apart = ap (Sent weights b i) (sym (other i apart))
 
     picked : (c : ℕ) → c ≡ 0 → EntriesChoose c (Bit x) (entries_of (sends u weights b p)) (entries_of (sends v weights b p))
-    picked c e =
-        subst (λ k. EntriesChoose k (Bit x) (entries_of (sends u weights b p)) (entries_of (sends v weights b p))) (sym e)
-        (subst (λ l. EntriesChoose 0 (Bit x) (entries_of (sends u weights b p)) (entries_of l)) (sym sends_new) (record { within = omega arith; before = refl; next = refl }))
+    picked c e = grind (arith, nat_tests, sends_new)
 
     chosen : (j : ℕ) → (l : StepLocated (sends u weights b) 1 63 j) → l.at ≡ p → l.rest ≡ 0 → BlockChosen u d weights b q 4 j (Bit x)
     unfolding size
@@ -226,13 +213,4 @@ module _ (u : List ℤ) (d : ℕ) (weights : List ℕ) (b q : ℕ) (long : lengt
           chosen l.at l.low (omega (arith, l.high)) x (leb-true (2 ^ (b + 1)) (magnitude u l.at) parts.0) parts.1 j l refl at
 
 pub refinement_choice : MayChoose 4
-refinement_choice u d weights b q j e long m below lt replaces = by_depth (nat_lt b d) refl
-  where
-    by_depth : (t : Bool) → nat_lt b d ≡ t → BlockChosen u d weights b q 4 j e
-    by_depth false h = absurd (none (subst (λ ss. j < length ss) (block_sent u d weights b q false h) lt))
-      where
-        none : j < 0 → ⊥
-        none lt = omega (arith, lt)
-    by_depth true h =
-        from_steps u d weights b q long m below h j e (subst (λ ss. j < length ss) (block_sent u d weights b q true h) lt)
-        (subst (λ ss. Replaces (step_at ss j).check (step_at ss j).entry e) (block_sent u d weights b q true h) replaces)
+refinement_choice u d weights b q j e long m below lt replaces = grind (arith, nat_tests, block_sent, from_steps)

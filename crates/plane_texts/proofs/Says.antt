@@ -9,7 +9,7 @@ use Rattle.plane_defs.specs.declared.stages.Stage.TheVariants as stages
 use Rattle.plane_defs.specs.declared.entries.Entry.{Entry}
 use Rattle.plane_defs.specs.declared.entries.Entry.TheVariants.{Bit}
 use Rattle.plane_defs.specs.Spans.{span}
-use Rattle.plane_defs.specs.Sets.{magnitude, significant, coded, set_significant, type_due, newly_significant, refined, children_of, quad_of}
+use Rattle.plane_defs.specs.Sets.{magnitude, significant, set_significant, type_due, newly_significant, refined, children_of, quad_of}
 use Rattle.plane_defs.specs.Entries.{twos_bit, negative, word, flags, significant_families}
 use Rattle.plane_defs.specs.Steps.{Check, free, Told, flags_alone, types_at, sign_at, bit_at, Step, step, some_one_where, is_new, typed_steps, dc_steps, children_check, children_steps, quads_steps, grandchildren_steps, refinement_steps, block_steps}
 use Rattle.plane_defs.proofs.Above.{all_append, all_span, all_zip}
@@ -40,11 +40,7 @@ AllSay block plane steps = AllByRecursion (Says block plane) steps
 -- what a filter keeps passes its test
 pub kept : {X : Type 0} (P : X → Type 0) (p : X → Bool) (xs : List X) → AllByRecursion P xs → AllByRecursion (λ x. P x × (p x ≡ true)) (filter p xs)
 kept P p [] all = tt
-kept {X} P p (x ∷ xs) all = by_test (p x) refl (kept P p xs all.1)
-  where
-    by_test : (b : Bool) → p x ≡ b → AllByRecursion (λ x. P x × (p x ≡ true)) (filter p xs) → AllByRecursion (λ x. P x × (p x ≡ true)) (cond b (x ∷ filter p xs) (filter p xs))
-    by_test true e rest = ((all.0, e), rest)
-    by_test false e rest = rest
+kept {X} P p (x ∷ xs) all = grind (arith, nat_tests, kept P p xs all.1)
 
 each_says : {X : Type 0} (block : List ℤ) (plane : ℕ) (f : X → Step) (xs : List X) → AllByRecursion (λ x. Says block plane (f x)) xs → AllSay block plane (map f xs)
 each_says block plane f [] all = tt
@@ -75,11 +71,7 @@ module _ (block : List ℤ) (weights : List ℕ) (plane : ℕ) where
   span_typed check start count first = typed_say check (span start count) (all_span (λ p. 1 ≤ p) start count (λ k low high. omega arith))
 
   dc_say : (q : ℕ) → AllSay block plane (dc_steps block weights plane q)
-  dc_say q = either (coded weights plane 0 && nat_lt plane q)
-    where
-      either : (b : Bool) → AllSay block plane (cond b (step free (bit_at 0) (Bit (twos_bit (get_or block 0 (pos 0)) plane)) ∷ []) [])
-      either true = (refl, tt)
-      either false = tt
+  dc_say q = grind (arith, nat_tests)
 
   children_say : AllSay block plane (children_steps block weights plane)
   children_say =
@@ -102,8 +94,7 @@ module _ (block : List ℤ) (weights : List ℕ) (plane : ℕ) where
       there p low = grind (arith, nat_tests)
 
 sent_say : (block : List ℤ) (plane : ℕ) (b : Bool) (steps : List Step) → AllSay block plane steps → AllSay block plane (cond b steps [])
-sent_say block plane true steps all = all
-sent_say block plane false steps all = tt
+sent_say block plane b steps all = grind (arith, nat_tests)
 
 pub steps_say : (stage : Stage) (block : List ℤ) (d : ℕ) (weights : List ℕ) (plane q : ℕ) → AllSay block plane (block_steps stage block d weights plane q)
 steps_say stages.DcBits block d weights plane q = simp dc_stage (dc_say block weights plane q)

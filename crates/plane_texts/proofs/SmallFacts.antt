@@ -1,5 +1,5 @@
 -- Tests on numbers, and lists under a test.
-use Rattle.std.proofs.Common.{◌≡◌, ℕ, ◌<◌, ◌≤◌, Bool, true, false, List, length, set, get_or, refl, ap, sym, ◌∙◌, subst, arith, nat_lt, ◌==◌, ◌||◌, get_or-set_same, get_or-set_other}
+use Rattle.std.proofs.Common.{◌≡◌, ℕ, ◌<◌, ◌≤◌, Bool, true, false, List, length, set, get_or, arith, nat_lt, ◌||◌, get_or-set_same, get_or-set_other}
 use Rattle.std.proofs.lemmas.Bool.{eqb-true, eqb-false}
 use Rattle.std.proofs.lemmas.Bool.Decides.{nat_tests}
 
@@ -26,8 +26,4 @@ neither_right a b e = grind (arith, nat_tests)
 
 -- a property of a list's element holds if another element is changed
 pub set_at : {A : Type 0} (xs : List A) (r i : ℕ) (v d : A) (P : A → Type 0) → r < length xs → (i ≡ r → P v) → P (get_or xs i d) → P (get_or (set xs r v) i d)
-set_at xs r i v d P inside here there = by_place (i == r) refl
-  where
-    by_place : (t : Bool) → (i == r) ≡ t → P (get_or (set xs r v) i d)
-    by_place true e = let same = eqb-true i r e in subst P (sym (ap (λ k. get_or (set xs r v) k d) same ∙ get_or-set_same xs r v d inside)) (here same)
-    by_place false e = subst P (sym (get_or-set_other xs r i v d (eqb-false i r e))) there
+set_at xs r i v d P inside here there = grind (arith, nat_tests, eqb-true, get_or-set_same, get_or-set_other, eqb-false)

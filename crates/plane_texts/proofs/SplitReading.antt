@@ -1,6 +1,6 @@
 -- What a reading gives of the blocks if it has reached one block of a stage: all that precedes, the whole steps of this block,
 -- and nothing of what follows.
-use Rattle.std.proofs.Common.{◌≡◌, ℕ, zero, suc, ◌+◌, ◌-◌, ◌*◌, ◌/◌, ◌<◌, ◌≤◌, inl, inr, List, [], ◌++◌, length, ap, sym, ◌∙◌, subst, arith, get_or, zero-add, ◌||◌, flat_map}
+use Rattle.std.proofs.Common.{◌≡◌, ℕ, zero, suc, ◌+◌, ◌-◌, ◌*◌, ◌/◌, ◌<◌, ◌≤◌, inl, inr, List, [], ◌++◌, length, ap, sym, ◌∙◌, subst, arith, get_or, zero-add, flat_map}
 use Rattle.std.proofs.lemmas.Bool.{cases_lt}
 use Rattle.std.proofs.lemmas.List.Folds.{list_any-append}
 use Rattle.std.proofs.Math.Bool.{or-false}
@@ -10,13 +10,14 @@ use Rattle.plane_defs.specs.Entries.{stage_number}
 use Rattle.plane_defs.specs.Steps.{Step}
 use Rattle.plane_defs.specs.Planes.{Plane, before_stage}
 use Rattle.plane_defs.specs.Reading.{read_after, steps_of_block, gaggle_reading, plane_reading}
-use Rattle.plane_texts.specs.Given.{whole_steps, entries_before, count_before, steps_given, tells_bit, tells_sign, has_bit_in, has_sign_in}
+use Rattle.plane_texts.specs.Given.{whole_steps, entries_before, count_before, steps_given, has_bit_in, has_sign_in}
 use Rattle.plane_texts.proofs.EntryChoices.{flat_more}
 use Rattle.plane_texts.proofs.TableReading.{span_same}
 use Rattle.plane_texts.proofs.PlaneParts.{part_long, parts_of, read_here, rows_parts, gaggle_parts, plane_parts, before_long}
 use Rattle.plane_texts.proofs.WholeSteps.{whole_all}
 use Rattle.plane_texts.proofs.Says.{steps_say}
 use Rattle.plane_texts.proofs.NothingTold.{TellsNone, nothing_told, none_flat}
+use Rattle.std.proofs.lemmas.Bool.Decides.{nat_tests}
 
 -- ---- steps that report the same
 
@@ -33,10 +34,7 @@ alike_then ss ts us f g = record { bits = λ n. f.bits n ∙ g.bits n; signs = �
 
 -- steps after others that report nothing
 none_after : (ss ts : List Step) → TellsNone ts → TellAlike (ss ++ ts) ss
-none_after ss ts none = record {
-  bits = λ n. list_any-append (λ s. tells_bit n s.tells) ss ts ∙ ap (λ b. has_bit_in ss n || b) (none n).0 ∙ or-false (has_bit_in ss n);
-  signs = λ n. list_any-append (λ s. tells_sign n s.tells) ss ts ∙ ap (λ b. has_sign_in ss n || b) (none n).1 ∙ or-false (has_sign_in ss n);
-}
+none_after ss ts none = grind (arith, nat_tests, list_any-append, or-false)
 
 first_told : (f : ℕ → List Step) (k n : ℕ) → k ≤ n → ((j : ℕ) → k ≤ j → j < n → TellsNone (f j)) → TellAlike (flat_map f (span 0 n)) (flat_map f (span 0 k))
 first_told f k zero le none = let z : 0 ≡ k = omega (arith, le) in alike_equal _ _ (ap (λ m. flat_map f (span 0 m)) z)
@@ -44,9 +42,8 @@ first_told f k (suc n) le none =
     elim (cases_lt n k) [
       | inl last ↦ let z : suc n ≡ k = omega (arith, le, last) in alike_equal _ _ (ap (λ m. flat_map f (span 0 m)) z)
       | inr more ↦
-          let z : n ≡ 0 + n = omega arith in
           alike_then _ _ _ (alike_equal _ _ (flat_more f 0 n))
-          (alike_then _ _ _ (none_after (flat_map f (span 0 n)) (f (0 + n)) (subst (λ j. TellsNone (f j)) z (none n more (omega arith))))
+          (alike_then _ _ _ (none_after (flat_map f (span 0 n)) (f (0 + n)) (subst (λ j. TellsNone (f j)) (omega arith) (none n more (omega arith))))
           (first_told f k n more (λ j low high. none j low (omega (arith, high)))))
     ]
 
@@ -78,19 +75,16 @@ module _ (book : Book) (o : ℕ → List ℕ) (p : Plane) where
   row_order k r s lt within =
       elim (cases_lt (r / 16) (s / 16)) [
         | inl apart ↦
-            let a = part_long _ _ _ (parts_of (gaggle_reading book o p k) (s / 16) (r / 16) apart) in
             let b = part_long _ _ _ (gaggle_parts book o p k r (omega (arith, lt, within))) in
-            omega (arith, a, b)
+            omega (arith, part_long _ _ _ (parts_of (gaggle_reading book o p k) (s / 16) (r / 16) apart), b)
         | inr near ↦
             let same : s / 16 ≡ r / 16 = omega (arith, near, lt) in
-            let a = part_long _ _ _ (rows_parts book o p k r (s - 16 * (r / 16)) (omega (arith, lt))) in
-            omega (arith, a, ap (λ g. count_at k g s) same)
+            omega (arith, part_long _ _ _ (rows_parts book o p k r (s - 16 * (r / 16)) (omega (arith, lt))), ap (λ g. count_at k g s) same)
       ]
 
   none_there : (m j r : ℕ) → m ≤ count_before book o p j r → TellsNone (given_in_stage m r j)
   none_there m j r le =
-      let z : 0 ≡ m - count_before book o p j r = omega (arith, le) in
-      subst (λ n. TellsNone (whole_steps book (o (r / 16)) (entries_before p j r) n (steps_of_block p (stage_number j) r))) z
+      subst (λ n. TellsNone (whole_steps book (o (r / 16)) (entries_before p j r) n (steps_of_block p (stage_number j) r))) (omega (arith, le))
       (nothing_told (get_or p.blocks r []) p.number book (o (r / 16)) (entries_before p j r) (steps_of_block p (stage_number j) r)
       (steps_say (stage_number j) (get_or p.blocks r []) (get_or p.depths r 0) p.weights p.number p.q))
 

@@ -1,5 +1,5 @@
 -- Parts of a stage that are the same in two blocks.
-use Rattle.std.proofs.Common.{◌≡◌, ℕ, ◌+◌, ◌<◌, ◌≤◌, Bool, true, false, cond, List, [], ◌∷◌, ◌++◌, refl, ap, sym, ◌∙◌, arith, ℤ, pos, get_or, map, filter}
+use Rattle.std.proofs.Common.{◌≡◌, ℕ, ◌+◌, ◌<◌, ◌≤◌, Bool, true, cond, List, [], ◌∷◌, refl, ap, sym, ◌∙◌, arith, ℤ, pos, get_or, map, filter}
 use Rattle.std.specs.List.{flat_map, AllByRecursion}
 use Rattle.std.proofs.lemmas.Bool.Decides.{nat_tests}
 use Rattle.plane_defs.proofs.Seen.{flat_equal, passed, newly_here}
@@ -9,7 +9,7 @@ use Rattle.plane_defs.specs.declared.entries.Entry.{Entry}
 use Rattle.plane_defs.specs.declared.entries.Entry.TheVariants.{Bit}
 use Rattle.plane_defs.specs.Spans.{span}
 use Rattle.plane_defs.specs.Sets.{significant, members, set_significant, enclosing_significant, newly_significant, IsKnown, quad_of}
-use Rattle.plane_defs.specs.Entries.{word, types, flags, signs, typed, negative, quads_types, quads, all_quads, children, grandchildren, parents}
+use Rattle.plane_defs.specs.Entries.{word, types, flags, signs, typed, negative, quads_types, quads, children, grandchildren, parents}
 use Rattle.plane_defs.specs.Laws.{three_families}
 use Rattle.plane_defs.specs.Steps.{Check, typed_steps, three_grandchildren}
 use Rattle.plane_defs.specs.StepLaws.{entry_of, entries_of, IsAc, AcsAlike}
@@ -24,11 +24,7 @@ use Rattle.plane_defs.proofs.Equations.{enclosing-descendants, enclosing-family,
 
 pub filter_flat : {X A : Type 0} (f : X → List A) (t : X → Bool) (xs : List X) → flat_map f (filter t xs) ≡ flat_map (λ x. cond (t x) (f x) []) xs
 filter_flat f t [] = refl
-filter_flat {X} f t (x ∷ xs) = by_test (t x) (filter_flat f t xs)
-  where
-    by_test : (b : Bool) → flat_map f (filter t xs) ≡ flat_map (λ x. cond (t x) (f x) []) xs → flat_map f (cond b (x ∷ filter t xs) (filter t xs)) ≡ cond b (f x) [] ++ flat_map (λ x. cond (t x) (f x) []) xs
-    by_test true e = ap (λ l. f x ++ l) e
-    by_test false e = e
+filter_flat {X} f t (x ∷ xs) = grind (arith, nat_tests, filter_flat f t xs)
 
 pub map_flat_one : {X A : Type 0} (f : X → A) (xs : List X) → map f xs ≡ flat_map (λ x. f x ∷ []) xs
 map_flat_one f xs = grind (arith, nat_tests)
@@ -84,11 +80,7 @@ module _ (u v : List ℤ) (weights : List ℕ) (b : ℕ) (alike : AcsAlike u v w
       ∙ sym (filter_flat g (λ i. set_significant v b (set_of i)) (span start count))
     where
       each : (i : ℕ) → start ≤ i → i < start + count → (t : Bool) → set_significant u b (set_of i) ≡ t → cond (set_significant u b (set_of i)) (f i) [] ≡ cond (set_significant v b (set_of i)) (g i) []
-      each i low high t e = ap (λ t. cond t (f i) []) (sets i low high) ∙ by_test (set_significant v b (set_of i)) (sym (sets i low high) ∙ e)
-        where
-          by_test : (s : Bool) → s ≡ t → cond s (f i) [] ≡ cond s (g i) []
-          by_test true h = same i low high (e ∙ sym h)
-          by_test false h = refl
+      each i low high t e = grind (arith, nat_tests)
 
   -- ---- whole stages
 
@@ -129,11 +121,4 @@ module _ (u v : List ℤ) (weights : List ℕ) (b : ℕ) (alike : AcsAlike u v w
   sets_seen seen s known = simp set_significant-is (any_alike (significant u b) (significant v b) (members s) (members_acs s known) (λ p ac. (seen p ac).here))
 
   pub grandchildren_kept : ((p : ℕ) → IsAc p → SeenAt u v b p) → grandchildren u weights b ≡ grandchildren v weights b
-  grandchildren_kept seen =
-      let descendants = sets_seen seen Descendants tt in
-      let families : (i : ℕ) → i < 3 → set_significant u b (Family i) ≡ set_significant v b (Family i) = λ i lt. sets_seen seen (Family i) lt in
-      let all : (i : ℕ) → i < 3 → set_significant u b (Grandchildren i) ≡ set_significant v b (Grandchildren i) = λ i lt. sets_seen seen (Grandchildren i) lt in
-      let second : all_quads u weights b ≡ all_quads v weights b =
-      parts_kept 0 3 Grandchildren (quads u weights b) (quads v weights b) (λ i low high. all i (omega arith))
-      (λ i low high e. quads_kept descendants families all i (omega arith) (λ j lt. sets_seen seen (Quad i j) (omega arith, lt)) (λ p ac from to. seen p ac)) in
-      ap (λ l. word l ∷ all_quads u weights b) (grandchildren_flags_kept descendants families all) ∙ ap (λ l. word (flags v weights b three_grandchildren) ∷ l) second
+  grandchildren_kept seen = grind (arith, nat_tests, sets_seen, parts_kept, quads_kept, grandchildren_flags_kept)

@@ -28,11 +28,7 @@ pub record SendSame (p p' : Plane) (k n : ℕ) : Type 0 where
 
 -- then they send the same in an earlier stage, in all blocks
 pub send_earlier : (p p' : Plane) (k n j : ℕ) → SendSame p p' k n → j < k → SendSame p p' j (length p.depths)
-send_earlier p p' k n j same lt = record {
-  size = same.size;
-  early = λ i r less within. same.early i r (omega (arith, lt, less)) within;
-  here = λ r within. same.early j r lt within;
-}
+send_earlier p p' k n j same lt = grind (arith, nat_tests)
 
 pub block_entries_of : (p : Plane) (k r : ℕ) → entries_of (steps_of_block p (stage_number k) r) ≡ of_block p (stage_number k) r
 block_entries_of p k r = steps_entries (stage_number k) (get_or p.blocks r []) (get_or p.depths r 0) p.weights p.number p.q
@@ -80,5 +76,4 @@ module _ (p p' : Plane) (k n : ℕ) (same : SendSame p p' k n) where
 -- ---- the stages before, and how many items are before a block
 
 pub early_same : (book : Book) (o : ℕ → List ℕ) (p p' : Plane) (k n : ℕ) → SendSame p p' k n → plane_reading book o p k ≡ plane_reading book o p' k
-early_same book o p p' k n same =
-    span_same (stage_reading book o p) (stage_reading book o p') 0 k (λ j low high. stage_same p p' j (length p.depths) (send_earlier p p' k n j same (omega (arith, high))) book o (omega arith))
+early_same book o p p' k n same = grind (arith, nat_tests, span_same, stage_same, send_earlier)

@@ -53,8 +53,7 @@ some_bit n x lt some = by_any (list_any (λ b. b) (bits_of n x)) refl
     by_any : (t : Bool) → list_any (λ b. b) (bits_of n x) ≡ t → list_any (λ b. b) (bits_of n x) ≡ true
     by_any true e = e
     by_any false e =
-        let same : bits_of n x ≡ bits_of n 0 = no_one (bits_of n x) e ∙ ap (λ k. copies k false) (length-bits_of n x) ∙ sym (bits_of_zero n) in
-        absurd (some (same_number n x 0 lt (omega (arith, lt)) same))
+        absurd (some (same_number n x 0 lt (omega (arith, lt)) (no_one (bits_of n x) e ∙ ap (λ k. copies k false) (length-bits_of n x) ∙ sym (bits_of_zero n))))
 
 pub any_of_map : {X : Type 0} (f : X → Bool) (xs : List X) → list_any (λ b. b) (map f xs) ≡ list_any f xs
 any_of_map f [] = refl
@@ -63,15 +62,7 @@ any_of_map f (x ∷ xs) = ap (λ b. f x || b) (any_of_map f xs)
 -- an element that passes a test is an element of the list
 pub any_of_filter : {X : Type 0} (f t : X → Bool) (xs : List X) → list_any f (filter t xs) ≡ true → list_any f xs ≡ true
 any_of_filter f t [] e = e
-any_of_filter {X} f t (x ∷ xs) e = by_test (t x) e (any_of_filter f t xs)
-  where
-    either : (a b c : Bool) → (a || b) ≡ true → (b ≡ true → c ≡ true) → (a || c) ≡ true
-    either true b c e more = refl
-    either false b c e more = more e
-
-    by_test : (s : Bool) → list_any f (cond s (x ∷ filter t xs) (filter t xs)) ≡ true → (list_any f (filter t xs) ≡ true → list_any f xs ≡ true) → (f x || list_any f xs) ≡ true
-    by_test true e more = either (f x) (list_any f (filter t xs)) (list_any f xs) e more
-    by_test false e more = or_right (f x) (list_any f xs) (more e)
+any_of_filter {X} f t (x ∷ xs) e = grind (arith, nat_tests, or_right, any_of_filter f t xs)
 
 -- if no wanted place is missing in the word, each wanted place has it
 pub wants_had : {X : Type 0} (want has : X → Bool) (xs : List X) → lacks_one (map want xs) (map has xs) ≡ false → AllByRecursion (λ x. want x ≡ true → has x ≡ true) xs

@@ -1,5 +1,5 @@
 -- The numbers of a block in the bands of blocks that are counted in raster order.
-use Rattle.std.proofs.Common.{◌≡◌, ◌<◌, ◌+◌, ◌*◌, ◌^◌, ◌==◌, ℕ, ℤ, true, List, get_or, refl, sym, ap, ◌∙◌, arith}
+use Rattle.std.proofs.Common.{◌≡◌, ◌<◌, ◌+◌, ◌*◌, ◌^◌, ◌==◌, ℕ, ℤ, true, List, get_or, ap, ◌∙◌, arith}
 use Rattle.std.specs.List.{range_with_len, list_all}
 use Rattle.std.proofs.lemmas.Nat.{div-mul-add, mod-mul-add}
 use Rattle.std.proofs.lemmas.List.FromFn.{get_or-map-range_with_len}
@@ -8,14 +8,14 @@ use Rattle.wave_defs.specs.Line.{floor_div}
 use Rattle.wave_defs.specs.Pyramid.{band_of}
 use Rattle.wave_defs.specs.Blocks.{Place, IsPlace, place_of, block_side, coefficient}
 use Rattle.wave_defs.specs.Reach.{SameBlock}
-use Rattle.wave_defs.proofs.Equations.{coefficient-is}
+use Rattle.wave_defs.proofs.Equations.{coefficient-is, place_of-is}
 use Rattle.wave_defs.proofs.BlockLaws.{passes, place_of-is_place}
 use Rattle.stream_defs.specs.Picture.{position_of, band_with, pyramid_with}
 
 -- each position is that of its place
 pub all_return : list_all (λ i. position_of (place_of i) == i) (range_with_len 0 64) ≡ true
-unfolding place_of position_of
-all_return = refl
+unfolding position_of
+all_return = simp place_of-is
 
 pub returns : (i : ℕ) → i < 64 → position_of (place_of i) ≡ i
 returns i lt =
@@ -48,9 +48,4 @@ coefficient_with numbers columns weights row column i lt =
 -- blocks with the same numbers are the same in the bands
 pub same_block : (xs ys : ℕ → ℕ → ℤ) (columns : ℕ) (weights : List ℕ) (row column : ℕ) → ((i : ℕ) → i < 64 → xs (row * columns + column) i ≡ ys (row * columns + column) i) →
     SameBlock (pyramid_with xs columns weights) (pyramid_with ys columns weights) row column
-same_block xs ys columns weights row column same = record {
-  at = λ i lt.
-      coefficient_with xs columns weights row column i lt
-      ∙ ap (λ z. floor_div z (2 ^ get_or weights (place_of i).band 0)) (same i lt)
-      ∙ sym (coefficient_with ys columns weights row column i lt);
-}
+same_block xs ys columns weights row column same = grind (arith, nat_tests, coefficient_with)

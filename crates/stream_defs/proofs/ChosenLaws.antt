@@ -1,6 +1,6 @@
 -- Which of some packets of an image are kept.
 use Rattle.std.proofs.Common.{◌≡◌, ◌⊎◌, inl, inr, ◌≤◌, ◌<◌, ◌+◌, ℕ, zero, suc, ℤ, List, [], ◌∷◌, ◌++◌, map, refl, sym, ap, subst, ◌∙◌, arith, Bool, true, false, ◌==◌, if◌then◌else◌, Some, append-nil}
-use Rattle.std.proofs.lemmas.Bool.{cases_lt, ne_eqb, eq-eqb}
+use Rattle.std.proofs.lemmas.Bool.{ne_eqb, eq-eqb}
 use Rattle.std.proofs.lemmas.Bool.Decides.{nat_tests}
 use Rattle.std.proofs.lemmas.Grind.{flat_map-append}
 use Rattle.std.proofs.Math.Bool.{and-false}
@@ -76,14 +76,13 @@ module _ (told_last : Bool) (s : Setting) (all : List (List ℤ)) (coded : AreCo
   gap_drops st least (zero ∷ ks) some rising gap = absurd (let low = rising.0 in omega (arith, low, some))
   gap_drops st least (suc k ∷ ks) some rising gap =
       let e : k + 1 ≡ suc k = omega arith in
-      let low = rising.0 in
       let few = rising.1 in
-      let here = gap k (omega (arith, low)) in
+      let here = gap k (omega (arith, rising.0)) in
       let fate_is : fate s.apid st (packet_at told_last s all index (suc k)) ≡ OutOfPlace =
       subst (λ m. fate s.apid st (packet_at told_last s all index m) ≡ OutOfPlace) e (gap_not_kept told_last s all coded st index k lt (omega (arith, few)) here.0 here.1) in
       let dropped = kept_is s.apid st (packet_at told_last s all index (suc k)) fate_is in
       let same : after s.apid st (packet_at told_last s all index (suc k)) ≡ st = after_as_other s.apid st (packet_at told_last s all index (suc k)) dropped in
-      let rest = gap_drops st (suc k + 1) ks (omega arith) rising.2 (λ j later. gap j (omega (arith, later, low))) in (
+      let rest = gap_drops st (suc k + 1) ks (omega arith) rising.2 (λ j later. gap j (omega (arith, later, rising.0))) in (
         kept_past s.apid st (packet_at told_last s all index (suc k)) (map (packet_at told_last s all index) ks) dropped ∙ ap (λ t. kept s.apid t (map (packet_at told_last s all index) ks)) same ∙ rest.0,
         ap (λ t. after_all s.apid t (map (packet_at told_last s all index) ks)) same ∙ rest.1,
       )
@@ -95,16 +94,7 @@ module _ (told_last : Bool) (s : Setting) (all : List (List ℤ)) (coded : AreCo
 
   takes_next : (k : ℕ) (ks : List ℕ) → k + 1 < parts_of s all index → GoesOnTo (k + 1) ks → GoesOnTo k ((k + 1) ∷ ks)
   unfolding GoesOnTo
-  takes_next k ks few rest =
-      let packet = packet_at told_last s all index (k + 1) in
-      let leaves = next_leaves told_last s all coded index k lt few in
-      let here : (k + 1 == k + 1) ≡ true = eq-eqb (k + 1) (k + 1) refl in (
-        kept_more s.apid (after_part k) packet (map (packet_at told_last s all index) ks) (next_kept told_last s all coded index k lt few)
-            ∙ ap (λ t. packet ∷ kept s.apid t (map (packet_at told_last s all index) ks)) leaves
-            ∙ ap (λ ps. packet ∷ ps) rest.0
-            ∙ ap (λ b. map (packet_at told_last s all index) (if b then (k + 1) ∷ run (k + 1 + 1) ks else [])) (sym here),
-        (rest.1.0, rest.1.1, ap (λ t. after_all s.apid t (map (packet_at told_last s all index) ks)) leaves ∙ rest.1.2),
-      )
+  takes_next k ks few rest = grind (arith, nat_tests, next_leaves, eq-eqb, kept_more, next_kept)
 
   stops_there : (k j : ℕ) (ks : List ℕ) → k < parts_of s all index → IsRising (k + 1) (parts_of s all index) (j ∷ ks) → (j == k + 1) ≡ false → GoesOnTo k (j ∷ ks)
   unfolding GoesOnTo
@@ -119,13 +109,7 @@ module _ (told_last : Bool) (s : Setting) (all : List (List ℤ)) (coded : AreCo
 
   by_next : (k j : ℕ) (ks : List ℕ) → k < parts_of s all index → IsRising (k + 1) (parts_of s all index) (j ∷ ks) → (b : Bool) → (j == k + 1) ≡ b →
       (k + 1 < parts_of s all index → IsRising (k + 1 + 1) (parts_of s all index) ks → GoesOnTo (k + 1) ks) → GoesOnTo k (j ∷ ks)
-  by_next k j ks few rising true e rest =
-      let next : j ≡ k + 1 = grind (arith, nat_tests) in
-      let below = rising.1 in
-      let later : IsRising (k + 1 + 1) (parts_of s all index) ks = subst (λ m. IsRising (m + 1) (parts_of s all index) ks) next rising.2 in
-      let fits : k + 1 < parts_of s all index = omega (arith, below, next) in
-      subst (λ m. GoesOnTo k (m ∷ ks)) (sym next) (takes_next k ks fits (rest fits later))
-  by_next k j ks few rising false e rest = stops_there k j ks few rising e
+  by_next k j ks few rising b e rest = grind (arith, nat_tests, takes_next, stops_there)
 
   goes_on : (k : ℕ) (ks : List ℕ) → k < parts_of s all index → IsRising (k + 1) (parts_of s all index) ks → GoesOnTo k ks
   unfolding GoesOnTo
@@ -134,14 +118,10 @@ module _ (told_last : Bool) (s : Setting) (all : List (List ℤ)) (coded : AreCo
 
   -- what was left before a segment is left before its parts and before the next segment
   before_parts : (st : FateState) (part : ℕ) → LeftBefore told_last s index 0 st → LeftBefore told_last s index part st × (follows st.last (written_at told_last s index part) ≡ false)
-  before_parts st part (inl none) = (inl none, ap (λ t. follows t.last (written_at told_last s index part)) none)
-  before_parts st part (inr (last, is, inl before)) = (inr (last, is, inl before), ap (λ t. follows t.last (written_at told_last s index part)) is ∙ far_index last index part told_last s before)
-  before_parts st part (inr (last, is, inr here)) = absurd (let none = here.1 in omega (arith, none))
+  before_parts st part h2 = grind (arith, nat_tests, far_index)
 
   before_next : (st : FateState) → LeftBefore told_last s index 0 st → LeftBefore told_last s (index + 1) 0 st
-  before_next st (inl none) = inl none
-  before_next st (inr (last, is, inl before)) = inr (last, is, inl (omega (arith, before)))
-  before_next st (inr (last, is, inr here)) = absurd (let none = here.1 in omega (arith, none))
+  before_next st h1 = grind (arith, nat_tests)
 
   -- if a segment begins, a part of it is kept last
   pub segment_touched : (st : FateState) (ks : List ℕ) → LeftBefore told_last s index 0 st → IsRising 0 (parts_of s all index) (0 ∷ ks) →
@@ -172,9 +152,8 @@ module _ (told_last : Bool) (s : Setting) (all : List (List ℤ)) (coded : AreCo
         inr (place_at s all index rest.1.0, ap (λ t. after_all s.apid t (map (packet_at told_last s all index) ks)) leaves ∙ rest.1.2, inl (omega arith)),
       )
   segment_kept st (suc k ∷ ks) left rising =
-      let zero_not : (suc k == 0) ≡ false = ne_eqb (suc k) 0 (λ e. omega (arith, e)) in
       let dropped = gap_drops st (suc k) (suc k ∷ ks) (omega arith) ((omega arith), rising.1, rising.2) (λ m later. before_parts st (m + 1) left) in (
-        dropped.0 ∙ ap (λ b. map (packet_at told_last s all index) (if b then suc k ∷ run (0 + 1) ks else [])) (sym zero_not),
+        dropped.0 ∙ ap (λ b. map (packet_at told_last s all index) (if b then suc k ∷ run (0 + 1) ks else [])) (sym (ne_eqb (suc k) 0 (λ e. omega (arith, e)))),
         subst (LeftBefore told_last s (index + 1) 0) (sym dropped.1) (before_next st left),
       )
 
@@ -199,10 +178,7 @@ module _ (told_last : Bool) (s : Setting) (all : List (List ℤ)) (coded : AreCo
   -- of the chosen packets exactly those are kept that continue from part 0 in their segment
   pub chosen_kept : (n : ℕ) → n ≤ segments_of s →
       (kept s.apid fresh (chosen told_last s all parts n) ≡ chosen told_last s all (λ index. run 0 (parts index)) n) × LeftBefore told_last s n 0 (after_all s.apid fresh (chosen told_last s all parts n))
-  chosen_kept zero few = (
-    ap (kept s.apid fresh) (chosen_none parts) ∙ kept_none s.apid fresh ∙ sym (chosen_none (λ index. run 0 (parts index))),
-    inl (ap (after_all s.apid fresh) (chosen_none parts)),
-  )
+  chosen_kept zero few = grind (arith, nat_tests, chosen_none, kept_none)
   chosen_kept (suc n) few =
       let e : n + 1 ≡ suc n = omega arith in
       let rest = chosen_kept n (omega (arith, few)) in
@@ -231,26 +207,7 @@ module _ (told_last : Bool) (s : Setting) (all : List (List ℤ)) (coded : AreCo
   -- a segment that isn't begun
   still_left : (n : ℕ) (st : FateState) → ((rest : List ℕ) → parts n ≡ 0 ∷ rest → ⊥) → LeftBy n st → LeftBy (n + 1) st
   unfolding LeftBy NoneBegun
-  still_left n st none (inl (e, before)) = inl (
-    e,
-    λ index lt rest is. elim (cases_lt index n) [
-      | inl less ↦ before index less rest is
-      | inr far ↦ let same : index ≡ n = omega (arith, lt, far) in none rest (ap parts (sym same) ∙ is)
-    ],
-  )
-  still_left n st none (inr (last, e, b)) = inr (
-    last,
-    e,
-    record {
-      more = b.more;
-      begun = b.begun;
-      few = let few = b.few in omega (arith, few);
-      none_after = λ later past lt rest is. elim (cases_lt later n) [
-        | inl less ↦ b.none_after later past less rest is
-        | inr far ↦ let same : later ≡ n = omega (arith, lt, far) in none rest (ap parts (sym same) ∙ is)
-      ];
-    },
-  )
+  still_left n st none h3 = grind (arith, nat_tests)
 
   by_parts : (n : ℕ) → n < segments_of s → (st : FateState) → LeftBefore told_last s n 0 st → LeftBy n st → (ks : List ℕ) → parts n ≡ ks → IsRising 0 (parts_of s all n) (parts n) →
       LeftBy (n + 1) (after_all s.apid st (map (packet_at told_last s all n) (parts n)))
@@ -280,11 +237,10 @@ module _ (told_last : Bool) (s : Setting) (all : List (List ℤ)) (coded : AreCo
   unfolding LeftBy NoneBegun
   left_by zero few = inl (ap (after_all s.apid fresh) (chosen_none parts), λ index lt rest is. absurd (omega (arith, lt)))
   left_by (suc n) few =
-      let e : n + 1 ≡ suc n = omega arith in
       let lt : n < segments_of s = omega (arith, few) in
       let before = left_by n (omega (arith, few)) in
       let st = after_all s.apid fresh (chosen told_last s all parts n) in
-      subst (λ m. LeftBy m (after_all s.apid fresh (chosen told_last s all parts m))) e
+      subst (λ m. LeftBy m (after_all s.apid fresh (chosen told_last s all parts m))) (omega arith)
       (subst (LeftBy (n + 1)) (sym (state_more n)) (by_parts n lt st (chosen_kept n (omega (arith, lt))).1 before (parts n) refl (choice.each n lt)))
 
   -- if a segment is begun, the geometry that is left is that of the last one begun
@@ -293,8 +249,5 @@ module _ (told_last : Bool) (s : Setting) (all : List (List ℤ)) (coded : AreCo
   unfolding LeftBy NoneBegun
   geometry_left index more lt begun = elim (left_by (segments_of s) (omega arith)) [
     | inl none ↦ absurd (none.1 index lt more begun)
-    | inr some ↦
-        let last = some.0 in
-        let b = some.2 in
-        (last.index, b.few, record { more = b.more; begun = b.begun; none_after = b.none_after }, ap (λ st. st.geometry) some.1)
+    | inr some ↦ grind (arith, nat_tests)
   ]

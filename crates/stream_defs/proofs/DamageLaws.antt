@@ -1,5 +1,5 @@
 -- The ranges of damaged rows cover exactly these, and have a row between them.
-use Rattle.std.proofs.Common.{◌≡◌, inl, inr, ◌≤◌, ◌<◌, ◌+◌, ◌-◌, ℕ, zero, suc, List, [], ◌∷◌, length, map, refl, sym, ap, subst, ◌∙◌, arith, Bool, true, false, ◌==◌, ◌&&◌, ◌||◌, not, nat_le, nat_lt, filter, take_while}
+use Rattle.std.proofs.Common.{◌≡◌, inl, inr, ◌≤◌, ◌<◌, ◌+◌, ◌-◌, ℕ, zero, suc, List, [], ◌∷◌, length, map, refl, sym, ap, subst, ◌∙◌, arith, Bool, true, false, ◌&&◌, ◌||◌, not, nat_le, nat_lt, filter, take_while}
 use Rattle.std.specs.List.{range_with_len}
 use Rattle.std.proofs.lemmas.Bool.{cases_lt, or_left, and_left}
 use Rattle.std.proofs.lemmas.Bool.Decides.{nat_tests}
@@ -82,22 +82,10 @@ module _ (rows : ℕ) (missing : List ℕ) where
   from_a a n e f row le = grind (arith, nat_tests, past_a)
 
   fresh_past : (a n : ℕ) → is_damaged rows missing a ≡ false → Fresh (a + 1) n → Fresh a (suc n)
-  fresh_past a n e f = record {
-    before = λ row lt. ap (λ rs. is_covered rs row) (past_a a n e) ∙ f.before row (omega (arith, lt));
-    from = from_a a n e f;
-    apart = subst (LieApart a) (sym (past_a a n e)) (apart_earlier a (a + 1) (some_ranges (a + 1) n) (omega arith) f.apart);
-  }
+  fresh_past a n e f = grind (arith, nat_tests, past_a, from_a, apart_earlier)
 
   within_ends : (a n : ℕ) → is_damaged rows missing a ≡ false → Fresh (a + 1) n → Within a (suc n)
-  within_ends a n e f =
-      let none : going a (suc n) ≡ 0 = going_ends a n e in
-      let next : a + 1 ≡ a + going a (suc n) + 1 = omega (arith, none) in
-      record {
-        gone = λ row le lt. absurd (omega (arith, le, lt, none));
-        before = λ row lt. ap (λ rs. is_covered rs row) (past_a a n e) ∙ f.before row (omega (arith, lt, none));
-        from = λ row le. from_a a n e f row (omega (arith, le, none));
-        apart = subst (λ m. LieApart m (some_ranges a (suc n))) next (subst (LieApart (a + 1)) (sym (past_a a n e)) f.apart);
-      }
+  within_ends a n e f = grind (arith, nat_tests, going, going_ends, past_a, from_a)
 
   fresh_begins : (a n : ℕ) → a + suc n ≡ rows → is_damaged rows missing a ≡ true → begins_range rows missing a ≡ true → Within (a + 1) n → Fresh a (suc n)
   unfolding going
@@ -125,20 +113,7 @@ module _ (rows : ℕ) (missing : List ℕ) where
       }
 
   within_on : (a n : ℕ) → is_damaged rows missing a ≡ true → 1 ≤ a → is_damaged rows missing (a - 1) ≡ true → Within (a + 1) n → Within a (suc n)
-  within_on a n e some before w =
-      let zero_not : (a == 0) ≡ false = grind (arith, nat_tests) in
-      let all = step_past a n (not_begins (is_damaged rows missing a) (is_damaged rows missing (a - 1)) (a == 0) before zero_not) in
-      let g = going_on a n e in
-      record {
-        gone = λ row le lt. elim (cases_lt a row) [
-          | inl later ↦ w.gone row (omega (arith, later)) (omega (arith, lt, g))
-          | inr same ↦ ap (is_damaged rows missing) (let h : row ≡ a = omega (arith, same, le) in h) ∙ e
-        ];
-        before = λ row lt. ap (λ rs. is_covered rs row) all ∙ w.before row (omega (arith, lt, g));
-        from = λ row le. ap (λ rs. is_covered rs row) all ∙ w.from row (omega (arith, le, g));
-        apart = subst (λ m. LieApart m (some_ranges a (suc n))) (let h : a + 1 + going (a + 1) n + 1 ≡ a + going a (suc n) + 1 = omega (arith, g) in h)
-            (subst (LieApart (a + 1 + going (a + 1) n + 1)) (sym all) w.apart);
-      }
+  within_on a n e some before w = grind (arith, nat_tests, step_past, not_begins, going_on, going)
 
   Both : ℕ → ℕ → Type 0
   Both n a = (begins_range rows missing a ≡ is_damaged rows missing a → Fresh a n) × (1 ≤ a → is_damaged rows missing (a - 1) ≡ true → Within a n)
@@ -146,8 +121,7 @@ module _ (rows : ℕ) (missing : List ℕ) where
   both_more : (n a : ℕ) → a + suc n ≡ rows → (b : Bool) → is_damaged rows missing a ≡ b → Both n (a + 1) → Both (suc n) a
   unfolding Both
   both_more n a whole true e next =
-      let back : a + 1 - 1 ≡ a = omega arith in
-      let w = next.1 (omega arith) (ap (is_damaged rows missing) back ∙ e) in
+      let w = next.1 (omega arith) (ap (is_damaged rows missing) (omega arith) ∙ e) in
       (λ f. fresh_begins a n whole e (f ∙ e) w, λ some before. within_on a n e some before w)
   both_more n a whole false e next =
       let f = next.0 (fresh_after a e) in
@@ -155,15 +129,7 @@ module _ (rows : ℕ) (missing : List ℕ) where
 
   both : (n a : ℕ) → a + n ≡ rows → Both n a
   unfolding Both some_ranges going
-  both zero a whole = (
-    λ f. record { before = λ row lt. refl; from = λ row le. sym (none_past row (omega (arith, le, whole))); apart = tt },
-    λ some before. record {
-      gone = λ row le lt. absurd (omega (arith, le, lt));
-      before = λ row lt. refl;
-      from = λ row le. sym (none_past row (omega (arith, le, whole)));
-      apart = tt;
-    },
-  )
+  both zero a whole = grind (arith, nat_tests, none_past)
   both (suc n) a whole = both_more n a whole (is_damaged rows missing a) refl (both n (a + 1) (omega (arith, whole)))
 
   pub whole_damage : Covers (ranges rows missing) rows missing × LieApart 0 (ranges rows missing)

@@ -149,9 +149,7 @@ more_after m n lt e = grind (arith, nat_tests)
 
 -- the last segment ends the image's block rows, and these without the padding rows are its height
 ends_rows : (columns rows : ℕ) → 0 < columns → (columns * block_count rows) % columns ≡ 0 × (8 * ((columns * block_count rows) / columns) - (padded_size rows - rows) ≡ rows)
-ends_rows columns rows some =
-    let whole : (columns * block_count rows) / columns ≡ block_count rows = mul-div_cancel_left (block_count rows) some in
-    (mul-mod_right columns (block_count rows), omega (arith, whole))
+ends_rows columns rows some = grind (arith, nat_tests, mul-div_cancel_left, mul-mod_right)
 
 module _ (s : Setting) (all : List (List ℤ)) (coded : AreCoded s all) (index : ℕ) (lt : index < segments_of s) where
   some_columns : 0 < block_count s.width
@@ -201,26 +199,21 @@ module _ (s : Setting) (all : List (List ℤ)) (coded : AreCoded s all) (index :
       then ((index * s.segment + (head_for s all index).blocks) % block_count s.width == 0)
       && is_within rows_range (8 * ((index * s.segment + (head_for s all index).blocks) / block_count s.width) - (if last then padded_size s.rows - s.rows else 0))
       else nat_lt (index * s.segment + s.segment) (32768 * block_count s.width)) ≡ true
-  told_end true e =
-      both _ _
-      (eq-eqb ((index * s.segment + (head_for s all index).blocks) % block_count s.width) 0 (ap (λ n. n % block_count s.width) (ends_last e) ∙ (ends_rows (block_count s.width) s.rows some_columns).0))
-      (ap (is_within rows_range) (height_told e) ∙ within rows_range s.rows coded.rows)
+  told_end true e = grind (arith, nat_tests, both, eq-eqb, ends_last, ends_rows, some_columns, height_told)
   told_end false e =
       let more : index + 1 < segments_of s = more_after index (segments_of s) lt e in
       let next : (index + 1) * s.segment < total_blocks s.width s.rows = first_block-lt (total_blocks s.width s.rows) s.segment (index + 1) (some_blocks s all coded) more in
       let tall : block_count s.rows ≤ 2 ^ 15 = block_count-rows s.rows coded.rows in
-      let most : block_count s.width * block_count s.rows ≤ block_count s.width * 2 ^ 15 = mul-le-mul_left (block_count s.width) tall in
-      lt-ltb (index * s.segment + s.segment) (32768 * block_count s.width) (omega (arith, next, most))
+      lt-ltb (index * s.segment + s.segment) (32768 * block_count s.width) (omega (arith, next, mul-le-mul_left (block_count s.width) tall))
 
   agrees_last : disagreement (image_geometry s 0) (written_at true s index 0) (head_for s all index) ≡ None
   unfolding disagreement
   agrees_last =
       let head = head_for s all index in
       let g = image_geometry s 0 in
-      let a = written_at true s index 0 in
       none_first (not (same_flag head.first (index == 0))) _ _ (ap not (flag_same (index == 0)))
       ∙ none_first (not (may_have_blocks g head)) _ _ (ap not (told_blocks (index + 1 == segments_of s) refl))
-      ∙ none_first (not (may_end g a head)) _ _ (ap not (told_end (index + 1 == segments_of s) refl))
+      ∙ none_first (not (may_end g (written_at true s index 0) head)) _ _ (ap not (told_end (index + 1 == segments_of s) refl))
       ∙ none_first (not (index % 256 == index % 256)) _ _ (ap not (eq-eqb (index % 256) (index % 256) refl))
       ∙ none_first (not (true || pads_as_told g head)) (BadValue PadRows) (when (not (is_of_image g head.image)) (BadValue Image) ∷ []) refl
       ∙ none_first (not (is_of_image g head.image)) (BadValue Image) [] (ap not (image_agrees s 0))
@@ -247,9 +240,7 @@ module _ (told_last : Bool) (s : Setting) (all : List (List ℤ)) (coded : AreCo
 
   not_past : (over : Bool) (index part : ℕ) → index < segments_of s → is_past (image_geometry s (if over then 0 else s.rows)) (written_at told_last s index part) ≡ false
   not_past true index part lt = refl
-  not_past false index part lt =
-      let far = lt-leb (total_blocks s.width s.rows) (index * s.segment) (block_before s all coded index lt) in
-      and_right (not (s.rows == 0)) _ far
+  not_past false index part lt = and_right (not (s.rows == 0)) _ (lt-leb (total_blocks s.width s.rows) (index * s.segment) (block_before s all coded index lt))
 
   own : (st : FateState) (index part : ℕ) → index < segments_of s → LeftBefore told_last s index part st → is_foreign st (written_at told_last s index part) ≡ false
   own st index part lt left =
@@ -260,11 +251,10 @@ module _ (told_last : Bool) (s : Setting) (all : List (List ℤ)) (coded : AreCo
       (elim left [
         | inl none ↦ ap (λ st. differs st.geometry st.told_last a) none
         | inr kept ↦
-            let over = told_last && not (kept.0.index + 1 == segments_of s) in
             ap (λ st. differs st.geometry st.told_last a) kept.1
             ∙ same_tests (same_flag told_last told_last) (s.image == s.image) _ (s.segment == s.segment) _
             (flag_same told_last) (eq-eqb s.image s.image refl) (same_rows told_last (not (kept.0.index + 1 == segments_of s))) (eq-eqb s.segment s.segment refl)
-            (not_past over index part lt)
+            (not_past (told_last && not (kept.0.index + 1 == segments_of s)) index part lt)
       ])
 
   early : (st : FateState) (index part : ℕ) → LeftBefore told_last s index part st → is_late st.last (written_at told_last s index part) ≡ false
@@ -285,12 +275,11 @@ module _ (told_last : Bool) (s : Setting) (all : List (List ℤ)) (coded : AreCo
       let says = reads.ancillary_is in
       let read = ap head_read reads.text_is ∙ coded.heads index lt in
       let agree = ap (λ g. disagreement g (written_at told_last s index 0) (head_for s all index)) (geometry_here st index lt left) ∙ agrees s all coded index lt told_last in
-      let head : refusal_in st.geometry packet ≡ None = refusal_at st.geometry packet (written_at told_last s index 0) (head_for s all index) says refl read agree in
       kept_by s.apid st packet reads.mine
       (ap (is_foreign st) says ∙ own st index 0 lt left)
       (ap (is_late st.last) says ∙ early st index 0 left)
       (first_placed st.last (flags_in packet) (ancillary_in packet) (ap (λ a. a.part) says) (part_begins told_last s all coded index 0 lt some ∙ eq-eqb 0 0 refl))
-      head
+      (refusal_at st.geometry packet (written_at told_last s index 0) (head_for s all index) says refl read agree)
 
   -- a further part is kept if it follows
   pub next_kept : (index part : ℕ) → index < segments_of s → part + 1 < parts_of s all index →

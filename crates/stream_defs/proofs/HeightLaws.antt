@@ -14,9 +14,8 @@ use Rattle.base_122.specs.Sizes.{block_count, total_blocks, segment_blocks}
 use Rattle.base_122.specs.declared.setting.Setting.{Setting}
 use Rattle.base_122.proofs.GeometryRanges.{in_range-sized}
 use Rattle.base_122.proofs.SizeBounds.{first_block-lt, three-le-block_count, total-le-segments}
-use Rattle.segment_defs.specs.Coded.{coded}
 use Rattle.packet_defs.specs.Packets.{part_count, part_size, text_packets}
-use Rattle.stream_defs.specs.Output.{ancillary_of, head_of, image_blocks, packets_before, packets_of, segment_of, segment_packets, segment_text, segments_of, share, tells_last, text_with, used_before}
+use Rattle.stream_defs.specs.Output.{ancillary_of, head_of, image_blocks, packets_before, packets_of, segment_of, segment_packets, segment_text, segments_of, share, tells_last, used_before}
 use Rattle.stream_defs.specs.Settled.{last_block_row, is_settled, settled}
 use Rattle.stream_defs.specs.SettledImages.{front_packets, settled_in}
 use Rattle.stream_defs.proofs.SettledLaws.{settled_same, settled_first, count_many, count_most, rows_rise}
@@ -47,13 +46,11 @@ module _ (s : Setting) (range : IsInRange s) (open_rows : s.rows ≡ 0) (k : ℕ
       let S = s.segment in
       let total = total_blocks s.width rows in
       let r = last_block_row (sized s rows) index in
-      let before : index * S < total = first_block-lt total S index some_blocks lt in
-      let tall : r + 4 ≤ block_count rows = omega (arith, near, most) in
-      let high : c * (r + 4) ≤ total = mul-le-mul_left c tall in
+      let high : c * (r + 4) ≤ total = mul-le-mul_left c (omega (arith, near, most)) in
       let part : c * (r + 4) ≡ (r + 1) * c + 3 * c = grind arith in
       let up : index * S + segment_blocks total S index - 1 < r * c + c = lt-div-mul-add {a = index * S + segment_blocks total S index - 1} {b = c} (omega (arith, three_columns)) in
       let next : (r + 1) * c ≡ r * c + c = grind arith in
-      let whole : segment_blocks total S index ≡ S = omega (arith, up, next, high, part, before, three_columns) in
+      let whole : segment_blocks total S index ≡ S = omega (arith, up, next, high, part, first_block-lt total S index some_blocks lt, three_columns) in
       record {
         whole = omega (arith, whole, up, next, high, part, three_columns);
         near = subst (λ n. 8 * ((index * S + n - 1) / c) + 28 < k) whole near;
@@ -61,23 +58,13 @@ module _ (s : Setting) (range : IsInRange s) (open_rows : s.rows ≡ 0) (k : ℕ
 
   -- and it is one in an image of another height
   near_there : (rows lines index : ℕ) → k ≤ lines → IsNear s k rows index → IsNear s k lines index
-  near_there rows lines index most n =
-      let c = block_count s.width in
-      let S = s.segment in
-      let last = index * S + S - 1 in
-      let near = n.near in
-      let tall : last / c + 4 ≤ block_count lines = omega (arith, near, most) in
-      let high : c * (last / c + 4) ≤ total_blocks s.width lines = mul-le-mul_left c tall in
-      let part : c * (last / c + 4) ≡ last / c * c + 4 * c = grind arith in
-      let up : last < last / c * c + c = lt-div-mul-add {a = last} {b = c} (omega (arith, three_columns)) in
-      record { whole = omega (arith, up, high, part, three_columns, some_blocks); near = near }
+  near_there rows lines index most n = grind (arith, nat_tests, mul-le-mul_left, lt-div-mul-add, three_columns, some_blocks)
 
   near_index : (rows index : ℕ) → IsNear s k rows index → index + 1 < segments_of (sized s rows)
   near_index rows index n =
       let S = s.segment in
       let total = total_blocks s.width rows in
-      let some = some_blocks in
-      let all : total ≤ segments_of (sized s rows) * S = total-le-segments total S some in
+      let all : total ≤ segments_of (sized s rows) * S = total-le-segments total S some_blocks in
       elim (cases_lt (index + 1) (segments_of (sized s rows))) [
         | inl less ↦ less
         | inr far ↦ let few : segments_of (sized s rows) * S ≤ (index + 1) * S = mul-le-mul_right S far in absurd (let whole = n.whole in omega (arith, whole, all, few))
@@ -94,8 +81,7 @@ module _ (s : Setting) (range : IsInRange s) (open_rows : s.rows ≡ 0) (k : ℕ
     near_at : (index : ℕ) → index < settled true (sized s rows) k → IsNear s k rows index
     near_at index lt =
         let first : is_settled true (sized s rows) k index ≡ true = settled_first true (sized s rows) (in_range-sized s rows range height) k index lt in
-        let near : 8 * last_block_row (sized s rows) index + 28 < k = below (8 * last_block_row (sized s rows) index + 28) first in
-        settled_near rows index le (omega (arith, lt, few)) near
+        settled_near rows index le (omega (arith, lt, few)) (below (8 * last_block_row (sized s rows) index + 28) first)
       where
         below : (m : ℕ) → nat_lt m k ≡ true → m < k
         below m e = grind (arith, nat_tests)
@@ -144,13 +130,12 @@ module _ (s : Setting) (range : IsInRange s) (open_rows : s.rows ≡ 0) (k : ℕ
           let whole' = there.whole in
           let long = length-image_blocks A x in
           let long' = length-image_blocks B y in
-          let near = here.near in
           ext_get_or [] (take S (drop first xs)) (take S (drop first ys)) (omega (arith, long, long', whole, whole', length-take S (drop first xs), length-take S (drop first ys), length-drop first xs, length-drop first ys))
           (λ i lt.
           let inside : i < S = omega (arith, lt, length-take S (drop first xs)) in
           let row : (first + i) / block_count s.width ≤ (index * S + S - 1) / block_count s.width = rows_rise (first + i) (index * S + S - 1) (block_count s.width) (omega (arith, three_columns)) (omega (arith, inside)) in
           get_or-take S (drop first xs) i [] inside ∙ get_or-drop first xs i []
-          ∙ block_same (first + i) (omega (arith, row, near))
+          ∙ block_same (first + i) (omega (arith, row, here.near))
           ∙ sym (get_or-take S (drop first ys) i [] inside ∙ get_or-drop first ys i []))
 
       -- the head of a segment that isn't the last one doesn't depend on the height
@@ -160,22 +145,13 @@ module _ (s : Setting) (range : IsInRange s) (open_rows : s.rows ≡ 0) (k : ℕ
       head_same : (index used : ℕ) (segment : List (List ℤ)) → index < settled true A k → head_of A index used segment ≡ head_of B index used segment
       unfolding share
       head_same index used segment lt =
-          let here = not_last rows index (near_at index lt) in
-          let there = not_last lines index (near_there rows lines index le' (near_at index lt)) in
           let total : (s.total == 0) ≡ true = let e = no_total in grind (arith, nat_tests) in
-          rw (here, there, total) refl
+          rw (not_last rows index (near_at index lt), not_last lines index (near_there rows lines index le' (near_at index lt)), total) refl
 
       used_same : (n : ℕ) → n ≤ settled true A k → used_before A (image_blocks A x) n ≡ used_before B (image_blocks B y) n
       unfolding used_before
       used_same zero most = refl
-      used_same (suc n) most =
-          let lt : n < settled true A k = omega (arith, most) in
-          let before = used_same n (omega (arith, most)) in
-          let xs = segment_of A (image_blocks A x) n in
-          let ys = segment_of B (image_blocks B y) n in
-          ap (λ used. used + length (text_with A (image_blocks A x) n used)) before
-          ∙ ap (λ head. used_before B (image_blocks B y) n + length (coded s.book head xs)) (head_same n (used_before B (image_blocks B y) n) xs lt)
-          ∙ ap (λ segment. used_before B (image_blocks B y) n + length (coded s.book (head_of B n (used_before B (image_blocks B y) n) segment) segment)) (segment_same n lt)
+      used_same (suc n) most = grind (arith, nat_tests, head_same, segment_same, used_same n (omega (arith, most)))
 
       text_same : (n : ℕ) → n < settled true A k → segment_text A (image_blocks A x) n ≡ segment_text B (image_blocks B y) n
       text_same n lt = grind (arith, nat_tests, used_same, head_same, segment_same)
@@ -183,23 +159,19 @@ module _ (s : Setting) (range : IsInRange s) (open_rows : s.rows ≡ 0) (k : ℕ
       pub before_same : (n : ℕ) → n ≤ settled true A k → packets_before A (image_blocks A x) n ≡ packets_before B (image_blocks B y) n
       before_same zero most = packets_before-none A (image_blocks A x) ∙ sym (packets_before-none B (image_blocks B y))
       before_same (suc n) most =
-          let e : n + 1 ≡ suc n = omega arith in
-          let lt : n < settled true A k = omega (arith, most) in
-          subst (λ m. packets_before A (image_blocks A x) m ≡ packets_before B (image_blocks B y) m) e
+          subst (λ m. packets_before A (image_blocks A x) m ≡ packets_before B (image_blocks B y) m) (omega arith)
           (packets_before-more A (image_blocks A x) n
           ∙ ap (λ m. m + part_count (part_size s.packet) (length (segment_text A (image_blocks A x) n))) (before_same n (omega (arith, most)))
-          ∙ ap (λ t. packets_before B (image_blocks B y) n + part_count (part_size s.packet) (length t)) (text_same n lt)
+          ∙ ap (λ t. packets_before B (image_blocks B y) n + part_count (part_size s.packet) (length t)) (text_same n (omega (arith, most)))
           ∙ sym (packets_before-more B (image_blocks B y) n))
 
       pub packets_same : (n : ℕ) → n ≤ settled true A k → packets_of true A (image_blocks A x) n ≡ packets_of true B (image_blocks B y) n
       packets_same zero most = packets_of-none true A (image_blocks A x) ∙ sym (packets_of-none true B (image_blocks B y))
       packets_same (suc n) most =
-          let e : n + 1 ≡ suc n = omega arith in
-          let lt : n < settled true A k = omega (arith, most) in
           let here : segment_packets true A (image_blocks A x) n ≡ segment_packets true B (image_blocks B y) n =
           ap (λ before. text_packets s.apid (ancillary_of true s n) s.packet before (segment_text A (image_blocks A x) n)) (before_same n (omega (arith, most)))
-          ∙ ap (text_packets s.apid (ancillary_of true s n) s.packet (packets_before B (image_blocks B y) n)) (text_same n lt) in
-          subst (λ m. packets_of true A (image_blocks A x) m ≡ packets_of true B (image_blocks B y) m) e
+          ∙ ap (text_packets s.apid (ancillary_of true s n) s.packet (packets_before B (image_blocks B y) n)) (text_same n (omega (arith, most))) in
+          subst (λ m. packets_of true A (image_blocks A x) m ≡ packets_of true B (image_blocks B y) m) (omega arith)
           (packets_of-more true A (image_blocks A x) n
           ∙ ap (λ zs. zs ++ segment_packets true A (image_blocks A x) n) (packets_same n (omega (arith, most)))
           ∙ ap (λ zs. packets_of true B (image_blocks B y) n ++ zs) here
@@ -212,33 +184,19 @@ module _ (s : Setting) (rows lines k : ℕ) (range : IsInRange s) (height : IsHe
   SameHeight = rows ≡ lines
 
   heights : (s.rows ≡ 0) ⊎ SameHeight
-  heights = by height.1 other.1
-    where
-      by : (s.rows ≡ 0) ⊎ (s.rows ≡ rows) → (s.rows ≡ 0) ⊎ (s.rows ≡ lines) → (s.rows ≡ 0) ⊎ SameHeight
-      by (inl none) q = inl none
-      by (inr here) (inl none) = inl none
-      by (inr here) (inr there) = inr (sym here ∙ there)
+  heights = grind (arith, nat_tests)
 
   tells : s.rows ≡ 0 → tells_last s ≡ true
   tells none = grind (arith, nat_tests)
 
   pub settled_alike : settled_in s rows k ≡ settled_in s lines k
-  settled_alike = elim heights [
-    | inl none ↦
-        let more = no_fewer s range none k rows lines height other le le' in
-        let less = no_fewer s range none k lines rows other height le' le in
-        let t = tells none in
-        rw t (let e : settled true (sized s rows) k ≡ settled true (sized s lines) k = omega (arith, more, less) in e)
-    | inr same ↦ ap (λ n. settled_in s n k) same
-  ]
+  settled_alike = grind (arith, nat_tests, heights, no_fewer, tells)
 
   pub images_settle : (x y : ℕ → ℕ → ℤ) → SameWithin k s.width x y → front_packets s rows x (settled_in s rows k) ≡ front_packets s lines y (settled_in s lines k)
   images_settle x y same = elim heights [
     | inl none ↦
-        let alike = settled_alike in
-        let t = tells none in
         let packets = packets_same s range none k rows lines height other le le' x y same (settled true (sized s rows) k) (omega arith) in
-        subst (λ n. front_packets s rows x (settled_in s rows k) ≡ front_packets s lines y n) alike (rw t packets)
+        subst (λ n. front_packets s rows x (settled_in s rows k) ≡ front_packets s lines y n) settled_alike (rw (tells none) packets)
     | inr one ↦
         subst (λ n. front_packets s rows x (settled_in s rows k) ≡ front_packets s n y (settled_in s n k)) one
         (settled_same (tells_last s) (sized s rows) (in_range-sized s rows range height) k (image_blocks (sized s rows) x) (image_blocks (sized s rows) y) (length-image_blocks (sized s rows) x)

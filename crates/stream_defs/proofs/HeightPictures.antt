@@ -1,5 +1,5 @@
 -- The first rows of a picture, whatever the height, and how the blocks that aren't received change them.
-use Rattle.std.proofs.Common.{◌≡◌, ◌≤◌, ◌<◌, ◌+◌, ◌-◌, ◌*◌, ℕ, zero, suc, ℤ, List, map, ◌++◌, refl, ap, ◌∙◌, arith, Option}
+use Rattle.std.proofs.Common.{◌≡◌, ◌≤◌, ◌<◌, ◌+◌, ◌-◌, ◌*◌, ℕ, zero, suc, ℤ, List, map, refl, arith, Option}
 use Rattle.std.specs.List.{range_with_len, flat_map}
 use Rattle.std.proofs.lemmas.Bool.Decides.{nat_tests}
 use Rattle.base_122.specs.Sizes.{block_count}
@@ -14,19 +14,12 @@ use Rattle.stream_defs.proofs.PlacedLaws.{is_open}
 
 row_same : (a b : ℕ → ℤ) (width from : ℕ) → ((j : ℕ) → from ≤ j → j < from + width → a j ≡ b j) → map a (range_with_len from width) ≡ map b (range_with_len from width)
 row_same a b zero from same = refl
-row_same a b (suc n) from same =
-    let first = same from (omega arith) (omega arith) in
-    let rest = row_same a b n (from + 1) (λ j low high. same j (omega (arith, low)) (omega (arith, high))) in
-    cc
+row_same a b (suc n) from same = grind (arith, nat_tests, row_same a b n (from + 1) (λ j low high. same j (omega (arith, low)) (omega (arith, high))))
 
 rows_same : (depth width : ℕ) (a b : ℕ → ℕ → ℤ) (rows from : ℕ) → ((i j : ℕ) → from ≤ i → i < from + rows → j < width → a i j ≡ b i j) →
     flat_map (λ row. pixel_octets depth (map (a row) (range_with_len 0 width))) (range_with_len from rows) ≡ flat_map (λ row. pixel_octets depth (map (b row) (range_with_len 0 width))) (range_with_len from rows)
 rows_same depth width a b zero from same = refl
-rows_same depth width a b (suc n) from same =
-    let row = λ (x : ℕ → ℕ → ℤ) (i : ℕ). pixel_octets depth (map (x i) (range_with_len 0 width)) in
-    let first = row_same (a from) (b from) width 0 (λ j low high. same from j (omega arith) (omega arith) (omega (arith, high))) in
-    let rest = rows_same depth width a b n (from + 1) (λ i j low high lt. same i j (omega (arith, low)) (omega (arith, high)) lt) in
-    ap (λ zs. zs ++ flat_map (row a) (range_with_len (from + 1) n)) (ap (pixel_octets depth) first) ∙ ap (λ zs. row b from ++ zs) rest
+rows_same depth width a b (suc n) from same = grind (arith, nat_tests, row_same, rows_same depth width a b n (from + 1) (λ i j low high lt. same i j (omega (arith, low)) (omega (arith, high)) lt))
 
 -- images whose first rows are the same have the same octets of them
 pub raster_same : (depth rows width : ℕ) (a b : ℕ → ℕ → ℤ) → ((i j : ℕ) → i < rows → j < width → a i j ≡ b i j) → raster_octets depth rows width a ≡ raster_octets depth rows width b

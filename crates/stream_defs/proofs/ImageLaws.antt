@@ -1,5 +1,5 @@
 -- The first rows of an image determine the packets of the segments that they settle.
-use Rattle.std.proofs.Common.{◌≡◌, ◌≤◌, ◌<◌, ◌+◌, ◌-◌, ◌*◌, ◌/◌, ◌%◌, ℕ, zero, suc, ℤ, List, [], length, refl, sym, subst, ◌∙◌, arith, min, get_or, Bool, true, false, ◌==◌, cond, div-lt_iff_lt-mul}
+use Rattle.std.proofs.Common.{◌≡◌, ◌≤◌, ◌<◌, ◌+◌, ◌*◌, ◌/◌, ◌%◌, ℕ, zero, suc, ℤ, List, [], length, refl, sym, ◌∙◌, arith, get_or, Bool, true, false, ◌==◌, cond, div-lt_iff_lt-mul}
 use Rattle.std.specs.List.{count_by, range_with_len}
 use Rattle.std.proofs.lemmas.Bool.Decides.{nat_tests}
 use Rattle.std.proofs.lemmas.List.{same_lists}
@@ -48,12 +48,7 @@ module _ (s : Setting) (range : IsInRange s) (tall : IsWithin rows_range s.rows)
 
   -- all of them
   padded_whole : (x y : ℕ → ℕ → ℤ) → SameWithin s.rows s.width x y → SameWithin (8 * block_count s.rows) (8 * block_count s.width) (padded x s.rows s.width) (padded y s.rows s.width)
-  padded_whole x y same = record {
-    at = λ i j hi hj.
-        let rows = tall.0 in
-        let width = range.width.0 in
-        same.at (min i (s.rows - 1)) (min j (s.width - 1)) (omega (arith, rows)) (omega (arith, width));
-  }
+  padded_whole x y same = grind (arith, nat_tests)
 
   pub blocks_whole : (x y : ℕ → ℕ → ℤ) → SameWithin s.rows s.width x y → image_blocks s x ≡ image_blocks s y
   blocks_whole x y same =
@@ -65,46 +60,31 @@ module _ (s : Setting) (range : IsInRange s) (tall : IsWithin rows_range s.rows)
       same_lists (image_blocks s x) (image_blocks s y) (length-image_blocks s x ∙ sym (length-image_blocks s y))
       (λ b d hb.
       let lt : b < total_blocks s.width s.rows = omega (arith, hb, length-image_blocks s x) in
-      let column : b % c < c = omega (arith, three) in
       image_block s x b d lt
-      ∙ block-same _ _ s.weights.shifts (b / c) (b % c) (SamePyramid-block _ _ r c (b / c) (b % c) pyramids (row_below b lt) column)
+      ∙ block-same _ _ s.weights.shifts (b / c) (b % c) (SamePyramid-block _ _ r c (b / c) (b % c) pyramids (row_below b lt) (omega (arith, three)))
       ∙ sym (image_block s y b d lt))
 
   pub blocks_agree : (k : ℕ) (x y : ℕ → ℕ → ℤ) → k ≤ s.rows → SameWithin k s.width x y → BlocksAgree s k (image_blocks s x) (image_blocks s y)
-  blocks_agree k x y le same = record {
-    same_length = length-image_blocks s x ∙ sym (length-image_blocks s y);
-    at = λ b near. blocks_known k x y b le same near;
-    whole = λ e. blocks_whole x y (subst (λ n. SameWithin n s.width x y) e same);
-  }
+  blocks_agree k x y le same = grind (arith, nat_tests, length-image_blocks, blocks_known, blocks_whole)
 
 -- ---- how many are settled
 
 count_rises : (p q : ℕ → Bool) (n a : ℕ) → ((i : ℕ) → p i ≡ true → q i ≡ true) → count_by p (range_with_len a n) ≤ count_by q (range_with_len a n)
 count_rises p q zero a each = omega arith
 count_rises p q (suc n) a each =
-    let rest = count_rises p q n (a + 1) each in
-    let e = sum_by-cons (λ x. cond (p x) 1 0) a (range_with_len (a + 1) n) in
     let f = sum_by-cons (λ x. cond (q x) 1 0) a (range_with_len (a + 1) n) in
-    let here = by_tests (p a) (q a) (each a) in
-    omega (arith, e, f, rest, here)
+    omega (arith, sum_by-cons (λ x. cond (p x) 1 0) a (range_with_len (a + 1) n), f, count_rises p q n (a + 1) each, by_tests (p a) (q a) (each a))
   where
     by_tests : (b c : Bool) → (b ≡ true → c ≡ true) → cond b 1 0 ≤ cond c 1 0
-    by_tests true true f = omega arith
-    by_tests true false f = let e : false ≡ true = f refl in absurd cc
-    by_tests false true f = omega arith
-    by_tests false false f = omega arith
+    by_tests b c f = grind (arith, nat_tests)
 
 count_all : (p : ℕ → Bool) (n a : ℕ) → ((i : ℕ) → p i ≡ true) → count_by p (range_with_len a n) ≡ n
 count_all p zero a each = refl
 count_all p (suc n) a each =
-    let rest = count_all p n (a + 1) each in
-    let e = sum_by-cons (λ x. cond (p x) 1 0) a (range_with_len (a + 1) n) in
-    let here = one (p a) (each a) in
-    omega (arith, e, rest, here)
+    omega (arith, sum_by-cons (λ x. cond (p x) 1 0) a (range_with_len (a + 1) n), count_all p n (a + 1) each, one (p a) (each a))
   where
     one : (b : Bool) → b ≡ true → cond b 1 0 ≤ 1 × 1 ≤ cond b 1 0
-    one true e = (omega arith, omega arith)
-    one false e = absurd cc
+    one b e = grind (arith, nat_tests)
 
 pub settled_rises : (told_last : Bool) (s : Setting) (k l : ℕ) → k ≤ l → l ≤ s.rows → settled told_last s k ≤ settled told_last s l
 unfolding settled

@@ -1,6 +1,6 @@
 -- The packets that are kept are in order: of each segment they are its parts from 0 on, one after the other.
 use Rattle.std.proofs.Common.{◌≡◌, ◌⊎◌, inl, inr, ◌≤◌, ◌<◌, ◌+◌, ℕ, List, [], ◌∷◌, ◌++◌, refl, sym, ap, subst, ◌∙◌, arith, Bool, true, false, ◌==◌, ◌&&◌, ◌||◌, not, nat_le, nat_lt, if◌then◌else◌, Option, Some, None, unwrap_or, option_map}
-use Rattle.std.proofs.lemmas.Bool.{false≢true, cases_lt, eq-eqb, ne_eqb}
+use Rattle.std.proofs.lemmas.Bool.{false≢true, eq-eqb, ne_eqb}
 use Rattle.std.proofs.lemmas.Bool.Decides.{nat_tests}
 use Rattle.stream_defs.proofs.ChosenLaws.{kept_none}
 use Rattle.packet_defs.specs.declared.ancillary.Ancillary.{Ancillary}
@@ -31,19 +31,11 @@ pub record PassesTests (apid : ℕ) (s : FateState) (packet : List ℕ) : Type 0
 tests : (o : Option Skip) (b c d : Bool) (p : Option HeadFault) →
     unwrap_or (first_of (option_map Skipped o ∷ when b Foreign ∷ when c Late ∷ when d OutOfPlace ∷ option_map BadHead p ∷ [])) Kept ≡ Kept →
     (o ≡ None) × (b ≡ false) × (c ≡ false) × (d ≡ false) × (p ≡ None)
-tests (Some skip) b c d p e = absurd cc
-tests None true c d p e = absurd cc
-tests None false true d p e = absurd cc
-tests None false false true p e = absurd cc
-tests None false false false (Some fault) e = absurd cc
-tests None false false false None e = (refl, refl, refl, refl, refl)
+tests o b c d p e = grind (arith, nat_tests)
 
 pub kept_tests : (apid : ℕ) (s : FateState) (packet : List ℕ) → fate apid s packet ≡ Kept → PassesTests apid s packet
 unfolding fate
-kept_tests apid s packet e =
-    let t = tests (skip_of apid packet) (is_foreign s (ancillary_in packet)) (is_late s.last (ancillary_in packet))
-    (is_out_of_place s.last (flags_in packet) (ancillary_in packet)) (refusal_in s.geometry packet) e in
-    record { mine = t.0; own = t.1; early = t.2; placed = t.3; head = t.4 }
+kept_tests apid s packet e = grind (arith, nat_tests, tests)
 
 -- ---- what a packet does
 
@@ -82,19 +74,11 @@ begins_later : (last : Option LastPart) (a : Ancillary) → is_late last a ≡ f
 begins_later last a early first l e = grind (arith, nat_tests, later_index)
 
 next_part : (i j part next : ℕ) (closed : Bool) → ((i == j) && ((part == next) && not closed)) ≡ true → (i ≡ j) × (part ≡ next) × (closed ≡ false)
-next_part i j part next true e = absurd (let no : ((i == j) && ((part == next) && false)) ≡ true = e in none (i == j) (part == next) no)
-  where
-    none : (a b : Bool) → (a && (b && false)) ≡ true → ⊥
-    none a b e = grind (arith, nat_tests, false≢true)
-next_part i j part next false e =
-    let first : i ≡ j = grind (arith, nat_tests) in
-    let second : part ≡ next = grind (arith, nat_tests) in
-    (first, second, refl)
+next_part i j part next closed e = grind (arith, nat_tests, false≢true)
 
 follows_last : (last : Option LastPart) (a : Ancillary) → follows last a ≡ true →
     (l : LastPart) × (last ≡ Some l) × (a.index ≡ l.index) × (a.part ≡ l.part + 1) × (l.closed ≡ false)
-follows_last None a e = absurd (false≢true e)
-follows_last (Some l) a e = let t = next_part a.index l.index a.part (l.part + 1) l.closed e in (l, refl, t.0, t.1, t.2)
+follows_last last a e = grind (arith, nat_tests, false≢true, next_part)
 
 pub or_second : (a b : Bool) → (a || not b) ≡ false → b ≡ true
 or_second a b e = grind (arith, nat_tests, false≢true)
@@ -115,8 +99,7 @@ does apid s x = by_kept (is_kept (fate apid s x)) refl
       kept_are = λ xs. rw keeps refl;
     })
     by_part false part keeps is t =
-        let placed : (begins (flags_in x) || not (follows s.last (ancillary_in x))) ≡ false = rw part at t.placed in
-        let f = follows_last s.last (ancillary_in x) (or_second (begins (flags_in x)) (follows s.last (ancillary_in x)) placed) in
+        let f = follows_last s.last (ancillary_in x) (or_second (begins (flags_in x)) (follows s.last (ancillary_in x)) (rw part at t.placed)) in
         inr (inr record {
           is_kept = keeps;
           before = f.0;
@@ -160,10 +143,7 @@ some_same : {a b : LastPart} → Some a ≡ Some b → a ≡ b
 some_same e = cc
 
 same_or_not : (m n : ℕ) → (m ≡ n) ⊎ (m ≡ n → ⊥)
-same_or_not m n = elim (cases_lt m n) [
-  | inl less ↦ inr (λ e. omega (arith, e, less))
-  | inr rest ↦ elim (cases_lt n m) [ inl more ↦ inr (λ e. omega (arith, e, more)) | inr least ↦ inl (omega (arith, rest, least)) ]
-]
+same_or_not m n = grind (arith, nat_tests)
 
 -- a later segment was begun, or its text is closed
 pub record IsShut (index : ℕ) (s : FateState) : Type 0 where
@@ -286,8 +266,7 @@ before_none index apid s (x ∷ xs) below = elim (does apid s x) [
     earlier : (after apid s x).last ≡ Some (part_in x) → index_in x ≡ index → ⊥
     earlier last e =
         let r = reached_on index apid (after apid s x) xs record { last = part_in x; last_is = last; least = omega (arith, e) } in
-        let b = below r.last r.last_is in
-        absurd (omega (arith, b, r.least))
+        absurd (omega (arith, below r.last r.last_is, r.least))
 
     past : (after apid s x).last ≡ Some (part_in x) → kept apid s (x ∷ xs) ≡ x ∷ kept apid (after apid s x) xs →
         packets_at index (kept apid (after apid s x) xs) ≡ [] → packets_at index (kept apid s (x ∷ xs)) ≡ []

@@ -1,6 +1,5 @@
 pub mod Equations
 pub mod Outputs
-mod Examples
 pub mod OutPackets
 pub mod FateLaws
 pub mod ChosenLaws

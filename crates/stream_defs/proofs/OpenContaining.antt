@@ -41,8 +41,7 @@ any_chosen f p (suc n) a i low high e h = elim (cases_lt a i) [
 ]
   where
     past : (b : Bool) → list_any f (filter p (range_with_len (a + 1) n)) ≡ true → list_any f (if b then a ∷ filter p (range_with_len (a + 1) n) else filter p (range_with_len (a + 1) n)) ≡ true
-    past true rest = or_right (f a) _ rest
-    past false rest = rest
+    past b rest = grind (arith, nat_tests, or_right)
 
     first : (b : Bool) → b ≡ true → f a ≡ true → list_any f (if b then a ∷ filter p (range_with_len (a + 1) n) else filter p (range_with_len (a + 1) n)) ≡ true
     first b e h = rw e (or_left (f a) _ h)
@@ -71,8 +70,7 @@ module _ (g : Geometry) (received : ℕ → Option (List (List ℤ))) (numbers :
   block_same : (t k : ℕ) → k < c → lost t ≡ false → SameBlock (pyramid_with numbers c g.weights.shifts) (pyramid_with (number_at g received) c g.weights.shifts) t k
   block_same t k lt kept =
       let known = or_parts (is_missing g received t) (nat_le n t) kept in
-      let low : t < n = below (nat_le n t) refl known.1 in
-      let next : (t + 1) * c ≤ n * c = mul-le-mul_right c (omega (arith, low)) in
+      let next : (t + 1) * c ≤ n * c = mul-le-mul_right c (omega (arith, below (nat_le n t) refl known.1)) in
       let more : (t + 1) * c ≡ t * c + c = grind arith in
       same_block numbers (number_at g received) c g.weights.shifts t k (λ i small. are.at (t * c + k) i (omega (arith, next, more, lt)) small (kept_there t k known.0 lt))
     where
@@ -105,9 +103,7 @@ module _ (g : Geometry) (received : ℕ → Option (List (List ℤ))) (numbers :
   unfolding picture_of
   contained_open i j inside across uncovered =
       let bands : band_rows g n ≡ n + 3 = rw (is_open g.rows untold) refl in
-      let high = height_is in
-      let same : SameReceived (λ t s. lost t) (band_rows g n) c (pyramid_with numbers c g.weights.shifts) (pyramid_with (number_at g received) c g.weights.shifts) =
-      record { block = λ t s low lt kept. block_same t s lt kept } in
+      let same : SameReceived (λ t s. lost t) (band_rows g n) c (pyramid_with numbers c g.weights.shifts) (pyramid_with (number_at g received) c g.weights.shifts) = grind (arith, nat_tests, block_same) in
       ap (clamped g.depth g.signed)
       (rows-reach (pyramid_with numbers c g.weights.shifts) (pyramid_with (number_at g received) c g.weights.shifts) lost (band_rows g n) c i j (omega (arith, bands)) wide
-      (omega (arith, inside, high, bands)) (omega (arith, across)) same (λ t low gone reached. unreached i t inside uncovered gone reached))
+      (omega (arith, inside, height_is, bands)) (omega (arith, across)) same (λ t low gone reached. unreached i t inside uncovered gone reached))

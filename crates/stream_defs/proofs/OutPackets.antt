@@ -52,14 +52,13 @@ module _ (told_last : Bool) (s : Setting) (all : List (List ℤ)) (coded : AreCo
       let packet = r.packet in
       let before = block_before s all coded index lt in
       let most = total_blocks-most s.width s.rows r.width rows in
-      let least : index * 1 ≤ index * s.segment = mul-le-mul_left {m = 1} {n = s.segment} index (omega (arith, segment)) in
       let long = coded.long index lt in
       let parts = few_parts (part_size s.packet) (length (segment_text s all index)) (omega (arith, packet)) in
       record {
         image = omega (arith, image);
         rows = rows_fit told_last rows;
         segment = omega (arith, segment);
-        index = omega (arith, least, before, most);
+        index = omega (arith, mul-le-mul_left {m = 1} {n = s.segment} index (omega (arith, segment)), before, most);
         first = omega (arith, before, most);
         part = omega (arith, few, parts, long);
       }
@@ -68,14 +67,12 @@ module _ (told_last : Bool) (s : Setting) (all : List (List ℤ)) (coded : AreCo
   pub part_reads : (index part : ℕ) → index < segments_of s → part < parts_of s all index →
       ReadsBack s.apid (sequence_flags part (parts_of s all index)) (written_at told_last s index part) (part_of (part_size s.packet) part (segment_text s all index)) (packet_at told_last s all index part)
   part_reads index part lt few =
-      let apid = coded.setting.apid in
-      let packet = coded.setting.packet in
       reads_back s.apid (sequence_flags part (parts_of s all index)) (packets_before s all index + part) (written_at told_last s index part)
       (part_of (part_size s.packet) part (segment_text s all index)) record {
-        own = omega (arith, apid);
+        own = omega (arith, coded.setting.apid);
         few_flags = flags_few (part == 0) (part + 1 == parts_of s all index);
         ancillary = fits index part lt few;
-        room = omega (arith, packet, length-take (part_size s.packet) (drop (part * part_size s.packet) (segment_text s all index)));
+        room = omega (arith, coded.setting.packet, length-take (part_size s.packet) (drop (part * part_size s.packet) (segment_text s all index)));
       }
 
   -- its flags say whether it is the first and whether it is the last

@@ -14,10 +14,7 @@ use Rattle.packet_defs.proofs.Equations.{text_packets-is}
 -- one more number at the end of a range
 pub range_with_len-more : (a n : ℕ) → range_with_len a (n + 1) ≡ range_with_len a n ++ (a + n) ∷ []
 range_with_len-more a zero = let e : a + 0 ≡ a = omega arith in rw e refl
-range_with_len-more a (suc n) =
-    let e : suc n + 1 ≡ suc (n + 1) = omega arith in
-    let f : (a + 1) + n ≡ a + suc n = omega arith in
-    rw e (ap (λ r. a ∷ r) (range_with_len-more (a + 1) n ∙ ap (λ k. range_with_len (a + 1) n ++ k ∷ []) f))
+range_with_len-more a (suc n) = grind (arith, nat_tests, range_with_len-more (a + 1) n)
 
 -- no segment
 pub packets_of-none : (told_last : Bool) (s : Setting) (all : List (List ℤ)) → packets_of told_last s all 0 ≡ []

@@ -1,5 +1,5 @@
 -- The geometry by which blocks are placed, and the rows that the kept heads reach, while the height isn't reported.
-use Rattle.std.proofs.Common.{◌≡◌, ◌⊎◌, inl, inr, ◌≤◌, ◌<◌, ◌*◌, ℕ, refl, ap, ◌∙◌, arith, Bool, true, false, ◌==◌, max, ◌-◌, if◌then◌else◌, mul-le-mul_right}
+use Rattle.std.proofs.Common.{◌≡◌, ◌⊎◌, ◌≤◌, ◌<◌, ◌*◌, ℕ, refl, ap, ◌∙◌, arith, Bool, true, false, ◌==◌, max, ◌-◌, if◌then◌else◌, mul-le-mul_right}
 use Rattle.std.specs.Int.{div_ceil}
 use Rattle.std.proofs.lemmas.Bool.Decides.{nat_tests}
 use Rattle.std.proofs.lemmas.Grind.{div_ceil_times}
@@ -37,8 +37,7 @@ blocks_known g e = ap (λ n. block_count g.width * block_count n) (placed_known 
 
 -- the rows by which blocks are placed are in their range
 pub placed_least : (g : Geometry) → (g.rows ≡ 0) ⊎ IsWithin rows_range g.rows → IsWithin rows_range (placed_rows g)
-placed_least g (inl untold) = rw (is_open g.rows untold) (omega arith, omega arith)
-placed_least g (inr known) = rw (is_not_open g.rows (within_not g.rows known)) known
+placed_least g h1 = grind (arith, nat_tests, is_open, is_not_open, within_not)
 
 -- ---- rows that the kept heads reach
 
@@ -63,8 +62,7 @@ reached_rises g m n some le = by (g.rows == 0)
     rise = ceil_rises m n (block_count g.width) some le
 
     by : (b : Bool) → (if b then max rows_range.least (8 * div_ceil m (block_count g.width) - 7) else g.rows) ≤ (if b then max rows_range.least (8 * div_ceil n (block_count g.width) - 7) else g.rows)
-    by true = omega (arith, rise)
-    by false = omega arith
+    by b = grind (arith, nat_tests, rise)
 
 -- blocks of an image reach no more rows than it has
 pub reached_few : (g : Geometry) (rows n : ℕ) → g.rows ≡ 0 → 0 < block_count g.width → IsWithin rows_range rows → n ≤ total_blocks g.width rows → rows_reached g n ≤ rows

@@ -1,5 +1,5 @@
 -- Damaged rows depend only on the missing block rows that can reach them.
-use Rattle.std.proofs.Common.{◌≡◌, ◌≤◌, ◌<◌, ◌+◌, ◌-◌, ◌*◌, ℕ, List, [], ◌∷◌, length, map, refl, ap, ◌∙◌, arith, Bool, true, false, ◌==◌, ◌&&◌, ◌||◌, not, nat_lt, filter, take_while}
+use Rattle.std.proofs.Common.{◌≡◌, ◌≤◌, ◌<◌, ◌+◌, ◌-◌, ◌*◌, ℕ, List, [], ◌∷◌, length, map, refl, arith, Bool, true, false, ◌==◌, ◌&&◌, ◌||◌, not, nat_lt, filter, take_while}
 use Rattle.std.specs.List.{range_with_len, list_any}
 use Rattle.std.proofs.lemmas.Bool.{false≢true, eqb-true, or_left, or_right, ltb-true}
 use Rattle.std.proofs.lemmas.Bool.Decides.{nat_tests}
@@ -17,20 +17,11 @@ is_among xs r = list_any (λ k. k == r) xs
 -- one of them passes a test
 some_passes : (p : ℕ → Bool) (xs : List ℕ) → list_any p xs ≡ true → (r : ℕ) × (p r ≡ true) × (is_among xs r ≡ true)
 some_passes p [] e = absurd (false≢true e)
-some_passes p (x ∷ xs) e = by (some_passes p xs) (p x) refl e
-  where
-    by : (list_any p xs ≡ true → (r : ℕ) × (p r ≡ true) × (is_among xs r ≡ true)) → (b : Bool) → p x ≡ b → (b || list_any p xs) ≡ true →
-        (r : ℕ) × (p r ≡ true) × (is_among (x ∷ xs) r ≡ true)
-    by rest true is e = (x, is, or_left (x == x) _ (equal_self x))
-    by rest false is e = let some = rest e in (some.0, some.1, or_right (x == some.0) _ some.2)
+some_passes p (x ∷ xs) e = grind (arith, nat_tests, or_left, equal_self, or_right, some_passes p xs)
 
 passes_some : (p : ℕ → Bool) (xs : List ℕ) (r : ℕ) → p r ≡ true → is_among xs r ≡ true → list_any p xs ≡ true
 passes_some p [] r passes e = absurd (false≢true e)
-passes_some p (x ∷ xs) r passes e = by (passes_some p xs r passes) (x == r) refl e
-  where
-    by : (is_among xs r ≡ true → list_any p xs ≡ true) → (b : Bool) → (x == r) ≡ b → (b || is_among xs r) ≡ true → (p x || list_any p xs) ≡ true
-    by rest true is e = or_left (p x) _ (ap p (eqb-true x r is) ∙ passes)
-    by rest false is e = or_right (p x) _ (rest e)
+passes_some p (x ∷ xs) r passes e = grind (arith, nat_tests, or_left, eqb-true, or_right, passes_some p xs r passes)
 
 -- a test that only numbers below a bound pass is the same for lists with the same numbers below it
 any_below : (p : ℕ → Bool) (n : ℕ) (xs ys : List ℕ) → ((r : ℕ) → p r ≡ true → r < n) → ((r : ℕ) → r < n → is_among xs r ≡ is_among ys r) → list_any p xs ≡ list_any p ys

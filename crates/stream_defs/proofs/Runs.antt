@@ -1,5 +1,5 @@
 -- Rising numbers, and runs of consecutive ones.
-use Rattle.std.proofs.Common.{◌≡◌, ◌+◌, ℕ, zero, suc, List, [], ◌∷◌, refl, ap, subst, ◌∙◌, arith, Bool, true, false, ◌==◌, if◌then◌else◌, eq-eqb}
+use Rattle.std.proofs.Common.{◌≡◌, ◌+◌, ℕ, zero, suc, List, [], ◌∷◌, refl, ap, arith, Bool, ◌==◌, if◌then◌else◌, eq-eqb}
 use Rattle.std.specs.List.{range_with_len}
 use Rattle.std.proofs.lemmas.Bool.Decides.{nat_tests}
 use Rattle.stream_defs.specs.Chosen.{IsRising, run}
@@ -7,9 +7,7 @@ use Rattle.stream_defs.specs.Chosen.{IsRising, run}
 -- a range rises
 pub range_rises : (least n : ℕ) → IsRising least (least + n) (range_with_len least n)
 range_rises least zero = tt
-range_rises least (suc n) =
-    let e : least + 1 + n ≡ least + suc n = omega arith in
-    ((omega arith), (omega arith), subst (λ m. IsRising (least + 1) m (range_with_len (least + 1) n)) e (range_rises (least + 1) n))
+range_rises least (suc n) = grind (arith, nat_tests, range_rises (least + 1) n)
 
 -- and its numbers are consecutive
 pub run-range : (next n : ℕ) → run next (range_with_len next n) ≡ range_with_len next n
@@ -19,11 +17,7 @@ run-range next (suc n) = rw (eq-eqb next next refl) (ap (λ ks. next ∷ ks) (ru
 -- a run rises
 pub run_rises : (least next below : ℕ) (ks : List ℕ) → IsRising least below ks → IsRising least below (run next ks)
 run_rises least next below [] rising = tt
-run_rises least next below (k ∷ ks) rising = by_test (k == next) (run_rises (k + 1) (next + 1) below ks rising.2)
-  where
-    by_test : (b : Bool) → IsRising (k + 1) below (run (next + 1) ks) → IsRising least below (if b then k ∷ run (next + 1) ks else [])
-    by_test true rest = (rising.0, rising.1, rest)
-    by_test false rest = tt
+run_rises least next below (k ∷ ks) rising = grind (arith, nat_tests, run_rises (k + 1) (next + 1) below ks rising.2)
 
 -- if a run has all numbers of a range, the rising numbers are that range
 pub run_whole : (next n : ℕ) (ks : List ℕ) → IsRising next (next + n) ks → run next ks ≡ range_with_len next n → ks ≡ range_with_len next n
@@ -34,10 +28,4 @@ run_whole next (suc n) (k ∷ ks) rising e = by_test (k == next) refl e (λ r f.
   where
     by_test : (b : Bool) → (k == next) ≡ b → (if b then k ∷ run (next + 1) ks else []) ≡ next ∷ range_with_len (next + 1) n →
         (IsRising (next + 1) (next + 1 + n) ks → run (next + 1) ks ≡ range_with_len (next + 1) n → ks ≡ range_with_len (next + 1) n) → k ∷ ks ≡ next ∷ range_with_len (next + 1) n
-    by_test true t f rest =
-        let here : k ≡ next = grind (arith, nat_tests) in
-        let all : next + suc n ≡ next + 1 + n = omega arith in
-        let later : IsRising (next + 1) (next + 1 + n) ks = subst (λ m. IsRising (m + 1) (next + 1 + n) ks) here (subst (λ m. IsRising (k + 1) m ks) all rising.2) in
-        let tail : run (next + 1) ks ≡ range_with_len (next + 1) n = cc in
-        ap (λ m. m ∷ ks) here ∙ ap (λ zs. next ∷ zs) (rest later tail)
-    by_test false t f rest = cc
+    by_test b t f rest = grind (arith, nat_tests)

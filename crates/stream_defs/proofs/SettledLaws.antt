@@ -1,12 +1,12 @@
 -- The packets of settled segments are determined by the blocks that the rows so far determine.
-use Rattle.std.proofs.Common.{◌≡◌, ◌≤◌, ◌<◌, ◌+◌, ◌-◌, ◌*◌, ◌/◌, ℕ, zero, suc, ℤ, List, [], length, take, drop, refl, sym, ap, subst, ◌∙◌, arith, length-take, length-drop, Bool, true, false, ◌==◌, ◌&&◌, ◌||◌, not, nat_lt, cond, ext_get_or, get_or-take, get_or-drop, div-mul-le_self, mul-le-mul_right}
+use Rattle.std.proofs.Common.{◌≡◌, ◌≤◌, ◌<◌, ◌+◌, ◌*◌, ◌/◌, ℕ, zero, suc, ℤ, List, [], length, take, drop, refl, sym, ap, subst, ◌∙◌, arith, length-take, length-drop, Bool, true, false, ◌==◌, ◌&&◌, not, nat_lt, cond, ext_get_or, get_or-take, get_or-drop, div-mul-le_self, mul-le-mul_right}
 use Rattle.std.specs.List.{count_by, range_with_len}
 use Rattle.std.proofs.lemmas.Bool.{false≢true}
 use Rattle.std.proofs.lemmas.Bool.Decides.{nat_tests}
 use Rattle.std.proofs.lemmas.List.Sums.{sum_by-cons}
 use Rattle.std.proofs.lemmas.Nat.{le-div}
 use Rattle.base_122.specs.Ranges.{IsInRange}
-use Rattle.base_122.specs.Sizes.{block_count, total_blocks, segment_blocks}
+use Rattle.base_122.specs.Sizes.{block_count, total_blocks}
 use Rattle.base_122.specs.declared.setting.Setting.{Setting}
 use Rattle.base_122.proofs.SizeBounds.{first_block-lt, three-le-block_count}
 use Rattle.stream_defs.specs.Output.{packets_of, segment_of, segments_of}
@@ -18,30 +18,21 @@ use Rattle.stream_defs.proofs.WholeStreams.{same_packets}
 -- if a test fails from one number on, at most the numbers before it are counted
 count_few : (p : ℕ → Bool) (n a m : ℕ) → ((j : ℕ) → a + m ≤ j → j < a + n → p j ≡ false) → count_by p (range_with_len a n) ≤ m
 count_few p zero a m none = omega arith
-count_few p (suc n) a zero none =
-    let here : p a ≡ false = none a (omega arith) (omega arith) in
-    let rest : count_by p (range_with_len (a + 1) n) ≤ 0 = count_few p n (a + 1) zero (λ j low high. none j (omega (arith, low)) (omega (arith, high))) in
-    subst (λ t. t ≤ 0) (sym (sum_by-cons (λ x. cond (p x) 1 0) a (range_with_len (a + 1) n))) (by_test (p a) here rest)
-  where
-    by_test : (b : Bool) → b ≡ false → count_by p (range_with_len (a + 1) n) ≤ 0 → cond b 1 0 + count_by p (range_with_len (a + 1) n) ≤ 0
-    by_test true e rest = absurd (false≢true (sym e))
-    by_test false e rest = omega (arith, rest)
+count_few p (suc n) a zero none = grind (arith, nat_tests, sum_by-cons, false≢true, count_few p n (a + 1) zero (λ j low high. none j (omega (arith, low)) (omega (arith, high))))
 count_few p (suc n) a (suc m) none =
     let rest : count_by p (range_with_len (a + 1) n) ≤ m = count_few p n (a + 1) m (λ j low high. none j (omega (arith, low)) (omega (arith, high))) in
     subst (λ t. t ≤ suc m) (sym (sum_by-cons (λ x. cond (p x) 1 0) a (range_with_len (a + 1) n))) (by_test (p a) rest)
   where
     by_test : (b : Bool) → count_by p (range_with_len (a + 1) n) ≤ m → cond b 1 0 + count_by p (range_with_len (a + 1) n) ≤ suc m
-    by_test true rest = omega (arith, rest)
-    by_test false rest = omega (arith, rest)
+    by_test b rest = grind (arith, nat_tests)
 
 -- if the first m numbers pass a test, at least m are counted
 pub count_many : (p : ℕ → Bool) (n a m : ℕ) → m ≤ n → ((j : ℕ) → a ≤ j → j < a + m → p j ≡ true) → m ≤ count_by p (range_with_len a n)
 count_many p n a zero few each = omega arith
 count_many p zero a (suc m) few each = absurd (omega (arith, few))
 count_many p (suc n) a (suc m) few each =
-    let here : p a ≡ true = each a (omega arith) (omega arith) in
     let rest : m ≤ count_by p (range_with_len (a + 1) n) = count_many p n (a + 1) m (omega (arith, few)) (λ j low high. each j (omega (arith, low)) (omega (arith, high))) in
-    let one : cond {A = ℕ} (p a) 1 0 ≡ 1 = ap (λ b. cond b 1 0) here in
+    let one : cond {A = ℕ} (p a) 1 0 ≡ 1 = ap (λ b. cond b 1 0) (each a (omega arith) (omega arith)) in
     omega (arith, sym (sum_by-cons (λ x. cond (p x) 1 0) a (range_with_len (a + 1) n)), one, rest)
 
 -- the count is at most the number of elements
@@ -52,12 +43,7 @@ pub rows_rise : (a b c : ℕ) → 0 < c → a ≤ b → a / c ≤ b / c
 rows_rise a b c some le = let below : a / c * c ≤ a = div-mul-le_self a c in le-div (a / c) b c some (omega (arith, below, le))
 
 not_settled : (told_last : Bool) (s : Setting) (k i : ℕ) → is_settled told_last s k i ≡ false → ((not told_last && (k == s.rows)) ≡ false) × (k ≤ 8 * last_block_row s i + 28)
-not_settled told_last s k i e = by_tests (not told_last && (k == s.rows)) (nat_lt (8 * last_block_row s i + 28) k) refl refl e
-  where
-    by_tests : (a b : Bool) → (not told_last && (k == s.rows)) ≡ a → nat_lt (8 * last_block_row s i + 28) k ≡ b → (a || b) ≡ false → ((not told_last && (k == s.rows)) ≡ false) × (k ≤ 8 * last_block_row s i + 28)
-    by_tests true b x y z = absurd (false≢true (sym z))
-    by_tests false true x y z = absurd (false≢true (sym z))
-    by_tests false false x y z = (x, grind (arith, nat_tests))
+not_settled told_last s k i e = grind (arith, nat_tests, false≢true)
 
 unsettled_so : (told_last : Bool) (s : Setting) (k i : ℕ) → (not told_last && (k == s.rows)) ≡ false → k ≤ 8 * last_block_row s i + 28 → is_settled told_last s k i ≡ false
 unsettled_so told_last s k i a far = grind (arith, nat_tests)
@@ -95,8 +81,7 @@ module _ (told_last : Bool) (s : Setting) (range : IsInRange s) where
       (λ i lt.
       let few : i < S = omega (arith, lt, length-take S (drop first xs)) in
       let there : first + i < total_blocks s.width s.rows = omega (arith, lt, size, length-take S (drop first xs), length-drop first xs) in
-      let row : (first + i) / block_count s.width ≤ last_block_row s index =
-      rows_rise (first + i) (first + segment_blocks (total_blocks s.width s.rows) S index - 1) (block_count s.width) some_columns (omega (arith, few, there)) in
+      let row : (first + i) / block_count s.width ≤ last_block_row s index = grind (arith, nat_tests, rows_rise, some_columns) in
       get_or-take S (drop first xs) i [] few ∙ get_or-drop first xs i []
       ∙ agree.at (first + i) (omega (arith, row, near))
       ∙ sym (get_or-take S (drop first ys) i [] few ∙ get_or-drop first ys i []))
@@ -108,8 +93,7 @@ module _ (told_last : Bool) (s : Setting) (range : IsInRange s) where
       near index e t = let u : nat_lt (8 * last_block_row s index + 28) k ≡ true = rw e at t in grind (arith, nat_tests)
 
       all_rows : (told : Bool) → (not told && (k == s.rows)) ≡ true → k ≡ s.rows
-      all_rows true e = absurd (false≢true e)
-      all_rows false e = grind (arith, nat_tests)
+      all_rows told e = grind (arith, nat_tests, false≢true)
 
       by_rows : (b : Bool) → (not told_last && (k == s.rows)) ≡ b → packets_of told_last s xs (settled told_last s k) ≡ packets_of told_last s ys (settled told_last s k)
       by_rows true e = ap (λ zs. packets_of told_last s zs (settled told_last s k)) (agree.whole (all_rows told_last e))

@@ -1,5 +1,5 @@
 -- Shares of a total.
-use Rattle.std.proofs.Common.{◌≡◌, ◌≢◌, inl, inr, ◌≤◌, ◌<◌, ◌+◌, ◌-◌, ◌*◌, ◌/◌, ◌%◌, ℕ, zero, suc, ℤ, List, length, refl, sym, subst, arith, min, length-take, Bool, true, false, ◌==◌}
+use Rattle.std.proofs.Common.{◌≡◌, ◌≢◌, inl, inr, ◌≤◌, ◌<◌, ◌+◌, ◌-◌, ◌*◌, ◌/◌, ℕ, zero, suc, ℤ, List, length, refl, arith, min, length-take, true, false, ◌==◌}
 use Rattle.std.proofs.lemmas.Bool.Decides.{nat_tests}
 use Rattle.std.proofs.lemmas.Nat.{le-div}
 use Rattle.std.proofs.Math.Nat.{div-mul-le_self, mul-mod_left, mul-le-mul_left}
@@ -45,15 +45,7 @@ module _ (s : Setting) (range : IsInRange s) (some : s.total ≢ 0) where
 
   -- so a head can have a share as its limit
   pub said_by : (index used : ℕ) → index < segments_of s → used + 36 * (segments_of s - index) ≤ s.total → CanBeSaid s (share s index used)
-  said_by index used lt left =
-      let least = share_least index used (enough index used lt left) in
-      let e = share_is index used in
-      let m = min (parted index used) limit_range.most in
-      let most : m / s.word * s.word ≤ m = div-mul-le_self m s.word in
-      record {
-        limit = inr ((omega (arith, least)), (omega (arith, e, most)), subst (λ n. n % s.word ≡ 0) (sym e) (mul-mod_left (m / s.word) s.word));
-        fill = λ set none. omega (arith, none, least);
-      }
+  said_by index used lt left = grind (arith, nat_tests, share_least, enough, share_is, parted, div-mul-le_self, mul-mod_left)
 
   whole_parts : (index used : ℕ) → parted index used * (segments_of s - index) ≤ s.total - used
   unfolding parted
@@ -69,12 +61,8 @@ module _ (s : Setting) (range : IsInRange s) (some : s.total ≢ 0) where
   left_next index used octets lt left few =
       let m = segments_of s - index in
       let q = parted index used in
-      let much : 36 ≤ q = enough index used lt left in
-      let most = share_most index used in
-      let whole : q * m ≤ s.total - used = whole_parts index used in
-      let more : (m - 1) * 36 ≤ (m - 1) * q = mul-le-mul_left (m - 1) much in
       let part : q * m ≡ q + (m - 1) * q = spread q m (omega (arith, lt)) in
-      omega (arith, lt, left, most, few, whole, more, part)
+      omega (arith, lt, left, share_most index used, few, whole_parts index used, mul-le-mul_left (m - 1) (enough index used lt left), part)
 
   -- a text, of whatever blocks, is within its share
   pub segment_within : (segment : List (List ℤ)) (index used : ℕ) → index < segments_of s → used + 36 * (segments_of s - index) ≤ s.total →
@@ -92,9 +80,7 @@ module _ (s : Setting) (range : IsInRange s) (some : s.total ≢ 0) where
       let used = used_before s all index in
       let lt : index < segments_of s = omega (arith, le) in
       let left = left_after all index (omega (arith, le)) in
-      let next = left_next index used (length (text_with s all index used)) lt left (text_within all index used lt left) in
-      let e : index + 1 ≡ suc index = omega arith in
-      omega (arith, next, e)
+      omega (arith, left_next index used (length (text_with s all index used)) lt left (text_within all index used lt left))
 
 -- the share as it is computed
 pub share_none : (s : Setting) (index used : ℕ) → s.total ≡ 0 → share s index used ≡ s.limit
@@ -108,19 +94,7 @@ share_some s index used some = let e : (s.total == 0) ≡ false = grind (arith, 
 
 pub share_said : (s : Setting) (all : List (List ℤ)) (index : ℕ) → IsInRange s → index < segments_of s → CanBeSaid s (share s index (used_before s all index))
 unfolding share
-share_said s all index range lt = by (s.total == 0) refl
-  where
-    no : s.total ≡ 0 → (s.total == 0) ≡ false → ⊥
-    no none e = grind (arith, nat_tests)
-
-    by : (b : Bool) → (s.total == 0) ≡ b → CanBeSaid s (share s index (used_before s all index))
-    by true e =
-        let none : s.total ≡ 0 = grind (arith, nat_tests) in
-        rw e record {
-          limit = elim range.limit [ inl unset ↦ inl unset | inr here ↦ let in_range = here.0 in inr ((omega (arith, in_range)), (omega (arith, in_range)), here.1) ];
-          fill = λ set. elim (range.fill set) [ inl some ↦ some | inr other ↦ absurd (other none) ];
-        }
-    by false e = said_by s range (λ none. no none e) index (used_before s all index) lt (left_after s range (λ none. no none e) all index (omega (arith, lt)))
+share_said s all index range lt = grind (arith, nat_tests, said_by, left_after)
 
 pub total_kept : (s : Setting) (all : List (List ℤ)) → IsInRange s → s.total ≢ 0 → used_before s all (segments_of s) ≤ s.total
 total_kept s all range some = let left = left_after s range some all (segments_of s) (omega arith) in omega (arith, left)

@@ -10,9 +10,7 @@ pub pixel_small : (depth : ℕ) (signed : Bool) (z : ℤ) → 1 ≤ depth → de
 pixel_small depth true z some most p =
     let half = pow_mono {i = depth - 1} {j = 16} (omega arith) in
     record { above = omega (arith, ints, p.low, half); below = omega (arith, ints, p.high, half) }
-pixel_small depth false z some most p =
-    let whole = pow_mono {i = depth} {j = 16} most in
-    record { above = omega (arith, ints, p.low); below = omega (arith, ints, p.high, whole) }
+pixel_small depth false z some most p = record { above = omega (arith, ints, p.low); below = omega (arith, ints, p.high, pow_mono {i = depth} {j = 16} most) }
 
 -- a coefficient with the greatest weight is below 2 ^ 27 in magnitude
 pub within_small : (z : ℤ) → IsWithin 128000000 z → unsigned_abs z < 2 ^ 27

@@ -88,15 +88,13 @@ module _ (told_last : Bool) (s : Setting) (all : List (List ℤ)) (coded : AreCo
   complete_by : (index n : ℕ) → index < segments_of s → parts_of s all index ≡ n → 1 ≤ n → IsComplete (map (packet_at told_last s all index) (range_with_len 0 n))
   complete_by index zero lt e some = absurd (omega (arith, some))
   complete_by index (suc n) lt e some =
-      let few : n < parts_of s all index = omega (arith, e) in
-      let rising : IsRising 0 (parts_of s all index) (range_with_len 0 (suc n)) = subst (λ m. IsRising 0 (parts_of s all index) (range_with_len 0 m)) e (all_rise index) in
       record {
         front = map (packet_at told_last s all index) (range_with_len 0 n);
         closing = packet_at told_last s all index n;
         parts_are = last_packet index n;
-        numbers = numbers index 0 (range_with_len 0 (suc n)) lt rising
+        numbers = numbers index 0 (range_with_len 0 (suc n)) lt (subst (λ m. IsRising 0 (parts_of s all index) (range_with_len 0 m)) e (all_rise index))
             ∙ ap (range_with_len 0) (sym (length-map (range_with_len 0 (suc n)) (packet_at told_last s all index) ∙ length-range_with_len 0 (suc n)));
-        closed = part_closes told_last s all coded index n lt few ∙ eq-eqb (n + 1) (parts_of s all index) (omega (arith, e));
+        closed = part_closes told_last s all coded index n lt (omega (arith, e)) ∙ eq-eqb (n + 1) (parts_of s all index) (omega (arith, e));
       }
 
   complete_only_by : (index n : ℕ) → index < segments_of s → IsRising 0 (parts_of s all index) (range_with_len 0 n) → IsComplete (map (packet_at told_last s all index) (range_with_len 0 n)) → n ≡ parts_of s all index
@@ -109,8 +107,7 @@ module _ (told_last : Bool) (s : Setting) (all : List (List ℤ)) (coded : AreCo
       let few : n < parts_of s all index = rising_last 0 (parts_of s all index) n (range_with_len 0 n) (subst (IsRising 0 (parts_of s all index)) (range_last n) rising) in
       let same : c.closing ≡ packet_at told_last s all index n = last_is c.front (map (packet_at told_last s all index) (range_with_len 0 n)) c.closing (packet_at told_last s all index n) (sym c.parts_are ∙ last_packet index n) in
       let closed : (n + 1 == parts_of s all index) ≡ true = sym (part_closes told_last s all coded index n lt few) ∙ ap (λ p. closes (flags_in p)) (sym same) ∙ c.closed in
-      let e : n + 1 ≡ parts_of s all index = eqb-true (n + 1) (parts_of s all index) closed in
-      omega (arith, e)
+      omega (arith, eqb-true (n + 1) (parts_of s all index) closed)
 
   -- rising parts are complete only if they are all parts
   complete_only : (index : ℕ) (ks : List ℕ) → index < segments_of s → IsRising 0 (parts_of s all index) ks → IsComplete (map (packet_at told_last s all index) ks) → ks ≡ all_parts s all index
@@ -124,12 +121,11 @@ module _ (told_last : Bool) (s : Setting) (all : List (List ℤ)) (coded : AreCo
   text_so_far index (suc n) lt few =
       let size = part_size s.packet in
       let text = segment_text s all index in
-      let e : n * size + size ≡ suc n * size = omega arith in
       ap (flat_map text_in) (last_packet index n)
       ∙ flat_map-append text_in (map (packet_at told_last s all index) (range_with_len 0 n)) (packet_at told_last s all index n ∷ [])
       ∙ ap (λ zs. zs ++ flat_map text_in (packet_at told_last s all index n ∷ [])) (text_so_far index n lt (omega (arith, few)))
       ∙ ap (λ zs. take (n * size) text ++ zs) (append-nil (text_in (packet_at told_last s all index n)) ∙ (part_reads told_last s all coded index n lt (omega (arith, few))).text_is)
-      ∙ sym (take-add (n * size) size text) ∙ ap (λ n. take n text) e
+      ∙ sym (take-add (n * size) size text) ∙ ap (λ n. take n text) (omega arith)
 
   whole_text : (index : ℕ) → index < segments_of s → text_of_parts (map (packet_at told_last s all index) (all_parts s all index)) ≡ segment_text s all index
   whole_text index lt = grind (arith, nat_tests, lt-div-mul-add, text_so_far, take_all)
@@ -142,13 +138,12 @@ module _ (told_last : Bool) (s : Setting) (all : List (List ℤ)) (coded : AreCo
     others at zero few far = refl
     others at (suc n) few far =
         let e : n + 1 ≡ suc n = omega arith in
-        let test : (n == at) ≡ false = ne_eqb n at (λ e. omega (arith, e, far)) in
         ap (λ m. packets_at at (chosen told_last s all parts m)) (sym e)
         ∙ ap (packets_at at) (chosen_more told_last s all coded parts choice parts n)
         ∙ filter-append (λ packet. index_in packet == at) (chosen told_last s all parts n) (map (packet_at told_last s all n) (parts n))
         ∙ ap (λ zs. zs ++ packets_at at (map (packet_at told_last s all n) (parts n))) (others at n (omega (arith, few)) (omega (arith, far)))
         ∙ picks at n 0 (parts n) (omega (arith, few)) (choice.each n (omega (arith, few)))
-        ∙ ap (λ b. if b then map (packet_at told_last s all n) (parts n) else []) test
+        ∙ ap (λ b. if b then map (packet_at told_last s all n) (parts n) else []) (ne_eqb n at (λ e. omega (arith, e, far)))
 
     picked : (at n : ℕ) → n ≤ segments_of s → at < n → packets_at at (chosen told_last s all parts n) ≡ map (packet_at told_last s all at) (parts at)
     unfolding packets_at
@@ -167,8 +162,7 @@ module _ (told_last : Bool) (s : Setting) (all : List (List ℤ)) (coded : AreCo
               parted ∙ ap (λ b. front ++ (if b then map (packet_at told_last s all n) (parts n) else [])) test ∙ append-nil front ∙ picked at n (omega (arith, few)) before
           | inr last ↦
               let same : n ≡ at = omega (arith, last, lt) in
-              let test : (n == at) ≡ true = eq-eqb n at same in
-              parted ∙ ap (λ b. front ++ (if b then map (packet_at told_last s all n) (parts n) else [])) test
+              parted ∙ ap (λ b. front ++ (if b then map (packet_at told_last s all n) (parts n) else [])) (eq-eqb n at same)
               ∙ ap (λ zs. zs ++ map (packet_at told_last s all n) (parts n)) (others at n (omega (arith, few)) (omega (arith, same)))
               ∙ ap (λ m. map (packet_at told_last s all m) (parts m)) same
         ]
@@ -195,8 +189,7 @@ module _ (told_last : Bool) (s : Setting) (all : List (List ℤ)) (coded : AreCo
   pub complete_where_all : (index : ℕ) → index < segments_of s → IsComplete (packets_at index (kept s.apid fresh (chosen told_last s all parts (segments_of s)))) → parts index ≡ all_parts s all index
   complete_where_all index lt whole =
       let run_all : goes index ≡ all_parts s all index = complete_only told_last s all coded index (goes index) lt (go_on.each index lt) (subst IsComplete (kept_at index lt) whole) in
-      let e : 0 + parts_of s all index ≡ parts_of s all index = omega arith in
-      run_whole 0 (parts_of s all index) (parts index) (subst (λ m. IsRising 0 m (parts index)) (sym e) (choice.each index lt)) run_all
+      run_whole 0 (parts_of s all index) (parts index) (subst (λ m. IsRising 0 m (parts index)) (sym (omega arith)) (choice.each index lt)) run_all
 
   -- if all parts are there, they are kept
   pub all_there : (index : ℕ) → index < segments_of s → parts index ≡ all_parts s all index →
@@ -217,14 +210,7 @@ module _ (told_last : Bool) (s : Setting) (all : List (List ℤ)) (coded : AreCo
   pub received_only : (holds : Acceptance) (index : ℕ) (numbers : List (List ℤ)) → index < segments_of s →
       IsReceived holds (kept s.apid fresh (chosen told_last s all parts (segments_of s))) index numbers →
       (parts index ≡ all_parts s all index) × holds (head_for s all index) (segment_text s all index) numbers
-  received_only holds index numbers lt r =
-      let whole = complete_where_all index lt r.whole in
-      let same : Ok (head_for s all index) ≡ Ok r.head = sym (head_there index lt whole) ∙ r.head_is in
-      let head : r.head ≡ head_for s all index = cc in (
-        whole,
-        subst (λ t. holds (head_for s all index) t numbers) (text_there index lt whole)
-            (subst (λ h. holds h (text_of_parts (packets_at index (kept s.apid fresh (chosen told_last s all parts (segments_of s))))) numbers) head r.accepted),
-      )
+  received_only holds index numbers lt r = grind (arith, nat_tests, complete_where_all, head_there, text_there)
 
   pub received_each : (holds : Acceptance) (index : ℕ) (numbers : List (List ℤ)) → index < segments_of s → parts index ≡ all_parts s all index →
       holds (head_for s all index) (segment_text s all index) numbers → IsReceived holds (kept s.apid fresh (chosen told_last s all parts (segments_of s))) index numbers

@@ -1,5 +1,5 @@
 -- Numbers can be chosen that have any value that the next item of some numbers may have.
-use Rattle.std.proofs.Common.{◌≡◌, ℕ, zero, suc, ◌+◌, ◌*◌, ◌-◌, ◌%◌, ◌^◌, ◌<◌, ◌≤◌, min, List, ◌∷◌, length, get_or, Bool, true, false, eqb, cond, refl, sym, ap, subst, ◌∙◌, arith, inl, inr, length-append, mod-eq_of_lt}
+use Rattle.std.proofs.Common.{◌≡◌, ℕ, zero, suc, ◌+◌, ◌*◌, ◌-◌, ◌%◌, ◌^◌, ◌<◌, ◌≤◌, min, List, ◌∷◌, length, get_or, Bool, true, false, eqb, cond, refl, sym, ap, subst, arith, inl, inr, length-append, mod-eq_of_lt}
 use Rattle.std.proofs.lemmas.Bool.{cases_lt}
 use Rattle.std.proofs.lemmas.Bool.Decides.{nat_tests}
 use Rattle.std.proofs.lemmas.Nat.{pow_pos, mod_below, mod_low}
@@ -56,28 +56,18 @@ module _ (kind : Kind) (some : 1 ≤ kind.bits) (xs : List ℕ) (few : (i : ℕ)
         fits = with_few kind xs few first 0 0 small (pow_pos kind.bits);
         long = with_long kind xs few first 0 0 small (pow_pos kind.bits);
         before = before_said kind xs ys (with_long kind xs few first 0 0 small (pow_pos kind.bits)) o o 0 (λ e. absurd (omega (arith, e))) (λ j lt. refl) (λ j low high inside. absurd (omega (arith, low, high)));
-        chosen =
-            simp gaggle_items-is (record {
-              within = omega arith;
-              before = refl;
-              next =
-                  ap (λ h. complement kind.bits (number_at kind.signed kind.bits h)) (with_first kind xs few first 0 0 small (pow_pos kind.bits) inside)
-                  ∙ any_reference kind.signed kind.bits said some may.0;
-            });
+        chosen = grind (arith, nat_tests, gaggle_items-is, with_first, any_reference);
       }
 
   at_value : (g k said : ℕ) → 0 < length xs → is_option kind.bits (o g) ≡ true → k < length (value_items kind xs (o g) (places (length xs) g)) → MaySay (item_at (value_items kind xs (o g) (places (length xs) g)) k) said →
       GaggleChosen g (suc (length (lead_items kind xs g) + k)) said
   at_value g k said inside known lt may =
-      let a : ℕ = first_place g in
-      let n : ℕ = min (length xs) (16 * g + 16) - a in
-      let p = pick kind xs few (o g) a n known k said lt may in
+      let p = pick kind xs few (o g) (first_place g) (min (length xs) (16 * g + 16) - (first_place g)) known k said lt may in
       let ys : List ℕ = with_value kind xs few (get_or xs 0 0) p.place p.value (few 0) p.small in
       let long = with_long kind xs few (get_or xs 0 0) p.place p.value (few 0) p.small in
       let there = value_there kind xs few (get_or xs 0 0) p.place p.value (few 0) p.small in
       let first : get_or xs 0 0 ≡ get_or ys 0 0 = sym (with_first kind xs few (get_or xs 0 0) p.place p.value (few 0) p.small inside) in
       let chosen = p.chosen ys (value_here kind xs few (get_or xs 0 0) p.place p.value (few 0) p.small (omega (arith, p.from)) (omega (arith, p.to))) (λ j low high other. there j (omega (arith, low)) (omega (arith, high)) other) in
-      let z : k ≡ suc (length (lead_items kind xs g) + k) - suc (length (lead_items kind xs g)) = omega arith in
       record {
         ys = ys;
         u = o;
@@ -87,7 +77,7 @@ module _ (kind : Kind) (some : 1 ≤ kind.bits) (xs : List ℕ) (few : (i : ℕ)
         chosen =
             simp gaggle_items-is (choose_right (suc (length (lead_items kind xs g) + k)) said (identifier (identifier_bits kind.bits) (is_option kind.bits) (o g) ∷ lead_items kind xs g) (identifier (identifier_bits kind.bits) (is_option kind.bits) (o g) ∷ lead_items kind ys g)
             (value_items kind xs (o g) (places (length xs) g)) (value_items kind ys (o g) (places (length ys) g)) (omega arith) (ap (λ l. o g ∷ l) (lead_said kind xs ys long g first))
-            (subst (λ c. Chooses c said (value_items kind xs (o g) (places (length xs) g)) (value_items kind ys (o g) (places (length ys) g))) z
+            (subst (λ c. Chooses c said (value_items kind xs (o g) (places (length xs) g)) (value_items kind ys (o g) (places (length ys) g))) (omega arith)
             (subst (λ l. Chooses k said (value_items kind xs (o g) (places (length xs) g)) (value_items kind ys (o g) (places l g))) (sym long) chosen)));
       }
 
@@ -100,8 +90,7 @@ module _ (kind : Kind) (some : 1 ≤ kind.bits) (xs : List ℕ) (few : (i : ℕ)
       elim (cases_lt k (length lead)) [
         | inl early ↦ at_lead g k said inside early (may_same _ _ said (left_at k lead values early) may)
         | inr late ↦
-            let z : suc (length lead + (k - length lead)) ≡ suc k = omega (arith, late) in
-            subst (λ c. GaggleChosen g c said) z
+            subst (λ c. GaggleChosen g c said) (omega (arith, late))
             (at_value g (k - length lead) said inside (known (omega arith)) (omega (arith, lt, late, length-append lead values)) (may_same _ _ said (right_at k lead values late) may))
       ])
 

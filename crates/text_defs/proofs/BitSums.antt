@@ -17,14 +17,7 @@ doubled w = let z : suc w ≡ 1 + w = omega arith in ap (λ k. 2 ^ k) z ∙ pow-
 
 pub sum_bits : (n w : ℕ) → sum_by (λ b. cond (bit n b) (2 ^ b) 0) (span 0 w) ≡ n % 2 ^ w
 sum_bits n zero = sum_none (λ b. cond (bit n b) (2 ^ b) 0) ∙ (let z : 0 ≡ n % 2 ^ 0 = omega arith in z)
-sum_bits n (suc w) =
-    sum_suc (λ b. cond (bit n b) (2 ^ b) 0) w ∙ ap (λ s. s + cond (bit n w) (2 ^ w) 0) (sum_bits n w) ∙ ap (λ x. n % 2 ^ w + x) (by_bit (n / 2 ^ w % 2) (2 ^ w) (omega arith))
-    ∙ (let e = above n w in omega (arith, e))
-  where
-    by_bit : (d p : ℕ) → d < 2 → cond (d == 1) p 0 ≡ d * p
-    by_bit zero p lt = omega arith
-    by_bit (suc zero) p lt = omega arith
-    by_bit (suc (suc d)) p lt = absurd (omega arith)
+sum_bits n (suc w) = grind (arith, nat_tests, sum_suc, above, sum_bits n w)
 
 -- bit b of a number's two's complement form, with its weight
 abbrev pub low_bit : ℤ → ℕ → ℕ
@@ -35,9 +28,7 @@ sum_low (pos n) w = sum_bits n w
 sum_low (negsuc n) w = minus w
   where
     by_bit : (d p : ℕ) → d < 2 → cond (2 - 1 - d == 1) p 0 ≡ (1 - d) * p
-    by_bit zero p lt = omega arith
-    by_bit (suc zero) p lt = omega arith
-    by_bit (suc (suc d)) p lt = absurd (omega arith)
+    by_bit d p lt = grind (arith, nat_tests)
 
     by_parts : (s d p t : ℕ) → s < p → d < 2 → t ≡ d * p + s → (p - 1 - s) + (1 - d) * p ≡ 2 * p - 1 - t
     by_parts s zero p t lt two e = omega (arith, e)

@@ -2,7 +2,7 @@
 use Rattle.std.proofs.Common.{◌≡◌, ℕ, zero, suc, ◌+◌, ◌-◌, ◌<◌, ◌≤◌, Bool, List, [], ◌∷◌, ◌++◌, length, take, map, refl, ap, sym, ◌∙◌, subst, arith, ℤ, None}
 use Rattle.std.specs.List.{range_with_len}
 use Rattle.item_defs.specs.Items.{Item, item_bits, text, IsSaid, spelling}
-use Rattle.item_defs.specs.Readings.{IsItem, IsSound, AreItems, item_at}
+use Rattle.item_defs.specs.Readings.{IsItem, AreItems, item_at}
 use Rattle.item_defs.specs.Laws.{said_of}
 use Rattle.item_defs.proofs.Texts.{text_front}
 use Rattle.plane_defs.proofs.Settled.{head_same, tail_same}
@@ -56,8 +56,7 @@ pub choose_place : (f h : ℕ → Item) (a n k v : ℕ) → k < n → ((i : ℕ)
 choose_place f h a zero k v lt same e = absurd (omega arith)
 choose_place f h a (suc n) zero v lt same e = record { within = omega arith; before = refl; next = (let z : a ≡ a + 0 = omega arith in ap (λ i. (h i).said) z) ∙ e }
 choose_place f h a (suc n) (suc k) v lt same e =
-    let z : a + 1 + k ≡ a + suc k = omega arith in
-    let r = choose_place f h (a + 1) n k v (omega arith) (λ i low high. same i (omega arith) (omega arith)) (ap (λ i. (h i).said) z ∙ e) in
+    let r = choose_place f h (a + 1) n k v (omega arith) (λ i low high. same i (omega arith) (omega arith)) (ap (λ i. (h i).said) (omega arith) ∙ e) in
     record {
       within = omega (arith, r.within);
       before = ap (λ x. x ∷ said_of (take k (map f (range_with_len (a + 1) n)))) (same a (omega arith) (omega arith)) ∙ ap (λ l. (h a).said ∷ l) r.before;
@@ -92,9 +91,8 @@ further_from head rest m xs ys ds es o u more after said fits a says allowed rea
     let front = same_front m is js alike a.front.within (omega (arith, chosen.within)) a.front.taken chosen.before in
     let form : (item_at is m).form ≡ (item_at js m).form = ((next_alike is js m alike a.front.within (omega (arith, chosen.within)) a.front.taken chosen.before).0 lt).1 in
     let j = item_at js m in
-    let sound : IsSound j.form.shape = sound_at js m (segment_sound head ys es u known) chosen.within in
     let item : IsItem j = (
-      sound,
+      (sound_at js m (segment_sound head ys es u known) chosen.within),
       subst (λ n. IsSaid j.form.shape n) (sym chosen.next) (subst (λ f. IsSaid f.shape said) form says),
       ap j.form.refusal chosen.next ∙ subst (λ f. f.refusal said ≡ None) form allowed,
     ) in

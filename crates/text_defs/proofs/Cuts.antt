@@ -1,5 +1,5 @@
 -- A text of items that is cut anywhere is read up to the cut.
-use Rattle.std.proofs.Common.{◌≡◌, ℕ, suc, ◌+◌, ◌-◌, ◌<◌, inl, inr, Bool, List, [], ◌∷◌, ◌++◌, length, take, drop, ap, sym, ◌∙◌, subst, arith, length-append, append_assoc}
+use Rattle.std.proofs.Common.{◌≡◌, ℕ, suc, ◌+◌, ◌-◌, ◌<◌, inl, inr, Bool, List, [], ◌∷◌, ◌++◌, length, take, drop, ap, sym, ◌∙◌, arith, length-append, append_assoc}
 use Rattle.std.proofs.lemmas.Bool.{cases_lt}
 use Rattle.std.proofs.lemmas.List.{append-nil, take-append-drop, take-append-le, length-take-le}
 use Rattle.std.proofs.Math.Seq.{take-append-add, take-length}
@@ -8,17 +8,16 @@ use Rattle.item_defs.specs.Readings.{IsItem, AreItems, Lacks}
 use Rattle.item_defs.proofs.Texts.{text-cons, text_front}
 use Rattle.item_defs.proofs.Spellings.{one_spelling}
 use Rattle.text_defs.specs.Fronts.{Front, NothingFollows}
+use Rattle.std.proofs.lemmas.Bool.Decides.{nat_tests}
 
 -- a code that is cut has no other code as a prefix
 cut_lacks : (i : Item) (n : ℕ) → IsItem i → n < length (item_bits i) → Lacks i.form.shape (take n (item_bits i))
 cut_lacks i n item lt s more said e =
     let bits = item_bits i in
-    let whole : spelling i.form.shape i.said ++ [] ≡ spelling i.form.shape s ++ (more ++ drop n bits) =
-    append-nil bits ∙ sym (take-append-drop n bits) ∙ ap (λ l. l ++ drop n bits) e ∙ append_assoc (spelling i.form.shape s) more (drop n bits) in
+    let whole : spelling i.form.shape i.said ++ [] ≡ spelling i.form.shape s ++ (more ++ drop n bits) = grind (arith, nat_tests, append-nil, take-append-drop, append_assoc) in
     let one = one_spelling i.form.shape i.said s [] (more ++ drop n bits) item.0 item.1 said whole in
-    let long : length (take n bits) ≡ n = length-take-le n bits (omega arith) in
     let same : length (spelling i.form.shape s) ≡ length bits = ap (λ k. length (spelling i.form.shape k)) (sym one.0) in
-    omega (arith, lt, long, same, ap length e, length-append (spelling i.form.shape s) more)
+    omega (arith, lt, length-take-le n bits (omega arith), same, ap length e, length-append (spelling i.form.shape s) more)
 
 -- how far a cut text is read
 pub record CutFront (items : List Item) (bits : List Bool) : Type 0 where
@@ -33,14 +32,7 @@ cut_front (i ∷ is) all n lt =
     let bits = item_bits i in
     let parts : text (i ∷ is) ≡ bits ++ text is = text-cons i is in
     elim (cases_lt n (length bits)) [
-      | inl inside ↦
-          let cut : take n (text (i ∷ is)) ≡ take n bits = ap (take n) parts ∙ take-append-le n bits (text is) (omega arith) in
-          record {
-            count = 0;
-            more = take n bits;
-            front = record { within = omega arith; taken = tt; read = cut };
-            ends = record { within = omega arith; lacks = cut_lacks i n all.0 inside };
-          }
+      | inl inside ↦ grind (arith, nat_tests, take-append-le, cut_lacks)
       | inr past ↦
           let k = n - length bits in
           let here : n ≡ length bits + k = omega arith in
@@ -60,6 +52,4 @@ cut_front (i ∷ is) all n lt =
 
 -- a text that is not cut is read whole
 pub whole_front : (items : List Item) (more : List Bool) → AreItems items → Front items (length items) (text items ++ more) more
-whole_front items more all =
-    let same = take-length items in
-    record { within = omega arith; taken = subst AreItems (sym same) all; read = ap (λ l. text l ++ more) (sym same) }
+whole_front items more all = grind (arith, nat_tests, take-length)

@@ -5,11 +5,11 @@ use Rattle.std.proofs.lemmas.Bool.{cases_lt}
 use Rattle.std.proofs.lemmas.Bool.Decides.{nat_tests}
 use Rattle.std.proofs.lemmas.Int.{ints}
 use Rattle.std.proofs.lemmas.List.{length-map, get_or-map, get_or-set_same, get_or-set_other}
-use Rattle.item_defs.specs.Items.{Item, raw}
+use Rattle.item_defs.specs.Items.{Item}
 use Rattle.item_defs.specs.Readings.{AreItems, item_at}
 use Rattle.item_defs.specs.Laws.{said_of}
-use Rattle.number_defs.specs.Ranges.{IsInRange, height_of, number_at, shifted_height, complement}
-use Rattle.number_defs.specs.Gaggles.{gaggle_count, items_before, number_items}
+use Rattle.number_defs.specs.Ranges.{IsInRange, number_at, shifted_height, complement}
+use Rattle.number_defs.specs.Gaggles.{number_items}
 use Rattle.number_defs.specs.DcPart.{dc_q, dc_bits, dc_kind, dc_bit, high_items, planes_before, dc_planes, dc_items}
 use Rattle.number_defs.specs.Laws.{DcsFit}
 use Rattle.number_defs.proofs.Heights.{height_back}
@@ -55,10 +55,7 @@ bit_small b (x ∷ vs) (suc k) said lt may = bit_small b vs k said (omega (arith
 
 planes_said : (q n : ℕ) (vs ws : List ℤ) → length ws ≡ length vs → ((i c : ℕ) → q - n ≤ c → c < q → complement 1 (int_shr (At vs i) c) ≡ complement 1 (int_shr (At ws i) c)) → n ≤ q → said_of (planes_before q vs n) ≡ said_of (planes_before q ws n)
 planes_said q zero vs ws long same le = simp planes_before-none
-planes_said q (suc n) vs ws long same le = simp planes_before-more (
-    said_both (planes_before q vs n) (planes_before q ws n) (map (dc_bit (q - suc n)) vs) (map (dc_bit (q - suc n)) ws)
-    (planes_said q n vs ws long (λ i c low high. same i c (omega (arith, low)) high) (omega (arith, le)))
-    (bits_said (dc_bit (q - suc n)) vs ws long (λ i lt. same i (q - suc n) (omega arith) (omega (arith, le)))))
+planes_said q (suc n) vs ws long same le = grind (arith, nat_tests, planes_before-more, said_both, bits_said, planes_said q n vs ws long (λ i c low high. same i c (omega (arith, low)) high) (omega (arith, le)))
 
 -- bit b of the number at this place is changed, and in all numbers the bits above it stay
 record PlanesChosen (q n : ℕ) (vs : List ℤ) (k said : ℕ) : Type 0 where
@@ -80,7 +77,6 @@ keeps_all f vs place i z inside e = set_at vs place i z (pos 0) (λ x. f (At vs 
 planes_choice : (q n : ℕ) (vs : List ℤ) (k said : ℕ) → n ≤ q → k < length (planes_before q vs n) → MaySay (item_at (planes_before q vs n) k) said → PlanesChosen q n vs k said
 planes_choice q zero vs k said le lt may = let none = simp planes_before-none at lt in absurd (omega (arith, none))
 planes_choice q (suc n) vs k said le lt may =
-    let lt = simp planes_before-more at lt in
     let may = simp planes_before-more at may in
     let early = planes_before q vs n in
     let b : ℕ = q - suc n in
@@ -92,7 +88,7 @@ planes_choice q (suc n) vs k said le lt may =
           record { place = r.place; b = r.b; inside = r.inside; low = omega (arith, r.low); high = r.high; bit = r.bit; chosen = simp planes_before-more (choose_left k said early (planes_before q ws n) here (map (dc_bit b) ws) low r.chosen) }
       | inr late ↦
           let r : ℕ = k - length early in
-          let inside : r < length vs = omega (arith, lt, late, length-append early here, length-map vs (dc_bit b)) in
+          let inside : r < length vs = omega (arith, (simp planes_before-more at lt), late, length-append early here, length-map vs (dc_bit b)) in
           let small : said < 2 = bit_small b vs r said inside (may_same _ _ said (right_at k early here late) may) in
           let z : ℤ = with_bit (At vs r) b said in
           let ws : List ℤ = set vs r z in
@@ -124,8 +120,7 @@ one_bit_says d lt = grind (arith, nat_tests)
 
 one_bit_fits : (d : ℕ) → IsInRange true 1 (one_bit d)
 unfolding one_bit
-one_bit_fits zero = record { low = omega (arith, ints); high = omega (arith, ints) }
-one_bit_fits (suc d) = record { low = omega (arith, ints); high = omega (arith, ints) }
+one_bit_fits d = grind (arith, nat_tests)
 
 height_fits : (N h : ℕ) → h < 2 ^ N → IsInRange true N (number_at true N h)
 height_fits N h lt = record { low = omega (arith, ints); high = omega (arith, ints, lt) }
@@ -137,8 +132,7 @@ of_height N q h = lifted (number_at true N h) q
 heights_again : (N q : ℕ) (hs : List ℕ) → map (shifted_height true N q) (map (of_height N q) hs) ≡ hs
 unfolding of_height
 heights_again N q [] = refl
-heights_again N q (h ∷ hs) =
-    ap (λ x. x ∷ map (shifted_height true N q) (map (of_height N q) hs)) (ap (height_of true N) (lifted_back (number_at true N h) q) ∙ height_back true N h) ∙ ap (λ l. h ∷ l) (heights_again N q hs)
+heights_again N q (h ∷ hs) = grind (arith, nat_tests, of_height, lifted_back, height_back, heights_again N q hs)
 
 of_height_at : (N q : ℕ) (hs : List ℕ) (i : ℕ) → i < length hs → At (map (of_height N q) hs) i ≡ of_height N q (get_or hs i 0)
 of_height_at N q hs i lt = get_or-map (of_height N q) hs i 0 (pos 0) lt
@@ -201,9 +195,7 @@ high_choice N q vs o k said some inside fit all lt may = by_bits (eqb N 1) refl 
               subst (λ x. IsInRange true N (int_shr x q)) (sym (of_height_at N q r.ys i (omega (arith, lt, length-map r.ys (of_height N q)))))
               (lifted_fits N q (get_or r.ys i 0) (r.fits i));
           times = λ s le each i. height_times N q s r.ys le i;
-          chosen =
-              choose_as k said _ _ _ _ (high_are N q false vs o e) (high_are N q false zs r.u e ∙ ap (λ l. number_items (dc_kind N) l r.u) (heights_again N q r.ys))
-              (subst (λ n. Chooses k said (number_items (dc_kind N) hs o) (items_before (dc_kind N) r.ys r.u (gaggle_count n))) (sym r.long) r.chosen);
+          chosen = grind (arith, nat_tests, choose_as, high_are, heights_again);
         }
 
 -- ---- the DC part
@@ -258,6 +250,4 @@ dc_choice depth_dc depth_ac shift vs o k said inside fit times all lt may =
     map_same f (v ∷ vs) (suc place) z lt e = ap (λ l. f v ∷ l) (map_same f vs place z (omega (arith, lt)) e)
 
     high_same : (N q : ℕ) (vs : List ℤ) (place : ℕ) (z : ℤ) (o : ℕ → ℕ) → place < length vs → int_shr (At vs place) q ≡ int_shr z q → high_items N q vs o ≡ high_items N q (set vs place z) o
-    high_same N q vs place z o lt e =
-        ap (λ l. cond (eqb N 1) l (number_items (dc_kind N) (map (shifted_height true N q) vs) o)) (map_same (dc_bit q) vs place z lt (ap (λ x. raw (complement 1 x)) e))
-        ∙ ap (λ l. cond (eqb N 1) (map (dc_bit q) (set vs place z)) (number_items (dc_kind N) l o)) (map_same (shifted_height true N q) vs place z lt (ap (height_of true N) e))
+    high_same N q vs place z o lt e = grind (arith, nat_tests, map_same)

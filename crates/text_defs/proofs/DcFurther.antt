@@ -14,7 +14,7 @@ use Rattle.segment_defs.specs.declared.head.SegmentHead.{SegmentHead}
 use Rattle.segment_defs.specs.Head.{IsHead}
 use Rattle.segment_defs.specs.Depths.{dc_of, dcs_of}
 use Rattle.segment_defs.specs.SegmentItems.{Options, dc_shift, dc_part_items, items_after_dc, segment_items}
-use Rattle.wave_defs.specs.Blocks as blocks
+use Rattle.wave_defs.proofs.BlockLaws.{place_of-first}
 use Rattle.text_defs.specs.Spellable.{IsSpellable}
 use Rattle.text_defs.specs.Outcomes.{Reading}
 use Rattle.text_defs.proofs.Onward.{zero_number}
@@ -27,8 +27,7 @@ use Rattle.segment_defs.proofs.Equations.{segment_items-is}
 
 -- the DC's band has position 0
 pub dc_band : (head : SegmentHead) → shift head.image.weights.shifts 0 ≡ dc_shift head
-unfolding blocks.place_of
-dc_band head = refl
+dc_band head = simp place_of-first
 
 -- ---- blocks in which only the DC is not 0
 

@@ -43,11 +43,7 @@ planes_said q vs ws same (suc count) k n r e lt within le =
     let parts = by_length k (planes_before q vs count) (planes_before q ws count) (map (dc_bit (q - suc count)) vs) (map (dc_bit (q - suc count)) ws) long e in
     elim (cases_lt n count) [
       | inl early ↦ planes_said q vs ws same count k n r parts.0 early within le
-      | inr last ↦
-          let at : count ≡ n = omega arith in
-          let here : r < k - length (planes_before q vs count) = omega (arith, length-planes_before q vs count, le, ap (λ c. c * length vs) at) in
-          let said = each_place (dc_bit (q - suc count)) vs ws (k - length (planes_before q vs count)) r parts.1 here within (omega (arith, within, same)) in
-          subst (λ c. complement 1 (int_shr (get_or vs r (pos 0)) (q - suc c)) ≡ complement 1 (int_shr (get_or ws r (pos 0)) (q - suc c))) at said
+      | inr last ↦ grind (arith, nat_tests, length-planes_before, each_place)
     ])
 
 -- the items of the DC part
@@ -128,17 +124,13 @@ module _ (head : SegmentHead) (xs ys : List (List ℤ)) (ds es : List ℕ) (o u 
         let n : ℕ = q_of head - (b + 1) in
         let planes : ℕ = dc_planes head.depth_dc head.depth_ac (dc_shift head) in
         elim both [
-          | inl early ↦
-              let left = not_given (length (high xs o)) n (length xs) r m planes early.first in
-              let right = not_given (length (high ys u)) n (length ys) r m planes early.second in
-              (left ∙ sym right, λ e. nothing (sym left ∙ e))
+          | inl early ↦ grind (arith, nat_tests, not_given, nothing)
           | inr past ↦ (
             ap (λ h. nat_lt n planes && nat_le (h + n * length xs + r + 1) m) past.long ∙ ap (λ l. nat_lt n planes && nat_le (length (high ys u) + n * l + r + 1) m) (p.blocks_all ∙ sym q.blocks_all),
             λ e.
                 let g = given_from (length (high xs o)) n (length xs) r m planes e in
-                let at : q_of head - suc n ≡ b = omega arith in
                 let here : n * length (dcs_of xs) + r + 1 ≤ m - length (high xs o) = subst (λ l. n * l + r + 1 ≤ m - length (high xs o)) (sym (length-map xs dc_of)) (by_rest (length (high xs o)) n (length xs) g.1) in
-                subst (λ c. complement 1 (int_shr x c) ≡ complement 1 (int_shr y c)) at
+                subst (λ c. complement 1 (int_shr x c) ≡ complement 1 (int_shr y c)) (omega arith)
                 (planes_said (q_of head) (dcs_of xs) (dcs_of ys) long planes (m - length (high xs o)) n r past.rest g.0 at_x here),
           )
         ]

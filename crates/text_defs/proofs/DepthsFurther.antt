@@ -56,9 +56,7 @@ set_chosen : (ds : List ℕ) (k v : ℕ) → k < length ds → Chooses k v (map 
 unfolding set_at
 set_chosen [] k v lt = absurd (omega (arith, lt))
 set_chosen (d ∷ ds) zero v lt = record { within = omega arith; before = refl; next = refl }
-set_chosen (d ∷ ds) (suc k) v lt =
-    let r = set_chosen ds k v (omega (arith, lt)) in
-    record { within = omega (arith, r.within); before = ap (λ l. d ∷ l) r.before; next = r.next }
+set_chosen (d ∷ ds) (suc k) v lt = grind (arith, nat_tests, set_chosen ds k v (omega (arith, lt)))
 
 raw_at : (ds : List ℕ) (k : ℕ) → k < length ds → (item_at (map raw ds) k).form ≡ (raw 0).form
 raw_at [] k lt = absurd (omega (arith, lt))
@@ -170,8 +168,7 @@ depths_further head rest m xs ds o more after said fits a goes_on low high may r
     let p = a.spellable in
     let parts : segment_items head xs ds o ≡ D ++ (Z ++ P) = planes_are head xs ds o goes_on in
     let within : c < length Z = omega (arith, low, high) in
-    let all : AreItems (take m (D ++ (Z ++ P))) = subst (λ l. AreItems (take m l)) parts a.front.taken in
-    let all_depths : AreItems (take c Z) = first_are c Z P (are_rest m D (Z ++ P) all low) in
+    let all_depths : AreItems (take c Z) = first_are c Z P (are_rest m D (Z ++ P) (subst (λ l. AreItems (take m l)) parts a.front.taken) low) in
     let at : item_at (segment_items head xs ds o) m ≡ item_at Z c = ap (λ l. item_at l m) parts ∙ right_at m D (Z ++ P) low ∙ left_at c Z P within in
     let r = any_depths head.depth_ac ds o.depths c said fits.depth_ac p.depths_few (omega (arith, p.depths_all, fits.blocks.0)) all_depths within (may_same _ _ said at may) in
     let ys : List (List ℤ) = map blank xs in

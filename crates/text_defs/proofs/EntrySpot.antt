@@ -3,7 +3,7 @@ use Rattle.std.proofs.Common.{◌≡◌, ◌⊎◌, ℕ, zero, suc, ◌+◌, ◌
 use Rattle.std.specs.List.{list_any}
 use Rattle.std.proofs.lemmas.Bool.Decides.{nat_tests}
 use Rattle.item_defs.specs.Bits.{digit}
-use Rattle.item_defs.specs.Items.{Item, raw, plain, code, false_flag, IsSaid}
+use Rattle.item_defs.specs.Items.{Item, raw, plain, code, false_flag}
 use Rattle.item_defs.specs.Readings.{item_at}
 use Rattle.base_122.specs.declared.book.Book.{Book}
 use Rattle.plane_defs.specs.declared.entries.Entry.{Entry}
@@ -15,7 +15,7 @@ use Rattle.plane_defs.specs.Codes.{symbol, codes_of, code_bits, code_at, option_
 use Rattle.plane_defs.specs.Spelled.{is_word_of, option_of}
 use Rattle.plane_defs.specs.Steps.{Check, refuses}
 use Rattle.plane_defs.specs.StepLaws.{value_of_entry}
-use Rattle.plane_defs.specs.Reading.{word_of, checked, checked_word, entry_reading}
+use Rattle.plane_defs.specs.Reading.{checked, checked_word, entry_reading}
 use Rattle.plane_defs.proofs.SpanLists.{length-map-span, list_any-span-suc}
 use Rattle.plane_defs.proofs.SymbolTables.{symbol-word_of, word_of-below}
 use Rattle.plane_defs.proofs.StepItems.{AreOptionsOf}
@@ -51,10 +51,7 @@ module _ (book : Book) where
 
   -- an option of this name
   some_option : (n said k : ℕ) → list_any (λ option. identifier_number n option == said) (span 0 k) ≡ true → (option : ℕ) × (option < k) × (identifier_number n option ≡ said)
-  some_option n said zero e = let e = simp span-none at e in (absurd (none e))
-    where
-      none : false ≡ true → ⊥
-      none e = cc
+  some_option n said zero e = grind (arith, nat_tests, span-none)
   some_option n said (suc k) e = by_last (λ h. some_option n said k h) (identifier_number n (0 + k) == said) refl (sym (list_any-more k) ∙ e)
     where
       list_any-more : (k : ℕ) → list_any (λ option. identifier_number n option == said) (span 0 (suc k)) ≡ (list_any (λ option. identifier_number n option == said) (span 0 k) || (identifier_number n (0 + k) == said))
@@ -66,10 +63,7 @@ module _ (book : Book) where
       by_last : (list_any (λ option. identifier_number n option == said) (span 0 k) ≡ true → (option : ℕ) × (option < k) × (identifier_number n option ≡ said)) →
           (t : Bool) → (identifier_number n (0 + k) == said) ≡ t → (list_any (λ option. identifier_number n option == said) (span 0 k) || (identifier_number n (0 + k) == said)) ≡ true →
           (option : ℕ) × (option < suc k) × (identifier_number n option ≡ said)
-      by_last again true h e = (k, (omega arith), (ap (identifier_number n) (sym (zero-add k)) ∙ eqb-true (identifier_number n (0 + k)) said h))
-      by_last again false h e =
-          let r = again (early _ (sym (ap (λ b. list_any (λ option. identifier_number n option == said) (span 0 k) || b) h) ∙ e)) in
-          (r.0, (omega (arith, r.1)), r.2)
+      by_last again t h e = grind (arith, nat_tests, zero-add, eqb-true, early)
 
   -- ---- a word's item
 
@@ -86,20 +80,12 @@ module _ (book : Book) where
   word_says n option w said check t e h = ap (λ t. (WordAt n option t w).said) e ∙ h
 
   word_spot : (n option value : ℕ) (check : Check) (said : ℕ) → 2 ≤ n → n ≤ 4 → MaySay (checked_word book n option value check) said → WordSpot n option value check said
-  word_spot n option value check said low high may = by_option (option == codes.uncoded n) refl may
-    where
-      by_option : (t : Bool) → (option == codes.uncoded n) ≡ t →
-          IsSaid (WordAt n option t value).form.shape said × (cond (refuses check (cond t said (word_of n said))) (Some false_flag) None ≡ None) → WordSpot n option value check said
-      by_option true e m = record { w = said; small = m.0; passes = passed (refuses check said) m.1; says = word_says n option said said check true e refl }
-      by_option false e m =
-          let lt : said < 2 ^ n = omega (arith, m.0, length-map-span (λ s. code_bits (code_at book n option s)) (2 ^ n)) in
-          record { w = word_of n said; small = word_of-below n said low high lt; passes = passed (refuses check (word_of n said)) m.1; says = word_says n option (word_of n said) said check false e (symbol-word_of n said low high lt) }
+  word_spot n option value check said low high may = grind (arith, nat_tests, passed, word_says, length-map-span, word_of-below, symbol-word_of)
 
   -- ---- an entry's items
 
   one_only : (i j : Item) (c n : ℕ) → c < 1 → j.said ≡ n → Chooses c n (i ∷ []) (j ∷ [])
-  one_only i j zero n lt e = record { within = omega arith; before = refl; next = e }
-  one_only i j (suc c) n lt e = absurd (omega (arith, lt))
+  one_only i j c n lt e = grind (arith, nat_tests)
 
   second_only : (i j k : Item) (n : ℕ) → j.said ≡ n → Chooses 1 n (k ∷ i ∷ []) (k ∷ j ∷ [])
   second_only i j k n e = record { within = omega arith; before = refl; next = e }
@@ -108,8 +94,7 @@ module _ (book : Book) where
   first_only i j k l n e = record { within = omega arith; before = refl; next = e }
 
   at_only : (i : Item) (c n : ℕ) → c < 1 → MaySay (item_at (i ∷ []) c) n → MaySay i n
-  at_only i zero n lt may = may
-  at_only i (suc c) n lt may = absurd (omega (arith, lt))
+  at_only i c n lt may = grind (arith, nat_tests)
 
   abbrev Found : List ℕ → List Entry → Check → Entry → (c said : ℕ) → Type 0
   Found o before check x c said = EntrySpot o before check x c said ⊎ OptionSpot o before check x c said
@@ -133,9 +118,7 @@ module _ (book : Book) where
         inl (record {
           e = WordOf n w;
           replaces = record { kind = refl; fit = (most, lt); passes = passes; has_bits = some };
-          chosen =
-              subst (λ l. Chooses c said l (entry_reading book o before check (WordOf n w))) (sym (items_are o before check n v none one opened e f g))
-              (subst (λ l. Chooses c said (Items none one opened o check n v) l) (sym (items_are o before check n w none one opened e f g)) chosen);
+          chosen = grind (arith, nat_tests, items_are);
         })
 
     -- another option
@@ -150,26 +133,20 @@ module _ (book : Book) where
           option = r.0;
           known = r.1;
           none = g;
-          chosen = λ u same here.
-              subst (λ k. Chooses k said (entry_reading book o before check (WordOf n v)) (entry_reading book u before check (WordOf n v))) (sym at)
-              (subst (λ l. Chooses 0 said l (entry_reading book u before check (WordOf n v))) (sym (items_are o before check n v false false false e f g))
-              (subst (λ l. Chooses 0 said (Items false false false o check n v) l) (sym (items_are u before check n v false false false e f g))
-              (first_only (option_item n (option_of o n)) (option_item n (option_of u n)) _ _ said (ap (identifier_number n) here ∙ r.2))));
+          chosen = λ u same here. grind (arith, nat_tests, items_are, first_only);
         })
 
     by_count : (none one opened : Bool) → eqb n 0 ≡ none → eqb n 1 ≡ one → list_any (is_word_of n) before ≡ opened → c < length (Items none one opened o check n v) → MaySay (item_at (Items none one opened o check n v) c) said →
         Found o before check (WordOf n v) c said
     by_count true one opened e f g lt may = absurd (omega (arith, lt))
     by_count false true opened e f g lt may =
-        let low : c < 1 = lt in
-        let m : MaySay (checked (refuses check) (raw v)) said = at_only (checked (refuses check) (raw v)) c said low may in
+        let m : MaySay (checked (refuses check) (raw v)) said = at_only (checked (refuses check) (raw v)) c said lt may in
         let z : 1 ≡ n = grind (arith, nat_tests) in
-        by_word false true opened e f g (omega (arith, z)) said (subst (λ k. said < 2 ^ k) z m.0) (passed (refuses check said) m.1) (one_only (checked (refuses check) (raw v)) (checked (refuses check) (raw said)) c said low refl)
+        by_word false true opened e f g (omega (arith, z)) said (subst (λ k. said < 2 ^ k) z m.0) (passed (refuses check said) m.1) (one_only (checked (refuses check) (raw v)) (checked (refuses check) (raw said)) c said lt refl)
     by_count false false true e f g lt may =
         let two : 2 ≤ n = grind (arith, nat_tests) in
-        let low : c < 1 = lt in
-        let r = word_spot n (option_of o n) v check said two most (at_only (checked_word book n (option_of o n) v check) c said low may) in
-        by_word false false true e f g (omega (arith, two)) r.w r.small r.passes (one_only (checked_word book n (option_of o n) v check) (checked_word book n (option_of o n) r.w check) c said low r.says)
+        let r = word_spot n (option_of o n) v check said two most (at_only (checked_word book n (option_of o n) v check) c said lt may) in
+        by_word false false true e f g (omega (arith, two)) r.w r.small r.passes (one_only (checked_word book n (option_of o n) v check) (checked_word book n (option_of o n) r.w check) c said lt r.says)
     by_count false false false e f g lt may = by_place c refl lt may
       where
         by_place : (k : ℕ) → c ≡ k → k < length (Items false false false o check n v) → MaySay (item_at (Items false false false o check n v) k) said → Found o before check (WordOf n v) c said
@@ -185,11 +162,9 @@ module _ (book : Book) where
   pub entry_spot : (o : List ℕ) → AreOptionsOf o → (before : List Entry) (check : Check) (x : Entry) (c said : ℕ) → IsEntry x → refuses check (value_of_entry x) ≡ false →
       c < length (entry_reading book o before check x) → MaySay (item_at (entry_reading book o before check x) c) said → Found o before check x c said
   entry_spot o known before check (Bit b) c said fit allowed lt may =
-      let may = simp bit_reading at may in
       let low : c < 1 = simp bit_reading at lt in
-      let m : MaySay (raw (digit b)) said = at_only (raw (digit b)) c said low may in
-      let small : said < 2 ^ 1 = m.0 in
-      inl (record { e = Bit (said == 1); replaces = record { kind = tt; fit = tt; passes = allowed; has_bits = tt }; chosen = simp bit_reading (one_only (raw (digit b)) (raw (digit (said == 1))) c said low (digit_of said (omega (arith, small)))) })
+      let m : MaySay (raw (digit b)) said = at_only (raw (digit b)) c said low (simp bit_reading at may) in
+      inl (record { e = Bit (said == 1); replaces = record { kind = tt; fit = tt; passes = allowed; has_bits = tt }; chosen = simp bit_reading (one_only (raw (digit b)) (raw (digit (said == 1))) c said low (digit_of said (omega (arith, m.0)))) })
     where
       digit_of : (d : ℕ) → d < 2 → digit (d == 1) ≡ d
       digit_of d lt = grind (arith, nat_tests)

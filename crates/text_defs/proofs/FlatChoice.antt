@@ -1,5 +1,5 @@
 -- An item of a list that is made part by part, and what is chosen in it.
-use Rattle.std.proofs.Common.{◌≡◌, ℕ, zero, suc, ◌+◌, ◌-◌, ◌<◌, ◌≤◌, inl, inr, List, ◌++◌, length, ap, sym, ◌∙◌, subst, arith, length-append, flat_map}
+use Rattle.std.proofs.Common.{◌≡◌, ℕ, zero, suc, ◌+◌, ◌-◌, ◌<◌, ◌≤◌, inl, inr, List, ◌++◌, length, ap, subst, arith, length-append, flat_map}
 use Rattle.std.proofs.lemmas.Bool.{cases_lt}
 use Rattle.item_defs.specs.Items.{Item}
 use Rattle.item_defs.specs.Readings.{item_at}
@@ -11,12 +11,11 @@ use Rattle.text_defs.proofs.Choices.{Chooses, choose_left, choose_right}
 use Rattle.text_defs.proofs.DcChoice.{choose_as}
 use Rattle.plane_texts.proofs.EntryChoices.{flat_more}
 use Rattle.plane_defs.proofs.Equations.{span-none}
+use Rattle.std.proofs.lemmas.Bool.Decides.{nat_tests}
 
 pub said_flat : (f h : ℕ → List Item) (start n : ℕ) → ((j : ℕ) → j < n → said_of (f (start + j)) ≡ said_of (h (start + j))) → said_of (flat_map f (span start n)) ≡ said_of (flat_map h (span start n))
 said_flat f h start zero same = simp span-none
-said_flat f h start (suc n) same =
-    ap said_of (flat_more f start n) ∙ said_both (flat_map f (span start n)) (flat_map h (span start n)) (f (start + n)) (h (start + n)) (said_flat f h start n (λ j lt. same j (omega arith))) (same n (omega arith))
-    ∙ ap said_of (sym (flat_more h start n))
+said_flat f h start (suc n) same = grind (arith, nat_tests, flat_more, said_both, said_flat f h start n (λ j lt. same j (omega arith)))
 
 pub record Located (f : ℕ → List Item) (start count m said : ℕ) : Type 0 where
   pub at : ℕ

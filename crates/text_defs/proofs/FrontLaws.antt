@@ -1,13 +1,14 @@
 -- Two readings of the same bits agree as far as both extend, and stop in the same way.
-use Rattle.std.proofs.Common.{◌≡◌, ℕ, zero, suc, ◌<◌, ◌≤◌, List, [], ◌∷◌, ◌++◌, length, take, Bool, refl, sym, ap, subst, ◌∙◌, arith, Some}
-use Rattle.item_defs.proofs.ReadingLaws.{not_refused, some_of}
-use Rattle.item_defs.specs.Items.{Item, Refusal, item_bits, text, spelling, IsSaid}
+use Rattle.std.proofs.Common.{◌≡◌, ℕ, zero, suc, ◌<◌, ◌≤◌, List, [], ◌∷◌, ◌++◌, length, take, Bool, refl, sym, ap, subst, ◌∙◌, arith}
+use Rattle.item_defs.proofs.ReadingLaws.{not_refused}
+use Rattle.item_defs.specs.Items.{Item, Refusal, item_bits, text, IsSaid}
 use Rattle.item_defs.specs.Readings.{IsSound, IsItem, AreItems, StepsAlike, item_at}
 use Rattle.item_defs.specs.Laws.{said_of}
 use Rattle.item_defs.proofs.Texts.{text_front}
 use Rattle.item_defs.proofs.Spellings.{one_spelling}
 use Rattle.text_defs.specs.Fronts.{Front, NothingFollows, RefusalFollows}
 use Rattle.text_defs.specs.Agreement.{ItemsAlike}
+use Rattle.std.proofs.lemmas.Bool.Decides.{nat_tests}
 
 pub alike_from : (is js : List Item) → StepsAlike is js → ItemsAlike is js
 alike_from [] [] same = tt
@@ -31,9 +32,7 @@ fronts_agree (i ∷ is) [] (suc m) xs ys same a b p q e = absurd (omega arith)
 fronts_agree (i ∷ is) (j ∷ js) (suc m) xs ys same a b p q e =
     let left : text (i ∷ take m is) ++ xs ≡ item_bits i ++ (text (take m is) ++ xs) = text_front i (take m is) xs in
     let right : text (j ∷ take m js) ++ ys ≡ item_bits j ++ (text (take m js) ++ ys) = text_front j (take m js) ys in
-    let formed : spelling i.form.shape i.said ++ (text (take m is) ++ xs) ≡ spelling i.form.shape j.said ++ (text (take m js) ++ ys) =
-    subst (λ f. spelling i.form.shape i.said ++ (text (take m is) ++ xs) ≡ spelling f.shape j.said ++ (text (take m js) ++ ys)) (sym same.0) (sym left ∙ e ∙ right) in
-    let first = one_spelling i.form.shape i.said j.said _ _ p.0.0 p.0.1 (subst (λ f. IsSaid f.shape j.said) (sym same.0) q.0.1) formed in
+    let first = one_spelling i.form.shape i.said j.said _ _ p.0.0 p.0.1 (subst (λ f. IsSaid f.shape j.said) (sym same.0) q.0.1) (grind (arith, nat_tests)) in
     let r = fronts_agree is js m xs ys (same.1 first.0 p.0) (omega arith) (omega arith) p.1 q.1 first.1 in
     (ap (λ n. n ∷ said_of (take m is)) first.0 ∙ ap (λ l. j.said ∷ l) r.0, r.1)
 
@@ -47,9 +46,7 @@ next_alike (i ∷ is) (j ∷ js) zero same a b p e = (λ lt. (omega arith, same.
 next_alike [] js (suc m) same a b p e = absurd (omega arith)
 next_alike (i ∷ is) [] (suc m) same a b p e = absurd (omega arith)
 next_alike (i ∷ is) (j ∷ js) (suc m) same a b p e =
-    let first : i.said ≡ j.said = cc in
-    let others : said_of (take m is) ≡ said_of (take m js) = cc in
-    let r = next_alike is js m (same.1 first p.0) (omega arith) (omega arith) p.1 others in
+    let r = next_alike is js m (same.1 (cc) p.0) (omega arith) (omega arith) p.1 (cc) in
     (λ lt. let s = r.0 (omega arith) in (omega (arith, s.0), s.1), λ f. omega (arith, r.1 (omega arith)))
 
 -- a prefix of more items begins with one of fewer, and continues with the next item
@@ -58,12 +55,7 @@ pub shorter_front : (js : List Item) (m n : ℕ) (ys : List Bool) → m < n → 
 shorter_front js m zero ys lt within all = absurd (omega arith)
 shorter_front [] m (suc n) ys lt within all = absurd (omega arith)
 shorter_front (j ∷ js) zero (suc n) ys lt within all = (tt, all.0, (text (take n js) ++ ys, text_front j (take n js) ys))
-shorter_front (j ∷ js) (suc m) (suc n) ys lt within all =
-    let r = shorter_front js m n ys (omega arith) (omega arith) all.1 in (
-      (all.0, r.0),
-      r.1,
-      (r.2.0, text_front j (take n js) ys ∙ ap (λ l. item_bits j ++ l) r.2.1 ∙ sym (text_front j (take m js) (item_bits (item_at js m) ++ r.2.0))),
-    )
+shorter_front (j ∷ js) (suc m) (suc n) ys lt within all = grind (arith, nat_tests, text_front, shorter_front js m n ys (omega arith) (omega arith) all.1)
 
 -- ---- how a prefix ends
 
@@ -88,15 +80,7 @@ module _ (is js : List Item) (bits : List Bool) (same : ItemsAlike is js) where
     where
       by_end : (end : End) → EndsSo is m xs end → IsItem (item_at js m) → (more : List Bool) → xs ≡ item_bits (item_at js m) ++ more →
           (m < length is → (m < length js) × ((item_at is m).form ≡ (item_at js m).form)) → (m ≡ length is → m ≡ length js) → ⊥
-      by_end all_given ends item more e next whole = omega (arith, whole ends, lt, b.within)
-      by_end nothing_follows ends item more e next whole =
-          let form = (next ends.within).1 in
-          ends.lacks (item_at js m).said more (subst (λ f. IsSaid f.shape (item_at js m).said) (sym form) item.1) (subst (λ f. xs ≡ spelling f.shape (item_at js m).said ++ more) (sym form) e)
-      by_end (refusal_follows name) ends item more e next whole =
-          let form = (next ends.within).1 in
-          let one = one_spelling (item_at js m).form.shape ends.spelt (item_at js m).said ends.after more item.0 (subst (λ f. IsSaid f.shape ends.spelt) form ends.says) item.1
-          (subst (λ f. spelling f.shape ends.spelt ++ ends.after ≡ item_bits (item_at js m) ++ more) form (sym ends.read ∙ e)) in
-          not_refused ((item_at js m).form.refusal (item_at js m).said) item.2 (subst (λ n. (item_at js m).form.refusal n ≡ Some name) one.0 (subst (λ f. f.refusal ends.spelt ≡ Some name) form ends.refuses))
+      by_end end ends item more e next whole = grind (arith, nat_tests, one_spelling, not_refused)
 
   -- at one place both end in one way
   pub one_end : (m : ℕ) (xs ys : List Bool) (s t : End) → IsSound (item_at is m).form.shape → Front is m bits xs → Front js m bits ys → EndsSo is m xs s → EndsSo js m ys t → s ≡ t
@@ -107,21 +91,4 @@ module _ (is js : List Item) (bits : List Bool) (same : ItemsAlike is js) where
     where
       by_ends : (s t : End) → EndsSo is m xs s → EndsSo js m ys t → xs ≡ ys →
           (m < length is → (m < length js) × ((item_at is m).form ≡ (item_at js m).form)) → (m ≡ length is → m ≡ length js) → s ≡ t
-      by_ends all_given all_given p q e next whole = refl
-      by_ends all_given nothing_follows p q e next whole = absurd (omega (arith, whole p, q.within))
-      by_ends all_given (refusal_follows name) p q e next whole = absurd (omega (arith, whole p, q.within))
-      by_ends nothing_follows all_given p q e next whole = absurd (omega (arith, (next p.within).0, q))
-      by_ends nothing_follows nothing_follows p q e next whole = refl
-      by_ends nothing_follows (refusal_follows name) p q e next whole =
-          let form = (next p.within).1 in
-          absurd (p.lacks q.spelt q.after (subst (λ f. IsSaid f.shape q.spelt) (sym form) q.says) (subst (λ f. xs ≡ spelling f.shape q.spelt ++ q.after) (sym form) (e ∙ q.read)))
-      by_ends (refusal_follows name) all_given p q e next whole = absurd (omega (arith, (next p.within).0, q))
-      by_ends (refusal_follows name) nothing_follows p q e next whole =
-          let form = (next p.within).1 in
-          absurd (q.lacks p.spelt p.after (subst (λ f. IsSaid f.shape p.spelt) form p.says) (subst (λ f. ys ≡ spelling f.shape p.spelt ++ p.after) form (sym e ∙ p.read)))
-      by_ends (refusal_follows name) (refusal_follows other) p q e next whole =
-          let form = (next p.within).1 in
-          let one = one_spelling (item_at is m).form.shape p.spelt q.spelt p.after q.after sound p.says (subst (λ f. IsSaid f.shape q.spelt) (sym form) q.says)
-          (sym p.read ∙ e ∙ subst (λ f. ys ≡ spelling f.shape q.spelt ++ q.after) (sym form) q.read) in
-          let second : (item_at is m).form.refusal p.spelt ≡ Some other = subst (λ n. (item_at is m).form.refusal n ≡ Some other) (sym one.0) (subst (λ f. f.refusal q.spelt ≡ Some other) (sym form) q.refuses) in
-          ap refusal_follows (some_of ((item_at is m).form.refusal p.spelt) name other p.refuses second)
+      by_ends s t p q e next whole = grind (arith, nat_tests, one_spelling)

@@ -18,9 +18,8 @@ dc_alone head blocks depths options e = simp segment_items-is (ap (λ t. cond t 
 
 pub goes_further : GoesFurther
 goes_further head rest m xs ds o more after said fits a lt says allowed read =
-    let D = dc_part_items head xs o in
     let Z = depth_items head.depth_ac ds o.depths in
-    elim (cases_lt m (length D)) [
+    elim (cases_lt m (length (dc_part_items head xs o))) [
       | inl early ↦ dc_further head rest m xs ds o more after said fits a early (says, allowed) read
       | inr past ↦ by_stop past head.stop.dc refl
     ]

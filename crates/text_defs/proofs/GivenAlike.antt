@@ -1,5 +1,5 @@
 -- Two readings of the same number of items give the same numbers.
-use Rattle.std.proofs.Common.{◌≡◌, ◌⊎◌, ℕ, zero, suc, ◌+◌, ◌-◌, ◌*◌, ◌^◌, ◌<◌, ◌≤◌, inl, inr, Bool, true, false, cond, List, [], ◌∷◌, ◌++◌, length, take, map, refl, ap, sym, ◌∙◌, subst, arith, ℤ, pos, get_or, nat_le, nat_lt, ◌&&◌, ◌||◌, ◌==◌, sum_by, neg_ℤ, ◌+ℤ◌, ◌*ℤ◌}
+use Rattle.std.proofs.Common.{◌≡◌, ◌⊎◌, ℕ, ◌+◌, ◌-◌, ◌*◌, ◌^◌, ◌<◌, ◌≤◌, inl, inr, Bool, true, false, cond, List, [], ◌∷◌, length, take, map, refl, ap, sym, ◌∙◌, arith, ℤ, pos, get_or, nat_le, nat_lt, ◌&&◌, ◌||◌, ◌==◌, sum_by, neg_ℤ, ◌+ℤ◌, ◌*ℤ◌}
 use Rattle.std.specs.Int.{int_shr}
 use Rattle.std.specs.List.{list_any, AllByRecursion}
 use Rattle.std.proofs.lemmas.Bool.{cases_lt, leb-true, lt-ltb}
@@ -22,9 +22,9 @@ use Rattle.segment_defs.specs.declared.head.SegmentHead.{SegmentHead}
 use Rattle.segment_defs.specs.Head.{IsHead}
 use Rattle.segment_defs.specs.Depths.{dc_of, dcs_of}
 use Rattle.segment_defs.specs.SegmentItems.{Options, dc_shift, q_of, plane_at, stages_sent, dc_part_items, planes_items, segment_items}
-use Rattle.wave_defs.specs.Blocks as blocks
+use Rattle.wave_defs.proofs.BlockLaws.{place_of-first}
 use Rattle.text_defs.specs.Spellable.{IsSpellable, AreWordOptions, block_of}
-use Rattle.text_defs.specs.Given.{dc_through, high_count, is_dc_bit_given, before_plane, given_in, has_bit, has_sign, given_magnitude, given_ac, given_low, given_dc, given_block, given_blocks}
+use Rattle.text_defs.specs.Given.{dc_through, is_dc_bit_given, before_plane, given_in, has_bit, has_sign, given_magnitude, given_ac, given_low, given_dc, given_block, given_blocks}
 use Rattle.plane_texts.specs.Given.{steps_given}
 use Rattle.text_defs.proofs.Prefixes.{SaySame, first_part}
 use Rattle.plane_texts.proofs.Says.{bit_there}
@@ -69,11 +69,7 @@ map_alike f g (x ∷ xs) all = ap (λ y. y ∷ map f xs) all.0 ∙ ap (λ l. g x
 
 from_any : {Q : Type 0} (f : ℕ → Bool) (xs : List ℕ) → AllByRecursion (λ x. f x ≡ true → Q) xs → list_any f xs ≡ true → Q
 from_any f [] all e = absurd cc
-from_any {Q} f (x ∷ xs) all e = by_first (f x) refl e (from_any f xs all.1)
-  where
-    by_first : (b : Bool) → f x ≡ b → (b || list_any f xs) ≡ true → (list_any f xs ≡ true → Q) → Q
-    by_first true h e more = all.0 h
-    by_first false h e more = more e
+from_any {Q} f (x ∷ xs) all e = grind (arith, nat_tests, from_any f xs all.1)
 
 -- ---- the numbers
 
@@ -94,17 +90,7 @@ part_none head blocks depths options m r b lt = by_stop head.stop.dc
 module _ (head : SegmentHead) (fits : IsHead head) (xs ys : List (List ℤ)) (ds es : List ℕ) (o u : Options) (p : IsSpellable head xs ds) (q : IsSpellable head ys es) (k : AreWordOptions o) (l : AreWordOptions u) (books : o.book ≡ u.book) (m : ℕ)
     (said : SaySame m (segment_items head xs ds o) (segment_items head ys es u)) (all : AreItems (take m (segment_items head xs ds o))) (r : ℕ) (inside : r < head.blocks) where
   dc_said : SaySame m (dc_part_items head xs o) (dc_part_items head ys u)
-  dc_said = by_stop head.stop.dc (simp segment_items-is at said)
-    where
-      by_stop : (t : Bool) →
-          SaySame m (cond t (dc_part_items head xs o) (dc_part_items head xs o ++ (depth_items head.depth_ac ds o.depths ++ planes_items head xs ds o head.depth_ac)))
-          (cond t (dc_part_items head ys u) (dc_part_items head ys u ++ (depth_items head.depth_ac es u.depths ++ planes_items head ys es u head.depth_ac))) →
-          SaySame m (dc_part_items head xs o) (dc_part_items head ys u)
-      by_stop true e = e
-      by_stop false e =
-          let same_blocks : length (dcs_of xs) ≡ length (dcs_of ys) = length-map xs dc_of ∙ p.blocks_all ∙ sym q.blocks_all ∙ sym (length-map ys dc_of) in
-          first_part m (dc_part_items head xs o) (dc_part_items head ys u) _ _
-          (dcs_alike head.depth_dc head.depth_ac (dc_shift head) (dcs_of xs) (dcs_of ys) o.dcs u.dcs same_blocks p.dcs_fit q.dcs_fit) e
+  dc_said = grind (arith, nat_tests, segment_items-is, length-map, first_part, dcs_alike)
 
   abbrev X : List ℤ
   X = block_of xs r
@@ -133,8 +119,7 @@ module _ (head : SegmentHead) (fits : IsHead head) (xs ys : List (List ℤ)) (ds
   shift = dc_shift head
 
   below_shift : (block : List ℤ) → IsMultiple block head.image.weights.shifts → (b : ℕ) → b < shift → (complement 1 (int_shr (dc_of block) b) == 1) ≡ false
-  unfolding blocks.place_of
-  below_shift block whole b lt = none_below (dc_of block) b shift (whole.part 0) (whole.whole 0) lt
+  below_shift block whole b lt = none_below (dc_of block) b shift (whole.part 0) (simp place_of-first at (whole.whole 0)) lt
 
   part_told : (b : ℕ) → b < q_of head → (is_dc_bit_given head xs o m r b ≡ is_dc_bit_given head ys u m r b) × (is_dc_bit_given head xs o m r b ≡ true → bit_x b ≡ bit_y b)
   part_told b lt =
@@ -147,24 +132,16 @@ module _ (head : SegmentHead) (fits : IsHead head) (xs ys : List (List ℤ)) (ds
   none_yet blocks depths options counted b lt deep low none =
       let n : ℕ = q_of head - (b + 1) in
       let planes : ℕ = dc_planes head.depth_dc head.depth_ac shift in
-      let before : m < length (dc_part_items head blocks options) =
-      subst (λ c. m < c) (sym (dc_long head blocks options)) (past (high_count head blocks options) n (length blocks) planes (left_over (q_of head) b head.depth_ac shift lt deep low) (omega (arith, inside, counted)) none) in
-      (part_none head blocks depths options m r b before 0).0
+      (part_none head blocks depths options m r b (grind (arith, nat_tests, dc_long, left_over)) 0).0
     where
       above : (a m : ℕ) → nat_le a m ≡ false → m < a
       above a m e = grind (arith, nat_tests)
 
       second : (a b : Bool) → a ≡ true → (a && b) ≡ false → b ≡ false
-      second true b e f = f
-      second false b e f = absurd cc
+      second a b e f = grind (arith, nat_tests)
 
       past : (h n len planes : ℕ) → n < planes → r < len → (nat_lt n planes && nat_le (h + n * len + r + 1) m) ≡ false → m < h + planes * len
-      past h n len planes lt within none =
-          let d : ℕ = planes - (n + 1) in
-          let whole : planes ≡ n + 1 + d = omega arith in
-          let counted : planes * len ≡ n * len + len + d * len = let e : planes * len ≡ (n + 1 + d) * len = ap (λ c. c * len) whole in omega (arith, e) in
-          let over : m < h + n * len + r + 1 = above (h + n * len + r + 1) m (second (nat_lt n planes) _ (lt-ltb n planes lt) none) in
-          omega (arith, over, counted, within)
+      past h n len planes lt within none = grind (arith, nat_tests, above, second, lt-ltb)
 
   low_same : given_low head xs ds o m r ≡ given_low head ys es u m r
   low_same = sum_alike _ _ (span 0 (q_of head)) (all_span _ 0 (q_of head) (λ b low high. each b (omega arith)))
@@ -205,8 +182,7 @@ module _ (head : SegmentHead) (fits : IsHead head) (xs ys : List (List ℤ)) (ds
       ∙ ap (λ a. cond (has_sign head ys es u m r n && negative (get_or Y n (pos 0))) (neg_ℤ (pos a)) (pos a)) size
     where
       there : (b n : ℕ) → 1 ≤ n → bit_there X b n ≡ bit_there Y b n → bit (magnitude X n) b ≡ bit (magnitude Y n) b
-      there b zero low e = absurd (omega arith)
-      there b (suc n) low e = e
+      there b n low e = grind (arith, nat_tests)
 
       size : given_magnitude head xs ds o m r n ≡ given_magnitude head ys es u m r n
       size =

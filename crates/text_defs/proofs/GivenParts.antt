@@ -1,7 +1,6 @@
 -- The numbers that a text holds are multiples of their weights, and small.
-use Rattle.std.proofs.Common.{◌≡◌, ◌⊎◌, inl, inr, ℕ, zero, suc, ◌+◌, ◌-◌, ◌*◌, ◌^◌, ◌<◌, ◌≤◌, ◌==◌, Bool, true, false, cond, List, [], length, refl, ap, sym, subst, ◌∙◌, arith, ℤ, pos, negsuc, get_or, ◌&&◌, ◌||◌, nat_le, neg_ℤ, ◌+ℤ◌, ◌*ℤ◌, unsigned_abs, sum_by, All, pow_pos, pow-add, pow_mono}
+use Rattle.std.proofs.Common.{◌≡◌, ◌⊎◌, inl, inr, ℕ, zero, suc, ◌+◌, ◌-◌, ◌*◌, ◌^◌, ◌<◌, ◌≤◌, ◌==◌, Bool, true, false, cond, List, [], length, ap, sym, subst, ◌∙◌, arith, ℤ, pos, negsuc, get_or, ◌&&◌, ◌||◌, nat_le, neg_ℤ, ◌+ℤ◌, ◌*ℤ◌, unsigned_abs, sum_by, All, pow_pos, pow-add, pow_mono}
 use Rattle.std.specs.Int.{int_shr}
-use Rattle.std.proofs.lemmas.Bool.{cases_lt}
 use Rattle.std.proofs.lemmas.Bool.Decides.{nat_tests}
 use Rattle.std.proofs.lemmas.Int.{ints}
 use Rattle.std.proofs.lemmas.List.{get_or_past}
@@ -50,10 +49,8 @@ IsBitFrom s b n = (n ≡ 0) ⊎ ((n ≡ 2 ^ b) × (s ≤ b))
 one_more : (s w n m : ℕ) → BitsFrom s w n → IsBitFrom s w m → BitsFrom s (suc w) (n + m)
 one_more s w n m x (inl none) = let twice : 2 ^ suc w ≡ 2 * 2 ^ w = doubled w in record { part = x.part; whole = omega (arith, none, x.whole); few = omega (arith, none, x.few, twice) }
 one_more s w n m x (inr one) =
-    let z : suc w ≡ 1 + w = omega arith in
-    let twice : 2 ^ suc w ≡ 2 * 2 ^ w = ap (λ k. 2 ^ k) z ∙ pow-add 2 1 w in
-    let from : w ≡ s + (w - s) = omega (arith, one.1) in
-    let split : 2 ^ w ≡ 2 ^ s * 2 ^ (w - s) = ap (λ k. 2 ^ k) from ∙ pow-add 2 s (w - s) in
+    let twice : 2 ^ suc w ≡ 2 * 2 ^ w = ap (λ k. 2 ^ k) (omega arith) ∙ pow-add 2 1 w in
+    let split : 2 ^ w ≡ 2 ^ s * 2 ^ (w - s) = ap (λ k. 2 ^ k) (omega (arith, one.1)) ∙ pow-add 2 s (w - s) in
     let both : 2 ^ s * (x.part + 2 ^ (w - s)) ≡ 2 ^ s * x.part + 2 ^ s * 2 ^ (w - s) = grind arith in
     record { part = x.part + 2 ^ (w - s); whole = omega (arith, one.0, x.whole, split, both); few = omega (arith, one.0, x.few, twice) }
 
@@ -63,15 +60,11 @@ sum_from s f each (suc w) = subst (BitsFrom s (suc w)) (sym (sum_suc f w)) (one_
 
 -- a bit if two tests hold, of which the second fails below the place
 tested : (s b : ℕ) (t c : Bool) → (b < s → c ≡ false) → IsBitFrom s b (cond (t && c) (2 ^ b) 0)
-tested s b false c none = inl refl
-tested s b true false none = inl refl
-tested s b true true none = elim (cases_lt b s) [ inl low ↦ absurd (let no = none low in cc) | inr high ↦ inr (refl, high) ]
+tested s b t c none = grind (arith, nat_tests)
 
 -- a multiple of 2 ^ s has no bits below s
 bit_low : (s n t b : ℕ) → n ≡ 2 ^ s * t → b < s → bit n b ≡ false
-bit_low s n t b e lt =
-    let low = even_part (2 ^ b) (2 ^ (s - b - 1)) t n (pow_pos b) (e ∙ ap (λ x. x * t) (halves b s lt)) in
-    ap (λ x. x == 1) low
+bit_low s n t b e lt = ap (λ x. x == 1) (even_part (2 ^ b) (2 ^ (s - b - 1)) t n (pow_pos b) (e ∙ ap (λ x. x * t) (halves b s lt)))
 
 -- ---- integers
 
@@ -87,10 +80,8 @@ minus_part s (suc k) n le e few =
 
 plus_part : (s k n : ℕ) → n ≡ 2 ^ s * k → n ≤ 2 ^ 27 → IsPart s (pos n)
 plus_part s k n e few =
-    let one : 1 ≤ 2 ^ s = pow_pos s in
-    let least : 1 * k ≤ 2 ^ s * k = mul-le-mul_right k one in
     let turned : 2 ^ s * k ≡ k * 2 ^ s = grind arith in
-    record { part = pos k; whole = ap pos (e ∙ turned) ∙ sym (pos-*ℤ-pos k (2 ^ s)); small = omega (arith, ints, least, e, few) }
+    record { part = pos k; whole = ap pos (e ∙ turned) ∙ sym (pos-*ℤ-pos k (2 ^ s)); small = omega (arith, ints, mul-le-mul_right k (pow_pos s), e, few) }
 
 signed_part : (s k n : ℕ) (b : Bool) → s ≤ 3 → n ≡ 2 ^ s * k → n ≤ 2 ^ 27 → IsPart s (cond b (neg_ℤ (pos n)) (pos n))
 signed_part s k n true le e few = minus_part s k n le e few
@@ -114,12 +105,9 @@ module _ (s q N k low : ℕ) (small : s ≤ 3) (over : s ≤ q) (some : 1 ≤ N)
 
   above_zero : (a : ℕ) → IsInRange true N (pos a) → IsPart s ((pos a *ℤ pos (2 ^ q)) +ℤ pos low)
   above_zero a range =
-      let high = range.high in
-      let lt : a + 1 ≤ 2 ^ (N - 1) = omega (arith, ints, high, twice) in
-      let le : (a + 1) * 2 ^ q ≤ 2 ^ (N - 1) * 2 ^ q = mul-le-mul_right (2 ^ q) lt in
+      let le : (a + 1) * 2 ^ q ≤ 2 ^ (N - 1) * 2 ^ q = mul-le-mul_right (2 ^ q) (omega (arith, ints, range.high, twice)) in
       let next : (a + 1) * 2 ^ q ≡ a * 2 ^ q + 2 ^ q = grind arith in
-      let parts : a * 2 ^ q + low ≡ 2 ^ s * (a * 2 ^ (q - s) + k) =
-      ap (λ m. a * m + low) split ∙ ap (λ n. a * (2 ^ s * 2 ^ (q - s)) + n) whole ∙ spread (2 ^ s) (2 ^ (q - s)) in
+      let parts : a * 2 ^ q + low ≡ 2 ^ s * (a * 2 ^ (q - s) + k) = grind (arith, nat_tests, split) in
       subst (IsPart s) (sym (ap (λ x. x +ℤ pos low) (pos-*ℤ-pos a (2 ^ q)))) (plus_part s (a * 2 ^ (q - s) + k) (a * 2 ^ q + low) parts (omega (arith, le, next, below, most)))
     where
       spread : (u v : ℕ) → a * (u * v) + u * k ≡ u * (a * v + k)
@@ -127,9 +115,7 @@ module _ (s q N k low : ℕ) (small : s ≤ 3) (over : s ≤ q) (some : 1 ≤ N)
 
   below_zero : (a : ℕ) → IsInRange true N (negsuc a) → IsPart s ((negsuc a *ℤ pos (2 ^ q)) +ℤ pos low)
   below_zero a range =
-      let least = range.low in
-      let lt : suc a ≤ 2 ^ (N - 1) = omega (arith, ints, least) in
-      let le : suc a * 2 ^ q ≤ 2 ^ (N - 1) * 2 ^ q = mul-le-mul_right (2 ^ q) lt in
+      let le : suc a * 2 ^ q ≤ 2 ^ (N - 1) * 2 ^ q = mul-le-mul_right (2 ^ q) (omega (arith, ints, range.low)) in
       let one : 1 * 2 ^ q ≤ suc a * 2 ^ q = mul-le-mul_right (2 ^ q) (omega arith) in
       let parts : suc a * 2 ^ q - low ≡ 2 ^ s * (suc a * 2 ^ (q - s) - k) =
       ap (λ m. suc a * m - low) split ∙ ap (λ n. suc a * (2 ^ s * 2 ^ (q - s)) - n) whole ∙ spread (2 ^ s) (2 ^ (q - s)) in
@@ -165,8 +151,7 @@ module _ (head : SegmentHead) (blocks : List (List ℤ)) (depths : List ℕ) (op
       let few = shift_low weights (place_of i).band ok.image.weights in
       let sum = sum_from s (λ b. cond (has_bit head blocks depths options m r i b && bit (magnitude (block_of blocks r) i) b) (2 ^ b) 0)
       (λ b. tested s b (has_bit head blocks depths options m r i b) (bit (magnitude (block_of blocks r) i) b) (bit_low s (magnitude (block_of blocks r) i) (multiple.part i) b (multiple.whole i))) head.depth_ac in
-      let most : 2 ^ head.depth_ac ≤ 2 ^ 27 = pow_mono ok.depth_ac in
-      signed_part s sum.part (given_magnitude head blocks depths options m r i) _ few sum.whole (omega (arith, sum.few, most))
+      signed_part s sum.part (given_magnitude head blocks depths options m r i) _ few sum.whole (omega (arith, sum.few, pow_mono ok.depth_ac))
 
   abbrev s : ℕ
   s = dc_shift head

@@ -10,7 +10,6 @@ use Rattle.std.proofs.lemmas.List.FromFn.{length-range_with_len}
 use Rattle.item_defs.specs.Bits.{bit}
 use Rattle.number_defs.specs.Ranges.{complement}
 use Rattle.number_defs.specs.Gaggles.{Kind, uncoded, first_place, places, value_items, lead_items, gaggle_items, items_before, gaggle_count, number_items}
-use Rattle.number_defs.specs.DcPart.{dc_planes}
 use Rattle.plane_defs.specs.Spans.{span}
 use Rattle.plane_defs.specs.Sets.{magnitude, significant, coded}
 use Rattle.plane_defs.specs.Laws.{IsMultiple}
@@ -20,10 +19,10 @@ use Rattle.plane_defs.proofs.SpanLists.{length-map-span, get_or-map-span}
 use Rattle.segment_defs.specs.declared.head.SegmentHead.{SegmentHead}
 use Rattle.segment_defs.specs.Depths.{dc_of}
 use Rattle.segment_defs.specs.SegmentItems.{Options, dc_shift, q_of, dc_part_items, segment_items}
-use Rattle.wave_defs.specs.Blocks as wave_blocks
+use Rattle.wave_defs.proofs.BlockLaws.{place_of-first}
 use Rattle.text_defs.specs.Spellable.{IsSpellable, block_of}
 use Rattle.number_defs.specs.Given.{numbers_through}
-use Rattle.text_defs.specs.Given.{dc_through, high_count, is_dc_bit_given, given_in, has_bit, has_sign, given_magnitude, given_ac, given_low, given_dc, given_block, given_blocks}
+use Rattle.text_defs.specs.Given.{dc_through, is_dc_bit_given, given_in, has_bit, has_sign, given_magnitude, given_ac, given_low, given_dc, given_block, given_blocks}
 use Rattle.text_defs.specs.Laws.{AllGiven}
 use Rattle.text_defs.proofs.SegmentAlike.{list_same}
 use Rattle.plane_texts.proofs.NothingTold.{any_bit, any_sign}
@@ -58,9 +57,7 @@ span_at a (suc n) i lt = simp span-more (
     elim (cases_lt i n) [
       | inl early ↦ get_or_append_left (span a n) ((a + n) ∷ []) 0 i (omega (arith, early, span_long a n)) ∙ span_at a n i early
       | inr last ↦
-          let here : i ≡ length (span a n) = omega (arith, lt, last, span_long a n) in
-          let same : a + n ≡ a + i = omega arith in
-          ap (λ k. get_or (span a n ++ (a + n) ∷ []) k 0) here ∙ get_or-append_seam (span a n) (a + n) [] 0 ∙ same
+          ap (λ k. get_or (span a n ++ (a + n) ∷ []) k 0) (omega (arith, lt, last, span_long a n)) ∙ get_or-append_seam (span a n) (a + n) [] 0 ∙ (omega arith)
     ])
 
 -- ---- numbers by differences
@@ -74,8 +71,7 @@ gaggle_long kind heights option g = simp gaggle_items-is (omega (arith, length-a
 
 pub numbers_fit : (kind : Kind) (heights : List ℕ) (options : ℕ → ℕ) (i : ℕ) → i < length heights → numbers_through kind heights options i ≤ length (number_items kind heights options)
 numbers_fit kind heights options i lt =
-    let g = i / 16 in
-    by_zero (eqb i 0) refl (part_long _ _ _ (before_parts kind heights options (gaggle_count (length heights)) g (omega arith)))
+    by_zero (eqb i 0) refl (part_long _ _ _ (before_parts kind heights options (gaggle_count (length heights)) (i / 16) (omega arith)))
   where
     by_zero : (t : Bool) → eqb i 0 ≡ t → length (items_before kind heights options (i / 16)) + length (gaggle_items kind heights (options (i / 16)) (i / 16)) ≤ length (number_items kind heights options) →
         cond t (length (items_before kind heights options (i / 16)) + 1 + length (lead_items kind heights (i / 16)))
@@ -86,10 +82,8 @@ numbers_fit kind heights options i lt =
         let some : 1 ≤ i = grind (arith, nat_tests) in
         let a : ℕ = first_place (i / 16) in
         let n : ℕ = min (length heights) (16 * (i / 16) + 16) - a in
-        let fit : cond (eqb (options (i / 16)) (uncoded kind.bits) || eqb (options (i / 16)) 0) 0 n + (i - a + 1) ≤ length (value_items kind heights (options (i / 16)) (places (length heights) (i / 16))) =
-        values_fit kind heights (options (i / 16)) a n i (omega arith) (omega (arith, lt)) in
-        let counted : cond (eqb (options (i / 16)) (uncoded kind.bits) || eqb (options (i / 16)) 0) 0 (length (places (length heights) (i / 16))) + (i - a + 1) ≤ length (value_items kind heights (options (i / 16)) (places (length heights) (i / 16))) =
-        subst (λ k. cond (eqb (options (i / 16)) (uncoded kind.bits) || eqb (options (i / 16)) 0) 0 k + (i - a + 1) ≤ length (value_items kind heights (options (i / 16)) (places (length heights) (i / 16)))) (sym (length-range_with_len a n)) fit in
+        let fit : cond (eqb (options (i / 16)) (uncoded kind.bits) || eqb (options (i / 16)) 0) 0 n + (i - a + 1) ≤ length (value_items kind heights (options (i / 16)) (places (length heights) (i / 16))) = grind (arith, nat_tests, values_fit) in
+        let counted : cond (eqb (options (i / 16)) (uncoded kind.bits) || eqb (options (i / 16)) 0) 0 (length (places (length heights) (i / 16))) + (i - a + 1) ≤ length (value_items kind heights (options (i / 16)) (places (length heights) (i / 16))) = grind (arith, nat_tests, length-range_with_len) in
         omega (arith, parts, counted, gaggle_long kind heights (options (i / 16)) (i / 16))
 
 -- ---- an AC number
@@ -166,12 +160,10 @@ module _ (head : SegmentHead) (blocks : List (List ℤ)) (depths : List ℕ) (op
   through = grind (arith, nat_tests, dc_long, part_within, length-map, counted, numbers_fit)
 
   below_shift : (b : ℕ) → b < shift → (complement 1 (int_shr (dc_of B) b) == 1) ≡ false
-  unfolding wave_blocks.place_of
-  below_shift b lt = let whole : IsMultiple B head.image.weights.shifts = p.multiples r in none_below (dc_of B) b shift (whole.part 0) (whole.whole 0) lt
+  below_shift b lt = let whole : IsMultiple B head.image.weights.shifts = p.multiples r in none_below (dc_of B) b shift (whole.part 0) (simp place_of-first at (whole.whole 0)) lt
 
   dc_coded : (b : ℕ) → shift ≤ b → coded head.image.weights.shifts b 0 ≡ true
-  unfolding wave_blocks.place_of
-  dc_coded b le = simp coded-is (le-leb shift b le)
+  dc_coded b le = simp (coded-is, place_of-first) (le-leb shift b le)
 
   -- a low bit that is not 0 is given
   bit_given : (b : ℕ) → b < q_of head → (complement 1 (int_shr (dc_of B) b) == 1) ≡ true → (is_dc_bit_given head blocks options m r b || has_bit head blocks depths options m r 0 b) ≡ true
@@ -184,14 +176,7 @@ module _ (head : SegmentHead) (blocks : List (List ℤ)) (depths : List ℕ) (op
       not_both a x y = cc
 
       by_shift : (b < shift) ⊎ (shift ≤ b) → (b < head.depth_ac) ⊎ (head.depth_ac ≤ b) → (is_dc_bit_given head blocks options m r b || has_bit head blocks depths options m r 0 b) ≡ true
-      by_shift (inl under) low = absurd (not_both (complement 1 (int_shr (dc_of B) b) == 1) e (below_shift b under))
-      by_shift (inr over) (inl high) =
-          either_true (is_dc_bit_given head blocks options m r b) (has_bit head blocks depths options m r 0 b)
-          (inr (ap (any_bit 0) (given b high) ∙ dc_sent B d head.image.weights.shifts b (q_of head) (dc_coded b over) lt))
-      by_shift (inr over) (inr low) =
-          either_true (is_dc_bit_given head blocks options m r b) (has_bit head blocks depths options m r 0 b)
-          (inl (there (high_count head blocks options) (q_of head - (b + 1)) (length blocks) (dc_planes head.depth_dc head.depth_ac shift) (length (dc_part_items head blocks options)) m
-          (left_over (q_of head) b head.depth_ac shift lt low over) (omega (arith, inside, counted)) (dc_long head blocks options) part_within))
+      by_shift h0 low = grind (arith, nat_tests, not_both, below_shift, either_true, given, dc_sent, dc_coded, there, left_over, counted, dc_long, part_within)
 
   low_given : given_low head blocks depths options m r ≡ complement (q_of head) (dc_of B)
   low_given =
@@ -221,18 +206,15 @@ module _ (head : SegmentHead) (blocks : List (List ℤ)) (depths : List ℕ) (op
       each (suc i) =
           elim (cases_lt i 63) [
             | inl lt ↦
-                let at : get_or (span 1 63) i 0 ≡ 1 + i = span_at 1 63 i lt in
-                let next : 1 + i ≡ suc i = omega arith in
                 get_or-map (given_ac head blocks depths options m r) (span 1 63) i 0 (pos 0) (omega (arith, lt, span_long 1 63))
-                ∙ ap (given_ac head blocks depths options m r) (at ∙ next) ∙ ac_given (suc i) (omega arith) (omega (arith, lt))
+                ∙ ap (given_ac head blocks depths options m r) ((span_at 1 63 i lt) ∙ (omega arith)) ∙ ac_given (suc i) (omega arith) (omega (arith, lt))
             | inr past ↦ get_or_past (map (given_ac head blocks depths options m r) (span 1 63)) i (pos 0) (omega (arith, row, past)) ∙ sym (get_or_past B (suc i) (pos 0) (omega (arith, full, past)))
           ]
 
 pub all_given : AllGiven
 unfolding given_blocks
 all_given head blocks depths options fits p goes_on low_plane last_stage deep =
-    let m : ℕ = length (segment_items head blocks depths options) in
-    let f = given_block head blocks depths options m in
+    let f = given_block head blocks depths options (length (segment_items head blocks depths options)) in
     list_same (map f (span 0 head.blocks)) blocks [] (length-map-span f head.blocks ∙ sym p.blocks_all) (λ i.
     elim (cases_lt i head.blocks) [
       | inl lt ↦ get_or-map-span f head.blocks i [] lt ∙ block_given head blocks depths options p goes_on low_plane last_stage deep i lt

@@ -1,4 +1,3 @@
-mod Examples
 pub mod FrontLaws
 pub mod SegmentAlike
 pub mod SoundItems

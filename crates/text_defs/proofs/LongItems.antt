@@ -1,5 +1,5 @@
 -- Each item of a text takes some bits.
-use Rattle.std.proofs.Common.{◌≡◌, ℕ, zero, suc, ◌+◌, ◌^◌, ◌<◌, ◌≤◌, Bool, true, false, cond, eqb, List, [], ◌∷◌, ◌++◌, length, sym, subst, arith, get_or, ℤ, map, length-append, ◌==◌, nat_le, ◌||◌, leb-true}
+use Rattle.std.proofs.Common.{◌≡◌, ℕ, zero, suc, ◌+◌, ◌^◌, ◌<◌, ◌≤◌, Bool, true, false, cond, eqb, List, [], ◌∷◌, ◌++◌, length, arith, ℤ, length-append, ◌==◌, nat_le, ◌||◌, leb-true}
 use Rattle.std.specs.List.{list_all, AllByRecursion}
 use Rattle.std.proofs.lemmas.Bool.Decides.{nat_tests}
 use Rattle.item_defs.specs.Bits.{bits_of, copies}
@@ -11,7 +11,7 @@ use Rattle.number_defs.specs.DcPart.{dc_bits}
 use Rattle.number_defs.specs.Depths.{depth_bits}
 use Rattle.base_122.specs.declared.book.Book.{Book}
 use Rattle.plane_defs.specs.Spans.{span}
-use Rattle.plane_defs.specs.Codes.{is_book_sound, codes_of, code_bits, code_at}
+use Rattle.plane_defs.specs.Codes.{is_book_sound, codes_of, code_at}
 use Rattle.plane_defs.proofs.SpanLists.{length-map-span, get_or-map-span}
 use Rattle.plane_defs.proofs.Tables.{list_all-span-zero, table_len, sound_table}
 use Rattle.segment_defs.specs.declared.head.SegmentHead.{SegmentHead}
@@ -51,19 +51,13 @@ pub depth_bits_some : (d : ℕ) → d ≤ 27 → eqb d 0 ≡ false → 1 ≤ dep
 depth_bits_some d le some = leb-true 1 (depth_bits d) (past (eqb d 0) (nat_le 1 (depth_bits d)) some (list_all-span-zero (λ d. d == 0 || nat_le 1 (depth_bits d)) 28 d depths_tested (omega arith)))
   where
     past : (a b : Bool) → a ≡ false → (a || b) ≡ true → b ≡ true
-    past true b e h = absurd cc
-    past false b e h = h
+    past a b e h = grind (arith, nat_tests)
 
 code_long : (book : Book) (n option s : ℕ) → is_book_sound book ≡ true → 2 ≤ n → n ≤ 4 → option + 1 < n → s < 2 ^ n → 1 ≤ (code_at book n option s).len
 code_long book n option s sound low high more lt = grind (arith, nat_tests, table_len, sound_table)
 
 codes_long : (book : Book) → is_book_sound book ≡ true → (n option : ℕ) → 2 ≤ n → n ≤ 4 → option + 1 < n → HasLong (coded (codes_of book n option))
-codes_long book sound n option low high more s said =
-    let f = λ (s : ℕ). code_bits (code_at book n option s) in
-    let lt : s < 2 ^ n = omega (arith, said, length-map-span f (2 ^ n)) in
-    let long = code_long book n option s sound low high more lt in
-    let at : get_or (map f (span 0 (2 ^ n))) s [] ≡ f s = get_or-map-span f (2 ^ n) s [] lt in
-    subst (λ l. 1 ≤ length l) (sym at) (fixed_long (code_at book n option s).len (code_at book n option s).bits long)
+codes_long book sound n option low high more s said = grind (arith, nat_tests, length-map-span, code_long, get_or-map-span, fixed_long)
 
 pub segment_items_long : (head : SegmentHead) (blocks : List (List ℤ)) (depths : List ℕ) (options : Options) → IsHead head → AreWordOptions options → AllLong (segment_items head blocks depths options)
 segment_items_long head blocks depths options fits known =

@@ -1,13 +1,13 @@
 -- Numbers by differences may be chosen so that the next item says any number that it does not refuse.
-use Rattle.std.proofs.Common.{◌≡◌, ℕ, zero, suc, ◌+◌, ◌*◌, ◌-◌, ◌/◌, ◌%◌, ◌^◌, ◌<◌, ◌≤◌, min, List, [], ◌∷◌, ◌++◌, length, map, get_or, Bool, true, false, eqb, cond, refl, sym, ap, ◌∙◌, arith, pow_pos}
+use Rattle.std.proofs.Common.{◌≡◌, ℕ, zero, suc, ◌+◌, ◌*◌, ◌-◌, ◌^◌, ◌<◌, ◌≤◌, List, [], ◌∷◌, ◌++◌, length, map, get_or, eqb, cond, refl, ap, ◌∙◌, arith, pow_pos}
 use Rattle.std.specs.List.{range_with_len}
 use Rattle.std.proofs.lemmas.Bool.Decides.{nat_tests}
 use Rattle.std.proofs.lemmas.List.{map-append, get_or_past}
 use Rattle.item_defs.specs.Items.{Item}
 use Rattle.item_defs.specs.Readings.{item_at}
 use Rattle.item_defs.specs.Laws.{said_of}
-use Rattle.number_defs.specs.Mapping.{mapped, unmapped}
-use Rattle.number_defs.specs.Gaggles.{Kind, uncoded, value_at, first_place, places, uncoded_value, unary_part, rest_part, value_items, lead_items, items_before}
+use Rattle.number_defs.specs.Mapping.{unmapped}
+use Rattle.number_defs.specs.Gaggles.{Kind, value_at, value_items, lead_items, items_before}
 use Rattle.number_defs.proofs.MappingLaws.{mapped_below, unmapped_below, unmapped_back}
 use Rattle.plane_defs.specs.Spans.{span}
 use Rattle.plane_defs.proofs.SpanLists.{length-map-span, get_or-map-span}
@@ -18,9 +18,7 @@ said_both is js is' js' e f = grind (arith, nat_tests, map-append)
 
 pub map_said : (f h : ℕ → Item) (a n : ℕ) → ((i : ℕ) → a ≤ i → i < a + n → (f i).said ≡ (h i).said) → said_of (map f (range_with_len a n)) ≡ said_of (map h (range_with_len a n))
 map_said f h a zero same = refl
-map_said f h a (suc n) same =
-    ap (λ x. x ∷ said_of (map f (range_with_len (a + 1) n))) (same a (omega arith) (omega arith))
-    ∙ ap (λ l. (h a).said ∷ l) (map_said f h (a + 1) n (λ i low high. same i (omega arith) (omega arith)))
+map_said f h a (suc n) same = grind (arith, nat_tests, map_said f h (a + 1) n (λ i low high. same i (omega arith) (omega arith)))
 
 pub left_at : (m : ℕ) (js js' : List Item) → m < length js → item_at (js ++ js') m ≡ item_at js m
 left_at m [] js' lt = absurd (omega (arith, lt))
@@ -79,11 +77,7 @@ module _ (kind : Kind) (xs : List ℕ) (few : (i : ℕ) → get_or xs i 0 < 2 ^ 
   with_values : (j : ℕ) → 1 ≤ j → j < length xs → value_at kind.bits with_value j ≡ value_with j
   unfolding chain
   with_values zero some lt = absurd (omega arith)
-  with_values (suc j) some lt =
-      let z : suc j - 1 ≡ j = omega arith in
-      ap (λ k. mapped kind.bits (get_or with_value k 0) (get_or with_value (suc j) 0)) z
-      ∙ ap (λ n. mapped kind.bits n (get_or with_value (suc j) 0)) (with_at j (omega arith)) ∙ ap (mapped kind.bits (chain j)) (with_at (suc j) lt)
-      ∙ unmapped_back kind.bits (chain j) (value_with (suc j)) (chain_below j) (with_below (suc j))
+  with_values (suc j) some lt = grind (arith, nat_tests, with_at, chain, unmapped_back, value_with, chain_below, with_below)
 
   pub value_here : 1 ≤ i → i < length xs → value_at kind.bits with_value i ≡ v
   unfolding value_with
@@ -98,18 +92,7 @@ module _ (kind : Kind) (xs : List ℕ) (few : (i : ℕ) → get_or xs i 0 < 2 ^ 
 module _ (kind : Kind) (xs ys : List ℕ) (long : length ys ≡ length xs) where
   pub values_said : (option a n : ℕ) → ((j : ℕ) → a ≤ j → j < a + n → value_at kind.bits xs j ≡ value_at kind.bits ys j) →
       said_of (value_items kind xs option (range_with_len a n)) ≡ said_of (value_items kind ys option (range_with_len a n))
-  values_said option a n same = simp value_items-is (by_option (eqb option (uncoded kind.bits)) (eqb option 0))
-    where
-      unaries : said_of (map (unary_part kind xs option) (range_with_len a n)) ≡ said_of (map (unary_part kind ys option) (range_with_len a n))
-      unaries = map_said (unary_part kind xs option) (unary_part kind ys option) a n (λ j low high. ap (λ w. w / 2 ^ option) (same j low high))
-
-      by_option : (t z : Bool) → said_of (cond t (map (uncoded_value kind xs) (range_with_len a n)) (map (unary_part kind xs option) (range_with_len a n) ++ cond z [] (map (rest_part kind xs option) (range_with_len a n))))
-          ≡ said_of (cond t (map (uncoded_value kind ys) (range_with_len a n)) (map (unary_part kind ys option) (range_with_len a n) ++ cond z [] (map (rest_part kind ys option) (range_with_len a n))))
-      by_option true z = map_said (uncoded_value kind xs) (uncoded_value kind ys) a n same
-      by_option false true = said_both (map (unary_part kind xs option) (range_with_len a n)) (map (unary_part kind ys option) (range_with_len a n)) [] [] unaries refl
-      by_option false false =
-          said_both (map (unary_part kind xs option) (range_with_len a n)) (map (unary_part kind ys option) (range_with_len a n)) _ _ unaries
-          (map_said (rest_part kind xs option) (rest_part kind ys option) a n (λ j low high. ap (λ w. w % 2 ^ option) (same j low high)))
+  values_said option a n same = grind (arith, nat_tests, value_items-is, map_said, said_both)
 
   pub lead_said : (g : ℕ) → get_or xs 0 0 ≡ get_or ys 0 0 → said_of (lead_items kind xs g) ≡ said_of (lead_items kind ys g)
   lead_said g e = grind (arith, nat_tests)
@@ -117,10 +100,4 @@ module _ (kind : Kind) (xs ys : List ℕ) (long : length ys ≡ length xs) where
   pub before_said : (o u : ℕ → ℕ) (g : ℕ) → (1 ≤ g → get_or xs 0 0 ≡ get_or ys 0 0) → ((j : ℕ) → j < g → o j ≡ u j) → ((j : ℕ) → 1 ≤ j → j < 16 * g → j < length xs → value_at kind.bits xs j ≡ value_at kind.bits ys j) →
       said_of (items_before kind xs o g) ≡ said_of (items_before kind ys u g)
   before_said o u zero e options same = simp items_before-none
-  before_said o u (suc g) e options same = simp (items_before-more, gaggle_items-is) (
-      said_both (items_before kind xs o g) (items_before kind ys u g) _ _ (before_said o u g (λ some. e (omega arith)) (λ j lt. options j (omega arith)) (λ j some lt within. same j some (omega arith) within))
-      (ap (λ x. x ∷ said_of (lead_items kind xs g ++ value_items kind xs (o g) (places (length xs) g))) (options g (omega arith))
-      ∙ ap (λ l. u g ∷ l) (said_both (lead_items kind xs g) (lead_items kind ys g) _ _ (lead_said g (e (omega arith)))
-      (ap (λ w. said_of (value_items kind xs w (places (length xs) g))) (options g (omega arith))
-      ∙ values_said (u g) (first_place g) (min (length xs) (16 * g + 16) - first_place g) (λ j low high. same j (omega arith) (omega arith) (omega arith))
-      ∙ ap (λ n. said_of (value_items kind ys (u g) (places n g))) (sym long)))))
+  before_said o u (suc g) e options same = grind (arith, nat_tests, items_before-more, gaggle_items-is, said_both, lead_said, values_said, before_said o u g (λ some. e (omega arith)) (λ j lt. options j (omega arith)) (λ j some lt within. same j some (omega arith) within))

@@ -1,5 +1,5 @@
 -- The numbers by differences that the first items of two readings make whole are the same.
-use Rattle.std.proofs.Common.{◌≡◌, ℕ, zero, suc, ◌+◌, ◌*◌, ◌-◌, ◌/◌, ◌%◌, ◌^◌, ◌<◌, ◌≤◌, min, List, [], ◌∷◌, ◌++◌, length, take, map, get_or, Bool, true, false, eqb, cond, refl, sym, ap, subst, ◌∙◌, arith, inl, inr, append_assoc, append-nil, length-append, ◌||◌}
+use Rattle.std.proofs.Common.{◌≡◌, ℕ, zero, suc, ◌+◌, ◌*◌, ◌-◌, ◌/◌, ◌^◌, ◌<◌, ◌≤◌, min, List, [], ◌∷◌, ◌++◌, length, take, map, get_or, Bool, true, false, eqb, cond, refl, sym, ap, subst, ◌∙◌, arith, inl, inr, append_assoc, append-nil, length-append, ◌||◌}
 use Rattle.std.specs.List.{range_with_len}
 use Rattle.std.proofs.lemmas.Bool.{cases_lt}
 use Rattle.std.proofs.lemmas.Bool.Decides.{nat_tests}
@@ -23,20 +23,15 @@ by_length m [] [] is' js' long e = let z : m ≡ m - 0 = omega arith in (refl, s
 by_length m [] (j ∷ js) is' js' long e = absurd (omega (arith, long))
 by_length m (i ∷ is) [] is' js' long e = absurd (omega (arith, long))
 by_length zero (i ∷ is) (j ∷ js) is' js' long e = let z : 0 ≡ 0 - length (i ∷ is) = omega arith in (refl, subst (λ k. SaySame k is' js') z refl)
-by_length (suc m) (i ∷ is) (j ∷ js) is' js' long e =
-    let first : i.said ≡ j.said = head_same i.said j.said (said_of (take m (is ++ is'))) (said_of (take m (js ++ js'))) e in
-    let r = by_length m is js is' js' (omega (arith, long)) (tail_same i.said j.said (said_of (take m (is ++ is'))) (said_of (take m (js ++ js'))) e) in
-    let z : m - length is ≡ suc m - length (i ∷ is) = omega arith in
-    (ap (λ n. n ∷ said_of (take m is)) first ∙ ap (λ l. j.said ∷ l) r.0, subst (λ k. SaySame k is' js') z r.1)
+by_length (suc m) (i ∷ is) (j ∷ js) is' js' long e = grind (arith, nat_tests, head_same, tail_same, by_length m is js is' js' (omega (arith, long)) (tail_same i.said j.said (said_of (take m (is ++ is'))) (said_of (take m (js ++ js'))) e))
 
 pub at_place : (f h : ℕ → Item) (a n k : ℕ) → SaySame k (map f (range_with_len a n)) (map h (range_with_len a n)) → (i : ℕ) → a ≤ i → i < a + n → i - a < k → (f i).said ≡ (h i).said
 at_place f h a zero k e i low high lt = absurd (omega arith)
 at_place f h a (suc n) zero e i low high lt = absurd (omega arith)
 at_place f h a (suc n) (suc k) e i low high lt =
-    let first : (f a).said ≡ (h a).said = head_same _ _ _ _ e in
     elim (cases_lt a i) [
       | inl later ↦ at_place f h (a + 1) n k (tail_same _ _ _ _ e) i (omega arith) (omega arith) (omega arith)
-      | inr here ↦ let same : a ≡ i = omega arith in subst (λ j. (f j).said ≡ (h j).said) same first
+      | inr here ↦ let same : a ≡ i = omega arith in subst (λ j. (f j).said ≡ (h j).said) same (head_same _ _ _ _ e)
     ]
 
 pub all_said : (m : ℕ) (is js : List Item) → length is ≡ length js → length is ≤ m → SaySame m is js → said_of is ≡ said_of js
@@ -44,9 +39,7 @@ all_said m [] [] long le e = refl
 all_said m [] (j ∷ js) long le e = absurd (omega (arith, long))
 all_said m (i ∷ is) [] long le e = absurd (omega (arith, long))
 all_said zero (i ∷ is) (j ∷ js) long le e = absurd (omega (arith, le))
-all_said (suc m) (i ∷ is) (j ∷ js) long le e =
-    let first : i.said ≡ j.said = head_same i.said j.said (said_of (take m is)) (said_of (take m js)) e in
-    ap (λ n. n ∷ said_of is) first ∙ ap (λ l. j.said ∷ l) (all_said m is js (omega (arith, long)) (omega (arith, le)) (tail_same i.said j.said (said_of (take m is)) (said_of (take m js)) e))
+all_said (suc m) (i ∷ is) (j ∷ js) long le e = grind (arith, nat_tests, head_same, tail_same, all_said m is js (omega (arith, long)) (omega (arith, le)) (tail_same i.said j.said (said_of (take m is)) (said_of (take m js)) e))
 
 pub map_long : (f : ℕ → Item) (a n : ℕ) → length (map f (range_with_len a n)) ≡ n
 map_long f a n = length-map (range_with_len a n) f ∙ length-range_with_len a n
@@ -73,22 +66,18 @@ module _ (kind : Kind) (xs ys : List ℕ) (p : (i : ℕ) → get_or xs i 0 < 2 ^
           let none : option ≡ 0 = grind (arith, nat_tests) in
           let parts = by_length k (map (unary_part kind xs option) (range_with_len a n)) (map (unary_part kind ys option) (range_with_len a n)) [] [] (map_long _ a n ∙ sym (map_long _ a n)) e in
           let said : value_at kind.bits xs i / 2 ^ option ≡ value_at kind.bits ys i / 2 ^ option = at_place (unary_part kind xs option) (unary_part kind ys option) a n k parts.0 i low high (omega (arith, le)) in
-          let whole : value_at kind.bits xs i / 2 ^ 0 ≡ value_at kind.bits ys i / 2 ^ 0 = subst (λ o. value_at kind.bits xs i / 2 ^ o ≡ value_at kind.bits ys i / 2 ^ o) none said in
-          omega (arith, whole)
+          omega (arith, subst (λ o. value_at kind.bits xs i / 2 ^ o ≡ value_at kind.bits ys i / 2 ^ o) none said)
       by_option false false f e le =
           let parts = by_length k (map (unary_part kind xs option) (range_with_len a n)) (map (unary_part kind ys option) (range_with_len a n)) _ _ (map_long _ a n ∙ sym (map_long _ a n)) e in
           let long = map_long (unary_part kind xs option) a n in
           let highs : value_at kind.bits xs i / 2 ^ option ≡ value_at kind.bits ys i / 2 ^ option = at_place (unary_part kind xs option) (unary_part kind ys option) a n k parts.0 i low high (omega (arith, le)) in
-          let lows : value_at kind.bits xs i % 2 ^ option ≡ value_at kind.bits ys i % 2 ^ option =
-          at_place (rest_part kind xs option) (rest_part kind ys option) a n (k - length (map (unary_part kind xs option) (range_with_len a n))) parts.1 i low high (omega (arith, le, long)) in
-          stepping.split_value kind xs ys p q option _ _ highs lows
+          stepping.split_value kind xs ys p q option _ _ highs (grind (arith, nat_tests, at_place))
 
   -- the numbers from the one before the gaggle on
   walk : (a d : ℕ) → 1 ≤ a → get_or xs (a - 1) 0 ≡ get_or ys (a - 1) 0 → ((j : ℕ) → a ≤ j → j < a + d → value_at kind.bits xs j ≡ value_at kind.bits ys j) → get_or xs (a + d - 1) 0 ≡ get_or ys (a + d - 1) 0
   walk a zero low e values = let z : a - 1 ≡ a + 0 - 1 = omega arith in subst (λ j. get_or xs j 0 ≡ get_or ys j 0) z e
   walk a (suc d) low e values =
-      let z : a + d ≡ a + suc d - 1 = omega arith in
-      subst (λ j. get_or xs j 0 ≡ get_or ys j 0) z
+      subst (λ j. get_or xs j 0 ≡ get_or ys j 0) (omega arith)
       (stepping.same_number kind xs ys p q (a + d) (walk a d low e (λ j from to. values j from (omega arith))) (values (a + d) (omega arith) (omega arith)))
 
   lead_long : (g : ℕ) → length (lead_items kind xs g) ≡ length (lead_items kind ys g)
@@ -107,9 +96,7 @@ before_parts kind heights options (suc count) g lt = simp items_before-more (
                 ap (λ l. l ++ last) r.same ∙ append_assoc (items_before kind heights options g) (gaggle_items kind heights (options g) g ++ r.others) last
                 ∙ ap (λ l. items_before kind heights options g ++ l) (append_assoc (gaggle_items kind heights (options g) g) r.others last);
           }
-      | inr last ↦
-          let same : count ≡ g = omega arith in
-          record { others = []; same = ap (λ c. items_before kind heights options c ++ gaggle_items kind heights (options c) c) same ∙ ap (λ l. items_before kind heights options g ++ l) (sym (append-nil (gaggle_items kind heights (options g) g))) }
+      | inr last ↦ grind (arith, nat_tests, append-nil)
     ])
 
 -- ---- all numbers
@@ -128,26 +115,21 @@ module _ (kind : Kind) (xs ys : List ℕ) (p : (i : ℕ) → get_or xs i 0 < 2 ^
       let e = simp gaggle_items-is at e in (
       let a : ℕ = first_place g in
       let n : ℕ = min (length xs) (16 * g + 16) - a in
-      let option : o g ≡ u g = head_same _ _ _ _ e in
       let tail : SaySame c ((lead_items kind xs g ++ value_items kind xs (o g) (places (length xs) g)) ++ rest) ((lead_items kind ys g ++ value_items kind ys (u g) (places (length ys) g)) ++ other) = tail_same _ _ _ _ e in
       let joined = say_as c _ _ _ _ (append_assoc (lead_items kind xs g) (value_items kind xs (o g) (places (length xs) g)) rest) (append_assoc (lead_items kind ys g) (value_items kind ys (u g) (places (length ys) g)) other) tail in
       let long = lead_long kind xs ys p q g in
       let parts = by_length c (lead_items kind xs g) (lead_items kind ys g) _ _ long joined in
-      let lead = all_said c (lead_items kind xs g) (lead_items kind ys g) long (omega (arith, le)) parts.0 in
-      let before = stepping.lead_same kind xs ys p q g known lead in
+      let before = stepping.lead_same kind xs ys p q g known (all_said c (lead_items kind xs g) (lead_items kind ys g) long (omega (arith, le)) parts.0) in
       let k : ℕ = c - length (lead_items kind xs g) in
-      let one : SaySame k (value_items kind xs (o g) (places (length xs) g) ++ rest) (value_items kind ys (o g) (places (length xs) g) ++ other) =
-      subst (λ l. SaySame k (value_items kind xs (o g) (places (length xs) g) ++ rest) (value_items kind ys (o g) (places l g) ++ other)) (sym same)
-      (subst (λ w. SaySame k (value_items kind xs (o g) (places (length xs) g) ++ rest) (value_items kind ys w (places (length ys) g) ++ other)) (sym option) parts.1) in
+      let one : SaySame k (value_items kind xs (o g) (places (length xs) g) ++ rest) (value_items kind ys (o g) (places (length xs) g) ++ other) = grind (arith, nat_tests) in
       let values = (by_length k (value_items kind xs (o g) (places (length xs) g)) (value_items kind ys (o g) (places (length xs) g)) rest other (values_long kind xs ys p q (o g) a n) one).0 in (
-        option,
+        (head_same _ _ _ _ e),
         before,
         λ i low high fit.
             let counted : 1 + length (lead_items kind xs g) + unary_of kind (o g) n + (i - a + 1) ≤ suc c =
             subst (λ l. 1 + length (lead_items kind xs g) + unary_of kind (o g) l + (i - a + 1) ≤ suc c) (length-range_with_len a n) fit in
             let d : ℕ = i - a + 1 in
-            let at : a + d - 1 ≡ i = omega arith in
-            subst (λ j. get_or xs j 0 ≡ get_or ys j 0) at
+            subst (λ j. get_or xs j 0 ≡ get_or ys j 0) (omega arith)
             (walk kind xs ys p q a d (omega arith) before (λ j from to. value_told kind xs ys p q (o g) a n k j values from (omega arith) (omega (arith, counted)))),
       ))
 
@@ -160,14 +142,10 @@ module _ (kind : Kind) (xs ys : List ℕ) (p : (i : ℕ) → get_or xs i 0 < 2 ^
       let g = i / 16 in
       let left = before_parts kind xs o (gaggle_count (length xs)) g (omega arith) in
       let right = before_parts kind ys u (gaggle_count (length ys)) g (omega arith) in
-      let whole = say_as m _ _ _ _ left.same right.same e in
       let steps = stepping.before_both kind xs ys p q same o u g in
-      let some = at_least (eqb i 0) le in
-      elim (split m (items_before kind xs o g) (items_before kind ys u g) _ _ steps.0 whole) [
-        | inl early ↦ absurd (omega (arith, early.first, some))
-        | inr past ↦
-            let given = gaggle_told g (m - length (items_before kind xs o g)) (steps.1 past.said) left.others right.others past.rest (omega (arith, some, past.within)) in
-            by_zero (eqb i 0) refl past.within past.long given le
+      elim (split m (items_before kind xs o g) (items_before kind ys u g) _ _ steps.0 (say_as m _ _ _ _ left.same right.same e)) [
+        | inl early ↦ absurd (omega (arith, early.first, at_least (eqb i 0) le))
+        | inr past ↦ grind (arith, nat_tests, gaggle_told)
       ]
     where
       at_least : (t : Bool) → cond t (lead_of xs o (i / 16)) (lead_of xs o (i / 16) + unary_of kind (o (i / 16)) (length (places (length xs) (i / 16))) + (i - first_place (i / 16) + 1)) ≤ m → lead_of xs o (i / 16) ≤ m
@@ -177,13 +155,4 @@ module _ (kind : Kind) (xs ys : List ℕ) (p : (i : ℕ) → get_or xs i 0 < 2 ^
           NumbersGiven (i / 16) (m - length (items_before kind xs o (i / 16))) →
           cond t (lead_of xs o (i / 16)) (lead_of xs o (i / 16) + unary_of kind (o (i / 16)) (length (places (length xs) (i / 16))) + (i - first_place (i / 16) + 1)) ≤ m →
           (cond t (lead_of ys u (i / 16)) (lead_of ys u (i / 16) + unary_of kind (u (i / 16)) (length (places (length ys) (i / 16))) + (i - first_place (i / 16) + 1)) ≤ m) × (get_or xs i 0 ≡ get_or ys i 0)
-      by_zero true z low long given le =
-          let none : i ≡ 0 = grind (arith, nat_tests) in
-          let at : first_place (i / 16) - 1 ≡ i = omega arith in
-          (omega (arith, le, long, lead_long kind xs ys p q (i / 16)), subst (λ j. get_or xs j 0 ≡ get_or ys j 0) at given.1)
-      by_zero false z low long given le =
-          let some : 1 ≤ i = grind (arith, nat_tests) in
-          let other : lead_of xs o (i / 16) + unary_of kind (u (i / 16)) (length (places (length ys) (i / 16))) + (i - first_place (i / 16) + 1) ≤ m =
-          subst (λ l. lead_of xs o (i / 16) + unary_of kind (u (i / 16)) (length (places l (i / 16))) + (i - first_place (i / 16) + 1) ≤ m) same
-          (subst (λ w. lead_of xs o (i / 16) + unary_of kind w (length (places (length xs) (i / 16))) + (i - first_place (i / 16) + 1) ≤ m) given.0 le) in
-          (omega (arith, other, long, lead_long kind xs ys p q (i / 16)), given.2 i (omega arith) (omega (arith, within)) (omega (arith, le, low)))
+      by_zero t z low long given le = grind (arith, nat_tests, lead_long)

@@ -40,8 +40,7 @@ rest_same : (x y : Bool) (xs ys : List Bool) → y ∷ ys ≡ x ∷ xs → ys �
 rest_same x y xs ys e = cc
 
 begins_alike : (x : Bool) (a bits : List Bool) → Begins a bits → Begins (x ∷ a) (x ∷ bits)
-begins_alike x a bits (inl r) = inl (r.0, ap (λ l. x ∷ l) r.1)
-begins_alike x a bits (inr none) = inr (λ after e. none after (rest_same x x (a ++ after) bits e))
+begins_alike x a bits h3 = grind (arith, nat_tests, rest_same)
 
 begins : (a bits : List Bool) → Begins a bits
 begins [] bits = inl (bits, refl)
@@ -74,9 +73,7 @@ bound_of (coded codes) = length codes
 
 said_from : (s : Shape) (n : ℕ) → n < bound_of s → IsSaid s n
 unfolding bound_of
-said_from (fixed w) n lt = lt
-said_from (zeros_to limit) n lt = omega (arith, lt)
-said_from (coded codes) n lt = lt
+said_from s n lt = grind (arith, nat_tests)
 
 said_to : (s : Shape) (n : ℕ) → IsSaid s n → n < bound_of s
 unfolding bound_of

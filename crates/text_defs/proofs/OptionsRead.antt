@@ -1,5 +1,5 @@
 -- Options of numbers whose identifiers were read exist; so numbers continue by one item.
-use Rattle.std.proofs.Common.{◌≡◌, ℕ, zero, suc, ◌-◌, ◌^◌, ◌<◌, ◌≤◌, Bool, true, not, cond, List, [], ◌∷◌, ◌++◌, length, take, get_or, ap, sym, ◌∙◌, subst, arith, length-append, None, Some}
+use Rattle.std.proofs.Common.{◌≡◌, ℕ, zero, suc, ◌-◌, ◌^◌, ◌<◌, ◌≤◌, Bool, true, not, cond, List, [], ◌∷◌, ◌++◌, length, take, get_or, ap, subst, arith, length-append, None, Some}
 use Rattle.std.proofs.lemmas.Bool.Decides.{nat_tests}
 use Rattle.item_defs.specs.Items.{Item, bad_option, identifier}
 use Rattle.item_defs.specs.Readings.{IsItem, AreItems, item_at}
@@ -33,8 +33,7 @@ module _ (kind : Kind) (xs : List ℕ) (o : ℕ → ℕ) where
       let here = gaggle_items kind xs (o g) g in
       let k : ℕ = length early in
       let none : 0 ≡ k - length early = omega arith in
-      let at : item_at (number_items kind xs o) k ≡ identifier (identifier_bits kind.bits) (is_option kind.bits) (o g) =
-      ap (λ l. item_at l k) p.same ∙ right_at k early (here ++ p.others) (omega arith) ∙ sym (ap (item_at (here ++ p.others)) none) ∙ first_of g p.others in
+      let at : item_at (number_items kind xs o) k ≡ identifier (identifier_bits kind.bits) (is_option kind.bits) (o g) = grind (arith, nat_tests, right_at, first_of) in
       let within : k < length (number_items kind xs o) = omega (arith, ap length p.same, length-append early (here ++ p.others), length-append here p.others, some_items g) in
       let item : IsItem (identifier (identifier_bits kind.bits) (is_option kind.bits) (o g)) = subst IsItem at (are_at m k (number_items kind xs o) all read within) in
       named (is_option kind.bits (o g)) item.2
@@ -42,5 +41,4 @@ module _ (kind : Kind) (xs : List ℕ) (o : ℕ → ℕ) where
   -- all numbers, if the items before are not refused
   pub numbers_further : (few : (i : ℕ) → get_or xs i 0 < 2 ^ kind.bits) (some : 1 ≤ kind.bits) (m said : ℕ) → 0 < length xs → AreItems (take m (number_items kind xs o)) →
       m < length (number_items kind xs o) → MaySay (item_at (number_items kind xs o) m) said → NumbersChosen kind some xs few o (gaggle_count (length xs)) m said
-  numbers_further few some m said inside all lt may =
-      any_numbers kind some xs few o (gaggle_count (length xs)) m said inside (λ g below read. option_read m g all below read) lt may
+  numbers_further few some m said inside all lt may = grind (arith, nat_tests, any_numbers, option_read)

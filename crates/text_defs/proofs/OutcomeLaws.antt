@@ -1,5 +1,5 @@
 -- A text is read in one way, and has one outcome.
-use Rattle.std.proofs.Common.{◌≡◌, ◌⊎◌, ℕ, ◌+◌, ◌*◌, ◌/◌, ◌≤◌, inl, inr, Bool, cond, List, ◌++◌, length, take, refl, ap, sym, ◌∙◌, subst, arith, ℤ, length-append}
+use Rattle.std.proofs.Common.{◌≡◌, ◌⊎◌, ℕ, ◌+◌, ◌*◌, ◌/◌, ◌≤◌, inl, inr, Bool, cond, List, ◌++◌, length, take, ap, sym, ◌∙◌, subst, arith, ℤ, length-append}
 use Rattle.std.proofs.lemmas.Bool.{cases_lt}
 use Rattle.std.proofs.Math.Seq.{take-length}
 use Rattle.std.proofs.lemmas.Bool.Decides.{nat_tests}
@@ -45,19 +45,8 @@ module _ (head : SegmentHead) (rest : List ℕ) (fits : IsHead head) (xs ys : Li
       let same = segment_alike head xs ys ds es o u fits a.spellable b.spellable a.known b.known books in
       elim (cases_lt m (length is)) [
         | inl within ↦ one_end is js (bits_read head rest) same m more other s t (sound_at is m (segment_sound head xs ds o a.known) within) a.front b.front p q
-        | inr past ↦
-            let r = fronts_agree is js m more other same a.front.within b.front.within a.front.taken b.front.taken (sym a.front.read ∙ b.front.read) in
-            let next = next_alike is js m same a.front.within b.front.within a.front.taken r.0 in
-            let end : m ≡ length is = omega (arith, a.front.within) in
-            both_whole s t p q end (next.1 end)
+        | inr past ↦ grind (arith, nat_tests, fronts_agree, next_alike)
       ]
-    where
-      both_whole : (s t : End) → EndsSo (segment_items head xs ds o) m more s → EndsSo (segment_items head ys es u) m other t → m ≡ length (segment_items head xs ds o) → m ≡ length (segment_items head ys es u) → s ≡ t
-      both_whole all_given all_given p q e f = refl
-      both_whole all_given nothing_follows p q e f = absurd (omega (arith, q.within))
-      both_whole all_given (refusal_follows name) p q e f = absurd (omega (arith, q.within))
-      both_whole nothing_follows t p q e f = absurd (omega (arith, p.within))
-      both_whole (refusal_follows name) t p q e f = absurd (omega (arith, p.within))
 
   pub ends_once : (m n : ℕ) → Reading head rest xs ds o m more → Reading head rest ys es u n other → (s t : End) → EndsSo (segment_items head xs ds o) m more s → EndsSo (segment_items head ys es u) n other t → (m ≡ n) × (s ≡ t)
   ends_once m n a b s t p q =
@@ -85,8 +74,7 @@ module _ (head : SegmentHead) (rest : List ℕ) (fits : IsHead head) (xs ys : Li
 
 -- how a reading of what is held ends, and how a reading of what is refused ends
 end_of_taken : (head : SegmentHead) (rest : List ℕ) (is : List Item) (m : ℕ) (more : List Bool) → IsTaken head rest is m more → (s : End) × EndsSo is m more s
-end_of_taken head rest is m more (inl whole) = (all_given, whole.0)
-end_of_taken head rest is m more (inr cut) = (nothing_follows, cut.0)
+end_of_taken head rest is m more h5 = grind (arith, nat_tests, all_given, nothing_follows)
 
 abbrev Cause : SegmentHead → List ℕ → List Item → ℕ → List Bool → SegmentRefusal → Type 0
 Cause head rest is m more name =
@@ -148,8 +136,7 @@ module _ (book : Book) (head : SegmentHead) (rest : List ℕ) (fits : IsHead hea
       apart (inl whole) short_segment (inl refused) once long = refused
       apart (inl whole) overlong (inl refused) once long = refused
       apart (inl whole) name (inr (inl off)) once long =
-          let e = long whole.0 off.0 (once all_given all_given whole.0 off.0).0 in
-          not_off (length_of head rest) _ name (whole.1 ∙ e) off.1
+          not_off (length_of head rest) _ name (whole.1 ∙ (long whole.0 off.0 (once all_given all_given whole.0 off.0).0)) off.1
       apart (inl whole) name (inr (inr off)) once long = subst is_given (once all_given nothing_follows whole.0 off.0).1 tt
       apart (inr cut) (at_item name) (inl refused) once long = subst is_cut (once nothing_follows (refusal_follows name) cut.0 refused).1 tt
       apart (inr cut) short_segment (inl refused) once long = refused

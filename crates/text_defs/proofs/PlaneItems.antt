@@ -1,24 +1,21 @@
 -- No item of a plane of values that can be coded is refused.
-use Rattle.std.proofs.Common.{◌≡◌, ℕ, zero, suc, ◌*◌, ◌^◌, ◌<◌, ◌≤◌, Bool, true, false, cond, eqb, List, [], ◌∷◌, ◌++◌, refl, subst, arith, get_or, ◌==◌, None, Some}
-use Rattle.std.specs.List.{flat_map, list_any, AllByRecursion}
+use Rattle.std.proofs.Common.{◌≡◌, ℕ, ◌*◌, ◌^◌, ◌<◌, ◌≤◌, Bool, true, false, cond, List, [], ◌∷◌, ◌++◌, refl, arith, get_or, None, Some}
+use Rattle.std.specs.List.{flat_map, AllByRecursion}
 use Rattle.std.proofs.lemmas.Bool.Decides.{nat_tests}
 use Rattle.item_defs.specs.Bits.{digit}
-use Rattle.item_defs.specs.Items.{Item, raw, plain, code, false_flag, IsSaid, refused_where}
+use Rattle.item_defs.specs.Items.{Item, false_flag}
 use Rattle.item_defs.specs.Readings.{IsItem, AreItems}
 use Rattle.item_defs.proofs.ReadingLaws.{are_append}
 use Rattle.base_122.specs.declared.book.Book.{Book}
 use Rattle.plane_defs.specs.declared.entries.Entry.{Entry}
-use Rattle.plane_defs.specs.declared.entries.Entry.TheVariants.{Bit, Word}
 use Rattle.plane_defs.specs.Spans.{span}
 use Rattle.plane_defs.specs.Entries.{IsEntry, stage_number}
-use Rattle.plane_defs.specs.Codes as codes
-use Rattle.plane_defs.specs.Codes.{symbol, is_book_sound, codes_of, code_bits, code_at, word_item, option_item, identifier_number, identifier_width, names_option}
-use Rattle.plane_defs.specs.Spelled.{is_word_of, option_of, opening}
+use Rattle.plane_defs.specs.Codes.{is_book_sound, option_item}
 use Rattle.plane_defs.specs.Steps.{Check, refuses, Step}
 use Rattle.plane_defs.specs.StepLaws.{IsAllowed, value_of_entry}
 use Rattle.plane_defs.specs.Laws.{IsMultiple}
 use Rattle.plane_defs.specs.Planes.{Plane, gaggles, gaggle_size, before_stage}
-use Rattle.plane_defs.specs.Reading.{word_of, checked, checked_word, entry_reading, step_reading, read_after, steps_of_block, steps_of_gaggle, gaggle_reading, stage_reading, plane_reading}
+use Rattle.plane_defs.specs.Reading.{checked_word, entry_reading, read_after, steps_of_block, steps_of_gaggle, gaggle_reading, stage_reading, plane_reading}
 use Rattle.plane_defs.proofs.SymbolTables.{symbol-below}
 use Rattle.plane_defs.proofs.SpanLists.{length-map-span}
 use Rattle.plane_defs.proofs.Above.{all_append}
@@ -31,21 +28,7 @@ use Rattle.plane_defs.proofs.Equations.{span-none, span-more, bit_reading, word_
 -- ---- options and symbols
 
 option_is_item : (n o : ℕ) → 2 ≤ n → n ≤ 4 → o < n → IsItem (option_item n o)
-option_is_item zero o low high lt = absurd (omega arith)
-option_is_item (suc zero) o low high lt = absurd (omega arith)
-option_is_item (suc (suc zero)) zero low high lt = grind (arith, nat_tests, span-none, span-more)
-option_is_item (suc (suc zero)) (suc zero) low high lt = grind (arith, nat_tests, span-none, span-more)
-option_is_item (suc (suc zero)) (suc (suc o)) low high lt = absurd (omega arith)
-option_is_item (suc (suc (suc zero))) zero low high lt = grind (arith, nat_tests, span-none, span-more)
-option_is_item (suc (suc (suc zero))) (suc zero) low high lt = grind (arith, nat_tests, span-none, span-more)
-option_is_item (suc (suc (suc zero))) (suc (suc zero)) low high lt = grind (arith, nat_tests, span-none, span-more)
-option_is_item (suc (suc (suc zero))) (suc (suc (suc o))) low high lt = absurd (omega arith)
-option_is_item (suc (suc (suc (suc zero)))) zero low high lt = grind (arith, nat_tests, span-none, span-more)
-option_is_item (suc (suc (suc (suc zero)))) (suc zero) low high lt = grind (arith, nat_tests, span-none, span-more)
-option_is_item (suc (suc (suc (suc zero)))) (suc (suc zero)) low high lt = grind (arith, nat_tests, span-none, span-more)
-option_is_item (suc (suc (suc (suc zero)))) (suc (suc (suc zero))) low high lt = grind (arith, nat_tests, span-none, span-more)
-option_is_item (suc (suc (suc (suc zero)))) (suc (suc (suc (suc o)))) low high lt = absurd (omega arith)
-option_is_item (suc (suc (suc (suc (suc n))))) o low high lt = absurd (omega arith)
+option_is_item n o low high lt = grind (arith, nat_tests, span-none, span-more)
 
 -- ---- lists of parts
 
@@ -64,43 +47,17 @@ allowed b e = rw e refl
 
 module _ (book : Book) (sound : is_book_sound book ≡ true) where
   word_is_item : (n option value : ℕ) (check : Check) → 2 ≤ n → n ≤ 4 → option < n → value < 2 ^ n → refuses check value ≡ false → IsItem (checked_word book n option value check)
-  word_is_item n option value check low high known lt passes =
-      (word_sound book sound n option value low high known, said (option == codes.uncoded n), taken (option == codes.uncoded n))
-    where
-      said : (b : Bool) → IsSaid (cond b (plain n value) (code (codes_of book n option) (symbol n value))).form.shape (cond b (plain n value) (code (codes_of book n option) (symbol n value))).said
-      said true = lt
-      said false = omega (arith, symbol-below n value low high lt, length-map-span (λ s. code_bits (code_at book n option s)) (2 ^ n))
-
-      taken : (b : Bool) → refused_where (λ k. refuses check (cond b k (word_of n k))) false_flag (cond b (plain n value) (code (codes_of book n option) (symbol n value))).said ≡ None
-      taken b = grind (arith, nat_tests, allowed, word_of-symbol)
+  word_is_item n option value check low high known lt passes = grind (arith, nat_tests, word_sound, symbol-below, length-map-span, allowed, word_of-symbol)
 
   digit_below : (b : Bool) → digit b < 2 ^ 1
   digit_below b = grind (arith, nat_tests)
 
   entry_are_items : (options : List ℕ) → AreOptionsOf options → (before : List Entry) (check : Check) (e : Entry) → IsEntry e → refuses check (value_of_entry e) ≡ false → AreItems (entry_reading book options before check e)
-  entry_are_items options known before check (Bit b) fit passes = simp bit_reading (((tt, digit_below b, refl), tt))
-  entry_are_items options known before check (Word bits) fit passes = simp word_reading (by_count (eqb bits.count 0) (eqb bits.count 1) refl refl)
-    where
-      opened : 2 ≤ bits.count → (b : Bool) → AreItems (cond b [] (option_item bits.count (option_of options bits.count) ∷ []))
-      opened two true = tt
-      opened two false = (option_is_item bits.count (option_of options bits.count) two fit.0 (known.at bits.count two fit.0), tt)
-
-      small : bits.count ≡ 1 → bits.value < 2 ^ 1
-      small e = subst (λ n. bits.value < 2 ^ n) e fit.1
-
-      by_count : (none one : Bool) → eqb bits.count 0 ≡ none → eqb bits.count 1 ≡ one →
-          AreItems (cond none [] (cond one (checked (refuses check) (raw bits.value) ∷ []) (opening options before bits.count ++ checked_word book bits.count (option_of options bits.count) bits.value check ∷ [])))
-      by_count true one e f = tt
-      by_count false true e f = let z : bits.count ≡ 1 = grind (arith, nat_tests) in ((tt, small z, allowed (refuses check bits.value) passes), tt)
-      by_count false false e f =
-          let two : 2 ≤ bits.count = grind (arith, nat_tests) in
-          are_append (opening options before bits.count) _ (opened two (list_any (is_word_of bits.count) before))
-          (word_is_item bits.count (option_of options bits.count) bits.value check two fit.0 (known.at bits.count two fit.0) fit.1 passes, tt)
+  entry_are_items options known before check e fit passes = grind (arith, nat_tests, bit_reading, digit_below, word_reading, option_is_item, allowed, are_append, word_is_item)
 
   steps_are_items : (options : List ℕ) → AreOptionsOf options → (before : List Entry) (steps : List Step) → Fits steps → AllByRecursion IsAllowed steps → AreItems (read_after book options before steps)
   steps_are_items options known before [] fit all = tt
-  steps_are_items options known before (s ∷ steps) fit all =
-      are_append (step_reading book options before s) _ (entry_are_items options known before s.check s.entry fit.0 all.0) (steps_are_items options known (before ++ s.entry ∷ []) steps fit.1 all.1)
+  steps_are_items options known before (s ∷ steps) fit all = grind (arith, nat_tests, are_append, entry_are_items, steps_are_items options known (before ++ s.entry ∷ []) steps fit.1 all.1)
 
   -- ---- a plane
 

@@ -16,7 +16,7 @@ use Rattle.plane_defs.specs.Steps.{Step, block_steps}
 use Rattle.plane_defs.specs.StepLaws.{entries_of, SameSteps, AcsAlike}
 use Rattle.plane_defs.specs.Laws.{IsMultiple}
 use Rattle.plane_defs.specs.Planes.{Plane, gaggles, gaggle_size, of_block, of_gaggle, before_stage}
-use Rattle.plane_defs.specs.Reading.{entry_reading, step_reading, read_after, steps_of_block, steps_of_gaggle, gaggle_reading, stage_reading, plane_reading}
+use Rattle.plane_defs.specs.Reading.{step_reading, read_after, steps_of_block, steps_of_gaggle, gaggle_reading, stage_reading, plane_reading}
 use Rattle.plane_defs.proofs.Settled.{head_same, tail_same}
 use Rattle.plane_defs.proofs.Allowed.{block_is_allowed}
 use Rattle.plane_defs.proofs.AlikeSteps.{flat_steps}
@@ -32,6 +32,7 @@ use Rattle.text_defs.proofs.EntrySpot.{Elsewhere}
 use Rattle.text_defs.proofs.StepSpot.{StepSpot, spot, read_options}
 use Rattle.plane_texts.proofs.SmallFacts.{neither_left, neither_right}
 use Rattle.text_defs.proofs.PlaneItems.{flat_allowed}
+use Rattle.std.proofs.lemmas.Bool.Decides.{nat_tests}
 
 -- steps that say the same are read the same
 read_same : (book : Book) (o : List ℕ) (before : List Entry) (ss ts : List Step) → SameSteps ss ts → entries_of ss ≡ entries_of ts → read_after book o before ss ≡ read_after book o before ts
@@ -40,9 +41,7 @@ read_same book o before [] (t ∷ ts) same e = absurd same
 read_same book o before (s ∷ ss) [] same e = absurd same
 read_same book o before (s ∷ ss) (t ∷ ts) same e =
     let first : s.entry ≡ t.entry = head_same s.entry t.entry (entries_of ss) (entries_of ts) e in
-    let here : step_reading book o before s ≡ step_reading book o before t =
-    ap (λ x. entry_reading book o before s.check x) first ∙ ap (λ k. entry_reading book o before k t.entry) same.1 in
-    ap (λ l. l ++ read_after book o (before ++ s.entry ∷ []) ss) here
+    ap (λ l. l ++ read_after book o (before ++ s.entry ∷ []) ss) (grind (arith, nat_tests))
     ∙ ap (λ l. step_reading book o before t ++ l)
     (read_same book o (before ++ s.entry ∷ []) ss ts (same.3 first) (tail_same s.entry t.entry (entries_of ss) (entries_of ts) e) ∙ ap (λ x. read_after book o (before ++ x ∷ []) ts) first)
 
@@ -111,14 +110,7 @@ module _ (book : Book) (xs : List (List ℤ)) (depths weights : List ℕ) (numbe
       pub gaggle_chosen : (g place c said : ℕ) → (spot : StepSpot book (o g) (before_stage (plane_with xs) k g) (steps_of_gaggle (plane_with xs) (stage_number k) g) c said) → spot.e ≡ e →
           (located : StepLocated (Steps xs k) (16 * g) (gaggle_size (plane_with xs) g) spot.place) → located.at ≡ r → located.rest ≡ j →
           Chooses c said (gaggle_reading book o (plane_with xs) k g) (gaggle_reading book o (plane_with ys) k g)
-      gaggle_chosen g place c said spot same_e located at rest =
-          let picked : EntriesChoose j e (entries_of (Steps xs k r)) (entries_of (Steps ys k r)) = entries_as j e _ _ _ _ (block_entries_are xs k r) (block_entries_are ys k r) differs.here in
-          let there : EntriesChoose located.rest spot.e (entries_of (Steps xs k located.at)) (entries_of (Steps ys k located.at)) =
-          subst (λ n. EntriesChoose n spot.e (entries_of (Steps xs k located.at)) (entries_of (Steps ys k located.at))) (sym rest)
-          (subst (λ n. EntriesChoose j spot.e (entries_of (Steps xs k n)) (entries_of (Steps ys k n))) (sym at) (subst (λ x. EntriesChoose j x (entries_of (Steps xs k r)) (entries_of (Steps ys k r))) (sym same_e) picked)) in
-          let entries = located.chosen (Steps ys k) spot.e (λ s low high. block_entries_are xs k s ∙ differs.others s (omega (arith, high, at)) ∙ sym (block_entries_are ys k s)) there in
-          subst (λ b. Chooses c said (gaggle_reading book o (plane_with xs) k g) (read_after book (o g) b (steps_of_gaggle (plane_with ys) (stage_number k) g))) (sent_before k g (omega arith))
-          (spot.chosen (steps_of_gaggle (plane_with ys) (stage_number k) g) (gaggle_alike k g (omega arith)) entries)
+      gaggle_chosen g place c said spot same_e located at rest = grind (arith, nat_tests, entries_as, block_entries_are, sent_before, gaggle_alike)
 
   module _ (o : ℕ → List ℕ) (known : (g : ℕ) → AreOptionsOf (o g)) (multiples : (r : ℕ) → IsMultiple (get_or xs r []) weights) where
     pub record BlockSpot (stages m said : ℕ) : Type 0 where
@@ -193,10 +185,9 @@ module _ (book : Book) (xs : List (List ℤ)) (depths weights : List ℕ) (numbe
               | inr more ↦ elim (cases_lt g h) [
                 | inl after ↦ other_gaggle u g same i h (λ e. omega (arith, e, after))
                 | inr le ↦
-                    let at : g ≡ h = omega (arith, more, le) in
                     let lacks : list_any (is_word_of n) (entries_of (steps_of_gaggle (plane_with xs) (stage_number i) g)) ≡ false =
                     ap (list_any (is_word_of n)) (gaggle_entries book o (plane_with xs) (stage_number i) g) ∙ none_in (is_word_of n) (λ j. of_gaggle (plane_with xs) (stage_number j) g) k i none lt in
-                    subst (λ x. gaggle_reading book o (plane_with xs) i x ≡ gaggle_reading book u (plane_with xs) i x) at
+                    subst (λ x. gaggle_reading book o (plane_with xs) i x ≡ gaggle_reading book u (plane_with xs) i x) (omega (arith, more, le))
                     (read_options book n (o g) (u g) elsewhere (before_stage (plane_with xs) i g) (steps_of_gaggle (plane_with xs) (stage_number i) g) (fits_of i g) lacks)
               ]
             ])

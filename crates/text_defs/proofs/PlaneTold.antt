@@ -17,12 +17,13 @@ use Rattle.plane_defs.proofs.StepItems.{flat_alike, AreOptionsOf, OptionsAgree, 
 use Rattle.plane_defs.proofs.PlaneSteps as steps
 use Rattle.plane_texts.specs.Given.{whole_steps, entries_before, count_before, steps_given}
 use Rattle.text_defs.proofs.Prefixes.{SaySame, split, first_part}
-use Rattle.text_defs.proofs.Told.{ToldAlike, told_alike}
+use Rattle.text_defs.proofs.Told.{told_alike}
 use Rattle.plane_texts.proofs.Says.{AllSay, steps_say}
 use Rattle.plane_texts.proofs.NothingTold.{TellsNone, nothing_told}
 use Rattle.plane_texts.proofs.PlaneParts as parts
 use Rattle.plane_texts.proofs.PlaneParts.{Parts, parts_of}
 use Rattle.text_defs.proofs.SameTold.{SameTold, told_flat, from_alike, from_none, whole_say}
+use Rattle.std.proofs.lemmas.Bool.Decides.{nat_tests}
 
 pub say_as : (m : ℕ) (is js is' js' : List Item) → is ≡ is' → js ≡ js' → SaySame m is js → SaySame m is' js'
 say_as m is js is' js' p q e = subst (λ x. SaySame m x js') p (subst (SaySame m is) q e)
@@ -95,17 +96,13 @@ module _ (book : Book) (o u : ℕ → List ℕ) (known : (g : ℕ) → AreOption
       let g = r / 16 in
       let left = gaggle_parts o xs k r within in
       let right = gaggle_parts u ys k r within in
-      let whole : SaySame m (read_before o xs k r ++ (read_here o xs k r ++ (left.others ++ rest))) (read_before u ys k r ++ (read_here u ys k r ++ (right.others ++ other))) =
-      say_as m _ _ _ _
-      (ap (λ l. l ++ rest) left.same ∙ append_assoc (read_before o xs k r) (read_here o xs k r ++ left.others) rest ∙ ap (λ l. read_before o xs k r ++ l) (append_assoc (read_here o xs k r) left.others rest))
-      (ap (λ l. l ++ other) right.same ∙ append_assoc (read_before u ys k r) (read_here u ys k r ++ right.others) other ∙ ap (λ l. read_before u ys k r ++ l) (append_assoc (read_here u ys k r) right.others other)) e in
       let sent : before_stage (plane_with xs) k g ≡ before_stage (plane_with ys) k g = steps.sent_before book o u known also xs ys depths weights number q acs k g known_k.0 in
       let early : SameSteps (before_block xs k r) (before_block ys k r) =
       flat_steps (steps_of_block (plane_with xs) (stage_number k)) (steps_of_block (plane_with ys) (stage_number k)) (span (16 * g) (r - 16 * g))
       (all_span _ (16 * g) (r - 16 * g) (λ j low high. same_steps k g below known_k j low (omega arith))) in
       let first = after_alike book (o g) (u g) (known g) (also g) (before_stage (plane_with xs) k g) (before_block xs k r) (before_block ys k r) known_k.1 early (fits_before xs k r) (fits_before ys k r) in
       let alike : StepsAlike (read_before o xs k r) (read_before u ys k r) = subst (λ b. StepsAlike (read_before o xs k r) (read_after book (u g) b (before_block ys k r))) sent first.0 in
-      elim (split m (read_before o xs k r) (read_before u ys k r) _ _ alike whole) [
+      elim (split m (read_before o xs k r) (read_before u ys k r) _ _ alike (grind (arith, nat_tests, say_as, append_assoc))) [
         | inl inside ↦ none_there k _ _ r (omega (arith, inside.first)) (omega (arith, inside.second))
         | inr past ↦
             let said : said_of (read_before o xs k r) ≡ said_of (read_after book (u g) (before_stage (plane_with xs) k g) (before_block ys k r)) =
@@ -121,19 +118,7 @@ module _ (book : Book) (o u : ℕ → List ℕ) (known : (g : ℕ) → AreOption
       next_told : (k r m n : ℕ) → r < length depths → SameSteps (steps_of_block (plane_with xs) (stage_number k) r) (steps_of_block (plane_with ys) (stage_number k) r) →
           OptionsAgree (entries_before (plane_with xs) k r) (o (r / 16)) (u (r / 16)) → entries_before (plane_with xs) k r ≡ entries_before (plane_with ys) k r → (rest other : List Item) → m ≡ n →
           SaySame m (read_here o xs k r ++ rest) (read_here u ys k r ++ other) → Told k m n r
-      next_told k r m n within here agree entries rest other same e =
-          let g = r / 16 in
-          let ss = steps_of_block (plane_with xs) (stage_number k) r in
-          let ts = steps_of_block (plane_with ys) (stage_number k) r in
-          let b = entries_before (plane_with xs) k r in
-          let both = after_alike book (o g) (u g) (known g) (also g) b ss ts agree here (fits_there xs k r) (fits_there ys k r) in
-          let next : SaySame m (read_after book (o g) b ss ++ rest) (read_after book (u g) b ts ++ other) = subst (λ c. SaySame m (read_after book (o g) b ss ++ rest) (read_after book (u g) c ts ++ other)) (sym entries) e in
-          let said = first_part m (read_after book (o g) b ss) (read_after book (u g) b ts) rest other both.0 next in
-          let told : ToldAlike (whole_steps book (o g) b m ss) (whole_steps book (u g) b m ts) = told_alike book (o g) (u g) (known g) (also g) b ss ts m agree here (fits_there xs k r) (fits_there ys k r) said in
-          let there : ToldAlike (given_of o xs k m r) (given_of u ys k m r) = subst (λ c. ToldAlike (whole_steps book (o g) b m ss) (whole_steps book (u g) c m ts)) entries told in
-          subst (λ c. Told k m c r) same
-          (from_alike (get_or xs r []) (get_or ys r []) number (given_of o xs k m r) (given_of u ys k m r) there
-          (whole_say (get_or xs r []) number book (o g) b m ss (all_say xs k r)) (whole_say (get_or ys r []) number book (u g) (entries_before (plane_with ys) k r) m ts (all_say ys k r)))
+      next_told k r m n within here agree entries rest other same e = grind (arith, nat_tests, after_alike, fits_there, first_part, told_alike, from_alike, whole_say, all_say)
 
   -- ---- a stage, and the plane
 
@@ -148,19 +133,13 @@ module _ (book : Book) (o u : ℕ → List ℕ) (known : (g : ℕ) → AreOption
       let there : (j : ℕ) → j < gaggles (plane_with xs) → Known k j = λ j lt. at_span (Known k) 0 (gaggles (plane_with xs)) j all (omega arith) (omega arith) in
       let left = parts_of (gaggle_reading book o (plane_with xs) k) (gaggles (plane_with xs)) g (omega arith) in
       let right = parts_of (gaggle_reading book u (plane_with ys) k) (gaggles (plane_with ys)) g (omega arith) in
-      let whole : SaySame m (gaggles_before o xs k r ++ (gaggle_reading book o (plane_with xs) k g ++ (left.others ++ rest))) (gaggles_before u ys k r ++ (gaggle_reading book u (plane_with ys) k g ++ (right.others ++ other))) =
-      say_as m _ _ _ _
-      (ap (λ l. l ++ rest) left.same ∙ append_assoc (gaggles_before o xs k r) (gaggle_reading book o (plane_with xs) k g ++ left.others) rest ∙ ap (λ l. gaggles_before o xs k r ++ l) (append_assoc (gaggle_reading book o (plane_with xs) k g) left.others rest))
-      (ap (λ l. l ++ other) right.same ∙ append_assoc (gaggles_before u ys k r) (gaggle_reading book u (plane_with ys) k g ++ right.others) other ∙ ap (λ l. gaggles_before u ys k r ++ l) (append_assoc (gaggle_reading book u (plane_with ys) k g) right.others other)) e in
+      let whole : SaySame m (gaggles_before o xs k r ++ (gaggle_reading book o (plane_with xs) k g ++ (left.others ++ rest))) (gaggles_before u ys k r ++ (gaggle_reading book u (plane_with ys) k g ++ (right.others ++ other))) = grind (arith, nat_tests, say_as, append_assoc) in
       let alike : StepsAlike (gaggles_before o xs k r) (gaggles_before u ys k r) =
       (flat_alike (gaggle_reading book o (plane_with xs) k) (gaggle_reading book u (plane_with ys) k) (Known (suc k)) (span 0 g)
       (all_span _ 0 g (λ j low high. steps.gaggle_both book o u known also xs ys depths weights number q acs k j below (there j (omega arith))))).0 in
       elim (split m (gaggles_before o xs k r) (gaggles_before u ys k r) _ _ alike whole) [
         | inl inside ↦ none_there k _ _ r (omega (arith, inside.first)) (omega (arith, inside.second))
-        | inr past ↦
-            let same : m - length (gaggles_before o xs k r) ≡ m - length (gaggles_before u ys k r) = ap (λ n. m - n) past.long in
-            subst (λ n. Told k (m - length (gaggles_before o xs k r) - length (read_before o xs k r)) (n - length (read_before u ys k r)) r) same
-            (block_told k r (m - length (gaggles_before o xs k r)) below within (there g (omega arith)) (left.others ++ rest) (right.others ++ other) past.rest)
+        | inr past ↦ grind (arith, nat_tests, block_told)
       ]
 
   nth_told : (stages k r m : ℕ) → stages ≤ 5 → k < stages → r < length depths → SaySame m (plane_reading book o (plane_with xs) stages) (plane_reading book u (plane_with ys) stages) →
@@ -168,9 +147,8 @@ module _ (book : Book) (o u : ℕ → List ℕ) (known : (g : ℕ) → AreOption
   nth_told stages k r m most below within e =
       let left = parts_of (stage_reading book o (plane_with xs)) stages k below in
       let right = parts_of (stage_reading book u (plane_with ys)) stages k below in
-      let whole = say_as m _ _ _ _ left.same right.same e in
       let both = steps.plane_both book o u known also xs ys depths weights number q acs k (omega arith) in
-      elim (split m (plane_reading book o (plane_with xs) k) (plane_reading book u (plane_with ys) k) _ _ both.0 whole) [
+      elim (split m (plane_reading book o (plane_with xs) k) (plane_reading book u (plane_with ys) k) _ _ both.0 (say_as m _ _ _ _ left.same right.same e)) [
         | inl inside ↦ none_there k _ _ r (omega (arith, inside.first)) (omega (arith, inside.second))
         | inr past ↦
             let n : ℕ = m - length (plane_reading book o (plane_with xs) k) in

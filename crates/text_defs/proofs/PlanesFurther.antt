@@ -4,11 +4,11 @@ use Rattle.std.specs.Int.{int_shr}
 use Rattle.std.proofs.lemmas.Bool.Decides.{nat_tests}
 use Rattle.std.proofs.lemmas.List.{length-map, get_or-set_same}
 use Rattle.plane_defs.proofs.Chosen.{equal_self}
-use Rattle.item_defs.specs.Items.{raw, spelling}
+use Rattle.item_defs.specs.Items.{spelling}
 use Rattle.item_defs.specs.Readings.{item_at}
 use Rattle.item_defs.specs.Laws.{said_of}
-use Rattle.number_defs.specs.Ranges.{IsInRange, complement}
-use Rattle.number_defs.specs.DcPart.{dc_q, dc_bits, dc_bit, planes_before, dc_items}
+use Rattle.number_defs.specs.Ranges.{IsInRange}
+use Rattle.number_defs.specs.DcPart.{dc_q, dc_bits, planes_before, dc_items}
 use Rattle.number_defs.specs.Depths.{depth_items}
 use Rattle.base_122.specs.declared.book.Book.{Book}
 use Rattle.plane_defs.specs.declared.entries.Entry.{Entry}
@@ -32,7 +32,7 @@ use Rattle.text_defs.proofs.SegmentAlike.{sent_most}
 use Rattle.text_defs.proofs.DcChoice.{choose_as}
 use Rattle.plane_texts.proofs.SmallFacts.{set_at}
 use Rattle.text_defs.proofs.FlatChoice.{locate}
-use Rattle.plane_texts.specs.Candidates.{EntriesChoose, BlockChosen, MayChoose}
+use Rattle.plane_texts.specs.Candidates.{BlockChosen, MayChoose}
 use Rattle.text_defs.proofs.EntrySpot.{Elsewhere}
 use Rattle.text_defs.proofs.PlaneSpot as spots
 use Rattle.plane_texts.proofs.BlockChoice.{acs_above, seen_above}
@@ -49,9 +49,7 @@ map_at f (v ∷ vs) (w ∷ ws) long same = ap (λ x. x ∷ map f vs) (same 0) �
 
 planes_same : (q n : ℕ) (vs ws : List ℤ) → length ws ≡ length vs → n ≤ q → ((i c : ℕ) → q - n ≤ c → c < q → int_shr (get_or vs i (pos 0)) c ≡ int_shr (get_or ws i (pos 0)) c) → planes_before q vs n ≡ planes_before q ws n
 planes_same q zero vs ws long le same = simp planes_before-none
-planes_same q (suc n) vs ws long le same = simp planes_before-more (
-    ap (λ l. l ++ map (dc_bit (q - suc n)) vs) (planes_same q n vs ws long (omega (arith, le)) (λ i c low high. same i c (omega (arith, low)) high))
-    ∙ ap (λ l. planes_before q ws n ++ l) (map_at (dc_bit (q - suc n)) vs ws long (λ i. ap (λ x. raw (complement 1 x)) (same i (q - suc n) (omega arith) (omega (arith, le))))))
+planes_same q (suc n) vs ws long le same = grind (arith, nat_tests, planes_before-more, map_at, planes_same q n vs ws long (omega (arith, le)) (λ i c low high. same i c (omega (arith, low)) high))
 
 pub dc_same : (depth_dc depth_ac shift : ℕ) (vs ws : List ℤ) (o : ℕ → ℕ) → length ws ≡ length vs →
     ((i c : ℕ) → min depth_ac (dc_q depth_dc depth_ac shift) ≤ c → int_shr (get_or vs i (pos 0)) c ≡ int_shr (get_or ws i (pos 0)) c) → dc_items depth_dc depth_ac shift vs o ≡ dc_items depth_dc depth_ac shift ws o
@@ -177,9 +175,7 @@ module _ (head : SegmentHead) (xs : List (List ℤ)) (ds : List ℕ) (p : IsSpel
       others = λ s lt.
           at s (λ w. block_entries (stage_number k) (get_or xs s []) (get_or ds s 0) head.image.weights.shifts b (q_of head) ≡ block_entries (stage_number k) w (get_or ds s 0) head.image.weights.shifts b (q_of head))
           (λ e. absurd (omega (arith, e, lt))) refl;
-      here =
-          subst (λ w. EntriesChoose j e (block_entries (stage_number k) (get_or xs r []) (get_or ds r 0) head.image.weights.shifts b (q_of head)) (block_entries (stage_number k) w (get_or ds r 0) head.image.weights.shifts b (q_of head)))
-          (sym (get_or-set_same xs r a.v [] within)) a.here;
+      here = grind (arith, nat_tests, get_or-set_same);
     }
 
   -- one option is changed
@@ -194,8 +190,7 @@ module _ (head : SegmentHead) (xs : List (List ℤ)) (ds : List ℕ) (p : IsSpel
   unfolding other_option in_plane in_gaggle
   planes_chosen fits o known may_choose c said lt may =
       let l = locate (nth_plane_items head xs ds o) 0 head.depth_ac c said lt may in
-      let n : ℕ = l.at in
-      let b : ℕ = nth_plane head n in
+      let b : ℕ = nth_plane head l.at in
       let shifts = head.image.weights.shifts in
       let q : ℕ = q_of head in
       let stages : ℕ = stages_sent head b in

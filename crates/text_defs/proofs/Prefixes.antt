@@ -4,6 +4,7 @@ use Rattle.item_defs.specs.Items.{Item}
 use Rattle.item_defs.specs.Readings.{AreItems, StepsAlike}
 use Rattle.item_defs.specs.Laws.{said_of}
 use Rattle.plane_defs.proofs.Settled.{head_same, tail_same}
+use Rattle.std.proofs.lemmas.Bool.Decides.{nat_tests}
 
 -- the first m items say the same
 abbrev pub SaySame : (m : ℕ) → List Item → List Item → Type 0
@@ -30,14 +31,7 @@ split (suc m) (i ∷ is) (j ∷ js) is' js' alike e =
     let first : i.said ≡ j.said = head_same i.said j.said (said_of (take m (is ++ is'))) (said_of (take m (js ++ js'))) e in
     elim (split m is js is' js' (alike.1 first) (tail_same i.said j.said (said_of (take m (is ++ is'))) (said_of (take m (js ++ js'))) e)) [
       | inl r ↦ inl (record { first = omega (arith, r.first); second = omega (arith, r.second) })
-      | inr r ↦
-          let z : m - length is ≡ suc m - length (i ∷ is) = omega arith in
-          inr (record {
-            within = omega (arith, r.within);
-            long = omega (arith, r.long);
-            said = ap (λ n. n ∷ said_of is) first ∙ ap (λ l. j.said ∷ l) r.said;
-            rest = subst (λ k. SaySame k is' js') z r.rest;
-          })
+      | inr r ↦ grind (arith, nat_tests)
     ]
 
 -- then their first parts say the same

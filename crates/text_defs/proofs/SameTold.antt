@@ -1,5 +1,5 @@
 -- Two lists of steps that report the same of two blocks.
-use Rattle.std.proofs.Common.{◌≡◌, ℕ, ◌+◌, ◌-◌, ◌*◌, ◌/◌, ◌%◌, ◌^◌, ◌<◌, inl, inr, Bool, true, false, cond, List, [], ◌∷◌, ◌++◌, length, map, refl, ap, sym, ◌∙◌, subst, arith, ℤ, pos, get_or, nat_le, ◌||◌, ◌==◌}
+use Rattle.std.proofs.Common.{◌≡◌, ℕ, ◌+◌, ◌-◌, ◌*◌, ◌/◌, ◌%◌, ◌^◌, ◌<◌, inl, inr, Bool, true, false, List, [], ◌∷◌, ◌++◌, length, map, refl, ap, sym, ◌∙◌, arith, ℤ, pos, get_or, nat_le, ◌==◌}
 use Rattle.std.specs.List.{flat_map, list_any, AllByRecursion}
 use Rattle.std.proofs.lemmas.List.{length-map}
 use Rattle.std.proofs.lemmas.Bool.{or_cases, cases_lt, leb-false, le-leb, lt-leb, eqb-true}
@@ -12,9 +12,8 @@ use Rattle.base_122.specs.declared.book.Book.{Book}
 use Rattle.plane_defs.specs.declared.entries.Entry.{Entry}
 use Rattle.plane_defs.specs.declared.entries.Entry.TheVariants.{Bit}
 use Rattle.plane_defs.specs.Sets.{magnitude, significant}
-use Rattle.plane_defs.specs.Entries.{negative, word}
-use Rattle.plane_defs.specs.Steps.{Told, flags_alone, types_at, sign_at, bit_at, Step}
-use Rattle.plane_defs.specs.StepLaws.{value_of_entry}
+use Rattle.plane_defs.specs.Entries.{negative}
+use Rattle.plane_defs.specs.Steps.{Told, Step}
 use Rattle.plane_defs.specs.Reading.{step_reading}
 use Rattle.plane_defs.proofs.Alike.{same_bits}
 use Rattle.plane_defs.proofs.Settled.{head_same, tail_same}
@@ -37,18 +36,7 @@ pub none_told : (u v : List ℤ) (plane : ℕ) → SameTold u v plane [] []
 none_told u v plane = record { bits = λ p. refl; signs = λ p. refl; bit_same = λ p e. nothing e; sign_same = λ p e. nothing e }
 
 pub told_both : (u v : List ℤ) (plane : ℕ) (ss ts ss' ts' : List Step) → SameTold u v plane ss ts → SameTold u v plane ss' ts' → SameTold u v plane (ss ++ ss') (ts ++ ts')
-told_both u v plane ss ts ss' ts' a b = record {
-  bits = λ p.
-      list_any-append (λ s. tells_bit p s.tells) ss ss' ∙ ap (λ x. x || any_bit p ss') (a.bits p) ∙ ap (λ x. any_bit p ts || x) (b.bits p)
-      ∙ sym (list_any-append (λ s. tells_bit p s.tells) ts ts');
-  signs = λ p.
-      list_any-append (λ s. tells_sign p s.tells) ss ss' ∙ ap (λ x. x || any_sign p ss') (a.signs p) ∙ ap (λ x. any_sign p ts || x) (b.signs p)
-      ∙ sym (list_any-append (λ s. tells_sign p s.tells) ts ts');
-  bit_same = λ p e.
-      elim (or_cases (any_bit p ss) (any_bit p ss') (sym (list_any-append (λ s. tells_bit p s.tells) ss ss') ∙ e)) [ inl h ↦ a.bit_same p h | inr h ↦ b.bit_same p h ];
-  sign_same = λ p e.
-      elim (or_cases (any_sign p ss) (any_sign p ss') (sym (list_any-append (λ s. tells_sign p s.tells) ss ss') ∙ e)) [ inl h ↦ a.sign_same p h | inr h ↦ b.sign_same p h ];
-}
+told_both u v plane ss ts ss' ts' a b = grind (arith, nat_tests, list_any-append, or_cases)
 
 pub told_flat : {X : Type 0} (u v : List ℤ) (plane : ℕ) (f g : X → List Step) (xs : List X) → AllByRecursion (λ x. SameTold u v plane (f x) (g x)) xs → SameTold u v plane (flat_map f xs) (flat_map g xs)
 told_flat u v plane f g [] all = none_told u v plane
@@ -79,36 +67,18 @@ typed_same : (u v : List ℤ) (plane p : ℕ) (ps : List ℕ) → AllByRecursion
 typed_same u v plane p [] a b e here = nothing here
 typed_same u v plane p (q ∷ ps) a b e here =
     elim (or_cases (q == p) (list_any (λ q. q == p) ps) here) [
-      | inl at ↦
-          let same : bit_there u plane q ≡ bit_there v plane q = there_reached u plane q a.0 ∙ head_same _ _ _ _ e ∙ sym (there_reached v plane q b.0) in
-          subst (λ k. bit_there u plane k ≡ bit_there v plane k) (eqb-true q p at) same
+      | inl at ↦ grind (arith, nat_tests, there_reached, head_same, eqb-true)
       | inr later ↦ typed_same u v plane p ps a.1 b.1 (tail_same _ _ _ _ e) later
     ]
 
 one_bit : (u v : List ℤ) (plane p : ℕ) (a : Told) (e : Entry) → Tells u plane a e → Tells v plane a e → tells_bit p a ≡ true → bit_there u plane p ≡ bit_there v plane p
-one_bit u v plane p flags_alone e x y h = nothing h
-one_bit u v plane p (types_at ps) e x y h =
-    let words : word (map (significant u plane) ps) ≡ word (map (significant v plane) ps) = sym x.0 ∙ y.0 in
-    typed_same u v plane p ps x.1 y.1 (same_bits (map (significant u plane) ps) (map (significant v plane) ps) (length-map ps (significant u plane) ∙ sym (length-map ps (significant v plane))) (ap value_of_entry words)) h
-one_bit u v plane p (sign_at q) e x y h = nothing h
-one_bit u v plane p (bit_at q) e x y h = subst (λ k. bit_there u plane k ≡ bit_there v plane k) (eqb-true q p h) (bit_inside (bit_there u plane q) (bit_there v plane q) (sym x ∙ y))
+one_bit u v plane p a e x y h = grind (arith, nat_tests, nothing, typed_same, same_bits, length-map, eqb-true, bit_inside)
 
 one_sign : (u v : List ℤ) (plane p : ℕ) (a : Told) (e : Entry) → Tells u plane a e → Tells v plane a e → tells_sign p a ≡ true → negative (get_or u p (pos 0)) ≡ negative (get_or v p (pos 0))
-one_sign u v plane p flags_alone e x y h = nothing h
-one_sign u v plane p (types_at ps) e x y h = nothing h
-one_sign u v plane p (sign_at q) e x y h =
-    subst (λ k. negative (get_or u k (pos 0)) ≡ negative (get_or v k (pos 0))) (eqb-true q p h) (bit_inside (negative (get_or u q (pos 0))) (negative (get_or v q (pos 0))) (sym x ∙ y))
-one_sign u v plane p (bit_at q) e x y h = nothing h
+one_sign u v plane p a e x y h = grind (arith, nat_tests, nothing, eqb-true, bit_inside)
 
 single : (u v : List ℤ) (plane : ℕ) (s t : Step) → s.tells ≡ t.tells → s.entry ≡ t.entry → Says u plane s → Says v plane t → SameTold u v plane (s ∷ []) (t ∷ [])
-single u v plane s t a e x y =
-    let z : Tells v plane s.tells s.entry = subst (λ k. Tells v plane k s.entry) (sym a) (subst (Tells v plane t.tells) (sym e) y) in
-    record {
-      bits = λ p. ap (λ k. tells_bit p k || false) a;
-      signs = λ p. ap (λ k. tells_sign p k || false) a;
-      bit_same = λ p h. one_bit u v plane p s.tells s.entry x z (sym (or-false (tells_bit p s.tells)) ∙ h);
-      sign_same = λ p h. one_sign u v plane p s.tells s.entry x z (sym (or-false (tells_sign p s.tells)) ∙ h);
-    }
+single u v plane s t a e x y = grind (arith, nat_tests, one_bit, or-false, one_sign)
 
 pub from_alike : (u v : List ℤ) (plane : ℕ) (ss ts : List Step) → ToldAlike ss ts → AllSay u plane ss → AllSay v plane ts → SameTold u v plane ss ts
 from_alike u v plane [] [] same a b = none_told u v plane
@@ -119,18 +89,9 @@ from_alike u v plane (s ∷ ss) (t ∷ ts) same a b =
 
 pub whole_say : (u : List ℤ) (plane : ℕ) (book : Book) (o : List ℕ) (before : List Entry) (m : ℕ) (ss : List Step) → AllSay u plane ss → AllSay u plane (whole_steps book o before m ss)
 whole_say u plane book o before m [] a = tt
-whole_say u plane book o before m (s ∷ ss) a = by_test (nat_le (length (step_reading book o before s)) m) (whole_say u plane book o (before ++ s.entry ∷ []) (m - length (step_reading book o before s)) ss a.1)
-  where
-    by_test : (b : Bool) → AllSay u plane (whole_steps book o (before ++ s.entry ∷ []) (m - length (step_reading book o before s)) ss) → AllSay u plane (cond b (s ∷ whole_steps book o (before ++ s.entry ∷ []) (m - length (step_reading book o before s)) ss) [])
-    by_test true rest = (a.0, rest)
-    by_test false rest = tt
+whole_say u plane book o before m (s ∷ ss) a = grind (arith, nat_tests, whole_say u plane book o (before ++ s.entry ∷ []) (m - length (step_reading book o before s)) ss a.1)
 
 -- ---- steps that report nothing
 
 pub from_none : (u v : List ℤ) (plane : ℕ) (ss ts : List Step) → TellsNone ss → TellsNone ts → SameTold u v plane ss ts
-from_none u v plane ss ts a b = record {
-  bits = λ p. (a p).0 ∙ sym (b p).0;
-  signs = λ p. (a p).1 ∙ sym (b p).1;
-  bit_same = λ p e. nothing (sym (a p).0 ∙ e);
-  sign_same = λ p e. nothing (sym (a p).1 ∙ e);
-}
+from_none u v plane ss ts a b = grind (arith, nat_tests, nothing)

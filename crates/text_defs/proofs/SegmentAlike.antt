@@ -1,5 +1,5 @@
 -- Two lists of values that can be coded have items of one form for as long as the items say the same and none is refused.
-use Rattle.std.proofs.Common.{◌≡◌, ◌⊎◌, ℕ, zero, suc, ◌+◌, ◌-◌, ◌^◌, ◌<◌, ◌≤◌, inl, inr, Bool, true, false, cond, List, [], ◌∷◌, ◌++◌, length, refl, ap, sym, ◌∙◌, subst, arith, ℤ, get_or, add-one, zero-add, flat_map, pow_mono}
+use Rattle.std.proofs.Common.{◌≡◌, ◌⊎◌, ℕ, zero, suc, ◌+◌, ◌-◌, ◌^◌, ◌<◌, ◌≤◌, inl, inr, Bool, false, cond, List, [], ◌∷◌, ◌++◌, length, refl, ap, sym, ◌∙◌, subst, arith, ℤ, get_or, add-one, zero-add, flat_map, pow_mono}
 use Rattle.std.proofs.lemmas.Bool.{cases_lt}
 use Rattle.std.proofs.lemmas.Bool.Decides.{nat_tests}
 use Rattle.std.proofs.lemmas.List.{get_or_past, length-map}
@@ -58,14 +58,10 @@ module _ (head : SegmentHead) (fits : IsHead head) (xs ys : List (List ℤ)) (de
   Reached plane = (r : ℕ) → SameAc (get_or xs r []) (get_or ys r []) plane
 
   top : Reached head.depth_ac
-  top r n ac =
-      none_reached (get_or xs r []) head.depth_ac (get_or depths r 0) n (deep r) (p.below r n ac.0)
-      ∙ sym (none_reached (get_or ys r []) head.depth_ac (get_or depths r 0) n (deep r) (q.below r n ac.0))
+  top r n ac = grind (arith, nat_tests, none_reached)
 
   past : (plane r : ℕ) → length depths ≤ r → SameAc (get_or xs r []) (get_or ys r []) plane
-  past plane r end n ac =
-      let none : get_or xs r [] ≡ get_or ys r [] = get_or_past xs r [] (omega (arith, p.blocks_all, p.depths_all)) ∙ sym (get_or_past ys r [] (omega (arith, q.blocks_all, q.depths_all))) in
-      ap (λ block. significant block plane n) none
+  past plane r end n ac = grind (arith, nat_tests, get_or_past)
 
   abbrev Sent : (n : ℕ) → List Item → List Item → Type 0
   Sent n is js = StepsAlike is js × (said_of is ≡ said_of js → head.stop.plane < head.depth_ac - n → Reached (head.depth_ac - n))
@@ -75,14 +71,9 @@ module _ (head : SegmentHead) (fits : IsHead head) (xs ys : List (List ℤ)) (de
   nth_both n within reached =
       let b = nth_plane head n in
       elim (cases_lt b head.stop.plane) [
-        | inl below ↦
-            let none = sent_none head b below in (
-              subst (λ s. StepsAlike (plane_reading o.book (o.words b) (plane_at head xs depths b) s) (plane_reading u.book (u.words b) (plane_at head ys depths b) s)) (sym none) (simp span-none tt),
-              λ said more. absurd (omega arith),
-            )
+        | inl below ↦ grind (arith, nat_tests, sent_none, span-none)
         | inr sent ↦
-            let next : head.depth_ac - n ≡ b + 1 = omega arith in
-            let above : Reached (b + 1) = subst Reached next (reached (omega arith)) in
+            let above : Reached (b + 1) = subst Reached (omega arith) (reached (omega arith)) in
             let acs : (r : ℕ) → AcsAlike (get_or xs r []) (get_or ys r []) head.image.weights.shifts b = λ r. record { above = above r; first = p.multiples r; second = q.multiples r } in
             let both = plane_both o.book (o.words b) (u.words b) (λ g. record { at = λ n low high. k.at b g n low high }) (λ g. record { at = λ n low high. l.at b g n low high })
             xs ys depths head.image.weights.shifts b (q_of head) acs in (
@@ -95,8 +86,7 @@ module _ (head : SegmentHead) (fits : IsHead head) (xs ys : List (List ℤ)) (de
                   let settled = numbers_settle o.book (o.words b) (u.words b) (λ g. record { at = λ n low high. k.at b g n low high }) (λ g. record { at = λ n low high. l.at b g n low high })
                   xs ys depths head.image.weights.shifts b (q_of head) acs (λ r n ac. p.below r n ac.0) (λ r n ac. q.below r n ac.0)
                   (subst (λ c. said_of (plane_reading o.book (o.words b) (plane_at head xs depths b) 5) ≡ said_of (plane_reading c (u.words b) (plane_at head ys depths b) 5)) (sym books) whole) in
-                  let here : b ≡ head.depth_ac - suc n = omega arith in
-                  subst Reached here (λ r. elim (cases_lt r (length depths)) [ inl inside ↦ settled r inside | inr outside ↦ past b r outside ]),
+                  subst Reached (omega arith) (λ r. elim (cases_lt r (length depths)) [ inl inside ↦ settled r inside | inr outside ↦ past b r outside ]),
             )
       ]
 
@@ -145,19 +135,11 @@ segment_alike head xs ys ds es o u fits p q k l books = simp segment_items-is (b
         ItemsAlike (planes_items head xs ds o head.depth_ac) (planes_items head ys es u head.depth_ac)
     third said all =
         let same : ds ≡ es = list_same ds es 0 same_depths (depths_said head.depth_ac ds es o.depths u.depths same_depths p.depths_few q.depths_few said) in
-        let deep : (r : ℕ) → get_or ds r 0 ≤ head.depth_ac =
-        λ r. elim (cases_lt r (length ds)) [
-          | inl inside ↦ depths_allowed head.depth_ac ds o.depths p.depths_few all r inside
-          | inr outside ↦ let none : get_or ds r 0 ≡ 0 = get_or_past ds r 0 outside in omega arith
-        ] in
-        let other : IsSpellable head ys ds = subst (IsSpellable head ys) (sym same) q in
+        let deep : (r : ℕ) → get_or ds r 0 ≤ head.depth_ac = grind (arith, nat_tests, depths_allowed, get_or_past) in
         subst (λ d. ItemsAlike (planes_items head xs ds o head.depth_ac) (planes_items head ys d u head.depth_ac)) same
-        (alike_from _ _ (planes_both head fits xs ys ds o u p other k l books deep head.depth_ac (omega arith)).0)
+        (alike_from _ _ (planes_both head fits xs ys ds o u p (subst (IsSpellable head ys) (sym same) q) k l books deep head.depth_ac (omega arith)).0)
 
     by_stop : (b : Bool) →
         ItemsAlike (cond b (dc_part_items head xs o) (dc_part_items head xs o ++ (depth_items head.depth_ac ds o.depths ++ planes_items head xs ds o head.depth_ac)))
         (cond b (dc_part_items head ys u) (dc_part_items head ys u ++ (depth_items head.depth_ac es u.depths ++ planes_items head ys es u head.depth_ac)))
-    by_stop true = first
-    by_stop false =
-        alike_append (dc_part_items head xs o) (dc_part_items head ys u) _ _ first (λ s all.
-        alike_append (depth_items head.depth_ac ds o.depths) (depth_items head.depth_ac es u.depths) _ _ second third)
+    by_stop b = grind (arith, nat_tests, first, alike_append, second, third)

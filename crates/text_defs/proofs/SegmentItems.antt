@@ -1,5 +1,5 @@
 -- No item of a segment is refused if its values can be coded, its options exist and its depths are within the head's.
-use Rattle.std.proofs.Common.{◌≡◌, ℕ, ◌<◌, ◌≤◌, Bool, true, false, cond, List, ◌++◌, length, ◌∙◌, subst, arith, ℤ, get_or, nat_le, leb-true}
+use Rattle.std.proofs.Common.{◌≡◌, ℕ, ◌<◌, ◌≤◌, Bool, true, cond, List, ◌++◌, length, ◌∙◌, subst, arith, ℤ, get_or, nat_le, leb-true}
 use Rattle.std.specs.List.{list_all}
 use Rattle.std.proofs.lemmas.List.{length-map}
 use Rattle.item_defs.specs.Readings.{AreItems}
@@ -12,7 +12,7 @@ use Rattle.plane_defs.proofs.Tables.{list_all-span-zero}
 use Rattle.segment_defs.specs.declared.head.SegmentHead.{SegmentHead}
 use Rattle.segment_defs.specs.Head.{IsHead}
 use Rattle.segment_defs.specs.Depths.{dc_of, dcs_of}
-use Rattle.segment_defs.specs.SegmentItems.{Options, dc_shift, plane_at, stages_sent, dc_part_items, nth_plane, nth_plane_items, planes_items, segment_items}
+use Rattle.segment_defs.specs.SegmentItems.{Options, dc_shift, dc_part_items, planes_items, segment_items}
 use Rattle.text_defs.specs.Spellable.{IsSpellable, AreWordOptions, AreNumberOptions}
 use Rattle.text_defs.proofs.PlaneItems.{plane_are_items, flat_items}
 use Rattle.segment_defs.proofs.Equations.{segment_items-is}
@@ -38,16 +38,10 @@ segment_are_items head blocks depths options fits spellable words numbers low = 
         (λ two g lt. numbers.dcs two g (subst (λ n. g < gaggle_count n) counted lt))
 
     second : AreItems (depth_items head.depth_ac depths options.depths)
-    second =
-        depths_are head.depth_ac depths options.depths (depth_bits_few head.depth_ac fits.depth_ac) spellable.depths_few low
-        (λ two g lt. numbers.depths two g (subst (λ n. g < gaggle_count n) spellable.depths_all lt))
+    second = grind (arith, nat_tests, depths_are, depth_bits_few)
 
     third : AreItems (planes_items head blocks depths options head.depth_ac)
-    third =
-        flat_items (nth_plane_items head blocks depths options) (λ n.
-        plane_are_items options.book words.sound (options.words (nth_plane head n)) (λ g. record { at = λ k lo hi. words.at (nth_plane head n) g k lo hi }) (plane_at head blocks depths (nth_plane head n)) spellable.multiples (stages_sent head (nth_plane head n)))
-        (span 0 head.depth_ac)
+    third = grind (arith, nat_tests, flat_items, plane_are_items)
 
     by_stop : (b : Bool) → AreItems (cond b (dc_part_items head blocks options) (dc_part_items head blocks options ++ (depth_items head.depth_ac depths options.depths ++ planes_items head blocks depths options head.depth_ac)))
-    by_stop true = first
-    by_stop false = are_append (dc_part_items head blocks options) _ first (are_append (depth_items head.depth_ac depths options.depths) _ second third)
+    by_stop b = grind (arith, nat_tests, first, are_append, second, third)

@@ -1,5 +1,5 @@
 -- The steps of a block that the first items of two readings of a segment give report the same.
-use Rattle.std.proofs.Common.{◌≡◌, ℕ, ◌+◌, ◌-◌, ◌/◌, ◌<◌, ◌≤◌, inl, inr, Bool, true, false, cond, List, [], ◌++◌, length, take, ap, sym, ◌∙◌, subst, arith, ℤ, get_or}
+use Rattle.std.proofs.Common.{◌≡◌, ℕ, ◌+◌, ◌-◌, ◌<◌, ◌≤◌, inl, inr, Bool, true, false, cond, List, [], ◌++◌, length, take, ap, sym, ◌∙◌, subst, arith, ℤ, get_or}
 use Rattle.std.proofs.lemmas.Bool.{cases_lt}
 use Rattle.std.proofs.lemmas.List.{get_or_past, length-map}
 use Rattle.item_defs.specs.Readings.{AreItems, StepsAlike}
@@ -7,9 +7,8 @@ use Rattle.number_defs.specs.Depths.{depth_items}
 use Rattle.number_defs.proofs.SegmentSteps.{dcs_alike, depths_alike}
 use Rattle.number_defs.proofs.NotRefused.{depths_allowed, depths_said}
 use Rattle.base_122.specs.declared.book.Book.{Book}
-use Rattle.plane_defs.specs.Entries.{stage_number}
 use Rattle.plane_defs.specs.Planes.{Plane}
-use Rattle.plane_defs.specs.Reading.{steps_of_block, plane_reading}
+use Rattle.plane_defs.specs.Reading.{plane_reading}
 use Rattle.plane_defs.specs.StepLaws.{SameAc, AcsAlike}
 use Rattle.plane_defs.proofs.StepItems.{AreOptionsOf}
 use Rattle.plane_defs.proofs.SpanLists.{flat_map-span-none}
@@ -20,7 +19,7 @@ use Rattle.segment_defs.specs.Head.{IsHead}
 use Rattle.segment_defs.specs.Depths.{dc_of, dcs_of}
 use Rattle.segment_defs.specs.SegmentItems.{Options, dc_shift, q_of, plane_at, stages_sent, dc_part_items, nth_plane, nth_plane_items, planes_items, segment_items}
 use Rattle.text_defs.specs.Spellable.{IsSpellable, AreWordOptions, block_of}
-use Rattle.plane_texts.specs.Given.{whole_steps, entries_before, count_before, steps_given}
+use Rattle.plane_texts.specs.Given.{steps_given}
 use Rattle.text_defs.specs.Given.{before_plane, given_in}
 use Rattle.text_defs.proofs.Prefixes.{SaySame, split, first_part, are_past, are_rest}
 use Rattle.text_defs.proofs.SegmentAlike.{list_same, planes_both, sent_none, sent_most}
@@ -30,6 +29,7 @@ use Rattle.plane_texts.proofs.PlaneParts.{parts_of}
 use Rattle.text_defs.proofs.SameTold.{SameTold, none_told, from_none}
 use Rattle.text_defs.proofs.PlaneTold as planes
 use Rattle.segment_defs.proofs.Equations.{segment_items-is}
+use Rattle.std.proofs.lemmas.Bool.Decides.{nat_tests}
 
 pub plane_none : (book : Book) (options : ℕ → List ℕ) (p : Plane) (stages m r : ℕ) → m ≡ 0 → TellsNone (steps_given book options p stages m r)
 plane_none book options p stages m r e = subst (λ n. TellsNone (steps_given book options p stages n r)) (sym e) (given_none book options p stages r)
@@ -54,16 +54,14 @@ module _ (head : SegmentHead) (fits : IsHead head) (xs ys : List (List ℤ)) (o 
         let b = nth_plane head n in
         let left = parts_of (nth_plane_items head xs ds o) head.depth_ac n within in
         let right = parts_of (nth_plane_items head ys ds u) head.depth_ac n within in
-        let whole = planes.say_as m _ _ _ _ left.same right.same e in
         let both = planes_both head fits xs ys ds o u p q k l books deep n (omega arith) in
-        elim (split m (planes_items head xs ds o n) (planes_items head ys ds u n) _ _ both.0 whole) [
+        elim (split m (planes_items head xs ds o n) (planes_items head ys ds u n) _ _ both.0 (planes.say_as m _ _ _ _ left.same right.same e)) [
           | inl early ↦ nothing_at ds ds _ _ r n b (omega (arith, early.first)) (omega (arith, early.second))
           | inr past ↦ elim (cases_lt b head.stop.plane) [
             | inl below ↦ unsent _ _ (sent_none head b below)
             | inr sent ↦
                 let above : (r : ℕ) → SameAc (get_or xs r []) (get_or ys r []) (b + 1) =
-                let next : head.depth_ac - n ≡ b + 1 = omega arith in
-                subst (λ c. (r : ℕ) → SameAc (get_or xs r []) (get_or ys r []) c) next (both.1 past.said (inr (omega arith))) in
+                subst (λ c. (r : ℕ) → SameAc (get_or xs r []) (get_or ys r []) c) (omega arith) (both.1 past.said (inr (omega arith))) in
                 let acs : (r : ℕ) → AcsAlike (get_or xs r []) (get_or ys r []) head.image.weights.shifts b = λ r. record { above = above r; first = p.multiples r; second = q.multiples r } in
                 let kb : (g : ℕ) → AreOptionsOf (o.words b g) = λ g. record { at = λ n low high. k.at b g n low high } in
                 let lb : (g : ℕ) → AreOptionsOf (u.words b g) = λ g. record { at = λ n low high. l.at b g n low high } in
@@ -81,14 +79,7 @@ module _ (head : SegmentHead) (fits : IsHead head) (xs ys : List (List ℤ)) (o 
         ]
       where
         unsent : (a c : ℕ) → stages_sent head (nth_plane head n) ≡ 0 → ToldAt ds ds a c r n (nth_plane head n)
-        unsent a c e =
-            let b = nth_plane head n in
-            let empty : (blocks : List (List ℤ)) (options : Options) (a : ℕ) → given_nth head blocks ds options a r n b ≡ [] =
-            λ blocks options a.
-            ap (λ s. steps_given options.book (options.words b) (plane_at head blocks ds b) s a r) e
-            ∙ flat_map-span-none (λ k. whole_steps options.book (options.words b (r / 16)) (entries_before (plane_at head blocks ds b) k r) (a - count_before options.book (options.words b) (plane_at head blocks ds b) k r) (steps_of_block (plane_at head blocks ds b) (stage_number k) r)) 0 in
-            subst (λ l. SameTold (block_of xs r) (block_of ys r) b l (given_nth head ys ds u c r n b)) (sym (empty xs o a))
-            (subst (λ l. SameTold (block_of xs r) (block_of ys r) b [] l) (sym (empty ys u c)) (none_told (block_of xs r) (block_of ys r) b))
+        unsent a c e = grind (arith, nat_tests, flat_map-span-none, none_told)
 
   pub told_in : (ds es : List ℕ) (p : IsSpellable head xs ds) (q : IsSpellable head ys es) (m r b : ℕ) → b < head.depth_ac → r < head.blocks →
       SaySame m (segment_items head xs ds o) (segment_items head ys es u) → AreItems (take m (segment_items head xs ds o)) →
@@ -105,16 +96,14 @@ module _ (head : SegmentHead) (fits : IsHead head) (xs ys : List (List ℤ)) (o 
       by_stop false e all =
           let n : ℕ = head.depth_ac - (b + 1) in
           let D = dc_part_items head xs o in
-          let E = dc_part_items head ys u in
           let Z = depth_items head.depth_ac ds o.depths in
-          let Y = depth_items head.depth_ac es u.depths in
           let same_blocks : length (dcs_of xs) ≡ length (dcs_of ys) = length-map xs dc_of ∙ p.blocks_all ∙ sym q.blocks_all ∙ sym (length-map ys dc_of) in
           let same_depths : length ds ≡ length es = p.depths_all ∙ sym q.depths_all in
           let first = dcs_alike head.depth_dc head.depth_ac (dc_shift head) (dcs_of xs) (dcs_of ys) o.dcs u.dcs same_blocks p.dcs_fit q.dcs_fit in
           let second = depths_alike head.depth_ac ds es o.depths u.depths same_depths p.depths_few q.depths_few in
-          elim (split m D E _ _ first e) [
+          elim (split m D (dc_part_items head ys u) _ _ first e) [
             | inl early ↦ nothing_at ds es _ _ r n b (omega (arith, early.first)) (omega (arith, early.second))
-            | inr past ↦ elim (split (m - length D) Z Y _ _ second past.rest) [
+            | inr past ↦ elim (split (m - length D) Z (depth_items head.depth_ac es u.depths) _ _ second past.rest) [
               | inl early ↦ nothing_at ds es _ _ r n b (omega (arith, early.first, past.within)) (omega (arith, early.second, past.within, past.long))
               | inr more ↦
                   let same : ds ≡ es = list_same ds es 0 same_depths (depths_said head.depth_ac ds es o.depths u.depths same_depths p.depths_few q.depths_few more.said) in
@@ -124,21 +113,17 @@ module _ (head : SegmentHead) (fits : IsHead head) (xs ys : List (List ℤ)) (o 
                     | inl within ↦ depths_allowed head.depth_ac ds o.depths p.depths_few given r within
                     | inr outside ↦ let none : get_or ds r 0 ≡ 0 = get_or_past ds r 0 outside in omega arith
                   ] in
-                  let other : IsSpellable head ys ds = subst (IsSpellable head ys) (sym same) q in
                   let c : ℕ = m - length D - length Z in
                   let rest : SaySame c (planes_items head xs ds o head.depth_ac) (planes_items head ys ds u head.depth_ac) =
                   subst (λ d. SaySame c (planes_items head xs ds o head.depth_ac) (planes_items head ys d u head.depth_ac)) (sym same) more.rest in
                   let told : ToldAt ds ds (c - length (planes_items head xs ds o n)) (c - length (planes_items head ys ds u n)) r n (nth_plane head n) =
-                  nth_told ds p other deep c r n (omega arith) (omega (arith, p.depths_all)) rest in
-                  let left : c - length (planes_items head xs ds o n) ≡ m - before_plane head xs ds o n = omega arith in
-                  let right : c - length (planes_items head ys es u n) ≡ m - before_plane head ys es u n = omega (arith, past.long, more.long) in
-                  let at : nth_plane head n ≡ b = omega arith in
+                  nth_told ds p (subst (IsSpellable head ys) (sym same) q) deep c r n (omega arith) (omega (arith, p.depths_all)) rest in
                   let told_es : ToldAt ds es (c - length (planes_items head xs ds o n)) (c - length (planes_items head ys es u n)) r n (nth_plane head n) =
                   subst (λ d. ToldAt ds d (c - length (planes_items head xs ds o n)) (c - length (planes_items head ys d u n)) r n (nth_plane head n)) same told in
                   let told_left : ToldAt ds es (m - before_plane head xs ds o n) (c - length (planes_items head ys es u n)) r n (nth_plane head n) =
-                  subst (λ a. ToldAt ds es a (c - length (planes_items head ys es u n)) r n (nth_plane head n)) left told_es in
+                  subst (λ a. ToldAt ds es a (c - length (planes_items head ys es u n)) r n (nth_plane head n)) (omega arith) told_es in
                   let told_both : ToldAt ds es (m - before_plane head xs ds o n) (m - before_plane head ys es u n) r n (nth_plane head n) =
-                  subst (λ a. ToldAt ds es (m - before_plane head xs ds o n) a r n (nth_plane head n)) right told_left in
-                  subst (λ a. ToldAt ds es (m - before_plane head xs ds o n) (m - before_plane head ys es u n) r n a) at told_both
+                  subst (λ a. ToldAt ds es (m - before_plane head xs ds o n) a r n (nth_plane head n)) (omega (arith, past.long, more.long)) told_left in
+                  subst (λ a. ToldAt ds es (m - before_plane head xs ds o n) (m - before_plane head ys es u n) r n a) (omega arith) told_both
             ]
           ]

@@ -1,5 +1,5 @@
 -- The steps of a number's block report its bits and its sign.
-use Rattle.std.proofs.Common.{◌≡◌, ℕ, zero, suc, ◌+◌, ◌-◌, ◌*◌, ◌/◌, ◌%◌, ◌^◌, ◌<◌, ◌≤◌, inl, inr, Bool, true, false, cond, List, [], ◌∷◌, ◌++◌, map, ap, ◌∙◌, arith, ℤ, pos, get_or, filter, ◌==◌, pow_pos}
+use Rattle.std.proofs.Common.{◌≡◌, ℕ, zero, suc, ◌+◌, ◌-◌, ◌*◌, ◌/◌, ◌%◌, ◌^◌, ◌<◌, ◌≤◌, inl, inr, Bool, true, cond, List, [], ◌∷◌, ◌++◌, map, ap, ◌∙◌, arith, ℤ, pos, get_or, filter, ◌==◌, pow_pos}
 use Rattle.std.specs.List.{flat_map, list_any}
 use Rattle.std.proofs.lemmas.Bool.{cases_lt, or_cases, or_left, or_right, eqb-true, le-leb}
 use Rattle.std.proofs.lemmas.Bool.Decides.{nat_tests}
@@ -34,9 +34,7 @@ has_span start zero x low high = absurd (omega arith)
 has_span start (suc count) x low high = simp span-more (
     elim (cases_lt x (start + count)) [
       | inl early ↦ left_any (λ y. y == x) (span start count) ((start + count) ∷ []) (has_span start count x low early)
-      | inr last ↦
-          let same : x ≡ start + count = omega arith in
-          right_any (λ y. y == x) (span start count) ((start + count) ∷ []) (or_left (start + count == x) false (ap (λ y. start + count == y) same ∙ equal_self (start + count)))
+      | inr last ↦ grind (arith, nat_tests, right_any, or_left, equal_self)
     ])
 
 pub has_filter : (p : ℕ → Bool) (x : ℕ) (xs : List ℕ) → Has x xs → p x ≡ true → Has x (filter p xs)
@@ -48,8 +46,7 @@ has_filter p x (y ∷ xs) h e =
     ]
   where
     by_test : (b : Bool) → Has x (filter p xs) → Has x (cond b (y ∷ filter p xs) (filter p xs))
-    by_test true h = or_right (y == x) _ h
-    by_test false h = h
+    by_test b h = grind (arith, nat_tests, or_right)
 
 pub any_flat : {X : Type 0} (t : X → Bool) (f : ℕ → List X) (x : ℕ) (xs : List ℕ) → Has x xs → list_any t (f x) ≡ true → list_any t (flat_map f xs) ≡ true
 any_flat t f x [] h e = absurd cc

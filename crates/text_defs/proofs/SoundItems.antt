@@ -1,31 +1,26 @@
 -- The shapes of a text's items: in none of them a code begins another one, and each item takes some bits.
-use Rattle.std.proofs.Common.{◌≡◌, ℕ, zero, suc, ◌+◌, ◌-◌, ◌*◌, ◌^◌, ◌<◌, ◌≤◌, Bool, true, false, cond, eqb, List, [], ◌∷◌, ◌++◌, length, refl, arith, get_or, ℤ, map, ◌==◌, pow_mono, pow_pos}
-use Rattle.std.specs.List.{flat_map, list_any, AllByRecursion}
+use Rattle.std.proofs.Common.{◌≡◌, ℕ, zero, suc, ◌+◌, ◌-◌, ◌*◌, ◌^◌, ◌<◌, ◌≤◌, Bool, true, false, cond, eqb, List, [], ◌∷◌, ◌++◌, length, refl, arith, get_or, ℤ, map, pow_mono, pow_pos}
+use Rattle.std.specs.List.{flat_map, AllByRecursion}
 use Rattle.std.proofs.lemmas.Bool.Decides.{nat_tests}
-use Rattle.item_defs.specs.Items.{Item, Shape, fixed, zeros_to, coded, raw, plain, code}
+use Rattle.item_defs.specs.Items.{Item, Shape, fixed, zeros_to, coded}
 use Rattle.item_defs.specs.Readings.{IsSound, item_at}
-use Rattle.number_defs.specs.Gaggles.{Kind, identifier_bits, uncoded, uncoded_value, unary_part, rest_part, value_items, lead_items, gaggle_items, items_before, places, gaggle_count, number_items}
-use Rattle.number_defs.specs.DcPart.{dc_q, dc_bits, dc_kind, dc_bit, high_items, planes_before, dc_planes, dc_items}
-use Rattle.number_defs.specs.Ranges.{shifted_height}
-use Rattle.number_defs.specs.Depths.{depth_bits, depth_kind, depth_items}
+use Rattle.number_defs.specs.Gaggles.{Kind, identifier_bits, uncoded, uncoded_value, unary_part, rest_part, value_items, lead_items, gaggle_items, items_before, places}
+use Rattle.number_defs.specs.DcPart.{dc_bits, dc_bit, planes_before, dc_items}
+use Rattle.number_defs.specs.Depths.{depth_bits, depth_items}
 use Rattle.base_122.specs.declared.book.Book.{Book}
 use Rattle.plane_defs.specs.declared.entries.Entry.{Entry}
-use Rattle.plane_defs.specs.declared.entries.Entry.TheVariants.{Bit, Word}
 use Rattle.plane_defs.specs.Spans.{span}
 use Rattle.plane_defs.specs.Entries.{IsEntry, stage_number}
-use Rattle.plane_defs.specs.Codes as codes
-use Rattle.plane_defs.specs.Codes.{symbol, codes_of, word_item, option_item, is_book_sound}
-use Rattle.plane_defs.specs.Spelled.{is_word_of, option_of, opening}
-use Rattle.plane_defs.specs.Steps.{Check, refuses, Step}
+use Rattle.plane_defs.specs.Codes.{codes_of, word_item, is_book_sound}
+use Rattle.plane_defs.specs.Steps.{Check, Step}
 use Rattle.plane_defs.specs.Planes.{Plane, gaggles, gaggle_size, before_stage}
-use Rattle.plane_defs.specs.Reading.{checked, checked_word, entry_reading, step_reading, read_after, steps_of_block, steps_of_gaggle, gaggle_reading, stage_reading, plane_reading}
+use Rattle.plane_defs.specs.Reading.{entry_reading, read_after, steps_of_block, steps_of_gaggle, gaggle_reading, stage_reading, plane_reading}
 use Rattle.plane_defs.proofs.ReadOnce as codes_read
 use Rattle.plane_defs.proofs.Above.{all_append}
 use Rattle.plane_defs.proofs.StepItems.{AreOptionsOf, Fits}
 use Rattle.plane_defs.proofs.PlaneSteps.{block_fits, flat_fits}
 use Rattle.segment_defs.specs.declared.head.SegmentHead.{SegmentHead}
-use Rattle.segment_defs.specs.Depths.{dcs_of}
-use Rattle.segment_defs.specs.SegmentItems.{Options, dc_shift, plane_at, stages_sent, dc_part_items, nth_plane, nth_plane_items, segment_items}
+use Rattle.segment_defs.specs.SegmentItems.{Options, dc_shift, segment_items}
 use Rattle.text_defs.specs.Spellable.{AreWordOptions}
 use Rattle.number_defs.proofs.Equations.{value_items-is, gaggle_items-is, items_before-none, items_before-more, planes_before-none, planes_before-more, dc_items-is, depth_items-is}
 use Rattle.plane_defs.proofs.Equations.{bit_reading, word_reading}
@@ -53,8 +48,7 @@ module _ (book : Book) (P : Shape → Type 0) (least most : ℕ) (few : least �
   flat f has (x ∷ xs) = both (f x) (flat_map f xs) (has x) (flat f has xs)
 
   where_true : (b : Bool) (is js : List Item) → AllShapes is → AllShapes js → AllShapes (cond b is js)
-  where_true true is js p q = p
-  where_true false is js p q = q
+  where_true b is js p q = grind (arith, nat_tests)
 
   -- ---- numbers
 
@@ -68,12 +62,10 @@ module _ (book : Book) (P : Shape → Type 0) (least most : ℕ) (few : least �
         (both (map (unary_part kind heights option) at) _ (each (unary_part kind heights option) (unary option) at) (rests (eqb option 0) refl)))
       where
         rests : (t : Bool) → eqb option 0 ≡ t → AllShapes (cond t [] (map (rest_part kind heights option) at))
-        rests true e = tt
-        rests false e = let low : least ≤ option = grind (arith, nat_tests) in each (rest_part kind heights option) (λ i. fixed_is option low) at
+        rests t e = grind (arith, nat_tests, each)
 
     lead : (g : ℕ) → AllShapes (lead_items kind heights g)
-    lead zero = (fixed_is kind.bits some, tt)
-    lead (suc g) = tt
+    lead g = grind (arith, nat_tests)
 
     identified : least ≤ identifier_bits kind.bits
     identified = grind (arith, nat_tests)
@@ -90,52 +82,22 @@ module _ (book : Book) (P : Shape → Type 0) (least most : ℕ) (few : least �
   dc_planes_are q dcs (suc n) = simp planes_before-more (both (planes_before q dcs n) _ (dc_planes_are q dcs n) (each (dc_bit (q - suc n)) (λ d. fixed_is 1 few) dcs))
 
   dcs_are : (depth_dc depth_ac shift : ℕ) (dcs : List ℤ) (options : ℕ → ℕ) → 2 ^ dc_bits depth_dc depth_ac shift ≤ most → AllShapes (dc_items depth_dc depth_ac shift dcs options)
-  dcs_are depth_dc depth_ac shift dcs options small = simp dc_items-is (
-      let N = dc_bits depth_dc depth_ac shift in
-      let q = dc_q depth_dc depth_ac shift in
-      both (high_items N q dcs options) _ (where_true (eqb N 1) _ _ (each (dc_bit q) (λ d. fixed_is 1 few) dcs)
-      (before (dc_kind N) (omega arith) small (map (shifted_height true N q) dcs) options (gaggle_count (length (map (shifted_height true N q) dcs))))) (dc_planes_are q dcs (dc_planes depth_dc depth_ac shift)))
+  dcs_are depth_dc depth_ac shift dcs options small = grind (arith, nat_tests, dc_items-is, both, where_true, each, before, dc_planes_are)
 
   depths_are : (depth_ac : ℕ) (depths : List ℕ) (options : ℕ → ℕ) → (eqb depth_ac 0 ≡ false → least ≤ depth_bits depth_ac) → 2 ^ depth_bits depth_ac ≤ most → AllShapes (depth_items depth_ac depths options)
-  depths_are depth_ac depths options some small = simp depth_items-is (by_depth (eqb depth_ac 0) refl)
-    where
-      by_depth : (t : Bool) → eqb depth_ac 0 ≡ t → AllShapes (cond t [] (cond (eqb depth_ac 1) (map raw depths) (number_items (depth_kind depth_ac) depths options)))
-      by_depth true e = tt
-      by_depth false e = where_true (eqb depth_ac 1) _ _ (each raw (λ d. fixed_is 1 few) depths) (before (depth_kind depth_ac) (some e) small depths options (gaggle_count (length depths)))
+  depths_are depth_ac depths options some small = grind (arith, nat_tests, depth_items-is, where_true, each, before)
 
   -- ---- words
 
   pub word_is : (n option value : ℕ) → 2 ≤ n → n ≤ 4 → option < n → HasShape (word_item book n option value)
-  word_is n option value low high known = by_option (option == codes.uncoded n) refl
-    where
-      by_option : (b : Bool) → (option == codes.uncoded n) ≡ b → P (cond b (plain n value) (code (codes_of book n option) (symbol n value))).form.shape
-      by_option true e = fixed_is n (omega arith)
-      by_option false e = let more : option + 1 < n = grind (arith, nat_tests) in codes_are n option low high more
+  word_is n option value low high known = grind (arith, nat_tests)
 
   entry_is : (options : List ℕ) → AreOptionsOf options → (before : List Entry) (check : Check) (e : Entry) → IsEntry e → AllShapes (entry_reading book options before check e)
-  entry_is options known before check (Bit b) fit = simp bit_reading ((fixed_is 1 few, tt))
-  entry_is options known before check (Word bits) fit = simp word_reading (by_count (eqb bits.count 0) (eqb bits.count 1) refl refl)
-    where
-      wide : least ≤ codes.identifier_width bits.count
-      wide = grind (arith, nat_tests)
-
-      opened : (b : Bool) → AllShapes (cond b [] (option_item bits.count (option_of options bits.count) ∷ []))
-      opened true = tt
-      opened false = (fixed_is (codes.identifier_width bits.count) wide, tt)
-
-      by_count : (none one : Bool) → eqb bits.count 0 ≡ none → eqb bits.count 1 ≡ one →
-          AllShapes (cond none [] (cond one (checked (refuses check) (raw bits.value) ∷ []) (opening options before bits.count ++ checked_word book bits.count (option_of options bits.count) bits.value check ∷ [])))
-      by_count true one e f = tt
-      by_count false true e f = (fixed_is 1 few, tt)
-      by_count false false e f =
-          let two : 2 ≤ bits.count = grind (arith, nat_tests) in
-          both (opening options before bits.count) _ (opened (list_any (is_word_of bits.count) before))
-          (word_is bits.count (option_of options bits.count) bits.value two fit.0 (known.at bits.count two fit.0), tt)
+  entry_is options known before check e fit = grind (arith, nat_tests, bit_reading, word_reading, both, word_is)
 
   steps_are : (options : List ℕ) → AreOptionsOf options → (before : List Entry) (steps : List Step) → Fits steps → AllShapes (read_after book options before steps)
   steps_are options known before [] fit = tt
-  steps_are options known before (s ∷ steps) fit =
-      both (step_reading book options before s) _ (entry_is options known before s.check s.entry fit.0) (steps_are options known (before ++ s.entry ∷ []) steps fit.1)
+  steps_are options known before (s ∷ steps) fit = grind (arith, nat_tests, both, entry_is, steps_are options known (before ++ s.entry ∷ []) steps fit.1)
 
   plane_is : (options : ℕ → List ℕ) → ((g : ℕ) → AreOptionsOf (options g)) → (p : Plane) (stages : ℕ) → AllShapes (plane_reading book options p stages)
   plane_is options known p stages =
@@ -151,15 +113,7 @@ module _ (book : Book) (P : Shape → Type 0) (least most : ℕ) (few : least �
       let options : Options = record { book = book; dcs = dcs; depths = numbers; words = words } in
       AreWordOptions options → (eqb head.depth_ac 0 ≡ false → least ≤ depth_bits head.depth_ac) → 2 ^ dc_bits head.depth_dc head.depth_ac (dc_shift head) ≤ most → 2 ^ depth_bits head.depth_ac ≤ most →
       AllShapes (segment_items head blocks depths options)
-  shapes_of head blocks depths dcs numbers words known some dc_small depth_small = simp segment_items-is (
-      let options : Options = record { book = book; dcs = dcs; depths = numbers; words = words } in
-      let first = dcs_are head.depth_dc head.depth_ac (dc_shift head) (dcs_of blocks) options.dcs dc_small in
-      where_true head.stop.dc _ _ first
-      (both (dc_part_items head blocks options) _ first
-      (both (depth_items head.depth_ac depths options.depths) _ (depths_are head.depth_ac depths options.depths some depth_small)
-      (flat (nth_plane_items head blocks depths options)
-      (λ n. plane_is (options.words (nth_plane head n)) (λ g. record { at = λ k low high. known.at (nth_plane head n) g k low high }) (plane_at head blocks depths (nth_plane head n)) (stages_sent head (nth_plane head n)))
-      (span 0 head.depth_ac)))))
+  shapes_of head blocks depths dcs numbers words known some dc_small depth_small = grind (arith, nat_tests, segment_items-is, dcs_are, where_true, both, depths_are, flat, plane_is)
 
 -- of any number of bits
 module _ (book : Book) (P : Shape → Type 0) (most : ℕ) (fixed_is : (w : ℕ) → P (fixed w)) (zeros_is : (limit : ℕ) → limit ≤ most → P (zeros_to limit))

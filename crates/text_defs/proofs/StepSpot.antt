@@ -32,9 +32,7 @@ module _ (book : Book) where
 
   pub read_options : (n : ℕ) (o u : List ℕ) → Elsewhere n o u → (before : List Entry) (ss : List Step) → Fits ss → list_any (is_word_of n) (entries_of ss) ≡ false → read_after book o before ss ≡ read_after book u before ss
   read_options n o u same before [] fit none = refl
-  read_options n o u same before (s ∷ ss) fit none =
-      ap (λ l. l ++ read_after book o (before ++ s.entry ∷ []) ss) (entry_options n o u same before s.check s.entry fit.0 (neither_left (is_word_of n s.entry) _ none))
-      ∙ ap (λ l. step_reading book u before s ++ l) (read_options n o u same (before ++ s.entry ∷ []) ss fit.1 (neither_right (is_word_of n s.entry) _ none))
+  read_options n o u same before (s ∷ ss) fit none = grind (arith, nat_tests, entry_options, neither_left, neither_right, read_options n o u same (before ++ s.entry ∷ []) ss fit.1 (neither_right (is_word_of n s.entry) _ none))
 
   -- ---- steps
 
@@ -59,8 +57,7 @@ module _ (book : Book) where
       (ts : List Step) → SameSteps (s ∷ ss) ts → EntriesChoose 0 e (entries_of (s ∷ ss)) (entries_of ts) → Chooses c said (read_after book o before (s ∷ ss)) (read_after book o before ts)
   first_step o before s ss c said lt e chosen [] same picked = absurd same
   first_step o before s ss c said lt e chosen (t ∷ ts) same picked =
-      let here : entry_reading book o before s.check e ≡ step_reading book o before t =
-      ap (λ x. entry_reading book o before s.check x) (sym picked.next) ∙ ap (λ k. entry_reading book o before k t.entry) same.1 in
+      let here : entry_reading book o before s.check e ≡ step_reading book o before t = grind (arith, nat_tests) in
       choose_left c said (step_reading book o before s) (step_reading book o before t) _ _ lt (subst (λ l. Chooses c said (step_reading book o before s) l) here chosen)
 
   -- the first step is the same
@@ -70,10 +67,8 @@ module _ (book : Book) where
   later_step o before s ss c said le place e chosen [] same picked = absurd same
   later_step o before s ss c said le place e chosen (t ∷ ts) same picked =
       let first : s.entry ≡ t.entry = head_same s.entry t.entry _ _ picked.before in
-      let here : step_reading book o before s ≡ step_reading book o before t =
-      ap (λ x. entry_reading book o before s.check x) first ∙ ap (λ k. entry_reading book o before k t.entry) same.1 in
       let rest = chosen ts (same.3 first) (record { within = omega (arith, picked.within); before = tail_same s.entry t.entry _ _ picked.before; next = picked.next }) in
-      choose_right c said (step_reading book o before s) (step_reading book o before t) _ _ le (ap said_of here)
+      choose_right c said (step_reading book o before s) (step_reading book o before t) _ _ le (ap said_of (grind (arith, nat_tests)))
       (subst (λ x. Chooses (c - length (step_reading book o before s)) said (read_after book o (before ++ s.entry ∷ []) ss) (read_after book o (before ++ x ∷ []) ts)) first rest)
 
   module _ (o : List ℕ) (known : AreOptionsOf o) where

@@ -19,14 +19,10 @@ ToldAlike (s ∷ ss) [] = ⊥
 ToldAlike (s ∷ ss) (t ∷ ts) = (s.tells ≡ t.tells) × (s.entry ≡ t.entry) × ToldAlike ss ts
 
 neither : (a b : Bool) (ss ts : List Step) → a ≡ false → b ≡ false → ToldAlike (cond a ss []) (cond b ts [])
-neither true b ss ts e f = absurd cc
-neither false true ss ts e f = absurd cc
-neither false false ss ts e f = tt
+neither a b ss ts e f = grind (arith, nat_tests)
 
 both : (a b : Bool) (ss ts : List Step) → a ≡ true → b ≡ true → ToldAlike ss ts → ToldAlike (cond a ss []) (cond b ts [])
-both true true ss ts e f alike = alike
-both true false ss ts e f alike = absurd cc
-both false b ss ts e f alike = absurd cc
+both a b ss ts e f alike = grind (arith, nat_tests)
 
 above : (m n : ℕ) → m < n → nat_le n m ≡ false
 above m n lt = grind (arith, nat_tests)

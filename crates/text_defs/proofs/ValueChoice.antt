@@ -79,8 +79,7 @@ module _ (kind : Kind) (xs : List ℕ) (few : (i : ℕ) → get_or xs i 0 < 2 ^ 
           let none : option ≡ 0 = grind (arith, nat_tests) in
           let long = map_long (unary_part kind xs option) a n in
           let low : k < n = omega (arith, lt, long, length-append (map (unary_part kind xs option) (range_with_len a n)) []) in
-          let here : MaySay (unary_part kind xs option (a + k)) said =
-          may_same _ _ said (left_at k (map (unary_part kind xs option) (range_with_len a n)) [] (omega (arith, low, long)) ∙ range_at (unary_part kind xs option) a n k low) may in
+          let here : MaySay (unary_part kind xs option (a + k)) said = grind (arith, nat_tests, may_same, left_at, range_at) in
           let less : said < 2 ^ (kind.bits - option) = fewer_zeros said _ here.0 here.1 in
           let z : kind.bits - option ≡ kind.bits = omega arith in
           record {
@@ -122,9 +121,7 @@ module _ (kind : Kind) (xs : List ℕ) (few : (i : ℕ) → get_or xs i 0 < 2 ^ 
               let over : length (map (unary_part kind xs option) (range_with_len a n)) ≤ k = omega (arith, past, long) in
               let low : j < n = omega (arith, lt, long, map_long (rest_part kind xs option) a n, length-append (map (unary_part kind xs option) (range_with_len a n)) (map (rest_part kind xs option) (range_with_len a n))) in
               let at_j : k - length (map (unary_part kind xs option) (range_with_len a n)) ≡ j = ap (λ w. k - w) long in
-              let here : MaySay (rest_part kind xs option (a + j)) said =
-              may_same _ _ said (right_at k (map (unary_part kind xs option) (range_with_len a n)) (map (rest_part kind xs option) (range_with_len a n)) over
-              ∙ ap (item_at (map (rest_part kind xs option) (range_with_len a n))) at_j ∙ range_at (rest_part kind xs option) a n j low) may in
+              let here : MaySay (rest_part kind xs option (a + j)) said = grind (arith, nat_tests, may_same, right_at, range_at) in
               let q : ℕ = value_at kind.bits xs (a + j) / 2 ^ option in
               let fewer : q < 2 ^ (kind.bits - option) = div_below (value_at kind.bits xs (a + j)) (2 ^ option) (2 ^ (kind.bits - option)) (pow_pos option) (subst (λ w. value_at kind.bits xs (a + j) < w) (parts e) (value_below (a + j))) in
               record {

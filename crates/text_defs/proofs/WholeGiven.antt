@@ -36,8 +36,7 @@ module _ (head : SegmentHead) (blocks : List (List ℤ)) (depths : List ℕ) (op
       let m : ℕ = length (segment_items head blocks depths options) in
       let at : nth_plane head n ≡ b = omega arith in
       let part = part_long _ _ _ (parts_of (nth_plane_items head blocks depths options) head.depth_ac n (omega arith)) in
-      let here : length (nth_plane_items head blocks depths options n) ≡ length (plane_reading options.book (options.words b) (plane_at head blocks depths b) 5) =
-      ap (λ c. length (plane_reading options.book (options.words c) (plane_at head blocks depths c) (stages_sent head c))) at ∙ ap (λ s. length (plane_reading options.book (options.words b) (plane_at head blocks depths b) s)) (sent b) in
+      let here : length (nth_plane_items head blocks depths options n) ≡ length (plane_reading options.book (options.words b) (plane_at head blocks depths b) 5) = grind (arith, nat_tests, sent) in
       ap (λ t. cond t [] (steps_given options.book (options.words b) (plane_at head blocks depths b) (stages_sent head b) (m - before_plane head blocks depths options n) r)) goes_on
       ∙ ap (λ s. steps_given options.book (options.words b) (plane_at head blocks depths b) s (m - before_plane head blocks depths options n) r) (sent b)
       ∙ plane_whole options.book (options.words b) blocks depths head.image.weights.shifts b (q_of head) (m - before_plane head blocks depths options n) r within (omega (arith, part, here, segment_long))

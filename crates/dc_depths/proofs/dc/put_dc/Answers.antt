@@ -4,6 +4,8 @@ use Rattle.number_defs.specs.DcPart.{dc_choices}
 use Rattle.gaggle_codes.specs.Options.{choice_of}
 use Rattle.dc_depths.proofs.Parts.{high_cut, dc_then}
 use Rattle.dc_depths.proofs.dc.put_dc.Goals as goal
+use Rattle.std.proofs.Common.{arith}
+use Rattle.std.proofs.lemmas.Grind.{common_steps}
 
 pub returns-in_err-put_high : goal.returns-in_err-put_high
 returns-in_err-put_high g c =
@@ -13,7 +15,4 @@ returns-in_err-put_high g c =
     rw (p.1, p.2) (high_cut plan.depth_dc plan.depth_ac plan.shift dcs (dc_choices (choice_of c.args.select) plan.depth_dc plan.depth_ac plan.shift dcs) c.in_err-put_high.ensures)
 
 pub returns : goal.returns
-returns g c =
-    let plan = c.args.plan.now in
-    let dcs = strided 64 c.args.blocks.now in
-    dc_then plan.depth_dc plan.depth_ac plan.shift dcs (dc_choices (choice_of c.args.select) plan.depth_dc plan.depth_ac plan.shift dcs) c.in_ok-put_high.ensures.ends c.put_planes.ensures
+returns g c = grind (arith, common_steps, dc_then)

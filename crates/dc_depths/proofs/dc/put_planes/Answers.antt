@@ -6,23 +6,13 @@ use Rattle.number_defs.specs.DcPart.{dc_q, dc_planes}
 use Rattle.number_defs.proofs.DcBits.{q_small}
 use Rattle.dc_depths.proofs.Planes.{plane_none, plane_more, plane_ended, planes_all}
 use Rattle.dc_depths.proofs.dc.put_planes.Goals as goal
+use Rattle.std.proofs.lemmas.Grind.{common_steps}
 
 pub loop-plane-init : goal.loop-plane-init
-loop-plane-init g c =
-    let plan = c.args.plan.now in
-    record {
-      within = omega (arith, c.q-plane.ensures);
-      more = omega (arith, c.q-plane.ensures);
-      is_open = c.requires.open;
-      so_far = plane_none (dc_q plan.depth_dc plan.depth_ac plan.shift) (strided 64 c.args.blocks.now) _ _ _ (omega (arith, c.q-plane.ensures)) c.requires.open;
-    }
+loop-plane-init g c = grind (arith, common_steps, plane_none)
 
 pub put_plane-requires : goal.put_plane-requires
-put_plane-requires g c =
-    let plan = c.args.plan.now in
-    let small = q_small plan.depth_dc plan.depth_ac plan.shift c.requires.dc c.requires.shift in
-    let within = c.loop-plane.invariant.within in
-    record { «open» = c.loop-plane.invariant.is_open; plane = omega (arith, small, within) }
+put_plane-requires g c = grind (arith, common_steps, q_small)
 
 pub loop-plane-preserved : goal.loop-plane-preserved
 loop-plane-preserved g c =
@@ -53,12 +43,4 @@ returns-in_err-put_plane g c =
     rw (p.1, p.2) (plane_ended q (strided 64 c.args.blocks.now) (dc_planes plan.depth_dc plan.depth_ac plan.shift) (q - plane) (plane - 1) (omega (arith, last)) (omega arith) i.so_far c.in_err-put_plane.ensures)
 
 pub returns : goal.returns
-returns g c =
-    let plan = c.args.plan.now in
-    let q = dc_q plan.depth_dc plan.depth_ac plan.shift in
-    let plane = c.loop-plane.plane in
-    let i = c.loop-plane.invariant in
-    let last = c.max-last.ensures in
-    let test : plane ≤ c.max-last.result = c.loop-plane-test.false in
-    let more = i.more in
-    planes_all q (strided 64 c.args.blocks.now) (dc_planes plan.depth_dc plan.depth_ac plan.shift) (q - plane) (omega (arith, last, more, test)) i.so_far
+returns g c = grind (arith, common_steps, planes_all)

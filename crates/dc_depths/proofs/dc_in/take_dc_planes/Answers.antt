@@ -6,16 +6,10 @@ use Rattle.number_defs.proofs.DcBits.{q_small}
 use Rattle.dc_depths.proofs.TakenPlanes.{planes_start, planes_room, planes_more, planes_cut, planes_all}
 use Rattle.bit_pipe.proofs.Endings.{whole_ending, ended_cut, err_cut, in_whole}
 use Rattle.dc_depths.proofs.dc_in.take_dc_planes.Goals as goal
+use Rattle.std.proofs.lemmas.Grind.{common_steps}
 
 pub loop-plane-init : goal.loop-plane-init
-loop-plane-init g c =
-    let plan = c.args.plan.now in
-    record {
-      within = omega (arith, c.q-plane.ensures);
-      more = omega (arith, c.q-plane.ensures);
-      is_in = c.requires.open;
-      so_far = planes_start (dc_q plan.depth_dc plan.depth_ac plan.shift) c.q-plane.result _ _ c.q-plane.ensures c.requires.open;
-    }
+loop-plane-init g c = grind (arith, common_steps, planes_start)
 
 pub take_bits-requires-clause-room : goal.take_bits-requires-clause-room
 take_bits-requires-clause-room g c =
@@ -75,12 +69,4 @@ returns-in_default g c =
     planes_cut q plane (plane - 1) (omega arith) within i.so_far t (dc_planes plan.depth_dc plan.depth_ac plan.shift) _ (omega (arith, last)) (ended_cut t.ending t.answer) t.answer
 
 pub returns : goal.returns
-returns g c =
-    let plan = c.args.plan.now in
-    let q = dc_q plan.depth_dc plan.depth_ac plan.shift in
-    let plane = c.loop-plane.plane in
-    let i = c.loop-plane.invariant in
-    let last = c.max-last.ensures in
-    let test : plane ≤ c.max-last.result = c.loop-plane-test.false in
-    let more = i.more in
-    planes_all q plane (dc_planes plan.depth_dc plan.depth_ac plan.shift) i.within (omega (arith, last, more, test)) i.so_far
+returns g c = grind (arith, common_steps, planes_all)

@@ -1,4 +1,4 @@
-use Rattle.std.proofs.Common.{◌≡◌, ◌≤◌, ◌^◌, ◌∙◌, sym, ap, subst, arith, rules, w32, to_z, of_z, pos, ◌-ℤ◌, neg_ℤ, pow_mono}
+use Rattle.std.proofs.Common.{◌≡◌, ◌≤◌, ◌^◌, ◌∙◌, sym, ap, arith, rules, w32, to_z, of_z, pos, ◌-ℤ◌, neg_ℤ, pow_mono}
 use Rattle.std.proofs.lemmas.Int.{ints, to_z-of_z, fits_signed_from_abs}
 use Rattle.std.proofs.lemmas.Result.{err_from_is_err_and}
 use Rattle.number_defs.specs.DcPart.{dc_q, dc_bits}
@@ -6,6 +6,7 @@ use Rattle.number_defs.proofs.DcBits.{q_small}
 use Rattle.dc_depths.proofs.TakenDepths.{part_ok, part_err}
 use Rattle.dc_depths.proofs.TakenHigh.{raw_high, coded_high}
 use Rattle.dc_depths.proofs.dc_in.take_high.Goals as goal
+use Rattle.std.proofs.lemmas.Grind.{common_steps}
 
 pub returns-then-bits-eq1 : goal.returns-then-bits-eq1
 returns-then-bits-eq1 g c =
@@ -21,24 +22,7 @@ returns-then-bits-eq1 g c =
     raw_high N q one c.clear.ensures (rw (power, below, weight) at c.take_bits.ensures)
 
 pub returns-in_err-part : goal.returns-in_err-part
-returns-in_err-part g c =
-    let plan = c.args.plan.now in
-    let N = dc_bits plan.depth_dc plan.depth_ac plan.shift in
-    let q = dc_q plan.depth_dc plan.depth_ac plan.shift in
-    let bits = c.bits-bits.ensures.is in
-    let low : c.q-2.result ≡ q = c.q-2.ensures in
-    let two : 2 ≤ c.bits-bits.result = omega arith in
-    let t = rw (bits, low) at c.in_err-part.ensures in
-    let p = err_from_is_err_and c.from_residual.result c.from_residual.ensures.1 in
-    rw (p.1, p.2) (coded_high N q _ (subst (λ n. 2 ≤ n) bits two) (λ e given h. part_err e given _ h) t)
+returns-in_err-part g c = grind (arith, common_steps, err_from_is_err_and, coded_high, part_err)
 
 pub returns : goal.returns
-returns g c =
-    let plan = c.args.plan.now in
-    let N = dc_bits plan.depth_dc plan.depth_ac plan.shift in
-    let q = dc_q plan.depth_dc plan.depth_ac plan.shift in
-    let bits = c.bits-bits.ensures.is in
-    let low : c.q-2.result ≡ q = c.q-2.ensures in
-    let two : 2 ≤ c.bits-bits.result = omega arith in
-    let t = rw (bits, low) at c.in_ok-part.ensures in
-    coded_high N q _ (subst (λ n. 2 ≤ n) bits two) (λ e given h. part_ok e given _ h) t
+returns g c = grind (arith, common_steps, coded_high, part_ok)

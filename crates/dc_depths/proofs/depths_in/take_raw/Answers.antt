@@ -4,6 +4,7 @@ use Rattle.std.proofs.lemmas.Result.{err_from_is_err_and}
 use Rattle.bit_pipe.proofs.Taking.{in_later}
 use Rattle.dc_depths.proofs.TakenDepths.{raw_start, raw_more, raw_ended, raw_failed, raw_all}
 use Rattle.dc_depths.proofs.depths_in.take_raw.Goals as goal
+use Rattle.std.proofs.lemmas.Grind.{common_steps}
 
 pub loop-place-init : goal.loop-place-init
 loop-place-init g c = record { is_in = c.requires.open; so_far = raw_start _ c.args.marks.now c.requires.open c.requires.none }
@@ -20,9 +21,7 @@ loop-place-preserved g c =
     })
 
 pub returns-in_err-bit : goal.returns-in_err-bit
-returns-in_err-bit g c =
-    let p = err_from_is_err_and c.from_residual.result c.from_residual.ensures.1 in
-    rw (p.1, p.2) (raw_failed c.loop-place.place c.loop-place.marks c.in_err-bit.field-0.0 (omega arith) c.loop-place.invariant.so_far c.in_err-bit.ensures.ends)
+returns-in_err-bit g c = grind (arith, common_steps, err_from_is_err_and, raw_failed)
 
 pub returns-in_default : goal.returns-in_default
 returns-in_default g c =

@@ -1,7 +1,8 @@
-use Rattle.std.proofs.Common.{arith, ◌≡◌, ◌-◌}
+use Rattle.std.proofs.Common.{arith}
 use Rattle.gaggle_codes.proofs.Least.{best_start, best_changes, best_stays, best_of_all}
 use Rattle.gaggle_codes.proofs.choice.optimal_of.Goals as goal
 use Rattle.gaggle_codes.proofs.choice.optimal_of.Goals.{then-needed-fewest, else-needed-fewest}
+use Rattle.std.proofs.lemmas.Grind.{common_steps}
 
 pub loop-k-init : goal.loop-k-init
 loop-k-init c = best_start _ _ _ (omega arith)
@@ -19,6 +20,4 @@ loop-k-preserved c =
     ]
 
 pub returns : goal.returns
-returns c =
-    let last : c.loop-k.k ≡ c.args.bits - 1 = omega arith in
-    best_of_all c.args.bits c.args.values.now c.loop-k.best c.loop-k.fewest c.requires.low c.requires.high (rw last at c.loop-k.invariant)
+returns c = grind (arith, common_steps, best_of_all)

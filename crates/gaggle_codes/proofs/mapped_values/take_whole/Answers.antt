@@ -1,17 +1,13 @@
-use Rattle.std.proofs.Common.{arith, length-append, ap, length}
+use Rattle.std.proofs.Common.{arith, length-append}
 use Rattle.std.proofs.lemmas.Result.{err_from_is_err_and}
 use Rattle.bit_pipe.proofs.Taking.{in_later}
-use Rattle.gaggle_codes.specs.Given.{heights_in}
 use Rattle.gaggle_codes.proofs.LowNumbers.{low_same, low_more, low_stays}
 use Rattle.gaggle_codes.proofs.WholeLoop.{whole_start, whole_more, whole_all, whole_ended, whole_fault, whole_depth}
 use Rattle.gaggle_codes.proofs.mapped_values.take_whole.Goals as goal
+use Rattle.std.proofs.lemmas.Grind.{common_steps}
 
 pub loop-zeros-init : goal.loop-zeros-init
-loop-zeros-init g c = record {
-  is_in = c.requires.open;
-  so_far = whole_start c.args.range c.args.option c.args.before c.args.zeros.now (heights_in c.args.numbers.now) _ c.requires.open c.requires.before;
-  low = low_same c.args.most (heights_in c.args.numbers.now);
-}
+loop-zeros-init g c = grind (arith, common_steps, whole_start, low_same)
 
 pub take_value-requires-clause-open : goal.take_value-requires-clause-open
 take_value-requires-clause-open g c = c.loop-zeros.invariant.is_in
@@ -27,9 +23,7 @@ returns-in_default-clause-takes g c = λ too_great bound.
     whole_ended c.args.range c.args.option c.args.before c.args.zeros.now c.requires.option c.requires.zeros too_great (omega arith) c.loop-zeros.invariant.so_far h.ends
 
 pub follow-requires-clause-room : goal.follow-requires-clause-room
-follow-requires-clause-room g c =
-    let s = c.loop-zeros.invariant.so_far in
-    omega (arith, ap length s.now_is, length-append (heights_in c.args.numbers.now) s.heights, s.chained.count, c.requires.room)
+follow-requires-clause-room g c = grind (arith, common_steps, length-append)
 
 pub follow-requires-clause-before : goal.follow-requires-clause-before
 follow-requires-clause-before g c = c.loop-zeros.invariant.so_far.chained.small

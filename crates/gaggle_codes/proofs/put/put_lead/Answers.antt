@@ -1,8 +1,7 @@
-use Rattle.gaggle_codes.specs.Written.{heights_of}
 use Rattle.gaggle_codes.proofs.GaggleParts.{lead_later}
 use Rattle.gaggle_codes.proofs.put.put_lead.Goals as goal
+use Rattle.std.proofs.Common.{arith}
+use Rattle.std.proofs.lemmas.Grind.{common_steps}
 
 pub returns-then-gaggle-gt0 : goal.returns-then-gaggle-gt0
-returns-then-gaggle-gt0 g c =
-    let numbers = c.args.numbers.now in
-    lead_later _ _ numbers.range.signed numbers.range.bits (heights_of numbers) c.args.gaggle c.requires.open c.if-gaggle-gt0.true
+returns-then-gaggle-gt0 g c = grind (arith, common_steps, lead_later)

@@ -6,6 +6,7 @@ use Rattle.gaggle_codes.specs.Taken.{IsBound}
 use Rattle.gaggle_codes.proofs.LowNumbers.{low_allowed}
 use Rattle.gaggle_codes.proofs.NumbersRead.{so_start, long, got_all, numbers_stop, numbers_all, so_more, in_after_gaggle, got_small, got_fits, err_like, ended_like, err_cuts, ended_cuts}
 use Rattle.gaggle_codes.proofs.take.take_bounded.Goals as goal
+use Rattle.std.proofs.lemmas.Grind.{common_steps}
 
 -- the test itself
 above : ℕ → ℕ → Bool
@@ -16,10 +17,7 @@ unfolding above
 is_bound most N = record { at = λ height lt. refl }
 
 pub loop-gaggle-init : goal.loop-gaggle-init
-loop-gaggle-init g c = record {
-  is_in = c.requires.open;
-  so_far = λ too_great bound. so_start c.args.range too_great c.args.shift c.args.stride c.div_ceil-count.result _ c.requires.open c.clear.ensures;
-}
+loop-gaggle-init g c = grind (arith, common_steps, so_start)
 
 pub take_gaggle-result-requires-clause-before : goal.take_gaggle-result-requires-clause-before
 take_gaggle-result-requires-clause-before g c = (c.loop-gaggle.invariant.so_far (above c.args.most) (is_bound c.args.most c.args.range.bits)).small
@@ -106,6 +104,4 @@ loop-gaggle-preserved g c =
     }
 
 pub returns : goal.returns
-returns g c = λ too_great bound.
-    let count_is = c.div_ceil-count.ensures ∙ ap (λ n. div_ceil n c.args.stride) c.clear.ensures.size in
-    numbers_all c.args.range too_great c.args.shift c.args.stride c.div_ceil-count.result c.loop-gaggle.gaggle c.loop-gaggle.before (omega arith) count_is (c.loop-gaggle.invariant.so_far too_great bound)
+returns g c = grind (arith, common_steps, numbers_all)

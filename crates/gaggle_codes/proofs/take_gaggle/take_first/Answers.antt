@@ -4,6 +4,8 @@ use Rattle.gaggle_codes.specs.Written.{kind_of}
 use Rattle.gaggle_codes.specs.Taken.{IsBound}
 use Rattle.gaggle_codes.proofs.GaggleRead.{none_from, fault_from, first_unread, first_unled, first_read, in_after_option, in_after_reference, reference_led}
 use Rattle.gaggle_codes.proofs.take_gaggle.take_first.Goals as goal
+use Rattle.std.proofs.lemmas.Grind.{common_steps}
+use Rattle.std.proofs.lemmas.Bool.Decides.{nat_tests}
 
 -- the test itself
 above : ℕ → ℕ → Bool
@@ -19,14 +21,10 @@ returns-in_err-option-clause-takes g c = λ too_great bound.
     rw (p.1, p.2, c.requires.none) (first_unread (kind_of c.args.range too_great) 0 c.args.size c.requires.some (λ e v q. fault_from e v _ q) c.in_err-option.ensures)
 
 pub returns-in_default-clause-takes : goal.returns-in_default-clause-takes
-returns-in_default-clause-takes g c = λ too_great bound.
-    let t = rw c.in_default.is at c.in_ok-option.ensures in
-    rw c.requires.none (first_unread (kind_of c.args.range too_great) 0 c.args.size c.requires.some (λ e v q. none_from e v q) t)
+returns-in_default-clause-takes g c = λ too_great bound. grind (arith, nat_tests, first_unread, none_from)
 
 pub take_reference-requires-clause-open : goal.take_reference-requires-clause-open
-take_reference-requires-clause-open g c =
-    let t = rw c.in-Some.is at c.in_ok-option.ensures in
-    in_after_option (kind_of c.args.range (above c.args.most)) c.requires.open t
+take_reference-requires-clause-open g c = grind (arith, common_steps, in_after_option)
 
 pub returns-in_err-before-clause-takes : goal.returns-in_err-before-clause-takes
 returns-in_err-before-clause-takes g c = λ too_great bound.
@@ -36,10 +34,7 @@ returns-in_err-before-clause-takes g c = λ too_great bound.
     rw (p.1, p.2) (first_unled (kind_of c.args.range too_great) 0 c.args.size c.in-Some.option c.requires.some (λ e v q. fault_from e v _ q) t f)
 
 pub returns-in_default-2-clause-takes : goal.returns-in_default-2-clause-takes
-returns-in_default-2-clause-takes g c = λ too_great bound.
-    let t = rw c.in-Some.is at c.in_ok-option.ensures in
-    let f = rw (c.in_default-2.is, c.requires.none) at (c.in_ok-before.ensures.takes too_great bound) in
-    first_unled (kind_of c.args.range too_great) 0 c.args.size c.in-Some.option c.requires.some (λ e v q. none_from e v q) t f
+returns-in_default-2-clause-takes g c = grind (arith, common_steps, first_unled, none_from)
 
 pub take_differences-requires-clause-open : goal.take_differences-requires-clause-open
 take_differences-requires-clause-open g c =
@@ -55,11 +50,7 @@ take_differences-requires-clause-before g c =
 pub take_differences-requires-clause-room : goal.take_differences-requires-clause-room
 take_differences-requires-clause-room g c =
     let f = rw (c.in-Some-2.is, c.requires.none) at (c.in_ok-before.ensures.takes (above c.args.most) (is_bound c.args.most c.args.range.bits)) in
-    let led = (reference_led (kind_of c.args.range (above c.args.most)) f).0 in
-    omega (arith, ap length led, c.requires.some, c.requires.room)
+    omega (arith, ap length ((reference_led (kind_of c.args.range (above c.args.most)) f).0), c.requires.some, c.requires.room)
 
 pub returns-clause-takes : goal.returns-clause-takes
-returns-clause-takes g c = λ too_great bound.
-    let t = rw c.in-Some.is at c.in_ok-option.ensures in
-    let f = rw (c.in-Some-2.is, c.requires.none) at (c.in_ok-before.ensures.takes too_great bound) in
-    first_read (kind_of c.args.range too_great) 0 c.args.size c.in-Some.option c.in-Some-2.before c.requires.some t f (c.take_differences.ensures.takes too_great bound)
+returns-clause-takes g c = grind (arith, common_steps, first_read)

@@ -1,10 +1,9 @@
 use Rattle.std.proofs.Common.{◌≡◌, ◌+◌, ◌-◌, arith}
 use Rattle.gaggle_codes.proofs.take_gaggle.take_gaggle.Goals as goal
+use Rattle.std.proofs.lemmas.Bool.Decides.{nat_tests}
 
 pub returns-then-gaggle-eq0-clause-takes : goal.returns-then-gaggle-eq0-clause-takes
-returns-then-gaggle-eq0-clause-takes g c = λ too_great bound.
-    let zero : c.args.gaggle ≡ 0 = omega arith in
-    rw (zero, c.requires.first zero) (c.take_first.ensures.takes too_great bound)
+returns-then-gaggle-eq0-clause-takes g c = λ too_great bound. grind (arith, nat_tests)
 
 pub returns-clause-takes : goal.returns-clause-takes
 returns-clause-takes g c = λ too_great bound.

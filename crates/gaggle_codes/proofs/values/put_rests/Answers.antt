@@ -12,8 +12,7 @@ loop-value-init g c = record { is_open = c.requires.open; so_far = adds_start _ 
 pub loop-value-preserved : goal.loop-value-preserved
 loop-value-preserved g c =
     let i = c.loop-value.invariant in
-    let e : (1 * 2 ^ c.args.k) % 65536 ≡ 2 ^ c.args.k = one_shl c.args.k 16 (omega (arith, c.requires.k)) in
-    let p = (rw e at c.in_ok-put_bits.ensures).ends in
+    let p = (rw (one_shl c.args.k 16 (omega (arith, c.requires.k))) at c.in_ok-put_bits.ensures).ends in
     record { is_open = open_later i.is_open p; so_far = each_more (rest_bits c.args.k) c.args.values.now c.loop-value.value-index 0 (omega arith) i.so_far p }
 
 pub returns-in_err-put_bits : goal.returns-in_err-put_bits

@@ -4,15 +4,13 @@ use Rattle.item_defs.specs.Bits.{bits_of}
 use Rattle.bit_pipe.proofs.Putting.{adds_start, open_later}
 use Rattle.gaggle_codes.proofs.Listing.{each_more, each_ended, each_whole}
 use Rattle.gaggle_codes.proofs.values.put_uncoded.Goals as goal
+use Rattle.std.proofs.lemmas.Grind.{common_steps}
 
 pub loop-value-init : goal.loop-value-init
 loop-value-init g c = record { is_open = c.requires.open; so_far = adds_start _ _ c.requires.open }
 
 pub loop-value-preserved : goal.loop-value-preserved
-loop-value-preserved g c =
-    let i = c.loop-value.invariant in
-    let p = c.in_ok-put_bits.ensures.ends in
-    record { is_open = open_later i.is_open p; so_far = each_more (bits_of c.args.bits) c.args.values.now c.loop-value.value-index 0 (omega arith) i.so_far p }
+loop-value-preserved g c = grind (arith, common_steps, open_later, each_more)
 
 pub returns-in_err-put_bits : goal.returns-in_err-put_bits
 returns-in_err-put_bits g c =

@@ -1,17 +1,13 @@
 use Rattle.std.proofs.Common.{◌≡◌, length, arith}
-use Rattle.number_defs.specs.Ranges.{shifted_height}
 use Rattle.number_defs.specs.Gaggles.{value_at}
 use Rattle.number_defs.proofs.CellPlaces.{made_length, count_within}
 use Rattle.gaggle_codes.specs.Written.{heights_of}
 use Rattle.gaggle_codes.proofs.Places.{by_places}
 use Rattle.gaggle_codes.proofs.numbers.Numbers.map_values.Goals as goal
+use Rattle.std.proofs.lemmas.Grind.{common_steps}
 
 pub overflow_add-from : goal.overflow_add-from
-overflow_add-from c =
-    let s = c.args.self.now in
-    let n = made_length (shifted_height s.range.signed s.range.bits s.shift) s.stride s.cells.now in
-    let few = count_within (length s.cells.now) s.stride s.strided in
-    omega (arith, n, few)
+overflow_add-from c = grind (arith, common_steps, made_length, count_within)
 
 pub returns-clause-values : goal.returns-clause-values
 returns-clause-values c =
