@@ -1,7 +1,7 @@
 -- The packets of a camera's APID, of all that is given, are those that its rows settle.
-use Rattle.std.proofs.Common.{◌≡◌, inl, inr, ◌≤◌, ◌<◌, ◌+◌, ◌*◌, ℕ, zero, suc, ℤ, List, [], ◌∷◌, ◌++◌, length, take, refl, sym, ap, subst, ◌∙◌, arith, length-append, Bool, true, false, ◌==◌, ◌&&◌, ◌||◌, not, nat_lt, None}
+use Rattle.std.proofs.Common.{◌≡◌, inl, inr, ◌≤◌, ◌<◌, ◌+◌, ◌*◌, ℕ, zero, suc, ℤ, List, [], ◌∷◌, ◌++◌, length, take, refl, sym, ap, subst, ◌∙◌, arith, length-append, Bool, true, ◌==◌, ◌&&◌, ◌||◌, not, nat_lt, None}
 use Rattle.std.specs.List.{AllByRecursion, flat_map}
-use Rattle.std.proofs.lemmas.Bool.{cases_eq, cases_lt, false≢true, ne_eqb}
+use Rattle.std.proofs.lemmas.Bool.{cases_lt, false≢true, ne_eqb}
 use Rattle.std.proofs.lemmas.Bool.Decides.{nat_tests}
 use Rattle.std.proofs.lemmas.List.{append-nil, take_all, take_more}
 use Rattle.std.proofs.lemmas.List.Elements.{filter-append}
@@ -14,7 +14,7 @@ use Rattle.packet_defs.specs.Packets.{joined}
 use Rattle.packet_defs.specs.Streams.{IsPacket, whole_packets}
 use Rattle.packet_defs.proofs.Joins.{joined-append}
 use Rattle.packet_defs.proofs.Splits.{splits_whole, joined_splits}
-use Rattle.stream_defs.specs.Output.{image_blocks, output, tells_last}
+use Rattle.stream_defs.specs.Output.{image_blocks, tells_last}
 use Rattle.stream_defs.specs.Settled.{last_block_row}
 use Rattle.stream_defs.specs.SettledImages.{front_packets, settled_in}
 use Rattle.stream_defs.proofs.Outputs.{packets_of-none}
@@ -56,14 +56,7 @@ no_octets settings = refl
 
 module _ (s : Setting) (range : IsInRange s) (known : s.rows ≡ 0 → ⊥) where
   not_settled : (m : ℕ) (told : Bool) → (not told && (0 == s.rows) || nat_lt m 0) ≡ true → ⊥
-  not_settled m told e =
-      let a : (0 == s.rows) ≡ false = ne_eqb 0 s.rows (λ e. known (sym e)) in
-      let b : nat_lt m 0 ≡ false = grind (arith, nat_tests) in
-      by told (rw (a, b) at e)
-    where
-      by : (t : Bool) → (not t && false || false) ≡ true → ⊥
-      by true e = absurd (false≢true e)
-      by false e = absurd (false≢true e)
+  not_settled m told e = grind (arith, nat_tests, ne_eqb, nat_lt, false≢true)
 
   -- no rows settle no segment
   none_settled : settled_in s (tallest s) 0 ≡ 0
@@ -117,18 +110,13 @@ module _ (s : Setting) (range : IsInRange s) (known : s.rows ≡ 0 → ⊥) (k :
       ∙ sym (front_more s (tallest s) x a b (settled_rises (tells_last s) (sized s (tallest s)) k (k + 1) (omega arith) after_le))
 
   pub new_own : AllByRecursion (IsOwn s.apid) new
-  new_own =
-      let apid = range.apid in
-      let packet = range.packet in
-      own_segments (tells_last s) (sized s (tallest s)) (image_blocks (sized s (tallest s)) x) (omega (arith, apid)) packet.0 packet.1 a _
+  new_own = grind (arith, nat_tests, own_segments)
 
   settled_as : (raster : List ℕ) (k : ℕ) → k ≤ tallest s → settled_octets s raster k ≡ joined (settled_packets s raster k)
   settled_as raster k le = settled_same s (tallest s) k raster (image_of s raster) range (tall_height s range) le le (record { at = λ i j hi hj. refl })
 
   pub octets_grown : settled_octets s raster k ++ joined new ≡ settled_octets s (raster ++ row) (k + 1)
-  octets_grown =
-      ap (λ zs. zs ++ joined new) (settled_as raster k before_le) ∙ sym (joined-append (settled_packets s raster k) new)
-      ∙ ap joined grown ∙ sym (settled_as (raster ++ row) (k + 1) after_le)
+  octets_grown = grind (arith, nat_tests, settled_as, before_le, joined-append, grown, after_le)
 
 module _ (settings : List Setting) (cameras : AreSettings settings) (records : List CameraRow) (h : HasPackets settings records) (r : CameraRow) (can : CanFollow settings records r) where
   abbrev s : Setting
@@ -156,23 +144,13 @@ module _ (settings : List Setting) (cameras : AreSettings settings) (records : L
   more_own = new_own s (cameras.in_range r.camera can.known) (cameras.known r.camera can.known) k can.misses raster r.row (h.rasters r.camera can.known)
 
   settles : settled_by settings r.camera records ++ joined more ≡ settled_by settings r.camera now
-  settles =
-      octets_grown s (cameras.in_range r.camera can.known) (cameras.known r.camera can.known) k can.misses raster r.row (h.rasters r.camera can.known)
-      ∙ ap (λ zs. settled_octets s zs (k + 1)) (sym rastered) ∙ ap (settled_octets s (raster_of r.camera now)) (sym counted)
+  settles = grind (arith, nat_tests, octets_grown, rastered, counted)
 
   own_now : picked_of s.apid None (h.packets ++ more) ≡ settled_packets s (raster_of r.camera now) (count_of r.camera now)
-  own_now =
-      filter-append (is_picked s.apid None) h.packets more
-      ∙ ap (λ ps. ps ++ picked_of s.apid None more) (h.own r.camera can.known)
-      ∙ ap (λ ps. settled_packets s raster k ++ ps) (own_picked s.apid more more_own)
-      ∙ grown s (cameras.in_range r.camera can.known) (cameras.known r.camera can.known) k can.misses raster r.row (h.rasters r.camera can.known)
-      ∙ ap (λ zs. settled_packets s zs (k + 1)) (sym rastered) ∙ ap (settled_packets s (raster_of r.camera now)) (sym counted)
+  own_now = grind (arith, nat_tests, filter-append, own_picked, more_own, grown, rastered, counted)
 
   different : (camera : ℕ) → camera < length settings → (r.camera ≡ camera → ⊥) → s.apid ≡ (setting_at settings camera).apid → ⊥
-  different camera lt ne e = elim (cases_lt r.camera camera) [
-    | inl less ↦ cameras.apart r.camera camera less lt e
-    | inr far ↦ cameras.apart camera r.camera (elim (cases_lt camera r.camera) [ inl less ↦ less | inr same ↦ absurd (ne (omega (arith, far, same))) ]) can.known (sym e)
-  ]
+  different camera lt ne e = grind (arith, nat_tests, cases_lt)
 
   other_now : (camera : ℕ) → camera < length settings → (r.camera ≡ camera → ⊥) →
       picked_of (setting_at settings camera).apid None (h.packets ++ more) ≡ settled_packets (setting_at settings camera) (raster_of camera now) (count_of camera now)
@@ -184,24 +162,10 @@ module _ (settings : List Setting) (cameras : AreSettings settings) (records : L
       ∙ ap (λ rs. settled_packets t (flat_map (λ (r : CameraRow). r.row) rs) (length rs)) (sym (records_other records r camera ne))
 
   rasters_now : (camera : ℕ) → camera < length settings → length (raster_of camera now) ≡ count_of camera now * row_length (setting_at settings camera)
-  rasters_now camera lt = elim (cases_eq r.camera camera) [
-    | inl e ↦
-        let before = h.rasters r.camera can.known in
-        let row = can.whole in
-        let size : length (raster_of r.camera now) ≡ length raster + length r.row = ap length rastered ∙ length-append raster r.row in
-        let one : (k + 1) * row_length s ≡ k * row_length s + row_length s = grind arith in
-        subst (λ c. length (raster_of c now) ≡ count_of c now * row_length (setting_at settings c)) e
-        (size ∙ (let t : length raster + length r.row ≡ (k + 1) * row_length s = omega (arith, before, row, one) in t) ∙ ap (λ n. n * row_length s) (sym counted))
-    | inr ne ↦
-        let same = records_other records r camera ne in
-        ap (λ rs. length (flat_map (λ (r : CameraRow). r.row) rs)) same ∙ h.rasters camera lt ∙ ap (λ rs. length rs * row_length (setting_at settings camera)) (sym same)
-  ]
+  rasters_now camera lt = grind (arith, nat_tests, length, rastered, length-append, counted, records_other)
 
   counts_now : (camera : ℕ) → camera < length settings → count_of camera now ≤ (setting_at settings camera).rows
-  counts_now camera lt = elim (cases_eq r.camera camera) [
-    | inl e ↦ let misses = can.misses in subst (λ c. count_of c now ≤ (setting_at settings c).rows) e (omega (arith, counted, misses))
-    | inr ne ↦ let count = h.counts camera lt in let same = ap length (records_other records r camera ne) in omega (arith, count, same)
-  ]
+  counts_now camera lt = grind (arith, nat_tests, counted, length, records_other)
 
   more_given : HasPackets settings now
   more_given = record {
@@ -210,10 +174,7 @@ module _ (settings : List Setting) (cameras : AreSettings settings) (records : L
     whole = each_of_both IsPacket h.packets more h.whole (are_whole s.apid more more_own);
     rasters = rasters_now;
     counts = counts_now;
-    own = λ camera lt. elim (cases_eq r.camera camera) [
-      | inl e ↦ subst (λ c. picked_of (setting_at settings c).apid None (h.packets ++ more) ≡ settled_packets (setting_at settings c) (raster_of c now) (count_of c now)) e own_now
-      | inr ne ↦ other_now camera lt ne
-    ];
+    own = grind (arith, nat_tests, own_now, other_now);
   }
 
 -- ---- all records
@@ -243,11 +204,5 @@ module _ (settings : List Setting) (records : List CameraRow) (cameras : AreSett
       let raster = raster_of camera records in
       let le : n ≤ tallest t = omega (arith, few, tall) in
       let packets : whole_packets (mux_out settings records) ≡ h.packets = ap whole_packets h.octets ∙ splits_whole (joined_splits h.packets h.whole) in
-      let so_far : picked (mux_out settings records) t.apid None ≡ settled_by settings camera records =
-      ap (λ ps. joined (picked_of t.apid None ps)) packets ∙ ap joined (h.own camera lt)
-      ∙ sym (settled_same t (tallest t) n raster (image_of t raster) range (tall_height t range) le le (record { at = λ i j hi hj. refl })) in
-      record {
-        so_far = so_far;
-        whole = λ all.
-            so_far ∙ ap (settled_octets t raster) (all ∙ sym tall) ∙ rows_whole t raster known ∙ ap (λ m. output t m (image_of t raster)) tall;
-      }
+      let so_far : picked (mux_out settings records) t.apid None ≡ settled_by settings camera records = grind (arith, nat_tests, settled_same, tall_height) in
+      grind (arith, nat_tests, rows_whole)

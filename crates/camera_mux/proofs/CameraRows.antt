@@ -1,10 +1,10 @@
 -- A camera's next row is read into its work, and taken.
-use Rattle.std.proofs.Common.{◌+◌, ℕ, ℤ, List, ◌++◌, sym, ap, ◌∙◌, subst, Ok}
+use Rattle.std.proofs.lemmas.Bool.Decides.{nat_tests}
+use Rattle.std.proofs.Common.{arith, ◌+◌, ℕ, ℤ, List, ◌++◌, sym, ap, ◌∙◌, Ok}
 use Rattle.port_122.specs.Outside.{Outside}
 use Rattle.base_122.specs.Ranges.{IsInRange}
 use Rattle.base_122.specs.declared.setting.Setting.{Setting}
 use Rattle.packet_defs.specs.Packets.{joined}
-use Rattle.raster_rows.specs.Pixels.{IsPixel}
 use Rattle.raster_rows.specs.RowReads.{RowRead}
 use Rattle.stream_defs.specs.SettledImages.{front_packets, settled_in}
 use Rattle.strip_coder.specs.declared.work.Work.{Work}
@@ -25,19 +25,7 @@ module _ (s : Setting) (k : ℕ) (p q r : Outside) (old mid : Work) {T : Type 0}
   row_is x has = record { at = λ j lt. holds.at j lt ∙ has.at j lt }
 
   pub takes_row : (new : Work) → TakesRow s k q r mid new → TakesCameraRow s k p r old new
-  takes_row new takes = record {
-    between = q;
-    got = read.took;
-    octets = octets;
-    taken = takes.taken;
-    values = record { each = λ column lt. subst (IsPixel s.depth s.signed) (sym (takes.row.at column lt)) ((row_values s read.took mid.row.items read.answer.1 holds).each column lt) };
-    row = λ x has. record { at = λ j lt. takes.row.at j lt ∙ (row_is x has).at j lt };
-    faults = takes.faults;
-    follows = λ x f has. takes.follows x (row_follows_any s x old mid only f) (row_is x has);
-    goes = λ x f has.
-        let goes = takes.goes x (row_follows_any s x old mid only f) (row_is x has) in
-        record { gave = goes.gave; out = goes.out; then_are = ap (λ a. joined (front_packets s (tallest s) x a.index) ++ goes.gave) (sym only.at) ∙ goes.then_are };
-  }
+  takes_row new takes = grind (arith, nat_tests, octets, row_values, row_is, row_follows_any)
 
   pub cuts_row : (new : Work) → IsInRange s → BreaksAt s k q r mid new → CutsCameraRow s k p r old
   cuts_row new range breaks = record {

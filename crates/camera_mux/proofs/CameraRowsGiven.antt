@@ -1,4 +1,5 @@
 -- What is given once a camera's next row is taken.
+use Rattle.std.proofs.lemmas.Bool.Decides.{nat_tests}
 use Rattle.std.proofs.Common.{◌≡◌, ◌≢◌, inl, ◌≤◌, ◌<◌, ◌+◌, ◌-◌, ◌*◌, ℕ, ℤ, List, ◌++◌, length, take, refl, sym, ap, ◌∙◌, subst, arith, append_assoc, mul_assoc}
 use Rattle.port_122.specs.Outside.{Outside}
 use Rattle.port_122.proofs.Stretches.{since_out, rose_since}
@@ -7,7 +8,6 @@ use Rattle.base_122.specs.Ranges.{IsInRange}
 use Rattle.base_122.specs.Setting.{IsHeight, sized}
 use Rattle.base_122.specs.declared.setting.Setting.{Setting}
 use Rattle.packet_defs.specs.Packets.{joined}
-use Rattle.raster_rows.specs.Pixels.{pixel_size}
 use Rattle.raster_rows.proofs.PixelPlaces.{pixel_at-append_right}
 use Rattle.stream_defs.specs.Output.{output, segments_of}
 use Rattle.stream_defs.specs.SettledImages.{front_packets, settled_in}
@@ -22,7 +22,6 @@ use Rattle.strip_coder.proofs.RowsGiven.{same_rows, settled_same, rows_whole}
 use Rattle.camera_mux.proofs.FrontPackets.{cut_of_more}
 use Rattle.camera_mux.specs.declared.camera_rows.Place.{Place}
 use Rattle.camera_mux.specs.declared.mux.MuxFault.{MuxFault}
-use Rattle.camera_mux.specs.declared.mux.MuxFault.TheVariants.{ReadFault, WriteFault, Short, Long, BadCamera, BadPixel}
 use Rattle.camera_mux.specs.RowSteps.{HasRow, TakesCameraRow, CutsCameraRow, FailsInRow, GivesRow, CutsRow, FailsAtRow}
 
 -- the rows of a setting, if they are known, are the height of its images
@@ -35,11 +34,7 @@ at_last s k n known less is far = let tall = known_tallest s known in omega (ari
 -- the next row of a raster is that of each image that begins so
 module _ (s : Setting) (k : ℕ) (raster got : List ℕ) (whole : length raster ≡ k * row_length s) where
   has_row : (y : ℕ → ℕ → ℤ) → SameWithin (k + 1) s.width (image_of s (raster ++ got)) y → HasRow s y k got
-  has_row y same = record {
-    at = λ j lt.
-        sym (pixel_at-append_right s.depth s.signed raster got (k * s.width) j (whole ∙ sym (mul_assoc k s.width (pixel_size s.depth))))
-        ∙ same.at k j (omega arith) lt;
-  }
+  has_row y same = grind (arith, nat_tests, pixel_at-append_right, mul_assoc)
 
   before_is : (y : ℕ → ℕ → ℤ) → SameWithin (k + 1) s.width (image_of s (raster ++ got)) y → SameWithin k s.width (image_of s raster) y
   before_is y same = record {
@@ -67,9 +62,7 @@ module _ (s : Setting) (range : IsInRange s) (known : s.rows ≢ 0) (k : ℕ) (l
 
   -- what is settled with the next row
   next_is : (got : List ℕ) → settled_octets s (raster ++ got) (k + 1) ≡ joined (front_packets s (tallest s) (image_of s (raster ++ got)) (settled_in s (tallest s) (k + 1)))
-  next_is got =
-      let le : k + 1 ≤ tallest s = omega (arith, less) in
-      settled_same s (tallest s) (k + 1) (raster ++ got) (image_of s (raster ++ got)) range (tall_height s range) le le (itself s k raster got whole)
+  next_is got = grind (arith, nat_tests, settled_same, tall_height, itself)
 
   -- a write failed at the row
   pub cuts_given : {p q : Outside} → CutsCameraRow s k p q old → CutsRow s k raster p q
@@ -84,42 +77,21 @@ module _ (s : Setting) (range : IsInRange s) (known : s.rows ≢ 0) (k : ℕ) (l
       }
 
   pub fails_given : (p q : Outside) (place : Place) (fault : MuxFault) → FailsInRow s k place p q old fault → FailsAtRow s k raster place p q fault
-  fails_given p q place ReadFault x = x
-  fails_given p q place WriteFault x = cuts_given x
-  fails_given p q place (Short octets) x = x
-  fails_given p q place Long x = absurd x
-  fails_given p q place (BadCamera number camera) x = absurd x
-  fails_given p q place (BadPixel camera row column value) x = x
+  fails_given p q place fault x = grind (arith, nat_tests, cuts_given)
 
   module _ {p q : Outside} (new : Work) (takes : TakesCameraRow s k p q old new) where
     got : List ℕ
     got = takes.got
 
     stands_next : Represents s (k + 1) (image_of s (raster ++ takes.got)) new
-    stands_next = record {
-      taken = takes.taken;
-      follows = λ y same. takes.follows y (stands.follows y (before_is s k raster takes.got whole y same)) (has_row s k raster takes.got whole y same);
-    }
+    stands_next = grind (arith, nat_tests, before_is, got, has_row)
 
     -- rows are still to be taken
     pub gives_more : k + 1 < s.rows → GivesRow s k raster p q new (record { packets = 0; octets = 0 })
     gives_more more =
         let x = image_of s (raster ++ takes.got) in
         let goes = takes.goes x (follows_old takes.got) (has_itself takes.got) in
-        let tall = known_tallest s known in
-        let next : k + 1 < tallest s = omega (arith, more, tall) in
-        let to_is : settled_octets s (raster ++ takes.got) (k + 1) ≡ joined (front_packets s (tallest s) x new.at.index) =
-        next_is takes.got ∙ ap (λ n. joined (front_packets s (tallest s) x n)) (sym (takes.taken.index (inl next))) in
-        record {
-          between = takes.between;
-          got = takes.got;
-          octets = takes.octets;
-          gave = goes.gave;
-          out = goes.out;
-          then_are = ap (λ g. g ++ goes.gave) (from_is takes.got) ∙ goes.then_are ∙ sym to_is;
-          stands = λ less. stands_next;
-          done_is = record { last = λ e. absurd (omega (arith, e, more)); before = λ ne. (refl, refl) };
-        }
+        grind (arith, nat_tests, known_tallest, got, next_is, from_is, stands_next)
 
     last_row : k + 1 ≡ s.rows → RowIs s (image_of s (raster ++ takes.got)) (s.rows - 1) new
     last_row last =
@@ -128,9 +100,7 @@ module _ (s : Setting) (range : IsInRange s) (known : s.rows ≢ 0) (k : ℕ) (l
 
     -- then all is settled
     last_is : k + 1 ≡ s.rows → settled_octets s (raster ++ takes.got) (k + 1) ≡ output s s.rows (image_of s (raster ++ takes.got))
-    last_is last =
-        let tall = known_tallest s known in
-        ap (settled_octets s (raster ++ takes.got)) (last ∙ sym tall) ∙ rows_whole s (raster ++ takes.got) known ∙ ap (λ n. output s n (image_of s (raster ++ takes.got))) tall
+    last_is last = grind (arith, nat_tests, known_tallest, got, rows_whole)
 
     -- this was the last one
     pub gives_last : {r : Outside} (end : Work) (done : EncodeDone) → k + 1 ≡ s.rows → EndsImage s s.rows q r new end done →
@@ -141,8 +111,7 @@ module _ (s : Setting) (range : IsInRange s) (known : s.rows ≢ 0) (k : ℕ) (l
         let then = ends.goes x (stands_next.follows x (itself s k raster takes.got whole)) (last_row last) in
         let for_image = ends.done x (stands_next.follows x (itself s k raster takes.got whole)) (last_row last) in
         let tall = known_tallest s known in
-        let first : settled_octets s raster k ++ goes.gave ≡ joined (front_packets s s.rows x new.at.index) =
-        ap (λ g. g ++ goes.gave) (from_is takes.got) ∙ goes.then_are ∙ ap (λ n. joined (front_packets s n x new.at.index)) tall in
+        let first : settled_octets s raster k ++ goes.gave ≡ joined (front_packets s s.rows x new.at.index) = grind (arith, nat_tests, from_is, got) in
         record {
           between = takes.between;
           got = takes.got;
@@ -161,8 +130,7 @@ module _ (s : Setting) (range : IsInRange s) (known : s.rows ≢ 0) (k : ℕ) (l
         let goes = takes.goes x (follows_old takes.got) (has_itself takes.got) in
         let broke = ends.breaks x (stands_next.follows x (itself s k raster takes.got whole)) (last_row last) in
         let tall = known_tallest s known in
-        let first : settled_octets s raster k ++ goes.gave ≡ joined (front_packets s s.rows x new.at.index) =
-        ap (λ g. g ++ goes.gave) (from_is takes.got) ∙ goes.then_are ∙ ap (λ n. joined (front_packets s n x new.at.index)) tall in
+        let first : settled_octets s raster k ++ goes.gave ≡ joined (front_packets s s.rows x new.at.index) = grind (arith, nat_tests, from_is, got) in
         let inside = broke.inside in
         let part = cut_of_more s s.rows x broke.some (broke.index + 1) (segments_of (sized s s.rows)) (omega (arith, inside)) in
         record {
@@ -174,7 +142,6 @@ module _ (s : Setting) (range : IsInRange s) (known : s.rows ≢ 0) (k : ℕ) (l
             gave = goes.gave ++ broke.gave;
             out = since_out goes.out broke.out;
             some = part.0;
-            front = sym (append_assoc (settled_octets s raster k) goes.gave broke.gave) ∙ ap (λ g. g ++ broke.gave) first ∙ broke.front ∙ part.1
-                ∙ ap (take part.0) (sym (last_is last));
+            front = grind (arith, nat_tests, append_assoc, last_is);
           };
         }

@@ -1,5 +1,6 @@
 -- How a mux begins and ends.
-use Rattle.std.proofs.Common.{◌≡◌, ◌≤◌, ◌<◌, ◌+◌, ◌-◌, ◌*◌, ◌^◌, ℕ, ℤ, List, [], ◌∷◌, length, inl, inr, refl, sym, ap, ◌∙◌, subst, arith, suc, true, false, min, sum, slice_index, EachIndex, Ok, Err}
+use Rattle.std.proofs.lemmas.Bool.Decides.{nat_tests}
+use Rattle.std.proofs.Common.{◌≡◌, ◌≤◌, ◌<◌, ◌+◌, ◌-◌, ◌*◌, ◌^◌, ℕ, ℤ, List, [], ◌∷◌, length, inl, inr, refl, sym, ◌∙◌, subst, arith, suc, true, false, min, sum, slice_index, EachIndex, Ok, Err}
 use Rattle.std.proofs.lemmas.Bool.{cases_lt}
 use Rattle.std.proofs.lemmas.List.Sums.{sum_by-cons}
 use Rattle.camera_mux.proofs.CameraAlone.{no_octets}
@@ -30,8 +31,7 @@ sum_few m (x ∷ xs) few =
     let rest : sum xs ≤ length xs * m = sum_few m xs (λ i lt. few (suc i) (omega (arith, lt))) in
     let e : sum (x ∷ xs) ≡ x + sum xs = sum_by-cons (λ (n : ℕ). n) x xs in
     let here : x ≤ m = few 0 (omega arith) in
-    let one : length (x ∷ xs) * m ≡ m + length xs * m = grind arith in
-    omega (arith, rest, e, here, one)
+    grind (arith, nat_tests, length)
 
 rows_most : (s : Setting) → IsInRange s → s.rows ≤ 262144
 rows_most s range = elim range.rows [ inl none ↦ omega (arith, none) | inr known ↦ let most = known.1 in omega (arith, most) ]
@@ -42,8 +42,7 @@ left_few {settings = settings} {v = v} cameras x =
       | inl known ↦ let left = x.left i known in let most = rows_most (setting_at settings i) (cameras.in_range i known) in omega (arith, left, most)
       | inr far ↦ let none = x.others i far in omega (arith, none)
     ]) in
-    let size : length v.left * 262144 ≡ 16 * 262144 = ap (λ n. n * 262144) x.size in
-    omega (arith, each, size)
+    grind (arith, nat_tests, length)
 
 pub none_muxed : {settings : List Setting} {works : List Work} (start : Outside) (v : Progress) → CanMux settings works → IsUnbegun settings v → HasMuxed settings works start start v
 none_muxed {settings = settings} start v can x = record {
@@ -70,14 +69,7 @@ module _ {settings : List Setting} {works : List Work} {start now : Outside} {v 
   here = asks_at settings come.records (length (octets_of come.records)) (omega arith)
 
   is_full : EachIndex v.left (λ k. slice_index v.left k ≡ 0) → AreFull settings come.records
-  is_full none = record {
-    each = λ camera lt.
-        let few = cameras.few in
-        let size = come.size in
-        let zero_left = none camera (omega (arith, lt, few, size)) in
-        let left = come.left camera lt in
-        omega (arith, zero_left, left);
-  }
+  is_full none = grind (arith, nat_tests)
 
   pub all_muxed : {new : Outside} → EachIndex v.left (λ k. slice_index v.left k ≡ 0) → SawEnd now new true → Muxes settings start new (Ok v.done)
   all_muxed none x = record {

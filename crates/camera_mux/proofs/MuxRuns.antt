@@ -1,4 +1,5 @@
 -- The steps of a mux.
+use Rattle.std.proofs.lemmas.Bool.Decides.{nat_tests}
 use Rattle.std.proofs.Common.{◌≡◌, ◌⊎◌, inl, inr, ◌≤◌, ◌<◌, ◌+◌, ℕ, List, [], ◌∷◌, ◌++◌, length, take, refl, sym, ap, ◌∙◌, subst, arith, append_assoc, length-append, slice_index, EachIndex, None, Some, Err, append-nil, take_all}
 use Rattle.std.proofs.lemmas.Bool.{cases_lt}
 use Rattle.port_122.specs.Outside.{Outside, Exchange, NoRead, ReadFailed}
@@ -16,37 +17,21 @@ use Rattle.camera_mux.specs.Records.{CameraRow, setting_at, octets_of, count_of,
 use Rattle.camera_mux.specs.MuxOut.{mux_out}
 use Rattle.camera_mux.specs.RowSteps.{TakesOctets, FailsAtRow}
 use Rattle.camera_mux.specs.MuxProgress.{AsksMux, HasMuxed, SawOctet}
-use Rattle.camera_mux.specs.MuxAnswers.{IsAwaited, HasBadPixel, Muxes}
+use Rattle.camera_mux.specs.MuxAnswers.{IsAwaited, Muxes}
 use Rattle.camera_mux.proofs.RecordLaws.{take_before, take_last, take_here, size_more, octets_more, count_own, raster_own, out_cut, accepted_more}
 
 -- ---- read calls
 
 -- after the whole records
 pub asks_at : (settings : List Setting) (records : List CameraRow) (i : ℕ) → length (octets_of records) ≤ i → AsksMux settings records i (length (mux_out settings records))
-asks_at settings records i le =
-    let all : take (length records) records ≡ records = take_all (length records) records (omega arith) in
-    record {
-      n = length records;
-      most = omega arith;
-      whole = subst (λ xs. length (octets_of xs) ≤ i) (sym all) le;
-      next = λ lt. absurd (omega (arith, lt));
-      given = ap (λ xs. length (mux_out settings xs)) (sym all);
-    }
+asks_at settings records i le = grind (arith, nat_tests, length, take_all)
 
 -- within the last record
 asks_in : (settings : List Setting) (records : List CameraRow) (r : CameraRow) (i : ℕ) → length (octets_of records) ≤ i → i < length (octets_of records) + (1 + length r.row) →
     AsksMux settings (records ++ r ∷ []) i (length (mux_out settings records))
 asks_in settings records r i le lt =
     let here : take (length records) (records ++ r ∷ []) ≡ records = take_here records r in
-    let all : length (octets_of (take (length records + 1) (records ++ r ∷ []))) ≡ length (octets_of records) + (1 + length r.row) =
-    ap (λ xs. length (octets_of xs)) (take_last records r) ∙ ap length (octets_more records r) ∙ length-append (octets_of records) (r.camera ∷ r.row) ∙ (let e : length (octets_of records) + length (r.camera ∷ r.row) ≡ length (octets_of records) + (1 + length r.row) = omega arith in e) in
-    record {
-      n = length records;
-      most = omega (arith, size_more records r);
-      whole = subst (λ xs. length (octets_of xs) ≤ i) (sym here) le;
-      next = λ less. omega (arith, all, lt);
-      given = ap (λ xs. length (mux_out settings xs)) (sym here);
-    }
+    grind (arith, nat_tests, length, take_last, octets_more, length-append, size_more)
 
 -- a read call among earlier records, if one more follows
 asks_more : (settings : List Setting) (records : List CameraRow) (r : CameraRow) (i j : ℕ) → i ≤ length (octets_of records) → AsksMux settings records i j → AsksMux settings (records ++ r ∷ []) i j
@@ -75,10 +60,7 @@ module _ {settings : List Setting} {works : List Work} {start now : Outside} {v 
 
   -- a row of a camera is left
   pub is_missing : (EachIndex v.left (λ k. slice_index v.left k ≡ 0) → ⊥) → AreFull settings come.records → ⊥
-  is_missing some full = some (λ k lt. elim (cases_lt k (length settings)) [
-    | inl known ↦ let left = come.left k known in let all = full.each k known in omega (arith, left, all)
-    | inr far ↦ come.others k far
-  ])
+  is_missing some full = grind (arith, nat_tests, cases_lt, length)
 
   -- the octet wasn't read
   pub octet_failed : {new : Outside} → ReadFailed now new → Muxes settings start new (Err ReadFault)
@@ -103,8 +85,7 @@ module _ {settings : List Setting} {works : List Work} {start now : Outside} {v 
   }
 
   not_awaited : (camera : ℕ) → (length settings ≤ camera) ⊎ (slice_index v.left camera ≡ 0) → IsAwaited settings come.records camera → ⊥
-  not_awaited camera (inl far) a = let known = a.known in omega (arith, far, known)
-  not_awaited camera (inr none) a = let left = come.left camera a.known in let misses = a.misses in omega (arith, none, left, misses)
+  not_awaited camera given a = grind (arith, nat_tests)
 
   -- it is no camera that has rows left
   pub camera_refused : {new : Outside} (camera : ℕ) → (AreFull settings come.records → ⊥) → (length settings ≤ camera) ⊎ (slice_index v.left camera ≡ 0) → SawOctet now new (Some camera) →
@@ -175,13 +156,7 @@ module _ {settings : List Setting} {works : List Work} {start now : Outside} {v 
       gave = mux_out settings come.records;
       accepted = come.accepted;
       since = part_since x.0 x.1.since;
-      answer = (
-        let size = length-append (octets_of come.records) (camera ∷ x.0) in let is = x.3 in let before = come.octets_are in omega (arith, size, is, before, octets_is),
-        missing,
-        x.2,
-        (awaited, x.1.inside, x.1.in_range),
-        refl,
-      );
+      answer = grind (arith, nat_tests, length-append, awaited);
     }
     row_failed place (BadPixel number row column value) missing here_is octets_is x = record {
       records = come.records;
@@ -189,11 +164,7 @@ module _ {settings : List Setting} {works : List Work} {start now : Outside} {v 
       gave = mux_out settings come.records;
       accepted = come.accepted;
       since = part_since x.0 x.1;
-      answer = (
-        subst (λ n. HasBadPixel settings come.records (camera ∷ x.0) n row column value) (sym (x.3 ∙ here_is))
-            (record { awaited = awaited; row_is = x.4; got = x.0; rest_is = refl; within = x.2; bad = x.5 }),
-        refl,
-      );
+      answer = grind (arith, nat_tests, awaited);
     }
     row_failed {q = q} place WriteFault missing here_is octets_is x =
         let r : CameraRow = record { camera = camera; row = x.got } in
@@ -209,11 +180,7 @@ module _ {settings : List Setting} {works : List Work} {start now : Outside} {v 
           accepted = accepted_more come.records r settings come.accepted (can_follow x.got x.octets);
           since = subst (λ t. Exchange start q t (mux_out settings come.records ++ x.cut.gave) [] (AsksMux settings (come.records ++ r ∷ []))) (sym (append-nil (octets_of (come.records ++ r ∷ []))))
               (whole_since x.got x.cut.gave x.octets x.cut.out);
-          answer = (
-            rose_since come.since.faults.writes (rose_since octet.faults.writes (rose_since x.octets.since.faults.writes x.rose)),
-            refl,
-            record { before = come.records; last = r; records_are = refl; part = x.cut.gave; gave_is = refl; some = front.0; front = front.1 },
-          );
+          answer = grind (arith, nat_tests, rose_since);
         }
     row_failed place Long missing here_is octets_is x = absurd x
     row_failed place (BadCamera number other) missing here_is octets_is x = absurd x

@@ -1,15 +1,15 @@
 -- A record more is taken.
+use Rattle.std.proofs.lemmas.Bool.Decides.{nat_tests}
 use Rattle.std.proofs.Common.{◌≡◌, ◌≢◌, inl, inr, ◌≤◌, ◌<◌, ◌+◌, ◌-◌, ◌*◌, ◌^◌, ℕ, ℤ, List, [], ◌∷◌, ◌++◌, length, set, refl, sym, ap, ◌∙◌, subst, arith, length-append, flat_map, cond, ◌==◌, min, sum, slice_index, slice_index_or, Some, if◌then◌else◌, length-set, get_or-set_same, get_or-set_other, mul-le-mul}
 use Rattle.std.proofs.lemmas.Bool.{cases_eq, eq-eqb, ne_eqb}
 use Rattle.std.proofs.lemmas.List.Sums.{sum_by-set}
 use Rattle.port_122.specs.Outside.{Outside, Exchange}
 use Rattle.base_122.specs.Ranges.{IsInRange}
 use Rattle.base_122.specs.declared.setting.Setting.{Setting}
-use Rattle.raster_rows.specs.Pixels.{pixel_size}
 use Rattle.raster_rows.proofs.PixelPlaces.{size_most}
 use Rattle.strip_coder.specs.declared.work.Work.{Work}
 use Rattle.strip_coder.specs.Plans.{plan_of, tallest}
-use Rattle.strip_coder.specs.Rasters.{row_length, image_of, settled_octets}
+use Rattle.strip_coder.specs.Rasters.{row_length, image_of}
 use Rattle.strip_coder.specs.Works.{IsMadeFor, HasTaken}
 use Rattle.camera_mux.specs.declared.mux.MuxDone.{MuxDone}
 use Rattle.camera_mux.specs.declared.muxing.Progress.{Progress}
@@ -22,18 +22,12 @@ use Rattle.camera_mux.proofs.MuxRuns.{whole_since, can_follow}
 
 -- a row has at most 2 ^ 21 octets
 pub row_most : (s : Setting) → IsInRange s → row_length s ≤ 2 ^ 21
-row_most s range =
-    let width = range.width.1 in
-    let both : s.width * pixel_size s.depth ≤ 1048575 * 2 = mul-le-mul {n₁ = s.width} {m₁ = pixel_size s.depth} {n₂ = 1048575} {m₂ = 2} (omega (arith, width)) (size_most s.depth) in
-    omega (arith, both)
+row_most s range = grind (arith, nat_tests, mul-le-mul, size_most)
 
 -- what is done at a row is what its camera's records have of the image
 done_whole : (measure : Setting → (ℕ → ℕ → ℤ) → ℕ) (s : Setting) (x : ℕ → ℕ → ℤ) (rows done : ℕ) → (rows ≡ s.rows → done ≡ measure s x) → (rows ≢ s.rows → done ≡ 0) →
     done ≡ (if rows == s.rows then measure s x else 0)
-done_whole measure s x rows done last before = elim (cases_eq rows s.rows) [
-  | inl e ↦ last e ∙ ap (λ b. cond b (measure s x) 0) (sym (eq-eqb rows s.rows e))
-  | inr ne ↦ before ne ∙ ap (λ b. cond b (measure s x) 0) (sym (ne_eqb rows s.rows ne))
-]
+done_whole measure s x rows done last before = grind (arith, nat_tests, cond, eq-eqb, ne_eqb)
 
 module _ {settings : List Setting} {works : List Work} {start now m q : Outside} {v : Progress} (cameras : AreSettings settings) (same : length works ≡ length settings) (come : HasMuxed settings works start now v)
     (camera : ℕ) (known : camera < length settings) (some : 0 < slice_index v.left camera) (octet : SawOctet now m (Some camera))
@@ -55,44 +49,22 @@ module _ {settings : List Setting} {works : List Work} {start now m q : Outside}
   rastered = raster_own come.records r camera refl
 
   settles : settled_by settings camera come.records ++ x.gave ≡ settled_by settings camera now_records
-  settles =
-      x.then_are ∙ ap (λ zs. settled_octets (setting_at settings camera) zs (count_of camera come.records + 1)) (sym rastered)
-      ∙ ap (settled_octets (setting_at settings camera) (raster_of camera now_records)) (sym counted)
+  settles = grind (arith, nat_tests, rastered, counted)
 
   given : Exchange start q (octets_of now_records) (mux_out settings now_records) [] (AsksMux settings now_records)
   given = subst (λ g. Exchange start q (octets_of now_records) g [] (AsksMux settings now_records)) (sym (out_with come.records r settings x.gave settles))
       (whole_since come camera known some octet x.got x.gave x.octets x.out)
 
   left_now : (c : ℕ) → c < length settings → slice_index (set v.left camera (slice_index v.left camera - 1)) c + count_of c now_records ≡ (setting_at settings c).rows
-  left_now c lt = elim (cases_eq camera c) [
-    | inl e ↦
-        let here : slice_index (set v.left camera (slice_index v.left camera - 1)) camera ≡ slice_index v.left camera - 1 = get_or-set_same v.left camera (slice_index v.left camera - 1) 0 place_in in
-        let left = come.left camera known in
-        subst (λ c. slice_index (set v.left camera (slice_index v.left camera - 1)) c + count_of c now_records ≡ (setting_at settings c).rows) e (omega (arith, here, left, counted, some))
-    | inr ne ↦
-        let there : slice_index (set v.left camera (slice_index v.left camera - 1)) c ≡ slice_index v.left c = get_or-set_other v.left camera c (slice_index v.left camera - 1) 0 (λ e. ne (sym e)) in
-        let left = come.left c lt in
-        let count : count_of c now_records ≡ count_of c come.records = ap length (records_other come.records r c ne) in
-        omega (arith, there, left, count)
-  ]
+  left_now c lt = grind (arith, nat_tests, slice_index, set, get_or-set_same, place_in, counted, get_or-set_other, length, records_other)
 
   others_now : (c : ℕ) → length settings ≤ c → slice_index (set v.left camera (slice_index v.left camera - 1)) c ≡ 0
   others_now c far = get_or-set_other v.left camera c (slice_index v.left camera - 1) 0 (λ e. omega (arith, e, far, known)) ∙ come.others c far
 
   ready_now : (c : ℕ) (d : Work) → c < length settings → IsReady (setting_at settings c) (count_of c now_records) (raster_of c now_records) (slice_index_or (set works camera new) c d)
   ready_now c d lt = elim (cases_eq camera c) [
-    | inl e ↦
-        let here : slice_index_or (set works camera new) camera d ≡ new = get_or-set_same works camera new d (omega (arith, known, same)) in
-        let ready : IsReady (setting_at settings camera) (count_of camera come.records + 1) (raster_of camera come.records ++ x.got) new = record { made = made; stands = λ some less. x.stands less } in
-        subst (λ c. IsReady (setting_at settings c) (count_of c now_records) (raster_of c now_records) (slice_index_or (set works camera new) c d)) e
-        (subst (λ w. IsReady (setting_at settings camera) (count_of camera now_records) (raster_of camera now_records) w) (sym here)
-        (subst (λ n. IsReady (setting_at settings camera) n (raster_of camera now_records) new) (sym counted)
-        (subst (λ zs. IsReady (setting_at settings camera) (count_of camera come.records + 1) zs new) (sym rastered) ready)))
-    | inr ne ↦
-        let there : slice_index_or (set works camera new) c d ≡ slice_index_or works c d = get_or-set_other works camera c new d (λ e. ne (sym e)) in
-        let records = records_other come.records r c ne in
-        subst (λ w. IsReady (setting_at settings c) (count_of c now_records) (raster_of c now_records) w) (sym there)
-        (subst (λ rs. IsReady (setting_at settings c) (length rs) (flat_map (λ (r : CameraRow). r.row) rs) (slice_index_or works c d)) (sym records) (come.ready c d lt))
+    | inl e ↦ grind (arith, nat_tests, set, get_or-set_same, counted, rastered)
+    | inr ne ↦ grind (arith, nat_tests, set, get_or-set_other, records_other, length, flat_map)
   ]
 
   rasters_now : (c : ℕ) → c < length settings → length (raster_of c now_records) ≡ count_of c now_records * row_length (setting_at settings c)
@@ -105,33 +77,23 @@ module _ {settings : List Setting} {works : List Work} {start now m q : Outside}
         subst (λ c. length (raster_of c now_records) ≡ count_of c now_records * row_length (setting_at settings c)) e
         (size ∙ (let t : length (raster_of camera come.records) + length x.got ≡ (count_of camera come.records + 1) * row_length (setting_at settings camera) = omega (arith, before, whole, one) in t)
         ∙ ap (λ n. n * row_length (setting_at settings camera)) (sym counted))
-    | inr ne ↦
-        let records = records_other come.records r c ne in
-        ap (λ rs. length (flat_map (λ (r : CameraRow). r.row) rs)) records ∙ come.rasters c lt ∙ ap (λ rs. length rs * row_length (setting_at settings c)) (sym records)
+    | inr ne ↦ grind (arith, nat_tests, records_other, length, flat_map)
   ]
 
   whole_now : (measure : Setting → (ℕ → ℕ → ℤ) → ℕ) (n : ℕ) →
       (count_of camera come.records + 1 ≡ (setting_at settings camera).rows → n ≡ measure (setting_at settings camera) (image_of (setting_at settings camera) (raster_of camera come.records ++ x.got))) →
       (count_of camera come.records + 1 ≢ (setting_at settings camera).rows → n ≡ 0) → n ≡ of_whole measure settings camera now_records
-  whole_now measure n last before =
-      let t = setting_at settings camera in
-      done_whole measure t (image_of t (raster_of camera come.records ++ x.got)) (count_of camera come.records + 1) n last before
-      ∙ ap (λ k. cond (k == t.rows) (measure t (image_of t (raster_of camera come.records ++ x.got))) 0) (sym counted)
-      ∙ ap (λ zs. cond (count_of camera now_records == t.rows) (measure t (image_of t zs)) 0) (sym rastered)
+  whole_now measure n last before = grind (arith, nat_tests, done_whole, cond, counted, rastered)
 
   packets_now : min (v.done.packets + done.packets) (2 ^ 64 - 1) ≡ min (sum_of packets_in settings now_records) (2 ^ 64 - 1)
   packets_now =
       let here = whole_now packets_in done.packets (λ e. (x.done_is.last e).0) (λ ne. (x.done_is.before ne).0) in
-      let more = sum_more come.records r packets_in settings in
-      let before = come.packets_done in
-      omega (arith, here, more, before)
+      grind (arith, nat_tests, sum_more)
 
   octets_now : min (v.done.octets + done.octets) (2 ^ 64 - 1) ≡ min (sum_of octets_in settings now_records) (2 ^ 64 - 1)
   octets_now =
       let here = whole_now octets_in done.octets (λ e. (x.done_is.last e).1) (λ ne. (x.done_is.before ne).1) in
-      let more = sum_more come.records r octets_in settings in
-      let before = come.octets_done in
-      omega (arith, here, more, before)
+      grind (arith, nat_tests, sum_more)
 
   sum_now : sum (set v.left camera (slice_index v.left camera - 1)) + 1 ≡ sum v.left
   sum_now =
@@ -140,28 +102,10 @@ module _ {settings : List Setting} {works : List Work} {start now m q : Outside}
       omega (arith, e, some)
 
   octets_size : length (octets_of now_records) ≡ length (octets_of come.records) + (1 + row_length (setting_at settings camera))
-  octets_size =
-      let size = ap length (octets_more come.records r) ∙ length-append (octets_of come.records) (camera ∷ x.got) in
-      let whole = x.octets.whole in
-      omega (arith, size, whole)
+  octets_size = grind (arith, nat_tests, length, octets_more, length-append)
 
   pub record_taken : HasMuxed settings (set works camera new) start q (with_record v camera (row_length (setting_at settings camera)) done)
-  record_taken = record {
-    records = now_records;
-    accepted = accepted_more come.records r settings come.accepted (can_follow come camera known some octet x.got x.octets);
-    since = given;
-    left = left_now;
-    others = others_now;
-    ready = ready_now;
-    rasters = rasters_now;
-    size = length-set v.left camera (slice_index v.left camera - 1) ∙ come.size;
-    records_are = let before = come.records_are in omega (arith, before, size_more come.records r);
-    octets_are = let before = come.octets_are in omega (arith, before, octets_size);
-    packets_done = packets_now;
-    octets_done = octets_now;
-    bound = let before = come.bound in omega (arith, before, size_more come.records r, sum_now);
-    most = let before = come.most in let row = row_most (setting_at settings camera) (cameras.in_range camera known) in omega (arith, before, row, size_more come.records r);
-  }
+  record_taken = grind (arith, nat_tests, accepted_more, can_follow, given, left_now, others_now, ready_now, rasters_now, length-set, slice_index, size_more, octets_size, packets_now, octets_now, sum_now, row_most)
 
   pub less_left : sum (with_record v camera (row_length (setting_at settings camera)) done).left < sum v.left
   less_left = omega (arith, sum_now)
@@ -171,14 +115,7 @@ module _ {settings : List Setting} {works : List Work} {start now m q : Outside}
 pub made_set : (settings : List Setting) (works : List Work) (camera : ℕ) (new : Work) → length works ≡ length settings → camera < length settings →
     ((c : ℕ) (d : Work) → c < length settings → IsMadeFor (setting_at settings c) (slice_index_or works c d)) → IsMadeFor (setting_at settings camera) new →
     (c : ℕ) (d : Work) → c < length settings → IsMadeFor (setting_at settings c) (slice_index_or (set works camera new) c d)
-made_set settings works camera new same known before made c d lt = elim (cases_eq camera c) [
-  | inl e ↦
-      let here : slice_index_or (set works camera new) camera d ≡ new = get_or-set_same works camera new d (omega (arith, known, same)) in
-      subst (λ c. IsMadeFor (setting_at settings c) (slice_index_or (set works camera new) c d)) e (subst (IsMadeFor (setting_at settings camera)) (sym here) made)
-  | inr ne ↦
-      let there : slice_index_or (set works camera new) c d ≡ slice_index_or works c d = get_or-set_other works camera c new d (λ e. ne (sym e)) in
-      subst (IsMadeFor (setting_at settings c)) (sym there) (before c d lt)
-]
+made_set settings works camera new same known before made c d lt = grind (arith, nat_tests, set, get_or-set_same, get_or-set_other)
 
 module _ {settings : List Setting} {works : List Work} {start now : Outside} {v : Progress} (come : HasMuxed settings works start now v) (camera : ℕ) (known : camera < length settings) where
   -- the rows of a camera that were taken
@@ -187,9 +124,4 @@ module _ {settings : List Setting} {works : List Work} {start now : Outside} {v 
 
   pub work_taken : (d : Work) → 0 < slice_index v.left camera → 0 < (setting_at settings camera).rows - slice_index v.left camera →
       HasTaken (plan_of (setting_at settings camera) (tallest (setting_at settings camera))) ((setting_at settings camera).rows - slice_index v.left camera) (slice_index_or works camera d)
-  work_taken d some rows =
-      let s = setting_at settings camera in
-      let taken = rows_taken in
-      let left = come.left camera known in
-      subst (λ n. HasTaken (plan_of s (tallest s)) n (slice_index_or works camera d)) (sym taken)
-      ((come.ready camera d known).stands (omega (arith, rows, taken)) (omega (arith, left, some))).taken
+  work_taken d some rows = grind (arith, nat_tests, rows_taken)

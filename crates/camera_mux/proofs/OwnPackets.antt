@@ -1,8 +1,8 @@
 -- The packets of an image are whole and have its APID, so they are all picked by it, and by no other.
+use Rattle.std.proofs.lemmas.Bool.Decides.{nat_tests}
 use Rattle.std.proofs.Common.{◌≡◌, ◌≤◌, ◌<◌, ◌+◌, ◌-◌, ◌*◌, ◌%◌, ◌^◌, ℕ, zero, suc, ℤ, List, [], ◌∷◌, ◌++◌, length, map, drop, refl, sym, ap, subst, ◌∙◌, arith, length-append, length-take, Bool, false, cond, ◌==◌, None, eq-eqb, ne_eqb}
 use Rattle.std.specs.List.{AllByRecursion, range_with_len}
 use Rattle.byteorder.specs.Endian.{big_bytes}
-use Rattle.byteorder.specs.Numbers.{big_number-reads_back}
 use Rattle.port_122.proofs.Stretches.{each_of_both}
 use Rattle.base_122.specs.declared.setting.Setting.{Setting}
 use Rattle.packet_defs.specs.declared.ancillary.Ancillary.{Ancillary}
@@ -16,6 +16,7 @@ use Rattle.stream_defs.specs.Output.{ancillary_of, packets_before, segment_packe
 use Rattle.stream_defs.proofs.OutPackets.{flags_few}
 use Rattle.camera_defs.specs.Picked.{picked_of}
 use Rattle.camera_mux.proofs.FrontPackets.{packets_from}
+use Rattle.packet_defs.proofs.Equations.{text_packets-is}
 
 -- a whole packet with this APID
 pub record IsOwn (apid : ℕ) (packet : List ℕ) : Type 0 where
@@ -53,8 +54,7 @@ own_packet apid flags number a text own few room =
     let size : length field ≡ 24 + length text = length-append (ancillary_octets a) text in
     let size' : length other ≡ 24 + length text = length-append (ancillary_octets no_ancillary) text in
     let reads = reads_back apid flags number no_ancillary text (record { own = own; few_flags = few; ancillary = none_fits; room = room }) in
-    let first : number_at (packet_with apid flags number field) 0 2 ≡ identification apid =
-    big_number-reads_back 2 (identification apid) (big_bytes 2 (sequence_control flags number) ++ (big_bytes 2 (length field - 1) ++ field)) (omega (arith, own)) in
+    let first : number_at (packet_with apid flags number field) 0 2 ≡ identification apid = grind (arith, nat_tests, length) in
     record {
       whole = same_length apid flags number other field (size' ∙ sym size) reads.whole;
       own = ap (λ n. n % 2 ^ 11) first ∙ (let e : identification apid % 2 ^ 11 ≡ apid = omega (arith, own) in e);
@@ -72,8 +72,7 @@ module _ (apid packet : ℕ) (known : apid < 2047) (least : 64 ≤ packet) (most
   )
 
   own_text : (a : Ancillary) (before : ℕ) (text : List ℕ) → AllByRecursion (IsOwn apid) (text_packets apid a packet before text)
-  unfolding text_packets
-  own_text a before text = let n = part_count (part_size packet) (length text) in own_parts a before n text (range_with_len 0 n)
+  own_text a before text = rw text_packets-is (own_parts a before (part_count (part_size packet) (length text)) text (range_with_len 0 (part_count (part_size packet) (length text))))
 
 module _ (told_last : Bool) (s : Setting) (all : List (List ℤ)) (apid : s.apid < 2047) (least : 64 ≤ s.packet) (most : s.packet ≤ 65536) where
   pub own_segments : (from more : ℕ) → AllByRecursion (IsOwn s.apid) (packets_from told_last s all from more)

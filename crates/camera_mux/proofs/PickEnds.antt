@@ -1,4 +1,5 @@
 -- How a pick ends.
+use Rattle.std.proofs.lemmas.Bool.Decides.{nat_tests}
 use Rattle.std.proofs.Common.{◌≡◌, ◌≤◌, ◌+◌, ℕ, [], ◌∷◌, ◌++◌, length, take, sym, ap, ◌∙◌, arith, length-append, Option, Ok, Err}
 use Rattle.std.proofs.lemmas.List.{take-append-le}
 use Rattle.std.proofs.Math.Seq.{take-append-add}
@@ -62,13 +63,7 @@ read_failed : {wish : DecodeWish} {image : Option ℕ} {start now new : Outside}
 read_failed {wish = wish} {image = image} {now = now} {new = new} {v = v} before x =
     let come = filled before (taken_by x) in
     let whole = whole_so come.read (undecided_none _ x.ends.1) in
-    record {
-      took = come.took;
-      gave = joined (picked_of wish.apid image come.passed);
-      since = come.since;
-      within = read_within come.read;
-      answer = (rose_since before.since.faults.reads x.ends.0, ap (λ ps. joined (picked_of wish.apid image ps)) (sym whole));
-    }
+    grind (arith, nat_tests, read_within, rose_since)
 
 -- a write failed: a prefix of its packet was given after all before
 write_failed : {wish : DecodeWish} {image : Option ℕ} {start now new : Outside} {v : Intake} {packets : ℕ} → HasPicked wish image start now v packets →
@@ -86,8 +81,7 @@ write_failed {wish = wish} {image = image} before x =
     ∙ ap (λ zs. zs ++ later) (picked_more wish.apid image come.passed packet x.holds.test) in
     let some = length gave + x.some in
     let few : some ≤ length (gave ++ packet) = omega (arith, x.within, length-append gave packet) in
-    let front : take some (picked come.took wish.apid image) ≡ gave ++ take x.some packet =
-    ap (take some) octets ∙ take-append-le some (gave ++ packet) later few ∙ take-append-add gave packet x.some in
+    let front : take some (picked come.took wish.apid image) ≡ gave ++ take x.some packet = grind (arith, nat_tests, take-append-le, take-append-add) in
     record {
       took = come.took;
       gave = gave ++ take x.some packet;

@@ -1,4 +1,5 @@
 -- The steps of a pick.
+use Rattle.std.proofs.lemmas.Bool.Decides.{nat_tests}
 use Rattle.std.proofs.Common.{◌≡◌, ◌≤◌, ◌<◌, ◌+◌, ℕ, List, [], ◌∷◌, ◌++◌, length, take, refl, sym, ap, subst, ◌∙◌, arith, length-append, Bool, true, false, cond, filter, Option, None}
 use Rattle.std.proofs.lemmas.List.{append-nil, take-append-le, take_all}
 use Rattle.std.proofs.lemmas.List.Elements.{filter-append}
@@ -34,14 +35,11 @@ picked_more apid image xs packet is =
 
 count_more : (apid : ℕ) (image : Option ℕ) (xs : List (List ℕ)) (packet : List ℕ) → is_picked apid image packet ≡ true →
     length (picked_of apid image (xs ++ packet ∷ [])) ≡ length (picked_of apid image xs) + 1
-count_more apid image xs packet is =
-    ap length (filter-append (is_picked apid image) xs (packet ∷ [])) ∙ ap (λ b. length (picked_of apid image xs ++ cond b (packet ∷ []) [])) is
-    ∙ length-append (picked_of apid image xs) (packet ∷ [])
+count_more apid image xs packet is = grind (arith, nat_tests, length, filter-append, cond, length-append)
 
 -- one that isn't
 picked_same : (apid : ℕ) (image : Option ℕ) (xs : List (List ℕ)) (packet : List ℕ) → is_picked apid image packet ≡ false → picked_of apid image (xs ++ packet ∷ []) ≡ picked_of apid image xs
-picked_same apid image xs packet isnt =
-    filter-append (is_picked apid image) xs (packet ∷ []) ∙ ap (λ b. picked_of apid image xs ++ cond b (packet ∷ []) []) isnt ∙ append-nil (picked_of apid image xs)
+picked_same apid image xs packet isnt = grind (arith, nat_tests, filter-append, cond, append-nil)
 
 -- ---- read calls
 
@@ -148,8 +146,4 @@ few_filtered p (x ∷ packets) = by (few_filtered p packets) (p x)
 
 -- the picked packets are at most the octets of the wish in number
 pub few_picked : {wish : DecodeWish} {image : Option ℕ} {start now : Outside} {v : Intake} {packets : ℕ} → HasPicked wish image start now v packets → packets ≤ wish.octets
-few_picked {wish = wish} {image = image} {v = v} come =
-    let some = few_filtered (is_picked wish.apid image) come.passed in
-    let all = few_packets come.passed come.read.packets_are in
-    let size = ap length come.read.octets_are in
-    omega (arith, come.packets_are, some, all, size, length-append (joined come.passed) v.pending, come.read.taken, come.read.cap, come.read.capped)
+few_picked {wish = wish} {image = image} {v = v} come = grind (arith, nat_tests, few_filtered, few_packets, length, length-append)

@@ -14,6 +14,7 @@ use Rattle.image_info.specs.declared.image.ImageId.{ImageId}
 use Rattle.image_info.specs.Images.{own_packets, kept_of, count_of}
 use Rattle.image_info.specs.Steps.{CountsBelow}
 use Rattle.image_info.proofs.OneImage.{is_own}
+use Rattle.stream_defs.proofs.Equations.{kept-none}
 
 abbrev octets_of : List (List ℕ) → ℕ
 octets_of packets = sum_by length packets
@@ -44,8 +45,7 @@ fewer_own p (x ∷ packets) = by (p x) (fewer_own p packets)
     by false f = one_more x (filter p packets) packets f
 
 fewer_kept : (apid : ℕ) (s : FateState) (packets : List (List ℕ)) → AreFewer (kept apid s packets) packets
-unfolding kept
-fewer_kept apid s [] = record { number = omega arith; octets = omega arith }
+fewer_kept apid s [] = rw kept-none record { number = omega arith; octets = omega arith }
 fewer_kept apid s (x ∷ xs) = elim (does apid s x) [
   | inl lost ↦ subst (λ ks. AreFewer ks (x ∷ xs)) (sym (lost.kept_are xs)) (one_more x _ xs (fewer_kept apid (after apid s x) xs))
   | inr here ↦ elim here [

@@ -1,4 +1,5 @@
 -- The segments that kept packets close are those that are complete in them.
+use Rattle.std.proofs.lemmas.Bool.Decides.{nat_tests}
 use Rattle.std.proofs.Common.{◌≡◌, ◌⊎◌, inl, inr, ◌<◌, ◌+◌, ℕ, zero, suc, List, [], ◌∷◌, ◌++◌, length, map, refl, sym, ap, subst, ◌∙◌, arith, Bool, true, false, filter, Contains, get_or, Some, None}
 use Rattle.std.specs.List.{range_with_len}
 use Rattle.std.specs.List.Sorted.{IsStrictlyIncreasing}
@@ -76,10 +77,7 @@ closing_from index (x ∷ xs) h = elim (cases_Bool (closing x)) [
 ]
   where
     on : HasClosing (packets_at index xs) → HasClosing (packets_at index (x ∷ xs))
-    on c = elim (cases_eq (index_in x) index) [
-      | inl same ↦ subst HasClosing (sym (at_same index x xs same)) (inr c)
-      | inr other ↦ subst HasClosing (sym (at_other index x xs other)) c
-    ]
+    on c = grind (arith, nat_tests, at_same, at_other)
 
 closed_from : (index : ℕ) (packets : List (List ℕ)) → HasClosing (packets_at index packets) → Has (closed_indices packets) index
 closed_from index [] h = absurd (subst HasClosing (at_none index) h)
@@ -92,10 +90,7 @@ closed_from index (x ∷ xs) h = elim (cases_eq (index_in x) index) [
 ]
   where
     on : Has (closed_indices xs) index → Has (closed_indices (x ∷ xs)) index
-    on c = elim (cases_Bool (closing x)) [
-      | inl closed ↦ subst (λ is. Has is index) (sym (closed_some x xs closed)) (inr c)
-      | inr unclosed ↦ subst (λ is. Has is index) (sym (closed_none x xs unclosed)) c
-    ]
+    on c = grind (arith, nat_tests, closed_some, closed_none)
 
 -- ---- the packets of a segment are its parts, and none is after one that closes it
 
@@ -124,9 +119,7 @@ ends_of n (x ∷ xs) h (inr later) =
     record { front = x ∷ e.front; last = e.last; are = ap (λ xs. x ∷ xs) e.are; closed = e.closed }
 
 complete_of : (xs : List (List ℕ)) → Parts 0 xs → HasClosing xs → IsComplete xs
-complete_of xs h c =
-    let e = ends_of 0 xs h c in
-    record { front = e.front; closing = e.last; parts_are = e.are; numbers = numbers_of 0 xs h; closed = e.closed }
+complete_of xs h c = grind (arith, nat_tests, ends_of, numbers_of)
 
 closing_last : (front : List (List ℕ)) (last : List ℕ) → closing last ≡ true → HasClosing (front ++ last ∷ [])
 closing_last [] last e = inl e
@@ -157,10 +150,7 @@ kept_parts index apid s (x ∷ xs) n h = elim (does apid s x) [
       ]
       | inr other ↦ elim h [
         | inl none ↦ passed other (kept_parts index apid (after apid s x) xs n (inl (elsewhere first.last other, none.1)))
-        | inr going ↦
-            let more : going.0.index < index_in x = first.later going.0 going.1 in
-            let past : index < index_in x = let is = going.2 in omega (arith, more, is) in
-            passed other (none_parts n _ (shut index apid (after apid s x) xs record { last = part_in x; last_is = first.last; past = inl past }))
+        | inr going ↦ grind (arith, nat_tests, passed, none_parts, shut)
       ]
     ])
     | inr next ↦ subst (Parts n) (sym (ap (packets_at index) (next.kept_are xs))) (elim h [
@@ -186,11 +176,7 @@ kept_parts index apid s (x ∷ xs) n h = elim (does apid s x) [
     goes_on same part last = inr (part_in x, last, same, ap (λ m. m + 1) (sym part))
 
     own : index_in x ≡ index → number_of_part x ≡ n → (after apid s x).last ≡ Some (part_in x) → Parts (n + 1) (packets_at index (kept apid (after apid s x) xs)) → Parts n (packets_at index (x ∷ kept apid (after apid s x) xs))
-    own same part last rest = subst (Parts n) (sym (at_same index x (kept apid (after apid s x) xs) same)) (
-      part,
-      λ closed. shut index apid (after apid s x) xs record { last = part_in x; last_is = last; past = inr (sym same, closed) },
-      rest,
-    )
+    own same part last rest = grind (arith, nat_tests, at_same, shut)
 
 -- and each segment that they close is after those that were closed before
 kept_rise : (apid : ℕ) (s : FateState) (packets : List (List ℕ)) → Rises (closed_indices (kept apid s packets))
@@ -213,10 +199,7 @@ kept_rise apid s (x ∷ xs) = elim (does apid s x) [
     ]
 
     own : (after apid s x).last ≡ Some (part_in x) → Rises (closed_indices (kept apid (after apid s x) xs)) → Rises (closed_indices (x ∷ kept apid (after apid s x) xs))
-    own last rest = elim (cases_Bool (closing x)) [
-      | inl closed ↦ subst Rises (sym (closed_some x (kept apid (after apid s x) xs) closed)) (above last closed, rest)
-      | inr unclosed ↦ subst Rises (sym (closed_none x (kept apid (after apid s x) xs) unclosed)) rest
-    ]
+    own last rest = grind (arith, nat_tests, closed_some, above, closed_none)
 
 -- ---- an image's
 
@@ -227,10 +210,7 @@ pub counts_complete : (id : ImageId) (packets : List (List ℕ)) → CountsCompl
 counts_complete id packets = record {
   indices = closed_indices ks;
   increasing = increasing (closed_indices ks) (kept_rise id.apid fresh (own_packets id packets));
-  are_complete = λ index. (
-    λ c. complete_of (packets_at index ks) (kept_parts index id.apid fresh (own_packets id packets) 0 (inl (none_fresh index, refl))) (closing_from index ks (has_contained (closed_indices ks) index c)),
-    λ whole. contained (closed_indices ks) index (closed_from index ks (closing_of (packets_at index ks) whole)),
-  );
+  are_complete = grind (arith, nat_tests, complete_of, ks, kept_parts, none_fresh, closing_from, has_contained, contained, closed_from, closing_of);
   number_is = sym (length-filter closing ks) ∙ sym (length-map (filter closing ks) index_in);
 }
   where

@@ -1,5 +1,5 @@
 -- How a list of images ends.
-use Rattle.std.proofs.Common.{◌≡◌, ◌≤◌, ◌+◌, ℕ, List, [], ◌∷◌, ◌++◌, length, take, refl, sym, ap, subst, ◌∙◌, arith, length-append, Option, Ok, Err}
+use Rattle.std.proofs.Common.{◌≡◌, ◌≤◌, ℕ, List, [], ◌∷◌, ◌++◌, length, take, refl, sym, ap, subst, ◌∙◌, arith, length-append, Option, Ok, Err}
 use Rattle.std.proofs.lemmas.Bool.Decides.{nat_tests}
 use Rattle.bit_pipe.specs.declared.fault.InFault.TheVariants as in_faults
 use Rattle.port_122.specs.Outside.{Outside, Exchange, NoRead, Rose}
@@ -18,7 +18,7 @@ use Rattle.image_info.specs.declared.info.InfoWish.{InfoWish}
 use Rattle.image_info.specs.declared.info.InfoFault.{InfoFault}
 use Rattle.image_info.specs.declared.info.InfoFault.TheVariants.{ReadFault, WriteFault, LongInput, TooManyImages}
 use Rattle.image_info.specs.declared.table.TableFull.{TableFull}
-use Rattle.image_info.specs.Images.{images, entries, most_images}
+use Rattle.image_info.specs.Images.{entries, most_images}
 use Rattle.image_info.specs.Lines.{lines_of}
 use Rattle.image_info.specs.Answers.{image_count, Informs}
 use Rattle.image_info.specs.Steps.{TakesPacket, TakesNext}
@@ -120,15 +120,7 @@ full_informed {wish = wish} {table = table} {after = after} full before x =
     let whole = whole_past 0 apid x.full come.passed x.whole wish.octets come.took come.read in
     let many = table_full wish.apid come.passed packet table after full come.table_of x.passes in
     let more = images-front wish.apid all (whole_packets rest) in
-    let size : image_count wish.apid come.took ≡ length (images wish.apid all) + length more.0 =
-    ap (λ ps. length (images wish.apid ps)) whole ∙ ap length more.1 ∙ length-append (images wish.apid all) more.0 in
-    record {
-      took = come.took;
-      gave = [];
-      since = come.since;
-      within = read_within come.read;
-      answer = (omega (arith, many, size), refl);
-    }
+    grind (arith, nat_tests, length, length-append, read_within)
 
 pub info_failed : {wish : InfoWish} {start now : Outside} {v : Intake} {table : List ImageEntry} (new : Outside) (w : Intake) (after : List ImageEntry) (fault : InfoFault) → HasTabled wish start now v table →
     TakesNext wish.apid now new v w table after (Err fault) → Informs wish start new (Err fault)

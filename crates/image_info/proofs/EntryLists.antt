@@ -5,7 +5,7 @@ use Rattle.std.proofs.lemmas.List.{map-append, length-map}
 use Rattle.std.proofs.lemmas.Bool.Decides.{nat_tests}
 use Rattle.packet_defs.specs.Reading.{apid_in}
 use Rattle.stream_defs.specs.declared.fate.FateState.{FateState}
-use Rattle.stream_defs.specs.Fates.{after, after_all, kept}
+use Rattle.stream_defs.specs.Fates.{after_all, kept}
 use Rattle.stream_defs.proofs.KeptOrder.{does}
 use Rattle.image_info.specs.declared.image.ImageId.{ImageId}
 use Rattle.image_info.specs.declared.image.ImageEntry.{ImageEntry}
@@ -83,10 +83,7 @@ module _ (wanted : Option ℕ) (packets : List (List ℕ)) (packet : List ℕ) (
       entries wanted (packets ++ packet ∷ []) ≡ entries wanted packets ++ entry_of (packets ++ packet ∷ []) (id_in packet) ∷ []
   entries_begun is keeps misses =
       let none : kept_of (id_in packet) packets ≡ [] = known.others (id_in packet) is misses in
-      ap (map (entry_of (packets ++ packet ∷ []))) (images_begun wanted packets packet (begins_so wanted packets packet is keeps none))
-      ∙ map-append (entry_of (packets ++ packet ∷ [])) (images wanted packets) (id_in packet ∷ [])
-      ∙ ap (λ es. es ++ entry_of (packets ++ packet ∷ []) (id_in packet) ∷ [])
-      (sym (map_same (entry_of packets) (entry_of (packets ++ packet ∷ [])) (images wanted packets) (λ j lt. others_same (id_at (images wanted packets) j) (λ e. misses j lt (sym e)))))
+      grind (arith, nat_tests, map, images_begun, begins_so, map-append, map_same, others_same)
 
 -- ---- an image of which no packet is kept
 
@@ -96,8 +93,5 @@ none_fresh apid s (x ∷ xs) none = elim (does apid s x) [
   | inl lost ↦
       let rest : kept apid s xs ≡ [] = ap (λ s. kept apid s xs) (sym lost.same) ∙ sym (lost.kept_are xs) ∙ none in
       ap (λ s. after_all apid s xs) lost.same ∙ none_fresh apid s xs rest
-  | inr here ↦ elim here [
-    | inl first ↦ absurd (let some : x ∷ kept apid (after apid s x) xs ≡ [] = sym (first.kept_are xs) ∙ none in cc)
-    | inr next ↦ absurd (let some : x ∷ kept apid (after apid s x) xs ≡ [] = sym (next.kept_are xs) ∙ none in cc)
-  ]
+  | inr here ↦ grind (arith, nat_tests)
 ]

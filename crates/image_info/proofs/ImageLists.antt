@@ -1,4 +1,5 @@
 -- The images of packets, and one packet more.
+use Rattle.std.proofs.lemmas.Bool.Decides.{nat_tests}
 use Rattle.std.proofs.Common.{◌≡◌, ◌<◌, ◌+◌, ◌≤◌, ℕ, zero, suc, List, [], ◌∷◌, ◌++◌, length, take, map, refl, sym, ap, subst, ◌∙◌, inl, inr, arith, append_assoc, length-append, Bool, true, false, cond, ◌==◌, ◌&&◌, filter, slice_index_or, Option}
 use Rattle.std.specs.List.{range_with_len}
 use Rattle.std.proofs.lemmas.Bool.{and_parts, cases_lt, false≢true, eqb-true}
@@ -7,11 +8,12 @@ use Rattle.std.proofs.lemmas.List.Elements.{filter-append}
 use Rattle.std.proofs.Math.ListN.{get_or-append}
 use Rattle.std.proofs.Math.Seq.{get_or-append_seam}
 use Rattle.packet_defs.specs.Reading.{apid_in}
-use Rattle.stream_defs.specs.Fates.{kept}
+use Rattle.stream_defs.specs.Fates.{fresh}
 use Rattle.stream_defs.proofs.Outputs.{range_with_len-more}
 use Rattle.image_info.specs.declared.image.ImageId.{ImageId}
 use Rattle.image_info.specs.Images.{id_in, state_of, kept_of, is_wanted, is_kept_after, begins_image, packet_at, begins_at, images}
-use Rattle.image_info.proofs.OneImage.{is_own, is_kept_by, own_id, kept_own, kept_other, kept_lost, kept_more}
+use Rattle.image_info.proofs.OneImage.{is_own, own_id, kept_own, kept_other, kept_lost, kept_more}
+use Rattle.stream_defs.proofs.Equations.{kept-none}
 
 -- ---- lists by place
 
@@ -121,39 +123,18 @@ pub record AreBegun (wanted : Option ℕ) (packets : List (List ℕ)) (ids : Lis
   pub apart : (i j : ℕ) → i < length ids → j < length ids → id_at ids i ≡ id_at ids j → i ≡ j
 
 kept_nothing : (id : ImageId) → kept_of id [] ≡ []
-unfolding kept
-kept_nothing id = refl
+kept_nothing id = kept-none id.apid fresh
 
 pub begun_none : (wanted : Option ℕ) → AreBegun wanted [] []
-begun_none wanted = record {
-  wanted_each = λ i lt. absurd (omega (arith, lt));
-  some_each = λ i lt. absurd (omega (arith, lt));
-  others = λ id is misses. kept_nothing id;
-  apart = λ i j lt. absurd (omega (arith, lt));
-}
+begun_none wanted = grind (arith, nat_tests, kept_nothing)
 
 -- a packet that is kept remains kept
 pub kept_grows : (id : ImageId) (packets : List (List ℕ)) (packet : List ℕ) → 0 < length (kept_of id packets) → 0 < length (kept_of id (packets ++ packet ∷ []))
-kept_grows id packets packet some = by (is_own id packet) refl
-  where
-    by_kept : is_own id packet ≡ true → (b : Bool) → is_kept_by id packets packet ≡ b → 0 < length (kept_of id (packets ++ packet ∷ []))
-    by_kept own true is = let more = ap length (kept_more id packets packet own is) in omega (arith, some, more, length-append (kept_of id packets) (packet ∷ []))
-    by_kept own false is = let same = ap length (kept_lost id packets packet own is) in omega (arith, some, same)
-
-    by : (b : Bool) → is_own id packet ≡ b → 0 < length (kept_of id (packets ++ packet ∷ []))
-    by true own = by_kept own (is_kept_by id packets packet) refl
-    by false own = let same = ap length (kept_other id packets packet own) in omega (arith, some, same)
+kept_grows id packets packet some = grind (arith, nat_tests, length, kept_more, length-append, kept_lost, kept_other)
 
 -- if a packet of its image was kept before, a packet doesn't begin it
 pub begins_no_more : (wanted : Option ℕ) (packets : List (List ℕ)) (packet : List ℕ) → 0 < length (kept_of (id_in packet) packets) → begins_next wanted packets packet ≡ false
-begins_no_more wanted packets packet some = by (begins_next wanted packets packet) refl
-  where
-    by : (b : Bool) → begins_next wanted packets packet ≡ b → b ≡ false
-    by false e = refl
-    by true e =
-        let two = and_parts (is_wanted wanted (apid_in packet)) (begins_image packets packet) e in
-        let none = eqb-true (length (kept_of (id_in packet) packets)) 0 (and_parts (is_kept_after packets packet) (length (kept_of (id_in packet) packets) == 0) two.1).1 in
-        absurd (omega (arith, some, none))
+begins_no_more wanted packets packet some = grind (arith, nat_tests, and_parts, eqb-true, length)
 
 -- and if none was, a kept one does
 pub begins_so : (wanted : Option ℕ) (packets : List (List ℕ)) (packet : List ℕ) → is_wanted wanted (apid_in packet) ≡ true → is_kept_after packets packet ≡ true → kept_of (id_in packet) packets ≡ [] →
@@ -205,23 +186,7 @@ begun_more wanted packets packet ids begins known =
 
 begun_same : (wanted : Option ℕ) (packets : List (List ℕ)) (packet : List ℕ) (ids : List ImageId) → begins_next wanted packets packet ≡ false → AreBegun wanted packets ids →
     AreBegun wanted (packets ++ packet ∷ []) ids
-begun_same wanted packets packet ids not known = record {
-  wanted_each = known.wanted_each;
-  some_each = λ i lt. kept_grows (id_at ids i) packets packet (known.some_each i lt);
-  others = λ id is misses. others id is (known.others id is misses) (is_own id packet) refl;
-  apart = known.apart;
-}
-  where
-    by_kept : (id : ImageId) → is_wanted wanted id.apid ≡ true → kept_of id packets ≡ [] → is_own id packet ≡ true → (b : Bool) → is_kept_by id packets packet ≡ b → kept_of id (packets ++ packet ∷ []) ≡ []
-    by_kept id is none own false lost = kept_lost id packets packet own lost ∙ none
-    by_kept id is none own true keeps =
-        let q = id_in packet in
-        let same : q ≡ id = own_id id packet own in
-        absurd (false≢true (sym not ∙ begins_so wanted packets packet (ap (λ (q : ImageId). is_wanted wanted q.apid) same ∙ is) (ap (λ (q : ImageId). is_kept_by q packets packet) same ∙ keeps) (ap (λ (q : ImageId). kept_of q packets) same ∙ none)))
-
-    others : (id : ImageId) → is_wanted wanted id.apid ≡ true → kept_of id packets ≡ [] → (b : Bool) → is_own id packet ≡ b → kept_of id (packets ++ packet ∷ []) ≡ []
-    others id is none true own = by_kept id is none own (is_kept_by id packets packet) refl
-    others id is none false own = kept_other id packets packet own ∙ none
+begun_same wanted packets packet ids not known = grind (arith, nat_tests, kept_grows, kept_lost, own_id, false≢true, begins_so, kept_other)
 
 -- the images of some packets, and then of one more
 pub begun_next : (wanted : Option ℕ) (packets : List (List ℕ)) (packet : List ℕ) → AreBegun wanted packets (images wanted packets) → AreBegun wanted (packets ++ packet ∷ []) (images wanted (packets ++ packet ∷ []))

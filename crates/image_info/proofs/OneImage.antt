@@ -16,6 +16,7 @@ use Rattle.camera_defs.proofs.Picking.{mine_own, none_so}
 use Rattle.image_info.specs.declared.image.ImageId.{ImageId}
 use Rattle.image_info.specs.Images.{id_in, own_packets, state_of, kept_of, count_of, entry_of}
 use Rattle.image_info.specs.Tables.{count_with}
+use Rattle.stream_defs.proofs.Equations.{kept-none, kept-cons}
 
 -- ---- which image a packet is of
 
@@ -30,9 +31,7 @@ own_skip id packet e = none_so (skip_of id.apid packet) (and_parts (is_none (ski
 pub own_id : (id : ImageId) (packet : List ℕ) → is_own id packet ≡ true → id_in packet ≡ id
 own_id id packet e =
     let apid : apid_in packet ≡ id.apid = eqb-true (apid_in packet) id.apid (mine_own id.apid packet (own_skip id packet e)) in
-    let image : (ancillary_in packet).image ≡ id.image =
-    eqb-true (ancillary_in packet).image id.image (and_parts (is_none (skip_of id.apid packet)) ((ancillary_in packet).image == id.image) e).1 in
-    λ i. record { apid = apid i; image = image i }
+    grind (arith, nat_tests, eqb-true, and_parts)
 
 -- a packet that isn't skipped for its own APID is of its image
 pub skip_own : (packet : List ℕ) → skip_of (apid_in packet) packet ≡ None → is_own (id_in packet) packet ≡ true
@@ -51,12 +50,10 @@ own_more : (id : ImageId) (packets : List (List ℕ)) (packet : List ℕ) → is
 own_more id packets packet own = filter-append (is_own id) packets (packet ∷ []) ∙ ap (λ b. own_packets id packets ++ cond b (packet ∷ []) []) own
 
 kept_one : (apid : ℕ) (s : FateState) (packet : List ℕ) → is_kept (fate apid s packet) ≡ true → kept apid s (packet ∷ []) ≡ packet ∷ []
-unfolding kept
-kept_one apid s packet e = rw e refl
+kept_one apid s packet e = rw (kept-cons, e, kept-none) refl
 
 lost_one : (apid : ℕ) (s : FateState) (packet : List ℕ) → is_kept (fate apid s packet) ≡ false → kept apid s (packet ∷ []) ≡ []
-unfolding kept
-lost_one apid s packet e = rw e refl
+lost_one apid s packet e = rw (kept-cons, e, kept-none) refl
 
 -- the fate of a packet after those of its image
 abbrev pub is_kept_by : ImageId → List (List ℕ) → List ℕ → Bool
@@ -95,6 +92,4 @@ pub entry_more : (id : ImageId) (packets : List (List ℕ)) (packet : List ℕ) 
     entry_of (packets ++ packet ∷ []) id ≡ record { id = id; state = after id.apid (state_of id packets) packet; count = count_with (count_of (kept_of id packets)) (length packet) (closes (flags_in packet)) }
 entry_more id packets packet own is =
     let state = state_more id packets packet own in
-    let count : count_of (kept_of id (packets ++ packet ∷ [])) ≡ count_with (count_of (kept_of id packets)) (length packet) (closes (flags_in packet)) =
-    ap count_of (kept_more id packets packet own is) ∙ count_more (kept_of id packets) packet in
-    λ i. record { id = id; state = state i; count = count i }
+    grind (arith, nat_tests, length, kept_more, count_more)

@@ -1,5 +1,5 @@
 -- What was read of the next packet, and that there is room for its counts.
-use Rattle.std.proofs.Common.{◌≡◌, ◌≤◌, ◌<◌, ◌+◌, ◌-◌, ◌%◌, ℕ, List, length, refl, sym, ap, subst, ◌∙◌, inl, inr, arith, length-append, length-take, Bool, true, false, slice_set, Option, None, Some, Result, Ok, Err, get_or-set_same, get_or-set_other, length-set}
+use Rattle.std.proofs.Common.{◌≡◌, ◌≤◌, ◌<◌, ◌+◌, ◌-◌, ◌%◌, ℕ, List, length, sym, ap, ◌∙◌, arith, length-append, length-take, true, Option, None, Some, Result, Ok, Err, get_or-set_same, get_or-set_other, length-set}
 use Rattle.std.proofs.lemmas.Bool.{false≢true, cases_lt}
 use Rattle.std.proofs.lemmas.Bool.Decides.{nat_tests}
 use Rattle.byteorder.specs.Endian.{big_number}
@@ -8,7 +8,7 @@ use Rattle.port_122.specs.Outside.{Outside}
 use Rattle.packet_defs.specs.declared.ancillary.Ancillary.{Ancillary}
 use Rattle.packet_defs.specs.declared.packet.PacketHead.{PacketHead}
 use Rattle.packet_defs.specs.declared.packet.PacketRead.{PacketRead}
-use Rattle.packet_defs.specs.declared.packet.PacketRead.TheVariants.{Mine, Skipped, Ended, Fault}
+use Rattle.packet_defs.specs.declared.packet.PacketRead.TheVariants.{Mine}
 use Rattle.packet_defs.specs.declared.packet.Skip.{Skip}
 use Rattle.packet_defs.specs.Reading.{apid_in, flags_in, head_in, ancillary_in, text_in, skip_of}
 use Rattle.packet_defs.specs.Streams.{told_length, begins_packet, first_packet, IsPacket}
@@ -22,7 +22,7 @@ use Rattle.image_info.specs.declared.image.ImageId.{ImageId}
 use Rattle.image_info.specs.declared.image.ImageEntry.{ImageEntry}
 use Rattle.image_info.specs.declared.table.TableFull.{TableFull}
 use Rattle.image_info.specs.Images.{id_in, is_wanted}
-use Rattle.image_info.specs.Tables.{FitsMore, no_entry, entry_at, IsPlace, IsWithin, state_at, with_entry, AreRanged, CanCount, PutsEntry, PassesImage, PassesBy, PassesPacket}
+use Rattle.image_info.specs.Tables.{FitsMore, no_entry, entry_at, IsPlace, IsWithin, state_at, with_entry, AreRanged, CanCount, PutsEntry, PassesImage, PassesPacket}
 use Rattle.image_info.specs.Steps.{CanTake}
 use Rattle.image_info.proofs.ImageLists.{each_more}
 
@@ -46,10 +46,7 @@ no_fault apid u fault whole e = false≢true (sym (long_read apid u fault e).non
 -- if it is none of an image, it is skipped
 pub other_skip : (apid : ℕ) (u : Intake) (read : PacketRead) → begins_packet u.pending ≡ true → verdict apid u ≡ Some (Ok read) → ((head : PacketHead) (a : Ancillary) → read ≡ Mine head a → ⊥) →
     (skip : Skip) × (skip_of apid (first_packet u.pending) ≡ Some skip)
-other_skip apid u (Mine head a) whole e not = absurd (not head a refl)
-other_skip apid u (Skipped skip) whole e not = (skip, (other_read apid u skip e).other)
-other_skip apid u Ended whole e not = absurd (false≢true (sym (over_read apid u Ended refl e).0 ∙ whole))
-other_skip apid u (Fault fault) whole e not = absurd (false≢true (sym (over_read apid u (Fault fault) refl e).0 ∙ whole))
+other_skip apid u read whole e not = grind (arith, nat_tests, other_read, false≢true, over_read)
 
 -- its text, if it is one of an image
 pub text_so : (apid : ℕ) (u w : Intake) → begins_packet u.pending ≡ true → skip_of apid (first_packet u.pending) ≡ None → w ≡ answered apid u → w.text ≡ text_in (first_packet u.pending)
@@ -58,11 +55,7 @@ text_so apid u w whole mine stands = grind (arith, nat_tests, answered_packet)
 -- ---- what is left of the table
 
 pub skipped_passes : (wanted : Option ℕ) (table : List ImageEntry) (packet : List ℕ) (skip : Skip) → skip_of (apid_in packet) packet ≡ Some skip → PassesPacket wanted table table packet (Ok tt)
-skipped_passes wanted table packet skip other = rw other (by (is_wanted wanted (apid_in packet)))
-  where
-    by : (b : Bool) → PassesBy table table packet b (Some skip) (Ok tt)
-    by true = (refl, refl)
-    by false = (refl, refl)
+skipped_passes wanted table packet skip other = grind (arith, nat_tests)
 
 pub image_passes : (wanted : Option ℕ) (table after : List ImageEntry) (packet : List ℕ) (result : Result Unit TableFull) → is_wanted wanted (apid_in packet) ≡ true → skip_of (apid_in packet) packet ≡ None →
     PassesImage table after (id_in packet) (flags_in packet) (ancillary_in packet) (text_in packet) (length packet) result → PassesPacket wanted table after packet result
@@ -73,40 +66,22 @@ pub image_said : (table after : List ImageEntry) (packet : List ℕ) (head : Pac
     IsPacket packet → head ≡ head_in packet → a ≡ ancillary_in packet → text ≡ text_in packet →
     PassesImage table after (record { apid = head.apid; image = a.image }) head.flags a text (6 + head.length) result →
     PassesImage table after (id_in packet) (flags_in packet) (ancillary_in packet) (text_in packet) (length packet) result
-image_said table after packet head a text result whole head_is a_is text_is x =
-    let one = subst (λ (h : PacketHead). PassesImage table after (record { apid = h.apid; image = a.image }) h.flags a text (6 + h.length) result) head_is x in
-    let two = subst (λ (a : Ancillary). PassesImage table after (record { apid = apid_in packet; image = a.image }) (flags_in packet) a text (6 + (head_in packet).length) result) a_is one in
-    let three = subst (λ text. PassesImage table after (id_in packet) (flags_in packet) (ancillary_in packet) text (6 + (head_in packet).length) result) text_is two in
-    subst (λ n. PassesImage table after (id_in packet) (flags_in packet) (ancillary_in packet) (text_in packet) n result) (sym (length_told packet whole)) three
+image_said table after packet head a text result whole head_is a_is text_is x = grind (arith, nat_tests, length, length_told)
 
 -- ---- geometries in range
 
 pub within_so : (table : List ImageEntry) (id : ImageId) (place : Option ℕ) → IsPlace table id place → IsWithin table place
-within_so table id None is = tt
-within_so table id (Some place) is = is.0
+within_so table id place is = grind (arith, nat_tests)
 
 pub state_ranged : (table : List ImageEntry) (place : Option ℕ) → AreRanged table → IsWithin table place → IsRanged (state_at table place)
-state_ranged table None all is = record { geometry = λ g e. absurd cc }
-state_ranged table (Some place) all is = all.ranged place is
+state_ranged table place all is = grind (arith, nat_tests)
 
 with_ranged : (table : List ImageEntry) (place : Option ℕ) (entry : ImageEntry) → AreRanged table → IsWithin table place → IsRanged entry.state → AreRanged (with_entry table place entry)
 with_ranged table None entry all is ranged = record { ranged = each_more (λ (e : ImageEntry). IsRanged e.state) table entry no_entry all.ranged ranged }
-with_ranged table (Some place) entry all is ranged = record { ranged = each }
-  where
-    each : (k : ℕ) → k < length (slice_set table place entry) → IsRanged (entry_at (slice_set table place entry) k).state
-    each k lt = elim (cases_lt k place) [
-      | inl less ↦ subst (λ (e : ImageEntry). IsRanged e.state) (sym (get_or-set_other table place k entry no_entry (λ e. omega (arith, e, less)))) (all.ranged k (omega (arith, lt, length-set table place entry)))
-      | inr more ↦ elim (cases_lt place k) [
-        | inl less ↦ subst (λ (e : ImageEntry). IsRanged e.state) (sym (get_or-set_other table place k entry no_entry (λ e. omega (arith, e, less)))) (all.ranged k (omega (arith, lt, length-set table place entry)))
-        | inr least ↦
-            let here : place ≡ k = omega (arith, more, least) in
-            subst (λ k. IsRanged (entry_at (slice_set table place entry) k).state) here (subst (λ (e : ImageEntry). IsRanged e.state) (sym (get_or-set_same table place entry no_entry is)) ranged)
-      ]
-    ]
+with_ranged table (Some place) entry all is ranged = grind (arith, nat_tests, length, cases_lt, get_or-set_other, length-set, get_or-set_same)
 
 pub put_ranged : (old new : List ImageEntry) (place : Option ℕ) (entry : ImageEntry) (result : Result Unit TableFull) → AreRanged old → IsWithin old place → IsRanged entry.state → PutsEntry old new place entry result → AreRanged new
-put_ranged old new place entry (Ok done) all is ranged puts = subst AreRanged (sym puts.0) (with_ranged old place entry all is ranged)
-put_ranged old new place entry (Err full) all is ranged puts = subst AreRanged (sym puts.2) all
+put_ranged old new place entry result all is ranged puts = grind (arith, nat_tests, with_ranged)
 
 -- ---- room for the counts
 
@@ -121,9 +96,4 @@ can_count {v = v} {u = u} table can x whole = record { fits = fits }
         let cap = can.cap in
         let within = x.within in
         let some = packet_long u.pending whole in
-        let most : length (first_packet u.pending) ≤ length u.pending = omega (arith, length-take (told_length u.pending) u.pending) in
-        record {
-          packets = (let a = below.packets in omega (arith, a, waits, cap, within, some, most, place));
-          octets_fit = (let a = below.octets_are in omega (arith, a, waits, cap, within, most, place));
-          received = (let a = below.received in omega (arith, a, waits, cap, within, some, most, place));
-        }
+        grind (arith, nat_tests, length, length-take)

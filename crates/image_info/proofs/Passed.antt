@@ -25,41 +25,30 @@ pub record IsTable (wanted : Option ℕ) (passed : List (List ℕ)) (table : Lis
   pub begun : AreBegun wanted passed (images wanted passed)
 
 pub table_none : (wanted : Option ℕ) → IsTable wanted [] []
-table_none wanted = record {
-  table_is = ap (map (entry_of [])) (sym (images-none wanted));
-  begun = subst (AreBegun wanted []) (sym (images-none wanted)) (begun_none wanted);
-}
+table_none wanted = grind (arith, nat_tests, map, images-none, begun_none)
 
 module _ (wanted : Option ℕ) (passed : List (List ℕ)) (packet : List ℕ) where
   -- ---- a packet that isn't kept
 
   unwanted_loses : is_wanted wanted (apid_in packet) ≡ false → Loses wanted passed packet
-  unwanted_loses not id is own =
-      absurd (false≢true (sym not ∙ ap (λ (id : ImageId). is_wanted wanted id.apid) (own_id id packet own) ∙ is))
+  unwanted_loses not id is own = grind (arith, nat_tests, false≢true, own_id)
 
   skipped_loses : (skip : Skip) → skip_of (apid_in packet) packet ≡ Some skip → Loses wanted passed packet
-  skipped_loses skip other id is own =
-      absurd (let no : Some skip ≡ None = sym other ∙ ap (λ (id : ImageId). skip_of id.apid packet) (own_id id packet own) ∙ own_skip id packet own in cc)
+  skipped_loses skip other id is own = grind (arith, nat_tests, own_id, own_skip)
 
   unkept_loses : is_kept_after passed packet ≡ false → Loses wanted passed packet
   unkept_loses not id is own = subst (λ id. is_kept_by id passed packet ≡ false) (own_id id packet own) not
 
   -- so nothing changes
   lost : (table after : List ImageEntry) → IsTable wanted passed table → Loses wanted passed packet → after ≡ table → IsTable wanted (passed ++ packet ∷ []) after
-  lost table after known loses same = record {
-    table_is = same ∙ known.table_is ∙ sym (entries_same wanted passed packet known.begun loses);
-    begun = begun_next wanted passed packet known.begun;
-  }
+  lost table after known loses same = grind (arith, nat_tests, entries_same, begun_next)
 
   -- ---- what the table has of its image
 
   module _ (table : List ImageEntry) (known : IsTable wanted passed table) (is : is_wanted wanted (apid_in packet) ≡ true) where
     -- at its place
     at_place : (place : ℕ) → IsPlace table (id_in packet) (Some place) → (place < length (images wanted passed)) × (id_at (images wanted passed) place ≡ id_in packet)
-    at_place place there =
-        let size = ap length known.table_is ∙ length-entries wanted passed in
-        let lt : place < length (images wanted passed) = omega (arith, there.0, size) in
-        (lt, ap (λ (e : ImageEntry). e.id) (sym (entry_is wanted passed place lt)) ∙ ap (λ t. (entry_at t place).id) (sym known.table_is) ∙ there.1)
+    at_place place there = grind (arith, nat_tests, length, length-entries, entry_is)
 
     entry_so : (place : ℕ) → IsPlace table (id_in packet) (Some place) → entry_at table place ≡ entry_of passed (id_in packet)
     entry_so place there =
@@ -141,8 +130,7 @@ module _ (wanted : Option ℕ) (passed : List (List ℕ)) (packet : List ℕ) wh
         more : IsPlace table (id_in packet) None → is_kept_after passed packet ≡ true → length table ≡ most_images → most_images < length (images wanted (passed ++ packet ∷ []))
         more none is_kept full =
             let all = ap length (entries_begun wanted passed packet known.begun is is_kept (misses_so none)) in
-            let size = ap length known.table_is in
-            omega (arith, all, size, full, length-entries wanted (passed ++ packet ∷ []), length-append (entries wanted passed) (entry_of (passed ++ packet ∷ []) (id_in packet) ∷ []))
+            grind (arith, nat_tests, length, length-entries, length-append)
 
         by : (r : Result (Option SegmentHead) Fate) → classified (state_at table x.place) (flags_in packet) (ancillary_in packet) (text_in packet) ≡ r →
             LeavesTable table after (id_in packet) x.place (flags_in packet) (ancillary_in packet) (length packet) r (Err full) → most_images < length (images wanted (passed ++ packet ∷ []))

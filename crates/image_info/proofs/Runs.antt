@@ -1,10 +1,10 @@
 -- A list of images is continued by one packet.
-use Rattle.std.proofs.Common.{◌≡◌, ◌≤◌, ◌<◌, ◌+◌, ◌^◌, ℕ, List, [], ◌∷◌, ◌++◌, length, sym, ap, subst, ◌∙◌, arith, length-append, Option, None, Result, Ok}
+use Rattle.std.proofs.lemmas.Bool.Decides.{nat_tests}
+use Rattle.std.proofs.Common.{◌≡◌, ◌≤◌, ◌<◌, ◌+◌, ◌^◌, ℕ, List, [], ◌∷◌, ◌++◌, length, sym, ap, subst, arith, length-append, Option, None, Result, Ok}
 use Rattle.std.proofs.lemmas.List.{take-append-le}
 use Rattle.port_122.specs.Outside.{Outside, Exchange}
 use Rattle.port_122.proofs.Stretches.{since_start, since_weaker}
 use Rattle.port_122.proofs.ReadCalls.{since_in}
-use Rattle.packet_defs.specs.Packets.{joined}
 use Rattle.packet_defs.specs.Reading.{apid_in}
 use Rattle.packet_defs.specs.Streams.{first_packet}
 use Rattle.space_packets.specs.Intake.{Intake, unread}
@@ -16,10 +16,9 @@ use Rattle.image_info.specs.declared.image.ImageEntry.{ImageEntry}
 use Rattle.image_info.specs.declared.info.InfoWish.{InfoWish}
 use Rattle.image_info.specs.declared.table.TableFull.{TableFull}
 use Rattle.image_info.specs.Images.{images, most_images}
-use Rattle.image_info.specs.Tables.{entry_at, AreRanged}
+use Rattle.image_info.specs.Tables.{AreRanged}
 use Rattle.image_info.specs.Answers.{image_count, AsksFew}
-use Rattle.image_info.specs.Steps.{CountsBelow, CanTake, TakesPacket}
-use Rattle.image_info.proofs.ImageLists.{id_at}
+use Rattle.image_info.specs.Steps.{CanTake, TakesPacket}
 use Rattle.image_info.proofs.EntryLists.{length-entries, entry_is}
 use Rattle.image_info.proofs.Passed.{IsTable, table_none, table_next, few_next}
 use Rattle.image_info.proofs.Bounds.{counts_below}
@@ -102,20 +101,4 @@ less_passed x = less_left _ x.taken x.whole x.stands
 -- ---- room for the counts
 
 pub can_take : {wish : InfoWish} {start now : Outside} {v : Intake} {table : List ImageEntry} → wish.octets < 2 ^ 64 → HasTabled wish start now v table → CanTake table v
-can_take {wish = wish} {v = v} {table = table} small come =
-    let passed = come.passed in
-    let size : length come.took ≡ length (joined passed) + length v.pending = ap length come.read.octets_are ∙ length-append (joined passed) v.pending in
-    let taken = come.read.taken in
-    record {
-      ranged = come.ranged;
-      below = λ k lt octets e. below k lt octets (omega (arith, e, size, taken));
-      place = omega (arith, size, taken);
-      cap = (let cap = come.read.cap in omega (arith, cap, small));
-    }
-  where
-    below : (k : ℕ) → k < length table → (octets : ℕ) → octets ≡ length (joined come.passed) → CountsBelow (entry_at table k).count octets
-    below k lt octets e =
-        let lt' : k < length (images wish.apid come.passed) = (let size = ap length come.table_of.table_is in omega (arith, lt, size, length-entries wish.apid come.passed)) in
-        let entry = ap (λ t. entry_at t k) come.table_of.table_is ∙ entry_is wish.apid come.passed k lt' in
-        subst (λ n. CountsBelow (entry_at table k).count n) (sym e)
-        (subst (λ (entry : ImageEntry). CountsBelow entry.count (length (joined come.passed))) (sym entry) (counts_below (id_at (images wish.apid come.passed) k) come.passed come.read.packets_are))
+can_take {wish = wish} {v = v} {table = table} small come = grind (arith, nat_tests, length, length-append, length-entries, entry_is, counts_below)

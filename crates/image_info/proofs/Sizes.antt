@@ -1,17 +1,15 @@
 -- An image of which a packet is kept has a geometry.
-use Rattle.std.proofs.Common.{◌≡◌, ◌<◌, ◌+◌, ℕ, List, [], ◌∷◌, ◌++◌, length, refl, sym, ap, subst, ◌∙◌, inl, inr, arith, append_assoc, true, ◌==◌, All, slice_index_or, Option, Some, None, IsSome, Result, Ok, Err, eq-eqb, ne_eqb}
+use Rattle.std.proofs.Common.{◌≡◌, ◌<◌, ◌+◌, ℕ, List, [], ◌∷◌, ◌++◌, length, sym, ap, subst, ◌∙◌, inl, inr, arith, append_assoc, All, slice_index_or, Option, Some, None, IsSome, Result, eq-eqb, ne_eqb}
 use Rattle.std.proofs.lemmas.List.{append-nil, get_or_default}
 use Rattle.std.proofs.lemmas.Bool.Decides.{nat_tests}
 use Rattle.base_122.specs.declared.geometry.Geometry.{Geometry}
 use Rattle.segment_defs.specs.declared.head.SegmentHead.{SegmentHead}
 use Rattle.segment_defs.specs.declared.fault.HeadFault.{HeadFault}
-use Rattle.segment_defs.specs.Reading.{head_read}
 use Rattle.packet_defs.specs.declared.ancillary.Ancillary.{Ancillary}
-use Rattle.packet_defs.specs.Reading.{ancillary_in, text_in}
 use Rattle.stream_defs.specs.declared.fate.LastPart.{LastPart}
 use Rattle.stream_defs.specs.declared.fate.FateState.{FateState}
 use Rattle.stream_defs.specs.Agreement.{head_refusal}
-use Rattle.stream_defs.specs.Fates.{fresh, fate, kept, part_in, geometry_with, geometry_after, refusal_in, after, after_all}
+use Rattle.stream_defs.specs.Fates.{fresh, kept, geometry_with, geometry_after, refusal_in, after, after_all}
 use Rattle.stream_defs.specs.Received.{number_of_part}
 use Rattle.stream_defs.proofs.FateLaws.{after_as_kept}
 use Rattle.stream_defs.proofs.KeptOrder.{does, is_kept_so, kept_tests, HasReached, reached_on}
@@ -27,14 +25,10 @@ use Rattle.packet_assembly.proofs.Ends.{kept_nothing}
 
 -- a head that isn't refused makes a geometry
 made : (standing : Option Geometry) (a : Ancillary) (read : Result SegmentHead HeadFault) → head_refusal standing a read ≡ None → IsSome (geometry_with standing a read)
-made standing a (Ok head) e = refl
-made standing a (Err fault) e = absurd cc
+made standing a read e = grind (arith, nat_tests)
 
 first_made : (standing : Option Geometry) (packet : List ℕ) → number_of_part packet ≡ 0 → refusal_in standing packet ≡ None → IsSome (geometry_after standing packet)
-first_made standing packet part none =
-    let first : ((ancillary_in packet).part == 0) ≡ true = eq-eqb (ancillary_in packet).part 0 part in
-    let accepted : head_refusal standing (ancillary_in packet) (head_read (text_in packet)) ≡ None = rw first at none in
-    rw first (made standing (ancillary_in packet) (head_read (text_in packet)) accepted)
+first_made standing packet part none = grind (arith, nat_tests, eq-eqb, made)
 
 next_same : (standing : Option Geometry) (packet : List ℕ) (n : ℕ) → number_of_part packet ≡ n + 1 → geometry_after standing packet ≡ standing
 next_same standing packet n part = grind (arith, nat_tests, ne_eqb)
@@ -48,14 +42,7 @@ HasSize s = (last : LastPart) → s.last ≡ Some last → IsSome s.geometry
 size_on : (apid : ℕ) (s : FateState) (x : List ℕ) → HasSize s → HasSize (after apid s x)
 size_on apid s x h = elim (does apid s x) [
   | inl lost ↦ subst HasSize (sym lost.same) h
-  | inr here ↦ elim here [
-    | inl first ↦
-        let is = is_kept_so (fate apid s x) first.is_kept in
-        λ last e. subst IsSome (sym (ap (λ (s : FateState). s.geometry) (after_as_kept apid s x is))) (first_made s.geometry x first.part (kept_tests apid s x is).head)
-    | inr next ↦
-        let is = is_kept_so (fate apid s x) next.is_kept in
-        λ last e. subst IsSome (sym (ap (λ (s : FateState). s.geometry) (after_as_kept apid s x is) ∙ next_same s.geometry x next.before.part next.part)) (h next.before next.before_is)
-  ]
+  | inr here ↦ grind (arith, nat_tests, is_kept_so, after_as_kept, first_made, kept_tests, next_same)
 ]
 
 size_after : (apid : ℕ) (s : FateState) (packets : List (List ℕ)) → HasSize s → HasSize (after_all apid s packets)
@@ -66,10 +53,7 @@ kept_last : (apid : ℕ) (s : FateState) (packets : List (List ℕ)) → 0 < len
 kept_last apid s [] some = absurd (let none = ap length (kept_nothing apid s) in omega (arith, some, none))
 kept_last apid s (x ∷ xs) some = elim (does apid s x) [
   | inl lost ↦ kept_last apid (after apid s x) xs (subst (λ ks. 0 < length ks) (lost.kept_are xs) some)
-  | inr here ↦ elim here [
-    | inl first ↦ reached_on 0 apid (after apid s x) xs record { last = part_in x; last_is = first.last; least = omega arith }
-    | inr next ↦ reached_on 0 apid (after apid s x) xs record { last = part_in x; last_is = next.last; least = omega arith }
-  ]
+  | inr here ↦ grind (arith, nat_tests, reached_on)
 ]
 
 fresh_size : HasSize fresh

@@ -63,10 +63,7 @@ over_answers {apid = apid} {p = p} {q = q} {v = v} {w = w} {result = result} r o
 long_answers : {apid : ℕ} {p q : Outside} {v w : Intake} {result : Result PacketRead InFault} → ReadsPacket apid p q v w result → verdict apid v ≡ Some (Err LongInput) → result ≡ Err LongInput
 long_answers {apid = apid} {p = p} {q = q} {v = v} {w = w} {result = result} reads e =
     let none = nothing_taken (Err LongInput) reads e in
-    let full = (long_read apid v LongInput e).full in
-    let unseen : reads.saw_end ≡ false = by_cap reads.saw_end (λ seen. absurd (let below = reads.end_below seen in omega (arith, below, full))) in
-    answers apid p q (fed v reads.took reads.saw_end) w result (Err LongInput) reads.ends
-    (ap (λ took. verdict apid (fed v took reads.saw_end)) none ∙ ap (λ b. verdict apid (fed v [] b)) unseen ∙ quiet_verdict apid v ∙ e)
+    grind (arith, nat_tests, long_read, by_cap, answers, quiet_verdict)
   where
     by_cap : (b : Bool) → (b ≡ true → ⊥) → b ≡ false
     by_cap true never = absurd (never refl)
@@ -83,8 +80,7 @@ is_end f = grind (arith, nat_tests)
 pub ended_again : {old new : Outside} {a b : Assembling} {result : Result (Option Passed) InFault} → PassesNext old new a b result → StandsEnded a → result ≡ Ok None
 ended_again {a = a} x ended =
     let read = over_answers (end_read a.framing) (is_end a.framing) x.reads ended in
-    let octets = (fed a.intake x.reads.took x.reads.saw_end).pending in
-    x.answer ∙ ap (passed_for a octets) read ∙ passed_none a octets a.framing
+    grind (arith, nat_tests, passed_none)
 
 pub long_again : {old new : Outside} {a b : Assembling} {result : Result (Option Passed) InFault} → PassesNext old new a b result → StandsLong a → result ≡ Err LongInput
 long_again {a = a} x long =

@@ -1,9 +1,9 @@
 -- What a segment header that agrees reports of its segment and of the image.
-use Rattle.std.proofs.Common.{◌≡◌, ◌⊎◌, inl, inr, ◌≤◌, ◌<◌, ◌+◌, ◌-◌, ◌*◌, ◌/◌, ◌%◌, ℕ, List, [], ◌∷◌, refl, sym, ap, subst, ◌∙◌, arith, Bool, true, false, ◌==◌, ◌&&◌, nat_le, nat_lt, min, if◌then◌else◌, bytes_eq, None}
+use Rattle.std.proofs.Common.{◌≡◌, ◌⊎◌, ◌≤◌, ◌<◌, ◌+◌, ◌-◌, ◌*◌, ◌/◌, ◌%◌, ℕ, List, [], ◌∷◌, refl, ap, ◌∙◌, arith, Bool, true, false, ◌==◌, ◌&&◌, nat_le, nat_lt, min, if◌then◌else◌, bytes_eq, None}
 use Rattle.std.proofs.lemmas.Bool.{false≢true, and_parts, leb-true, not-false, ltb-true, eqb-true}
 use Rattle.std.proofs.lemmas.Bool.Decides.{nat_tests}
 use Rattle.base_122.specs.Sizes.{block_count}
-use Rattle.base_122.specs.Ranges.{IsWithin, is_within, rows_range}
+use Rattle.base_122.specs.Ranges.{IsWithin, rows_range}
 use Rattle.base_122.specs.declared.geometry.Geometry.{Geometry}
 use Rattle.segment_defs.specs.Head.{IsHead}
 use Rattle.segment_defs.specs.declared.head.SegmentHead.{SegmentHead}
@@ -28,13 +28,7 @@ bytes_so (x ∷ xs) (y ∷ ys) e =
 -- none of six tests refuses
 six_pass : (a b c d e f : Bool) (v w x y z u : HeadFault) → first_of (when a v ∷ when b w ∷ when c x ∷ when d y ∷ when e z ∷ when f u ∷ []) ≡ None →
     (b ≡ false) × (c ≡ false) × (f ≡ false)
-six_pass true b c d e f v w x y z u h = absurd cc
-six_pass false true c d e f v w x y z u h = absurd cc
-six_pass false false true d e f v w x y z u h = absurd cc
-six_pass false false false true e f v w x y z u h = absurd cc
-six_pass false false false false true f v w x y z u h = absurd cc
-six_pass false false false false false true v w x y z u h = absurd cc
-six_pass false false false false false false v w x y z u h = (refl, refl, refl)
+six_pass a b c d e f v w x y z u h = grind (arith, nat_tests)
 
 -- the tests on blocks, on the end and on the image
 record Passes (g : Geometry) (a : Ancillary) (head : SegmentHead) : Type 0 where
@@ -90,76 +84,18 @@ module _ (g : Geometry) (a : Ancillary) (head : SegmentHead) (is : IsHead head) 
 
   -- of a height that the packets have
   told_each : a.told_last ≡ false → IsWithin rows_range g.rows → Agrees g a head g
-  told_each told within =
-      let not_open = within_not g.rows within in
-      let blocks : has_blocks g a head ≡ true = rw told at p.blocks in
-      let both = and_parts (nat_lt a.first (blocks_of g)) _ blocks in
-      let total = blocks_known g not_open in
-      record {
-        same = refl;
-        height = inr within;
-        told = λ e. refl;
-        wide = wide_there;
-        first = let lt = ltb-true a.first (blocks_of g) both.0 in subst (λ n. a.first < n) (sym total) lt;
-        blocks = eqb-true head.blocks (min g.segment (blocks_of g - a.first)) both.1 ∙ ap (λ n. min g.segment (n - a.first)) (sym total);
-        shifts = p.shifts;
-        room = λ e. absurd (not_open e);
-        shut = λ e. absurd (false≢true (sym told ∙ e));
-      }
+  told_each told within = grind (arith, nat_tests, within_not, and_parts, nat_lt, blocks_known, wide_there, ltb-true, eqb-true, false≢true)
 
   -- of one that is reported last, by a header that isn't the last
   told_later : a.told_last ≡ true → g.rows ≡ 0 → head.last ≡ false → Agrees g a head g
-  told_later told untold last =
-      let blocks : (head.blocks == g.segment) ≡ true = rw (told, last) at p.blocks in
-      let room : nat_lt (a.first + g.segment) (32768 * block_count g.width) ≡ true = rw (told, last) at p.ends in
-      let size = eqb-true head.blocks g.segment blocks in
-      let lt = ltb-true (a.first + g.segment) (32768 * block_count g.width) room in
-      let total = blocks_open g untold in
-      record {
-        same = refl;
-        height = inl untold;
-        told = λ e. absurd (false≢true (sym e ∙ told));
-        wide = wide_there;
-        first = omega (arith, lt, total);
-        blocks = omega (arith, size, lt, total);
-        shifts = p.shifts;
-        room = λ e. lt;
-        shut = λ e some. absurd (some untold);
-      }
+  told_later told untold last = grind (arith, nat_tests, nat_lt, eqb-true, ltb-true, blocks_open, false≢true, wide_there)
 
   -- and by the last
   told_here : a.told_last ≡ true → head.last ≡ true → Agrees g a head (record g { rows = told_height g a head })
-  told_here told last =
-      let past : Geometry = record g { rows = told_height g a head } in
-      let blocks : (nat_le 1 head.blocks && nat_le head.blocks g.segment) ≡ true = rw (told, last) at p.blocks in
-      let ends : (((a.first + head.blocks) % block_count g.width == 0) && is_within rows_range (told_height g a head)) ≡ true = rw (told, last) at p.ends in
-      let size = and_parts (nat_le 1 head.blocks) _ blocks in
-      let some = leb-true 1 head.blocks size.0 in
-      let most = leb-true head.blocks g.segment size.1 in
-      let both = and_parts ((a.first + head.blocks) % block_count g.width == 0) _ ends in
-      let whole = eqb-true ((a.first + head.blocks) % block_count g.width) 0 both.0 in
-      let within = within_from rows_range (told_height g a head) both.1 in
-      let not_open = within_not (told_height g a head) within in
-      let all : blocks_of past ≡ a.first + head.blocks = ends_rows (block_count g.width) (a.first + head.blocks) head.pad_rows some_columns is.pad_rows whole within.0 in
-      let total = blocks_known past not_open in
-      record {
-        same = refl;
-        height = inr within;
-        told = λ e. absurd (false≢true (sym e ∙ told));
-        wide = wide_there;
-        first = omega (arith, total, all, some);
-        blocks = omega (arith, total, all, some, most);
-        shifts = p.shifts;
-        room = λ e. absurd (not_open e);
-        shut = λ e other. all;
-      }
+  told_here told last = grind (arith, nat_tests, nat_le, and_parts, leb-true, eqb-true, within_from, within_not, ends_rows, some_columns, blocks_known, false≢true, wide_there)
 
   agrees_by : (told last : Bool) → a.told_last ≡ told → head.last ≡ last → IsBefore g a → Agrees g a head (if told && last then record g { rows = told_height g a head } else g)
-  agrees_by true true told last before = told_here told last
-  agrees_by true false told last (inl untold) = told_later told untold.1 last
-  agrees_by true false told last (inr known) = absurd (false≢true (sym known.0 ∙ told))
-  agrees_by false last told is_last (inl untold) = absurd (false≢true (sym told ∙ untold.0))
-  agrees_by false last told is_last (inr known) = told_each told known.1
+  agrees_by given last told is_last before = grind (arith, nat_tests, told_here, told_later, false≢true, told_each)
 
 pub agrees : (g : Geometry) (a : Ancillary) (head : SegmentHead) → IsHead head → IsBefore g a → disagreement g a head ≡ None → Agrees g a head (geometry_past g a head)
 agrees g a head is before none = agrees_by g a head is (passes g a head none) a.told_last head.last refl refl before

@@ -1,7 +1,7 @@
 -- Octets that can't be read on, and what follows them.
-use Rattle.std.proofs.Common.{◌≡◌, ◌<◌, ◌∙◌, ℕ, List, [], ◌∷◌, ◌++◌, length, ap, arith, append_assoc, true}
+use Rattle.std.proofs.lemmas.Bool.Decides.{nat_tests}
+use Rattle.std.proofs.Common.{◌≡◌, ◌<◌, ◌∙◌, ℕ, List, [], ◌∷◌, ◌++◌, length, arith, append_assoc, true}
 use Rattle.std.proofs.lemmas.Bool.{false≢true}
-use Rattle.packet_defs.specs.Packets.{joined}
 use Rattle.packet_defs.specs.Streams.{Splits, has_bad_version, left_over, whole_packets}
 use Rattle.packet_defs.proofs.Fronts.{version-append}
 use Rattle.packet_defs.proofs.Splits.{splits_left, splits_whole, whole_splits}
@@ -18,11 +18,7 @@ bad_later took more bad = version-append (left_over took) more (bad_some (left_o
 pub bad_splits : (took more : List ℕ) → has_bad_version (left_over took) ≡ true → Splits (took ++ more) (whole_packets took) (left_over took ++ more)
 bad_splits took more bad =
     let parts = whole_splits took in
-    record {
-      octets_are = ap (λ xs. xs ++ more) parts.octets_are ∙ append_assoc (joined (whole_packets took)) (left_over took) more;
-      packets_are = parts.packets_are;
-      none_left = no_begin (left_over took ++ more) (bad_later took more bad);
-    }
+    grind (arith, nat_tests, append_assoc, no_begin, bad_later)
 
 -- after a bad version no more packets are read
 pub bad_stays : (took more : List ℕ) → has_bad_version (left_over took) ≡ true → whole_packets (took ++ more) ≡ whole_packets took

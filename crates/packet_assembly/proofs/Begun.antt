@@ -102,86 +102,26 @@ told_if g told index ended leaves untold = grind (arith, nat_tests)
 
 -- after packets of an image
 before_more : (s : FateState) (ended : ℕ) (a : Ancillary) (head : SegmentHead) → Tested s a head → HasBegun s ended → Before s ended a head.image
-before_more s ended a head t begun =
-    let g = begun.g in
-    let leaves = begun.leaves in
-    let own = own_so g s.told_last a (ap (λ (o : Option Geometry). differs o s.told_last a) (sym begun.geometry) ∙ t.own) in
-    let later = past_segment g.segment begun.l.index a.index (t.later begun.l begun.last) in
-    let first : a.first ≡ first_block g.segment a.index = t.first ∙ ap (λ n. a.index * n) own.segment in
-    let known : (g.rows ≡ 0 → ⊥) → a.told_last ≡ false = λ some. false_from_ne_true a.told_last (λ told. let shut = leaves.shut (sym own.told ∙ told) some in let inside = own.inside some in absurd (omega (arith, shut, inside, first, later))) in
-    let here : IsBefore g a = elim leaves.height [
-      | inl untold ↦ inl (own.told ∙ told_if g s.told_last begun.l.index ended leaves untold, untold)
-      | inr within ↦ inr (known (within_not g.rows within), within)
-    ] in
-    record {
-      untold_or_known = subst (λ (o : Option Geometry). IsBefore (geometry_for o a head.image) a) (sym begun.geometry) here;
-      segment = own.segment ∙ ap (λ (o : Option Geometry). (geometry_for o a head.image).segment) (sym begun.geometry);
-      through = let far = leaves.through in omega (arith, far, first, later);
-      known = λ before is some. let same : before ≡ g = cc in known (λ none. some (ap (λ (g : Geometry). g.rows) same ∙ none));
-    }
+before_more s ended a head t begun = grind (arith, nat_tests, own_so, past_segment, false_from_ne_true, told_if, within_not)
 
 before_by : (s : FateState) (ended : ℕ) (a : Ancillary) (head : SegmentHead) → Tested s a head → IsLeft s ended → Before s ended a head.image
 before_by s ended a head t left = elim left.by [
-  | inl none ↦ record {
-    untold_or_known = subst (λ (o : Option Geometry). IsBefore (geometry_for o a head.image) a) (sym none.geometry) (tells_so a t.tells);
-    segment = ap (λ (o : Option Geometry). (geometry_for o a head.image).segment) (sym none.geometry);
-    through = let e = none.nothing in omega (arith, e);
-    known = λ before is. absurd (let no : None ≡ Some before = sym none.geometry ∙ is in cc);
-  }
+  | inl none ↦ grind (arith, nat_tests, tells_so)
   | inr begun ↦ before_more s ended a head t begun
 ]
 
 -- the state after its first packet
 leaves_of : (g0 g : Geometry) (a : Ancillary) (head : SegmentHead) → IsBefore g0 a → Agrees g0 a head g → a.first ≡ first_block g.segment a.index →
     Leaves g a.told_last a.index (a.first + head.blocks)
-leaves_of g0 g a head before p first =
-    let size : g.segment ≡ g0.segment = ap (λ (g : Geometry). g.segment) p.same in
-    let width : g.width ≡ g0.width = ap (λ (g : Geometry). g.width) p.same in
-    let next : (a.index + 1) * g.segment ≡ a.index * g.segment + g.segment = grind arith in
-    let low = p.first in
-    let blocks = p.blocks in
-    record {
-      told = λ told. elim before [
-        | inl untold ↦ absurd (false≢true (sym told ∙ untold.0))
-        | inr known ↦ subst (λ (g : Geometry). IsWithin rows_range g.rows) (sym (p.told told)) known.1
-      ];
-      height = p.height;
-      wide = let wide = p.wide in omega (arith, wide, width);
-      first = omega (arith, low, first);
-      room = λ untold. let room = p.room untold in let columns : block_count g.width ≡ block_count g0.width = ap block_count width in omega (arith, room, columns, first, size);
-      shut = λ told some. let all = p.shut told some in omega (arith, all, blocks, first, next, size);
-      through = omega (arith, blocks, first, next, size);
-      within = omega (arith, blocks, low);
-    }
+leaves_of g0 g a head before p first = grind (arith, nat_tests, false≢true)
 
 -- in range
 with_height : (g0 g : Geometry) → g ≡ record g0 { rows = g.rows } → (g.rows ≡ 0) ⊎ IsWithin rows_range g.rows → IsGeometryInRange g0 → IsGeometryInRange g
-with_height g0 g same height r =
-    subst IsGeometryInRange (sym same) (record { width = r.width; rows = height; depth = r.depth; segment = r.segment; image = r.image; word = r.word; weights = r.weights })
+with_height g0 g same height r = grind (arith, nat_tests)
 
 range_before : (s : FateState) (a : Ancillary) (head : SegmentHead) → Tested s a head → (s.geometry ≡ None → a.image ≤ 65535) →
     ((before : Geometry) → s.geometry ≡ Some before → IsGeometryInRange before) → IsGeometryInRange (geometry_for s.geometry a head.image)
-range_before s a head t number range = by s.geometry refl
-  where
-    rows_so : ((a.told_last ≡ true) × (a.rows ≡ 0)) ⊎ ((a.told_last ≡ false) × IsWithin rows_range a.rows) → (a.rows ≡ 0) ⊎ IsWithin rows_range a.rows
-    rows_so (inl none) = inl none.1
-    rows_so (inr some) = inr some.1
-
-    by : (o : Option Geometry) → s.geometry ≡ o → IsGeometryInRange (geometry_for o a head.image)
-    by (Some g) is = range g is
-    by None is =
-        let part = t.is.image in
-        let width = part.width in
-        let most = number is in
-        record {
-          width = (width.0, omega (arith, width.1));
-          rows = rows_so (tells_so a t.tells);
-          depth = part.depth;
-          segment = within_from segment_range a.segment t.segment;
-          image = (omega arith, most);
-          word = part.word;
-          weights = part.weights;
-        }
+range_before s a head t number range = grind (arith, nat_tests, tells_so, within_from)
 
 begun_of : (s : FateState) (ended : ℕ) (a : Ancillary) (head : SegmentHead) → Tested s a head → IsLeft s ended →
     SegmentBegun s ended (record { ancillary = a; head = head }) (geometry_past (geometry_for s.geometry a head.image) a head)
@@ -213,23 +153,11 @@ begun_of s ended a head t left =
 -- ---- its first packet
 
 pub first_keeps : (apid : ℕ) (s : FateState) (packet : List ℕ) → is_first apid s packet ≡ true → (is_kept (fate apid s packet) ≡ true) × (((ancillary_in packet).part == 0) ≡ true)
-first_keeps apid s packet e = by (is_kept (fate apid s packet)) refl
-  where
-    by : (b : Bool) → is_kept (fate apid s packet) ≡ b → (is_kept (fate apid s packet) ≡ true) × (((ancillary_in packet).part == 0) ≡ true)
-    by true is = (is, rw is at e)
-    by false is = absurd (let no : false ≡ true = rw is at e in false≢true no)
+first_keeps apid s packet e = grind (arith, nat_tests, false≢true)
 
 -- a packet that is the first of a segment begins it
 pub begins_so : (apid : ℕ) (s : FateState) (packet : List ℕ) → is_first apid s packet ≡ true → Begins apid s packet
-begins_so apid s packet first =
-    let k = first_keeps apid s packet first in
-    elim (does apid s packet) [
-      | inl lost ↦ absurd (false≢true (sym lost.lost ∙ k.0))
-      | inr here ↦ elim here [
-        | inl b ↦ b
-        | inr next ↦ absurd (let part = eqb-true (ancillary_in packet).part 0 k.1 in omega (arith, part, next.part))
-      ]
-    ]
+begins_so apid s packet first = grind (arith, nat_tests, first_keeps, does, false≢true, eqb-true)
 
 -- The state after the first packet of a segment.
 pub record FirstLeaves (apid : ℕ) (s : FateState) (packet : List ℕ) (ended : ℕ) (start : SegmentStart) : Type 0 where

@@ -22,14 +22,11 @@ decided_ended v e = grind (arith, nat_tests, is_decided-is)
 
 coming_by : (ended saw_end : Bool) (cap taken : ℕ) (pending took rest : List ℕ) → taken + length took ≤ cap → (ended ≡ true → took ≡ []) → (saw_end ≡ true → rest ≡ []) →
     pending ++ (if ended then [] else take (cap - taken) (took ++ rest)) ≡ (pending ++ took) ++ (if ended || saw_end then [] else take (cap - (taken + length took)) rest)
-coming_by true saw_end cap taken pending took rest within none seen =
-    sym (append-nil (pending ++ took) ∙ ap (λ zs. pending ++ zs) (none refl))
+coming_by true saw_end cap taken pending took rest within none seen = grind (arith, nat_tests, append-nil)
 coming_by false true cap taken pending took rest within none seen = grind (arith, nat_tests, append-nil, take_all)
 coming_by false false cap taken pending took rest within none seen =
     let size : cap - taken ≡ length took + (cap - (taken + length took)) = omega (arith, within) in
-    ap (λ n. pending ++ take n (took ++ rest)) size
-    ∙ ap (λ zs. pending ++ zs) (take-append-add took rest (cap - (taken + length took)))
-    ∙ sym (append_assoc pending took (take (cap - (taken + length took)) rest))
+    grind (arith, nat_tests, take-append-add, length, append_assoc)
 
 pub coming_on : (v : Intake) (took rest : List ℕ) (saw_end : Bool) → v.taken + length took ≤ v.cap → (is_decided (fed v [] false) ≡ true → took ≡ []) → (saw_end ≡ true → rest ≡ []) →
     coming v (took ++ rest) ≡ coming (fed v took saw_end) rest
@@ -76,8 +73,7 @@ ended_stops v rest none over =
     let split = none_split (coming v rest) (ap begins_packet octets ∙ none) in
     record {
       none = splits_whole split;
-      stops = ap (λ (b : Bool). if has_bad_version (left_over (coming v rest)) || (b || nat_lt (length rest) (v.cap - v.taken)) then InPieces else TooLong) over
-          ∙ either (has_bad_version (left_over (coming v rest))) (nat_lt (length rest) (v.cap - v.taken));
+      stops = grind (arith, nat_tests, nat_lt, length, either);
     }
   where
     either : (a b : Bool) → (if a || (true || b) then InPieces else TooLong) ≡ InPieces

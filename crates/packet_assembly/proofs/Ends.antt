@@ -17,7 +17,7 @@ use Rattle.stream_defs.specs.Begun.{end_in, end_of}
 use Rattle.stream_defs.specs.Received.{index_in}
 use Rattle.stream_defs.proofs.ChosenLaws.{kept-append}
 use Rattle.stream_defs.proofs.FateLaws.{after_as_kept, after_as_other}
-use Rattle.stream_defs.proofs.KeptOrder.{is_kept_so, kept_tests, Begins, Follows, does, reached_on}
+use Rattle.stream_defs.proofs.KeptOrder.{is_kept_so, kept_tests, Follows, does, reached_on}
 use Rattle.packet_assembly.specs.declared.note.SegmentStart.{SegmentStart}
 use Rattle.packet_assembly.specs.Assembling.{Starts, BeginsNone, is_first, last_index}
 use Rattle.packet_assembly.proofs.KeptPackets.{stays}
@@ -34,12 +34,7 @@ end_from ended packets = fold (λ most packet. max most (end_in packet)) ended p
 -- a packet that begins no segment reaches nothing
 pub none_reaches : (apid : ℕ) (s : FateState) (packet : List ℕ) → is_first apid s packet ≡ false →
     ((after apid s packet).geometry ≡ s.geometry) × ((n : ℕ) → end_from n (kept apid s (packet ∷ [])) ≡ n)
-none_reaches apid s packet none = simp (kept-none, kept-cons) (by_kept (is_kept (fate apid s packet)) refl)
-  where
-    by_kept : (b : Bool) → is_kept (fate apid s packet) ≡ b →
-        ((after apid s packet).geometry ≡ s.geometry) × ((n : ℕ) → end_from n (if is_kept (fate apid s packet) then packet ∷ [] else []) ≡ n)
-    by_kept false e = (ap (λ (s : FateState). s.geometry) (after_as_other apid s packet e), λ n. rw e refl)
-    by_kept true e = grind (arith, nat_tests, false, is_kept_so, after_as_kept)
+none_reaches apid s packet none = grind (arith, nat_tests, kept-none, kept-cons, after_as_other, is_kept_so, after_as_kept)
 
 kept_more : (apid : ℕ) (s : FateState) (x : List ℕ) (xs : List (List ℕ)) (n : ℕ) →
     end_from n (kept apid s (x ∷ xs)) ≡ end_from (end_from n (kept apid s (x ∷ []))) (kept apid (after apid s x) xs)
@@ -60,11 +55,7 @@ none_begun apid s [] none = record { geometry = refl; last = refl; ended = λ n.
 none_begun apid s (x ∷ xs) none =
     let one = none_reaches apid s x none.0 in
     let rest = none_begun apid (after apid s x) xs none.1 in
-    record {
-      geometry = rest.geometry ∙ one.0;
-      last = rest.last ∙ stays apid s x none.0;
-      ended = λ n. kept_more apid s x xs n ∙ rest.ended (end_from n (kept apid s (x ∷ []))) ∙ one.1 n;
-    }
+    grind (arith, nat_tests, stays, kept_more)
 
 -- a later segment isn't the same one
 not_back : (last : Option LastPart) (i j : ℕ) → ((l : LastPart) → last ≡ Some l → l.index < i) → i ≤ j → Some j ≡ last_index last → ⊥
@@ -80,8 +71,7 @@ stays_none apid s (x ∷ xs) same = by (λ e. stays_none apid (after apid s x) x
     by rest true e =
         let b = begins_so apid s x e in
         let r = reached_on (index_in x) apid (after apid s x) xs record { last = part_in x; last_is = b.last; least = omega arith } in
-        let before : Some r.last.index ≡ last_index s.last = ap last_index (sym r.last_is) ∙ same in
-        absurd (not_back s.last (index_in x) r.last.index b.later r.least before)
+        grind (arith, nat_tests, not_back)
 
 -- ---- what any packets leave
 
@@ -131,11 +121,7 @@ first_reaches apid s x start n starts low = simp (kept-none, kept-cons) (grind (
 
 -- a head was read if a segment begins
 pub starts_with : (apid : ℕ) (s : FateState) (x : List ℕ) → is_first apid s x ≡ true → (start : SegmentStart) × Starts apid s x start
-starts_with apid s x first =
-    let k = first_keeps apid s x first in
-    let tests = kept_tests apid s x (is_kept_so (fate apid s x) k.0) in
-    let refused : head_refusal s.geometry (ancillary_in x) (head_read (text_in x)) ≡ None = rw k.1 at tests.head in
-    by (head_read (text_in x)) refl refused
+starts_with apid s x first = grind (arith, nat_tests, first_keeps, kept_tests, is_kept_so, by)
   where
     by : (r : Result SegmentHead HeadFault) → head_read (text_in x) ≡ r → head_refusal s.geometry (ancillary_in x) r ≡ None → (start : SegmentStart) × Starts apid s x start
     by (Ok head) is none = (record { ancillary = ancillary_in x; head = head }, record { first = first; head_is = is; ancillary_is = refl })
@@ -149,16 +135,7 @@ one_left apid s x n left = by (is_first apid s x) refl
         let some = starts_with apid s x e in
         let f = first_leaves apid s x n some.0 left some.1 in
         subst (IsLeft (after apid s x)) (sym (first_reaches apid s x some.0 n some.1 f.begun.through)) (first_left apid s x n some.0 left some.1)
-    by false e = subst (IsLeft (after apid s x)) (sym ((none_reaches apid s x e).1 n)) (elim (does apid s x) [
-      | inl lost ↦ subst (λ s. IsLeft s n) (sym lost.same) left
-      | inr here ↦ elim here [
-        | inl b ↦ absurd (let no : is_first apid s x ≡ true = is_first_so b in false≢true (sym e ∙ no))
-        | inr next ↦ next_left apid s x n left next
-      ]
-    ])
-      where
-        is_first_so : Begins apid s x → is_first apid s x ≡ true
-        is_first_so b = let kept = b.is_kept in let part = b.part in rw kept (grind (arith, nat_tests))
+    by false e = grind (arith, nat_tests, none_reaches, does, false≢true, next_left)
 
 pub more_left : (apid : ℕ) (s : FateState) (packets : List (List ℕ)) (n : ℕ) → IsLeft s n → IsLeft (after_all apid s packets) (end_from n (kept apid s packets))
 more_left apid s [] n left = subst (λ zs. IsLeft s (end_from n zs)) (sym (kept_nothing apid s)) left
@@ -186,5 +163,4 @@ told_one apid s x g is = by (is_kept (fate apid s x)) refl
         let differ = or_rest (not ((ancillary_in x).first == (ancillary_in x).index * (ancillary_in x).segment)) _ (or_rest _ _ (or_rest _ _ tests.own)) in
         let own = own_so g s.told_last (ancillary_in x) (ap (λ (o : Option Geometry). differs o s.told_last (ancillary_in x)) (sym is) ∙ differ) in
         let some = some_after s.geometry is ((ancillary_in x).part == 0) (head_read (text_in x)) in
-        let same = after_as_kept apid s x kept in
-        (some.0, ap (λ (s : FateState). s.geometry) same ∙ some.1, ap (λ (s : FateState). s.told_last) same ∙ own.told)
+        grind (arith, nat_tests, after_as_kept)

@@ -1,10 +1,9 @@
 -- The fate of a packet of the image is the classification of its fields.
-use Rattle.std.proofs.Common.{◌≡◌, ℕ, List, [], ◌∷◌, length, drop, refl, sym, ap, subst, ◌∙◌, arith, Bool, true, false, if◌then◌else◌, ◌==◌, Option, Some, None, Result, Ok, Err, unwrap_or, option_map}
+use Rattle.std.proofs.Common.{◌≡◌, ℕ, List, [], ◌∷◌, length, drop, refl, ap, ◌∙◌, arith, Bool, false, if◌then◌else◌, Option, Some, None, Result, Ok, Err, unwrap_or, option_map}
 use Rattle.std.proofs.lemmas.Bool.Decides.{nat_tests}
 use Rattle.base_122.specs.declared.geometry.Geometry.{Geometry}
 use Rattle.segment_defs.specs.declared.head.SegmentHead.{SegmentHead}
 use Rattle.segment_defs.specs.declared.fault.HeadFault.{HeadFault}
-use Rattle.segment_defs.specs.Reading.{head_read}
 use Rattle.packet_defs.specs.declared.ancillary.Ancillary.{Ancillary}
 use Rattle.packet_defs.specs.declared.packet.Skip.{Skip}
 use Rattle.packet_defs.specs.Tests.{when, first_of}
@@ -12,10 +11,11 @@ use Rattle.packet_defs.specs.Reading.{skip_of, flags_in, ancillary_in, text_in}
 use Rattle.stream_defs.specs.declared.fate.Fate.{Fate}
 use Rattle.stream_defs.specs.declared.fate.Fate.TheVariants.{Kept, Skipped, Foreign, Late, OutOfPlace, BadHead}
 use Rattle.stream_defs.specs.declared.fate.FateState.{FateState}
-use Rattle.stream_defs.specs.Fates.{fate, after, after_kept, is_kept, geometry_with, geometry_after, is_foreign, is_late, is_out_of_place}
+use Rattle.stream_defs.specs.Fates.{fate, after, is_kept, geometry_with, is_foreign, is_late, is_out_of_place}
 use Rattle.packet_assembly.specs.declared.note.PacketNote.{PacketNote}
 use Rattle.packet_assembly.specs.Classification.{unkept, refusal_told, ok_of, head_told, classified_by, classified, geometry_left, past_kept}
 use Rattle.packet_assembly.specs.Notes.{note_of, head_octets, start_of, text_brought, start_brought}
+use Rattle.stream_defs.proofs.FateLaws.{after_as_kept, after_as_other}
 
 pub fate_mine : (apid : ℕ) (s : FateState) (packet : List ℕ) → skip_of apid packet ≡ None →
     fate apid s packet ≡ unwrap_or (unkept s (flags_in packet) (ancillary_in packet) (text_in packet)) Kept
@@ -41,15 +41,10 @@ pub record Unkept (why : Fate) : Type 0 where
   pub note : (number : ℕ) (packet : List ℕ) → note_of number why packet ≡ note_mine number why packet
 
 refusals : (b c d : Bool) (o : Option HeadFault) (why : Fate) → first_of (when b Foreign ∷ when c Late ∷ when d OutOfPlace ∷ option_map BadHead o ∷ []) ≡ Some why → Unkept why
-refusals true c d o why e = let same : Foreign ≡ why = cc in subst Unkept same (record { unkept = refl; note = λ number packet. refl })
-refusals false true d o why e = let same : Late ≡ why = cc in subst Unkept same (record { unkept = refl; note = λ number packet. refl })
-refusals false false true o why e = let same : OutOfPlace ≡ why = cc in subst Unkept same (record { unkept = refl; note = λ number packet. refl })
-refusals false false false (Some fault) why e = let same : BadHead fault ≡ why = cc in subst Unkept same (record { unkept = refl; note = λ number packet. refl })
-refusals false false false None why e = absurd cc
+refusals b c d o why e = grind (arith, nat_tests)
 
 pub classified_ok : (o : Option Fate) (head found : Option SegmentHead) → classified_by o head ≡ Ok found → (o ≡ None) × (head ≡ found)
-classified_ok None head found e = (refl, cc)
-classified_ok (Some why) head found e = absurd cc
+classified_ok o head found e = grind (arith, nat_tests)
 
 classified_not : (o : Option Fate) (head : Option SegmentHead) (why : Fate) → classified_by o head ≡ Err why → o ≡ Some why
 classified_not o head why e = grind (arith, nat_tests)
@@ -69,21 +64,12 @@ pub record KeptSo (apid : ℕ) (s : FateState) (packet : List ℕ) (found : Opti
 
 pub kept_so : (apid : ℕ) (s : FateState) (packet : List ℕ) (found : Option SegmentHead) → skip_of apid packet ≡ None →
     classified s (flags_in packet) (ancillary_in packet) (text_in packet) ≡ Ok found → KeptSo apid s packet found
-unfolding after text_brought start_brought
+unfolding text_brought start_brought
 kept_so apid s packet found mine e =
     let a = ancillary_in packet in
     let text = text_in packet in
     let x = classified_ok (unkept s (flags_in packet) a text) (head_told a text) found e in
-    let is : fate apid s packet ≡ Kept = fate_mine apid s packet mine ∙ ap (λ o. unwrap_or o Kept) x.0 in
-    let geometry : geometry_after s.geometry packet ≡ geometry_left s.geometry a found =
-    sym (geometry_by s.geometry a (a.part == 0) (head_read text)) ∙ ap (geometry_left s.geometry a) x.1 in
-    record {
-      fate_is = is;
-      after_is = ap (λ f. if is_kept f then after_kept s packet else s) is ∙ (λ i. record (after_kept s packet) { geometry = geometry i });
-      text_is = ap (λ f. if is_kept f then drop (head_octets (head_told a text)) text else []) is ∙ ap (λ h. drop (head_octets h) text) x.1;
-      start_is = ap (λ f. if is_kept f then start_of a (head_told a text) else None) is ∙ ap (start_of a) x.1;
-      found_is = sym x.1;
-    }
+    grind (arith, nat_tests, fate_mine, geometry_by, after_as_kept)
 
 -- ---- one that isn't, for this reason
 
@@ -94,10 +80,8 @@ pub record UnkeptSo (apid : ℕ) (s : FateState) (packet : List ℕ) (why : Fate
   pub start_is : start_brought apid s packet ≡ None
 
 pub unkept_so : (apid : ℕ) (s : FateState) (packet : List ℕ) (why : Fate) → fate apid s packet ≡ why → is_kept why ≡ false → UnkeptSo apid s packet why
-unfolding after text_brought start_brought
-unkept_so apid s packet why is none =
-    let not : is_kept (fate apid s packet) ≡ false = ap is_kept is ∙ none in
-    record { fate_is = is; after_is = rw not refl; text_is = rw not refl; start_is = rw not refl }
+unfolding text_brought start_brought
+unkept_so apid s packet why is none = grind (arith, nat_tests, after_as_other)
 
 pub classified_unkept : (apid : ℕ) (s : FateState) (packet : List ℕ) (why : Fate) → skip_of apid packet ≡ None →
     classified s (flags_in packet) (ancillary_in packet) (text_in packet) ≡ Err why → Unkept why × UnkeptSo apid s packet why

@@ -1,5 +1,6 @@
 -- The reason why a stream can't be read on, once it was found, remains true.
-use Rattle.std.proofs.Common.{◌≡◌, ℕ, refl, ap, ◌∙◌, Option, Some, None, Ok, Err}
+use Rattle.std.proofs.lemmas.Bool.Decides.{nat_tests}
+use Rattle.std.proofs.Common.{arith, ◌≡◌, ℕ, refl, Option, Some, None, Ok, Err}
 use Rattle.bit_pipe.specs.declared.fault.InFault.{InFault}
 use Rattle.port_122.specs.Outside.{Outside}
 use Rattle.packet_defs.specs.declared.ancillary.Ancillary.{Ancillary}
@@ -7,7 +8,7 @@ use Rattle.packet_defs.specs.declared.packet.PacketHead.{PacketHead}
 use Rattle.packet_defs.specs.declared.packet.Skip.{Skip}
 use Rattle.packet_defs.specs.declared.packet.Framing.{Framing}
 use Rattle.packet_defs.specs.declared.packet.PacketRead.TheVariants.{Mine, Skipped, Fault}
-use Rattle.space_packets.specs.Intake.{Intake, verdict, fed}
+use Rattle.space_packets.specs.Intake.{Intake, fed}
 use Rattle.space_packets.specs.PacketReads.{ReadsPacket}
 use Rattle.packet_assembly.specs.Held.{StandsAtFault}
 use Rattle.packet_assembly.proofs.Again.{over_answers}
@@ -39,5 +40,4 @@ pub told_fault : (apid : ℕ) (p q : Outside) (v w : Intake) (fault : Framing) �
 told_fault apid p q v w fault reads f e =
     let u = fed v reads.took reads.saw_end in
     let same = same_intake apid v w reads.took reads.saw_end (over_read apid u (Fault fault) refl reads.ends.0).0 reads.ends.1 in
-    let is : fault ≡ f = cc in
-    ap (verdict apid) same ∙ reads.ends.0 ∙ ap (λ f. Some (Ok (Fault f))) is
+    grind (arith, nat_tests)

@@ -22,8 +22,7 @@ unfolding presence_tests
 parts_whole octets e = grind (arith, nat_tests)
 
 answered : (o : Option HeadFault) (h head : SegmentHead) → answer o h ≡ Ok head → (o ≡ None) × (h ≡ head)
-answered None h head e = (refl, cc)
-answered (Some fault) h head e = absurd cc
+answered o h head e = grind (arith, nat_tests)
 
 lengths : (b : Bool) → (if b then 20 else 19) ≡ (if b then 4 else 3) + 16
 lengths b = grind (arith, nat_tests)

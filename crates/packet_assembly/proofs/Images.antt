@@ -1,8 +1,8 @@
 -- The laws of an image's geometry and of what the kept heads reach, whether its height is known or reported last.
-use Rattle.std.proofs.Common.{◌≡◌, ◌⊎◌, inl, inr, ◌≤◌, ◌<◌, ◌+◌, ◌-◌, ◌*◌, ℕ, List, [], ◌∷◌, ◌++◌, refl, sym, ap, subst, ◌∙◌, arith, ◌≢◌, Bool, true, false, ◌==◌, min, if◌then◌else◌, Option, None, Some, is_some, ℤ, max}
+use Rattle.std.proofs.Common.{◌≡◌, ◌⊎◌, ◌≤◌, ◌<◌, ◌+◌, ◌-◌, ℕ, List, [], ◌∷◌, ◌++◌, refl, ap, ◌∙◌, arith, ◌≢◌, Bool, true, false, min, Option, None, Some, is_some, ℤ, max}
 use Rattle.std.proofs.lemmas.Grind.{fold-append}
 use Rattle.std.proofs.lemmas.Bool.Decides.{nat_tests}
-use Rattle.base_122.specs.Sizes.{first_block, segment_blocks}
+use Rattle.base_122.specs.Sizes.{first_block}
 use Rattle.base_122.specs.Ranges.{IsGeometryInRange, IsWithin, rows_range}
 use Rattle.base_122.specs.declared.geometry.Geometry.{Geometry}
 use Rattle.segment_defs.specs.Head.{IsHead}
@@ -25,13 +25,7 @@ use Rattle.stream_defs.proofs.Equations.{end_of-is}
 
 -- the state after packets, at a geometry and a last place
 pub leaves_at : (s : FateState) (n : ℕ) (g : Geometry) (l : LastPart) → IsLeft s n → s.geometry ≡ Some g → s.last ≡ Some l → Leaves g s.told_last l.index n
-leaves_at s n g l left geometry last = elim left.by [
-  | inl none ↦ absurd (let no : None ≡ Some g = sym none.geometry ∙ geometry in cc)
-  | inr begun ↦
-      let same : begun.g ≡ g = let e : Some begun.g ≡ Some g = sym begun.geometry ∙ geometry in cc in
-      let place : begun.l ≡ l = let e : Some begun.l ≡ Some l = sym begun.last ∙ last in cc in
-      subst (λ (l : LastPart). Leaves g s.told_last l.index n) place (subst (λ (g : Geometry). Leaves g s.told_last begun.l.index n) same begun.leaves)
-]
+leaves_at s n g l left geometry last = grind (arith, nat_tests)
 
 -- at the index of the last place
 record IsAt (o : Option LastPart) (index : ℕ) : Type 0 where
@@ -40,15 +34,11 @@ record IsAt (o : Option LastPart) (index : ℕ) : Type 0 where
   same : l.index ≡ index
 
 at_index : (o : Option LastPart) (index : ℕ) → last_index o ≡ Some index → IsAt o index
-at_index None index e = absurd cc
-at_index (Some l) index e = record { l = l; is = refl; same = cc }
+at_index o index e = grind (arith, nat_tests)
 
 module _ (apid : ℕ) (packets : List (List ℕ)) (g : Geometry) (geometry : (after_all apid fresh packets).geometry ≡ Some g) where
   there : HasBegun (after_all apid fresh packets) (end_of (kept apid fresh packets))
-  there = elim (all_left apid packets).by [
-    | inl none ↦ absurd (let no : None ≡ Some g = sym none.geometry ∙ geometry in cc)
-    | inr begun ↦ begun
-  ]
+  there = grind (arith, nat_tests, all_left)
 
   leaves_there : Leaves g (after_all apid fresh packets).told_last there.l.index (end_of (kept apid fresh packets))
   leaves_there = leaves_at (after_all apid fresh packets) (end_of (kept apid fresh packets)) g there.l (all_left apid packets) geometry there.last
@@ -68,10 +58,7 @@ module _ (apid : ℕ) (packets : List (List ℕ)) (g : Geometry) (geometry : (af
 module _ (apid : ℕ) (packets : List (List ℕ)) (g : Geometry) (index : ℕ) (geometry : (after_all apid fresh packets).geometry ≡ Some g)
     (last : last_index (after_all apid fresh packets).last ≡ Some index) where
   leaves : Leaves g (after_all apid fresh packets).told_last index (end_of (kept apid fresh packets))
-  leaves =
-      let place = at_index (after_all apid fresh packets).last index last in
-      subst (λ i. Leaves g (after_all apid fresh packets).told_last i (end_of (kept apid fresh packets))) place.same
-      (leaves_at (after_all apid fresh packets) (end_of (kept apid fresh packets)) g place.l (all_left apid packets) geometry place.is)
+  leaves = grind (arith, nat_tests, at_index, leaves_at, all_left)
 
   -- and no further than the last segment
   pub end_within : end_of (kept apid fresh packets) ≤ first_block g.segment (index + 1)
@@ -82,16 +69,7 @@ module _ (apid : ℕ) (packets : List (List ℕ)) (g : Geometry) (index : ℕ) (
   untold_room untold = let room = leaves.room untold in omega (arith, room, blocks_open g untold)
 
   blocks_there : blocks_in g index ≡ blocks_in (placed g) index
-  blocks_there = elim leaves.height [
-    | inl untold ↦
-        let room = untold_room untold in
-        let whole : segment_blocks (blocks_of (placed g)) g.segment index ≡ g.segment = omega (arith, room) in
-        let here : blocks_in g index ≡ g.segment = rw (is_open g.rows untold) refl in
-        let there : blocks_in (placed g) index ≡ segment_blocks (blocks_of (placed g)) g.segment index =
-        ap (λ n. if n == 0 then g.segment else segment_blocks (blocks_of (placed g)) g.segment index) (placed_open g untold) in
-        here ∙ sym whole ∙ sym there
-    | inr known ↦ sym (ap (λ n. blocks_in (record g { rows = n }) index) (placed_known g (within_not g.rows known)))
-  ]
+  blocks_there = grind (arith, nat_tests, leaves, untold_room, is_open, placed_open, placed_known, within_not)
 
 -- so blocks are passed as in the image that they are placed in
 pub through_open : (apid : ℕ) (packets : List (List ℕ)) (g : Geometry) (received : ℕ → Option (List (List ℤ))) (index : ℕ) → (after_all apid fresh packets).geometry ≡ Some g →
@@ -198,8 +176,7 @@ pub record Begun (apid : ℕ) (s : FateState) (packet : List ℕ) (start : Segme
   pub whole : (l : LastPart) → s.last ≡ Some l → image.rows ≢ 0 → min image.segment (blocks_of image - first_block image.segment l.index) ≡ image.segment
 
 known_height : (g : Geometry) → (g.rows ≡ 0) ⊎ IsWithin rows_range g.rows → g.rows ≢ 0 → IsWithin rows_range g.rows
-known_height g (inl none) some = absurd (some none)
-known_height g (inr within) some = within
+known_height g given some = grind (arith, nat_tests)
 
 pub begun_by : (apid : ℕ) (before : List (List ℕ)) (packet : List ℕ) (start : SegmentStart) → Starts apid (after_all apid fresh before) packet start →
     Begun apid (after_all apid fresh before) packet start
@@ -228,9 +205,5 @@ begun_by apid before packet start starts =
       same = b.same;
       height = known_height g b.height;
       past = b.after_last;
-      whole = λ l last some.
-          let far = b.after_last l last in
-          let lt = told some in
-          let next : (l.index + 1) * g.segment ≡ l.index * g.segment + g.segment = grind arith in
-          omega (arith, far, next, lt);
+      whole = grind (arith, nat_tests);
     }

@@ -1,23 +1,22 @@
 -- Packets that are kept, and those that begin a segment.
-use Rattle.std.proofs.Common.{◌≡◌, ℕ, List, [], ◌∷◌, ◌++◌, drop, refl, ap, arith, Bool, true, false, ◌==◌, if◌then◌else◌, Option, Some, None, Result, Ok, Err}
+use Rattle.std.proofs.Common.{◌≡◌, ℕ, List, [], ◌∷◌, ◌++◌, arith, Bool, true, false, ◌==◌, if◌then◌else◌, Option, Some, None, Result, Ok}
 use Rattle.std.proofs.lemmas.Bool.Decides.{nat_tests}
 use Rattle.base_122.specs.declared.geometry.Geometry.{Geometry}
 use Rattle.segment_defs.specs.declared.head.SegmentHead.{SegmentHead}
 use Rattle.segment_defs.specs.declared.fault.HeadFault.{HeadFault}
-use Rattle.segment_defs.specs.Reading.{head_read}
 use Rattle.packet_defs.specs.declared.ancillary.Ancillary.{Ancillary}
-use Rattle.packet_defs.specs.Reading.{ancillary_in, text_in}
+use Rattle.packet_defs.specs.Reading.{ancillary_in}
 use Rattle.stream_defs.specs.declared.fate.Fate.TheVariants.{Kept}
 use Rattle.stream_defs.specs.declared.fate.FateState.{FateState}
 use Rattle.stream_defs.specs.declared.fate.LastPart.{LastPart}
 use Rattle.stream_defs.specs.Agreement.{head_refusal}
-use Rattle.stream_defs.specs.Fates.{fate, after, after_all, is_kept, follows}
+use Rattle.stream_defs.specs.Fates.{fate, after, after_all, follows}
 use Rattle.stream_defs.proofs.FateLaws.{after_as_kept, after_as_other}
 use Rattle.stream_defs.proofs.KeptOrder.{is_kept_so, kept_tests, or_second}
 use Rattle.packet_assembly.specs.declared.note.SegmentStart.{SegmentStart}
 use Rattle.packet_assembly.specs.Assembling.{is_first, last_index, text_after, Starts, BeginsNone}
-use Rattle.packet_assembly.specs.Classification.{ok_of, head_told}
-use Rattle.packet_assembly.specs.Notes.{head_octets, start_of, text_brought, start_brought}
+use Rattle.packet_assembly.specs.Classification.{ok_of}
+use Rattle.packet_assembly.specs.Notes.{start_of, text_brought, start_brought}
 
 -- ---- the first part
 
@@ -32,9 +31,7 @@ none_first apid s packet none = grind (arith, nat_tests, kept_tests, is_kept_so,
 
 found_by : (a : Ancillary) (start : SegmentStart) (b : Bool) (r : Result SegmentHead HeadFault) → start_of a (if b then ok_of r else None) ≡ Some start →
     (b ≡ true) × (r ≡ Ok start.head) × (start.ancillary ≡ a) × ((if b then ok_of r else None) ≡ Some start.head)
-found_by a start true (Ok head) e = grind (arith, nat_tests)
-found_by a start true (Err fault) e = absurd cc
-found_by a start false r e = absurd cc
+found_by a start b r e = grind (arith, nat_tests)
 
 pub record StartsSo (apid : ℕ) (s : FateState) (packet : List ℕ) (start : SegmentStart) : Type 0 where
   pub starts : Starts apid s packet start
@@ -44,19 +41,7 @@ pub record StartsSo (apid : ℕ) (s : FateState) (packet : List ℕ) (start : Se
 
 pub some_first : (apid : ℕ) (s : FateState) (packet : List ℕ) (start : SegmentStart) → start_brought apid s packet ≡ Some start → StartsSo apid s packet start
 unfolding start_brought text_brought
-some_first apid s packet start some = by_kept (is_kept (fate apid s packet)) refl
-  where
-    by_kept : (b : Bool) → is_kept (fate apid s packet) ≡ b → StartsSo apid s packet start
-    by_kept false e = absurd (let no : None ≡ Some start = rw e at some in cc)
-    by_kept true e =
-        let here : start_of (ancillary_in packet) (head_told (ancillary_in packet) (text_in packet)) ≡ Some start = rw e at some in
-        let x = found_by (ancillary_in packet) start ((ancillary_in packet).part == 0) (head_read (text_in packet)) here in
-        record {
-          starts = record { first = rw e x.0; head_is = x.1; ancillary_is = x.2 };
-          kept = is_kept_so (fate apid s packet) e;
-          part = x.0;
-          text = rw e (ap (λ h. drop (head_octets h) (text_in packet)) x.3);
-        }
+some_first apid s packet start some = grind (arith, nat_tests, found_by, is_kept_so)
 
 -- ---- greater parts
 

@@ -1,4 +1,5 @@
 -- No call reads while an octet of a text, its end or its break is in the reader.
+use Rattle.std.proofs.lemmas.Bool.Decides.{nat_tests}
 use Rattle.std.proofs.Common.{◌≡◌, ℕ, List, [], ◌∷◌, ◌++◌, take, refl, sym, ap, subst, ◌∙◌, arith, append_assoc, false, None}
 use Rattle.std.specs.List.{AllByRecursion}
 use Rattle.std.proofs.lemmas.List.{append-nil, take-append-le}
@@ -51,8 +52,7 @@ none_ready_then : {old mid new : Outside} {a b : Assembling} → (q : Quiet old 
     Exchange old new (q.took ++ more) [] [] (AsksNoneReady a (q.took ++ more))
 none_ready_then {old = old} {mid = mid} {a = a} {b = b} q more none_ready asks =
     let took = q.took ++ more in
-    let first : Exchange old mid q.took [] [] (AsksNoneReady a took) =
-    since_weaker q.asks (λ i j le r. (subst (λ zs. NoneReady a (whole_packets (a.intake.pending ++ zs))) (sym (take-append-le i q.took more le)) r.0, r.1)) in
+    let first : Exchange old mid q.took [] [] (AsksNoneReady a took) = grind (arith, nat_tests, since_weaker, take-append-le) in
     let here = λ (i : ℕ) (none : whole_packets (b.intake.pending ++ take i more) ≡ []).
     ap (λ zs. whole_packets (a.intake.pending ++ zs)) (take-append-add q.took more i)
     ∙ ap whole_packets (sym (append_assoc a.intake.pending q.took (take i more)) ∙ ap (λ zs. zs ++ take i more) q.octets_are ∙ append_assoc (joined q.passed) b.intake.pending (take i more))
@@ -68,17 +68,7 @@ quiet_then q empty going more asks = record { took = q.took ++ more; asks = none
 -- a packet that leaves the text unchanged
 quiet_packet : {old mid : Outside} {a b : Assembling} → (q : Quiet old mid a b) → NoneReady a q.passed → (packet : List ℕ) → text_brought b.apid b.state packet ≡ [] →
     is_first b.apid b.state packet ≡ false → is_closed (after b.apid b.state packet).last ≡ false → NoneReady a (q.passed ++ packet ∷ [])
-quiet_packet {a = a} {b = b} q u packet text first closed =
-    let s = after_all a.apid a.state q.passed in
-    record {
-      unheld = u.unheld;
-      empty = u.empty;
-      unclosed = u.unclosed;
-      none = brings_more a.apid a.state q.passed packet u.none
-          (subst (λ n. text_brought n s packet ≡ []) q.apid (subst (λ s. text_brought b.apid s packet ≡ []) q.state text))
-          (subst (λ n. is_first n s packet ≡ false) q.apid (subst (λ s. is_first b.apid s packet ≡ false) q.state first))
-          (subst (λ n. is_closed (after n s packet).last ≡ false) q.apid (subst (λ s. is_closed (after b.apid s packet).last ≡ false) q.state closed));
-    }
+quiet_packet {a = a} {b = b} q u packet text first closed = grind (arith, nat_tests, brings_more)
 
 -- a packet more that begins no segment
 pub quiet_more : {P : FateState → Type 0} {old mid new : Outside} {a b c : Assembling} {told : Passed} → (q : Quiet old mid a b) → b.text ≡ [] → is_closed b.state.last ≡ false → (one : OneOn P mid new b c told) →

@@ -1,8 +1,9 @@
 -- The effect of one read on a stretch: one packet more, or none.
+use Rattle.std.proofs.lemmas.Bool.Decides.{nat_tests}
 use Rattle.std.proofs.Common.{◌≡◌, ◌<◌, ◌+◌, ◌-◌, ℕ, List, [], ◌∷◌, ◌++◌, length, take, refl, sym, ap, subst, ◌∙◌, arith, add-zero, length-append, Bool, true, false, Option, Some, None, Result, Ok, Err, append-nil, take-append-drop}
 use Rattle.bit_pipe.specs.declared.fault.InFault.{InFault}
 use Rattle.bit_pipe.specs.declared.fault.InFault.TheVariants.{ReadFault, LongInput, Broken}
-use Rattle.port_122.specs.Outside.{Outside, Exchange, AtEnd, IsUsedUp, Rose}
+use Rattle.port_122.specs.Outside.{Outside, Exchange, AtEnd, Rose}
 use Rattle.port_122.proofs.Stretches.{since_weaker}
 use Rattle.packet_defs.specs.declared.packet.PacketRead.{PacketRead}
 use Rattle.packet_defs.specs.declared.packet.PacketRead.TheVariants.{Mine, Skipped, Ended, Fault}
@@ -48,20 +49,7 @@ asks_none a took i j r = (none_whole (a.intake.pending ++ take i took) (undecide
 
 -- packets that were passed are so whatever text the assembly has after them, and whatever segment it holds
 pub passes_as : {P : FateState → Type 0} {old new : Outside} {a b : Assembling} {passed : List (List ℕ)} (text : List ℕ) (held : Option SegmentStart) → Passes P old new a b passed → Passes P old new a (record b { text = text; held = held }) passed
-passes_as text held p = record {
-  took = p.took;
-  since = p.since;
-  octets_are = p.octets_are;
-  packets_are = p.packets_are;
-  apid = p.apid;
-  cap = p.cap;
-  taken = p.taken;
-  state = p.state;
-  count = p.count;
-  capped = p.capped;
-  comes = p.comes;
-  sees = p.sees;
-}
+passes_as text held p = grind (arith, nat_tests)
 
 -- ---- one packet more
 
@@ -80,11 +68,7 @@ pub record OneOn (P : FateState → Type 0) (old new : Outside) (a b : Assemblin
 
 -- if the end was reached, nothing is left
 pub nothing_left : (now : Outside) {saw_end : Bool} {left : List ℕ} → now.rest ≡ Some left → (saw_end ≡ true → AtEnd now) → saw_end ≡ true → left ≡ []
-nothing_left now {left = left} told seen e = used_up now.rest told (seen e)
-  where
-    used_up : (o : Option (List ℕ)) → o ≡ Some left → IsUsedUp o → left ≡ []
-    used_up None is over = absurd cc
-    used_up (Some xs) is over = let same : xs ≡ left = cc in sym same ∙ over
+nothing_left now {left = left} told seen e = grind (arith, nat_tests)
 
 packet_on : {P : FateState → Type 0} {old new : Outside} {a b : Assembling} {told : Passed} {read : Result PacketRead InFault} → (reads : ReadsPacket a.apid old new a.intake b.intake read) → P a.state →
     begins_packet (fed a.intake reads.took reads.saw_end).pending ≡ true → b.intake ≡ answered a.apid (fed a.intake reads.took reads.saw_end) →
@@ -235,8 +219,7 @@ fail_by {a = a} {b = b} LongInput reads here stands =
       none = nothing_on a.framing reads here same stands;
       fails = ap (λ w. verdict b.apid w) same ∙ ap (λ n. verdict n u) (ap (λ (b : Assembling). b.apid) stands) ∙ reads.ends.0;
     }
-fail_by {a = a} Broken reads here stands =
-    absurd (let is : Broken ≡ LongInput = (long_read a.apid (fed a.intake reads.took reads.saw_end) Broken reads.ends.0).is in cc)
+fail_by {a = a} Broken reads here stands = grind (arith, nat_tests, long_read)
 
 fail_read : {P : FateState → Type 0} {old new : Outside} {a b : Assembling} {fault : InFault} (read : Result PacketRead InFault) → (reads : ReadsPacket a.apid old new a.intake b.intake read) → P a.state →
     Err fault ≡ passed_for a (fed a.intake reads.took reads.saw_end).pending read → b ≡ stands_after a (fed a.intake reads.took reads.saw_end).pending read b.intake → FailOn P old new a b fault

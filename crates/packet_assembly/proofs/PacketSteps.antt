@@ -1,5 +1,5 @@
 -- What a reader without an assembly has read after a step.
-use Rattle.std.proofs.Common.{◌≡◌, ◌<◌, ◌+◌, ◌-◌, ℕ, List, [], ◌∷◌, ◌++◌, length, take, refl, sym, ap, subst, ◌∙◌, arith, append_assoc, append-nil, length-append, take-append-drop, Bool, true, false, ◌||◌, Option, None, Some, Ok, Err}
+use Rattle.std.proofs.Common.{◌≡◌, ◌<◌, ◌+◌, ◌-◌, ℕ, List, [], ◌∷◌, ◌++◌, length, take, refl, sym, ap, subst, ◌∙◌, arith, append_assoc, append-nil, length-append, take-append-drop, true, false, Option, None, Some, Ok, Err}
 use Rattle.std.proofs.lemmas.Bool.{false≢true}
 use Rattle.std.proofs.lemmas.Bool.Decides.{nat_tests}
 use Rattle.std.proofs.Math.Seq.{take-append-add}
@@ -17,7 +17,7 @@ use Rattle.space_packets.specs.Intake.{Intake, unread, is_decided, end_read, ver
 use Rattle.space_packets.specs.PacketReads.{TakenSoFar, ReadsPacket}
 use Rattle.space_packets.proofs.Intakes.{answered_packet}
 use Rattle.space_packets.proofs.StreamReads.{undecided_none}
-use Rattle.packet_assembly.specs.Passing.{whole_after, before_loses}
+use Rattle.packet_assembly.specs.Passing.{whole_after}
 use Rattle.packet_assembly.specs.Readings.{HasRead, SawEnd}
 use Rattle.packet_assembly.specs.PacketSteps.{framing_in, reading}
 use Rattle.packet_assembly.proofs.Comings.{decided_ended}
@@ -39,32 +39,15 @@ module _ {mine cap : ℕ} {v u : Intake} {took : List ℕ} {passed : List (List 
   pub whole_so_far : (i : ℕ) → is_decided (fed v (take i x.took) false) ≡ false → whole_packets (take (length took + i) (took ++ x.took)) ≡ passed
   whole_so_far i undecided =
       let none : whole_packets (v.pending ++ take i x.took) ≡ [] = none_whole (v.pending ++ take i x.took) (undecided_none (fed v (take i x.took) false) undecided) in
-      let octets : take (length took + i) (took ++ x.took) ≡ joined passed ++ (v.pending ++ take i x.took) =
-      take-append-add took x.took i ∙ ap (λ zs. zs ++ take i x.took) read.octets_are ∙ append_assoc (joined passed) v.pending (take i x.took) in
+      let octets : take (length took + i) (took ++ x.took) ≡ joined passed ++ (v.pending ++ take i x.took) = grind (arith, nat_tests, length, take-append-add, append_assoc) in
       ap whole_packets octets ∙ whole_after passed (v.pending ++ take i x.took) read.packets_are ∙ ap (λ xs. passed ++ xs) none ∙ append-nil passed
 
   pub read_more : HasRead mine cap (reading mine (fed v x.took x.saw_end) passed None) (took ++ x.took) passed
-  read_more = record {
-    apid = refl;
-    taken = omega (arith, read.taken, length-append took x.took);
-    cap = read.cap;
-    capped = x.within;
-    octets_are = ap (λ zs. zs ++ x.took) read.octets_are ∙ append_assoc (joined passed) v.pending x.took;
-    packets_are = read.packets_are;
-    state = refl;
-    count = refl;
-  }
+  read_more = grind (arith, nat_tests, length-append, append_assoc)
 
   -- if the end was reached, nothing is left
   pub end_more : SawEnd now (reading mine v passed None) → SawEnd new (reading mine (fed v x.took x.saw_end) passed None)
-  end_more before rest told ended = by v.ended refl ended
-    where
-      by : (b : Bool) → v.ended ≡ b → (b || x.saw_end) ≡ true → (rest ≡ []) × (v.taken + length x.took < v.cap)
-      by true e over =
-          let none : x.took ≡ [] = x.at_once (decided_ended v e) in
-          let early = before (x.took ++ rest) (before_loses now.rest new.rest x.took rest x.since.rest told) e in
-          (ap (λ zs. zs ++ rest) (sym none) ∙ early.0, omega (arith, early.1, ap length none))
-      by false e over = (nothing_left new told x.end_seen over, x.end_below over)
+  end_more before rest told ended = grind (arith, nat_tests, length, decided_ended, nothing_left)
 
 -- the octets of a step whose read call failed, as those of one that goes on
 pub taken_by : {apid : ℕ} {now new : Outside} {v w : Intake} (x : ReadsPacket apid now new v w (Err in_faults.ReadFault)) → TakenSoFar now new v (fed v x.took x.saw_end)

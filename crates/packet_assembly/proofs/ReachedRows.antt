@@ -1,8 +1,8 @@
 -- Of a geometry only the height changes, and the rows that the kept heads reach don't fall.
-use Rattle.std.proofs.Common.{◌≡◌, ◌⊎◌, inl, inr, ◌≤◌, ◌<◌, ℕ, List, [], ◌∷◌, ◌++◌, refl, sym, ap, subst, ◌∙◌, arith, ◌≢◌, Bool, true, false, ◌==◌, Some}
+use Rattle.std.proofs.Common.{◌≡◌, ◌⊎◌, ◌≤◌, ◌<◌, ℕ, List, [], ◌∷◌, ◌++◌, refl, ap, ◌∙◌, arith, ◌≢◌, Bool, true, false, Some}
 use Rattle.std.proofs.lemmas.Bool.{false≢true, eqb-true}
 use Rattle.std.proofs.lemmas.Bool.Decides.{nat_tests}
-use Rattle.base_122.specs.Sizes.{block_count, total_blocks}
+use Rattle.base_122.specs.Sizes.{block_count}
 use Rattle.base_122.specs.Ranges.{IsWithin, rows_range}
 use Rattle.base_122.specs.declared.geometry.Geometry.{Geometry}
 use Rattle.stream_defs.specs.declared.fate.FateState.{FateState}
@@ -43,22 +43,7 @@ geometry_more apid before packets g = more_on apid (after_all apid fresh before)
 
 reached_by : (g h : Geometry) (m n : ℕ) → h ≡ record g { rows = h.rows } → 0 < block_count g.width → m ≤ n → n ≤ blocks_of (placed h) → (h.rows ≡ 0) ⊎ IsWithin rows_range h.rows →
     (g.rows ≢ 0 → h ≡ g) → rows_reached g m ≤ rows_reached h n
-reached_by g h m n sized some le few height stays = by (g.rows == 0) refl
-  where
-    reported : g.rows ≡ 0 → (h.rows ≡ 0) ⊎ IsWithin rows_range h.rows → rows_reached g m ≤ rows_reached h n
-    reported untold (inl still) =
-        let same : h ≡ g = sized ∙ ap (λ k. record g { rows = k }) (still ∙ sym untold) in
-        subst (λ (k : Geometry). rows_reached g m ≤ rows_reached k n) (sym same) (reached_rises g m n some le)
-    reported untold (inr within) =
-        let known = within_not h.rows within in
-        let width : h.width ≡ g.width = ap (λ (k : Geometry). k.width) sized in
-        let all : blocks_of (placed h) ≡ total_blocks g.width h.rows = blocks_known h known ∙ ap (λ w. total_blocks w h.rows) width in
-        let low = reached_few g h.rows m untold some within (omega (arith, le, few, all)) in
-        omega (arith, low, reached_known h n known)
-
-    by : (b : Bool) → (g.rows == 0) ≡ b → rows_reached g m ≤ rows_reached h n
-    by true e = reported (eqb-true g.rows 0 e) height
-    by false e = grind (arith, nat_tests, false≢true, is_open, reached_rises)
+reached_by g h m n sized some le few height stays = grind (arith, nat_tests, reached_rises, within_not, blocks_known, reached_few, reached_known, eqb-true, false≢true, is_open)
 
 -- the rows that the kept heads reach don't fall
 pub reached_more : (apid : ℕ) (before packets : List (List ℕ)) (g h : Geometry) → (after_all apid fresh before).geometry ≡ Some g → (after_all apid fresh (before ++ packets)).geometry ≡ Some h →

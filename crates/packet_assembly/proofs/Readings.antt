@@ -1,9 +1,9 @@
 -- How a stream is read on, and to its end.
-use Rattle.std.proofs.Common.{◌≡◌, ◌≤◌, ◌<◌, ◌-◌, ℕ, List, [], ◌∷◌, ◌++◌, length, take, refl, sym, ap, ◌∙◌, inl, inr, arith, append_assoc, length-append, Bool, true, false, nat_lt, ◌==◌, Option, None, Some, Result, Ok, Err, ltb-true, append-nil, take_all}
+use Rattle.std.proofs.Common.{◌≡◌, ◌≤◌, ◌<◌, ◌-◌, ℕ, List, [], ◌∷◌, ◌++◌, length, take, refl, sym, ap, ◌∙◌, arith, append_assoc, length-append, Bool, true, false, nat_lt, ◌==◌, Option, Some, Result, Ok, Err, ltb-true, append-nil, take_all}
 use Rattle.std.proofs.lemmas.Bool.Decides.{nat_tests}
 use Rattle.bit_pipe.specs.declared.fault.InFault.{InFault}
 use Rattle.bit_pipe.specs.declared.fault.InFault.TheVariants as in_faults
-use Rattle.port_122.specs.Outside.{Outside, Exchange, IsUsedUp}
+use Rattle.port_122.specs.Outside.{Outside, Exchange}
 use Rattle.port_122.proofs.Stretches.{each_of_both, at_end_later}
 use Rattle.packet_defs.specs.Packets.{joined}
 use Rattle.packet_defs.specs.Tests.{when, first_of}
@@ -11,11 +11,10 @@ use Rattle.packet_defs.specs.declared.packet.Framing.{Framing}
 use Rattle.packet_defs.specs.declared.packet.Framing.TheVariants.{BadVersion}
 use Rattle.packet_defs.specs.declared.packet.PacketRead.{PacketRead}
 use Rattle.packet_defs.specs.declared.packet.PacketRead.TheVariants.{Fault}
-use Rattle.packet_defs.specs.Streams.{IsPacket, Splits, has_bad_version, begins_packet, whole_packets, left_over, place_after, framing_at, framing}
+use Rattle.packet_defs.specs.Streams.{Splits, has_bad_version, begins_packet, whole_packets, left_over, place_after, framing_at, framing}
 use Rattle.packet_defs.proofs.Joins.{joined-append}
 use Rattle.packet_defs.proofs.Splits.{splits_whole, splits_left}
 use Rattle.stream_defs.specs.declared.fate.FateState.{FateState}
-use Rattle.stream_defs.specs.Fates.{fresh, after_all}
 use Rattle.stream_defs.proofs.ChosenLaws.{after_all-append}
 use Rattle.space_packets.specs.Intake.{end_read, place_of}
 use Rattle.space_packets.proofs.Equations.{verdict-is}
@@ -34,17 +33,7 @@ none_read apid cap = record { apid = refl; taken = refl; cap = refl; capped = om
 
 pub read_on : {P : FateState → Type 0} {old new : Outside} {a b : Assembling} {took : List ℕ} {passed went : List (List ℕ)} (apid cap : ℕ) → HasRead apid cap a took passed → (q : Passes P old new a b went) →
     HasRead apid cap b (took ++ q.took) (passed ++ went)
-read_on {a = a} {b = b} {took = took} {passed = passed} {went = went} apid cap read q = record {
-  apid = q.apid ∙ read.apid;
-  taken = omega (arith, q.taken, read.taken, length-append took q.took);
-  cap = q.cap ∙ read.cap;
-  capped = q.capped read.capped;
-  octets_are = ap (λ zs. zs ++ q.took) read.octets_are ∙ append_assoc (joined passed) a.intake.pending q.took ∙ ap (λ zs. joined passed ++ zs) q.octets_are
-      ∙ sym (append_assoc (joined passed) (joined went) b.intake.pending) ∙ ap (λ zs. zs ++ b.intake.pending) (sym (joined-append passed went));
-  packets_are = each_of_both IsPacket passed went read.packets_are q.packets_are;
-  state = q.state ∙ ap (λ n. after_all n a.state went) read.apid ∙ ap (λ s. after_all apid s went) read.state ∙ sym (after_all-append apid fresh passed went);
-  count = omega (arith, q.count, read.count, length-append passed went);
-}
+read_on {a = a} {b = b} {took = took} {passed = passed} {went = went} apid cap read q = grind (arith, nat_tests, length-append, append_assoc, joined-append, each_of_both, after_all-append)
 
 -- at most the octets that the cap allows were taken
 pub read_within : {apid cap : ℕ} {a : Assembling} {took : List ℕ} {passed : List (List ℕ)} → HasRead apid cap a took passed → length took ≤ cap
@@ -66,10 +55,7 @@ pub end_on : {P : FateState → Type 0} {old new : Outside} {a b : Assembling} {
 end_on {old = old} {new = new} {a = a} {b = b} {went = went} q before rest told ended = by a.intake.ended refl
   where
     by : (c : Bool) → a.intake.ended ≡ c → (rest ≡ []) × (b.intake.taken < b.intake.cap)
-    by true e =
-        let early = before (q.took ++ rest) (before_loses old.rest new.rest q.took rest q.since.rest told) e in
-        let none = all_nothing q.took rest early.0 in
-        (none.0, omega (arith, none.1, early.1, q.taken, q.cap))
+    by true e = grind (arith, nat_tests, all_nothing)
     by false e =
         let n : ℕ = a.intake.cap - a.intake.taken in
         let sees : nat_lt (length (q.took ++ rest)) n ≡ true = rw (e, ended) at (q.sees rest told) in
@@ -77,18 +63,14 @@ end_on {old = old} {new = new} {a = a} {b = b} {went = went} q before rest told 
         let comes : a.intake.pending ++ take n (q.took ++ rest) ≡ joined went ++ (b.intake.pending ++ []) = rw (e, ended) at (q.comes rest told) in
         let all : take n (q.took ++ rest) ≡ q.took ++ rest = take_all n (q.took ++ rest) (omega (arith, fewer)) in
         let long = ap length comes in
-        let short = ap length q.octets_are in (
-          nothing_more q.took rest (omega (arith, long, short, ap length all, length-append a.intake.pending (take n (q.took ++ rest)), length-append a.intake.pending q.took, length-append (joined went) (b.intake.pending ++ []), length-append (joined went) b.intake.pending, ap length (append-nil b.intake.pending))),
-          omega (arith, fewer, length-append q.took rest, q.taken, q.cap),
-        )
+        grind (arith, nat_tests, length, nothing_more, length-append, append-nil)
 
 -- what was valid before octets were written is valid after it
 pub end_later : {Q : ℕ → ℕ → Type 0} {now new : Outside} {g : List ℕ} (a : Assembling) → Exchange now new [] g [] Q → SawEnd now a → SawEnd new a
 end_later {now = now} {new = new} a out before rest told = before rest (before_loses now.rest new.rest [] rest out.rest told)
 
 pub out_later : {Q : ℕ → ℕ → Type 0} {g : List ℕ} (cap : ℕ) (now new : Outside) (took : List ℕ) → Exchange now new [] g [] Q → IsReadOut cap now took → IsReadOut cap new took
-out_later cap now new took since (inl bad) = inl bad
-out_later cap now new took since (inr over) = inr (at_end_later since over.0, λ rest told. over.1 rest (before_loses now.rest new.rest [] rest since.rest told))
+out_later cap now new took since given = grind (arith, nat_tests, at_end_later)
 
 -- ---- the packets of the octets that were taken
 
@@ -133,14 +115,7 @@ module _ {apid cap : ℕ} {b : Assembling} {took : List ℕ} {passed : List (Lis
 
   -- the end was read, or what can't be read on
   pub ended_out : (now : Outside) → StandsEnded b → SawEnd now b → IsReadOut cap now took
-  ended_out now ended at_end = elim (over_read b.apid b.intake (end_read b.framing) (end_is_over b.framing) ended).1 [
-    | inl bad ↦ inl (ap has_bad_version (splits_left (splits_so (ended_none ended))) ∙ bad)
-    | inr seen ↦ inr (used_up now.rest (λ rest told. (at_end rest told seen).0), λ rest told. let fewer = (at_end rest told seen).1 in omega (arith, fewer, read.taken, read.cap))
-  ]
-    where
-      used_up : (o : Option (List ℕ)) → ((rest : List ℕ) → o ≡ Some rest → rest ≡ []) → IsUsedUp o
-      used_up None none = tt
-      used_up (Some rest) none = none rest refl
+  ended_out now ended at_end = grind (arith, nat_tests, over_read, end_is_over, splits_left, splits_so, ended_none)
 
   -- the same if all octets that the cap allows were taken; then more can be read
   pub long_packets : StandsLong b → whole_packets took ≡ passed

@@ -1,5 +1,6 @@
 -- The search for the next segment, packet by packet.
-use Rattle.std.proofs.Common.{◌≡◌, inr, [], ◌∷◌, ◌++◌, refl, sym, ap, subst, ◌∙◌, Some, None, Ok, Err, false, append-nil}
+use Rattle.std.proofs.lemmas.Bool.Decides.{nat_tests}
+use Rattle.std.proofs.Common.{arith, ◌≡◌, inr, [], ◌∷◌, ◌++◌, refl, sym, ap, subst, ◌∙◌, Some, None, Ok, Err, false, append-nil}
 use Rattle.bit_pipe.specs.declared.fault.InFault.{InFault}
 use Rattle.bit_pipe.specs.declared.fault.InFault.TheVariants.{ReadFault, LongInput, Broken}
 use Rattle.port_122.specs.Outside.{Outside}
@@ -31,8 +32,7 @@ found_more : {old mid new : Outside} {a b c : Assembling} {told : Passed} → Fo
 found_more {a = a} {b = b} {c = c} {told = told} x next none =
     let one = one_on {P = StaysAt b} next refl in
     let first : is_first b.apid b.state one.packet ≡ false = none_first b.apid b.state one.packet (sym (ap (λ (t : Passed). t.start) one.told_is) ∙ none) in
-    let there : is_first a.apid (after_all a.apid a.state x.passed) one.packet ≡ false =
-    ap (λ n. is_first n (after_all a.apid a.state x.passed) one.packet) (sym x.passes.apid) ∙ ap (λ s. is_first b.apid s one.packet) (sym x.passes.state) ∙ first in
+    let there : is_first a.apid (after_all a.apid a.state x.passed) one.packet ≡ false = grind (arith, nat_tests) in
     let same : StaysAt b c.state = ap (λ s. last_index s.last) one.state ∙ stays b.apid b.state one.packet first in
     record {
       none_held = x.none_held;
@@ -56,8 +56,7 @@ sought_one {a = a} {b = b} {c = c} {told = told} {start = start} y next some =
     let x = y.found in
     let one = one_on {P = StaysAt b} next refl in
     let found = some_first b.apid b.state one.packet start (sym (ap (λ (t : Passed). t.start) one.told_is) ∙ some) in
-    let starts : Starts a.apid (after_all a.apid a.state x.passed) one.packet start =
-    subst (λ n. Starts n (after_all a.apid a.state x.passed) one.packet start) x.passes.apid (subst (λ s. Starts b.apid s one.packet start) x.passes.state found.starts) in
+    let starts : Starts a.apid (after_all a.apid a.state x.passed) one.packet start = grind (arith, nat_tests) in
     record {
       ends = inr (record {
         none_held = x.none_held;

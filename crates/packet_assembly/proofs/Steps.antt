@@ -109,8 +109,7 @@ mine_passes {old = old} {new = new} {a = a} {v = v} {b = b} {w = w} {head = head
     let long : (head_in packet).length - 24 ≡ length (text_in packet) = long_text a.apid u m.whole in
     let after : b ≡ past a packet w = stands ∙ ap (λ v. after_mine v head tells) into ∙ ap (λ h. after_mine (read_into a w) h tells) m.head_is
     ∙ ap (after_mine (read_into a w) (head_in packet)) m.ancillary_is ∙ after_mine_is a w packet m.mine text in
-    let note : told ≡ passed a packet = is ∙ ap (λ v. told_mine v head tells) into ∙ ap (λ h. told_mine (read_into a w) h tells) m.head_is
-    ∙ ap (told_mine (read_into a w) (head_in packet)) m.ancillary_is ∙ told_mine_is a w packet m.mine text long in
+    let note : told ≡ passed a packet = grind (arith, nat_tests, told_mine_is) in
     let there : PassesNext old new a (past a packet w) (Ok (Some (passed a packet))) = record { read = Ok (Mine head tells); reads = reads; answer = refl; stands = refl } in
     subst (λ b. PassesNext old new a b (Ok (Some told))) (sym after) (subst (λ t. PassesNext old new a (past a packet w) (Ok (Some t))) (sym note) there)
 

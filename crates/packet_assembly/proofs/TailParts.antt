@@ -64,22 +64,12 @@ in_pieces e = cc
 
 brings_last : (x : List ℕ) (first : ℕ) → number_of_part x ≡ first → closes (flags_in x) ≡ true → Brings first (x ∷ []) (in_front (text_in x) (nothing Plainly))
 unfolding text_of_parts
-brings_last x first number closed = record {
-  numbers = ap (λ n. n ∷ []) number;
-  octets = refl;
-  closed = λ e. closed_alone x closed;
-  plain = λ c. refl;
-}
+brings_last x first number closed = grind (arith, nat_tests, closed_alone)
 
 brings_more : (x : List ℕ) (first : ℕ) (parts : List (List ℕ)) (later : Tail) → number_of_part x ≡ first → closes (flags_in x) ≡ false →
     Brings (first + 1) parts later → Brings first (x ∷ parts) (in_front (text_in x) later)
 unfolding text_of_parts
-brings_more x first parts later number unclosed b = record {
-  numbers = ap (λ n. n ∷ map number_of_part parts) number ∙ ap (λ ns. first ∷ ns) b.numbers;
-  octets = ap (λ t. text_in x ++ t) b.octets;
-  closed = λ e. closed_more x (b.closed e);
-  plain = λ c. b.plain (closed_less x parts unclosed c);
-}
+brings_more x first parts later number unclosed b = grind (arith, nat_tests, map, closed_more, closed_less)
 
 -- the tail at a packet
 pub over_lost : (apid : ℕ) (s : FateState) (x : List ℕ) (xs : List (List ℕ)) (stop : End) → is_kept (fate apid s x) ≡ false →
@@ -144,8 +134,7 @@ brings index apid stop other (x ∷ xs) part s at = elim (does apid s x) [
         Brings (part + 1) (x ∷ packets_at index (kept apid (after apid s x) xs))
         (if c then in_front (text_in x) (nothing Plainly) else in_front (text_in x) (tail_over apid (after apid s x) xs stop))
     by_flags index_is part_is last true e on =
-        let none : packets_at index (kept apid (after apid s x) xs) ≡ [] =
-        shut index apid (after apid s x) xs record { last = part_in x; last_is = last; past = inr (sym index_is, e) } in
+        let none : packets_at index (kept apid (after apid s x) xs) ≡ [] = grind (arith, nat_tests, shut) in
         subst (λ parts. Brings (part + 1) (x ∷ parts) (in_front (text_in x) (nothing Plainly))) (sym none) (brings_last x (part + 1) part_is e)
     by_flags index_is part_is last false e on =
         brings_more x (part + 1) (packets_at index (kept apid (after apid s x) xs)) (tail_over apid (after apid s x) xs stop) part_is e
@@ -202,12 +191,7 @@ module _ (apid : ℕ) (before : List (List ℕ)) (packet : List ℕ) (later : Li
             record { last = part_in packet; last_is = begins_it.last; index_is = refl; part_is = begins_it.part; unclosed = e }))
 
     tells : TellsParts apid before packet later stop (packet ∷ more)
-    tells = record {
-      first = refl;
-      text = whole.octets;
-      complete = λ e. let c = whole.closed e in record { front = c.front; closing = c.closing; parts_are = c.parts_are; numbers = whole.numbers; closed = c.closed };
-      plain = λ c. whole.plain record { front = c.front; closing = c.closing; parts_are = c.parts_are; closed = c.closed };
-    }
+    tells = grind (arith, nat_tests, whole, parts_are)
 
 pub tells_parts : (apid : ℕ) (before : List (List ℕ)) (packet : List ℕ) (later : List (List ℕ)) (stop : End) → (stop ≡ Plainly → ⊥) →
     is_first apid (after_all apid fresh before) packet ≡ true →
@@ -240,8 +224,6 @@ begins_none_at apid s (x ∷ before) packet later none = begins_none_at apid (af
 pub none_passed : (apid index : ℕ) (s : FateState) (packets : List (List ℕ)) → BeginsNone apid s packets → (last_index s.last ≡ Some index → ⊥) →
     packets_at index (kept apid s packets) ≡ []
 none_passed apid index s packets none other = elim (begun_or_none index apid s packets (λ l is same. other (ap last_index is ∙ ap Some same))) [
-  | inl b ↦ absurd (false≢true (
-      sym (begins_none_at apid s b.before b.packet b.later (subst (BeginsNone apid s) b.are none))
-      ∙ first_is apid (after_all apid s b.before) b.packet b.is_kept b.part))
+  | inl b ↦ grind (arith, nat_tests, false≢true, begins_none_at, first_is)
   | inr empty ↦ empty
 ]

@@ -4,10 +4,10 @@ use Rattle.std.proofs.lemmas.Bool.Decides.{nat_tests}
 use Rattle.bit_pipe.specs.Sources.{End, Plainly, TooLong, InPieces, Tail, Comes, IsOver}
 use Rattle.port_122.specs.Outside.{Outside, Loses}
 use Rattle.packet_defs.specs.Packets.{joined}
-use Rattle.packet_defs.specs.Reading.{ancillary_in, flags_in, text_in}
+use Rattle.packet_defs.specs.Reading.{ancillary_in, text_in}
 use Rattle.packet_defs.specs.Streams.{whole_packets, left_over}
 use Rattle.stream_defs.specs.declared.fate.FateState.{FateState}
-use Rattle.stream_defs.specs.Fates.{fate, after, is_kept, closes}
+use Rattle.stream_defs.specs.Fates.{fate, after, is_kept}
 use Rattle.stream_defs.proofs.FateLaws.{after_as_kept, after_as_other}
 use Rattle.stream_defs.proofs.KeptOrder.{is_kept_so}
 use Rattle.space_packets.specs.Intake.{Intake}
@@ -86,30 +86,18 @@ module _ {P : FateState → Type 0} {old new : Outside} {a b : Assembling} {told
   pub tail_broken : (start : SegmentStart) → told.start ≡ Some start → text_tail a before ≡ nothing InPieces
   tail_broken start some =
       let x = some_first a.apid a.state one.packet start (sym (ap (λ (t : Passed). t.start) one.told_is) ∙ some) in
-      tail_is ∙ ap (λ f. if is_kept f then kept_tail one.packet later else later) x.kept
-      ∙ ap (λ (b : Bool). if b then nothing InPieces else (if closes (flags_in one.packet) then in_front (text_in one.packet) (nothing Plainly) else in_front (text_in one.packet) later)) x.part
+      grind (arith, nat_tests, tail_is)
 
   -- none was begun
   pub tail_goes_on : told.start ≡ None → text_tail a before ≡ text_tail b rest
   tail_goes_on none = by_kept (is_kept (fate a.apid a.state one.packet)) refl
     where
       by_kept : (k : Bool) → is_kept (fate a.apid a.state one.packet) ≡ k → text_tail a before ≡ text_tail b rest
-      by_kept false e =
-          let same : b.state ≡ a.state = one.state ∙ after_as_other a.apid a.state one.packet e in
-          tail_is ∙ ap (λ (k : Bool). if k then kept_tail one.packet later else later) e
-          ∙ sym (open_tail b rest (one.held ∙ unheld) (one.text ∙ no_text a.apid a.state one.packet e) (ap (λ s. is_closed s.last) same ∙ going))
+      by_kept false e = grind (arith, nat_tests, after_as_other, tail_is, open_tail, no_text)
       by_kept true e =
           let kept = is_kept_so (fate a.apid a.state one.packet) e in
           let first : is_first a.apid a.state one.packet ≡ false = none_first a.apid a.state one.packet (sym (ap (λ (t : Passed). t.start) one.told_is) ∙ none) in
-          let part : ((ancillary_in one.packet).part == 0) ≡ false = rw e at first in
-          let text : b.text ≡ text_in one.packet = one.text ∙ text_greater a.apid a.state one.packet e part in
-          let closed : is_closed b.state.last ≡ closes (flags_in one.packet) = ap (λ s. is_closed s.last) (one.state ∙ after_as_kept a.apid a.state one.packet kept) in
-          tail_is ∙ ap (λ (k : Bool). if k then kept_tail one.packet later else later) e
-          ∙ ap (λ (b : Bool). if b then nothing InPieces else (if closes (flags_in one.packet) then in_front (text_in one.packet) (nothing Plainly) else in_front (text_in one.packet) later)) part
-          ∙ into (closes (flags_in one.packet)) (text_in one.packet) later
-          ∙ ap (λ (c : Bool). in_front (text_in one.packet) (if c then nothing Plainly else later)) (sym closed)
-          ∙ ap (λ t. in_front t (tail_after b rest)) (sym text)
-          ∙ sym (unheld_tail b rest (one.held ∙ unheld))
+          grind (arith, nat_tests, text_greater, after_as_kept, tail_is, into, unheld_tail)
 
       into : (c : Bool) (text : List ℕ) → (if c then in_front text (nothing Plainly) else in_front text later) ≡ in_front text (if c then nothing Plainly else later)
       into true text = refl
@@ -146,16 +134,7 @@ comes_none old new a b took loses same = by_rest old.rest new.rest loses same
         (ap (λ (t : Tail). t.octets) e, ap (λ (t : Tail). t.ends) e)
 
 pub over_told : (now : Outside) (b : Assembling) (ends : End) → ((rest : List ℕ) → now.rest ≡ Some rest → text_tail b rest ≡ nothing ends) → IsOver (told_tail now b) ends
-over_told now b ends is = by_rest now.rest is
-  where
-    by_rest : (o : Option (List ℕ)) → ((rest : List ℕ) → o ≡ Some rest → text_tail b rest ≡ nothing ends) → IsOver (option_map (text_tail b) o) ends
-    by_rest None f = tt
-    by_rest (Some rest) f = let e = f rest refl in (ap (λ (t : Tail). t.octets) e, ap (λ (t : Tail). t.ends) e)
+over_told now b ends is = grind (arith, nat_tests)
 
 pub comes_then : (x y z : Option Tail) (xs ys : List ℕ) → Comes x y xs → Comes y z ys → Comes x z (xs ++ ys)
-comes_then None None None xs ys p q = tt
-comes_then None None (Some z) xs ys p q = absurd q
-comes_then None (Some y) z xs ys p q = absurd p
-comes_then (Some x) None z xs ys p q = absurd p
-comes_then (Some x) (Some y) None xs ys p q = absurd q
-comes_then (Some x) (Some y) (Some z) xs ys p q = (p.0 ∙ ap (λ zs. xs ++ zs) q.0 ∙ sym (append_assoc xs ys z.octets), p.1 ∙ q.1)
+comes_then x y z xs ys p q = grind (arith, nat_tests, append_assoc)

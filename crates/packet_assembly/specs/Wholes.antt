@@ -1,5 +1,5 @@
 -- What a segment's text reports of its kept packets: if it ends plainly, none is missing. This project's own.
-use Rattle.std.specs.Prelude.{◌≡◌, ℕ, true, List, [], ◌∷◌, ◌++◌, slice_index_or}
+use Rattle.std.specs.Prelude.{◌≡◌, ℕ, true, List, [], ◌∷◌, ◌++◌, slice_index_or, Some}
 use Rattle.bit_pipe.specs.Sources.{End, Plainly, Tail}
 use Rattle.packet_defs.specs.Reading.{text_in}
 use Rattle.stream_defs.specs.declared.fate.FateState.{FateState}
@@ -7,7 +7,6 @@ use Rattle.stream_defs.specs.Fates.{fresh, after, after_all, kept}
 use Rattle.stream_defs.specs.Received.{index_in, packets_at, IsComplete, text_of_parts}
 use Rattle.packet_assembly.specs.Assembling.{is_first, BeginsNone, last_index}
 use Rattle.packet_assembly.specs.Tails.{tail_from}
-use Rattle.std.specs.Prelude.{Some}
 
 -- the kept packets of the segment of this index, in a whole stream
 abbrev pub parts_in : (apid : ℕ) → List (List ℕ) → (index : ℕ) → List (List ℕ)

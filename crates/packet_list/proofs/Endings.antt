@@ -16,8 +16,7 @@ use Rattle.packet_assembly.specs.declared.note.Passed.{Passed}
 use Rattle.packet_assembly.specs.Assembling.{Assembling}
 use Rattle.packet_assembly.specs.Notes.{note_in, PassesNext, ReadsNote}
 use Rattle.packet_assembly.specs.Passing.{whole_after}
-use Rattle.packet_assembly.proofs.OneStep.{NoneOn, EndOn}
-use Rattle.packet_assembly.proofs.OneStep.{end_on as step_end_on}
+use Rattle.packet_assembly.proofs.OneStep.{NoneOn, EndOn, end_on as step_end_on}
 use Rattle.space_packets.proofs.Verdicts.{long_read}
 use Rattle.packet_assembly.specs.Readings.{HasRead}
 use Rattle.packet_assembly.proofs.Readings.{read_on, read_within, end_on, whole_so, ended_none, ended_packets, ended_framing, ended_out, long_packets, long_good, long_full}
@@ -144,8 +143,7 @@ write_failed {wish = wish} {a = a} {before = before} new come x =
     let all = lines-front wish.apid come.passed (whole_packets a.intake.pending) in
     let some = length gave + x.some in
     let few : some ≤ length lines = omega (arith, x.within, ap length come.lines_are, length-append gave before) in
-    let front : take some (listing wish.apid come.took) ≡ gave ++ take x.some before =
-    ap (λ xs. take some (lines_of wish.apid xs)) whole ∙ ap (take some) all.1 ∙ take-append-le some lines all.0 few ∙ ap (take some) (sym come.lines_are) ∙ take-append-add gave before x.some in
+    let front : take some (listing wish.apid come.took) ≡ gave ++ take x.some before = grind (arith, nat_tests, take-append-le, take-append-add) in
     record {
       took = come.took;
       gave = gave ++ take x.some before;

@@ -51,17 +51,7 @@ module _ (apid : ℕ) (packets : List (List ℕ)) (packet : List ℕ) where
   -- so its line follows theirs
   pub lines-more : lines_of apid (packets ++ packet ∷ []) ≡ lines_of apid packets ++ line_of (note_of (length packets) (fate apid (after_all apid fresh packets) packet) packet)
   unfolding lines_of
-  lines-more =
-      let n = length packets in
-      let here : 0 + n ≡ n = omega arith in
-      let f : ℕ → List ℕ = λ number. line_of (note_at apid (packets ++ packet ∷ []) number) in
-      let g : ℕ → List ℕ = λ number. line_of (note_at apid packets number) in
-      ap (λ k. flat_map f (range_with_len 0 k)) (length-append packets (packet ∷ []))
-      ∙ ap (flat_map f) (range_with_len-more 0 n)
-      ∙ flat_map-append f (range_with_len 0 n) ((0 + n) ∷ [])
-      ∙ ap (λ zs. zs ++ flat_map f ((0 + n) ∷ [])) (same_parts f g 0 n (λ i lt. ap line_of (note_before i (omega (arith, lt)))))
-      ∙ ap (λ k. flat_map g (range_with_len 0 n) ++ flat_map f (k ∷ [])) here
-      ∙ ap (λ zs. flat_map g (range_with_len 0 n) ++ zs) (append-nil (f n) ∙ ap line_of note_last)
+  lines-more = grind (arith, nat_tests, length, length-append, range_with_len-more, flat_map-append, same_parts, note_before, append-nil, note_last)
 
 -- the lines of packets are a prefix of those of these and later ones
 pub lines-front : (apid : ℕ) (packets later : List (List ℕ)) → (rest : List ℕ) × (lines_of apid (packets ++ later) ≡ lines_of apid packets ++ rest)

@@ -10,7 +10,7 @@ use Rattle.bit_pipe.specs.declared.fault.InFault.TheVariants.{ReadFault, LongInp
 use Rattle.port_122.specs.Outside.{Outside, Exchange, NoRead}
 use Rattle.port_122.proofs.Stretches.{since_start, since_then, since_out, since_weaker}
 use Rattle.packet_defs.specs.Packets.{joined}
-use Rattle.packet_defs.specs.Streams.{begins_packet, whole_packets, left_over}
+use Rattle.packet_defs.specs.Streams.{begins_packet, whole_packets}
 use Rattle.packet_defs.proofs.Fronts.{begins_so, so_begins, begins-append}
 use Rattle.packet_defs.proofs.Splits.{whole_splits}
 use Rattle.stream_defs.specs.declared.fate.FateState.{FateState}
@@ -69,16 +69,14 @@ begins_more octets more there = so_begins (octets ++ more) (begins-append more (
 some_whole : (octets more : List ℕ) → begins_packet octets ≡ true → whole_packets (octets ++ more) ≡ [] → ⊥
 some_whole octets more there none =
     let s = whole_splits (octets ++ more) in
-    let same : octets ++ more ≡ left_over (octets ++ more) = s.octets_are ∙ ap (λ ps. joined ps ++ left_over (octets ++ more)) none in
-    false≢true (sym s.none_left ∙ ap begins_packet (sym same) ∙ begins_more octets more there)
+    grind (arith, nat_tests, false≢true, begins_more)
 
 module _ {wish : DecodeWish} {start now new : Outside} {a b : Assembling} {packets : ℕ} {waiting : List ℕ} {went : List (List ℕ)} (come : HasListed wish start now a packets waiting)
     (due : (waiting ≡ []) ⊎ (begins_packet a.intake.pending ≡ true)) (q : Passes Anywhere now new a b went) (asks : Exchange now new q.took [] [] (AsksNone a q.took)) where
   -- at a read call of the step no packet more is whole
   same_whole : (i : ℕ) → whole_packets (a.intake.pending ++ take i q.took) ≡ [] → whole_packets (take (length come.took + i) (come.took ++ q.took)) ≡ come.passed
   same_whole i none =
-      let octets : take (length come.took + i) (come.took ++ q.took) ≡ joined come.passed ++ (a.intake.pending ++ take i q.took) =
-      take-append-add come.took q.took i ∙ ap (λ zs. zs ++ take i q.took) come.read.octets_are ∙ append_assoc (joined come.passed) a.intake.pending (take i q.took) in
+      let octets : take (length come.took + i) (come.took ++ q.took) ≡ joined come.passed ++ (a.intake.pending ++ take i q.took) = grind (arith, nat_tests, length, take-append-add, append_assoc) in
       ap whole_packets octets ∙ whole_after come.passed (a.intake.pending ++ take i q.took) come.read.packets_are ∙ ap (λ xs. come.passed ++ xs) none ∙ append-nil come.passed
 
   -- and no line waits
@@ -86,11 +84,7 @@ module _ {wish : DecodeWish} {start now new : Outside} {a b : Assembling} {packe
   all_given i none = grind (arith, nat_tests, append-nil, some_whole)
 
   asks_now : (i j : ℕ) → AsksNone a q.took i j → AsksListed wish.apid (come.took ++ q.took) come.gave (length come.took + i) (length come.gave + j)
-  asks_now i j r =
-      let here : length come.gave + j ≡ length come.gave = omega (arith, r.1) in (
-        omega (arith, here),
-        ap (λ n. take n come.gave) here ∙ take_all (length come.gave) come.gave (omega arith) ∙ all_given i r.0 ∙ ap (lines_of wish.apid) (sym (same_whole i r.0)),
-      )
+  asks_now i j r = grind (arith, nat_tests, length, take_all, all_given, same_whole)
 
   pub read_since : Exchange start new (come.took ++ q.took) come.gave [] (AsksListed wish.apid (come.took ++ q.took) come.gave)
   read_since =
@@ -122,12 +116,7 @@ pub record NoteOn (old new : Outside) (a b : Assembling) (note : PacketNote) : T
   pub one : OneOn Anywhere old new a b told
 
 pub note_on : {old new : Outside} {a b : Assembling} {note : PacketNote} → ReadsNote old new a b (Ok (Some note)) → NoteOn old new a b note
-note_on {old = old} {new = new} {a = a} {b = b} {note = note} x = by x.step x.passes x.answer
-  where
-    by : (step : Result (Option Passed) InFault) → PassesNext old new a b step → Ok (Some note) ≡ note_in step → NoteOn old new a b note
-    by (Ok None) passes is = absurd cc
-    by (Ok (Some told)) passes is = record { told = told; note_is = cc; one = one_on {P = Anywhere} passes tt }
-    by (Err fault) passes is = absurd cc
+note_on {old = old} {new = new} {a = a} {b = b} {note = note} x = grind (arith, nat_tests, one_on)
 
 -- why none was read
 pub record FailNote (old new : Outside) (a b : Assembling) (fault : InFault) : Type 0 where

@@ -8,19 +8,18 @@ use Rattle.wave_defs.specs.Pyramid.{Pyramid}
 use Rattle.stream_defs.specs.Picture.{pyramid_with}
 use Rattle.stream_defs.proofs.BandPlaces.{coefficient_with}
 use Rattle.quick_look.specs.Look.{low_with}
+use Rattle.wave_defs.proofs.Equations.{place_of-is, coefficient-is}
 
 -- number 0 of a block is in the lowest band
 first_band : (place_of 0).band ≡ 9
-unfolding place_of
-first_band = refl
+first_band = rw place_of-is refl
 
 -- and is the coefficient there
 pub first_is : (p : Pyramid) (r s : ℕ) → coefficient p r s 0 ≡ p.ll3 r s
-unfolding coefficient place_of
 first_is p r s =
     let row : 1 * r + 0 ≡ r = omega arith in
     let column : 1 * s + 0 ≡ s = omega arith in
-    ap (λ k. p.ll3 k (1 * s + 0)) row ∙ ap (p.ll3 r) column
+    rw (coefficient-is, place_of-is) (ap (λ k. p.ll3 k (1 * s + 0)) row ∙ ap (p.ll3 r) column)
 
 pub low_is : (g : Geometry) (numbers : ℕ → ℕ → ℤ) (r s : ℕ) → low_with g numbers r s ≡ (pyramid_with numbers (block_count g.width) g.weights.shifts).ll3 r s
 unfolding low_with

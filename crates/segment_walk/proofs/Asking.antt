@@ -1,5 +1,5 @@
 -- What is given at each read call.
-use Rattle.std.proofs.Common.{◌≡◌, ◌≤◌, ◌<◌, ◌+◌, ◌*◌, ◌/◌, ℕ, ℤ, List, [], ◌∷◌, ◌++◌, length, take, drop, refl, sym, ap, subst, ◌∙◌, inl, inr, arith, append_assoc, length-append, ◌%◌, if◌then◌else◌, true, false, Option, None, Some, is_some, slice_index_or, MatchOption, option_map}
+use Rattle.std.proofs.Common.{◌≡◌, ◌≤◌, ◌<◌, ◌+◌, ◌/◌, ℕ, ℤ, List, [], ◌∷◌, ◌++◌, length, take, drop, refl, sym, ap, subst, ◌∙◌, inl, arith, append_assoc, length-append, ◌%◌, if◌then◌else◌, false, Option, None, Some, is_some, slice_index_or, MatchOption, option_map}
 use Rattle.std.proofs.lemmas.Bool.{false≢true}
 use Rattle.std.proofs.lemmas.List.{append-nil, take-append-le, take-append-drop}
 use Rattle.std.proofs.lemmas.Nat.{div_below}
@@ -19,7 +19,7 @@ use Rattle.stream_defs.specs.Agreement.{blocks_of}
 use Rattle.stream_defs.specs.Fates.{fresh, after_all, kept, kept_in, state_after}
 use Rattle.stream_defs.specs.Received.{IsReceived, ReceivedIn}
 use Rattle.stream_defs.specs.Settled.{blocks_in, blocks_through}
-use Rattle.stream_defs.specs.Begun.{HasFewPixels, end_of, placed, rows_reached}
+use Rattle.stream_defs.specs.Begun.{HasFewPixels, end_of, placed}
 use Rattle.stream_defs.proofs.ChosenLaws.{after_all-append}
 use Rattle.stream_defs.proofs.PlacedLaws.{is_open, is_not_open, blocks_known, reached_known}
 use Rattle.packet_assembly.specs.Comings.{coming}
@@ -67,9 +67,7 @@ pub future_part : {P : FateState → Type 0} {old new : Outside} {a b : Assembli
 future_part {a = a} {b = b} {went = went} q rest octets more told parts =
     let stuff = drop (length b.intake.pending) (coming b.intake rest) in
     let later : coming b.intake rest ≡ b.intake.pending ++ stuff = sym (ap (λ zs. zs ++ stuff) (take_front b.intake.pending _) ∙ take-append-drop (length b.intake.pending) (coming b.intake rest)) in
-    let all : coming a.intake (q.took ++ rest) ≡ (a.intake.pending ++ octets) ++ (more ++ stuff) =
-    q.comes rest told ∙ ap (λ zs. joined went ++ zs) later ∙ sym (append_assoc (joined went) b.intake.pending stuff) ∙ ap (λ zs. zs ++ stuff) (sym q.octets_are)
-    ∙ ap (λ zs. (a.intake.pending ++ zs) ++ stuff) parts ∙ ap (λ zs. zs ++ stuff) (sym (append_assoc a.intake.pending octets more)) ∙ append_assoc (a.intake.pending ++ octets) more stuff in
+    let all : coming a.intake (q.took ++ rest) ≡ (a.intake.pending ++ octets) ++ (more ++ stuff) = grind (arith, nat_tests, append_assoc) in
     let parted = front_packets (a.intake.pending ++ octets) (more ++ stuff) in
     (parted.0, ap whole_packets all ∙ parted.1)
   where
@@ -87,12 +85,7 @@ knows_on book apid passed went later bound sofar knows = record {
 }
 
 asks_more : {S : Type 0} (k : SinkOf S) (w : Run) (took t gave g : List ℕ) (i j : ℕ) → i ≤ length took → AsksPassed k w took gave i j → AsksPassed k w (took ++ t) (gave ++ g) i j
-asks_more k w took t gave g i j le asks =
-    let early : take i took ≡ take i (took ++ t) = sym (take-append-le i took t le) in (
-      omega (arith, asks.0, length-append gave g),
-      subst (HasFewPixels w.pixels w.apid) early asks.1,
-      λ all told. subst (λ zs. PassedBy k w.book w.apid zs (take j (gave ++ g))) early (subst (PassedBy k w.book w.apid (take i took)) (sym (take-append-le j gave g asks.0)) (asks.2 all told)),
-    )
+asks_more k w took t gave g i j le asks = grind (arith, nat_tests, take-append-le, length-append)
 
 -- the exchange with a port is extended by what was given
 pub wrote_on : {S : Type 0} {old new : Outside} (k : SinkOf S) (w : Run) (took gave g : List ℕ) → Exchange w.start old took gave [] (AsksPassed k w took gave) → Exchange old new [] g [] NoRead → Exchange w.start new took (gave ++ g) [] (AsksPassed k w took (gave ++ g))
@@ -138,24 +131,11 @@ stays_with w a took octets passed read g n stays =
 
 -- packets that begin no segment report none
 pub few_same : (pixels apid : ℕ) (passed next : List (List ℕ)) → HasFew pixels apid passed → last_index (after_all apid (after_all apid fresh passed) next).last ≡ last_index (after_all apid fresh passed).last → HasFew pixels apid (passed ++ next)
-few_same pixels apid passed next few same g there =
-    let geometry : (after_all apid fresh passed).geometry ≡ Some g = sym (geometry_same apid (after_all apid fresh passed) next same) ∙ ap (λ (s : FateState). s.geometry) (sym (after_all-append apid fresh passed next)) ∙ there in
-    subst (λ n. g.width * rows_reached g n ≤ pixels) (sym (end_same apid passed next same)) (few g geometry)
+few_same pixels apid passed next few same g there = grind (arith, nat_tests, geometry_same, after_all-append, end_same)
 
 -- if the height is reported from the first head on, later heads report the same pixels
 pub few_known : (pixels apid : ℕ) (passed next : List (List ℕ)) (g : Geometry) → (after_all apid fresh passed).geometry ≡ Some g → HasFew pixels apid passed → (after_all apid fresh (passed ++ next)).told_last ≡ false → HasFew pixels apid (passed ++ next)
-few_known pixels apid passed next g geometry few known h there = elim (known_or_not g.rows) [
-  | inl none ↦ absurd (
-      let told : (after_all apid fresh (passed ++ next)).told_last ≡ true = ap (λ (s : FateState). s.told_last) (after_all-append apid fresh passed next) ∙ told_last_open apid passed next g geometry none in
-      false≢true (sym known ∙ told))
-  | inr some ↦
-      let stays : (after_all apid fresh (passed ++ next)).geometry ≡ Some g = ap (λ (s : FateState). s.geometry) (after_all-append apid fresh passed next) ∙ geometry_known apid passed next g geometry some in
-      let same : g ≡ h = (let both : Some g ≡ Some h = sym stays ∙ there in cc) in
-      subst (λ (h : Geometry). h.width * rows_reached h (end_of (kept apid fresh (passed ++ next))) ≤ pixels) same
-      (let here = reached_known g (end_of (kept apid fresh passed)) some in
-      let later = reached_known g (end_of (kept apid fresh (passed ++ next))) some in
-      subst (λ n. g.width * n ≤ pixels) (here ∙ sym later) (few g geometry))
-]
+few_known pixels apid passed next g geometry few known h there = grind (arith, nat_tests, known_or_not, after_all-append, told_last_open, false≢true, geometry_known, reached_known)
 
 -- ---- the segments that are received
 
@@ -166,9 +146,7 @@ both_tell book packets index r s x y = grind (arith, nat_tests, one_received)
 
 -- the first blocks are those of the segments that are received
 pub of_received : (g : Geometry) (sofar received : Numbers) (n bound : ℕ) → 0 < g.segment → n ≤ first_block g.segment bound → ((index : ℕ) → index < bound → received index ≡ sofar index) → AreOf g sofar n (blocks_with g received)
-of_received g sofar received n bound some few same = record {
-  at = λ block lt. block_by g received sofar block (same (block / g.segment) (div_below block g.segment bound some (omega (arith, lt, few))));
-}
+of_received g sofar received n bound some few same = grind (arith, nat_tests, block_by, div_below)
 
 -- the blocks that a state settles
 settled_is : (s : FateState) (received : Numbers) (g : Geometry) (l : LastPart) → s.geometry ≡ Some g → s.last ≡ Some l → settled_blocks s received ≡ blocks_through g received l.index

@@ -1,5 +1,5 @@
 -- From one segment to the next.
-use Rattle.std.proofs.Common.{◌≡◌, ◌≤◌, ◌<◌, ◌+◌, ◌*◌, ℕ, List, [], ◌∷◌, ◌++◌, refl, sym, ap, subst, ◌∙◌, inl, inr, arith, Option, None, Some, Ok, mul-le-mul_left, mul-le-mul_right}
+use Rattle.std.proofs.Common.{◌≡◌, ◌≤◌, ◌<◌, ◌+◌, ℕ, List, [], ◌∷◌, ◌++◌, refl, sym, ap, subst, ◌∙◌, inl, inr, arith, Option, None, Some, Ok, mul-le-mul_left, mul-le-mul_right}
 use Rattle.std.proofs.lemmas.Option.{same_Some}
 use Rattle.std.proofs.lemmas.Bool.Decides.{nat_tests}
 use Rattle.port_122.specs.Outside.{Outside, NoFewerFaults}
@@ -28,22 +28,7 @@ fewer_blocks g h same fewer = grind (arith, nat_tests, mul-le-mul_left)
 
 -- a segment is one of the image that ends earlier if a segment of that image follows it
 pub fits_ended : (g h : Geometry) (n : ℕ) (start next : SegmentStart) → MayEnd g h n → FitsImage g start → FitsImage h next → start.ancillary.index < next.ancillary.index → FitsImage h start
-fits_ended g h n start next ends fits after lt = elim ends [
-  | inl same ↦ subst (λ g. FitsImage g start) (sym same) fits
-  | inr e ↦
-      let segment : h.segment ≡ g.segment = ap (λ (g : Geometry). g.segment) e.same in
-      let first : start.ancillary.first ≡ start.ancillary.index * h.segment = fits.first ∙ ap (λ n. start.ancillary.index * n) (sym segment) in
-      let more : (start.ancillary.index + 1) * h.segment ≤ next.ancillary.index * h.segment = mul-le-mul_right h.segment (omega (arith, lt)) in
-      let one : (start.ancillary.index + 1) * h.segment ≡ start.ancillary.index * h.segment + h.segment = grind arith in
-      let fewer = fewer_blocks g h e.same e.fewer in
-      record {
-        first = first;
-        within = omega (arith, after.within, after.first, first, more, one);
-        blocks = omega (arith, fits.blocks, after.within, after.first, first, more, one, segment, fewer);
-        head = fits.head;
-        weights = fits.weights ∙ ap (λ (g : Geometry). g.weights.shifts) (sym e.same);
-      }
-]
+fits_ended g h n start next ends fits after lt = grind (arith, nat_tests, mul-le-mul_right, fewer_blocks)
 
 -- ---- states
 
@@ -112,15 +97,7 @@ image_next a b passed front packet start g index has apid state are next = recor
 
 -- its first block isn't before the end of the segment of that index
 follow_next : {S : Type 0} (p : Walking S) (g : Geometry) (index : ℕ) (s : FateState) (start : SegmentStart) → p.geometry ≡ placed g → passed_in p ≤ first_block g.segment (index + 1) → (next : ComesNext g index s start) → MayFollow next.image p start
-follow_next p g index s start same le next =
-    let more : (index + 1) * g.segment ≤ start.ancillary.index * g.segment = mul-le-mul_right g.segment (omega (arith, next.later)) in
-    let first : start.ancillary.first ≡ start.ancillary.index * g.segment = next.fits.first ∙ ap (λ n. start.ancillary.index * n) next.segment in
-    record {
-      range = next.range;
-      ends = subst (λ h. MayEnd h (placed next.image) (passed_in p)) (sym same) (next.ends (passed_in p) le);
-      fits = next.fits;
-      reached = omega (arith, le, more, first);
-    }
+follow_next p g index s start same le next = grind (arith, nat_tests, mul-le-mul_right)
 
 -- ---- from one segment to the next
 
@@ -151,11 +128,7 @@ may_follow a b p start at goes le = by b.held refl
     few = subst (λ (g : Geometry). passed_in p ≤ first_block g.segment (start.ancillary.index + 1)) at.goes_by le
 
     by : (o : Option SegmentStart) → b.held ≡ o → MayFollowHeld b p
-    by None e = record {
-      image = at.image;
-      has = image_on a b at.image goes.passed at.has goes.passes.apid goes.passes.state (goes.begins_none e);
-      next = λ start' held. absurd (let no : None ≡ Some start' = sym e ∙ held in cc);
-    }
+    by None e = grind (arith, nat_tests, image_on)
     by (Some next) e =
         let c = held_next a b at.image start.ancillary.index next at.has at.unheld at.last goes e in
         record {
@@ -203,10 +176,7 @@ found_within p start found = elim found.next.ends [
 -- no count of faults fell meanwhile
 pub finds_faults : {old new : Outside} (a b : Assembling) (found : Option SegmentStart) → FindsSegment old new a b (Ok found) → NoFewerFaults old new
 finds_faults {old = old} {new = new} a b None finds = finds.ends.0.passes.since.faults
-finds_faults {old = old} {new = new} a b (Some start) finds = elim finds.ends [
-  | inl held ↦ subst (λ now. NoFewerFaults old now) held.same record { reads = omega arith; writes = omega arith; notes = omega arith }
-  | inr found ↦ found.passed.since.faults
-]
+finds_faults {old = old} {new = new} a b (Some start) finds = grind (arith, nat_tests)
 
 -- ---- the first segment
 
@@ -228,9 +198,6 @@ found_first {old = old} {new = new} k apid cap a b p start g unread finds geomet
             goes_by = fresh_walk.geometry;
             unheld = found.none_after;
             last = ap (λ (s : FateState). last_index s.last) state ∙ ap last_index b'.last ∙ ap Some b'.index;
-            next = record {
-              fits = subst (λ g. FitsImage g start) (ap placed made ∙ sym fresh_walk.geometry) (fits_begun apid there found.packet start b');
-              reached = let none : passed_in p ≡ 0 = rw (fresh_walk.row, fresh_walk.column) (omega arith) in omega (arith, none);
-            };
+            next = grind (arith, nat_tests, fits_begun);
           }
     ]

@@ -1,18 +1,19 @@
 -- Blocks that a walk passes, one after another.
-use Rattle.std.proofs.Common.{◌≡◌, ◌<◌, ◌≤◌, ◌+◌, ◌/◌, ◌==◌, ℕ, ℤ, zero, suc, Bool, true, false, List, [], ◌++◌, refl, sym, ap, subst, ◌∙◌, arith, append_assoc, ◌||◌, ◌&&◌, not, is_some, filter, Option, None, Some, Result, Ok, Err, IsErr, append-nil}
+use Rattle.std.proofs.Common.{◌≡◌, ◌<◌, ◌≤◌, ◌+◌, ◌/◌, ◌==◌, ℕ, ℤ, zero, suc, Bool, true, false, List, ◌++◌, refl, sym, ap, ◌∙◌, arith, append_assoc, ◌||◌, ◌&&◌, not, is_some, filter, Option, None, Some, Result, IsErr, append-nil}
 use Rattle.std.specs.List.{range_with_len, list_any}
 use Rattle.std.proofs.lemmas.Bool.{false≢true}
 use Rattle.std.proofs.lemmas.Bool.Decides.{nat_tests}
 use Rattle.std.proofs.lemmas.Nat.{div-mul-add}
 use Rattle.stream_defs.proofs.OpenContaining.{any_chosen}
-use Rattle.port_122.specs.Outside.{Outside, NoRead}
+use Rattle.port_122.specs.Outside.{Outside}
 use Rattle.port_122.proofs.Stretches.{since_start, since_out, rose_since}
 use Rattle.base_122.specs.Sizes.{block_count}
 use Rattle.base_122.specs.declared.geometry.Geometry.{Geometry}
-use Rattle.stream_defs.specs.Marks.{Marks, marked, and_missing, most_block_rows}
+use Rattle.stream_defs.specs.Marks.{Marks, marked, most_block_rows}
 use Rattle.damage_rows.proofs.TableLaws.{any_none, filter_same}
 use Rattle.segment_walk.specs.Sinks.{Blocks, SinkOf, Takes, Fails}
 use Rattle.segment_walk.specs.Steps.{Walking, IsCurrent, HasRoom, Follows, AreNext, HasPassed, StopsEarly, PassesBlocks, HasAdvanced, passed_in, is_marked, is_lost, IsListed}
+use Rattle.stream_defs.proofs.Equations.{and_missing-is}
 
 -- ---- marks
 
@@ -20,8 +21,7 @@ or_none : (b : Bool) → (b || false) ≡ b
 or_none b = grind (arith, nat_tests)
 
 marked_row : (m : Marks) (r row : ℕ) → row < most_block_rows → is_marked (marked m r).missing row ≡ (is_marked m.missing row || (r == row))
-unfolding and_missing
-marked_row m r row low = by (f row) refl
+marked_row m r row low = rw and_missing-is (by (f row) refl)
   where
     f : ℕ → Bool
     f i = is_marked m.missing i || (i == r)
@@ -34,21 +34,11 @@ marked_row m r row low = by (f row) refl
 
     by : (b : Bool) → f row ≡ b → list_any (λ k. k == row) (filter f (range_with_len 0 most_block_rows)) ≡ (is_marked m.missing row || (r == row))
     by true e = any_chosen (λ k. k == row) f most_block_rows 0 row (omega arith) (omega (arith, low)) e (grind (arith, nat_tests)) ∙ sym e ∙ same
-    by false e = any_none (λ k. k == row) f most_block_rows 0 (λ i from below set. other i (i == row) refl set) ∙ sym e ∙ same
-      where
-        other : (i : ℕ) (b : Bool) → (i == row) ≡ b → f i ≡ true → b ≡ false
-        other i true here set = let at : i ≡ row = grind (arith, nat_tests) in sym set ∙ ap f at ∙ e
-        other i false here set = refl
+    by false e = grind (arith, nat_tests, any_none, f, same)
 
 -- and the rows stay listed
 marked_listed : (m : Marks) (r : ℕ) → IsListed (marked m r)
-unfolding and_missing
-marked_listed m r =
-    filter_same (λ i. is_marked m.missing i || (i == r)) (is_marked (marked m r).missing) most_block_rows 0
-    (λ i low high. sym (marked_row m r i (omega (arith, high)) ∙ ap (λ b. is_marked m.missing i || b) (turned r i)))
-  where
-    turned : (i j : ℕ) → (i == j) ≡ (j == i)
-    turned i j = grind (arith, nat_tests)
+marked_listed m r = grind (arith, nat_tests, and_missing-is, filter_same, marked_row)
 
 -- the marks after a block, which may be missing
 abbrev pub marks_past : Option (List ℤ) → Marks → (row : ℕ) → Marks
@@ -62,8 +52,7 @@ past_marked : (v : Option (List ℤ)) (m : Marks) (r row : ℕ) → row < most_b
 past_marked v m r row low = grind (arith, nat_tests, marked_row, or_none)
 
 past_listed : (v : Option (List ℤ)) (m : Marks) (r : ℕ) → IsListed m → IsListed (marks_past v m r)
-past_listed None m r listed = marked_listed m r
-past_listed (Some xs) m r listed = listed
+past_listed v m r listed = grind (arith, nat_tests, marked_listed)
 
 any_more : (f : ℕ → Bool) (a n : ℕ) → list_any f (range_with_len a (n + 1)) ≡ (list_any f (range_with_len a n) || f (a + n))
 any_more f a zero = ap (λ i. list_any f (range_with_len a i)) (let e : 0 + 1 ≡ suc 0 = omega arith in e) ∙ or_none (f a) ∙ ap f (omega arith)
@@ -99,51 +88,20 @@ module _ {S : Type 0} (k : SinkOf S) (v : Option (List ℤ)) (p z : Walking S) (
 
   -- it was passed
   pub one_passed : Takes k p.geometry (passed_in p) v a b p.sink t → HasAdvanced past z → HasPassed k (λ i. v) 1 a b p z
-  one_passed takes on = subst (λ z. HasPassed k (λ i. v) 1 a b p z) (sym on.same) (record {
-    standing = record {
-      range = standing.range;
-      height = standing.height;
-      column = on.column;
-      few = omega (arith, on.count, room);
-      damage = past_rows v p.damage p.at.row ∙ standing.damage;
-      stands = subst (λ n. k.Stands t p.geometry n) (sym on.count) takes.stands;
-    };
-    geometry = refl;
-    count = on.count;
-    gave = takes.gave;
-    out = takes.out;
-    follows = λ blocks before f next. record {
-      sink = subst (λ n. k.Follows t p.geometry blocks n (before ++ takes.gave)) (sym on.count) (takes.follows blocks before f.sink (next_is blocks next));
-      marked = λ row low. marked_past blocks before f next row low ∙ ap (λ n. is_lost p.geometry blocks n row) (sym on.count);
-      listed = past_listed v p.damage p.at.row f.listed;
-    };
-  })
+  one_passed takes on = grind (arith, nat_tests, past_rows, next_is, marked_past, past_listed)
 
   -- a write failed
   pub one_failed : Fails k p.geometry (passed_in p) v a b p.sink → StopsEarly k (λ i. v) 1 a b p
-  one_failed fails = record {
-    gave = fails.gave;
-    out = fails.out;
-    rose = fails.rose;
-    part = λ blocks before f next. (passed_in p + 1, omega arith, fails.part blocks before f.sink (next_is blocks next));
-  }
+  one_failed fails = grind (arith, nat_tests, next_is)
 
 -- ---- more of them
 
 pub passes_failed : {S T E : Type 0} {a b : Outside} {p : Walking S} (k : SinkOf S) (r : Result T E) (values : ℕ → Option (List ℤ)) (n : ℕ) (z : Walking S) → IsErr r → StopsEarly k values n a b p → PassesBlocks k r values n a b p z
-passes_failed k (Ok x) values n z is broken = absurd (false≢true is)
-passes_failed k (Err e) values n z is broken = broken
+passes_failed k r values n z is broken = grind (arith, nat_tests, false≢true)
 
 -- none was passed
 pub none_passed : {S : Type 0} (k : SinkOf S) (values : ℕ → Option (List ℤ)) (p : Walking S) (a : Outside) → IsCurrent k p → HasPassed k values 0 a a p p
-none_passed k values p a standing = record {
-  standing = standing;
-  geometry = refl;
-  count = omega arith;
-  gave = [];
-  out = since_start a NoRead;
-  follows = λ blocks before f next. subst (Follows k p blocks) (sym (append-nil before)) f;
-}
+none_passed k values p a standing = grind (arith, nat_tests, since_start, append-nil)
 
 module _ {S : Type 0} (k : SinkOf S) (values : ℕ → Option (List ℤ)) (i : ℕ) {a b : Outside} (p x : Walking S) (passed : HasPassed k values i a b p x) where
   first_ones : (n : ℕ) (blocks : Blocks) → i ≤ n → AreNext values n p blocks → AreNext values i p blocks
@@ -160,9 +118,7 @@ module _ {S : Type 0} (k : SinkOf S) (values : ℕ → Option (List ℤ)) (i : �
     count = omega (arith, one.count, passed.count);
     gave = passed.gave ++ one.gave;
     out = since_out passed.out one.out;
-    follows = λ blocks before f next.
-        subst (Follows k z blocks) (append_assoc before passed.gave one.gave)
-        (one.follows blocks (before ++ passed.gave) (passed.follows blocks before f (first_ones (i + 1) blocks (omega arith) next)) (next_one (i + 1) blocks (omega arith) next));
+    follows = grind (arith, nat_tests, append_assoc, first_ones, next_one);
   }
 
   -- a write failed at it
@@ -171,10 +127,5 @@ module _ {S : Type 0} (k : SinkOf S) (values : ℕ → Option (List ℤ)) (i : �
     gave = passed.gave ++ broken.gave;
     out = since_out passed.out broken.out;
     rose = rose_since passed.out.faults.writes broken.rose;
-    part = λ blocks before f next.
-        let x' = broken.part blocks (before ++ passed.gave) (passed.follows blocks before f (first_ones n blocks (omega (arith, lt)) next)) (next_one n blocks lt next) in (
-          x'.0,
-          omega (arith, x'.1, passed.count, lt),
-          subst (λ g. k.Part g blocks x'.0 (before ++ (passed.gave ++ broken.gave))) passed.geometry (subst (k.Part x.geometry blocks x'.0) (append_assoc before passed.gave broken.gave) x'.2),
-        );
+    part = grind (arith, nat_tests, first_ones, next_one, append_assoc);
   }

@@ -18,7 +18,6 @@ use Rattle.segment_defs.specs.Depths.{block_depths}
 use Rattle.segment_defs.specs.Head.{IsHead, head_bits, head_length}
 use Rattle.segment_defs.specs.Reading.{head_read}
 use Rattle.segment_defs.specs.SegmentItems.{segment_items}
-use Rattle.segment_defs.specs.Text.{text_octets}
 use Rattle.segment_defs.proofs.WrittenFields.{octets_of-append}
 use Rattle.segment_head.proofs.WrittenHeads.{head_undoes, length-head_bits}
 use Rattle.segment_code.specs.Laws.{TextsAreShort}
@@ -35,10 +34,7 @@ use Rattle.segment_defs.proofs.Equations.{coded-is, text_octets-is}
 
 -- the first octets are those of the first bits
 first_octets : (n : ℕ) (bits : List Bool) → take n (octets_of bits) ≡ octets_of (take (8 * n) bits)
-first_octets n bits = elim (cases_lt (length bits) (8 * n)) [
-  | inl short ↦ take_all n (octets_of bits) (omega (arith, length-octets_of bits, short)) ∙ ap octets_of (sym (take_all (8 * n) bits (omega (arith, short))))
-  | inr room ↦ whole room
-]
+first_octets n bits = grind (arith, nat_tests, cases_lt, length, take_all, length-octets_of, whole)
   where
     whole : 8 * n ≤ length bits → take n (octets_of bits) ≡ octets_of (take (8 * n) bits)
     whole room =
@@ -92,21 +88,13 @@ module _ (book : Book) (h : SegmentHead) (blocks : List (List ℤ)) (ok : IsHead
 
   -- it isn't too long
   text_short : length (head_bits h ++ text (segment_items h blocks (block_depths blocks) (chosen_options book h blocks))) < 2 ^ 34 → length (coded book h blocks) < 2 ^ 32
-  unfolding coded text_octets
-  text_short few = by (h.limit == 0)
+  text_short few = rw (coded-is, text_octets-is) (by (h.limit == 0))
     where
       limit_few : h.limit < 2 ^ 27
       limit_few = elim ok.limit [ inl none ↦ omega (arith, none) | inr given ↦ omega (arith, given.1) ]
 
       all_few : length all < 2 ^ 32
-      all_few =
-          let unit = 8 * h.image.word in
-          let word = ok.image.word in
-          let bounds = rounded_bounds unit (length bits) (omega (arith, word)) in
-          let count = length-append bits zeros in
-          let zeros_long = length-copies (padding h.image.word h.limit h.fill (length bits)) false in
-          let fill = filled h.fill h.limit in
-          omega (arith, length-octets_of (padded h.image.word h.limit h.fill bits), count, zeros_long, bounds, few, limit_few, word, fill)
+      all_few = grind (arith, nat_tests, rounded_bounds, length, length-append, length-copies, filled, length-octets_of, limit_few)
         where
           filled : (fill : Bool) (limit : ℕ) → (if fill then 8 * limit else 0) ≤ 8 * limit
           filled true limit = omega arith

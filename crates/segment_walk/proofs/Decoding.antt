@@ -1,5 +1,5 @@
 -- How a whole walk ends.
-use Rattle.std.proofs.Common.{◌≡◌, ◌≤◌, ◌<◌, ◌-◌, ◌*◌, ◌/◌, ℕ, List, [], ◌∷◌, ◌++◌, refl, sym, ap, subst, ◌∙◌, inl, inr, arith, if◌then◌else◌, Option, None, Some, Ok, Err, mul-le-mul_right, append-nil}
+use Rattle.std.proofs.Common.{◌≡◌, ◌≤◌, ◌<◌, ◌*◌, ◌/◌, ℕ, List, [], ◌∷◌, ◌++◌, refl, sym, ap, subst, ◌∙◌, inl, inr, arith, Option, None, Some, Ok, Err, mul-le-mul_right, append-nil}
 use Rattle.std.proofs.lemmas.Bool.{false≢true}
 use Rattle.std.proofs.lemmas.Nat.{div-mul-add}
 use Rattle.std.proofs.lemmas.Bool.Decides.{nat_tests}
@@ -13,10 +13,8 @@ use Rattle.base_122.specs.declared.wish.DecodeWish.{DecodeWish}
 use Rattle.packet_defs.specs.declared.packet.Framing.{Framing}
 use Rattle.stream_defs.specs.declared.fate.FateState.{FateState}
 use Rattle.packet_defs.specs.Streams.{whole_packets}
-use Rattle.stream_defs.specs.Agreement.{blocks_of}
-use Rattle.stream_defs.specs.Begun.{begun_in, block_rows, end_of, height, placed, rows_reached}
-use Rattle.stream_defs.specs.Damage.{missing_below, ranges, whole_missing}
-use Rattle.stream_defs.specs.Fates.{fresh, after, after_all, kept, kept_in}
+use Rattle.stream_defs.specs.Begun.{begun_in, end_of, height, placed, rows_reached}
+use Rattle.stream_defs.specs.Fates.{fresh, after_all, kept, kept_in}
 use Rattle.stream_defs.specs.Marks.{ended_at}
 use Rattle.stream_defs.proofs.PlacedLaws.{is_open, is_not_open, blocks_known, placed_same}
 use Rattle.stream_defs.proofs.Equations.{most_is}
@@ -30,7 +28,7 @@ use Rattle.packet_assembly.proofs.Readings.{read_within, ended_packets, ended_ou
 use Rattle.segment_walk.specs.declared.ending.DecodeFault.{DecodeFault}
 use Rattle.segment_walk.specs.declared.ending.DecodeFault.TheVariants.{ReadFault, WriteFault, NoSegment, TooManyPixels, LongInput, Memory}
 use Rattle.segment_walk.specs.Sinks.{Numbers, SinkOf, blocks_with}
-use Rattle.segment_walk.specs.Steps.{Walking, IsCurrent, Follows, passed_in, total_in}
+use Rattle.segment_walk.specs.Steps.{Walking, IsCurrent, Follows, passed_in}
 use Rattle.segment_walk.specs.Segments.{FitsImage, FindsNext, pixels_reached}
 use Rattle.segment_walk.specs.Runs.{Run, BreaksRun}
 use Rattle.segment_walk.specs.Walks.{HasPassedAll, IsDamageOf, PassesAll, Walks, run_of, walked_of}
@@ -111,8 +109,7 @@ module _ {S : Type 0} (k : SinkOf S) (wish : DecodeWish) (old new : Outside) (b 
   reported =
       let begun = found.begun in
       let b' = begun_by wish.apid begun.before begun.packet start begun.starts in
-      let state : b.state ≡ after wish.apid (after_all wish.apid fresh begun.before) begun.packet = found.read.state ∙ ap (after_all wish.apid fresh) begun.passed_are ∙ after_all-append wish.apid fresh begun.before (begun.packet ∷ []) in
-      (b'.image, ap (λ (s : FateState). s.geometry) state ∙ b'.geometry)
+      grind (arith, nat_tests, after_all-append)
 
   -- there is a geometry then
   pub never_none : b.state.geometry ≡ None → ⊥
@@ -123,9 +120,7 @@ module _ {S : Type 0} (k : SinkOf S) (wish : DecodeWish) (old new : Outside) (b 
   first_fits image geometry =
       let begun = found.begun in
       let b' = begun_by wish.apid begun.before begun.packet start begun.starts in
-      let state : b.state ≡ after wish.apid (after_all wish.apid fresh begun.before) begun.packet = found.read.state ∙ ap (after_all wish.apid fresh) begun.passed_are ∙ after_all-append wish.apid fresh begun.before (begun.packet ∷ []) in
-      let same : b'.image ≡ image = (let both : Some b'.image ≡ Some image = sym (ap (λ (s : FateState). s.geometry) state ∙ b'.geometry) ∙ geometry in cc) in
-      subst (λ g. FitsImage (placed g) start) same (fits_begun wish.apid (after_all wish.apid fresh begun.before) begun.packet start b')
+      grind (arith, nat_tests, after_all-append, fits_begun)
 
   pub too_many : (image : Geometry) (pixels : ℕ) → b.state.geometry ≡ Some image → pixels ≡ pixels_reached image start → wish.pixels < pixels → Walks k wish old new (Err (TooManyPixels pixels))
   too_many image pixels geometry is lt =
@@ -202,26 +197,7 @@ module _ {S : Type 0} (k : SinkOf S) (w : Run) (now : Outside) (image : Geometry
   damage_is received gave follows =
       let segment : q.geometry.segment ≡ image.segment = ap (λ (g : Geometry). g.segment) whole.placed_is in
       let here : Follows k q (blocks_with q.geometry received) gave = subst (λ blocks. Follows k q blocks gave) (ap (λ m. blocks_by m received) (sym segment)) follows in
-      elim (known_or_not image.rows) [
-        | inl none ↦
-            let row = rows_passed none in
-            let le : q.at.row * block_count q.geometry.width ≤ passed_in q = omega arith in
-            let open_ranges = open_damage k q image received gave q.at.row whole.standing whole.placed_is here le (omega (arith, rows_few k q whole.standing, most_is)) in
-            let tall : height image q.at.row ≡ 8 * q.at.row - 21 = ap (λ b. if b then 8 * q.at.row - 21 else image.rows) (is_open image.rows none) in
-            let block_rows_are : block_rows image n ≡ q.at.row = ap (λ b. if b then n else block_count image.rows) (is_open image.rows none) ∙ sym row in
-            record {
-              ranges_are = ap (λ m. ranges m q.damage.missing) tall ∙ open_ranges ∙ ap (λ m. ranges m (missing_below image received q.at.row)) (sym tall) ∙ ap (λ m. ranges m (missing_below image received q.at.row)) written_is ∙ ap (λ m. ranges (height image n) (missing_below image received m)) (sym block_rows_are);
-              missing = λ some. absurd (some none);
-            }
-        | inr some ↦
-            let total : passed_in q ≡ total_in q = whole.all ∙ ap (λ b. if b then ended else blocks_of image) (is_not_open image.rows some) ∙ sym (blocks_known image some) ∙ ap blocks_of (sym whole.placed_is) in
-            let missing = all_missing k q received gave whole.standing here total ∙ ap (λ g. whole_missing g received) (whole.placed_is ∙ placed_same image some) in
-            let block_rows_are : block_rows image n ≡ block_count image.rows = ap (λ b. if b then n else block_count image.rows) (is_not_open image.rows some) in
-            record {
-              ranges_are = ap (ranges (height image q.at.row)) missing ∙ ap (λ m. ranges m (whole_missing image received)) written_is ∙ ap (λ m. ranges (height image n) (missing_below image received m)) (sym block_rows_are);
-              missing = λ some. missing;
-            }
-      ]
+      grind (arith, nat_tests, known_or_not, rows_passed, width, open_damage, rows_few, most_is, is_open, written_is, is_not_open, blocks_known, all_missing, placed_same)
 
 pub walk_done : {S : Type 0} (k : SinkOf S) (wish : DecodeWish) (old new : Outside) (q : Walking S) (image : Geometry) (found told : Option Framing) → HasPassedAll k (run_of wish old) new image q found → told ≡ found → Walks k wish old new (Ok (walked_of image told q))
 walk_done k wish old new q image found told whole is =

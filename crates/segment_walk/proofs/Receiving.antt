@@ -10,8 +10,7 @@ use Rattle.segment_defs.specs.Head.{IsHead, head_length}
 use Rattle.segment_defs.specs.declared.fault.HeadFault.{HeadFault}
 use Rattle.segment_defs.specs.Reading.{head_read}
 use Rattle.segment_defs.proofs.ReadHeads.{read_fits}
-use Rattle.text_defs.specs.Outcomes.{Holds, Reading}
-use Rattle.text_defs.specs.Given.{given_blocks}
+use Rattle.text_defs.specs.Outcomes.{Holds}
 use Rattle.text_defs.proofs.OutcomeLaws.{outcomes_exclude}
 use Rattle.text_defs.proofs.GivenAlike.{same_given}
 use Rattle.packet_defs.specs.Reading.{text_in}
@@ -38,9 +37,7 @@ use Rattle.segment_walk.proofs.TailLaws.{from_more, from_closes, from_closed}
 one_held : (book : Book) (head : SegmentHead) (rest : List ℕ) (v w : List (List ℤ)) → IsHead head → Holds book head rest v → Holds book head rest w → v ≡ w
 one_held book head rest v w ok h k =
     let count = outcomes_exclude.one_count book head rest v w ok h k in
-    let same = same_given head rest h.count h.blocks k.blocks h.depths k.depths h.options k.options h.more k.more ok (h.of_book ∙ sym k.of_book) h.reading
-    (subst (λ n. Reading head rest k.blocks k.depths k.options n k.more) (sym count) k.reading) in
-    h.given ∙ same ∙ ap (given_blocks head k.blocks k.depths k.options) count ∙ sym k.given
+    grind (arith, nat_tests, same_given)
 
 pub some_head : (r : Result SegmentHead HeadFault) (x y : SegmentHead) → r ≡ Ok x → r ≡ Ok y → x ≡ y
 some_head r x y e h = cc
@@ -149,8 +146,7 @@ module _ (book : Book) (apid : ℕ) (passed : List (List ℕ)) (a : Assembling) 
       let plain = from_closed apid index there went (part_in b.packet) last_is index_is last closed in
       let on : tail_past apid b.before b.packet (went ++ next) InPieces ≡ tail_past apid b.before b.packet went InPieces = from_more apid there went next InPieces InPieces in_pieces plain in
       let all = all_there rest went later are plain in
-      let octets : drop (head_length start.head) (text_of_parts (packets_at index (kept apid fresh (passed ++ (went ++ next))))) ≡ (text_tail a rest).octets =
-      octets_after (went ++ next) ∙ ap (λ (t : Tail). a.text ++ t.octets) on ∙ sym (ap (λ (t : Tail). t.octets) all) in
+      let octets : drop (head_length start.head) (text_of_parts (packets_at index (kept apid fresh (passed ++ (went ++ next))))) ≡ (text_tail a rest).octets = grind (arith, nat_tests, octets_after) in
       record {
         whole = (tells (went ++ next)).complete (ap (λ (t : Tail). t.ends) on ∙ plain);
         head = start.head;
@@ -165,8 +161,7 @@ module _ (book : Book) (apid : ℕ) (passed : List (List ℕ)) (a : Assembling) 
       let plain = (tells next).plain x.whole in
       let all = all_there rest next more are plain in
       let same : x.head ≡ start.head = some_head _ x.head start.head x.head_is (head_there next) in
-      let octets : drop (head_length start.head) (text_of_parts (packets_at index (kept apid fresh (passed ++ next)))) ≡ (text_tail a rest).octets =
-      octets_after next ∙ sym (ap (λ (t : Tail). t.octets) all) in
+      let octets : drop (head_length start.head) (text_of_parts (packets_at index (kept apid fresh (passed ++ next)))) ≡ (text_tail a rest).octets = grind (arith, nat_tests, octets_after) in
       let holds = subst (λ head. holds_after book head (text_of_parts (packets_at index (kept apid fresh (passed ++ next)))) w) same x.accepted in
       refused (ap (λ (t : Tail). t.ends) all ∙ plain) w (subst (λ zs. Holds book start.head zs w) octets holds)
 

@@ -58,8 +58,7 @@ module _ (g : Geometry) (blocks : Blocks) (row : ℕ) (wide : 0 < block_count g.
 
   -- no block of it is lost
   none_lost : (m : ℕ) → misses ≡ false → is_lost g blocks m row ≡ false
-  none_lost m none =
-      any_miss (λ block. not (is_some (blocks block)) && (block / c == row)) 0 m (λ block low high. both (not (is_some (blocks block))) (block / c == row) (here_kept block))
+  none_lost m none = grind (arith, nat_tests, any_miss, is_some, both, here_kept)
     where
       both : (a b : Bool) → (b ≡ true → a ≡ false) → (a && b) ≡ false
       both true true f = absurd (false≢true (sym (f refl)))
@@ -108,9 +107,7 @@ missing_is g sofar row wide = grind (arith, nat_tests)
 pub row_missing : {S : Type 0} (k : SinkOf S) (p : Walking S) (sofar : Numbers) (gave : List ℕ) (row : ℕ) → IsCurrent k p → Follows k p (blocks_with p.geometry sofar) gave → row < most_block_rows → (row + 1) * block_count p.geometry.width ≤ passed_in p → is_marked p.damage.missing row ≡ is_missing p.geometry sofar row
 row_missing k p sofar gave row standing follows few le =
     let g = p.geometry in
-    let column = standing.column in
-    let wide : 0 < block_count g.width = omega (arith, column) in
-    follows.marked row few ∙ lost_missing g (blocks_with g sofar) row wide (passed_in p) le ∙ sym (missing_is g sofar row wide)
+    grind (arith, nat_tests, lost_missing, missing_is)
 
 -- what is marked once all blocks were passed
 pub all_missing : {S : Type 0} (k : SinkOf S) (p : Walking S) (sofar : Numbers) (gave : List ℕ) → IsCurrent k p → Follows k p (blocks_with p.geometry sofar) gave → passed_in p ≡ total_in p → p.damage.missing ≡ whole_missing p.geometry sofar
@@ -135,19 +132,14 @@ all_missing k p sofar gave standing follows all =
 
 -- a list of missing block rows holds exactly these
 missing_there : (g : Geometry) (sofar : Numbers) (n row : ℕ) → row < n → is_marked (missing_below g sofar n) row ≡ is_missing g sofar row
-unfolding missing_below
-missing_there g sofar n row lt = by (is_missing g sofar row) refl
+missing_there g sofar n row lt = rw missing_below-is (by (is_missing g sofar row) refl)
   where
     here : (k : ℕ) → (k == row) ≡ true → k ≡ row
     here k e = grind (arith, nat_tests)
 
     by : (b : Bool) → is_missing g sofar row ≡ b → list_any (λ k. k == row) (filter (is_missing g sofar) (range_with_len 0 n)) ≡ is_missing g sofar row
     by true e = any_chosen (λ k. k == row) (is_missing g sofar) n 0 row (omega arith) (omega (arith, lt)) e (grind (arith, nat_tests)) ∙ sym e
-    by false e = any_none (λ k. k == row) (is_missing g sofar) n 0 (λ i low high set. other i (i == row) refl set) ∙ sym e
-      where
-        other : (i : ℕ) (b : Bool) → (i == row) ≡ b → is_missing g sofar i ≡ true → b ≡ false
-        other i true hit set = absurd (false≢true (sym e ∙ ap (is_missing g sofar) (sym (here i hit)) ∙ set))
-        other i false hit set = refl
+    by false e = grind (arith, nat_tests, any_none, false≢true, here)
 
 -- the damage of the rows that the whole block rows determine, while the height isn't known
 pub open_damage : {S : Type 0} (k : SinkOf S) (p : Walking S) (image : Geometry) (sofar : Numbers) (gave : List ℕ) (n : ℕ) → IsCurrent k p → p.geometry ≡ placed image → Follows k p (blocks_with p.geometry sofar) gave → n * block_count p.geometry.width ≤ passed_in p → n ≤ most_block_rows →

@@ -17,7 +17,7 @@ use Rattle.stream_defs.proofs.PlacedLaws.{is_not_open}
 use Rattle.stream_defs.proofs.KeptOrder.{before_none}
 use Rattle.stream_defs.proofs.ChosenLaws.{after_all-append}
 use Rattle.packet_assembly.specs.declared.note.SegmentStart.{SegmentStart}
-use Rattle.packet_assembly.specs.Assembling.{Assembling, Passes, StaysAt, Starts, last_index, state_with}
+use Rattle.packet_assembly.specs.Assembling.{Assembling, Passes, StaysAt, last_index, state_with}
 use Rattle.packet_assembly.specs.Passing.{before_loses}
 use Rattle.packet_assembly.specs.Segments.{WasFound, FindsSegment}
 use Rattle.packet_assembly.proofs.Images.{end_more, geometry_none, geometry_same, index_none}
@@ -52,14 +52,7 @@ known_on w now new a b bound took went known q = record {
 
 -- and they are unchanged after a write
 unfoldable pub known_later : {Q : ℕ → ℕ → Type 0} {g : List ℕ} (w : Run) (now new : Outside) (a : Assembling) (bound : ℕ) (took : List ℕ) → HasKnown w now a bound took → Exchange now new [] g [] Q → HasKnown w new a bound took
-known_later w now new a bound took known out = record {
-  passed = known.passed;
-  sofar = known.sofar;
-  read = known.read;
-  knows = λ rest told. known.knows rest (before_loses now.rest new.rest [] rest out.rest told);
-  above = known.above;
-  at_end = end_later a out known.at_end;
-}
+known_later w now new a bound took known out = grind (arith, nat_tests, end_later)
 
 unfoldable pub read_come : {S : Type 0} {P : FateState → Type 0} (k : SinkOf S) (w : Run) (now new : Outside) (a b : Assembling) (p : Walking S) (bound : ℕ) (went : List (List ℕ)) → (come : HasWalkedTo k w now a p bound) → (q : Passes P now new a b went) →
     ((octets more : List ℕ) → q.took ≡ octets ++ more → P (state_with a octets) → IsRight k w (come.took ++ octets) come.gave) → HasWalkedTo k w new b p bound
@@ -132,15 +125,7 @@ to_segment k w now a p start index standing come after reached found =
           few = omega (arith, next.reached, first);
           begun = come.begun;
         };
-        begun = record {
-          before = begun.before;
-          packet = begun.packet;
-          passed_are = begun.passed_are;
-          starts = begun.starts;
-          text_is = begun.text_is;
-          below = λ l is. omega (arith, begun.below l is, begun.later);
-          later = omega arith;
-        };
+        begun = grind (arith, nat_tests);
         few = after.few;
         lost = λ block low high.
             let more : (index + 1) * size ≡ index * size + size = grind arith in
@@ -161,14 +146,7 @@ held_come k w now a p bound come =
       took = come.took;
       gave = come.gave;
       since = come.since;
-      known = record {
-        passed = known.passed;
-        sofar = known.sofar;
-        read = record { apid = read.apid; taken = read.taken; cap = read.cap; capped = read.capped; octets_are = read.octets_are; packets_are = read.packets_are; state = read.state; count = read.count };
-        knows = known.knows;
-        above = known.above;
-        at_end = known.at_end;
-      };
+      known = grind (arith, nat_tests);
       shows = come.shows;
       few = come.few;
       begun = come.begun;
@@ -201,23 +179,13 @@ found_new k w now new a b p start standing between past found is_found =
     let known = past.come.known in
     let went = found.front ++ found.packet ∷ [] in
     let last = past.last found.none_held in
-    let there : after_all a.apid a.state found.front ≡ after_all w.apid fresh (known.passed ++ found.front) =
-    ap (λ n. after_all n a.state found.front) known.read.apid ∙ ap (λ s. after_all w.apid s found.front) known.read.state ∙ sym (after_all-append w.apid fresh known.passed found.front) in
+    let there : after_all a.apid a.state found.front ≡ after_all w.apid fresh (known.passed ++ found.front) = grind (arith, nat_tests, after_all-append) in
     let index : last_index (after_all a.apid a.state found.front).last ≡ Some past.index = index_none a.apid a.state found.front found.none_before ∙ last in
     let same : last_index (after_all w.apid fresh (known.passed ++ found.front)).last ≡ Some past.index = ap (λ (s : FateState). last_index s.last) (sym there) ∙ index in
-    let apart : last_index (after_all w.apid (after_all w.apid fresh known.passed) found.front).last ≡ last_index (after_all w.apid fresh known.passed).last =
-    ap (λ (s : FateState). last_index s.last) (sym (after_all-append w.apid fresh known.passed found.front)) ∙ same ∙ sym last ∙ ap (λ (s : FateState). last_index s.last) known.read.state in
+    let apart : last_index (after_all w.apid (after_all w.apid fresh known.passed) found.front).last ≡ last_index (after_all w.apid fresh known.passed).last = grind (arith, nat_tests, after_all-append) in
     let comes = comes_next a found.front found.packet start between.image past.index between.has last found.none_before found.starts in
     to_segment k w new b p start past.index standing (stays_come k w now new a b p went standing between past found.none_held found.passed) record {
-      begun = record {
-        before = known.passed ++ found.front;
-        packet = found.packet;
-        passed_are = sym (append_assoc known.passed found.front (found.packet ∷ []));
-        starts = subst (λ s. Starts w.apid s found.packet start) there (subst (λ n. Starts n (after_all a.apid a.state found.front) found.packet start) known.read.apid found.starts);
-        text_is = found.text;
-        below = λ l is. let e = last_of _ past.index l same is in omega (arith, e);
-        later = omega (arith, comes.later);
-      };
+      begun = grind (arith, nat_tests, append_assoc, last_of);
       few = few_same w.pixels w.apid known.passed found.front past.small apart;
       image = between.image;
       geometry = ap (λ (s : FateState). s.geometry) (sym there) ∙ geometry_none a.apid a.state found.front found.none_before ∙ between.has.geometry;

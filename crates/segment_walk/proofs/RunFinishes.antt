@@ -1,11 +1,10 @@
 -- A run ends.
-use Rattle.std.proofs.Common.{◌≡◌, ◌≤◌, ◌<◌, ◌+◌, ◌*◌, ◌/◌, ◌-◌, ◌==◌, ℕ, List, ◌++◌, refl, sym, ap, subst, ◌∙◌, inl, inr, arith, Bool, not, if◌then◌else◌, None, Some, Err}
+use Rattle.std.proofs.Common.{◌≡◌, ◌≤◌, ◌<◌, ◌+◌, ◌*◌, ◌/◌, ◌-◌, ◌==◌, ℕ, List, ◌++◌, refl, sym, ap, subst, ◌∙◌, inl, arith, Bool, not, None, Some, Err}
 use Rattle.std.proofs.lemmas.Nat.{le-div}
 use Rattle.std.proofs.lemmas.Bool.Decides.{nat_tests}
 use Rattle.port_122.specs.Outside.{Outside}
 use Rattle.packet_defs.specs.Streams.{whole_packets}
 use Rattle.stream_defs.specs.declared.fate.FateState.{FateState}
-use Rattle.stream_defs.specs.Agreement.{blocks_of}
 use Rattle.stream_defs.specs.Begun.{HasFewPixels, end_of, placed}
 use Rattle.stream_defs.specs.Fates.{fresh, after_all, kept, kept_in, geometry_in}
 use Rattle.stream_defs.proofs.PlacedLaws.{is_open, is_not_open, blocks_known}
@@ -20,7 +19,7 @@ use Rattle.packet_assembly.proofs.Images.{end_within, untold_room}
 use Rattle.segment_walk.specs.declared.ending.DecodeFault.{DecodeFault}
 use Rattle.segment_walk.specs.declared.ending.DecodeFault.TheVariants.{ReadFault, TooManyPixels, LongInput}
 use Rattle.segment_walk.specs.Sinks.{Numbers, SinkOf, blocks_with}
-use Rattle.segment_walk.specs.Steps.{Walking, IsCurrent, Follows, HasPassed, StopsEarly, missing, passed_in, total_in}
+use Rattle.segment_walk.specs.Steps.{Walking, IsCurrent, HasPassed, StopsEarly, missing, passed_in, total_in}
 use Rattle.segment_walk.specs.Segments.{FollowsFound, FollowsHead, HasImage, IsBetween, IsFound, FindsNext}
 use Rattle.segment_walk.specs.Runs.{Run, holds_after, HasFew, HasWalkedTo, WalksAfter, WalksIn, WalksPast, ComesToEnd, HasBroken, HasFailedWrite, HasLong, BreaksRun, blocks_passed}
 use Rattle.segment_walk.specs.Walks.{HasPassedAll, is_height_known, left_in}
@@ -185,14 +184,7 @@ module _ {S : Type 0} (k : SinkOf S) (w : Run) (now new : Outside) (a : Assembli
   all_begun none = grind (arith, nat_tests, end_within, untold_room)
 
   all_passed : (z : Walking S) → passed_in z ≡ passed_in p + left → passed_in z ≡ blocks_passed image (end_of (kept_in w.apid end.come.took))
-  all_passed z count = elim (known_or_not image.rows) [
-    | inl none ↦
-        omega (arith, count, none_left none, all_begun none, ended_is) ∙ sym (ap (λ b. if b then end_of (kept_in w.apid end.come.took) else blocks_of image) (is_open image.rows none))
-    | inr some ↦
-        let few = standing.few in
-        let total : total_in p ≡ blocks_of image = ap blocks_of end.goes_by ∙ blocks_known image some in
-        omega (arith, count, all_left some, few, total) ∙ sym (ap (λ b. if b then end_of (kept_in w.apid end.come.took) else blocks_of image) (is_not_open image.rows some))
-  ]
+  all_passed z count = grind (arith, nat_tests, known_or_not, none_left, all_begun, ended_is, is_open, blocks_known, all_left, is_not_open)
 
   pub rest_passed : HasPassed k missing left now new p q → HasPassedAll k w new image q a.framing
   rest_passed passed =
@@ -213,17 +205,8 @@ module _ {S : Type 0} (k : SinkOf S) (w : Run) (now new : Outside) (a : Assembli
         out = out_later w.cap now new come.took passed.out (ended_out come.known.read now end.ended come.known.at_end);
         standing = passed.standing;
         all = all_passed q passed.count;
-        for_some = record {
-          geometry = q.geometry;
-          blocks = blocks_with q.geometry known;
-          place = passed_in q;
-          part = k.part_of q.geometry (blocks_with q.geometry known) (passed_in q) (come.gave ++ passed.gave) (k.given_of q.sink q.geometry (blocks_with q.geometry known) (passed_in q) (come.gave ++ passed.gave) passed.standing.stands follows.sink);
-        };
-        told = λ every told. (
-          known,
-          known_in every told,
-          subst (λ blocks. Follows k q blocks (come.gave ++ passed.gave)) (ap (λ m. blocks_by m known) segment) follows,
-        );
+        for_some = grind (arith, nat_tests);
+        told = grind (arith, nat_tests, known_in);
       }
 
   pub rest_broken : StopsEarly k missing left now new p → HasFailedWrite k w new

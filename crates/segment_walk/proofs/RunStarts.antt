@@ -1,28 +1,25 @@
 -- A run begins.
-use Rattle.std.proofs.Common.{◌≡◌, ◌≤◌, ◌<◌, ℕ, List, [], ◌∷◌, ◌++◌, take, refl, sym, ap, subst, ◌∙◌, inl, inr, arith, true, false, filter, None, Some, Ok}
-use Rattle.std.specs.List.{range_with_len}
+use Rattle.std.proofs.Common.{◌≡◌, ◌≤◌, ℕ, List, [], ◌∷◌, ◌++◌, refl, sym, ap, subst, ◌∙◌, inl, inr, arith, true, false, None, Some, Ok}
 use Rattle.std.proofs.lemmas.Bool.{false≢true}
 use Rattle.std.proofs.lemmas.Bool.Decides.{nat_tests}
 use Rattle.port_122.specs.Outside.{Outside, Exchange}
 use Rattle.port_122.proofs.Stretches.{since_weaker}
-use Rattle.base_122.specs.Sizes.{block_count}
 use Rattle.base_122.specs.Ranges.{IsGeometryInRange, IsWithin, rows_range}
 use Rattle.base_122.specs.declared.book.Book.{Book}
 use Rattle.base_122.specs.declared.geometry.Geometry.{Geometry}
 use Rattle.stream_defs.specs.declared.fate.FateState.{FateState}
 use Rattle.stream_defs.specs.Fates.{fresh, after, after_all, kept, geometry_in, part_in}
 use Rattle.stream_defs.specs.Begun.{HasFewPixels, placed}
-use Rattle.stream_defs.specs.Marks.{Marks, most_block_rows}
 use Rattle.stream_defs.proofs.KeptOrder.{does, reached_on}
 use Rattle.damage_rows.proofs.TableLaws.{filter_none_from}
 use Rattle.packet_assembly.specs.declared.note.SegmentStart.{SegmentStart}
-use Rattle.packet_assembly.specs.Assembling.{Assembling, Passes, StaysAt, Starts, BeginsNone, last_index, state_with, unread_assembly}
+use Rattle.packet_assembly.specs.Assembling.{Assembling, Passes, StaysAt, BeginsNone, last_index, state_with, unread_assembly}
 use Rattle.packet_assembly.specs.Segments.{WasFound, FindsSegment}
 use Rattle.packet_assembly.specs.Readings.{HasRead, SawEnd}
 use Rattle.packet_assembly.proofs.Images.{index_none}
 use Rattle.packet_assembly.proofs.Readings.{none_read, read_on, end_on}
 use Rattle.segment_walk.specs.Sinks.{SinkOf, blocks_with}
-use Rattle.segment_walk.specs.Steps.{Walking, IsCurrent, IsFresh, passed_in, is_marked, is_lost}
+use Rattle.segment_walk.specs.Steps.{Walking, IsCurrent, IsFresh, passed_in}
 use Rattle.segment_walk.specs.Segments.{pixels_reached}
 use Rattle.segment_walk.specs.Runs.{Run, AsksPassed, HasFew, PartBy, Shows, IsBegun, WalksIn}
 use Rattle.segment_walk.proofs.RunPasses.{few_begun}
@@ -58,19 +55,7 @@ none_few pixels apid octets none g there = absurd (let both : None ≡ Some g = 
 -- at each read call nothing is given, and there is no geometry
 pub first_asks : {S : Type 0} (k : SinkOf S) (w : Run) (new : Outside) (a b : Assembling) (went : List (List ℕ)) → a ≡ unread_assembly w.apid w.cap → (q : Passes (StaysAt a) w.start new a b went) →
     Exchange w.start new q.took [] [] (AsksPassed k w q.took [])
-first_asks k w new a b went unread q =
-    since_weaker q.since (λ i j le asks.
-    let none = none_yet w a (take i q.took) unread asks.0 in (
-      omega (arith, asks.1),
-      none_few w.pixels w.apid (take i q.took) none,
-      λ all told. record {
-        none = λ e. nothing j;
-        some = λ g received there are. absurd (let both : None ≡ Some g = sym none ∙ there in cc);
-      },
-    ))
-  where
-    nothing : (j : ℕ) → take j (let xs : List ℕ = [] in xs) ≡ []
-    nothing j = grind (arith, nat_tests)
+first_asks k w new a b went unread q = grind (arith, nat_tests, since_weaker, none_yet, none_few)
 
 -- no octets are a part of what is given
 pub first_part : {S : Type 0} (k : SinkOf S) (book : Book) (apid : ℕ) (took : List ℕ) → PartBy k book apid took []
@@ -101,16 +86,7 @@ first_found k w new a b start unread found =
       since = first_asks k w new a b (found.front ++ found.packet ∷ []) unread found.passed;
       read = first_read w new a b (found.front ++ found.packet ∷ []) unread found.passed;
       at_end = first_end w new a b (found.front ++ found.packet ∷ []) unread found.passed;
-      begun = record {
-        before = found.front;
-        packet = found.packet;
-        passed_are = refl;
-        starts = subst (λ (a : Assembling). Starts a.apid (after_all a.apid a.state found.front) found.packet start) unread found.starts;
-        text_is = found.text;
-        below = λ l is. absurd (
-            let both : None ≡ Some l.index = sym none ∙ ap last_index is in cc);
-        later = omega arith;
-      };
+      begun = grind (arith, nat_tests);
       none = none_kept w.apid found.front none;
     }
 
@@ -122,28 +98,11 @@ found_one k w new a b start unread finds = elim finds.ends [
 
 -- no block was passed yet
 shows_nothing : {S : Type 0} (k : SinkOf S) (g : Geometry) (p : Walking S) → IsFresh k g p → Shows k p (λ index. None) []
-shows_nothing k g p fresh_walk blocks of =
-    let none : passed_in p ≡ 0 = rw (fresh_walk.row, fresh_walk.column) (omega arith) in
-    let missing : p.damage.missing ≡ [] = ap (λ (m : Marks). m.missing) fresh_walk.damage in
-    record {
-      sink = subst (λ n. k.Follows p.sink p.geometry blocks n []) (sym none) (subst (λ g. k.Follows p.sink g blocks 0 []) (sym fresh_walk.geometry) (fresh_walk.begins.follows blocks));
-      marked = λ row low. ap (λ xs. is_marked xs row) missing ∙ sym (ap (λ n. is_lost p.geometry blocks n row) none);
-      listed = missing ∙ sym (ap (λ xs. filter (is_marked xs) (range_with_len 0 most_block_rows)) missing ∙ filter_none_from (is_marked []) most_block_rows 0 (λ i far. refl));
-    }
+shows_nothing k g p fresh_walk blocks of = grind (arith, nat_tests, filter_none_from)
 
 -- a walk that begins is one of its image
 pub first_stands : {S : Type 0} (k : SinkOf S) (g : Geometry) (p : Walking S) → IsGeometryInRange g → IsWithin rows_range g.rows → IsFresh k g p → IsCurrent k p
-first_stands k g p range height fresh_walk =
-    let none : passed_in p ≡ 0 = rw (fresh_walk.row, fresh_walk.column) (omega arith) in
-    let wide = range.width in
-    record {
-      range = subst IsGeometryInRange (sym fresh_walk.geometry) range;
-      height = subst (λ (g : Geometry). IsWithin rows_range g.rows) (sym fresh_walk.geometry) height;
-      column = subst (λ (g : Geometry). p.at.column < block_count g.width) (sym fresh_walk.geometry) (omega (arith, fresh_walk.column, wide));
-      few = omega (arith, none);
-      damage = ap (λ (m : Marks). m.rows) fresh_walk.damage ∙ ap (λ (g : Geometry). g.rows) (sym fresh_walk.geometry);
-      stands = subst (λ n. k.Stands p.sink p.geometry n) (sym none) (subst (λ g. k.Stands p.sink g 0) (sym fresh_walk.geometry) fresh_walk.begins.stands);
-    }
+first_stands k g p range height fresh_walk = grind (arith, nat_tests)
 
 -- before the first head no pixels were reported
 pub few_first : {S : Type 0} (k : SinkOf S) (w : Run) (new : Outside) (b : Assembling) (start : SegmentStart) → (found : HasFound k w new b start) → HasFew w.pixels w.apid found.begun.before
@@ -172,15 +131,7 @@ first_comes k w new b p start g image found fresh_walk geometry small =
           few = omega (arith, none);
           begun = omega (arith, none);
         };
-        begun = record {
-          before = found.begun.before;
-          packet = found.begun.packet;
-          passed_are = found.begun.passed_are;
-          starts = found.begun.starts;
-          text_is = found.begun.text_is;
-          below = λ l is. absurd (omega (arith, found.begun.below l is));
-          later = omega arith;
-        };
+        begun = grind (arith, nat_tests);
         few = few_first k w new b start found;
         lost = λ block low high. refl;
       };

@@ -1,10 +1,9 @@
 -- A run through the text of a segment.
-use Rattle.std.proofs.Common.{◌≡◌, ◌≤◌, ◌+◌, ◌*◌, ◌/◌, ◌==◌, ℕ, ℤ, List, [], ◌∷◌, ◌++◌, refl, sym, ap, subst, ◌∙◌, inl, inr, arith, append_assoc, Bool, true, false, if◌then◌else◌, Option, None, Some, is_some, MatchOption, Ok}
+use Rattle.std.proofs.Common.{◌≡◌, ◌≤◌, ◌+◌, ◌/◌, ◌==◌, ℕ, ℤ, List, ◌++◌, refl, sym, ap, subst, ◌∙◌, inl, inr, arith, append_assoc, Bool, true, false, Option, None, Some, is_some, MatchOption, Ok}
 use Rattle.std.proofs.lemmas.Bool.{cases_lt}
 use Rattle.std.proofs.lemmas.Bool.Decides.{nat_tests}
 use Rattle.std.proofs.lemmas.Nat.{div_below}
 use Rattle.port_122.specs.Outside.{Outside}
-use Rattle.base_122.specs.Sizes.{first_block}
 use Rattle.wave_defs.specs.Held.{blocks_in}
 use Rattle.segment_defs.specs.declared.head.SegmentHead.{SegmentHead}
 use Rattle.text_defs.specs.Outcomes.{Holds}
@@ -13,10 +12,10 @@ use Rattle.stream_defs.specs.declared.fate.FateState.{FateState}
 use Rattle.stream_defs.specs.Fates.{fresh, after_all, kept}
 use Rattle.stream_defs.specs.Begun.{end_of}
 use Rattle.stream_defs.specs.Received.{IsReceived}
-use Rattle.stream_defs.specs.Settled.{blocks_through, blocks_in as segment_blocks_in}
+use Rattle.stream_defs.specs.Settled.{blocks_through}
 use Rattle.stream_defs.proofs.ChosenLaws.{after_all-append}
 use Rattle.packet_assembly.specs.declared.note.SegmentStart.{SegmentStart}
-use Rattle.packet_assembly.specs.Assembling.{Assembling, BeginsNone, StaysOpen, Starts, last_index, is_closed, state_with}
+use Rattle.packet_assembly.specs.Assembling.{Assembling, BeginsNone, StaysOpen, last_index, is_closed, state_with}
 use Rattle.packet_assembly.specs.Passing.{before_loses}
 use Rattle.packet_assembly.proofs.Images.{end_begun, end_more, geometry_none, index_none}
 use Rattle.packet_assembly.specs.Segments.{Continues}
@@ -81,8 +80,7 @@ module _ {S : Type 0} (k : SinkOf S) (w : Run) (now new : Outside) (a b : Assemb
   pub right : (octets more : List ℕ) → goes.passes.took ≡ octets ++ more → StaysOpen a (state_with a octets) → IsRight k w (come.took ++ octets) come.gave
   right octets more parts stays =
       let none = come.known.above index (omega arith) in
-      let through : blocks_through p.geometry come.known.sofar index ≤ passed_in p =
-      subst (λ o. first_block p.geometry.segment index + (if is_some o then segment_blocks_in p.geometry index else 0) ≤ passed_in p) (sym none) (omega (arith, reached, fits.first)) in
+      let through : blocks_through p.geometry come.known.sofar index ≤ passed_in p = grind (arith, nat_tests, is_some) in
       right_at k w now new a b p index index goes.passed come goes.passes standing at.image at.has.geometry at.goes_by to.small last octets more parts (stays.same ∙ last) through
       (λ i v le near x.
       let same : i ≡ index = omega (arith, le, near) in
@@ -141,10 +139,7 @@ module _ {S : Type 0} (k : SinkOf S) (w : Run) (now new : Outside) (a b : Assemb
       read = went_come.known.read;
       knows = λ rest told. record {
         at = λ next more are i lt. elim (cases_lt i index) [
-          | inl low ↦
-              let here = (went_come.known.knows rest told).at next more are i low in
-              subst (λ o. MatchOption o ((v : List (List ℤ)) → IsReceived (holds_after w.book) (kept w.apid fresh ((passed ++ goes.passed) ++ next)) i v → ⊥) (IsReceived (holds_after w.book) (kept w.apid fresh ((passed ++ goes.passed) ++ next)) i))
-              (sym (segment_other value i (λ e. omega (arith, e, low)))) here
+          | inl low ↦ grind (arith, nat_tests, went_come, segment_other)
           | inr high ↦
               let same : index ≡ i = omega (arith, lt, high) in
               subst (λ i. MatchOption (with_segment index value come.known.sofar i) ((v : List (List ℤ)) → IsReceived (holds_after w.book) (kept w.apid fresh ((passed ++ goes.passed) ++ next)) i v → ⊥) (IsReceived (holds_after w.book) (kept w.apid fresh ((passed ++ goes.passed) ++ next)) i)) same
@@ -159,9 +154,7 @@ module _ {S : Type 0} (k : SinkOf S) (w : Run) (now new : Outside) (a b : Assemb
         (λ block lt.
         let below = div_below block p.geometry.segment index (omega (arith, standing.range.segment.0)) (omega (arith, lt, reached, fits.first)) in
         sym (segment_other value (block / p.geometry.segment) (λ e. omega (arith, e, below)))) come.shows;
-    few =
-        let more : (index + 1) * p.geometry.segment ≡ index * p.geometry.segment + p.geometry.segment = grind arith in
-        omega (arith, reached, fits.first, more);
+    few = grind (arith, nat_tests);
     begun = went_come.begun;
   }
 
@@ -176,20 +169,11 @@ module _ {S : Type 0} (k : SinkOf S) (w : Run) (now new : Outside) (a b : Assemb
   begun_next : (next : SegmentStart) → b.held ≡ Some next → IsNextBegun w (passed ++ goes.passed) b.text next (index + 1)
   begun_next next held =
       let began = goes.began unheld next held in
-      let there_too : after_all a.apid a.state began.front ≡ after_all w.apid fresh (passed ++ began.front) =
-      ap (λ n. after_all n a.state began.front) come.known.read.apid ∙ ap (λ s. after_all w.apid s began.front) come.known.read.state ∙ sym (after_all-append w.apid fresh passed began.front) in
+      let there_too : after_all a.apid a.state began.front ≡ after_all w.apid fresh (passed ++ began.front) = grind (arith, nat_tests, after_all-append) in
       let same : last_index (after_all w.apid fresh (passed ++ began.front)).last ≡ Some index = ap (λ (s : FateState). last_index s.last) (sym there_too) ∙ index_none a.apid a.state began.front began.none_before ∙ last in
       let comes = comes_next a began.front began.packet next at.image index at.has last began.none_before began.starts in
       record {
-        begun = record {
-          before = passed ++ began.front;
-          packet = began.packet;
-          passed_are = ap (λ xs. passed ++ xs) began.passed_are ∙ sym (append_assoc passed began.front (began.packet ∷ []));
-          starts = subst (λ s. Starts w.apid s began.packet next) there_too (subst (λ n. Starts n (after_all a.apid a.state began.front) began.packet next) come.known.read.apid began.starts);
-          text_is = began.text_is;
-          below = λ l is. let e = last_of _ index l same is in omega (arith, e);
-          later = omega (arith, comes.later);
-        };
+        begun = grind (arith, nat_tests, append_assoc, last_of);
         few = few_passed began.front began.none_before;
         image = at.image;
         geometry = ap (λ (s : FateState). s.geometry) (sym there_too) ∙ geometry_none a.apid a.state began.front began.none_before ∙ at.has.geometry;

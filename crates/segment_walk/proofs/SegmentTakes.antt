@@ -1,5 +1,5 @@
 -- A segment that is taken.
-use Rattle.std.proofs.Common.{◌≡◌, ◌≤◌, ◌<◌, ◌+◌, ◌-◌, ◌*◌, ◌^◌, ◌*ℤ◌, ℕ, ℤ, pos, List, length, drop, get_or, refl, sym, ap, subst, ◌∙◌, inl, inr, arith, length-drop, Bool, true, false, Option, None, Some, Result, Ok, Err, IsOk, IsErr, MatchOption, unsigned_abs, length-take-le, mul-le-mul_right}
+use Rattle.std.proofs.Common.{◌≡◌, ◌≤◌, ◌<◌, ◌+◌, ◌-◌, ◌*◌, ◌^◌, ◌*ℤ◌, ℕ, ℤ, pos, List, length, drop, get_or, refl, sym, ap, subst, ◌∙◌, arith, length-drop, Bool, true, false, Option, None, Some, Result, Ok, Err, IsOk, IsErr, MatchOption, unsigned_abs, length-take-le, mul-le-mul_right}
 use Rattle.std.proofs.lemmas.Bool.{false≢true}
 use Rattle.std.proofs.lemmas.Bool.Decides.{nat_tests}
 use Rattle.port_122.specs.Outside.{Outside, NoFewerFaults, Rose}
@@ -23,7 +23,7 @@ use Rattle.stream_defs.specs.Begun.{placed}
 use Rattle.block_families.proofs.Dividing.{divided}
 use Rattle.segment_walk.specs.Sinks.{Blocks, SinkOf, MayEnd}
 use Rattle.segment_walk.specs.declared.ending.DecodeFault.{DecodeFault}
-use Rattle.segment_walk.specs.declared.ending.DecodeFault.TheVariants.{ReadFault, TooManyPixels}
+use Rattle.segment_walk.specs.declared.ending.DecodeFault.TheVariants.{TooManyPixels}
 use Rattle.segment_walk.specs.Steps.{Walking, IsCurrent, PassesBlocks, AreBlocks, passed_in, total_in, Follows, missing}
 use Rattle.segment_walk.specs.Rooms.{IsRoom}
 use Rattle.segment_walk.specs.Segments.{FitsImage, FollowsFound, FollowsHead, FollowsHeld, TakesSegment, HasImage, IsAt, IsBetween, IsFound, IsShorter, ReadsText, HasTaken, HasReached, ReachesSegment, cells_of, pixels_reached}
@@ -82,23 +82,7 @@ segment_end g start fits = grind (arith, nat_tests)
 -- the blocks before it were lost
 pub reached_at : {S T E : Type 0} (k : SinkOf S) (r : Result T E) (w0 w1 : Outside) (a : Assembling) (p q : Walking S) (start : SegmentStart) (n : ℕ) → IsAt a p start → n ≡ start.ancillary.first - passed_in p → PassesBlocks k r missing n w0 w1 p q →
     ReachesSegment k w0 w1 a p q start r
-reached_at k (Ok x) w0 w1 a p q start n at n_is passed =
-    let there : passed_in q ≡ start.ancillary.first = omega (arith, passed.count, n_is, at.next.reached) in
-    record {
-      standing = passed.standing;
-      geometry = passed.geometry;
-      at = record {
-        image = at.image;
-        has = at.has;
-        goes_by = passed.geometry ∙ at.goes_by;
-        unheld = at.unheld;
-        last = at.last;
-        next = record { fits = subst (λ g. FitsImage g start) (sym passed.geometry) at.next.fits; reached = omega (arith, there) };
-      };
-      there = there;
-      faults = passed.out.faults;
-    }
-reached_at k (Err e) w0 w1 a p q start n at n_is broken = broken.rose
+reached_at k r w0 w1 a p q start n at n_is broken = grind (arith, nat_tests)
 
 -- The walk has the geometry that is known once the text was read, accepted or not.
 pub record HasFollowed {S : Type 0} (k : SinkOf S) (pixels : ℕ) (b : Assembling) (old new : Walking S) (start : SegmentStart) : Type 0 where
@@ -114,10 +98,7 @@ pub record HasFollowed {S : Type 0} (k : SinkOf S) (pixels : ℕ) (b : Assemblin
   pub follows : (blocks : Blocks) (gave : List ℕ) → Follows k old blocks gave → Follows k new blocks gave
 
 shorter_by : (g h : Geometry) (n : ℕ) → MayEnd g h n → IsShorter g h
-shorter_by g h n ends = elim ends [
-  | inl same ↦ subst (IsShorter g) (sym same) record { same = refl; fewer = omega arith }
-  | inr e ↦ record { same = e.same; fewer = e.fewer }
-]
+shorter_by g h n ends = grind (arith, nat_tests)
 
 abbrev pub is_done : Result (Unit {0}) DecodeFault
 is_done = Ok tt
@@ -136,18 +117,7 @@ has_followed k pixels a b p q start at standing there goes follows = by b.held r
     few = subst (λ (g : Geometry). passed_in p ≤ first_block g.segment (start.ancillary.index + 1)) at.goes_by low
 
     by : (o : Option SegmentStart) → b.held ≡ o → MatchOption o ((IsOk is_done) × (q ≡ p)) (λ next. FollowsFound k pixels b next p q is_done) → HasFollowed k pixels b p q start
-    by None e x = subst (λ q. HasFollowed k pixels b p q start) (sym x.1) record {
-      standing = standing;
-      shorter = record { same = refl; fewer = omega arith };
-      count = refl;
-      fits = fits;
-      image = at.image;
-      has = image_on a b at.image goes.passed at.has goes.passes.apid goes.passes.state (goes.begins_none e);
-      goes_by = at.goes_by;
-      last = λ none. (goes.still none).1 ∙ at.last;
-      held = λ next held. absurd (let no : None ≡ Some next = sym e ∙ held in cc);
-      follows = λ blocks gave f. f;
-    }
+    by None e x = grind (arith, nat_tests, fits, image_on)
     by (Some next) e x =
         let c = held_next a b at.image start.ancillary.index next at.has at.unheld at.last goes e in
         let f = x c.0.image c.0.geometry in
@@ -163,28 +133,24 @@ has_followed k pixels a b p q start at standing there goes follows = by b.held r
           has = c.1;
           goes_by = f.0.geometry;
           last = λ none. absurd (let no : None ≡ Some next = sym none ∙ e in cc);
-          held = λ next' held. subst (λ (n : SegmentStart). (last_index b.state.last ≡ Some n.ancillary.index) × FitsImage q.geometry n × (first_block q.geometry.segment (start.ancillary.index + 1) ≤ n.ancillary.first) × (pixels_reached c.0.image n ≤ pixels)) (let same : Some next ≡ Some next' = sym e ∙ held in cc)
-              (c.0.last, subst (λ g. FitsImage g next) (sym f.0.geometry) c.0.fits, omega (arith, ap (λ m. first_block m (start.ancillary.index + 1)) segment, more, c.0.fits.first), f.1);
+          held = grind (arith, nat_tests, fits);
           follows = f.0.follows;
         }
 
 -- a read failed in its text
 pub read_takes : {S : Type 0} (k : SinkOf S) (book : Book) (w0 w1 w2 : Outside) (a b : Assembling) (p0 p : Walking S) (head : SegmentHead) (cells : List ℤ) (fault : DecodeFault) → NoFewerFaults w0 w1 → ReadsText book w1 w2 a b head cells (Err fault) → TakesSegment k w0 w2 a b p0 p (Err fault)
-read_takes k book w0 w1 w2 a b p0 p head cells ReadFault faults failed = rose_since faults.reads failed.rose
-read_takes k book w0 w1 w2 a b p0 p head cells other faults failed = absurd failed
+read_takes k book w0 w1 w2 a b p0 p head cells other faults failed = grind (arith, nat_tests, rose_since)
 
 -- the head of the next segment reports too many pixels
 head_takes : {S : Type 0} (k : SinkOf S) (pixels : ℕ) (w0 w2 : Outside) (a b : Assembling) (p0 p q : Walking S) (image : Geometry) (next : SegmentStart) (fault : DecodeFault) → FollowsHead k pixels image next p q (Err fault) → TakesSegment k w0 w2 a b p0 p (Err fault)
-head_takes k pixels w0 w2 a b p0 p q image next (TooManyPixels found) x = tt
-head_takes k pixels w0 w2 a b p0 p q image next other x = absurd x
+head_takes k pixels w0 w2 a b p0 p q image next other x = grind (arith, nat_tests)
 
 abbrev is_failed : DecodeFault → Result (Unit {0}) DecodeFault
 is_failed fault = Err fault
 
 -- it states nothing of the walk
 head_only : {S : Type 0} (k : SinkOf S) (pixels : ℕ) (image : Geometry) (next : SegmentStart) (p q : Walking S) (fault : DecodeFault) → FollowsHead k pixels image next p q (Err fault) → FollowsHead k pixels image next q q (Err fault)
-head_only k pixels image next p q (TooManyPixels found) x = x
-head_only k pixels image next p q other x = absurd x
+head_only k pixels image next p q other x = grind (arith, nat_tests)
 
 pub follow_takes : {S : Type 0} (k : SinkOf S) (pixels : ℕ) (w0 w2 w1 : Outside) (a b : Assembling) (p0 p q : Walking S) (start : SegmentStart) (fault : DecodeFault) → IsAt a p start → passed_in p ≡ start.ancillary.first → Continues w1 w2 a b → FollowsHeld k pixels b p q (Err fault) → TakesSegment k w0 w2 a b p0 q (Err fault)
 follow_takes k pixels w0 w2 w1 a b p0 p q start fault at there goes follows = by b.held refl follows
@@ -195,8 +161,7 @@ follow_takes k pixels w0 w2 w1 a b p0 p q start fault at there goes follows = by
 
 -- a write failed among its blocks
 pub write_later : {S T E : Type 0} (k : SinkOf S) (r : Result T E) (w0 w1 w2 w3 : Outside) (p q : Walking S) (values : ℕ → Option (List ℤ)) (n : ℕ) → IsErr r → NoFewerFaults w0 w1 → NoFewerFaults w1 w2 → PassesBlocks k r values n w2 w3 p q → Rose w0.write_faults w3.write_faults
-write_later k (Ok x) w0 w1 w2 w3 p q values n is before after broken = absurd (false≢true is)
-write_later k (Err e) w0 w1 w2 w3 p q values n is before after broken = rose_since before.writes (rose_since after.writes broken.rose)
+write_later k r w0 w1 w2 w3 p q values n is before after broken = grind (arith, nat_tests, false≢true, rose_since)
 
 pub shorter_then : {g h i : Geometry} → IsShorter g h → IsShorter h i → IsShorter g i
 shorter_then {g = g} {h = h} {i = i} a b = record { same = b.same ∙ (λ j. record (a.same j) { rows = i.rows }); fewer = omega (arith, a.fewer, b.fewer) }
@@ -244,21 +209,7 @@ pub record HasFollowedFound {S : Type 0} (k : SinkOf S) (a : Assembling) (p q : 
   pub at : IsAt a q start
 
 pub found_follows : {S : Type 0} (k : SinkOf S) (pixels : ℕ) (a : Assembling) (p q : Walking S) (start : SegmentStart) → IsFound a p start → FollowsFound k pixels a start p q is_done → HasFollowedFound k a p q start
-found_follows k pixels a p q start found follows =
-    let f = follows found.image found.has.geometry in
-    record {
-      standing = f.0.standing;
-      shorter = subst (IsShorter p.geometry) (sym f.0.geometry) (shorter_by p.geometry (placed found.image) (passed_in p) found.next.ends);
-      count = f.0.count;
-      at = record {
-        image = found.image;
-        has = found.has;
-        goes_by = f.0.geometry;
-        unheld = found.unheld;
-        last = found.last;
-        next = record { fits = subst (λ g. FitsImage g start) (sym f.0.geometry) found.next.fits; reached = omega (arith, f.0.count, found.next.reached) };
-      };
-    }
+found_follows k pixels a p q start found follows = grind (arith, nat_tests, shorter_by)
 
 pub fewer_left : {S : Type 0} {a : Assembling} {start : SegmentStart} (k : SinkOf S) (old p q : Walking S) → total_in p - passed_in p < total_in old - passed_in old → HasFollowedFound k a p q start → total_in q - passed_in q < total_in old - passed_in old
 fewer_left k old p q less followed = grind (arith, nat_tests, fewer_blocks)
@@ -273,35 +224,15 @@ found_takes k pixels w0 w2 a b p0 p q start fault found follows = by fault (foll
 
 -- all segments were taken
 pub all_takes : {S : Type 0} (k : SinkOf S) (w0 w1 w2 : Outside) (a0 a b : Assembling) (p0 p : Walking S) → IsCurrent k p → IsBetween a p → FindsSegment w1 w2 a b (Ok None) → NoFewerFaults w0 w2 → TookAll k w0 w2 a0 b p0 p
-all_takes k w0 w1 w2 a0 a b p0 p standing between finds faults =
-    let found = finds.ends.0 in
-    record {
-      standing = standing;
-      image = between.image;
-      has = image_on a b between.image found.passed between.has found.passes.apid found.passes.state found.none_begins;
-      goes_by = between.goes_by;
-      ended = finds.ends.1;
-      faults = faults;
-    }
+all_takes k w0 w1 w2 a0 a b p0 p standing between finds faults = grind (arith, nat_tests, image_on)
 
 -- there is room for the segments of an image of fewer rows
 pub room_shorter : {g h : Geometry} {blocks marks cells room : ℕ} → IsRoom g blocks marks → IsShorter g h → cells ≡ blocks → room ≡ marks → IsRoom h cells room
-room_shorter {g = g} {h = h} {cells = cells} {room = room} r short b m =
-    let fewer = fewer_blocks g h short.same short.fewer in
-    let segment : h.segment ≡ g.segment = ap (λ (g : Geometry). g.segment) short.same in
-    let none : 0 * g.segment ≡ 0 = omega arith in
-    let still : 0 * h.segment ≡ 0 = omega arith in
-    record {
-      marks = omega (arith, r.marks, m, fewer, segment, none, still);
-      blocks = b ∙ r.blocks ∙ ap (λ n. 64 * n) (sym m);
-      most = omega (arith, r.most, b, m, ap (λ n. 65 * n) segment);
-    }
+room_shorter {g = g} {h = h} {cells = cells} {room = room} r short b m = grind (arith, nat_tests, fewer_blocks)
 
 -- the blocks of a segment have room
 pub blocks_fit : (g : Geometry) (start : SegmentStart) (blocks marks : ℕ) → IsRoom g blocks marks → FitsImage g start → (64 * start.head.blocks ≤ blocks) × (start.head.blocks ≤ marks)
-blocks_fit g start blocks marks room fits =
-    let none : 0 * g.segment ≡ 0 = omega arith in
-    (omega (arith, room.blocks, room.marks, fits.blocks, none), omega (arith, room.marks, fits.blocks, none))
+blocks_fit g start blocks marks room fits = grind (arith, nat_tests)
 
 -- each segment leaves fewer blocks
 pub more_taken : {S : Type 0} {p q : Outside} {a b : Assembling} (k : SinkOf S) (old new : Walking S) → HasTaken k p q a b old new → total_in new - passed_in new < total_in old - passed_in old

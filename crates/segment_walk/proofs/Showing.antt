@@ -1,5 +1,5 @@
 -- Which blocks the segments so far have.
-use Rattle.std.proofs.Common.{◌≡◌, ◌≤◌, ◌<◌, ◌+◌, ◌-◌, ◌*◌, ◌/◌, ◌%◌, ℕ, ℤ, pos, List, [], length, take, drop, get_or, sym, ap, subst, ◌∙◌, arith, ◌++◌, refl, Option, None, Some, unwrap_or, option_map}
+use Rattle.std.proofs.Common.{◌≡◌, ◌≤◌, ◌<◌, ◌+◌, ◌-◌, ◌*◌, ◌/◌, ◌%◌, ℕ, ℤ, pos, List, [], length, take, drop, get_or, sym, ap, ◌∙◌, arith, ◌++◌, Option, None, Some, option_map}
 use Rattle.std.proofs.lemmas.List.{length-take-le, take-take, drop-take}
 use Rattle.std.proofs.lemmas.List.FromFn.{get_or-map-range_with_len}
 use Rattle.std.proofs.lemmas.Nat.{div-mul-add, mod-mul-add}
@@ -27,12 +27,7 @@ number_by g a b block i e = grind (arith, nat_tests, number_at-is)
 
 -- those of received segments are the picture's
 pub numbers_same : (g : Geometry) (received : Numbers) → numbers_in (blocks_with g received) ≡ number_at g received
-unfolding number_at
-numbers_same g received = λ j block i. by (received (block / g.segment)) block i j
-  where
-    by : (o : Option (List (List ℤ))) (block i : ℕ) → get_or (unwrap_or (option_map (λ numbers. get_or numbers (block % g.segment) []) o) []) i (pos 0) ≡ get_or (get_or (unwrap_or o []) (block % g.segment) []) i (pos 0)
-    by None block i = refl
-    by (Some numbers) block i = refl
+numbers_same g received = grind (arith, nat_tests, number_at-is, get_or, pos)
 
 -- ---- blocks
 
@@ -73,6 +68,4 @@ shows_same k p a b gave same shows blocks of = shows blocks (of_same p.geometry 
 -- after n more blocks
 pub shows_passed : {S : Type 0} {w x : Outside} (k : SinkOf S) (p q : Walking S) (values : ℕ → Option (List ℤ)) (n : ℕ) (sofar : Numbers) (gave : List ℕ) → Shows k p sofar gave →
     ((i : ℕ) → i < n → blocks_with p.geometry sofar (passed_in p + i) ≡ values i) → (passed : HasPassed k values n w x p q) → Shows k q sofar (gave ++ passed.gave)
-shows_passed k p q values n sofar gave shows are passed blocks of =
-    let here : AreOf p.geometry sofar (passed_in p + n) blocks = subst (λ m. AreOf p.geometry sofar m blocks) passed.count (subst (λ g. AreOf g sofar (passed_in q) blocks) passed.geometry of) in
-    passed.follows blocks gave (shows blocks (of_fewer p.geometry (passed_in p) (passed_in p + n) sofar blocks (omega arith) here)) record { at = λ i lt. here.at (passed_in p + i) (omega (arith, lt)) ∙ are i lt }
+shows_passed k p q values n sofar gave shows are passed blocks of = grind (arith, nat_tests, of_fewer)

@@ -1,5 +1,5 @@
 -- The blocks of an image's segments can be spelled.
-use Rattle.std.proofs.Common.{◌≡◌, ◌≤◌, ◌<◌, ◌+◌, ◌-◌, ◌*◌, ◌/◌, ◌%◌, ◌^◌, ◌*ℤ◌, ℕ, ℤ, pos, negsuc, Bool, true, false, List, [], length, drop, map, get_or, min, refl, sym, ap, subst, ◌∙◌, inl, inr, arith, length-drop, ◌==◌, ◌⊎◌, if◌then◌else◌, nat_le, nat_lt, unsigned_abs, All, pow_mono}
+use Rattle.std.proofs.Common.{◌≡◌, ◌≤◌, ◌<◌, ◌+◌, ◌*◌, ◌/◌, ◌%◌, ◌^◌, ◌*ℤ◌, ℕ, ℤ, pos, negsuc, true, List, [], length, drop, map, get_or, refl, sym, ap, subst, ◌∙◌, inl, inr, arith, length-drop, ◌⊎◌, if◌then◌else◌, nat_le, nat_lt, unsigned_abs, All, pow_mono}
 use Rattle.std.specs.Int.{int_shr}
 use Rattle.std.specs.List.{range_with_len, list_all}
 use Rattle.std.proofs.lemmas.Bool.{cases_lt}
@@ -10,7 +10,7 @@ use Rattle.std.proofs.lemmas.List.{get_or_past, get_or-drop, get_or-map, get_or_
 use Rattle.std.proofs.lemmas.List.Elements.{All-drop, All-take}
 use Rattle.std.proofs.lemmas.List.FromFn.{get_or-map-range_with_len, length-map-range_with_len}
 use Rattle.base_122.specs.Ranges.{IsInRange, rows_range, IsWithin as IsWithinRange}
-use Rattle.base_122.specs.Sizes.{block_count, padded_size, total_blocks, segment_blocks, first_block}
+use Rattle.base_122.specs.Sizes.{block_count, total_blocks, segment_blocks, first_block}
 use Rattle.base_122.specs.declared.setting.Setting.{Setting}
 use Rattle.base_122.proofs.SizeBounds.{three-le-block_count, one-le-segment_blocks}
 use Rattle.wave_defs.specs.Blocks.{coefficient, block, weight_at}
@@ -45,31 +45,7 @@ use Rattle.wave_defs.proofs.Equations.{block-is}
 
 pub head_said : (s : Setting) (index limit count depth_dc depth_ac : ℕ) → IsInRange s → CanBeSaid s limit → 1 ≤ count → count ≤ 1048575 → 1 ≤ depth_dc → depth_dc ≤ 28 → depth_ac ≤ 27 →
     IsHead (head_with s index limit count depth_dc depth_ac)
-head_said s index limit count depth_dc depth_ac range said some most least_dc most_dc most_ac = record {
-  depth_dc = (least_dc, most_dc);
-  depth_ac = most_ac;
-  pad_rows = pads (index + 1 == segments_of s) s.rows;
-  pads_last = none (index + 1 == segments_of s) s.rows;
-  limit = said.limit;
-  plane = plane_least s.stop.dc s.stop.plane (omega (arith, range.plane));
-  stage = stage_least s.stop.dc s.stop.stage (omega (arith, range.stage));
-  stops_at_dc = λ dc. (ap (λ b. if b then 0 else s.stop.plane) dc, ap (λ b. if b then 3 else s.stop.stage) dc);
-  fill = said.fill;
-  blocks = (some, omega arith);
-  image = record { depth = range.depth; width = (range.width.0, omega (arith, range.width)); word = range.word; weights = range.weights };
-}
-  where
-    plane_least : (dc : Bool) (plane : ℕ) → plane < 32 → (if dc then 0 else plane) < 32
-    plane_least dc plane h = grind (arith, nat_tests)
-
-    stage_least : (dc : Bool) (stage : ℕ) → stage < 4 → (if dc then 3 else stage) < 4
-    stage_least dc stage h = grind (arith, nat_tests)
-
-    pads : (last : Bool) (rows : ℕ) → (if last then padded_size rows - rows else 0) < 8
-    pads last rows = grind (arith, nat_tests)
-
-    none : (last : Bool) (rows : ℕ) → last ≡ false → (if last then padded_size rows - rows else 0) ≡ 0
-    none last rows e = grind (arith, nat_tests)
+head_said s index limit count depth_dc depth_ac range said some most least_dc most_dc most_ac = grind (arith, nat_tests)
 
 -- ---- numbers that are small and multiples of their weights
 
@@ -116,12 +92,7 @@ module _ (s : Setting) (x : ℕ → ℕ → ℤ) (range : IsInRange s) (height :
   c = block_count s.width
 
   image_small : EachWithin (2 ^ 16) (8 * r) (8 * c) (padded x s.rows s.width)
-  image_small = record {
-    at = λ i j hi hj.
-        let rows = height.0 in
-        let width = range.width.0 in
-        pixel_small s.depth s.signed _ range.depth.0 range.depth.1 (pixels.at (min i (s.rows - 1)) (min j (s.width - 1)) (omega (arith, rows)) (omega (arith, width)));
-  }
+  image_small = grind (arith, nat_tests, pixel_small)
 
   all_sound : All (IsSound s.weights.shifts) (image_blocks s x)
   all_sound b d lt =
@@ -154,8 +125,7 @@ module _ (s : Setting) (x : ℕ → ℕ → ℤ) (range : IsInRange s) (height :
     few_blocks = omega (arith, length-segment index, range.segment.1)
 
     number_fits : (z : ℤ) → unsigned_abs z < 2 ^ 27 → IsNumber true 28 z
-    number_fits (pos a) lt = record { low = omega (arith, ints); high = omega (arith, ints, lt) }
-    number_fits (negsuc a) lt = record { low = omega (arith, ints, lt); high = omega (arith, ints) }
+    number_fits z lt = grind (arith, nat_tests, ints)
 
     depth_dc_most : depth_dc_of blocks ≤ 28
     depth_dc_most = depths_law.dc_least blocks 28 (omega arith) (λ k d lt. number_fits _ ((segment_sound index k d lt).small 0))
@@ -163,8 +133,7 @@ module _ (s : Setting) (x : ℕ → ℕ → ℤ) (range : IsInRange s) (height :
     depth_dc_some : 1 ≤ depth_dc_of blocks
     depth_dc_some =
         let here = each_above (λ b. signed_size (dc_of b)) 0 blocks 0 [] (omega (arith, some_blocks)) in
-        let least = some_size (dc_of (get_or blocks 0 [])) in
-        omega (arith, here, least)
+        grind (arith, nat_tests, some_size, get_or)
       where
         some_size : (z : ℤ) → 1 ≤ signed_size z
         some_size (pos a) = omega arith
@@ -182,9 +151,7 @@ module _ (s : Setting) (x : ℕ → ℕ → ℤ) (range : IsInRange s) (height :
     head = head_for s (image_blocks s x) index
 
     pub head_fits : IsHead head
-    head_fits =
-        head_said s index head.limit (length blocks) (depth_dc_of blocks) (depth_ac_of blocks) range (share_said s (image_blocks s x) index range inside) some_blocks few_blocks depth_dc_some depth_dc_most
-        depth_ac_most
+    head_fits = grind (arith, nat_tests, head_said, length, share_said, some_blocks, few_blocks, depth_dc_some, depth_dc_most, depth_ac_most)
 
     -- ---- they can be spelled
 
@@ -209,21 +176,11 @@ module _ (s : Setting) (x : ℕ → ℕ → ℤ) (range : IsInRange s) (height :
         none n = omega arith
 
     below : (n p : ℕ) → 1 ≤ p → magnitude (get_or blocks n []) p < 2 ^ get_or (block_depths blocks) n 0
-    below n p some = elim (cases_lt n (length blocks)) [
-      | inl lt ↦
-          let depth : get_or (block_depths blocks) n 0 ≡ block_depth (get_or blocks n []) = get_or-map block_depth blocks n [] 0 lt in
-          subst (λ d. magnitude (get_or blocks n []) p < 2 ^ d) (sym depth) (in_block (get_or blocks n []) p some)
-      | inr ge ↦
-          let none : magnitude (get_or blocks n []) p ≡ 0 = ap (λ xs. magnitude xs p) (no_block n ge) in
-          let least : 2 ^ 0 ≤ 2 ^ get_or (block_depths blocks) n 0 = pow_mono {i = 0} {j = get_or (block_depths blocks) n 0} (omega arith) in
-          omega (arith, none, least)
-    ]
+    below n p some = grind (arith, nat_tests, cases_lt, length, get_or, get_or-map, in_block, no_block, pow_mono)
       where
         in_block : (xs : List ℤ) (p : ℕ) → 1 ≤ p → magnitude xs p < 2 ^ block_depth xs
         in_block xs p some = elim (cases_lt p (length xs)) [
-          | inl lt ↦
-              let at : get_or (drop 1 xs) (p - 1) (pos 0) ≡ get_or xs p (pos 0) = get_or-drop 1 xs (p - 1) (pos 0) ∙ ap (λ k. get_or xs k (pos 0)) (omega (arith, some)) in
-              subst (λ z. unsigned_abs z < 2 ^ block_depth xs) at (depths_law.block_holds xs (p - 1) (pos 0) (omega (arith, lt, some, length-drop 1 xs)))
+          | inl lt ↦ grind (arith, nat_tests, get_or, pos, get_or-drop, depths_law, length-drop)
           | inr ge ↦
               let none : magnitude xs p ≡ 0 = ap unsigned_abs (get_or_past xs p (pos 0) ge) in
               let least : 2 ^ 0 ≤ 2 ^ block_depth xs = pow_mono {i = 0} {j = block_depth xs} (omega arith) in

@@ -1,12 +1,11 @@
 -- The image of a walk, whatever packets follow.
-use Rattle.std.proofs.Common.{◌≡◌, ◌⊎◌, ◌≤◌, ◌<◌, ◌+◌, ◌*◌, ◌==◌, ℕ, List, [], ◌∷◌, ◌++◌, refl, sym, ap, subst, ◌∙◌, inl, inr, arith, append_assoc, Bool, true, false, Option, None, Some, append-nil, mul-le-mul_right}
+use Rattle.std.proofs.Common.{◌≡◌, ◌⊎◌, ◌≤◌, ◌<◌, ◌+◌, ◌*◌, ℕ, List, [], ◌∷◌, ◌++◌, sym, ap, subst, ◌∙◌, inl, inr, arith, append_assoc, Option, None, Some, append-nil, mul-le-mul_right}
 use Rattle.std.proofs.lemmas.Bool.{false≢true}
 use Rattle.std.proofs.lemmas.Bool.Decides.{nat_tests}
 use Rattle.std.proofs.lemmas.Option.{same_Some}
 use Rattle.base_122.specs.Sizes.{first_block}
 use Rattle.base_122.specs.Ranges.{IsGeometryInRange, IsWithin, rows_range}
 use Rattle.base_122.specs.declared.geometry.Geometry.{Geometry}
-use Rattle.packet_defs.specs.Reading.{ancillary_in}
 use Rattle.stream_defs.specs.declared.fate.FateState.{FateState}
 use Rattle.stream_defs.specs.declared.fate.LastPart.{LastPart}
 use Rattle.stream_defs.specs.Agreement.{blocks_of}
@@ -26,37 +25,22 @@ use Rattle.segment_walk.specs.Segments.{FitsImage}
 
 -- the height is known, or it isn't
 pub known_or_not : (rows : ℕ) → (rows ≡ 0) ⊎ (rows ≡ 0 → ⊥)
-known_or_not rows = by (rows == 0) refl
-  where
-    by : (b : Bool) → (rows == 0) ≡ b → (rows ≡ 0) ⊎ (rows ≡ 0 → ⊥)
-    by true e = inl (grind (arith, nat_tests))
-    by false e = inr (λ none. let hit : (rows == 0) ≡ true = grind (arith, nat_tests) in absurd (false≢true (sym e ∙ hit)))
+known_or_not rows = grind (arith, nat_tests, false≢true)
 
 pub placed_within : (g : Geometry) → IsGeometryInRange g → IsWithin rows_range (placed_rows g)
 placed_within g range = placed_least g range.rows
 
 pub placed_range : (g : Geometry) → IsGeometryInRange g → IsGeometryInRange (placed g)
-placed_range g range = record {
-  width = range.width;
-  rows = inr (placed_within g range);
-  depth = range.depth;
-  segment = range.segment;
-  image = range.image;
-  word = range.word;
-  weights = range.weights;
-}
+placed_range g range = grind (arith, nat_tests, placed_within)
 
 pub last_some : (o : Option LastPart) (n : ℕ) → last_index o ≡ Some n → (l : LastPart) × (o ≡ Some l) × (l.index ≡ n)
-last_some None n e = absurd (let no : None ≡ Some n = e in cc)
-last_some (Some l) n e = (l, refl, let same : Some l.index ≡ Some n = e in cc)
+last_some o n e = grind (arith, nat_tests)
 
 -- ---- a packet that begins a segment
 
 -- its head is read
 pub starts_of : (apid : ℕ) (s : FateState) (x : List ℕ) → Begins apid s x → (start : SegmentStart) × Starts apid s x start
-starts_of apid s x begins =
-    let first : ((ancillary_in x).part == 0) ≡ true = (let part = begins.part in grind (arith, nat_tests)) in
-    starts_with apid s x (rw begins.is_kept first)
+starts_of apid s x begins = grind (arith, nat_tests, starts_with)
 
 -- it is one of its image
 pub fits_begun : (apid : ℕ) (s : FateState) (packet : List ℕ) (start : SegmentStart) → (b : Begun apid s packet start) → FitsImage (placed b.image) start
@@ -80,22 +64,7 @@ ends_segment g h n ends = elim ends [ inl same ↦ ap (λ (g : Geometry). g.segm
 
 -- if its height becomes known
 told_ends : (g image told : Geometry) (n first : ℕ) → MayEnd g (placed image) n → image.rows ≡ 0 → told ≡ record image { rows = told.rows } → IsGeometryInRange told → (told.rows ≡ 0 → ⊥) → n ≤ first → first < blocks_of (placed told) → EndsAt g (placed told) n
-told_ends g image told n first ends none same range some le within =
-    let most = (placed_within told range).1 in
-    let tall = placed_open image none in
-    record {
-      range = placed_range told range;
-      height = placed_within told range;
-      same = elim ends [
-        | inl here ↦ (λ i. record (same i) { rows = placed_rows told }) ∙ (λ i. record (here i) { rows = placed_rows told })
-        | inr earlier ↦ (λ i. record (same i) { rows = placed_rows told }) ∙ (λ i. record (earlier.same i) { rows = placed_rows told })
-      ];
-      fewer = elim ends [
-        | inl here ↦ let rows = ap (λ (g : Geometry). g.rows) here in omega (arith, most, tall, rows)
-        | inr earlier ↦ let fewer = earlier.fewer in omega (arith, most, tall, fewer)
-      ];
-      more = omega (arith, le, within);
-    }
+told_ends g image told n first ends none same range some le within = grind (arith, nat_tests, placed_within, placed_open, placed_range)
 
 module _ (apid : ℕ) (before : List (List ℕ)) (g : Geometry) (n : ℕ) (stays : StaysIn (after_all apid fresh before) g n) where
   abbrev s : FateState
@@ -120,15 +89,7 @@ module _ (apid : ℕ) (before : List (List ℕ)) (g : Geometry) (n : ℕ) (stays
         image = b.image;
         geometry = b.geometry;
         range = range;
-        ends = elim (known_or_not stays.image.rows) [
-          | inr known ↦ subst (λ h. MayEnd g (placed h) n) (sym (b.known stays.image stays.geometry known)) stays.ends
-          | inl open_yet ↦ elim (known_or_not b.image.rows) [
-            | inl still ↦
-                let same : b.image ≡ stays.image = parts ∙ (λ i. record stays.image { rows = (still ∙ sym open_yet) i }) in
-                subst (λ h. MayEnd g (placed h) n) (sym same) stays.ends
-            | inr told ↦ inr (told_ends g stays.image b.image n start.ancillary.first stays.ends open_yet parts range told low b.within)
-          ]
-        ];
+        ends = grind (arith, nat_tests, known_or_not, told_ends);
         index = start.ancillary.index;
         last = ap last_index b.last ∙ ap Some b.index;
         before = omega (arith, stays.before, more);
@@ -169,15 +130,9 @@ stays_at s g n image stays is = let same : stays.image ≡ image = same_Some _ _
 
 -- as far as fewer blocks
 pub ends_fewer : (g h : Geometry) (m n : ℕ) → m ≤ n → MayEnd g h n → MayEnd g h m
-ends_fewer g h m n le ends = elim ends [
-  | inl same ↦ inl same
-  | inr e ↦ inr record { range = e.range; height = e.height; same = e.same; fewer = e.fewer; more = omega (arith, e.more, le) }
-]
+ends_fewer g h m n le ends = grind (arith, nat_tests)
 
 -- ---- what a sink gives of it
 
 pub part_ends : {S : Type 0} (k : SinkOf S) (g h : Geometry) (blocks : Blocks) (n : ℕ) (gave : List ℕ) → MayEnd g h n → k.Part g blocks n gave → k.Part h blocks n gave
-part_ends k g h blocks n gave ends part = elim ends [
-  | inl same ↦ subst (λ h. k.Part h blocks n gave) (sym same) part
-  | inr e ↦ k.part_ended g h blocks n gave e part
-]
+part_ends k g h blocks n gave ends part = grind (arith, nat_tests)

@@ -1,11 +1,11 @@
 -- Pictures of some packets of an image, and of all of them.
-use Rattle.std.proofs.Common.{◌≡◌, ◌⊎◌, inl, inr, ◌≤◌, ◌<◌, ◌+◌, ◌-◌, ◌*◌, ◌/◌, ℕ, zero, suc, ℤ, List, [], ◌∷◌, length, map, refl, sym, ap, subst, ◌∙◌, arith, ◌==◌, ◌&&◌, not, if◌then◌else◌, max, fold, Bool, true, false, Option, None, Some, is_some, MatchOption, mul-le-mul_right}
+use Rattle.std.proofs.Common.{◌≡◌, ◌⊎◌, ◌≤◌, ◌<◌, ◌+◌, ◌-◌, ◌*◌, ◌/◌, ℕ, zero, suc, ℤ, List, [], ◌∷◌, length, map, refl, sym, ap, subst, ◌∙◌, arith, ◌==◌, if◌then◌else◌, max, fold, Bool, true, false, Option, None, Some, is_some, MatchOption, mul-le-mul_right}
 use Rattle.std.specs.List.{AllByRecursion}
 use Rattle.std.proofs.lemmas.Bool.{false≢true, ne_eqb}
 use Rattle.std.proofs.lemmas.Bool.Decides.{nat_tests}
 use Rattle.std.proofs.lemmas.Nat.{div_below}
 use Rattle.port_122.proofs.Stretches.{each_of_both}
-use Rattle.base_122.specs.Ranges.{IsGeometryInRange, IsInRange, IsWithin, rows_range}
+use Rattle.base_122.specs.Ranges.{IsGeometryInRange, IsInRange}
 use Rattle.base_122.specs.Setting.{image_geometry, sized}
 use Rattle.base_122.specs.Sizes.{block_count, total_blocks}
 use Rattle.base_122.specs.declared.geometry.Geometry.{Geometry}
@@ -21,7 +21,7 @@ use Rattle.packet_defs.proofs.Splits.{splits_whole, joined_splits}
 use Rattle.segment_code.specs.Laws.{TextsAreShort}
 use Rattle.stream_defs.specs.Begun.{band_rows, begun, begun_in, block_rows, end_in, end_of, end_told, height}
 use Rattle.stream_defs.specs.Chosen.{IsRising, IsChoice, chosen, all_parts, run}
-use Rattle.stream_defs.specs.Fates.{fresh, after_all, kept, kept_in, geometry_in}
+use Rattle.stream_defs.specs.Fates.{fresh, kept, kept_in, geometry_in}
 use Rattle.stream_defs.specs.Output.{image_blocks, output, packets_of, segment_of, segments_of, tells_last}
 use Rattle.stream_defs.specs.Picture.{number_at, picture_of, picture_with, whole_picture}
 use Rattle.stream_defs.specs.Places.{parts_of, packet_at, AreCoded}
@@ -39,7 +39,7 @@ use Rattle.segment_walk.specs.Images.{AreWith, some_output, BeginsOne, is_begun,
 use Rattle.segment_walk.proofs.Asking.{both_tell}
 use Rattle.segment_walk.proofs.CodedImages.{images_coded}
 use Rattle.segment_walk.proofs.Showing.{number_by}
-use Rattle.stream_defs.proofs.Equations.{chosen-is}
+use Rattle.stream_defs.proofs.Equations.{chosen-is, end_of-is}
 use Rattle.packet_defs.proofs.Equations.{text_packets-is}
 
 -- ---- packets of an image as octets
@@ -56,8 +56,7 @@ module _ (told : Bool) (s : Setting) (all : List (List ℤ)) (coded : AreCoded s
 
     -- of the first segments
     pub each_chosen : (n : ℕ) → n ≤ segments_of s → AllByRecursion P (chosen told s all parts n)
-    unfolding chosen
-    each_chosen zero le = tt
+    each_chosen zero le = rw chosen-is tt
     each_chosen (suc n) le =
         let e : n + 1 ≡ suc n = omega arith in
         subst (λ m. AllByRecursion P (chosen told s all parts m)) e (subst (AllByRecursion P) (sym (chosen_more told s all coded parts choice parts n))
@@ -93,23 +92,17 @@ module _ (told : Bool) (s : Setting) (all : List (List ℤ)) (coded : AreCoded s
       omega (arith, reach, coded.blocks index lt, block_before s all coded index lt)
   end_at index (suc k) lt few =
       let reads = part_reads told s all coded index (suc k) lt few in
-      let packet = packet_at told s all index (suc k) in
-      let written = written_at told s index (suc k) in
-      let later : (suc k == 0) ≡ false = ne_eqb (suc k) 0 (λ e. omega (arith, e)) in
-      let none : end_in packet ≡ 0 =
-      ap (λ (a : Ancillary). if a.part == 0 then end_told a (head_read (text_in packet)) else 0) reads.ancillary_is ∙ ap (λ b. if b then end_told written (head_read (text_in packet)) else 0) later in
-      omega (arith, none)
+      grind (arith, nat_tests, ne_eqb)
 
   module _ (parts : ℕ → List ℕ) (choice : IsChoice s all parts) where
     goes : IsChoice s all (λ index. run 0 (parts index))
     goes = record { each = λ index lt. run_rises 0 0 (parts_of s all index) (parts index) (choice.each index lt) }
 
     pub ends_within : end_of (kept s.apid fresh (chosen told s all parts (segments_of s))) ≤ total_blocks s.width s.rows
-    unfolding end_of
     ends_within =
         subst (λ packets. end_of packets ≤ total_blocks s.width s.rows) (sym (sublist_kept told s all parts coded choice).those_kept)
-        (ends_few (total_blocks s.width s.rows) 0 (chosen told s all (λ index. run 0 (parts index)) (segments_of s)) (omega arith)
-        (each_chosen told s all coded (λ index. run 0 (parts index)) goes (λ packet. end_in packet ≤ total_blocks s.width s.rows) end_at (segments_of s) (omega arith)))
+        (rw end_of-is (ends_few (total_blocks s.width s.rows) 0 (chosen told s all (λ index. run 0 (parts index)) (segments_of s)) (omega arith)
+        (each_chosen told s all coded (λ index. run 0 (parts index)) goes (λ packet. end_in packet ≤ total_blocks s.width s.rows) end_at (segments_of s) (omega arith))))
 
 -- ---- the segments that are received of some packets
 
@@ -141,12 +134,7 @@ module _ (short : TextsAreShort) (s : Setting) (rows : ℕ) (x : ℕ → ℕ →
 
 -- those of the image, or none
 pub reported_is : (s : Setting) (rows : ℕ) (parts : ℕ → List ℕ) → (reported_rows s rows parts ≡ rows) ⊎ ((s.rows ≡ 0) × (reported_rows s rows parts ≡ 0))
-reported_is s rows parts = by (tells_last s) refl (is_begun (parts (segments_of (sized s rows) - 1)))
-  where
-    by : (b : Bool) → tells_last s ≡ b → (c : Bool) → ((if b && not c then 0 else rows) ≡ rows) ⊎ ((s.rows ≡ 0) × ((if b && not c then 0 else rows) ≡ 0))
-    by false e c = inl refl
-    by true e true = inl refl
-    by true e false = inr (grind (arith, nat_tests), refl)
+reported_is s rows parts = grind (arith, nat_tests)
 
 -- if the last segment is begun
 pub reported_begun : (s : Setting) (rows : ℕ) (parts : ℕ → List ℕ) → is_begun (parts (segments_of (sized s rows) - 1)) ≡ true → reported_rows s rows parts ≡ rows
@@ -175,8 +163,7 @@ module _ (short : TextsAreShort) (s : Setting) (rows : ℕ) (x : ℕ → ℕ →
   pub geometry_there : BeginsOne s rows parts → geometry_in s.apid (some_output s rows x parts) ≡ Some (reported s rows parts)
   geometry_there one =
       let there = (sublist_kept told u all parts coded are.choice).geometry one.index one.more one.within one.begins in
-      ap (λ packets. (after_all s.apid fresh packets).geometry) packets_are
-      ∙ there.3 ∙ ap (λ b. Some (image_geometry s (if told && not b then 0 else rows))) (begun_last u parts there.0 there.1 there.2)
+      grind (arith, nat_tests, packets_are, begun_last)
 
   -- the kept heads reach no block row past the image
   pub begun_few : BeginsOne s rows parts → begun_in s.apid (some_output s rows x parts) ≤ block_count rows
@@ -184,23 +171,15 @@ module _ (short : TextsAreShort) (s : Setting) (rows : ℕ) (x : ℕ → ℕ →
       let octets = some_output s rows x parts in
       let ends : end_of (kept_in s.apid octets) ≤ total_blocks s.width rows =
       subst (λ packets. end_of (kept s.apid fresh packets) ≤ total_blocks s.width rows) (sym packets_are) (ends_within told u all coded parts are.choice) in
-      let here : begun_in s.apid octets ≡ begun (reported s rows parts) (kept_in s.apid octets) = rw (geometry_there one) refl in
-      let c = block_count s.width in
-      let wide = three-le-block_count s.width are.image.range.width.0 in
-      let more : (block_count rows + 1) * c ≡ c * block_count rows + c = grind arith in
-      let turned : c * (block_count rows + 1) ≡ (block_count rows + 1) * c = grind arith in
-      let below : end_of (kept_in s.apid octets) / c < block_count rows + 1 = div_below (end_of (kept_in s.apid octets)) c (block_count rows + 1) (omega (arith, wide)) (omega (arith, ends, more, turned, wide)) in
-      omega (arith, here, below)
+      grind (arith, nat_tests, geometry_there, three-le-block_count, div_below)
 
   module _ (received whole : Numbers) (some_are : ReceivedIn (holds_after s.book) s.apid (some_output s rows x parts) received) (all_are : ReceivedIn (holds_after s.book) s.apid (output s rows x) whole) where
     -- a segment that is received of some is received of all, with the same numbers
     same_by : (index : ℕ) (o : Option (List (List ℤ))) → index < segments_of u → received index ≡ o → is_some o ≡ true → whole index ≡ received index
     same_by index None lt is some = absurd (false≢true some)
     same_by index (Some w) lt is some =
-        let here : MatchOption (Some w) ((v : List (List ℤ)) → IsReceived (holds_after s.book) (kept s.apid fresh (whole_packets (some_output s rows x parts))) index v → ⊥) (IsReceived (holds_after s.book) (kept s.apid fresh (whole_packets (some_output s rows x parts))) index) =
-        subst (λ o. MatchOption o ((v : List (List ℤ)) → IsReceived (holds_after s.book) (kept s.apid fresh (whole_packets (some_output s rows x parts))) index v → ⊥) (IsReceived (holds_after s.book) (kept s.apid fresh (whole_packets (some_output s rows x parts))) index)) is (some_are.at index) in
-        let mine : IsReceived (holds_after s.book) (kept s.apid fresh (chosen told u all parts (segments_of u))) index w =
-        subst (λ packets. IsReceived (holds_after s.book) (kept s.apid fresh packets) index w) packets_are here in
+        let here : MatchOption (Some w) ((v : List (List ℤ)) → IsReceived (holds_after s.book) (kept s.apid fresh (whole_packets (some_output s rows x parts))) index v → ⊥) (IsReceived (holds_after s.book) (kept s.apid fresh (whole_packets (some_output s rows x parts))) index) = grind (arith, nat_tests) in
+        let mine : IsReceived (holds_after s.book) (kept s.apid fresh (chosen told u all parts (segments_of u))) index w = grind (arith, nat_tests, packets_are) in
         let held = (received_only told u all coded parts are.choice (holds_after s.book) index w lt mine).1 in
         let there : IsReceived (holds_after s.book) (kept s.apid fresh (whole_packets (output s rows x))) index w =
         subst (λ packets. IsReceived (holds_after s.book) (kept s.apid fresh packets) index w) (sym (output_whole short s rows x are.image))
@@ -209,13 +188,7 @@ module _ (short : TextsAreShort) (s : Setting) (rows : ℕ) (x : ℕ → ℕ →
 
     -- with the numbers of all packets in the lost blocks
     pub with_all : (r n : ℕ) → block_rows (image_geometry s r) n ≤ block_count rows → AreWith (image_geometry s r) received (number_at (image_geometry s r) whole) n
-    with_all r n few = record {
-      at = λ block i low small there.
-          let turned : total_blocks s.width rows ≡ block_count rows * block_count s.width = grind arith in
-          let most : block_rows (image_geometry s r) n * block_count s.width ≤ block_count rows * block_count s.width = mul-le-mul_right (block_count s.width) few in
-          let below = segment_within short s rows x are.image block (omega (arith, low, most, turned)) in
-          number_by (image_geometry s r) whole received block i (same_by (block / s.segment) (received (block / s.segment)) below refl there);
-    }
+    with_all r n few = grind (arith, nat_tests, mul-le-mul_right, segment_within, number_by, same_by)
 
     -- whether the height is reported or not
     module _ (r n : ℕ) (is : (r ≡ rows) ⊎ ((s.rows ≡ 0) × (r ≡ 0))) (few : n ≤ block_count rows) where
@@ -229,15 +202,7 @@ module _ (short : TextsAreShort) (s : Setting) (rows : ℕ) (x : ℕ → ℕ →
       wide = three-le-block_count s.width are.image.range.width.0
 
       pub geometry_range : IsGeometryInRange g
-      geometry_range = let range = are.image.range in record {
-        width = range.width;
-        rows = elim is [ inl same ↦ inr (subst (IsWithin rows_range) (sym same) are.image.height.0) | inr none ↦ inl none.1 ];
-        depth = range.depth;
-        segment = range.segment;
-        image = range.image;
-        word = range.word;
-        weights = range.weights;
-      }
+      geometry_range = grind (arith, nat_tests)
 
       not_open : r ≡ rows → (r == 0) ≡ false
       not_open same = is_not_open r (λ none. within_not rows are.image.height.0 (sym same ∙ none))

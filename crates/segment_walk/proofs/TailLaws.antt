@@ -8,7 +8,6 @@ use Rattle.packet_defs.specs.Reading.{flags_in}
 use Rattle.stream_defs.specs.declared.fate.FateState.{FateState}
 use Rattle.stream_defs.specs.declared.fate.LastPart.{LastPart}
 use Rattle.stream_defs.specs.Fates.{fate, after, after_all, is_kept, closes, part_in}
-use Rattle.stream_defs.specs.Received.{number_of_part}
 use Rattle.stream_defs.proofs.KeptOrder.{Begins, Follows, does, HasReached, reached_on}
 use Rattle.packet_assembly.specs.Assembling.{last_index, is_closed}
 use Rattle.packet_assembly.specs.Tails.{kept_tail, tail_over, tail_from}
@@ -26,12 +25,8 @@ over_more apid s (x ∷ xs) ys stop other never e = by (is_kept (fate apid s x))
   where
     by : (b : Bool) → is_kept (fate apid s x) ≡ b → ((tail_over apid (after apid s x) xs other).ends ≡ Plainly → tail_over apid (after apid s x) (xs ++ ys) stop ≡ tail_over apid (after apid s x) xs other) →
         tail_over apid s (x ∷ xs ++ ys) stop ≡ tail_over apid s (x ∷ xs) other
-    by false lost more =
-        over_lost apid s x (xs ++ ys) stop lost ∙ more (sym (ap (λ (t : Tail). t.ends) (over_lost apid s x xs other lost)) ∙ e) ∙ sym (over_lost apid s x xs other lost)
-    by true keeps more =
-        over_kept apid s x (xs ++ ys) stop keeps
-        ∙ kept_same x (tail_over apid (after apid s x) xs other) (tail_over apid (after apid s x) (xs ++ ys) stop) (sym (ap (λ (t : Tail). t.ends) (over_kept apid s x xs other keeps)) ∙ e) more
-        ∙ sym (over_kept apid s x xs other keeps)
+    by false lost more = grind (arith, nat_tests, over_lost)
+    by true keeps more = grind (arith, nat_tests, over_kept, kept_same)
 
 pub from_more : (apid : ℕ) (s : FateState) (xs ys : List (List ℕ)) (stop other : End) → (other ≡ Plainly → ⊥) → (tail_from apid s xs other).ends ≡ Plainly → tail_from apid s (xs ++ ys) stop ≡ tail_from apid s xs other
 from_more apid s xs ys stop other never e = grind (arith, nat_tests, over_more)
@@ -45,8 +40,7 @@ some_index o l n e h = let same : Some l.index ≡ Some n = sym (ap last_index e
 not_back : (apid n : ℕ) (s : FateState) (xs : List (List ℕ)) → HasReached (n + 1) s → last_index (after_all apid s xs).last ≡ Some n → ⊥
 not_back apid n s xs reached last =
     let r = reached_on (n + 1) apid s xs reached in
-    let e = some_index (after_all apid s xs).last r.last n r.last_is last in
-    absurd (omega (arith, e, r.least))
+    grind (arith, nat_tests, some_index)
 
 -- the state after a packet of another segment
 reached_by : (apid n : ℕ) (s : FateState) (x : List ℕ) (l : LastPart) → s.last ≡ Some l → l.index ≡ n → Begins apid s x → HasReached (n + 1) (after apid s x)
@@ -81,10 +75,7 @@ over_closes apid n s (x ∷ xs) l is e plain last = elim (does apid s x) [
         ((tail_over apid (after apid s x) xs InPieces).ends ≡ Plainly → last_index (after_all apid (after apid s x) xs).last ≡ Some n → is_closed (after_all apid (after apid s x) xs).last ≡ true) →
         is_closed (after_all apid (after apid s x) xs).last ≡ true
     by_flags next true f more = closed_stays apid n (after apid s x) xs (part_in x) next.last (next.index ∙ ap (λ (l : LastPart). l.index) (same_Some _ _ (sym next.before_is ∙ is)) ∙ e) f last
-    by_flags next false f more =
-        let here : (kept_tail x (tail_over apid (after apid s x) xs InPieces)).ends ≡ Plainly = sym (ap (λ (t : Tail). t.ends) (over_kept apid s x xs InPieces next.is_kept)) ∙ plain in
-        let later : (tail_over apid (after apid s x) xs InPieces).ends ≡ Plainly = rw (more_test (number_of_part x) next.before.part next.part, f) at here in
-        more later last
+    by_flags next false f more = grind (arith, nat_tests, over_kept, more_test)
 
 -- and if they have closed it, it ends plainly
 pub over_closed : (apid n : ℕ) (s : FateState) (xs : List (List ℕ)) (l : LastPart) → s.last ≡ Some l → l.index ≡ n → l.closed ≡ false → last_index (after_all apid s xs).last ≡ Some n →

@@ -1,5 +1,5 @@
 -- A segment's text that was read, by what its packets bring.
-use Rattle.std.proofs.Common.{◌≡◌, ◌*◌, ℕ, ℤ, List, [], ◌∷◌, ◌++◌, length, take, refl, sym, ap, subst, ◌∙◌, arith, Bool, true, false, Option, None, Some, Result, Ok, Err, option_map}
+use Rattle.std.proofs.Common.{◌≡◌, ◌*◌, ℕ, ℤ, List, [], ◌∷◌, ◌++◌, length, take, refl, sym, ap, subst, ◌∙◌, arith, Bool, true, false, Option, Some, Result, Ok, Err, option_map}
 use Rattle.std.proofs.lemmas.List.{append-nil, take-append-le}
 use Rattle.std.proofs.lemmas.Bool.Decides.{nat_tests}
 use Rattle.port_122.specs.Outside.{Outside, Loses}
@@ -32,10 +32,7 @@ pub record IsLeft (now : Option (List ℕ)) (took before : List ℕ) : Type 0 wh
   pub are : before ≡ took ++ rest
 
 pub left_after : (o n : Option (List ℕ)) (took before : List ℕ) → Loses o n took → o ≡ Some before → IsLeft n took before
-left_after None None took before loses told = absurd cc
-left_after (Some xs) (Some now) took before loses told = let same : xs ≡ before = cc in record { rest = now; told = refl; are = sym same ∙ loses }
-left_after None (Some now) took before loses told = absurd loses
-left_after (Some xs) None took before loses told = absurd loses
+left_after o n took before loses told = grind (arith, nat_tests)
 
 -- what was read of a text, if the port reports what is left
 pub record HasCome (a b : Assembling) (before : List ℕ) (now : Option (List ℕ)) (octets : List ℕ) : Type 0 where
@@ -45,10 +42,7 @@ pub record HasCome (a b : Assembling) (before : List ℕ) (now : Option (List �
   pub ends : (text_tail a before).ends ≡ (text_tail b rest).ends
 
 come_by : (a b : Assembling) (o n : Option (List ℕ)) (before : List ℕ) (took octets : List ℕ) → Loses o n took → o ≡ Some before → Comes (option_map (text_tail a) o) (option_map (text_tail b) n) octets → HasCome a b before n octets
-come_by a b o n before took octets loses told came =
-    let left = left_after o n took before loses told in
-    let here : Comes (option_map (text_tail a) (Some before)) (option_map (text_tail b) (Some left.rest)) octets = rw (told, left.told) at came in
-    record { rest = left.rest; told = left.told; octets_are = here.0; ends = here.1 }
+come_by a b o n before took octets loses told came = grind (arith, nat_tests, left_after)
 
 over_by : (b : Assembling) (n : Option (List ℕ)) (rest : List ℕ) (ends : End) → n ≡ Some rest → IsOver (option_map (text_tail b) n) ends → ((text_tail b rest).octets ≡ []) × ((text_tail b rest).ends ≡ ends)
 over_by b n rest ends told over = let here : IsOver (option_map (text_tail b) (Some rest)) ends = rw told at over in here
@@ -81,8 +75,7 @@ module _ {X : Type 0} (outside : X → Outside) (book : Book) (s t : SegmentText
     whole : (before : List ℕ) → old.rest ≡ Some before → ((text_tail s.assembly.now before).ends ≡ Plainly) × ((text_tail s.assembly.now before).octets ≡ d.octets)
     whole before told =
         let x = come d.octets before goes d.came told in
-        let over = over_by t.assembly.now now.rest x.rest Plainly x.told d.ends.0 in
-        (x.ends ∙ over.1, x.octets_are ∙ ap (λ zs. d.octets ++ zs) over.0 ∙ append-nil d.octets)
+        grind (arith, nat_tests, over_by, append-nil)
 
     none_left : (before : List ℕ) → now.rest ≡ Some before → ((text_tail t.assembly.now before).octets ≡ []) × ((text_tail t.assembly.now before).ends ≡ Plainly)
     none_left before told = over_by t.assembly.now now.rest before Plainly told d.ends.0
@@ -94,9 +87,7 @@ module _ {X : Type 0} (outside : X → Outside) (book : Book) (s t : SegmentText
       closed = e.closed;
       some = d.octets;
       holds = subst (λ xs. Holds book head d.octets (blocks_in xs)) cells_are d.ends.1.holds;
-      told = λ before told.
-          let x = whole before told in
-          (x.0, subst (λ zs. Holds book head zs (blocks_in (cells_of head (cells ++ more)))) (sym x.1) (subst (λ xs. Holds book head d.octets (blocks_in xs)) cells_are d.ends.1.holds));
+      told = grind (arith, nat_tests, whole, cells_are);
     }
     ends_by (Ok false) e = record {
       goes = goes_both goes e.goes;
@@ -110,9 +101,7 @@ module _ {X : Type 0} (outside : X → Outside) (book : Book) (s t : SegmentText
 
     pub text_read : (p x : X) (a y : Assembling) (result : Result Bool DecodeFault) → s.port.now ≡ p → s.assembly.now ≡ a → x ≡ t.port.now → y ≡ t.assembly.now → EndsText (outside x) new y b result →
         ReadsText book (outside p) new a b head (cells ++ more) result
-    text_read p x a y result begins from e f ends =
-        subst (λ p. ReadsText book (outside p) new a b head (cells ++ more) result) begins (subst (λ a. ReadsText book old new a b head (cells ++ more) result) from
-        (ends_by result (subst (λ y. EndsText now new y b result) f (subst (λ x. EndsText (outside x) new y b result) e ends))))
+    text_read p x a y result begins from e f ends = grind (arith, nat_tests, ends_by)
 
   -- ---- a text that is refused
 

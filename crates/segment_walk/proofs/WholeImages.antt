@@ -13,7 +13,7 @@ use Rattle.packet_defs.specs.Streams.{left_over, place_after, framing, framing_a
 use Rattle.packet_defs.proofs.Splits.{joined_splits, splits_left}
 use Rattle.segment_code.specs.Laws.{CodedHolds, TextsAreShort, CodedHoldsExactly}
 use Rattle.stream_defs.specs.Chosen.{IsChoice, chosen, all_parts}
-use Rattle.stream_defs.specs.Damage.{is_missing, whole_missing, missing_below}
+use Rattle.stream_defs.specs.Damage.{is_missing, whole_missing}
 use Rattle.stream_defs.specs.Fates.{geometry_in}
 use Rattle.stream_defs.specs.Output.{head_for, image_blocks, output, segment_text, segments_of, tells_last, segment_of, used_before}
 use Rattle.stream_defs.specs.Places.{parts_of, AreCoded}
@@ -29,6 +29,8 @@ use Rattle.stream_defs.proofs.ShareLaws.{share_none}
 use Rattle.stream_defs.specs.Picture.{number_at}
 use Rattle.segment_walk.proofs.Showing.{number_in}
 use Rattle.segment_walk.proofs.SpelledImages.{head_fits, spells}
+use Rattle.stream_defs.proofs.Equations.{missing_below-is}
+use Rattle.packet_defs.proofs.Equations.{framing_at-is}
 
 -- ---- none of a range
 
@@ -40,18 +42,13 @@ filter_miss p a (suc n) none =
 
 -- if each block is received, no block row is missing
 none_missing : (g : Geometry) (received : Numbers) → ((block : ℕ) → block < block_count g.rows * block_count g.width → is_some (received (block / g.segment)) ≡ true) → whole_missing g received ≡ []
-unfolding missing_below
 none_missing g received all =
     let c = block_count g.width in
-    filter_miss (is_missing g received) 0 (block_count g.rows) (λ row low inside.
+    missing_below-is g received (block_count g.rows) ∙ filter_miss (is_missing g received) 0 (block_count g.rows) (λ row low inside.
     any_miss (λ column. not (is_some (received ((row * c + column) / g.segment)))) 0 c (λ column from within. ap not (all (row * c + column) (before row column (omega (arith, inside)) (omega (arith, within))))))
   where
     before : (row column : ℕ) → row < block_count g.rows → column < block_count g.width → row * block_count g.width + column < block_count g.rows * block_count g.width
-    before row column inside within =
-        let c = block_count g.width in
-        let next : (row + 1) * c ≤ block_count g.rows * c = mul-le-mul_right c (omega (arith, inside)) in
-        let more : (row + 1) * c ≡ row * c + c = grind arith in
-        omega (arith, next, more, within)
+    before row column inside within = grind (arith, nat_tests, mul-le-mul_right)
 
 -- ---- an image's packets
 
@@ -82,8 +79,7 @@ module _ (short : TextsAreShort) (s : Setting) (rows : ℕ) (x : ℕ → ℕ →
   none_left = ap left_over all_are ∙ splits_left (joined_splits packets (all_packets told t all coded (all_parts t all) choice))
 
   pub framed : framing (output s rows x) ≡ None
-  unfolding framing_at
-  framed = ap (λ left. framing_at (place_after (output s rows x)) left) none_left
+  framed = ap (λ left. framing_at (place_after (output s rows x)) left) none_left ∙ framing_at-is [] (place_after (output s rows x))
 
   -- ---- its geometry
 

@@ -1,9 +1,10 @@
 -- The octets that wait in a buffer.
-use Rattle.std.proofs.Common.{◌≡◌, ◌≤◌, ◌<◌, ◌+◌, ◌*◌, ◌^◌, ℕ, List, [], ◌++◌, length, take, drop, refl, ap, ◌∙◌, arith, length-take, nat_lt, nat_le, Bool, true, false, Result, Ok, is_ok, if◌then◌else◌, ltb-false, ltb-true, leb-true}
+use Rattle.std.proofs.lemmas.Bool.Decides.{nat_tests}
+use Rattle.std.proofs.Common.{◌≡◌, ◌≤◌, ◌<◌, ◌+◌, ◌*◌, ◌^◌, ℕ, List, [], ◌++◌, length, take, drop, ap, ◌∙◌, arith, length-take, nat_lt, nat_le, Bool, true, false, Result, Ok, is_ok, if◌then◌else◌, ltb-false, ltb-true, leb-true}
 use Rattle.std.specs.Bool.{OnTrue, OnFalse}
 use Rattle.std.proofs.lemmas.List.{drop_all, drop-append-le}
 use Rattle.space_packets.specs.declared.stage.PacketiserState.{PacketiserState}
-use Rattle.space_packets.specs.declared.stage.PacketiserState.TheVariants.{Idle, Begun, Broken}
+use Rattle.space_packets.specs.declared.stage.PacketiserState.TheVariants.{Begun}
 use Rattle.space_packets.specs.declared.stage.Text.{Text}
 use Rattle.space_packets.specs.Stages.{given_in, room_of, parts_of}
 
@@ -17,40 +18,28 @@ more_wait items now octets long e = ap (drop 30) e ∙ drop-append-le 30 items o
 
 -- at most the size of a part
 pub room_least : (s : PacketiserState) (size : ℕ) → room_of s size ≤ size
-room_least Idle size = omega arith
-room_least (Begun t) size = omega arith
-room_least Broken size = omega arith
+room_least s size = grind (arith, nat_tests)
 
 pub given_count : (s : PacketiserState) (size pending : ℕ) → given_in s size pending < 2 ^ 32 → given_in s size pending ≡ parts_of s * size + pending
-given_count Idle size pending few = absurd (omega (arith, few))
-given_count (Begun t) size pending few = refl
-given_count Broken size pending few = absurd (omega (arith, few))
+given_count s size pending few = grind (arith, nat_tests)
 
 -- and further octets are counted
 pub given_more : (s : PacketiserState) (size pending count now : ℕ) → given_in s size pending < 2 ^ 32 → now ≡ pending + count → given_in s size now ≡ given_in s size pending + count
-given_more Idle size pending count now few e = absurd (omega (arith, few))
-given_more (Begun t) size pending count now few e = omega (arith, e)
-given_more Broken size pending count now few e = absurd (omega (arith, few))
+given_more s size pending count now few e = grind (arith, nat_tests)
 
 pub given_room : (s : PacketiserState) (size pending : ℕ) → given_in s size pending < 2 ^ 32 → room_of s size ≡ size
-given_room Idle size pending few = absurd (omega (arith, few))
-given_room (Begun t) size pending few = refl
-given_room Broken size pending few = absurd (omega (arith, few))
+given_room s size pending few = grind (arith, nat_tests)
 
 -- the text that is begun
 pub given_text : (s : PacketiserState) (size pending : ℕ) → given_in s size pending < 2 ^ 32 → (t : Text) × (s ≡ Begun t)
-given_text Idle size pending few = absurd (omega (arith, few))
-given_text (Begun t) size pending few = (t, refl)
-given_text Broken size pending few = absurd (omega (arith, few))
+given_text s size pending few = grind (arith, nat_tests)
 
 -- a fact for the case that one number is below another, and for the other case
 on_true : {P : Type 0} (b : Bool) → (b ≡ true → P) → OnTrue b P
-on_true true f = f refl
-on_true false f = tt
+on_true b f = grind (arith, nat_tests)
 
 on_false : {P : Type 0} (b : Bool) → (b ≡ false → P) → OnFalse b P
-on_false true f = tt
-on_false false f = f refl
+on_false b f = grind (arith, nat_tests)
 
 pub on_less : {P : Type 0} (a b : ℕ) → (a < b → P) → OnTrue (nat_lt a b) P
 on_less a b f = on_true (nat_lt a b) (λ e. f (ltb-true a b e))

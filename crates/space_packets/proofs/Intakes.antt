@@ -1,5 +1,5 @@
 -- The effect of further octets, and of results, on a reader's state.
-use Rattle.std.proofs.Common.{◌≡◌, ◌≢◌, ◌≤◌, ◌<◌, ◌+◌, ◌-◌, ℕ, List, [], ◌∷◌, ◌++◌, length, take, drop, refl, sym, ap, subst, ◌∙◌, arith, append_assoc, add_assoc, add-zero, length-append, length-drop, Bool, true, false, ◌||◌, ◌==◌, Some, None, Result, Ok, Err, slice_range}
+use Rattle.std.proofs.Common.{◌≡◌, ◌≢◌, ◌≤◌, ◌<◌, ◌+◌, ◌-◌, ℕ, List, [], ◌++◌, length, take, drop, refl, sym, ap, subst, ◌∙◌, arith, append_assoc, add-zero, length-append, length-drop, Bool, true, false, ◌||◌, ◌==◌, Some, None, Result, Ok, Err, slice_range}
 use Rattle.std.proofs.lemmas.Bool.{false≢true, or_parts}
 use Rattle.std.proofs.lemmas.Bool.Decides.{nat_tests}
 use Rattle.std.proofs.lemmas.List.{append-nil, take-append-le, drop-append-le, drop-take, drop-drop, length-take-le, take-take, take_at, with_items_is}
@@ -7,12 +7,11 @@ use Rattle.std.proofs.Math.Seq.{take-append-add}
 use Rattle.std.specs.Global.{Vec}
 use Rattle.std.specs.Vec.{with_items}
 use borrow.Rule.Slice.PartMut.{put_mid, post_of}
-use Rattle.bit_pipe.specs.declared.fault.InFault.TheVariants.{LongInput, ReadFault, Broken}
+use Rattle.bit_pipe.specs.declared.fault.InFault.TheVariants.{ReadFault}
 use Rattle.bit_pipe.specs.declared.fault.InFault.{InFault}
 use Rattle.port_122.specs.Outside.{Outside, Exchange, ReadFailed}
-use Rattle.port_122.proofs.Stretches.{since_start, since_weaker}
+use Rattle.port_122.proofs.Stretches.{since_weaker}
 use Rattle.port_122.proofs.ReadCalls.{since_read, since_unread, unread_rose}
-use Rattle.packet_defs.specs.Tests.{when, first_of}
 use Rattle.packet_defs.specs.declared.packet.PacketRead.{PacketRead}
 use Rattle.space_packets.specs.PacketReads.{AsksUndecided, EndsPacket, ReadsPacket, TakenSoFar, Fed}
 use Rattle.packet_defs.specs.declared.packet.PacketRead.TheVariants.{Ended, Fault, Mine, Skipped}
@@ -29,13 +28,7 @@ same_intake c t p x e = λ i. record { cap = c i; taken = t i; pending = p i; te
 
 -- octets, and then more, or the end
 pub fed_both : (v : Intake) (xs ys : List ℕ) (saw_end : Bool) → fed (fed v xs false) ys saw_end ≡ fed v (xs ++ ys) saw_end
-fed_both v xs ys saw_end = same_intake refl
-    (add_assoc v.taken (length xs) (length ys) ∙ ap (λ n. v.taken + n) (sym (length-append xs ys)))
-    (append_assoc v.pending xs ys) refl (or_false v.ended saw_end)
-  where
-    or_false : (a b : Bool) → ((a || false) || b) ≡ (a || b)
-    or_false true b = refl
-    or_false false b = refl
+fed_both v xs ys saw_end = grind (arith, nat_tests, same_intake, length, length-append, append_assoc)
 
 -- octets that were read after those that wait
 pub waits_more : (xs piece : List ℕ) (start end count k : ℕ) → start ≤ end → end ≤ length xs → count ≤ length piece →
@@ -73,24 +66,18 @@ pub fed_nothing : (v : Intake) (now xs piece : List ℕ) (s held k : ℕ) → no
     record { cap = v.cap; taken = v.taken; pending = slice_range now s (s + held); text = []; ended = v.ended } ≡ fed v [] false
 fed_nothing v now xs piece s held k is waits within =
     let n : s + held - s ≡ held = omega arith in
-    let here : slice_range xs s (s + held) ≡ v.pending = ap (λ m. take m (drop s xs)) n ∙ waits in
-    let more : slice_range (put_mid (s + held) k xs piece) s (s + held + 0) ≡ slice_range xs s (s + held) ++ [] =
-    waits_more xs piece s (s + held) 0 k (omega arith) within (omega arith) in
-    let same : slice_range now s (s + held) ≡ v.pending ++ [] =
-    ap (λ zs. slice_range zs s (s + held)) is ∙ ap (slice_range (put_mid (s + held) k xs piece) s) (sym (add-zero (s + held))) ∙ more ∙ ap (λ zs. zs ++ []) here in
-    same_intake refl (sym (add-zero v.taken)) same refl (sym (or_false v.ended))
+    let more : slice_range (put_mid (s + held) k xs piece) s (s + held + 0) ≡ slice_range xs s (s + held) ++ [] = grind (arith, nat_tests, slice_range, waits_more) in
+    grind (arith, nat_tests, slice_range, add-zero, same_intake, or_false)
   where
     or_false : (b : Bool) → (b || false) ≡ b
     or_false true = refl
     or_false false = refl
 
 pub or_true : (a : Bool) (n : ℕ) → n ≡ 0 → true ≡ (a || (n == 0))
-or_true true n e = refl
-or_true false n e = grind (arith, nat_tests)
+or_true a n e = grind (arith, nat_tests)
 
 pub or_none : (a : Bool) (n : ℕ) → n ≢ 0 → a ≡ (a || (n == 0))
-or_none true n e = refl
-or_none false n e = grind (arith, nat_tests)
+or_none a n e = grind (arith, nat_tests)
 
 -- ---- what is decided
 
@@ -155,30 +142,14 @@ text_waits xs start end k count within few = grind (arith, nat_tests, drop-drop,
 
 -- ---- up to an answer
 
-pub taken_nothing : (p : Outside) (v w : Intake) → v.taken ≤ v.cap → w ≡ fed v [] false → TakenSoFar p p v w
-taken_nothing p v w capped e = record {
-  took = [];
-  saw_end = false;
-  since = since_start p _;
-  end_seen = λ no. absurd (false≢true no);
-  within = omega (arith, capped);
-  at_once = λ _. refl;
-  end_below = λ no. absurd (false≢true no);
-  stands = e;
-}
-
 -- the read calls so far, if more is taken
 asked_more : {p now : Outside} {v w : Intake} (more : List ℕ) → (s : TakenSoFar p now v w) → Exchange p now s.took [] [] (AsksUndecided v (s.took ++ more))
-asked_more {v = v} more s = since_weaker s.since
-    (λ i j le r. (subst (λ zs. is_decided (fed v zs false) ≡ false) (sym (take-append-le i s.took more le)) r.0, r.1))
+asked_more {v = v} more s = grind (arith, nat_tests, since_weaker, take-append-le)
 
 -- a read call that is made now
 asks_now : {p now : Outside} {v w : Intake} (more : List ℕ) → (s : TakenSoFar p now v w) → s.saw_end ≡ false → is_decided w ≡ false →
     AsksUndecided v (s.took ++ more) (length s.took) 0
-asks_now {v = v} more s unseen undecided =
-    let same : take (length s.took) (s.took ++ more) ≡ s.took = take_at s.took more (length s.took) refl in
-    let here : is_decided (fed v s.took false) ≡ false = subst (λ b. is_decided (fed v s.took b) ≡ false) unseen (subst (λ w. is_decided w ≡ false) s.stands undecided) in
-    (subst (λ zs. is_decided (fed v zs false) ≡ false) (sym same) here, refl)
+asks_now {v = v} more s unseen undecided = grind (arith, nat_tests, length, take_at)
 
 -- if nothing is decided, the end wasn't reached
 still_open : {p now : Outside} {v w : Intake} → (s : TakenSoFar p now v w) → w.ended ≡ false → s.saw_end ≡ false
@@ -210,8 +181,7 @@ pub read_failed : {p now new : Outside} {v w u : Intake} (apid : ℕ) → TakenS
 read_failed {p = p} {new = new} {v = v} {w = w} {u = u} apid s undecided going f e =
     let unseen : s.saw_end ≡ false = still_open s going in
     let before : w ≡ fed v s.took false = rw unseen at s.stands in
-    let again : fed w [] false ≡ fed v s.took false =
-    ap (λ w. fed w [] false) before ∙ fed_both v s.took [] false ∙ ap (λ zs. fed v zs false) (append-nil s.took) in
+    let again : fed w [] false ≡ fed v s.took false = grind (arith, nat_tests, fed_both, append-nil) in
     record {
       took = s.took;
       saw_end = false;
@@ -226,34 +196,12 @@ read_failed {p = p} {new = new} {v = v} {w = w} {u = u} apid s undecided going f
 -- a verdict is no read fault
 never_read_fault : (apid : ℕ) (u : Intake) → verdict apid u ≡ Some (Err ReadFault) → ⊥
 unfolding verdict
-never_read_fault apid u e = by_tests (has_bad_version u.pending) (begins_packet u.pending) u.ended (u.taken == u.cap) _ _ _ e
-  where
-    by_tests : (a b c d : Bool) (x y z : PacketRead) → first_of {X = Result PacketRead InFault} (when a (Ok x) ∷ when b (Ok y) ∷ when c (Ok z) ∷ when d (Err LongInput) ∷ []) ≡ Some (Err ReadFault) → ⊥
-    by_tests true b c d x y z e = cc
-    by_tests false true c d x y z e = cc
-    by_tests false false true d x y z e = cc
-    by_tests false false false true x y z e = cc
-    by_tests false false false false x y z e = cc
+never_read_fault apid u e = grind (arith, nat_tests)
 
 -- what was decided is returned
 ends_with : (apid : ℕ) (p q : Outside) (u w : Intake) (result : Result PacketRead InFault) → verdict apid u ≡ Some result → w ≡ answered apid u → EndsPacket apid p q u w result
-ends_with apid p q u w (Ok read) e stands = (e, stands)
-ends_with apid p q u w (Err ReadFault) e stands = absurd (never_read_fault apid u e)
-ends_with apid p q u w (Err LongInput) e stands = (e, stands)
-ends_with apid p q u w (Err Broken) e stands = (e, stands)
+ends_with apid p q u w result e stands = grind (arith, nat_tests, never_read_fault)
 
 pub taken_all : {p now : Outside} {v w u : Intake} (apid : ℕ) (result : Result PacketRead InFault) → TakenSoFar p now v w → verdict apid w ≡ Some result → u ≡ answered apid w →
     ReadsPacket apid p now v u result
-taken_all {p = p} {now = now} {v = v} {w = w} {u = u} apid result s e stands =
-    let first : verdict apid (fed v s.took s.saw_end) ≡ Some result = subst (λ w. verdict apid w ≡ Some result) s.stands e in
-    let next : u ≡ answered apid (fed v s.took s.saw_end) = subst (λ w. u ≡ answered apid w) s.stands stands in
-    record {
-      took = s.took;
-      saw_end = s.saw_end;
-      since = s.since;
-      end_seen = s.end_seen;
-      within = s.within;
-      at_once = s.at_once;
-      end_below = s.end_below;
-      ends = ends_with apid p now (fed v s.took s.saw_end) u result first next;
-    }
+taken_all {p = p} {now = now} {v = v} {w = w} {u = u} apid result s e stands = grind (arith, nat_tests, ends_with)

@@ -1,4 +1,5 @@
 -- What holds of a packetiser's fields is preserved.
+use Rattle.std.proofs.lemmas.Bool.Decides.{nat_tests}
 use Rattle.std.proofs.Common.{◌≡◌, ◌≤◌, ◌<◌, ◌+◌, ◌-◌, ◌*◌, ◌^◌, ℕ, length, ap, sym, subst, arith, Bool, true, false, if◌then◌else◌, vec_capacity, mul-le-mul_left}
 use Rattle.std.specs.Bool.{OnFalse}
 use Rattle.std.specs.Global.{Vec}
@@ -8,7 +9,7 @@ use Rattle.space_packets.specs.declared.stage.PacketiserState.{PacketiserState}
 use Rattle.space_packets.specs.declared.stage.PacketiserState.TheVariants.{Idle, Begun}
 use Rattle.space_packets.specs.declared.stage.Text.{Text}
 use Rattle.space_packets.specs.Parts.{text_at}
-use Rattle.space_packets.specs.Stages.{apid_of, parts_of, open_texts, room_of, given_in}
+use Rattle.space_packets.specs.Stages.{room_of, given_in}
 use Rattle.space_packets.specs.Inside.{IsSound}
 use Rattle.space_packets.proofs.Buffers.{given_count, given_room}
 
@@ -23,44 +24,13 @@ record Known (a : Inside) (t : Text) : Type 0 where
   octets : a.octets + 2 ^ 34 ≤ a.texts * 2 ^ 34 + 2 * (t.ancillary.part * part_size a.packet)
 
 known : (a : Inside) (t : Text) → IsSound a → a.stage ≡ Begun t → Known a t
-known a t sound e =
-    let size = part_size a.packet in
-    let least : 40 ≤ size = omega (arith, sound.least) in
-    let parts : parts_of a.stage * size ≡ t.ancillary.part * size = ap (λ s. parts_of s * size) e in
-    let texts : open_texts a.stage ≡ 1 = ap open_texts e in
-    let text : t.ancillary.part * size + (length a.buffer.items - 30) ≤ 2 ^ 32 = omega (arith, sound.text, parts) in
-    record {
-      apid = omega (arith, sound.apid, ap apid_of e);
-      begun = omega (arith, sound.begun, texts);
-      size = least;
-      text = text;
-      few = omega (arith, text, mul-le-mul_left {m = 40} {n = size} t.ancillary.part least);
-      packets = omega (arith, sound.packets, texts, ap parts_of e);
-      octets = omega (arith, sound.octets, texts, parts);
-    }
+known a t sound e = grind (arith, nat_tests, length, mul-le-mul_left)
 
 -- after this number of further octets
 pub sound_more : (a : Inside) (buffer : Vec ℕ) (count : ℕ) → IsSound a → 0 < count → length a.buffer.items - 30 + count ≤ part_size a.packet →
     given_in a.stage (part_size a.packet) (length a.buffer.items - 30) + count ≤ 2 ^ 32 →
     length buffer.items ≡ length a.buffer.items + count → vec_capacity a.buffer ≤ vec_capacity buffer → IsSound (record a { buffer = buffer })
-sound_more a buffer count sound some room fits long same =
-    let size = part_size a.packet in
-    let less : given_in a.stage size (length a.buffer.items - 30) < 2 ^ 32 = omega (arith, fits, some) in
-    let parts = given_count a.stage size (length a.buffer.items - 30) less in
-    let whole = given_room a.stage size (length a.buffer.items - 30) less in
-    record {
-      least = sound.least;
-      most = sound.most;
-      room = omega (arith, sound.room, same);
-      header = omega (arith, sound.header, long);
-      pending = omega (arith, long, room, whole);
-      apid = sound.apid;
-      texts = sound.texts;
-      begun = sound.begun;
-      text = omega (arith, parts, fits, long, sound.header);
-      packets = sound.packets;
-      octets = sound.octets;
-    }
+sound_more a buffer count sound some room fits long same = grind (arith, nat_tests, length, given_count, given_room)
 
 -- after a part is written
 pub sound_past : (a : Inside) (t : Text) (last : Bool) (s : PacketiserState) (octets : ℕ) (buffer : Vec ℕ) → IsSound a → a.stage ≡ Begun t →

@@ -1,5 +1,5 @@
 -- What a reader's results imply for the octets that decided them.
-use Rattle.std.proofs.Common.{◌≡◌, ◌≤◌, ◌+◌, ℕ, List, [], ◌∷◌, length, refl, sym, ap, subst, ◌∙◌, arith, inl, inr, length-drop, Bool, true, false, Option, Some, None, Result, Ok, Err, ◌⊎◌, ◌==◌}
+use Rattle.std.proofs.Common.{◌≡◌, ◌≤◌, ◌+◌, ℕ, List, [], ◌∷◌, length, refl, sym, subst, arith, length-drop, Bool, true, false, Option, Some, None, Result, Ok, Err, ◌⊎◌, ◌==◌}
 use Rattle.std.proofs.lemmas.Bool.{false≢true}
 use Rattle.std.proofs.lemmas.Bool.Decides.{nat_tests}
 use Rattle.bit_pipe.specs.declared.fault.InFault.{InFault}
@@ -12,7 +12,7 @@ use Rattle.packet_defs.specs.declared.packet.PacketRead.TheVariants.{Mine, Skipp
 use Rattle.packet_defs.specs.declared.packet.Framing.{Framing}
 use Rattle.packet_defs.specs.declared.packet.Skip.{Skip}
 use Rattle.packet_defs.specs.Tests.{when, first_of}
-use Rattle.packet_defs.specs.Reading.{packet_read, read_as, skip_of, head_in, ancillary_in}
+use Rattle.packet_defs.specs.Reading.{read_as, skip_of, head_in, ancillary_in}
 use Rattle.packet_defs.specs.Streams.{has_bad_version, told_length, begins_packet, first_packet, after_packet}
 use Rattle.packet_defs.proofs.Fronts.{begins_so, told_least}
 use Rattle.space_packets.specs.Intake.{Intake, end_read, verdict, answered}
@@ -27,21 +27,11 @@ first_answer a b c d f y o = first_of (when a (Ok (Fault f)) ∷ when b (Ok y) �
 
 mine_by : (a b c d : Bool) (f : Framing) (y : PacketRead) (o : Option Framing) (head : PacketHead) (tells : Ancillary) →
     first_answer a b c d f y o ≡ Some (Ok (Mine head tells)) → (b ≡ true) × (y ≡ Mine head tells)
-mine_by true b c d f y o head tells e = absurd cc
-mine_by false true c d f y o head tells e = (refl, cc)
-mine_by false false true d f y None head tells e = absurd cc
-mine_by false false true d f y (Some g) head tells e = absurd cc
-mine_by false false false true f y o head tells e = absurd cc
-mine_by false false false false f y o head tells e = absurd cc
+mine_by a b c d f y o head tells e = grind (arith, nat_tests)
 
 skipped_by : (a b c d : Bool) (f : Framing) (y : PacketRead) (o : Option Framing) (skip : Skip) →
     first_answer a b c d f y o ≡ Some (Ok (Skipped skip)) → (b ≡ true) × (y ≡ Skipped skip)
-skipped_by true b c d f y o skip e = absurd cc
-skipped_by false true c d f y o skip e = (refl, cc)
-skipped_by false false true d f y None skip e = absurd cc
-skipped_by false false true d f y (Some g) skip e = absurd cc
-skipped_by false false false true f y o skip e = absurd cc
-skipped_by false false false false f y o skip e = absurd cc
+skipped_by a b c d f y o skip e = grind (arith, nat_tests)
 
 -- the end, or why there is none, is no packet
 abbrev pub is_over : PacketRead → Bool
@@ -52,11 +42,7 @@ is_over (Fault fault) = true
 
 over_by : (a b c d : Bool) (f : Framing) (y : PacketRead) (o : Option Framing) (r : PacketRead) → is_over r ≡ true → is_over y ≡ false → (a ≡ true → b ≡ false) →
     first_answer a b c d f y o ≡ Some (Ok r) → (b ≡ false) × ((a ≡ true) ⊎ (c ≡ true))
-over_by true b c d f y o r over none bad e = (bad refl, inl refl)
-over_by false true c d f y o r over none bad e = absurd (let same : y ≡ r = cc in false≢true (sym none ∙ ap is_over same ∙ over))
-over_by false false true d f y o r over none bad e = (refl, inr refl)
-over_by false false false true f y o r over none bad e = absurd cc
-over_by false false false false f y o r over none bad e = absurd cc
+over_by a b c d f y o r over none bad e = grind (arith, nat_tests, false≢true)
 
 -- why no octets were read, if the cap decided that
 pub record AtCap (u : Intake) (fault : InFault) : Type 0 where
@@ -68,11 +54,7 @@ pub record AtCap (u : Intake) (fault : InFault) : Type 0 where
 
 long_by : (u : Intake) (a b c d : Bool) (f : Framing) (y : PacketRead) (o : Option Framing) (fault : InFault) → has_bad_version u.pending ≡ a → begins_packet u.pending ≡ b → u.ended ≡ c → (u.taken == u.cap) ≡ d →
     first_answer a b c d f y o ≡ Some (Err fault) → AtCap u fault
-long_by u true b c d f y o fault ea eb ec ed e = absurd cc
-long_by u false true c d f y o fault ea eb ec ed e = absurd cc
-long_by u false false true d f y o fault ea eb ec ed e = absurd cc
-long_by u false false false true f y o fault ea eb ec ed e = record { good = ea; none = eb; going = ec; full = grind (arith, nat_tests); is = cc }
-long_by u false false false false f y o fault ea eb ec ed e = absurd cc
+long_by u a b c d f y o fault ea eb ec ed e = grind (arith, nat_tests)
 
 -- ---- what was read
 
@@ -90,8 +72,7 @@ pub record OtherAt (apid : ℕ) (u : Intake) (skip : Skip) : Type 0 where
 
 as_mine : (o : Option Skip) (packet : List ℕ) (head : PacketHead) (tells : Ancillary) → read_as o packet ≡ Mine head tells →
     (o ≡ None) × (head ≡ head_in packet) × (tells ≡ ancillary_in packet)
-as_mine None packet head tells e = (refl, cc, cc)
-as_mine (Some skip) packet head tells e = absurd cc
+as_mine o packet head tells e = grind (arith, nat_tests)
 
 as_skipped : (o : Option Skip) (packet : List ℕ) (skip : Skip) → read_as o packet ≡ Skipped skip → o ≡ Some skip
 as_skipped o packet skip e = grind (arith, nat_tests)
@@ -101,16 +82,11 @@ as_none o packet = grind (arith, nat_tests)
 
 pub mine_read : (apid : ℕ) (u : Intake) (head : PacketHead) (tells : Ancillary) → verdict apid u ≡ Some (Ok (Mine head tells)) → MineAt apid u head tells
 unfolding verdict
-mine_read apid u head tells e =
-    let x = mine_by (has_bad_version u.pending) (begins_packet u.pending) u.ended (u.taken == u.cap) _ (packet_read apid (first_packet u.pending)) _ head tells e in
-    let y = as_mine (skip_of apid (first_packet u.pending)) (first_packet u.pending) head tells (sym (packet_read-is apid (first_packet u.pending)) ∙ x.1) in
-    record { whole = x.0; mine = y.0; head_is = y.1; ancillary_is = y.2 }
+mine_read apid u head tells e = grind (arith, nat_tests, mine_by, as_mine, packet_read-is)
 
 pub other_read : (apid : ℕ) (u : Intake) (skip : Skip) → verdict apid u ≡ Some (Ok (Skipped skip)) → OtherAt apid u skip
 unfolding verdict
-other_read apid u skip e =
-    let x = skipped_by (has_bad_version u.pending) (begins_packet u.pending) u.ended (u.taken == u.cap) _ (packet_read apid (first_packet u.pending)) _ skip e in
-    record { whole = x.0; other = as_skipped (skip_of apid (first_packet u.pending)) (first_packet u.pending) skip (sym (packet_read-is apid (first_packet u.pending)) ∙ x.1) }
+other_read apid u skip e = grind (arith, nat_tests, skipped_by, as_skipped, packet_read-is)
 
 pub over_read : (apid : ℕ) (u : Intake) (r : PacketRead) → is_over r ≡ true → verdict apid u ≡ Some (Ok r) →
     (begins_packet u.pending ≡ false) × ((has_bad_version u.pending ≡ true) ⊎ (u.ended ≡ true))
@@ -119,8 +95,7 @@ over_read apid u r over e = grind (arith, nat_tests, packet_read-is, over_by, as
 
 pub long_read : (apid : ℕ) (u : Intake) (fault : InFault) → verdict apid u ≡ Some (Err fault) → AtCap u fault
 unfolding verdict
-long_read apid u fault e =
-    long_by u (has_bad_version u.pending) (begins_packet u.pending) u.ended (u.taken == u.cap) _ (packet_read apid (first_packet u.pending)) _ fault refl refl refl refl e
+long_read apid u fault e = grind (arith, nat_tests, long_by)
 
 -- ---- what holds afterwards
 
@@ -136,11 +111,7 @@ answered_none_text apid u none = rw none refl
 
 answered_goes : (apid : ℕ) (u : Intake) → Continues u (answered apid u)
 unfolding answered
-answered_goes apid u = by_front (begins_packet u.pending) refl
-  where
-    by_front : (b : Bool) → begins_packet u.pending ≡ b → Continues u (answered apid u)
-    by_front true e = rw e (record { cap = refl; taken = refl; shorter = omega (arith, length-drop (told_length u.pending) u.pending) })
-    by_front false e = rw e (record { cap = refl; taken = refl; shorter = omega arith })
+answered_goes apid u = grind (arith, nat_tests, length-drop)
 
 here : (apid : ℕ) (u w : Intake) → w ≡ answered apid u → Continues u w
 here apid u w e = subst (λ w. Continues u w) (sym e) (answered_goes apid u)

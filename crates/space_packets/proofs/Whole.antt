@@ -1,14 +1,13 @@
 -- A whole text: the packets that are written are those of the text.
-use Rattle.std.proofs.Common.{◌≡◌, ◌≤◌, ◌<◌, ◌+◌, ◌*◌, ℕ, List, [], ◌∷◌, ◌++◌, length, drop, map, ◌∙◌, ap, arith, length-drop, Bool, true, false, if◌then◌else◌, ◌==◌, append-nil, take_all}
+use Rattle.std.proofs.Common.{◌≡◌, ◌≤◌, ◌<◌, ◌+◌, ◌*◌, ℕ, List, [], ◌∷◌, ◌++◌, length, drop, map, ◌∙◌, ap, arith, length-drop, Bool, true, false, ◌==◌, append-nil, take_all}
 use Rattle.std.specs.List.{range_with_len}
 use Rattle.std.proofs.Math.Nat.{add-mul-div_right}
 use Rattle.std.proofs.lemmas.Bool.Decides.{nat_tests}
 use Rattle.std.proofs.lemmas.List.FromFn.{map-range_with_len_more}
-use Rattle.packet_defs.specs.Packets.{ancillary_octets, packet_with, sequence_flags, part_count, part_of, part_packet, part_size, text_packets}
-use Rattle.packet_defs.specs.Packets.{joined}
+use Rattle.packet_defs.specs.Packets.{part_count, part_of, part_packet, part_size, text_packets, joined}
 use Rattle.packet_defs.proofs.Joins.{joined-append}
 use Rattle.space_packets.specs.declared.stage.Text.{Text}
-use Rattle.space_packets.specs.Parts.{flags_of, full_parts, text_at, packet_of}
+use Rattle.space_packets.specs.Parts.{full_parts, text_at, packet_of}
 use Rattle.space_packets.specs.Progress.{Progress, begun, full_count, full_packet, first_packets, written, after, last_packet}
 use Rattle.space_packets.specs.PartLists.{map_same}
 use Rattle.space_packets.specs.FullParts.{full_parts_left}
@@ -28,12 +27,7 @@ is_last n = grind (arith, nat_tests)
 packet_is : (t : Text) (packet before n part : ℕ) (last : Bool) (text : List ℕ) → t.ancillary.part ≡ 0 → (part + 1 == n) ≡ last →
     part_packet t.apid t.ancillary packet before n part text ≡ packet_of (text_at t part) (before + part) last (part_of (part_size packet) part text)
 unfolding packet_of
-packet_is t packet before n part last text first e =
-    let octets = part_of (part_size packet) part text in
-    let flags : sequence_flags part n ≡ flags_of part last = ap (λ (b : Bool). (if part == 0 then 1 else 0) + (if b then 2 else 0)) e in
-    let here : part ≡ t.ancillary.part + part = omega (arith, first) in
-    ap (λ f. packet_with t.apid f (before + part) (ancillary_octets (record t.ancillary { part = part }) ++ octets)) flags
-    ∙ ap (λ k. packet_with t.apid (flags_of k last) (before + part) (ancillary_octets (record t.ancillary { part = k }) ++ octets)) here
+packet_is t packet before n part last text first e = grind (arith, nat_tests)
 
 pub whole_text : (v : Progress) (t : Text) (text : List ℕ) → 64 ≤ v.packet → t.ancillary.part ≡ 0 → 0 < length text →
     joined (text_packets t.apid t.ancillary v.packet v.packets text)

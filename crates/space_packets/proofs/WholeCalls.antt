@@ -5,8 +5,7 @@ use Rattle.std.proofs.Math.Seq.{take-append_seam}
 use Rattle.std.proofs.lemmas.Bool.Decides.{nat_tests}
 use Rattle.port_122.specs.Outside.{Outside, Exchange, NoRead, Rose}
 use Rattle.port_122.proofs.Stretches.{since_out, rose_since}
-use Rattle.packet_defs.specs.Packets.{part_size, part_count, text_packets}
-use Rattle.packet_defs.specs.Packets.{joined}
+use Rattle.packet_defs.specs.Packets.{part_size, part_count, text_packets, joined}
 use Rattle.packet_defs.proofs.Joins.{joined-append}
 use Rattle.space_packets.specs.declared.stage.PacketiserState.TheVariants.{Idle, Begun}
 use Rattle.space_packets.specs.declared.stage.Text.{Text}
@@ -31,8 +30,7 @@ ended_is : (v : Progress) (t : Text) (text : List ℕ) → 64 ≤ v.packet → t
 ended_is v t text least first some =
     let b = begun v t in
     let n = full_count b text in
-    let count : v.packets + n + 1 ≡ v.packets + part_count (part_size v.packet) (length text) =
-    omega (arith, parts_and_last (part_size v.packet) (length text) (let room : 0 < part_size v.packet = omega arith in room) some) in
+    let count : v.packets + n + 1 ≡ v.packets + part_count (part_size v.packet) (length text) = grind (arith, nat_tests, length, parts_and_last) in
     same_progress refl refl refl count
     (sym (octets_both v.octets (joined (text_packets t.apid t.ancillary v.packet v.packets text)) (written t b text) (last_packet (text_at t n) (after t b text)) (whole_text v t text least first some)))
     refl
@@ -43,8 +41,7 @@ pub text_out : {t : Text} {p q r : Outside} (v : Progress) {w u : Progress} (tex
 text_out {t = t} {p = p} {q = q} {r = r} v {w = w} {u = u} text least first some sent closing =
     let b = begun v t in
     let end = text_at t (full_count b text) in
-    let last : PacketOut q r (after t b text) u Idle (last_packet end (after t b text)) =
-    subst (λ w. PacketOut q r w u Idle (last_packet end w)) sent.stands closing in
+    let last : PacketOut q r (after t b text) u Idle (last_packet end (after t b text)) = grind (arith, nat_tests) in
     record {
       out = subst (λ gave. Exchange p r [] gave [] NoRead) (sym (whole_text v t text least first some)) (since_out sent.out last.out);
       stands = last.stands ∙ ended_is v t text least first some;
@@ -80,8 +77,7 @@ pub text_cut_at_close : {t : Text} {p q r : Outside} (v : Progress) {w u : Progr
 text_cut_at_close {t = t} {p = p} {q = q} {r = r} v {w = w} {u = u} text least first some sent failed =
     let b = begun v t in
     let end = text_at t (full_count b text) in
-    let last : PacketFailed q r (after t b text) u (last_packet end (after t b text)) =
-    subst (λ w. PacketFailed q r w u (last_packet end w)) sent.stands failed in
+    let last : PacketFailed q r (after t b text) u (last_packet end (after t b text)) = grind (arith, nat_tests) in
     let packet = last_packet end (after t b text) in
     let split : joined (text_packets t.apid t.ancillary v.packet v.packets text) ≡ (written t b text ++ take last.some packet) ++ drop last.some packet =
     whole_text v t text least first some

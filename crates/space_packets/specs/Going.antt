@@ -5,8 +5,7 @@ use Rattle.std.specs.List.{range_with_len}
 use Rattle.std.proofs.Math.Nat.{zero-mul, mul-le-mul_right}
 use Rattle.std.proofs.lemmas.List.{append-nil, drop-append-le, take-append-le, drop-drop}
 use Rattle.std.proofs.lemmas.Grind.{flat_map-append}
-use Rattle.packet_defs.specs.Packets.{part_of, part_size}
-use Rattle.packet_defs.specs.Packets.{joined}
+use Rattle.packet_defs.specs.Packets.{part_of, part_size, joined}
 use Rattle.space_packets.specs.declared.stage.PacketiserState.TheVariants.{Begun}
 use Rattle.space_packets.specs.declared.stage.Text.{Text}
 use Rattle.space_packets.specs.Parts.{full_parts, text_at, packet_of}

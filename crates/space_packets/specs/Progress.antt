@@ -1,8 +1,7 @@
 -- The progress of a packetiser, and the packets that octets complete. This project's own.
 use Rattle.std.specs.Prelude.{ℕ, ◌≡◌, ◌≤◌, ◌+◌, ◌*◌, true, false, List, [], ◌++◌, length, map, drop}
 use Rattle.std.specs.List.{range_with_len}
-use Rattle.packet_defs.specs.Packets.{part_of, part_size, part_count, text_packets}
-use Rattle.packet_defs.specs.Packets.{joined}
+use Rattle.packet_defs.specs.Packets.{part_of, part_size, part_count, text_packets, joined}
 use Rattle.space_packets.specs.declared.stage.PacketiserState.{PacketiserState}
 use Rattle.space_packets.specs.declared.stage.PacketiserState.TheVariants.{Idle, Begun, Broken}
 use Rattle.space_packets.specs.declared.stage.Text.{Text}

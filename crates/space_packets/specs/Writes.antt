@@ -1,8 +1,7 @@
 -- The effect of the calls of a packetiser. This project's own.
 use Rattle.std.specs.Prelude.{ℕ, ◌≡◌, ◌≤◌, ◌<◌, List, [], ◌∷◌, ◌++◌, length, take, Result, MatchResult}
 use Rattle.port_122.specs.Outside.{Outside, Exchange, NoRead, Rose}
-use Rattle.packet_defs.specs.Packets.{text_packets}
-use Rattle.packet_defs.specs.Packets.{joined}
+use Rattle.packet_defs.specs.Packets.{text_packets, joined}
 use Rattle.space_packets.specs.declared.stage.PacketiserState.{PacketiserState}
 use Rattle.space_packets.specs.declared.stage.PacketiserState.TheVariants.{Broken}
 use Rattle.space_packets.specs.declared.stage.Text.{Text}

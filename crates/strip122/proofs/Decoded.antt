@@ -37,6 +37,7 @@ use Rattle.strip122.specs.Ran.{Asking, CausedWithin}
 use Rattle.strip122.specs.Decoding.{Causes, decode_line, decode_status, RunsDecoder, AsksFound, Decodes, FindsDamage, LooksAt, FindsRects, reads_picture}
 use Rattle.strip122.proofs.NoteLines.{ran_on, nothing_noted}
 use Rattle.strip122.proofs.Behaviours.{AtStatus}
+use Rattle.stream_defs.proofs.Equations.{missing_below-is}
 
 -- ---- after the note
 
@@ -182,12 +183,11 @@ undamaged m none row = sym ((whole_damage m.rows m.missing).0.each row) ∙ ap (
 
 missing_listed : (gives : Bool) (wish : DecodeWish) (a b : Outside) (took gave : List ℕ) (done : DecodeDone) → PictureBy gives wish a b took gave done → damaged done.damage ≡ [] → done.geometry.rows ≢ 0 →
     (all : List ℕ) → a.rest ≡ Some all → done.damage.missing ≡ []
-unfolding missing_below
 missing_listed gives wish a b took gave done p none known all told =
     let t = p.told all told in
     let rows : done.damage.rows ≡ done.geometry.rows = p.rows ∙ p.written ∙ height_known done.geometry (begun_in wish.apid took) known in
     none_listed done.damage.rows (is_missing_of done.geometry t.0) done.damage.missing
-    (t.3.missing known ∙ ap (λ n. filter (is_missing_of done.geometry t.0) (range_with_len 0 (block_count n))) (sym rows))
+    (t.3.missing known ∙ missing_below-is _ _ _ ∙ ap (λ n. filter (is_missing_of done.geometry t.0) (range_with_len 0 (block_count n))) (sym rows))
     (undamaged done.damage none)
 
 -- ---- what follows from each cause

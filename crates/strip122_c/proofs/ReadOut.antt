@@ -8,10 +8,10 @@ use Rattle.packet_defs.specs.declared.packet.Framing.TheVariants.{BadVersion}
 use Rattle.packet_assembly.specs.Readings.{IsReadOut}
 use Rattle.packet_assembly.proofs.BadVersions.{bad_later, bad_stays, left_stays}
 use Rattle.segment_walk.proofs.TextReads.{left_after}
+use Rattle.packet_defs.proofs.Equations.{framing_at-is}
 
 framing_bad : (place : ℕ) (left : List ℕ) → has_bad_version left ≡ true → framing_at place left ≡ Some (BadVersion place)
-unfolding framing_at
-framing_bad place left bad = rw bad refl
+framing_bad place left bad = rw (framing_at-is, bad) refl
 
 -- what was taken determines the packets of the whole stream, and why it can't be read on
 pub record ReadsAll (took packets : List ℕ) : Type 0 where

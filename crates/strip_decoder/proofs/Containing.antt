@@ -24,6 +24,7 @@ use Rattle.segment_walk.specs.Images.{AreWith}
 use Rattle.strip_decoder.specs.Containment.{SameOutside}
 use Rattle.stream_defs.proofs.BandPlaces.{coefficient_with}
 use Rattle.segment_walk.proofs.RunEnds.{any_at}
+use Rattle.stream_defs.proofs.Equations.{missing_below-is}
 
 -- the block rows of an image whose height is known
 known_rows : (g : Geometry) → IsWithin rows_range g.rows → (n : ℕ) → block_rows g n ≡ block_count g.rows
@@ -58,11 +59,10 @@ module _ (g : Geometry) (received : Numbers) (numbers : ℕ → ℕ → ℤ) (n 
 
   -- no missing block row reaches a row that no range has
   unreached : (i t : ℕ) → i < g.rows → is_covered (whole_damage g received) i ≡ false → t < r → missing t ≡ true → Reaches t i → ⊥
-  unfolding missing_below
   unreached i t inside uncovered low lost reached =
       let rows : nat_lt i g.rows ≡ true = grind (arith, nat_tests) in
       let undamaged : is_damaged g.rows (whole_missing g received) i ≡ false = sym ((damage_whole g.rows (whole_missing g received)).0.each i) ∙ uncovered in
-      let some = any_chosen (λ t. reaches t i) missing r 0 t (omega arith) (omega (arith, low)) lost reached in
+      let some : list_any (λ t. reaches t i) (whole_missing g received) ≡ true = rw missing_below-is (any_chosen (λ t. reaches t i) missing r 0 t (omega arith) (omega (arith, low)) lost reached) in
       absurd (false≢true (sym undamaged ∙ and_from (nat_lt i g.rows) (list_any (λ t. reaches t i) (whole_missing g received)) rows some))
 
   pub known_contained : SameOutside g.rows g.width (whole_damage g received) (whole_with g numbers) (whole_picture g received)

@@ -1,24 +1,17 @@
+use Rattle.std.proofs.lemmas.Bool.Decides.{nat_tests}
 use Rattle.std.proofs.Common.{sym, ◌∙◌, subst, arith}
 use Rattle.strip_coder.specs.Steps.{EndsImage, EndBreaks}
 use Rattle.camera_mux.proofs.CameraRowsGiven.{height_last, at_last, fails_given, gives_more, gives_last, cuts_last}
 use Rattle.camera_mux.proofs.camera_rows.take_camera_row.Goals as goal
 
 pub returns-in-Err-clause-row : goal.returns-in-Err-clause-row
-returns-in-Err-clause-row g c = λ raster whole stands.
-    fails_given c.args.setting.now c.requires.in_range c.requires.known c.args.work.now.at.rows c.requires.few raster whole c.args.work.now stands _ _ c.args.place c.in-Err.fault c.in-Err.ensures.row
+returns-in-Err-clause-row g c = grind (arith, nat_tests, fails_given)
 
 pub returns-then-work-setting-clause-row : goal.returns-then-work-setting-clause-row
-returns-then-work-setting-clause-row g c = λ raster whole stands.
-    let takes = c.in_default.ensures.row in
-    let rows = takes.taken.rows in
-    let more = c.if-work-setting.true in
-    gives_more c.args.setting.now c.requires.in_range c.requires.known c.args.work.now.at.rows c.requires.few raster whole c.args.work.now stands c.take_row.new.work takes (omega (arith, rows, more))
+returns-then-work-setting-clause-row g c = grind (arith, nat_tests, gives_more)
 
 pub image_end-requires-clause-height : goal.image_end-requires-clause-height
-image_end-requires-clause-height g c =
-    let rows = c.in_default.ensures.row.taken.rows in
-    height_last c.args.setting.now c.take_row.new.work.at.rows c.requires.in_range c.requires.known
-    (at_last c.args.setting.now c.args.work.now.at.rows c.take_row.new.work.at.rows c.requires.known c.requires.few rows (omega (arith, c.if-work-setting.false)))
+image_end-requires-clause-height g c = grind (arith, nat_tests, height_last, at_last)
 
 pub returns-in_default-image_end-clause-row : goal.returns-in_default-image_end-clause-row
 returns-in_default-image_end-clause-row g c = λ raster whole stands.

@@ -1,3 +1,4 @@
+use Rattle.std.proofs.lemmas.Bool.Decides.{nat_tests}
 use Rattle.std.proofs.Common.{◌≡◌, ◌<◌, ◌≤◌, ◌+◌, ◌-◌, ◌*◌, length, inl, inr, refl, sym, ap, ◌∙◌, subst, arith, sum, slice_index, slice_index_or, slice_set, Some}
 use Rattle.strip_coder.specs.Rasters.{row_length}
 use Rattle.camera_mux.specs.declared.camera_rows.Place.{Place}
@@ -32,15 +33,10 @@ returns-then-progress-index-eq0-clause-record g c = λ start come.
     (subst (SawOctet (g.X.Port.outside c.args.port.now) (g.X.Port.outside c.next_octet.new.port)) c.in-Some.is c.in-Ok.ensures)
 
 pub take_next_row-requires-clause-made : goal.take_next_row-requires-clause-made
-take_next_row-requires-clause-made g c =
-    let known : c.from-index.result < length c.args.settings.now = omega (arith, c.if-index-settings.false) in
-    (c.requires.going.1.ready c.from-index.result c.index-works-index.result known).made
+take_next_row-requires-clause-made g c = grind (arith, nat_tests, length)
 
 pub take_next_row-requires-clause-taken : goal.take_next_row-requires-clause-taken
-take_next_row-requires-clause-taken g c = λ rows.
-    let known : c.from-index.result < length c.args.settings.now = omega (arith, c.if-index-settings.false) in
-    let some : 0 < slice_index c.args.progress.now.left c.from-index.result = omega (arith, c.if-progress-index-eq0.false) in
-    work_taken c.requires.going.1 c.from-index.result known c.index-works-index.result some rows
+take_next_row-requires-clause-taken g c = grind (arith, nat_tests, length, slice_index, work_taken)
 
 pub returns-in-Ok-take_next_row-clause-made : goal.returns-in-Ok-take_next_row-clause-made
 returns-in-Ok-take_next_row-clause-made g c =

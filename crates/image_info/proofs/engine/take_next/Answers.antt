@@ -1,5 +1,4 @@
-use Rattle.std.proofs.Common.{true}
-use Rattle.std.proofs.Common.{arith}
+use Rattle.std.proofs.Common.{true, arith}
 use Rattle.std.proofs.lemmas.Grind.{common_steps}
 use Rattle.packet_assembly.proofs.PacketSteps.{over_so, long_so}
 use Rattle.image_info.proofs.PacketReads.{can_count}

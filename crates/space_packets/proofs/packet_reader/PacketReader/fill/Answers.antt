@@ -1,9 +1,6 @@
 use Rattle.std.proofs.Common.{sym}
-use Rattle.space_packets.proofs.Intakes.{taken_nothing, taken_more, read_failed}
+use Rattle.space_packets.proofs.Intakes.{taken_more, read_failed}
 use Rattle.space_packets.proofs.packet_reader.PacketReader.fill.Goals as goal
-
-pub loop-self-init : goal.loop-self-init
-loop-self-init g c = taken_nothing (g.X.Port.outside c.args.port.now) c.args.self.now c.forget_text.new.self c.forget_text.ensures.capped c.forget_text.ensures.stands
 
 pub loop-self-preserved : goal.loop-self-preserved
 loop-self-preserved g c = taken_more c.loop-self.invariant (sym c.loop-self-test.ensures.value) c.loop-self-test.ensures.going.0 c.loop-self-test.ensures.going.1 c.in-Ok.ensures
