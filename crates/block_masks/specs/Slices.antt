@@ -1,4 +1,4 @@
--- The numbers of a segment as masks, in the place of the numbers. A group is 64 blocks, and the last one has those that are left.
+-- The numbers of a segment as masks, in the place of the numbers. A group is 240 blocks, and the last one has those that are left.
 -- It has 32 slots, one after another, and a slot has a mask of 64 bits for each block of the group: slots 0 to 27 say which numbers
 -- have the bit of weight 2^slot in their magnitude, slot 28 which are negative, slot 29 which are significant above the plane that
 -- is coded next, and slot 30 has the DC itself. (This project's own.)
@@ -7,6 +7,7 @@ use Rattle.std.specs.List.{range_with_len}
 use Rattle.std.specs.Int.{w32, cast_unsigned, cast_signed}
 use lib.ListN.{get_or}
 use Rattle.item_defs.specs.Bits.{bit, value_of}
+use Rattle.block_masks.specs.declared.slices.Column.{Column}
 use Rattle.block_masks.specs.Masks.{Shows}
 
 abbrev pub minus_slot : ℕ
@@ -20,11 +21,17 @@ dc_slot = 30
 
 -- the number of blocks in the group of block r, of `count` blocks
 abbrev pub width : (count r : ℕ) → ℕ
-width count r = min 64 (count - 64 * (r / 64))
+width count r = min 240 (count - 240 * (r / 240))
 
 -- the place of a mask's low half; its high half is in the next place
 abbrev pub place : (count r slot : ℕ) → ℕ
-place count r slot = 4096 * (r / 64) + 2 * (width count r * slot + r % 64)
+place count r slot = 15360 * (r / 240) + 2 * (width count r * slot + r % 240)
+
+-- a column has the places of the masks of its block
+pub record IsColumn (cells : List ℤ) (column : Column) : Type 0 where
+  pub block : 64 * column.block < length cells
+  pub first : column.first ≡ place (length cells / 64) column.block 0
+  pub step : column.step ≡ 2 * width (length cells / 64) column.block
 
 -- the mask whose halves are in two places
 abbrev pub mask_from : List ℤ → ℕ → ℕ
@@ -65,5 +72,6 @@ pub record Settles (plane blocks : ℕ) (old new : List ℤ) : Type 0 where
   pub long : length new ≡ length old
   pub told : (r : ℕ) (f g : ℕ → Bool) → r < blocks → 64 * r < length old → Shows (mask_in old r above_slot) f 0 64 → Shows (mask_in old r plane) g 0 64 →
       Shows (mask_in new r above_slot) (λ p. f p || g p) 0 64
+  pub bits : (r k : ℕ) → r < blocks → 64 * r < length old → k < 64 → bit (mask_in new r above_slot) k ≡ (bit (mask_in old r above_slot) k || bit (mask_in old r plane) k)
   pub later : (r : ℕ) → blocks ≤ r → 64 * r < length old → mask_in new r above_slot ≡ mask_in old r above_slot
   pub other_slots : (r s : ℕ) → 64 * r < length old → s < 32 → (s ≡ above_slot → ⊥) → mask_in new r s ≡ mask_in old r s

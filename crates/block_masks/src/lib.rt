@@ -25,5 +25,5 @@ pub use picks::{pick, spread, spread_first};
 pub use plan::{CodedPlane, PlanePlan};
 pub use sets::{Sets, fours_of, is_any_of, quads_of};
 pub use setting::set_bits;
-pub use slices::{ABOVE, DC, MINUS, mask_of, put_mask, settle_above};
+pub use slices::{ABOVE, Column, DC, GROUP, MINUS, mask_of, put_mask, settle_above};
 pub use walk::{Parted, first_in, split_lowest, without};

@@ -1,7 +1,7 @@
 // The masks of a segment, in the place of its numbers.
 
 ghost use Rattle.std.specs.Prelude.{◌≡◌, ◌+◌, ◌*◌, ◌/◌, ◌%◌, ◌<◌, ◌≤◌, ◌^◌, length};
-ghost use Rattle.block_masks.specs.Slices.{place, mask_in, PutsMask, Settles};
+ghost use Rattle.block_masks.specs.Slices.{place, mask_in, IsColumn, PutsMask, Settles};
 
 use crate::mask_sets::either;
 
@@ -14,47 +14,96 @@ pub const ABOVE: u8 = 29;
 /// The slot that has the DC of each block.
 pub const DC: u8 = 30;
 
-// The number of blocks of a group, whose masks of a slot are side by side.
-const GROUP: usize = 64;
+/// The number of blocks of a group, whose masks of a slot are side by side. Slots are then 30 lines of a cache apart, so that the
+/// masks of a block are in different sets of it, and the masks of a slot are half a page.
+pub const GROUP: usize = 240;
 
-// Returns the place of the low half of a mask.
-#[inline(always)]
-fn place(count: usize, r: usize, slot: u8) -> usize
-    requires block { r < count }
-    requires slot { slot < 32 }
-    requires small { 64 * count < 2 ^ 62 }
-    ensures place { result ≡ place count r slot }
-    ensures within { result + 1 < 64 * count }
-{
-    let place = r % GROUP;
-    let first = r - place;
-    let width = (count - first).min(GROUP);
-    64 * first + 2 * (width * slot as usize + place)
+/// Where the masks of a block are in the place of its numbers.
+#[derive(Clone, Copy)]
+pub struct Column {
+    /// The block.
+    pub block: usize,
+    // The place of the mask of slot 0, and how far each slot is from the one before it.
+    first: usize,
+    step: usize,
 }
 
-/// Returns the mask of a slot for block r. `cells` has 64 numbers for each block.
+impl Column {
+    ghost use Rattle.block_masks.specs.Slices.{IsColumn};
+
+    /// Returns the column of a block. `cells` has 64 numbers for each block.
+    #[inline(always)]
+    pub fn of(cells: &[i32], block: usize) -> Column
+        requires whole { length cells.now % 64 ≡ 0 }
+        requires block { 64 * block < length cells.now }
+        ensures column { IsColumn cells.now result }
+        ensures block { result.block ≡ block }
+    {
+        let count = cells.len() / 64;
+        let place = block % GROUP;
+        let start = block - place;
+        Column {
+            block,
+            first: 64 * start + 2 * place,
+            step: 2 * (count - start).min(GROUP),
+        }
+    }
+
+    /// Returns the column of the block that is `k` blocks further in the same gaggle.
+    #[inline(always)]
+    pub fn further(self, cells: &[i32], k: usize) -> Column
+        requires whole { length cells.now % 64 ≡ 0 }
+        requires column { IsColumn cells.now self }
+        requires gaggle { self.block % 16 + k < 16 }
+        requires block { 64 * (self.block + k) < length cells.now }
+        ensures column { IsColumn cells.now result }
+        ensures block { result.block ≡ self.block + k }
+    {
+        let _count = cells.len();
+        Column {
+            block: self.block + k,
+            first: self.first + 2 * k,
+            step: self.step,
+        }
+    }
+
+    // Returns the place of the low half of the mask of a slot.
+    #[inline(always)]
+    fn place(self, cells: &[i32], slot: u8) -> usize
+        requires whole { length cells.now % 64 ≡ 0 }
+        requires column { IsColumn cells.now self }
+        requires slot { slot < 32 }
+        ensures place { result ≡ place (length cells.now / 64) self.block slot }
+        ensures within { result + 1 < length cells.now }
+    {
+        let _count = cells.len();
+        self.first + self.step * slot as usize
+    }
+}
+
+/// Returns the mask of a slot for the block of a column.
 #[inline(always)]
-pub fn mask_of(cells: &[i32], r: usize, slot: u8) -> u64
+pub fn mask_of(cells: &[i32], column: Column, slot: u8) -> u64
     requires whole { length cells.now % 64 ≡ 0 }
-    requires block { 64 * r < length cells.now }
+    requires column { IsColumn cells.now column }
     requires slot { slot < 32 }
-    ensures mask { result ≡ mask_in cells.now r slot }
+    ensures mask { result ≡ mask_in cells.now column.block slot }
 {
-    let at = place(cells.len() / 64, r, slot);
+    let at = column.place(cells, slot);
     let low = cells[at].cast_unsigned();
     let high = cells[at + 1].cast_unsigned();
     u64::from(low) + 0x1_0000_0000 * u64::from(high)
 }
 
-/// Puts a mask of a slot for block r.
+/// Puts a mask of a slot for the block of a column.
 #[inline(always)]
-pub fn put_mask(cells: &mut [i32], r: usize, slot: u8, mask: u64)
+pub fn put_mask(cells: &mut [i32], column: Column, slot: u8, mask: u64)
     requires whole { length cells.old % 64 ≡ 0 }
-    requires block { 64 * r < length cells.old }
+    requires column { IsColumn cells.old column }
     requires slot { slot < 32 }
-    ensures { PutsMask r slot mask cells.old cells.new }
+    ensures { PutsMask column.block slot mask cells.old cells.new }
 {
-    let at = place(cells.len() / 64, r, slot);
+    let at = column.place(cells, slot);
     let low = (mask % 0x1_0000_0000) as u32;
     let high = (mask / 0x1_0000_0000) as u32;
     cells[at] = low.cast_signed();
@@ -68,7 +117,8 @@ pub fn settle_above(cells: &mut [i32], plane: u8)
     ensures { Settles plane (length cells.old / 64) cells.old cells.new }
 {
     for r in 0..cells.len() / 64 {
-        let above = either(mask_of(cells, r, ABOVE), mask_of(cells, r, plane));
-        put_mask(cells, r, ABOVE, above);
+        let column = Column::of(cells, r);
+        let above = either(mask_of(cells, column, ABOVE), mask_of(cells, column, plane));
+        put_mask(cells, column, ABOVE, above);
     }
 }
