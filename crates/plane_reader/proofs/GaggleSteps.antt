@@ -1,5 +1,5 @@
 -- A call for a block of a gaggle, whose loop continues with it or stops.
-use Rattle.std.proofs.Common.{◌≡◌, ℕ, ◌+◌, ◌-◌, ◌*◌, ◌<◌, ◌≤◌, min, ℤ, pos, List, [], length, get_or, set, refl, ap, sym, ◌∙◌, subst, arith, get_or-set_same, get_or-set_other, Result, Ok}
+use Rattle.std.proofs.Common.{◌≡◌, ℕ, ◌+◌, ◌-◌, ◌*◌, ◌<◌, min, ℤ, pos, List, [], length, get_or, set, refl, ap, sym, ◌∙◌, subst, arith, get_or-set_same, get_or-set_other, Result, Ok}
 use Rattle.item_defs.specs.Readings.{whole, ended, refused}
 use Rattle.wave_defs.specs.Held.{block_at}
 use Rattle.base_122.specs.declared.book.Book.{Book}
@@ -124,19 +124,16 @@ module _ {I : Type 0} {source : SourceOf I} {book : Book} {plan : CodedPlane} {k
       by_ending (failed n fault) h = subst (λ z. Leaves z Next Stop) (sym (taken.answer ∙ ap part_answer h)) (stop (subst IsCut (sym h) tt))
 
 -- a call for block r
-pub call_leaves : {I : Type 0} {source : SourceOf I} {book : Book} {plan : CodedPlane} {k : ℕ} (g r : ℕ) (marks before now : List ℤ) (x y : Gaggle) (i j : Coming I) (m : ℤ) {result : Result Part TextFault} {old : Held I} →
-    16 * g ≤ r → r < 16 * g + 16 → r < length marks → KeepsGaggles marks (set marks r m) → ChangesBlock r before now →
-    Reaches source book plan k g 0 k g (r - 16 * g) old (held (with_one (kept marks) g x) marks (numbers_in before) i) →
+pub call_leaves : {I : Type 0} {source : SourceOf I} {book : Book} {plan : CodedPlane} {k : ℕ} (g n r : ℕ) (marks before now : List ℤ) (x y : Gaggle) (i j : Coming I) (m : ℤ) {result : Result Part TextFault} {old : Held I} →
+    n < 16 → 16 * g + n ≡ r → r < length marks → KeepsGaggles marks (set marks r m) → ChangesBlock r before now →
+    Reaches source book plan k g 0 k g n old (held (with_one (kept marks) g x) marks (numbers_in before) i) →
     ((f : Frame) (earlier : ℕ → List Step) → IsFrame f plan (depth_of (get_or marks r (pos 0))) → StandsBefore f k earlier (get_or marks r (pos 0)) (block_at (numbers_in before) r) →
     StageTaken source book f k earlier result x y m (block_at (numbers_in now) r) i j) →
     (s : Start) (from : Coming I) → IsStart s plan → Progress source book s k g 0 from old →
-    Leaves result (Progress source book s k g (r + 1 - 16 * g) from (held (with_one (kept (set marks r m)) g y) (set marks r m) (numbers_in now) j)) (Stops source book s k result from j (numbers_in now))
-call_leaves {I = I} {source = source} {book = book} {plan = plan} {k = k} g r marks before now x y i j m {result = result} low high within keeps changes reaches call s from start p =
-    let new : Held I = held (with_one (kept (set marks r m)) g y) (set marks r m) (numbers_in now) j in
-    let next : r + 1 - 16 * g ≡ r - 16 * g + 1 = omega (arith, low) in
-    subst (λ c. Leaves result (Progress source book s k g c from new) (Stops source book s k result from j (numbers_in now))) (sym next)
-    (block_leaves g (r - 16 * g) r x y (omega (arith, low, high)) (omega (arith, low)) within refl refl (one_there (kept marks) g x) (one_there (kept (set marks r m)) g y)
-    (changes_block marks before now g r m x y i j within keeps changes) call s from start (reaches.so_far s from start p))
+    Leaves result (Progress source book s k g (n + 1) from (held (with_one (kept (set marks r m)) g y) (set marks r m) (numbers_in now) j)) (Stops source book s k result from j (numbers_in now))
+call_leaves {I = I} {source = source} {book = book} {plan = plan} {k = k} g n r marks before now x y i j m few there within keeps changes reaches call s from start p =
+    block_leaves g n r x y few there within refl refl (one_there (kept marks) g x) (one_there (kept (set marks r m)) g y)
+    (changes_block marks before now g r m x y i j within keeps changes) call s from start (reaches.so_far s from start p)
 
 -- ---- a gaggle's end
 

@@ -164,15 +164,15 @@ pub record JoinedTo (e : ℕ) (old now : List ℤ) : Type 0 where
   pub front : take e now ≡ numbers_in (take e old)
   pub rest : drop e now ≡ drop e old
 
-pub joined_more : (g n e : ℕ) {old now part : List ℤ} → e ≡ 4096 * g + n → e ≤ length old → length part ≡ n → JoinedTo (4096 * g) old now → part ≡ numbers_in (take n (drop (4096 * g) now)) → JoinedTo e old (put_mid (4096 * g) n now part)
+pub joined_more : (g n e : ℕ) {old now part : List ℤ} → e ≡ 15360 * g + n → e ≤ length old → length part ≡ n → JoinedTo (15360 * g) old now → part ≡ numbers_in (take n (drop (15360 * g) now)) → JoinedTo e old (put_mid (15360 * g) n now part)
 joined_more g n e {old} {now} {part} ends within size s told =
-    let inside : 4096 * g ≤ length now = omega (arith, ends, within, s.long) in
-    let groups : length (take (4096 * g) old) % 4096 ≡ 0 = omega (arith, length-take-le (4096 * g) old (omega (arith, ends, within))) in
+    let inside : 15360 * g ≤ length now = omega (arith, ends, within, s.long) in
+    let groups : length (take (15360 * g) old) % 15360 ≡ 0 = omega (arith, length-take-le (15360 * g) old (omega (arith, ends, within))) in
     record {
       long = put_long g n e now part ends (omega (arith, within, s.long)) size ∙ s.long;
-      front = take-put_mid (4096 * g) n now part e (omega (arith, ends, size)) inside ∙ ap (λ l. l ++ part) s.front ∙ ap (λ l. numbers_in (take (4096 * g) old) ++ l) (told ∙ ap (λ l. numbers_in (take n l)) s.rest) ∙
-          sym (numbers_append (take (4096 * g) old) (take n (drop (4096 * g) old)) groups) ∙ ap numbers_in (sym (take-add (4096 * g) n old) ∙ ap (λ k. take k old) (sym ends));
-      rest = drop-put_mid (4096 * g) n now part e (omega (arith, ends)) inside size ∙ drop_then g n e old now ends s.rest;
+      front = take-put_mid (15360 * g) n now part e (omega (arith, ends, size)) inside ∙ ap (λ l. l ++ part) s.front ∙ ap (λ l. numbers_in (take (15360 * g) old) ++ l) (told ∙ ap (λ l. numbers_in (take n l)) s.rest) ∙
+          sym (numbers_append (take (15360 * g) old) (take n (drop (15360 * g) old)) groups) ∙ ap numbers_in (sym (take-add (15360 * g) n old) ∙ ap (λ k. take k old) (sym ends));
+      rest = drop-put_mid (15360 * g) n now part e (omega (arith, ends)) inside size ∙ drop_then g n e old now ends s.rest;
     }
 
 pub joined_none : (cells : List ℤ) (e : ℕ) → e ≡ 0 → JoinedTo e cells cells

@@ -1,12 +1,11 @@
 -- What is significant above the next lower plane.
-use Rattle.std.proofs.Common.{◌≡◌, ℕ, ◌+◌, ◌*◌, ◌/◌, ◌%◌, ◌<◌, ◌^◌, ◌||◌, List, length, ap, sym, ◌∙◌, arith, ℤ, Bool}
+use Rattle.std.proofs.Common.{◌≡◌, ℕ, ◌+◌, ◌*◌, ◌/◌, ◌%◌, ◌<◌, ◌||◌, List, length, ap, sym, ◌∙◌, arith, ℤ, Bool}
 use Rattle.item_defs.specs.Bits.{bit, value_of}
 use Rattle.wave_defs.specs.Held.{block_at}
 use Rattle.plane_defs.specs.Sets.{magnitude, significant}
 use Rattle.plane_defs.specs.StepLaws.{IsAc}
 use Rattle.block_masks.specs.Masks.{Shows}
 use Rattle.block_masks.specs.Slices.{mask_in, minus_slot, above_slot, size_in, numbers_in, Settles}
-use Rattle.block_masks.proofs.SettingLanes.{shows_own}
 use Rattle.block_masks.proofs.SliceNumbers.{same_number, same_numbers, bits_below-same, size_bit}
 use Rattle.block_masks.proofs.Viewing.{reached_is}
 use Rattle.plane_reader.specs.Above.{AreReady}
@@ -23,7 +22,7 @@ reached cells r plane p whole known low ready ac =
     let has : bit (mask_in cells r plane) p ≡ bit (magnitude (block_at (numbers_in cells) r) p) plane = sym (ap (λ n. bit n plane) (block_size cells r p whole known ac) ∙ size_bit cells r p plane low) in
     ap (λ t. t || bit (mask_in cells r plane) p) (ready.above r p known ac) ∙ ap (λ t. significant (block_at (numbers_in cells) r) (plane + 1) p || t) has ∙ reached_is (block_at (numbers_in cells) r) plane p
 
-module _ {plane : ℕ} {old new : List ℤ} (low : plane < 27) (whole : length old % 64 ≡ 0) (above_fits : (r : ℕ) → 64 * r < length old → mask_in old r above_slot < 2 ^ 64) (plane_fits : (r : ℕ) → 64 * r < length old → mask_in old r plane < 2 ^ 64) (settles : Settles plane (length old / 64) old new) where
+module _ {plane : ℕ} {old new : List ℤ} (low : plane < 27) (whole : length old % 64 ≡ 0) (settles : Settles plane (length old / 64) old new) where
   known_then : (r : ℕ) → 64 * r < length new → 64 * r < length old
   known_then r there = omega (arith, there, settles.long)
 
@@ -40,6 +39,5 @@ module _ {plane : ℕ} {old new : List ℤ} (low : plane < 27) (whole : length o
         omega (arith, size, some);
     above = λ r p there ac.
         let known = known_then r there in
-        shown_there (settles.told r _ _ (omega (arith, known)) known (shows_own (mask_in old r above_slot) 64 (above_fits r known)) (shows_own (mask_in old r plane) 64 (plane_fits r known))) p ac.1 ∙
-        reached old r plane p whole known low ready ac ∙ ap (λ b. significant (block_at b r) plane p) (sym settled_numbers);
+        settles.bits r p (omega (arith, known)) known ac.1 ∙ reached old r plane p whole known low ready ac ∙ ap (λ b. significant (block_at b r) plane p) (sym settled_numbers);
   }

@@ -1,13 +1,13 @@
 // Turns the masks of a segment into the numbers that they represent.
 
-ghost use Rattle.std.specs.Prelude.{◌≡◌, ◌≤◌, ◌<◌, ◌*◌, ◌%◌, ℕ, length, pos};
+ghost use Rattle.std.specs.Prelude.{◌≡◌, ◌≤◌, ◌<◌, ◌*◌, ◌%◌, min, ℕ, length, pos};
 ghost use lib.ListN.{get_or};
 ghost use Rattle.wave_defs.specs.Held.{block_at};
 ghost use Rattle.block_masks.specs.BitsSet.{SetsBits};
-ghost use Rattle.block_masks.specs.Slices.{numbers_in};
+ghost use Rattle.block_masks.specs.Slices.{numbers_in, IsColumn};
 
-use crate::slicing::GROUP;
-use block_masks::{DC, MINUS, mask_of, set_bits, without};
+use crate::slicing::NUMBERS;
+use block_masks::{Column, DC, MINUS, mask_of, set_bits, without};
 
 // The number of planes that a number can have bits of.
 const PLANES: u8 = 27;
@@ -34,33 +34,51 @@ fn join_plane(block: &mut [i32], plane: u8, bits: u64, minus: u64)
     }
 }
 
-// Fills a block with the numbers that the masks of block r represent.
-fn join_block(cells: &[i32], r: usize, block: &mut [i32])
+// Fills a block with the numbers that the masks of a column represent.
+fn join_block(cells: &[i32], column: Column, block: &mut [i32])
     requires whole { length cells.now % 64 ≡ 0 }
-    requires block { 64 * r < length cells.now }
+    requires column { IsColumn cells.now column }
     requires size { length block.old ≡ 64 }
-    ensures { block.new ≡ block_at (numbers_in cells.now) r }
+    ensures { block.new ≡ block_at (numbers_in cells.now) column.block }
 {
     clear(block);
-    let minus = mask_of(cells, r, MINUS);
+    let minus = mask_of(cells, column, MINUS);
     for plane in 0..PLANES {
-        let bits = without(mask_of(cells, r, plane), 0);
+        let bits = without(mask_of(cells, column, plane), 0);
         join_plane(block, plane, bits, minus);
     }
-    let dc = (mask_of(cells, r, DC) % 0x1_0000_0000) as u32;
+    let dc = (mask_of(cells, column, DC) % 0x1_0000_0000) as u32;
     block[0] = dc.cast_signed();
 }
 
 // Turns the masks of a group into numbers. `room` is for a copy of the masks.
-fn join_group(part: &mut [i32], room: &mut [i32; 4096])
+fn join_group(part: &mut [i32], room: &mut [i32])
     requires whole { length part.old % 64 ≡ 0 }
-    requires few { length part.old ≤ 4096 }
+    requires room { length part.old ≤ length room.old }
     ensures { part.new ≡ numbers_in part.old }
 {
     let cells = &mut room[..part.len()];
     cells.copy_from_slice(part);
     for r in 0..part.len() / 64 {
-        join_block(cells, r, &mut part[64 * r..64 * r + 64]);
+        let column = Column::of(cells, r);
+        join_block(cells, column, &mut part[64 * r..64 * r + 64]);
+    }
+}
+
+// Turns masks into numbers with room for `ROOM` numbers. Each room has a stack frame of its own, since a segment of fewer blocks would
+// fill it with nothing.
+#[inline(never)]
+fn join_with_room<const ROOM: usize>(cells: &mut [i32])
+    requires small { ROOM ≤ 15360 }
+    requires room { min 15360 (length cells.old) ≤ ROOM }
+    requires whole { length cells.old % 64 ≡ 0 }
+    ensures { cells.new ≡ numbers_in cells.old }
+{
+    let mut room = [0; ROOM];
+    let len = cells.len();
+    for g in 0..len.div_ceil(NUMBERS) {
+        let start = NUMBERS * g;
+        join_group(&mut cells[start..len.min(start + NUMBERS)], &mut room);
     }
 }
 
@@ -69,10 +87,9 @@ pub fn join_numbers(cells: &mut [i32])
     requires whole { length cells.old % 64 ≡ 0 }
     ensures { cells.new ≡ numbers_in cells.old }
 {
-    let mut room = [0; 4096];
-    let len = cells.len();
-    for g in 0..len.div_ceil(GROUP) {
-        let start = GROUP * g;
-        join_group(&mut cells[start..len.min(start + GROUP)], &mut room);
+    if cells.len() <= 4096 {
+        join_with_room::<4096>(cells);
+    } else {
+        join_with_room::<15360>(cells);
     }
 }

@@ -5,7 +5,7 @@ ghost use Rattle.bit_pipe.specs.Coming.{coming, IsIn};
 ghost use Rattle.plane_defs.specs.Codes.{is_book_sound};
 ghost use Rattle.plane_defs.specs.Marks.{depths_of};
 ghost use Rattle.plane_reader.specs.Progress.{held, kept, with_one, Continues, Advances, KeepsGaggles, Clears};
-ghost use Rattle.block_masks.specs.Slices.{mask_in, numbers_in};
+ghost use Rattle.block_masks.specs.Slices.{numbers_in};
 ghost use Rattle.plane_reader.specs.Above.{AreReady};
 ghost use Rattle.plane_reader.specs.Taken.{AwaitPlane, TakesPlane};
 
@@ -13,7 +13,7 @@ use crate::stages::{Terms, take_block};
 use base_122::Book;
 use bit_pipe::{BitIn, OctetIn, Part, TextFault};
 use block_masks::{
-    ABOVE, CodedPlane, Gaggle, PlanePlan, depth_of, load, mark_of, mask_of, settle_above, store,
+    CodedPlane, Column, Gaggle, PlanePlan, depth_of, load, mark_of, settle_above, store,
 };
 use word_codes::WordTables;
 
@@ -54,10 +54,11 @@ fn take_gaggle_stage<I: OctetIn>(
     ensures ready { AreReady (terms.now.plan.now.plane + 1) cells.new }
     ensures size { length cells.new ≡ length cells.old }
 {
-    let first = GAGGLE * g;
-    for r in first..marks.len().min(first + GAGGLE) {
-        let mark = &mut marks[r];
-        let Part::Whole = take_block(input, terms, gaggle, number, r, mark, cells)? else {
+    let first = Column::of(cells, GAGGLE * g);
+    for k in 0..(marks.len() - first.block).min(GAGGLE) {
+        let column = first.further(cells, k);
+        let mark = &mut marks[column.block];
+        let Part::Whole = take_block(input, terms, gaggle, number, column, mark, cells)? else {
             return Ok(Part::Ended);
         };
     }
@@ -121,18 +122,6 @@ fn take_plane_stages<I: OctetIn>(
     Ok(Part::Whole)
 }
 
-// Reads the masks of a slot for the proof, which then knows that each fits its type. It compiles to no code.
-#[inline(always)]
-fn read_masks(cells: &[i32], slot: u8)
-    requires whole { length cells.now % 64 ≡ 0 }
-    requires slot { slot < 32 }
-    ensures { (r : ℕ) → 64 * r < length cells.now → mask_in cells.now r slot < 2 ^ 64 }
-{
-    for r in 0..cells.len() / 64 {
-        let _mask = mask_of(cells, r, slot);
-    }
-}
-
 /// Reads a bit plane of a segment up to the plan's last stage (docs/formats.md, "Bit planes" and "Reading a segment"). The
 /// bits and signs that the text gives are put into the numbers, and nothing else of the numbers changes. Returns `Whole` if
 /// the text has all items, and `Ended` if it ends before.
@@ -176,8 +165,6 @@ pub fn take_plane_with<I: OctetIn>(
         tables,
     };
     let read = take_plane_stages(input, &terms, plan.last, cells, marks);
-    read_masks(cells, ABOVE);
-    read_masks(cells, plan.plane);
     settle_above(cells, plan.plane);
     read
 }

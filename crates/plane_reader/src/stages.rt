@@ -18,7 +18,7 @@ ghost use Rattle.item_defs.specs.Bits.{bit as bit_in};
 ghost use Rattle.wave_defs.specs.Held.{block_at};
 ghost use Rattle.plane_defs.specs.Sets.{significant};
 ghost use Rattle.plane_defs.specs.StepLaws.{IsAc};
-ghost use Rattle.block_masks.specs.Slices.{numbers_in};
+ghost use Rattle.block_masks.specs.Slices.{numbers_in, IsColumn};
 ghost use Rattle.plane_reader.specs.Above.{IsAbove, AreReady, ChangesBlock};
 
 use crate::apply::{add_dc, apply};
@@ -29,7 +29,8 @@ use crate::refine::{take_dc_bit, take_refinement};
 use crate::types::{Group, take_types};
 use bit_pipe::{BitIn, OctetIn, Part, TextFault};
 use block_masks::{
-    ABOVE, CodedPlane, Gaggle, both, depth_of, either, except, families_of, mask_of, with_families,
+    ABOVE, CodedPlane, Column, Gaggle, both, depth_of, either, except, families_of, mask_of,
+    with_families,
 };
 use word_codes::WordTables;
 
@@ -150,38 +151,38 @@ fn take_dc<I: OctetIn>(
     input: &mut BitIn<I>,
     plan: &CodedPlane,
     cells: &mut [i32],
-    r: usize,
+    column: Column,
 ) -> Result<Part, TextFault>
     requires open { IsIn (coming input.old) }
     requires whole { length cells.old % 64 ≡ 0 }
-    requires block { 64 * r < length cells.old }
+    requires column { IsColumn cells.old column }
     requires ready { AreReady (plan.now.plane + 1) cells.old }
     ensures taken { (book : BookValue) (gaggle : GaggleValue) (mark : ℤ) (f : Frame) (earlier : ℕ → List Step) → AreOptions gaggle.options → IsFrame f plan.now f.depth →
-        StandsBefore f 0 earlier mark (block_at (numbers_in cells.old) r) → StageTaken I.source book f 0 earlier result gaggle gaggle mark (block_at (numbers_in cells.new) r) (coming input.old) (coming input.new) }
+        StandsBefore f 0 earlier mark (block_at (numbers_in cells.old) column.block) → StageTaken I.source book f 0 earlier result gaggle gaggle mark (block_at (numbers_in cells.new) column.block) (coming input.old) (coming input.new) }
     ensures ready { AreReady (plan.now.plane + 1) cells.new }
-    ensures others { ChangesBlock r cells.old cells.new }
+    ensures others { ChangesBlock column.block cells.old cells.new }
 {
     let Some(bit) = take_dc_bit(input, plan)? else {
         return Ok(Part::Ended);
     };
-    add_dc(bit, plan.plane, cells, r);
+    add_dc(bit, plan.plane, cells, column);
     Ok(Part::Whole)
 }
 
-// Returns which AC numbers of block r are significant in a plane of which a part was read.
+// Returns which AC numbers of a block are significant in a plane of which a part was read.
 #[inline(always)]
-fn seen_before(cells: &[i32], r: usize, plane: u8) -> Seen
+fn seen_before(cells: &[i32], column: Column, plane: u8) -> Seen
     requires whole { length cells.now % 64 ≡ 0 }
-    requires block { 64 * r < length cells.now }
+    requires column { IsColumn cells.now column }
     requires low { plane < 27 }
     requires ready { AreReady (plane + 1) cells.now }
-    ensures above { (p : ℕ) → IsAc p → bit_in result.above p ≡ significant (block_at (numbers_in cells.now) r) (plane + 1) p }
-    ensures now { (p : ℕ) → IsAc p → bit_in result.now p ≡ significant (block_at (numbers_in cells.now) r) plane p }
+    ensures above { (p : ℕ) → IsAc p → bit_in result.above p ≡ significant (block_at (numbers_in cells.now) column.block) (plane + 1) p }
+    ensures now { (p : ℕ) → IsAc p → bit_in result.now p ≡ significant (block_at (numbers_in cells.now) column.block) plane p }
 {
-    let above = mask_of(cells, r, ABOVE);
+    let above = mask_of(cells, column, ABOVE);
     Seen {
         above,
-        now: either(above, mask_of(cells, r, plane)),
+        now: either(above, mask_of(cells, column, plane)),
     }
 }
 
@@ -191,7 +192,7 @@ fn take_deep<I: OctetIn>(
     terms: &Terms,
     gaggle: &mut Gaggle,
     number: u8,
-    r: usize,
+    column: Column,
     mark: &mut i32,
     cells: &mut [i32],
 ) -> Result<Part, TextFault>
@@ -200,31 +201,31 @@ fn take_deep<I: OctetIn>(
     requires some { 1 ≤ number }
     requires number { number < 5 }
     requires whole { length cells.old % 64 ≡ 0 }
-    requires block { 64 * r < length cells.old }
+    requires column { IsColumn cells.old column }
     requires ready { AreReady (terms.now.plan.now.plane + 1) cells.old }
     ensures taken { (f : Frame) (earlier : ℕ → List Step) → IsFrame f terms.now.plan.now (depth_in mark.old) → f.plane < f.depth →
-        StandsBefore f number earlier mark.old (block_at (numbers_in cells.old) r) →
-        StageTaken I.source terms.now.tables.now.book f number earlier result gaggle.old gaggle.new mark.new (block_at (numbers_in cells.new) r) (coming input.old) (coming input.new) }
+        StandsBefore f number earlier mark.old (block_at (numbers_in cells.old) column.block) →
+        StageTaken I.source terms.now.tables.now.book f number earlier result gaggle.old gaggle.new mark.new (block_at (numbers_in cells.new) column.block) (coming input.old) (coming input.new) }
     ensures depth { depth_in mark.new ≡ depth_in mark.old }
     ensures options { options_in mark.new ≡ options_in mark.old }
     ensures sent { sent_in mark.new ≡ sent_in mark.old }
     ensures ready { AreReady (terms.now.plan.now.plane + 1) cells.new }
-    ensures others { ChangesBlock r cells.old cells.new }
+    ensures others { ChangesBlock column.block cells.old cells.new }
 {
     let mut found = Found::NOTHING;
-    let seen = seen_before(cells, r, terms.plan.plane);
+    let seen = seen_before(cells, column, terms.plan.plane);
     let read = take_words(input, terms, gaggle, &mut found, number, mark, seen);
-    apply(found, terms.plan.plane, cells, r);
+    apply(found, terms.plan.plane, cells, column);
     Ok(part_of(read?))
 }
 
-// Reads a stage of block r, whose state has its depth and its families.
+// Reads a stage of a block, whose state has its depth and its families.
 pub(crate) fn take_block<I: OctetIn>(
     input: &mut BitIn<I>,
     terms: &Terms,
     gaggle: &mut Gaggle,
     number: u8,
-    r: usize,
+    column: Column,
     mark: &mut i32,
     cells: &mut [i32],
 ) -> Result<Part, TextFault>
@@ -232,22 +233,22 @@ pub(crate) fn take_block<I: OctetIn>(
     requires number { number < 5 }
     requires known { AreOptions gaggle.old.options }
     requires whole { length cells.old % 64 ≡ 0 }
-    requires block { 64 * r < length cells.old }
+    requires column { IsColumn cells.old column }
     requires ready { AreReady (terms.now.plan.now.plane + 1) cells.old }
     ensures taken { (f : Frame) (earlier : ℕ → List Step) → IsFrame f terms.now.plan.now (depth_in mark.old) →
-        StandsBefore f number earlier mark.old (block_at (numbers_in cells.old) r) →
-        StageTaken I.source terms.now.tables.now.book f number earlier result gaggle.old gaggle.new mark.new (block_at (numbers_in cells.new) r) (coming input.old) (coming input.new) }
+        StandsBefore f number earlier mark.old (block_at (numbers_in cells.old) column.block) →
+        StageTaken I.source terms.now.tables.now.book f number earlier result gaggle.old gaggle.new mark.new (block_at (numbers_in cells.new) column.block) (coming input.old) (coming input.new) }
     ensures depth { depth_in mark.new ≡ depth_in mark.old }
     ensures options { options_in mark.new ≡ options_in mark.old }
     ensures sent { sent_in mark.new ≡ sent_in mark.old }
     ensures ready { AreReady (terms.now.plan.now.plane + 1) cells.new }
-    ensures others { ChangesBlock r cells.old cells.new }
+    ensures others { ChangesBlock column.block cells.old cells.new }
 {
     if number == 0 {
-        return take_dc(input, terms.plan, cells, r);
+        return take_dc(input, terms.plan, cells, column);
     }
     if depth_of(*mark) <= terms.plan.plane {
         return Ok(Part::Whole);
     }
-    take_deep(input, terms, gaggle, number, r, mark, cells)
+    take_deep(input, terms, gaggle, number, column, mark, cells)
 }

@@ -7,17 +7,17 @@ use Rattle.plane_reader.proofs.apply.add_dc.Goals as goal
 
 pub returns-then-bit-clause-added : goal.returns-then-bit-clause-added
 returns-then-bit-clause-added c =
-    subst (λ b. AddsDc c.args.plane b (block_at (numbers_in c.args.cells.now) c.args.r) (block_at (numbers_in c.put_mask.new.cells) c.args.r)) (sym c.if-bit.true)
-    (dc_adds c.requires.whole c.requires.block c.put_mask.ensures c.requires.ready (omega (arith, c.requires.low)) c.args.plane c.requires.low
+    subst (λ b. AddsDc c.args.plane b (block_at (numbers_in c.args.cells.now) c.args.column.block) (block_at (numbers_in c.put_mask.new.cells) c.args.column.block)) (sym c.if-bit.true)
+    (dc_adds c.requires.whole c.requires.column.block c.put_mask.ensures c.requires.ready (omega (arith, c.requires.low)) c.args.plane c.requires.low
     (c.from.ensures ∙ ap (λ m. (m % 2 ^ 32 + 1 * 2 ^ c.args.plane % 4294967296) % 4294967296) c.mask_of.ensures.mask))
 
 pub returns-then-bit-clause-ready : goal.returns-then-bit-clause-ready
-returns-then-bit-clause-ready c = dc_ready c.requires.whole c.requires.block c.put_mask.ensures c.requires.ready
+returns-then-bit-clause-ready c = dc_ready c.requires.whole c.requires.column.block c.put_mask.ensures c.requires.ready
 
 pub returns-then-bit-clause-others : goal.returns-then-bit-clause-others
-returns-then-bit-clause-others c = dc_others c.requires.whole c.requires.block c.put_mask.ensures c.requires.ready
+returns-then-bit-clause-others c = dc_others c.requires.whole c.requires.column.block c.put_mask.ensures c.requires.ready
 
 pub returns-else-bit-clause-added : goal.returns-else-bit-clause-added
 returns-else-bit-clause-added c =
-    subst (λ b. AddsDc c.args.plane b (block_at (numbers_in c.args.cells.now) c.args.r) (block_at (numbers_in c.args.cells.now) c.args.r)) (sym c.if-bit.false)
-    (dc_kept c.args.cells.now c.args.r c.args.plane c.requires.whole c.requires.block)
+    subst (λ b. AddsDc c.args.plane b (block_at (numbers_in c.args.cells.now) c.args.column.block) (block_at (numbers_in c.args.cells.now) c.args.column.block)) (sym c.if-bit.false)
+    (dc_kept c.args.cells.now c.args.column.block c.args.plane c.requires.whole c.requires.column.block)

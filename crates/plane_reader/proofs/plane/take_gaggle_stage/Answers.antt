@@ -1,31 +1,37 @@
-use Rattle.std.proofs.Common.{◌-◌, ◌*◌, ◌<◌, ◌∙◌, arith, length}
+use Rattle.std.proofs.Common.{◌≡◌, ◌+◌, ◌*◌, ◌<◌, ◌∙◌, arith, length}
 use Rattle.std.proofs.lemmas.Result.{err_from_is_err_and}
 use Rattle.std.proofs.lemmas.Grind.{common_steps}
 use Rattle.bit_pipe.specs.Coming.{coming}
 use Rattle.block_masks.specs.Slices.{numbers_in}
+use Rattle.plane_reader.proofs.CellNumbers.{same_column}
 use Rattle.plane_reader.proofs.GaggleMarks.{keeps_none, keeps_one, keeps_then}
 use Rattle.plane_reader.proofs.GaggleSteps.{goes_to, goes_in, goes_known, call_leaves, gaggle_ends}
 use Rattle.plane_reader.proofs.plane.take_gaggle_stage.Goals as goal
 
+pub further-column-requires-clause-column : goal.further-column-requires-clause-column
+further-column-requires-clause-column g c = same_column c.loop-k.invariant.size c.of-first.ensures.column
+
 pub take_block-requires-clause-open : goal.take_block-requires-clause-open
-take_block-requires-clause-open g c = goes_in (goes_to c.requires.goes c.loop-r.invariant.reaches)
+take_block-requires-clause-open g c = goes_in (goes_to c.requires.goes c.loop-k.invariant.reaches)
 
 pub take_block-requires-clause-known : goal.take_block-requires-clause-known
-take_block-requires-clause-known g c = goes_known c.args.g c.loop-r.marks (numbers_in c.loop-r.cells) c.loop-r.gaggle (coming c.loop-r.input) (goes_to c.requires.goes c.loop-r.invariant.reaches)
+take_block-requires-clause-known g c = goes_known c.args.g c.loop-k.marks (numbers_in c.loop-k.cells) c.loop-k.gaggle (coming c.loop-k.input) (goes_to c.requires.goes c.loop-k.invariant.reaches)
 
-pub loop-r-preserved : goal.loop-r-preserved
-loop-r-preserved g c =
-    let i = c.loop-r.invariant in
-    let marks = c.loop-r.marks in
-    let r = c.loop-r.r in
+pub loop-k-preserved : goal.loop-k-preserved
+loop-k-preserved g c =
+    let i = c.loop-k.invariant in
+    let marks = c.loop-k.marks in
+    let r = c.further-column.result.block in
+    let there : 16 * c.args.g + c.loop-k.k ≡ r = omega (arith, c.further-column.ensures.block, c.of-first.ensures.block) in
+    let few : c.loop-k.k < 16 = omega (arith, c.loop-k-test.true, c.min-k-end.ensures) in
     let n = c.take_block.new in
     let t = rw c.in-Whole.is at c.in_ok-take_block.ensures.taken in
     let h = c.in_ok-take_block.ensures in
-    let within : r < length marks = omega (arith, c.loop-r-test.true, c.min-r-end.ensures, c.loop-r.auto.marks) in
+    let within : r < length marks = omega (arith, there, c.loop-k-test.true, c.min-k-end.ensures, c.loop-k.auto.marks, c.of-first.ensures.block) in
     let once = keeps_one marks marks r n.mark within h.depth h.options h.sent (keeps_none marks) in
     record {
       reaches = record {
-        so_far = call_leaves c.args.g r marks c.loop-r.cells n.cells c.loop-r.gaggle n.gaggle (coming c.loop-r.input) (coming n.input) n.mark (omega (arith, c.loop-r.auto.r)) (omega (arith, c.loop-r-test.true, c.min-r-end.ensures)) within once h.others i.reaches t;
+        so_far = call_leaves c.args.g c.loop-k.k r marks c.loop-k.cells n.cells c.loop-k.gaggle n.gaggle (coming c.loop-k.input) (coming n.input) n.mark few there within once h.others i.reaches t;
       };
       marks = keeps_then c.args.marks.now marks _ i.marks once;
       ready = h.ready;
@@ -34,42 +40,46 @@ loop-r-preserved g c =
 
 pub returns-in_err-take_block-clause-advances : goal.returns-in_err-take_block-clause-advances
 returns-in_err-take_block-clause-advances g c =
-    let marks = c.loop-r.marks in
-    let r = c.loop-r.r in
+    let marks = c.loop-k.marks in
+    let r = c.further-column.result.block in
+    let there : 16 * c.args.g + c.loop-k.k ≡ r = omega (arith, c.further-column.ensures.block, c.of-first.ensures.block) in
+    let few : c.loop-k.k < 16 = omega (arith, c.loop-k-test.true, c.min-k-end.ensures) in
     let n = c.take_block.new in
     let h = c.in_err-take_block.ensures in
-    let within : r < length marks = omega (arith, c.loop-r-test.true, c.min-r-end.ensures, c.loop-r.auto.marks) in
+    let within : r < length marks = omega (arith, there, c.loop-k-test.true, c.min-k-end.ensures, c.loop-k.auto.marks, c.of-first.ensures.block) in
     let once = keeps_one marks marks r n.mark within h.depth h.options h.sent (keeps_none marks) in
     let p = err_from_is_err_and c.from_residual.result c.from_residual.ensures.1 in
     rw (p.1, p.2) (record {
-      leaves = call_leaves c.args.g r marks c.loop-r.cells n.cells c.loop-r.gaggle n.gaggle (coming c.loop-r.input) (coming n.input) n.mark (omega (arith, c.loop-r.auto.r)) (omega (arith, c.loop-r-test.true, c.min-r-end.ensures)) within once h.others c.loop-r.invariant.reaches h.taken;
+      leaves = call_leaves c.args.g c.loop-k.k r marks c.loop-k.cells n.cells c.loop-k.gaggle n.gaggle (coming c.loop-k.input) (coming n.input) n.mark few there within once h.others c.loop-k.invariant.reaches h.taken;
     })
 
 pub returns-in_err-take_block-clause-marks : goal.returns-in_err-take_block-clause-marks
 returns-in_err-take_block-clause-marks g c = grind (arith, common_steps, keeps_one)
 
 pub returns-in_err-take_block-clause-size : goal.returns-in_err-take_block-clause-size
-returns-in_err-take_block-clause-size g c = c.in_err-take_block.ensures.others.long ∙ c.loop-r.invariant.size
+returns-in_err-take_block-clause-size g c = c.in_err-take_block.ensures.others.long ∙ c.loop-k.invariant.size
 
 pub returns-in_default-clause-advances : goal.returns-in_default-clause-advances
 returns-in_default-clause-advances g c =
-    let marks = c.loop-r.marks in
-    let r = c.loop-r.r in
+    let marks = c.loop-k.marks in
+    let r = c.further-column.result.block in
+    let there : 16 * c.args.g + c.loop-k.k ≡ r = omega (arith, c.further-column.ensures.block, c.of-first.ensures.block) in
+    let few : c.loop-k.k < 16 = omega (arith, c.loop-k-test.true, c.min-k-end.ensures) in
     let n = c.take_block.new in
     let t = rw c.in_default.is at c.in_ok-take_block.ensures.taken in
     let h = c.in_ok-take_block.ensures in
-    let within : r < length marks = omega (arith, c.loop-r-test.true, c.min-r-end.ensures, c.loop-r.auto.marks) in
+    let within : r < length marks = omega (arith, there, c.loop-k-test.true, c.min-k-end.ensures, c.loop-k.auto.marks, c.of-first.ensures.block) in
     let once = keeps_one marks marks r n.mark within h.depth h.options h.sent (keeps_none marks) in
     record {
-      leaves = call_leaves c.args.g r marks c.loop-r.cells n.cells c.loop-r.gaggle n.gaggle (coming c.loop-r.input) (coming n.input) n.mark (omega (arith, c.loop-r.auto.r)) (omega (arith, c.loop-r-test.true, c.min-r-end.ensures)) within once h.others c.loop-r.invariant.reaches t;
+      leaves = call_leaves c.args.g c.loop-k.k r marks c.loop-k.cells n.cells c.loop-k.gaggle n.gaggle (coming c.loop-k.input) (coming n.input) n.mark few there within once h.others c.loop-k.invariant.reaches t;
     }
 
 pub returns-in_default-clause-marks : goal.returns-in_default-clause-marks
 returns-in_default-clause-marks g c = grind (arith, common_steps, keeps_one)
 
 pub returns-in_default-clause-size : goal.returns-in_default-clause-size
-returns-in_default-clause-size g c = c.in_ok-take_block.ensures.others.long ∙ c.loop-r.invariant.size
+returns-in_default-clause-size g c = c.in_ok-take_block.ensures.others.long ∙ c.loop-k.invariant.size
 
 pub returns-clause-advances : goal.returns-clause-advances
 returns-clause-advances g c =
-    gaggle_ends c.args.g (c.loop-r.r - 16 * c.args.g) (omega (arith, c.min-r-end.ensures, c.loop-r-test.false, c.loop-r.auto.r-end, c.loop-r.auto.marks)) c.loop-r.invariant.reaches
+    gaggle_ends c.args.g c.loop-k.k (omega (arith, c.min-k-end.ensures, c.loop-k-test.false, c.loop-k.auto.k-end, c.loop-k.auto.marks, c.of-first.ensures.block)) c.loop-k.invariant.reaches
