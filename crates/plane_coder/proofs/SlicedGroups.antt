@@ -1,4 +1,4 @@
--- The masks of groups of 64 blocks, one group after another.
+-- The masks of groups of 240 blocks, one group after another.
 use Rattle.std.proofs.Common.{◌≡◌, ◌<◌, ◌≤◌, ℕ, ◌+◌, ◌-◌, ◌*◌, ◌/◌, ◌%◌, ◌^◌, min, inl, inr, refl, ap, sym, ◌∙◌, subst, arith, ℤ, pos, List, ◌++◌, length, take, drop, get_or, slice_range, length-append, length-drop, length-take, get_or-take, get_or-drop, ext_get_or, pow_pos}
 use Rattle.std.proofs.lemmas.List.{get_or_append_left, get_or-append_right, get_or_past}
 use Rattle.std.proofs.lemmas.Bool.{cases_lt}
@@ -52,13 +52,13 @@ small_part numbers start count depth small i = elim (cases_lt i (start + count -
 slots_below : (w s : ℕ) → s < 32 → w * s + w ≤ w * 32
 slots_below w s few = grind arith
 
-within_group : (count r slot : ℕ) → slot < 32 → place count r slot + 1 < 4096 * (r / 64) + 4096
+within_group : (count r slot : ℕ) → slot < 32 → place count r slot + 1 < 15360 * (r / 240) + 15360
 within_group count r slot few =
     let most : width count r * slot + width count r ≤ width count r * 32 = slots_below (width count r) slot few in
-    let first : width count r * slot ≤ 64 * 31 = grind arith in
+    let first : width count r * slot ≤ 240 * 31 = grind arith in
     omega (arith, most, first)
 
-within_whole : (count r slot : ℕ) → r < count → r < 64 → slot < 32 → place count r slot + 1 < 64 * count
+within_whole : (count r slot : ℕ) → r < count → r < 240 → slot < 32 → place count r slot + 1 < 64 * count
 within_whole count r slot below low few =
     let most : width count r * slot + width count r ≤ width count r * 32 = slots_below (width count r) slot few in
     omega (arith, most, below, low)
@@ -83,9 +83,9 @@ same_block a b q r whole_a whole_b in_a in_b same =
 
 -- ---- a group
 
-module _ (top g count : ℕ) (old masks : List ℤ) (whole : length old % 64 ≡ 0) (within : 4096 * g < length old) (is : count ≡ min (length old - 4096 * g) 4096) (long : length masks ≡ count) where
+module _ (top g count : ℕ) (old masks : List ℤ) (whole : length old % 64 ≡ 0) (within : 15360 * g < length old) (is : count ≡ min (length old - 15360 * g) 15360) (long : length masks ≡ count) where
   abbrev start : ℕ
-  start = 4096 * g
+  start = 15360 * g
 
   abbrev new : List ℤ
   new = put old masks start (omega (arith, is, long))
@@ -99,26 +99,26 @@ module _ (top g count : ℕ) (old masks : List ℤ) (whole : length old % 64 ≡
   new_long : length new ≡ length old
   new_long = put_long old masks start (omega (arith, is, long))
 
-  place_moved : (r s : ℕ) → 64 * g ≤ r → r < 64 * g + 64 → place (length old / 64) r s ≡ start + place (length masks / 64) (r % 64) s
+  place_moved : (r s : ℕ) → 240 * g ≤ r → r < 240 * g + 240 → place (length old / 64) r s ≡ start + place (length masks / 64) (r % 240) s
   place_moved r s from below =
-      let group : r / 64 ≡ g = omega (arith, from, below) in
-      let first : r % 64 / 64 ≡ 0 = omega arith in
-      let wide : width (length old / 64) r ≡ width (length masks / 64) (r % 64) = omega (arith, group, first, is, long) in
-      let slots : width (length old / 64) r * s ≡ width (length masks / 64) (r % 64) * s = ap (λ w. w * s) wide in
+      let group : r / 240 ≡ g = omega (arith, from, below) in
+      let first : r % 240 / 240 ≡ 0 = omega arith in
+      let wide : width (length old / 64) r ≡ width (length masks / 64) (r % 240) = omega (arith, group, first, is, long) in
+      let slots : width (length old / 64) r * s ≡ width (length masks / 64) (r % 240) * s = ap (λ w. w * s) wide in
       omega (arith, group, first, slots)
 
-  mask_moved : (r s : ℕ) → 64 * g ≤ r → r < 64 * g + 64 → 64 * r < length old → s < 32 → mask_in new r s ≡ mask_in masks (r % 64) s
+  mask_moved : (r s : ℕ) → 240 * g ≤ r → r < 240 * g + 240 → 64 * r < length old → s < 32 → mask_in new r s ≡ mask_in masks (r % 240) s
   unfolding mask_in
   mask_moved r s from below known few =
-      let i = place (length masks / 64) (r % 64) s in
-      let in_part : r % 64 < length masks / 64 = omega (arith, whole, from, below, known, is, long) in
-      let inside : i + 1 < length masks = omega (arith, within_whole (length masks / 64) (r % 64) s in_part (omega arith) few) in
+      let i = place (length masks / 64) (r % 240) s in
+      let in_part : r % 240 < length masks / 64 = omega (arith, whole, from, below, known, is, long) in
+      let inside : i + 1 < length masks = omega (arith, within_whole (length masks / 64) (r % 240) s in_part (omega arith) few) in
       let next : start + i + 1 ≡ start + (i + 1) = omega arith in
       let fits : start + length masks ≤ length old = omega (arith, is, long) in
       ap (λ n. mask_from new (place (n / 64) r s)) new_long ∙ ap (mask_from new) (place_moved r s from below)
       ∙ same_halves new masks (start + i) i (put_there old masks start fits i (omega (arith, inside))) (ap (λ j. get_or new j (pos 0)) next ∙ put_there old masks start fits (i + 1) inside)
 
-  mask_before : (r s : ℕ) → r < 64 * g → s < 32 → mask_in new r s ≡ mask_in old r s
+  mask_before : (r s : ℕ) → r < 240 * g → s < 32 → mask_in new r s ≡ mask_in old r s
   unfolding mask_in
   mask_before r s lt few =
       let i = place (length old / 64) r s in
@@ -126,9 +126,9 @@ module _ (top g count : ℕ) (old masks : List ℤ) (whole : length old % 64 ≡
       let fits : start + length masks ≤ length old = omega (arith, is, long) in
       ap (λ n. mask_from new (place (n / 64) r s)) new_long ∙ same_halves new old i i (put_before old masks start fits i (omega (arith, inside))) (put_before old masks start fits (i + 1) inside)
 
-  block_moved : (r : ℕ) → 64 * g ≤ r → r < 64 * g + 64 → 64 * r < length old → block_at part (r % 64) ≡ block_at old r
-  block_moved r from below known = same_block part old (r % 64) r (omega (arith, part_long, is, whole)) whole (omega (arith, part_long, is, whole, from, below, known)) known (λ k low.
-      let j = 64 * (r % 64) + k in
+  block_moved : (r : ℕ) → 240 * g ≤ r → r < 240 * g + 240 → 64 * r < length old → block_at part (r % 240) ≡ block_at old r
+  block_moved r from below known = same_block part old (r % 240) r (omega (arith, part_long, is, whole)) whole (omega (arith, part_long, is, whole, from, below, known)) known (λ k low.
+      let j = 64 * (r % 240) + k in
       let inside : j < start + count - start = omega (arith, is, whole, from, below, known, low) in
       let there : start + j ≡ 64 * r + k = omega (arith, from, below) in
       get_or-take (start + count - start) (drop start old) j (pos 0) inside ∙ get_or-drop start old j (pos 0) ∙ ap (λ i. get_or old i (pos 0)) there)
@@ -137,8 +137,8 @@ module _ (top g count : ℕ) (old masks : List ℤ) (whole : length old % 64 ≡
   group_sliced has = record {
     long = new_long;
     here = λ r from below known.
-        let in_part : r % 64 < length part / 64 = omega (arith, part_long, whole, from, below, known, is) in
-        masks_moved (λ s few. mask_moved r s from below known few) (subst (λ b. HasMasks top b masks (r % 64)) (block_moved r from below known) (has (r % 64) in_part));
+        let in_part : r % 240 < length part / 64 = omega (arith, part_long, whole, from, below, known, is) in
+        masks_moved (λ s few. mask_moved r s from below known few) (subst (λ b. HasMasks top b masks (r % 240)) (block_moved r from below known) (has (r % 240) in_part));
     before = λ r s lt known few. mask_before r s lt few;
     after = λ i le. put_after old masks start (omega (arith, is, long)) i (omega (arith, is, long, le));
   }
@@ -151,7 +151,7 @@ no_group top cells = record { long = refl; done = λ r lt known. absurd (omega (
 pub more_groups : {top g : ℕ} {old now new : List ℤ} → length old % 64 ≡ 0 → SlicesFirst top g old now → SlicesGroup top g now new → SlicesFirst top (g + 1) old new
 more_groups {top} {g} {old} {now} {new} whole so group = record {
   long = group.long ∙ so.long;
-  done = λ r lt known. elim (cases_lt r (64 * g)) [
+  done = λ r lt known. elim (cases_lt r (240 * g)) [
     | inl before ↦ masks_moved (λ s few. group.before r s before (omega (arith, known, so.long)) few) (so.done r before known)
     | inr from ↦
         let here = group.here r from (omega (arith, lt)) (omega (arith, known, so.long)) in
@@ -160,5 +160,5 @@ more_groups {top} {g} {old} {now} {new} whole so group = record {
   todo = λ i le. group.after i (omega (arith, le)) ∙ so.todo i (omega (arith, le));
 }
 
-pub small_later : {top g : ℕ} {old now : List ℤ} (P : ℤ → Type 0) → SlicesFirst top g old now → ((i : ℕ) → P (get_or old i (pos 0))) → (i : ℕ) → 4096 * g ≤ i → P (get_or now i (pos 0))
+pub small_later : {top g : ℕ} {old now : List ℤ} (P : ℤ → Type 0) → SlicesFirst top g old now → ((i : ℕ) → P (get_or old i (pos 0))) → (i : ℕ) → 15360 * g ≤ i → P (get_or now i (pos 0))
 small_later P so all i le = subst P (sym (so.todo i le)) (all i)

@@ -40,17 +40,17 @@ pub record KeepsOthers (r : ℕ) (old new : List ℤ) : Type 0 where
 abbrev pub HasFirst : (top count : ℕ) → (numbers cells : List ℤ) → Type 0
 HasFirst top count numbers cells = (r : ℕ) → r < count → HasMasks top (block_at numbers r) cells r
 
--- ---- groups of 64 blocks
+-- ---- groups of 240 blocks
 
 -- the masks of one group are in the place of its numbers; those before it and the numbers after it stay
 pub record SlicesGroup (top g : ℕ) (old new : List ℤ) : Type 0 where
   pub long : length new ≡ length old
-  pub here : (r : ℕ) → 64 * g ≤ r → r < 64 * g + 64 → 64 * r < length old → HasMasks top (block_at old r) new r
-  pub before : (r s : ℕ) → r < 64 * g → 64 * r < length old → s < 32 → mask_in new r s ≡ mask_in old r s
-  pub after : (i : ℕ) → 4096 * g + 4096 ≤ i → get_or new i (pos 0) ≡ get_or old i (pos 0)
+  pub here : (r : ℕ) → 240 * g ≤ r → r < 240 * g + 240 → 64 * r < length old → HasMasks top (block_at old r) new r
+  pub before : (r s : ℕ) → r < 240 * g → 64 * r < length old → s < 32 → mask_in new r s ≡ mask_in old r s
+  pub after : (i : ℕ) → 15360 * g + 15360 ≤ i → get_or new i (pos 0) ≡ get_or old i (pos 0)
 
 -- this number of groups have their masks
 pub record SlicesFirst (top groups : ℕ) (old new : List ℤ) : Type 0 where
   pub long : length new ≡ length old
-  pub done : (r : ℕ) → r < 64 * groups → 64 * r < length old → HasMasks top (block_at old r) new r
-  pub todo : (i : ℕ) → 4096 * groups ≤ i → get_or new i (pos 0) ≡ get_or old i (pos 0)
+  pub done : (r : ℕ) → r < 240 * groups → 64 * r < length old → HasMasks top (block_at old r) new r
+  pub todo : (i : ℕ) → 15360 * groups ≤ i → get_or new i (pos 0) ≡ get_or old i (pos 0)

@@ -1,50 +1,41 @@
-// The masks of a segment are put in the place of its numbers, 64 blocks at a time.
+// The masks of a segment are put in the place of its numbers, a group of blocks at a time.
 
-ghost use Rattle.std.specs.Prelude.{◌≡◌, ◌+◌, ◌*◌, ◌/◌, ◌%◌, ◌<◌, ◌≤◌, ◌^◌, ◌++◌, ℕ, length, take, drop, pos, slice_index_or};
-ghost use Rattle.item_defs.specs.Bits.{bit};
+ghost use Rattle.std.specs.Prelude.{◌≡◌, ◌+◌, ◌*◌, ◌/◌, ◌%◌, ◌<◌, ◌≤◌, ◌^◌, ◌++◌, ◌-◌, ℕ, length, min, take, drop, pos, slice_index_or};
 ghost use Rattle.wave_defs.specs.Held.{block_at};
 ghost use Rattle.plane_defs.specs.Sets.{magnitude};
-ghost use Rattle.block_masks.specs.Masks.{Shows};
-ghost use Rattle.block_masks.specs.Slices.{numbers_in};
+ghost use Rattle.block_masks.specs.Slices.{IsColumn, numbers_in};
 ghost use Rattle.plane_coder.specs.Sliced.{AreSliced, AreAbove, HasPlanes, HasMasks, HasFirst, KeepsOthers, SlicesGroup};
 
-use block_masks::{ABOVE, DC, MINUS, all_having_bit, all_negative, all_reaching, put_mask};
+use block_masks::{
+    ABOVE, Column, DC, GROUP, MINUS, all_having_bit, all_negative, all_reaching, put_mask,
+};
 
-// The numbers of a group of 64 blocks.
-const GROUP: usize = 4096;
+// The numbers of a whole group.
+const NUMBERS: usize = 64 * GROUP;
 
-// Returns which numbers of a block have the bit of weight 2^plane in their magnitude, all of which are below 2^depth.
+// Puts the masks of all planes for the block of a column. No number has a bit of a plane from the depth on.
 #[inline(always)]
-fn mask_of_plane(block: &[i32], depth: u8, plane: u8) -> u64
+fn put_masks_of_planes(block: &[i32], depth: u8, cells: &mut [i32], column: Column)
     requires whole { length block.now ≡ 64 }
-    requires low { plane < 28 }
-    requires small { (k : ℕ) → magnitude block.now k < 2 ^ depth }
-    ensures { Shows result (λ k. bit (magnitude block.now k) plane) 0 64 }
-{
-    if plane >= depth {
-        return 0;
-    }
-    all_having_bit(block, plane)
-}
-
-// Puts the masks of all planes for block r.
-#[inline(always)]
-fn put_masks_of_planes(block: &[i32], depth: u8, cells: &mut [i32], r: usize)
-    requires whole { length block.now ≡ 64 }
+    requires depth { depth ≤ 28 }
     requires small { (k : ℕ) → magnitude block.now k < 2 ^ depth }
     requires blocks { length cells.old % 64 ≡ 0 }
-    requires within { 64 * r < length cells.old }
-    ensures masks { HasPlanes 28 block.now cells.new r }
-    ensures others { KeepsOthers r cells.old cells.new }
+    requires column { IsColumn cells.old column }
+    ensures masks { HasPlanes 28 block.now cells.new column.block }
+    ensures others { KeepsOthers column.block cells.old cells.new }
 {
-    for plane in 0..28u8 {
-        put_mask(cells, r, plane, mask_of_plane(block, depth, plane));
+    for plane in 0..depth {
+        put_mask(cells, column, plane, all_having_bit(block, plane));
+    }
+    for high in depth..28 {
+        put_mask(cells, column, high, 0);
     }
 }
 
 // Puts all masks for block r: those of what is significant above the first plane are of plane `top`.
 fn put_masks(block: &[i32], depth: u8, top: u8, cells: &mut [i32], r: usize)
     requires whole { length block.now ≡ 64 }
+    requires depth { depth ≤ 28 }
     requires small { (k : ℕ) → magnitude block.now k < 2 ^ depth }
     requires top { top ≤ 28 }
     requires blocks { length cells.old % 64 ≡ 0 }
@@ -52,10 +43,11 @@ fn put_masks(block: &[i32], depth: u8, top: u8, cells: &mut [i32], r: usize)
     ensures masks { HasMasks top block.now cells.new r }
     ensures others { KeepsOthers r cells.old cells.new }
 {
-    put_masks_of_planes(block, depth, cells, r);
-    put_mask(cells, r, MINUS, all_negative(block));
-    put_mask(cells, r, ABOVE, all_reaching(block, top));
-    put_mask(cells, r, DC, u64::from(block[0].cast_unsigned()));
+    let column = Column::of(cells, r);
+    put_masks_of_planes(block, depth, cells, column);
+    put_mask(cells, column, MINUS, all_negative(block));
+    put_mask(cells, column, ABOVE, all_reaching(block, top));
+    put_mask(cells, column, DC, u64::from(block[0].cast_unsigned()));
 }
 
 // Returns block r of some numbers.
@@ -69,9 +61,10 @@ fn block_of(numbers: &[i32], r: usize) -> &[i32]
     &numbers[64 * r..64 * r + 64]
 }
 
-// Puts the masks of at most 64 blocks in a room that is as long as they are.
+// Puts the masks of the blocks of a group in a room that is as long as they are.
 fn slice_group(numbers: &[i32], depth: u8, top: u8, cells: &mut [i32])
     requires whole { length numbers.now % 64 ≡ 0 }
+    requires depth { depth ≤ 28 }
     requires long { length cells.old ≡ length numbers.now }
     requires small { (i : ℕ) → magnitude numbers.now i < 2 ^ depth }
     requires top { top ≤ 28 }
@@ -92,18 +85,43 @@ fn put_at(numbers: &mut [i32], start: usize, part: &[i32])
 }
 
 // Puts the masks of group g in the place of its numbers.
-fn slice_group_at(blocks: &mut [i32], g: usize, depth: u8, top: u8, room: &mut [i32; GROUP])
+fn slice_group_at(blocks: &mut [i32], g: usize, depth: u8, top: u8, room: &mut [i32])
     requires whole { length blocks.old % 64 ≡ 0 }
-    requires within { 4096 * g < length blocks.old }
-    requires small { (i : ℕ) → 4096 * g ≤ i → magnitude blocks.old i < 2 ^ depth }
+    requires within { 15360 * g < length blocks.old }
+    requires room { min (length blocks.old - 15360 * g) 15360 ≤ length room.old }
+    requires depth { depth ≤ 28 }
+    requires small { (i : ℕ) → 15360 * g ≤ i → magnitude blocks.old i < 2 ^ depth }
     requires top { top ≤ 28 }
-    ensures { SlicesGroup top g blocks.old blocks.new }
+    ensures sliced { SlicesGroup top g blocks.old blocks.new }
+    ensures room { length room.new ≡ length room.old }
 {
-    let start = GROUP * g;
-    let count = (blocks.len() - start).min(GROUP);
+    let start = NUMBERS * g;
+    let count = (blocks.len() - start).min(NUMBERS);
     let masks = &mut room[..count];
     slice_group(&blocks[start..start + count], depth, top, masks);
     put_at(blocks, start, masks);
+}
+
+// Puts the masks of a segment with room for those of a group. Each room has a stack frame of its own, since a segment of fewer blocks
+// would fill it with nothing.
+#[inline(never)]
+fn slice_with_room<const ROOM: usize>(blocks: &mut [i32], depth: u8, top: u8)
+    requires room { min (length blocks.old) 15360 ≤ ROOM }
+    requires small_room { ROOM ≤ 15360 }
+    requires whole { length blocks.old % 64 ≡ 0 }
+    requires depth { depth ≤ 28 }
+    requires small { (i : ℕ) → magnitude blocks.old i < 2 ^ depth }
+    requires small_ac { (i : ℕ) → (i % 64 ≡ 0 → ⊥) → magnitude blocks.old i < 2 ^ 27 }
+    requires top { top ≤ 28 }
+    ensures long { length blocks.new ≡ length blocks.old }
+    ensures numbers { numbers_in blocks.new ≡ blocks.old }
+    ensures sliced { AreSliced blocks.new }
+    ensures above { AreAbove top blocks.new }
+{
+    let mut room = [0i32; ROOM];
+    for g in 0..blocks.len().div_ceil(NUMBERS) {
+        slice_group_at(blocks, g, depth, top, &mut room);
+    }
 }
 
 /// Puts the masks of the numbers of a segment in the place of the numbers, as `PlaneCoder` and `put_plane` need them
@@ -123,8 +141,9 @@ pub fn slice_planes(blocks: &mut [i32], depth: u8, top: u8)
     ensures sliced { AreSliced blocks.new }
     ensures above { AreAbove top blocks.new }
 {
-    let mut room = [0i32; GROUP];
-    for g in 0..blocks.len().div_ceil(GROUP) {
-        slice_group_at(blocks, g, depth, top, &mut room);
+    if blocks.len() <= 4096 {
+        slice_with_room::<4096>(blocks, depth, top);
+    } else {
+        slice_with_room::<NUMBERS>(blocks, depth, top);
     }
 }

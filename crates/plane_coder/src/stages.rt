@@ -8,6 +8,7 @@ ghost use Rattle.plane_defs.specs.Entries.{stage_number};
 ghost use Rattle.plane_defs.specs.declared.entries.Entry.{Entry};
 ghost use Rattle.plane_defs.specs.declared.stages.Stage.{Stage};
 ghost use Rattle.plane_defs.specs.Marks.{depths_of};
+ghost use Rattle.block_masks.specs.Slices.{IsColumn};
 ghost use Rattle.block_masks.specs.Gaggles.{AllAgree, AreOptions, AreKnown, SameMarks, options_at};
 ghost use Rattle.plane_coder.specs.Collected.{HasNoWords, HasWords, AreCollected};
 ghost use Rattle.plane_coder.specs.Spells.{Spells};
@@ -20,26 +21,26 @@ use crate::put::{is_quiet, put_block_stage, put_words};
 use crate::tables::CodeTables;
 use crate::view::View;
 use bit_pipe::{BitOut, OctetOut, PutFault};
-use block_masks::{depth_of, load, store};
+use block_masks::{Column, depth_of, load, store};
 
-// Puts the stage of this number of block r.
+// Puts the stage of this number of the block of a column.
 #[inline(always)]
 fn put_block_at<O: OctetOut, const STAGE: u8>(
     out: &mut BitOut<O>,
     pending: &mut PendingBits,
     view: &View,
     marks: &[i32],
-    r: usize,
+    column: Column,
 ) -> Result<(), PutFault>
     requires stage { HasNoWords STAGE }
     requires open { IsReady O.sink out.old }
     requires silent { pending.old.count ≡ 0 }
     requires whole { length view.now.cells.now ≡ 64 * length marks.now }
-    requires within { r < length marks.now }
-    ensures spells { Spells O.sink view.now.tables.now.book pending.old.gaggle pending.new.gaggle result (stand O.sink out.old) (stand O.sink out.new) (of_block (plane_in view.now (depths_of marks.now)) (stage_number STAGE) r) }
+    requires column { IsColumn view.now.cells.now column }
+    ensures spells { Spells O.sink view.now.tables.now.book pending.old.gaggle pending.new.gaggle result (stand O.sink out.old) (stand O.sink out.new) (of_block (plane_in view.now (depths_of marks.now)) (stage_number STAGE) column.block) }
     ensures silent { pending.new.count ≡ 0 }
 {
-    put_block_stage::<O, STAGE>(out, pending, view, depth_of(marks[r]), r)
+    put_block_stage::<O, STAGE>(out, pending, view, depth_of(marks[column.block]), column)
 }
 
 // Puts the stage of this number of the blocks of gaggle g: a stage without words.
@@ -58,9 +59,9 @@ fn put_blocks<O: OctetOut, const STAGE: u8>(
     requires within { 16 * g < length marks.now }
     ensures { Spells O.sink view.now.tables.now.book pending.old.gaggle pending.new.gaggle result (stand O.sink out.old) (stand O.sink out.new) (of_gaggle (plane_in view.now (depths_of marks.now)) (stage_number STAGE) g) }
 {
-    let first = 16 * g;
-    for place in 0..(marks.len() - first).min(16) {
-        put_block_at::<O, STAGE>(out, pending, view, marks, first + place)?;
+    let first = Column::of(view.cells, 16 * g);
+    for place in 0..(marks.len() - 16 * g).min(16) {
+        put_block_at::<O, STAGE>(out, pending, view, marks, first.further(view.cells, place))?;
     }
     Ok(())
 }

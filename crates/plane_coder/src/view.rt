@@ -2,14 +2,14 @@
 
 ghost use Rattle.std.specs.Prelude.{◌≡◌, ◌+◌, ◌*◌, ◌%◌, ◌<◌, length};
 ghost use Rattle.wave_defs.specs.Held.{block_at};
-ghost use Rattle.block_masks.specs.Slices.{numbers_in};
+ghost use Rattle.block_masks.specs.Slices.{IsColumn, numbers_in};
 ghost use Rattle.plane_coder.specs.Viewed.{IsView, block_in};
 ghost use Rattle.plane_coder.specs.Sliced.{AreSliced, AreAbove};
 
 use crate::masks::Masks;
 use crate::plane_masks::PlaneMasks;
 use crate::tables::CodeTables;
-use block_masks::{ABOVE, CodedPlane, MINUS, mask_of};
+use block_masks::{ABOVE, CodedPlane, Column, MINUS, mask_of};
 
 // The masks of a segment, 64 numbers for each block, with the plane and the codes.
 #[derive(Drop)]
@@ -25,24 +25,24 @@ pub(crate) struct View<'a> {
 
 impl<'a> View<'a> {
     #[inline(always)]
-    fn masks(&self, r: usize) -> Masks
-        requires { 64 * r < length self.now.cells.now }
-        ensures { IsView (block_at (numbers_in self.now.cells.now) r) self.now.plan.now.plane result }
+    fn masks(&self, column: Column) -> Masks
+        requires { IsColumn self.now.cells.now column }
+        ensures { IsView (block_at (numbers_in self.now.cells.now) column.block) self.now.plan.now.plane result }
     {
         Masks {
-            above: mask_of(self.cells, r, ABOVE),
-            bits: mask_of(self.cells, r, self.plan.plane),
-            negative: mask_of(self.cells, r, MINUS),
+            above: mask_of(self.cells, column, ABOVE),
+            bits: mask_of(self.cells, column, self.plan.plane),
+            negative: mask_of(self.cells, column, MINUS),
         }
     }
 
-    // Returns the masks of block r in the plane.
+    // Returns the masks in the plane of the block of a column.
     #[inline(always)]
-    pub fn plane_masks(&self, r: usize) -> PlaneMasks<'a>
-        requires { 64 * r < length self.now.cells.now }
-        ensures block { block_in result ≡ block_at (numbers_in self.now.cells.now) r }
+    pub fn plane_masks(&self, column: Column) -> PlaneMasks<'a>
+        requires { IsColumn self.now.cells.now column }
+        ensures block { block_in result ≡ block_at (numbers_in self.now.cells.now) column.block }
         ensures plan { result.plan.now ≡ self.now.plan.now }
     {
-        PlaneMasks::new(self.cells, r, self.plan, self.masks(r))
+        PlaneMasks::new(self.cells, column.block, self.plan, self.masks(column))
     }
 }

@@ -1,4 +1,4 @@
-use Rattle.std.proofs.Common.{rules, ◌≡◌, ap, FitsSigned, w32, get_or, pos, sym, ◌∙◌}
+use Rattle.std.proofs.Common.{arith, rules, ◌≡◌, ap, FitsSigned, w32, get_or, pos, sym, ◌∙◌}
 use Rattle.std.proofs.lemmas.Int.{to_z-of_z}
 use Rattle.plane_defs.specs.declared.stages.Stage.{Stage}
 use Rattle.plane_defs.specs.declared.stages.Stage.TheVariants as stages
@@ -16,14 +16,14 @@ use Rattle.plane_coder.proofs.collect.collect_block.Goals as goal
 
 pub returns-then-depth-view : goal.returns-then-depth-view
 returns-then-depth-view g c =
-    let fits : FitsSigned w32 (get_or c.args.marks.now c.args.r (pos 0)) = search rules in
-    let depth : c.depth_of-depth.result ≡ depth_of (get_or c.args.marks.now c.args.r (pos 0)) = simp to_z-of_z at c.depth_of-depth.ensures.value in
+    let fits : FitsSigned w32 (get_or c.args.marks.now c.args.column.block (pos 0)) = search rules in
+    let depth : c.depth_of-depth.result ≡ depth_of (get_or c.args.marks.now c.args.column.block (pos 0)) = simp to_z-of_z at c.depth_of-depth.ensures.value in
     let cells = numbers_in c.args.view.now.cells.now in
     let plan = c.args.view.now.plan.now in
     let d = c.depth_of-depth.result in
-    let block = block_at cells c.args.r in
+    let block = block_at cells c.args.column.block in
     let w = plan.weights.shifts in
-    let there = λ (s : Stage). stage_there s cells c.args.marks.now w plan.plane plan.q c.args.r d (length-numbers_in c.args.view.now.cells.now ∙ c.requires.whole) c.requires.within depth in
+    let there = λ (s : Stage). stage_there s cells c.args.marks.now w plan.plane plan.q c.args.column.block d (length-numbers_in c.args.view.now.cells.now ∙ c.requires.whole) (omega (arith, c.requires.column.block, c.requires.whole)) depth in
     record {
       parents = lists_nothing c.args.words.now.parents _ 1 (sym (shallow stages.Parents block w plan.plane plan.q d (λ e. absurd cc) c.if-depth-view.true) ∙ there stages.Parents);
       children = lists_nothing c.args.words.now.children _ 5 (sym (shallow stages.Children block w plan.plane plan.q d (λ e. absurd cc) c.if-depth-view.true) ∙ there stages.Children);
@@ -32,13 +32,13 @@ returns-then-depth-view g c =
 
 pub returns : goal.returns
 returns g c =
-    let fits : FitsSigned w32 (get_or c.args.marks.now c.args.r (pos 0)) = search rules in
-    let depth : c.depth_of-depth.result ≡ depth_of (get_or c.args.marks.now c.args.r (pos 0)) = simp to_z-of_z at c.depth_of-depth.ensures.value in
+    let fits : FitsSigned w32 (get_or c.args.marks.now c.args.column.block (pos 0)) = search rules in
+    let depth : c.depth_of-depth.result ≡ depth_of (get_or c.args.marks.now c.args.column.block (pos 0)) = simp to_z-of_z at c.depth_of-depth.ensures.value in
     let cells = numbers_in c.args.view.now.cells.now in
     let plan = c.args.view.now.plan.now in
     let made = c.plane_masks.result.plan.now in
     let d = c.depth_of-depth.result in
-    let there = λ (s : Stage). stage_there s cells c.args.marks.now plan.weights.shifts plan.plane plan.q c.args.r d (length-numbers_in c.args.view.now.cells.now ∙ c.requires.whole) c.requires.within depth in
+    let there = λ (s : Stage). stage_there s cells c.args.marks.now plan.weights.shifts plan.plane plan.q c.args.column.block d (length-numbers_in c.args.view.now.cells.now ∙ c.requires.whole) (omega (arith, c.requires.column.block, c.requires.whole)) depth in
     collects_same (λ s.
     ap (λ b. block_entries s b d made.weights.shifts made.plane made.q) c.plane_masks.ensures.block
-    ∙ ap (λ (p : CodedPlane). block_entries s (block_at cells c.args.r) d p.weights.shifts p.plane p.q) c.plane_masks.ensures.plan ∙ there s) c.add_block.ensures
+    ∙ ap (λ (p : CodedPlane). block_entries s (block_at cells c.args.column.block) d p.weights.shifts p.plane p.q) c.plane_masks.ensures.plan ∙ there s) c.add_block.ensures

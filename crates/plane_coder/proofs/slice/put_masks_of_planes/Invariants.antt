@@ -3,6 +3,12 @@ use Rattle.plane_coder.proofs.slice.put_masks_of_planes.Given as goal
 
 abbrev pub invariant-loop-plane : goal.invariant-loop-plane
 invariant-loop-plane l = record {
-  others : KeepsOthers l.r l.initial.cells l.cells;
-  so_far : HasPlanes l.plane l.block l.cells l.r;
+  others : KeepsOthers l.column.block l.initial.cells l.cells;
+  so_far : HasPlanes l.plane l.block l.cells l.column.block;
+}
+
+abbrev pub invariant-loop-high : goal.invariant-loop-high
+invariant-loop-high l = record {
+  others : KeepsOthers l.column.block l.fn.cells l.cells;
+  so_far : HasPlanes l.high l.block l.cells l.column.block;
 }
