@@ -25,21 +25,27 @@ module _ (f : Frame) (low : f.depth ≤ f.plane) (v : List ℤ) where
   none_sent : (k : ℕ) → 1 ≤ k → k < 5 → steps_of f k v ≡ []
   none_sent k some below = grind (arith, nat_tests, not_deep, parents_stage, children_stage, grandchildren_stage, refinement_stage)
 
-pub stage_none : {I : Type 0} {k : SourceOf I} {book : Book} {f : Frame} {plan : CodedPlane} {depth stage : ℕ} {earlier : ℕ → List Step} {g : Gaggle} {mark : ℤ} {x : List ℤ} {a : Coming I} → AreOptions g.options → IsIn a → Takes k a a [] → 1 ≤ stage → stage < 5 → depth ≤ plan.plane →
-    IsFrame f plan depth → StandsBefore f stage earlier mark x → StageTaken k book f stage earlier (Ok Whole) g g mark x a a
-stage_none {k = k} {book = book} {f = f} {plan = plan} {depth = depth} {stage = stage} {earlier = earlier} {g = g} {x = x} {a = a} known at_start takes some below low frame stands = record {
+-- a stage of which nothing is sent
+pub nothing_taken : {I : Type 0} {k : SourceOf I} {book : Book} {f : Frame} {stage : ℕ} {earlier : ℕ → List Step} {g : Gaggle} {mark : ℤ} {x : List ℤ} {a : Coming I} → AreOptions g.options → IsIn a → Takes k a a [] → ((v : List ℤ) → steps_of f stage v ≡ []) →
+    (stage ≡ 2 → f.plane < f.depth → ⊥) → StandsBefore f stage earlier mark x → StageTaken k book f stage earlier (Ok Whole) g g mark x a a
+nothing_taken {k = k} {book = book} {f = f} {stage = stage} {earlier = earlier} {g = g} {x = x} {a = a} known at_start takes nothing no_families stands = record {
   part = [];
   ending = stopped whole;
   answer = refl;
   is_in = λ w. at_start;
   possible = stands.possible;
-  read = λ v s sent options agrees knows. subst (λ l. ReadsSteps k book options sent [] (stopped whole) l a a) (sym (none_sent f shallow_here v stage some below)) (record { reads = record { ends = takes }; stops = refl });
+  read = λ v s sent options agrees knows. subst (λ l. ReadsSteps k book options sent [] (stopped whole) l a a) (sym (nothing v)) (record { reads = record { ends = takes }; stops = refl });
   agrees = λ w sent agrees. subst (Agrees g.sent) (sym (append-nil sent)) agrees;
   knows = λ options knows. knows;
   options = known;
   tells = λ v s. told_none f stage earlier [] v x refl (stands.tells v s);
-  families = λ w e deep v s. absurd (omega (arith, shallow_here, deep));
+  families = λ w e deep v s. absurd (no_families e deep);
 }
+
+pub stage_none : {I : Type 0} {k : SourceOf I} {book : Book} {f : Frame} {plan : CodedPlane} {depth stage : ℕ} {earlier : ℕ → List Step} {g : Gaggle} {mark : ℤ} {x : List ℤ} {a : Coming I} → AreOptions g.options → IsIn a → Takes k a a [] → 1 ≤ stage → stage < 5 → depth ≤ plan.plane →
+    IsFrame f plan depth → StandsBefore f stage earlier mark x → StageTaken k book f stage earlier (Ok Whole) g g mark x a a
+stage_none {f = f} {plan = plan} {depth = depth} {stage = stage} known at_start takes some below low frame stands =
+    nothing_taken known at_start takes (λ v. none_sent f shallow_here v stage some below) (λ e deep. omega (arith, shallow_here, deep)) stands
   where
     shallow_here : f.depth ≤ f.plane
     shallow_here = let d = frame.deep in let p = frame.plane in omega (arith, d, p, low)

@@ -50,6 +50,7 @@ pub mod ToldDc
 pub mod ToldFurther
 pub mod GrandchildFacts
 pub mod QuadPieces
+pub mod QuietStage
 pub mod GrandchildPieces
 pub mod GrandchildFlags
 pub mod BlockWords

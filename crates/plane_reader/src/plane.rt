@@ -4,11 +4,12 @@ ghost use Rattle.std.specs.Prelude.{◌≡◌, ◌+◌, ◌*◌, ◌%◌, ◌^�
 ghost use Rattle.bit_pipe.specs.Coming.{coming, IsIn};
 ghost use Rattle.plane_defs.specs.Codes.{is_book_sound};
 ghost use Rattle.plane_defs.specs.Marks.{depths_of};
-ghost use Rattle.plane_reader.specs.Progress.{held, kept, with_one, Continues, Advances, KeepsGaggles, Clears};
+ghost use Rattle.plane_reader.specs.Progress.{held, kept, Continues, Advances, Clears};
 ghost use Rattle.block_masks.specs.Slices.{numbers_in};
 ghost use Rattle.plane_reader.specs.Above.{AreReady};
 ghost use Rattle.plane_reader.specs.Taken.{AwaitPlane, TakesPlane};
 
+use crate::refine::is_quiet;
 use crate::stages::{Terms, take_block};
 use base_122::Book;
 use bit_pipe::{BitIn, OctetIn, Part, TextFault};
@@ -33,39 +34,70 @@ fn clear(marks: &mut [i32])
     }
 }
 
-// Reads a stage of gaggle g.
-fn take_gaggle_stage<I: OctetIn>(
+// Reads the stage of this number of gaggle g, with what the states keep of the gaggle.
+#[inline(always)]
+fn take_gaggle_stage<I: OctetIn, const STAGE: u8>(
     input: &mut BitIn<I>,
     terms: &Terms,
-    gaggle: &mut Gaggle,
-    number: u8,
     cells: &mut [i32],
     marks: &mut [i32],
     g: usize,
 ) -> Result<Part, TextFault>
-    requires goes { Continues I.source terms.now.tables.now.book terms.now.plan.now number g 0 (held (with_one (kept marks.old) g gaggle.old) marks.old (numbers_in cells.old) (coming input.old)) }
-    requires number { number < 5 }
+    requires goes { Continues I.source terms.now.tables.now.book terms.now.plan.now STAGE g 0 (held (kept marks.old) marks.old (numbers_in cells.old) (coming input.old)) }
+    requires stage { STAGE < 5 }
     requires whole { length cells.old ≡ 64 * length marks.old }
     requires ready { AreReady (terms.now.plan.now.plane + 1) cells.old }
     requires within { 16 * g < length marks.old }
-    ensures advances { Advances I.source terms.now.tables.now.book terms.now.plan.now number g number (g + 1) result
-        (held (with_one (kept marks.old) g gaggle.old) marks.old (numbers_in cells.old) (coming input.old)) (held (with_one (kept marks.new) g gaggle.new) marks.new (numbers_in cells.new) (coming input.new)) }
-    ensures marks { KeepsGaggles marks.old marks.new }
+    ensures advances { Advances I.source terms.now.tables.now.book terms.now.plan.now STAGE g STAGE (g + 1) result
+        (held (kept marks.old) marks.old (numbers_in cells.old) (coming input.old)) (held (kept marks.new) marks.new (numbers_in cells.new) (coming input.new)) }
+    ensures depths { depths_of marks.new ≡ depths_of marks.old }
     ensures ready { AreReady (terms.now.plan.now.plane + 1) cells.new }
     ensures size { length cells.new ≡ length cells.old }
 {
+    let mut gaggle = load(marks, g);
     let first = Column::of(cells, GAGGLE * g);
     for k in 0..(marks.len() - first.block).min(GAGGLE) {
         let column = first.further(cells, k);
         let mark = &mut marks[column.block];
-        let Part::Whole = take_block(input, terms, gaggle, number, column, mark, cells)? else {
+        let Part::Whole = take_block::<I, STAGE>(input, terms, &mut gaggle, column, mark, cells)?
+        else {
+            return Ok(Part::Ended);
+        };
+    }
+    store(marks, g, gaggle);
+    Ok(Part::Whole)
+}
+
+// Reads the stage of this number of all blocks, gaggle by gaggle.
+fn take_gaggles<I: OctetIn, const STAGE: u8>(
+    input: &mut BitIn<I>,
+    terms: &Terms,
+    cells: &mut [i32],
+    marks: &mut [i32],
+) -> Result<Part, TextFault>
+    requires goes { Continues I.source terms.now.tables.now.book terms.now.plan.now STAGE 0 0 (held (kept marks.old) marks.old (numbers_in cells.old) (coming input.old)) }
+    requires stage { STAGE < 5 }
+    requires whole { length cells.old ≡ 64 * length marks.old }
+    requires ready { AreReady (terms.now.plan.now.plane + 1) cells.old }
+    ensures advances { Advances I.source terms.now.tables.now.book terms.now.plan.now STAGE 0 (STAGE + 1) 0 result
+        (held (kept marks.old) marks.old (numbers_in cells.old) (coming input.old)) (held (kept marks.new) marks.new (numbers_in cells.new) (coming input.new)) }
+    ensures depths { depths_of marks.new ≡ depths_of marks.old }
+    ensures ready { AreReady (terms.now.plan.now.plane + 1) cells.new }
+    ensures size { length cells.new ≡ length cells.old }
+{
+    if is_quiet(terms.plan, STAGE) {
+        return Ok(Part::Whole);
+    }
+    for g in 0..marks.len().div_ceil(GAGGLE) {
+        let Part::Whole = take_gaggle_stage::<I, STAGE>(input, terms, cells, marks, g)? else {
             return Ok(Part::Ended);
         };
     }
     Ok(Part::Whole)
 }
 
-// Reads a stage of all blocks, with what the states keep.
+// Reads a stage of all blocks, with what the states keep. Each stage has a loop of its own, which is compiled for this stage alone: no
+// block tests the stage again.
 fn take_stage<I: OctetIn>(
     input: &mut BitIn<I>,
     terms: &Terms,
@@ -83,15 +115,13 @@ fn take_stage<I: OctetIn>(
     ensures ready { AreReady (terms.now.plan.now.plane + 1) cells.new }
     ensures size { length cells.new ≡ length cells.old }
 {
-    for g in 0..marks.len().div_ceil(GAGGLE) {
-        let mut gaggle = load(marks, g);
-        let Part::Whole = take_gaggle_stage(input, terms, &mut gaggle, number, cells, marks, g)?
-        else {
-            return Ok(Part::Ended);
-        };
-        store(marks, g, gaggle);
+    match number {
+        0 => take_gaggles::<I, 0>(input, terms, cells, marks),
+        1 => take_gaggles::<I, 1>(input, terms, cells, marks),
+        2 => take_gaggles::<I, 2>(input, terms, cells, marks),
+        3 => take_gaggles::<I, 3>(input, terms, cells, marks),
+        _ => take_gaggles::<I, 4>(input, terms, cells, marks),
     }
-    Ok(Part::Whole)
 }
 
 // Reads the stages of a plane up to the last one that is sent.

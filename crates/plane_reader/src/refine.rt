@@ -1,6 +1,7 @@
 // The reader of the refinement bits of a block, and of the DC's bit.
 
-ghost use Rattle.std.specs.Prelude.{◌≡◌, ◌<◌, ◌≤◌, ◌&&◌, ℕ, ℤ, [], List, nat_lt, count_ones};
+ghost use Rattle.std.specs.Prelude.{◌≡◌, ◌<◌, ◌≤◌, ◌&&◌, ℕ, ℤ, false, [], List, nat_lt, count_ones};
+ghost use Rattle.std.specs.Bool.{OnTrue};
 ghost use Rattle.bit_pipe.specs.Coming.{coming, IsIn};
 ghost use Rattle.plane_defs.specs.Sets.{coded};
 ghost use Rattle.plane_defs.specs.Steps.{Step, dc_steps, refinement_steps};
@@ -100,6 +101,14 @@ fn is_dc_bit_due(plan: &CodedPlane) -> bool
     ensures { result ≡ (coded plan.now.weights.shifts plan.now.plane 0 && nat_lt plan.now.plane plan.now.q) }
 {
     has(plan.coded, 0) && plan.plane < plan.q
+}
+
+// Returns whether no block has anything of the stage of this number: it has the bits of the DC numbers, and they are not due.
+#[inline]
+pub(crate) fn is_quiet(plan: &CodedPlane, number: u8) -> bool
+    ensures { OnTrue result ((number ≡ 0) × ((coded plan.now.weights.shifts plan.now.plane 0 && nat_lt plan.now.plane plan.now.q) ≡ false)) }
+{
+    number == 0 && !is_dc_bit_due(plan)
 }
 
 // Reads the DC's bit if it is due, and returns whether it is 1.

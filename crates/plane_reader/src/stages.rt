@@ -100,30 +100,30 @@ fn take_families<I: OctetIn>(
     Ok(Some(()))
 }
 
-// Reads the words of a stage of a block that is deep enough.
-fn take_words<I: OctetIn>(
+// Reads the words of the stage of this number of a block that is deep enough.
+#[inline(always)]
+fn take_words<I: OctetIn, const STAGE: u8>(
     input: &mut BitIn<I>,
     terms: &Terms,
     gaggle: &mut Gaggle,
     found: &mut Found,
-    number: u8,
     mark: &mut i32,
     seen: Seen,
 ) -> Result<Option<()>, TextFault>
     requires open { IsIn (coming input.old) }
     requires known { AreOptions gaggle.old.options }
-    requires some { 1 ≤ number }
-    requires number { number < 5 }
+    requires some { 1 ≤ STAGE }
+    requires stage { STAGE < 5 }
     ensures words { (f : Frame) (earlier : ℕ → List Step) (block : List ℤ) → IsFrame f terms.now.plan.now (depth_in mark.old) → f.plane < f.depth → IsAbove f seen.above →
-        ((p : ℕ) → IsAc p → bit_in seen.now p ≡ significant block terms.now.plan.now.plane p) → StandsBefore f number earlier mark.old block →
-        FoundPiece I.source terms.now.tables.now.book f number earlier [] (steps_of f number) (MarkSays f number mark.new) result gaggle.old gaggle.new found.old found.new (coming input.old) (coming input.new) }
+        ((p : ℕ) → IsAc p → bit_in seen.now p ≡ significant block terms.now.plan.now.plane p) → StandsBefore f STAGE earlier mark.old block →
+        FoundPiece I.source terms.now.tables.now.book f STAGE earlier [] (steps_of f STAGE) (MarkSays f STAGE mark.new) result gaggle.old gaggle.new found.old found.new (coming input.old) (coming input.new) }
     ensures depth { depth_in mark.new ≡ depth_in mark.old }
     ensures options_kept { options_in mark.new ≡ options_in mark.old }
     ensures sent { sent_in mark.new ≡ sent_in mark.old }
     ensures options { AreOptions gaggle.new.options }
     ensures is_in { OnSome result (IsIn (coming input.new)) }
 {
-    match number {
+    match STAGE {
         1 => take_parents(input, terms, gaggle, found, seen.above),
         2 => take_families(input, terms, gaggle, found, seen.above, mark),
         3 => {
@@ -186,26 +186,26 @@ fn seen_before(cells: &[i32], column: Column, plane: u8) -> Seen
     }
 }
 
-// Reads the words of a stage of a block that is deep enough, and puts what they give into its masks.
-fn take_deep<I: OctetIn>(
+// Reads the words of the stage of this number of a block that is deep enough, and puts what they give into its masks.
+#[inline(always)]
+fn take_deep<I: OctetIn, const STAGE: u8>(
     input: &mut BitIn<I>,
     terms: &Terms,
     gaggle: &mut Gaggle,
-    number: u8,
     column: Column,
     mark: &mut i32,
     cells: &mut [i32],
 ) -> Result<Part, TextFault>
     requires open { IsIn (coming input.old) }
     requires known { AreOptions gaggle.old.options }
-    requires some { 1 ≤ number }
-    requires number { number < 5 }
+    requires some { 1 ≤ STAGE }
+    requires stage { STAGE < 5 }
     requires whole { length cells.old % 64 ≡ 0 }
     requires column { IsColumn cells.old column }
     requires ready { AreReady (terms.now.plan.now.plane + 1) cells.old }
     ensures taken { (f : Frame) (earlier : ℕ → List Step) → IsFrame f terms.now.plan.now (depth_in mark.old) → f.plane < f.depth →
-        StandsBefore f number earlier mark.old (block_at (numbers_in cells.old) column.block) →
-        StageTaken I.source terms.now.tables.now.book f number earlier result gaggle.old gaggle.new mark.new (block_at (numbers_in cells.new) column.block) (coming input.old) (coming input.new) }
+        StandsBefore f STAGE earlier mark.old (block_at (numbers_in cells.old) column.block) →
+        StageTaken I.source terms.now.tables.now.book f STAGE earlier result gaggle.old gaggle.new mark.new (block_at (numbers_in cells.new) column.block) (coming input.old) (coming input.new) }
     ensures depth { depth_in mark.new ≡ depth_in mark.old }
     ensures options { options_in mark.new ≡ options_in mark.old }
     ensures sent { sent_in mark.new ≡ sent_in mark.old }
@@ -214,41 +214,41 @@ fn take_deep<I: OctetIn>(
 {
     let mut found = Found::NOTHING;
     let seen = seen_before(cells, column, terms.plan.plane);
-    let read = take_words(input, terms, gaggle, &mut found, number, mark, seen);
+    let read = take_words::<I, STAGE>(input, terms, gaggle, &mut found, mark, seen);
     apply(found, terms.plan.plane, cells, column);
     Ok(part_of(read?))
 }
 
-// Reads a stage of a block, whose state has its depth and its families.
-pub(crate) fn take_block<I: OctetIn>(
+// Reads the stage of this number of a block, whose state has its depth and its families.
+#[inline(always)]
+pub(crate) fn take_block<I: OctetIn, const STAGE: u8>(
     input: &mut BitIn<I>,
     terms: &Terms,
     gaggle: &mut Gaggle,
-    number: u8,
     column: Column,
     mark: &mut i32,
     cells: &mut [i32],
 ) -> Result<Part, TextFault>
     requires open { IsIn (coming input.old) }
-    requires number { number < 5 }
+    requires stage { STAGE < 5 }
     requires known { AreOptions gaggle.old.options }
     requires whole { length cells.old % 64 ≡ 0 }
     requires column { IsColumn cells.old column }
     requires ready { AreReady (terms.now.plan.now.plane + 1) cells.old }
     ensures taken { (f : Frame) (earlier : ℕ → List Step) → IsFrame f terms.now.plan.now (depth_in mark.old) →
-        StandsBefore f number earlier mark.old (block_at (numbers_in cells.old) column.block) →
-        StageTaken I.source terms.now.tables.now.book f number earlier result gaggle.old gaggle.new mark.new (block_at (numbers_in cells.new) column.block) (coming input.old) (coming input.new) }
+        StandsBefore f STAGE earlier mark.old (block_at (numbers_in cells.old) column.block) →
+        StageTaken I.source terms.now.tables.now.book f STAGE earlier result gaggle.old gaggle.new mark.new (block_at (numbers_in cells.new) column.block) (coming input.old) (coming input.new) }
     ensures depth { depth_in mark.new ≡ depth_in mark.old }
     ensures options { options_in mark.new ≡ options_in mark.old }
     ensures sent { sent_in mark.new ≡ sent_in mark.old }
     ensures ready { AreReady (terms.now.plan.now.plane + 1) cells.new }
     ensures others { ChangesBlock column.block cells.old cells.new }
 {
-    if number == 0 {
+    if STAGE == 0 {
         return take_dc(input, terms.plan, cells, column);
     }
     if depth_of(*mark) <= terms.plan.plane {
         return Ok(Part::Whole);
     }
-    take_deep(input, terms, gaggle, number, column, mark, cells)
+    take_deep::<I, STAGE>(input, terms, gaggle, column, mark, cells)
 }

@@ -1,15 +1,26 @@
-use Rattle.std.proofs.Common.{◌≡◌, ◌+◌, ◌*◌, ◌<◌, ◌∙◌, arith, length}
+use Rattle.std.proofs.Common.{◌≡◌, ◌+◌, ◌*◌, ◌<◌, ◌∙◌, refl, arith, length}
 use Rattle.std.proofs.lemmas.Result.{err_from_is_err_and}
-use Rattle.std.proofs.lemmas.Grind.{common_steps}
 use Rattle.bit_pipe.specs.Coming.{coming}
 use Rattle.block_masks.specs.Slices.{numbers_in}
 use Rattle.plane_reader.proofs.CellNumbers.{same_column}
 use Rattle.plane_reader.proofs.GaggleMarks.{keeps_none, keeps_one, keeps_then}
 use Rattle.plane_reader.proofs.GaggleSteps.{goes_to, goes_in, goes_known, call_leaves, gaggle_ends}
+use Rattle.plane_reader.proofs.GaggleStages.{load_same, store_same, reaches_same}
+use Rattle.plane_reader.proofs.PlaneSteps.{held_same}
 use Rattle.plane_reader.proofs.plane.take_gaggle_stage.Goals as goal
 
 pub further-column-requires-clause-column : goal.further-column-requires-clause-column
 further-column-requires-clause-column g c = same_column c.loop-k.invariant.size c.of-first.ensures.column
+
+pub loop-k-init : goal.loop-k-init
+loop-k-init g c =
+    let l = c.load-gaggle in
+    record {
+      reaches = reaches_same (load_same c.args.marks.now (numbers_in c.args.cells.now) (coming c.args.input.now) c.args.g l.result l.ensures.options l.ensures.sent) (record { so_far = λ s from start p. p });
+      marks = keeps_none c.args.marks.now;
+      ready = c.requires.ready;
+      size = refl;
+    }
 
 pub take_block-requires-clause-open : goal.take_block-requires-clause-open
 take_block-requires-clause-open g c = goes_in (goes_to c.requires.goes c.loop-k.invariant.reaches)
@@ -53,8 +64,13 @@ returns-in_err-take_block-clause-advances g c =
       leaves = call_leaves c.args.g c.loop-k.k r marks c.loop-k.cells n.cells c.loop-k.gaggle n.gaggle (coming c.loop-k.input) (coming n.input) n.mark few there within once h.others c.loop-k.invariant.reaches h.taken;
     })
 
-pub returns-in_err-take_block-clause-marks : goal.returns-in_err-take_block-clause-marks
-returns-in_err-take_block-clause-marks g c = grind (arith, common_steps, keeps_one)
+pub returns-in_err-take_block-clause-depths : goal.returns-in_err-take_block-clause-depths
+returns-in_err-take_block-clause-depths g c =
+    let marks = c.loop-k.marks in
+    let r = c.further-column.result.block in
+    let h = c.in_err-take_block.ensures in
+    let within : r < length marks = omega (arith, c.further-column.ensures.block, c.loop-k-test.true, c.min-k-end.ensures, c.loop-k.auto.marks, c.of-first.ensures.block) in
+    (keeps_one c.args.marks.now marks r c.take_block.new.mark within h.depth h.options h.sent c.loop-k.invariant.marks).depths
 
 pub returns-in_err-take_block-clause-size : goal.returns-in_err-take_block-clause-size
 returns-in_err-take_block-clause-size g c = c.in_err-take_block.ensures.others.long ∙ c.loop-k.invariant.size
@@ -74,12 +90,26 @@ returns-in_default-clause-advances g c =
       leaves = call_leaves c.args.g c.loop-k.k r marks c.loop-k.cells n.cells c.loop-k.gaggle n.gaggle (coming c.loop-k.input) (coming n.input) n.mark few there within once h.others c.loop-k.invariant.reaches t;
     }
 
-pub returns-in_default-clause-marks : goal.returns-in_default-clause-marks
-returns-in_default-clause-marks g c = grind (arith, common_steps, keeps_one)
+pub returns-in_default-clause-depths : goal.returns-in_default-clause-depths
+returns-in_default-clause-depths g c =
+    let marks = c.loop-k.marks in
+    let r = c.further-column.result.block in
+    let h = c.in_ok-take_block.ensures in
+    let within : r < length marks = omega (arith, c.further-column.ensures.block, c.loop-k-test.true, c.min-k-end.ensures, c.loop-k.auto.marks, c.of-first.ensures.block) in
+    (keeps_one c.args.marks.now marks r c.take_block.new.mark within h.depth h.options h.sent c.loop-k.invariant.marks).depths
 
 pub returns-in_default-clause-size : goal.returns-in_default-clause-size
 returns-in_default-clause-size g c = c.in_ok-take_block.ensures.others.long ∙ c.loop-k.invariant.size
 
+pub store-requires-clause-known : goal.store-requires-clause-known
+store-requires-clause-known g c = goes_known c.args.g c.loop-k.marks (numbers_in c.loop-k.cells) c.loop-k.gaggle (coming c.loop-k.input) (goes_to c.requires.goes c.loop-k.invariant.reaches)
+
 pub returns-clause-advances : goal.returns-clause-advances
 returns-clause-advances g c =
-    gaggle_ends c.args.g c.loop-k.k (omega (arith, c.min-k-end.ensures, c.loop-k-test.false, c.loop-k.auto.k-end, c.loop-k.auto.marks, c.of-first.ensures.block)) c.loop-k.invariant.reaches
+    let ends = gaggle_ends c.args.g c.loop-k.k (omega (arith, c.min-k-end.ensures, c.loop-k-test.false, c.loop-k.auto.k-end, c.loop-k.auto.marks, c.of-first.ensures.block)) c.loop-k.invariant.reaches in
+    record {
+      leaves = λ s from start p. held_same (store_same c.loop-k.marks c.store.new.marks (numbers_in c.loop-k.cells) (coming c.loop-k.input) c.args.g c.loop-k.gaggle c.store.ensures) (ends.leaves s from start p);
+    }
+
+pub returns-clause-depths : goal.returns-clause-depths
+returns-clause-depths g c = c.store.ensures.depths ∙ c.loop-k.invariant.marks.depths

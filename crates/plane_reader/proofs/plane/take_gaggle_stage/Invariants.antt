@@ -7,8 +7,8 @@ use Rattle.plane_reader.proofs.plane.take_gaggle_stage.Given as goal
 
 abbrev pub invariant-loop-k : goal.invariant-loop-k
 invariant-loop-k g l = record {
-  reaches : Reaches g.I.OctetIn.source l.terms.tables.now.book l.terms.plan.now l.number l.g 0 l.number l.g l.k
-      (held (with_one (kept l.initial.marks) l.g l.initial.gaggle) l.initial.marks (numbers_in l.initial.cells) (coming l.initial.input)) (held (with_one (kept l.marks) l.g l.gaggle) l.marks (numbers_in l.cells) (coming l.input));
+  reaches : Reaches g.I.OctetIn.source l.terms.tables.now.book l.terms.plan.now g.row.STAGE l.g 0 g.row.STAGE l.g l.k
+      (held (kept l.initial.marks) l.initial.marks (numbers_in l.initial.cells) (coming l.initial.input)) (held (with_one (kept l.marks) l.g l.gaggle) l.marks (numbers_in l.cells) (coming l.input));
   marks : KeepsGaggles l.initial.marks l.marks;
   ready : AreReady (l.terms.plan.now.plane + 1) l.cells;
   size : length l.cells ≡ length l.initial.cells;

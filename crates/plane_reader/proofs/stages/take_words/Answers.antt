@@ -30,7 +30,7 @@ returns-in-3-clause-words g c = λ f earlier block frame deep is now stands.
 
 pub returns-in_default-clause-words : goal.returns-in_default-clause-words
 returns-in_default-clause-words g c = λ f earlier block frame deep is now stands.
-    let four : c.args.number ≡ 4 = omega (arith, c.requires.some, c.requires.number, c.in_default) in
+    let four : g.row.STAGE ≡ 4 = omega (arith, c.requires.some, c.requires.stage, c.in_default) in
     let own = rw four at stands in
     let next = stage_next frame own c.args.seen.above is (omega arith) (λ v. refinement_steps v f.weights f.plane) (deep_refinement f deep) in
     let shown = c.both.ensures.told _ _ 0 64 (shows_own c.args.seen.above 64 (search rules)) (plane_is next).shown in
