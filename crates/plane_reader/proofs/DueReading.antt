@@ -9,6 +9,7 @@ use Rattle.item_defs.specs.Readings.{whole, ended, Lacks}
 use Rattle.base_122.specs.declared.book.Book.{Book}
 use Rattle.plane_defs.specs.Spans.{span}
 use Rattle.block_masks.specs.declared.gaggle.Gaggle.{Gaggle}
+use Rattle.block_masks.specs.Gaggles.{AreOptions}
 use Rattle.block_masks.specs.Masks.{Shows}
 use Rattle.block_masks.proofs.Picking.{spread_entry, spread_of, back_of, small_spread}
 use Rattle.bit_pipe.specs.declared.fault.TextFault.{TextFault}
@@ -22,7 +23,7 @@ use Rattle.bit_pipe.specs.Reading.{stopped, failed, IsCut}
 use Rattle.bit_pipe.specs.Answers.{item_answer}
 use Rattle.plane_reader.specs.Pieces.{TakesWord}
 use Rattle.plane_reader.specs.Words.{TakesDue, TakesFlag}
-use Rattle.plane_reader.proofs.WordReading.{one_given, one_missing, one_fault, same_cut}
+use Rattle.plane_reader.proofs.WordReading.{one_given, one_missing, one_fault, same_cut, word_none}
 use Rattle.plane_defs.proofs.Equations.{span-none, span-more}
 use Rattle.item_defs.proofs.Equations.{bits_of-none, bits_of-more}
 
@@ -118,3 +119,13 @@ few_ones n lt = from_test (count_ones n) 4 (list_all-span-zero (λ n. nat_le (co
   where
     from_test : (a b : ℕ) → nat_le a b ≡ true → a ≤ b
     from_test a b e = grind (arith, nat_tests)
+
+-- the word of no places is nothing
+no_ones : count_ones 0 ≡ 0
+unfolding lib.Count.ones
+no_ones = refl
+
+pub due_none : {I : Type 0} {k : SourceOf I} (book : Book) (g : Gaggle) {a b : Coming I} → AreOptions g.options → IsIn a → Takes k a b [] → TakesDue k book 0 (Ok (Some 0)) g g a b
+due_none {k = k} book g {a} {b} known i t =
+    due_given book 0 (omega arith) (few_ones 0 (omega arith)) 0 0 (omega arith) (subst (λ n. TakesWord k book n (Ok (Some 0)) g g a b) (sym no_ones) (word_none book g known i t))
+    (λ f g' start count le p e. spread_of 0 0 start count f g' le p e) (λ g' start count le p fits. back_of 0 0 start count g' le p (omega arith) fits)

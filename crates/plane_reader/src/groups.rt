@@ -132,8 +132,9 @@ fn groups_with_bits(due: u64, groups: Groups) -> u64
     both(groups.now, either(some_due, groups.wanted))
 }
 
-// Reads the types of these groups, of which these are due, and their signs: as many at once as a window has.
-pub(crate) fn take_groups<I: OctetIn>(
+// Reads the types of these groups, of which these are due, and their signs, by a call: as many at once as a window has.
+#[inline(never)]
+fn take_groups_in_turn<I: OctetIn>(
     input: &mut BitIn<I>,
     tables: &WordTables,
     gaggle: &mut Gaggle,
@@ -169,4 +170,33 @@ pub(crate) fn take_groups<I: OctetIn>(
         left = take_from_window(input, tables, gaggle, found, due, groups, without(left, j));
     }
     Ok(Some(()))
+}
+
+// Reads the types of these groups, of which these are due, and their signs. Often no group has bits, and then there is no call.
+#[inline(always)]
+pub(crate) fn take_groups<I: OctetIn>(
+    input: &mut BitIn<I>,
+    tables: &WordTables,
+    gaggle: &mut Gaggle,
+    found: &mut Found,
+    due: u64,
+    groups: Groups,
+) -> Result<Option<()>, TextFault>
+    requires open { IsIn (coming input.old) }
+    requires known { AreOptions gaggle.old.options }
+    requires first { groups.first < 64 }
+    requires count { groups.count ≤ 4 }
+    requires within { groups.first + 4 * groups.count ≤ 64 }
+    requires few { groups.now < 2 ^ groups.count }
+    ensures groups { (f : Frame) (stage : ℕ) (earlier : ℕ → List Step) (done : List Step) (now wanted : ℕ → Bool) (after : List ℤ → List Step) →
+        GroupsNext f stage earlier done groups.first groups.count now wanted due groups.now groups.wanted after →
+        FoundPiece I.source tables.now.book f stage earlier done (group_steps f groups.first groups.count now wanted) Anything
+        result gaggle.old gaggle.new found.old found.new (coming input.old) (coming input.new) }
+    ensures options { AreOptions gaggle.new.options }
+    ensures is_in { OnSome result (IsIn (coming input.new)) }
+{
+    if groups_with_bits(due, groups) == 0 {
+        return Ok(Some(()));
+    }
+    take_groups_in_turn(input, tables, gaggle, found, due, groups)
 }

@@ -92,9 +92,9 @@ pub(crate) fn take_flag<I: OctetIn>(input: &mut BitIn<I>) -> Result<Option<bool>
     Ok(input.take()?)
 }
 
-// Reads the word of at most four due places, and returns the places whose bit is 1.
-#[inline(always)]
-pub(crate) fn take_due<I: OctetIn>(
+// Reads the word of at most four due places by a call, and returns the places whose bit is 1.
+#[inline(never)]
+fn take_due_word<I: OctetIn>(
     input: &mut BitIn<I>,
     tables: &WordTables,
     gaggle: &mut Gaggle,
@@ -109,4 +109,23 @@ pub(crate) fn take_due<I: OctetIn>(
         return Ok(None);
     };
     Ok(Some(spread(due, word)))
+}
+
+// Reads the word of at most four due places, and returns the places whose bit is 1. Often none is due, and then there is no call.
+#[inline(always)]
+pub(crate) fn take_due<I: OctetIn>(
+    input: &mut BitIn<I>,
+    tables: &WordTables,
+    gaggle: &mut Gaggle,
+    due: u64,
+) -> Result<Option<u64>, TextFault>
+    requires open { IsIn (coming input.old) }
+    requires due { due < 16 }
+    requires known { AreOptions gaggle.old.options }
+    ensures { TakesDue I.source tables.now.book due result gaggle.old gaggle.new (coming input.old) (coming input.new) }
+{
+    if due == 0 {
+        return Ok(Some(0));
+    }
+    take_due_word(input, tables, gaggle, due)
 }

@@ -4,7 +4,7 @@ use Rattle.block_masks.specs.Gaggles.{AreOptions}
 use Rattle.bit_pipe.specs.Coming.{coming, IsIn}
 use Rattle.plane_reader.specs.Frames.{Frame, GroupsNext}
 use Rattle.plane_reader.specs.Groups.{GroupsPassed}
-use Rattle.plane_reader.proofs.groups.take_groups.Given as goal
+use Rattle.plane_reader.proofs.groups.take_groups_in_turn.Given as goal
 
 abbrev pub invariant-loop-left : goal.invariant-loop-left
 invariant-loop-left g l = record {
