@@ -11,7 +11,7 @@ use Rattle.plane_defs.specs.Entries.{negative}
 use Rattle.item_defs.specs.Bits.{bit}
 use Rattle.block_masks.specs.Masks.{Shows}
 
-digit_is : (b : Bool) (n : ℕ) → n ≡ cond b 1 0 → (n == 1) ≡ b
+pub digit_is : (b : Bool) (n : ℕ) → n ≡ cond b 1 0 → (n == 1) ≡ b
 digit_is b n e = grind (arith, nat_tests)
 
 -- the lanes that are read from the start on
@@ -22,7 +22,7 @@ pub length-lanes : (cells : List ℤ) (start : ℕ) → start + 16 ≤ length ce
 length-lanes cells start within =
     omega (arith, length-map (take 16 (drop start cells)) (of_z w32), length-take 16 (drop start cells), length-drop start cells)
 
-lane : (cells : List ℤ) (start k : ℕ) → start + 16 ≤ length cells → k < 16 → get_or (lanes cells start) k 0 ≡ of_z w32 (get_or cells (start + k) (pos 0))
+pub lane : (cells : List ℤ) (start k : ℕ) → start + 16 ≤ length cells → k < 16 → get_or (lanes cells start) k 0 ≡ of_z w32 (get_or cells (start + k) (pos 0))
 lane cells start k within below =
     let long : k < length (take 16 (drop start cells)) = omega (arith, length-take 16 (drop start cells), length-drop start cells) in
     get_or-map (of_z w32) (take 16 (drop start cells)) k (pos 0) 0 long ∙

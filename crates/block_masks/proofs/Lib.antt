@@ -16,3 +16,4 @@ pub mod Equations
 pub mod SlicePlaces
 pub mod Settling
 pub mod SliceNumbers
+pub mod ByteLanes

@@ -7,3 +7,4 @@ pub mod BitsSet
 pub mod Places
 pub mod Walk
 pub mod Slices
+pub mod ByteLists

@@ -2,7 +2,6 @@
 
 ghost use Rattle.std.specs.Prelude.{◌≡◌, ◌+◌, ◌≤◌, ◌<◌, ℕ, ◌≤ℤ◌, ◌<ℤ◌, ◌^◌, Bool, length, pos, slice_index_or, unsigned_abs, nat_lt, FitsSigned};
 ghost use Rattle.std.specs.Int.{w32};
-ghost use Rattle.item_defs.specs.Bits.{bit};
 ghost use Rattle.plane_defs.specs.Sets.{magnitude, significant};
 ghost use Rattle.plane_defs.specs.Entries.{negative as is_negative};
 ghost use Rattle.block_masks.specs.Masks.{Shows};
@@ -60,22 +59,9 @@ fn negative(block: &[i32], start: usize) -> u64
     numbers.simd_lt(i32x16::splat(0)).to_bitmask()
 }
 
-// Returns which of the sixteen numbers from `start` on have the bit of weight 2^plane in their magnitude.
-#[inline(always)]
-fn having_bit(block: &[i32], start: usize, plane: u8) -> u64
-    requires within { start + 16 ≤ length block.now }
-    requires low { plane < 31 }
-    ensures { Shows result (λ p. bit (magnitude block.now p) plane) start 16 }
-{
-    read(block, start);
-    let sizes = i32x16::from_slice(&block[start..]).abs();
-    let bits = sizes & i32x16::splat(1i32 << plane);
-    bits.simd_ne(i32x16::splat(0)).to_bitmask()
-}
-
 // Returns four masks of sixteen positions, one after the other, as one.
 #[inline(always)]
-fn whole(first: u64, second: u64, third: u64, fourth: u64) -> u64
+pub(crate) fn whole(first: u64, second: u64, third: u64, fourth: u64) -> u64
     requires first { first < 2 ^ 16 }
     requires second { second < 2 ^ 16 }
     requires third { third < 2 ^ 16 }
@@ -99,21 +85,6 @@ pub fn all_reaching(block: &[i32], plane: u8) -> u64
         reaching(block, 16, plane),
         reaching(block, 32, plane),
         reaching(block, 48, plane),
-    )
-}
-
-/// Returns which numbers of a block have the bit of weight 2^plane in their magnitude.
-#[inline(always)]
-pub fn all_having_bit(block: &[i32], plane: u8) -> u64
-    requires whole { length block.now ≡ 64 }
-    requires low { plane < 31 }
-    ensures { Shows result (λ p. bit (magnitude block.now p) plane) 0 64 }
-{
-    whole(
-        having_bit(block, 0, plane),
-        having_bit(block, 16, plane),
-        having_bit(block, 32, plane),
-        having_bit(block, 48, plane),
     )
 }
 
