@@ -30,6 +30,12 @@ keeps_more keeps put = record {
   others = λ q s known few other. put.other_blocks q s (omega (arith, known, keeps.long)) few other ∙ keeps.others q s known few other;
 }
 
+pub keeps_then : {r : ℕ} {a b c : List ℤ} → KeepsOthers r a b → KeepsOthers r b c → KeepsOthers r a c
+keeps_then p q = record {
+  long = q.long ∙ p.long;
+  others = λ k s known few other. q.others k s (omega (arith, known, p.long)) few other ∙ p.others k s known few other;
+}
+
 pub no_plane : (block cells : List ℤ) (r : ℕ) → HasPlanes 0 block cells r
 no_plane block cells r = record { at = λ p lt. absurd (omega (arith, lt)) }
 

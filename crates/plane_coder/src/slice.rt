@@ -7,11 +7,29 @@ ghost use Rattle.block_masks.specs.Slices.{IsColumn, numbers_in};
 ghost use Rattle.plane_coder.specs.Sliced.{AreSliced, AreAbove, HasPlanes, HasMasks, HasFirst, KeepsOthers, SlicesGroup};
 
 use block_masks::{
-    ABOVE, Column, DC, GROUP, MINUS, all_having_bit, all_negative, all_reaching, put_mask,
+    ABOVE, Column, DC, GROUP, MINUS, all_negative, all_reaching, eight_planes, put_mask,
 };
 
 // The numbers of a whole group.
 const NUMBERS: usize = 64 * GROUP;
+
+// Puts the masks of eight planes from one on for the block of a column, or of those that are left.
+#[inline(always)]
+fn put_eight_planes(block: &[i32], from: u8, cells: &mut [i32], column: Column)
+    requires whole { length block.now ≡ 64 }
+    requires from { from < 28 }
+    requires small { (k : ℕ) → magnitude block.now k < 2 ^ 28 }
+    requires blocks { length cells.old % 64 ≡ 0 }
+    requires column { IsColumn cells.old column }
+    requires so_far { HasPlanes from block.now cells.old column.block }
+    ensures masks { HasPlanes (min 28 (from + 8)) block.now cells.new column.block }
+    ensures others { KeepsOthers column.block cells.old cells.new }
+{
+    let masks = eight_planes(block, from);
+    for i in 0..(28 - from).min(8) {
+        put_mask(cells, column, from + i, masks[i as usize]);
+    }
+}
 
 // Puts the masks of all planes for the block of a column. No number has a bit of a plane from the depth on.
 #[inline(always)]
@@ -24,10 +42,11 @@ fn put_masks_of_planes(block: &[i32], depth: u8, cells: &mut [i32], column: Colu
     ensures masks { HasPlanes 28 block.now cells.new column.block }
     ensures others { KeepsOthers column.block cells.old cells.new }
 {
-    for plane in 0..depth {
-        put_mask(cells, column, plane, all_having_bit(block, plane));
+    let eights = depth.div_ceil(8);
+    for eight in 0..eights {
+        put_eight_planes(block, 8 * eight, cells, column);
     }
-    for high in depth..28 {
+    for high in (8 * eights).min(28)..28 {
         put_mask(cells, column, high, 0);
     }
 }
