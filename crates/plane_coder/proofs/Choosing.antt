@@ -9,14 +9,11 @@ use Rattle.plane_defs.specs.declared.entries.Entry.{Entry}
 use Rattle.plane_defs.specs.Choice.{cheapest, has_symbol, symbol_counts}
 use Rattle.plane_defs.specs.declared.stages.Stage.TheVariants.{Parents, Children, Grandchildren}
 use Rattle.plane_defs.specs.Planes.{Plane, of_gaggle, counted, chosen}
-use Rattle.plane_defs.specs.Marks.{depths_of}
 use Rattle.plane_defs.proofs.SpanLists.{length-map-span, get_or-map-span}
 use Rattle.plane_coder.specs.declared.tally.Tally.{Tally}
-use Rattle.plane_coder.specs.declared.view.View.{View}
 use Rattle.block_masks.specs.Gaggles.{first_mark, AreOptions, options_in, sent_in}
 use Rattle.block_masks.specs.Stored.{Stores}
 use Rattle.plane_coder.specs.Tallies.{count_at, counts_in, Counts, CountsOf, AreAtMost}
-use Rattle.plane_coder.specs.Views.{plane_in}
 use Rattle.plane_coder.specs.declared.collect.GaggleWords.{GaggleWords}
 use Rattle.plane_coder.specs.Listed.{listed}
 use Rattle.plane_coder.specs.Collected.{HasWords}
@@ -85,38 +82,38 @@ counts_of_words p g t words has counts = subst (CountsOf t) (counted_is p g) rec
       );
 }
 
-has_later : (view : View) (depths : List ℕ) (old new : List ℤ) (h : ℕ) → first_mark new h ≡ first_mark old h → HasOptions view depths old h → HasOptions view depths new h
-has_later view depths old new h same p = record {
+has_later : (book : Book) (q : Plane) (old new : List ℤ) (h : ℕ) → first_mark new h ≡ first_mark old h → HasOptions book q old h → HasOptions book q new h
+has_later book q old new h same p = record {
   options = ap options_in same ∙ p.options;
   known = subst AreOptions (sym (ap options_in same)) p.known;
   fresh = ap sent_in same ∙ p.fresh;
 }
 
-pub none_chosen : (view : View) (marks : List ℤ) → ChoosesFirst view marks marks 0
-none_chosen view marks = record { depths = refl; whole = refl; each = λ g below. absurd (omega arith) }
+pub none_chosen : (book : Book) (q : Plane) (marks : List ℤ) → ChoosesFirst book q marks marks 0
+none_chosen book q marks = record { depths = refl; whole = refl; each = λ g below. absurd (omega arith) }
 
-pub one_chosen : (view : View) (m0 m1 m2 : List ℤ) (g : ℕ) (options : List ℕ) → ChoosesFirst view m0 m1 g →
-    options ≡ chosen view.tables.now.book (plane_in view (depths_of m1)) g → AreOptions options →
-    Stores m1 m2 g (record { options = options; sent = false ∷ false ∷ false ∷ [] }) → ChoosesFirst view m0 m2 (g + 1)
-one_chosen view m0 m1 m2 g options so_far is known put = record {
+pub one_chosen : (book : Book) (q : Plane) (m0 m1 m2 : List ℤ) (g : ℕ) (options : List ℕ) → ChoosesFirst book q m0 m1 g →
+    options ≡ chosen book q g → AreOptions options →
+    Stores m1 m2 g (record { options = options; sent = false ∷ false ∷ false ∷ [] }) → ChoosesFirst book q m0 m2 (g + 1)
+one_chosen book q m0 m1 m2 g options so_far is known put = record {
   depths = put.depths ∙ so_far.depths;
   whole = put.whole ∙ so_far.whole;
   each = λ h below.
       elim (before_or_at h g below) [
-        | inl lt ↦ has_later view (depths_of m0) m1 m2 h (put.others h (λ e. omega arith)) (so_far.each h lt)
-        | inr e ↦ subst (HasOptions view (depths_of m0) m2) (sym e) here
+        | inl lt ↦ has_later book q m1 m2 h (put.others h (λ e. omega arith)) (so_far.each h lt)
+        | inr e ↦ subst (HasOptions book q m2) (sym e) here
       ];
 }
   where
     before_or_at : (h g : ℕ) → h < g + 1 → (h < g) ⊎ (h ≡ g)
     before_or_at h g below = grind arith
 
-    here : HasOptions view (depths_of m0) m2 g
+    here : HasOptions book q m2 g
     here = record {
-      options = put.options ∙ is ∙ ap (λ d. chosen view.tables.now.book (plane_in view d) g) so_far.depths;
+      options = put.options ∙ is;
       known = subst AreOptions (sym put.options) known;
       fresh = put.sent;
     }
 
-pub all_chosen : (view : View) (m0 m1 : List ℤ) (n : ℕ) → div_ceil (length m0) 16 ≤ n → ChoosesFirst view m0 m1 n → Chooses view m0 m1
-all_chosen view m0 m1 n all p = record { depths = p.depths; whole = p.whole; each = λ g below. p.each g (omega arith) }
+pub all_chosen : (book : Book) (q : Plane) (m0 m1 : List ℤ) (n : ℕ) → div_ceil (length m0) 16 ≤ n → ChoosesFirst book q m0 m1 n → Chooses book q m0 m1
+all_chosen book q m0 m1 n all p = record { depths = p.depths; whole = p.whole; are = record { each = λ g below. p.each g (omega (arith, below, all, p.whole)) } }

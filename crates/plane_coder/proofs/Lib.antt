@@ -16,6 +16,7 @@ mod Choosing
 pub mod Sending
 mod Quiet
 mod Settled
+mod Keeping
 mod Sliced
 mod SlicedGroups
 mod SlicedNumbers

@@ -21,7 +21,7 @@ use Rattle.block_masks.specs.declared.gaggle.Gaggle.{Gaggle}
 use Rattle.plane_coder.specs.declared.view.View.{View}
 use Rattle.block_masks.specs.Gaggles.{Agrees, AreKnown, SameMarks, options_at, AllAgree}
 use Rattle.plane_coder.specs.Spells.{Spells}
-use Rattle.plane_coder.specs.Chosen.{Chooses}
+use Rattle.plane_coder.specs.Chosen.{AreChosen}
 use Rattle.plane_coder.specs.Sends.{chosen_items}
 use Rattle.plane_coder.specs.Views.{plane_in}
 use Rattle.block_masks.proofs.Marking.{length-depths_of}
@@ -144,27 +144,24 @@ no_flags n = grind (arith, nat_tests)
 pub gaggle_below : (marks : List ℤ) (g : ℕ) → g < (length (depths_of marks) + 15) / 16 → 16 * g < length marks
 gaggle_below marks g below = omega (arith, length-depths_of marks)
 
-pub chosen_agree : (view : View) (m0 m1 : List ℤ) → Chooses view m0 m1 → AllAgree (plane_in view (depths_of m1)) 0 m1
-chosen_agree view m0 m1 chooses = record {
+pub chosen_agree : (book : Book) (view : View) (marks : List ℤ) → AreChosen book (plane_in view (depths_of marks)) marks → AllAgree (plane_in view (depths_of marks)) 0 marks
+chosen_agree book view marks chosen = record {
   at = λ g below.
-      let inside : 16 * g < length m0 = omega (arith, gaggle_below m1 g below, chooses.whole) in
-      let fresh = (chooses.each g inside).fresh in
-      let none : before_stage (plane_in view (depths_of m1)) 0 g ≡ [] = flat_map-span-none (λ i. of_gaggle (plane_in view (depths_of m1)) (stage_number i) g) 0 in
+      let fresh = (chosen.each g (gaggle_below marks g below)).fresh in
+      let none : before_stage (plane_in view (depths_of marks)) 0 g ≡ [] = flat_map-span-none (λ i. of_gaggle (plane_in view (depths_of marks)) (stage_number i) g) 0 in
       record { at = λ n low high. ap (λ s. get_or s (n - 2) false) fresh ∙ no_flags (n - 2) ∙ sym (ap (list_any (is_word_of n)) none) };
 }
 
-pub chosen_known : (view : View) (m0 m1 : List ℤ) → Chooses view m0 m1 → AreKnown m1
-chosen_known view m0 m1 chooses = record { at = λ g below. (chooses.each g (omega (arith, chooses.whole))).known }
+pub chosen_known : (book : Book) (p : Plane) (marks : List ℤ) → AreChosen book p marks → AreKnown marks
+chosen_known book p marks chosen = record { at = λ g below. (chosen.each g below).known }
 
 -- the items of the whole plane, by the options in the states
-pub plane_whole : (view : View) (m0 m1 : List ℤ) (last : ℕ) → Chooses view m0 m1 →
-    plane_items view.tables.now.book (options_at m1) (plane_in view (depths_of m1)) (last + 1) ≡ chosen_items view.tables.now.book (plane_in view (depths_of m0)) last
-plane_whole view m0 m1 last chooses =
+pub plane_whole : (view : View) (marks : List ℤ) (last : ℕ) → AreChosen view.tables.now.book (plane_in view (depths_of marks)) marks →
+    plane_items view.tables.now.book (options_at marks) (plane_in view (depths_of marks)) (last + 1) ≡ chosen_items view.tables.now.book (plane_in view (depths_of marks)) last
+plane_whole view marks last are =
     let book = view.tables.now.book in
-    let options : (g : ℕ) → g < gaggles (plane_in view (depths_of m1)) → options_at m1 g ≡ chosen book (plane_in view (depths_of m0)) g =
-    λ g below. (chooses.each g (omega (arith, gaggle_below m1 g below, chooses.whole))).options in
-    plane_same book (options_at m1) (chosen book (plane_in view (depths_of m0))) (plane_in view (depths_of m1)) (last + 1) options ∙
-    ap (λ d. plane_items book (chosen book (plane_in view (depths_of m0))) (plane_in view d) (last + 1)) chooses.depths
+    let p = plane_in view (depths_of marks) in
+    plane_same book (options_at marks) (chosen book p) p (last + 1) (λ g below. (are.each g (gaggle_below marks g below)).options)
 
 -- a stage with the states as they are now is the stage with the states before
 pub stage_then : {S : Type 0} {k : SinkOf S} (view : View) (book : Book) (m0 m1 : List ℤ) (j : ℕ) {r : Result (Unit {0}) PutFault} {s t : Standing S} → SameMarks m0 m1 →

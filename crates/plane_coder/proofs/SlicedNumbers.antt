@@ -59,7 +59,7 @@ module _ {top depth : ℕ} (old : List ℤ) {new : List ℤ} (long : length new 
 
   pub are_sliced : AreSliced new
   are_sliced = record {
-    bits = λ r p known low. subst (λ n. Shows (mask_in new r p) (λ k. bit (magnitude (block_at n r) k) p) 0 64) (sym numbers_are) ((all r (omega (arith, known, long))).bits.at p low);
+    bits = λ r p known low. subst (λ n. Shows (mask_in new r p) (λ k. bit (magnitude (block_at n r) k) p) 0 64) (sym numbers_are) ((all r (omega (arith, known, long))).bits.at p (omega (arith, low)));
     minus = λ r known. subst (λ n. Shows (mask_in new r 28) (λ k. negative (get_or (block_at n r) k (pos 0))) 0 64) (sym numbers_are) ((all r (omega (arith, known, long))).minus);
   }
 

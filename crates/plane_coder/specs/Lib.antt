@@ -13,3 +13,4 @@ pub mod Coders
 pub mod Listed
 pub mod Collected
 pub mod Sliced
+pub mod Kept

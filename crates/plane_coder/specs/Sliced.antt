@@ -11,12 +11,19 @@ use Rattle.block_masks.specs.Slices.{mask_in, numbers_in, minus_slot, above_slot
 
 -- the masks of the planes and of the signs are those of the numbers that all masks represent
 pub record AreSliced (cells : List ℤ) : Type 0 where
-  pub bits : (r p : ℕ) → 64 * r < length cells → p < 28 → Shows (mask_in cells r p) (λ k. bit (magnitude (block_at (numbers_in cells) r) k) p) 0 64
+  pub bits : (r p : ℕ) → 64 * r < length cells → p < 27 → Shows (mask_in cells r p) (λ k. bit (magnitude (block_at (numbers_in cells) r) k) p) 0 64
   pub minus : (r : ℕ) → 64 * r < length cells → Shows (mask_in cells r minus_slot) (λ k. negative (get_or (block_at (numbers_in cells) r) k (pos 0))) 0 64
 
 -- the masks of what is significant above the plane that is coded next are of this plane
 pub record AreAbove (plane : ℕ) (cells : List ℤ) : Type 0 where
   pub at : (r : ℕ) → 64 * r < length cells → Shows (mask_in cells r above_slot) (significant (block_at (numbers_in cells) r) plane) 0 64
+
+-- these masks represent the same numbers, as far as planes need them
+pub record SameNumbers (old new : List ℤ) : Type 0 where
+  pub long : length new ≡ length old
+  pub numbers : numbers_in new ≡ numbers_in old
+  pub sliced : AreSliced old → AreSliced new
+  pub above : (plane : ℕ) → AreAbove plane old → AreAbove plane new
 
 -- ---- the masks of one block
 

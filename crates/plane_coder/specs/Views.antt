@@ -4,6 +4,7 @@ use Rattle.wave_defs.specs.Held.{blocks_in}
 use Rattle.plane_defs.specs.Planes.{Plane}
 use Rattle.block_masks.specs.Slices.{numbers_in}
 use Rattle.block_masks.specs.declared.plan.PlanePlan.{PlanePlan}
+use Rattle.block_masks.specs.declared.plan.CodedPlane.{CodedPlane}
 use Rattle.plane_coder.specs.declared.view.View.{View}
 
 -- the plane with the blocks' depths from their states
@@ -11,11 +12,9 @@ abbrev pub plane_of : List ℤ → List ℕ → PlanePlan → Plane
 plane_of numbers depths plan =
     record { blocks = blocks_in numbers; depths = depths; weights = plan.weights.shifts; number = plan.plane; q = plan.q }
 
+abbrev pub plane_at : List ℤ → List ℕ → CodedPlane → Plane
+plane_at numbers depths plan =
+    record { blocks = blocks_in numbers; depths = depths; weights = plan.weights.shifts; number = plan.plane; q = plan.q }
+
 abbrev pub plane_in : View → List ℕ → Plane
-plane_in view depths = record {
-  blocks = blocks_in (numbers_in view.cells.now);
-  depths = depths;
-  weights = view.plan.now.weights.shifts;
-  number = view.plan.now.plane;
-  q = view.plan.now.q;
-}
+plane_in view depths = plane_at (numbers_in view.cells.now) depths view.plan.now

@@ -6,6 +6,8 @@ ghost use Rattle.bit_pipe.specs.Standing.{Puts, IsReady, Writes};
 ghost use Rattle.plane_defs.specs.Codes.{is_book_sound};
 ghost use Rattle.plane_defs.specs.Marks.{depths_of};
 ghost use Rattle.plane_coder.specs.Sends.{chosen_items};
+ghost use Rattle.plane_coder.specs.Chosen.{AreChosen};
+ghost use Rattle.plane_coder.specs.Collected.{AreCollected};
 ghost use Rattle.block_masks.specs.Slices.{numbers_in};
 ghost use Rattle.plane_coder.specs.Sliced.{AreSliced, AreAbove};
 ghost use Rattle.plane_coder.specs.Views.{plane_of, plane_in};
@@ -19,7 +21,7 @@ use base_122::Book;
 use bit_pipe::{BitOut, OctetOut, PutFault};
 use block_masks::{CodedPlane, PlanePlan, settle_above};
 
-// Puts the stages of a plane up to its last one, with the options of fewest bits.
+// Puts the stages of a plane up to its last one, with the options that are chosen in the states.
 pub(crate) fn put_stages<O: OctetOut>(
     out: &mut BitOut<O>,
     view: &View,
@@ -31,10 +33,11 @@ pub(crate) fn put_stages<O: OctetOut>(
     requires whole { length view.now.cells.now ≡ 64 * length marks.old }
     requires last { last ≤ 4 }
     requires room { 0 < length room.old }
+    requires chosen { AreChosen view.now.tables.now.book (plane_in view.now (depths_of marks.old)) marks.old }
+    requires words { AreCollected (plane_in view.now (depths_of marks.old)) view.now.cells.now room.old }
     ensures puts { Writes O.sink result out.old out.new (text (chosen_items view.now.tables.now.book (plane_in view.now (depths_of marks.old)) last)) }
     ensures depths { depths_of marks.new ≡ depths_of marks.old }
 {
-    choose_all(view, marks, room);
     for number in 0..last + 1 {
         put_stage(out, number, view, marks, room)?;
     }
@@ -48,8 +51,8 @@ pub(crate) struct Source<'a> {
     pub tables: &'a CodeTables,
 }
 
-// Puts a plane, and then prepares the masks for the plane below. The words of as many gaggles as there is room for are found once:
-// the last place of the room is for those of each other gaggle in turn.
+// Puts a plane, and then prepares the masks for the plane below. The last place of the room is for the words of each gaggle in turn that
+// has no place of its own.
 pub(crate) fn put_settling<O: OctetOut>(
     out: &mut BitOut<O>,
     cells: &mut [i32],
@@ -73,6 +76,7 @@ pub(crate) fn put_settling<O: OctetOut>(
 {
     let plan = source.plan;
     let coded = CodedPlane::new(plan);
+    choose_all(cells, marks, &coded, source.tables, room);
     let view = View {
         cells,
         plan: &coded,

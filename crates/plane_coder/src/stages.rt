@@ -1,6 +1,6 @@
 // The stages of a plane, gaggle by gaggle.
 
-ghost use Rattle.std.specs.Prelude.{◌≡◌, ◌+◌, ◌*◌, ◌<◌, List, OnOk, length};
+ghost use Rattle.std.specs.Prelude.{◌≡◌, ◌+◌, ◌*◌, ◌<◌, ◌≤◌, List, OnOk, length};
 ghost use Rattle.item_defs.specs.Items.{text};
 ghost use Rattle.bit_pipe.specs.Standing.{stand, IsReady, Writes};
 ghost use Rattle.plane_defs.specs.Planes.{of_block, of_gaggle, stage_items};
@@ -11,10 +11,12 @@ ghost use Rattle.plane_defs.specs.Marks.{depths_of};
 ghost use Rattle.block_masks.specs.Slices.{IsColumn};
 ghost use Rattle.block_masks.specs.Gaggles.{AllAgree, AreOptions, AreKnown, SameMarks, options_at};
 ghost use Rattle.plane_coder.specs.Collected.{HasNoWords, HasWords, AreCollected};
+ghost use Rattle.plane_coder.specs.Kept.{free_masks, Keeps};
 ghost use Rattle.plane_coder.specs.Spells.{Spells};
 ghost use Rattle.plane_coder.specs.Views.{plane_in};
 
 use crate::collect::{GaggleWords, collect_gaggle};
+use crate::kept::load_stage;
 use crate::option_codes::OptionCodes;
 use crate::pending::PendingBits;
 use crate::put::{is_quiet, put_block_stage, put_words};
@@ -89,8 +91,27 @@ fn put_stage_words<O: OctetOut, const STAGE: u8>(
     }
 }
 
-// Puts the words of gaggle g in the stage of this number, which are found again, in the last place of the room. Only segments of very
-// many blocks have such gaggles.
+// Finds the words of gaggle g in the stage of this number: in its free masks if they are there, and again from its blocks otherwise.
+#[inline(always)]
+fn find_words<const STAGE: u8>(words: &mut GaggleWords, view: &View, marks: &[i32], g: usize)
+    requires first { 0 < STAGE }
+    requires last { STAGE < 4 }
+    requires whole { length view.now.cells.now ≡ 64 * length marks.now }
+    requires within { 16 * g < length marks.now }
+    requires kept { 1024 * g + 1024 ≤ length view.now.cells.now → Keeps (λ stage. of_gaggle (plane_in view.now (depths_of marks.now)) stage g) (free_masks view.now.cells.now (16 * g)) }
+    ensures { HasWords STAGE (λ stage. of_gaggle (plane_in view.now (depths_of marks.now)) stage g) words.new }
+{
+    let cells = view.cells;
+    if 1024 * g + 1024 <= cells.len()
+        && load_stage::<STAGE>(words, cells, Column::of(cells, 16 * g))
+    {
+        return;
+    }
+    collect_gaggle::<STAGE>(words, view, marks, g);
+}
+
+// Puts the words of gaggle g in the stage of this number, which are found in the last place of the room. Only segments of very many
+// blocks have such gaggles.
 #[inline(never)]
 fn put_again<O: OctetOut, const STAGE: u8>(
     out: &mut BitOut<O>,
@@ -107,14 +128,15 @@ fn put_again<O: OctetOut, const STAGE: u8>(
     requires whole { length view.now.cells.now ≡ 64 * length marks.now }
     requires within { 16 * g < length marks.now }
     requires room { 0 < length room.old }
-    requires words { AreCollected (plane_in view.now (depths_of marks.now)) room.old }
-    ensures words { AreCollected (plane_in view.now (depths_of marks.now)) room.new }
+    requires far { length room.old ≤ g + 1 }
+    requires words { AreCollected (plane_in view.now (depths_of marks.now)) view.now.cells.now room.old }
+    ensures words { AreCollected (plane_in view.now (depths_of marks.now)) view.now.cells.now room.new }
     ensures long { length room.new ≡ length room.old }
     ensures spells { Spells O.sink view.now.tables.now.book pending.old.gaggle pending.new.gaggle result (stand O.sink out.old) (stand O.sink out.new) (of_gaggle (plane_in view.now (depths_of marks.now)) (stage_number STAGE) g) }
 {
     let last = room.len() - 1;
     let words = &mut room[last];
-    collect_gaggle::<STAGE>(words, view, marks, g);
+    find_words::<STAGE>(words, view, marks, g);
     put_stage_words::<O, STAGE>(out, pending, view.tables, words)
 }
 
@@ -134,8 +156,8 @@ fn put_gaggle<O: OctetOut, const STAGE: u8>(
     requires whole { length view.now.cells.now ≡ 64 * length marks.now }
     requires within { 16 * g < length marks.now }
     requires room { 0 < length room.old }
-    requires words { AreCollected (plane_in view.now (depths_of marks.now)) room.old }
-    ensures words { AreCollected (plane_in view.now (depths_of marks.now)) room.new }
+    requires words { AreCollected (plane_in view.now (depths_of marks.now)) view.now.cells.now room.old }
+    ensures words { AreCollected (plane_in view.now (depths_of marks.now)) view.now.cells.now room.new }
     ensures long { length room.new ≡ length room.old }
     ensures spells { Spells O.sink view.now.tables.now.book pending.old.gaggle pending.new.gaggle result (stand O.sink out.old) (stand O.sink out.new) (of_gaggle (plane_in view.now (depths_of marks.now)) (stage_number STAGE) g) }
 {
@@ -161,13 +183,13 @@ fn put_gaggles<O: OctetOut, const STAGE: u8>(
     requires whole { length view.now.cells.now ≡ 64 * length marks.old }
     requires known { AreKnown marks.old }
     requires room { 0 < length room.old }
-    requires words { AreCollected (plane_in view.now (depths_of marks.old)) room.old }
+    requires words { AreCollected (plane_in view.now (depths_of marks.old)) view.now.cells.now room.old }
     requires agree { AllAgree (plane_in view.now (depths_of marks.old)) STAGE marks.old }
     ensures puts { Writes O.sink result out.old out.new (text (stage_items view.now.tables.now.book (options_at marks.old) (plane_in view.now (depths_of marks.old)) STAGE)) }
     ensures is_open { OnOk result (IsReady O.sink out.new) }
     ensures agree { OnOk result (AllAgree (plane_in view.now (depths_of marks.old)) (STAGE + 1) marks.new) }
     ensures kept { SameMarks marks.old marks.new }
-    ensures words { AreCollected (plane_in view.now (depths_of marks.old)) room.new }
+    ensures words { AreCollected (plane_in view.now (depths_of marks.old)) view.now.cells.now room.new }
     ensures long { length room.new ≡ length room.old }
 {
     if is_quiet(view.plan, STAGE) {
@@ -195,13 +217,13 @@ pub(crate) fn put_stage<O: OctetOut>(
     requires whole { length view.now.cells.now ≡ 64 * length marks.old }
     requires known { AreKnown marks.old }
     requires room { 0 < length room.old }
-    requires words { AreCollected (plane_in view.now (depths_of marks.old)) room.old }
+    requires words { AreCollected (plane_in view.now (depths_of marks.old)) view.now.cells.now room.old }
     requires agree { AllAgree (plane_in view.now (depths_of marks.old)) number marks.old }
     ensures puts { Writes O.sink result out.old out.new (text (stage_items view.now.tables.now.book (options_at marks.old) (plane_in view.now (depths_of marks.old)) number)) }
     ensures is_open { OnOk result (IsReady O.sink out.new) }
     ensures agree { OnOk result (AllAgree (plane_in view.now (depths_of marks.old)) (number + 1) marks.new) }
     ensures kept { SameMarks marks.old marks.new }
-    ensures words { AreCollected (plane_in view.now (depths_of marks.old)) room.new }
+    ensures words { AreCollected (plane_in view.now (depths_of marks.old)) view.now.cells.now room.new }
     ensures long { length room.new ≡ length room.old }
 {
     match number {

@@ -18,7 +18,7 @@ pub(crate) struct View<'a> {
     pub plan: &'a CodedPlane,
     pub tables: &'a CodeTables,
     ghost whole: { length cells.now % 64 ≡ 0 },
-    ghost low: { plan.now.plane < 28 },
+    ghost low: { plan.now.plane < 27 },
     ghost sliced: { AreSliced cells.now },
     ghost above: { AreAbove (plan.now.plane + 1) cells.now },
 }

@@ -14,17 +14,17 @@ pub loop-number-init : goal.loop-number-init
 loop-number-init g c = grind (arith, common_steps, none_put, same_marks, chosen_agree, chosen_known)
 
 pub put_stage-requires-clause-agree : goal.put_stage-requires-clause-agree
-put_stage-requires-clause-agree g c = agree_back c.args.view.now c.choose_all.new.marks c.loop-number.marks c.loop-number.marks c.loop-number.number c.loop-number.invariant.same c.loop-number.invariant.agree
+put_stage-requires-clause-agree g c = agree_back c.args.view.now c.args.marks.now c.loop-number.marks c.loop-number.marks c.loop-number.number c.loop-number.invariant.same c.loop-number.invariant.agree
 
 pub put_stage-requires-clause-words : goal.put_stage-requires-clause-words
-put_stage-requires-clause-words g c = subst (λ d. AreCollected (plane_in c.args.view.now d) c.loop-number.room) (sym c.loop-number.invariant.same.depths) c.loop-number.invariant.words
+put_stage-requires-clause-words g c = subst (λ d. AreCollected (plane_in c.args.view.now d) c.args.view.now.cells.now c.loop-number.room) (sym c.loop-number.invariant.same.depths) c.loop-number.invariant.words
 
 pub loop-number-preserved : goal.loop-number-preserved
 loop-number-preserved g c =
     let i = c.loop-number.invariant in
     let p = c.in_ok-put_stage.ensures in
     let view = c.args.view.now in
-    let m1 = c.choose_all.new.marks in
+    let m1 = c.args.marks.now in
     let m2 = c.loop-number.marks in
     let put = stage_then view view.tables.now.book m1 m2 c.loop-number.number i.same p.puts in
     record {
@@ -33,7 +33,7 @@ loop-number-preserved g c =
       same = same_then m1 m2 _ i.same p.kept;
       agree = agree_moved view m1 m2 _ (c.loop-number.number + 1) i.same p.agree;
       known = known_same m2 _ p.kept i.known;
-      words = subst (λ d. AreCollected (plane_in view d) c.put_stage.new.room) i.same.depths p.words;
+      words = subst (λ d. AreCollected (plane_in view d) view.cells.now c.put_stage.new.room) i.same.depths p.words;
       long = p.long ∙ i.long;
     }
 
@@ -43,15 +43,15 @@ returns-in_err-put_stage g c =
     let i = c.loop-number.invariant in
     let p = c.in_err-put_stage.ensures in
     let view = c.args.view.now in
-    let m1 = c.choose_all.new.marks in
+    let m1 = c.args.marks.now in
     let m2 = c.loop-number.marks in
     let below : c.loop-number.number < c.args.last + 1 = omega (arith, c.loop-number-test.true) in
     let put = stage_then view view.tables.now.book m1 m2 c.loop-number.number i.same p.puts in
     let whole = put_ended (stage_items view.tables.now.book (options_at m1) (plane_in view (depths_of m1))) c.loop-number.number (c.args.last + 1) below i.so_far put in
-    let items = plane_whole view c.args.marks.now m1 c.args.last c.choose_all.ensures.chosen in
+    let items = plane_whole view m1 c.args.last c.requires.chosen in
     rw (e.1, e.2) (record {
       puts = rw (← items) whole;
-      depths = p.kept.depths ∙ i.same.depths ∙ c.choose_all.ensures.chosen.depths;
+      depths = p.kept.depths ∙ i.same.depths;
     })
 
 pub returns : goal.returns

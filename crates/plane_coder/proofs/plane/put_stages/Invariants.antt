@@ -17,6 +17,6 @@ invariant-loop-number g l = record {
   same : SameMarks l.initial.marks l.marks;
   agree : AllAgree (plane_in l.view (depths_of l.initial.marks)) l.number l.marks;
   known : AreKnown l.marks;
-  words : AreCollected (plane_in l.view (depths_of l.initial.marks)) l.room;
+  words : AreCollected (plane_in l.view (depths_of l.initial.marks)) l.view.cells.now l.room;
   long : length l.room ≡ length l.initial.room;
 }

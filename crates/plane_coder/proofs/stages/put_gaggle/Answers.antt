@@ -9,5 +9,5 @@ use Rattle.plane_coder.proofs.stages.put_gaggle.Goals as goal
 pub returns-clause-spells : goal.returns-clause-spells
 returns-clause-spells g c =
     let p = plane_in c.args.view.now (depths_of c.args.marks.now) in
-    let has = has_one g.row.STAGE (c.requires.words.at c.args.g c.index-room-g.result (omega (arith, c.requires.within, length-depths_of c.args.marks.now)) (omega (arith, c.if-g-room.false))) in
+    let has = has_one g.row.STAGE (c.requires.words.near.at c.args.g c.index-room-g.result (omega (arith, c.requires.within, length-depths_of c.args.marks.now)) (omega (arith, c.if-g-room.false))) in
     c.put_stage_words.ensures (λ stage. of_gaggle p stage c.args.g) has

@@ -22,7 +22,7 @@ pub loop-g-init : goal.loop-g-init
 loop-g-init g c = grind (arith, common_steps, none_put, same_marks, none_agree)
 
 pub put_gaggle-requires-clause-words : goal.put_gaggle-requires-clause-words
-put_gaggle-requires-clause-words g c = subst (λ d. AreCollected (plane_in c.args.view.now d) c.loop-g.room) (sym c.loop-g.invariant.same.depths) c.loop-g.invariant.words
+put_gaggle-requires-clause-words g c = subst (λ d. AreCollected (plane_in c.args.view.now d) c.args.view.now.cells.now c.loop-g.room) (sym c.loop-g.invariant.same.depths) c.loop-g.invariant.words
 
 pub loop-g-preserved : goal.loop-g-preserved
 loop-g-preserved g c =
@@ -42,7 +42,7 @@ loop-g-preserved g c =
       is_open = c.in_ok-put_gaggle.ensures.spells.is_open;
       same = same_stored m0 m1 _ c.loop-g.g _ i.same c.store.ensures (c.in_ok-put_gaggle.ensures.spells.options ∙ ap (λ (h : Gaggle). h.options) gaggle ∙ c.load.ensures.options);
       agree = more_agree p g.row.STAGE m1 _ c.loop-g.g _ i.agree c.store.ensures later;
-      words = subst (λ d. AreCollected (plane_in view d) c.put_gaggle.new.room) i.same.depths c.in_ok-put_gaggle.ensures.words;
+      words = subst (λ d. AreCollected (plane_in view d) view.cells.now c.put_gaggle.new.room) i.same.depths c.in_ok-put_gaggle.ensures.words;
       long = c.in_ok-put_gaggle.ensures.long ∙ i.long;
     }
 
@@ -64,7 +64,7 @@ returns-in_err-put_gaggle g c =
       is_open = tt;
       agree = tt;
       kept = i.same;
-      words = subst (λ d. AreCollected (plane_in view d) c.put_gaggle.new.room) i.same.depths c.in_err-put_gaggle.ensures.words;
+      words = subst (λ d. AreCollected (plane_in view d) view.cells.now c.put_gaggle.new.room) i.same.depths c.in_err-put_gaggle.ensures.words;
       long = c.in_err-put_gaggle.ensures.long ∙ i.long;
     })
 

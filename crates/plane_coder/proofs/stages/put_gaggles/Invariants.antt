@@ -17,6 +17,6 @@ invariant-loop-g g l = record {
   is_open : IsOpen (stand g.O.OctetOut.sink l.out);
   same : SameMarks l.initial.marks l.marks;
   agree : SomeAgree (plane_in l.view (depths_of l.initial.marks)) g.row.STAGE l.marks l.g;
-  words : AreCollected (plane_in l.view (depths_of l.initial.marks)) l.room;
+  words : AreCollected (plane_in l.view (depths_of l.initial.marks)) l.view.cells.now l.room;
   long : length l.room ≡ length l.initial.room;
 }
