@@ -118,9 +118,6 @@ module _ (bytes : List ℕ) (long : length bytes ≡ 16) (small : (k : ℕ) → 
 
 -- ---- eight planes
 
-pub length-bytes : (block : List ℤ) (start from doublings : ℕ) → length (bytes_in block start from doublings) ≡ 16
-length-bytes block start from doublings = length-map-range_with_len (λ k. magnitude block (start + k) / 2 ^ from * 2 ^ doublings % 256) 0 16
-
 byte_at : (block : List ℤ) (start from doublings k : ℕ) → k < 16 → get_or (bytes_in block start from doublings) k 0 ≡ magnitude block (start + k) / 2 ^ from * 2 ^ doublings % 256
 byte_at block start from doublings k below = get_or-map-range_with_len (λ j. magnitude block (start + j) / 2 ^ from * 2 ^ doublings % 256) 0 16 k k 0 below (omega arith)
 

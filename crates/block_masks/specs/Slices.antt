@@ -1,7 +1,8 @@
 -- The numbers of a segment as masks, in the place of the numbers. A group is 240 blocks, and the last one has those that are left.
--- It has 32 slots, one after another, and a slot has a mask of 64 bits for each block of the group: slots 0 to 27 say which numbers
+-- It has 32 slots, one after another, and a slot has a mask of 64 bits for each block of the group: slots 0 to 26 say which numbers
 -- have the bit of weight 2^slot in their magnitude, slot 28 which are negative, slot 29 which are significant above the plane that
--- is coded next, and slot 30 has the DC itself. (This project's own.)
+-- is coded next, and slot 30 has the DC itself. No number depends on slots 27 and 31, which the writer of planes uses. (This project's
+-- own.)
 use Rattle.std.specs.Prelude.{◌≡◌, ◌<◌, ◌≤◌, ℕ, zero, suc, ◌+◌, ◌-◌, ◌*◌, ◌/◌, ◌%◌, ◌^◌, ◌==◌, ℤ, pos, neg_ℤ, Bool, ◌||◌, min, List, [], ◌∷◌, length, map, if◌then◌else◌}
 use Rattle.std.specs.List.{range_with_len}
 use Rattle.std.specs.Int.{w32, cast_unsigned, cast_signed}

@@ -6,7 +6,8 @@ use Rattle.base_122.specs.declared.book.Book.{Book}
 use Rattle.plane_defs.specs.declared.entries.Entry.{Entry}
 use Rattle.plane_defs.specs.Entries.{twos_bit}
 use Rattle.plane_defs.specs.Spelled.{is_word_of}
-use Rattle.plane_defs.specs.Steps.{Step, dc_steps, block_steps}
+use Rattle.plane_defs.specs.Steps.{Step, dc_steps}
+use Rattle.plane_defs.proofs.Equations.{dc_stage as dc_stage-is}
 use Rattle.plane_texts.specs.Given.{has_bit_in, Tells}
 use Rattle.block_masks.specs.declared.gaggle.Gaggle.{Gaggle}
 use Rattle.block_masks.specs.declared.plan.CodedPlane.{CodedPlane}
@@ -91,8 +92,7 @@ DcBitCall k plan r a b = (book : Book) (gaggle : Gaggle) (f : Frame) (earlier : 
 
 module _ {f : Frame} {plan : CodedPlane} {depth : ℕ} {earlier : ℕ → List Step} {mark : ℤ} {x : List ℤ} (frame : IsFrame f plan depth) (stands : StandsBefore f 0 earlier mark x) where
   dc_first : (v : List ℤ) → steps_of f 0 v ≡ dc_steps v f.weights f.plane f.q
-  unfolding block_steps
-  dc_first v = refl
+  dc_first v = dc_stage-is v f.depth f.weights f.plane f.q
 
   dc_next : DcBitNext f plan earlier (λ v. [])
   dc_next = record {

@@ -2,7 +2,7 @@
 use Rattle.std.proofs.Common.{◌≡◌, ℕ, zero, suc, ◌+◌, ◌-◌, ◌*◌, ◌/◌, ◌<◌, ◌≤◌, min, false, ◌&&◌, ℤ, List, [], length, refl, ap, sym, ◌∙◌, subst, arith, Ok, nat_lt}
 use Rattle.base_122.specs.declared.book.Book.{Book}
 use Rattle.plane_defs.specs.Sets.{coded}
-use Rattle.plane_defs.specs.Steps.{block_steps}
+use Rattle.plane_defs.proofs.Equations.{dc_stage}
 use Rattle.block_masks.specs.declared.plan.CodedPlane.{CodedPlane}
 use Rattle.block_masks.proofs.Marking.{length-depths_of}
 use Rattle.bit_pipe.specs.declared.fault.Part.TheVariants.{Whole}
@@ -18,8 +18,7 @@ use Rattle.plane_reader.proofs.GaggleSteps.{block_leaves}
 use Rattle.plane_reader.proofs.GaggleStages.{stage_ends}
 
 dc_none : (f : Frame) (v : List ℤ) → (coded f.weights f.plane 0 && nat_lt f.plane f.q) ≡ false → steps_of f 0 v ≡ []
-unfolding block_steps
-dc_none f v none = rw none refl
+dc_none f v none = dc_stage v f.depth f.weights f.plane f.q ∙ rw none refl
 
 not_due : {f : Frame} {plan : CodedPlane} {depth : ℕ} → (coded plan.weights.shifts plan.plane 0 && nat_lt plan.plane plan.q) ≡ false → IsFrame f plan depth → (coded f.weights f.plane 0 && nat_lt f.plane f.q) ≡ false
 not_due {f} {plan} none frame =

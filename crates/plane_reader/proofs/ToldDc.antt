@@ -10,6 +10,7 @@ use Rattle.plane_defs.specs.declared.entries.Entry.TheVariants.{Bit}
 use Rattle.plane_defs.specs.Spans.{span}
 use Rattle.plane_defs.specs.Sets.{magnitude, coded, set_significant, type_due, newly_significant, refined, children_of, quad_of}
 use Rattle.plane_defs.specs.Entries.{negative, twos_bit, flags, significant_families, stage_number}
+use Rattle.plane_defs.proofs.Equations.{dc_stage}
 use Rattle.plane_defs.specs.Steps.{Check, free, flags_alone, sign_at, bit_at, Step, step, some_one_where, is_new, typed_steps, dc_steps, children_check, children_steps, quads_steps, grandchildren_steps, refinement_steps, block_steps}
 use Rattle.plane_defs.proofs.Above.{all_span}
 use Rattle.plane_defs.proofs.Alike.{all_filter}
@@ -99,8 +100,7 @@ module _ (v : List ℤ) (weights : List ℕ) (plane q : ℕ) where
 
 module _ {f : Frame} {earlier : ℕ → List Step} {part : List Step} {v : List ℤ} (s : Sends f 0 earlier part v) where
   steps_are : dc_steps v f.weights f.plane f.q ≡ part ++ s.rest
-  unfolding block_steps
-  steps_are = s.here
+  steps_are = sym (dc_stage v f.depth f.weights f.plane f.q) ∙ s.here
 
   -- a prefix of the steps of the first stage reports nothing of the AC numbers
   pub dc_part_alone : (p : ℕ) → 1 ≤ p → (has_bit_in part p ≡ false) × (has_sign_in part p ≡ false)
