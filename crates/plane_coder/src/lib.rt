@@ -6,7 +6,8 @@
 //! makes lists of the words of a gaggle in stages 1 to 3 (`words`), without those that have no bits. `choose` counts the words of
 //! these lists with `tally` and chooses the gaggle's options. Then `stages` puts the lists stage by stage with `put`, which collects
 //! bits in a `pending`; the first and the last stage, which have no words, go over the blocks. The states of the blocks keep the
-//! options meanwhile, and `kept` the words of gaggles for which there is no room. At the end of a plane, the masks are prepared for the plane below (`plane`).
+//! options meanwhile, and `kept` has the words of gaggles for which there is no room, in masks that no plane needs. At the end of a
+//! plane, the masks are prepared for the plane below (`plane`).
 //!
 //! `block_masks` has what the reader of planes needs too: plans, masks and their places, sets of positions and the
 //! states of blocks.

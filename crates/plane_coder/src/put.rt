@@ -121,8 +121,8 @@ fn put_refinement<O: OctetOut>(
     pending.put(out)
 }
 
-// Puts the stage of this number of the block of a column, which has this depth: the first or the last, in which no words are sent. The number is
-// known to the compiler, so each stage has code of its own.
+// Puts the stage of this number of the block of a column, which has this depth: the first or the last, in which no words are sent. The
+// number is known to the compiler, so each stage has code of its own.
 #[inline(always)]
 pub(crate) fn put_block_stage<O: OctetOut, const STAGE: u8>(
     out: &mut BitOut<O>,
