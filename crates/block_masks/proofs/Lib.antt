@@ -1,9 +1,8 @@
 pub mod Fours
 pub mod LaneMasks
 pub mod SizeLanes
-pub mod SettingLanes
-pub mod SettingParts
-pub mod SettingSingly
+pub mod JoiningLanes
+pub mod JoiningSizes
 pub mod Maskings
 pub mod Picking
 pub mod Viewing

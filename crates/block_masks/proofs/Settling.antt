@@ -4,7 +4,7 @@ use Rattle.std.proofs.lemmas.Bool.{cases_eq}
 use Rattle.item_defs.specs.Bits.{bit}
 use Rattle.block_masks.specs.Masks.{Shows}
 use Rattle.block_masks.specs.Slices.{mask_in, PutsMask, Settles}
-use Rattle.block_masks.proofs.SettingLanes.{shows_own}
+use Rattle.block_masks.proofs.Viewing.{shows_own}
 
 pub none_settled : (plane : ℕ) (cells : List ℤ) → Settles plane 0 cells cells
 none_settled plane cells = record {

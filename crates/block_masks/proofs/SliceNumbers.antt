@@ -1,8 +1,8 @@
 -- The numbers that masks represent.
-use Rattle.std.proofs.Common.{◌≡◌, ◌≢◌, ◌<◌, ℕ, zero, suc, ◌+◌, ◌-◌, ◌*◌, ◌/◌, ◌%◌, ◌^◌, ◌==◌, inl, inr, refl, ap, sym, ◌∙◌, subst, arith, ℤ, pos, neg_ℤ, false, List, [], ◌∷◌, length, get_or, drop, min, if◌then◌else◌, w32}
+use Rattle.std.proofs.Common.{◌≡◌, ◌≢◌, ◌<◌, ◌≤◌, ℕ, zero, suc, ◌+◌, ◌-◌, ◌*◌, ◌/◌, ◌%◌, ◌^◌, ◌==◌, inl, inr, refl, ap, sym, ◌∙◌, subst, arith, ℤ, pos, neg_ℤ, Bool, false, List, [], ◌∷◌, length, get_or, drop, min, if◌then◌else◌, w32}
 use Rattle.std.specs.Int.{cast_signed}
 use Rattle.std.proofs.lemmas.List.{ext_get_or, get_or-take, get_or-drop, length-take, length-drop}
-use Rattle.std.proofs.lemmas.Bool.{cases_eq}
+use Rattle.std.proofs.lemmas.Bool.{cases_eq, ne_eqb}
 use Rattle.std.proofs.lemmas.List.FromFn.{get_or-map-range_with_len, length-map-range_with_len}
 use Rattle.item_defs.specs.Bits.{bit, bits_of, value_of}
 use Rattle.item_defs.proofs.Equations.{bits_of-none, bits_of-more}
@@ -25,6 +25,17 @@ pub number_in-is : (cells : List ℤ) (r k : ℕ) →
     else if bit (mask_in cells r minus_slot) k then neg_ℤ (pos (size_in cells r k)) else pos (size_in cells r k))
 unfolding number_in
 number_in-is cells r k = refl
+
+-- a number of a sign and a magnitude
+abbrev pub signed : Bool → ℕ → ℤ
+signed b n = if b then neg_ℤ (pos n) else pos n
+
+pub ac_number : (cells : List ℤ) (r k : ℕ) → 1 ≤ k → number_in cells r k ≡ signed (bit (mask_in cells r minus_slot) k) (size_in cells r k)
+ac_number cells r k first =
+    number_in-is cells r k ∙ ap (λ t. if t then cast_signed w32 (mask_in cells r dc_slot % 2 ^ 32) else signed (bit (mask_in cells r minus_slot) k) (size_in cells r k)) (ne_eqb k 0 (λ e. omega (arith, e, first)))
+
+pub dc_number : (cells : List ℤ) (r : ℕ) → number_in cells r 0 ≡ cast_signed w32 (mask_in cells r dc_slot % 2 ^ 32)
+dc_number cells r = number_in-is cells r 0
 
 pub length-numbers_in : (cells : List ℤ) → length (numbers_in cells) ≡ length cells
 unfolding numbers_in

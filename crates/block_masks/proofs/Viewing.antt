@@ -35,6 +35,10 @@ reached_is block plane p =
     let double : 2 ^ (plane + 1) ≡ 2 ^ plane * 2 = rw add-one (pow-suc 2 plane) in
     sym (reached_by (magnitude block p) (2 ^ plane) (2 ^ (plane + 1)) (pow_pos plane) double)
 
+-- a mask shows its own bits
+pub shows_own : (mask count : ℕ) → mask < 2 ^ count → Shows mask (bit mask) 0 count
+shows_own mask count small = record { at = λ k below. let e : k ≡ 0 + k = omega arith in ap (bit mask) e; small = small }
+
 -- positions are counted from 0
 pub from_zero : {mask count : ℕ} {f : ℕ → Bool} (at : ℕ) → Shows mask f (0 + at) count → Shows mask f at count
 from_zero {mask} {count} {f} at p = subst (λ s. Shows mask f s count) (zero-add at) p

@@ -8,3 +8,4 @@ pub mod Places
 pub mod Walk
 pub mod Slices
 pub mod ByteLists
+pub mod Halves
