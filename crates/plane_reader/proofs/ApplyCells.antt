@@ -14,15 +14,15 @@ use Rattle.plane_defs.specs.Sets.{significant}
 use Rattle.plane_defs.specs.StepLaws.{IsAc}
 use Rattle.block_masks.specs.Slices.{mask_in, minus_slot, above_slot, dc_slot, size_in, number_in, numbers_in, PutsMask}
 use Rattle.block_masks.specs.BitsSet.{with_bit}
-use Rattle.block_masks.proofs.SliceNumbers.{block_number, length-block, size_bit, bits_below-same}
+use Rattle.block_masks.proofs.SliceNumbers.{dc_number, block_number, length-block, size_bit, bits_below-same}
 use Rattle.plane_texts.proofs.SmallFacts.{true_false}
 use Rattle.plane_reader.specs.Taken.{IsCleared}
 use Rattle.plane_reader.proofs.ApplyNumbers.{dc_added}
 use Rattle.plane_reader.specs.Applied.{Applies, AddsDc}
 use Rattle.plane_reader.specs.Above.{AreReady, ChangesBlock}
-use Rattle.plane_reader.proofs.CellNumbers.{same_block, ac_alike, dc_number, block_size, size_given, size_kept, number_given}
+use Rattle.plane_reader.proofs.CellNumbers.{same_block, ac_alike, block_size, size_given, size_kept, number_given}
 use Rattle.block_masks.specs.Masks.{Shows}
-use Rattle.block_masks.proofs.SettingLanes.{shows_own}
+use Rattle.block_masks.proofs.Viewing.{shows_own}
 use Rattle.plane_reader.proofs.SettledCells.{shown_there}
 use Rattle.plane_reader.proofs.BitsTwice.{some_size}
 use Rattle.plane_reader.proofs.ToldNumbers.{pow_more}
@@ -88,13 +88,13 @@ pub record Gives (plane r bits minus : ℕ) (old new : List ℤ) : Type 0 where
   pub slots : (s : ℕ) → s < 32 → (s ≡ plane → ⊥) → (s ≡ minus_slot → ⊥) → mask_in new r s ≡ mask_in old r s
   pub others : (q s : ℕ) → 64 * q < length old → s < 32 → (q ≡ r → ⊥) → mask_in new q s ≡ mask_in old q s
 
-pub gives_both : {plane r bits minus mask signs : ℕ} {old mid new : List ℤ} → plane < 27 → 64 * r < length old → PutsMask r plane mask old mid → PutsMask r minus_slot signs mid new → ((k : ℕ) → k < 64 → bit mask k ≡ (bit (mask_in old r plane) k || bit bits k)) →
+pub gives_both : {plane r bits minus mask signs : ℕ} {old mid new : List ℤ} → plane < 27 → 64 * r < length old → PutsMask r minus_slot signs old mid → PutsMask r plane mask mid new → ((k : ℕ) → k < 64 → bit mask k ≡ (bit (mask_in old r plane) k || bit bits k)) →
     ((k : ℕ) → k < 64 → bit signs k ≡ (bit (mask_in old r minus_slot) k || (bit minus k && bit bits k))) → Gives plane r bits minus old new
 gives_both {plane} {r} low known first second has told = record {
   long = second.long ∙ first.long;
-  has = λ k lt. ap (λ m. bit m k) (second.other_slots plane (omega (arith, low)) (λ e. omega (arith, e, low)) ∙ first.here) ∙ has k lt;
-  signs = λ k lt. ap (λ m. bit m k) second.here ∙ told k lt;
-  slots = λ s few one other. second.other_slots s few other ∙ first.other_slots s few one;
+  has = λ k lt. ap (λ m. bit m k) second.here ∙ has k lt;
+  signs = λ k lt. ap (λ m. bit m k) (second.other_slots minus_slot (omega arith) (λ e. omega (arith, e, low)) ∙ first.here) ∙ told k lt;
+  slots = λ s few one other. second.other_slots s few one ∙ first.other_slots s few other;
   others = λ q s there few apart. second.other_blocks q s (omega (arith, there, first.long)) few apart ∙ first.other_blocks q s there few apart;
 }
 

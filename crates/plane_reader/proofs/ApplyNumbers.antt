@@ -1,13 +1,12 @@
 -- The DC is given the bit of a plane.
 use Rattle.std.proofs.Common.{◌≡◌, ℕ, ◌+◌, ◌-◌, ◌*◌, ◌%◌, ◌<◌, ◌≤◌, ◌^◌, ap, sym, ◌∙◌, arith, ℤ, pos, negsuc, ◌+ℤ◌, to_z, of_z, w32, pow_mono, mul-le-mul_left, pow_pos, pow-add}
-use Rattle.std.proofs.lemmas.Int.{ints, to_z-of_z, wrapping_add-bits, int_wrap_fits, fits_signed_from_abs}
+use Rattle.std.proofs.lemmas.Int.{ints, to_z-of_z, wrapping_add-bits, int_wrap_fits, fits_signed_from_abs, to_z_pos}
 use Rattle.std.specs.Int.{int_wrap}
 use Rattle.std.specs.Int.RustNames.{FitsSigned}
 use mir.Val.{SFits}
 use Rattle.std.proofs.lemmas.Bool.Decides.{nat_tests}
 use Rattle.plane_reader.specs.Taken.{IsCleared}
 use Rattle.plane_reader.proofs.ToldNumbers.{pow_more}
-use Rattle.block_masks.proofs.SettingSingly.{as_positive}
 
 -- above a multiple there is room for all below the next one
 room_above : (a k m : ℕ) → a * k < a * m → a * k + a ≤ a * m
@@ -36,7 +35,7 @@ dc_added z plane fits low cleared =
     ap (λ n. to_z w32 ((of_z w32 z + n) % 4294967296)) same ∙
     wrapping_add-bits w32 (of_z w32 z) (2 ^ plane) (below z fits) (omega (arith, most)) ∙
     ap (λ x. int_wrap w32 (x +ℤ to_z w32 (2 ^ plane))) (to_z-of_z w32 z fits) ∙
-    ap (λ x. int_wrap w32 (z +ℤ x)) (as_positive (2 ^ plane) (omega (arith, most))) ∙
+    ap (λ x. int_wrap w32 (z +ℤ x)) (to_z_pos w32 (2 ^ plane) (omega (arith, most))) ∙
     int_wrap_fits w32 (z +ℤ pos (2 ^ plane)) (fits_still z plane fits low cleared)
   where
     below : (z : ℤ) → SFits w32 z → of_z w32 z < 4294967296

@@ -1,11 +1,12 @@
 -- The numbers that masks represent, if some masks are changed.
-use Rattle.std.proofs.Common.{◌≡◌, ◌≢◌, inl, inr, ℕ, ◌+◌, ◌*◌, ◌/◌, ◌%◌, ◌<◌, ◌≤◌, ◌^◌, max, Bool, true, not, ◌||◌, ◌==◌, List, [], length, take, ap, sym, ◌∙◌, subst, arith, ℤ, pos, neg_ℤ, unsigned_abs, if◌then◌else◌, drop_of_length-le, w32}
-use Rattle.std.specs.Int.{bit_at, cast_signed}
+use Rattle.std.proofs.Common.{◌≡◌, ◌≢◌, inl, inr, ℕ, ◌+◌, ◌*◌, ◌/◌, ◌%◌, ◌<◌, ◌≤◌, ◌^◌, max, Bool, true, not, ◌||◌, ◌==◌, List, [], length, take, ap, sym, ◌∙◌, subst, arith, ℤ, pos, unsigned_abs, if◌then◌else◌, drop_of_length-le}
+use Rattle.std.specs.Int.{bit_at}
 use Rattle.std.specs.Prelude.{bit_or}
-use Rattle.std.proofs.lemmas.Bool.{cases_lt, cases_eq, ne_eqb}
+use Rattle.std.specs.Int.Bits.{or_add_and}
+use Rattle.std.proofs.lemmas.Bool.{cases_lt, cases_eq}
 use Rattle.std.proofs.lemmas.Bool.Decides.{nat_tests}
 use Rattle.std.proofs.lemmas.List.{ext_get_or}
-use Rattle.std.proofs.lemmas.Nat.Bits.{bit_at_or, bit_at-pow_same, bit_at-pow_other, bit_at_above, bit_at-lt, same_from_bits}
+use Rattle.std.proofs.lemmas.Nat.Bits.{and_pow, bit_at_or, bit_at-pow_same, bit_at-pow_other, bit_at_above, bit_at-lt, same_from_bits}
 use Rattle.item_defs.specs.Bits.{bit}
 use Rattle.wave_defs.specs.Held.{block_at}
 use Rattle.plane_defs.specs.Entries.{negative}
@@ -13,9 +14,8 @@ use Rattle.plane_defs.specs.Sets.{magnitude}
 use Rattle.plane_defs.specs.StepLaws.{IsAc}
 use Rattle.block_masks.specs.BitsSet.{with_bit}
 use Rattle.block_masks.specs.declared.slices.Column.{Column}
-use Rattle.block_masks.specs.Slices.{IsColumn, width, place, mask_in, minus_slot, above_slot, dc_slot, size_in, number_in, numbers_in}
-use Rattle.block_masks.proofs.SettingLanes.{size_set}
-use Rattle.block_masks.proofs.SliceNumbers.{number_in-is, length-numbers_in, bits_below-same, size_small, size_bit, same_number, block_number, length-block}
+use Rattle.block_masks.specs.Slices.{IsColumn, width, place, mask_in, minus_slot, above_slot, size_in, number_in, numbers_in}
+use Rattle.block_masks.proofs.SliceNumbers.{signed, ac_number, length-numbers_in, bits_below-same, size_small, size_bit, same_number, block_number, length-block}
 use Rattle.item_defs.specs.Bits.{value_of}
 
 -- ---- blocks
@@ -44,16 +44,6 @@ same_block old new q whole long same = elim (cases_lt (64 * q) (length old)) [
 ]
 
 -- ---- a number
-
-abbrev pub signed : Bool → ℕ → ℤ
-signed b n = if b then neg_ℤ (pos n) else pos n
-
-pub ac_number : (cells : List ℤ) (r k : ℕ) → 1 ≤ k → number_in cells r k ≡ signed (bit (mask_in cells r minus_slot) k) (size_in cells r k)
-ac_number cells r k first =
-    number_in-is cells r k ∙ ap (λ t. if t then cast_signed w32 (mask_in cells r dc_slot % 2 ^ 32) else signed (bit (mask_in cells r minus_slot) k) (size_in cells r k)) (ne_eqb k 0 (λ e. omega (arith, e, first)))
-
-pub dc_number : (cells : List ℤ) (r : ℕ) → number_in cells r 0 ≡ cast_signed w32 (mask_in cells r dc_slot % 2 ^ 32)
-dc_number cells r = number_in-is cells r 0
 
 abs_signed : (b : Bool) (n : ℕ) → unsigned_abs (signed b n) ≡ n
 abs_signed b n = grind (arith, nat_tests)
@@ -89,6 +79,13 @@ max_one x lt = omega arith
 
 max_none : (x : ℕ) → max x 0 ≡ x
 max_none x = omega arith
+
+-- the weight of a bit that is missing
+missing : (n plane : ℕ) → bit_at n plane * 2 ^ plane + (if not (bit n plane) then 2 ^ plane else 0) ≡ 2 ^ plane
+missing n plane = grind (arith, nat_tests)
+
+size_set : (n plane : ℕ) → bit_or n (2 ^ plane) ≡ n + (if not (bit n plane) then 2 ^ plane else 0)
+size_set n plane = omega (arith, or_add_and n (2 ^ plane), and_pow n plane, missing n plane)
 
 module _ (old new : List ℤ) (r plane k : ℕ) (low : plane < 27) (others : (p : ℕ) → p < 27 → (p ≡ plane → ⊥) → bit (mask_in new r p) k ≡ bit (mask_in old r p) k) where
   -- the number has the plane's bit

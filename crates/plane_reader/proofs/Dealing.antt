@@ -20,7 +20,7 @@ use Rattle.block_masks.proofs.MaskParts.{fewer_left}
 use Rattle.block_masks.proofs.Maskings.{shows_part, part_is}
 use Rattle.block_masks.proofs.Picking.{ones_of}
 use Rattle.block_masks.proofs.LaneMasks.{shows_same}
-use Rattle.block_masks.proofs.SettingLanes.{shows_own}
+use Rattle.block_masks.proofs.Viewing.{shows_own}
 use Rattle.bit_pipe.specs.Windows.{first_of}
 use Rattle.block_masks.specs.Places.{inside}
 use Rattle.plane_reader.specs.Refining.{IsFront, Deals}

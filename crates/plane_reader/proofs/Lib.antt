@@ -44,7 +44,6 @@ pub mod ChildCalls
 pub mod ToldNumbers
 pub mod ToldBlocks
 pub mod ApplyNumbers
-pub mod ApplySteps
 pub mod ToldSigns
 pub mod ToldDc
 pub mod ToldFurther

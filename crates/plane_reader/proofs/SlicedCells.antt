@@ -12,10 +12,9 @@ use Rattle.item_defs.specs.Bits.{bit}
 use Rattle.wave_defs.specs.Held.{block_at}
 use Rattle.plane_defs.specs.Sets.{significant}
 use Rattle.block_masks.specs.Slices.{mask_in, minus_slot, above_slot, dc_slot, size_in, number_in, numbers_in, PutsMask}
-use Rattle.block_masks.proofs.SliceNumbers.{length-numbers_in, number_at, size_in-is}
+use Rattle.block_masks.proofs.SliceNumbers.{ac_number, dc_number, length-numbers_in, number_at, size_in-is}
 use Rattle.plane_reader.specs.Above.{AreReady, HasNoAcs}
 use Rattle.plane_reader.specs.Joined.{HasOnlyDcs}
-use Rattle.plane_reader.proofs.CellNumbers.{ac_number, dc_number}
 use Rattle.plane_reader.proofs.CellGroups.{mask_left, mask_right, numbers_append, put_long, drop_then}
 
 -- ---- the DC numbers of a group

@@ -22,8 +22,8 @@ pub(crate) fn apply(found: Found, plane: u8, cells: &mut [i32], column: Column)
 {
     let bits = either(mask_of(cells, column, plane), found.bits);
     let minus = either(mask_of(cells, column, MINUS), both(found.minus, found.bits));
-    put_mask(cells, column, plane, bits);
     put_mask(cells, column, MINUS, minus);
+    put_mask(cells, column, plane, bits);
 }
 
 // Adds the plane's bit to the DC of a block.

@@ -72,12 +72,14 @@ fn groups_in(
         let j = first_in(read.left);
         let start = groups.first + 4 * j;
         let here = part(due, start, 4);
-        let Some(types) = types_in(tables, gaggle, here, has(groups.wanted, j), rest) else {
+        let parted = split_lowest(read.left);
+        let is_wanted = both(groups.wanted, parted.first) != 0;
+        let Some(types) = types_in(tables, gaggle, here, is_wanted, rest) else {
             return read;
         };
         read.found.add_bits(types.new, start);
         read.found.add_minus(types.minus, start);
-        read.left = split_lowest(read.left).others;
+        read.left = parted.others;
         read.len += types.len;
         rest <<= types.len;
     }

@@ -3,53 +3,10 @@
 ghost use Rattle.std.specs.Prelude.{◌≡◌, ◌≤◌, ◌<◌, ◌*◌, ◌%◌, min, ℕ, length, pos};
 ghost use lib.ListN.{get_or};
 ghost use Rattle.wave_defs.specs.Held.{block_at};
-ghost use Rattle.block_masks.specs.BitsSet.{SetsBits};
 ghost use Rattle.block_masks.specs.Slices.{numbers_in, IsColumn};
 
 use crate::slicing::NUMBERS;
-use block_masks::{Column, DC, MINUS, mask_of, set_bits, without};
-
-// The number of planes that a number can have bits of.
-const PLANES: u8 = 27;
-
-// Sets all numbers to 0.
-fn clear(block: &mut [i32])
-    ensures size { length block.new ≡ length block.old }
-    ensures clear { (i : ℕ) → get_or block.new i (pos 0) ≡ pos 0 }
-{
-    for number in block.iter_mut() {
-        *number = 0;
-    }
-}
-
-// Gives the numbers of a mask a bit, if the mask is not empty.
-#[inline(always)]
-fn join_plane(block: &mut [i32], plane: u8, bits: u64, minus: u64)
-    requires whole { length block.old ≡ 64 }
-    requires low { plane < 27 }
-    ensures { SetsBits plane bits minus block.old block.new }
-{
-    if bits != 0 {
-        set_bits(block, plane, bits, minus);
-    }
-}
-
-// Fills a block with the numbers that the masks of a column represent.
-fn join_block(cells: &[i32], column: Column, block: &mut [i32])
-    requires whole { length cells.now % 64 ≡ 0 }
-    requires column { IsColumn cells.now column }
-    requires size { length block.old ≡ 64 }
-    ensures { block.new ≡ block_at (numbers_in cells.now) column.block }
-{
-    clear(block);
-    let minus = mask_of(cells, column, MINUS);
-    for plane in 0..PLANES {
-        let bits = without(mask_of(cells, column, plane), 0);
-        join_plane(block, plane, bits, minus);
-    }
-    let dc = (mask_of(cells, column, DC) % 0x1_0000_0000) as u32;
-    block[0] = dc.cast_signed();
-}
+use block_masks::{Column, join_block};
 
 // Turns the masks of a group into numbers. `room` is for a copy of the masks.
 fn join_group(part: &mut [i32], room: &mut [i32])

@@ -6,7 +6,7 @@ ghost use Rattle.plane_reader.specs.Window.{IsWordIn, AreTypesIn};
 
 use crate::word::count_of;
 use bit_pipe::Front;
-use block_masks::{Gaggle, spread};
+use block_masks::{Gaggle, spread, spread_first};
 use word_codes::{WordTables, word_in};
 
 // Returns the word of this number of bits that is first in a window, and the length of its code, if it needs no option or its
@@ -59,10 +59,10 @@ pub(crate) fn types_in(
     }
     // The word has this number of ones, and it is known before its places are.
     let count = count_of(u64::from(word.number));
-    let signs = ((window << word.len) >> 1 >> (63 - count)) as u8;
+    let signs = ((window << word.len) >> 60) as u8;
     Some(Types {
         new,
-        minus: spread(new, signs),
+        minus: spread_first(new, signs),
         len: word.len + count,
     })
 }

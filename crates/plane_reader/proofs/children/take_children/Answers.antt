@@ -1,7 +1,7 @@
 use Rattle.std.proofs.Common.{arith}
 use Rattle.std.proofs.lemmas.Result.{err_from_is_err_and}
 use Rattle.item_defs.specs.Bits.{bit}
-use Rattle.block_masks.proofs.SettingLanes.{shows_own}
+use Rattle.block_masks.proofs.Viewing.{shows_own}
 use Rattle.plane_reader.proofs.ChildStage.{plane_is, descendants_next, flag_missing, flag_fault}
 use Rattle.plane_reader.proofs.ChildCalls.{no_families, families_fail, no_types, types_fail, all_read}
 use Rattle.plane_reader.proofs.children.take_children.Goals as goal

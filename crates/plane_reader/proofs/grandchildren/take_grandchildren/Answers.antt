@@ -1,7 +1,7 @@
 use Rattle.std.proofs.Common.{arith, rules}
 use Rattle.std.proofs.lemmas.Result.{err_from_is_err_and}
 use Rattle.item_defs.specs.Bits.{bit}
-use Rattle.block_masks.proofs.SettingLanes.{shows_own}
+use Rattle.block_masks.proofs.Viewing.{shows_own}
 use Rattle.plane_reader.proofs.GrandchildFlags.{sixteen_due, last_hope, families_shown, above_shown, families_above, live_shown, sixteens_word, sixteens_missing, sixteens_fault, sixteens_given}
 use Rattle.plane_reader.proofs.grandchildren.take_grandchildren.Goals as goal
 

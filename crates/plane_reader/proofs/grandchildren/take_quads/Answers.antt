@@ -3,7 +3,7 @@ use Rattle.std.proofs.lemmas.Result.{err_from_is_err_and}
 use Rattle.item_defs.specs.Bits.{bit}
 use Rattle.plane_defs.specs.Sets.{coded}
 use Rattle.std.proofs.Common.{arith}
-use Rattle.block_masks.proofs.SettingLanes.{shows_own}
+use Rattle.block_masks.proofs.Viewing.{shows_own}
 use Rattle.plane_reader.proofs.QuadPieces.{above_shown, live_shown, quads_word, quads_missing, quads_fault, quads_given}
 use Rattle.plane_reader.proofs.grandchildren.take_quads.Goals as goal
 

@@ -2,7 +2,7 @@ use Rattle.std.proofs.Common.{sym, ◌∙◌, arith, rules, ap, zero-add}
 use Rattle.std.proofs.lemmas.Result.{err_from_is_err_and}
 use Rattle.item_defs.specs.Bits.{bit}
 use Rattle.bit_pipe.proofs.Taking.{takes_start}
-use Rattle.block_masks.proofs.SettingLanes.{shows_own}
+use Rattle.block_masks.proofs.Viewing.{shows_own}
 use Rattle.plane_reader.proofs.IndexPieces.{so_far_none}
 use Rattle.plane_reader.proofs.GrandchildPieces.{sixteen_item, sixteens_whole, sixteen_skipped, sixteen_call, sixteen_read, sixteen_missing, sixteen_fault}
 use Rattle.plane_reader.proofs.grandchildren.take_sixteens.Goals.{then-has+in_ok-take_quads+in-Some, else-has}

@@ -1,7 +1,7 @@
 use Rattle.std.proofs.Common.{not, ap, sym, rules}
 use Rattle.item_defs.specs.Bits.{bit}
 use Rattle.plane_reader.specs.Grandchildren.{no_child}
-use Rattle.block_masks.proofs.SettingLanes.{shows_own}
+use Rattle.block_masks.proofs.Viewing.{shows_own}
 use Rattle.plane_reader.proofs.grandchildren.without_child.Goals as goal
 
 pub returns : goal.returns

@@ -1,7 +1,7 @@
-use Rattle.std.proofs.Common.{rules, ◌≡◌, ◌+◌, ◌*◌, ◌%◌, ◌^◌, ◌<◌, ◌≤◌, ◌++◌, ◌∙◌, false, refl, ap, sym, subst, arith}
+use Rattle.std.proofs.Common.{rules, ◌≡◌, ◌+◌, ◌*◌, ◌%◌, ◌^◌, ◌<◌, ◌≤◌, ◌++◌, ◌∙◌, ◌==◌, not, false, refl, ap, sym, subst, arith}
 use Rattle.std.proofs.lemmas.Grind.{common_steps}
 use Rattle.item_defs.specs.Bits.{bit}
-use Rattle.block_masks.proofs.Viewing.{from_zero}
+use Rattle.block_masks.proofs.Viewing.{from_zero, shows_own}
 use Rattle.bit_pipe.specs.Coming.{Takes}
 use Rattle.bit_pipe.specs.Windows.{first_of}
 use Rattle.bit_pipe.proofs.Taking.{in_later}
@@ -9,11 +9,10 @@ use Rattle.plane_reader.specs.Shadows.{told}
 use Rattle.plane_reader.proofs.DueReading.{few_ones}
 use Rattle.plane_reader.proofs.FoundMasks.{room_four}
 use Rattle.plane_reader.proofs.SignsPassed.{bit_inside}
-use Rattle.block_masks.proofs.SettingLanes.{shows_own}
 use Rattle.plane_reader.proofs.Shadows.{between, takes_first, takes_rest, window_parts}
 use Rattle.plane_reader.proofs.TypesAtHand.{types_at_hand}
 use Rattle.plane_reader.proofs.GroupsAtHand.{none_read, moved_on}
-use Rattle.plane_reader.proofs.GroupsPassed.{groups_more, place_is}
+use Rattle.plane_reader.proofs.GroupsPassed.{groups_more, place_is, shares_first}
 use Rattle.plane_reader.proofs.groups.groups_in.Goals as goal
 
 pub loop-read-init : goal.loop-read-init
@@ -58,7 +57,7 @@ loop-read-preserved c =
     let t = c.in-Some.ensures in
     let inside : j < c.args.groups.count = bit_inside c.loop-read.read.left c.args.groups.count j i.small here.here in
     let small : c.part-here.result < 16 = omega (arith, c.part-here.ensures.within) in
-    let parts = c.split_lowest.ensures in
+    let parts = c.split_lowest-parted.ensures in
     let place : parts.place ≡ j = place_is parts j here.within here.here here.none_before in
     let short : types.len ≤ 12 = omega (arith, t.len, t.is_word.few, few_ones types.new t.new.small) in
     record {
@@ -70,15 +69,16 @@ loop-read-preserved c =
           let window = c.args.window in
           let front = first_of len window in
           let back = first_of types.len (window * 2 ^ len % 2 ^ 64) in
-          let both : Takes told b d (front ++ back) = subst (Takes told b d) (window_parts window len types.len (omega (arith, short, c.if-read-le44.true))) taken in
-          let before = takes_first b d front back is_in both in
-          let mid = between b d front back is_in both in
-          let last : Takes told mid d (first_of types.len c.loop-read.rest) = subst (λ n. Takes told mid d (first_of types.len n)) (sym i.moved) (takes_rest b d front back is_in both) in
+          let all : Takes told b d (front ++ back) = subst (Takes told b d) (window_parts window len types.len (omega (arith, short, c.if-read-le44.true))) taken in
+          let before = takes_first b d front back is_in all in
+          let mid = between b d front back is_in all in
+          let last : Takes told mid d (first_of types.len c.loop-read.rest) = subst (λ n. Takes told mid d (first_of types.len n)) (sym i.moved) (takes_rest b d front back is_in all) in
           let z : 0 + j ≡ j = omega arith in
-          let flag = c.has.ensures wanted 0 c.args.groups.count next.wanted_shown inside ∙ ap wanted z in
-          groups_more next covers (i.read f stage earlier done now wanted after mask g m a b mid next covers passed is_in before) j here.within here.here here.none_before c.has.result flag
+          let first = shares_first parts (search rules) c.both-is_wanted.type_inv c.both-is_wanted.ensures.told in
+          let flag = first ∙ ap (bit c.args.groups.wanted) place ∙ next.wanted_shown.at j inside ∙ ap wanted z in
+          groups_more next covers (i.read f stage earlier done now wanted after mask g m a b mid next covers passed is_in before) j here.within here.here here.none_before (not (c.both-is_wanted.result == 0)) flag
           (λ f' stage' earlier' done' after' types_next.
           let shown = from_zero (c.args.groups.first + 4 * j) (c.part-here.ensures.told _ 0 64 (shows_own c.args.due 64 (search rules)) types_next.within) in
           types_at_hand c.requires.known types_next c.part-here.result small shown c.loop-read.rest t (in_later is_in before) last c.add_bits.ensures.minus c.add_bits.ensures.bits c.add_minus.ensures.bits c.add_minus.ensures.minus)
-          refl c.split_lowest.result.others (subst (λ n. bit c.split_lowest.result.others n ≡ false) place parts.gone) (λ k lt apart. parts.same k lt (λ e. apart (e ∙ place)));
+          refl c.split_lowest-parted.result.others (subst (λ n. bit c.split_lowest-parted.result.others n ≡ false) place parts.gone) (λ k lt apart. parts.same k lt (λ e. apart (e ∙ place)));
     }

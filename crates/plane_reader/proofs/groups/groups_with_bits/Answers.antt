@@ -1,6 +1,6 @@
 use Rattle.std.proofs.Common.{rules, arith}
 use Rattle.item_defs.specs.Bits.{bit}
-use Rattle.block_masks.proofs.SettingLanes.{shows_own}
+use Rattle.block_masks.proofs.Viewing.{shows_own}
 use Rattle.plane_reader.proofs.SentGroups.{covers_with}
 use Rattle.plane_reader.proofs.groups.groups_with_bits.Goals as goal
 

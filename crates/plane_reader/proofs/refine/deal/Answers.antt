@@ -1,7 +1,7 @@
 use Rattle.std.proofs.Common.{◌≡◌, ◌+◌, ◌*◌, ◌%◌, ◌^◌, subst, sym, arith, rules}
 use Rattle.item_defs.specs.Bits.{bit}
 use Rattle.block_masks.specs.Masks.{Shows}
-use Rattle.block_masks.proofs.SettingLanes.{shows_own}
+use Rattle.block_masks.proofs.Viewing.{shows_own}
 use Rattle.plane_reader.proofs.Dealing.{DealtSo, dealt_none, dealt_more, dealt_all}
 use Rattle.plane_reader.proofs.FoundMasks.{room_four}
 use Rattle.plane_reader.proofs.refine.deal.Goals as goal

@@ -1,4 +1,4 @@
-use Rattle.block_masks.proofs.SettingLanes.{shows_own}
+use Rattle.block_masks.proofs.Viewing.{shows_own}
 use Rattle.plane_reader.proofs.ChildStage.{plane_is}
 use Rattle.plane_reader.proofs.BlockWords.{parents_next}
 use Rattle.plane_reader.proofs.stages.take_parents.Goals as goal

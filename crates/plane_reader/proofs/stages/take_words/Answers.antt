@@ -2,7 +2,7 @@ use Rattle.std.proofs.Common.{rules, ◌≡◌, [], arith, FitsSigned, w32}
 use Rattle.std.proofs.lemmas.Int.{to_z-of_z}
 use Rattle.block_masks.specs.Gaggles.{families_in}
 use Rattle.plane_defs.specs.Steps.{parents_steps, children_steps, refinement_steps}
-use Rattle.block_masks.proofs.SettingLanes.{shows_own}
+use Rattle.block_masks.proofs.Viewing.{shows_own}
 use Rattle.plane_reader.proofs.ChildStage.{plane_is}
 use Rattle.plane_reader.proofs.BlockWords.{deep_parents, deep_children, deep_grandchildren, deep_refinement, stage_next, refine_next, words_as, children_words, grandchildren_next}
 use Rattle.plane_reader.proofs.stages.take_words.Goals as goal

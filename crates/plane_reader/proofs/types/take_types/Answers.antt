@@ -7,9 +7,8 @@ use Rattle.block_masks.specs.Masks.{Shows}
 use Rattle.plane_reader.specs.Frames.{TypesNext}
 use Rattle.plane_reader.specs.Pieces.{FoundPiece, Anything}
 use Rattle.plane_reader.proofs.NothingDue.{none_due}
-use Rattle.block_masks.proofs.Viewing.{from_zero, nibble_small}
+use Rattle.block_masks.proofs.Viewing.{from_zero, nibble_small, shows_own}
 use Rattle.plane_reader.proofs.FoundMasks.{room_four}
-use Rattle.block_masks.proofs.SettingLanes.{shows_own}
 use Rattle.plane_reader.proofs.TypesAtHand.{types_at_hand}
 use Rattle.plane_reader.proofs.types.take_types.Goals as goal
 

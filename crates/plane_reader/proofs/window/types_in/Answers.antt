@@ -1,6 +1,6 @@
-use Rattle.std.proofs.Common.{◌+◌, ◌≤◌, ◌<◌, ◌*◌, ◌%◌, ◌^◌, refl, ap, sym, ◌∙◌, subst, inl, inr, arith, count_ones, pow_mono, true≢false}
+use Rattle.std.proofs.Common.{◌≡◌, ◌+◌, ◌-◌, ◌/◌, ◌≤◌, ◌<◌, ◌*◌, ◌%◌, ◌^◌, ap, sym, ◌∙◌, subst, inl, inr, arith, count_ones, pow_mono, true≢false}
 use Rattle.plane_reader.proofs.DueReading.{few_ones}
-use Rattle.plane_reader.proofs.SignWindows.{word_small}
+use Rattle.plane_reader.proofs.SignWindows.{top_word}
 use Rattle.block_masks.specs.Picks.{AreSpread}
 use Rattle.plane_reader.proofs.TypesAtHand.{signs_value}
 use Rattle.plane_reader.proofs.window.types_in.Goals as goal
@@ -18,20 +18,6 @@ count_of-count-requires c =
     let few : c.count_of.result ≤ 4 = rw c.count_of.ensures (few_ones c.args.due c.requires.due) in
     omega (arith, c.from.ensures, c.in_ok-word.ensures.fits, pow_mono few)
 
-pub overflow_cast-signs-3 : goal.overflow_cast-signs-3
-overflow_cast-signs-3 c =
-    let most : c.count_of.result ≤ 4 = rw c.count_of.ensures (few_ones c.args.due c.requires.due) in
-    let low : c.from.result < 16 = omega (arith, c.from.ensures, c.in_ok-word.ensures.fits, pow_mono most) in
-    let few : c.count_of-count.result ≤ 4 = rw c.count_of-count.ensures (few_ones c.from.result low) in
-    omega (arith, word_small (c.args.window * 2 ^ c.in_ok-word.word.len % 2 ^ 64) _ c.count_of-count.result (omega arith) refl few)
-
-pub spread-requires-clause-word : goal.spread-requires-clause-word
-spread-requires-clause-word c =
-    let most : c.count_of.result ≤ 4 = rw c.count_of.ensures (few_ones c.args.due c.requires.due) in
-    let low : c.from.result < 16 = omega (arith, c.from.ensures, c.in_ok-word.ensures.fits, pow_mono most) in
-    let few : c.count_of-count.result ≤ 4 = rw c.count_of-count.ensures (few_ones c.from.result low) in
-    word_small (c.args.window * 2 ^ c.in_ok-word.word.len % 2 ^ 64) _ c.count_of-count.result (omega arith) refl few
-
 pub returns : goal.returns
 returns c =
     let w = c.in_ok-word.ensures in
@@ -39,6 +25,8 @@ returns c =
     let low : c.from.result < 16 = omega (arith, c.from.ensures, w.fits, pow_mono most) in
     let few : c.count_of-count.result ≤ 4 = rw c.count_of-count.ensures (few_ones c.from.result low) in
     let fits : c.in_ok-word.word.number < 2 ^ count_ones c.args.due = subst (λ n. c.in_ok-word.word.number < 2 ^ n) c.count_of.ensures w.fits in
+    let ones : c.count_of-count.result ≡ count_ones c.spread-new.result = c.count_of-count.ensures ∙ ap count_ones c.from.ensures ∙ sym (c.spread-new.ensures.ones fits) in
+    let rest = c.args.window * 2 ^ c.in_ok-word.word.len % 2 ^ 64 in
     record {
       word = c.in_ok-word.word;
       is_word = rw c.count_of.ensures at w;
@@ -47,6 +35,7 @@ returns c =
         | inl p ↦ p.1 z
         | inr f ↦ absurd (true≢false (sym e ∙ f))
       ];
-      len = ap (λ n. c.in_ok-word.word.len + n) (c.count_of-count.ensures ∙ ap count_ones c.from.ensures ∙ sym (c.spread-new.ensures.ones fits));
-      minus = subst (λ m. AreSpread c.spread-new.result m c.spread.result) (sym (signs_value c.args.window c.in_ok-word.word.len c.count_of-count.result w.few few)) c.spread.ensures;
+      len = ap (λ n. c.in_ok-word.word.len + n) ones;
+      minus = subst (λ m. AreSpread c.spread-new.result m c.spread_first.result)
+          (top_word rest (count_ones c.spread-new.result) (rw (sym ones) few) ∙ ap (λ n. rest / 2 / 2 ^ (63 - n)) (sym ones) ∙ sym (signs_value c.args.window c.in_ok-word.word.len c.count_of-count.result w.few few)) c.spread_first.ensures;
     }
