@@ -105,7 +105,7 @@ module _ (book : Book) (options : List ℕ) where
           ap (λ l. l ++ spelled_after book options (before ++ Word bits ∷ []) xs) (sym (empty_items before bits (so refl)))
       one false so rest later = ap (λ l. entry_items book options before (Word bits) ++ l) later
 
-agrees_alike : (sent : List Bool) (before xs ys : List Entry) → AreAlike xs ys → Agrees sent (before ++ xs) → Agrees sent (before ++ ys)
+pub agrees_alike : (sent : List Bool) (before xs ys : List Entry) → AreAlike xs ys → Agrees sent (before ++ xs) → Agrees sent (before ++ ys)
 agrees_alike sent before xs ys alike agrees = record {
   at = λ n low high.
       let p = is_word_of n in
@@ -113,11 +113,15 @@ agrees_alike sent before xs ys alike agrees = record {
       agrees.at n low high ∙ list_any-append p before xs ∙ ap (λ b. list_any p before || b) same ∙ sym (list_any-append p before ys);
 }
 
+pub text_alike : (book : Book) (options : List ℕ) (before xs ys : List Entry) → AreAlike xs ys → text (spelled_after book options before xs) ≡ text (spelled_after book options before ys)
+text_alike book options before xs ys alike =
+    ap text (sym (spelled_with_bits book options before xs) ∙ ap (spelled_after book options before) alike ∙ spelled_with_bits book options before ys)
+
 pub spells_alike : {S : Type 0} {k : SinkOf S} {book : Book} {a b : Gaggle} {r : Result (Unit {0}) PutFault} {s t : Standing S} (xs ys : List Entry) →
     AreAlike xs ys → Spells k book a b r s t xs → Spells k book a b r s t ys
 spells_alike {S} {k} {book} {a} {b} {r} {s} {t} xs ys alike p = record {
   puts = λ before agrees.
-      subst (λ l. Puts k r s t (text l)) (sym (spelled_with_bits book a.options before xs) ∙ ap (spelled_after book a.options before) alike ∙ spelled_with_bits book a.options before ys) (p.puts before agrees);
+      subst (Puts k r s t) (text_alike book a.options before xs ys alike) (p.puts before agrees);
   agrees = λ before agrees. on_ok_map r (agrees_alike b.sent before xs ys alike) (p.agrees before agrees);
   is_open = p.is_open;
   options = p.options;

@@ -1,28 +1,21 @@
--- The words of gaggles in masks that nothing else needs.
-use Rattle.std.proofs.Common.{◌≡◌, ◌≢◌, ◌<◌, ◌≤◌, ◌⊎◌, inl, inr, ℕ, zero, suc, ◌+◌, ◌*◌, ◌/◌, ◌%◌, ◌^◌, ◌==◌, refl, ap, sym, ◌∙◌, subst, arith, ℤ, pos, List, length, filter, set, get_or, length-set, get_or-set_same, get_or-set_other, ext_get_or, flat_map, if◌then◌else◌}
-use Rattle.std.specs.Int.{div_ceil}
+-- The bits of the words of gaggles in masks that nothing else needs.
+use Rattle.std.proofs.Common.{◌≡◌, ◌≢◌, ◌<◌, ◌≤◌, ◌⊎◌, inl, inr, ℕ, ◌+◌, ◌-◌, ◌*◌, ◌/◌, ◌%◌, ◌^◌, refl, ap, sym, ◌∙◌, subst, arith, ℤ, pos, Bool, List, [], ◌++◌, length, set, get_or, length-set, get_or-set_same, get_or-set_other, ext_get_or, flat_map, add-one, pow-suc, pow_mono}
+use Rattle.std.specs.Int.Count.{count_leading_zeros, leading_unique}
+use Rattle.std.proofs.lemmas.Nat.{mod_low}
 use Rattle.std.proofs.lemmas.Bool.{cases_eq, cases_lt}
-use Rattle.item_defs.specs.Bits.{bit}
+use Rattle.item_defs.specs.Bits.{bit, bits_of}
+use Rattle.item_defs.proofs.NumberBits.{bits_of-mod}
 use Rattle.wave_defs.specs.Held.{block_at}
-use Rattle.plane_defs.specs.declared.entries.Entry.{Entry}
-use Rattle.plane_defs.specs.declared.stages.Stage.{Stage}
-use Rattle.plane_defs.specs.declared.stages.Stage.TheVariants.{Parents, Children, Grandchildren}
 use Rattle.plane_defs.specs.Spans.{span}
 use Rattle.plane_defs.specs.Sets.{magnitude, significant}
 use Rattle.plane_defs.specs.Entries.{negative}
-use Rattle.plane_defs.proofs.SpanLists.{length-map-span, get_or-map-span}
+use Rattle.plane_defs.proofs.SpanLists.{length-map-span, get_or-map-span, flat_map-span-none, flat_map-span-suc}
 use Rattle.block_masks.specs.Masks.{Shows}
 use Rattle.block_masks.specs.declared.slices.Column.{Column}
 use Rattle.block_masks.specs.Slices.{mask_in, number_in, numbers_in, bits_below, PutsMask}
 use Rattle.block_masks.proofs.SliceNumbers.{bits_below-same, number_in-is, same_numbers}
-use Rattle.plane_coder.specs.declared.collect.GaggleWords.{GaggleWords}
-use Rattle.plane_coder.specs.declared.plane_masks.Typed.{Typed}
-use Rattle.plane_coder.specs.declared.words.Words.{Words}
-use Rattle.plane_coder.specs.Picked.{ArePacked, entries_of, no_word}
-use Rattle.plane_coder.specs.Listed.{has_bits, AreAlike, entries_at, listed}
-use Rattle.plane_coder.specs.Collected.{HasWords}
 use Rattle.plane_coder.specs.Sliced.{SameNumbers}
-use Rattle.plane_coder.specs.Kept.{free_mask, free_masks, IsFull, OnlyFree, typed_of, AreFour, pair_at, four_in, Fills, kept_typed, kept_entries, count_in, second, third, ArePackedFrom, Keeps}
+use Rattle.plane_coder.specs.Kept.{free_mask, free_masks, IsFull, OnlyFree, width_in, bits_in, bits_between}
 use Rattle.plane_coder.proofs.Sliced.{column_later}
 use Rattle.plane_coder.proofs.Sending.{flat_map-span-below}
 
@@ -132,174 +125,44 @@ same_none cells = record { long = refl; numbers = refl; sliced = λ are. are; ab
 pub same_then : {x y z : List ℤ} → SameNumbers x y → SameNumbers y z → SameNumbers x z
 same_then p q = record { long = q.long ∙ p.long; numbers = q.numbers ∙ p.numbers; sliced = λ are. q.sliced (p.sliced are); above = λ plane are. q.above plane (p.above plane are) }
 
--- ---- four words in a mask
+-- ---- bits in a mask
 
-parts : (p q r s j : ℕ) → p < 2 ^ 16 → q < 2 ^ 16 → r < 2 ^ 16 → s < 2 ^ 16 → j < 4 →
-    (p + 2 ^ 16 * q + 2 ^ 32 * r + 2 ^ 48 * s) / 2 ^ (16 * j) % 2 ^ 16 ≡ (if j == 0 then p else if j == 1 then q else if j == 2 then r else s)
-parts p q r s zero a b c d low = omega (arith, a, b, c, d)
-parts p q r s (suc zero) a b c d low = omega (arith, a, b, c, d)
-parts p q r s (suc (suc zero)) a b c d low = omega (arith, a, b, c, d)
-parts p q r s (suc (suc (suc zero))) a b c d low = omega (arith, a, b, c, d)
-parts p q r s (suc (suc (suc (suc j)))) a b c d low = absurd (omega (arith, low))
+sealed_width : (value count : ℕ) → value < 2 ^ count → count < 64 → width_in (value + 2 ^ count) ≡ count
+sealed_width value count small few =
+    let double : 2 ^ (count + 1) ≡ 2 ^ count * 2 = ap (λ n. 2 ^ n) (add-one count) ∙ pow-suc 2 count in
+    let zeros : 63 - count ≡ count_leading_zeros 64 (value + 2 ^ count) =
+    leading_unique 64 (value + 2 ^ count) (63 - count) (count + 1) (omega (arith, few)) (omega (arith, double, small)) (omega (arith, double)) in
+    omega (arith, zeros, few)
 
-small_pair : (t : Typed) → ArePacked t → t.pair < 2 ^ 16
-small_pair t packed = omega (arith, packed.signs.length)
+past : (count value : ℕ) → value < 2 ^ count → (value + 2 ^ count) % 2 ^ count ≡ value
+past count value small =
+    let same : value + 2 ^ count ≡ 1 * 2 ^ count + value = omega arith in
+    ap (λ n. n % 2 ^ count) same ∙ mod_low 1 count value small
 
-pub four_parts : (list : List Typed) (i j : ℕ) → ((k : ℕ) → ArePacked (get_or list k no_word)) → j < 4 → typed_of (four_in list i) j ≡ get_or list (i + j) no_word
-four_parts list i j packed low =
-    ap (λ n. record { pair = n }) (parts (pair_at list i) (pair_at list (i + 1)) (pair_at list (i + 2)) (pair_at list (i + 3)) j
-    (small_pair (get_or list i no_word) (packed i)) (small_pair (get_or list (i + 1) no_word) (packed (i + 1))) (small_pair (get_or list (i + 2) no_word) (packed (i + 2))) (small_pair (get_or list (i + 3) no_word) (packed (i + 3))) low)
-    ∙ which list i j low
-  where
-    which : (list : List Typed) (i j : ℕ) → j < 4 → record { pair = if j == 0 then pair_at list i else if j == 1 then pair_at list (i + 1) else if j == 2 then pair_at list (i + 2) else pair_at list (i + 3) } ≡ get_or list (i + j) no_word
-    which list i zero low = let same : i ≡ i + 0 = omega arith in ap (λ k. get_or list k no_word) same
-    which list i (suc zero) low = refl
-    which list i (suc (suc zero)) low = refl
-    which list i (suc (suc (suc zero))) low = refl
-    which list i (suc (suc (suc (suc j)))) low = absurd (omega (arith, low))
+-- a place's weight, as the code computes it
+pub weight_is : (n : ℕ) → n < 64 → 1 * 2 ^ n % 18446744073709551616 ≡ 2 ^ n
+weight_is n few = let most : 2 ^ n ≤ 2 ^ 63 = pow_mono {i = n} {j = 63} (omega (arith, few)) in omega (arith, most)
 
-module _ (list : List Typed) (packed : (k : ℕ) → ArePacked (get_or list k no_word)) (start n : ℕ) (masks : List ℕ) (at : (m : ℕ) → m < div_ceil n 4 → get_or masks (start + m) 0 ≡ four_in list (4 * m)) where
-  kept_is : (i : ℕ) → i < n → kept_typed masks start i ≡ get_or list i no_word
-  kept_is i lt =
-      let m : i / 4 < div_ceil n 4 = omega (arith, lt) in
-      let low : i % 4 < 4 = omega arith in
-      let same : 4 * (i / 4) + i % 4 ≡ i = omega arith in
-      ap (λ k. typed_of k (i % 4)) (at (i / 4) m) ∙ four_parts list (4 * (i / 4)) (i % 4) packed low ∙ ap (λ k. get_or list k no_word) same
+-- some bits with a 1 before them
+pub sealed_bits : (value count : ℕ) → value < 2 ^ count → count < 64 → bits_in (value + 2 ^ count) ≡ bits_of count value
+sealed_bits value count small few =
+    let low : (value + 2 ^ count) % 2 ^ count ≡ value = past count value small in
+    ap (λ n. bits_of n (value + 2 ^ count)) (sealed_width value count small few) ∙ sym (bits_of-mod count (value + 2 ^ count)) ∙ ap (bits_of count) low
 
-  pub kept_packed : (m : ℕ) → m < div_ceil n 4 → AreFour (get_or masks (start + m) 0)
-  kept_packed m lt = record {
-    at = λ j low. subst ArePacked (sym (ap (λ k. typed_of k j) (at m lt) ∙ four_parts list (4 * m) j packed low)) (packed (4 * m + j));
-  }
+-- ---- the bits of some masks
 
-  pub kept_said : kept_entries masks start n ≡ flat_map (entries_at list) (span 0 n)
-  kept_said = flat_map-span-below (λ i. entries_of (kept_typed masks start i)) (entries_at list) 0 n
-      (λ i lt. let place : 0 + i ≡ i = omega arith in ap (λ k. entries_of (kept_typed masks start k)) place ∙ ap entries_of (kept_is i lt) ∙ ap (entries_at list) (sym place))
+abbrev pub bits_at : List ℕ → ℕ → List Bool
+bits_at masks m = bits_in (get_or masks m 0)
 
--- ---- words into masks
+pub no_masks : (masks : List ℕ) (from : ℕ) → bits_between masks from from ≡ []
+no_masks masks from = let none : from - from ≡ 0 = omega arith in ap (λ n. flat_map (bits_at masks) (span from n)) none ∙ flat_map-span-none (bits_at masks) from
 
-pub fills_none : (list : List Typed) (start : ℕ) (masks : List ℕ) → Fills list start 0 masks masks
-fills_none list start masks = record { at = λ m lt. absurd (omega (arith, lt)); before = λ k lt. refl }
+pub one_mask_more : (masks : List ℕ) (from to : ℕ) → from ≤ to → bits_between masks from (to + 1) ≡ bits_between masks from to ++ bits_at masks to
+one_mask_more masks from to order =
+    let more : to + 1 - from ≡ to - from + 1 = omega (arith, order) in
+    let last : from + (to - from) ≡ to = omega (arith, order) in
+    ap (λ n. flat_map (bits_at masks) (span from n)) more ∙ flat_map-span-suc (bits_at masks) from (to - from) ∙ ap (λ m. bits_between masks from to ++ bits_at masks m) last
 
-pub fills_more : {list : List Typed} {start n : ℕ} {a b c : List ℕ} → start + n < length b → Fills list start n a b → c ≡ set b (start + n) (four_in list (4 * n)) → Fills list start (n + 1) a c
-fills_more {list} {start} {n} {a} {b} {c} within so is = record {
-  at = λ m lt. rw is (elim (cases_eq m n) [
-    | inl same ↦ rw same (get_or-set_same b (start + n) (four_in list (4 * n)) 0 within)
-    | inr other ↦ get_or-set_other b (start + n) (start + m) (four_in list (4 * n)) 0 (λ e. other (omega (arith, e))) ∙ so.at m (omega (arith, lt, other))
-  ]);
-  before = λ k lt. rw is (get_or-set_other b (start + n) k (four_in list (4 * n)) 0 (λ e. omega (arith, e, lt)) ∙ so.before k lt);
-}
-
--- a list with its place, among all masks of a gaggle
-module _ {most : ℕ} (words : Words most) (n start : ℕ) (masks : List ℕ) (is : n ≡ words.count)
-    (at : start + div_ceil n 4 ≤ 32 → (m : ℕ) → m < div_ceil n 4 → get_or masks (start + m) 0 ≡ four_in words.list (4 * m)) where
-  pub list_packed : ArePackedFrom masks start n
-  list_packed = record { at = λ room. kept_packed words.list words.packed start n masks (at room) }
-
-  pub list_kept : (entries : List Entry) → AreAlike (listed words) entries → start + div_ceil n 4 ≤ 32 → AreAlike (kept_entries masks start n) entries
-  list_kept entries alike room = ap (filter has_bits) (kept_said words.list words.packed start n masks (at room) ∙ ap (λ k. flat_map (entries_at words.list) (span 0 k)) is) ∙ alike
-
-at_later : {list : List Typed} {start n : ℕ} {a b : List ℕ} (c : List ℕ) → Fills list start n a b → ((k : ℕ) → k < start + n → get_or c k 0 ≡ get_or b k 0) → (m : ℕ) → m < n → get_or c (start + m) 0 ≡ four_in list (4 * m)
-at_later {list} {start} c fills same m lt = same (start + m) (omega (arith, lt)) ∙ fills.at m lt
-
--- the count of words in each list, and then the lists
-module _ (words : GaggleWords) (counts s t : ℕ) (m0 m1 m2 m3 m4 : List ℕ) (some : 0 < length m0) (is : counts ≡ words.parents.count + 2 ^ 16 * words.children.count + 2 ^ 32 * words.grandchildren.count)
-    (head : m1 ≡ set m0 0 counts) (s_is : s ≡ 1 + div_ceil words.parents.count 4) (t_is : t ≡ s + div_ceil words.children.count 4)
-    (first : 1 + div_ceil words.parents.count 4 ≤ 32 → Fills words.parents.list 1 (div_ceil words.parents.count 4) m1 m2) (before_first : (k : ℕ) → k < 1 → get_or m2 k 0 ≡ get_or m1 k 0)
-    (next : s + div_ceil words.children.count 4 ≤ 32 → Fills words.children.list s (div_ceil words.children.count 4) m2 m3) (before_next : (k : ℕ) → k < s → get_or m3 k 0 ≡ get_or m2 k 0)
-    (last : t + div_ceil words.grandchildren.count 4 ≤ 32 → Fills words.grandchildren.list t (div_ceil words.grandchildren.count 4) m3 m4) (before_last : (k : ℕ) → k < t → get_or m4 k 0 ≡ get_or m3 k 0) where
-  first_is : get_or m4 0 0 ≡ counts
-  first_is = before_last 0 (omega (arith, s_is, t_is)) ∙ before_next 0 (omega (arith, s_is)) ∙ before_first 0 (omega arith) ∙ ap (λ l. get_or l 0 0) head ∙ get_or-set_same m0 0 counts 0 some
-
-  parents_are : count_in m4 0 ≡ words.parents.count
-  parents_are = omega (arith, first_is, is, words.parents.within, words.children.within, words.grandchildren.within)
-
-  children_are : count_in m4 1 ≡ words.children.count
-  children_are = omega (arith, first_is, is, words.parents.within, words.children.within, words.grandchildren.within)
-
-  grandchildren_are : count_in m4 2 ≡ words.grandchildren.count
-  grandchildren_are = omega (arith, first_is, is, words.parents.within, words.children.within, words.grandchildren.within)
-
-  second_is : second m4 ≡ s
-  second_is = ap (λ n. 1 + div_ceil n 4) parents_are ∙ sym s_is
-
-  third_is : third m4 ≡ t
-  third_is = ap (λ n. second m4 + div_ceil n 4) children_are ∙ ap (λ n. n + div_ceil words.children.count 4) second_is ∙ sym t_is
-
-  parents_at : 1 + div_ceil (count_in m4 0) 4 ≤ 32 → (m : ℕ) → m < div_ceil (count_in m4 0) 4 → get_or m4 (1 + m) 0 ≡ four_in words.parents.list (4 * m)
-  parents_at = rw parents_are (λ room. at_later m4 (first room) (λ k lt. before_last k (omega (arith, lt, s_is, t_is)) ∙ before_next k (omega (arith, lt, s_is))))
-
-  children_at : second m4 + div_ceil (count_in m4 1) 4 ≤ 32 → (m : ℕ) → m < div_ceil (count_in m4 1) 4 → get_or m4 (second m4 + m) 0 ≡ four_in words.children.list (4 * m)
-  children_at = rw (second_is, children_are) (λ room. at_later m4 (next room) (λ k lt. before_last k (omega (arith, lt, t_is))))
-
-  grandchildren_at : third m4 + div_ceil (count_in m4 2) 4 ≤ 32 → (m : ℕ) → m < div_ceil (count_in m4 2) 4 → get_or m4 (third m4 + m) 0 ≡ four_in words.grandchildren.list (4 * m)
-  grandchildren_at = rw (third_is, grandchildren_are) (λ room. at_later m4 (last room) (λ k lt. refl))
-
-  pub all_kept : (sent : Stage → List Entry) → HasWords 0 sent words → Keeps sent m4
-  all_kept sent has = record {
-    kept = record {
-      parents_few = omega (arith, parents_are, words.parents.within);
-      children_few = omega (arith, children_are, words.children.within);
-      grandchildren_few = omega (arith, grandchildren_are, words.grandchildren.within);
-      parents = list_packed words.parents (count_in m4 0) 1 m4 parents_are parents_at;
-      children = list_packed words.children (count_in m4 1) (second m4) m4 children_are children_at;
-      grandchildren = list_packed words.grandchildren (count_in m4 2) (third m4) m4 grandchildren_are grandchildren_at;
-    };
-    parents = list_kept words.parents (count_in m4 0) 1 m4 parents_are parents_at (sent Parents) (has.parents refl);
-    children = list_kept words.children (count_in m4 1) (second m4) m4 children_are children_at (sent Children) (has.children refl);
-    grandchildren = list_kept words.grandchildren (count_in m4 2) (third m4) m4 grandchildren_are grandchildren_at (sent Grandchildren) (has.grandchildren refl);
-  }
-
--- ---- words from masks
-
--- the words of a number of masks are in a list
-pub record Loaded (masks : List ℕ) (start n : ℕ) (list : List Typed) : Type 0 where
-  pub at : (k : ℕ) → k < 4 * n → get_or list k no_word ≡ kept_typed masks start k
-
-pub none_loaded : (masks : List ℕ) (start : ℕ) (list : List Typed) → Loaded masks start 0 list
-none_loaded masks start list = record { at = λ k lt. absurd (omega (arith, lt)) }
-
-module _ (a : List Typed) (i : ℕ) (w x y z : Typed) (within : i + 4 ≤ length a) where
-  abbrev four_set : List Typed
-  four_set = set (set (set (set a i w) (i + 1) x) (i + 2) y) (i + 3) z
-
-  set_before : (k : ℕ) → k < i → get_or four_set k no_word ≡ get_or a k no_word
-  set_before k lt = grind (arith, get_or-set_other)
-
-  set_first : get_or four_set i no_word ≡ w
-  set_first = grind (arith, get_or-set_other, get_or-set_same, length-set)
-
-  set_second : get_or four_set (i + 1) no_word ≡ x
-  set_second = grind (arith, get_or-set_other, get_or-set_same, length-set)
-
-  set_third : get_or four_set (i + 2) no_word ≡ y
-  set_third = grind (arith, get_or-set_other, get_or-set_same, length-set)
-
-  set_fourth : get_or four_set (i + 3) no_word ≡ z
-  set_fourth = grind (arith, get_or-set_other, get_or-set_same, length-set)
-
-pub more_loaded : {masks : List ℕ} {start n mask : ℕ} {a b : List Typed} → 4 * n + 4 ≤ length a → mask ≡ get_or masks (start + n) 0 → Loaded masks start n a →
-    b ≡ set (set (set (set a (4 * n) (typed_of mask 0)) (4 * n + 1) (typed_of mask 1)) (4 * n + 2) (typed_of mask 2)) (4 * n + 3) (typed_of mask 3) → Loaded masks start (n + 1) b
-more_loaded {masks} {start} {n} {mask} {a} {b} within is so put = record {
-  at = λ k lt. rw put (elim (cases_lt k (4 * n)) [
-    | inl before ↦ set_before a (4 * n) (typed_of mask 0) (typed_of mask 1) (typed_of mask 2) (typed_of mask 3) within k before ∙ so.at k before
-    | inr from ↦ elim (last_four k (4 * n) from (omega (arith, lt))) [
-      | inl e ↦ rw e (set_first a (4 * n) (typed_of mask 0) (typed_of mask 1) (typed_of mask 2) (typed_of mask 3) within ∙ of_mask 0 (4 * n) (omega arith) (omega arith))
-      | inr (inl e) ↦ rw e (set_second a (4 * n) (typed_of mask 0) (typed_of mask 1) (typed_of mask 2) (typed_of mask 3) within ∙ of_mask 1 (4 * n + 1) (omega arith) (omega arith))
-      | inr (inr (inl e)) ↦ rw e (set_third a (4 * n) (typed_of mask 0) (typed_of mask 1) (typed_of mask 2) (typed_of mask 3) within ∙ of_mask 2 (4 * n + 2) (omega arith) (omega arith))
-      | inr (inr (inr e)) ↦ rw e (set_fourth a (4 * n) (typed_of mask 0) (typed_of mask 1) (typed_of mask 2) (typed_of mask 3) within ∙ of_mask 3 (4 * n + 3) (omega arith) (omega arith))
-    ]
-  ]);
-}
-  where
-    last_four : (k i : ℕ) → i ≤ k → k < i + 4 → (k ≡ i) ⊎ ((k ≡ i + 1) ⊎ ((k ≡ i + 2) ⊎ (k ≡ i + 3)))
-    last_four k i from lt = grind arith
-
-    of_mask : (j k : ℕ) → j < 4 → k ≡ 4 * n + j → typed_of mask j ≡ kept_typed masks start k
-    of_mask j k low e =
-        let m : k / 4 ≡ n = omega (arith, low, e) in
-        let r : k % 4 ≡ j = omega (arith, low, e) in
-        rw (m, r) (ap (λ q. typed_of q j) is)
-
-pub all_loaded : {masks : List ℕ} {start n count : ℕ} {list : List Typed} → count ≤ 4 * n → Loaded masks start n list → flat_map (entries_at list) (span 0 count) ≡ kept_entries masks start count
-all_loaded {masks} {start} {n} {count} {list} few so = flat_map-span-below (entries_at list) (λ i. entries_of (kept_typed masks start i)) 0 count
-    (λ i lt. ap entries_of (so.at (0 + i) (omega (arith, lt, few))))
+pub same_between : (a b : List ℕ) (from to : ℕ) → ((k : ℕ) → from ≤ k → k < to → get_or a k 0 ≡ get_or b k 0) → bits_between a from to ≡ bits_between b from to
+same_between a b from to same =
+    flat_map-span-below (bits_at a) (bits_at b) from (to - from) (λ n lt. ap bits_in (same (from + n) (omega arith) (omega (arith, lt))))

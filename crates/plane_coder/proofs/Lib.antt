@@ -20,3 +20,4 @@ mod Keeping
 mod Sliced
 mod SlicedGroups
 mod SlicedNumbers
+mod KeptBits

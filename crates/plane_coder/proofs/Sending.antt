@@ -1,5 +1,5 @@
 -- Items put one stretch of a span after another.
-use Rattle.std.proofs.Common.{◌≡◌, ℕ, zero, suc, add-one, ◌+◌, ◌-◌, ◌*◌, ◌/◌, ◌<◌, ℤ, false, List, [], ◌∷◌, ◌++◌, length, ap, sym, ◌∙◌, subst, arith, append_assoc, zero-add, get_or, Result, Ok, Err, OnOk}
+use Rattle.std.proofs.Common.{◌≡◌, ℕ, zero, suc, add-one, ◌+◌, ◌-◌, ◌*◌, ◌/◌, ◌<◌, ℤ, false, List, [], ◌∷◌, ◌++◌, length, ap, sym, ◌∙◌, subst, arith, append_assoc, zero-add, get_or, Result, Ok, Err}
 use Rattle.std.specs.List.{flat_map, list_any}
 use Rattle.std.proofs.lemmas.Bool.Decides.{nat_tests}
 use Rattle.item_defs.specs.Items.{Item, text}
@@ -10,7 +10,6 @@ use Rattle.bit_pipe.specs.declared.fault.PutFault.{PutFault}
 use Rattle.bit_pipe.proofs.Putting.{adds_start, adds_then, puts_ended, puts_whole}
 use Rattle.base_122.specs.declared.book.Book.{Book}
 use Rattle.plane_defs.specs.declared.entries.Entry.{Entry}
-use Rattle.plane_defs.specs.declared.stages.Stage.{Stage}
 use Rattle.plane_defs.specs.Spans.{span}
 use Rattle.plane_defs.specs.Entries.{stage_number}
 use Rattle.plane_defs.specs.Spelled.{spelled_after, is_word_of}
@@ -20,7 +19,7 @@ use Rattle.plane_defs.proofs.SpanLists.{flat_map-span-suc, flat_map-span-none, f
 use Rattle.block_masks.specs.declared.gaggle.Gaggle.{Gaggle}
 use Rattle.plane_coder.specs.declared.view.View.{View}
 use Rattle.block_masks.specs.Gaggles.{Agrees, AreKnown, SameMarks, options_at, AllAgree}
-use Rattle.plane_coder.specs.Spells.{Spells}
+use Rattle.plane_coder.specs.Spells.{Spells, PutsStage}
 use Rattle.plane_coder.specs.Chosen.{AreChosen}
 use Rattle.plane_coder.specs.Sends.{chosen_items}
 use Rattle.plane_coder.specs.Views.{plane_in}
@@ -87,27 +86,25 @@ module _ {S : Type 0} {k : SinkOf S} (f : ℕ → List Item) where
 pub before_more : (p : Plane) (j g : ℕ) → before_stage p j g ++ of_gaggle p (stage_number j) g ≡ before_stage p (j + 1) g
 before_more p j g = grind (arith, nat_tests, more_of_span, zero-add)
 
-gaggle_there : (view : View) (d0 d1 : List ℕ) (stage : Stage) (j g : ℕ) → d1 ≡ d0 → stage ≡ stage_number j →
-    of_gaggle (plane_in view d1) stage g ≡ of_gaggle (plane_in view d0) (stage_number j) g
-gaggle_there view d0 d1 stage j g same is = grind (arith, nat_tests)
+-- entries of a stage that were put are the stage
+pub stage_put : {S : Type 0} {k : SinkOf S} {book : Book} {p : Plane} {j g : ℕ} {a b : Gaggle} {r : Result (Unit {0}) PutFault} {s t : Standing S} →
+    Spells k book a b r s t (of_gaggle p (stage_number j) g) → PutsStage k book p j g a b r s t
+stage_put {p = p} {j = j} {g = g} {b = b} {r = r} put = record {
+  puts = λ agrees. put.puts (before_stage p j g) agrees;
+  agrees = λ agrees. on_ok_map r (subst (Agrees b.sent) (before_more p j g)) (put.agrees (before_stage p j g) agrees);
+  is_open = put.is_open;
+  options = put.options;
+}
 
-module _ {S : Type 0} {k : SinkOf S} {book : Book} (view : View) (d0 d1 : List ℕ) (options : ℕ → List ℕ) (stage : Stage) (j g : ℕ) {a b : Gaggle} {r : Result (Unit {0}) PutFault} {s t : Standing S} where
-  pub gaggle_puts : d1 ≡ d0 → stage ≡ stage_number j → a.options ≡ options g → Agrees a.sent (before_stage (plane_in view d0) j g) →
-      Spells k book a b r s t (of_gaggle (plane_in view d1) stage g) → Puts k r s t (text (gaggle_items book options (plane_in view d0) j g))
-  gaggle_puts same is chosen agrees p =
-      let before = before_stage (plane_in view d0) j g in
-      let items : spelled_after book a.options before (of_gaggle (plane_in view d1) stage g) ≡ gaggle_items book options (plane_in view d0) j g =
-      ap (λ o. spelled_after book o before (of_gaggle (plane_in view d1) stage g)) chosen ∙ ap (spelled_after book (options g) before) (gaggle_there view d0 d1 stage j g same is) in
-      subst (λ l. Puts k r s t (text l)) items (p.puts before agrees)
+-- a stage that was put has its items, with the gaggle's options
+pub stage_has_items : {S : Type 0} {k : SinkOf S} {book : Book} {p : Plane} {j g : ℕ} {a b : Gaggle} {r : Result (Unit {0}) PutFault} {s t : Standing S} (options : ℕ → List ℕ) →
+    a.options ≡ options g → Agrees a.sent (before_stage p j g) → PutsStage k book p j g a b r s t → Puts k r s t (text (gaggle_items book options p j g))
+stage_has_items {k = k} {book = book} {p = p} {j = j} {g = g} {r = r} {s = s} {t = t} options same agrees put =
+    subst (λ o. Puts k r s t (text (spelled_after book o (before_stage p j g) (of_gaggle p (stage_number j) g)))) same (put.puts agrees)
 
-pub gaggle_agrees : {S : Type 0} {k : SinkOf S} {book : Book} (view : View) (d0 d1 : List ℕ) (stage : Stage) (j g : ℕ) {a b : Gaggle} {r : Result (Unit {0}) PutFault} {s t : Standing S} →
-    d1 ≡ d0 → stage ≡ stage_number j → Agrees a.sent (before_stage (plane_in view d0) j g) →
-    Spells k book a b r s t (of_gaggle (plane_in view d1) stage g) → OnOk r (Agrees b.sent (before_stage (plane_in view d0) (j + 1) g))
-gaggle_agrees view d0 d1 stage j g {a} {b} {r} same is agrees p =
-    let before = before_stage (plane_in view d0) j g in
-    let more : before ++ of_gaggle (plane_in view d1) stage g ≡ before_stage (plane_in view d0) (j + 1) g =
-    ap (λ l. before ++ l) (gaggle_there view d0 d1 stage j g same is) ∙ before_more (plane_in view d0) j g in
-    on_ok_map r (subst (Agrees b.sent) more) (p.agrees before agrees)
+pub stage_in_plane : {S : Type 0} {k : SinkOf S} {book : Book} (view : View) {d0 d1 : List ℕ} {j g : ℕ} {a b : Gaggle} {r : Result (Unit {0}) PutFault} {s t : Standing S} →
+    d1 ≡ d0 → PutsStage k book (plane_in view d1) j g a b r s t → PutsStage k book (plane_in view d0) j g a b r s t
+stage_in_plane {k = k} {book = book} view {j = j} {g = g} {a = a} {b = b} {r = r} {s = s} {t = t} same put = subst (λ d. PutsStage k book (plane_in view d) j g a b r s t) same put
 
 -- ---- the same items by equal options and depths
 

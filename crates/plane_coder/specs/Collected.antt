@@ -1,13 +1,10 @@
 -- The words of a gaggle, stage by stage: of all three stages, or of only one.
-use Rattle.std.specs.Prelude.{◌≡◌, ◌<◌, ◌≤◌, ℕ, ◌+◌, ◌*◌, ◌==◌, ◌||◌, ◌⊎◌, Bool, true, ℤ, List, [], cond, length}
-use lib.ListN.{get_or}
+use Rattle.std.specs.Prelude.{◌≡◌, ◌≤◌, ℕ, ◌*◌, ◌==◌, ◌||◌, ◌⊎◌, Bool, true, List, [], cond}
 use Rattle.plane_defs.specs.declared.entries.Entry.{Entry}
 use Rattle.plane_defs.specs.declared.stages.Stage.{Stage}
 use Rattle.plane_defs.specs.declared.stages.Stage.TheVariants.{Parents, Children, Grandchildren}
-use Rattle.plane_defs.specs.Planes.{Plane, gaggles, of_gaggle}
 use Rattle.plane_coder.specs.declared.collect.GaggleWords.{GaggleWords}
 use Rattle.plane_coder.specs.Listed.{AreAlike, Lists, listed}
-use Rattle.plane_coder.specs.Kept.{free_masks, Keeps}
 
 -- a stage in which only raw bits are sent: the first or the last
 abbrev pub HasNoWords : ℕ → Type 0
@@ -28,18 +25,6 @@ pub record HasWords (wanted : ℕ) (sent : Stage → List Entry) (words : Gaggle
   pub parents : wants wanted 1 ≡ true → AreAlike (listed words.parents) (sent Parents)
   pub children : wants wanted 2 ≡ true → AreAlike (listed words.children) (sent Children)
   pub grandchildren : wants wanted 3 ≡ true → AreAlike (listed words.grandchildren) (sent Grandchildren)
-
--- the words of the first `count` gaggles, of as many as there is room for: the last place is for those of each other gaggle in turn
-pub record RoomFor (p : Plane) (count : ℕ) (room : List GaggleWords) : Type 0 where
-  pub at : (g : ℕ) (d : GaggleWords) → g < count → g + 1 < length room → HasWords 0 (λ stage. of_gaggle p stage g) (get_or room g d)
-
--- the words of the other gaggles of 16 blocks, among the first `count`, are in their free masks
-pub record FarKept (p : Plane) (count : ℕ) (cells : List ℤ) (places : ℕ) : Type 0 where
-  pub at : (g : ℕ) → g < count → places ≤ g + 1 → 1024 * g + 1024 ≤ length cells → Keeps (λ stage. of_gaggle p stage g) (free_masks cells (16 * g))
-
-pub record AreCollected (p : Plane) (cells : List ℤ) (room : List GaggleWords) : Type 0 where
-  pub near : RoomFor p (gaggles p) room
-  pub far : FarKept p (gaggles p) cells (length room)
 
 -- there are at most the words of this number of blocks
 pub record AreFew (words : GaggleWords) (blocks : ℕ) : Type 0 where

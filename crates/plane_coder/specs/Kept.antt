@@ -1,18 +1,20 @@
--- The words of gaggles for which there is no room, in masks that nothing else needs: those of slots 27 and 31 of the 16 blocks of a gaggle.
--- Four words are a mask, and b is the first block of the gaggle. (This project's own.)
-use Rattle.std.specs.Prelude.{◌≡◌, ◌<◌, ◌≤◌, ◌⊎◌, ℕ, ◌+◌, ◌*◌, ◌/◌, ◌%◌, ◌^◌, ℤ, List, length, map}
+-- The bits that the words of a gaggle send in stages 1 to 3, in masks that nothing else needs: those of slots 27 and 31 of the 16 blocks of
+-- the gaggle. b is the first block of the gaggle. (This project's own.)
+use Rattle.std.specs.Prelude.{◌≡◌, ◌<◌, ◌≤◌, ◌⊎◌, ℕ, ◌+◌, ◌-◌, ◌*◌, ◌/◌, ◌%◌, ◌^◌, Bool, ℤ, List, [], ◌∷◌, length, map}
 use Rattle.std.specs.List.{flat_map}
-use Rattle.std.specs.Int.{div_ceil}
+use Rattle.std.specs.Int.Count.{count_leading_zeros}
 use lib.ListN.{get_or}
+use Rattle.item_defs.specs.Bits.{bit, bits_of}
+use Rattle.item_defs.specs.Items.{text}
+use Rattle.base_122.specs.declared.book.Book.{Book}
 use Rattle.plane_defs.specs.Spans.{span}
-use Rattle.plane_defs.specs.declared.entries.Entry.{Entry}
-use Rattle.plane_defs.specs.declared.stages.Stage.{Stage}
-use Rattle.plane_defs.specs.declared.stages.Stage.TheVariants.{Parents, Children, Grandchildren}
+use Rattle.plane_defs.specs.Entries.{stage_number}
+use Rattle.plane_defs.specs.Planes.{Plane, gaggles, of_gaggle, before_stage}
+use Rattle.plane_defs.specs.Spelled.{spelled_after}
 use Rattle.block_masks.specs.declared.slices.Column.{Column}
 use Rattle.block_masks.specs.Slices.{IsColumn, mask_in}
-use Rattle.plane_coder.specs.declared.plane_masks.Typed.{Typed}
-use Rattle.plane_coder.specs.Picked.{ArePacked, entries_of, no_word}
-use Rattle.plane_coder.specs.Listed.{AreAlike}
+use Rattle.block_masks.specs.Gaggles.{Agrees}
+use Rattle.plane_coder.specs.declared.kept.KeptStage.{KeptStage}
 
 -- ---- free masks
 
@@ -35,67 +37,62 @@ pub record OnlyFree (b : ℕ) (old new : List ℤ) : Type 0 where
   pub slots : (r s : ℕ) → 64 * r < length old → s < 32 → (s ≡ 27 → ⊥) → (s ≡ 31 → ⊥) → mask_in new r s ≡ mask_in old r s
   pub others : (r s : ℕ) → 64 * r < length old → s < 32 → (r < b) ⊎ (b + 16 ≤ r) → mask_in new r s ≡ mask_in old r s
 
--- ---- words in masks
+-- ---- bits in masks
 
--- word j of a mask
-abbrev pub typed_of : (mask j : ℕ) → Typed
-typed_of mask j = record { pair = mask / 2 ^ (16 * j) % 2 ^ 16 }
+-- how many bits a mask has below its highest 1
+abbrev pub width_in : ℕ → ℕ
+width_in mask = 63 - count_leading_zeros 64 mask
 
--- its four words are packed
-pub record AreFour (mask : ℕ) : Type 0 where
-  pub at : (j : ℕ) → j < 4 → ArePacked (typed_of mask j)
+-- these bits
+abbrev pub bits_in : ℕ → List Bool
+bits_in mask = bits_of (width_in mask) mask
 
-abbrev pub pair_at : List Typed → ℕ → ℕ
-pair_at list i = (get_or list i no_word).pair
+-- the bits of some masks, one mask after another
+abbrev pub bits_between : List ℕ → (from to : ℕ) → List Bool
+bits_between masks from to = flat_map (λ m. bits_in (get_or masks m 0)) (span from (to - from))
 
--- four words of a list, as a mask
-abbrev pub four_in : List Typed → ℕ → ℕ
-four_in list i = pair_at list i + 2 ^ 16 * pair_at list (i + 1) + 2 ^ 32 * pair_at list (i + 2) + 2 ^ 48 * pair_at list (i + 3)
+-- ---- the bits of a gaggle
 
--- the first masks of a list of words are from place `start` on, and those before it stay
-pub record Fills (list : List Typed) (start count : ℕ) (old new : List ℕ) : Type 0 where
-  pub at : (m : ℕ) → m < count → get_or new (start + m) 0 ≡ four_in list (4 * m)
-  pub before : (k : ℕ) → k < start → get_or new k 0 ≡ get_or old k 0
+-- The first mask has octets. Octet n, of 0 to 3, is where the masks of stage n end and those of stage n + 1 begin: above 32 if stage n has
+-- no room. Octet 3 + n says which words were sent up to stage n.
+abbrev pub octet_in : List ℕ → ℕ → ℕ
+octet_in masks n = get_or masks 0 0 / 2 ^ (8 * n) % 2 ^ 8
 
--- word i from mask `start` on
-abbrev pub kept_typed : List ℕ → (start i : ℕ) → Typed
-kept_typed masks start i = typed_of (get_or masks (start + i / 4) 0) (i % 4)
+-- they are these
+pub record HasOctets (masks places words : List ℕ) : Type 0 where
+  pub first : octet_in masks 0 ≡ 1
+  pub ends : (n : ℕ) → n < 3 → octet_in masks (1 + n) ≡ get_or places n 0
+  pub flags : (n : ℕ) → n < 3 → octet_in masks (4 + n) ≡ get_or words n 0
 
--- the entries of a number of words
-abbrev pub kept_entries : List ℕ → (start count : ℕ) → List Entry
-kept_entries masks start count = flat_map (λ i. entries_of (kept_typed masks start i)) (span 0 count)
+-- an octet says whether a word of two, three and four bits was sent
+abbrev pub flags_in : ℕ → List Bool
+flags_in octet = bit octet 0 ∷ bit octet 1 ∷ bit octet 2 ∷ []
 
--- ---- the lists of a gaggle
+-- the bits of a stage, and the flags after it
+pub record KeepsStage (book : Book) (options : List ℕ) (p : Plane) (g number : ℕ) (masks : List ℕ) : Type 0 where
+  pub bits : bits_between masks (octet_in masks (number - 1)) (octet_in masks number) ≡ text (spelled_after book options (before_stage p number g) (of_gaggle p (stage_number number) g))
+  pub flags : Agrees (flags_in (octet_in masks (3 + number))) (before_stage p (number + 1) g)
 
--- the first mask has how many words are in each list
-abbrev pub count_in : List ℕ → ℕ → ℕ
-count_in masks n = (typed_of (get_or masks 0 0) n).pair
+-- those of each stage that has room
+pub record Keeps (book : Book) (options : List ℕ) (p : Plane) (g : ℕ) (masks : List ℕ) : Type 0 where
+  pub at : (number : ℕ) → 0 < number → number < 4 → octet_in masks number ≤ 32 → KeepsStage book options p g number masks
 
-abbrev pub size_of : List ℕ → ℕ → ℕ
-size_of masks n = div_ceil (count_in masks n) 4
+-- those of each gaggle of 16 blocks, among the first `count` gaggles
+pub record KeepFirst (book : Book) (options : ℕ → List ℕ) (p : Plane) (count : ℕ) (cells : List ℤ) : Type 0 where
+  pub at : (g : ℕ) → g < count → 1024 * g + 1024 ≤ length cells → Keeps book (options g) p g (free_masks cells (16 * g))
 
--- the places of the second and the third list
-abbrev pub second : List ℕ → ℕ
-second masks = 1 + size_of masks 0
+-- those of all gaggles
+abbrev pub AreKept : (book : Book) (options : ℕ → List ℕ) (p : Plane) (cells : List ℤ) → Type 0
+AreKept book options p cells = KeepFirst book options p (gaggles p) cells
 
-abbrev pub third : List ℕ → ℕ
-third masks = second masks + size_of masks 1
+-- ---- where the bits of a stage are
 
--- the words of a list are packed, if there is room for them
-pub record ArePackedFrom (masks : List ℕ) (start count : ℕ) : Type 0 where
-  pub at : start + div_ceil count 4 ≤ 32 → (m : ℕ) → m < div_ceil count 4 → AreFour (get_or masks (start + m) 0)
-
-pub record AreKept (masks : List ℕ) : Type 0 where
-  pub parents_few : count_in masks 0 ≤ 16
-  pub children_few : count_in masks 1 ≤ 80
-  pub grandchildren_few : count_in masks 2 ≤ 256
-  pub parents : ArePackedFrom masks 1 (count_in masks 0)
-  pub children : ArePackedFrom masks (second masks) (count_in masks 1)
-  pub grandchildren : ArePackedFrom masks (third masks) (count_in masks 2)
-
--- these are the words of a gaggle; a list for which there is no room is missing
-pub record Keeps (sent : Stage → List Entry) (masks : List ℕ) : Type 0 where
-  pub kept : AreKept masks
-  pub parents : 1 + size_of masks 0 ≤ 32 → AreAlike (kept_entries masks 1 (count_in masks 0)) (sent Parents)
-  pub children : second masks + size_of masks 1 ≤ 32 → AreAlike (kept_entries masks (second masks) (count_in masks 1)) (sent Children)
-  pub grandchildren : third masks + size_of masks 2 ≤ 32 → AreAlike (kept_entries masks (third masks) (count_in masks 2)) (sent Grandchildren)
+-- the masks of a stage of gaggle g, and the flags after it
+pub record IsStageOf (cells : List ℤ) (number g : ℕ) (kept : KeptStage) : Type 0 where
+  pub full : 1024 * g + 1024 ≤ length cells
+  pub first : IsFull cells kept.first
+  pub block : kept.first.block ≡ 16 * g
+  pub from : kept.from ≡ octet_in (free_masks cells (16 * g)) (number - 1)
+  pub to : kept.to ≡ octet_in (free_masks cells (16 * g)) number
+  pub room : kept.to ≤ 32
+  pub sent : kept.sent ≡ flags_in (octet_in (free_masks cells (16 * g)) (3 + number))

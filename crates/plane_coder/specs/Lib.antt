@@ -14,3 +14,4 @@ pub mod Listed
 pub mod Collected
 pub mod Sliced
 pub mod Kept
+pub mod Left

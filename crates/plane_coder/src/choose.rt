@@ -1,24 +1,22 @@
 // The options of all gaggles, by the words of stages 1 to 3.
 
 ghost use Rattle.std.specs.Prelude.{◌≡◌, ◌+◌, ◌-◌, ◌*◌, ◌<◌, ◌≤◌, ◌%◌, ◌^◌, ◌++◌, List, [], ◌∷◌, length, slice_index_or};
-ghost use Rattle.plane_defs.specs.declared.entries.Entry.{Entry};
-ghost use Rattle.plane_defs.specs.declared.stages.Stage.{Stage};
-ghost use Rattle.plane_coder.specs.declared.collect.GaggleWords.{GaggleWords as Gathered};
 ghost use Rattle.block_masks.specs.Slices.{numbers_in};
 ghost use Rattle.plane_defs.specs.Choice.{cheapest};
-ghost use Rattle.plane_defs.specs.Planes.{of_gaggle, chosen};
+ghost use Rattle.plane_defs.specs.Planes.{Plane, of_gaggle, before_stage, chosen};
 ghost use Rattle.plane_defs.specs.Marks.{depths_of};
-ghost use Rattle.block_masks.specs.Gaggles.{AreOptions};
+ghost use Rattle.block_masks.specs.Gaggles.{Agrees, AreOptions};
 ghost use Rattle.plane_coder.specs.Tallies.{CountsOf, AreAtMost, counts_in};
 ghost use Rattle.plane_coder.specs.Listed.{listed};
-ghost use Rattle.plane_coder.specs.Collected.{HasWords, RoomFor, AreCollected};
-ghost use Rattle.plane_coder.specs.Kept.{free_masks, OnlyFree, Keeps};
+ghost use Rattle.plane_coder.specs.Collected.{HasWords};
+ghost use Rattle.plane_coder.specs.Kept.{free_masks, OnlyFree, Keeps, AreKept};
 ghost use Rattle.plane_coder.specs.Sliced.{AreSliced, AreAbove, SameNumbers};
 ghost use Rattle.plane_coder.specs.Chosen.{Chooses};
 ghost use Rattle.plane_coder.specs.Views.{plane_in, plane_at};
 
 use crate::collect::{ALL, GaggleWords, collect_gaggle};
 use crate::kept::keep;
+use crate::option_codes::OptionCodes;
 use crate::tables::CodeTables;
 use crate::tally::Tally;
 use crate::view::View;
@@ -62,52 +60,48 @@ fn choose_options(words: &mut GaggleWords, view: &View, marks: &[i32], g: usize)
     best_options(&view.tables.book, &tally)
 }
 
-// Returns the options of gaggle g. Its words stay in its place if it has one, and are in the last place otherwise.
-fn choose_kept(room: &mut [GaggleWords], view: &View, marks: &[i32], g: usize) -> [u8; 3]
-    requires whole { length view.now.cells.now ≡ 64 * length marks.now }
-    requires within { 16 * g < length marks.now }
-    requires room { 0 < length room.old }
-    ensures chosen { result ≡ chosen view.now.tables.now.book (plane_in view.now (depths_of marks.now)) g }
-    ensures known { AreOptions result }
-    ensures long { length room.new ≡ length room.old }
-    ensures keeps { RoomFor (plane_in view.now (depths_of marks.now)) g room.old → RoomFor (plane_in view.now (depths_of marks.now)) (g + 1) room.new }
-    ensures last { length room.old ≤ g + 1 → (d : Gathered) → HasWords 0 (λ stage. of_gaggle (plane_in view.now (depths_of marks.now)) stage g) (slice_index_or room.new (length room.old - 1) d) }
-{
-    let place = g.min(room.len() - 1);
-    choose_options(&mut room[place], view, marks, g)
-}
-
-// Puts the words of gaggle g, which are in the last place, into its free masks, if it has no place of its own and 16 blocks.
-fn keep_far(cells: &mut [i32], room: &[GaggleWords], g: usize)
+// Puts the bits of the words of gaggle g into its free masks, if it has 16 blocks.
+fn keep_gaggle(
+    cells: &mut [i32],
+    tables: &CodeTables,
+    gaggle: Gaggle,
+    words: &GaggleWords,
+    g: usize,
+)
     requires whole { length cells.old % 64 ≡ 0 }
     requires within { 1024 * g < length cells.old }
-    requires room { 0 < length room.now }
-    ensures keeps { (sent : Stage → List Entry) → length room.now ≤ g + 1 → 1024 * g + 1024 ≤ length cells.old →
-        ((d : Gathered) → HasWords 0 sent (slice_index_or room.now (length room.now - 1) d)) → Keeps sent (free_masks cells.new (16 * g)) }
+    requires known { AreOptions gaggle.options }
+    ensures keeps { (p : Plane) → 1024 * g + 1024 ≤ length cells.old → Agrees gaggle.sent (before_stage p 1 g) → HasWords 0 (λ stage. of_gaggle p stage g) words.now →
+        Keeps tables.now.book gaggle.options p g (free_masks cells.new (16 * g)) }
     ensures only { OnlyFree (16 * g) cells.old cells.new }
 {
-    if g + 1 < room.len() || cells.len() < 1024 * g + 1024 {
+    if cells.len() < 1024 * g + 1024 {
         return;
     }
-    keep(cells, Column::of(cells, 16 * g), &room[room.len() - 1]);
+    let option_codes = OptionCodes::new(tables, gaggle.options);
+    keep(
+        cells,
+        Column::of(cells, 16 * g),
+        &option_codes,
+        gaggle,
+        words,
+    );
 }
 
-// Stores the options of each gaggle in the states, with no word sent yet. The words of as many gaggles as there is room for stay there,
-// and those of the others in their free masks.
+// Stores the options of each gaggle in the states, with no word sent yet, and keeps the bits of its words. `words` is room for the words of
+// a gaggle.
 pub(crate) fn choose_all(
     cells: &mut [i32],
     marks: &mut [i32],
     plan: &CodedPlane,
     tables: &CodeTables,
-    room: &mut [GaggleWords],
+    words: &mut GaggleWords,
 )
     requires whole { length cells.old ≡ 64 * length marks.old }
-    requires room { 0 < length room.old }
     requires sliced { AreSliced cells.old }
     requires above { AreAbove (plan.now.plane + 1) cells.old }
-    ensures long { length room.new ≡ length room.old }
     ensures chosen { Chooses tables.now.book (plane_at (numbers_in cells.old) (depths_of marks.old) plan.now) marks.old marks.new }
-    ensures words { AreCollected (plane_at (numbers_in cells.old) (depths_of marks.old) plan.now) cells.new room.new }
+    ensures kept { AreKept tables.now.book (chosen tables.now.book (plane_at (numbers_in cells.old) (depths_of marks.old) plan.now)) (plane_at (numbers_in cells.old) (depths_of marks.old) plan.now) cells.new }
     ensures same { SameNumbers cells.old cells.new }
 {
     for g in 0..marks.len().div_ceil(16) {
@@ -116,9 +110,10 @@ pub(crate) fn choose_all(
             plan,
             tables,
         };
-        let options = choose_kept(room, &view, marks, g);
-        keep_far(cells, room, g);
+        let options = choose_options(words, &view, marks, g);
         let sent = [false; 3];
-        store(marks, g, Gaggle { options, sent });
+        let gaggle = Gaggle { options, sent };
+        keep_gaggle(cells, tables, gaggle, words, g);
+        store(marks, g, gaggle);
     }
 }

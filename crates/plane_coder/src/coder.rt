@@ -10,17 +10,17 @@ ghost use Rattle.plane_coder.specs.Sliced.{AreSliced, AreAbove};
 ghost use Rattle.plane_coder.specs.Views.{plane_of};
 
 use crate::collect::GaggleWords;
-use crate::plane::{Source, put_plane_with, put_settling};
+use crate::plane::{Source, put_settling};
 use crate::tables::CodeTables;
 use bit_pipe::{BitOut, OctetOut, PutFault};
 use block_masks::PlanePlan;
 
-/// The codes for the planes of one segment, and room for the words of a plane.
+/// The codes for the planes of one segment, and room for the words of a gaggle.
 #[derive(Drop)]
 pub struct PlaneCoder<'a> {
     tables: &'a CodeTables,
-    // The words of the present plane, if the segment has at most 64 blocks. They are here so that no plane fills their room with nothing.
-    room: [GaggleWords; 5],
+    // Room for the words of a gaggle.
+    words: GaggleWords,
 }
 
 impl<'a> PlaneCoder<'a> {
@@ -32,7 +32,7 @@ impl<'a> PlaneCoder<'a> {
     {
         PlaneCoder {
             tables,
-            room: [GaggleWords::new(); 5],
+            words: GaggleWords::new(),
         }
     }
 
@@ -58,13 +58,10 @@ impl<'a> PlaneCoder<'a> {
         ensures above { AreAbove plan.now.plane cells.new }
         ensures book { book_of self.new ≡ book_of self.old }
     {
-        if marks.len() > 64 {
-            return put_plane_with(out, cells, marks, plan, self.tables);
-        }
         let source = Source {
             plan,
             tables: self.tables,
         };
-        put_settling(out, cells, marks, &source, &mut self.room)
+        put_settling(out, cells, marks, &source, &mut self.words)
     }
 }

@@ -4,10 +4,11 @@
 //! block in a plane. `plane_masks` has the word and the signs that each set of positions and flags sends, by masks and tables.
 //! `fours` looks up the types of four positions with their signs, without a test of whether their set is significant. `collect`
 //! makes lists of the words of a gaggle in stages 1 to 3 (`words`), without those that have no bits. `choose` counts the words of
-//! these lists with `tally` and chooses the gaggle's options. Then `stages` puts the lists stage by stage with `put`, which collects
-//! bits in a `pending`; the first and the last stage, which have no words, go over the blocks. The states of the blocks keep the
-//! options meanwhile, and `kept` has the words of gaggles for which there is no room, in masks that no plane needs. At the end of a
-//! plane, the masks are prepared for the plane below (`plane`).
+//! these lists with `tally` and chooses the gaggle's options. While the words are at hand, `kept` makes their bits, which are collected
+//! in a `pending`, and puts them into masks of the gaggle's blocks that no plane needs. Then `stages` puts these bits stage by stage. The
+//! words of a stage for whose bits a gaggle has no room are found again, and put with `put`. The first and the last stage, which have no
+//! words, go over the blocks. The states of the blocks have the options meanwhile. At the end of a plane, the masks are prepared for
+//! the plane below (`plane`).
 //!
 //! `block_masks` has what the reader of planes needs too: plans, masks and their places, sets of positions and the
 //! states of blocks.

@@ -53,6 +53,7 @@ pub(crate) struct PendingBits {
 
 impl PendingBits {
     ghost use Rattle.plane_coder.specs.Appends.{Appends, load, said, Opens};
+    ghost use Rattle.plane_coder.specs.Kept.{bits_in};
 
     // Returns a collection without bits.
     #[inline(always)]
@@ -157,6 +158,19 @@ impl PendingBits {
         ensures { OnTrue result (load self.now + 12 ≤ 63) }
     {
         self.count <= 46
+    }
+
+    // Returns the bits with a 1 before them, so that none are left.
+    #[inline(always)]
+    pub fn seal(&mut self) -> u64
+        ensures bits { bits_in result ≡ said self.old }
+        ensures silent { self.new.count ≡ 0 }
+        ensures gaggle { self.new.gaggle ≡ self.old.gaggle }
+    {
+        let mask = self.value + (1 << self.count);
+        self.value = 0;
+        self.count = 0;
+        mask
     }
 
     // Puts the bits, so that none are left.

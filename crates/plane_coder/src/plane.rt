@@ -5,9 +5,10 @@ ghost use Rattle.item_defs.specs.Items.{text};
 ghost use Rattle.bit_pipe.specs.Standing.{Puts, IsReady, Writes};
 ghost use Rattle.plane_defs.specs.Codes.{is_book_sound};
 ghost use Rattle.plane_defs.specs.Marks.{depths_of};
+ghost use Rattle.plane_defs.specs.Planes.{chosen};
 ghost use Rattle.plane_coder.specs.Sends.{chosen_items};
 ghost use Rattle.plane_coder.specs.Chosen.{AreChosen};
-ghost use Rattle.plane_coder.specs.Collected.{AreCollected};
+ghost use Rattle.plane_coder.specs.Kept.{AreKept};
 ghost use Rattle.block_masks.specs.Slices.{numbers_in};
 ghost use Rattle.plane_coder.specs.Sliced.{AreSliced, AreAbove};
 ghost use Rattle.plane_coder.specs.Views.{plane_of, plane_in};
@@ -26,20 +27,19 @@ pub(crate) fn put_stages<O: OctetOut>(
     out: &mut BitOut<O>,
     view: &View,
     marks: &mut [i32],
-    room: &mut [GaggleWords],
+    words: &mut GaggleWords,
     last: u8,
 ) -> Result<(), PutFault>
     requires open { IsReady O.sink out.old }
     requires whole { length view.now.cells.now ≡ 64 * length marks.old }
     requires last { last ≤ 4 }
-    requires room { 0 < length room.old }
     requires chosen { AreChosen view.now.tables.now.book (plane_in view.now (depths_of marks.old)) marks.old }
-    requires words { AreCollected (plane_in view.now (depths_of marks.old)) view.now.cells.now room.old }
+    requires kept { AreKept view.now.tables.now.book (chosen view.now.tables.now.book (plane_in view.now (depths_of marks.old))) (plane_in view.now (depths_of marks.old)) view.now.cells.now }
     ensures puts { Writes O.sink result out.old out.new (text (chosen_items view.now.tables.now.book (plane_in view.now (depths_of marks.old)) last)) }
     ensures depths { depths_of marks.new ≡ depths_of marks.old }
 {
     for number in 0..last + 1 {
-        put_stage(out, number, view, marks, room)?;
+        put_stage(out, number, view, marks, words)?;
     }
     Ok(())
 }
@@ -51,14 +51,13 @@ pub(crate) struct Source<'a> {
     pub tables: &'a CodeTables,
 }
 
-// Puts a plane, and then prepares the masks for the plane below. The last place of the room is for the words of each gaggle in turn that
-// has no place of its own.
+// Puts a plane, and then prepares the masks for the plane below. `words` is room for the words of a gaggle.
 pub(crate) fn put_settling<O: OctetOut>(
     out: &mut BitOut<O>,
     cells: &mut [i32],
     marks: &mut [i32],
     source: &Source,
-    room: &mut [GaggleWords],
+    words: &mut GaggleWords,
 ) -> Result<(), PutFault>
     requires open { IsReady O.sink out.old }
     requires whole { length cells.old ≡ 64 * length marks.old }
@@ -66,7 +65,6 @@ pub(crate) fn put_settling<O: OctetOut>(
     requires last { source.now.plan.now.last ≤ 4 }
     requires sliced { AreSliced cells.old }
     requires above { AreAbove (source.now.plan.now.plane + 1) cells.old }
-    requires room { 0 < length room.old }
     ensures puts { Writes O.sink result out.old out.new (text (chosen_items source.now.tables.now.book (plane_of (numbers_in cells.old) (depths_of marks.old) source.now.plan.now) source.now.plan.now.last)) }
     ensures depths { depths_of marks.new ≡ depths_of marks.old }
     ensures long { length cells.new ≡ length cells.old }
@@ -76,43 +74,15 @@ pub(crate) fn put_settling<O: OctetOut>(
 {
     let plan = source.plan;
     let coded = CodedPlane::new(plan);
-    choose_all(cells, marks, &coded, source.tables, room);
+    choose_all(cells, marks, &coded, source.tables, words);
     let view = View {
         cells,
         plan: &coded,
         tables: source.tables,
     };
-    let result = put_stages(out, &view, marks, room, plan.last);
+    let result = put_stages(out, &view, marks, words, plan.last);
     settle_above(cells, plan.plane);
     result
-}
-
-// Puts a plane with room for the words of `GAGGLES` gaggles. Each room has a stack frame of its own, since a segment of fewer blocks
-// would fill it with nothing for each plane.
-#[inline(never)]
-fn put_with_room<O: OctetOut, const GAGGLES: usize>(
-    out: &mut BitOut<O>,
-    cells: &mut [i32],
-    marks: &mut [i32],
-    source: &Source,
-) -> Result<(), PutFault>
-    requires some { 0 < GAGGLES }
-    requires room { GAGGLES ≤ 257 }
-    requires open { IsReady O.sink out.old }
-    requires whole { length cells.old ≡ 64 * length marks.old }
-    requires plane { source.now.plan.now.plane ≤ 26 }
-    requires last { source.now.plan.now.last ≤ 4 }
-    requires sliced { AreSliced cells.old }
-    requires above { AreAbove (source.now.plan.now.plane + 1) cells.old }
-    ensures puts { Writes O.sink result out.old out.new (text (chosen_items source.now.tables.now.book (plane_of (numbers_in cells.old) (depths_of marks.old) source.now.plan.now) source.now.plan.now.last)) }
-    ensures depths { depths_of marks.new ≡ depths_of marks.old }
-    ensures long { length cells.new ≡ length cells.old }
-    ensures numbers { numbers_in cells.new ≡ numbers_in cells.old }
-    ensures sliced { AreSliced cells.new }
-    ensures above { AreAbove source.now.plan.now.plane cells.new }
-{
-    let mut room = [GaggleWords::new(); GAGGLES];
-    put_settling(out, cells, marks, source, &mut room)
 }
 
 /// Puts a bit plane of a segment up to the plan's last stage (docs/formats.md, "Bit planes" and "Words
@@ -171,10 +141,5 @@ pub fn put_plane_with<O: OctetOut>(
     ensures above { AreAbove plan.now.plane cells.new }
 {
     let source = Source { plan, tables };
-    match marks.len() {
-        0..=64 => put_with_room::<O, 5>(out, cells, marks, &source),
-        65..=256 => put_with_room::<O, 17>(out, cells, marks, &source),
-        257..=1024 => put_with_room::<O, 65>(out, cells, marks, &source),
-        _ => put_with_room::<O, 257>(out, cells, marks, &source),
-    }
+    put_settling(out, cells, marks, &source, &mut GaggleWords::new())
 }

@@ -23,7 +23,6 @@ pub(crate) struct Typed {
 
 impl Typed {
     ghost use Rattle.plane_coder.specs.Picked.{word_in, signs_in};
-    ghost use Rattle.plane_coder.specs.Kept.{typed_of};
 
     #[inline(always)]
     pub fn new(word: u8, signs: u8) -> Typed
@@ -32,17 +31,6 @@ impl Typed {
     {
         Typed {
             pair: u16::from(word) + 256 * u16::from(signs),
-        }
-    }
-
-    // Returns word j of the four words of a mask.
-    #[inline(always)]
-    pub fn part(mask: u64, j: u8) -> Typed
-        requires { j < 4 }
-        ensures { result ≡ typed_of mask j }
-    {
-        Typed {
-            pair: ((mask >> (16 * j)) % 0x1_0000) as u16,
         }
     }
 

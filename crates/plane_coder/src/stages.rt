@@ -10,20 +10,20 @@ ghost use Rattle.plane_defs.specs.declared.stages.Stage.{Stage};
 ghost use Rattle.plane_defs.specs.Marks.{depths_of};
 ghost use Rattle.block_masks.specs.Slices.{IsColumn};
 ghost use Rattle.block_masks.specs.Gaggles.{AllAgree, AreOptions, AreKnown, SameMarks, options_at};
-ghost use Rattle.plane_coder.specs.Collected.{HasNoWords, HasWords, AreCollected};
-ghost use Rattle.plane_coder.specs.Kept.{free_masks, Keeps};
-ghost use Rattle.plane_coder.specs.Spells.{Spells};
+ghost use Rattle.plane_coder.specs.Collected.{HasNoWords, HasWords};
+ghost use Rattle.plane_coder.specs.Kept.{free_masks, Keeps, AreKept};
+ghost use Rattle.plane_coder.specs.Spells.{Spells, PutsStage};
 ghost use Rattle.plane_coder.specs.Views.{plane_in};
 
 use crate::collect::{GaggleWords, collect_gaggle};
-use crate::kept::load_stage;
+use crate::kept::{kept_stage, put_kept};
 use crate::option_codes::OptionCodes;
 use crate::pending::PendingBits;
 use crate::put::{is_quiet, put_block_stage, put_words};
 use crate::tables::CodeTables;
 use crate::view::View;
 use bit_pipe::{BitOut, OctetOut, PutFault};
-use block_masks::{Column, depth_of, load, store};
+use block_masks::{Column, Gaggle, depth_of, load, store};
 
 // Puts the stage of this number of the block of a column.
 #[inline(always)]
@@ -91,34 +91,14 @@ fn put_stage_words<O: OctetOut, const STAGE: u8>(
     }
 }
 
-// Finds the words of gaggle g in the stage of this number: in its free masks if they are there, and again from its blocks otherwise.
-#[inline(always)]
-fn find_words<const STAGE: u8>(words: &mut GaggleWords, view: &View, marks: &[i32], g: usize)
-    requires first { 0 < STAGE }
-    requires last { STAGE < 4 }
-    requires whole { length view.now.cells.now ≡ 64 * length marks.now }
-    requires within { 16 * g < length marks.now }
-    requires kept { 1024 * g + 1024 ≤ length view.now.cells.now → Keeps (λ stage. of_gaggle (plane_in view.now (depths_of marks.now)) stage g) (free_masks view.now.cells.now (16 * g)) }
-    ensures { HasWords STAGE (λ stage. of_gaggle (plane_in view.now (depths_of marks.now)) stage g) words.new }
-{
-    let cells = view.cells;
-    if 1024 * g + 1024 <= cells.len()
-        && load_stage::<STAGE>(words, cells, Column::of(cells, 16 * g))
-    {
-        return;
-    }
-    collect_gaggle::<STAGE>(words, view, marks, g);
-}
-
-// Puts the words of gaggle g in the stage of this number, which are found in the last place of the room. Only segments of very many
-// blocks have such gaggles.
+// Puts the words of gaggle g in the stage of this number, which are found again: its free masks have no room for their bits.
 #[inline(never)]
 fn put_again<O: OctetOut, const STAGE: u8>(
     out: &mut BitOut<O>,
     pending: &mut PendingBits,
     view: &View,
     marks: &[i32],
-    room: &mut [GaggleWords],
+    words: &mut GaggleWords,
     g: usize,
 ) -> Result<(), PutFault>
     requires first { 0 < STAGE }
@@ -127,16 +107,9 @@ fn put_again<O: OctetOut, const STAGE: u8>(
     requires silent { pending.old.count ≡ 0 }
     requires whole { length view.now.cells.now ≡ 64 * length marks.now }
     requires within { 16 * g < length marks.now }
-    requires room { 0 < length room.old }
-    requires far { length room.old ≤ g + 1 }
-    requires words { AreCollected (plane_in view.now (depths_of marks.now)) view.now.cells.now room.old }
-    ensures words { AreCollected (plane_in view.now (depths_of marks.now)) view.now.cells.now room.new }
-    ensures long { length room.new ≡ length room.old }
-    ensures spells { Spells O.sink view.now.tables.now.book pending.old.gaggle pending.new.gaggle result (stand O.sink out.old) (stand O.sink out.new) (of_gaggle (plane_in view.now (depths_of marks.now)) (stage_number STAGE) g) }
+    ensures { Spells O.sink view.now.tables.now.book pending.old.gaggle pending.new.gaggle result (stand O.sink out.old) (stand O.sink out.new) (of_gaggle (plane_in view.now (depths_of marks.now)) (stage_number STAGE) g) }
 {
-    let last = room.len() - 1;
-    let words = &mut room[last];
-    find_words::<STAGE>(words, view, marks, g);
+    collect_gaggle::<STAGE>(words, view, marks, g);
     put_stage_words::<O, STAGE>(out, pending, view.tables, words)
 }
 
@@ -147,7 +120,7 @@ fn put_gaggle<O: OctetOut, const STAGE: u8>(
     pending: &mut PendingBits,
     view: &View,
     marks: &[i32],
-    room: &mut [GaggleWords],
+    words: &mut GaggleWords,
     g: usize,
 ) -> Result<(), PutFault>
     requires stage { STAGE < 5 }
@@ -155,19 +128,19 @@ fn put_gaggle<O: OctetOut, const STAGE: u8>(
     requires silent { pending.old.count ≡ 0 }
     requires whole { length view.now.cells.now ≡ 64 * length marks.now }
     requires within { 16 * g < length marks.now }
-    requires room { 0 < length room.old }
-    requires words { AreCollected (plane_in view.now (depths_of marks.now)) view.now.cells.now room.old }
-    ensures words { AreCollected (plane_in view.now (depths_of marks.now)) view.now.cells.now room.new }
-    ensures long { length room.new ≡ length room.old }
-    ensures spells { Spells O.sink view.now.tables.now.book pending.old.gaggle pending.new.gaggle result (stand O.sink out.old) (stand O.sink out.new) (of_gaggle (plane_in view.now (depths_of marks.now)) (stage_number STAGE) g) }
+    requires kept { 1024 * g + 1024 ≤ length view.now.cells.now → Keeps view.now.tables.now.book pending.old.gaggle.options (plane_in view.now (depths_of marks.now)) g (free_masks view.now.cells.now (16 * g)) }
+    ensures { PutsStage O.sink view.now.tables.now.book (plane_in view.now (depths_of marks.now)) STAGE g pending.old.gaggle pending.new.gaggle result (stand O.sink out.old) (stand O.sink out.new) }
 {
     if STAGE == 0 || STAGE == 4 {
         return put_blocks::<O, STAGE>(out, pending, view, marks, g);
     }
-    if g + 1 >= room.len() {
-        return put_again::<O, STAGE>(out, pending, view, marks, room, g);
-    }
-    put_stage_words::<O, STAGE>(out, pending, view.tables, &room[g])
+    let Some(kept) = kept_stage::<STAGE>(view.cells, g) else {
+        return put_again::<O, STAGE>(out, pending, view, marks, words, g);
+    };
+    let options = pending.gaggle.options;
+    let sent = kept.sent;
+    *pending = PendingBits::new(Gaggle { options, sent });
+    put_kept(out, view.cells, kept)
 }
 
 // Puts the stage of this number of all blocks, gaggle by gaggle.
@@ -176,28 +149,25 @@ fn put_gaggles<O: OctetOut, const STAGE: u8>(
     out: &mut BitOut<O>,
     view: &View,
     marks: &mut [i32],
-    room: &mut [GaggleWords],
+    words: &mut GaggleWords,
 ) -> Result<(), PutFault>
     requires open { IsReady O.sink out.old }
     requires stage { STAGE < 5 }
     requires whole { length view.now.cells.now ≡ 64 * length marks.old }
     requires known { AreKnown marks.old }
-    requires room { 0 < length room.old }
-    requires words { AreCollected (plane_in view.now (depths_of marks.old)) view.now.cells.now room.old }
+    requires bits { AreKept view.now.tables.now.book (options_at marks.old) (plane_in view.now (depths_of marks.old)) view.now.cells.now }
     requires agree { AllAgree (plane_in view.now (depths_of marks.old)) STAGE marks.old }
     ensures puts { Writes O.sink result out.old out.new (text (stage_items view.now.tables.now.book (options_at marks.old) (plane_in view.now (depths_of marks.old)) STAGE)) }
     ensures is_open { OnOk result (IsReady O.sink out.new) }
     ensures agree { OnOk result (AllAgree (plane_in view.now (depths_of marks.old)) (STAGE + 1) marks.new) }
     ensures kept { SameMarks marks.old marks.new }
-    ensures words { AreCollected (plane_in view.now (depths_of marks.old)) view.now.cells.now room.new }
-    ensures long { length room.new ≡ length room.old }
 {
     if is_quiet(view.plan, STAGE) {
         return Ok(());
     }
     for g in 0..marks.len().div_ceil(16) {
         let mut pending = PendingBits::new(load(marks, g));
-        put_gaggle::<O, STAGE>(out, &mut pending, view, marks, room, g)?;
+        put_gaggle::<O, STAGE>(out, &mut pending, view, marks, words, g)?;
         store(marks, g, pending.gaggle);
     }
     Ok(())
@@ -210,27 +180,24 @@ pub(crate) fn put_stage<O: OctetOut>(
     number: u8,
     view: &View,
     marks: &mut [i32],
-    room: &mut [GaggleWords],
+    words: &mut GaggleWords,
 ) -> Result<(), PutFault>
     requires open { IsReady O.sink out.old }
     requires number { number < 5 }
     requires whole { length view.now.cells.now ≡ 64 * length marks.old }
     requires known { AreKnown marks.old }
-    requires room { 0 < length room.old }
-    requires words { AreCollected (plane_in view.now (depths_of marks.old)) view.now.cells.now room.old }
+    requires bits { AreKept view.now.tables.now.book (options_at marks.old) (plane_in view.now (depths_of marks.old)) view.now.cells.now }
     requires agree { AllAgree (plane_in view.now (depths_of marks.old)) number marks.old }
     ensures puts { Writes O.sink result out.old out.new (text (stage_items view.now.tables.now.book (options_at marks.old) (plane_in view.now (depths_of marks.old)) number)) }
     ensures is_open { OnOk result (IsReady O.sink out.new) }
     ensures agree { OnOk result (AllAgree (plane_in view.now (depths_of marks.old)) (number + 1) marks.new) }
     ensures kept { SameMarks marks.old marks.new }
-    ensures words { AreCollected (plane_in view.now (depths_of marks.old)) view.now.cells.now room.new }
-    ensures long { length room.new ≡ length room.old }
 {
     match number {
-        0 => put_gaggles::<O, 0>(out, view, marks, room),
-        1 => put_gaggles::<O, 1>(out, view, marks, room),
-        2 => put_gaggles::<O, 2>(out, view, marks, room),
-        3 => put_gaggles::<O, 3>(out, view, marks, room),
-        _ => put_gaggles::<O, 4>(out, view, marks, room),
+        0 => put_gaggles::<O, 0>(out, view, marks, words),
+        1 => put_gaggles::<O, 1>(out, view, marks, words),
+        2 => put_gaggles::<O, 2>(out, view, marks, words),
+        3 => put_gaggles::<O, 3>(out, view, marks, words),
+        _ => put_gaggles::<O, 4>(out, view, marks, words),
     }
 }

@@ -19,7 +19,6 @@ pub(crate) struct Words<const MOST: usize> {
 impl<const MOST: usize> Words<MOST> {
     ghost use Rattle.plane_coder.specs.Picked.{IsPacked, word_of, raws_of, entries_of};
     ghost use Rattle.plane_coder.specs.Listed.{Lists, entries_at};
-    ghost use Rattle.plane_coder.specs.Kept.{AreFour, typed_of, four_in};
 
     pub fn new() -> Words<MOST>
         ensures { result.count ≡ 0 }
@@ -51,52 +50,6 @@ impl<const MOST: usize> Words<MOST> {
         ensures packed { ArePacked result }
     {
         self.list[i]
-    }
-
-    // Returns four words as a mask.
-    #[inline(always)]
-    pub fn four_from(&self, i: usize) -> u64
-        requires { i + 4 ≤ MOST }
-        ensures { result ≡ four_in self.now.list i }
-    {
-        u64::from(self.list[i].pair)
-            + 0x1_0000 * u64::from(self.list[i + 1].pair)
-            + 0x1_0000_0000 * u64::from(self.list[i + 2].pair)
-            + 0x1_0000_0000_0000 * u64::from(self.list[i + 3].pair)
-    }
-
-    // The words that are in the first places become those of the list.
-    #[inline(always)]
-    pub fn resize(&mut self, count: usize)
-        requires { count ≤ MOST }
-        ensures count { self.new.count ≡ count }
-        ensures long { length self.new.list ≡ MOST }
-    {
-        self.count = count;
-    }
-
-    #[inline(always)]
-    fn put_at(&mut self, i: usize, typed: Typed)
-        requires packed { ArePacked typed }
-        requires within { i < MOST }
-        ensures list { self.new.list ≡ set self.old.list i typed }
-        ensures count { self.new.count ≡ self.old.count }
-    {
-        self.list[i] = typed;
-    }
-
-    // Puts the four words of a mask into places of the list.
-    #[inline(always)]
-    pub fn put_four(&mut self, i: usize, mask: u64)
-        requires packed { AreFour mask }
-        requires within { i + 4 ≤ MOST }
-        ensures list { self.new.list ≡ set (set (set (set self.old.list i (typed_of mask 0)) (i + 1) (typed_of mask 1)) (i + 2) (typed_of mask 2)) (i + 3) (typed_of mask 3) }
-        ensures count { self.new.count ≡ self.old.count }
-    {
-        self.put_at(i, Typed::part(mask, 0));
-        self.put_at(i + 1, Typed::part(mask, 1));
-        self.put_at(i + 2, Typed::part(mask, 2));
-        self.put_at(i + 3, Typed::part(mask, 3));
     }
 
     // Adds a word and the bits after it, unless there are none. They are written in any case, so that no branch is needed.

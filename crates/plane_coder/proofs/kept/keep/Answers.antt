@@ -1,34 +1,46 @@
-use Rattle.std.proofs.Common.{◌≡◌, ◌+◌, ◌∙◌, refl, arith, length}
-use Rattle.std.specs.Int.{div_ceil}
-use Rattle.plane_coder.specs.Kept.{free_masks}
-use Rattle.plane_coder.proofs.Keeping.{length-free_masks, only_then, full_later, all_kept}
+use Rattle.std.proofs.Common.{◌≡◌, ◌<◌, ◌≤◌, ℕ, refl, ap, sym, ◌∙◌, subst, arith, get_or, get_or-set_same, get_or-set_other}
+use Rattle.block_masks.specs.declared.gaggle.Gaggle.{Gaggle}
+use Rattle.plane_defs.specs.Planes.{before_stage}
+use Rattle.block_masks.specs.Gaggles.{Agrees}
+use Rattle.plane_coder.specs.Kept.{free_masks, octet_in, flags_in, KeepsStage}
+use Rattle.plane_coder.proofs.Keeping.{length-free_masks, only_then}
+use Rattle.plane_coder.proofs.KeptBits.{agrees_next, stage_kept, three_stages}
 use Rattle.plane_coder.proofs.kept.keep.Goals as goal
 
-pub keep_words-requires : goal.keep_words-requires
-keep_words-requires c =
-    let long = c.put_free_mask.ensures.only.long in
-    (omega arith, (omega (arith, long, c.requires.whole), (full_later long c.requires.full, (refl, (omega arith, omega arith)))))
-
-pub keep_words-requires-2 : goal.keep_words-requires-2
-keep_words-requires-2 c =
-    let long = c.keep_words.ensures.only.long ∙ c.put_free_mask.ensures.only.long in
-    (omega arith, (omega (arith, long, c.requires.whole), (full_later long c.requires.full, (refl, (omega arith, omega (arith, c.args.words.now.parents.within))))))
-
-pub keep_words-requires-3 : goal.keep_words-requires-3
-keep_words-requires-3 c =
-    let long = c.keep_words-2.ensures.only.long ∙ c.keep_words.ensures.only.long ∙ c.put_free_mask.ensures.only.long in
-    (omega arith, (omega (arith, long, c.requires.whole), (full_later long c.requires.full, (refl, (omega arith, omega (arith, c.args.words.now.parents.within, c.args.words.now.children.within))))))
-
-pub returns : goal.returns
-returns c =
+pub returns-clause-keeps : goal.returns-clause-keeps
+returns-clause-keeps c p g agree has =
     let b = c.args.first.block in
-    let old = c.args.cells.now in
-    let words = c.args.words.now in
-    let long : length (free_masks old b) ≡ 32 = length-free_masks old b in
-    let second : 1 + c.div_ceil-second.result ≡ 1 + div_ceil words.parents.count 4 = omega arith in
-    let third : 1 + c.div_ceil-second.result + c.div_ceil.result ≡ 1 + c.div_ceil-second.result + div_ceil words.children.count 4 = omega arith in
+    let book = c.args.option_codes.now.tables.now.book in
+    let options = c.args.gaggle.options in
+    let one = c.keep_words-second in
+    let two = c.keep_words-third in
+    let last = c.keep_words-end in
+    let m3 = free_masks last.new.cells b in
+    let m4 = free_masks c.put_free_mask.new.cells b in
+    let head = c.head_of.result in
+    let set = c.put_free_mask.ensures.masks in
+    let first : get_or m4 0 0 ≡ head = ap (λ l. get_or l 0 0) set ∙ get_or-set_same m3 0 head 0 (omega (arith, length-free_masks last.new.cells b)) in
+    let octets = c.head_of.ensures m4 first in
+    let later : (k : ℕ) → 0 < k → get_or m4 k 0 ≡ get_or m3 k 0 = λ k some. ap (λ l. get_or l k 0) set ∙ get_or-set_other m3 0 k head 0 (λ e. omega (arith, e, some)) in
+    let gaggle = c.new-pending.ensures.gaggle in
+    let agree1 : Agrees c.new-pending.result.gaggle.sent (before_stage p 1 g) = subst (λ (h : Gaggle). Agrees h.sent (before_stage p 1 g)) (sym gaggle) agree in
+    let agree2 = agrees_next p g 1 one.ensures.keeps agree1 (has.parents refl) in
+    let agree3 = agrees_next p g 2 two.ensures.keeps agree2 (has.children refl) in
+    let options1 = ap (λ (h : Gaggle). h.options) gaggle in
+    let options2 = one.ensures.keeps.leaves.options ∙ options1 in
+    let options3 = two.ensures.keeps.leaves.options ∙ options2 in
     record {
-      keeps = all_kept words _ _ _ (free_masks old b) _ _ _ _ (omega (arith, long)) (omega arith) c.put_free_mask.ensures.masks second third
-          c.keep_words.ensures.fills c.keep_words.ensures.before c.keep_words-2.ensures.fills c.keep_words-2.ensures.before c.keep_words-3.ensures.fills c.keep_words-3.ensures.before;
-      only = only_then c.put_free_mask.ensures.only (only_then c.keep_words.ensures.only (only_then c.keep_words-2.ensures.only c.keep_words-3.ensures.only));
+      at = three_stages (λ n. octet_in m4 n ≤ 32 → KeepsStage book options p g n m4)
+          (λ room. stage_kept p g 1 one.ensures.keeps agree1 (has.parents refl) m4 options options1 one.ensures.silent (omega (arith, room, octets.ends 0 (omega arith)))
+          (λ k low lt. later k (omega (arith, low)) ∙ last.ensures.before k (omega (arith, lt, two.ensures.order)) ∙ two.ensures.before k lt)
+          octets.first (octets.ends 0 (omega arith)) (ap flags_in (octets.flags 0 (omega arith)) ∙ c.octet_of.ensures.flags))
+          (λ room. stage_kept p g 2 two.ensures.keeps agree2 (has.children refl) m4 options options2 two.ensures.silent (omega (arith, room, octets.ends 1 (omega arith)))
+          (λ k low lt. later k (omega (arith, low, one.ensures.order)) ∙ last.ensures.before k lt)
+          (octets.ends 0 (omega arith)) (octets.ends 1 (omega arith)) (ap flags_in (octets.flags 1 (omega arith)) ∙ c.octet_of-2.ensures.flags))
+          (λ room. stage_kept p g 3 last.ensures.keeps agree3 (has.grandchildren refl) m4 options options3 last.ensures.silent (omega (arith, room, octets.ends 2 (omega arith)))
+          (λ k low lt. later k (omega (arith, low, one.ensures.order, two.ensures.order)))
+          (octets.ends 1 (omega arith)) (octets.ends 2 (omega arith)) (ap flags_in (octets.flags 2 (omega arith)) ∙ c.octet_of-3.ensures.flags));
     }
+
+pub returns-clause-only : goal.returns-clause-only
+returns-clause-only c = only_then c.keep_words-second.ensures.only (only_then c.keep_words-third.ensures.only (only_then c.keep_words-end.ensures.only c.put_free_mask.ensures.only))

@@ -1,33 +1,53 @@
-use Rattle.std.proofs.Common.{◌≡◌, subst, arith}
-use Rattle.std.specs.Int.{div_ceil}
-use Rattle.plane_coder.specs.Kept.{free_masks, Fills}
-use Rattle.plane_coder.proofs.Keeping.{length-free_masks, only_none, only_then, full_later, fills_none, fills_more}
+use Rattle.std.proofs.Common.{◌≡◌, ◌+◌, ap, sym, ◌∙◌, subst, arith, flat_map}
+use Rattle.plane_defs.specs.Spans.{span}
+use Rattle.plane_defs.proofs.SpanLists.{flat_map-span-suc, flat_map-span-none}
+use Rattle.plane_coder.specs.Appends.{Appends}
+use Rattle.plane_coder.specs.Listed.{entries_at}
+use Rattle.plane_coder.proofs.Keeping.{full_later}
+use Rattle.plane_coder.proofs.KeptBits.{SoKept, so_none, so_more, so_next}
 use Rattle.plane_coder.proofs.kept.keep_words.Goals as goal
+use Rattle.plane_coder.proofs.kept.keep_words.Goals.{then-not-has_room, else-not-has_room}
 
-pub loop-m-init : goal.loop-m-init
-loop-m-init g c = record { only = only_none c.args.first.block c.args.cells.now; fills = fills_none c.args.words.now.list c.args.start (free_masks c.args.cells.now c.args.first.block) }
+pub loop-i-init : goal.loop-i-init
+loop-i-init g c =
+    let book = c.args.option_codes.now.tables.now.book in
+    let pending = c.args.pending.now in
+    let free = c.args.free in
+    subst (SoKept book pending.gaggle free.first.block free.used c.args.cells.now c.args.cells.now free.used pending) (sym (flat_map-span-none (entries_at c.args.words.now.list) 0))
+    (so_none book pending free.first.block free.used c.args.cells.now free.within c.requires.silent)
 
-pub put_free_mask-requires : goal.put_free_mask-requires
-put_free_mask-requires g c = record {
-  whole = omega (arith, c.loop-m.invariant.only.long, c.requires.whole);
-  full = full_later c.loop-m.invariant.only.long c.requires.full;
-  m = omega arith;
+pub keep_bits-requires : goal.keep_bits-requires
+keep_bits-requires g c = record {
+  whole = omega (arith, c.loop-i.invariant.only.long, c.requires.whole);
+  full = full_later c.loop-i.invariant.only.long c.requires.full;
+  used = c.loop-i.invariant.few;
 }
 
-pub loop-m-preserved : goal.loop-m-preserved
-loop-m-preserved g c =
-    let i = c.loop-m.invariant in
-    record {
-      only = only_then i.only c.put_free_mask.ensures.only;
-      fills = fills_more (omega (arith, length-free_masks c.loop-m.cells c.args.first.block)) i.fills (rw (← c.four_from.ensures) c.put_free_mask.ensures.masks);
-    }
+pub loop-i-preserved : goal.loop-i-preserved
+loop-i-preserved g c =
+    let book = c.args.option_codes.now.tables.now.book in
+    let gaggle = c.args.pending.now.gaggle in
+    let free = c.args.free in
+    let f = entries_at c.args.words.now.list in
+    let i = c.loop-i.i in
+    let now : SoKept book gaggle free.first.block free.used c.args.cells.now c.if-not-has_room.cells c.if-not-has_room.used c.if-not-has_room.pending (flat_map f (span 0 i)) = elim c.if-not-has_room.branch [
+      | then-not-has_room w ↦
+          let kept = w.keep_bits-used.ensures in
+          rw (w.cells-is, w.pending-is, w.used-is) (so_next c.loop-i.invariant kept.keeps kept.only kept.gaggle kept.silent)
+      | else-not-has_room w ↦ rw (w.cells-is, w.pending-is, w.used-is) c.loop-i.invariant
+    ] in
+    let here : i ≡ 0 + i = omega arith in
+    let next = subst (λ l. Appends book c.if-not-has_room.pending c.typed.new.self l 12) (c.at.ensures.typed ∙ ap f here) c.typed.ensures in
+    subst (SoKept book gaggle free.first.block free.used c.args.cells.now c.if-not-has_room.cells c.if-not-has_room.used c.typed.new.self) (sym (flat_map-span-suc f 0 i)) (so_more 12 now next)
 
 pub returns : goal.returns
 returns g c =
-    let i = c.loop-m.invariant in
-    let all : c.loop-m.m ≡ div_ceil c.args.words.now.count 4 = omega arith in
-    record {
-      fills = λ room. subst (λ n. Fills c.args.words.now.list c.args.start n (free_masks c.args.cells.now c.args.first.block) (free_masks c.loop-m.cells c.args.first.block)) all i.fills;
-      before = i.fills.before;
-      only = i.only;
-    }
+    let book = c.args.option_codes.now.tables.now.book in
+    let gaggle = c.args.pending.now.gaggle in
+    let free = c.args.free in
+    let f = entries_at c.args.words.now.list in
+    let kept = c.keep_bits.ensures in
+    let all : c.loop-i.i ≡ c.args.words.now.count = omega (arith, c.count-i-end.ensures, c.loop-i-test.false, c.loop-i.auto.i-end) in
+    let so = subst (λ n. SoKept book gaggle free.first.block free.used c.args.cells.now c.keep_bits.new.cells c.keep_bits.result c.keep_bits.new.pending (flat_map f (span 0 n))) all
+    (so_next c.loop-i.invariant kept.keeps kept.only kept.gaggle kept.silent) in
+    record { keeps = so.keeps; before = so.before; order = so.order; few = so.few; only = so.only; silent = kept.silent }

@@ -1,8 +1,8 @@
-use Rattle.plane_coder.specs.Kept.{free_masks, OnlyFree, Fills}
+use Rattle.std.proofs.Common.{flat_map}
+use Rattle.plane_defs.specs.Spans.{span}
+use Rattle.plane_coder.specs.Listed.{entries_at}
+use Rattle.plane_coder.proofs.KeptBits.{SoKept}
 use Rattle.plane_coder.proofs.kept.keep_words.Given as goal
 
-abbrev pub invariant-loop-m : goal.invariant-loop-m
-invariant-loop-m g l = record {
-  only : OnlyFree l.first.block l.initial.cells l.cells;
-  fills : Fills l.words.list l.start l.m (free_masks l.initial.cells l.first.block) (free_masks l.cells l.first.block);
-}
+abbrev pub invariant-loop-i : goal.invariant-loop-i
+invariant-loop-i g l = SoKept l.option_codes.tables.now.book l.initial.pending.gaggle l.free.first.block l.free.used l.initial.cells l.cells l.used l.pending (flat_map (entries_at l.words.list) (span 0 l.i))

@@ -1,11 +1,11 @@
 use Rattle.std.proofs.Common.{◌≡◌, ◌+◌, sym, ◌∙◌, subst, arith}
 use Rattle.item_defs.specs.Items.{text}
 use Rattle.bit_pipe.specs.Standing.{stand, Puts}
-use Rattle.plane_defs.specs.Planes.{Plane}
+use Rattle.plane_defs.specs.Planes.{Plane, chosen}
 use Rattle.plane_defs.specs.Marks.{depths_of}
 use Rattle.block_masks.specs.Slices.{numbers_in}
 use Rattle.plane_coder.specs.Chosen.{AreChosen}
-use Rattle.plane_coder.specs.Collected.{AreCollected}
+use Rattle.plane_coder.specs.Kept.{AreKept}
 use Rattle.plane_coder.specs.Sends.{chosen_items}
 use Rattle.plane_coder.specs.Sliced.{AreAbove}
 use Rattle.plane_coder.specs.Views.{plane_of, plane_at}
@@ -23,10 +23,11 @@ put_stages-result-requires-clause-chosen g c =
     let same = same_plane c.new-coded.result c.choose_all.ensures.same.numbers c.choose_all.ensures.chosen.depths in
     subst (λ (q : Plane). AreChosen c.args.source.now.tables.now.book q c.choose_all.new.marks) (sym same) c.choose_all.ensures.chosen.are
 
-pub put_stages-result-requires-clause-words : goal.put_stages-result-requires-clause-words
-put_stages-result-requires-clause-words g c =
+pub put_stages-result-requires-clause-kept : goal.put_stages-result-requires-clause-kept
+put_stages-result-requires-clause-kept g c =
+    let book = c.args.source.now.tables.now.book in
     let same = same_plane c.new-coded.result c.choose_all.ensures.same.numbers c.choose_all.ensures.chosen.depths in
-    subst (λ (q : Plane). AreCollected q c.choose_all.new.cells c.choose_all.new.room) (sym same) c.choose_all.ensures.words
+    subst (λ (q : Plane). AreKept book (chosen book q) q c.choose_all.new.cells) (sym same) c.choose_all.ensures.kept
 
 pub returns-clause-puts : goal.returns-clause-puts
 returns-clause-puts g c =

@@ -1,13 +1,13 @@
-use Rattle.std.proofs.Common.{◌+◌, ◌<◌, ◌∙◌, sym, subst, arith}
+use Rattle.std.proofs.Common.{◌+◌, ◌<◌, ◌∙◌, sym, arith}
 use Rattle.std.proofs.lemmas.Result.{err_from_is_err_and}
 use Rattle.std.proofs.lemmas.Grind.{common_steps}
 use Rattle.plane_defs.specs.Planes.{stage_items}
 use Rattle.plane_defs.specs.Marks.{depths_of}
 use Rattle.block_masks.specs.Gaggles.{options_at}
-use Rattle.plane_coder.specs.Collected.{AreCollected}
 use Rattle.plane_coder.specs.Views.{plane_in}
 use Rattle.block_masks.proofs.Marking.{same_marks, same_then, known_same}
-use Rattle.plane_coder.proofs.Sending.{none_put, more_put, put_ended, put_whole, chosen_agree, chosen_known, agree_moved, agree_back, stage_then, plane_whole}
+use Rattle.plane_coder.proofs.KeptBits.{kept_by, kept_moved}
+use Rattle.plane_coder.proofs.Sending.{gaggle_below, none_put, more_put, put_ended, put_whole, chosen_agree, chosen_known, agree_moved, agree_back, stage_then, plane_whole}
 use Rattle.plane_coder.proofs.plane.put_stages.Goals as goal
 
 pub loop-number-init : goal.loop-number-init
@@ -16,8 +16,12 @@ loop-number-init g c = grind (arith, common_steps, none_put, same_marks, chosen_
 pub put_stage-requires-clause-agree : goal.put_stage-requires-clause-agree
 put_stage-requires-clause-agree g c = agree_back c.args.view.now c.args.marks.now c.loop-number.marks c.loop-number.marks c.loop-number.number c.loop-number.invariant.same c.loop-number.invariant.agree
 
-pub put_stage-requires-clause-words : goal.put_stage-requires-clause-words
-put_stage-requires-clause-words g c = subst (λ d. AreCollected (plane_in c.args.view.now d) c.args.view.now.cells.now c.loop-number.room) (sym c.loop-number.invariant.same.depths) c.loop-number.invariant.words
+pub put_stage-requires-clause-bits : goal.put_stage-requires-clause-bits
+put_stage-requires-clause-bits g c =
+    let view = c.args.view.now in
+    let m0 = c.args.marks.now in
+    kept_moved view view.tables.now.book m0 c.loop-number.marks c.loop-number.invariant.same
+    (kept_by (λ h below. sym (c.requires.chosen.each h (gaggle_below m0 h below)).options) c.requires.kept)
 
 pub loop-number-preserved : goal.loop-number-preserved
 loop-number-preserved g c =
@@ -33,8 +37,6 @@ loop-number-preserved g c =
       same = same_then m1 m2 _ i.same p.kept;
       agree = agree_moved view m1 m2 _ (c.loop-number.number + 1) i.same p.agree;
       known = known_same m2 _ p.kept i.known;
-      words = subst (λ d. AreCollected (plane_in view d) view.cells.now c.put_stage.new.room) i.same.depths p.words;
-      long = p.long ∙ i.long;
     }
 
 pub returns-in_err-put_stage : goal.returns-in_err-put_stage

@@ -1,11 +1,10 @@
-use Rattle.std.proofs.Common.{◌≡◌, length, flat_map}
+use Rattle.std.proofs.Common.{flat_map}
 use Rattle.item_defs.specs.Items.{text}
 use Rattle.bit_pipe.specs.Standing.{stand, IsOpen, Adds}
 use Rattle.plane_defs.specs.Spans.{span}
 use Rattle.plane_defs.specs.Planes.{stage_items}
 use Rattle.plane_defs.specs.Marks.{depths_of}
 use Rattle.block_masks.specs.Gaggles.{AreKnown, SameMarks, options_at, AllAgree}
-use Rattle.plane_coder.specs.Collected.{AreCollected}
 use Rattle.plane_coder.specs.Views.{plane_in}
 use Rattle.plane_coder.proofs.plane.put_stages.Given as goal
 
@@ -17,6 +16,4 @@ invariant-loop-number g l = record {
   same : SameMarks l.initial.marks l.marks;
   agree : AllAgree (plane_in l.view (depths_of l.initial.marks)) l.number l.marks;
   known : AreKnown l.marks;
-  words : AreCollected (plane_in l.view (depths_of l.initial.marks)) l.view.cells.now l.room;
-  long : length l.room ≡ length l.initial.room;
 }

@@ -1,11 +1,10 @@
-use Rattle.std.proofs.Common.{◌≡◌, length, flat_map}
+use Rattle.std.proofs.Common.{flat_map}
 use Rattle.item_defs.specs.Items.{text}
 use Rattle.bit_pipe.specs.Standing.{stand, IsOpen, Adds}
 use Rattle.plane_defs.specs.Spans.{span}
 use Rattle.plane_defs.specs.Planes.{gaggle_items}
 use Rattle.plane_defs.specs.Marks.{depths_of}
 use Rattle.block_masks.specs.Gaggles.{SameMarks, options_at}
-use Rattle.plane_coder.specs.Collected.{AreCollected}
 use Rattle.plane_coder.specs.Views.{plane_in}
 use Rattle.block_masks.proofs.Agreeing.{SomeAgree}
 use Rattle.plane_coder.proofs.stages.put_gaggles.Given as goal
@@ -17,6 +16,4 @@ invariant-loop-g g l = record {
   is_open : IsOpen (stand g.O.OctetOut.sink l.out);
   same : SameMarks l.initial.marks l.marks;
   agree : SomeAgree (plane_in l.view (depths_of l.initial.marks)) g.row.STAGE l.marks l.g;
-  words : AreCollected (plane_in l.view (depths_of l.initial.marks)) l.view.cells.now l.room;
-  long : length l.room ≡ length l.initial.room;
 }
