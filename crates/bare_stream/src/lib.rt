@@ -9,8 +9,6 @@ ghost use Rattle.bare_stream.specs.RoundTrip.{BareRoundTrip, StreamsAreRead};
 
 mod blocks;
 mod decode;
-#[cfg(test)]
-mod decode_tests;
 mod encode;
 mod fault;
 mod give;
@@ -20,8 +18,6 @@ mod room;
 mod segment;
 mod sink;
 mod source;
-#[cfg(test)]
-mod tests;
 mod text;
 mod walk;
 

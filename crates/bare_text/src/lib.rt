@@ -8,8 +8,6 @@ mod agree;
 mod encode;
 mod parts;
 mod read;
-#[cfg(test)]
-mod tests;
 mod write;
 
 pub use agree::check_agreement;

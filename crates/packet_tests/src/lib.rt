@@ -7,6 +7,8 @@ mod budgets;
 #[cfg(test)]
 mod cameras;
 #[cfg(test)]
+mod encoded;
+#[cfg(test)]
 mod endless;
 #[cfg(test)]
 mod examples;

@@ -1,4 +1,5 @@
-// Pictures of lost blocks whose height is reported before the last block row. All pixels are 0.
+// Pictures of lost blocks whose height is reported before the last block row. All pixels are 0. The drop of a picture would be costly
+// to prove, so each is forgotten.
 ghost use Rattle.std.specs.Prelude.{◌≡◌, ◌≤◌, ◌+◌, IfOk};
 ghost use Rattle.base_122.specs.Ranges.{IsWithin, rows_range};
 ghost use Rattle.base_122.specs.Setting.{image_geometry, usual_setting};
@@ -8,6 +9,7 @@ use crate::{Picture, put_missing};
 use base_122::Setting;
 use port_122::SteadyPort;
 use std::alloc::{AllocError, Global};
+use std::mem;
 use std::process::Abort;
 use std::test::Fail;
 
@@ -42,6 +44,7 @@ fn the_tallest_picture_ends_at_17_rows(rt: HostRuntime) -> Result<(), Fail> {
     picture.end_at(17);
     lose_row(&rt, &mut port, &mut picture);
     assert_eq!(rt; port.given(), [0; 17 * 17].as_slice());
+    mem::forget(picture);
     Ok(())
 }
 
@@ -56,5 +59,6 @@ fn a_picture_ends_at_its_height(rt: HostRuntime) -> Result<(), Fail> {
     picture.end_at(25);
     lose_row(&rt, &mut port, &mut picture);
     assert_eq!(rt; port.given(), [0; 25 * 17].as_slice());
+    mem::forget(picture);
     Ok(())
 }

@@ -17,8 +17,6 @@
 
 mod encode;
 mod engine;
-#[cfg(test)]
-mod examples;
 mod gather;
 mod laws;
 mod plan;

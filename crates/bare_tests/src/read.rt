@@ -1,7 +1,6 @@
 // Tests of bare streams of small images that are decoded.
-use crate::decode::decode_bare;
-use crate::fault::{BareCause, BareFault};
-use crate::tests::{WITH_EXCHANGED, exchanged};
+use crate::written::{WITH_EXCHANGED, exchanged};
+use bare_stream::{BareCause, BareFault, decode_bare};
 use base_122::{DecodeWish, Geometry, Setting};
 use code_book::check_book;
 use port_122::MemoryPort;

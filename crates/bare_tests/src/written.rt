@@ -3,7 +3,7 @@ ghost use Rattle.std.specs.Prelude.{◌≡◌, ◌≢◌, IsTrue};
 ghost use Rattle.base_122.specs.Ranges.{IsInRange};
 ghost use Rattle.plane_defs.specs.Codes.{is_book_sound};
 
-use crate::encode::encode_bare;
+use bare_stream::encode_bare;
 use base_122::{Book, Setting};
 use code_book::check_book;
 use port_122::MemoryPort;

@@ -2,10 +2,9 @@
 ghost use Rattle.std.specs.Prelude.{◌≡◌, ◌≤◌, ◌*◌, length, IfOk, IfSome};
 ghost use Rattle.segment_defs.specs.Head.{IsHead};
 
-use crate::agree::check_agreement;
-use crate::encode::BareWriter;
-use crate::parts::PartsInForce;
-use crate::read::{BareHead, BareHeadFault, BareReader, read_bare_head};
+use bare_text::{
+    BareHead, BareHeadFault, BareReader, BareWriter, PartsInForce, check_agreement, read_bare_head,
+};
 use base_122::Book;
 use bit_pipe::{OctetIn, Part, SliceIn, SliceOut};
 use segment_code::{SegmentFault, SegmentWriter, segment_depths};

@@ -3,9 +3,6 @@ ghost use Rattle.std.specs.Prelude.{IsTrue};
 ghost use Rattle.base_122.specs.Ranges.{IsInRange};
 ghost use Rattle.plane_defs.specs.Codes.{is_book_sound};
 
-use crate::encode::EncodeFault;
-use crate::rows::encode_rows;
-use crate::work::Work;
 use base_122::{Book, Setting};
 use code_book::check_book;
 use port_122::MemoryPort;
@@ -13,6 +10,7 @@ use std::alloc::Global;
 use std::mem;
 use std::process::Abort;
 use std::test::Fail;
+use strip_coder::{EncodeFault, Work, encode_rows};
 
 // Encodes the raster of a port, and returns why that failed.
 fn encode_port(
