@@ -9,7 +9,7 @@ import tempfile
 from array import array
 
 SIDE = 2048  # the side of the usual picture
-RUNS = 3  # each time is the least of so many, with the greatest beside it
+RUNS = 5  # each time is the least of so many, with the greatest beside it
 PIXELS = 1 << 20  # a smaller picture runs several times for one figure
 
 # The lengths of the codes of the six tables of a book.
@@ -263,7 +263,7 @@ def main(program, most, pictures):
         for depth in (8, 12, 16):
             good &= ours.line("`make`", square, depth, ours.made(depth))
         eight = raster(picture, 8)
-        for segment in (16, 64, 4096, 1048575):
+        for segment in (16, 64, 1024, 4096, 65536):
             good &= ours.line(f"drawn, segment={segment}", square, 8, eight, f"segment={segment}")
         good &= ours.line("drawn, select=heuristic", square, 8, eight, "select=heuristic")
         good &= ours.line("drawn, another code book", square, 8, eight, book=photograph_book())
@@ -272,6 +272,8 @@ def main(program, most, pictures):
             if side != SIDE:
                 rows = drawn(side) if side < SIDE else tiled(picture, side)
                 good &= ours.line("drawn", (side, side), 8, raster(rows, 8))
+                if side > SIDE:
+                    good &= ours.line("drawn, segment=65536", (side, side), 8, raster(rows, 8), "segment=65536")
             side *= 2
         good &= ours.line("noise", square, 8, raster(noise(SIDE), 8))
         good &= ours.line("flat", square, 8, raster(flat(SIDE), 8))
