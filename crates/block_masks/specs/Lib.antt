@@ -5,7 +5,6 @@ pub mod Gaggles
 pub mod Stored
 pub mod BitsSet
 pub mod Places
-pub mod Walk
 pub mod Slices
 pub mod ByteLists
 pub mod Halves

@@ -28,4 +28,4 @@ pub use picks::{pick, spread, spread_first};
 pub use plan::{CodedPlane, PlanePlan};
 pub use sets::{Sets, fours_of, is_any_of, quads_of};
 pub use slices::{ABOVE, Column, DC, GROUP, MINUS, mask_of, put_mask, settle_above};
-pub use walk::{Parted, first_in, split_lowest, without};
+pub use walk::{first_in, without};

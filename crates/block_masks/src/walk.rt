@@ -2,7 +2,6 @@
 
 ghost use Rattle.std.specs.Prelude.{◌≡◌, ◌<◌, ℕ, true, false};
 ghost use Rattle.item_defs.specs.Bits.{bit as bit_in};
-ghost use Rattle.block_masks.specs.Walk.{IsParted};
 
 /// Returns the first position of a mask that is not empty.
 #[inline(always)]
@@ -24,27 +23,4 @@ pub fn without(mask: u64, position: u8) -> u64
     ensures fewer { bit_in mask position ≡ true → result < mask }
 {
     mask & !(1 << position)
-}
-
-/// A mask of some positions, split in two.
-#[derive(Clone, Copy)]
-pub struct Parted {
-    /// Its first position.
-    pub first: u64,
-    /// Its other positions.
-    pub others: u64,
-}
-
-/// Returns the first position of a mask that is not empty, and the others.
-#[inline(always)]
-pub fn split_lowest(mask: u64) -> Parted
-    requires some { 0 < mask }
-    ensures { IsParted mask result.first result.others }
-{
-    // Subtracting 1 from a mask clears its first position and sets those below.
-    let others = mask & (mask - 1);
-    Parted {
-        first: mask ^ others,
-        others,
-    }
 }

@@ -25,8 +25,7 @@ use Rattle.bit_pipe.specs.Windows.{first_of}
 use Rattle.block_masks.specs.Places.{inside}
 use Rattle.plane_reader.specs.Refining.{IsFront, Deals}
 use Rattle.plane_reader.proofs.DueReading.{few_ones}
-use Rattle.plane_reader.proofs.GroupsAtHand.{moved_on}
-use Rattle.plane_reader.proofs.Shadows.{window_parts}
+use Rattle.plane_reader.proofs.Shadows.{window_parts, moved_on}
 use Rattle.plane_reader.proofs.SignsPassed.{never}
 use Rattle.plane_reader.proofs.SignWindows.{top_word, word_value}
 use Rattle.plane_reader.proofs.FoundMasks.{inside_at, before_inside, past_inside}

@@ -1,6 +1,7 @@
 -- The word of some due places, read.
 use Rattle.std.proofs.Common.{◌≡◌, ℕ, ◌-◌, ◌<◌, ◌≤◌, ◌^◌, Bool, true, false, [], ◌∷◌, refl, ap, sym, ◌∙◌, subst, arith, Ok, Err, Some, None, Option, nat_le, count_ones, ◌&&◌, map, filter, pow_mono}
 use Rattle.std.specs.List.{list_all}
+use Rattle.std.proofs.lemmas.Nat.{ones_le_self}
 use Rattle.std.proofs.lemmas.Bool.Decides.{nat_tests}
 use Rattle.plane_defs.proofs.Tables.{list_all-span-zero}
 use Rattle.item_defs.specs.Bits.{bit, bits_of, digit, value_of}
@@ -121,11 +122,10 @@ few_ones n lt = from_test (count_ones n) 4 (list_all-span-zero (λ n. nat_le (co
     from_test a b e = grind (arith, nat_tests)
 
 -- the word of no places is nothing
-no_ones : count_ones 0 ≡ 0
-unfolding lib.Count.ones
-no_ones = refl
+pub no_ones : (n : ℕ) → n ≡ 0 → count_ones n ≡ 0
+no_ones n e = let least = ones_le_self n in omega (arith, least, e)
 
 pub due_none : {I : Type 0} {k : SourceOf I} (book : Book) (g : Gaggle) {a b : Coming I} → AreOptions g.options → IsIn a → Takes k a b [] → TakesDue k book 0 (Ok (Some 0)) g g a b
 due_none {k = k} book g {a} {b} known i t =
-    due_given book 0 (omega arith) (few_ones 0 (omega arith)) 0 0 (omega arith) (subst (λ n. TakesWord k book n (Ok (Some 0)) g g a b) (sym no_ones) (word_none book g known i t))
+    due_given book 0 (omega arith) (few_ones 0 (omega arith)) 0 0 (omega arith) (subst (λ n. TakesWord k book n (Ok (Some 0)) g g a b) (sym (no_ones 0 refl)) (word_none book g known i t))
     (λ f g' start count le p e. spread_of 0 0 start count f g' le p e) (λ g' start count le p fits. back_of 0 0 start count g' le p (omega arith) fits)

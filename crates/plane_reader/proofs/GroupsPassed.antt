@@ -1,9 +1,6 @@
 -- The groups of a mask of which some are still to be read.
-use Rattle.std.proofs.Common.{◌≡◌, inl, inr, ℕ, zero, suc, ◌+◌, ◌-◌, ◌*◌, ◌<◌, ◌≤◌, ◌^◌, ◌==◌, ◌&&◌, not, Bool, true, false, ℤ, List, [], ap, sym, ◌∙◌, subst, refl, arith, Ok, Err, Some, None, Result, Option}
-use Rattle.std.specs.Int.{bit_at}
-use Rattle.std.proofs.Math.Bool.{and-false}
-use Rattle.std.proofs.lemmas.Bool.{cases_lt, cases_eq}
-use Rattle.std.proofs.lemmas.Nat.Bits.{bit_at-lt, bit_at-zero, same_from_bits_below}
+use Rattle.std.proofs.Common.{◌≡◌, inl, inr, ℕ, zero, suc, ◌+◌, ◌-◌, ◌*◌, ◌<◌, ◌≤◌, Bool, true, false, ℤ, List, [], ap, sym, ◌∙◌, subst, refl, arith, Ok, Err, Some, None, Result, Option}
+use Rattle.std.proofs.lemmas.Bool.{cases_lt}
 use Rattle.std.proofs.lemmas.Bool.Decides.{nat_tests}
 use Rattle.item_defs.specs.Bits.{bit}
 use Rattle.base_122.specs.declared.book.Book.{Book}
@@ -17,56 +14,12 @@ use Rattle.bit_pipe.specs.Coming.{Coming, IsIn, Takes}
 use Rattle.plane_reader.specs.declared.found.Found.{Found}
 use Rattle.plane_reader.specs.Frames.{Frame, group_steps, group_item, TypesNext, GroupsNext}
 use Rattle.plane_reader.specs.Pieces.{FoundPiece, Anything, SoFar}
-use Rattle.block_masks.specs.Masks.{Shows}
-use Rattle.block_masks.specs.Places.{inside}
-use Rattle.block_masks.specs.Walk.{IsParted}
-use Rattle.block_masks.proofs.Viewing.{shows_own}
 use Rattle.plane_reader.specs.Groups.{Covers, GroupsPassed}
 use Rattle.plane_reader.proofs.IndexPieces.{so_far_none}
 use Rattle.plane_reader.proofs.NothingDue.{none_due}
 use Rattle.plane_reader.proofs.SignPieces.{found_whole}
 use Rattle.plane_reader.proofs.GroupPieces.{group_skipped, group_call, group_read, group_missing, group_fault, groups_whole}
 use Rattle.plane_reader.proofs.SignsPassed.{bit_inside, no_bit, never}
-
--- the first position of a mask is the place at which it is parted
-pub place_is : {mask first others : ℕ} (parts : IsParted mask first others) (j : ℕ) → j < 64 → bit mask j ≡ true → ((k : ℕ) → k < j → bit mask k ≡ false) → parts.place ≡ j
-place_is parts j within here none = grind (arith, nat_tests, never)
-
--- a mask without any position
-no_bits_zero : (n : ℕ) → n < 2 ^ 64 → ((k : ℕ) → k < 64 → bit n k ≡ false) → n ≡ 0
-no_bits_zero n small none = same_from_bits_below 64 n 0 small (omega arith) (λ i lt. clear (bit_at n i) (bit_at-lt n i) (none i lt) ∙ sym (bit_at-zero i))
-  where
-    clear : (b : ℕ) → b < 2 → (b == 1) ≡ false → b ≡ 0
-    clear b low e = grind (arith, nat_tests)
-
-some_bit : (n k : ℕ) → bit n k ≡ true → not (n == 0) ≡ true
-some_bit zero k has = absurd (never (sym has ∙ ap (λ b. b == 1) (bit_at-zero k)))
-some_bit (suc n) k has = grind (arith, nat_tests)
-
--- a mask has the first position of another one, if they share a position with it alone
-pub shares_first : {mask first others wanted shared : ℕ} (parts : IsParted mask first others) → wanted < 2 ^ 64 → shared < 2 ^ 64 →
-    ((f g : ℕ → Bool) (start count : ℕ) → Shows wanted f start count → Shows first g start count → Shows shared (λ p. f p && g p) start count) → not (shared == 0) ≡ bit wanted parts.place
-shares_first {mask} {first} {others} {wanted} {shared} parts fits small told = by_bit (bit wanted parts.place) refl
-  where
-    both : (k : ℕ) → k < 64 → bit shared k ≡ (bit wanted k && inside parts.place 1 k)
-    both k lt =
-        let here : 0 + k ≡ k = omega arith in
-        (told (bit wanted) (inside parts.place 1) 0 64 (shows_own wanted 64 fits) parts.alone).at k lt ∙ ap (λ p. bit wanted p && inside parts.place 1 p) here
-
-    at_place : inside parts.place 1 parts.place ≡ true
-    at_place = grind (arith, nat_tests)
-
-    elsewhere : (k : ℕ) → (k ≡ parts.place → ⊥) → inside parts.place 1 k ≡ false
-    elsewhere k apart = grind (arith, nat_tests)
-
-    by_bit : (b : Bool) → bit wanted parts.place ≡ b → not (shared == 0) ≡ b
-    by_bit true has = some_bit shared parts.place (both parts.place parts.within ∙ ap (λ t. t && inside parts.place 1 parts.place) has ∙ at_place)
-    by_bit false none =
-        let zero_there : shared ≡ 0 = no_bits_zero shared small (λ k lt. elim (cases_eq k parts.place) [
-          | inl e ↦ both k lt ∙ ap (λ t. t && inside parts.place 1 k) (ap (bit wanted) e ∙ none)
-          | inr apart ↦ both k lt ∙ ap (λ t. bit wanted k && t) (elsewhere k apart) ∙ and-false (bit wanted k)
-        ]) in
-        ap (λ n. not (n == 0)) zero_there
 
 module _ {f : Frame} {stage : ℕ} {earlier : ℕ → List Step} {done : List Step} {first count : ℕ} {now wanted : ℕ → Bool} {due now_mask wanted_mask : ℕ} {after : List ℤ → List Step} (next : GroupsNext f stage earlier done first count now wanted due now_mask wanted_mask after) {mask : ℕ} (covers : Covers first count now wanted due mask) {I : Type 0} {k : SourceOf I} {book : Book} {g : Gaggle} {m : Found} {a : Coming I} where
   -- none was read yet
@@ -79,15 +32,15 @@ module _ {f : Frame} {stage : ℕ} {earlier : ℕ → List Step} {done : List St
     so_far = so_far_none book f stage earlier done (group_item f first now wanted) 0 known i t next.possible;
   }
 
-  module _ {left : ℕ} {h : Gaggle} {o : Found} {b : Coming I} (p : GroupsPassed k book f stage earlier done first count now wanted mask left g h m o a b) where
-    -- past a group that is not in the mask
-    skip_one : (n : ℕ) → n < count → bit mask n ≡ false → (is_sent : Bool) → now n ≡ is_sent → SoFar k book f stage earlier done (group_item f first now wanted) 0 n g h m o a b → SoFar k book f stage earlier done (group_item f first now wanted) 0 (n + 1) g h m o a b
-    skip_one n lt off false e before = group_skipped next n lt before e
-    skip_one n lt off true e before =
-        let nothing = covers.others n lt off e in
-        group_read next n lt before e
-        (group_call next n lt before false (sym nothing.unwanted) e (λ f' stage' earlier' done' after' types_next. none_due before.piece.options types_next nothing.none (before.piece.is_in (found_whole before))))
+  -- past a group that is not in the mask
+  pub skip_one : {h : Gaggle} {o : Found} {b : Coming I} (n : ℕ) → n < count → bit mask n ≡ false → (is_sent : Bool) → now n ≡ is_sent → SoFar k book f stage earlier done (group_item f first now wanted) 0 n g h m o a b → SoFar k book f stage earlier done (group_item f first now wanted) 0 (n + 1) g h m o a b
+  skip_one n lt off false e before = group_skipped next n lt before e
+  skip_one n lt off true e before =
+      let nothing = covers.others n lt off e in
+      group_read next n lt before e
+      (group_call next n lt before false (sym nothing.unwanted) e (λ f' stage' earlier' done' after' types_next. none_due before.piece.options types_next nothing.none (before.piece.is_in (found_whole before))))
 
+  module _ {left : ℕ} {h : Gaggle} {o : Found} {b : Coming I} (p : GroupsPassed k book f stage earlier done first count now wanted mask left g h m o a b) where
     -- up to a place before which none is left
     skip_to : (more n : ℕ) → p.n + more ≡ n → n ≤ count → ((q : ℕ) → q < n → bit left q ≡ false) → SoFar k book f stage earlier done (group_item f first now wanted) 0 n g h m o a b
     skip_to zero n e high none = let same : p.n ≡ n = omega arith in subst (λ z. SoFar k book f stage earlier done (group_item f first now wanted) 0 z g h m o a b) same p.so_far

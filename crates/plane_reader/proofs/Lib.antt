@@ -59,4 +59,4 @@ pub mod DcStage
 pub mod BlockStage
 mod Shadows
 mod TypesAtHand
-mod GroupsAtHand
+mod GroupsRead

@@ -1,8 +1,9 @@
 -- A word of types of which none is due: it has no bits.
-use Rattle.std.proofs.Common.{◌≡◌, inl, inr, ℕ, ◌+◌, ◌-◌, ◌/◌, ◌^◌, Bool, true, false, ◌&&◌, ◌||◌, ℤ, List, refl, ap, sym, ◌∙◌, subst, arith, ◌==◌, Ok, Some, count_ones}
+use Rattle.std.proofs.Common.{◌≡◌, inl, inr, ℕ, ◌+◌, ◌-◌, ◌/◌, ◌^◌, ◌<◌, Bool, true, false, ◌&&◌, ◌||◌, ℤ, List, refl, ap, sym, ◌∙◌, subst, arith, ◌==◌, Ok, Some}
 use Rattle.std.proofs.lemmas.Bool.{cases_lt, true≢false}
-use Rattle.std.proofs.lemmas.Nat.{ones_le_self}
-use Rattle.std.proofs.lemmas.Nat.Bits.{bit_at_above}
+use Rattle.std.specs.Int.{bit_at}
+use Rattle.std.proofs.Math.Bool.{and-false}
+use Rattle.std.proofs.lemmas.Nat.Bits.{bit_at-lt, bit_at_above, same_from_bits_below}
 use Rattle.item_defs.specs.Bits.{bit, bits_of, value_of}
 use Rattle.item_defs.proofs.NumberBits.{bits_none}
 use Rattle.base_122.specs.declared.book.Book.{Book}
@@ -24,6 +25,7 @@ use Rattle.plane_reader.specs.Frames.{Frame, TypesNext}
 use Rattle.plane_reader.specs.Window.{IsWordIn, AreTypesIn}
 use Rattle.plane_reader.specs.Pieces.{FoundPiece, Anything}
 use Rattle.plane_reader.proofs.FoundMasks.{before_inside, past_inside}
+use Rattle.plane_reader.proofs.DueReading.{no_ones}
 use Rattle.plane_reader.proofs.TypesAtHand.{types_at_hand}
 use Rattle.item_defs.proofs.Equations.{bits_of-none, bits_of-more}
 use Rattle.std.proofs.lemmas.Bool.Decides.{nat_tests}
@@ -31,20 +33,17 @@ use Rattle.std.proofs.lemmas.Bool.Decides.{nat_tests}
 none_spread : AreSpread 0 0 0
 none_spread = are_spread 0 0 (omega arith) (omega arith)
 
-no_ones : count_ones 0 ≡ 0
-no_ones = omega (arith, ones_le_self 0)
-
 no_value : value_of (bits_of 0 0) ≡ 0
 unfolding value_of
 no_value = grind (arith, nat_tests, bits_of-none, bits_of-more)
 
 abbrev no_types : Types
-no_types = record { new = 0; minus = 0; len = 0 }
+no_types = record { new = 0; minus = 0; len = 0; known = 1 }
 
-none_in : (book : Book) (g : Gaggle) → AreTypesIn book g 0 false 0 no_types
+none_in : (book : Book) (g : Gaggle) → AreTypesIn book g 0 0 no_types
 none_in book g = record {
-  word = record { number = 0; len = 0 };
-  is_word = subst (λ n. IsWordIn book g n 0 (record { number = 0; len = 0 })) (sym no_ones) (record {
+  word = record { number = 0; len = 0; signed = 0 };
+  is_word = subst (λ n. IsWordIn book g n 0 (record { number = 0; len = 0; signed = 0 })) (sym (no_ones 0 refl)) (record {
     none = λ e. refl;
     fits = omega arith;
     few = omega arith;
@@ -53,8 +52,7 @@ none_in book g = record {
     coded = λ more. absurd (omega (arith, more));
   });
   new = none_spread;
-  wanted = λ e z. true≢false (sym e);
-  len = omega (arith, no_ones);
+  len = omega (arith, no_ones 0 refl);
   minus = subst (λ n. AreSpread 0 n 0) (sym no_value) none_spread;
 }
 
@@ -81,9 +79,23 @@ none_more start f g count shows none = shows_same same shows
       ]
     ])
 
+-- a mask to which nothing is added stays
+pub nothing_added : (old new start : ℕ) → old < 2 ^ 64 → Shows new (λ p. bit old p || (inside start 0 p && false)) 0 64 → new ≡ old
+nothing_added old new start fits shown = same_from_bits_below 64 new old shown.small fits (λ i lt. same_digit (bit_at new i) (bit_at old i) (bit_at-lt new i) (bit_at-lt old i) (same i lt))
+  where
+    same_digit : (a b : ℕ) → a < 2 → b < 2 → (a == 1) ≡ (b == 1) → a ≡ b
+    same_digit a b low small e = grind (arith, nat_tests)
+
+    or_false : (t : Bool) → (t || false) ≡ t
+    or_false true = refl
+    or_false false = refl
+
+    same : (i : ℕ) → i < 64 → bit new i ≡ bit old i
+    same i lt = let there : 0 + i ≡ i = omega arith in shown.at i lt ∙ ap (λ p. bit old p || (inside start 0 p && false)) there ∙ ap (λ t. bit old i || t) (and-false (inside start 0 i)) ∙ or_false (bit old i)
+
 pub none_due : {I : Type 0} {k : SourceOf I} {book : Book} {g : Gaggle} (known : AreOptions g.options) {f : Frame} {stage : ℕ} {earlier : ℕ → List Step} {done : List Step} {start count mask : ℕ} {after : List ℤ → List Step}
     (next : TypesNext f stage earlier done false start count mask after) → Shows 0 (λ p. bit mask p) start count → {a : Coming I} → IsIn a → {m : Found} →
     FoundPiece k book f stage earlier done (λ v. typed_steps v f.weights f.plane (some_one_where false) (span start count)) Anything (Ok (Some tt)) g g m m a a
 none_due {k = k} {book = book} {g = g} known {start = start} next shown {a = a} is_in =
-    types_at_hand known next 0 (omega arith) shown 0 (none_in book g) is_in (subst (Takes k a a) (sym (bits_none (0 / 2 ^ 64))) (takes_start k a is_in)) refl (λ f' g' c within shows none. none_more start f' g' c shows none) refl
+    types_at_hand known next 0 (omega arith) shown 0 (none_in book g) (λ e z. true≢false (sym e)) is_in (subst (Takes k a a) (sym (bits_none (0 / 2 ^ 64))) (takes_start k a is_in)) refl (λ f' g' c within shows none. none_more start f' g' c shows none) refl
     (λ f' g' c within shows none. none_more start f' g' c shows none)

@@ -1,7 +1,7 @@
 -- What bits mean does not depend on their source. So bits that were taken at once may be treated as bits that arrive in two parts,
 -- from a source that is only what is left.
-use Rattle.std.proofs.Common.{◌≡◌, ℕ, ◌+◌, ◌-◌, ◌*◌, ◌/◌, ◌%◌, ◌^◌, ◌<◌, ◌≤◌, ℤ, List, [], ◌++◌, Bool, length, take, drop, refl, sym, ap, subst, ◌∙◌, append_assoc, append-nil, length-append, arith, Option, None, Some, Ok}
-use Rattle.std.proofs.lemmas.Nat.{pow_pos, shr-shr, shr_high}
+use Rattle.std.proofs.Common.{◌≡◌, ℕ, ◌+◌, ◌-◌, ◌*◌, ◌/◌, ◌%◌, ◌^◌, ◌<◌, ◌≤◌, ℤ, List, [], ◌++◌, Bool, length, take, drop, refl, sym, ap, subst, ◌∙◌, append_assoc, append-nil, length-append, mul_assoc, arith, Option, None, Some, Ok}
+use Rattle.std.proofs.lemmas.Nat.{mul-mod_first, pow-add, pow_pos, shr-shr, shr_high}
 use Rattle.std.proofs.lemmas.List.{take_at, take-append-drop, take-append-le, length-take-le, append_cancel_left}
 use Rattle.std.proofs.lemmas.List.Elements.{All-take, All-drop}
 use Rattle.std.proofs.lemmas.Bool.Decides.{nat_tests}
@@ -26,6 +26,10 @@ use Rattle.plane_reader.specs.Frames.{Frame}
 use Rattle.plane_reader.specs.Pieces.{Knows, ReadsSteps, FoundPiece}
 use Rattle.plane_reader.specs.Shadows.{told, shadow}
 use Rattle.plane_reader.proofs.WordReading.{one_given}
+
+-- the bits after some are a window too
+pub moved_on : (window len more rest : ℕ) → rest ≡ window * 2 ^ len % 2 ^ 64 → rest * 2 ^ more % 2 ^ 64 ≡ window * 2 ^ (len + more) % 2 ^ 64
+moved_on window len more rest e = grind (arith, nat_tests, mul-mod_first, mul_assoc, pow-add)
 
 pub takes_shadow : {I : Type 0} {k : SourceOf I} {a b : Coming I} {bits : List Bool} → Takes k a b bits → Takes told (shadow k a) (shadow k b) bits
 takes_shadow p = record { octets = p.octets; small = p.small; came = p.came; spell = p.spell; pending = p.pending; used = p.used; room = p.room; faults = omega arith; went = tt; name = p.name }

@@ -1,7 +1,6 @@
 -- The types of a group and their signs, read at once.
-use Rattle.std.proofs.Common.{◌≡◌, ℕ, zero, suc, ◌+◌, ◌-◌, ◌*◌, ◌/◌, ◌%◌, ◌^◌, ◌<◌, ◌≤◌, Bool, ◌&&◌, ◌||◌, ℤ, List, [], ◌++◌, length, drop, bit_and, refl, sym, ap, subst, ◌∙◌, arith, inl, inr, get_or, Ok, Some, count_ones, mod-eq_of_lt}
+use Rattle.std.proofs.Common.{◌≡◌, ℕ, ◌+◌, ◌-◌, ◌*◌, ◌/◌, ◌%◌, ◌^◌, ◌<◌, ◌≤◌, Bool, ◌&&◌, ◌||◌, ℤ, List, [], ◌++◌, length, drop, refl, sym, ap, subst, ◌∙◌, arith, inl, inr, get_or, Ok, Some, count_ones}
 use Rattle.std.proofs.Math.Seq.{drop-append_seam}
-use Rattle.std.proofs.lemmas.Nat.{and_mask, and_le_r}
 use Rattle.std.proofs.lemmas.Bool.{cases_lt}
 use Rattle.item_defs.specs.Bits.{bit, value_of}
 use Rattle.item_defs.specs.Items.{raw, item_bits}
@@ -14,7 +13,7 @@ use Rattle.plane_defs.specs.Steps.{Step, typed_steps, some_one_where}
 use Rattle.block_masks.specs.declared.gaggle.Gaggle.{Gaggle}
 use Rattle.block_masks.specs.Gaggles.{AreOptions}
 use Rattle.block_masks.specs.Masks.{Shows}
-use Rattle.bit_pipe.specs.declared.front.Front.{Front}
+use Rattle.word_codes.specs.declared.take.FirstWord.{FirstWord}
 use Rattle.bit_pipe.specs.Sources.{SourceOf}
 use Rattle.bit_pipe.specs.Coming.{Coming, IsIn, Takes}
 use Rattle.bit_pipe.specs.Reading.{stopped}
@@ -25,7 +24,8 @@ use Rattle.bit_pipe.proofs.Taking.{in_later, takes_start}
 use Rattle.plane_reader.specs.declared.found.Found.{Found}
 use Rattle.plane_reader.specs.declared.window.Types.{Types}
 use Rattle.plane_reader.specs.Frames.{Frame, TypesNext}
-use Rattle.plane_reader.specs.Window.{IsWordIn, AreTypesIn}
+use Rattle.plane_reader.specs.declared.window.Lengths.{Lengths}
+use Rattle.plane_reader.specs.Window.{AreLengths, AreUsable, IsWordIn, AreTypesIn, IsWanted}
 use Rattle.plane_reader.specs.Pieces.{FoundPiece, Anything, TakesWord}
 use Rattle.block_masks.specs.Places.{inside}
 use Rattle.plane_reader.specs.Shadows.{told, shadow}
@@ -36,31 +36,27 @@ use Rattle.plane_reader.proofs.TypePieces.{due_part, types_word, types_given}
 use Rattle.plane_reader.proofs.WordReading.{word_none, word_raw, opens_known, opened_word, option_fits}
 use Rattle.plane_reader.proofs.WordTests.{some_given}
 
--- a word that needs no option
-pub short_word : (book : Book) (gaggle : Gaggle) (count window : ℕ) → count < 2 → window < 2 ^ 64 → IsWordIn book gaggle count window (record { number = bit_and (window / 2 ^ 63) count; len = count })
-short_word book gaggle count window few fits = record {
-  none = λ e. e;
-  fits = by_count count few;
-  few = omega (arith, few);
-  one = λ e. let n : bit_and (window / 2 ^ 63) count ≡ window / 2 ^ 63 = ap (bit_and (window / 2 ^ 63)) e ∙ and_one in rw (n, e) refl;
-  sent = λ more. absurd (omega (arith, few, more));
-  coded = λ more. absurd (omega (arith, few, more));
+-- the first word of a window, by what is known of the words of its length
+pub word_there : {book : Book} {gaggle : Gaggle} {lengths : Lengths} (count window option : ℕ) (word : FirstWord) → AreLengths gaggle lengths → AreUsable lengths → count ≤ 4 → option ≡ get_or lengths.options count 0 → get_or lengths.known count 0 ≡ 1 →
+    word.number < 2 ^ count → word.len ≤ 8 → (count ≡ 0 → word.len ≡ 0) → (1 ≤ count → item_bits (word_item book count option word.number) ≡ first_of word.len window) → IsWordIn book gaggle count window word
+word_there {book} {gaggle} {lengths} count window option word told usable most is known fits few none first = record {
+  none = none;
+  fits = fits;
+  few = few;
+  one = λ e. one_bit e (first (omega (arith, e)));
+  sent = λ more. told.sent count more most known;
+  coded = λ more. subst (λ o. item_bits (word_item book count o word.number) ≡ first_of word.len window) (is ∙ told.options count more most) (first (omega (arith, more)));
 }
   where
-    high : window / 2 ^ 63 < 2
-    high = omega (arith, fits)
-
-    and_one : bit_and (window / 2 ^ 63) 1 ≡ window / 2 ^ 63
-    and_one = and_mask (window / 2 ^ 63) 1 ∙ mod-eq_of_lt high
-
-    by_count : (n : ℕ) → n < 2 → bit_and (window / 2 ^ 63) n < 2 ^ n
-    by_count zero lt = let le : bit_and (window / 2 ^ 63) 0 ≤ 0 = and_le_r (window / 2 ^ 63) 0 in omega (arith, le)
-    by_count (suc zero) lt = omega (arith, and_one, high)
-    by_count (suc (suc n)) lt = absurd (omega (arith, lt))
+    one_bit : count ≡ 1 → item_bits (word_item book count option word.number) ≡ first_of word.len window → item_bits (raw word.number) ≡ first_of word.len window
+    one_bit e coded =
+        let low : get_or lengths.options 1 0 < 1 = usable.fits 1 (omega arith) (omega arith) in
+        let zero : option ≡ 0 = (let there = is ∙ ap (λ n. get_or lengths.options n 0) e in omega (arith, there, low)) in
+        subst (λ o. item_bits (word_item book 1 o word.number) ≡ first_of word.len window) zero (subst (λ n. item_bits (word_item book n option word.number) ≡ first_of word.len window) e coded)
 
 module _ {I : Type 0} {k : SourceOf I} (book : Book) {g : Gaggle} (known : AreOptions g.options) {window : ℕ} {a b : Coming I} (is_in : IsIn a) where
   -- the word of a window was taken
-  word_taken : (count : ℕ) (few : count ≤ 4) (word : Front) → IsWordIn book g count window word → Takes k a b (first_of word.len window) → TakesWord k book count (Ok (Some word.number)) g g a b
+  word_taken : (count : ℕ) (few : count ≤ 4) (word : FirstWord) → IsWordIn book g count window word → Takes k a b (first_of word.len window) → TakesWord k book count (Ok (Some word.number)) g g a b
   word_taken count few word w t = elim (cases_lt 1 count) [
     | inl more ↦
         opened_word book count more few g g (opens_known g count more few known is_in (w.sent more) (option_fits g.options count known more few) (takes_start k a is_in))
@@ -91,7 +87,7 @@ signs_value window len ones brief few =
 
 module _ {I : Type 0} {k : SourceOf I} {book : Book} {g : Gaggle} (known : AreOptions g.options) {f : Frame} {stage : ℕ} {earlier : ℕ → List Step} {done : List Step} {wanted : Bool} {start count mask : ℕ} {after : List ℤ → List Step}
     (next : TypesNext f stage earlier done wanted start count mask after) (due : ℕ) (small : due < 16) (shown : Shows due (λ p. bit mask p) start count)
-    (window : ℕ) {types : Types} (t : AreTypesIn book g due wanted window types) {a b : Coming I} (is_in : IsIn a) (taken : Takes k a b (first_of types.len window)) where
+    (window : ℕ) {types : Types} (t : AreTypesIn book g due window types) (is_wanted : IsWanted wanted types) {a b : Coming I} (is_in : IsIn a) (taken : Takes k a b (first_of types.len window)) where
   abbrev ones : ℕ
   ones = count_ones types.new
 
@@ -117,7 +113,7 @@ module _ {I : Type 0} {k : SourceOf I} {book : Book} {g : Gaggle} (known : AreOp
         let last = takes_rest (shadow k a) (shadow k b) (first_of t.word.len window) (first_of ones rest) (shadow_in k a is_in) in_parts in
         let word = word_taken book known (shadow_in k a is_in) (count_ones due) (few_ones due small) t.word t.is_word first in
         let places = due_given book due small (few_ones due small) t.word.number types.new t.new.small word t.new.told t.new.back in
-        let w = some_given wanted (types_word next due (due_part next shown)) types.new t.wanted places in
+        let w = some_given wanted (types_word next due (due_part next shown)) types.new is_wanted places in
         found_back book f stage earlier done (λ v. typed_steps v f.weights f.plane (some_one_where wanted) (span start count)) Anything tt (in_later is_in taken) (λ sent options agrees knows. record { bits = first_of types.len window; taken = taken })
         (types_given next types.new w no_minus bits known (λ book' gaggle f' stage' earlier' done' new_at after' known' signs.
         signs_at_once signs next.few rest (rest / 2 / 2 ^ (63 - ones)) ones (omega arith) refl few refl no_bits

@@ -14,4 +14,5 @@ pub mod Grandchildren
 pub mod Blocks
 pub mod Window
 pub mod Groups
+pub mod GroupsRead
 pub mod Shadows

@@ -1,24 +1,22 @@
 // Groups of four positions, one after another.
 
-ghost use Rattle.std.specs.Prelude.{◌≡◌, ◌≤◌, ◌<◌, ◌+◌, ◌*◌, ◌^◌, ℕ, ℤ, Bool, List, Option};
-ghost use Rattle.bit_pipe.specs.Sources.{Tail};
-ghost use Rattle.bit_pipe.specs.Coming.{Coming, coming, IsIn, Takes};
-ghost use Rattle.bit_pipe.specs.Windows.{first_of};
+ghost use Rattle.std.specs.Prelude.{◌≡◌, ◌≤◌, ◌<◌, ◌+◌, ◌*◌, ◌^◌, ℕ, ℤ, Bool, List, IfSome};
+ghost use Rattle.bit_pipe.specs.Coming.{coming, IsIn};
 ghost use Rattle.plane_defs.specs.Steps.{Step};
 ghost use Rattle.block_masks.specs.Gaggles.{AreOptions};
 ghost use Rattle.plane_reader.specs.Frames.{Frame, group_steps, GroupsNext};
-ghost use Rattle.plane_reader.specs.Groups.{Covers, GroupsPassed};
+ghost use Rattle.plane_reader.specs.Groups.{Covers};
+ghost use Rattle.plane_reader.specs.GroupsRead.{AreGroupsIn};
 ghost use Rattle.block_masks.specs.Masks.{Shows};
 ghost use Rattle.plane_reader.specs.Pieces.{FoundPiece, Anything, OnSome};
-ghost use Rattle.plane_reader.specs.Shadows.{told};
-ghost use Rattle.plane_reader.specs.declared.found.Found.{Found as FoundValue};
-ghost use Rattle.block_masks.specs.declared.gaggle.Gaggle.{Gaggle as GaggleValue};
 
 use crate::found::Found;
 use crate::types::{Group, take_types};
-use crate::window::types_in;
+use crate::window::{Lengths, first_types};
 use bit_pipe::{BitIn, OctetIn, TextFault};
-use block_masks::{Gaggle, both, either, first_in, fours_of, has, part, split_lowest, without};
+use block_masks::{
+    Gaggle, both, either, first_in, fours_of, has, joined, masked, one, part, without,
+};
 use word_codes::WordTables;
 
 // Groups of four positions from `first` on: the groups whose types are sent, and those in which at least one type must be 1.
@@ -30,95 +28,11 @@ pub(crate) struct Groups {
     pub wanted: u64,
 }
 
-// What was read of some groups in a window: the groups that are left, what the others gave, and how many bits that took.
+// What was read of some groups in a window: what they gave, and how many bits that took.
 #[derive(Clone, Copy)]
 struct Read {
-    left: u64,
     found: Found,
     len: u8,
-}
-
-// Reads groups from a window, of those that are left, until the window ends, a word's option is not known, or a group that must
-// have a type of 1 has none.
-#[inline(always)]
-fn groups_in(
-    tables: &WordTables,
-    gaggle: &Gaggle,
-    found: Found,
-    due: u64,
-    groups: Groups,
-    left: u64,
-    window: u64,
-) -> Read
-    requires known { AreOptions gaggle.now.options }
-    requires within { groups.first + 4 * groups.count ≤ 64 }
-    requires few { left < 2 ^ groups.count }
-    ensures few { result.left < 2 ^ groups.count }
-    ensures fewer { result.left ≤ left }
-    ensures short { result.len ≤ 56 }
-    ensures read { (f : Frame) (stage : ℕ) (earlier : ℕ → List Step) (done : List Step) (now wanted : ℕ → Bool) (after : List ℤ → List Step) (mask : ℕ) (g : GaggleValue) (m : FoundValue) (a b c : Coming (Option Tail)) →
-        GroupsNext f stage earlier done groups.first groups.count now wanted due groups.now groups.wanted after → Covers groups.first groups.count now wanted due mask →
-        GroupsPassed told tables.now.book f stage earlier done groups.first groups.count now wanted mask left g gaggle.now m found a b → IsIn b →
-        Takes told b c (first_of result.len window) →
-        GroupsPassed told tables.now.book f stage earlier done groups.first groups.count now wanted mask result.left g gaggle.now m result.found a c }
-{
-    let mut read = Read {
-        left,
-        found,
-        len: 0,
-    };
-    let mut rest = window;
-    while read.left != 0 && read.len <= 44 {
-        let j = first_in(read.left);
-        let start = groups.first + 4 * j;
-        let here = part(due, start, 4);
-        let parted = split_lowest(read.left);
-        let is_wanted = both(groups.wanted, parted.first) != 0;
-        let Some(types) = types_in(tables, gaggle, here, is_wanted, rest) else {
-            return read;
-        };
-        read.found.add_bits(types.new, start);
-        read.found.add_minus(types.minus, start);
-        read.left = parted.others;
-        read.len += types.len;
-        rest <<= types.len;
-    }
-    read
-}
-
-// Reads what the window has of the groups that are left, and returns the groups that are left then.
-#[inline(always)]
-fn take_from_window<I: OctetIn>(
-    input: &mut BitIn<I>,
-    tables: &WordTables,
-    gaggle: &Gaggle,
-    found: &mut Found,
-    due: u64,
-    groups: Groups,
-    left: u64,
-) -> u64
-    requires open { IsIn (coming input.old) }
-    requires known { AreOptions gaggle.now.options }
-    requires within { groups.first + 4 * groups.count ≤ 64 }
-    requires few { left < 2 ^ groups.count }
-    ensures few { result < 2 ^ groups.count }
-    ensures fewer { result ≤ left }
-    ensures passed { (f : Frame) (stage : ℕ) (earlier : ℕ → List Step) (done : List Step) (now wanted : ℕ → Bool) (after : List ℤ → List Step) (mask : ℕ) (g : GaggleValue) (m : FoundValue) (a : Coming I) →
-        GroupsNext f stage earlier done groups.first groups.count now wanted due groups.now groups.wanted after → Covers groups.first groups.count now wanted due mask →
-        GroupsPassed I.source tables.now.book f stage earlier done groups.first groups.count now wanted mask left g gaggle.now m found.old a (coming input.old) →
-        GroupsPassed I.source tables.now.book f stage earlier done groups.first groups.count now wanted mask result g gaggle.now m found.new a (coming input.new) }
-    ensures is_in { IsIn (coming input.new) }
-{
-    if left == 0 {
-        return left;
-    }
-    let Some(window) = input.window() else {
-        return left;
-    };
-    let read = groups_in(tables, gaggle, *found, due, groups, left, window);
-    input.take_window(window, read.len);
-    *found = read.found;
-    read.left
 }
 
 // Returns the groups that have bits: those of which a type is due, and those that must have a type of 1.
@@ -134,7 +48,48 @@ fn groups_with_bits(due: u64, groups: Groups) -> u64
     both(groups.now, either(some_due, groups.wanted))
 }
 
-// Reads the types of these groups, of which these are due, and their signs, by a call: as many at once as a window has.
+// Returns what a window has of these groups, of whose types these are due. Returns none if a word's option is not known, or a group that
+// must have a type of 1 has none. There is no branch for a group: one that has no bits gives nothing.
+#[inline(always)]
+fn groups_in(
+    tables: &WordTables,
+    gaggle: &Gaggle,
+    found: Found,
+    due: u64,
+    groups: Groups,
+    window: u64,
+) -> Option<Read>
+    requires known { AreOptions gaggle.now.options }
+    requires first { groups.first < 64 }
+    requires count { groups.count ≤ 4 }
+    requires within { groups.first + 4 * groups.count ≤ 64 }
+    requires few { groups.now < 2 ^ groups.count }
+    ensures { IfSome result (AreGroupsIn tables.now.book gaggle.now found due groups window) }
+{
+    let sent = groups_with_bits(due, groups);
+    let lengths = Lengths::of(gaggle);
+    let mut read = Read { found, len: 0 };
+    let mut rest = window;
+    let mut known = 1;
+    let mut empty = 0;
+    for j in 0..groups.count {
+        let start = groups.first + 4 * j;
+        let here = masked(part(due, start, 4), has(sent, j));
+        let types = first_types(tables, &lengths, here, rest);
+        read.found.add_bits(types.new, start);
+        read.found.add_minus(types.minus, start);
+        read.len += types.len;
+        rest <<= types.len;
+        known &= types.known;
+        empty = joined(empty, one(types.new == 0), j);
+    }
+    if known == 0 || both(both(groups.wanted, sent), empty) != 0 {
+        return None;
+    }
+    Some(read)
+}
+
+// Reads the types of these groups, of which these are due, and their signs, one group after another.
 #[inline(never)]
 fn take_groups_in_turn<I: OctetIn>(
     input: &mut BitIn<I>,
@@ -158,7 +113,7 @@ fn take_groups_in_turn<I: OctetIn>(
     ensures is_in { OnSome result (IsIn (coming input.new)) }
 {
     let sent = groups_with_bits(due, groups);
-    let mut left = take_from_window(input, tables, gaggle, found, due, groups, sent);
+    let mut left = sent;
     while left != 0 {
         let j = first_in(left);
         let group = Group {
@@ -169,12 +124,12 @@ fn take_groups_in_turn<I: OctetIn>(
         let Some(()) = take_types(input, tables, gaggle, found, due, group)? else {
             return Ok(None);
         };
-        left = take_from_window(input, tables, gaggle, found, due, groups, without(left, j));
+        left = without(left, j);
     }
     Ok(Some(()))
 }
 
-// Reads the types of these groups, of which these are due, and their signs. Often no group has bits, and then there is no call.
+// Reads the types of these groups, of which these are due, and their signs: all at once if a window has them. Often no group has bits.
 #[inline(always)]
 pub(crate) fn take_groups<I: OctetIn>(
     input: &mut BitIn<I>,
@@ -199,6 +154,13 @@ pub(crate) fn take_groups<I: OctetIn>(
 {
     if groups_with_bits(due, groups) == 0 {
         return Ok(Some(()));
+    }
+    if let Some(window) = input.window() {
+        if let Some(read) = groups_in(tables, gaggle, *found, due, groups, window) {
+            input.take_window(window, read.len);
+            *found = read.found;
+            return Ok(Some(()));
+        }
     }
     take_groups_in_turn(input, tables, gaggle, found, due, groups)
 }

@@ -4,9 +4,9 @@
 //! (the slots of `block_masks`): `slicing` makes them before the first plane, and `joining` turns them into numbers after the last.
 //! `plane` goes over the stages, gaggles and blocks. `stages` reads what a block sends in a stage: `children`, `grandchildren` and
 //! `refine` read the parts of a stage, `groups` and `types` read flags, types and signs, and `word` reads the words of a gaggle.
-//! `found` collects what they give, and `apply` puts it into the block's masks. If the octets are in memory, groups and refinement
-//! bits are read from one window of their bits (`window`), otherwise one after another. Groups and parents of which no type is due
-//! have no bits, and are passed without a look at the text, except a group in which a type must be 1.
+//! `found` collects what they give, and `apply` puts it into the block's masks. If the octets are in memory, all groups of a set and
+//! refinement bits are read from one window of their bits (`window`), otherwise one after another. Groups and parents of which no type
+//! is due have no bits, and are passed without a look at the text, except a group in which a type must be 1.
 #![tactic(auto)]
 
 mod apply;

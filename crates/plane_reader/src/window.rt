@@ -1,41 +1,80 @@
 // The types of a group and their signs, if a window has all their bits.
 
-ghost use Rattle.std.specs.Prelude.{◌≤◌, ◌<◌, IfSome};
+ghost use Rattle.std.specs.Prelude.{◌≡◌, ◌≤◌, ◌<◌, IfSome};
 ghost use Rattle.block_masks.specs.Gaggles.{AreOptions};
-ghost use Rattle.plane_reader.specs.Window.{IsWordIn, AreTypesIn};
+ghost use Rattle.block_masks.specs.declared.gaggle.Gaggle.{Gaggle as GaggleValue};
+ghost use Rattle.plane_reader.specs.Window.{AreLengths, AreUsable, AreTypesIn, AreWantedTypesIn};
 
 use crate::word::count_of;
-use bit_pipe::Front;
 use block_masks::{Gaggle, spread, spread_first};
-use word_codes::{WordTables, word_in};
+use word_codes::{WordTables, first_word};
 
-// Returns the word of this number of bits that is first in a window, and the length of its code, if it needs no option or its
-// option is known.
-#[inline(always)]
-fn known_word(tables: &WordTables, gaggle: &Gaggle, count: u8, window: u64) -> Option<Front>
-    requires few { count ≤ 4 }
-    requires known { AreOptions gaggle.now.options }
-    ensures { IfSome result (IsWordIn tables.now.book gaggle.now count window) }
-{
-    if count < 2 {
-        return Some(Front {
-            number: (window >> 63) as u8 & count,
-            len: count,
-        });
-    }
-    let place = count as usize - 2;
-    if !gaggle.sent[place] {
-        return None;
-    }
-    Some(word_in(tables, gaggle.options[place], count, window))
+// What is known of a gaggle's words of each number of bits: their option, which is 0 for words of no bit and of one bit, and 1 if they
+// need no option or theirs is known, otherwise 0.
+#[derive(Clone, Copy)]
+pub(crate) struct Lengths {
+    pub options: [u8; 5],
+    pub known: [u8; 5],
 }
 
-// What a window has of a group: the places whose type is 1, those of them that are negative, and how many bits that takes.
+impl Lengths {
+    ghost use Rattle.block_masks.specs.Gaggles.{AreOptions};
+    ghost use Rattle.plane_reader.specs.Window.{AreLengths, AreUsable};
+
+    // Returns what the state of a gaggle says of its words.
+    #[inline(always)]
+    pub fn of(gaggle: &Gaggle) -> Lengths
+        requires known { AreOptions gaggle.now.options }
+        ensures lengths { AreLengths gaggle.now result }
+        ensures usable { AreUsable result }
+    {
+        let options = gaggle.options;
+        let sent = gaggle.sent;
+        Lengths {
+            options: [0, 0, options[0], options[1], options[2]],
+            known: [
+                1,
+                1,
+                u8::from(sent[0]),
+                u8::from(sent[1]),
+                u8::from(sent[2]),
+            ],
+        }
+    }
+}
+
+// What a window has of a group: the places whose type is 1, those of them that are negative, and how many bits that takes. It has no
+// meaning if `known` is 0.
 #[derive(Clone, Copy)]
 pub(crate) struct Types {
     pub new: u64,
     pub minus: u64,
     pub len: u8,
+    pub known: u8,
+}
+
+// Returns the types of these due places and the signs that follow them, as they are first in a window. There is no branch: the tables
+// have words of all lengths.
+#[inline(always)]
+pub(crate) fn first_types(tables: &WordTables, lengths: &Lengths, due: u64, window: u64) -> Types
+    requires due { due < 16 }
+    requires usable { AreUsable lengths.now }
+    ensures types { (g : GaggleValue) → AreLengths g lengths.now → result.known ≡ 1 → AreTypesIn tables.now.book g due window result }
+    ensures few { (result.new < 16) × (result.minus < 16) }
+    ensures short { result.len ≤ 12 }
+    ensures none { due ≡ 0 → (result.new ≡ 0) × ((result.minus ≡ 0) × (result.len ≡ 0)) }
+    ensures known { result.known < 2 }
+{
+    let count = count_of(due);
+    let word = first_word(tables, lengths.options[count as usize], count, window);
+    let new = spread(due, word.number);
+    let signs = ((window << word.len) >> 60) as u8;
+    Types {
+        new,
+        minus: spread_first(new, signs),
+        len: word.signed,
+        known: lengths.known[count as usize],
+    }
 }
 
 // Returns the types of these due places and the signs that follow them, as they are first in a window. Returns none if
@@ -50,19 +89,11 @@ pub(crate) fn types_in(
 ) -> Option<Types>
     requires due { due < 16 }
     requires known { AreOptions gaggle.now.options }
-    ensures { IfSome result (AreTypesIn tables.now.book gaggle.now due is_wanted window) }
+    ensures { IfSome result (AreWantedTypesIn tables.now.book gaggle.now due is_wanted window) }
 {
-    let word = known_word(tables, gaggle, count_of(due), window)?;
-    let new = spread(due, word.number);
-    if is_wanted && new == 0 {
+    let types = first_types(tables, &Lengths::of(gaggle), due, window);
+    if types.known == 0 || (is_wanted && types.new == 0) {
         return None;
     }
-    // The word has this number of ones, and it is known before its places are.
-    let count = count_of(u64::from(word.number));
-    let signs = ((window << word.len) >> 60) as u8;
-    Some(Types {
-        new,
-        minus: spread_first(new, signs),
-        len: word.len + count,
-    })
+    Some(types)
 }

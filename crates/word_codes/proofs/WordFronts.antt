@@ -169,9 +169,9 @@ tells_plain book n option e high fronts all = record {
 abbrev Row : Book → ℕ → ℕ → List Front → Type 0
 Row book n option row = AreFronts book n option row
 
-module _ (book : Book) (a b c d e f g h i : List Front) where
+module _ (book : Book) (z y a b c d e f g h i : List Front) where
   abbrev rows : List (List Front)
-  rows = a ∷ b ∷ c ∷ d ∷ e ∷ f ∷ g ∷ h ∷ i ∷ []
+  rows = z ∷ y ∷ a ∷ b ∷ c ∷ d ∷ e ∷ f ∷ g ∷ h ∷ i ∷ []
 
   pub all_told : Row book 2 0 a → Row book 3 0 c → Row book 3 1 d → Row book 4 0 f → Row book 4 1 g → Row book 4 2 h → (n option : ℕ) → 2 ≤ n → n ≤ 4 → option + 1 < n → Row book n option (get_or rows (row_place n option) [])
   all_told ta tc td tf tg th = each
@@ -190,23 +190,41 @@ module _ (book : Book) (a b c d e f g h i : List Front) where
       each (suc (suc (suc (suc zero)))) (suc (suc (suc option))) low high lt = absurd (omega arith)
       each (suc (suc (suc (suc (suc n))))) option low high lt = absurd (omega arith)
 
-  pub all_plain : ArePlain 2 b → ArePlain 3 e → ArePlain 4 i → (n : ℕ) → 2 ≤ n → n ≤ 4 → ArePlain n (get_or rows (row_place n (n - 1)) [])
-  all_plain tb te ti = each
+  pub all_plain : ArePlain 0 z → ArePlain 1 y → ArePlain 2 b → ArePlain 3 e → ArePlain 4 i → (n : ℕ) → n ≤ 4 → ArePlain n (get_or rows (row_place n (n - 1)) [])
+  all_plain tz ty tb te ti = each
     where
-      each : (n : ℕ) → 2 ≤ n → n ≤ 4 → ArePlain n (get_or rows (row_place n (n - 1)) [])
-      each zero low high = absurd (omega arith)
-      each (suc zero) low high = absurd (omega arith)
-      each (suc (suc zero)) low high = tb
-      each (suc (suc (suc zero))) low high = te
-      each (suc (suc (suc (suc zero)))) low high = ti
-      each (suc (suc (suc (suc (suc n))))) low high = absurd (omega arith)
+      each : (n : ℕ) → n ≤ 4 → ArePlain n (get_or rows (row_place n (n - 1)) [])
+      each zero high = tz
+      each (suc zero) high = ty
+      each (suc (suc zero)) high = tb
+      each (suc (suc (suc zero))) high = te
+      each (suc (suc (suc (suc zero)))) high = ti
+      each (suc (suc (suc (suc (suc n))))) high = absurd (omega arith)
 
 -- the table of an option has its words
-pub row_tells : (t : WordTables) (n option : ℕ) → 2 ≤ n → n ≤ 4 → option < n → Tells (2 ^ n) (word_item t.book n option) (get_or t.rows (row_place n option) [])
+pub row_tells : (t : WordTables) (n option : ℕ) → 1 ≤ n → n ≤ 4 → option < n → Tells (2 ^ n) (word_item t.book n option) (get_or t.rows (row_place n option) [])
 row_tells t n option low high known = elim (cases_lt (option + 1) n) [
-  | inl coded_one ↦ tells_words t.book n option t.sound low high coded_one _ (t.told n option low high coded_one)
+  | inl coded_one ↦ tells_words t.book n option t.sound (omega (arith, coded_one)) high coded_one _ (t.told n option (omega (arith, coded_one)) high coded_one)
   | inr most ↦
       let last : option + 1 ≡ n = omega (arith, most, known) in
       let there : n - 1 ≡ option = omega (arith, last) in
-      tells_plain t.book n option last high _ (subst (λ o. ArePlain n (get_or t.rows (row_place n o) [])) there (t.plain n low high))
+      tells_plain t.book n option last high _ (subst (λ o. ArePlain n (get_or t.rows (row_place n o) [])) there (t.plain n high))
 ]
+
+-- what is first in an octet, of words of at most four bits
+pub record IsFirst (book : Book) (n option octet : ℕ) (front : Front) : Type 0 where
+  pub known : front.number < 2 ^ n
+  pub few : front.len ≤ 8
+  pub none : n ≡ 0 → front.len ≡ 0
+  pub first : 1 ≤ n → item_bits (word_item book n option front.number) ≡ first_bits front.len octet
+
+first_at : (t : WordTables) (n option octet : ℕ) → n ≤ 4 → (n ≡ 0 → option ≡ 0) → (1 ≤ n → option < n) → octet < 256 → IsFirst t.book n option octet (front_at (get_or t.rows (row_place n option) []) octet)
+first_at t zero option octet high none known small =
+    let plain : front_at (get_or t.rows (row_place 0 0) []) octet ≡ record { number = octet / 2 ^ 8; len = 0 } = t.plain 0 high octet small in
+    rw (none refl, plain) (record { known = omega (arith, small); few = omega arith; none = λ e. refl; first = λ some. absurd (omega (arith, some)) })
+first_at t (suc m) option octet high none known small =
+    let tells = row_tells t (suc m) option (omega arith) high (known (omega arith)) in
+    record { known = tells.known octet small; few = tells.few octet small; none = λ e. absurd (omega (arith, e)); first = λ some. tells.first octet small }
+
+pub row_first : (t : WordTables) (n option row window : ℕ) → row ≡ row_place n option → n ≤ 4 → (n ≡ 0 → option ≡ 0) → (1 ≤ n → option < n) → window < 2 ^ 64 → IsFirst t.book n option (window / 2 ^ 56) (front_at (get_or t.rows row []) (window / 2 ^ 56))
+row_first t n option row window e high none known fits = rw e (first_at t n option (window / 2 ^ 56) high none known (omega (arith, fits)))

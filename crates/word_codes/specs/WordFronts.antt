@@ -1,5 +1,6 @@
 -- The word whose code is first in an octet. (This project's own.)
-use Rattle.std.specs.Prelude.{◌≡◌, ◌<◌, ℕ, ◌+◌, ◌-◌, ◌*◌, ◌/◌, ◌^◌, List}
+use Rattle.std.specs.Prelude.{◌≡◌, ◌<◌, ℕ, ◌+◌, ◌-◌, ◌/◌, ◌%◌, ◌^◌, List, [], ◌∷◌, count_ones}
+use lib.ListN.{get_or}
 use Rattle.bit_pipe.specs.declared.front.Front.{Front}
 use Rattle.bit_pipe.specs.Fronts.{front_at, first_bits}
 use Rattle.base_122.specs.declared.book.Code.{Code}
@@ -24,6 +25,14 @@ pub record AreFronts (book : Book) (n option : ℕ) (fronts : List Front) : Type
 abbrev pub ArePlain : (n : ℕ) → List Front → Type 0
 ArePlain n fronts = (octet : ℕ) → octet < 256 → front_at fronts octet ≡ record { number = octet / 2 ^ (8 - n); len = n }
 
--- the index of an option's table; the tables of words of two bits are first
+-- the number of bits of each entry's code, with a sign for each 1 of its word
+abbrev pub AreSigned : List Front → List ℕ → Type 0
+AreSigned fronts lengths = (octet : ℕ) → octet < 256 → get_or lengths octet 0 ≡ ((front_at fronts octet).len + count_ones (front_at fronts octet).number) % 256
+
+-- the index of the first table of words of this number of bits
+abbrev pub first_row : ℕ → ℕ
+first_row n = get_or (0 ∷ 1 ∷ 2 ∷ 4 ∷ 7 ∷ []) n 0
+
+-- the index of an option's table
 abbrev pub row_place : (n option : ℕ) → ℕ
-row_place n option = n * (n - 1) / 2 - 1 + option
+row_place n option = first_row n + option

@@ -14,4 +14,4 @@ pub use choice::best_option;
 pub use put::{code_of_word, put_option, put_word};
 pub use symbols::symbol_of;
 pub use tables::WordTables;
-pub use take::{take_option, take_word, take_word_by, word_in};
+pub use take::{FirstWord, first_word, take_option, take_word, take_word_by};

@@ -3,7 +3,7 @@
 ghost use Rattle.std.specs.Prelude.{◌≡◌, ◌≤◌, ◌<◌, ◌+◌, ◌-◌, ◌/◌, ◌^◌, ℕ, IsTrue, [], slice_index_or};
 ghost use Rattle.bit_pipe.specs.Fronts.{front_at};
 ghost use Rattle.plane_defs.specs.Codes.{is_book_sound};
-ghost use Rattle.word_codes.specs.WordFronts.{AreFronts, ArePlain, row_place};
+ghost use Rattle.word_codes.specs.WordFronts.{AreFronts, ArePlain, AreSigned, row_place};
 
 use crate::choice::table_at;
 use crate::put::trimmed;
@@ -13,16 +13,19 @@ use bit_pipe::Front;
 
 const NOTHING: Front = Front { number: 0, len: 0 };
 
-/// Tables, for each option of words of 2 to 4 bits, of the word that is first in an octet, with the codes of a sound book
-/// (docs/formats.md, "Words and codes"). They are made once, and are used for all words that are read.
+/// Tables, for each option of words of 2 to 4 bits and for shorter words, of the word that is first in an octet, with the codes of a
+/// sound book (docs/formats.md, "Words and codes"). They are made once, and are used for all words that are read.
 #[derive(Drop)]
 pub struct WordTables {
     /// The book that the tables are of.
     pub book: Book,
-    pub(crate) rows: [[Front; 256]; 9],
+    pub(crate) rows: [[Front; 256]; 11],
+    // The number of bits of the code of each entry, and of a sign for each 1 of its word.
+    pub(crate) signed: [[u8; 256]; 11],
     ghost sound: { IsTrue (is_book_sound book) },
     ghost told: { (n option : ℕ) → 2 ≤ n → n ≤ 4 → option + 1 < n → AreFronts book n option (slice_index_or rows (row_place n option) []) },
-    ghost plain: { (n : ℕ) → 2 ≤ n → n ≤ 4 → ArePlain n (slice_index_or rows (row_place n (n - 1)) []) },
+    ghost plain: { (n : ℕ) → n ≤ 4 → ArePlain n (slice_index_or rows (row_place n (n - 1)) []) },
+    ghost told_signed: { (row : ℕ) → row < 11 → AreSigned (slice_index_or rows row []) (slice_index_or signed row []) },
 }
 
 // Sets the entries of the octets that begin with a code.
@@ -78,17 +81,29 @@ fn plain_fronts(length: u8) -> [Front; 256]
     fronts
 }
 
+// Returns how many bits the code of each entry has with a sign for each 1 of its word. A code has at most 8 bits.
+fn signed_lengths(fronts: &[Front; 256]) -> [u8; 256]
+    ensures { AreSigned fronts.now result }
+{
+    let mut lengths = [0; 256];
+    for octet in 0..256usize {
+        let front = fronts[octet];
+        lengths[octet] = front.len.wrapping_add(front.number.count_ones() as u8);
+    }
+    lengths
+}
+
 // The index at which the tables of the options of words of this number of bits begin.
-const FIRST_ROWS: [usize; 5] = [0, 0, 0, 2, 5];
+const FIRST_ROWS: [usize; 5] = [0, 1, 2, 4, 7];
 
 // Returns the index of an option's table.
 #[inline(always)]
 pub(crate) fn row_at(length: u8, option: u8) -> usize
-    requires short { 2 ≤ length }
     requires long { length ≤ 4 }
-    requires known { option < length }
+    requires none { length ≡ 0 → option ≡ 0 }
+    requires known { 1 ≤ length → option < length }
     ensures value { result ≡ row_place length option }
-    ensures within { result < 9 }
+    ensures within { result < 11 }
 {
     FIRST_ROWS[length as usize] + option as usize
 }
@@ -99,19 +114,27 @@ impl WordTables {
         requires { IsTrue (is_book_sound book.now) }
         ensures { result.book ≡ book.now }
     {
+        let rows = [
+            plain_fronts(0),
+            plain_fronts(1),
+            fronts_of(book, 2, 0),
+            plain_fronts(2),
+            fronts_of(book, 3, 0),
+            fronts_of(book, 3, 1),
+            plain_fronts(3),
+            fronts_of(book, 4, 0),
+            fronts_of(book, 4, 1),
+            fronts_of(book, 4, 2),
+            plain_fronts(4),
+        ];
+        let mut signed = [[0; 256]; 11];
+        for row in 0..11usize {
+            signed[row] = signed_lengths(&rows[row]);
+        }
         WordTables {
             book: *book,
-            rows: [
-                fronts_of(book, 2, 0),
-                plain_fronts(2),
-                fronts_of(book, 3, 0),
-                fronts_of(book, 3, 1),
-                plain_fronts(3),
-                fronts_of(book, 4, 0),
-                fronts_of(book, 4, 1),
-                fronts_of(book, 4, 2),
-                plain_fronts(4),
-            ],
+            rows,
+            signed,
         }
     }
 }

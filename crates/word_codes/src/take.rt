@@ -1,6 +1,6 @@
 // The reader of words and options.
 
-ghost use Rattle.std.specs.Prelude.{◌≡◌, ◌≤◌, ◌<◌, ◌^◌, IsTrue, MatchOption, false};
+ghost use Rattle.std.specs.Prelude.{◌≡◌, ◌≤◌, ◌<◌, ◌+◌, ◌^◌, IsTrue, MatchOption, false, count_ones};
 ghost use Rattle.bit_pipe.specs.Coming.{coming, IsIn};
 ghost use Rattle.bit_pipe.specs.Answers.{IsBelow, TakesOne};
 ghost use Rattle.bit_pipe.specs.Windows.{first_of};
@@ -9,7 +9,7 @@ ghost use Rattle.plane_defs.specs.Codes.{is_book_sound, word_item, identifier_wi
 
 use crate::tables::{WordTables, row_at};
 use base_122::Book;
-use bit_pipe::{BitIn, Front, OctetIn, TextFault};
+use bit_pipe::{BitIn, OctetIn, TextFault};
 
 // Returns the number of bits of an identifier.
 fn identifier_bits(length: u8) -> u8
@@ -84,20 +84,38 @@ pub fn take_word_by<I: OctetIn>(
     input.take_front(&tables.rows[row_at(length, option)])
 }
 
-/// Returns the word of 2 to 4 bits whose code is first in a window of the next bits, the first highest, and how many bits the
-/// code has (docs/formats.md, "Words and codes"). There is always one.
+/// The word that is first in a window: its bits, the highest first, the number of bits of its code, and this number with that of the
+/// signs that follow a word of types, one for each 1.
+#[derive(Clone, Copy)]
+pub struct FirstWord {
+    pub number: u8,
+    pub len: u8,
+    pub signed: u8,
+}
+
+/// Returns the word of at most 4 bits whose code is first in a window of the next bits, the first highest (docs/formats.md, "Words and
+/// codes"). There is always one.
 ///
-/// `option` is one of the length's options.
+/// `option` is one of the length's options, and 0 for words of no bit and of one bit, which are sent as they are.
 #[inline(always)]
-pub fn word_in(tables: &WordTables, option: u8, length: u8, window: u64) -> Front
-    requires short { 2 ≤ length }
+pub fn first_word(tables: &WordTables, option: u8, length: u8, window: u64) -> FirstWord
     requires long { length ≤ 4 }
-    requires known { option < length }
+    requires none { length ≡ 0 → option ≡ 0 }
+    requires known { 1 ≤ length → option < length }
     ensures fits { result.number < 2 ^ length }
     ensures few { result.len ≤ 8 }
-    ensures first { item_bits (word_item tables.now.book length option result.number) ≡ first_of result.len window }
+    ensures none { length ≡ 0 → result.len ≡ 0 }
+    ensures first { 1 ≤ length → item_bits (word_item tables.now.book length option result.number) ≡ first_of result.len window }
+    ensures signed { result.signed ≡ result.len + count_ones result.number }
 {
-    tables.rows[row_at(length, option)][(window >> 56) as usize]
+    let row = row_at(length, option);
+    let octet = (window >> 56) as usize;
+    let front = tables.rows[row][octet];
+    FirstWord {
+        number: front.number,
+        len: front.len,
+        signed: tables.signed[row][octet],
+    }
 }
 
 /// Reads the code of one word, by a sound book, as `take_word_by` does.
