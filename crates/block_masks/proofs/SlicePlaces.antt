@@ -5,7 +5,8 @@ use Rattle.std.proofs.lemmas.Bool.{cases_lt, cases_eq}
 use Rattle.std.proofs.lemmas.Int.{of_z-to_z}
 use Rattle.std.proofs.lemmas.Nat.{div-add-mod', mod_below}
 use Rattle.std.proofs.lemmas.List.{get_or-set_same, get_or-set_other}
-use Rattle.block_masks.specs.Slices.{width, place, mask_from, mask_in, PutsMask}
+use Rattle.block_masks.specs.declared.slices.Column.{Column}
+use Rattle.block_masks.specs.Slices.{width, place, IsColumn, mask_from, mask_in, PutsMask}
 
 -- a step to the next slot is at least a width
 next_slot : (w s t : ℕ) → s < t → w * s + w ≤ w * t
@@ -89,3 +90,11 @@ module _ (cells : List ℤ) (r slot mask : ℕ) (whole : length cells % 64 ≡ 0
     other_slots = λ s low other. others r s block low (λ e f. other e);
     other_blocks = λ q s known low other. others q s known low (λ e f. other f);
   }
+
+-- the places of masks depend on the number of blocks alone
+pub same_column : {old new : List ℤ} {column : Column} → length new ≡ length old → IsColumn old column → IsColumn new column
+same_column {column = column} long is = record {
+  block = omega (arith, is.block, long);
+  first = is.first ∙ ap (λ n. place (n / 64) column.block 0) (sym long);
+  step = is.step ∙ ap (λ n. 2 * width (n / 64) column.block) (sym long);
+}

@@ -110,15 +110,22 @@ pub fn put_mask(cells: &mut [i32], column: Column, slot: u8, mask: u64)
     cells[at + 1] = high.cast_signed();
 }
 
+// The number of blocks of a gaggle, which are in one group.
+const GAGGLE: usize = 16;
+
 /// Adds to the masks of what is significant above a plane what has the plane's bit, as the plane below needs it.
 pub fn settle_above(cells: &mut [i32], plane: u8)
     requires whole { length cells.old % 64 ≡ 0 }
     requires low { plane < 28 }
     ensures { Settles plane (length cells.old / 64) cells.old cells.new }
 {
-    for r in 0..cells.len() / 64 {
-        let column = Column::of(cells, r);
-        let above = either(mask_of(cells, column, ABOVE), mask_of(cells, column, plane));
-        put_mask(cells, column, ABOVE, above);
+    let count = cells.len() / 64;
+    for g in 0..count.div_ceil(GAGGLE) {
+        let first = Column::of(cells, GAGGLE * g);
+        for k in 0..(count - first.block).min(GAGGLE) {
+            let column = first.further(cells, k);
+            let above = either(mask_of(cells, column, ABOVE), mask_of(cells, column, plane));
+            put_mask(cells, column, ABOVE, above);
+        }
     }
 }

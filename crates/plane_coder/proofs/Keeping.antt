@@ -16,7 +16,7 @@ use Rattle.block_masks.specs.Slices.{mask_in, number_in, numbers_in, bits_below,
 use Rattle.block_masks.proofs.SliceNumbers.{bits_below-same, number_in-is, same_numbers}
 use Rattle.plane_coder.specs.Sliced.{SameNumbers}
 use Rattle.plane_coder.specs.Kept.{free_mask, free_masks, IsFull, OnlyFree, width_in, bits_in, bits_between}
-use Rattle.plane_coder.proofs.Sliced.{column_later}
+use Rattle.block_masks.proofs.SlicePlaces.{same_column}
 use Rattle.plane_coder.proofs.Sending.{flat_map-span-below}
 
 -- ---- free masks
@@ -67,7 +67,7 @@ module _ (b m mask : ℕ) {old new : List ℤ} (few : m < 32) (full : 64 * (b + 
   }
 
 pub full_later : {first : Column} {old new : List ℤ} → length new ≡ length old → IsFull old first → IsFull new first
-full_later long is = record { column = column_later long is.column; start = is.start; full = omega (arith, long, is.full) }
+full_later long is = record { column = same_column long is.column; start = is.start; full = omega (arith, long, is.full) }
 
 pub only_none : (b : ℕ) (cells : List ℤ) → OnlyFree b cells cells
 only_none b cells = record { long = refl; slots = λ r s known low first last. refl; others = λ r s known low apart. refl }

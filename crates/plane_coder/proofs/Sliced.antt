@@ -9,17 +9,8 @@ use Rattle.wave_defs.specs.Held.{block_at}
 use Rattle.plane_defs.specs.Sets.{magnitude, significant}
 use Rattle.plane_defs.specs.Entries.{negative}
 use Rattle.block_masks.specs.Masks.{Shows}
-use Rattle.block_masks.specs.declared.slices.Column.{Column}
-use Rattle.block_masks.specs.Slices.{mask_in, width, place, IsColumn, PutsMask}
+use Rattle.block_masks.specs.Slices.{mask_in, PutsMask}
 use Rattle.plane_coder.specs.Sliced.{HasPlanes, HasMasks, HasFirst, KeepsOthers}
-
--- the places of masks depend on the number of blocks alone
-pub column_later : {column : Column} {old new : List ℤ} → length new ≡ length old → IsColumn old column → IsColumn new column
-column_later {column} {old} {new} long is = record {
-  block = omega (arith, long, is.block);
-  first = is.first ∙ ap (λ n. place (n / 64) column.block 0) (sym long);
-  step = is.step ∙ ap (λ n. 2 * width (n / 64) column.block) (sym long);
-}
 
 pub keeps_all : (r : ℕ) (cells : List ℤ) → KeepsOthers r cells cells
 keeps_all r cells = record { long = refl; others = λ q s known few other. refl }

@@ -1,5 +1,5 @@
 -- The numbers that masks represent, if some masks are changed.
-use Rattle.std.proofs.Common.{◌≡◌, ◌≢◌, inl, inr, ℕ, ◌+◌, ◌*◌, ◌/◌, ◌%◌, ◌<◌, ◌≤◌, ◌^◌, max, Bool, true, not, ◌||◌, ◌==◌, List, [], length, take, ap, sym, ◌∙◌, subst, arith, ℤ, pos, unsigned_abs, if◌then◌else◌, drop_of_length-le}
+use Rattle.std.proofs.Common.{◌≡◌, ◌≢◌, inl, inr, ℕ, ◌+◌, ◌*◌, ◌%◌, ◌<◌, ◌≤◌, ◌^◌, max, Bool, true, not, ◌||◌, ◌==◌, List, [], length, take, ap, sym, ◌∙◌, subst, arith, ℤ, pos, unsigned_abs, if◌then◌else◌, drop_of_length-le}
 use Rattle.std.specs.Int.{bit_at}
 use Rattle.std.specs.Prelude.{bit_or}
 use Rattle.std.specs.Int.Bits.{or_add_and}
@@ -13,20 +13,11 @@ use Rattle.plane_defs.specs.Entries.{negative}
 use Rattle.plane_defs.specs.Sets.{magnitude}
 use Rattle.plane_defs.specs.StepLaws.{IsAc}
 use Rattle.block_masks.specs.BitsSet.{with_bit}
-use Rattle.block_masks.specs.declared.slices.Column.{Column}
-use Rattle.block_masks.specs.Slices.{IsColumn, width, place, mask_in, minus_slot, above_slot, size_in, number_in, numbers_in}
+use Rattle.block_masks.specs.Slices.{mask_in, minus_slot, above_slot, size_in, number_in, numbers_in}
 use Rattle.block_masks.proofs.SliceNumbers.{signed, ac_number, length-numbers_in, bits_below-same, size_small, size_bit, same_number, block_number, length-block}
 use Rattle.item_defs.specs.Bits.{value_of}
 
 -- ---- blocks
-
--- a column has the places of its block's masks in all masks of this number
-pub same_column : {old new : List ℤ} {column : Column} → length new ≡ length old → IsColumn old column → IsColumn new column
-same_column {column = column} long is = record {
-  block = omega (arith, is.block, long);
-  first = is.first ∙ ap (λ n. place (n / 64) column.block 0) (sym long);
-  step = is.step ∙ ap (λ n. 2 * width (n / 64) column.block) (sym long);
-}
 
 no_block : (xs : List ℤ) (r : ℕ) → length xs ≤ 64 * r → block_at xs r ≡ []
 no_block xs r le = ap (take 64) (drop_of_length-le xs le)

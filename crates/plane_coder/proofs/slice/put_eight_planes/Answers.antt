@@ -1,6 +1,7 @@
 use Rattle.std.proofs.Common.{◌≡◌, ◌+◌, min, subst, arith}
 use Rattle.plane_coder.specs.Sliced.{HasPlanes}
-use Rattle.plane_coder.proofs.Sliced.{keeps_all, keeps_more, more_planes, column_later}
+use Rattle.plane_coder.proofs.Sliced.{keeps_all, keeps_more, more_planes}
+use Rattle.block_masks.proofs.SlicePlaces.{same_column}
 use Rattle.plane_coder.proofs.slice.put_eight_planes.Goals as goal
 
 pub loop-i-init : goal.loop-i-init
@@ -11,7 +12,7 @@ loop-i-init c =
 pub put_mask-requires : goal.put_mask-requires
 put_mask-requires c = record {
   whole = omega (arith, c.loop-i.invariant.others.long, c.requires.blocks);
-  column = column_later c.loop-i.invariant.others.long c.requires.column;
+  column = same_column c.loop-i.invariant.others.long c.requires.column;
   slot = omega (arith, c.loop-i-test.true, c.requires.from);
 }
 

@@ -1,6 +1,7 @@
 use Rattle.std.proofs.Common.{◌≡◌, ◌+◌, ◌*◌, ◌^◌, ◌<◌, ◌≤◌, min, pow_mono, subst, arith}
 use Rattle.plane_coder.specs.Sliced.{HasPlanes}
-use Rattle.plane_coder.proofs.Sliced.{keeps_all, keeps_more, keeps_then, no_plane, more_planes, no_bits, column_later}
+use Rattle.plane_coder.proofs.Sliced.{keeps_all, keeps_more, keeps_then, no_plane, more_planes, no_bits}
+use Rattle.block_masks.proofs.SlicePlaces.{same_column}
 use Rattle.plane_coder.proofs.slice.put_masks_of_planes.Goals as goal
 
 pub loop-eight-init : goal.loop-eight-init
@@ -16,7 +17,7 @@ put_eight_planes-requires c =
       from = under;
       small = λ k. omega (arith, c.requires.small k, most);
       blocks = omega (arith, c.loop-eight.invariant.others.long, c.requires.blocks);
-      column = column_later c.loop-eight.invariant.others.long c.requires.column;
+      column = same_column c.loop-eight.invariant.others.long c.requires.column;
       so_far = subst (λ n. HasPlanes n c.args.block.now c.loop-eight.cells c.args.column.block) first c.loop-eight.invariant.so_far;
     }
 
@@ -36,7 +37,7 @@ loop-high-init c =
 pub put_mask-requires : goal.put_mask-requires
 put_mask-requires c = record {
   whole = omega (arith, c.loop-high.invariant.others.long, c.requires.blocks);
-  column = column_later c.loop-high.invariant.others.long c.requires.column;
+  column = same_column c.loop-high.invariant.others.long c.requires.column;
   slot = omega (arith, c.loop-high-test.true);
 }
 

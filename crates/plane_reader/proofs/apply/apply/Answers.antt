@@ -1,7 +1,7 @@
 use Rattle.std.proofs.Common.{◌<◌, ◌^◌, ◌||◌, ap, ◌∙◌, rules}
 use Rattle.item_defs.specs.Bits.{bit}
 use Rattle.block_masks.specs.Slices.{mask_in}
-use Rattle.plane_reader.proofs.CellNumbers.{same_column}
+use Rattle.block_masks.proofs.SlicePlaces.{same_column}
 use Rattle.plane_reader.proofs.ApplyCells.{Gives, gives_both, either_there, both_there, given_applied, given_others, given_ready}
 use Rattle.plane_reader.proofs.apply.apply.Goals as goal
 

@@ -2,7 +2,7 @@ use Rattle.std.proofs.Common.{◌≡◌, ◌+◌, ◌*◌, ◌<◌, ◌∙◌, r
 use Rattle.std.proofs.lemmas.Result.{err_from_is_err_and}
 use Rattle.bit_pipe.specs.Coming.{coming}
 use Rattle.block_masks.specs.Slices.{numbers_in}
-use Rattle.plane_reader.proofs.CellNumbers.{same_column}
+use Rattle.block_masks.proofs.SlicePlaces.{same_column}
 use Rattle.plane_reader.proofs.GaggleMarks.{keeps_none, keeps_one, keeps_then}
 use Rattle.plane_reader.proofs.GaggleSteps.{goes_to, goes_in, goes_known, call_leaves, gaggle_ends}
 use Rattle.plane_reader.proofs.GaggleStages.{load_same, store_same, reaches_same}
