@@ -140,7 +140,30 @@ impl SegmentReader {
         ensures decodes { DecodesSegment I.source self.now.tables.book head.now result input.old input.new blocks.new }
         ensures sizes { (length blocks.new ≡ length blocks.old) × (length marks.new ≡ length marks.old) }
     {
-        let part = self.decode_items(input, head, head.octets(), blocks, marks)?;
+        clear(blocks);
+        self.decode_into_clear(input, head, blocks, marks)
+    }
+
+    /// The same as `decode`, for blocks whose numbers are all 0: it saves the time of clearing them.
+    ///
+    /// # Errors
+    ///
+    /// Those of `decode`.
+    pub fn decode_into_clear<I: OctetIn>(
+        &self,
+        input: &mut I,
+        head: &SegmentHead,
+        blocks: &mut [i32],
+        marks: &mut [i32],
+    ) -> Result<Part, SegmentFault>
+        requires fits { IsHead head.now }
+        requires count { length blocks.old ≡ 64 * length marks.old }
+        requires marks { length marks.old ≡ head.now.blocks }
+        requires clear { AreClear blocks.old }
+        ensures decodes { DecodesSegment I.source self.now.tables.book head.now result input.old input.new blocks.new }
+        ensures sizes { (length blocks.new ≡ length blocks.old) × (length marks.new ≡ length marks.old) }
+    {
+        let part = self.items_into_clear(input, head, head.octets(), blocks, marks)?;
         let None = input.take()? else {
             return Err(SegmentFault::Overlong);
         };
@@ -171,6 +194,26 @@ impl SegmentReader {
         ensures sizes { (length blocks.new ≡ length blocks.old) × (length marks.new ≡ length marks.old) }
     {
         clear(blocks);
+        self.items_into_clear(input, head, size, blocks, marks)
+    }
+
+    // The same as `decode_items`, for blocks whose numbers are all 0.
+    fn items_into_clear<I: OctetIn>(
+        &self,
+        input: &mut I,
+        head: &SegmentHead,
+        size: u8,
+        blocks: &mut [i32],
+        marks: &mut [i32],
+    ) -> Result<Part, SegmentFault>
+        requires fits { IsHead head.now }
+        requires size { size ≤ 20 }
+        requires count { length blocks.old ≡ 64 * length marks.old }
+        requires marks { length marks.old ≡ head.now.blocks }
+        requires clear { AreClear blocks.old }
+        ensures decodes { DecodesItems I.source self.now.tables.book head.now size result input.old input.new blocks.new }
+        ensures sizes { (length blocks.new ≡ length blocks.old) × (length marks.new ≡ length marks.old) }
+    {
         let (part, used) = take_from(input, head, size, blocks, marks, &self.tables)?;
         match part {
             Part::Whole => end_whole(input, head, used),

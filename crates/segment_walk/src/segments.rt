@@ -1,7 +1,9 @@
 // Takes the segments of an image, one after another.
-ghost use Rattle.std.specs.Prelude.{◌≡◌, ◌≤◌, ◌*◌, true, length, vec_len};
+ghost use Rattle.std.specs.Prelude.{◌≡◌, ◌≤◌, ◌*◌, true, length, take, vec_len};
 ghost use Rattle.base_122.specs.Ranges.{IsGeometryInRange};
 ghost use Rattle.segment_defs.specs.Head.{IsHead};
+ghost use Rattle.segment_code.specs.Decoded.{DecodesSegment};
+ghost use Rattle.segment_code.specs.TakenText.{AreClear};
 ghost use Rattle.stream_defs.specs.Begun.{placed};
 ghost use Rattle.packet_assembly.specs.Assembling.{Assembling};
 ghost use Rattle.segment_walk.specs.Steps.{walking, IsCurrent, HasRoom, PassesBlocks, AreBlocks};
@@ -14,7 +16,7 @@ use crate::ending::DecodeFault;
 use crate::sink::BlockSink;
 use crate::walk::{SegmentRoom, Walk, end_image, passed, placed};
 use base_122::{FieldRange, Geometry};
-use bit_pipe::InFault;
+use bit_pipe::{InFault, OctetIn, Part};
 use packet_assembly::{Assembly, SegmentStart};
 use port_122::{Failed, Port};
 use segment_code::{SegmentFault, SegmentReader};
@@ -45,27 +47,49 @@ fn end_text<X: Port>(port: &mut X, assembly: &mut Assembly) -> Result<bool, Deco
     }
 }
 
-// Reads the text of a segment with the reader's code book into the first of these blocks. Returns false if it is refused or breaks off.
-fn read_text<X: Port>(
-    port: &mut X,
-    assembly: &mut Assembly,
+// Reads the text of a segment into the first of these blocks, which are clear.
+fn decode_first<I: OctetIn>(
     reader: &SegmentReader,
+    text: &mut I,
     head: &SegmentHead,
     blocks: &mut [i32],
     marks: &mut [i32],
-) -> Result<bool, DecodeFault>
+) -> Result<Part, SegmentFault>
     requires head { IsHead head.now }
     requires blocks { 64 * head.now.blocks ≤ length blocks.old }
     requires marks { head.now.blocks ≤ length marks.old }
-    ensures { ReadsText reader.now.tables.book (X.outside port.old) (X.outside port.new) assembly.old assembly.new head.now blocks.new result }
+    requires clear { AreClear (take (64 * head.now.blocks) blocks.old) }
+    ensures decodes { DecodesSegment I.source reader.now.tables.book head.now result text.old text.new (take (64 * head.now.blocks) blocks.new) }
+    ensures sizes { (length blocks.new ≡ length blocks.old) × (length marks.new ≡ length marks.old) }
 {
     let count = head.blocks as usize;
+    reader.decode_into_clear(text, head, &mut blocks[..64 * count], &mut marks[..count])
+}
+
+// Reads the text of a segment with the room's code book into its first blocks. Returns false if it is refused or breaks off.
+fn read_text<X: Port>(
+    port: &mut X,
+    assembly: &mut Assembly,
+    room: &mut SegmentRoom,
+    head: &SegmentHead,
+) -> Result<bool, DecodeFault>
+    requires head { IsHead head.now }
+    requires blocks { 64 * head.now.blocks ≤ vec_len room.old.blocks }
+    requires marks { head.now.blocks ≤ vec_len room.old.marks }
+    ensures blocks { vec_len room.new.blocks ≡ vec_len room.old.blocks }
+    ensures marks { vec_len room.new.marks ≡ vec_len room.old.marks }
+    ensures pixels { room.new.pixels ≡ room.old.pixels }
+    ensures reader { room.new.reader ≡ room.old.reader }
+    ensures reads { ReadsText room.old.reader.tables.book (X.outside port.old) (X.outside port.new) assembly.old assembly.new head.now room.new.blocks.items result }
+{
+    room.clear_blocks(64 * head.blocks as usize);
     let mut text = assembly.text(port);
-    let read = reader.decode(
+    let read = decode_first(
+        &room.reader,
         &mut text,
         head,
-        &mut blocks[..64 * count],
-        &mut marks[..count],
+        &mut room.blocks,
+        &mut room.marks,
     );
     let Err(fault) = read else {
         return end_text(port, assembly);
@@ -202,15 +226,7 @@ pub fn take_segment<S: BlockSink, X: Port>(
     let Ok(()) = reach_segment(walk, port, start) else {
         return Err(DecodeFault::WriteFault);
     };
-    let read = read_text(
-        port,
-        assembly,
-        &room.reader,
-        &start.head,
-        &mut room.blocks,
-        &mut room.marks,
-    );
-    let accepted = match read {
+    let accepted = match read_text(port, assembly, room, &start.head) {
         Ok(accepted) => accepted,
         Err(fault) => return Err(fault),
     };

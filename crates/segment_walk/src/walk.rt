@@ -1,6 +1,7 @@
 // The state of a walk over segments.
-ghost use Rattle.std.specs.Prelude.{◌≡◌, ◌≤◌, ◌+◌, ◌*◌, IfOk, vec_len};
+ghost use Rattle.std.specs.Prelude.{◌≡◌, ◌≤◌, ◌+◌, ◌*◌, length, take, IfOk, IsTrue, vec_len};
 ghost use Rattle.base_122.specs.Ranges.{IsGeometryInRange, IsWithin, rows_range};
+ghost use Rattle.segment_code.specs.TakenText.{AreClear};
 ghost use Rattle.stream_defs.specs.Begun.{placed};
 ghost use Rattle.segment_walk.specs.Sinks.{MayEnd};
 ghost use Rattle.segment_walk.specs.Steps.{walking, passed_in, IsCurrent, IsFresh, HasGeometry};
@@ -85,12 +86,16 @@ pub struct SegmentRoom {
     pub blocks: Vec<i32>,
     pub marks: Vec<i32>,
     pub pixels: u64,
+    /// No segment was read yet, so all numbers of the blocks are 0.
+    pub(crate) is_clear: bool,
+    ghost clear: { IsTrue is_clear → AreClear blocks.items },
 }
 
 impl SegmentRoom {
-    ghost use Rattle.std.specs.Prelude.{◌≡◌, ◌≤◌, ◌+◌, ◌*◌, IfOk, IsTrue, vec_len};
+    ghost use Rattle.std.specs.Prelude.{◌≡◌, ◌≤◌, ◌+◌, ◌*◌, false, take, IfOk, IsTrue, vec_len};
     ghost use Rattle.base_122.specs.Ranges.{IsGeometryInRange, IsWithin, rows_range};
     ghost use Rattle.plane_defs.specs.Codes.{is_book_sound};
+    ghost use Rattle.segment_code.specs.TakenText.{AreClear};
     ghost use Rattle.segment_walk.specs.Rooms.{IsRoom};
 
     /// Takes the memory for the segments of an image, which are read with the wish's code book. It fails only if there is too little memory.
@@ -114,6 +119,34 @@ impl SegmentRoom {
             blocks,
             marks,
             pixels: wish.pixels,
+            is_clear: true,
         })
     }
+
+    // Clears the first `count` numbers of the blocks for a segment. The blocks of a new room are clear already: the first segment saves the
+    // time of filling them again.
+    pub(crate) fn clear_blocks(&mut self, count: usize)
+        requires { count ≤ vec_len self.old.blocks }
+        ensures clear { AreClear (take count self.new.blocks.items) }
+        ensures blocks { vec_len self.new.blocks ≡ vec_len self.old.blocks }
+        ensures used { self.new.is_clear ≡ false }
+        ensures reader { self.new.reader ≡ self.old.reader }
+        ensures marks { self.new.marks ≡ self.old.marks }
+        ensures pixels { self.new.pixels ≡ self.old.pixels }
+    {
+        if self.is_clear {
+            self.is_clear = false;
+            return;
+        }
+        clear_first(&mut self.blocks, count);
+    }
+}
+
+// Sets the first `count` numbers to 0.
+fn clear_first(numbers: &mut [i32], count: usize)
+    requires { count ≤ length numbers.old }
+    ensures clear { AreClear (take count numbers.new) }
+    ensures size { length numbers.new ≡ length numbers.old }
+{
+    numbers[..count].fill(0);
 }

@@ -1,17 +1,25 @@
-use Rattle.std.proofs.Common.{rules, drop, ◌*◌, ◌∙◌, length-take-le}
+use Rattle.std.proofs.Common.{rules, arith, length, take, drop, ◌≡◌, ◌++◌, ◌*◌, ◌∙◌, sym, subst, vec_len, length-take-le}
+use Rattle.std.specs.Vec.{with_items}
+use Rattle.std.proofs.lemmas.List.{take-append-drop, with_items_is}
+use Rattle.segment_walk.specs.Segments.{ReadsText}
 use Rattle.segment_walk.proofs.TextReads.{text_read, text_refused}
 use Rattle.segment_walk.proofs.segments.read_text.Goals as goal
 
-pub returns-in_default : goal.returns-in_default
-returns-in_default g c =
+pub returns-in_default-clause-reads : goal.returns-in_default-clause-reads
+returns-in_default-clause-reads g c =
     let head = c.args.head.now in
-    let read = c.in_default.ensures in
-    text_read g.X.Port.outside c.args.reader.now.tables.book c.text-text.result c.decode-read.new.input head c.in_default.field-0 c.decode-read.new.blocks (drop (64 * head.blocks) c.args.blocks.now)
-    (read.sizes.0 ∙ length-take-le _ _ c.requires.blocks) read.decodes (g.X.Port.outside c.end_text.new.port) c.end_text.new.assembly
-    c.args.port.now _ c.args.assembly.now _ c.end_text.result c.text-text.ensures.port_now c.text-text.ensures.now (search rules) (search rules) c.end_text.ensures
+    let n = 64 * head.blocks in
+    let old = c.clear_blocks.new.self.blocks in
+    let new = c.decode_first-read.new.blocks in
+    let long : length new ≡ vec_len old = search rules in
+    let cells : take n new ++ drop n new ≡ (with_items old new).items = take-append-drop n new ∙ sym (with_items_is old new long) in
+    subst (λ xs. ReadsText c.args.room.now.reader.tables.book (g.X.Port.outside c.args.port.now) (g.X.Port.outside c.end_text.new.port) c.args.assembly.now c.end_text.new.assembly head xs c.end_text.result) cells
+    (text_read g.X.Port.outside c.args.room.now.reader.tables.book c.text-text.result c.decode_first-read.new.text head c.in_default.field-0 (take n new) (drop n new)
+    (length-take-le _ _ (omega (arith, long, c.clear_blocks.ensures.blocks, c.requires.blocks))) (rw c.clear_blocks.ensures.reader at c.in_default.ensures.decodes) (g.X.Port.outside c.end_text.new.port) c.end_text.new.assembly
+    c.args.port.now _ c.args.assembly.now _ c.end_text.result c.text-text.ensures.port_now c.text-text.ensures.now (search rules) (search rules) c.end_text.ensures)
 
-pub returns-in_default-fault : goal.returns-in_default-fault
-returns-in_default-fault g c =
+pub returns-in_default-fault-clause-reads : goal.returns-in_default-fault-clause-reads
+returns-in_default-fault-clause-reads g c =
     let head = c.args.head.now in
-    text_refused g.X.Port.outside c.args.reader.now.tables.book c.text-text.result c.decode-read.new.input head c.decode-read.new.blocks c.in-Err.fault c.requires.head c.in_default-fault.not-ReadFault c.in-Err.ensures.decodes
+    text_refused g.X.Port.outside c.args.room.now.reader.tables.book c.text-text.result c.decode_first-read.new.text head _ c.in-Err.fault c.requires.head c.in_default-fault.not-ReadFault (rw c.clear_blocks.ensures.reader at c.in-Err.ensures.decodes)
     c.args.port.now _ c.args.assembly.now _ c.text-text.ensures.port_now c.text-text.ensures.now (search rules) (search rules)

@@ -1,5 +1,4 @@
-use Rattle.std.proofs.Common.{◌≡◌, ◌∙◌, sym, ap, subst, arith, Bool, Result, Ok, Err, is_ok, is_err}
-use Rattle.std.proofs.lemmas.List.{with_items_is}
+use Rattle.std.proofs.Common.{◌≡◌, length, vec_len, ◌∙◌, sym, ap, subst, arith, Bool, Result, Ok, Err, is_ok, is_err}
 use Rattle.segment_walk.specs.Steps.{walking, PassesBlocks, AreBlocks}
 use Rattle.segment_walk.specs.declared.ending.DecodeFault.{DecodeFault}
 use Rattle.segment_walk.specs.Segments.{FollowsHeld, ReadsText, segment_values}
@@ -24,15 +23,15 @@ returns-in_default-clause-runs g c w pixels book to = c.in_default.ensures.runs 
 pub returns-in-Err-clause-takes : goal.returns-in-Err-clause-takes
 returns-in-Err-clause-takes g c =
     let at = c.in-Ok.ensures.reaches c.args.assembly.now c.requires.at in
-    read_takes g.S.BlockSink.sink c.args.room.now.reader.tables.book (g.X.Port.outside c.args.port.now) (g.X.Port.outside c.reach_segment.new.port) (g.X.Port.outside c.read_text-read.new.port) c.args.assembly.now c.read_text-read.new.assembly (walking c.args.walk.now) (walking c.reach_segment.new.walk)
-    c.args.start.now.head c.read_text-read.new.blocks c.in-Err.fault at.faults c.in-Err.ensures
+    read_takes g.S.BlockSink.sink c.args.room.now.reader.tables.book (g.X.Port.outside c.args.port.now) (g.X.Port.outside c.reach_segment.new.port) (g.X.Port.outside c.read_text.new.port) c.args.assembly.now c.read_text.new.assembly (walking c.args.walk.now) (walking c.reach_segment.new.walk)
+    c.args.start.now.head c.read_text.new.room.blocks.items c.in-Err.fault at.faults c.in-Err.ensures.reads
 
 pub returns-in-Err-clause-runs : goal.returns-in-Err-clause-runs
 returns-in-Err-clause-runs g c w pixels book to =
     let at = c.in-Ok.ensures.reaches c.args.assembly.now c.requires.at in
-    text_breaks g.S.BlockSink.sink w (g.X.Port.outside c.reach_segment.new.port) (g.X.Port.outside c.read_text-read.new.port) c.args.assembly.now c.read_text-read.new.assembly (walking c.reach_segment.new.walk) c.args.start.now
-    (c.in-Ok.ensures.runs w c.args.assembly.now c.requires.at to) at.at at.standing at.there c.in-Err.fault c.read_text-read.new.blocks
-    (subst (λ b. ReadsText b (g.X.Port.outside c.reach_segment.new.port) (g.X.Port.outside c.read_text-read.new.port) c.args.assembly.now c.read_text-read.new.assembly c.args.start.now.head c.read_text-read.new.blocks (failed_text c.in-Err.fault)) (sym book) c.in-Err.ensures)
+    text_breaks g.S.BlockSink.sink w (g.X.Port.outside c.reach_segment.new.port) (g.X.Port.outside c.read_text.new.port) c.args.assembly.now c.read_text.new.assembly (walking c.reach_segment.new.walk) c.args.start.now
+    (c.in-Ok.ensures.runs w c.args.assembly.now c.requires.at to) at.at at.standing at.there c.in-Err.fault c.read_text.new.room.blocks.items
+    (subst (λ b. ReadsText b (g.X.Port.outside c.reach_segment.new.port) (g.X.Port.outside c.read_text.new.port) c.args.assembly.now c.read_text.new.assembly c.args.start.now.head c.read_text.new.room.blocks.items (failed_text c.in-Err.fault)) (sym book) c.in-Err.ensures.reads)
 
 pub follow_held-requires-clause-standing : goal.follow_held-requires-clause-standing
 follow_held-requires-clause-standing g c = (c.in-Ok.ensures.reaches c.args.assembly.now c.requires.at).standing
@@ -40,39 +39,39 @@ follow_held-requires-clause-standing g c = (c.in-Ok.ensures.reaches c.args.assem
 pub follow_held-requires-clause-held : goal.follow_held-requires-clause-held
 follow_held-requires-clause-held g c =
     let at = c.in-Ok.ensures.reaches c.args.assembly.now c.requires.at in
-    may_follow c.args.assembly.now c.read_text-read.new.assembly (walking c.reach_segment.new.walk) c.args.start.now at.at
-    (text_goes c.args.room.now.reader.tables.book (g.X.Port.outside c.reach_segment.new.port) (g.X.Port.outside c.read_text-read.new.port) c.args.assembly.now c.read_text-read.new.assembly c.args.start.now.head c.read_text-read.new.blocks c.in-Ok-read.accepted c.in-Ok-read.ensures)
+    may_follow c.args.assembly.now c.read_text.new.assembly (walking c.reach_segment.new.walk) c.args.start.now at.at
+    (text_goes c.args.room.now.reader.tables.book (g.X.Port.outside c.reach_segment.new.port) (g.X.Port.outside c.read_text.new.port) c.args.assembly.now c.read_text.new.assembly c.args.start.now.head c.read_text.new.room.blocks.items c.in-Ok-read_text.accepted c.in-Ok-read_text.ensures.reads)
     (segment_low (walking c.reach_segment.new.walk) c.args.start.now at.at.next.fits at.there)
 
 pub returns-in-Err-follow_held-clause-takes : goal.returns-in-Err-follow_held-clause-takes
 returns-in-Err-follow_held-clause-takes g c =
     let at = c.in-Ok.ensures.reaches c.args.assembly.now c.requires.at in
-    follow_takes g.S.BlockSink.sink c.args.room.now.pixels (g.X.Port.outside c.args.port.now) (g.X.Port.outside c.read_text-read.new.port) (g.X.Port.outside c.reach_segment.new.port) c.args.assembly.now c.read_text-read.new.assembly (walking c.args.walk.now) (walking c.reach_segment.new.walk) (walking c.follow_held.new.walk)
+    follow_takes g.S.BlockSink.sink c.read_text.new.room.pixels (g.X.Port.outside c.args.port.now) (g.X.Port.outside c.read_text.new.port) (g.X.Port.outside c.reach_segment.new.port) c.args.assembly.now c.read_text.new.assembly (walking c.args.walk.now) (walking c.reach_segment.new.walk) (walking c.follow_held.new.walk)
     c.args.start.now c.in-Err-follow_held.fault at.at at.there
-    (text_goes c.args.room.now.reader.tables.book (g.X.Port.outside c.reach_segment.new.port) (g.X.Port.outside c.read_text-read.new.port) c.args.assembly.now c.read_text-read.new.assembly c.args.start.now.head c.read_text-read.new.blocks c.in-Ok-read.accepted c.in-Ok-read.ensures)
+    (text_goes c.args.room.now.reader.tables.book (g.X.Port.outside c.reach_segment.new.port) (g.X.Port.outside c.read_text.new.port) c.args.assembly.now c.read_text.new.assembly c.args.start.now.head c.read_text.new.room.blocks.items c.in-Ok-read_text.accepted c.in-Ok-read_text.ensures.reads)
     c.in-Err-follow_held.ensures
 
 pub returns-in-Err-follow_held-clause-runs : goal.returns-in-Err-follow_held-clause-runs
 returns-in-Err-follow_held-clause-runs g c w pixels book to =
     let k = g.S.BlockSink.sink in
     let at = c.in-Ok.ensures.reaches c.args.assembly.now c.requires.at in
-    held_breaks k w (g.X.Port.outside c.reach_segment.new.port) (g.X.Port.outside c.read_text-read.new.port) c.args.assembly.now c.read_text-read.new.assembly (walking c.reach_segment.new.walk) c.args.start.now
-    (c.in-Ok.ensures.runs w c.args.assembly.now c.requires.at to) at.at at.standing at.there (walking c.follow_held.new.walk) c.in-Ok-read.accepted c.read_text-read.new.blocks
-    (subst (λ b. ReadsText b (g.X.Port.outside c.reach_segment.new.port) (g.X.Port.outside c.read_text-read.new.port) c.args.assembly.now c.read_text-read.new.assembly c.args.start.now.head c.read_text-read.new.blocks (read_text_as c.in-Ok-read.accepted)) (sym book) c.in-Ok-read.ensures)
+    held_breaks k w (g.X.Port.outside c.reach_segment.new.port) (g.X.Port.outside c.read_text.new.port) c.args.assembly.now c.read_text.new.assembly (walking c.reach_segment.new.walk) c.args.start.now
+    (c.in-Ok.ensures.runs w c.args.assembly.now c.requires.at to) at.at at.standing at.there (walking c.follow_held.new.walk) c.in-Ok-read_text.accepted c.read_text.new.room.blocks.items
+    (subst (λ b. ReadsText b (g.X.Port.outside c.reach_segment.new.port) (g.X.Port.outside c.read_text.new.port) c.args.assembly.now c.read_text.new.assembly c.args.start.now.head c.read_text.new.room.blocks.items (read_text_as c.in-Ok-read_text.accepted)) (sym book) c.in-Ok-read_text.ensures.reads)
     c.in-Err-follow_held.fault
-    (subst (λ n. FollowsHeld k n c.read_text-read.new.assembly (walking c.reach_segment.new.walk) (walking c.follow_held.new.walk) (failed c.in-Err-follow_held.fault)) (sym pixels) c.in-Err-follow_held.ensures)
+    (subst (λ n. FollowsHeld k n c.read_text.new.assembly (walking c.reach_segment.new.walk) (walking c.follow_held.new.walk) (failed c.in-Err-follow_held.fault)) (c.in-Ok-read_text.ensures.pixels ∙ sym pixels) c.in-Err-follow_held.ensures)
 
 pub pass_segment-requires-clause-standing : goal.pass_segment-requires-clause-standing
 pass_segment-requires-clause-standing g c =
     let at = c.in-Ok.ensures.reaches c.args.assembly.now c.requires.at in
-    (has_followed g.S.BlockSink.sink c.args.room.now.pixels c.args.assembly.now c.read_text-read.new.assembly (walking c.reach_segment.new.walk) (walking c.follow_held.new.walk) c.args.start.now at.at at.standing at.there
-    (text_goes c.args.room.now.reader.tables.book (g.X.Port.outside c.reach_segment.new.port) (g.X.Port.outside c.read_text-read.new.port) c.args.assembly.now c.read_text-read.new.assembly c.args.start.now.head c.read_text-read.new.blocks c.in-Ok-read.accepted c.in-Ok-read.ensures) c.in-Ok-follow_held.ensures).standing
+    (has_followed g.S.BlockSink.sink c.read_text.new.room.pixels c.args.assembly.now c.read_text.new.assembly (walking c.reach_segment.new.walk) (walking c.follow_held.new.walk) c.args.start.now at.at at.standing at.there
+    (text_goes c.args.room.now.reader.tables.book (g.X.Port.outside c.reach_segment.new.port) (g.X.Port.outside c.read_text.new.port) c.args.assembly.now c.read_text.new.assembly c.args.start.now.head c.read_text.new.room.blocks.items c.in-Ok-read_text.accepted c.in-Ok-read_text.ensures.reads) c.in-Ok-follow_held.ensures).standing
 
 pub pass_segment-requires-clause-room : goal.pass_segment-requires-clause-room
 pass_segment-requires-clause-room g c =
     let at = c.in-Ok.ensures.reaches c.args.assembly.now c.requires.at in
-    let followed = has_followed g.S.BlockSink.sink c.args.room.now.pixels c.args.assembly.now c.read_text-read.new.assembly (walking c.reach_segment.new.walk) (walking c.follow_held.new.walk) c.args.start.now at.at at.standing at.there
-    (text_goes c.args.room.now.reader.tables.book (g.X.Port.outside c.reach_segment.new.port) (g.X.Port.outside c.read_text-read.new.port) c.args.assembly.now c.read_text-read.new.assembly c.args.start.now.head c.read_text-read.new.blocks c.in-Ok-read.accepted c.in-Ok-read.ensures) c.in-Ok-follow_held.ensures in
+    let followed = has_followed g.S.BlockSink.sink c.read_text.new.room.pixels c.args.assembly.now c.read_text.new.assembly (walking c.reach_segment.new.walk) (walking c.follow_held.new.walk) c.args.start.now at.at at.standing at.there
+    (text_goes c.args.room.now.reader.tables.book (g.X.Port.outside c.reach_segment.new.port) (g.X.Port.outside c.read_text.new.port) c.args.assembly.now c.read_text.new.assembly c.args.start.now.head c.read_text.new.room.blocks.items c.in-Ok-read_text.accepted c.in-Ok-read_text.ensures.reads) c.in-Ok-follow_held.ensures in
     omega (arith, followed.count, at.there, followed.fits.blocks, followed.fits.within)
 
 pub pass_segment-requires-clause-parts : goal.pass_segment-requires-clause-parts
@@ -80,21 +79,21 @@ pass_segment-requires-clause-parts g c e =
     let start = c.args.start.now in
     let q = walking c.follow_held.new.walk in
     let w1 = g.X.Port.outside c.reach_segment.new.port in
-    let w2 = g.X.Port.outside c.read_text-read.new.port in
+    let w2 = g.X.Port.outside c.read_text.new.port in
     let at = c.in-Ok.ensures.reaches c.args.assembly.now c.requires.at in
-    let followed = has_followed g.S.BlockSink.sink c.args.room.now.pixels c.args.assembly.now c.read_text-read.new.assembly (walking c.reach_segment.new.walk) q start at.at at.standing at.there
-    (text_goes c.args.room.now.reader.tables.book w1 w2 c.args.assembly.now c.read_text-read.new.assembly start.head c.read_text-read.new.blocks c.in-Ok-read.accepted c.in-Ok-read.ensures) c.in-Ok-follow_held.ensures in
-    let long = c.read_text-read.auto.blocks ∙ c.deref_mut.ensures.len in
-    let cells : c.deref.result.now ≡ c.read_text-read.new.blocks = c.deref.ensures.value ∙ with_items_is c.args.room.now.blocks c.read_text-read.new.blocks long in
+    let followed = has_followed g.S.BlockSink.sink c.read_text.new.room.pixels c.args.assembly.now c.read_text.new.assembly (walking c.reach_segment.new.walk) q start at.at at.standing at.there
+    (text_goes c.args.room.now.reader.tables.book w1 w2 c.args.assembly.now c.read_text.new.assembly start.head c.read_text.new.room.blocks.items c.in-Ok-read_text.accepted c.in-Ok-read_text.ensures.reads) c.in-Ok-follow_held.ensures in
+    let long : length c.read_text.new.room.blocks.items ≡ vec_len c.args.room.now.blocks = sym c.read_text.new.room.blocks.ok.0 ∙ c.in-Ok-read_text.ensures.blocks in
+    let cells : c.deref.result.now ≡ c.read_text.new.room.blocks.items = c.deref.ensures.value in
     let room = (blocks_fit c.args.walk.now.geometry start _ _ c.requires.room c.requires.at.next.fits).0 in
     subst (AreBlocks start.head.blocks q.geometry) (sym cells)
-    (accepted_blocks c.args.room.now.reader.tables.book q.geometry start c.read_text-read.new.blocks w1 w2 c.args.assembly.now c.read_text-read.new.assembly c.in-Ok-read.accepted followed.fits (omega (arith, long, room)) c.in-Ok-read.ensures e)
+    (accepted_blocks c.args.room.now.reader.tables.book q.geometry start c.read_text.new.room.blocks.items w1 w2 c.args.assembly.now c.read_text.new.assembly c.in-Ok-read_text.accepted followed.fits (omega (arith, long, room)) c.in-Ok-read_text.ensures.reads e)
 
 pub returns-in_default-pass_segment-clause-takes : goal.returns-in_default-pass_segment-clause-takes
 returns-in_default-pass_segment-clause-takes g c =
     let at = c.in-Ok.ensures.reaches c.args.assembly.now c.requires.at in
-    let goes = text_goes c.args.room.now.reader.tables.book (g.X.Port.outside c.reach_segment.new.port) (g.X.Port.outside c.read_text-read.new.port) c.args.assembly.now c.read_text-read.new.assembly c.args.start.now.head c.read_text-read.new.blocks c.in-Ok-read.accepted c.in-Ok-read.ensures in
-    write_later g.S.BlockSink.sink c.pass_segment.result (g.X.Port.outside c.args.port.now) (g.X.Port.outside c.reach_segment.new.port) (g.X.Port.outside c.read_text-read.new.port) (g.X.Port.outside c.pass_segment.new.port) (walking c.follow_held.new.walk) (walking c.pass_segment.new.walk)
+    let goes = text_goes c.args.room.now.reader.tables.book (g.X.Port.outside c.reach_segment.new.port) (g.X.Port.outside c.read_text.new.port) c.args.assembly.now c.read_text.new.assembly c.args.start.now.head c.read_text.new.room.blocks.items c.in-Ok-read_text.accepted c.in-Ok-read_text.ensures.reads in
+    write_later g.S.BlockSink.sink c.pass_segment.result (g.X.Port.outside c.args.port.now) (g.X.Port.outside c.reach_segment.new.port) (g.X.Port.outside c.read_text.new.port) (g.X.Port.outside c.pass_segment.new.port) (walking c.follow_held.new.walk) (walking c.pass_segment.new.walk)
     _ _ (ap is_err c.in_default-pass_segment.is) at.faults goes.passes.since.faults c.pass_segment.ensures
 
 pub returns-in_default-pass_segment-clause-runs : goal.returns-in_default-pass_segment-clause-runs
@@ -104,17 +103,17 @@ returns-in_default-pass_segment-clause-runs g c w pixels book to =
     let p = walking c.reach_segment.new.walk in
     let q = walking c.follow_held.new.walk in
     let w1 = g.X.Port.outside c.reach_segment.new.port in
-    let w2 = g.X.Port.outside c.read_text-read.new.port in
+    let w2 = g.X.Port.outside c.read_text.new.port in
     let at = c.in-Ok.ensures.reaches c.args.assembly.now c.requires.at in
-    let follows = subst (λ n. FollowsHeld k n c.read_text-read.new.assembly p q is_done) (sym pixels) c.in-Ok-follow_held.ensures in
-    let followed = has_followed k w.pixels c.args.assembly.now c.read_text-read.new.assembly p q start at.at at.standing at.there
-    (text_goes c.args.room.now.reader.tables.book w1 w2 c.args.assembly.now c.read_text-read.new.assembly start.head c.read_text-read.new.blocks c.in-Ok-read.accepted c.in-Ok-read.ensures) follows in
-    let long = c.read_text-read.auto.blocks ∙ c.deref_mut.ensures.len in
-    let cells : c.deref.result.now ≡ c.read_text-read.new.blocks = c.deref.ensures.value ∙ with_items_is c.args.room.now.blocks c.read_text-read.new.blocks long in
+    let follows = subst (λ n. FollowsHeld k n c.read_text.new.assembly p q is_done) (c.in-Ok-read_text.ensures.pixels ∙ sym pixels) c.in-Ok-follow_held.ensures in
+    let followed = has_followed k w.pixels c.args.assembly.now c.read_text.new.assembly p q start at.at at.standing at.there
+    (text_goes c.args.room.now.reader.tables.book w1 w2 c.args.assembly.now c.read_text.new.assembly start.head c.read_text.new.room.blocks.items c.in-Ok-read_text.accepted c.in-Ok-read_text.ensures.reads) follows in
+    let long : length c.read_text.new.room.blocks.items ≡ vec_len c.args.room.now.blocks = sym c.read_text.new.room.blocks.ok.0 ∙ c.in-Ok-read_text.ensures.blocks in
+    let cells : c.deref.result.now ≡ c.read_text.new.room.blocks.items = c.deref.ensures.value in
     let room = (blocks_fit c.args.walk.now.geometry start _ _ c.requires.room c.requires.at.next.fits).0 in
-    let passes = subst (λ xs. PassesBlocks k c.pass_segment.result (segment_values c.in-Ok-read.accepted xs) start.head.blocks w2 (g.X.Port.outside c.pass_segment.new.port) q (walking c.pass_segment.new.walk)) cells c.pass_segment.ensures in
-    whole_breaks k w w1 w2 c.args.assembly.now c.read_text-read.new.assembly p start (c.in-Ok.ensures.runs w c.args.assembly.now c.requires.at to) at.at at.standing at.there q followed c.in-Ok-read.accepted c.read_text-read.new.blocks (omega (arith, long, room))
-    (subst (λ b. ReadsText b w1 w2 c.args.assembly.now c.read_text-read.new.assembly start.head c.read_text-read.new.blocks (read_text_as c.in-Ok-read.accepted)) (sym book) c.in-Ok-read.ensures)
+    let passes = subst (λ xs. PassesBlocks k c.pass_segment.result (segment_values c.in-Ok-read_text.accepted xs) start.head.blocks w2 (g.X.Port.outside c.pass_segment.new.port) q (walking c.pass_segment.new.walk)) cells c.pass_segment.ensures in
+    whole_breaks k w w1 w2 c.args.assembly.now c.read_text.new.assembly p start (c.in-Ok.ensures.runs w c.args.assembly.now c.requires.at to) at.at at.standing at.there q followed c.in-Ok-read_text.accepted c.read_text.new.room.blocks.items (omega (arith, long, room))
+    (subst (λ b. ReadsText b w1 w2 c.args.assembly.now c.read_text.new.assembly start.head c.read_text.new.room.blocks.items (read_text_as c.in-Ok-read_text.accepted)) (sym book) c.in-Ok-read_text.ensures.reads)
     c.pass_segment.result (g.X.Port.outside c.pass_segment.new.port) (walking c.pass_segment.new.walk) (ap is_err c.in_default-pass_segment.is) passes
 
 pub returns-clause-takes : goal.returns-clause-takes
@@ -124,12 +123,12 @@ returns-clause-takes g c =
     let p = walking c.reach_segment.new.walk in
     let q = walking c.follow_held.new.walk in
     let w1 = g.X.Port.outside c.reach_segment.new.port in
-    let w2 = g.X.Port.outside c.read_text-read.new.port in
+    let w2 = g.X.Port.outside c.read_text.new.port in
     let at = c.in-Ok.ensures.reaches c.args.assembly.now c.requires.at in
-    let followed = has_followed k c.args.room.now.pixels c.args.assembly.now c.read_text-read.new.assembly p q start at.at at.standing at.there
-    (text_goes c.args.room.now.reader.tables.book w1 w2 c.args.assembly.now c.read_text-read.new.assembly start.head c.read_text-read.new.blocks c.in-Ok-read.accepted c.in-Ok-read.ensures) c.in-Ok-follow_held.ensures in
-    segment_taken k c.args.room.now.reader.tables.book c.args.room.now.pixels c.pass_segment.result (g.X.Port.outside c.args.port.now) w1 w2 (g.X.Port.outside c.pass_segment.new.port) c.args.assembly.now c.read_text-read.new.assembly start (walking c.args.walk.now) p q (walking c.pass_segment.new.walk)
-    c.read_text-read.new.blocks c.in-Ok-read.accepted _ (ap is_ok c.in-Ok-pass_segment.is) c.requires.at at c.in-Ok-read.ensures followed c.pass_segment.ensures
+    let followed = has_followed k c.read_text.new.room.pixels c.args.assembly.now c.read_text.new.assembly p q start at.at at.standing at.there
+    (text_goes c.args.room.now.reader.tables.book w1 w2 c.args.assembly.now c.read_text.new.assembly start.head c.read_text.new.room.blocks.items c.in-Ok-read_text.accepted c.in-Ok-read_text.ensures.reads) c.in-Ok-follow_held.ensures in
+    segment_taken k c.args.room.now.reader.tables.book c.read_text.new.room.pixels c.pass_segment.result (g.X.Port.outside c.args.port.now) w1 w2 (g.X.Port.outside c.pass_segment.new.port) c.args.assembly.now c.read_text.new.assembly start (walking c.args.walk.now) p q (walking c.pass_segment.new.walk)
+    c.read_text.new.room.blocks.items c.in-Ok-read_text.accepted _ (ap is_ok c.in-Ok-pass_segment.is) c.requires.at at c.in-Ok-read_text.ensures.reads followed c.pass_segment.ensures
 
 pub returns-clause-runs : goal.returns-clause-runs
 returns-clause-runs g c w pixels book to =
@@ -138,15 +137,15 @@ returns-clause-runs g c w pixels book to =
     let p = walking c.reach_segment.new.walk in
     let q = walking c.follow_held.new.walk in
     let w1 = g.X.Port.outside c.reach_segment.new.port in
-    let w2 = g.X.Port.outside c.read_text-read.new.port in
+    let w2 = g.X.Port.outside c.read_text.new.port in
     let at = c.in-Ok.ensures.reaches c.args.assembly.now c.requires.at in
-    let follows = subst (λ n. FollowsHeld k n c.read_text-read.new.assembly p q is_done) (sym pixels) c.in-Ok-follow_held.ensures in
-    let followed = has_followed k w.pixels c.args.assembly.now c.read_text-read.new.assembly p q start at.at at.standing at.there
-    (text_goes c.args.room.now.reader.tables.book w1 w2 c.args.assembly.now c.read_text-read.new.assembly start.head c.read_text-read.new.blocks c.in-Ok-read.accepted c.in-Ok-read.ensures) follows in
-    let long = c.read_text-read.auto.blocks ∙ c.deref_mut.ensures.len in
-    let cells : c.deref.result.now ≡ c.read_text-read.new.blocks = c.deref.ensures.value ∙ with_items_is c.args.room.now.blocks c.read_text-read.new.blocks long in
+    let follows = subst (λ n. FollowsHeld k n c.read_text.new.assembly p q is_done) (c.in-Ok-read_text.ensures.pixels ∙ sym pixels) c.in-Ok-follow_held.ensures in
+    let followed = has_followed k w.pixels c.args.assembly.now c.read_text.new.assembly p q start at.at at.standing at.there
+    (text_goes c.args.room.now.reader.tables.book w1 w2 c.args.assembly.now c.read_text.new.assembly start.head c.read_text.new.room.blocks.items c.in-Ok-read_text.accepted c.in-Ok-read_text.ensures.reads) follows in
+    let long : length c.read_text.new.room.blocks.items ≡ vec_len c.args.room.now.blocks = sym c.read_text.new.room.blocks.ok.0 ∙ c.in-Ok-read_text.ensures.blocks in
+    let cells : c.deref.result.now ≡ c.read_text.new.room.blocks.items = c.deref.ensures.value in
     let room = (blocks_fit c.args.walk.now.geometry start _ _ c.requires.room c.requires.at.next.fits).0 in
-    let passes = subst (λ xs. PassesBlocks k c.pass_segment.result (segment_values c.in-Ok-read.accepted xs) start.head.blocks w2 (g.X.Port.outside c.pass_segment.new.port) q (walking c.pass_segment.new.walk)) cells c.pass_segment.ensures in
-    whole_runs k w w1 w2 c.args.assembly.now c.read_text-read.new.assembly p start (c.in-Ok.ensures.runs w c.args.assembly.now c.requires.at to) at.at at.standing at.there q followed c.in-Ok-read.accepted c.read_text-read.new.blocks (omega (arith, long, room))
-    (subst (λ b. ReadsText b w1 w2 c.args.assembly.now c.read_text-read.new.assembly start.head c.read_text-read.new.blocks (read_text_as c.in-Ok-read.accepted)) (sym book) c.in-Ok-read.ensures)
+    let passes = subst (λ xs. PassesBlocks k c.pass_segment.result (segment_values c.in-Ok-read_text.accepted xs) start.head.blocks w2 (g.X.Port.outside c.pass_segment.new.port) q (walking c.pass_segment.new.walk)) cells c.pass_segment.ensures in
+    whole_runs k w w1 w2 c.args.assembly.now c.read_text.new.assembly p start (c.in-Ok.ensures.runs w c.args.assembly.now c.requires.at to) at.at at.standing at.there q followed c.in-Ok-read_text.accepted c.read_text.new.room.blocks.items (omega (arith, long, room))
+    (subst (λ b. ReadsText b w1 w2 c.args.assembly.now c.read_text.new.assembly start.head c.read_text.new.room.blocks.items (read_text_as c.in-Ok-read_text.accepted)) (sym book) c.in-Ok-read_text.ensures.reads)
     c.pass_segment.result (g.X.Port.outside c.pass_segment.new.port) (walking c.pass_segment.new.walk) (ap is_ok c.in-Ok-pass_segment.is) passes

@@ -2,7 +2,7 @@ use Rattle.std.proofs.lemmas.Result.{err_from_is_err_and}
 use Rattle.std.proofs.Common.{arith}
 use Rattle.std.proofs.lemmas.Grind.{common_steps}
 use Rattle.segment_code.proofs.Joined.{fault_joined, whole_joined, failed_joined, over_joined}
-use Rattle.segment_code.proofs.decode.SegmentReader.decode.Goals as goal
+use Rattle.segment_code.proofs.decode.SegmentReader.decode_into_clear.Goals as goal
 
 pub returns-in_err-part-clause-decodes : goal.returns-in_err-part-clause-decodes
 returns-in_err-part-clause-decodes g c = grind (arith, common_steps, err_from_is_err_and, fault_joined)
