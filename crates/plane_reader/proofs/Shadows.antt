@@ -52,15 +52,6 @@ module _ {I : Type 0} {k : SourceOf I} {a b : Coming I} (book : Book) (options :
       let all : EndsReading told items (stopped whole) (shadow k a) (shadow k b) = subst (λ x. EndsReading told items x (shadow k a) (shadow k b)) e r.reads.ends in
       record { reads = record { ends = subst (λ x. EndsReading k items x a b) (sym e) (takes_back p all) }; stops = r.stops }
 
-  steps_taken : ReadsSteps k book options sent part ending steps a b → TakesSome k a b
-  steps_taken r = let items = read_after book options sent steps in record { bits = text items; taken = subst (λ x. EndsReading k items x a b) e r.reads.ends }
-
-  steps_forth : ReadsSteps k book options sent part ending steps a b → ReadsSteps told book options sent part ending steps (shadow k a) (shadow k b)
-  steps_forth r =
-      let items = read_after book options sent steps in
-      let all : EndsReading k items (stopped whole) a b = subst (λ x. EndsReading k items x a b) e r.reads.ends in
-      record { reads = record { ends = subst (λ x. EndsReading told items x (shadow k a) (shadow k b)) (sym e) (takes_shadow all) }; stops = r.stops }
-
   steps_on : {c : Coming I} → Takes k b c [] → ReadsSteps k book options sent part ending steps a b → ReadsSteps k book options sent part ending steps a c
   steps_on {c} none r =
       let items = read_after book options sent steps in
@@ -100,19 +91,9 @@ module _ {I A : Type 0} {k : SourceOf I} {a b : Coming I} (book : Book) (f : Fra
       FoundPiece told book f stage earlier done next Is (Ok (Some x)) g h m n (shadow k a) (shadow k b) → FoundPiece k book f stage earlier done next Is (Ok (Some x)) g h m n a b
   found_back takes = found_moved is_in (λ sent options part steps ending e agrees knows r. steps_back book options sent part steps ending e (takes sent options agrees knows) r)
 
-  pub found_forth : FoundPiece k book f stage earlier done next Is (Ok (Some x)) g h m n a b → FoundPiece told book f stage earlier done next Is (Ok (Some x)) g h m n (shadow k a) (shadow k b)
-  found_forth = found_moved (shadow_in k b is_in) (λ sent options part steps ending e agrees knows r. steps_forth book options sent part steps ending e r)
-
   -- no bit follows it
   pub found_on : {c : Coming I} → IsIn c → Takes k b c [] → FoundPiece k book f stage earlier done next Is (Ok (Some x)) g h m n a b → FoundPiece k book f stage earlier done next Is (Ok (Some x)) g h m n a c
   found_on opened none = found_moved opened (λ sent options part steps ending e agrees knows r. steps_on book options sent part steps ending e none r)
-
-  -- the bits of what was read
-  pub found_taken : FoundPiece k book f stage earlier done next Is (Ok (Some x)) g h m n a b → (sent : List Entry) (options : List ℕ) → Agrees g.sent sent → Knows h options → TakesSome k a b
-  found_taken q sent options agrees knows =
-      let e = one_given q.piece.value x q.piece.ending q.piece.answer in
-      let v = q.piece.possible.block in
-      steps_taken book options sent q.piece.part (next v) q.piece.ending e.0 (q.piece.read v q.piece.possible.sends sent options agrees knows)
 
 -- ---- bits in two parts
 

@@ -63,11 +63,12 @@ fn dc_depth(block: &[i32]) -> u8
 fn greatest_size(numbers: &[i32]) -> u8
     ensures { result ≡ greatest (λ z. size_of (unsigned_abs z)) numbers.now }
 {
-    let mut most = 0u32;
+    // All magnitudes joined have the greatest size, and no comparison waits for the one before it.
+    let mut joined = 0u32;
     for number in numbers {
-        most = most.max(number.unsigned_abs());
+        joined |= number.unsigned_abs();
     }
-    size(most)
+    size(joined)
 }
 
 // Returns the least number of bits that holds a number in two's complement.
