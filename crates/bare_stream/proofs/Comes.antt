@@ -98,12 +98,12 @@ settled_now s w bare at lt more less =
     let each : c * answered_of w.strip ≡ c * block_rows_in (rows_of w.strip) = ap (λ n. c * n) answered in
     let running : IsRunning (plan s) (picture_state s w) = record {
       gathered = record {
-        made = record { row = made.row; blocks = made.blocks; marks = made.marks; strip = made.strip; packet = refl; writer = made.writer; room = made.room };
+        made = record { row = made.row; blocks = made.blocks; strip = made.strip; packet = refl; writer = made.writer; room = made.room };
         share = record { left = λ some. absurd (some bare.no_total) };
         index = at.index;
         present = λ _. more;
         none = λ e. absurd (omega (arith, e, lt));
-        small = at.small;
+        held = at.held;
         idle = refl;
         texts = refl;
       };
@@ -220,7 +220,6 @@ module _ (s : Setting) (bare : IsBare s) (old mid : Work) (less : old.at.rows < 
   mid_made = let made = at.made in record {
     row = long;
     blocks = rw only.blocks made.blocks;
-    marks = rw only.marks made.marks;
     strip = rw only.strip made.strip;
     packet = ap (λ v. v.packet) only.packets ∙ made.packet;
     writer = ap (λ (v : SegmentWriter). v.tables.book) only.writer ∙ made.writer;
@@ -245,7 +244,7 @@ module _ (s : Setting) (bare : IsBare s) (old mid : Work) (less : old.at.rows < 
     count = rw (only.at, only.strip) at.count;
     index = rw only.at at.index;
     filled = rw only.at at.filled;
-    small = rw (only.at, only.blocks) at.small;
+    held = rw (only.at, only.blocks) at.held;
     row = λ all. absurd (not_all all);
     used = rw only.at at.used;
   }

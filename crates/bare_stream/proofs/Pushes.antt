@@ -25,7 +25,6 @@ use Rattle.bare_stream.proofs.Counts.{is_plan, rows_in, runs}
 pub record OnlyStrip (old new : Work) : Type 0 where
   pub row : new.row ≡ old.row
   pub blocks : new.blocks ≡ old.blocks
-  pub marks : new.marks ≡ old.marks
   pub packets : new.packets ≡ old.packets
   pub writer : new.writer ≡ old.writer
   pub room : new.room ≡ old.room
@@ -38,7 +37,6 @@ module _ (s : Setting) (bare : IsBare s) (old new : Work) (only : OnlyStrip old 
   still_made made columns = record {
     row = ap (λ v. vec_len v) only.row ∙ made.row;
     blocks = rw only.blocks made.blocks;
-    marks = rw only.marks made.marks;
     strip = columns ∙ made.strip;
     packet = ap (λ v. v.packet) only.packets ∙ made.packet;
     writer = ap (λ (v : SegmentWriter). v.tables.book) only.writer ∙ made.writer;
@@ -63,7 +61,7 @@ module _ (s : Setting) (bare : IsBare s) (old new : Work) (only : OnlyStrip old 
     count = same_gathered' count;
     index = rw only.index at.index;
     filled = rw (only.filled, only.index) at.filled;
-    small = rw (only.filled, only.blocks) at.small;
+    held = rw (only.filled, only.blocks) at.held;
     row = λ all. rw only.row (small all);
     used = rw (only.used, only.index) at.used;
   }

@@ -9,7 +9,6 @@ use Rattle.block_families.specs.Places.{gathered}
 use Rattle.wave_strip.specs.Strip.{rows_of, answered_of, is_standing, number_in, Follows}
 use Rattle.stream_defs.specs.Output.{image_blocks, segments_of}
 use Rattle.strip_coder.specs.declared.work.Work.{Work}
-use Rattle.strip_coder.specs.Works.{AreSmall}
 use Rattle.strip_coder.proofs.SegmentSteps.{still_made}
 use Rattle.strip_coder.proofs.GatherSteps as gathers
 use Rattle.bare_stream.specs.Rasters.{IsBare}
@@ -45,12 +44,12 @@ module _ (s : Setting) (bare : IsBare s) (column : ℕ) (old new : Work) (at : I
             omega (arith, first, answered, count, filled);
         index = subst (λ n. n ≤ segments_of s) (sym index) at.index;
         filled = rw (index, filled) (omega (arith, more));
-        small = subst (λ n. AreSmall n new.blocks.items) (sym filled) put.puts.small;
+        held = put.puts.long ∙ ap (λ n. 64 * n) (sym filled);
         row = λ all. rw put.same.row (at.row (subst (λ t. s.rows ≤ rows_of t) put.same.strip all));
         used = rw (put.used, index) at.used;
       }
 
-  put_present : (x : ℕ → ℕ → ℤ) → FollowsTo s x column old → (i : ℕ) → i < new.at.filled → block_at new.blocks.items i ≡ get_or (image_blocks s x) (first_block s.segment new.at.index + i) []
+  put_present : (x : ℕ → ℕ → ℤ) → FollowsTo s x column old → (i : ℕ) → i < new.at.filled → block_at new.blocks.numbers i ≡ get_or (image_blocks s x) (first_block s.segment new.at.index + i) []
   put_present x follows i few =
       let filled = put.filled in
       let there : get_or (image_blocks s x) (first_block s.segment new.at.index + i) [] ≡ get_or (image_blocks s x) (first_block s.segment old.at.index + i) [] =
@@ -63,7 +62,7 @@ module _ (s : Setting) (bare : IsBare s) (column : ℕ) (old new : Work) (at : I
             let count = at.count in
             let one : block_count s.width * (answered_of old.strip - 1) + block_count s.width ≡ block_count s.width * answered_of old.strip = back (block_count s.width) (answered_of old.strip) (some column) in
             let place : block_count s.width * (answered_of old.strip - 1) + column ≡ first_block s.segment old.at.index + i = omega (arith, before, count, one, e) in
-            ap (block_at new.blocks.items) e ∙ put.puts.here ∙ sym (follows.shows.at column (omega arith) inside) ∙ ap (λ n. get_or (image_blocks s x) n []) place ∙ sym there
+            ap (block_at new.blocks.numbers) e ∙ put.puts.here ∙ sym (follows.shows.at column (omega arith) inside) ∙ ap (λ n. get_or (image_blocks s x) n []) place ∙ sym there
       ]
     where
       back : (c a : ℕ) → 0 < a → c * (a - 1) + c ≡ c * a

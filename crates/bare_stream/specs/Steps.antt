@@ -73,7 +73,7 @@ pub record HasBrought (s : Setting) (column count : ℕ) (old new : Work) : Type
 
 -- the blocks of the present segment, and its head
 abbrev pub present_blocks : Work → List (List ℤ)
-present_blocks w = blocks_in (take (64 * w.at.filled) w.blocks.items)
+present_blocks w = blocks_in w.blocks.numbers
 
 abbrev pub head_now : Setting → (index : ℕ) → List (List ℤ) → SegmentHead
 head_now s index segment = head_with s index s.limit (length segment) (depth_dc_of segment) (depth_ac_of segment)

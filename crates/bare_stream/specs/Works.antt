@@ -1,5 +1,5 @@
 -- The progress of the blocks of an image, and what a work holds of them. (This project's own.)
-use Rattle.std.specs.Prelude.{◌≡◌, ◌<◌, ◌≤◌, ◌+◌, ◌-◌, ◌*◌, ◌^◌, ℕ, ℤ, [], true, false, slice_index_or}
+use Rattle.std.specs.Prelude.{◌≡◌, ◌<◌, ◌≤◌, ◌+◌, ◌-◌, ◌*◌, ◌^◌, ℕ, ℤ, [], true, false, length, slice_index_or}
 use Rattle.base_122.specs.Sizes.{block_count, padded_size, total_blocks, first_block, segment_blocks}
 use Rattle.base_122.specs.declared.setting.Setting.{Setting}
 use Rattle.wave_defs.specs.Held.{block_at}
@@ -10,7 +10,7 @@ use Rattle.stream_defs.specs.Output.{image_blocks, segments_of}
 use Rattle.strip_coder.specs.declared.work.Work.{Work}
 use Rattle.strip_coder.specs.declared.plan.Plan.{Plan}
 use Rattle.strip_coder.specs.Plans.{plan_of}
-use Rattle.strip_coder.specs.Works.{AreSmall, IsMadeFor, StripFollows, gathered_in}
+use Rattle.strip_coder.specs.Works.{IsMadeFor, StripFollows, gathered_in}
 use Rattle.strip_coder.specs.Steps.{IsRowSmall, NextRowIs}
 
 -- the image of a setting with rows
@@ -39,13 +39,13 @@ pub record IsAt (s : Setting) (column : ℕ) (w : Work) : Type 0 where
   pub count : gathered_in (plan s) w.at + block_count s.width ≡ block_count s.width * answered_of w.strip + column
   pub index : w.at.index ≤ segments_of s
   pub filled : w.at.filled ≤ present_size s w
-  pub small : AreSmall w.at.filled w.blocks.items
+  pub held : length w.blocks.numbers ≡ 64 * w.at.filled
   pub row : s.rows ≤ rows_of w.strip → IsRowSmall (plan s) w
   pub used : w.at.used ≤ w.at.index * 2 ^ 32
 
 -- the blocks that were gathered of the present segment are those of the image
 pub record HoldsPresent (s : Setting) (x : ℕ → ℕ → ℤ) (w : Work) : Type 0 where
-  pub at : (i : ℕ) → i < w.at.filled → block_at w.blocks.items i ≡ slice_index_or (image_blocks s x) (first_block s.segment w.at.index + i) []
+  pub at : (i : ℕ) → i < w.at.filled → block_at w.blocks.numbers i ≡ slice_index_or (image_blocks s x) (first_block s.segment w.at.index + i) []
 
 -- the strip shows the blocks of the image from this column on
 pub record ShowsBlocks (s : Setting) (x : ℕ → ℕ → ℤ) (column : ℕ) (w : Work) : Type 0 where

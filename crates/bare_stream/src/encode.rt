@@ -61,6 +61,7 @@ fn start(setting: &Setting, work: &mut Work)
 {
     let _rows = setting.rows;
     work.strip.reset();
+    work.blocks.clear();
     work.at = ImageAt {
         rows: 0,
         filled: 0,

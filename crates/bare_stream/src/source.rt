@@ -134,14 +134,7 @@ fn put_next(setting: &Setting, work: &mut Work, column: u32)
     requires more { work.old.at.filled < present_size setting.now work.old }
     ensures { HasPut setting.now column work.old work.new }
 {
-    let place = work.at.filled as usize;
-    gather_block(
-        &work.strip,
-        &setting.weights,
-        column,
-        place,
-        &mut work.blocks,
-    );
+    gather_block(&work.strip, &setting.weights, column, &mut work.blocks);
     work.at.filled += 1;
 }
 

@@ -7,9 +7,10 @@ use bare_text::{
 };
 use base_122::Book;
 use bit_pipe::{OctetIn, Part, SliceIn, SliceOut};
-use segment_code::{SegmentFault, SegmentWriter, segment_depths};
+use segment_code::{SegmentBlocks, SegmentFault, SegmentWriter};
 use segment_head::{HeadFault, HeadField, SegmentHead};
 use std::process::Abort;
+use std::test::Fail;
 
 const FIRST: [u8; 21] = [
     0x80, 0x02, 0x07, 0x00, 0x00, 0x00, 0x00, 0x60, 0x00, 0x01, 0x0c, 0x88, 0x00, 0x04, 0x00, 0x00,
@@ -94,51 +95,71 @@ fn profile_writer() -> SegmentWriter {
     SegmentWriter::new(&Book::profile())
 }
 
+// Returns these blocks of 64 numbers as those of a segment that is written.
+fn segment_of(
+    rt: &(impl Abort + AllocGlobal),
+    blocks: &[i32],
+    count: usize,
+) -> Result<SegmentBlocks, Fail>
+    requires count { length blocks.now ≡ 64 * count }
+    requires most { count ≤ 16 }
+    ensures { IfOk result (λ segment. length segment.numbers ≡ 64 * count) }
+{
+    let mut segment = SegmentBlocks::new(rt.alloc(), count)?;
+    for i in 0..count {
+        let block = &blocks[64 * i..64 * i + 64];
+        assert!(rt;
+            block
+                .iter()
+                .all(|number| number.unsigned_abs() < 134_217_728)
+        );
+        segment.push(block);
+    }
+    Ok(segment)
+}
+
 // Writes the text of these blocks, and returns its length.
 fn encode(
-    rt: &impl Abort,
+    rt: &(impl Abort + AllocGlobal),
     before: Option<SegmentHead>,
     head: &SegmentHead,
-    blocks: &mut [i32],
-    marks: &mut [i32],
+    blocks: &[i32],
+    count: usize,
     into: &mut [u8],
-) -> u64
+) -> Result<u64, Fail>
     requires before { IfSome before (λ h. IsHead h) }
     requires fits { IsHead head.now }
-    requires count { length blocks.old ≡ 64 * length marks.old }
-    requires some { 1 ≤ length marks.old }
-    requires most { length marks.old ≤ 16 }
+    requires count { length blocks.now ≡ 64 * count }
+    requires some { 1 ≤ count }
+    requires most { count ≤ 16 }
 {
-    assert!(rt;
-        blocks
-            .iter()
-            .all(|number| number.unsigned_abs() < 134_217_728)
-    );
-    let depths = segment_depths(blocks, marks);
+    let mut segment = segment_of(rt, blocks, count)?;
+    let depths = segment.depths();
     assert_eq!(rt; depths.0, head.depth_dc);
     assert_eq!(rt; depths.1, head.depth_ac);
-    assert_eq!(rt; head.blocks, marks.len() as u32);
+    assert_eq!(rt; head.blocks, segment.len() as u32);
     let items = profile_writer();
     let writer = BareWriter {
         before,
         items: &items,
     };
-    writer
-        .encode_text(&mut SliceOut::new(into), head, blocks, marks)
-        .expect(rt, "room")
+    let octets = writer
+        .encode_text(&mut SliceOut::new(into), head, &mut segment)
+        .expect(rt, "room");
+    Ok(octets)
 }
 
 // Expects that the text is read, and is written again after the head before. Returns its head.
 fn expect_text(
-    rt: &impl Abort,
+    rt: &(impl Abort + AllocGlobal),
     reader: &BareReader,
     text: &[u8],
     parts: &mut PartsInForce,
     before: Option<SegmentHead>,
-) -> SegmentHead
+) -> Result<SegmentHead, Fail>
     requires short { length text.now ≤ 21 }
     requires before { IfSome before (λ h. IsHead h) }
-    ensures { IsHead result }
+    ensures { IfOk result (λ head. IsHead head) }
 {
     let mut input = SliceIn::new(text);
     let read = read_bare_head(&mut input, parts).expect(rt, "a head");
@@ -149,26 +170,20 @@ fn expect_text(
     assert!(rt; blocks == [0; 1024]);
     assert_eq!(rt; input.take(), Ok(None));
     let mut octets = [0xaa; 22];
-    let count = encode(
-        rt,
-        before,
-        &read.head,
-        &mut [0; 1024],
-        &mut [0; 16],
-        &mut octets,
-    );
+    let count = encode(rt, before, &read.head, &[0; 1024], 16, &mut octets)?;
     assert_eq!(rt; count, text.len() as u64);
     assert!(rt; octets.starts_with(text));
-    read.head
+    Ok(read.head)
 }
 
 #[test]
-fn texts_both_ways(rt: HostRuntime) {
+fn texts_both_ways(rt: HostRuntime) -> Result<(), Fail> {
     let reader = profile_reader();
     let mut parts = PartsInForce::none();
-    let first = expect_text(&rt, &reader, &FIRST, &mut parts, None);
-    expect_text(&rt, &reader, &SECOND, &mut parts, Some(first));
-    expect_text(&rt, &reader, &LAST, &mut parts, Some(first));
+    let first = expect_text(&rt, &reader, &FIRST, &mut parts, None)?;
+    expect_text(&rt, &reader, &SECOND, &mut parts, Some(first))?;
+    expect_text(&rt, &reader, &LAST, &mut parts, Some(first))?;
+    Ok(())
 }
 
 // The last octet of the last text is missing.

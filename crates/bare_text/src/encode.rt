@@ -1,16 +1,15 @@
 // Writes the text of a segment, whose head carries only the parts that changed.
-ghost use Rattle.std.specs.Prelude.{◌≡◌, ◌≤◌, ◌*◌, length, map, take, pos, MatchResult, IfSome};
+ghost use Rattle.std.specs.Prelude.{◌≡◌, ◌≤◌, ◌*◌, length, take, MatchResult, IfSome};
 ghost use Rattle.bit_pipe.specs.Standing.{stand, Adds, Breaks, IsReady, Writes};
 ghost use Rattle.wave_defs.specs.Held.{blocks_in};
-ghost use Rattle.plane_defs.specs.Marks.{depths_of};
-ghost use Rattle.segment_defs.specs.Depths.{block_depths, depth_dc_of, depth_ac_of};
+ghost use Rattle.segment_defs.specs.Depths.{depth_dc_of, depth_ac_of};
 ghost use Rattle.segment_defs.specs.Head.{IsHead, head_length};
 ghost use Rattle.segment_code.specs.Text.{GivesText, BreaksWithin};
 ghost use Rattle.bare_text.specs.Writing.{bare_bits, bare_text};
 
 use crate::write::put_bare_head;
 use bit_pipe::{BitOut, Failed, OctetOut, PutFault};
-use segment_code::SegmentWriter;
+use segment_code::{SegmentBlocks, SegmentWriter};
 use segment_head::SegmentHead;
 
 /// How the text of a segment is written: after which head, whose parts are in force then, and with which codes.
@@ -25,7 +24,7 @@ pub struct BareWriter<'a> {
 impl BareWriter<'_> {
     /// Writes the text of a segment as it is in a bare stream, and returns its length in octets (docs/formats.md, "Bare texts"). Its head
     /// carries the parts that differ from those in force, which are those of the head before; the first head carries all. The limit counts
-    /// this head. Sink, blocks and `marks` are as for `SegmentWriter::encode`, which leaves no meaning in the blocks.
+    /// this head. Sink and blocks are as for `SegmentWriter::encode`.
     ///
     /// # Errors
     ///
@@ -34,23 +33,21 @@ impl BareWriter<'_> {
         &self,
         out: &mut O,
         head: &SegmentHead,
-        blocks: &mut [i32],
-        marks: &mut [i32],
+        blocks: &mut SegmentBlocks,
     ) -> Result<u64, Failed>
         requires before { IfSome self.now.before (λ h. IsHead h) }
         requires fits { IsHead head.now }
-        requires count { length blocks.old ≡ 64 * head.now.blocks }
-        requires dc { head.now.depth_dc ≡ depth_dc_of (blocks_in blocks.old) }
-        requires ac { head.now.depth_ac ≡ depth_ac_of (blocks_in blocks.old) }
-        requires marks { marks.old ≡ map pos (block_depths (blocks_in blocks.old)) }
+        requires count { length blocks.old.numbers ≡ 64 * head.now.blocks }
+        requires dc { head.now.depth_dc ≡ depth_dc_of (blocks_in blocks.old.numbers) }
+        requires ac { head.now.depth_ac ≡ depth_ac_of (blocks_in blocks.old.numbers) }
         requires none { (O.sink.counts out.old).given ≡ 0 }
         ensures text { MatchResult result
-            (λ octets. GivesText O.sink out.old out.new (bare_text self.now.items.now.tables.book self.now.before head.now (blocks_in blocks.old)) octets)
-            (λ _. BreaksWithin O.sink out.old out.new (bare_text self.now.items.now.tables.book self.now.before head.now (blocks_in blocks.old))) }
-        ensures depths { depths_of marks.new ≡ depths_of marks.old }
+            (λ octets. GivesText O.sink out.old out.new (bare_text self.now.items.now.tables.book self.now.before head.now (blocks_in blocks.old.numbers)) octets)
+            (λ _. BreaksWithin O.sink out.old out.new (bare_text self.now.items.now.tables.book self.now.before head.now (blocks_in blocks.old.numbers))) }
+        ensures most { blocks.new.most ≡ blocks.old.most }
     {
         let mut bits = BitOut::new(out, limit_of(*head), 0);
-        put_fitting(&mut bits, self, head, blocks, marks)?;
+        put_fitting(&mut bits, self, head, blocks)?;
         bits.end(head.image.word, head.fill)
     }
 }
@@ -68,23 +65,21 @@ fn put_fitting<O: OctetOut>(
     out: &mut BitOut<O>,
     writer: &BareWriter,
     head: &SegmentHead,
-    blocks: &mut [i32],
-    marks: &mut [i32],
+    blocks: &mut SegmentBlocks,
 ) -> Result<(), Failed>
     requires before { IfSome writer.now.before (λ h. IsHead h) }
     requires fits { IsHead head.now }
     requires open { IsReady O.sink out.old }
     requires room { 8 * head_length head.now ≤ (stand O.sink out.old).room }
-    requires count { length blocks.old ≡ 64 * head.now.blocks }
-    requires dc { head.now.depth_dc ≡ depth_dc_of (blocks_in blocks.old) }
-    requires ac { head.now.depth_ac ≡ depth_ac_of (blocks_in blocks.old) }
-    requires marks { marks.old ≡ map pos (block_depths (blocks_in blocks.old)) }
+    requires count { length blocks.old.numbers ≡ 64 * head.now.blocks }
+    requires dc { head.now.depth_dc ≡ depth_dc_of (blocks_in blocks.old.numbers) }
+    requires ac { head.now.depth_ac ≡ depth_ac_of (blocks_in blocks.old.numbers) }
     ensures puts { MatchResult result
-        (λ _. Adds O.sink (stand O.sink out.old) (stand O.sink out.new) (take (stand O.sink out.old).room (bare_bits writer.now.items.now.tables.book writer.now.before head.now (blocks_in blocks.old))))
-        (λ _. Breaks O.sink (stand O.sink out.old) (stand O.sink out.new) (take (stand O.sink out.old).room (bare_bits writer.now.items.now.tables.book writer.now.before head.now (blocks_in blocks.old)))) }
-    ensures depths { depths_of marks.new ≡ depths_of marks.old }
+        (λ _. Adds O.sink (stand O.sink out.old) (stand O.sink out.new) (take (stand O.sink out.old).room (bare_bits writer.now.items.now.tables.book writer.now.before head.now (blocks_in blocks.old.numbers))))
+        (λ _. Breaks O.sink (stand O.sink out.old) (stand O.sink out.new) (take (stand O.sink out.old).room (bare_bits writer.now.items.now.tables.book writer.now.before head.now (blocks_in blocks.old.numbers)))) }
+    ensures most { blocks.new.most ≡ blocks.old.most }
 {
-    match put_text(out, writer, head, blocks, marks) {
+    match put_text(out, writer, head, blocks) {
         Ok(()) => Ok(()),
         Err(PutFault::Stopped) => Ok(()),
         Err(PutFault::WriteFault) => Err(Failed),
@@ -96,20 +91,18 @@ fn put_text<O: OctetOut>(
     out: &mut BitOut<O>,
     writer: &BareWriter,
     head: &SegmentHead,
-    blocks: &mut [i32],
-    marks: &mut [i32],
+    blocks: &mut SegmentBlocks,
 ) -> Result<(), PutFault>
     requires before { IfSome writer.now.before (λ h. IsHead h) }
     requires fits { IsHead head.now }
     requires open { IsReady O.sink out.old }
     requires room { 8 * head_length head.now ≤ (stand O.sink out.old).room }
-    requires count { length blocks.old ≡ 64 * head.now.blocks }
-    requires dc { head.now.depth_dc ≡ depth_dc_of (blocks_in blocks.old) }
-    requires ac { head.now.depth_ac ≡ depth_ac_of (blocks_in blocks.old) }
-    requires marks { marks.old ≡ map pos (block_depths (blocks_in blocks.old)) }
-    ensures puts { Writes O.sink result out.old out.new (bare_bits writer.now.items.now.tables.book writer.now.before head.now (blocks_in blocks.old)) }
-    ensures depths { depths_of marks.new ≡ depths_of marks.old }
+    requires count { length blocks.old.numbers ≡ 64 * head.now.blocks }
+    requires dc { head.now.depth_dc ≡ depth_dc_of (blocks_in blocks.old.numbers) }
+    requires ac { head.now.depth_ac ≡ depth_ac_of (blocks_in blocks.old.numbers) }
+    ensures puts { Writes O.sink result out.old out.new (bare_bits writer.now.items.now.tables.book writer.now.before head.now (blocks_in blocks.old.numbers)) }
+    ensures most { blocks.new.most ≡ blocks.old.most }
 {
     put_bare_head(out, writer.before, head)?;
-    writer.items.encode_items(out, head, blocks, marks)
+    writer.items.encode_items(out, head, blocks)
 }

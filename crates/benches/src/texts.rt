@@ -1,8 +1,9 @@
 // The text of a segment, from its head to its end, written and read.
-ghost use Rattle.std.specs.Prelude.{◌≡◌, ◌≤◌, ◌*◌, length};
+ghost use Rattle.std.specs.Prelude.{◌≡◌, ◌≤◌, ◌*◌, ◌%◌, length};
+ghost use Rattle.std.specs.Bool.{OnTrue};
 
 use bit_pipe::{Part, SliceIn, SliceOut};
-use segment_code::{SegmentFault, SegmentWriter, decode_segment, segment_depths};
+use segment_code::{SegmentBlocks, SegmentFault, SegmentWriter, decode_segment};
 use segment_head::read_head;
 use word_codes::profile_book;
 
@@ -58,26 +59,41 @@ fn head_octets(fields: &HeadFields, depths: (u8, u8), blocks: u32) -> [u8; 19] {
     octets
 }
 
-// Puts the text of a segment, and returns how many octets it has, or 0 if it has none. The numbers of the blocks have no meaning afterwards.
+// Puts these numbers into the blocks of a segment, in place of those that it has, if their magnitudes are below 2^27. Returns whether they
+// are.
+pub(crate) fn hold(segment: &mut SegmentBlocks, numbers: &[i32]) -> bool
+    requires whole { length numbers.now % 64 ≡ 0 }
+    requires room { length numbers.now ≤ 64 * segment.old.most }
+    ensures most { segment.new.most ≡ segment.old.most }
+    ensures numbers { OnTrue result (segment.new.numbers ≡ numbers.now) }
+{
+    segment.clear();
+    for r in 0..numbers.len() / 64 {
+        let block = &numbers[64 * r..64 * r + 64];
+        let are_small = block
+            .iter()
+            .all(|number| number.unsigned_abs() < 134_217_728);
+        if !are_small {
+            return false;
+        }
+        segment.push(block);
+    }
+    true
+}
+
+// Puts the text of a segment, and returns how many octets it has, or 0 if it has none.
 pub(crate) fn put_text(
     writer: &SegmentWriter,
     into: &mut [u8],
     fields: &HeadFields,
-    blocks: &mut [i32],
-    marks: &mut [i32],
+    segment: &mut SegmentBlocks,
 ) -> u64
-    requires count { length blocks.old ≡ 64 * length marks.old }
-    requires some { 1 ≤ length marks.old }
-    requires most { length marks.old ≤ 64 }
+    requires some { 64 ≤ length segment.old.numbers }
+    requires most { length segment.old.numbers ≤ 4096 }
+    ensures most { segment.new.most ≡ segment.old.most }
 {
-    let are_small = blocks
-        .iter()
-        .all(|number| number.unsigned_abs() < 134_217_728);
-    if !are_small {
-        return 0;
-    }
-    let count = marks.len() as u32;
-    let depths = segment_depths(blocks, marks);
+    let count = segment.len() as u32;
+    let depths = segment.depths();
     let Ok(head) = read_head(&head_octets(fields, depths, count)) else {
         return 0;
     };
@@ -85,7 +101,7 @@ pub(crate) fn put_text(
         return 0;
     }
     writer
-        .encode(&mut SliceOut::new(into), &head, blocks, marks)
+        .encode(&mut SliceOut::new(into), &head, segment)
         .unwrap_or(0)
 }
 

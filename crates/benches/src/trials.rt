@@ -8,7 +8,7 @@ use crate::texts::{Answer, take_text};
 use crate::words::Trials;
 use changes::change;
 use made::make_text;
-use segment_code::SegmentWriter;
+use segment_code::{SegmentBlocks, SegmentWriter};
 use std::io;
 use word_codes::profile_book;
 
@@ -50,11 +50,12 @@ fn try_texts(rt: &HostRuntime, wish: Trials) -> io::Result<[u64; 11]> {
     let writer = SegmentWriter::new(&profile_book());
     let mut random = Random::new(u64::from(wish.seed));
     let mut octets = [0; ROOM];
+    let mut segment = SegmentBlocks::new(rt.alloc(), 4)?;
     let mut blocks = [0; 256];
     let mut marks = [0; 4];
     let mut tally = [0u64; 11];
     for _ in 0..wish.texts {
-        let made = make_text(&writer, &mut random, &mut octets);
+        let made = make_text(&writer, &mut random, &mut segment, &mut octets);
         let len = change(&mut random, &mut octets, made);
         let text = &octets[..len];
         let (answer, numbers) = take_text(text, &mut blocks, &mut marks);

@@ -2,6 +2,7 @@
 use Rattle.std.proofs.Common.{◌≡◌, ℕ, zero, suc, ◌+◌, ◌*◌, ◌/◌, ◌%◌, ◌^◌, ◌<◌, Bool, true, false, ◌&&◌, ◌||◌, bit_and, bit_or, refl, ap, sym, ◌∙◌, arith, shr-shr, ◌==◌}
 use Rattle.std.specs.List.{list_any}
 use Rattle.std.proofs.lemmas.Bool.Decides.{nat_tests}
+use Rattle.std.proofs.Math.Bool.{or-false}
 use Rattle.item_defs.specs.Bits.{bit}
 use Rattle.plane_defs.specs.Spans.{span}
 use Rattle.plane_defs.proofs.SpanLists.{list_any-span-suc, list_any-span-none}
@@ -63,9 +64,6 @@ fours_in here = bit_and (together (firsts_in here)) 15
 joined : {a b c d : Bool} (p q r s : Bool) → a ≡ p → b ≡ q → c ≡ r → d ≡ s → (((a || b) || c) || d) ≡ (((p || q) || r) || s)
 joined {a} {b} {c} {d} p q r s e f g h = ap (λ t. ((t || b) || c) || d) e ∙ ap (λ t. ((p || t) || c) || d) f ∙ ap (λ t. ((p || q) || t) || d) g ∙ ap (λ t. ((p || q) || r) || t) h
 
-or_false : (b : Bool) → (b || false) ≡ b
-or_false b = grind (arith, nat_tests)
-
 first_of_four : (b : Bool) → (((b || false) || false) || false) ≡ b
 first_of_four b = grind (arith, nat_tests)
 
@@ -75,10 +73,10 @@ four_bit here zero lt =
     bit_both (together x) 15 0 ∙ and_true (bit (together x) 0) ∙ together_bit x 0 ∙ joined b false false false (first_there here 0 refl) (first_none here 3 refl) (first_none here 6 refl) (first_none here 9 refl) ∙ first_of_four b
 four_bit here (suc zero) lt =
     let x = firsts_in here in let b = bit (any_in here) 4 in
-    bit_both (together x) 15 1 ∙ and_true (bit (together x) 1) ∙ together_bit x 1 ∙ joined false b false false (first_none here 1 refl) (first_there here 4 refl) (first_none here 7 refl) (first_none here 10 refl) ∙ or_false (b || false) ∙ or_false b
+    bit_both (together x) 15 1 ∙ and_true (bit (together x) 1) ∙ together_bit x 1 ∙ joined false b false false (first_none here 1 refl) (first_there here 4 refl) (first_none here 7 refl) (first_none here 10 refl) ∙ or-false (b || false) ∙ or-false b
 four_bit here (suc (suc zero)) lt =
     let x = firsts_in here in let b = bit (any_in here) 8 in
-    bit_both (together x) 15 2 ∙ and_true (bit (together x) 2) ∙ together_bit x 2 ∙ joined false false b false (first_none here 2 refl) (first_none here 5 refl) (first_there here 8 refl) (first_none here 11 refl) ∙ or_false b
+    bit_both (together x) 15 2 ∙ and_true (bit (together x) 2) ∙ together_bit x 2 ∙ joined false false b false (first_none here 2 refl) (first_none here 5 refl) (first_there here 8 refl) (first_none here 11 refl) ∙ or-false b
 four_bit here (suc (suc (suc zero))) lt =
     let x = firsts_in here in let b = bit (any_in here) 12 in
     bit_both (together x) 15 3 ∙ and_true (bit (together x) 3) ∙ together_bit x 3 ∙ joined false false false b (first_none here 3 refl) (first_none here 6 refl) (first_none here 9 refl) (first_there here 12 refl)

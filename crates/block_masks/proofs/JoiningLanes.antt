@@ -16,7 +16,7 @@ use Rattle.item_defs.specs.Bits.{bit}
 use Rattle.block_masks.specs.Masks.{Shows}
 use Rattle.block_masks.specs.Halves.{number_of, with_mask, PutsPart}
 use Rattle.block_masks.proofs.SizeLanes.{minus}
-use Rattle.block_masks.proofs.SliceNumbers.{signed}
+use Rattle.block_masks.proofs.MaskedNumbers.{signed}
 
 -- ---- the lanes of a mask
 

@@ -15,26 +15,28 @@ use Rattle.item_defs.proofs.NumberBits.{value_of-append, value_below}
 use Rattle.wave_defs.specs.Held.{block_at}
 use Rattle.block_masks.specs.declared.joining.Halves.{Halves}
 use Rattle.block_masks.specs.Halves.{part_in, with_mask, AreWhole, AddsPlane, HasPlanes, PutsPart}
-use Rattle.block_masks.specs.Slices.{mask_in, minus_slot, dc_slot, bits_below, size_in, number_in, numbers_in}
+use Rattle.block_masks.specs.Slices.{mask_in, minus_slot, dc_slot, number_in, numbers_in}
+use Rattle.block_masks.specs.MaskedNumbers.{bits_below, size_in}
 use Rattle.block_masks.proofs.JoiningLanes.{none_given}
-use Rattle.block_masks.proofs.SliceNumbers.{signed, ac_number, dc_number, bits_below-more, length-bits_below, block_number, length-block}
+use Rattle.block_masks.proofs.SliceNumbers.{ac_number, dc_number, block_number, length-block}
+use Rattle.block_masks.proofs.MaskedNumbers.{signed, bits_below-more, length-bits_below}
 
 -- ---- a plane
 
 -- the magnitude that the first planes give
 abbrev value_to : List ℤ → (r p planes : ℕ) → ℕ
-value_to cells r p planes = value_of (bits_below cells r p planes)
+value_to cells r p planes = value_of (bits_below (mask_in cells r) p planes)
 
 value_first : (b : Bool) (bits : List Bool) → value_of (b ∷ bits) ≡ digit b * 2 ^ length bits + value_of bits
 value_first b bits = value_of-append (b ∷ []) bits ∙ ap (λ n. n * 2 ^ length bits + value_of bits) (value_of-is (b ∷ []) ∙ omega arith)
 
 value_more : (cells : List ℤ) (r p plane : ℕ) → value_to cells r p (suc plane) ≡ digit (bit (mask_in cells r plane) p) * 2 ^ plane + value_to cells r p plane
 value_more cells r p plane =
-    ap value_of (bits_below-more cells r p plane) ∙ value_first (bit (mask_in cells r plane) p) (bits_below cells r p plane) ∙
-    ap (λ n. digit (bit (mask_in cells r plane) p) * 2 ^ n + value_to cells r p plane) (length-bits_below cells r p plane)
+    ap value_of (bits_below-more (mask_in cells r) p plane) ∙ value_first (bit (mask_in cells r plane) p) (bits_below (mask_in cells r) p plane) ∙
+    ap (λ n. digit (bit (mask_in cells r plane) p) * 2 ^ n + value_to cells r p plane) (length-bits_below (mask_in cells r) p plane)
 
 value_small : (cells : List ℤ) (r p planes : ℕ) → value_to cells r p planes < 2 ^ planes
-value_small cells r p planes = subst (λ n. value_to cells r p planes < 2 ^ n) (length-bits_below cells r p planes) (value_below (bits_below cells r p planes))
+value_small cells r p planes = subst (λ n. value_to cells r p planes < 2 ^ n) (length-bits_below (mask_in cells r) p planes) (value_below (bits_below (mask_in cells r) p planes))
 
 -- the planes from one on
 from_plane : (cells : List ℤ) (r p from place : ℕ) → value_to cells r p (from + place) / 2 ^ from < 2 ^ place
@@ -145,13 +147,13 @@ pub high_small : (cells : List ℤ) (r start : ℕ) {high : List ℕ} → high �
 high_small cells r start {high} is k lt = omega (arith, part_at cells r start 16 11 k is lt, from_plane cells r (start + k) 16 11)
 
 -- the halves of a magnitude
-both_halves : (cells : List ℤ) (r start k : ℕ) {low high : List ℕ} → low ≡ part_in cells r start 0 16 → high ≡ part_in cells r start 16 11 → k < 16 → get_or low k 0 + 2 ^ 16 * get_or high k 0 ≡ size_in cells r (start + k)
+both_halves : (cells : List ℤ) (r start k : ℕ) {low high : List ℕ} → low ≡ part_in cells r start 0 16 → high ≡ part_in cells r start 16 11 → k < 16 → get_or low k 0 + 2 ^ 16 * get_or high k 0 ≡ size_in (mask_in cells r) (start + k)
 both_halves cells r start k {low} {high} lows highs lt = omega (arith, part_at cells r start 0 16 k lows lt, part_at cells r start 16 11 k highs lt, low_planes cells r (start + k) 16 11)
 
 -- a block has the numbers at the first positions, except the DC
 pub record JoinsTo (count : ℕ) (cells : List ℤ) (r : ℕ) (block : List ℤ) : Type 0 where
   pub long : length block ≡ 64
-  pub acs : (p : ℕ) → p < count → get_or block p (pos 0) ≡ signed (bit (mask_in cells r minus_slot) p) (size_in cells r p)
+  pub acs : (p : ℕ) → p < count → get_or block p (pos 0) ≡ signed (bit (mask_in cells r minus_slot) p) (size_in (mask_in cells r) p)
 
 pub joins_none : (cells : List ℤ) (r : ℕ) (block : List ℤ) → length block ≡ 64 → JoinsTo 0 cells r block
 joins_none cells r block long = record { long = long; acs = λ p lt. absurd (omega (arith, lt)) }
@@ -162,14 +164,14 @@ joins_more {count} {minus} {r} {cells} {block} {new} {low} {high} lows highs is 
   long = puts.long ∙ so_far.long;
   acs = λ p lt. elim (cases_lt p count) [
     | inl under ↦ puts.below p under ∙ so_far.acs p under
-    | inr over ↦ subst (λ q. get_or new q (pos 0) ≡ signed (bit (mask_in cells r minus_slot) q) (size_in cells r q)) (back p over) (here (p - count) (omega (arith, lt, over)))
+    | inr over ↦ subst (λ q. get_or new q (pos 0) ≡ signed (bit (mask_in cells r minus_slot) q) (size_in (mask_in cells r) q)) (back p over) (here (p - count) (omega (arith, lt, over)))
   ];
 }
   where
     back : (p : ℕ) → count ≤ p → count + (p - count) ≡ p
     back p over = omega arith
 
-    here : (k : ℕ) → k < 16 → get_or new (count + k) (pos 0) ≡ signed (bit (mask_in cells r minus_slot) (count + k)) (size_in cells r (count + k))
+    here : (k : ℕ) → k < 16 → get_or new (count + k) (pos 0) ≡ signed (bit (mask_in cells r minus_slot) (count + k)) (size_in (mask_in cells r) (count + k))
     here k lt = puts.here k lt ∙ (λ i. signed (bit (is i) (count + k)) (both_halves cells r count k lows highs lt i))
 
 -- all numbers, and the DC

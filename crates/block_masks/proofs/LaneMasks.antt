@@ -1,9 +1,9 @@
 -- From the lanes of sixteen numbers to a mask.
-use Rattle.std.proofs.Common.{◌≡◌, ℕ, ◌+◌, ◌-◌, ◌*◌, ◌/◌, ◌%◌, ◌<◌, ◌≤◌, ◌^◌, ℤ, pos, negsuc, Bool, false, cond, List, length, take, drop, map, get_or, replicate, ◌+ℤ◌, ◌*ℤ◌, ◌≤ℤ◌, ◌<ℤ◌, unsigned_abs, nat_lt, nat_le, FitsSigned, ap, sym, ◌∙◌, subst, arith, w32, ◌==◌, pow_mono}
+use Rattle.std.proofs.Common.{◌≡◌, ℕ, ◌+◌, ◌/◌, ◌%◌, ◌<◌, ◌≤◌, ◌^◌, ℤ, pos, Bool, false, cond, List, length, take, drop, map, get_or, replicate, FitsSigned, ap, sym, ◌∙◌, subst, arith, w32, ◌==◌}
 use Rattle.std.specs.Simd.Lanes.{mask_l, top, zip2}
 use Rattle.std.proofs.lemmas.List.{get_or-map, get_or-take, get_or-drop, length-map, length-take, length-drop}
-use Rattle.std.proofs.lemmas.Simd.{bit_mask_l, mask_l-lt, mask_l-mod, zip2_splat, zip2_of_maps, splat_is_map, map-map}
-use Rattle.std.proofs.lemmas.Int.{ints, to_z-of_z, to_z_pos}
+use Rattle.std.proofs.lemmas.Simd.{bit_mask_l, mask_l-lt, mask_l-mod, zip2_splat, map-map}
+use Rattle.std.proofs.lemmas.Int.{to_z-of_z}
 use Rattle.std.proofs.lemmas.Bool.Decides.{nat_tests}
 use lib.Signed.{lt_z}
 use mir.Val.{of_z, to_z}
@@ -55,18 +55,6 @@ compared op y f cells start within each =
     ap (map (top 31)) (zip2_splat op (lanes cells start) 16 y long) ∙ map-map (top 31) (λ x. op x y) (lanes cells start) in
     subst (λ ms. Shows (mask_l ms % 2 ^ 64) f start 16) (sym step) (shown (λ x. top 31 (op x y)) f cells start within each)
 
--- a comparison with a sum
-pub compared_sum : (less add : ℕ → ℕ → ℕ) (y z : ℕ) (f : ℕ → Bool) (cells : List ℤ) (start : ℕ) → start + 16 ≤ length cells →
-    ((k : ℕ) → k < 16 → top 31 (less y (add (of_z w32 (get_or cells (start + k) (pos 0))) z)) ≡ f (start + k)) →
-    Shows (mask_l (map (top 31) (zip2 less (replicate 16 y) (zip2 add (lanes cells start) (replicate 16 z)))) % 2 ^ 64) f start 16
-compared_sum less add y z f cells start within each =
-    let long = length-lanes cells start within in
-    let xs = lanes cells start in
-    let both = zip2_of_maps less (λ x. y) (λ x. add x z) xs (splat_is_map xs 16 y long) (zip2_splat add xs 16 z long) in
-    let step : map (top 31) (zip2 less (replicate 16 y) (zip2 add xs (replicate 16 z))) ≡ map (λ x. top 31 (less y (add x z))) xs =
-    ap (map (top 31)) both ∙ map-map (top 31) (λ x. less y (add x z)) xs in
-    subst (λ ms. Shows (mask_l ms % 2 ^ 64) f start 16) (sym step) (shown (λ x. top 31 (less y (add x z))) f cells start within each)
-
 -- ---- one lane
 
 pub below_zero : (z : ℤ) → lt_z z (pos 0) ≡ negative z
@@ -78,39 +66,7 @@ top_of b = grind (arith, nat_tests)
 pub negative_lane : (z : ℤ) → FitsSigned w32 z → top 31 (cond (lt_z (to_z w32 (of_z w32 z)) (pos 0)) 4294967295 0) ≡ negative z
 negative_lane z fits = rw (to_z-of_z w32 z fits) (top_of (lt_z z (pos 0)) ∙ below_zero z)
 
--- the least number and one more
-over_least : (n : ℕ) → n < 2147483648 → of_z w32 (negsuc 2147483647 +ℤ pos n) ≡ 2147483648 + n
-over_least n small = omega (arith, ints)
-
-least_and : (n : ℕ) → n < 2147483648 → to_z w32 (2147483648 + n) ≡ negsuc 2147483647 +ℤ pos n
-least_and n small = grind (arith, ints)
-
--- the least number and n, added in arithmetic that wraps, take -n to the least number and n to the 2n-th after it
-past : (n : ℕ) (z : ℤ) → n < 1073741824 → FitsSigned w32 z → lt_z (negsuc 2147483647 +ℤ pos (2 * n)) (to_z w32 ((of_z w32 z + (2147483648 + n)) % 4294967296)) ≡ nat_lt n (unsigned_abs z)
-past n z few fits = grind (arith, nat_tests)
-
-pub outside_lane : (m z : ℤ) → pos 0 ≤ℤ m → m <ℤ pos (2 ^ 30) → FitsSigned w32 z →
-    top 31 (cond (lt_z (to_z w32 (of_z w32 (negsuc 2147483647 +ℤ to_z w32 (of_z w32 (pos 2 *ℤ to_z w32 (of_z w32 m))))))
-    (to_z w32 ((of_z w32 z + of_z w32 (negsuc 2147483647 +ℤ to_z w32 (of_z w32 m))) % 4294967296))) 4294967295 0) ≡ nat_lt (unsigned_abs m) (unsigned_abs z)
-outside_lane m z low few fits = grind (arith, nat_tests, w32, over_least, least_and, top_of, past)
-
 -- ---- a mask in another form
 
 pub shows_same : {mask start count : ℕ} {f g : ℕ → Bool} → ((p : ℕ) → f p ≡ g p) → Shows mask f start count → Shows mask g start count
 shows_same {start = start} same shows = record { at = λ k below. shows.at k below ∙ same (start + k); small = shows.small }
-
-pub reached : (m n plane : ℕ) → n + 1 ≡ 2 ^ plane → nat_lt n m ≡ nat_le (2 ^ plane) m
-reached m n plane e = grind arith
-
-pub below_half : (plane : ℕ) → plane < 31 → to_z w32 (1 * 2 ^ plane % 4294967296 - 1) <ℤ pos (2 ^ 30)
-below_half plane low = grind (arith, nat_tests, pow_mono)
-
-pub one_less : (plane : ℕ) → plane < 31 → unsigned_abs (to_z w32 (1 * 2 ^ plane % 4294967296 - 1)) + 1 ≡ 2 ^ plane
-one_less plane low =
-    let under : plane ≤ 30 = omega arith in
-    let from : 0 ≤ plane = omega arith in
-    let most : 2 ^ plane ≤ 2 ^ 30 = pow_mono under in
-    let some : 2 ^ 0 ≤ 2 ^ plane = pow_mono from in
-    let whole : 1 * 2 ^ plane % 4294967296 - 1 ≡ 2 ^ plane - 1 = omega arith in
-    let small : to_z w32 (2 ^ plane - 1) ≡ pos (2 ^ plane - 1) = to_z_pos w32 (2 ^ plane - 1) (omega arith) in
-    rw (whole, small) (omega arith)

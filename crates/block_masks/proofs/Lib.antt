@@ -14,5 +14,15 @@ pub mod Bands
 pub mod Equations
 pub mod SlicePlaces
 pub mod Settling
+pub mod MaskedNumbers
 pub mod SliceNumbers
+pub mod SegmentWords
+pub mod SegmentLists
+pub mod SegmentRoom
+pub mod SegmentJoining
+pub mod PuttingPlanes
+pub mod SegmentKeeping
+pub mod SegmentSettling
+pub mod SegmentPushing
+pub mod SegmentBeginning
 pub mod ByteLanes

@@ -9,7 +9,7 @@ use Rattle.block_masks.specs.declared.slices.Column.{Column}
 use Rattle.block_masks.specs.Slices.{width, place, IsColumn, mask_from, mask_in, PutsMask}
 
 -- a step to the next slot is at least a width
-next_slot : (w s t : ℕ) → s < t → w * s + w ≤ w * t
+pub next_slot : (w s t : ℕ) → s < t → w * s + w ≤ w * t
 next_slot w s t lt = grind arith
 
 -- the slots of a block are a step apart

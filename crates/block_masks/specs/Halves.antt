@@ -4,11 +4,12 @@ use Rattle.std.specs.List.{range_with_len}
 use lib.ListN.{get_or}
 use Rattle.item_defs.specs.Bits.{bit, value_of}
 use Rattle.block_masks.specs.declared.joining.Halves.{Halves}
-use Rattle.block_masks.specs.Slices.{bits_below}
+use Rattle.block_masks.specs.Slices.{mask_in}
+use Rattle.block_masks.specs.MaskedNumbers.{bits_below}
 
 -- sixteen of them, from a position on: the bits of weight 2 ^ from and more that the planes from `from` on give, `planes` of them
 abbrev pub part_in : List ℤ → (r start from planes : ℕ) → List ℕ
-part_in cells r start from planes = map (λ k. value_of (bits_below cells r (start + k) (from + planes)) / 2 ^ from) (range_with_len 0 16)
+part_in cells r start from planes = map (λ k. value_of (bits_below (mask_in cells r) (start + k) (from + planes)) / 2 ^ from) (range_with_len 0 16)
 
 -- all of them
 pub record HasPlanes (cells : List ℤ) (r from planes : ℕ) (halves : Halves) : Type 0 where

@@ -5,6 +5,8 @@ pub mod Gaggles
 pub mod Stored
 pub mod BitsSet
 pub mod Places
+pub mod MaskedNumbers
 pub mod Slices
+pub mod SegmentNumbers
 pub mod ByteLists
 pub mod Halves

@@ -1,15 +1,15 @@
 -- The numbers of a segment as masks, in the place of the numbers. A group is 240 blocks, and the last one has those that are left.
 -- It has 32 slots, one after another, and a slot has a mask of 64 bits for each block of the group: slots 0 to 26 say which numbers
 -- have the bit of weight 2^slot in their magnitude, slot 28 which are negative, slot 29 which are significant above the plane that
--- is coded next, and slot 30 has the DC itself. No number depends on slots 27 and 31, which the writer of planes uses. (This project's
--- own.)
-use Rattle.std.specs.Prelude.{◌≡◌, ◌<◌, ◌≤◌, ℕ, zero, suc, ◌+◌, ◌-◌, ◌*◌, ◌/◌, ◌%◌, ◌^◌, ◌==◌, ℤ, pos, neg_ℤ, Bool, ◌||◌, min, List, [], ◌∷◌, length, map, if◌then◌else◌}
+-- is coded next, and slot 30 has the DC itself. No number depends on slots 27 and 31. (This project's own.)
+use Rattle.std.specs.Prelude.{◌≡◌, ◌<◌, ◌≤◌, ℕ, ◌+◌, ◌-◌, ◌*◌, ◌/◌, ◌%◌, ◌^◌, ℤ, pos, Bool, ◌||◌, min, List, length, map}
 use Rattle.std.specs.List.{range_with_len}
 use Rattle.std.specs.Int.{w32, cast_unsigned, cast_signed}
 use lib.ListN.{get_or}
-use Rattle.item_defs.specs.Bits.{bit, value_of}
+use Rattle.item_defs.specs.Bits.{bit}
 use Rattle.block_masks.specs.declared.slices.Column.{Column}
 use Rattle.block_masks.specs.Masks.{Shows}
+use Rattle.block_masks.specs.MaskedNumbers.{number_from}
 
 abbrev pub minus_slot : ℕ
 minus_slot = 28
@@ -42,20 +42,9 @@ mask_from cells i = cast_unsigned w32 (get_or cells i (pos 0)) + 2 ^ 32 * cast_u
 unfoldable pub mask_in : List ℤ → (r slot : ℕ) → ℕ
 mask_in cells r slot = mask_from cells (place (length cells / 64) r slot)
 
--- the bits that number k of block r has in the first planes, the highest first
-unfoldable pub bits_below : List ℤ → (r k planes : ℕ) → List Bool
-bits_below cells r k zero = []
-bits_below cells r k (suc plane) = bit (mask_in cells r plane) k ∷ bits_below cells r k plane
-
--- the magnitude of number k of block r, which is no DC
-abbrev pub size_in : List ℤ → (r k : ℕ) → ℕ
-size_in cells r k = value_of (bits_below cells r k 27)
-
 -- number k of block r
 unfoldable pub number_in : List ℤ → (r k : ℕ) → ℤ
-number_in cells r k =
-    if k == 0 then cast_signed w32 (mask_in cells r dc_slot % 2 ^ 32)
-    else if bit (mask_in cells r minus_slot) k then neg_ℤ (pos (size_in cells r k)) else pos (size_in cells r k)
+number_in cells r k = number_from (mask_in cells r) (mask_in cells r minus_slot) (cast_signed w32 (mask_in cells r dc_slot % 2 ^ 32)) k
 
 -- the numbers of all blocks, one block after another
 unfoldable pub numbers_in : List ℤ → List ℤ

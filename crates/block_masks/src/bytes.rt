@@ -45,10 +45,10 @@ fn doubled(bytes: u8x16) -> u8x16
     bytes + bytes
 }
 
-/// Returns the masks of eight planes from one on: which numbers of a block have the bit of the plane in their magnitude. All magnitudes
-/// are below 2^28.
+// Returns the masks of eight planes from one on: which numbers of a block have the bit of the plane in their magnitude. All magnitudes
+// are below 2^28.
 #[inline(always)]
-pub fn eight_planes(block: &[i32], from: u8) -> [u64; 8]
+pub(crate) fn eight_planes(block: &[i32], from: u8) -> [u64; 8]
     requires whole { length block.now ≡ 64 }
     requires low { from < 32 }
     requires small { (k : ℕ) → magnitude block.now k < 2 ^ 28 }

@@ -20,34 +20,6 @@ pub(crate) fn read(block: &[i32], start: usize)
     }
 }
 
-// Returns which of sixteen numbers are above `most` in magnitude.
-#[inline(always)]
-fn outside(block: &[i32], start: usize, most: i32) -> u64
-    requires within { start + 16 ≤ length block.now }
-    requires least { pos 0 ≤ℤ most }
-    requires greatest { most <ℤ pos (2 ^ 30) }
-    ensures { Shows result (λ p. nat_lt (unsigned_abs most) (magnitude block.now p)) start 16 }
-{
-    read(block, start);
-    let numbers = i32x16::from_slice(&block[start..]);
-    // Sums of lanes wrap: those of -most to most are the least numbers, up to MIN + 2 * most, and all others are above.
-    let moved = numbers + i32x16::splat(i32::MIN + most);
-    moved
-        .simd_gt(i32x16::splat(i32::MIN + 2 * most))
-        .to_bitmask()
-}
-
-/// Returns which of the sixteen numbers from `start` on are significant in a plane: at least 2^plane in magnitude.
-#[inline(always)]
-pub fn reaching(block: &[i32], start: usize, plane: u8) -> u64
-    requires within { start + 16 ≤ length block.now }
-    requires low { plane < 31 }
-    ensures { Shows result (significant block.now plane) start 16 }
-{
-    let most = (1u32 << plane) - 1;
-    outside(block, start, most as i32)
-}
-
 // Returns which of the sixteen numbers from `start` on are below 0.
 #[inline(always)]
 fn negative(block: &[i32], start: usize) -> u64
@@ -73,24 +45,9 @@ pub(crate) fn whole(first: u64, second: u64, third: u64, fourth: u64) -> u64
     joined(low, high, 32)
 }
 
-/// Returns which numbers of a block are significant in a plane: at least 2^plane in magnitude.
+// Returns which numbers of a block are below 0.
 #[inline(always)]
-pub fn all_reaching(block: &[i32], plane: u8) -> u64
-    requires whole { length block.now ≡ 64 }
-    requires low { plane < 31 }
-    ensures { Shows result (significant block.now plane) 0 64 }
-{
-    whole(
-        reaching(block, 0, plane),
-        reaching(block, 16, plane),
-        reaching(block, 32, plane),
-        reaching(block, 48, plane),
-    )
-}
-
-/// Returns which numbers of a block are below 0.
-#[inline(always)]
-pub fn all_negative(block: &[i32]) -> u64
+pub(crate) fn all_negative(block: &[i32]) -> u64
     requires { length block.now ≡ 64 }
     ensures { Shows result (λ p. is_negative (slice_index_or block.now p (pos 0))) 0 64 }
 {

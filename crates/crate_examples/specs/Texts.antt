@@ -9,7 +9,7 @@ use Rattle.text_defs.specs.Outcomes.{Refused, at_item, short_segment, overlong}
 use Rattle.segment_code.specs.declared.decode.SegmentFault.{SegmentFault}
 use Rattle.segment_code.specs.declared.decode.SegmentFault.TheVariants.{BadOption, BadDelta, BadDepth, FalseFlag, ShortSegment, Overlong, BrokenSegment, ReadFault, LongInput}
 use Rattle.segment_code.specs.Decoded.{HoldsPart}
-use Rattle.crate_examples.specs.declared.texts.SegmentBlocks.{SegmentBlocks}
+use Rattle.crate_examples.specs.declared.texts.ReadBlocks.{ReadBlocks}
 use Rattle.crate_examples.specs.declared.texts.NotRead.{NotRead}
 use Rattle.crate_examples.specs.declared.texts.NotRead.TheVariants.{BadHead, BadText, NoMemory}
 
@@ -31,7 +31,7 @@ pub record IsRefused (text : List ℕ) (head : SegmentHead) (fault : SegmentFaul
   pub refused : RefusedFor head (drop (head_length head) text) fault
 
 -- its blocks, or why there are none
-abbrev pub IsReadAs : List ℕ → Result SegmentBlocks NotRead → Type 0
+abbrev pub IsReadAs : List ℕ → Result ReadBlocks NotRead → Type 0
 IsReadAs text (Ok got) = (head_read text ≡ Ok got.head) × HoldsPart profile got.head (drop (head_length got.head) text) got.numbers.items got.part
 IsReadAs text (Err (BadHead fault)) = head_read text ≡ Err fault
 IsReadAs text (Err (BadText fault)) = (head : SegmentHead) × IsRefused text head fault

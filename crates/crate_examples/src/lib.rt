@@ -12,4 +12,4 @@ mod texts;
 
 pub use lists::list_octets;
 pub use rows::{encode_frame, hand_in};
-pub use texts::{NotRead, SegmentBlocks, read_text};
+pub use texts::{NotRead, ReadBlocks, read_text};

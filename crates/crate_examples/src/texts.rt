@@ -9,7 +9,7 @@ use word_codes::profile_book;
 
 /// What a segment's text holds: 64 numbers for each block, and whether the text has all items or the limit cut them.
 #[derive(Drop)]
-pub struct SegmentBlocks {
+pub struct ReadBlocks {
     pub head: SegmentHead,
     pub part: Part,
     pub numbers: Vec<i32>,
@@ -28,7 +28,7 @@ pub enum NotRead {
 
 /// Reads a segment's text with its head. It takes 65 numbers of four octets for each block of the head. The head can have 1,048,575 blocks,
 /// so a caller that doesn't trust the octets reads the head first.
-pub fn read_text(alloc: Global, text: &[u8]) -> Result<SegmentBlocks, NotRead>
+pub fn read_text(alloc: Global, text: &[u8]) -> Result<ReadBlocks, NotRead>
     ensures { IsReadAs text.now result }
 {
     let head = match read_head(text) {
@@ -50,7 +50,7 @@ pub fn read_text(alloc: Global, text: &[u8]) -> Result<SegmentBlocks, NotRead>
         &mut marks,
         &profile_book(),
     ) {
-        Ok(part) => Ok(SegmentBlocks {
+        Ok(part) => Ok(ReadBlocks {
             head,
             part,
             numbers,

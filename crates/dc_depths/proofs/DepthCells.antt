@@ -16,7 +16,8 @@ by_places f a (x ∷ xs) h =
     let others : map f (range_with_len (a + 1) (length xs)) ≡ xs = by_places f (a + 1) xs (λ k lt. h (suc k) (omega arith) ∙ ap f (omega arith)) in
     ap (λ y. y ∷ map f (range_with_len (a + 1) (length xs))) here ∙ ap (λ ys. x ∷ ys) others
 
-every_cell : (xs : List ℤ) → strided 1 xs ≡ xs
+-- with a stride of 1, all numbers are taken
+pub every_cell : (xs : List ℤ) → strided 1 xs ≡ xs
 every_cell xs =
     let n : div_ceil (length xs) 1 ≡ length xs = omega arith in
     strided-is 1 xs ∙ rw n (by_places (cell_at 1 xs) 0 xs (λ k lt. let e : k ≡ (0 + k) * 1 = omega arith in ap (λ i. get_or xs i (pos 0)) e))

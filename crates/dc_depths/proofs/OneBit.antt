@@ -1,6 +1,6 @@
 -- Numbers as single bits.
-use Rattle.std.proofs.Common.{◌≡◌, ℕ, ◌/◌, ◌%◌, ◌^◌, ◌<◌, ℤ, pos, List, [], ◌∷◌, length, get_or, eqb, ap, sym, ◌∙◌, arith, bit_and, nat_abs, ◌≤ℤ◌}
-use Rattle.std.specs.Int.{int_shr, div_ceil}
+use Rattle.std.proofs.Common.{◌≡◌, ℕ, ◌/◌, ◌%◌, ◌^◌, ◌<◌, ℤ, pos, [], ◌∷◌, eqb, ap, sym, ◌∙◌, arith, bit_and, nat_abs, ◌≤ℤ◌}
+use Rattle.std.specs.Int.{int_shr}
 use mir.Val.{to_z, of_z, SFits}
 use mir.Syntax.{w32}
 use Rattle.std.proofs.lemmas.Int.{to_z-of_z}
@@ -9,8 +9,6 @@ use Rattle.std.proofs.lemmas.Bool.Decides.{nat_tests}
 use Rattle.item_defs.specs.Bits.{bit, bits_of}
 use Rattle.item_defs.proofs.NumberBits.{bits_cons, bits_none}
 use Rattle.number_defs.specs.Ranges.{complement}
-use Rattle.number_defs.specs.Cells.{cell_at, strided}
-use Rattle.number_defs.proofs.CellPlaces.{strided_at}
 
 one_bit : (n : ℕ) → bits_of 1 n ≡ bit n 0 ∷ []
 one_bit n = bits_cons 0 n ∙ ap (λ r. bit n 0 ∷ r) (bits_none n)
@@ -31,8 +29,3 @@ plane_bit z plane fits = grind (arith, nat_tests, to_z-of_z, shifted_bit, one_bi
 -- a depth of 0 or 1
 pub depth_bit : (z : ℤ) → pos 0 ≤ℤ z → z ≤ℤ pos 1 → eqb (of_z w32 z) 1 ∷ [] ≡ bits_of 1 (nat_abs z)
 depth_bit z low high = grind (arith, nat_tests, one_bit)
-
--- the same for one of the DCs in blocks
-pub block_bit : (blocks : List ℤ) (block plane : ℕ) → block < div_ceil (length blocks) 64 → SFits w32 (cell_at 64 blocks block) →
-    eqb (bit_and (of_z w32 (int_shr (to_z w32 (of_z w32 (cell_at 64 blocks block))) plane)) 1) 1 ∷ [] ≡ bits_of 1 (complement 1 (int_shr (get_or (strided 64 blocks) block (pos 0)) plane))
-block_bit blocks block plane lt fits = grind (arith, nat_tests, plane_bit, strided_at)

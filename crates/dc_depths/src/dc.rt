@@ -2,7 +2,7 @@
 ghost use Rattle.std.specs.Prelude.{◌≡◌, ◌≤◌, ◌<◌, ◌-◌, map, true};
 ghost use Rattle.item_defs.specs.Items.{text};
 ghost use Rattle.bit_pipe.specs.Standing.{IsReady, Writes};
-ghost use Rattle.number_defs.specs.Cells.{strided, AreInRange};
+ghost use Rattle.number_defs.specs.Cells.{AreInRange};
 ghost use Rattle.number_defs.specs.DcPart.{dc_q, dc_bits, dc_bit, high_items, planes_before, dc_planes, dc_items, dc_choices};
 ghost use Rattle.gaggle_codes.specs.Options.{choice_of};
 
@@ -11,17 +11,14 @@ use base_122::Select;
 use bit_pipe::{BitOut, OctetOut, PutFault};
 use gaggle_codes::{NumberRange, put_values};
 
-// The number of numbers of a block; its DC is the first.
-const BLOCK: usize = 64;
-
 // Puts one bit of each block's DC in two's complement.
-fn put_plane<O: OctetOut>(out: &mut BitOut<O>, blocks: &[i32], plane: u8) -> Result<(), PutFault>
+fn put_plane<O: OctetOut>(out: &mut BitOut<O>, dcs: &[i32], plane: u8) -> Result<(), PutFault>
     requires open { IsReady O.sink out.old }
     requires plane { plane ≤ 28 }
-    ensures { Writes O.sink result out.old out.new (text (map (dc_bit plane) (strided 64 blocks.now))) }
+    ensures { Writes O.sink result out.old out.new (text (map (dc_bit plane) dcs.now)) }
 {
-    for block in 0..blocks.len().div_ceil(BLOCK) {
-        out.put((blocks[block * BLOCK] >> plane) & 1 == 1)?;
+    for dc in dcs {
+        out.put((*dc >> plane) & 1 == 1)?;
     }
     Ok(())
 }
@@ -29,64 +26,60 @@ fn put_plane<O: OctetOut>(out: &mut BitOut<O>, blocks: &[i32], plane: u8) -> Res
 // Puts the high bits of each block's DC.
 fn put_high<O: OctetOut>(
     out: &mut BitOut<O>,
-    blocks: &[i32],
+    dcs: &[i32],
     plan: &DcPlan,
     select: Select,
 ) -> Result<(), PutFault>
     requires open { IsReady O.sink out.old }
     requires dc { plan.now.depth_dc ≤ 28 }
     requires shift { plan.now.shift ≤ 3 }
-    requires fit { AreInRange true (dc_bits plan.now.depth_dc plan.now.depth_ac plan.now.shift) (dc_q plan.now.depth_dc plan.now.depth_ac plan.now.shift) 64 blocks.now }
+    requires fit { AreInRange true (dc_bits plan.now.depth_dc plan.now.depth_ac plan.now.shift) (dc_q plan.now.depth_dc plan.now.depth_ac plan.now.shift) 1 dcs.now }
     ensures { Writes O.sink result out.old out.new
-        (text (high_items (dc_bits plan.now.depth_dc plan.now.depth_ac plan.now.shift) (dc_q plan.now.depth_dc plan.now.depth_ac plan.now.shift) (strided 64 blocks.now)
-        (dc_choices (choice_of select) plan.now.depth_dc plan.now.depth_ac plan.now.shift (strided 64 blocks.now)))) }
+        (text (high_items (dc_bits plan.now.depth_dc plan.now.depth_ac plan.now.shift) (dc_q plan.now.depth_dc plan.now.depth_ac plan.now.shift) dcs.now
+        (dc_choices (choice_of select) plan.now.depth_dc plan.now.depth_ac plan.now.shift dcs.now))) }
 {
     let bits = plan.bits();
     if bits == 1 {
-        return put_plane(out, blocks, plan.q());
+        return put_plane(out, dcs, plan.q());
     }
     let range = NumberRange { signed: true, bits };
-    put_values(out, blocks, BLOCK, plan.q(), range, select)
+    put_values(out, dcs, 1, plan.q(), range, select)
 }
 
 // Puts the DC bit planes that are left, from the highest down.
-fn put_planes<O: OctetOut>(
-    out: &mut BitOut<O>,
-    blocks: &[i32],
-    plan: &DcPlan,
-) -> Result<(), PutFault>
+fn put_planes<O: OctetOut>(out: &mut BitOut<O>, dcs: &[i32], plan: &DcPlan) -> Result<(), PutFault>
     requires open { IsReady O.sink out.old }
     requires dc { plan.now.depth_dc ≤ 28 }
     requires shift { plan.now.shift ≤ 3 }
     ensures { Writes O.sink result out.old out.new
-        (text (planes_before (dc_q plan.now.depth_dc plan.now.depth_ac plan.now.shift) (strided 64 blocks.now) (dc_planes plan.now.depth_dc plan.now.depth_ac plan.now.shift))) }
+        (text (planes_before (dc_q plan.now.depth_dc plan.now.depth_ac plan.now.shift) dcs.now (dc_planes plan.now.depth_dc plan.now.depth_ac plan.now.shift))) }
 {
     let last = plan.depth_ac.max(plan.shift);
     let mut plane = plan.q();
     while plane > last {
         plane -= 1;
-        put_plane(out, blocks, plane)?;
+        put_plane(out, dcs, plane)?;
     }
     Ok(())
 }
 
 /// Puts the DC part of a segment: the numbers of its blocks' DCs, then their bit planes down to BitDepthAC (docs/formats.md,
-/// "DC part and block depths"). A block is 64 numbers, of which the first is its DC. BitDepthDC is at most 28, the shift at
-/// most 3, and each DC over 2^q, rounded down, fits the bits of the numbers that are put.
+/// "DC part and block depths"). BitDepthDC is at most 28, the shift at most 3, and each DC over 2^q, rounded down, fits the bits of the
+/// numbers that are put.
 pub fn put_dc<O: OctetOut>(
     out: &mut BitOut<O>,
-    blocks: &[i32],
+    dcs: &[i32],
     plan: &DcPlan,
     select: Select,
 ) -> Result<(), PutFault>
     requires open { IsReady O.sink out.old }
     requires dc { plan.now.depth_dc ≤ 28 }
     requires shift { plan.now.shift ≤ 3 }
-    requires fit { AreInRange true (dc_bits plan.now.depth_dc plan.now.depth_ac plan.now.shift) (dc_q plan.now.depth_dc plan.now.depth_ac plan.now.shift) 64 blocks.now }
+    requires fit { AreInRange true (dc_bits plan.now.depth_dc plan.now.depth_ac plan.now.shift) (dc_q plan.now.depth_dc plan.now.depth_ac plan.now.shift) 1 dcs.now }
     ensures { Writes O.sink result out.old out.new
-        (text (dc_items plan.now.depth_dc plan.now.depth_ac plan.now.shift (strided 64 blocks.now)
-        (dc_choices (choice_of select) plan.now.depth_dc plan.now.depth_ac plan.now.shift (strided 64 blocks.now)))) }
+        (text (dc_items plan.now.depth_dc plan.now.depth_ac plan.now.shift dcs.now
+        (dc_choices (choice_of select) plan.now.depth_dc plan.now.depth_ac plan.now.shift dcs.now))) }
 {
-    put_high(out, blocks, plan, select)?;
-    put_planes(out, blocks, plan)
+    put_high(out, dcs, plan, select)?;
+    put_planes(out, dcs, plan)
 }

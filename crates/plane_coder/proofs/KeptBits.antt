@@ -1,4 +1,4 @@
--- The bits of the words of a gaggle, stage by stage, in its free masks.
+-- The bits of the words of a gaggle, stage by stage, in its masks.
 use Rattle.std.proofs.Common.{◌≡◌, ◌<◌, ◌≤◌, ℕ, zero, suc, ◌+◌, ◌-◌, ◌*◌, ◌||◌, inl, inr, refl, ap, sym, ◌∙◌, subst, arith, ℤ, Bool, false, List, [], ◌∷◌, ◌++◌, length, get_or, append_assoc, append-nil, flat_map, add-one, Err}
 use Rattle.std.specs.List.{list_any}
 use Rattle.std.proofs.lemmas.Bool.{cases_eq}
@@ -27,10 +27,10 @@ use Rattle.plane_coder.specs.Appends.{Appends, said}
 use Rattle.plane_coder.specs.Left.{KeepsBits, KeepsNext}
 use Rattle.plane_coder.specs.Listed.{AreAlike}
 use Rattle.plane_coder.specs.Views.{plane_in}
-use Rattle.plane_coder.specs.Kept.{free_masks, OnlyFree, bits_in, bits_between, octet_in, HasOctets, flags_in, KeepsStage, Keeps, KeepFirst, AreKept}
+use Rattle.plane_coder.specs.Kept.{free_at, KeepsOthers, bits_in, bits_between, octet_in, HasOctets, flags_in, KeepsStage, Keeps, KeepFirst, AreKept}
 use Rattle.plane_coder.proofs.Alike.{agrees_alike, text_alike}
 use Rattle.plane_coder.proofs.Appending.{silent_said}
-use Rattle.plane_coder.proofs.Keeping.{only_none, only_then, bits_at, no_masks, one_mask_more, same_between, other_gaggle}
+use Rattle.plane_coder.proofs.Keeping.{bits_at, no_masks, one_mask_more, same_between}
 use Rattle.plane_coder.proofs.Sending.{before_more}
 use Rattle.plane_coder.proofs.Waiting.{leaves_none, leaves_more, leaves_taken}
 
@@ -56,28 +56,28 @@ module _ {book : Book} where
   }
 
 -- the words of a list so far
-pub record SoKept (book : Book) (old : Gaggle) (b from : ℕ) (start now : List ℤ) (used : ℕ) (pending : PendingBits) (entries : List Entry) : Type 0 where
-  pub keeps : KeepsBits book old from used (free_masks now b) pending entries
-  pub before : (k : ℕ) → k < from → get_or (free_masks now b) k 0 ≡ get_or (free_masks start b) k 0
+pub record SoKept (book : Book) (old : Gaggle) (from : ℕ) (start now : List ℕ) (used : ℕ) (pending : PendingBits) (entries : List Entry) : Type 0 where
+  pub keeps : KeepsBits book old from used now pending entries
+  pub before : (k : ℕ) → k < from → get_or now k 0 ≡ get_or start k 0
   pub order : from ≤ used
   pub few : used ≤ 33
-  pub only : OnlyFree b start now
+  pub whole : length now ≡ 32
 
-pub so_none : (book : Book) (a : PendingBits) (b from : ℕ) (cells : List ℤ) → from ≤ 33 → a.count ≡ 0 → SoKept book a.gaggle b from cells cells from a []
-so_none book a b from cells few silent = record { keeps = keeps_none a from (free_masks cells b) silent; before = λ k lt. refl; order = omega arith; few = few; only = only_none b cells }
+pub so_none : (book : Book) (a : PendingBits) (from : ℕ) (masks : List ℕ) → from ≤ 33 → length masks ≡ 32 → a.count ≡ 0 → SoKept book a.gaggle from masks masks from a []
+so_none book a from masks few whole silent = record { keeps = keeps_none a from masks silent; before = λ k lt. refl; order = omega arith; few = few; whole = whole }
 
-pub so_more : {book : Book} {old : Gaggle} {b from used : ℕ} {start now : List ℤ} {x y : PendingBits} {xs ys : List Entry} (most : ℕ) → SoKept book old b from start now used x xs → Appends book x y ys most →
-    SoKept book old b from start now used y (xs ++ ys)
-so_more most so q = record { keeps = keeps_more most so.keeps q; before = so.before; order = so.order; few = so.few; only = so.only }
+pub so_more : {book : Book} {old : Gaggle} {from used : ℕ} {start now : List ℕ} {x y : PendingBits} {xs ys : List Entry} (most : ℕ) → SoKept book old from start now used x xs → Appends book x y ys most →
+    SoKept book old from start now used y (xs ++ ys)
+so_more most so q = record { keeps = keeps_more most so.keeps q; before = so.before; order = so.order; few = so.few; whole = so.whole }
 
-pub so_next : {book : Book} {old : Gaggle} {b from used next : ℕ} {start x y : List ℤ} {w z : PendingBits} {xs : List Entry} → SoKept book old b from start x used w xs → KeepsNext used next (free_masks x b) (free_masks y b) w →
-    OnlyFree b x y → z.gaggle ≡ w.gaggle → z.count ≡ 0 → SoKept book old b from start y next z xs
-so_next so q only same silent = record {
+pub so_next : {book : Book} {old : Gaggle} {from used next : ℕ} {start x y : List ℕ} {w z : PendingBits} {xs : List Entry} → SoKept book old from start x used w xs → KeepsNext used next x y w →
+    length y ≡ 32 → z.gaggle ≡ w.gaggle → z.count ≡ 0 → SoKept book old from start y next z xs
+so_next so q whole same silent = record {
   keeps = keeps_next so.order so.keeps q same silent;
   before = λ k lt. q.before k (omega (arith, lt, so.order)) ∙ so.before k lt;
   order = omega (arith, q.used, so.order, so.few);
   few = omega (arith, q.used);
-  only = only_then so.only only;
+  whole = whole;
 }
 
 -- ---- the first mask
@@ -169,28 +169,28 @@ fresh_agrees p g = record {
 
 -- ---- gaggle after gaggle
 
-pub none_kept : (book : Book) (options : ℕ → List ℕ) (p : Plane) (cells : List ℤ) → KeepFirst book options p 0 cells
-none_kept book options p cells = record { at = λ g below. absurd (omega (arith, below)) }
+pub none_kept : (book : Book) (options : ℕ → List ℕ) (p : Plane) (kept : List ℕ) → KeepFirst book options p 0 kept
+none_kept book options p kept = record { at = λ g below. absurd (omega (arith, below)) }
 
-pub more_kept : {book : Book} {options : ℕ → List ℕ} {p : Plane} {g : ℕ} {cells next : List ℤ} → KeepFirst book options p g cells → OnlyFree (16 * g) cells next →
-    (1024 * g + 1024 ≤ length cells → Keeps book (options g) p g (free_masks next (16 * g))) → KeepFirst book options p (g + 1) next
-more_kept {book} {options} {p} {g} {cells} {next} so only here = record {
+pub more_kept : {book : Book} {options : ℕ → List ℕ} {p : Plane} {g : ℕ} {kept next : List ℕ} → KeepFirst book options p g kept → KeepsOthers g kept next →
+    (32 * g + 32 ≤ length kept → Keeps book (options g) p g (free_at next g)) → KeepFirst book options p (g + 1) next
+more_kept {book} {options} {p} {g} {kept} {next} so others here = record {
   at = λ h below full.
-      let there : 1024 * h + 1024 ≤ length cells = omega (arith, full, only.long) in
+      let there : 32 * h + 32 ≤ length kept = omega (arith, full, others.long) in
       elim (cases_eq h g) [
         | inl same ↦ rw same (here (omega (arith, there, same)))
-        | inr other ↦ subst (Keeps book (options h) p h) (sym (other_gaggle only (inl (omega (arith, below, other))) (omega (arith, there)))) (so.at h (omega (arith, below, other)) there)
+        | inr other ↦ subst (Keeps book (options h) p h) (sym (others.others h other there)) (so.at h (omega (arith, below, other)) there)
       ];
 }
 
-pub all_gaggles_kept : {book : Book} {options : ℕ → List ℕ} {p : Plane} {n : ℕ} {cells : List ℤ} → gaggles p ≤ n → KeepFirst book options p n cells → AreKept book options p cells
+pub all_gaggles_kept : {book : Book} {options : ℕ → List ℕ} {p : Plane} {n : ℕ} {kept : List ℕ} → gaggles p ≤ n → KeepFirst book options p n kept → AreKept book options p kept
 all_gaggles_kept all so = record { at = λ g below full. so.at g (omega (arith, below, all)) full }
 
 -- the same by options that are equal
-pub kept_by : {book : Book} {options others : ℕ → List ℕ} {p : Plane} {cells : List ℤ} → ((g : ℕ) → g < gaggles p → options g ≡ others g) → AreKept book options p cells → AreKept book others p cells
-kept_by {book} {options} {others} {p} {cells} same so = record { at = λ g below full. subst (λ o. Keeps book o p g (free_masks cells (16 * g))) (same g below) (so.at g below full) }
+pub kept_by : {book : Book} {options others : ℕ → List ℕ} {p : Plane} {kept : List ℕ} → ((g : ℕ) → g < gaggles p → options g ≡ others g) → AreKept book options p kept → AreKept book others p kept
+kept_by {book} {options} {others} {p} {kept} same so = record { at = λ g below full. subst (λ o. Keeps book o p g (free_at kept g)) (same g below) (so.at g below full) }
 
 -- the same with the states as they are now
-pub kept_moved : (view : View) (book : Book) (m0 m1 : List ℤ) → SameMarks m0 m1 → AreKept book (options_at m0) (plane_in view (depths_of m0)) view.cells.now → AreKept book (options_at m1) (plane_in view (depths_of m1)) view.cells.now
+pub kept_moved : (view : View) (book : Book) (m0 m1 : List ℤ) → SameMarks m0 m1 → AreKept book (options_at m0) (plane_in view (depths_of m0)) view.kept.now → AreKept book (options_at m1) (plane_in view (depths_of m1)) view.kept.now
 kept_moved view book m0 m1 same so =
-    subst (λ d. AreKept book (options_at m1) (plane_in view d) view.cells.now) (sym same.depths) (kept_by (λ g below. sym (same.options g)) so)
+    subst (λ d. AreKept book (options_at m1) (plane_in view d) view.kept.now) (sym same.depths) (kept_by (λ g below. sym (same.options g)) so)

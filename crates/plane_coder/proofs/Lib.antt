@@ -15,9 +15,6 @@ mod BlockStages
 mod Choosing
 pub mod Sending
 mod Quiet
-mod Settled
+mod GaggleMasks
 mod Keeping
-mod Sliced
-mod SlicedGroups
-mod SlicedNumbers
 mod KeptBits

@@ -1,6 +1,5 @@
--- The bits that the words of a gaggle send in stages 1 to 3, in masks that nothing else needs: those of slots 27 and 31 of the 16 blocks of
--- the gaggle. b is the first block of the gaggle. (This project's own.)
-use Rattle.std.specs.Prelude.{◌≡◌, ◌<◌, ◌≤◌, ◌⊎◌, ℕ, ◌+◌, ◌-◌, ◌*◌, ◌/◌, ◌%◌, ◌^◌, Bool, ℤ, List, [], ◌∷◌, length, map}
+-- The bits that the words of a gaggle send in stages 1 to 3, in its 32 masks. (This project's own.)
+use Rattle.std.specs.Prelude.{◌≡◌, ◌<◌, ◌≤◌, ℕ, ◌+◌, ◌-◌, ◌*◌, ◌/◌, ◌%◌, ◌^◌, Bool, List, [], ◌∷◌, length, take, drop}
 use Rattle.std.specs.List.{flat_map}
 use Rattle.std.specs.Int.Count.{count_leading_zeros}
 use lib.ListN.{get_or}
@@ -11,31 +10,17 @@ use Rattle.plane_defs.specs.Spans.{span}
 use Rattle.plane_defs.specs.Entries.{stage_number}
 use Rattle.plane_defs.specs.Planes.{Plane, gaggles, of_gaggle, before_stage}
 use Rattle.plane_defs.specs.Spelled.{spelled_after}
-use Rattle.block_masks.specs.declared.slices.Column.{Column}
-use Rattle.block_masks.specs.Slices.{IsColumn, mask_in}
 use Rattle.block_masks.specs.Gaggles.{Agrees}
 use Rattle.plane_coder.specs.declared.kept.KeptStage.{KeptStage}
 
--- ---- free masks
+-- the masks of gaggle g, 32 of each gaggle
+abbrev pub free_at : List ℕ → ℕ → List ℕ
+free_at kept g = take 32 (drop (32 * g) kept)
 
--- free mask m of 32
-abbrev pub free_mask : List ℤ → (b m : ℕ) → ℕ
-free_mask cells b m = mask_in cells (b + m % 16) (27 + 4 * (m / 16))
-
-unfoldable pub free_masks : List ℤ → ℕ → List ℕ
-free_masks cells b = map (free_mask cells b) (span 0 32)
-
--- the column is that of the first block of a gaggle of 16 blocks
-pub record IsFull (cells : List ℤ) (first : Column) : Type 0 where
-  pub column : IsColumn cells first
-  pub start : first.block % 16 ≡ 0
-  pub full : 64 * (first.block + 16) ≤ length cells
-
--- only free masks of this gaggle changed
-pub record OnlyFree (b : ℕ) (old new : List ℤ) : Type 0 where
+-- those of all other gaggles stay
+pub record KeepsOthers (g : ℕ) (old new : List ℕ) : Type 0 where
   pub long : length new ≡ length old
-  pub slots : (r s : ℕ) → 64 * r < length old → s < 32 → (s ≡ 27 → ⊥) → (s ≡ 31 → ⊥) → mask_in new r s ≡ mask_in old r s
-  pub others : (r s : ℕ) → 64 * r < length old → s < 32 → (r < b) ⊎ (b + 16 ≤ r) → mask_in new r s ≡ mask_in old r s
+  pub others : (h : ℕ) → (h ≡ g → ⊥) → 32 * h + 32 ≤ length old → free_at new h ≡ free_at old h
 
 -- ---- bits in masks
 
@@ -77,22 +62,21 @@ pub record KeepsStage (book : Book) (options : List ℕ) (p : Plane) (g number :
 pub record Keeps (book : Book) (options : List ℕ) (p : Plane) (g : ℕ) (masks : List ℕ) : Type 0 where
   pub at : (number : ℕ) → 0 < number → number < 4 → octet_in masks number ≤ 32 → KeepsStage book options p g number masks
 
--- those of each gaggle of 16 blocks, among the first `count` gaggles
-pub record KeepFirst (book : Book) (options : ℕ → List ℕ) (p : Plane) (count : ℕ) (cells : List ℤ) : Type 0 where
-  pub at : (g : ℕ) → g < count → 1024 * g + 1024 ≤ length cells → Keeps book (options g) p g (free_masks cells (16 * g))
+-- those of each gaggle that has masks, among the first `count` gaggles
+pub record KeepFirst (book : Book) (options : ℕ → List ℕ) (p : Plane) (count : ℕ) (kept : List ℕ) : Type 0 where
+  pub at : (g : ℕ) → g < count → 32 * g + 32 ≤ length kept → Keeps book (options g) p g (free_at kept g)
 
 -- those of all gaggles
-abbrev pub AreKept : (book : Book) (options : ℕ → List ℕ) (p : Plane) (cells : List ℤ) → Type 0
-AreKept book options p cells = KeepFirst book options p (gaggles p) cells
+abbrev pub AreKept : (book : Book) (options : ℕ → List ℕ) (p : Plane) (kept : List ℕ) → Type 0
+AreKept book options p kept = KeepFirst book options p (gaggles p) kept
 
 -- ---- where the bits of a stage are
 
 -- the masks of a stage of gaggle g, and the flags after it
-pub record IsStageOf (cells : List ℤ) (number g : ℕ) (kept : KeptStage) : Type 0 where
-  pub full : 1024 * g + 1024 ≤ length cells
-  pub first : IsFull cells kept.first
-  pub block : kept.first.block ≡ 16 * g
-  pub from : kept.from ≡ octet_in (free_masks cells (16 * g)) (number - 1)
-  pub to : kept.to ≡ octet_in (free_masks cells (16 * g)) number
-  pub room : kept.to ≤ 32
-  pub sent : kept.sent ≡ flags_in (octet_in (free_masks cells (16 * g)) (3 + number))
+pub record IsStageOf (kept : List ℕ) (number g : ℕ) (stage : KeptStage) : Type 0 where
+  pub full : 32 * g + 32 ≤ length kept
+  pub free : stage.free.now ≡ free_at kept g
+  pub from : stage.from ≡ octet_in (free_at kept g) (number - 1)
+  pub to : stage.to ≡ octet_in (free_at kept g) number
+  pub room : stage.to ≤ 32
+  pub sent : stage.sent ≡ flags_in (octet_in (free_at kept g) (3 + number))

@@ -9,9 +9,7 @@ pub mod Refining
 pub mod Coding
 pub mod Appends
 pub mod Fours
-pub mod Coders
 pub mod Listed
 pub mod Collected
-pub mod Sliced
 pub mod Kept
 pub mod Left

@@ -6,7 +6,6 @@ use Rattle.wave_defs.specs.Held.{block_at}
 use Rattle.plane_defs.specs.Sets.{magnitude, significant}
 use Rattle.plane_defs.specs.Entries.{negative}
 use Rattle.block_masks.specs.Masks.{Shows}
-use Rattle.block_masks.specs.Slices.{numbers_in}
 use Rattle.plane_coder.specs.declared.masks.Masks.{Masks}
 use Rattle.plane_coder.specs.declared.plane_masks.PlaneMasks.{PlaneMasks}
 
@@ -18,4 +17,4 @@ pub record IsView (block : List ℤ) (plane : ℕ) (m : Masks) : Type 0 where
 
 -- the block that these are the masks of
 abbrev pub block_in : PlaneMasks → List ℤ
-block_in m = block_at (numbers_in m.cells.now) m.r
+block_in m = block_at m.segment.now.numbers m.r

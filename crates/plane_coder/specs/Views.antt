@@ -2,7 +2,6 @@
 use Rattle.std.specs.Prelude.{ℕ, ℤ, List}
 use Rattle.wave_defs.specs.Held.{blocks_in}
 use Rattle.plane_defs.specs.Planes.{Plane}
-use Rattle.block_masks.specs.Slices.{numbers_in}
 use Rattle.block_masks.specs.declared.plan.PlanePlan.{PlanePlan}
 use Rattle.block_masks.specs.declared.plan.CodedPlane.{CodedPlane}
 use Rattle.plane_coder.specs.declared.view.View.{View}
@@ -17,4 +16,4 @@ plane_at numbers depths plan =
     record { blocks = blocks_in numbers; depths = depths; weights = plan.weights.shifts; number = plan.plane; q = plan.q }
 
 abbrev pub plane_in : View → List ℕ → Plane
-plane_in view depths = plane_at (numbers_in view.cells.now) depths view.plan.now
+plane_in view depths = plane_at view.segment.now.numbers depths view.plan.now

@@ -1,7 +1,7 @@
 // The options of all gaggles, by the words of stages 1 to 3.
 
-ghost use Rattle.std.specs.Prelude.{◌≡◌, ◌+◌, ◌-◌, ◌*◌, ◌<◌, ◌≤◌, ◌%◌, ◌^◌, ◌++◌, List, [], ◌∷◌, length, slice_index_or};
-ghost use Rattle.block_masks.specs.Slices.{numbers_in};
+ghost use Rattle.std.specs.Prelude.{◌≡◌, ◌+◌, ◌-◌, ◌*◌, ◌<◌, ◌≤◌, ◌%◌, ◌^◌, ◌++◌, List, [], ◌∷◌, length, slice_index_or, vec_len};
+ghost use Rattle.block_masks.specs.SegmentNumbers.{AreAbove};
 ghost use Rattle.plane_defs.specs.Choice.{cheapest};
 ghost use Rattle.plane_defs.specs.Planes.{Plane, of_gaggle, before_stage, chosen};
 ghost use Rattle.plane_defs.specs.Marks.{depths_of};
@@ -9,19 +9,19 @@ ghost use Rattle.block_masks.specs.Gaggles.{Agrees, AreOptions};
 ghost use Rattle.plane_coder.specs.Tallies.{CountsOf, AreAtMost, counts_in};
 ghost use Rattle.plane_coder.specs.Listed.{listed};
 ghost use Rattle.plane_coder.specs.Collected.{HasWords};
-ghost use Rattle.plane_coder.specs.Kept.{free_masks, OnlyFree, Keeps, AreKept};
-ghost use Rattle.plane_coder.specs.Sliced.{AreSliced, AreAbove, SameNumbers};
+ghost use Rattle.plane_coder.specs.Kept.{free_at, KeepsOthers, Keeps, AreKept};
 ghost use Rattle.plane_coder.specs.Chosen.{Chooses};
 ghost use Rattle.plane_coder.specs.Views.{plane_in, plane_at};
 
 use crate::collect::{ALL, GaggleWords, collect_gaggle};
-use crate::kept::keep;
+use crate::kept::{FREE, keep};
 use crate::option_codes::OptionCodes;
+use crate::room::GaggleRoom;
 use crate::tables::CodeTables;
 use crate::tally::Tally;
 use crate::view::View;
 use base_122::Book;
-use block_masks::{CodedPlane, Column, Gaggle, store};
+use block_masks::{CodedPlane, Gaggle, SegmentMasks, store};
 use word_codes::best_option;
 
 fn tally_gaggle(words: &GaggleWords) -> Tally
@@ -49,7 +49,7 @@ fn best_options(book: &Book, tally: &Tally) -> [u8; 3]
 
 // Finds the words of gaggle g, and returns its options.
 fn choose_options(words: &mut GaggleWords, view: &View, marks: &[i32], g: usize) -> [u8; 3]
-    requires whole { length view.now.cells.now ≡ 64 * length marks.now }
+    requires whole { length view.now.segment.now.numbers ≡ 64 * length marks.now }
     requires within { 16 * g < length marks.now }
     ensures chosen { result ≡ chosen view.now.tables.now.book (plane_in view.now (depths_of marks.now)) g }
     ensures known { AreOptions result }
@@ -60,60 +60,50 @@ fn choose_options(words: &mut GaggleWords, view: &View, marks: &[i32], g: usize)
     best_options(&view.tables.book, &tally)
 }
 
-// Puts the bits of the words of gaggle g into its free masks, if it has 16 blocks.
-fn keep_gaggle(
-    cells: &mut [i32],
-    tables: &CodeTables,
-    gaggle: Gaggle,
-    words: &GaggleWords,
-    g: usize,
-)
-    requires whole { length cells.old % 64 ≡ 0 }
-    requires within { 1024 * g < length cells.old }
+// Keeps the bits of the words of gaggle g, if it has masks for them.
+fn keep_gaggle(kept: &mut [u64], tables: &CodeTables, gaggle: Gaggle, words: &GaggleWords, g: usize)
     requires known { AreOptions gaggle.options }
-    ensures keeps { (p : Plane) → 1024 * g + 1024 ≤ length cells.old → Agrees gaggle.sent (before_stage p 1 g) → HasWords 0 (λ stage. of_gaggle p stage g) words.now →
-        Keeps tables.now.book gaggle.options p g (free_masks cells.new (16 * g)) }
-    ensures only { OnlyFree (16 * g) cells.old cells.new }
+    ensures keeps { (p : Plane) → 32 * g + 32 ≤ length kept.old → Agrees gaggle.sent (before_stage p 1 g) → HasWords 0 (λ stage. of_gaggle p stage g) words.now →
+        Keeps tables.now.book gaggle.options p g (free_at kept.new g) }
+    ensures others { KeepsOthers g kept.old kept.new }
 {
-    if cells.len() < 1024 * g + 1024 {
+    if kept.len() / FREE <= g {
         return;
     }
     let option_codes = OptionCodes::new(tables, gaggle.options);
     keep(
-        cells,
-        Column::of(cells, 16 * g),
+        &mut kept[FREE * g..FREE * g + FREE],
         &option_codes,
         gaggle,
         words,
     );
 }
 
-// Stores the options of each gaggle in the states, with no word sent yet, and keeps the bits of its words. `words` is room for the words of
-// a gaggle.
+// Stores the options of each gaggle in the states, with no word sent yet, and keeps the bits of its words.
 pub(crate) fn choose_all(
-    cells: &mut [i32],
+    segment: &SegmentMasks,
     marks: &mut [i32],
+    room: &mut GaggleRoom,
     plan: &CodedPlane,
     tables: &CodeTables,
-    words: &mut GaggleWords,
 )
-    requires whole { length cells.old ≡ 64 * length marks.old }
-    requires sliced { AreSliced cells.old }
-    requires above { AreAbove (plan.now.plane + 1) cells.old }
-    ensures chosen { Chooses tables.now.book (plane_at (numbers_in cells.old) (depths_of marks.old) plan.now) marks.old marks.new }
-    ensures kept { AreKept tables.now.book (chosen tables.now.book (plane_at (numbers_in cells.old) (depths_of marks.old) plan.now)) (plane_at (numbers_in cells.old) (depths_of marks.old) plan.now) cells.new }
-    ensures same { SameNumbers cells.old cells.new }
+    requires whole { length segment.now.numbers ≡ 64 * length marks.old }
+    requires above { AreAbove (plan.now.plane + 1) segment.now }
+    ensures chosen { Chooses tables.now.book (plane_at segment.now.numbers (depths_of marks.old) plan.now) marks.old marks.new }
+    ensures kept { AreKept tables.now.book (chosen tables.now.book (plane_at segment.now.numbers (depths_of marks.old) plan.now)) (plane_at segment.now.numbers (depths_of marks.old) plan.now) room.new.kept.items }
+    ensures room { vec_len room.new.kept ≡ vec_len room.old.kept }
 {
+    let view = View {
+        segment,
+        plan,
+        tables,
+        kept: &[],
+    };
     for g in 0..marks.len().div_ceil(16) {
-        let view = View {
-            cells,
-            plan,
-            tables,
-        };
-        let options = choose_options(words, &view, marks, g);
+        let options = choose_options(&mut room.words, &view, marks, g);
         let sent = [false; 3];
         let gaggle = Gaggle { options, sent };
-        keep_gaggle(cells, tables, gaggle, words, g);
+        keep_gaggle(&mut room.kept, tables, gaggle, &room.words, g);
         store(marks, g, gaggle);
     }
 }

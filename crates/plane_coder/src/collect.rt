@@ -7,7 +7,6 @@ ghost use Rattle.plane_defs.specs.Entries.{parents, children, children_types, qu
 ghost use Rattle.plane_defs.specs.Planes.{of_block, of_gaggle};
 ghost use Rattle.plane_defs.specs.Marks.{depths_of};
 ghost use Rattle.block_masks.specs.SetMasks.{AreSets};
-ghost use Rattle.block_masks.specs.Slices.{IsColumn};
 ghost use Rattle.plane_coder.specs.Listed.{Lists};
 ghost use Rattle.plane_coder.specs.Collected.{Collects, HasWords, AreFew, wants};
 ghost use Rattle.plane_coder.specs.Views.{plane_in};
@@ -16,7 +15,7 @@ ghost use Rattle.plane_coder.specs.Viewed.{block_in};
 use crate::plane_masks::PlaneMasks;
 use crate::view::View;
 use crate::words::Words;
-use block_masks::{Column, Sets, depth_of, has};
+use block_masks::{Sets, depth_of, has};
 
 // The words of all three stages are wanted.
 pub(crate) const ALL: u8 = 0;
@@ -157,24 +156,19 @@ impl GaggleWords {
     }
 }
 
-// Adds the words of the block of a column.
+// Adds the words of block r.
 #[inline(always)]
-fn collect_block<const WANTED: u8>(
-    words: &mut GaggleWords,
-    view: &View,
-    marks: &[i32],
-    column: Column,
-)
-    requires whole { length view.now.cells.now ≡ 64 * length marks.now }
-    requires column { IsColumn view.now.cells.now column }
+fn collect_block<const WANTED: u8>(words: &mut GaggleWords, view: &View, marks: &[i32], r: usize)
+    requires whole { length view.now.segment.now.numbers ≡ 64 * length marks.now }
+    requires block { 64 * r < length view.now.segment.now.numbers }
     requires few { AreFew words.old 15 }
-    ensures { Collects WANTED words.old words.new (λ stage. of_block (plane_in view.now (depths_of marks.now)) stage column.block) }
+    ensures { Collects WANTED words.old words.new (λ stage. of_block (plane_in view.now (depths_of marks.now)) stage r) }
 {
-    let depth = depth_of(marks[column.block]);
+    let depth = depth_of(marks[r]);
     if depth <= view.plan.plane {
         return;
     }
-    words.add_block::<WANTED>(&view.plane_masks(column), depth);
+    words.add_block::<WANTED>(&view.plane_masks(r), depth);
 }
 
 // Finds the words of gaggle g in all three stages, or in the one of which `WANTED` is the number: the compiler knows it, so a loop
@@ -186,15 +180,14 @@ pub(crate) fn collect_gaggle<const WANTED: u8>(
     marks: &[i32],
     g: usize,
 )
-    requires whole { length view.now.cells.now ≡ 64 * length marks.now }
+    requires whole { length view.now.segment.now.numbers ≡ 64 * length marks.now }
     requires within { 16 * g < length marks.now }
     ensures { HasWords WANTED (λ stage. of_gaggle (plane_in view.now (depths_of marks.now)) stage g) words.new }
 {
     words.parents.clear();
     words.children.clear();
     words.grandchildren.clear();
-    let first = Column::of(view.cells, 16 * g);
     for place in 0..(marks.len() - 16 * g).min(16) {
-        collect_block::<WANTED>(words, view, marks, first.further(view.cells, place));
+        collect_block::<WANTED>(words, view, marks, 16 * g + place);
     }
 }

@@ -1,4 +1,4 @@
-// The bits that the words of a gaggle send in stages 1 to 3, in masks of the gaggle's blocks that nothing else needs.
+// The bits that the words of a gaggle send in stages 1 to 3, in 32 masks.
 
 ghost use Rattle.std.specs.Prelude.{◌≡◌, ◌+◌, ◌-◌, ◌*◌, ◌/◌, ◌%◌, ◌<◌, ◌≤◌, ◌^◌, ℕ, List, OnOk, IfSome, length, set, slice_index_or};
 ghost use Rattle.bit_pipe.specs.Standing.{stand, IsReady, IsOpen, Writes};
@@ -6,7 +6,7 @@ ghost use Rattle.plane_defs.specs.Planes.{Plane, of_gaggle, before_stage};
 ghost use Rattle.block_masks.specs.Gaggles.{Agrees, AreOptions};
 ghost use Rattle.plane_coder.specs.Collected.{HasWords};
 ghost use Rattle.plane_coder.specs.Listed.{listed};
-ghost use Rattle.plane_coder.specs.Kept.{free_masks, IsFull, OnlyFree, width_in, bits_between, octet_in, flags_in, HasOctets, Keeps, IsStageOf};
+ghost use Rattle.plane_coder.specs.Kept.{width_in, bits_between, octet_in, flags_in, HasOctets, Keeps, IsStageOf};
 ghost use Rattle.plane_coder.specs.Left.{KeepsBits, KeepsNext};
 ghost use Rattle.base_122.specs.declared.book.Book.{Book as BookValue};
 
@@ -15,97 +15,57 @@ use crate::option_codes::OptionCodes;
 use crate::pending::PendingBits;
 use crate::words::Words;
 use bit_pipe::{BitOut, OctetOut, PutFault};
-use block_masks::{Column, Gaggle, has, mask_of, put_mask, three};
+use block_masks::{Gaggle, has, three};
 
-// How many masks of a gaggle are free: those of two slots, since no coded plane has number 27, and nothing is in slot 31.
-const FREE: usize = 32;
+// The number of masks that a gaggle has for the bits of its words.
+pub(crate) const FREE: usize = 32;
 
-// Returns the slot of a free mask.
+// Puts the bits that wait into the next mask of a gaggle, with a 1 before them. Returns how many masks then have bits.
 #[inline(always)]
-fn slot_of(m: usize) -> u8
-    requires { m < 32 }
-    ensures { result ≡ 27 + 4 * (m / 16) }
-{
-    if m < 16 { 27 } else { 31 }
-}
-
-// Returns free mask m of a gaggle.
-#[inline(always)]
-fn free_mask(cells: &[i32], first: Column, m: usize) -> u64
-    requires whole { length cells.now % 64 ≡ 0 }
-    requires full { IsFull cells.now first }
-    requires m { m < 32 }
-    ensures { result ≡ slice_index_or (free_masks cells.now first.block) m 0 }
-{
-    mask_of(cells, first.further(cells, m % 16), slot_of(m))
-}
-
-#[inline(always)]
-fn put_free_mask(cells: &mut [i32], first: Column, m: usize, mask: u64)
-    requires whole { length cells.old % 64 ≡ 0 }
-    requires full { IsFull cells.old first }
-    requires m { m < 32 }
-    ensures masks { free_masks cells.new first.block ≡ set (free_masks cells.old first.block) m mask }
-    ensures only { OnlyFree first.block cells.old cells.new }
-{
-    let column = first.further(cells, m % 16);
-    put_mask(cells, column, slot_of(m), mask);
-}
-
-// The free masks of a gaggle of which this many have bits: one more than there are if some bits had no room.
-#[derive(Clone, Copy)]
-struct FreeMasks {
-    first: Column,
-    used: usize,
-    ghost within: { used ≤ 33 },
-}
-
-// Puts the bits that wait into the next free mask, with a 1 before them. Returns how many masks then have bits.
-#[inline(always)]
-fn keep_bits(cells: &mut [i32], first: Column, used: usize, pending: &mut PendingBits) -> usize
-    requires whole { length cells.old % 64 ≡ 0 }
-    requires full { IsFull cells.old first }
+fn keep_bits(free: &mut [u64], used: usize, pending: &mut PendingBits) -> usize
+    requires whole { length free.old ≡ 32 }
     requires used { used ≤ 33 }
-    ensures keeps { KeepsNext used result (free_masks cells.old first.block) (free_masks cells.new first.block) pending.old }
-    ensures only { OnlyFree first.block cells.old cells.new }
+    ensures keeps { KeepsNext used result free.old free.new pending.old }
+    ensures whole { length free.new ≡ 32 }
     ensures silent { pending.new.count ≡ 0 }
     ensures gaggle { pending.new.gaggle ≡ pending.old.gaggle }
 {
     let mask = pending.seal();
     if used < FREE {
-        put_free_mask(cells, first, used, mask);
+        free[used] = mask;
     }
     (used + 1).min(FREE + 1)
 }
 
-// Puts the bits of the words of a list into the next free masks. Returns how many masks then have bits.
+// Puts the bits of the words of a list into the next masks of a gaggle, of which `used` have bits: one more than there are if some bits
+// had no room. Returns how many then have bits.
 #[inline(always)]
 fn keep_words<const MOST: usize>(
-    cells: &mut [i32],
-    free: FreeMasks,
+    free: &mut [u64],
+    used: usize,
     pending: &mut PendingBits,
     option_codes: &OptionCodes,
     words: &Words<MOST>,
 ) -> usize
-    requires whole { length cells.old % 64 ≡ 0 }
-    requires full { IsFull cells.old free.first }
+    requires whole { length free.old ≡ 32 }
+    requires used { used ≤ 33 }
     requires same { option_codes.now.options ≡ pending.old.gaggle.options }
     requires silent { pending.old.count ≡ 0 }
-    ensures keeps { KeepsBits option_codes.now.tables.now.book pending.old.gaggle free.used result (free_masks cells.new free.first.block) pending.new (listed words.now) }
-    ensures before { (k : ℕ) → k < free.used → slice_index_or (free_masks cells.new free.first.block) k 0 ≡ slice_index_or (free_masks cells.old free.first.block) k 0 }
-    ensures order { free.used ≤ result }
+    ensures keeps { KeepsBits option_codes.now.tables.now.book pending.old.gaggle used result free.new pending.new (listed words.now) }
+    ensures before { (k : ℕ) → k < used → slice_index_or free.new k 0 ≡ slice_index_or free.old k 0 }
+    ensures order { used ≤ result }
     ensures few { result ≤ 33 }
-    ensures only { OnlyFree free.first.block cells.old cells.new }
+    ensures whole { length free.new ≡ 32 }
     ensures silent { pending.new.count ≡ 0 }
 {
-    let mut used = free.used;
+    let mut end = used;
     for i in 0..words.count() {
         if !pending.has_room() {
-            used = keep_bits(cells, free.first, used, pending);
+            end = keep_bits(free, end, pending);
         }
         pending.typed(option_codes, words.at(i));
     }
-    keep_bits(cells, free.first, used, pending)
+    keep_bits(free, end, pending)
 }
 
 // Returns the flags of the words that were sent, as an octet.
@@ -132,35 +92,27 @@ fn head_of(ends: [usize; 3], flags: [u64; 3]) -> u64
     places + 0x1_0000_0000 * words
 }
 
-// Puts the bits that the words of a gaggle send into its free masks. A stage for which there is no room is missing.
+// Puts the bits that the words of a gaggle send into its masks. A stage for which there is no room is missing.
 pub(crate) fn keep(
-    cells: &mut [i32],
-    first: Column,
+    free: &mut [u64],
     option_codes: &OptionCodes,
     gaggle: Gaggle,
     words: &GaggleWords,
 )
-    requires whole { length cells.old % 64 ≡ 0 }
-    requires full { IsFull cells.old first }
+    requires whole { length free.old ≡ 32 }
     requires same { option_codes.now.options ≡ gaggle.options }
     ensures keeps { (p : Plane) (g : ℕ) → Agrees gaggle.sent (before_stage p 1 g) → HasWords 0 (λ stage. of_gaggle p stage g) words.now →
-        Keeps option_codes.now.tables.now.book gaggle.options p g (free_masks cells.new first.block) }
-    ensures only { OnlyFree first.block cells.old cells.new }
+        Keeps option_codes.now.tables.now.book gaggle.options p g free.new }
+    ensures whole { length free.new ≡ 32 }
 {
     let mut pending = PendingBits::new(gaggle);
-    let free = FreeMasks { first, used: 1 };
-    let second = keep_words(cells, free, &mut pending, option_codes, &words.parents);
+    let second = keep_words(free, 1, &mut pending, option_codes, &words.parents);
     let after_parents = pending.gaggle.sent;
-    let free = FreeMasks {
-        first,
-        used: second,
-    };
-    let third = keep_words(cells, free, &mut pending, option_codes, &words.children);
+    let third = keep_words(free, second, &mut pending, option_codes, &words.children);
     let after_children = pending.gaggle.sent;
-    let free = FreeMasks { first, used: third };
     let end = keep_words(
-        cells,
         free,
+        third,
         &mut pending,
         option_codes,
         &words.grandchildren,
@@ -171,13 +123,13 @@ pub(crate) fn keep(
         octet_of(after_children),
         octet_of(after_all),
     ];
-    put_free_mask(cells, first, 0, head_of([second, third, end], flags));
+    free[0] = head_of([second, third, end], flags);
 }
 
-// Where the bits of a stage of a gaggle are: in the free masks from one up to another one. `sent` says which words were sent so far.
+// Where the bits of a stage of a gaggle are: in its masks from one up to another one. `sent` says which words were sent so far.
 #[derive(Clone, Copy)]
-pub(crate) struct KeptStage {
-    first: Column,
+pub(crate) struct KeptStage<'a> {
+    free: &'a [u64],
     from: usize,
     to: usize,
     pub sent: [bool; 3],
@@ -192,27 +144,25 @@ fn octet_at(mask: u64, n: u8) -> u64
     (mask >> (8 * n)) % 0x100
 }
 
-// Returns where the bits of the stage of this number of gaggle g are, if its free masks have them.
+// Returns where the bits of the stage of this number of gaggle g are, if they are kept.
 #[inline(always)]
-pub(crate) fn kept_stage<const STAGE: u8>(cells: &[i32], g: usize) -> Option<KeptStage>
+pub(crate) fn kept_stage<const STAGE: u8>(kept: &[u64], g: usize) -> Option<KeptStage<'_>>
     requires first { 0 < STAGE }
     requires last { STAGE < 4 }
-    requires whole { length cells.now % 64 ≡ 0 }
-    requires within { 1024 * g < length cells.now }
-    ensures { IfSome result (IsStageOf cells.now STAGE g) }
+    ensures { IfSome result (IsStageOf kept.now STAGE g) }
 {
-    if cells.len() < 1024 * g + 1024 {
+    if kept.len() / FREE <= g {
         return None;
     }
-    let first = Column::of(cells, 16 * g);
-    let head = free_mask(cells, first, 0);
+    let free = &kept[FREE * g..FREE * g + FREE];
+    let head = free[0];
     let to = octet_at(head, STAGE) as usize;
     if to > FREE {
         return None;
     }
     let flags = octet_at(head, 3 + STAGE);
     Some(KeptStage {
-        first,
+        free,
         from: octet_at(head, STAGE - 1) as usize,
         to,
         sent: [has(flags, 0), has(flags, 1), has(flags, 2)],
@@ -228,21 +178,19 @@ fn width_of(mask: u64) -> u8
     63u8.saturating_sub(mask.leading_zeros() as u8)
 }
 
-// Puts the bits of a stage that free masks have.
+// Puts the bits of a stage that are kept.
 #[inline(always)]
 pub(crate) fn put_kept<O: OctetOut>(
     out: &mut BitOut<O>,
-    cells: &[i32],
-    kept: KeptStage,
+    kept: KeptStage<'_>,
 ) -> Result<(), PutFault>
     requires open { IsReady O.sink out.old }
-    requires whole { length cells.now % 64 ≡ 0 }
-    requires full { IsFull cells.now kept.first }
+    requires whole { length kept.free.now ≡ 32 }
     requires room { kept.to ≤ 32 }
-    ensures { Writes O.sink result out.old out.new (bits_between (free_masks cells.now kept.first.block) kept.from kept.to) }
+    ensures { Writes O.sink result out.old out.new (bits_between kept.entry.free.now kept.entry.from kept.entry.to) }
 {
     for m in kept.from..kept.to {
-        let mask = free_mask(cells, kept.first, m);
+        let mask = kept.free[m];
         out.put_long(mask, width_of(mask))?;
     }
     Ok(())

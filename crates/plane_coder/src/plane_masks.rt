@@ -9,11 +9,10 @@ ghost use Rattle.plane_defs.specs.Sets.{magnitude, significant, set_significant,
 ghost use Rattle.plane_defs.specs.Entries.{negative as is_negative, word, typed, flags};
 ghost use Rattle.wave_defs.specs.Held.{block_at};
 ghost use Rattle.block_masks.specs.Masks.{Shows};
-ghost use Rattle.block_masks.specs.Slices.{numbers_in};
 
 use crate::fours::{Fours, filled, four_sets};
 use crate::masks::Masks;
-use block_masks::{CodedPlane, Sets, both, either, except, masked, one, part, pick};
+use block_masks::{CodedPlane, SegmentMasks, Sets, both, either, except, masked, one, part, pick};
 
 // The word of the types of some positions in the low octet, and the signs after it in the high one, each as it is picked.
 #[derive(Clone, Copy)]
@@ -53,7 +52,7 @@ impl Typed {
 // that have the plane's bit, and those that are negative.
 #[derive(Clone, Copy)]
 pub(crate) struct PlaneMasks<'a> {
-    pub cells: &'a [i32],
+    pub segment: &'a SegmentMasks,
     pub r: usize,
     pub plan: &'a CodedPlane,
     reached: u64,
@@ -61,11 +60,11 @@ pub(crate) struct PlaneMasks<'a> {
     due: u64,
     bits: u64,
     negative: u64,
-    ghost reached_shown: { Shows reached (significant (block_at (numbers_in cells.now) r) plan.now.plane) 0 64 },
-    ghost above_shown: { Shows above (significant (block_at (numbers_in cells.now) r) (plan.now.plane + 1)) 0 64 },
-    ghost due_shown: { Shows due (type_due (block_at (numbers_in cells.now) r) plan.now.weights.shifts plan.now.plane) 0 64 },
-    ghost bits_shown: { Shows bits (λ p. bit (magnitude (block_at (numbers_in cells.now) r) p) plan.now.plane) 0 64 },
-    ghost negative_shown: { Shows negative (λ p. is_negative (slice_index_or (block_at (numbers_in cells.now) r) p (pos 0))) 0 64 },
+    ghost reached_shown: { Shows reached (significant (block_at segment.now.numbers r) plan.now.plane) 0 64 },
+    ghost above_shown: { Shows above (significant (block_at segment.now.numbers r) (plan.now.plane + 1)) 0 64 },
+    ghost due_shown: { Shows due (type_due (block_at segment.now.numbers r) plan.now.weights.shifts plan.now.plane) 0 64 },
+    ghost bits_shown: { Shows bits (λ p. bit (magnitude (block_at segment.now.numbers r) p) plan.now.plane) 0 64 },
+    ghost negative_shown: { Shows negative (λ p. is_negative (slice_index_or (block_at segment.now.numbers r) p (pos 0))) 0 64 },
 }
 
 impl<'a> PlaneMasks<'a> {
@@ -76,13 +75,18 @@ impl<'a> PlaneMasks<'a> {
     ghost use Rattle.plane_coder.specs.Picked.{IsPacked, ArePacked, word_of, raws_of, entries_of};
 
     #[inline(always)]
-    pub fn new(cells: &'a [i32], r: usize, plan: &'a CodedPlane, masks: Masks) -> PlaneMasks<'a>
-        requires view { IsView (block_at (numbers_in cells.now) r) plan.now.plane masks }
-        ensures block { block_in result ≡ block_at (numbers_in cells.now) r }
+    pub fn new(
+        segment: &'a SegmentMasks,
+        r: usize,
+        plan: &'a CodedPlane,
+        masks: Masks,
+    ) -> PlaneMasks<'a>
+        requires view { IsView (block_at segment.now.numbers r) plan.now.plane masks }
+        ensures block { block_in result ≡ block_at segment.now.numbers r }
         ensures plan { result.plan.now ≡ plan.now }
     {
         PlaneMasks {
-            cells,
+            segment,
             r,
             plan,
             reached: either(masks.above, masks.bits),

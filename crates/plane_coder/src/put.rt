@@ -6,7 +6,6 @@ ghost use Rattle.bit_pipe.specs.Standing.{stand, IsReady};
 ghost use Rattle.wave_defs.specs.Held.{block_at};
 ghost use Rattle.plane_defs.specs.Sets.{coded};
 ghost use Rattle.plane_defs.specs.Entries.{twos_bit, dc_bits, refinement, block_entries, stage_number};
-ghost use Rattle.block_masks.specs.Slices.{IsColumn, numbers_in};
 ghost use Rattle.plane_coder.specs.Listed.{listed};
 ghost use Rattle.plane_coder.specs.Collected.{HasNoWords};
 ghost use Rattle.plane_coder.specs.Spells.{Spells};
@@ -21,7 +20,7 @@ use crate::pushes::push_refinement;
 use crate::view::View;
 use crate::words::Words;
 use bit_pipe::{BitOut, OctetOut, PutFault};
-use block_masks::{CodedPlane, Column, DC, has, is_any_of, mask_of};
+use block_masks::{CodedPlane, SegmentMasks, has, is_any_of};
 
 // Returns the bit of weight 2^place of a two's complement form.
 fn twos_bit_at(number: i32, place: u8) -> bool
@@ -45,33 +44,21 @@ pub(crate) fn is_quiet(plan: &CodedPlane, number: u8) -> bool
     number == 0 && !is_dc_bit_due(plan)
 }
 
-// Returns the DC of the block of a column.
-#[inline(always)]
-fn dc_of(cells: &[i32], column: Column) -> i32
-    requires whole { length cells.now % 64 ≡ 0 }
-    requires column { IsColumn cells.now column }
-    ensures { result ≡ slice_index_or (block_at (numbers_in cells.now) column.block) 0 (pos 0) }
-{
-    let low = mask_of(cells, column, DC) % 0x1_0000_0000;
-    (low as u32).cast_signed()
-}
-
 #[inline(always)]
 fn put_dc_bit<O: OctetOut>(
     out: &mut BitOut<O>,
-    cells: &[i32],
-    column: Column,
+    segment: &SegmentMasks,
+    r: usize,
     plan: &CodedPlane,
 ) -> Result<(), PutFault>
     requires open { IsReady O.sink out.old }
-    requires whole { length cells.now % 64 ≡ 0 }
-    requires column { IsColumn cells.now column }
-    ensures { (book : BookValue) (gaggle : GaggleValue) → Spells O.sink book gaggle gaggle result (stand O.sink out.old) (stand O.sink out.new) (dc_bits (block_at (numbers_in cells.now) column.block) plan.now.weights.shifts plan.now.plane plan.now.q) }
+    requires block { 64 * r < length segment.now.numbers }
+    ensures { (book : BookValue) (gaggle : GaggleValue) → Spells O.sink book gaggle gaggle result (stand O.sink out.old) (stand O.sink out.new) (dc_bits (block_at segment.now.numbers r) plan.now.weights.shifts plan.now.plane plan.now.q) }
 {
     if !is_dc_bit_due(plan) {
         return Ok(());
     }
-    out.put(twos_bit_at(dc_of(cells, column), plan.plane))
+    out.put(twos_bit_at(segment.dcs()[r], plan.plane))
 }
 
 // Puts the words of a list.
@@ -121,7 +108,7 @@ fn put_refinement<O: OctetOut>(
     pending.put(out)
 }
 
-// Puts the stage of this number of the block of a column, which has this depth: the first or the last, in which no words are sent. The
+// Puts the stage of this number of block r, which has this depth: the first or the last, in which no words are sent. The
 // number is known to the compiler, so each stage has code of its own.
 #[inline(always)]
 pub(crate) fn put_block_stage<O: OctetOut, const STAGE: u8>(
@@ -129,21 +116,21 @@ pub(crate) fn put_block_stage<O: OctetOut, const STAGE: u8>(
     pending: &mut PendingBits,
     view: &View,
     depth: u8,
-    column: Column,
+    r: usize,
 ) -> Result<(), PutFault>
     requires open { IsReady O.sink out.old }
     requires stage { HasNoWords STAGE }
-    requires column { IsColumn view.now.cells.now column }
+    requires block { 64 * r < length view.now.segment.now.numbers }
     requires silent { pending.old.count ≡ 0 }
     ensures spells { (book : BookValue) → Spells O.sink book pending.old.gaggle pending.new.gaggle result (stand O.sink out.old) (stand O.sink out.new)
-        (block_entries (stage_number STAGE) (block_at (numbers_in view.now.cells.now) column.block) depth view.now.plan.now.weights.shifts view.now.plan.now.plane view.now.plan.now.q) }
+        (block_entries (stage_number STAGE) (block_at view.now.segment.now.numbers r) depth view.now.plan.now.weights.shifts view.now.plan.now.plane view.now.plan.now.q) }
     ensures silent { pending.new.count ≡ 0 }
 {
     if STAGE == 0 {
-        return put_dc_bit(out, view.cells, column, view.plan);
+        return put_dc_bit(out, view.segment, r, view.plan);
     }
     if depth <= view.plan.plane {
         return Ok(());
     }
-    put_refinement(out, pending, &view.plane_masks(column))
+    put_refinement(out, pending, &view.plane_masks(r))
 }

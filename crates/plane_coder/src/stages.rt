@@ -8,10 +8,9 @@ ghost use Rattle.plane_defs.specs.Entries.{stage_number};
 ghost use Rattle.plane_defs.specs.declared.entries.Entry.{Entry};
 ghost use Rattle.plane_defs.specs.declared.stages.Stage.{Stage};
 ghost use Rattle.plane_defs.specs.Marks.{depths_of};
-ghost use Rattle.block_masks.specs.Slices.{IsColumn};
 ghost use Rattle.block_masks.specs.Gaggles.{AllAgree, AreOptions, AreKnown, SameMarks, options_at};
 ghost use Rattle.plane_coder.specs.Collected.{HasNoWords, HasWords};
-ghost use Rattle.plane_coder.specs.Kept.{free_masks, Keeps, AreKept};
+ghost use Rattle.plane_coder.specs.Kept.{free_at, Keeps, AreKept};
 ghost use Rattle.plane_coder.specs.Spells.{Spells, PutsStage};
 ghost use Rattle.plane_coder.specs.Views.{plane_in};
 
@@ -23,26 +22,26 @@ use crate::put::{is_quiet, put_block_stage, put_words};
 use crate::tables::CodeTables;
 use crate::view::View;
 use bit_pipe::{BitOut, OctetOut, PutFault};
-use block_masks::{Column, Gaggle, depth_of, load, store};
+use block_masks::{Gaggle, depth_of, load, store};
 
-// Puts the stage of this number of the block of a column.
+// Puts the stage of this number of block r.
 #[inline(always)]
 fn put_block_at<O: OctetOut, const STAGE: u8>(
     out: &mut BitOut<O>,
     pending: &mut PendingBits,
     view: &View,
     marks: &[i32],
-    column: Column,
+    r: usize,
 ) -> Result<(), PutFault>
     requires stage { HasNoWords STAGE }
     requires open { IsReady O.sink out.old }
     requires silent { pending.old.count ≡ 0 }
-    requires whole { length view.now.cells.now ≡ 64 * length marks.now }
-    requires column { IsColumn view.now.cells.now column }
-    ensures spells { Spells O.sink view.now.tables.now.book pending.old.gaggle pending.new.gaggle result (stand O.sink out.old) (stand O.sink out.new) (of_block (plane_in view.now (depths_of marks.now)) (stage_number STAGE) column.block) }
+    requires whole { length view.now.segment.now.numbers ≡ 64 * length marks.now }
+    requires block { 64 * r < length view.now.segment.now.numbers }
+    ensures spells { Spells O.sink view.now.tables.now.book pending.old.gaggle pending.new.gaggle result (stand O.sink out.old) (stand O.sink out.new) (of_block (plane_in view.now (depths_of marks.now)) (stage_number STAGE) r) }
     ensures silent { pending.new.count ≡ 0 }
 {
-    put_block_stage::<O, STAGE>(out, pending, view, depth_of(marks[column.block]), column)
+    put_block_stage::<O, STAGE>(out, pending, view, depth_of(marks[r]), r)
 }
 
 // Puts the stage of this number of the blocks of gaggle g: a stage without words.
@@ -57,13 +56,12 @@ fn put_blocks<O: OctetOut, const STAGE: u8>(
     requires stage { HasNoWords STAGE }
     requires open { IsReady O.sink out.old }
     requires silent { pending.old.count ≡ 0 }
-    requires whole { length view.now.cells.now ≡ 64 * length marks.now }
+    requires whole { length view.now.segment.now.numbers ≡ 64 * length marks.now }
     requires within { 16 * g < length marks.now }
     ensures { Spells O.sink view.now.tables.now.book pending.old.gaggle pending.new.gaggle result (stand O.sink out.old) (stand O.sink out.new) (of_gaggle (plane_in view.now (depths_of marks.now)) (stage_number STAGE) g) }
 {
-    let first = Column::of(view.cells, 16 * g);
     for place in 0..(marks.len() - 16 * g).min(16) {
-        put_block_at::<O, STAGE>(out, pending, view, marks, first.further(view.cells, place))?;
+        put_block_at::<O, STAGE>(out, pending, view, marks, 16 * g + place)?;
     }
     Ok(())
 }
@@ -91,7 +89,7 @@ fn put_stage_words<O: OctetOut, const STAGE: u8>(
     }
 }
 
-// Puts the words of gaggle g in the stage of this number, which are found again: its free masks have no room for their bits.
+// Puts the words of gaggle g in the stage of this number, which are found again: its masks have no room for their bits.
 #[inline(never)]
 fn put_again<O: OctetOut, const STAGE: u8>(
     out: &mut BitOut<O>,
@@ -105,7 +103,7 @@ fn put_again<O: OctetOut, const STAGE: u8>(
     requires last { STAGE < 4 }
     requires open { IsReady O.sink out.old }
     requires silent { pending.old.count ≡ 0 }
-    requires whole { length view.now.cells.now ≡ 64 * length marks.now }
+    requires whole { length view.now.segment.now.numbers ≡ 64 * length marks.now }
     requires within { 16 * g < length marks.now }
     ensures { Spells O.sink view.now.tables.now.book pending.old.gaggle pending.new.gaggle result (stand O.sink out.old) (stand O.sink out.new) (of_gaggle (plane_in view.now (depths_of marks.now)) (stage_number STAGE) g) }
 {
@@ -126,21 +124,21 @@ fn put_gaggle<O: OctetOut, const STAGE: u8>(
     requires stage { STAGE < 5 }
     requires open { IsReady O.sink out.old }
     requires silent { pending.old.count ≡ 0 }
-    requires whole { length view.now.cells.now ≡ 64 * length marks.now }
+    requires whole { length view.now.segment.now.numbers ≡ 64 * length marks.now }
     requires within { 16 * g < length marks.now }
-    requires kept { 1024 * g + 1024 ≤ length view.now.cells.now → Keeps view.now.tables.now.book pending.old.gaggle.options (plane_in view.now (depths_of marks.now)) g (free_masks view.now.cells.now (16 * g)) }
+    requires kept { 32 * g + 32 ≤ length view.now.kept.now → Keeps view.now.tables.now.book pending.old.gaggle.options (plane_in view.now (depths_of marks.now)) g (free_at view.now.kept.now g) }
     ensures { PutsStage O.sink view.now.tables.now.book (plane_in view.now (depths_of marks.now)) STAGE g pending.old.gaggle pending.new.gaggle result (stand O.sink out.old) (stand O.sink out.new) }
 {
     if STAGE == 0 || STAGE == 4 {
         return put_blocks::<O, STAGE>(out, pending, view, marks, g);
     }
-    let Some(kept) = kept_stage::<STAGE>(view.cells, g) else {
+    let Some(kept) = kept_stage::<STAGE>(view.kept, g) else {
         return put_again::<O, STAGE>(out, pending, view, marks, words, g);
     };
     let options = pending.gaggle.options;
     let sent = kept.sent;
     *pending = PendingBits::new(Gaggle { options, sent });
-    put_kept(out, view.cells, kept)
+    put_kept(out, kept)
 }
 
 // Puts the stage of this number of all blocks, gaggle by gaggle.
@@ -153,9 +151,9 @@ fn put_gaggles<O: OctetOut, const STAGE: u8>(
 ) -> Result<(), PutFault>
     requires open { IsReady O.sink out.old }
     requires stage { STAGE < 5 }
-    requires whole { length view.now.cells.now ≡ 64 * length marks.old }
+    requires whole { length view.now.segment.now.numbers ≡ 64 * length marks.old }
     requires known { AreKnown marks.old }
-    requires bits { AreKept view.now.tables.now.book (options_at marks.old) (plane_in view.now (depths_of marks.old)) view.now.cells.now }
+    requires bits { AreKept view.now.tables.now.book (options_at marks.old) (plane_in view.now (depths_of marks.old)) view.now.kept.now }
     requires agree { AllAgree (plane_in view.now (depths_of marks.old)) STAGE marks.old }
     ensures puts { Writes O.sink result out.old out.new (text (stage_items view.now.tables.now.book (options_at marks.old) (plane_in view.now (depths_of marks.old)) STAGE)) }
     ensures is_open { OnOk result (IsReady O.sink out.new) }
@@ -184,9 +182,9 @@ pub(crate) fn put_stage<O: OctetOut>(
 ) -> Result<(), PutFault>
     requires open { IsReady O.sink out.old }
     requires number { number < 5 }
-    requires whole { length view.now.cells.now ≡ 64 * length marks.old }
+    requires whole { length view.now.segment.now.numbers ≡ 64 * length marks.old }
     requires known { AreKnown marks.old }
-    requires bits { AreKept view.now.tables.now.book (options_at marks.old) (plane_in view.now (depths_of marks.old)) view.now.cells.now }
+    requires bits { AreKept view.now.tables.now.book (options_at marks.old) (plane_in view.now (depths_of marks.old)) view.now.kept.now }
     requires agree { AllAgree (plane_in view.now (depths_of marks.old)) number marks.old }
     ensures puts { Writes O.sink result out.old out.new (text (stage_items view.now.tables.now.book (options_at marks.old) (plane_in view.now (depths_of marks.old)) number)) }
     ensures is_open { OnOk result (IsReady O.sink out.new) }

@@ -12,9 +12,11 @@ use Rattle.item_defs.specs.Bits.{bit, value_of}
 use Rattle.wave_defs.specs.Held.{block_at}
 use Rattle.plane_defs.specs.Sets.{significant}
 use Rattle.plane_defs.specs.StepLaws.{IsAc}
-use Rattle.block_masks.specs.Slices.{mask_in, minus_slot, above_slot, dc_slot, size_in, number_in, numbers_in, PutsMask}
+use Rattle.block_masks.specs.Slices.{mask_in, minus_slot, above_slot, dc_slot, number_in, numbers_in, PutsMask}
+use Rattle.block_masks.specs.MaskedNumbers.{size_in}
 use Rattle.block_masks.specs.BitsSet.{with_bit}
-use Rattle.block_masks.proofs.SliceNumbers.{dc_number, block_number, length-block, size_bit, bits_below-same}
+use Rattle.block_masks.proofs.SliceNumbers.{dc_number, block_number, length-block}
+use Rattle.block_masks.proofs.MaskedNumbers.{size_bit, bits_below-same}
 use Rattle.plane_texts.proofs.SmallFacts.{true_false}
 use Rattle.plane_reader.specs.Taken.{IsCleared}
 use Rattle.plane_reader.proofs.ApplyNumbers.{dc_added}
@@ -53,13 +55,13 @@ reach_given plane n = by_bit (bit n plane) refl
 -- ---- one block is changed
 
 pub still_ready : {plane r : ℕ} {old new : List ℤ} → 64 * r < length old → length new ≡ length old → ChangesBlock r old new → ((q s : ℕ) → 64 * q < length old → s < 32 → (q ≡ r → ⊥) → mask_in new q s ≡ mask_in old q s) → mask_in new r above_slot ≡ mask_in old r above_slot →
-    ((k : ℕ) → IsAc k → bit (mask_in new r minus_slot) k ≡ true → 0 < size_in new r k) → ((k : ℕ) → IsAc k → significant (block_at (numbers_in new) r) plane k ≡ significant (block_at (numbers_in old) r) plane k) → AreReady plane old → AreReady plane new
+    ((k : ℕ) → IsAc k → bit (mask_in new r minus_slot) k ≡ true → 0 < size_in (mask_in new r) k) → ((k : ℕ) → IsAc k → significant (block_at (numbers_in new) r) plane k ≡ significant (block_at (numbers_in old) r) plane k) → AreReady plane old → AreReady plane new
 still_ready {plane} {r} {old} {new} here long changes others same signed above ready = record {
   signed = λ q p there ac e. elim (cases_eq q r) [
-    | inl at ↦ subst (λ k. 0 < size_in new k p) (sym at) (signed p ac (subst (λ k. bit (mask_in new k minus_slot) p ≡ true) at e))
+    | inl at ↦ subst (λ k. 0 < size_in (mask_in new k) p) (sym at) (signed p ac (subst (λ k. bit (mask_in new k minus_slot) p ≡ true) at e))
     | inr apart ↦
         let known : 64 * q < length old = omega (arith, there, long) in
-        let size : size_in new q p ≡ size_in old q p = ap value_of (bits_below-same new old q q p 27 (λ s lt. ap (λ m. bit m p) (others q s known (omega (arith, lt)) apart))) in
+        let size : size_in (mask_in new q) p ≡ size_in (mask_in old q) p = ap value_of (bits_below-same (mask_in new q) (mask_in old q) p 27 (λ s lt. ap (λ m. bit m p) (others q s known (omega (arith, lt)) apart))) in
         let some = ready.signed q p known ac (sym (ap (λ m. bit m p) (others q minus_slot known (omega arith) apart)) ∙ e) in
         omega (arith, size, some)
   ];
@@ -120,10 +122,10 @@ module _ {plane r bits minus : ℕ} {old new : List ℤ} (low : plane < 27) (who
   sign_same : (k : ℕ) → k < 64 → bit bits k ≡ false → bit (mask_in new r minus_slot) k ≡ bit (mask_in old r minus_slot) k
   sign_same k lt e = gives.signs k lt ∙ ap (λ t. bit (mask_in old r minus_slot) k || (bit minus k && t)) e ∙ ap (λ t. bit (mask_in old r minus_slot) k || t) (and-false (bit minus k)) ∙ or-false _
 
-  size_now : (k : ℕ) → k < 64 → bit bits k ≡ true → size_in new r k ≡ size_in old r k + (if not (bit (size_in old r k) plane) then 2 ^ plane else 0)
+  size_now : (k : ℕ) → k < 64 → bit bits k ≡ true → size_in (mask_in new r) k ≡ size_in (mask_in old r) k + (if not (bit (size_in (mask_in old r) k) plane) then 2 ^ plane else 0)
   size_now k lt e = size_given old new r plane k low (planes k) (now_has k lt e)
 
-  size_same : (k : ℕ) → k < 64 → bit bits k ≡ false → size_in new r k ≡ size_in old r k
+  size_same : (k : ℕ) → k < 64 → bit bits k ≡ false → size_in (mask_in new r) k ≡ size_in (mask_in old r) k
   size_same k lt e = size_kept old new r plane k low (planes k) (now_same k lt e)
 
   dc_same : number_in new r 0 ≡ number_in old r 0
@@ -154,19 +156,19 @@ module _ {plane r bits minus : ℕ} {old new : List ℤ} (low : plane < 27) (who
     others = λ q apart. same_block old new q whole gives.long (λ s there few other. gives.others q s there few apart);
   }
 
-  signed_here : (k : ℕ) → IsAc k → bit (mask_in new r minus_slot) k ≡ true → 0 < size_in new r k
+  signed_here : (k : ℕ) → IsAc k → bit (mask_in new r minus_slot) k ≡ true → 0 < size_in (mask_in new r) k
   signed_here k ac e = by_bit (bit bits k) refl
     where
-      by_bit : (b : Bool) → bit bits k ≡ b → 0 < size_in new r k
-      by_bit true has = some_size (size_in new r k) plane (size_bit new r k plane low ∙ now_has k ac.1 has)
+      by_bit : (b : Bool) → bit bits k ≡ b → 0 < size_in (mask_in new r) k
+      by_bit true has = some_size (size_in (mask_in new r) k) plane (size_bit (mask_in new r) k plane low ∙ now_has k ac.1 has)
       by_bit false none = omega (arith, size_same k ac.1 none, ready.signed r k known ac (sym (sign_same k ac.1 none) ∙ e))
 
   above_here : (k : ℕ) → IsAc k → significant (block_at (numbers_in new) r) (plane + 1) k ≡ significant (block_at (numbers_in old) r) (plane + 1) k
   unfolding significant
   above_here k ac = ap (nat_le (2 ^ (plane + 1))) (block_size new r k even there ac) ∙ by_bit (bit bits k) refl ∙ sym (ap (nat_le (2 ^ (plane + 1))) (block_size old r k whole known ac))
     where
-      by_bit : (b : Bool) → bit bits k ≡ b → nat_le (2 ^ (plane + 1)) (size_in new r k) ≡ nat_le (2 ^ (plane + 1)) (size_in old r k)
-      by_bit true has = ap (nat_le (2 ^ (plane + 1))) (size_now k ac.1 has) ∙ reach_given plane (size_in old r k)
+      by_bit : (b : Bool) → bit bits k ≡ b → nat_le (2 ^ (plane + 1)) (size_in (mask_in new r) k) ≡ nat_le (2 ^ (plane + 1)) (size_in (mask_in old r) k)
+      by_bit true has = ap (nat_le (2 ^ (plane + 1))) (size_now k ac.1 has) ∙ reach_given plane (size_in (mask_in old r) k)
       by_bit false none = ap (nat_le (2 ^ (plane + 1))) (size_same k ac.1 none)
 
   pub given_ready : AreReady (plane + 1) new
@@ -184,8 +186,8 @@ module _ {plane r mask : ℕ} {old new : List ℤ} (whole : length old % 64 ≡ 
   there_still : 64 * r < length new
   there_still = omega (arith, known, put.long)
 
-  sizes : (k : ℕ) → size_in new r k ≡ size_in old r k
-  sizes k = ap value_of (bits_below-same new old r r k 27 (λ p lt. ap (λ m. bit m k) (put.other_slots p (omega (arith, lt)) (λ e. omega (arith, e, lt)))))
+  sizes : (k : ℕ) → size_in (mask_in new r) k ≡ size_in (mask_in old r) k
+  sizes k = ap value_of (bits_below-same (mask_in new r) (mask_in old r) k 27 (λ p lt. ap (λ m. bit m k) (put.other_slots p (omega (arith, lt)) (λ e. omega (arith, e, lt)))))
 
   minus_still : (k : ℕ) → bit (mask_in new r minus_slot) k ≡ bit (mask_in old r minus_slot) k
   minus_still k = ap (λ m. bit m k) (put.other_slots minus_slot (omega arith) (λ e. omega (arith, e)))

@@ -2,7 +2,7 @@
 use Rattle.std.proofs.Common.{◌≡◌, inl, inr, ℕ, ◌+◌, ◌-◌, ◌/◌, ◌^◌, ◌<◌, Bool, true, false, ◌&&◌, ◌||◌, ℤ, List, refl, ap, sym, ◌∙◌, subst, arith, ◌==◌, Ok, Some}
 use Rattle.std.proofs.lemmas.Bool.{cases_lt, true≢false}
 use Rattle.std.specs.Int.{bit_at}
-use Rattle.std.proofs.Math.Bool.{and-false}
+use Rattle.std.proofs.Math.Bool.{and-false, or-false}
 use Rattle.std.proofs.lemmas.Nat.Bits.{bit_at-lt, bit_at_above, same_from_bits_below}
 use Rattle.item_defs.specs.Bits.{bit, bits_of, value_of}
 use Rattle.item_defs.proofs.NumberBits.{bits_none}
@@ -42,8 +42,8 @@ no_types = record { new = 0; minus = 0; len = 0; known = 1 }
 
 none_in : (book : Book) (g : Gaggle) → AreTypesIn book g 0 0 no_types
 none_in book g = record {
-  word = record { number = 0; len = 0; signed = 0 };
-  is_word = subst (λ n. IsWordIn book g n 0 (record { number = 0; len = 0; signed = 0 })) (sym (no_ones 0 refl)) (record {
+  word = record { number = 0; len = 0; signed_len = 0 };
+  is_word = subst (λ n. IsWordIn book g n 0 (record { number = 0; len = 0; signed_len = 0 })) (sym (no_ones 0 refl)) (record {
     none = λ e. refl;
     fits = omega arith;
     few = omega arith;
@@ -86,12 +86,8 @@ nothing_added old new start fits shown = same_from_bits_below 64 new old shown.s
     same_digit : (a b : ℕ) → a < 2 → b < 2 → (a == 1) ≡ (b == 1) → a ≡ b
     same_digit a b low small e = grind (arith, nat_tests)
 
-    or_false : (t : Bool) → (t || false) ≡ t
-    or_false true = refl
-    or_false false = refl
-
     same : (i : ℕ) → i < 64 → bit new i ≡ bit old i
-    same i lt = let there : 0 + i ≡ i = omega arith in shown.at i lt ∙ ap (λ p. bit old p || (inside start 0 p && false)) there ∙ ap (λ t. bit old i || t) (and-false (inside start 0 i)) ∙ or_false (bit old i)
+    same i lt = let there : 0 + i ≡ i = omega arith in shown.at i lt ∙ ap (λ p. bit old p || (inside start 0 p && false)) there ∙ ap (λ t. bit old i || t) (and-false (inside start 0 i)) ∙ or-false (bit old i)
 
 pub none_due : {I : Type 0} {k : SourceOf I} {book : Book} {g : Gaggle} (known : AreOptions g.options) {f : Frame} {stage : ℕ} {earlier : ℕ → List Step} {done : List Step} {start count mask : ℕ} {after : List ℤ → List Step}
     (next : TypesNext f stage earlier done false start count mask after) → Shows 0 (λ p. bit mask p) start count → {a : Coming I} → IsIn a → {m : Found} →

@@ -11,8 +11,10 @@ use Rattle.std.proofs.lemmas.Slice.{take-put_mid, drop-put_mid}
 use Rattle.item_defs.specs.Bits.{bit}
 use Rattle.wave_defs.specs.Held.{block_at}
 use Rattle.plane_defs.specs.Sets.{significant}
-use Rattle.block_masks.specs.Slices.{mask_in, minus_slot, above_slot, dc_slot, size_in, number_in, numbers_in, PutsMask}
-use Rattle.block_masks.proofs.SliceNumbers.{ac_number, dc_number, length-numbers_in, number_at, size_in-is}
+use Rattle.block_masks.specs.Slices.{mask_in, minus_slot, above_slot, dc_slot, number_in, numbers_in, PutsMask}
+use Rattle.block_masks.specs.MaskedNumbers.{size_in}
+use Rattle.block_masks.proofs.SliceNumbers.{ac_number, dc_number, length-numbers_in, number_at}
+use Rattle.block_masks.proofs.MaskedNumbers.{size_in-is}
 use Rattle.plane_reader.specs.Above.{AreReady, HasNoAcs}
 use Rattle.plane_reader.specs.Joined.{HasOnlyDcs}
 use Rattle.plane_reader.proofs.CellGroups.{mask_left, mask_right, numbers_append, put_long, drop_then}
@@ -84,7 +86,7 @@ none_there k = ap (λ n. n == 1) (bit_at_above 0 0 k (omega arith) (omega arith)
 -- an AC number of empty masks
 pub only_zero : (cells : List ℤ) (r k : ℕ) → HasOnlyDcs cells → 64 * r < length cells → 1 ≤ k → number_in cells r k ≡ pos 0
 only_zero cells r k only known first =
-    let size : size_in cells r k ≡ 0 = size_in-is cells r k 0 (omega arith) (λ p lt. ap (λ m. bit m k) (only.others r p known (omega (arith, lt)) (λ e. omega (arith, e, lt))) ∙ none_there k ∙ sym (none_there p)) in
+    let size : size_in (mask_in cells r) k ≡ 0 = size_in-is (mask_in cells r) k 0 (omega arith) (λ p lt. ap (λ m. bit m k) (only.others r p known (omega (arith, lt)) (λ e. omega (arith, e, lt))) ∙ none_there k ∙ sym (none_there p)) in
     let minus : bit (mask_in cells r minus_slot) k ≡ false = ap (λ m. bit m k) (only.others r minus_slot known (omega arith) (λ e. omega (arith, e))) ∙ none_there k in
     ac_number cells r k first ∙ rw (minus, size) refl
 

@@ -5,7 +5,8 @@ use Rattle.item_defs.specs.Bits.{bit}
 use Rattle.wave_defs.specs.Held.{block_at}
 use Rattle.plane_defs.specs.Sets.{significant}
 use Rattle.plane_defs.specs.StepLaws.{IsAc}
-use Rattle.block_masks.specs.Slices.{minus_slot, above_slot, mask_in, size_in, numbers_in}
+use Rattle.block_masks.specs.Slices.{minus_slot, above_slot, mask_in, numbers_in}
+use Rattle.block_masks.specs.MaskedNumbers.{size_in}
 use Rattle.plane_reader.specs.Frames.{Frame}
 
 -- a mask says which AC numbers of a block are significant above its plane
@@ -15,7 +16,7 @@ IsAbove f mask = (p : ℕ) → IsAc p → bit mask p ≡ significant f.block (f.
 -- The AC numbers that are marked as negative are not 0, and the masks of what is significant say which AC numbers are significant in
 -- a plane.
 pub record AreReady (plane : ℕ) (cells : List ℤ) : Type 0 where
-  pub signed : (r p : ℕ) → 64 * r < length cells → IsAc p → bit (mask_in cells r minus_slot) p ≡ true → 0 < size_in cells r p
+  pub signed : (r p : ℕ) → 64 * r < length cells → IsAc p → bit (mask_in cells r minus_slot) p ≡ true → 0 < size_in (mask_in cells r) p
   pub above : (r p : ℕ) → 64 * r < length cells → IsAc p → bit (mask_in cells r above_slot) p ≡ significant (block_at (numbers_in cells) r) plane p
 
 -- all blocks except one have the same numbers

@@ -72,7 +72,7 @@ pub(crate) fn first_types(tables: &WordTables, lengths: &Lengths, due: u64, wind
     Types {
         new,
         minus: spread_first(new, signs),
-        len: word.signed,
+        len: word.signed_len,
         known: lengths.known[count as usize],
     }
 }

@@ -15,7 +15,8 @@ use Rattle.segment_defs.specs.Coded.{chosen_options, coded_bits}
 use Rattle.segment_code.proofs.Encoding.{IsBounded}
 use Rattle.segment_code.proofs.CodedOptions.{words_are, numbers_are}
 use Rattle.segment_code.proofs.DcFits.{blocks_fit}
-use Rattle.segment_code.proofs.DepthMarks.{length-blocks_in, depth_within}
+use Rattle.segment_code.proofs.BlockLists.{length-blocks_in}
+use Rattle.segment_code.proofs.DepthMarks.{depth_within}
 use Rattle.segment_code.proofs.NumberBits.{depth_held}
 use Rattle.segment_code.proofs.TextBits.{text_short}
 

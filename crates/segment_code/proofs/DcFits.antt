@@ -1,11 +1,13 @@
 -- The DC numbers of a segment's blocks, and their range.
-use Rattle.std.proofs.Common.{◌≡◌, ℕ, ◌+◌, ◌*◌, ◌/◌, ◌<◌, ◌≤◌, List, [], ◌∷◌, length, drop, map, get_or, true, refl, ap, subst, ◌∙◌, arith, ℤ, pos}
-use Rattle.std.specs.Int.{div_ceil}
+use Rattle.std.proofs.Common.{◌≡◌, ℕ, ◌+◌, ◌*◌, ◌/◌, ◌<◌, ◌≤◌, List, [], ◌∷◌, length, drop, map, get_or, Bool, true, refl, sym, ap, subst, ◌∙◌, arith, ℤ, pos}
+use Rattle.std.specs.Int.{div_ceil, int_shr}
 use Rattle.std.specs.List.{range_with_len}
 use Rattle.std.proofs.lemmas.List.{get_or-take, get_or-drop, get_or-map, length-map}
-use Rattle.std.proofs.lemmas.List.FromFn.{get_or-map-range_with_len, length-map-range_with_len}
+use Rattle.std.proofs.lemmas.List.FromFn.{get_or-map-range_with_len, length-map-range_with_len, fill_by_all}
+use Rattle.number_defs.specs.Ranges.{IsInRange}
 use Rattle.number_defs.specs.Cells.{cell_at, strided, AreInRange}
 use Rattle.number_defs.specs.DcPart.{dc_q, dc_bits}
+use Rattle.number_defs.proofs.Equations.{strided-is}
 use Rattle.number_defs.proofs.DcRange.{dc_fits, dcs_fit as sized_dcs_fit}
 use Rattle.number_defs.specs.Laws.{DcsFit}
 use Rattle.segment_defs.specs.Size.{greatest}
@@ -42,6 +44,23 @@ signed_size_at cells n m e lt =
 
 pub dcs_fit : (cells : List ℤ) (n D A s : ℕ) → 1 ≤ D → length cells ≡ 64 * n → D ≡ depth_dc_of (blocks_in cells) → AreInRange true (dc_bits D A s) (dc_q D A s) 64 cells
 dcs_fit cells n D A s some e d = sized_dcs_fit D A s cells some (λ m lt. range_of_size (cell_at 64 cells m) D (omega (arith, d, signed_size_at cells n m e (omega (arith, e)))))
+
+-- a list of the DC numbers has them one after another
+module _ (dcs cells : List ℤ) (long : 64 * length dcs ≡ length cells) (each : (r : ℕ) → get_or dcs r (pos 0) ≡ get_or cells (64 * r) (pos 0)) where
+  pub held_dcs : dcs ≡ dcs_of (blocks_in cells)
+  held_dcs =
+      let count : length dcs ≡ div_ceil (length cells) 64 = omega (arith, long) in
+      fill_by_all (cell_at 64 cells) dcs (div_ceil (length cells) 64) (pos 0) count (λ r lt. let place : 64 * r ≡ r * 64 = omega arith in each r ∙ ap (λ i. get_or cells i (pos 0)) place)
+      ∙ sym (strided-is 64 cells) ∙ sym (dcs_strided cells (length dcs) (sym long))
+
+  pub dcs_in_range : (signed : Bool) (N shift : ℕ) → AreInRange signed N shift 64 cells → AreInRange signed N shift 1 dcs
+  dcs_in_range signed N shift fit = record { at = λ m lt. subst (λ z. IsInRange signed N (int_shr z shift)) (sym (cell m)) (fit.at m (omega (arith, lt, long))) }
+    where
+      cell : (m : ℕ) → cell_at 1 dcs m ≡ cell_at 64 cells m
+      cell m =
+          let here : m * 1 ≡ m = omega arith in
+          let there : 64 * m ≡ m * 64 = omega arith in
+          ap (λ i. get_or dcs i (pos 0)) here ∙ each m ∙ ap (λ i. get_or cells i (pos 0)) there
 
 -- the DC numbers of blocks that this depth holds fit
 pub blocks_fit : (blocks : List (List ℤ)) (D A s : ℕ) → 1 ≤ D → D ≡ depth_dc_of blocks → DcsFit D A s (dcs_of blocks)

@@ -28,7 +28,7 @@ use Rattle.text_defs.specs.Spellable.{IsSpellable, block_of}
 use Rattle.text_defs.specs.Given.{dc_through, is_dc_bit_given, has_bit, given_dc, given_block}
 use Rattle.segment_code.specs.TakenPlanes.{low_bits}
 use Rattle.segment_code.specs.TakenText.{AreClear}
-use Rattle.segment_code.proofs.Blocks.{cell_of}
+use Rattle.segment_code.proofs.BlockBounds.{cell_of}
 use Rattle.segment_code.proofs.DcGiven.{dc_block, ac_zero, dc_block_long, dcs_back, block_back, no_ac, dc_whole, dc_none, either_given}
 use Rattle.segment_code.proofs.GivenParts.{block_is}
 use Rattle.segment_code.proofs.GivenTests.{no_both}

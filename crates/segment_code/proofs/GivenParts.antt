@@ -12,7 +12,7 @@ use Rattle.segment_defs.specs.SegmentItems.{Options}
 use Rattle.text_defs.specs.Given.{given_ac, given_dc, given_block, given_blocks}
 use Rattle.text_defs.proofs.SegmentAlike.{list_same}
 use Rattle.text_defs.proofs.GivesAll.{span_long, span_at}
-use Rattle.segment_code.proofs.DepthMarks.{length-blocks_in}
+use Rattle.segment_code.proofs.BlockLists.{length-blocks_in}
 
 module _ (head : SegmentHead) (values : List (List ℤ)) (depths : List ℕ) (options : Options) (m : ℕ) where
   -- the DC and the AC numbers make the block

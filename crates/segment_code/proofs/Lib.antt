@@ -1,5 +1,6 @@
 mod SizeBits
-mod Blocks
+mod BlockBounds
+mod BlockLists
 pub mod TextOctets
 mod DcFits
 mod DcText
@@ -13,6 +14,8 @@ mod PlaneBits
 mod NumberBits
 pub mod TextBits
 mod DepthMarks
+mod SegmentDepths
+mod Holding
 mod EndOctets
 mod Decoding
 mod BriefItems

@@ -1,19 +1,14 @@
--- The sizes of a segment's numbers, by its depths.
-use Rattle.std.proofs.Common.{◌≡◌, ◌<◌, ◌≤◌, ℕ, add-one, ◌+◌, ◌-◌, ◌*◌, ◌/◌, ◌%◌, ◌^◌, max, inl, inr, ap, ◌∙◌, subst, arith, ℤ, pos, negsuc, unsigned_abs, List, [], length, get_or, drop, get_or-drop, length-drop, length-take, pow_mono, pow_pos}
+-- The sizes of a block's numbers, by its depths.
+use Rattle.std.proofs.Common.{◌≡◌, ◌<◌, ◌≤◌, ℕ, add-one, ◌+◌, ◌-◌, ◌*◌, ◌^◌, max, inl, inr, ap, ◌∙◌, subst, arith, ℤ, pos, negsuc, unsigned_abs, List, length, get_or, drop, get_or-drop, length-drop, pow_mono, pow_pos}
 use native.Mathlib.Nat.{pow-suc}
 use Rattle.std.proofs.lemmas.Bool.{cases_lt, cases_eq}
 use Rattle.std.proofs.lemmas.List.{get_or_past}
-use Rattle.std.proofs.lemmas.List.FromFn.{get_or-map-range_with_len}
-use Rattle.wave_defs.specs.Held.{block_at, blocks_in}
-use Rattle.number_defs.specs.Cells.{cell_at}
 use Rattle.plane_defs.specs.Sets.{magnitude}
 use Rattle.segment_defs.specs.Size.{size_of}
-use Rattle.segment_defs.specs.Depths.{signed_size, block_depth, depth_dc_of, depth_ac_of}
+use Rattle.segment_defs.specs.Depths.{dc_of, signed_size, block_depth}
 use Rattle.segment_defs.proofs.Sizes.{size_is}
 use Rattle.segment_defs.proofs.DepthLaws.{each_above}
-use Rattle.segment_code.proofs.Blocks.{cell_of}
-use Rattle.segment_code.proofs.DcFits.{signed_size_at}
-use Rattle.segment_code.proofs.DepthMarks.{length-blocks_in}
+use Rattle.segment_code.specs.Numbers.{AreBounded}
 
 size_below : (m D : ℕ) → size_of m ≤ D → m < 2 ^ D
 size_below m D le =
@@ -29,54 +24,33 @@ signed_below (negsuc a) D le =
     let most : 2 ^ (size_of a + 1) ≤ 2 ^ D = pow_mono le in
     omega (arith, below, next, most)
 
-module _ (cells : List ℤ) (n : ℕ) (whole : length cells ≡ 64 * n) where
-  block_is : (r : ℕ) → r < n → get_or (blocks_in cells) r [] ≡ block_at cells r
-  unfolding blocks_in
-  block_is r lt = get_or-map-range_with_len (block_at cells) 0 (length cells / 64) r r [] (omega (arith, whole, lt)) (omega arith)
+module _ (block : List ℤ) (whole : length block ≡ 64) where
+  past_below : (k D : ℕ) → 64 ≤ k → magnitude block k < 2 ^ D
+  past_below k D past = rw (get_or_past block k (pos 0) (omega (arith, whole, past))) (pow_pos D)
 
-  dc_below : (r : ℕ) → r < n → magnitude cells (64 * r) < 2 ^ depth_dc_of (blocks_in cells)
-  dc_below r lt =
-      let place : r * 64 ≡ 64 * r = omega arith in
-      subst (λ i. magnitude cells i < 2 ^ depth_dc_of (blocks_in cells)) place (signed_below (cell_at 64 cells r) (depth_dc_of (blocks_in cells)) (signed_size_at cells n r whole lt))
-
-  ac_below : (r k : ℕ) → r < n → 1 ≤ k → k < 64 → magnitude cells (64 * r + k) < 2 ^ depth_ac_of (blocks_in cells)
-  ac_below r k lt some low =
-      let block = block_at cells r in
-      let next : 1 + (k - 1) ≡ k = omega (arith, some) in
-      let cell : get_or (drop 1 block) (k - 1) (pos 0) ≡ get_or cells (64 * r + k) (pos 0) = get_or-drop 1 block (k - 1) (pos 0) ∙ ap (λ j. get_or block j (pos 0)) next ∙ cell_of cells r k low in
-      let inside : k - 1 < length (drop 1 block) = omega (arith, some, low, lt, whole, length-drop 1 block, length-take 64 (drop (64 * r) cells), length-drop (64 * r) cells) in
-      let in_block : size_of (unsigned_abs (get_or (drop 1 block) (k - 1) (pos 0))) ≤ block_depth block = each_above (λ z. size_of (unsigned_abs z)) 0 (drop 1 block) (k - 1) (pos 0) inside in
-      let in_all : block_depth (get_or (blocks_in cells) r []) ≤ depth_ac_of (blocks_in cells) = each_above block_depth 0 (blocks_in cells) r [] (omega (arith, lt, length-blocks_in cells n whole)) in
-      let here : block_depth block ≤ depth_ac_of (blocks_in cells) = subst (λ b. block_depth b ≤ depth_ac_of (blocks_in cells)) (block_is r lt) in_all in
-      subst (λ z. unsigned_abs z < 2 ^ depth_ac_of (blocks_in cells)) cell (size_below (unsigned_abs (get_or (drop 1 block) (k - 1) (pos 0))) (depth_ac_of (blocks_in cells)) (omega (arith, in_block, here)))
-
-  past_below : (i D : ℕ) → length cells ≤ i → magnitude cells i < 2 ^ D
-  past_below i D past = rw (get_or_past cells i (pos 0) past) (pow_pos D)
-
-  ac_at : (i : ℕ) → (i % 64 ≡ 0 → ⊥) → magnitude cells i < 2 ^ depth_ac_of (blocks_in cells)
-  ac_at i other = elim (cases_lt i (length cells)) [
-    | inl lt ↦
-        let place : 64 * (i / 64) + i % 64 ≡ i = omega arith in
-        subst (λ j. magnitude cells j < 2 ^ depth_ac_of (blocks_in cells)) place (ac_below (i / 64) (i % 64) (omega (arith, lt, whole)) (omega (arith, other)) (omega arith))
-    | inr past ↦ past_below i (depth_ac_of (blocks_in cells)) past
+  ac_below : (k D : ℕ) → 0 < k → block_depth block ≤ D → magnitude block k < 2 ^ D
+  ac_below k D some le = elim (cases_lt k 64) [
+    | inl low ↦
+        let next : 1 + (k - 1) ≡ k = omega (arith, some) in
+        let cell : get_or (drop 1 block) (k - 1) (pos 0) ≡ get_or block k (pos 0) = get_or-drop 1 block (k - 1) (pos 0) ∙ ap (λ j. get_or block j (pos 0)) next in
+        let inside : k - 1 < length (drop 1 block) = omega (arith, some, low, whole, length-drop 1 block) in
+        let in_block : size_of (unsigned_abs (get_or (drop 1 block) (k - 1) (pos 0))) ≤ block_depth block = each_above (λ z. size_of (unsigned_abs z)) 0 (drop 1 block) (k - 1) (pos 0) inside in
+        subst (λ z. unsigned_abs z < 2 ^ D) cell (size_below (unsigned_abs (get_or (drop 1 block) (k - 1) (pos 0))) D (omega (arith, in_block, le)))
+    | inr past ↦ past_below k D past
   ]
 
   -- all numbers are below the power of 2 of the greater depth
-  pub all_below : (D A : ℕ) → D ≡ depth_dc_of (blocks_in cells) → A ≡ depth_ac_of (blocks_in cells) → (i : ℕ) → magnitude cells i < 2 ^ max D A
-  all_below D A dc ac i =
-      let first : 2 ^ depth_dc_of (blocks_in cells) ≤ 2 ^ max D A = pow_mono (omega (arith, dc)) in
-      let second : 2 ^ depth_ac_of (blocks_in cells) ≤ 2 ^ max D A = pow_mono (omega (arith, ac)) in
-      elim (cases_lt i (length cells)) [
-        | inl lt ↦ elim (cases_eq (i % 64) 0) [
-          | inl is ↦
-              let place : 64 * (i / 64) ≡ i = omega (arith, is) in
-              omega (arith, first, subst (λ j. magnitude cells j < 2 ^ depth_dc_of (blocks_in cells)) place (dc_below (i / 64) (omega (arith, lt, whole))))
-          | inr other ↦ omega (arith, second, ac_at i other)
-        ]
-        | inr past ↦ past_below i (max D A) past
-      ]
+  pub all_below : (A D : ℕ) → A ≡ block_depth block → D ≡ signed_size (dc_of block) → (k : ℕ) → magnitude block k < 2 ^ max A D
+  all_below A D ac dc k = elim (cases_eq k 0) [
+    | inl is ↦ rw is (signed_below (get_or block 0 (pos 0)) (max A D) (omega (arith, dc)))
+    | inr other ↦ ac_below k (max A D) (omega (arith, other)) (omega (arith, ac))
+  ]
 
-  pub ac_small : (A : ℕ) → A ≤ 27 → A ≡ depth_ac_of (blocks_in cells) → (i : ℕ) → (i % 64 ≡ 0 → ⊥) → magnitude cells i < 2 ^ 27
-  ac_small A few ac i other =
-      let most : 2 ^ depth_ac_of (blocks_in cells) ≤ 2 ^ 27 = pow_mono {i = depth_ac_of (blocks_in cells)} {j = 27} (omega (arith, few, ac)) in
-      omega (arith, most, ac_at i other)
+  pub ac_small : AreBounded block → (k : ℕ) → 0 < k → magnitude block k < 2 ^ 27
+  ac_small bounded k some = elim (cases_lt k 64) [
+    | inl low ↦ elim (bounded.at k (omega (arith, whole, low))) [
+      | inl below ↦ below
+      | inr least ↦ absurd (omega (arith, least.0, some, low))
+    ]
+    | inr past ↦ past_below k 27 past
+  ]

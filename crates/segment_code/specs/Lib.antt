@@ -1,4 +1,5 @@
 pub mod Numbers
+pub mod HeldBlocks
 pub mod Text
 pub mod Parts
 pub mod Laws

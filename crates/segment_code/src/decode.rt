@@ -73,9 +73,7 @@ fn clear(blocks: &mut [i32])
     ensures size { length blocks.new ≡ length blocks.old }
     ensures clear { AreClear blocks.new }
 {
-    for number in blocks.iter_mut() {
-        *number = 0;
-    }
+    blocks.fill(0);
 }
 
 // Reads the items of a text, up to the limit, after a head of `size` octets; returns also the number of bits of head and items.

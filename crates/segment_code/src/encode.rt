@@ -1,17 +1,18 @@
 // The writer of a segment's text.
-ghost use Rattle.std.specs.Prelude.{◌≡◌, ◌≤◌, ◌*◌, IsTrue, length, map, take, pos, MatchResult};
+ghost use Rattle.std.specs.Prelude.{◌≡◌, ◌≤◌, ◌*◌, IsTrue, length, take, MatchResult};
 ghost use Rattle.item_defs.specs.Items.{text};
 ghost use Rattle.bit_pipe.specs.Standing.{stand, Adds, Breaks, Puts, IsReady, Writes};
 ghost use Rattle.wave_defs.specs.Held.{blocks_in};
-ghost use Rattle.plane_defs.specs.Marks.{depths_of};
 ghost use Rattle.plane_defs.specs.Codes.{is_book_sound};
-ghost use Rattle.segment_defs.specs.Depths.{block_depths, depth_dc_of, depth_ac_of};
+ghost use Rattle.segment_defs.specs.Depths.{depth_dc_of, depth_ac_of};
 ghost use Rattle.segment_defs.specs.Head.{IsHead, head_length};
 ghost use Rattle.segment_defs.specs.Coded.{coded, coded_bits};
 ghost use Rattle.segment_defs.specs.SegmentItems.{dc_shift};
 ghost use Rattle.segment_code.specs.Parts.{coded_rest};
 ghost use Rattle.segment_code.specs.Text.{GivesText, BreaksWithin, EncodesItems};
 
+use crate::blocks::SegmentBlocks;
+use crate::depths::reset_marks;
 use crate::head_plans::{plan_of, select_of};
 use crate::planes::put_planes;
 use base_122::Book;
@@ -39,9 +40,7 @@ impl SegmentWriter {
     }
 
     /// Writes the text of a segment, and returns its length in octets (docs/formats.md, "Stops, cut and fill"). The sink was given
-    /// nothing yet. The blocks are 64 weighted numbers each. The depths of the head and the marks are those of the blocks, as
-    /// `segment_depths` returns them; the marks keep them in their lowest five bits, and their other bits have no meaning afterwards.
-    /// The call may put masks of bits in the place of the numbers of `blocks`, which have no meaning afterwards.
+    /// nothing yet. The depths of the head are those of the blocks, as `SegmentBlocks::depths` returns them. The blocks stay.
     ///
     /// # Errors
     ///
@@ -50,28 +49,26 @@ impl SegmentWriter {
         &self,
         out: &mut O,
         head: &SegmentHead,
-        blocks: &mut [i32],
-        marks: &mut [i32],
+        blocks: &mut SegmentBlocks,
     ) -> Result<u64, Failed>
         requires fits { IsHead head.now }
-        requires count { length blocks.old ≡ 64 * head.now.blocks }
-        requires dc { head.now.depth_dc ≡ depth_dc_of (blocks_in blocks.old) }
-        requires ac { head.now.depth_ac ≡ depth_ac_of (blocks_in blocks.old) }
-        requires marks { marks.old ≡ map pos (block_depths (blocks_in blocks.old)) }
+        requires count { length blocks.old.numbers ≡ 64 * head.now.blocks }
+        requires dc { head.now.depth_dc ≡ depth_dc_of (blocks_in blocks.old.numbers) }
+        requires ac { head.now.depth_ac ≡ depth_ac_of (blocks_in blocks.old.numbers) }
         requires none { (O.sink.counts out.old).given ≡ 0 }
         ensures text { MatchResult result
-            (λ octets. GivesText O.sink out.old out.new (coded self.now.tables.book head.now (blocks_in blocks.old)) octets)
-            (λ _. BreaksWithin O.sink out.old out.new (coded self.now.tables.book head.now (blocks_in blocks.old))) }
-        ensures depths { depths_of marks.new ≡ depths_of marks.old }
-        ensures long { length blocks.new ≡ length blocks.old }
+            (λ octets. GivesText O.sink out.old out.new (coded self.now.tables.book head.now (blocks_in blocks.old.numbers)) octets)
+            (λ _. BreaksWithin O.sink out.old out.new (coded self.now.tables.book head.now (blocks_in blocks.old.numbers))) }
+        ensures most { blocks.new.most ≡ blocks.old.most }
+        ensures numbers { blocks.new.numbers ≡ blocks.old.numbers }
     {
         let mut bits = BitOut::new(out, u64::from(head.limit), 0);
-        put_fitting(&mut bits, head, blocks, marks, &self.tables)?;
+        put_fitting(&mut bits, head, blocks, &self.tables)?;
         bits.end(head.image.word, head.fill)
     }
 
     /// Puts the items of a segment's text, which follow its head (docs/formats.md, "Stops, cut and fill"): the DC part, the block
-    /// depths and the bit planes up to the stop. Blocks and marks are those of `encode`. It neither pads nor ends the text.
+    /// depths and the bit planes up to the stop. The blocks are those of `encode`. It neither pads nor ends the text.
     ///
     /// # Errors
     ///
@@ -80,20 +77,18 @@ impl SegmentWriter {
         &self,
         out: &mut BitOut<O>,
         head: &SegmentHead,
-        blocks: &mut [i32],
-        marks: &mut [i32],
+        blocks: &mut SegmentBlocks,
     ) -> Result<(), PutFault>
         requires fits { IsHead head.now }
         requires open { IsReady O.sink out.old }
-        requires count { length blocks.old ≡ 64 * head.now.blocks }
-        requires dc { head.now.depth_dc ≡ depth_dc_of (blocks_in blocks.old) }
-        requires ac { head.now.depth_ac ≡ depth_ac_of (blocks_in blocks.old) }
-        requires marks { marks.old ≡ map pos (block_depths (blocks_in blocks.old)) }
-        ensures encodes { EncodesItems O.sink self.now.tables.book head.now (blocks_in blocks.old) result (stand O.sink out.old) (stand O.sink out.new) }
-        ensures depths { depths_of marks.new ≡ depths_of marks.old }
-        ensures long { length blocks.new ≡ length blocks.old }
+        requires count { length blocks.old.numbers ≡ 64 * head.now.blocks }
+        requires dc { head.now.depth_dc ≡ depth_dc_of (blocks_in blocks.old.numbers) }
+        requires ac { head.now.depth_ac ≡ depth_ac_of (blocks_in blocks.old.numbers) }
+        ensures encodes { EncodesItems O.sink self.now.tables.book head.now (blocks_in blocks.old.numbers) result (stand O.sink out.old) (stand O.sink out.new) }
+        ensures most { blocks.new.most ≡ blocks.old.most }
+        ensures numbers { blocks.new.numbers ≡ blocks.old.numbers }
     {
-        put_items(out, head, &plan_of(head), blocks, marks, &self.tables)
+        put_items(out, head, &plan_of(head), blocks, &self.tables)
     }
 }
 
@@ -105,49 +100,45 @@ impl SegmentWriter {
 pub fn encode_segment<O: OctetOut>(
     out: &mut O,
     head: &SegmentHead,
-    blocks: &mut [i32],
-    marks: &mut [i32],
+    blocks: &mut SegmentBlocks,
     book: &Book,
 ) -> Result<u64, Failed>
     requires sound { IsTrue (is_book_sound book.now) }
     requires fits { IsHead head.now }
-    requires count { length blocks.old ≡ 64 * head.now.blocks }
-    requires dc { head.now.depth_dc ≡ depth_dc_of (blocks_in blocks.old) }
-    requires ac { head.now.depth_ac ≡ depth_ac_of (blocks_in blocks.old) }
-    requires marks { marks.old ≡ map pos (block_depths (blocks_in blocks.old)) }
+    requires count { length blocks.old.numbers ≡ 64 * head.now.blocks }
+    requires dc { head.now.depth_dc ≡ depth_dc_of (blocks_in blocks.old.numbers) }
+    requires ac { head.now.depth_ac ≡ depth_ac_of (blocks_in blocks.old.numbers) }
     requires none { (O.sink.counts out.old).given ≡ 0 }
     ensures text { MatchResult result
-        (λ octets. GivesText O.sink out.old out.new (coded book.now head.now (blocks_in blocks.old)) octets)
-        (λ _. BreaksWithin O.sink out.old out.new (coded book.now head.now (blocks_in blocks.old))) }
-    ensures depths { depths_of marks.new ≡ depths_of marks.old }
-    ensures long { length blocks.new ≡ length blocks.old }
+        (λ octets. GivesText O.sink out.old out.new (coded book.now head.now (blocks_in blocks.old.numbers)) octets)
+        (λ _. BreaksWithin O.sink out.old out.new (coded book.now head.now (blocks_in blocks.old.numbers))) }
+    ensures most { blocks.new.most ≡ blocks.old.most }
+    ensures numbers { blocks.new.numbers ≡ blocks.old.numbers }
 {
-    SegmentWriter::new(book).encode(out, head, blocks, marks)
+    SegmentWriter::new(book).encode(out, head, blocks)
 }
 
 // Puts the part of the text that fits below the bound: a text that is stopped is cut there.
 fn put_fitting<O: OctetOut>(
     out: &mut BitOut<O>,
     head: &SegmentHead,
-    blocks: &mut [i32],
-    marks: &mut [i32],
+    blocks: &mut SegmentBlocks,
     tables: &CodeTables,
 ) -> Result<(), Failed>
     requires fits { IsHead head.now }
     requires open { IsReady O.sink out.old }
     requires room { 8 * head_length head.now ≤ (stand O.sink out.old).room }
-    requires count { length blocks.old ≡ 64 * head.now.blocks }
-    requires dc { head.now.depth_dc ≡ depth_dc_of (blocks_in blocks.old) }
-    requires ac { head.now.depth_ac ≡ depth_ac_of (blocks_in blocks.old) }
-    requires marks { marks.old ≡ map pos (block_depths (blocks_in blocks.old)) }
+    requires count { length blocks.old.numbers ≡ 64 * head.now.blocks }
+    requires dc { head.now.depth_dc ≡ depth_dc_of (blocks_in blocks.old.numbers) }
+    requires ac { head.now.depth_ac ≡ depth_ac_of (blocks_in blocks.old.numbers) }
     ensures puts { MatchResult result
-        (λ _. Adds O.sink (stand O.sink out.old) (stand O.sink out.new) (take (stand O.sink out.old).room (coded_bits tables.now.book head.now (blocks_in blocks.old))))
-        (λ _. Breaks O.sink (stand O.sink out.old) (stand O.sink out.new) (take (stand O.sink out.old).room (coded_bits tables.now.book head.now (blocks_in blocks.old)))) }
+        (λ _. Adds O.sink (stand O.sink out.old) (stand O.sink out.new) (take (stand O.sink out.old).room (coded_bits tables.now.book head.now (blocks_in blocks.old.numbers))))
+        (λ _. Breaks O.sink (stand O.sink out.old) (stand O.sink out.new) (take (stand O.sink out.old).room (coded_bits tables.now.book head.now (blocks_in blocks.old.numbers)))) }
     ensures ten { length head.now.image.weights.shifts ≡ 10 }
-    ensures depths { depths_of marks.new ≡ depths_of marks.old }
-    ensures long { length blocks.new ≡ length blocks.old }
+    ensures most { blocks.new.most ≡ blocks.old.most }
+    ensures numbers { blocks.new.numbers ≡ blocks.old.numbers }
 {
-    match put_text(out, head, blocks, marks, tables) {
+    match put_text(out, head, blocks, tables) {
         Ok(()) => Ok(()),
         Err(PutFault::Stopped) => Ok(()),
         Err(PutFault::WriteFault) => Err(Failed),
@@ -158,25 +149,23 @@ fn put_fitting<O: OctetOut>(
 fn put_text<O: OctetOut>(
     out: &mut BitOut<O>,
     head: &SegmentHead,
-    blocks: &mut [i32],
-    marks: &mut [i32],
+    blocks: &mut SegmentBlocks,
     tables: &CodeTables,
 ) -> Result<(), PutFault>
     requires fits { IsHead head.now }
     requires open { IsReady O.sink out.old }
     requires room { 8 * head_length head.now ≤ (stand O.sink out.old).room }
-    requires count { length blocks.old ≡ 64 * head.now.blocks }
-    requires dc { head.now.depth_dc ≡ depth_dc_of (blocks_in blocks.old) }
-    requires ac { head.now.depth_ac ≡ depth_ac_of (blocks_in blocks.old) }
-    requires marks { marks.old ≡ map pos (block_depths (blocks_in blocks.old)) }
-    ensures puts { Writes O.sink result out.old out.new (coded_bits tables.now.book head.now (blocks_in blocks.old)) }
+    requires count { length blocks.old.numbers ≡ 64 * head.now.blocks }
+    requires dc { head.now.depth_dc ≡ depth_dc_of (blocks_in blocks.old.numbers) }
+    requires ac { head.now.depth_ac ≡ depth_ac_of (blocks_in blocks.old.numbers) }
+    ensures puts { Writes O.sink result out.old out.new (coded_bits tables.now.book head.now (blocks_in blocks.old.numbers)) }
     ensures ten { length head.now.image.weights.shifts ≡ 10 }
-    ensures depths { depths_of marks.new ≡ depths_of marks.old }
-    ensures long { length blocks.new ≡ length blocks.old }
+    ensures most { blocks.new.most ≡ blocks.old.most }
+    ensures numbers { blocks.new.numbers ≡ blocks.old.numbers }
 {
     let plan = plan_of(head);
     write_head(out, head)?;
-    put_items(out, head, &plan, blocks, marks, tables)
+    put_items(out, head, &plan, blocks, tables)
 }
 
 // Puts the items of a text by the plan of its DC part.
@@ -184,8 +173,7 @@ fn put_items<O: OctetOut>(
     out: &mut BitOut<O>,
     head: &SegmentHead,
     plan: &DcPlan,
-    blocks: &mut [i32],
-    marks: &mut [i32],
+    blocks: &mut SegmentBlocks,
     tables: &CodeTables,
 ) -> Result<(), PutFault>
     requires fits { IsHead head.now }
@@ -193,39 +181,37 @@ fn put_items<O: OctetOut>(
     requires plan_dc { plan.now.depth_dc ≡ head.now.depth_dc }
     requires plan_ac { plan.now.depth_ac ≡ head.now.depth_ac }
     requires plan_shift { plan.now.shift ≡ dc_shift head.now }
-    requires count { length blocks.old ≡ 64 * head.now.blocks }
-    requires dc { head.now.depth_dc ≡ depth_dc_of (blocks_in blocks.old) }
-    requires ac { head.now.depth_ac ≡ depth_ac_of (blocks_in blocks.old) }
-    requires marks { marks.old ≡ map pos (block_depths (blocks_in blocks.old)) }
-    ensures encodes { EncodesItems O.sink tables.now.book head.now (blocks_in blocks.old) result (stand O.sink out.old) (stand O.sink out.new) }
-    ensures depths { depths_of marks.new ≡ depths_of marks.old }
-    ensures long { length blocks.new ≡ length blocks.old }
+    requires count { length blocks.old.numbers ≡ 64 * head.now.blocks }
+    requires dc { head.now.depth_dc ≡ depth_dc_of (blocks_in blocks.old.numbers) }
+    requires ac { head.now.depth_ac ≡ depth_ac_of (blocks_in blocks.old.numbers) }
+    ensures encodes { EncodesItems O.sink tables.now.book head.now (blocks_in blocks.old.numbers) result (stand O.sink out.old) (stand O.sink out.new) }
+    ensures most { blocks.new.most ≡ blocks.old.most }
+    ensures numbers { blocks.new.numbers ≡ blocks.old.numbers }
 {
-    put_dc(out, blocks, plan, select_of(head.best_dc))?;
-    put_rest(out, head, blocks, marks, tables)
+    put_dc(out, blocks.masks.dcs(), plan, select_of(head.best_dc))?;
+    put_rest(out, head, blocks, tables)
 }
 
 // Puts the block depths and the planes, if the text does not stop at the DC numbers.
 fn put_rest<O: OctetOut>(
     out: &mut BitOut<O>,
     head: &SegmentHead,
-    blocks: &mut [i32],
-    marks: &mut [i32],
+    blocks: &mut SegmentBlocks,
     tables: &CodeTables,
 ) -> Result<(), PutFault>
     requires fits { IsHead head.now }
     requires open { IsReady O.sink out.old }
-    requires count { length blocks.old ≡ 64 * head.now.blocks }
-    requires dc { head.now.depth_dc ≡ depth_dc_of (blocks_in blocks.old) }
-    requires ac { head.now.depth_ac ≡ depth_ac_of (blocks_in blocks.old) }
-    requires marks { marks.old ≡ map pos (block_depths (blocks_in blocks.old)) }
-    ensures puts { Writes O.sink result out.old out.new (text (coded_rest tables.now.book head.now (blocks_in blocks.old))) }
-    ensures depths { depths_of marks.new ≡ depths_of marks.old }
-    ensures long { length blocks.new ≡ length blocks.old }
+    requires count { length blocks.old.numbers ≡ 64 * head.now.blocks }
+    requires dc { head.now.depth_dc ≡ depth_dc_of (blocks_in blocks.old.numbers) }
+    requires ac { head.now.depth_ac ≡ depth_ac_of (blocks_in blocks.old.numbers) }
+    ensures puts { Writes O.sink result out.old out.new (text (coded_rest tables.now.book head.now (blocks_in blocks.old.numbers))) }
+    ensures most { blocks.new.most ≡ blocks.old.most }
+    ensures numbers { blocks.new.numbers ≡ blocks.old.numbers }
 {
     if head.stop.dc {
         return Ok(());
     }
-    put_depths(out, marks, head.depth_ac, select_of(head.best_ac))?;
-    put_planes(out, head, blocks, marks, tables)
+    reset_marks(&mut blocks.marks);
+    put_depths(out, &blocks.marks, head.depth_ac, select_of(head.best_ac))?;
+    put_planes(out, head, blocks, tables)
 }

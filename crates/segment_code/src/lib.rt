@@ -19,7 +19,7 @@
 //!     &mut marks,
 //!     &profile_book(),
 //! ) {
-//!     Ok(part) => Ok(SegmentBlocks {
+//!     Ok(part) => Ok(ReadBlocks {
 //!         head,
 //!         part,
 //!         numbers,
@@ -29,6 +29,7 @@
 //! ```
 #![tactic(auto)]
 
+mod blocks;
 mod decode;
 mod depths;
 mod encode;
@@ -40,8 +41,8 @@ mod text_in;
 
 ghost use Rattle.segment_code.specs.Laws.{CodedHolds, CodedHoldsExactly, TextsAreShort, ItemsEndThere};
 
+pub use blocks::SegmentBlocks;
 pub use decode::{SegmentFault, SegmentReader, decode_segment};
-pub use depths::segment_depths;
 pub use encode::{SegmentWriter, encode_segment};
 use text_defs::{items_give_all, readings_give_one};
 

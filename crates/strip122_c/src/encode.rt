@@ -5,6 +5,7 @@ ghost use Rattle.plane_defs.specs.Codes.{is_book_sound};
 ghost use Rattle.strip122_c.specs.Lent.{outside_of};
 ghost use Rattle.strip122_c.specs.WholeEncoding.{IsAdmitted, first_refused, HasRun, Encodes, Accepts};
 ghost use Rattle.strip_coder.specs.Answers.{TookRaster};
+ghost use Rattle.strip_coder.specs.Works.{IsMadeFor};
 
 use crate::port::LentPort;
 use base_122::{Field, FieldRange, Setting};
@@ -107,7 +108,20 @@ fn encode(
     let Ok(mut work) = Work::new(alloc, setting) else {
         return Err(EncodeRefusal::Memory);
     };
-    match encode_rows(port, setting, &mut work) {
+    encode_with(port, setting, &mut work)
+}
+
+// Encodes the raster that a port has with a work that was made for the setting.
+fn encode_with(
+    port: &mut LentPort,
+    setting: &Setting,
+    work: &mut Work,
+) -> Result<EncodeDone, EncodeRefusal>
+    requires admitted { IsAdmitted setting.now }
+    requires made { IsMadeFor setting.now work.old }
+    ensures { HasRun setting.now (outside_of port.old) (outside_of port.new) result }
+{
+    match encode_rows(port, setting, work) {
         Ok(done) => Ok(done),
         Err(EncodeFault::Short { octets: _ }) => Err(EncodeRefusal::Short),
         Err(EncodeFault::Long) => Err(EncodeRefusal::Long),

@@ -1,5 +1,5 @@
 -- Blocks are gathered one after another, and segments are written as they become full.
-use Rattle.std.proofs.Common.{◌≡◌, ℕ, ◌+◌, ◌*◌, ◌<◌, ◌≤◌, ℤ, List, [], refl, sym, ap, ◌∙◌, subst, arith, get_or, inl, inr, Result, Ok, Err, IsErr, append-nil}
+use Rattle.std.proofs.Common.{◌≡◌, ℕ, ◌+◌, ◌*◌, ◌<◌, ◌≤◌, ℤ, List, [], length, refl, sym, ap, ◌∙◌, subst, arith, get_or, inl, inr, Result, Ok, Err, IsErr, append-nil}
 use Rattle.std.proofs.lemmas.Bool.{cases_lt}
 use Rattle.std.proofs.lemmas.Bool.Decides.{nat_tests}
 use Rattle.port_122.specs.Outside.{Outside, NoRead}
@@ -17,7 +17,7 @@ use Rattle.space_packets.specs.Progress.{Progress}
 use Rattle.strip_coder.specs.declared.work.Work.{Work}
 use Rattle.strip_coder.specs.declared.work.ImageAt.{ImageAt}
 use Rattle.strip_coder.specs.SegmentsOut.{progress_at}
-use Rattle.strip_coder.specs.Works.{AreSmall, IsMadeFor, KeepsShare, HasGathered, IsFull, HoldsBlocks, gathered_in}
+use Rattle.strip_coder.specs.Works.{IsMadeFor, KeepsShare, HasGathered, IsFull, HoldsBlocks, gathered_in}
 use Rattle.strip_coder.specs.Steps.{PutsBlock, Continues, StopsEarly, NextAre, HasGone, HasBroken, Gathers, PresentOut, PresentCut, WritesPresent}
 use Rattle.strip_coder.proofs.PacketStretches.{goes_then, breaks_then, breaks_more}
 use Rattle.strip_coder.proofs.SegmentSteps.{Rewritten, still_made, share_kept}
@@ -30,18 +30,18 @@ pub record HasPut (old mid : Work) (numbers : List ℤ) : Type 0 where
   pub filled : mid.at.filled ≡ old.at.filled + 1
   pub index : mid.at.index ≡ old.at.index
   pub used : mid.at.used ≡ old.at.used
-  pub puts : PutsBlock old.at.filled old.blocks.items mid.blocks.items numbers
+  pub puts : PutsBlock old.at.filled old.blocks.numbers mid.blocks.numbers numbers
 
-pub put_in : (old mid : Work) (cells xs numbers : List ℤ) → Rewritten old mid → mid.packets ≡ old.packets → mid.at ≡ record { rows = old.at.rows; filled = old.at.filled + 1; index = old.at.index; used = old.at.used } →
-    cells ≡ old.blocks.items → mid.blocks.items ≡ xs → PutsBlock old.at.filled cells xs numbers → HasPut old mid numbers
-put_in old mid cells xs numbers same packets at before after puts = record {
+pub put_in : (old mid : Work) (numbers : List ℤ) → Rewritten old mid → mid.packets ≡ old.packets → mid.at ≡ record { rows = old.at.rows; filled = old.at.filled + 1; index = old.at.index; used = old.at.used } →
+    PutsBlock old.at.filled old.blocks.numbers mid.blocks.numbers numbers → HasPut old mid numbers
+put_in old mid numbers same packets at puts = record {
   same = same;
   packets = packets;
   rows = ap (λ (a : ImageAt). a.rows) at;
   filled = ap (λ (a : ImageAt). a.filled) at;
   index = ap (λ (a : ImageAt). a.index) at;
   used = ap (λ (a : ImageAt). a.used) at;
-  puts = subst (λ ys. PutsBlock old.at.filled old.blocks.items ys numbers) (sym after) (subst (λ ys. PutsBlock old.at.filled ys xs numbers) before puts);
+  puts = puts;
 }
 
 module _ (s : Plan) (range : IsPlan s) where
@@ -68,7 +68,7 @@ module _ (s : Plan) (range : IsPlan s) where
           | inr past ↦
               let e : i ≡ old.at.filled = omega (arith, past, few, filled) in
               let place : gathered_in s old.at + 0 ≡ first_block s.setting.segment old.at.index + i = omega (arith, place_is old lt, e) in
-              ap (block_at mid.blocks.items) e ∙ put.puts.here ∙ sym (next.next 0 (omega arith)) ∙ ap (λ n. get_or all n []) place ∙ sym there
+              ap (block_at mid.blocks.numbers) e ∙ put.puts.here ∙ sym (next.next 0 (omega arith)) ∙ ap (λ n. get_or all n []) place ∙ sym there
         ];
     packets = put.packets ∙ holds.packets ∙ ap (progress_at s all) (sym put.index);
     used = λ some. put.used ∙ holds.used some ∙ ap (used_before (whole s) all) (sym put.index);
@@ -77,8 +77,8 @@ module _ (s : Plan) (range : IsPlan s) where
   put_made : (old mid : Work) (numbers : List ℤ) → HasGathered s old → HasPut old mid numbers → IsMadeFor s.setting mid
   put_made old mid numbers has put = still_made s.setting old mid has.made put.same (ap (λ (v : Progress). v.packet) put.packets)
 
-  put_small : (old mid : Work) (numbers : List ℤ) → HasPut old mid numbers → AreSmall mid.at.filled mid.blocks.items
-  put_small old mid numbers put = subst (λ n. AreSmall n mid.blocks.items) (sym put.filled) put.puts.small
+  put_held : (old mid : Work) (numbers : List ℤ) → HasPut old mid numbers → length mid.blocks.numbers ≡ 64 * mid.at.filled
+  put_held old mid numbers put = put.puts.long ∙ ap (λ n. 64 * n) (sym put.filled)
 
   put_share : (old mid : Work) (numbers : List ℤ) → KeepsShare (whole s) old.at → HasPut old mid numbers → KeepsShare (whole s) mid.at
   put_share old mid numbers share put = share_kept (whole s) old.at mid.at put.index put.used share
@@ -99,7 +99,7 @@ module _ (s : Plan) (range : IsPlan s) where
           index = omega (arith, index, le);
           present = λ h. subst (λ n. mid.at.filled < segment_blocks (total_blocks s.setting.width s.rows) s.setting.segment n) (sym index) part;
           none = λ e. absurd (omega (arith, e, index, lt));
-          small = put_small old mid numbers put;
+          held = put_held old mid numbers put;
           idle = ap (λ (v : Progress). v.stage) put.packets ∙ has.idle;
           texts = ap (λ (v : Progress). v.texts) put.packets ∙ has.texts ∙ sym index;
         };
@@ -126,7 +126,7 @@ module _ (s : Plan) (range : IsPlan s) where
         share = put_share old mid numbers has.share put;
         index = omega (arith, index, lt);
         full = omega (arith, first, filled, before, ge);
-        small = put_small old mid numbers put;
+        held = put_held old mid numbers put;
         idle = ap (λ (v : Progress). v.stage) put.packets ∙ has.idle;
         texts = ap (λ (v : Progress). v.texts) put.packets ∙ has.texts ∙ sym index;
       }

@@ -66,7 +66,7 @@ module _ (s : Setting) (range : IsInRange s) (left_open : s.rows ≡ 0) (rows : 
       index = (let lt = index_below in omega (arith, lt));
       present = λ lt. (let p = part in let f = few in omega (arith, p, f));
       none = λ e. absurd (let lt = index_below in omega (arith, lt, e));
-      small = has.small;
+      held = has.held;
       idle = has.idle;
       texts = has.texts;
     };

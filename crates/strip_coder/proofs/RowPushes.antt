@@ -35,7 +35,6 @@ pub record StripPushed (old new : StripWave) (row : List ℤ) : Type 0 where
 pub record OnlyStrip (old mid : Work) : Type 0 where
   pub row : mid.row ≡ old.row
   pub blocks : mid.blocks ≡ old.blocks
-  pub marks : mid.marks ≡ old.marks
   pub packets : mid.packets ≡ old.packets
   pub writer : mid.writer ≡ old.writer
   pub room : mid.room ≡ old.room
@@ -71,7 +70,6 @@ module _ (s : Plan) (range : IsPlan s) (old mid : Work) (running : IsRunning s o
   mid_made = let made = running.gathered.made in record {
     row = ap (λ v. vec_len v) only.row ∙ made.row;
     blocks = rw only.blocks made.blocks;
-    marks = rw only.marks made.marks;
     strip = pushed.columns ∙ made.strip;
     packet = ap (λ v. v.packet) only.packets ∙ made.packet;
     writer = ap (λ (v : SegmentWriter). v.tables.book) only.writer ∙ made.writer;
@@ -85,7 +83,7 @@ module _ (s : Plan) (range : IsPlan s) (old mid : Work) (running : IsRunning s o
     index = rw only.at has.index;
     present = rw only.at has.present;
     none = rw only.at has.none;
-    small = rw (only.at, only.blocks) has.small;
+    held = rw (only.at, only.blocks) has.held;
     idle = ap (λ v. v.stage) only.packets ∙ has.idle;
     texts = ap (λ v. v.texts) only.packets ∙ has.texts ∙ sym (ap (λ a. a.index) only.at);
   }

@@ -58,7 +58,6 @@ pub record OnlyRow (old mid : Work) : Type 0 where
   pub row : vec_len mid.row ≡ vec_len old.row
   pub strip : mid.strip ≡ old.strip
   pub blocks : mid.blocks ≡ old.blocks
-  pub marks : mid.marks ≡ old.marks
   pub packets : mid.packets ≡ old.packets
   pub writer : mid.writer ≡ old.writer
   pub room : mid.room ≡ old.room
@@ -69,7 +68,6 @@ pub record OnlyCount (mid new : Work) : Type 0 where
   pub strip : new.strip ≡ mid.strip
   pub row : new.row ≡ mid.row
   pub blocks : new.blocks ≡ mid.blocks
-  pub marks : new.marks ≡ mid.marks
   pub packets : new.packets ≡ mid.packets
   pub writer : new.writer ≡ mid.writer
   pub room : new.room ≡ mid.room
@@ -110,7 +108,6 @@ count_running s mid new only run =
         made = record {
           row = ap (λ v. vec_len v) only.row ∙ made.row;
           blocks = rw only.blocks made.blocks;
-          marks = rw only.marks made.marks;
           strip = ap columns_of only.strip ∙ made.strip;
           packet = ap (λ v. v.packet) only.packets ∙ made.packet;
           writer = ap (λ (v : SegmentWriter). v.tables.book) only.writer ∙ made.writer;
@@ -120,7 +117,7 @@ count_running s mid new only run =
         index = rw index has.index;
         present = rw (index, filled) has.present;
         none = rw (index, filled) has.none;
-        small = rw (only.filled, only.blocks) has.small;
+        held = rw (only.filled, only.blocks) has.held;
         idle = ap (λ v. v.stage) only.packets ∙ has.idle;
         texts = ap (λ v. v.texts) only.packets ∙ has.texts ∙ sym index;
       };
@@ -138,7 +135,6 @@ row_running s old mid only run =
         made = record {
           row = only.row ∙ made.row;
           blocks = rw only.blocks made.blocks;
-          marks = rw only.marks made.marks;
           strip = ap columns_of only.strip ∙ made.strip;
           packet = ap (λ v. v.packet) only.packets ∙ made.packet;
           writer = ap (λ (v : SegmentWriter). v.tables.book) only.writer ∙ made.writer;
@@ -148,7 +144,7 @@ row_running s old mid only run =
         index = rw only.at has.index;
         present = rw only.at has.present;
         none = rw only.at has.none;
-        small = rw (only.at, only.blocks) has.small;
+        held = rw (only.at, only.blocks) has.held;
         idle = ap (λ v. v.stage) only.packets ∙ has.idle;
         texts = rw (only.at, only.packets) has.texts;
       };

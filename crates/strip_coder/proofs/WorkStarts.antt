@@ -1,5 +1,6 @@
 -- A work at the start of an image.
-use Rattle.std.proofs.Common.{◌≡◌, ◌≤◌, ◌+◌, ◌-◌, ◌*◌, ℕ, ℤ, List, inl, inr, length, refl, sym, ap, ◌∙◌, arith}
+use Rattle.std.proofs.Common.{◌≡◌, ◌≤◌, ◌+◌, ◌-◌, ◌*◌, ℕ, ℤ, List, [], inl, inr, length, refl, sym, ap, ◌∙◌, arith}
+use Rattle.std.proofs.lemmas.Bool.Decides.{nat_tests}
 use Rattle.strip_coder.specs.Plans.{IsPlan, plan_of, tallest, whole}
 use Rattle.base_122.specs.Ranges.{IsInRange}
 use Rattle.base_122.specs.Sizes.{block_count, total_blocks, first_block}
@@ -16,10 +17,14 @@ use Rattle.stream_defs.proofs.Outputs.{packets_of-none, packets_before-none, use
 use Rattle.strip_coder.specs.declared.work.Work.{Work}
 use Rattle.strip_coder.specs.declared.work.ImageAt.{ImageAt}
 use Rattle.strip_coder.specs.SegmentsOut.{progress_at}
-use Rattle.strip_coder.specs.Works.{IsMadeFor, KeepsShare, IsRunning, RepresentsNone}
+use Rattle.strip_coder.specs.Works.{IsMadeFor, KeepsShare, IsRunning, RepresentsNone, most_blocks}
 use Rattle.strip_coder.proofs.PlanLaws.{tall_plan}
 use Rattle.strip_coder.proofs.SegmentRuns.{same_progress}
 use Rattle.strip_coder.proofs.SettledCounts.{index_settled}
+
+-- no segment has more blocks than the setting says
+pub most_within : (s : Setting) → most_blocks s ≤ s.segment
+most_within s = grind (arith, nat_tests)
 
 -- no segment was written
 pub fresh_progress : (s : Plan) (all : List (List ℤ)) → fresh s.setting.packet ≡ progress_at s all 0
@@ -38,9 +43,9 @@ starts_share s at range index used = record {
 }
 
 -- no block was gathered, and the strip is at its start
-starts_running : (s : Plan) (w : Work) → IsPlan s → IsMadeFor s.setting w → IsAtStart w.strip → w.packets ≡ fresh s.setting.packet →
+starts_running : (s : Plan) (w : Work) → IsPlan s → IsMadeFor s.setting w → IsAtStart w.strip → w.packets ≡ fresh s.setting.packet → w.blocks.numbers ≡ [] →
     w.at ≡ record { rows = 0; filled = 0; index = 0; used = 0 } → IsRunning s w
-starts_running s w range made start packets at =
+starts_running s w range made start packets cleared at =
     let segment = range.in_range.segment in
     let filled : w.at.filled ≡ 0 = ap (λ (a : ImageAt). a.filled) at in
     let index : w.at.index ≡ 0 = ap (λ (a : ImageAt). a.index) at in
@@ -54,7 +59,7 @@ starts_running s w range made start packets at =
             let some = one-le-segment_blocks (total_blocks s.setting.width s.rows) s.setting.segment w.at.index (omega (arith, segment)) lt in
             omega (arith, some, filled);
         none = λ e. filled;
-        small = record { at = λ i lt. absurd (omega (arith, lt, filled)) };
+        held = (let none : length w.blocks.numbers ≡ 0 = ap length cleared in omega (arith, none, filled));
         idle = ap (λ (p : Progress). p.stage) packets;
         texts = ap (λ (p : Progress). p.texts) packets ∙ sym index;
       };
@@ -66,11 +71,11 @@ starts_running s w range made start packets at =
       running = start.running;
     }
 
-pub starts : (s : Setting) (w : Work) → IsInRange s → IsMadeFor s w → IsAtStart w.strip → w.packets ≡ fresh s.packet →
+pub starts : (s : Setting) (w : Work) → IsInRange s → IsMadeFor s w → IsAtStart w.strip → w.packets ≡ fresh s.packet → w.blocks.numbers ≡ [] →
     w.at ≡ record { rows = 0; filled = 0; index = 0; used = 0 } → RepresentsNone s w
-starts s w range made start packets at =
+starts s w range made start packets cleared at =
     let t = plan_of s (tallest s) in
-    let running = starts_running t w (tall_plan s range) made start packets at in
+    let running = starts_running t w (tall_plan s range) made start packets cleared at in
     let filled : w.at.filled ≡ 0 = ap (λ (a : ImageAt). a.filled) at in
     let index : w.at.index ≡ 0 = ap (λ (a : ImageAt). a.index) at in
     record {

@@ -16,17 +16,16 @@ use Rattle.wave_strip.specs.Counts.{settled}
 use Rattle.raster_rows.specs.Pixels.{IsPixel}
 use Rattle.stream_defs.specs.Output.{image_blocks, packets_of, segments_of, tells_last}
 use Rattle.strip_coder.specs.declared.work.Work.{Work}
-use Rattle.strip_coder.specs.Works.{AreSmall, IsMadeFor, HasGathered, IsRunning, HasTaken, HoldsBlocks, StripFollows, FollowsImage, FollowsRows, gathered_in}
+use Rattle.strip_coder.specs.Works.{IsMadeFor, HasGathered, IsRunning, HasTaken, HoldsBlocks, StripFollows, FollowsImage, FollowsRows, gathered_in}
 use Rattle.strip_coder.specs.declared.encode.EncodeDone.{EncodeDone}
 use Rattle.strip_coder.specs.Answers.{DoneFor}
 use Rattle.strip_coder.specs.SegmentsOut.{progress_at}
 
--- one block was put at a place, and those before it are unchanged
+-- one block was added at a place, and those before it are unchanged
 pub record PutsBlock (place : ℕ) (old new numbers : List ℤ) : Type 0 where
   pub before : (i : ℕ) → i < place → block_at new i ≡ block_at old i
   pub here : block_at new place ≡ numbers
-  pub small : AreSmall (place + 1) new
-  pub same : length new ≡ length old
+  pub long : length new ≡ 64 * (place + 1)
 
 -- the strip, the row and the rows taken are as before
 pub record Stays (old new : Work) : Type 0 where

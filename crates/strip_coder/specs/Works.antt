@@ -1,5 +1,5 @@
 -- What a work holds, and which images it follows.
-use Rattle.std.specs.Prelude.{◌≡◌, ◌≢◌, ◌<◌, ◌≤◌, ◌+◌, ◌-◌, ◌*◌, ◌^◌, ◌==◌, if◌then◌else◌, ℕ, ℤ, pos, min, List, [], false, vec_len, slice_index_or, unsigned_abs}
+use Rattle.std.specs.Prelude.{◌≡◌, ◌≢◌, ◌<◌, ◌≤◌, ◌+◌, ◌-◌, ◌*◌, ◌==◌, if◌then◌else◌, ℕ, ℤ, min, List, [], false, length, vec_len, slice_index_or}
 use Rattle.base_122.specs.Sizes.{block_count, padded_size, total_blocks, first_block, segment_blocks, sample_need}
 use Rattle.base_122.specs.declared.setting.Setting.{Setting}
 use Rattle.strip_coder.specs.declared.plan.Plan.{Plan}
@@ -8,6 +8,7 @@ use Rattle.wave_defs.specs.Held.{SameWithin, block_at}
 use Rattle.wave_strip.specs.Strip.{rows_of, answered_of, columns_of, has_ended, Follows}
 use Rattle.wave_strip.specs.Counts.{settled}
 use Rattle.wave_strip.specs.Samples.{samples_of as strip_samples}
+use Rattle.segment_code.specs.HeldBlocks.{samples_for}
 use Rattle.space_packets.specs.declared.stage.PacketiserState.TheVariants.{Idle}
 use Rattle.stream_defs.specs.Output.{image_blocks, segments_of, used_before, tells_last}
 use Rattle.stream_defs.specs.Settled.{settled as settled_segments}
@@ -23,13 +24,12 @@ most_blocks s = if s.rows == 0 then s.segment else segment_blocks (total_blocks 
 
 -- the samples of all its lists
 abbrev pub samples_of : Work → ℕ
-samples_of w = strip_samples w.strip + (vec_len w.row + vec_len w.blocks + vec_len w.marks)
+samples_of w = strip_samples w.strip + vec_len w.row + samples_for w.blocks.most
 
 -- a work was made for this setting: it has room for its segments, and writes them with its code book
 pub record IsMadeFor (s : Setting) (w : Work) : Type 0 where
   pub row : vec_len w.row ≡ padded_size s.width
-  pub blocks : 64 * most_blocks s ≤ vec_len w.blocks
-  pub marks : most_blocks s ≤ vec_len w.marks
+  pub blocks : most_blocks s ≤ w.blocks.most
   pub strip : columns_of w.strip ≡ block_count s.width
   pub packet : w.packets.packet ≡ s.packet
   pub writer : w.writer.tables.book ≡ s.book
@@ -45,10 +45,6 @@ pub record KeepsShare (s : Setting) (at : ImageAt) : Type 0 where
 abbrev pub gathered_in : Plan → ImageAt → ℕ
 gathered_in s at = min (first_block s.setting.segment at.index) (total_blocks s.setting.width s.rows) + at.filled
 
--- the numbers of the first n blocks are below 2 ^ 27 in magnitude
-pub record AreSmall (n : ℕ) (cells : List ℤ) : Type 0 where
-  pub at : (i : ℕ) → i < 64 * n → unsigned_abs (slice_index_or cells i (pos 0)) < 2 ^ 27
-
 -- Some blocks of an image were gathered: the present segment isn't full, and no text is begun.
 pub record HasGathered (s : Plan) (w : Work) : Type 0 where
   pub made : IsMadeFor s.setting w
@@ -56,7 +52,7 @@ pub record HasGathered (s : Plan) (w : Work) : Type 0 where
   pub index : w.at.index ≤ segments_of (whole s)
   pub present : w.at.index < segments_of (whole s) → w.at.filled < segment_blocks (total_blocks s.setting.width s.rows) s.setting.segment w.at.index
   pub none : w.at.index ≡ segments_of (whole s) → w.at.filled ≡ 0
-  pub small : AreSmall w.at.filled w.blocks.items
+  pub held : length w.blocks.numbers ≡ 64 * w.at.filled
   pub idle : w.packets.stage ≡ Idle
   pub texts : w.packets.texts ≡ w.at.index
 
@@ -66,7 +62,7 @@ pub record IsFull (s : Plan) (w : Work) : Type 0 where
   pub share : KeepsShare (whole s) w.at
   pub index : w.at.index < segments_of (whole s)
   pub full : w.at.filled ≡ segment_blocks (total_blocks s.setting.width s.rows) s.setting.segment w.at.index
-  pub small : AreSmall w.at.filled w.blocks.items
+  pub held : length w.blocks.numbers ≡ 64 * w.at.filled
   pub idle : w.packets.stage ≡ Idle
   pub texts : w.packets.texts ≡ w.at.index
 
@@ -89,7 +85,7 @@ pub record HasTaken (s : Plan) (k : ℕ) (w : Work) : Type 0 where
 -- The present segment has its first blocks of these, and the packets of all segments before it were written, and nothing else. If
 -- there is a bound on all coded segments, the octets of these are counted.
 pub record HoldsBlocks (s : Plan) (all : List (List ℤ)) (w : Work) : Type 0 where
-  pub blocks : (i : ℕ) → i < w.at.filled → block_at w.blocks.items i ≡ slice_index_or all (first_block s.setting.segment w.at.index + i) []
+  pub blocks : (i : ℕ) → i < w.at.filled → block_at w.blocks.numbers i ≡ slice_index_or all (first_block s.setting.segment w.at.index + i) []
   pub packets : w.packets ≡ progress_at s all w.at.index
   pub used : s.setting.total ≢ 0 → w.at.used ≡ used_before (whole s) all w.at.index
 

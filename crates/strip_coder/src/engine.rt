@@ -27,6 +27,7 @@ pub fn start_image(setting: &Setting, work: &mut Work)
 {
     work.strip.reset();
     work.packets.reset();
+    work.blocks.clear();
     work.at = ImageAt {
         rows: 0,
         filled: 0,

@@ -3,7 +3,6 @@ ghost use Rattle.std.specs.Prelude.{◌≡◌, ◌≤◌, ◌<◌, ◌-◌, ◌*
 ghost use Rattle.wave_defs.specs.Held.{blocks_in};
 ghost use Rattle.space_packets.specs.Writes.{TextOut, TextCut};
 ghost use Rattle.space_packets.specs.declared.stage.PacketiserState.TheVariants.{Idle};
-ghost use Rattle.segment_code.specs.Numbers.{AreBounded};
 ghost use Rattle.strip_coder.specs.SegmentsOut.{text_of, text_for};
 ghost use Rattle.base_122.specs.Sizes.{padded_size};
 ghost use Rattle.strip_coder.specs.Plans.{IsPlan, whole};
@@ -14,7 +13,7 @@ use crate::plan::Plan;
 use crate::work::ImageAt;
 use base_122::{FieldRange, Select, Setting, Stop};
 use port_122::{Failed, Port};
-use segment_code::{SegmentWriter, segment_depths};
+use segment_code::{SegmentBlocks, SegmentWriter};
 use segment_head::{ImagePart, SegmentHead};
 use space_packets::{Ancillary, Packetiser};
 
@@ -23,8 +22,7 @@ pub fn write_segment<X: Port>(
     port: &mut X,
     plan: &Plan,
     at: &ImageAt,
-    blocks: &mut [i32],
-    marks: &mut [i32],
+    blocks: &mut SegmentBlocks,
     packets: &mut Packetiser,
     writer: &SegmentWriter,
 ) -> Result<u64, Failed>
@@ -32,31 +30,30 @@ pub fn write_segment<X: Port>(
     requires book { writer.now.tables.book ≡ plan.now.setting.book }
     requires index { at.now.index < segments_of (whole plan.now) }
     requires share { KeepsShare (whole plan.now) at.now }
-    requires some { 1 ≤ length marks.old }
-    requires most { length marks.old ≤ 1048575 }
-    requires blocks { length blocks.old ≡ 64 * length marks.old }
-    requires bounded { AreBounded blocks.old }
+    requires some { 64 ≤ length blocks.old.numbers }
+    requires most { length blocks.old.numbers ≤ 64 * 1048575 }
     requires packet { packets.old.packet ≡ plan.now.setting.packet }
     requires idle { packets.old.stage ≡ Idle }
     requires texts { packets.old.texts < 2 ^ 28 }
-    ensures { MatchResult result
-        (λ octets. TextOut (text_of plan.now at.now.index) (X.outside port.old) (X.outside port.new) packets.old packets.new (text_for plan.now at.now.index at.now.used (blocks_in blocks.old))
-        × (octets ≡ length (text_for plan.now at.now.index at.now.used (blocks_in blocks.old))))
-        (λ _. TextCut (text_of plan.now at.now.index) (X.outside port.old) (X.outside port.new) packets.old packets.new (text_for plan.now at.now.index at.now.used (blocks_in blocks.old))) }
+    ensures text { MatchResult result
+        (λ octets. TextOut (text_of plan.now at.now.index) (X.outside port.old) (X.outside port.new) packets.old packets.new (text_for plan.now at.now.index at.now.used (blocks_in blocks.old.numbers))
+        × (octets ≡ length (text_for plan.now at.now.index at.now.used (blocks_in blocks.old.numbers))))
+        (λ _. TextCut (text_of plan.now at.now.index) (X.outside port.old) (X.outside port.new) packets.old packets.new (text_for plan.now at.now.index at.now.used (blocks_in blocks.old.numbers))) }
+    ensures most { blocks.new.most ≡ blocks.old.most }
 {
-    let (depth_dc, depth_ac) = segment_depths(blocks, marks);
+    let (depth_dc, depth_ac) = blocks.depths();
     let limit = share(plan, at);
     let head = make_head(
         plan,
         at.index,
         limit,
-        marks.len() as u32,
+        blocks.len() as u32,
         depth_dc,
         depth_ac,
     );
     packets.begin(plan.setting.apid, ancillary(plan, at.index));
     let mut sink = packets.sink(port);
-    let Ok(octets) = writer.encode(&mut sink, &head, blocks, marks) else {
+    let Ok(octets) = writer.encode(&mut sink, &head, blocks) else {
         return Err(Failed);
     };
     let Ok(()) = packets.close(port) else {

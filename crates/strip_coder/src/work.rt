@@ -5,7 +5,7 @@ ghost use Rattle.wave_strip.specs.Strip.{columns_of};
 use crate::plan::Plan;
 use crate::room::most_blocks;
 use base_122::{Setting, need};
-use segment_code::SegmentWriter;
+use segment_code::{SegmentBlocks, SegmentWriter};
 use space_packets::Packetiser;
 use std::alloc::{AllocError, Global};
 use wave_strip::StripWave;
@@ -20,23 +20,22 @@ pub struct ImageAt {
     pub used: u64,
 }
 
-/// The transform, one padded row, the blocks of one segment with their states, one packet, the writer of segments, and the progress of the
+/// The transform, one padded row, the blocks of one segment, one packet, the writer of segments, and the progress of the
 /// image. All of its samples are at most `room`.
 #[derive(Drop)]
 pub struct Work {
     pub strip: StripWave,
     pub row: Vec<i32>,
-    pub blocks: Vec<i32>,
-    pub marks: Vec<i32>,
+    pub blocks: SegmentBlocks,
     pub packets: Packetiser,
     pub writer: SegmentWriter,
     pub room: u64,
     pub at: ImageAt,
-    ghost within: { 62 * (8 * columns_of strip) + vec_len row + vec_len blocks + vec_len marks ≤ room },
+    ghost within: { 62 * (8 * columns_of strip) + vec_len row + 65 * blocks.most ≤ room },
 }
 
 impl Work {
-    ghost use Rattle.std.specs.Prelude.{◌≡◌, ◌≤◌, ◌*◌, IfOk, IsTrue, vec_len};
+    ghost use Rattle.std.specs.Prelude.{◌≡◌, ◌≤◌, IfOk, IsTrue};
     ghost use Rattle.plane_defs.specs.Codes.{is_book_sound};
     ghost use Rattle.base_122.specs.Ranges.{IsInRange};
     ghost use Rattle.strip_coder.specs.Works.{IsMadeFor, most_blocks, samples_of, RepresentsNone};
@@ -47,23 +46,20 @@ impl Work {
         requires in_range { IsInRange setting.now }
         requires book { IsTrue (is_book_sound setting.now.book) }
         ensures made { IfOk result (IsMadeFor setting.now) }
-        ensures blocks { IfOk result (λ made. vec_len made.blocks ≡ 64 * most_blocks setting.now) }
-        ensures marks { IfOk result (λ made. vec_len made.marks ≡ most_blocks setting.now) }
+        ensures blocks { IfOk result (λ made. made.blocks.most ≡ most_blocks setting.now) }
         ensures start { IfOk result (RepresentsNone setting.now) }
     {
         let geometry = setting.geometry_for(Plan::tallest(setting).rows);
         let width = geometry.padded_width();
         let count = most_blocks(setting) as usize;
         let row = vec![in alloc; 0; width as usize]?;
-        let blocks = vec![in alloc; 0; 64 * count]?;
-        let marks = vec![in alloc; 0; count]?;
+        let blocks = SegmentBlocks::new(alloc, count)?;
         let packets = Packetiser::new(alloc, setting.packet)?;
         let strip = StripWave::new(alloc, width)?;
         Ok(Work {
             strip,
             row,
             blocks,
-            marks,
             packets,
             writer: SegmentWriter::new(&setting.book),
             room: need(setting),
@@ -81,7 +77,6 @@ impl Work {
         ensures value { result ≡ samples_of self.now }
         ensures most { result ≤ self.now.room }
     {
-        let lists = self.row.len() + self.blocks.len() + self.marks.len();
-        self.strip.samples() + lists as u64
+        self.strip.samples() + self.row.len() as u64 + self.blocks.samples()
     }
 }

@@ -1,5 +1,5 @@
 -- The blocks of which the tests read a plane await it.
-use Rattle.std.proofs.Common.{◌≡◌, ℕ, zero, suc, ◌*◌, ◌%◌, ◌^◌, ◌<◌, ◌≤◌, ℤ, pos, List, [], ◌∷◌, refl, sym, subst, ap, ◌∙◌, arith, get_or, replicate, unsigned_abs, pow_pos}
+use Rattle.std.proofs.Common.{◌≡◌, ℕ, zero, suc, ◌+◌, ◌*◌, ◌^◌, ◌<◌, ◌≤◌, ℤ, pos, List, [], ◌∷◌, refl, sym, subst, ap, ◌∙◌, arith, get_or, replicate, unsigned_abs, pow_pos}
 use Rattle.wave_defs.specs.Held.{block_at}
 use Rattle.plane_defs.specs.Sets.{magnitude, shift}
 use Rattle.plane_defs.specs.StepLaws.{IsAc}
@@ -48,38 +48,41 @@ zeros_have_no_acs r p known ac =
 abbrev pub pair : ℤ → ℤ → List ℤ
 pair x y = x ∷ y ∷ replicate 62 (pos 0)
 
--- 4 and a number of magnitude 2 await plane 0
-pub pair_awaits : (x y : ℤ) → unsigned_abs x ≡ 4 → unsigned_abs y ≡ 2 → AwaitsPlane (replicate 10 0) 0 2 2 (pair x y)
-pair_awaits x y four two = record {
+further : (x y : ℤ) (i : ℕ) → magnitude (pair x y) (suc (suc i)) ≡ 0
+further x y i = ap unsigned_abs (same 62 (pos 0) i)
+
+-- they await a plane of which, and of those below it, they have no bit
+pub pair_awaits : (plane first second : ℕ) (x y : ℤ) → unsigned_abs x ≡ 2 ^ (plane + 1) * first → unsigned_abs y ≡ 2 ^ (plane + 1) * second → unsigned_abs y < 4 →
+    AwaitsPlane (replicate 10 0) plane 2 2 (pair x y)
+pair_awaits plane first second x y is_first is_second small = record {
   whole = refl;
   multiple = record { part = magnitude (pair x y); whole = λ p. plain (magnitude (pair x y) p) (shift (replicate 10 0) p) (same 10 0 _) };
   deep = omega arith;
   below = below;
   acs = cleared;
-  dc = λ under. record { part = 2; whole = omega (arith, four) };
+  dc = λ under. record { part = first; whole = is_first };
 }
   where
     plain : (m s : ℕ) → s ≡ 0 → m ≡ 2 ^ s * m
     plain m s none = subst (λ n. m ≡ 2 ^ n * m) (sym none) (omega arith)
 
-    further : (i : ℕ) → magnitude (pair x y) (suc (suc i)) ≡ 0
-    further i = ap unsigned_abs (same 62 (pos 0) i)
-
     below : (p : ℕ) → 1 ≤ p → magnitude (pair x y) p < 2 ^ 2
     below zero first = omega (arith, first)
-    below (suc zero) first = omega (arith, two)
-    below (suc (suc i)) first = (let n = further i in omega (arith, n))
+    below (suc zero) first = omega (arith, small)
+    below (suc (suc i)) first = (let n = further x y i in omega (arith, n))
 
-    cleared : (p : ℕ) → IsAc p → IsCleared 0 (get_or (pair x y) p (pos 0))
+    cleared : (p : ℕ) → IsAc p → IsCleared plane (get_or (pair x y) p (pos 0))
     cleared zero ac = absurd (let first = ac.0 in omega (arith, first))
-    cleared (suc zero) ac = record { part = 1; whole = omega (arith, two) }
-    cleared (suc (suc i)) ac = record { part = 0; whole = further i ∙ omega arith }
+    cleared (suc zero) ac = record { part = second; whole = is_second }
+    cleared (suc (suc i)) ac = record { part = 0; whole = further x y i ∙ omega arith }
 
--- and their magnitudes have three bits
-pub pair_small : (x y : ℤ) → unsigned_abs x ≡ 4 → unsigned_abs y ≡ 2 → (i : ℕ) → magnitude (pair x y) i < 2 ^ 3
-pair_small x y four two zero = omega (arith, four)
-pair_small x y four two (suc zero) = omega (arith, two)
-pair_small x y four two (suc (suc i)) = (let n = ap unsigned_abs (same 62 (pos 0) i) in omega (arith, n))
-
-pub pair_small_ac : (x y : ℤ) → unsigned_abs x ≡ 4 → unsigned_abs y ≡ 2 → (i : ℕ) → (i % 64 ≡ 0 → ⊥) → magnitude (pair x y) i < 2 ^ 27
-pair_small_ac x y four two i other = (let small = pair_small x y four two i in omega (arith, small))
+-- with 0 as the second number it has no AC numbers
+pub first_has_no_acs : (x : ℤ) → HasNoAcs (pair x (pos 0))
+first_has_no_acs x r p known ac =
+    let first : r ≡ 0 = omega (arith, known) in
+    rw first (none p ac)
+  where
+    none : (p : ℕ) → IsAc p → get_or (pair x (pos 0)) p (pos 0) ≡ pos 0
+    none zero ac = absurd (let first = ac.0 in omega (arith, first))
+    none (suc zero) ac = refl
+    none (suc (suc i)) ac = same 62 (pos 0) i

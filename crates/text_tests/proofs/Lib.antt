@@ -1,2 +1,1 @@
 mod Awaiting
-mod Ready

@@ -22,19 +22,19 @@ fn bits_of_plans(rt: HostRuntime) {
     assert_eq!(rt; (plan(12, 8).q(), plan(12, 8).bits()), (5, 7));
 }
 
-// Puts nine blocks of 1,600.
+// Puts nine DCs of 1,600.
 #[tactic(auto, using(bit_pipe::proofs::Putting::open_after))]
 fn put_nine<O: OctetOut>(out: &mut O, select: Select) -> Result<u64, PutFault>
     requires { (O.sink.counts out.old).given ≡ 0 }
 {
-    let blocks = [1600; 576];
+    let dcs = [1600; 9];
     let plan = DcPlan {
         depth_dc: 12,
         depth_ac: 0,
         shift: 3,
     };
     let mut bits = BitOut::new(out, 0, 0);
-    put_dc(&mut bits, &blocks, &plan, select)?;
+    put_dc(&mut bits, &dcs, &plan, select)?;
     Ok(bits.end(1, false)?)
 }
 

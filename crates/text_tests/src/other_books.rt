@@ -1,9 +1,10 @@
 // A segment with the codes of another book than the profile's, worked out by hand.
 use crate::segment_planes::{DIAGONAL, diagonal};
+use crate::segments::segment_of;
 use base_122::Book;
 use bit_pipe::{Part, SliceIn, SliceOut};
 use code_book::check_book;
-use segment_code::{decode_segment, encode_segment, segment_depths};
+use segment_code::{decode_segment, encode_segment};
 use segment_head::read_head;
 use word_codes::profile_book;
 
@@ -24,25 +25,13 @@ fn a_block_is_written_with_its_book(rt: HostRuntime) {
     let book = exchanged();
     assert_eq!(rt; check_book(&book), Ok(()));
     let head = read_head(&DIAGONAL).expect(&rt, "a head");
-    let mut blocks = diagonal();
-    let mut marks = [7];
-    assert!(rt;
-        blocks
-            .iter()
-            .all(|number| number.unsigned_abs() < 134_217_728)
-    );
-    let depths = segment_depths(&blocks, &mut marks);
+    let mut segment = segment_of(&rt, &diagonal());
+    let depths = segment.depths();
     assert_eq!(rt; depths.0, head.depth_dc);
     assert_eq!(rt; depths.1, head.depth_ac);
     assert_eq!(rt; head.blocks, 1);
     let mut octets = [0xaa; 22];
-    let count = encode_segment(
-        &mut SliceOut::new(&mut octets),
-        &head,
-        &mut blocks,
-        &mut marks,
-        &book,
-    );
+    let count = encode_segment(&mut SliceOut::new(&mut octets), &head, &mut segment, &book);
     assert_eq!(rt; count, Ok(21));
     assert!(rt; octets[..19] == DIAGONAL[..19]);
     assert!(rt; octets[19..21] == ITEMS[..]);

@@ -1,22 +1,30 @@
 // Planes of one block, calculated by hand.
 ghost use Rattle.std.specs.Prelude.{◌≡◌, ◌≤◌, length};
-ghost use Rattle.block_masks.specs.Slices.{numbers_in};
-ghost use Rattle.plane_coder.specs.Sliced.{AreSliced, AreAbove};
+ghost use Rattle.block_masks.specs.SegmentNumbers.{AreAbove};
 
 use base_122::Weights;
 use bit_pipe::{BitOut, PutFault, SliceOut};
-use plane_coder::{PlanePlan, put_plane, slice_planes};
+use plane_coder::{CodeTables, GaggleRoom, PlanePlan, PlaneSource, SegmentMasks, put_plane};
+use std::alloc::AllocGlobal;
 use std::process::Abort;
 use word_codes::profile_book;
 
-// Puts the masks of a block in its place: plane `top - 1` can be put first. No magnitude has more than four bits.
-fn slice(rt: &impl Abort, block: &mut [i32; 64], top: u8)
+// Returns the masks of a block: plane `top - 1` can be put first. No magnitude has more than four bits.
+fn masks_of(rt: &(impl Abort + AllocGlobal), block: &[i32; 64], top: u8) -> SegmentMasks
     requires top { top ≤ 4 }
-    ensures sliced { AreSliced block.new }
-    ensures above { AreAbove top block.new }
+    ensures numbers { result.numbers ≡ block.now }
+    ensures above { AreAbove top result }
 {
     assert!(rt; block.iter().all(|number| number.unsigned_abs() < 16));
-    slice_planes(block, 4, top);
+    let mut masks = SegmentMasks::new(rt.alloc(), 1).expect(rt, "memory");
+    masks.push(block, 4);
+    masks.begin(top);
+    masks
+}
+
+// Returns room for the words of a gaggle. A gaggle of one block is not whole, so none of its bits are kept.
+fn room(rt: &(impl Abort + AllocGlobal)) -> GaggleRoom {
+    GaggleRoom::new(rt.alloc(), 1).expect(rt, "memory")
 }
 
 #[test]
@@ -35,8 +43,12 @@ fn one_plane_of_a_block(rt: HostRuntime) {
         weights: Weights { shifts: [0; 10] },
         last: 4,
     };
-    slice(&rt, &mut block, 1);
-    let put = put_plane(&mut out, &mut block, &mut marks, &plan, &profile_book());
+    let (mut masks, tables) = (masks_of(&rt, &block, 1), CodeTables::new(&profile_book()));
+    let source = PlaneSource {
+        plan: &plan,
+        tables: &tables,
+    };
+    let put = put_plane(&mut out, &mut masks, &mut marks, &mut room(&rt), &source);
     assert_eq!(rt; put, Ok(()));
     // DC 1; parents' types 00 as 0 1; flag 1; families' flags 100 as 00 01; children's types 0000 as 00 1;
     // grandchildren's flag 1; quads' flags 0100 as 001; types 0010 as 0001 and sign 0; refinement 1.
@@ -62,8 +74,12 @@ fn only_the_finest_diagonal_band_has_a_bit(rt: HostRuntime) {
     };
     // Only HH1 can have a bit: flags 1, 1 and 1 are raw bits. Then quads' flags 1000 as 00 01, and types 1000
     // as 01, of which the bound lets one bit through.
-    slice(&rt, &mut block, 1);
-    let put = put_plane(&mut out, &mut block, &mut marks, &plan, &profile_book());
+    let (mut masks, tables) = (masks_of(&rt, &block, 1), CodeTables::new(&profile_book()));
+    let source = PlaneSource {
+        plan: &plan,
+        tables: &tables,
+    };
+    let put = put_plane(&mut out, &mut masks, &mut marks, &mut room(&rt), &source);
     assert_eq!(rt; put, Err(PutFault::Stopped));
     assert_eq!(rt; out.end(1, false), Ok(1));
     assert_eq!(rt; octets, [0b1110_0010, 0, 0, 0]);
@@ -81,18 +97,26 @@ fn two_planes_end_a_text(rt: HostRuntime) {
     // The DC's identifier 1 and number 01, the depth's identifier 1 and number 10.
     assert_eq!(rt; out.put_bits(0b10_1110, 6), Ok(()));
     let mut marks = [2];
-    let mut plan = PlanePlan {
+    let plan = PlanePlan {
         plane: 1,
         q: 2,
         weights: Weights { shifts: [0; 10] },
         last: 4,
     };
     // DC 0; parents' types 100 as 00 01 and sign 1; flag 0.
-    slice(&rt, &mut block, 2);
-    let put = put_plane(&mut out, &mut block, &mut marks, &plan, &profile_book());
+    let (mut masks, tables) = (masks_of(&rt, &block, 2), CodeTables::new(&profile_book()));
+    let higher = PlaneSource {
+        plan: &plan,
+        tables: &tables,
+    };
+    let put = put_plane(&mut out, &mut masks, &mut marks, &mut room(&rt), &higher);
     assert_eq!(rt; put, Ok(()));
-    plan.plane = 0;
-    let put = put_plane(&mut out, &mut block, &mut marks, &plan, &profile_book());
+    let lowest = PlanePlan { plane: 0, ..plan };
+    let lower = PlaneSource {
+        plan: &lowest,
+        tables: &tables,
+    };
+    let put = put_plane(&mut out, &mut masks, &mut marks, &mut room(&rt), &lower);
     assert_eq!(rt; put, Ok(()));
     assert_eq!(rt; out.end(1, false), Ok(5));
     assert_eq!(rt; octets, [0xB8, 0x35, 0x89, 0x91, 0x40]);
@@ -115,8 +139,12 @@ fn a_plane_of_one_raw_flag_ends_a_text(rt: HostRuntime) {
         weights: Weights::usual(),
         last: 4,
     };
-    slice(&rt, &mut block, 1);
-    let put = put_plane(&mut out, &mut block, &mut marks, &plan, &profile_book());
+    let (mut masks, tables) = (masks_of(&rt, &block, 1), CodeTables::new(&profile_book()));
+    let source = PlaneSource {
+        plan: &plan,
+        tables: &tables,
+    };
+    let put = put_plane(&mut out, &mut masks, &mut marks, &mut room(&rt), &source);
     assert_eq!(rt; put, Ok(()));
     assert_eq!(rt; out.end(1, false), Ok(2));
     assert_eq!(rt; octets, [0xBE, 0x28]);

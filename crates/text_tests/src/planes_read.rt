@@ -1,5 +1,5 @@
 // Planes of one block from bits.
-ghost use Rattle.std.specs.Prelude.{◌≡◌, ◌<◌, ◌≤◌, ◌+◌, [], ◌∷◌, length};
+ghost use Rattle.std.specs.Prelude.{◌≡◌, ◌<◌, ◌≤◌, ◌+◌, [], ◌∷◌, true, length};
 ghost use Rattle.plane_defs.specs.Marks.{depths_of};
 ghost use Rattle.block_masks.specs.Slices.{numbers_in};
 ghost use Rattle.plane_reader.specs.Above.{AreReady};
@@ -7,7 +7,7 @@ ghost use Rattle.plane_reader.specs.Taken.{AwaitPlane};
 
 use base_122::Weights;
 use bit_pipe::{BitIn, Part, SliceIn, TextFault};
-use plane_coder::{PlanePlan, slice_planes};
+use plane_coder::PlanePlan;
 use plane_reader::{join_numbers, slice_numbers, take_plane};
 use std::process::Abort;
 use word_codes::profile_book;
@@ -27,6 +27,8 @@ fn take(
     requires last { plan.now.last ≤ 4 }
     requires awaits { AwaitPlane plan.now.weights.shifts plan.now.plane plan.now.q (depths_of (mark ∷ [])) (numbers_in cells.old) }
     requires ready { AreReady (plan.now.plane + 1) cells.old }
+    ensures size { length cells.new ≡ length cells.old }
+    ensures ready { AreReady plan.now.plane cells.new }
 {
     let mut source = SliceIn::new(octets);
     let mut input = BitIn::new(&mut source, 0, 0);
@@ -44,20 +46,43 @@ pub(crate) fn aligned(bits: u64, count: usize) -> ([u8; 8], usize, u8)
     (bits.to_be_bytes(), 8 - octets, (8 * octets - count) as u8)
 }
 
-// Reads plane 0 of a block whose planes above gave the DC 4 and the first parent -2.
-fn lowest(bits: u64, count: usize) -> (Result<Part, TextFault>, [i32; 64])
+fn are_same(one: &[i32], other: &[i32]) -> bool
+    ensures { result ≡ true → one.now ≡ other.now }
+{
+    one == other
+}
+
+// Expects that the masks of a block are those of these numbers.
+fn assert_numbers(rt: &impl Abort, cells: &[i32; 64], expected: &[i32; 64])
+    ensures { numbers_in cells.now ≡ expected.now }
+{
+    let mut read = *cells;
+    join_numbers(&mut read);
+    assert!(rt; are_same(&read, expected));
+}
+
+// Reads planes 1 and 0 of a block of depth 2 whose DC part gave 4. Plane 1 gives -2 as the first parent.
+fn lowest(rt: &impl Abort, bits: u64, count: usize) -> (Result<Part, TextFault>, [i32; 64])
     requires { count ≤ 64 }
 {
-    let plan = PlanePlan {
-        plane: 0,
+    let mut plan = PlanePlan {
+        plane: 1,
         q: 2,
         weights: Weights { shifts: [0; 10] },
         last: 4,
     };
     let mut block = [0; 64];
     block[0] = 4;
-    block[1] = -2;
-    slice_planes(&mut block, 3, 1);
+    slice_numbers(&mut block);
+    // DC 0; parents' types 100 as 00 01 and sign 1; flag 0.
+    let (octets, first, lead) = aligned(0b0_0001_1_0, 7);
+    let higher = take(&octets[first..], lead, &mut block, 2, &plan);
+    assert_eq!(rt; higher, Ok(Part::Whole));
+    let mut expected = [0; 64];
+    expected[0] = 4;
+    expected[1] = -2;
+    assert_numbers(rt, &block, &expected);
+    plan.plane = 0;
     let (octets, first, lead) = aligned(bits, count);
     let result = take(&octets[first..], lead, &mut block, 2, &plan);
     join_numbers(&mut block);
@@ -80,7 +105,7 @@ fn a_plane_cut_after_each_bit(rt: HostRuntime) {
             _ => {}
         }
         let part = if count < 21 { Part::Ended } else { Part::Whole };
-        let (result, block) = lowest(bits >> (21 - count), count);
+        let (result, block) = lowest(&rt, bits >> (21 - count), count);
         assert_eq!(rt; result, Ok(part), "{count} bits");
         assert_eq!(rt; block, expected, "{count} bits");
     }

@@ -20,9 +20,7 @@ pub(crate) fn three_numbers() -> [i32; 64] {
 
 #[test]
 fn all_planes_of_a_block(rt: HostRuntime) {
-    let mut marks = [0];
-    assert_coded(&rt, &THREE_NUMBERS, &mut three_numbers(), &mut marks);
-    assert_eq!(rt; marks[0] & 31, 2);
+    assert_coded(&rt, &THREE_NUMBERS, &three_numbers());
 }
 
 #[test]
@@ -30,7 +28,7 @@ fn stopped_at_the_dc(rt: HostRuntime) {
     let mut text = THREE_NUMBERS;
     text[6] = 0x10;
     text[19] = 0b1010_0000;
-    assert_coded(&rt, &text[..20], &mut three_numbers(), &mut [0]);
+    assert_coded(&rt, &text[..20], &three_numbers());
 }
 
 #[test]
@@ -38,14 +36,14 @@ fn stopped_in_the_higher_plane(rt: HostRuntime) {
     let mut text = THREE_NUMBERS;
     text[7] = 0xe0;
     text[20] = 0b0011_0000;
-    assert_coded(&rt, &text[..21], &mut three_numbers(), &mut [0]);
+    assert_coded(&rt, &text[..21], &three_numbers());
 }
 
 #[test]
 fn stopped_above_all_planes(rt: HostRuntime) {
     let mut text = THREE_NUMBERS;
     text[6] = 0x01;
-    assert_coded(&rt, &text[..20], &mut three_numbers(), &mut [0]);
+    assert_coded(&rt, &text[..20], &three_numbers());
 }
 
 // One block with the usual weights: DC 8, and 1 in the band HH1 alone of which plane 0 has bits.
@@ -63,7 +61,7 @@ pub(crate) fn diagonal() -> [i32; 64] {
 
 #[test]
 fn only_the_finest_diagonal_band(rt: HostRuntime) {
-    assert_coded(&rt, &DIAGONAL, &mut diagonal(), &mut [0]);
+    assert_coded(&rt, &DIAGONAL, &diagonal());
 }
 
 #[test]
@@ -71,7 +69,7 @@ fn stopped_after_stage_2(rt: HostRuntime) {
     let mut text = DIAGONAL;
     text[7] = 0x20;
     text[19] = 0xbc;
-    assert_coded(&rt, &text[..20], &mut diagonal(), &mut [0]);
+    assert_coded(&rt, &text[..20], &diagonal());
 }
 
 // Returns the text of the three numbers up to a stop, with code words of `word` octets.
@@ -117,7 +115,7 @@ fn each_stop_with_each_code_word(rt: HostRuntime) {
         for word in 1..5u8 {
             let text = stopped_text(plane, stage, word, &items);
             let length = padded_length(word, octets);
-            assert_coded(&rt, &text[..length], &mut three_numbers(), &mut [0]);
+            assert_coded(&rt, &text[..length], &three_numbers());
         }
     }
 }
@@ -144,7 +142,7 @@ fn cut_between_two_items(rt: HostRuntime) {
         0xd7, 0xd8, 0xc8, 0x88, 0x88, 0x88, 0x88, 0x88, 0x88, 0x88, 0x88, 0x88, 0x88,
     ];
     let text = limited_text([0x09, 0xb7], &items);
-    assert_coded(&rt, &text, &mut block, &mut [0]);
+    assert_coded(&rt, &text, &block);
 }
 
 #[test]
@@ -157,7 +155,7 @@ fn cut_within_an_item(rt: HostRuntime) {
     block[4] = 32;
     let items = [0xd7, 0xd8, 0xc4, 0, 0, 0, 0, 0, 0, 0, 0, 0, 0x02];
     let text = limited_text([0x09, 0xb7], &items);
-    assert_coded(&rt, &text, &mut block, &mut [0]);
+    assert_coded(&rt, &text, &block);
 }
 
 #[test]
@@ -170,5 +168,5 @@ fn a_limit_at_the_end_of_the_text(rt: HostRuntime) {
         0xd7, 0xa8, 0xc8, 0x88, 0x88, 0x88, 0x88, 0x88, 0x88, 0x88, 0x88, 0x89, 0x40,
     ];
     let text = limited_text([0x09, 0x57], &items);
-    assert_coded(&rt, &text, &mut block, &mut [0]);
+    assert_coded(&rt, &text, &block);
 }

@@ -1,57 +1,49 @@
 // Segments whose texts were calculated by hand.
-ghost use Rattle.std.specs.Prelude.{◌≡◌, ◌≤◌, ◌*◌, length, map, pos};
-ghost use Rattle.wave_defs.specs.Held.{blocks_in};
-ghost use Rattle.segment_defs.specs.Depths.{block_depths, depth_dc_of, depth_ac_of};
+ghost use Rattle.std.specs.Prelude.{◌≡◌, ◌≤◌, ◌*◌, ◌/◌, ◌%◌, length};
 
 use bit_pipe::SliceOut;
-use segment_code::{encode_segment, segment_depths};
+use segment_code::{SegmentBlocks, encode_segment};
 use segment_head::read_head;
+use std::alloc::AllocGlobal;
 use std::process::Abort;
 use word_codes::profile_book;
 
-fn depths_of(rt: &impl Abort, blocks: &[i32], marks: &mut [i32]) -> (u8, u8)
-    requires count { length blocks.now ≡ 64 * length marks.old }
-    requires some { 1 ≤ length marks.old }
-    requires most { length marks.old ≤ 100 }
-    ensures dc { result.0 ≡ depth_dc_of (blocks_in blocks.now) }
-    ensures ac { result.1 ≡ depth_ac_of (blocks_in blocks.now) }
-    ensures marks { marks.new ≡ map pos (block_depths (blocks_in blocks.now)) }
+// Returns the blocks of a segment with these numbers.
+pub(crate) fn segment_of(rt: &(impl Abort + AllocGlobal), numbers: &[i32]) -> SegmentBlocks
+    requires whole { length numbers.now % 64 ≡ 0 }
+    requires most { length numbers.now ≤ 6400 }
+    ensures numbers { result.numbers ≡ numbers.now }
 {
-    assert!(rt;
-        blocks
-            .iter()
-            .all(|number| number.unsigned_abs() < 134_217_728)
-    );
-    segment_depths(blocks, marks)
+    let count = numbers.len() / 64;
+    let mut segment = SegmentBlocks::new(rt.alloc(), count).expect(rt, "memory");
+    for r in 0..count {
+        let block = &numbers[64 * r..64 * r + 64];
+        assert!(rt;
+            block
+                .iter()
+                .all(|number| number.unsigned_abs() < 134_217_728)
+        );
+        segment.push(block);
+    }
+    segment
 }
 
 // Encodes blocks under the head with which these octets begin.
-fn encode(
-    rt: &impl Abort,
-    octets: &[u8],
-    blocks: &mut [i32],
-    marks: &mut [i32],
-    into: &mut [u8],
-) -> u64
-    requires count { length blocks.old ≡ 64 * length marks.old }
-    requires some { 1 ≤ length marks.old }
-    requires most { length marks.old ≤ 100 }
+fn encode(rt: &(impl Abort + AllocGlobal), octets: &[u8], numbers: &[i32], into: &mut [u8]) -> u64
+    requires whole { length numbers.now % 64 ≡ 0 }
+    requires some { 64 ≤ length numbers.now }
+    requires most { length numbers.now ≤ 6400 }
 {
-    assert!(rt;
-        blocks
-            .iter()
-            .all(|number| number.unsigned_abs() < 134_217_728)
-    );
+    let mut segment = segment_of(rt, numbers);
     let head = read_head(octets).expect(rt, "a head");
-    let depths = segment_depths(blocks, marks);
+    let depths = segment.depths();
     assert_eq!(rt; depths.0, head.depth_dc);
     assert_eq!(rt; depths.1, head.depth_ac);
-    assert_eq!(rt; head.blocks, marks.len() as u32);
+    assert_eq!(rt; head.blocks, segment.len() as u32);
     encode_segment(
         &mut SliceOut::new(into),
         &head,
-        blocks,
-        marks,
+        &mut segment,
         &profile_book(),
     )
     .expect(rt, "room")
@@ -73,45 +65,31 @@ pub(crate) fn flat_blocks() -> [i32; 576] {
 
 #[test]
 fn flat_image(rt: HostRuntime) {
-    let mut blocks = flat_blocks();
-    let mut marks = [7; 9];
     let mut octets = [0xaa; 24];
-    assert_eq!(rt;
-        encode(&rt, &FLAT, &mut blocks, &mut marks, &mut octets),
-        23
-    );
+    assert_eq!(rt; encode(&rt, &FLAT, &flat_blocks(), &mut octets), 23);
     let mut text = [0xaa; 24];
     text[..23].copy_from_slice(&FLAT);
     assert_eq!(rt; octets, text);
-    assert_eq!(rt; marks, [0; 9]);
 }
 
 #[test]
 fn words_of_four_octets(rt: HostRuntime) {
-    let mut blocks = flat_blocks();
     let mut text = [0; 24];
     text[..23].copy_from_slice(&FLAT);
     text[15] = 0x16;
     let mut octets = [0xaa; 24];
-    assert_eq!(rt;
-        encode(&rt, &text, &mut blocks, &mut [0; 9], &mut octets),
-        24
-    );
+    assert_eq!(rt; encode(&rt, &text, &flat_blocks(), &mut octets), 24);
     assert_eq!(rt; octets, text);
 }
 
 #[test]
 fn filled_to_the_limit(rt: HostRuntime) {
-    let mut blocks = flat_blocks();
     let mut text = [0; 64];
     text[..23].copy_from_slice(&FLAT);
     text[6] = 0x08;
     text[8] = 0x70;
     let mut octets = [0xaa; 64];
-    assert_eq!(rt;
-        encode(&rt, &text, &mut blocks, &mut [0; 9], &mut octets),
-        64
-    );
+    assert_eq!(rt; encode(&rt, &text, &flat_blocks(), &mut octets), 64);
     assert_eq!(rt; octets, text);
 }
 
@@ -128,10 +106,7 @@ fn cut_at_the_limit(rt: HostRuntime) {
         blocks[64 * i] = if i % 2 == 0 { 1600 } else { -1600 };
     }
     let mut octets = [0xaa; 33];
-    assert_eq!(rt;
-        encode(&rt, &CUT, &mut blocks, &mut [0; 16], &mut octets),
-        32
-    );
+    assert_eq!(rt; encode(&rt, &CUT, &blocks, &mut octets), 32);
     let mut text = [0xaa; 33];
     text[..32].copy_from_slice(&CUT);
     assert_eq!(rt; octets, text);
@@ -143,20 +118,18 @@ fn depths_of_two_blocks(rt: HostRuntime) {
     blocks[0] = -4;
     blocks[64] = 3;
     blocks[64 + 63] = -4;
-    let mut marks = [9; 2];
-    assert_eq!(rt; depths_of(&rt, &blocks, &mut marks), (3, 3));
-    assert_eq!(rt; marks, [0, 3]);
+    assert_eq!(rt; segment_of(&rt, &blocks).depths(), (3, 3));
 }
 
 // Expects that the text is that of its own header and these blocks, and that nothing follows it.
-pub(crate) fn assert_coded(rt: &impl Abort, text: &[u8], blocks: &mut [i32], marks: &mut [i32])
+pub(crate) fn assert_coded(rt: &(impl Abort + AllocGlobal), text: &[u8], numbers: &[i32])
     requires short { length text.now ≤ 63 }
-    requires count { length blocks.old ≡ 64 * length marks.old }
-    requires some { 1 ≤ length marks.old }
-    requires most { length marks.old ≤ 100 }
+    requires whole { length numbers.now % 64 ≡ 0 }
+    requires some { 64 ≤ length numbers.now }
+    requires most { length numbers.now ≤ 6400 }
 {
     let mut octets = [0xaa; 64];
-    let count = encode(rt, text, blocks, marks, &mut octets);
+    let count = encode(rt, text, numbers, &mut octets);
     assert_eq!(rt; count, text.len() as u64);
     assert!(rt; octets.starts_with(text));
     assert_eq!(rt; octets[text.len()], 0xaa);
@@ -174,5 +147,5 @@ fn flat_image_cut_at_the_limit(rt: HostRuntime) {
     for i in 0..100 {
         blocks[64 * i] = 1600;
     }
-    assert_coded(&rt, &LIMITED, &mut blocks, &mut [0; 100]);
+    assert_coded(&rt, &LIMITED, &blocks);
 }

@@ -1,5 +1,5 @@
 -- The word whose code is first in an octet. (This project's own.)
-use Rattle.std.specs.Prelude.{◌≡◌, ◌<◌, ℕ, ◌+◌, ◌-◌, ◌/◌, ◌%◌, ◌^◌, List, [], ◌∷◌, count_ones}
+use Rattle.std.specs.Prelude.{◌≡◌, ◌<◌, ℕ, ◌+◌, ◌-◌, ◌*◌, ◌/◌, ◌%◌, ◌^◌, min, List, count_ones}
 use lib.ListN.{get_or}
 use Rattle.bit_pipe.specs.declared.front.Front.{Front}
 use Rattle.bit_pipe.specs.Fronts.{front_at, first_bits}
@@ -29,9 +29,9 @@ ArePlain n fronts = (octet : ℕ) → octet < 256 → front_at fronts octet ≡ 
 abbrev pub AreSigned : List Front → List ℕ → Type 0
 AreSigned fronts lengths = (octet : ℕ) → octet < 256 → get_or lengths octet 0 ≡ ((front_at fronts octet).len + count_ones (front_at fronts octet).number) % 256
 
--- the index of the first table of words of this number of bits
+-- the index of the first table of words of this number of bits, after one table for no bit and as many as the bits for each greater number
 abbrev pub first_row : ℕ → ℕ
-first_row n = get_or (0 ∷ 1 ∷ 2 ∷ 4 ∷ 7 ∷ []) n 0
+first_row n = n * (n - 1) / 2 + min n 1
 
 -- the index of an option's table
 abbrev pub row_place : (n option : ℕ) → ℕ

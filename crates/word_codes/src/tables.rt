@@ -21,11 +21,11 @@ pub struct WordTables {
     pub book: Book,
     pub(crate) rows: [[Front; 256]; 11],
     // The number of bits of the code of each entry, and of a sign for each 1 of its word.
-    pub(crate) signed: [[u8; 256]; 11],
+    pub(crate) signed_lens: [[u8; 256]; 11],
     ghost sound: { IsTrue (is_book_sound book) },
     ghost told: { (n option : ℕ) → 2 ≤ n → n ≤ 4 → option + 1 < n → AreFronts book n option (slice_index_or rows (row_place n option) []) },
     ghost plain: { (n : ℕ) → n ≤ 4 → ArePlain n (slice_index_or rows (row_place n (n - 1)) []) },
-    ghost told_signed: { (row : ℕ) → row < 11 → AreSigned (slice_index_or rows row []) (slice_index_or signed row []) },
+    ghost signed: { (row : ℕ) → row < 11 → AreSigned (slice_index_or rows row []) (slice_index_or signed_lens row []) },
 }
 
 // Sets the entries of the octets that begin with a code.
@@ -127,14 +127,14 @@ impl WordTables {
             fronts_of(book, 4, 2),
             plain_fronts(4),
         ];
-        let mut signed = [[0; 256]; 11];
+        let mut signed_lens = [[0; 256]; 11];
         for row in 0..11usize {
-            signed[row] = signed_lengths(&rows[row]);
+            signed_lens[row] = signed_lengths(&rows[row]);
         }
         WordTables {
             book: *book,
             rows,
-            signed,
+            signed_lens,
         }
     }
 }

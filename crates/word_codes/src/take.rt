@@ -90,7 +90,7 @@ pub fn take_word_by<I: OctetIn>(
 pub struct FirstWord {
     pub number: u8,
     pub len: u8,
-    pub signed: u8,
+    pub signed_len: u8,
 }
 
 /// Returns the word of at most 4 bits whose code is first in a window of the next bits, the first highest (docs/formats.md, "Words and
@@ -106,7 +106,7 @@ pub fn first_word(tables: &WordTables, option: u8, length: u8, window: u64) -> F
     ensures few { result.len ≤ 8 }
     ensures none { length ≡ 0 → result.len ≡ 0 }
     ensures first { 1 ≤ length → item_bits (word_item tables.now.book length option result.number) ≡ first_of result.len window }
-    ensures signed { result.signed ≡ result.len + count_ones result.number }
+    ensures signed_len { result.signed_len ≡ result.len + count_ones result.number }
 {
     let row = row_at(length, option);
     let octet = (window >> 56) as usize;
@@ -114,7 +114,7 @@ pub fn first_word(tables: &WordTables, option: u8, length: u8, window: u64) -> F
     FirstWord {
         number: front.number,
         len: front.len,
-        signed: tables.signed[row][octet],
+        signed_len: tables.signed_lens[row][octet],
     }
 }
 

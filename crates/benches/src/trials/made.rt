@@ -3,8 +3,8 @@ ghost use Rattle.std.specs.Prelude.{◌≡◌, ◌≤◌, length};
 
 use crate::pictures::BLOCK;
 use crate::random::Random;
-use crate::texts::{HeadFields, put_text};
-use segment_code::SegmentWriter;
+use crate::texts::{HeadFields, hold, put_text};
+use segment_code::{SegmentBlocks, SegmentWriter};
 
 // The usual weights of the ten bands, two bits each.
 const USUAL: u32 = 0b00_01_01_01_10_10_10_11_11_11;
@@ -89,18 +89,27 @@ fn made_fields(random: &mut Random, depth: u32) -> HeadFields
 }
 
 // Makes a segment of one to four blocks and puts its text into `text`; returns how many octets it has, 0 if it made none.
-pub(crate) fn make_text(writer: &SegmentWriter, random: &mut Random, text: &mut [u8]) -> usize
+pub(crate) fn make_text(
+    writer: &SegmentWriter,
+    random: &mut Random,
+    segment: &mut SegmentBlocks,
+    text: &mut [u8],
+) -> usize
+    requires most { segment.old.most ≡ 4 }
+    ensures most { segment.new.most ≡ 4 }
     ensures within { result ≤ length text.new }
     ensures size { length text.new ≡ length text.old }
 {
     let mut blocks = [0; 256];
-    let mut marks = [0; 4];
     let count = 1 + random.below(4) as usize;
     let depth = random.below(25);
     let fields = made_fields(random, depth);
     let rare = 1 + random.below(30);
     let numbers = &mut blocks[..BLOCK * count];
     fill(random, numbers, fields.weights, depth, rare);
-    let octets = put_text(writer, text, &fields, numbers, &mut marks[..count]);
+    if !hold(segment, numbers) {
+        return 0;
+    }
+    let octets = put_text(writer, text, &fields, segment);
     octets.min(text.len() as u64) as usize
 }

@@ -1,7 +1,8 @@
-use Rattle.std.proofs.Common.{◌≡◌, ◌≤◌, ◌*◌, ◌∙◌, arith, refl, sym, ap}
+use Rattle.std.proofs.Common.{◌≡◌, ◌≤◌, ◌*◌, ◌∙◌, arith, refl, sym, ap, subst, length}
 use Rattle.std.proofs.lemmas.Bool.{false≢true}
 use Rattle.base_122.specs.Sizes.{block_count}
 use Rattle.base_122.proofs.GeometryRanges.{rows_told}
+use Rattle.strip_coder.specs.Works.{most_blocks}
 use Rattle.wave_strip.specs.Counts.{settled}
 use Rattle.wave_strip.specs.Strip.{answered_of}
 use Rattle.bare_stream.proofs.encode.start.Goals as goal
@@ -16,7 +17,7 @@ returns c =
     let answered : block_count s.width * answered_of c.reset.new.self ≡ 0 = ap (λ n. block_count s.width * n) start.answered ∙ omega arith in
     record {
       at = record {
-        made = record { row = made.row; blocks = made.blocks; marks = made.marks; strip = c.reset.ensures.columns ∙ made.strip; packet = made.packet; writer = made.writer; room = made.room };
+        made = record { row = made.row; blocks = subst (λ n. most_blocks s ≤ n) (sym c.clear.ensures.most) made.blocks; strip = c.reset.ensures.columns ∙ made.strip; packet = made.packet; writer = made.writer; room = made.room };
         rows = record {
           taken = sym start.rows;
           most = omega (arith, start.rows);
@@ -29,7 +30,7 @@ returns c =
         count = omega (arith, answered);
         index = omega arith;
         filled = omega arith;
-        small = record { at = λ i lt. absurd (omega (arith, lt)) };
+        held = ap length c.clear.ensures.numbers;
         row = λ all. absurd (omega (arith, all, start.rows, some));
         used = omega arith;
       };

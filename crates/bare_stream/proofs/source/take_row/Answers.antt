@@ -17,7 +17,7 @@ returns-in-Err-clause-row g c start before come =
 
 pub push-requires-clause-at : goal.push-requires-clause-at
 push-requires-clause-at g c =
-    mid_at c.args.setting.now c.requires.bare c.args.work.now _ c.requires.few c.requires.at (record { row = refl; strip = refl; blocks = refl; marks = refl; packets = refl; writer = refl; room = refl; at = refl }) c.requires.at.made.row
+    mid_at c.args.setting.now c.requires.bare c.args.work.now _ c.requires.few c.requires.at (record { row = refl; strip = refl; blocks = refl; packets = refl; writer = refl; room = refl; at = refl }) c.requires.at.made.row
 
 pub push-requires-clause-small : goal.push-requires-clause-small
 push-requires-clause-small g c =
@@ -37,6 +37,6 @@ returns-clause-row g c start before come =
     let long = c.pad_row.auto.row ∙ c.deref_mut-2.ensures.len in
     let holds = row_holds s read.took w.row c.deref_mut.result.now c.read_row.new.into (c.read_row.auto.into ∙ c.deref_mut.ensures.len) read.answer.2 in
     row_come s c.requires.bare before start (g.X.Port.outside c.args.port.now) (g.X.Port.outside c.read_row.new.port) w _ read.took _ c.requires.index c.requires.more c.requires.few come
-    (record { row = refl; strip = refl; blocks = refl; marks = refl; packets = refl; writer = refl; room = refl; at = refl }) read.since read.answer.0 read.answer.1 holds
+    (record { row = refl; strip = refl; blocks = refl; packets = refl; writer = refl; room = refl; at = refl }) read.since read.answer.0 read.answer.1 holds
     (pads s.width (with_items w.row c.read_row.new.into) c.deref_mut-2.result.now c.pad_row.new.row c.deref_mut-2.ensures.value long c.pad_row.ensures)
     (long_as (with_items w.row c.read_row.new.into) c.pad_row.new.row (padded_size s.width) long c.requires.at.made.row) c.requires.at.made.row c.push.result c.push.new.work c.push.ensures

@@ -15,7 +15,7 @@ returns-in_default-row_in-clause-row g c =
     let w = c.args.work.now in
     let read = c.in_default.ensures in
     cuts_row s w.at.rows (g.X.Port.outside c.args.port.now) (g.X.Port.outside c.read_row.new.port) (g.X.Port.outside c.row_in.new.port) w _ c.deref_mut.result.now c.read_row.new.into _ read
-    (record { row = refl; strip = refl; blocks = refl; marks = refl; packets = refl; writer = refl; room = refl; at = refl })
+    (record { row = refl; strip = refl; blocks = refl; packets = refl; writer = refl; room = refl; at = refl })
     (row_holds s read.took w.row c.deref_mut.result.now c.read_row.new.into (c.read_row.auto.into ∙ c.deref_mut.ensures.len) read.answer.2)
     c.row_in.new.work c.requires.in_range c.in_default-row_in.ensures
 
@@ -25,6 +25,6 @@ returns-clause-row g c =
     let w = c.args.work.now in
     let read = c.in_default.ensures in
     takes_row s w.at.rows (g.X.Port.outside c.args.port.now) (g.X.Port.outside c.read_row.new.port) (g.X.Port.outside c.row_in.new.port) w _ c.deref_mut.result.now c.read_row.new.into _ read
-    (record { row = refl; strip = refl; blocks = refl; marks = refl; packets = refl; writer = refl; room = refl; at = refl })
+    (record { row = refl; strip = refl; blocks = refl; packets = refl; writer = refl; room = refl; at = refl })
     (row_holds s read.took w.row c.deref_mut.result.now c.read_row.new.into (c.read_row.auto.into ∙ c.deref_mut.ensures.len) read.answer.2)
     c.row_in.new.work c.in-Ok.ensures

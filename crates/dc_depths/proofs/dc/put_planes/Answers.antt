@@ -1,7 +1,6 @@
 use Rattle.std.proofs.Common.{◌≤◌, ◌<◌, ◌-◌, arith}
 use Rattle.std.proofs.lemmas.Result.{err_from_is_err_and}
 use Rattle.bit_pipe.proofs.Putting.{open_later}
-use Rattle.number_defs.specs.Cells.{strided}
 use Rattle.number_defs.specs.DcPart.{dc_q, dc_planes}
 use Rattle.number_defs.proofs.DcBits.{q_small}
 use Rattle.dc_depths.proofs.Planes.{plane_none, plane_more, plane_ended, planes_all}
@@ -27,7 +26,7 @@ loop-plane-preserved g c =
       within = omega arith;
       more = omega arith;
       is_open = open_later i.is_open p;
-      so_far = plane_more q (strided 64 c.args.blocks.now) (q - plane) (q - (plane - 1)) (plane - 1) (omega arith) (omega arith) i.so_far p;
+      so_far = plane_more q c.args.dcs.now (q - plane) (q - (plane - 1)) (plane - 1) (omega arith) (omega arith) i.so_far p;
     }
 
 pub returns-in_err-put_plane : goal.returns-in_err-put_plane
@@ -40,7 +39,7 @@ returns-in_err-put_plane g c =
     let test : c.max-last.result < plane = c.loop-plane-test.true in
     let p = err_from_is_err_and c.from_residual.result c.from_residual.ensures.1 in
     let last = c.max-last.ensures in
-    rw (p.1, p.2) (plane_ended q (strided 64 c.args.blocks.now) (dc_planes plan.depth_dc plan.depth_ac plan.shift) (q - plane) (plane - 1) (omega (arith, last)) (omega arith) i.so_far c.in_err-put_plane.ensures)
+    rw (p.1, p.2) (plane_ended q c.args.dcs.now (dc_planes plan.depth_dc plan.depth_ac plan.shift) (q - plane) (plane - 1) (omega (arith, last)) (omega arith) i.so_far c.in_err-put_plane.ensures)
 
 pub returns : goal.returns
 returns g c = grind (arith, common_steps, planes_all)

@@ -1,7 +1,6 @@
 use Rattle.std.proofs.Common.{◌≤◌, ◌-◌}
 use Rattle.item_defs.specs.Items.{text}
 use Rattle.bit_pipe.specs.Standing.{stand, IsOpen, Adds}
-use Rattle.number_defs.specs.Cells.{strided}
 use Rattle.number_defs.specs.DcPart.{dc_q, planes_before}
 use Rattle.dc_depths.proofs.dc.put_planes.Given as goal
 
@@ -11,7 +10,7 @@ invariant-loop-plane g l = record {
   more : dc_q l.plan.depth_dc l.plan.depth_ac l.plan.shift - l.plane ≤ dc_q l.plan.depth_dc l.plan.depth_ac l.plan.shift - l.last;
   is_open : IsOpen (stand g.O.OctetOut.sink l.out);
   so_far : Adds g.O.OctetOut.sink (stand g.O.OctetOut.sink l.initial.out) (stand g.O.OctetOut.sink l.out)
-      (text (planes_before (dc_q l.plan.depth_dc l.plan.depth_ac l.plan.shift) (strided 64 l.blocks) (dc_q l.plan.depth_dc l.plan.depth_ac l.plan.shift - l.plane)));
+      (text (planes_before (dc_q l.plan.depth_dc l.plan.depth_ac l.plan.shift) l.dcs (dc_q l.plan.depth_dc l.plan.depth_ac l.plan.shift - l.plane)));
 }
 
 abbrev pub decreases-loop-plane : goal.decreases-loop-plane

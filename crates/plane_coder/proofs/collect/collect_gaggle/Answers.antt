@@ -1,9 +1,9 @@
-use Rattle.std.proofs.Common.{◌≡◌, ◌+◌, ◌*◌, ap, arith}
-use Rattle.plane_defs.specs.Planes.{of_block, gaggle_size}
+use Rattle.std.proofs.Common.{◌≡◌, ◌*◌, arith}
+use Rattle.plane_defs.specs.Planes.{gaggle_size}
 use Rattle.plane_defs.specs.Marks.{depths_of}
 use Rattle.plane_coder.specs.Views.{plane_in}
 use Rattle.block_masks.proofs.Marking.{length-depths_of}
-use Rattle.plane_coder.proofs.Collecting.{collects_same, none_found, more_found, all_found}
+use Rattle.plane_coder.proofs.Collecting.{none_found, more_found, all_found}
 use Rattle.plane_coder.proofs.collect.collect_gaggle.Goals as goal
 
 pub loop-place-init : goal.loop-place-init
@@ -12,8 +12,7 @@ loop-place-init g c = none_found (plane_in c.args.view.now (depths_of c.args.mar
 pub loop-place-preserved : goal.loop-place-preserved
 loop-place-preserved g c =
     let p = plane_in c.args.view.now (depths_of c.args.marks.now) in
-    let at : c.further.result.block ≡ 16 * c.args.g + c.loop-place.place = omega (arith, c.further.ensures.block, c.of-first.ensures.block) in
-    more_found p g.row.WANTED (16 * c.args.g) c.loop-place.place c.loop-place.invariant (collects_same (λ s. ap (of_block p s) at) c.collect_block.ensures)
+    more_found p g.row.WANTED (16 * c.args.g) c.loop-place.place c.loop-place.invariant c.collect_block.ensures
 
 pub returns : goal.returns
 returns g c =

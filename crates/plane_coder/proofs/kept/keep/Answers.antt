@@ -1,27 +1,24 @@
-use Rattle.std.proofs.Common.{◌≡◌, ◌<◌, ◌≤◌, ℕ, refl, ap, sym, ◌∙◌, subst, arith, get_or, get_or-set_same, get_or-set_other}
+use Rattle.std.proofs.Common.{◌≡◌, ◌<◌, ◌≤◌, ℕ, refl, ap, sym, ◌∙◌, subst, arith, set, get_or, get_or-set_same, get_or-set_other}
 use Rattle.block_masks.specs.declared.gaggle.Gaggle.{Gaggle}
 use Rattle.plane_defs.specs.Planes.{before_stage}
 use Rattle.block_masks.specs.Gaggles.{Agrees}
-use Rattle.plane_coder.specs.Kept.{free_masks, octet_in, flags_in, KeepsStage}
-use Rattle.plane_coder.proofs.Keeping.{length-free_masks, only_then}
+use Rattle.plane_coder.specs.Kept.{octet_in, flags_in, KeepsStage}
 use Rattle.plane_coder.proofs.KeptBits.{agrees_next, stage_kept, three_stages}
 use Rattle.plane_coder.proofs.kept.keep.Goals as goal
 
 pub returns-clause-keeps : goal.returns-clause-keeps
 returns-clause-keeps c p g agree has =
-    let b = c.args.first.block in
     let book = c.args.option_codes.now.tables.now.book in
     let options = c.args.gaggle.options in
     let one = c.keep_words-second in
     let two = c.keep_words-third in
     let last = c.keep_words-end in
-    let m3 = free_masks last.new.cells b in
-    let m4 = free_masks c.put_free_mask.new.cells b in
+    let m3 = last.new.free in
     let head = c.head_of.result in
-    let set = c.put_free_mask.ensures.masks in
-    let first : get_or m4 0 0 ≡ head = ap (λ l. get_or l 0 0) set ∙ get_or-set_same m3 0 head 0 (omega (arith, length-free_masks last.new.cells b)) in
+    let m4 = set m3 0 head in
+    let first : get_or m4 0 0 ≡ head = get_or-set_same m3 0 head 0 (omega (arith, last.ensures.whole)) in
     let octets = c.head_of.ensures m4 first in
-    let later : (k : ℕ) → 0 < k → get_or m4 k 0 ≡ get_or m3 k 0 = λ k some. ap (λ l. get_or l k 0) set ∙ get_or-set_other m3 0 k head 0 (λ e. omega (arith, e, some)) in
+    let later : (k : ℕ) → 0 < k → get_or m4 k 0 ≡ get_or m3 k 0 = λ k some. get_or-set_other m3 0 k head 0 (λ e. omega (arith, e, some)) in
     let gaggle = c.new-pending.ensures.gaggle in
     let agree1 : Agrees c.new-pending.result.gaggle.sent (before_stage p 1 g) = subst (λ (h : Gaggle). Agrees h.sent (before_stage p 1 g)) (sym gaggle) agree in
     let agree2 = agrees_next p g 1 one.ensures.keeps agree1 (has.parents refl) in
@@ -41,6 +38,3 @@ returns-clause-keeps c p g agree has =
           (λ k low lt. later k (omega (arith, low, one.ensures.order, two.ensures.order)))
           (octets.ends 1 (omega arith)) (octets.ends 2 (omega arith)) (ap flags_in (octets.flags 2 (omega arith)) ∙ c.octet_of-3.ensures.flags));
     }
-
-pub returns-clause-only : goal.returns-clause-only
-returns-clause-only c = only_then c.keep_words-second.ensures.only (only_then c.keep_words-third.ensures.only (only_then c.keep_words-end.ensures.only c.put_free_mask.ensures.only))

@@ -1,11 +1,11 @@
 use Rattle.std.proofs.Common.{◌≤◌, ◌-◌}
 use Rattle.bit_pipe.specs.Standing.{stand, IsOpen, Adds}
-use Rattle.plane_coder.specs.Kept.{free_masks, bits_between}
+use Rattle.plane_coder.specs.Kept.{bits_between}
 use Rattle.plane_coder.proofs.kept.put_kept.Given as goal
 
 abbrev pub invariant-loop-m : goal.invariant-loop-m
 invariant-loop-m g l = record {
-  so_far : Adds g.O.OctetOut.sink (stand g.O.OctetOut.sink l.initial.out) (stand g.O.OctetOut.sink l.out) (bits_between (free_masks l.cells l.kept.first.block) l.kept.from l.m);
+  so_far : Adds g.O.OctetOut.sink (stand g.O.OctetOut.sink l.initial.out) (stand g.O.OctetOut.sink l.out) (bits_between l.kept.free.now l.kept.from l.m);
   is_open : IsOpen (stand g.O.OctetOut.sink l.out);
   order : l.kept.from ≤ l.m;
   most : l.m - l.kept.from ≤ l.kept.to - l.kept.from;

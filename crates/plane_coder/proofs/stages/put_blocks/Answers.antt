@@ -1,4 +1,4 @@
-use Rattle.std.proofs.Common.{◌≡◌, ◌+◌, ◌*◌, ◌<◌, ap, subst, arith, Ok, flat_map}
+use Rattle.std.proofs.Common.{◌≡◌, ◌*◌, ◌<◌, refl, subst, arith, Ok, flat_map}
 use Rattle.std.proofs.lemmas.Result.{err_from_is_err_and}
 use Rattle.bit_pipe.specs.Standing.{stand}
 use Rattle.plane_defs.specs.Entries.{stage_number}
@@ -21,9 +21,8 @@ loop-place-preserved g c =
     let i = c.loop-place.invariant in
     let f = of_block (plane_in c.args.view.now (depths_of c.args.marks.now)) (stage_number g.row.STAGE) in
     let p = c.in_ok-put_block_at.ensures.spells in
-    let at : c.further.result.block ≡ 16 * c.args.g + c.loop-place.place = omega (arith, c.further.ensures.block, c.of-first.ensures.block) in
     record {
-      so_far = more_spelled f (16 * c.args.g) c.loop-place.place _ (ap f at) i.so_far p;
+      so_far = more_spelled f (16 * c.args.g) c.loop-place.place _ refl i.so_far p;
       is_open = p.is_open;
       silent = c.in_ok-put_block_at.ensures.silent;
     }
@@ -34,9 +33,8 @@ returns-in_err-put_block_at g c =
     let plane = plane_in c.args.view.now (depths_of c.args.marks.now) in
     let below : c.loop-place.place < gaggle_size plane c.args.g = omega (arith, c.min-place-end.ensures, c.loop-place-test.true, length-depths_of c.args.marks.now) in
     let f = of_block plane (stage_number g.row.STAGE) in
-    let at : c.further.result.block ≡ 16 * c.args.g + c.loop-place.place = omega (arith, c.further.ensures.block, c.of-first.ensures.block) in
     rw (p.1, p.2)
-    (spelled_ended f (16 * c.args.g) c.loop-place.place (gaggle_size plane c.args.g) _ below (ap f at) c.loop-place.invariant.so_far c.in_err-put_block_at.ensures.spells)
+    (spelled_ended f (16 * c.args.g) c.loop-place.place (gaggle_size plane c.args.g) _ below refl c.loop-place.invariant.so_far c.in_err-put_block_at.ensures.spells)
 
 pub returns : goal.returns
 returns g c =

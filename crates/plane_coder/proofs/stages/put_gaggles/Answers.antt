@@ -1,11 +1,11 @@
-use Rattle.std.proofs.Common.{◌≡◌, ◌<◌, ◌*◌, ap, ◌∙◌, sym, subst, arith}
+use Rattle.std.proofs.Common.{◌≡◌, ◌<◌, ap, ◌∙◌, sym, subst, arith}
 use Rattle.block_masks.specs.declared.gaggle.Gaggle.{Gaggle}
 use Rattle.std.proofs.lemmas.Result.{err_from_is_err_and}
 use Rattle.std.proofs.lemmas.Grind.{common_steps}
 use Rattle.plane_defs.specs.Planes.{gaggles, gaggle_items, before_stage}
 use Rattle.plane_defs.specs.Marks.{depths_of}
 use Rattle.block_masks.specs.Gaggles.{Agrees, options_at}
-use Rattle.plane_coder.specs.Kept.{free_masks, Keeps}
+use Rattle.plane_coder.specs.Kept.{free_at, Keeps}
 use Rattle.plane_coder.specs.Views.{plane_in}
 use Rattle.block_masks.proofs.Marking.{length-depths_of}
 use Rattle.block_masks.proofs.Marking.{same_marks, same_stored}
@@ -27,7 +27,7 @@ put_gaggle-requires-clause-kept g c full =
     let m1 = c.loop-g.marks in
     let below : c.loop-g.g < gaggles (plane_in view (depths_of m1)) = omega (arith, c.div_ceil-g-end.ensures, c.loop-g-test.true, length-depths_of m1, c.loop-g.invariant.same.whole) in
     let options = ap (λ (h : Gaggle). h.options) c.new-pending.ensures.gaggle ∙ c.load.ensures.options in
-    subst (λ o. Keeps view.tables.now.book o (plane_in view (depths_of m1)) c.loop-g.g (free_masks view.cells.now (16 * c.loop-g.g))) (sym options)
+    subst (λ o. Keeps view.tables.now.book o (plane_in view (depths_of m1)) c.loop-g.g (free_at view.kept.now c.loop-g.g)) (sym options)
     ((kept_moved view view.tables.now.book c.args.marks.now m1 c.loop-g.invariant.same c.requires.bits).at c.loop-g.g below full)
 
 pub loop-g-preserved : goal.loop-g-preserved

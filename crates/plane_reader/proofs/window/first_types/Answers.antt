@@ -26,7 +26,7 @@ pub returns-clause-short : goal.returns-clause-short
 returns-clause-short c =
     let most : c.count_of-count.result ≤ 4 = rw c.count_of-count.ensures (few_ones c.args.due c.requires.due) in
     let low : c.first_word-word.result.number < 16 = omega (arith, c.first_word-word.ensures.fits, pow_mono most) in
-    omega (arith, c.first_word-word.ensures.signed, c.first_word-word.ensures.few, few_ones c.first_word-word.result.number low)
+    omega (arith, c.first_word-word.ensures.signed_len, c.first_word-word.ensures.few, few_ones c.first_word-word.result.number low)
 
 pub returns-clause-none : goal.returns-clause-none
 returns-clause-none c = λ e.
@@ -42,7 +42,7 @@ returns-clause-none c = λ e.
     let no_sign : count_ones c.spread-new.result ≡ 0 = no_ones c.spread-new.result new in
     let whole : bits / 2 ^ (4 - count_ones c.spread-new.result) ≡ 0 = rw no_sign (omega arith) in
     let signs : bits / 2 ^ (4 - count_ones c.spread-new.result) < 2 ^ count_ones c.spread-new.result = rw (whole, no_sign) (omega arith) in
-    (new, (zero_from_ones c.spread_first.result (c.spread_first.ensures.ones signs ∙ no_ones _ whole), omega (arith, w.signed, w.none count, no_ones number zero)))
+    (new, (zero_from_ones c.spread_first.result (c.spread_first.ensures.ones signs ∙ no_ones _ whole), omega (arith, w.signed_len, w.none count, no_ones number zero)))
 
 pub returns-clause-types : goal.returns-clause-types
 returns-clause-types c = λ g told is.
@@ -52,7 +52,7 @@ returns-clause-types c = λ g told is.
     let most : c.count_of-count.result ≤ 4 = rw c.count_of-count.ensures (few_ones c.args.due c.requires.due) in
     let fits : word.number < 2 ^ count_ones c.args.due = subst (λ n. word.number < 2 ^ n) c.count_of-count.ensures w.fits in
     let few : count_ones new ≤ 4 = few_ones new c.spread-new.ensures.small in
-    let len : word.signed ≡ word.len + count_ones new = w.signed ∙ ap (λ n. word.len + n) (sym (c.spread-new.ensures.ones fits)) in
+    let len : word.signed_len ≡ word.len + count_ones new = w.signed_len ∙ ap (λ n. word.len + n) (sym (c.spread-new.ensures.ones fits)) in
     let rest = c.args.window * 2 ^ word.len % 2 ^ 64 in
     record {
       word = word;

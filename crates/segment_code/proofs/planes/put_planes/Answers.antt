@@ -4,40 +4,26 @@ use Rattle.std.proofs.lemmas.Grind.{common_steps}
 use Rattle.wave_defs.specs.Held.{blocks_in}
 use Rattle.bit_pipe.proofs.Putting.{open_later, puts_whole}
 use Rattle.plane_coder.proofs.Sending.{none_put, more_put, put_ended}
-use Rattle.segment_defs.specs.Depths.{block_depths}
 use Rattle.segment_code.specs.Parts.{coded_plane, coded_planes}
 use Rattle.segment_code.proofs.PlaneParts.{planes_ended, no_planes}
-use Rattle.segment_code.proofs.NumberSizes.{all_below, ac_small}
 use Rattle.segment_code.proofs.planes.put_planes.Goals as goal
 
 pub returns-then-head-clause-puts : goal.returns-then-head-clause-puts
-returns-then-head-clause-puts g c = no_planes g.O.OctetOut.sink _ c.args.tables.now.book c.args.head.now (blocks_in c.args.blocks.now) c.requires.«open» c.if-head.true
-
-pub slice_planes-requires-clause-small : goal.slice_planes-requires-clause-small
-slice_planes-requires-clause-small g c = rw c.max.ensures (all_below c.args.blocks.now _ c.requires.count c.args.head.now.depth_dc c.args.head.now.depth_ac c.requires.dc c.requires.ac)
-
-pub slice_planes-requires-clause-small_ac : goal.slice_planes-requires-clause-small_ac
-slice_planes-requires-clause-small_ac g c = ac_small c.args.blocks.now _ c.requires.count c.args.head.now.depth_ac c.requires.fits.depth_ac c.requires.ac
+returns-then-head-clause-puts g c = no_planes g.O.OctetOut.sink _ c.args.tables.now.book c.args.head.now (blocks_in c.args.blocks.now.numbers) c.requires.«open» c.if-head.true
 
 pub loop-n-init : goal.loop-n-init
 loop-n-init g c = grind (arith, common_steps, none_put)
-
-pub put_nth_plane-requires-clause-depths : goal.put_nth_plane-requires-clause-depths
-put_nth_plane-requires-clause-depths g c = c.loop-n.invariant.depths ∙ c.requires.depths ∙ ap (λ b. block_depths (blocks_in b)) (sym c.loop-n.invariant.numbers)
 
 pub loop-n-preserved : goal.loop-n-preserved
 loop-n-preserved g c =
     let i = c.loop-n.invariant in
     let p = c.in_ok-put_nth_plane.ensures in
-    let puts = rw (i.book, i.numbers) at p.puts in
+    let puts = rw i.numbers at p.puts in
     record {
-      so_far = more_put (coded_plane c.args.tables.now.book c.args.head.now (blocks_in c.args.blocks.now)) c.loop-n.n i.so_far puts.ends;
+      so_far = more_put (coded_plane c.args.tables.now.book c.args.head.now (blocks_in c.args.blocks.now.numbers)) c.loop-n.n i.so_far puts.ends;
       is_open = open_later i.is_open puts.ends;
-      depths = p.depths ∙ i.depths;
-      book = p.book ∙ i.book;
-      long = p.long ∙ i.long;
       numbers = p.numbers ∙ i.numbers;
-      sliced = p.sliced;
+      most = p.most ∙ i.most;
       above = p.above;
     }
 
@@ -46,25 +32,25 @@ returns-in_err-put_nth_plane g c =
     let e = err_from_is_err_and c.from_residual.result c.from_residual.ensures.1 in
     let i = c.loop-n.invariant in
     let p = c.in_err-put_nth_plane.ensures in
-    let puts = rw (i.book, i.numbers) at p.puts in
+    let puts = rw i.numbers at p.puts in
     let below : c.loop-n.n < c.args.head.now.depth_ac = omega (arith, c.loop-n-test.true) in
     rw (e.1, e.2) (record {
-      puts = (put_ended (coded_plane c.args.tables.now.book c.args.head.now (blocks_in c.args.blocks.now)) c.loop-n.n c.args.head.now.depth_ac below i.so_far puts);
-      depths = p.depths ∙ i.depths;
-      long = p.long ∙ i.long;
+      puts = (put_ended (coded_plane c.args.tables.now.book c.args.head.now (blocks_in c.args.blocks.now.numbers)) c.loop-n.n c.args.head.now.depth_ac below i.so_far puts);
+      numbers = p.numbers ∙ i.numbers;
+      most = p.most ∙ i.most;
     })
 
 pub returns : goal.returns
 returns g c =
     let i = c.loop-n.invariant in
     let h = c.args.head.now in
-    let blocks = blocks_in c.args.blocks.now in
+    let blocks = blocks_in c.args.blocks.now.numbers in
     let sent : c.loop-n.n ≡ h.depth_ac - h.stop.plane = omega (arith, c.loop-n-test.false, c.loop-n.auto.n-end) in
     let rest : c.loop-n.n + h.stop.plane ≡ h.depth_ac = omega (arith, sent, c.if-head.false) in
     let ended : coded_planes c.args.tables.now.book h blocks h.depth_ac ≡ coded_planes c.args.tables.now.book h blocks c.loop-n.n =
     ap (coded_planes c.args.tables.now.book h blocks) (sym rest) ∙ planes_ended c.args.tables.now.book h blocks c.loop-n.n h.stop.plane (omega (arith, rest)) (omega (arith, rest)) in
     record {
       puts = rw ended (puts_whole i.so_far);
-      depths = i.depths;
-      long = i.long;
+      numbers = i.numbers;
+      most = i.most;
     }

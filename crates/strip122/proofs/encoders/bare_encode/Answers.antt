@@ -10,3 +10,7 @@ returns g c = bare_encode_failed c.args.setting.now _ _ _ c.in-Err.fault c.fault
 pub invariant_of-work-4 : goal.invariant_of-work-4
 invariant_of-work-4 g c =
     let third = c.encode_bare.new.work.strip.third in record { wide = third.wide; long = third.long; room = third.room }
+
+pub invariant_of-work-in-Ok-encode_bare-2 : goal.invariant_of-work-in-Ok-encode_bare-2
+invariant_of-work-in-Ok-encode_bare-2 g c =
+    let third = c.encode_bare.new.work.strip.third in record { wide = third.wide; long = third.long; room = third.room }

@@ -14,7 +14,7 @@ returns-in_err-gather_row g c =
     let w = c.args.work.now in
     let e = c.finish_row-came.ensures in
     finished_broken c.args.plan.now c.requires.in_range w _ c.requires.ending
-    (record { row = refl; blocks = refl; marks = refl; packets = refl; writer = refl; room = refl; at = refl })
+    (record { row = refl; blocks = refl; packets = refl; writer = refl; room = refl; at = refl })
     (row_finished c.finish_row-came.result w.strip c.finish_row-came.new.self c.if-is_none.ensures e.columns e.rows e.answer e.standing e.follows e.shows)
     (g.X.Port.outside c.args.port.now) (g.X.Port.outside c.gather_row.new.port) c.from_residual.result c.gather_row.new.work c.from_residual.ensures.0 c.in_err-gather_row.ensures
 
@@ -23,6 +23,6 @@ returns g c =
     let w = c.args.work.now in
     let e = c.finish_row-came.ensures in
     finished_gone c.args.plan.now c.requires.in_range w _ c.requires.ending
-    (record { row = refl; blocks = refl; marks = refl; packets = refl; writer = refl; room = refl; at = refl })
+    (record { row = refl; blocks = refl; packets = refl; writer = refl; room = refl; at = refl })
     (row_finished c.finish_row-came.result w.strip c.finish_row-came.new.self c.if-is_none.ensures e.columns e.rows e.answer e.standing e.follows e.shows)
     c.gather_row.new.work c.in_ok-gather_row.ensures

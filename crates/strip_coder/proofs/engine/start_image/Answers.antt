@@ -9,11 +9,10 @@ returns-clause-start c =
     starts c.args.setting.now _ c.requires.in_range
     (record {
       row = made.row;
-      blocks = made.blocks;
-      marks = made.marks;
+      blocks = rw c.clear.ensures.most made.blocks;
       strip = c.reset.ensures.columns ∙ made.strip;
       packet = ap (λ (p : Progress). p.packet) c.reset-2.ensures ∙ made.packet;
       writer = made.writer;
       room = made.room;
     })
-    c.reset.ensures.start (c.reset-2.ensures ∙ ap fresh made.packet) refl
+    c.reset.ensures.start (c.reset-2.ensures ∙ ap fresh made.packet) c.clear.ensures.numbers refl

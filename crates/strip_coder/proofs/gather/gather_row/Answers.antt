@@ -1,10 +1,16 @@
 use Rattle.std.proofs.Common.{arith, ◌≡◌, ◌<◌, ◌∙◌, ap}
 use Rattle.std.proofs.lemmas.Grind.{common_steps}
 use Rattle.base_122.specs.Sizes.{block_count}
+use Rattle.base_122.proofs.GeometryRanges.{in_range-image_geometry}
 use Rattle.block_families.specs.Places.{gathered}
 use Rattle.wave_strip.specs.Strip.{number_in, is_standing}
 use Rattle.strip_coder.proofs.GatherSteps.{none_gone, then_gone, then_broken, failed_gathers, more_segments, as_at_first, broken_as_at_first}
 use Rattle.strip_coder.proofs.gather.gather_row.Goals as goal
+
+pub padded_width-columns-requires : goal.padded_width-columns-requires
+padded_width-columns-requires g c =
+    let s = c.args.plan.now in
+    rw c.geometry_for.ensures (in_range-image_geometry s.setting s.rows c.requires.in_range.in_range c.requires.in_range.height.0)
 
 pub loop-column-init : goal.loop-column-init
 loop-column-init g c = none_gone c.args.plan.now c.args.work.now (gathered (number_in c.args.work.now.strip) c.args.plan.now.setting.weights.shifts) c.requires.gathered

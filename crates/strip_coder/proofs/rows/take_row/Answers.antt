@@ -22,8 +22,8 @@ returns-then-ends_here-clause-row g c start come =
     let t = c.requires.taken in
     let long = c.read_row.auto.into ∙ c.deref_mut.ensures.len in
     row_ends s c.requires.in_range w.at.rows start (g.X.Port.outside c.args.port.now) w c.requires.few come _ c.deref_mut.result.now c.read_row.new.into c.in-Err.fault c.in-Err.ensures
-    (sym c.ends_here.ensures ∙ c.if-ends_here.true) (record { row = refl; strip = refl; blocks = refl; marks = refl; packets = refl; writer = refl; room = refl; at = refl })
-    (record { running = row_running _ w _ (record { row = refl; strip = refl; blocks = refl; marks = refl; packets = refl; writer = refl; room = refl; at = refl }) t.running; rows = t.rows; strip_rows = t.strip_rows; index = t.index })
+    (sym c.ends_here.ensures ∙ c.if-ends_here.true) (record { row = refl; strip = refl; blocks = refl; packets = refl; writer = refl; room = refl; at = refl })
+    (record { running = row_running _ w _ (record { row = refl; strip = refl; blocks = refl; packets = refl; writer = refl; room = refl; at = refl }) t.running; rows = t.rows; strip_rows = t.strip_rows; index = t.index })
     (λ j. ap (λ xs. signal xs j) (with_items_is w.row c.read_row.new.into long)) (λ j. ap (λ xs. signal xs j) c.deref_mut.ensures.value)
 
 pub row_in-requires-clause-values : goal.row_in-requires-clause-values
@@ -38,7 +38,7 @@ returns-in_default-row_in-clause-row g c start come =
     let w = c.args.work.now in
     let read = c.in_default.ensures in
     row_breaks_off s c.requires.in_range w.at.rows start (g.X.Port.outside c.args.port.now) w c.requires.few come _ (g.X.Port.outside c.read_row.new.port) read.took read.since
-    (record { row = refl; strip = refl; blocks = refl; marks = refl; packets = refl; writer = refl; room = refl; at = refl }) read.answer.0 read.answer.1
+    (record { row = refl; strip = refl; blocks = refl; packets = refl; writer = refl; room = refl; at = refl }) read.answer.0 read.answer.1
     (row_holds s read.took w.row c.deref_mut.result.now c.read_row.new.into (c.read_row.auto.into ∙ c.deref_mut.ensures.len) read.answer.2)
     c.row_in.new.work c.in_default-row_in.ensures
 
@@ -48,6 +48,6 @@ returns-clause-row g c start come =
     let w = c.args.work.now in
     let read = c.in_default.ensures in
     row_comes s c.requires.in_range w.at.rows start (g.X.Port.outside c.args.port.now) w c.requires.few come _ (g.X.Port.outside c.read_row.new.port) read.took read.since
-    (record { row = refl; strip = refl; blocks = refl; marks = refl; packets = refl; writer = refl; room = refl; at = refl }) read.answer.0 read.answer.1
+    (record { row = refl; strip = refl; blocks = refl; packets = refl; writer = refl; room = refl; at = refl }) read.answer.0 read.answer.1
     (row_holds s read.took w.row c.deref_mut.result.now c.read_row.new.into (c.read_row.auto.into ∙ c.deref_mut.ensures.len) read.answer.2)
     c.row_in.new.work c.in-Ok.ensures

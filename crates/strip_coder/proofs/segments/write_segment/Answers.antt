@@ -56,9 +56,9 @@ some_text s index used cells range = grind (arith, common_steps, coded_some)
 pub encode-requires-clause-fits : goal.encode-requires-clause-fits
 encode-requires-clause-fits g c =
     let s = c.args.plan.now in
-    let depths = c.segment_depths-depth_dc in
-    let long = depths.auto.marks in
-    let said = subst (CanBeSaid (whole s)) (sym c.share-limit.ensures) (share_said s c.args.at.now c.requires.in_range c.requires.share c.requires.index) in
+    let depths = c.depths-depth_dc in
+    let long = c.len.ensures in
+    let said = subst (CanBeSaid (whole s)) (sym {b = share (whole s) c.args.at.now.index c.args.at.now.used} c.share-limit.ensures) (share_said s c.args.at.now c.requires.in_range c.requires.share c.requires.index) in
     rw c.make_head-head.ensures
     (head_is s c.args.at.now.index c.share-limit.result _ depths.result.0 depths.result.1 c.requires.in_range said (omega (arith, c.requires.some, long)) (omega (arith, c.requires.most, long))
     depths.ensures.least_dc depths.ensures.most_dc depths.ensures.most_ac)
@@ -66,18 +66,18 @@ encode-requires-clause-fits g c =
 pub returns-in_default : goal.returns-in_default
 returns-in_default g c =
     let s = c.args.plan.now in
-    let cells = c.args.blocks.now in
+    let cells = c.args.blocks.now.numbers in
     let least : 64 ≤ c.args.packets.now.packet = omega (arith, c.requires.packet, c.requires.in_range.in_range.packet) in
     let begins = c.sink-sink.ensures.same_packets ∙ c.begin.ensures.begun ∙ begun_with s c.args.at.now.index c.args.packets.now c.ancillary.result c.ancillary.ensures in
     let broken = c.in_default.ensures.text in
-    let depths = c.segment_depths-depth_dc in
-    let long : length cells ≡ 64 * length depths.new.marks = omega (arith, c.requires.blocks, depths.auto.marks) in
+    let depths = c.depths-depth_dc in
+    let long : length cells ≡ 64 * c.len.result = sym c.len.ensures in
     let same = made c.args.writer.now.tables.book s c.requires.book c.args.at.now.index c.args.at.now.used c.share-limit.result _ depths.result.0 depths.result.1 c.make_head-head.result cells c.make_head-head.ensures c.share-limit.ensures long depths.ensures.dc depths.ensures.ac in
     let off = sink_breaks_off g.X.Port.outside c.sink-sink.result c.encode.new.out c.args.packets.now (text_of s c.args.at.now.index) c.args.port.now broken.front begins c.sink-sink.ensures.same_port least broken.broke in
     let whole : broken.front ++ broken.more ≡ text_for s c.args.at.now.index c.args.at.now.used (blocks_in cells) = sym broken.parts ∙ same in
     let some : 0 < length (broken.front ++ broken.more) = subst (λ xs. 0 < length xs) (sym whole) (some_text s c.args.at.now.index c.args.at.now.used cells c.requires.in_range) in
     let cut = rw whole at (text_cut c.args.packets.now broken.front broken.more least refl some off) in
-    cut_to g.X.Port.outside _ c.encode.new.out.port.now _ c.encode.new.out.packets.now (search rules) (search rules) cut
+    record { text = cut_to g.X.Port.outside _ c.encode.new.out.port.now _ c.encode.new.out.packets.now (search rules) (search rules) cut; most = c.in_default.ensures.most }
 
 pub close-requires-clause-begun : goal.close-requires-clause-begun
 close-requires-clause-begun g c =
@@ -91,12 +91,12 @@ close-requires-clause-begun g c =
 pub close-requires-clause-some : goal.close-requires-clause-some
 close-requires-clause-some g c =
     let s = c.args.plan.now in
-    let cells = c.args.blocks.now in
+    let cells = c.args.blocks.now.numbers in
     let least : 64 ≤ c.args.packets.now.packet = omega (arith, c.requires.packet, c.requires.in_range.in_range.packet) in
     let begins = c.sink-sink.ensures.same_packets ∙ c.begin.ensures.begun ∙ begun_with s c.args.at.now.index c.args.packets.now c.ancillary.result c.ancillary.ensures in
     let given = c.in-Ok.ensures.text in
-    let depths = c.segment_depths-depth_dc in
-    let long : length cells ≡ 64 * length depths.new.marks = omega (arith, c.requires.blocks, depths.auto.marks) in
+    let depths = c.depths-depth_dc in
+    let long : length cells ≡ 64 * c.len.result = sym c.len.ensures in
     let same = made c.args.writer.now.tables.book s c.requires.book c.args.at.now.index c.args.at.now.used c.share-limit.result _ depths.result.0 depths.result.1 c.make_head-head.result cells c.make_head-head.ensures c.share-limit.ensures long depths.ensures.dc depths.ensures.ac in
     let gave = rw same at given.gave in
     let sent = sink_goes_on g.X.Port.outside c.sink-sink.result c.encode.new.out c.args.packets.now (text_of s c.args.at.now.index) c.args.port.now _ begins c.sink-sink.ensures.same_port least gave in
@@ -106,37 +106,45 @@ close-requires-clause-some g c =
 pub returns-in_default-close : goal.returns-in_default-close
 returns-in_default-close g c =
     let s = c.args.plan.now in
-    let cells = c.args.blocks.now in
+    let cells = c.args.blocks.now.numbers in
     let index = c.args.at.now.index in
     let used = c.args.at.now.used in
     let least : 64 ≤ c.args.packets.now.packet = omega (arith, c.requires.packet, c.requires.in_range.in_range.packet) in
     let begins = c.sink-sink.ensures.same_packets ∙ c.begin.ensures.begun ∙ begun_with s index c.args.packets.now c.ancillary.result c.ancillary.ensures in
     let given = c.in-Ok.ensures.text in
-    let depths = c.segment_depths-depth_dc in
-    let long : length cells ≡ 64 * length depths.new.marks = omega (arith, c.requires.blocks, depths.auto.marks) in
+    let depths = c.depths-depth_dc in
+    let long : length cells ≡ 64 * c.len.result = sym c.len.ensures in
     let same = made c.args.writer.now.tables.book s c.requires.book index used c.share-limit.result _ depths.result.0 depths.result.1 c.make_head-head.result cells c.make_head-head.ensures c.share-limit.ensures long depths.ensures.dc depths.ensures.ac in
     let gave = rw same at given.gave in
     let sent = sink_goes_on g.X.Port.outside c.sink-sink.result c.encode.new.out c.args.packets.now (text_of s index) c.args.port.now _ begins c.sink-sink.ensures.same_port least gave in
-    text_closed {T = Unit {0}} {E = Unit {0}} (Err tt) c.args.packets.now _ c.close.new.self (text_of s index) (text_for s index used (blocks_in cells)) (g.X.Port.outside c.args.port.now) _ (g.X.Port.outside c.close.new.port) least refl
-    (some_text s index used cells c.requires.in_range)
-    (sent_to g.X.Port.outside _ c.encode.new.out.port.now _ c.encode.new.out.packets.now (search rules) (search rules) sent) c.in_default-close.ensures
+    record {
+      text =
+          text_closed {T = Unit {0}} {E = Unit {0}} (Err tt) c.args.packets.now _ c.close.new.self (text_of s index) (text_for s index used (blocks_in cells)) (g.X.Port.outside c.args.port.now) _ (g.X.Port.outside c.close.new.port) least refl
+          (some_text s index used cells c.requires.in_range)
+          (sent_to g.X.Port.outside _ c.encode.new.out.port.now _ c.encode.new.out.packets.now (search rules) (search rules) sent) c.in_default-close.ensures;
+      most = c.in-Ok.ensures.most;
+    }
 
 pub returns : goal.returns
 returns g c =
     let s = c.args.plan.now in
-    let cells = c.args.blocks.now in
+    let cells = c.args.blocks.now.numbers in
     let index = c.args.at.now.index in
     let used = c.args.at.now.used in
     let least : 64 ≤ c.args.packets.now.packet = omega (arith, c.requires.packet, c.requires.in_range.in_range.packet) in
     let begins = c.sink-sink.ensures.same_packets ∙ c.begin.ensures.begun ∙ begun_with s index c.args.packets.now c.ancillary.result c.ancillary.ensures in
     let given = c.in-Ok.ensures.text in
-    let depths = c.segment_depths-depth_dc in
-    let long : length cells ≡ 64 * length depths.new.marks = omega (arith, c.requires.blocks, depths.auto.marks) in
+    let depths = c.depths-depth_dc in
+    let long : length cells ≡ 64 * c.len.result = sym c.len.ensures in
     let same = made c.args.writer.now.tables.book s c.requires.book index used c.share-limit.result _ depths.result.0 depths.result.1 c.make_head-head.result cells c.make_head-head.ensures c.share-limit.ensures long depths.ensures.dc depths.ensures.ac in
     let gave = rw same at given.gave in
-    let sent = sink_goes_on g.X.Port.outside c.sink-sink.result c.encode.new.out c.args.packets.now (text_of s index) c.args.port.now _ begins c.sink-sink.ensures.same_port least gave in (
-      text_closed {T = Unit {0}} {E = Unit {0}} (Ok tt) c.args.packets.now _ c.close.new.self (text_of s index) (text_for s index used (blocks_in cells)) (g.X.Port.outside c.args.port.now) _ (g.X.Port.outside c.close.new.port) least refl
-          (some_text s index used cells c.requires.in_range)
-          (sent_to g.X.Port.outside _ c.encode.new.out.port.now _ c.encode.new.out.packets.now (search rules) (search rules) sent) c.in-Ok-close.ensures,
-      given.count ∙ ap length same,
-    )
+    let sent = sink_goes_on g.X.Port.outside c.sink-sink.result c.encode.new.out c.args.packets.now (text_of s index) c.args.port.now _ begins c.sink-sink.ensures.same_port least gave in
+    record {
+      text = (
+        text_closed {T = Unit {0}} {E = Unit {0}} (Ok tt) c.args.packets.now _ c.close.new.self (text_of s index) (text_for s index used (blocks_in cells)) (g.X.Port.outside c.args.port.now) _ (g.X.Port.outside c.close.new.port) least refl
+            (some_text s index used cells c.requires.in_range)
+            (sent_to g.X.Port.outside _ c.encode.new.out.port.now _ c.encode.new.out.packets.now (search rules) (search rules) sent) c.in-Ok-close.ensures,
+        given.count ∙ ap length same,
+      );
+      most = c.in-Ok.ensures.most;
+    }

@@ -4,12 +4,12 @@ use Rattle.std.proofs.lemmas.List.{get_or-replicate, length-replicate}
 use Rattle.number_defs.specs.Cells.{AreInRange, cell_at}
 use Rattle.text_tests.proofs.dc_and_depths.put_nine.Goals as goal
 
-alike_fit : (n : ℕ) → AreInRange true 9 3 64 (replicate n (pos 1600))
+alike_fit : (n : ℕ) → AreInRange true 9 3 1 (replicate n (pos 1600))
 alike_fit n = record {
   at = λ m within.
-      let same : cell_at 64 (replicate n (pos 1600)) m ≡ pos 1600 = get_or-replicate n (m * 64) (pos 1600) (pos 0) (omega (arith, length-replicate n (pos 1600))) in
+      let same : cell_at 1 (replicate n (pos 1600)) m ≡ pos 1600 = get_or-replicate n (m * 1) (pos 1600) (pos 0) (omega (arith, length-replicate n (pos 1600))) in
       rw same (record { low = omega (arith, ints); high = omega (arith, ints) });
 }
 
 pub put_dc-requires-clause-fit : goal.put_dc-requires-clause-fit
-put_dc-requires-clause-fit g c = alike_fit 576
+put_dc-requires-clause-fit g c = alike_fit 9

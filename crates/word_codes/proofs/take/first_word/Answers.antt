@@ -23,10 +23,10 @@ returns-clause-first c =
     let it = row_first c.args.tables.now c.args.length c.args.option c.row_at-row.result c.args.window c.row_at-row.ensures.value c.requires.long c.requires.none c.requires.known c.ranges.window.fits in
     λ some. it.first some ∙ sym (first_octet front.len c.args.window it.few)
 
-pub returns-clause-signed : goal.returns-clause-signed
-returns-clause-signed c =
+pub returns-clause-signed_len : goal.returns-clause-signed_len
+returns-clause-signed_len c =
     let front = front_at (get_or c.args.tables.now.rows c.row_at-row.result []) (c.args.window / 2 ^ 56) in
     let it = row_first c.args.tables.now c.args.length c.args.option c.row_at-row.result c.args.window c.row_at-row.ensures.value c.requires.long c.requires.none c.requires.known c.ranges.window.fits in
     let most : 2 ^ c.args.length ≤ 2 ^ 4 = pow_mono c.requires.long in
     let ones : count_ones front.number ≤ front.number = ones_le_self front.number in
-    c.args.tables.now.told_signed c.row_at-row.result c.row_at-row.ensures.within (c.args.window / 2 ^ 56) (omega arith) ∙ mod-eq_of_lt (omega (arith, ones, most, it.known, it.few))
+    c.args.tables.now.signed c.row_at-row.result c.row_at-row.ensures.within (c.args.window / 2 ^ 56) (omega arith) ∙ mod-eq_of_lt (omega (arith, ones, most, it.known, it.few))

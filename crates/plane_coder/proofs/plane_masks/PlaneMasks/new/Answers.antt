@@ -1,7 +1,6 @@
 use Rattle.std.proofs.Common.{◌+◌}
 use Rattle.item_defs.specs.Bits.{bit}
 use Rattle.wave_defs.specs.Held.{block_at}
-use Rattle.block_masks.specs.Slices.{numbers_in}
 use Rattle.plane_defs.specs.Sets.{significant, magnitude, coded, type_due}
 use Rattle.block_masks.proofs.LaneMasks.{shows_same}
 use Rattle.block_masks.proofs.Viewing.{reached_is}
@@ -10,7 +9,7 @@ use Rattle.plane_coder.proofs.plane_masks.PlaneMasks.new.Goals as goal
 pub invariant_of-result : goal.invariant_of-result
 unfolding type_due
 invariant_of-result c =
-    let block = block_at (numbers_in c.args.cells.now) c.args.r in
+    let block = block_at c.args.segment.now.numbers c.args.r in
     let plane = c.args.plan.now.plane in
     let v = c.requires.view in
     record {

@@ -4,6 +4,6 @@ use Rattle.word_codes.proofs.tables.WordTables.new.Given as goal
 
 abbrev pub invariant-loop-row : goal.invariant-loop-row
 invariant-loop-row l = record {
-  long : length l.signed ≡ 11;
-  told : (row : ℕ) → row < l.row → AreSigned (get_or l.rows row []) (get_or l.signed row []);
+  long : length l.signed_lens ≡ 11;
+  told : (row : ℕ) → row < l.row → AreSigned (get_or l.rows row []) (get_or l.signed_lens row []);
 }
