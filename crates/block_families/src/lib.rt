@@ -10,6 +10,3 @@ pub use bands::{BandRows, BandSink, BandSource};
 pub use gathering::gather;
 pub use place::{Place, place_of};
 pub use scattering::scatter;
-
-#[cfg(test)]
-mod tests;

@@ -27,8 +27,8 @@ const PLANES: usize = 2;
 const SLOTS: usize = 29;
 
 /// The numbers of the blocks of a segment, 64 for each block, kept as masks of 64 bits: which numbers are negative, which have the bit of a
-/// plane in their magnitude, and which are significant above the plane that is coded next. Only planes in which a number has had a bit have
-/// masks. There is room for a fixed number of blocks.
+/// plane in their magnitude, and which are significant above the plane that is coded next. There are masks of the planes below the greatest
+/// depth with which a block was pushed, and of no others. There is room for a fixed number of blocks.
 #[derive(Drop)]
 pub struct SegmentMasks {
     // The masks, slot by slot, as far as there are slots.

@@ -5,10 +5,6 @@ mod check;
 mod fault;
 mod laws;
 mod read;
-#[cfg(test)]
-mod read_tests;
-#[cfg(test)]
-mod tests;
 
 pub use base_122::{Book, Code};
 pub use check::check_book;

@@ -7,8 +7,6 @@ mod entries;
 mod given;
 mod reading;
 mod tables;
-#[cfg(test)]
-mod tests;
 mod usage;
 mod values;
 

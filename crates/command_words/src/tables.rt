@@ -182,6 +182,11 @@ pub const GROUPS: [(&str, &[Key]); 4] = [
     key_group! { "reading\n": Pixels Octets },
 ];
 
+// The groups have as many keys as there are.
+const _: () = prove!(
+    GROUPS[0].1.len() + GROUPS[1].1.len() + GROUPS[2].1.len() + GROUPS[3].1.len() == COUNT
+);
+
 /// A command's name, what it does, its keys, and its line in the usage text.
 pub type CommandRow = (&'static str, Task, &'static [Key], &'static str);
 

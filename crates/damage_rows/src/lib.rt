@@ -2,8 +2,6 @@
 #![tactic(auto)]
 
 mod damage;
-#[cfg(test)]
-mod tests;
 
 pub use damage::Damage;
 pub use stream_defs::RowRange;

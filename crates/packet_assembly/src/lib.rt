@@ -20,8 +20,6 @@ mod classification;
 mod laws;
 mod note;
 mod packet_steps;
-#[cfg(test)]
-mod tests;
 mod text;
 
 pub use assembly::Assembly;

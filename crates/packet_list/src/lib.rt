@@ -4,8 +4,6 @@
 mod engine;
 mod lines;
 mod list;
-#[cfg(test)]
-mod tests;
 
 pub use engine::list_packets;
 pub use list::{ListDone, ListFault};

@@ -7,6 +7,8 @@ mod budgets;
 #[cfg(test)]
 mod cameras;
 #[cfg(test)]
+mod damage_ranges;
+#[cfg(test)]
 mod encoded;
 #[cfg(test)]
 mod endless;
@@ -19,9 +21,15 @@ mod images;
 #[cfg(test)]
 mod last_heights;
 #[cfg(test)]
+mod lists;
+#[cfg(test)]
 mod looks;
 #[cfg(test)]
+mod open_heights;
+#[cfg(test)]
 mod picks;
+#[cfg(test)]
+mod picture_ends;
 #[cfg(test)]
 mod pictures;
 #[cfg(test)]

@@ -5,8 +5,6 @@
 mod blocks;
 mod picture;
 mod rows;
-#[cfg(test)]
-mod tests;
 
 pub use blocks::{put_block, put_missing};
 pub use picture::{Picture, PictureAt};

@@ -8,8 +8,6 @@ mod port;
 mod retries;
 mod standard;
 mod steady;
-#[cfg(test)]
-mod tests;
 
 pub use memory::MemoryPort;
 pub use pieces::{note_all, write_all};

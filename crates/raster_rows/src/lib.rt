@@ -7,8 +7,6 @@ mod gathered;
 mod made;
 mod padding;
 mod reading;
-#[cfg(test)]
-mod tests;
 mod writing;
 
 pub use end::at_end;

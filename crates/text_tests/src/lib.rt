@@ -1,8 +1,12 @@
-//! Tests of bits, heads, numbers, words and segments, by texts that were calculated by hand.
+//! Tests of code books, bits, heads, numbers, words and segments, by texts that were calculated by hand.
 #![tactic(auto)]
 
 #[cfg(test)]
 mod bits;
+#[cfg(test)]
+mod books;
+#[cfg(test)]
+mod books_read;
 #[cfg(test)]
 mod cuts;
 #[cfg(test)]
