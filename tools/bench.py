@@ -1,5 +1,6 @@
 """Makes pictures, encodes and decodes them, and prints a table of times. tools/bench.sh runs it."""
 
+import argparse
 import math
 import os
 import shutil
@@ -7,9 +8,10 @@ import subprocess
 import sys
 import tempfile
 from array import array
+from dataclasses import dataclass, field
+from pathlib import Path
 
 SIDE = 2048  # the side of the usual picture
-RUNS = 5  # each time is the least of so many, with the greatest beside it
 PIXELS = 1 << 20  # a smaller picture runs several times for one figure
 
 # The lengths of the codes of the six tables of a book.
@@ -100,119 +102,155 @@ def tiled(rows, side):
     return [row * times for row in rows] * times
 
 
-# ---- times
+# ---- lines of the table
 
 
-class Bench:
-    """Runs processes over the files of a folder."""
+@dataclass
+class Process:
+    """A command with its standard input and output."""
 
-    def __init__(self, program, folder):
-        self.program, self.folder = program, folder
+    words: list[str]
+    source: Path = Path(os.devnull)
+    target: Path = Path(os.devnull)
 
-    def path(self, name):
-        return os.path.join(self.folder, name)
-
-    def once(self, words, source, target):
-        """User and system seconds of one process."""
-        streams = [os.open(source, os.O_RDONLY), os.open(target, os.O_WRONLY | os.O_CREAT | os.O_TRUNC, 0o600)]
-        ended = subprocess.Popen(words, stdin=streams[0], stdout=streams[1], stderr=subprocess.PIPE)
-        for it in streams:
-            os.close(it)
-        note = ended.stderr.read()
-        _, status, used = os.wait4(ended.pid, 0)
-        ended.returncode = os.waitstatus_to_exitcode(status)
-        if ended.returncode != 0:
-            sys.exit(f"{' '.join(words)}: status {ended.returncode}: {note.decode(errors='replace')}")
+    def run(self) -> float:
+        """Runs it, and returns its user and system seconds."""
+        with open(self.source, "rb") as source, open(self.target, "wb") as target:
+            process = subprocess.Popen(self.words, stdin=source, stdout=target, stderr=subprocess.PIPE)
+            note = process.stderr.read()
+            _, status, used = os.wait4(process.pid, 0)
+        process.returncode = os.waitstatus_to_exitcode(status)
+        if process.returncode != 0:
+            sys.exit(f"{' '.join(self.words)}: status {process.returncode}: {note.decode(errors='replace')}")
         return used.ru_utime + used.ru_stime
 
-    def spent(self, words, pixels, source=os.devnull, target=os.devnull):
-        """The least and the greatest of RUNS times, in nanoseconds a pixel."""
-        times = max(1, PIXELS // pixels)
-        runs = [sum(self.once(words, source, target) for _ in range(times)) for _ in range(RUNS)]
-        return [1e9 * it / times / pixels for it in (min(runs), max(runs))]
+
+@dataclass
+class Line:
+    """A picture, what encodes it, and what decodes the result."""
+
+    name: str
+    size: tuple[int, int]
+    depth: int
+    raster: Path
+    encode: Process
+    decode: Process
+    packed: Path
+    back: Path
+    book: bytes = b""
+    is_ours: bool = True
+    times: tuple[list[float], list[float]] = field(default_factory=lambda: ([], []))
+    is_same: bool = True
+
+    def measure(self) -> None:
+        """Encodes and decodes once more, and compares what is decoded."""
+        pixels = self.size[0] * self.size[1]
+        repeats = max(1, PIXELS // pixels)
+        for process, times in zip((self.encode, self.decode), self.times):
+            times.append(1e9 * sum(process.run() for _ in range(repeats)) / repeats / pixels)
+            if process is self.encode and self.book:
+                self.decode.source.write_bytes(self.book + self.packed.read_bytes())
+        self.is_same &= self.holds_raster(self.back.read_bytes())
+
+    def holds_raster(self, back: bytes) -> bool:
+        """Whether these octets are the raster. Of other coders, a PGM has a header before it, and aec fills its last block."""
+        raster = self.raster.read_bytes()
+        return back == raster or (not self.is_ours and raster in (back[-len(raster) :], back[: len(raster)]))
+
+    def row(self) -> str:
+        spans = " | ".join(f"{min(times):.1f} to {max(times):.1f}" for times in self.times)
+        length = self.packed.stat().st_size
+        bits = 8 * length / (self.size[0] * self.size[1])
+        same = "yes" if self.is_same else "NO"
+        return f"| {self.name} | {self.size[0]} x {self.size[1]} | {self.depth} | {spans} | {length:,} | {bits:.2f} | {same} |"
 
 
-
-def told(name, size, depth, times, length, same):
-    spans = [f"{least:.1f} to {most:.1f}" for least, most in times]
-    bits = 8 * length / (size[0] * size[1])
-    print(f"| {name} | {size[0]} x {size[1]} | {depth} | {spans[0]} | {spans[1]} | {length:,} | {bits:.2f} | {same} |", flush=True)
-
-
-def photograph_book():
+def photograph_book() -> bytes:
     """A code book whose lengths fit photographs (docs/recipes.md, "Another code book")."""
-    script = os.path.join(os.path.dirname(os.path.abspath(__file__)), "book.py")
+    script = Path(__file__).resolve().parent / "book.py"
     return subprocess.run([sys.executable, script, *LENGTHS], check=True, stdout=subprocess.PIPE).stdout
 
 
-class Ours(Bench):
-    def line(self, name, size, depth, octets, *words, book=b""):
-        """Encodes and decodes, and compares what comes back."""
-        source, packed, sent, back = self.path("raster"), self.path("packed"), self.path("sent"), self.path("back")
-        with open(source, "wb") as it:
-            it.write(book + octets)
-        sizes = [f"width={size[0]}", f"rows={size[1]}", f"depth={depth}"]
+class Bench:
+    """The lines of a table, with their files in a folder."""
+
+    def __init__(self, program: str, folder: Path):
+        self.program, self.folder = program, folder
+        self.lines: list[Line] = []
+
+    def keep(self, name: str, octets: bytes) -> Path:
+        path = self.folder / name
+        path.write_bytes(octets)
+        return path
+
+    def ours(self, name: str, size: tuple[int, int], depth: int, raster: Path, *words: str, book: bytes = b"") -> None:
+        """Adds a line for the program."""
+        number = len(self.lines)
+        packed, back = self.folder / f"{number}.packed", self.folder / "back"
+        sent = self.folder / f"{number}.sent" if book else packed
+        source = self.keep(f"{number}.source", book + raster.read_bytes()) if book else raster
         booked = ["book=1"] if book else []
-        pixels = size[0] * size[1]
-        times = [self.spent([self.program, "encode", *sizes, *words, *booked], pixels, source, packed)]
-        with open(packed, "rb") as it, open(sent, "wb") as into:
-            into.write(book + it.read())
-        times.append(self.spent([self.program, "decode", "pixels=1099511627776", *booked], pixels, sent, back))
-        with open(back, "rb") as it:
-            same = it.read() == octets
-        told(name, size, depth, times, os.path.getsize(packed), "yes" if same else "NO")
-        return same
+        encode = [self.program, "encode", f"width={size[0]}", f"rows={size[1]}", f"depth={depth}", *words, *booked]
+        decode = [self.program, "decode", "pixels=1099511627776", *booked]
+        self.lines.append(
+            Line(name, size, depth, raster, Process(encode, source, packed), Process(decode, sent, back), packed, back, book)
+        )
 
-    def made(self, depth):
-        target = self.path("made")
-        self.once([self.program, "make", f"width={SIDE}", f"rows={SIDE}", f"depth={depth}"], os.devnull, target)
-        with open(target, "rb") as it:
-            return it.read()
-
-
-class Others(Bench):
-    def line(self, name, size, depth, octets, words, form, packed):
-        """The words have {in}, {packed} and {back}; the form is that of the files, raw or pgm."""
-        names = {it: self.path(f"{it}.{form}") for it in ("in", "back")}
-        names["packed"] = self.path(f"other.{packed}")
-        header = f"P5\n{size[0]} {size[1]}\n{(1 << depth) - 1}\n".encode() if form == "pgm" else b""
-        with open(names["in"], "wb") as it:
-            it.write(header + octets)
-        pixels = size[0] * size[1]
-        filled = [[it.format(**names) for it in part] for part in words]
-        times = [self.spent(part, pixels) for part in filled]
-        with open(names["back"], "rb") as it:
-            back = it.read()
-        # aec fills its last block; a PGM has its header first.
-        same = (back[: len(octets)] if form == "raw" else back[-len(octets) :]) == octets
-        told(name, size, depth, times, os.path.getsize(names["packed"]), "yes" if same else "NO")
-        return same
-
-    def all(self, size, depth, octets):
-        bits, order = (["-n", "8"], []) if depth <= 8 else (["-n", str(depth)], ["-m"])
-        aec = ["aec", *bits, *order, "-j", "32", "-r", "64"]
-        lone = ["--num_threads=0"]
+    def others(self, size: tuple[int, int], depth: int, raster: Path) -> None:
+        """Adds a line for each other coder that is installed, as one process with one thread."""
+        header = f"P5\n{size[0]} {size[1]}\n{(1 << depth) - 1}\n".encode()
+        pgm = str(self.keep(f"{raster.name}.pgm", header + raster.read_bytes()))
+        aec = f"aec -n {max(8, depth)}{' -m' if depth > 8 else ''} -j 32 -r 64"
+        lone = "--num_threads=0"
         known = [
-            ("aec (libaec)", "raw", "aec", [[*aec, "{in}", "{packed}"], [*aec, "-d", "{packed}", "{back}"]]),
-            (
-                "opj_compress (OpenJPEG)",
-                "pgm",
-                "j2k",
-                [["opj_compress", "-i", "{in}", "-o", "{packed}"], ["opj_decompress", "-i", "{packed}", "-o", "{back}"]],
-            ),
-            (
-                "cjxl -e 1 (libjxl)",
-                "pgm",
-                "jxl",
-                [["cjxl", "-d", "0", "-e", "1", *lone, "{in}", "{packed}"], ["djxl", *lone, "{packed}", "{back}"]],
-            ),
+            ("aec (libaec)", "aec", "raw", f"{aec} {raster} PACKED", f"{aec} -d PACKED BACK"),
+            ("opj_compress (OpenJPEG)", "j2k", "pgm", f"opj_compress -i {pgm} -o PACKED", "opj_decompress -i PACKED -o BACK"),
+            ("cjxl -e 1 (libjxl)", "jxl", "pgm", f"cjxl -d 0 -e 1 {lone} {pgm} PACKED", f"djxl {lone} PACKED BACK"),
         ]
-        good = True
-        for name, form, packed, words in known:
+        for name, packed_form, back_form, *commands in known:
             # At this effort libjxl 0.7 keeps 8 bits of a pixel.
-            if all(shutil.which(part[0]) for part in words) and (packed != "jxl" or depth <= 8):
-                good &= self.line(name, size, depth, octets, words, form, packed)
-        return good
+            if not all(shutil.which(it.split()[0]) for it in commands) or (packed_form == "jxl" and depth > 8):
+                continue
+            packed, back = self.folder / f"{len(self.lines)}.{packed_form}", self.folder / f"back.{back_form}"
+            named = {"PACKED": str(packed), "BACK": str(back)}
+            encode, decode = (Process([named.get(word, word) for word in it.split()]) for it in commands)
+            self.lines.append(Line(name, size, depth, raster, encode, decode, packed, back, is_ours=False))
+
+    def made(self, depth: int) -> Path:
+        target = self.folder / f"made{depth}"
+        Process([self.program, "make", f"width={SIDE}", f"rows={SIDE}", f"depth={depth}"], target=target).run()
+        return target
+
+    def add_all(self, most: int) -> None:
+        """Adds the lines of the usual pictures, up to this side."""
+        square = (SIDE, SIDE)
+        picture = drawn(SIDE)
+        rasters = {depth: self.keep(f"drawn{depth}", raster(picture, depth)) for depth in (8, 12, 16)}
+        for depth in (8, 12, 16):
+            self.ours("drawn picture", square, depth, rasters[depth])
+        for depth in (8, 12, 16):
+            self.ours("`make`", square, depth, self.made(depth))
+        for segment in (16, 64, 1024, 4096, 65536):
+            self.ours(f"drawn, segment={segment}", square, 8, rasters[8], f"segment={segment}")
+        self.ours("drawn, select=heuristic", square, 8, rasters[8], "select=heuristic")
+        self.ours("drawn, another code book", square, 8, rasters[8], book=photograph_book())
+        for side in (256 << n for n in range(20)):
+            if side <= most and side != SIDE:
+                rows = drawn(side) if side < SIDE else tiled(picture, side)
+                path = self.keep(f"drawn{side}", raster(rows, 8))
+                self.ours("drawn", (side, side), 8, path)
+                if side > SIDE:
+                    self.ours("drawn, segment=65536", (side, side), 8, path, "segment=65536")
+        self.ours("noise", square, 8, self.keep("noise", raster(noise(SIDE), 8)))
+        self.ours("flat", square, 8, self.keep("flat", raster(flat(SIDE), 8)))
+        for depth in (8, 12):
+            self.others(square, depth, rasters[depth])
+
+    def add_file(self, name: str) -> None:
+        size, depth, octets = read_pgm(name)
+        path = self.keep(f"{len(self.lines)}.raster", octets)
+        self.ours(os.path.basename(name), size, depth, path)
+        self.others(size, depth, path)
 
 
 # ---- a picture that is handed in
@@ -242,52 +280,36 @@ def read_pgm(path):
 # ---- the table
 
 
-def machine():
-    with open("/proc/cpuinfo") as it:
+def machine() -> str:
+    with open("/proc/cpuinfo", encoding="utf-8") as it:
         names = [line.split(":", 1)[1].strip() for line in it if line.startswith("model name")]
     load = " ".join(f"{it:.2f}" for it in os.getloadavg())
     return f"{len(names)} processors, {names[0] if names else 'unknown'}; load {load}"
 
 
-def main(program, most, pictures):
+def main() -> None:
+    words = argparse.ArgumentParser(prog="tools/bench.sh")
+    words.add_argument("--rounds", type=int, default=5, help="how often each line is measured, 5 if it isn't given")
+    words.add_argument("--most", type=int, default=SIDE, help=f"the side of the greatest picture, {SIDE} if it isn't given")
+    words.add_argument("program", help=argparse.SUPPRESS)
+    words.add_argument("pictures", nargs="*", metavar="PICTURE.pgm", help="P5, of 8 or 16 bits")
+    given = words.parse_intermixed_args()
     with tempfile.TemporaryDirectory(prefix="strip122-bench-") as folder:
-        ours, others = Ours(program, folder), Others(program, folder)
-        good = True
-        print(f"Least to greatest of {RUNS} runs, user and system nanoseconds a pixel. {machine()}.\n")
-        print("| what | size | depth | encode | decode | octets | bits a pixel | the same |")
+        bench = Bench(given.program, Path(folder))
+        bench.add_all(given.most)
+        for name in given.pictures:
+            bench.add_file(name)
+        print(f"Least to greatest of {given.rounds} rounds, user and system nanoseconds a pixel. {machine()}.", flush=True)
+        for _ in range(given.rounds):
+            for line in bench.lines:
+                line.measure()
+        print("\n| what | size | depth | encode | decode | octets | bits a pixel | the same |")
         print("|---|---|---|---|---|---|---|---|")
-        square = (SIDE, SIDE)
-        picture = drawn(SIDE)
-        for depth in (8, 12, 16):
-            good &= ours.line("drawn picture", square, depth, raster(picture, depth))
-        for depth in (8, 12, 16):
-            good &= ours.line("`make`", square, depth, ours.made(depth))
-        eight = raster(picture, 8)
-        for segment in (16, 64, 1024, 4096, 65536):
-            good &= ours.line(f"drawn, segment={segment}", square, 8, eight, f"segment={segment}")
-        good &= ours.line("drawn, select=heuristic", square, 8, eight, "select=heuristic")
-        good &= ours.line("drawn, another code book", square, 8, eight, book=photograph_book())
-        side = 256
-        while side <= most:
-            if side != SIDE:
-                rows = drawn(side) if side < SIDE else tiled(picture, side)
-                good &= ours.line("drawn", (side, side), 8, raster(rows, 8))
-                if side > SIDE:
-                    good &= ours.line("drawn, segment=65536", (side, side), 8, raster(rows, 8), "segment=65536")
-            side *= 2
-        good &= ours.line("noise", square, 8, raster(noise(SIDE), 8))
-        good &= ours.line("flat", square, 8, raster(flat(SIDE), 8))
-        for depth in (8, 12):
-            good &= others.all(square, depth, raster(picture, depth))
-        for path in pictures:
-            size, depth, octets = read_pgm(path)
-            good &= ours.line(os.path.basename(path), size, depth, octets)
-            good &= others.all(size, depth, octets)
+        for line in bench.lines:
+            print(line.row())
         print(f"\nAt the end: {machine()}.")
-        sys.exit(0 if good else "what came back isn't what went in")
+        sys.exit(0 if all(line.is_same for line in bench.lines) else "what is decoded isn't what was encoded")
 
 
 if __name__ == "__main__":
-    words = sys.argv[2:]
-    greatest = int(words.pop(0)) if words and words[0].isdigit() else SIDE
-    main(sys.argv[1], greatest, words)
+    main()

@@ -76,13 +76,13 @@ def is_answer(file: Path) -> bool:
     return file.name in {"Answers.antt", "Invariants.antt", "Proof.antt", "Lib.antt"}
 
 
-def foreign_unfoldings(file: Path) -> list[str]:
-    """The names that a file unfolds and imports from another crate of the repository."""
+def foreign_unfoldings(file: Path) -> list[tuple[int, str]]:
+    """The lines at which a file unfolds what it imports from another crate of the repository, each with the name."""
     lines = file.read_text(encoding="utf-8").splitlines()
     home = {name.strip().split(" as ")[-1]: match[1] for match in map(IMPORT.match, lines) if match for name in match[3].split(",")}
     home |= {match[2]: match[1] for match in map(MODULE.match, lines) if match}
-    unfolded = [name for match in map(UNFOLDS.match, lines) if match for name in match[1].split()]
-    return [name for name in unfolded if home.get(name.split(".")[0], crate_of(file)) in CRATES - {crate_of(file)}]
+    unfolded = [(at, name) for at, line in enumerate(lines, 1) if (match := UNFOLDS.match(line)) for name in match[1].split()]
+    return [(at, name) for at, name in unfolded if home.get(name.split(".")[0], crate_of(file)) in CRATES - {crate_of(file)}]
 
 
 def main() -> None:
@@ -100,7 +100,7 @@ def main() -> None:
     for file in sources(".rt"):
         cited.update(set(re.findall(r"[\w'-]+", file.read_text(encoding="utf-8"))))
     dead = [b for f, bs in files.items() if not is_answer(f) for b in bs if not cited[b.name]]
-    breaches = Counter(crate_of(file) for file in files for _ in foreign_unfoldings(file))
+    unfolded = [(file, at, name) for file in files for at, name in foreign_unfoldings(file)]
     twins = defaultdict(list)
     for f, bs in files.items():
         for b in bs:
@@ -114,7 +114,11 @@ def main() -> None:
         for b in found if shows else []:
             if not words or crate_of(b.file) in words:
                 print(f"  {b.file.relative_to(TOP)}:{b.line} {b.name} ({len(b.text)})")
-    print(f"unfolded in another crate: {sum(breaches.values())}: " + ", ".join(f"{c} {n}" for c, n in sorted(breaches.items())))
+    by_crate = Counter(crate_of(file) for file, _, _ in unfolded)
+    print(f"unfolded in another crate: {len(unfolded)}: " + ", ".join(f"{c} {n}" for c, n in sorted(by_crate.items())))
+    for file, at, name in unfolded if shows else []:
+        if not words or crate_of(file) in words:
+            print(f"  {file.relative_to(TOP)}:{at} {name}")
 
 
 if __name__ == "__main__":
