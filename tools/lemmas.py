@@ -15,6 +15,7 @@ TOP = Path(__file__).resolve().parent.parent
 NAME = r"[^\s(){}\[\],;:.]+"
 DECLARED = re.compile(rf"^(?:(?:abbrev|unfoldable|pub) )*(?:(?:record|data) ({NAME}) (?:[({{]|: Type)|({NAME}) : )")
 WORD = re.compile(r"[^\s(){}\[\],;.]+")
+MODULES = re.compile(r"^ *module .*$", re.M)
 UNFOLDS = re.compile(r"^\s*unfolding (.+)$")
 CRATES = {folder.name for folder in (TOP / "crates").iterdir()}
 MODULE = re.compile(r"^\s*use Rattle\.(\w+)\.[\w.]+ as (\w+)$")
@@ -95,8 +96,8 @@ def main() -> None:
             own = block.words()
             own.pop(block.name, None)
             cited.update(own.keys())
-        if not blocks:
-            cited.update(set(WORD.findall(file.read_text(encoding="utf-8"))))
+        text = file.read_text(encoding="utf-8")
+        cited.update(set(WORD.findall(text if not blocks else " ".join(MODULES.findall(text)))))
     for file in sources(".rt"):
         cited.update(set(re.findall(r"[\w'-]+", file.read_text(encoding="utf-8"))))
     dead = [b for f, bs in files.items() if not is_answer(f) for b in bs if not cited[b.name]]
