@@ -78,7 +78,7 @@ def try_document(name: str, program: str) -> bool:
             print(f"{name}:{part.line}: prints something else")
             print("\n".join(difflib.unified_diff(wanted, found, "the document", "the run", lineterm="")))
     compared = sum(part.printed is not None for part in parts)
-    print(f"{name}: {len(parts)} parts were run, and what {compared} of them print was compared: {'the same' if good else 'WRONG'}")
+    print(f"{name}: {len(parts)} parts were run, and the output of {compared} was compared: {'all the same' if good else 'WRONG'}")
     return good
 
 
