@@ -1,0 +1,6 @@
+pub mod FirstNumbers
+pub mod ScriptLaws
+pub mod FollowLaws
+pub mod ReaderLaws
+pub mod Completing
+pub mod Writing

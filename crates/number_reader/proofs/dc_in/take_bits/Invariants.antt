@@ -1,0 +1,13 @@
+use Rattle.std.proofs.Common.{ℕ, ℤ, List, unsigned_abs}
+use Rattle.bit_pipe.specs.Coming.{coming, IsIn}
+use Rattle.number_reader.specs.Dcs.{block_count, SetsDcs}
+use Rattle.number_reader.proofs.DcReads.{BitsSoFar, GrewTo}
+use Rattle.number_reader.proofs.dc_in.take_bits.Given as goal
+
+abbrev pub invariant-loop-block : goal.invariant-loop-block
+invariant-loop-block g l = record {
+  is_in : IsIn (coming l.input);
+  grew : GrewTo (unsigned_abs l.weight) l.block l.initial.blocks l.blocks;
+  so_far : (dcs : ℕ → ℤ) (first : List ℤ) → SetsDcs dcs first l.initial.blocks →
+      BitsSoFar g.I.OctetIn.source l.weight (block_count first) l.block dcs (coming l.initial.input) (coming l.input) first l.blocks;
+}

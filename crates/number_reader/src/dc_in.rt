@@ -1,0 +1,138 @@
+// The reader of the DC part.
+ghost use Rattle.std.specs.Prelude.{◌≡◌, ◌≤◌, ◌<◌, ◌^◌, ◌*ℤ◌, ℕ, ℤ, pos, length, List, unsigned_abs};
+ghost use Rattle.std.specs.Int.{div_ceil};
+ghost use Rattle.bit_pipe.specs.Coming.{coming, IsIn};
+ghost use Rattle.number_scripts.specs.DcPart.{dc_bits_script, high_script, dc_planes_script, dc_script};
+ghost use Rattle.number_reader.specs.Dcs.{block_count, SetsDcs, TakesDcs, q_in, bits_in, planes_in, HasRoom, GrowsBy};
+
+use crate::plan::DcPlan;
+use crate::range::NumberRange;
+use crate::take::take_values;
+use bit_pipe::{BitIn, OctetIn, Part, TextFault};
+
+// The number of numbers of a block; its DC is the first.
+const BLOCK: usize = 64;
+
+// Sets each DC to 0.
+fn clear(blocks: &mut [i32])
+    ensures { SetsDcs (λ r. pos 0) blocks.old blocks.new }
+{
+    for block in 0..blocks.len().div_ceil(BLOCK) {
+        blocks[block * BLOCK] = 0;
+    }
+}
+
+// Returns a power of two.
+fn power(shift: u8) -> i32
+    requires { shift ≤ 27 }
+    ensures { result ≡ pos (2 ^ shift) }
+{
+    1 << shift
+}
+
+// Returns a bit times its weight.
+fn weighed(bit: u32, weight: i32) -> i32
+    requires { bit < 2 }
+    ensures { result ≡ pos bit *ℤ weight }
+{
+    if bit == 1 { weight } else { 0 }
+}
+
+// Takes one bit of each block, and adds it with this weight to the DC.
+fn take_bits<I: OctetIn>(
+    input: &mut BitIn<I>,
+    blocks: &mut [i32],
+    weight: i32,
+) -> Result<Part, TextFault>
+    requires open { IsIn (coming input.old) }
+    requires room { HasRoom (unsigned_abs weight) blocks.old }
+    ensures takes { (dcs : ℕ → ℤ) (first : List ℤ) → SetsDcs dcs first blocks.old →
+        TakesDcs I.source (dc_bits_script weight (block_count first) dcs) result (coming input.old) (coming input.new) first blocks.new }
+    ensures grows { GrowsBy (unsigned_abs weight) blocks.old blocks.new }
+{
+    for block in 0..blocks.len().div_ceil(BLOCK) {
+        let Some(bit) = input.take_bits(1)? else {
+            return Ok(Part::Ended);
+        };
+        blocks[block * BLOCK] += weighed(bit, weight);
+    }
+    Ok(Part::Whole)
+}
+
+// Takes the numbers of the DCs.
+fn take_high<I: OctetIn>(
+    input: &mut BitIn<I>,
+    blocks: &mut [i32],
+    plan: &DcPlan,
+) -> Result<Part, TextFault>
+    requires open { IsIn (coming input.old) }
+    requires dc { plan.now.depth_dc ≤ 28 }
+    requires shift { plan.now.shift ≤ 3 }
+    requires few { div_ceil (length blocks.old) 64 < 2 ^ 20 }
+    ensures takes { TakesDcs I.source (high_script (bits_in plan.now) (q_in plan.now) (block_count blocks.old))
+        result (coming input.old) (coming input.new) blocks.old blocks.new }
+    ensures room { HasRoom 1073741824 blocks.new }
+{
+    let bits = plan.bits();
+    if bits == 1 {
+        clear(blocks);
+        return take_bits(input, blocks, -power(plan.q()));
+    }
+    let range = NumberRange { signed: true, bits };
+    let (part, _) = take_values(input, blocks, BLOCK, plan.q(), range)?;
+    Ok(part)
+}
+
+// Takes the DC bit planes, from the highest down.
+fn take_dc_planes<I: OctetIn>(
+    input: &mut BitIn<I>,
+    blocks: &mut [i32],
+    plan: &DcPlan,
+) -> Result<Part, TextFault>
+    requires open { IsIn (coming input.old) }
+    requires dc { plan.now.depth_dc ≤ 28 }
+    requires shift { plan.now.shift ≤ 3 }
+    requires room { HasRoom 1073741824 blocks.old }
+    ensures { (dcs : ℕ → ℤ) (first : List ℤ) → SetsDcs dcs first blocks.old →
+        TakesDcs I.source (dc_planes_script (q_in plan.now) (block_count first) (planes_in plan.now) dcs)
+        result (coming input.old) (coming input.new) first blocks.new }
+{
+    let last = plan.depth_ac.max(plan.shift);
+    let mut plane = plan.q();
+    while plane > last {
+        plane -= 1;
+        let Part::Whole = take_bits(input, blocks, power(plane))? else {
+            return Ok(Part::Ended);
+        };
+    }
+    Ok(Part::Whole)
+}
+
+/// Takes the DC part of a segment: the numbers of its blocks' DCs, then their bit planes down to BitDepthAC
+/// (docs/formats.md, "DC part and block depths"). A block is 64 numbers, of which the first becomes its DC, and the
+/// others stay: the number that is given times 2^q and the low bits that are given, and 0 if no number is. Returns
+/// whether all items were in the text.
+///
+/// `depth_dc` is at most 28, `shift` at most 3, and there are fewer than 2^20 blocks.
+///
+/// # Errors
+///
+/// `BadOption` and `BadDelta` at the first item that is refused, and the faults of the input. The DCs also have
+/// what is given then.
+pub fn take_dc<I: OctetIn>(
+    input: &mut BitIn<I>,
+    blocks: &mut [i32],
+    plan: &DcPlan,
+) -> Result<Part, TextFault>
+    requires open { IsIn (coming input.old) }
+    requires dc { plan.now.depth_dc ≤ 28 }
+    requires shift { plan.now.shift ≤ 3 }
+    requires few { div_ceil (length blocks.old) 64 < 2 ^ 20 }
+    ensures { TakesDcs I.source (dc_script plan.now.depth_dc plan.now.depth_ac plan.now.shift (block_count blocks.old))
+        result (coming input.old) (coming input.new) blocks.old blocks.new }
+{
+    let Part::Whole = take_high(input, blocks, plan)? else {
+        return Ok(Part::Ended);
+    };
+    take_dc_planes(input, blocks, plan)
+}

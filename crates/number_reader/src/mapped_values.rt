@@ -1,0 +1,155 @@
+// Reads mapped values and the numbers of a gaggle from bits.
+ghost use Rattle.std.specs.Prelude.{◌≡◌, ◌<◌, ◌≤◌, ◌+◌, ◌-◌, ◌*◌, ◌^◌, ◌++◌, ◌∷◌, ◌==◌, ◌||◌, [], ℕ, List, Bool, true, length, slice_index, MatchResult, IfOk, IfSome};
+ghost use Rattle.bit_pipe.specs.Coming.{coming, IsIn};
+ghost use Rattle.bit_pipe.specs.declared.fault.TextFault.TheVariants.{BadDepth};
+ghost use Rattle.number_defs.specs.Mapping.{unmapped};
+ghost use Rattle.number_defs.specs.Gaggles.{uncoded, is_option};
+ghost use Rattle.item_scripts.specs.Scripts.{in_turn};
+ghost use Rattle.item_scripts.specs.Sources.{ReadsAs, by_item, by_part};
+ghost use Rattle.number_scripts.specs.Numbers.{zeros_form, zeros_script, value_form, number_script, last_of};
+ghost use Rattle.number_reader.specs.Given.{heights_in, by_given, Adds, AreWithin, IsBound, kind_of};
+ghost use Rattle.number_reader.specs.Items.{EndsForm, free_kind};
+
+use crate::gaggle_heights::GaggleHeights;
+use crate::range::NumberRange;
+use crate::unmapping::unmapped_of;
+use crate::values::option_bits;
+use bit_pipe::{BitIn, OctetIn, Part, TextFault};
+
+// Returns the identifier of uncoded values: all ones.
+pub(crate) fn uncoded_of(bits: u8) -> u8
+    ensures is { result ≡ uncoded bits }
+{
+    (1 << option_bits(bits)) - 1
+}
+
+// Takes a unary part, and returns the number of its zeros.
+fn take_unary<I: OctetIn>(input: &mut BitIn<I>, bits: u8, k: u8) -> Result<Option<u16>, TextFault>
+    requires open { IsIn (coming input.old) }
+    requires bits { bits ≤ 10 }
+    ensures few { IfOk result (λ zeros. IfSome zeros (λ n. n < 2 ^ (bits - k))) }
+    ensures read { EndsForm I.source (zeros_form bits k) (λ n. n) (by_item result tt) (coming input.old) (coming input.new) }
+{
+    let limit = 1 << bits.saturating_sub(k);
+    let Some(zeros) = input.take_zeros(limit)? else {
+        return Ok(None);
+    };
+    if zeros == limit {
+        return Err(TextFault::BadDelta);
+    }
+    Ok(Some(zeros))
+}
+
+// Takes the item that makes a mapped value whole, after this number of zeros, and returns the value.
+fn take_value<I: OctetIn>(
+    input: &mut BitIn<I>,
+    bits: u8,
+    option: u8,
+    zeros: u16,
+) -> Result<Option<u16>, TextFault>
+    requires open { IsIn (coming input.old) }
+    requires bits { bits ≤ 10 }
+    requires option { is_option bits option ≡ true }
+    requires zeros { zeros < 2 ^ (bits - option) }
+    requires plain { ((option == 0) || (option == uncoded bits)) ≡ true → zeros ≡ 0 }
+    ensures few { IfOk result (λ value. IfSome value (λ n. n < 2 ^ bits)) }
+    ensures read { EndsForm I.source (value_form (free_kind bits) option 0 zeros) (λ n. zeros * 2 ^ option + n)
+        (by_item result tt) (coming input.old) (coming input.new) }
+{
+    if option == uncoded_of(bits) {
+        let Some(value) = input.take_bits(bits)? else {
+            return Ok(None);
+        };
+        return Ok(Some(value as u16));
+    }
+    if option == 0 {
+        return take_unary(input, bits, option);
+    }
+    let Some(rest) = input.take_bits(option)? else {
+        return Ok(None);
+    };
+    Ok(Some((zeros << option) + rest as u16))
+}
+
+// Adds the number of a mapped value, unless it is too great.
+fn follow(
+    numbers: &mut GaggleHeights,
+    bits: u8,
+    most: u16,
+    before: u16,
+    value: u16,
+) -> Result<u16, TextFault>
+    requires room { length (heights_in numbers.old) < 16 }
+    requires bits { bits ≤ 10 }
+    requires before { before < 2 ^ bits }
+    requires value { value < 2 ^ bits }
+    ensures is { MatchResult result (λ height. height ≡ unmapped bits before value) (λ fault. fault ≡ BadDepth) }
+    ensures few { unmapped bits before value < 2 ^ bits }
+    ensures bound { MatchResult result (λ height. height ≤ most) (λ fault. most < unmapped bits before value) }
+    ensures numbers { MatchResult result (λ height. heights_in numbers.new ≡ heights_in numbers.old ++ height ∷ [])
+        (λ fault. heights_in numbers.new ≡ heights_in numbers.old) }
+{
+    let height = unmapped_of(bits, before, value);
+    if height > most {
+        return Err(TextFault::BadDepth);
+    }
+    numbers.push(height);
+    Ok(height)
+}
+
+// Takes all unary parts of a gaggle, and returns the numbers of their zeros.
+pub(crate) fn take_unary_parts<I: OctetIn>(
+    input: &mut BitIn<I>,
+    bits: u8,
+    k: u8,
+    zeros: &mut [u16],
+) -> Result<Part, TextFault>
+    requires open { IsIn (coming input.old) }
+    requires bits { bits ≤ 10 }
+    requires none { (j : ℕ) → slice_index zeros.old j ≡ 0 }
+    ensures few { (j : ℕ) → slice_index zeros.new j < 2 ^ (bits - k) }
+    ensures read { (given : List ℕ) → ReadsAs I.source (zeros_script given bits k (length zeros.old) [])
+        (by_part result zeros.new given) (coming input.old) (coming input.new) }
+{
+    for place in 0..zeros.len() {
+        let Some(count) = take_unary(input, bits, k)? else {
+            return Ok(Part::Ended);
+        };
+        zeros[place] = count;
+    }
+    Ok(Part::Whole)
+}
+
+// Takes the items that make mapped values whole, one after another, and adds their numbers.
+pub(crate) fn take_whole<I: OctetIn>(
+    input: &mut BitIn<I>,
+    range: NumberRange,
+    most: u16,
+    option: u8,
+    before: u16,
+    zeros: &[u16],
+    numbers: &mut GaggleHeights,
+) -> Result<Part, TextFault>
+    requires open { IsIn (coming input.old) }
+    requires bits { range.bits ≤ 10 }
+    requires option { is_option range.bits option ≡ true }
+    requires before { before < 2 ^ range.bits }
+    requires zeros { (j : ℕ) → slice_index zeros.now j < 2 ^ (range.bits - option) }
+    requires plain { ((option == 0) || (option == uncoded range.bits)) ≡ true → (j : ℕ) → slice_index zeros.now j ≡ 0 }
+    requires room { length (heights_in numbers.old) + length zeros.now ≤ 16 }
+    ensures read { (too_great : ℕ → Bool) (prior : List ℕ) → IsBound most range.bits too_great →
+        last_of (prior ++ heights_in numbers.old) ≡ before →
+        ReadsAs I.source (in_turn (λ j. number_script (kind_of range too_great) option (slice_index zeros.now j)) 0 (length zeros.now)
+        (prior ++ heights_in numbers.old)) (by_given result (prior ++ heights_in numbers.new)) (coming input.old) (coming input.new) }
+    ensures adds { Adds result (length zeros.now) (heights_in numbers.old) (heights_in numbers.new) }
+    ensures within { AreWithin range.bits most (heights_in numbers.old) → AreWithin range.bits most (heights_in numbers.new) }
+{
+    let mut before = before;
+    for zeros in zeros {
+        let Some(value) = take_value(input, range.bits, option, *zeros)? else {
+            return Ok(Part::Ended);
+        };
+        before = follow(numbers, range.bits, most, before, value)?;
+    }
+    Ok(Part::Whole)
+}

@@ -1,0 +1,187 @@
+// The reader of the numbers of one gaggle.
+ghost use Rattle.std.specs.Prelude.{◌≡◌, ◌<◌, ◌≤◌, ◌+◌, ◌*◌, ◌^◌, ◌-◌, ◌++◌, ◌∷◌, min, suc, ℕ, List, Bool, true, [], length, slice_index, IfOk, IfSome};
+ghost use Rattle.bit_pipe.specs.Coming.{coming, IsIn};
+ghost use Rattle.number_defs.specs.Gaggles.{is_option};
+ghost use Rattle.item_scripts.specs.Sources.{ReadsAs, by_item, by_done};
+ghost use Rattle.number_scripts.specs.Numbers.{option_script, lead_script, differences_script, gaggle_script, last_of};
+ghost use Rattle.number_reader.specs.Given.{heights_in, by_given, Adds, IsFirst, AreWithin, IsBound, kind_of};
+
+use crate::gaggle_heights::{GAGGLE, GaggleHeights};
+use crate::mapped_values::{take_unary_parts, take_whole, uncoded_of};
+use crate::range::NumberRange;
+use crate::values::option_bits;
+use bit_pipe::{BitIn, OctetIn, Part, TextFault};
+
+// Returns whether an identifier has an option: all ones, or a k in range.
+fn names_option(bits: u8, option: u8) -> bool
+    requires { 2 ≤ bits }
+    ensures { result ≡ is_option bits option }
+{
+    option == uncoded_of(bits) || option <= bits - 2
+}
+
+// Takes the option of a gaggle.
+fn take_identifier<I: OctetIn>(input: &mut BitIn<I>, bits: u8) -> Result<Option<u8>, TextFault>
+    requires open { IsIn (coming input.old) }
+    requires low { 2 ≤ bits }
+    requires high { bits ≤ 10 }
+    ensures known { IfOk result (λ option. IfSome option (λ n. is_option bits n ≡ true)) }
+    ensures read { (given : List ℕ) → ReadsAs I.source (option_script given bits) (by_item result given) (coming input.old) (coming input.new) }
+{
+    let Some(number) = input.take_bits(option_bits(bits))? else {
+        return Ok(None);
+    };
+    let option = number as u8;
+    if !names_option(bits, option) {
+        return Err(TextFault::BadOption);
+    }
+    Ok(Some(option))
+}
+
+// Takes the reference, the first number of all.
+fn take_reference<I: OctetIn>(
+    input: &mut BitIn<I>,
+    range: NumberRange,
+    most: u16,
+    numbers: &mut GaggleHeights,
+) -> Result<Option<u16>, TextFault>
+    requires open { IsIn (coming input.old) }
+    requires low { 2 ≤ range.bits }
+    requires high { range.bits ≤ 10 }
+    requires none { heights_in numbers.old ≡ [] }
+    ensures few { IfOk result (λ height. IfSome height (λ h. h < 2 ^ range.bits)) }
+    ensures adds { IsFirst result (heights_in numbers.new) }
+    ensures within { AreWithin range.bits most (heights_in numbers.new) }
+    ensures read { (too_great : ℕ → Bool) → IsBound most range.bits too_great → ReadsAs I.source (lead_script (kind_of range too_great) 0 [])
+        (by_done result (heights_in numbers.new) (heights_in numbers.new)) (coming input.old) (coming input.new) }
+{
+    let Some(number) = input.take_bits(range.bits)? else {
+        return Ok(None);
+    };
+    let height = (number as u16 + range.negatives()) % (1 << range.bits);
+    if height > most {
+        return Err(TextFault::BadDepth);
+    }
+    numbers.push(height);
+    Ok(Some(height))
+}
+
+// Takes `count` numbers after the one before, by an option.
+fn take_differences<I: OctetIn>(
+    input: &mut BitIn<I>,
+    range: NumberRange,
+    most: u16,
+    option: u8,
+    before: u16,
+    count: usize,
+    numbers: &mut GaggleHeights,
+) -> Result<Part, TextFault>
+    requires open { IsIn (coming input.old) }
+    requires bits { range.bits ≤ 10 }
+    requires option { is_option range.bits option ≡ true }
+    requires before { before < 2 ^ range.bits }
+    requires room { length (heights_in numbers.old) + count ≤ 16 }
+    ensures read { (too_great : ℕ → Bool) (prior : List ℕ) → IsBound most range.bits too_great →
+        last_of (prior ++ heights_in numbers.old) ≡ before →
+        ReadsAs I.source (differences_script (kind_of range too_great) option count (prior ++ heights_in numbers.old))
+        (by_given result (prior ++ heights_in numbers.new)) (coming input.old) (coming input.new) }
+    ensures adds { Adds result count (heights_in numbers.old) (heights_in numbers.new) }
+    ensures within { AreWithin range.bits most (heights_in numbers.old) → AreWithin range.bits most (heights_in numbers.new) }
+{
+    let mut room = [0; GAGGLE];
+    let zeros = &mut room[..count];
+    if option == 0 || option == uncoded_of(range.bits) {
+        return take_whole(input, range, most, option, before, zeros, numbers);
+    }
+    let Part::Whole = take_unary_parts(input, range.bits, option, zeros)? else {
+        return Ok(Part::Ended);
+    };
+    take_whole(input, range, most, option, before, zeros, numbers)
+}
+
+// Takes the numbers of the first gaggle.
+pub(crate) fn take_first<I: OctetIn>(
+    input: &mut BitIn<I>,
+    range: NumberRange,
+    most: u16,
+    size: usize,
+    numbers: &mut GaggleHeights,
+) -> Result<Part, TextFault>
+    requires open { IsIn (coming input.old) }
+    requires low { 2 ≤ range.bits }
+    requires high { range.bits ≤ 10 }
+    requires some { 1 ≤ size }
+    requires room { size ≤ 16 }
+    requires none { heights_in numbers.old ≡ [] }
+    ensures read { (too_great : ℕ → Bool) (all : ℕ) → IsBound most range.bits too_great → min all 16 ≡ size →
+        ReadsAs I.source (gaggle_script (kind_of range too_great) all 0 []) (by_given result (heights_in numbers.new)) (coming input.old) (coming input.new) }
+    ensures adds { Adds result size [] (heights_in numbers.new) }
+    ensures within { AreWithin range.bits most (heights_in numbers.new) }
+{
+    let Some(option) = take_identifier(input, range.bits)? else {
+        return Ok(Part::Ended);
+    };
+    let Some(before) = take_reference(input, range, most, numbers)? else {
+        return Ok(Part::Ended);
+    };
+    take_differences(input, range, most, option, before, size - 1, numbers)
+}
+
+// Takes the numbers of a further gaggle.
+pub(crate) fn take_next<I: OctetIn>(
+    input: &mut BitIn<I>,
+    range: NumberRange,
+    most: u16,
+    before: u16,
+    size: usize,
+    numbers: &mut GaggleHeights,
+) -> Result<Part, TextFault>
+    requires open { IsIn (coming input.old) }
+    requires low { 2 ≤ range.bits }
+    requires high { range.bits ≤ 10 }
+    requires before { before < 2 ^ range.bits }
+    requires room { size ≤ 16 }
+    requires none { heights_in numbers.old ≡ [] }
+    ensures read { (too_great : ℕ → Bool) (all g : ℕ) (prior : List ℕ) → IsBound most range.bits too_great →
+        min all (16 * suc g + 16) - 16 * suc g ≡ size → last_of prior ≡ before →
+        ReadsAs I.source (gaggle_script (kind_of range too_great) all (suc g) prior)
+        (by_given result (prior ++ heights_in numbers.new)) (coming input.old) (coming input.new) }
+    ensures adds { Adds result size [] (heights_in numbers.new) }
+    ensures within { AreWithin range.bits most (heights_in numbers.new) }
+{
+    let Some(option) = take_identifier(input, range.bits)? else {
+        return Ok(Part::Ended);
+    };
+    take_differences(input, range, most, option, before, size, numbers)
+}
+
+// Takes the numbers of a gaggle, after the one before it.
+pub(crate) fn take_gaggle<I: OctetIn>(
+    input: &mut BitIn<I>,
+    range: NumberRange,
+    most: u16,
+    gaggle: usize,
+    before: u16,
+    size: usize,
+    numbers: &mut GaggleHeights,
+) -> Result<Part, TextFault>
+    requires open { IsIn (coming input.old) }
+    requires low { 2 ≤ range.bits }
+    requires high { range.bits ≤ 10 }
+    requires before { before < 2 ^ range.bits }
+    requires some { 1 ≤ size }
+    requires room { size ≤ 16 }
+    requires none { heights_in numbers.old ≡ [] }
+    ensures read { (too_great : ℕ → Bool) (all : ℕ) (prior : List ℕ) → IsBound most range.bits too_great →
+        min all (16 * gaggle + 16) - 16 * gaggle ≡ size → length prior ≡ 16 * gaggle → (0 < gaggle → last_of prior ≡ before) →
+        ReadsAs I.source (gaggle_script (kind_of range too_great) all gaggle prior)
+        (by_given result (prior ++ heights_in numbers.new)) (coming input.old) (coming input.new) }
+    ensures adds { Adds result size [] (heights_in numbers.new) }
+    ensures most { length (heights_in numbers.new) ≤ size }
+    ensures within { AreWithin range.bits most (heights_in numbers.new) }
+{
+    if gaggle == 0 {
+        return take_first(input, range, most, size, numbers);
+    }
+    take_next(input, range, most, before, size, numbers)
+}

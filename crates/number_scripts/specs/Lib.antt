@@ -1,0 +1,5 @@
+pub mod Numbers
+pub mod DcPart
+pub mod Depths
+pub mod Worked
+pub mod Laws

@@ -1,0 +1,7 @@
+mod WorkedRead
+pub mod FlagCore
+pub mod WordGoes
+pub mod StageGoes
+pub mod PlaneGoes
+pub mod WordsWritten
+pub mod TypesWritten

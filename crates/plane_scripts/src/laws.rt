@@ -1,0 +1,19 @@
+// What some texts are read as, and the laws of the scripts.
+ghost use Rattle.plane_scripts.specs.Laws.{PlanesGo};
+ghost use Rattle.plane_scripts.specs.Written.{TypesWritten};
+ghost use Rattle.plane_scripts.specs.Worked.{WorkedTexts};
+
+/// Texts that are worked out by hand are read so.
+pub const fn worked_texts()
+    ensures { WorkedTexts }
+{}
+
+/// Any reading of bit planes that is cut can be completed: each question has a possible answer.
+pub const fn planes_go()
+    ensures { PlanesGo }
+{}
+
+/// Types and signs are read as they were written.
+pub const fn types_are_read()
+    ensures { TypesWritten }
+{}

@@ -1,0 +1,59 @@
+-- What the masks of a block have of a plane that is read. (This project's own.)
+use Rattle.std.specs.Prelude.{◌≡◌, ◌<◌, ℕ, ◌+◌, ◌*◌, ℤ, pos, ◌||◌, List, length, Result, Ok}
+use lib.ListN.{get_or}
+use Rattle.item_defs.specs.Bits.{bit}
+use Rattle.base_122.specs.declared.book.Book.{Book}
+use Rattle.plane_defs.specs.Sets.{significant}
+use Rattle.plane_defs.specs.Entries.{negative}
+use Rattle.plane_defs.specs.StepLaws.{IsAc}
+use Rattle.block_masks.specs.declared.gaggle.Gaggle.{Gaggle}
+use Rattle.block_masks.specs.declared.plan.CodedPlane.{CodedPlane}
+use Rattle.block_masks.specs.Slices.{mask_in, minus_slot}
+use Rattle.bit_pipe.specs.declared.fault.Part.{Part}
+use Rattle.bit_pipe.specs.declared.fault.Part.TheVariants.{Whole}
+use Rattle.bit_pipe.specs.declared.fault.TextFault.{TextFault}
+use Rattle.bit_pipe.specs.Sources.{SourceOf}
+use Rattle.item_scripts.specs.Scripts.{Script}
+use Rattle.item_scripts.specs.Sources.{by_part}
+use Rattle.plane_scripts.specs.States.{State}
+use Rattle.plane_scripts.specs.Stages.{Terms}
+use Rattle.plane_windows.specs.declared.found.Found.{Found}
+use Rattle.plane_windows.specs.Takes.{AreIn}
+use Rattle.plane_windows.specs.Held.{Point, ReadsFrom}
+
+abbrev pub terms_of : CodedPlane → Book → Terms
+terms_of plan book = record { book = book; weights = plan.weights.shifts; plane = plan.plane; q = plan.q }
+
+-- a mask has the AC numbers of a block that are significant above a plane
+abbrev pub IsAbove : ℕ → List ℤ → ℕ → Type 0
+IsAbove mask block plane = (p : ℕ) → IsAc p → bit mask p ≡ significant block (plane + 1) p
+
+-- of block r only the masks of the plane and of signs changed
+pub record KeepsMasks (r plane : ℕ) (old new : List ℤ) : Type 0 where
+  pub long : length new ≡ length old
+  pub slots : (slot : ℕ) → slot < 32 → (slot ≡ plane → ⊥) → (slot ≡ minus_slot → ⊥) → mask_in new r slot ≡ mask_in old r slot
+  pub others : (q slot : ℕ) → 64 * q < length old → slot < 32 → (q ≡ r → ⊥) → mask_in new q slot ≡ mask_in old q slot
+
+-- the bits and signs that were found are added
+pub record Applies (plane r : ℕ) (found : Found) (old new : List ℤ) : Type 0 where
+  pub keeps : KeepsMasks r plane old new
+  pub bits : (p : ℕ) → p < 64 → bit (mask_in new r plane) p ≡ (bit (mask_in old r plane) p || bit found.bits p)
+  pub minus : (p : ℕ) → p < 64 → bit (mask_in new r minus_slot) p ≡ (bit (mask_in old r minus_slot) p || bit found.minus p)
+
+-- the masks of block r have what was read of it in the plane, and the signs that it had before
+pub record HasRead (plane r : ℕ) (cells : List ℤ) (block : List ℤ) (s : State) : Type 0 where
+  pub bits : (p : ℕ) → IsAc p → bit (mask_in cells r plane) p ≡ s.bits p
+  pub minus : (p : ℕ) → IsAc p → bit (mask_in cells r minus_slot) p ≡ (negative (get_or block p (pos 0)) || s.minus p)
+
+-- a stage of block r was read, and its masks and the gaggle have what was read
+pub record TakesBlock {I : Type 0} (k : SourceOf I) (plane r : ℕ) (block : List ℤ) (script : Script State State) (result : Result Part TextFault)
+    (g : Gaggle) (cells : List ℤ) (old new : Point I) : Type 0 where
+  pub now : State
+  pub options : AreIn g now.options
+  pub has : HasRead plane r cells block now
+  pub read : ReadsFrom k script (by_part result now now) old new
+
+-- this holds if all was read
+abbrev pub OnWhole : Result Part TextFault → Type 0 → Type 0
+OnWhole (Ok Whole) Holds = Holds
+OnWhole other Holds = Unit {0}

@@ -1,0 +1,54 @@
+-- What the masks of a segment have of a plane that is read, gaggle by gaggle. (This project's own.)
+use Rattle.std.specs.Prelude.{◌<◌, ℕ, ◌*◌, ℤ, nat_lt, List, [], length, Result}
+use lib.ListN.{get_or}
+use Rattle.block_masks.specs.declared.gaggle.Gaggle.{Gaggle}
+use Rattle.block_masks.specs.Masks.{Shows}
+use Rattle.block_masks.specs.Slices.{mask_in, above_slot}
+use Rattle.bit_pipe.specs.declared.fault.Part.{Part}
+use Rattle.bit_pipe.specs.declared.fault.TextFault.{TextFault}
+use Rattle.bit_pipe.specs.Sources.{SourceOf}
+use Rattle.bit_pipe.specs.Coming.{Coming}
+use Rattle.item_scripts.specs.Scripts.{Script, in_turn, around}
+use Rattle.item_scripts.specs.Sources.{ReadsAs, by_part}
+use Rattle.plane_scripts.specs.Stages.{Terms, stage_script}
+use Rattle.plane_scripts.specs.Planes.{PlaneState, of_block, with_block}
+use Rattle.plane_windows.specs.declared.gaggles.Blocks.{Blocks}
+use Rattle.plane_windows.specs.Takes.{AreIn}
+use Rattle.plane_windows.specs.Held.{Point, ReadsFrom}
+use Rattle.plane_windows.specs.Blocks.{IsAbove, HasRead}
+
+-- the deep blocks are those of a depth above the plane
+abbrev pub AreDeep : (plane : ℕ) → List ℕ → Blocks → Type 0
+AreDeep plane depths blocks = Shows blocks.deep (λ r. nat_lt plane (get_or depths r 0)) blocks.first.block blocks.count
+
+-- the masks say which AC numbers of these blocks are significant above the plane
+abbrev pub AreAbove : (plane : ℕ) → (cells : List ℤ) → List (List ℤ) → Type 0
+AreAbove plane cells numbers = (r : ℕ) → 64 * r < length cells → IsAbove (mask_in cells r above_slot) (get_or numbers r []) plane
+
+-- the masks have what was read of all blocks in the plane, and the signs that they had before
+abbrev pub HavePlane : (plane : ℕ) → (cells : List ℤ) → List (List ℤ) → PlaneState → Type 0
+HavePlane plane cells numbers p = (r : ℕ) → 64 * r < length cells → HasRead plane r cells (get_or numbers r []) (p.blocks r)
+
+-- stage 1 of the block r
+abbrev pub block_script : Terms → List ℕ → List (List ℤ) → ℕ → PlaneState → Script PlaneState PlaneState
+block_script t depths numbers r p = around (with_block p r) (stage_script t 1 (get_or depths r 0) (get_or numbers r []) (of_block p r))
+
+-- stage 1 of this number of blocks
+abbrev pub gaggle_script : Terms → List ℕ → List (List ℤ) → (first count : ℕ) → PlaneState → Script PlaneState PlaneState
+gaggle_script t depths numbers = in_turn (block_script t depths numbers)
+
+-- blocks of gaggle g were read, and the masks and the gaggle have what was read
+pub record TakesBlocks {I : Type 0} (k : SourceOf I) (plane g : ℕ) (numbers : List (List ℤ)) (script : Script PlaneState PlaneState)
+    (result : Result Part TextFault) (gaggle : Gaggle) (cells : List ℤ) (old new : Point I) : Type 0 where
+  pub now : PlaneState
+  pub options : AreIn gaggle (now.options g)
+  pub has : HavePlane plane cells numbers now
+  pub read : ReadsFrom k script (by_part result now now) old new
+
+-- the same once the window is let go: exactly the bits that decide were taken
+pub record TakesGaggle {I : Type 0} (k : SourceOf I) (plane g : ℕ) (numbers : List (List ℤ)) (script : Script PlaneState PlaneState)
+    (result : Result Part TextFault) (gaggle : Gaggle) (cells : List ℤ) (old new : Coming I) : Type 0 where
+  pub now : PlaneState
+  pub options : AreIn gaggle (now.options g)
+  pub has : HavePlane plane cells numbers now
+  pub read : ReadsAs k script (by_part result now now) old new

@@ -1,0 +1,44 @@
+-- What was read of a script from a window that is held, and what the masks and the gaggle have then. (This project's own.)
+use Rattle.std.specs.Prelude.{◌≡◌, ℕ, Bool, false, filter, length, Option, Result}
+use Rattle.base_122.specs.declared.book.Book.{Book}
+use Rattle.plane_defs.specs.Spans.{span}
+use Rattle.plane_defs.specs.Steps.{Check, refuses as is_refused}
+use Rattle.block_masks.specs.declared.gaggle.Gaggle.{Gaggle}
+use Rattle.block_masks.specs.Gaggles.{AreOptions}
+use Rattle.bit_pipe.specs.declared.fault.TextFault.{TextFault}
+use Rattle.bit_pipe.specs.Sources.{SourceOf}
+use Rattle.bit_pipe.specs.Coming.{Coming, IsIn}
+use Rattle.item_scripts.specs.Scripts.{Script}
+use Rattle.item_scripts.specs.Sources.{by_done}
+use Rattle.plane_scripts.specs.States.{State, with_options}
+use Rattle.plane_scripts.specs.Words.{due_script}
+use Rattle.plane_windows.specs.declared.found.Found.{Found}
+use Rattle.plane_windows.specs.declared.reading.Reading.{Reading}
+use Rattle.plane_windows.specs.Takes.{AreIn, IsState, OnSome, AreOnes, by_places}
+use Rattle.plane_windows.specs.Places.{AreRows}
+use Rattle.plane_windows.specs.Held.{Holds, Point, ReadsFrom}
+
+-- words can be read from the window that is held, by the options of the gaggle
+pub record IsReading {I : Type 0} (k : SourceOf I) (s : Coming I) (r : Reading) : Type 0 where
+  pub is_in : IsIn s
+  pub holds : Holds k s r.cursor
+  pub options : AreOptions r.gaggle.options
+  pub rows : AreRows r.gaggle r.rows
+
+-- a state was read on, and the masks and the gaggle have what was read
+pub record HeldState {I X : Type 0} (k : SourceOf I) (r : Script State State) (result : Result (Option X) TextFault) (g : Gaggle) (f : Found)
+    (old new : Point I) : Type 0 where
+  pub now : State
+  pub is : IsState g f now
+  pub read : ReadsFrom k r (by_done result now now) old new
+
+-- a word was read, whichever words the check refuses, and a mask has the due places whose bit is 1
+pub record HeldPlaces {I : Type 0} (k : SourceOf I) (book : Book) (mask : ℕ) (due : ℕ → Bool)
+    (start count : ℕ) (s : State) (result : Result (Option ℕ) TextFault) (now : Gaggle) (old new : Point I) : Type 0 where
+  pub options : ℕ → Option ℕ
+  pub known : AreIn now options
+  pub word : ℕ
+  pub ones : ℕ → Bool
+  pub are : OnSome result (AreOnes mask word ones start count)
+  pub read : (check : Check) → (length (filter due (span start count)) ≡ 0 → is_refused check 0 ≡ false) →
+      ReadsFrom k (due_script book due check (span start count) s) (by_places result (is_refused check word) ones (with_options s options)) old new

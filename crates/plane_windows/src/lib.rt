@@ -1,0 +1,23 @@
+//! This crate reads a stage of a bit plane from a window of the text that is held while the stage of a gaggle lasts
+//! (docs/formats.md, "Bit planes" and "Words and codes").
+//!
+//! A `Cursor` holds the window: the input is behind by the bits that were read of it, until the cursor is closed. `PlaceTables` have the
+//! word that is first in an octet for each mask of what is due. A `Reading` reads words, types and signs by them; a word whose option is
+//! not known yet, or for which the window is too short, is read item by item after the cursor is closed, by `word`, `types` and `signs`.
+//! `take_gaggle` reads stage 1, the types of the parents, of all blocks of a gaggle, and adds what was found to the masks of the blocks.
+#![tactic(auto)]
+
+mod apply;
+mod cursor;
+mod found;
+mod gaggles;
+mod groups;
+mod places;
+mod reading;
+mod signs;
+mod stages;
+mod types;
+mod word;
+
+pub use gaggles::{Blocks, Terms, take_gaggle};
+pub use places::PlaceTables;

@@ -1,0 +1,220 @@
+// The reader of the words of a gaggle in a stage, from a window of the text that is held while it lasts.
+
+ghost use Rattle.std.specs.Prelude.{◌≡◌, ◌≤◌, ◌<◌, ◌+◌, ◌^◌, ℕ, Bool, true, []};
+ghost use Rattle.bit_pipe.specs.Coming.{coming, IsIn};
+ghost use Rattle.block_masks.specs.Masks.{Shows};
+ghost use Rattle.std.specs.List.{list_any};
+ghost use Rattle.item_defs.specs.Bits.{bit};
+ghost use Rattle.plane_defs.specs.Spans.{span};
+ghost use Rattle.plane_scripts.specs.States.{State};
+ghost use Rattle.plane_scripts.specs.Words.{types_script};
+ghost use Rattle.plane_windows.specs.Held.{Holds, Stays, point, has_left};
+
+use crate::cursor::Cursor;
+use crate::found::Found;
+use crate::places::{PlaceTables, Rows, UNKNOWN};
+use crate::types::{Group, take_types};
+use crate::word::take_due;
+use bit_pipe::{BitIn, OctetIn, TextFault};
+use block_masks::{Gaggle, part, spread_first};
+
+// The greatest number of bits of a word of types and its signs.
+const MOST: u8 = 12;
+
+// Returns whether a word with its signs can be read from the window by this table: its option is known, and the window, which is moved on
+// if it is too short, has their bits.
+#[inline(always)]
+fn is_ready<I: OctetIn>(cursor: &mut Cursor, input: &mut BitIn<I>, table: u8) -> bool
+    requires is_in { IsIn (coming input.old) }
+    requires holds { Holds I.source (coming input.old) cursor.old }
+    ensures stays { Stays I.source (point (coming input.old) cursor.old) (point (coming input.new) cursor.new) }
+    ensures is_in { IsIn (coming input.new) }
+    ensures holds { Holds I.source (coming input.new) cursor.new }
+    ensures known { result ≡ true → table ≡ 255 → ⊥ }
+    ensures has { result ≡ true → has_left 12 cursor.new }
+    ensures ready { (table ≡ 255 → ⊥) → has_left 12 cursor.old → result ≡ true }
+{
+    table != UNKNOWN && cursor.need(input, MOST)
+}
+
+// What the words of a gaggle are read with in a stage, and what was found of the block that is read.
+#[derive(Clone, Copy)]
+pub(crate) struct Reading<'a> {
+    pub tables: &'a PlaceTables,
+    pub gaggle: Gaggle,
+    rows: Rows,
+    cursor: Cursor,
+    pub found: Found,
+}
+
+impl<'a> Reading<'a> {
+    ghost use Rattle.block_masks.specs.Gaggles.{AreOptions};
+    ghost use Rattle.plane_windows.specs.Takes.{AreIn, IsState, Marks, OnSome};
+    ghost use Rattle.plane_windows.specs.Held.{read_of};
+    ghost use Rattle.plane_windows.specs.HeldTakes.{IsReading, HeldState, HeldPlaces};
+
+    // Returns what words are read with from here on, by the options of a gaggle that are known.
+    pub fn open<I: OctetIn>(
+        input: &BitIn<I>,
+        tables: &'a PlaceTables,
+        gaggle: Gaggle,
+    ) -> Reading<'a>
+        requires open { IsIn (coming input.now) }
+        requires known { AreOptions gaggle.options }
+        ensures reading { IsReading I.source (coming input.now) result }
+        ensures tables { result.tables.now ≡ tables.now }
+        ensures gaggle { result.gaggle ≡ gaggle }
+        ensures none { read_of result.cursor ≡ [] }
+    {
+        Reading {
+            tables,
+            gaggle,
+            rows: Rows::of(&gaggle),
+            cursor: Cursor::open(input),
+            found: Found::NOTHING,
+        }
+    }
+
+    // Takes from the input what was read of the window.
+    pub fn close<I: OctetIn>(&mut self, input: &mut BitIn<I>)
+        requires is_in { IsIn (coming input.old) }
+        requires holds { Holds I.source (coming input.old) self.old.cursor }
+        ensures stays { Stays I.source (point (coming input.old) self.old.cursor) (point (coming input.new) self.new.cursor) }
+        ensures is_in { IsIn (coming input.new) }
+        ensures none { read_of self.new.cursor ≡ [] }
+        ensures kept { read_of self.old.cursor ≡ [] → coming input.new ≡ coming input.old }
+        ensures gaggle { self.new.gaggle ≡ self.old.gaggle }
+    {
+        self.cursor.close(input);
+    }
+
+    // Reads the word of these places without the window.
+    #[inline(never)]
+    fn places_singly<I: OctetIn>(
+        &mut self,
+        input: &mut BitIn<I>,
+        due: u64,
+    ) -> Result<Option<u64>, TextFault>
+        requires reading { IsReading I.source (coming input.old) self.old }
+        requires due { due < 16 }
+        ensures places { (s : State) (g : ℕ → Bool) (start count : ℕ) → AreIn self.old.gaggle s.options → count ≤ 4 → Shows due g start count →
+            HeldPlaces I.source self.old.tables.now.words.book due g start count s result self.new.gaggle (point (coming input.old) self.old.cursor) (point (coming input.new) self.new.cursor) }
+        ensures tables { self.new.tables ≡ self.old.tables }
+        ensures found { self.new.found ≡ self.old.found }
+        ensures reading { OnSome result (λ x. IsReading I.source (coming input.new) self.new) }
+        ensures holds { Holds I.source (coming input.new) self.new.cursor }
+        ensures is_in { IsIn (coming input.new) }
+    {
+        self.cursor.close(input);
+        let read = take_due(input, &self.tables.words, &mut self.gaggle, due);
+        let Some(places) = read? else {
+            return Ok(None);
+        };
+        self.rows = Rows::of(&self.gaggle);
+        self.cursor = Cursor::open(input);
+        Ok(Some(places))
+    }
+
+    // Reads the word of these due places, and returns those whose bit is 1.
+    #[inline(always)]
+    pub fn places<I: OctetIn>(
+        &mut self,
+        input: &mut BitIn<I>,
+        due: u64,
+    ) -> Result<Option<u64>, TextFault>
+        requires reading { IsReading I.source (coming input.old) self.old }
+        requires due { due < 16 }
+        ensures places { (s : State) (g : ℕ → Bool) (start count : ℕ) → AreIn self.old.gaggle s.options → count ≤ 4 → Shows due g start count →
+            HeldPlaces I.source self.old.tables.now.words.book due g start count s result self.new.gaggle (point (coming input.old) self.old.cursor) (point (coming input.new) self.new.cursor) }
+        ensures tables { self.new.tables ≡ self.old.tables }
+        ensures found { self.new.found ≡ self.old.found }
+        ensures reading { OnSome result (λ x. IsReading I.source (coming input.new) self.new) }
+        ensures holds { Holds I.source (coming input.new) self.new.cursor }
+        ensures is_in { IsIn (coming input.new) }
+    {
+        let table = self.rows.table_of(due);
+        if !is_ready(&mut self.cursor, input, table) {
+            return self.places_singly(input, due);
+        }
+        let first = self.tables.first(table, self.cursor.rest);
+        self.cursor.pass(first.len);
+        Ok(Some(u64::from(first.places)))
+    }
+
+    // Reads the types of a group's due positions, and the signs of those that are 1, without the window.
+    #[inline(never)]
+    fn types_singly<I: OctetIn>(
+        &mut self,
+        input: &mut BitIn<I>,
+        due: u64,
+        group: Group,
+    ) -> Result<Option<()>, TextFault>
+        requires reading { IsReading I.source (coming input.old) self.old }
+        requires start { group.start ≤ 60 }
+        requires few { group.count ≤ 4 }
+        requires due { due < 2 ^ group.count }
+        requires some { group.is_wanted ≡ true → 0 < due }
+        ensures types { (s : State) (g : ℕ → Bool) → IsState self.old.gaggle self.old.found s → Shows due g group.start group.count →
+            HeldState I.source (types_script self.old.tables.now.words.book g group.is_wanted (span group.start group.count) s) result self.new.gaggle self.new.found
+            (point (coming input.old) self.old.cursor) (point (coming input.new) self.new.cursor) }
+        ensures tables { self.new.tables ≡ self.old.tables }
+        ensures reading { OnSome result (λ x. IsReading I.source (coming input.new) self.new) }
+        ensures holds { Holds I.source (coming input.new) self.new.cursor }
+        ensures is_in { IsIn (coming input.new) }
+    {
+        self.cursor.close(input);
+        let read = take_types(
+            input,
+            &self.tables.words,
+            &mut self.gaggle,
+            &mut self.found,
+            due,
+            group,
+        );
+        let Some(()) = read? else {
+            return Ok(None);
+        };
+        self.rows = Rows::of(&self.gaggle);
+        self.cursor = Cursor::open(input);
+        Ok(Some(()))
+    }
+
+    // Reads the types of a group, of which these are due, and the signs of those that are 1.
+    #[inline(always)]
+    pub fn types<I: OctetIn>(
+        &mut self,
+        input: &mut BitIn<I>,
+        due: u64,
+        group: Group,
+    ) -> Result<Option<()>, TextFault>
+        requires reading { IsReading I.source (coming input.old) self.old }
+        requires start { group.start ≤ 60 }
+        requires few { group.count ≤ 4 }
+        requires some { group.is_wanted ≡ true → list_any (bit due) (span group.start group.count) ≡ true }
+        ensures types { (s : State) (g : ℕ → Bool) → IsState self.old.gaggle self.old.found s → Marks due g group.start group.count →
+            HeldState I.source (types_script self.old.tables.now.words.book g group.is_wanted (span group.start group.count) s) result self.new.gaggle self.new.found
+            (point (coming input.old) self.old.cursor) (point (coming input.new) self.new.cursor) }
+        ensures tables { self.new.tables ≡ self.old.tables }
+        ensures reading { OnSome result (λ x. IsReading I.source (coming input.new) self.new) }
+        ensures holds { Holds I.source (coming input.new) self.new.cursor }
+        ensures is_in { IsIn (coming input.new) }
+    {
+        let here = part(due, group.start, group.count);
+        let table = self.rows.table_of(here);
+        if !is_ready(&mut self.cursor, input, table) {
+            return self.types_singly(input, here, group);
+        }
+        let first = self.tables.first(table, self.cursor.rest);
+        if group.is_wanted && first.places == 0 {
+            self.cursor.pass(first.len);
+            return Err(TextFault::FalseFlag);
+        }
+        let places = u64::from(first.places);
+        let signs = ((self.cursor.rest << first.len) >> 60) as u8;
+        self.found.add_bits(places, group.start);
+        self.found
+            .add_minus(spread_first(places, signs), group.start);
+        self.cursor.pass(first.signed_len);
+        Ok(Some(()))
+    }
+}

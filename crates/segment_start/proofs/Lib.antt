@@ -1,0 +1,2 @@
+mod BlocksHeld
+mod StartReads

@@ -1,0 +1,2 @@
+mod WorkedRead
+mod SegmentGoes

@@ -1,0 +1,4 @@
+pub mod Segments
+pub mod Outcomes
+pub mod Worked
+pub mod Laws
