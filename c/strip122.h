@@ -5,6 +5,9 @@
 #include <stddef.h>
 #include <stdint.h>
 
+/* The version of this header, 10,000 times the first number, 100 times the second, and the third: 0.2.0. */
+#define STRIP122_VERSION 200u
+
 #ifdef __cplusplus
 extern "C" {
 #endif

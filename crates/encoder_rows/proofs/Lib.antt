@@ -1,0 +1,12 @@
+pub mod PacketSizes
+pub mod NumberRoom
+pub mod BlockRoom
+pub mod TextRoom
+pub mod Parts
+pub mod RasterPixels
+pub mod SegmentRoom
+pub mod Reach
+pub mod RowSteps
+pub mod EndSteps
+pub mod Opening
+pub mod RowReads
