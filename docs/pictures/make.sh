@@ -1,12 +1,14 @@
 #!/bin/sh
-# Makes the PNG files here by the program, and tells the octets of each encoding. Needs netpbm (Debian's package).
+# Makes the PNG files here by the program, and reports the octets of each encoding. It needs netpbm (Debian's package), and for lost_packets.png
+# the photograph of an astronaut by NASA, in the public domain, that Debian's python3-skimage has.
 # The program is that of this repository, or the one that STRIP122 names.
 cd "$(dirname "$0")" || exit
 if ! command -v pnmtopng >/dev/null; then
     echo "$0: needs netpbm (Debian: apt-get install netpbm)" >&2
     exit 1
 fi
-program=${STRIP122:-../../strip122}
+program=$(realpath "${STRIP122:-../../strip122}")
+"$program" version >/dev/null || exit
 kept=$(mktemp -d) || exit
 trap 'rm -rf "$kept"' EXIT
 trap 'exit 1' HUP INT TERM
@@ -48,11 +50,9 @@ picture() {
     echo "$name.png: $* $(wc -c <"$kept/packets") octets of packets"
 }
 
-# The packets without the one whose number is given, by the text octets that `list` tells: 30 more stand before a text.
+# The packets without those whose numbers are given.
 without() {
-    set -- $("$program" list <"$kept/packets" | awk -v lost="$1" '$1 < lost { before += $5 + 30 } $1 == lost { print before + 0, $5 + 30 }')
-    head -c "$1" "$kept/packets"
-    tail -c +$(($1 + $2 + 1)) "$kept/packets"
+    ../../tools/drop_packet.sh "$@" <"$kept/packets"
 }
 
 # A column that is bright in the damaged rows, from the lines of `damage`.
@@ -89,14 +89,22 @@ without 3 >"$kept/received"
 pnmcat -lr "$kept/lost.pgm" "$kept/column.pgm" | pnmtopng -compression 9 >lost.png
 echo "lost.png: packet=65536, without packet 3; $(cat "$kept/note")"
 encode segment=16 packet=65536 >"$kept/packets"
-for lost in 45 32 21 8; do
-    without $lost >"$kept/received" && mv "$kept/received" "$kept/packets"
-done
-"$program" decode <"$kept/packets" 2>"$kept/note" | pgm | pnmtoplainpnm >"$kept/lost.pgm"
-"$program" rects <"$kept/packets" 2>/dev/null >"$kept/rects"
+without 8 21 32 45 >"$kept/received"
+"$program" decode <"$kept/received" 2>"$kept/note" | pgm | pnmtoplainpnm >"$kept/lost.pgm"
+"$program" rects <"$kept/received" 2>/dev/null >"$kept/rects"
 awk -v side=$side "$edges" "$kept/rects" "$kept/lost.pgm" | pnmtopnm | pnmtopng -compression 9 >rects.png
 echo "rects.png: segment=16 packet=65536, without packets 8, 21, 32 and 45; $(cat "$kept/note")"
 picture stop_dc stop=dc
 picture stop_6.3 stop=6.3
 picture stop_3.3 stop=3.3
 picture limit limit=200
+
+photograph=/usr/lib/python3/dist-packages/skimage/data/astronaut.png
+if [ -f "$photograph" ]; then
+    side=512
+    pngtopnm "$photograph" | ppmtopgm | tail -c $((side * side)) >"$kept/raster"
+    encode segment=32 packet=65536 >"$kept/packets"
+    ../../tools/drop_packet.sh 21 46 47 90 <"$kept/packets" >"$kept/received"
+    "$program" decode <"$kept/received" 2>"$kept/note" | pgm | pnmtopng -compression 9 >lost_packets.png
+    echo "lost_packets.png: segment=32 packet=65536, without packets 21, 46, 47 and 90 of 128; $(cat "$kept/note")"
+fi

@@ -1,0 +1,133 @@
+"""The library for C (docs/c.md) by ctypes: its declarations and its calls, `Library(path).encode(..)` and `.decode(..)`.
+
+Nothing else in this package knows the declarations, and this module needs nothing else of the package.
+"""
+
+from __future__ import annotations
+
+import ctypes
+from typing import Any, Dict, List, NamedTuple, Sequence, Tuple
+
+DONE, DAMAGED, OUT_OF_RANGE, SHORT, LONG, BAD_PIXEL, NO_SEGMENT, SMALL_ROOM, NO_MEMORY = range(9)
+FIELDS = "none width rows depth segment limit fill word stop weights apid image packet".split()
+USUAL: Dict[str, Any] = {"segment": 64, "packet": 1024, "apid": 100, "depth": 8, "word": 1, "stop_stage": 3, "optimal": 1}
+USUAL_WEIGHTS = (0, 1, 1, 1, 2, 2, 2, 3, 3, 3)
+
+Fields = List[Tuple[str, Any]]
+
+
+def fields(kind: Any, names: str) -> Fields:
+    return [(name, kind) for name in names.split()]
+
+
+class Setting(ctypes.Structure):
+    """A setting of the encoder; `usual` makes one with the usual value of each field that is not named."""
+
+    _fields_ = (
+        fields(ctypes.c_uint32, "width rows segment limit packet")
+        + fields(ctypes.c_uint16, "apid image")
+        + fields(ctypes.c_uint8, "depth is_signed fill word stop_dc stop_plane stop_stage optimal")
+        + [("weights", ctypes.c_uint8 * 10)]
+    )
+
+
+class Encoded(ctypes.Structure):
+    """What an encoder reports."""
+
+    _fields_ = (
+        fields(ctypes.c_uint64, "octets packets")
+        + fields(ctypes.c_uint32, "segments field row column")
+        + fields(ctypes.c_int32, "value")
+    )
+
+
+class Decoded(ctypes.Structure):
+    """What a decoder reports."""
+
+    _fields_ = (
+        fields(ctypes.c_uint64, "octets ranges fault_octets")
+        + fields(ctypes.c_uint32, "width rows written segment")
+        + fields(ctypes.c_uint16, "image")
+        + fields(ctypes.c_uint8, "depth is_signed word fault")
+        + [("weights", ctypes.c_uint8 * 10)]
+    )
+
+
+class Range(ctypes.Structure):
+    """The rows from one to another, both among them."""
+
+    _fields_ = fields(ctypes.c_uint32, "first last")
+
+
+def usual(width: int, rows: int, weights: Sequence[int] = USUAL_WEIGHTS, **others: int) -> Setting:
+    """Returns a setting for an image of this size, with the usual value of each field that is not named.
+
+    Raises ValueError if a field is unknown, or a value doesn't fit the type of its field: ctypes would cut it.
+    """
+    named = {"width": width, "rows": rows, **USUAL, **others}
+    bits = {name: 8 * ctypes.sizeof(kind) for name, kind in Setting._fields_}
+    for name, value in named.items():
+        if name not in bits:
+            raise ValueError(f"{name}: no such field")
+        if not 0 <= int(value) < 1 << bits[name]:
+            raise ValueError(f"{name}: {value} is not 0 to {(1 << bits[name]) - 1}")
+    return Setting(weights=(ctypes.c_uint8 * 10)(*weights), **{name: int(value) for name, value in named.items()})
+
+
+class Packets(NamedTuple):
+    """An answer of the encoder: the answer, what it reports, and its room."""
+
+    answer: int
+    report: Encoded
+    room: bytes
+
+
+class Picture(NamedTuple):
+    """An answer of the decoder: the answer, what it reports, its room, and the ranges of damaged rows."""
+
+    answer: int
+    report: Decoded
+    room: bytes
+    ranges: List[Tuple[int, int]]
+
+
+class Library:
+    """The library in a shared object. Raises OSError if it can't be loaded, or has other declarations than these."""
+
+    def __init__(self, path: str):
+        library = ctypes.CDLL(path)
+        if not hasattr(library, "strip122_encode") or hasattr(library, "strip122_version"):
+            raise OSError(f"{path}: is not the library of this version of strip122")
+        size, octets, pointer = ctypes.c_size_t, ctypes.c_void_p, ctypes.POINTER
+        self._encode, self._decode = library.strip122_encode, library.strip122_decode
+        self._encode.restype = self._decode.restype = ctypes.c_uint32
+        self._encode.argtypes = [pointer(Setting), octets, size, octets, size, pointer(Encoded)]
+        self._decode.argtypes = [ctypes.c_uint16, octets, size, octets, size, octets, size, pointer(Decoded)]
+
+    def encode(self, setting: Setting, raster: bytes, size: int) -> Packets:
+        """Encodes a raster into a room of `size` octets."""
+        room, report = (ctypes.c_uint8 * max(size, 1))(), Encoded()
+        answer = self._encode(setting, bytes(raster) or b"\0", len(raster), room, size, report)
+        return Packets(answer, report, bytes(memoryview(room)[:size]))
+
+    def decode(self, apid: int, packets: bytes, size: int, places: int) -> Picture:
+        """Decodes packets into a room of `size` octets, with places for that number of ranges of damaged rows."""
+        room, report, ranges = (ctypes.c_uint8 * max(size, 1))(), Decoded(), (Range * max(places, 1))()
+        answer = self._decode(apid, bytes(packets) or b"\0", len(packets), room, size, ranges, places, report)
+        found = [(ranges[it].first, ranges[it].last) for it in range(min(report.ranges, places))]
+        return Picture(answer, report, bytes(memoryview(room)[:size]), found)
+
+    def encode_whole(self, setting: Setting, raster: bytes) -> Packets:
+        """Encodes a raster, with a room that is found."""
+        got = self.encode(setting, raster, 2 * len(raster) + (1 << 16))
+        return self.encode(setting, raster, got.report.octets) if got.answer == SMALL_ROOM else got
+
+    def decode_whole(self, apid: int, packets: bytes, most: int) -> Picture:
+        """Decodes packets, with a room that is found, if the picture has at most this number of pixels.
+
+        Otherwise the answer is SMALL_ROOM, and the report has the size of the picture.
+        """
+        asked = self.decode(apid, packets, 0, 0)
+        if asked.answer != SMALL_ROOM or asked.report.width * asked.report.written > most:
+            return asked
+        return self.decode(apid, packets, asked.report.octets, asked.report.written // 52 + 2)
