@@ -167,8 +167,9 @@ class Line:
 
 def photograph_book() -> bytes:
     """A code book whose lengths fit photographs (docs/recipes.md, "Another code book")."""
-    script = Path(__file__).resolve().parent / "book.py"
-    return subprocess.run([sys.executable, script, *LENGTHS], check=True, stdout=subprocess.PIPE).stdout
+    words = [sys.executable, "-m", "strip122", "book", "-", *LENGTHS]
+    path = {**os.environ, "PYTHONPATH": str(Path(__file__).resolve().parent.parent / "python")}
+    return subprocess.run(words, check=True, stdout=subprocess.PIPE, env=path).stdout
 
 
 class Bench:

@@ -7,6 +7,6 @@
 # isn't given. A PGM is P5, of 8 or 16 bits. The program is that of this repository, or the one that STRIP122 names. Other coders run
 # beside it if they are installed: Debian's packages libaec-tools, libopenjp2-tools and libjxl-tools.
 . "$(dirname "$0")/common.sh"
-need python3
+need_package
 find_program
-exec python3 "$top/tools/bench.py" "$program" "$@"
+exec "$python" "$top/tools/bench.py" "$program" "$@"

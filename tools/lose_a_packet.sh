@@ -1,23 +1,17 @@
 #!/bin/sh
 # Draws a picture, encodes it, loses one of its packets, decodes the rest, and shows what was lost.
-# The proved program is used where it is built, and else `rt try`, which compiles it without proving it.
+# The program is the one that STRIP122 names, or the proved one if it is built, and otherwise one that `rt try` compiles without proving it.
 . "$(dirname "$0")/common.sh"
 make_folder
 width=96
 rows=192
 
-program() {
-    built=$top/crates/strip122/out/strip122
-    if [ -x "$built" ]; then
-        "$built" "$@"
-    else
-        echo "compiling it unproved for '$1', 10 to 60 seconds" >&2
-        (cd "$top/crates/strip122" && rt try -- "$@" 2>"$kept/told")
-        status=$?
-        grep '^strip122: ' "$kept/told" >&2
-        return "$status"
-    fi
-}
+program=${STRIP122:-$top/crates/strip122/out/strip122}
+if [ ! -x "$program" ]; then
+    need rt
+    echo "compiling it unproved, one to three minutes" >&2
+    build_unproved
+fi
 
 # A disc, a ring and stripes before a sky that darkens, as octal escapes.
 drawing='
@@ -29,17 +23,6 @@ function shade(i, j,    up, across, d) {
     return 200 - int(i / 2)
 }
 BEGIN { for (i = 0; i < rows; i++) for (j = 0; j < width; j++) printf "\\%03o", shade(i, j) }'
-
-# Where the packets of a stream begin and how long they are: a primary header has 6 octets, and the data field one more
-# than its last two say.
-packets='
-{ for (i = 1; i <= NF; i++) octet[count++] = $i }
-END {
-    for (at = 0; at < count; at += length_of) {
-        length_of = 7 + 256 * octet[at + 4] + octet[at + 5]
-        print at, length_of
-    }
-}'
 
 # A raster as text, a character for 6 rows and 3 columns.
 shown='
@@ -65,14 +48,11 @@ BEGIN { split(damaged, ends, "-") }
 }'
 
 printf "$(awk -v width=$width -v rows=$rows "$drawing")" >"$kept/raster"
-program encode width=$width rows=$rows segment=24 packet=65536 <"$kept/raster" >"$kept/packets" || exit
-od -An -v -tu1 "$kept/packets" | awk "$packets" >"$kept/places"
-read -r at length <<END
-$(sed -n 6p "$kept/places")
-END
-head -c "$at" "$kept/packets" >"$kept/received"
-tail -c +$((at + length + 1)) "$kept/packets" >>"$kept/received"
-program decode <"$kept/received" >"$kept/decoded" 2>"$kept/note"
+"$program" encode width=$width rows=$rows segment=24 packet=65536 <"$kept/raster" >"$kept/packets" || exit
+"$top/tools/drop_packet.sh" 5 <"$kept/packets" >"$kept/received" || exit
+sent=$(wc -c <"$kept/packets")
+lost=$((sent - $(wc -c <"$kept/received")))
+"$program" decode <"$kept/received" >"$kept/decoded" 2>"$kept/note"
 status=$?
 grep -v '^strip122' "$kept/note" >&2
 damaged=$(sed -n 's/^strip122: damaged rows \([0-9]*-[0-9]*\).*/\1/p' "$kept/note")
@@ -84,8 +64,8 @@ for name in raster decoded; do
 done
 paste -d '~' "$kept/raster.text" "$kept/decoded.text" | sed 's/~/    /' | awk -v damaged="$damaged" "$beside"
 echo
-echo "$(wc -c <"$kept/raster") octets of $rows rows went into $(wc -l <"$kept/places") packets of $(wc -c <"$kept/packets") octets."
-echo "Packet 5 of $length octets was lost. Decoding the others ended with status $status and this note:"
+echo "$(wc -c <"$kept/raster") octets of $rows rows went into $("$program" list <"$kept/packets" | wc -l) packets of $sent octets."
+echo "Packet 5 of $lost octets was lost. Decoding the others ended with status $status and this note:"
 grep '^strip122' "$kept/note"
 paste -d '~' "$kept/raster.rows" "$kept/decoded.rows" | awk -F '~' -v damaged="$damaged" '
 BEGIN { split(damaged, ends, "-") }

@@ -4,7 +4,7 @@ import random
 import subprocess
 import sys
 
-import strip122
+import library as strip122
 
 PROGRAM, HEAP, ARENA = sys.argv[1:4]
 COUNT, SEED = int(sys.argv[4]), int(sys.argv[5])

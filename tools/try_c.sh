@@ -62,5 +62,5 @@ else
     echo "no rustc: its example is skipped"
 fi
 
-PYTHONPATH=$top/python python3 -B "$top/tools/try_c.py" "$program" "$kept/lib_heap.so" "$kept/lib_arena.so" "$settings" "$seed" || exit
+PYTHONPATH=$top/python/strip122 python3 -B "$top/tools/try_c.py" "$program" "$kept/lib_heap.so" "$kept/lib_arena.so" "$settings" "$seed" || exit
 echo "all the same"

@@ -1,7 +1,7 @@
 #!/usr/bin/env python3
 """Runs the commands of documents, and compares what they print with what the documents say.
 
-Usage: tools/try_docs.sh [DOCUMENT ..], the README, the tour and the recipes if none is named. A document is one session of bash, in a
+Usage: tools/try_docs.sh [DOCUMENT ..], the README, the tour, the recipes and docs/ground.md if none is named. A document is one session of bash, in a
 folder with the program and the tools. A block of `sh` is a part of it; a block without a language after it is what this part prints, on
 standard output and standard error, in any order. Memory, speeds and seconds of the clock are not compared.
 """
@@ -15,7 +15,7 @@ from dataclasses import dataclass
 from pathlib import Path
 
 TOP = Path(__file__).resolve().parent.parent
-DOCUMENTS = ["README.md", "docs/tour.md", "docs/recipes.md"]
+DOCUMENTS = ["README.md", "docs/tour.md", "docs/recipes.md", "docs/ground.md"]
 # These lines install packages, prove the program, or wait for another machine.
 LEFT_OUT = ("apt-get ", "rt ci", "sh tools/", "nc ", "instrument | nc ")
 
@@ -52,7 +52,8 @@ def run(document: Path, program: str) -> list[list[str]]:
     """Returns the lines that each part of a document prints."""
     with tempfile.TemporaryDirectory(prefix="strip122-docs-") as folder, tempfile.TemporaryDirectory() as printed:
         (Path(folder) / "strip122").symlink_to(program)
-        (Path(folder) / "tools").symlink_to(TOP / "tools")
+        for name in ("tools", "python"):
+            (Path(folder) / name).symlink_to(TOP / name)
         session = []
         for at, part in enumerate(parts_of(document)):
             (Path(printed) / f"{at}.sh").write_text("\n".join(part.commands) + "\n", encoding="utf-8")

@@ -4,6 +4,8 @@ Where packets are lost, each row outside the damaged ones has to be that of the 
 rows that the definition of docs/formats.md gives for the lost segments, and the status has to be 1 where a segment is
 lost, or 3 where all are. Where octets are changed, the program has to end with status 0, 1 or 3, and `decode` and
 `damage` with the same one: the first four changed streams of an image are asked for their damage and listed too.
+
+A bare stream is changed in the same ways: the program has to end with status 0, or with 3 and a note that says why.
 """
 
 import random
@@ -71,6 +73,9 @@ class Trial:
         status, octets, note = run(self.program, ["encode", *self.sizes, *words], raster)
         assert status == 0, note
         self.packets = packets_of(octets)
+        texts = [it for it in words if not it.startswith("packet=")]
+        status, self.bare, note = run(self.program, ["bare-encode", *self.sizes, *texts], raster)
+        assert status == 0, note
         _, self.whole, _ = run(self.program, ["decode"], octets)
 
     def loses(self):
@@ -108,6 +113,17 @@ class Trial:
             assert listed in (0, 1), told
         return f"changed, status {status}"
 
+    def changes_bare(self):
+        """Some octets of the bare stream are changed, cut out or put in."""
+        octets = changed(self.chance, self.bare)
+        status, picture, note = run(self.program, ["bare-decode", "pixels=1000000"], octets)
+        if status == 0:
+            assert not note and picture, note
+            return "bare, status 0"
+        known = re.fullmatch(r"strip122: (segment \d+ refused|too many pixels.*|[a-z ]+)\n", note)
+        assert status == 3 and known, (status, note)
+        return "bare, a segment is refused" if "refused" in note else f"bare, {note.strip()}"
+
 
 def main(program, count, seed=1, changes=4):
     chance, counts = random.Random(seed), Counter()
@@ -118,6 +134,7 @@ def main(program, count, seed=1, changes=4):
                 counts[trial.loses()] += 1
             if number < changes:
                 counts[trial.changes(number < 4)] += 1
+                counts[trial.changes_bare()] += 1
     for name, times in sorted(counts.items()):
         print(f"{name}: {times}")
 

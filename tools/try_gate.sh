@@ -1,0 +1,121 @@
+#!/bin/sh
+# Checks tools/clauses.py and tools/edits.py on a small repository: what they print, and their status, after each change of its files.
+. "$(dirname "$0")/common.sh"
+need python3
+make_folder
+mkdir -p "$kept/crates/two/src" "$kept/crates/two/must-fail" "$kept/edits/two" "$kept/tools"
+source=$kept/crates/two/src/pair.rt
+edit=$kept/edits/two/adds_one_more.edit
+count=0
+wrong=0
+
+# STATUS TEXT WORDS ..: a command that ends with this status, and has this text in a line that it prints.
+expect() {
+    status=$1
+    text=$2
+    shift 2
+    said=$("$@" 2>&1)
+    got=$?
+    count=$((count + 1))
+    [ "$got" = "$status" ] && printf '%s\n' "$said" | grep -qF -e "$text" || {
+        echo "WRONG: '$*': status $got, and not $status with '$text': $said"
+        wrong=1
+    }
+}
+
+clauses() {
+    python3 "$top/tools/clauses.py" --top "$kept" "$@"
+}
+
+edits() {
+    python3 "$top/tools/edits.py" "$kept"
+}
+
+whole() {
+    cat >"$source" <<'END'
+/// A number and its double.
+pub struct Pair {
+    first: u32,
+}
+
+impl Model for Pair {
+    ghost view = { λ p. p.first };
+}
+
+impl Pair {
+    /// Returns the sum.
+    pub fn sum(&self, more: u32) -> u32
+        requires small { more < 100 }
+        ensures {
+            result ≡ self.now +
+                more
+        }
+    {
+        self.first + more
+    }
+
+    fn half(&self) -> u32
+        ensures { result ≡ self.now / 2 }
+    {
+        self.first / 2
+    }
+}
+
+/// A number in each place.
+pub trait Places {
+    ghost places: { Self → ℕ };
+
+    /// Returns the number.
+    fn number(&self) -> u32
+        ensures { result ≡ places self.now };
+}
+END
+    printf 'file: src/pair.rt\nold:         self.first + more\nnew:         self.first + more + 1\n' >"$edit"
+}
+
+# SCRIPT: changes the source by sed.
+change() {
+    whole
+    sed -i "$1" "$source"
+}
+
+whole
+expect 2 'clauses.txt: No such file' clauses --check
+expect 0 '5 public clauses of 4 functions and types written' clauses --update
+expect 0 '5 public clauses, as tools/clauses.txt has them' clauses --check
+expect 0 'two pair::Pair::sum: requires small { more < 100 }' clauses
+expect 0 'ensures { result ≡ self.now + more }' clauses
+expect 0 '' clauses --changed
+change '/requires small/d'
+expect 1 'dropped: two pair::Pair::sum: requires small' clauses --check
+expect 0 'two' clauses --changed
+change 's/more < 100/more < 99/'
+expect 1 'requires small { more < 99 }' clauses --check
+change 's/self.now +/self.now -/'
+expect 1 'changed: two pair::Pair::sum: ensures' clauses --check
+change 's/places self.now/1/'
+expect 1 'changed: two pair::Places::number: ensures' clauses --check
+change '/ghost view/d'
+expect 1 'dropped: two pair::Model for Pair: ghost view' clauses --check
+change 's/self.now \/ 2/1/; s/Returns the sum/Adds/; s/self.first + more/more + self.first/'
+expect 0 '5 public clauses, as' clauses --check
+
+whole
+expect 0 '1 edits, of which 1 can be applied' edits
+printf 'file: src/pair.rt\nold: self.first\nnew: more\n' >"$edit"
+expect 1 "'self.first' is in src/pair.rt 2 times" edits
+printf 'file: src/pair.rt\nold: self.second\nnew: more\n' >"$edit"
+expect 1 "'self.second' is in src/pair.rt 0 times" edits
+printf 'file: src/other.rt\nold: self\nnew: more\n' >"$edit"
+expect 1 'two has no file src/other.rt' edits
+printf 'file: src/pair.rt\nold: first + more\nnew: first\nold: more\nnew: less\n' >"$edit"
+expect 1 "'more' is in src/pair.rt 3 times" edits
+printf 'file: src/pair.rt\nold: first + more\n' >"$edit"
+expect 1 "an 'old:' line without its 'new:' line" edits
+printf 'file: src/pair.rt\nold: first + more\nnew: first + more\n' >"$edit"
+expect 1 'stays as it is' edits
+mv "$edit" "$kept/crates/two/must-fail/again.edit"
+expect 1 'crates/two/must-fail/again.edit' edits
+
+echo "$count runs of the gate's tools, $([ $wrong = 0 ] && echo all as expected || echo some WRONG)"
+exit $wrong
