@@ -1,9 +1,7 @@
-//! Tests of bare streams: their coded segments one by one, images that are written as bare streams, and bare streams that are read.
+//! Tests of bare streams with another code book, which no command writes or reads. All other bare streams are in cases/.
 #![tactic(auto)]
 
 #[cfg(test)]
 mod read;
-#[cfg(test)]
-mod texts;
 #[cfg(test)]
 mod written;

@@ -1,9 +1,5 @@
-//! Tests of settings, ports and rasters, by values that were calculated by hand.
+//! Tests of ports: calls of a port of memory that fail, and calls of the real outside that are interrupted or would block.
 #![tactic(auto)]
 
 #[cfg(test)]
 mod ports;
-#[cfg(test)]
-mod rasters;
-#[cfg(test)]
-mod settings;

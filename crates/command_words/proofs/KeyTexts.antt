@@ -7,8 +7,8 @@ use Rattle.std.proofs.lemmas.Bool.Decides.{nat_tests}
 use Rattle.command_words.proofs.Separators.{split_one}
 use Rattle.command_words.specs.declared.tables.Key.{Key}
 use Rattle.command_words.specs.declared.tables.Key.TheVariants.{Width}
-use Rattle.command_words.specs.Tables.{key_text, key_named}
-use Rattle.command_words.specs.declared.tables.TheConstants.{ALL}
+use Rattle.command_words.specs.Listed.{key_text, all_keys}
+use Rattle.command_words.specs.Tables.{key_named}
 use Rattle.command_words.specs.Entries.{IsKeyed}
 
 -- no octet is an equals sign
@@ -39,7 +39,7 @@ found_passes p [] key e = absurd (cc)
 found_passes p (other ∷ keys) key e = passes_here p key other (find p keys) (p other) refl e (found_passes p keys key)
 
 pub text_of_named : (text : List ℕ) (key : Key) → key_named text ≡ Some key → key_text key ≡ text
-text_of_named text key e = (bytes_eq-Decides (key_text key) text).0 (found_passes (λ own. bytes_eq (key_text own) text) ALL key e)
+text_of_named text key e = (bytes_eq-Decides (key_text key) text).0 (found_passes (λ own. bytes_eq (key_text own) text) all_keys key e)
 
 pub keyed_from_parts : (word before text : List ℕ) (key : Key) → word ≡ before ++ (61 ∷ text) → key_named before ≡ Some key → IsKeyed word key text
 keyed_from_parts word before text key e named =

@@ -1,4 +1,7 @@
 pub mod Separators
+pub mod KeyTables
+pub mod HelpTexts
+pub mod OwnAnswers
 pub mod ValueTexts
 pub mod KeyTexts
 pub mod WordLists

@@ -1,5 +1,5 @@
 -- The arguments have no other keys than those of the command.
-use Rattle.std.proofs.Common.{◌≡◌, ◌+◌, ℕ, List, [], ◌∷◌, refl, sym, ◌∙◌, ap, subst, T, inl, inr, true, false, ◌==◌, Bool, cond, if◌then◌else◌, find, map, Some, None, Ok, option_map, bytes_eq}
+use Rattle.std.proofs.Common.{◌≡◌, ◌+◌, ℕ, List, [], ◌∷◌, refl, sym, ◌∙◌, ap, subst, T, inl, inr, true, false, ◌==◌, Bool, cond, if◌then◌else◌, find, Some, None, Ok, option_map, bytes_eq}
 use Rattle.std.specs.List.{list_any}
 use Rattle.std.proofs.lemmas.Bool.{false≢true}
 use Rattle.std.proofs.Math.Facts.{eqb_yes}
@@ -8,7 +8,7 @@ use Rattle.command_words.specs.declared.tables.Task.TheVariants.{Encode, Mux, Re
 use Rattle.command_words.specs.declared.tables.Key.{Key}
 use Rattle.command_words.specs.declared.tables.Key.TheVariants.{Total}
 use Rattle.command_words.specs.declared.entries.Entry.{Entry}
-use Rattle.command_words.specs.declared.tables.TheConstants.{COMMANDS}
+use Rattle.command_words.specs.Listed.{commands}
 use Rattle.command_words.specs.Tables.{Finds, contains_key, key_place, command_in, command_named}
 use Rattle.command_words.specs.Entries.{nothing, with_entry, EntriesSay}
 use Rattle.command_words.specs.Commands.{LacksTotal}
@@ -48,7 +48,7 @@ found_none text (row ∷ rows) task keys all e = by (bytes_eq row.0 text) (found
 
 named_none : (text : List ℕ) (task : Task) (keys : List Key) → command_named text ≡ Some (task, keys) → HasNoTotal task keys
 unfolding RowsHaveNone HasNoTotal
-named_none text task keys e = found_none text (map (λ row. (row.0.now, row.1, row.2.now)) COMMANDS) task keys (tt, (tt, (tt, (tt, (tt, (tt, (tt, (tt, (tt, (refl, (tt, (tt, (tt, tt))))))))))))) e
+named_none text task keys e = found_none text commands task keys (tt, (tt, (tt, (tt, (tt, (tt, (tt, (tt, (tt, (refl, (tt, (tt, (tt, tt))))))))))))) e
 
 -- the arguments of `bare-encode` have no total
 pub lacks_total : (text : List ℕ) (task : Task) (keys : List Key) (words : List (List ℕ)) (found : Finds) → command_named text ≡ Some (task, keys) → EntriesSay keys nothing 1 words (Ok found) →

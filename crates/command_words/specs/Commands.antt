@@ -13,7 +13,7 @@ use Rattle.command_words.specs.declared.tables.Key.{Key}
 use Rattle.command_words.specs.declared.tables.Key.TheVariants.{Width, Rows, Limit, Word, Total, Apid}
 use Rattle.command_words.specs.declared.tables.Range.{Range}
 use Rattle.command_words.specs.declared.tables.Range.TheVariants.{All as any_value, Number as number_range, Cap as cap_range, Rows as few_rows, Limit as limit_range, Total as total_range, Fill as fill_range, Stop as stop_range, Weights as weights_range, Cameras as cameras_range}
-use Rattle.command_words.specs.declared.tables.TheConstants.{ALL}
+use Rattle.command_words.specs.Listed.{all_keys}
 use Rattle.command_words.specs.declared.command.Command.{Command}
 use Rattle.command_words.specs.declared.command.Command.TheVariants.{Encode, Mux, Read, Info, Pick, BareEncode, BareDecode, Make, Trial}
 use Rattle.command_words.specs.declared.command.WordFault.{WordFault}
@@ -60,7 +60,7 @@ first_missing keys finds = find (is_missing finds) keys
 
 -- the first key out of range; one that the command doesn't have has its default, which is in range
 abbrev pub first_refused : Task → Finds → Option Key
-first_refused task finds = find (λ key. not (passes task finds key)) ALL
+first_refused task finds = find (λ key. not (passes task finds key)) all_keys
 
 abbrev pub field_of : Option Key → Option Field
 field_of key = option_and_then (λ key. (row_of key).field) key

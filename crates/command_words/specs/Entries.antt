@@ -4,7 +4,8 @@ use Rattle.command_words.specs.declared.tables.Key.{Key}
 use Rattle.command_words.specs.declared.entries.Entry.{Entry}
 use Rattle.command_words.specs.declared.command.WordFault.{WordFault}
 use Rattle.command_words.specs.declared.command.WordFault.TheVariants.{MissingCommand, BadWord, MissingKey, OutOfRange}
-use Rattle.command_words.specs.Tables.{Finds, key_text, key_place, row_of, contains_key}
+use Rattle.command_words.specs.Listed.{key_text}
+use Rattle.command_words.specs.Tables.{Finds, key_place, row_of, contains_key}
 use Rattle.command_words.specs.Values.{value_text, form_of, HasForm}
 
 -- no key yet

@@ -1,6 +1,9 @@
 pub mod Values
+pub mod Listed
 pub mod Tables
 pub mod Entries
 pub mod Commands
 pub mod Words
 pub mod Given
+pub mod Help
+pub mod Answers

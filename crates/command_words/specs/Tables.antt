@@ -1,5 +1,5 @@
 -- The tables of keys and of commands, as they are looked up, and what is made of the values at the keys. This project's own.
-use Rattle.std.specs.Prelude.{ℕ, ◌==◌, Bool, false, List, [], find, map, slice_index_or, unwrap_or, option_map, Option, None}
+use Rattle.std.specs.Prelude.{ℕ, ◌==◌, Bool, false, List, [], find, map, position, slice_index_or, unwrap_or, option_map, Option, None}
 use Rattle.std.specs.List.{list_any}
 use Rattle.std.specs.Str.{bytes_eq}
 use Rattle.base_122.specs.Profile.{profile}
@@ -12,11 +12,12 @@ use Rattle.command_words.specs.declared.command.Command.{Command}
 use Rattle.command_words.specs.declared.command.Command.TheVariants.{Encode, Mux, Read, Info, Pick, BareEncode, BareDecode, Make, Trial}
 use Rattle.command_words.specs.declared.tables.Key.{Key}
 use Rattle.command_words.specs.declared.tables.Key.TheVariants.{Width, Rows, Depth, Signed, Segment, Limit, Fill, Word, Stop, Weights, Select, Apid, Image, Packet, Pixels, Octets, Total, Cameras, Book, Seed}
-use Rattle.command_words.specs.declared.tables.Range.TheVariants.{All as any_value}
 use Rattle.command_words.specs.declared.tables.KeyRow.{KeyRow}
 use Rattle.command_words.specs.declared.values.Value.{Value}
+use Rattle.command_words.specs.declared.tables.Range.TheVariants.{All as any_value}
 use Rattle.command_words.specs.declared.values.Value.TheVariants.{Flag}
-use Rattle.command_words.specs.declared.tables.TheConstants.{ALL, KEYS, COMMANDS}
+use Rattle.command_words.specs.declared.tables.TheConstants.{KEYS}
+use Rattle.command_words.specs.Listed.{key_text, default_of, is_required, range_of, named_field, all_keys, commands}
 use Rattle.command_words.specs.Values.{number_of, cap_of, flag_of, stop_of, weights_of, select_of}
 
 -- a key's place in the table
@@ -42,19 +43,20 @@ key_place Cameras = 17
 key_place Book = 18
 key_place Seed = 19
 
+-- a key's row
+abbrev pub row_of : Key → KeyRow
+row_of key = record { default = default_of key; required = is_required key; field = named_field key; range = range_of key }
+
 abbrev pub no_row : KeyRow
 no_row = record { default = Flag false; required = false; field = None; range = any_value }
 
--- a key's row, and its name
-abbrev pub row_of : Key → KeyRow
-row_of key = slice_index_or (map (λ row. row.1) KEYS) (key_place key) no_row
-
-abbrev pub key_text : Key → List ℕ
-key_text key = slice_index_or (map (λ row. row.0.now) KEYS) (key_place key) []
+-- what a key is for, as the program's table has it
+abbrev pub meaning_of : Key → List ℕ
+meaning_of key = slice_index_or (map (λ entry. entry.2.now) KEYS) (key_place key) []
 
 -- the key with this name
 abbrev pub key_named : List ℕ → Option Key
-key_named text = find (λ key. bytes_eq (key_text key) text) ALL
+key_named text = find (λ key. bytes_eq (key_text key) text) all_keys
 
 -- a key is among these
 abbrev pub contains_key : List Key → Key → Bool
@@ -65,7 +67,11 @@ abbrev pub command_in : List (List ℕ × Task × List Key) → List ℕ → Opt
 command_in table text = option_map (λ row. (row.1, row.2)) (find (λ row. bytes_eq row.0 text) table)
 
 abbrev pub command_named : List ℕ → Option (Task × List Key)
-command_named = command_in (map (λ row. (row.0.now, row.1, row.2.now)) COMMANDS)
+command_named = command_in commands
+
+-- the place among the commands of the one with this name
+abbrev pub command_place : List ℕ → Option ℕ
+command_place text = position (λ row. bytes_eq row.0 text) commands
 
 -- ---- the values
 

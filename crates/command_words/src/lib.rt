@@ -1,16 +1,17 @@
 //! This crate reads the arguments of the command line, and returns the command that they ask for or the first thing that is wrong with
-//! them.
+//! them, or the program's own answer to `help` and `version`.
 #![tactic(auto)]
 
+mod answers;
 mod command;
 mod entries;
 mod given;
+mod help;
 mod reading;
 mod tables;
-mod usage;
 mod values;
 
+pub use answers::{Answer, answer_text, answer_to};
 pub use command::{Command, WordFault};
 pub use reading::read_words;
 pub use tables::Reading;
-pub use usage::{commands_usage, keys_usage};

@@ -1,6 +1,7 @@
 // The table of keys and the table of commands.
-ghost use Rattle.std.specs.Prelude.{◌≡◌, Some, None, MatchOption, map};
-ghost use Rattle.command_words.specs.Tables.{command_in, command_named};
+ghost use Rattle.std.specs.Prelude.{◌≡◌, ◌<◌, [], Some, None, IfSome, MatchOption, length, map, position, slice_index_or, bytes_eq};
+ghost use Rattle.command_words.specs.Listed.{commands};
+ghost use Rattle.command_words.specs.Tables.{no_row, command_in, command_named, command_place};
 
 use crate::values::Value;
 use base_122::{Field, FieldRange, Select, Weights};
@@ -135,38 +136,61 @@ const USUAL: Weights = Weights {
     shifts: [0, 1, 1, 1, 2, 2, 2, 3, 3, 3],
 };
 
-// A row of the table of keys: the name; the default, of a required key after `required`; the field; and the range.
+// A row of the table of keys: the name; the default, of a required key after `required`; the field; the range; and the meaning.
 macro_rules! key_row {
-    ($text:literal: required $default:expr, $field:expr, $range:expr) => {
-        ($text, KeyRow { default: $default, required: true, field: $field, range: $range })
+    ($text:literal: required $default:expr, $field:expr, $range:expr, $meaning:literal) => {
+        ($text, KeyRow { default: $default, required: true, field: $field, range: $range }, $meaning)
     };
-    ($text:literal: $default:expr, $field:expr, $range:expr) => {
-        ($text, KeyRow { default: $default, required: false, field: $field, range: $range })
+    ($text:literal: $default:expr, $field:expr, $range:expr, $meaning:literal) => {
+        ($text, KeyRow { default: $default, required: false, field: $field, range: $range }, $meaning)
     };
 }
 
-// The table of keys: for each its name and its row, in the order of `Key`.
-const KEYS: [(&str, KeyRow); COUNT] = [
-    key_row! { "width": required Value::Number(17), Some(Field::Width), Range::Number(FieldRange::WIDTH) },
-    key_row! { "rows": required Value::Number(17), Some(Field::Rows), Range::Rows(FieldRange::ROWS) },
-    key_row! { "depth": Value::Number(8), Some(Field::Depth), Range::Number(FieldRange::DEPTH) },
-    key_row! { "signed": Value::Flag(false), None, Range::All },
-    key_row! { "segment": Value::Number(64), Some(Field::Segment), Range::Number(FieldRange::SEGMENT) },
-    key_row! { "limit": Value::Number(0), Some(Field::Limit), Range::Limit },
-    key_row! { "fill": Value::Flag(false), Some(Field::Fill), Range::Fill },
-    key_row! { "word": Value::Number(1), Some(Field::Word), Range::Number(FieldRange::WORD) },
-    key_row! { "stop": Value::StopAt { plane: 0, stage: 3 }, Some(Field::Stop), Range::Stop },
-    key_row! { "weights": Value::Weights(USUAL), Some(Field::Weights), Range::Weights },
-    key_row! { "select": Value::Select(Select::Optimal), None, Range::All },
-    key_row! { "apid": Value::Number(100), Some(Field::Apid), Range::Number(FieldRange::APID) },
-    key_row! { "image": Value::Number(0), Some(Field::Image), Range::Number(FieldRange::IMAGE) },
-    key_row! { "packet": Value::Number(1024), Some(Field::Packet), Range::Number(FieldRange::PACKET) },
-    key_row! { "pixels": Value::Cap(1 << 32), Some(Field::Pixels), Range::Cap(FieldRange::PIXELS) },
-    key_row! { "octets": Value::Cap(1 << 40), Some(Field::Octets), Range::Cap(FieldRange::OCTETS) },
-    key_row! { "total": Value::Cap(0), Some(Field::Total), Range::Total },
-    key_row! { "cameras": Value::Number(1), Some(Field::Cameras), Range::Cameras },
-    key_row! { "book": Value::Flag(false), None, Range::All },
-    key_row! { "seed": Value::Number(0), None, Range::All },
+// An entry of the table of keys: the name, the row and the meaning.
+type KeyEntry = (&'static str, KeyRow, &'static str);
+
+// The table of keys, in the order of `Key`.
+const KEYS: [KeyEntry; COUNT] = [
+    key_row! { "width": required Value::Number(17), Some(Field::Width), Range::Number(FieldRange::WIDTH),
+        "pixels in a row" },
+    key_row! { "rows": required Value::Number(17), Some(Field::Rows), Range::Rows(FieldRange::ROWS),
+        "rows of the image; with 0, encode takes rows until the input ends" },
+    key_row! { "depth": Value::Number(8), Some(Field::Depth), Range::Number(FieldRange::DEPTH),
+        "bits in a pixel" },
+    key_row! { "signed": Value::Flag(false), None, Range::All,
+        "1 if pixels are signed, in two's complement" },
+    key_row! { "segment": Value::Number(64), Some(Field::Segment), Range::Number(FieldRange::SEGMENT),
+        "blocks of 8 x 8 pixels in a segment, which is received or lost as a whole" },
+    key_row! { "limit": Value::Number(0), Some(Field::Limit), Range::Limit,
+        "most octets of each coded segment, or 0 for no limit" },
+    key_row! { "fill": Value::Flag(false), Some(Field::Fill), Range::Fill,
+        "1 to fill each coded segment with zeros up to its limit" },
+    key_row! { "word": Value::Number(1), Some(Field::Word), Range::Number(FieldRange::WORD),
+        "octets in a code word; a coded segment is a multiple of it" },
+    key_row! { "stop": Value::StopAt { plane: 0, stage: 3 }, Some(Field::Stop), Range::Stop,
+        "the last part of a segment that is sent: its DC, or stage S of bit plane P" },
+    key_row! { "weights": Value::Weights(USUAL), Some(Field::Weights), Range::Weights,
+        "exponents of the weights of HH1 HL1 LH1 HH2 HL2 LH2 HH3 HL3 LH3 LL3" },
+    key_row! { "select": Value::Select(Select::Optimal), None, Range::All,
+        "how DCs and block depths choose their codes: the shortest or a faster rule" },
+    key_row! { "apid": Value::Number(100), Some(Field::Apid), Range::Number(FieldRange::APID),
+        "application process identifier of the packets" },
+    key_row! { "image": Value::Number(0), Some(Field::Image), Range::Number(FieldRange::IMAGE),
+        "number of the image, which distinguishes images of one APID" },
+    key_row! { "packet": Value::Number(1024), Some(Field::Packet), Range::Number(FieldRange::PACKET),
+        "most octets of a packet data field" },
+    key_row! { "pixels": Value::Cap(1 << 32), Some(Field::Pixels), Range::Cap(FieldRange::PIXELS),
+        "most pixels of a picture; a larger one is refused" },
+    key_row! { "octets": Value::Cap(1 << 40), Some(Field::Octets), Range::Cap(FieldRange::OCTETS),
+        "octets at which the input is refused as too long" },
+    key_row! { "total": Value::Cap(0), Some(Field::Total), Range::Total,
+        "most octets of all coded segments of the image together, or 0 for no bound" },
+    key_row! { "cameras": Value::Number(1), Some(Field::Cameras), Range::Cameras,
+        "cameras on the link; the APID of each is that of the one before, plus 1" },
+    key_row! { "book": Value::Flag(false), None, Range::All,
+        "1 if the input begins with a code book of 138 octets" },
+    key_row! { "seed": Value::Number(0), None, Range::All,
+        "number of the made image of this size" },
 ];
 
 // A group of keys: its title and the keys.
@@ -174,7 +198,7 @@ macro_rules! key_group {
     ($title:literal: $($key:ident)+) => { ($title, &[$(Key::$key),+]) };
 }
 
-/// The groups of keys in the usage text, in the order in which they are listed there: for each its title and its keys.
+/// The groups of keys in the help, in the order in which they are listed there: for each its title and its keys.
 pub const GROUPS: [(&str, &[Key]); 4] = [
     key_group! { "what\n": Width Rows Depth Signed Seed },
     key_group! { "how much to keep\n": Limit Total Fill Stop Weights Select },
@@ -187,40 +211,61 @@ const _: () = prove!(
     GROUPS[0].1.len() + GROUPS[1].1.len() + GROUPS[2].1.len() + GROUPS[3].1.len() == COUNT
 );
 
-/// A command's name, what it does, its keys, and its line in the usage text.
-pub type CommandRow = (&'static str, Task, &'static [Key], &'static str);
+/// A row of the table of commands: the name, what it does, its keys, its meaning in one line, and a run of it in a shell.
+pub type CommandRow = (
+    &'static str,
+    Task,
+    &'static [Key],
+    &'static str,
+    &'static str,
+);
 
 macro_rules! command_row {
-    ($text:literal: $task:expr, $about:literal, $($key:ident)+) => { ($text, $task, &[$(Key::$key),+], $about) };
+    ($name:literal: $task:expr, $meaning:literal, $example:literal, $($key:ident)+) => {
+        ($name, $task, &[$(Key::$key),+], $meaning, $example)
+    };
 }
 
 /// The table of commands.
 pub const COMMANDS: [CommandRow; 13] = [
     command_row! { "encode": Task::Encode, "raster in, space packets out, each as soon as it is determined",
+        "strip122 encode width=640 rows=480 < raster > packets",
         Width Rows Depth Signed Segment Limit Fill Word Stop Weights Select Apid Image Packet Total Book },
     command_row! { "mux": Task::Mux, "rows of cameras in, packets out, each as soon as it is determined",
+        "strip122 mux cameras=2 width=640 rows=480 < records > packets",
         Width Rows Depth Signed Segment Limit Fill Word Stop Weights Select Apid Image Packet Total Cameras },
     command_row! { "decode": Task::Read(Reading::Decode), "packets in, raster out, each row as soon as it is determined",
+        "strip122 decode < packets > raster",
         Apid Pixels Octets Book },
     command_row! { "damage": Task::Read(Reading::Damage), "packets in, one line FIRST-LAST out for each range of damaged rows",
+        "strip122 damage < packets > ranges",
         Apid Pixels Octets Book },
     command_row! { "rects": Task::Read(Reading::Rects), "packets in, one line ROWS COLUMNS out for each damaged rectangle",
-        Apid Pixels Octets Book },
+        "strip122 rects < packets > rectangles",
+        Apid Pixels Octets },
     command_row! { "look": Task::Read(Reading::Look), "packets in, a small picture out, with one value for each block",
-        Apid Pixels Octets Book },
+        "strip122 look < packets > picture",
+        Apid Pixels Octets },
     command_row! { "list": Task::Read(Reading::List), "packets in, one line out for each: its number and its fate",
+        "strip122 list < packets > fates",
         Apid Octets },
     command_row! { "info": Task::Info, "packets in, one line out for each image, of one APID or of all",
+        "strip122 info < packets > images",
         Apid Octets },
     command_row! { "pick": Task::Pick, "packets in, those of an APID out, or of one image of it",
+        "strip122 pick apid=101 image=7 < packets > picked",
         Apid Image Octets },
     command_row! { "bare-encode": Task::BareEncode, "raster in, a bare stream out: segments without packets",
+        "strip122 bare-encode width=640 rows=480 < raster > stream",
         Width Rows Depth Signed Segment Limit Fill Word Stop Weights Select },
     command_row! { "bare-decode": Task::BareDecode, "a bare stream in, raster out, each row as soon as it is determined",
+        "strip122 bare-decode < stream > raster",
         Pixels Octets },
     command_row! { "make": Task::Make, "a made raster out; it reads no input",
+        "strip122 make width=640 rows=480 seed=7 > raster",
         Width Rows Depth Signed Seed },
     command_row! { "trial": Task::Trial, "encodes and decodes a made image in memory; a line of counts out",
+        "strip122 trial width=640 rows=480 limit=1024",
         Width Rows Depth Signed Segment Limit Fill Word Stop Weights Select Apid Image Packet Total Seed },
 ];
 
@@ -244,21 +289,54 @@ fn command_in(mut table: &[CommandRow], text: &str) -> Option<(Task, &'static [K
     None
 }
 
+/// Returns the place in the table of the command with this name.
+pub fn command_place(text: &str) -> Option<usize>
+    ensures place { result ≡ command_place text.now }
+    ensures within { IfSome result (λ place. place < length commands) }
+{
+    place_in(&COMMANDS, text)
+}
+
+fn place_in(table: &[CommandRow], text: &str) -> Option<usize>
+    ensures place { result ≡ position (λ row. bytes_eq row.0.now text.now) table.now }
+    ensures within { IfSome result (λ place. place < length table.now) }
+{
+    table.iter().position(|row| row.0 == text)
+}
+
+// Returns the entry at this place.
+fn entry_at(table: &[KeyEntry], place: usize) -> KeyEntry
+    requires { place < length table.now }
+    ensures name { result.0.now ≡ slice_index_or (map (λ entry. entry.0.now) table.now) place [] }
+    ensures row { result.1 ≡ slice_index_or (map (λ entry. entry.1) table.now) place no_row }
+    ensures meaning { result.2.now ≡ slice_index_or (map (λ entry. entry.2.now) table.now) place [] }
+{
+    table[place]
+}
+
 impl Key {
-    ghost use Rattle.command_words.specs.Tables.{key_text, key_named, key_place, row_of, contains_key};
+    ghost use Rattle.command_words.specs.Listed.{key_text};
+    ghost use Rattle.command_words.specs.Tables.{key_named, key_place, row_of, meaning_of, contains_key};
 
     /// Returns the name of the key.
     pub fn text(self) -> &'static str
         ensures { result.now ≡ key_text self }
     {
-        KEYS[self.place()].0
+        entry_at(&KEYS, self.place()).0
+    }
+
+    /// Returns its meaning, in one line.
+    pub fn meaning(self) -> &'static str
+        ensures { result.now ≡ meaning_of self }
+    {
+        entry_at(&KEYS, self.place()).2
     }
 
     /// Returns its row in the table.
     pub fn row(self) -> KeyRow
         ensures { result ≡ row_of self }
     {
-        KEYS[self.place()].1
+        entry_at(&KEYS, self.place()).1
     }
 
     /// Returns the key with this name.

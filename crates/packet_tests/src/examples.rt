@@ -39,17 +39,6 @@ pub fn changed(place: usize, octet: u8) -> [u8; 52]
     packet
 }
 
-// Returns the black image's packet if its height is reported last, with another octet in one place.
-pub fn reported_last(place: usize, octet: u8) -> [u8; 52]
-    requires { place < 52 }
-{
-    let mut packet = BLACK;
-    packet[7] = 0x21;
-    packet[13] = 0;
-    packet[place] = octet;
-    packet
-}
-
 // Returns the packet of the second segment of the second image.
 pub fn second() -> [u8; 51] {
     let mut packet = FIRST;

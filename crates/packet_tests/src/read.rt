@@ -1,9 +1,8 @@
 // Streams read packet by packet.
 use crate::examples::{BLACK, FIRST_SEGMENT, port_of};
-use crate::written::write_text;
 use bit_pipe::InFault;
-use port_122::{MemoryPort, SteadyPort};
-use space_packets::{Framing, PacketHead, PacketRead, PacketReader, Packetiser, Skip};
+use port_122::MemoryPort;
+use space_packets::{Framing, PacketHead, PacketRead, PacketReader};
 use std::process::Abort;
 use std::test::Fail;
 
@@ -81,38 +80,6 @@ fn expect(
 }
 
 #[test]
-fn packets_come_one_by_one(rt: HostRuntime) -> Result<(), Fail> {
-    let other = Ok(PacketRead::Skipped(Skip::OtherApid));
-    for piece in [1, 7, 51, 52, 65_536] {
-        let answers = [(100, Ok(MINE)), (101, other)];
-        let end = Ok(PacketRead::Ended);
-        expect(&rt, &[&BLACK, &BLACK], &[], piece, 1 << 40, &answers, end)?;
-    }
-    Ok(())
-}
-
-#[test]
-fn idle_packets_and_others_are_skipped(rt: HostRuntime) -> Result<(), Fail> {
-    for (header, skip) in [
-        ([0x0f, 0xff, 0xc0, 0, 0, 0], Skip::Idle),
-        ([0x18, 0x64, 0xc0, 0, 0, 0], Skip::NotTelemetry),
-        ([0x08, 0x65, 0xc0, 0, 0, 0], Skip::OtherApid),
-        ([0x00, 0x64, 0xc0, 0, 0, 0], Skip::NoSecondary),
-        ([0x08, 0x64, 0xc0, 0, 0, 0], Skip::ShortAncillary),
-    ] {
-        let answers = [(100, Ok(PacketRead::Skipped(skip)))];
-        let end = Ok(PacketRead::Ended);
-        expect(&rt, &[&header, &[7]], &[], 4, 100, &answers, end)?;
-    }
-    let mut marked = BLACK;
-    marked[7] = 0x22;
-    let skipped = Ok(PacketRead::Skipped(Skip::OtherMark));
-    let answers = [(100, Ok(MINE)), (100, skipped)];
-    let end = Ok(PacketRead::Ended);
-    expect(&rt, &[&BLACK, &marked], &[], 64, 1000, &answers, end)
-}
-
-#[test]
 fn framing_faults_end_the_reading(rt: HostRuntime) -> Result<(), Fail> {
     let answers = [(100, Ok(MINE))];
     expect(&rt, &[&BLACK], &[], 9, 53, &answers, Ok(PacketRead::Ended))?;
@@ -151,23 +118,4 @@ fn failed_read_is_tried_again(rt: HostRuntime) -> Result<(), Fail> {
     let answers = [(100, fault), (100, fault), (100, Ok(MINE))];
     let end = Ok(PacketRead::Ended);
     expect(&rt, &[&BLACK], &[0, 2], 30, 1000, &answers, end)
-}
-
-#[test]
-fn longest_packets_come_whole(rt: HostRuntime) -> Result<(), Fail> {
-    let mut port = SteadyPort::new(rt.alloc(), Vec::new(rt.alloc()), 200_000)?;
-    let mut packets = Packetiser::new(rt.alloc(), 65_536)?;
-    let text = vec![in rt.alloc(); 9u8; 131_034]?;
-    assert_eq!(rt; write_text(&mut packets, &mut port, &text), Ok(()));
-    let input = port.given().to_vec(rt.alloc())?;
-    assert_eq!(rt; input.len(), 131_124);
-    let mut port = MemoryPort::new(rt.alloc(), input, Vec::new(rt.alloc()), 4_000)?;
-    let mut reader = PacketReader::new(rt.alloc(), 1 << 40)?;
-    for length in [65_512, 65_512, 10] {
-        assert!(rt; reader.next(&mut port, 100).is_ok());
-        assert!(rt; length <= text.len());
-        assert_eq!(rt; reader.text(), &text[..length]);
-    }
-    assert_eq!(rt; reader.next(&mut port, 100), Ok(PacketRead::Ended));
-    Ok(())
 }

@@ -5,7 +5,7 @@ ghost use Rattle.space_packets.specs.declared.stage.PacketiserState.TheVariants.
 
 use crate::examples::FIRST_SEGMENT;
 use bit_pipe::OctetOut;
-use port_122::{Failed, MemoryPort, Port, SteadyPort};
+use port_122::{Failed, MemoryPort, Port};
 use space_packets::Packetiser;
 use std::test::Fail;
 
@@ -36,21 +36,6 @@ pub fn write_text<X: Port>(
     packets.close(port)
 }
 
-#[test]
-fn a_short_text_is_one_packet(rt: HostRuntime) -> Result<(), Fail> {
-    let mut port = SteadyPort::new(rt.alloc(), Vec::new(rt.alloc()), 100)?;
-    let mut packets = Packetiser::new(rt.alloc(), 1024)?;
-    assert_eq!(rt; write_text(&mut packets, &mut port, &[7; 22]), Ok(()));
-    let packet = [
-        0x08, 0x64, 0xc0, 0, 0, 0x2d, 0x12, 0x20, 0, 0, 0, 0, 0, 0x11, 0, 0, 0, 0x40, 0, 0, 0, 0,
-        0, 0, 0, 0, 0, 0, 0, 0, 7, 7, 7, 7, 7, 7, 7, 7, 7, 7, 7, 7, 7, 7, 7, 7, 7, 7, 7, 7, 7, 7,
-    ];
-    assert_eq!(rt; port.given(), packet.as_slice());
-    assert_eq!(rt; packets.packets(), 1);
-    assert_eq!(rt; packets.octets(), 52);
-    Ok(())
-}
-
 // Returns the first six octets of a packet, and its part's number.
 fn head_and_part(octets: &[u8], at: usize) -> ([u8; 6], u8)
     requires { at + 30 ≤ length octets.now }
@@ -60,33 +45,6 @@ fn head_and_part(octets: &[u8], at: usize) -> ([u8; 6], u8)
         [head[0], head[1], head[2], head[3], head[4], head[5]],
         head[29],
     )
-}
-
-#[test]
-fn parts_and_packets_are_numbered(rt: HostRuntime) -> Result<(), Fail> {
-    let mut port = SteadyPort::new(rt.alloc(), Vec::new(rt.alloc()), 400)?;
-    let mut packets = Packetiser::new(rt.alloc(), 64)?;
-    assert_eq!(rt; write_text(&mut packets, &mut port, &[1; 100]), Ok(()));
-    assert_eq!(rt; write_text(&mut packets, &mut port, &[2; 40]), Ok(()));
-    assert_eq!(rt; packets.packets(), 4);
-    assert_eq!(rt; packets.octets(), 260);
-    packets.reset();
-    assert_eq!(rt; packets.octets(), 0);
-    assert_eq!(rt; write_text(&mut packets, &mut port, &[3; 1]), Ok(()));
-    let given = port.given();
-    assert_eq!(rt; given.len(), 291);
-    let place = [
-        (0, [0x08, 0x64, 0x40, 0, 0, 0x3f], 0),
-        (70, [0x08, 0x64, 0, 1, 0, 0x3f], 1),
-        (140, [0x08, 0x64, 0x80, 2, 0, 0x2b], 2),
-        (190, [0x08, 0x64, 0xc0, 3, 0, 0x3f], 0),
-        (260, [0x08, 0x64, 0xc0, 0, 0, 0x18], 0),
-    ];
-    for (at, head, part) in place {
-        assert!(rt; at + 30 <= given.len());
-        assert_eq!(rt; head_and_part(given, at), (head, part));
-    }
-    Ok(())
 }
 
 #[test]

@@ -19,3 +19,4 @@ pub mod BookRuns
 pub mod BookSettings
 pub mod BareRuns
 pub mod Laws
+pub mod OwnName

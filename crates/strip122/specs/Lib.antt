@@ -1,4 +1,3 @@
-pub mod Answers
 pub mod MadeRasters
 pub mod Notes
 pub mod DamageNotes
@@ -13,4 +12,5 @@ pub mod Decoding
 pub mod Pictures
 pub mod Trials
 pub mod Run
+pub mod Answers
 pub mod Endless

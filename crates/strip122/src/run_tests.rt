@@ -1,10 +1,7 @@
-// Tests of whole runs.
-mod bare;
-mod books;
+// Tests of whole runs that need a port of memory: calls that fail, what was given at each read, and a stream without an end. All other runs
+// are in cases/.
+mod calls;
 mod endless;
 mod faults;
-mod heights;
-mod links;
-mod packets;
+mod prompt;
 mod runs;
-mod trials;

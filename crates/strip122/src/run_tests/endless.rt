@@ -1,7 +1,7 @@
 // Tests a run over a stream without an end.
 ghost use Rattle.std.specs.Prelude.{◌<◌, ◌≤◌};
 
-use crate::run_tests::runs::{black, words};
+use crate::run_tests::runs::{BLACK, words};
 use crate::top::run;
 use port_122::{Failed, Port};
 use std::test::Fail;
@@ -45,12 +45,8 @@ impl Port for EndlessPort {
 
 #[test]
 fn the_cap_ends_an_endless_stream(rt: HostRuntime) -> Result<(), Fail> {
-    let packet = black(&rt)?;
-    assert_eq!(rt; packet.len(), 52);
-    let mut octets = [0; 52];
-    octets.copy_from_slice(&packet);
     let mut port = EndlessPort {
-        octets,
+        octets: BLACK,
         at: 0,
         given: 0,
         notes: [0; 64],

@@ -1,6 +1,5 @@
 // Tests runs in which each call fails in turn.
-use crate::run_tests::books::{PROFILE, READINGS, after};
-use crate::run_tests::runs::{Outcome, WHOLE, black, done, ended, part, run_words};
+use crate::run_tests::runs::{BLACK, Outcome, WHOLE, after_book, done, part, run_words};
 use std::process::Abort;
 use std::test::Fail;
 
@@ -89,52 +88,33 @@ fn fail_each(
 }
 
 #[test]
-fn encoding_and_decoding(rt: HostRuntime) -> Result<(), Fail> {
-    let black = black(&rt)?;
+fn each_call_of_a_run_over_one_segment_fails(rt: HostRuntime) -> Result<(), Fail> {
+    let raster = [0; 289];
+    let stream = part(&BLACK, 30, 52);
     for piece in [1, 7, WHOLE] {
-        fail_each(&rt, "encode width=17 rows=17", &[0; 289], piece)?;
-        fail_each(&rt, "decode", &black, piece)?;
-        fail_each(&rt, "encode width=17 rows=0", &[0; 289], piece)?;
+        fail_each(&rt, "encode width=17 rows=17", &raster, piece)?;
+        fail_each(&rt, "encode width=17 rows=0", &raster, piece)?;
+        fail_each(&rt, "decode", &BLACK, piece)?;
+        fail_each(&rt, "bare-encode width=17 rows=17", &raster, piece)?;
+        fail_each(&rt, "bare-decode", stream, piece)?;
     }
     Ok(())
 }
 
 #[test]
-fn input_after_a_book(rt: HostRuntime) -> Result<(), Fail> {
-    let raster = after(&rt, &PROFILE, &[0; 289])?;
-    let packets = after(&rt, &PROFILE, &black(&rt)?)?;
+fn each_call_of_a_run_after_a_book_fails(rt: HostRuntime) -> Result<(), Fail> {
+    let raster = after_book(&rt, &[0; 289])?;
+    let packets = after_book(&rt, &BLACK)?;
     for piece in [1, 7, WHOLE] {
         fail_each(&rt, "encode width=17 rows=17 book=1", &raster, piece)?;
-        for words in READINGS {
-            fail_each(&rt, words, &packets, piece)?;
-        }
+        fail_each(&rt, "decode book=1", &packets, piece)?;
+        fail_each(&rt, "damage book=1", &packets, piece)?;
     }
     Ok(())
 }
 
 #[test]
-fn bare_streams(rt: HostRuntime) -> Result<(), Fail> {
-    let stream = done(&rt, "bare-encode width=17 rows=17", &[0; 289])?;
-    for piece in [1, 7, WHOLE] {
-        fail_each(&rt, "bare-encode width=17 rows=17", &[0; 289], piece)?;
-        fail_each(&rt, "bare-decode", &stream, piece)?;
-    }
-    Ok(())
-}
-
-#[test]
-fn decoding_without_the_last_segment(rt: HostRuntime) -> Result<(), Fail> {
-    let given = done(&rt, "encode width=64 rows=0 segment=16", &[0; 3072])?;
-    assert_eq!(rt; given.len(), 154);
-    for piece in [7, WHOLE] {
-        fail_each(&rt, "decode", part(&given, 0, 102), piece)?;
-        fail_each(&rt, "damage", part(&given, 0, 102), piece)?;
-    }
-    Ok(())
-}
-
-#[test]
-fn lists_of_a_cut_stream(rt: HostRuntime) -> Result<(), Fail> {
+fn each_call_of_a_run_over_a_cut_packet_fails(rt: HostRuntime) -> Result<(), Fail> {
     let given = done(&rt, "encode width=64 rows=48 segment=16", &[0; 3072])?;
     assert_eq!(rt; given.len(), 154);
     let cut = part(&given, 0, 153);
@@ -142,20 +122,20 @@ fn lists_of_a_cut_stream(rt: HostRuntime) -> Result<(), Fail> {
         fail_each(&rt, "list", cut, piece)?;
         fail_each(&rt, "damage", cut, piece)?;
     }
+    for piece in [7, WHOLE] {
+        fail_each(&rt, "info", cut, piece)?;
+        fail_each(&rt, "pick", cut, piece)?;
+    }
     Ok(())
 }
 
 #[test]
-fn a_note_that_fails_leaves_the_status(rt: HostRuntime) -> Result<(), Fail> {
-    // The calls read sixteen rows, a part of the last, and the end, and then write the note.
-    ended(
-        &rt,
-        "encode width=17 rows=17",
-        &[0; 288],
-        &[18],
-        WHOLE,
-        3,
-        "",
-    )?;
+fn each_call_of_a_run_without_the_last_segment_fails(rt: HostRuntime) -> Result<(), Fail> {
+    let given = done(&rt, "encode width=64 rows=0 segment=16", &[0; 3072])?;
+    assert_eq!(rt; given.len(), 154);
+    for piece in [7, WHOLE] {
+        fail_each(&rt, "decode", part(&given, 0, 102), piece)?;
+        fail_each(&rt, "damage", part(&given, 0, 102), piece)?;
+    }
     Ok(())
 }

@@ -1,2 +1,0 @@
-mod FlatRow
-mod StripBlocks

@@ -1,8 +1,0 @@
-use Rattle.std.proofs.Common.{◌≡◌, ◌*◌, take}
-use Rattle.benches.proofs.texts.hold.Given as goal
-
-abbrev pub invariant-loop-r : goal.invariant-loop-r
-invariant-loop-r l = record {
-  most : l.segment.most ≡ l.initial.segment.most;
-  numbers : l.segment.numbers ≡ take (64 * l.r) l.numbers;
-}
