@@ -1,14 +1,15 @@
 # The front door: each target calls a script. `make help` lists the targets.
 PREFIX = /usr/local
-
-build:                  ## proves and builds the program and the library for C (one to two hours the first time)
-	@tools/build.sh
+.DEFAULT_GOAL = build
 
 demo:                   ## draws a picture, encodes it, loses a packet, and decodes the others (two minutes)
 	@tools/lose_a_packet.sh
 
 test:                   ## compares 1,500 runs with what the rules say (two minutes)
 	@tools/test.sh
+
+build:                  ## proves and builds the program and the library for C (one to two hours the first time)
+	@tools/build.sh
 
 prove:                  ## proves all crates from nothing and runs all tests (one to two hours)
 	@rt ci
