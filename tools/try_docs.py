@@ -16,8 +16,8 @@ from pathlib import Path
 
 TOP = Path(__file__).resolve().parent.parent
 DOCUMENTS = ["README.md", "docs/tour.md", "docs/recipes.md", "docs/ground.md", "python/README.md"]
-# These lines install packages, prove the program, or wait for another machine.
-LEFT_OUT = ("apt-get ", "rt ci", "sh tools/", "nc ", "instrument | nc ")
+# These lines install packages or prove the program.
+LEFT_OUT = ("apt-get ", "rt ci", "sh tools/")
 
 
 @dataclass
