@@ -102,8 +102,8 @@ def reference(commands: list[Command], keys: list[str], advice: dict[str, str]) 
         "|---|---|",
         *[f"| `{command.name}` | {command.meaning} |" for command in commands],
         "",
-        "The first word is the command, and each further one is `key=value`, in any order, each key at most once. Numbers are decimal, without a sign "
-        "and without leading zeros.",
+        "After the command each argument is `key=value`, in any order, each key at most once. Numbers are decimal, without a sign and without "
+        "leading zeros.",
         "",
         "## Keys",
     ]
