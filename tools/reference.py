@@ -93,20 +93,17 @@ def reference(commands: list[Command], keys: list[str], advice: dict[str, str]) 
         "# Commands and keys",
         "",
         "This document has all commands and all keys of `strip122`, with the effect of each key and when to change it. `tools/reference.sh` makes it "
-        "from what `strip122 help` prints and from `share/advice.md`. [statuses.md](statuses.md) has the statuses and the notes.",
+        "from what `strip122 help` prints and from `share/advice.md`. `strip122 help encode` has the keys of a command and an example. "
+        "[statuses.md](statuses.md) has the statuses and the notes.",
         "",
         "## Commands",
         "",
-        "| command | what it does | keys |",
-        "|---|---|---|",
-    ]
-    for command in commands:
-        own = " ".join(f"[{key.name}](#{key.name})" for key in command.keys)
-        lines.append(f"| `{command.name}` | {command.meaning} | {own} |")
-    lines += ["", "An example of each:", "", "```sh", *[command.example for command in commands], "```", ""]
-    lines += [
-        "The first word is the command, and each further one is `key=value`, in any order, each key at most once. Numbers are decimal, without a sign "
-        "and without leading zeros.",
+        "| command | what it does |",
+        "|---|---|",
+        *[f"| `{command.name}` | {command.meaning} |" for command in commands],
+        "",
+        "After the command each argument is `key=value`, in any order, each key at most once. Numbers are decimal, without a sign and without "
+        "leading zeros.",
         "",
         "## Keys",
     ]

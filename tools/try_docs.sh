@@ -1,5 +1,5 @@
 #!/bin/sh
-# Runs the commands of the README, the tour, the recipes and docs/ground.md, and compares what they print with these documents.
+# Runs the commands of the README, the tour, the recipes, docs/ground.md and python/README.md, and compares what they print with these documents.
 #
 #   tools/try_docs.sh [DOCUMENT ..]
 #

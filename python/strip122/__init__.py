@@ -7,7 +7,7 @@
     packets = strip122.encode(array, depth=12, segment=256)
     strip122.decode(packets).array
 
-`python3 -m strip122` has the same for the command line. docs/ground.md has more.
+`python3 -m strip122` has the same for the command line. docs/ground.md and python/README.md have more.
 """
 
 from pathlib import Path
