@@ -9,7 +9,7 @@
 # Packages that are missing: a module that any of the known Pythons has is there.
 missing() {
     for pair in numpy:python3-numpy PIL:python3-pil tqdm:python3-tqdm jinja2:python3-jinja2 astropy:python3-astropy \
-        pytest:python3-pytest; do
+        pytest:python3-pytest distributed:python3-distributed; do
         find_python "${pair%%:*}" || printf ' %s' "${pair#*:}"
     done
     command -v chromium >/dev/null || printf ' chromium'

@@ -1,9 +1,9 @@
 #!/usr/bin/env python3
 """Counts the words of the documents, and their sentences.
 
-Usage: tools/words.py [--long N] [FILE ..], by default README.md and docs/*.md. For each document it prints the words, and the mean and the
-greatest number of words of its sentences; last a line for all. Blocks of code and rows of tables count as words and not as sentences. With
-`--long N`, each sentence of more than N words is printed too.
+Usage: tools/words.py [--long N] [FILE ..], by default README.md, docs/*.md, crates/README.md and python/README.md. For each document it
+prints the words, which have a letter or a digit, and the mean and the greatest number of words of its sentences; last a line for all. Blocks
+of code and rows of tables count as words and not as sentences. With `--long N`, each sentence of more than N words is printed too.
 """
 import argparse
 import re
@@ -36,23 +36,30 @@ def sentences(text: str) -> list[str]:
     return [sentence for paragraph in paragraphs(text) for sentence in END_OF_SENTENCE.split(paragraph) if sentence]
 
 
+def words_in(text: str) -> int:
+    """Returns the number of words: the bars and dashes of a table are none."""
+    return sum(any(map(str.isalnum, word)) for word in text.split())
+
+
 def main() -> None:
     parser = argparse.ArgumentParser(description="Counts the words of the documents, and their sentences.")
     parser.add_argument("--long", type=int, metavar="N", help="print each sentence of more than N words")
     parser.add_argument("files", nargs="*", type=Path)
     chosen = parser.parse_args()
-    files = chosen.files or [TOP / "README.md", *sorted((TOP / "docs").glob("*.md"))]
+    beside = [TOP / "crates/README.md", TOP / "python/README.md"]
+    files = chosen.files or [TOP / "README.md", *sorted((TOP / "docs").glob("*.md")), *beside]
     print(f"{'document':24} {'words':>6} {'mean':>5} {'longest':>8}")
     words_of_all, lengths_of_all = 0, [0]
     for file in files:
         text = file.read_text(encoding="utf-8")
-        lengths = [len(sentence.split()) for sentence in sentences(text)] or [0]
-        words = len(text.split())
-        print(f"{file.name:24} {words:6} {sum(lengths) / len(lengths):5.1f} {max(lengths):8}")
+        lengths = [words_in(sentence) for sentence in sentences(text)] or [0]
+        words = words_in(text)
+        name = file.relative_to(TOP) if file.is_relative_to(TOP) else file
+        print(f"{name!s:24} {words:6} {sum(lengths) / len(lengths):5.1f} {max(lengths):8}")
         if chosen.long is not None:
             for sentence in sentences(text):
-                if len(sentence.split()) > chosen.long:
-                    print(f"    {len(sentence.split())}: {sentence}")
+                if words_in(sentence) > chosen.long:
+                    print(f"    {words_in(sentence)}: {sentence}")
         words_of_all += words
         lengths_of_all += lengths
     print(f"{'all':24} {words_of_all:6} {sum(lengths_of_all) / len(lengths_of_all):5.1f} {max(lengths_of_all):8}")

@@ -2,6 +2,7 @@
 
 from __future__ import annotations
 
+from concurrent.futures import ThreadPoolExecutor
 from functools import cached_property
 from typing import List, Optional
 
@@ -12,7 +13,7 @@ from .coding import MOST_PIXELS, Decoded, Rect, look_of
 from .errors import BadInput
 from .images import SortedImage
 from .keys import checked
-from .outputs import decoded_stream, stream_of
+from .outputs import decoded_stream, early_rects, stream_of
 from .passes import Pass, sort
 from .rasters import Array
 from .source import Given
@@ -52,7 +53,8 @@ class Image:
         """The picture, and what of it can't be trusted. Raises BadInput, with the names of the file and the image."""
         try:
             stream = stream_of(self._pass, self._image, self._pixels)
-            return decoded_stream(self._image, stream, self._pixels)
+            with ThreadPoolExecutor(1) as thread:
+                return decoded_stream(self._image, stream, self._pixels, early_rects(self._image, stream, self._pixels, thread))
         except BadInput as fault:
             raise BadInput(f"{self._pass.source.title}: {fault}") from fault
 

@@ -18,7 +18,6 @@ from .keys import BOOK_SIZE, ENCODE, KEYS, from_words
 from .outputs import Record, Wish, processors, status_of, store_list, write_all
 from .passes import Pass, sort
 from .readers import READERS, read_array, read_octets
-from .report import write_report
 from .writers import WRITERS, kinds_of
 
 STATUSES = """\
@@ -101,6 +100,8 @@ def out_command(words: Words) -> Status:
 
 
 def report_command(words: Words) -> Status:
+    from .report import write_report  # here, since Jinja2 takes a while to load
+
     wish = wish_of(words, has_look=False, has_small=True, has_packets=True)
     return decoded_files(words, wish, lambda them, records: write_report(them, records, wish.folder))
 

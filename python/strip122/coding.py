@@ -2,7 +2,7 @@
 
 from __future__ import annotations
 
-from concurrent.futures import ThreadPoolExecutor
+from concurrent.futures import Future
 from dataclasses import dataclass, field, replace
 from typing import Any, Dict, List, NamedTuple, Optional
 
@@ -28,6 +28,9 @@ class Rect(NamedTuple):
     last_row: int
     first_column: int
     last_column: int
+
+
+EarlyRects = Optional["Future[List[Rect]]"]
 
 
 @dataclass(frozen=True)
@@ -179,21 +182,19 @@ def decoded_as(
     pixels: int,
     book: Optional[bytes] = None,
     lib: Optional[c.Library] = None,
-    expects_damage: bool = False,
+    early: EarlyRects = None,
 ) -> Decoded:
     """Returns the picture of packets whose pixels have this form; the library needs none.
 
-    If damage is expected, its rectangles are asked for while the picture is decoded.
+    `early` gives its rectangles of damage, if they are asked for while the picture is decoded.
     """
-    with ThreadPoolExecutor(1) as thread:
-        early = thread.submit(rects_of, packets, apid, pixels) if expects_damage and book is None else None
-        decoded = decoded_by_library(lib, packets, apid, pixels) if lib else decoded_by_program(packets, apid, form, pixels, book)
-        if not decoded.damage:
-            return decoded
-        if book is not None:  # `rects` of the program takes no book
-            rects = [Rect(it.start, it.stop - 1, 0, decoded.array.shape[1] - 1) for it in decoded.damage]
-        else:
-            rects = early.result() if early else rects_of(packets, apid, pixels)
+    decoded = decoded_by_library(lib, packets, apid, pixels) if lib else decoded_by_program(packets, apid, form, pixels, book)
+    if not decoded.damage:
+        return decoded
+    if book is not None:  # `rects` of the program takes no book
+        rects = [Rect(it.start, it.stop - 1, 0, decoded.array.shape[1] - 1) for it in decoded.damage]
+    else:
+        rects = early.result() if early else rects_of(packets, apid, pixels)
     return replace(decoded, rects=rects)
 
 

@@ -6,14 +6,14 @@ import json
 import multiprocessing
 import os
 import sys
-from concurrent.futures import ProcessPoolExecutor, ThreadPoolExecutor, as_completed
+from concurrent.futures import Executor, ProcessPoolExecutor, ThreadPoolExecutor, as_completed
 from dataclasses import dataclass
 from pathlib import Path
 from typing import Any, Dict, Iterator, List, Optional, Tuple
 
 from tqdm import tqdm
 
-from .coding import MOST_PIXELS, Decoded, decoded_as, look_of
+from .coding import MOST_PIXELS, Decoded, EarlyRects, decoded_as, look_of, rects_of
 from .errors import BadInput, Status
 from .files import make_folder, store
 from .images import SortedImage
@@ -49,13 +49,18 @@ def stream_of(them: Pass, image: SortedImage, pixels: int) -> bytes:
     return them.stream(image)
 
 
-def decoded_stream(image: SortedImage, stream: bytes, pixels: int) -> Decoded:
+def early_rects(image: SortedImage, stream: bytes, pixels: int, thread: Executor) -> EarlyRects:
+    """Asks in a thread for the rectangles of damage, if damage is expected, so that they are there when the picture is."""
+    is_hurt = not image.is_whole or bool(image.before_junk) or bool(image.differing)
+    return thread.submit(rects_of, stream, image.key.apid, pixels) if is_hurt else None
+
+
+def decoded_stream(image: SortedImage, stream: bytes, pixels: int, early: EarlyRects) -> Decoded:
     """Returns the picture of the packets of an image. Raises BadInput with the name of the image."""
     assert image.format
-    is_hurt = not image.is_whole or bool(image.before_junk) or bool(image.differing)
     form, lib = image.format.pixels, shared_library()
     try:
-        return decoded_as(stream, image.key.apid, form, pixels, lib=lib, expects_damage=is_hurt)
+        return decoded_as(stream, image.key.apid, form, pixels, lib=lib, early=early)
     except BadInput as fault:
         raise BadInput(f"{image.name}: {fault}") from fault
 
@@ -69,10 +74,11 @@ def write_image(them: Pass, number: int, wish: Wish) -> Record:
     record: Record = {**record_of(image), "status": int(Status.DONE), "error": None, "files": {}}
     try:
         stream = stream_of(them, image, wish.pixels)
-        with ThreadPoolExecutor(1) as thread:
+        with ThreadPoolExecutor(1) as thread:  # it asks for the rectangles, and then for the look
+            early = early_rects(image, stream, wish.pixels, thread)
             form = image.format.pixels if image.format else None
             look = thread.submit(look_of, stream, image.key.apid, form, wish.pixels) if wish.has_look and form else None
-            decoded = decoded_stream(image, stream, wish.pixels)
+            decoded = decoded_stream(image, stream, wish.pixels, early)
             write_pictures(record, decoded, wish)
             if look:
                 store_png(named(record, wish.folder, "look", "look.png"), plain_picture(look.result(), decoded.depth))

@@ -15,7 +15,7 @@ LOW, HIGH = 1.0, 99.5  # the percentiles that become black and white
 LEVELS = 256  # grays of a picture that is whole
 GRAYS, TINTS = 224, 32  # grays and tints of a picture with tints: together the 256 colours of a palette
 TINT = (214, 40, 57)  # half of a tinted pixel is this red, and half its gray
-ROWS_AT_ONCE = 256
+ROWS_AT_ONCE = 16  # so that what is made of them fits the cache of a processor
 SMALL_SIDE = 512  # pixels of the longer side of a small picture
 
 Gray = NDArray[np.uint8]
@@ -30,7 +30,8 @@ def counted_values(array: Array, form: Pixels, mask: Optional[NDArray[np.bool_]]
     counts = np.zeros(form.most - form.least + 1, np.int64)
     for begin in range(0, len(array), ROWS_AT_ONCE):
         piece = array[begin : begin + ROWS_AT_ONCE]
-        values = piece.ravel() if mask is None else piece[~mask[begin : begin + ROWS_AT_ONCE]]
+        hidden = None if mask is None else mask[begin : begin + ROWS_AT_ONCE]
+        values = piece[~hidden] if hidden is not None and hidden.any() else piece.ravel()
         counts += np.bincount(values.astype(np.intp) - form.least, minlength=len(counts))
     return counts
 
@@ -56,7 +57,9 @@ def grays(array: Array, form: Pixels, black: int, white: int, levels: int = LEVE
         whole = np.zeros(256 if form.depth <= 8 else 65_536, np.uint8)
         whole[np.arange(form.least, form.most + 1)] = table
         table, array = whole, array.view(array.dtype.str.replace("i", "u"))
-    gray: Gray = np.take(table, array)
+    gray = np.empty(array.shape, np.uint8)
+    for begin in range(0, len(array), ROWS_AT_ONCE):
+        np.take(table, array[begin : begin + ROWS_AT_ONCE], out=gray[begin : begin + ROWS_AT_ONCE], mode="clip")
     return gray
 
 
