@@ -135,7 +135,7 @@ end_is {G} {A} P (ask g form next) p bits left a e =
     here None q e more = absurd cc
     here (Some r) q e more = named (form.refusal r.0) refl e
       where
-        named : (name : Option Refusal) → form.refusal r.0 ≡ name → unless_named g name (run (next r.0) r.1) ≡ whole a left → P a
+        named : (name : Option Refusal) → form.refusal r.0 ≡ name → unless_named g name r.1 (run (next r.0) r.1) ≡ whole a left → P a
         named (Some name) f e = absurd cc
         named None f e = more r.0 r.1 (first_spelt form.shape bits r.1 r.0 q).0 f e
 

@@ -39,7 +39,7 @@ module _ {G A : Type 0} where
   pub goes_on_ask : (g : G) (form : Form) (next : ℕ → Script G A) (n : ℕ) → IsSound form.shape → IsSaid form.shape n → form.refusal n ≡ None →
       GoesOn (ask g form next) (spelling form.shape n) (next n)
   goes_on_ask g form next n sound said good = λ more.
-      ap (answered g form (λ m. run (next m))) (spelt_first form.shape n more sound said) ∙ ap (λ name. unless_named g name (run (next n) more)) good
+      ap (answered g form (λ m. run (next m))) (spelt_first form.shape n more sound said) ∙ ap (λ name. unless_named g name more (run (next n) more)) good
 
 module _ {G A B : Type 0} (s : Script G A) (next : A → Script G B) where
   later : (bits : List Bool) (o : Outcome G A) → run s bits ≡ o → run (then_ask s next) bits ≡ proceed (λ a. run (next a)) o
@@ -89,7 +89,7 @@ module _ {I : Type 0} {k : SourceOf I} {G A : Type 0} where
     ask_refused n name sound p bad = record {
       bits = spelling form.shape n;
       taken = p.1;
-      says = λ more. ap (answered g form (λ m. run (next m))) (spelt_first form.shape n more sound p.0) ∙ ap (λ x. unless_named g x (run (next n) more)) bad;
+      says = λ more. ap (answered g form (λ m. run (next m))) (spelt_first form.shape n more sound p.0) ∙ ap (λ x. unless_named g x more (run (next n) more)) bad;
       stops = tt;
     }
 
@@ -128,7 +128,7 @@ module _ {I : Type 0} {k : SourceOf I} {G A B : Type 0} (r : Script G A) (next :
   read_cut g p = record { bits = p.bits; taken = p.taken; says = later r next p.bits (cut g) p.says; stops = p.stops }
 
   refused_first : (g : G) (name : Refusal) → ReadsAs k r (refuses g name) s t → ReadsAs k (then_ask r next) (refuses g name) s t
-  refused_first g name p = record { bits = p.bits; taken = p.taken; says = λ more. later r next (p.bits ++ more) (refused g name) (p.says more); stops = tt }
+  refused_first g name p = record { bits = p.bits; taken = p.taken; says = λ more. later r next (p.bits ++ more) (refused g name more) (p.says more); stops = tt }
 
   failed_first : (g : G) (e : InFault) → ReadsAs k r (fails g e) s t → ReadsAs k (then_ask r next) (fails g e) s t
   failed_first g e p = record { bits = p.bits; taken = p.taken; says = later r next p.bits (cut g) p.says; stops = p.stops }
@@ -166,16 +166,17 @@ found_in put (fails g e) = fails (put g) e
 abbrev outcome_in : {S T : Type 0} → (S → T) → Outcome S S → Outcome T T
 outcome_in put (whole a left) = whole (put a) left
 outcome_in put (cut g) = cut (put g)
-outcome_in put (refused g name) = refused (put g) name
+outcome_in put (refused g name left) = refused (put g) name left
 
 module _ {S T : Type 0} (put : S → T) where
-  unless_in : (g : S) (name : Option Refusal) (o : Outcome S S) → unless_named (put g) name (outcome_in put o) ≡ outcome_in put (unless_named g name o)
-  unless_in g (Some name) o = refl
-  unless_in g None o = refl
+  unless_in : (g : S) (name : Option Refusal) (left : List Bool) (o : Outcome S S) →
+      unless_named (put g) name left (outcome_in put o) ≡ outcome_in put (unless_named g name left o)
+  unless_in g (Some name) left o = refl
+  unless_in g None left o = refl
 
   answered_in : (g : S) (form : Form) (f : ℕ → List Bool → Outcome S S) (o : Option (ℕ × List Bool)) →
       answered (put g) form (λ n left. outcome_in put (f n left)) o ≡ outcome_in put (answered g form f o)
-  answered_in g form f (Some p) = unless_in g (form.refusal p.0) (f p.0 p.1)
+  answered_in g form f (Some p) = unless_in g (form.refusal p.0) p.1 (f p.0 p.1)
   answered_in g form f None = refl
 
   pub run_around : (s : Script S S) (bits : List Bool) → run (around put s) bits ≡ outcome_in put (run s bits)
@@ -208,7 +209,7 @@ module _ {I S T : Type 0} {k : SourceOf I} (put : S → T) (r : Script S S) {old
   read_in (got a) q = record { bits = q.bits; taken = q.taken; says = gets_around put r q.bits a q.says; stops = tt }
   read_in (ends g) q = record { bits = q.bits; taken = q.taken; says = in_around put r q.bits (cut g) q.says; stops = q.stops }
   read_in (refuses g name) q =
-      record { bits = q.bits; taken = q.taken; says = λ more. in_around put r (q.bits ++ more) (refused g name) (q.says more); stops = tt }
+      record { bits = q.bits; taken = q.taken; says = λ more. in_around put r (q.bits ++ more) (refused g name more) (q.says more); stops = tt }
   read_in (fails g e) q = record { bits = q.bits; taken = q.taken; says = in_around put r q.bits (cut g) q.says; stops = q.stops }
 
   pub around_read : {X : Type 0} (result : Result (Option X) TextFault) (s : S) → ReadsAs k r (by_done result s s) old new →

@@ -14,15 +14,15 @@ module _ {G A B : Type 0} (next : A → Script G B) where
   after : Outcome G A → Outcome G B
   after o = proceed (λ a. run (next a)) o
 
-  unless_later : (g : G) (name : Option Refusal) (o : Outcome G A) → unless_named g name (after o) ≡ after (unless_named g name o)
+  unless_later : (g : G) (name : Option Refusal) (left : List Bool) (o : Outcome G A) → unless_named g name left (after o) ≡ after (unless_named g name left o)
   unfolding after
-  unless_later g (Some name) o = refl
-  unless_later g None o = refl
+  unless_later g (Some name) left o = refl
+  unless_later g None left o = refl
 
   answered_later : (g : G) (form : Form) (f : ℕ → List Bool → Outcome G A) (o : Option (ℕ × List Bool)) →
       answered g form (λ n left. after (f n left)) o ≡ after (answered g form f o)
   unfolding after
-  answered_later g form f (Some p) = unless_later g (form.refusal p.0) (f p.0 p.1)
+  answered_later g form f (Some p) = unless_later g (form.refusal p.0) p.1 (f p.0 p.1)
   answered_later g form f None = refl
 
   pub run_then : (s : Script G A) (bits : List Bool) → run (then_ask s next) bits ≡ proceed (λ a. run (next a)) (run s bits)
@@ -66,7 +66,7 @@ module _ {G A : Type 0} where
       ap (run (ask g form next)) (append_assoc (item_bits i) (text items) left) ∙
       ap (λ f. Next g f next (first_number f.shape (item_bits i ++ (text items ++ left)))) same ∙
       ap (Next g i.form next) (spelt_first i.form.shape i.said (text items ++ left) sound said) ∙
-      ap (λ name. unless_named g name (run (next i.said) (text items ++ left))) good
+      ap (λ name. unless_named g name (text items ++ left) (run (next i.said) (text items ++ left))) good
 
   follows_whole : (s : Script G A) → (items : List Item) (a : A) (left : List Bool) → AreItems items → Follows s items a →
       run s (text items ++ left) ≡ whole a left
@@ -85,13 +85,13 @@ module _ {G A : Type 0} where
 
   asks_refused : (s : Script G A) → AreSound s → (items : List Item) (form : Form) (said : ℕ) (name : Refusal) (more : List Bool) → AreItems items →
       Asks s items form → IsSaid form.shape said →
-      form.refusal said ≡ Some name → (g : G) × (run s (text items ++ (spelling form.shape said ++ more)) ≡ refused g name)
+      form.refusal said ≡ Some name → (g : G) × (run s (text items ++ (spelling form.shape said ++ more)) ≡ refused g name more)
   asks_refused (done b) sound items form said name more are f says bad = absurd f
   asks_refused (ask g fo next) sound [] form said name more are f says bad = (
     g,
     ap (λ x. Next g x next (first_number x.shape (spelling form.shape said ++ more))) f ∙
         ap (Next g form next) (spelt_first form.shape said more (subst (λ x. IsSound x.shape) f sound.0) says) ∙
-        ap (λ x. unless_named g x (run (next said) more)) bad,
+        ap (λ x. unless_named g x more (run (next said) more)) bad,
   )
   asks_refused (ask g fo next) sound (i ∷ is) form said name more are f says bad =
       let r = asks_refused (next i.said) (sound.1 i.said (subst (λ x. IsSaid x.shape i.said) (sym f.0) are.0.1) (ap (λ x. x.refusal i.said) f.0 ∙
@@ -117,7 +117,7 @@ module _ {G A : Type 0} where
       here None q e more = absurd cc
       here (Some r) q e more = named (form.refusal r.0) refl e
         where
-          named : (name : Option Refusal) → form.refusal r.0 ≡ name → unless_named g name (run (next r.0) r.1) ≡ whole a left →
+          named : (name : Option Refusal) → form.refusal r.0 ≡ name → unless_named g name r.1 (run (next r.0) r.1) ≡ whole a left →
               ReadWhole (ask g form next) bits a left
           named (Some name) f e = absurd cc
           named None f e =
@@ -140,7 +140,7 @@ module _ {G A : Type 0} where
       here None q e more = record { items = []; are = tt; some = bits; read = refl; form = form; asks = refl; lacks = first_lacks form.shape bits sound.0 q }
       here (Some r) q e more = named (form.refusal r.0) refl e
         where
-          named : (name : Option Refusal) → form.refusal r.0 ≡ name → unless_named g name (run (next r.0) r.1) ≡ cut h → ReadCut (ask g form next) bits
+          named : (name : Option Refusal) → form.refusal r.0 ≡ name → unless_named g name r.1 (run (next r.0) r.1) ≡ cut h → ReadCut (ask g form next) bits
           named (Some name) f e = absurd cc
           named None f e =
               let p = first_spelt form.shape bits r.1 r.0 q in
@@ -155,23 +155,33 @@ module _ {G A : Type 0} where
                 lacks = w.lacks;
               }
 
-  refused_asks : (s : Script G A) → AreSound s → (bits : List Bool) (h : G) (name : Refusal) → run s bits ≡ refused h name → ReadRefused s bits name
-  refused_asks (done b) sound bits h name e = absurd cc
-  refused_asks (ask g form next) sound bits h name e =
-      here (first_number form.shape bits) refl e (λ n rest said good. refused_asks (next n) (sound.1 n said good) rest h name)
+  refused_asks : (s : Script G A) → AreSound s → (bits left : List Bool) (h : G) (name : Refusal) → run s bits ≡ refused h name left → ReadRefused s bits name left
+  refused_asks (done b) sound bits left h name e = absurd cc
+  refused_asks (ask g form next) sound bits left h name e =
+      here (first_number form.shape bits) refl e (λ n rest said good. refused_asks (next n) (sound.1 n said good) rest left h name)
     where
-      here : (o : Option (ℕ × List Bool)) → first_number form.shape bits ≡ o → Next g form next o ≡ refused h name →
-          ((n : ℕ) (rest : List Bool) → IsSaid form.shape n → form.refusal n ≡ None → run (next n) rest ≡ refused h name → ReadRefused (next n) rest name) →
-          ReadRefused (ask g form next) bits name
+      here : (o : Option (ℕ × List Bool)) → first_number form.shape bits ≡ o → Next g form next o ≡ refused h name left →
+          ((n : ℕ) (rest : List Bool) → IsSaid form.shape n → form.refusal n ≡ None → run (next n) rest ≡ refused h name left → ReadRefused (next n) rest name left) →
+          ReadRefused (ask g form next) bits name left
       here None q e more = absurd cc
       here (Some r) q e more = named (form.refusal r.0) refl e
         where
-          named : (found : Option Refusal) → form.refusal r.0 ≡ found → unless_named g found (run (next r.0) r.1) ≡ refused h name →
-              ReadRefused (ask g form next) bits name
+          named : (found : Option Refusal) → form.refusal r.0 ≡ found → unless_named g found r.1 (run (next r.0) r.1) ≡ refused h name left →
+              ReadRefused (ask g form next) bits name left
           named (Some other) f e =
               let p = first_spelt form.shape bits r.1 r.0 q in
               let same : other ≡ name = cc in
-              record { items = []; are = tt; form = form; said = r.0; after = r.1; read = p.1; asks = refl; says = p.0; refuses = f ∙ ap Some same }
+              let end : r.1 ≡ left = cc in
+              record {
+                items = [];
+                are = tt;
+                form = form;
+                said = r.0;
+                read = p.1 ∙ ap (λ l. spelling form.shape r.0 ++ l) end;
+                asks = refl;
+                says = p.0;
+                refuses = f ∙ ap Some same;
+              }
           named None f e =
               let p = first_spelt form.shape bits r.1 r.0 q in
               let w = more r.0 r.1 p.0 f e in
@@ -180,9 +190,8 @@ module _ {G A : Type 0} where
                 are = ((sound.0, p.0, f), w.are);
                 form = w.form;
                 said = w.said;
-                after = w.after;
                 read = p.1 ∙ ap (λ l. spelling form.shape r.0 ++ l) w.read ∙
-                    sym (append_assoc (spelling form.shape r.0) (text w.items) (spelling w.form.shape w.said ++ w.after));
+                    sym (append_assoc (spelling form.shape r.0) (text w.items) (spelling w.form.shape w.said ++ left));
                 asks = (refl, w.asks);
                 says = w.says;
                 refuses = w.refuses;
@@ -194,6 +203,6 @@ scripts_say G A s sound = record {
   is_whole = λ bits left a w. ap (run s) w.read ∙ follows_whole s w.items a left w.are w.follows;
   cut_is = λ bits g e. cut_asks s sound bits g e;
   is_cut = λ bits w. (let r = asks_cut s w.items w.form w.some w.are w.asks w.lacks in (r.0, ap (run s) w.read ∙ r.1));
-  refused_is = λ bits g name e. refused_asks s sound bits g name e;
-  is_refused = λ bits name w. (let r = asks_refused s sound w.items w.form w.said name w.after w.are w.asks w.says w.refuses in (r.0, ap (run s) w.read ∙ r.1));
+  refused_is = λ bits left g name e. refused_asks s sound bits left g name e;
+  is_refused = λ bits left name w. (let r = asks_refused s sound w.items w.form w.said name left w.are w.asks w.says w.refuses in (r.0, ap (run s) w.read ∙ r.1));
 }

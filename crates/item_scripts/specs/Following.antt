@@ -40,14 +40,13 @@ pub record ReadCut {G A : Type 0} (s : Script G A) (bits : List Bool) : Type 0 w
   pub asks : Asks s items form
   pub lacks : Lacks form.shape some
 
--- items that lead to a question, which refuses by this name what is next
-pub record ReadRefused {G A : Type 0} (s : Script G A) (bits : List Bool) (name : Refusal) : Type 0 where
+-- items that lead to a question, which refuses by this name what is next, and then these bits
+pub record ReadRefused {G A : Type 0} (s : Script G A) (bits : List Bool) (name : Refusal) (left : List Bool) : Type 0 where
   pub items : List Item
   pub are : AreItems items
   pub form : Form
   pub said : ℕ
-  pub after : List Bool
-  pub read : bits ≡ text items ++ (spelling form.shape said ++ after)
+  pub read : bits ≡ text items ++ (spelling form.shape said ++ left)
   pub asks : Asks s items form
   pub says : IsSaid form.shape said
   pub refuses : form.refusal said ≡ Some name
@@ -59,5 +58,5 @@ pub record SaysWhat {G A : Type 0} (s : Script G A) : Type 0 where
   pub is_whole : (bits left : List Bool) (a : A) → ReadWhole s bits a left → run s bits ≡ whole a left
   pub cut_is : (bits : List Bool) (g : G) → run s bits ≡ cut g → ReadCut s bits
   pub is_cut : (bits : List Bool) → ReadCut s bits → (g : G) × (run s bits ≡ cut g)
-  pub refused_is : (bits : List Bool) (g : G) (name : Refusal) → run s bits ≡ refused g name → ReadRefused s bits name
-  pub is_refused : (bits : List Bool) (name : Refusal) → ReadRefused s bits name → (g : G) × (run s bits ≡ refused g name)
+  pub refused_is : (bits left : List Bool) (g : G) (name : Refusal) → run s bits ≡ refused g name left → ReadRefused s bits name left
+  pub is_refused : (bits left : List Bool) (name : Refusal) → ReadRefused s bits name left → (g : G) × (run s bits ≡ refused g name left)

@@ -4,11 +4,12 @@ use Rattle.std.specs.Prelude.{ℕ, zero, suc, ◌+◌, Bool, true, false, if◌t
 use Rattle.item_defs.specs.Bits.{value_of}
 use Rattle.item_defs.specs.Items.{Shape, fixed, zeros_to, coded, Refusal}
 
--- all was read, and these bits are left; or the bits end within an item, or an item is refused: then this was given
+-- All was read, and these bits are left; or the bits end within an item, and this was given; or an item is refused: then this was given,
+-- and these bits follow the item.
 pub data Outcome (G A : Type 0) : Type 0 where
   whole : A → List Bool → Outcome G A
   cut : G → Outcome G A
-  refused : G → Refusal → Outcome G A
+  refused : G → Refusal → List Bool → Outcome G A
 
 -- ---- one item: its number and the bits that are left; none if the bits end within it
 

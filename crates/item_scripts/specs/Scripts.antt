@@ -42,15 +42,16 @@ ask_bit given next = ask given bit_form (λ n. next (n == 1))
 abbrev pub proceed : {G A B : Type 0} → (A → List Bool → Outcome G B) → Outcome G A → Outcome G B
 proceed next (whole a left) = next a left
 proceed next (cut g) = cut g
-proceed next (refused g name) = refused g name
+proceed next (refused g name left) = refused g name left
 
-abbrev pub unless_named : {G A : Type 0} → G → Option Refusal → Outcome G A → Outcome G A
-unless_named given (Some name) other = refused given name
-unless_named given None other = other
+-- what a name, if there is one, makes of an item that these bits follow
+abbrev pub unless_named : {G A : Type 0} → G → Option Refusal → (left : List Bool) → Outcome G A → Outcome G A
+unless_named given (Some name) left other = refused given name left
+unless_named given None left other = other
 
 -- the outcome of an item, and of what follows it
 abbrev pub answered : {G A : Type 0} → G → Form → (ℕ → List Bool → Outcome G A) → Option (ℕ × List Bool) → Outcome G A
-answered given form next (Some p) = unless_named given (form.refusal p.0) (next p.0 p.1)
+answered given form next (Some p) = unless_named given (form.refusal p.0) p.1 (next p.0 p.1)
 answered given form next None = cut given
 
 abbrev pub run : {G A : Type 0} → Script G A → List Bool → Outcome G A

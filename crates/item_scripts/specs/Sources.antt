@@ -19,11 +19,11 @@ pub data Found (G A : Type 0) : Type 0 where
   refuses : G → Refusal → Found G A
   fails : G → InFault → Found G A
 
--- the outcome of these bits, and of any that begin with them if all was read or an item is refused
+-- the outcome of these bits, and of any that begin with them if all was read or an item is refused: then none of these bits is left
 abbrev pub Says : {G A : Type 0} → Script G A → List Bool → Found G A → Type 0
 Says s bits (got a) = (more : List Bool) → run s (bits ++ more) ≡ whole a more
 Says s bits (ends g) = run s bits ≡ cut g
-Says s bits (refuses g name) = (more : List Bool) → run s (bits ++ more) ≡ refused g name
+Says s bits (refuses g name) = (more : List Bool) → run s (bits ++ more) ≡ refused g name more
 Says s bits (fails g e) = run s bits ≡ cut g
 
 abbrev pub Stops : {I G A : Type 0} → SourceOf I → Found G A → Coming I → Coming I → Type 0

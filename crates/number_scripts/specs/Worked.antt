@@ -24,9 +24,9 @@ pub record WorkedTexts : Type 0 where
   -- k = 0, reference 01; mapped value 3 = 1 + |3 - 1|, since theta is 1; mapped value 0; and what is left
   pub depths : depths_read 3 3 (codes "0010001101") ≡ whole (1 ∷ 3 ∷ 3 ∷ []) (bits_in (codes "01"))
   pub depths_cut : depths_read 3 3 (codes "00100") ≡ cut (1 ∷ [])
-  -- a depth above BitDepthAC; four zeros in a unary part for two bits
-  pub depth_above : depths_read 2 3 (codes "0010001101") ≡ refused (1 ∷ []) bad_depth
-  pub zeros_above : depths_read 3 3 (codes "0010000") ≡ refused (1 ∷ []) bad_delta
+  -- a depth above BitDepthAC, after which three bits are left; four zeros in a unary part for two bits
+  pub depth_above : depths_read 2 3 (codes "0010001101") ≡ refused (1 ∷ []) bad_depth (bits_in (codes "101"))
+  pub zeros_above : depths_read 3 3 (codes "0010000") ≡ refused (1 ∷ []) bad_delta []
   -- uncoded: the mapped values 11 and 00
   pub depths_uncoded : depths_read 3 3 (codes "1011100") ≡ whole (1 ∷ 3 ∷ 3 ∷ []) []
   -- k = 1, reference 101; unary parts 01 and 001 and rests 0 and 0, of the mapped values 2 = 2 (6 - 5) and 4 = 1 + |3 - 6|
@@ -34,7 +34,7 @@ pub record WorkedTexts : Type 0 where
   -- the same without the last bit
   pub depths_split_cut : depths_read 7 3 (codes "01101010010") ≡ cut (5 ∷ 6 ∷ [])
   -- k is at most 1 for three bits
-  pub no_option : depths_read 7 3 (codes "1010101001") ≡ refused [] bad_option
+  pub no_option : depths_read 7 3 (codes "1010101001") ≡ refused [] bad_option (bits_in (codes "10101001"))
   -- raw bits for BitDepthAC 1, and nothing for 0
   pub depths_raw : depths_read 1 3 (codes "1011") ≡ whole (1 ∷ 0 ∷ 1 ∷ []) (bits_in (codes "1"))
   pub depths_none : depths_read 0 3 (codes "1") ≡ whole (0 ∷ 0 ∷ 0 ∷ []) (bits_in (codes "1"))

@@ -39,14 +39,15 @@ module _ {G H A : Type 0} (h : H) where
   abbrev outcome_beside : Outcome G A → Outcome H A
   outcome_beside (whole a left) = whole a left
   outcome_beside (cut g) = cut h
-  outcome_beside (refused g name) = refused h name
+  outcome_beside (refused g name left) = refused h name left
 
-  unless_beside : (g : G) (name : Option Refusal) (o : Outcome G A) → unless_named h name (outcome_beside o) ≡ outcome_beside (unless_named g name o)
-  unless_beside g (Some name) o = refl
-  unless_beside g None o = refl
+  unless_beside : (g : G) (name : Option Refusal) (left : List Bool) (o : Outcome G A) →
+      unless_named h name left (outcome_beside o) ≡ outcome_beside (unless_named g name left o)
+  unless_beside g (Some name) left o = refl
+  unless_beside g None left o = refl
 
   answered_beside : (g : G) (form : Form) (f : ℕ → List Bool → Outcome G A) (o : Option (ℕ × List Bool)) → answered h form (λ n left. outcome_beside (f n left)) o ≡ outcome_beside (answered g form f o)
-  answered_beside g form f (Some p) = unless_beside g (form.refusal p.0) (f p.0 p.1)
+  answered_beside g form f (Some p) = unless_beside g (form.refusal p.0) p.1 (f p.0 p.1)
   answered_beside g form f None = refl
 
   run_beside : (s : Script G A) (bits : List Bool) → run (beside h s) bits ≡ outcome_beside (run s bits)
@@ -58,7 +59,7 @@ module _ {G H A : Type 0} (h : H) where
 
 module _ {I H A : Type 0} {k : SourceOf I} (h : H) (s : Script A A) (given : A) {a b : Coming I} where
   refused_beside : (name : Refusal) → ReadsAs k s (refuses given name) a b → ReadsAs k (beside h s) (refuses h name) a b
-  refused_beside name p = record { bits = p.bits; taken = p.taken; says = λ more. in_beside h s (p.bits ++ more) (refused given name) (p.says more); stops = tt }
+  refused_beside name p = record { bits = p.bits; taken = p.taken; says = λ more. in_beside h s (p.bits ++ more) (refused given name more) (p.says more); stops = tt }
 
   pub beside_got : ReadsAs k s (got given) a b → ReadsAs k (beside h s) (got given) a b
   beside_got p = record { bits = p.bits; taken = p.taken; says = λ more. in_beside h s (p.bits ++ more) (whole given more) (p.says more); stops = tt }

@@ -24,7 +24,7 @@ expected head used = if head.fill then head.limit else rounded (8 * head.image.w
 
 -- if an item is not given, the text has to end at the limit
 abbrev pub verdict : SegmentHead → (rest : List ℕ) → Outcome (List (List ℤ)) (List (List ℤ)) → Answer
-verdict head rest (refused w name) = Err (at_item name)
+verdict head rest (refused w name left) = Err (at_item name)
 verdict head rest (whole w left) = by_length (length_of head rest) (expected head (length (bits_read head rest) - length left)) w
 verdict head rest (cut w) = if head.limit == 0 then Err short_segment else by_length (length_of head rest) head.limit w
 
