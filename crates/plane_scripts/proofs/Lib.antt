@@ -5,3 +5,7 @@ pub mod StageGoes
 pub mod PlaneGoes
 pub mod WordsWritten
 pub mod TypesWritten
+pub mod Sending
+pub mod PlacesSent
+pub mod FlagsSent
+pub mod StagesSent

@@ -42,7 +42,7 @@ ones_of_test f (p ∷ ps) q = ap (λ t. ((q == p) && f p) || t) (ones_of_test f 
         ap (λ b. b || (has ps q && f q)) (ap f (sym same)) ∙ absorbed (f q) (has ps q)
     here false e = refl
 
-has_filter : (d : ℕ → Bool) (ps : List ℕ) (q : ℕ) → has (filter d ps) q ≡ (has ps q && d q)
+pub has_filter : (d : ℕ → Bool) (ps : List ℕ) (q : ℕ) → has (filter d ps) q ≡ (has ps q && d q)
 has_filter d [] q = refl
 has_filter d (p ∷ ps) q = by (d p) refl (q == p) refl (has_filter d ps q)
   where
