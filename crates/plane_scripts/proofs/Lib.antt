@@ -9,3 +9,4 @@ pub mod Sending
 pub mod PlacesSent
 pub mod FlagsSent
 pub mod StagesSent
+pub mod BlockSent
