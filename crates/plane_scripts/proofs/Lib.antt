@@ -10,3 +10,4 @@ pub mod PlacesSent
 pub mod FlagsSent
 pub mod StagesSent
 pub mod BlockSent
+pub mod PlaneSent

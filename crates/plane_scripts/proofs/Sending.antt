@@ -15,12 +15,18 @@ use Rattle.item_scripts.proofs.Writing.{writes_none, writes_then}
 
 -- ---- spans from their first number on
 
-span-first : (j n : ℕ) → j ∷ span (suc j) n ≡ span j (suc n)
+pub span-first : (j n : ℕ) → j ∷ span (suc j) n ≡ span j (suc n)
 unfolding span
 span-first j zero = let e : j ≡ j + 0 = omega arith in ap (λ k. k ∷ []) e
 span-first j (suc n) =
     let e : suc j + n ≡ j + suc n = omega arith in
     ap (λ l. l ++ (suc j + n) ∷ []) (span-first j n) ∙ ap (λ k. span j (suc n) ++ k ∷ []) e
+
+pub range_span : (j n : ℕ) → range_with_len j n ≡ span j n
+range_span j zero = sym (span-none j)
+range_span j (suc n) =
+    let e : j + 1 ≡ suc j = omega arith in
+    ap (λ k. j ∷ range_with_len k n) e ∙ ap (λ l. j ∷ l) (range_span (suc j) n) ∙ span-first j n
 
 pub flat_map_filter : {X A : Type 0} (f : X → List A) (p : X → Bool) (xs : List X) →
     flat_map f (filter p xs) ≡ flat_map (λ x. if p x then f x else []) xs

@@ -72,7 +72,7 @@ module _ (o : List ℕ) (chosen : AreChosen o) (t : Terms) (block v : List ℤ) 
   abbrev pub sets : ℕ → Bool
   sets i = set_significant v b (Family i)
 
-  reads_on : (n m : ℕ) (families : ℕ → Bool) (dc : Bool) (before now : List Entry) (s u : State) → Reads n m families dc before s → Knows o now u.options →
+  pub reads_on : (n m : ℕ) (families : ℕ → Bool) (dc : Bool) (before now : List Entry) (s u : State) → Reads n m families dc before s → Knows o now u.options →
       u ≡ with_options s u.options → Reads n m families dc now u
   reads_on n m families dc before now s u r knows e = record {
     knows = knows;
