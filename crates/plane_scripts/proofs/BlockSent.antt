@@ -1,6 +1,6 @@
 -- The items of each stage of a block follow its script.
-use Rattle.std.proofs.Common.{◌≡◌, ℕ, zero, suc, ◌+◌, ◌≤◌, ◌<◌, ◌==◌, ◌&&◌, ◌||◌, not, nat_lt, Bool, true, false, cond, if◌then◌else◌, List, [], ◌∷◌, ◌++◌, map, filter, refl, ap, sym, ◌∙◌, subst, arith, ℤ, pos}
-use Rattle.std.specs.List.{flat_map, list_any}
+use Rattle.std.proofs.Common.{◌≡◌, ℕ, zero, suc, ◌+◌, ◌≤◌, ◌<◌, ◌==◌, ◌&&◌, ◌||◌, not, nat_lt, Bool, true, false, cond, if◌then◌else◌, List, [], ◌∷◌, ◌++◌, filter, refl, ap, sym, ◌∙◌, subst, arith, ℤ, pos}
+use Rattle.std.specs.List.{list_any}
 use Rattle.base_122.specs.declared.book.Book.{Book}
 use Rattle.std.proofs.lemmas.Bool.Decides.{nat_tests}
 use Rattle.std.proofs.lemmas.List.Concat.{flat_map_single}
@@ -20,10 +20,10 @@ use Rattle.plane_defs.specs.Laws.{IsMultiple}
 use Rattle.plane_defs.proofs.Equations.{set_significant-is, newly_significant-is, refined-is, bit_reading, dc_stage, parents_stage, children_stage, grandchildren_stage, refinement_stage}
 use Rattle.plane_defs.proofs.Determined.{still_significant}
 use Rattle.plane_defs.proofs.Above.{members_acs, any_alike}
-use Rattle.item_scripts.specs.Scripts.{Script, done, bit_form, in_turn}
+use Rattle.item_scripts.specs.Scripts.{Script, done, bit_form}
 use Rattle.item_scripts.specs.Writing.{Writes}
 use Rattle.item_scripts.proofs.Writing.{writes_none, writes_ask}
-use Rattle.plane_scripts.specs.Written.{Knows, AreChosen}
+use Rattle.plane_scripts.specs.Written.{AreChosen}
 use Rattle.plane_scripts.specs.States.{State, with_bits, and_one}
 use Rattle.plane_scripts.specs.Stages.{Terms, bit_script, dc_bit_script, parents_script, children_script, grandchildren_script, refinement_script, stage_script}
 use Rattle.plane_scripts.proofs.WordsWritten.{knows_same}

@@ -18,7 +18,7 @@ use Rattle.plane_defs.specs.Reading.{entry_reading}
 use Rattle.plane_defs.specs.Steps.{Check, free, flags_alone, Step, step, is_new, some_one_where, typed_steps, flags_step}
 use Rattle.plane_defs.specs.StepLaws.{SameAc}
 use Rattle.plane_defs.specs.Laws.{IsMultiple}
-use Rattle.plane_defs.proofs.Equations.{flag_due-is, newly_significant-is, enclosing-descendants, bit_reading}
+use Rattle.plane_defs.proofs.Equations.{newly_significant-is, enclosing-descendants, bit_reading}
 use Rattle.plane_defs.proofs.Alike.{filter_same}
 use Rattle.plane_defs.proofs.Above.{all_span}
 use Rattle.plane_defs.proofs.AlikeSteps.{none_any, at_span}
@@ -28,7 +28,7 @@ use Rattle.item_scripts.proofs.Writing.{writes_none, writes_ask, writes_weaker}
 use Rattle.plane_scripts.specs.Written.{has, Knows, AreChosen}
 use Rattle.plane_scripts.specs.States.{State, with_options}
 use Rattle.plane_scripts.specs.Words.{due_script, types_script, group_script}
-use Rattle.plane_scripts.specs.Stages.{Terms, above, is_due, flag_script, descendants_script}
+use Rattle.plane_scripts.specs.Stages.{Terms, above, is_due, descendants_script}
 use Rattle.plane_scripts.proofs.WordGoes.{due_few, four_long}
 use Rattle.plane_scripts.proofs.WordsWritten.{knows_same}
 use Rattle.plane_scripts.proofs.TypesWritten.{has_filter, WroteDue, due_written}

@@ -11,3 +11,5 @@ pub mod FlagsSent
 pub mod StagesSent
 pub mod BlockSent
 pub mod PlaneSent
+pub mod Numbers
+pub mod PlanesSent

@@ -1,36 +1,29 @@
 -- The items of types, flags and groups, place after place, follow their scripts.
-use Rattle.std.proofs.Common.{◌≡◌, ℕ, zero, suc, ◌+◌, ◌*◌, ◌≤◌, ◌<◌, ◌==◌, ◌&&◌, ◌||◌, not, nat_lt, nat_le, Bool, true, false, if◌then◌else◌, List, [], ◌∷◌, ◌++◌, length, map, filter, refl, ap, sym, ◌∙◌, subst, arith, ℤ, pos, append-nil}
-use Rattle.std.specs.List.{flat_map, list_any, AllByRecursion}
+use Rattle.std.proofs.Common.{◌≡◌, ℕ, zero, suc, ◌+◌, ◌≤◌, ◌<◌, ◌==◌, ◌&&◌, ◌||◌, not, nat_lt, nat_le, Bool, true, false, if◌then◌else◌, List, [], ◌∷◌, ◌++◌, length, map, filter, refl, ap, sym, ◌∙◌, arith, ℤ, pos}
 use Rattle.std.proofs.lemmas.Bool.Decides.{nat_tests}
 use Rattle.std.proofs.Math.Bool.{or-false}
 use lib.ListN.{get_or}
-use Rattle.item_defs.specs.Bits.{bit, digit}
-use Rattle.item_defs.specs.Items.{raw}
+use Rattle.item_defs.specs.Bits.{bit}
 use Rattle.plane_defs.specs.declared.entries.Entry.{Entry}
-use Rattle.plane_defs.specs.declared.entries.Entry.TheVariants.{Bit}
 use Rattle.plane_defs.specs.declared.sets.Set.{Set}
 use Rattle.plane_defs.specs.Spans.{span}
 use Rattle.plane_defs.specs.Sets.{magnitude, significant, coded, live, set_significant, enclosing_significant, type_due, flag_due, newly_significant, refined, members, IsKnown}
-use Rattle.plane_defs.specs.Entries.{negative, word, flags}
-use Rattle.plane_defs.specs.Reading.{entry_reading}
-use Rattle.plane_defs.specs.Steps.{Check, free, Told, Step, step, is_new, some_one_where, typed_steps, flags_step}
+use Rattle.plane_defs.specs.Entries.{negative}
+use Rattle.plane_defs.specs.Steps.{is_new, some_one_where, typed_steps}
 use Rattle.plane_defs.specs.StepLaws.{IsAc, SameAc}
 use Rattle.plane_defs.specs.Laws.{IsMultiple}
-use Rattle.plane_defs.proofs.Equations.{span-none, span-more, set_significant-is, type_due-is, flag_due-is, newly_significant-is, refined-is, is_new-is, bit_reading}
+use Rattle.plane_defs.proofs.Equations.{span-none, span-more, set_significant-is, type_due-is, flag_due-is, newly_significant-is, refined-is, is_new-is}
 use Rattle.plane_defs.proofs.Determined.{undue}
 use Rattle.plane_defs.proofs.Alike.{filter_same}
-use Rattle.plane_defs.proofs.Above.{any_alike, members_acs, all_acs, all_span, all_zip}
-use Rattle.item_scripts.specs.Scripts.{Script, done, ask, ask_bit, bit_form, in_turn}
-use Rattle.item_scripts.specs.Writing.{Writes}
-use Rattle.item_scripts.proofs.Writing.{writes_none, writes_ask, writes_weaker}
+use Rattle.plane_defs.proofs.Above.{any_alike, members_acs, all_acs, all_zip}
+use Rattle.item_scripts.proofs.Writing.{writes_weaker}
 use Rattle.plane_scripts.specs.Written.{has, Knows, AreChosen, WroteTypes}
-use Rattle.plane_scripts.specs.States.{State, with_options}
-use Rattle.plane_scripts.specs.Words.{due_script, types_script, group_script}
+use Rattle.plane_scripts.specs.States.{State}
+use Rattle.plane_scripts.specs.Words.{types_script}
 use Rattle.plane_scripts.specs.Stages.{Terms, above, is_due}
 use Rattle.plane_scripts.proofs.WordGoes.{due_few}
-use Rattle.plane_scripts.proofs.WordsWritten.{knows_same}
-use Rattle.plane_scripts.proofs.TypesWritten.{has_filter, WroteDue, due_written, types_written}
-use Rattle.plane_scripts.proofs.Sending.{flat_map_filter, Sends, sends_none, sends_in_turn}
+use Rattle.plane_scripts.proofs.TypesWritten.{has_filter, types_written}
+use Rattle.plane_scripts.proofs.Sending.{Sends}
 
 -- ---- places of spans
 

@@ -1,12 +1,9 @@
 -- The items of a plane, gaggle by gaggle and stage by stage, follow its script.
-use Rattle.std.proofs.Common.{◌≡◌, ℕ, zero, suc, ◌+◌, ◌-◌, ◌*◌, ◌/◌, ◌≤◌, ◌<◌, ◌==◌, min, nat_lt, Bool, true, false, if◌then◌else◌, List, [], ◌∷◌, ◌++◌, length, refl, ap, sym, ◌∙◌, subst, arith, ℤ, Option, Some, None}
+use Rattle.std.proofs.Common.{◌≡◌, ℕ, zero, suc, ◌+◌, ◌*◌, ◌/◌, ◌≤◌, ◌<◌, ◌==◌, min, nat_lt, Bool, true, false, if◌then◌else◌, List, [], ◌++◌, length, refl, ap, sym, ◌∙◌, subst, arith, ℤ, Some, None}
 use Rattle.std.specs.List.{flat_map, list_any, range_with_len}
 use Rattle.plane_defs.specs.Spelled.{is_word_of, option_of as chosen_of}
 use Rattle.std.proofs.lemmas.Bool.Decides.{nat_tests}
-use Rattle.std.proofs.lemmas.Grind.{flat_map-append}
 use lib.ListN.{get_or}
-use Rattle.item_defs.specs.Items.{Item}
-use Rattle.base_122.specs.declared.book.Book.{Book}
 use Rattle.plane_defs.specs.declared.entries.Entry.{Entry}
 use Rattle.plane_defs.specs.Spans.{span}
 use Rattle.plane_defs.specs.Sets.{significant}
@@ -15,15 +12,14 @@ use Rattle.plane_defs.specs.Planes.{Plane, gaggles, gaggle_size, of_gaggle, befo
 use Rattle.plane_defs.specs.Reading.{steps_of_block, steps_of_gaggle, gaggle_reading, stage_reading, plane_reading}
 use Rattle.plane_defs.specs.StepLaws.{entries_of, IsAc, SameAc}
 use Rattle.plane_defs.specs.Laws.{IsMultiple}
-use Rattle.plane_defs.proofs.Equations.{span-none, span-more}
 use Rattle.plane_defs.proofs.ReadingTexts.{gaggle_entries}
 use Rattle.plane_defs.proofs.SpanLists.{flat_map-span-suc, flat_map-span-none}
-use Rattle.item_scripts.specs.Scripts.{Script, done, then_ask, in_turn, around}
+use Rattle.item_scripts.specs.Scripts.{Script, in_turn, around}
 use Rattle.item_scripts.specs.Writing.{Writes}
 use Rattle.item_scripts.proofs.ScriptLaws.{turns_split}
 use Rattle.item_scripts.proofs.Writing.{writes_none, writes_then, writes_weaker, writes_around, writes_in_turn}
 use Rattle.plane_scripts.specs.Written.{Knows, AreChosen}
-use Rattle.plane_scripts.specs.States.{State, nothing, with_options}
+use Rattle.plane_scripts.specs.States.{State}
 use Rattle.plane_scripts.specs.Stages.{Terms, stage_script}
 use Rattle.plane_scripts.specs.Planes.{PlaneState, nothing_yet, of_block, with_block, blocks_script, plane_script}
 use Rattle.plane_scripts.proofs.Sending.{range_span, Sends, sends_in_turn}
@@ -190,13 +186,16 @@ module _ (o : ℕ → List ℕ) (chosen : (g : ℕ) → AreChosen (o g)) (t : Te
   start : Bound 0 0 nothing_yet
   start = record {
     past = λ q low small. absurd (omega (arith, low));
-    left = λ q high small. ([], record {
-      knows = λ n low few. refl;
-      bits = λ i ac. (let e : nat_lt i 1 ≡ false = (let a : 1 ≤ i = ac.0 in grind (arith, nat_tests)) in rw e refl);
-      minus = λ i ac. (let e : nat_lt i 1 ≡ false = (let a : 1 ≤ i = ac.0 in grind (arith, nat_tests)) in rw e refl);
-      enclosing = λ i lt. refl;
-      low = refl;
-    });
+    left = λ q high small. (
+      [],
+      record {
+        knows = λ n low few. refl;
+        bits = λ i ac. (let e : nat_lt i 1 ≡ false = (let a : 1 ≤ i = ac.0 in grind (arith, nat_tests)) in rw e refl);
+        minus = λ i ac. (let e : nat_lt i 1 ≡ false = (let a : 1 ≤ i = ac.0 in grind (arith, nat_tests)) in rw e refl);
+        enclosing = λ i lt. refl;
+        low = refl;
+      },
+    );
     known = λ h small n low few.
         ap (λ l. if list_any (is_word_of n) l then Some (chosen_of (o h) n) else None) (sym (none_before h));
   }

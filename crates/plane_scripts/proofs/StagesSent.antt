@@ -1,37 +1,30 @@
 -- The items of a block's stages follow their scripts.
-use Rattle.std.proofs.Common.{◌≡◌, ℕ, zero, suc, ◌+◌, ◌*◌, ◌≤◌, ◌<◌, ◌==◌, ◌&&◌, ◌||◌, not, nat_lt, Bool, true, false, cond, if◌then◌else◌, List, [], ◌∷◌, ◌++◌, length, map, filter, refl, ap, sym, ◌∙◌, subst, arith, ℤ, pos}
-use Rattle.std.specs.List.{flat_map, list_any, AllByRecursion}
+use Rattle.std.proofs.Common.{◌≡◌, ℕ, suc, ◌+◌, ◌*◌, ◌≤◌, ◌<◌, ◌&&◌, ◌||◌, not, nat_lt, Bool, true, false, if◌then◌else◌, List, [], ◌∷◌, ◌++◌, length, map, filter, refl, ap, sym, ◌∙◌, subst, arith, ℤ}
+use Rattle.std.specs.List.{list_any}
 use Rattle.std.proofs.lemmas.Bool.Decides.{nat_tests}
-use Rattle.std.proofs.lemmas.List.Concat.{flat_map_single}
-use Rattle.std.proofs.Math.Bool.{and-false, or-false}
-use lib.ListN.{get_or}
-use Rattle.item_defs.specs.Bits.{bit, digit}
-use Rattle.item_defs.specs.Items.{raw}
+use Rattle.std.proofs.Math.Bool.{or-false}
+use Rattle.item_defs.specs.Bits.{bit}
 use Rattle.plane_defs.specs.declared.entries.Entry.{Entry}
 use Rattle.plane_defs.specs.declared.entries.Entry.TheVariants.{Bit}
 use Rattle.plane_defs.specs.declared.sets.Set.{Set}
 use Rattle.plane_defs.specs.declared.sets.Set.TheVariants.{Descendants, Family, Grandchildren, Quad}
 use Rattle.plane_defs.specs.Spans.{span}
-use Rattle.plane_defs.specs.Sets.{magnitude, significant, coded, live, set_significant, type_due, flag_due, newly_significant, refined, IsKnown, children_of, grandchildren_of, quad_of}
-use Rattle.plane_defs.specs.Entries.{twos_bit, flags, stage_number}
-use Rattle.plane_defs.specs.Steps.{Check, free, ones_at, flags_alone, bit_at, Step, step, is_new, is_forced, some_one_where, flags_step, dc_steps, parents_steps, descendants_check, children_types_steps, children_steps, three_grandchildren, grandchildren_check, quads_types_steps, quads_steps, all_quads_steps, grandchildren_steps, refinement_steps, block_steps}
+use Rattle.plane_defs.specs.Sets.{magnitude, significant, coded, live, set_significant, type_due, flag_due, newly_significant, refined, children_of, grandchildren_of, quad_of}
+use Rattle.plane_defs.specs.Entries.{flags}
+use Rattle.plane_defs.specs.Steps.{free, ones_at, flags_alone, step, is_new, is_forced, some_one_where, flags_step, parents_steps, descendants_check, children_types_steps, children_steps, three_grandchildren, grandchildren_check, quads_types_steps, quads_steps, all_quads_steps, grandchildren_steps}
 use Rattle.plane_defs.specs.StepLaws.{entries_of, IsAc, SameAc}
 use Rattle.plane_defs.specs.Laws.{IsMultiple}
-use Rattle.plane_defs.proofs.Equations.{enclosing-family, enclosing-grandchildren, enclosing-quad, is_new-is, is_forced-grandchildren, set_significant-is, newly_significant-is, refined-is, type_due-is, bit_reading, dc_stage, parents_stage, children_stage, grandchildren_stage, refinement_stage}
+use Rattle.plane_defs.proofs.Equations.{enclosing-family, enclosing-grandchildren, enclosing-quad, is_new-is, is_forced-grandchildren, set_significant-is, newly_significant-is, type_due-is}
 use Rattle.plane_defs.proofs.Determined.{still_significant}
 use Rattle.plane_defs.proofs.Settled.{type_undue}
 use Rattle.plane_defs.proofs.Alike.{all_filter, filter_same, in_three}
 use Rattle.plane_defs.proofs.Above.{all_span, any_alike}
 use Rattle.plane_defs.proofs.AlikeSteps.{in_family, in_quad, map_equal}
-use Rattle.item_scripts.specs.Scripts.{Script, done, bit_form, in_turn}
-use Rattle.item_scripts.specs.Writing.{Writes}
-use Rattle.item_scripts.proofs.Writing.{writes_none, writes_ask}
+use Rattle.item_scripts.specs.Scripts.{Script, done, in_turn}
 use Rattle.plane_scripts.specs.Written.{Knows, AreChosen}
-use Rattle.plane_scripts.specs.States.{State, with_options, with_bits, with_families, and_one}
+use Rattle.plane_scripts.specs.States.{State, with_options, with_families}
 use Rattle.plane_scripts.specs.Words.{due_script, group_script}
-use Rattle.plane_scripts.specs.Stages.{Terms, above, is_due, bit_script, dc_bit_script, parents_script, descendants_script, children_script, is_childless, quads_script, grandchildren_script, refinement_script, stage_script}
-use Rattle.plane_scripts.proofs.WordsWritten.{knows_same}
-use Rattle.plane_scripts.proofs.WordGoes.{four_long}
+use Rattle.plane_scripts.specs.Stages.{Terms, above, is_due, parents_script, descendants_script, children_script, is_childless, quads_script, grandchildren_script}
 use Rattle.plane_scripts.proofs.Sending.{flat_map_filter, Sends, sends_none, sends_then, sends_last, sends_in_turn}
 use Rattle.plane_scripts.proofs.PlacesSent as places
 use Rattle.plane_scripts.proofs.PlacesSent.{At, map_filter_map}
