@@ -28,10 +28,12 @@ pub record SegmentLaws (book : Book) (head : SegmentHead) : Type 0 where
 abbrev pub SegmentsAreRead : Type 0
 SegmentsAreRead = (book : Book) (head : SegmentHead) → is_book_sound book ≡ true → SegmentLaws book head
 
--- a text that holds values has an outcome that is not a refusal, and one that is refused has this name as its outcome
+-- a text is read as values exactly if it holds some, and is refused by a name exactly if it has this name
 pub record TextReads (book : Book) (head : SegmentHead) (rest : List ℕ) : Type 0 where
   pub holds : (w : List (List ℤ)) → Holds book head rest w → (v : List (List ℤ)) × (text_outcome book head rest ≡ Ok v)
   pub refuses : (name : SegmentRefusal) → Refused book head rest name → text_outcome book head rest ≡ Err name
+  pub held : (v : List (List ℤ)) → text_outcome book head rest ≡ Ok v → (w : List (List ℤ)) × Holds book head rest w
+  pub refused : (name : SegmentRefusal) → text_outcome book head rest ≡ Err name → Refused book head rest name
 
 abbrev pub TextsAreRead : Type 0
 TextsAreRead = (book : Book) → is_book_sound book ≡ true → (head : SegmentHead) (rest : List ℕ) → IsHead head → TextReads book head rest

@@ -12,7 +12,7 @@ pub const fn segments_are_read()
     ensures { SegmentsAreRead }
 {}
 
-/// A text that holds values is read as values, and a text that is refused has its name as the outcome.
+/// A text is read as values exactly if it holds some, and is refused by a name exactly if it has this name.
 pub const fn texts_are_read()
     ensures { TextsAreRead }
 {}
