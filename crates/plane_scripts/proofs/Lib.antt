@@ -13,3 +13,7 @@ pub mod BlockSent
 pub mod PlaneSent
 pub mod Numbers
 pub mod PlanesSent
+pub mod Answers
+pub mod WordAnswers
+pub mod WordsBack
+pub mod TypesBack

@@ -61,7 +61,7 @@ has_filter d (p ∷ ps) q = by (d p) refl (q == p) refl (has_filter d ps q)
     by false e false f rest = rest
 
 -- tests that are the same at each place
-filter_alike : (g h : ℕ → Bool) (ps : List ℕ) → ((q : ℕ) → has ps q ≡ true → g q ≡ h q) → filter g ps ≡ filter h ps
+pub filter_alike : (g h : ℕ → Bool) (ps : List ℕ) → ((q : ℕ) → has ps q ≡ true → g q ≡ h q) → filter g ps ≡ filter h ps
 filter_alike g h [] same = refl
 filter_alike g h (p ∷ ps) same = (λ t. if same p self t then p ∷ filter g ps else filter g ps) ∙
     ap (λ (l : List ℕ). if h p then p ∷ l else l) (filter_alike g h ps (λ q e. same q (later (q == p) (has ps q) e)))
