@@ -17,3 +17,4 @@ pub mod Answers
 pub mod WordAnswers
 pub mod WordsBack
 pub mod TypesBack
+pub mod GroupsBack
