@@ -36,7 +36,7 @@ use Rattle.plane_scripts.proofs.Sending.{flat_map_filter, Sends, sends_none, sen
 use Rattle.plane_scripts.proofs.PlacesSent as places
 use Rattle.plane_scripts.proofs.PlacesSent.{At, has_span, map_filter_map}
 
-long : (n : ℕ) → length (span 0 n) ≤ n
+pub long : (n : ℕ) → length (span 0 n) ≤ n
 unfolding span
 long zero = omega arith
 long (suc n) = let e = length-append (span 0 n) ((0 + n) ∷ []) in let l = long n in omega (arith, e, l)
@@ -59,6 +59,16 @@ module _ (o : List ℕ) (chosen : AreChosen o) (t : Terms) (block v : List ℤ) 
     pub rest : r.0 ≡ with_options s r.0.options
     pub new : (i : ℕ) → i < n → r.1 i ≡ is_new v b (S i)
     pub all : (i : ℕ) → i < n → (above t block (S i) || r.1 i) ≡ set_significant v b (S i)
+
+  pub flags_are : (S : ℕ → Set) (n : ℕ) → ((i : ℕ) → i < n → IsKnown (S i)) → (enclosing : ℕ → Bool) →
+      ((i : ℕ) → i < n → enclosing i ≡ enclosing_significant v b (S i)) →
+      map (λ i. set_significant v b (S i)) (filter (λ i. is_due t block (S i) (enclosing i)) (span 0 n)) ≡ flags v W b (map S (span 0 n))
+  flags_are S n known enclosing is =
+      let due : ℕ → Bool = λ i. is_due t block (S i) (enclosing i) in
+      ap (map (λ i. set_significant v b (S i))) (filter_same due (λ i. flag_due v W b (S i)) (span 0 n)
+      (all_span (λ i. due i ≡ flag_due v W b (S i)) 0 n (λ i low high.
+      places.due_is o chosen t block v same whole (S i) (enclosing i) (known i (omega (arith, high))) (is i (omega (arith, high)))))) ∙
+      sym (map_filter_map (set_significant v b) (flag_due v W b) S (span 0 n))
 
   pub flags_sent : (S : ℕ → Set) (n : ℕ) → n ≤ 4 → ((i : ℕ) → i < n → IsKnown (S i)) → (enclosing : ℕ → Bool) →
       ((i : ℕ) → i < n → enclosing i ≡ enclosing_significant v b (S i)) → (check : Check) (before : List Entry) (s : State) → Knows o before s.options →
@@ -100,9 +110,7 @@ module _ (o : List ℕ) (chosen : AreChosen o) (t : Terms) (block v : List ℤ) 
       at i lt = has_filter due (span 0 n) i ∙ ap (λ x. x && due i) (inside i lt) ∙ flag_is i lt
 
       these : map sig (filter due (span 0 n)) ≡ flags v W b (map S (span 0 n))
-      these = ap (map sig) (filter_same due (λ i. flag_due v W b (S i)) (span 0 n)
-          (all_span (λ i. due i ≡ flag_due v W b (S i)) 0 n (λ i low high. flag_is i (omega (arith, high))))) ∙
-          sym (map_filter_map (set_significant v b) (flag_due v W b) S (span 0 n))
+      these = flags_are S n known enclosing is
 
   -- the same for the words that are refused and the sets of a step
   pub flags_as : (S : ℕ → Set) (n : ℕ) → n ≤ 4 → ((i : ℕ) → i < n → IsKnown (S i)) → (enclosing : ℕ → Bool) →

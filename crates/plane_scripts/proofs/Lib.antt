@@ -18,3 +18,4 @@ pub mod WordAnswers
 pub mod WordsBack
 pub mod TypesBack
 pub mod GroupsBack
+pub mod QuadsBack

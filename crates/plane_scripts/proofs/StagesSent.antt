@@ -30,11 +30,11 @@ use Rattle.plane_scripts.proofs.PlacesSent as places
 use Rattle.plane_scripts.proofs.PlacesSent.{At, map_filter_map}
 use Rattle.plane_scripts.proofs.FlagsSent as words
 
-three_sets : (S : ℕ → Set) → map S (span 0 3) ≡ S 0 ∷ S 1 ∷ S 2 ∷ []
+pub three_sets : (S : ℕ → Set) → map S (span 0 3) ≡ S 0 ∷ S 1 ∷ S 2 ∷ []
 unfolding span
 three_sets S = refl
 
-four_sets : (S : ℕ → Set) → map S (span 0 4) ≡ S 0 ∷ S 1 ∷ S 2 ∷ S 3 ∷ []
+pub four_sets : (S : ℕ → Set) → map S (span 0 4) ≡ S 0 ∷ S 1 ∷ S 2 ∷ S 3 ∷ []
 unfolding span
 four_sets S = refl
 
@@ -142,7 +142,7 @@ module _ (o : List ℕ) (chosen : AreChosen o) (t : Terms) (block v : List ℤ) 
       (all_span (λ p. IsAc p × (p < 16)) (children_of i) 4 (λ p low high. ((omega (arith, low), omega (arith, high, lt)), omega (arith, high, lt))))
       (λ p h. here_is m le dc before s r p h.0 h.1)) ∙ sym (is_forced-grandchildren v b i)
 
-  forced_same : (m : ℕ) → m ≤ 1 → (dc : Bool) (before : List Entry) (s : State) → Reads 16 m sets dc before s →
+  pub forced_same : (m : ℕ) → m ≤ 1 → (dc : Bool) (before : List Entry) (s : State) → Reads 16 m sets dc before s →
       ones_at (map (is_childless t block s) (filter (λ i. is_due t block (Grandchildren i) (s.families i)) (span 0 3))) ≡
       grandchildren_check v W b three_grandchildren
   forced_same m le dc before s r =
@@ -161,7 +161,7 @@ module _ (o : List ℕ) (chosen : AreChosen o) (t : Terms) (block v : List ℤ) 
       forced : (i : ℕ) → i < 3 → is_childless t block s i ≡ is_forced v b (Grandchildren i)
       forced i lt = childless_is m le dc before s r i lt
 
-  quads_sent : (m : ℕ) (dc : Bool) (i : ℕ) → i < 3 → set_significant v b (Grandchildren i) ≡ true → (new : Bool) → new ≡ is_new v b (Grandchildren i) →
+  pub quads_sent : (m : ℕ) (dc : Bool) (i : ℕ) → i < 3 → set_significant v b (Grandchildren i) ≡ true → (new : Bool) → new ≡ is_new v b (Grandchildren i) →
       (before : List Entry) (s : State) → Reads (16 + 16 * i) m sets dc before s →
       Sends t.book o (quads_script t block i new s) before (quads_steps v W b i) (Reads (16 + 16 * suc i) m sets dc)
   quads_sent m dc i lt in_set new is before s r =
