@@ -19,3 +19,4 @@ pub mod WordsBack
 pub mod TypesBack
 pub mod GroupsBack
 pub mod QuadsBack
+pub mod SetsBack

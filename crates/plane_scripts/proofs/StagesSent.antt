@@ -183,6 +183,30 @@ module _ (o : List ℕ) (chosen : AreChosen o) (t : Terms) (block v : List ℤ) 
       (λ j small. w.new j small) (λ j small e. in_quad v b i j e) now f.0
       (subst (λ k. Reads k m sets dc now f.0) start (reads_on (16 + 16 * i) m sets dc before now s f.0 r w.knows w.rest))))
 
+  -- the i-th sixteen, if its set is significant
+  pub sixteen_sent : (m : ℕ) (dc : Bool) (i : ℕ) → i < 3 → (sent new : Bool) → sent ≡ set_significant v b (Grandchildren i) → new ≡ is_new v b (Grandchildren i) →
+      (c : List Entry) (u : State) → Reads (16 + 16 * i) m sets dc c u →
+      Sends t.book o (if sent then quads_script t block i new u else done u) c
+      (if set_significant v b (Grandchildren i) then quads_steps v W b i else []) (Reads (16 + 16 * suc i) m sets dc)
+  sixteen_sent m dc i lt sent new all is_new c u p = by (set_significant v b (Grandchildren i)) refl
+    where
+      by : (x : Bool) → set_significant v b (Grandchildren i) ≡ x →
+          Sends t.book o (if sent then quads_script t block i new u else done u) c
+          (if set_significant v b (Grandchildren i) then quads_steps v W b i else []) (Reads (16 + 16 * suc i) m sets dc)
+      by true e =
+          subst (λ (y : Bool). Sends t.book o (if y then quads_script t block i new u else done u) c
+          (if set_significant v b (Grandchildren i) then quads_steps v W b i else []) (Reads (16 + 16 * suc i) m sets dc)) (sym (all ∙ e))
+          (subst (λ (y : Bool). Sends t.book o (quads_script t block i new u) c (if y then quads_steps v W b i else []) (Reads (16 + 16 * suc i) m sets dc)) (sym e)
+          (quads_sent m dc i lt e new is_new c u p))
+      by false e =
+          subst (λ (y : Bool). Sends t.book o (if y then quads_script t block i new u else done u) c
+          (if set_significant v b (Grandchildren i) then quads_steps v W b i else []) (Reads (16 + 16 * suc i) m sets dc)) (sym (all ∙ e))
+          (subst (λ (y : Bool). Sends {G = State} t.book o (done u) c (if y then quads_steps v W b i else []) (Reads (16 + 16 * suc i) m sets dc)) (sym e)
+          (sends_none t.book o (Reads (16 + 16 * suc i) m sets dc) u c
+          (words.reads_skip o chosen t block v same whole (16 + 16 * i) (16 + 16 * suc i) m sets dc (omega arith)
+          (λ q low high. words.quiet o chosen t block v same whole (grandchildren_of i) 16 q (sym (set_significant-is v b (Grandchildren i)) ∙
+          e) low (omega (arith, high))) c u p)))
+
   pub grandchildren_sent : (m : ℕ) → m ≤ 1 → (dc : Bool) (before : List Entry) (s : State) → Reads 16 m sets dc before s →
       Sends t.book o (grandchildren_script t block s) before (grandchildren_steps v W b) (Reads 64 m sets dc)
   grandchildren_sent m le dc before s r =
@@ -197,7 +221,8 @@ module _ (o : List ℕ) (chosen : AreChosen o) (t : Terms) (block v : List ℤ) 
       (λ f w. subst (λ l. Sends t.book o (turns f) now l (Reads 64 m sets dc)) (sym (flat_map_filter (quads_steps v W b) in_v (span 0 3)))
       (sends_in_turn t.book o (λ i. Reads (16 + 16 * i) m sets dc)
       (λ i u. if above t block (Grandchildren i) || f.1 i then quads_script t block i (f.1 i) u else done u) (λ i. if in_v i then quads_steps v W b i else []) 0 3
-      (λ i c u low high p. each f i (omega (arith, high)) (w.all i (omega (arith, high))) (w.new i (omega (arith, high))) c u p (in_v i) refl) now f.0
+      (λ i c u low high p. sixteen_sent m dc i (omega (arith, high)) (above t block (Grandchildren i) || f.1 i) (f.1 i) (w.all i (omega (arith, high)))
+      (w.new i (omega (arith, high))) c u p) now f.0
       (reads_on 16 m sets dc before now s f.0 r w.knows w.rest)))
     where
       in_v : ℕ → Bool
@@ -205,21 +230,3 @@ module _ (o : List ℕ) (chosen : AreChosen o) (t : Terms) (block v : List ℤ) 
 
       turns : State × (ℕ → Bool) → Script State State
       turns f = in_turn (λ i u. if above t block (Grandchildren i) || f.1 i then quads_script t block i (f.1 i) u else done u) 0 3 f.0
-
-      each : (f : State × (ℕ → Bool)) (i : ℕ) → i < 3 → (above t block (Grandchildren i) || f.1 i) ≡ in_v i → f.1 i ≡ is_new v b (Grandchildren i) →
-          (c : List Entry) (u : State) → Reads (16 + 16 * i) m sets dc c u → (x : Bool) → in_v i ≡ x →
-          Sends t.book o (if above t block (Grandchildren i) || f.1 i then quads_script t block i (f.1 i) u else done u) c
-          (if in_v i then quads_steps v W b i else []) (Reads (16 + 16 * suc i) m sets dc)
-      each f i lt all new c u p x e =
-          subst (λ y. Sends t.book o (if y then quads_script t block i (f.1 i) u else done u) c (if in_v i then quads_steps v W b i else [])
-          (Reads (16 + 16 * suc i) m sets dc)) (sym (all ∙ e))
-          (subst (λ y. Sends t.book o (if x then quads_script t block i (f.1 i) u else done u) c (if y then quads_steps v W b i else [])
-          (Reads (16 + 16 * suc i) m sets dc)) (sym e) (by x e))
-        where
-          by : (x : Bool) → in_v i ≡ x → Sends {G = State} t.book o (if x then quads_script t block i (f.1 i) u else done u) c (if x then quads_steps v W b i else [])
-              (Reads (16 + 16 * suc i) m sets dc)
-          by true e = quads_sent m dc i lt e (f.1 i) new c u p
-          by false e = sends_none t.book o (Reads (16 + 16 * suc i) m sets dc) u c
-              (words.reads_skip o chosen t block v same whole (16 + 16 * i) (16 + 16 * suc i) m sets dc (omega arith)
-              (λ q low high. words.quiet o chosen t block v same whole (grandchildren_of i) 16 q (sym (set_significant-is v b (Grandchildren i)) ∙
-              e) low (omega (arith, high))) c u p)
