@@ -20,3 +20,4 @@ pub mod TypesBack
 pub mod GroupsBack
 pub mod QuadsBack
 pub mod SetsBack
+pub mod ChildrenBack
