@@ -73,6 +73,7 @@ pub record GroupsMay (due : ℕ → Bool) (first : ℕ) (sent wanted : ℕ → B
   pub grows : Grows s e
   pub bits : (q : ℕ) → ((j : ℕ) → a ≤ j → j < b → sent j ≡ true → has (group first j) q ≡ true → ⊥) → e.bits q ≡ s.bits q
   pub minus : (q : ℕ) → ((j : ℕ) → a ≤ j → j < b → sent j ≡ true → has (group first j) q ≡ true → ⊥) → e.minus q ≡ s.minus q
+  pub quiet : (q : ℕ) → due q ≡ false → e.bits q ≡ s.bits q
   pub more : (q : ℕ) → s.bits q ≡ true → e.bits q ≡ true
   pub some : (j : ℕ) → a ≤ j → j < b → sent j ≡ true → wanted j ≡ true → list_any due (group first j) ≡ true → (q : ℕ) × (has (group first j) q ≡ true) × (e.bits q ≡ true)
 
@@ -83,6 +84,7 @@ groups_may book due first sent wanted a n s =
       grows = λ k x h. h;
       bits = λ q none. refl;
       minus = λ q none. refl;
+      quiet = λ q none. refl;
       more = λ q h. h;
       some = λ j low high is want list. absurd (omega (arith, low, high));
     })
@@ -94,6 +96,7 @@ groups_may book due first sent wanted a n s =
           grows = λ k x h. w.grows k x (p.grows k x h);
           bits = λ q none. w.bits q (not_true (has (group first i) q) (none i low (omega arith) e)) ∙ p.bits q (λ j from to. none j from (omega (arith, to)));
           minus = λ q none. w.minus q (not_true (has (group first i) q) (none i low (omega arith) e)) ∙ p.minus q (λ j from to. none j from (omega (arith, to)));
+          quiet = λ q none. w.quiet q none ∙ p.quiet q none;
           more = λ q h. w.more q (p.more q h);
           some = λ j from to is want list. elim (cases_lt j i) [
             | inl lt ↦ (let z = p.some j from lt is want list in (z.0, z.1, w.more z.0 z.2))
@@ -106,6 +109,7 @@ groups_may book due first sent wanted a n s =
       grows = p.grows;
       bits = λ q none. p.bits q (λ j from to. none j from (omega (arith, to)));
       minus = λ q none. p.minus q (λ j from to. none j from (omega (arith, to)));
+      quiet = p.quiet;
       more = p.more;
       some = λ j from to is want list. elim (cases_lt j i) [
         | inl lt ↦ p.some j from lt is want list

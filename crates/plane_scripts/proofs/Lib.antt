@@ -21,3 +21,4 @@ pub mod GroupsBack
 pub mod QuadsBack
 pub mod SetsBack
 pub mod ChildrenBack
+pub mod StageBack

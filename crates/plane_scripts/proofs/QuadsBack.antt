@@ -171,6 +171,7 @@ module _ (o : List ℕ) (chosen : AreChosen o) (t : Terms) (is_sound : is_book_s
     pub grows : Grows s e
     pub bits : (q : ℕ) → has (sixteen i) q ≡ false → e.bits q ≡ s.bits q
     pub minus : (q : ℕ) → has (sixteen i) q ≡ false → e.minus q ≡ s.minus q
+    pub quiet : (q : ℕ) → type_due block W b q ≡ false → e.bits q ≡ s.bits q
     pub more : (q : ℕ) → s.bits q ≡ true → e.bits q ≡ true
     pub some : (enclosing : Bool) → new ≡ true → is_due t block (Grandchildren i) enclosing ≡ true → (q : ℕ) × (has (sixteen i) q ≡ true) × (e.bits q ≡ true)
 
@@ -195,6 +196,7 @@ module _ (o : List ℕ) (chosen : AreChosen o) (t : Terms) (is_sound : is_book_s
         grows = λ n x h. m.grows n x (d.grows n x h);
         bits = λ q none. m.bits q (λ j low high sent inside. clash (has (sixteen i) q) (quad_inside i j q high inside) none) ∙ (λ k. (d.rest k).bits q);
         minus = λ q none. m.minus q (λ j low high sent inside. clash (has (sixteen i) q) (quad_inside i j q high inside) none) ∙ (λ k. (d.rest k).minus q);
+        quiet = λ q none. m.quiet q none ∙ (λ k. (d.rest k).bits q);
         more = λ q h. m.more q ((λ k. (d.rest k).bits q) ∙ h);
         some = λ enclosing want is.
             let w = d.some (ap some_one_where want) (quads_due t is_sound block i enclosing is) in

@@ -84,20 +84,22 @@ module _ (o : List ℕ) (chosen : AreChosen o) (t : Terms) (is_sound : is_book_s
     abbrev item : ℕ → State → Script State State
     item i u = if sent i then quads_script t block i (new i) u else done u
 
-    record SixteensMay (a c : ℕ) (s e : State) : Type 0 where
-      grows : Grows s e
-      bits : (q : ℕ) → ((i : ℕ) → a ≤ i → i < c → sent i ≡ true → has (sixteen i) q ≡ true → ⊥) → e.bits q ≡ s.bits q
-      minus : (q : ℕ) → ((i : ℕ) → a ≤ i → i < c → sent i ≡ true → has (sixteen i) q ≡ true → ⊥) → e.minus q ≡ s.minus q
-      more : (q : ℕ) → s.bits q ≡ true → e.bits q ≡ true
-      some : (i : ℕ) → a ≤ i → i < c → sent i ≡ true → new i ≡ true → (enclosing : Bool) → is_due t block (Grandchildren i) enclosing ≡ true →
+    pub record SixteensMay (a c : ℕ) (s e : State) : Type 0 where
+      pub grows : Grows s e
+      pub bits : (q : ℕ) → ((i : ℕ) → a ≤ i → i < c → sent i ≡ true → has (sixteen i) q ≡ true → ⊥) → e.bits q ≡ s.bits q
+      pub minus : (q : ℕ) → ((i : ℕ) → a ≤ i → i < c → sent i ≡ true → has (sixteen i) q ≡ true → ⊥) → e.minus q ≡ s.minus q
+      pub quiet : (q : ℕ) → type_due block W b q ≡ false → e.bits q ≡ s.bits q
+      pub more : (q : ℕ) → s.bits q ≡ true → e.bits q ≡ true
+      pub some : (i : ℕ) → a ≤ i → i < c → sent i ≡ true → new i ≡ true → (enclosing : Bool) → is_due t block (Grandchildren i) enclosing ≡ true →
           (q : ℕ) × (has (sixteen i) q ≡ true) × (e.bits q ≡ true)
 
-    sixteens_may : (a n : ℕ) (s : State) → May (in_turn item a n s) (SixteensMay a (a + n) s)
+    pub sixteens_may : (a n : ℕ) (s : State) → May (in_turn item a n s) (SixteensMay a (a + n) s)
     sixteens_may a n s =
         may_in_turn (λ c. SixteensMay a c s) item a n (λ i u low high p. one i u low p (sent i) refl) s (record {
           grows = λ k x h. h;
           bits = λ q none. refl;
           minus = λ q none. refl;
+          quiet = λ q none. refl;
           more = λ q h. h;
           some = λ i low high is want enclosing due. absurd (omega (arith, low, high));
         })
@@ -109,6 +111,7 @@ module _ (o : List ℕ) (chosen : AreChosen o) (t : Terms) (is_sound : is_book_s
               grows = λ k x h. w.grows k x (p.grows k x h);
               bits = λ q none. w.bits q (not_true (has (sixteen i) q) (none i low (omega arith) e)) ∙ p.bits q (λ j from to. none j from (omega (arith, to)));
               minus = λ q none. w.minus q (not_true (has (sixteen i) q) (none i low (omega arith) e)) ∙ p.minus q (λ j from to. none j from (omega (arith, to)));
+              quiet = λ q none. w.quiet q none ∙ p.quiet q none;
               more = λ q h. w.more q (p.more q h);
               some = λ j from to is want enclosing due. elim (cases_lt j i) [
                 | inl lt ↦ (let k = p.some j from lt is want enclosing due in (k.0, k.1, w.more k.0 k.2))
@@ -121,6 +124,7 @@ module _ (o : List ℕ) (chosen : AreChosen o) (t : Terms) (is_sound : is_book_s
           grows = p.grows;
           bits = λ q none. p.bits q (λ j from to. none j from (omega (arith, to)));
           minus = λ q none. p.minus q (λ j from to. none j from (omega (arith, to)));
+          quiet = p.quiet;
           more = p.more;
           some = λ j from to is want enclosing due. elim (cases_lt j i) [
             | inl lt ↦ p.some j from lt is want enclosing due

@@ -38,7 +38,7 @@ pub four_sets : (S : ℕ → Set) → map S (span 0 4) ≡ S 0 ∷ S 1 ∷ S 2 �
 unfolding span
 four_sets S = refl
 
-three_long : (a : ℕ) → length (span a 3) ≤ 4
+pub three_long : (a : ℕ) → length (span a 3) ≤ 4
 unfolding span
 three_long a = omega arith
 

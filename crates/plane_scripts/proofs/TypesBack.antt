@@ -58,6 +58,7 @@ pub record TypesMay (due : ℕ → Bool) (wanted : Bool) (ps : List ℕ) (s e : 
   pub grows : Grows s e
   pub bits : (q : ℕ) → has ps q ≡ false → e.bits q ≡ s.bits q
   pub minus : (q : ℕ) → has ps q ≡ false → e.minus q ≡ s.minus q
+  pub quiet : (q : ℕ) → due q ≡ false → e.bits q ≡ s.bits q
   pub more : (q : ℕ) → s.bits q ≡ true → e.bits q ≡ true
   pub families : e.families ≡ s.families
   pub some : wanted ≡ true → list_any due ps ≡ true → (q : ℕ) × (has ps q ≡ true) × (e.bits q ≡ true)
@@ -76,6 +77,8 @@ types_may book due wanted ps s =
       bits = λ q none. (λ i. (z.0 i).bits q) ∙ (λ i. (d.rest i).bits q || r.1 q) ∙
           ap (λ x. s.bits q || x) (no_one (r.1 q) (λ f. clash (has (filter due ps) q) (d.inside q f) (outside due ps q none))) ∙ or-false (s.bits q);
       minus = λ q none. z.1 q (outside r.1 ps q none) ∙ (λ i. (d.rest i).minus q);
+      quiet = λ q none. (λ i. (z.0 i).bits q) ∙ (λ i. (d.rest i).bits q || r.1 q) ∙
+          ap (λ x. s.bits q || x) (no_one (r.1 q) (λ f. clash (due q) (both (has ps q) (due q) (sym (has_filter due ps q) ∙ d.inside q f)).1 none)) ∙ or-false (s.bits q);
       more = λ q h. (λ i. (z.0 i).bits q) ∙ (λ i. (d.rest i).bits q || r.1 q) ∙ ap (λ x. x || r.1 q) h;
       families = (λ i. (z.0 i).families) ∙ (λ i. (d.rest i).families);
       some = λ want list.
