@@ -75,6 +75,7 @@ pub record GroupsMay (due : ℕ → Bool) (first : ℕ) (sent wanted : ℕ → B
   pub minus : (q : ℕ) → ((j : ℕ) → a ≤ j → j < b → sent j ≡ true → has (group first j) q ≡ true → ⊥) → e.minus q ≡ s.minus q
   pub quiet : (q : ℕ) → due q ≡ false → e.bits q ≡ s.bits q
   pub more : (q : ℕ) → s.bits q ≡ true → e.bits q ≡ true
+  pub families : (i : ℕ) → e.families i ≡ s.families i
   pub some : (j : ℕ) → a ≤ j → j < b → sent j ≡ true → wanted j ≡ true → list_any due (group first j) ≡ true → (q : ℕ) × (has (group first j) q ≡ true) × (e.bits q ≡ true)
 
 pub groups_may : (book : Book) (due : ℕ → Bool) (first : ℕ) (sent wanted : ℕ → Bool) (a n : ℕ) (s : State) →
@@ -86,6 +87,7 @@ groups_may book due first sent wanted a n s =
       minus = λ q none. refl;
       quiet = λ q none. refl;
       more = λ q h. h;
+      families = λ i. refl;
       some = λ j low high is want list. absurd (omega (arith, low, high));
     })
   where
@@ -98,6 +100,7 @@ groups_may book due first sent wanted a n s =
           minus = λ q none. w.minus q (not_true (has (group first i) q) (none i low (omega arith) e)) ∙ p.minus q (λ j from to. none j from (omega (arith, to)));
           quiet = λ q none. w.quiet q none ∙ p.quiet q none;
           more = λ q h. w.more q (p.more q h);
+          families = λ k. (λ x. w.families x k) ∙ p.families k;
           some = λ j from to is want list. elim (cases_lt j i) [
             | inl lt ↦ (let z = p.some j from lt is want list in (z.0, z.1, w.more z.0 z.2))
             | inr ge ↦ (let same : i ≡ j = omega (arith, to, ge) in
@@ -111,6 +114,7 @@ groups_may book due first sent wanted a n s =
       minus = λ q none. p.minus q (λ j from to. none j from (omega (arith, to)));
       quiet = p.quiet;
       more = p.more;
+      families = p.families;
       some = λ j from to is want list. elim (cases_lt j i) [
         | inl lt ↦ p.some j from lt is want list
         | inr ge ↦ (let same : j ≡ i = omega (arith, to, ge) in absurd (clash (sent j) is (ap sent same ∙ e)))

@@ -22,3 +22,4 @@ pub mod QuadsBack
 pub mod SetsBack
 pub mod ChildrenBack
 pub mod StageBack
+pub mod StageAnswers

@@ -173,6 +173,7 @@ module _ (o : List ℕ) (chosen : AreChosen o) (t : Terms) (is_sound : is_book_s
     pub minus : (q : ℕ) → has (sixteen i) q ≡ false → e.minus q ≡ s.minus q
     pub quiet : (q : ℕ) → type_due block W b q ≡ false → e.bits q ≡ s.bits q
     pub more : (q : ℕ) → s.bits q ≡ true → e.bits q ≡ true
+    pub families : (i : ℕ) → e.families i ≡ s.families i
     pub some : (enclosing : Bool) → new ≡ true → is_due t block (Grandchildren i) enclosing ≡ true → (q : ℕ) × (has (sixteen i) q ≡ true) × (e.bits q ≡ true)
 
   quad_inside : (i j q : ℕ) → j < 4 → has (group (quad_of i 0) j) q ≡ true → has (sixteen i) q ≡ true
@@ -198,6 +199,7 @@ module _ (o : List ℕ) (chosen : AreChosen o) (t : Terms) (is_sound : is_book_s
         minus = λ q none. m.minus q (λ j low high sent inside. clash (has (sixteen i) q) (quad_inside i j q high inside) none) ∙ (λ k. (d.rest k).minus q);
         quiet = λ q none. m.quiet q none ∙ (λ k. (d.rest k).bits q);
         more = λ q h. m.more q ((λ k. (d.rest k).bits q) ∙ h);
+        families = λ k. m.families k ∙ (λ x. (d.rest x).families k);
         some = λ enclosing want is.
             let w = d.some (ap some_one_where want) (quads_due t is_sound block i enclosing is) in
             let here = here_due due 4 w.0 w.1 in

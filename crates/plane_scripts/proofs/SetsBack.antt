@@ -66,7 +66,7 @@ module _ (o : List ℕ) (chosen : AreChosen o) (t : Terms) (is_sound : is_book_s
   abbrev sets : ℕ → Bool
   sets i = set_significant v b (Family i)
 
-  sixteens_apart : (i j q : ℕ) → (i ≡ j → ⊥) → has (sixteen i) q ≡ true → has (sixteen j) q ≡ false
+  pub sixteens_apart : (i j q : ℕ) → (i ≡ j → ⊥) → has (sixteen i) q ≡ true → has (sixteen j) q ≡ false
   sixteens_apart i j q ne inside =
       let k = in_span (16 + 16 * i) 16 q inside in
       has_span (16 + 16 * j) 16 q ∙ far (elim (cases_lt q (16 + 16 * j)) [
@@ -90,6 +90,7 @@ module _ (o : List ℕ) (chosen : AreChosen o) (t : Terms) (is_sound : is_book_s
       pub minus : (q : ℕ) → ((i : ℕ) → a ≤ i → i < c → sent i ≡ true → has (sixteen i) q ≡ true → ⊥) → e.minus q ≡ s.minus q
       pub quiet : (q : ℕ) → type_due block W b q ≡ false → e.bits q ≡ s.bits q
       pub more : (q : ℕ) → s.bits q ≡ true → e.bits q ≡ true
+      pub families : (i : ℕ) → e.families i ≡ s.families i
       pub some : (i : ℕ) → a ≤ i → i < c → sent i ≡ true → new i ≡ true → (enclosing : Bool) → is_due t block (Grandchildren i) enclosing ≡ true →
           (q : ℕ) × (has (sixteen i) q ≡ true) × (e.bits q ≡ true)
 
@@ -101,6 +102,7 @@ module _ (o : List ℕ) (chosen : AreChosen o) (t : Terms) (is_sound : is_book_s
           minus = λ q none. refl;
           quiet = λ q none. refl;
           more = λ q h. h;
+          families = λ i. refl;
           some = λ i low high is want enclosing due. absurd (omega (arith, low, high));
         })
       where
@@ -113,6 +115,7 @@ module _ (o : List ℕ) (chosen : AreChosen o) (t : Terms) (is_sound : is_book_s
               minus = λ q none. w.minus q (not_true (has (sixteen i) q) (none i low (omega arith) e)) ∙ p.minus q (λ j from to. none j from (omega (arith, to)));
               quiet = λ q none. w.quiet q none ∙ p.quiet q none;
               more = λ q h. w.more q (p.more q h);
+              families = λ k. w.families k ∙ p.families k;
               some = λ j from to is want enclosing due. elim (cases_lt j i) [
                 | inl lt ↦ (let k = p.some j from lt is want enclosing due in (k.0, k.1, w.more k.0 k.2))
                 | inr ge ↦ (let one : i ≡ j = omega (arith, to, ge) in
@@ -126,6 +129,7 @@ module _ (o : List ℕ) (chosen : AreChosen o) (t : Terms) (is_sound : is_book_s
           minus = λ q none. p.minus q (λ j from to. none j from (omega (arith, to)));
           quiet = p.quiet;
           more = p.more;
+          families = p.families;
           some = λ j from to is want enclosing due. elim (cases_lt j i) [
             | inl lt ↦ p.some j from lt is want enclosing due
             | inr ge ↦ (let one : j ≡ i = omega (arith, to, ge) in absurd (clash (sent j) is (ap sent one ∙ e)))
