@@ -1,18 +1,17 @@
 -- What is read of the stage of the children is what its values write, if the families that were read are those of the values.
-use Rattle.std.proofs.Common.{◌≡◌, ◌⊎◌, ℕ, zero, suc, ◌+◌, ◌*◌, ◌≤◌, ◌<◌, ◌==◌, ◌&&◌, ◌||◌, not, Bool, true, false, if◌then◌else◌, List, [], ◌∷◌, ◌++◌, map, refl, ap, sym, ◌∙◌, subst, arith, append-nil, append_assoc, ℤ, inl, inr}
-use Rattle.std.specs.List.{list_any, flat_map}
-use Rattle.std.proofs.lemmas.Bool.Decides.{nat_tests}
+use Rattle.std.proofs.Common.{◌≡◌, ◌⊎◌, ℕ, zero, suc, ◌+◌, ◌*◌, ◌≤◌, ◌<◌, ◌==◌, ◌&&◌, ◌||◌, not, Bool, true, false, if◌then◌else◌, List, [], ◌∷◌, ◌++◌, map, refl, ap, sym, ◌∙◌, subst, arith, append-nil, ℤ, inl, inr}
+use Rattle.std.specs.List.{list_any}
 use Rattle.item_defs.specs.Bits.{digit}
-use Rattle.item_defs.specs.Items.{Item, raw}
+use Rattle.item_defs.specs.Items.{Item}
 use Rattle.plane_defs.specs.declared.entries.Entry.{Entry}
 use Rattle.plane_defs.specs.declared.entries.Entry.TheVariants.{Bit}
 use Rattle.plane_defs.specs.declared.sets.Set.TheVariants.{Descendants, Family, Grandchildren}
 use Rattle.plane_defs.specs.Spans.{span}
-use Rattle.plane_defs.specs.Sets.{significant, live, set_significant, enclosing_significant, type_due, flag_due, children_of, members}
+use Rattle.plane_defs.specs.Sets.{significant, live, set_significant, type_due, flag_due, children_of}
 use Rattle.plane_defs.specs.Codes.{is_book_sound}
 use Rattle.plane_defs.specs.Entries.{flags}
 use Rattle.plane_defs.specs.Reading.{read_after}
-use Rattle.plane_defs.specs.Steps.{Check, free, flags_alone, Step, step, some_one, some_one_where, is_new, flags_step, typed_steps, descendants_check, children_check, children_types_steps, children_steps}
+use Rattle.plane_defs.specs.Steps.{Check, free, flags_alone, Step, step, some_one_where, is_new, flags_step, typed_steps, descendants_check, children_check, children_types_steps, children_steps}
 use Rattle.plane_defs.specs.StepLaws.{entries_of, SameAc}
 use Rattle.plane_defs.specs.Laws.{IsMultiple}
 use Rattle.plane_defs.proofs.Equations.{set_significant-is, enclosing-descendants, enclosing-family, is_new-is, bit_reading}
@@ -22,7 +21,7 @@ use Rattle.item_scripts.specs.Following.{Follows}
 use Rattle.item_scripts.specs.Completing.{ArePossible}
 use Rattle.item_scripts.proofs.FollowLaws.{asked, follows_split}
 use Rattle.item_scripts.proofs.Completing.{possible_parts}
-use Rattle.plane_scripts.specs.Written.{has, Knows, AreChosen}
+use Rattle.plane_scripts.specs.Written.{AreChosen}
 use Rattle.plane_scripts.specs.States.{State, with_families}
 use Rattle.plane_scripts.specs.Words.{due_script, group_script}
 use Rattle.plane_scripts.specs.Stages.{Terms, above, is_due, flag_script, descendants_script, children_script}

@@ -1,5 +1,5 @@
 -- What is read of groups of types is what their values write.
-use Rattle.std.proofs.Common.{◌≡◌, ◌⊎◌, ℕ, zero, suc, ◌+◌, ◌*◌, ◌≤◌, ◌<◌, ◌==◌, ◌&&◌, ◌||◌, nat_lt, nat_le, Bool, true, false, if◌then◌else◌, List, [], ◌∷◌, ◌++◌, length, map, filter, refl, ap, sym, ◌∙◌, subst, arith, append_assoc, append-nil, ℤ, inl, inr}
+use Rattle.std.proofs.Common.{◌≡◌, ◌⊎◌, ℕ, zero, suc, ◌+◌, ◌*◌, ◌≤◌, ◌<◌, ◌&&◌, nat_lt, nat_le, Bool, true, false, if◌then◌else◌, List, [], ◌++◌, length, filter, refl, ap, sym, ◌∙◌, subst, arith, append_assoc, append-nil, ℤ, inl, inr}
 use Rattle.std.specs.List.{list_any, flat_map}
 use Rattle.std.proofs.lemmas.Bool.{cases_lt}
 use Rattle.std.proofs.lemmas.Bool.Decides.{nat_tests}
@@ -13,7 +13,7 @@ use Rattle.plane_defs.specs.Reading.{read_after}
 use Rattle.plane_defs.specs.Steps.{Step, some_one_where, typed_steps}
 use Rattle.plane_defs.specs.StepLaws.{entry_of, entries_of}
 use Rattle.plane_defs.proofs.Equations.{span-none}
-use Rattle.item_scripts.specs.Scripts.{Script, done, in_turn}
+use Rattle.item_scripts.specs.Scripts.{done, in_turn}
 use Rattle.item_scripts.specs.Following.{Follows}
 use Rattle.item_scripts.specs.Completing.{ArePossible}
 use Rattle.item_scripts.proofs.FollowLaws.{follows_split, follows_one}

@@ -23,3 +23,4 @@ pub mod SetsBack
 pub mod ChildrenBack
 pub mod StageBack
 pub mod StageAnswers
+pub mod FamiliesTrue

@@ -1,16 +1,14 @@
 -- What is read of words of flags, and of the sets of sixteen grandchildren, is what their values write.
-use Rattle.std.proofs.Common.{◌≡◌, ◌⊎◌, ℕ, zero, suc, ◌+◌, ◌-◌, ◌*◌, ◌≤◌, ◌<◌, ◌==◌, ◌&&◌, ◌||◌, not, nat_lt, nat_le, Bool, true, false, if◌then◌else◌, List, [], ◌∷◌, ◌++◌, length, map, filter, refl, ap, sym, ◌∙◌, subst, arith, append-nil, ℤ, pos, inl, inr}
-use Rattle.std.specs.List.{list_any, flat_map}
-use Rattle.std.proofs.lemmas.Bool.{cases_lt}
+use Rattle.std.proofs.Common.{◌≡◌, ℕ, ◌+◌, ◌-◌, ◌*◌, ◌≤◌, ◌<◌, ◌==◌, ◌&&◌, ◌||◌, not, nat_lt, nat_le, Bool, true, false, List, [], ◌∷◌, ◌++◌, length, map, filter, refl, ap, sym, ◌∙◌, subst, arith, append-nil, ℤ, pos}
+use Rattle.std.specs.List.{list_any}
 use Rattle.std.proofs.lemmas.Bool.Decides.{nat_tests}
-use Rattle.std.proofs.Math.Bool.{and-false}
 use lib.ListN.{get_or}
 use Rattle.item_defs.specs.Items.{Item}
 use Rattle.plane_defs.specs.declared.entries.Entry.{Entry}
 use Rattle.plane_defs.specs.declared.sets.Set.{Set}
 use Rattle.plane_defs.specs.declared.sets.Set.TheVariants.{Grandchildren, Quad}
 use Rattle.plane_defs.specs.Spans.{span}
-use Rattle.plane_defs.specs.Sets.{significant, coded, set_significant, enclosing_significant, type_due, flag_due, newly_significant, IsKnown, quad_of}
+use Rattle.plane_defs.specs.Sets.{significant, coded, set_significant, enclosing_significant, type_due, newly_significant, IsKnown, quad_of}
 use Rattle.plane_defs.specs.Codes.{is_book_sound}
 use Rattle.plane_defs.specs.Entries.{negative, word, flags}
 use Rattle.plane_defs.specs.Reading.{entry_reading, read_after}
@@ -22,18 +20,16 @@ use Rattle.plane_defs.proofs.Determined.{not_coded, list_any-span-here}
 use Rattle.plane_defs.proofs.Alike.{filter_same}
 use Rattle.plane_defs.proofs.Above.{all_acs, all_zip}
 use Rattle.plane_defs.proofs.AlikeSteps.{none_any, at_span}
-use Rattle.plane_defs.proofs.SpanLists.{flat_map-span-none}
-use Rattle.item_scripts.specs.Scripts.{Script, done, then_ask, in_turn}
+use Rattle.item_scripts.specs.Scripts.{Script, in_turn}
 use Rattle.item_scripts.specs.Following.{Follows}
 use Rattle.item_scripts.specs.Completing.{ArePossible}
 use Rattle.item_scripts.proofs.FollowLaws.{follows_split, follows_one}
 use Rattle.item_scripts.proofs.Completing.{possible_parts}
 use Rattle.plane_scripts.specs.Written.{has, Knows, AreChosen}
-use Rattle.plane_scripts.specs.States.{State, with_options}
+use Rattle.plane_scripts.specs.States.{State}
 use Rattle.plane_scripts.specs.Words.{due_script, group_script}
 use Rattle.plane_scripts.specs.Stages.{Terms, above, is_due, quads_script}
-use Rattle.plane_scripts.proofs.FlagCore.{Some_in}
-use Rattle.plane_scripts.proofs.StageGoes.{some_place, place_some, due_parts, quads_due, grandchildren_due}
+use Rattle.plane_scripts.proofs.StageGoes.{some_place, due_parts, quads_due, grandchildren_due}
 use Rattle.plane_scripts.proofs.WordGoes.{due_few}
 use Rattle.plane_scripts.proofs.PlacesSent as places
 use Rattle.plane_scripts.proofs.PlacesSent.{At, has_span}
@@ -45,7 +41,7 @@ use Rattle.plane_scripts.proofs.Answers.{May, may_then, may_weaker, may_end}
 use Rattle.plane_scripts.proofs.WordAnswers.{Grows, DueMay, due_may}
 use Rattle.plane_scripts.proofs.WordsBack.{Later, differ_span}
 use Rattle.plane_scripts.proofs.TypesBack.{Fresh, due_back}
-use Rattle.plane_scripts.proofs.GroupsBack.{not_true, later_on, group, apart, GroupsMay, groups_may, Backs, groups_back}
+use Rattle.plane_scripts.proofs.GroupsBack.{later_on, group, apart, GroupsMay, groups_may, groups_back}
 
 both : (a b : Bool) → (a && b) ≡ true → (a ≡ true) × (b ≡ true)
 both true true e = (refl, refl)
@@ -131,9 +127,12 @@ module _ (o : List ℕ) (chosen : AreChosen o) (t : Terms) (is_sound : is_book_s
       let w = some_place (significant v b) start count here in
       let q = start + w.0 in
       let above : significant v (b + 1) q ≡ false =
-      at_span (λ p. significant v (b + 1) p ≡ false) start count q (none_any (significant v (b + 1)) (span start count) none) (omega arith) (omega (arith, w.1)) in
-      (w.0, w.1, newly_significant-is v W b q ∙ ap (λ x. x && significant v b q) (type_due-is v W b q ∙ ap (λ x. not x && coded W b q) above ∙
-      sent (coded W b q) (λ e. not_coded v W b q whole e ∙ above) w.2) ∙ w.2)
+      at_span (λ p. significant v (b + 1) p ≡ false) start count q (none_any (significant v (b + 1)) (span start count) none) (omega arith) (omega (arith, w.1)) in (
+        w.0,
+        w.1,
+        newly_significant-is v W b q ∙ ap (λ x. x && significant v b q) (type_due-is v W b q ∙ ap (λ x. not x && coded W b q) above ∙
+            sent (coded W b q) (λ e. not_coded v W b q whole e ∙ above) w.2) ∙ w.2,
+      )
     where
       sent : (x : Bool) {y : Bool} → (x ≡ false → y ≡ false) → y ≡ true → x ≡ true
       sent true h e = refl
@@ -157,9 +156,11 @@ module _ (o : List ℕ) (chosen : AreChosen o) (t : Terms) (is_sound : is_book_s
       let flags_are : items ≡ read_after t.book o before (flags_step v W b also sets ∷ []) = read ∙
       ap (λ l. entry_reading t.book o before check (word l)) (words.flags_are o chosen t block v same whole S n known enclosing is) ∙
       (λ i. entry_reading t.book o before (one i) (word (flags v W b (these i)))) ∙ sym (append-nil (entry_reading t.book o before also (word (flags v W b sets)))) in
-      let w = words.flags_as o chosen t block v same whole S n few known enclosing is check also one sets these before s knows in
-      (flags_are, subst (words.Flags o chosen t block v same whole S n s (before ++ entries_of (flags_step v W b also sets ∷ [])))
-      (follows_one script items w.end r (subst (λ l. Follows script l w.end) (sym flags_are) w.follows) f) w.is)
+      let w = words.flags_as o chosen t block v same whole S n few known enclosing is check also one sets these before s knows in (
+        flags_are,
+        subst (words.Flags o chosen t block v same whole S n s (before ++ entries_of (flags_step v W b also sets ∷ [])))
+            (follows_one script items w.end r (subst (λ l. Follows script l w.end) (sym flags_are) w.follows) f) w.is,
+      )
 
   -- ---- sixteen grandchildren
 

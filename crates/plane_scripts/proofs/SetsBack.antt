@@ -1,45 +1,38 @@
 -- What is read of the stages of the children and of the grandchildren is what their values write.
-use Rattle.std.proofs.Common.{◌≡◌, ◌⊎◌, ℕ, zero, suc, ◌+◌, ◌-◌, ◌*◌, ◌≤◌, ◌<◌, ◌==◌, ◌&&◌, ◌||◌, not, nat_lt, nat_le, Bool, true, false, if◌then◌else◌, List, [], ◌∷◌, ◌++◌, length, map, filter, refl, ap, sym, ◌∙◌, subst, arith, append-nil, append_assoc, ℤ, pos, inl, inr}
-use Rattle.std.specs.List.{list_any, flat_map}
+use Rattle.std.proofs.Common.{◌≡◌, ◌⊎◌, ℕ, zero, suc, ◌+◌, ◌-◌, ◌*◌, ◌≤◌, ◌<◌, ◌==◌, ◌&&◌, ◌||◌, nat_lt, nat_le, Bool, true, false, if◌then◌else◌, List, [], ◌∷◌, ◌++◌, map, filter, refl, ap, sym, ◌∙◌, subst, arith, ℤ, inl, inr}
+use Rattle.std.specs.List.{flat_map}
 use Rattle.std.proofs.lemmas.Bool.{cases_lt}
 use Rattle.std.proofs.lemmas.Bool.Decides.{nat_tests}
-use lib.ListN.{get_or}
-use Rattle.item_defs.specs.Bits.{digit}
-use Rattle.item_defs.specs.Items.{Item, raw}
+use Rattle.item_defs.specs.Items.{Item}
 use Rattle.plane_defs.specs.declared.entries.Entry.{Entry}
-use Rattle.plane_defs.specs.declared.entries.Entry.TheVariants.{Bit}
-use Rattle.plane_defs.specs.declared.sets.Set.TheVariants.{Descendants, Family, Grandchildren}
+use Rattle.plane_defs.specs.declared.sets.Set.TheVariants.{Family, Grandchildren}
 use Rattle.plane_defs.specs.Spans.{span}
-use Rattle.plane_defs.specs.Sets.{significant, live, set_significant, enclosing_significant, type_due, flag_due, newly_significant, children_of}
+use Rattle.plane_defs.specs.Sets.{significant, set_significant, type_due, newly_significant}
 use Rattle.plane_defs.specs.Codes.{is_book_sound}
-use Rattle.plane_defs.specs.Entries.{flags}
 use Rattle.plane_defs.specs.Reading.{read_after}
-use Rattle.plane_defs.specs.Steps.{Check, free, ones_at, flags_alone, Step, step, some_one, some_one_where, is_new, flags_step, typed_steps, descendants_check, children_types_steps, children_steps, three_grandchildren, grandchildren_check, quads_steps, all_quads_steps, grandchildren_steps}
+use Rattle.plane_defs.specs.Steps.{Check, ones_at, Step, is_new, flags_step, three_grandchildren, grandchildren_check, quads_steps, all_quads_steps, grandchildren_steps}
 use Rattle.plane_defs.specs.StepLaws.{entries_of, SameAc}
 use Rattle.plane_defs.specs.Laws.{IsMultiple}
-use Rattle.plane_defs.proofs.Equations.{set_significant-is, enclosing-descendants, enclosing-family, enclosing-grandchildren, is_new-is, bit_reading, span-none}
-use Rattle.plane_defs.proofs.Determined.{enclosed, list_any-span-here}
-use Rattle.item_scripts.specs.Scripts.{Script, done, then_ask, in_turn, ask_bit, bit_form}
+use Rattle.plane_defs.proofs.Equations.{set_significant-is, enclosing-grandchildren, span-none}
+use Rattle.plane_defs.proofs.Determined.{list_any-span-here}
+use Rattle.item_scripts.specs.Scripts.{Script, done, in_turn}
 use Rattle.item_scripts.specs.Following.{Follows}
 use Rattle.item_scripts.specs.Completing.{ArePossible}
-use Rattle.item_scripts.proofs.FollowLaws.{asked, follows_split, follows_one}
+use Rattle.item_scripts.proofs.FollowLaws.{follows_split, follows_one}
 use Rattle.item_scripts.proofs.Completing.{possible_parts}
-use Rattle.plane_scripts.specs.Written.{has, Knows, AreChosen}
-use Rattle.plane_scripts.specs.States.{State, with_options, with_families}
-use Rattle.plane_scripts.specs.Words.{due_script, group_script}
-use Rattle.plane_scripts.specs.Stages.{Terms, above, is_due, flag_script, descendants_script, children_script, is_childless, quads_script, grandchildren_script}
-use Rattle.plane_scripts.proofs.FlagCore.{Some_below, family_at}
-use Rattle.plane_scripts.proofs.StageGoes.{any_all, family_any, due_parts, families_due}
+use Rattle.plane_scripts.specs.Written.{has, AreChosen}
+use Rattle.plane_scripts.specs.States.{State}
+use Rattle.plane_scripts.specs.Words.{due_script}
+use Rattle.plane_scripts.specs.Stages.{Terms, above, is_due, is_childless, quads_script, grandchildren_script}
+use Rattle.plane_scripts.proofs.StageGoes.{due_parts}
 use Rattle.plane_scripts.proofs.PlacesSent as places
 use Rattle.plane_scripts.proofs.PlacesSent.{At, has_span}
-use Rattle.plane_scripts.proofs.FlagsSent as words
 use Rattle.plane_scripts.proofs.StagesSent as stages
 use Rattle.plane_scripts.proofs.Sending.{flat_map_filter, read_append, span-first}
-use Rattle.plane_scripts.proofs.Answers.{May, may_then, may_in_turn, may_weaker, may_end}
+use Rattle.plane_scripts.proofs.Answers.{May, may_in_turn, may_weaker, may_end}
 use Rattle.plane_scripts.proofs.WordAnswers.{Grows, DueMay, due_may}
 use Rattle.plane_scripts.proofs.WordsBack.{Later, done_none}
-use Rattle.plane_scripts.proofs.TypesBack.{Fresh}
-use Rattle.plane_scripts.proofs.GroupsBack.{not_true, later_on, group, GroupsMay, groups_may, groups_back}
+use Rattle.plane_scripts.proofs.GroupsBack.{not_true, later_on}
 use Rattle.plane_scripts.proofs.QuadsBack as quads
 use Rattle.plane_scripts.proofs.QuadsBack.{clash, same_truth, or_second, in_span, here_due}
 

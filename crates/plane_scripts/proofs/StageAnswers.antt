@@ -1,22 +1,20 @@
 -- What any possible answers to a stage of a block leave.
-use Rattle.std.proofs.Common.{◌≡◌, ◌⊎◌, ℕ, zero, suc, ◌+◌, ◌*◌, ◌≤◌, ◌<◌, ◌==◌, ◌&&◌, ◌||◌, not, nat_lt, nat_le, Bool, true, false, if◌then◌else◌, List, [], ◌∷◌, map, filter, refl, ap, sym, ◌∙◌, subst, arith, ℤ, inl, inr}
-use Rattle.std.specs.List.{list_any}
+use Rattle.std.proofs.Common.{◌≡◌, ◌⊎◌, ℕ, zero, suc, ◌+◌, ◌*◌, ◌≤◌, ◌<◌, ◌==◌, ◌&&◌, ◌||◌, not, nat_lt, Bool, true, false, if◌then◌else◌, List, map, filter, refl, ap, sym, ◌∙◌, arith, ℤ, inl, inr}
 use Rattle.std.proofs.lemmas.Bool.Decides.{nat_tests}
 use Rattle.std.proofs.Math.Bool.{or-false}
 use Rattle.plane_defs.specs.declared.sets.Set.TheVariants.{Descendants, Family, Grandchildren}
 use Rattle.plane_defs.specs.Spans.{span}
-use Rattle.plane_defs.specs.Sets.{significant, coded, live, type_due, refined}
+use Rattle.plane_defs.specs.Sets.{coded, live, type_due, refined}
 use Rattle.plane_defs.specs.Codes.{is_book_sound}
 use Rattle.plane_defs.specs.Steps.{Check, ones_at, some_one_where}
 use Rattle.plane_defs.specs.StepLaws.{IsAc, SameAc}
 use Rattle.plane_defs.specs.Laws.{IsMultiple}
-use Rattle.item_scripts.specs.Scripts.{Script, done, then_ask, in_turn}
+use Rattle.item_scripts.specs.Scripts.{Script, done, in_turn}
 use Rattle.plane_scripts.specs.Written.{has, AreChosen}
 use Rattle.plane_scripts.specs.States.{State, with_families}
-use Rattle.plane_scripts.specs.Words.{due_script, types_script, group_script}
+use Rattle.plane_scripts.specs.Words.{due_script, group_script}
 use Rattle.plane_scripts.specs.Stages.{Terms, above, is_due, bit_script, dc_bit_script, parents_script, descendants_script, children_script, is_childless, quads_script, grandchildren_script, refinement_script, stage_script}
 use Rattle.plane_scripts.proofs.StageGoes.{children_due}
-use Rattle.plane_scripts.proofs.PlacesSent.{has_span}
 use Rattle.plane_scripts.proofs.Answers.{May, may_then, may_in_turn, may_weaker}
 use Rattle.plane_scripts.proofs.WordAnswers.{Grows, DueMay, due_may}
 use Rattle.plane_scripts.proofs.TypesBack.{TypesMay, types_may}
@@ -152,21 +150,24 @@ module _ (o : List ℕ) (chosen : AreChosen o) (t : Terms) (is_sound : is_book_s
       (λ g d.
       may_then (GroupsMay due 4 (sent g) (wanted g) 0 (0 + 3) g.0) End (in_turn (group_script t.book due 4 (sent g) (wanted g)) 0 3 g.0) (λ u. done (with_families u (sent g)))
       (groups_may t.book due 4 (sent g) (wanted g) 0 3 g.0)
-      (λ u z. (record {
-        grows = λ n x h. z.grows n x (d.grows n x h);
-        bits = λ q ac out old. by q g out u z (due q) refl ∙ (λ k. (d.rest k).bits q);
-        minus = λ q ac out. z.minus q (λ j low lt is inside. (let k = in_span (4 + 4 * j) 4 q inside in out (omega (arith, k.0)) (omega (arith, k.1, lt)))) ∙ (λ k. (d.rest k).minus q);
-        low = λ ne. z.bits 0 (λ j low lt is inside. (let k = (in_span (4 + 4 * j) 4 0 inside).0 in absurd (omega (arith, k)))) ∙ (λ k. (d.rest k).bits 0);
-        more = λ q h. z.more q ((λ k. (d.rest k).bits q) ∙ h);
-        families = λ ne i. absurd (ne refl);
-      }, record {
-        was = λ i lt h. ap (λ x. x || g.1 i) h;
-        none = λ i lt h q inside. z.bits q (λ j low high is there. alone g i j q inside there is h (j == i) refl) ∙ (λ k. (d.rest k).bits q);
-        some = λ i lt h. elim (either (above t block (Family i)) (g.1 i) h) [
-          | inl old ↦ inl old
-          | inr new ↦ inr (parts all g u z d i lt h new (live W b (Grandchildren i)) refl)
-        ];
-      })))) 
+      (λ u z. (
+        record {
+          grows = λ n x h. z.grows n x (d.grows n x h);
+          bits = λ q ac out old. by q g out u z (due q) refl ∙ (λ k. (d.rest k).bits q);
+          minus = λ q ac out. z.minus q (λ j low lt is inside. (let k = in_span (4 + 4 * j) 4 q inside in out (omega (arith, k.0)) (omega (arith, k.1, lt)))) ∙ (λ k. (d.rest k).minus q);
+          low = λ ne. z.bits 0 (λ j low lt is inside. (let k = (in_span (4 + 4 * j) 4 0 inside).0 in absurd (omega (arith, k)))) ∙ (λ k. (d.rest k).bits 0);
+          more = λ q h. z.more q ((λ k. (d.rest k).bits q) ∙ h);
+          families = λ ne i. absurd (ne refl);
+        },
+        record {
+          was = λ i lt h. ap (λ x. x || g.1 i) h;
+          none = λ i lt h q inside. z.bits q (λ j low high is there. alone g i j q inside there is h (j == i) refl) ∙ (λ k. (d.rest k).bits q);
+          some = λ i lt h. elim (either (above t block (Family i)) (g.1 i) h) [
+            | inl old ↦ inl old
+            | inr new ↦ inr (parts all g u z d i lt h new (live W b (Grandchildren i)) refl)
+          ];
+        },
+      ))))
     where
       End : State → Type 0
       End e = StageMay 2 s e × ChildrenMay s e
@@ -209,23 +210,26 @@ module _ (o : List ℕ) (chosen : AreChosen o) (t : Terms) (is_sound : is_book_s
       may_then (DueMay set check (span 0 3) s) (λ e. StageMay 3 s e × GrandMay s e) (due_script t.book set check (span 0 3) s) _ (due_may t.book set check (span 0 3) s)
       (λ g d.
       may_weaker (sets.SixteensMay o chosen t is_sound block v same whole (sent g) g.1 0 (0 + 3) g.0) (λ e. StageMay 3 s e × GrandMay s e) (next g)
-      (λ e z. (record {
-        grows = λ n x h. z.grows n x (d.grows n x h);
-        bits = λ q ac out old. by q g out e z (due q) refl ∙ (λ k. (d.rest k).bits q);
-        minus = λ q ac out. z.minus q (λ j low lt is inside. (let k = in_span (16 + 16 * j) 16 q inside in out (omega (arith, k.0)) (omega (arith, k.1, lt)))) ∙ (λ k. (d.rest k).minus q);
-        low = λ ne. z.bits 0 (λ j low lt is inside. (let k = (in_span (16 + 16 * j) 16 0 inside).0 in absurd (omega (arith, k)))) ∙ (λ k. (d.rest k).bits 0);
-        more = λ q h. z.more q ((λ k. (d.rest k).bits q) ∙ h);
-        families = λ ne i. z.families i ∙ (λ k. (d.rest k).families i);
-      }, record {
-        none = λ i lt f old q inside. z.bits q (λ j low high is there. alone g d i j q lt inside there is f old (j == i) refl) ∙ (λ k. (d.rest k).bits q);
-        forced = λ i lt childless old is_live.
-            let enclosed = (both (s.families i && not (above t block (Family i))) _ childless).0 in
-            let family = (both (s.families i) (not (above t block (Family i))) enclosed).0 in
-            let is_set : set i ≡ true = ap (λ x. x && (not (above t block (Grandchildren i)) && live W b (Grandchildren i))) family ∙
-            ap (λ x. not x && live W b (Grandchildren i)) old ∙ is_live in
-            let new : g.1 i ≡ true = d.each (is_childless t block s) refl i (due_here set 3 i lt is_set) childless in
-            z.some i (omega arith) lt (or_second (above t block (Grandchildren i)) (g.1 i) new) new (s.families i) is_set;
-      }))
+      (λ e z. (
+        record {
+          grows = λ n x h. z.grows n x (d.grows n x h);
+          bits = λ q ac out old. by q g out e z (due q) refl ∙ (λ k. (d.rest k).bits q);
+          minus = λ q ac out. z.minus q (λ j low lt is inside. (let k = in_span (16 + 16 * j) 16 q inside in out (omega (arith, k.0)) (omega (arith, k.1, lt)))) ∙ (λ k. (d.rest k).minus q);
+          low = λ ne. z.bits 0 (λ j low lt is inside. (let k = (in_span (16 + 16 * j) 16 0 inside).0 in absurd (omega (arith, k)))) ∙ (λ k. (d.rest k).bits 0);
+          more = λ q h. z.more q ((λ k. (d.rest k).bits q) ∙ h);
+          families = λ ne i. z.families i ∙ (λ k. (d.rest k).families i);
+        },
+        record {
+          none = λ i lt f old q inside. z.bits q (λ j low high is there. alone g d i j q lt inside there is f old (j == i) refl) ∙ (λ k. (d.rest k).bits q);
+          forced = λ i lt childless old is_live.
+              let enclosed = (both (s.families i && not (above t block (Family i))) _ childless).0 in
+              let family = (both (s.families i) (not (above t block (Family i))) enclosed).0 in
+              let is_set : set i ≡ true = ap (λ x. x && (not (above t block (Grandchildren i)) && live W b (Grandchildren i))) family ∙
+              ap (λ x. not x && live W b (Grandchildren i)) old ∙ is_live in
+              let new : g.1 i ≡ true = d.each (is_childless t block s) refl i (due_here set 3 i lt is_set) childless in
+              z.some i (omega arith) lt (or_second (above t block (Grandchildren i)) (g.1 i) new) new (s.families i) is_set;
+        },
+      ))
       (sets.sixteens_may o chosen t is_sound block v same whole (sent g) g.1 0 3 g.0))
     where
       set : ℕ → Bool

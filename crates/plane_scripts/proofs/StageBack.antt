@@ -1,5 +1,5 @@
 -- What is read of a block in a stage is what its values write.
-use Rattle.std.proofs.Common.{◌≡◌, ℕ, zero, suc, ◌+◌, ◌≤◌, ◌<◌, ◌==◌, ◌&&◌, ◌||◌, not, nat_lt, Bool, true, false, cond, if◌then◌else◌, List, [], ◌∷◌, ◌++◌, map, filter, refl, ap, sym, ◌∙◌, subst, arith, append-nil, ℤ, pos}
+use Rattle.std.proofs.Common.{◌≡◌, ℕ, zero, suc, ◌+◌, ◌≤◌, ◌<◌, ◌==◌, ◌&&◌, ◌||◌, not, nat_lt, Bool, true, false, cond, if◌then◌else◌, List, [], ◌∷◌, ◌++◌, filter, refl, ap, sym, ◌∙◌, subst, arith, ℤ, pos}
 use Rattle.std.specs.List.{flat_map}
 use Rattle.std.proofs.lemmas.Bool.Decides.{nat_tests}
 use Rattle.std.proofs.lemmas.List.Concat.{flat_map_single}
@@ -124,16 +124,18 @@ module _ (o : List ℕ) (chosen : AreChosen o) (t : Terms) (is_sound : is_book_s
           (refined v W b p ≡ true → u.bits p ≡ bit (magnitude v p) b) → (l ≡ read_after t.book o before (sends p)) × ((q : ℕ) → suc p ≤ q → u.bits q ≡ s.bits q)
       one true g u l are f is =
           let h = subst (λ (x : Bool). Follows {G = State} (if x then bit_script p s else done s) l u) g f in
-          let a = asked s bit_form (λ n. with_bits s (and_one (λ q. false) p (n == 1))) l u are h in
-          (bit_back t.book o before p (bit (magnitude v p) b) (bit_at p) s u l are h (empty p (omega arith) (omega arith) g) (is g) ∙
-          ap (λ (x : Bool). read_after t.book o before (if x then step free (bit_at p) (Bit (bit (magnitude v p) b)) ∷ [] else [])) (sym g),
-          λ q from. (let ne : (q == p) ≡ false = grind (arith, nat_tests) in
-          (λ i. (sym a.gives i).bits q) ∙ ap (λ y. s.bits q || (false || (y && (a.said == 1)))) ne ∙ or-false (s.bits q)))
+          let a = asked s bit_form (λ n. with_bits s (and_one (λ q. false) p (n == 1))) l u are h in (
+            bit_back t.book o before p (bit (magnitude v p) b) (bit_at p) s u l are h (empty p (omega arith) (omega arith) g) (is g) ∙
+                ap (λ (x : Bool). read_after t.book o before (if x then step free (bit_at p) (Bit (bit (magnitude v p) b)) ∷ [] else [])) (sym g),
+            λ q from. (let ne : (q == p) ≡ false = grind (arith, nat_tests) in
+                (λ i. (sym a.gives i).bits q) ∙ ap (λ y. s.bits q || (false || (y && (a.said == 1)))) ne ∙ or-false (s.bits q)),
+          )
       one false g u l are f is =
           let h = subst (λ (x : Bool). Follows {G = State} (if x then bit_script p s else done s) l u) g f in
-          let d = done_none State s u l h in
-          (d.0 ∙ ap (λ (x : Bool). read_after t.book o before (if x then step free (bit_at p) (Bit (bit (magnitude v p) b)) ∷ [] else [])) (sym g),
-          λ q from. (λ i. (sym d.1 i).bits q))
+          let d = done_none State s u l h in (
+            d.0 ∙ ap (λ (x : Bool). read_after t.book o before (if x then step free (bit_at p) (Bit (bit (magnitude v p) b)) ∷ [] else [])) (sym g),
+            λ q from. (λ i. (sym d.1 i).bits q),
+          )
 
   refinement_back : (families : ℕ → Bool) (dc : Bool) (before : List Entry) (s e : State) → Reads 64 1 families dc before s → (items : List Item) → ArePossible items →
       Follows (refinement_script t block s) items e → ((q : ℕ) → IsAc q → refined v W b q ≡ true → e.bits q ≡ bit (magnitude v q) b) →

@@ -1,13 +1,13 @@
 -- What possible answers to types and signs leave, and that it is what its values write.
-use Rattle.std.proofs.Common.{◌≡◌, ℕ, zero, suc, ◌+◌, ◌≤◌, ◌<◌, ◌^◌, ◌==◌, ◌&&◌, ◌||◌, Bool, true, false, if◌then◌else◌, List, [], ◌∷◌, ◌++◌, length, map, filter, refl, ap, sym, ◌∙◌, subst, arith, append-nil, mod-eq_of_lt, ℤ, pos}
+use Rattle.std.proofs.Common.{◌≡◌, ℕ, zero, suc, ◌≤◌, ◌<◌, ◌==◌, ◌&&◌, ◌||◌, Bool, true, false, List, [], ◌∷◌, ◌++◌, length, map, filter, refl, ap, sym, ◌∙◌, subst, arith, append-nil, mod-eq_of_lt, ℤ, pos}
 use Rattle.std.specs.List.{list_any}
 use Rattle.std.proofs.lemmas.Bool.Decides.{nat_tests}
 use Rattle.std.proofs.lemmas.Bool.{or_parts}
 use Rattle.std.proofs.lemmas.List.{length-map}
-use Rattle.std.proofs.Math.Bool.{or-false, and-false}
+use Rattle.std.proofs.Math.Bool.{or-false}
 use lib.ListN.{get_or}
 use Rattle.item_defs.specs.Bits.{bits_of, value_of, digit}
-use Rattle.item_defs.specs.Items.{Item, raw}
+use Rattle.item_defs.specs.Items.{Item}
 use Rattle.item_defs.proofs.NumberBits.{value_of-bits_of, length-bits_of}
 use Rattle.base_122.specs.declared.book.Book.{Book}
 use Rattle.plane_defs.specs.declared.entries.Entry.{Entry}
@@ -15,7 +15,7 @@ use Rattle.plane_defs.specs.declared.entries.Entry.TheVariants.{Bit, Word}
 use Rattle.plane_defs.specs.Sets.{significant, type_due, newly_significant}
 use Rattle.plane_defs.specs.Entries.{word, negative, types}
 use Rattle.plane_defs.specs.Reading.{entry_reading, read_after}
-use Rattle.plane_defs.specs.Steps.{Check, free, Step, step, sign_at, some_one_where, typed_steps}
+use Rattle.plane_defs.specs.Steps.{Check, free, step, sign_at, some_one_where, typed_steps}
 use Rattle.plane_defs.proofs.Equations.{bit_reading, newly_significant-is}
 use Rattle.item_scripts.specs.Scripts.{done, bit_form}
 use Rattle.item_scripts.specs.Following.{Follows}
@@ -50,8 +50,11 @@ signs_may [] s = (refl, λ q none. refl)
 signs_may (p ∷ ps) s = λ n said good.
     may_weaker (λ e. (e ≡ with_minus s e.minus) × ((q : ℕ) → has ps q ≡ false → e.minus q ≡ and_one s.minus p (n == 1) q))
     (λ e. (e ≡ with_minus s e.minus) × ((q : ℕ) → has (p ∷ ps) q ≡ false → e.minus q ≡ s.minus q)) (signs_script ps (with_minus s (and_one s.minus p (n == 1))))
-    (λ e z. (z.0, λ q none. (let parts = or_parts (q == p) (has ps q) none in
-    z.1 q parts.1 ∙ ap (λ x. s.minus q || (x && (n == 1))) parts.0 ∙ or-false (s.minus q)))) (signs_may ps (with_minus s (and_one s.minus p (n == 1))))
+    (λ e z. (
+      z.0,
+      λ q none. (let parts = or_parts (q == p) (has ps q) none in
+          z.1 q parts.1 ∙ ap (λ x. s.minus q || (x && (n == 1))) parts.0 ∙ or-false (s.minus q)),
+    )) (signs_may ps (with_minus s (and_one s.minus p (n == 1))))
 
 -- types and their signs
 pub record TypesMay (due : ℕ → Bool) (wanted : Bool) (ps : List ℕ) (s e : State) : Type 0 where

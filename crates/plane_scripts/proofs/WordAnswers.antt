@@ -1,26 +1,25 @@
 -- What possible answers to words leave.
-use Rattle.std.proofs.Common.{◌≡◌, ℕ, zero, suc, ◌+◌, ◌*◌, ◌≤◌, ◌<◌, ◌^◌, ◌==◌, ◌&&◌, ◌||◌, not, Bool, true, false, if◌then◌else◌, List, [], ◌∷◌, ◌++◌, length, map, filter, refl, ap, sym, ◌∙◌, subst, arith, Option, Some, None, pow_pos, inl, inr, mod-eq_of_lt}
-use Rattle.std.specs.List.{list_any, list_all, AllByRecursion}
+use Rattle.std.proofs.Common.{◌≡◌, ℕ, ◌≤◌, ◌<◌, ◌^◌, ◌==◌, ◌&&◌, ◌||◌, not, Bool, true, false, if◌then◌else◌, List, [], ◌∷◌, length, map, filter, refl, ap, sym, ◌∙◌, subst, arith, Option, Some, None, pow_pos, mod-eq_of_lt}
+use Rattle.std.specs.List.{list_any, AllByRecursion}
 use Rattle.std.proofs.lemmas.Bool.Decides.{nat_tests}
 use Rattle.std.proofs.lemmas.Bool.{or_parts}
 use Rattle.std.proofs.lemmas.List.{length-map}
 use lib.ListN.{get_or}
 use Rattle.item_defs.specs.Bits.{bits_of, value_of}
 use Rattle.item_defs.specs.Items.{IsSaid, Form, plain, code, false_flag}
-use Rattle.item_defs.proofs.NumberBits.{value_of-append, value_of-bits_of, length-bits_of}
+use Rattle.item_defs.proofs.NumberBits.{value_of-bits_of, length-bits_of}
 use Rattle.item_scripts.specs.Scripts.{done, ask, then_ask}
 use Rattle.item_scripts.specs.Completing.{IsPossible}
 use Rattle.base_122.specs.declared.book.Book.{Book}
 use Rattle.plane_defs.specs.Spans.{span}
-use Rattle.plane_defs.specs.Codes.{codes_of, code_bits, code_at, uncoded, symbol, names_option}
-use Rattle.plane_defs.specs.Reading.{word_of, word_said}
+use Rattle.plane_defs.specs.Codes.{codes_of, uncoded, symbol}
+use Rattle.plane_defs.specs.Reading.{word_of}
 use Rattle.plane_defs.specs.Steps.{Check, some_one, ones_at, refuses, lacks_one}
-use Rattle.plane_defs.proofs.SpanLists.{length-map-span}
 use Rattle.plane_defs.proofs.Alike.{all_filter}
 use Rattle.plane_defs.proofs.Above.{all_span}
 use Rattle.plane_scripts.specs.Written.{has}
 use Rattle.plane_scripts.specs.States.{State, with_options}
-use Rattle.plane_scripts.specs.Words.{option_form, option_named, with_option, option_script, option_of, raw_form, word_form, coded_script, word_script, ones, due_script}
+use Rattle.plane_scripts.specs.Words.{option_named, option_script, option_of, raw_form, coded_script, word_script, ones, due_script}
 use Rattle.plane_scripts.proofs.WordGoes.{some_due}
 use Rattle.plane_scripts.proofs.Answers.{May, may_then}
 

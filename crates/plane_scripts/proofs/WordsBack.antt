@@ -1,41 +1,34 @@
 -- What is read of words, types and signs is what their values write.
-use Rattle.std.proofs.Common.{◌≡◌, ℕ, zero, suc, ◌+◌, ◌≤◌, ◌<◌, ◌^◌, ◌==◌, ◌&&◌, ◌||◌, not, nat_lt, nat_le, Bool, true, false, if◌then◌else◌, List, [], ◌∷◌, ◌++◌, length, map, filter, refl, ap, sym, ◌∙◌, subst, arith, Option, Some, None, append-nil, append_assoc, mod-eq_of_lt, ℤ, pos}
+use Rattle.std.proofs.Common.{◌≡◌, ℕ, zero, suc, ◌+◌, ◌≤◌, ◌<◌, ◌^◌, ◌==◌, ◌&&◌, ◌||◌, not, nat_lt, nat_le, Bool, true, false, if◌then◌else◌, List, [], ◌∷◌, ◌++◌, length, map, filter, refl, ap, sym, ◌∙◌, subst, arith, Option, Some, None}
 use Rattle.std.specs.List.{list_any, list_all}
 use Rattle.std.proofs.lemmas.Bool.Decides.{nat_tests}
-use Rattle.std.proofs.lemmas.List.{length-map}
 use Rattle.std.proofs.Math.Bool.{or-false}
-use lib.ListN.{get_or}
-use Rattle.item_defs.specs.Bits.{bits_of, value_of, digit}
-use Rattle.item_defs.specs.Items.{Item, IsSaid, plain, code, raw, refused_where, false_flag}
-use Rattle.item_defs.proofs.NumberBits.{value_of-bits_of, length-bits_of}
+use Rattle.item_defs.specs.Items.{Item, IsSaid, plain, code, refused_where, false_flag}
 use Rattle.base_122.specs.declared.book.Book.{Book}
 use Rattle.plane_defs.specs.declared.entries.Entry.{Entry}
-use Rattle.plane_defs.specs.declared.entries.Entry.TheVariants.{Bit, Word}
+use Rattle.plane_defs.specs.declared.entries.Entry.TheVariants.{Word}
 use Rattle.plane_defs.specs.Spans.{span}
-use Rattle.plane_defs.specs.Sets.{significant, type_due, newly_significant}
-use Rattle.plane_defs.specs.Entries.{word, negative, types}
 use Rattle.plane_defs.specs.Codes.{codes_of, code_bits, code_at, identifier_number, identifier_width, names_option, uncoded, symbol, word_item, option_item}
 use Rattle.plane_defs.specs.Spelled.{is_word_of, opening, option_of as chosen_of}
-use Rattle.plane_defs.specs.Reading.{word_of, word_said, checked_word, entry_reading, read_after}
-use Rattle.plane_defs.specs.Steps.{Check, free, refuses, Step, step, sign_at, some_one_where, typed_steps}
+use Rattle.plane_defs.specs.Reading.{word_of, word_said, checked_word, entry_reading}
+use Rattle.plane_defs.specs.Steps.{Check, refuses}
 use Rattle.plane_defs.proofs.Tables.{list_all-span-zero}
-use Rattle.plane_defs.proofs.Equations.{word_reading, bit_reading, newly_significant-is, span-none}
+use Rattle.plane_defs.proofs.Equations.{word_reading, span-none}
 use Rattle.plane_defs.proofs.StepItems.{word_shape}
 use Rattle.plane_defs.proofs.SpanLists.{length-map-span}
-use Rattle.item_scripts.specs.Scripts.{Script, done, ask, then_ask, bit_form}
+use Rattle.item_scripts.specs.Scripts.{done, ask, then_ask}
 use Rattle.item_scripts.specs.Following.{Follows}
 use Rattle.item_scripts.specs.Completing.{ArePossible}
-use Rattle.item_scripts.proofs.FollowLaws.{asked, asked_first, follows_split}
+use Rattle.item_scripts.proofs.FollowLaws.{asked, follows_split}
 use Rattle.item_scripts.proofs.Completing.{possible_parts}
 use Rattle.plane_scripts.specs.Written.{has, Knows}
-use Rattle.plane_scripts.specs.States.{State, with_options, with_bits, with_minus, and_one}
-use Rattle.plane_scripts.specs.Words.{option_form, option_named, with_option, option_script, option_of, raw_form, word_form, coded_script, word_script, ones, due_script, signs_script, types_script}
+use Rattle.plane_scripts.specs.States.{State, with_options}
+use Rattle.plane_scripts.specs.Words.{option_form, option_named, with_option, option_script, option_of, raw_form, word_form, coded_script, word_script, ones}
 use Rattle.plane_scripts.proofs.WordGoes.{possible_named}
 use Rattle.plane_scripts.proofs.PlacesSent.{has_span}
 use Rattle.plane_scripts.proofs.Sending.{span-first}
-use Rattle.plane_scripts.proofs.TypesWritten.{has_filter, new_places}
-use Rattle.plane_scripts.proofs.Answers.{may_end}
-use Rattle.plane_scripts.proofs.WordAnswers.{WordMay, word_may, ones_has}
+use Rattle.plane_scripts.proofs.TypesWritten.{has_filter}
+use Rattle.plane_scripts.proofs.WordAnswers.{ones_has}
 
 -- ---- places that differ
 
