@@ -107,7 +107,8 @@ module _ (o : List ℕ) (chosen : AreChosen o) (t : Terms) (block v : List ℤ) 
       each : (p : ℕ) (c : List Entry) (u : State) → 1 ≤ p → p < 64 → Reads 64 p families dc c u →
           Sends t.book o (item p u) c (if refined v W b p then sent p ∷ [] else []) (Reads 64 (suc p) families dc)
       each p c u low high r =
-          subst (λ y. Sends {G = State} t.book o (if y then bit_script p u else done u) c (if refined v W b p then sent p ∷ [] else []) (Reads 64 (suc p) families dc))
+          subst (λ y. Sends {G = State} t.book o (if y then bit_script p u else done u) c (if refined v W b p then sent p ∷ [] else []) (Reads 64
+          (suc p) families dc))
           (sym (places.refined_is o chosen t block v same whole p (low, high))) (by (refined v W b p) refl)
         where
           bits_one : (q : ℕ) (x z a : Bool) → ((q == p) ≡ true → x ≡ z) →
@@ -127,7 +128,8 @@ module _ (o : List ℕ) (chosen : AreChosen o) (t : Terms) (block v : List ℤ) 
           skipped q z h = here (q == p) refl h
             where
               here : (e : Bool) → (q == p) ≡ e → (e ≡ true → z ≡ false) → (nat_lt q p && z) ≡ (nat_lt q (suc p) && z)
-              here true e h = let f = h refl in ap (λ y. nat_lt q p && y) f ∙ and-false (nat_lt q p) ∙ sym (ap (λ y. nat_lt q (suc p) && y) f ∙ and-false (nat_lt q (suc p)))
+              here true e h = let f = h refl in ap (λ y. nat_lt q p && y) f ∙ and-false (nat_lt q p) ∙ sym (ap (λ y. nat_lt q (suc p) && y) f ∙
+                  and-false (nat_lt q (suc p)))
               here false e h = let f : nat_lt q p ≡ nat_lt q (suc p) = grind (arith, nat_tests) in ap (λ y. y && z) f
 
           at : (q : ℕ) → (q == p) ≡ true → p ≡ q

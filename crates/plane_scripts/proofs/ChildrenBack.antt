@@ -80,7 +80,8 @@ module _ (o : List ℕ) (chosen : AreChosen o) (t : Terms) (is_sound : is_book_s
   abbrev first_steps : List Step
   first_steps = map (λ x. step free flags_alone (Bit x)) (flags v W b (Descendants ∷ []))
 
-  flag_back : (before : List Entry) (s : State) (items : List Item) (all : Bool) → ArePossible items → Follows (descendants_script t block s) items all → all ≡ sig →
+  flag_back : (before : List Entry) (s : State) (items : List Item) (all : Bool) → ArePossible items → Follows (descendants_script t block s) items all →
+      all ≡ sig →
       items ≡ read_after t.book o before first_steps
   flag_back before s items all are f is = by (not (above t block Descendants) && live W b Descendants) refl
     where
@@ -108,7 +109,8 @@ module _ (o : List ℕ) (chosen : AreChosen o) (t : Terms) (is_sound : is_book_s
           (done_none State (above t block Descendants) all items (subst (λ y. Follows (flag_if y) items all) e f)).0 ∙
           ap (λ y. read_after t.book o before (steps y)) (sym e ∙ due)
 
-  pub children_back : (m : ℕ) → m ≤ 1 → (dc : Bool) (families : ℕ → Bool) (before : List Entry) (s e : State) → Reads 4 m families dc before s → (items : List Item) →
+  pub children_back : (m : ℕ) → m ≤ 1 → (dc : Bool) (families : ℕ → Bool) (before : List Entry) (s e : State) → Reads 4 m families dc before s →
+      (items : List Item) →
       ArePossible items → Follows (children_script t block s) items e → Later o e.options → Agrees 4 16 e → ((i : ℕ) → i < 3 → e.families i ≡ sets i) →
       items ≡ read_after t.book o before (children_steps v W b)
   children_back m few dc families before s e r items are f later agrees known =
@@ -122,11 +124,13 @@ module _ (o : List ℕ) (chosen : AreChosen o) (t : Terms) (is_sound : is_book_s
       let g = c.value in
       let d = may_end (DueMay (due all) (check all) (span 0 3) s) (due_script t.book (due all) (check all) (span 0 3) s)
       (due_may t.book (due all) (check all) (span 0 3) s) c.first g ap2.0 c.follows in
-      let h = follows_split (λ u. done (with_families u (sent g))) (in_turn (group_script t.book (type_due block W b) 4 (sent g) (wanted g)) 0 3 g.0) c.rest e c.then in
+      let h = follows_split (λ u. done (with_families u (sent g))) (in_turn (group_script t.book (type_due block W b) 4 (sent g)
+      (wanted g)) 0 3 g.0) c.rest e c.then in
       let ap3 = possible_parts h.first h.rest (subst ArePossible h.both ap2.1) in
       let u = h.value in
       let last = done_none State (with_families u (sent g)) e h.rest h.then in
-      let z = may_end (GroupsMay (type_due block W b) 4 (sent g) (wanted g) 0 (0 + 3) g.0) (in_turn (group_script t.book (type_due block W b) 4 (sent g) (wanted g)) 0 3 g.0)
+      let z = may_end (GroupsMay (type_due block W b) 4 (sent g) (wanted g) 0 (0 + 3) g.0) (in_turn (group_script t.book (type_due block W b) 4 (sent g)
+      (wanted g)) 0 3 g.0)
       (groups_may t.book (type_due block W b) 4 (sent g) (wanted g) 0 3 g.0) h.first u ap3.0 h.follows in
       let later_u : Later o u.options = subst (λ (x : State). Later o x.options) (sym last.1) later in
       let fam : (i : ℕ) → i < 3 → sent g i ≡ sets i = λ i lt. (λ k. (last.1 k).families i) ∙ known i lt in
@@ -135,20 +139,28 @@ module _ (o : List ℕ) (chosen : AreChosen o) (t : Terms) (is_sound : is_book_s
       let flag_of = flags_step v W b (descendants_check v b) (Family 0 ∷ Family 1 ∷ Family 2 ∷ []) in
       let one = before ++ entries_of first_steps in
       let two = one ++ entries_of (flag_of ∷ []) in
-      let fl = quads.flags_back o chosen t is_sound block v same whole Family 3 (omega arith) (λ i lt. lt) (λ i. all) (λ i lt. all_is ∙ sym (enclosing-family v b i)) (check all)
+      let fl = quads.flags_back o chosen t is_sound block v same whole Family 3 (omega arith) (λ i lt. lt) (λ i. all) (λ i lt. all_is ∙
+      sym (enclosing-family v b i)) (check all)
       (descendants_check v b) (ap some_one_where (ap (λ x. x && not (above t block Descendants)) all_is ∙
       ap (λ x. sig && not x) (places.above_is o chosen t block v same whole Descendants tt) ∙ sym (is_new-is v b Descendants)))
-      (Family 0 ∷ Family 1 ∷ Family 2 ∷ []) (stages.three_sets Family) one s (words.flag_sent o chosen t block v same whole before s r.knows).is.knows c.first g ap2.0 c.follows
+      (Family 0 ∷ Family 1 ∷ Family 2 ∷ []) (stages.three_sets Family) one s
+      (words.flag_sent o chosen t block v same whole before s r.knows).is.knows c.first g ap2.0 c.follows
       (later_on o g.0 u z.grows later_u)
       (λ i lt is_due_i.
       let parts = due_parts t is_sound block (Family i) all is_due_i in
       ap (λ x. x || g.1 i) (sym (set_significant-is block (b + 1) (Family i) ∙ parts.1)) ∙ fam i lt) in
-      let groups = groups_back t.book o chosen v W b (type_due block W b) 4 (sent g) (wanted g) sets (λ i. is_new v b (Family i) && not (live W b (Grandchildren i))) children_of
+      let groups = groups_back t.book o chosen v W b (type_due block W b) 4 (sent g) (wanted g) sets (λ i. is_new v b (Family i) && not (live W b
+      (Grandchildren i))) children_of
       (λ j. refl) 0 3 fam (λ j lt. ap (λ x. x && not (live W b (Grandchildren j))) (fl.1.new j lt))
-      (λ j lt. quads.types_same o chosen t is_sound block v same whole (4 + 4 * j) 4 (omega arith) (omega (arith, lt))) two g.0 u fl.1.knows h.first ap3.0 h.follows later_u
+      (λ j lt. quads.types_same o chosen t is_sound block v same whole (4 + 4 * j) 4 (omega arith) (omega
+      (arith, lt))) two g.0 u fl.1.knows h.first ap3.0 h.follows later_u
       (λ j low lt. moved all g d (4 + 4 * j) u last.1
       (quads.fresh_of o chosen t is_sound block v same whole 4 m families dc before s e (4 + 4 * j) 4 few (omega arith) (omega arith) (omega (arith, lt)) r
-      (record { bits = λ q x y. agrees.bits q (omega (arith, x)) (omega (arith, y, lt)); signs = λ q x y. agrees.signs q (omega (arith, x)) (omega (arith, y, lt)) }))) in
+      (record {
+        bits = λ q x y. agrees.bits q (omega (arith, x)) (omega (arith, y, lt));
+        signs = λ q x y. agrees.signs q (omega (arith, x)) (omega
+            (arith, y, lt));
+      }))) in
       let types : c.rest ≡ read_after t.book o two (children_types_steps v W b) = h.both ∙ ap (λ l. h.first ++ l) last.0 ∙ append-nil h.first ∙ groups.0 ∙
       ap (read_after t.book o two) (sym (flat_map_filter (λ i. typed_steps v W b (children_check v W b i) (span (children_of i) 4)) sets (span 0 3))) in
       a.both ∙ (λ k. first k ++ (c.both ∙ (λ j. fl.0 j ++ types j) ∙ sym (read_append t.book o one (flag_of ∷ []) (children_types_steps v W b))) k) ∙
@@ -182,7 +194,8 @@ module _ (o : List ℕ) (chosen : AreChosen o) (t : Terms) (is_sound : is_book_s
       }
 
       above_set : above t block Descendants ≡ true → sig ≡ true
-      above_set e = sym (words_all) ∙ ap (λ x. x || (flag_due v W b Descendants && sig)) (sym (places.above_is o chosen t block v same whole Descendants tt) ∙ e)
+      above_set e = sym (words_all) ∙ ap (λ x. x || (flag_due v W b Descendants && sig)) (sym
+          (places.above_is o chosen t block v same whole Descendants tt) ∙ e)
         where
           words_all : (set_significant v (b + 1) Descendants || (flag_due v W b Descendants && sig)) ≡ sig
           words_all = places.flag_all o chosen t block v same whole Descendants tt
@@ -193,7 +206,8 @@ module _ (o : List ℕ) (chosen : AreChosen o) (t : Terms) (is_sound : is_book_s
       above_in : (i : ℕ) → i < 3 → above t block (Family i) ≡ true → above t block Descendants ≡ true
       above_in i lt e = sym (enclosing-family block (b + 1) i) ∙ enclosed block (b + 1) (Family i) lt e
 
-      all_truth : (all : Bool) → FlagMay (live W b Descendants) (above t block Descendants) all → (g : State × (ℕ → Bool)) → DueMay (due all) (check all) (span 0 3) s g →
+      all_truth : (all : Bool) → FlagMay (live W b Descendants) (above t block Descendants) all → (g : State × (ℕ → Bool)) →
+          DueMay (due all) (check all) (span 0 3) s g →
           ((i : ℕ) → i < 3 → sent g i ≡ sets i) → all ≡ sig
       all_truth all flag g d fam = same_truth all sig (λ e. there e (above t block Descendants) refl) back
         where

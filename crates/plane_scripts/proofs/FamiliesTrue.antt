@@ -121,7 +121,8 @@ module _ (o : List ℕ) (chosen : AreChosen o) (t : Terms) (is_sound : is_book_s
     read_true i lt e = by (above t block (Family i)) refl (of_children.some i lt (sym (kept_families i) ∙ e))
       where
         by : (x : Bool) → above t block (Family i) ≡ x →
-            (above t block (Family i) ≡ true) ⊎ (((q : ℕ) × (has (group 4 i) q ≡ true) × (children.bits q ≡ true)) ⊎ (live W b (Grandchildren i) ≡ true)) → sets i ≡ true
+            (above t block (Family i) ≡ true) ⊎ (((q : ℕ) × (has (group 4 i) q ≡ true) × (children.bits q ≡ true)) ⊎ (live W b
+            (Grandchildren i) ≡ true)) → sets i ≡ true
         by true old w = above_family i lt old
         by false old (inl w) = above_family i lt w
         by false old (inr (inl w)) =
@@ -150,7 +151,8 @@ module _ (o : List ℕ) (chosen : AreChosen o) (t : Terms) (is_sound : is_book_s
             of_test false f =
                 let childless : is_childless t block children i ≡ true =
                 ap (λ x. (x && not (above t block (Family i))) && not (list_any (λ p. significant block (b + 1) p || children.bits p) (span (children_of i) 4)))
-                (sym (kept_families i) ∙ e) ∙ ap (λ x. not x && not (list_any (λ p. significant block (b + 1) p || children.bits p) (span (children_of i) 4))) old ∙ ap not f in
+                (sym (kept_families i) ∙ e) ∙ ap (λ x. not x && not (list_any (λ p. significant block (b + 1) p || children.bits p) (span
+                (children_of i) 4))) old ∙ ap not f in
                 let w = of_grand.forced i lt childless (above_grand i lt old) is_live in
                 let k = place_of_grand i w.0 lt w.1 in
                 member i w.0 lt (bit_significant w.0 (omega (arith, k.0), k.1) (third.more w.0 w.2)) (inr w.1)
@@ -166,7 +168,8 @@ module _ (o : List ℕ) (chosen : AreChosen o) (t : Terms) (is_sound : is_book_s
             let is_due = new_due q ac new in
             let stays : end.bits q ≡ children.bits q = third.bits q ac (λ low high d. absurd (omega (arith, low, k.1))) (λ four old. old_not_due q is_due old) ∙
             second.bits q ac (λ low high d. absurd (omega (arith, low, k.1))) (λ three old. old_not_due q is_due old) in
-            clash (end.bits q) (agrees q ac ∙ ap (λ x. x || (refined v W b q && bit (magnitude v q) b)) new) (stays ∙ of_children.none i lt none q inside ∙ fresh q ac k.0)
+            clash (end.bits q) (agrees q ac ∙ ap (λ x. x || (refined v W b q && bit (magnitude v q) b)) new) (stays ∙
+            of_children.none i lt none q inside ∙ fresh q ac k.0)
 
         no_grand : (q : ℕ) → children.families i ≡ false → above t block (Grandchildren i) ≡ false → has (sixteen i) q ≡ true → newly q ≡ true → ⊥
         no_grand q none old inside new =
@@ -174,7 +177,8 @@ module _ (o : List ℕ) (chosen : AreChosen o) (t : Terms) (is_sound : is_book_s
             let ac : IsAc q = (omega (arith, k.0), k.1) in
             let is_due = new_due q ac new in
             let stays : end.bits q ≡ grand.bits q = third.bits q ac (λ low high d. absurd (omega (arith, low, k.1))) (λ four old. old_not_due q is_due old) in
-            let earlier : children.bits q ≡ before.bits q = first.bits q ac (λ low high d. absurd (omega (arith, high, k.0))) (λ two old. old_not_due q is_due old) in
+            let earlier : children.bits q ≡ before.bits q = first.bits q ac (λ low high d. absurd (omega (arith, high, k.0)))
+            (λ two old. old_not_due q is_due old) in
             clash (end.bits q) (agrees q ac ∙ ap (λ x. x || (refined v W b q && bit (magnitude v q) b)) new)
             (stays ∙ of_grand.none i lt none old q inside ∙ earlier ∙ fresh q ac (omega (arith, k.0)))
 
@@ -194,10 +198,12 @@ module _ (o : List ℕ) (chosen : AreChosen o) (t : Terms) (is_sound : is_book_s
             let none_above : set_significant v (b + 1) (Family i) ≡ false = sym (places.above_is o chosen t block v same whole (Family i) lt) ∙ old in
             let split = parts _ _ (sym (list_any-append (significant v (b + 1)) (span (4 + 4 * i) 4) (span (16 + 16 * i) 16)) ∙
             sym (set_significant-is v (b + 1) (Family i)) ∙ none_above) in
-            elim (either _ _ (sym (list_any-append (significant v b) (span (4 + 4 * i) 4) (span (16 + 16 * i) 16)) ∙ sym (set_significant-is v b (Family i)) ∙ e)) [
+            elim (either _ _ (sym (list_any-append (significant v b) (span (4 + 4 * i) 4) (span (16 + 16 * i) 16)) ∙
+            sym (set_significant-is v b (Family i)) ∙ e)) [
               | inl w ↦
                   let x = quads.new_member o chosen t is_sound block v same whole (4 + 4 * i) 4 w split.0 in
-                  absurd (no_child (4 + 4 * i + x.0) none (has_span (4 + 4 * i) 4 (4 + 4 * i + x.0) ∙ tests (4 + 4 * i) 4 (4 + 4 * i + x.0) (omega arith) (omega (arith, x.1))) x.2)
+                  absurd (no_child (4 + 4 * i + x.0) none (has_span (4 + 4 * i) 4 (4 + 4 * i + x.0) ∙
+                  tests (4 + 4 * i) 4 (4 + 4 * i + x.0) (omega arith) (omega (arith, x.1))) x.2)
               | inr w ↦
                   let x = quads.new_member o chosen t is_sound block v same whole (16 + 16 * i) 16 w split.1 in
                   absurd (no_grand (16 + 16 * i + x.0) none (above_grand i lt old)

@@ -193,13 +193,15 @@ module _ (o : List ℕ) (chosen : AreChosen o) (t : Terms) (block v : List ℤ) 
         | inl lt ↦ (let p : nat_lt q n ≡ true = grind (arith, nat_tests) in let r : nat_lt q k ≡ true = grind (arith, nat_tests) in
             ap (λ y. y && x) (p ∙ sym r))
         | inr ge ↦ elim (cases_lt q k) [
-          | inl lt ↦ (let z : x ≡ false = h ge lt in ap (λ y. nat_lt q n && y) z ∙ and-false (nat_lt q n) ∙ sym (ap (λ y. nat_lt q k && y) z ∙ and-false (nat_lt q k)))
+          | inl lt ↦ (let z : x ≡ false = h ge lt in ap (λ y. nat_lt q n && y) z ∙ and-false (nat_lt q n) ∙ sym (ap (λ y. nat_lt q k && y) z ∙
+              and-false (nat_lt q k)))
           | inr more ↦ (let p : nat_lt q n ≡ false = grind (arith, nat_tests) in let r : nat_lt q k ≡ false = grind (arith, nat_tests) in
               ap (λ y. y && x) (p ∙ sym r))
         ]
       ]
 
-      signs : (q : ℕ) (x : Bool) → (n ≤ q → q < k → x ≡ false) → (nat_lt q n && (x && negative (get_or v q (pos 0)))) ≡ (nat_lt q k && (x && negative (get_or v q (pos 0))))
+      signs : (q : ℕ) (x : Bool) → (n ≤ q → q < k → x ≡ false) → (nat_lt q n && (x && negative (get_or v q (pos 0)))) ≡ (nat_lt q k && (x && negative
+          (get_or v q (pos 0))))
       signs q x h = kept q (x && negative (get_or v q (pos 0))) (λ a c. ap (λ y. y && negative (get_or v q (pos 0))) (h a c))
 
   pub quiet : (a c q : ℕ) → list_any (significant v b) (span a c) ≡ false → a ≤ q → q < a + c → newly_significant v W b q ≡ false
@@ -239,7 +241,8 @@ module _ (o : List ℕ) (chosen : AreChosen o) (t : Terms) (block v : List ℤ) 
           (subst (λ y. Sends t.book o T c (if y then steps j else []) (Reads (first + 4 * suc j) m families dc)) (sym e)
           (subst (λ i. Sends t.book o T c (typed_steps v W b (some_one_where (new j)) (span (place j) 4)) (Reads i m families dc)) k
           (subst (λ i. Sends t.book o T c (typed_steps v W b (some_one_where (new j)) (span i 4)) (Reads (first + 4 * j + 4) m families dc)) (at j)
-          (subst (λ y. Sends t.book o T c (typed_steps v W b (some_one_where y) (span (first + 4 * j) 4)) (Reads (first + 4 * j + 4) m families dc)) (wanted_is j lt)
+          (subst (λ y. Sends t.book o T c (typed_steps v W b (some_one_where y) (span (first + 4 * j) 4)) (Reads (first + 4 * j + 4) m families dc))
+          (wanted_is j lt)
           (places.types_sent o chosen t block v same whole (first + 4 * j) 4 m families dc (omega (arith, low)) (omega arith) (omega (arith, lt, high))
           (four_long (first + 4 * j)) (wanted j) c u p)))))
       each j lt c u p false e =

@@ -76,12 +76,14 @@ pub record GroupsMay (due : ℕ → Bool) (first : ℕ) (sent wanted : ℕ → B
   pub quiet : (q : ℕ) → due q ≡ false → e.bits q ≡ s.bits q
   pub more : (q : ℕ) → s.bits q ≡ true → e.bits q ≡ true
   pub families : (i : ℕ) → e.families i ≡ s.families i
-  pub some : (j : ℕ) → a ≤ j → j < b → sent j ≡ true → wanted j ≡ true → list_any due (group first j) ≡ true → (q : ℕ) × (has (group first j) q ≡ true) × (e.bits q ≡ true)
+  pub some : (j : ℕ) → a ≤ j → j < b → sent j ≡ true → wanted j ≡ true → list_any due (group first j) ≡ true →
+      (q : ℕ) × (has (group first j) q ≡ true) × (e.bits q ≡ true)
 
 pub groups_may : (book : Book) (due : ℕ → Bool) (first : ℕ) (sent wanted : ℕ → Bool) (a n : ℕ) (s : State) →
     May (in_turn (group_script book due first sent wanted) a n s) (GroupsMay due first sent wanted a (a + n) s)
 groups_may book due first sent wanted a n s =
-    may_in_turn (λ b. GroupsMay due first sent wanted a b s) (group_script book due first sent wanted) a n (λ i u low high p. one i u low p (sent i) refl) s (record {
+    may_in_turn (λ b. GroupsMay due first sent wanted a b s) (group_script book due first sent wanted) a n (λ i u low high p. one i u low p
+    (sent i) refl) s (record {
       grows = λ k x h. h;
       bits = λ q none. refl;
       minus = λ q none. refl;
@@ -97,7 +99,8 @@ groups_may book due first sent wanted a n s =
         (types_script book due (wanted i) (group first i) u) (λ v w. record {
           grows = λ k x h. w.grows k x (p.grows k x h);
           bits = λ q none. w.bits q (not_true (has (group first i) q) (none i low (omega arith) e)) ∙ p.bits q (λ j from to. none j from (omega (arith, to)));
-          minus = λ q none. w.minus q (not_true (has (group first i) q) (none i low (omega arith) e)) ∙ p.minus q (λ j from to. none j from (omega (arith, to)));
+          minus = λ q none. w.minus q (not_true (has (group first i) q) (none i low (omega arith) e)) ∙
+              p.minus q (λ j from to. none j from (omega (arith, to)));
           quiet = λ q none. w.quiet q none ∙ p.quiet q none;
           more = λ q h. w.more q (p.more q h);
           families = λ k. (λ x. w.families x k) ∙ p.families k;
@@ -132,7 +135,8 @@ module _ (book : Book) (o : List ℕ) (chosen : AreChosen o) where
   abbrev pub Backs : (before : List Entry) → List Step → List Item → State → Type 0
   Backs before steps items e = (items ≡ read_after book o before steps) × Knows o (before ++ entries_of steps) e.options
 
-  pub backs_then : (before : List Entry) (xs ys : List Step) (items first rest : List Item) (e : State) → items ≡ first ++ rest → first ≡ read_after book o before xs →
+  pub backs_then : (before : List Entry) (xs ys : List Step) (items first rest : List Item) (e : State) → items ≡ first ++ rest →
+      first ≡ read_after book o before xs →
       Backs (before ++ entries_of xs) ys rest e → Backs before (xs ++ ys) items e
   backs_then before xs ys items first rest e both p q = (
     both ∙ (λ i. p i ++ q.0 i) ∙ sym (read_append book o before xs ys),
@@ -148,7 +152,8 @@ module _ (book : Book) (o : List ℕ) (chosen : AreChosen o) where
         let few : length (filter due (span a c)) ≤ 4 = (let k = due_few due (span a c) in omega (arith, k, short)) in
         let is = types_back book o before v weights plane due wanted (span a c) s e knows (differ_span a c) few same items are f later fresh in
         let w = types_written book o chosen before v weights plane due wanted (span a c) few same s knows in
-        let one = follows_one (types_script book due wanted (span a c) s) items w.end e (subst (λ l. Follows (types_script book due wanted (span a c) s) l w.end) (sym is) w.follows) f in
+        let one = follows_one (types_script book due wanted (span a c) s) items w.end e (subst (λ l. Follows (types_script book due wanted
+        (span a c) s) l w.end) (sym is) w.follows) f in
         (is, subst (λ (u : State). Knows o (before ++ entries_of (typed_steps v weights plane (some_one_where wanted) (span a c))) u.options) one w.is.knows)
 
     module _ (first : ℕ) (sent wanted in_v new : ℕ → Bool) (place : ℕ → ℕ) (at : (j : ℕ) → first + 4 * j ≡ place j) where
@@ -169,7 +174,8 @@ module _ (book : Book) (o : List ℕ) (chosen : AreChosen o) where
           let w = follows_split (in_turn item (suc j) n) (item j s) items e f in
           let p = possible_parts w.first w.rest (subst ArePossible w.both are) in
           let u = w.value in
-          let m = may_end (GroupsMay due first sent wanted (suc j) (suc j + n) u) (in_turn item (suc j) n u) (groups_may book due first sent wanted (suc j) n u) w.rest e p.1 w.then in
+          let m = may_end (GroupsMay due first sent wanted (suc j) (suc j + n) u) (in_turn item (suc j) n u) (groups_may book due first sent wanted
+          (suc j) n u) w.rest e p.1 w.then in
           let mid : Later o u.options = later_on o u e m.grows later in
           let here = fresh j (omega arith) (omega arith) in
           let mine : Fresh book o v weights plane (group first j) s u = record {
@@ -178,8 +184,10 @@ module _ (book : Book) (o : List ℕ) (chosen : AreChosen o) where
             bits = λ q inside. sym (m.bits q (λ i low high is there. alone q i low inside there)) ∙ here.bits q inside;
             signs = λ q inside. sym (m.minus q (λ i low high is there. alone q i low inside there)) ∙ here.signs q inside;
           } in
-          let head = one j (sent_is j (omega arith)) (wanted_is j (omega arith)) (same j (omega arith)) before s u knows w.first p.0 w.follows mid mine (in_v j) refl in
-          let rest = groups_back (suc j) n (λ i lt. sent_is i (omega (arith, lt))) (λ i lt. wanted_is i (omega (arith, lt))) (λ i lt. same i (omega (arith, lt)))
+          let head = one j (sent_is j (omega arith)) (wanted_is j (omega arith)) (same j (omega arith)) before s u knows w.first p.0 w.follows mid mine
+          (in_v j) refl in
+          let rest = groups_back (suc j) n (λ i lt. sent_is i (omega (arith, lt))) (λ i lt. wanted_is i (omega (arith, lt))) (λ i lt. same i (omega
+          (arith, lt)))
           (before ++ entries_of (steps j)) u e head.1 w.rest p.1 w.then later
           (λ i low high. moved i s u e (fresh i (omega (arith, low)) (omega (arith, high))) (kept u w.first p.0 w.follows i (omega (arith, low)))) in
           subst (λ l. Backs before (flat_map steps l) items e) (span-first j n)
@@ -192,8 +200,10 @@ module _ (book : Book) (o : List ℕ) (chosen : AreChosen o) where
           alone : (q i : ℕ) → suc j ≤ i → has (group first j) q ≡ true → has (group first i) q ≡ true → ⊥
           alone q i low inside there = clash (has (group first i) q) there (apart first j i q (λ z. absurd (omega (arith, low, z))) inside)
 
-          one : (j : ℕ) → sent j ≡ in_v j → wanted j ≡ new j → filter due (group first j) ≡ filter (type_due v weights plane) (group first j) → (before : List Entry)
-              (s u : State) → Knows o before s.options → (l : List Item) → ArePossible l → Follows (group_script book due first sent wanted j s) l u → Later o u.options →
+          one : (j : ℕ) → sent j ≡ in_v j → wanted j ≡ new j → filter due (group first j) ≡ filter (type_due v weights plane) (group first j) →
+              (before : List Entry)
+              (s u : State) → Knows o before s.options → (l : List Item) → ArePossible l → Follows (group_script book due first sent wanted j s) l u →
+              Later o u.options →
               Fresh book o v weights plane (group first j) s u → (x : Bool) → in_v j ≡ x → Backs before (steps j) l u
           one j sent_is wanted_is same before s u knows l are f later fresh true e =
               subst (λ (x : Bool). Backs before (if x then typed_steps v weights plane (some_one_where (new j)) (span (place j) 4) else []) l u) (sym e)
@@ -202,7 +212,8 @@ module _ (book : Book) (o : List ℕ) (chosen : AreChosen o) where
               (group_back before (wanted j) (first + 4 * j) 4 (four_long (first + 4 * j)) s u knows same l are
               (subst (λ (x : Bool). Follows (if x then types_script book due (wanted j) (group first j) s else done s) l u) (sent_is ∙ e) f) later fresh)))
           one j sent_is wanted_is same before s u knows l are f later fresh false e =
-              let d = done_none State s u l (subst (λ (x : Bool). Follows (if x then types_script book due (wanted j) (group first j) s else done s) l u) (sent_is ∙ e) f) in
+              let d = done_none State s u l (subst (λ (x : Bool). Follows (if x then types_script book due (wanted j) (group first j) s else done s) l u)
+              (sent_is ∙ e) f) in
               subst (λ (x : Bool). Backs before (if x then typed_steps v weights plane (some_one_where (new j)) (span (place j) 4) else []) l u) (sym e)
               (d.0, subst (λ l. Knows o l u.options) (sym (append-nil before)) (subst (λ (z : State). Knows o before z.options) d.1 knows))
 
@@ -211,7 +222,8 @@ module _ (book : Book) (o : List ℕ) (chosen : AreChosen o) where
               has (group first i) q ≡ true → (u.bits q ≡ s.bits q) × (u.minus q ≡ s.minus q)
           kept u l are f i low q inside = by (sent j) f
             where
-              by : (x : Bool) → Follows (if x then types_script book due (wanted j) (group first j) s else done s) l u → (u.bits q ≡ s.bits q) × (u.minus q ≡ s.minus q)
+              by : (x : Bool) → Follows (if x then types_script book due (wanted j) (group first j) s else done s) l u →
+                  (u.bits q ≡ s.bits q) × (u.minus q ≡ s.minus q)
               by true f =
                   let m = may_end (TypesMay due (wanted j) (group first j) s) (types_script book due (wanted j) (group first j) s)
                   (types_may book due (wanted j) (group first j) s) l u are f in

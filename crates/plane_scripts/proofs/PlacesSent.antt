@@ -131,7 +131,8 @@ signs_cases false false true n g e = cc
 
 -- What was read of a block in a plane, if some values are written: the types and signs of the places below n, the refinement of those
 -- below m, these families, and this bit of the DC.
-pub record At (o : List ℕ) (v : List ℤ) (weights : List ℕ) (plane : ℕ) (n m : ℕ) (families : ℕ → Bool) (dc : Bool) (before : List Entry) (s : State) : Type 0 where
+pub record At (o : List ℕ) (v : List ℤ) (weights : List ℕ) (plane : ℕ) (n m : ℕ) (families : ℕ → Bool) (dc : Bool) (before : List Entry)
+    (s : State) : Type 0 where
   pub knows : Knows o before s.options
   pub bits : (q : ℕ) → IsAc q → s.bits q ≡
       ((nat_lt q n && newly_significant v weights plane q) || (nat_lt q m && (refined v weights plane q && bit (magnitude v q) plane)))

@@ -61,12 +61,14 @@ module _ (o : ℕ → List ℕ) (chosen : (g : ℕ) → AreChosen (o g)) (t : Te
       let b = r.left i (omega arith) lt in
       let known : Knows (o (i / 16)) c (u.options (i / 16)) = subst (λ h. Knows (o h) c (u.options h)) at r.here in
       let start : one.Before (o (i / 16)) (chosen (i / 16)) t (get_or blocks i []) v (same i) (whole i) k c (of_block u i) =
-      reads_on (o (i / 16)) (chosen (i / 16)) t (get_or blocks i []) v (same i) (whole i) (one.reach (o (i / 16)) (chosen (i / 16)) t (get_or blocks i []) v (same i) (whole i) k)
+      reads_on (o (i / 16)) (chosen (i / 16)) t (get_or blocks i []) v (same i) (whole i) (one.reach (o (i / 16)) (chosen (i / 16)) t
+      (get_or blocks i []) v (same i) (whole i) k)
       (one.fine (o (i / 16)) (chosen (i / 16)) t (get_or blocks i []) v (same i) (whole i) k)
       (one.known (o (i / 16)) (chosen (i / 16)) t (get_or blocks i []) v (same i) (whole i) k)
       (one.sent_dc (o (i / 16)) (chosen (i / 16)) t (get_or blocks i []) v (same i) (whole i) k) b.0 c (u.blocks i) (of_block u i) b.1 known refl in
       subst (λ l. Sends t.book l (item k i u) c (steps_of_block p (stage_number k) i) (InStage k g (suc i))) (ap o (sym at))
-      (writes_around (one.Before (o (i / 16)) (chosen (i / 16)) t (get_or blocks i []) v (same i) (whole i) (suc k) (c ++ entries_of (steps_of_block p (stage_number k) i)))
+      (writes_around (one.Before (o (i / 16)) (chosen (i / 16)) t (get_or blocks i []) v (same i) (whole i) (suc k) (c ++ entries_of (steps_of_block p
+      (stage_number k) i)))
       (InStage k g (suc i) (c ++ entries_of (steps_of_block p (stage_number k) i))) (with_block u i) (λ s z. record {
         past = λ q low. was q low z (q == i) refl;
         left = λ q high small. (let ne : (q == i) ≡ false = grind (arith, nat_tests) in
@@ -209,7 +211,8 @@ module _ (o : ℕ → List ℕ) (chosen : (g : ℕ) → AreChosen (o g)) (t : Te
       (λ u. (r : ℕ) → r < count → BlockAt stages r (u.blocks r))
   plane_sent stages few =
       let z : 0 + stages ≡ stages = omega arith in
-      subst (λ l. Writes (plane_script t depths blocks stages) (flat_map (stage_reading t.book o p) l) (λ u. (r : ℕ) → r < count → BlockAt stages r (u.blocks r)))
+      subst (λ l. Writes (plane_script t depths blocks stages) (flat_map (stage_reading t.book o p) l) (λ u. (r : ℕ) → r < count →
+      BlockAt stages r (u.blocks r)))
       (range_span 0 stages)
       (writes_weaker (Bound (0 + stages) 0) (λ u. (r : ℕ) → r < count → BlockAt stages r (u.blocks r)) (plane_script t depths blocks stages)
       (flat_map (stage_reading t.book o p) (range_with_len 0 stages)) (λ u q r lt. subst (λ k. BlockAt k r (u.blocks r)) z (q.left r (omega arith) lt))

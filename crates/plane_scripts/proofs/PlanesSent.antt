@@ -70,11 +70,13 @@ shows_next weights b block v families dc o before s whole above r p ac =
     let m = magnitude v p in
     let sign = negative (get_or block p (pos 0)) || s.minus p in
     let size : magnitude block p + bit_of_plane b s p ≡ m / 2 ^ b * 2 ^ b =
-    ap (λ x. magnitude block p + (if x then 2 ^ b else 0)) (r.bits p ac ∙ inside (λ y. (y && newly_significant v weights b p) || (y && (refined v weights b p && bit m b))) ∙
+    ap (λ x. magnitude block p + (if x then 2 ^ b else 0)) (r.bits p ac ∙ inside (λ y. (y && newly_significant v weights b p) || (y &&
+    (refined v weights b p && bit m b))) ∙
     the_bit v weights b whole p) ∙ ap (λ x. x + (if bit m b then 2 ^ b else 0)) (above p ac).0 ∙ one_bit_more m b in
     let n = negative (get_or v p (pos 0)) in
     let signs : sign ≡ ((significant v (b + 1) p && n) || (newly_significant v weights b p && n)) =
-    ap (λ y. y || s.minus p) (above p ac).1 ∙ ap (λ y. (significant v (b + 1) p && n) || y) (r.minus p ac ∙ inside (λ y. y && (newly_significant v weights b p && n))) in
+    ap (λ y. y || s.minus p) (above p ac).1 ∙ ap (λ y. (significant v (b + 1) p && n) || y) (r.minus p ac ∙
+    inside (λ y. y && (newly_significant v weights b p && n))) in
     let number : get_or (block_with b block s) p (pos 0) ≡ (if sign then pos 0 -ℤ pos (m / 2 ^ b * 2 ^ b) else pos (m / 2 ^ b * 2 ^ b)) =
     get_or-map-span (number_with b block s) 64 p (pos 0) ac.1 ∙ not_dc ∙ ap (λ k. if sign then pos 0 -ℤ pos k else pos k) size in (
       ap unsigned_abs number ∙ signed_size sign (m / 2 ^ b * 2 ^ b),
@@ -144,9 +146,11 @@ module _ (book : Book) (options : ℕ → ℕ → List ℕ) (chosen : (b g : ℕ
   silent (suc b) none blocks long =
       let t : Terms = record { book = book; weights = weights; plane = b; q = q } in
       subst (λ n. Writes (then_ask (around (blocks_with b blocks) (plane_script t depths blocks n)) (planes_script book weights q depths stages b))
-      (plane_reading book (options b) (record { blocks = values; depths = depths; weights = weights; number = b; q = q }) n ++ planes_reading book options values depths weights q stages b)
+      (plane_reading book (options b) (record { blocks = values; depths = depths; weights = weights; number = b; q = q }) n ++ planes_reading book options
+      values depths weights q stages b)
       (λ w. length w ≡ length values)) (sym (none b (omega arith)))
-      (subst (λ l. Writes (planes_script book weights q depths stages b (blocks_with b blocks nothing_yet)) (l ++ planes_reading book options values depths weights q stages b)
+      (subst (λ l. Writes (planes_script book weights q depths stages b (blocks_with b blocks nothing_yet))
+      (l ++ planes_reading book options values depths weights q stages b)
       (λ w. length w ≡ length values))
       (sym (flat_map-span-none (stage_reading book (options b) (record { blocks = values; depths = depths; weights = weights; number = b; q = q })) 0))
       (silent b (λ c lt. none c (omega (arith, lt))) (blocks_with b blocks nothing_yet) (long_with b blocks nothing_yet ∙ long)))
@@ -219,7 +223,8 @@ module _ (book : Book) (options : ℕ → ℕ → List ℕ) (chosen : (b g : ℕ
       by : (now : List (List ℤ)) → length now ≡ length values → (stages b ≡ 5 → Rest now (Ends b)) → ((stages b ≡ 5) ⊎ (stages b ≡ 5 → ⊥)) →
           ((stages b ≡ 5) ⊎ ((c : ℕ) → c < b → stages c ≡ 0)) → Rest now (Ends (suc b))
       by now size more (inl five) zeros =
-          writes_weaker (Ends b) (Ends (suc b)) (planes_script book weights q depths stages b now) (planes_reading book options values depths weights q stages b)
+          writes_weaker (Ends b) (Ends (suc b)) (planes_script book weights q depths stages b now)
+          (planes_reading book options values depths weights q stages b)
           (λ w z. record { long = z.long; all = λ each. z.all (λ c lt. each c (omega (arith, lt))) }) (more five)
       by now size more (inr other) (inl five) = absurd (other five)
       by now size more (inr other) (inr zeros) =

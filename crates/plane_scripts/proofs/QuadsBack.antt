@@ -101,7 +101,8 @@ module _ (o : List ℕ) (chosen : AreChosen o) (t : Terms) (is_sound : is_book_s
     pub bits : (q : ℕ) → a ≤ q → q < c → e.bits q ≡ newly q
     pub signs : (q : ℕ) → a ≤ q → q < c → e.minus q ≡ (newly q && negative (get_or v q (pos 0)))
 
-  pub unread : (n m : ℕ) (families : ℕ → Bool) (dc : Bool) (before : List Entry) (s : State) → m ≤ 1 → Reads n m families dc before s → (q : ℕ) → 1 ≤ q → q < 64 →
+  pub unread : (n m : ℕ) (families : ℕ → Bool) (dc : Bool) (before : List Entry) (s : State) → m ≤ 1 → Reads n m families dc before s → (q : ℕ) → 1 ≤ q →
+      q < 64 →
       n ≤ q → (s.bits q ≡ false) × (s.minus q ≡ false)
   unread n m families dc before s few r q low high le =
       let f : nat_lt q n ≡ false = grind (arith, nat_tests) in
@@ -111,8 +112,10 @@ module _ (o : List ℕ) (chosen : AreChosen o) (t : Terms) (is_sound : is_book_s
   pub fresh_of : (n m : ℕ) (families : ℕ → Bool) (dc : Bool) (before : List Entry) (s e : State) (a c : ℕ) → m ≤ 1 → n ≤ a → 1 ≤ a → a + c ≤ 64 →
       Reads n m families dc before s → Agrees a (a + c) e → Fresh t.book o v W b (span a c) s e
   fresh_of n m families dc before s e a c few le low high r h = record {
-    no_bit = λ q inside. (let k = in_span a c q inside in (unread n m families dc before s few r q (omega (arith, low, k.0)) (omega (arith, high, k.1)) (omega (arith, le, k.0))).0);
-    no_sign = λ q inside. (let k = in_span a c q inside in (unread n m families dc before s few r q (omega (arith, low, k.0)) (omega (arith, high, k.1)) (omega (arith, le, k.0))).1);
+    no_bit = λ q inside. (let k = in_span a c q inside in (unread n m families dc before s few r q (omega (arith, low, k.0)) (omega (arith, high, k.1))
+        (omega (arith, le, k.0))).0);
+    no_sign = λ q inside. (let k = in_span a c q inside in (unread n m families dc before s few r q (omega (arith, low, k.0)) (omega (arith, high, k.1))
+        (omega (arith, le, k.0))).1);
     bits = λ q inside. (let k = in_span a c q inside in h.bits q k.0 k.1);
     signs = λ q inside. (let k = in_span a c q inside in h.signs q k.0 k.1);
   }
@@ -127,7 +130,8 @@ module _ (o : List ℕ) (chosen : AreChosen o) (t : Terms) (is_sound : is_book_s
       let w = some_place (significant v b) start count here in
       let q = start + w.0 in
       let above : significant v (b + 1) q ≡ false =
-      at_span (λ p. significant v (b + 1) p ≡ false) start count q (none_any (significant v (b + 1)) (span start count) none) (omega arith) (omega (arith, w.1)) in (
+      at_span (λ p. significant v (b + 1) p ≡ false) start count q (none_any (significant v (b + 1)) (span start count) none) (omega arith) (omega
+      (arith, w.1)) in (
         w.0,
         w.1,
         newly_significant-is v W b q ∙ ap (λ x. x && significant v b q) (type_due-is v W b q ∙ ap (λ x. not x && coded W b q) above ∙
@@ -155,7 +159,8 @@ module _ (o : List ℕ) (chosen : AreChosen o) (t : Terms) (is_sound : is_book_s
       (λ i inside. let w = here_due due n i inside in truth i w.0 w.1) in
       let flags_are : items ≡ read_after t.book o before (flags_step v W b also sets ∷ []) = read ∙
       ap (λ l. entry_reading t.book o before check (word l)) (words.flags_are o chosen t block v same whole S n known enclosing is) ∙
-      (λ i. entry_reading t.book o before (one i) (word (flags v W b (these i)))) ∙ sym (append-nil (entry_reading t.book o before also (word (flags v W b sets)))) in
+      (λ i. entry_reading t.book o before (one i) (word (flags v W b (these i)))) ∙ sym (append-nil (entry_reading t.book o before also (word
+      (flags v W b sets)))) in
       let w = words.flags_as o chosen t block v same whole S n few known enclosing is check also one sets these before s knows in (
         flags_are,
         subst (words.Flags o chosen t block v same whole S n s (before ++ entries_of (flags_step v W b also sets ∷ [])))
@@ -204,7 +209,8 @@ module _ (o : List ℕ) (chosen : AreChosen o) (t : Terms) (is_sound : is_book_s
         some = λ enclosing want is.
             let w = d.some (ap some_one_where want) (quads_due t is_sound block i enclosing is) in
             let here = here_due due 4 w.0 w.1 in
-            let z = m.some w.0 (omega arith) here.0 (or_second (above t block (Quad i w.0)) (r.1 w.0) w.2) w.2 (grandchildren_due t is_sound block i w.0 here.1) in
+            let z = m.some w.0 (omega arith) here.0 (or_second (above t block (Quad i w.0)) (r.1 w.0) w.2) w.2
+            (grandchildren_due t is_sound block i w.0 here.1) in
             (z.0, quad_inside i w.0 z.0 here.0 z.1, z.2);
       })
       (groups_may t.book (type_due block W b) (quad_of i 0) (λ j. above t block (Quad i j) || r.1 j) r.1 0 4 r.0))
@@ -217,7 +223,8 @@ module _ (o : List ℕ) (chosen : AreChosen o) (t : Terms) (is_sound : is_book_s
       filter_same (type_due block W b) (type_due v W b) (span a c)
       (all_zip {P = IsAc} (span a c) (places.type_is o chosen t block v same whole) (all_acs a c low high))
 
-  pub quads_back : (m : ℕ) → m ≤ 1 → (dc : Bool) (families : ℕ → Bool) (i : ℕ) → i < 3 → set_significant v b (Grandchildren i) ≡ true → (new : Bool) → new ≡ is_new v b (Grandchildren i) →
+  pub quads_back : (m : ℕ) → m ≤ 1 → (dc : Bool) (families : ℕ → Bool) (i : ℕ) → i < 3 → set_significant v b (Grandchildren i) ≡ true → (new : Bool) →
+      new ≡ is_new v b (Grandchildren i) →
       (before : List Entry) (s e : State) → Reads (16 + 16 * i) m families dc before s → (items : List Item) → ArePossible items →
       Follows (quads_script t block i new s) items e → Later o e.options → Agrees (16 + 16 * i) (16 + 16 * i + 16) e →
       items ≡ read_after t.book o before (quads_steps v W b i)
@@ -229,20 +236,29 @@ module _ (o : List ℕ) (chosen : AreChosen o) (t : Terms) (is_sound : is_book_s
       (due_may t.book due (some_one_where new) (span 0 4) s) w.first g p.0 w.follows in
       let z = may_end (GroupsMay (type_due block W b) (quad_of i 0) (sent g) g.1 0 (0 + 4) g.0) (next g)
       (groups_may t.book (type_due block W b) (quad_of i 0) (sent g) g.1 0 4 g.0) w.rest e p.1 w.then in
-      let fl = flags_back (λ j. Quad i j) 4 (omega arith) (λ j small. (lt, small)) (λ j. true) (λ j small. sym (enclosing-quad v b i j ∙ in_set)) (some_one_where new)
+      let fl = flags_back (λ j. Quad i j) 4 (omega arith) (λ j small. (lt, small)) (λ j. true) (λ j small. sym (enclosing-quad v b i j ∙
+      in_set)) (some_one_where new)
       (some_one_where (is_new v b (Grandchildren i))) (ap some_one_where is) (Quad i 0 ∷ Quad i 1 ∷ Quad i 2 ∷ Quad i 3 ∷ []) (stages.four_sets (λ j. Quad i j))
       before s r.knows w.first g p.0 w.follows (later_on o g.0 e z.grows later) (λ j small is_due_j. truth g d z j small is_due_j) in
       let now = before ++ entries_of (flags_step v W b (some_one_where (is_new v b (Grandchildren i))) (Quad i 0 ∷ Quad i 1 ∷ Quad i 2 ∷ Quad i 3 ∷ []) ∷ []) in
-      let rest = groups_back t.book o chosen v W b (type_due block W b) (quad_of i 0) (sent g) g.1 (λ j. set_significant v b (Quad i j)) (λ j. is_new v b (Quad i j)) (quad_of i)
+      let rest = groups_back t.book o chosen v W b (type_due block W b) (quad_of i 0) (sent g) g.1 (λ j. set_significant v b (Quad i j)) (λ j. is_new v b
+      (Quad i j)) (quad_of i)
       (λ j. (let e : quad_of i 0 + 4 * j ≡ quad_of i j = omega arith in e)) 0 4 (λ j small. fl.1.all j small) (λ j small. fl.1.new j small)
       (λ j small. types_same (quad_of i 0 + 4 * j) 4 (omega arith) (omega (arith, lt, small))) now g.0 e fl.1.knows w.rest p.1 w.then later
       (λ j low small. moved g d (quad_of i 0 + 4 * j)
       (fresh_of (16 + 16 * i) m families dc before s e (quad_of i 0 + 4 * j) 4 few (omega arith) (omega arith) (omega (arith, lt, small)) r
-      (record { bits = λ q a c. agrees.bits q (omega (arith, a)) (omega (arith, c, small)); signs = λ q a c. agrees.signs q (omega (arith, a)) (omega (arith, c, small)) }))) in
+      (record {
+        bits = λ q a c. agrees.bits q (omega (arith, a)) (omega (arith, c, small));
+        signs = λ q a c. agrees.signs q (omega (arith, a)) (omega
+            (arith, c, small));
+      }))) in
       w.both ∙ (λ k. fl.0 k ++ rest.0 k) ∙
-      ap (λ l. read_after t.book o before (flags_step v W b (some_one_where (is_new v b (Grandchildren i))) (Quad i 0 ∷ Quad i 1 ∷ Quad i 2 ∷ Quad i 3 ∷ []) ∷ []) ++ read_after t.book o now l)
-      (sym (flat_map_filter (λ j. typed_steps v W b (some_one_where (is_new v b (Quad i j))) (span (quad_of i j) 4)) (λ j. set_significant v b (Quad i j)) (span 0 4))) ∙
-      sym (read_append t.book o before (flags_step v W b (some_one_where (is_new v b (Grandchildren i))) (Quad i 0 ∷ Quad i 1 ∷ Quad i 2 ∷ Quad i 3 ∷ []) ∷ []) (quads_types_steps v W b i))
+      ap (λ l. read_after t.book o before (flags_step v W b (some_one_where (is_new v b (Grandchildren i)))
+      (Quad i 0 ∷ Quad i 1 ∷ Quad i 2 ∷ Quad i 3 ∷ []) ∷ []) ++ read_after t.book o now l)
+      (sym (flat_map_filter (λ j. typed_steps v W b (some_one_where (is_new v b (Quad i j))) (span (quad_of i j) 4)) (λ j. set_significant v b (Quad i j))
+      (span 0 4))) ∙
+      sym (read_append t.book o before (flags_step v W b (some_one_where (is_new v b (Grandchildren i)))
+      (Quad i 0 ∷ Quad i 1 ∷ Quad i 2 ∷ Quad i 3 ∷ []) ∷ []) (quads_types_steps v W b i))
     where
       due : ℕ → Bool
       due j = is_due t block (Quad i j) true
@@ -253,7 +269,8 @@ module _ (o : List ℕ) (chosen : AreChosen o) (t : Terms) (is_sound : is_book_s
       next : State × (ℕ → Bool) → Script State State
       next g = in_turn (group_script t.book (type_due block W b) (quad_of i 0) (sent g) g.1) 0 4 g.0
 
-      moved : (g : State × (ℕ → Bool)) → DueMay due (some_one_where new) (span 0 4) s g → (a : ℕ) → Fresh t.book o v W b (span a 4) s e → Fresh t.book o v W b (span a 4) g.0 e
+      moved : (g : State × (ℕ → Bool)) → DueMay due (some_one_where new) (span 0 4) s g → (a : ℕ) → Fresh t.book o v W b (span a 4) s e →
+          Fresh t.book o v W b (span a 4) g.0 e
       moved g d a h = record {
         no_bit = λ q inside. (λ k. (d.rest k).bits q) ∙ h.no_bit q inside;
         no_sign = λ q inside. (λ k. (d.rest k).minus q) ∙ h.no_sign q inside;
@@ -268,7 +285,8 @@ module _ (o : List ℕ) (chosen : AreChosen o) (t : Terms) (is_sound : is_book_s
         where
           there : g.1 j ≡ true → set_significant v b (Quad i j) ≡ true
           there e1 =
-              let x = z.some j (omega arith) (omega (arith, small)) (or_second (above t block (Quad i j)) (g.1 j) e1) e1 (grandchildren_due t is_sound block i j is_due_j) in
+              let x = z.some j (omega arith) (omega (arith, small)) (or_second (above t block (Quad i j)) (g.1 j) e1) e1
+              (grandchildren_due t is_sound block i j is_due_j) in
               let k = in_span (quad_of i 0 + 4 * j) 4 x.0 x.1 in
               let q : quad_of i j + (x.0 - quad_of i j) ≡ x.0 = omega (arith, k.0) in
               let sig : significant v b (quad_of i j + (x.0 - quad_of i j)) ≡ true = ap (significant v b) q ∙
@@ -281,14 +299,17 @@ module _ (o : List ℕ) (chosen : AreChosen o) (t : Terms) (is_sound : is_book_s
               let none : set_significant v (b + 1) (Quad i j) ≡ false = sym (places.above_is o chosen t block v same whole (Quad i j) (lt, small)) ∙
               set_significant-is block (b + 1) (Quad i j) ∙ parts.1 in
               let x = new_member (quad_of i j) 4 (sym (set_significant-is v b (Quad i j)) ∙ e1) (sym (set_significant-is v (b + 1) (Quad i j)) ∙ none) in
-              by (g.1 j) refl (quad_of i j + x.0) (omega arith) (omega (arith, x.1, small)) (omega (arith, x.1)) x.2 (places.above_is o chosen t block v same whole (Quad i j) (lt, small) ∙ none)
+              by (g.1 j) refl (quad_of i j + x.0) (omega arith) (omega (arith, x.1, small)) (omega (arith, x.1)) x.2
+              (places.above_is o chosen t block v same whole (Quad i j) (lt, small) ∙ none)
             where
-              by : (y : Bool) → g.1 j ≡ y → (q : ℕ) → quad_of i j ≤ q → q < 16 + 16 * i + 16 → q < quad_of i j + 4 → newly q ≡ true → above t block (Quad i j) ≡ false → y ≡ true
+              by : (y : Bool) → g.1 j ≡ y → (q : ℕ) → quad_of i j ≤ q → q < 16 + 16 * i + 16 → q < quad_of i j + 4 → newly q ≡ true →
+                  above t block (Quad i j) ≡ false → y ≡ true
               by true e2 q low high end new_q old = refl
               by false e2 q low high end new_q old =
                   let inside : has (group (quad_of i 0) j) q ≡ true = has_span (quad_of i 0 + 4 * j) 4 q ∙ tests (omega (arith, low)) (omega (arith, end)) in
                   let kept : e.bits q ≡ g.0.bits q = z.bits q (λ k from to is_sent there. other k q inside there is_sent (ap (λ x. x || g.1 j) old ∙ e2)) in
-                  let empty : s.bits q ≡ false = (unread (16 + 16 * i) m families dc before s few r q (omega (arith, low)) (omega (arith, high, lt)) (omega (arith, low))).0 in
+                  let empty : s.bits q ≡ false = (unread (16 + 16 * i) m families dc before s few r q (omega (arith, low)) (omega (arith, high, lt))
+                  (omega (arith, low))).0 in
                   absurd (clash (newly q) new_q (sym (agrees.bits q (omega (arith, low)) high) ∙ kept ∙ (λ k. (d.rest k).bits q) ∙ empty))
                 where
                   tests : quad_of i 0 + 4 * j ≤ q → q < quad_of i 0 + 4 * j + 4 → (nat_le (quad_of i 0 + 4 * j) q && nat_lt q (quad_of i 0 + 4 * j + 4)) ≡ true
@@ -299,4 +320,5 @@ module _ (o : List ℕ) (chosen : AreChosen o) (t : Terms) (is_sound : is_book_s
                     where
                       by_place : (x : Bool) → (k == j) ≡ x → ⊥
                       by_place true f = let one : k ≡ j = grind (arith, nat_tests) in clash (sent g j) (ap (sent g) (sym one) ∙ is_sent) not_sent
-                      by_place false f = let ne : j ≡ k → ⊥ = grind (arith, nat_tests) in clash (has (group (quad_of i 0) k) q) there (apart (quad_of i 0) j k q ne inside)
+                      by_place false f = let ne : j ≡ k → ⊥ = grind (arith, nat_tests) in clash (has (group (quad_of i 0) k) q) there (apart
+                          (quad_of i 0) j k q ne inside)

@@ -105,7 +105,8 @@ module _ (o : List ℕ) (chosen : AreChosen o) (t : Terms) (is_sound : is_book_s
             (quads_script t block i (new i) u) (λ z w. record {
               grows = λ k x h. w.grows k x (p.grows k x h);
               bits = λ q none. w.bits q (not_true (has (sixteen i) q) (none i low (omega arith) e)) ∙ p.bits q (λ j from to. none j from (omega (arith, to)));
-              minus = λ q none. w.minus q (not_true (has (sixteen i) q) (none i low (omega arith) e)) ∙ p.minus q (λ j from to. none j from (omega (arith, to)));
+              minus = λ q none. w.minus q (not_true (has (sixteen i) q) (none i low (omega arith) e)) ∙
+                  p.minus q (λ j from to. none j from (omega (arith, to)));
               quiet = λ q none. w.quiet q none ∙ p.quiet q none;
               more = λ q h. w.more q (p.more q h);
               families = λ k. w.families k ∙ p.families k;
@@ -134,7 +135,8 @@ module _ (o : List ℕ) (chosen : AreChosen o) (t : Terms) (is_sound : is_book_s
     sends i = if set_significant v b (Grandchildren i) then quads_steps v W b i else []
 
     sixteens_back : (m : ℕ) → m ≤ 1 → (dc : Bool) → ((i : ℕ) → i < 3 → sent i ≡ set_significant v b (Grandchildren i)) →
-        ((i : ℕ) → i < 3 → new i ≡ is_new v b (Grandchildren i)) → (i n : ℕ) → i + n ≡ 3 → (before : List Entry) (s e : State) → Reads (16 + 16 * i) m sets dc before s →
+        ((i : ℕ) → i < 3 → new i ≡ is_new v b (Grandchildren i)) → (i n : ℕ) → i + n ≡ 3 → (before : List Entry) (s e : State) →
+        Reads (16 + 16 * i) m sets dc before s →
         (items : List Item) → ArePossible items → Follows (in_turn item i n s) items e → Later o e.options → Agrees (16 + 16 * i) 64 e →
         items ≡ read_after t.book o before (flat_map sends (span i n))
     sixteens_back m few dc all is i zero size before s e r items are f later agrees =
@@ -162,7 +164,8 @@ module _ (o : List ℕ) (chosen : AreChosen o) (t : Terms) (is_sound : is_book_s
         alone : (q : ℕ) → 16 + 16 * i ≤ q → q < 16 + 16 * i + 16 → (j : ℕ) → suc i ≤ j → has (sixteen j) q ≡ true → ⊥
         alone q low high j from there = let z = in_span (16 + 16 * j) 16 q there in let a = z.0 in absurd (omega (arith, high, from, a))
 
-        one : sent i ≡ set_significant v b (Grandchildren i) → i < 3 → (u : State) (l : List Item) → ArePossible l → Follows (item i s) l u → Later o u.options →
+        one : sent i ≡ set_significant v b (Grandchildren i) → i < 3 → (u : State) (l : List Item) → ArePossible l → Follows (item i s) l u →
+            Later o u.options →
             Agrees (16 + 16 * i) (16 + 16 * i + 16) u → (x : Bool) → set_significant v b (Grandchildren i) ≡ x → l ≡ read_after t.book o before (sends i)
         one here lt u l are f later h true g =
             subst (λ (x : Bool). l ≡ read_after t.book o before (if x then quads_steps v W b i else [])) (sym g)
@@ -174,19 +177,22 @@ module _ (o : List ℕ) (chosen : AreChosen o) (t : Terms) (is_sound : is_book_s
 
   -- ---- stage 3
 
-  pub grandchildren_back : (m : ℕ) → m ≤ 1 → (dc : Bool) (before : List Entry) (s e : State) → Reads 16 m sets dc before s → (items : List Item) → ArePossible items →
+  pub grandchildren_back : (m : ℕ) → m ≤ 1 → (dc : Bool) (before : List Entry) (s e : State) → Reads 16 m sets dc before s → (items : List Item) →
+      ArePossible items →
       Follows (grandchildren_script t block s) items e → Later o e.options → Agrees 16 64 e → items ≡ read_after t.book o before (grandchildren_steps v W b)
   grandchildren_back m few dc before s e r items are f later agrees =
       let w = follows_split next (due_script t.book due check (span 0 3) s) items e f in
       let p = possible_parts w.first w.rest (subst ArePossible w.both are) in
       let g = w.value in
-      let d = may_end (DueMay due check (span 0 3) s) (due_script t.book due check (span 0 3) s) (due_may t.book due check (span 0 3) s) w.first g p.0 w.follows in
+      let d = may_end (DueMay due check (span 0 3) s) (due_script t.book due check (span 0 3) s) (due_may t.book due check
+      (span 0 3) s) w.first g p.0 w.follows in
       let z = may_end (SixteensMay (sent g) g.1 0 (0 + 3) g.0) (next g) (sixteens_may (sent g) g.1 0 3 g.0) w.rest e p.1 w.then in
       let step_of = flags_step v W b (grandchildren_check v W b three_grandchildren) three_grandchildren in
       let now = before ++ entries_of (step_of ∷ []) in
       let fl = quads.flags_back o chosen t is_sound block v same whole Grandchildren 3 (omega arith) (λ i lt. lt) s.families
       (λ i lt. r.enclosing i lt ∙ sym (enclosing-grandchildren v b i)) check (grandchildren_check v W b three_grandchildren)
-      (stages.forced_same o chosen t block v same whole m few dc before s r) three_grandchildren (stages.three_sets Grandchildren) before s r.knows w.first g p.0 w.follows
+      (stages.forced_same o chosen t block v same whole m few dc before s r) three_grandchildren
+      (stages.three_sets Grandchildren) before s r.knows w.first g p.0 w.follows
       (later_on o g.0 e z.grows later) (λ i lt is_due_i. truth g d z i lt is_due_i) in
       let rest = sixteens_back (sent g) g.1 m few dc (λ i lt. fl.1.all i lt) (λ i lt. fl.1.new i lt) 0 3 refl now g.0 e
       (stages.reads_on o chosen t block v same whole 16 m sets dc before now s g.0 r fl.1.knows fl.1.rest) w.rest p.1 w.then later agrees in
@@ -218,7 +224,8 @@ module _ (o : List ℕ) (chosen : AreChosen o) (t : Terms) (is_sound : is_book_s
               let q : 16 + 16 * i + (x.0 - (16 + 16 * i)) ≡ x.0 = omega (arith, k.0) in
               let sig : significant v b (16 + 16 * i + (x.0 - (16 + 16 * i))) ≡ true = ap (significant v b) q ∙
               quads.sig_of_new o chosen t is_sound block v same whole x.0 (sym (agrees.bits x.0 (omega (arith, k.0)) (omega (arith, k.1, lt))) ∙ x.2) in
-              set_significant-is v b (Grandchildren i) ∙ list_any-span-here (significant v b) (16 + 16 * i) 16 (x.0 - (16 + 16 * i)) (omega (arith, k.0, k.1)) sig
+              set_significant-is v b (Grandchildren i) ∙ list_any-span-here (significant v b) (16 + 16 * i) 16 (x.0 - (16 + 16 * i)) (omega
+              (arith, k.0, k.1)) sig
 
           back : set_significant v b (Grandchildren i) ≡ true → g.1 i ≡ true
           back e1 =
@@ -229,13 +236,15 @@ module _ (o : List ℕ) (chosen : AreChosen o) (t : Terms) (is_sound : is_book_s
               (sym (set_significant-is v (b + 1) (Grandchildren i)) ∙ none) in
               by (g.1 i) refl (16 + 16 * i + x.0) (omega arith) (omega (arith, x.1)) x.2 old
             where
-              by : (y : Bool) → g.1 i ≡ y → (q : ℕ) → 16 + 16 * i ≤ q → q < 16 + 16 * i + 16 → newly q ≡ true → above t block (Grandchildren i) ≡ false → y ≡ true
+              by : (y : Bool) → g.1 i ≡ y → (q : ℕ) → 16 + 16 * i ≤ q → q < 16 + 16 * i + 16 → newly q ≡ true → above t block (Grandchildren i) ≡ false →
+                  y ≡ true
               by true e2 q low high new_q old = refl
               by false e2 q low high new_q old =
                   let inside : has (sixteen i) q ≡ true = has_span (16 + 16 * i) 16 q ∙ tests low high in
                   let kept : e.bits q ≡ g.0.bits q = z.bits q (λ k from to is_sent there. other k inside there is_sent (ap (λ x. x || g.1 i) old ∙ e2)) in
                   let empty : s.bits q ≡ false =
-                  (quads.unread o chosen t is_sound block v same whole 16 m sets dc before s few r q (omega (arith, low)) (omega (arith, high, lt)) (omega (arith, low))).0 in
+                  (quads.unread o chosen t is_sound block v same whole 16 m sets dc before s few r q (omega (arith, low)) (omega (arith, high, lt)) (omega
+                  (arith, low))).0 in
                   absurd (clash (newly q) new_q (sym (agrees.bits q (omega (arith, low)) (omega (arith, high, lt))) ∙ kept ∙ (λ k. (d.rest k).bits q) ∙ empty))
                 where
                   tests : 16 + 16 * i ≤ q → q < 16 + 16 * i + 16 → (nat_le (16 + 16 * i) q && nat_lt q (16 + 16 * i + 16)) ≡ true

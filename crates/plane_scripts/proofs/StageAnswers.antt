@@ -113,7 +113,8 @@ module _ (o : List ℕ) (chosen : AreChosen o) (t : Terms) (is_sound : is_book_s
 
   refine_may : (s : State) → May (refinement_script t block s) (StageMay 4 s)
   refine_may s =
-      may_in_turn (λ i. StageMay 4 s) (λ p u. if refined block W b p then bit_script p u else done u) 1 63 (λ p u low high k. one p u low k (refined block W b p) refl) s
+      may_in_turn (λ i. StageMay 4 s) (λ p u. if refined block W b p then bit_script p u else done u) 1 63 (λ p u low high k. one p u low k
+      (refined block W b p) refl) s
       (nothing_changes 4 s)
     where
       one : (p : ℕ) (u : State) → 1 ≤ p → StageMay 4 s u → (x : Bool) → refined block W b p ≡ x →
@@ -122,7 +123,8 @@ module _ (o : List ℕ) (chosen : AreChosen o) (t : Terms) (is_sound : is_book_s
         grows = k.grows;
         bits = λ q ac out old. kept q (n == 1) (old refl) (q == p) refl ∙ k.bits q ac out old;
         minus = k.minus;
-        low = λ ne. (let z : (0 == p) ≡ false = grind (arith, nat_tests) in ap (λ y. u.bits 0 || (false || (y && (n == 1)))) z ∙ or-false (u.bits 0)) ∙ k.low ne;
+        low = λ ne. (let z : (0 == p) ≡ false = grind (arith, nat_tests) in ap (λ y. u.bits 0 || (false || (y && (n == 1)))) z ∙ or-false (u.bits 0)) ∙
+            k.low ne;
         more = λ q h. ap (λ y. y || (false || ((q == p) && (n == 1)))) (k.more q h);
         families = k.families;
       }
@@ -142,19 +144,22 @@ module _ (o : List ℕ) (chosen : AreChosen o) (t : Terms) (is_sound : is_book_s
 
   pub children_may : (s : State) → May (children_script t block s) (λ e. StageMay 2 s e × ChildrenMay s e)
   children_may s =
-      may_then (FlagMay (live W b Descendants) (above t block Descendants)) End (descendants_script t block s) _ (flag_may (live W b Descendants) (above t block Descendants) s)
+      may_then (FlagMay (live W b Descendants) (above t block Descendants)) End (descendants_script t block s) _ (flag_may (live W b Descendants)
+      (above t block Descendants) s)
       (λ all flag.
       may_then (DueMay (fam all) (some_one_where (all && not (above t block Descendants))) (span 0 3) s) End
       (due_script t.book (fam all) (some_one_where (all && not (above t block Descendants))) (span 0 3) s) _
       (due_may t.book (fam all) (some_one_where (all && not (above t block Descendants))) (span 0 3) s)
       (λ g d.
-      may_then (GroupsMay due 4 (sent g) (wanted g) 0 (0 + 3) g.0) End (in_turn (group_script t.book due 4 (sent g) (wanted g)) 0 3 g.0) (λ u. done (with_families u (sent g)))
+      may_then (GroupsMay due 4 (sent g) (wanted g) 0 (0 + 3) g.0) End (in_turn (group_script t.book due 4 (sent g) (wanted g)) 0 3 g.0) (λ u. done
+      (with_families u (sent g)))
       (groups_may t.book due 4 (sent g) (wanted g) 0 3 g.0)
       (λ u z. (
         record {
           grows = λ n x h. z.grows n x (d.grows n x h);
           bits = λ q ac out old. by q g out u z (due q) refl ∙ (λ k. (d.rest k).bits q);
-          minus = λ q ac out. z.minus q (λ j low lt is inside. (let k = in_span (4 + 4 * j) 4 q inside in out (omega (arith, k.0)) (omega (arith, k.1, lt)))) ∙ (λ k. (d.rest k).minus q);
+          minus = λ q ac out. z.minus q (λ j low lt is inside. (let k = in_span (4 + 4 * j) 4 q inside in out (omega (arith, k.0)) (omega
+              (arith, k.1, lt)))) ∙ (λ k. (d.rest k).minus q);
           low = λ ne. z.bits 0 (λ j low lt is inside. (let k = (in_span (4 + 4 * j) 4 0 inside).0 in absurd (omega (arith, k)))) ∙ (λ k. (d.rest k).bits 0);
           more = λ q h. z.more q ((λ k. (d.rest k).bits q) ∙ h);
           families = λ ne i. absurd (ne refl);
@@ -181,17 +186,21 @@ module _ (o : List ℕ) (chosen : AreChosen o) (t : Terms) (is_sound : is_book_s
       wanted : State × (ℕ → Bool) → ℕ → Bool
       wanted g i = g.1 i && not (live W b (Grandchildren i))
 
-      by : (q : ℕ) (g : State × (ℕ → Bool)) → (4 ≤ q → q < 16 → due q ≡ true → ⊥) → (u : State) → GroupsMay due 4 (sent g) (wanted g) 0 (0 + 3) g.0 u → (x : Bool) → due q ≡ x →
+      by : (q : ℕ) (g : State × (ℕ → Bool)) → (4 ≤ q → q < 16 → due q ≡ true → ⊥) → (u : State) → GroupsMay due 4 (sent g) (wanted g) 0 (0 + 3) g.0 u →
+          (x : Bool) → due q ≡ x →
           u.bits q ≡ g.0.bits q
       by q g out u z true e = z.bits q (λ j low lt is inside. (let k = in_span (4 + 4 * j) 4 q inside in out (omega (arith, k.0)) (omega (arith, k.1, lt)) e))
       by q g out u z false e = z.quiet q e
 
-      alone : (g : State × (ℕ → Bool)) (i j q : ℕ) → has (group 4 i) q ≡ true → has (group 4 j) q ≡ true → sent g j ≡ true → sent g i ≡ false → (x : Bool) → (j == i) ≡ x → ⊥
+      alone : (g : State × (ℕ → Bool)) (i j q : ℕ) → has (group 4 i) q ≡ true → has (group 4 j) q ≡ true → sent g j ≡ true → sent g i ≡ false →
+          (x : Bool) → (j == i) ≡ x → ⊥
       alone g i j q inside there is not_sent true e = let one : j ≡ i = grind (arith, nat_tests) in clash (sent g i) (ap (sent g) (sym one) ∙ is) not_sent
-      alone g i j q inside there is not_sent false e = let ne : i ≡ j → ⊥ = grind (arith, nat_tests) in clash (has (group 4 j) q) there (apart 4 i j q ne inside)
+      alone g i j q inside there is not_sent false e = let ne : i ≡ j → ⊥ = grind (arith, nat_tests) in clash (has (group 4 j) q) there
+          (apart 4 i j q ne inside)
 
       parts : (all : Bool) (g : State × (ℕ → Bool)) (u : State) → GroupsMay due 4 (sent g) (wanted g) 0 (0 + 3) g.0 u →
-          DueMay (fam all) (some_one_where (all && not (above t block Descendants))) (span 0 3) s g → (i : ℕ) → i < 3 → sent g i ≡ true → g.1 i ≡ true → (x : Bool) →
+          DueMay (fam all) (some_one_where (all && not (above t block Descendants))) (span 0 3) s g → (i : ℕ) → i < 3 → sent g i ≡ true → g.1 i ≡ true →
+          (x : Bool) →
           live W b (Grandchildren i) ≡ x → ((q : ℕ) × (has (group 4 i) q ≡ true) × (u.bits q ≡ true)) ⊎ (live W b (Grandchildren i) ≡ true)
       parts all g u z d i lt is new true e = inr e
       parts all g u z d i lt is new false e =
@@ -207,14 +216,16 @@ module _ (o : List ℕ) (chosen : AreChosen o) (t : Terms) (is_sound : is_book_s
 
   pub grandchildren_may : (s : State) → May (grandchildren_script t block s) (λ e. StageMay 3 s e × GrandMay s e)
   grandchildren_may s =
-      may_then (DueMay set check (span 0 3) s) (λ e. StageMay 3 s e × GrandMay s e) (due_script t.book set check (span 0 3) s) _ (due_may t.book set check (span 0 3) s)
+      may_then (DueMay set check (span 0 3) s) (λ e. StageMay 3 s e × GrandMay s e) (due_script t.book set check (span 0 3) s) _ (due_may t.book set check
+      (span 0 3) s)
       (λ g d.
       may_weaker (sets.SixteensMay o chosen t is_sound block v same whole (sent g) g.1 0 (0 + 3) g.0) (λ e. StageMay 3 s e × GrandMay s e) (next g)
       (λ e z. (
         record {
           grows = λ n x h. z.grows n x (d.grows n x h);
           bits = λ q ac out old. by q g out e z (due q) refl ∙ (λ k. (d.rest k).bits q);
-          minus = λ q ac out. z.minus q (λ j low lt is inside. (let k = in_span (16 + 16 * j) 16 q inside in out (omega (arith, k.0)) (omega (arith, k.1, lt)))) ∙ (λ k. (d.rest k).minus q);
+          minus = λ q ac out. z.minus q (λ j low lt is inside. (let k = in_span (16 + 16 * j) 16 q inside in out (omega (arith, k.0)) (omega
+              (arith, k.1, lt)))) ∙ (λ k. (d.rest k).minus q);
           low = λ ne. z.bits 0 (λ j low lt is inside. (let k = (in_span (16 + 16 * j) 16 0 inside).0 in absurd (omega (arith, k)))) ∙ (λ k. (d.rest k).bits 0);
           more = λ q h. z.more q ((λ k. (d.rest k).bits q) ∙ h);
           families = λ ne i. z.families i ∙ (λ k. (d.rest k).families i);
@@ -246,10 +257,12 @@ module _ (o : List ℕ) (chosen : AreChosen o) (t : Terms) (is_sound : is_book_s
 
       by : (q : ℕ) (g : State × (ℕ → Bool)) → (16 ≤ q → q < 64 → due q ≡ true → ⊥) → (e : State) →
           sets.SixteensMay o chosen t is_sound block v same whole (sent g) g.1 0 (0 + 3) g.0 e → (x : Bool) → due q ≡ x → e.bits q ≡ g.0.bits q
-      by q g out e z true h = z.bits q (λ j low lt is inside. (let k = in_span (16 + 16 * j) 16 q inside in out (omega (arith, k.0)) (omega (arith, k.1, lt)) h))
+      by q g out e z true h = z.bits q (λ j low lt is inside. (let k = in_span (16 + 16 * j) 16 q inside in out (omega (arith, k.0)) (omega
+          (arith, k.1, lt)) h))
       by q g out e z false h = z.quiet q h
 
-      alone : (g : State × (ℕ → Bool)) → DueMay set check (span 0 3) s g → (i j q : ℕ) → i < 3 → has (sixteen i) q ≡ true → has (sixteen j) q ≡ true → sent g j ≡ true →
+      alone : (g : State × (ℕ → Bool)) → DueMay set check (span 0 3) s g → (i j q : ℕ) → i < 3 → has (sixteen i) q ≡ true → has (sixteen j) q ≡ true →
+          sent g j ≡ true →
           s.families i ≡ false → above t block (Grandchildren i) ≡ false → (x : Bool) → (j == i) ≡ x → ⊥
       alone g d i j q lt inside there is f old true e =
           let one : j ≡ i = grind (arith, nat_tests) in

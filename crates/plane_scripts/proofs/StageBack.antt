@@ -91,7 +91,8 @@ module _ (o : List ℕ) (chosen : AreChosen o) (t : Terms) (is_sound : is_book_s
 
   -- positions before these stay
   pub refinement_may : (p n : ℕ) (s : State) → May (in_turn item p n s) (λ e. (q : ℕ) → q < p → e.bits q ≡ s.bits q)
-  refinement_may p n s = may_in_turn (λ i e. (q : ℕ) → q < p → e.bits q ≡ s.bits q) item p n (λ i u low high k. one i u low k (refined block W b i)) s (λ q lt. refl)
+  refinement_may p n s = may_in_turn (λ i e. (q : ℕ) → q < p → e.bits q ≡ s.bits q) item p n (λ i u low high k. one i u low k (refined block W b i)) s
+      (λ q lt. refl)
     where
       one : (i : ℕ) (u : State) → p ≤ i → ((q : ℕ) → q < p → u.bits q ≡ s.bits q) → (x : Bool) →
           May {G = State} (if x then bit_script i u else done u) (λ e. (q : ℕ) → q < p → e.bits q ≡ s.bits q)
@@ -103,7 +104,8 @@ module _ (o : List ℕ) (chosen : AreChosen o) (t : Terms) (is_sound : is_book_s
   abbrev sends : ℕ → List Step
   sends p = if refined v W b p then step free (bit_at p) (Bit (bit (magnitude v p) b)) ∷ [] else []
 
-  refined_back : (p n : ℕ) → 1 ≤ p → p + n ≤ 64 → (before : List Entry) (s e : State) → ((q : ℕ) → p ≤ q → q < p + n → refined v W b q ≡ true → s.bits q ≡ false) →
+  refined_back : (p n : ℕ) → 1 ≤ p → p + n ≤ 64 → (before : List Entry) (s e : State) → ((q : ℕ) → p ≤ q → q < p + n → refined v W b q ≡ true →
+      s.bits q ≡ false) →
       ((q : ℕ) → p ≤ q → q < p + n → refined v W b q ≡ true → e.bits q ≡ bit (magnitude v q) b) → (items : List Item) → ArePossible items →
       Follows (in_turn item p n s) items e → items ≡ read_after t.book o before (flat_map sends (span p n))
   refined_back p zero low high before s e empty is items are f =
@@ -112,15 +114,18 @@ module _ (o : List ℕ) (chosen : AreChosen o) (t : Terms) (is_sound : is_book_s
       let w = follows_split (in_turn item (suc p) n) (item p s) items e f in
       let k = possible_parts w.first w.rest (subst ArePossible w.both are) in
       let u = w.value in
-      let kept : e.bits p ≡ u.bits p = may_end (λ e. (q : ℕ) → q < suc p → e.bits q ≡ u.bits q) (in_turn item (suc p) n u) (refinement_may (suc p) n u) w.rest e k.1 w.then p (omega arith) in
+      let kept : e.bits p ≡ u.bits p = may_end (λ e. (q : ℕ) → q < suc p → e.bits q ≡ u.bits q) (in_turn item (suc p) n u) (refinement_may
+      (suc p) n u) w.rest e k.1 w.then p (omega arith) in
       let head = one (refined v W b p) refl u w.first k.0 (subst (λ (x : Bool). Follows {G = State} (if x then bit_script p s else done s) w.first u)
       (places.refined_is o chosen t block v same whole p (low, omega (arith, high))) w.follows) (λ g. sym kept ∙ is p (omega arith) (omega arith) g) in
       let rest = refined_back (suc p) n (omega arith) (omega (arith, high)) (before ++ entries_of (sends p)) u e
-      (λ q from to g. head.1 q from ∙ empty q (omega (arith, from)) (omega (arith, to)) g) (λ q from to g. is q (omega (arith, from)) (omega (arith, to)) g) w.rest k.1 w.then in
+      (λ q from to g. head.1 q from ∙ empty q (omega (arith, from)) (omega (arith, to)) g) (λ q from to g. is q (omega (arith, from)) (omega
+      (arith, to)) g) w.rest k.1 w.then in
       w.both ∙ (λ i. head.0 i ++ rest i) ∙ sym (read_append t.book o before (sends p) (flat_map sends (span (suc p) n))) ∙
       ap (λ l. read_after t.book o before (flat_map sends l)) (span-first p n)
     where
-      one : (x : Bool) → refined v W b p ≡ x → (u : State) (l : List Item) → ArePossible l → Follows {G = State} (if refined v W b p then bit_script p s else done s) l u →
+      one : (x : Bool) → refined v W b p ≡ x → (u : State) (l : List Item) → ArePossible l → Follows {G = State}
+          (if refined v W b p then bit_script p s else done s) l u →
           (refined v W b p ≡ true → u.bits p ≡ bit (magnitude v p) b) → (l ≡ read_after t.book o before (sends p)) × ((q : ℕ) → suc p ≤ q → u.bits q ≡ s.bits q)
       one true g u l are f is =
           let h = subst (λ (x : Bool). Follows {G = State} (if x then bit_script p s else done s) l u) g f in
@@ -137,11 +142,13 @@ module _ (o : List ℕ) (chosen : AreChosen o) (t : Terms) (is_sound : is_book_s
             λ q from. (λ i. (sym d.1 i).bits q),
           )
 
-  refinement_back : (families : ℕ → Bool) (dc : Bool) (before : List Entry) (s e : State) → Reads 64 1 families dc before s → (items : List Item) → ArePossible items →
+  refinement_back : (families : ℕ → Bool) (dc : Bool) (before : List Entry) (s e : State) → Reads 64 1 families dc before s → (items : List Item) →
+      ArePossible items →
       Follows (refinement_script t block s) items e → ((q : ℕ) → IsAc q → refined v W b q ≡ true → e.bits q ≡ bit (magnitude v q) b) →
       items ≡ read_after t.book o before (refinement_steps v W b)
   refinement_back families dc before s e r items are f is =
-      refined_back 1 63 (omega arith) (omega arith) before s e (λ q low high g. r.bits q (low, high) ∙ not_new q low g) (λ q low high g. is q (low, high) g) items are f ∙
+      refined_back 1 63 (omega arith) (omega arith) before s e (λ q low high g. r.bits q (low, high) ∙
+      not_new q low g) (λ q low high g. is q (low, high) g) items are f ∙
       ap (read_after t.book o before) (sym (flat_map_filter (λ p. step free (bit_at p) (Bit (bit (magnitude v p) b)) ∷ []) (refined v W b) (span 1 63)) ∙
       flat_map_single (λ p. step free (bit_at p) (Bit (bit (magnitude v p) b))) (filter (refined v W b) (span 1 63)))
     where
@@ -172,12 +179,14 @@ module _ (o : List ℕ) (chosen : AreChosen o) (t : Terms) (is_sound : is_book_s
 
   module _ (depth : ℕ) where
     if_sent : (script : Script State State) (steps : List Step) (before : List Entry) (s e : State) (items : List Item) →
-        Follows (if not (nat_lt b depth) then done s else script) items e → (nat_lt b depth ≡ true → Follows script items e → items ≡ read_after t.book o before steps) →
+        Follows (if not (nat_lt b depth) then done s else script) items e → (nat_lt b depth ≡ true → Follows script items e →
+        items ≡ read_after t.book o before steps) →
         items ≡ read_after t.book o before (cond (nat_lt b depth) steps [])
     if_sent script steps before s e items f back = by (nat_lt b depth) refl
       where
         by : (x : Bool) → nat_lt b depth ≡ x → items ≡ read_after t.book o before (cond (nat_lt b depth) steps [])
-        by true g = back g (subst (λ (x : Bool). Follows (if not x then done s else script) items e) g f) ∙ ap (λ x. read_after t.book o before (cond x steps [])) (sym g)
+        by true g = back g (subst (λ (x : Bool). Follows (if not x then done s else script) items e) g f) ∙
+            ap (λ x. read_after t.book o before (cond x steps [])) (sym g)
         by false g = (done_none State s e items (subst (λ (x : Bool). Follows (if not x then done s else script) items e) g f)).0 ∙
             ap (λ x. read_after t.book o before (cond x steps [])) (sym g)
 
@@ -197,7 +206,8 @@ module _ (o : List ℕ) (chosen : AreChosen o) (t : Terms) (is_sound : is_book_s
         children_back o chosen t is_sound block v same whole 1 (omega arith) dc_bit (λ i. false) before s e r items are h later m.0 m.1))
     stage_back (suc (suc (suc zero))) lt before s e r items are f later is first = rw (grandchildren_stage v depth W b t.q)
         (if_sent (grandchildren_script t block s) (grandchildren_steps v W b) before s e items f (λ g h.
-        grandchildren_back o chosen t is_sound block v same whole 1 (omega arith) dc_bit before s e r items are h later (is (λ z. absurd (omega (arith, z))) g)))
+        grandchildren_back o chosen t is_sound block v same whole 1 (omega arith) dc_bit before s e r items are h later (is (λ z. absurd (omega
+        (arith, z))) g)))
     stage_back (suc (suc (suc (suc zero)))) lt before s e r items are f later is first = rw (refinement_stage v depth W b t.q)
         (if_sent (refinement_script t block s) (refinement_steps v W b) before s e items f (λ g h.
         refinement_back (λ i. set_significant v b (Family i)) dc_bit before s e r items are h (is (λ z. absurd (omega (arith, z))) g)))

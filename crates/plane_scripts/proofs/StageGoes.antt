@@ -152,7 +152,8 @@ module _ (t : Terms) (is_sound : is_book_sound t.book ≡ true) (block : List �
       ]
 
   -- if G_i is due, some H_ij is
-  pub quads_due : (i : ℕ) (enclosing : Bool) → is_due t block (Grandchildren i) enclosing ≡ true → list_any (λ j. is_due t block (Quad i j) true) (span 0 4) ≡ true
+  pub quads_due : (i : ℕ) (enclosing : Bool) → is_due t block (Grandchildren i) enclosing ≡ true → list_any (λ j. is_due t block (Quad i j) true)
+      (span 0 4) ≡ true
   quads_due i enclosing d =
       let p = due_parts (Grandchildren i) enclosing d in
       let f = quad_at c i (some_place c (16 + 16 * i) 16 p.2) in

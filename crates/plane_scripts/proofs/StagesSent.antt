@@ -146,7 +146,8 @@ module _ (o : List ℕ) (chosen : AreChosen o) (t : Terms) (block v : List ℤ) 
       ones_at (map (is_childless t block s) (filter (λ i. is_due t block (Grandchildren i) (s.families i)) (span 0 3))) ≡
       grandchildren_check v W b three_grandchildren
   forced_same m le dc before s r =
-      ap ones_at (ap (map (is_childless t block s)) (filter_same (λ i. is_due t block (Grandchildren i) (s.families i)) (λ i. flag_due v W b (Grandchildren i)) (span 0 3)
+      ap ones_at (ap (map (is_childless t block s)) (filter_same (λ i. is_due t block (Grandchildren i) (s.families i)) (λ i. flag_due v W b
+      (Grandchildren i)) (span 0 3)
       (in_three (λ i. is_due t block (Grandchildren i) (s.families i) ≡ flag_due v W b (Grandchildren i)) (due 0 (omega arith)) (due 1 (omega arith))
       (due 2 (omega arith)))) ∙
       map_equal (is_childless t block s) (λ i. is_forced v b (Grandchildren i)) (filter (λ i. flag_due v W b (Grandchildren i)) (span 0 3))
@@ -184,7 +185,8 @@ module _ (o : List ℕ) (chosen : AreChosen o) (t : Terms) (block v : List ℤ) 
       (subst (λ k. Reads k m sets dc now f.0) start (reads_on (16 + 16 * i) m sets dc before now s f.0 r w.knows w.rest))))
 
   -- the i-th sixteen, if its set is significant
-  pub sixteen_sent : (m : ℕ) (dc : Bool) (i : ℕ) → i < 3 → (sent new : Bool) → sent ≡ set_significant v b (Grandchildren i) → new ≡ is_new v b (Grandchildren i) →
+  pub sixteen_sent : (m : ℕ) (dc : Bool) (i : ℕ) → i < 3 → (sent new : Bool) → sent ≡ set_significant v b (Grandchildren i) →
+      new ≡ is_new v b (Grandchildren i) →
       (c : List Entry) (u : State) → Reads (16 + 16 * i) m sets dc c u →
       Sends t.book o (if sent then quads_script t block i new u else done u) c
       (if set_significant v b (Grandchildren i) then quads_steps v W b i else []) (Reads (16 + 16 * suc i) m sets dc)
@@ -196,7 +198,8 @@ module _ (o : List ℕ) (chosen : AreChosen o) (t : Terms) (block v : List ℤ) 
       by true e =
           subst (λ (y : Bool). Sends t.book o (if y then quads_script t block i new u else done u) c
           (if set_significant v b (Grandchildren i) then quads_steps v W b i else []) (Reads (16 + 16 * suc i) m sets dc)) (sym (all ∙ e))
-          (subst (λ (y : Bool). Sends t.book o (quads_script t block i new u) c (if y then quads_steps v W b i else []) (Reads (16 + 16 * suc i) m sets dc)) (sym e)
+          (subst (λ (y : Bool). Sends t.book o (quads_script t block i new u) c (if y then quads_steps v W b i else []) (Reads
+          (16 + 16 * suc i) m sets dc)) (sym e)
           (quads_sent m dc i lt e new is_new c u p))
       by false e =
           subst (λ (y : Bool). Sends t.book o (if y then quads_script t block i new u else done u) c
@@ -220,7 +223,8 @@ module _ (o : List ℕ) (chosen : AreChosen o) (t : Terms) (block v : List ℤ) 
       three_grandchildren (three_sets Grandchildren) before s r.knows)
       (λ f w. subst (λ l. Sends t.book o (turns f) now l (Reads 64 m sets dc)) (sym (flat_map_filter (quads_steps v W b) in_v (span 0 3)))
       (sends_in_turn t.book o (λ i. Reads (16 + 16 * i) m sets dc)
-      (λ i u. if above t block (Grandchildren i) || f.1 i then quads_script t block i (f.1 i) u else done u) (λ i. if in_v i then quads_steps v W b i else []) 0 3
+      (λ i u. if above t block (Grandchildren i) || f.1 i then quads_script t block i (f.1 i) u else done u)
+      (λ i. if in_v i then quads_steps v W b i else []) 0 3
       (λ i c u low high p. sixteen_sent m dc i (omega (arith, high)) (above t block (Grandchildren i) || f.1 i) (f.1 i) (w.all i (omega (arith, high)))
       (w.new i (omega (arith, high))) c u p) now f.0
       (reads_on 16 m sets dc before now s f.0 r w.knows w.rest)))

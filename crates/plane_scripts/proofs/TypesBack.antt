@@ -73,7 +73,8 @@ pub types_may : (book : Book) (due : ℕ → Bool) (wanted : Bool) (ps : List �
 types_may book due wanted ps s =
     may_then (DueMay due (some_one_where wanted) ps s) (TypesMay due wanted ps s) (due_script book due (some_one_where wanted) ps s)
     (λ r. signs_script (filter r.1 ps) (with_bits r.0 r.1)) (due_may book due (some_one_where wanted) ps s)
-    (λ r d. may_weaker (λ e. (e ≡ with_minus (with_bits r.0 r.1) e.minus) × ((q : ℕ) → has (filter r.1 ps) q ≡ false → e.minus q ≡ r.0.minus q)) (TypesMay due wanted ps s)
+    (λ r d. may_weaker (λ e. (e ≡ with_minus (with_bits r.0 r.1) e.minus) × ((q : ℕ) → has (filter r.1 ps) q ≡ false →
+    e.minus q ≡ r.0.minus q)) (TypesMay due wanted ps s)
     (signs_script (filter r.1 ps) (with_bits r.0 r.1))
     (λ e z. record {
       grows = λ n x h. (λ i. (z.0 i).options n) ∙ d.grows n x h;
@@ -81,7 +82,8 @@ types_may book due wanted ps s =
           ap (λ x. s.bits q || x) (no_one (r.1 q) (λ f. clash (has (filter due ps) q) (d.inside q f) (outside due ps q none))) ∙ or-false (s.bits q);
       minus = λ q none. z.1 q (outside r.1 ps q none) ∙ (λ i. (d.rest i).minus q);
       quiet = λ q none. (λ i. (z.0 i).bits q) ∙ (λ i. (d.rest i).bits q || r.1 q) ∙
-          ap (λ x. s.bits q || x) (no_one (r.1 q) (λ f. clash (due q) (both (has ps q) (due q) (sym (has_filter due ps q) ∙ d.inside q f)).1 none)) ∙ or-false (s.bits q);
+          ap (λ x. s.bits q || x) (no_one (r.1 q) (λ f. clash (due q) (both (has ps q) (due q) (sym (has_filter due ps q) ∙ d.inside q f)).1 none)) ∙
+          or-false (s.bits q);
       more = λ q h. (λ i. (z.0 i).bits q) ∙ (λ i. (d.rest i).bits q || r.1 q) ∙ ap (λ x. x || r.1 q) h;
       families = (λ i. (z.0 i).families) ∙ (λ i. (d.rest i).families);
       some = λ want list.
@@ -108,15 +110,18 @@ module _ (book : Book) (o : List ℕ) where
       let d = done_none State (w.value.0, ones here (bits_of count w.value.1)) r w.rest w.then in
       let may = may_end (WordMay count check s) (word_script book count check s) (word_may book count check s) w.first w.value p.0 w.follows in
       let bits : bits_of count w.value.1 ≡ map f here =
-      ones_bits f here (bits_of count w.value.1) (differ_filter due places apart) (length-bits_of count w.value.1) (λ q inside. (λ i. (d.1 i).1 q) ∙ is q inside) in
+      ones_bits f here (bits_of count w.value.1) (differ_filter due places apart) (length-bits_of count w.value.1) (λ q inside. (λ i. (d.1 i).1 q) ∙
+      is q inside) in
       let value : w.value.1 ≡ value_of (map f here) = sym (value_of-bits_of count w.value.1 ∙ mod-eq_of_lt may.fits) ∙ ap value_of bits in
-      let first = word_back book o before check count s knows few w.first w.value p.0 w.follows (subst (λ (u : State). Later o u.options) (λ i. (sym d.1 i).0) later) in
+      let first = word_back book o before check count s knows few w.first w.value p.0 w.follows (subst (λ (u : State). Later o u.options) (λ i.
+      (sym d.1 i).0) later) in
       w.both ∙ ap (λ l. w.first ++ l) d.0 ∙ append-nil w.first ∙ first ∙
       (λ i. entry_reading book o before check (Word (record { value = value i; count = sym (length-map here f) i })))
 
   -- ---- signs
 
-  pub signs_back : (before : List Entry) (g : ℕ → Bool) (ps : List ℕ) (s e : State) (items : List Item) → ArePossible items → Follows (signs_script ps s) items e → Differ ps →
+  pub signs_back : (before : List Entry) (g : ℕ → Bool) (ps : List ℕ) (s e : State) (items : List Item) → ArePossible items →
+      Follows (signs_script ps s) items e → Differ ps →
       ((q : ℕ) → has ps q ≡ true → s.minus q ≡ false) → ((q : ℕ) → has ps q ≡ true → e.minus q ≡ g q) →
       items ≡ read_after book o before (map (λ p. step free (sign_at p) (Bit (g p))) ps)
   signs_back before g [] s e items are f apart fresh is = (done_none State s e items f).0
@@ -126,7 +131,8 @@ module _ (book : Book) (o : List ℕ) where
       let at_first : has (p ∷ ps) p ≡ true = ap (λ x. x || has ps p) (same_place p) in
       let kept : e.minus p ≡ t.minus p = (may_end (λ e. (e ≡ with_minus t e.minus) × ((q : ℕ) → has ps q ≡ false → e.minus q ≡ t.minus q)) (signs_script ps t)
       (signs_may ps t) a.more e a.are a.follows).1 p apart.0 in
-      let read : (a.said == 1) ≡ g p = sym (kept ∙ ap (λ x. x || ((p == p) && (a.said == 1))) (fresh p at_first) ∙ ap (λ x. x && (a.said == 1)) (same_place p)) ∙ is p at_first in
+      let read : (a.said == 1) ≡ g p = sym (kept ∙ ap (λ x. x || ((p == p) && (a.said == 1))) (fresh p at_first) ∙
+      ap (λ x. x && (a.said == 1)) (same_place p)) ∙ is p at_first in
       let number : a.said ≡ digit (g p) = one_digit a.said (g p) a.says read in
       let rest = signs_back (before ++ Bit (g p) ∷ []) g ps t e a.more a.are a.follows apart.1
       (λ q inside. other q inside (q == p) refl (a.said == 1)) (λ q inside. is q (or_second (q == p) (has ps q) inside)) in
@@ -151,7 +157,8 @@ module _ (book : Book) (o : List ℕ) where
     pub bits : (q : ℕ) → has ps q ≡ true → e.bits q ≡ newly_significant v weights plane q
     pub signs : (q : ℕ) → has ps q ≡ true → e.minus q ≡ (newly_significant v weights plane q && negative (get_or v q (pos 0)))
 
-  pub types_back : (before : List Entry) (v : List ℤ) (weights : List ℕ) (plane : ℕ) (due : ℕ → Bool) (wanted : Bool) (ps : List ℕ) (s e : State) → Knows o before s.options →
+  pub types_back : (before : List Entry) (v : List ℤ) (weights : List ℕ) (plane : ℕ) (due : ℕ → Bool) (wanted : Bool) (ps : List ℕ) (s e : State) →
+      Knows o before s.options →
       Differ ps → length (filter due ps) ≤ 4 → filter due ps ≡ filter (type_due v weights plane) ps → (items : List Item) → ArePossible items →
       Follows (types_script book due wanted ps s) items e → Later o e.options → Fresh v weights plane ps s e →
       items ≡ read_after book o before (typed_steps v weights plane (some_one_where wanted) ps)
@@ -175,7 +182,8 @@ module _ (book : Book) (o : List ℕ) where
       let these : filter r.1 ps ≡ filter newly ps = filter_alike r.1 newly ps read in
       let g : ℕ → Bool = λ q. negative (get_or v q (pos 0)) in
       let now = before ++ word (types v weights plane ps) ∷ [] in
-      let new_in : (q : ℕ) → has (filter newly ps) q ≡ true → (has ps q ≡ true) × (newly q ≡ true) = λ q inside. both (has ps q) (newly q) (sym (has_filter newly ps q) ∙ inside) in
+      let new_in : (q : ℕ) → has (filter newly ps) q ≡ true → (has ps q ≡ true) × (newly q ≡ true) = λ q inside. both (has ps q) (newly q) (sym
+      (has_filter newly ps q) ∙ inside) in
       let rest : w.rest ≡ read_after book o now (map (λ p. step free (sign_at p) (Bit (g p))) (filter newly ps)) =
       signs_back now g (filter newly ps) (with_bits r.0 r.1) e w.rest p.1 (subst (λ l. Follows (signs_script l (with_bits r.0 r.1)) w.rest e) these w.then)
       (differ_filter newly ps apart)

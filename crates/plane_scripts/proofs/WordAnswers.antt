@@ -32,7 +32,8 @@ not_refused false p = refl
 word_below : (count said : ℕ) → word_of count said < 2 ^ count
 unfolding word_of
 word_below count said = first (filter (λ w. symbol count w == said) (span 0 (2 ^ count)))
-    (all_filter (λ w. w < 2 ^ count) (λ w. symbol count w == said) (span 0 (2 ^ count)) (all_span (λ w. w < 2 ^ count) 0 (2 ^ count) (λ k low high. omega (arith, high))))
+    (all_filter (λ w. w < 2 ^ count) (λ w. symbol count w == said) (span 0 (2 ^ count)) (all_span (λ w. w < 2 ^ count) 0 (2 ^ count) (λ k low high. omega
+    (arith, high))))
   where
     first : (l : List ℕ) → AllByRecursion (λ w. w < 2 ^ count) l → get_or l 0 0 < 2 ^ count
     first [] all = pow_pos count
@@ -130,7 +131,8 @@ some_ones (p ∷ ps) (false ∷ bits) long some =
     let w = some_ones ps bits (omega (arith, long)) (λ e. some (first_none bits e)) in
     (w.0, or_second (w.0 == p) (has ps w.0) w.1, or_second ((w.0 == p) && false) (ones ps bits w.0) w.2)
 
-each_ones : (wanted : ℕ → Bool) (ps : List ℕ) (bits : List Bool) → length bits ≡ length ps → lacks_one (map wanted ps) bits ≡ false → (q : ℕ) → has ps q ≡ true → wanted q ≡ true →
+each_ones : (wanted : ℕ → Bool) (ps : List ℕ) (bits : List Bool) → length bits ≡ length ps → lacks_one (map wanted ps) bits ≡ false → (q : ℕ) →
+    has ps q ≡ true → wanted q ≡ true →
     ones ps bits q ≡ true
 each_ones wanted [] bits long good q inside want = cc
 each_ones wanted (p ∷ ps) [] long good q inside want = absurd (omega (arith, long))
@@ -159,7 +161,8 @@ pub record DueMay (due : ℕ → Bool) (check : Check) (places : List ℕ) (s : 
   pub each : (wanted : ℕ → Bool) → check ≡ ones_at (map wanted (filter due places)) → (q : ℕ) → has (filter due places) q ≡ true → wanted q ≡ true →
       r.1 q ≡ true
 
-pub due_may : (book : Book) (due : ℕ → Bool) (check : Check) (places : List ℕ) (s : State) → May (due_script book due check places s) (DueMay due check places s)
+pub due_may : (book : Book) (due : ℕ → Bool) (check : Check) (places : List ℕ) (s : State) → May (due_script book due check places s)
+    (DueMay due check places s)
 due_may book due check places s =
     may_then (WordMay count check s) (DueMay due check places s) (word_script book count check s)
     (λ w. done (w.0, ones here (bits_of count w.1))) (word_may book count check s)

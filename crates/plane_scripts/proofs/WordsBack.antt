@@ -74,7 +74,8 @@ ones_bits f (p ∷ ps) (b ∷ bits) h long is =
     let none : ones ps bits p ≡ false = false_unless (ones ps bits p) (has ps p) (ones_has ps bits p) h.0 in
     let first : b ≡ f p = sym (ap (λ x. (x && b) || ones ps bits p) (same_place p) ∙ ap (λ x. b || x) none ∙ or-false b) ∙
     is p (ap (λ x. x || has ps p) (same_place p)) in
-    ap (λ x. x ∷ bits) first ∙ ap (λ l. f p ∷ l) (ones_bits f ps bits h.1 (omega (arith, long)) (λ q inside. later q inside (q == p) refl (is q (or_second (q == p) (has ps q) inside))))
+    ap (λ x. x ∷ bits) first ∙ ap (λ l. f p ∷ l) (ones_bits f ps bits h.1 (omega (arith, long)) (λ q inside. later q inside (q == p) refl (is q (or_second
+    (q == p) (has ps q) inside))))
   where
     clash : (x : Bool) → x ≡ true → x ≡ false → ⊥
     clash true e f = cc
@@ -136,7 +137,8 @@ some_is : {a b : ℕ} → Some a ≡ Some b → a ≡ b
 some_is e = cc
 
 module _ (book : Book) (o : List ℕ) (before : List Entry) (check : Check) (count : ℕ) (s : State) (knows : Knows o before s.options) (high : count ≤ 4) where
-  option_back : 2 ≤ count → (items : List Item) (t : State) → ArePossible items → Follows (option_script count s (s.options count)) items t → Later o t.options →
+  option_back : 2 ≤ count → (items : List Item) (t : State) → ArePossible items → Follows (option_script count s (s.options count)) items t →
+      Later o t.options →
       (items ≡ opening o before count) × (t.options count ≡ Some (chosen_of o count))
   option_back low items t are f later = by (list_any (is_word_of count) before) (s.options count) refl (knows count low high) f
     where
@@ -166,12 +168,17 @@ module _ (book : Book) (o : List ℕ) (before : List Entry) (check : Check) (cou
       Follows (coded_script book count check t) items r → items ≡ checked_word book count (chosen_of o count) r.1 check ∷ []
   coded_back low t here items r are f =
       let c = chosen_of o count in
-      let g = subst (λ x. Follows {G = State} (ask t (word_form book count x check) (λ said. done (t, word_said count x said))) items r) (ap option_of here) f in
+      let g = subst (λ x. Follows {G = State} (ask t (word_form book count x check) (λ said. done (t, word_said count x said))) items r)
+      (ap option_of here) f in
       let a = asked t (word_form book count c check) (λ said. (t, word_said count c said)) items r are g in
       let value : word_said count c a.said ≡ r.1 = λ i. (a.gives i).1 in
       let same : a.said ≡ (word_item book count c (word_said count c a.said)).said = sym (back c a.said (c == uncoded count) a.says) in
       a.is ∙ (λ i. record {
-        form = record { shape = word_shape book count c 0 (word_said count c a.said) i; refusal = refused_where (λ said. refuses check (word_said count c said)) false_flag };
+        form = record {
+          shape = word_shape book count c 0 (word_said count c a.said) i;
+          refusal = refused_where (λ said. refuses check
+              (word_said count c said)) false_flag;
+        };
         said = same i;
       } ∷ []) ∙ ap (λ v. checked_word book count c v check ∷ []) value
     where
@@ -209,5 +216,9 @@ module _ (book : Book) (o : List ℕ) (before : List Entry) (check : Check) (cou
         where
           unchanged : (t : State) (l : List Item) → ArePossible l → Follows (coded_script book count check t) l r → t ≡ r.0
           unchanged t l are f =
-              let a = asked t (word_form book count (option_of (t.options count)) check) (λ said. (t, word_said count (option_of (t.options count)) said)) l r are f in
+              let a = asked t (word_form book count (option_of (t.options count)) check) (λ said. (
+                t,
+                word_said count (option_of
+                    (t.options count)) said,
+              )) l r are f in
               λ i. (a.gives i).0

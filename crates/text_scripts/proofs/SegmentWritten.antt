@@ -93,7 +93,8 @@ module _ (head : SegmentHead) (is_head : IsHead head) (blocks : List (List ℤ))
   P = planes_items head blocks depths options head.depth_ac
 
   dcs : (end : ℕ → ℤ) × Follows (dc_script head.depth_dc head.depth_ac (dc_shift head) head.blocks) D end
-  dcs = let w = (dc_laws head.depth_dc head.depth_ac (dc_shift head) head.blocks).written (dcs_of blocks) options.dcs (length-map blocks dc_of ∙ p.blocks_all) p.dcs_fit in
+  dcs = let w = (dc_laws head.depth_dc head.depth_ac (dc_shift head) head.blocks).written (dcs_of blocks) options.dcs (length-map blocks dc_of ∙
+      p.blocks_all) p.dcs_fit in
       (w.0, w.1)
 
   -- the blocks after the DC part
@@ -137,7 +138,8 @@ module _ (head : SegmentHead) (is_head : IsHead head) (blocks : List (List ℤ))
           (sym (get_or-map-span (λ i. dcs.0 i ∷ replicate 63 (pos 0)) head.blocks r [] lt)) (λ i ac. one i ac)
         where
           one : (i : ℕ) → IsAc i → (magnitude (dcs.0 r ∷ replicate 63 (pos 0)) i ≡ magnitude (get_or blocks r []) i / 2 ^ head.depth_ac * 2 ^ head.depth_ac) ×
-              (negative (get_or (dcs.0 r ∷ replicate 63 (pos 0)) i (pos 0)) ≡ (significant (get_or blocks r []) head.depth_ac i && negative (get_or (get_or blocks r []) i (pos 0))))
+              (negative (get_or (dcs.0 r ∷ replicate 63 (pos 0)) i (pos 0)) ≡ (significant (get_or blocks r []) head.depth_ac i && negative (get_or
+                  (get_or blocks r []) i (pos 0))))
           one zero ac = absurd (let a = ac.0 in omega (arith, a))
           one (suc i) ac =
               let none : get_or (replicate 63 (pos 0)) i (pos 0) ≡ pos 0 = get_or-replicate 63 i (pos 0) (pos 0) (let a = ac.1 in omega (arith, a)) in
@@ -147,10 +149,12 @@ module _ (head : SegmentHead) (is_head : IsHead head) (blocks : List (List ℤ))
                 ap unsigned_abs none ∙ sym (nothing (magnitude (get_or blocks r []) (suc i)) (2 ^ head.depth_ac) small),
                 ap negative none ∙
                     sym (ap (λ y. y && negative (get_or (get_or blocks r []) (suc i) (pos 0)))
-                    (significant-is (get_or blocks r []) head.depth_ac (suc i) ∙ not_reached (magnitude (get_or blocks r []) (suc i)) (2 ^ head.depth_ac) small)),
+                    (significant-is (get_or blocks r []) head.depth_ac (suc i) ∙ not_reached (magnitude (get_or blocks r []) (suc i))
+                        (2 ^ head.depth_ac) small)),
               )
       by (inr ge) =
-          let a : get_or first r [] ≡ [] = get_or_past first r [] (let e = length-map-span (λ i. dcs.0 i ∷ replicate 63 (pos 0)) head.blocks in omega (arith, e, ge)) in
+          let a : get_or first r [] ≡ [] = get_or_past first r [] (let e = length-map-span (λ i. dcs.0 i ∷ replicate 63 (pos 0)) head.blocks in omega
+              (arith, e, ge)) in
           let b : get_or blocks r [] ≡ [] = get_or_past blocks r [] (let e = p.blocks_all in omega (arith, e, ge)) in
           subst (λ l. Shows head.depth_ac l (get_or blocks r [])) (sym a) (subst (λ l. Shows head.depth_ac [] l) (sym b) (shows_nothing head.depth_ac))
 
@@ -158,7 +162,8 @@ module _ (head : SegmentHead) (is_head : IsHead head) (blocks : List (List ℤ))
   unfolding first
   planes_follow are =
       let w = planes_sent options.book options.words (λ b g. known.at b g) blocks depths head.image.weights.shifts
-      (record { long = p.depths_all ∙ sym p.blocks_all; multiples = p.multiples; small = p.below }) (q_of head) (stages_sent head) (stages_stop head is_head.stage)
+      (record { long = p.depths_all ∙ sym p.blocks_all; multiples = p.multiples; small = p.below }) (q_of head) (stages_sent head)
+          (stages_stop head is_head.stage)
       head.depth_ac first (length-map-span (λ i. dcs.0 i ∷ replicate 63 (pos 0)) head.blocks ∙ sym p.blocks_all) (shown are) in (
         w.end,
         subst (λ l. Follows (planes_part_script options.book head first depths) l w.end)
@@ -178,7 +183,8 @@ module _ (head : SegmentHead) (is_head : IsHead head) (blocks : List (List ℤ))
       let w = by head.stop.dc (subst AreItems i are) in
       (w.0, subst (λ l. Follows S l w.0) (sym i) w.1)
     where
-      by : (x : Bool) → AreItems (cond x D (D ++ (E ++ P))) → (w : List (List ℤ)) × Follows (then_ask (dc_part_script head) (Rest x)) (cond x D (D ++ (E ++ P))) w
+      by : (x : Bool) → AreItems (cond x D (D ++ (E ++ P))) → (w : List (List ℤ)) × Follows (then_ask (dc_part_script head) (Rest x)) (cond x D (D ++
+          (E ++ P))) w
       by true are = (
         first,
         subst (λ l. Follows (then_ask (dc_part_script head) (Rest true)) l first) (append-nil D)
@@ -189,7 +195,8 @@ module _ (head : SegmentHead) (is_head : IsHead head) (blocks : List (List ℤ))
           let w = planes_follow parts.0 in (
             w.0,
             follows_then (Rest false) (dc_part_script head) D (E ++ P) first w.0 dc_follows
-                (follows_then (planes_part_script options.book head first) (beside first (depths_script head.depth_ac head.blocks)) E P depths w.0 depths_follow w.1),
+                (follows_then (planes_part_script options.book head first) (beside first
+                    (depths_script head.depth_ac head.blocks)) E P depths w.0 depths_follow w.1),
           )
 
   -- each is asked for after those before it, if none of them is refused
