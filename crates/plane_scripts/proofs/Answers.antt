@@ -1,7 +1,7 @@
 -- What any possible answers of a script lead to.
 use Rattle.std.proofs.Common.{◌≡◌, ℕ, zero, suc, ◌+◌, ◌≤◌, ◌<◌, List, [], ◌∷◌, sym, subst, arith}
 use Rattle.item_defs.specs.Items.{Item, IsSaid}
-use Rattle.item_scripts.specs.Scripts.{Script, done, ask, then_ask, in_turn}
+use Rattle.item_scripts.specs.Scripts.{Script, done, ask, then_ask, in_turn, around}
 use Rattle.item_scripts.specs.Following.{Follows}
 use Rattle.item_scripts.specs.Completing.{IsPossible, ArePossible}
 
@@ -37,3 +37,7 @@ may_end P (ask g form next) p (i ∷ is) a are f =
 pub may_weaker : {G A : Type 0} (P Q : A → Type 0) (s : Script G A) → ((a : A) → P a → Q a) → May s P → May s Q
 may_weaker P Q (done a) keeps p = keeps a p
 may_weaker P Q (ask g form now) keeps p = λ n said good. may_weaker P Q (now n) keeps (p n said good)
+
+pub may_around : {S T : Type 0} (P : S → Type 0) (Q : T → Type 0) (put : S → T) → ((s : S) → P s → Q (put s)) → (s : Script S S) → May s P → May (around put s) Q
+may_around P Q put keeps (done a) p = keeps a p
+may_around P Q put keeps (ask g form more) p = λ n said good. may_around P Q put keeps (more n) (p n said good)

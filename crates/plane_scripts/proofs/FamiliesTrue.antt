@@ -40,8 +40,8 @@ module _ (o : List ℕ) (chosen : AreChosen o) (t : Terms) (is_sound : is_book_s
   abbrev sixteen : ℕ → List ℕ
   sixteen i = span (16 + 16 * i) 16
 
-  abbrev StageMay : ℕ → State → State → Type 0
-  StageMay = answers.StageMay o chosen t is_sound block v same whole
+  abbrev Keeps : ℕ → State → State → Type 0
+  Keeps = answers.Keeps o chosen t is_sound block v same whole
 
   abbrev ChildrenMay : State → State → Type 0
   ChildrenMay = answers.ChildrenMay o chosen t is_sound block v same whole
@@ -64,7 +64,7 @@ module _ (o : List ℕ) (chosen : AreChosen o) (t : Terms) (is_sound : is_book_s
       first false y e = e
 
   -- from the state before the stage of the children to the end of the plane, by the states between
-  module _ (before children grand end : State) (first : StageMay 2 before children) (second : StageMay 3 children grand) (third : StageMay 4 grand end)
+  module _ (before children grand end : State) (first : Keeps 2 before children) (second : Keeps 3 children grand) (third : Keeps 4 grand end)
       (of_children : ChildrenMay before children) (of_grand : GrandMay children grand)
       (fresh : (q : ℕ) → IsAc q → 4 ≤ q → before.bits q ≡ false)
       (agrees : (q : ℕ) → IsAc q → end.bits q ≡ (newly q || (refined v W b q && bit (magnitude v q) b))) where

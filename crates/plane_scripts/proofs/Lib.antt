@@ -24,3 +24,4 @@ pub mod ChildrenBack
 pub mod StageBack
 pub mod StageAnswers
 pub mod FamiliesTrue
+pub mod PlaneAnswers

@@ -1,5 +1,5 @@
 -- What any possible answers to a stage of a block leave.
-use Rattle.std.proofs.Common.{◌≡◌, ◌⊎◌, ℕ, zero, suc, ◌+◌, ◌*◌, ◌≤◌, ◌<◌, ◌==◌, ◌&&◌, ◌||◌, not, nat_lt, Bool, true, false, if◌then◌else◌, List, map, filter, refl, ap, sym, ◌∙◌, arith, ℤ, inl, inr}
+use Rattle.std.proofs.Common.{◌≡◌, ◌⊎◌, ℕ, zero, suc, ◌+◌, ◌*◌, ◌≤◌, ◌<◌, ◌==◌, ◌&&◌, ◌||◌, not, nat_lt, Bool, true, false, if◌then◌else◌, List, map, filter, refl, ap, sym, ◌∙◌, arith, ℤ, inl, inr, Option}
 use Rattle.std.proofs.lemmas.Bool.Decides.{nat_tests}
 use Rattle.std.proofs.Math.Bool.{or-false}
 use Rattle.plane_defs.specs.declared.sets.Set.TheVariants.{Descendants, Family, Grandchildren}
@@ -11,7 +11,7 @@ use Rattle.plane_defs.specs.StepLaws.{IsAc, SameAc}
 use Rattle.plane_defs.specs.Laws.{IsMultiple}
 use Rattle.item_scripts.specs.Scripts.{Script, done, in_turn}
 use Rattle.plane_scripts.specs.Written.{has, AreChosen}
-use Rattle.plane_scripts.specs.States.{State, with_families}
+use Rattle.plane_scripts.specs.States.{State, with_options, with_families}
 use Rattle.plane_scripts.specs.Words.{due_script, group_script}
 use Rattle.plane_scripts.specs.Stages.{Terms, above, is_due, bit_script, dc_bit_script, parents_script, descendants_script, children_script, is_childless, quads_script, grandchildren_script, refinement_script, stage_script}
 use Rattle.plane_scripts.proofs.StageGoes.{children_due}
@@ -299,3 +299,56 @@ module _ (o : List ℕ) (chosen : AreChosen o) (t : Terms) (is_sound : is_book_s
       by true = refine_may s
       by false = nothing_changes 4 s
   stage_may (suc (suc (suc (suc (suc k))))) depth lt s = absurd (omega (arith, lt))
+
+  -- ---- a stage as it is read within a plane, with the options of its gaggle
+
+  pub record Keeps (k : ℕ) (s e : State) : Type 0 where
+    pub bits : (q : ℕ) → IsAc q → (lowest k ≤ q → q < highest k → due q ≡ true → ⊥) → (k ≡ 4 → refined block W b q ≡ true → ⊥) → e.bits q ≡ s.bits q
+    pub minus : (q : ℕ) → IsAc q → (lowest k ≤ q → q < highest k → ⊥) → e.minus q ≡ s.minus q
+    pub low : (k ≡ 0 → ⊥) → e.bits 0 ≡ s.bits 0
+    pub more : (q : ℕ) → s.bits q ≡ true → e.bits q ≡ true
+    pub families : (k ≡ 2 → ⊥) → (i : ℕ) → e.families i ≡ s.families i
+
+  pub record Facts (k depth : ℕ) (s e : State) : Type 0 where
+    pub keeps : Keeps k s e
+    pub children : k ≡ 2 → nat_lt b depth ≡ true → ChildrenMay s e
+    pub grand : k ≡ 3 → nat_lt b depth ≡ true → GrandMay s e
+
+  -- the options that are known at the start do not matter
+  facts_from : (k depth : ℕ) (s : State) (x : ℕ → Option ℕ) (e : State) → StageMay k (with_options s x) e →
+      (k ≡ 2 → nat_lt b depth ≡ true → ChildrenMay (with_options s x) e) → (k ≡ 3 → nat_lt b depth ≡ true → GrandMay (with_options s x) e) → Facts k depth s e
+  facts_from k depth s x e m c g = record {
+    keeps = record { bits = m.bits; minus = m.minus; low = m.low; more = m.more; families = m.families };
+    children = λ is deep. (let z = c is deep in record { was = z.was; none = z.none; some = z.some });
+    grand = λ is deep. (let z = g is deep in record { none = z.none; forced = z.forced });
+  }
+
+  plain : (k depth : ℕ) → k < 5 → (s : State) (x : ℕ → Option ℕ) → (k ≡ 2 → ⊥) → (k ≡ 3 → ⊥) →
+      May (stage_script t k depth block (with_options s x)) (λ e. Grows (with_options s x) e × Facts k depth s e)
+  plain k depth lt s x two three =
+      may_weaker (StageMay k (with_options s x)) (λ e. Grows (with_options s x) e × Facts k depth s e) (stage_script t k depth block (with_options s x))
+      (λ e m. (m.grows, facts_from k depth s x e m (λ is. absurd (two is)) (λ is. absurd (three is)))) (stage_may k depth lt (with_options s x))
+
+  pub facts_may : (k depth : ℕ) → k < 5 → (s : State) (x : ℕ → Option ℕ) →
+      May (stage_script t k depth block (with_options s x)) (λ e. Grows (with_options s x) e × Facts k depth s e)
+  facts_may zero depth lt s x = plain 0 depth lt s x (λ e. absurd (omega (arith, e))) (λ e. absurd (omega (arith, e)))
+  facts_may (suc zero) depth lt s x = plain 1 depth lt s x (λ e. absurd (omega (arith, e))) (λ e. absurd (omega (arith, e)))
+  facts_may (suc (suc zero)) depth lt s x = by (nat_lt b depth) refl
+    where
+      by : (y : Bool) → nat_lt b depth ≡ y → May (if not y then done (with_options s x) else children_script t block (with_options s x))
+          (λ e. Grows (with_options s x) e × Facts 2 depth s e)
+      by true f = may_weaker (λ e. StageMay 2 (with_options s x) e × ChildrenMay (with_options s x) e) (λ e. Grows (with_options s x) e × Facts 2 depth s e)
+          (children_script t block (with_options s x))
+          (λ e z. (z.0.grows, facts_from 2 depth s x e z.0 (λ is deep. z.1) (λ is. absurd (omega (arith, is))))) (children_may (with_options s x))
+      by false f = (λ n y h. h, facts_from 2 depth s x (with_options s x) (nothing_changes 2 (with_options s x)) (λ is deep. absurd (clash (nat_lt b depth) deep f))
+          (λ is. absurd (omega (arith, is))))
+  facts_may (suc (suc (suc zero))) depth lt s x = by (nat_lt b depth) refl
+    where
+      by : (y : Bool) → nat_lt b depth ≡ y → May (if not y then done (with_options s x) else grandchildren_script t block (with_options s x))
+          (λ e. Grows (with_options s x) e × Facts 3 depth s e)
+      by true f = may_weaker (λ e. StageMay 3 (with_options s x) e × GrandMay (with_options s x) e) (λ e. Grows (with_options s x) e × Facts 3 depth s e)
+          (grandchildren_script t block (with_options s x))
+          (λ e z. (z.0.grows, facts_from 3 depth s x e z.0 (λ is. absurd (omega (arith, is))) (λ is deep. z.1))) (grandchildren_may (with_options s x))
+      by false f = (λ n y h. h, facts_from 3 depth s x (with_options s x) (nothing_changes 3 (with_options s x)) (λ is. absurd (omega (arith, is)))
+          (λ is deep. absurd (clash (nat_lt b depth) deep f)))
+  facts_may (suc (suc (suc (suc k)))) depth lt s x = plain (suc (suc (suc (suc k)))) depth lt s x (λ e. absurd (omega (arith, e))) (λ e. absurd (omega (arith, e)))
