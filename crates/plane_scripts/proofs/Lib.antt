@@ -25,3 +25,4 @@ pub mod StageBack
 pub mod StageAnswers
 pub mod FamiliesTrue
 pub mod PlaneAnswers
+pub mod BlockBack
