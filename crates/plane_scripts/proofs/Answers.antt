@@ -38,6 +38,7 @@ pub may_weaker : {G A : Type 0} (P Q : A → Type 0) (s : Script G A) → ((a : 
 may_weaker P Q (done a) keeps p = keeps a p
 may_weaker P Q (ask g form now) keeps p = λ n said good. may_weaker P Q (now n) keeps (p n said good)
 
-pub may_around : {S T : Type 0} (P : S → Type 0) (Q : T → Type 0) (put : S → T) → ((s : S) → P s → Q (put s)) → (s : Script S S) → May s P → May (around put s) Q
+pub may_around : {S T : Type 0} (P : S → Type 0) (Q : T → Type 0) (put : S → T) → ((s : S) → P s → Q (put s)) → (s : Script S S) → May s P →
+    May (around put s) Q
 may_around P Q put keeps (done a) p = keeps a p
 may_around P Q put keeps (ask g form more) p = λ n said good. may_around P Q put keeps (more n) (p n said good)

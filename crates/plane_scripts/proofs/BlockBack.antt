@@ -1,5 +1,5 @@
 -- What is read of a block in a stage is what its values write, if what the plane leaves of the block is theirs.
-use Rattle.std.proofs.Common.{◌≡◌, ℕ, zero, suc, ◌+◌, ◌-◌, ◌/◌, ◌≤◌, ◌<◌, ◌&&◌, ◌||◌, not, nat_lt, Bool, true, false, List, [], length, refl, ap, sym, ◌∙◌, subst, arith, ℤ, pos}
+use Rattle.std.proofs.Common.{◌≡◌, ℕ, zero, suc, ◌+◌, ◌≤◌, ◌<◌, ◌&&◌, ◌||◌, not, nat_lt, Bool, true, false, List, refl, ap, sym, ◌∙◌, subst, arith, ℤ, pos}
 use Rattle.std.proofs.Math.Bool.{or-false}
 use lib.ListN.{get_or}
 use Rattle.item_defs.specs.Bits.{bit}
@@ -140,7 +140,8 @@ module _ (o : List ℕ) (chosen : AreChosen o) (t : Terms) (is_sound : is_book_s
             sym (none_new q (sym (places.type_is o chosen t block v same whole q ac) ∙ d))
 
     -- the items of a stage, from the state before it to the end of the plane
-    pub block_back : (k n : ℕ) → k + suc n ≡ 5 → (before : List Entry) (s e : State) → sent.Before o chosen t block v same whole k before s → (items : List Item) →
+    pub block_back : (k n : ℕ) → k + suc n ≡ 5 → (before : List Entry) (s e : State) → sent.Before o chosen t block v same whole k before s →
+        (items : List Item) →
         ArePossible items → Follows (stage_script t k depth block s) items e → Later o e.options → Facts k s e → Chain (suc k) n e end →
         items ≡ read_after t.book o before (block_steps (stage_number k) v depth W b t.q)
     block_back k n size before s e r items are f later fact rest =
@@ -155,9 +156,11 @@ module _ (o : List ℕ) (chosen : AreChosen o) (t : Terms) (is_sound : is_book_s
             Chain (suc k) n e end → stage.Matches o chosen t is_sound block v same whole k e
         matches zero n size some deep r fact rest = absurd (some refl)
         matches (suc zero) n size some deep r fact rest =
-            agrees_for 1 n 1 _ _ before s e 1 4 (λ z. absurd (omega (arith, z))) (omega arith) (omega arith) (omega arith) r fact rest (λ q j lt le. from_two q j lt le)
+            agrees_for 1 n 1 _ _ before s e 1 4 (λ z. absurd (omega (arith, z))) (omega arith) (omega arith) (omega arith) r fact rest
+            (λ q j lt le. from_two q j lt le)
         matches (suc (suc zero)) n size some deep r fact rest = (
-          agrees_for 2 n 1 _ _ before s e 4 16 (λ z. absurd (omega (arith, z))) (omega arith) (omega arith) (omega arith) r fact rest (λ q j lt le. from_three q j lt le),
+          agrees_for 2 n 1 _ _ before s e 4 16 (λ z. absurd (omega (arith, z))) (omega arith) (omega arith) (omega arith) r fact rest
+              (λ q j lt le. from_three q j lt le),
           families_of n (omega (arith, size)) deep r fact rest,
         )
           where
@@ -173,7 +176,8 @@ module _ (o : List ℕ) (chosen : AreChosen o) (t : Terms) (is_sound : is_book_s
                 (λ q ac low. (quads.unread o chosen t is_sound block v same whole 4 1 _ _ before s (omega arith) r q ac.0 ac.1 low).0) final.bits i lt
             families_of (suc (suc (suc n))) size deep r fact rest i lt = absurd (omega (arith, size))
         matches (suc (suc (suc zero))) n size some deep r fact rest =
-            agrees_for 3 n 1 _ _ before s e 16 64 (λ z. absurd (omega (arith, z))) (omega arith) (omega arith) (omega arith) r fact rest (λ q j lt le. from_four q j lt le)
+            agrees_for 3 n 1 _ _ before s e 16 64 (λ z. absurd (omega (arith, z))) (omega arith) (omega arith) (omega arith) r fact rest
+            (λ q j lt le. from_four q j lt le)
         matches (suc (suc (suc (suc zero)))) n size some deep r fact rest = last n (omega (arith, size)) rest
           where
             new_none : (x y z : Bool) → (x && y) ≡ true → ((not x && y) && z) ≡ false

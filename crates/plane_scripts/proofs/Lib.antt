@@ -26,3 +26,4 @@ pub mod StageAnswers
 pub mod FamiliesTrue
 pub mod PlaneAnswers
 pub mod BlockBack
+pub mod PlaneBack

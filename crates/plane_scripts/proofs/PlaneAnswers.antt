@@ -1,5 +1,5 @@
 -- What any possible answers to the stages of a plane leave of each block.
-use Rattle.std.proofs.Common.{◌≡◌, ◌⊎◌, ℕ, zero, suc, ◌+◌, ◌/◌, ◌≤◌, ◌<◌, ◌==◌, nat_lt, Bool, true, false, if◌then◌else◌, List, [], length, refl, ap, sym, ◌∙◌, subst, arith, ℤ, Some, inl, inr}
+use Rattle.std.proofs.Common.{◌≡◌, ℕ, zero, suc, ◌+◌, ◌/◌, ◌≤◌, ◌<◌, ◌==◌, Bool, true, false, if◌then◌else◌, List, [], length, refl, ap, sym, ◌∙◌, subst, arith, ℤ, Some, inl, inr}
 use Rattle.std.proofs.lemmas.Bool.Decides.{nat_tests}
 use Rattle.std.proofs.lemmas.Bool.{cases_lt}
 use lib.ListN.{get_or}
@@ -8,12 +8,13 @@ use Rattle.plane_defs.specs.StepLaws.{SameAc}
 use Rattle.plane_defs.specs.Laws.{IsMultiple}
 use Rattle.item_scripts.specs.Scripts.{Script, in_turn, around}
 use Rattle.plane_scripts.specs.Written.{AreChosen}
-use Rattle.plane_scripts.specs.States.{State, with_options}
+use Rattle.plane_scripts.specs.States.{State}
 use Rattle.plane_scripts.specs.Stages.{Terms, stage_script}
 use Rattle.plane_scripts.specs.Planes.{PlaneState, of_block, with_block, blocks_script}
 use Rattle.plane_scripts.proofs.Answers.{May, may_then, may_in_turn, may_weaker, may_around}
 use Rattle.plane_scripts.proofs.WordAnswers.{Grows}
 use Rattle.plane_scripts.proofs.StageAnswers as answers
+use Rattle.plane_scripts.proofs.BlockBack as back
 
 module _ (o : ℕ → List ℕ) (chosen : (g : ℕ) → AreChosen (o g)) (t : Terms) (is_sound : is_book_sound t.book ≡ true) (depths : List ℕ)
     (blocks values : List (List ℤ)) (same : (r : ℕ) → SameAc (get_or blocks r []) (get_or values r []) (t.plane + 1))
@@ -69,7 +70,8 @@ module _ (o : ℕ → List ℕ) (chosen : (g : ℕ) → AreChosen (o g)) (t : Te
             more = λ g m x h. grown i w e z.0 g m x (p.more g m x h) (g == i / 16) refl;
           })
           (stage_script t k (get_or depths i 0) (get_or blocks i []) (of_block w i))
-          (answers.facts_may (o (i / 16)) (chosen (i / 16)) t is_sound (get_or blocks i []) (get_or values i []) (same i) (whole i) k (get_or depths i 0) few (w.blocks i)
+          (answers.facts_may (o (i / 16)) (chosen (i / 16)) t is_sound (get_or blocks i []) (get_or values i []) (same i) (whole i) k
+          (get_or depths i 0) few (w.blocks i)
           (w.options (i / 16)))
         where
           grown : (i : ℕ) (w : PlaneState) (e : State) → Grows (of_block w i) e → (g m x : ℕ) → w.options g m ≡ Some x → (y : Bool) → (g == i / 16) ≡ y →
@@ -79,15 +81,15 @@ module _ (o : ℕ → List ℕ) (chosen : (g : ℕ) → AreChosen (o g)) (t : Te
 
   -- the states of a block after each of n stages from the k-th on
   abbrev pub Chain : (r k n : ℕ) → State → State → Type 0
-  Chain r k zero s e = s ≡ e
-  Chain r k (suc n) s e = (m : State) × Facts r k s m × Chain r (suc k) n m e
+  Chain r = back.Chain (o (r / 16)) (chosen (r / 16)) t is_sound (get_or blocks r []) (get_or values r []) (same r) (whole r) (get_or depths r 0)
 
   -- the stages from the k-th on
   pub chain_may : (k n : ℕ) → k + n ≤ 5 → (u : PlaneState) →
       May (in_turn (blocks_script t depths blocks) k n u) (λ w. ((r : ℕ) → r < count → Chain r k n (u.blocks r) (w.blocks r)) × Knows_more u w)
   chain_may k zero le u = (λ r lt. refl, λ g m x h. h)
   chain_may k (suc n) le u =
-      may_then (Turn k 0 (0 + count) u) (λ w. ((r : ℕ) → r < count → Chain r k (suc n) (u.blocks r) (w.blocks r)) × Knows_more u w) (blocks_script t depths blocks k u)
+      may_then (Turn k 0 (0 + count) u) (λ w. ((r : ℕ) → r < count → Chain r k (suc n) (u.blocks r) (w.blocks r)) × Knows_more u w)
+      (blocks_script t depths blocks k u)
       (in_turn (blocks_script t depths blocks) (suc k) n) (turn_may k (omega (arith, le)) 0 count u)
       (λ w z. may_weaker (λ v. ((r : ℕ) → r < count → Chain r (suc k) n (w.blocks r) (v.blocks r)) × Knows_more w v)
       (λ v. ((r : ℕ) → r < count → Chain r k (suc n) (u.blocks r) (v.blocks r)) × Knows_more u v) (in_turn (blocks_script t depths blocks) (suc k) n w)

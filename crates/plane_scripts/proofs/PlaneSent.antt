@@ -45,16 +45,16 @@ module _ (o : ℕ → List ℕ) (chosen : (g : ℕ) → AreChosen (o g)) (t : Te
   sent k g h = before_stage p (if nat_lt h g then suc k else k) h
 
   -- in stage k of gaggle g, before block i
-  record InStage (k g i : ℕ) (before : List Entry) (u : PlaneState) : Type 0 where
-    past : (r : ℕ) → r < i → BlockAt (suc k) r (u.blocks r)
-    left : (r : ℕ) → i ≤ r → r < count → BlockAt k r (u.blocks r)
-    here : Knows (o g) before (u.options g)
-    others : (h : ℕ) → (h ≡ g → ⊥) → h < gaggles p → Knows (o h) (sent k g h) (u.options h)
+  pub record InStage (k g i : ℕ) (before : List Entry) (u : PlaneState) : Type 0 where
+    pub past : (r : ℕ) → r < i → BlockAt (suc k) r (u.blocks r)
+    pub left : (r : ℕ) → i ≤ r → r < count → BlockAt k r (u.blocks r)
+    pub here : Knows (o g) before (u.options g)
+    pub others : (h : ℕ) → (h ≡ g → ⊥) → h < gaggles p → Knows (o h) (sent k g h) (u.options h)
 
   abbrev item : (k i : ℕ) → PlaneState → Script PlaneState PlaneState
   item k i u = around (with_block u i) (stage_script t k (get_or depths i 0) (get_or blocks i []) (of_block u i))
 
-  block_sent : (k g i : ℕ) → k < 5 → g ≡ i / 16 → i < count → (c : List Entry) (u : PlaneState) → InStage k g i c u →
+  pub block_sent : (k g i : ℕ) → k < 5 → g ≡ i / 16 → i < count → (c : List Entry) (u : PlaneState) → InStage k g i c u →
       Sends t.book (o g) (item k i u) c (steps_of_block p (stage_number k) i) (InStage k g (suc i))
   block_sent k g i few at lt c u r =
       let v = get_or values i [] in
@@ -93,10 +93,10 @@ module _ (o : ℕ → List ℕ) (chosen : (g : ℕ) → AreChosen (o g)) (t : Te
       was q low {s} z false e = let f : q ≡ i → ⊥ = grind (arith, nat_tests) in r.past q (omega (arith, f, low))
 
   -- stage k, after the gaggles below g
-  record Bound (k g : ℕ) (u : PlaneState) : Type 0 where
-    past : (r : ℕ) → r < 16 * g → r < count → BlockAt (suc k) r (u.blocks r)
-    left : (r : ℕ) → 16 * g ≤ r → r < count → BlockAt k r (u.blocks r)
-    known : (h : ℕ) → h < gaggles p → Knows (o h) (sent k g h) (u.options h)
+  pub record Bound (k g : ℕ) (u : PlaneState) : Type 0 where
+    pub past : (r : ℕ) → r < 16 * g → r < count → BlockAt (suc k) r (u.blocks r)
+    pub left : (r : ℕ) → 16 * g ≤ r → r < count → BlockAt k r (u.blocks r)
+    pub known : (h : ℕ) → h < gaggles p → Knows (o h) (sent k g h) (u.options h)
 
   -- one stage more
   before_more : (k g : ℕ) → before_stage p (suc k) g ≡ before_stage p k g ++ entries_of (steps_of_gaggle p (stage_number k) g)
@@ -107,7 +107,7 @@ module _ (o : ℕ → List ℕ) (chosen : (g : ℕ) → AreChosen (o g)) (t : Te
       ap (λ m. flat_map f (span 0 m)) e ∙ flat_map-span-suc f 0 k ∙ ap (λ m. flat_map f (span 0 k) ++ f m) z ∙
       ap (λ l. flat_map f (span 0 k) ++ l) (sym (gaggle_entries t.book o p (stage_number k) g))
 
-  gaggle_sent : (k g : ℕ) → k < 5 → g < gaggles p → (u : PlaneState) → Bound k g u →
+  pub gaggle_sent : (k g : ℕ) → k < 5 → g < gaggles p → (u : PlaneState) → Bound k g u →
       Writes (in_turn (item k) (16 * g) (gaggle_size p g) u) (gaggle_reading t.book o p k g) (Bound k (suc g))
   gaggle_sent k g few lt u r =
       let size = gaggle_size p g in
@@ -145,7 +145,7 @@ module _ (o : ℕ → List ℕ) (chosen : (g : ℕ) → AreChosen (o g)) (t : Te
           subst (λ (x : Bool). Knows (o h) (before_stage p (if x then suc k else k) h) (w.options h)) a (z.others h ne small)
 
   -- the first gaggles
-  gaggles_sent : (k n : ℕ) → k < 5 → n ≤ gaggles p → (u : PlaneState) → Bound k 0 u →
+  pub gaggles_sent : (k n : ℕ) → k < 5 → n ≤ gaggles p → (u : PlaneState) → Bound k 0 u →
       Writes (in_turn (item k) 0 (min count (16 * n)) u) (flat_map (gaggle_reading t.book o p k) (span 0 n)) (Bound k n)
   gaggles_sent k zero few le u r =
       let e : 0 ≡ min count (16 * 0) = omega arith in
@@ -167,7 +167,7 @@ module _ (o : ℕ → List ℕ) (chosen : (g : ℕ) → AreChosen (o g)) (t : Te
       (λ w q. subst (λ j. Writes (in_turn (item k) j (gaggle_size p n) w) (f n) (Bound k (suc n))) (sym start)
       (gaggle_sent k n few (omega (arith, le)) w q)))))
 
-  stage_sent : (k : ℕ) → k < 5 → (u : PlaneState) → Bound k 0 u →
+  pub stage_sent : (k : ℕ) → k < 5 → (u : PlaneState) → Bound k 0 u →
       Writes (blocks_script t depths blocks k u) (stage_reading t.book o p k) (Bound (suc k) 0)
   stage_sent k few u r =
       let all : min count (16 * gaggles p) ≡ count = omega arith in
@@ -185,7 +185,7 @@ module _ (o : ℕ → List ℕ) (chosen : (g : ℕ) → AreChosen (o g)) (t : Te
       (gaggles_sent k (gaggles p) few (omega arith) u r))
 
   -- nothing is known before the first stage
-  start : Bound 0 0 nothing_yet
+  pub start : Bound 0 0 nothing_yet
   start = record {
     past = λ q low small. absurd (omega (arith, low));
     left = λ q high small. (

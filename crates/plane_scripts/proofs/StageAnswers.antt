@@ -340,8 +340,12 @@ module _ (o : List ℕ) (chosen : AreChosen o) (t : Terms) (is_sound : is_book_s
       by true f = may_weaker (λ e. StageMay 2 (with_options s x) e × ChildrenMay (with_options s x) e) (λ e. Grows (with_options s x) e × Facts 2 depth s e)
           (children_script t block (with_options s x))
           (λ e z. (z.0.grows, facts_from 2 depth s x e z.0 (λ is deep. z.1) (λ is. absurd (omega (arith, is))))) (children_may (with_options s x))
-      by false f = (λ n y h. h, facts_from 2 depth s x (with_options s x) (nothing_changes 2 (with_options s x)) (λ is deep. absurd (clash (nat_lt b depth) deep f))
-          (λ is. absurd (omega (arith, is))))
+      by false f = (
+        λ n y h. h,
+        facts_from 2 depth s x (with_options s x) (nothing_changes 2 (with_options s x)) (λ is deep. absurd (clash
+            (nat_lt b depth) deep f))
+            (λ is. absurd (omega (arith, is))),
+      )
   facts_may (suc (suc (suc zero))) depth lt s x = by (nat_lt b depth) refl
     where
       by : (y : Bool) → nat_lt b depth ≡ y → May (if not y then done (with_options s x) else grandchildren_script t block (with_options s x))
@@ -349,6 +353,10 @@ module _ (o : List ℕ) (chosen : AreChosen o) (t : Terms) (is_sound : is_book_s
       by true f = may_weaker (λ e. StageMay 3 (with_options s x) e × GrandMay (with_options s x) e) (λ e. Grows (with_options s x) e × Facts 3 depth s e)
           (grandchildren_script t block (with_options s x))
           (λ e z. (z.0.grows, facts_from 3 depth s x e z.0 (λ is. absurd (omega (arith, is))) (λ is deep. z.1))) (grandchildren_may (with_options s x))
-      by false f = (λ n y h. h, facts_from 3 depth s x (with_options s x) (nothing_changes 3 (with_options s x)) (λ is. absurd (omega (arith, is)))
-          (λ is deep. absurd (clash (nat_lt b depth) deep f)))
-  facts_may (suc (suc (suc (suc k)))) depth lt s x = plain (suc (suc (suc (suc k)))) depth lt s x (λ e. absurd (omega (arith, e))) (λ e. absurd (omega (arith, e)))
+      by false f = (
+        λ n y h. h,
+        facts_from 3 depth s x (with_options s x) (nothing_changes 3 (with_options s x)) (λ is. absurd (omega (arith, is)))
+            (λ is deep. absurd (clash (nat_lt b depth) deep f)),
+      )
+  facts_may (suc (suc (suc (suc k)))) depth lt s x = plain (suc (suc (suc (suc k)))) depth lt s x (λ e. absurd (omega (arith, e))) (λ e. absurd (omega
+      (arith, e)))
