@@ -16,6 +16,7 @@ use Rattle.plane_defs.specs.Laws.{IsMultiple}
 use Rattle.plane_defs.proofs.Equations.{newly_significant-is, type_due-is, refined-is}
 use Rattle.item_scripts.specs.Following.{Follows}
 use Rattle.item_scripts.specs.Completing.{ArePossible}
+use Rattle.plane_scripts.proofs.StageGoes.{no_clash}
 use Rattle.plane_scripts.specs.Written.{AreChosen}
 use Rattle.plane_scripts.specs.States.{State}
 use Rattle.plane_scripts.specs.Stages.{Terms, stage_script}
@@ -24,7 +25,6 @@ use Rattle.plane_scripts.proofs.PlacesSent.{At}
 use Rattle.plane_scripts.proofs.BlockSent as sent
 use Rattle.plane_scripts.proofs.WordsBack.{Later}
 use Rattle.plane_scripts.proofs.QuadsBack as quads
-use Rattle.plane_scripts.proofs.QuadsBack.{clash}
 use Rattle.plane_scripts.proofs.StageAnswers as answers
 use Rattle.plane_scripts.proofs.StageAnswers.{lowest}
 use Rattle.plane_scripts.proofs.FamiliesTrue as families
@@ -135,7 +135,7 @@ module _ (o : List ℕ) (chosen : AreChosen o) (t : Terms) (is_sound : is_book_s
             ap (λ x. newly q || (x && bit (magnitude v q) b)) old ∙ or-false (newly q)
         by q from to false d =
             let ac : IsAc q = (omega (arith, low, from), omega (arith, high, to)) in
-            f.keeps.bits q ac (λ x y is. clash (due q) is d) (λ four old. absurd (not_last four)) ∙
+            f.keeps.bits q ac (λ x y is. no_clash (due q) is d) (λ four old. absurd (not_last four)) ∙
             (quads.unread o chosen t is_sound block v same whole a m families dc before s few r q ac.0 ac.1 from).0 ∙
             sym (none_new q (sym (places.type_is o chosen t block v same whole q ac) ∙ d))
 

@@ -21,11 +21,12 @@ use Rattle.item_scripts.specs.Following.{Follows}
 use Rattle.item_scripts.specs.Completing.{ArePossible}
 use Rattle.item_scripts.proofs.FollowLaws.{asked, follows_split}
 use Rattle.item_scripts.proofs.Completing.{possible_parts}
+use Rattle.std.proofs.lemmas.Bool.{or_right}
 use Rattle.plane_scripts.specs.Written.{AreChosen}
 use Rattle.plane_scripts.specs.States.{State, with_families}
 use Rattle.plane_scripts.specs.Words.{due_script, group_script}
 use Rattle.plane_scripts.specs.Stages.{Terms, above, is_due, flag_script, descendants_script, children_script}
-use Rattle.plane_scripts.proofs.FlagCore.{family_at}
+use Rattle.plane_scripts.proofs.SomePlaces.{family_at}
 use Rattle.plane_scripts.proofs.StageGoes.{any_all, family_any, due_parts, families_due}
 use Rattle.plane_scripts.proofs.PlacesSent as places
 use Rattle.plane_scripts.proofs.PlacesSent.{At}
@@ -38,7 +39,7 @@ use Rattle.plane_scripts.proofs.WordsBack.{Later, done_none}
 use Rattle.plane_scripts.proofs.TypesBack.{Fresh}
 use Rattle.plane_scripts.proofs.GroupsBack.{later_on, GroupsMay, groups_may, groups_back}
 use Rattle.plane_scripts.proofs.QuadsBack as quads
-use Rattle.plane_scripts.proofs.QuadsBack.{clash, same_truth, here_due}
+use Rattle.plane_scripts.proofs.QuadsBack.{same_truth, here_due}
 
 -- the flag of a set that no other encloses
 pub record FlagMay (is_live was all : Bool) : Type 0 where
@@ -218,7 +219,7 @@ module _ (o : List ℕ) (chosen : AreChosen o) (t : Terms) (is_sound : is_book_s
               let w = d.some (ap some_one_where want)
               (subst (λ x. list_any (λ i. is_due t block (Family i) x) (span 0 3) ≡ true) (sym e) (families_due t is_sound block a (flag.new e a))) in
               let here = here_due (due all) 3 w.0 w.1 in
-              family_in w.0 here.0 (sym (fam w.0 here.0) ∙ quads.or_second (above t block (Family w.0)) (g.1 w.0) w.2)
+              family_in w.0 here.0 (sym (fam w.0 here.0) ∙ or_right (above t block (Family w.0)) (g.1 w.0) w.2)
 
           by_cases : (x y : Bool) → (x || y) ≡ true → (x ≡ true) ⊎ (y ≡ true)
           by_cases true y e = inl refl

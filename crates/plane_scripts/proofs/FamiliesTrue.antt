@@ -12,15 +12,20 @@ use Rattle.plane_defs.specs.StepLaws.{IsAc, SameAc}
 use Rattle.plane_defs.specs.Laws.{IsMultiple}
 use Rattle.plane_defs.proofs.Equations.{set_significant-is, newly_significant-is, type_due-is, refined-is, enclosing-grandchildren}
 use Rattle.plane_defs.proofs.Determined.{enclosed, still_significant, list_any-span-here}
+use Rattle.std.proofs.lemmas.Bool.{or_parts}
+use Rattle.std.proofs.lemmas.Bool.{or_right}
+use Rattle.plane_scripts.proofs.StageGoes.{false_of}
+use Rattle.plane_scripts.proofs.StageGoes.{no_clash}
+use Rattle.plane_scripts.proofs.StageGoes.{either}
 use Rattle.plane_scripts.specs.Written.{has, AreChosen}
 use Rattle.plane_scripts.specs.States.{State}
 use Rattle.plane_scripts.specs.Stages.{Terms, above, is_childless}
 use Rattle.plane_scripts.proofs.StageGoes.{some_place}
 use Rattle.plane_scripts.proofs.PlacesSent as places
 use Rattle.plane_scripts.proofs.PlacesSent.{has_span}
-use Rattle.plane_scripts.proofs.GroupsBack.{not_true, group}
+use Rattle.plane_scripts.proofs.GroupsBack.{group}
 use Rattle.plane_scripts.proofs.QuadsBack as quads
-use Rattle.plane_scripts.proofs.QuadsBack.{clash, same_truth, in_span}
+use Rattle.plane_scripts.proofs.QuadsBack.{same_truth, in_span}
 use Rattle.plane_scripts.proofs.StageAnswers as answers
 
 module _ (o : List ℕ) (chosen : AreChosen o) (t : Terms) (is_sound : is_book_sound t.book ≡ true) (block v : List ℤ) (same : SameAc block v (t.plane + 1))
@@ -98,7 +103,7 @@ module _ (o : List ℕ) (chosen : AreChosen o) (t : Terms) (is_sound : is_book_s
         let k = in_span (16 + 16 * i) 16 q inside in
         let place : 16 + 16 * i + (q - (16 + 16 * i)) ≡ q = omega (arith, k.0) in
         set_significant-is v b (Family i) ∙ list_any-append (significant v b) (span (4 + 4 * i) 4) (span (16 + 16 * i) 16) ∙
-        quads.or_second (list_any (significant v b) (span (4 + 4 * i) 4)) _
+        or_right (list_any (significant v b) (span (4 + 4 * i) 4)) _
         (list_any-span-here (significant v b) (16 + 16 * i) 16 (q - (16 + 16 * i)) (omega (arith, k.0, k.1)) (ap (significant v b) place ∙ e))
 
     place_of_child : (i q : ℕ) → i < 3 → has (group 4 i) q ≡ true → (4 ≤ q) × (q < 16)
@@ -113,8 +118,8 @@ module _ (o : List ℕ) (chosen : AreChosen o) (t : Terms) (is_sound : is_book_s
         places.flag_all o chosen t block v same whole (Family i) lt)
 
     above_grand : (i : ℕ) → i < 3 → above t block (Family i) ≡ false → above t block (Grandchildren i) ≡ false
-    above_grand i lt e = not_true (above t block (Grandchildren i)) (λ h.
-        clash (above t block (Family i)) (sym (enclosing-grandchildren block (b + 1) i) ∙ enclosed block (b + 1) (Grandchildren i) lt h) e)
+    above_grand i lt e = false_of (above t block (Grandchildren i)) (λ h.
+        no_clash (above t block (Family i)) (sym (enclosing-grandchildren block (b + 1) i) ∙ enclosed block (b + 1) (Grandchildren i) lt h) e)
 
     -- a family that was read is significant
     read_true : (i : ℕ) → i < 3 → end.families i ≡ true → sets i ≡ true
@@ -130,10 +135,6 @@ module _ (o : List ℕ) (chosen : AreChosen o) (t : Terms) (is_sound : is_book_s
             member i w.0 lt (bit_significant w.0 (omega (arith, k.0), omega (arith, k.1)) (third.more w.0 (second.more w.0 w.2))) (inl w.1)
         by false old (inr (inr is_live)) = of_test (list_any (λ p. significant block (b + 1) p || children.bits p) (span (children_of i) 4)) refl
           where
-            either : (a c : Bool) → (a || c) ≡ true → (a ≡ true) ⊎ (c ≡ true)
-            either true c e = inl refl
-            either false c e = inr e
-
             of_test : (x : Bool) → list_any (λ p. significant block (b + 1) p || children.bits p) (span (children_of i) 4) ≡ x → sets i ≡ true
             of_test true f =
                 let w = some_place (λ p. significant block (b + 1) p || children.bits p) (children_of i) 4 f in
@@ -168,7 +169,7 @@ module _ (o : List ℕ) (chosen : AreChosen o) (t : Terms) (is_sound : is_book_s
             let is_due = new_due q ac new in
             let stays : end.bits q ≡ children.bits q = third.bits q ac (λ low high d. absurd (omega (arith, low, k.1))) (λ four old. old_not_due q is_due old) ∙
             second.bits q ac (λ low high d. absurd (omega (arith, low, k.1))) (λ three old. old_not_due q is_due old) in
-            clash (end.bits q) (agrees q ac ∙ ap (λ x. x || (refined v W b q && bit (magnitude v q) b)) new) (stays ∙
+            no_clash (end.bits q) (agrees q ac ∙ ap (λ x. x || (refined v W b q && bit (magnitude v q) b)) new) (stays ∙
             of_children.none i lt none q inside ∙ fresh q ac k.0)
 
         no_grand : (q : ℕ) → children.families i ≡ false → above t block (Grandchildren i) ≡ false → has (sixteen i) q ≡ true → newly q ≡ true → ⊥
@@ -179,24 +180,16 @@ module _ (o : List ℕ) (chosen : AreChosen o) (t : Terms) (is_sound : is_book_s
             let stays : end.bits q ≡ grand.bits q = third.bits q ac (λ low high d. absurd (omega (arith, low, k.1))) (λ four old. old_not_due q is_due old) in
             let earlier : children.bits q ≡ before.bits q = first.bits q ac (λ low high d. absurd (omega (arith, high, k.0)))
             (λ two old. old_not_due q is_due old) in
-            clash (end.bits q) (agrees q ac ∙ ap (λ x. x || (refined v W b q && bit (magnitude v q) b)) new)
+            no_clash (end.bits q) (agrees q ac ∙ ap (λ x. x || (refined v W b q && bit (magnitude v q) b)) new)
             (stays ∙ of_grand.none i lt none old q inside ∙ earlier ∙ fresh q ac (omega (arith, k.0)))
-
-        either : (a c : Bool) → (a || c) ≡ true → (a ≡ true) ⊎ (c ≡ true)
-        either true c e = inl refl
-        either false c e = inr e
-
-        parts : (a c : Bool) → (a || c) ≡ false → (a ≡ false) × (c ≡ false)
-        parts true c e = cc
-        parts false c e = (refl, e)
 
         by : (x : Bool) → above t block (Family i) ≡ x → (y : Bool) → end.families i ≡ y → y ≡ true
         by x old true f = refl
-        by true old false f = absurd (clash (end.families i) (kept_families i ∙ of_children.was i lt old) f)
+        by true old false f = absurd (no_clash (end.families i) (kept_families i ∙ of_children.was i lt old) f)
         by false old false f =
             let none : children.families i ≡ false = sym (kept_families i) ∙ f in
             let none_above : set_significant v (b + 1) (Family i) ≡ false = sym (places.above_is o chosen t block v same whole (Family i) lt) ∙ old in
-            let split = parts _ _ (sym (list_any-append (significant v (b + 1)) (span (4 + 4 * i) 4) (span (16 + 16 * i) 16)) ∙
+            let split = or_parts _ _ (sym (list_any-append (significant v (b + 1)) (span (4 + 4 * i) 4) (span (16 + 16 * i) 16)) ∙
             sym (set_significant-is v (b + 1) (Family i)) ∙ none_above) in
             elim (either _ _ (sym (list_any-append (significant v b) (span (4 + 4 * i) 4) (span (16 + 16 * i) 16)) ∙
             sym (set_significant-is v b (Family i)) ∙ e)) [

@@ -18,6 +18,7 @@ use Rattle.item_scripts.specs.Following.{Follows}
 use Rattle.item_scripts.specs.Completing.{ArePossible}
 use Rattle.item_scripts.proofs.FollowLaws.{follows_split, follows_one}
 use Rattle.item_scripts.proofs.Completing.{possible_parts}
+use Rattle.plane_scripts.proofs.StageGoes.{false_of, no_clash}
 use Rattle.plane_scripts.specs.Written.{has, Knows, AreChosen}
 use Rattle.plane_scripts.specs.States.{State}
 use Rattle.plane_scripts.specs.Words.{types_script, group_script}
@@ -29,10 +30,6 @@ use Rattle.plane_scripts.proofs.Answers.{May, may_in_turn, may_weaker, may_end}
 use Rattle.plane_scripts.proofs.WordAnswers.{Grows}
 use Rattle.plane_scripts.proofs.WordsBack.{differ_span, done_none, Later}
 use Rattle.plane_scripts.proofs.TypesBack.{TypesMay, types_may, Fresh, types_back}
-
-pub not_true : (x : Bool) → (x ≡ true → ⊥) → x ≡ false
-not_true true h = absurd (h refl)
-not_true false h = refl
 
 pub later_on : (o : List ℕ) (s e : State) → Grows s e → Later o e.options → Later o s.options
 later_on o s e grows later n x low high is = later n x low high (grows n x is)
@@ -98,8 +95,8 @@ groups_may book due first sent wanted a n s =
     one i u low p true e = may_weaker (TypesMay due (wanted i) (group first i) u) (GroupsMay due first sent wanted a (suc i) s)
         (types_script book due (wanted i) (group first i) u) (λ v w. record {
           grows = λ k x h. w.grows k x (p.grows k x h);
-          bits = λ q none. w.bits q (not_true (has (group first i) q) (none i low (omega arith) e)) ∙ p.bits q (λ j from to. none j from (omega (arith, to)));
-          minus = λ q none. w.minus q (not_true (has (group first i) q) (none i low (omega arith) e)) ∙
+          bits = λ q none. w.bits q (false_of (has (group first i) q) (none i low (omega arith) e)) ∙ p.bits q (λ j from to. none j from (omega (arith, to)));
+          minus = λ q none. w.minus q (false_of (has (group first i) q) (none i low (omega arith) e)) ∙
               p.minus q (λ j from to. none j from (omega (arith, to)));
           quiet = λ q none. w.quiet q none ∙ p.quiet q none;
           more = λ q h. w.more q (p.more q h);
@@ -120,13 +117,9 @@ groups_may book due first sent wanted a n s =
       families = p.families;
       some = λ j from to is want list. elim (cases_lt j i) [
         | inl lt ↦ p.some j from lt is want list
-        | inr ge ↦ (let same : j ≡ i = omega (arith, to, ge) in absurd (clash (sent j) is (ap sent same ∙ e)))
+        | inr ge ↦ (let same : j ≡ i = omega (arith, to, ge) in absurd (no_clash (sent j) is (ap sent same ∙ e)))
       ];
     }
-      where
-        clash : (x : Bool) → x ≡ true → x ≡ false → ⊥
-        clash true e f = cc
-        clash false e f = cc
 
 -- ---- back
 
@@ -193,12 +186,8 @@ module _ (book : Book) (o : List ℕ) (chosen : AreChosen o) where
           subst (λ l. Backs before (flat_map steps l) items e) (span-first j n)
           (backs_then before (steps j) (flat_map steps (span (suc j) n)) items w.first w.rest e w.both head.0 rest)
         where
-          clash : (x : Bool) → x ≡ true → x ≡ false → ⊥
-          clash true e f = cc
-          clash false e f = cc
-
           alone : (q i : ℕ) → suc j ≤ i → has (group first j) q ≡ true → has (group first i) q ≡ true → ⊥
-          alone q i low inside there = clash (has (group first i) q) there (apart first j i q (λ z. absurd (omega (arith, low, z))) inside)
+          alone q i low inside there = no_clash (has (group first i) q) there (apart first j i q (λ z. absurd (omega (arith, low, z))) inside)
 
           one : (j : ℕ) → sent j ≡ in_v j → wanted j ≡ new j → filter due (group first j) ≡ filter (type_due v weights plane) (group first j) →
               (before : List Entry)

@@ -1,5 +1,5 @@
 mod WorkedRead
-pub mod FlagCore
+pub mod SomePlaces
 pub mod WordGoes
 pub mod StageGoes
 pub mod PlaneGoes

@@ -25,6 +25,9 @@ use Rattle.item_scripts.specs.Following.{Follows}
 use Rattle.item_scripts.specs.Completing.{ArePossible}
 use Rattle.item_scripts.proofs.FollowLaws.{follows_split, follows_one}
 use Rattle.item_scripts.proofs.Completing.{possible_parts}
+use Rattle.std.proofs.lemmas.Bool.{or_right}
+use Rattle.plane_scripts.proofs.StageGoes.{no_clash}
+use Rattle.plane_scripts.proofs.WordGoes.{both}
 use Rattle.plane_scripts.specs.Written.{has, Knows, AreChosen}
 use Rattle.plane_scripts.specs.States.{State}
 use Rattle.plane_scripts.specs.Words.{due_script, group_script}
@@ -43,23 +46,10 @@ use Rattle.plane_scripts.proofs.WordsBack.{Later, differ_span}
 use Rattle.plane_scripts.proofs.TypesBack.{Fresh, due_back}
 use Rattle.plane_scripts.proofs.GroupsBack.{later_on, group, apart, GroupsMay, groups_may, groups_back}
 
-both : (a b : Bool) → (a && b) ≡ true → (a ≡ true) × (b ≡ true)
-both true true e = (refl, refl)
-both true false e = cc
-both false b e = cc
-
-pub clash : (x : Bool) → x ≡ true → x ≡ false → ⊥
-clash true e f = cc
-clash false e f = cc
-
 pub same_truth : (x y : Bool) → (x ≡ true → y ≡ true) → (y ≡ true → x ≡ true) → x ≡ y
 same_truth true y h k = sym (h refl)
 same_truth false true h k = k refl
 same_truth false false h k = refl
-
-pub or_second : (x y : Bool) → y ≡ true → (x || y) ≡ true
-or_second true y e = refl
-or_second false y e = e
 
 pub in_span : (a c q : ℕ) → has (span a c) q ≡ true → (a ≤ q) × (q < a + c)
 in_span a c q e =
@@ -140,7 +130,7 @@ module _ (o : List ℕ) (chosen : AreChosen o) (t : Terms) (is_sound : is_book_s
     where
       sent : (x : Bool) {y : Bool} → (x ≡ false → y ≡ false) → y ≡ true → x ≡ true
       sent true h e = refl
-      sent false {y} h e = absurd (clash y e (h refl))
+      sent false {y} h e = absurd (no_clash y e (h refl))
 
   -- ---- a word of flags
 
@@ -201,15 +191,15 @@ module _ (o : List ℕ) (chosen : AreChosen o) (t : Terms) (is_sound : is_book_s
       (in_turn (group_script t.book (type_due block W b) (quad_of i 0) (λ j. above t block (Quad i j) || r.1 j) r.1) 0 4 r.0)
       (λ e m. record {
         grows = λ n x h. m.grows n x (d.grows n x h);
-        bits = λ q none. m.bits q (λ j low high sent inside. clash (has (sixteen i) q) (quad_inside i j q high inside) none) ∙ (λ k. (d.rest k).bits q);
-        minus = λ q none. m.minus q (λ j low high sent inside. clash (has (sixteen i) q) (quad_inside i j q high inside) none) ∙ (λ k. (d.rest k).minus q);
+        bits = λ q none. m.bits q (λ j low high sent inside. no_clash (has (sixteen i) q) (quad_inside i j q high inside) none) ∙ (λ k. (d.rest k).bits q);
+        minus = λ q none. m.minus q (λ j low high sent inside. no_clash (has (sixteen i) q) (quad_inside i j q high inside) none) ∙ (λ k. (d.rest k).minus q);
         quiet = λ q none. m.quiet q none ∙ (λ k. (d.rest k).bits q);
         more = λ q h. m.more q ((λ k. (d.rest k).bits q) ∙ h);
         families = λ k. m.families k ∙ (λ x. (d.rest x).families k);
         some = λ enclosing want is.
             let w = d.some (ap some_one_where want) (quads_due t is_sound block i enclosing is) in
             let here = here_due due 4 w.0 w.1 in
-            let z = m.some w.0 (omega arith) here.0 (or_second (above t block (Quad i w.0)) (r.1 w.0) w.2) w.2
+            let z = m.some w.0 (omega arith) here.0 (or_right (above t block (Quad i w.0)) (r.1 w.0) w.2) w.2
             (grandchildren_due t is_sound block i w.0 here.1) in
             (z.0, quad_inside i w.0 z.0 here.0 z.1, z.2);
       })
@@ -285,7 +275,7 @@ module _ (o : List ℕ) (chosen : AreChosen o) (t : Terms) (is_sound : is_book_s
         where
           there : g.1 j ≡ true → set_significant v b (Quad i j) ≡ true
           there e1 =
-              let x = z.some j (omega arith) (omega (arith, small)) (or_second (above t block (Quad i j)) (g.1 j) e1) e1
+              let x = z.some j (omega arith) (omega (arith, small)) (or_right (above t block (Quad i j)) (g.1 j) e1) e1
               (grandchildren_due t is_sound block i j is_due_j) in
               let k = in_span (quad_of i 0 + 4 * j) 4 x.0 x.1 in
               let q : quad_of i j + (x.0 - quad_of i j) ≡ x.0 = omega (arith, k.0) in
@@ -310,7 +300,7 @@ module _ (o : List ℕ) (chosen : AreChosen o) (t : Terms) (is_sound : is_book_s
                   let kept : e.bits q ≡ g.0.bits q = z.bits q (λ k from to is_sent there. other k q inside there is_sent (ap (λ x. x || g.1 j) old ∙ e2)) in
                   let empty : s.bits q ≡ false = (unread (16 + 16 * i) m families dc before s few r q (omega (arith, low)) (omega (arith, high, lt))
                   (omega (arith, low))).0 in
-                  absurd (clash (newly q) new_q (sym (agrees.bits q (omega (arith, low)) high) ∙ kept ∙ (λ k. (d.rest k).bits q) ∙ empty))
+                  absurd (no_clash (newly q) new_q (sym (agrees.bits q (omega (arith, low)) high) ∙ kept ∙ (λ k. (d.rest k).bits q) ∙ empty))
                 where
                   tests : quad_of i 0 + 4 * j ≤ q → q < quad_of i 0 + 4 * j + 4 → (nat_le (quad_of i 0 + 4 * j) q && nat_lt q (quad_of i 0 + 4 * j + 4)) ≡ true
                   tests low high = grind (arith, nat_tests)
@@ -319,6 +309,6 @@ module _ (o : List ℕ) (chosen : AreChosen o) (t : Terms) (is_sound : is_book_s
                   other k q inside there is_sent not_sent = by_place (k == j) refl
                     where
                       by_place : (x : Bool) → (k == j) ≡ x → ⊥
-                      by_place true f = let one : k ≡ j = grind (arith, nat_tests) in clash (sent g j) (ap (sent g) (sym one) ∙ is_sent) not_sent
-                      by_place false f = let ne : j ≡ k → ⊥ = grind (arith, nat_tests) in clash (has (group (quad_of i 0) k) q) there (apart
+                      by_place true f = let one : k ≡ j = grind (arith, nat_tests) in no_clash (sent g j) (ap (sent g) (sym one) ∙ is_sent) not_sent
+                      by_place false f = let ne : j ≡ k → ⊥ = grind (arith, nat_tests) in no_clash (has (group (quad_of i 0) k) q) there (apart
                           (quad_of i 0) j k q ne inside)

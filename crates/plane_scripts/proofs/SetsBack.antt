@@ -20,6 +20,9 @@ use Rattle.item_scripts.specs.Following.{Follows}
 use Rattle.item_scripts.specs.Completing.{ArePossible}
 use Rattle.item_scripts.proofs.FollowLaws.{follows_split, follows_one}
 use Rattle.item_scripts.proofs.Completing.{possible_parts}
+use Rattle.std.proofs.lemmas.Bool.{or_right}
+use Rattle.plane_scripts.proofs.StageGoes.{false_of}
+use Rattle.plane_scripts.proofs.StageGoes.{no_clash}
 use Rattle.plane_scripts.specs.Written.{has, AreChosen}
 use Rattle.plane_scripts.specs.States.{State}
 use Rattle.plane_scripts.specs.Words.{due_script}
@@ -32,9 +35,9 @@ use Rattle.plane_scripts.proofs.Sending.{flat_map_filter, read_append, span-firs
 use Rattle.plane_scripts.proofs.Answers.{May, may_in_turn, may_weaker, may_end}
 use Rattle.plane_scripts.proofs.WordAnswers.{Grows, DueMay, due_may}
 use Rattle.plane_scripts.proofs.WordsBack.{Later, done_none}
-use Rattle.plane_scripts.proofs.GroupsBack.{not_true, later_on}
+use Rattle.plane_scripts.proofs.GroupsBack.{later_on}
 use Rattle.plane_scripts.proofs.QuadsBack as quads
-use Rattle.plane_scripts.proofs.QuadsBack.{clash, same_truth, or_second, in_span, here_due}
+use Rattle.plane_scripts.proofs.QuadsBack.{same_truth, in_span, here_due}
 
 module _ (o : List ℕ) (chosen : AreChosen o) (t : Terms) (is_sound : is_book_sound t.book ≡ true) (block v : List ℤ) (same : SameAc block v (t.plane + 1))
     (whole : IsMultiple v t.weights) where
@@ -104,8 +107,8 @@ module _ (o : List ℕ) (chosen : AreChosen o) (t : Terms) (is_sound : is_book_s
         one i u low p true e = may_weaker (quads.QuadsMay o chosen t is_sound block v same whole i (new i) u) (SixteensMay a (suc i) s)
             (quads_script t block i (new i) u) (λ z w. record {
               grows = λ k x h. w.grows k x (p.grows k x h);
-              bits = λ q none. w.bits q (not_true (has (sixteen i) q) (none i low (omega arith) e)) ∙ p.bits q (λ j from to. none j from (omega (arith, to)));
-              minus = λ q none. w.minus q (not_true (has (sixteen i) q) (none i low (omega arith) e)) ∙
+              bits = λ q none. w.bits q (false_of (has (sixteen i) q) (none i low (omega arith) e)) ∙ p.bits q (λ j from to. none j from (omega (arith, to)));
+              minus = λ q none. w.minus q (false_of (has (sixteen i) q) (none i low (omega arith) e)) ∙
                   p.minus q (λ j from to. none j from (omega (arith, to)));
               quiet = λ q none. w.quiet q none ∙ p.quiet q none;
               more = λ q h. w.more q (p.more q h);
@@ -126,7 +129,7 @@ module _ (o : List ℕ) (chosen : AreChosen o) (t : Terms) (is_sound : is_book_s
           families = p.families;
           some = λ j from to is want enclosing due. elim (cases_lt j i) [
             | inl lt ↦ p.some j from lt is want enclosing due
-            | inr ge ↦ (let one : j ≡ i = omega (arith, to, ge) in absurd (clash (sent j) is (ap sent one ∙ e)))
+            | inr ge ↦ (let one : j ≡ i = omega (arith, to, ge) in absurd (no_clash (sent j) is (ap sent one ∙ e)))
           ];
         }
 
@@ -219,7 +222,7 @@ module _ (o : List ℕ) (chosen : AreChosen o) (t : Terms) (is_sound : is_book_s
         where
           there : g.1 i ≡ true → set_significant v b (Grandchildren i) ≡ true
           there e1 =
-              let x = z.some i (omega arith) lt (or_second (above t block (Grandchildren i)) (g.1 i) e1) e1 (s.families i) is_due_i in
+              let x = z.some i (omega arith) lt (or_right (above t block (Grandchildren i)) (g.1 i) e1) e1 (s.families i) is_due_i in
               let k = in_span (16 + 16 * i) 16 x.0 x.1 in
               let q : 16 + 16 * i + (x.0 - (16 + 16 * i)) ≡ x.0 = omega (arith, k.0) in
               let sig : significant v b (16 + 16 * i + (x.0 - (16 + 16 * i))) ≡ true = ap (significant v b) q ∙
@@ -245,7 +248,8 @@ module _ (o : List ℕ) (chosen : AreChosen o) (t : Terms) (is_sound : is_book_s
                   let empty : s.bits q ≡ false =
                   (quads.unread o chosen t is_sound block v same whole 16 m sets dc before s few r q (omega (arith, low)) (omega (arith, high, lt)) (omega
                   (arith, low))).0 in
-                  absurd (clash (newly q) new_q (sym (agrees.bits q (omega (arith, low)) (omega (arith, high, lt))) ∙ kept ∙ (λ k. (d.rest k).bits q) ∙ empty))
+                  absurd (no_clash (newly q) new_q (sym (agrees.bits q (omega (arith, low)) (omega (arith, high, lt))) ∙ kept ∙ (λ k. (d.rest k).bits q) ∙
+                      empty))
                 where
                   tests : 16 + 16 * i ≤ q → q < 16 + 16 * i + 16 → (nat_le (16 + 16 * i) q && nat_lt q (16 + 16 * i + 16)) ≡ true
                   tests low high = grind (arith, nat_tests)
@@ -254,5 +258,5 @@ module _ (o : List ℕ) (chosen : AreChosen o) (t : Terms) (is_sound : is_book_s
                   other k inside there is_sent not_sent = by_place (k == i) refl
                     where
                       by_place : (x : Bool) → (k == i) ≡ x → ⊥
-                      by_place true f = let one : k ≡ i = grind (arith, nat_tests) in clash (sent g i) (ap (sent g) (sym one) ∙ is_sent) not_sent
-                      by_place false f = let ne : i ≡ k → ⊥ = grind (arith, nat_tests) in clash (has (sixteen k) q) there (sixteens_apart i k q ne inside)
+                      by_place true f = let one : k ≡ i = grind (arith, nat_tests) in no_clash (sent g i) (ap (sent g) (sym one) ∙ is_sent) not_sent
+                      by_place false f = let ne : i ≡ k → ⊥ = grind (arith, nat_tests) in no_clash (has (sixteen k) q) there (sixteens_apart i k q ne inside)

@@ -10,6 +10,11 @@ use Rattle.plane_defs.specs.Steps.{Check, ones_at, some_one_where}
 use Rattle.plane_defs.specs.StepLaws.{IsAc, SameAc}
 use Rattle.plane_defs.specs.Laws.{IsMultiple}
 use Rattle.item_scripts.specs.Scripts.{Script, done, in_turn}
+use Rattle.std.proofs.lemmas.Bool.{or_right}
+use Rattle.plane_scripts.proofs.StageGoes.{false_of}
+use Rattle.plane_scripts.proofs.StageGoes.{no_clash}
+use Rattle.plane_scripts.proofs.StageGoes.{either}
+use Rattle.plane_scripts.proofs.WordGoes.{both}
 use Rattle.plane_scripts.specs.Written.{has, AreChosen}
 use Rattle.plane_scripts.specs.States.{State, with_options, with_families}
 use Rattle.plane_scripts.specs.Words.{due_script, group_script}
@@ -18,8 +23,8 @@ use Rattle.plane_scripts.proofs.StageGoes.{children_due}
 use Rattle.plane_scripts.proofs.Answers.{May, may_then, may_in_turn, may_weaker}
 use Rattle.plane_scripts.proofs.WordAnswers.{Grows, DueMay, due_may}
 use Rattle.plane_scripts.proofs.TypesBack.{TypesMay, types_may}
-use Rattle.plane_scripts.proofs.GroupsBack.{not_true, group, apart, GroupsMay, groups_may}
-use Rattle.plane_scripts.proofs.QuadsBack.{clash, or_second, in_span, due_here, here_due}
+use Rattle.plane_scripts.proofs.GroupsBack.{group, apart, GroupsMay, groups_may}
+use Rattle.plane_scripts.proofs.QuadsBack.{in_span, due_here, here_due}
 use Rattle.plane_scripts.proofs.SetsBack as sets
 use Rattle.plane_scripts.proofs.ChildrenBack.{FlagMay, flag_may}
 
@@ -36,15 +41,6 @@ highest zero = 64
 highest (suc zero) = 4
 highest (suc (suc zero)) = 16
 highest (suc (suc (suc k))) = 64
-
-either : (a c : Bool) → (a || c) ≡ true → (a ≡ true) ⊎ (c ≡ true)
-either true c e = inl refl
-either false c e = inr e
-
-both : (a b : Bool) → (a && b) ≡ true → (a ≡ true) × (b ≡ true)
-both true true e = (refl, refl)
-both true false e = cc
-both false b e = cc
 
 module _ (o : List ℕ) (chosen : AreChosen o) (t : Terms) (is_sound : is_book_sound t.book ≡ true) (block v : List ℤ) (same : SameAc block v (t.plane + 1))
     (whole : IsMultiple v t.weights) where
@@ -101,14 +97,14 @@ module _ (o : List ℕ) (chosen : AreChosen o) (t : Terms) (is_sound : is_book_s
       may_weaker (TypesMay due false (span 1 3) s) (StageMay 1 s) (parents_script t block s) (λ e z. record {
         grows = z.grows;
         bits = λ q ac out old. by q out z (due q) refl;
-        minus = λ q ac out. z.minus q (not_true (has (span 1 3) q) (λ h. (let k = in_span 1 3 q h in out k.0 k.1)));
-        low = λ ne. z.bits 0 (not_true (has (span 1 3) 0) (λ h. (let k = (in_span 1 3 0 h).0 in absurd (omega (arith, k)))));
+        minus = λ q ac out. z.minus q (false_of (has (span 1 3) q) (λ h. (let k = in_span 1 3 q h in out k.0 k.1)));
+        low = λ ne. z.bits 0 (false_of (has (span 1 3) 0) (λ h. (let k = (in_span 1 3 0 h).0 in absurd (omega (arith, k)))));
         more = z.more;
         families = λ ne i. λ k. z.families k i;
       }) (types_may t.book due false (span 1 3) s)
     where
       by : (q : ℕ) → (1 ≤ q → q < 4 → due q ≡ true → ⊥) → {e : State} → TypesMay due false (span 1 3) s e → (x : Bool) → due q ≡ x → e.bits q ≡ s.bits q
-      by q out z true g = z.bits q (not_true (has (span 1 3) q) (λ h. (let k = in_span 1 3 q h in out k.0 k.1 g)))
+      by q out z true g = z.bits q (false_of (has (span 1 3) q) (λ h. (let k = in_span 1 3 q h in out k.0 k.1 g)))
       by q out z false g = z.quiet q g
 
   refine_may : (s : State) → May (refinement_script t block s) (StageMay 4 s)
@@ -194,8 +190,8 @@ module _ (o : List ℕ) (chosen : AreChosen o) (t : Terms) (is_sound : is_book_s
 
       alone : (g : State × (ℕ → Bool)) (i j q : ℕ) → has (group 4 i) q ≡ true → has (group 4 j) q ≡ true → sent g j ≡ true → sent g i ≡ false →
           (x : Bool) → (j == i) ≡ x → ⊥
-      alone g i j q inside there is not_sent true e = let one : j ≡ i = grind (arith, nat_tests) in clash (sent g i) (ap (sent g) (sym one) ∙ is) not_sent
-      alone g i j q inside there is not_sent false e = let ne : i ≡ j → ⊥ = grind (arith, nat_tests) in clash (has (group 4 j) q) there
+      alone g i j q inside there is not_sent true e = let one : j ≡ i = grind (arith, nat_tests) in no_clash (sent g i) (ap (sent g) (sym one) ∙ is) not_sent
+      alone g i j q inside there is not_sent false e = let ne : i ≡ j → ⊥ = grind (arith, nat_tests) in no_clash (has (group 4 j) q) there
           (apart 4 i j q ne inside)
 
       parts : (all : Bool) (g : State × (ℕ → Bool)) (u : State) → GroupsMay due 4 (sent g) (wanted g) 0 (0 + 3) g.0 u →
@@ -238,7 +234,7 @@ module _ (o : List ℕ) (chosen : AreChosen o) (t : Terms) (is_sound : is_book_s
               let is_set : set i ≡ true = ap (λ x. x && (not (above t block (Grandchildren i)) && live W b (Grandchildren i))) family ∙
               ap (λ x. not x && live W b (Grandchildren i)) old ∙ is_live in
               let new : g.1 i ≡ true = d.each (is_childless t block s) refl i (due_here set 3 i lt is_set) childless in
-              z.some i (omega arith) lt (or_second (above t block (Grandchildren i)) (g.1 i) new) new (s.families i) is_set;
+              z.some i (omega arith) lt (or_right (above t block (Grandchildren i)) (g.1 i) new) new (s.families i) is_set;
         },
       ))
       (sets.sixteens_may o chosen t is_sound block v same whole (sent g) g.1 0 3 g.0))
@@ -267,12 +263,12 @@ module _ (o : List ℕ) (chosen : AreChosen o) (t : Terms) (is_sound : is_book_s
       alone g d i j q lt inside there is f old true e =
           let one : j ≡ i = grind (arith, nat_tests) in
           elim (either (above t block (Grandchildren i)) (g.1 i) (ap (sent g) (sym one) ∙ is)) [
-            | inl a ↦ clash (above t block (Grandchildren i)) a old
-            | inr a ↦ clash (s.families i) (both (s.families i) _ (here_due set 3 i (d.inside i a)).1).0 f
+            | inl a ↦ no_clash (above t block (Grandchildren i)) a old
+            | inr a ↦ no_clash (s.families i) (both (s.families i) _ (here_due set 3 i (d.inside i a)).1).0 f
           ]
       alone g d i j q lt inside there is f old false e =
           let ne : i ≡ j → ⊥ = grind (arith, nat_tests) in
-          clash (has (sixteen j) q) there (sets.sixteens_apart o chosen t is_sound block v same whole i j q ne inside)
+          no_clash (has (sixteen j) q) there (sets.sixteens_apart o chosen t is_sound block v same whole i j q ne inside)
 
   -- ---- any stage
 
@@ -342,7 +338,7 @@ module _ (o : List ℕ) (chosen : AreChosen o) (t : Terms) (is_sound : is_book_s
           (λ e z. (z.0.grows, facts_from 2 depth s x e z.0 (λ is deep. z.1) (λ is. absurd (omega (arith, is))))) (children_may (with_options s x))
       by false f = (
         λ n y h. h,
-        facts_from 2 depth s x (with_options s x) (nothing_changes 2 (with_options s x)) (λ is deep. absurd (clash
+        facts_from 2 depth s x (with_options s x) (nothing_changes 2 (with_options s x)) (λ is deep. absurd (no_clash
             (nat_lt b depth) deep f))
             (λ is. absurd (omega (arith, is))),
       )
@@ -356,7 +352,7 @@ module _ (o : List ℕ) (chosen : AreChosen o) (t : Terms) (is_sound : is_book_s
       by false f = (
         λ n y h. h,
         facts_from 3 depth s x (with_options s x) (nothing_changes 3 (with_options s x)) (λ is. absurd (omega (arith, is)))
-            (λ is deep. absurd (clash (nat_lt b depth) deep f)),
+            (λ is deep. absurd (no_clash (nat_lt b depth) deep f)),
       )
   facts_may (suc (suc (suc (suc k)))) depth lt s x = plain (suc (suc (suc (suc k)))) depth lt s x (λ e. absurd (omega (arith, e))) (λ e. absurd (omega
       (arith, e)))

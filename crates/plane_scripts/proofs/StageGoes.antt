@@ -18,7 +18,7 @@ use Rattle.item_scripts.proofs.Completing.{goes_then, goes_in_turn}
 use Rattle.plane_scripts.specs.States.{State, with_families}
 use Rattle.plane_scripts.specs.Words.{due_script, group_script}
 use Rattle.plane_scripts.specs.Stages.{Terms, above, is_due, bit_script, dc_bit_script, parents_script, flag_script, descendants_script, children_script, is_childless, quads_script, grandchildren_script, refinement_script, stage_script}
-use Rattle.plane_scripts.proofs.FlagCore.{Some_in, Some_below, within, below_all, family_at, quad_at}
+use Rattle.plane_scripts.proofs.SomePlaces.{Some_in, Some_below, within, below_all, family_at, quad_at}
 use Rattle.plane_scripts.proofs.WordGoes.{Options, Due, some_one_goes, ones_at_goes, types_go, group_goes, four_long, due_few, both}
 
 -- ---- some place of a span
@@ -41,15 +41,15 @@ some_place f start (suc n) e =
 pub place_some : (f : ℕ → Bool) (start count : ℕ) → Some_in f start count → list_any f (span start count) ≡ true
 place_some f start count w = list_any-span-here f start count w.0 w.1 w.2
 
-no_clash : (b : Bool) → b ≡ true → b ≡ false → ⊥
+pub no_clash : (b : Bool) → b ≡ true → b ≡ false → ⊥
 no_clash true p q = cc
 no_clash false p q = cc
 
-false_of : (b : Bool) → (b ≡ true → ⊥) → b ≡ false
+pub false_of : (b : Bool) → (b ≡ true → ⊥) → b ≡ false
 false_of true p = absurd (p refl)
 false_of false p = refl
 
-either : (a b : Bool) → (a || b) ≡ true → (a ≡ true) ⊎ (b ≡ true)
+pub either : (a b : Bool) → (a || b) ≡ true → (a ≡ true) ⊎ (b ≡ true)
 either true b e = inl refl
 either false b e = inr e
 

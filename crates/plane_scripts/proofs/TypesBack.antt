@@ -22,6 +22,9 @@ use Rattle.item_scripts.specs.Following.{Follows}
 use Rattle.item_scripts.specs.Completing.{ArePossible}
 use Rattle.item_scripts.proofs.FollowLaws.{asked_first, follows_split}
 use Rattle.item_scripts.proofs.Completing.{possible_parts}
+use Rattle.std.proofs.lemmas.Bool.{or_right}
+use Rattle.plane_scripts.proofs.StageGoes.{no_clash}
+use Rattle.plane_scripts.proofs.WordGoes.{both}
 use Rattle.plane_scripts.specs.Written.{has, Knows}
 use Rattle.plane_scripts.specs.States.{State, with_bits, with_minus, and_one}
 use Rattle.plane_scripts.specs.Words.{word_script, ones, due_script, signs_script, types_script}
@@ -29,19 +32,6 @@ use Rattle.plane_scripts.proofs.TypesWritten.{has_filter, filter_alike}
 use Rattle.plane_scripts.proofs.Answers.{May, may_then, may_weaker, may_end}
 use Rattle.plane_scripts.proofs.WordAnswers.{Grows, WordMay, word_may, DueMay, due_may}
 use Rattle.plane_scripts.proofs.WordsBack.{Differ, differ_filter, same_place, ones_bits, done_none, Later, word_back}
-
-both : (a b : Bool) → (a && b) ≡ true → (a ≡ true) × (b ≡ true)
-both true true e = (refl, refl)
-both true false e = cc
-both false b e = cc
-
-or_second : (x y : Bool) → y ≡ true → (x || y) ≡ true
-or_second true y e = refl
-or_second false y e = e
-
-clash : (x : Bool) → x ≡ true → x ≡ false → ⊥
-clash true e f = cc
-clash false e f = cc
 
 -- ---- what is left
 
@@ -79,16 +69,16 @@ types_may book due wanted ps s =
     (λ e z. record {
       grows = λ n x h. (λ i. (z.0 i).options n) ∙ d.grows n x h;
       bits = λ q none. (λ i. (z.0 i).bits q) ∙ (λ i. (d.rest i).bits q || r.1 q) ∙
-          ap (λ x. s.bits q || x) (no_one (r.1 q) (λ f. clash (has (filter due ps) q) (d.inside q f) (outside due ps q none))) ∙ or-false (s.bits q);
+          ap (λ x. s.bits q || x) (no_one (r.1 q) (λ f. no_clash (has (filter due ps) q) (d.inside q f) (outside due ps q none))) ∙ or-false (s.bits q);
       minus = λ q none. z.1 q (outside r.1 ps q none) ∙ (λ i. (d.rest i).minus q);
       quiet = λ q none. (λ i. (z.0 i).bits q) ∙ (λ i. (d.rest i).bits q || r.1 q) ∙
-          ap (λ x. s.bits q || x) (no_one (r.1 q) (λ f. clash (due q) (both (has ps q) (due q) (sym (has_filter due ps q) ∙ d.inside q f)).1 none)) ∙
+          ap (λ x. s.bits q || x) (no_one (r.1 q) (λ f. no_clash (due q) (both (has ps q) (due q) (sym (has_filter due ps q) ∙ d.inside q f)).1 none)) ∙
           or-false (s.bits q);
       more = λ q h. (λ i. (z.0 i).bits q) ∙ (λ i. (d.rest i).bits q || r.1 q) ∙ ap (λ x. x || r.1 q) h;
       families = (λ i. (z.0 i).families) ∙ (λ i. (d.rest i).families);
       some = λ want list.
           let w = d.some (ap some_one_where want) list in
-          (w.0, (both (has ps w.0) (due w.0) (sym (has_filter due ps w.0) ∙ w.1)).0, (λ i. (z.0 i).bits w.0) ∙ or_second (r.0.bits w.0) (r.1 w.0) w.2);
+          (w.0, (both (has ps w.0) (due w.0) (sym (has_filter due ps w.0) ∙ w.1)).0, (λ i. (z.0 i).bits w.0) ∙ or_right (r.0.bits w.0) (r.1 w.0) w.2);
     }) (signs_may (filter r.1 ps) (with_bits r.0 r.1)))
   where
     no_one : (x : Bool) → (x ≡ true → ⊥) → x ≡ false
@@ -135,7 +125,7 @@ module _ (book : Book) (o : List ℕ) where
       ap (λ x. x && (a.said == 1)) (same_place p)) ∙ is p at_first in
       let number : a.said ≡ digit (g p) = one_digit a.said (g p) a.says read in
       let rest = signs_back (before ++ Bit (g p) ∷ []) g ps t e a.more a.are a.follows apart.1
-      (λ q inside. other q inside (q == p) refl (a.said == 1)) (λ q inside. is q (or_second (q == p) (has ps q) inside)) in
+      (λ q inside. other q inside (q == p) refl (a.said == 1)) (λ q inside. is q (or_right (q == p) (has ps q) inside)) in
       a.is ∙ (λ i. record { form = bit_form; said = number i } ∷ rest i) ∙
       ap (λ l. l ++ read_after book o (before ++ Bit (g p) ∷ []) (map (λ p. step free (sign_at p) (Bit (g p))) ps)) (sym (bit_reading book o before free (g p)))
     where
@@ -145,8 +135,8 @@ module _ (book : Book) (o : List ℕ) where
       one_digit (suc (suc n)) b lt e = absurd (omega (arith, lt))
 
       other : (q : ℕ) → has ps q ≡ true → (x : Bool) → (q == p) ≡ x → (y : Bool) → (s.minus q || (x && y)) ≡ false
-      other q inside true e y = let same : q ≡ p = grind (arith, nat_tests) in absurd (clash (has ps p) (ap (has ps) (sym same) ∙ inside) apart.0)
-      other q inside false e y = ap (λ x. x || false) (fresh q (or_second (q == p) (has ps q) inside))
+      other q inside true e y = let same : q ≡ p = grind (arith, nat_tests) in absurd (no_clash (has ps p) (ap (has ps) (sym same) ∙ inside) apart.0)
+      other q inside false e y = ap (λ x. x || false) (fresh q (or_right (q == p) (has ps q) inside))
 
   -- ---- types
 

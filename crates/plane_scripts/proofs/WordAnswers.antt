@@ -17,6 +17,7 @@ use Rattle.plane_defs.specs.Reading.{word_of}
 use Rattle.plane_defs.specs.Steps.{Check, some_one, ones_at, refuses, lacks_one}
 use Rattle.plane_defs.proofs.Alike.{all_filter}
 use Rattle.plane_defs.proofs.Above.{all_span}
+use Rattle.std.proofs.lemmas.Bool.{or_right}
 use Rattle.plane_scripts.specs.Written.{has}
 use Rattle.plane_scripts.specs.States.{State, with_options}
 use Rattle.plane_scripts.specs.Words.{option_named, option_script, option_of, raw_form, coded_script, word_script, ones, due_script}
@@ -109,10 +110,6 @@ ones_has (p ∷ ps) (b ∷ bits) q e = by (q == p) b e (ones_has ps bits q)
 self : (p : ℕ) → (p == p) ≡ true
 self p = grind (arith, nat_tests)
 
-or_second : (x y : Bool) → y ≡ true → (x || y) ≡ true
-or_second true y e = refl
-or_second false y e = e
-
 first_none : (bits : List Bool) → value_of bits ≡ 0 → value_of (false ∷ bits) ≡ 0
 unfolding value_of
 first_none bits e = e
@@ -129,7 +126,7 @@ some_ones (p ∷ ps) [] long some = absurd (omega (arith, long))
 some_ones (p ∷ ps) (true ∷ bits) long some = (p, ap (λ x. x || has ps p) (self p), ap (λ x. (x && true) || ones ps bits p) (self p))
 some_ones (p ∷ ps) (false ∷ bits) long some =
     let w = some_ones ps bits (omega (arith, long)) (λ e. some (first_none bits e)) in
-    (w.0, or_second (w.0 == p) (has ps w.0) w.1, or_second ((w.0 == p) && false) (ones ps bits w.0) w.2)
+    (w.0, or_right (w.0 == p) (has ps w.0) w.1, or_right ((w.0 == p) && false) (ones ps bits w.0) w.2)
 
 each_ones : (wanted : ℕ → Bool) (ps : List ℕ) (bits : List Bool) → length bits ≡ length ps → lacks_one (map wanted ps) bits ≡ false → (q : ℕ) →
     has ps q ≡ true → wanted q ≡ true →

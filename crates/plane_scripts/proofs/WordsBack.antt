@@ -21,6 +21,7 @@ use Rattle.item_scripts.specs.Following.{Follows}
 use Rattle.item_scripts.specs.Completing.{ArePossible}
 use Rattle.item_scripts.proofs.FollowLaws.{asked, follows_split}
 use Rattle.item_scripts.proofs.Completing.{possible_parts}
+use Rattle.std.proofs.lemmas.Bool.{or_right}
 use Rattle.plane_scripts.specs.Written.{has, Knows}
 use Rattle.plane_scripts.specs.States.{State, with_options}
 use Rattle.plane_scripts.specs.Words.{option_form, option_named, with_option, option_script, option_of, raw_form, word_form, coded_script, word_script, ones}
@@ -61,10 +62,6 @@ false_unless false b h e = refl
 pub same_place : (p : ℕ) → (p == p) ≡ true
 same_place p = grind (arith, nat_tests)
 
-or_second : (x y : Bool) → y ≡ true → (x || y) ≡ true
-or_second true y e = refl
-or_second false y e = e
-
 pub ones_bits : (f : ℕ → Bool) (ps : List ℕ) (bits : List Bool) → Differ ps → length bits ≡ length ps → ((q : ℕ) → has ps q ≡ true → ones ps bits q ≡ f q) →
     bits ≡ map f ps
 ones_bits f [] [] h long is = refl
@@ -74,7 +71,7 @@ ones_bits f (p ∷ ps) (b ∷ bits) h long is =
     let none : ones ps bits p ≡ false = false_unless (ones ps bits p) (has ps p) (ones_has ps bits p) h.0 in
     let first : b ≡ f p = sym (ap (λ x. (x && b) || ones ps bits p) (same_place p) ∙ ap (λ x. b || x) none ∙ or-false b) ∙
     is p (ap (λ x. x || has ps p) (same_place p)) in
-    ap (λ x. x ∷ bits) first ∙ ap (λ l. f p ∷ l) (ones_bits f ps bits h.1 (omega (arith, long)) (λ q inside. later q inside (q == p) refl (is q (or_second
+    ap (λ x. x ∷ bits) first ∙ ap (λ l. f p ∷ l) (ones_bits f ps bits h.1 (omega (arith, long)) (λ q inside. later q inside (q == p) refl (is q (or_right
     (q == p) (has ps q) inside))))
   where
     clash : (x : Bool) → x ≡ true → x ≡ false → ⊥
