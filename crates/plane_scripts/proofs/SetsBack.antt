@@ -249,7 +249,7 @@ module _ (o : List ℕ) (chosen : AreChosen o) (t : Terms) (is_sound : is_book_s
                   (quads.unread o chosen t is_sound block v same whole 16 m sets dc before s few r q (omega (arith, low)) (omega (arith, high, lt)) (omega
                   (arith, low))).0 in
                   absurd (no_clash (newly q) new_q (sym (agrees.bits q (omega (arith, low)) (omega (arith, high, lt))) ∙ kept ∙ (λ k. (d.rest k).bits q) ∙
-                      empty))
+                  empty))
                 where
                   tests : 16 + 16 * i ≤ q → q < 16 + 16 * i + 16 → (nat_le (16 + 16 * i) q && nat_lt q (16 + 16 * i + 16)) ≡ true
                   tests low high = grind (arith, nat_tests)

@@ -139,7 +139,7 @@ module _ (head : SegmentHead) (is_head : IsHead head) (blocks : List (List ℤ))
         where
           one : (i : ℕ) → IsAc i → (magnitude (dcs.0 r ∷ replicate 63 (pos 0)) i ≡ magnitude (get_or blocks r []) i / 2 ^ head.depth_ac * 2 ^ head.depth_ac) ×
               (negative (get_or (dcs.0 r ∷ replicate 63 (pos 0)) i (pos 0)) ≡ (significant (get_or blocks r []) head.depth_ac i && negative (get_or
-                  (get_or blocks r []) i (pos 0))))
+              (get_or blocks r []) i (pos 0))))
           one zero ac = absurd (let a = ac.0 in omega (arith, a))
           one (suc i) ac =
               let none : get_or (replicate 63 (pos 0)) i (pos 0) ≡ pos 0 = get_or-replicate 63 i (pos 0) (pos 0) (let a = ac.1 in omega (arith, a)) in
@@ -150,11 +150,11 @@ module _ (head : SegmentHead) (is_head : IsHead head) (blocks : List (List ℤ))
                 ap negative none ∙
                     sym (ap (λ y. y && negative (get_or (get_or blocks r []) (suc i) (pos 0)))
                     (significant-is (get_or blocks r []) head.depth_ac (suc i) ∙ not_reached (magnitude (get_or blocks r []) (suc i))
-                        (2 ^ head.depth_ac) small)),
+                    (2 ^ head.depth_ac) small)),
               )
       by (inr ge) =
           let a : get_or first r [] ≡ [] = get_or_past first r [] (let e = length-map-span (λ i. dcs.0 i ∷ replicate 63 (pos 0)) head.blocks in omega
-              (arith, e, ge)) in
+          (arith, e, ge)) in
           let b : get_or blocks r [] ≡ [] = get_or_past blocks r [] (let e = p.blocks_all in omega (arith, e, ge)) in
           subst (λ l. Shows head.depth_ac l (get_or blocks r [])) (sym a) (subst (λ l. Shows head.depth_ac [] l) (sym b) (shows_nothing head.depth_ac))
 
@@ -163,7 +163,7 @@ module _ (head : SegmentHead) (is_head : IsHead head) (blocks : List (List ℤ))
   planes_follow are =
       let w = planes_sent options.book options.words (λ b g. known.at b g) blocks depths head.image.weights.shifts
       (record { long = p.depths_all ∙ sym p.blocks_all; multiples = p.multiples; small = p.below }) (q_of head) (stages_sent head)
-          (stages_stop head is_head.stage)
+      (stages_stop head is_head.stage)
       head.depth_ac first (length-map-span (λ i. dcs.0 i ∷ replicate 63 (pos 0)) head.blocks ∙ sym p.blocks_all) (shown are) in (
         w.end,
         subst (λ l. Follows (planes_part_script options.book head first depths) l w.end)
@@ -196,7 +196,7 @@ module _ (head : SegmentHead) (is_head : IsHead head) (blocks : List (List ℤ))
             w.0,
             follows_then (Rest false) (dc_part_script head) D (E ++ P) first w.0 dc_follows
                 (follows_then (planes_part_script options.book head first) (beside first
-                    (depths_script head.depth_ac head.blocks)) E P depths w.0 depths_follow w.1),
+                (depths_script head.depth_ac head.blocks)) E P depths w.0 depths_follow w.1),
           )
 
   -- each is asked for after those before it, if none of them is refused
