@@ -18,7 +18,7 @@ use Rattle.item_scripts.proofs.Completing.{goes_then, goes_in_turn}
 use Rattle.plane_scripts.specs.States.{State, with_families}
 use Rattle.plane_scripts.specs.Words.{due_script, group_script}
 use Rattle.plane_scripts.specs.Stages.{Terms, above, is_due, bit_script, dc_bit_script, parents_script, flag_script, descendants_script, children_script, is_childless, quads_script, grandchildren_script, refinement_script, stage_script}
-use Rattle.plane_scripts.proofs.FlagCore.{Some_in, Some_below, within, below_all, family_at, quad_at}
+use Rattle.plane_scripts.proofs.SomePlaces.{Some_in, Some_below, within, below_all, family_at, quad_at}
 use Rattle.plane_scripts.proofs.WordGoes.{Options, Due, some_one_goes, ones_at_goes, types_go, group_goes, four_long, due_few, both}
 
 -- ---- some place of a span
@@ -41,15 +41,15 @@ some_place f start (suc n) e =
 pub place_some : (f : ℕ → Bool) (start count : ℕ) → Some_in f start count → list_any f (span start count) ≡ true
 place_some f start count w = list_any-span-here f start count w.0 w.1 w.2
 
-no_clash : (b : Bool) → b ≡ true → b ≡ false → ⊥
+pub no_clash : (b : Bool) → b ≡ true → b ≡ false → ⊥
 no_clash true p q = cc
 no_clash false p q = cc
 
-false_of : (b : Bool) → (b ≡ true → ⊥) → b ≡ false
+pub false_of : (b : Bool) → (b ≡ true → ⊥) → b ≡ false
 false_of true p = absurd (p refl)
 false_of false p = refl
 
-either : (a b : Bool) → (a || b) ≡ true → (a ≡ true) ⊎ (b ≡ true)
+pub either : (a b : Bool) → (a || b) ≡ true → (a ≡ true) ⊎ (b ≡ true)
 either true b e = inl refl
 either false b e = inr e
 
@@ -87,28 +87,28 @@ module _ (t : Terms) (is_sound : is_book_sound t.book ≡ true) (block : List �
       by false false p q = cc
 
   -- the members of sets
-  any_all : (f : ℕ → Bool) → list_any f (members Descendants) ≡ true → Some_in f 4 60
+  pub any_all : (f : ℕ → Bool) → list_any f (members Descendants) ≡ true → Some_in f 4 60
   any_all f e = some_place f 4 60 e
 
-  any_family : (f : ℕ → Bool) (i : ℕ) → list_any f (members (Family i)) ≡ true → Some_below f i
+  pub any_family : (f : ℕ → Bool) (i : ℕ) → list_any f (members (Family i)) ≡ true → Some_below f i
   any_family f i e = elim (either (list_any f (span (4 + 4 * i) 4)) (list_any f (span (16 + 16 * i) 16))
       (sym (list_any-append f (span (4 + 4 * i) 4) (span (16 + 16 * i) 16)) ∙ e)) [
         | inl p ↦ inl (some_place f (4 + 4 * i) 4 p)
         | inr p ↦ inr (some_place f (16 + 16 * i) 16 p)
       ]
 
-  family_any : (f : ℕ → Bool) (i : ℕ) → Some_below f i → list_any f (members (Family i)) ≡ true
+  pub family_any : (f : ℕ → Bool) (i : ℕ) → Some_below f i → list_any f (members (Family i)) ≡ true
   family_any f i (inl w) = list_any-append f (span (4 + 4 * i) 4) (span (16 + 16 * i) 16) ∙ or_left _ _ (place_some f (4 + 4 * i) 4 w)
   family_any f i (inr w) = list_any-append f (span (4 + 4 * i) 4) (span (16 + 16 * i) 16) ∙ or_right _ _ (place_some f (16 + 16 * i) 16 w)
 
-  is_above : (s : Set) → above t block s ≡ list_any A (members s)
+  pub is_above : (s : Set) → above t block s ≡ list_any A (members s)
   is_above s = set_significant-is block (t.plane + 1) s
 
-  is_live : (s : Set) → live t.weights t.plane s ≡ list_any c (members s)
+  pub is_live : (s : Set) → live t.weights t.plane s ≡ list_any c (members s)
   is_live s = live-is t.weights t.plane s
 
   -- what a due set is
-  due_parts : (s : Set) (enclosing : Bool) → is_due t block s enclosing ≡ true →
+  pub due_parts : (s : Set) (enclosing : Bool) → is_due t block s enclosing ≡ true →
       (enclosing ≡ true) × (list_any A (members s) ≡ false) × (list_any c (members s) ≡ true)
   due_parts s enclosing e = by enclosing (above t block s) (live t.weights t.plane s) e (is_above s) (is_live s)
     where
@@ -128,7 +128,7 @@ module _ (t : Terms) (is_sound : is_book_sound t.book ≡ true) (block : List �
       by false false p q = cc
 
   -- if B can have a bit and is not significant above, some D_i is due
-  families_due : above t block Descendants ≡ false → live t.weights t.plane Descendants ≡ true →
+  pub families_due : above t block Descendants ≡ false → live t.weights t.plane Descendants ≡ true →
       list_any (λ i. is_due t block (Family i) true) (span 0 3) ≡ true
   families_due p q =
       let f = family_at c (any_all c (sym (is_live Descendants) ∙ q)) in
@@ -142,7 +142,7 @@ module _ (t : Terms) (is_sound : is_book_sound t.book ≡ true) (block : List �
       )
 
   -- if D_i is due and no grandchild of it can have a bit, a child is due
-  children_due : (i : ℕ) (all : Bool) → is_due t block (Family i) all ≡ true → live t.weights t.plane (Grandchildren i) ≡ false →
+  pub children_due : (i : ℕ) (all : Bool) → is_due t block (Family i) all ≡ true → live t.weights t.plane (Grandchildren i) ≡ false →
       list_any due (span (4 + 4 * i) 4) ≡ true
   children_due i all d none =
       let p = due_parts (Family i) all d in
@@ -152,7 +152,8 @@ module _ (t : Terms) (is_sound : is_book_sound t.book ≡ true) (block : List �
       ]
 
   -- if G_i is due, some H_ij is
-  quads_due : (i : ℕ) (enclosing : Bool) → is_due t block (Grandchildren i) enclosing ≡ true → list_any (λ j. is_due t block (Quad i j) true) (span 0 4) ≡ true
+  pub quads_due : (i : ℕ) (enclosing : Bool) → is_due t block (Grandchildren i) enclosing ≡ true → list_any (λ j. is_due t block (Quad i j) true)
+      (span 0 4) ≡ true
   quads_due i enclosing d =
       let p = due_parts (Grandchildren i) enclosing d in
       let f = quad_at c i (some_place c (16 + 16 * i) 16 p.2) in
@@ -168,7 +169,7 @@ module _ (t : Terms) (is_sound : is_book_sound t.book ≡ true) (block : List �
       )
 
   -- if H_ij is due, a type is
-  grandchildren_due : (i j : ℕ) → is_due t block (Quad i j) true ≡ true → list_any due (span (quad_of i 0 + 4 * j) 4) ≡ true
+  pub grandchildren_due : (i j : ℕ) → is_due t block (Quad i j) true ≡ true → list_any due (span (quad_of i 0 + 4 * j) 4) ≡ true
   grandchildren_due i j d =
       let p = due_parts (Quad i j) true d in
       let z : 16 + 16 * i + 4 * j ≡ quad_of i 0 + 4 * j = omega arith in
@@ -202,7 +203,7 @@ module _ (t : Terms) (is_sound : is_book_sound t.book ≡ true) (block : List �
   flag_goes false true s = λ e f. absurd cc
   flag_goes false false s = λ e f. absurd cc
 
-  not_true : (b : Bool) → not b ≡ true → b ≡ false
+  pub not_true : (b : Bool) → not b ≡ true → b ≡ false
   not_true true e = cc
   not_true false e = refl
 

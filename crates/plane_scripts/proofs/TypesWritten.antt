@@ -42,7 +42,7 @@ ones_of_test f (p ∷ ps) q = ap (λ t. ((q == p) && f p) || t) (ones_of_test f 
         ap (λ b. b || (has ps q && f q)) (ap f (sym same)) ∙ absorbed (f q) (has ps q)
     here false e = refl
 
-has_filter : (d : ℕ → Bool) (ps : List ℕ) (q : ℕ) → has (filter d ps) q ≡ (has ps q && d q)
+pub has_filter : (d : ℕ → Bool) (ps : List ℕ) (q : ℕ) → has (filter d ps) q ≡ (has ps q && d q)
 has_filter d [] q = refl
 has_filter d (p ∷ ps) q = by (d p) refl (q == p) refl (has_filter d ps q)
   where
@@ -61,7 +61,7 @@ has_filter d (p ∷ ps) q = by (d p) refl (q == p) refl (has_filter d ps q)
     by false e false f rest = rest
 
 -- tests that are the same at each place
-filter_alike : (g h : ℕ → Bool) (ps : List ℕ) → ((q : ℕ) → has ps q ≡ true → g q ≡ h q) → filter g ps ≡ filter h ps
+pub filter_alike : (g h : ℕ → Bool) (ps : List ℕ) → ((q : ℕ) → has ps q ≡ true → g q ≡ h q) → filter g ps ≡ filter h ps
 filter_alike g h [] same = refl
 filter_alike g h (p ∷ ps) same = (λ t. if same p self t then p ∷ filter g ps else filter g ps) ∙
     ap (λ (l : List ℕ). if h p then p ∷ l else l) (filter_alike g h ps (λ q e. same q (later (q == p) (has ps q) e)))

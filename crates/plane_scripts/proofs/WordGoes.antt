@@ -78,7 +78,7 @@ named_possible : (t : Bool) → t ≡ true → IsPossible (if not t then Some ba
 named_possible true e = tt
 named_possible false e = absurd cc
 
-possible_named : (t : Bool) → IsPossible (if not t then Some bad_option else None) → t ≡ true
+pub possible_named : (t : Bool) → IsPossible (if not t then Some bad_option else None) → t ≡ true
 possible_named true p = refl
 possible_named false p = absurd p
 
@@ -216,7 +216,7 @@ due_goes book is_sound due check places w few fits good s h =
           λ q e. ones_due due places (bits_of (length (filter due places)) r.1) q e;
     })
 
-some_due : (due : ℕ → Bool) (ps : List ℕ) → list_any due ps ≡ true → 1 ≤ length (filter due ps)
+pub some_due : (due : ℕ → Bool) (ps : List ℕ) → list_any due ps ≡ true → 1 ≤ length (filter due ps)
 some_due due [] e = absurd cc
 some_due due (p ∷ ps) e = by (due p) (some_due due ps) e
   where

@@ -47,21 +47,21 @@ pub record WorkedTexts : Type 0 where
   pub all : of_depth_2 (plane_1 ++ plane_0) ≡ whole (with_first (pos 5 ∷ negsuc 2 ∷ []) 20 (pos 1) ∷ []) []
   pub cut_anywhere : map (λ n. of_depth_2 (plane_1 ++ take n plane_0)) (span 0 21) ≡ map (λ n. cut (given_by n ∷ [])) (span 0 21)
   pub cut_at_a_sign : of_depth_2 (bits_in (codes "00001")) ≡ cut (with_first (pos 4 ∷ pos 2 ∷ []) 20 (pos 0) ∷ [])
-  -- the option 10 of words of three bits
-  pub no_option : of_depth_2 (bits_in (codes "0100000000")) ≡ refused (with_first (pos 4 ∷ pos 0 ∷ []) 20 (pos 0) ∷ []) bad_option
-  -- families' flags 000 as 00 1
-  pub no_family : of_depth_2 (plane_1 ++ bits_in (codes "10110010000")) ≡ refused (given_by 4 ∷ []) false_flag
+  -- the option 10 of words of three bits, after which seven bits are left
+  pub no_option : of_depth_2 (bits_in (codes "0100000000")) ≡ refused (with_first (pos 4 ∷ pos 0 ∷ []) 20 (pos 0) ∷ []) bad_option (bits_in (codes "0000000"))
+  -- families' flags 000 as 00 1, after which four bits are left
+  pub no_family : of_depth_2 (plane_1 ++ bits_in (codes "10110010000")) ≡ refused (given_by 4 ∷ []) false_flag (bits_in (codes "0000"))
   -- families' flags 000 as 1
-  pub false_1 : of_depth_1 (replicate 10 0) (1 ∷ []) (after_flag (codes "1")) ≡ refused (one_parent (pos 0)) false_flag
+  pub false_1 : of_depth_1 (replicate 10 0) (1 ∷ []) (after_flag (codes "1")) ≡ refused (one_parent (pos 0)) false_flag []
   -- families' flags 100 as 01, and children's types 0000 as 00 1; no grandchild can have a bit
-  pub false_2 : of_depth_1 (1 ∷ 1 ∷ 1 ∷ replicate 7 0) (1 ∷ []) (after_flag (codes "01001")) ≡ refused (one_parent (pos 0)) false_flag
+  pub false_2 : of_depth_1 (1 ∷ 1 ∷ 1 ∷ replicate 7 0) (1 ∷ []) (after_flag (codes "01001")) ≡ refused (one_parent (pos 0)) false_flag []
   -- the same; grandchildren's flag 0
-  pub false_3 : of_depth_1 (replicate 10 0) (1 ∷ []) (after_flag (codes "010010")) ≡ refused (one_parent (pos 0)) false_flag
+  pub false_3 : of_depth_1 (replicate 10 0) (1 ∷ []) (after_flag (codes "010010")) ≡ refused (one_parent (pos 0)) false_flag []
   -- grandchildren's flag 1, and quads' flags 0000 as 1
-  pub false_4 : of_depth_1 (replicate 10 0) (1 ∷ []) (after_flag (codes "0100111")) ≡ refused (one_parent (pos 0)) false_flag
+  pub false_4 : of_depth_1 (replicate 10 0) (1 ∷ []) (after_flag (codes "0100111")) ≡ refused (one_parent (pos 0)) false_flag []
   -- quads' flags 1000 as 01, and types 0000 as 1
-  pub false_5 : of_depth_1 (replicate 10 0) (1 ∷ []) (after_flag (codes "01001" ++ codes "1011")) ≡ refused (one_parent (pos 0)) false_flag
+  pub false_5 : of_depth_1 (replicate 10 0) (1 ∷ []) (after_flag (codes "01001" ++ codes "1011")) ≡ refused (one_parent (pos 0)) false_flag []
   -- families' flags 110 as 00001; types 0000 as 00 1, and 1000 as 01 with the sign 1; grandchildren's flags 00 as 0 1
-  pub false_6 : of_depth_1 (replicate 10 0) (1 ∷ []) (after_flag (codes "0000100101101")) ≡ refused (one_parent (negsuc 0)) false_flag
+  pub false_6 : of_depth_1 (replicate 10 0) (1 ∷ []) (after_flag (codes "0000100101101")) ≡ refused (one_parent (negsuc 0)) false_flag []
   -- two blocks: the second has no identifier; flags 0 and 0
   pub two_blocks : of_depth_1 (replicate 10 0) (1 ∷ 1 ∷ []) (bits_in (codes "00011100")) ≡ whole (one_parent (pos 0) ++ replicate 64 (pos 0) ∷ []) []

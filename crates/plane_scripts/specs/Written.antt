@@ -1,18 +1,21 @@
--- What is written of types and signs, as it is read.
-use Rattle.std.specs.Prelude.{◌≡◌, ◌≤◌, ◌<◌, ℕ, ◌==◌, ◌&&◌, ◌||◌, Bool, false, if◌then◌else◌, List, [], ◌∷◌, ◌++◌, length, filter, Option, Some, None, ℤ, pos}
+-- What is written of types and signs and of planes, as it is read.
+use Rattle.std.specs.Prelude.{◌≡◌, ◌⊎◌, ◌≤◌, ◌<◌, ℕ, zero, suc, ◌*◌, ◌/◌, ◌^◌, ◌==◌, ◌&&◌, ◌||◌, Bool, false, if◌then◌else◌, List, [], ◌∷◌, ◌++◌, length, filter, Option, Some, None, ℤ, pos}
 use Rattle.std.specs.List.{list_any}
 use lib.ListN.{get_or}
 use Rattle.base_122.specs.declared.book.Book.{Book}
 use Rattle.plane_defs.specs.declared.entries.Entry.{Entry}
-use Rattle.plane_defs.specs.Sets.{significant, type_due, newly_significant}
+use Rattle.plane_defs.specs.Sets.{magnitude, significant, type_due, newly_significant}
 use Rattle.plane_defs.specs.Entries.{negative}
 use Rattle.plane_defs.specs.Spelled.{is_word_of, option_of as chosen_of}
-use Rattle.plane_defs.specs.Reading.{read_after}
+use Rattle.plane_defs.specs.Reading.{read_after, plane_reading}
 use Rattle.plane_defs.specs.Steps.{some_one_where, typed_steps}
-use Rattle.plane_defs.specs.StepLaws.{entries_of}
+use Rattle.plane_defs.specs.StepLaws.{entries_of, IsAc}
+use Rattle.plane_defs.specs.Laws.{IsMultiple}
+use Rattle.item_defs.specs.Items.{Item}
 use Rattle.item_scripts.specs.Writing.{Writes}
 use Rattle.plane_scripts.specs.States.{State}
 use Rattle.plane_scripts.specs.Words.{types_script}
+use Rattle.plane_scripts.specs.Planes.{planes_script}
 
 -- the option of each length of which there was a word
 abbrev pub Knows : List ℕ → List Entry → (ℕ → Option ℕ) → Type 0
@@ -42,3 +45,41 @@ TypesWritten = (book : Book) (o : List ℕ) → AreChosen o →
     length (filter due positions) ≤ 4 → filter due positions ≡ filter (type_due v weights plane) positions → (s : State) → Knows o before s.options →
     Writes (types_script book due wanted positions s) (read_after book o before (typed_steps v weights plane (some_one_where wanted) positions))
     (WroteTypes o before v weights plane wanted positions s)
+
+-- ---- planes
+
+-- the items of the planes from `below` - 1 down that some values send, of each this number of first stages, with these options of words
+abbrev pub planes_reading : Book → (options : ℕ → ℕ → List ℕ) → (values : List (List ℤ)) → (depths weights : List ℕ) → (q : ℕ) → (stages : ℕ → ℕ) →
+    (below : ℕ) → List Item
+planes_reading book options values depths weights q stages zero = []
+planes_reading book options values depths weights q stages (suc plane) =
+    plane_reading book (options plane) (record { blocks = values; depths = depths; weights = weights; number = plane; q = q }) (stages plane) ++
+    planes_reading book options values depths weights q stages plane
+
+-- a block's AC numbers are those of another in the planes from this one up, and 0 below
+abbrev pub Shows : (plane : ℕ) → (block v : List ℤ) → Type 0
+Shows plane block v = (p : ℕ) → IsAc p →
+    (magnitude block p ≡ magnitude v p / 2 ^ plane * 2 ^ plane) × (negative (get_or block p (pos 0)) ≡ (significant v plane p && negative (get_or v p (pos 0))))
+
+-- values of which each number is a multiple of 2 ^ shift, and below 2 ^ depth in magnitude
+pub record AreSendable (values : List (List ℤ)) (depths weights : List ℕ) : Type 0 where
+  pub long : length depths ≡ length values
+  pub multiples : (r : ℕ) → IsMultiple (get_or values r []) weights
+  pub small : (r p : ℕ) → 1 ≤ p → magnitude (get_or values r []) p < 2 ^ get_or depths r 0
+
+-- below a plane of which not all stages are sent, none is
+abbrev pub Stops : (stages : ℕ → ℕ) → Type 0
+Stops stages = (b : ℕ) → (stages b ≤ 5) × ((stages b ≡ 5) ⊎ ((c : ℕ) → c < b → stages c ≡ 0))
+
+-- what the planes leave: as many blocks, and the values' AC numbers if all stages are sent
+pub record WrotePlanes (values : List (List ℤ)) (stages : ℕ → ℕ) (below : ℕ) (w : List (List ℤ)) : Type 0 where
+  pub long : length w ≡ length values
+  pub all : ((b : ℕ) → b < below → stages b ≡ 5) → (r p : ℕ) → IsAc p → get_or (get_or w r []) p (pos 0) ≡ get_or (get_or values r []) p (pos 0)
+
+-- The items of planes that some values send follow the script of planes, if the blocks have what is above them.
+abbrev pub PlanesWritten : Type 0
+PlanesWritten = (book : Book) (options : ℕ → ℕ → List ℕ) → ((b g : ℕ) → AreChosen (options b g)) → (values : List (List ℤ)) (depths weights : List ℕ) →
+    AreSendable values depths weights → (q : ℕ) (stages : ℕ → ℕ) → Stops stages → (below : ℕ) (blocks : List (List ℤ)) → length blocks ≡ length values →
+    ((r : ℕ) → Shows below (get_or blocks r []) (get_or values r [])) →
+    Writes (planes_script book weights q depths stages below blocks) (planes_reading book options values depths weights q stages below)
+    (WrotePlanes values stages below)

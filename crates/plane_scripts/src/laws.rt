@@ -1,6 +1,6 @@
 // What some texts are read as, and the laws of the scripts.
 ghost use Rattle.plane_scripts.specs.Laws.{PlanesGo};
-ghost use Rattle.plane_scripts.specs.Written.{TypesWritten};
+ghost use Rattle.plane_scripts.specs.Written.{TypesWritten, PlanesWritten};
 ghost use Rattle.plane_scripts.specs.Worked.{WorkedTexts};
 
 /// Texts that are worked out by hand are read so.
@@ -16,4 +16,10 @@ pub const fn planes_go()
 /// Types and signs are read as they were written.
 pub const fn types_are_read()
     ensures { TypesWritten }
+{}
+
+/// Planes are read as they were written: the items of values that can be sent follow the script, and what it gives are their AC
+/// numbers if all stages are sent.
+pub const fn planes_are_read()
+    ensures { PlanesWritten }
 {}

@@ -1,2 +1,5 @@
 mod WorkedRead
 mod SegmentGoes
+pub mod AsksItems
+pub mod SegmentWritten
+pub mod TextReads

@@ -1,5 +1,5 @@
 -- The laws of coded segments, as they are read.
-use Rattle.std.specs.Prelude.{◌≡◌, List, length, true, ℤ}
+use Rattle.std.specs.Prelude.{◌≡◌, ℕ, List, length, true, ℤ, Ok, Err}
 use Rattle.item_defs.specs.Items.{Form, Item}
 use Rattle.item_defs.specs.Readings.{AreItems}
 use Rattle.base_122.specs.declared.book.Book.{Book}
@@ -7,7 +7,10 @@ use Rattle.plane_defs.specs.Codes.{is_book_sound}
 use Rattle.segment_defs.specs.declared.head.SegmentHead.{SegmentHead}
 use Rattle.item_scripts.specs.Following.{SaysWhat, Asks}
 use Rattle.item_scripts.specs.Completing.{Goes, Completed}
+use Rattle.segment_defs.specs.Head.{IsHead}
+use Rattle.text_defs.specs.Outcomes.{SegmentRefusal, Holds, Refused}
 use Rattle.text_scripts.specs.Segments.{segment_script}
+use Rattle.text_scripts.specs.Outcomes.{text_outcome}
 
 -- there are as many blocks as the head has
 abbrev pub HasBlocks : SegmentHead → List (List ℤ) → Type 0
@@ -24,3 +27,13 @@ pub record SegmentLaws (book : Book) (head : SegmentHead) : Type 0 where
 
 abbrev pub SegmentsAreRead : Type 0
 SegmentsAreRead = (book : Book) (head : SegmentHead) → is_book_sound book ≡ true → SegmentLaws book head
+
+-- a text is read as values exactly if it holds some, and is refused by a name exactly if it has this name
+pub record TextReads (book : Book) (head : SegmentHead) (rest : List ℕ) : Type 0 where
+  pub holds : (w : List (List ℤ)) → Holds book head rest w → (v : List (List ℤ)) × (text_outcome book head rest ≡ Ok v)
+  pub refuses : (name : SegmentRefusal) → Refused book head rest name → text_outcome book head rest ≡ Err name
+  pub held : (v : List (List ℤ)) → text_outcome book head rest ≡ Ok v → (w : List (List ℤ)) × Holds book head rest w
+  pub refused : (name : SegmentRefusal) → text_outcome book head rest ≡ Err name → Refused book head rest name
+
+abbrev pub TextsAreRead : Type 0
+TextsAreRead = (book : Book) → is_book_sound book ≡ true → (head : SegmentHead) (rest : List ℕ) → IsHead head → TextReads book head rest

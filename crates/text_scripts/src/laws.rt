@@ -1,5 +1,5 @@
 // What some coded segments hold, and the laws of their script.
-ghost use Rattle.text_scripts.specs.Laws.{SegmentsAreRead};
+ghost use Rattle.text_scripts.specs.Laws.{SegmentsAreRead, TextsAreRead};
 ghost use Rattle.text_scripts.specs.Worked.{WorkedTexts};
 
 /// Coded segments that are worked out by hand hold what they should.
@@ -10,4 +10,9 @@ pub const fn worked_texts()
 /// What bits of a coded segment are read as is what its items say, and a reading that is cut can be completed.
 pub const fn segments_are_read()
     ensures { SegmentsAreRead }
+{}
+
+/// A text is read as values exactly if it holds some, and is refused by a name exactly if it has this name.
+pub const fn texts_are_read()
+    ensures { TextsAreRead }
 {}
