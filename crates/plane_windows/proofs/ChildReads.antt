@@ -64,13 +64,13 @@ module _ (t : Terms) (block : List ℤ) (s : State) where
   abbrev pub types_part : (ℕ → Bool) → State → Script State State
   types_part new = in_turn (group_script t.book (type_due block t.weights t.plane) 4 (families_now new) (λ i. new i && not (live t.weights t.plane (Grandchildren i)))) 0 3
 
-  abbrev last_part : (ℕ → Bool) → State → Script State State
+  abbrev pub last_part : (ℕ → Bool) → State → Script State State
   last_part new u = done (with_families u (families_now new))
 
-  abbrev after_families : State × (ℕ → Bool) → Script State State
+  abbrev pub after_families : State × (ℕ → Bool) → Script State State
   after_families r = then_ask (types_part r.1 r.0) (last_part r.1)
 
-  abbrev after_flag : Bool → Script State State
+  abbrev pub after_flag : Bool → Script State State
   after_flag all = then_ask (family_part all) after_families
 
   module _ {I : Type 0} {k : SourceOf I} {h : Gaggle} {f : Found} (is : IsState h f s) {x y : Point I} where

@@ -5,6 +5,7 @@ pub mod DealReads
 pub mod DueSets
 pub mod FoundMasks
 pub mod Frames
+pub mod GaggleEnds
 pub mod GaggleReads
 pub mod GrandchildReads
 pub mod HeldGroups

@@ -1,6 +1,6 @@
 // The children of a block: the flags of its families, and the types of those that are significant.
 
-ghost use Rattle.std.specs.Prelude.{◌≡◌, ◌&&◌, not, true, false, ℕ, ℤ, List};
+ghost use Rattle.std.specs.Prelude.{◌≡◌, ◌<◌, ◌&&◌, not, true, false, ℕ, ℤ, List};
 ghost use Rattle.bit_pipe.specs.Coming.{coming, IsIn};
 ghost use Rattle.plane_scripts.specs.States.{State};
 ghost use Rattle.plane_scripts.specs.Stages.{children_script};
@@ -58,6 +58,7 @@ pub(crate) fn take_children<I: OctetIn>(
     ensures children { (block : List ℤ) (s : State) → IsState reading.old.gaggle reading.old.found s → IsAbove above block plan.now.plane →
         HeldFamilies I.source (children_script (terms_of plan.now reading.old.tables.now.words.book) block s) result reading.new.gaggle reading.new.found
         (point (coming input.old) reading.old.cursor) (point (coming input.new) reading.new.cursor) }
+    ensures small { OnSome result (λ families. families < 8) }
     ensures tables { reading.new.tables ≡ reading.old.tables }
     ensures reading { OnSome result (λ x. IsReading I.source (coming input.new) reading.new) }
     ensures holds { Holds I.source (coming input.new) reading.new.cursor }

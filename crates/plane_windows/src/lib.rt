@@ -4,8 +4,8 @@
 //! A `Cursor` holds the window: the input is behind by the bits that were read of it, until the cursor is closed. `PlaceTables` have the
 //! word that is first in an octet for each mask of what is due. A `Reading` reads flags, words, types and signs by them, and deals out the
 //! bits of half a block at once; a word whose option is not known yet, or for which the window is too short, is read item by item after the
-//! cursor is closed, by `word`, `types` and `signs`. `children`, `grandchildren` and `refine` read what a block sends in stages 2, 3 and 4.
-//! `take_gaggle` reads stage 1, the types of the parents, of all blocks of a gaggle, and adds what was found to the masks of the blocks.
+//! cursor is closed, by `word`, `types` and `signs`. `children`, `grandchildren` and `refine` read what a block sends in stages 2, 3 and 4,
+//! `stages` adds what was found to the masks of the block, and `gaggles` reads the blocks of a gaggle.
 #![tactic(auto)]
 
 mod apply;

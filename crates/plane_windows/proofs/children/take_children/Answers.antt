@@ -92,6 +92,14 @@ take_groups-requires-clause-few g c =
     let new = (rw c.in-Some-2.is at c.in_ok-new.ensures).among 3 (omega arith) (omega (arith, few, le)) in
     (c.either-families.ensures (bit c.of-before.result.families) (bit c.in-Some-2.new) 0 3 (shows_own c.of-before.result.families 3 sets.families.small) (shows_own c.in-Some-2.new 3 new.small)).small
 
+pub returns-clause-small : goal.returns-clause-small
+returns-clause-small g c =
+    let sets = c.of-before.ensures (bit c.args.above) (shows_own c.args.above 64 c.ranges.above.fits) in
+    let few = c.except.ensures.within 3 c.args.plan.now.live_shown.families.small in
+    let le = c.masked-due.ensures.within in
+    let new = (rw c.in-Some-2.is at c.in_ok-new.ensures).among 3 (omega arith) (omega (arith, few, le)) in
+    (c.either-families.ensures (bit c.of-before.result.families) (bit c.in-Some-2.new) 0 3 (shows_own c.of-before.result.families 3 sets.families.small) (shows_own c.in-Some-2.new 3 new.small)).small
+
 pub take_groups-requires-clause-some : goal.take_groups-requires-clause-some
 take_groups-requires-clause-some g c = λ j lt on.
     let plan = c.args.plan.now in
