@@ -1,12 +1,14 @@
 -- Blocks, as a stage reads them.
-use Rattle.std.proofs.Common.{◌≡◌, ℕ, ◌+◌, ◌*◌, ◌<◌, ◌≤◌, ◌^◌, ◌==◌, ◌&&◌, ◌||◌, not, List, ◌++◌, Bool, true, false, length, refl, sym, ap, subst, ◌∙◌, arith, Option, Some, None, Result, Ok, Err, ℤ, pos, get_or, pow_pos}
+use Rattle.std.proofs.Common.{◌≡◌, ℕ, ◌+◌, ◌*◌, ◌<◌, ◌≤◌, ◌^◌, ◌==◌, ◌&&◌, ◌||◌, not, List, ◌++◌, Bool, true, false, length, refl, sym, ap, subst, ◌∙◌, arith, Option, Some, None, Result, Ok, Err, ℤ, pos, get_or, pow_pos, if◌then◌else◌}
 use Rattle.std.proofs.lemmas.Nat.Bits.{bit_at_above}
 use Rattle.item_defs.specs.Bits.{bit}
-use Rattle.plane_defs.specs.Sets.{coded, type_due}
+use Rattle.plane_defs.specs.Sets.{significant, coded, type_due}
+use Rattle.plane_defs.specs.StepLaws.{IsAc}
 use Rattle.plane_defs.specs.Entries.{negative}
 use Rattle.plane_defs.specs.Spans.{span}
 use Rattle.plane_defs.proofs.Equations.{type_due-is}
 use Rattle.block_masks.specs.declared.gaggle.Gaggle.{Gaggle}
+use Rattle.block_masks.specs.Gaggles.{families_in}
 use Rattle.block_masks.specs.Masks.{Shows}
 use Rattle.block_masks.specs.Slices.{mask_in, minus_slot, PutsMask}
 use Rattle.block_masks.proofs.Viewing.{shows_own}
@@ -20,13 +22,14 @@ use Rattle.item_scripts.specs.Scripts.{Script, around}
 use Rattle.item_scripts.specs.Sources.{Found as Finding, got, ends, refuses, fails, by_fault, by_done}
 use Rattle.item_scripts.proofs.ReaderLaws.{run_around}
 use Rattle.plane_scripts.specs.States.{State}
-use Rattle.plane_scripts.specs.Stages.{Terms, parents_script}
+use Rattle.plane_scripts.specs.Stages.{Terms, parents_script, children_script, refinement_script}
 use Rattle.plane_windows.specs.declared.found.Found.{Found}
-use Rattle.plane_windows.specs.Takes.{AreIn, IsState, Marks}
+use Rattle.plane_windows.specs.Takes.{AreIn, IsState, Marks, OnSome}
 use Rattle.plane_windows.specs.Held.{Point, ReadsFrom}
-use Rattle.plane_windows.specs.HeldTakes.{HeldState}
-use Rattle.plane_windows.specs.Blocks.{IsAbove, Applies, HasRead, TakesBlock}
-use Rattle.plane_windows.proofs.Frames.{beside, blank, beside_blank, types_frame, around_is}
+use Rattle.plane_windows.specs.HeldTakes.{HeldState, HeldFamilies}
+use Rattle.plane_windows.specs.Grandchildren.{grandchildren_from}
+use Rattle.plane_windows.specs.Blocks.{IsAbove, Applies, HasRead, HeldStage, TakesBlock, part_from, stage_part}
+use Rattle.plane_windows.proofs.Frames.{as_read, as_before, beside, mapped, blank, beside_blank, parents_frame, grandchildren_frame, refinement_frame, children_frame, around_is}
 
 -- ---- a part that is read and put back
 
@@ -85,6 +88,12 @@ masks_put {r} {plane} {old = old} {mid} {new} low first second within bits minus
   minus = λ p lt. ap (λ m. bit m p) (second.other_slots minus_slot (omega arith) (λ e. omega (arith, e, low)) ∙ first.here) ∙ minus p lt;
 }
 
+-- what is significant before a stage
+pub seen_is : {above there now plane r : ℕ} {numbers cells : List ℤ} {s : State} → ((f g : ℕ → Bool) (start count : ℕ) → Shows above f start count → Shows there g start count → Shows now (λ p. f p || g p) start count) → above < 2 ^ 64 → there < 2 ^ 64 →
+    IsAbove above numbers plane → there ≡ mask_in cells r plane → HasRead plane r cells numbers s → (p : ℕ) → IsAc p → bit now p ≡ (significant numbers (plane + 1) p || s.bits p)
+seen_is {above} {there} {plane = plane} {numbers = numbers} told la lb marked e has p ac =
+    either_at told la lb p ac.1 ∙ ap (λ b. b || bit there p) (marked p ac) ∙ ap (λ b. significant numbers (plane + 1) p || b) (ap (λ m. bit m p) e ∙ has.bits p ac)
+
 -- the types that are due
 pub due_marks : {due above mask : ℕ} (plane : ℕ) (weights : List ℕ) (block : List ℤ) → ((f g : ℕ → Bool) (start count : ℕ) → Shows above f start count → Shows mask g start count → Shows due (λ p. not (f p) && g p) start count) → above < 2 ^ 64 → Shows mask (coded weights plane) 0 64 →
     IsAbove above block plane → (start count : ℕ) → 1 ≤ start → start + count ≤ 64 → Marks due (type_due block weights plane) start count
@@ -108,41 +117,93 @@ nothing_found = record { bits = 0; minus = 0 }
 pub blank_is : {g : Gaggle} (s : State) → AreIn g s.options → IsState g nothing_found (blank s)
 blank_is s are = record { options = are; bits = nothing_shown (λ p. false) (λ p. refl); minus = nothing_shown (λ p. false) (λ p. refl) }
 
--- the parents' script beside what was read before
-pub parents_beside : (t : Terms) (block : List ℤ) (s : State) → around (beside s.bits s.minus) (parents_script t block (blank s)) ≡ parents_script t block s
-parents_beside t block s =
-    sym (types_frame s.bits s.minus t.book (type_due block t.weights t.plane) false (span 1 3) (blank s) ∙ around_is (beside s.bits s.minus) (parents_script t block (blank s))) ∙ ap (parents_script t block) (beside_blank s)
+-- nothing was found yet
+pub blank_found : {g : Gaggle} {f : Found} (s : State) → f.bits ≡ 0 → f.minus ≡ 0 → AreIn g s.options → IsState g f (blank s)
+blank_found s none no_minus are = record {
+  options = are;
+  bits = subst (λ m. Shows m (λ p. false) 0 64) (sym none) (nothing_shown (λ p. false) (λ p. refl));
+  minus = subst (λ m. Shows m (λ p. false) 0 64) (sym no_minus) (nothing_shown (λ p. false) (λ p. refl));
+}
 
--- what was found is put beside what was read before
-module _ {plane r : ℕ} {found : Found} {old new : List ℤ} {block : List ℤ} (applies : Applies plane r found old new) {g : Gaggle} {s now : State} (has : HasRead plane r old block s) (is : IsState g found now) where
-  pub has_beside : HasRead plane r new block (beside s.bits s.minus now)
-  has_beside = record {
-    bits = λ p ac.
-        let z : 0 + p ≡ p = omega arith in
-        applies.bits p ac.1 ∙ (λ i. has.bits p ac i || (is.bits.at p ac.1 ∙ ap now.bits z) i);
-    minus = λ p ac.
-        let z : 0 + p ≡ p = omega arith in
-        applies.minus p ac.1 ∙ (λ i. has.minus p ac i || (is.minus.at p ac.1 ∙ ap now.minus z) i) ∙ or_assoc (negative (get_or block p (pos 0))) (s.minus p) (now.minus p);
+-- ---- a stage beside what was read before
+
+module _ (part : State → Script State State) (s : State) (families : (ℕ → Bool) → ℕ → Bool) (same : families s.families ≡ s.families)
+    (frame : (u : State) → part (beside s.bits s.minus families u) ≡ mapped (beside s.bits s.minus families) (beside s.bits s.minus families) (part u)) where
+  part_beside : around (beside s.bits s.minus families) (part (blank s)) ≡ part s
+  part_beside = sym (frame (blank s) ∙ around_is (beside s.bits s.minus families) (part (blank s))) ∙ ap part (beside_blank s families same)
+
+  module _ {I : Type 0} {k : SourceOf I} {g : Gaggle} {f : Found} {x y : Point I} (now : State) (is : IsState g f now) where
+    pub stage_held : (result : Result (Option ℕ) TextFault) → OnSome result (λ m. Shows m (families now.families) 0 3) → ReadsFrom k (part (blank s)) (by_done result now now) x y → HeldStage k (part s) s result g f x y
+    stage_held result shown read =
+        let end = beside s.bits s.minus families now in
+        record {
+          now = end;
+          options = is.options;
+          bits = λ p lt. let z : 0 + p ≡ p = omega arith in ap (λ b. s.bits p || b) (sym (is.bits.at p lt ∙ ap now.bits z));
+          minus = λ p lt. let z : 0 + p ≡ p = omega arith in ap (λ b. s.minus p || b) (sym (is.minus.at p lt ∙ ap now.minus z));
+          families = shown;
+          read = subst (λ z. ReadsFrom k z (by_done result end end) x y) part_beside (reads_around (beside s.bits s.minus families) (part (blank s)) result now read);
+        }
+
+-- stages 1, 3 and 4
+part_frame : (t : Terms) (stage : ℕ) (block : List ℤ) (earlier : State) (bits minus : ℕ → Bool) (families : (ℕ → Bool) → ℕ → Bool) (u : State) →
+    part_from t stage block earlier (beside bits minus families u) ≡ mapped (beside bits minus families) (beside bits minus families) (part_from t stage block earlier u)
+part_frame t stage block earlier bits minus families u = by_stage (stage == 1) (stage == 3)
+  where
+    put : State → State
+    put = beside bits minus families
+
+    by_stage : (one three : Bool) → (if one then parents_script t block (beside bits minus families u) else if three then grandchildren_from t block earlier (beside bits minus families u) else refinement_script t block (beside bits minus families u)) ≡
+        mapped (beside bits minus families) (beside bits minus families) (if one then parents_script t block u else if three then grandchildren_from t block earlier u else refinement_script t block u)
+    by_stage true three = parents_frame bits minus families t block u
+    by_stage false true = grandchildren_frame bits minus families t block earlier u
+    by_stage false false = refinement_frame bits minus families t block u
+
+abbrev numbers_part : Terms → (stage : ℕ) → List ℤ → State → State → Script State State
+numbers_part t stage block s u = part_from t stage block s u
+
+module _ {I : Type 0} {k : SourceOf I} (t : Terms) (stage : ℕ) (block : List ℤ) (s : State) {g : Gaggle} {f : Found} {x y : Point I} where
+  held_part : stage == 2 ≡ false → (result : Result (Option ℕ) TextFault) → HeldStage k (part_from t stage block s s) s result g f x y → HeldStage k (stage_part t stage block s) s result g f x y
+  held_part other result h = subst (λ b. HeldStage k (if b then children_script t block s else part_from t stage block s s) s result g f x y) (sym other) h
+
+  numbers_stage : (o : Result (Option (Unit {0})) TextFault) (result : Result (Option ℕ) TextFault) → OnSome result (λ m. Shows m s.families 0 3) → ((h : State) → ReadsFrom k (numbers_part t stage block s (blank s)) (by_done o h h) x y → ReadsFrom k (numbers_part t stage block s (blank s)) (by_done result h h) x y) →
+      stage == 2 ≡ false → HeldState k (numbers_part t stage block s (blank s)) o g f x y → HeldStage k (stage_part t stage block s) s result g f x y
+  numbers_stage o result shown turn other h =
+      held_part other result (stage_held (numbers_part t stage block s) s (as_before s.families) refl (part_frame t stage block s s.bits s.minus (as_before s.families)) h.now h.is result shown (turn h.now h.read))
+
+  pub numbers_fault : (fault : TextFault) → stage == 2 ≡ false → HeldState {X = Unit {0}} k (numbers_part t stage block s (blank s)) (Err fault) g f x y → HeldStage k (stage_part t stage block s) s (Err fault) g f x y
+  numbers_fault fault = numbers_stage (Err fault) (Err fault) tt (λ h r. r)
+
+  pub numbers_cut : stage == 2 ≡ false → HeldState {X = Unit {0}} k (numbers_part t stage block s (blank s)) (Ok None) g f x y → HeldStage k (stage_part t stage block s) s (Ok None) g f x y
+  numbers_cut = numbers_stage (Ok None) (Ok None) tt (λ h r. r)
+
+  pub numbers_read : {m : ℕ} → Shows m s.families 0 3 → stage == 2 ≡ false → HeldState {X = Unit {0}} k (numbers_part t stage block s (blank s)) (Ok (Some tt)) g f x y → HeldStage k (stage_part t stage block s) s (Ok (Some m)) g f x y
+  numbers_read {m} shown = numbers_stage (Ok (Some tt)) (Ok (Some m)) shown (λ h r. r)
+
+  -- stage 2
+  pub children_read : (result : Result (Option ℕ) TextFault) → stage == 2 ≡ true → HeldFamilies k (children_script t block (blank s)) result g f x y → HeldStage k (stage_part t stage block s) s result g f x y
+  children_read result two h =
+      subst (λ b. HeldStage k (if b then children_script t block s else part_from t stage block s s) s result g f x y) (sym two)
+      (stage_held (children_script t block) s as_read refl (children_frame s.bits s.minus as_read (λ F. refl) t block) h.now h.is result h.families h.read)
+
+-- ---- what was found is put beside what was read before
+
+or_assoc : (a b c : Bool) → ((a || b) || c) ≡ (a || (b || c))
+or_assoc true b c = refl
+or_assoc false b c = refl
+
+module _ {I : Type 0} {k : SourceOf I} {script : Script State State} {plane r : ℕ} {found : Found} {old new : List ℤ} {block : List ℤ} (applies : Applies plane r found old new) {g : Gaggle} {s : State} (has : HasRead plane r old block s) {x y : Point I} where
+  pub has_beside : {result : Result (Option ℕ) TextFault} → (h : HeldStage k script s result g found x y) → HasRead plane r new block h.now
+  has_beside h = record {
+    bits = λ p ac. applies.bits p ac.1 ∙ ap (λ b. b || bit found.bits p) (has.bits p ac) ∙ sym (h.bits p ac.1);
+    minus = λ p ac. applies.minus p ac.1 ∙ ap (λ b. b || bit found.minus p) (has.minus p ac) ∙ or_assoc (negative (get_or block p (pos 0))) (s.minus p) (bit found.minus p) ∙ ap (λ b. negative (get_or block p (pos 0)) || b) (sym (h.minus p ac.1));
   }
-    where
-      or_assoc : (a b c : Bool) → ((a || b) || c) ≡ (a || (b || c))
-      or_assoc true b c = refl
-      or_assoc false b c = refl
 
--- a stage of a block that was read beside what was read before
-module _ {I : Type 0} {k : SourceOf I} (t : Terms) (block : List ℤ) (s : State) {plane r : ℕ} {found : Found} {old new : List ℤ} (applies : Applies plane r found old new) (has : HasRead plane r old block s) {g : Gaggle} {x y : Point I} where
-  beside_read : (result : Result (Option (Unit {0})) TextFault) (h : HeldState k (parents_script t block (blank s)) result g found x y) → (let now = beside s.bits s.minus h.now in ReadsFrom k (parents_script t block s) (by_done result now now) x y)
-  beside_read result h =
-      let now = beside s.bits s.minus h.now in
-      subst (λ z. ReadsFrom k z (by_done result now now) x y) (parents_beside t block s) (reads_around (beside s.bits s.minus) (parents_script t block (blank s)) result h.now h.read)
+  pub block_fault : (fault : TextFault) {mark : ℤ} → HeldStage k script s (Err fault) g found x y → TakesBlock k plane r block script (Err fault) g mark new x y
+  block_fault fault h = record { now = h.now; options = h.options; has = has_beside h; families = tt; read = h.read }
 
-  pub block_fault : (fault : TextFault) → HeldState {X = Unit {0}} k (parents_script t block (blank s)) (Err fault) g found x y → TakesBlock k plane r block (parents_script t block s) (Err fault) g new x y
-  block_fault fault h = record { now = beside s.bits s.minus h.now; options = h.is.options; has = has_beside applies has h.is; read = beside_read (Err fault) h }
+  pub block_cut : {mark : ℤ} → HeldStage k script s (Ok None) g found x y → TakesBlock k plane r block script (Ok Ended) g mark new x y
+  block_cut h = record { now = h.now; options = h.options; has = has_beside h; families = tt; read = h.read }
 
-  pub block_ok : (o : Option (Unit {0})) (part : Part) → (o ≡ Some tt → part ≡ Whole) → (o ≡ None → part ≡ Ended) → HeldState {X = Unit {0}} k (parents_script t block (blank s)) (Ok o) g found x y → TakesBlock k plane r block (parents_script t block s) (Ok part) g new x y
-  block_ok (Some u) part whole_is ended_is h =
-      subst (λ z. TakesBlock k plane r block (parents_script t block s) (Ok z) g new x y) (sym (whole_is refl))
-      (record { now = beside s.bits s.minus h.now; options = h.is.options; has = has_beside applies has h.is; read = beside_read (Ok (Some u)) h })
-  block_ok None part whole_is ended_is h =
-      subst (λ z. TakesBlock k plane r block (parents_script t block s) (Ok z) g new x y) (sym (ended_is refl))
-      (record { now = beside s.bits s.minus h.now; options = h.is.options; has = has_beside applies has h.is; read = beside_read (Ok None) h })
+  pub block_whole : {m : ℕ} {mark : ℤ} → m ≡ families_in mark → HeldStage k script s (Ok (Some m)) g found x y → TakesBlock k plane r block script (Ok Whole) g mark new x y
+  block_whole {m} e h = record { now = h.now; options = h.options; has = has_beside h; families = subst (λ n. Shows n h.now.families 0 3) e h.families; read = h.read }

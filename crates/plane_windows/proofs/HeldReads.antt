@@ -145,6 +145,10 @@ module _ {I : Type 0} {k : SourceOf I} where
       reads_fault g texts.LongInput p = reads_failed g _ p
       reads_fault g texts.Broken p = reads_failed g _ p
 
+-- the first part was read, and then the next
+pub reads_then : {I G A B : Type 0} {k : SourceOf I} (r : Script G A) (next : A → Script G B) (a : A) (f : Found G B) {x y z : Point I} → ReadsFrom k r (got a) x y → ReadsFrom k (next a) f y z → ReadsFrom k (then_ask r next) f x z
+reads_then r next a f p q = reads_later (then_ask r next) (next a) f (leads_got r next a p) q
+
 -- once the window is let go, exactly the bits that decide were taken
 pub reads_closed : {I G A : Type 0} {k : SourceOf I} (s : Script G A) (f : Found G A) {x y z : Point I} → x.read ≡ [] → ReadsFrom k s f x y → Stays k y z → z.read ≡ [] → (y.read ≡ [] → z.input ≡ y.input) → ReadsAs k s f x.input z.input
 reads_closed {I} {G} {A} {k} s f {x} {y} {z} none p stays none_then kept =

@@ -84,10 +84,10 @@ module _ (g : ℕ → Bool) (start count due value places : ℕ) (few : count �
   abbrev is_one : ℕ → Bool
   is_one p = bit places (p - start)
 
-  back : value_of (map is_one (filter g (span start count))) ≡ value
+  pub back : value_of (map is_one (filter g (span start count))) ≡ value
   back = spread.back g start count few shown fits
 
-  bits_are : bits_of (length (filter g (span start count))) value ≡ map is_one (filter g (span start count))
+  pub bits_are : bits_of (length (filter g (span start count))) value ≡ map is_one (filter g (span start count))
   bits_are =
       let here = map is_one (filter g (span start count)) in
       ap (λ v. bits_of (length (filter g (span start count))) v) (sym back) ∙ ap (λ n. bits_of n (value_of here)) (sym (length-map (filter g (span start count)) is_one)) ∙ bits_of-value_of here

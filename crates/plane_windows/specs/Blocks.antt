@@ -1,5 +1,5 @@
 -- What the masks of a block have of a plane that is read. (This project's own.)
-use Rattle.std.specs.Prelude.{◌≡◌, ◌<◌, ℕ, ◌+◌, ◌*◌, ℤ, pos, ◌||◌, List, length, Result, Ok}
+use Rattle.std.specs.Prelude.{◌≡◌, ◌<◌, ℕ, ◌+◌, ◌*◌, ◌==◌, ℤ, pos, ◌||◌, if◌then◌else◌, List, length, Option, Result, Ok}
 use lib.ListN.{get_or}
 use Rattle.item_defs.specs.Bits.{bit}
 use Rattle.base_122.specs.declared.book.Book.{Book}
@@ -8,17 +8,20 @@ use Rattle.plane_defs.specs.Entries.{negative}
 use Rattle.plane_defs.specs.StepLaws.{IsAc}
 use Rattle.block_masks.specs.declared.gaggle.Gaggle.{Gaggle}
 use Rattle.block_masks.specs.declared.plan.CodedPlane.{CodedPlane}
+use Rattle.block_masks.specs.Gaggles.{families_in}
+use Rattle.block_masks.specs.Masks.{Shows}
 use Rattle.block_masks.specs.Slices.{mask_in, minus_slot}
 use Rattle.bit_pipe.specs.declared.fault.Part.{Part}
 use Rattle.bit_pipe.specs.declared.fault.Part.TheVariants.{Whole}
 use Rattle.bit_pipe.specs.declared.fault.TextFault.{TextFault}
 use Rattle.bit_pipe.specs.Sources.{SourceOf}
 use Rattle.item_scripts.specs.Scripts.{Script}
-use Rattle.item_scripts.specs.Sources.{by_part}
+use Rattle.item_scripts.specs.Sources.{by_part, by_done}
 use Rattle.plane_scripts.specs.States.{State}
-use Rattle.plane_scripts.specs.Stages.{Terms}
+use Rattle.plane_scripts.specs.Stages.{Terms, parents_script, children_script, refinement_script}
 use Rattle.plane_windows.specs.declared.found.Found.{Found}
-use Rattle.plane_windows.specs.Takes.{AreIn}
+use Rattle.plane_windows.specs.Takes.{AreIn, OnSome}
+use Rattle.plane_windows.specs.Grandchildren.{grandchildren_from}
 use Rattle.plane_windows.specs.Held.{Point, ReadsFrom}
 
 abbrev pub terms_of : CodedPlane → Book → Terms
@@ -45,15 +48,37 @@ pub record HasRead (plane r : ℕ) (cells : List ℤ) (block : List ℤ) (s : St
   pub bits : (p : ℕ) → IsAc p → bit (mask_in cells r plane) p ≡ s.bits p
   pub minus : (p : ℕ) → IsAc p → bit (mask_in cells r minus_slot) p ≡ (negative (get_or block p (pos 0)) || s.minus p)
 
--- a stage of block r was read, and its masks and the gaggle have what was read
-pub record TakesBlock {I : Type 0} (k : SourceOf I) (plane r : ℕ) (block : List ℤ) (script : Script State State) (result : Result Part TextFault)
-    (g : Gaggle) (cells : List ℤ) (old new : Point I) : Type 0 where
-  pub now : State
-  pub options : AreIn g now.options
-  pub has : HasRead plane r cells block now
-  pub read : ReadsFrom k script (by_part result now now) old new
-
 -- this holds if all was read
 abbrev pub OnWhole : Result Part TextFault → Type 0 → Type 0
 OnWhole (Ok Whole) Holds = Holds
 OnWhole other Holds = Unit {0}
+
+-- what a block that is deep enough sends in stage 1, 3 or 4, beside the state before the stage
+abbrev pub part_from : Terms → (stage : ℕ) → List ℤ → (earlier : State) → State → Script State State
+part_from t stage block earlier s =
+    if stage == 1 then parents_script t block s else
+    if stage == 3 then grandchildren_from t block earlier s else refinement_script t block s
+
+-- the same in stage 1, 2, 3 or 4
+abbrev pub stage_part : Terms → (stage : ℕ) → List ℤ → State → Script State State
+stage_part t stage block s = if stage == 2 then children_script t block s else part_from t stage block s s
+
+-- a stage was read of a block whose state before it is s: the masks that were found have the bits and signs of the stage alone, and another
+-- has the families that are significant then
+pub record HeldStage {I : Type 0} (k : SourceOf I) (script : Script State State) (s : State) (result : Result (Option ℕ) TextFault) (g : Gaggle) (f : Found)
+    (old new : Point I) : Type 0 where
+  pub now : State
+  pub options : AreIn g now.options
+  pub bits : (p : ℕ) → p < 64 → now.bits p ≡ (s.bits p || bit f.bits p)
+  pub minus : (p : ℕ) → p < 64 → now.minus p ≡ (s.minus p || bit f.minus p)
+  pub families : OnSome result (λ m. Shows m now.families 0 3)
+  pub read : ReadsFrom k script (by_done result now now) old new
+
+-- a stage of block r was read, and its masks, its state and the gaggle have what was read
+pub record TakesBlock {I : Type 0} (k : SourceOf I) (plane r : ℕ) (block : List ℤ) (script : Script State State) (result : Result Part TextFault)
+    (g : Gaggle) (mark : ℤ) (cells : List ℤ) (old new : Point I) : Type 0 where
+  pub now : State
+  pub options : AreIn g now.options
+  pub has : HasRead plane r cells block now
+  pub families : OnWhole result (Shows (families_in mark) now.families 0 3)
+  pub read : ReadsFrom k script (by_part result now now) old new

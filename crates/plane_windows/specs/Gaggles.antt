@@ -1,7 +1,9 @@
 -- What the masks of a segment have of a plane that is read, gaggle by gaggle. (This project's own.)
-use Rattle.std.specs.Prelude.{◌<◌, ℕ, ◌*◌, ℤ, nat_lt, List, [], length, Result}
+use Rattle.std.specs.Prelude.{◌≡◌, ◌<◌, ℕ, ◌*◌, ℤ, pos, nat_lt, List, [], length, Result, Option}
 use lib.ListN.{get_or}
+use Rattle.plane_defs.specs.Marks.{depth_of}
 use Rattle.block_masks.specs.declared.gaggle.Gaggle.{Gaggle}
+use Rattle.block_masks.specs.Gaggles.{options_in, sent_in, families_in, options_at, sent_at}
 use Rattle.block_masks.specs.Masks.{Shows}
 use Rattle.block_masks.specs.Slices.{mask_in, above_slot}
 use Rattle.bit_pipe.specs.declared.fault.Part.{Part}
@@ -15,7 +17,7 @@ use Rattle.plane_scripts.specs.Planes.{PlaneState, of_block, with_block}
 use Rattle.plane_windows.specs.declared.gaggles.Blocks.{Blocks}
 use Rattle.plane_windows.specs.Takes.{AreIn}
 use Rattle.plane_windows.specs.Held.{Point, ReadsFrom}
-use Rattle.plane_windows.specs.Blocks.{IsAbove, HasRead}
+use Rattle.plane_windows.specs.Blocks.{IsAbove, HasRead, OnWhole}
 
 -- the deep blocks are those of a depth above the plane
 abbrev pub AreDeep : (plane : ℕ) → List ℕ → Blocks → Type 0
@@ -29,26 +31,58 @@ AreAbove plane cells numbers = (r : ℕ) → 64 * r < length cells → IsAbove (
 abbrev pub HavePlane : (plane : ℕ) → (cells : List ℤ) → List (List ℤ) → PlaneState → Type 0
 HavePlane plane cells numbers p = (r : ℕ) → 64 * r < length cells → HasRead plane r cells (get_or numbers r []) (p.blocks r)
 
--- stage 1 of the block r
-abbrev pub block_script : Terms → List ℕ → List (List ℤ) → ℕ → PlaneState → Script PlaneState PlaneState
-block_script t depths numbers r p = around (with_block p r) (stage_script t 1 (get_or depths r 0) (get_or numbers r []) (of_block p r))
+-- the states have the families of all blocks that are significant in the plane
+abbrev pub HaveFamilies : (marks : List ℤ) → PlaneState → Type 0
+HaveFamilies marks p = (r : ℕ) → r < length marks → Shows (families_in (get_or marks r (pos 0))) ((p.blocks r).families) 0 3
 
--- stage 1 of this number of blocks
-abbrev pub gaggle_script : Terms → List ℕ → List (List ℤ) → (first count : ℕ) → PlaneState → Script PlaneState PlaneState
-gaggle_script t depths numbers = in_turn (block_script t depths numbers)
+-- the states keep the depths of the blocks and the options of the gaggles
+pub record KeepStates (old new : List ℤ) : Type 0 where
+  pub long : length new ≡ length old
+  pub depths : (r : ℕ) → depth_of (get_or new r (pos 0)) ≡ depth_of (get_or old r (pos 0))
+  pub options : (r : ℕ) → options_in (get_or new r (pos 0)) ≡ options_in (get_or old r (pos 0))
+  pub sent : (r : ℕ) → sent_in (get_or new r (pos 0)) ≡ sent_in (get_or old r (pos 0))
 
--- blocks of gaggle g were read, and the masks and the gaggle have what was read
-pub record TakesBlocks {I : Type 0} (k : SourceOf I) (plane g : ℕ) (numbers : List (List ℤ)) (script : Script PlaneState PlaneState)
-    (result : Result Part TextFault) (gaggle : Gaggle) (cells : List ℤ) (old new : Point I) : Type 0 where
+-- the options of gaggle g that its first block's state has
+abbrev pub gaggle_at : (marks : List ℤ) → ℕ → Gaggle
+gaggle_at marks g = record { options = options_at marks g; sent = sent_at marks g }
+
+-- a stage of the block r
+abbrev pub block_script : Terms → (stage : ℕ) → List ℕ → List (List ℤ) → ℕ → PlaneState → Script PlaneState PlaneState
+block_script t stage depths numbers r p = around (with_block p r) (stage_script t stage (get_or depths r 0) (get_or numbers r []) (of_block p r))
+
+-- a stage of this number of blocks
+abbrev pub gaggle_script : Terms → (stage : ℕ) → List ℕ → List (List ℤ) → (first count : ℕ) → PlaneState → Script PlaneState PlaneState
+gaggle_script t stage depths numbers = in_turn (block_script t stage depths numbers)
+
+-- blocks of gaggle g were read, and the masks, the states and the gaggle have what was read; the other gaggles have the options that they had
+pub record TakesBlocks {I : Type 0} (k : SourceOf I) (plane g : ℕ) (numbers : List (List ℤ)) (before : PlaneState) (script : Script PlaneState PlaneState)
+    (result : Result Part TextFault) (gaggle : Gaggle) (cells marks : List ℤ) (old new : Point I) : Type 0 where
   pub now : PlaneState
   pub options : AreIn gaggle (now.options g)
+  pub others : (h : ℕ) → (h ≡ g → ⊥) → now.options h ≡ before.options h
   pub has : HavePlane plane cells numbers now
+  pub families : OnWhole result (HaveFamilies marks now)
   pub read : ReadsFrom k script (by_part result now now) old new
 
 -- the same once the window is let go: exactly the bits that decide were taken
-pub record TakesGaggle {I : Type 0} (k : SourceOf I) (plane g : ℕ) (numbers : List (List ℤ)) (script : Script PlaneState PlaneState)
-    (result : Result Part TextFault) (gaggle : Gaggle) (cells : List ℤ) (old new : Coming I) : Type 0 where
+pub record TakesGaggle {I : Type 0} (k : SourceOf I) (plane g : ℕ) (numbers : List (List ℤ)) (before : PlaneState) (script : Script PlaneState PlaneState)
+    (result : Result Part TextFault) (cells marks : List ℤ) (old new : Coming I) : Type 0 where
   pub now : PlaneState
-  pub options : AreIn gaggle (now.options g)
+  pub options : OnWhole result (AreIn (gaggle_at marks g) (now.options g))
+  pub others : (h : ℕ) → (h ≡ g → ⊥) → now.options h ≡ before.options h
   pub has : HavePlane plane cells numbers now
+  pub families : OnWhole result (HaveFamilies marks now)
+  pub read : ReadsAs k script (by_part result now now) old new
+
+-- the states have the options of all gaggles
+abbrev pub HaveOptions : (marks : List ℤ) → PlaneState → Type 0
+HaveOptions marks p = (g : ℕ) → 16 * g < length marks → AreIn (gaggle_at marks g) (p.options g)
+
+-- a stage of all blocks was read, and the masks and the states have what was read: exactly the bits that decide were taken
+pub record TakesStage {I : Type 0} (k : SourceOf I) (plane : ℕ) (numbers : List (List ℤ)) (script : Script PlaneState PlaneState)
+    (result : Result Part TextFault) (cells marks : List ℤ) (old new : Coming I) : Type 0 where
+  pub now : PlaneState
+  pub has : HavePlane plane cells numbers now
+  pub families : OnWhole result (HaveFamilies marks now)
+  pub options : OnWhole result (HaveOptions marks now)
   pub read : ReadsAs k script (by_part result now now) old new

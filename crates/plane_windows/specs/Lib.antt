@@ -5,3 +5,4 @@ pub mod HeldTakes
 pub mod Blocks
 pub mod Gaggles
 pub mod Groups
+pub mod Grandchildren

@@ -8,14 +8,15 @@ ghost use Rattle.plane_windows.specs.Takes.{AreIn};
 ghost use Rattle.plane_windows.specs.Held.{Holds, point};
 ghost use Rattle.plane_windows.specs.HeldTakes.{IsReading};
 ghost use Rattle.plane_windows.specs.Blocks.{terms_of, OnWhole};
-ghost use Rattle.plane_windows.specs.Gaggles.{AreDeep, AreAbove, HavePlane, gaggle_script, TakesBlocks, TakesGaggle};
-ghost use Rattle.block_masks.specs.Gaggles.{AreOptions};
+ghost use Rattle.plane_windows.specs.Gaggles.{AreDeep, AreAbove, HavePlane, HaveFamilies, KeepStates, gaggle_at, gaggle_script, TakesBlocks, TakesGaggle};
+ghost use Rattle.block_masks.specs.Gaggles.{AreOptions, options_at, sent_at};
+ghost use Rattle.plane_defs.specs.Marks.{depths_of};
 
 use crate::places::PlaceTables;
 use crate::reading::Reading;
-use crate::stages::take_block;
+use crate::stages::{Block, take_block};
 use bit_pipe::{BitIn, OctetIn, Part, TextFault};
-use block_masks::{CodedPlane, Column, Gaggle, has};
+use block_masks::{CodedPlane, Column, has, load, store};
 
 /// The blocks of a gaggle.
 #[derive(Clone, Copy)]
@@ -28,24 +29,29 @@ pub struct Blocks {
     pub deep: u64,
 }
 
-// Reads the types of the parents of the blocks of a gaggle.
-fn take_blocks<I: OctetIn>(
+// Reads what the blocks of a gaggle send in stage 1, 2, 3 or 4.
+fn take_blocks<I: OctetIn, const STAGE: u8>(
     input: &mut BitIn<I>,
     plan: &CodedPlane,
     reading: &mut Reading,
     blocks: Blocks,
     cells: &mut [i32],
+    marks: &mut [i32],
 ) -> Result<Part, TextFault>
     requires reading { IsReading I.source (coming input.old) reading.old }
-    requires whole { length cells.old % 64 ≡ 0 }
+    requires some { 1 ≤ STAGE }
+    requires stage { STAGE < 5 }
+    requires whole { length cells.old ≡ 64 * length marks.old }
     requires column { IsColumn cells.old blocks.first }
     requires gaggle { blocks.first.block % 16 ≡ 0 }
     requires count { blocks.count ≤ 16 }
-    requires within { 64 * (blocks.first.block + blocks.count) ≤ length cells.old }
-    ensures blocks { (depths : List ℕ) (numbers : List (List ℤ)) (p : PlaneState) → AreDeep plan.now.plane depths blocks → AreAbove plan.now.plane cells.old numbers → HavePlane plan.now.plane cells.old numbers p →
+    requires within { blocks.first.block + blocks.count ≤ length marks.old }
+    ensures blocks { (depths : List ℕ) (numbers : List (List ℤ)) (p : PlaneState) → AreDeep plan.now.plane depths blocks → AreAbove plan.now.plane cells.old numbers → HavePlane plan.now.plane cells.old numbers p → HaveFamilies marks.old p →
         AreIn reading.old.gaggle (p.options (blocks.first.block / 16)) →
-        TakesBlocks I.source plan.now.plane (blocks.first.block / 16) numbers (gaggle_script (terms_of plan.now reading.old.tables.now.words.book) depths numbers blocks.first.block blocks.count p) result reading.new.gaggle cells.new
+        TakesBlocks I.source plan.now.plane (blocks.first.block / 16) numbers p (gaggle_script (terms_of plan.now reading.old.tables.now.words.book) STAGE depths numbers blocks.first.block blocks.count p) result reading.new.gaggle cells.new marks.new
         (point (coming input.old) reading.old.cursor) (point (coming input.new) reading.new.cursor) }
+    ensures states { KeepStates marks.old marks.new }
+    ensures above { (numbers : List (List ℤ)) → AreAbove plan.now.plane cells.old numbers → AreAbove plan.now.plane cells.new numbers }
     ensures tables { reading.new.tables ≡ reading.old.tables }
     ensures reading { OnWhole result (IsReading I.source (coming input.new) reading.new) }
     ensures holds { Holds I.source (coming input.new) reading.new.cursor }
@@ -57,7 +63,13 @@ fn take_blocks<I: OctetIn>(
             continue;
         }
         let column = blocks.first.further(cells, usize::from(k));
-        let Part::Whole = take_block(input, plan, reading, column, cells)? else {
+        let mut block = Block {
+            column,
+            mark: marks[column.block],
+        };
+        let read = take_block::<I, STAGE>(input, plan, reading, &mut block, cells);
+        marks[column.block] = block.mark;
+        let Part::Whole = read? else {
             return Ok(Part::Ended);
         };
     }
@@ -73,39 +85,49 @@ pub struct Terms<'a> {
     pub tables: &'a PlaceTables,
 }
 
-/// Reads stage 1 of a gaggle, the types of the parents of its blocks with their signs (docs/formats.md, "Bit planes"), and adds what was
-/// read to the masks of the blocks. `gaggle` has the options that were read before in this gaggle and plane, and then those that are known.
+/// Reads stage 1, 2, 3 or 4 of a gaggle (docs/formats.md, "Bit planes"), and adds what was read to the masks of its blocks.
 ///
-/// The masks of the plane must have what was read of the blocks in it before. Returns `Ended` if the input or the bound ends within an
-/// item; the masks have what was read before.
+/// The masks of the plane must have what was read of the blocks in it before. `marks` has the state of each block: its families that are
+/// significant in the plane, and in that of a gaggle's first block the options that were read in this gaggle and plane. Returns `Ended` if
+/// the input or the bound ends within an item; the masks have what was read before.
 ///
 /// # Errors
 ///
-/// `BadOption` for an identifier that names no option; the faults of the input. The masks have what was read before.
-pub fn take_gaggle<I: OctetIn>(
+/// `BadOption` for an identifier that names no option, `FalseFlag` for a word that leaves a set without a significant member, and the
+/// faults of the input. The masks have what was read before.
+pub fn take_gaggle<I: OctetIn, const STAGE: u8>(
     input: &mut BitIn<I>,
     terms: &Terms,
-    gaggle: &mut Gaggle,
     blocks: Blocks,
     cells: &mut [i32],
+    marks: &mut [i32],
 ) -> Result<Part, TextFault>
     requires open { IsIn (coming input.old) }
-    requires known { AreOptions gaggle.old.options }
-    requires whole { length cells.old % 64 ≡ 0 }
+    requires some { 1 ≤ STAGE }
+    requires stage { STAGE < 5 }
+    requires known { AreOptions (options_at marks.old (blocks.first.block / 16)) }
+    requires whole { length cells.old ≡ 64 * length marks.old }
     requires column { IsColumn cells.old blocks.first }
     requires gaggle { blocks.first.block % 16 ≡ 0 }
     requires count { blocks.count ≤ 16 }
-    requires within { 64 * (blocks.first.block + blocks.count) ≤ length cells.old }
-    ensures blocks { (depths : List ℕ) (numbers : List (List ℤ)) (p : PlaneState) → AreDeep terms.now.plan.now.plane depths blocks → AreAbove terms.now.plan.now.plane cells.old numbers → HavePlane terms.now.plan.now.plane cells.old numbers p →
-        AreIn gaggle.old (p.options (blocks.first.block / 16)) →
-        TakesGaggle I.source terms.now.plan.now.plane (blocks.first.block / 16) numbers (gaggle_script (terms_of terms.now.plan.now terms.now.tables.now.words.book) depths numbers blocks.first.block blocks.count p) result gaggle.new cells.new (coming input.old) (coming input.new) }
-    ensures options { OnWhole result (AreOptions gaggle.new.options) }
+    requires within { blocks.first.block + blocks.count ≤ length marks.old }
+    ensures blocks { (depths : List ℕ) (numbers : List (List ℤ)) (p : PlaneState) → AreDeep terms.now.plan.now.plane depths blocks → AreAbove terms.now.plan.now.plane cells.old numbers → HavePlane terms.now.plan.now.plane cells.old numbers p → HaveFamilies marks.old p →
+        AreIn (gaggle_at marks.old (blocks.first.block / 16)) (p.options (blocks.first.block / 16)) →
+        TakesGaggle I.source terms.now.plan.now.plane (blocks.first.block / 16) numbers p (gaggle_script (terms_of terms.now.plan.now terms.now.tables.now.words.book) STAGE depths numbers blocks.first.block blocks.count p) result cells.new marks.new (coming input.old) (coming input.new) }
+    ensures above { (numbers : List (List ℤ)) → AreAbove terms.now.plan.now.plane cells.old numbers → AreAbove terms.now.plan.now.plane cells.new numbers }
+    ensures options { OnWhole result (AreOptions (options_at marks.new (blocks.first.block / 16))) }
+    ensures others { (g : ℕ) → (g ≡ blocks.first.block / 16 → ⊥) → (options_at marks.new g ≡ options_at marks.old g) × (sent_at marks.new g ≡ sent_at marks.old g) }
+    ensures depths { depths_of marks.new ≡ depths_of marks.old }
     ensures is_in { IsIn (coming input.new) }
     ensures size { length cells.new ≡ length cells.old }
 {
-    let mut reading = Reading::open(input, terms.tables, *gaggle);
-    let read = take_blocks(input, terms.plan, &mut reading, blocks, cells);
+    let g = blocks.first.block / 16;
+    let mut reading = Reading::open(input, terms.tables, load(marks, g));
+    let read = take_blocks::<I, STAGE>(input, terms.plan, &mut reading, blocks, cells, marks);
     reading.close(input);
-    *gaggle = reading.gaggle;
-    read
+    let Part::Whole = read? else {
+        return Ok(Part::Ended);
+    };
+    store(marks, g, reading.gaggle);
+    Ok(Part::Whole)
 }

@@ -1,25 +1,30 @@
 // The reader of the words of a gaggle in a stage, from a window of the text that is held while it lasts.
 
-ghost use Rattle.std.specs.Prelude.{◌≡◌, ◌≤◌, ◌<◌, ◌+◌, ◌^◌, ℕ, Bool, true, []};
+ghost use Rattle.std.specs.Prelude.{◌≡◌, ◌≤◌, ◌<◌, ◌+◌, ◌^◌, ◌&&◌, ℕ, Bool, true, false, [], map, filter, Some, Ok};
+ghost use Rattle.item_scripts.specs.Scripts.{in_turn};
 ghost use Rattle.bit_pipe.specs.Coming.{coming, IsIn};
 ghost use Rattle.block_masks.specs.Masks.{Shows};
 ghost use Rattle.std.specs.List.{list_any};
 ghost use Rattle.item_defs.specs.Bits.{bit};
 ghost use Rattle.plane_defs.specs.Spans.{span};
 ghost use Rattle.plane_scripts.specs.States.{State};
-ghost use Rattle.plane_scripts.specs.Words.{types_script};
+ghost use Rattle.plane_defs.specs.Steps.{some_one_where, ones_at};
+ghost use Rattle.plane_scripts.specs.Words.{due_script, types_script};
 ghost use Rattle.plane_windows.specs.Held.{Holds, Stays, point, has_left};
 
 use crate::cursor::Cursor;
-use crate::found::Found;
+use crate::found::{Found, placed};
 use crate::places::{PlaceTables, Rows, UNKNOWN};
 use crate::types::{Group, take_types};
-use crate::word::take_due;
+use crate::word::{count_of, take_due, take_flag};
 use bit_pipe::{BitIn, OctetIn, TextFault};
-use block_masks::{Gaggle, part, spread_first};
+use block_masks::{Gaggle, either, except, is_any, part, spread_first};
 
 // The greatest number of bits of a word of types and its signs.
 const MOST: u8 = 12;
+
+// The number of positions of a half of a block.
+pub(crate) const HALF: u8 = 32;
 
 // Returns whether a word with its signs can be read from the window by this table: its option is known, and the window, which is moved on
 // if it is too short, has their bits.
@@ -51,7 +56,7 @@ impl<'a> Reading<'a> {
     ghost use Rattle.block_masks.specs.Gaggles.{AreOptions};
     ghost use Rattle.plane_windows.specs.Takes.{AreIn, IsState, Marks, OnSome};
     ghost use Rattle.plane_windows.specs.Held.{read_of};
-    ghost use Rattle.plane_windows.specs.HeldTakes.{IsReading, HeldState, HeldPlaces};
+    ghost use Rattle.plane_windows.specs.HeldTakes.{IsReading, HeldFlag, HeldState, HeldPlaces, HeldOnes, AreAmong, marked_script};
 
     // Returns what words are read with from here on, by the options of a gaggle that are known.
     pub fn open<I: OctetIn>(
@@ -86,6 +91,46 @@ impl<'a> Reading<'a> {
         ensures gaggle { self.new.gaggle ≡ self.old.gaggle }
     {
         self.cursor.close(input);
+    }
+
+    // Reads a raw bit without the window.
+    #[inline(never)]
+    fn flag_singly<I: OctetIn>(&mut self, input: &mut BitIn<I>) -> Result<Option<bool>, TextFault>
+        requires reading { IsReading I.source (coming input.old) self.old }
+        ensures flag { HeldFlag I.source result (point (coming input.old) self.old.cursor) (point (coming input.new) self.new.cursor) }
+        ensures gaggle { self.new.gaggle ≡ self.old.gaggle }
+        ensures tables { self.new.tables ≡ self.old.tables }
+        ensures found { self.new.found ≡ self.old.found }
+        ensures reading { OnSome result (λ x. IsReading I.source (coming input.new) self.new) }
+        ensures holds { Holds I.source (coming input.new) self.new.cursor }
+        ensures is_in { IsIn (coming input.new) }
+    {
+        self.cursor.close(input);
+        let Some(flag) = take_flag(input)? else {
+            return Ok(None);
+        };
+        self.cursor = Cursor::open(input);
+        Ok(Some(flag))
+    }
+
+    // Reads a raw bit.
+    #[inline(always)]
+    pub fn flag<I: OctetIn>(&mut self, input: &mut BitIn<I>) -> Result<Option<bool>, TextFault>
+        requires reading { IsReading I.source (coming input.old) self.old }
+        ensures flag { HeldFlag I.source result (point (coming input.old) self.old.cursor) (point (coming input.new) self.new.cursor) }
+        ensures gaggle { self.new.gaggle ≡ self.old.gaggle }
+        ensures tables { self.new.tables ≡ self.old.tables }
+        ensures found { self.new.found ≡ self.old.found }
+        ensures reading { OnSome result (λ x. IsReading I.source (coming input.new) self.new) }
+        ensures holds { Holds I.source (coming input.new) self.new.cursor }
+        ensures is_in { IsIn (coming input.new) }
+    {
+        if !self.cursor.need(input, 1) {
+            return self.flag_singly(input);
+        }
+        let flag = self.cursor.rest >> 63 == 1;
+        self.cursor.pass(1);
+        Ok(Some(flag))
     }
 
     // Reads the word of these places without the window.
@@ -139,6 +184,99 @@ impl<'a> Reading<'a> {
         let first = self.tables.first(table, self.cursor.rest);
         self.cursor.pass(first.len);
         Ok(Some(u64::from(first.places)))
+    }
+
+    // Reads the word of these due flags, of which at least one must be 1 if `is_wanted` is set, and returns those whose bit is 1.
+    #[inline(always)]
+    pub fn some_places<I: OctetIn>(
+        &mut self,
+        input: &mut BitIn<I>,
+        due: u64,
+        is_wanted: bool,
+    ) -> Result<Option<u64>, TextFault>
+        requires reading { IsReading I.source (coming input.old) self.old }
+        requires due { due < 16 }
+        requires some { is_wanted ≡ true → 0 < due }
+        ensures places { (s : State) (g : ℕ → Bool) (start count : ℕ) → AreIn self.old.gaggle s.options → count ≤ 4 → Shows due g start count →
+            HeldOnes I.source (due_script self.old.tables.now.words.book g (some_one_where is_wanted) (span start count) s) start count s result self.new.gaggle
+            (point (coming input.old) self.old.cursor) (point (coming input.new) self.new.cursor) }
+        ensures among { OnSome result (AreAmong due) }
+        ensures tables { self.new.tables ≡ self.old.tables }
+        ensures found { self.new.found ≡ self.old.found }
+        ensures reading { OnSome result (λ x. IsReading I.source (coming input.new) self.new) }
+        ensures holds { Holds I.source (coming input.new) self.new.cursor }
+        ensures is_in { IsIn (coming input.new) }
+    {
+        let Some(places) = self.places(input, due)? else {
+            return Ok(None);
+        };
+        if is_wanted && places == 0 {
+            return Err(TextFault::FalseFlag);
+        }
+        Ok(Some(places))
+    }
+
+    // Reads the word of these due flags, of which the wanted ones must be 1, and returns those whose bit is 1.
+    #[inline(always)]
+    pub fn wanted_places<I: OctetIn>(
+        &mut self,
+        input: &mut BitIn<I>,
+        due: u64,
+        wanted: u64,
+    ) -> Result<Option<u64>, TextFault>
+        requires reading { IsReading I.source (coming input.old) self.old }
+        requires due { due < 16 }
+        ensures places { (s : State) (g forced : ℕ → Bool) (start count : ℕ) → AreIn self.old.gaggle s.options → count ≤ 4 → Shows due g start count → Shows wanted (λ p. g p && forced p) start count →
+            HeldOnes I.source (due_script self.old.tables.now.words.book g (ones_at (map forced (filter g (span start count)))) (span start count) s) start count s result self.new.gaggle
+            (point (coming input.old) self.old.cursor) (point (coming input.new) self.new.cursor) }
+        ensures among { OnSome result (AreAmong due) }
+        ensures tables { self.new.tables ≡ self.old.tables }
+        ensures found { self.new.found ≡ self.old.found }
+        ensures reading { OnSome result (λ x. IsReading I.source (coming input.new) self.new) }
+        ensures holds { Holds I.source (coming input.new) self.new.cursor }
+        ensures is_in { IsIn (coming input.new) }
+    {
+        let Some(places) = self.places(input, due)? else {
+            return Ok(None);
+        };
+        if is_any(except(places, wanted)) {
+            return Err(TextFault::FalseFlag);
+        }
+        Ok(Some(places))
+    }
+
+    // Deals the bits that are next out to the positions of a mask of 32 from `start` on, the first bit to the first position, if the
+    // window has 32 bits; returns whether it has. A table has what four positions get, so there is no branch.
+    #[inline(always)]
+    pub fn deal<I: OctetIn>(&mut self, input: &mut BitIn<I>, here: u64, start: u8) -> bool
+        requires reading { IsReading I.source (coming input.old) self.old }
+        requires start { start ≤ 32 }
+        ensures dealt { result ≡ true → (s : State) (g : ℕ → Bool) → IsState self.old.gaggle self.old.found s → Shows here g start 32 →
+            HeldState {X = Unit {0}} I.source (in_turn (marked_script g) start 32 s) (Ok (Some tt)) self.new.gaggle self.new.found (point (coming input.old) self.old.cursor) (point (coming input.new) self.new.cursor) }
+        ensures stays { result ≡ false → Stays I.source (point (coming input.old) self.old.cursor) (point (coming input.new) self.new.cursor) }
+        ensures kept { result ≡ false → self.new.found ≡ self.old.found }
+        ensures gaggle { self.new.gaggle ≡ self.old.gaggle }
+        ensures tables { self.new.tables ≡ self.old.tables }
+        ensures reading { IsReading I.source (coming input.new) self.new }
+    {
+        if !self.cursor.need(input, HALF) {
+            return false;
+        }
+        let mut bits = self.found.bits;
+        let mut rest = self.cursor.rest;
+        let mut count = 0;
+        for k in 0..8 {
+            let at = start + 4 * k;
+            let due = part(here, 4 * k, 4);
+            let places = spread_first(due, (rest >> 60) as u8);
+            bits = either(bits, placed(places, at));
+            let width = count_of(due);
+            rest <<= width;
+            count += width;
+        }
+        self.found.bits = bits;
+        self.cursor.pass(count);
+        true
     }
 
     // Reads the types of a group's due positions, and the signs of those that are 1, without the window.
