@@ -42,7 +42,7 @@ found_in put (fails g e) = fails (put g) e
 abbrev outcome_in : {S T : Type 0} → (S → T) → Outcome S S → Outcome T T
 outcome_in put (whole a left) = whole (put a) left
 outcome_in put (cut g) = cut (put g)
-outcome_in put (refused g name) = refused (put g) name
+outcome_in put (refused g name left) = refused (put g) name left
 
 module _ {S T : Type 0} (put : S → T) where
   fault_in : (fault : TextFault) (s : S) → found_in put (by_fault fault s) ≡ by_fault fault (put s)

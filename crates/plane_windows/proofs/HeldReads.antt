@@ -131,7 +131,7 @@ module _ {I : Type 0} {k : SourceOf I} where
       reads_cut g p = record { bits = p.bits; moves = p.moves; says = later r next p.bits (cut g) p.says; stops = p.stops }
 
       pub reads_refused : (g : G) (name : Refusal) → ReadsFrom k r (refuses g name) x y → ReadsFrom k (then_ask r next) (refuses g name) x y
-      reads_refused g name p = record { bits = p.bits; moves = p.moves; says = λ more. later r next (p.bits ++ more) (refused g name) (p.says more); stops = tt }
+      reads_refused g name p = record { bits = p.bits; moves = p.moves; says = λ more. later r next (p.bits ++ more) (refused g name more) (p.says more); stops = tt }
 
       reads_failed : (g : G) (e : InFault) → ReadsFrom k r (fails g e) x y → ReadsFrom k (then_ask r next) (fails g e) x y
       reads_failed g e p = record { bits = p.bits; moves = p.moves; says = later r next p.bits (cut g) p.says; stops = p.stops }

@@ -47,7 +47,7 @@ module _ {G A : Type 0} (g : G) (form : Form) (next : ℕ → Script G A) (a : A
   asked_says = here bad refl
     where
       here : (b : Bool) → bad ≡ b → Says (ask g form next) (spelling form.shape n) (unless_bad b g a)
-      here true e = λ more. ap (answered g form (λ m. run (next m))) (spelt_first form.shape n more sound said) ∙ ap (λ x. unless_named g x (run (next n) more)) (refusal ∙ ap (λ b. if b then Some false_flag else None) e)
+      here true e = λ more. ap (answered g form (λ m. run (next m))) (spelt_first form.shape n more sound said) ∙ ap (λ x. unless_named g x more (run (next n) more)) (refusal ∙ ap (λ b. if b then Some false_flag else None) e)
       here false e = λ more. goes_on_ask g form next n sound said (refusal ∙ ap (λ b. if b then Some false_flag else None) e) more ∙ ap (λ x. run x more) is
 
 -- ---- a word
