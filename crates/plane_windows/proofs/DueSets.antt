@@ -8,7 +8,7 @@ use Rattle.plane_defs.specs.declared.sets.Set.TheVariants.{Descendants, Family, 
 use Rattle.plane_defs.specs.Spans.{span}
 use Rattle.plane_defs.specs.Sets.{members}
 use Rattle.block_masks.specs.Masks.{Shows}
-use Rattle.plane_scripts.proofs.FlagCore.{Some_in, Some_below, within, below_all, family_at, quad_at}
+use Rattle.plane_scripts.proofs.SomePlaces.{Some_in, Some_below, within, below_all, family_at, quad_at}
 use Rattle.plane_scripts.proofs.StageGoes.{some_place, place_some}
 use Rattle.plane_windows.proofs.SmallTests.{never}
 
