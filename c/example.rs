@@ -4,11 +4,13 @@ use std::io::{Read, Write};
 
 #[repr(C)]
 struct Setting {
+    size: u32,
     width: u32,
     rows: u32,
     segment: u32,
     limit: u32,
     packet: u32,
+    total: u64,
     apid: u16,
     image: u16,
     depth: u8,
@@ -20,16 +22,20 @@ struct Setting {
     stop_stage: u8,
     optimal: u8,
     weights: [u8; 10],
+    has_book: u8,
+    book: [u8; 138],
 }
 
 #[repr(C)]
 #[derive(Default)]
 struct Encoded {
+    size: u32,
+    field: u32,
     octets: u64,
+    all: u64,
     packets: u64,
     segments: u32,
-    field: u32,
-    row: u32,
+    rows: u32,
     column: u32,
     value: i32,
 }
@@ -37,10 +43,11 @@ struct Encoded {
 #[repr(C)]
 #[derive(Default)]
 struct Decoded {
+    size: u32,
+    width: u32,
     octets: u64,
     ranges: u64,
     fault_octets: u64,
-    width: u32,
     rows: u32,
     written: u32,
     segment: u32,
@@ -83,7 +90,7 @@ unsafe extern "C" {
 // The answer, the packets and the report.
 fn encode(setting: &Setting, raster: &[u8], size: usize) -> (u32, Vec<u8>, Encoded) {
     let mut room = vec![0; size];
-    let mut report = Encoded::default();
+    let mut report = Encoded { size: size_of::<Encoded>() as u32, ..Encoded::default() };
     let answer = unsafe {
         strip122_encode(setting, raster.as_ptr(), raster.len(), room.as_mut_ptr(), size, &mut report)
     };
@@ -97,7 +104,7 @@ fn encode(setting: &Setting, raster: &[u8], size: usize) -> (u32, Vec<u8>, Encod
 fn decode(apid: u16, packets: &[u8]) -> (u32, Vec<u8>) {
     let mut room = Vec::new();
     let mut ranges = vec![Range::default(); 16];
-    let mut report = Decoded::default();
+    let mut report = Decoded { size: size_of::<Decoded>() as u32, ..Decoded::default() };
     loop {
         let answer = unsafe {
             strip122_decode(
@@ -121,11 +128,13 @@ fn decode(apid: u16, packets: &[u8]) -> (u32, Vec<u8>) {
 fn main() {
     let sizes: Vec<u32> = std::env::args().skip(1).map(|word| word.parse().expect("a number")).collect();
     let setting = Setting {
+        size: size_of::<Setting>() as u32,
         width: sizes[0],
         rows: sizes[1],
         segment: 64,
         limit: 0,
         packet: 1024,
+        total: 0,
         apid: 100,
         image: 0,
         depth: 8,
@@ -137,6 +146,8 @@ fn main() {
         stop_stage: 3,
         optimal: 1,
         weights: [0, 1, 1, 1, 2, 2, 2, 3, 3, 3],
+        has_book: 0,
+        book: [0; 138],
     };
     let mut raster = Vec::new();
     std::io::stdin().read_to_end(&mut raster).expect("a raster");

@@ -1,5 +1,5 @@
 -- The report on a picture. This project's own.
-use Rattle.std.specs.Prelude.{◌≡◌, ◌≤◌, ℕ, ◌==◌, ◌&&◌, not, if◌then◌else◌, List, [], ◌∷◌, length, Option, None, Some, is_none, Result, Ok, Err, ⊤}
+use Rattle.std.specs.Prelude.{◌≡◌, ◌≢◌, ◌≤◌, ℕ, ◌==◌, ◌&&◌, not, if◌then◌else◌, List, [], ◌∷◌, length, Option, None, Some, is_none, Result, Ok, Err, ⊤}
 use Rattle.base_122.specs.Profile.{profile}
 use Rattle.base_122.specs.Ranges.{IsGeometryInRange, rows_range}
 use Rattle.base_122.specs.declared.geometry.Geometry.{Geometry}
@@ -13,12 +13,17 @@ use Rattle.strip122_c.specs.declared.decoded.Strip122Decoded.{Strip122Decoded}
 use Rattle.strip122_c.specs.declared.ranges.Strip122Range.{Strip122Range}
 use Rattle.strip122_c.specs.Ranges.{ranges_of, put_over}
 
+-- the size of a report
+abbrev pub decoded_size : ℕ
+decoded_size = 64
+
 abbrev pub nothing : Strip122Decoded
 nothing = record {
+  size = decoded_size;
+  width = 0;
   octets = 0;
   ranges = 0;
   fault_octets = 0;
-  width = 0;
   rows = 0;
   written = 0;
   segment = 0;
@@ -33,10 +38,11 @@ nothing = record {
 -- the report on a geometry, whose rows are 0 if no header reports the height, and on a picture with this number of rows
 abbrev pub geometry_report : Geometry → (written : ℕ) → Strip122Decoded
 geometry_report g written = record {
+  size = decoded_size;
+  width = g.width;
   octets = picture_length g written;
   ranges = 0;
   fault_octets = 0;
-  width = g.width;
   rows = g.rows;
   written = written;
   segment = g.segment;
@@ -83,3 +89,8 @@ pub record ReportsDecoding (apid : ℕ) (packets old new : List ℕ) (places ran
   pub answer_is : answer ≡ answer_with ended (length (ranges_of ended))
   pub report_is : report ≡ report_with ended (length (ranges_of ended))
   pub ranges_are : ranges ≡ put_over (ranges_of ended) places
+
+-- If the report's first field is not its size, the room, the places and the report are as they were.
+pub record DecodesInto (apid : ℕ) (packets old new : List ℕ) (places ranges : List Strip122Range) (before report : Strip122Decoded) (answer : ℕ) : Type 0 where
+  pub wrong : before.size ≢ decoded_size → (new ≡ old) × (ranges ≡ places) × (report ≡ before) × (answer ≡ 13)
+  pub done : before.size ≡ decoded_size → ReportsDecoding apid packets old new places ranges report answer

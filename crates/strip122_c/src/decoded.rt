@@ -13,13 +13,15 @@ use strip_decoder::DecodeDone;
 #[repr(C)]
 #[derive(Clone, Copy, Debug, PartialEq, Eq)]
 pub struct Strip122Decoded {
+    /// The size of this structure.
+    pub size: u32,
+    pub width: u32,
     /// The number of octets of the picture, which the room needs.
     pub octets: u64,
     /// The number of ranges of damaged rows, including those for which there was no place.
     pub ranges: u64,
     /// The octet at which a packet has another version, or the octets that are missing from the last packet.
     pub fault_octets: u64,
-    pub width: u32,
     /// The height of the image; 0 if no header reports it.
     pub rows: u32,
     /// The number of rows of the picture: the height if it is known, otherwise those that the received headers determine.
@@ -34,12 +36,18 @@ pub struct Strip122Decoded {
     pub weights: [u8; 10],
 }
 
+/// The size of a report.
+pub(crate) const DECODED_SIZE: u32 = 64;
+
+const _: () = prove!(size_of::<Strip122Decoded>() == 64);
+
 // Returns a report of nothing.
 const NOTHING: Strip122Decoded = Strip122Decoded {
+    size: DECODED_SIZE,
+    width: 0,
     octets: 0,
     ranges: 0,
     fault_octets: 0,
-    width: 0,
     rows: 0,
     written: 0,
     segment: 0,
@@ -92,10 +100,11 @@ fn geometry_report(geometry: &Geometry, written: u32) -> Strip122Decoded
     ensures { result ≡ geometry_report geometry.now written }
 {
     Strip122Decoded {
+        size: DECODED_SIZE,
+        width: geometry.width,
         octets: picture_length(geometry, written) as u64,
         ranges: 0,
         fault_octets: 0,
-        width: geometry.width,
         rows: geometry.rows,
         written,
         segment: geometry.segment,
