@@ -27,9 +27,10 @@ int main(int count, char **words) {
     fprintf(stderr, "%llu octets of packets", (unsigned long long)encoded.octets);
     fwrite(packets, 1, (size_t)encoded.octets, stdout);
 
+    strip122_wish wish = strip122_usual_wish();
     strip122_decoded decoded = STRIP122_DECODED;
     strip122_range ranges[16];
-    answer = strip122_decode(setting.apid, packets, (size_t)encoded.octets, picture, sizeof picture, ranges, 16, &decoded);
+    answer = strip122_decode(&wish, packets, (size_t)encoded.octets, picture, sizeof picture, ranges, 16, &decoded);
     if (answer != STRIP122_DONE || decoded.octets != octets || memcmp(picture, raster, octets) != 0) {
         fprintf(stderr, ", not decoded: %s\n", strip122_text(answer));
         return 1;

@@ -41,6 +41,16 @@ struct Encoded {
 }
 
 #[repr(C)]
+struct Wish {
+    size: u32,
+    apid: u16,
+    has_book: u8,
+    book: [u8; 138],
+    pixels: u64,
+    octets: u64,
+}
+
+#[repr(C)]
 #[derive(Default)]
 struct Decoded {
     size: u32,
@@ -48,6 +58,7 @@ struct Decoded {
     octets: u64,
     ranges: u64,
     fault_octets: u64,
+    pixels: u64,
     rows: u32,
     written: u32,
     segment: u32,
@@ -76,7 +87,7 @@ unsafe extern "C" {
         encoded: &mut Encoded,
     ) -> u32;
     fn strip122_decode(
-        apid: u16,
+        wish: &Wish,
         packets: *const u8,
         octets: usize,
         room: *mut u8,
@@ -102,13 +113,21 @@ fn encode(setting: &Setting, raster: &[u8], size: usize) -> (u32, Vec<u8>, Encod
 
 // The answer and the picture. The first call has no room, and reports how many octets are needed.
 fn decode(apid: u16, packets: &[u8]) -> (u32, Vec<u8>) {
+    let wish = Wish {
+        size: size_of::<Wish>() as u32,
+        apid,
+        has_book: 0,
+        book: [0; 138],
+        pixels: 1 << 32,
+        octets: 1 << 40,
+    };
     let mut room = Vec::new();
     let mut ranges = vec![Range::default(); 16];
     let mut report = Decoded { size: size_of::<Decoded>() as u32, ..Decoded::default() };
     loop {
         let answer = unsafe {
             strip122_decode(
-                apid,
+                &wish,
                 packets.as_ptr(),
                 packets.len(),
                 room.as_mut_ptr(),

@@ -29,8 +29,10 @@ typedef enum strip122_answer {
     STRIP122_NO_IMAGE = 9,     /* row, end: there is no encoder, since `new` was refused or `free` was called */
     STRIP122_ALL_ROWS = 10,    /* row: the image has all of its rows */
     STRIP122_UNFINISHED = 11,  /* end: rows of the image are missing */
-    STRIP122_BAD_BOOK = 12,    /* new, encode: the book is not a sound code book */
+    STRIP122_BAD_BOOK = 12,    /* new, encode, decode: the book is not a sound code book */
     STRIP122_WRONG_SIZE = 13,  /* all: the first field of a structure is not its size */
+    STRIP122_TOO_MANY_PIXELS = 14, /* decode: a header reports more pixels than the wish allows */
+    STRIP122_LONG_INPUT = 15,  /* decode: there are as many octets as the wish has */
     STRIP122_ANSWERS = 0x7fffffff /* no answer: with it the type has 32 bits */
 } strip122_answer;
 
@@ -91,6 +93,17 @@ typedef struct strip122_encoded {
 
 #define STRIP122_ENCODED {sizeof(strip122_encoded), 0, 0, 0, 0, 0, 0, 0, 0}
 
+/* The parameters of the decoder. The packets don't carry the code book: with another book than the encoder's, segments are refused or give
+   another picture. */
+typedef struct strip122_wish {
+    uint32_t size;     /* sizeof(strip122_wish) */
+    uint16_t apid;     /* of the packets that are read */
+    uint8_t has_book;  /* `book` is the code book; 0: that of the profile is */
+    uint8_t book[138]; /* the octets of a code book (docs/formats.md, "Words and codes") */
+    uint64_t pixels;   /* greatest number of pixels of a picture */
+    uint64_t octets;   /* at which reading ends */
+} strip122_wish;
+
 /* What was found, or what room is needed. Set `size` before the call (STRIP122_DECODED does). Every other field is written; one that the
    answer does not need is 0. */
 typedef struct strip122_decoded {
@@ -99,6 +112,7 @@ typedef struct strip122_decoded {
     uint64_t octets;       /* of the picture, which the room needs */
     uint64_t ranges;       /* ranges of damaged rows, including those for which there was no place */
     uint64_t fault_octets; /* the octet at which a packet has another version, or the octets missing from the last packet */
+    uint64_t pixels;       /* that a header reports, if they are too many */
     uint32_t rows;         /* the height of the image; 0 if no header reports it */
     uint32_t written;      /* rows of the picture: the height if it is known, otherwise those that the received headers determine */
     uint32_t segment;
@@ -110,7 +124,7 @@ typedef struct strip122_decoded {
     uint8_t weights[10];
 } strip122_decoded;
 
-#define STRIP122_DECODED {sizeof(strip122_decoded), 0, 0, 0, 0, 0, 0, 0, 0, 0, 0, 0, 0, {0}}
+#define STRIP122_DECODED {sizeof(strip122_decoded), 0, 0, 0, 0, 0, 0, 0, 0, 0, 0, 0, 0, 0, {0}}
 
 /* The rows from one to another, both among them. */
 typedef struct strip122_range {
@@ -164,9 +178,9 @@ uint64_t strip122_bound(const strip122_setting *setting);
 strip122_answer strip122_encode(const strip122_setting *setting, const uint8_t *raster, size_t octets, uint8_t *room, size_t size,
                                 strip122_encoded *encoded);
 
-/* Decodes the packets of an APID. After answers 0 and 1 a room of `size` octets begins with the picture, and the first of `places` places
+/* Decodes the packets of the wish's APID. After answers 0 and 1 a room of `size` octets begins with the picture, and the first of `places` places
    have the ranges of damaged rows. */
-strip122_answer strip122_decode(uint16_t apid, const uint8_t *packets, size_t octets, uint8_t *room, size_t size,
+strip122_answer strip122_decode(const strip122_wish *wish, const uint8_t *packets, size_t octets, uint8_t *room, size_t size,
                                 strip122_range *ranges, size_t places, strip122_decoded *decoded);
 
 /* ---- without the library */
@@ -176,6 +190,12 @@ static inline strip122_setting strip122_usual(uint32_t width, uint32_t rows) {
     strip122_setting s = {sizeof(strip122_setting), width, rows, 64, 0, 1024, 0, 100, 0, 8, 0, 0, 1, 0, 0, 3, 1,
                           {0, 1, 1, 1, 2, 2, 2, 3, 3, 3}, 0, {0}};
     return s;
+}
+
+/* The usual parameters: APID 100, pictures of at most 2^32 pixels, at most 2^40 octets, and the code book of the profile. */
+static inline strip122_wish strip122_usual_wish(void) {
+    strip122_wish w = {sizeof(strip122_wish), 100, 0, {0}, (uint64_t)1 << 32, (uint64_t)1 << 40};
+    return w;
 }
 
 /* A few words for an answer, for a log. */
@@ -195,6 +215,8 @@ static inline const char *strip122_text(strip122_answer answer) {
         case STRIP122_UNFINISHED: return "rows are missing";
         case STRIP122_BAD_BOOK: return "no sound code book";
         case STRIP122_WRONG_SIZE: return "a structure has another size";
+        case STRIP122_TOO_MANY_PIXELS: return "too many pixels";
+        case STRIP122_LONG_INPUT: return "long input";
         case STRIP122_ANSWERS: break;
     }
     return "no answer";
@@ -221,8 +243,8 @@ static inline strip122_range *strip122_places(strip122_range *ranges) {
 #define strip122_encoder_end(encoder, image, room, size, report) (strip122_encoder_end)(encoder, image, strip122_room(room), size, report)
 #define strip122_encode(setting, raster, octets, room, size, encoded)                                                                     \
     (strip122_encode)(setting, strip122_octets(raster), octets, strip122_room(room), size, encoded)
-#define strip122_decode(apid, packets, octets, room, size, ranges, places, decoded)                                                       \
-    (strip122_decode)(apid, strip122_octets(packets), octets, strip122_room(room), size, strip122_places(ranges), places, decoded)
+#define strip122_decode(wish, packets, octets, room, size, ranges, places, decoded)                                                       \
+    (strip122_decode)(wish, strip122_octets(packets), octets, strip122_room(room), size, strip122_places(ranges), places, decoded)
 
 #ifdef __cplusplus
 }

@@ -117,11 +117,13 @@ static void try_decode(input *in) {
     strip122_decoded report = STRIP122_DECODED;
     strip122_range ranges[4];
     size_t size = take(in, 2);
-    uint16_t apid = (uint16_t)take(in, 2);
+    strip122_wish wish = strip122_usual_wish();
+    wish.apid = (uint16_t)take(in, 2);
+    wish.pixels = 1u << 20;
     uint8_t *room = room_of(size), *packets = malloc(in->left + 1);
     demand(packets != NULL);
     memcpy(packets, in->at, in->left);
-    strip122_answer answer = strip122_decode(apid, packets, in->left, room, size, ranges, 4, &report);
+    strip122_answer answer = strip122_decode(&wish, packets, in->left, room, size, ranges, 4, &report);
     demand(is_painted(room, answer <= 1 ? report.octets : 0, size));
     free(packets);
     free(room);

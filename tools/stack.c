@@ -37,8 +37,8 @@ static void *encode(void *setting) {
 
 static void *decode(void *setting) {
     strip122_decoded report = STRIP122_DECODED;
-    uint16_t apid = ((strip122_setting *)setting)->apid;
-    int same = strip122_decode(apid, packets, octets, picture, sizeof picture, NULL, 0, &report) == STRIP122_DONE &&
+    strip122_wish wish = strip122_usual_wish();
+    int same = strip122_decode(&wish, packets, octets, picture, sizeof picture, NULL, 0, &report) == STRIP122_DONE &&
                memcmp(picture, raster, sizeof raster) == 0;
     return same ? NULL : setting;
 }

@@ -270,6 +270,25 @@ class Tries:
         answer, report, room, got = self.arena.decode(chosen["apid"], packets, need, 0)
         assert (answer, room) == (wanted, ran.stdout), ("arena", answer)
         self.count("decoded alike, whole" if wanted == 0 else "decoded alike, damaged")
+        self.caps(chosen["apid"], packets, need)
+
+    def caps(self, apid, packets, need):
+        """A pixel or an octet too many: the program and the library refuse alike, before there is a room and with one."""
+        pixels = self.heap.decode(apid, packets, 0, 0).report
+        pixels = pixels.width * pixels.written - 1
+        for words, wish, answer, note in (
+            ([f"pixels={pixels}"], strip122.usual_wish(apid, pixels=pixels), strip122.TOO_MANY_PIXELS, "too many pixels, {pixels}"),
+            ([f"octets={len(packets)}"], strip122.usual_wish(apid, octets=len(packets)), strip122.LONG_INPUT, "input too long"),
+        ):
+            ran = run("decode", [f"apid={apid}", *words], packets)
+            for room in (need, 0) if answer == strip122.TOO_MANY_PIXELS else (need,):
+                got = self.heap.decode_with(wish, packets, room, 0)
+                if ran.returncode in (0, 1):
+                    assert got.answer in (ran.returncode, strip122.SMALL_ROOM), (got.answer, ran.returncode, words)
+                else:
+                    assert got.answer == answer and got.room == bytes(room), (got.answer, ran, words)
+                    assert note.format(pixels=got.report.pixels) in ran.stderr.decode(), (got.report.pixels, ran)
+        self.count("caps alike")
 
 
 def lost(random, packets):

@@ -12,7 +12,7 @@ from typing import Any, Dict, List, NamedTuple, Sequence, Tuple
 VERSION = 200
 
 DONE, DAMAGED, OUT_OF_RANGE, SHORT, LONG, BAD_PIXEL, NO_SEGMENT, SMALL_ROOM, NO_MEMORY = range(9)
-NO_IMAGE, ALL_ROWS, UNFINISHED, BAD_BOOK, WRONG_SIZE = range(9, 14)
+NO_IMAGE, ALL_ROWS, UNFINISHED, BAD_BOOK, WRONG_SIZE, TOO_MANY_PIXELS, LONG_INPUT = range(9, 16)
 FIELDS = "none width rows depth segment limit fill word stop weights apid image packet pixels octets total".split()
 USUAL: Dict[str, Any] = {"segment": 64, "packet": 1024, "apid": 100, "depth": 8, "word": 1, "stop_stage": 3, "optimal": 1}
 USUAL_WEIGHTS = (0, 1, 1, 1, 2, 2, 2, 3, 3, 3)
@@ -49,12 +49,24 @@ class Encoded(ctypes.Structure):
     )
 
 
+class Wish(ctypes.Structure):
+    """The parameters of the decoder; `usual_wish` makes one."""
+
+    _fields_ = (
+        fields(ctypes.c_uint32, "size")
+        + fields(ctypes.c_uint16, "apid")
+        + fields(ctypes.c_uint8, "has_book")
+        + [("book", ctypes.c_uint8 * 138)]
+        + fields(ctypes.c_uint64, "pixels octets")
+    )
+
+
 class Decoded(ctypes.Structure):
     """What a decoder reports."""
 
     _fields_ = (
         fields(ctypes.c_uint32, "size width")
-        + fields(ctypes.c_uint64, "octets ranges fault_octets")
+        + fields(ctypes.c_uint64, "octets ranges fault_octets pixels")
         + fields(ctypes.c_uint32, "rows written segment")
         + fields(ctypes.c_uint16, "image")
         + fields(ctypes.c_uint8, "depth is_signed word fault")
@@ -91,6 +103,15 @@ def usual(width: int, rows: int, weights: Sequence[int] = USUAL_WEIGHTS, book: b
             raise ValueError(f"{name}: {value} is not 0 to {(1 << bits[name]) - 1}")
     octets = {"weights": (ctypes.c_uint8 * 10)(*weights), "book": (ctypes.c_uint8 * 138)(*book)}
     return Setting(**octets, **{name: int(value) for name, value in named.items()})
+
+
+def usual_wish(apid: int = 100, pixels: int = 1 << 32, octets: int = 1 << 40, book: bytes = b"") -> Wish:
+    """Returns parameters of the decoder, with a code book of 138 octets or that of the profile. Raises ValueError if the book has another
+    size.
+    """
+    if len(book) not in (0, 138):
+        raise ValueError(f"book: has {len(book)} octets, not 138")
+    return Wish(ctypes.sizeof(Wish), apid, len(book) > 0, (ctypes.c_uint8 * 138)(*book), pixels, octets)
 
 
 class Packets(NamedTuple):
@@ -149,7 +170,7 @@ class Library:
         self._encode, self._decode = library.strip122_encode, library.strip122_decode
         self._encode.restype = self._decode.restype = ctypes.c_uint32
         self._encode.argtypes = [pointer(Setting), octets, size, octets, size, pointer(Encoded)]
-        self._decode.argtypes = [ctypes.c_uint16, octets, size, octets, size, octets, size, pointer(Decoded)]
+        self._decode.argtypes = [pointer(Wish), octets, size, octets, size, octets, size, pointer(Decoded)]
         place, report = pointer(Place), pointer(Encoded)
         library.strip122_encoder_new.argtypes = [place, pointer(Setting), report]
         library.strip122_encoder_row.argtypes = [place, octets, size, octets, size, report]
@@ -183,10 +204,14 @@ class Library:
         return Packets(answer, report, bytes(memoryview(room)[:size]))
 
     def decode(self, apid: int, packets: bytes, size: int, places: int) -> Picture:
+        """As `decode_with`, with the usual wish for packets of this APID."""
+        return self.decode_with(usual_wish(apid), packets, size, places)
+
+    def decode_with(self, wish: Wish, packets: bytes, size: int, places: int) -> Picture:
         """Decodes packets into a room of `size` octets, with places for that number of ranges of damaged rows."""
         room, ranges = (ctypes.c_uint8 * max(size, 1))(), (Range * max(places, 1))()
         report = Decoded(size=ctypes.sizeof(Decoded))
-        answer = self._decode(apid, bytes(packets) or b"\0", len(packets), room, size, ranges, places, report)
+        answer = self._decode(wish, bytes(packets) or b"\0", len(packets), room, size, ranges, places, report)
         found = [(ranges[it].first, ranges[it].last) for it in range(min(report.ranges, places))]
         return Picture(answer, report, bytes(memoryview(room)[:size]), found)
 
@@ -198,9 +223,10 @@ class Library:
     def decode_whole(self, apid: int, packets: bytes, most: int) -> Picture:
         """Decodes packets, with a room that is found, if the picture has at most this number of pixels.
 
-        Otherwise the answer is SMALL_ROOM, and the report has the size of the picture.
+        Otherwise the answer is TOO_MANY_PIXELS, and the report has the number of pixels.
         """
-        asked = self.decode(apid, packets, 0, 0)
-        if asked.answer != SMALL_ROOM or asked.report.width * asked.report.written > most:
+        wish = usual_wish(apid, most)
+        asked = self.decode_with(wish, packets, 0, 0)
+        if asked.answer != SMALL_ROOM:
             return asked
-        return self.decode(apid, packets, asked.report.octets, asked.report.written // 52 + 2)
+        return self.decode_with(wish, packets, asked.report.octets, asked.report.written // 52 + 2)

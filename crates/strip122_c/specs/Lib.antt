@@ -3,6 +3,7 @@ pub mod WholeEncoding
 pub mod WholeDecoding
 pub mod ComingBack
 pub mod Settings
+pub mod Wishes
 pub mod EncodedReport
 pub mod Encoding
 pub mod Ranges

@@ -1,5 +1,5 @@
 -- A setting as C has it. This project's own.
-use Rattle.std.specs.Prelude.{ℕ, ◌==◌, Bool, not, if◌then◌else◌, Result, Ok, Err}
+use Rattle.std.specs.Prelude.{ℕ, ◌==◌, Bool, not, if◌then◌else◌, List, Result, Ok, Err}
 use Rattle.base_122.specs.Profile.{profile}
 use Rattle.base_122.specs.declared.book.Book.{Book}
 use Rattle.base_122.specs.declared.setting.Select.{Select}
@@ -19,8 +19,8 @@ abbrev pub select_of : (optimal : ℕ) → Select
 select_of optimal = if optimal == 0 then Heuristic else Optimal
 
 -- the octets of a book are read if there is one
-abbrev pub book_in : Strip122Setting → Result Book BookFault
-book_in c = if c.has_book == 0 then Ok profile else book_read c.book
+abbrev pub book_in : (has_book : ℕ) → (octets : List ℕ) → Result Book BookFault
+book_in has_book octets = if has_book == 0 then Ok profile else book_read octets
 
 abbrev pub setting_with : Strip122Setting → Book → Setting
 setting_with c book = record {
@@ -48,9 +48,9 @@ with_book c (Err fault) = Err BadBook
 
 -- the setting in a structure whose first field is its size
 abbrev pub setting_in : Strip122Setting → Result Setting SettingRefusal
-setting_in c = if c.size == 200 then with_book c (book_in c) else Err WrongSize
+setting_in c = if c.size == 200 then with_book c (book_in c.has_book c.book) else Err WrongSize
 
--- the answer to a call with a structure that gives no setting
+-- the answer to a call with a structure that gives no setting, or no wish
 abbrev pub refusal_answer : SettingRefusal → ℕ
 refusal_answer BadBook = 12
 refusal_answer WrongSize = 13

@@ -19,6 +19,7 @@ mod tests;
 mod whole;
 #[cfg(test)]
 mod whole_tests;
+mod wish;
 
 ghost use Rattle.std.specs.Prelude.{◌≡◌};
 ghost use Rattle.std.specs.Borrow.{full_share, sem};
@@ -33,7 +34,6 @@ ghost use Rattle.strip122_c.specs.Settings.{setting_in};
 ghost use Rattle.strip122_c.specs.contracts.encoder.Strip122Encoder.{the_row};
 ghost use Rattle.strip122_c.specs.declared.encoder.Strip122Encoder.{Strip122Encoder};
 
-use base_122::Book;
 use decode::decode_whole;
 pub use decoded::Strip122Decoded;
 pub use encoded::Strip122Encoded;
@@ -43,6 +43,7 @@ pub use ranges::Strip122Range;
 pub use setting::Strip122Setting;
 use std::alloc::Global;
 use whole::encode_into;
+pub use wish::Strip122Wish;
 
 // The room that c/strip122.h provides for an encoder, and its alignment.
 const _: () = prove!(size_of::<Strip122Encoder>() <= 4096);
@@ -158,23 +159,30 @@ pub extern "C" fn strip122_encode(
     encode_into(alloc, setting, raster, room, encoded)
 }
 
-/// Decodes the packets of an APID with the code book of the profile. If the answer is 0 or 1, the room begins with their picture, and
+/// Decodes the packets of the wish's APID. If the answer is 0 or 1, the room begins with their picture, and
 /// `ranges` with the first ranges of damaged rows, one for each place; `decoded` reports what was found, or what room is needed.
 #[unsafe(no_mangle)]
 pub extern "C" fn strip122_decode(
     alloc: Global,
-    apid: u16,
+    wish: &Strip122Wish,
     packets: &[u8],
     room: &mut [u8],
     ranges: &mut [Strip122Range],
     decoded: &mut Strip122Decoded,
 ) -> u32
-    ensures { DecodesInto apid packets.now room.old room.new ranges.old ranges.new decoded.old decoded.new result }
+    ensures { DecodesInto wish.now packets.now room.old room.new ranges.old ranges.new decoded.old decoded.new result }
 {
     if decoded.size != decoded::DECODED_SIZE {
         return encoder::WRONG_SIZE;
     }
-    let ended = decode_whole(alloc, &Book::profile(), apid, packets, room);
+    let wish = match wish::read_wish(wish) {
+        Ok(wish) => wish,
+        Err(refusal) => {
+            *decoded = decoded::NOTHING;
+            return setting::refusal_answer(refusal);
+        }
+    };
+    let ended = decode_whole(alloc, &wish, packets, room);
     let count = ranges::put_damage(&ended, ranges);
     *decoded = decoded::report_of(&ended, count);
     decoded::answer_of(&ended, count)

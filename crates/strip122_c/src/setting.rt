@@ -42,7 +42,7 @@ const SIZE: u32 = 200;
 
 const _: () = prove!(size_of::<Strip122Setting>() == 200);
 
-/// The reason why a structure gives no setting.
+/// The reason why a structure gives no setting, or no wish.
 #[derive(Clone, Copy, Debug, PartialEq, Eq)]
 pub enum SettingRefusal {
     /// Its first field is not its size.
@@ -59,21 +59,21 @@ pub(crate) fn read_setting(setting: &Strip122Setting) -> Result<Setting, Setting
     if setting.size != SIZE {
         return Err(SettingRefusal::WrongSize);
     }
-    match read_book_in(setting) {
+    match read_book_in(setting.has_book, &setting.book) {
         Ok(book) => Ok(setting_with(setting, &book)),
         Err(_) => Err(SettingRefusal::BadBook),
     }
 }
 
-// Returns the code book of a setting.
-fn read_book_in(setting: &Strip122Setting) -> Result<Book, BookFault>
-    ensures value { result ≡ book_in setting.now }
+/// Returns the code book of a structure: that of these octets if it has one, otherwise that of the profile.
+pub(crate) fn read_book_in(has_book: u8, octets: &[u8; 138]) -> Result<Book, BookFault>
+    ensures value { result ≡ book_in has_book octets.now }
     ensures sound { IfOk result (λ book. IsTrue (is_book_sound book)) }
 {
-    if setting.has_book == 0 {
+    if has_book == 0 {
         return Ok(Book::profile());
     }
-    let mut port = OctetsIn::new(&setting.book);
+    let mut port = OctetsIn::new(octets);
     read_book(&mut port)
 }
 
@@ -119,7 +119,7 @@ fn select_of(optimal: u8) -> Select
     }
 }
 
-/// Returns the answer to a call with a structure that gives no setting.
+/// Returns the answer to a call with a structure that gives no setting, or no wish.
 pub(crate) fn refusal_answer(refusal: SettingRefusal) -> u32
     ensures { result ≡ refusal_answer refusal }
 {

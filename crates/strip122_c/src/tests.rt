@@ -1,6 +1,6 @@
 use crate::{
-    Strip122Decoded, Strip122Encoded, Strip122Range, Strip122Setting, encoder, strip122_bound,
-    strip122_decode, strip122_encode, strip122_end_room, strip122_row_room,
+    Strip122Decoded, Strip122Encoded, Strip122Range, Strip122Setting, Strip122Wish, encoder,
+    strip122_bound, strip122_decode, strip122_encode, strip122_end_room, strip122_row_room,
 };
 use std::alloc::Global;
 use std::process::Abort;
@@ -141,11 +141,12 @@ fn decode(
 ) -> (u32, Strip122Decoded, [Strip122Range; 2]) {
     let mut ranges = [NO_RANGE; 2];
     let mut report = Strip122Decoded {
-        size: 64,
+        size: 72,
         width: 9,
         octets: 9,
         ranges: 9,
         fault_octets: 9,
+        pixels: 9,
         rows: 9,
         written: 9,
         segment: 9,
@@ -156,8 +157,48 @@ fn decode(
         fault: 9,
         weights: [9; 10],
     };
-    let answer = strip122_decode(alloc, 100, packets, room, &mut ranges, &mut report);
+    let answer = strip122_decode(alloc, &wish(), packets, room, &mut ranges, &mut report);
     (answer, report, ranges)
+}
+
+// Returns the usual wish.
+fn wish() -> Strip122Wish {
+    Strip122Wish {
+        size: 168,
+        apid: 100,
+        has_book: 0,
+        book: [0; 138],
+        pixels: 1 << 32,
+        octets: 1 << 40,
+    }
+}
+
+// Returns the answer and the number of pixels that are too many.
+fn capped(alloc: Global, wish: &Strip122Wish, packets: &[u8], room: &mut [u8]) -> (u32, u64) {
+    let (_, mut report, mut ranges) = decode(alloc, &[], &mut []);
+    let answer = strip122_decode(alloc, wish, packets, room, &mut ranges, &mut report);
+    (answer, report.pixels)
+}
+
+#[test]
+fn wishes(rt: HostRuntime) -> Result<(), Fail> {
+    let alloc = rt.alloc();
+    let packets = two_segments(&rt, alloc)?;
+    let mut room = vec![in alloc; 0; 24 * 64]?;
+    let mut few = wish();
+    few.pixels = 24 * 64 - 1;
+    assert_eq!(rt; capped(alloc, &few, &packets, &mut room), (14, 1536));
+    assert_eq!(rt; capped(alloc, &few, &packets, &mut []), (14, 1536));
+    let mut short = wish();
+    short.octets = packets.len() as u64;
+    assert_eq!(rt; capped(alloc, &short, &packets, &mut room), (15, 0));
+    let mut wrong = wish();
+    wrong.size = 164;
+    assert_eq!(rt; capped(alloc, &wrong, &packets, &mut room), (13, 0));
+    let mut no_book = wish();
+    no_book.has_book = 1;
+    assert_eq!(rt; capped(alloc, &no_book, &packets, &mut room), (12, 0));
+    Ok(())
 }
 
 // Returns the packets of a flat image of 64 rows, in two segments, which end at block 16 of 24 and at the last one.
