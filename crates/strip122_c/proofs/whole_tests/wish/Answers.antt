@@ -5,4 +5,4 @@ use Rattle.plane_defs.proofs.ProfileSound.{profile_sound}
 use Rattle.strip122_c.proofs.whole_tests.wish.Goals as goal
 
 pub returns : goal.returns
-returns c = subst (λ b. IsTrue (is_book_sound b)) (ap (λ (w : DecodeWish). w.book) (sym c.usual.ensures)) profile_sound
+returns c = record { book = subst (λ b. IsTrue (is_book_sound b)) (ap (λ (w : DecodeWish). w.book) (sym c.usual.ensures)) profile_sound }
