@@ -12,10 +12,10 @@ typedef struct {
     void *at;
 } rattle_block;
 
-/* The head of a block: where the block before it has its head, and whether the block is free. */
+/* The head of a block, at a multiple of 16: where the block before it has its head, and whether the block is free. */
 typedef struct {
-    _Alignas(16) size_t before;
-    bool is_free;
+    size_t before;
+    size_t is_free;
 } head;
 
 #define NONE SIZE_MAX
@@ -69,14 +69,14 @@ rattle_block rattle_alloc(size_t size, size_t align) {
         return no_block();
     }
     here->before = before;
-    here->is_free = false;
+    here->is_free = 0;
     rattle_block block = {true, here + 1};
     return block;
 }
 
 void rattle_dealloc(void *at) {
     head *here = (head *)at - 1;
-    here->is_free = true;
+    here->is_free = 1;
     while (last != NONE) {
         here = (head *)(void *)(arena + last);
         if (!here->is_free) {

@@ -8,8 +8,9 @@
 extern "C" {
 #endif
 
-/* Hands in the buffer from which later calls of the library, in one thread, take their memory. No call may be running. Each call gives
-   all of it back before it returns, so one buffer serves call after call. */
+/* Hands in the buffer from which later calls of the library, in one thread, take their memory. No call may be running, and no encoder may
+   be open. strip122_encode and strip122_decode give all of it back before they return, and strip122_encoder_free what its encoder has, so
+   one buffer serves call after call. */
 void strip122_arena(void *memory, size_t octets);
 
 /* The most octets that were in use at once since it was handed in. */
@@ -22,6 +23,13 @@ size_t strip122_arena_most(void);
 static inline uint64_t strip122_segment_blocks(uint32_t width, uint32_t rows, uint32_t segment) {
     uint64_t blocks = (((uint64_t)width + 7) / 8) * (((uint64_t)rows + 7) / 8);
     return segment < blocks ? segment : blocks;
+}
+
+/* Octets that are enough for an encoder of a setting that is in range. If `rows` is 0, they are those of an image of 262,144 rows. */
+static inline uint64_t strip122_memory(const strip122_setting *s) {
+    uint64_t columns = ((uint64_t)s->width + 7) / 8 * 8;
+    uint64_t blocks = strip122_segment_blocks(s->width, s->rows != 0 ? s->rows : 262144, s->segment);
+    return 4 * (65 * columns + 65 * blocks) + s->packet + strip122_end_room(s) + STRIP122_ARENA_MORE;
 }
 
 /* Octets that are enough for strip122_encode, if the setting is in range and the room has `size` octets. */

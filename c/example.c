@@ -18,20 +18,21 @@ int main(int count, char **words) {
     size_t octets = fread(raster, 1, sizeof raster, stdin);
 
     strip122_arena(memory, sizeof memory);
-    strip122_encoded encoded;
-    uint32_t answer = strip122_encode(&setting, raster, octets, packets, sizeof packets, &encoded);
+    strip122_encoded encoded = STRIP122_ENCODED;
+    strip122_answer answer = strip122_encode(&setting, raster, octets, packets, sizeof packets, &encoded);
     if (answer != STRIP122_DONE) {
-        fprintf(stderr, "not encoded: %u\n", answer);
+        fprintf(stderr, "not encoded: %s\n", strip122_text(answer));
         return 1;
     }
     fprintf(stderr, "%llu octets of packets", (unsigned long long)encoded.octets);
     fwrite(packets, 1, (size_t)encoded.octets, stdout);
 
-    strip122_decoded decoded;
+    strip122_wish wish = strip122_usual_wish();
+    strip122_decoded decoded = STRIP122_DECODED;
     strip122_range ranges[16];
-    answer = strip122_decode(setting.apid, packets, (size_t)encoded.octets, picture, sizeof picture, ranges, 16, &decoded);
+    answer = strip122_decode(&wish, packets, (size_t)encoded.octets, picture, sizeof picture, ranges, 16, &decoded);
     if (answer != STRIP122_DONE || decoded.octets != octets || memcmp(picture, raster, octets) != 0) {
-        fprintf(stderr, ", not decoded: %u\n", answer);
+        fprintf(stderr, ", not decoded: %s\n", strip122_text(answer));
         return 1;
     }
     fprintf(stderr, ", and the raster came back\n");

@@ -46,6 +46,8 @@ def random_setting(random):
         chosen.update(weights=tuple(random.randint(0, 3) for _ in range(10)))
     if random.random() < 0.1:
         chosen.update(random.choice(WRONG))
+    elif "limit" not in chosen and random.random() < 0.15:
+        chosen.update(total=random.randint(400, 40000))
     return chosen
 
 
@@ -72,6 +74,7 @@ def words_of(chosen):
         f"signed={chosen['is_signed']}",
         f"select={'optimal' if chosen['optimal'] else 'heuristic'}",
         f"limit={chosen.get('limit', 0)}",
+        f"total={chosen.get('total', 0)}",
         f"fill={chosen.get('fill', 0)}",
         f"stop={stop}",
         f"weights={weights}",
@@ -101,6 +104,16 @@ def padded(columns):
 
 def blocks(width, rows, segment):
     return min(segment, padded(width) // 8 * padded(rows) // 8)
+
+
+def row_octets(chosen):
+    return chosen["width"] * (1 if chosen["depth"] <= 8 else 2)
+
+
+def encoder_memory(setting, end_room):
+    """As strip122_memory of c/arena.h."""
+    size = setting.width, setting.rows or 262144, setting.segment
+    return 4 * (65 * padded(size[0]) + 65 * blocks(*size)) + setting.packet + end_room + 8192
 
 
 def wanted_answer(ran):
@@ -138,7 +151,7 @@ class Tries:
         if wanted == strip122.OUT_OF_RANGE:
             assert ran.stderr.decode().endswith(f"out of range: {strip122.FIELDS[report.field]}\n"), (report.field, ran)
         if wanted == strip122.BAD_PIXEL:
-            assert f"bad pixel {report.value} at row {report.row} column {report.column}\n" in ran.stderr.decode(), ran
+            assert f"bad pixel {report.value} at row {report.rows} column {report.column}\n" in ran.stderr.decode(), ran
         if wanted != 0:
             self.count(f"refused, answer {wanted}")
             return None
@@ -152,7 +165,84 @@ class Tries:
         self.hand_in(self.arena_calls.strip122_arena_most() - 16)
         assert self.arena.encode(setting, raster, need)[0] == strip122.NO_MEMORY
         self.count("encoded alike")
+        self.wrong_structures(chosen, raster)
         return ran.stdout
+
+    def wrong_structures(self, chosen, raster):
+        """Structures of another size, and a book that is none, are refused."""
+        setting = strip122.usual(**chosen)
+        setting.size += 8
+        assert self.heap.encode(setting, raster, 9)[0] == self.heap.encoder(setting).answer == strip122.WRONG_SIZE
+        setting = strip122.usual(**chosen, book=bytes(138))
+        assert self.heap.encode(setting, raster, 9)[0] == self.heap.encoder(setting).answer == strip122.BAD_BOOK
+        assert self.heap.bound(setting) == 0
+
+    def rows(self, chosen, raster, packets, dice):
+        """The same row by row, with rows that are open or not; `packets` are those of the whole image."""
+        is_open = "total" not in chosen and dice.random() < 0.5
+        setting = strip122.usual(**{**chosen, "rows": 0 if is_open else chosen["rows"]})
+        assert len(packets) <= self.heap.bound(setting)
+        self.hand_in(encoder_memory(setting, self.heap.end_room(setting)))
+        encoder = self.arena.encoder(setting)
+        assert encoder.answer == 0, ("arena", encoder.answer, words_of(chosen))
+        for image in (chosen["image"], 65535):
+            words = words_of({**chosen, "rows": setting.rows, "image": image})
+            expected = run("encode", words, raster).stdout
+            given = self.taken(encoder, setting, chosen, raster, dice)
+            self.same_so_far(words, raster, given, setting.rows == 0, dice)
+            if not is_open:
+                assert encoder.row(raster[: row_octets(chosen)], 9)[0] == strip122.ALL_ROWS
+            last = self.answered(lambda size: encoder.end(65535, size), self.heap.end_room(setting))
+            assert given[-1] + last.room[: last.report.octets] == expected, words
+            assert (last.report.all, last.report.rows) == (len(expected), chosen["rows"])
+        most = self.arena_calls.strip122_arena_most()
+        encoder.free()
+        encoder.free()
+        assert encoder.row(raster, 9)[0] == encoder.end(1, 9)[0] == strip122.NO_IMAGE
+        self.hand_in(most - 16)
+        encoder = self.arena.encoder(setting)
+        assert encoder.answer == strip122.NO_MEMORY and encoder.row(raster, 9)[0] == strip122.NO_IMAGE
+        self.count("encoded alike, row by row")
+
+    def answered(self, call, bound):
+        """What a call answers in a room of exactly the octets that it needs, and not in one octet less."""
+        asked = call(0)
+        if asked.answer != strip122.SMALL_ROOM:
+            assert asked.answer == 0 and asked.report.octets == 0, asked.answer
+            return asked
+        need = asked.report.octets
+        assert 0 < need <= bound, (need, bound)
+        small = call(need - 1)
+        assert (small.answer, small.report.octets, small.room) == (strip122.SMALL_ROOM, need, bytes(need - 1))
+        got = call(need)
+        assert got.answer == 0 and got.report.octets <= need
+        return got
+
+    def taken(self, encoder, setting, chosen, raster, dice):
+        """What was given after each number of rows. Bad rows and an early end between them change nothing."""
+        octets, bound, given = row_octets(chosen), self.heap.row_room(setting), [b""]
+        for at in range(0, len(raster), octets):
+            row = raster[at : at + octets]
+            if dice.random() < 0.1:
+                assert encoder.row(row[:-1], bound)[0] == strip122.SHORT
+                assert encoder.row(row + b"\0", bound)[0] == strip122.LONG
+                assert at >= 17 * octets or encoder.end(1, self.heap.end_room(setting))[0] == strip122.UNFINISHED
+            if dice.random() < 0.1 and chosen["depth"] % 8 != 0 and not chosen["is_signed"]:
+                bad = encoder.row(row[: -(octets // chosen["width"])] + b"\xff" * (octets // chosen["width"]), bound)
+                assert (bad.answer, bad.report.column) == (strip122.BAD_PIXEL, chosen["width"] - 1), bad.answer
+                assert bad.report.rows == at // octets
+            got = self.answered(lambda size, row=row: encoder.row(row, size), bound)
+            given.append(given[-1] + got.room[: got.report.octets])
+            assert (got.report.all, got.report.rows) == (len(given[-1]), at // octets + 1)
+        return given
+
+    def same_so_far(self, words, raster, given, is_open, dice):
+        """The program has given the same after some numbers of rows that are fewer than all. If the rows are open, the input's end ends the
+        image, so the program gives more."""
+        octets = len(raster) // (len(given) - 1)
+        for rows in dice.sample(range(len(given) - 1), 3):
+            ran = run("encode", words, raster[: rows * octets])
+            assert ran.stdout.startswith(given[rows]) if is_open else ran.stdout == given[rows], (rows, words)
 
     def decode(self, chosen, packets, all_there):
         words = [f"apid={chosen['apid']}"]
@@ -180,6 +270,25 @@ class Tries:
         answer, report, room, got = self.arena.decode(chosen["apid"], packets, need, 0)
         assert (answer, room) == (wanted, ran.stdout), ("arena", answer)
         self.count("decoded alike, whole" if wanted == 0 else "decoded alike, damaged")
+        self.caps(chosen["apid"], packets, need)
+
+    def caps(self, apid, packets, need):
+        """A pixel or an octet too many: the program and the library refuse alike, before there is a room and with one."""
+        pixels = self.heap.decode(apid, packets, 0, 0).report
+        pixels = pixels.width * pixels.written - 1
+        for words, wish, answer, note in (
+            ([f"pixels={pixels}"], strip122.usual_wish(apid, pixels=pixels), strip122.TOO_MANY_PIXELS, "too many pixels, {pixels}"),
+            ([f"octets={len(packets)}"], strip122.usual_wish(apid, octets=len(packets)), strip122.LONG_INPUT, "input too long"),
+        ):
+            ran = run("decode", [f"apid={apid}", *words], packets)
+            for room in (need, 0) if answer == strip122.TOO_MANY_PIXELS else (need,):
+                got = self.heap.decode_with(wish, packets, room, 0)
+                if ran.returncode in (0, 1):
+                    assert got.answer in (ran.returncode, strip122.SMALL_ROOM), (got.answer, ran.returncode, words)
+                else:
+                    assert got.answer == answer and got.room == bytes(room), (got.answer, ran, words)
+                    assert note.format(pixels=got.report.pixels) in ran.stderr.decode(), (got.report.pixels, ran)
+        self.count("caps alike")
 
 
 def lost(random, packets):
@@ -198,8 +307,10 @@ def main():
     for seed in range(COUNT):
         dice = random.Random(f"{SEED} {seed}")
         chosen = random_setting(dice)
-        packets = tries.encode(chosen, random_raster(dice, chosen, seed))
+        raster = random_raster(dice, chosen, seed)
+        packets = tries.encode(chosen, raster)
         if packets:
+            tries.rows(chosen, raster, packets, dice)
             tries.decode(chosen, packets, True)
             tries.decode(chosen, lost(dice, packets), False)
     for what, count in sorted(tries.counts.items()):

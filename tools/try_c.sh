@@ -1,6 +1,7 @@
 #!/bin/sh
-# Builds the library for C, links it, and compares its answers with those of the program: an example in C with fixed memory, one in
-# Rust if rustc is there, and random settings by Python's ctypes.
+# Builds the library for C, links it, and compares its answers with those of the program: the header by itself, an example in C with fixed
+# memory and one that encodes row by row, also under valgrind if it is there, one in Rust if rustc is there, and random settings, row by
+# row and whole, by Python's ctypes. It prints how much of a painted stack each call has written.
 #
 #   tools/try_c.sh [SETTINGS] [SEED]
 #
@@ -27,11 +28,12 @@ fi
 library=${STRIP122_C:-$top/crates/strip122_c/out/libstrip122_c.a}
 make_folder
 
-# NAME COMMAND ..: an example gives the packets that the program gives, and its picture is the raster.
+# NAME PACKETS COMMAND ..: an example gives the packets that the program gives, and a picture that it makes of them is the raster.
 example() {
     name=$1
-    shift
-    "$@" 200 100 <"$kept/raster" >"$kept/$name.packets" 2>"$kept/note" && cmp "$kept/$name.packets" "$kept/packets" || {
+    packets=$2
+    shift 2
+    "$@" <"$kept/raster" >"$kept/$name.packets" 2>"$kept/note" && cmp "$kept/$name.packets" "$packets" || {
         cat "$kept/note" >&2
         echo "$0: $name differs from the program" >&2
         exit 1
@@ -40,24 +42,45 @@ example() {
 }
 
 "$program" make width=200 rows=100 seed=3 >"$kept/raster" &&
-    "$program" encode width=200 rows=100 <"$kept/raster" >"$kept/packets" || exit
+    "$program" encode width=200 rows=100 <"$kept/raster" >"$kept/packets" &&
+    "$program" encode width=200 rows=100 segment=128 limit=8192 <"$kept/raster" >"$kept/rows.packets" &&
+    "$program" encode width=200 rows=0 segment=128 limit=8192 <"$kept/raster" >"$kept/open.packets" || exit
+strict="-std=c99 -pedantic -O2 -Wall -Wextra -Wconversion -Werror -I$top/c"
 for compiler in $compilers; do
-    "$compiler" -std=c11 -O2 -Wall -Wextra -Werror -I"$top/c" -o "$kept/example_$compiler" \
-        "$top/c/example.c" "$top/c/arena.c" "$library" || exit
-    example "example_c_$compiler" "$kept/example_$compiler"
+    for example in example example_rows; do
+        "$compiler" $strict -o "$kept/${example}_$compiler" "$top/c/$example.c" "$top/c/arena.c" "$library" || exit
+    done
+    example "example_c_$compiler" "$kept/packets" "$kept/example_$compiler" 200 100
+    example "example_rows_$compiler" "$kept/rows.packets" "$kept/example_rows_$compiler" 200 100 8
+    example "open_rows_$compiler" "$kept/open.packets" "$kept/example_rows_$compiler" 200 0 8
 done
 
 compiler=${compilers# }
 compiler=${compiler%% *}
-"$compiler" -std=c11 -O2 -fPIC -Wall -Wextra -Werror -c -o "$kept/heap.o" "$top/c/heap.c" &&
-    "$compiler" -std=c11 -O2 -fPIC -Wall -Wextra -Werror -c -o "$kept/arena.o" "$top/c/arena.c" || exit
+if command -v valgrind >/dev/null; then
+    example valgrind_rows "$kept/rows.packets" valgrind -q --error-exitcode=9 "$kept/example_rows_$compiler" 200 100 8
+else
+    echo "no valgrind: it is skipped"
+fi
+for compiler_of_cpp in ${CXX:-g++ clang++}; do
+    if command -v "$compiler_of_cpp" >/dev/null; then
+        printf '#include "arena.h"\n#include "strip122.h"\n' >"$kept/header.cc" &&
+            "$compiler_of_cpp" -std=c++11 -pedantic -Wall -Wextra -Wconversion -Werror -I"$top/c" -fsyntax-only "$kept/header.cc" || exit
+        echo "clean: the headers as C++ by $compiler_of_cpp"
+    fi
+done
+
+"$compiler" $strict -fPIC -c -o "$kept/heap.o" "$top/c/heap.c" &&
+    "$compiler" $strict -fPIC -c -o "$kept/arena.o" "$top/c/arena.c" &&
+    "$compiler" $strict -D_POSIX_C_SOURCE=200809L -o "$kept/stack" "$top/tools/stack.c" "$kept/heap.o" "$library" -lpthread &&
+    "$program" make width=512 rows=512 seed=3 >"$kept/square" && "$kept/stack" <"$kept/square" || exit
 for memory in heap arena; do
     "$compiler" -shared -o "$kept/lib_$memory.so" "$kept/$memory.o" -Wl,--whole-archive "$library" -Wl,--no-whole-archive || exit
 done
 
 if command -v rustc >/dev/null && rustc --version >/dev/null 2>&1; then
     rustc --edition 2024 -O -C "link-arg=$library" -C "link-arg=$kept/heap.o" -o "$kept/example_rust" "$top/c/example.rs" || exit
-    example example_rust "$kept/example_rust"
+    example example_rust "$kept/packets" "$kept/example_rust" 200 100
 else
     echo "no rustc: its example is skipped"
 fi

@@ -232,8 +232,8 @@ def decoded_by_library(lib: c.Library, packets: Octets, apid: int, pixels: int) 
     report = got.report
     if got.answer == c.NO_MEMORY:
         raise NoMemory("no memory")
-    if got.answer == c.SMALL_ROOM:
-        raise BadInput(f"too many pixels, {report.width * report.written}")
+    if got.answer == c.TOO_MANY_PIXELS:
+        raise BadInput(f"too many pixels, {report.pixels}")
     if got.answer not in (c.DONE, c.DAMAGED):
         raise BadInput("no segment")
     form = Pixels(report.width, report.depth, bool(report.is_signed))

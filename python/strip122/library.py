@@ -1,4 +1,4 @@
-"""The library for C (docs/c.md) by ctypes: its declarations and its calls, `Library(path).encode(..)` and `.decode(..)`.
+"""The library for C (docs/c.md) by ctypes: its declarations and its calls, `Library(path).encode(..)`, `.decode(..)` and `.encoder(..)`.
 
 Nothing else in this package knows the declarations, and this module needs nothing else of the package.
 """
@@ -8,8 +8,12 @@ from __future__ import annotations
 import ctypes
 from typing import Any, Dict, List, NamedTuple, Sequence, Tuple
 
+# The version of the header that these declarations follow. A library fits if the first two of its three numbers are the same.
+VERSION = 200
+
 DONE, DAMAGED, OUT_OF_RANGE, SHORT, LONG, BAD_PIXEL, NO_SEGMENT, SMALL_ROOM, NO_MEMORY = range(9)
-FIELDS = "none width rows depth segment limit fill word stop weights apid image packet".split()
+NO_IMAGE, ALL_ROWS, UNFINISHED, BAD_BOOK, WRONG_SIZE, TOO_MANY_PIXELS, LONG_INPUT = range(9, 16)
+FIELDS = "none width rows depth segment limit fill word stop weights apid image packet pixels octets total".split()
 USUAL: Dict[str, Any] = {"segment": 64, "packet": 1024, "apid": 100, "depth": 8, "word": 1, "stop_stage": 3, "optimal": 1}
 USUAL_WEIGHTS = (0, 1, 1, 1, 2, 2, 2, 3, 3, 3)
 
@@ -24,10 +28,13 @@ class Setting(ctypes.Structure):
     """A setting of the encoder; `usual` makes one with the usual value of each field that is not named."""
 
     _fields_ = (
-        fields(ctypes.c_uint32, "width rows segment limit packet")
+        fields(ctypes.c_uint32, "size width rows segment limit packet")
+        + fields(ctypes.c_uint64, "total")
         + fields(ctypes.c_uint16, "apid image")
         + fields(ctypes.c_uint8, "depth is_signed fill word stop_dc stop_plane stop_stage optimal")
         + [("weights", ctypes.c_uint8 * 10)]
+        + fields(ctypes.c_uint8, "has_book")
+        + [("book", ctypes.c_uint8 * 138)]
     )
 
 
@@ -35,9 +42,22 @@ class Encoded(ctypes.Structure):
     """What an encoder reports."""
 
     _fields_ = (
-        fields(ctypes.c_uint64, "octets packets")
-        + fields(ctypes.c_uint32, "segments field row column")
+        fields(ctypes.c_uint32, "size field")
+        + fields(ctypes.c_uint64, "octets all packets")
+        + fields(ctypes.c_uint32, "segments rows column")
         + fields(ctypes.c_int32, "value")
+    )
+
+
+class Wish(ctypes.Structure):
+    """The parameters of the decoder; `usual_wish` makes one."""
+
+    _fields_ = (
+        fields(ctypes.c_uint32, "size")
+        + fields(ctypes.c_uint16, "apid")
+        + fields(ctypes.c_uint8, "has_book")
+        + [("book", ctypes.c_uint8 * 138)]
+        + fields(ctypes.c_uint64, "pixels octets")
     )
 
 
@@ -45,8 +65,9 @@ class Decoded(ctypes.Structure):
     """What a decoder reports."""
 
     _fields_ = (
-        fields(ctypes.c_uint64, "octets ranges fault_octets")
-        + fields(ctypes.c_uint32, "width rows written segment")
+        fields(ctypes.c_uint32, "size width")
+        + fields(ctypes.c_uint64, "octets ranges fault_octets pixels")
+        + fields(ctypes.c_uint32, "rows written segment")
         + fields(ctypes.c_uint16, "image")
         + fields(ctypes.c_uint8, "depth is_signed word fault")
         + [("weights", ctypes.c_uint8 * 10)]
@@ -59,19 +80,38 @@ class Range(ctypes.Structure):
     _fields_ = fields(ctypes.c_uint32, "first last")
 
 
-def usual(width: int, rows: int, weights: Sequence[int] = USUAL_WEIGHTS, **others: int) -> Setting:
-    """Returns a setting for an image of this size, with the usual value of each field that is not named.
+class Place(ctypes.Structure):
+    """The place of an encoder."""
+
+    _fields_ = [("kept", ctypes.c_uint64 * 512)]
+
+
+def usual(width: int, rows: int, weights: Sequence[int] = USUAL_WEIGHTS, book: bytes = b"", **others: int) -> Setting:
+    """Returns a setting for an image of this size, with the usual value of each field that is not named, and with a code book of 138
+    octets or that of the profile.
 
     Raises ValueError if a field is unknown, or a value doesn't fit the type of its field: ctypes would cut it.
     """
-    named = {"width": width, "rows": rows, **USUAL, **others}
+    if len(book) not in (0, 138):
+        raise ValueError(f"book: has {len(book)} octets, not 138")
+    named = {"size": ctypes.sizeof(Setting), "width": width, "rows": rows, "has_book": len(book) > 0, **USUAL, **others}
     bits = {name: 8 * ctypes.sizeof(kind) for name, kind in Setting._fields_}
     for name, value in named.items():
         if name not in bits:
             raise ValueError(f"{name}: no such field")
         if not 0 <= int(value) < 1 << bits[name]:
             raise ValueError(f"{name}: {value} is not 0 to {(1 << bits[name]) - 1}")
-    return Setting(weights=(ctypes.c_uint8 * 10)(*weights), **{name: int(value) for name, value in named.items()})
+    octets = {"weights": (ctypes.c_uint8 * 10)(*weights), "book": (ctypes.c_uint8 * 138)(*book)}
+    return Setting(**octets, **{name: int(value) for name, value in named.items()})
+
+
+def usual_wish(apid: int = 100, pixels: int = 1 << 32, octets: int = 1 << 40, book: bytes = b"") -> Wish:
+    """Returns parameters of the decoder, with a code book of 138 octets or that of the profile. Raises ValueError if the book has another
+    size.
+    """
+    if len(book) not in (0, 138):
+        raise ValueError(f"book: has {len(book)} octets, not 138")
+    return Wish(ctypes.sizeof(Wish), apid, len(book) > 0, (ctypes.c_uint8 * 138)(*book), pixels, octets)
 
 
 class Packets(NamedTuple):
@@ -91,29 +131,87 @@ class Picture(NamedTuple):
     ranges: List[Tuple[int, int]]
 
 
+def new_report() -> Encoded:
+    return Encoded(size=ctypes.sizeof(Encoded))
+
+
+class Encoder:
+    """An encoder that takes an image row by row."""
+
+    def __init__(self, calls: Any, setting: Setting):
+        self._calls, self._place, self.report = calls, Place(), new_report()
+        self.answer = calls.strip122_encoder_new(self._place, setting, self.report)
+
+    def row(self, octets: bytes, size: int) -> Packets:
+        """Takes a row, with a room of `size` octets."""
+        room, report = (ctypes.c_uint8 * max(size, 1))(), new_report()
+        answer = self._calls.strip122_encoder_row(self._place, bytes(octets) or b"\0", len(octets), room, size, report)
+        return Packets(answer, report, bytes(memoryview(room)[:size]))
+
+    def end(self, image: int, size: int) -> Packets:
+        """Ends the image, with a room of `size` octets, and opens the next one."""
+        room, report = (ctypes.c_uint8 * max(size, 1))(), new_report()
+        answer = self._calls.strip122_encoder_end(self._place, image, room, size, report)
+        return Packets(answer, report, bytes(memoryview(room)[:size]))
+
+    def free(self) -> None:
+        """Frees what the encoder owns."""
+        self._calls.strip122_encoder_free(self._place)
+
+
 class Library:
     """The library in a shared object. Raises OSError if it can't be loaded, or has other declarations than these."""
 
     def __init__(self, path: str):
-        library = ctypes.CDLL(path)
-        if not hasattr(library, "strip122_encode") or hasattr(library, "strip122_version"):
+        self.calls = library = ctypes.CDLL(path)
+        if not hasattr(library, "strip122_version") or library.strip122_version() // 100 != VERSION // 100:
             raise OSError(f"{path}: is not the library of this version of strip122")
         size, octets, pointer = ctypes.c_size_t, ctypes.c_void_p, ctypes.POINTER
         self._encode, self._decode = library.strip122_encode, library.strip122_decode
         self._encode.restype = self._decode.restype = ctypes.c_uint32
         self._encode.argtypes = [pointer(Setting), octets, size, octets, size, pointer(Encoded)]
-        self._decode.argtypes = [ctypes.c_uint16, octets, size, octets, size, octets, size, pointer(Decoded)]
+        self._decode.argtypes = [pointer(Wish), octets, size, octets, size, octets, size, pointer(Decoded)]
+        place, report = pointer(Place), pointer(Encoded)
+        library.strip122_encoder_new.argtypes = [place, pointer(Setting), report]
+        library.strip122_encoder_row.argtypes = [place, octets, size, octets, size, report]
+        library.strip122_encoder_end.argtypes = [place, ctypes.c_uint16, octets, size, report]
+        for call in (library.strip122_encoder_new, library.strip122_encoder_row, library.strip122_encoder_end):
+            call.restype = ctypes.c_uint32
+        library.strip122_encoder_free.argtypes, library.strip122_encoder_free.restype = [place], None
+        for call in (library.strip122_row_room, library.strip122_end_room, library.strip122_bound):
+            call.argtypes, call.restype = [pointer(Setting)], ctypes.c_uint64
+
+    def row_room(self, setting: Setting) -> int:
+        """Returns the octets of a room that is enough for each row, or 0 if the setting is refused."""
+        return int(self.calls.strip122_row_room(setting))
+
+    def end_room(self, setting: Setting) -> int:
+        """Returns the octets of a room that is enough for each end, or 0 if the setting is refused."""
+        return int(self.calls.strip122_end_room(setting))
+
+    def bound(self, setting: Setting) -> int:
+        """Returns the octets of a room that is enough for an image, or 0 if the setting is refused."""
+        return int(self.calls.strip122_bound(setting))
+
+    def encoder(self, setting: Setting) -> Encoder:
+        """Makes an encoder. Its `answer` is DONE, or the reason why there is none. Free it."""
+        return Encoder(self.calls, setting)
 
     def encode(self, setting: Setting, raster: bytes, size: int) -> Packets:
         """Encodes a raster into a room of `size` octets."""
-        room, report = (ctypes.c_uint8 * max(size, 1))(), Encoded()
+        room, report = (ctypes.c_uint8 * max(size, 1))(), new_report()
         answer = self._encode(setting, bytes(raster) or b"\0", len(raster), room, size, report)
         return Packets(answer, report, bytes(memoryview(room)[:size]))
 
     def decode(self, apid: int, packets: bytes, size: int, places: int) -> Picture:
+        """As `decode_with`, with the usual wish for packets of this APID."""
+        return self.decode_with(usual_wish(apid), packets, size, places)
+
+    def decode_with(self, wish: Wish, packets: bytes, size: int, places: int) -> Picture:
         """Decodes packets into a room of `size` octets, with places for that number of ranges of damaged rows."""
-        room, report, ranges = (ctypes.c_uint8 * max(size, 1))(), Decoded(), (Range * max(places, 1))()
-        answer = self._decode(apid, bytes(packets) or b"\0", len(packets), room, size, ranges, places, report)
+        room, ranges = (ctypes.c_uint8 * max(size, 1))(), (Range * max(places, 1))()
+        report = Decoded(size=ctypes.sizeof(Decoded))
+        answer = self._decode(wish, bytes(packets) or b"\0", len(packets), room, size, ranges, places, report)
         found = [(ranges[it].first, ranges[it].last) for it in range(min(report.ranges, places))]
         return Picture(answer, report, bytes(memoryview(room)[:size]), found)
 
@@ -125,9 +223,10 @@ class Library:
     def decode_whole(self, apid: int, packets: bytes, most: int) -> Picture:
         """Decodes packets, with a room that is found, if the picture has at most this number of pixels.
 
-        Otherwise the answer is SMALL_ROOM, and the report has the size of the picture.
+        Otherwise the answer is TOO_MANY_PIXELS, and the report has the number of pixels.
         """
-        asked = self.decode(apid, packets, 0, 0)
-        if asked.answer != SMALL_ROOM or asked.report.width * asked.report.written > most:
+        wish = usual_wish(apid, most)
+        asked = self.decode_with(wish, packets, 0, 0)
+        if asked.answer != SMALL_ROOM:
             return asked
-        return self.decode(apid, packets, asked.report.octets, asked.report.written // 52 + 2)
+        return self.decode_with(wish, packets, asked.report.octets, asked.report.written // 52 + 2)

@@ -251,6 +251,36 @@ def test_settings_of_the_library() -> None:
             library.usual(64, 128, **words)
 
 
+def test_books_of_the_library() -> None:
+    """A setting has the octets of a code book, or none."""
+    assert library.usual(64, 128).has_book == 0
+    setting = library.usual(64, 128, book=bytes(range(138)))
+    assert setting.has_book == 1 and bytes(setting.book) == bytes(range(138))
+    with pytest.raises(ValueError, match="book"):
+        library.usual(64, 128, book=b"short")
+
+
+def test_rows_of_the_library(shared_library: str) -> None:
+    """Rows given one by one settle the packets that the whole raster has."""
+    lib = library.Library(shared_library)
+    setting = library.usual(64, 128, segment=16)
+    raster = bytes(range(256)) * 32
+    whole = lib.encode_whole(setting, raster)
+    encoder = lib.encoder(setting)
+    assert (whole.answer, encoder.answer) == (library.DONE, library.DONE)
+    given = b""
+    for at in range(0, len(raster), 64):
+        got = encoder.row(raster[at : at + 64], lib.row_room(setting))
+        assert got.answer == library.DONE and got.report.rows == at // 64 + 1
+        given += got.room[: got.report.octets]
+    assert 0 < len(given) < whole.report.octets and encoder.row(raster[:64], 0).answer == library.ALL_ROWS
+    last = encoder.end(1, lib.end_room(setting))
+    assert given + last.room[: last.report.octets] == whole.room[: whole.report.octets]
+    assert len(given) < whole.report.octets <= lib.bound(setting)
+    encoder.free()
+    assert encoder.row(raster[:64], 0).answer == library.NO_IMAGE
+
+
 def test_words() -> None:
     assert from_words(["depth=12", "signed=1", "stop=dc"]) == {"depth": 12, "signed": True, "stop": "dc"}
     for words in (["depth"], ["=8"], ["depth=8", "depth=8"], ["depth=many"], ["signed=2"], ["program=true"], ["book=1"]):

@@ -7,3 +7,5 @@ pub mod WholeDecoded
 pub mod RasterBack
 pub mod Puts
 pub mod RangesPut
+pub mod Lends
+pub mod RowsInto

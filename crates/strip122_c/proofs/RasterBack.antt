@@ -1,9 +1,10 @@
 -- A raster that is encoded and decoded again.
-use Rattle.std.proofs.Common.{◌≡◌, ◌≤◌, ◌<◌, ◌+◌, ◌*◌, ◌∙◌, ℕ, zero, suc, ℤ, Bool, List, [], ◌∷◌, ◌++◌, length, get_or, map, take, drop, refl, sym, ap, arith, inl, inr, Result, Ok, Err}
+use Rattle.std.proofs.Common.{◌≡◌, ◌≤◌, ◌<◌, ◌+◌, ◌*◌, ◌∙◌, ℕ, zero, suc, ℤ, Bool, List, [], ◌∷◌, ◌++◌, length, get_or, map, take, drop, refl, sym, ap, subst, arith, inl, inr, Result, Ok, Err}
 use Rattle.std.specs.List.{flat_map, range_with_len}
 use Rattle.std.proofs.Math.Seq.{take-append_seam, take-length}
 use Rattle.std.proofs.lemmas.Bool.{cases_lt}
 use Rattle.base_122.specs.declared.setting.Setting.{Setting}
+use Rattle.base_122.specs.declared.wish.DecodeWish.{DecodeWish}
 use Rattle.raster_rows.specs.Pixels.{pixel_size, pixel_at, pixel_octets, raster_pixel, raster_octets}
 use Rattle.raster_rows.proofs.MadeLaws.{row_octets-append}
 use Rattle.raster_rows.proofs.OctetLaws.{pixel_octets-pixel_at}
@@ -12,7 +13,7 @@ use Rattle.strip_coder.specs.declared.encode.EncodeDone.{EncodeDone}
 use Rattle.strip_coder.specs.Rasters.{image_of}
 use Rattle.segment_walk.specs.declared.ending.DecodeDone.{DecodeDone}
 use Rattle.strip122_c.specs.declared.decode.DecodeRefusal.{DecodeRefusal}
-use Rattle.strip122_c.specs.declared.decode.DecodeRefusal.TheVariants.{NoSegment, SmallRoom, Memory}
+use Rattle.strip122_c.specs.declared.decode.DecodeRefusal.TheVariants.{NoSegment, SmallRoom, TooManyPixels, LongInput, Memory}
 use Rattle.strip122_c.specs.ComingBack.{AreOctets, BringsRaster}
 use Rattle.strip122_c.specs.WholeEncoding.{HasPackets}
 use Rattle.strip122_c.specs.WholeDecoding.{picture_length, BringsBack}
@@ -74,10 +75,10 @@ packets_are : (s : Setting) (raster old new : List ℕ) (done : EncodeDone) → 
 packets_are s raster old new done has =
     ap (take done.octets) has.room ∙ ap (λ n. take n (output s s.rows (image_of s raster) ++ drop done.octets old)) has.done_for.octets ∙ take-append_seam (output s s.rows (image_of s raster)) (drop done.octets old)
 
-pub comes_back : (s : Setting) (raster old new room : List ℕ) (done : EncodeDone) (result : Result DecodeDone DecodeRefusal) → AreOctets raster → HasPackets s raster old new done →
-    BringsBack s.book s.apid (take done.octets new) room result → BringsRaster s raster room result
-comes_back s raster old new room done (Ok found) are has back =
-    let gives = back s s.rows (image_of s raster) refl refl (packets_are s raster old new done has) has.image in
+pub comes_back : (s : Setting) (wish : DecodeWish) (raster old new room : List ℕ) (done : EncodeDone) (result : Result DecodeDone DecodeRefusal) → wish.apid ≡ s.apid → wish.book ≡ s.book →
+    AreOctets raster → HasPackets s raster old new done → BringsBack wish (take done.octets new) room result → BringsRaster wish s raster (take done.octets new) room result
+comes_back s wish raster old new room done (Ok found) mine own are has back =
+    let gives = back s s.rows (image_of s raster) mine own (packets_are s raster old new done has) has.image in
     let size : length raster ≡ picture_length found.geometry found.written =
     has.took.whole ∙ ap (λ g. picture_length g s.rows) (sym gives.geometry) ∙ ap (picture_length found.geometry) (sym gives.written) in (
       gives.written,
@@ -85,6 +86,10 @@ comes_back s raster old new room done (Ok found) are has back =
       gives.framing_is,
       λ all. ap (λ n. take n room) size ∙ gives.same all ∙ raster-same s.depth s.signed s.rows s.width raster are has.took.whole,
     )
-comes_back s raster old new room done (Err NoSegment) are has back = back s s.rows (image_of s raster) refl refl (packets_are s raster old new done has) has.image
-comes_back s raster old new room done (Err (SmallRoom g rows)) are has back = back s s.rows (image_of s raster) refl refl (packets_are s raster old new done has) has.image
-comes_back s raster old new room done (Err Memory) are has back = tt
+comes_back s wish raster old new room done (Err NoSegment) mine own are has back = back s s.rows (image_of s raster) mine own (packets_are s raster old new done has) has.image
+comes_back s wish raster old new room done (Err (SmallRoom g rows)) mine own are has back = back s s.rows (image_of s raster) mine own (packets_are s raster old new done has) has.image
+comes_back s wish raster old new room done (Err (TooManyPixels pixels)) mine own are has back = back s s.rows (image_of s raster) mine own (packets_are s raster old new done has) has.image
+comes_back s wish raster old new room done (Err LongInput) mine own are has back =
+    let packets = packets_are s raster old new done has in
+    subst (λ octets. wish.octets ≤ length octets) (sym packets) (back s s.rows (image_of s raster) mine own packets has.image)
+comes_back s wish raster old new room done (Err Memory) mine own are has back = tt

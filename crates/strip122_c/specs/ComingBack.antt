@@ -1,12 +1,13 @@
 -- A raster that is encoded and decoded again. This project's own.
-use Rattle.std.specs.Prelude.{◌≡◌, ◌<◌, ◌^◌, ℕ, List, [], length, take, slice_index, None, Result, Ok, Err, ⊤}
+use Rattle.std.specs.Prelude.{◌≡◌, ◌<◌, ◌≤◌, ◌^◌, ℕ, List, [], length, take, slice_index, None, Result, Ok, Err, ⊤}
 use Rattle.base_122.specs.Setting.{geometry_of}
 use Rattle.base_122.specs.declared.setting.Setting.{Setting}
+use Rattle.base_122.specs.declared.wish.DecodeWish.{DecodeWish}
 use Rattle.strip_coder.specs.declared.encode.EncodeDone.{EncodeDone}
 use Rattle.segment_walk.specs.declared.ending.DecodeDone.{DecodeDone}
 use Rattle.segment_walk.specs.Images.{SendsAll}
 use Rattle.strip122_c.specs.declared.decode.DecodeRefusal.{DecodeRefusal}
-use Rattle.strip122_c.specs.declared.decode.DecodeRefusal.TheVariants.{SmallRoom, Memory}
+use Rattle.strip122_c.specs.declared.decode.DecodeRefusal.TheVariants.{NoSegment, SmallRoom, TooManyPixels, LongInput, Memory}
 use Rattle.strip122_c.specs.WholeEncoding.{HasPackets}
 use Rattle.strip122_c.specs.WholeDecoding.{BringsBack}
 
@@ -15,14 +16,17 @@ pub record AreOctets (octets : List ℕ) : Type 0 where
   pub each : (i : ℕ) → i < length octets → slice_index octets i < 2 ^ 8
 
 -- The result for the packets of a raster: all rows are there, none is missing, the packets can be read to their end, and if nothing was
--- omitted, the room begins with the raster, octet by octet. Otherwise the room is too small, or there is no memory.
-abbrev pub BringsRaster : Setting → (raster room : List ℕ) → Result DecodeDone DecodeRefusal → Type 0
-BringsRaster s raster room (Ok done) = (done.written ≡ s.rows) × (done.damage.missing ≡ []) × (done.framing ≡ None) × (SendsAll s → take (length raster) room ≡ raster)
-BringsRaster s raster room (Err (SmallRoom g rows)) = (g ≡ geometry_of s) × (rows ≡ s.rows)
-BringsRaster s raster room (Err Memory) = ⊤
-BringsRaster s raster room (Err other) = ⊥
+-- omitted, the room begins with the raster, octet by octet. Otherwise the room is too small, there are more pixels or octets than the wish
+-- allows, or there is no memory.
+abbrev pub BringsRaster : DecodeWish → Setting → (raster packets room : List ℕ) → Result DecodeDone DecodeRefusal → Type 0
+BringsRaster wish s raster packets room (Ok done) = (done.written ≡ s.rows) × (done.damage.missing ≡ []) × (done.framing ≡ None) × (SendsAll s → take (length raster) room ≡ raster)
+BringsRaster wish s raster packets room (Err (SmallRoom g rows)) = (g ≡ geometry_of s) × (rows ≡ s.rows)
+BringsRaster wish s raster packets room (Err (TooManyPixels pixels)) = wish.pixels < pixels
+BringsRaster wish s raster packets room (Err LongInput) = wish.octets ≤ length packets
+BringsRaster wish s raster packets room (Err Memory) = ⊤
+BringsRaster wish s raster packets room (Err NoSegment) = ⊥
 
 -- the same for what an encoder put into a room and a decoder with the same code book takes from there
 pub record RastersComeBack : Type 0 where
-  pub back : (s : Setting) (raster old new room : List ℕ) (done : EncodeDone) (result : Result DecodeDone DecodeRefusal) → AreOctets raster → HasPackets s raster old new done →
-      BringsBack s.book s.apid (take done.octets new) room result → BringsRaster s raster room result
+  pub back : (s : Setting) (wish : DecodeWish) (raster old new room : List ℕ) (done : EncodeDone) (result : Result DecodeDone DecodeRefusal) → wish.apid ≡ s.apid → wish.book ≡ s.book →
+      AreOctets raster → HasPackets s raster old new done → BringsBack wish (take done.octets new) room result → BringsRaster wish s raster (take done.octets new) room result

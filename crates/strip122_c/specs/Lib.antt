@@ -3,6 +3,12 @@ pub mod WholeEncoding
 pub mod WholeDecoding
 pub mod ComingBack
 pub mod Settings
+pub mod Wishes
+pub mod EncodedReport
 pub mod Encoding
 pub mod Ranges
 pub mod Decoding
+pub mod Rooms
+pub mod RowReports
+pub mod RowCalls
+pub mod Kept

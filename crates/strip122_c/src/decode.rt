@@ -6,7 +6,7 @@ ghost use Rattle.strip122_c.specs.WholeDecoding.{HasRun, IsRefused, Decodes, Bri
 
 use crate::geometry::{find_geometry, picture_length};
 use crate::port::LentPort;
-use base_122::{Book, DecodeWish, Geometry};
+use base_122::{DecodeWish, Geometry};
 use segment_walk::received_is_told;
 use std::alloc::Global;
 use stream_defs::heights_are_known;
@@ -19,54 +19,57 @@ pub enum DecodeRefusal {
     NoSegment,
     /// The room has fewer octets than the picture, which has this geometry and this number of rows.
     SmallRoom { geometry: Geometry, rows: u32 },
+    /// A header reports this number of pixels, and the wish allows fewer.
+    TooManyPixels { pixels: u64 },
+    /// The packets have the number of octets at which reading ends.
+    LongInput,
     /// There is no memory.
     Memory,
 }
 
-/// Decodes the packets of an APID, and puts their picture at the start of the room; the rest of the room is unchanged, and so is all of it
-/// after a refusal. The causes of the results exclude each other, so each result except `Memory` is given exactly if its cause holds. If
-/// the room is too small, the packets are read no further than to the first one that is kept, or to their end if their height is reported
+/// Decodes the packets of the wish's APID, and puts their picture at the start of the room; the rest of the room is unchanged, and so is all of it
+/// after a refusal. If the first packet that is kept reports a picture that doesn't fit the room, and no more pixels than the wish allows,
+/// `SmallRoom` is given. Otherwise the causes of the results exclude each other, so each result except `Memory` is given exactly if its cause
+/// holds. If the room is too small, the packets are read no further than to the first one that is kept, or to their end if their height is reported
 /// last. If it isn't reported at all, the picture has the rows that the block rows determine which the packets reach (docs/formats.md,
 /// "Picture and damage").
 ///
-/// Segments are read with this code book, which must be sound. The packets do not carry it: with another book than the encoder's, segments
+/// Segments are read with the wish's code book, which must be sound. The packets do not carry it: with another book than the encoder's, segments
 /// are refused or give another picture.
 pub fn decode_whole(
     alloc: Global,
-    book: &Book,
-    apid: u16,
+    wish: &DecodeWish,
     packets: &[u8],
     room: &mut [u8],
 ) -> Result<DecodeDone, DecodeRefusal>
-    requires book { IsTrue (is_book_sound book.now) }
-    ensures decodes { Decodes book.now apid packets.now room.old room.new result }
-    ensures back { BringsBack book.now apid packets.now room.new result }
+    requires book { IsTrue (is_book_sound wish.now.book) }
+    ensures decodes { Decodes wish.now packets.now room.old room.new result }
+    ensures back { BringsBack wish.now packets.now room.new result }
 {
     round_trip();
     received_is_told();
     heights_are_known();
-    put_picture(alloc, book, apid, packets, room)
+    put_picture(alloc, wish, packets, room)
 }
 
 // Decodes packets, and puts their picture at the start of the room.
 fn put_picture(
     alloc: Global,
-    book: &Book,
-    apid: u16,
+    wish: &DecodeWish,
     packets: &[u8],
     room: &mut [u8],
 ) -> Result<DecodeDone, DecodeRefusal>
-    requires book { IsTrue (is_book_sound book.now) }
-    ensures { Decodes book.now apid packets.now room.old room.new result }
+    requires book { IsTrue (is_book_sound wish.now.book) }
+    ensures { Decodes wish.now packets.now room.old room.new result }
 {
-    let kept = match octets_kept(alloc, apid, packets, room.len()) {
+    let kept = match octets_kept(alloc, wish, packets, room.len()) {
         Ok(kept) => kept,
         Err(refusal) => return Err(refusal),
     };
     let Ok(mut port) = LentPort::new(alloc, packets, kept) else {
         return Err(DecodeRefusal::Memory);
     };
-    let done = match decode(alloc, book, apid, packets, &mut port) {
+    let done = match decode(alloc, wish, packets, &mut port) {
         Ok(done) => done,
         Err(refusal) => return Err(refusal),
     };
@@ -86,16 +89,17 @@ fn put_picture(
 }
 
 // Returns the octets of the picture for which memory is needed in addition to the room: all, or the number of octets in the room if the
-// first packet that is kept reports no height. Refuses a picture whose first packet reports that it doesn't fit.
+// first packet that is kept reports no height, or none if it reports too many pixels. Refuses a picture whose first packet reports that it
+// doesn't fit.
 fn octets_kept(
     alloc: Global,
-    apid: u16,
+    wish: &DecodeWish,
     packets: &[u8],
     room: usize,
 ) -> Result<usize, DecodeRefusal>
-    ensures { IfErr result (IsRefused apid packets.now room) }
+    ensures { IfErr result (IsRefused wish.now packets.now room) }
 {
-    let geometry = match find_geometry(alloc, apid, packets) {
+    let geometry = match find_geometry(alloc, wish.apid, packets) {
         Ok(Some(geometry)) => geometry,
         Ok(None) => return Ok(0),
         Err(_) => return Err(DecodeRefusal::Memory),
@@ -103,6 +107,9 @@ fn octets_kept(
     let rows = geometry.rows;
     if rows == 0 {
         return Ok(room);
+    }
+    if u64::from(geometry.width) * u64::from(rows) > wish.pixels {
+        return Ok(0);
     }
     let length = picture_length(&geometry, rows);
     if length > room {
@@ -114,27 +121,20 @@ fn octets_kept(
 // Decodes the packets that a port has.
 fn decode(
     alloc: Global,
-    book: &Book,
-    apid: u16,
+    wish: &DecodeWish,
     packets: &[u8],
     port: &mut LentPort,
 ) -> Result<DecodeDone, DecodeRefusal>
-    requires book { IsTrue (is_book_sound book.now) }
+    requires book { IsTrue (is_book_sound wish.now.book) }
     requires input { (outside_of port.old).rest ≡ Some packets.now }
-    ensures { HasRun book.now apid packets.now (outside_of port.old) (outside_of port.new) result }
+    ensures { HasRun wish.now packets.now (outside_of port.old) (outside_of port.new) result }
 {
-    let wish = DecodeWish {
-        apid,
-        pixels: u64::MAX,
-        octets: packets.len() as u64 + 1,
-        book: *book,
-    };
-    match decode_packets(alloc, port, &wish) {
+    match decode_packets(alloc, port, wish) {
         Ok(done) => Ok(done),
         Err(DecodeFault::NoSegment) => Err(DecodeRefusal::NoSegment),
         Err(DecodeFault::Memory) => Err(DecodeRefusal::Memory),
-        Err(DecodeFault::TooManyPixels { pixels: _ }) => unreachable!(),
-        Err(DecodeFault::LongInput) => unreachable!(),
+        Err(DecodeFault::TooManyPixels { pixels }) => Err(DecodeRefusal::TooManyPixels { pixels }),
+        Err(DecodeFault::LongInput) => Err(DecodeRefusal::LongInput),
         Err(DecodeFault::ReadFault) => unreachable!(),
         Err(DecodeFault::WriteFault) => unreachable!(),
     }

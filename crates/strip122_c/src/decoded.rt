@@ -13,13 +13,17 @@ use strip_decoder::DecodeDone;
 #[repr(C)]
 #[derive(Clone, Copy, Debug, PartialEq, Eq)]
 pub struct Strip122Decoded {
+    /// The size of this structure.
+    pub size: u32,
+    pub width: u32,
     /// The number of octets of the picture, which the room needs.
     pub octets: u64,
     /// The number of ranges of damaged rows, including those for which there was no place.
     pub ranges: u64,
     /// The octet at which a packet has another version, or the octets that are missing from the last packet.
     pub fault_octets: u64,
-    pub width: u32,
+    /// The number of pixels that a header reports, if they are too many.
+    pub pixels: u64,
     /// The height of the image; 0 if no header reports it.
     pub rows: u32,
     /// The number of rows of the picture: the height if it is known, otherwise those that the received headers determine.
@@ -34,12 +38,19 @@ pub struct Strip122Decoded {
     pub weights: [u8; 10],
 }
 
-// Returns a report of nothing.
-const NOTHING: Strip122Decoded = Strip122Decoded {
+/// The size of a report.
+pub(crate) const DECODED_SIZE: u32 = 72;
+
+const _: () = prove!(size_of::<Strip122Decoded>() == 72);
+
+/// Returns a report of nothing.
+pub(crate) const NOTHING: Strip122Decoded = Strip122Decoded {
+    size: DECODED_SIZE,
+    width: 0,
     octets: 0,
     ranges: 0,
     fault_octets: 0,
-    width: 0,
+    pixels: 0,
     rows: 0,
     written: 0,
     segment: 0,
@@ -59,6 +70,10 @@ pub fn report_of(ended: &Result<DecodeDone, DecodeRefusal>, ranges: u64) -> Stri
     match ended {
         Ok(done) => picture_report(done, ranges),
         Err(DecodeRefusal::SmallRoom { geometry, rows }) => geometry_report(geometry, *rows),
+        Err(DecodeRefusal::TooManyPixels { pixels }) => Strip122Decoded {
+            pixels: *pixels,
+            ..NOTHING
+        },
         Err(_) => NOTHING,
     }
 }
@@ -92,10 +107,12 @@ fn geometry_report(geometry: &Geometry, written: u32) -> Strip122Decoded
     ensures { result ≡ geometry_report geometry.now written }
 {
     Strip122Decoded {
+        size: DECODED_SIZE,
+        width: geometry.width,
         octets: picture_length(geometry, written) as u64,
         ranges: 0,
         fault_octets: 0,
-        width: geometry.width,
+        pixels: 0,
         rows: geometry.rows,
         written,
         segment: geometry.segment,
@@ -123,5 +140,7 @@ pub fn answer_of(ended: &Result<DecodeDone, DecodeRefusal>, ranges: u64) -> u32
         Err(DecodeRefusal::NoSegment) => 6,
         Err(DecodeRefusal::SmallRoom { .. }) => 7,
         Err(DecodeRefusal::Memory) => 8,
+        Err(DecodeRefusal::TooManyPixels { .. }) => 14,
+        Err(DecodeRefusal::LongInput) => 15,
     }
 }

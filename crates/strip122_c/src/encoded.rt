@@ -1,6 +1,7 @@
 // The report on an encoding.
 ghost use Rattle.std.specs.Prelude.{◌≡◌};
-ghost use Rattle.strip122_c.specs.Encoding.{field_number, report_of, answer_of};
+ghost use Rattle.strip122_c.specs.EncodedReport.{field_number};
+ghost use Rattle.strip122_c.specs.Encoding.{report_of, answer_of};
 
 use crate::encode::EncodeRefusal;
 use base_122::Field;
@@ -10,25 +11,38 @@ use strip_coder::EncodeDone;
 #[repr(C)]
 #[derive(Clone, Copy, Debug, PartialEq, Eq)]
 pub struct Strip122Encoded {
-    /// The number of octets of the packets, which the room needs.
-    pub octets: u64,
-    pub packets: u64,
-    pub segments: u32,
+    /// The size of this structure.
+    pub size: u32,
     /// The number of the first field out of range, from 1 on in the order of `Field`.
     pub field: u32,
-    /// The place and the value of the first pixel out of range.
-    pub row: u32,
+    /// The number of octets of the packets that the call gave, or that the room needs.
+    pub octets: u64,
+    /// The number of octets of all packets of the image so far.
+    pub all: u64,
+    /// The number of packets and of segments so far.
+    pub packets: u64,
+    pub segments: u32,
+    /// The number of rows that were taken so far, or the row of the first pixel out of range.
+    pub rows: u32,
+    /// The column and the value of the first pixel out of range.
     pub column: u32,
     pub value: i32,
 }
 
-// Returns a report of nothing.
-const NOTHING: Strip122Encoded = Strip122Encoded {
+/// The size of a report.
+pub(crate) const ENCODED_SIZE: u32 = 48;
+
+const _: () = prove!(size_of::<Strip122Encoded>() == 48);
+
+/// Returns a report of nothing.
+pub(crate) const NOTHING: Strip122Encoded = Strip122Encoded {
+    size: ENCODED_SIZE,
+    field: 0,
     octets: 0,
+    all: 0,
     packets: 0,
     segments: 0,
-    field: 0,
-    row: 0,
+    rows: 0,
     column: 0,
     value: 0,
 };
@@ -41,12 +55,13 @@ pub fn report_of(ended: &Result<EncodeDone, EncodeRefusal>) -> Strip122Encoded
     match *ended {
         Ok(done) => {
             report.octets = done.octets;
+            report.all = done.octets;
             report.packets = done.packets;
             report.segments = done.segments;
         }
         Err(EncodeRefusal::OutOfRange(field)) => report.field = field_number(field),
         Err(EncodeRefusal::BadPixel { row, column, value }) => {
-            report.row = row;
+            report.rows = row;
             report.column = column;
             report.value = value;
         }
@@ -56,7 +71,8 @@ pub fn report_of(ended: &Result<EncodeDone, EncodeRefusal>) -> Strip122Encoded
     report
 }
 
-fn field_number(field: Field) -> u32
+/// Returns the number of a field.
+pub(crate) fn field_number(field: Field) -> u32
     ensures { result ≡ field_number field }
 {
     field as u32 + 1

@@ -14,6 +14,8 @@ pub struct Strip122Range {
     pub last: u32,
 }
 
+const _: () = prove!(size_of::<Strip122Range>() == 8);
+
 /// Puts the ranges of a picture's damaged rows into the places, at most one into each, and returns the number of its ranges.
 pub fn put_damage(ended: &Result<DecodeDone, DecodeRefusal>, places: &mut [Strip122Range]) -> u64
     requires { IfOk ended.now (λ done. done.damage.rows ≤ 262144) }

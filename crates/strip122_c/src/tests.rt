@@ -1,6 +1,6 @@
 use crate::{
-    Strip122Decoded, Strip122Encoded, Strip122Range, Strip122Setting, strip122_decode,
-    strip122_encode,
+    Strip122Decoded, Strip122Encoded, Strip122Range, Strip122Setting, Strip122Wish, encoder,
+    strip122_bound, strip122_decode, strip122_encode, strip122_end_room, strip122_row_room,
 };
 use std::alloc::Global;
 use std::process::Abort;
@@ -9,11 +9,13 @@ use std::test::Fail;
 // Returns a setting for an image of 24 columns, in segments of 16 blocks.
 fn setting(rows: u32, depth: u8) -> Strip122Setting {
     Strip122Setting {
+        size: 200,
         width: 24,
         rows,
         segment: 16,
         limit: 0,
         packet: 1024,
+        total: 0,
         apid: 100,
         image: 5,
         depth,
@@ -25,6 +27,8 @@ fn setting(rows: u32, depth: u8) -> Strip122Setting {
         stop_stage: 3,
         optimal: 1,
         weights: [0, 1, 1, 1, 2, 2, 2, 3, 3, 3],
+        has_book: 0,
+        book: [0; 138],
     }
 }
 
@@ -35,15 +39,7 @@ fn encode(
     raster: &[u8],
     room: &mut [u8],
 ) -> (u32, Strip122Encoded) {
-    let mut report = Strip122Encoded {
-        octets: 9,
-        packets: 9,
-        segments: 9,
-        field: 9,
-        row: 9,
-        column: 9,
-        value: 9,
-    };
+    let mut report = nines();
     let answer = strip122_encode(alloc, setting, raster, room, &mut report);
     (answer, report)
 }
@@ -73,6 +69,68 @@ fn rasters(rt: HostRuntime) {
     assert_eq!(rt; (answer, report.field), (2, 2));
 }
 
+#[test]
+fn structures(rt: HostRuntime) {
+    let alloc = rt.alloc();
+    let mut room = [0; 1000];
+    let mut wrong = setting(17, 8);
+    wrong.size = 196;
+    let (answer, report) = encode(alloc, &wrong, &[77; 408], &mut room);
+    assert_eq!(rt; (answer, report.octets), (13, 0));
+    let mut no_book = setting(17, 8);
+    no_book.has_book = 1;
+    let (answer, report) = encode(alloc, &no_book, &[77; 408], &mut room);
+    assert_eq!(rt; (answer, report.octets), (12, 0));
+}
+
+// A segment of 16 blocks has at most 24 + 18,343 octets, in 19 packets of 1,000 octets of text: 18,937 octets with their headers. A block
+// row has three blocks, so a row ends at most one segment, and the end has at most 12 blocks and the last segment. An image of 17 rows has
+// nine blocks.
+#[test]
+fn rooms(rt: HostRuntime) {
+    let setting = setting(17, 8);
+    assert_eq!(rt; strip122_row_room(&setting), 18_937);
+    assert_eq!(rt; strip122_end_room(&setting), 2 * 18_937);
+    assert_eq!(rt; strip122_bound(&setting), 18_937);
+}
+
+// Returns a report of the right size with 9 in each other field.
+fn nines() -> Strip122Encoded {
+    Strip122Encoded {
+        size: 48,
+        field: 9,
+        octets: 9,
+        all: 9,
+        packets: 9,
+        segments: 9,
+        rows: 9,
+        column: 9,
+        value: 9,
+    }
+}
+
+#[test]
+fn rows(rt: HostRuntime) {
+    let alloc = rt.alloc();
+    let row = [77; 24];
+    let mut room = [0; 100];
+    let mut report = nines();
+    let mut place = encoder::empty();
+    let answer = encoder::row(&mut place, &row, &mut room, &mut report);
+    assert_eq!(rt; (answer, report.rows), (9, 0));
+    let answer = encoder::new(&mut place, alloc, &setting(0, 8), &mut report);
+    assert_eq!(rt; (answer, report.octets, report.value), (0, 0, 0));
+    let answer = encoder::row(&mut place, &row, &mut room, &mut report);
+    assert_eq!(rt; (answer, report.octets, report.rows), (0, 0, 1));
+    let answer = encoder::row(&mut place, &row[..23], &mut room, &mut report);
+    assert_eq!(rt; (answer, report.rows), (3, 1));
+    let answer = encoder::end(&mut place, 1, &mut room, &mut report);
+    assert_eq!(rt; (answer, report.rows), (11, 1));
+    encoder::free(&mut place);
+    let answer = encoder::end(&mut place, 1, &mut room, &mut report);
+    assert_eq!(rt; (answer, report.rows), (9, 0));
+}
+
 const NO_RANGE: Strip122Range = Strip122Range { first: 9, last: 9 };
 
 // Returns the answer, the report, and two places for ranges.
@@ -83,10 +141,12 @@ fn decode(
 ) -> (u32, Strip122Decoded, [Strip122Range; 2]) {
     let mut ranges = [NO_RANGE; 2];
     let mut report = Strip122Decoded {
+        size: 72,
+        width: 9,
         octets: 9,
         ranges: 9,
         fault_octets: 9,
-        width: 9,
+        pixels: 9,
         rows: 9,
         written: 9,
         segment: 9,
@@ -97,8 +157,48 @@ fn decode(
         fault: 9,
         weights: [9; 10],
     };
-    let answer = strip122_decode(alloc, 100, packets, room, &mut ranges, &mut report);
+    let answer = strip122_decode(alloc, &wish(), packets, room, &mut ranges, &mut report);
     (answer, report, ranges)
+}
+
+// Returns the usual wish.
+fn wish() -> Strip122Wish {
+    Strip122Wish {
+        size: 168,
+        apid: 100,
+        has_book: 0,
+        book: [0; 138],
+        pixels: 1 << 32,
+        octets: 1 << 40,
+    }
+}
+
+// Returns the answer and the number of pixels that are too many.
+fn capped(alloc: Global, wish: &Strip122Wish, packets: &[u8], room: &mut [u8]) -> (u32, u64) {
+    let (_, mut report, mut ranges) = decode(alloc, &[], &mut []);
+    let answer = strip122_decode(alloc, wish, packets, room, &mut ranges, &mut report);
+    (answer, report.pixels)
+}
+
+#[test]
+fn wishes(rt: HostRuntime) -> Result<(), Fail> {
+    let alloc = rt.alloc();
+    let packets = two_segments(&rt, alloc)?;
+    let mut room = vec![in alloc; 0; 24 * 64]?;
+    let mut few = wish();
+    few.pixels = 24 * 64 - 1;
+    assert_eq!(rt; capped(alloc, &few, &packets, &mut room), (14, 1536));
+    assert_eq!(rt; capped(alloc, &few, &packets, &mut []), (14, 1536));
+    let mut short = wish();
+    short.octets = packets.len() as u64;
+    assert_eq!(rt; capped(alloc, &short, &packets, &mut room), (15, 0));
+    let mut wrong = wish();
+    wrong.size = 164;
+    assert_eq!(rt; capped(alloc, &wrong, &packets, &mut room), (13, 0));
+    let mut no_book = wish();
+    no_book.has_book = 1;
+    assert_eq!(rt; capped(alloc, &no_book, &packets, &mut room), (12, 0));
+    Ok(())
 }
 
 // Returns the packets of a flat image of 64 rows, in two segments, which end at block 16 of 24 and at the last one.

@@ -3,7 +3,7 @@ ghost use Rattle.plane_defs.specs.Codes.{is_book_sound};
 
 use crate::decode::{DecodeRefusal, decode_whole};
 use crate::encode::{EncodeRefusal, encode_whole};
-use base_122::{Field, Setting};
+use base_122::{DecodeWish, Field, Setting};
 use std::alloc::Global;
 use std::test::Fail;
 
@@ -13,6 +13,13 @@ fn usual(width: u32, rows: u32) -> Setting
     ensures book { IsTrue (is_book_sound result.book) }
 {
     Setting::usual(width, rows)
+}
+
+// Returns the usual wish, whose code book, the profile's, is sound.
+fn wish() -> DecodeWish
+    ensures book { IsTrue (is_book_sound result.book) }
+{
+    DecodeWish::usual()
 }
 
 // Returns a setting for an image of 17 rows of 24 pixels, of `depth` bits.
@@ -50,7 +57,7 @@ fn there_and_back(rt: HostRuntime) -> Result<(), Fail> {
         assert!(rt; done.octets < 4000);
         let octets = done.octets as usize;
         let mut back = vec![in alloc; 7; 900]?;
-        let found = decode_whole(alloc, &setting.book, 100, &packets[..octets], &mut back);
+        let found = decode_whole(alloc, &wish(), &packets[..octets], &mut back);
         assert!(rt; found.is_ok());
         assert!(rt; raster.len() <= back.len());
         let (picture, rest) = back.split_at(raster.len());
@@ -75,7 +82,7 @@ fn small_rooms(rt: HostRuntime) -> Result<(), Fail> {
     assert!(rt; octets < 4000);
     let mut back = vec![in alloc; 7; 815]?;
     let packets = &packets[..octets as usize];
-    let Err(refusal) = decode_whole(alloc, &setting.book, 100, packets, &mut back) else {
+    let Err(refusal) = decode_whole(alloc, &wish(), packets, &mut back) else {
         return Err(Fail::from("not refused"));
     };
     let geometry = setting.geometry();
@@ -97,13 +104,13 @@ fn a_height_reported_last(rt: HostRuntime) -> Result<(), Fail> {
     packets[13] = 0;
     let packets = &packets[..done.octets as usize];
     let mut back = vec![in alloc; 7; 408]?;
-    let Ok(found) = decode_whole(alloc, &setting.book, 100, packets, &mut back) else {
+    let Ok(found) = decode_whole(alloc, &wish(), packets, &mut back) else {
         return Err(Fail::from("refused"));
     };
     assert_eq!(rt; (found.geometry.rows, found.written), (17, 17));
     assert!(rt; back.as_slice() == raster.as_slice());
     let mut small_room = vec![in alloc; 7; 407]?;
-    let Err(refusal) = decode_whole(alloc, &setting.book, 100, packets, &mut small_room) else {
+    let Err(refusal) = decode_whole(alloc, &wish(), packets, &mut small_room) else {
         return Err(Fail::from("not refused"));
     };
     let geometry = setting.geometry();
