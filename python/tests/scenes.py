@@ -1,8 +1,10 @@
 """A pass of five cameras, drawn: cratered ground, a planet's limb, dunes, stars, and signed measurements.
 
-    STRIP122=PROGRAM python3 python/tests/scenes.py FILE [--images 40] [--size 1.0] [--seed 1]
+    STRIP122=PROGRAM python3 python/tests/scenes.py FILE [--images 40] [--size 1.0] [--seed 1] [--large FOLDER]
 
-The file has packets lost, copies, junk, idle packets, and a packet that is cut. tools/try_report.sh and docs/benchmarks.md use it.
+The file has packets lost, copies, junk, idle packets, and a packet that is cut. With `--large`, the folder gets packets of pictures of
+4,096 x 4,096 pixels of 12 bits of which eight are lost: `drawn` of the program's own picture, `noisy` of dunes, and `gigabyte`,
+which is `noisy` under 56 numbers. tools/try_report.sh and docs/benchmarks.md use these.
 """
 
 from __future__ import annotations
@@ -19,6 +21,7 @@ from numpy.typing import NDArray
 sys.path.insert(0, str(Path(__file__).resolve().parent.parent))
 
 from strip122 import encode  # noqa: E402
+from strip122.program import call  # noqa: E402
 
 Scene = NDArray[np.float64]
 Chance = np.random.Generator
@@ -155,15 +158,39 @@ def made_pass(images: int, size: float, seed: int) -> Tuple[bytes, List[NDArray[
     return b"".join(octets), pictures
 
 
+def lose(packets: List[bytes]) -> List[bytes]:
+    """Loses eight packets of many."""
+    del packets[40:44], packets[900:903], packets[2000]
+    return packets
+
+
+def write_large(folder: Path) -> None:
+    """Writes the packets of large pictures."""
+    side = 4096
+    size = {"depth": 12, "packet": 4096}
+    raster = call(["make", f"width={side}", f"rows={side}", "depth=12", "seed=1"]).output
+    own = np.frombuffer(raster, ">u2").reshape(side, side)
+    camera = Camera(dunes, 102, side, side, size)
+    noisy = lose(packets_of(encode(drawn(camera, np.random.default_rng(1), 1.0), **size)))
+    (folder / "drawn").write_bytes(b"".join(lose(packets_of(encode(own, **size)))))
+    (folder / "noisy").write_bytes(b"".join(noisy))
+    with (folder / "gigabyte").open("wb") as file:
+        for number in range(56):
+            file.writelines(it[:8] + number.to_bytes(2, "big") + it[10:] for it in noisy)
+
+
 def main() -> None:
     words = argparse.ArgumentParser(description=__doc__.splitlines()[0] if __doc__ else "")
     words.add_argument("file", type=Path)
     words.add_argument("--images", type=int, default=40)
     words.add_argument("--size", type=float, default=1.0, help="factor of all sides")
     words.add_argument("--seed", type=int, default=1)
+    words.add_argument("--large", type=Path, metavar="FOLDER")
     given = words.parse_args()
     octets, _ = made_pass(given.images, given.size, given.seed)
     given.file.write_bytes(octets)
+    if given.large:
+        write_large(given.large)
 
 
 if __name__ == "__main__":
