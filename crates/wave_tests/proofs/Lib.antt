@@ -1,1 +1,3 @@
 pub mod BlockRows
+pub mod Small
+pub mod Widened

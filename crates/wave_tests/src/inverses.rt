@@ -1,56 +1,37 @@
-//! Images whose block rows are put one after another, and their rows.
-
-ghost use Rattle.std.specs.Prelude.{◌≡◌, ◌≤◌, ◌<◌, ◌*◌, ◌^◌, ℕ, IfOk, length, unsigned_abs, vec_len};
+// Images whose block rows are put one after another, and their rows.
+ghost use Rattle.std.specs.Prelude.{◌≡◌, ◌≤◌, ◌<◌, ◌*◌, ◌/◌, ◌^◌, IfOk, length, unsigned_abs};
 ghost use Rattle.std.specs.Result.{OnOk};
-ghost use Rattle.wave_defs.specs.Within.{EachWithin, IsWithin};
-ghost use Rattle.wave_plain.specs.BlockRows.{IsBlockRow};
-ghost use Rattle.wave_plain.specs.Images.{HasSize, image_of};
 ghost use Rattle.inverse_strip.specs.Kept.{IsIdle};
 ghost use Rattle.inverse_strip.specs.Strip.{Keeps, columns_of, height_of, next_of, taken_of};
 
-use block_families::{BandSink, BandSource, place_of};
+use crate::case::{Case, Refusal, number, signed};
+use crate::pictures::{Frame, Picture, frame_in, picture_in};
+use crate::shown::{Rows, joined, word_of};
+use crate::strips::push_all;
+use block_families::{BandSink, place_of};
 use inverse_strip::StripInverse;
-use raster_rows::{MadeImage, made_pixel};
 use std::alloc::{AllocError, Global};
 use std::mem;
-use std::process::Abort;
-use std::test::Fail;
-use wave_plain::{Bands, BlockRow, Plane, forward3};
 
-const COLUMNS: u32 = 24;
-
-const MADE: MadeImage = MadeImage {
-    width: COLUMNS,
-    rows: 96,
-    depth: 8,
-    signed: false,
-    seed: 7,
-};
-
-fn cell(place: u32) -> i64
-    ensures { IsWithin (2 ^ 16) result }
-{
-    i64::from(made_pixel(&MADE, place / COLUMNS, place % COLUMNS))
+// The numbers of blocks in raster order, with this number in a block row, and the block row that is lost.
+#[derive(Clone, Copy)]
+struct Sent<'a> {
+    numbers: &'a [i32],
+    columns: u32,
+    lost: Option<u32>,
+    ghost few: { columns ≤ 2 ^ 8 },
 }
 
-/// Returns the made image's first block rows.
-fn made_plane(alloc: Global, block_rows: u32) -> Result<Plane, AllocError>
-    requires { block_rows ≤ 12 }
-    ensures size { IfOk result (HasSize (8 * block_rows) 24) }
-    ensures small { IfOk result (λ p. EachWithin (2 ^ 16) (8 * block_rows) 24 (image_of p)) }
-{
-    let mut cells = Vec::new(alloc);
-    for place in 0..8 * block_rows * COLUMNS {
-        cells.push(cell(place))?;
-    }
-    Ok(Plane {
-        width: COLUMNS,
-        rows: 8 * block_rows,
-        cells,
-    })
+// The rows that were made, and how many were there after each block row.
+#[derive(Drop)]
+struct Made {
+    alloc: Global,
+    width: u32,
+    rows: Vec<i64>,
+    given: String,
 }
 
-/// Returns a number that the inverse accepts, and 0 in place of others.
+// Returns a number that the inverse accepts, and 0 in place of others.
 fn bounded(number: i32) -> i64
     ensures { unsigned_abs result ≤ 2 ^ 27 }
 {
@@ -61,168 +42,232 @@ fn bounded(number: i32) -> i64
     }
 }
 
-/// Puts the numbers of one block into the next block row.
-fn put_block(strip: &mut StripInverse, whole: &BlockRow, column: u32)
-    requires column { column < 3 }
-    requires columns { columns_of strip.old ≡ 3 }
-    requires whole_columns { whole.now.bands.now.width ≡ 24 }
+// Puts the 64 numbers of one block into the next block row.
+fn put_block(strip: &mut StripInverse, column: u32, numbers: &[i32])
+    requires whole { length numbers.now ≡ 64 }
+    requires inside { column < columns_of strip.old }
+    requires few { column < 2 ^ 17 }
     requires stands { taken_of strip.old < height_of strip.old }
     ensures { Keeps strip.old strip.new }
 {
-    for position in 0..64 {
-        let place = place_of(position, column);
-        strip.set(place, bounded(whole.value(place)));
+    for position in 0..64u8 {
+        strip.set(
+            place_of(position, column),
+            bounded(numbers[position as usize]),
+        );
     }
 }
 
-/// Puts the numbers of a whole block row.
-fn put_block_row(strip: &mut StripInverse, bands: &Bands, row: u32)
-    requires columns { columns_of strip.old ≡ 3 }
-    requires whole_columns { bands.now.width ≡ 24 }
-    requires row { IsBlockRow bands.now row }
+// Puts the numbers of a block row, if it is not lost.
+fn put_block_row(strip: &mut StripInverse, sent: &Sent, row: u32)
+    requires columns { columns_of strip.old ≡ sent.now.columns }
+    requires row { row < 2 ^ 15 }
     requires stands { taken_of strip.old < height_of strip.old }
     ensures { Keeps strip.old strip.new }
 {
-    let whole = BlockRow::new(bands, row);
-    for column in 0..3 {
-        put_block(strip, &whole, column);
-    }
-}
-
-/// Puts the numbers of a block row, if it is not lost.
-fn put_received(strip: &mut StripInverse, bands: &Bands, row: u32, lost: u32)
-    requires columns { columns_of strip.old ≡ 3 }
-    requires whole_columns { bands.now.width ≡ 24 }
-    requires row { IsBlockRow bands.now row }
-    requires stands { taken_of strip.old < height_of strip.old }
-    ensures { Keeps strip.old strip.new }
-{
-    if row == lost {
+    if sent.lost == Some(row) {
         return;
     }
-    put_block_row(strip, bands, row);
-}
-
-/// Takes all rows that can be made.
-fn take_rows(strip: &mut StripInverse, rows: &mut Vec<i64>) -> Result<(), AllocError>
-    ensures columns { columns_of strip.new ≡ columns_of strip.old }
-    ensures height { height_of strip.new ≡ height_of strip.old }
-    ensures taken { taken_of strip.new ≡ taken_of strip.old }
-    ensures idle { OnOk result (IsIdle (taken_of strip.new) (next_of strip.new) (height_of strip.new)) }
-{
-    while strip.make_row() {
-        rows.extend_from_slice(strip.row())?;
+    for column in 0..sent.columns {
+        let first = 64 * (row as usize * sent.columns as usize + column as usize);
+        if let Some(numbers) = sent.numbers.get(first..first + 64) {
+            put_block(strip, column, numbers);
+        }
     }
-    Ok(())
 }
 
-/// Pushes block rows, one of them without its numbers, and takes the rows that they complete.
-fn push_rows(
-    strip: &mut StripInverse,
-    bands: &Bands,
-    first: u32,
-    end: u32,
-    lost: u32,
-    rows: &mut Vec<i64>,
+impl Made {
+    // Takes all rows that can be made.
+    fn take_rows(&mut self, strip: &mut StripInverse) -> Result<(), AllocError>
+        ensures columns { columns_of strip.new ≡ columns_of strip.old }
+        ensures height { height_of strip.new ≡ height_of strip.old }
+        ensures taken { taken_of strip.new ≡ taken_of strip.old }
+        ensures idle { OnOk result (IsIdle (taken_of strip.new) (next_of strip.new) (height_of strip.new)) }
+    {
+        while strip.make_row() {
+            self.rows.extend_from_slice(strip.row())?;
+        }
+        Ok(())
+    }
+
+    // Adds how many rows there are.
+    fn count(&mut self) -> Result<(), AllocError> {
+        let rows = self.rows.len() / self.width.max(1) as usize;
+        self.given = joined(self.alloc, &self.given, " ", rows)?;
+        Ok(())
+    }
+
+    // Pushes block rows from the next one up to another, and takes the rows that they complete.
+    fn push_rows(
+        &mut self,
+        strip: &mut StripInverse,
+        sent: &Sent,
+        first: u32,
+        end: u32,
+    ) -> Result<(), AllocError>
+        requires columns { columns_of strip.old ≡ sent.now.columns }
+        requires first { taken_of strip.old ≡ first }
+        requires some { first ≤ end }
+        requires few { end ≤ 2 ^ 15 }
+        requires end { end ≤ height_of strip.old }
+        requires idle { IsIdle (taken_of strip.old) (next_of strip.old) (height_of strip.old) }
+        ensures columns { OnOk result (columns_of strip.new ≡ columns_of strip.old) }
+        ensures height { OnOk result (height_of strip.new ≡ height_of strip.old) }
+        ensures taken { OnOk result (taken_of strip.new ≡ end) }
+        ensures idle { OnOk result (IsIdle (taken_of strip.new) (next_of strip.new) (height_of strip.new)) }
+    {
+        for row in first..end {
+            put_block_row(strip, sent, row);
+            strip.push_block_row();
+            self.take_rows(strip)?;
+            self.count()?;
+        }
+        Ok(())
+    }
+
+    // Pushes all block rows, the height being known after some of them.
+    fn push_open(
+        &mut self,
+        strip: &mut StripInverse,
+        sent: &Sent,
+        known: u32,
+        rows: u32,
+    ) -> Result<(), AllocError>
+        requires columns { columns_of strip.old ≡ sent.now.columns }
+        requires fresh { taken_of strip.old ≡ 0 }
+        requires tall { height_of strip.old ≡ 2 ^ 15 }
+        requires idle { IsIdle (taken_of strip.old) (next_of strip.old) (height_of strip.old) }
+        requires known { 8 * known < rows }
+        requires whole { rows ≡ 8 * (rows / 8) }
+        requires high { 24 ≤ rows }
+        requires short { rows ≤ 2 ^ 11 }
+    {
+        self.push_rows(strip, sent, 0, known)?;
+        strip.end_at(rows);
+        self.push_rows(strip, sent, known, rows / 8)
+    }
+}
+
+// Returns the rows of an image whose height is known from the start.
+fn make_known(alloc: Global, frame: Frame, sent: &Sent, made: &mut Made) -> Result<(), AllocError>
+    requires { 8 * sent.now.columns ≡ frame.width }
+{
+    let mut strip = StripInverse::new(alloc, frame.width, frame.rows)?;
+    let pushed = made.push_rows(&mut strip, sent, 0, frame.rows / 8);
+    // Its drop would be costly to prove.
+    mem::forget(strip);
+    pushed
+}
+
+// Returns the rows of an image whose height is known after some of its block rows; before that it is the greatest one.
+fn make_open(
+    alloc: Global,
+    frame: Frame,
+    sent: &Sent,
+    known: u32,
+    made: &mut Made,
 ) -> Result<(), AllocError>
-    requires columns { columns_of strip.old ≡ 3 }
-    requires whole_columns { bands.now.width ≡ 24 }
-    requires block_rows { (row : ℕ) → row < end → IsBlockRow bands.now row }
-    requires first { taken_of strip.old ≡ first }
-    requires some { first ≤ end }
-    requires end { end ≤ height_of strip.old }
-    requires idle { IsIdle (taken_of strip.old) (next_of strip.old) (height_of strip.old) }
-    ensures columns { OnOk result (columns_of strip.new ≡ 3) }
-    ensures height { OnOk result (height_of strip.new ≡ height_of strip.old) }
-    ensures taken { OnOk result (taken_of strip.new ≡ end) }
-    ensures idle { OnOk result (IsIdle (taken_of strip.new) (next_of strip.new) (height_of strip.new)) }
+    requires wide { 8 * sent.now.columns ≡ frame.width }
+    requires known { 8 * known < frame.rows }
 {
-    for row in first..end {
-        put_received(strip, bands, row, lost);
-        strip.push_block_row();
-        take_rows(strip, rows)?;
+    let mut strip = StripInverse::new(alloc, frame.width, 262_144)?;
+    let pushed = made.push_open(&mut strip, sent, known, frame.rows);
+    mem::forget(strip);
+    pushed
+}
+
+// Returns the rows that the numbers of blocks give, with one block row `lost`, and the height `known` after some block rows.
+fn make(case: &Case, frame: Frame, numbers: &[i32]) -> Result<Made, Refusal> {
+    let sent = Sent {
+        numbers,
+        columns: frame.width / 8,
+        lost: case.optional("lost")?,
+    };
+    let mut made = Made {
+        alloc: case.alloc,
+        width: frame.width,
+        rows: Vec::new(case.alloc),
+        given: String::new(case.alloc),
+    };
+    match case.optional("known")? {
+        None => make_known(case.alloc, frame, &sent, &mut made)?,
+        Some(known) if known < frame.rows / 8 => {
+            make_open(case.alloc, frame, &sent, known, &mut made)?
+        }
+        Some(_) => return Err(Refusal::Words),
     }
-    Ok(())
+    Ok(made)
 }
 
-const NONE: u32 = u32::MAX;
+// Returns the numbers of the blocks of the data: `N*` begins N blocks of zeros, and `POSITION=NUMBER` sets a number in each of these.
+fn blocks_in(alloc: Global, words: &[&str]) -> Result<Vec<i32>, Refusal> {
+    let mut blocks = Vec::new(alloc);
+    let mut first = 0;
+    for word in words.iter() {
+        if let Some(count) = word.strip_suffix('*') {
+            first = blocks.len();
+            let count = number(count, 1, 4096)? as usize;
+            blocks.resize(first + 64 * count, 0)?;
+        } else if let Some((position, value)) = word.split_once('=') {
+            let position = number(position, 0, 63)? as usize;
+            let value = signed(value, 1 << 27)?;
+            for place in first..blocks.len() {
+                if place % 64 == position {
+                    blocks[place] = value;
+                }
+            }
+        } else {
+            return Err(Refusal::Words);
+        }
+    }
+    Ok(blocks)
+}
 
-/// Tests that all rows are returned if the image's end is reported after four of its five block rows.
-fn end_is_told_late(
-    rt: &impl Abort,
-    strip: &mut StripInverse,
-    bands: &Bands,
-    image: &Plane,
-    rows: &mut Vec<i64>,
-)
-    requires columns { columns_of strip.old ≡ 3 }
-    requires height { height_of strip.old ≡ 32768 }
-    requires taken { taken_of strip.old ≡ 0 }
-    requires idle { IsIdle 0 (next_of strip.old) (height_of strip.old) }
-    requires whole_columns { bands.now.width ≡ 24 }
-    requires block_rows { (row : ℕ) → row < 5 → IsBlockRow bands.now row }
+// Blocks: their rows.
+pub(crate) fn rows(case: &Case) -> Result<String, Refusal> {
+    let frame = frame_in(case)?;
+    let numbers = blocks_in(case.alloc, case.data)?;
+    let made = make(case, frame, &numbers)?;
+    let rows = Rows {
+        numbers: &made.rows,
+        width: frame.width as usize,
+    };
+    let given = &made.given;
+    Ok(format!(in case.alloc; "{given};{rows}")?)
+}
+
+// Returns whether rows are those of an image, from one row to another.
+fn are_same(picture: &Picture, rows: &[i64], from: u32, to: u32) -> bool
+    requires from { from ≤ 2 ^ 11 }
+    requires to { to ≤ 2 ^ 11 }
 {
-    push_rows(strip, bands, 0, 4, NONE, rows).expect(rt, "memory");
-    assert_eq!(rt; rows.len(), 11 * 24);
-    strip.end_at(40);
-    push_rows(strip, bands, 4, 5, NONE, rows).expect(rt, "memory");
-    assert_eq!(rt; *rows, image.cells);
+    let width = picture.frame.width;
+    for place in from * width..to * width {
+        let pixel = picture.pixel(place / width, place % width);
+        if rows.get(place as usize) != Some(&i64::from(pixel)) {
+            return false;
+        }
+    }
+    true
 }
 
-/// Returns whether two lists of rows are the same from one row to another.
-fn are_same(a: &[i64], b: &[i64], from: usize, to: usize) -> bool
-    requires order { from ≤ to }
-    requires within { (24 * to ≤ length a.now) × (24 * to ≤ length b.now) }
-    requires few { to ≤ 96 }
-{
-    a[24 * from..24 * to] == b[24 * from..24 * to]
-}
-
-/// Tests that only rows 19 to 69 differ if block row 5 is lost.
-fn one_is_lost(
-    rt: &impl Abort,
-    strip: &mut StripInverse,
-    bands: &Bands,
-    image: &Plane,
-    rows: &mut Vec<i64>,
-)
-    requires columns { columns_of strip.old ≡ 3 }
-    requires height { height_of strip.old ≡ 12 }
-    requires taken { taken_of strip.old ≡ 0 }
-    requires idle { IsIdle 0 (next_of strip.old) (height_of strip.old) }
-    requires whole_columns { bands.now.width ≡ 24 }
-    requires block_rows { (row : ℕ) → row < 12 → IsBlockRow bands.now row }
-{
-    push_rows(strip, bands, 0, 12, 5, rows).expect(rt, "memory");
-    assert_eq!(rt; rows.len(), 96 * 24);
-    assert_eq!(rt; image.cells.len(), 96 * 24);
-    assert!(rt; are_same(rows, &image.cells, 0, 19));
-    assert!(rt; !are_same(rows, &image.cells, 45, 46));
-    assert!(rt; are_same(rows, &image.cells, 70, 96));
-}
-
-#[test]
-fn rows_come_back_where_the_end_is_told_late(rt: HostRuntime) -> Result<(), Fail> {
-    let alloc = rt.alloc();
-    let image = made_plane(alloc, 5)?;
-    let bands = forward3(alloc, &image)?;
-    let mut rows = Vec::new(alloc);
-    let mut strip = StripInverse::new(alloc, COLUMNS, 262_144)?;
-    end_is_told_late(&rt, &mut strip, &bands, &image, &mut rows);
-    // Its drop would be costly to prove.
-    mem::forget(strip);
-    Ok(())
-}
-
-#[test]
-fn a_lost_block_row_changes_only_rows_in_its_reach(rt: HostRuntime) -> Result<(), Fail> {
-    let alloc = rt.alloc();
-    let image = made_plane(alloc, 12)?;
-    let bands = forward3(alloc, &image)?;
-    let mut rows = Vec::new(alloc);
-    let mut strip = StripInverse::new(alloc, COLUMNS, 96)?;
-    one_is_lost(&rt, &mut strip, &bands, &image, &mut rows);
-    // Its drop would be costly to prove.
-    mem::forget(strip);
-    Ok(())
+// An image: after each block row how many rows there are, and whether they are those of the image, or, if the data have ranges of rows
+// as `FROM-TO`, whether these are.
+pub(crate) fn rows_back(case: &Case) -> Result<String, Refusal> {
+    let picture = picture_in(case)?;
+    let pushed = push_all(case.alloc, &picture)?;
+    let made = make(case, picture.frame, &pushed.numbers)?;
+    let rows = picture.frame.rows;
+    if case.data.is_empty() {
+        let found = word_of(are_same(&picture, &made.rows, 0, rows));
+        return Ok(joined(case.alloc, &made.given, "; ", found)?);
+    }
+    let mut shown = made.given;
+    for word in case.data.iter() {
+        let (from, to) = word.split_once('-').unwrap_or(("", ""));
+        let (from, to) = (number(from, 0, rows)?, number(to, 0, rows)?);
+        let found = word_of(are_same(&picture, &made.rows, from, to));
+        shown = joined(case.alloc, &shown, "; ", found)?;
+    }
+    Ok(shown)
 }

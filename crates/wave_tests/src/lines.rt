@@ -1,93 +1,96 @@
-// Lines of samples there and back, by numbers that were calculated by hand.
+// Lines of samples, and the even samples that a line mirrors.
+ghost use Rattle.std.specs.Prelude.{◌≡◌, ◌≤◌};
+
+use crate::case::{Case, Refusal, number};
+use crate::shown::List;
 use lift_rows::{
     forward_row, inverse_row, inverse_row_narrow, inverse_row_widened, mirrored_after,
-    mirrored_before, predict_add, predict_add_narrow, predict_add_widened, predict_sub, update_add,
-    update_add_narrow, update_sub,
+    mirrored_before,
 };
-use std::test::Fail;
 
-#[test]
-fn eight_samples_there_and_back(rt: HostRuntime) -> Result<(), Fail> {
-    let mut low = [0; 4];
-    let mut high = [0; 4];
-    forward_row(&[1, 2, 3, 4, 5, 6, 7, 8], &mut low, &mut high);
-    assert_eq!(rt; low, [1, 3, 5, 7]);
-    assert_eq!(rt; high, [0, 0, 0, 1]);
-    let mut line = [0; 8];
-    inverse_row(&[1, 3, 5, 7], &[0, 0, 0, 1], &mut line);
-    assert_eq!(rt; line, [1, 2, 3, 4, 5, 6, 7, 8]);
-    Ok(())
+// A line: its low and its high samples.
+pub(crate) fn split(case: &Case) -> Result<String, Refusal> {
+    let line = case.list(0, 1 << 24)?;
+    let half = line.len() / 2;
+    if half < 3 || line.len() % 2 != 0 {
+        return Err(Refusal::Words);
+    }
+    let mut low = vec![in case.alloc; 0; half]?;
+    let mut high = vec![in case.alloc; 0; half]?;
+    forward_row(&line, &mut low, &mut high);
+    let (low, high) = (List(&low), List(&high));
+    Ok(format!(in case.alloc; "{low} {high}")?)
 }
 
-#[test]
-fn kernels_round_down(rt: HostRuntime) -> Result<(), Fail> {
-    let mut odd = [5, -7];
-    predict_sub(&mut odd, &[0, -1], &[-3, 2], &[0, -9], &[1, 4]);
-    assert_eq!(rt; odd, [7, -3]);
-    let mut even = [10, -1];
-    update_sub(&mut even, &[3, -6], &[4, -5]);
-    assert_eq!(rt; even, [12, -4]);
-    Ok(())
+// Low and high samples: their line.
+pub(crate) fn join(case: &Case) -> Result<String, Refusal> {
+    let low = case.wide_list(0, 1 << 38)?;
+    let high = case.wide_list_of(1, low.len(), 1 << 38)?;
+    if low.len() < 3 {
+        return Err(Refusal::Words);
+    }
+    let mut line = vec![in case.alloc; 0; 2 * low.len()]?;
+    inverse_row(&low, &high, &mut line);
+    let line = List(&line);
+    Ok(format!(in case.alloc; "{line}")?)
 }
 
-#[test]
-fn kernels_add_what_was_taken(rt: HostRuntime) -> Result<(), Fail> {
-    let mut odd = [7, -3];
-    predict_add(&mut odd, &[0, -1], &[-3, 2], &[0, -9], &[1, 4]);
-    assert_eq!(rt; odd, [5, -7]);
-    let mut even = [12, -4];
-    update_add(&mut even, &[3, -6], &[4, -5]);
-    assert_eq!(rt; even, [10, -1]);
-    Ok(())
+// The greatest magnitude of samples whose sums fit 32 bits.
+const SMALL: u32 = 9 * (1 << 25) + 2;
+
+// The same in 32 bits, in sums of 32 bits if they are `small`.
+pub(crate) fn join_narrow(case: &Case) -> Result<String, Refusal> {
+    let mut low = case.list(0, SMALL)?;
+    let mut high = case.list_of(1, low.len(), SMALL)?;
+    if low.len() < 3 {
+        return Err(Refusal::Words);
+    }
+    let mut line = vec![in case.alloc; 0; 2 * low.len()]?;
+    inverse_row_narrow(&mut low, &mut high, &mut line, case.has("small"));
+    let line = List(&line);
+    Ok(format!(in case.alloc; "{line}")?)
 }
 
-#[test]
-fn kernels_add_in_32_bits(rt: HostRuntime) -> Result<(), Fail> {
-    let mut odd = [7, -3];
-    predict_add_narrow(&mut odd, &[0, -1], &[-3, 2], &[0, -9], &[1, 4]);
-    assert_eq!(rt; odd, [5, -7]);
-    let mut odd = [7, -3];
-    predict_add_widened(&mut odd, &[0, -1], &[-3, 2], &[0, -9], &[1, 4]);
-    assert_eq!(rt; odd, [5, -7]);
-    let mut even = [12, -4];
-    update_add_narrow(&mut even, &[3, -6], &[4, -5]);
-    assert_eq!(rt; even, [10, -1]);
-    Ok(())
+// From 32 bits to 64, in sums of 32 bits.
+fn join_small(case: &Case) -> Result<String, Refusal> {
+    let mut low = case.list(0, SMALL)?;
+    let mut high = case.list_of(1, low.len(), SMALL)?;
+    if low.len() < 3 {
+        return Err(Refusal::Words);
+    }
+    let mut line = vec![in case.alloc; 0; 2 * low.len()]?;
+    inverse_row_widened(&mut low, &mut high, &mut line, true);
+    let line = List(&line);
+    Ok(format!(in case.alloc; "{line}")?)
 }
 
-#[test]
-fn lines_of_32_bits_are_joined(rt: HostRuntime) -> Result<(), Fail> {
-    let mut line = [0; 8];
-    inverse_row_narrow(&mut [1, 3, 5, 7], &mut [0, 0, 0, 1], &mut line, true);
-    assert_eq!(rt; line, [1, 2, 3, 4, 5, 6, 7, 8]);
-    let mut line = [0; 8];
-    inverse_row_widened(&mut [1, 3, 5, 7], &mut [0, 0, 0, 1], &mut line, true);
-    assert_eq!(rt; line, [1, 2, 3, 4, 5, 6, 7, 8]);
-    let mut line = [0; 6];
-    inverse_row_widened(&mut [6, 4, 5], &mut [7, 4, -4], &mut line, false);
-    assert_eq!(rt; line, [3, 9, 1, 7, 5, 2]);
-    Ok(())
+// From 32 bits to 64, in sums of 32 bits if they are `small`.
+pub(crate) fn join_widened(case: &Case) -> Result<String, Refusal> {
+    if case.has("small") {
+        return join_small(case);
+    }
+    let mut low = case.list(0, i32::MAX as u32)?;
+    let mut high = case.list_of(1, low.len(), i32::MAX as u32)?;
+    if low.len() < 3 {
+        return Err(Refusal::Words);
+    }
+    let mut line = vec![in case.alloc; 0; 2 * low.len()]?;
+    inverse_row_widened(&mut low, &mut high, &mut line, false);
+    let line = List(&line);
+    Ok(format!(in case.alloc; "{line}")?)
 }
 
-#[test]
-fn even_samples_are_mirrored(rt: HostRuntime) -> Result<(), Fail> {
-    assert_eq!(rt; mirrored_before(0), 1);
-    assert_eq!(rt; mirrored_before(2), 1);
-    assert_eq!(rt; mirrored_after(3, 2), 2);
-    assert_eq!(rt; mirrored_after(3, 3), 2);
-    assert_eq!(rt; mirrored_after(3, 4), 1);
-    Ok(())
+// The number of an even sample: of the one before it.
+pub(crate) fn before(case: &Case) -> Result<String, Refusal> {
+    let place = number(case.datum(0)?, 0, 1 << 20)? as usize;
+    let before = mirrored_before(place);
+    Ok(format!(in case.alloc; "{before}")?)
 }
 
-#[test]
-fn six_samples_there_and_back(rt: HostRuntime) -> Result<(), Fail> {
-    let mut low = [0; 3];
-    let mut high = [0; 3];
-    forward_row(&[3, 9, 1, 7, 5, 2], &mut low, &mut high);
-    assert_eq!(rt; low, [6, 4, 5]);
-    assert_eq!(rt; high, [7, 4, -4]);
-    let mut line = [0; 6];
-    inverse_row(&[6, 4, 5], &[7, 4, -4], &mut line);
-    assert_eq!(rt; line, [3, 9, 1, 7, 5, 2]);
-    Ok(())
+// The number of an even sample, of `of`, at most one past the end: of the one that is there.
+pub(crate) fn after(case: &Case) -> Result<String, Refusal> {
+    let count = case.named("of", 3, 1 << 20)?;
+    let place = number(case.datum(0)?, 0, count + 1)?;
+    let after = mirrored_after(count as usize, place as usize);
+    Ok(format!(in case.alloc; "{after}")?)
 }

@@ -1,38 +1,127 @@
 // Rings and tables of rows.
-use line_rings::{RowRing, RowTable};
-use std::test::Fail;
+ghost use Rattle.std.specs.Prelude.{◌≡◌, ◌≤◌, ◌<◌, length, IfOk};
 
-#[test]
-fn the_oldest_row_is_handed_back(rt: HostRuntime) -> Result<(), Fail> {
-    let alloc = rt.alloc();
-    let mut ring = RowRing::new(alloc, 2, 3, 0)?;
-    let oldest = ring.turn(vec![in alloc; 1, 2, 3]?);
-    assert_eq!(rt; oldest.as_slice(), [0, 0, 0].as_slice());
-    let oldest = ring.turn(vec![in alloc; 4, 5, 6]?);
-    assert_eq!(rt; oldest.as_slice(), [0, 0, 0].as_slice());
-    let oldest = ring.turn(vec![in alloc; 7, 8, 9]?);
-    assert_eq!(rt; oldest.as_slice(), [1, 2, 3].as_slice());
-    assert_eq!(rt; ring.at(0), [4, 5, 6].as_slice());
-    let mut row = vec![in alloc; 10, 11, 12]?;
-    ring.turn_swap(&mut row);
-    assert_eq!(rt; row.as_slice(), [4, 5, 6].as_slice());
-    assert_eq!(rt; ring.at(1), [10, 11, 12].as_slice());
+use crate::case::{Case, Refusal, number};
+use crate::shown::{List, joined};
+use line_rings::{RowRing, RowTable};
+use std::alloc::Global;
+
+// Rows of a ring and of a table of the same width.
+#[derive(Drop)]
+struct Rows {
+    ring: RowRing<i32>,
+    table: RowTable,
+    rings: usize,
+    tables: usize,
+    ghost some: { 1 ≤ rings },
+    ghost ring_rows: { length ring ≡ rings },
+    ghost table_rows: { length table ≡ tables },
+}
+
+fn shown(alloc: Global, row: &[i32]) -> Result<String, Refusal> {
+    let row = List(row);
+    Ok(format!(in alloc; "{row}")?)
+}
+
+// Makes a row the newest of the ring, by one of three calls: the oldest, or nothing of a copy.
+fn turn(case: &Case, rows: &mut Rows, place: usize) -> Result<String, Refusal> {
+    let mut row = case.list(place.saturating_add(1), u32::MAX)?;
+    if row.len() != rows.ring.at(0).len() {
+        return Err(Refusal::Words);
+    }
+    match case.datum(place)? {
+        "turn" => {
+            let oldest = rows.ring.turn(row);
+            shown(case.alloc, &oldest)
+        }
+        "swap" => {
+            rows.ring.turn_swap(&mut row);
+            shown(case.alloc, &row)
+        }
+        _ => {
+            rows.ring.turn_copy(&row);
+            Ok(String::new(case.alloc))
+        }
+    }
+}
+
+// Sets a number of the table: row, column, number.
+fn set(case: &Case, rows: &mut Rows, place: usize) -> Result<(), Refusal> {
+    let words = case.list_of(place.saturating_add(1), 3, 1 << 20)?;
+    let (row, column) = (
+        words[0].unsigned_abs() as usize,
+        words[1].unsigned_abs() as usize,
+    );
+    if row >= rows.tables || column >= rows.table.at(row).len() {
+        return Err(Refusal::Words);
+    }
+    rows.table.set(row, column, words[2]);
     Ok(())
 }
 
-#[test]
-fn a_row_is_exchanged_for_the_oldest(rt: HostRuntime) -> Result<(), Fail> {
-    let alloc = rt.alloc();
-    let mut ring = RowRing::new(alloc, 2, 3, 7)?;
-    let mut table = RowTable::new(alloc);
-    table.add(alloc, 2, 3)?;
-    table.set(1, 2, 5);
-    table.turn_into(1, &mut ring);
-    assert_eq!(rt; ring.at(0), [7, 7, 7].as_slice());
-    assert_eq!(rt; ring.at(1), [0, 0, 5].as_slice());
-    assert_eq!(rt; table.at(0), [0, 0, 0].as_slice());
-    assert_eq!(rt; table.at(1), [7, 7, 7].as_slice());
-    table.clear();
-    assert_eq!(rt; table.at(1), [0, 0, 0].as_slice());
+// Returns the number of a row, of this many.
+fn row_in(case: &Case, place: usize, many: usize) -> Result<usize, Refusal>
+    ensures { IfOk result (λ n. n < many) }
+{
+    let row = number(case.datum(place)?, 0, u32::MAX)? as usize;
+    if row < many {
+        Ok(row)
+    } else {
+        Err(Refusal::Words)
+    }
+}
+
+// Exchanges a row of the table for the oldest of the ring.
+fn exchange(case: &Case, rows: &mut Rows, place: usize) -> Result<(), Refusal> {
+    let row = row_in(case, place.saturating_add(1), rows.tables)?;
+    if rows.table.at(row).len() != rows.ring.at(0).len() {
+        return Err(Refusal::Words);
+    }
+    rows.table.turn_into(row, &mut rows.ring);
     Ok(())
+}
+
+// Does the step at a place of the data, and returns what it gives.
+fn step(case: &Case, rows: &mut Rows, place: usize) -> Result<String, Refusal> {
+    match case.datum(place)? {
+        "turn" | "swap" | "copy" => return turn(case, rows, place),
+        "set" => set(case, rows, place)?,
+        "into" => exchange(case, rows, place)?,
+        "clear" => rows.table.clear(),
+        "at" => {
+            let row = row_in(case, place.saturating_add(1), rows.rings)?;
+            return shown(case.alloc, rows.ring.at(row));
+        }
+        "row" => {
+            let row = row_in(case, place.saturating_add(1), rows.tables)?;
+            return shown(case.alloc, rows.table.at(row));
+        }
+        _ => return Err(Refusal::Words),
+    }
+    Ok(String::new(case.alloc))
+}
+
+// A ring of `rows` rows that hold `fill`, and a table of `table` rows, of `width` places: what each step gives.
+pub(crate) fn turns(case: &Case) -> Result<String, Refusal> {
+    let rings = case.named("rows", 1, 16)? as usize;
+    let tables = case.named("table", 0, 16)? as usize;
+    let width = case.named("width", 1, 16)? as usize;
+    let fill = case.signed_after("fill", 1 << 20)?;
+    let ring = RowRing::new(case.alloc, rings, width, fill)?;
+    let mut table = RowTable::new(case.alloc);
+    table.add(case.alloc, tables, width)?;
+    let mut rows = Rows {
+        ring,
+        table,
+        rings,
+        tables,
+    };
+    let mut given = String::new(case.alloc);
+    for place in 0..case.data.len() / 2 {
+        let row = step(case, &mut rows, 2 * place)?;
+        if !row.is_empty() {
+            given = joined(case.alloc, &given, " ", row.as_str())?;
+        }
+    }
+    Ok(given)
 }

@@ -1,195 +1,148 @@
-//! Tests of when block rows are ready, and of their numbers.
+// Images whose rows are pushed one after another, and the numbers of their block rows.
+ghost use Rattle.std.specs.Prelude.{◌≡◌, ◌<◌, ◌≤◌, ◌*◌, ◌/◌, ◌^◌, ℕ, IfOk, IsTrue, false, true};
+ghost use Rattle.std.specs.Result.{OnOk};
+ghost use Rattle.wave_strip.specs.Strip.{columns_of, has_ended, is_standing, rows_of};
 
-ghost use Rattle.std.specs.Prelude.{◌≡◌, ◌<◌, ◌^◌, ℕ, IfOk, false, true, vec_len};
-ghost use Rattle.wave_defs.specs.Within.{AllWithin, EachWithin, IsWithin};
-ghost use Rattle.wave_defs.specs.Held.{signal};
-ghost use Rattle.wave_plain.specs.BlockRows.{IsBlockRow};
-ghost use Rattle.wave_plain.specs.Images.{HasSize, image_of};
-ghost use Rattle.wave_strip.specs.Strip.{IsAtStart, columns_of, has_ended, is_standing, rows_of};
-
-use base_122::Band;
-use block_families::{BandSource, Place, place_of};
-use raster_rows::{MadeImage, made_pixel};
+use crate::case::{Case, Refusal};
+use crate::pictures::{Picture, picture_in};
+use crate::shown::{Blocks, joined, word_of};
+use block_families::{BandSource, place_of};
 use std::alloc::{AllocError, Global};
-use std::mem;
-use std::process::Abort;
-use std::test::Fail;
-use wave_plain::{Bands, BlockRow, Plane, forward3};
+use wave_plain::{BlockRow, forward3};
 use wave_strip::StripWave;
 
-/// Tests that three block rows are ready at the end of 24 rows, and none before.
-fn end_after_24_rows(rt: &impl Abort, strip: &mut StripWave)
-    requires columns { columns_of strip.old ≡ 3 }
-    requires start { IsAtStart strip.old }
-{
-    let row = [200; 24];
-    for _ in 0..24u32 {
-        let None = strip.push_row(&row) else {
-            panic!(rt; "a block row came too early");
-        };
-    }
-    assert_eq!(rt; strip.finish_row(), Some(0));
-    let place = Place {
-        band: Band::Ll3,
-        row: 0,
-        column: 2,
-    };
-    assert_eq!(rt; strip.value(place), 200);
-    assert_eq!(rt; strip.finish_row(), Some(1));
-    assert_eq!(rt; strip.finish_row(), Some(2));
-    assert_eq!(rt; strip.finish_row(), None);
+// The numbers of blocks in raster order, and after how many rows each block row was ready.
+#[derive(Drop)]
+pub(crate) struct Pushed {
+    alloc: Global,
+    columns: u32,
+    pub numbers: Vec<i32>,
+    ready: String,
 }
 
-/// Tests that the first block row of 32 rows is ready with row 29, and the others at the end.
-fn push_32_rows(rt: &impl Abort, strip: &mut StripWave)
-    requires columns { columns_of strip.old ≡ 3 }
-    requires start { IsAtStart strip.old }
-{
-    let row = [200; 24];
-    for taken in 0..32u32 {
-        let came = strip.push_row(&row);
-        assert_eq!(rt; came.is_some(), taken == 28, "{taken} rows before");
-    }
-    assert_eq!(rt; strip.finish_row(), Some(1));
-    assert_eq!(rt; strip.finish_row(), Some(2));
-    assert_eq!(rt; strip.finish_row(), Some(3));
-    assert_eq!(rt; strip.finish_row(), None);
-}
-
-#[test]
-fn three_block_rows_come_at_the_end(rt: HostRuntime) -> Result<(), Fail> {
-    let mut strip = StripWave::new(rt.alloc(), 24)?;
-    end_after_24_rows(&rt, &mut strip);
-    // Its drop would be costly to prove.
-    mem::forget(strip);
-    Ok(())
-}
-
-#[test]
-fn the_first_block_row_comes_with_row_29(rt: HostRuntime) -> Result<(), Fail> {
-    let mut strip = StripWave::new(rt.alloc(), 24)?;
-    push_32_rows(&rt, &mut strip);
-    // Its drop would be costly to prove.
-    mem::forget(strip);
-    Ok(())
-}
-
-const COLUMNS: u32 = 48;
-
-const ROWS: u32 = 40;
-
-const MADE: MadeImage = MadeImage {
-    width: COLUMNS,
-    rows: ROWS,
-    depth: 8,
-    signed: false,
-    seed: 7,
-};
-
-fn pixel(row: u32, column: u32) -> i32
-    ensures { IsWithin (2 ^ 16) result }
-{
-    made_pixel(&MADE, row, column)
-}
-
-/// Returns a row of the made image.
-fn made_row(row: u32) -> [i32; 48]
-    ensures { AllWithin (2 ^ 16) 48 (signal result) }
-{
-    let mut pixels = [0; 48];
-    for column in 0..48 {
-        pixels[column] = pixel(row, column as u32);
-    }
-    pixels
-}
-
-fn cell(place: u32) -> i64
-    ensures { IsWithin (2 ^ 16) result }
-{
-    i64::from(pixel(place / COLUMNS, place % COLUMNS))
-}
-
-/// Returns the whole made image.
-fn made_plane(alloc: Global) -> Result<Plane, AllocError>
-    ensures size { IfOk result (HasSize 40 48) }
-    ensures small { IfOk result (λ p. EachWithin (2 ^ 16) 40 48 (image_of p)) }
-{
-    let mut cells = Vec::new(alloc);
-    for place in 0..ROWS * COLUMNS {
-        cells.push(cell(place))?;
-    }
-    Ok(Plane {
-        width: COLUMNS,
-        rows: ROWS,
-        cells,
-    })
-}
-
-/// Compares the numbers of one block of the present block row with those of the whole array.
-#[tactic(auto, using(block_families::proofs::Placing::place_within))]
-fn same_block(rt: &impl Abort, strip: &StripWave, whole: &BlockRow, column: u32)
-    requires standing { is_standing strip.now ≡ true }
-    requires columns { columns_of strip.now ≡ 6 }
-    requires whole_columns { whole.now.bands.now.width ≡ 48 }
-    requires column { column < 6 }
+// Adds the 64 numbers of the block in a column.
+fn add_block<B: BandSource>(
+    bands: &B,
+    column: u32,
+    numbers: &mut Vec<i32>,
+) -> Result<(), AllocError>
+    requires stands { IsTrue (B.stands bands.now) }
+    requires inside { column < B.columns bands.now }
+    requires few { column < 2 ^ 17 }
 {
     for position in 0..64 {
-        let place = place_of(position, column);
-        assert_eq!(rt; strip.value(place), whole.value(place), "at {place:?}");
+        numbers.push(bands.value(place_of(position, column)))?;
     }
-}
-
-/// Compares the present block row with that of the whole array.
-fn same_block_row(rt: &impl Abort, strip: &StripWave, bands: &Bands, row: u32)
-    requires standing { is_standing strip.now ≡ true }
-    requires columns { columns_of strip.now ≡ 6 }
-    requires whole_columns { bands.now.width ≡ 48 }
-    requires row { IsBlockRow bands.now row }
-{
-    let whole = BlockRow::new(bands, row);
-    for column in 0..6 {
-        same_block(rt, strip, &whole, column);
-    }
-}
-
-/// Pushes all rows, and compares each block row that is ready after one.
-fn push_rows(rt: &impl Abort, strip: &mut StripWave, bands: &Bands)
-    requires columns { columns_of strip.old ≡ 6 }
-    requires start { (rows_of strip.old ≡ 0) × (has_ended strip.old ≡ false) }
-    requires whole { (bands.now.width ≡ 48) × ((row : ℕ) → row < 5 → IsBlockRow bands.now row) }
-    ensures columns { columns_of strip.new ≡ 6 }
-    ensures rows { rows_of strip.new ≡ 40 }
-{
-    for row in 0..ROWS {
-        if let Some(settled) = strip.push_row(&made_row(row)) {
-            same_block_row(rt, strip, bands, settled);
-        }
-    }
-}
-
-/// Compares the block rows that are ready at the end.
-fn finish_rows(rt: &impl Abort, strip: &mut StripWave, bands: &Bands)
-    requires columns { columns_of strip.old ≡ 6 }
-    requires rows { rows_of strip.old ≡ 40 }
-    requires whole { (bands.now.width ≡ 48) × ((row : ℕ) → row < 5 → IsBlockRow bands.now row) }
-{
-    for _ in 0..3u32 {
-        if let Some(settled) = strip.finish_row() {
-            same_block_row(rt, strip, bands, settled);
-        }
-    }
-    assert_eq!(rt; strip.finish_row(), None);
-}
-
-#[test]
-fn rows_give_the_bands_of_the_whole_image(rt: HostRuntime) -> Result<(), Fail> {
-    let alloc = rt.alloc();
-    let image = made_plane(alloc)?;
-    let bands = forward3(alloc, &image)?;
-    let mut strip = StripWave::new(alloc, COLUMNS)?;
-    push_rows(&rt, &mut strip, &bands);
-    finish_rows(&rt, &mut strip, &bands);
-    // Its drop would be costly to prove.
-    mem::forget(strip);
     Ok(())
+}
+
+// Adds the numbers of the first blocks of a block row.
+fn add_blocks<B: BandSource>(
+    bands: &B,
+    count: u32,
+    numbers: &mut Vec<i32>,
+) -> Result<(), AllocError>
+    requires stands { IsTrue (B.stands bands.now) }
+    requires inside { count ≤ B.columns bands.now }
+    requires few { count ≤ 2 ^ 17 }
+{
+    for column in 0..count {
+        add_block(bands, column, numbers)?;
+    }
+    Ok(())
+}
+
+impl Pushed {
+    // Adds a block row that is ready.
+    fn add(&mut self, strip: &StripWave, row: u32, taken: u32) -> Result<(), AllocError>
+        requires stands { is_standing strip.now ≡ true }
+        requires inside { self.old.columns ≤ columns_of strip.now }
+        requires few { self.old.columns ≤ 2 ^ 17 }
+        ensures { self.new.columns ≡ self.old.columns }
+    {
+        add_blocks(strip, self.columns, &mut self.numbers)?;
+        let found = format!(in self.alloc; "{row} after {taken}")?;
+        self.ready = joined(self.alloc, &self.ready, ", ", found.as_str())?;
+        Ok(())
+    }
+}
+
+// Pushes all rows.
+fn push_rows(
+    picture: &Picture,
+    strip: &mut StripWave,
+    pushed: &mut Pushed,
+) -> Result<(), AllocError>
+    requires wide { 8 * columns_of strip.old ≡ picture.now.frame.width }
+    requires columns { pushed.old.columns ≡ columns_of strip.old }
+    requires start { (rows_of strip.old ≡ 0) × (has_ended strip.old ≡ false) }
+    ensures columns { OnOk result (columns_of strip.new ≡ columns_of strip.old) }
+    ensures pushed { OnOk result (pushed.new.columns ≡ pushed.old.columns) }
+    ensures rows { OnOk result (rows_of strip.new ≡ picture.now.frame.rows) }
+{
+    for row in 0..picture.frame.rows {
+        let pixels = picture.row(pushed.alloc, row)?;
+        if let Some(settled) = strip.push_row(&pixels) {
+            pushed.add(strip, settled, row + 1)?;
+        }
+    }
+    Ok(())
+}
+
+// Takes the block rows that are ready at the end: three of them, and no fourth.
+fn finish_rows(rows: u32, strip: &mut StripWave, pushed: &mut Pushed) -> Result<(), AllocError>
+    requires columns { pushed.old.columns ≡ columns_of strip.old }
+    requires few { pushed.old.columns ≤ 2 ^ 17 }
+    requires rows { rows_of strip.old ≡ rows }
+    requires whole { (rows ≡ 8 * (rows / 8)) × (24 ≤ rows) }
+{
+    for _ in 0..4u32 {
+        if let Some(settled) = strip.finish_row() {
+            pushed.add(strip, settled, rows)?;
+        }
+    }
+    Ok(())
+}
+
+// Pushes the rows of an image through a strip.
+pub(crate) fn push_all(alloc: Global, picture: &Picture) -> Result<Pushed, AllocError> {
+    let mut pushed = Pushed {
+        alloc,
+        columns: picture.frame.width / 8,
+        numbers: Vec::new(alloc),
+        ready: String::new(alloc),
+    };
+    let mut strip = StripWave::new(alloc, picture.frame.width)?;
+    push_rows(picture, &mut strip, &mut pushed)?;
+    finish_rows(picture.frame.rows, &mut strip, &mut pushed)?;
+    Ok(pushed)
+}
+
+// An image: after how many rows each block row is ready, and all blocks.
+pub(crate) fn blocks(case: &Case) -> Result<String, Refusal> {
+    let picture = picture_in(case)?;
+    let pushed = push_all(case.alloc, &picture)?;
+    let (ready, blocks) = (&pushed.ready, Blocks(&pushed.numbers));
+    Ok(format!(in case.alloc; "{ready};{blocks}")?)
+}
+
+// Returns the numbers of the blocks of the whole array.
+fn whole_numbers(alloc: Global, picture: &Picture) -> Result<Vec<i32>, AllocError> {
+    let image = picture.plane(alloc)?;
+    let bands = forward3(alloc, &image)?;
+    let mut numbers = Vec::new(alloc);
+    for row in 0..picture.frame.rows / 8 {
+        let whole = BlockRow::new(&bands, row);
+        add_blocks(&whole, picture.frame.width / 8, &mut numbers)?;
+    }
+    Ok(numbers)
+}
+
+// An image: after how many rows each block row is ready, and whether all blocks are those of the whole array.
+pub(crate) fn compare(case: &Case) -> Result<String, Refusal> {
+    let picture = picture_in(case)?;
+    let pushed = push_all(case.alloc, &picture)?;
+    let whole = whole_numbers(case.alloc, &picture)?;
+    let found = word_of(pushed.numbers.as_slice() == whole.as_slice());
+    Ok(joined(case.alloc, &pushed.ready, "; ", found)?)
 }

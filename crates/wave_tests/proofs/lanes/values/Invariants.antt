@@ -1,0 +1,10 @@
+use Rattle.std.proofs.Common.{◌≡◌, ◌^◌, vec_len}
+use Rattle.wave_defs.specs.Within.{AllWithin}
+use Rattle.wave_defs.specs.Held.{signal}
+use Rattle.wave_tests.proofs.lanes.values.Given as goal
+
+abbrev pub invariant-loop-place : goal.invariant-loop-place
+invariant-loop-place l = record {
+  long : vec_len l.values ≡ l.place;
+  small : AllWithin (2 ^ 26) l.place (signal l.values.items);
+}
