@@ -51,9 +51,7 @@ def choose(source: Source, images: Sequence[SortedImage]) -> None:
         nexts = [(segment, choices, next(choices, None)) for segment, choices in trials]
         tried = [(segment, choices, choice) for segment, choices, choice in nexts if choice is not None]
         read = are_read(source, [(segment, choice) for segment, _, choice in tried])
-        for (segment, _, choice), is_read in zip(tried, read):
-            if is_read:
-                settle(segment, choice)
+        settle([(segment, choice) for (segment, _, choice), is_read in zip(tried, read) if is_read])
         trials = [(segment, choices) for (segment, choices, _), is_read in zip(tried, read) if not is_read]
 
 
@@ -69,10 +67,11 @@ def disputed(image: SortedImage) -> Iterator[Segment]:
             yield Segment(image, index, copies)
 
 
-def settle(segment: Segment, choice: Choice) -> None:
-    """Uses these copies of a segment's packets."""
-    for part, number in enumerate(choice):
-        segment.image.use(segment.index << 32 | part, number)
+def settle(choices: Sequence[Tuple[Segment, Choice]]) -> None:
+    """Uses these copies of the packets of segments. Those of one image are neighbours."""
+    for _, group in itertools.groupby(choices, lambda it: id(it[0].image)):
+        them = list(group)
+        them[0][0].image.use({segment.index << 32 | part: it for segment, choice in them for part, it in enumerate(choice)})
 
 
 # ---- made-up streams

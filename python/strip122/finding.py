@@ -10,27 +10,22 @@ Each step takes time in proportion to the octets, whatever they are.
 from __future__ import annotations
 
 from array import array
-from bisect import bisect_left, bisect_right
+from bisect import bisect_left
 from collections import Counter
 from dataclasses import dataclass
 from functools import cached_property
-from typing import Counter as Counts, Dict, Iterator, List, NamedTuple, Sequence, Tuple
+from typing import Counter as Counts, Dict, Iterator, List, NamedTuple, Optional, Sequence, Tuple, Union, overload
 
 import numpy as np
 
 from .headers import IDLE, PRIMARY_SIZE, Flags, Headers, Numbers, headers_in
+from .others import CUT, JUNK, KINDS, REFUSED, Runs, joined_runs, lead_on, runs_between
 from .source import Source
 
 NOTED_STEPS = 8  # of the packets of others that are gone through, one in this number is noted
+LEAST_STEPS = 500  # packets of others that are gone through one by one, before all are followed at once
+OCTETS_OF_STEP = 16_384  # for this number of octets, another one is gone through
 
-CUT, REFUSED, IDLES, COMMANDS, OTHERS, JUNK = (
-    "packet of this coder, cut",
-    "packet of this coder, segment header refused",
-    "idle packet",
-    "telecommand packet",
-    "packet of another source",
-    "octets that are no packet",
-)
 OURS = (CUT, REFUSED)
 LISTED = (*OURS, JUNK)
 
@@ -46,25 +41,57 @@ class Skipped(NamedTuple):
 
 
 class Chains:
-    """Answers whether packets of others, one after another, lead from a place to a packet of this coder or to an end."""
+    """Answers whether packets of others, one after another, lead from a place to a packet of this coder or to an end.
 
-    def __init__(self, source: Source, begins: Sequence[int]):
-        self.source, self.begins = source, begins
-        self.stops = {*source.starts, source.length} - {0}
+    `begins` has the places of the packets of this coder, in rising order.
+    """
+
+    def __init__(self, source: Source, begins: Numbers):
+        self.source = source
+        stops = np.array([it for it in (*source.starts, source.length) if it > 0], np.int64)
+        self.known: Numbers = np.union1d(begins.astype(np.int64), stops)
         self.noted: Dict[int, bool] = {}
+        self.places = array("q", self.known.tobytes())
+        self.steps = LEAST_STEPS + source.length // OCTETS_OF_STEP
+
+    def lead_on(self, places: Numbers) -> Flags:
+        """Returns for each place whether a packet of this coder or an end is there, or packets of others lead to one."""
+        leads = self.are_known(places)
+        if leads.all():
+            return leads
+        open_places, back = np.unique(places[~leads], return_inverse=True)
+        answers = np.zeros(len(open_places), bool)
+        number = len(open_places)
+        while number > 0 and self.steps > 0:
+            number -= 1
+            answers[number] = self.leads_on(int(open_places[number]))
+        if self.steps <= 0:
+            answers[: number + 1] = lead_on(self.source, self.known, open_places[: number + 1])
+        leads[~leads] = answers[back]
+        return leads
+
+    def are_known(self, places: Numbers) -> Flags:
+        """Returns for each place whether a packet of this coder or an end is there."""
+        if len(self.known) == 0:
+            return np.zeros(len(places), bool)
+        number = np.minimum(np.searchsorted(self.known, places), len(self.known) - 1)
+        found: Flags = self.known[number] == places
+        return found
 
     def leads_on(self, at: int) -> bool:
-        """Returns whether a packet of this coder or an end is there, or packets of others lead to one."""
+        """Returns whether packets of others lead from a place on: also no, if there are more than `steps` of them."""
         passed: List[int] = []
-        number, steps = bisect_left(self.begins, at), 0
-        while True:
+        answer: Optional[bool] = None
+        number = steps = 0
+        while self.steps > 0:
             answer = self.noted.get(at)
             if answer is not None:
                 break
-            number = bisect_left(self.begins, at, number)
-            if at in self.stops or number < len(self.begins) and self.begins[number] == at:
+            number = bisect_left(self.places, at, number)
+            if number < len(self.places) and self.places[number] == at:
                 answer = True
                 break
+            self.steps -= 1
             length = other_packet(self.source, at)
             if not length:
                 answer = False
@@ -72,8 +99,8 @@ class Chains:
             if steps % NOTED_STEPS == 0:
                 passed.append(at)
             at, steps = at + length, steps + 1
-        self.noted.update((it, answer) for it in passed)
-        return answer
+        self.noted.update((it, bool(answer)) for it in passed)
+        return bool(answer)
 
 
 def other_packet(source: Source, at: int) -> int:
@@ -82,6 +109,53 @@ def other_packet(source: Source, at: int) -> int:
     if len(header) < PRIMARY_SIZE or header[0] >> 5 or header[2] >> 6 != 0b11:
         return 0
     return 7 + (header[4] << 8 | header[5])
+
+
+class Stretches(Sequence[Skipped]):
+    """Stretches of octets, in the order of their places. Each is made when it is asked for.
+
+    `header` has the number of the header of each in `headers`, or -1 if it is none of a packet of this coder.
+    """
+
+    def __init__(self, runs: Runs, header: Numbers, headers: Headers):
+        self.runs, self.header, self.headers = runs, header, headers
+
+    def __len__(self) -> int:
+        return len(self.header)
+
+    @overload
+    def __getitem__(self, number: int) -> Skipped: ...
+
+    @overload
+    def __getitem__(self, number: slice) -> List[Skipped]: ...
+
+    def __getitem__(self, number: Union[int, slice]) -> Union[Skipped, List[Skipped]]:
+        if isinstance(number, slice):
+            return [self[it] for it in range(*number.indices(len(self)))]
+        runs = self.runs
+        kind = KINDS[runs.kind[number]]
+        return Skipped(int(runs.at[number]), int(runs.octets[number]), kind, int(runs.packets[number]), self.detail(number, kind))
+
+    def __iter__(self) -> Iterator[Skipped]:
+        runs = self.runs
+        columns = zip(runs.at.tolist(), runs.octets.tolist(), runs.kind.tolist(), runs.packets.tolist())
+        for number, (at, octets, kind, packets) in enumerate(columns):
+            yield Skipped(at, octets, KINDS[kind], packets, self.detail(number, KINDS[kind]))
+
+    def of_headers(self) -> "Stretches":
+        """Returns the stretches that are of this coder, with a header."""
+        rows = self.header >= 0
+        return Stretches(self.runs.chosen(rows), self.header[rows], self.headers)
+
+    def detail(self, number: int, kind: str) -> str:
+        """Returns what messages say of the header of a stretch."""
+        header = int(self.header[number])
+        if header < 0:
+            return ""
+        text = self.headers.text(header)
+        if kind == CUT:
+            return f"{text}, of {int(self.headers.end[header] - self.headers.at[header])} octets"
+        return text if kind == REFUSED else f"before junk: {text}"
 
 
 @dataclass
@@ -94,7 +168,7 @@ class Found:
 
     packets: Headers
     leads: Flags
-    skipped: List[Skipped]
+    skipped: Stretches
     packets_of: Counts[str]
     octets_of: Counts[str]
 
@@ -105,45 +179,43 @@ def find(source: Source, is_strict: bool = False, lists_others: bool = False) ->
     `is_strict` leaves out packets before junk, whose own end may have been replaced by junk.
     """
     headers = headers_in(source)
-    chains = Chains(source, array("q", headers.at.astype(np.int64).tobytes()))
-    leads = ends_lead_on(headers, chains)
-    cuts = [it for it in source.starts[1:] if it < source.length and chains.leads_on(it)]
+    chains = Chains(source, headers.at)
+    leads = chains.lead_on(headers.end)
+    starts = np.array(source.starts[1:], np.int64)
+    cuts = starts[(starts < source.length) & chains.lead_on(starts)]
     is_whole = Wholeness(headers, leads, cuts).is_whole & (headers.end <= source.length)
     kept = outermost(headers, is_whole)
     headers, leads, is_whole = headers.chosen(kept), leads[kept], is_whole[kept]
     taken = is_whole & ~headers.is_refused
     if is_strict:
         taken &= leads
-    found = Found(headers.chosen(taken), leads[taken], [], Counter(), Counter())
-    for it in stretches(source, headers, is_whole, taken, cuts):
-        found.packets_of[it.kind] += it.packets
-        found.octets_of[it.kind] += it.octets
-        if lists_others or it.kind in LISTED:
-            found.skipped.append(it)
-    found.skipped.sort()
-    return found
+    ends = ends_of(source, headers, is_whole, cuts)
+    runs = joined_runs([untaken(headers, is_whole, taken, ends), runs_between(source, *gaps(source, headers, ends, cuts))])
+    header = np.full(len(runs.at), -1)
+    header[: int((~taken).sum())] = np.arange(int((~taken).sum()))
+    listed = np.flatnonzero(lists_others | np.isin(runs.kind, [KINDS.index(it) for it in LISTED]))
+    listed = listed[np.argsort(runs.at[listed], kind="stable")]
+    skipped = Stretches(runs.chosen(listed), header[listed], headers.chosen(~taken))
+    return Found(headers.chosen(taken), leads[taken], skipped, sums(runs.kind, runs.packets), sums(runs.kind, runs.octets))
 
 
-def ends_lead_on(headers: Headers, chains: Chains) -> Flags:
-    """Returns for each header whether its length leads on."""
-    known = np.concatenate([headers.at, np.array(sorted(chains.stops), np.int64)])
-    leads: Flags = np.isin(headers.end, known)
-    for number in np.flatnonzero(~leads)[::-1].tolist():
-        leads[number] = chains.leads_on(int(headers.end[number]))
-    return leads
+def sums(kinds: Numbers, counts: Numbers) -> Counts[str]:
+    """Returns the sum for each kind of stretch, in the order in which they are there."""
+    there, first = np.unique(kinds, return_index=True)
+    return Counter({KINDS[it]: int(counts[kinds == it].sum()) for it in there[np.argsort(first)].tolist()})
 
 
 class Wholeness:
     """Decides which packets are whole, from the last one to the first, since that depends on the packets inside each."""
 
-    def __init__(self, headers: Headers, leads: Flags, cuts: List[int]):
+    def __init__(self, headers: Headers, leads: Flags, cuts: Numbers):
         self.headers, self.leads = headers, leads
         numbers = np.arange(1, len(headers) + 1)
         self.past = np.searchsorted(headers.at, headers.end)  # the number after the last header inside
         self.tail = np.searchsorted(headers.at, headers.end - PRIMARY_SIZE)  # the first that begins in the last six octets
         self.tail = np.maximum(self.tail, numbers)
         inner_cuts = np.searchsorted(cuts, headers.end) - np.searchsorted(cuts, headers.at, "right")
-        self.begins_file = np.isin(headers.at, np.array(cuts, np.int64))
+        self.begins_file = np.isin(headers.at, cuts)
         self.is_whole: Flags = (inner_cuts == 0) | leads
         holding = np.flatnonzero(self.is_whole & (self.past > numbers))
         if len(holding):
@@ -250,56 +322,27 @@ def outermost(headers: Headers, is_whole: Flags) -> Flags:
 # ---- what is between the packets
 
 
-def stretches(source: Source, headers: Headers, is_whole: Flags, taken: Flags, cuts: List[int]) -> Iterator[Skipped]:
-    """Yields the stretches of octets in no packet that is taken."""
-    ends = np.where(is_whole, headers.end, np.append(headers.at[1:], source.length))
-    for number in np.flatnonzero(~is_whole).tolist():
-        inner = bisect_right(cuts, int(headers.at[number]))
-        if inner < len(cuts):
-            ends[number] = min(int(ends[number]), cuts[inner])
-    for number in np.flatnonzero(~taken).tolist():
-        yield untaken(headers, number, int(ends[number]), bool(is_whole[number]))
-    begins, gaps = np.append(0, ends), np.append(headers.at, source.length)
-    for number in np.flatnonzero(gaps > begins).tolist():
-        yield from between(source, int(begins[number]), int(gaps[number]), cuts)
+def ends_of(source: Source, headers: Headers, is_whole: Flags, cuts: Numbers) -> Numbers:
+    """Returns where the octets of each header end: its packet, or at the next header or file if the packet isn't whole."""
+    following = np.append(headers.at[1:], source.length)[: len(headers)]
+    files = np.append(cuts, source.length)[np.searchsorted(cuts, headers.at, "right")]
+    ends: Numbers = np.where(is_whole, headers.end, np.minimum(following, files))
+    return ends
 
 
-def untaken(headers: Headers, number: int, end: int, is_whole: bool) -> Skipped:
-    """Returns the stretch of a header whose packet is not used."""
-    at, text = int(headers.at[number]), headers.text(number)
-    if not is_whole:
-        return Skipped(at, end - at, CUT, 1, f"{text}, of {int(headers.end[number]) - at} octets")
-    if headers.is_refused[number]:
-        return Skipped(at, end - at, REFUSED, 1, text)
-    return Skipped(at, end - at, JUNK, 1, f"before junk: {text}")
+def untaken(headers: Headers, is_whole: Flags, taken: Flags, ends: Numbers) -> Runs:
+    """Returns the stretches of the headers whose packets are not used."""
+    kind = np.where(headers.is_refused, KINDS.index(REFUSED), KINDS.index(JUNK))
+    kind = np.where(is_whole, kind, KINDS.index(CUT))
+    return Runs(headers.at, ends - headers.at, kind, np.ones(len(headers), np.int64)).chosen(~taken)
 
 
-def between(source: Source, begin: int, end: int, cuts: List[int]) -> Iterator[Skipped]:
-    """Yields the packets of others from one place to another, if they lead there, and otherwise what is no packet."""
-    inner = cuts[bisect_right(cuts, begin) : bisect_left(cuts, end)]
-    for at, stop in zip([begin, *inner], [*inner, end]):
-        runs = list(others_in(source, at, stop))
-        if runs and runs[-1].at + runs[-1].octets < stop:  # then only idle packets are known to be packets
-            runs = runs[:1] if runs[0].kind == IDLES else []
-        yield from runs
-        at = runs[-1].at + runs[-1].octets if runs else at
-        if at < stop:
-            yield Skipped(at, stop - at, JUNK)
-
-
-def others_in(source: Source, at: int, end: int) -> Iterator[Skipped]:
-    """Yields the unsegmented packets of others, one after another, from a place on; neighbours of one kind are counted."""
-    run = Skipped(at, 0, "", 0)
-    while at < end:
-        length = other_packet(source, at)
-        if not length or at + length > end:
-            break
-        first = int.from_bytes(source.peek(at, 2), "big")
-        kind = IDLES if first & 0x7FF == IDLE else COMMANDS if first >> 12 & 1 else OTHERS
-        if kind != run.kind and run.packets:
-            yield run
-            run = Skipped(at, 0, "", 0)
-        run = Skipped(run.at, run.octets + length, kind, run.packets + 1)
-        at += length
-    if run.packets:
-        yield run
+def gaps(source: Source, headers: Headers, ends: Numbers, cuts: Numbers) -> Tuple[Numbers, Numbers]:
+    """Returns the places and the ends of what is between the headers. Where a file is cut inside, another gap begins."""
+    begins, stops = np.append(0, ends), np.append(headers.at, source.length)
+    is_gap = stops > begins
+    begins, stops = begins[is_gap], stops[is_gap]
+    cuts = np.unique(cuts)
+    number = np.searchsorted(begins, cuts) - 1
+    inner = cuts[(number >= 0) & (cuts < np.append(stops, -1)[number])]
+    return np.sort(np.append(begins, inner)), np.sort(np.append(stops, inner))

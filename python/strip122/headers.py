@@ -131,8 +131,7 @@ def headers_of_piece(source: Source, begin: int, end: int) -> Headers:
     marks = marks[octets[marks + 1] & 0xFE == 0x20]
     places = marks[marks >= MARK_AT] - MARK_AT
     places = places[(octets[places] >> 3 == 0b00001) & (base + places + HEADER_SIZE < source.length)]
-    found = read_headers(base + places, octets[places[:, None] + np.arange(VIEW)])
-    return found
+    return read_headers(base + places, np.lib.stride_tricks.sliding_window_view(octets, VIEW)[places])
 
 
 def number_in(views: NDArray[np.uint8], begin: int, end: int) -> Numbers:

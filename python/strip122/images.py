@@ -5,14 +5,15 @@ from __future__ import annotations
 from bisect import bisect_left
 from dataclasses import dataclass, field
 from functools import cached_property
-from typing import Dict, Iterator, List, NamedTuple, Optional, Sequence, Tuple
+from typing import Dict, Iterator, List, Mapping, NamedTuple, Optional, Sequence, Tuple
 
 import numpy as np
 
-from .copies import Copies, told_apart
+from .copies import told_apart
 from .headers import HEADER_SIZE, NO_FORMAT, Flags, Format, Headers, Numbers, format_of
 from .source import Range, Source, joined
 
+SPREAD = 8  # packets are read at once if they have one octet of text in this number of octets
 LATER = "bcdefghijklmnopqrstuvwxyz"
 
 
@@ -74,13 +75,17 @@ class SortedImage:
         at, end = self.headers.at[self.packets], self.headers.end[self.packets]
         return joined(zip(at.tolist(), (end - at).tolist()))
 
-    def use(self, place: int, packet: int) -> None:
-        """Uses this copy of the packet of a place."""
-        if place in self.differing:
-            self.differing[place].sort(key=lambda it: it != packet)
-            self.packets[np.searchsorted(self.headers.places(self.packets), place)] = packet
-            for it in ("segments_seen", "lost"):
-                self.__dict__.pop(it, None)
+    def use(self, chosen: Mapping[int, int]) -> None:
+        """Uses these copies of the packets of some places. A place whose copies don't differ keeps its packet."""
+        moved = {place: it for place, it in chosen.items() if self.differing.get(place, [it])[0] != it}
+        if not moved:
+            return
+        for place, packet in moved.items():
+            self.differing[place].remove(packet)
+            self.differing[place].insert(0, packet)
+        self.packets[np.searchsorted(self.headers.places(self.packets), list(moved))] = list(moved.values())
+        for it in ("segments_seen", "lost"):
+            self.__dict__.pop(it, None)
 
     @property
     def octets(self) -> int:
@@ -243,19 +248,15 @@ def images_of(source: Source, headers: Headers, leads: Flags, packed: int, packe
         yield SortedImage(key, form, headers, leads, packets[order], number, mended=mended)
         return
     for it in told_apart(source, headers, leads, packets):
-        yield image_of_copies(SortedImage(key, form, headers, leads, packets[:0], it.first), it)
-
-
-def image_of_copies(image: SortedImage, copies: Copies) -> SortedImage:
-    ranked = copies.ranked(image.leads)
-    image.packets = np.array([them[0] for _, them in sorted(ranked.items())], np.int64)
-    image.differing = {place: them for place, them in sorted(ranked.items()) if len(them) > 1}
-    image.duplicates, image.mended = copies.duplicates, copies.mended
-    return image
+        yield SortedImage(key, form, headers, leads, it.packets, it.first, it.duplicates, it.mended, it.differing)
 
 
 def text_of(source: Source, headers: Headers, packets: Sequence[int]) -> bytes:
     """Returns the parts of a text that these packets carry, one after another."""
-    return b"".join(
-        source.read(int(headers.at[it]) + HEADER_SIZE, int(headers.end[it] - headers.at[it]) - HEADER_SIZE) for it in packets
-    )
+    rows = np.array(packets)
+    begins, ends = headers.at[rows] + HEADER_SIZE, headers.end[rows]
+    first, last = int(begins.min()), int(ends.max())
+    if last - first > SPREAD * int((ends - begins).sum()):
+        return source.read_all(list(zip(begins.tolist(), (ends - begins).tolist())))
+    octets = source.read(first, last - first)
+    return b"".join([octets[begin:end] for begin, end in zip((begins - first).tolist(), (ends - first).tolist())])

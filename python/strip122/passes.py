@@ -3,14 +3,16 @@
 from __future__ import annotations
 
 from dataclasses import dataclass
+from itertools import islice
 from typing import Any, Dict, Iterable, Iterator, List, Sequence, Union
 
 import numpy as np
 
 from . import choosing
 from .errors import BadInput
-from .finding import CUT, JUNK, LISTED, OURS, REFUSED, Found, Skipped, find
+from .finding import LISTED, Found, Skipped, find
 from .images import SortedImage, sorted_images
+from .others import CUT, JUNK, REFUSED
 from .source import Given, Source, as_source
 
 COLUMNS = "image width rows depth signed packets octets whole segments mended copies differing before-junk lost".split()
@@ -48,15 +50,11 @@ class Pass:
         lines.append(f"{self.source.length} octets, {self.skipped_octets} skipped")
         for kind in sorted(self.found.packets_of):
             lines.append(f"skipped: {counted(self.found.packets_of[kind], kind)}, {self.found.octets_of[kind]} octets")
-        for listed in (self.stretches(is_verbose), self.doubts()):
-            lines.extend(listed if is_verbose else shortened(list(listed)))
+        skipped = self.found.skipped if is_verbose else self.found.skipped.of_headers()
+        doubts = sum(len(it.differing) + len(it.before_junk) for it in self.images)
+        for count, listed in ((len(skipped), map(stretch_text, skipped)), (doubts, self.doubts())):
+            lines.extend(listed if is_verbose else shortened(listed, count))
         return "\n".join(lines)
-
-    def stretches(self, is_verbose: bool) -> Iterator[str]:
-        """Yields a line for each stretch of this coder's octets that was skipped, or for all that were listed."""
-        for it in self.found.skipped:
-            if is_verbose or it.kind in OURS or it.detail:
-                yield f"skipped {it.at}-{it.at + it.octets - 1}: {counted(it.packets, it.kind)}{': ' if it.detail else ''}{it.detail}"
 
     def doubts(self) -> Iterator[str]:
         """Yields a line for each packet whose copies differ, and for each before junk."""
@@ -120,11 +118,16 @@ def counted(count: int, kind: str) -> str:
     return f"{count} {kind.replace('packet', 'packets', 1) if count > 1 else kind}"
 
 
-def shortened(lines: List[str]) -> List[str]:
-    """Returns these lines, or the first of many and how many more there are."""
-    if len(lines) <= LINES:
-        return lines
-    return [*lines[:LINES], f".. and {len(lines) - LINES} more, which --verbose lists"]
+def stretch_text(it: Skipped) -> str:
+    """Returns the line of a stretch of octets that was skipped."""
+    return f"skipped {it.at}-{it.at + it.octets - 1}: {counted(it.packets, it.kind)}{': ' if it.detail else ''}{it.detail}"
+
+
+def shortened(lines: Iterator[str], count: int) -> List[str]:
+    """Returns this number of lines, or the first of many and how many more there are."""
+    if count <= LINES:
+        return list(lines)
+    return [*islice(lines, LINES), f".. and {count - LINES} more, which --verbose lists"]
 
 
 def lost_text(image: SortedImage) -> str:

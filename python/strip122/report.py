@@ -8,7 +8,8 @@ from typing import Any, Dict, List, Sequence, Tuple
 import jinja2
 
 from .files import store
-from .finding import JUNK, OURS
+from .finding import OURS
+from .others import JUNK
 from .outputs import Record
 from .passes import Pass, counted, percent
 from .strips import strips

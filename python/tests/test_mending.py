@@ -7,8 +7,9 @@ once and in its place.
 from __future__ import annotations
 
 import random
+import sys
 from collections import defaultdict
-from typing import Dict, List, Optional, Sequence, Set, Tuple
+from typing import Callable, Dict, List, Optional, Sequence, Set, Tuple
 
 import pytest
 from strip122 import BadInput, Pass, decode, sort
@@ -496,6 +497,49 @@ def test_idle_packets_with_headers_inside(monkeypatch: pytest.MonkeyPatch) -> No
         finding.find(Source([idle_run(count, 1)]))
         steps.append(calls[0])
     assert steps[1] < 2.2 * steps[0] and steps[2] < 2.2 * steps[1] and steps[2] < 40_000
+
+
+def calls_of(action: Callable[[], object]) -> int:
+    """The calls of Python functions, and the steps of generators, that an action takes."""
+    calls = [0]
+
+    def count(frame: object, event: str, argument: object) -> None:
+        calls[0] += event == "call"
+
+    sys.setprofile(count)
+    try:
+        action()
+    finally:
+        sys.setprofile(None)
+    return calls[0]
+
+
+@pytest.mark.parametrize("inner", [1, 2047])
+def test_no_call_for_each_packet_of_others(inner: int) -> None:
+    """Headers of this coder inside idle packets, or none, take less than a call for four packets."""
+    from strip122 import finding
+    from strip122.source import Source
+
+    octets = [idle_run(count, inner) for count in (20_000, 40_000)]
+    calls = [calls_of(lambda it=it: finding.find(Source([it]))) for it in octets]  # type: ignore[misc]
+    assert calls[1] - calls[0] < 5_000, calls
+
+
+@pytest.mark.parametrize("order", ["joined", "alternating", "reversed copies"])
+def test_no_call_for_each_packet_of_copies(order: str) -> None:
+    """Two images under one number take less than a call for four packets."""
+    calls, packets = [], []
+    for rows in (512, 1024):
+        first, second = (made(seed, 512, rows, packet=100)[1] for seed in (3, 4))
+        them = {
+            "joined": first + second,
+            "alternating": [it for pair in zip(first, second) for it in pair],
+            "reversed copies": (first + first)[::-1],
+        }[order]
+        octets = stream(them)
+        calls.append(calls_of(lambda octets=octets: sort(octets, asks_program=False)))  # type: ignore[misc]
+        packets.append(len(them))
+    assert packets[1] - packets[0] > 1000 and 4 * (calls[1] - calls[0]) < packets[1] - packets[0], (calls, packets)
 
 
 def test_choices_are_linear(monkeypatch: pytest.MonkeyPatch) -> None:
