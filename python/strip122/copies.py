@@ -131,12 +131,13 @@ class ImagesOfRuns:
         images: List[int] = []
         contents_of: List[Set[int]] = []
         places_of: List[Set[int]] = []  # those of which a packet leads on
-        for contents, places, votes in zip(map(set, self.contents), map(set, self.places), self.votes):
+        for run, votes in enumerate(self.votes):
+            contents, places = set(self.contents[run]), set(self.places[run])
             image = len(contents_of)
             for owner, count in owners(images, votes):
                 others = places & places_of[owner]
                 if others:
-                    others.difference_update(map(self.place_of.__getitem__, contents & contents_of[owner]))
+                    others.difference_update([self.place_of[it] for it in contents & contents_of[owner]])
                 if count >= len(others):
                     image = owner
                     break
