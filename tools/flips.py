@@ -5,6 +5,8 @@ import subprocess
 import sys
 from collections import Counter
 
+from packets import packets_of
+
 SEGMENT_AT = 30  # octets of a packet before its part of a coded segment: the primary header and the ancillary data
 SEED = 1
 
@@ -19,10 +21,9 @@ def places(packets: bytes) -> list[int]:
     """Returns where in a stream of packets the octets of coded segments are."""
     found: list[int] = []
     at = 0
-    while at < len(packets):
-        end = at + 7 + int.from_bytes(packets[at + 4 : at + 6], "big")
-        found.extend(range(at + SEGMENT_AT, end))
-        at = end
+    for packet in packets_of(packets):
+        found.extend(range(at + SEGMENT_AT, at + len(packet)))
+        at += len(packet)
     return found
 
 

@@ -6,17 +6,9 @@ import sys
 
 from PIL import Image
 
+from packets import packets_of
+
 SETTINGS = ["segment=16", "segment=64", "segment=256", "segment=1024", "segment=4096", "segment=64 packet=4096"]
-
-
-def split(stream: bytes) -> list[bytes]:
-    """Returns the packets of a stream."""
-    packets, at = [], 0
-    while at < len(stream):
-        end = at + 7 + int.from_bytes(stream[at + 4 : at + 6], "big")
-        packets.append(stream[at:end])
-        at = end
-    return packets
 
 
 def damaged(lines: str) -> int:
@@ -56,7 +48,7 @@ def main() -> int:
     for words in SETTINGS:
         encode = [given.program, "encode", f"width={side}", f"rows={side}", *words.split()]
         stream = subprocess.run(encode, input=whole.tobytes(), check=True, capture_output=True).stdout
-        packets = split(stream)
+        packets = packets_of(stream)
         shares = []
         for four in (True, False):
             total = 0

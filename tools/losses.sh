@@ -5,10 +5,9 @@
 #
 # The program is that of this repository, or the one that STRIP122 names.
 . "$(dirname "$0")/common.sh"
-need python3
-python3 -c 'import PIL' 2>/dev/null || {
+if ! find_python PIL; then
     echo "$0: needs Pillow (Debian: apt-get install python3-pil)" >&2
     exit 1
-}
+fi
 find_program
-exec python3 -B "$top/tools/losses.py" "$(realpath "$program")" "$@"
+exec "$python" -B "$top/tools/losses.py" "$(realpath "$program")" "$@"

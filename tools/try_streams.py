@@ -14,19 +14,12 @@ import subprocess
 import sys
 from collections import Counter
 
+from packets import packets_of
+
 
 def run(command, words, octets=b""):
     ended = subprocess.run([*command, *words], input=octets, capture_output=True)
     return ended.returncode, ended.stdout, ended.stderr.decode()
-
-
-def packets_of(octets):
-    at, packets = 0, []
-    while at < len(octets):
-        length = 7 + int.from_bytes(octets[at + 4 : at + 6], "big")
-        packets.append(octets[at : at + length])
-        at += length
-    return packets
 
 
 def segment_of(packet):

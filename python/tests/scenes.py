@@ -22,6 +22,7 @@ sys.path.insert(0, str(Path(__file__).resolve().parent.parent))
 
 from strip122 import encode  # noqa: E402
 from strip122.program import call  # noqa: E402
+from wire import packets_of  # noqa: E402
 
 Scene = NDArray[np.float64]
 Chance = np.random.Generator
@@ -113,15 +114,6 @@ def drawn(camera: Camera, chance: Chance, size: float) -> NDArray[Any]:
     scene = camera.draw(chance, rows, width) + chance.normal(0, 0.006, (rows, width))
     values = np.clip(scene, 0, 1) * ((1 << depth) - 1) - ((1 << depth - 1) if signed else 0)
     return values.round().astype(("i" if signed else "u") + ("1" if depth <= 8 else "2"))
-
-
-def packets_of(octets: bytes) -> List[bytes]:
-    at, packets = 0, []
-    while at < len(octets):
-        length = 7 + int.from_bytes(octets[at + 4 : at + 6], "big")
-        packets.append(octets[at : at + length])
-        at += length
-    return packets
 
 
 def received(packets: List[bytes], dice: random.Random) -> List[bytes]:
