@@ -6,11 +6,10 @@
 # Without pictures it takes twelve of Debian's python3-skimage, as 8 bits of grey. Other coders run if they are installed: Debian's packages
 # libaec-tools, libopenjp2-tools and libjxl-tools. The program is that of this repository, or the one that STRIP122 names.
 . "$(dirname "$0")/common.sh"
-need python3
 need /usr/bin/time
-python3 -c 'import PIL' 2>/dev/null || {
+if ! find_python PIL; then
     echo "$0: needs Pillow (Debian: apt-get install python3-pil)" >&2
     exit 1
-}
+fi
 find_program
-exec python3 -B "$top/tools/pictures.py" "$(realpath "$program")" "$@"
+exec "$python" -B "$top/tools/pictures.py" "$(realpath "$program")" "$@"
