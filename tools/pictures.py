@@ -78,7 +78,7 @@ def main() -> int:
     parser.add_argument("--side", type=int, default=4096, help="the side of the picture of `make` for the memory, 4096 if it isn't given")
     parser.add_argument("program", help=argparse.SUPPRESS)
     parser.add_argument("pictures", nargs="*", help="the twelve of Debian's python3-skimage if none is given")
-    given = parser.parse_args()
+    given = parser.parse_intermixed_args()
     data = pathlib.Path("/usr/lib/python3/dist-packages/skimage/data")
     paths = [pathlib.Path(name) for name in given.pictures] or [next(data.glob(f"{name}.[pj][np]g")) for name in NAMES]
     known = [coder for coder in coders(given.program) if coder.is_there()]
