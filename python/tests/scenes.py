@@ -4,7 +4,7 @@
 
 The file has packets lost, copies, junk, idle packets, and a packet that is cut. With `--large`, the folder gets packets of pictures of
 4,096 x 4,096 pixels of 12 bits of which eight are lost: `drawn` of the program's own picture, `noisy` of dunes, and `gigabyte`,
-which is `noisy` under 56 numbers. tools/try_report.sh and docs/benchmarks.md use these.
+which is `noisy` under 56 numbers. tools/checks/try_report.sh and docs/benchmarks.md use these.
 """
 
 from __future__ import annotations

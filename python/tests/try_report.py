@@ -1,4 +1,4 @@
-"""Opens a report in headless Chromium, and looks at what it shows. tools/try_report.sh runs it.
+"""Opens a report in headless Chromium, and looks at what it shows. tools/checks/try_report.sh runs it.
 
     try_report.py FOLDER [--pictures FOLDER] [--screenshot FILE]
 """

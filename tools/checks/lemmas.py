@@ -1,7 +1,7 @@
 #!/usr/bin/env python3
 """Finds definitions and lemmas that nothing cites, statements that are written twice, and unfoldings across crates.
 
-Usage: tools/lemmas.py [--list] [CRATE ..]. It reads specs/, proofs/ and src/ of all crates, and prints a count of each kind by
+Usage: tools/checks/lemmas.py [--list] [CRATE ..]. It reads specs/, proofs/ and src/ of all crates, and prints a count of each kind by
 crate; with --list also the places. It reads text and proves nothing: a row is a place to look at.
 """
 
@@ -11,7 +11,7 @@ from collections import Counter, defaultdict
 from dataclasses import dataclass, field
 from pathlib import Path
 
-TOP = Path(__file__).resolve().parent.parent
+TOP = Path(__file__).resolve().parents[2]
 NAME = r"[^\s(){}\[\],;:.]+"
 DECLARED = re.compile(rf"^(?:(?:abbrev|unfoldable|pub) )*(?:(?:record|data) ({NAME}) (?:[({{]|: Type)|({NAME}) : )")
 WORD = re.compile(r"[^\s(){}\[\],;.]+")

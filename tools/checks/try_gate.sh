@@ -1,6 +1,6 @@
 #!/bin/sh
 # Checks tools/clauses.py and tools/edits.py on a small repository: what they print, and their status, after each change of its files.
-. "$(dirname "$0")/common.sh"
+. "$(dirname "$0")/../common.sh"
 need python3
 make_folder
 mkdir -p "$kept/crates/two/src" "$kept/crates/two/must-fail" "$kept/edits/two" "$kept/tools"

@@ -2,11 +2,11 @@
 # Draws a pass, writes its report, and opens that in headless Chromium: as many cards as images, no picture that fails to load,
 # sorting, filters and keys, four screens, and no message on the console.
 #
-#   tools/try_report.sh [--images N] [--pictures FOLDER] [--screenshot FILE]
+#   tools/checks/try_report.sh [--images N] [--pictures FOLDER] [--screenshot FILE]
 #
 # FOLDER gets a picture of each screen, and FILE one of the top of the page. The program is that of this repository, or the one that
 # STRIP122 names. Without Chromium or the packages that tools/setup.sh installs it says `skipped`, and tries nothing.
-. "$(dirname "$0")/common.sh"
+. "$(dirname "$0")/../common.sh"
 images=40
 if [ "$1" = --images ]; then
     images=$2

@@ -1,7 +1,7 @@
 #!/usr/bin/env python3
 """Runs the commands of documents, and compares what they print with what the documents say.
 
-Usage: tools/try_docs.sh [DOCUMENT ..], the README, the tour, the recipes, docs/ground.md and python/README.md if none is named. A document is
+Usage: tools/checks/try_docs.sh [DOCUMENT ..], the README, the tour, the recipes, docs/ground.md and python/README.md if none is named. A document is
 one session of bash, in a folder with the program and the tools. A block of `sh` is a part of it; a block without a language after it is what
 this part prints, on standard output and standard error, in any order. Memory, speeds and seconds of the clock are not compared.
 """
@@ -14,7 +14,7 @@ import tempfile
 from dataclasses import dataclass
 from pathlib import Path
 
-TOP = Path(__file__).resolve().parent.parent
+TOP = Path(__file__).resolve().parents[2]
 DOCUMENTS = ["README.md", "docs/tour.md", "docs/recipes.md", "docs/ground.md", "python/README.md"]
 # These lines install packages or prove the program.
 LEFT_OUT = ("apt-get ", "rt ci", "sh tools/")

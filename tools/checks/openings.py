@@ -7,7 +7,7 @@ crates/crate_examples/src. Ends with status 1 if an example isn't found, or if a
 import sys
 from pathlib import Path
 
-ROOT = Path(__file__).resolve().parent.parent
+ROOT = Path(__file__).resolve().parents[2]
 CRATES = ["base_122", "bit_pipe", "packet_assembly", "segment_code", "strip_coder", "strip_decoder"]
 
 

@@ -1,13 +1,13 @@
 #!/bin/sh
 # Refuses one allocation of a run, for each of its allocations in turn, and tells what came of it.
 #
-#   tools/refuse_allocations.sh WORDS <IN            the program with these words and this input, to its last allocation
-#   tools/refuse_allocations.sh tests CRATE MOST     each test of a crate, to its last allocation or the one of this number
+#   tools/checks/refuse_allocations.sh WORDS <IN            the program with these words and this input, to its last allocation
+#   tools/checks/refuse_allocations.sh tests CRATE MOST     each test of a crate, to its last allocation or the one of this number
 #
 # A run without that allocation may end as the undisturbed one does, or with status 6 and nothing given; a test may pass or
 # have no memory. The program is that of this repository, or the one that STRIP122 names, and the tests are those that `rt test`
 # builds. A C compiler makes the allocator that refuses.
-. "$(dirname "$0")/common.sh"
+. "$(dirname "$0")/../common.sh"
 make_folder
 wrong=0
 

@@ -1,4 +1,4 @@
-"""Random images and streams, asked of two programs. tools/try_images.sh runs it.
+"""Random images and streams, asked of two programs. tools/checks/try_images.sh runs it.
 
 Each image is encoded by both, and its packets are decoded. Then some packets are lost, or octets changed, and what is
 left is decoded, looked at and listed, and its damage found. The rows of some cameras are muxed, and the packets of one

@@ -1,7 +1,7 @@
 #!/bin/sh
 # Encodes and decodes at the ends of sizes and settings, and compares what comes back. The program is that of this
 # repository, or the one that STRIP122 names; /usr/bin/time (Debian's package time) tells the memory where it is there.
-. "$(dirname "$0")/common.sh"
+. "$(dirname "$0")/../common.sh"
 find_program
 make_folder
 wrong=0

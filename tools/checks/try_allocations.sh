@@ -1,11 +1,11 @@
 #!/bin/sh
-# Refuses each allocation of twenty runs of the program in turn (tools/refuse_allocations.sh). A run is wrong if it has another end than status 6
+# Refuses each allocation of twenty runs of the program in turn (tools/checks/refuse_allocations.sh). A run is wrong if it has another end than status 6
 # with nothing given, or that of the undisturbed run, or if no allocation was refused: then the program doesn't allocate by the C library.
 #
-#   tools/try_allocations.sh
+#   tools/checks/try_allocations.sh
 #
 # The program is that of this repository, or the one that STRIP122 names. It needs a C compiler.
-. "$(dirname "$0")/common.sh"
+. "$(dirname "$0")/../common.sh"
 find_program
 make_folder
 program=$(realpath "$program")
@@ -28,7 +28,7 @@ runs=0 wrong=0
 refuse() {
     input=$1
     shift
-    if ! STRIP122=$program "$top/tools/refuse_allocations.sh" "$@" <"$input" >line || grep -q ': 0 allocations:' line; then
+    if ! STRIP122=$program "$top/tools/checks/refuse_allocations.sh" "$@" <"$input" >line || grep -q ': 0 allocations:' line; then
         wrong=$((wrong + 1))
     fi
     cat line

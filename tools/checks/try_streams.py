@@ -1,4 +1,4 @@
-"""Streams with packets lost, and with octets changed. tools/try_streams.sh runs it.
+"""Streams with packets lost, and with octets changed. tools/checks/try_streams.sh runs it.
 
 Where packets are lost, each row outside the damaged ones has to be that of the picture, `damage` has to tell just the
 rows that the definition of docs/formats.md gives for the lost segments, and the status has to be 1 where a segment is

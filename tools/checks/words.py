@@ -1,7 +1,7 @@
 #!/usr/bin/env python3
 """Counts the words of the documents, and their sentences.
 
-Usage: tools/words.py [--long N] [FILE ..], by default README.md, docs/*.md, crates/README.md and python/README.md. For each document it
+Usage: tools/checks/words.py [--long N] [FILE ..], by default README.md, docs/*.md, crates/README.md and python/README.md. For each document it
 prints the words, which have a letter or a digit, and the mean and the greatest number of words of its sentences; last a line for all. Blocks
 of code and rows of tables count as words and not as sentences. With `--long N`, each sentence of more than N words is printed too.
 """
@@ -9,7 +9,7 @@ import argparse
 import re
 from pathlib import Path
 
-TOP = Path(__file__).resolve().parent.parent
+TOP = Path(__file__).resolve().parents[2]
 END_OF_SENTENCE = re.compile(r"(?<=[.:?!])[)\"”]*\s+(?=[A-Z0-9`*\[(\"])")
 BEGINS_ITEM = re.compile(r"\s*([-*]|\d+\.)\s")
 

@@ -13,6 +13,7 @@ from pathlib import Path
 from unittest import mock
 
 sys.dont_write_bytecode = True
+sys.path.insert(0, str(Path(__file__).resolve().parents[1]))
 import cases
 
 # A program that writes its input, or fails as its first argument says.

@@ -1,6 +1,6 @@
 #!/bin/sh
 # Installs what is built below a folder that has files of its own, runs it, and uninstalls it: what was there is left, and nothing else.
-. "$(dirname "$0")/common.sh"
+. "$(dirname "$0")/../common.sh"
 find_version
 if [ ! -x "$top/crates/strip122/out/strip122" ] || [ ! -f "$top/build/libstrip122.so" ]; then
     echo "skipped: tools/build.sh has built nothing"

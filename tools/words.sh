@@ -1,3 +1,0 @@
-#!/bin/sh
-# Counts the words and sentences of the documents (tools/words.py).
-exec python3 "$(dirname "$0")/words.py" "$@"
