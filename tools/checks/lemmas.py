@@ -8,68 +8,19 @@ crate; with --list also the places. It reads text and proves nothing: a row is a
 import re
 import sys
 from collections import Counter, defaultdict
-from dataclasses import dataclass, field
 from pathlib import Path
 
-TOP = Path(__file__).resolve().parents[2]
-NAME = r"[^\s(){}\[\],;:.]+"
-DECLARED = re.compile(rf"^(?:(?:abbrev|unfoldable|pub) )*(?:(?:record|data) ({NAME}) (?:[({{]|: Type)|({NAME}) : )")
-WORD = re.compile(r"[^\s(){}\[\],;.]+")
+sys.dont_write_bytecode = True
+sys.path.insert(0, str(Path(__file__).resolve().parents[1]))
+from blocks import IMPORT, MODULE, TOP, WORD, Block, blocks_of, crate_of
+
 MODULES = re.compile(r"^ *module .*$", re.M)
 UNFOLDS = re.compile(r"^\s*unfolding (.+)$")
 CRATES = {folder.name for folder in (TOP / "crates").iterdir()}
-MODULE = re.compile(r"^\s*use Rattle\.(\w+)\.[\w.]+ as (\w+)$")
-IMPORT = re.compile(r"^\s*(?:pub )?(?:ghost )?use Rattle\.(\w+)\.((?:specs|proofs)\.[\w.]+?)\.\{(.*)\};?$")
-
-
-@dataclass
-class Block:
-    """A declaration with its equations, and the words in them."""
-
-    name: str
-    file: Path
-    line: int
-    text: list[str] = field(default_factory=list)
-
-    def words(self) -> Counter:
-        return Counter(word for line in self.text for word in WORD.findall(line))
-
-    def statement(self) -> str:
-        """The type, without names of variables' order or spaces: what two copies share."""
-        joined = " ".join(line.strip() for line in self.text)
-        return re.sub(r"\s+", " ", joined.split(" : ", 1)[-1].split(f" {self.name} ")[0]) if " : " in joined else ""
-
-
-def crate_of(file: Path) -> str:
-    return file.relative_to(TOP / "crates").parts[0]
 
 
 def sources(suffix: str) -> list[Path]:
     return sorted(file for file in (TOP / "crates").rglob(f"*{suffix}") if "out" not in file.parts)
-
-
-def indent_of(line: str) -> int:
-    return len(line) - len(line.lstrip())
-
-
-def blocks_of(file: Path) -> list[Block]:
-    """The declarations of a file, those of its modules and `where` parts too; fields of records belong to the record."""
-    blocks: list[Block] = []
-    record = None
-    for number, line in enumerate(file.read_text(encoding="utf-8").splitlines(), 1):
-        text = line.strip()
-        if not text or text.startswith(("--", "use ", "pub mod ", "mod ", "module ", "where", "unfolding ")):
-            continue
-        if record is not None and indent_of(line) <= record:
-            record = None
-        match = DECLARED.match(text) if record is None else None
-        if match and (not blocks or (match[1] or match[2]) != blocks[-1].name):
-            if re.match(r"(pub )?(record|data) ", text):
-                record = indent_of(line)
-            blocks.append(Block(match[1] or match[2], file, number))
-        if blocks:
-            blocks[-1].text.append(line)
-    return blocks
 
 
 def is_answer(file: Path) -> bool:
@@ -81,7 +32,7 @@ def foreign_unfoldings(file: Path) -> list[tuple[int, str]]:
     """The lines at which a file unfolds what it imports from another crate of the repository, each with the name."""
     lines = file.read_text(encoding="utf-8").splitlines()
     home = {name.strip().split(" as ")[-1]: match[1] for match in map(IMPORT.match, lines) if match for name in match[3].split(",")}
-    home |= {match[2]: match[1] for match in map(MODULE.match, lines) if match}
+    home |= {match[3]: match[1] for match in map(MODULE.match, lines) if match}
     unfolded = [(at, name) for at, line in enumerate(lines, 1) if (match := UNFOLDS.match(line)) for name in match[1].split()]
     return [(at, name) for at, name in unfolded if home.get(name.split(".")[0], crate_of(file)) in CRATES - {crate_of(file)}]
 
