@@ -57,7 +57,7 @@ if command -v cc >/dev/null; then
 int main(void) {
     static unsigned char raster[289], room[1000];
     strip122_setting setting = strip122_usual(17, 17);
-    strip122_encoded encoded;
+    strip122_encoded encoded = {.size = sizeof encoded};
     return strip122_encode(&setting, raster, sizeof raster, room, sizeof room, &encoded) != STRIP122_DONE || encoded.octets != 52;
 }
 END
