@@ -11,9 +11,9 @@ use Rattle.base_122.specs.Setting.{sized}
 use Rattle.base_122.specs.declared.setting.Setting.{Setting}
 use Rattle.base_122.proofs.GeometryRanges.{in_range-sized}
 use Rattle.packet_defs.specs.Packets.{joined}
-use Rattle.packet_defs.specs.Streams.{IsPacket, whole_packets}
+use Rattle.packet_defs.specs.Streams.{IsPacket, left_over, whole_packets}
 use Rattle.packet_defs.proofs.Joins.{joined-append}
-use Rattle.packet_defs.proofs.Splits.{splits_whole, joined_splits}
+use Rattle.packet_defs.proofs.Splits.{splits_whole, splits_left, joined_splits}
 use Rattle.stream_defs.specs.Output.{image_blocks, tells_last}
 use Rattle.stream_defs.specs.Settled.{last_block_row}
 use Rattle.stream_defs.specs.SettledImages.{front_packets, settled_in}
@@ -191,6 +191,10 @@ module _ (settings : List Setting) (records : List CameraRow) (cameras : AreSett
 
   all_given : HasPackets settings records
   all_given = subst (HasPackets settings) (take_all (length records) records (omega arith)) (first_given (length records) (omega arith))
+
+  -- all that is given is whole packets
+  pub none_left : left_over (mux_out settings records) ≡ []
+  none_left = ap left_over all_given.octets ∙ splits_left (joined_splits all_given.packets all_given.whole)
 
   pub keeps_camera : (camera : ℕ) → camera < length settings → KeepsCamera settings records camera
   keeps_camera camera lt =

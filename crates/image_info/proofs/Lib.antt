@@ -1,4 +1,5 @@
 pub mod OneImage
+pub mod ChainLaws
 pub mod ImageLists
 pub mod EntryLists
 pub mod Passed

@@ -60,6 +60,10 @@ bare_engine s = record {
     say old new took gave ReadFault k = k.0
     say old new took gave WriteFault k = k.0
 
+-- an image that was encoded
+pub bare_image_encoded : (s : Setting) (old new : Outside) (done : EncodeDone) → EncodesOver s old new (Ok done) → EncodedBare s old new
+bare_image_encoded s old new done run = (bare_engine s).done old new run.took run.gave done run.answer run.since
+
 pub bare_encode_law : (s : Setting) → Law (encodes_bare s)
 bare_encode_law s = encoder_law s (BareAnswers s) (texts_for s) (EncodedBare s) (bare_engine s)
 

@@ -12,6 +12,16 @@ use Rattle.strip122.specs.Behaviours.{Behaviour}
 use Rattle.strip122.specs.Books.{AfterBook, LacksBook, BeginsWithBook, BeginsWithNone, ByBook, book_status, by_book, with_book}
 use Rattle.strip122.proofs.Behaviours.{AtStatus, Law}
 
+-- no fault has status 0
+pub book_fault_fails : (fault : BookFault) → book_status fault ≡ 0 → ⊥
+book_fault_fails ReadFault none = omega (arith, none)
+book_fault_fails (Short octets) none = omega (arith, none)
+book_fault_fails BadMark none = omega (arith, none)
+book_fault_fails (BadLength table symbol) none = omega (arith, none)
+book_fault_fails (BadBits table symbol) none = omega (arith, none)
+book_fault_fails (Clash table first second) none = omega (arith, none)
+book_fault_fails (Incomplete table) none = omega (arith, none)
+
 -- ---- the octets of the book
 
 -- what is left after octets that were taken

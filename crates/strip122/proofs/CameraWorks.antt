@@ -16,10 +16,10 @@ use Rattle.camera_mux.specs.MuxProgress.{AreSettings}
 use Rattle.command_words.specs.Commands.{AreCameras}
 use Rattle.strip122.specs.Muxing.{camera_settings}
 
-size_is : (s : Setting) (cameras : ℕ) → length (camera_settings s cameras) ≡ cameras
+pub size_is : (s : Setting) (cameras : ℕ) → length (camera_settings s cameras) ≡ cameras
 size_is s cameras = length-map (range_with_len 0 cameras) (λ camera. record s { apid = s.apid + camera }) ∙ length-range_with_len 0 cameras
 
-setting_is : (s : Setting) (cameras camera : ℕ) → camera < cameras → setting_at (camera_settings s cameras) camera ≡ record s { apid = s.apid + camera }
+pub setting_is : (s : Setting) (cameras camera : ℕ) → camera < cameras → setting_at (camera_settings s cameras) camera ≡ record s { apid = s.apid + camera }
 setting_is s cameras camera lt = get_or-map-range_with_len (λ camera. record s { apid = s.apid + camera }) 0 cameras camera camera no_setting lt (omega arith)
 
 -- another APID in its range changes nothing else

@@ -12,7 +12,7 @@ use Rattle.base_122.specs.declared.wish.DecodeWish.{DecodeWish}
 use Rattle.packet_defs.specs.Streams.{left_over, has_bad_version}
 use Rattle.packet_defs.specs.declared.packet.Framing.{Framing}
 use Rattle.stream_defs.specs.declared.range.RowRange.{RowRange}
-use Rattle.stream_defs.specs.Damage.{is_covered, is_damaged, is_missing as is_missing_of, missing_below}
+use Rattle.stream_defs.specs.Damage.{is_covered, is_damaged, is_missing as is_missing_of}
 use Rattle.stream_defs.specs.Begun.{HasFewPixels, begun_in}
 use Rattle.stream_defs.specs.Fates.{geometry_in}
 use Rattle.stream_defs.specs.Marks.{Marks}

@@ -124,6 +124,18 @@ encode_engine s = record {
 pub encode_law : (s : Setting) → Law (encodes s)
 encode_law s = encoder_law s (Answers s) (given_for s) (EncodedWhole s) (encode_engine s)
 
+-- an image that was encoded
+pub image_encoded : (s : Setting) (old new : Outside) (done : EncodeDone) → EncodesImage s old new (Ok done) → EncodedWhole s old new
+image_encoded s old new done run = (encode_engine s).done old new run.took run.gave done run.answer run.since
+
+-- no fault has status 0
+pub fault_fails : (fault : EncodeFault) → fault_status fault ≡ 0 → ⊥
+fault_fails ReadFault zero = omega (arith, zero)
+fault_fails WriteFault zero = omega (arith, zero)
+fault_fails (Short octets) zero = omega (arith, zero)
+fault_fails Long zero = omega (arith, zero)
+fault_fails (BadPixel row column value) zero = omega (arith, zero)
+
 pub encode_book_law : (s : Setting) → Law (encodes_with_book s)
 encode_book_law s =
     let b = λ (book : Book). encodes_raster (record s { book = book }) in

@@ -49,7 +49,7 @@ begun r rs le = let e : (nat_le r.first r.first && nat_le r.first r.last) ≡ tr
     both : (a b : ℕ) → a ≤ b → (nat_le a a && nat_le a b) ≡ true
     both a b le = grind (arith, nat_tests)
 
-none_damaged : (m : Marks) → m.missing ≡ [] → damaged m ≡ []
+pub none_damaged : (m : Marks) → m.missing ≡ [] → damaged m ≡ []
 none_damaged m none = by (damaged m) (whole_damage m.rows m.missing).1 (λ row. (whole_damage m.rows m.missing).0.each row ∙ ap (λ missing. is_damaged m.rows missing row) none ∙ unharmed m.rows row)
   where
     by : (rs : List RowRange) → LieApart 0 rs → ((row : ℕ) → is_covered rs row ≡ false) → rs ≡ []

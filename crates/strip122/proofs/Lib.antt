@@ -5,7 +5,11 @@ pub mod Listed
 mod TrialsCounted
 mod TrialsDecoded
 mod TrialsDone
+mod ClosedRasters
+mod ClosedStreams
+mod ClosedCameras
 pub mod GavePictures
+pub mod GavePicks
 pub mod ReadOut
 pub mod PacketInputs
 pub mod DamageParts

@@ -67,6 +67,15 @@ module _ (settings : List Setting) (kept : CamerasAreKept) (are : AreSettings se
     noted = noted_since a b c n.0 _ run.since.faults.notes n.2;
   }
 
+-- no fault has status 0
+pub mux_fault_fails : (fault : MuxFault) → mux_fault_status fault ≡ 0 → ⊥
+mux_fault_fails ReadFault zero = omega (arith, zero)
+mux_fault_fails WriteFault zero = omega (arith, zero)
+mux_fault_fails (Short octets) zero = omega (arith, zero)
+mux_fault_fails Long zero = omega (arith, zero)
+mux_fault_fails (BadCamera place camera) zero = omega (arith, zero)
+mux_fault_fails (BadPixel camera row column value) zero = omega (arith, zero)
+
 -- ---- records of the same octets
 
 shorter_front : (xs ys us vs : List ℕ) → length ys ≤ length xs → xs ++ us ≡ ys ++ vs → (ws : List ℕ) × (xs ≡ ys ++ ws)

@@ -63,14 +63,14 @@ shown_is s x octets range pixels is i j row column =
     ap (λ zs. image_of s zs i j) is ∙ raster_pixel-raster_octets s.depth s.signed s.rows s.width x i j range.depth pixels.at row column
 
 -- the pixels of a raster that was taken are in range
-raster_pixels : (s : Setting) (raster : List ℕ) → IsInRange s → TookRaster s s.rows raster → ArePixels s s.rows (image_of s raster)
-raster_pixels s raster range whole = record {
+pub raster_pixels : (s : Setting) (rows : ℕ) (raster : List ℕ) → IsInRange s → TookRaster s rows raster → ArePixels s rows (image_of s raster)
+raster_pixels s rows raster range whole = record {
   at = λ i j row column.
       let size = pixel_size s.depth in
-      let all : length raster ≡ s.rows * s.width * size + 0 = whole.whole ∙ flat s.rows s.width size in
-      let count : whole_pixels s.depth raster ≡ s.rows * s.width = whole_pixels-is s.depth raster (s.rows * s.width) 0 all (size_some s.depth) in
-      let rows : (i + 1) * s.width ≤ s.rows * s.width = whole_before s.width i s.rows row in
-      whole.in_range.each (i * s.width + j) (omega (arith, count, rows, column));
+      let all : length raster ≡ rows * s.width * size + 0 = whole.whole ∙ flat rows s.width size in
+      let count : whole_pixels s.depth raster ≡ rows * s.width = whole_pixels-is s.depth raster (rows * s.width) 0 all (size_some s.depth) in
+      let before : (i + 1) * s.width ≤ rows * s.width = whole_before s.width i rows row in
+      whole.in_range.each (i * s.width + j) (omega (arith, count, before, column));
 }
   where
     flat : (rows width size : ℕ) → rows * (width * size) ≡ rows * width * size + 0
@@ -125,7 +125,7 @@ has_picture s raster packets given fail piece port new short known range height 
     let rest = ap (λ (o : Outside). o.rest) fresh.outside in
     let none = ap (λ (o : Outside). o.given) fresh.outside in
     let x = image_of s raster in
-    let image : IsImageFor s s.rows x = record { range = range; height = (height, inr refl); sound = sound; weights = ten; pixels = raster_pixels s raster range whole } in
+    let image : IsImageFor s s.rows x = record { range = range; height = (height, inr refl); sound = sound; weights = ten; pixels = raster_pixels s s.rows raster range whole } in
     let run = has.decodes in
     let is = run.answer in
     let took : run.took ≡ packets = took_all (2 ^ 40) run.took packets (outside_of port) new run.since rest (ap left_over packets_are ∙ none_left short s s.rows x image) is.out in

@@ -10,6 +10,8 @@ pub mod BareStreams
 pub mod Listing
 pub mod Decoding
 pub mod Pictures
+pub mod Closed
+pub mod Picks
 pub mod Trials
 pub mod Run
 pub mod Answers

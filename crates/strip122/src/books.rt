@@ -1,8 +1,9 @@
 // Runs the commands whose input begins with a code book.
-ghost use Rattle.std.specs.Prelude.{◌≡◌, ◌++◌, IsTrue, codes, decimal};
+ghost use Rattle.std.specs.Prelude.{◌≡◌, ◌++◌, IsTrue, codes, decimal, true};
 ghost use Rattle.plane_defs.specs.Codes.{is_book_sound};
 ghost use Rattle.base_122.specs.Ranges.{IsInRange};
 ghost use Rattle.strip122.specs.Books.{book_line, book_status, clash_line, code_line, with_book};
+ghost use Rattle.strip122.specs.Closed.{ClosedBy};
 ghost use Rattle.strip122.specs.Decoding.{reads};
 ghost use Rattle.strip122.specs.Encoding.{encodes_with_book};
 ghost use Rattle.strip122.specs.Notes.{Notes};
@@ -103,7 +104,8 @@ fn book_status(fault: BookFault) -> u8
 pub fn encode_with_book<X: Port>(alloc: Global, setting: &Setting, port: &mut X) -> u8
     requires range { IsInRange setting.now }
     requires book { IsTrue (is_book_sound setting.now.book) }
-    ensures { (encodes_with_book setting.now).performs (X.outside port.old) (X.outside port.new) result }
+    ensures runs { (encodes_with_book setting.now).performs (X.outside port.old) (X.outside port.new) result }
+    ensures closed { result ≡ 0 → ClosedBy true setting.now (X.outside port.old) (X.outside port.new) }
 {
     let Ok(mut work) = Work::new(alloc, setting) else {
         note_line(port, "strip122: no memory\n");

@@ -9,15 +9,20 @@ ghost use Rattle.command_words.specs.Commands.{AreCameras};
 ghost use Rattle.strip122.specs.Notes.{fault_status, mux_fault_status};
 ghost use Rattle.strip122.specs.Encoding.{Encodes, encodes_raster};
 ghost use Rattle.strip122.specs.BareStreams.{EncodesBare};
+ghost use Rattle.strip122.specs.Closed.{BareClosed, EncodedClosed, MuxClosed};
 ghost use Rattle.strip122.specs.Muxing.{Muxes, camera_settings};
 
 use crate::notes::{note_fault, note_line, note_mux_fault};
-use bare_stream::encode_bare;
+use bare_stream::{bare_round_trip, bare_streams_are_read, encode_bare, images_are_bare_streams};
 use base_122::Setting;
+use camera_defs::picking_keeps;
 use camera_mux::{MuxFault, cameras_are_kept, mux_rows};
 use port_122::Port;
+use segment_code::texts_are_short;
 use std::alloc::{AllocError, Global};
+use stream_defs::heights_are_known;
 use strip_coder::{EncodeFault, Work, encode_rows};
+use strip_decoder::round_trip;
 
 fn fault_status(fault: EncodeFault) -> u8
     ensures { result ≡ fault_status fault }
@@ -42,11 +47,19 @@ fn mux_fault_status(fault: MuxFault) -> u8
     }
 }
 
+// The number of weights is ten, which is known once they are read.
+pub(crate) fn ten_weights(shifts: &[u8; 10])
+    ensures { length shifts.now ≡ 10 }
+{
+    let _first = shifts[0];
+}
+
 /// Runs the command `encode`, and returns the status. The memory is taken first, so if there is too little, nothing was read.
 pub fn encode<X: Port>(alloc: Global, setting: &Setting, port: &mut X) -> u8
     requires range { IsInRange setting.now }
     requires book { IsTrue (is_book_sound setting.now.book) }
-    ensures { Encodes setting.now (X.outside port.old) (X.outside port.new) result }
+    ensures runs { Encodes setting.now (X.outside port.old) (X.outside port.new) result }
+    ensures closed { result ≡ 0 → EncodedClosed setting.now (X.outside port.old) (X.outside port.new) }
 {
     let Ok(mut work) = Work::new(alloc, setting) else {
         note_line(port, "strip122: no memory\n");
@@ -58,9 +71,15 @@ pub fn encode<X: Port>(alloc: Global, setting: &Setting, port: &mut X) -> u8
 /// Encodes a raster with a work that was made for the setting, and returns the status.
 pub fn encode_raster<X: Port>(port: &mut X, setting: &Setting, work: &mut Work) -> u8
     requires range { IsInRange setting.now }
+    requires book { IsTrue (is_book_sound setting.now.book) }
     requires made { IsMadeFor setting.now work.old }
-    ensures { (encodes_raster setting.now).performs (X.outside port.old) (X.outside port.new) result }
+    ensures runs { (encodes_raster setting.now).performs (X.outside port.old) (X.outside port.new) result }
+    ensures closed { result ≡ 0 → EncodedClosed setting.now (X.outside port.old) (X.outside port.new) }
 {
+    texts_are_short();
+    heights_are_known();
+    round_trip();
+    ten_weights(&setting.weights.shifts);
     match encode_rows(port, setting, work) {
         Ok(_) => 0,
         Err(fault) => {
@@ -76,8 +95,13 @@ pub fn bare_encode<X: Port>(alloc: Global, setting: &Setting, port: &mut X) -> u
     requires height { IsWithin rows_range setting.now.rows }
     requires book { IsTrue (is_book_sound setting.now.book) }
     requires no_total { setting.now.total ≡ 0 }
-    ensures { EncodesBare setting.now (X.outside port.old) (X.outside port.new) result }
+    ensures runs { EncodesBare setting.now (X.outside port.old) (X.outside port.new) result }
+    ensures closed { result ≡ 0 → BareClosed setting.now (X.outside port.old) (X.outside port.new) }
 {
+    images_are_bare_streams();
+    bare_streams_are_read();
+    bare_round_trip();
+    ten_weights(&setting.weights.shifts);
     let Ok(mut work) = Work::new(alloc, setting) else {
         note_line(port, "strip122: no memory\n");
         return 6;
@@ -97,8 +121,14 @@ pub fn mux<X: Port>(alloc: Global, setting: &Setting, cameras: u8, port: &mut X)
     requires height { IsWithin rows_range setting.now.rows }
     requires cameras { AreCameras setting.now cameras }
     requires book { IsTrue (is_book_sound setting.now.book) }
-    ensures { Muxes (camera_settings setting.now cameras) (X.outside port.old) (X.outside port.new) result }
+    ensures runs { Muxes (camera_settings setting.now cameras) (X.outside port.old) (X.outside port.new) result }
+    ensures closed { result ≡ 0 → MuxClosed (camera_settings setting.now cameras) (X.outside port.old) (X.outside port.new) }
 {
+    picking_keeps();
+    texts_are_short();
+    heights_are_known();
+    round_trip();
+    ten_weights(&setting.weights.shifts);
     let Ok(settings) = settings_of(alloc, setting, cameras) else {
         note_line(port, "strip122: no memory\n");
         return 6;

@@ -1,5 +1,5 @@
 // Defines the entry point of the program.
-ghost use Rattle.std.specs.Prelude.{◌≡◌, ◌≤◌, ◌*◌, ◌⊎◌, ◌↔◌, length, Bool, IsTrue, Result, Ok, Err};
+ghost use Rattle.std.specs.Prelude.{◌≡◌, ◌≤◌, ◌*◌, ◌⊎◌, ◌↔◌, ℕ, length, Bool, IsTrue, Option, Result, Ok, Err};
 ghost use Rattle.plane_defs.specs.Codes.{is_book_sound};
 ghost use Rattle.port_122.specs.Outside.{Rose};
 ghost use Rattle.base_122.specs.Ranges.{IsInRange as IsSettingInRange, IsWithin, rows_range};
@@ -14,6 +14,9 @@ ghost use Rattle.base_122.specs.declared.wish.DecodeWish.{DecodeWish};
 ghost use Rattle.strip122.specs.Pictures.{GaveLook, GavePicture};
 ghost use Rattle.strip122.specs.BareStreams.{GaveBare};
 ghost use Rattle.strip122.specs.Books.{ByBook};
+ghost use Rattle.strip122.specs.Muxing.{camera_settings};
+ghost use Rattle.strip122.specs.Picks.{GavePicked};
+ghost use Rattle.strip122.specs.Closed.{BareClosed, ClosedBy, MuxClosed};
 ghost use Rattle.strip122.specs.Behaviours.{IsSteady, Completes};
 ghost use Rattle.strip122.specs.Run.{Refuses, Makes, Tries, Runs, behaviour};
 
@@ -82,7 +85,12 @@ fn trial<X: Port>(alloc: Global, setting: &Setting, seed: u32, port: &mut X) -> 
 // Runs one command.
 fn perform<X: Port>(alloc: Global, command: &Command, port: &mut X) -> u8
     requires { IsInRange command.now }
-    ensures { (behaviour command.now).performs (X.outside port.old) (X.outside port.new) result }
+    ensures performs { (behaviour command.now).performs (X.outside port.old) (X.outside port.new) result }
+    ensures closed { (setting : Setting) (has_book : Bool) → command.now ≡ Command.Encode setting has_book → result ≡ 0 →
+        ClosedBy has_book setting (X.outside port.old) (X.outside port.new) }
+    ensures mux_closed { (setting : Setting) (cameras : ℕ) → command.now ≡ Command.Mux setting cameras → result ≡ 0 →
+        MuxClosed (camera_settings setting cameras) (X.outside port.old) (X.outside port.new) }
+    ensures bare_closed { (setting : Setting) → command.now ≡ Command.BareEncode setting → result ≡ 0 → BareClosed setting (X.outside port.old) (X.outside port.new) }
 {
     match command {
         Command::Encode(setting, false) => encode(alloc, setting, port),
@@ -135,6 +143,20 @@ pub fn run<X: Port>(alloc: Global, words: &[String], port: &mut X) -> u8
     // A look at all packets of an image has the coefficients of its lowest subband.
     ensures look { (wish : DecodeWish) (has_book : Bool) → Says (texts words.now) (Ok (Command.Read Reading.Look wish has_book)) → (result ≡ 0) ⊎ (result ≡ 1) →
         ByBook has_book wish GaveLook (X.outside port.old) (X.outside port.new) }
+
+    // The packets of an image that are picked are read as those packets of the stream are, and all packets of an APID as the stream is.
+    ensures picks { (wish : DecodeWish) (image : Option ℕ) → Says (texts words.now) (Ok (Command.Pick wish image)) → (result ≡ 0) ⊎ (result ≡ 1) →
+        GavePicked wish image (X.outside port.old) (X.outside port.new) }
+
+    // What was given for a raster of which nothing is omitted gives the raster back: `decode` of the packets, also of those of several
+    // cameras, and `bare-decode` of the bare stream, with the same book and caps that admit the image, end with status 0 and give exactly its
+    // octets, unless memory is missing or a call fails.
+    ensures closed { (setting : Setting) (has_book : Bool) → Says (texts words.now) (Ok (Command.Encode setting has_book)) → result ≡ 0 →
+        ClosedBy has_book setting (X.outside port.old) (X.outside port.new) }
+    ensures mux_closed { (setting : Setting) (cameras : ℕ) → Says (texts words.now) (Ok (Command.Mux setting cameras)) → result ≡ 0 →
+        MuxClosed (camera_settings setting cameras) (X.outside port.old) (X.outside port.new) }
+    ensures bare_closed { (setting : Setting) → Says (texts words.now) (Ok (Command.BareEncode setting)) → result ≡ 0 →
+        BareClosed setting (X.outside port.old) (X.outside port.new) }
 
     // The picture of an image's bare stream is the image.
     ensures bare_picture { (wish : DecodeWish) → Says (texts words.now) (Ok (Command.BareDecode wish)) → result ≡ 0 →

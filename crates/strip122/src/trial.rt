@@ -13,6 +13,7 @@ ghost use Rattle.strip_coder.specs.Rasters.{image_of};
 ghost use Rattle.strip122.specs.MadeRasters.{made_raster};
 ghost use Rattle.strip122.specs.Trials.{made_with, raster_length, equal_places, trial_line, HasDecoded, AreEqualIn, IsTried};
 
+use crate::encoders::ten_weights;
 use crate::make::write_made;
 use crate::notes::NoteLine;
 use arrayvec::ArrayString;
@@ -91,13 +92,6 @@ fn count_decoded(
     let mut port = port_with(alloc, packets)?;
     decode(alloc, setting, &mut port)?;
     Ok(count_equal(setting, raster, port.given()))
-}
-
-// The number of weights is ten, which is known once they are read.
-fn ten_weights(shifts: &[u8; 10])
-    ensures { length shifts.now ≡ 10 }
-{
-    let _first = shifts[0];
 }
 
 // Returns the made image of a setting.

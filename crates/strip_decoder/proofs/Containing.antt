@@ -13,7 +13,7 @@ use Rattle.wave_defs.specs.Blocks.{place_of}
 use Rattle.wave_defs.specs.Reach.{reaches, Reaches, SameBlock, SameReceived}
 use Rattle.wave_defs.proofs.ReachLaws.{rows-reach}
 use Rattle.stream_defs.specs.Begun.{band_rows, block_rows, height}
-use Rattle.stream_defs.specs.Damage.{is_missing, whole_missing, is_damaged, damage, whole_damage, is_covered, missing_below}
+use Rattle.stream_defs.specs.Damage.{is_missing, whole_missing, is_damaged, damage, whole_damage, is_covered}
 use Rattle.stream_defs.specs.Picture.{number_at, picture, picture_octets, picture_with, whole_octets, whole_picture, whole_with, picture_of}
 use Rattle.stream_defs.proofs.OpenContaining.{contained_open, any_chosen}
 use Rattle.stream_defs.proofs.PlacedLaws.{is_open, is_not_open, within_not}

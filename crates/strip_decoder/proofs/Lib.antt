@@ -4,3 +4,4 @@ pub mod PictureWalks
 pub mod Containing
 pub mod DecodedSublists
 pub mod RoundTrips
+pub mod RasterAgain

@@ -1,11 +1,13 @@
-use Rattle.std.proofs.Common.{◌≡◌, ◌%◌, sym, ap, subst, ◌∙◌, arith, None, true}
+use Rattle.std.proofs.Common.{◌≡◌, ◌+◌, ◌%◌, length, sym, ap, subst, ◌∙◌, arith, None, true}
 use Rattle.std.proofs.lemmas.Grind.{common_steps}
+use Rattle.packet_defs.specs.declared.packet.PacketHead.{PacketHead}
 use Rattle.packet_defs.specs.Reading.{apid_in, skip_of}
 use Rattle.packet_defs.specs.Streams.{first_packet}
 use Rattle.packet_defs.proofs.Fronts.{begins_so, first_is_packet}
 use Rattle.space_packets.specs.Intake.{answered}
 use Rattle.space_packets.proofs.Verdicts.{mine_read}
 use Rattle.image_info.specs.Images.{is_wanted}
+use Rattle.image_info.specs.Tables.{CanCount}
 use Rattle.image_info.proofs.PacketReads.{apid_so, packet_long, no_fault, other_skip, skipped_passes, image_passes, image_said, text_so, length_told}
 use Rattle.image_info.proofs.passing.pass_packet.Goals as goal
 
@@ -19,7 +21,12 @@ pub returns-in_default-read : goal.returns-in_default-read
 returns-in_default-read c = grind (arith, common_steps, apid_so, other_skip, skipped_passes)
 
 pub pass_image-requires-clause-room : goal.pass_image-requires-clause-room
-pass_image-requires-clause-room c = grind (arith, common_steps, mine_read, length_told, first_is_packet, begins_so)
+pass_image-requires-clause-room c =
+    let u = c.args.reader.now in
+    let packet = first_packet u.pending in
+    let mine = mine_read (c.read_u16.result % 2048) u c.in-Mine.head c.in-Mine.ancillary (rw (c.in-Ok.is, c.in-Mine.is) at c.answer.ensures.answer) in
+    let size : length packet ≡ 6 + c.in-Mine.head.length = length_told packet (first_is_packet (begins_so u.pending c.requires.whole)) ∙ ap (λ (h : PacketHead). 6 + h.length) (sym mine.head_is) in
+    subst (CanCount c.args.table.now.entries.items) size c.requires.room
 
 pub returns-clause-passed : goal.returns-clause-passed
 returns-clause-passed c =

@@ -1,6 +1,9 @@
-use Rattle.std.proofs.Common.{◌≡◌, ◌≤◌, ◌<◌, ℕ, length}
-use Rattle.image_info.specs.Tables.{entry_at}
+use Rattle.std.proofs.Common.{length}
 use Rattle.image_info.proofs.table.Table.place_of.Given as goal
+use Rattle.image_info.proofs.ChainLaws.{IsAhead, left_of}
 
 abbrev pub invariant-loop-place : goal.invariant-loop-place
-invariant-loop-place l = (k : ℕ) → l.place ≤ k → k < length l.self.entries.items → (entry_at l.self.entries.items k).id ≡ l.id → ⊥
+invariant-loop-place l = IsAhead l.self.entries.items l.id l.place
+
+abbrev pub decreases-loop-place : goal.decreases-loop-place
+decreases-loop-place l = left_of (length l.self.entries.items) l.place

@@ -1,0 +1,72 @@
+-- A raster whose bare stream is decoded.
+use Rattle.std.proofs.Common.{◌≡◌, ◌<◌, ◌∙◌, ℕ, true, List, [], length, All, sym, ap, subst, inl, inr, Some}
+use Rattle.port_122.specs.Outside.{Outside, Exchange}
+use Rattle.port_122.proofs.Told.{end_told}
+use Rattle.base_122.specs.declared.geometry.Geometry.{Geometry}
+use Rattle.base_122.specs.declared.setting.Setting.{Setting}
+use Rattle.base_122.specs.declared.wish.DecodeWish.{DecodeWish}
+use Rattle.strip_decoder.proofs.RasterAgain.{raster-again}
+use Rattle.strip_coder.specs.Answers.{TookRaster}
+use Rattle.strip_coder.specs.Rasters.{image_of}
+use Rattle.segment_walk.specs.Images.{SendsAll}
+use Rattle.bare_stream.specs.Bare.{bare}
+use Rattle.bare_stream.specs.BareStream.{BareStream}
+use Rattle.bare_stream.specs.Decoded.{AsksRead}
+use Rattle.bare_stream.specs.Images.{IsBareImage, ImagesAreBareStreams, bare_geometry, image_segments}
+use Rattle.bare_stream.specs.Rasters.{IsBare}
+use Rattle.bare_stream.specs.RoundTrip.{BareRoundTrip, StreamsAreRead}
+use Rattle.bare_stream.specs.SegmentsRead.{all_rows}
+use Rattle.plane_defs.specs.Codes.{is_book_sound}
+use Rattle.strip122.specs.BareStreams.{DecodesStream, DecodedBare, IsStreamOf, EncodedBare, decodes_bare}
+use Rattle.strip122.specs.Behaviours.{IsSteady, Completes}
+use Rattle.strip122.specs.Closed.{AdmitsBare, GivesBareRaster, BareClosed}
+use Rattle.strip122.proofs.BareRuns.{bare_decode_law}
+use Rattle.strip122.proofs.Behaviours.{completes}
+use Rattle.strip122.proofs.TrialsDone.{raster_pixels}
+
+module _ (streams : StreamsAreRead) (images : ImagesAreBareStreams) (trip : BareRoundTrip) (s : Setting) (raster : List ℕ) (image : IsBareImage s (image_of s raster)) where
+  abbrev stream : List ℕ
+  stream = bare s (image_of s raster)
+
+  module _ (wish : DecodeWish) (old new : Outside) (admits : AdmitsBare wish s (length stream)) (told : old.rest ≡ Some stream) where
+    has : (decodes_bare wish).right old
+    has =
+        let says = images.says s (image_of s raster) image in
+        let found : BareStream wish.book stream (bare_geometry s) says.0 = subst (λ book. BareStream book stream (bare_geometry s) says.0) (sym admits.book) says.1.stream in
+        (stream, told, bare_geometry s, record { blocks = says.0; stream = found; caps = record { few = admits.pixels; short = admits.octets } })
+
+    -- the picture of a stream that was taken whole
+    shown : (all : SendsAll s) (g : Geometry) (is : IsStreamOf wish stream g) → all_rows g is.blocks ≡ all_rows (bare_geometry s) (image_segments s (image_of s raster))
+    shown all g is =
+        let found : BareStream s.book stream g is.blocks = subst (λ book. BareStream book stream g is.blocks) admits.book is.stream in
+        let only = images.only s (image_of s raster) g is.blocks image found in
+        ap (λ h. all_rows h is.blocks) only.0 ∙ ap (all_rows (bare_geometry s)) (only.1.exact all)
+
+    module _ (all : SendsAll s) (octets : All (λ octet. octet < 256) raster) (whole : TookRaster s s.rows raster) where
+      by_whole : (w : DecodedBare wish old new) → Exchange old new stream raster [] (AsksRead w.read raster)
+      by_whole w =
+          let took : w.took ≡ stream = end_told stream w.since told w.ended in
+          let picture = subst (λ t. (is : IsStreamOf wish t w.g) × (w.gave ≡ all_rows w.g is.blocks)) took (w.picture stream told) in
+          let gave : w.gave ≡ raster = picture.1 ∙ shown all w.g picture.0 ∙ trip.picture s (image_of s raster) image ∙ raster-again s.depth s.signed s.rows s.width raster octets whole.whole in
+          subst (λ g. Exchange old new stream g [] (AsksRead w.read g)) gave (subst (λ t. Exchange old new t w.gave [] (AsksRead w.read w.gave)) took w.since)
+
+      ends : (status : ℕ) → Completes (decodes_bare wish) old new status → GivesBareRaster wish raster stream old new status
+      ends status (inl w) = inl (w.0, w.1.read, by_whole w.1)
+      ends status (inr (inl p)) = absurd p.1
+      ends status (inr (inr n)) = inr n
+
+      comes : (status : ℕ) → IsSteady old new → DecodesStream wish old new status → GivesBareRaster wish raster stream old new status
+      comes status steady run =
+          let law = bare_decode_law streams wish in
+          ends status (completes (decodes_bare wish) old new status (law.ends old new status run) (law.right old new has) steady)
+
+pub bare_closed : StreamsAreRead → ImagesAreBareStreams → BareRoundTrip → (s : Setting) (old new : Outside) → IsBare s → is_book_sound s.book ≡ true → length s.weights.shifts ≡ 10 →
+    EncodedBare s old new → BareClosed s old new
+bare_closed streams images trip s old new range sound ten e =
+    let image : IsBareImage s (image_of s e.took) = record { setting = range; sound = sound; weights = ten; pixels = raster_pixels s s.rows e.took range.in_range e.raster } in
+    record {
+      encoded = e;
+      closed = λ all octets. record {
+        back = λ wish old new status admits told steady run. comes streams images trip s e.took image wish old new admits told all octets e.raster status steady run;
+      };
+    }
