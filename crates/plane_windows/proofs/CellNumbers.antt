@@ -29,7 +29,8 @@ pub ac_size : (cells : List ℤ) (r k : ℕ) → 1 ≤ k → unsigned_abs (numbe
 ac_size cells r k first = ap unsigned_abs (ac_number cells r k first) ∙ abs_signed (bit (mask_in cells r minus_slot) k) (size_in (mask_in cells r) k)
 
 -- the magnitude of a number of a block
-pub block_size : (cells : List ℤ) (r k : ℕ) → length cells % 64 ≡ 0 → 64 * r < length cells → IsAc k → magnitude (block_at (numbers_in cells) r) k ≡ size_in (mask_in cells r) k
+pub block_size : (cells : List ℤ) (r k : ℕ) → length cells % 64 ≡ 0 → 64 * r < length cells → IsAc k → magnitude (block_at (numbers_in cells) r) k ≡ size_in
+    (mask_in cells r) k
 block_size cells r k whole known ac = ap unsigned_abs (block_number cells r k whole known ac.1) ∙ ac_size cells r k ac.0
 
 -- ---- a plane's mask that gets bits
@@ -57,24 +58,33 @@ missing n plane = grind (arith, nat_tests)
 size_set : (n plane : ℕ) → bit_or n (2 ^ plane) ≡ n + (if not (bit n plane) then 2 ^ plane else 0)
 size_set n plane = omega (arith, or_add_and n (2 ^ plane), and_pow n plane, missing n plane)
 
-module _ (old new : List ℤ) (r plane k : ℕ) (low : plane < 27) (others : (p : ℕ) → p < 27 → (p ≡ plane → ⊥) → bit (mask_in new r p) k ≡ bit (mask_in old r p) k) where
+module _ (old new : List ℤ) (r plane k : ℕ) (low : plane < 27) (others : (p : ℕ) → p < 27 → (p ≡ plane → ⊥) → bit (mask_in new r p) k ≡ bit (mask_in
+    old r p) k) where
   -- the number has the plane's bit
-  pub size_given : bit (mask_in new r plane) k ≡ true → size_in (mask_in new r) k ≡ size_in (mask_in old r) k + (if not (bit (size_in (mask_in old r) k) plane) then 2 ^ plane else 0)
-  size_given has = sym (same_from_bits (bit_or (size_in (mask_in old r) k) (2 ^ plane)) (size_in (mask_in new r) k) each) ∙ size_set (size_in (mask_in old r) k) plane
+  pub size_given : bit (mask_in new r plane) k ≡ true → size_in (mask_in new r) k ≡ size_in (mask_in old r) k + (if not (bit (size_in (mask_in
+      old r) k) plane) then 2 ^ plane else 0)
+  size_given has = sym (same_from_bits (bit_or (size_in (mask_in old r) k) (2 ^ plane)) (size_in (mask_in new r) k) each) ∙ size_set (size_in (mask_in
+      old r) k) plane
     where
       each : (i : ℕ) → bit_at (bit_or (size_in (mask_in old r) k) (2 ^ plane)) i ≡ bit_at (size_in (mask_in new r) k) i
       each i = elim (cases_lt i 27) [
         | inl lt ↦ elim (cases_eq i plane) [
           | inl e ↦
               subst (λ j. bit_at (bit_or (size_in (mask_in old r) k) (2 ^ plane)) j ≡ bit_at (size_in (mask_in new r) k) j) (sym e)
-              (bit_at_or (size_in (mask_in old r) k) (2 ^ plane) plane ∙ ap (max (bit_at (size_in (mask_in old r) k) plane)) (bit_at-pow_same plane) ∙ max_one (bit_at (size_in (mask_in old r) k) plane) (bit_at-lt (size_in (mask_in old r) k) plane) ∙ sym (bit_there (size_in (mask_in new r) k) plane (size_bit (mask_in new r) k plane low ∙ has)))
+              (bit_at_or (size_in (mask_in old r) k) (2 ^ plane) plane ∙ ap (max (bit_at (size_in (mask_in old r) k) plane)) (bit_at-pow_same plane) ∙
+              max_one (bit_at (size_in (mask_in old r) k) plane) (bit_at-lt (size_in (mask_in old r) k) plane) ∙ sym (bit_there (size_in (mask_in
+              new r) k) plane (size_bit (mask_in new r) k plane low ∙ has)))
           | inr apart ↦
-              bit_at_or (size_in (mask_in old r) k) (2 ^ plane) i ∙ ap (max (bit_at (size_in (mask_in old r) k) i)) (bit_at-pow_other plane i apart) ∙ max_none (bit_at (size_in (mask_in old r) k) i) ∙
-              bits_alike (size_in (mask_in old r) k) (size_in (mask_in new r) k) i (size_bit (mask_in old r) k i lt ∙ sym (others i lt apart) ∙ sym (size_bit (mask_in new r) k i lt))
+              bit_at_or (size_in (mask_in old r) k) (2 ^ plane) i ∙ ap (max (bit_at (size_in (mask_in old r) k) i)) (bit_at-pow_other plane i apart) ∙
+              max_none (bit_at (size_in (mask_in old r) k) i) ∙
+              bits_alike (size_in (mask_in old r) k) (size_in (mask_in new r) k) i (size_bit (mask_in old r) k i lt ∙ sym (others i lt apart) ∙
+              sym (size_bit (mask_in new r) k i lt))
         ]
         | inr past ↦
-            bit_at_or (size_in (mask_in old r) k) (2 ^ plane) i ∙ ap (max (bit_at (size_in (mask_in old r) k) i)) (bit_at-pow_other plane i (λ e. omega (arith, e, low, past))) ∙ max_none (bit_at (size_in (mask_in old r) k) i) ∙
-            bit_at_above (size_in (mask_in old r) k) 27 i (size_small (mask_in old r) k) past ∙ sym (bit_at_above (size_in (mask_in new r) k) 27 i (size_small (mask_in new r) k) past)
+            bit_at_or (size_in (mask_in old r) k) (2 ^ plane) i ∙ ap (max (bit_at (size_in (mask_in old r) k) i)) (bit_at-pow_other plane i (λ e. omega
+            (arith, e, low, past))) ∙ max_none (bit_at (size_in (mask_in old r) k) i) ∙
+            bit_at_above (size_in (mask_in old r) k) 27 i (size_small (mask_in old r) k) past ∙ sym (bit_at_above (size_in (mask_in
+            new r) k) 27 i (size_small (mask_in new r) k) past)
       ]
 
   -- the number keeps its bits

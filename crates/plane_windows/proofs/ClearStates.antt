@@ -20,8 +20,10 @@ zero_is_clear : IsClear (pos 0)
 unfolding options_in sent_in families_in
 zero_is_clear = record { options = refl; sent = refl; families = refl }
 
-pub clears_more : (marks : List ℤ) (n : ℕ) (m : ℤ) → n < length marks → depth_of m ≡ depth_of (get_or marks n (pos 0)) → options_in m ≡ 0 ∷ 0 ∷ 0 ∷ [] → sent_in m ≡ false ∷ false ∷ false ∷ [] → families_in m ≡ 0 →
-    ((r : ℕ) → r < n → IsClear (get_or marks r (pos 0))) → (depths_of (set marks n m) ≡ depths_of marks) × ((r : ℕ) → r < n + 1 → IsClear (get_or (set marks n m) r (pos 0)))
+pub clears_more : (marks : List ℤ) (n : ℕ) (m : ℤ) → n < length marks → depth_of m ≡ depth_of (get_or marks n (pos 0)) → options_in m ≡ 0 ∷ 0 ∷ 0 ∷ [] →
+    sent_in m ≡ false ∷ false ∷ false ∷ [] → families_in m ≡ 0 →
+    ((r : ℕ) → r < n → IsClear (get_or marks r (pos 0))) → (depths_of (set marks n m) ≡ depths_of marks) × ((r : ℕ) → r < n + 1 →
+    IsClear (get_or (set marks n m) r (pos 0)))
 unfolding depths_of
 clears_more marks n m within depth options sent families clear = (map-set_same depth_of marks n m (pos 0) depth, below)
   where
@@ -36,7 +38,8 @@ clears_more marks n m within depth options sent families clear = (map-set_same d
           subst (λ i. IsClear (get_or (set marks n m) i (pos 0))) (sym e) (subst IsClear (sym (get_or-set_same marks n m (pos 0) within)) here)
     ]
 
-pub clears_all : (old new : List ℤ) (n : ℕ) → length new ≤ n → depths_of new ≡ depths_of old → ((r : ℕ) → r < n → IsClear (get_or new r (pos 0))) → Clears old new
+pub clears_all : (old new : List ℤ) (n : ℕ) → length new ≤ n → depths_of new ≡ depths_of old → ((r : ℕ) → r < n → IsClear (get_or new r (pos 0))) →
+    Clears old new
 clears_all old new n all depths clear = record {
   depths = depths;
   options = λ r. (each r).options;
@@ -53,7 +56,14 @@ clears_all old new n all depths clear = record {
 -- ---- what they say
 
 pub known_clear : {old new : List ℤ} → Clears old new → AreKnown new
-known_clear clears = record { at = λ g lt. subst AreOptions (sym (clears.options (16 * g))) (record { two = omega arith; three = omega arith; four = omega arith }) }
+known_clear clears = record {
+  at = λ g lt. subst AreOptions (sym (clears.options (16 * g))) (record {
+    two = omega arith;
+    three = omega arith;
+    four =
+        omega arith;
+  });
+}
 
 none_sent : (k : ℕ) → get_or (false ∷ false ∷ false ∷ []) k false ≡ false
 none_sent zero = refl

@@ -36,7 +36,8 @@ use Rattle.plane_windows.proofs.PlaneStates.{has_put, dcs_put, families_put, opt
 fits_cast : (n : ℕ) → n < 2 ^ 32 → SFits w32 (cast_signed w32 n)
 fits_cast n small = omega (arith, ints)
 
-pub dc_adds : {plane r mask : ℕ} {old new : List ℤ} → plane < 27 → PutsMask r dc_slot mask old new → mask ≡ (mask_in old r dc_slot % 2 ^ 32 + 1 * 2 ^ plane % 4294967296) % 4294967296 → AddsDc plane r old new
+pub dc_adds : {plane r mask : ℕ} {old new : List ℤ} → plane < 27 → PutsMask r dc_slot mask old new → mask ≡ (mask_in
+    old r dc_slot % 2 ^ 32 + 1 * 2 ^ plane % 4294967296) % 4294967296 → AddsDc plane r old new
 dc_adds {plane} {r} {mask} {old} {new} low put is = record {
   long = put.long;
   dc = λ cleared.
@@ -78,14 +79,16 @@ has_bit {s = s} b has = record {
   minus = has.minus;
 }
 
-pub has_others : {plane r : ℕ} {old new : List ℤ} {block : List ℤ} {s : State} → plane < 27 → KeepOthers old new → 64 * r < length old → HasRead plane r old block s → HasRead plane r new block s
+pub has_others : {plane r : ℕ} {old new : List ℤ} {block : List ℤ} {s : State} → plane < 27 → KeepOthers old new → 64 * r < length old →
+    HasRead plane r old block s → HasRead plane r new block s
 has_others {plane} {r} low keeps inside has = record {
   bits = λ q ac. ap (λ m. bit m q) (keeps.slots r plane inside (omega (arith, low)) (λ e. omega (arith, e, low))) ∙ has.bits q ac;
   minus = λ q ac. ap (λ m. bit m q) (keeps.slots r minus_slot inside (omega arith) (λ e. omega (arith, e))) ∙ has.minus q ac;
 }
 
 -- the bits of the blocks before the j-th were read, and m more are left
-pub record DcsLeft {I : Type 0} (k : SourceOf I) (plane j m : ℕ) (numbers : List (List ℤ)) (marks : List ℤ) (all : Script PlaneState PlaneState) (cells : List ℤ) (old now : Point I) : Type 0 where
+pub record DcsLeft {I : Type 0} (k : SourceOf I) (plane j m : ℕ) (numbers : List (List ℤ)) (marks : List ℤ) (all : Script PlaneState PlaneState)
+    (cells : List ℤ) (old now : Point I) : Type 0 where
   pub state : PlaneState
   pub later : (r : ℕ) → j ≤ r → (state.blocks r).bits 0 ≡ false
   pub have : HaveRead plane cells marks numbers state
@@ -98,10 +101,12 @@ module _ {I : Type 0} {k : SourceOf I} {plane : ℕ} {numbers : List (List ℤ)}
     state = nothing_yet;
     later = λ r le. refl;
     have = have;
-    left = subst (λ m. LeadsTo k (in_turn (dc_item true) 0 count nothing_yet) (in_turn (dc_item true) 0 m nothing_yet) x x) (sym e) (leads_start (in_turn (dc_item true) 0 count nothing_yet) i);
+    left = subst (λ m. LeadsTo k (in_turn (dc_item true) 0 count nothing_yet) (in_turn (dc_item true) 0 m nothing_yet) x x) (sym e) (leads_start (in_turn
+        (dc_item true) 0 count nothing_yet) i);
   }
 
-  pub dcs_done : {j m : ℕ} {all : Script PlaneState PlaneState} {cells : List ℤ} {x y : Point I} → m ≡ 0 → DcsLeft k plane j m numbers marks all cells x y → HeldDcs k plane numbers all (Ok Whole) cells marks x y
+  pub dcs_done : {j m : ℕ} {all : Script PlaneState PlaneState} {cells : List ℤ} {x y : Point I} → m ≡ 0 → DcsLeft k plane j m numbers marks all cells x y →
+      HeldDcs k plane numbers all (Ok Whole) cells marks x y
   dcs_done {j} {all = all} {x = x} {y} none l = record {
     now = l.state;
     has = l.have.has;
@@ -111,7 +116,8 @@ module _ {I : Type 0} {k : SourceOf I} {plane : ℕ} {numbers : List (List ℤ)}
     read = reads_done all l.state (subst (λ n. LeadsTo k all (in_turn (dc_item true) j n l.state) x y) none l.left);
   }
 
-  module _ {j n m : ℕ} {all : Script PlaneState PlaneState} {cells : List ℤ} {x y : Point I} (more : n ≡ suc m) (inside : 64 * j < length cells) (l : DcsLeft k plane j n numbers marks all cells x y) where
+  module _ {j n m : ℕ} {all : Script PlaneState PlaneState} {cells : List ℤ} {x y : Point I} (more : n ≡ suc m) (inside : 64 * j < length cells)
+      (l : DcsLeft k plane j n numbers marks all cells x y) where
     here : Script PlaneState PlaneState
     here = dc_item true j l.state
 
@@ -137,8 +143,17 @@ module _ {I : Type 0} {k : SourceOf I} {plane : ℕ} {numbers : List (List ℤ)}
         let u = of_block l.state j in
         let end = with_block l.state j u in
         let none : Result (Option (Unit {0})) TextFault = Ok None in
-        let read : ReadsFrom k here (ends end) y z = reads_around (with_block l.state j) (bit_script 0 u) none u (reads_cut (ask_bit u (λ b. done b)) after_bit u (flag.read u)) in
-        record { now = end; has = same.has; dcs = same.dcs; families = same.families; options = same.options; read = reads_later all (then_ask here rest) (ends end) left_is (reads_cut here rest end read) }
+        let read : ReadsFrom k here (ends end) y z = reads_around (with_block l.state j) (bit_script 0 u) none u (reads_cut (ask_bit u
+        (λ b. done b)) after_bit u (flag.read u)) in
+        record {
+          now = end;
+          has = same.has;
+          dcs = same.dcs;
+          families = same.families;
+          options = same.options;
+          read =
+              reads_later all (then_ask here rest) (ends end) left_is (reads_cut here rest end read);
+        }
 
     pub dcs_fault : {z : Point I} (fault : TextFault) → HeldFlag k (Err fault) y z → HeldDcs k plane numbers all (Err fault) cells marks x z
     unfolding here rest after_bit
@@ -146,11 +161,21 @@ module _ {I : Type 0} {k : SourceOf I} {plane : ℕ} {numbers : List (List ℤ)}
         let u = of_block l.state j in
         let end = with_block l.state j u in
         let failed : Result (Option (Unit {0})) TextFault = Err fault in
-        let read : ReadsFrom k here (by_fault fault end) y z = reads_around (with_block l.state j) (bit_script 0 u) failed u (reads_fault (ask_bit u (λ b. done b)) after_bit u fault (flag.read u)) in
-        record { now = end; has = same.has; dcs = same.dcs; families = same.families; options = same.options; read = reads_later all (then_ask here rest) (by_fault fault end) left_is (reads_fault here rest end fault read) }
+        let read : ReadsFrom k here (by_fault fault end) y z = reads_around (with_block l.state j) (bit_script 0 u) failed u (reads_fault (ask_bit u
+        (λ b. done b)) after_bit u fault (flag.read u)) in
+        record {
+          now = end;
+          has = same.has;
+          dcs = same.dcs;
+          families = same.families;
+          options = same.options;
+          read =
+              reads_later all (then_ask here rest) (by_fault fault end) left_is (reads_fault here rest end fault read);
+        }
 
     -- the bit is b, and the DC has it
-    module _ (low : plane < 27) {cells' : List ℤ} (b : Bool) (keeps : KeepOthers cells cells') (dc : dc_in cells' j ≡ dc_in cells j +ℤ pos (if b then 2 ^ plane else 0))
+    module _ (low : plane < 27) {cells' : List ℤ} (b : Bool) (keeps : KeepOthers cells cells') (dc : dc_in cells' j ≡ dc_in
+        cells j +ℤ pos (if b then 2 ^ plane else 0))
         (others : (r : ℕ) → 64 * r < length cells → (r ≡ j → ⊥) → dc_in cells' r ≡ dc_in cells r) where
       end : PlaneState
       end = with_block l.state j (read_bit (of_block l.state j) b)
@@ -166,13 +191,17 @@ module _ {I : Type 0} {k : SourceOf I} {plane : ℕ} {numbers : List (List ℤ)}
       dc_now =
           let none = l.later j (omega arith) in
           let before : dc_in cells j ≡ number = l.have.dcs j inside ∙ ap (λ y. number +ℤ pos (if y then 2 ^ plane else 0)) none ∙ plus_none number in
-          dc ∙ ap (λ z. z +ℤ pos (if b then 2 ^ plane else 0)) before ∙ sym (ap (λ y. number +ℤ pos (if y || (false || (true && b)) then 2 ^ plane else 0)) none)
+          dc ∙ ap (λ z. z +ℤ pos (if b then 2 ^ plane else 0)) before ∙ sym (ap (λ y. number +ℤ pos (if y || (false ||
+          (true && b)) then 2 ^ plane else 0)) none)
 
       have_end : HaveRead plane cells' marks numbers end
       unfolding end number
       have_end = record {
-        has = has_put l.state j (read_bit (of_block l.state j) b) numbers (has_bit b (let was = l.have.has j inside in let u = has_others low keeps inside was in record { bits = u.bits; minus = u.minus })) (λ i apart lt. has_others low keeps (there i lt) (l.have.has i (there i lt)));
-        dcs = dcs_put l.state j (read_bit (of_block l.state j) b) plane cells' numbers dc_now (λ i apart lt. others i (there i lt) apart ∙ l.have.dcs i (there i lt));
+        has = has_put l.state j (read_bit (of_block l.state j) b) numbers (has_bit b (let was = l.have.has j inside in let u =
+            has_others low keeps inside was in record { bits = u.bits; minus = u.minus })) (λ i apart lt. has_others low keeps (there i lt) (l.have.has i
+            (there i lt)));
+        dcs = dcs_put l.state j (read_bit (of_block l.state j) b) plane cells' numbers dc_now (λ i apart lt. others i (there i lt) apart ∙
+            l.have.dcs i (there i lt));
         families = families_put l.state j (read_bit (of_block l.state j) b) marks refl l.have.families;
         options = options_put l.state j (read_bit (of_block l.state j) b) marks refl l.have.options;
       }
@@ -181,7 +210,8 @@ module _ {I : Type 0} {k : SourceOf I} {plane : ℕ} {numbers : List (List ℤ)}
       unfolding here rest after_bit end
       dcs_more {z} i flag =
           let u = of_block l.state j in
-          let read : ReadsFrom k (bit_script 0 u) (got (read_bit u b)) y z = reads_then (ask_bit u (λ b. done b)) after_bit b (got (read_bit u b)) (flag.read u) (reads_done (after_bit b) (read_bit u b) (leads_start (after_bit b) i)) in
+          let read : ReadsFrom k (bit_script 0 u) (got (read_bit u b)) y z = reads_then (ask_bit u (λ b. done b)) after_bit b (got (read_bit u b))
+          (flag.read u) (reads_done (after_bit b) (read_bit u b) (leads_start (after_bit b) i)) in
           let all_read : Result (Option (Unit {0})) TextFault = Ok (Some tt) in
           let put : ReadsFrom k here (got end) y z = reads_around (with_block l.state j) (bit_script 0 u) all_read (read_bit u b) read in
           let next : suc j ≡ j + 1 = omega arith in
@@ -191,7 +221,8 @@ module _ {I : Type 0} {k : SourceOf I} {plane : ℕ} {numbers : List (List ℤ)}
                 let off : (r == j) ≡ false = grind (arith, nat_tests) in
                 ap (λ t. (if t then read_bit u b else l.state.blocks r).bits 0) off ∙ l.later r (omega (arith, le));
             have = have_end;
-            left = subst (λ a. LeadsTo k all (in_turn (dc_item true) a m end) x z) next (leads_then all (then_ask here rest) (rest end) left_is (leads_got here rest end put));
+            left = subst (λ a. LeadsTo k all (in_turn (dc_item true) a m end) x z) next (leads_then all (then_ask here rest) (rest end) left_is
+                (leads_got here rest end put));
           }
 
 -- ---- a DC with its bit or without
@@ -199,15 +230,19 @@ module _ {I : Type 0} {k : SourceOf I} {plane : ℕ} {numbers : List (List ℤ)}
 pub dc_unchanged : (cells : List ℤ) (plane j : ℕ) (b : Bool) → b ≡ false → dc_in cells j ≡ dc_in cells j +ℤ pos (if b then 2 ^ plane else 0)
 dc_unchanged cells plane j b off = sym (ap (λ y. dc_in cells j +ℤ pos (if y then 2 ^ plane else 0)) off ∙ plus_none (dc_in cells j))
 
-pub dc_changed : {plane j : ℕ} {old new : List ℤ} (b : Bool) → b ≡ true → AddsDc plane j old new → HasNoneBelow (plane + 1) (dc_in old j) → dc_in new j ≡ dc_in old j +ℤ pos (if b then 2 ^ plane else 0)
+pub dc_changed : {plane j : ℕ} {old new : List ℤ} (b : Bool) → b ≡ true → AddsDc plane j old new → HasNoneBelow (plane + 1) (dc_in old j) → dc_in
+    new j ≡ dc_in old j +ℤ pos (if b then 2 ^ plane else 0)
 dc_changed {plane} {j} {old} b on adds cleared = adds.dc cleared ∙ sym (ap (λ y. dc_in old j +ℤ pos (if y then 2 ^ plane else 0)) on)
 
 -- before its bit the DC is the number's
-pub dc_before : {I : Type 0} {k : SourceOf I} {plane j m : ℕ} {numbers : List (List ℤ)} {marks cells : List ℤ} {all : Script PlaneState PlaneState} {x y : Point I} → 64 * j < length cells → DcsLeft k plane j m numbers marks all cells x y →
+pub dc_before : {I : Type 0} {k : SourceOf I} {plane j m : ℕ} {numbers : List
+    (List ℤ)} {marks cells : List ℤ} {all : Script PlaneState PlaneState} {x y : Point I} → 64 * j < length cells →
+    DcsLeft k plane j m numbers marks all cells x y →
     HasNoneBelow (plane + 1) (get_or (get_or numbers j []) 0 (pos 0)) → HasNoneBelow (plane + 1) (dc_in cells j)
 dc_before {plane = plane} {j} {numbers = numbers} {cells = cells} inside l h =
     let number = get_or (get_or numbers j []) 0 (pos 0) in
-    let same : dc_in cells j ≡ number = l.have.dcs j inside ∙ ap (λ y. number +ℤ pos (if y then 2 ^ plane else 0)) (l.later j (omega arith)) ∙ plus_none number in
+    let same : dc_in cells j ≡ number = l.have.dcs j inside ∙ ap (λ y. number +ℤ pos (if y then 2 ^ plane else 0)) (l.later j (omega arith)) ∙
+    plus_none number in
     subst (HasNoneBelow (plane + 1)) (sym same) h
 
 pub dc_same : {plane j : ℕ} {old new : List ℤ} → AddsDc plane j old new → (r : ℕ) → 64 * r < length old → (r ≡ j → ⊥) → dc_in new r ≡ dc_in old r
@@ -215,16 +250,19 @@ dc_same adds r lt apart = ap (λ m. cast_signed w32 (m % 2 ^ 32)) (adds.others r
 
 -- ---- the stage
 
-quiet : {plane : ℕ} {cells marks : List ℤ} {numbers : List (List ℤ)} (n j : ℕ) → 64 * (j + n) ≤ length cells → (p : PlaneState) → HaveRead plane cells marks numbers p →
+quiet : {plane : ℕ} {cells marks : List ℤ} {numbers : List (List ℤ)} (n j : ℕ) → 64 * (j + n) ≤ length cells → (p : PlaneState) →
+    HaveRead plane cells marks numbers p →
     (q : PlaneState) × (in_turn (dc_item false) j n p ≡ done q) × HaveRead plane cells marks numbers q
 quiet zero j within p have = (p, refl, have)
 quiet (suc n) j within p have = quiet n (suc j) (omega (arith, within)) (with_block p j (of_block p j)) (read_same p j (omega (arith, within)) have)
 
 module _ (t : Terms) (depths : List ℕ) (numbers : List (List ℤ)) (same : length depths ≡ length numbers) where
-  stage_is : (b : Bool) → (coded t.weights t.plane 0 && nat_lt t.plane t.q) ≡ b → blocks_script t depths numbers 0 nothing_yet ≡ in_turn (dc_item b) 0 (length numbers) nothing_yet
+  stage_is : (b : Bool) → (coded t.weights t.plane 0 && nat_lt t.plane t.q) ≡ b → blocks_script t depths numbers 0 nothing_yet ≡ in_turn (dc_item b) 0
+      (length numbers) nothing_yet
   stage_is b e = ap (λ y. in_turn (dc_item y) 0 (length depths) nothing_yet) e ∙ ap (λ n. in_turn (dc_item b) 0 n nothing_yet) same
 
-  pub quiet_stage : {I : Type 0} {k : SourceOf I} {plane : ℕ} {cells marks : List ℤ} {x : Coming I} → IsIn x → length cells ≡ 64 * length numbers → (coded t.weights t.plane 0 && nat_lt t.plane t.q) ≡ false → HaveRead plane cells marks numbers nothing_yet →
+  pub quiet_stage : {I : Type 0} {k : SourceOf I} {plane : ℕ} {cells marks : List ℤ} {x : Coming I} → IsIn x → length cells ≡ 64 * length numbers →
+      (coded t.weights t.plane 0 && nat_lt t.plane t.q) ≡ false → HaveRead plane cells marks numbers nothing_yet →
       TakesStage k plane numbers (blocks_script t depths numbers 0 nothing_yet) (Ok Whole) cells marks x x
   quiet_stage {k = k} {x = x} i whole off have =
       let q = quiet (length numbers) 0 (omega (arith, whole)) nothing_yet have in
@@ -237,38 +275,47 @@ module _ (t : Terms) (depths : List ℕ) (numbers : List (List ℤ)) (same : len
         read = subst (λ s. ReadsAs k s (got q.0) x x) (sym (stage_is false off ∙ q.1)) (read_done q.0 x i);
       }
 
-  module _ {I : Type 0} {k : SourceOf I} {plane : ℕ} {cells marks : List ℤ} {x y z : Point I} (on : (coded t.weights t.plane 0 && nat_lt t.plane t.q) ≡ true) (none : x.read ≡ []) (stays : Stays k y z) (none_then : z.read ≡ []) (kept : y.read ≡ [] → z.input ≡ y.input) where
-    dcs_whole : HeldDcs k plane numbers (in_turn (dc_item true) 0 (length numbers) nothing_yet) (Ok Whole) cells marks x y → TakesStage k plane numbers (blocks_script t depths numbers 0 nothing_yet) (Ok Whole) cells marks x.input z.input
+  module _ {I : Type 0} {k : SourceOf I} {plane : ℕ} {cells marks : List ℤ} {x y z : Point I} (on : (coded t.weights t.plane 0 && nat_lt t.plane t.q) ≡ true)
+      (none : x.read ≡ []) (stays : Stays k y z) (none_then : z.read ≡ []) (kept : y.read ≡ [] → z.input ≡ y.input) where
+    dcs_whole : HeldDcs k plane numbers (in_turn (dc_item true) 0 (length numbers) nothing_yet) (Ok Whole) cells marks x y →
+        TakesStage k plane numbers (blocks_script t depths numbers 0 nothing_yet) (Ok Whole) cells marks x.input z.input
     dcs_whole h = record {
       now = h.now;
       has = h.has;
       dcs = h.dcs;
       families = h.families;
       options = h.options;
-      read = subst (λ s. ReadsAs k s (got h.now) x.input z.input) (sym (stage_is true on)) (reads_closed (in_turn (dc_item true) 0 (length numbers) nothing_yet) (got h.now) none h.read stays none_then kept);
+      read = subst (λ s. ReadsAs k s (got h.now) x.input z.input) (sym (stage_is true on)) (reads_closed (in_turn (dc_item true) 0
+          (length numbers) nothing_yet) (got h.now) none h.read stays none_then kept);
     }
 
-    dcs_ended : HeldDcs k plane numbers (in_turn (dc_item true) 0 (length numbers) nothing_yet) (Ok Ended) cells marks x y → TakesStage k plane numbers (blocks_script t depths numbers 0 nothing_yet) (Ok Ended) cells marks x.input z.input
+    dcs_ended : HeldDcs k plane numbers (in_turn (dc_item true) 0 (length numbers) nothing_yet) (Ok Ended) cells marks x y →
+        TakesStage k plane numbers (blocks_script t depths numbers 0 nothing_yet) (Ok Ended) cells marks x.input z.input
     dcs_ended h = record {
       now = h.now;
       has = h.has;
       dcs = h.dcs;
       families = tt;
       options = tt;
-      read = subst (λ s. ReadsAs k s (ends h.now) x.input z.input) (sym (stage_is true on)) (reads_closed (in_turn (dc_item true) 0 (length numbers) nothing_yet) (ends h.now) none h.read stays none_then kept);
+      read = subst (λ s. ReadsAs k s (ends h.now) x.input z.input) (sym (stage_is true on)) (reads_closed (in_turn (dc_item true) 0
+          (length numbers) nothing_yet) (ends h.now) none h.read stays none_then kept);
     }
 
-    dcs_failed : (fault : TextFault) → HeldDcs k plane numbers (in_turn (dc_item true) 0 (length numbers) nothing_yet) (Err fault) cells marks x y → TakesStage k plane numbers (blocks_script t depths numbers 0 nothing_yet) (Err fault) cells marks x.input z.input
+    dcs_failed : (fault : TextFault) → HeldDcs k plane numbers (in_turn (dc_item true) 0 (length numbers) nothing_yet) (Err fault) cells marks x y →
+        TakesStage k plane numbers (blocks_script t depths numbers 0 nothing_yet) (Err fault) cells marks x.input z.input
     dcs_failed fault h = record {
       now = h.now;
       has = h.has;
       dcs = h.dcs;
       families = tt;
       options = tt;
-      read = subst (λ s. ReadsAs k s (by_fault fault h.now) x.input z.input) (sym (stage_is true on)) (reads_closed (in_turn (dc_item true) 0 (length numbers) nothing_yet) (by_fault fault h.now) none h.read stays none_then kept);
+      read = subst (λ s. ReadsAs k s (by_fault fault h.now) x.input z.input) (sym (stage_is true on)) (reads_closed (in_turn (dc_item true) 0
+          (length numbers) nothing_yet) (by_fault fault h.now) none h.read stays none_then kept);
     }
 
-    pub dcs_closed : (result : Result Part TextFault) → HeldDcs k plane numbers (in_turn (dc_item true) 0 (length numbers) nothing_yet) result cells marks x y → TakesStage k plane numbers (blocks_script t depths numbers 0 nothing_yet) result cells marks x.input z.input
+    pub dcs_closed : (result : Result Part TextFault) → HeldDcs k plane numbers (in_turn (dc_item true) 0
+        (length numbers) nothing_yet) result cells marks x y → TakesStage k plane numbers
+        (blocks_script t depths numbers 0 nothing_yet) result cells marks x.input z.input
     dcs_closed (Ok Whole) h = dcs_whole h
     dcs_closed (Ok Ended) h = dcs_ended h
     dcs_closed (Err fault) h = dcs_failed fault h
@@ -277,7 +324,8 @@ pub due_low : (a : Bool) (plane q : ℕ) → (a && nat_lt plane q) ≡ true → 
 due_low true plane q e = grind (arith, nat_tests)
 due_low false plane q e = cc
 
-pub dcs_await : {plane q : ℕ} (numbers : List (List ℤ)) → plane < q → AwaitDcs (plane + 1) q numbers → (r : ℕ) → r < length numbers → HasNoneBelow (plane + 1) (get_or (get_or numbers r []) 0 (pos 0))
+pub dcs_await : {plane q : ℕ} (numbers : List (List ℤ)) → plane < q → AwaitDcs (plane + 1) q numbers → (r : ℕ) → r < length numbers →
+    HasNoneBelow (plane + 1) (get_or (get_or numbers r []) 0 (pos 0))
 dcs_await {plane} {q} numbers low await r lt =
     let e : min (plane + 1) q ≡ plane + 1 = omega (arith, low) in
     subst (λ n. HasNoneBelow n (get_or (get_or numbers r []) 0 (pos 0))) e (await r lt)

@@ -19,7 +19,14 @@ fits_still (pos n) plane fits low cleared =
     let all : (plane + 1) + (30 - plane) ≡ 31 = omega arith in
     let parts : 2 ^ (plane + 1) * 2 ^ (30 - plane) ≡ 2147483648 = sym (pow-add 2 (plane + 1) (30 - plane)) ∙ ap (λ k. 2 ^ k) all in
     let within : 2 ^ (plane + 1) * cleared.part < 2 ^ (plane + 1) * 2 ^ (30 - plane) = omega (arith, parts, cleared.whole, fits.sfits) in
-    fits_signed_from_abs w32 (pos n +ℤ pos (2 ^ plane)) (omega (arith, room_above (2 ^ (plane + 1)) cleared.part (2 ^ (30 - plane)) within, parts, cleared.whole, pow_more plane, pow_pos plane))
+    fits_signed_from_abs w32 (pos n +ℤ pos (2 ^ plane)) (omega (
+      arith,
+      room_above (2 ^ (plane + 1)) cleared.part (2 ^ (30 - plane)) within,
+      parts,
+      cleared.whole,
+      pow_more plane,
+      pow_pos plane,
+    ))
 fits_still (negsuc n) plane fits low cleared =
     let le : plane ≤ 26 = omega arith in
     let most : 2 ^ plane ≤ 2 ^ 26 = pow_mono le in
@@ -29,7 +36,8 @@ fits_still (negsuc n) plane fits low cleared =
     both n h small most = omega (arith, ints)
 
 -- the sum with the bit is within the type
-pub dc_added : (z : ℤ) (plane : ℕ) → SFits w32 z → plane < 27 → HasNoneBelow (plane + 1) z → to_z w32 ((of_z w32 z + 1 * 2 ^ plane % 4294967296) % 4294967296) ≡ z +ℤ pos (2 ^ plane)
+pub dc_added : (z : ℤ) (plane : ℕ) → SFits w32 z → plane < 27 → HasNoneBelow (plane + 1) z → to_z w32
+    ((of_z w32 z + 1 * 2 ^ plane % 4294967296) % 4294967296) ≡ z +ℤ pos (2 ^ plane)
 dc_added z plane fits low cleared =
     let le : plane ≤ 26 = omega arith in
     let most : 2 ^ plane ≤ 2 ^ 26 = pow_mono le in

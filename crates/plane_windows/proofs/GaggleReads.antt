@@ -26,18 +26,21 @@ use Rattle.plane_windows.proofs.HeldReads.{leads_start, leads_then, leads_got, r
 use Rattle.plane_windows.proofs.BlockReads.{reads_around}
 
 -- a block that stays as it is
-pub has_kept : {plane r q : ℕ} {old new : List ℤ} {block : List ℤ} {s : State} → plane < 27 → KeepsMasks r plane old new → 64 * q < length old → (q ≡ r → ⊥) → HasRead plane q old block s → HasRead plane q new block s
+pub has_kept : {plane r q : ℕ} {old new : List ℤ} {block : List ℤ} {s : State} → plane < 27 → KeepsMasks r plane old new → 64 * q < length old → (q ≡ r → ⊥) →
+    HasRead plane q old block s → HasRead plane q new block s
 has_kept {plane} {q = q} low keeps inside apart has = record {
   bits = λ p ac. ap (λ m. bit m p) (keeps.others q plane inside (omega (arith, low)) apart) ∙ has.bits p ac;
   minus = λ p ac. ap (λ m. bit m p) (keeps.others q minus_slot inside (omega arith) apart) ∙ has.minus p ac;
 }
 
 -- one block more
-pub have_with : {plane r : ℕ} {old new : List ℤ} (numbers : List (List ℤ)) (p : PlaneState) (b : State) → plane < 27 → KeepsMasks r plane old new → HavePlane plane old numbers p → HasRead plane r new (get_or numbers r []) b → HavePlane plane new numbers (with_block p r b)
+pub have_with : {plane r : ℕ} {old new : List ℤ} (numbers : List (List ℤ)) (p : PlaneState) (b : State) → plane < 27 → KeepsMasks r plane old new →
+    HavePlane plane old numbers p → HasRead plane r new (get_or numbers r []) b → HavePlane plane new numbers (with_block p r b)
 have_with {plane} {r} {old} {new} numbers p b low keeps have has q inside = elim (cases_eq q r) [
   | inl e ↦
       let t : (q == r) ≡ true = grind (arith, nat_tests) in
-      subst (λ z. HasRead plane q new (get_or numbers q []) (if z then b else p.blocks q)) (sym t) (subst (λ n. HasRead plane n new (get_or numbers n []) b) (sym e) has)
+      subst (λ z. HasRead plane q new (get_or numbers q []) (if z then b else p.blocks q)) (sym t) (subst (λ n. HasRead plane n new (get_or numbers n []) b)
+      (sym e) has)
   | inr apart ↦
       let t : (q == r) ≡ false = grind (arith, nat_tests) in
       let there : 64 * q < length old = subst (λ n. 64 * q < n) keeps.long inside in
@@ -64,7 +67,8 @@ slots_more {plane} {r} {mid = mid} {new} p keeps = slots_then p (record {
   ];
 })
 
-pub above_after : {plane : ℕ} {old new : List ℤ} (numbers : List (List ℤ)) → plane < 27 → KeepSlots plane old new → AreAbove plane old numbers → AreAbove plane new numbers
+pub above_after : {plane : ℕ} {old new : List ℤ} (numbers : List (List ℤ)) → plane < 27 → KeepSlots plane old new → AreAbove plane old numbers →
+    AreAbove plane new numbers
 above_after {plane} {old} numbers low keeps are r inside =
     let there : 64 * r < length old = subst (λ n. 64 * r < n) keeps.long inside in
     let same = keeps.slots r above_slot there (omega arith) (λ f. omega (arith, f, low)) (λ f. omega (arith, f)) in
@@ -73,17 +77,20 @@ above_after {plane} {old} numbers low keeps are r inside =
 -- ---- states
 
 -- the families with one block more
-pub families_with : (marks : List ℤ) (r : ℕ) (mark : ℤ) (p : PlaneState) (b : State) → r < length marks → HaveFamilies marks p → Shows (families_in mark) b.families 0 3 → HaveFamilies (set marks r mark) (with_block p r b)
+pub families_with : (marks : List ℤ) (r : ℕ) (mark : ℤ) (p : PlaneState) (b : State) → r < length marks → HaveFamilies marks p → Shows (families_in
+    mark) b.families 0 3 → HaveFamilies (set marks r mark) (with_block p r b)
 families_with marks r mark p b inside have shown q lt = elim (cases_eq q r) [
   | inl e ↦
       let t : (q == r) ≡ true = grind (arith, nat_tests) in
       let here : get_or (set marks r mark) q (pos 0) ≡ mark = ap (λ n. get_or (set marks r mark) n (pos 0)) e ∙ get_or-set_same marks r mark (pos 0) inside in
-      subst (λ z. Shows (families_in (get_or (set marks r mark) q (pos 0))) ((if z then b else p.blocks q).families) 0 3) (sym t) (subst (λ m. Shows (families_in m) b.families 0 3) (sym here) shown)
+      subst (λ z. Shows (families_in (get_or (set marks r mark) q (pos 0))) ((if z then b else p.blocks q).families) 0 3) (sym t) (subst (λ m. Shows
+      (families_in m) b.families 0 3) (sym here) shown)
   | inr apart ↦
       let t : (q == r) ≡ false = grind (arith, nat_tests) in
       let there : get_or (set marks r mark) q (pos 0) ≡ get_or marks q (pos 0) = get_or-set_other marks r q mark (pos 0) apart in
       let low : q < length marks = subst (λ n. q < n) (length-set marks r mark) lt in
-      subst (λ z. Shows (families_in (get_or (set marks r mark) q (pos 0))) ((if z then b else p.blocks q).families) 0 3) (sym t) (subst (λ m. Shows (families_in m) ((p.blocks q).families) 0 3) (sym there) (have q low))
+      subst (λ z. Shows (families_in (get_or (set marks r mark) q (pos 0))) ((if z then b else p.blocks q).families) 0 3) (sym t) (subst (λ m. Shows
+      (families_in m) ((p.blocks q).families) 0 3) (sym there) (have q low))
 ]
 
 -- the families of a block that sends nothing
@@ -91,7 +98,8 @@ pub families_same : (marks : List ℤ) (r : ℕ) (p : PlaneState) → HaveFamili
 families_same marks r p have q lt = elim (cases_eq q r) [
   | inl e ↦
       let t : (q == r) ≡ true = grind (arith, nat_tests) in
-      subst (λ z. Shows (families_in (get_or marks q (pos 0))) ((if z then of_block p r else p.blocks q).families) 0 3) (sym t) (subst (λ n. Shows (families_in (get_or marks q (pos 0))) ((p.blocks n).families) 0 3) e (have q lt))
+      subst (λ z. Shows (families_in (get_or marks q (pos 0))) ((if z then of_block p r else p.blocks q).families) 0 3) (sym t) (subst (λ n. Shows
+      (families_in (get_or marks q (pos 0))) ((p.blocks n).families) 0 3) e (have q lt))
   | inr apart ↦
       let t : (q == r) ≡ false = grind (arith, nat_tests) in
       subst (λ z. Shows (families_in (get_or marks q (pos 0))) ((if z then of_block p r else p.blocks q).families) 0 3) (sym t) (have q lt)
@@ -101,7 +109,8 @@ pub states_kept : (marks : List ℤ) → KeepStates marks marks
 states_kept marks = record { long = refl; depths = λ r. refl; options = λ r. refl; sent = λ r. refl }
 
 -- a state with the same depth and options
-pub states_set : (old marks : List ℤ) (r : ℕ) (mark : ℤ) → r < length marks → depth_of mark ≡ depth_of (get_or marks r (pos 0)) → options_in mark ≡ options_in (get_or marks r (pos 0)) → sent_in mark ≡ sent_in (get_or marks r (pos 0)) → KeepStates old marks → KeepStates old (set marks r mark)
+pub states_set : (old marks : List ℤ) (r : ℕ) (mark : ℤ) → r < length marks → depth_of mark ≡ depth_of (get_or marks r (pos 0)) → options_in mark ≡ options_in
+    (get_or marks r (pos 0)) → sent_in mark ≡ sent_in (get_or marks r (pos 0)) → KeepStates old marks → KeepStates old (set marks r mark)
 states_set old marks r mark inside depth options sent keeps = record {
   long = length-set marks r mark ∙ keeps.long;
   depths = λ q. at_each depth_of depth q ∙ keeps.depths q;
@@ -111,7 +120,8 @@ states_set old marks r mark inside depth options sent keeps = record {
   where
     at_each : {A : Type 0} (f : ℤ → A) → f mark ≡ f (get_or marks r (pos 0)) → (q : ℕ) → f (get_or (set marks r mark) q (pos 0)) ≡ f (get_or marks q (pos 0))
     at_each f same q = elim (cases_eq q r) [
-      | inl e ↦ ap (λ n. f (get_or (set marks r mark) n (pos 0))) e ∙ ap f (get_or-set_same marks r mark (pos 0) inside) ∙ same ∙ ap (λ n. f (get_or marks n (pos 0))) (sym e)
+      | inl e ↦ ap (λ n. f (get_or (set marks r mark) n (pos 0))) e ∙ ap f (get_or-set_same marks r mark (pos 0) inside) ∙ same ∙
+          ap (λ n. f (get_or marks n (pos 0))) (sym e)
       | inr apart ↦ ap f (get_or-set_other marks r q mark (pos 0) apart)
     ]
 
@@ -129,13 +139,17 @@ module _ (t : Terms) (depth : ℕ) (block : List ℤ) (s : State) where
   pub shallow_is : (stage : ℕ) → 1 ≤ stage → nat_lt t.plane depth ≡ false → stage_script t stage depth block s ≡ done s
   shallow_is stage some shallow =
       let first : (stage == 0) ≡ false = grind (arith, nat_tests, some) in
-      ap (λ z. if z then dc_bit_script t s else if not (nat_lt t.plane depth) then done s else others) first ∙ ap (λ b. if not b then done s else others) shallow
+      ap (λ z. if z then dc_bit_script t s else if not (nat_lt t.plane depth) then done s else others) first ∙
+      ap (λ b. if not b then done s else others) shallow
     where
       others : Script State State
-      others = if stage == 1 then parents_script t block s else if stage == 2 then children_script t block s else if stage == 3 then grandchildren_script t block s else refinement_script t block s
+      others = if stage == 1 then parents_script t block s else if stage == 2 then children_script t block s else if stage ==
+          3 then grandchildren_script t block s else refinement_script t block s
 
 -- the blocks before the j-th were read, and m more are left
-pub record BlocksLeft {I : Type 0} (k : SourceOf I) (all : Script PlaneState PlaneState) (item : ℕ → PlaneState → Script PlaneState PlaneState) (plane g j m : ℕ) (numbers : List (List ℤ)) (before : PlaneState) (gaggle : Gaggle) (cells marks : List ℤ) (old now : Point I) : Type 0 where
+pub record BlocksLeft {I : Type 0} (k : SourceOf I) (all : Script PlaneState PlaneState) (item : ℕ → PlaneState →
+    Script PlaneState PlaneState) (plane g j m : ℕ) (numbers : List (List ℤ)) (before : PlaneState) (gaggle : Gaggle) (cells marks : List ℤ)
+    (old now : Point I) : Type 0 where
   pub state : PlaneState
   pub options : AreIn gaggle (state.options g)
   pub others : (h : ℕ) → (h ≡ g → ⊥) → state.options h ≡ before.options h
@@ -144,8 +158,10 @@ pub record BlocksLeft {I : Type 0} (k : SourceOf I) (all : Script PlaneState Pla
   pub left : LeadsTo k all (in_turn item j m state) old now
 
 module _ {I : Type 0} {k : SourceOf I} (t : Terms) (stage : ℕ) (depths : List ℕ) (numbers : List (List ℤ)) (plane g first : ℕ) (before : PlaneState) where
-  pub blocks_start : {gaggle : Gaggle} {cells marks : List ℤ} {x : Point I} (count : ℕ) → IsIn x.input → AreIn gaggle (before.options g) → HavePlane plane cells numbers before → HaveFamilies marks before →
-      BlocksLeft k (gaggle_script t stage depths numbers first count before) (block_script t stage depths numbers) plane g (first + 0) (count - 0) numbers before gaggle cells marks x x
+  pub blocks_start : {gaggle : Gaggle} {cells marks : List ℤ} {x : Point I} (count : ℕ) → IsIn x.input → AreIn gaggle (before.options g) →
+      HavePlane plane cells numbers before → HaveFamilies marks before →
+      BlocksLeft k (gaggle_script t stage depths numbers first count before) (block_script t stage depths numbers) plane g (first + 0)
+      (count - 0) numbers before gaggle cells marks x x
   blocks_start {x = x} count i are has families =
       let e : first ≡ first + 0 = omega arith in
       let f : count ≡ count - 0 = omega arith in
@@ -157,10 +173,12 @@ module _ {I : Type 0} {k : SourceOf I} (t : Terms) (stage : ℕ) (depths : List 
         others = λ h apart. refl;
         has = has;
         families = families;
-        left = subst (λ a. LeadsTo k all (in_turn (block_script t stage depths numbers) a (count - 0) before) x x) e (subst (λ c. LeadsTo k all (in_turn (block_script t stage depths numbers) first c before) x x) f start);
+        left = subst (λ a. LeadsTo k all (in_turn (block_script t stage depths numbers) a (count - 0) before) x x) e (subst (λ c. LeadsTo k all (in_turn
+            (block_script t stage depths numbers) first c before) x x) f start);
       }
 
-  module _ {all : Script PlaneState PlaneState} {n count : ℕ} (lt : n < count) {gaggle : Gaggle} {cells marks : List ℤ} {x y : Point I} (l : BlocksLeft k all (block_script t stage depths numbers) plane g (first + n) (count - n) numbers before gaggle cells marks x y) where
+  module _ {all : Script PlaneState PlaneState} {n count : ℕ} (lt : n < count) {gaggle : Gaggle} {cells marks : List ℤ} {x y : Point I} (l : BlocksLeft k all
+      (block_script t stage depths numbers) plane g (first + n) (count - n) numbers before gaggle cells marks x y) where
     fewer : count - n ≡ suc (count - (n + 1))
     fewer = omega (arith, lt)
 
@@ -194,7 +212,8 @@ module _ {I : Type 0} {k : SourceOf I} (t : Terms) (stage : ℕ) (depths : List 
           ap (λ z. if z then b.options else l.state.options h) off ∙ l.others h apart
 
       -- block first + n is read as this
-      pub blocks_more : {gaggle' : Gaggle} {cells' marks' : List ℤ} {z : Point I} → ReadsFrom k (block_script t stage depths numbers (first + n) l.state) (got after) y z → AreIn gaggle' b.options → HavePlane plane cells' numbers after → HaveFamilies marks' after →
+      pub blocks_more : {gaggle' : Gaggle} {cells' marks' : List ℤ} {z : Point I} → ReadsFrom k (block_script t stage depths numbers (first + n) l.state)
+          (got after) y z → AreIn gaggle' b.options → HavePlane plane cells' numbers after → HaveFamilies marks' after →
           BlocksLeft k all (block_script t stage depths numbers) plane g (first + (n + 1)) (count - (n + 1)) numbers before gaggle' cells' marks' x z
       unfolding here rest
       blocks_more {gaggle'} {z = z} read are has families = record {
@@ -203,49 +222,87 @@ module _ {I : Type 0} {k : SourceOf I} (t : Terms) (stage : ℕ) (depths : List 
         others = others_after;
         has = has;
         families = families;
-        left = subst (λ a. LeadsTo k all (in_turn (block_script t stage depths numbers) a (count - (n + 1)) after) x z) next_is (leads_then all (then_ask here rest) (rest after) left_is (leads_got here rest after read));
+        left = subst (λ a. LeadsTo k all (in_turn (block_script t stage depths numbers) a (count - (n + 1)) after) x z) next_is (leads_then all
+            (then_ask here rest) (rest after) left_is (leads_got here rest after read));
       }
 
-      pub blocks_cut : {gaggle' : Gaggle} {cells' marks' : List ℤ} {z : Point I} → ReadsFrom k (block_script t stage depths numbers (first + n) l.state) (ends after) y z → AreIn gaggle' b.options → HavePlane plane cells' numbers after →
+      pub blocks_cut : {gaggle' : Gaggle} {cells' marks' : List ℤ} {z : Point I} → ReadsFrom k (block_script t stage depths numbers (first + n) l.state)
+          (ends after) y z → AreIn gaggle' b.options → HavePlane plane cells' numbers after →
           TakesBlocks k plane g numbers before all (Ok Ended) gaggle' cells' marks' x z
       unfolding here
-      blocks_cut {gaggle'} read are has = record { now = after; options = options_after gaggle' are; others = others_after; has = has; families = tt; read = reads_later all (then_ask here rest) (ends after) left_is (reads_cut here rest after read) }
+      blocks_cut {gaggle'} read are has = record {
+        now = after;
+        options = options_after gaggle' are;
+        others = others_after;
+        has = has;
+        families = tt;
+        read =
+            reads_later all (then_ask here rest) (ends after) left_is (reads_cut here rest after read);
+      }
 
-      pub blocks_fault : {gaggle' : Gaggle} {cells' marks' : List ℤ} {z : Point I} (fault : TextFault) → ReadsFrom k (block_script t stage depths numbers (first + n) l.state) (by_fault fault after) y z → AreIn gaggle' b.options → HavePlane plane cells' numbers after →
+      pub blocks_fault : {gaggle' : Gaggle} {cells' marks' : List ℤ} {z : Point I} (fault : TextFault) → ReadsFrom k (block_script t stage depths numbers
+          (first + n) l.state) (by_fault fault after) y z → AreIn gaggle' b.options → HavePlane plane cells' numbers after →
           TakesBlocks k plane g numbers before all (Err fault) gaggle' cells' marks' x z
       unfolding here
-      blocks_fault {gaggle'} fault read are has = record { now = after; options = options_after gaggle' are; others = others_after; has = has; families = tt; read = reads_later all (then_ask here rest) (by_fault fault after) left_is (reads_fault here rest after fault read) }
+      blocks_fault {gaggle'} fault read are has = record {
+        now = after;
+        options = options_after gaggle' are;
+        others = others_after;
+        has = has;
+        families = tt;
+        read = reads_later all (then_ask here rest) (by_fault fault after) left_is (reads_fault here rest after fault read);
+      }
 
     module _ (same : (first + n) / 16 ≡ g) (some : 1 ≤ stage) (low : plane < 27) where
       block_options : AreIn gaggle (of_block l.state (first + n)).options
       block_options = subst (λ h. AreIn gaggle (l.state.options h)) (sym same) l.options
 
       -- a block that is not deep enough
-      pub blocks_skip : IsIn y.input → nat_lt t.plane (get_or depths (first + n) 0) ≡ false → 64 * (first + n) < length cells → BlocksLeft k all (block_script t stage depths numbers) plane g (first + (n + 1)) (count - (n + 1)) numbers before gaggle cells marks x y
+      pub blocks_skip : IsIn y.input → nat_lt t.plane (get_or depths (first + n) 0) ≡ false → 64 * (first + n) < length cells →
+          BlocksLeft k all (block_script t stage depths numbers) plane g (first + (n + 1)) (count - (n + 1)) numbers before gaggle cells marks x y
       blocks_skip i shallow inside =
           let b = of_block l.state (first + n) in
           let q = with_block l.state (first + n) b in
-          let none : block_script t stage depths numbers (first + n) l.state ≡ done q = ap (around (with_block l.state (first + n))) (shallow_is t (get_or depths (first + n) 0) (get_or numbers (first + n) []) b stage some shallow) in
-          let keeps : KeepsMasks (first + n) plane cells cells = record { long = refl; slots = λ slot lt apart not_minus. refl; others = λ a slot lt low apart. refl } in
+          let none : block_script t stage depths numbers (first + n) l.state ≡ done q = ap (around (with_block l.state (first + n))) (shallow_is t
+          (get_or depths (first + n) 0) (get_or numbers (first + n) []) b stage some shallow) in
+          let keeps : KeepsMasks (first + n) plane cells cells = record {
+            long = refl;
+            slots = λ slot lt apart not_minus. refl;
+            others =
+                λ a slot lt low apart. refl;
+          } in
           let was = l.has (first + n) inside in
           let read : ReadsFrom k (done q) (got q) y y = reads_done (done q) q (leads_start (done q) i) in
-          blocks_more same b (subst (λ r. ReadsFrom k r (got q) y y) (sym none) read) block_options (have_with numbers l.state b low keeps l.has (record { bits = was.bits; minus = was.minus })) (families_same marks (first + n) l.state l.families)
+          blocks_more same b (subst (λ r. ReadsFrom k r (got q) y y) (sym none) read) block_options (have_with numbers l.state b low keeps l.has
+          (record { bits = was.bits; minus = was.minus })) (families_same marks (first + n) l.state l.families)
 
       -- a block whose stage was read
-      module _ (most : stage < 5) (deep : nat_lt t.plane (get_or depths (first + n) 0) ≡ true) {gaggle' : Gaggle} {cells' : List ℤ} {mark : ℤ} {z : Point I} {result : Result Part TextFault} {c : ℕ} (at : c ≡ first + n) (inside : 64 * (first + n) < length cells) (in_marks : first + n < length marks)
+      module _ (most : stage < 5) (deep : nat_lt t.plane (get_or depths
+          (first + n) 0) ≡ true) {gaggle' : Gaggle} {cells' : List ℤ} {mark : ℤ} {z : Point I} {result : Result Part TextFault} {c : ℕ} (at : c ≡ first + n)
+          (inside : 64 * (first + n) < length cells) (in_marks : first + n < length marks)
           (above : AreAbove plane cells numbers) (keeps : KeepsMasks c plane cells cells')
-          (call : (block : List ℤ) (s : State) → AreIn gaggle s.options → IsAbove (mask_in cells c above_slot) block plane → HasRead plane c cells block s → Shows (families_in (get_or marks c (pos 0))) s.families 0 3 → TakesBlock k plane c block (stage_part t stage block s) result gaggle' mark cells' y z) where
+          (call : (block : List ℤ) (s : State) → AreIn gaggle s.options → IsAbove (mask_in cells c above_slot) block plane → HasRead plane c cells block s →
+          Shows (families_in (get_or marks c (pos 0))) s.families 0 3 → TakesBlock k plane c block
+          (stage_part t stage block s) result gaggle' mark cells' y z) where
         abbrev block : List ℤ
         block = get_or numbers (first + n) []
 
         called : TakesBlock k plane (first + n) block (stage_part t stage block (of_block l.state (first + n))) result gaggle' mark cells' y z
         called =
-            let there = subst (λ r. (block : List ℤ) (s : State) → AreIn gaggle s.options → IsAbove (mask_in cells r above_slot) block plane → HasRead plane r cells block s → Shows (families_in (get_or marks r (pos 0))) s.families 0 3 → TakesBlock k plane r block (stage_part t stage block s) result gaggle' mark cells' y z) at call in
+            let there = subst (λ r. (block : List ℤ) (s : State) → AreIn gaggle s.options → IsAbove (mask_in cells r above_slot) block plane →
+            HasRead plane r cells block s → Shows (families_in (get_or marks r (pos 0))) s.families 0 3 → TakesBlock k plane r block
+            (stage_part t stage block s) result gaggle' mark cells' y z) at call in
             let was = l.has (first + n) inside in
-            there block (of_block l.state (first + n)) block_options (above (first + n) inside) (record { bits = was.bits; minus = was.minus }) (l.families (first + n) in_marks)
+            there block (of_block l.state (first + n)) block_options (above (first + n) inside) (record {
+              bits = was.bits;
+              minus =
+                  was.minus;
+            }) (l.families (first + n) in_marks)
 
-        deep_script : block_script t stage depths numbers (first + n) l.state ≡ around (with_block l.state (first + n)) (stage_part t stage block (of_block l.state (first + n)))
-        deep_script = ap (around (with_block l.state (first + n))) (deep_is t (get_or depths (first + n) 0) block (of_block l.state (first + n)) stage some most deep)
+        deep_script : block_script t stage depths numbers (first + n) l.state ≡ around (with_block l.state (first + n)) (stage_part t stage block
+            (of_block l.state (first + n)))
+        deep_script = ap (around (with_block l.state (first + n))) (deep_is t (get_or depths (first + n) 0) block (of_block l.state
+            (first + n)) stage some most deep)
 
         end : PlaneState
         end = with_block l.state (first + n) called.now
@@ -254,29 +311,37 @@ module _ {I : Type 0} {k : SourceOf I} (t : Terms) (stage : ℕ) (depths : List 
         unfolding end
         have_end = have_with numbers l.state called.now low (subst (λ r. KeepsMasks r plane cells cells') at keeps) l.has called.has
 
-        around_called : {X : Type 0} (o : Result (Option X) TextFault) → ReadsFrom k (stage_part t stage block (of_block l.state (first + n))) (by_done o called.now called.now) y z → ReadsFrom k (block_script t stage depths numbers (first + n) l.state) (by_done o end end) y z
+        around_called : {X : Type 0} (o : Result (Option X) TextFault) → ReadsFrom k (stage_part t stage block (of_block l.state (first + n)))
+            (by_done o called.now called.now) y z → ReadsFrom k (block_script t stage depths numbers (first + n) l.state) (by_done o end end) y z
         unfolding end
-        around_called o read = subst (λ r. ReadsFrom k r (by_done o end end) y z) (sym deep_script) (reads_around (with_block l.state (first + n)) (stage_part t stage block (of_block l.state (first + n))) o called.now read)
+        around_called o read = subst (λ r. ReadsFrom k r (by_done o end end) y z) (sym deep_script) (reads_around (with_block l.state (first + n))
+            (stage_part t stage block (of_block l.state (first + n))) o called.now read)
 
-        called_as : (o : Result Part TextFault) → result ≡ o → ReadsFrom k (stage_part t stage block (of_block l.state (first + n))) (by_part o called.now called.now) y z
+        called_as : (o : Result Part TextFault) → result ≡ o → ReadsFrom k (stage_part t stage block (of_block l.state (first + n)))
+            (by_part o called.now called.now) y z
         called_as o e = subst (λ u. ReadsFrom k (stage_part t stage block (of_block l.state (first + n))) (by_part u called.now called.now) y z) e called.read
 
-        pub block_whole : result ≡ Ok Whole → BlocksLeft k all (block_script t stage depths numbers) plane g (first + (n + 1)) (count - (n + 1)) numbers before gaggle' cells' (set marks c mark) x z
+        pub block_whole : result ≡ Ok Whole → BlocksLeft k all (block_script t stage depths numbers) plane g (first + (n + 1)) (count -
+            (n + 1)) numbers before gaggle' cells' (set marks c mark) x z
         unfolding end
         block_whole e =
-            let shown : Shows (families_in mark) called.now.families 0 3 = subst (λ u. OnWhole u (Shows (families_in mark) called.now.families 0 3)) e called.families in
+            let shown : Shows (families_in mark) called.now.families 0 3 = subst (λ u. OnWhole u (Shows (families_in
+            mark) called.now.families 0 3)) e called.families in
             blocks_more same called.now (around_called {X = Unit {0}} (Ok (Some tt)) (called_as (Ok Whole) e)) called.options have_end
-            (subst (λ r. HaveFamilies (set marks r mark) (with_block l.state (first + n) called.now)) (sym at) (families_with marks (first + n) mark l.state called.now in_marks l.families shown))
+            (subst (λ r. HaveFamilies (set marks r mark) (with_block l.state (first + n) called.now)) (sym at) (families_with marks
+            (first + n) mark l.state called.now in_marks l.families shown))
 
         pub block_cut : result ≡ Ok Ended → {marks' : List ℤ} → TakesBlocks k plane g numbers before all (Ok Ended) gaggle' cells' marks' x z
         unfolding end
         block_cut e = blocks_cut same called.now (around_called {X = Unit {0}} (Ok None) (called_as (Ok Ended) e)) called.options have_end
 
-        pub block_fault : (fault : TextFault) → result ≡ Err fault → {marks' : List ℤ} → TakesBlocks k plane g numbers before all (Err fault) gaggle' cells' marks' x z
+        pub block_fault : (fault : TextFault) → result ≡ Err fault → {marks' : List ℤ} → TakesBlocks k plane g numbers before all
+            (Err fault) gaggle' cells' marks' x z
         unfolding end
         block_fault fault e = blocks_fault same called.now fault (around_called {X = Unit {0}} (Err fault) (called_as (Err fault) e)) called.options have_end
 
-  pub blocks_done : {all : Script PlaneState PlaneState} {n count : ℕ} {gaggle : Gaggle} {cells marks : List ℤ} {x y : Point I} → count ≤ n → BlocksLeft k all (block_script t stage depths numbers) plane g (first + n) (count - n) numbers before gaggle cells marks x y →
+  pub blocks_done : {all : Script PlaneState PlaneState} {n count : ℕ} {gaggle : Gaggle} {cells marks : List ℤ} {x y : Point I} → count ≤ n →
+      BlocksLeft k all (block_script t stage depths numbers) plane g (first + n) (count - n) numbers before gaggle cells marks x y →
       TakesBlocks k plane g numbers before all (Ok Whole) gaggle cells marks x y
   blocks_done {all} {n} {count} {x = x} {y} ge l =
       let none : count - n ≡ 0 = omega (arith, ge) in

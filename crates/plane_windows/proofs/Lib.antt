@@ -30,6 +30,7 @@ pub mod ScriptKeeps
 pub mod StageKeeps
 pub mod SlicedCells
 pub mod JoinedCells
+pub mod NumberLanes
 pub mod CellGroups
 pub mod DcSums
 pub mod PlaneStates

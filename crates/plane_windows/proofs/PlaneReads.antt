@@ -32,6 +32,7 @@ use Rattle.item_scripts.specs.Sources.{by_part, ReadsAs}
 use Rattle.plane_scripts.specs.Stages.{Terms}
 use Rattle.plane_scripts.specs.Planes.{PlaneState, nothing_yet, bit_of_plane, number_with, block_with, blocks_with, plane_script}
 use Rattle.plane_windows.specs.Above.{AreReady, HasNoneBelow, AwaitDcs}
+use Rattle.plane_windows.specs.Joined.{AreBelow}
 use Rattle.plane_windows.specs.Gaggles.{AreAbove, dc_in, HavePlane, HaveDcs, HaveRead, KeepSlots}
 use Rattle.plane_windows.specs.Planes.{KeepOthers, KeepPlanes, TakesStages, Clears}
 use Rattle.plane_windows.proofs.ClearStates.{families_clear, options_clear}
@@ -81,7 +82,8 @@ reach_same p m (suc (suc d)) rest some whole low even =
 
 reach_more : (plane n : ℕ) → bit n plane ≡ false → nat_le (2 ^ (plane + 1)) (n + 2 ^ plane) ≡ nat_le (2 ^ (plane + 1)) n
 reach_more plane n e =
-    ap (λ q. nat_le q (n + 2 ^ plane)) (pow_more plane) ∙ reach_same (2 ^ plane) n (n / 2 ^ plane) (n % 2 ^ plane) (pow_pos plane) (div-add-mod' n (2 ^ plane)) (mod_below n (2 ^ plane) (pow_pos plane)) e ∙
+    ap (λ q. nat_le q (n + 2 ^ plane)) (pow_more plane) ∙ reach_same (2 ^ plane) n (n / 2 ^ plane) (n % 2 ^ plane) (pow_pos plane) (div-add-mod' n
+    (2 ^ plane)) (mod_below n (2 ^ plane) (pow_pos plane)) e ∙
     ap (λ q. nat_le q n) (sym (pow_more plane))
 
 -- ---- before a plane
@@ -93,12 +95,14 @@ module _ (plane : ℕ) (cells : List ℤ) (low : plane < 27) (whole : length cel
   -- the sign of an AC number
   sign_is : (r p : ℕ) → 64 * r < length cells → IsAc p → negative (get_or (block_at (numbers_in cells) r) p (pos 0)) ≡ bit (mask_in cells r minus_slot) p
   sign_is r p lt ac =
-      ap negative (block_number cells r p whole lt ac.1 ∙ ac_number cells r p ac.0) ∙ below_zero (bit (mask_in cells r minus_slot) p) (size_in (mask_in cells r) p) (ready.signed r p lt ac)
+      ap negative (block_number cells r p whole lt ac.1 ∙ ac_number cells r p ac.0) ∙ below_zero (bit (mask_in cells r minus_slot) p) (size_in (mask_in
+      cells r) p) (ready.signed r p lt ac)
 
   pub has_nothing : HavePlane plane cells (blocks_in (numbers_in cells)) nothing_yet
   has_nothing r lt = record {
     bits = λ p ac. ready.empty r plane p lt (omega arith) low ac;
-    minus = λ p ac. sym (ap (λ b. negative (get_or b p (pos 0)) || false) (at_block r lt) ∙ ap (λ b. b || false) (sign_is r p lt ac) ∙ or-false (bit (mask_in cells r minus_slot) p));
+    minus = λ p ac. sym (ap (λ b. negative (get_or b p (pos 0)) || false) (at_block r lt) ∙ ap (λ b. b || false) (sign_is r p lt ac) ∙ or-false (bit (mask_in
+        cells r minus_slot) p));
   }
 
   pub dcs_nothing : HaveDcs plane cells (blocks_in (numbers_in cells)) nothing_yet
@@ -153,23 +157,31 @@ module _ (plane : ℕ) (cells : List ℤ) (low : plane < 27) (whole : length cel
         let s = now.blocks r in
         let first : 1 ≤ k = ac.0 in
         let apart : (k == 0) ≡ false = grind (arith, nat_tests) in
-        let sign : bit (mask_in new r minus_slot) k ≡ (negative (get_or block k (pos 0)) || s.minus k) = (has r (there r lt)).minus k ac ∙ ap (λ b. negative (get_or b k (pos 0)) || s.minus k) (at_block r lt) in
-        let size : magnitude block k + bit_of_plane plane s k ≡ size_in (mask_in new r) k = ap (λ n. n + bit_of_plane plane s k) (block_size cells r k whole lt ac) ∙ sym (size_now r k lt ac) in
+        let sign : bit (mask_in new r minus_slot) k ≡ (negative (get_or block k (pos 0)) || s.minus k) = (has r (there r lt)).minus k ac ∙
+        ap (λ b. negative (get_or b k (pos 0)) || s.minus k) (at_block r lt) in
+        let size : magnitude block k + bit_of_plane plane s k ≡ size_in (mask_in new r) k = ap (λ n. n + bit_of_plane plane s k)
+        (block_size cells r k whole lt ac) ∙ sym (size_now r k lt ac) in
         let m = magnitude block k + bit_of_plane plane s k in
-        ap (λ b. if b then get_or block 0 (pos 0) +ℤ pos (bit_of_plane plane s 0) else if negative (get_or block k (pos 0)) || s.minus k then pos 0 -ℤ pos m else pos m) apart ∙
-        signed_is (negative (get_or block k (pos 0)) || s.minus k) m ∙ ap (λ b. signed b m) (sym sign) ∙ ap (signed (bit (mask_in new r minus_slot) k)) size ∙ sym (ac_number new r k ac.0)
+        ap (λ b. if b then get_or block 0 (pos 0) +ℤ pos (bit_of_plane plane s 0) else if negative (get_or block k
+        (pos 0)) || s.minus k then pos 0 -ℤ pos m else pos m) apart ∙
+        signed_is (negative (get_or block k (pos 0)) || s.minus k) m ∙ ap (λ b. signed b m) (sym sign) ∙ ap (signed (bit (mask_in new r minus_slot) k)) size ∙
+        sym (ac_number new r k ac.0)
 
     module _ (dcs : HaveDcs plane new (blocks_in (numbers_in cells)) now) where
       number_now : (r k : ℕ) → 64 * r < length cells → k < 64 → number_with plane (block_at (numbers_in cells) r) (now.blocks r) k ≡ number_in new r k
-      number_now r zero lt few = ap (λ b. get_or b 0 (pos 0) +ℤ pos (bit_of_plane plane (now.blocks r) 0)) (sym (at_block r lt)) ∙ sym (dcs r (there r lt)) ∙ sym (dc_number new r)
+      number_now r zero lt few = ap (λ b. get_or b 0 (pos 0) +ℤ pos (bit_of_plane plane (now.blocks r) 0)) (sym (at_block r lt)) ∙ sym (dcs r (there r lt)) ∙
+          sym (dc_number new r)
       number_now r (suc k) lt few = ac_now r (suc k) lt (omega arith, few)
 
       block_now : (r : ℕ) → 64 * r < length cells → block_with plane (block_at (numbers_in cells) r) (now.blocks r) ≡ block_at (numbers_in new) r
       block_now r lt =
-          let long : length (block_with plane (block_at (numbers_in cells) r) (now.blocks r)) ≡ 64 = length-map-span (number_with plane (block_at (numbers_in cells) r) (now.blocks r)) 64 in
-          ext_get_or (pos 0) (block_with plane (block_at (numbers_in cells) r) (now.blocks r)) (block_at (numbers_in new) r) (long ∙ sym (length-block new r whole_still (there r lt))) (λ k few.
+          let long : length (block_with plane (block_at (numbers_in cells) r) (now.blocks r)) ≡ 64 = length-map-span (number_with plane (block_at (numbers_in
+          cells) r) (now.blocks r)) 64 in
+          ext_get_or (pos 0) (block_with plane (block_at (numbers_in cells) r) (now.blocks r)) (block_at (numbers_in new) r) (long ∙
+          sym (length-block new r whole_still (there r lt))) (λ k few.
           let inside : k < 64 = omega (arith, few, long) in
-          get_or-map-span (number_with plane (block_at (numbers_in cells) r) (now.blocks r)) 64 k (pos 0) inside ∙ number_now r k lt inside ∙ sym (block_number new r k whole_still (there r lt) inside))
+          get_or-map-span (number_with plane (block_at (numbers_in cells) r) (now.blocks r)) 64 k (pos 0) inside ∙ number_now r k lt inside ∙
+          sym (block_number new r k whole_still (there r lt) inside))
 
       pub blocks_now : blocks_with plane (blocks_in (numbers_in cells)) now ≡ blocks_in (numbers_in new)
       blocks_now =
@@ -177,7 +189,8 @@ module _ (plane : ℕ) (cells : List ℤ) (low : plane < 27) (whole : length cel
           let item : ℕ → List ℤ = λ r. block_with plane (get_or old r []) (now.blocks r) in
           let long : length (blocks_with plane old now) ≡ length old = length-map-span item (length old) in
           let count : length old ≡ length cells / 64 = length-blocks (numbers_in cells) ∙ ap (λ n. n / 64) (length-numbers_in cells) in
-          let count_now : length (blocks_in (numbers_in new)) ≡ length cells / 64 = length-blocks (numbers_in new) ∙ ap (λ n. n / 64) (length-numbers_in new ∙ keeps.long) in
+          let count_now : length (blocks_in (numbers_in new)) ≡ length cells / 64 = length-blocks (numbers_in new) ∙ ap (λ n. n / 64) (length-numbers_in new ∙
+          keeps.long) in
           ext_get_or [] (blocks_with plane old now) (blocks_in (numbers_in new)) (long ∙ count ∙ sym count_now) (λ r lt.
           let inside : r < length old = omega (arith, lt, long) in
           let here : 64 * r < length cells = omega (arith, inside, count) in
@@ -185,15 +198,18 @@ module _ (plane : ℕ) (cells : List ℤ) (low : plane < 27) (whole : length cel
           sym (block_there (numbers_in new) r (omega (arith, here, whole, length-numbers_in new, keeps.long))))
 
     -- what is significant above stays
-    reach_now : (r k : ℕ) → 64 * r < length cells → IsAc k → significant (block_at (numbers_in new) r) (plane + 1) k ≡ significant (block_at (numbers_in cells) r) (plane + 1) k
+    reach_now : (r k : ℕ) → 64 * r < length cells → IsAc k → significant (block_at (numbers_in new) r) (plane + 1) k ≡ significant (block_at (numbers_in
+        cells) r) (plane + 1) k
     unfolding significant weight
     reach_now r k lt ac =
-        ap (nat_le (2 ^ (plane + 1))) (block_size new r k whole_still (there r lt) ac ∙ size_now r k lt ac) ∙ by ((now.blocks r).bits k) ∙ sym (ap (nat_le (2 ^ (plane + 1))) (block_size cells r k whole lt ac))
+        ap (nat_le (2 ^ (plane + 1))) (block_size new r k whole_still (there r lt) ac ∙ size_now r k lt ac) ∙ by ((now.blocks r).bits k) ∙
+        sym (ap (nat_le (2 ^ (plane + 1))) (block_size cells r k whole lt ac))
       where
         none : bit (size_in (mask_in cells r) k) plane ≡ false
         none = size_bit (mask_in cells r) k plane low ∙ ready.empty r plane k lt (omega arith) low ac
 
-        by : (b : Bool) → nat_le (2 ^ (plane + 1)) (size_in (mask_in cells r) k + (if b then 2 ^ plane else 0)) ≡ nat_le (2 ^ (plane + 1)) (size_in (mask_in cells r) k)
+        by : (b : Bool) → nat_le (2 ^ (plane + 1)) (size_in (mask_in cells r) k + (if b then 2 ^ plane else 0)) ≡ nat_le (2 ^ (plane + 1)) (size_in (mask_in
+            cells r) k)
         by true = reach_more plane (size_in (mask_in cells r) k) none
         by false = ap (nat_le (2 ^ (plane + 1))) (omega arith)
 
@@ -203,7 +219,8 @@ module _ (plane : ℕ) (cells : List ℤ) (low : plane < 27) (whole : length cel
 
       -- the numbers stay as the masks are settled
       pub settled_numbers : numbers_in last ≡ numbers_in new
-      settled_numbers = same_numbers last new settles.long (λ r k lt few. same_number last new r r k (λ s small other. settles.other_slots r s (new_then r lt) small other))
+      settled_numbers = same_numbers last new settles.long (λ r k lt few. same_number last new r r k (λ s small other. settles.other_slots r s
+          (new_then r lt) small other))
 
       kept_slot : (r slot : ℕ) → 64 * r < length last → slot < 29 → mask_in last r slot ≡ mask_in new r slot
       kept_slot r slot lt few = settles.other_slots r slot (new_then r lt) (omega (arith, few)) (λ e. omega (arith, e, few))
@@ -213,14 +230,16 @@ module _ (plane : ℕ) (cells : List ℤ) (low : plane < 27) (whole : length cel
       some_size r p lt ac e =
           let block = block_at (numbers_in cells) r in
           let s = now.blocks r in
-          let sign : bit (mask_in new r minus_slot) p ≡ (negative (get_or block p (pos 0)) || s.minus p) = (has r (there r lt)).minus p ac ∙ ap (λ b. negative (get_or b p (pos 0)) || s.minus p) (at_block r lt) in
+          let sign : bit (mask_in new r minus_slot) p ≡ (negative (get_or block p (pos 0)) || s.minus p) = (has r (there r lt)).minus p ac ∙
+          ap (λ b. negative (get_or b p (pos 0)) || s.minus p) (at_block r lt) in
           elim (either (negative (get_or block p (pos 0))) (s.minus p) (sym sign ∙ e)) [
             | inl was ↦
                 let some = ready.signed r p lt ac (sym (sign_is r p lt ac) ∙ was) in
                 omega (arith, some, size_now r p lt ac)
             | inr new_sign ↦
                 let has_bit = signs r p new_sign in
-                let size : size_in (mask_in new r) p ≡ size_in (mask_in cells r) p + 2 ^ plane = size_now r p lt ac ∙ ap (λ b. size_in (mask_in cells r) p + (if b then 2 ^ plane else 0)) has_bit in
+                let size : size_in (mask_in new r) p ≡ size_in (mask_in cells r) p + 2 ^ plane = size_now r p lt ac ∙ ap (λ b. size_in (mask_in
+                cells r) p + (if b then 2 ^ plane else 0)) has_bit in
                 omega (arith, size, pow_pos plane)
           ]
 
@@ -229,20 +248,25 @@ module _ (plane : ℕ) (cells : List ℤ) (low : plane < 27) (whole : length cel
         signed = λ r p lt ac e.
             let here = before r (new_then r lt) in
             let some = some_size r p here ac (sym (ap (λ m. bit m p) (kept_slot r minus_slot lt (omega arith))) ∙ e) in
-            let size : size_in (mask_in last r) p ≡ size_in (mask_in new r) p = ap value_of (bits_below-same (mask_in last r) (mask_in new r) p 27 (λ s few. ap (λ m. bit m p) (kept_slot r s lt (omega (arith, few))))) in
+            let size : size_in (mask_in last r) p ≡ size_in (mask_in new r) p = ap value_of (bits_below-same (mask_in last r) (mask_in
+            new r) p 27 (λ s few. ap (λ m. bit m p) (kept_slot r s lt (omega (arith, few))))) in
             omega (arith, some, size);
         above = λ r p lt ac.
             let known = new_then r lt in
             let here = before r known in
             let block = block_at (numbers_in new) r in
             let old_above : bit (mask_in new r above_slot) p ≡ significant block (plane + 1) p =
-            ap (λ m. bit m p) (keeps.slots r above_slot here (omega arith) (λ e. omega (arith, e, low)) (λ e. omega (arith, e)) (λ e. omega (arith, e))) ∙ ready.above r p here ac ∙ sym (reach_now r p here ac) in
-            let has_bit : bit (mask_in new r plane) p ≡ bit (magnitude block p) plane = sym (ap (λ n. bit n plane) (block_size new r p whole_still known ac) ∙ size_bit (mask_in new r) p plane low) in
-            settles.bits r p (omega (arith, known, whole_still)) known ac.1 ∙ ap (λ b. b || bit (mask_in new r plane) p) old_above ∙ ap (λ b. significant block (plane + 1) p || b) has_bit ∙ reached_is block plane p ∙
+            ap (λ m. bit m p) (keeps.slots r above_slot here (omega arith) (λ e. omega (arith, e, low)) (λ e. omega (arith, e)) (λ e. omega (arith, e))) ∙
+            ready.above r p here ac ∙ sym (reach_now r p here ac) in
+            let has_bit : bit (mask_in new r plane) p ≡ bit (magnitude block p) plane = sym (ap (λ n. bit n plane) (block_size new r p whole_still known ac) ∙
+            size_bit (mask_in new r) p plane low) in
+            settles.bits r p (omega (arith, known, whole_still)) known ac.1 ∙ ap (λ b. b || bit (mask_in new r plane) p) old_above ∙
+            ap (λ b. significant block (plane + 1) p || b) has_bit ∙ reached_is block plane p ∙
             ap (λ b. significant (block_at b r) plane p) (sym settled_numbers);
         empty = λ r slot p lt less few ac.
             let here = before r (new_then r lt) in
-            ap (λ m. bit m p) (kept_slot r slot lt (omega (arith, few))) ∙ others r p here slot few (λ e. omega (arith, e, less)) ∙ ready.empty r slot p here (omega (arith, less)) few ac;
+            ap (λ m. bit m p) (kept_slot r slot lt (omega (arith, few))) ∙ others r p here slot few (λ e. omega (arith, e, less)) ∙
+            ready.empty r slot p here (omega (arith, less)) few ac;
       }
 
 -- ---- DC numbers
@@ -284,30 +308,38 @@ sum_below a b plane z given le low none =
         let zero_is : 0 ≡ 2 ^ a * 0 = omega arith in
         record { part = s.0; whole = ap (λ n. unsigned_abs (z +ℤ pos n)) zero_is ∙ s.1 }
 
-pub await_next : (plane q : ℕ) (old : List (List ℤ)) {new : List (List ℤ)} (now : PlaneState) → AwaitDcs (plane + 1) q old → blocks_with plane old now ≡ new → AwaitDcs plane q new
+pub await_next : (plane q : ℕ) (old : List (List ℤ)) {new : List (List ℤ)} (now : PlaneState) → AwaitDcs (plane + 1) q old → blocks_with plane old now ≡ new →
+    AwaitDcs plane q new
 await_next plane q old {new} now await same r lt =
     let item : ℕ → List ℤ = λ r. block_with plane (get_or old r []) (now.blocks r) in
     let inside : r < length old = omega (arith, lt, ap length same, length-map-span item (length old)) in
     let number = get_or (get_or old r []) 0 (pos 0) in
     let here : get_or (get_or new r []) 0 (pos 0) ≡ number +ℤ pos (bit_of_plane plane (now.blocks r) 0) =
-    ap (λ l. get_or (get_or l r []) 0 (pos 0)) (sym same) ∙ ap (λ b. get_or b 0 (pos 0)) (get_or-map-span item (length old) r [] inside) ∙ get_or-map-span (number_with plane (get_or old r []) (now.blocks r)) 64 0 (pos 0) (omega arith) in
-    subst (HasNoneBelow (min plane q)) (sym here) (sum_below (min plane q) (min (plane + 1) q) plane number ((now.blocks r).bits 0) (omega arith) (omega arith) (await r inside))
+    ap (λ l. get_or (get_or l r []) 0 (pos 0)) (sym same) ∙ ap (λ b. get_or b 0 (pos 0)) (get_or-map-span item (length old) r [] inside) ∙
+    get_or-map-span (number_with plane (get_or old r []) (now.blocks r)) 64 0 (pos 0) (omega arith) in
+    subst (HasNoneBelow (min plane q)) (sym here) (sum_below (min plane q) (min (plane + 1) q) plane number ((now.blocks r).bits 0) (omega arith)
+    (omega arith) (await r inside))
 
 -- ---- what was read of a plane
 
-pub signs_read : {I : Type 0} {k : SourceOf I} (t : Terms) (depths : List ℕ) (numbers : List (List ℤ)) (stages : ℕ) (now : PlaneState) (result : Result Part TextFault) {x y : Coming I} → ReadsAs k (plane_script t depths numbers stages) (by_part result now now) x y →
+pub signs_read : {I : Type 0} {k : SourceOf I} (t : Terms) (depths : List ℕ) (numbers : List (List ℤ)) (stages : ℕ) (now : PlaneState)
+    (result : Result Part TextFault) {x y : Coming I} → ReadsAs k (plane_script t depths numbers stages) (by_part result now now) x y →
     All (λ r. IsSigned) now
-signs_read t depths numbers stages now result read = said_kept (All (λ r. IsSigned)) (plane_script t depths numbers stages) (plane_signed t depths numbers stages) read.bits now result read.says
+signs_read t depths numbers stages now result read = said_kept (All (λ r. IsSigned)) (plane_script t depths numbers stages)
+    (plane_signed t depths numbers stages) read.bits now result read.says
 
-part_around : {I S T : Type 0} {k : SourceOf I} (put : S → T) (r : Script S S) (result : Result Part TextFault) (s : S) {x y : Coming I} → ReadsAs k r (by_part result s s) x y → ReadsAs k (around put r) (by_part result (put s) (put s)) x y
+part_around : {I S T : Type 0} {k : SourceOf I} (put : S → T) (r : Script S S) (result : Result Part TextFault) (s : S) {x y : Coming I} →
+    ReadsAs k r (by_part result s s) x y → ReadsAs k (around put r) (by_part result (put s) (put s)) x y
 part_around put r (Ok Whole) s q = let all : Result (Option (Unit {0})) TextFault = Ok (Some tt) in around_read put r all s q
 part_around put r (Ok Ended) s q = let none : Result (Option (Unit {0})) TextFault = Ok None in around_read put r none s q
 part_around put r (Err fault) s q = let failed : Result (Option (Unit {0})) TextFault = Err fault in around_read put r failed s q
 
-pub plane_read : {I : Type 0} {k : SourceOf I} {plane : ℕ} {numbers w : List (List ℤ)} (script : Script PlaneState PlaneState) (result : Result Part TextFault) {cells : List ℤ} {x y : Coming I} (s : TakesStages k plane numbers script result cells x y) →
+pub plane_read : {I : Type 0} {k : SourceOf I} {plane : ℕ} {numbers w : List (List ℤ)} (script : Script PlaneState PlaneState)
+    (result : Result Part TextFault) {cells : List ℤ} {x y : Coming I} (s : TakesStages k plane numbers script result cells x y) →
     blocks_with plane numbers s.now ≡ w → ReadsAs k (around (blocks_with plane numbers) script) (by_part result w w) x y
 plane_read {k = k} {plane} {numbers} script result {x = x} {y} s same =
-    subst (λ v. ReadsAs k (around (blocks_with plane numbers) script) (by_part result v v) x y) same (part_around (blocks_with plane numbers) script result s.now s.read)
+    subst (λ v. ReadsAs k (around (blocks_with plane numbers) script) (by_part result v v) x y) same (part_around
+    (blocks_with plane numbers) script result s.now s.read)
 
 -- ---- masks that stay
 
@@ -317,23 +349,41 @@ planes_others keeps = record { long = keeps.long; slots = λ r slot lt few apart
 pub planes_slots : {plane : ℕ} {old mid new : List ℤ} → KeepPlanes plane old mid → KeepSlots plane mid new → KeepPlanes plane old new
 planes_slots p q = record {
   long = q.long ∙ p.long;
-  slots = λ r slot lt few apart no_sign no_dc. q.slots r slot (subst (λ n. 64 * r < n) (sym p.long) lt) few apart no_sign ∙ p.slots r slot lt few apart no_sign no_dc;
+  slots = λ r slot lt few apart no_sign no_dc. q.slots r slot (subst (λ n. 64 * r < n) (sym p.long) lt) few apart no_sign ∙
+      p.slots r slot lt few apart no_sign no_dc;
 }
 
-pub above_planes : {plane : ℕ} {old new : List ℤ} (numbers : List (List ℤ)) → plane < 27 → KeepPlanes plane old new → AreAbove plane old numbers → AreAbove plane new numbers
+pub above_planes : {plane : ℕ} {old new : List ℤ} (numbers : List (List ℤ)) → plane < 27 → KeepPlanes plane old new → AreAbove plane old numbers →
+    AreAbove plane new numbers
 above_planes {plane} {old} {new} numbers low keeps above r lt p ac =
     let there : 64 * r < length old = subst (λ n. 64 * r < n) keeps.long lt in
-    ap (λ m. bit m p) (keeps.slots r above_slot there (omega arith) (λ e. omega (arith, e, low)) (λ e. omega (arith, e)) (λ e. omega (arith, e))) ∙ above r there p ac
+    ap (λ m. bit m p) (keeps.slots r above_slot there (omega arith) (λ e. omega (arith, e, low)) (λ e. omega (arith, e)) (λ e. omega (arith, e))) ∙
+    above r there p ac
 
 -- ---- a plane begins
 
 pub count_blocks : (cells : List ℤ) → length (blocks_in (numbers_in cells)) ≡ length cells / 64
 count_blocks cells = length-blocks (numbers_in cells) ∙ ap (λ n. n / 64) (length-numbers_in cells)
 
-pub begins : (plane : ℕ) (cells : List ℤ) → plane < 27 → length cells % 64 ≡ 0 → AreReady (plane + 1) cells → {old new : List ℤ} → Clears old new → HaveRead plane cells new (blocks_in (numbers_in cells)) nothing_yet
+pub begins : (plane : ℕ) (cells : List ℤ) → plane < 27 → length cells % 64 ≡ 0 → AreReady (plane + 1) cells → {old new : List ℤ} → Clears old new →
+    HaveRead plane cells new (blocks_in (numbers_in cells)) nothing_yet
 begins plane cells low whole ready clears = record {
   has = has_nothing plane cells low whole ready;
   dcs = dcs_nothing plane cells low whole ready;
   families = families_clear clears;
   options = options_clear clears;
 }
+
+-- planes above the one that was read stay empty
+pub below_next : {plane planes : ℕ} {old new last : List ℤ} → plane < 27 → plane < planes → KeepPlanes plane old new →
+    Settles plane (length new / 64) new last → AreBelow planes old → AreBelow planes last
+below_next {old = old} {new} low over keeps settles below r slot lt le few =
+    let mid : 64 * r < length new = subst (λ n. 64 * r < n) settles.long lt in
+    let first : 64 * r < length old = subst (λ n. 64 * r < n) keeps.long mid in
+    settles.other_slots r slot mid (omega (arith, few)) (λ e. omega (arith, e, few)) ∙ keeps.slots r slot first (omega (arith, few)) (λ e. omega (
+      arith,
+      e,
+      over,
+      le,
+    )) (λ e. omega (arith, e, few)) (λ e. omega (arith, e, few)) ∙
+    below r slot first le few

@@ -37,7 +37,8 @@ number_kept plane block zero = plus_none (get_or block 0 (pos 0))
 number_kept plane block (suc k) =
     let z = get_or block (suc k) (pos 0) in
     let apart : (suc k == 0) ≡ false = grind (arith, nat_tests) in
-    ap (λ b. if b then get_or block 0 (pos 0) +ℤ pos (bit_of_plane plane nothing 0) else if negative z || false then pos 0 -ℤ pos (unsigned_abs z + 0) else pos (unsigned_abs z + 0)) apart ∙ signed_back z
+    ap (λ b. if b then get_or block 0 (pos 0) +ℤ pos (bit_of_plane plane nothing 0) else if negative z || false then pos 0 -ℤ pos
+    (unsigned_abs z + 0) else pos (unsigned_abs z + 0)) apart ∙ signed_back z
 
 block_kept : (plane : ℕ) (block : List ℤ) → length block ≡ 64 → block_with plane block nothing ≡ block
 block_kept plane block whole =
@@ -63,11 +64,13 @@ blocks_whole xs even r lt =
 
 module _ (book : Book) (weights : List ℕ) (q : ℕ) (depths : List ℕ) (stages : ℕ → ℕ) where
   -- no plane is sent
-  pub none_sent : (below : ℕ) → ((plane : ℕ) → plane < below → stages plane ≡ 0) → (blocks : List (List ℤ)) → AreWhole blocks → planes_script book weights q depths stages below blocks ≡ done blocks
+  pub none_sent : (below : ℕ) → ((plane : ℕ) → plane < below → stages plane ≡ 0) → (blocks : List (List ℤ)) → AreWhole blocks →
+      planes_script book weights q depths stages below blocks ≡ done blocks
   none_sent zero none blocks whole = refl
   none_sent (suc plane) none blocks whole =
       let t : Terms = record { book = book; weights = weights; plane = plane; q = q } in
-      ap (λ n. then_ask (around (blocks_with plane blocks) (plane_script t depths blocks n)) (planes_script book weights q depths stages plane)) (none plane (omega arith)) ∙
+      ap (λ n. then_ask (around (blocks_with plane blocks) (plane_script t depths blocks n)) (planes_script book weights q depths stages plane)) (none plane
+      (omega arith)) ∙
       ap (planes_script book weights q depths stages plane) (blocks_kept plane blocks whole) ∙
       none_sent plane (λ p lt. none p (omega (arith, lt))) blocks whole
 
@@ -93,36 +96,58 @@ above_stop sent plane lt =
 
 -- a plane's script
 abbrev pub one_plane : Book → (weights : List ℕ) → (q : ℕ) → List ℕ → (plane stages : ℕ) → List (List ℤ) → Script (List (List ℤ)) (List (List ℤ))
-one_plane book weights q depths plane n blocks = around (blocks_with plane blocks) (plane_script (record { book = book; weights = weights; plane = plane; q = q }) depths blocks n)
+one_plane book weights q depths plane n blocks = around (blocks_with plane blocks) (plane_script (record {
+  book = book;
+  weights = weights;
+  plane = plane;
+  q =
+      q;
+}) depths blocks n)
 
 -- the plane of a plan
-pub plane_as : {I : Type 0} {k : SourceOf I} (book : Book) (sent : SentPlanes) (plan : CodedPlane) (plane n : ℕ) (depths' depths : List ℕ) (blocks : List (List ℤ)) (f : Found (List (List ℤ)) (List (List ℤ))) {x y : Coming I} →
+pub plane_as : {I : Type 0} {k : SourceOf I} (book : Book) (sent : SentPlanes) (plan : CodedPlane) (plane n : ℕ) (depths' depths : List ℕ) (blocks : List
+    (List ℤ)) (f : Found (List (List ℤ)) (List (List ℤ))) {x y : Coming I} →
     plan.plane ≡ plane → plan.q ≡ sent.q → plan.weights ≡ sent.weights → depths' ≡ depths →
-    ReadsAs k (around (blocks_with plan.plane blocks) (plane_script (terms_of plan book) depths' blocks n)) f x y → ReadsAs k (one_plane book sent.weights.shifts sent.q depths plane n blocks) f x y
+    ReadsAs k (around (blocks_with plan.plane blocks) (plane_script (terms_of plan book) depths' blocks n)) f x y →
+    ReadsAs k (one_plane book sent.weights.shifts sent.q depths plane n blocks) f x y
 plane_as {k = k} book sent plan plane n depths' depths blocks f {x} {y} is_plane is_q are_weights same read =
-    let e : around (blocks_with plan.plane blocks) (plane_script (terms_of plan book) depths' blocks n) ≡ one_plane book sent.weights.shifts sent.q depths plane n blocks =
-    λ i. around (blocks_with (is_plane i) blocks) (plane_script (record { book = book; weights = (are_weights i).shifts; plane = is_plane i; q = is_q i }) (same i) blocks n) in
+    let e : around (blocks_with plan.plane blocks) (plane_script (terms_of plan book) depths' blocks n) ≡ one_plane book sent.weights.shifts sent.q depths
+    plane n blocks =
+    λ i. around (blocks_with (is_plane i) blocks) (plane_script (record {
+      book = book;
+      weights = (are_weights i).shifts;
+      plane = is_plane i;
+      q =
+          is_q i;
+    }) (same i) blocks n) in
     subst (λ s. ReadsAs k s f x y) e read
 
 module _ {I : Type 0} {k : SourceOf I} (book : Book) (weights : List ℕ) (q : ℕ) (depths : List ℕ) (stages : ℕ → ℕ) where
-  module _ {all : Script (List (List ℤ)) (List (List ℤ))} {below plane n : ℕ} (blocks : List (List ℤ)) {x y : Coming I} (next : below ≡ suc plane) (sent : n ≡ stages plane)
+  module _ {all : Script (List (List ℤ)) (List (List ℤ))} {below plane n : ℕ} (blocks : List (List ℤ)) {x y : Coming I} (next : below ≡ suc plane)
+      (sent : n ≡ stages plane)
       (left : Leaves k all (planes_script book weights q depths stages below blocks) x y) where
     left_is : Leaves k all (then_ask (one_plane book weights q depths plane n blocks) (planes_script book weights q depths stages plane)) x y
     left_is =
         subst (λ m. Leaves k all (then_ask (one_plane book weights q depths plane m blocks) (planes_script book weights q depths stages plane)) x y) (sym sent)
         (subst (λ b. Leaves k all (planes_script book weights q depths stages b blocks) x y) next left)
 
-    pub planes_more : (now : List (List ℤ)) {z : Coming I} → ReadsAs k (one_plane book weights q depths plane n blocks) (got now) y z → Leaves k all (planes_script book weights q depths stages plane now) x z
+    pub planes_more : (now : List (List ℤ)) {z : Coming I} → ReadsAs k (one_plane book weights q depths plane n blocks) (got now) y z →
+        Leaves k all (planes_script book weights q depths stages plane now) x z
     planes_more now read = leaves_more all (one_plane book weights q depths plane n blocks) (planes_script book weights q depths stages plane) now left_is read
 
-    pub planes_cut : (now : List (List ℤ)) {z : Coming I} → ReadsAs k (one_plane book weights q depths plane n blocks) (ends now) y z → ReadsAs k all (ends now) x z
-    planes_cut now {z} read = left_is.then (ends now) z (read_cut (one_plane book weights q depths plane n blocks) (planes_script book weights q depths stages plane) now read)
+    pub planes_cut : (now : List (List ℤ)) {z : Coming I} → ReadsAs k (one_plane book weights q depths plane n blocks) (ends now) y z →
+        ReadsAs k all (ends now) x z
+    planes_cut now {z} read = left_is.then (ends now) z (read_cut (one_plane book weights q depths plane n blocks)
+        (planes_script book weights q depths stages plane) now read)
 
-    pub planes_fault : (now : List (List ℤ)) (fault : TextFault) {z : Coming I} → ReadsAs k (one_plane book weights q depths plane n blocks) (by_fault fault now) y z → ReadsAs k all (by_fault fault now) x z
-    planes_fault now fault {z} read = left_is.then (by_fault fault now) z (read_fault (one_plane book weights q depths plane n blocks) (planes_script book weights q depths stages plane) now fault read)
+    pub planes_fault : (now : List (List ℤ)) (fault : TextFault) {z : Coming I} → ReadsAs k (one_plane book weights q depths plane n blocks)
+        (by_fault fault now) y z → ReadsAs k all (by_fault fault now) x z
+    planes_fault now fault {z} read = left_is.then (by_fault fault now) z (read_fault (one_plane book weights q depths plane n blocks)
+        (planes_script book weights q depths stages plane) now fault read)
 
   -- the planes that are left are not sent
-  pub planes_done : {all : Script (List (List ℤ)) (List (List ℤ))} {below : ℕ} {blocks : List (List ℤ)} {x y : Coming I} → IsIn y → ((plane : ℕ) → plane < below → stages plane ≡ 0) → AreWhole blocks →
+  pub planes_done : {all : Script (List (List ℤ)) (List (List ℤ))} {below : ℕ} {blocks : List (List ℤ)} {x y : Coming I} → IsIn y → ((plane : ℕ) →
+      plane < below → stages plane ≡ 0) → AreWhole blocks →
       Leaves k all (planes_script book weights q depths stages below blocks) x y → ReadsAs k all (got blocks) x y
   planes_done {all} {below} {blocks} {x} {y} i none whole left =
       let end : Leaves k all (done blocks) x y = subst (λ s. Leaves k all s x y) (none_sent book weights q depths stages below none blocks whole) left in

@@ -20,7 +20,8 @@ Kept P Q (cut g) = P g
 Kept P Q (refused g name left) = P g
 
 module _ {G : Type 0} (P : G → Type 0) where
-  pub keeps_then : {A B : Type 0} (Q : A → Type 0) (R : B → Type 0) (r : Script G A) (next : A → Script G B) → Keeps P Q r → ((a : A) → Q a → Keeps P R (next a)) →
+  pub keeps_then : {A B : Type 0} (Q : A → Type 0) (R : B → Type 0) (r : Script G A) (next : A → Script G B) → Keeps P Q r → ((a : A) → Q a →
+      Keeps P R (next a)) →
       Keeps P R (then_ask r next)
   keeps_then Q R (done a) next k h = h a k
   keeps_then Q R (ask given form more) next k h = (k.0, λ n. keeps_then Q R (more n) next (k.1 n) h)
@@ -31,7 +32,8 @@ module _ {G : Type 0} (P : G → Type 0) where
   keeps_turn item least each (suc n) j s le k =
       keeps_then P P (item j s) (in_turn item (suc j) n) (each j s le k) (λ u h. keeps_turn item least each n (suc j) u (omega (arith, le)) h)
 
-  unless_kept : {A : Type 0} (Q : A → Type 0) (g : G) (name : Option Refusal) (left : List Bool) (o : Outcome G A) → P g → Kept P Q o → Kept P Q (unless_named g name left o)
+  unless_kept : {A : Type 0} (Q : A → Type 0) (g : G) (name : Option Refusal) (left : List Bool) (o : Outcome G A) → P g → Kept P Q o →
+      Kept P Q (unless_named g name left o)
   unless_kept Q g (Some name) left o p h = p
   unless_kept Q g None left o p h = h
 
@@ -67,6 +69,7 @@ module _ {G : Type 0} (P : G → Type 0) where
     said_kept (Err texts.LongInput) e = cut_kept e
     said_kept (Err texts.Broken) e = cut_kept e
 
-pub keeps_around : {S T : Type 0} (P : S → Type 0) (Q : T → Type 0) (put : S → T) → ((s : S) → P s → Q (put s)) → (r : Script S S) → Keeps P P r → Keeps Q Q (around put r)
+pub keeps_around : {S T : Type 0} (P : S → Type 0) (Q : T → Type 0) (put : S → T) → ((s : S) → P s → Q (put s)) → (r : Script S S) → Keeps P P r →
+    Keeps Q Q (around put r)
 keeps_around P Q put h (done s) k = h s k
 keeps_around P Q put h (ask given form more) k = (h given k.0, λ n. keeps_around P Q put h (more n) (k.1 n))

@@ -28,13 +28,15 @@ due_turned false false false = refl
 module _ (t : Terms) (block : List ℤ) (mask : ℕ) (marked : IsAbove mask block t.plane) where
   -- a mask of the AC numbers that are significant above gives the same for sets
   pub was_set : (s : Set) → IsKnown s → list_any (bit mask) (members s) ≡ above t block s
-  was_set s known = any_alike (bit mask) (significant block (t.plane + 1)) (members s) (members_acs s known) marked ∙ sym (set_significant-is block (t.plane + 1) s)
+  was_set s known = any_alike (bit mask) (significant block (t.plane + 1)) (members s) (members_acs s known) marked ∙
+      sym (set_significant-is block (t.plane + 1) s)
 
   pub live_set : (s : Set) → list_any (coded t.weights t.plane) (members s) ≡ live t.weights t.plane s
   live_set s = sym (live-is t.weights t.plane s)
 
   -- whether the flag of a set is due
-  pub due_set : (s : Set) → IsKnown s → (enclosing : Bool) → ((not (list_any (bit mask) (members s)) && list_any (coded t.weights t.plane) (members s)) && enclosing) ≡ is_due t block s enclosing
+  pub due_set : (s : Set) → IsKnown s → (enclosing : Bool) → ((not (list_any (bit mask) (members s)) && list_any (coded t.weights t.plane)
+      (members s)) && enclosing) ≡ is_due t block s enclosing
   due_set s known enclosing =
       (λ i. (not (was_set s known i) && live_set s i) && enclosing) ∙ due_turned (above t block s) (live t.weights t.plane s) enclosing
 

@@ -82,7 +82,8 @@ picked : (g f : ℕ → Bool) (ps : List ℕ) → AllByRecursion (λ p. (g p || 
 picked g f [] = tt
 picked g f (p ∷ ps) = by (f p) refl (picked g f ps)
   where
-    by : (b : Bool) → f p ≡ b → AllByRecursion (λ p. (g p || f p) ≡ true) (filter f ps) → AllByRecursion (λ p. (g p || f p) ≡ true) (if b then p ∷ filter f ps else filter f ps)
+    by : (b : Bool) → f p ≡ b → AllByRecursion (λ p. (g p || f p) ≡ true) (filter f ps) → AllByRecursion (λ p. (g p || f p) ≡ true)
+        (if b then p ∷ filter f ps else filter f ps)
     by true e rest = (or_right (g p) (f p) e, rest)
     by false e rest = rest
 
@@ -99,10 +100,12 @@ module _ (P : State → Type 0) (c : IsStable P) where
   word_keeps : (book : Book) (count : ℕ) (check : Check) (s : State) → P s → Keeps P (λ w. P w.0) (word_script book count check s)
   word_keeps book count check s k = by (count == 0) (count == 1)
     where
-      by : (none one : Bool) → Keeps P (λ w. P w.0) (if none then done (let w : State × ℕ = (s, 0) in w) else if one then ask s (raw_form check) (λ value. done (let w : State × ℕ = (s, value) in w)) else then_ask (option_script count s (s.options count)) (coded_script book count check))
+      by : (none one : Bool) → Keeps P (λ w. P w.0) (if none then done (let w : State × ℕ = (s, 0) in w) else if one then ask s (raw_form check)
+          (λ value. done (let w : State × ℕ = (s, value) in w)) else then_ask (option_script count s (s.options count)) (coded_script book count check))
       by true one = k
       by false true = (k, λ n. k)
-      by false false = keeps_then P P (λ w. P w.0) (option_script count s (s.options count)) (coded_script book count check) (option_keeps count s (s.options count) k) (λ u h. (h, λ n. h))
+      by false false = keeps_then P P (λ w. P w.0) (option_script count s (s.options count)) (coded_script book count check) (option_keeps count s
+          (s.options count) k) (λ u h. (h, λ n. h))
 
   -- no place that is 0 is 1 if there is none
   abbrev Picks : List ℕ → State × (ℕ → Bool) → Type 0
@@ -118,7 +121,8 @@ module _ (P : State → Type 0) (c : IsStable P) where
   signs_keep [] s all k = k
   signs_keep (p ∷ ps) s all k = (k, λ n. signs_keep ps (with_minus s (and_one s.minus p (n == 1))) all.1 (c.sign s p (n == 1) all.0 k))
 
-  types_keep : (book : Book) (due : ℕ → Bool) (wanted : Bool) (positions : List ℕ) (s : State) → AllByRecursion (λ p. 1 ≤ p) positions → P s → Keeps P P (types_script book due wanted positions s)
+  types_keep : (book : Book) (due : ℕ → Bool) (wanted : Bool) (positions : List ℕ) (s : State) → AllByRecursion (λ p. 1 ≤ p) positions → P s →
+      Keeps P P (types_script book due wanted positions s)
   types_keep book due wanted positions s all k =
       keeps_then P (Picks positions) P (due_script book due (some_one_where wanted) positions s) _ (due_keeps book due (some_one_where wanted) positions s k)
       (λ r h. signs_keep (filter r.1 positions) (with_bits r.0 r.1) (picked r.0.bits r.1 positions) (c.bits r.0 r.1 (h.1 all) h.0))
@@ -127,10 +131,12 @@ module _ (P : State → Type 0) (c : IsStable P) where
   sent_keeps true r s h k = h
   sent_keeps false r s h k = k
 
-  groups_keep : (book : Book) (due : ℕ → Bool) (first : ℕ) (sent wanted : ℕ → Bool) → 1 ≤ first → (n : ℕ) (s : State) → P s → Keeps P P (in_turn (group_script book due first sent wanted) 0 n s)
+  groups_keep : (book : Book) (due : ℕ → Bool) (first : ℕ) (sent wanted : ℕ → Bool) → 1 ≤ first → (n : ℕ) (s : State) → P s →
+      Keeps P P (in_turn (group_script book due first sent wanted) 0 n s)
   groups_keep book due first sent wanted le n s k =
       keeps_turn P (group_script book due first sent wanted) 0
-      (λ j u low h. sent_keeps (sent j) (types_script book due (wanted j) (span (first + 4 * j) 4) u) u (types_keep book due (wanted j) (span (first + 4 * j) 4) u (from_first (first + 4 * j) 4 (omega (arith, le))) h) h)
+      (λ j u low h. sent_keeps (sent j) (types_script book due (wanted j) (span (first + 4 * j) 4) u) u (types_keep book due (wanted j) (span
+      (first + 4 * j) 4) u (from_first (first + 4 * j) 4 (omega (arith, le))) h) h)
       n 0 s (omega arith) k
 
   bit_keeps : (p : ℕ) (s : State) → 1 ≤ p → P s → Keeps P P (bit_script p s)
@@ -141,15 +147,18 @@ module _ (P : State → Type 0) (c : IsStable P) where
   -- ---- stages 1 to 4
 
   module _ (t : Terms) (block : List ℤ) where
-    flag_keeps : (b was : Bool) (s : State) → P s → Keeps P (λ (a : Bool). P s) (let none : Script State Bool = done was in if b then ask_bit s (λ a. done a) else none)
+    flag_keeps : (b was : Bool) (s : State) → P s → Keeps P (λ (a : Bool). P s) (let none : Script State Bool = done was in
+        if b then ask_bit s (λ a. done a) else none)
     flag_keeps true was s k = (k, λ n. k)
     flag_keeps false was s k = k
 
     children_keep : (s : State) → P s → Keeps P P (children_script t block s)
     children_keep s k =
-        keeps_then P (λ (a : Bool). P s) P (descendants_script t block s) _ (flag_keeps (not (above t block Descendants) && live t.weights t.plane Descendants) (above t block Descendants) s k)
+        keeps_then P (λ (a : Bool). P s) P (descendants_script t block s) _ (flag_keeps (not
+        (above t block Descendants) && live t.weights t.plane Descendants) (above t block Descendants) s k)
         (λ all h.
-        keeps_then P (Picks (span 0 3)) P (due_script t.book (λ i. is_due t block (Family i) all) (some_one_where (all && not (above t block Descendants))) (span 0 3) s) _
+        keeps_then P (Picks (span 0 3)) P (due_script t.book (λ i. is_due t block (Family i) all) (some_one_where (all && not (above t block Descendants)))
+        (span 0 3) s) _
         (due_keeps t.book (λ i. is_due t block (Family i) all) (some_one_where (all && not (above t block Descendants))) (span 0 3) s h)
         (λ r d.
         let families : ℕ → Bool = λ i. above t block (Family i) || r.1 i in
@@ -171,7 +180,8 @@ module _ (P : State → Type 0) (c : IsStable P) where
         keeps_then P (Picks (span 0 3)) P (due_script t.book due check (span 0 3) s) _ (due_keeps t.book due check (span 0 3) s k)
         (λ r d.
         keeps_turn P (λ i u. if above t block (Grandchildren i) || r.1 i then quads_script t block i (r.1 i) u else done u) 0
-        (λ i u low h. sent_keeps (above t block (Grandchildren i) || r.1 i) (quads_script t block i (r.1 i) u) u (quads_keep i (r.1 i) u h) h) 3 0 r.0 (omega arith) d.0)
+        (λ i u low h. sent_keeps (above t block (Grandchildren i) || r.1 i) (quads_script t block i (r.1 i) u) u (quads_keep i (r.1 i) u h) h) 3 0 r.0
+        (omega arith) d.0)
 
     refinement_keeps : (s : State) → P s → Keeps P P (refinement_script t block s)
     refinement_keeps s k =
@@ -209,13 +219,15 @@ all_put P p r b here all i = elim (cases_eq i r) [
 ]
 
 module _ (P : ℕ → State → Type 0) (c : (r : ℕ) → IsStable (P r)) (t : Terms) (depths : List ℕ) (numbers : List (List ℤ)) where
-  block_keeps : (stage : ℕ) → (each : (r depth : ℕ) (block : List ℤ) (s : State) → P r s → Keeps (P r) (P r) (stage_script t stage depth block s)) → (r : ℕ) (p : PlaneState) → All P p →
+  block_keeps : (stage : ℕ) → (each : (r depth : ℕ) (block : List ℤ) (s : State) → P r s → Keeps (P r) (P r) (stage_script t stage depth block s)) →
+      (r : ℕ) (p : PlaneState) → All P p →
       Keeps (All P) (All P) (around (with_block p r) (stage_script t stage (get_or depths r 0) (get_or numbers r []) (of_block p r)))
   block_keeps stage each r p all =
       keeps_around (P r) (All P) (with_block p r) (λ s h. all_put P p r s h all) (stage_script t stage (get_or depths r 0) (get_or numbers r []) (of_block p r))
       (each r (get_or depths r 0) (get_or numbers r []) (of_block p r) ((c r).options (p.blocks r) (p.options (r / 16)) (all r)))
 
-  blocks_keep : (stage : ℕ) → (each : (r depth : ℕ) (block : List ℤ) (s : State) → P r s → Keeps (P r) (P r) (stage_script t stage depth block s)) → (p : PlaneState) → All P p →
+  blocks_keep : (stage : ℕ) → (each : (r depth : ℕ) (block : List ℤ) (s : State) → P r s → Keeps (P r) (P r) (stage_script t stage depth block s)) →
+      (p : PlaneState) → All P p →
       Keeps (All P) (All P) (blocks_script t depths numbers stage p)
   blocks_keep stage each p all =
       keeps_turn (All P) (λ r s. around (with_block s r) (stage_script t stage (get_or depths r 0) (get_or numbers r []) (of_block s r))) 0

@@ -38,7 +38,8 @@ dc_in cells r = cast_signed w32 (mask_in cells r dc_slot % 2 ^ 32)
 
 -- the DCs have the bits that were read of them in the plane
 abbrev pub HaveDcs : (plane : ℕ) → (cells : List ℤ) → List (List ℤ) → PlaneState → Type 0
-HaveDcs plane cells numbers p = (r : ℕ) → 64 * r < length cells → dc_in cells r ≡ get_or (get_or numbers r []) 0 (pos 0) +ℤ pos (bit_of_plane plane (p.blocks r) 0)
+HaveDcs plane cells numbers p = (r : ℕ) → 64 * r < length cells → dc_in cells r ≡ get_or (get_or numbers r []) 0 (pos 0) +ℤ pos (bit_of_plane plane
+    (p.blocks r) 0)
 
 -- only masks of the plane and of signs changed
 pub record KeepSlots (plane : ℕ) (old new : List ℤ) : Type 0 where

@@ -8,4 +8,5 @@ pub mod Groups
 pub mod Grandchildren
 pub mod Above
 pub mod Joined
+pub mod Lanes
 pub mod Planes

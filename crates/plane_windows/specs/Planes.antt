@@ -57,7 +57,8 @@ pub record Clears (old new : List ℤ) : Type 0 where
 -- only masks of the plane and of signs changed, and DCs
 pub record KeepPlanes (plane : ℕ) (old new : List ℤ) : Type 0 where
   pub long : length new ≡ length old
-  pub slots : (r slot : ℕ) → 64 * r < length old → slot < 32 → (slot ≡ plane → ⊥) → (slot ≡ minus_slot → ⊥) → (slot ≡ dc_slot → ⊥) → mask_in new r slot ≡ mask_in old r slot
+  pub slots : (r slot : ℕ) → 64 * r < length old → slot < 32 → (slot ≡ plane → ⊥) → (slot ≡ minus_slot → ⊥) → (slot ≡ dc_slot → ⊥) → mask_in
+      new r slot ≡ mask_in old r slot
 
 -- stages of a plane were read, and the masks have what was read: exactly the bits that decide were taken
 pub record TakesStages {I : Type 0} (k : SourceOf I) (plane : ℕ) (numbers : List (List ℤ)) (script : Script PlaneState PlaneState)

@@ -49,9 +49,11 @@ fn take_bits<I: OctetIn>(
     requires reading { IsReading I.source (coming input.old) reading.old }
     requires whole { length cells.old % 64 ≡ 0 }
     requires low { plane < 27 }
-    ensures bits { (numbers : List (List ℤ)) (marks : List ℤ) → length cells.old ≡ 64 * length numbers → ((r : ℕ) → r < length numbers → HasNoneBelow (plane + 1) (get_or (get_or numbers r []) 0 (pos 0))) →
+    ensures bits { (numbers : List (List ℤ)) (marks : List ℤ) → length cells.old ≡ 64 * length numbers → ((r : ℕ) → r < length numbers →
+        HasNoneBelow (plane + 1) (get_or (get_or numbers r []) 0 (pos 0))) →
         HaveRead plane cells.old marks numbers nothing_yet →
-        HeldDcs I.source plane numbers (in_turn (dc_item true) 0 (length numbers) nothing_yet) result cells.new marks (point (coming input.old) reading.old.cursor) (point (coming input.new) reading.new.cursor) }
+        HeldDcs I.source plane numbers (in_turn (dc_item true) 0 (length numbers) nothing_yet) result cells.new marks (point
+        (coming input.old) reading.old.cursor) (point (coming input.new) reading.new.cursor) }
     ensures keeps { KeepOthers cells.old cells.new }
     ensures holds { Holds I.source (coming input.new) reading.new.cursor }
     ensures is_in { IsIn (coming input.new) }
@@ -82,9 +84,12 @@ pub(crate) fn take_dcs<I: OctetIn>(
 ) -> Result<Part, TextFault>
     requires open { IsIn (coming input.old) }
     requires whole { length cells.old % 64 ≡ 0 }
-    ensures stage { (depths : List ℕ) (numbers : List (List ℤ)) (marks : List ℤ) → length depths ≡ length numbers → length cells.old ≡ 64 * length numbers → AwaitDcs (terms.now.plan.now.plane + 1) terms.now.plan.now.q numbers →
+    ensures stage { (depths : List ℕ) (numbers : List (List ℤ)) (marks : List ℤ) → length depths ≡ length numbers → length cells.old ≡ 64 * length numbers →
+        AwaitDcs (terms.now.plan.now.plane + 1) terms.now.plan.now.q numbers →
         HaveRead terms.now.plan.now.plane cells.old marks numbers nothing_yet →
-        TakesStage I.source terms.now.plan.now.plane numbers (blocks_script (terms_of terms.now.plan.now terms.now.tables.now.words.book) depths numbers 0 nothing_yet) result cells.new marks (coming input.old) (coming input.new) }
+        TakesStage I.source terms.now.plan.now.plane numbers (blocks_script
+        (terms_of terms.now.plan.now terms.now.tables.now.words.book) depths numbers 0 nothing_yet) result cells.new marks (coming input.old)
+        (coming input.new) }
     ensures keeps { KeepOthers cells.old cells.new }
     ensures is_in { IsIn (coming input.new) }
 {

@@ -27,12 +27,18 @@ pub(crate) struct Blocks {
     pub deep: u64,
 }
 
+// The blocks of a gaggle, and the plane in which they are read.
+#[derive(Clone, Copy)]
+struct Planned<'a> {
+    plan: &'a CodedPlane,
+    blocks: Blocks,
+}
+
 // Reads what the blocks of a gaggle send in stage 1, 2, 3 or 4.
 fn take_blocks<I: OctetIn, const STAGE: u8>(
     input: &mut BitIn<I>,
-    plan: &CodedPlane,
+    of: &Planned,
     reading: &mut Reading,
-    blocks: Blocks,
     cells: &mut [i32],
     marks: &mut [i32],
 ) -> Result<Part, TextFault>
@@ -40,31 +46,34 @@ fn take_blocks<I: OctetIn, const STAGE: u8>(
     requires some { 1 ≤ STAGE }
     requires stage { STAGE < 5 }
     requires whole { length cells.old ≡ 64 * length marks.old }
-    requires column { IsColumn cells.old blocks.first }
-    requires gaggle { blocks.first.block % 16 ≡ 0 }
-    requires count { blocks.count ≤ 16 }
-    requires within { blocks.first.block + blocks.count ≤ length marks.old }
-    ensures blocks { (depths : List ℕ) (numbers : List (List ℤ)) (p : PlaneState) → AreDeep plan.now.plane depths blocks → AreAbove plan.now.plane cells.old numbers → HavePlane plan.now.plane cells.old numbers p → HaveFamilies marks.old p →
-        AreIn reading.old.gaggle (p.options (blocks.first.block / 16)) →
-        TakesBlocks I.source plan.now.plane (blocks.first.block / 16) numbers p (gaggle_script (terms_of plan.now reading.old.tables.now.words.book) STAGE depths numbers blocks.first.block blocks.count p) result reading.new.gaggle cells.new marks.new
+    requires column { IsColumn cells.old of.now.blocks.first }
+    requires gaggle { of.now.blocks.first.block % 16 ≡ 0 }
+    requires count { of.now.blocks.count ≤ 16 }
+    requires within { of.now.blocks.first.block + of.now.blocks.count ≤ length marks.old }
+    ensures blocks { (depths : List ℕ) (numbers : List (List ℤ)) (p : PlaneState) → AreDeep of.now.plan.now.plane depths of.now.blocks →
+        AreAbove of.now.plan.now.plane cells.old numbers → HavePlane of.now.plan.now.plane cells.old numbers p → HaveFamilies marks.old p →
+        AreIn reading.old.gaggle (p.options (of.now.blocks.first.block / 16)) →
+        TakesBlocks I.source of.now.plan.now.plane (of.now.blocks.first.block / 16) numbers p (gaggle_script
+        (terms_of of.now.plan.now reading.old.tables.now.words.book) STAGE depths numbers of.now.blocks.first.block of.now.blocks.count p) result
+        reading.new.gaggle cells.new marks.new
         (point (coming input.old) reading.old.cursor) (point (coming input.new) reading.new.cursor) }
     ensures states { KeepStates marks.old marks.new }
-    ensures keeps { KeepSlots plan.now.plane cells.old cells.new }
+    ensures keeps { KeepSlots of.now.plan.now.plane cells.old cells.new }
     ensures tables { reading.new.tables ≡ reading.old.tables }
     ensures reading { OnWhole result (IsReading I.source (coming input.new) reading.new) }
     ensures holds { Holds I.source (coming input.new) reading.new.cursor }
     ensures is_in { IsIn (coming input.new) }
 {
-    for k in 0..blocks.count {
-        if !has(blocks.deep, k) {
+    for k in 0..of.blocks.count {
+        if !has(of.blocks.deep, k) {
             continue;
         }
-        let column = blocks.first.further(cells, usize::from(k));
+        let column = of.blocks.first.further(cells, usize::from(k));
         let mut block = Block {
             column,
             mark: marks[column.block],
         };
-        let read = take_block::<I, STAGE>(input, plan, reading, &mut block, cells);
+        let read = take_block::<I, STAGE>(input, of.plan, reading, &mut block, cells);
         marks[column.block] = block.mark;
         let Part::Whole = read? else {
             return Ok(Part::Ended);
@@ -100,18 +109,26 @@ pub(crate) fn take_gaggle<I: OctetIn, const STAGE: u8>(
     requires gaggle { blocks.first.block % 16 ≡ 0 }
     requires count { blocks.count ≤ 16 }
     requires within { blocks.first.block + blocks.count ≤ length marks.old }
-    ensures blocks { (depths : List ℕ) (numbers : List (List ℤ)) (p : PlaneState) → AreDeep terms.now.plan.now.plane depths blocks → AreAbove terms.now.plan.now.plane cells.old numbers → HavePlane terms.now.plan.now.plane cells.old numbers p → HaveFamilies marks.old p →
+    ensures blocks { (depths : List ℕ) (numbers : List (List ℤ)) (p : PlaneState) → AreDeep terms.now.plan.now.plane depths blocks →
+        AreAbove terms.now.plan.now.plane cells.old numbers → HavePlane terms.now.plan.now.plane cells.old numbers p → HaveFamilies marks.old p →
         AreIn (gaggle_at marks.old (blocks.first.block / 16)) (p.options (blocks.first.block / 16)) →
-        TakesGaggle I.source terms.now.plan.now.plane (blocks.first.block / 16) numbers p (gaggle_script (terms_of terms.now.plan.now terms.now.tables.now.words.book) STAGE depths numbers blocks.first.block blocks.count p) result cells.new marks.new (coming input.old) (coming input.new) }
+        TakesGaggle I.source terms.now.plan.now.plane (blocks.first.block / 16) numbers p (gaggle_script
+        (terms_of terms.now.plan.now terms.now.tables.now.words.book) STAGE depths numbers blocks.first.block blocks.count p) result cells.new marks.new
+        (coming input.old) (coming input.new) }
     ensures keeps { KeepSlots terms.now.plan.now.plane cells.old cells.new }
     ensures options { OnWhole result (AreOptions (options_at marks.new (blocks.first.block / 16))) }
-    ensures others { (g : ℕ) → (g ≡ blocks.first.block / 16 → ⊥) → (options_at marks.new g ≡ options_at marks.old g) × (sent_at marks.new g ≡ sent_at marks.old g) }
+    ensures others { (g : ℕ) → (g ≡ blocks.first.block / 16 → ⊥) → (options_at marks.new g ≡ options_at marks.old g) ×
+        (sent_at marks.new g ≡ sent_at marks.old g) }
     ensures depths { depths_of marks.new ≡ depths_of marks.old }
     ensures is_in { IsIn (coming input.new) }
 {
     let g = blocks.first.block / 16;
     let mut reading = Reading::open(input, terms.tables, load(marks, g));
-    let read = take_blocks::<I, STAGE>(input, terms.plan, &mut reading, blocks, cells, marks);
+    let of = Planned {
+        plan: terms.plan,
+        blocks,
+    };
+    let read = take_blocks::<I, STAGE>(input, &of, &mut reading, cells, marks);
     reading.close(input);
     let Part::Whole = read? else {
         return Ok(Part::Ended);

@@ -1,8 +1,9 @@
 //! This crate reads the bit planes of a segment (docs/formats.md, "Bit planes", "Words and codes" and "Stops, cut and fill").
 //!
 //! `take_planes` goes over the planes, from the top down, with masks in the place of the numbers: `slicing` makes them before the first
-//! plane, and `joining` turns them into numbers after the last. `plane` goes over the stages and gaggles of a plane, and `dc_bits` reads
-//! stage 0. A stage of a gaggle is read from a window of the text that is held while it lasts: `gaggles` goes over its blocks.
+//! plane, and `joining` turns them into numbers after the last, block by block (`number_lanes`). `plane` goes over the stages and gaggles
+//! of a plane, and `dc_bits` reads stage 0. A stage of a gaggle is read from a window of the text that is held while it lasts: `gaggles`
+//! goes over its blocks.
 //!
 //! A `Cursor` holds the window: the input is behind by the bits that were read of it, until the cursor is closed. `PlaceTables` have the
 //! word that is first in an octet for each mask of what is due. A `Reading` reads flags, words, types and signs by them, and deals out the
@@ -20,6 +21,7 @@ mod gaggles;
 mod grandchildren;
 mod groups;
 mod joining;
+mod number_lanes;
 mod places;
 mod plane;
 mod planes;

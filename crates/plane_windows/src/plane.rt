@@ -12,6 +12,7 @@ ghost use Rattle.plane_scripts.specs.Planes.{PlaneState, nothing_yet, blocks_scr
 ghost use Rattle.plane_windows.specs.Above.{AreReady, AwaitDcs};
 ghost use Rattle.plane_windows.specs.Blocks.{terms_of, OnWhole};
 ghost use Rattle.plane_windows.specs.Gaggles.{AreDeep, AreAbove, HaveRead, KeepSlots, TakesStage};
+ghost use Rattle.plane_windows.specs.Joined.{AreBelow};
 ghost use Rattle.plane_windows.specs.Planes.{Clears, KeepPlanes, TakesStages};
 ghost use Rattle.wave_defs.specs.Held.{blocks_in};
 ghost use lib.ListN.{get_or};
@@ -83,8 +84,10 @@ fn take_gaggles<I: OctetIn, const STAGE: u8>(
     requires stage { STAGE < 5 }
     requires known { AreKnown marks.old }
     requires whole { length cells.old ≡ 64 * length marks.old }
-    ensures stage { (numbers : List (List ℤ)) (p : PlaneState) → AreAbove terms.now.plan.now.plane cells.old numbers → HaveRead terms.now.plan.now.plane cells.old marks.old numbers p →
-        TakesStage I.source terms.now.plan.now.plane numbers (blocks_script (terms_of terms.now.plan.now terms.now.tables.now.words.book) (depths_of marks.old) numbers STAGE p) result cells.new marks.new (coming input.old) (coming input.new) }
+    ensures stage { (numbers : List (List ℤ)) (p : PlaneState) → AreAbove terms.now.plan.now.plane cells.old numbers →
+        HaveRead terms.now.plan.now.plane cells.old marks.old numbers p →
+        TakesStage I.source terms.now.plan.now.plane numbers (blocks_script (terms_of terms.now.plan.now terms.now.tables.now.words.book)
+        (depths_of marks.old) numbers STAGE p) result cells.new marks.new (coming input.old) (coming input.new) }
     ensures keeps { KeepSlots terms.now.plan.now.plane cells.old cells.new }
     ensures known { OnWhole result (AreKnown marks.new) }
     ensures depths { depths_of marks.new ≡ depths_of marks.old }
@@ -112,8 +115,10 @@ fn take_stage<I: OctetIn>(
     requires number { number < 5 }
     requires known { AreKnown marks.old }
     requires whole { length cells.old ≡ 64 * length marks.old }
-    ensures stage { (numbers : List (List ℤ)) (p : PlaneState) → AreAbove terms.now.plan.now.plane cells.old numbers → HaveRead terms.now.plan.now.plane cells.old marks.old numbers p →
-        TakesStage I.source terms.now.plan.now.plane numbers (blocks_script (terms_of terms.now.plan.now terms.now.tables.now.words.book) (depths_of marks.old) numbers number p) result cells.new marks.new (coming input.old) (coming input.new) }
+    ensures stage { (numbers : List (List ℤ)) (p : PlaneState) → AreAbove terms.now.plan.now.plane cells.old numbers →
+        HaveRead terms.now.plan.now.plane cells.old marks.old numbers p →
+        TakesStage I.source terms.now.plan.now.plane numbers (blocks_script (terms_of terms.now.plan.now terms.now.tables.now.words.book)
+        (depths_of marks.old) numbers number p) result cells.new marks.new (coming input.old) (coming input.new) }
     ensures keeps { KeepSlots terms.now.plan.now.plane cells.old cells.new }
     ensures known { OnWhole result (AreKnown marks.new) }
     ensures depths { depths_of marks.new ≡ depths_of marks.old }
@@ -141,7 +146,8 @@ fn take_stages<I: OctetIn>(
     requires ready { AreReady (terms.now.plan.now.plane + 1) cells.old }
     requires dcs { AwaitDcs (terms.now.plan.now.plane + 1) terms.now.plan.now.q (blocks_in (numbers_in cells.old)) }
     ensures stages { TakesStages I.source terms.now.plan.now.plane (blocks_in (numbers_in cells.old))
-        (plane_script (terms_of terms.now.plan.now terms.now.tables.now.words.book) (depths_of marks.old) (blocks_in (numbers_in cells.old)) (last + 1)) result cells.new (coming input.old) (coming input.new) }
+        (plane_script (terms_of terms.now.plan.now terms.now.tables.now.words.book) (depths_of marks.old) (blocks_in (numbers_in
+        cells.old)) (last + 1)) result cells.new (coming input.old) (coming input.new) }
     ensures keeps { KeepPlanes terms.now.plan.now.plane cells.old cells.new }
     ensures depths { depths_of marks.new ≡ depths_of marks.old }
     ensures is_in { IsIn (coming input.new) }
@@ -176,6 +182,7 @@ pub(crate) fn take_plane<I: OctetIn>(
         (by_part result (blocks_in (numbers_in cells.new)) (blocks_in (numbers_in cells.new))) (coming input.old) (coming input.new) }
     ensures ready { AreReady terms.now.plan.now.plane cells.new }
     ensures dcs { AwaitDcs terms.now.plan.now.plane terms.now.plan.now.q (blocks_in (numbers_in cells.new)) }
+    ensures below { (planes : ℕ) → terms.now.plan.now.plane < planes → AreBelow planes cells.old → AreBelow planes cells.new }
     ensures depths { depths_of marks.new ≡ depths_of marks.old }
     ensures size { length cells.new ≡ length cells.old }
     ensures is_in { IsIn (coming input.new) }

@@ -7,6 +7,7 @@ ghost use Rattle.item_scripts.specs.Sources.{ReadsAs, by_part};
 ghost use Rattle.plane_defs.specs.Marks.{depths_of};
 ghost use Rattle.plane_scripts.specs.Planes.{planes_script};
 ghost use Rattle.plane_windows.specs.Above.{AreReady, AwaitDcs, HasNoAcs};
+ghost use Rattle.plane_windows.specs.Joined.{AreBelow};
 ghost use Rattle.plane_windows.specs.Planes.{stages_of};
 ghost use Rattle.wave_defs.specs.Held.{blocks_in};
 
@@ -78,8 +79,11 @@ fn take_sent<I: OctetIn>(
     requires whole { length cells.old ≡ 64 * length marks.old }
     requires ready { AreReady sent.now.below cells.old }
     requires dcs { AwaitDcs sent.now.below sent.now.q (blocks_in (numbers_in cells.old)) }
-    ensures planes { ReadsAs I.source (planes_script tables.now.words.book sent.now.weights.shifts sent.now.q (depths_of marks.old) (stages_of sent.now) sent.now.below (blocks_in (numbers_in cells.old)))
+    requires empty { AreBelow sent.now.below cells.old }
+    ensures planes { ReadsAs I.source (planes_script tables.now.words.book sent.now.weights.shifts sent.now.q (depths_of marks.old)
+        (stages_of sent.now) sent.now.below (blocks_in (numbers_in cells.old)))
         (by_part result (blocks_in (numbers_in cells.new)) (blocks_in (numbers_in cells.new))) (coming input.old) (coming input.new) }
+    ensures empty { AreBelow sent.now.below cells.new }
     ensures depths { depths_of marks.new ≡ depths_of marks.old }
     ensures size { length cells.new ≡ length cells.old }
     ensures is_in { IsIn (coming input.new) }
@@ -126,7 +130,8 @@ pub fn take_planes<I: OctetIn>(
     requires acs { HasNoAcs blocks.old }
     requires dcs { AwaitDcs sent.now.below sent.now.q (blocks_in blocks.old) }
     ensures planes { (stages : ℕ → ℕ) → ((plane : ℕ) → stages plane ≡ stages_of sent.now plane) →
-        ReadsAs I.source (planes_script tables.now.words.book sent.now.weights.shifts sent.now.q (depths_of marks.old) stages sent.now.below (blocks_in blocks.old))
+        ReadsAs I.source (planes_script tables.now.words.book sent.now.weights.shifts sent.now.q (depths_of marks.old) stages sent.now.below (blocks_in
+        blocks.old))
         (by_part result (blocks_in blocks.new) (blocks_in blocks.new)) (coming input.old) (coming input.new) }
     ensures depths { depths_of marks.new ≡ depths_of marks.old }
     ensures size { length blocks.new ≡ length blocks.old }
@@ -137,6 +142,6 @@ pub fn take_planes<I: OctetIn>(
     }
     slice_numbers(blocks);
     let read = take_sent(input, sent, tables, blocks, marks);
-    join_numbers(blocks);
+    join_numbers(blocks, sent.below);
     read
 }

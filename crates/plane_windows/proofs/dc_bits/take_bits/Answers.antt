@@ -45,7 +45,8 @@ loop-r-preserved g c =
                 let more : length numbers - r ≡ suc (length numbers - (r + 1)) = omega (arith, whole, inside, i.keeps.long) in
                 let l = i.left numbers marks whole cleared have in
                 let before = dc_before inside l (cleared r (omega (arith, whole, inside, i.keeps.long))) in
-                dcs_more more inside l c.requires.low c.in-Some.bit (others_more (others_kept c.loop-r.cells) adds) (dc_changed c.in-Some.bit w.if-bit.true adds before) (dc_same adds) x.is_in x.flag;
+                dcs_more more inside l c.requires.low c.in-Some.bit (others_more (others_kept c.loop-r.cells) adds)
+                (dc_changed c.in-Some.bit w.if-bit.true adds before) (dc_same adds) x.is_in x.flag;
           })
       | else-bit w ↦
           rw w.cells-is (record {
@@ -53,7 +54,8 @@ loop-r-preserved g c =
             keeps = i.keeps;
             left = λ numbers marks whole cleared have.
                 let more : length numbers - r ≡ suc (length numbers - (r + 1)) = omega (arith, whole, inside, i.keeps.long) in
-                dcs_more more inside (i.left numbers marks whole cleared have) c.requires.low c.in-Some.bit (others_kept c.loop-r.cells) (dc_unchanged c.loop-r.cells c.args.plane r c.in-Some.bit w.if-bit.false) (λ q lt apart. refl) x.is_in x.flag;
+                dcs_more more inside (i.left numbers marks whole cleared have) c.requires.low c.in-Some.bit (others_kept c.loop-r.cells)
+                (dc_unchanged c.loop-r.cells c.args.plane r c.in-Some.bit w.if-bit.false) (λ q lt apart. refl) x.is_in x.flag;
           })
     ]
 

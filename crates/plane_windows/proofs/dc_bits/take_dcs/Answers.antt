@@ -19,5 +19,6 @@ returns-clause-stage g c = λ depths numbers marks same whole await have.
     let plan = c.args.terms.now.plan.now in
     let on : (coded plan.weights.shifts plan.plane 0 && nat_lt plan.plane plan.q) ≡ true = sym c.is_due.ensures ∙ c.if-not-is_due.false in
     let low = due_low (coded plan.weights.shifts plan.plane 0) plan.plane plan.q on in
-    dcs_closed (terms_of plan c.args.terms.now.tables.now.words.book) depths numbers same on c.open-reading.ensures.none c.close.ensures.stays c.close.ensures.none c.close.ensures.kept c.take_bits-read.result
+    dcs_closed (terms_of plan c.args.terms.now.tables.now.words.book) depths numbers same on c.open-reading.ensures.none c.close.ensures.stays
+    c.close.ensures.none c.close.ensures.kept c.take_bits-read.result
     (c.take_bits-read.ensures.bits numbers marks whole (dcs_await numbers low await) have)

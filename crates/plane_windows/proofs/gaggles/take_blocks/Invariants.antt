@@ -13,10 +13,14 @@ abbrev pub invariant-loop-k : goal.invariant-loop-k
 invariant-loop-k g l = record {
   reading : IsReading g.I.OctetIn.source (coming l.input) l.reading;
   tables : l.reading.tables ≡ l.fn.reading.tables;
-  keeps : KeepSlots l.plan.plane l.initial.cells l.cells;
+  keeps : KeepSlots l.of.plan.now.plane l.initial.cells l.cells;
   states : KeepStates l.initial.marks l.marks;
-  left : (depths : List ℕ) (numbers : List (List ℤ)) (p : PlaneState) → AreDeep l.plan.plane depths l.blocks → AreAbove l.plan.plane l.initial.cells numbers → HavePlane l.plan.plane l.initial.cells numbers p → HaveFamilies l.initial.marks p →
-      AreIn l.fn.reading.gaggle (p.options (l.blocks.first.block / 16)) →
-      BlocksLeft g.I.OctetIn.source (gaggle_script (terms_of l.plan l.fn.reading.tables.now.words.book) g.row.STAGE depths numbers l.blocks.first.block l.blocks.count p) (block_script (terms_of l.plan l.fn.reading.tables.now.words.book) g.row.STAGE depths numbers) l.plan.plane (l.blocks.first.block / 16)
-      (l.blocks.first.block + l.k) (l.blocks.count - l.k) numbers p l.reading.gaggle l.cells l.marks (point (coming l.fn.input) l.fn.reading.cursor) (point (coming l.input) l.reading.cursor);
+  left : (depths : List ℕ) (numbers : List (List ℤ)) (p : PlaneState) → AreDeep l.of.plan.now.plane depths l.of.blocks →
+      AreAbove l.of.plan.now.plane l.initial.cells numbers → HavePlane l.of.plan.now.plane l.initial.cells numbers p → HaveFamilies l.initial.marks p →
+      AreIn l.fn.reading.gaggle (p.options (l.of.blocks.first.block / 16)) →
+      BlocksLeft g.I.OctetIn.source (gaggle_script (terms_of l.of.plan.now l.fn.reading.tables.now.words.book) g.row.STAGE depths numbers
+      l.of.blocks.first.block l.of.blocks.count p) (block_script (terms_of l.of.plan.now l.fn.reading.tables.now.words.book) g.row.STAGE depths numbers)
+      l.of.plan.now.plane (l.of.blocks.first.block / 16)
+      (l.of.blocks.first.block + l.k) (l.of.blocks.count - l.k) numbers p l.reading.gaggle l.cells l.marks (point (coming l.fn.input) l.fn.reading.cursor)
+      (point (coming l.input) l.reading.cursor);
 }

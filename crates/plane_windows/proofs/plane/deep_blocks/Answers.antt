@@ -25,7 +25,8 @@ loop-k-preserved c =
     let fits : FitsSigned w32 (get_or marks at (pos 0)) = search rules in
     let own = to_z-of_z w32 (get_or marks at (pos 0)) fits in
     let f : ℕ → Bool = λ r. nat_lt c.args.plane (get_or (depths_of marks) r 0) in
-    let e : nat_lt c.args.plane c.depth_of.result ≡ f at = ap (nat_lt c.args.plane) (rw same at c.depth_of.ensures.value ∙ ap depth_of own ∙ sym (depth_there marks at)) in
+    let e : nat_lt c.args.plane c.depth_of.result ≡ f at = ap (nat_lt c.args.plane) (rw same at c.depth_of.ensures.value ∙ ap depth_of own ∙
+    sym (depth_there marks at)) in
     c.joined-deep.ensures.told f c.args.first 1 c.loop-k.invariant (one_shows at e (c.one.ensures.told at))
 
 pub returns : goal.returns

@@ -19,12 +19,19 @@ loop-g-init g c =
       known = c.requires.known;
       keeps = slots_kept c.args.cells.now;
       depths = refl;
-      left = λ numbers p above have. gaggles_start t g.row.STAGE (depths_of marks) numbers c.args.terms.now.plan.now.plane _ p (16 * 0) (length marks - 16 * 0) (omega arith) (omega (arith, length-depths_of marks)) have;
+      left = λ numbers p above have. gaggles_start t g.row.STAGE (depths_of marks) numbers c.args.terms.now.plan.now.plane _ p (16 * 0)
+          (length marks - 16 * 0) (omega arith) (omega (arith, length-depths_of marks)) have;
     }
 
 pub take_gaggle-requires-clause-known : goal.take_gaggle-requires-clause-known
 take_gaggle-requires-clause-known g c =
-    let here : 16 * (c.gaggle_of-blocks.result.first.block / 16) < length c.loop-g.marks = omega (arith, c.gaggle_of-blocks.ensures.block, c.loop-g-test.true, c.div_ceil-g-end.ensures, c.loop-g.auto.marks) in
+    let here : 16 * (c.gaggle_of-blocks.result.first.block / 16) < length c.loop-g.marks = omega (
+      arith,
+      c.gaggle_of-blocks.ensures.block,
+      c.loop-g-test.true,
+      c.div_ceil-g-end.ensures,
+      c.loop-g.auto.marks,
+    ) in
     c.loop-g.invariant.known.at (c.gaggle_of-blocks.result.first.block / 16) here
 
 pub loop-g-preserved : goal.loop-g-preserved
@@ -51,8 +58,10 @@ loop-g-preserved g c =
           let in_marks : 16 * n < length c.args.marks.now = omega (arith, c.loop-g-test.true, c.div_ceil-g-end.ensures) in
           let deep = subst (λ d. AreDeep plan.plane d b) i.depths c.gaggle_of-blocks.ensures.deep in
           let are = l.options (b.first.block / 16) (omega (arith, first, in_marks, c.loop-g.auto.marks)) in
-          let read = at_gaggle t g.row.STAGE depths numbers plan.plane b.first.block n b.count first (Ok Whole) (x.blocks depths numbers l.state deep (above_after numbers plan.low i.keeps above) l.has l.families are) in
-          gaggles_more t g.row.STAGE depths numbers plan.plane n (length c.args.marks.now) in_marks l (c.gaggle_of-blocks.ensures.count ∙ ap (λ m. min (m - 16 * n) 16) c.loop-g.auto.marks) long others read;
+          let read = at_gaggle t g.row.STAGE depths numbers plan.plane b.first.block n b.count first (Ok Whole) (x.blocks depths numbers l.state deep
+          (above_after numbers plan.low i.keeps above) l.has l.families are) in
+          gaggles_more t g.row.STAGE depths numbers plan.plane n (length c.args.marks.now) in_marks l (c.gaggle_of-blocks.ensures.count ∙ ap (λ m. min
+          (m - 16 * n) 16) c.loop-g.auto.marks) long others read;
     }
 
 pub returns-in_err-take_gaggle-clause-stage : goal.returns-in_err-take_gaggle-clause-stage
@@ -70,9 +79,11 @@ returns-in_err-take_gaggle-clause-stage g c = λ numbers p above have.
     let in_marks : 16 * n < length c.args.marks.now = omega (arith, c.loop-g-test.true, c.div_ceil-g-end.ensures) in
     let deep = subst (λ d. AreDeep plan.plane d b) i.depths c.gaggle_of-blocks.ensures.deep in
     let are = l.options (b.first.block / 16) (omega (arith, first, in_marks, c.loop-g.auto.marks)) in
-    let read = at_gaggle t g.row.STAGE depths numbers plan.plane b.first.block n b.count first (Err _) (x.blocks depths numbers l.state deep (above_after numbers plan.low i.keeps above) l.has l.families are) in
+    let read = at_gaggle t g.row.STAGE depths numbers plan.plane b.first.block n b.count first (Err _) (x.blocks depths numbers l.state deep
+    (above_after numbers plan.low i.keeps above) l.has l.families are) in
     let width = c.gaggle_of-blocks.ensures.count ∙ ap (λ m. min (m - 16 * n) 16) c.loop-g.auto.marks in
-    rw (e.1, e.2) (stage_fault t g.row.STAGE depths numbers plan.plane c.requires.some plan.low p (slots_then i.keeps x.keeps) have.dcs _ read (gaggles_fault t g.row.STAGE depths numbers plan.plane n (length c.args.marks.now) in_marks l width _ read))
+    rw (e.1, e.2) (stage_fault t g.row.STAGE depths numbers plan.plane c.requires.some plan.low p (slots_then i.keeps x.keeps) have.dcs _ read
+    (gaggles_fault t g.row.STAGE depths numbers plan.plane n (length c.args.marks.now) in_marks l width _ read))
 
 pub returns-in_default-clause-stage : goal.returns-in_default-clause-stage
 returns-in_default-clause-stage g c = λ numbers p above have.
@@ -88,15 +99,18 @@ returns-in_default-clause-stage g c = λ numbers p above have.
     let in_marks : 16 * n < length c.args.marks.now = omega (arith, c.loop-g-test.true, c.div_ceil-g-end.ensures) in
     let deep = subst (λ d. AreDeep plan.plane d b) i.depths c.gaggle_of-blocks.ensures.deep in
     let are = l.options (b.first.block / 16) (omega (arith, first, in_marks, c.loop-g.auto.marks)) in
-    let read = at_gaggle t g.row.STAGE depths numbers plan.plane b.first.block n b.count first (Ok Ended) (x.blocks depths numbers l.state deep (above_after numbers plan.low i.keeps above) l.has l.families are) in
+    let read = at_gaggle t g.row.STAGE depths numbers plan.plane b.first.block n b.count first (Ok Ended) (x.blocks depths numbers l.state deep
+    (above_after numbers plan.low i.keeps above) l.has l.families are) in
     let width = c.gaggle_of-blocks.ensures.count ∙ ap (λ m. min (m - 16 * n) 16) c.loop-g.auto.marks in
-    stage_cut t g.row.STAGE depths numbers plan.plane c.requires.some plan.low p (slots_then i.keeps x.keeps) have.dcs read (gaggles_cut t g.row.STAGE depths numbers plan.plane n (length c.args.marks.now) in_marks l width read)
+    stage_cut t g.row.STAGE depths numbers plan.plane c.requires.some plan.low p (slots_then i.keeps x.keeps) have.dcs read
+    (gaggles_cut t g.row.STAGE depths numbers plan.plane n (length c.args.marks.now) in_marks l width read)
 
 pub returns-clause-stage : goal.returns-clause-stage
 returns-clause-stage g c = λ numbers p above have.
     let plan = c.args.terms.now.plan.now in
     let i = c.loop-g.invariant in
-    stage_done (terms_of plan c.args.terms.now.tables.now.words.book) g.row.STAGE (depths_of c.args.marks.now) numbers plan.plane c.requires.some plan.low p i.keeps have.dcs
+    stage_done (terms_of plan c.args.terms.now.tables.now.words.book) g.row.STAGE
+    (depths_of c.args.marks.now) numbers plan.plane c.requires.some plan.low p i.keeps have.dcs
     (omega (arith, c.loop-g-test.false, c.div_ceil-g-end.ensures)) i.is_in (i.left numbers p above have)
 
 pub returns-in_err-take_gaggle-clause-keeps : goal.returns-in_err-take_gaggle-clause-keeps

@@ -14,7 +14,10 @@ invariant-loop-g g l = record {
   known : AreKnown l.marks;
   keeps : KeepSlots l.terms.plan.now.plane l.initial.cells l.cells;
   depths : depths_of l.marks ≡ depths_of l.initial.marks;
-  left : (numbers : List (List ℤ)) (p : PlaneState) → AreAbove l.terms.plan.now.plane l.initial.cells numbers → HaveRead l.terms.plan.now.plane l.initial.cells l.initial.marks numbers p →
-      GagglesLeft g.I.OctetIn.source l.terms.plan.now.plane (16 * l.g) (length l.initial.marks - 16 * l.g) numbers (blocks_script (terms_of l.terms.plan.now l.terms.tables.now.words.book) (depths_of l.initial.marks) numbers g.row.STAGE p)
-      (block_script (terms_of l.terms.plan.now l.terms.tables.now.words.book) g.row.STAGE (depths_of l.initial.marks) numbers) l.cells l.marks (coming l.initial.input) (coming l.input);
+  left : (numbers : List (List ℤ)) (p : PlaneState) → AreAbove l.terms.plan.now.plane l.initial.cells numbers →
+      HaveRead l.terms.plan.now.plane l.initial.cells l.initial.marks numbers p →
+      GagglesLeft g.I.OctetIn.source l.terms.plan.now.plane (16 * l.g) (length l.initial.marks - 16 * l.g) numbers (blocks_script
+      (terms_of l.terms.plan.now l.terms.tables.now.words.book) (depths_of l.initial.marks) numbers g.row.STAGE p)
+      (block_script (terms_of l.terms.plan.now l.terms.tables.now.words.book) g.row.STAGE (depths_of l.initial.marks) numbers) l.cells l.marks
+      (coming l.initial.input) (coming l.input);
 }

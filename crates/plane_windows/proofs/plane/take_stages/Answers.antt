@@ -23,7 +23,11 @@ returns-in_err-take_dcs-clause-stages g c =
     let numbers = blocks_in (numbers_in cells) in
     let even : length cells % 64 ≡ 0 = omega (arith, c.requires.whole) in
     let long : length depths ≡ length numbers = omega (arith, length-depths_of c.args.marks.now, count_blocks cells, c.requires.whole) in
-    let s = c.in_err-take_dcs.ensures.stage depths numbers c.clear.new.marks long (omega (arith, count_blocks cells, c.requires.whole)) c.requires.dcs (begins plan.plane cells plan.low even c.requires.ready c.clear.ensures) in
+    let s = c.in_err-take_dcs.ensures.stage depths numbers c.clear.new.marks long (omega (
+      arith,
+      count_blocks cells,
+      c.requires.whole,
+    )) c.requires.dcs (begins plan.plane cells plan.low even c.requires.ready c.clear.ensures) in
     let more : c.args.last + 1 ≡ suc c.args.last = omega arith in
     rw (e.1, e.2) (first_fault (terms_of plan c.args.terms.now.tables.now.words.book) depths more _ s)
 
@@ -36,7 +40,8 @@ returns-in_default-clause-stages g c =
     let numbers = blocks_in (numbers_in cells) in
     let even : length cells % 64 ≡ 0 = omega (arith, c.requires.whole) in
     let long : length depths ≡ length numbers = omega (arith, length-depths_of c.args.marks.now, count_blocks cells, c.requires.whole) in
-    let s = x.stage depths numbers c.clear.new.marks long (omega (arith, count_blocks cells, c.requires.whole)) c.requires.dcs (begins plan.plane cells plan.low even c.requires.ready c.clear.ensures) in
+    let s = x.stage depths numbers c.clear.new.marks long (omega (arith, count_blocks cells, c.requires.whole)) c.requires.dcs
+    (begins plan.plane cells plan.low even c.requires.ready c.clear.ensures) in
     let more : c.args.last + 1 ≡ suc c.args.last = omega arith in
     first_cut (terms_of plan c.args.terms.now.tables.now.words.book) depths more s
 
@@ -49,7 +54,8 @@ loop-number-init g c =
     let numbers = blocks_in (numbers_in cells) in
     let even : length cells % 64 ≡ 0 = omega (arith, c.requires.whole) in
     let long : length depths ≡ length numbers = omega (arith, length-depths_of c.args.marks.now, count_blocks cells, c.requires.whole) in
-    let s = x.stage depths numbers c.clear.new.marks long (omega (arith, count_blocks cells, c.requires.whole)) c.requires.dcs (begins plan.plane cells plan.low even c.requires.ready c.clear.ensures) in
+    let s = x.stage depths numbers c.clear.new.marks long (omega (arith, count_blocks cells, c.requires.whole)) c.requires.dcs
+    (begins plan.plane cells plan.low even c.requires.ready c.clear.ensures) in
     let more : c.args.last + 1 ≡ suc (c.args.last + 1 - 1) = omega arith in
     record {
       is_in = x.is_in;
@@ -73,7 +79,8 @@ loop-number-preserved g c =
     let more : c.args.last + 1 - n ≡ suc (c.args.last + 1 - (n + 1)) = omega (arith, c.loop-number-test.true) in
     let l = i.left in
     let s = x.stage numbers l.state (above_planes numbers plan.low i.keeps (above_now plan.plane cells plan.low even c.requires.ready)) l.have in
-    let here = subst (λ d. TakesStage g.I.OctetIn.source plan.plane numbers (blocks_script t d numbers n l.state) (Ok Whole) c.take_stage.new.cells c.take_stage.new.marks (coming c.loop-number.input) (coming c.take_stage.new.input)) i.depths s in
+    let here = subst (λ d. TakesStage g.I.OctetIn.source plan.plane numbers (blocks_script t d numbers n l.state)
+    (Ok Whole) c.take_stage.new.cells c.take_stage.new.marks (coming c.loop-number.input) (coming c.take_stage.new.input)) i.depths s in
     record {
       is_in = x.is_in;
       known = x.known;
@@ -97,7 +104,9 @@ returns-in_err-take_stage-clause-stages g c =
     let more : c.args.last + 1 - n ≡ suc (c.args.last + 1 - (n + 1)) = omega (arith, c.loop-number-test.true) in
     let l = i.left in
     let s = x.stage numbers l.state (above_planes numbers plan.low i.keeps (above_now plan.plane cells plan.low even c.requires.ready)) l.have in
-    let here = subst (λ d. TakesStage g.I.OctetIn.source plan.plane numbers (blocks_script t d numbers n l.state) (Err c.in_err-take_stage.field-0.0) c.take_stage.new.cells c.take_stage.new.marks (coming c.loop-number.input) (coming c.take_stage.new.input)) i.depths s in
+    let here = subst (λ d. TakesStage g.I.OctetIn.source plan.plane numbers (blocks_script t d numbers n l.state)
+    (Err c.in_err-take_stage.field-0.0) c.take_stage.new.cells c.take_stage.new.marks (coming c.loop-number.input)
+    (coming c.take_stage.new.input)) i.depths s in
     rw (e.1, e.2) (stages_fault t depths more l _ here)
 
 pub returns-in_default-2-clause-stages : goal.returns-in_default-2-clause-stages
@@ -114,7 +123,8 @@ returns-in_default-2-clause-stages g c =
     let more : c.args.last + 1 - n ≡ suc (c.args.last + 1 - (n + 1)) = omega (arith, c.loop-number-test.true) in
     let l = i.left in
     let s = x.stage numbers l.state (above_planes numbers plan.low i.keeps (above_now plan.plane cells plan.low even c.requires.ready)) l.have in
-    let here = subst (λ d. TakesStage g.I.OctetIn.source plan.plane numbers (blocks_script t d numbers n l.state) (Ok Ended) c.take_stage.new.cells c.take_stage.new.marks (coming c.loop-number.input) (coming c.take_stage.new.input)) i.depths s in
+    let here = subst (λ d. TakesStage g.I.OctetIn.source plan.plane numbers (blocks_script t d numbers n l.state)
+    (Ok Ended) c.take_stage.new.cells c.take_stage.new.marks (coming c.loop-number.input) (coming c.take_stage.new.input)) i.depths s in
     stages_cut t depths more l here
 
 pub returns-clause-stages : goal.returns-clause-stages

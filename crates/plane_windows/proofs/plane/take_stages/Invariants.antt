@@ -16,6 +16,8 @@ invariant-loop-number g l = record {
   known : AreKnown l.marks;
   keeps : KeepPlanes l.terms.plan.now.plane l.fn.cells l.cells;
   depths : depths_of l.marks ≡ depths_of l.fn.marks;
-  left : StagesLeft g.I.OctetIn.source (terms_of l.terms.plan.now l.terms.tables.now.words.book) l.terms.plan.now.plane l.number (l.last + 1 - l.number) (depths_of l.fn.marks) (blocks_in (numbers_in l.fn.cells))
-      (plane_script (terms_of l.terms.plan.now l.terms.tables.now.words.book) (depths_of l.fn.marks) (blocks_in (numbers_in l.fn.cells)) (l.last + 1)) l.cells l.marks (coming l.fn.input) (coming l.input);
+  left : StagesLeft g.I.OctetIn.source (terms_of l.terms.plan.now l.terms.tables.now.words.book) l.terms.plan.now.plane l.number (l.last + 1 - l.number)
+      (depths_of l.fn.marks) (blocks_in (numbers_in l.fn.cells))
+      (plane_script (terms_of l.terms.plan.now l.terms.tables.now.words.book) (depths_of l.fn.marks) (blocks_in (numbers_in
+      l.fn.cells)) (l.last + 1)) l.cells l.marks (coming l.fn.input) (coming l.input);
 }

@@ -16,11 +16,13 @@ returns-then-sent-clause-planes g c = λ stages same.
     let s = c.args.sent.now in
     let blocks = c.args.blocks.now in
     let all = planes_script c.args.tables.now.words.book s.weights.shifts s.q (depths_of c.args.marks.now) stages s.below (blocks_in blocks) in
-    planes_done c.args.tables.now.words.book s.weights.shifts s.q (depths_of c.args.marks.now) stages c.requires.open (λ p lt. same p ∙ below_stop s p (omega (arith, lt, c.if-sent.true)))
+    planes_done c.args.tables.now.words.book s.weights.shifts s.q (depths_of c.args.marks.now) stages c.requires.open (λ p lt. same p ∙
+    below_stop s p (omega (arith, lt, c.if-sent.true)))
     (blocks_whole blocks (omega (arith, c.requires.whole))) (leaves_all all (coming c.args.input.now))
 
 pub take_sent-read-requires-clause-dcs : goal.take_sent-read-requires-clause-dcs
-take_sent-read-requires-clause-dcs g c = subst (λ b. AwaitDcs c.args.sent.now.below c.args.sent.now.q (blocks_in b)) (sym c.slice_numbers.ensures.numbers) c.requires.dcs
+take_sent-read-requires-clause-dcs g c = subst (λ b. AwaitDcs c.args.sent.now.below c.args.sent.now.q (blocks_in
+    b)) (sym c.slice_numbers.ensures.numbers) c.requires.dcs
 
 pub returns-clause-planes : goal.returns-clause-planes
 returns-clause-planes g c = λ stages same.
@@ -34,6 +36,9 @@ returns-clause-planes g c = λ stages same.
     let masks = c.take_sent-read.new.cells in
     let all : stages ≡ stages_of s = λ i p. same p i in
     let read = c.take_sent-read.ensures.planes in
-    let first = subst (λ b. ReadsAs k (planes_script book s.weights.shifts s.q depths (stages_of s) s.below (blocks_in b)) (by_part result (blocks_in (numbers_in masks)) (blocks_in (numbers_in masks))) old new) c.slice_numbers.ensures.numbers read in
-    let then = subst (λ b. ReadsAs k (planes_script book s.weights.shifts s.q depths (stages_of s) s.below (blocks_in c.args.blocks.now)) (by_part result (blocks_in b) (blocks_in b)) old new) (sym c.join_numbers.ensures) first in
-    subst (λ f. ReadsAs k (planes_script book s.weights.shifts s.q depths f s.below (blocks_in c.args.blocks.now)) (by_part result (blocks_in c.join_numbers.new.cells) (blocks_in c.join_numbers.new.cells)) old new) (sym all) then
+    let first = subst (λ b. ReadsAs k (planes_script book s.weights.shifts s.q depths (stages_of s) s.below (blocks_in b)) (by_part result (blocks_in
+    (numbers_in masks)) (blocks_in (numbers_in masks))) old new) c.slice_numbers.ensures.numbers read in
+    let then = subst (λ b. ReadsAs k (planes_script book s.weights.shifts s.q depths (stages_of s) s.below (blocks_in
+    c.args.blocks.now)) (by_part result (blocks_in b) (blocks_in b)) old new) (sym c.join_numbers.ensures) first in
+    subst (λ f. ReadsAs k (planes_script book s.weights.shifts s.q depths f s.below (blocks_in c.args.blocks.now)) (by_part result (blocks_in
+    c.join_numbers.new.cells) (blocks_in c.join_numbers.new.cells)) old new) (sym all) then

@@ -18,14 +18,17 @@ loop-n-init g c =
     let s = c.args.sent.now in
     let cells = c.args.cells.now in
     let same : s.below ≡ s.below - 0 = omega arith in
-    let all = planes_script c.args.tables.now.words.book s.weights.shifts s.q (depths_of c.args.marks.now) (stages_of s) s.below (blocks_in (numbers_in cells)) in
+    let all = planes_script c.args.tables.now.words.book s.weights.shifts s.q (depths_of c.args.marks.now) (stages_of s) s.below (blocks_in (numbers_in
+    cells)) in
     record {
       is_in = c.requires.open;
       ready = subst (λ n. AreReady n cells) same c.requires.ready;
       dcs = subst (λ n. AwaitDcs n s.q (blocks_in (numbers_in cells))) same c.requires.dcs;
+      below = c.requires.empty;
       depths = refl;
       size = refl;
-      left = subst (λ n. Leaves g.I.OctetIn.source all (planes_script c.args.tables.now.words.book s.weights.shifts s.q (depths_of c.args.marks.now) (stages_of s) n (blocks_in (numbers_in cells))) (coming c.args.input.now) (coming c.args.input.now)) same (leaves_all all (coming c.args.input.now));
+      left = subst (λ n. Leaves g.I.OctetIn.source all (planes_script c.args.tables.now.words.book s.weights.shifts s.q (depths_of c.args.marks.now)
+          (stages_of s) n (blocks_in (numbers_in cells))) (coming c.args.input.now) (coming c.args.input.now)) same (leaves_all all (coming c.args.input.now));
     }
 
 pub take_plane-requires-clause-ready : goal.take_plane-requires-clause-ready
@@ -61,9 +64,12 @@ loop-n-preserved g c =
       is_in = x.is_in;
       ready = subst (λ m. AreReady m cells) (is ∙ after) x.ready;
       dcs = subst (λ m. AwaitDcs m s.q now) (is ∙ after) (rw q.q at x.dcs);
+      below = x.below s.below (omega (arith, is, c.loop-n-test.true)) i.below;
       depths = x.depths ∙ i.depths;
       size = x.size ∙ i.size;
-      left = subst (λ m. Leaves g.I.OctetIn.source (planes_script book s.weights.shifts s.q depths (stages_of s) s.below (blocks_in (numbers_in c.args.cells.now))) (planes_script book s.weights.shifts s.q depths (stages_of s) m now) (coming c.args.input.now) (coming c.take_plane.new.input)) after left;
+      left = subst (λ m. Leaves g.I.OctetIn.source (planes_script book s.weights.shifts s.q depths (stages_of s) s.below (blocks_in (numbers_in
+          c.args.cells.now))) (planes_script book s.weights.shifts s.q depths (stages_of s) m now) (coming c.args.input.now)
+          (coming c.take_plane.new.input)) after left;
     }
 
 pub returns-in_err-take_plane-clause-planes : goal.returns-in_err-take_plane-clause-planes
@@ -82,7 +88,8 @@ returns-in_err-take_plane-clause-planes g c =
     let now = blocks_in (numbers_in c.take_plane.new.cells) in
     let old = blocks_in (numbers_in c.loop-n.cells) in
     let fault = c.in_err-take_plane.field-0.0 in
-    let read = plane_as book s plan p (c.last_of.result + 1) (depths_of c.loop-n.marks) depths old (by_fault fault now) q.plane q.q q.weights i.depths x.plane in
+    let read = plane_as book s plan p (c.last_of.result + 1) (depths_of c.loop-n.marks) depths old
+    (by_fault fault now) q.plane q.q q.weights i.depths x.plane in
     rw (e.1, e.2) (planes_fault book s.weights.shifts s.q depths (stages_of s) old next c.last_of.ensures.stages i.left now fault read)
 
 pub returns-in_default-clause-planes : goal.returns-in_default-clause-planes
@@ -107,4 +114,20 @@ returns-clause-planes g c =
     let s = c.args.sent.now in
     let i = c.loop-n.invariant in
     let even : length (numbers_in c.loop-n.cells) % 64 ≡ 0 = omega (arith, length-numbers_in c.loop-n.cells, i.size, c.requires.whole) in
-    planes_done c.args.tables.now.words.book s.weights.shifts s.q (depths_of c.args.marks.now) (stages_of s) i.is_in (λ p lt. below_stop s p (omega (arith, lt, c.loop-n-test.false, c.requires.some))) (blocks_whole (numbers_in c.loop-n.cells) even) i.left
+    planes_done c.args.tables.now.words.book s.weights.shifts s.q (depths_of c.args.marks.now) (stages_of s) i.is_in (λ p lt. below_stop s p (omega (
+      arith,
+      lt,
+      c.loop-n-test.false,
+      c.requires.some,
+    ))) (blocks_whole (numbers_in c.loop-n.cells) even) i.left
+
+pub returns-in_err-take_plane-clause-empty : goal.returns-in_err-take_plane-clause-empty
+returns-in_err-take_plane-clause-empty g c =
+    let is = c.plane_of-plan.ensures.plane in
+    c.in_err-take_plane.ensures.below c.args.sent.now.below (omega (arith, is, c.loop-n-test.true)) c.loop-n.invariant.below
+
+pub returns-in_default-clause-empty : goal.returns-in_default-clause-empty
+returns-in_default-clause-empty g c =
+    let x = rw c.in_default.is at c.in_ok-take_plane.ensures in
+    let is = c.plane_of-plan.ensures.plane in
+    x.below c.args.sent.now.below (omega (arith, is, c.loop-n-test.true)) c.loop-n.invariant.below
