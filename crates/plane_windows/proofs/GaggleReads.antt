@@ -1,6 +1,6 @@
 -- The blocks of a gaggle, one after another.
 use Rattle.std.proofs.Common.{◌≡◌, ℕ, zero, suc, ◌+◌, ◌-◌, ◌*◌, ◌/◌, ◌<◌, ◌≤◌, ◌==◌, not, List, [], true, false, if◌then◌else◌, nat_lt, length, refl, sym, ap, subst, ◌∙◌, arith, Option, Some, None, Result, Ok, Err, ℤ, pos, get_or, set, get_or-set_same, get_or-set_other, length-set, inl, inr}
-use Rattle.std.proofs.lemmas.Bool.{cases_eq}
+use Rattle.std.proofs.lemmas.Bool.{cases_eq, cases_lt}
 use Rattle.std.proofs.lemmas.Bool.Decides.{nat_tests}
 use Rattle.item_defs.specs.Bits.{bit}
 use Rattle.plane_defs.specs.Marks.{depth_of}
@@ -353,3 +353,87 @@ module _ {I : Type 0} {k : SourceOf I} (t : Terms) (stage : ℕ) (depths : List 
         families = l.families;
         read = reads_done all l.state (subst (λ c. LeadsTo k all (in_turn (block_script t stage depths numbers) (first + n) c l.state) x y) none l.left);
       }
+
+-- ---- the deep blocks of a mask, one after another
+
+-- the blocks before the n-th were read, and a mask has the deep ones that are left
+pub record DeepLeft {I : Type 0} (k : SourceOf I) (t : Terms) (stage : ℕ) (depths : List ℕ) (numbers : List (List ℤ)) (plane g first count : ℕ)
+    (before : PlaneState)
+    (all : Script PlaneState PlaneState) (deep mask : ℕ) (gaggle : Gaggle) (cells marks : List ℤ) (old now : Point I) : Type 0 where
+  pub n : ℕ
+  pub within : n ≤ count
+  pub none : (i : ℕ) → i < n → bit mask i ≡ false
+  pub kept : (i : ℕ) → n ≤ i → i < count → bit mask i ≡ bit deep i
+  pub blocks : BlocksLeft k all (block_script t stage depths numbers) plane g (first + n) (count - n) numbers before gaggle cells marks old now
+
+module _ {I : Type 0} {k : SourceOf I} (t : Terms) (stage : ℕ) (depths : List ℕ) (numbers : List (List ℤ)) (plane g first count : ℕ) (before : PlaneState) where
+  pub deep_start : (deep : ℕ) {gaggle : Gaggle} {cells marks : List ℤ} {x : Point I} → IsIn x.input → AreIn gaggle (before.options g) →
+      HavePlane plane cells numbers before →
+      HaveFamilies marks before →
+      DeepLeft k t stage depths numbers plane g first count before (gaggle_script t stage depths numbers first count before) deep deep gaggle cells marks x x
+  deep_start deep i are has families = record {
+    n = 0;
+    within = omega arith;
+    none = λ j lt. absurd (omega (arith, lt));
+    kept = λ j le lt. refl;
+    blocks = blocks_start t stage depths numbers plane g first before count i are has families;
+  }
+
+  module _ {all : Script PlaneState PlaneState} {gaggle : Gaggle} {cells marks : List ℤ} {x y : Point I} (some : 1 ≤ stage) (low : plane < 27) (is_in
+      : IsIn y.input)
+      (fits : (i : ℕ) → i < count → ((first + i) / 16 ≡ g) × (64 * (first + i) < length cells)) where
+    -- blocks that are not deep
+    blocks_past : (m n : ℕ) → n + m ≤ count → ((i : ℕ) → n ≤ i → i < n + m → nat_lt t.plane (get_or depths (first + i) 0) ≡ false) →
+        BlocksLeft k all (block_script t stage depths numbers) plane g (first + n) (count - n) numbers before gaggle cells marks x y →
+        BlocksLeft k all (block_script t stage depths numbers) plane g (first + (n + m)) (count - (n + m)) numbers before gaggle cells marks x y
+    blocks_past zero n le shallow l =
+        let e : n ≡ n + 0 = omega arith in
+        subst (λ a. BlocksLeft k all (block_script t stage depths numbers) plane g (first + a) (count - a) numbers before gaggle cells marks x y) e l
+    blocks_past (suc m) n le shallow l =
+        let lt : n < count = omega (arith, le) in
+        let e : (n + 1) + m ≡ n + suc m = omega arith in
+        let f = fits n lt in
+        let next = blocks_skip t stage depths numbers plane g first before lt l f.0 some low is_in (shallow n (omega arith) (omega arith)) f.1 in
+        subst (λ a. BlocksLeft k all (block_script t stage depths numbers) plane g (first + a) (count - a) numbers before gaggle cells marks x y) e
+        (blocks_past m (n + 1) (omega (arith, le)) (λ i low high. shallow i (omega (arith, low)) (omega (arith, high))) next)
+
+    -- the blocks up to the next deep one
+    pub deep_to : {deep mask : ℕ} → Shows deep (λ r. nat_lt t.plane (get_or depths r 0)) first count →
+        (l : DeepLeft k t stage depths numbers plane g first count before all deep mask gaggle cells marks x y) → (j : ℕ) → j ≤ count → l.n ≤ j → ((i : ℕ) →
+        i < j → bit mask i ≡ false) →
+        BlocksLeft k all (block_script t stage depths numbers) plane g (first + j) (count - j) numbers before gaggle cells marks x y
+    deep_to deeps l j le ge none =
+        let e : l.n + (j - l.n) ≡ j = omega (arith, ge) in
+        subst (λ a. BlocksLeft k all (block_script t stage depths numbers) plane g (first + a) (count - a) numbers before gaggle cells marks x y) e
+        (blocks_past (j - l.n) l.n (omega (arith, ge, le)) (λ i low high.
+        let less : i < j = omega (arith, high, ge) in
+        sym (deeps.at i (omega (arith, less, le))) ∙ sym (l.kept i low (omega (arith, less, le))) ∙ none i less) l.blocks)
+
+  -- the first deep block was read
+  pub deep_after : {all : Script PlaneState PlaneState} {deep mask mask' : ℕ} {gaggle gaggle' : Gaggle} {cells marks cells' marks' : List ℤ} {x y z : Point I}
+      (few : count ≤ 16) →
+      (l : DeepLeft k t stage depths numbers plane g first count before all deep mask gaggle cells marks x y) → (j : ℕ) → j < count → l.n ≤ j → ((i : ℕ) →
+      i < j → bit mask i ≡ false) →
+      bit mask' j ≡ false → ((i : ℕ) → i < 64 → (i ≡ j → ⊥) → bit mask' i ≡ bit mask i) →
+      BlocksLeft k all (block_script t stage depths numbers) plane g (first + (j + 1)) (count - (j + 1)) numbers before gaggle' cells' marks' x z →
+      DeepLeft k t stage depths numbers plane g first count before all deep mask' gaggle' cells' marks' x z
+  deep_after {mask' = mask'} few l j lt ge none gone others blocks = record {
+    n = j + 1;
+    within = omega (arith, lt);
+    none = λ i less. elim (cases_eq i j) [
+      | inl e ↦ subst (λ a. bit mask' a ≡ false) (sym e) gone
+      | inr apart ↦ others i (omega (arith, less, lt, few)) apart ∙ none i (omega (arith, less, apart))
+    ];
+    kept = λ i le less. others i (omega (arith, less, few)) (λ e. omega (arith, e, le)) ∙ l.kept i (omega (arith, le, ge)) less;
+    blocks = blocks;
+  }
+
+-- the mask has the first deep block that is left
+pub next_is_left : {n k : ℕ} (mask : ℕ) → ((i : ℕ) → i < n → bit mask i ≡ false) → bit mask k ≡ true → n ≤ k
+next_is_left {n} {k} mask none has = elim (cases_lt k n) [
+  | inl lt ↦ absurd (clash (sym has ∙ none k lt))
+  | inr ge ↦ ge
+]
+  where
+    clash : true ≡ false → ⊥
+    clash e = cc

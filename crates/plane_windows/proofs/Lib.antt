@@ -33,6 +33,7 @@ pub mod JoinedCells
 pub mod NumberLanes
 pub mod CellGroups
 pub mod DcSums
+pub mod DeepLanes
 pub mod PlaneStates
 pub mod CellNumbers
 pub mod DcReads

@@ -1,6 +1,6 @@
 // The reader of a stage of a gaggle, with a window that is held.
 
-ghost use Rattle.std.specs.Prelude.{◌≡◌, ◌≤◌, ◌<◌, ◌+◌, ◌*◌, ◌/◌, ◌%◌, ℕ, ℤ, List, length};
+ghost use Rattle.std.specs.Prelude.{◌≡◌, ◌≤◌, ◌<◌, ◌+◌, ◌*◌, ◌/◌, ◌%◌, ◌^◌, ℕ, ℤ, List, length};
 ghost use Rattle.bit_pipe.specs.Coming.{coming, IsIn};
 ghost use Rattle.block_masks.specs.Slices.{IsColumn};
 ghost use Rattle.plane_scripts.specs.Planes.{PlaneState};
@@ -16,7 +16,7 @@ use crate::places::PlaceTables;
 use crate::reading::Reading;
 use crate::stages::{Block, take_block};
 use bit_pipe::{BitIn, OctetIn, Part, TextFault};
-use block_masks::{CodedPlane, Column, has, load, store};
+use block_masks::{CodedPlane, Column, first_in, load, store, without};
 
 // The blocks of a gaggle: the first, their number, at most 16, and those that are deep enough to have bits of the plane, of which bit k is
 // for the k-th.
@@ -49,6 +49,7 @@ fn take_blocks<I: OctetIn, const STAGE: u8>(
     requires column { IsColumn cells.old of.now.blocks.first }
     requires gaggle { of.now.blocks.first.block % 16 ≡ 0 }
     requires count { of.now.blocks.count ≤ 16 }
+    requires small { of.now.blocks.deep < 2 ^ of.now.blocks.count }
     requires within { of.now.blocks.first.block + of.now.blocks.count ≤ length marks.old }
     ensures blocks { (depths : List ℕ) (numbers : List (List ℤ)) (p : PlaneState) → AreDeep of.now.plan.now.plane depths of.now.blocks →
         AreAbove of.now.plan.now.plane cells.old numbers → HavePlane of.now.plan.now.plane cells.old numbers p → HaveFamilies marks.old p →
@@ -64,10 +65,9 @@ fn take_blocks<I: OctetIn, const STAGE: u8>(
     ensures holds { Holds I.source (coming input.new) reading.new.cursor }
     ensures is_in { IsIn (coming input.new) }
 {
-    for k in 0..of.blocks.count {
-        if !has(of.blocks.deep, k) {
-            continue;
-        }
+    let mut left = of.blocks.deep;
+    while left != 0 {
+        let k = first_in(left);
         let column = of.blocks.first.further(cells, usize::from(k));
         let mut block = Block {
             column,
@@ -78,6 +78,7 @@ fn take_blocks<I: OctetIn, const STAGE: u8>(
         let Part::Whole = read? else {
             return Ok(Part::Ended);
         };
+        left = without(left, k);
     }
     Ok(Part::Whole)
 }
@@ -108,6 +109,7 @@ pub(crate) fn take_gaggle<I: OctetIn, const STAGE: u8>(
     requires column { IsColumn cells.old blocks.first }
     requires gaggle { blocks.first.block % 16 ≡ 0 }
     requires count { blocks.count ≤ 16 }
+    requires small { blocks.deep < 2 ^ blocks.count }
     requires within { blocks.first.block + blocks.count ≤ length marks.old }
     ensures blocks { (depths : List ℕ) (numbers : List (List ℤ)) (p : PlaneState) → AreDeep terms.now.plan.now.plane depths blocks →
         AreAbove terms.now.plan.now.plane cells.old numbers → HavePlane terms.now.plan.now.plane cells.old numbers p → HaveFamilies marks.old p →

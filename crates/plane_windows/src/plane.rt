@@ -1,6 +1,6 @@
 // The reader of a plane, stage by stage and gaggle by gaggle.
 
-ghost use Rattle.std.specs.Prelude.{◌≡◌, ◌≤◌, ◌<◌, ◌+◌, ◌-◌, ◌*◌, ◌%◌, ℕ, ℤ, List, [], length, nat_lt, min};
+ghost use Rattle.std.specs.Prelude.{◌≡◌, ◌≤◌, ◌<◌, ◌+◌, ◌-◌, ◌*◌, ◌%◌, ◌^◌, ℕ, ℤ, List, [], length, nat_lt, min};
 ghost use Rattle.bit_pipe.specs.Coming.{coming, IsIn};
 ghost use Rattle.block_masks.specs.Gaggles.{AreKnown};
 ghost use Rattle.block_masks.specs.Masks.{Shows};
@@ -18,9 +18,10 @@ ghost use Rattle.wave_defs.specs.Held.{blocks_in};
 ghost use lib.ListN.{get_or};
 
 use crate::dc_bits::take_dcs;
+use crate::deep::deep_blocks;
 use crate::gaggles::{Blocks, Terms, take_gaggle};
 use bit_pipe::{BitIn, OctetIn, Part, TextFault};
-use block_masks::{Column, Gaggle, depth_of, joined, mark_of, one, settle_above};
+use block_masks::{Column, Gaggle, depth_of, mark_of, settle_above};
 
 // The number of blocks of a gaggle.
 const GAGGLE: usize = 16;
@@ -38,30 +39,17 @@ fn clear(marks: &mut [i32])
     }
 }
 
-// Returns which of some blocks are deeper than a plane: bit k is for the k-th.
-#[inline(always)]
-fn deep_blocks(marks: &[i32], first: usize, count: u8, plane: u8) -> u64
-    requires few { count ≤ 16 }
-    requires within { first + count ≤ length marks.now }
-    ensures { Shows result (λ r. nat_lt plane (get_or (depths_of marks.now) r 0)) first count }
-{
-    let mut deep = 0;
-    for k in 0..count {
-        let is_deep = plane < depth_of(marks[first + usize::from(k)]);
-        deep = joined(deep, one(is_deep), k);
-    }
-    deep
-}
-
 // Returns the blocks of gaggle g.
 #[inline(always)]
 fn gaggle_of(cells: &[i32], marks: &[i32], g: usize, plane: u8) -> Blocks
     requires whole { length cells.now ≡ 64 * length marks.now }
     requires within { 16 * g < length marks.now }
+    requires low { plane < 27 }
     ensures column { IsColumn cells.now result.first }
     ensures block { result.first.block ≡ 16 * g }
     ensures count { result.count ≡ min (length marks.now - 16 * g) 16 }
     ensures deep { AreDeep plane (depths_of marks.now) result }
+    ensures small { result.deep < 2 ^ result.count }
 {
     let first = Column::of(cells, GAGGLE * g);
     let count = (marks.len() - first.block).min(GAGGLE) as u8;

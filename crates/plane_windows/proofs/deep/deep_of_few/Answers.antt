@@ -5,7 +5,7 @@ use Rattle.block_masks.proofs.Marking.{depth_there}
 use Rattle.block_masks.specs.Masks.{Shows}
 use Rattle.plane_windows.proofs.FoundMasks.{room_one}
 use Rattle.plane_windows.proofs.ClearStates.{one_shows, none_shown}
-use Rattle.plane_windows.proofs.plane.deep_blocks.Goals as goal
+use Rattle.plane_windows.proofs.deep.deep_of_few.Goals as goal
 
 pub loop-k-init : goal.loop-k-init
 loop-k-init c = none_shown _ c.args.first
