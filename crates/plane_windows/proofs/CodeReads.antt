@@ -32,9 +32,11 @@ abbrev pub OneEnds : {I : Type 0} → SourceOf I → Item → ℕ → Result (Op
 OneEnds k it value (Ok (Some v)) old new = (v ≡ value) × Takes k old new (item_bits it)
 OneEnds k it value (Ok None) old new = EndsItem k it.form.shape (Ok None) old new
 OneEnds k it value (Err fault) old new =
-    ((said : ℕ) × (name : Refusal) × (fault ≡ of_refusal name) × (it.form.refusal said ≡ Some name) × EndsItem k it.form.shape (Ok (Some said)) old new) ⊎ ((e : InFault) × (fault ≡ of_input e) × EndsItem k it.form.shape (Err e) old new)
+    ((said : ℕ) × (name : Refusal) × (fault ≡ of_refusal name) × (it.form.refusal said ≡ Some name) × EndsItem k it.form.shape (Ok (Some said)) old new) ⊎
+    ((e : InFault) × (fault ≡ of_input e) × EndsItem k it.form.shape (Err e) old new)
 
-pub one_ends : {I : Type 0} {k : SourceOf I} (it : Item) (value : ℕ) {old new : Coming I} (ending : Ending) → Reads k (it ∷ []) ending old new → OneEnds k it value (item_answer value ending) old new
+pub one_ends : {I : Type 0} {k : SourceOf I} (it : Item) (value : ℕ) {old new : Coming I} (ending : Ending) → Reads k (it ∷ []) ending old new →
+    OneEnds k it value (item_answer value ending) old new
 one_ends {k = k} it value {old} {new} (stopped all_read) q = (refl, subst (Takes k old new) (append-nil (item_bits it)) q.ends)
 one_ends it value (stopped (cut_off zero)) q = (record { some = q.ends.0.some; taken = q.ends.0.taken; lacks = q.ends.0.lacks }, q.ends.1)
 one_ends it value (stopped (cut_off (suc m))) q = absurd (omega (arith, q.ends.0.within))
@@ -50,13 +52,16 @@ by_refusal bad_depth g = refl
 by_refusal false_flag g = refl
 
 -- a fault of an item is one of the question for it, if the question has the item's shape and refuses what the item's form refuses
-pub asked_fault : {I G A : Type 0} {k : SourceOf I} (g : G) (form : Form) (next : ℕ → Script G A) (it : Item) (value : ℕ) {old new : Coming I} → IsSound form.shape → form.shape ≡ it.form.shape →
-    ((n : ℕ) (name : Refusal) → it.form.refusal n ≡ Some name → form.refusal n ≡ Some name) → (fault : TextFault) → OneEnds k it value (Err fault) old new → ReadsAs k (ask g form next) (by_fault fault g) old new
+pub asked_fault : {I G A : Type 0} {k : SourceOf I} (g : G) (form : Form) (next : ℕ → Script G A) (it : Item) (value : ℕ) {old new : Coming I} →
+    IsSound form.shape → form.shape ≡ it.form.shape →
+    ((n : ℕ) (name : Refusal) → it.form.refusal n ≡ Some name → form.refusal n ≡ Some name) → (fault : TextFault) → OneEnds k it value (Err fault) old new →
+    ReadsAs k (ask g form next) (by_fault fault g) old new
 asked_fault {A = A} {k = k} g form next it value {old} {new} sound same names fault (inl p) =
     subst (λ f. ReadsAs k (ask g form next) f old new) (sym (ap (λ x. by_fault x g) p.2 ∙ by_refusal {A = A} p.1 g))
     (ask_refused g form next p.0 p.1 sound (subst (λ s. EndsItem k s (Ok (Some p.0)) old new) (sym same) p.4) (names p.0 p.1 p.3))
 asked_fault {A = A} {k = k} g form next it value {old} {new} sound same names fault (inr p) =
-    subst (λ f. ReadsAs k (ask g form next) f old new) (sym (ap (λ x. by_fault x g) p.1)) (ask_failed g form next p.0 (subst (λ s. EndsItem k s (Err p.0) old new) (sym same) p.2))
+    subst (λ f. ReadsAs k (ask g form next) f old new) (sym (ap (λ x. by_fault x g) p.1)) (ask_failed g form next p.0 (subst (λ s. EndsItem k s
+    (Err p.0) old new) (sym same) p.2))
 
 -- ---- identifiers
 
@@ -71,7 +76,8 @@ all_named = refl
 
 named : (count option : ℕ) → 2 ≤ count → count ≤ 4 → option < count → is_named count option ≡ true
 named count option low high lt =
-    list_all-span-zero (is_named count) count option (past (nat_lt count 2) (list_all (is_named count) (span 0 count)) few (list_all-span-zero (λ n. nat_lt n 2 || list_all (is_named n) (span 0 n)) 5 count all_named (omega (arith, high)))) lt
+    list_all-span-zero (is_named count) count option (past (nat_lt count 2) (list_all (is_named count) (span 0 count)) few (list_all-span-zero
+    (λ n. nat_lt n 2 || list_all (is_named n) (span 0 n)) 5 count all_named (omega (arith, high)))) lt
   where
     few : nat_lt count 2 ≡ false
     few = grind (arith, nat_tests)
@@ -95,7 +101,8 @@ pub record IsNamed (count option : ℕ) : Type 0 where
 pub option_known : (count option : ℕ) → 2 ≤ count → count ≤ 4 → option < count → IsNamed count option
 unfolding is_named
 option_known count option low high lt =
-    let p = parts (nat_lt (identifier_number count option) (2 ^ identifier_width count)) (names_option count (identifier_number count option)) (option_named count (identifier_number count option) == option) (named count option low high lt) in
+    let p = parts (nat_lt (identifier_number count option) (2 ^ identifier_width count)) (names_option count (identifier_number count option))
+    (option_named count (identifier_number count option) == option) (named count option low high lt) in
     record { fits = below _ _ p.0; names = p.1; same = equal _ _ p.2 }
   where
     below : (a b : ℕ) → nat_lt a b ≡ true → a < b

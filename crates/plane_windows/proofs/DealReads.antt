@@ -1,9 +1,9 @@
 -- The bits of positions that are dealt out from a window, four positions at a time.
-use Rattle.std.proofs.Common.{◌≡◌, ℕ, zero, suc, ◌+◌, ◌-◌, ◌*◌, ◌/◌, ◌%◌, ◌<◌, ◌≤◌, ◌^◌, ◌==◌, ◌&&◌, ◌||◌, if◌then◌else◌, cond, Bool, true, false, List, [], ◌∷◌, ◌++◌, length, map, filter, refl, ap, sym, ◌∙◌, subst, arith, Option, Some, Result, Ok, count_ones}
-use Rattle.std.proofs.Math.Bool.{and-false, or-false}
+use Rattle.std.proofs.Common.{◌≡◌, ℕ, zero, suc, ◌+◌, ◌-◌, ◌*◌, ◌/◌, ◌%◌, ◌<◌, ◌≤◌, ◌^◌, ◌==◌, ◌&&◌, ◌||◌, if◌then◌else◌, cond, Bool, true, false, [], ◌∷◌, ◌++◌, length, map, filter, refl, ap, sym, ◌∙◌, subst, arith, Some, Ok, count_ones}
+use Rattle.std.proofs.Math.Bool.{or-false}
 use Rattle.std.proofs.lemmas.Bool.Decides.{nat_tests}
 use Rattle.std.proofs.lemmas.List.{length-map}
-use Rattle.item_defs.specs.Bits.{bit, bits_of, value_of}
+use Rattle.item_defs.specs.Bits.{bit, value_of}
 use Rattle.item_defs.proofs.NumberBits.{bits_none, length-bits_of, value_below}
 use Rattle.plane_defs.specs.Spans.{span}
 use Rattle.plane_defs.proofs.SpanLists.{map-filter-span-suc, map-filter-span-none}
@@ -14,7 +14,7 @@ use Rattle.block_masks.specs.Picks.{AreSpread}
 use Rattle.block_masks.proofs.LaneMasks.{shows_same}
 use Rattle.bit_pipe.specs.Sources.{SourceOf}
 use Rattle.bit_pipe.specs.Windows.{first_of}
-use Rattle.item_scripts.specs.Scripts.{Script, done, then_ask, in_turn, run}
+use Rattle.item_scripts.specs.Scripts.{done, in_turn, run}
 use Rattle.item_scripts.specs.Sources.{Gets, GoesOn}
 use Rattle.item_scripts.proofs.ReaderLaws.{gets_goes_on, goes_on_then}
 use Rattle.plane_scripts.specs.States.{State, with_bits, and_one}
@@ -27,7 +27,7 @@ use Rattle.plane_windows.proofs.HeldReads.{moves_then, reads_gets}
 use Rattle.plane_windows.proofs.PlaceReads.{due_count}
 use Rattle.plane_windows.proofs.SignReads.{bit_read, same_bits}
 use Rattle.plane_windows.proofs.HeldTypes.{signs_word}
-use Rattle.plane_windows.proofs.WindowParts.{window_parts, moved_on}
+use Rattle.plane_windows.proofs.WindowParts.{window_parts}
 
 -- a state with these bits too
 pub record Grown (s t : State) (new : ℕ → Bool) : Type 0 where
@@ -35,7 +35,8 @@ pub record Grown (s t : State) (new : ℕ → Bool) : Type 0 where
   pub bits : (q : ℕ) → t.bits q ≡ (s.bits q || new q)
   pub minus : t.minus ≡ s.minus
 
-grown_is : {h : Gaggle} {f f' : Found} {s t : State} {new : ℕ → Bool} → IsState h f s → Grown s t new → Shows f'.bits (λ q. s.bits q || new q) 0 64 → f'.minus ≡ f.minus → IsState h f' t
+grown_is : {h : Gaggle} {f f' : Found} {s t : State} {new : ℕ → Bool} → IsState h f s → Grown s t new → Shows f'.bits (λ q. s.bits q || new q) 0 64 →
+    f'.minus ≡ f.minus → IsState h f' t
 grown_is {h} {f} {f'} {s} {t} is grown shown same = record {
   options = subst (AreIn h) (sym grown.options) is.options;
   bits = shows_same (λ q. sym (grown.bits q)) shown;
@@ -119,24 +120,30 @@ module _ (g f : ℕ → Bool) where
         to = y.to;
         grown = record {
           options = y.grown.options ∙ x.grown.options;
-          bits = λ q. y.grown.bits q ∙ ap (λ b. b || ((q == a + n) && (g q && f q))) (x.grown.bits q) ∙ or_assoc (s.bits q) (inside a n q && (g q && f q)) ((q == a + n) && (g q && f q)) ∙ ap (λ b. s.bits q || b) (one_more a n q (g q && f q));
+          bits = λ q. y.grown.bits q ∙ ap (λ b. b || ((q == a + n) && (g q && f q))) (x.grown.bits q) ∙ or_assoc (s.bits q) (inside a n q && (g q && f q))
+              ((q == a + n) && (g q && f q)) ∙ ap (λ b. s.bits q || b) (one_more a n q (g q && f q));
           minus = y.grown.minus ∙ x.grown.minus;
         };
         goes = λ m.
             let count : n + suc m ≡ suc n + m = omega arith in
             let place : suc (a + n) ≡ a + suc n = omega arith in
             let first = x.goes (suc m) in
-            let last = gets_goes_on (marked_script g (a + n) x.to) (in_turn (marked_script g) (suc (a + n)) m) (cond (g (a + n)) (f (a + n) ∷ []) []) y.to y.gets in
-            let both = goes_on_then (in_turn (marked_script g) a (n + suc m) s) (in_turn (marked_script g) (a + n) (suc m) x.to) (in_turn (marked_script g) (suc (a + n)) m y.to) (map f (filter g (span a n))) (cond (g (a + n)) (f (a + n) ∷ []) []) first last in
+            let last = gets_goes_on (marked_script g (a + n) x.to) (in_turn (marked_script g) (suc (a + n)) m) (cond (g (a + n)) (f
+            (a + n) ∷ []) []) y.to y.gets in
+            let both = goes_on_then (in_turn (marked_script g) a (n + suc m) s) (in_turn (marked_script g) (a + n) (suc m) x.to) (in_turn (marked_script g)
+            (suc (a + n)) m y.to) (map f (filter g (span a n))) (cond (g (a + n)) (f (a + n) ∷ []) []) first last in
             let bits = sym (map-filter-span-suc f g a n) ∙ ap (λ c. map f (filter g (span a c))) more_one in
             subst (λ l. GoesOn (in_turn (marked_script g) a (suc n + m) s) l (in_turn (marked_script g) (a + suc n) m y.to)) bits
-            (subst (λ b. GoesOn (in_turn (marked_script g) a (suc n + m) s) (map f (filter g (span a n)) ++ cond (g (a + n)) (f (a + n) ∷ []) []) (in_turn (marked_script g) b m y.to)) place
-            (subst (λ c. GoesOn (in_turn (marked_script g) a c s) (map f (filter g (span a n)) ++ cond (g (a + n)) (f (a + n) ∷ []) []) (in_turn (marked_script g) (suc (a + n)) m y.to)) count both));
+            (subst (λ b. GoesOn (in_turn (marked_script g) a (suc n + m) s) (map f (filter g (span a n)) ++ cond (g (a + n)) (f (a + n) ∷ []) []) (in_turn
+            (marked_script g) b m y.to)) place
+            (subst (λ c. GoesOn (in_turn (marked_script g) a c s) (map f (filter g (span a n)) ++ cond (g (a + n)) (f (a + n) ∷ []) []) (in_turn
+            (marked_script g) (suc (a + n)) m y.to)) count both));
       }
 
 -- ---- four positions of a window
 
-module _ (g : ℕ → Bool) (a due : ℕ) (shown : Shows due g a 4) (rest places : ℕ) (fits : rest < 2 ^ 64) (few : count_ones due ≤ 4) (spread : AreSpread due (rest / 2 ^ 60 / 2 ^ (4 - count_ones due)) places) where
+module _ (g : ℕ → Bool) (a due : ℕ) (shown : Shows due g a 4) (rest places : ℕ) (fits : rest < 2 ^ 64) (few : count_ones due ≤ 4) (spread : AreSpread due
+    (rest / 2 ^ 60 / 2 ^ (4 - count_ones due)) places) where
   abbrev here : ℕ → Bool
   here p = bit places (p - a)
 
@@ -150,7 +157,8 @@ module _ (g : ℕ → Bool) (a due : ℕ) (shown : Shows due g a 4) (rest places
   four = omega arith
 
   below : rest / 2 ^ 60 / 2 ^ (4 - count_ones due) < 2 ^ count_ones due
-  below = subst (λ v. v < 2 ^ count_ones due) (sym word_is) (subst (λ n. value_of (first_of (count_ones due) rest) < 2 ^ n) long (value_below (first_of (count_ones due) rest)))
+  below = subst (λ v. v < 2 ^ count_ones due) (sym word_is) (subst (λ n. value_of (first_of (count_ones due) rest) < 2 ^ n) long (value_below (first_of
+      (count_ones due) rest)))
 
   back : value_of (map here (filter g (span a 4))) ≡ rest / 2 ^ 60 / 2 ^ (4 - count_ones due)
   back = spread.back g a 4 four shown below
@@ -164,8 +172,10 @@ module _ (g : ℕ → Bool) (a due : ℕ) (shown : Shows due g a 4) (rest places
   pub four_read : (s : State) → ReadTo g here a 4 s
   four_read s = read_to g here a 4 s
 
-  pub four_goes : (s : State) (m : ℕ) → GoesOn (in_turn (marked_script g) a (4 + m) s) (first_of (count_ones due) rest) (in_turn (marked_script g) (a + 4) m (four_read s).to)
-  four_goes s m = subst (λ l. GoesOn (in_turn (marked_script g) a (4 + m) s) l (in_turn (marked_script g) (a + 4) m (four_read s).to)) bits_are ((four_read s).goes m)
+  pub four_goes : (s : State) (m : ℕ) → GoesOn (in_turn (marked_script g) a (4 + m) s) (first_of (count_ones due) rest) (in_turn (marked_script g) (a + 4) m
+      (four_read s).to)
+  four_goes s m = subst (λ l. GoesOn (in_turn (marked_script g) a (4 + m) s) l (in_turn (marked_script g) (a + 4) m (four_read s).to)) bits_are
+      ((four_read s).goes m)
 
 -- ---- a half, four positions at a time
 
@@ -182,12 +192,16 @@ module _ (g : ℕ → Bool) (start : ℕ) (s : State) {h : Gaggle} (window : ℕ
     is = record { options = is.options; bits = is.bits; minus = is.minus };
     goes = λ more.
         let a : start ≡ start + 4 * 0 = omega arith in
-        ap (λ l. run (in_turn (marked_script g) start 32 s) (l ++ more)) (bits_none (window / 2 ^ 64)) ∙ ap (λ b. run (in_turn (marked_script g) b 32 s) more) a;
+        ap (λ l. run (in_turn (marked_script g) start 32 s) (l ++ more)) (bits_none (window / 2 ^ 64)) ∙ ap (λ b. run (in_turn
+        (marked_script g) b 32 s) more) a;
   }
 
-  pub dealt_four : {k bits minus count due rest places new : ℕ} → (d : DealtTo g start k s h bits minus count window) → k < 8 → start + 32 ≤ 64 → count ≤ 4 * k → window < 2 ^ 64 → rest ≡ window * 2 ^ count % 2 ^ 64 → (shown : Shows due g (start + 4 * k) 4) → (few : count_ones due ≤ 4) → (fits : rest < 2 ^ 64) →
+  pub dealt_four : {k bits minus count due rest places new : ℕ} → (d : DealtTo g start k s h bits minus count window) → k < 8 → start + 32 ≤ 64 →
+      count ≤ 4 * k → window < 2 ^ 64 → rest ≡ window * 2 ^ count % 2 ^ 64 → (shown : Shows due g (start + 4 * k) 4) → (few : count_ones due ≤ 4) →
+      (fits : rest < 2 ^ 64) →
       (spread : AreSpread due (rest / 2 ^ 60 / 2 ^ (4 - count_ones due)) places) →
-      ((f h' : ℕ → Bool) → Shows bits f 0 64 → Shows places h' (start + 4 * k) 4 → Shows new (λ q. f q || (inside (start + 4 * k) 4 q && h' q)) 0 64) → DealtTo g start (k + 1) s h new minus (count + count_ones due) window
+      ((f h' : ℕ → Bool) → Shows bits f 0 64 → Shows places h' (start + 4 * k) 4 → Shows new (λ q. f q || (inside (start + 4 * k) 4 q && h' q)) 0 64) →
+      DealtTo g start (k + 1) s h new minus (count + count_ones due) window
   dealt_four {k} {bits} {minus} {count} {due} {rest} {places} {new} d lt room low window_fits rest_is shown few fits spread added =
       let a = start + 4 * k in
       let r = four_read g a due shown rest places fits few spread d.to in
@@ -195,22 +209,38 @@ module _ (g : ℕ → Bool) (start : ℕ) (s : State) {h : Gaggle} (window : ℕ
       let next : a + 4 ≡ start + 4 * (k + 1) = omega arith in
       let goes = four_goes g a due shown rest places fits few spread d.to (32 - 4 * (k + 1)) in
       let before = subst (λ c. GoesOn (in_turn (marked_script g) start 32 s) (first_of count window) (in_turn (marked_script g) a c d.to)) left d.goes in
-      let both = goes_on_then (in_turn (marked_script g) start 32 s) (in_turn (marked_script g) a (4 + (32 - 4 * (k + 1))) d.to) (in_turn (marked_script g) (a + 4) (32 - 4 * (k + 1)) r.to) (first_of count window) (first_of (count_ones due) rest) before goes in
-      let parts : first_of count window ++ first_of (count_ones due) rest ≡ first_of (count + count_ones due) window = ap (λ z. first_of count window ++ first_of (count_ones due) z) rest_is ∙ sym (window_parts window count (count_ones due) (omega (arith, low, few, lt))) in
+      let both = goes_on_then (in_turn (marked_script g) start 32 s) (in_turn (marked_script g) a (4 + (32 - 4 * (k + 1))) d.to) (in_turn (marked_script g)
+      (a + 4) (32 - 4 * (k + 1)) r.to) (first_of count window) (first_of (count_ones due) rest) before goes in
+      let parts : first_of count window ++ first_of (count_ones due) rest ≡ first_of (count + count_ones due) window =
+      ap (λ z. first_of count window ++ first_of (count_ones due) z) rest_is ∙ sym (window_parts window count (count_ones due) (omega (
+        arith,
+        low,
+        few,
+        lt,
+      ))) in
       record {
         to = r.to;
-        is = grown_is d.is r.grown (added d.to.bits (λ q. g q && here g a due shown rest places fits few spread q) d.is.bits (places_shown g a due shown rest places fits few spread)) refl;
-        goes = subst (λ b. GoesOn (in_turn (marked_script g) start 32 s) (first_of (count + count_ones due) window) (in_turn (marked_script g) b (32 - 4 * (k + 1)) r.to)) next
+        is = grown_is d.is r.grown (added d.to.bits (λ q. g q && here g a due shown rest places fits few spread q) d.is.bits
+            (places_shown g a due shown rest places fits few spread)) refl;
+        goes = subst (λ b. GoesOn (in_turn (marked_script g) start 32 s) (first_of (count + count_ones due) window) (in_turn (marked_script g) b (32 - 4 *
+            (k + 1)) r.to)) next
             (subst (λ l. GoesOn (in_turn (marked_script g) start 32 s) l (in_turn (marked_script g) (a + 4) (32 - 4 * (k + 1)) r.to)) parts both);
       }
 
-  pub dealt_all : {I : Type 0} {k : SourceOf I} {n bits minus count : ℕ} (d : DealtTo g start n s h bits minus count window) → 8 ≤ n → {x m y : Point I} → Stays k x m → Moves k m y (first_of count window) → {f : Found} → f.bits ≡ bits → f.minus ≡ minus →
+  pub dealt_all : {I : Type 0} {k : SourceOf I} {n bits minus count : ℕ} (d : DealtTo g start n s h bits minus count window) → 8 ≤ n → {x m y : Point I} →
+      Stays k x m → Moves k m y (first_of count window) → {f : Found} → f.bits ≡ bits → f.minus ≡ minus →
       HeldState {X = Unit {0}} k (in_turn (marked_script g) start 32 s) (Ok (Some tt)) h f x y
   dealt_all {n = n} {count = count} d all stays moves {f} same_bits_of same_minus =
       let none : 32 - 4 * n ≡ 0 = omega (arith, all) in
-      let gets : Gets (in_turn (marked_script g) start 32 s) (first_of count window) d.to = subst (λ c. GoesOn (in_turn (marked_script g) start 32 s) (first_of count window) (in_turn (marked_script g) (start + 4 * n) c d.to)) none d.goes in
+      let gets : Gets (in_turn (marked_script g) start 32 s) (first_of count window) d.to = subst (λ c. GoesOn (in_turn (marked_script g) start 32 s)
+      (first_of count window) (in_turn (marked_script g) (start + 4 * n) c d.to)) none d.goes in
       record {
         now = d.to;
-        is = record { options = d.is.options; bits = subst (λ b. Shows b d.to.bits 0 64) (sym same_bits_of) d.is.bits; minus = subst (λ b. Shows b d.to.minus 0 64) (sym same_minus) d.is.minus };
+        is = record {
+          options = d.is.options;
+          bits = subst (λ b. Shows b d.to.bits 0 64) (sym same_bits_of) d.is.bits;
+          minus =
+              subst (λ b. Shows b d.to.minus 0 64) (sym same_minus) d.is.minus;
+        };
         read = reads_gets (in_turn (marked_script g) start 32 s) d.to gets (moves_then stays moves);
       }

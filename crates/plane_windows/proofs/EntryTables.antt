@@ -23,8 +23,14 @@ octet_of octet lt = omega arith
 pub word_there : (due number places : ℕ) → due < 16 → number < 2 ^ count_ones due → AreSpread due number places → word_at due places ≡ number
 word_there due number places small fits spread = spread.back (bit due) 0 4 (omega arith) (shows_own due 4 small) fits
 
-module _ (book : Book) (due option window number places len signed : ℕ) (small : due < 16) (fits : number < 2 ^ count_ones due) (spread : AreSpread due number places) where
-  pub first_is : len ≤ 8 → (count_ones due ≡ 0 → len ≡ 0) → (1 ≤ count_ones due → item_bits (word_item book (count_ones due) option number) ≡ first_of len window) → signed ≡ len + count_ones number → IsFirst book due option window (record { places = places; len = len; signed_len = signed })
+module _ (book : Book) (due option window number places len signed : ℕ) (small : due < 16) (fits : number < 2 ^ count_ones due)
+    (spread : AreSpread due number places) where
+  pub first_is : len ≤ 8 → (count_ones due ≡ 0 → len ≡ 0) → (1 ≤ count_ones due → item_bits (word_item book
+      (count_ones due) option number) ≡ first_of len window) → signed ≡ len + count_ones number → IsFirst book due option window (record {
+        places = places;
+        len = len;
+        signed_len = signed;
+      })
   first_is few none code signed_is =
       let w = word_there due number places small fits spread in
       record {

@@ -19,7 +19,8 @@ use Rattle.plane_windows.specs.declared.cursor.Cursor.{Cursor}
 use Rattle.plane_windows.specs.Held.{read_of, has_left, Holds, Point, point, Moves, Stays, StopsAt, ReadsFrom, LeadsTo}
 use Rattle.plane_windows.proofs.WindowParts.{window_parts, moved_on}
 
-later : {G A B : Type 0} (r : Script G A) (next : A → Script G B) (bits : List Bool) (o : Outcome G A) → run r bits ≡ o → run (then_ask r next) bits ≡ proceed (λ a. run (next a)) o
+later : {G A B : Type 0} (r : Script G A) (next : A → Script G B) (bits : List Bool) (o : Outcome G A) → run r bits ≡ o →
+    run (then_ask r next) bits ≡ proceed (λ a. run (next a)) o
 later r next bits o e = run_then next r bits ∙ ap (proceed (λ a. run (next a))) e
 
 -- nothing was read of a window that is new, or not there
@@ -35,7 +36,8 @@ module _ {I : Type 0} {k : SourceOf I} where
   moves_then {a} {b} {c} {xs} {ys} p q = record {
     moved = p.moved ++ q.moved;
     taken = takes_then p.taken q.taken;
-    same = append_assoc p.moved q.moved c.read ∙ ap (λ l. p.moved ++ l) q.same ∙ sym (append_assoc p.moved b.read ys) ∙ ap (λ l. l ++ ys) p.same ∙ append_assoc a.read xs ys;
+    same = append_assoc p.moved q.moved c.read ∙ ap (λ l. p.moved ++ l) q.same ∙ sym (append_assoc p.moved b.read ys) ∙ ap (λ l. l ++ ys) p.same ∙
+        append_assoc a.read xs ys;
   }
 
   pub in_moved : {a b : Point I} {xs : List Bool} → IsIn a.input → Moves k a b xs → IsIn b.input
@@ -52,7 +54,8 @@ module _ {I : Type 0} {k : SourceOf I} where
   stays_then p q = moves_then p q
 
   -- some bits of the window
-  module _ {s : Coming I} {c d : Cursor} (holds : Holds k s c) (n : ℕ) (left : has_left n c) (used : d.used ≡ c.used + n) (same : d.window ≡ c.window) (rest : d.rest ≡ c.rest * 2 ^ n % 2 ^ 64) where
+  module _ {s : Coming I} {c d : Cursor} (holds : Holds k s c) (n : ℕ) (left : has_left n c) (used : d.used ≡ c.used + n) (same : d.window ≡ c.window)
+      (rest : d.rest ≡ c.rest * 2 ^ n % 2 ^ 64) where
     held : c.used ≤ 56
     held = omega (arith, left)
 
@@ -64,14 +67,16 @@ module _ {I : Type 0} {k : SourceOf I} where
       moved = [];
       taken = takes_start k s h;
       same =
-          read_is d (omega (arith, used, left)) ∙ ap (first_of d.used) same ∙ ap (λ m. first_of m c.window) used ∙ window_parts c.window c.used n (omega (arith, left)) ∙
+          read_is d (omega (arith, used, left)) ∙ ap (first_of d.used) same ∙ ap (λ m. first_of m c.window) used ∙
+          window_parts c.window c.used n (omega (arith, left)) ∙
           ap (λ r. first_of c.used c.window ++ first_of n r) (sym (holds.rest held)) ∙ ap (λ l. l ++ first_of n c.rest) (sym (read_is c held));
     }
 
     pub holds_passed : Holds k s d
     holds_passed = record {
       window = λ le. subst (IsWindow k s) (sym same) (holds.window held);
-      rest = λ le. rest ∙ moved_on c.window c.used n c.rest (holds.rest held) ∙ ap (λ m. c.window * 2 ^ m % 2 ^ 64) (sym used) ∙ ap (λ w. w * 2 ^ d.used % 2 ^ 64) (sym same);
+      rest = λ le. rest ∙ moved_on c.window c.used n c.rest (holds.rest held) ∙ ap (λ m. c.window * 2 ^ m % 2 ^ 64) (sym used) ∙
+          ap (λ w. w * 2 ^ d.used % 2 ^ 64) (sym same);
     }
 
   -- ---- readings
@@ -131,7 +136,12 @@ module _ {I : Type 0} {k : SourceOf I} where
       reads_cut g p = record { bits = p.bits; moves = p.moves; says = later r next p.bits (cut g) p.says; stops = p.stops }
 
       pub reads_refused : (g : G) (name : Refusal) → ReadsFrom k r (refuses g name) x y → ReadsFrom k (then_ask r next) (refuses g name) x y
-      reads_refused g name p = record { bits = p.bits; moves = p.moves; says = λ more. later r next (p.bits ++ more) (refused g name more) (p.says more); stops = tt }
+      reads_refused g name p = record {
+        bits = p.bits;
+        moves = p.moves;
+        says = λ more. later r next (p.bits ++ more) (refused g name more) (p.says more);
+        stops = tt;
+      }
 
       reads_failed : (g : G) (e : InFault) → ReadsFrom k r (fails g e) x y → ReadsFrom k (then_ask r next) (fails g e) x y
       reads_failed g e p = record { bits = p.bits; moves = p.moves; says = later r next p.bits (cut g) p.says; stops = p.stops }
@@ -146,14 +156,17 @@ module _ {I : Type 0} {k : SourceOf I} where
       reads_fault g texts.Broken p = reads_failed g _ p
 
 -- the first part was read, and then the next
-pub reads_then : {I G A B : Type 0} {k : SourceOf I} (r : Script G A) (next : A → Script G B) (a : A) (f : Found G B) {x y z : Point I} → ReadsFrom k r (got a) x y → ReadsFrom k (next a) f y z → ReadsFrom k (then_ask r next) f x z
+pub reads_then : {I G A B : Type 0} {k : SourceOf I} (r : Script G A) (next : A → Script G B) (a : A) (f : Found G B) {x y z : Point I} →
+    ReadsFrom k r (got a) x y → ReadsFrom k (next a) f y z → ReadsFrom k (then_ask r next) f x z
 reads_then r next a f p q = reads_later (then_ask r next) (next a) f (leads_got r next a p) q
 
 -- once the window is let go, exactly the bits that decide were taken
-pub reads_closed : {I G A : Type 0} {k : SourceOf I} (s : Script G A) (f : Found G A) {x y z : Point I} → x.read ≡ [] → ReadsFrom k s f x y → Stays k y z → z.read ≡ [] → (y.read ≡ [] → z.input ≡ y.input) → ReadsAs k s f x.input z.input
+pub reads_closed : {I G A : Type 0} {k : SourceOf I} (s : Script G A) (f : Found G A) {x y z : Point I} → x.read ≡ [] → ReadsFrom k s f x y → Stays k y z →
+    z.read ≡ [] → (y.read ≡ [] → z.input ≡ y.input) → ReadsAs k s f x.input z.input
 reads_closed {I} {G} {A} {k} s f {x} {y} {z} none p stays none_then kept =
     let m = moves_then p.moves stays in
-    let same : m.moved ≡ p.bits = sym (append-nil m.moved) ∙ ap (λ l. m.moved ++ l) (sym none_then) ∙ m.same ∙ ap (λ l. l ++ (p.bits ++ [])) none ∙ append-nil p.bits in
+    let same : m.moved ≡ p.bits = sym (append-nil m.moved) ∙ ap (λ l. m.moved ++ l) (sym none_then) ∙ m.same ∙ ap (λ l. l ++ (p.bits ++ [])) none ∙
+    append-nil p.bits in
     record { bits = p.bits; taken = subst (Takes k x.input z.input) same m.taken; says = p.says; stops = stop f p.stops }
   where
     stop : (f : Found G A) → StopsAt k f x y → Stops k f x.input z.input

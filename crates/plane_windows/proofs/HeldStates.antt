@@ -26,29 +26,50 @@ holds_closed lt = record { window = λ le. absurd (omega (arith, le, lt)); rest 
 
 module _ {I X : Type 0} {k : SourceOf I} (r : Script State State) (result : Result (Option X) TextFault) {h : Gaggle} {f : Found} {x m y : Point I} where
   pub held_by_calls : Stays k x m → m.read ≡ [] → y.read ≡ [] → TakesState k r result h f m.input y.input → HeldState k r result h f x y
-  held_by_calls stays none none_then t = record { now = t.now; is = t.is; read = reads_later r r (by_done result t.now t.now) (leads_stays r stays) (reads_by_calls r (by_done result t.now t.now) none none_then t.read) }
+  held_by_calls stays none none_then t = record {
+    now = t.now;
+    is = t.is;
+    read = reads_later r r (by_done result t.now t.now) (leads_stays r stays)
+        (reads_by_calls r (by_done result t.now t.now) none none_then t.read);
+  }
 
   pub held_later : Stays k x m → HeldState k r result h f m y → HeldState k r result h f x y
   held_later stays t = record { now = t.now; is = t.is; read = reads_later r r (by_done result t.now t.now) (leads_stays r stays) t.read }
 
-module _ {I : Type 0} {k : SourceOf I} (book : Book) (g : ℕ → Bool) (wanted : Bool) (start count : ℕ) (s : State) {h : Gaggle} {f : Found} {x m y : Point I} where
+module _ {I : Type 0} {k : SourceOf I} (book : Book) (g : ℕ → Bool) (wanted : Bool) (start count : ℕ)
+    (s : State) {h : Gaggle} {f : Found} {x m y : Point I} where
   -- one must be 1, and none is
-  pub held_false : {bits : List Bool} (new : ℕ → Bool) → IsState h f s → Stays k x m → Moves k m y bits → (let o : State × (ℕ → Bool) = (s, new) in Says (due_script book g (some_one_where wanted) (span start count) s) bits (unless_bad true s o)) →
+  pub held_false : {bits : List Bool} (new : ℕ → Bool) → IsState h f s → Stays k x m → Moves k m y bits → (let o : State × (ℕ → Bool) = (s, new) in
+      Says (due_script book g (some_one_where wanted) (span start count) s) bits (unless_bad true s o)) →
       HeldState {X = Unit {0}} k (types_script book g wanted (span start count) s) (Err FalseFlag) h f x y
   held_false {bits} new is stays moves says = record {
     now = s;
     is = is;
-    read = reads_refused (due_script book g (some_one_where wanted) (span start count) s) (λ (r : State × (ℕ → Bool)). signs_script (filter r.1 (span start count)) (with_bits r.0 r.1)) s false_flag (record { bits = [] ++ bits; moves = moves_then stays moves; says = says; stops = tt });
+    read = reads_refused (due_script book g (some_one_where wanted) (span start count) s) (λ (r : State × (ℕ →
+        Bool)). signs_script (filter r.1 (span start count)) (with_bits r.0 r.1)) s false_flag (record {
+          bits = [] ++ bits;
+          moves = moves_then stays moves;
+          says = says;
+          stops = tt;
+        });
   }
 
-  pub held_types : {bits : List Bool} {now : State} → IsState h f now → Stays k x m → Moves k m y bits → Gets (types_script book g wanted (span start count) s) bits now →
+  pub held_types : {bits : List Bool} {now : State} → IsState h f now → Stays k x m → Moves k m y bits →
+      Gets (types_script book g wanted (span start count) s) bits now →
       HeldState {X = Unit {0}} k (types_script book g wanted (span start count) s) (Ok (Some tt)) h f x y
-  held_types {bits} {now} is stays moves gets = record { now = now; is = is; read = reads_gets (types_script book g wanted (span start count) s) now gets (moves_then stays moves) }
+  held_types {bits} {now} is stays moves gets = record {
+    now = now;
+    is = is;
+    read = reads_gets (types_script book g wanted (span start count) s) now gets
+        (moves_then stays moves);
+  }
 
 -- ---- places
 
-module _ {I : Type 0} {k : SourceOf I} (book : Book) (due : ℕ) (g : ℕ → Bool) (start count : ℕ) (s : State) (result : Result (Option ℕ) TextFault) {h : Gaggle} {x m y : Point I} where
-  pub places_by_calls : Stays k x m → m.read ≡ [] → y.read ≡ [] → TakesPlaces k book due g start count s result h m.input y.input → HeldPlaces k book due g start count s result h x y
+module _ {I : Type 0} {k : SourceOf I} (book : Book) (due : ℕ) (g : ℕ → Bool) (start count : ℕ) (s : State) (result : Result
+    (Option ℕ) TextFault) {h : Gaggle} {x m y : Point I} where
+  pub places_by_calls : Stays k x m → m.read ≡ [] → y.read ≡ [] → TakesPlaces k book due g start count s result h m.input y.input →
+      HeldPlaces k book due g start count s result h x y
   places_by_calls stays none none_then t = record {
     options = t.options;
     known = t.known;
@@ -78,9 +99,11 @@ stops_unless : {I G A : Type 0} (k : SourceOf I) (x y : Point I) (bad : Bool) (g
 stops_unless k x y true g a = tt
 stops_unless k x y false g a = tt
 
-module _ {I : Type 0} {k : SourceOf I} (book : Book) (due : ℕ) (g : ℕ → Bool) (start count : ℕ) (s : State) {h : Gaggle} (are : AreIn h s.options) {x m y : Point I} (word : ℕ) (new : ℕ → Bool) {places : ℕ} (ones : AreOnes due word new start count places) where
+module _ {I : Type 0} {k : SourceOf I} (book : Book) (due : ℕ) (g : ℕ → Bool) (start count : ℕ) (s : State) {h : Gaggle}
+    (are : AreIn h s.options) {x m y : Point I} (word : ℕ) (new : ℕ → Bool) {places : ℕ} (ones : AreOnes due word new start count places) where
   pub held_places : {bits : List Bool} → Stays k x m → Moves k m y bits →
-      ((check : Check) → (length (filter g (span start count)) ≡ 0 → is_refused check 0 ≡ false) → (let o : State × (ℕ → Bool) = (s, new) in Says (due_script book g check (span start count) s) bits (unless_bad (is_refused check word) s o))) →
+      ((check : Check) → (length (filter g (span start count)) ≡ 0 → is_refused check 0 ≡ false) → (let o : State × (ℕ → Bool) = (s, new) in
+      Says (due_script book g check (span start count) s) bits (unless_bad (is_refused check word) s o))) →
       HeldPlaces k book due g start count s (Ok (Some places)) h x y
   held_places {bits} stays moves says = record {
     options = s.options;
@@ -88,5 +111,11 @@ module _ {I : Type 0} {k : SourceOf I} (book : Book) (due : ℕ) (g : ℕ → Bo
     word = word;
     ones = new;
     are = ones;
-    read = λ check free. (let o : State × (ℕ → Bool) = (s, new) in record { bits = [] ++ bits; moves = moves_then stays moves; says = says check free; stops = stops_unless k x y (is_refused check word) s o });
+    read = λ check free. (let o : State × (ℕ → Bool) = (s, new) in record {
+      bits = [] ++ bits;
+      moves = moves_then stays moves;
+      says = says check free;
+      stops =
+          stops_unless k x y (is_refused check word) s o;
+    });
   }

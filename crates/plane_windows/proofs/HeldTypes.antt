@@ -42,12 +42,14 @@ use Rattle.plane_windows.proofs.WindowWords.{few_ones, word_value}
 
 -- ---- a question whose number has a value, of which some are refused
 
-module _ {G A : Type 0} (g : G) (form : Form) (next : ℕ → Script G A) (a : A) (bad : Bool) (n : ℕ) (sound : IsSound form.shape) (said : IsSaid form.shape n) (is : next n ≡ done a) (refusal : form.refusal n ≡ (if bad then Some false_flag else None)) where
+module _ {G A : Type 0} (g : G) (form : Form) (next : ℕ → Script G A) (a : A) (bad : Bool) (n : ℕ) (sound : IsSound form.shape) (said : IsSaid form.shape n)
+    (is : next n ≡ done a) (refusal : form.refusal n ≡ (if bad then Some false_flag else None)) where
   pub asked_says : Says (ask g form next) (spelling form.shape n) (unless_bad bad g a)
   asked_says = here bad refl
     where
       here : (b : Bool) → bad ≡ b → Says (ask g form next) (spelling form.shape n) (unless_bad b g a)
-      here true e = λ more. ap (answered g form (λ m. run (next m))) (spelt_first form.shape n more sound said) ∙ ap (λ x. unless_named g x more (run (next n) more)) (refusal ∙ ap (λ b. if b then Some false_flag else None) e)
+      here true e = λ more. ap (answered g form (λ m. run (next m))) (spelt_first form.shape n more sound said) ∙
+          ap (λ x. unless_named g x more (run (next n) more)) (refusal ∙ ap (λ b. if b then Some false_flag else None) e)
       here false e = λ more. goes_on_ask g form next n sound said (refusal ∙ ap (λ b. if b then Some false_flag else None) e) more ∙ ap (λ x. run x more) is
 
 -- ---- a word
@@ -67,7 +69,8 @@ module _ (book : Book) (sound : is_book_sound book ≡ true) (s : State) (option
   abbrev coded_by : (count x : ℕ) → Script State (State × ℕ)
   coded_by count x = ask s (word_form book count x check) (λ said. done (s, word_said count x said))
 
-  no_word : IsWordOf book s 0 option window len word → is_refused check 0 ≡ false → Says (word_script book 0 check s) (first_of len window) (unless_bad (is_refused check word) s end)
+  no_word : IsWordOf book s 0 option window len word → is_refused check 0 ≡ false → Says (word_script book 0 check s) (first_of len window) (unless_bad
+      (is_refused check word) s end)
   no_word w free =
       let z : word ≡ 0 = omega (arith, w.fits) in
       let e : State × ℕ = (s, 0) in
@@ -82,21 +85,27 @@ module _ (book : Book) (sound : is_book_sound book ≡ true) (s : State) (option
       subst (λ l. Says (ask s (raw_form check) (λ value. done (s, value))) l (unless_bad (is_refused check word) s end)) bits
       (asked_says s (raw_form check) (λ value. done (s, value)) end (is_refused check word) word tt w.fits refl refl)
 
-  several_bits : (count : ℕ) → 2 ≤ count → count ≤ 4 → IsWordOf book s count option window len word → Says (word_script book count check s) (first_of len window) (unless_bad (is_refused check word) s end)
+  several_bits : (count : ℕ) → 2 ≤ count → count ≤ 4 → IsWordOf book s count option window len word → Says (word_script book count check s)
+      (first_of len window) (unless_bad (is_refused check word) s end)
   several_bits count low high w =
       let lt : option < count = omega (arith, w.option_fits, low) in
       let same : word_script book count check s ≡ coded_by count option =
-      long_is book count low high s check ∙ ap (λ o. then_ask (option_script count s o) (coded_script book count check)) (w.known low) ∙ ap (λ o. coded_by count (option_of o)) (w.known low) in
+      long_is book count low high s check ∙ ap (λ o. then_ask (option_script count s o) (coded_script book count check)) (w.known low) ∙
+      ap (λ o. coded_by count (option_of o)) (w.known low) in
       let it = word_item book count option word in
       let value = word_said_is book count option low high lt sound word w.fits in
-      let bits : spelling (word_item book count option 0).form.shape it.said ≡ first_of len window = ap (λ z. spelling z it.said) (word_shape book count option word) ∙ w.code (omega (arith, low)) in
+      let bits : spelling (word_item book count option 0).form.shape it.said ≡ first_of len window = ap (λ z. spelling z it.said)
+      (word_shape book count option word) ∙ w.code (omega (arith, low)) in
       subst (λ r. Says r (first_of len window) (unless_bad (is_refused check word) s end)) (sym same)
       (subst (λ l. Says (coded_by count option) l (unless_bad (is_refused check word) s end)) bits
-      (asked_says s (word_form book count option check) (λ said. done (s, word_said count option said)) end (is_refused check word) it.said (word_sound book count option low high lt sound 0)
-      (subst (λ z. IsSaid z it.said) (sym (word_shape book count option word)) (word_is_said book count option low high lt sound word w.fits)) (ap (λ v. done (s, v)) value)
+      (asked_says s (word_form book count option check) (λ said. done (s, word_said count option said)) end (is_refused check word) it.said
+      (word_sound book count option low high lt sound 0)
+      (subst (λ z. IsSaid z it.said) (sym (word_shape book count option word)) (word_is_said book count option low high lt sound word w.fits)) (ap (λ v. done
+      (s, v)) value)
       (ap (λ v. if is_refused check v then Some false_flag else None) value)))
 
-  pub word_says : (count : ℕ) → count ≤ 4 → IsWordOf book s count option window len word → (count ≡ 0 → is_refused check 0 ≡ false) → Says (word_script book count check s) (first_of len window) (unless_bad (is_refused check word) s end)
+  pub word_says : (count : ℕ) → count ≤ 4 → IsWordOf book s count option window len word → (count ≡ 0 → is_refused check 0 ≡ false) →
+      Says (word_script book count check s) (first_of len window) (unless_bad (is_refused check word) s end)
   word_says zero few w free = no_word w (free refl)
   word_says (suc zero) few w free = one_bit w
   word_says (suc (suc n)) few w free = several_bits (suc (suc n)) (omega arith) few w
@@ -154,7 +163,8 @@ row_option g due table known few e not_none = elim (cases_lt (count_ones due) 2)
 pub row_small : {g : Gaggle} {due table : ℕ} → due < 16 → count_ones due ≤ 4 → RowOption g due table → table < 64
 row_small small few r = omega (arith, r.at, r.fits, few, small)
 
-module _ (book : Book) (sound : is_book_sound book ≡ true) (g : ℕ → Bool) (start count : ℕ) (few : count ≤ 4) (s : State) {h : Gaggle} (are : AreIn h s.options) (due : ℕ) (small : due < 16) (shown : Shows due g start count) {table : ℕ} (row : RowOption h due table) (window : ℕ)
+module _ (book : Book) (sound : is_book_sound book ≡ true) (g : ℕ → Bool) (start count : ℕ) (few : count ≤ 4) (s : State) {h : Gaggle}
+    (are : AreIn h s.options) (due : ℕ) (small : due < 16) (shown : Shows due g start count) {table : ℕ} (row : RowOption h due table) (window : ℕ)
     {first : FirstPlaces} (f : IsFirst book due row.option window first) where
   abbrev places : List ℕ
   places = filter g (span start count)
@@ -166,7 +176,13 @@ module _ (book : Book) (sound : is_book_sound book ≡ true) (g : ℕ → Bool) 
   new = word_ones g start count word
 
   pub first_ones : AreOnes due word new start count first.places
-  first_ones = record { fits = f.fits; spread = f.places; shown = ones_shown g start count due word first.places few shown f.fits f.places; within = ones_inside g start count due word first.places few shown f.fits f.places }
+  first_ones = record {
+    fits = f.fits;
+    spread = f.places;
+    shown = ones_shown g start count due word first.places few shown f.fits f.places;
+    within =
+        ones_inside g start count due word first.places few shown f.fits f.places;
+  }
 
   pub is_word : IsWordOf book s (count_ones due) row.option window first.len word
   is_word = record {
@@ -178,19 +194,26 @@ module _ (book : Book) (sound : is_book_sound book ≡ true) (g : ℕ → Bool) 
   }
 
   -- the places of the word
-  pub places_say : (check : Check) → (length (filter g (span start count)) ≡ 0 → is_refused check 0 ≡ false) → Says (due_script book g check (span start count) s) (first_of first.len window) (let o : State × (ℕ → Bool) = (s, new) in unless_bad (is_refused check word) s o)
+  pub places_say : (check : Check) → (length (filter g (span start count)) ≡ 0 → is_refused check 0 ≡ false) →
+      Says (due_script book g check (span start count) s) (first_of first.len window) (let o : State × (ℕ → Bool) = (s, new) in
+      unless_bad (is_refused check word) s o)
   places_say check free =
       let n : count_ones due ≡ length places = due_count g start count due few shown in
       let p : State × ℕ = (s, word) in
-      last (is_refused check word) (subst (λ c. Says (word_script book c check s) (first_of first.len window) (unless_bad (is_refused check word) s p)) n (word_says book sound s row.option window first.len word check (count_ones due) (few_ones due small) is_word (λ e. free (sym n ∙ e))))
+      last (is_refused check word) (subst (λ c. Says (word_script book c check s) (first_of first.len window) (unless_bad (is_refused check word) s p)) n
+      (word_says book sound s row.option window first.len word check (count_ones due) (few_ones due small) is_word (λ e. free (sym n ∙ e))))
     where
       next : State × ℕ → Script State (State × (ℕ → Bool))
       next w = done (w.0, ones places (bits_of (length places) w.1))
 
-      last : (bad : Bool) → (let p : State × ℕ = (s, word) in Says (word_script book (length places) check s) (first_of first.len window) (unless_bad bad s p)) →
-          (let o : State × (ℕ → Bool) = (s, new) in Says (then_ask (word_script book (length places) check s) next) (first_of first.len window) (unless_bad bad s o))
-      last true q = λ more. run_then next (word_script book (length places) check s) (first_of first.len window ++ more) ∙ ap (λ o. proceed (λ a. run (next a)) o) (q more)
-      last false q = λ more. run_then next (word_script book (length places) check s) (first_of first.len window ++ more) ∙ ap (λ o. proceed (λ a. run (next a)) o) (q more)
+      last : (bad : Bool) → (let p : State × ℕ = (s, word) in Says (word_script book (length places) check s) (first_of first.len window)
+          (unless_bad bad s p)) →
+          (let o : State × (ℕ → Bool) = (s, new) in Says (then_ask (word_script book (length places) check s) next) (first_of first.len window)
+          (unless_bad bad s o))
+      last true q = λ more. run_then next (word_script book (length places) check s) (first_of first.len window ++ more) ∙
+          ap (λ o. proceed (λ a. run (next a)) o) (q more)
+      last false q = λ more. run_then next (word_script book (length places) check s) (first_of first.len window ++ more) ∙
+          ap (λ o. proceed (λ a. run (next a)) o) (q more)
 
   -- ---- and the signs after it
 
@@ -210,26 +233,36 @@ module _ (book : Book) (sound : is_book_sound book ≡ true) (g : ℕ → Bool) 
   signed_few = omega (arith, f.signed, f.few, few_ones first.places f.places.small)
 
   parts_are : first_of first.signed_len window ≡ first_of first.len window ++ first_of (count_ones first.places) rest
-  parts_are = ap (λ n. first_of n window) f.signed ∙ window_parts window first.len (count_ones first.places) (omega (arith, f.few, few_ones first.places f.places.small))
+  parts_are = ap (λ n. first_of n window) f.signed ∙ window_parts window first.len (count_ones first.places) (omega (
+    arith,
+    f.few,
+    few_ones first.places f.places.small,
+  ))
 
   long : length signs ≡ length (first_of (count_ones first.places) rest)
-  long = sym (due_count new start count first.places few first_ones.shown) ∙ sym (length-bits_of (count_ones first.places) (rest / 2 ^ (64 - count_ones first.places)))
+  long = sym (due_count new start count first.places few first_ones.shown) ∙ sym (length-bits_of (count_ones first.places) (rest / 2 ^
+      (64 - count_ones first.places)))
 
-  pub types_gets : (wanted : Bool) → (length (filter g (span start count)) ≡ 0 → is_refused (some_one_where wanted) 0 ≡ false) → (wanted && (first.places == 0)) ≡ false → Gets (types_script book g wanted (span start count) s) (first_of first.signed_len window) types_end
+  pub types_gets : (wanted : Bool) → (length (filter g (span start count)) ≡ 0 → is_refused (some_one_where wanted) 0 ≡ false) → (wanted && (first.places ==
+      0)) ≡ false → Gets (types_script book g wanted (span start count) s) (first_of first.signed_len window) types_end
   types_gets wanted free e =
       let o : State × (ℕ → Bool) = (s, new) in
-      let says = subst (λ b. Says (due_script book g (some_one_where wanted) (span start count) s) (first_of first.len window) (unless_bad b s o)) (refused_is wanted first_ones ∙ e) (places_say (some_one_where wanted) free) in
+      let says = subst (λ b. Says (due_script book g (some_one_where wanted) (span start count) s) (first_of first.len window) (unless_bad b s o))
+      (refused_is wanted first_ones ∙ e) (places_say (some_one_where wanted) free) in
       rw parts_are
-      (gets_then (due_script book g (some_one_where wanted) (span start count) s) (λ (r : State × (ℕ → Bool)). signs_script (filter r.1 (span start count)) (with_bits r.0 r.1)) (first_of first.len window) (first_of (count_ones first.places) rest) o types_end says
+      (gets_then (due_script book g (some_one_where wanted) (span start count) s) (λ (r : State × (ℕ → Bool)). signs_script (filter r.1 (span start count))
+      (with_bits r.0 r.1)) (first_of first.len window) (first_of (count_ones first.places) rest) o types_end says
       (signs_get signs (first_of (count_ones first.places) rest) (with_bits s new) long))
 
   -- the signs are at their places
-  module _ {minus signs_word : ℕ} (is_value : signs_word ≡ value_of (first_of (count_ones first.places) rest)) (spread : AreSpread first.places signs_word minus) where
+  module _ {minus signs_word : ℕ} (is_value : signs_word ≡ value_of (first_of (count_ones first.places) rest))
+      (spread : AreSpread first.places signs_word minus) where
     abbrev is_minus : ℕ → Bool
     is_minus p = bit minus (p - start)
 
     below : value_of (first_of (count_ones first.places) rest) < 2 ^ count_ones first.places
-    below = subst (λ n. value_of (first_of (count_ones first.places) rest) < 2 ^ n) (length-bits_of (count_ones first.places) (rest / 2 ^ (64 - count_ones first.places))) (value_below (first_of (count_ones first.places) rest))
+    below = subst (λ n. value_of (first_of (count_ones first.places) rest) < 2 ^ n) (length-bits_of (count_ones first.places) (rest / 2 ^
+        (64 - count_ones first.places))) (value_below (first_of (count_ones first.places) rest))
 
     back : value_of (map is_minus signs) ≡ signs_word
     back = spread.back new start count few first_ones.shown (subst (λ v. v < 2 ^ count_ones first.places) (sym is_value) below)
@@ -242,7 +275,8 @@ module _ (book : Book) (sound : is_book_sound book ≡ true) (g : ℕ → Bool) 
 
     signed_is : (q : ℕ) → signed q ≡ (s.minus q || (inside start count q && (new q && is_minus q)))
     signed_is q =
-        ap (λ l. signs_of signs l s.minus q) (sym signs_are) ∙ signs_as is_minus signs s.minus q ∙ ap (λ b. s.minus q || (b && is_minus q)) (has_filter new start count q) ∙
+        ap (λ l. signs_of signs l s.minus q) (sym signs_are) ∙ signs_as is_minus signs s.minus q ∙ ap (λ b. s.minus q || (b && is_minus q))
+        (has_filter new start count q) ∙
         ap (λ b. s.minus q || b) (grouped (inside start count q) (new q) (is_minus q))
       where
         grouped : (a b c : Bool) → ((a && b) && c) ≡ (a && (b && c))
@@ -250,10 +284,14 @@ module _ (book : Book) (sound : is_book_sound book ≡ true) (g : ℕ → Bool) 
         grouped false b c = refl
 
     pub types_is : (room : start + count ≤ 64) (m n o : Found) → IsState h m s → n.minus ≡ m.minus →
-        ((f g' : ℕ → Bool) (c : ℕ) → start + c ≤ 64 → Shows m.bits f 0 64 → Shows first.places g' start c → Shows n.bits (λ p. f p || (inside start c p && g' p)) 0 64) → o.bits ≡ n.bits →
-        ((f g' : ℕ → Bool) (c : ℕ) → start + c ≤ 64 → Shows n.minus f 0 64 → Shows minus g' start c → Shows o.minus (λ p. f p || (inside start c p && g' p)) 0 64) → IsState h o types_end
+        ((f g' : ℕ → Bool) (c : ℕ) → start + c ≤ 64 → Shows m.bits f 0 64 → Shows first.places g' start c → Shows n.bits (λ p. f p ||
+        (inside start c p && g' p)) 0 64) → o.bits ≡ n.bits →
+        ((f g' : ℕ → Bool) (c : ℕ) → start + c ≤ 64 → Shows n.minus f 0 64 → Shows minus g' start c → Shows o.minus (λ p. f p ||
+        (inside start c p && g' p)) 0 64) → IsState h o types_end
     types_is room m n o is no_minus bits no_bits added = record {
       options = is.options;
-      bits = subst (λ z. Shows z (λ x. s.bits x || new x) 0 64) (sym no_bits) (shows_same (λ x. ap (λ b. s.bits x || b) (first_ones.within x)) (bits s.bits new count room is.bits first_ones.shown));
-      minus = shows_same (λ q. sym (signed_is q)) (added s.minus (λ q. new q && is_minus q) count room (subst (λ z. Shows z s.minus 0 64) (sym no_minus) is.minus) minus_shown);
+      bits = subst (λ z. Shows z (λ x. s.bits x || new x) 0 64) (sym no_bits) (shows_same (λ x. ap (λ b. s.bits x || b) (first_ones.within
+          x)) (bits s.bits new count room is.bits first_ones.shown));
+      minus = shows_same (λ q. sym (signed_is q)) (added s.minus (λ q. new q && is_minus q) count room (subst (λ z. Shows z s.minus 0 64)
+          (sym no_minus) is.minus) minus_shown);
     }

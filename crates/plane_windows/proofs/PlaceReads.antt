@@ -43,7 +43,8 @@ has_filter g start (suc n) q =
     has_append (filter g (span start n)) (cond (g (start + n)) ((start + n) ∷ []) []) q ∙
     ap (λ t. t || has (cond (g (start + n)) ((start + n) ∷ []) []) q) (has_filter g start n q) ∙ last (g (start + n)) refl (q == start + n) refl
   where
-    last : (t : Bool) → g (start + n) ≡ t → (u : Bool) → (q == start + n) ≡ u → ((inside start n q && g q) || has (cond t ((start + n) ∷ []) []) q) ≡ (inside start (suc n) q && g q)
+    last : (t : Bool) → g (start + n) ≡ t → (u : Bool) → (q == start + n) ≡ u → ((inside start n q && g q) || has (cond t ((start + n) ∷ []) []) q) ≡
+        (inside start (suc n) q && g q)
     last true e true f =
         let same : q ≡ start + n = grind (arith, nat_tests) in
         let is : g q ≡ true = ap g same ∙ e in
@@ -80,7 +81,8 @@ ones_of_test f (p ∷ ps) q = ap (λ t. ((q == p) && f p) || t) (ones_of_test f 
 abbrev pub word_ones : (g : ℕ → Bool) → (start count value : ℕ) → ℕ → Bool
 word_ones g start count value = ones (filter g (span start count)) (bits_of (length (filter g (span start count))) value)
 
-module _ (g : ℕ → Bool) (start count due value places : ℕ) (few : count ≤ 4) (shown : Shows due g start count) (fits : value < 2 ^ count_ones due) (spread : AreSpread due value places) where
+module _ (g : ℕ → Bool) (start count due value places : ℕ) (few : count ≤ 4) (shown : Shows due g start count) (fits : value < 2 ^ count_ones due)
+    (spread : AreSpread due value places) where
   abbrev is_one : ℕ → Bool
   is_one p = bit places (p - start)
 
@@ -90,11 +92,13 @@ module _ (g : ℕ → Bool) (start count due value places : ℕ) (few : count �
   pub bits_are : bits_of (length (filter g (span start count))) value ≡ map is_one (filter g (span start count))
   bits_are =
       let here = map is_one (filter g (span start count)) in
-      ap (λ v. bits_of (length (filter g (span start count))) v) (sym back) ∙ ap (λ n. bits_of n (value_of here)) (sym (length-map (filter g (span start count)) is_one)) ∙ bits_of-value_of here
+      ap (λ v. bits_of (length (filter g (span start count))) v) (sym back) ∙ ap (λ n. bits_of n (value_of here)) (sym (length-map (filter g
+      (span start count)) is_one)) ∙ bits_of-value_of here
 
   pub ones_are : (q : ℕ) → word_ones g start count value q ≡ (inside start count q && (g q && is_one q))
   ones_are q =
-      ap (λ l. ones (filter g (span start count)) l q) bits_are ∙ ones_of_test is_one (filter g (span start count)) q ∙ ap (λ t. t && is_one q) (has_filter g start count q) ∙ grouped (inside start count q) (g q) (is_one q)
+      ap (λ l. ones (filter g (span start count)) l q) bits_are ∙ ones_of_test is_one (filter g (span start count)) q ∙
+      ap (λ t. t && is_one q) (has_filter g start count q) ∙ grouped (inside start count q) (g q) (is_one q)
     where
       grouped : (a b c : Bool) → ((a && b) && c) ≡ (a && (b && c))
       grouped true b c = refl
@@ -104,7 +108,8 @@ module _ (g : ℕ → Bool) (start count due value places : ℕ) (few : count �
   ones_shown =
       let told = spread.told is_one g start count few shown back in
       record {
-        at = λ k lt. let in_here : inside start count (start + k) ≡ true = grind (arith, nat_tests) in told.at k lt ∙ ap (λ t. t && (g (start + k) && is_one (start + k))) (sym in_here) ∙ sym (ones_are (start + k));
+        at = λ k lt. let in_here : inside start count (start + k) ≡ true = grind (arith, nat_tests) in told.at k lt ∙
+            ap (λ t. t && (g (start + k) && is_one (start + k))) (sym in_here) ∙ sym (ones_are (start + k));
         small = told.small;
       }
 
@@ -121,8 +126,10 @@ due_count g start count due few shown = ones_of due start count (λ p. true) g f
 
 -- ---- the word of the due places
 
-module _ {I : Type 0} {k : SourceOf I} (book : Book) (s : State) {h : Gaggle} (g : ℕ → Bool) (start count due : ℕ) (few : count ≤ 4) (shown : Shows due g start count) {a b : Coming I} where
-  due_word : {result : Result (Option ℕ) TextFault} → TakesWord k book (count_ones due) s result h a b → TakesWord k book (length (filter g (span start count))) s result h a b
+module _ {I : Type 0} {k : SourceOf I} (book : Book) (s : State) {h : Gaggle} (g : ℕ → Bool) (start count due : ℕ) (few : count ≤ 4)
+    (shown : Shows due g start count) {a b : Coming I} where
+  due_word : {result : Result (Option ℕ) TextFault} → TakesWord k book (count_ones due) s result h a b →
+      TakesWord k book (length (filter g (span start count))) s result h a b
   due_word {result} w = subst (λ n. TakesWord k book n s result h a b) (due_count g start count due few shown) w
 
   pub due_fault : (fault : TextFault) → TakesWord k book (count_ones due) s (Err fault) h a b → TakesPlaces k book due g start count s (Err fault) h a b
@@ -149,7 +156,8 @@ module _ {I : Type 0} {k : SourceOf I} (book : Book) (s : State) {h : Gaggle} (g
         read = λ check free. read_cut _ _ (with_options s w.options) (w.read check free);
       }
 
-  pub due_given : IsIn a → (value places : ℕ) → value < 2 ^ count_ones due → AreSpread due value places → TakesWord k book (count_ones due) s (Ok (Some value)) h a b → TakesPlaces k book due g start count s (Ok (Some places)) h a b
+  pub due_given : IsIn a → (value places : ℕ) → value < 2 ^ count_ones due → AreSpread due value places →
+      TakesWord k book (count_ones due) s (Ok (Some value)) h a b → TakesPlaces k book due g start count s (Ok (Some places)) h a b
   due_given i value places fits spread w0 =
       let w = due_word w0 in
       record {
@@ -166,9 +174,13 @@ module _ {I : Type 0} {k : SourceOf I} (book : Book) (s : State) {h : Gaggle} (g
         read = λ check free. last check (is_refused check value) (with_options s w.options) (w.read check free);
       }
     where
-      last : (check : Check) (bad : Bool) (t : State) → ReadsAs k (word_script book (length (filter g (span start count))) check s) (unless_bad bad t (t, value)) a b → ReadsAs k (due_script book g check (span start count) s) (unless_bad bad t (t, word_ones g start count value)) a b
+      last : (check : Check) (bad : Bool) (t : State) → ReadsAs k (word_script book (length (filter g (span start count))) check s) (unless_bad bad t (
+        t,
+        value,
+      )) a b → ReadsAs k (due_script book g check (span start count) s) (unless_bad bad t (t, word_ones g start count value)) a b
       last check true t r = read_fault _ _ t FalseFlag r
-      last check false t r = let w : State × ℕ = (t, value) in let o : State × (ℕ → Bool) = (t, word_ones g start count value) in read_then _ _ w _ r (read_done o b (in_read i r))
+      last check false t r = let w : State × ℕ = (t, value) in let o : State × (ℕ → Bool) = (t, word_ones g start count value) in
+          read_then _ _ w _ r (read_done o b (in_read i r))
 
 -- a mask of no place
 pub none_there : {places start count : ℕ} {f : ℕ → Bool} → places < 2 ^ 64 → Shows places f start count → not (places == 0) ≡ list_any f (span start count)

@@ -1,10 +1,9 @@
 -- The sets of a block by masks, as the scripts of stages name them.
-use Rattle.std.proofs.Common.{◌≡◌, ℕ, ◌+◌, ◌*◌, ◌<◌, ◌≤◌, Bool, true, false, not, ◌&&◌, ◌||◌, ℤ, List, refl, ap, sym, ◌∙◌, arith}
+use Rattle.std.proofs.Common.{◌≡◌, ℕ, ◌+◌, ◌<◌, Bool, true, false, not, ◌&&◌, ◌||◌, ℤ, List, refl, ap, sym, ◌∙◌}
 use Rattle.std.specs.List.{list_any}
 use Rattle.item_defs.specs.Bits.{bit}
 use Rattle.plane_defs.specs.declared.sets.Set.{Set}
-use Rattle.plane_defs.specs.declared.sets.Set.TheVariants.{Descendants, Family, Grandchildren, Quad}
-use Rattle.plane_defs.specs.Sets.{significant, coded, members, set_significant, live, IsKnown}
+use Rattle.plane_defs.specs.Sets.{significant, coded, members, live, IsKnown}
 use Rattle.plane_defs.proofs.Above.{members_acs, any_alike}
 use Rattle.plane_defs.proofs.Equations.{live-is, set_significant-is}
 use Rattle.block_masks.specs.Masks.{Shows}
@@ -29,13 +28,15 @@ due_turned false false false = refl
 module _ (t : Terms) (block : List ℤ) (mask : ℕ) (marked : IsAbove mask block t.plane) where
   -- a mask of the AC numbers that are significant above gives the same for sets
   pub was_set : (s : Set) → IsKnown s → list_any (bit mask) (members s) ≡ above t block s
-  was_set s known = any_alike (bit mask) (significant block (t.plane + 1)) (members s) (members_acs s known) marked ∙ sym (set_significant-is block (t.plane + 1) s)
+  was_set s known = any_alike (bit mask) (significant block (t.plane + 1)) (members s) (members_acs s known) marked ∙
+      sym (set_significant-is block (t.plane + 1) s)
 
   pub live_set : (s : Set) → list_any (coded t.weights t.plane) (members s) ≡ live t.weights t.plane s
   live_set s = sym (live-is t.weights t.plane s)
 
   -- whether the flag of a set is due
-  pub due_set : (s : Set) → IsKnown s → (enclosing : Bool) → ((not (list_any (bit mask) (members s)) && list_any (coded t.weights t.plane) (members s)) && enclosing) ≡ is_due t block s enclosing
+  pub due_set : (s : Set) → IsKnown s → (enclosing : Bool) → ((not (list_any (bit mask) (members s)) && list_any (coded t.weights t.plane)
+      (members s)) && enclosing) ≡ is_due t block s enclosing
   due_set s known enclosing =
       (λ i. (not (was_set s known i) && live_set s i) && enclosing) ∙ due_turned (above t block s) (live t.weights t.plane s) enclosing
 

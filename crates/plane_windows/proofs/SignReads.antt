@@ -43,14 +43,16 @@ tail_at mask start n t e = let f : start + n - start ≡ n = omega arith in rw (
 
 pub no_positions : (mask start count : ℕ) → ((j : ℕ) → j < count → bit mask j ≡ false) → positions mask start count ≡ []
 no_positions mask start zero none = ap (filter (λ p. bit mask (p - start))) (span-none start)
-no_positions mask start (suc n) none = more mask start n ∙ ap (λ l. l ++ tail mask start n) (no_positions mask start n (λ j lt. none j (omega (arith, lt)))) ∙ tail_at mask start n false (none n (omega arith))
+no_positions mask start (suc n) none = more mask start n ∙ ap (λ l. l ++ tail mask start n) (no_positions mask start n (λ j lt. none j (omega (arith, lt)))) ∙
+    tail_at mask start n false (none n (omega arith))
 
 -- some position
 pub some_position : (mask start k count : ℕ) → bit mask k ≡ true → k < count → (p : ℕ) × (ps : List ℕ) × (positions mask start count ≡ p ∷ ps)
 some_position mask start k zero here lt = absurd (omega (arith, lt))
 some_position mask start k (suc n) here lt = elim (cases_lt k n) [
   | inl less ↦ let r = some_position mask start k n here less in (r.0, r.1 ++ tail mask start n, more mask start n ∙ ap (λ l. l ++ tail mask start n) r.2)
-  | inr ge ↦ let e : k ≡ n = omega (arith, lt, ge) in last (positions mask start n) (start + n) (more mask start n ∙ ap (λ l. positions mask start n ++ l) (tail_at mask start n true (ap (bit mask) (sym e) ∙ here)))
+  | inr ge ↦ let e : k ≡ n = omega (arith, lt, ge) in last (positions mask start n) (start + n) (more mask start n ∙
+      ap (λ l. positions mask start n ++ l) (tail_at mask start n true (ap (bit mask) (sym e) ∙ here)))
 ]
   where
     last : (xs : List ℕ) (x : ℕ) → positions mask start (suc n) ≡ xs ++ x ∷ [] → (p : ℕ) × (ps : List ℕ) × (positions mask start (suc n) ≡ p ∷ ps)
@@ -78,19 +80,27 @@ sign_shown mask minus p b shown = shows_same (λ q. ap (λ t. minus q || (t && b
     at q = grind (arith, nat_tests)
 
 -- the first position, and the others
-module _ (left rest start k : ℕ) (here : bit left k ≡ true) (before : (j : ℕ) → j < k → bit left j ≡ false) (gone : bit rest k ≡ false) (others : (j : ℕ) → j < 64 → (j ≡ k → ⊥) → bit rest j ≡ bit left j) where
+module _ (left rest start k : ℕ) (here : bit left k ≡ true) (before : (j : ℕ) → j < k → bit left j ≡ false) (gone : bit rest k ≡ false) (others : (j : ℕ) →
+    j < 64 → (j ≡ k → ⊥) → bit rest j ≡ bit left j) where
   pub first_position : (count : ℕ) → k < count → count ≤ 64 → positions left start count ≡ (start + k) ∷ positions rest start count
   first_position zero lt within = absurd (omega (arith, lt))
   first_position (suc n) lt within = elim (cases_lt k n) [
     | inl less ↦
         let same : bit rest n ≡ bit left n = others n (omega (arith, within)) (λ e. omega (arith, e, less)) in
         more left start n ∙ ap (λ l. l ++ tail left start n) (first_position n less (omega (arith, within))) ∙
-        ap (λ l. (start + k) ∷ (positions rest start n ++ l)) (tail_at left start n (bit left n) refl ∙ sym (tail_at rest start n (bit left n) same)) ∙ ap (λ l. (start + k) ∷ l) (sym (more rest start n))
+        ap (λ l. (start + k) ∷ (positions rest start n ++ l)) (tail_at left start n (bit left n) refl ∙ sym (tail_at rest start n (bit left n) same)) ∙
+        ap (λ l. (start + k) ∷ l) (sym (more rest start n))
     | inr ge ↦
         let e : n ≡ k = omega (arith, lt, ge) in
-        let none = no_positions rest start n (λ j low. others j (omega (arith, low, within)) (λ f. omega (arith, f, low, e)) ∙ before j (omega (arith, low, e))) in
-        more left start n ∙ ap (λ l. l ++ tail left start n) (no_positions left start n (λ j low. before j (omega (arith, low, e)))) ∙ tail_at left start n true (ap (bit left) e ∙ here) ∙
-        ap (λ m. (start + m) ∷ []) e ∙ ap (λ l. (start + k) ∷ l) (sym (more rest start n ∙ ap (λ l. l ++ tail rest start n) none ∙ tail_at rest start n false (ap (bit rest) e ∙ gone)))
+        let none = no_positions rest start n (λ j low. others j (omega (arith, low, within)) (λ f. omega (arith, f, low, e)) ∙ before j (omega (
+          arith,
+          low,
+          e,
+        ))) in
+        more left start n ∙ ap (λ l. l ++ tail left start n) (no_positions left start n (λ j low. before j (omega (arith, low, e)))) ∙
+        tail_at left start n true (ap (bit left) e ∙ here) ∙
+        ap (λ m. (start + m) ∷ []) e ∙ ap (λ l. (start + k) ∷ l) (sym (more rest start n ∙ ap (λ l. l ++ tail rest start n) none ∙
+        tail_at rest start n false (ap (bit rest) e ∙ gone)))
   ]
 
 -- ---- a raw bit
@@ -130,7 +140,8 @@ after_sign s p ps b = signs_script ps (with_minus s (and_one s.minus p b))
 signs_are : (s : State) (p : ℕ) (ps : List ℕ) → signs_script (p ∷ ps) s ≡ then_ask (ask_bit s (λ b. done b)) (after_sign s p ps)
 signs_are s p ps = refl
 
-module _ {I : Type 0} {k : SourceOf I} (all : Script State State) (places : List ℕ) (s : State) {old now : Coming I} (l : Leaves k all (signs_script places s) old now) where
+module _ {I : Type 0} {k : SourceOf I} (all : Script State State) (places : List ℕ) (s : State) {old now : Coming I} (l : Leaves k all
+    (signs_script places s) old now) where
   pub signs_all : places ≡ [] → IsIn now → ReadsAs k all (got s) old now
   signs_all none h = l.then (got s) now (rw none (read_done s now h))
 
@@ -141,8 +152,12 @@ module _ {I : Type 0} {k : SourceOf I} (all : Script State State) (places : List
     pub signs_cut : ReadsAs k (ask_bit s (λ b. done b)) (ends s) now last → ReadsAs k all (ends s) old last
     signs_cut q = l.then (ends s) last (rw (e, signs_are s p ps) (read_cut (ask_bit s (λ b. done b)) (after_sign s p ps) s q))
 
-    pub signs_more : (b : Bool) → ReadsAs k (ask_bit s (λ b. done b)) (got b) now last → Leaves k all (signs_script ps (with_minus s (and_one s.minus p b))) old last
-    signs_more b q = record { then = λ found end r. l.then found end (rw (e, signs_are s p ps) (read_then (ask_bit s (λ b. done b)) (after_sign s p ps) b found q r)) }
+    pub signs_more : (b : Bool) → ReadsAs k (ask_bit s (λ b. done b)) (got b) now last → Leaves k all (signs_script ps (with_minus s
+        (and_one s.minus p b))) old last
+    signs_more b q = record {
+      then = λ found end r. l.then found end (rw (e, signs_are s p ps) (read_then (ask_bit s (λ b. done b))
+          (after_sign s p ps) b found q r));
+    }
 
 -- ---- at once
 
@@ -156,8 +171,10 @@ unfolding signs_of
 signs_get [] [] s e rest = refl
 signs_get [] (b ∷ bits) s e rest = absurd (omega (arith, e))
 signs_get (p ∷ ps) [] s e rest = absurd (omega (arith, e))
-signs_get (p ∷ ps) (true ∷ bits) s e rest = bit_read s (λ n. signs_script ps (with_minus s (and_one s.minus p (n == 1)))) true (bits ++ rest) ∙ signs_get ps bits (with_minus s (and_one s.minus p true)) (omega (arith, e)) rest
-signs_get (p ∷ ps) (false ∷ bits) s e rest = bit_read s (λ n. signs_script ps (with_minus s (and_one s.minus p (n == 1)))) false (bits ++ rest) ∙ signs_get ps bits (with_minus s (and_one s.minus p false)) (omega (arith, e)) rest
+signs_get (p ∷ ps) (true ∷ bits) s e rest = bit_read s (λ n. signs_script ps (with_minus s (and_one s.minus p (n == 1)))) true (bits ++ rest) ∙
+    signs_get ps bits (with_minus s (and_one s.minus p true)) (omega (arith, e)) rest
+signs_get (p ∷ ps) (false ∷ bits) s e rest = bit_read s (λ n. signs_script ps (with_minus s (and_one s.minus p (n == 1)))) false (bits ++ rest) ∙
+    signs_get ps bits (with_minus s (and_one s.minus p false)) (omega (arith, e)) rest
 
 -- a position is in a list
 abbrev pub has : List ℕ → ℕ → Bool
@@ -191,7 +208,8 @@ has_tail mask start n q true e = ap (λ l. has l q) (tail_at mask start n true e
 has_tail mask start n q false e = ap (λ l. has l q) (tail_at mask start n false e) ∙ sym (and-false (q == start + n))
 
 positions_have : (mask start q count : ℕ) → has (positions mask start count) q ≡ (inside start count q && bit mask (q - start))
-positions_have mask start q zero = ap (λ l. has l q) (no_positions mask start zero (λ j lt. absurd (omega (arith, lt)))) ∙ ap (λ t. t && bit mask (q - start)) none
+positions_have mask start q zero = ap (λ l. has l q) (no_positions mask start zero (λ j lt. absurd (omega (arith, lt)))) ∙
+    ap (λ t. t && bit mask (q - start)) none
   where
     none : false ≡ inside start zero q
     none = grind (arith, nat_tests)
@@ -199,7 +217,8 @@ positions_have mask start q (suc n) =
     ap (λ l. has l q) (more mask start n) ∙ has_append (positions mask start n) (tail mask start n) q ∙
     (λ i. positions_have mask start q n i || has_tail mask start n q (bit mask n) refl i) ∙ here (q == start + n) refl
   where
-    here : (t : Bool) → (q == start + n) ≡ t → ((inside start n q && bit mask (q - start)) || ((q == start + n) && bit mask n)) ≡ (inside start (suc n) q && bit mask (q - start))
+    here : (t : Bool) → (q == start + n) ≡ t → ((inside start n q && bit mask (q - start)) || ((q == start + n) && bit mask n)) ≡ (inside start
+        (suc n) q && bit mask (q - start))
     here true e =
         let same : q ≡ start + n = (grind (arith, nat_tests)) in
         let off : inside start n q ≡ false = grind (arith, nat_tests) in
@@ -218,18 +237,21 @@ pub same_bits : (xs ys : List Bool) → length xs ≡ length ys → value_of xs 
 same_bits xs ys e v = sym (bits_of-value_of xs) ∙ (λ i. bits_of (e i) (v i)) ∙ bits_of-value_of ys
 
 -- the bits of a window that are spread over the positions
-module _ (new start count window word due places : ℕ) (few : new < 2 ^ count) (four : count ≤ 4) (value : value_of (first_of due window) ≡ word) (ones : due ≡ count_ones new) (spread : AreSpread new word places) where
+module _ (new start count window word due places : ℕ) (few : new < 2 ^ count) (four : count ≤ 4) (value : value_of (first_of due window) ≡ word)
+    (ones : due ≡ count_ones new) (spread : AreSpread new word places) where
   abbrev is_minus : ℕ → Bool
   is_minus p = bit places (p - start)
 
   fits : word < 2 ^ count_ones new
-  fits = subst (λ n. word < 2 ^ n) (length-bits_of due (window / 2 ^ (64 - due)) ∙ ones) (subst (λ v. v < 2 ^ length (first_of due window)) value (value_below (first_of due window)))
+  fits = subst (λ n. word < 2 ^ n) (length-bits_of due (window / 2 ^ (64 - due)) ∙ ones) (subst (λ v. v < 2 ^ length (first_of due window)) value (value_below
+      (first_of due window)))
 
   back : value_of (map is_minus (positions new start count)) ≡ word
   back = spread.back (λ p. bit new (p - start)) start count four (own_shown new start count few) fits
 
   long : length (positions new start count) ≡ due
-  long = sym (length-map (positions new start count) is_minus) ∙ sym (ones_of new start count is_minus (λ p. bit new (p - start)) four (own_shown new start count few)) ∙ sym ones
+  long = sym (length-map (positions new start count) is_minus) ∙ sym (ones_of new start count is_minus (λ p. bit new (p - start)) four
+      (own_shown new start count few)) ∙ sym ones
 
   bits_are : map is_minus (positions new start count) ≡ first_of due window
   bits_are = same_bits _ _ (length-map (positions new start count) is_minus ∙ long ∙ sym (length-bits_of due (window / 2 ^ (64 - due)))) (back ∙ sym value)
@@ -237,11 +259,14 @@ module _ (new start count window word due places : ℕ) (few : new < 2 ^ count) 
   places_shown : Shows places (λ q. bit new (q - start) && is_minus q) start count
   places_shown = spread.told is_minus (λ p. bit new (p - start)) start count four (own_shown new start count few) back
 
-  pub signs_at_once : {I : Type 0} {k : SourceOf I} (s : State) (mask : ℕ) {a b : Coming I} → ((f g : ℕ → Bool) → Shows places g start count → Shows mask (λ p. s.minus p || (inside start count p && g p)) 0 64) → Takes k a b (first_of due window) →
+  pub signs_at_once : {I : Type 0} {k : SourceOf I} (s : State) (mask : ℕ) {a b : Coming I} → ((f g : ℕ → Bool) → Shows places g start count →
+      Shows mask (λ p. s.minus p || (inside start count p && g p)) 0 64) → Takes k a b (first_of due window) →
       TakesSigns k (positions new start count) s (Ok (Some tt)) mask a b
   signs_at_once {k = k} s mask {a} {b} added taken = record {
     minus = signs_of (positions new start count) (map is_minus (positions new start count)) s.minus;
-    shown = shows_same (λ q. grouped (s.minus q) (inside start count q) (bit new (q - start)) (is_minus q) ∙ ap (λ t. s.minus q || (t && is_minus q)) (sym (positions_have new start q count)) ∙ sym (signs_as is_minus (positions new start count) s.minus q)) (added s.minus (λ q. bit new (q - start) && is_minus q) places_shown);
+    shown = shows_same (λ q. grouped (s.minus q) (inside start count q) (bit new (q - start)) (is_minus q) ∙
+        ap (λ t. s.minus q || (t && is_minus q)) (sym (positions_have new start q count)) ∙ sym (signs_as is_minus (positions new start count) s.minus q))
+        (added s.minus (λ q. bit new (q - start) && is_minus q) places_shown);
     read = record {
       bits = map is_minus (positions new start count);
       taken = rw bits_are taken;

@@ -25,8 +25,10 @@ equal_self : (n : ℕ) → (n == n) ≡ true
 equal_self n = grind (arith, nat_tests)
 
 -- what a call for one item says
-pub one_takes : {I : Type 0} {k : SourceOf I} (Is : ℕ → Type 0) (item : ℕ → Item) {result : Result (Option ℕ) TextFault} {a b : Coming I} (t : TakesOne k Is item result a b) → OneEnds k (item t.value) t.value result a b
-one_takes {k = k} Is item {result} {a} {b} t = subst (λ r. OneEnds k (item t.value) t.value r a b) (sym t.answer) (one_ends (item t.value) t.value t.ending t.read)
+pub one_takes : {I : Type 0} {k : SourceOf I} (Is : ℕ → Type 0) (item : ℕ → Item) {result : Result (Option ℕ) TextFault} {a b : Coming I}
+    (t : TakesOne k Is item result a b) → OneEnds k (item t.value) t.value result a b
+one_takes {k = k} Is item {result} {a} {b} t = subst (λ r. OneEnds k (item t.value) t.value r a b) (sym t.answer) (one_ends
+    (item t.value) t.value t.ending t.read)
 
 -- ---- the option of a length
 
@@ -47,16 +49,22 @@ module _ (g : Gaggle) (n value : ℕ) (low : 2 ≤ n) (high : n ≤ 4) (three : 
           rw (sent, is) refl
 
       apart_is : (m ≡ n → ⊥) → option_in (with_sent g n value) m ≡ option_in g m
-      apart_is apart = rw (get_or-set_other g.sent (n - 2) (m - 2) true false (other apart), get_or-set_other g.options (n - 2) (m - 2) value 0 (other apart)) refl
+      apart_is apart = rw (
+        get_or-set_other g.sent (n - 2) (m - 2) true false (other apart),
+        get_or-set_other g.options (n - 2) (m - 2) value 0
+            (other apart),
+      ) refl
 
       here : (t : Bool) → (m == n) ≡ t → (if t then Some value else options m) ≡ option_in (with_sent g n value) m
       here true e = let is : m ≡ n = grind (arith, nat_tests) in sym (same is)
       here false e = let apart : m ≡ n → ⊥ = grind (arith, nat_tests) in are m l h ∙ sym (apart_is apart)
 
-pub fresh : (count : ℕ) (options : ℕ → Option ℕ) (g : Gaggle) → AreIn g options → 2 ≤ count → count ≤ 4 → get_or g.sent (count - 2) false ≡ false → options count ≡ None
+pub fresh : (count : ℕ) (options : ℕ → Option ℕ) (g : Gaggle) → AreIn g options → 2 ≤ count → count ≤ 4 → get_or g.sent (count - 2) false ≡ false →
+    options count ≡ None
 fresh count options g are low high none = are count low high ∙ ap (λ t. if t then Some (get_or g.options (count - 2) 0) else None) none
 
-pub known_option : (count : ℕ) (options : ℕ → Option ℕ) (g : Gaggle) → AreIn g options → 2 ≤ count → count ≤ 4 → get_or g.sent (count - 2) false ≡ true → options count ≡ Some (get_or g.options (count - 2) 0)
+pub known_option : (count : ℕ) (options : ℕ → Option ℕ) (g : Gaggle) → AreIn g options → 2 ≤ count → count ≤ 4 → get_or g.sent (count - 2) false ≡ true →
+    options count ≡ Some (get_or g.options (count - 2) 0)
 known_option count options g are low high sent = are count low high ∙ ap (λ t. if t then Some (get_or g.options (count - 2) 0) else None) sent
 
 abbrev form : ℕ → Form
@@ -72,18 +80,28 @@ module _ {I : Type 0} {k : SourceOf I} (count : ℕ) (s : State) (g : Gaggle) (a
       let e = known_option count s.options g are low high sent in
       record { options = s.options; known = are; at = e; read = rw e (read_done s a i) }
 
-  pub opens_fault : (fault : TextFault) {a b : Coming I} → get_or g.sent (count - 2) false ≡ false → TakesOne k (IsBelow count) (option_item count) (Err fault) a b → Opens k count s (Err fault) g a b
+  pub opens_fault : (fault : TextFault) {a b : Coming I} → get_or g.sent (count - 2) false ≡ false → TakesOne k (IsBelow count) (option_item count)
+      (Err fault) a b → Opens k count s (Err fault) g a b
   opens_fault fault none t = record {
     options = s.options;
     known = are;
     at = tt;
-    read = rw (fresh count s.options g are low high none) (asked_fault s (form count) (next count s) (option_item count t.value) t.value tt refl (λ n name e. e) fault (one_takes (IsBelow count) (option_item count) t));
+    read = rw (fresh count s.options g are low high none) (asked_fault s (form count) (next count s) (option_item count t.value) t.value tt refl
+        (λ n name e. e) fault (one_takes (IsBelow count) (option_item count) t));
   }
 
-  pub opens_end : {a b : Coming I} → get_or g.sent (count - 2) false ≡ false → TakesOne k (IsBelow count) (option_item count) (Ok None) a b → Opens k count s (Ok None) g a b
-  opens_end none t = record { options = s.options; known = are; at = tt; read = rw (fresh count s.options g are low high none) (ask_ended s (form count) (next count s) (one_takes (IsBelow count) (option_item count) t)) }
+  pub opens_end : {a b : Coming I} → get_or g.sent (count - 2) false ≡ false → TakesOne k (IsBelow count) (option_item count) (Ok None) a b →
+      Opens k count s (Ok None) g a b
+  opens_end none t = record {
+    options = s.options;
+    known = are;
+    at = tt;
+    read = rw (fresh count s.options g are low high none) (ask_ended s (form count)
+        (next count s) (one_takes (IsBelow count) (option_item count) t));
+  }
 
-  pub opens_new : (option : ℕ) {a b : Coming I} → IsIn a → get_or g.sent (count - 2) false ≡ false → length g.options ≡ 3 → length g.sent ≡ 3 → TakesOne k (IsBelow count) (option_item count) (Ok (Some option)) a b →
+  pub opens_new : (option : ℕ) {a b : Coming I} → IsIn a → get_or g.sent (count - 2) false ≡ false → length g.options ≡ 3 → length g.sent ≡ 3 →
+      TakesOne k (IsBelow count) (option_item count) (Ok (Some option)) a b →
       Opens k count s (Ok (Some option)) (with_sent g count option) a b
   opens_new option {a} {b} i none three three_sent t =
       let one = one_takes (IsBelow count) (option_item count) t in
@@ -91,23 +109,28 @@ module _ {I : Type 0} {k : SourceOf I} (count : ℕ) (s : State) (g : Gaggle) (a
       let same : option_named count (identifier_number count t.value) ≡ option = named.same ∙ sym one.0 in
       let free : (form count).refusal (identifier_number count t.value) ≡ None = ap (λ n. if not n then Some bad_option else None) named.names in
       let end : ReadsAs {G = State} k (next count s (identifier_number count t.value)) (got (with_options s (with_option s.options count option))) b b =
-      subst (λ o. ReadsAs {G = State} k (done (with_options s (with_option s.options count o))) (got (with_options s (with_option s.options count option))) b b) (sym same) (read_done (with_options s (with_option s.options count option)) b (in_later i one.1)) in
+      subst (λ o. ReadsAs {G = State} k (done (with_options s (with_option s.options count o))) (got (with_options s
+      (with_option s.options count option))) b b) (sym same) (read_done (with_options s (with_option s.options count option)) b (in_later i one.1)) in
       record {
         options = with_option s.options count option;
         known = opened_in g count option low high three three_sent s.options are;
         at = ap (λ x. if x then Some option else s.options count) (equal_self count);
-        read = rw (fresh count s.options g are low high none) (ask_got s (form count) (next count s) (identifier_number count t.value) (got (with_options s (with_option s.options count option))) tt (named.fits, one.1) free end);
+        read = rw (fresh count s.options g are low high none) (ask_got s (form count) (next count s) (identifier_number count t.value) (got (with_options s
+            (with_option s.options count option))) tt (named.fits, one.1) free end);
       }
 
 -- ---- a question whose number has a value, of which some are refused
 
-module _ {I : Type 0} {k : SourceOf I} {G A : Type 0} (g : G) (form : Form) (next : ℕ → Script G A) (a : A) (bad : Bool) (n : ℕ) {s t : Coming I} (sound : IsSound form.shape) (i : IsIn s) (read : EndsItem k form.shape (Ok (Some n)) s t) (is : next n ≡ done a) (refusal : form.refusal n ≡ (if bad then Some false_flag else None)) where
+module _ {I : Type 0} {k : SourceOf I} {G A : Type 0} (g : G) (form : Form) (next : ℕ → Script G A) (a : A) (bad : Bool) (n : ℕ) {s t : Coming I}
+    (sound : IsSound form.shape) (i : IsIn s) (read : EndsItem k form.shape (Ok (Some n)) s t) (is : next n ≡ done a) (refusal : form.refusal n ≡
+    (if bad then Some false_flag else None)) where
   pub ask_checked : ReadsAs k (ask g form next) (unless_bad bad g a) s t
   ask_checked = here bad refl
     where
       here : (b : Bool) → bad ≡ b → ReadsAs k (ask g form next) (unless_bad b g a) s t
       here true e = ask_refused g form next n false_flag sound read (refusal ∙ ap (λ b. if b then Some false_flag else None) e)
-      here false e = ask_got g form next n (got a) sound read (refusal ∙ ap (λ b. if b then Some false_flag else None) e) (rw is (read_done a t (in_later i read.1)))
+      here false e = ask_got g form next n (got a) sound read (refusal ∙ ap (λ b. if b then Some false_flag else None) e) (rw is (read_done a t
+          (in_later i read.1)))
 
 -- ---- words
 
@@ -122,11 +145,16 @@ module _ {I : Type 0} {k : SourceOf I} (book : Book) (s : State) (g : Gaggle) wh
     read = λ check free. let w : State × ℕ = (s, 0) in subst (λ b. ReadsAs k (done w) (unless_bad b s w) a a) (sym (free refl)) (read_done w a i);
   }
 
-  pub word_raw : {result : Result (Option ℕ) TextFault} {a b : Coming I} → AreIn g s.options → IsIn a → TakesOne k (IsBelow 2) raw result a b → TakesWord k book 1 s result g a b
+  pub word_raw : {result : Result (Option ℕ) TextFault} {a b : Coming I} → AreIn g s.options → IsIn a → TakesOne k (IsBelow 2) raw result a b →
+      TakesWord k book 1 s result g a b
   word_raw {result} {a} {b} are i t = record { options = s.options; known = are; read = λ check free. rest_of check result (one_takes (IsBelow 2) raw t) }
     where
-      rest_of : (check : Check) (r : Result (Option ℕ) TextFault) → OneEnds k (raw t.value) t.value r a b → ReadsAs k (ask s (raw_form check) (raw_next s)) (by_word r check s) a b
-      rest_of check (Ok (Some value)) q = rw q.0 (ask_checked s (raw_form check) (raw_next s) (s, t.value) (is_refused check t.value) t.value tt i (t.known, q.1) refl refl)
+      rest_of : (check : Check) (r : Result (Option ℕ) TextFault) → OneEnds k (raw t.value) t.value r a b →
+          ReadsAs k (ask s (raw_form check) (raw_next s)) (by_word r check s) a b
+      rest_of check (Ok (Some value)) q = rw q.0 (ask_checked s (raw_form check) (raw_next s) (s, t.value) (is_refused check t.value) t.value tt i (
+        t.known,
+        q.1,
+      ) refl refl)
       rest_of check (Ok None) q = ask_ended s (raw_form check) (raw_next s) q
       rest_of check (Err fault) q = asked_fault s (raw_form check) (raw_next s) (raw t.value) t.value tt refl (λ n name e. cc) fault q
 
@@ -143,17 +171,24 @@ module _ (book : Book) (count : ℕ) (low : 2 ≤ count) (high : count ≤ 4) (s
 
   module _ {I : Type 0} {k : SourceOf I} {g : Gaggle} where
     pub unopened_fault : (fault : TextFault) {a b : Coming I} → Opens k count s (Err fault) g a b → TakesWord k book count s (Err fault) g a b
-    unopened_fault fault o = record { options = o.options; known = o.known; read = λ check free. rw (long_is check) (read_fault _ _ (with_options s o.options) fault o.read) }
+    unopened_fault fault o = record {
+      options = o.options;
+      known = o.known;
+      read = λ check free. rw (long_is check) (read_fault _ _
+          (with_options s o.options) fault o.read);
+    }
 
     pub unopened_end : {a b : Coming I} → Opens k count s (Ok None) g a b → TakesWord k book count s (Ok None) g a b
     unopened_end o = record { options = o.options; known = o.known; read = λ check free. rw (long_is check) (read_cut _ _ (with_options s o.options) o.read) }
 
-    pub opened_word : is_book_sound book ≡ true → (option : ℕ) → option < count → {result : Result (Option ℕ) TextFault} {a b c : Coming I} → IsIn a → Opens k count s (Ok (Some option)) g a b → TakesOne k (IsBelow (2 ^ count)) (word_item book count option) result b c →
+    pub opened_word : is_book_sound book ≡ true → (option : ℕ) → option < count → {result : Result (Option ℕ) TextFault} {a b c : Coming I} → IsIn a →
+        Opens k count s (Ok (Some option)) g a b → TakesOne k (IsBelow (2 ^ count)) (word_item book count option) result b c →
         TakesWord k book count s result g a c
     opened_word sound option lt {result} {a} {b} {c} i o t = record {
       options = o.options;
       known = o.known;
-      read = λ check free. rw (long_is check) (read_then _ _ later _ o.read (subst (λ x. ReadsAs k (by_option check (option_of x)) (by_word result check later) b c) (sym o.at) (rest_of check result (one_takes (IsBelow (2 ^ count)) (word_item book count option) t))));
+      read = λ check free. rw (long_is check) (read_then _ _ later _ o.read (subst (λ x. ReadsAs k (by_option check (option_of x))
+          (by_word result check later) b c) (sym o.at) (rest_of check result (one_takes (IsBelow (2 ^ count)) (word_item book count option) t))));
     }
       where
         later : State
@@ -180,8 +215,11 @@ module _ (book : Book) (count : ℕ) (low : 2 ≤ count) (high : count ≤ 4) (s
         said_of : Takes k b c (item_bits it) → EndsItem k (word_item book count option 0).form.shape (Ok (Some it.said)) b c
         said_of q = subst (λ z. EndsItem k z (Ok (Some it.said)) b c) (sym shape) (word_is_said book count option low high lt sound t.value t.known, q)
 
-        rest_of : (check : Check) (r : Result (Option ℕ) TextFault) → OneEnds k it t.value r b c → ReadsAs k (by_option check option) (by_word r check later) b c
+        rest_of : (check : Check) (r : Result (Option ℕ) TextFault) → OneEnds k it t.value r b c → ReadsAs k (by_option check option)
+            (by_word r check later) b c
         rest_of check (Ok (Some v)) q =
-            rw q.0 (ask_checked later (word_form book count option check) next (later, t.value) (is_refused check t.value) it.said sound_shape (in_read i o.read) (said_of q.1) (ap (λ v. done (later, v)) value) (ap (λ v. if is_refused check v then Some false_flag else None) value))
+            rw q.0 (ask_checked later (word_form book count option check) next (later, t.value) (is_refused check t.value) it.said sound_shape
+            (in_read i o.read) (said_of q.1) (ap (λ v. done (later, v)) value) (ap (λ v. if is_refused check v then Some false_flag else None) value))
         rest_of check (Ok None) q = ask_ended later (word_form book count option check) next (subst (λ z. EndsItem k z (Ok None) b c) (sym shape) q)
-        rest_of check (Err fault) q = asked_fault later (word_form book count option check) next it t.value sound_shape shape (λ n name e. absurd (word_free book count option t.value n name e)) fault q
+        rest_of check (Err fault) q = asked_fault later (word_form book count option check) next it t.value sound_shape shape (λ n name e. absurd
+            (word_free book count option t.value n name e)) fault q

@@ -44,7 +44,8 @@ fn take_quads<I: OctetIn>(
     requires family { set.family < 3 }
     requires new { set.is_new ≡ true → MayBeNew above (coded plan.now.weights.shifts plan.now.plane) (Grandchildren set.family) }
     ensures quads { (block : List ℤ) (s : State) → IsState reading.old.gaggle reading.old.found s → IsAbove above block plan.now.plane →
-        HeldState I.source (quads_script (terms_of plan.now reading.old.tables.now.words.book) block set.family set.is_new s) result reading.new.gaggle reading.new.found
+        HeldState I.source (quads_script (terms_of plan.now reading.old.tables.now.words.book) block set.family set.is_new s) result reading.new.gaggle
+        reading.new.found
         (point (coming input.old) reading.old.cursor) (point (coming input.new) reading.new.cursor) }
     ensures tables { reading.new.tables ≡ reading.old.tables }
     ensures reading { OnSome result (λ x. IsReading I.source (coming input.new) reading.new) }
@@ -84,8 +85,10 @@ fn take_sixteens<I: OctetIn>(
 ) -> Result<Option<()>, TextFault>
     requires reading { IsReading I.source (coming input.old) reading.old }
     requires new { (i : ℕ) → i < 3 → bit sets.new i ≡ true → MayBeNew above (coded plan.now.weights.shifts plan.now.plane) (Grandchildren i) }
-    ensures sixteens { (block : List ℤ) (s : State) (now new : ℕ → Bool) → IsState reading.old.gaggle reading.old.found s → IsAbove above block plan.now.plane → Shows sets.now now 0 3 → Shows sets.new new 0 3 →
-        HeldState I.source (in_turn (sixteen_script (terms_of plan.now reading.old.tables.now.words.book) block now new) 0 3 s) result reading.new.gaggle reading.new.found
+    ensures sixteens { (block : List ℤ) (s : State) (now new : ℕ → Bool) → IsState reading.old.gaggle reading.old.found s →
+        IsAbove above block plan.now.plane → Shows sets.now now 0 3 → Shows sets.new new 0 3 →
+        HeldState I.source (in_turn (sixteen_script (terms_of plan.now reading.old.tables.now.words.book) block now new) 0 3 s) result reading.new.gaggle
+        reading.new.found
         (point (coming input.old) reading.old.cursor) (point (coming input.new) reading.new.cursor) }
     ensures tables { reading.new.tables ≡ reading.old.tables }
     ensures reading { OnSome result (λ x. IsReading I.source (coming input.new) reading.new) }
@@ -137,9 +140,11 @@ pub(crate) fn take_grandchildren<I: OctetIn>(
     seen: Seen,
 ) -> Result<Option<()>, TextFault>
     requires reading { IsReading I.source (coming input.old) reading.old }
-    ensures grandchildren { (block : List ℤ) (earlier s : State) → IsState reading.old.gaggle reading.old.found s → IsAbove seen.above block plan.now.plane → Shows seen.families earlier.families 0 3 →
+    ensures grandchildren { (block : List ℤ) (earlier s : State) → IsState reading.old.gaggle reading.old.found s → IsAbove seen.above block plan.now.plane →
+        Shows seen.families earlier.families 0 3 →
         ((p : ℕ) → IsAc p → bit seen.now p ≡ (significant block (plan.now.plane + 1) p || earlier.bits p)) →
-        HeldState I.source (grandchildren_from (terms_of plan.now reading.old.tables.now.words.book) block earlier s) result reading.new.gaggle reading.new.found
+        HeldState I.source (grandchildren_from (terms_of plan.now reading.old.tables.now.words.book) block earlier s) result reading.new.gaggle
+        reading.new.found
         (point (coming input.old) reading.old.cursor) (point (coming input.new) reading.new.cursor) }
     ensures tables { reading.new.tables ≡ reading.old.tables }
     ensures reading { OnSome result (λ x. IsReading I.source (coming input.new) reading.new) }

@@ -35,7 +35,8 @@ fn groups_with_bits(due: u64, groups: Groups) -> u64
     requires count { groups.count ≤ 4 }
     requires few { groups.now < 2 ^ groups.count }
     ensures few { result < 2 ^ groups.count }
-    ensures covers { (now wanted : ℕ → Bool) → Shows groups.now now 0 groups.count → Shows groups.wanted wanted 0 groups.count → Covers groups.first groups.count now wanted due result }
+    ensures covers { (now wanted : ℕ → Bool) → Shows groups.now now 0 groups.count → Shows groups.wanted wanted 0 groups.count →
+        Covers groups.first groups.count now wanted due result }
 {
     let some_due = fours_of(due, groups.first);
     both(groups.now, either(some_due, groups.wanted))
@@ -55,8 +56,10 @@ pub(crate) fn take_groups<I: OctetIn>(
     requires within { groups.first + 4 * groups.count ≤ 64 }
     requires few { groups.now < 2 ^ groups.count }
     requires some { (j : ℕ) → j < groups.count → bit groups.wanted j ≡ true → list_any (bit due) (span (groups.first + 4 * j) 4) ≡ true }
-    ensures groups { (s : State) (g now wanted : ℕ → Bool) → IsState reading.old.gaggle reading.old.found s → Marks due g groups.first (4 * groups.count) → Shows groups.now now 0 groups.count → Shows groups.wanted wanted 0 groups.count →
-        HeldState I.source (in_turn (group_script reading.old.tables.now.words.book g groups.first now wanted) 0 groups.count s) result reading.new.gaggle reading.new.found
+    ensures groups { (s : State) (g now wanted : ℕ → Bool) → IsState reading.old.gaggle reading.old.found s → Marks due g groups.first (4 * groups.count) →
+        Shows groups.now now 0 groups.count → Shows groups.wanted wanted 0 groups.count →
+        HeldState I.source (in_turn (group_script reading.old.tables.now.words.book g groups.first now wanted) 0 groups.count s) result reading.new.gaggle
+        reading.new.found
         (point (coming input.old) reading.old.cursor) (point (coming input.new) reading.new.cursor) }
     ensures tables { reading.new.tables ≡ reading.old.tables }
     ensures reading { OnSome result (λ x. IsReading I.source (coming input.new) reading.new) }

@@ -79,7 +79,8 @@ impl PlaceTables {
     #[inline(always)]
     pub(crate) fn first(&self, table: u8, window: u64) -> FirstPlaces
         requires table { table < 64 }
-        ensures { (due option : ℕ) → due < 16 → option < max 1 (count_ones due) → table ≡ 4 * due + option → IsFirst self.now.words.book due option window result }
+        ensures { (due option : ℕ) → due < 16 → option < max 1 (count_ones due) → table ≡ 4 * due + option →
+            IsFirst self.now.words.book due option window result }
     {
         self.entries[table as usize][(window >> 56) as usize]
     }

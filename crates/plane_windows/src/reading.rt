@@ -143,7 +143,8 @@ impl<'a> Reading<'a> {
         requires reading { IsReading I.source (coming input.old) self.old }
         requires due { due < 16 }
         ensures places { (s : State) (g : ℕ → Bool) (start count : ℕ) → AreIn self.old.gaggle s.options → count ≤ 4 → Shows due g start count →
-            HeldPlaces I.source self.old.tables.now.words.book due g start count s result self.new.gaggle (point (coming input.old) self.old.cursor) (point (coming input.new) self.new.cursor) }
+            HeldPlaces I.source self.old.tables.now.words.book due g start count s result self.new.gaggle (point (coming input.old) self.old.cursor) (point
+            (coming input.new) self.new.cursor) }
         ensures tables { self.new.tables ≡ self.old.tables }
         ensures found { self.new.found ≡ self.old.found }
         ensures reading { OnSome result (λ x. IsReading I.source (coming input.new) self.new) }
@@ -170,7 +171,8 @@ impl<'a> Reading<'a> {
         requires reading { IsReading I.source (coming input.old) self.old }
         requires due { due < 16 }
         ensures places { (s : State) (g : ℕ → Bool) (start count : ℕ) → AreIn self.old.gaggle s.options → count ≤ 4 → Shows due g start count →
-            HeldPlaces I.source self.old.tables.now.words.book due g start count s result self.new.gaggle (point (coming input.old) self.old.cursor) (point (coming input.new) self.new.cursor) }
+            HeldPlaces I.source self.old.tables.now.words.book due g start count s result self.new.gaggle (point (coming input.old) self.old.cursor) (point
+            (coming input.new) self.new.cursor) }
         ensures tables { self.new.tables ≡ self.old.tables }
         ensures found { self.new.found ≡ self.old.found }
         ensures reading { OnSome result (λ x. IsReading I.source (coming input.new) self.new) }
@@ -226,8 +228,10 @@ impl<'a> Reading<'a> {
     ) -> Result<Option<u64>, TextFault>
         requires reading { IsReading I.source (coming input.old) self.old }
         requires due { due < 16 }
-        ensures places { (s : State) (g forced : ℕ → Bool) (start count : ℕ) → AreIn self.old.gaggle s.options → count ≤ 4 → Shows due g start count → Shows wanted (λ p. g p && forced p) start count →
-            HeldOnes I.source (due_script self.old.tables.now.words.book g (ones_at (map forced (filter g (span start count)))) (span start count) s) start count s result self.new.gaggle
+        ensures places { (s : State) (g forced : ℕ → Bool) (start count : ℕ) → AreIn self.old.gaggle s.options → count ≤ 4 → Shows due g start count →
+            Shows wanted (λ p. g p && forced p) start count →
+            HeldOnes I.source (due_script self.old.tables.now.words.book g (ones_at (map forced (filter g (span start count))))
+            (span start count) s) start count s result self.new.gaggle
             (point (coming input.old) self.old.cursor) (point (coming input.new) self.new.cursor) }
         ensures among { OnSome result (AreAmong due) }
         ensures tables { self.new.tables ≡ self.old.tables }
@@ -252,7 +256,8 @@ impl<'a> Reading<'a> {
         requires reading { IsReading I.source (coming input.old) self.old }
         requires start { start ≤ 32 }
         ensures dealt { result ≡ true → (s : State) (g : ℕ → Bool) → IsState self.old.gaggle self.old.found s → Shows here g start 32 →
-            HeldState {X = Unit {0}} I.source (in_turn (marked_script g) start 32 s) (Ok (Some tt)) self.new.gaggle self.new.found (point (coming input.old) self.old.cursor) (point (coming input.new) self.new.cursor) }
+            HeldState {X = Unit {0}} I.source (in_turn (marked_script g) start 32 s) (Ok (Some tt)) self.new.gaggle self.new.found (point
+            (coming input.old) self.old.cursor) (point (coming input.new) self.new.cursor) }
         ensures stays { result ≡ false → Stays I.source (point (coming input.old) self.old.cursor) (point (coming input.new) self.new.cursor) }
         ensures kept { result ≡ false → self.new.found ≡ self.old.found }
         ensures gaggle { self.new.gaggle ≡ self.old.gaggle }
@@ -293,7 +298,8 @@ impl<'a> Reading<'a> {
         requires due { due < 2 ^ group.count }
         requires some { group.is_wanted ≡ true → 0 < due }
         ensures types { (s : State) (g : ℕ → Bool) → IsState self.old.gaggle self.old.found s → Shows due g group.start group.count →
-            HeldState I.source (types_script self.old.tables.now.words.book g group.is_wanted (span group.start group.count) s) result self.new.gaggle self.new.found
+            HeldState I.source (types_script self.old.tables.now.words.book g group.is_wanted
+            (span group.start group.count) s) result self.new.gaggle self.new.found
             (point (coming input.old) self.old.cursor) (point (coming input.new) self.new.cursor) }
         ensures tables { self.new.tables ≡ self.old.tables }
         ensures reading { OnSome result (λ x. IsReading I.source (coming input.new) self.new) }
@@ -330,7 +336,8 @@ impl<'a> Reading<'a> {
         requires few { group.count ≤ 4 }
         requires some { group.is_wanted ≡ true → list_any (bit due) (span group.start group.count) ≡ true }
         ensures types { (s : State) (g : ℕ → Bool) → IsState self.old.gaggle self.old.found s → Marks due g group.start group.count →
-            HeldState I.source (types_script self.old.tables.now.words.book g group.is_wanted (span group.start group.count) s) result self.new.gaggle self.new.found
+            HeldState I.source (types_script self.old.tables.now.words.book g group.is_wanted
+            (span group.start group.count) s) result self.new.gaggle self.new.found
             (point (coming input.old) self.old.cursor) (point (coming input.new) self.new.cursor) }
         ensures tables { self.new.tables ≡ self.old.tables }
         ensures reading { OnSome result (λ x. IsReading I.source (coming input.new) self.new) }

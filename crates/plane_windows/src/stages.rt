@@ -60,7 +60,8 @@ fn take_numbers<I: OctetIn, const STAGE: u8>(
     seen: Seen,
 ) -> Result<Option<()>, TextFault>
     requires reading { IsReading I.source (coming input.old) reading.old }
-    ensures numbers { (block : List ℤ) (earlier s : State) → IsState reading.old.gaggle reading.old.found s → IsAbove seen.above block plan.now.plane → Shows seen.families earlier.families 0 3 →
+    ensures numbers { (block : List ℤ) (earlier s : State) → IsState reading.old.gaggle reading.old.found s → IsAbove seen.above block plan.now.plane →
+        Shows seen.families earlier.families 0 3 →
         ((p : ℕ) → IsAc p → bit seen.now p ≡ (significant block (plan.now.plane + 1) p || earlier.bits p)) →
         HeldState I.source (part_from (terms_of plan.now reading.old.tables.now.words.book) STAGE block earlier s) result reading.new.gaggle reading.new.found
         (point (coming input.old) reading.old.cursor) (point (coming input.new) reading.new.cursor) }
@@ -88,7 +89,8 @@ fn take_words<I: OctetIn, const STAGE: u8>(
     requires bits { reading.old.found.bits ≡ 0 }
     requires minus { reading.old.found.minus ≡ 0 }
     requires few { seen.families < 8 }
-    ensures words { (block : List ℤ) (s : State) → AreIn reading.old.gaggle s.options → IsAbove seen.above block plan.now.plane → Shows seen.families s.families 0 3 →
+    ensures words { (block : List ℤ) (s : State) → AreIn reading.old.gaggle s.options → IsAbove seen.above block plan.now.plane →
+        Shows seen.families s.families 0 3 →
         ((p : ℕ) → IsAc p → bit seen.now p ≡ (significant block (plan.now.plane + 1) p || s.bits p)) →
         HeldStage I.source (stage_part (terms_of plan.now reading.old.tables.now.words.book) STAGE block s) s result reading.new.gaggle reading.new.found
         (point (coming input.old) reading.old.cursor) (point (coming input.new) reading.new.cursor) }
@@ -144,9 +146,11 @@ pub(crate) fn take_block<I: OctetIn, const STAGE: u8>(
     requires reading { IsReading I.source (coming input.old) reading.old }
     requires whole { length cells.old % 64 ≡ 0 }
     requires column { IsColumn cells.old block.old.column }
-    ensures block { (numbers : List ℤ) (s : State) → AreIn reading.old.gaggle s.options → IsAbove (mask_in cells.old block.old.column.block above_slot) numbers plan.now.plane →
+    ensures block { (numbers : List ℤ) (s : State) → AreIn reading.old.gaggle s.options → IsAbove (mask_in
+        cells.old block.old.column.block above_slot) numbers plan.now.plane →
         HasRead plan.now.plane block.old.column.block cells.old numbers s → Shows (families_in block.old.mark) s.families 0 3 →
-        TakesBlock I.source plan.now.plane block.old.column.block numbers (stage_part (terms_of plan.now reading.old.tables.now.words.book) STAGE numbers s) result reading.new.gaggle block.new.mark cells.new
+        TakesBlock I.source plan.now.plane block.old.column.block numbers (stage_part
+        (terms_of plan.now reading.old.tables.now.words.book) STAGE numbers s) result reading.new.gaggle block.new.mark cells.new
         (point (coming input.old) reading.old.cursor) (point (coming input.new) reading.new.cursor) }
     ensures keeps { KeepsMasks block.old.column.block plan.now.plane cells.old cells.new }
     ensures depth { depth_in block.new.mark ≡ depth_in block.old.mark }

@@ -41,7 +41,8 @@ pub(crate) fn take_types<I: OctetIn>(
     requires due { due < 2 ^ group.count }
     requires some { group.is_wanted ≡ true → 0 < due }
     ensures types { (s : State) (g : ℕ → Bool) → IsState gaggle.old found.old s → Shows due g group.start group.count →
-        TakesState I.source (types_script tables.now.book g group.is_wanted (span group.start group.count) s) result gaggle.new found.new (coming input.old) (coming input.new) }
+        TakesState I.source (types_script tables.now.book g group.is_wanted (span group.start group.count) s) result gaggle.new found.new (coming input.old)
+        (coming input.new) }
     ensures options { AreOptions gaggle.new.options }
     ensures is_in { IsIn (coming input.new) }
 {

@@ -75,7 +75,8 @@ pub(crate) fn take_any<I: OctetIn>(
     requires open { IsIn (coming input.old) }
     requires few { count ≤ 4 }
     requires known { AreOptions gaggle.old.options }
-    ensures word { (s : State) → AreIn gaggle.old s.options → TakesWord I.source tables.now.book count s result gaggle.new (coming input.old) (coming input.new) }
+    ensures word { (s : State) → AreIn gaggle.old s.options → TakesWord I.source tables.now.book count s result gaggle.new (coming input.old)
+        (coming input.new) }
     ensures fits { OnSome result (λ value. value < 2 ^ count) }
     ensures options { AreOptions gaggle.new.options }
     ensures is_in { OnSome result (λ x. IsIn (coming input.new)) }

@@ -1,6 +1,5 @@
 use Rattle.std.proofs.Common.{◌≡◌, ◌⊎◌, ◌&&◌, not, true, false, inl, inr, Bool, refl}
 use Rattle.plane_windows.proofs.ChildReads.{flag_known, flag_read}
-use Rattle.plane_windows.proofs.SmallTests.{never}
 use Rattle.plane_windows.proofs.children.take_descendants.Goals as goal
 
 pub returns-then-was-clause-flag : goal.returns-then-was-clause-flag
@@ -11,4 +10,9 @@ returns-then-was-clause-flag g c = record { read = λ s. flag_known s c.args.is_
     either {w} {l} (inr p) = rw (p.0, p.1) refl
 
 pub returns-clause-flag : goal.returns-clause-flag
-returns-clause-flag g c = record { read = λ s. flag_read s c.args.is_live c.args.was c.flag.result (rw (c.if-was.false, c.if-not-is_live.false) refl) (c.flag.ensures.flag.read s) }
+returns-clause-flag g c = record {
+  read = λ s. flag_read s c.args.is_live c.args.was c.flag.result (rw (
+    c.if-was.false,
+    c.if-not-is_live.false,
+  ) refl) (c.flag.ensures.flag.read s);
+}

@@ -1,23 +1,30 @@
-use Rattle.std.proofs.Common.{◌≡◌, ℕ, ◌+◌, ◌-◌, ◌/◌, List, ℤ, length}
+use Rattle.std.proofs.Common.{◌≡◌, ℕ, ◌<◌, ◌^◌, ◌/◌, List, ℤ}
 use Rattle.bit_pipe.specs.Coming.{coming}
 use Rattle.plane_scripts.specs.Planes.{PlaneState}
 use Rattle.plane_windows.specs.Takes.{AreIn}
 use Rattle.plane_windows.specs.Held.{point}
 use Rattle.plane_windows.specs.HeldTakes.{IsReading}
 use Rattle.plane_windows.specs.Blocks.{terms_of}
-use Rattle.plane_windows.specs.Gaggles.{AreDeep, AreAbove, HavePlane, HaveFamilies, KeepStates, block_script, gaggle_script}
-use Rattle.plane_windows.proofs.GaggleReads.{BlocksLeft}
+use Rattle.plane_windows.specs.Gaggles.{AreDeep, AreAbove, HavePlane, HaveFamilies, KeepSlots, KeepStates, gaggle_script}
+use Rattle.plane_windows.proofs.GaggleReads.{DeepLeft}
 use Rattle.plane_windows.proofs.gaggles.take_blocks.Given as goal
 
-abbrev pub invariant-loop-k : goal.invariant-loop-k
-invariant-loop-k g l = record {
+abbrev pub invariant-loop-left : goal.invariant-loop-left
+invariant-loop-left g l = record {
   reading : IsReading g.I.OctetIn.source (coming l.input) l.reading;
   tables : l.reading.tables ≡ l.fn.reading.tables;
-  size : length l.cells ≡ length l.initial.cells;
+  keeps : KeepSlots l.of.plan.now.plane l.initial.cells l.cells;
   states : KeepStates l.initial.marks l.marks;
-  above : (numbers : List (List ℤ)) → AreAbove l.plan.plane l.initial.cells numbers → AreAbove l.plan.plane l.cells numbers;
-  left : (depths : List ℕ) (numbers : List (List ℤ)) (p : PlaneState) → AreDeep l.plan.plane depths l.blocks → AreAbove l.plan.plane l.initial.cells numbers → HavePlane l.plan.plane l.initial.cells numbers p → HaveFamilies l.initial.marks p →
-      AreIn l.fn.reading.gaggle (p.options (l.blocks.first.block / 16)) →
-      BlocksLeft g.I.OctetIn.source (gaggle_script (terms_of l.plan l.fn.reading.tables.now.words.book) g.row.STAGE depths numbers l.blocks.first.block l.blocks.count p) (block_script (terms_of l.plan l.fn.reading.tables.now.words.book) g.row.STAGE depths numbers) l.plan.plane (l.blocks.first.block / 16)
-      (l.blocks.first.block + l.k) (l.blocks.count - l.k) numbers p l.reading.gaggle l.cells l.marks (point (coming l.fn.input) l.fn.reading.cursor) (point (coming l.input) l.reading.cursor);
+  small : l.left < 2 ^ l.of.blocks.count;
+  left : (depths : List ℕ) (numbers : List (List ℤ)) (p : PlaneState) → AreDeep l.of.plan.now.plane depths l.of.blocks →
+      AreAbove l.of.plan.now.plane l.initial.cells numbers → HavePlane l.of.plan.now.plane l.initial.cells numbers p → HaveFamilies l.initial.marks p →
+      AreIn l.fn.reading.gaggle (p.options (l.of.blocks.first.block / 16)) →
+      DeepLeft g.I.OctetIn.source (terms_of l.of.plan.now l.fn.reading.tables.now.words.book) g.row.STAGE depths numbers l.of.plan.now.plane
+      (l.of.blocks.first.block / 16)
+      l.of.blocks.first.block l.of.blocks.count p (gaggle_script (terms_of l.of.plan.now l.fn.reading.tables.now.words.book) g.row.STAGE depths numbers
+      l.of.blocks.first.block l.of.blocks.count p)
+      l.of.blocks.deep l.left l.reading.gaggle l.cells l.marks (point (coming l.fn.input) l.fn.reading.cursor) (point (coming l.input) l.reading.cursor);
 }
+
+abbrev pub decreases-loop-left : goal.decreases-loop-left
+decreases-loop-left g l = l.left

@@ -1,4 +1,4 @@
-use Rattle.std.proofs.Common.{◌≡◌, ◌+◌, ◌<◌, true, false, ap, sym, ◌∙◌, arith, refl, rules}
+use Rattle.std.proofs.Common.{◌≡◌, ◌+◌, ap, sym, ◌∙◌, arith, refl, rules}
 use Rattle.std.proofs.lemmas.Result.{err_from_is_err_and}
 use Rattle.item_defs.specs.Bits.{bit}
 use Rattle.block_masks.proofs.Viewing.{shows_own}
@@ -11,7 +11,8 @@ pub loop-i-init : goal.loop-i-init
 loop-i-init g c = record {
   reading = c.requires.reading;
   tables = refl;
-  left = λ block s now new is marked now_shown new_shown. turns_start (sixteen_script (terms_of c.args.plan.now c.args.reading.now.tables.now.words.book) block now new) 3 s c.requires.reading.is_in is;
+  left = λ block s now new is marked now_shown new_shown. turns_start (sixteen_script
+      (terms_of c.args.plan.now c.args.reading.now.tables.now.words.book) block now new) 3 s c.requires.reading.is_in is;
 }
 
 pub take_quads-requires-clause-new : goal.take_quads-requires-clause-new
@@ -19,12 +20,14 @@ take_quads-requires-clause-new g c = λ on.
     let i = c.loop-i.i in
     let lt = c.loop-i-test.true in
     let z : 0 + i ≡ i = omega arith in
-    let flag = c.has-in-loop-i.ensures (bit c.args.sets.new) 0 64 (shows_own c.args.sets.new 64 (search rules)) (omega (arith, lt)) ∙ ap (bit c.args.sets.new) z in
+    let flag = c.has-in-loop-i.ensures (bit c.args.sets.new) 0 64 (shows_own c.args.sets.new 64 (search rules)) (omega (arith, lt)) ∙
+    ap (bit c.args.sets.new) z in
     c.requires.new i lt (sym flag ∙ on)
 
 pub returns-clause-sixteens : goal.returns-clause-sixteens
 returns-clause-sixteens g c = λ block s now new is marked now_shown new_shown.
-    turns_done (sixteen_script (terms_of c.args.plan.now c.args.reading.now.tables.now.words.book) block now new) c.loop-i-test.false (c.loop-i.invariant.left block s now new is marked now_shown new_shown)
+    turns_done (sixteen_script (terms_of c.args.plan.now c.args.reading.now.tables.now.words.book) block now new) c.loop-i-test.false
+    (c.loop-i.invariant.left block s now new is marked now_shown new_shown)
 
 pub loop-i-preserved-then-not-has : goal.loop-i-preserved-then-not-has
 loop-i-preserved-then-not-has g c =
@@ -49,7 +52,9 @@ returns-in_err-take_quads-clause-sixteens g c = λ block s now new is marked now
     let z : 0 + c.loop-i.i ≡ c.loop-i.i = omega arith in
     let on = sym (c.has.ensures now 0 3 now_shown c.loop-i-test.true ∙ ap now z) ∙ c.if-not-has.false in
     let flag = c.has-in-loop-i.ensures new 0 3 new_shown c.loop-i-test.true ∙ ap new z in
-    rw (e.1, e.2) (turns_fault (sixteen_script t block now new) c.loop-i-test.true l _ (sixteen_sent t block now new c.loop-i.i l.state c.has-in-loop-i.result on flag _ (rw i.tables at (c.in_err-take_quads.ensures.quads block l.state l.is marked))))
+    rw (e.1, e.2) (turns_fault (sixteen_script t block now new) c.loop-i-test.true l _
+    (sixteen_sent t block now new c.loop-i.i l.state c.has-in-loop-i.result on flag _ (rw i.tables at
+    (c.in_err-take_quads.ensures.quads block l.state l.is marked))))
 
 pub returns-in_default-clause-sixteens : goal.returns-in_default-clause-sixteens
 returns-in_default-clause-sixteens g c = λ block s now new is marked now_shown new_shown.
@@ -60,7 +65,8 @@ returns-in_default-clause-sixteens g c = λ block s now new is marked now_shown 
     let z : 0 + c.loop-i.i ≡ c.loop-i.i = omega arith in
     let on = sym (c.has.ensures now 0 3 now_shown c.loop-i-test.true ∙ ap now z) ∙ c.if-not-has.false in
     let flag = c.has-in-loop-i.ensures new 0 3 new_shown c.loop-i-test.true ∙ ap new z in
-    turns_cut (sixteen_script t block now new) c.loop-i-test.true l (sixteen_sent t block now new c.loop-i.i l.state c.has-in-loop-i.result on flag _ (rw i.tables at (h.quads block l.state l.is marked)))
+    turns_cut (sixteen_script t block now new) c.loop-i-test.true l (sixteen_sent t block now new c.loop-i.i l.state c.has-in-loop-i.result on flag _
+    (rw i.tables at (h.quads block l.state l.is marked)))
 
 pub loop-i-preserved : goal.loop-i-preserved
 loop-i-preserved g c =
@@ -75,5 +81,6 @@ loop-i-preserved g c =
           let z : 0 + c.loop-i.i ≡ c.loop-i.i = omega arith in
           let on = sym (c.has.ensures now 0 3 now_shown c.loop-i-test.true ∙ ap now z) ∙ c.if-not-has.false in
           let flag = c.has-in-loop-i.ensures new 0 3 new_shown c.loop-i-test.true ∙ ap new z in
-          turns_more (sixteen_script t block now new) c.loop-i-test.true l (sixteen_sent t block now new c.loop-i.i l.state c.has-in-loop-i.result on flag _ (rw i.tables at (h.quads block l.state l.is marked)));
+          turns_more (sixteen_script t block now new) c.loop-i-test.true l (sixteen_sent t block now new c.loop-i.i l.state c.has-in-loop-i.result on flag _
+          (rw i.tables at (h.quads block l.state l.is marked)));
     }

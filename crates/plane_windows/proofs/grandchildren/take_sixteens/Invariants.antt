@@ -15,7 +15,9 @@ abbrev pub invariant-loop-i : goal.invariant-loop-i
 invariant-loop-i g l = record {
   reading : IsReading g.I.OctetIn.source (coming l.input) l.reading;
   tables : l.reading.tables ≡ l.fn.reading.tables;
-  left : (block : List ℤ) (s : State) (now new : ℕ → Bool) → IsState l.fn.reading.gaggle l.fn.reading.found s → IsAbove l.above block l.plan.plane → Shows l.sets.now now 0 3 → Shows l.sets.new new 0 3 →
-      TurnsLeft g.I.OctetIn.source (in_turn (sixteen_script (terms_of l.plan l.fn.reading.tables.now.words.book) block now new) 0 3 s) (sixteen_script (terms_of l.plan l.fn.reading.tables.now.words.book) block now new) l.i (3 - l.i) l.reading.gaggle l.reading.found
+  left : (block : List ℤ) (s : State) (now new : ℕ → Bool) → IsState l.fn.reading.gaggle l.fn.reading.found s → IsAbove l.above block l.plan.plane →
+      Shows l.sets.now now 0 3 → Shows l.sets.new new 0 3 →
+      TurnsLeft g.I.OctetIn.source (in_turn (sixteen_script (terms_of l.plan l.fn.reading.tables.now.words.book) block now new) 0 3 s) (sixteen_script
+      (terms_of l.plan l.fn.reading.tables.now.words.book) block now new) l.i (3 - l.i) l.reading.gaggle l.reading.found
       (point (coming l.fn.input) l.fn.reading.cursor) (point (coming l.input) l.reading.cursor);
 }

@@ -12,14 +12,17 @@ loop-left-init g c = record {
   reading = c.requires.reading;
   tables = refl;
   small = c.groups_with_bits-sent.ensures.few;
-  passed = λ s f now wanted is marks now_shown wanted_shown. groups_start (group_script c.args.reading.now.tables.now.words.book f c.args.groups.first now wanted) c.args.groups.count _ s c.requires.reading.is_in is;
+  passed = λ s f now wanted is marks now_shown wanted_shown. groups_start
+      (group_script c.args.reading.now.tables.now.words.book f c.args.groups.first now wanted) c.args.groups.count _ s c.requires.reading.is_in is;
 }
 
 pub returns-clause-groups : goal.returns-clause-groups
 returns-clause-groups g c = λ s f now wanted is marks now_shown wanted_shown.
     let covers = c.groups_with_bits-sent.ensures.covers now wanted now_shown wanted_shown in
     let groups = c.args.groups in
-    groups_done (omega (arith, c.requires.count)) (group_skipped c.args.reading.now.tables.now.words.book f now wanted groups.first groups.count c.args.due marks covers) c.loop-left.invariant.reading.is_in (c.loop-left.invariant.passed s f now wanted is marks now_shown wanted_shown) c.loop-left-test.false zero_bit
+    groups_done (omega (arith, c.requires.count)) (group_skipped c.args.reading.now.tables.now.words.book f now wanted groups.first groups.count c.args.due
+    marks covers) c.loop-left.invariant.reading.is_in (c.loop-left.invariant.passed s f now wanted is marks now_shown wanted_shown) c.loop-left-test.false
+    zero_bit
 
 pub returns-in_err-types-clause-groups : goal.returns-in_err-types-clause-groups
 returns-in_err-types-clause-groups g c = λ s f now wanted is marks now_shown wanted_shown.
@@ -33,9 +36,14 @@ returns-in_err-types-clause-groups g c = λ s f now wanted is marks now_shown wa
     let covers = c.groups_with_bits-sent.ensures.covers now wanted now_shown wanted_shown in
     let z : 0 + j ≡ j = omega arith in
     let l = i.passed s f now wanted is marks now_shown wanted_shown in
-    let at = reach (omega (arith, c.requires.count)) (group_skipped book f now wanted groups.first groups.count c.args.due marks covers) i.reading.is_in l j inside first.here first.none_before in
+    let at = reach (omega (arith, c.requires.count)) (group_skipped book f now wanted groups.first groups.count c.args.due marks covers) i.reading.is_in
+    l j inside first.here first.none_before in
     let flag = c.has.ensures wanted 0 groups.count wanted_shown inside ∙ ap wanted z in
-    rw (p.1, p.2) (group_fault at.0 j at.1 inside _ (group_called book f now wanted groups.first groups.count c.args.due marks covers (omega (arith, c.requires.count)) at.0 j at.1 inside first.here c.has.result flag (λ s1 g1 is1 marks1. rw i.tables at (c.in_err-types.ensures.types s1 g1 is1 marks1))))
+    rw (p.1, p.2) (group_fault at.0 j at.1 inside _ (group_called book f now wanted groups.first groups.count c.args.due marks covers (omega (
+      arith,
+      c.requires.count,
+    )) at.0 j at.1 inside first.here c.has.result flag (λ s1 g1 is1 marks1. rw i.tables at
+    (c.in_err-types.ensures.types s1 g1 is1 marks1))))
 
 pub returns-in_default-clause-groups : goal.returns-in_default-clause-groups
 returns-in_default-clause-groups g c = λ s f now wanted is marks now_shown wanted_shown.
@@ -49,9 +57,13 @@ returns-in_default-clause-groups g c = λ s f now wanted is marks now_shown want
     let covers = c.groups_with_bits-sent.ensures.covers now wanted now_shown wanted_shown in
     let z : 0 + j ≡ j = omega arith in
     let l = i.passed s f now wanted is marks now_shown wanted_shown in
-    let at = reach (omega (arith, c.requires.count)) (group_skipped book f now wanted groups.first groups.count c.args.due marks covers) i.reading.is_in l j inside first.here first.none_before in
+    let at = reach (omega (arith, c.requires.count)) (group_skipped book f now wanted groups.first groups.count c.args.due marks covers) i.reading.is_in
+    l j inside first.here first.none_before in
     let flag = c.has.ensures wanted 0 groups.count wanted_shown inside ∙ ap wanted z in
-    group_cut at.0 j at.1 inside (group_called book f now wanted groups.first groups.count c.args.due marks covers (omega (arith, c.requires.count)) at.0 j at.1 inside first.here c.has.result flag (λ s1 g1 is1 marks1. rw i.tables at (t.types s1 g1 is1 marks1)))
+    group_cut at.0 j at.1 inside (group_called book f now wanted groups.first groups.count c.args.due marks covers (omega (
+      arith,
+      c.requires.count,
+    )) at.0 j at.1 inside first.here c.has.result flag (λ s1 g1 is1 marks1. rw i.tables at (t.types s1 g1 is1 marks1)))
 
 pub loop-left-preserved : goal.loop-left-preserved
 loop-left-preserved g c =
@@ -71,9 +83,12 @@ loop-left-preserved g c =
           let covers = c.groups_with_bits-sent.ensures.covers now wanted now_shown wanted_shown in
           let z : 0 + j ≡ j = omega arith in
           let l = i.passed s f now wanted is marks now_shown wanted_shown in
-          let at = reach (omega (arith, c.requires.count)) (group_skipped book f now wanted groups.first groups.count c.args.due marks covers) i.reading.is_in l j inside first.here first.none_before in
+          let at = reach (omega (arith, c.requires.count)) (group_skipped book f now wanted groups.first groups.count c.args.due marks covers) i.reading.is_in
+          l j inside first.here first.none_before in
           let flag = c.has.ensures wanted 0 groups.count wanted_shown inside ∙ ap wanted z in
-          group_read at.0 j at.1 inside (omega (arith, c.requires.count)) first.none_before rest.result rest.ensures.gone rest.ensures.others (group_called book f now wanted groups.first groups.count c.args.due marks covers (omega (arith, c.requires.count)) at.0 j at.1 inside first.here c.has.result flag (λ s1 g1 is1 marks1. rw i.tables at (t.types s1 g1 is1 marks1)));
+          group_read at.0 j at.1 inside (omega (arith, c.requires.count)) first.none_before rest.result rest.ensures.gone rest.ensures.others
+          (group_called book f now wanted groups.first groups.count c.args.due marks covers (omega
+          (arith, c.requires.count)) at.0 j at.1 inside first.here c.has.result flag (λ s1 g1 is1 marks1. rw i.tables at (t.types s1 g1 is1 marks1)));
     }
 
 pub loop-left-smaller : goal.loop-left-smaller
@@ -94,5 +109,6 @@ types-requires-clause-some g c = λ on.
     let j = c.first_in-j.result in
     let inside : j < c.args.groups.count = bit_inside c.loop-left.left c.args.groups.count j c.loop-left.invariant.small c.first_in-j.ensures.here in
     let z : 0 + j ≡ j = omega arith in
-    let has = c.has.ensures (bit c.args.groups.wanted) 0 64 (shows_own c.args.groups.wanted 64 (search rules)) (omega (arith, inside, c.requires.count)) ∙ ap (bit c.args.groups.wanted) z in
+    let has = c.has.ensures (bit c.args.groups.wanted) 0 64 (shows_own c.args.groups.wanted 64 (search rules)) (omega (arith, inside, c.requires.count)) ∙
+    ap (bit c.args.groups.wanted) z in
     c.requires.some j inside (sym has ∙ on)

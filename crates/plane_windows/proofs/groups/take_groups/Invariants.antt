@@ -15,8 +15,10 @@ invariant-loop-left g l = record {
   reading : IsReading g.I.OctetIn.source (coming l.input) l.reading;
   tables : l.reading.tables ≡ l.fn.reading.tables;
   small : l.left < 2 ^ l.groups.count;
-  passed : (s : State) (f now wanted : ℕ → Bool) → IsState l.fn.reading.gaggle l.fn.reading.found s → Marks l.due f l.groups.first (4 * l.groups.count) → Shows l.groups.now now 0 l.groups.count → Shows l.groups.wanted wanted 0 l.groups.count →
-      GroupsLeft g.I.OctetIn.source (in_turn (group_script l.fn.reading.tables.now.words.book f l.groups.first now wanted) 0 l.groups.count s) (group_script l.fn.reading.tables.now.words.book f l.groups.first now wanted) l.groups.count l.sent l.left l.reading.gaggle l.reading.found
+  passed : (s : State) (f now wanted : ℕ → Bool) → IsState l.fn.reading.gaggle l.fn.reading.found s → Marks l.due f l.groups.first (4 * l.groups.count) →
+      Shows l.groups.now now 0 l.groups.count → Shows l.groups.wanted wanted 0 l.groups.count →
+      GroupsLeft g.I.OctetIn.source (in_turn (group_script l.fn.reading.tables.now.words.book f l.groups.first now wanted) 0 l.groups.count s)
+      (group_script l.fn.reading.tables.now.words.book f l.groups.first now wanted) l.groups.count l.sent l.left l.reading.gaggle l.reading.found
       (point (coming l.fn.input) l.fn.reading.cursor) (point (coming l.input) l.reading.cursor);
 }
 

@@ -31,13 +31,18 @@ loop-octet-preserved c = record {
       let option = c.args.option in
       let entry : FirstPlaces = record { places = c.spread.result; len = word.len; signed_len = word.signed_len } in
       elim (cases_lt (window / 2 ^ 56) octet) [
-        | inl less ↦ subst (IsFirst book due option window) (sym (get_or-set_other c.loop-octet.entries octet (window / 2 ^ 56) entry nothing_first (λ e. omega (arith, e, less)))) (c.loop-octet.invariant.done window fits less)
+        | inl less ↦ subst (IsFirst book due option window) (sym (get_or-set_other c.loop-octet.entries octet (window / 2 ^ 56) entry nothing_first
+            (λ e. omega (arith, e, less)))) (c.loop-octet.invariant.done window fits less)
         | inr ge ↦
             let same : window / 2 ^ 56 ≡ octet = omega (arith, lt, ge) in
             let here : octet * 2 ^ 56 % 2 ^ 64 / 2 ^ 56 ≡ window / 2 ^ 56 = octet_of octet (omega arith) ∙ sym same in
             let bits = same_octet word.len (octet * 2 ^ 56 % 2 ^ 64) window w.few here in
-            let is = first_is book due option window word.number c.spread.result word.len word.signed_len c.requires.due (subst (λ m. word.number < 2 ^ m) n w.fits) (subst (λ m. AreSpread m word.number c.spread.result) c.from-mask.ensures c.spread.ensures) w.few (λ e. w.none (n ∙ e))
-            (λ some. subst (λ m. item_bits (word_item book m option word.number) ≡ first_of word.len (octet * 2 ^ 56 % 2 ^ 64)) n (w.first (subst (λ m. 1 ≤ m) (sym n) some)) ∙ bits) w.signed_len in
-            subst (IsFirst book due option window) (sym (ap (λ i. get_or (set c.loop-octet.entries octet entry) i nothing_first) same ∙ get_or-set_same c.loop-octet.entries octet entry nothing_first (omega (arith, c.loop-octet.invariant.size)))) is
+            let is = first_is book due option window word.number c.spread.result word.len word.signed_len c.requires.due (subst
+            (λ m. word.number < 2 ^ m) n w.fits) (subst (λ m. AreSpread m word.number c.spread.result) c.from-mask.ensures c.spread.ensures) w.few
+            (λ e. w.none (n ∙ e))
+            (λ some. subst (λ m. item_bits (word_item book m option word.number) ≡ first_of word.len (octet * 2 ^ 56 % 2 ^ 64)) n (w.first (subst (λ m. 1 ≤ m)
+            (sym n) some)) ∙ bits) w.signed_len in
+            subst (IsFirst book due option window) (sym (ap (λ i. get_or (set c.loop-octet.entries octet entry) i nothing_first) same ∙
+            get_or-set_same c.loop-octet.entries octet entry nothing_first (omega (arith, c.loop-octet.invariant.size)))) is
       ];
 }

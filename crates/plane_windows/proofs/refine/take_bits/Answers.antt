@@ -1,4 +1,4 @@
-use Rattle.std.proofs.Common.{◌≡◌, ◌+◌, ◌<◌, ◌∙◌, true, arith, ap, sym, refl}
+use Rattle.std.proofs.Common.{◌≡◌, ◌+◌, ◌∙◌, true, arith, ap, sym, refl}
 use Rattle.std.proofs.lemmas.Result.{err_from_is_err_and}
 use Rattle.item_defs.specs.Bits.{bit}
 use Rattle.plane_windows.specs.HeldTakes.{marked_script}
@@ -19,7 +19,8 @@ loop-left-init g c = record {
 pub returns-clause-bits : goal.returns-clause-bits
 returns-clause-bits g c = λ s f is shown.
     rw (sym (turns_here (marked_script f) c.args.start 32 s))
-    (groups_done (omega arith) (λ n lt off u at. unmarked f (c.args.start + n) (sym (shown.at n lt) ∙ off) u at) c.loop-left.invariant.reading.is_in (c.loop-left.invariant.passed s f is shown) c.loop-left-test.false zero_bit)
+    (groups_done (omega arith) (λ n lt off u at. unmarked f (c.args.start + n) (sym (shown.at n lt) ∙ off) u at) c.loop-left.invariant.reading.is_in
+    (c.loop-left.invariant.passed s f is shown) c.loop-left-test.false zero_bit)
 
 pub returns-in_err-bit-clause-bits : goal.returns-in_err-bit-clause-bits
 returns-in_err-bit-clause-bits g c = λ s f is shown.
@@ -28,7 +29,8 @@ returns-in_err-bit-clause-bits g c = λ s f is shown.
     let first = c.first_in-j.ensures in
     let j = c.first_in-j.result in
     let inside = bit_inside c.loop-left.left 32 j i.small first.here in
-    let at = reach (omega arith) (λ n lt off u is_u. unmarked f (c.args.start + n) (sym (shown.at n lt) ∙ off) u is_u) i.reading.is_in (i.passed s f is shown) j inside first.here first.none_before in
+    let at = reach (omega arith) (λ n lt off u is_u. unmarked f (c.args.start + n) (sym (shown.at n lt) ∙ off) u is_u) i.reading.is_in
+    (i.passed s f is shown) j inside first.here first.none_before in
     let m = at.0 in
     let on : bit c.args.here j ≡ true = sym (m.kept j (omega (arith, at.1)) first.within) ∙ first.here in
     let here : f (c.args.start + m.n) ≡ true = ap (λ n. f (c.args.start + n)) at.1 ∙ sym (shown.at j inside) ∙ on in
@@ -43,7 +45,8 @@ returns-in_default-clause-bits g c = λ s f is shown.
     let first = c.first_in-j.ensures in
     let j = c.first_in-j.result in
     let inside = bit_inside c.loop-left.left 32 j i.small first.here in
-    let at = reach (omega arith) (λ n lt off u is_u. unmarked f (c.args.start + n) (sym (shown.at n lt) ∙ off) u is_u) i.reading.is_in (i.passed s f is shown) j inside first.here first.none_before in
+    let at = reach (omega arith) (λ n lt off u is_u. unmarked f (c.args.start + n) (sym (shown.at n lt) ∙ off) u is_u) i.reading.is_in
+    (i.passed s f is shown) j inside first.here first.none_before in
     let m = at.0 in
     let on : bit c.args.here j ≡ true = sym (m.kept j (omega (arith, at.1)) first.within) ∙ first.here in
     let here : f (c.args.start + m.n) ≡ true = ap (λ n. f (c.args.start + n)) at.1 ∙ sym (shown.at j inside) ∙ on in
@@ -73,14 +76,20 @@ loop-left-preserved g c =
       tables = x.tables ∙ i.tables;
       small = omega (arith, i.small, rest.ensures.fewer first.here);
       passed = λ s f is shown.
-          let at = reach (omega arith) (λ n lt off u is_u. unmarked f (c.args.start + n) (sym (shown.at n lt) ∙ off) u is_u) i.reading.is_in (i.passed s f is shown) j inside first.here first.none_before in
+          let at = reach (omega arith) (λ n lt off u is_u. unmarked f (c.args.start + n) (sym (shown.at n lt) ∙ off) u is_u) i.reading.is_in
+          (i.passed s f is shown) j inside first.here first.none_before in
           let m = at.0 in
           let on : bit c.args.here j ≡ true = sym (m.kept j (omega (arith, at.1)) first.within) ∙ first.here in
           let here : f (c.args.start + m.n) ≡ true = ap (λ n. f (c.args.start + n)) at.1 ∙ sym (shown.at j inside) ∙ on in
           let b = c.in-Some.bit in
           let place : c.args.start + j ≡ c.args.start + m.n = omega (arith, at.1) in
-          let bits = sign_shown c.add_bits.new.self.bits m.state.bits (c.args.start + j) b (c.add_bits.ensures.bits m.state.bits (λ q. b) 1 (omega (arith, inside, c.requires.start)) (rw x.found m.is.bits) (c.one.ensures.told (c.args.start + j))) in
-          let read = bit_read f (c.args.start + m.n) here m.state m.is b x.is_in (rw place at bits) (c.add_bits.ensures.minus ∙ ap (λ z. z.minus) x.found) x.flag in
+          let bits = sign_shown c.add_bits.new.self.bits m.state.bits (c.args.start + j) b (c.add_bits.ensures.bits m.state.bits (λ q. b) 1 (omega (
+            arith,
+            inside,
+            c.requires.start,
+          )) (rw x.found m.is.bits) (c.one.ensures.told (c.args.start + j))) in
+          let read = bit_read f (c.args.start + m.n) here m.state m.is b x.is_in (rw place at bits) (c.add_bits.ensures.minus ∙
+          ap (λ z. z.minus) x.found) x.flag in
           group_read m j at.1 inside (omega arith) first.none_before rest.result rest.ensures.gone rest.ensures.others (rw x.gaggle read);
     }
 

@@ -15,7 +15,9 @@ invariant-loop-left g l = record {
   tables : l.reading.tables ≡ l.fn.reading.tables;
   small : l.left < 2 ^ 32;
   passed : (s : State) (f : ℕ → Bool) → IsState l.fn.reading.gaggle l.fn.reading.found s → Shows l.here f l.start 32 →
-      GroupsLeft g.I.OctetIn.source (in_turn (λ j. marked_script f (l.start + j)) 0 32 s) (λ j. marked_script f (l.start + j)) 32 l.here l.left l.reading.gaggle l.reading.found (point (coming l.fn.input) l.fn.reading.cursor) (point (coming l.input) l.reading.cursor);
+      GroupsLeft g.I.OctetIn.source (in_turn (λ j. marked_script f (l.start + j)) 0 32 s) (λ j. marked_script f
+      (l.start + j)) 32 l.here l.left l.reading.gaggle l.reading.found (point (coming l.fn.input) l.fn.reading.cursor) (point
+      (coming l.input) l.reading.cursor);
 }
 
 abbrev pub decreases-loop-left : goal.decreases-loop-left

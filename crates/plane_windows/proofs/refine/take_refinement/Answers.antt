@@ -1,4 +1,4 @@
-use Rattle.std.proofs.Common.{sym, subst, rules}
+use Rattle.std.proofs.Common.{sym, rules}
 use Rattle.std.proofs.lemmas.Result.{err_from_is_err_and}
 use Rattle.item_defs.specs.Bits.{bit}
 use Rattle.block_masks.proofs.Viewing.{shows_own}
@@ -18,7 +18,8 @@ returns-in_err-take_half-clause-refinement g c = λ block s is marked.
     let shown = c.both.ensures.told _ _ 0 64 (shows_own c.args.above 64 c.ranges.above.fits) plan.shown in
     let marks = refined_marks mask c.args.above plan.plane plan.weights.shifts block shown marked c.without-refined.ensures.others in
     let own = shows_own mask 64 (search rules) in
-    rw (p.1, p.2, sym (refinement_is t block (bit mask) c.without-refined.ensures.gone marks s)) (half_fault (in_turn item 0 32 s) (in_turn item 32 32) _ (c.in_err-take_half.ensures.bits s (bit mask) is own))
+    rw (p.1, p.2, sym (refinement_is t block (bit mask) c.without-refined.ensures.gone marks s)) (half_fault (in_turn item 0 32 s) (in_turn item 32 32) _
+    (c.in_err-take_half.ensures.bits s (bit mask) is own))
 
 pub returns-in_default-clause-refinement : goal.returns-in_default-clause-refinement
 returns-in_default-clause-refinement g c = λ block s is marked.
@@ -30,7 +31,8 @@ returns-in_default-clause-refinement g c = λ block s is marked.
     let shown = c.both.ensures.told _ _ 0 64 (shows_own c.args.above 64 c.ranges.above.fits) plan.shown in
     let marks = refined_marks mask c.args.above plan.plane plan.weights.shifts block shown marked c.without-refined.ensures.others in
     let own = shows_own mask 64 (search rules) in
-    rw (sym (refinement_is t block (bit mask) c.without-refined.ensures.gone marks s)) (half_cut (in_turn item 0 32 s) (in_turn item 32 32) (x.bits s (bit mask) is own))
+    rw (sym (refinement_is t block (bit mask) c.without-refined.ensures.gone marks s)) (half_cut (in_turn item 0 32 s) (in_turn item 32 32) (x.bits s
+    (bit mask) is own))
 
 pub returns-clause-refinement : goal.returns-clause-refinement
 returns-clause-refinement g c = λ block s is marked.
@@ -43,4 +45,5 @@ returns-clause-refinement g c = λ block s is marked.
     let marks = refined_marks mask c.args.above plan.plane plan.weights.shifts block shown marked c.without-refined.ensures.others in
     let own = shows_own mask 64 (search rules) in
     let q = x.bits s (bit mask) is own in
-    rw (sym (refinement_is t block (bit mask) c.without-refined.ensures.gone marks s)) (half_then (in_turn item 0 32 s) (in_turn item 32 32) q _ (c.take_half-2.ensures.bits q.now (bit mask) q.is own))
+    rw (sym (refinement_is t block (bit mask) c.without-refined.ensures.gone marks s)) (half_then (in_turn item 0 32 s) (in_turn item 32 32) q _
+    (c.take_half-2.ensures.bits q.now (bit mask) q.is own))

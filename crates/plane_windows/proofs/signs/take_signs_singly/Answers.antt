@@ -11,17 +11,32 @@ returns-in_err-minus-clause-signs g c = λ t shown.
     let s = c.loop-left.invariant.so_far t shown in
     let lt = bit_inside c.loop-left.left c.args.count c.first_in-k.result c.loop-left.invariant.small c.first_in-k.ensures.here in
     let r = some_position c.loop-left.left c.args.start c.first_in-k.result c.args.count c.first_in-k.ensures.here lt in
-    rw (p.1, p.2) (record { minus = s.minus; shown = s.shown; read = signs_fault _ _ (with_minus t s.minus) s.left r.0 r.1 r.2 _ (c.in_err-minus.ensures.flag.read (with_minus t s.minus)) })
+    rw (p.1, p.2) (record {
+      minus = s.minus;
+      shown = s.shown;
+      read = signs_fault _ _ (with_minus t s.minus) s.left r.0 r.1 r.2 _
+          (c.in_err-minus.ensures.flag.read (with_minus t s.minus));
+    })
 
 pub returns-in_default-clause-signs : goal.returns-in_default-clause-signs
 returns-in_default-clause-signs g c = λ t shown.
     let s = c.loop-left.invariant.so_far t shown in
     let lt = bit_inside c.loop-left.left c.args.count c.first_in-k.result c.loop-left.invariant.small c.first_in-k.ensures.here in
     let r = some_position c.loop-left.left c.args.start c.first_in-k.result c.args.count c.first_in-k.ensures.here lt in
-    record { minus = s.minus; shown = s.shown; read = signs_cut _ _ (with_minus t s.minus) s.left r.0 r.1 r.2 ((rw c.in_default.is at c.in_ok-minus.ensures).flag.read (with_minus t s.minus)) }
+    record {
+      minus = s.minus;
+      shown = s.shown;
+      read = signs_cut _ _ (with_minus t s.minus) s.left r.0 r.1 r.2
+          ((rw c.in_default.is at c.in_ok-minus.ensures).flag.read (with_minus t s.minus));
+    }
 
 pub add_minus-requires-clause-start : goal.add_minus-requires-clause-start
-add_minus-requires-clause-start g c = omega (arith, bit_inside c.loop-left.left c.args.count c.first_in-k.result c.loop-left.invariant.small c.first_in-k.ensures.here, c.requires.within)
+add_minus-requires-clause-start g c = omega (
+  arith,
+  bit_inside c.loop-left.left c.args.count c.first_in-k.result c.loop-left.invariant.small
+      c.first_in-k.ensures.here,
+  c.requires.within,
+)
 
 pub add_minus-requires-clause-room : goal.add_minus-requires-clause-room
 add_minus-requires-clause-room g c =
@@ -41,15 +56,23 @@ loop-left-preserved g c =
       bits = c.add_minus.ensures.bits ∙ i.bits;
       so_far = λ t shown.
           let s = i.so_far t shown in
-          let e = first_position c.loop-left.left rest.result c.args.start k first.here first.none_before rest.ensures.gone rest.ensures.others c.args.count lt (omega (arith, c.requires.within)) in
+          let e = first_position c.loop-left.left rest.result c.args.start k first.here first.none_before rest.ensures.gone rest.ensures.others c.args.count
+          lt (omega (arith, c.requires.within)) in
           record {
             minus = _;
-            shown = sign_shown c.add_minus.new.self.minus s.minus (c.args.start + k) c.in-Some.minus (c.add_minus.ensures.minus s.minus (λ q. c.in-Some.minus) 1 (omega (arith, lt, c.requires.within)) s.shown (c.one.ensures.told (c.args.start + k)));
-            left = signs_more _ _ (with_minus t s.minus) s.left _ _ e c.in-Some.minus ((rw c.in-Some.is at c.in_ok-minus.ensures).flag.read (with_minus t s.minus));
+            shown = sign_shown c.add_minus.new.self.minus s.minus (c.args.start + k) c.in-Some.minus (c.add_minus.ensures.minus s.minus
+                (λ q. c.in-Some.minus) 1 (omega (arith, lt, c.requires.within)) s.shown (c.one.ensures.told (c.args.start + k)));
+            left = signs_more _ _ (with_minus t s.minus) s.left _ _ e c.in-Some.minus ((rw c.in-Some.is at c.in_ok-minus.ensures).flag.read
+                (with_minus t s.minus));
           };
     }
 
 pub returns-clause-signs : goal.returns-clause-signs
 returns-clause-signs g c = λ t shown.
     let s = c.loop-left.invariant.so_far t shown in
-    record { minus = s.minus; shown = s.shown; read = signs_all _ _ (with_minus t s.minus) s.left (none_left c.loop-left.left c.args.start c.args.count c.loop-left-test.false) c.loop-left.invariant.is_in }
+    record {
+      minus = s.minus;
+      shown = s.shown;
+      read = signs_all _ _ (with_minus t s.minus) s.left
+          (none_left c.loop-left.left c.args.start c.args.count c.loop-left-test.false) c.loop-left.invariant.is_in;
+    }

@@ -12,7 +12,8 @@ invariant-loop-left g l = record {
   is_in : IsIn (coming l.input);
   small : l.left < 2 ^ l.count;
   bits : l.found.bits ≡ l.initial.found.bits;
-  so_far : (s : State) → Shows l.initial.found.minus s.minus 0 64 → SignsLeft g.I.OctetIn.source (signs_script (positions l.new l.start l.count) s) (positions l.left l.start l.count) s l.found.minus (coming l.initial.input) (coming l.input);
+  so_far : (s : State) → Shows l.initial.found.minus s.minus 0 64 → SignsLeft g.I.OctetIn.source (signs_script (positions l.new l.start l.count) s)
+      (positions l.left l.start l.count) s l.found.minus (coming l.initial.input) (coming l.input);
 }
 
 abbrev pub decreases-loop-left : goal.decreases-loop-left

@@ -1,4 +1,4 @@
-use Rattle.std.proofs.Common.{rules, FitsSigned, w32, ◌≡◌, ◌∙◌, sym, subst}
+use Rattle.std.proofs.Common.{rules, FitsSigned, w32, ◌∙◌, sym, subst}
 use Rattle.std.proofs.lemmas.Int.{to_z-of_z}
 use Rattle.std.proofs.lemmas.Result.{err_from_is_err_and}
 use Rattle.block_masks.specs.Masks.{Shows}
@@ -41,4 +41,5 @@ returns-clause-block g c = λ numbers s are above has families.
     let own = rw (to_z-of_z w32 c.args.block.now.mark fits) at c.families_of.ensures.value in
     let shown = subst (λ m. Shows m s.families 0 3) (sym own) families in
     let new_fits : FitsSigned w32 c.mark_after-block.result = search rules in
-    rw (to_z-of_z w32 c.mark_after-block.result new_fits) (block_whole c.apply.ensures has (sym c.mark_after-block.ensures.families) (x.words numbers s are mask shown seen))
+    rw (to_z-of_z w32 c.mark_after-block.result new_fits) (block_whole c.apply.ensures has (sym c.mark_after-block.ensures.families)
+    (x.words numbers s are mask shown seen))

@@ -6,7 +6,8 @@ pub returns-in-1-clause-numbers : goal.returns-in-1-clause-numbers
 returns-in-1-clause-numbers g c = λ block earlier s is above families now. rw c.in-1.is (c.take_parents.ensures.parents block s is above)
 
 pub returns-in-3-clause-numbers : goal.returns-in-3-clause-numbers
-returns-in-3-clause-numbers g c = λ block earlier s is above families now. rw c.in-3.is (c.take_grandchildren.ensures.grandchildren block earlier s is above families now)
+returns-in-3-clause-numbers g c = λ block earlier s is above families now. rw c.in-3.is
+    (c.take_grandchildren.ensures.grandchildren block earlier s is above families now)
 
 pub returns-in_default-clause-numbers : goal.returns-in_default-clause-numbers
 returns-in_default-clause-numbers g c = λ block earlier s is above families now.

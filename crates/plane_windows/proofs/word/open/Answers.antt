@@ -4,7 +4,8 @@ use Rattle.plane_windows.proofs.WordReads.{opens_known, opens_fault, opens_end, 
 use Rattle.plane_windows.proofs.word.open.Goals as goal
 
 pub returns-then-gaggle-place-clause-option : goal.returns-then-gaggle-place-clause-option
-returns-then-gaggle-place-clause-option g c = λ s are. opens_known c.args.length s c.args.gaggle.now are c.requires.short c.requires.long c.requires.open c.if-gaggle-place.true
+returns-then-gaggle-place-clause-option g c = λ s are. opens_known c.args.length s c.args.gaggle.now are c.requires.short c.requires.long c.requires.open
+    c.if-gaggle-place.true
 
 pub returns-in_err-option-clause-option : goal.returns-in_err-option-clause-option
 returns-in_err-option-clause-option g c = λ s are.
@@ -17,4 +18,5 @@ returns-in_default-clause-option g c = λ s are.
 
 pub returns-clause-option : goal.returns-clause-option
 returns-clause-option g c = λ s are.
-    opens_new c.args.length s c.args.gaggle.now are c.requires.short c.requires.long c.in-Some.option c.requires.open c.if-gaggle-place.false (omega arith) (omega arith) (rw c.in-Some.is at c.in_ok-option.ensures)
+    opens_new c.args.length s c.args.gaggle.now are c.requires.short c.requires.long c.in-Some.option c.requires.open c.if-gaggle-place.false (omega arith)
+    (omega arith) (rw c.in-Some.is at c.in_ok-option.ensures)

@@ -29,20 +29,24 @@ spread-requires-clause-word g c =
 pub returns-clause-places : goal.returns-clause-places
 returns-clause-places g c = λ s f start count are few shown.
     let t = rw c.in-Some.is at c.in_ok-word.ensures in
-    due_given c.args.tables.now.book s f start count c.args.due few shown c.requires.open c.in-Some.word c.spread.result (rw c.count_of.ensures at t.fits) c.spread.ensures (rw c.count_of.ensures at (t.word s are))
+    due_given c.args.tables.now.book s f start count c.args.due few shown c.requires.open c.in-Some.word c.spread.result
+    (rw c.count_of.ensures at t.fits) c.spread.ensures (rw c.count_of.ensures at (t.word s are))
 
 pub returns-clause-small : goal.returns-clause-small
 returns-clause-small g c = λ count few lt.
     let t = rw c.in-Some.is at c.in_ok-word.ensures in
-    (ones_shown (bit c.args.due) 0 count c.args.due c.in-Some.word c.spread.result few (shows_own c.args.due count lt) (rw c.count_of.ensures at t.fits) c.spread.ensures).small
+    (ones_shown (bit c.args.due) 0 count c.args.due c.in-Some.word c.spread.result few (shows_own c.args.due count lt)
+    (rw c.count_of.ensures at t.fits) c.spread.ensures).small
 
 pub returns-in_err-word-clause-is_in : goal.returns-in_err-word-clause-is_in
 returns-in_err-word-clause-is_in g c =
     let s = any_state c.args.gaggle.now in
-    in_later c.requires.open ((due_fault c.args.tables.now.book s (bit c.args.due) 0 4 c.args.due (omega arith) (shows_own c.args.due 4 c.requires.due) _ (rw c.count_of.ensures at (c.in_err-word.ensures.word s (λ n low high. refl)))).read free (λ e. refl)).taken
+    in_later c.requires.open ((due_fault c.args.tables.now.book s (bit c.args.due) 0 4 c.args.due (omega arith) (shows_own c.args.due 4 c.requires.due) _
+    (rw c.count_of.ensures at (c.in_err-word.ensures.word s (λ n low high. refl)))).read free (λ e. refl)).taken
 
 pub returns-in_default-clause-is_in : goal.returns-in_default-clause-is_in
 returns-in_default-clause-is_in g c =
     let s = any_state c.args.gaggle.now in
     let t = rw c.in_default.is at c.in_ok-word.ensures in
-    in_later c.requires.open ((due_missing c.args.tables.now.book s (bit c.args.due) 0 4 c.args.due (omega arith) (shows_own c.args.due 4 c.requires.due) (rw c.count_of.ensures at (t.word s (λ n low high. refl)))).read free (λ e. refl)).taken
+    in_later c.requires.open ((due_missing c.args.tables.now.book s (bit c.args.due) 0 4 c.args.due (omega arith) (shows_own c.args.due 4 c.requires.due)
+    (rw c.count_of.ensures at (t.word s (λ n low high. refl)))).read free (λ e. refl)).taken

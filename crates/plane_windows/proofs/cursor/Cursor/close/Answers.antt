@@ -8,7 +8,8 @@ pub returns-else-self-gt0-clause-stays : goal.returns-else-self-gt0-clause-stays
 returns-else-self-gt0-clause-stays g c =
     let closed : Cursor = record { window = 0; rest = 0; used = 128 } in
     elim c.else-self-gt0.branch [
-      | else-self-gt0-via-then-self-gt0+else-self-le-HELD w ↦ stays_empty c.args.self.now closed c.requires.is_in (read_nothing c.args.self.now (inr (omega arith))) refl
+      | else-self-gt0-via-then-self-gt0+else-self-le-HELD w ↦ stays_empty c.args.self.now closed c.requires.is_in
+          (read_nothing c.args.self.now (inr (omega arith))) refl
       | else-self-gt0-via-else-self-gt0 w ↦ stays_empty c.args.self.now closed c.requires.is_in (read_nothing c.args.self.now (inl (omega arith))) refl
     ]
 

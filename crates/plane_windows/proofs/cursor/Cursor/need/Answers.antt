@@ -4,6 +4,7 @@ use Rattle.plane_windows.proofs.cursor.Cursor.need.Goals.{then-self-count, else-
 
 pub returns-clause-stays : goal.returns-clause-stays
 returns-clause-stays g c = elim c.if-self-count.branch [
-  | then-self-count w ↦ rw (w.self-is, w.input-is) (stays_then w.close.ensures.stays (stays_empty w.close.new.self w.open.result w.close.ensures.is_in w.close.ensures.none w.open.ensures.none))
+  | then-self-count w ↦ rw (w.self-is, w.input-is) (stays_then w.close.ensures.stays (stays_empty w.close.new.self w.open.result w.close.ensures.is_in
+      w.close.ensures.none w.open.ensures.none))
   | else-self-count w ↦ rw (w.self-is, w.input-is) (moves_start c.requires.is_in)
 ]

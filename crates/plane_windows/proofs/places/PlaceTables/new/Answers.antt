@@ -38,7 +38,8 @@ loop-option-preserved c =
         | inr ge ↦
             let same : o ≡ option = omega (arith, lt, ge) in
             let in_here : at < length old = omega (arith, i.size, few) in
-            subst (λ n. AreEntries book due n (get_or (set old at c.entries_of.result) (4 * due + n) [])) (sym same) (subst (AreEntries book due option) (sym (get_or-set_same old at c.entries_of.result [] in_here)) c.entries_of.ensures)
+            subst (λ n. AreEntries book due n (get_or (set old at c.entries_of.result) (4 * due + n) [])) (sym same) (subst (AreEntries book due option) (sym
+            (get_or-set_same old at c.entries_of.result [] in_here)) c.entries_of.ensures)
       ];
     }
 

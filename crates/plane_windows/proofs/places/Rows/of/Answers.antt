@@ -22,7 +22,10 @@ loop-due-preserved c =
           | inl less ↦ get_or-set_other c.loop-due.tables at due _ 0 (λ e. omega (arith, e, less)) ∙ i.done due less
           | inr ge ↦
               let same : due ≡ at = omega (arith, lt, ge) in
-              ap (λ n. get_or (set c.loop-due.tables at (4 * at + option_at g at c.count_of-count.result)) n 0) same ∙ get_or-set_same c.loop-due.tables at (4 * at + option_at g at c.count_of-count.result) 0 (omega (arith, i.size)) ∙ row_known g at c.count_of-count.result few w.if-is_known-count.true ∙ ap (row_by g at) (c.count_of-count.ensures ∙ ap count_ones c.from.ensures) ∙ ap (λ n. row_by g n (count_ones n)) (sym same)
+              ap (λ n. get_or (set c.loop-due.tables at (4 * at + option_at g at c.count_of-count.result)) n 0) same ∙
+              get_or-set_same c.loop-due.tables at (4 * at + option_at g at c.count_of-count.result) 0 (omega (arith, i.size)) ∙
+              row_known g at c.count_of-count.result few w.if-is_known-count.true ∙ ap (row_by g at) (c.count_of-count.ensures ∙
+              ap count_ones c.from.ensures) ∙ ap (λ n. row_by g n (count_ones n)) (sym same)
         ];
         left = λ due le lt. get_or-set_other c.loop-due.tables at due _ 0 (λ e. omega (arith, e, le)) ∙ i.left due (omega (arith, le)) lt;
       })
@@ -32,7 +35,8 @@ loop-due-preserved c =
           | inl less ↦ i.done due less
           | inr ge ↦
               let same : due ≡ at = omega (arith, lt, ge) in
-              i.left due ge (omega (arith, same)) ∙ row_unknown g at c.count_of-count.result few w.if-is_known-count.false ∙ ap (row_by g at) (c.count_of-count.ensures ∙ ap count_ones c.from.ensures) ∙ ap (λ n. row_by g n (count_ones n)) (sym same)
+              i.left due ge (omega (arith, same)) ∙ row_unknown g at c.count_of-count.result few w.if-is_known-count.false ∙
+              ap (row_by g at) (c.count_of-count.ensures ∙ ap count_ones c.from.ensures) ∙ ap (λ n. row_by g n (count_ones n)) (sym same)
         ];
         left = λ due le lt. i.left due (omega (arith, le)) lt;
       })

@@ -7,7 +7,13 @@ use Rattle.plane_windows.proofs.DealReads.{dealt_none, dealt_four, dealt_all}
 use Rattle.plane_windows.proofs.reading.Reading.deal.Goals as goal
 
 pub returns-then-not-need-clause-reading : goal.returns-then-not-need-clause-reading
-returns-then-not-need-clause-reading g c = record { is_in = c.need.ensures.is_in; holds = c.need.ensures.holds; options = c.requires.reading.options; rows = c.requires.reading.rows }
+returns-then-not-need-clause-reading g c = record {
+  is_in = c.need.ensures.is_in;
+  holds = c.need.ensures.holds;
+  options = c.requires.reading.options;
+  rows =
+      c.requires.reading.rows;
+}
 
 pub loop-k-init : goal.loop-k-init
 loop-k-init g c = record {
@@ -17,7 +23,11 @@ loop-k-init g c = record {
 }
 
 pub placed-requires-clause-room : goal.placed-requires-clause-room
-placed-requires-clause-room g c = room_four c.spread_first-places.result (c.args.start + 4 * c.loop-k.k) (omega (arith, c.requires.start, c.loop-k-test.true)) c.spread_first-places.ensures.small
+placed-requires-clause-room g c = room_four c.spread_first-places.result (c.args.start + 4 * c.loop-k.k) (omega (
+  arith,
+  c.requires.start,
+  c.loop-k-test.true,
+)) c.spread_first-places.ensures.small
 
 pub loop-k-preserved : goal.loop-k-preserved
 loop-k-preserved g c =
@@ -51,7 +61,12 @@ returns-clause-dealt g c = λ yes s f is shown.
     let i = c.loop-k.invariant in
     let left = c.need.ensures.has.0 c.if-not-need.false in
     dealt_all f c.args.start s c.need.new.self.rest (i.dealt s f is shown) (omega (arith, c.loop-k-test.false)) c.need.ensures.stays
-    (moves_passed {c = c.need.new.self} {d = c.pass.new.self} c.need.ensures.holds c.loop-k.count (omega (arith, i.low, c.loop-k.auto.k-end, left)) c.pass.ensures.used c.pass.ensures.window c.pass.ensures.rest c.need.ensures.is_in) refl refl
+    (moves_passed {c = c.need.new.self} {d = c.pass.new.self} c.need.ensures.holds c.loop-k.count (omega (
+      arith,
+      i.low,
+      c.loop-k.auto.k-end,
+      left,
+    )) c.pass.ensures.used c.pass.ensures.window c.pass.ensures.rest c.need.ensures.is_in) refl refl
 
 pub returns-clause-reading : goal.returns-clause-reading
 returns-clause-reading g c =
@@ -59,7 +74,12 @@ returns-clause-reading g c =
     let left = c.need.ensures.has.0 c.if-not-need.false in
     record {
       is_in = c.need.ensures.is_in;
-      holds = holds_passed {c = c.need.new.self} {d = c.pass.new.self} c.need.ensures.holds c.loop-k.count (omega (arith, i.low, c.loop-k.auto.k-end, left)) c.pass.ensures.used c.pass.ensures.window c.pass.ensures.rest;
+      holds = holds_passed {c = c.need.new.self} {d = c.pass.new.self} c.need.ensures.holds c.loop-k.count (omega (
+        arith,
+        i.low,
+        c.loop-k.auto.k-end,
+        left,
+      )) c.pass.ensures.used c.pass.ensures.window c.pass.ensures.rest;
       options = c.requires.reading.options;
       rows = c.requires.reading.rows;
     }

@@ -11,14 +11,16 @@ returns-clause-flag g c =
     let cursor = c.need.new.self in
     let left = c.need.ensures.has.0 c.if-not-need.false in
     flag_passed cursor.rest (omega arith) c.need.ensures.stays
-    (moves_passed {c = cursor} {d = c.pass.new.self} c.need.ensures.holds 1 left c.pass.ensures.used c.pass.ensures.window c.pass.ensures.rest c.need.ensures.is_in)
+    (moves_passed {c = cursor} {d = c.pass.new.self} c.need.ensures.holds 1 left c.pass.ensures.used c.pass.ensures.window c.pass.ensures.rest
+    c.need.ensures.is_in)
 
 pub returns-clause-reading : goal.returns-clause-reading
 returns-clause-reading g c =
     let left = c.need.ensures.has.0 c.if-not-need.false in
     record {
       is_in = c.need.ensures.is_in;
-      holds = holds_passed {c = c.need.new.self} {d = c.pass.new.self} c.need.ensures.holds 1 left c.pass.ensures.used c.pass.ensures.window c.pass.ensures.rest;
+      holds = holds_passed {c = c.need.new.self} {d = c.pass.new.self} c.need.ensures.holds 1 left c.pass.ensures.used c.pass.ensures.window
+          c.pass.ensures.rest;
       options = c.requires.reading.options;
       rows = c.requires.reading.rows;
     }

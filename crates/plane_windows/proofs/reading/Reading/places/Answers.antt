@@ -9,14 +9,16 @@ use Rattle.plane_windows.proofs.reading.Reading.places.Goals as goal
 
 pub returns-then-not-is_ready-clause-places : goal.returns-then-not-is_ready-clause-places
 returns-then-not-is_ready-clause-places g c = λ s f start count are few shown.
-    places_later c.args.self.now.tables.now.words.book c.args.due f start count s _ c.is_ready.ensures.stays (c.places_singly.ensures.places s f start count are few shown)
+    places_later c.args.self.now.tables.now.words.book c.args.due f start count s _ c.is_ready.ensures.stays
+    (c.places_singly.ensures.places s f start count are few shown)
 
 pub first-first-requires : goal.first-first-requires
 first-first-requires g c =
     let reading = c.args.self.now in
     let due = c.args.due in
     let few = few_ones due c.requires.due in
-    let row : RowOption reading.gaggle due c.table_of-table.result = row_option reading.gaggle due c.table_of-table.result c.requires.reading.options few (c.table_of-table.ensures reading.gaggle c.requires.reading.rows) (c.is_ready.ensures.known c.if-not-is_ready.false) in
+    let row : RowOption reading.gaggle due c.table_of-table.result = row_option reading.gaggle due c.table_of-table.result c.requires.reading.options few
+    (c.table_of-table.ensures reading.gaggle c.requires.reading.rows) (c.is_ready.ensures.known c.if-not-is_ready.false) in
     record { table = row_small c.requires.due few row }
 
 pub pass-requires-clause-count : goal.pass-requires-clause-count
@@ -24,8 +26,10 @@ pass-requires-clause-count g c =
     let reading = c.args.self.now in
     let due = c.args.due in
     let few = few_ones due c.requires.due in
-    let row : RowOption reading.gaggle due c.table_of-table.result = row_option reading.gaggle due c.table_of-table.result c.requires.reading.options few (c.table_of-table.ensures reading.gaggle c.requires.reading.rows) (c.is_ready.ensures.known c.if-not-is_ready.false) in
-    let is : IsFirst reading.tables.now.words.book due row.option c.is_ready.new.cursor.rest c.first-first.result = c.first-first.ensures due row.option c.requires.due row.fits row.at in
+    let row : RowOption reading.gaggle due c.table_of-table.result = row_option reading.gaggle due c.table_of-table.result c.requires.reading.options few
+    (c.table_of-table.ensures reading.gaggle c.requires.reading.rows) (c.is_ready.ensures.known c.if-not-is_ready.false) in
+    let is : IsFirst reading.tables.now.words.book due row.option c.is_ready.new.cursor.rest c.first-first.result =
+    c.first-first.ensures due row.option c.requires.due row.fits row.at in
     let left = c.is_ready.ensures.has c.if-not-is_ready.false in
     omega (arith, is.few)
 
@@ -34,8 +38,10 @@ pass-requires-clause-left g c =
     let reading = c.args.self.now in
     let due = c.args.due in
     let few = few_ones due c.requires.due in
-    let row : RowOption reading.gaggle due c.table_of-table.result = row_option reading.gaggle due c.table_of-table.result c.requires.reading.options few (c.table_of-table.ensures reading.gaggle c.requires.reading.rows) (c.is_ready.ensures.known c.if-not-is_ready.false) in
-    let is : IsFirst reading.tables.now.words.book due row.option c.is_ready.new.cursor.rest c.first-first.result = c.first-first.ensures due row.option c.requires.due row.fits row.at in
+    let row : RowOption reading.gaggle due c.table_of-table.result = row_option reading.gaggle due c.table_of-table.result c.requires.reading.options few
+    (c.table_of-table.ensures reading.gaggle c.requires.reading.rows) (c.is_ready.ensures.known c.if-not-is_ready.false) in
+    let is : IsFirst reading.tables.now.words.book due row.option c.is_ready.new.cursor.rest c.first-first.result =
+    c.first-first.ensures due row.option c.requires.due row.fits row.at in
     let left = c.is_ready.ensures.has c.if-not-is_ready.false in
     omega (arith, is.few, left)
 
@@ -44,16 +50,23 @@ returns-clause-places g c = λ s f start count are four shown.
     let reading = c.args.self.now in
     let due = c.args.due in
     let few = few_ones due c.requires.due in
-    let row : RowOption reading.gaggle due c.table_of-table.result = row_option reading.gaggle due c.table_of-table.result c.requires.reading.options few (c.table_of-table.ensures reading.gaggle c.requires.reading.rows) (c.is_ready.ensures.known c.if-not-is_ready.false) in
-    let is : IsFirst reading.tables.now.words.book due row.option c.is_ready.new.cursor.rest c.first-first.result = c.first-first.ensures due row.option c.requires.due row.fits row.at in
+    let row : RowOption reading.gaggle due c.table_of-table.result = row_option reading.gaggle due c.table_of-table.result c.requires.reading.options few
+    (c.table_of-table.ensures reading.gaggle c.requires.reading.rows) (c.is_ready.ensures.known c.if-not-is_ready.false) in
+    let is : IsFirst reading.tables.now.words.book due row.option c.is_ready.new.cursor.rest c.first-first.result =
+    c.first-first.ensures due row.option c.requires.due row.fits row.at in
     let left = c.is_ready.ensures.has c.if-not-is_ready.false in
     let book = reading.tables.now.words.book in
     let sound = reading.tables.now.words.sound in
     let cursor = c.is_ready.new.cursor in
     let first = c.first-first.result in
     rw c.from.ensures
-    (held_places book due f start count s are (word_at due first.places) (word_ones f start count (word_at due first.places)) (first_ones book sound f start count four s are due c.requires.due shown row cursor.rest is) c.is_ready.ensures.stays
-    (moves_passed {c = cursor} {d = c.pass.new.self} c.is_ready.ensures.holds first.len (omega (arith, is.few, left)) c.pass.ensures.used c.pass.ensures.window c.pass.ensures.rest c.is_ready.ensures.is_in)
+    (held_places book due f start count s are (word_at due first.places) (word_ones f start count (word_at due first.places))
+    (first_ones book sound f start count four s are due c.requires.due shown row cursor.rest is) c.is_ready.ensures.stays
+    (moves_passed {c = cursor} {d = c.pass.new.self} c.is_ready.ensures.holds first.len (omega (
+      arith,
+      is.few,
+      left,
+    )) c.pass.ensures.used c.pass.ensures.window c.pass.ensures.rest c.is_ready.ensures.is_in)
     (places_say book sound f start count four s are due c.requires.due shown row cursor.rest is))
 
 pub returns-clause-reading : goal.returns-clause-reading
@@ -61,12 +74,18 @@ returns-clause-reading g c =
     let reading = c.args.self.now in
     let due = c.args.due in
     let few = few_ones due c.requires.due in
-    let row : RowOption reading.gaggle due c.table_of-table.result = row_option reading.gaggle due c.table_of-table.result c.requires.reading.options few (c.table_of-table.ensures reading.gaggle c.requires.reading.rows) (c.is_ready.ensures.known c.if-not-is_ready.false) in
-    let is : IsFirst reading.tables.now.words.book due row.option c.is_ready.new.cursor.rest c.first-first.result = c.first-first.ensures due row.option c.requires.due row.fits row.at in
+    let row : RowOption reading.gaggle due c.table_of-table.result = row_option reading.gaggle due c.table_of-table.result c.requires.reading.options few
+    (c.table_of-table.ensures reading.gaggle c.requires.reading.rows) (c.is_ready.ensures.known c.if-not-is_ready.false) in
+    let is : IsFirst reading.tables.now.words.book due row.option c.is_ready.new.cursor.rest c.first-first.result =
+    c.first-first.ensures due row.option c.requires.due row.fits row.at in
     let left = c.is_ready.ensures.has c.if-not-is_ready.false in
     record {
       is_in = c.is_ready.ensures.is_in;
-      holds = holds_passed {c = c.is_ready.new.cursor} {d = c.pass.new.self} c.is_ready.ensures.holds c.first-first.result.len (omega (arith, is.few, left)) c.pass.ensures.used c.pass.ensures.window c.pass.ensures.rest;
+      holds = holds_passed {c = c.is_ready.new.cursor} {d = c.pass.new.self} c.is_ready.ensures.holds c.first-first.result.len (omega (
+        arith,
+        is.few,
+        left,
+      )) c.pass.ensures.used c.pass.ensures.window c.pass.ensures.rest;
       options = c.requires.reading.options;
       rows = c.requires.reading.rows;
     }
@@ -76,7 +95,13 @@ returns-clause-holds g c =
     let reading = c.args.self.now in
     let due = c.args.due in
     let few = few_ones due c.requires.due in
-    let row : RowOption reading.gaggle due c.table_of-table.result = row_option reading.gaggle due c.table_of-table.result c.requires.reading.options few (c.table_of-table.ensures reading.gaggle c.requires.reading.rows) (c.is_ready.ensures.known c.if-not-is_ready.false) in
-    let is : IsFirst reading.tables.now.words.book due row.option c.is_ready.new.cursor.rest c.first-first.result = c.first-first.ensures due row.option c.requires.due row.fits row.at in
+    let row : RowOption reading.gaggle due c.table_of-table.result = row_option reading.gaggle due c.table_of-table.result c.requires.reading.options few
+    (c.table_of-table.ensures reading.gaggle c.requires.reading.rows) (c.is_ready.ensures.known c.if-not-is_ready.false) in
+    let is : IsFirst reading.tables.now.words.book due row.option c.is_ready.new.cursor.rest c.first-first.result =
+    c.first-first.ensures due row.option c.requires.due row.fits row.at in
     let left = c.is_ready.ensures.has c.if-not-is_ready.false in
-    holds_passed {c = c.is_ready.new.cursor} {d = c.pass.new.self} c.is_ready.ensures.holds c.first-first.result.len (omega (arith, is.few, left)) c.pass.ensures.used c.pass.ensures.window c.pass.ensures.rest
+    holds_passed {c = c.is_ready.new.cursor} {d = c.pass.new.self} c.is_ready.ensures.holds c.first-first.result.len (omega (
+      arith,
+      is.few,
+      left,
+    )) c.pass.ensures.used c.pass.ensures.window c.pass.ensures.rest

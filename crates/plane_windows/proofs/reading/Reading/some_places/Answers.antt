@@ -1,4 +1,4 @@
-use Rattle.std.proofs.Common.{◌≡◌, ◌&&◌, ◌==◌, true, false, refl, ◌∙◌, arith}
+use Rattle.std.proofs.Common.{◌≡◌, ◌&&◌, ◌==◌, false, refl, ◌∙◌, arith}
 use Rattle.std.proofs.lemmas.Result.{err_from_is_err_and}
 use Rattle.item_defs.specs.Bits.{bit}
 use Rattle.plane_defs.specs.Steps.{some_one_where}
@@ -14,7 +14,8 @@ pub returns-in_err-places-clause-places : goal.returns-in_err-places-clause-plac
 returns-in_err-places-clause-places g c = λ s f start count are few shown.
     let p = err_from_is_err_and c.from_residual.result c.from_residual.ensures.1 in
     let free = free_if_empty c.args.is_wanted f start count c.args.due few shown c.requires.some in
-    rw (p.1, p.2) (ones_fault c.args.self.now.tables.now.words.book (some_one_where c.args.is_wanted) f start count s free _ (c.in_err-places.ensures.places s f start count are few shown))
+    rw (p.1, p.2) (ones_fault c.args.self.now.tables.now.words.book (some_one_where c.args.is_wanted) f start count s free _
+    (c.in_err-places.ensures.places s f start count are few shown))
 
 pub returns-in_default-clause-places : goal.returns-in_default-clause-places
 returns-in_default-clause-places g c = λ s f start count are few shown.
@@ -44,4 +45,7 @@ returns-clause-places g c = λ s f start count are few shown.
 pub returns-clause-among : goal.returns-clause-among
 returns-clause-among g c =
     let t = rw c.in-Some.is at c.in_ok-places.ensures in
-    among (t.places (any_state c.args.self.now.gaggle) (bit c.args.due) 0 4 (λ n low high. refl) (omega arith) (shows_own c.args.due 4 (omega (arith, c.requires.due)))).are
+    among (t.places (any_state c.args.self.now.gaggle) (bit c.args.due) 0 4 (λ n low high. refl) (omega arith) (shows_own c.args.due 4 (omega (
+      arith,
+      c.requires.due,
+    )))).are

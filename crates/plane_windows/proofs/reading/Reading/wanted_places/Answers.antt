@@ -12,7 +12,8 @@ pub returns-in_err-places-clause-places : goal.returns-in_err-places-clause-plac
 returns-in_err-places-clause-places g c = λ s f forced start count are few shown wanted.
     let p = err_from_is_err_and c.from_residual.result c.from_residual.ensures.1 in
     let check = ones_at (map forced (filter f (span start count))) in
-    rw (p.1, p.2) (ones_fault c.args.self.now.tables.now.words.book check f start count s (none_wanted forced f start count) _ (c.in_err-places.ensures.places s f start count are few shown))
+    rw (p.1, p.2) (ones_fault c.args.self.now.tables.now.words.book check f start count s (none_wanted forced f start count) _
+    (c.in_err-places.ensures.places s f start count are few shown))
 
 pub returns-in_default-clause-places : goal.returns-in_default-clause-places
 returns-in_default-clause-places g c = λ s f forced start count are few shown wanted.
@@ -27,7 +28,8 @@ returns-then-is_any-clause-places g c = λ s f forced start count are few shown 
     let check = ones_at (map forced (filter f (span start count))) in
     let masks = c.except.ensures.told _ _ start count (here_shown forced f start count c.args.due p.word c.in-Some.places few shown p.are) wanted in
     let test = c.is_any.ensures _ start count masks in
-    ones_false c.args.self.now.tables.now.words.book check f start count s (none_wanted forced f start count) p (lacking_is forced f start count c.args.due p.word c.in-Some.places few shown p.are ∙ sym test ∙ c.if-is_any.true)
+    ones_false c.args.self.now.tables.now.words.book check f start count s (none_wanted forced f start count) p
+    (lacking_is forced f start count c.args.due p.word c.in-Some.places few shown p.are ∙ sym test ∙ c.if-is_any.true)
 
 pub returns-clause-places : goal.returns-clause-places
 returns-clause-places g c = λ s f forced start count are few shown wanted.
@@ -36,9 +38,13 @@ returns-clause-places g c = λ s f forced start count are few shown wanted.
     let check = ones_at (map forced (filter f (span start count))) in
     let masks = c.except.ensures.told _ _ start count (here_shown forced f start count c.args.due p.word c.in-Some.places few shown p.are) wanted in
     let test = c.is_any.ensures _ start count masks in
-    ones_given c.args.self.now.tables.now.words.book check f start count s (none_wanted forced f start count) p (lacking_is forced f start count c.args.due p.word c.in-Some.places few shown p.are ∙ sym test ∙ c.if-is_any.false)
+    ones_given c.args.self.now.tables.now.words.book check f start count s (none_wanted forced f start count) p
+    (lacking_is forced f start count c.args.due p.word c.in-Some.places few shown p.are ∙ sym test ∙ c.if-is_any.false)
 
 pub returns-clause-among : goal.returns-clause-among
 returns-clause-among g c =
     let t = rw c.in-Some.is at c.in_ok-places.ensures in
-    among (t.places (any_state c.args.self.now.gaggle) (bit c.args.due) 0 4 (λ n low high. refl) (omega arith) (shows_own c.args.due 4 (omega (arith, c.requires.due)))).are
+    among (t.places (any_state c.args.self.now.gaggle) (bit c.args.due) 0 4 (λ n low high. refl) (omega arith) (shows_own c.args.due 4 (omega (
+      arith,
+      c.requires.due,
+    )))).are
