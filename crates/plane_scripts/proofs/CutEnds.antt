@@ -16,7 +16,7 @@ use Rattle.item_scripts.specs.Following.{Follows}
 use Rattle.item_scripts.proofs.FollowLaws.{follows_around}
 use Rattle.item_scripts.proofs.Giving.{follows_rest}
 use Rattle.plane_scripts.specs.Written.{AreChosen, planes_reading, Shows, low_bits, ShowsDc, AreSendable, Stops}
-use Rattle.plane_scripts.specs.Cuts.{after_stages, cut_block, reach_of, AreCut}
+use Rattle.plane_scripts.specs.Cuts.{after_stages, cut_block, reach_of, after_all, cut_blocks, AreCut}
 use Rattle.plane_scripts.specs.Stages.{Terms}
 use Rattle.plane_scripts.specs.Planes.{PlaneState, nothing_yet, plane_script, number_with, block_with, blocks_with, planes_script}
 use Rattle.plane_scripts.proofs.PlaneSent as sent
@@ -65,7 +65,7 @@ module _ (book : Book) (options : ℕ → ℕ → List ℕ) (chosen : (b g : ℕ
       block_kept b (get_or blocks r []) (long r small) nothing_yet r refl)
 
   -- planes of which nothing is sent leave the blocks
-  silent_end : (below : ℕ) → ((c : ℕ) → c < below → stages c ≡ 0) → (blocks : List (List ℤ)) → Long blocks → (items : List Item) (w : List (List ℤ)) →
+  pub silent_end : (below : ℕ) → ((c : ℕ) → c < below → stages c ≡ 0) → (blocks : List (List ℤ)) → Long blocks → (items : List Item) (w : List (List ℤ)) →
       Follows (Planes below blocks) items w → w ≡ blocks
   silent_end zero none blocks long items w f = sym (done_none (List (List ℤ)) blocks w items f).1
   silent_end (suc b) none blocks long items w f =
@@ -75,11 +75,18 @@ module _ (book : Book) (options : ℕ → ℕ → List ℕ) (chosen : (b g : ℕ
       (subst (λ l. Follows (Planes b l) items w) e
       (subst (λ n. Follows (then_ask (around (blocks_with b blocks) (plane_script t depths blocks n)) (Planes b)) items w) (none b (omega arith)) f))
 
-  pub planes_end : (below : ℕ) (blocks : List (List ℤ)) → length blocks ≡ length values → Related below blocks → (w : List (List ℤ)) →
-      Follows (Planes below blocks) (planes_reading book options values depths weights q stages below) w →
-      ((b : ℕ) → b < below → stages b ≡ 5) ⊎ AreCut weights q values below w
-  planes_end zero blocks long shown w f = inl (λ b lt. absurd (omega (arith, lt)))
-  planes_end (suc b) blocks long shown w f =
+  -- what one plane leaves, and what follows it
+  record Past (b : ℕ) (w : List (List ℤ)) : Type 0 where
+    now : List (List ℤ)
+    size : length now ≡ length values
+    cut : now ≡ cut_blocks weights q values b (after_all (stages b))
+    long : Long now
+    rest : Follows (Planes b now) (planes_reading book options values depths weights q stages b) w
+    next : stages b ≡ 5 → Related b now
+
+  past_plane : (b : ℕ) (blocks : List (List ℤ)) → length blocks ≡ length values → Related (suc b) blocks → (w : List (List ℤ)) →
+      Follows (Planes (suc b) blocks) (planes_reading book options values depths weights q stages (suc b)) w → Past b w
+  past_plane b blocks long shown w f =
       let e : suc b ≡ b + 1 = omega arith in
       let above : Related (b + 1) blocks = λ r. subst (λ n. Shows n (get_or blocks r []) (get_or values r []) ×
       ShowsDc (low_bits weights q n) (get_or blocks r []) (get_or values r [])) e (shown r) in
@@ -88,56 +95,74 @@ module _ (book : Book) (options : ℕ → ℕ → List ℕ) (chosen : (b g : ℕ
       let none = planes.none_of book options chosen values depths weights sendable q stages stops b in
       let x = sent.plane_sent (options b) (chosen b) t depths blocks values same sendable.multiples none (stages b) (stops b).0 in
       let now = blocks_with b blocks x.end in
-      let size : length now ≡ length values = length-map-span (λ r. block_with b (get_or blocks r []) (x.end.blocks r)) (length blocks) ∙ long in
-      let rest : Follows (Planes b now) (planes_reading book options values depths weights q stages b) w =
-      follows_rest (around (blocks_with b blocks) (plane_script t depths blocks (stages b))) (Planes b) _ _ now w
-      (follows_around (blocks_with b blocks) (plane_script t depths blocks (stages b)) _ x.end x.follows) f in
-      by now
-      (cut_here x.end (λ r lt. cuts.at_stage (options b) (chosen b) t depths blocks values same sendable.multiples none (λ r. (above r).0) (λ r. (above r).1)
-      (stages b) r (stops b).0 (x.end.blocks r) (x.is r (let e = sendable.long in omega (arith, e, lt)))))
-      (λ r lt. let g = length-map-span (λ r. block_with b (get_or blocks r []) (x.end.blocks r)) (length blocks) in
-      ap length (get_or-map-span (λ i. block_with b (get_or blocks i []) (x.end.blocks i)) (length blocks) r [] (omega (arith, lt, g))) ∙
-      length-map-span (number_with b (get_or blocks r []) (x.end.blocks r)) 64)
-      rest
-      (λ five. planes_end b now size (planes.next book options chosen values depths weights sendable q stages stops b blocks long above x.end x.is five) w rest)
-      (stops b).1
+      record {
+        now = now;
+        size = length-map-span (λ r. block_with b (get_or blocks r []) (x.end.blocks r)) (length blocks) ∙ long;
+        cut = cut_here x.end (λ r lt. cuts.at_stage (options b) (chosen b) t depths blocks values same sendable.multiples none (λ r. (above r).0)
+            (λ r. (above r).1) (stages b) r (stops b).0 (x.end.blocks r) (x.is r (let e = sendable.long in omega (arith, e, lt))));
+        long = λ r lt. let g = length-map-span (λ r. block_with b (get_or blocks r []) (x.end.blocks r)) (length blocks) in
+            ap length (get_or-map-span (λ i. block_with b (get_or blocks i []) (x.end.blocks i)) (length blocks) r [] (omega (arith, lt, g))) ∙
+            length-map-span (number_with b (get_or blocks r []) (x.end.blocks r)) 64;
+        rest = follows_rest (around (blocks_with b blocks) (plane_script t depths blocks (stages b))) (Planes b) _ _ now w
+            (follows_around (blocks_with b blocks) (plane_script t depths blocks (stages b)) _ x.end x.follows) f;
+        next = λ five. planes.next book options chosen values depths weights sendable q stages stops b blocks long above x.end x.is five;
+      }
     where
-      -- the blocks after the plane
       cut_here : (u : PlaneState) →
           ((r : ℕ) → r < length values →
           block_with b (get_or blocks r []) (u.blocks r) ≡ cut_block weights q (get_or values r []) b (after_stages (stages b))) →
-          AreCut weights q values (suc b) (blocks_with b blocks u)
-      cut_here u each = record {
-        plane = b;
-        inside = omega arith;
-        spot = record { stage = stages b; block = 0; reach = after_stages (stages b) };
-        is =
-            ap (λ n. map (λ r. block_with b (get_or blocks r []) (u.blocks r)) (span 0 n)) long ∙
-            map_same (λ r. block_with b (get_or blocks r []) (u.blocks r)) _ [] (length values)
-            (λ r lt. each r lt ∙ ap (cut_block weights q (get_or values r []) b) (sym (reach r)));
-      }
+          blocks_with b blocks u ≡ cut_blocks weights q values b (after_all (stages b))
+      cut_here u each =
+          ap (λ n. map (λ r. block_with b (get_or blocks r []) (u.blocks r)) (span 0 n)) long ∙
+          map_same (λ r. block_with b (get_or blocks r []) (u.blocks r)) _ [] (length values)
+          (λ r lt. each r lt ∙ ap (cut_block weights q (get_or values r []) b) (sym (reach r)))
         where
           either : {A : Type 0} (x : Bool) (a : A) → (if x then a else a) ≡ a
           either true a = refl
           either false a = refl
 
-          reach : (r : ℕ) → reach_of (record { stage = stages b; block = 0; reach = after_stages (stages b) }) r ≡ after_stages (stages b)
+          reach : (r : ℕ) → reach_of (after_all (stages b)) r ≡ after_stages (stages b)
           reach r =
               let e : nat_lt r 0 ≡ false = grind (arith, nat_tests) in
               ap (λ (x : Bool). if x then after_stages (stages b + 1) else if r == 0 then after_stages (stages b) else after_stages (stages b)) e ∙
               either (r == 0) (after_stages (stages b))
 
-      by : (now : List (List ℤ)) → AreCut weights q values (suc b) now → Long now →
-          Follows (Planes b now) (planes_reading book options values depths weights q stages b) w →
-          (stages b ≡ 5 → ((c : ℕ) → c < b → stages c ≡ 5) ⊎ AreCut weights q values b w) → ((stages b ≡ 5) ⊎ ((c : ℕ) → c < b → stages c ≡ 0)) →
-          ((c : ℕ) → c < suc b → stages c ≡ 5) ⊎ AreCut weights q values (suc b) w
-      by now cut sixty rest more (inl five) = elim (more five) [
+  -- the planes with a stop end with the values, cut there
+  pub planes_stop : (stop : ℕ) → ((b : ℕ) → stop < b → stages b ≡ 5) → ((b : ℕ) → b < stop → stages b ≡ 0) → (below : ℕ) → stop < below →
+      (blocks : List (List ℤ)) → length blocks ≡ length values → Related below blocks → (w : List (List ℤ)) →
+      Follows (Planes below blocks) (planes_reading book options values depths weights q stages below) w →
+      w ≡ cut_blocks weights q values stop (after_all (stages stop))
+  planes_stop stop five none zero lt blocks long shown w f = absurd (omega (arith, lt))
+  planes_stop stop five none (suc b) lt blocks long shown w f =
+      let x = past_plane b blocks long shown w f in
+      elim (cases_lt stop b) [
+        | inl high ↦ planes_stop stop five none b high x.now x.size (x.next (five b high)) w x.rest
+        | inr low ↦
+            let here : b ≡ stop = omega (arith, lt, low) in
+            silent_end b (λ c small. none c (omega (arith, small, here))) x.now x.long (planes_reading book options values depths weights q stages b) w x.rest ∙
+            x.cut ∙ ap (λ c. cut_blocks weights q values c (after_all (stages c))) here
+      ]
+
+  pub planes_end : (below : ℕ) (blocks : List (List ℤ)) → length blocks ≡ length values → Related below blocks → (w : List (List ℤ)) →
+      Follows (Planes below blocks) (planes_reading book options values depths weights q stages below) w →
+      ((b : ℕ) → b < below → stages b ≡ 5) ⊎ AreCut weights q values below w
+  planes_end zero blocks long shown w f = inl (λ b lt. absurd (omega (arith, lt)))
+  planes_end (suc b) blocks long shown w f =
+      let x = past_plane b blocks long shown w f in
+      by x (λ five. planes_end b x.now x.size (x.next five) w x.rest) (stops b).1
+    where
+      by : Past b w → (stages b ≡ 5 → ((c : ℕ) → c < b → stages c ≡ 5) ⊎ AreCut weights q values b w) →
+          ((stages b ≡ 5) ⊎ ((c : ℕ) → c < b → stages c ≡ 0)) → ((c : ℕ) → c < suc b → stages c ≡ 5) ⊎ AreCut weights q values (suc b) w
+      by x more (inl five) = elim (more five) [
         | inl all ↦ inl (λ c lt. elim (cases_lt c b) [
           | inl low ↦ all c low
           | inr high ↦ (let here : b ≡ c = omega (arith, lt, high) in subst (λ j. stages j ≡ 5) here five)
         ])
         | inr c ↦ inr (cuts.wider book options chosen values depths weights sendable q stages stops b (suc b) (omega arith) w c)
       ]
-      by now cut sixty rest more (inr zeros) =
-          inr (subst (AreCut weights q values (suc b))
-          (sym (silent_end b zeros now sixty (planes_reading book options values depths weights q stages b) w rest)) cut)
+      by x more (inr zeros) = inr (record {
+        plane = b;
+        inside = omega arith;
+        spot = after_all (stages b);
+        is = silent_end b zeros x.now x.long (planes_reading book options values depths weights q stages b) w x.rest ∙ x.cut;
+      })

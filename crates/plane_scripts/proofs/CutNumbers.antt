@@ -78,7 +78,8 @@ number_times v plane reach p s part whole =
     let y : Bool = if significant v (plane + 1) p then nat_lt p reach.bits else nat_lt p reach.types in
     let w = part_times (magnitude v p) plane s part whole y in
     let size : unsigned_abs (cut_number v plane reach p) ≡ cut_size v plane reach p =
-    signed_size ((significant v (plane + 1) p || (nat_lt p reach.signs && significant v plane p)) && negative (get_or v p (pos 0))) (cut_size v plane reach p) in
+    signed_size ((significant v (plane + 1) p || (nat_lt p reach.signs && significant v plane p)) && negative (get_or v p (pos 0)))
+    (cut_size v plane reach p) in
     record { part = w.0; is = size ∙ w.1; small = subst (λ n. n ≤ magnitude v p) (sym size) (part_small (magnitude v p) plane s part whole y) }
 
 -- a number of at most this many bits below its sign, rounded down to a multiple of a power of two
@@ -105,7 +106,8 @@ dc_times z low s most le few is = record {
 
     below : (a : ℕ) → a / 2 ^ most ≡ 0 → a / 2 ^ low < 2 ^ (most - low)
     below a e =
-        let lt : a < 2 ^ most = (let f = lt-div-mul-add (pow_pos most) in let g : a < 0 * 2 ^ most + 2 ^ most = subst (λ n. a < n * 2 ^ most + 2 ^ most) e f in omega (arith, g)) in
+        let f : a < 0 * 2 ^ most + 2 ^ most = subst (λ n. a < n * 2 ^ most + 2 ^ most) e (lt-div-mul-add (pow_pos most)) in
+        let lt : a < 2 ^ most = omega (arith, f) in
         shr_below a (most - low) low (subst (λ n. a < 2 ^ n) (let f : most ≡ (most - low) + low = omega (arith, few) in f) lt)
 
     by : (z : ℤ) → (int_shr z most ≡ pos 0) ⊎ (int_shr z most ≡ negsuc 0) → unsigned_abs (int_shr z low) * 2 ^ low ≤ 2 ^ most

@@ -57,6 +57,10 @@ pub record Spot : Type 0 where
 abbrev pub reach_of : Spot → ℕ → Reach
 reach_of spot r = if nat_lt r spot.block then after_stages (spot.stage + 1) else if r == spot.block then spot.reach else after_stages spot.stage
 
+-- after the first stages of all blocks
+abbrev pub after_all : ℕ → Spot
+after_all n = record { stage = n; block = 0; reach = after_stages n }
+
 -- values that are cut there
 abbrev pub cut_blocks : (weights : List ℕ) → (q : ℕ) → List (List ℤ) → (plane : ℕ) → Spot → List (List ℤ)
 cut_blocks weights q values plane spot = map (λ r. cut_block weights q (get_or values r []) plane (reach_of spot r)) (span 0 (length values))

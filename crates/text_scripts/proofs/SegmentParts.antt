@@ -1,5 +1,5 @@
 -- What the items of a segment give of its values, at their end and at each question.
-use Rattle.std.proofs.Common.{◌≡◌, ◌^◌, ◌<◌, ◌≤◌, ℕ, zero, suc, nat_lt, Bool, true, false, cond, if◌then◌else◌, List, [], ◌∷◌, ◌++◌, length, take, refl, ap, sym, ◌∙◌, subst, arith, ℤ, pos, pow_mono, inl, inr, append-nil}
+use Rattle.std.proofs.Common.{◌≡◌, ◌+◌, ◌^◌, ◌<◌, ◌≤◌, ℕ, zero, suc, nat_lt, nat_le, ◌==◌, ◌||◌, Bool, true, false, cond, if◌then◌else◌, List, [], ◌∷◌, ◌++◌, length, take, refl, ap, sym, ◌∙◌, subst, arith, ℤ, pos, pow_mono, inl, inr, append-nil}
 use Rattle.std.specs.Prelude.{replicate}
 use Rattle.std.proofs.lemmas.Bool.Decides.{nat_tests}
 use Rattle.std.proofs.lemmas.List.{length-map}
@@ -23,11 +23,13 @@ use Rattle.number_scripts.specs.Cuts.{parts_of, AreDcsCut}
 use Rattle.number_scripts.specs.Depths.{depths_script}
 use Rattle.number_scripts.specs.DcPart.{dc_script}
 use Rattle.number_scripts.proofs.DcCuts.{dc_gives}
-use Rattle.plane_scripts.specs.Cuts.{AreCut}
+use Rattle.plane_scripts.specs.Written.{planes_reading}
+use Rattle.plane_scripts.specs.Cuts.{after_all, cut_blocks, AreCut}
+use Rattle.plane_scripts.proofs.CutBlocks.{map_same}
 use Rattle.plane_scripts.proofs.CutPlanes.{planes_give}
-use Rattle.plane_scripts.proofs.CutEnds.{planes_end}
+use Rattle.plane_scripts.proofs.CutEnds.{silent_end, planes_stop, planes_end}
 use Rattle.text_scripts.specs.Segments.{dc_blocks, dc_part_script, planes_part_script, segment_script}
-use Rattle.text_scripts.specs.Parts.{AreDeep, IsPart}
+use Rattle.text_scripts.specs.Parts.{AreDeep, IsPart, stopped}
 use Rattle.text_scripts.proofs.AsksItems.{items_parts}
 use Rattle.text_scripts.proofs.SegmentWritten as written
 use Rattle.text_scripts.proofs.SegmentWritten.{stages_stop, planes_are}
@@ -176,3 +178,86 @@ module _ (head : SegmentHead) (is_head : IsHead head) (blocks : List (List ℤ))
               | inr cut ↦ inr (all_deep good.0, inr cut)
             ],
           )
+
+  abbrev Dcs : List (List ℤ)
+  Dcs = dc_blocks head.blocks (λ r. given_part (q_of head) planes (get_or (dcs_of blocks) r (pos 0)))
+
+  abbrev Cut : List (List ℤ)
+  Cut = cut_blocks head.image.weights.shifts (q_of head) blocks head.stop.plane (after_all (head.stop.stage + 2))
+
+  abbrev Whole : List (List ℤ)
+  Whole = if nat_le head.depth_ac head.stop.plane then Dcs else Cut
+
+  -- all items lead to the values, cut at the stop
+  pub segment_whole : AreItems (segment_items head blocks depths options) → Follows S (segment_items head blocks depths options) (stopped head blocks)
+  segment_whole are =
+      let i = segment_items-is head blocks depths options in
+      subst (λ l. Follows S l (stopped head blocks)) (sym i) (by head.stop.dc refl (subst AreItems i are))
+    where
+      only_dcs : first ≡ Dcs
+      only_dcs =
+          let w = written.dcs head is_head blocks depths options p known in
+          written.first_is head is_head blocks depths options p known ∙
+          map_same (λ r. w.0 r ∷ replicate 63 (pos 0)) (λ r. given_part (q_of head) planes (get_or (dcs_of blocks) r (pos 0)) ∷ replicate 63 (pos 0)) []
+          head.blocks (λ r lt. ap (λ z. z ∷ replicate 63 (pos 0)) (w.2 r lt))
+
+      above_stop : (b : ℕ) → head.stop.plane < b → stages_sent head b ≡ 5
+      above_stop b lt =
+          let e : nat_lt head.stop.plane b ≡ true = grind (arith, nat_tests) in
+          ap (λ (x : Bool). if x then 5 else if b == head.stop.plane then head.stop.stage + 2 else 0) e
+
+      below_stop : (b : ℕ) → b < head.stop.plane → stages_sent head b ≡ 0
+      below_stop b lt =
+          let e : nat_lt head.stop.plane b ≡ false = grind (arith, nat_tests) in
+          let f : (b == head.stop.plane) ≡ false = grind (arith, nat_tests) in
+          rw (e, f) refl
+
+      at_stop : stages_sent head head.stop.plane ≡ head.stop.stage + 2
+      at_stop =
+          let e : nat_lt head.stop.plane head.stop.plane ≡ false = grind (arith, nat_tests) in
+          let f : (head.stop.plane == head.stop.plane) ≡ true = same head.stop.plane in
+          ap (λ (x : Bool). if x then 5 else if head.stop.plane == head.stop.plane then head.stop.stage + 2 else 0) e ∙
+          ap (λ (x : Bool). if x then head.stop.stage + 2 else 0) f
+        where
+          same : (n : ℕ) → (n == n) ≡ true
+          same n = grind (arith, nat_tests)
+
+      planes_whole : AreItems E → (x : Bool) → nat_le head.depth_ac head.stop.plane ≡ x →
+          Follows (planes_part_script options.book head first depths) P
+          (if x then Dcs else Cut)
+      planes_whole are x e =
+          let w = written.planes_wrote head is_head blocks depths options p known are in
+          let f = subst (λ l. Follows (planes_part_script options.book head first depths) l w.end)
+          (planes_are head blocks depths options head.depth_ac 0 (omega arith)) w.follows in
+          subst (Follows (planes_part_script options.book head first depths) P) (here x e w.end f) w.follows
+        where
+          here : (x : Bool) → nat_le head.depth_ac head.stop.plane ≡ x → (w : List (List ℤ)) →
+              Follows (planes_part_script options.book head first depths)
+              (planes_reading options.book options.words blocks depths head.image.weights.shifts (q_of head) (stages_sent head) head.depth_ac) w →
+              w ≡ (if x then Dcs else Cut)
+          here true e w f =
+              let le : head.depth_ac ≤ head.stop.plane = grind (arith, nat_tests) in
+              silent_end options.book options.words (λ b g. known.at b g) blocks depths head.image.weights.shifts
+              (record { long = p.depths_all ∙ sym p.blocks_all; multiples = p.multiples; small = p.below }) (q_of head) (stages_sent head)
+              (stages_stop head is_head.stage) head.depth_ac (λ c lt. below_stop c (omega (arith, lt, le))) first
+              (λ r lt. written.first_long head is_head blocks depths options p known r (let g = size in let b = p.blocks_all in omega (arith, lt, g, b)))
+              _ w f ∙ only_dcs
+          here false e w f =
+              let lt : head.stop.plane < head.depth_ac = grind (arith, nat_tests) in
+              planes_stop options.book options.words (λ b g. known.at b g) blocks depths head.image.weights.shifts
+              (record { long = p.depths_all ∙ sym p.blocks_all; multiples = p.multiples; small = p.below }) (q_of head) (stages_sent head)
+              (stages_stop head is_head.stage) head.stop.plane above_stop below_stop head.depth_ac lt first size
+              (written.shown head is_head blocks depths options p known are) w f ∙
+              ap (λ n. cut_blocks head.image.weights.shifts (q_of head) blocks head.stop.plane (after_all n)) at_stop
+
+      by : (x : Bool) → head.stop.dc ≡ x → AreItems (cond x D (D ++ (E ++ P))) →
+          Follows (then_ask (dc_part_script head) (Rest x)) (cond x D (D ++ (E ++ P)))
+          (if x || nat_le head.depth_ac head.stop.plane then Dcs else Cut)
+      by true e are =
+          subst (λ l. Follows (then_ask (dc_part_script head) (Rest true)) l Dcs) (append-nil D)
+          (follows_then (Rest true) (dc_part_script head) D [] first Dcs (written.dc_follows head is_head blocks depths options p known) only_dcs)
+      by false e are =
+          let good = items_parts E P (items_parts D (E ++ P) are).1 in
+          follows_then (Rest false) (dc_part_script head) D (E ++ P) first Whole (written.dc_follows head is_head blocks depths options p known)
+          (follows_then (planes_part_script options.book head first) (beside first (depths_script head.depth_ac head.blocks)) E P depths Whole
+          (written.depths_follow head is_head blocks depths options p known) (planes_whole good.0 (nat_le head.depth_ac head.stop.plane) refl))

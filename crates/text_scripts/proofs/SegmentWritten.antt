@@ -242,7 +242,7 @@ module _ (head : SegmentHead) (is_head : IsHead head) (blocks : List (List ℤ))
           )
 
   -- if all stages are sent, the planes lead to the blocks
-  first_long : (r : ℕ) → r < head.blocks → length (get_or first r []) ≡ 64
+  pub first_long : (r : ℕ) → r < head.blocks → length (get_or first r []) ≡ 64
   unfolding first
   first_long r lt = ap length (get_or-map-span (λ i. dcs.0 i ∷ replicate 63 (pos 0)) head.blocks r [] lt) ∙
       (let e = length-replicate 63 (pos 0) in omega (arith, e))

@@ -12,15 +12,15 @@ use Rattle.segment_defs.specs.SegmentItems.{Options, segment_items}
 use Rattle.text_defs.specs.Fronts.{NothingFollows, RefusalFollows}
 use Rattle.text_defs.specs.Outcomes.{SegmentRefusal, at_item, short_segment, overlong, length_of, bits_read, expected_length, Reading, IsCut, IsTaken, IsOff, IsOffLimit, IsRefusedItem, Holds, Refused}
 use Rattle.item_scripts.specs.Scripts.{Script, run}
-use Rattle.item_scripts.specs.Following.{SaysWhat}
+use Rattle.item_scripts.specs.Following.{Follows, SaysWhat}
 use Rattle.item_scripts.proofs.Giving.{cut_given}
-use Rattle.text_scripts.specs.Parts.{IsPart, AreWeighted}
+use Rattle.text_scripts.specs.Parts.{IsPart, stopped, AreWeighted}
 use Rattle.text_scripts.specs.Segments.{segment_script}
 use Rattle.text_scripts.specs.Outcomes.{Answer, by_length, expected, verdict, text_outcome}
 use Rattle.text_scripts.specs.Laws.{HasAllPlanes, TextsAreRead}
 use Rattle.text_scripts.proofs.SegmentGoes.{segments_are_read}
 use Rattle.text_scripts.proofs.SegmentWritten.{segment_exact, segment_asks}
-use Rattle.text_scripts.proofs.SegmentParts.{segment_gives, segment_part}
+use Rattle.text_scripts.proofs.SegmentParts.{segment_gives, segment_part, segment_whole}
 use Rattle.text_scripts.proofs.TextNumbers.{part_weighted}
 use Rattle.text_scripts.proofs.TextBack.{held_back, name_back}
 
@@ -105,21 +105,17 @@ module _ (head : SegmentHead) (is_head : IsHead head) (rest : List ℕ) (blocks 
       let used : length bits - length more ≡ length (text items) = (let a = ap length read in let b = length-append (text items) more in omega (arith, a, b)) in
       (w.0, ap (verdict head rest) ran ∙ ap (λ n. by_length (length_of head rest) (expected head n) w.0) used, w.2)
 
-  -- all items of a text without a stop
-  exact_read : m ≡ length items → HasAllPlanes head → length_of head rest ≡ expected_length head items → text_outcome options.book head rest ≡ Ok blocks
-  exact_read e no_stop size =
+  -- all items of a text, which lead to these blocks
+  exact_read : (v : Blocks) → m ≡ length items → (AreItems items → Follows S items v) → length_of head rest ≡ expected_length head items →
+      text_outcome options.book head rest ≡ Ok v
+  exact_read v e leads size =
       let same = take_all items m e in
       let are : AreItems items = subst AreItems same all in
       let read : bits ≡ text items ++ more = r.front.read ∙ ap (λ l. text l ++ more) same in
-      let ran = says.is_whole bits more blocks (record {
-        items = items;
-        are = are;
-        read = read;
-        follows = segment_exact head is_head blocks depths options r.spellable r.known are no_stop;
-      }) in
+      let ran = says.is_whole bits more v (record { items = items; are = are; read = read; follows = leads are }) in
       let used : length bits - length more ≡ length (text items) = (let a = ap length read in let b = length-append (text items) more in omega (arith, a, b)) in
-      ap (verdict head rest) ran ∙ ap (λ n. by_length (length_of head rest) (expected head n) blocks) used ∙
-      exact (length_of head rest) (expected_length head items) blocks size
+      ap (verdict head rest) ran ∙ ap (λ n. by_length (length_of head rest) (expected head n) v) used ∙
+      exact (length_of head rest) (expected_length head items) v size
 
   -- an item is cut
   cut_read : NothingFollows items m more → (w : Blocks) × (text_outcome options.book head rest ≡ cut_verdict head rest w) × IsPart head blocks w
@@ -163,12 +159,21 @@ holds_read book head rest w is_head h =
     let t = taken_read head is_head rest h.blocks h.depths h.options h.count h.more h.reading h.is_taken in
     (t.0, ap (λ b. text_outcome b head rest) (sym h.of_book) ∙ t.1, t.2)
 
-exact_reads : (book : Book) (head : SegmentHead) (rest : List ℕ) (w : Blocks) → IsHead head → (h : Holds book head rest w) → HasAllPlanes head →
-    h.count ≡ length (segment_items head h.blocks h.depths h.options) → text_outcome book head rest ≡ Ok h.blocks
-exact_reads book head rest w is_head h no_stop e = ap (λ b. text_outcome b head rest) (sym h.of_book) ∙ elim h.is_taken [
-  | inl a ↦ exact_read head is_head rest h.blocks h.depths h.options h.count h.more h.reading e no_stop a.1
-  | inr c ↦ absurd (let lt = c.0.within in omega (arith, lt, e))
-]
+module _ (book : Book) (head : SegmentHead) (rest : List ℕ) (w : Blocks) (is_head : IsHead head) (h : Holds book head rest w)
+    (all : h.count ≡ length (segment_items head h.blocks h.depths h.options)) where
+  leads_read : (v : Blocks) → (AreItems (segment_items head h.blocks h.depths h.options) →
+      Follows (segment_script h.options.book head) (segment_items head h.blocks h.depths h.options) v) → text_outcome book head rest ≡ Ok v
+  leads_read v leads = ap (λ b. text_outcome b head rest) (sym h.of_book) ∙ elim h.is_taken [
+    | inl a ↦ exact_read head is_head rest h.blocks h.depths h.options h.count h.more h.reading v all leads a.1
+    | inr c ↦ absurd (let lt = c.0.within in omega (arith, lt, all))
+  ]
+
+  exact_reads : HasAllPlanes head → text_outcome book head rest ≡ Ok h.blocks
+  exact_reads no_stop =
+      leads_read h.blocks (λ are. segment_exact head is_head h.blocks h.depths h.options h.reading.spellable h.reading.known are no_stop)
+
+  whole_reads : text_outcome book head rest ≡ Ok (stopped head h.blocks)
+  whole_reads = leads_read (stopped head h.blocks) (segment_whole head is_head h.blocks h.depths h.options h.reading.spellable h.reading.known)
 
 refused_reads : (book : Book) (head : SegmentHead) (rest : List ℕ) (name : SegmentRefusal) → IsHead head → Refused book head rest name →
     text_outcome book head rest ≡ Err name
@@ -195,7 +200,8 @@ numbers_read book sound head rest v is_head e =
 pub texts_are_read : TextsAreRead
 texts_are_read book sound head rest is_head = record {
   holds = λ w h. holds_read book head rest w is_head h;
-  exact = λ w h no_stop e. exact_reads book head rest w is_head h no_stop e;
+  whole = λ w h e. whole_reads book head rest w is_head h e;
+  exact = λ w h no_stop e. exact_reads book head rest w is_head h e no_stop;
   refuses = λ name h. refused_reads book head rest name is_head h;
   held = λ v e. held_back book sound head is_head rest v e;
   refused = λ name e. name_back book sound head is_head rest name e;

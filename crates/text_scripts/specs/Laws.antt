@@ -11,7 +11,7 @@ use Rattle.segment_defs.specs.Head.{IsHead}
 use Rattle.segment_defs.specs.SegmentItems.{segment_items}
 use Rattle.text_defs.specs.Outcomes.{SegmentRefusal, Holds, Refused}
 use Rattle.text_scripts.specs.Segments.{segment_script}
-use Rattle.text_scripts.specs.Parts.{IsPart, AreWeighted}
+use Rattle.text_scripts.specs.Parts.{IsPart, stopped, AreWeighted}
 use Rattle.text_scripts.specs.Outcomes.{text_outcome}
 
 -- there are as many blocks as the head has
@@ -40,7 +40,10 @@ pub record HasAllPlanes (head : SegmentHead) : Type 0 where
 pub record TextReads (book : Book) (head : SegmentHead) (rest : List ℕ) : Type 0 where
   -- whichever values are read in it, the same part of them is given
   pub holds : (w : List (List ℤ)) → (h : Holds book head rest w) → (v : List (List ℤ)) × (text_outcome book head rest ≡ Ok v) × IsPart head h.blocks v
-  -- values of which all items are given are read as they are, if there is no stop
+  -- values of which all items are given are read as far as the stop
+  pub whole : (w : List (List ℤ)) (h : Holds book head rest w) → h.count ≡ length (segment_items head h.blocks h.depths h.options) →
+      text_outcome book head rest ≡ Ok (stopped head h.blocks)
+  -- and as they are, if there is none
   pub exact : (w : List (List ℤ)) (h : Holds book head rest w) → HasAllPlanes head → h.count ≡ length (segment_items head h.blocks h.depths h.options) →
       text_outcome book head rest ≡ Ok h.blocks
   pub refuses : (name : SegmentRefusal) → Refused book head rest name → text_outcome book head rest ≡ Err name

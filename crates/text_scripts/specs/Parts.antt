@@ -1,14 +1,15 @@
 -- The part of its values that a text gives, and the range of what is given. (docs/formats.md, "Stops, cut and fill" and "Reading a
 -- segment"; this project's own.)
-use Rattle.std.specs.Prelude.{◌≡◌, ◌⊎◌, ◌≤◌, ◌<◌, ℕ, ◌^◌, ℤ, pos, ◌*ℤ◌, unsigned_abs, List, [], length}
+use Rattle.std.specs.Prelude.{◌≡◌, ◌⊎◌, ◌≤◌, ◌<◌, ℕ, ◌+◌, ◌^◌, ◌||◌, if◌then◌else◌, nat_le, ℤ, pos, ◌*ℤ◌, unsigned_abs, List, [], length, slice_index_or}
 use lib.ListN.{get_or}
 use Rattle.plane_defs.specs.Sets.{magnitude, shift}
 use Rattle.segment_defs.specs.declared.head.SegmentHead.{SegmentHead}
 use Rattle.segment_defs.specs.Depths.{dcs_of}
 use Rattle.number_defs.specs.DcPart.{dc_planes}
 use Rattle.segment_defs.specs.SegmentItems.{dc_shift, q_of}
+use Rattle.number_scripts.specs.Laws.{given_part}
 use Rattle.number_scripts.specs.Cuts.{AreDcsCut}
-use Rattle.plane_scripts.specs.Cuts.{AreCut}
+use Rattle.plane_scripts.specs.Cuts.{after_all, cut_blocks, AreCut}
 use Rattle.text_scripts.specs.Segments.{dc_blocks}
 
 -- only DC numbers, cut at a place of the DC part
@@ -26,6 +27,14 @@ abbrev pub IsPart : SegmentHead → (values blocks : List (List ℤ)) → Type 0
 IsPart head values blocks =
     HasDcs head values blocks
     ⊎ (AreDeep head values × ((blocks ≡ values) ⊎ AreCut head.image.weights.shifts (q_of head) values head.depth_ac blocks))
+
+-- what a text of which all items are given gives of its values: only the DC numbers of the DC part, or the values, cut at the stop
+abbrev pub stopped : SegmentHead → (values : List (List ℤ)) → List (List ℤ)
+stopped head values =
+    if head.stop.dc || nat_le head.depth_ac head.stop.plane
+    then dc_blocks head.blocks
+    (λ r. given_part (q_of head) (dc_planes head.depth_dc head.depth_ac (dc_shift head)) (slice_index_or (dcs_of values) r (pos 0)))
+    else cut_blocks head.image.weights.shifts (q_of head) values head.stop.plane (after_all (head.stop.stage + 2))
 
 -- a multiple of 2 ^ shift, by at most 2 ^ 27 in magnitude
 pub record IsWeighted (shift : ℕ) (z : ℤ) : Type 0 where
