@@ -1,5 +1,5 @@
 -- What is given within a stage of a block: the types, the signs and the refinement of its values up to some places.
-use Rattle.std.proofs.Common.{◌≡◌, ℕ, zero, suc, ◌+◌, ◌*◌, ◌≤◌, ◌<◌, ◌==◌, ◌&&◌, ◌||◌, not, nat_lt, Bool, true, false, cond, if◌then◌else◌, List, [], ◌∷◌, ◌++◌, length, map, filter, refl, ap, sym, ◌∙◌, subst, arith, append-nil, ℤ, pos, Option, Some, None}
+use Rattle.std.proofs.Common.{◌≡◌, ℕ, zero, suc, ◌+◌, ◌*◌, ◌≤◌, ◌<◌, ◌==◌, ◌&&◌, ◌||◌, not, nat_lt, Bool, true, false, cond, if◌then◌else◌, List, [], ◌∷◌, ◌++◌, length, map, filter, refl, ap, sym, ◌∙◌, subst, arith, append-nil, append_assoc, ℤ, pos, Option, Some, None}
 use Rattle.std.specs.List.{flat_map, list_any}
 use Rattle.std.proofs.lemmas.Bool.Decides.{nat_tests}
 use Rattle.std.proofs.lemmas.List.Concat.{flat_map_single}
@@ -25,7 +25,7 @@ use Rattle.plane_defs.proofs.AlikeSteps.{in_family, in_quad}
 use Rattle.item_scripts.specs.Scripts.{Script, done, ask, then_ask, in_turn, bit_form}
 use Rattle.item_scripts.specs.Following.{Follows}
 use Rattle.item_scripts.specs.Writing.{Writes}
-use Rattle.item_scripts.proofs.Giving.{Gives, Always, gives_always, always_weaker, gives_then, follows_rest}
+use Rattle.item_scripts.proofs.Giving.{GivesAfter, after_weaker, after_then, Gives, Always, gives_always, always_weaker, gives_then, follows_rest}
 use Rattle.plane_scripts.specs.Written.{AreChosen}
 use Rattle.plane_scripts.specs.States.{State, with_options, with_bits, with_minus, and_one, with_families}
 use Rattle.plane_scripts.specs.Words.{option_script, coded_script, due_script, signs_script, types_script, group_script, raw_form, ones}
@@ -62,6 +62,43 @@ give_in_turn book o P Q item steps j (suc n) each b s p =
     (give_then book o (P (suc j)) Q (item j s) (in_turn item (suc j) n) b (steps j) (flat_map steps (span (suc j) n)) here.0 here.1
     (λ t q. give_in_turn book o P Q item steps (suc j) n (λ i c u low high. each i c u (omega (arith, low)) (omega (arith, high)))
     (b ++ entries_of (steps j)) t q))
+
+-- after which items: those of the steps before, and some of the step's own
+pub after_in_turn : {S : Type 0} (book : Book) (o : List ℕ) (P : ℕ → List Entry → S → Type 0) (Q : ℕ → List Item → S → Type 0) (item : ℕ → S → Script S S)
+    (steps : ℕ → List Step) (j n : ℕ) →
+    ((i : ℕ) (b : List Entry) (s : S) → j ≤ i → i < j + n → P i b s →
+    Sends book o (item i s) b (steps i) (P (suc i)) × GivesAfter (item i s) (read_after book o b (steps i)) (Q i)) →
+    (b : List Entry) (s : S) → P j b s → GivesAfter (in_turn item j n s) (read_after book o b (flat_map steps (span j n)))
+    (λ l g. (m : ℕ) × (m < n) × (some : List Item) × (l ≡ read_after book o b (flat_map steps (span j m)) ++ some) × Q (j + m) some g)
+after_in_turn book o P Q item steps j zero each b s p = tt
+after_in_turn {S} book o P Q item steps j (suc n) each b s p =
+    let here = each j b s (omega arith) (omega arith) p in
+    let R : List Item → S → Type 0 = λ l g. (m : ℕ) × (m < suc n) × (some : List Item) ×
+    (l ≡ read_after book o b (flat_map steps (span j m)) ++ some) × Q (j + m) some g in
+    let now = b ++ entries_of (steps j) in
+    let first : j ≡ j + 0 = omega arith in
+    subst (λ l. GivesAfter (in_turn item j (suc n) s) (read_after book o b (flat_map steps l)) R) (span-first j n)
+    (subst (λ l. GivesAfter (in_turn item j (suc n) s) l R) (sym (read_append book o b (steps j) (flat_map steps (span (suc j) n))))
+    (after_then R (item j s) (in_turn item (suc j) n) (read_after book o b (steps j)) (read_after book o now (flat_map steps (span (suc j) n)))
+    here.0.end here.0.follows
+    (after_weaker (Q j) R (λ l g z. (
+      0,
+      omega arith,
+      l,
+      ap (λ x. read_after book o b (flat_map steps x) ++ l) (sym (span-none j)),
+      subst (λ k. Q k l g) first z,
+    )) (item j s) (read_after book o b (steps j)) here.1)
+    (after_weaker _ (λ l. R (read_after book o b (steps j) ++ l)) (λ l g z. (
+      suc z.0,
+      (let lt = z.1 in omega (arith, lt)),
+      z.2,
+      ap (λ x. read_after book o b (steps j) ++ x) z.3 ∙
+          sym (append_assoc (read_after book o b (steps j)) (read_after book o now (flat_map steps (span (suc j) z.0))) z.2) ∙
+          ap (λ x. x ++ z.2) (sym (read_append book o b (steps j) (flat_map steps (span (suc j) z.0))) ∙
+          ap (λ x. read_after book o b (flat_map steps x)) (span-first j z.0)),
+      subst (λ k. Q k z.2 g) (let e : suc j + z.0 ≡ j + suc z.0 = omega arith in e) z.4,
+    )) (in_turn item (suc j) n here.0.end) (read_after book o now (flat_map steps (span (suc j) n)))
+    (after_in_turn book o P Q item steps (suc j) n (λ i c u low high. each i c u (omega (arith, low)) (omega (arith, high))) now here.0.end here.0.is))))
 
 -- ---- words: only options are read before their bits
 

@@ -1,13 +1,18 @@
 -- Values that are cut in a plane: what the text gives of them up to a place in its order. (docs/formats.md, "Bit planes" and "Stops, cut
 -- and fill"; this project's own.)
-use Rattle.std.specs.Prelude.{◌≡◌, ◌<◌, ℕ, zero, suc, ◌+◌, ◌*◌, ◌/◌, ◌^◌, ◌==◌, ◌&&◌, ◌||◌, Bool, true, false, if◌then◌else◌, nat_lt, List, [], length, map, ℤ, pos, ◌*ℤ◌, ◌-ℤ◌}
+use Rattle.std.specs.Prelude.{◌≡◌, ◌<◌, ℕ, zero, suc, ◌+◌, ◌-◌, ◌*◌, ◌/◌, ◌^◌, ◌==◌, ◌&&◌, ◌||◌, Bool, true, false, if◌then◌else◌, nat_lt, List, [], ◌++◌, length, map, ℤ, pos, ◌*ℤ◌, ◌-ℤ◌}
 use Rattle.std.specs.Int.{int_shr}
+use Rattle.std.specs.List.{flat_map}
 use lib.ListN.{get_or}
 use Rattle.item_defs.specs.Bits.{bit}
+use Rattle.item_defs.specs.Items.{Item}
+use Rattle.base_122.specs.declared.book.Book.{Book}
 use Rattle.plane_defs.specs.Spans.{span}
 use Rattle.plane_defs.specs.Sets.{magnitude, significant}
-use Rattle.plane_defs.specs.Entries.{negative}
-use Rattle.plane_scripts.specs.Written.{low_bits}
+use Rattle.plane_defs.specs.Entries.{negative, stage_number}
+use Rattle.plane_defs.specs.Planes.{Plane, before_stage}
+use Rattle.plane_defs.specs.Reading.{steps_of_block, gaggle_reading, plane_reading, read_after}
+use Rattle.plane_scripts.specs.Written.{low_bits, planes_reading}
 
 -- How far a block is given in a plane: whether with the DC's bit, and the places below which types, signs, and bits of numbers that
 -- are significant above are given.
@@ -61,6 +66,15 @@ reach_of spot r = if nat_lt r spot.block then after_stages (spot.stage + 1) else
 abbrev pub after_all : ℕ → Spot
 after_all n = record { stage = n; block = 0; reach = after_stages n }
 
+-- the items of a plane before the spot's stage of its block
+abbrev pub items_before : Book → (ℕ → List ℕ) → Plane → Spot → List Item
+items_before book options p spot =
+    let k = spot.stage in
+    let g = spot.block / 16 in
+    plane_reading book options p k ++
+    (flat_map (gaggle_reading book options p k) (span 0 g) ++
+    read_after book (options g) (before_stage p k g) (flat_map (steps_of_block p (stage_number k)) (span (16 * g) (spot.block - 16 * g))))
+
 -- values that are cut there
 abbrev pub cut_blocks : (weights : List ℕ) → (q : ℕ) → List (List ℤ) → (plane : ℕ) → Spot → List (List ℤ)
 cut_blocks weights q values plane spot = map (λ r. cut_block weights q (get_or values r []) plane (reach_of spot r)) (span 0 (length values))
@@ -71,3 +85,14 @@ pub record AreCut (weights : List ℕ) (q : ℕ) (values : List (List ℤ)) (bel
   pub inside : plane < below
   pub spot : Spot
   pub is : blocks ≡ cut_blocks weights q values plane spot
+
+-- they are cut so after these items: those of the planes above, those before the spot, and some of the spot's own
+pub record CutAfter (book : Book) (options : ℕ → ℕ → List ℕ) (values : List (List ℤ)) (depths weights : List ℕ) (q : ℕ) (stages : ℕ → ℕ) (below : ℕ)
+    (items : List Item) (blocks : List (List ℤ)) : Type 0 where
+  pub cut : AreCut weights q values below blocks
+  pub above : List Item
+  pub from : planes_reading book options values depths weights q stages below ≡
+      above ++ planes_reading book options values depths weights q stages (suc cut.plane)
+  pub some : List Item
+  pub is : items ≡ above ++ (items_before book (options cut.plane)
+      (record { blocks = values; depths = depths; weights = weights; number = cut.plane; q = q }) cut.spot ++ some)

@@ -1,5 +1,5 @@
 -- What the items of a segment give of its values, at their end and at each question.
-use Rattle.std.proofs.Common.{◌≡◌, ◌+◌, ◌^◌, ◌<◌, ◌≤◌, ℕ, zero, suc, nat_lt, nat_le, ◌==◌, ◌||◌, Bool, true, false, cond, if◌then◌else◌, List, [], ◌∷◌, ◌++◌, length, take, refl, ap, sym, ◌∙◌, subst, arith, ℤ, pos, pow_mono, inl, inr, append-nil}
+use Rattle.std.proofs.Common.{◌≡◌, ◌⊎◌, ◌+◌, ◌^◌, ◌<◌, ◌≤◌, ℕ, zero, suc, nat_lt, nat_le, ◌==◌, ◌||◌, Bool, true, false, cond, if◌then◌else◌, List, [], ◌∷◌, ◌++◌, length, take, refl, ap, sym, ◌∙◌, subst, arith, ℤ, pos, pow_mono, inl, inr, append-nil}
 use Rattle.std.specs.Prelude.{replicate}
 use Rattle.std.proofs.lemmas.Bool.Decides.{nat_tests}
 use Rattle.std.proofs.lemmas.List.{length-map}
@@ -17,43 +17,43 @@ use Rattle.text_defs.specs.Spellable.{IsSpellable, AreWordOptions}
 use Rattle.item_scripts.specs.Scripts.{Script, done, ask, then_ask, beside}
 use Rattle.item_scripts.specs.Following.{Follows}
 use Rattle.item_scripts.proofs.FollowLaws.{follows_then}
-use Rattle.item_scripts.proofs.Giving.{Gives, gives_weaker, gives_around, gives_beside}
+use Rattle.item_scripts.proofs.Giving.{gives_around, GivesAfter, IsFirst, after_weaker, after_of, after_beside}
 use Rattle.number_scripts.specs.Laws.{given_part}
 use Rattle.number_scripts.specs.Cuts.{parts_of, AreDcsCut}
 use Rattle.number_scripts.specs.Depths.{depths_script}
 use Rattle.number_scripts.specs.DcPart.{dc_script}
 use Rattle.number_scripts.proofs.DcCuts.{dc_gives}
 use Rattle.plane_scripts.specs.Written.{planes_reading}
-use Rattle.plane_scripts.specs.Cuts.{after_all, cut_blocks, AreCut}
+use Rattle.plane_scripts.specs.Cuts.{after_all, cut_blocks, CutAfter}
 use Rattle.plane_scripts.proofs.CutBlocks.{map_same}
 use Rattle.plane_scripts.proofs.CutPlanes.{planes_give}
 use Rattle.plane_scripts.proofs.CutEnds.{silent_end, planes_stop, planes_end}
 use Rattle.text_scripts.specs.Segments.{dc_blocks, dc_part_script, planes_part_script, segment_script}
-use Rattle.text_scripts.specs.Parts.{AreDeep, IsPart, stopped}
+use Rattle.text_scripts.specs.Parts.{HasDcs, AreDeep, HasPlanes, IsPart, stopped}
 use Rattle.text_scripts.proofs.AsksItems.{items_parts}
 use Rattle.text_scripts.proofs.SegmentWritten as written
 use Rattle.text_scripts.proofs.SegmentWritten.{stages_stop, planes_are}
 
 -- ---- what is given along the first items, if none of them is refused
 
-abbrev pub GivesAll : {G A : Type 0} → Script G A → List Item → (G → Type 0) → Type 0
-GivesAll s items Q = (m : ℕ) → m ≤ length items → AreItems (take m items) → Gives s (take m items) Q
+abbrev pub GivesAll : {G A : Type 0} → Script G A → List Item → (List Item → G → Type 0) → Type 0
+GivesAll s items Q = (m : ℕ) → m ≤ length items → AreItems (take m items) → GivesAfter s (take m items) Q
 
-gives_all : {G A : Type 0} (Q : G → Type 0) (s : Script G A) (items : List Item) → Gives s items Q → GivesAll s items Q
+gives_all : {G A : Type 0} (Q : List Item → G → Type 0) (s : Script G A) (items : List Item) → GivesAfter s items Q → GivesAll s items Q
 gives_all Q (done a) items p m le are = tt
 gives_all Q (ask g form more) [] p zero le are = p
 gives_all Q (ask g form more) [] p (suc m) le are = p
 gives_all Q (ask g form more) (i ∷ is) p zero le are = p.0
-gives_all Q (ask g form more) (i ∷ is) p (suc m) le are = (p.0, gives_all Q (more i.said) is p.1 m (omega (arith, le)) are.1)
+gives_all Q (ask g form more) (i ∷ is) p (suc m) le are = (p.0, gives_all (λ l. Q (i ∷ l)) (more i.said) is p.1 m (omega (arith, le)) are.1)
 
-gives_all_then : {G A B : Type 0} (Q : G → Type 0) (s : Script G A) (next : A → Script G B) (xs ys : List Item) (a : A) → Follows s xs a → Gives s xs Q →
-    (AreItems xs → GivesAll (next a) ys Q) → GivesAll (then_ask s next) (xs ++ ys) Q
-gives_all_then Q (done c) next [] ys a f p more m le are = subst (λ x. Gives (next x) (take m ys) Q) (sym f) (more tt m le are)
+gives_all_then : {G A B : Type 0} (Q : List Item → G → Type 0) (s : Script G A) (next : A → Script G B) (xs ys : List Item) (a : A) → Follows s xs a →
+    GivesAfter s xs Q → (AreItems xs → GivesAll (next a) ys (λ l. Q (xs ++ l))) → GivesAll (then_ask s next) (xs ++ ys) Q
+gives_all_then Q (done c) next [] ys a f p more m le are = subst (λ x. GivesAfter (next x) (take m ys) Q) (sym f) (more tt m le are)
 gives_all_then Q (done c) next (x ∷ xs) ys a f p more m le are = absurd f
 gives_all_then Q (ask g form now) next [] ys a f p more m le are = absurd f
 gives_all_then Q (ask g form now) next (x ∷ xs) ys a f p more zero le are = p.0
 gives_all_then Q (ask g form now) next (x ∷ xs) ys a f p more (suc m) le are =
-    (p.0, gives_all_then Q (now x.said) next xs ys a f.1 p.1 (λ all. more (are.0, all)) m (omega (arith, le)) are.1)
+    (p.0, gives_all_then (λ l. Q (x ∷ l)) (now x.said) next xs ys a f.1 p.1 (λ all. more (are.0, all)) m (omega (arith, le)) are.1)
 
 module _ (head : SegmentHead) (is_head : IsHead head) (blocks : List (List ℤ)) (depths : List ℕ) (options : Options) (p : IsSpellable head blocks depths)
     (known : AreWordOptions options) where
@@ -82,10 +82,10 @@ module _ (head : SegmentHead) (is_head : IsHead head) (blocks : List (List ℤ))
   abbrev planes : ℕ
   planes = dc_planes head.depth_dc head.depth_ac (dc_shift head)
 
-  first_part : Part first
-  first_part =
+  first_dcs : HasDcs head blocks first
+  first_dcs =
       let w = written.dcs head is_head blocks depths options p known in
-      inl (record {
+      record {
         dcs = w.0;
         cut = record {
           spot = record { parts = planes; blocks = head.blocks };
@@ -93,19 +93,29 @@ module _ (head : SegmentHead) (is_head : IsHead head) (blocks : List (List ℤ))
           is = λ r lt. w.2 r lt ∙ all r lt (get_or (dcs_of blocks) r (pos 0));
         };
         is = written.first_is head is_head blocks depths options p known;
-      })
+      }
     where
       all : (r : ℕ) → r < head.blocks → (z : ℤ) →
           given_part (q_of head) planes z ≡ parts_of (q_of head) (if nat_lt r head.blocks then suc planes else planes) z
       all r lt z = let e : nat_lt r head.blocks ≡ true = grind (arith, nat_tests) in
           ap (λ (x : Bool). parts_of (q_of head) (if x then suc planes else planes) z) (sym e)
 
-  dcs_give : Gives (dc_part_script head) D Part
+  -- what is given after these items
+  abbrev There : List Item → List (List ℤ) → Type 0
+  There l g = HasDcs head blocks g ⊎ (AreDeep head blocks × HasPlanes head blocks depths options l g)
+
+  pub there_part : (l : List Item) (g : List (List ℤ)) → There l g → Part g
+  there_part l g (inl d) = inl d
+  there_part l g (inr z) = inr (z.0, inr z.1.after.cut)
+
+  dcs_give : GivesAfter (dc_part_script head) D There
   dcs_give =
-      gives_around (AreDcsCut (q_of head) planes head.blocks (dcs_of blocks)) Part (dc_blocks head.blocks)
-      (λ d z. inl (record { dcs = d; cut = z; is = refl }))
+      after_weaker (λ l g. IsFirst l D × HasDcs head blocks g) There (λ l g z. inl z.1) (dc_part_script head) D
+      (after_of (HasDcs head blocks) (dc_part_script head) D
+      (gives_around (AreDcsCut (q_of head) planes head.blocks (dcs_of blocks)) (HasDcs head blocks) (dc_blocks head.blocks)
+      (λ d z. record { dcs = d; cut = z; is = refl })
       (dc_script head.depth_dc head.depth_ac (dc_shift head) head.blocks) D
-      (dc_gives head.depth_dc head.depth_ac (dc_shift head) head.blocks (dcs_of blocks) options.dcs (length-map blocks dc_of ∙ p.blocks_all) p.dcs_fit)
+      (dc_gives head.depth_dc head.depth_ac (dc_shift head) head.blocks (dcs_of blocks) options.dcs (length-map blocks dc_of ∙ p.blocks_all) p.dcs_fit)))
 
   -- the planes
   size : length first ≡ length blocks
@@ -119,11 +129,12 @@ module _ (head : SegmentHead) (is_head : IsHead head) (blocks : List (List ℤ))
       let lt = p.below r k low in
       omega (arith, lt, le)
 
-  planes_part_give : AreItems E → Gives (planes_part_script options.book head first depths) P Part
+  planes_part_give : AreItems E → GivesAfter (planes_part_script options.book head first depths) P (λ l. There (D ++ (E ++ l)))
   planes_part_give are =
-      gives_weaker (AreCut head.image.weights.shifts (q_of head) blocks head.depth_ac) Part (λ g z. inr (all_deep are, inr z))
+      let cut = CutAfter options.book options.words blocks depths head.image.weights.shifts (q_of head) (stages_sent head) head.depth_ac in
+      after_weaker cut (λ l. There (D ++ (E ++ l))) (λ l g z. inr (all_deep are, record { planes = l; after = z; is = refl }))
       (planes_part_script options.book head first depths) P
-      (subst (λ l. Gives (planes_part_script options.book head first depths) l (AreCut head.image.weights.shifts (q_of head) blocks head.depth_ac))
+      (subst (λ l. GivesAfter (planes_part_script options.book head first depths) l cut)
       (sym (planes_are head blocks depths options head.depth_ac 0 (omega arith)))
       (planes_give options.book options.words (λ b g. known.at b g) blocks depths head.image.weights.shifts
       (record { long = p.depths_all ∙ sym p.blocks_all; multiples = p.multiples; small = p.below }) (q_of head) (stages_sent head)
@@ -132,19 +143,21 @@ module _ (head : SegmentHead) (is_head : IsHead head) (blocks : List (List ℤ))
   -- ---- the whole segment
 
   -- at each question
-  pub segment_gives : GivesAll S (segment_items head blocks depths options) Part
-  segment_gives = subst (λ l. GivesAll S l Part) (sym (segment_items-is head blocks depths options)) (by head.stop.dc)
+  pub segment_gives : GivesAll S (segment_items head blocks depths options) There
+  segment_gives = subst (λ l. GivesAll S l There) (sym (segment_items-is head blocks depths options)) (by head.stop.dc)
     where
-      by : (x : Bool) → GivesAll (then_ask (dc_part_script head) (Rest x)) (cond x D (D ++ (E ++ P))) Part
-      by true = subst (λ l. GivesAll (then_ask (dc_part_script head) (Rest true)) l Part) (append-nil D)
-          (gives_all_then Part (dc_part_script head) (Rest true) D [] first (written.dc_follows head is_head blocks depths options p known) dcs_give
+      by : (x : Bool) → GivesAll (then_ask (dc_part_script head) (Rest x)) (cond x D (D ++ (E ++ P))) There
+      by true = subst (λ l. GivesAll (then_ask (dc_part_script head) (Rest true)) l There) (append-nil D)
+          (gives_all_then There (dc_part_script head) (Rest true) D [] first (written.dc_follows head is_head blocks depths options p known) dcs_give
           (λ are m le all. tt))
       by false =
-          gives_all_then Part (dc_part_script head) (Rest false) D (E ++ P) first (written.dc_follows head is_head blocks depths options p known) dcs_give
+          gives_all_then There (dc_part_script head) (Rest false) D (E ++ P) first (written.dc_follows head is_head blocks depths options p known) dcs_give
           (λ good.
-          gives_all_then Part (beside first (depths_script head.depth_ac head.blocks)) (planes_part_script options.book head first) E P depths
-          (written.depths_follow head is_head blocks depths options p known) (gives_beside Part first first_part (depths_script head.depth_ac head.blocks) E)
-          (λ are. gives_all Part (planes_part_script options.book head first depths) P (planes_part_give are)))
+          gives_all_then (λ l. There (D ++ l)) (beside first (depths_script head.depth_ac head.blocks)) (planes_part_script options.book head first) E P depths
+          (written.depths_follow head is_head blocks depths options p known)
+          (after_weaker (λ l. HasDcs head blocks) (λ l. There (D ++ l)) (λ l g z. inl z) (beside first (depths_script head.depth_ac head.blocks)) E
+          (after_beside (HasDcs head blocks) first first_dcs (depths_script head.depth_ac head.blocks) E))
+          (λ are. gives_all (λ l. There (D ++ (E ++ l))) (planes_part_script options.book head first depths) P (planes_part_give are)))
 
   -- at the end
   pub segment_part : AreItems (segment_items head blocks depths options) → (w : List (List ℤ)) × Follows S (segment_items head blocks depths options) w × Part w
@@ -159,7 +172,7 @@ module _ (head : SegmentHead) (is_head : IsHead head) (blocks : List (List ℤ))
         first,
         subst (λ l. Follows (then_ask (dc_part_script head) (Rest true)) l first) (append-nil D)
             (follows_then (Rest true) (dc_part_script head) D [] first first (written.dc_follows head is_head blocks depths options p known) refl),
-        first_part,
+        inl first_dcs,
       )
       by false are =
           let good = items_parts E P (items_parts D (E ++ P) are).1 in

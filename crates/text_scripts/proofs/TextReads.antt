@@ -1,5 +1,5 @@
 -- A text that holds values, or is refused, is read so.
-use Rattle.std.proofs.Common.{◌≡◌, ◌≢◌, ◌⊎◌, ℕ, ◌-◌, ◌==◌, nat_lt, Bool, true, false, if◌then◌else◌, List, [], ◌∷◌, ◌++◌, length, take, refl, ap, sym, ◌∙◌, subst, arith, ℤ, inl, inr, length-append}
+use Rattle.std.proofs.Common.{◌≡◌, ◌≢◌, ◌⊎◌, ◌<◌, ℕ, ◌-◌, ◌==◌, nat_lt, Bool, true, false, if◌then◌else◌, List, [], ◌∷◌, ◌++◌, length, take, refl, ap, sym, ◌∙◌, subst, arith, ℤ, inl, inr, length-append}
 use Rattle.std.specs.Prelude.{Ok, Err}
 use Rattle.std.proofs.lemmas.Bool.Decides.{nat_tests}
 use Rattle.item_defs.specs.Items.{Item, Refusal, text}
@@ -13,14 +13,14 @@ use Rattle.text_defs.specs.Fronts.{NothingFollows, RefusalFollows}
 use Rattle.text_defs.specs.Outcomes.{SegmentRefusal, at_item, short_segment, overlong, length_of, bits_read, expected_length, Reading, IsCut, IsTaken, IsOff, IsOffLimit, IsRefusedItem, Holds, Refused}
 use Rattle.item_scripts.specs.Scripts.{Script, run}
 use Rattle.item_scripts.specs.Following.{Follows, SaysWhat}
-use Rattle.item_scripts.proofs.Giving.{cut_given}
-use Rattle.text_scripts.specs.Parts.{IsPart, stopped, AreWeighted}
+use Rattle.item_scripts.proofs.Giving.{cut_after}
+use Rattle.text_scripts.specs.Parts.{HasDcs, AreDeep, HasPlanes, IsPart, stopped, AreWeighted}
 use Rattle.text_scripts.specs.Segments.{segment_script}
 use Rattle.text_scripts.specs.Outcomes.{Answer, by_length, expected, verdict, text_outcome}
 use Rattle.text_scripts.specs.Laws.{HasAllPlanes, TextsAreRead}
 use Rattle.text_scripts.proofs.SegmentGoes.{segments_are_read}
 use Rattle.text_scripts.proofs.SegmentWritten.{segment_exact, segment_asks}
-use Rattle.text_scripts.proofs.SegmentParts.{segment_gives, segment_part, segment_whole}
+use Rattle.text_scripts.proofs.SegmentParts.{there_part, segment_gives, segment_part, segment_whole}
 use Rattle.text_scripts.proofs.TextNumbers.{part_weighted}
 use Rattle.text_scripts.proofs.TextBack.{held_back, name_back}
 
@@ -118,12 +118,19 @@ module _ (head : SegmentHead) (is_head : IsHead head) (rest : List ℕ) (blocks 
       exact (length_of head rest) (expected_length head items) v size
 
   -- an item is cut
-  cut_read : NothingFollows items m more → (w : Blocks) × (text_outcome options.book head rest ≡ cut_verdict head rest w) × IsPart head blocks w
-  cut_read c =
-      let ran = cut_given (IsPart head blocks) S (take m items) (item_at items m).form more all
+  there_read : NothingFollows items m more → (w : Blocks) × (text_outcome options.book head rest ≡ cut_verdict head rest w) ×
+      (HasDcs head blocks w ⊎ (AreDeep head blocks × HasPlanes head blocks depths options (take m items) w))
+  there_read c =
+      let ran = cut_after (λ l g. HasDcs head blocks g ⊎ (AreDeep head blocks × HasPlanes head blocks depths options l g)) S (take m items)
+      (item_at items m).form more all
       (segment_asks head is_head blocks depths options r.spellable r.known m c.within all) c.lacks
       (segment_gives head is_head blocks depths options r.spellable r.known m (let lt = c.within in omega (arith, lt)) all) in
       (ran.0, ap (λ b. verdict head rest (run S b)) r.front.read ∙ ap (verdict head rest) ran.1, ran.2)
+
+  cut_read : NothingFollows items m more → (w : Blocks) × (text_outcome options.book head rest ≡ cut_verdict head rest w) × IsPart head blocks w
+  cut_read c =
+      let z = there_read c in
+      (z.0, z.1, there_part head is_head blocks depths options r.spellable r.known (take m items) z.0 z.2)
 
   -- an item is refused
   refused_read : (name : Refusal) → RefusalFollows items m more name → text_outcome options.book head rest ≡ Err (at_item name)
@@ -175,6 +182,22 @@ module _ (book : Book) (head : SegmentHead) (rest : List ℕ) (w : Blocks) (is_h
   whole_reads : text_outcome book head rest ≡ Ok (stopped head h.blocks)
   whole_reads = leads_read (stopped head h.blocks) (segment_whole head is_head h.blocks h.depths h.options h.reading.spellable h.reading.known)
 
+there_reads : (book : Book) (head : SegmentHead) (rest : List ℕ) (w : Blocks) → IsHead head → (h : Holds book head rest w) →
+    h.count < length (segment_items head h.blocks h.depths h.options) → (v : Blocks) × (text_outcome book head rest ≡ Ok v) ×
+    (HasDcs head h.blocks v ⊎ HasPlanes head h.blocks h.depths h.options (take h.count (segment_items head h.blocks h.depths h.options)) v)
+there_reads book head rest w is_head h lt = elim h.is_taken [
+  | inl a ↦ absurd (let e = a.0 in omega (arith, e, lt))
+  | inr c ↦
+      (let z = there_read head is_head rest h.blocks h.depths h.options h.count h.more h.reading c.0 in (
+        z.0,
+        ap (λ b. text_outcome b head rest) (sym h.of_book) ∙ z.1 ∙ cut_full head rest z.0 c.1,
+        elim z.2 [
+          | inl d ↦ inl d
+          | inr x ↦ inr x.1
+        ],
+      ))
+]
+
 refused_reads : (book : Book) (head : SegmentHead) (rest : List ℕ) (name : SegmentRefusal) → IsHead head → Refused book head rest name →
     text_outcome book head rest ≡ Err name
 refused_reads book head rest name is_head h =
@@ -202,6 +225,7 @@ texts_are_read book sound head rest is_head = record {
   holds = λ w h. holds_read book head rest w is_head h;
   whole = λ w h e. whole_reads book head rest w is_head h e;
   exact = λ w h no_stop e. exact_reads book head rest w is_head h e no_stop;
+  there = λ w h lt. there_reads book head rest w is_head h lt;
   refuses = λ name h. refused_reads book head rest name is_head h;
   held = λ v e. held_back book sound head is_head rest v e;
   refused = λ name e. name_back book sound head is_head rest name e;

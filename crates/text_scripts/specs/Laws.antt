@@ -1,5 +1,5 @@
 -- The laws of coded segments, as they are read.
-use Rattle.std.specs.Prelude.{◌≡◌, ◌⊎◌, ℕ, List, length, true, false, ℤ, Ok, Err}
+use Rattle.std.specs.Prelude.{◌≡◌, ◌⊎◌, ◌<◌, ℕ, List, length, take, true, false, ℤ, Ok, Err}
 use Rattle.item_defs.specs.Items.{Form, Item}
 use Rattle.item_defs.specs.Readings.{AreItems}
 use Rattle.base_122.specs.declared.book.Book.{Book}
@@ -11,7 +11,7 @@ use Rattle.segment_defs.specs.Head.{IsHead}
 use Rattle.segment_defs.specs.SegmentItems.{segment_items}
 use Rattle.text_defs.specs.Outcomes.{SegmentRefusal, Holds, Refused}
 use Rattle.text_scripts.specs.Segments.{segment_script}
-use Rattle.text_scripts.specs.Parts.{IsPart, stopped, AreWeighted}
+use Rattle.text_scripts.specs.Parts.{HasDcs, HasPlanes, IsPart, stopped, AreWeighted}
 use Rattle.text_scripts.specs.Outcomes.{text_outcome}
 
 -- there are as many blocks as the head has
@@ -46,6 +46,10 @@ pub record TextReads (book : Book) (head : SegmentHead) (rest : List ℕ) : Type
   -- and as they are, if there is none
   pub exact : (w : List (List ℤ)) (h : Holds book head rest w) → HasAllPlanes head → h.count ≡ length (segment_items head h.blocks h.depths h.options) →
       text_outcome book head rest ≡ Ok h.blocks
+  -- if an item is cut, the DC numbers of those before it are given, or the values up to its place
+  pub there : (w : List (List ℤ)) (h : Holds book head rest w) → h.count < length (segment_items head h.blocks h.depths h.options) →
+      (v : List (List ℤ)) × (text_outcome book head rest ≡ Ok v) ×
+      (HasDcs head h.blocks v ⊎ HasPlanes head h.blocks h.depths h.options (take h.count (segment_items head h.blocks h.depths h.options)) v)
   pub refuses : (name : SegmentRefusal) → Refused book head rest name → text_outcome book head rest ≡ Err name
   pub held : (v : List (List ℤ)) → text_outcome book head rest ≡ Ok v → (w : List (List ℤ)) × Holds book head rest w
   pub refused : (name : SegmentRefusal) → text_outcome book head rest ≡ Err name → Refused book head rest name

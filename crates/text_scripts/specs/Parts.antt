@@ -1,15 +1,17 @@
 -- The part of its values that a text gives, and the range of what is given. (docs/formats.md, "Stops, cut and fill" and "Reading a
 -- segment"; this project's own.)
-use Rattle.std.specs.Prelude.{◌≡◌, ◌⊎◌, ◌≤◌, ◌<◌, ℕ, ◌+◌, ◌^◌, ◌||◌, if◌then◌else◌, nat_le, ℤ, pos, ◌*ℤ◌, unsigned_abs, List, [], length, slice_index_or}
+use Rattle.std.specs.Prelude.{◌≡◌, ◌⊎◌, ◌≤◌, ◌<◌, ℕ, ◌+◌, ◌^◌, ◌||◌, if◌then◌else◌, nat_le, ℤ, pos, ◌*ℤ◌, unsigned_abs, List, [], ◌++◌, length, slice_index_or}
 use lib.ListN.{get_or}
 use Rattle.plane_defs.specs.Sets.{magnitude, shift}
 use Rattle.segment_defs.specs.declared.head.SegmentHead.{SegmentHead}
 use Rattle.segment_defs.specs.Depths.{dcs_of}
 use Rattle.number_defs.specs.DcPart.{dc_planes}
-use Rattle.segment_defs.specs.SegmentItems.{dc_shift, q_of}
+use Rattle.item_defs.specs.Items.{Item}
+use Rattle.number_defs.specs.Depths.{depth_items}
+use Rattle.segment_defs.specs.SegmentItems.{Options, dc_shift, q_of, stages_sent, dc_part_items}
 use Rattle.number_scripts.specs.Laws.{given_part}
 use Rattle.number_scripts.specs.Cuts.{AreDcsCut}
-use Rattle.plane_scripts.specs.Cuts.{after_all, cut_blocks, AreCut}
+use Rattle.plane_scripts.specs.Cuts.{after_all, cut_blocks, AreCut, CutAfter}
 use Rattle.text_scripts.specs.Segments.{dc_blocks}
 
 -- only DC numbers, cut at a place of the DC part
@@ -21,6 +23,13 @@ pub record HasDcs (head : SegmentHead) (values blocks : List (List ℤ)) : Type 
 -- all AC magnitudes are below 2 ^ BitDepthAC
 abbrev pub AreDeep : SegmentHead → List (List ℤ) → Type 0
 AreDeep head values = (r p : ℕ) → 1 ≤ p → magnitude (get_or values r []) p < 2 ^ head.depth_ac
+
+-- the values, cut in the bit planes after these items of the text
+pub record HasPlanes (head : SegmentHead) (values : List (List ℤ)) (depths : List ℕ) (options : Options) (items : List Item)
+    (blocks : List (List ℤ)) : Type 0 where
+  pub planes : List Item
+  pub after : CutAfter options.book options.words values depths head.image.weights.shifts (q_of head) (stages_sent head) head.depth_ac planes blocks
+  pub is : items ≡ dc_part_items head values options ++ (depth_items head.depth_ac depths options.depths ++ planes)
 
 -- only DC numbers; or all numbers, or those that are cut at a place of the bit planes
 abbrev pub IsPart : SegmentHead → (values blocks : List (List ℤ)) → Type 0
