@@ -1,2 +1,15 @@
 mod BlocksHeld
 mod StartReads
+mod EndOctets
+mod Deciding
+mod AnswerLaws
+mod BoundedScripts
+mod BoundedNumbers
+mod BoundedPlanes
+mod BoundedTexts
+mod OutcomesAgree
+mod WorkedRead
+mod TakenOctets
+mod ItemsDecoded
+mod FromText
+mod Joined

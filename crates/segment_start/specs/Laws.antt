@@ -1,0 +1,33 @@
+-- The laws of what octets after a head hold.
+use Rattle.std.specs.Prelude.{◌≡◌, ◌<◌, ◌≤◌, ℕ, true, ◌==◌, if◌then◌else◌, List, ◌++◌, length, Option, Some, None, Ok, Err}
+use Rattle.base_122.specs.declared.book.Book.{Book}
+use Rattle.plane_defs.specs.Codes.{is_book_sound}
+use Rattle.segment_defs.specs.declared.head.SegmentHead.{SegmentHead}
+use Rattle.segment_defs.specs.Head.{IsHead, head_length}
+use Rattle.text_defs.specs.Outcomes.{at_item, short_segment, overlong}
+use Rattle.text_scripts.specs.Outcomes.{Answer, text_outcome}
+use Rattle.segment_start.specs.TextAnswers.{TextAnswer, gives, refuses, Decided, answer_in}
+
+-- octets that decide an answer are there, more octets do not change it, and fewer decide nothing
+pub record EndsThere (book : Book) (head : SegmentHead) (size : ℕ) : Type 0 where
+  pub enough : (rest : List ℕ) (d : Decided) → answer_in book head size rest ≡ Some d → d.octets ≤ length rest
+  pub stays : (rest more : List ℕ) (d : Decided) → answer_in book head size rest ≡ Some d → answer_in book head size (rest ++ more) ≡ Some d
+  pub least : (rest more : List ℕ) (d : Decided) → answer_in book head size (rest ++ more) ≡ Some d → length rest < d.octets →
+      answer_in book head size rest ≡ None
+
+abbrev pub TextsEndThere : Type 0
+TextsEndThere = (book : Book) → is_book_sound book ≡ true → (head : SegmentHead) (size : ℕ) → IsHead head → size ≤ 20 → EndsThere book head size
+
+-- what a text of this number of octets holds if some of them decide this answer
+abbrev pub by_answer : (octets count : ℕ) → TextAnswer → Answer
+by_answer octets count (gives part w) = if count == octets then Ok w else Err overlong
+by_answer octets count (refuses name) = Err (at_item name)
+
+abbrev pub with_end : (octets : ℕ) → Option Decided → Answer
+with_end octets (Some d) = by_answer octets d.octets d.answer
+with_end octets None = Err short_segment
+
+-- a text with its end holds what its octets hold, if it ends with them
+abbrev pub OutcomesAgree : Type 0
+OutcomesAgree = (book : Book) (head : SegmentHead) (rest : List ℕ) → IsHead head →
+    text_outcome book head rest ≡ with_end (length rest) (answer_in book head (head_length head) rest)

@@ -1,0 +1,22 @@
+// What some octets hold, and the laws of what octets after a head hold.
+ghost use Rattle.segment_start.specs.Laws.{TextsEndThere, OutcomesAgree};
+ghost use Rattle.segment_start.specs.Worked.{WorkedAnswers};
+
+use text_scripts::segments_are_read;
+
+/// Octets of coded segments that are worked out by hand hold what they should.
+pub const fn worked_answers()
+    ensures { WorkedAnswers }
+{}
+
+/// Octets that decide what a text holds decide it whatever follows, and fewer decide nothing.
+pub const fn texts_end_there()
+    ensures { TextsEndThere }
+{
+    segments_are_read();
+}
+
+/// A text with its end holds what its octets hold, if it ends with them.
+pub const fn outcomes_agree()
+    ensures { OutcomesAgree }
+{}
