@@ -13,3 +13,4 @@ mod TakenOctets
 mod ItemsDecoded
 mod FromText
 mod Joined
+mod EndsSay

@@ -1,12 +1,15 @@
 -- The laws of what octets after a head hold.
-use Rattle.std.specs.Prelude.{◌≡◌, ◌<◌, ◌≤◌, ℕ, true, ◌==◌, if◌then◌else◌, List, ◌++◌, length, Option, Some, None, Ok, Err}
+use Rattle.std.specs.Prelude.{◌≡◌, ◌<◌, ◌≤◌, ℕ, ℤ, true, ◌==◌, if◌then◌else◌, List, ◌++◌, length, Option, Some, None, Ok, Err}
 use Rattle.base_122.specs.declared.book.Book.{Book}
 use Rattle.plane_defs.specs.Codes.{is_book_sound}
+use Rattle.item_defs.specs.Items.{Refusal}
+use Rattle.bit_pipe.specs.declared.fault.Part.{Part}
 use Rattle.segment_defs.specs.declared.head.SegmentHead.{SegmentHead}
 use Rattle.segment_defs.specs.Head.{IsHead, head_length}
 use Rattle.text_defs.specs.Outcomes.{at_item, short_segment, overlong}
 use Rattle.text_scripts.specs.Outcomes.{Answer, text_outcome}
-use Rattle.segment_start.specs.TextAnswers.{TextAnswer, gives, refuses, Decided, answer_in}
+use Rattle.segment_start.specs.TextAnswers.{TextAnswer, gives, refuses, Decided, answer_in, Decides, NeedsMore}
+use Rattle.segment_start.specs.Decoded.{Overruns}
 
 -- octets that decide an answer are there, more octets do not change it, and fewer decide nothing
 pub record EndsThere (book : Book) (head : SegmentHead) (size : ℕ) : Type 0 where
@@ -31,3 +34,18 @@ with_end octets None = Err short_segment
 abbrev pub OutcomesAgree : Type 0
 OutcomesAgree = (book : Book) (head : SegmentHead) (rest : List ℕ) → IsHead head →
     text_outcome book head rest ≡ with_end (length rest) (answer_in book head (head_length head) rest)
+
+-- what octets that were taken say of a text with its end, if they are its first ones
+pub record EndsSay (book : Book) (head : SegmentHead) : Type 0 where
+  pub given : (octets : List ℕ) (part : Part) (w : List (List ℤ)) → Decides book head (head_length head) octets (gives part w) →
+      text_outcome book head octets ≡ Ok w
+  pub refused : (octets more : List ℕ) (name : Refusal) → Decides book head (head_length head) octets (refuses name) →
+      text_outcome book head (octets ++ more) ≡ Err (at_item name)
+  pub short : (octets : List ℕ) → NeedsMore book head (head_length head) octets → text_outcome book head octets ≡ Err short_segment
+  pub overruns : (octets more : List ℕ) → Overruns book head octets → text_outcome book head (octets ++ more) ≡ Err overlong
+  -- and a text that holds blocks decides them
+  pub held : (octets : List ℕ) (w : List (List ℤ)) → text_outcome book head octets ≡ Ok w →
+      (part : Part) × Decides book head (head_length head) octets (gives part w)
+
+abbrev pub TextsEndSo : Type 0
+TextsEndSo = (book : Book) → is_book_sound book ≡ true → (head : SegmentHead) → IsHead head → EndsSay book head

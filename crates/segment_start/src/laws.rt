@@ -1,5 +1,5 @@
 // What some octets hold, and the laws of what octets after a head hold.
-ghost use Rattle.segment_start.specs.Laws.{TextsEndThere, OutcomesAgree};
+ghost use Rattle.segment_start.specs.Laws.{TextsEndThere, OutcomesAgree, TextsEndSo};
 ghost use Rattle.segment_start.specs.Worked.{WorkedAnswers};
 
 use text_scripts::segments_are_read;
@@ -20,3 +20,10 @@ pub const fn texts_end_there()
 pub const fn outcomes_agree()
     ensures { OutcomesAgree }
 {}
+
+/// The octets that were taken of a text determine what it holds, or by which name it is refused.
+pub const fn texts_end_so()
+    ensures { TextsEndSo }
+{
+    segments_are_read();
+}
