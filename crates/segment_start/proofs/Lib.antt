@@ -14,3 +14,4 @@ mod ItemsDecoded
 mod FromText
 mod Joined
 mod EndsSay
+mod TextJoined

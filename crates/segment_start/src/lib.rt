@@ -1,14 +1,15 @@
-//! This crate reads a coded segment up to its bit planes, and the end of a text (docs/formats.md, "Reading a segment").
+//! This crate reads a coded segment: its text from the octets after its head (docs/formats.md, "Reading a segment").
 #![tactic(auto)]
 
+mod decode;
 mod end_in;
 mod fault;
 mod head_plan;
 mod laws;
 mod start;
 mod text_end;
+mod text_in;
 
+pub use decode::{SegmentReader, decode_segment};
 pub use fault::SegmentFault;
 pub use laws::{outcomes_agree, texts_end_so, texts_end_there, worked_answers};
-pub use start::take_start;
-pub use text_end::{end_input, end_text};

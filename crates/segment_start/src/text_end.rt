@@ -20,7 +20,7 @@ use segment_defs::SegmentHead;
 /// # Errors
 ///
 /// `ShortSegment` if the text ends before, and how the input ended.
-pub fn end_text<I: OctetIn>(
+pub(crate) fn end_text<I: OctetIn>(
     input: &mut I,
     head: &SegmentHead,
     part: Part,
@@ -43,7 +43,7 @@ pub fn end_text<I: OctetIn>(
 /// # Errors
 ///
 /// `Overlong` if an octet follows the text, and how the input ended.
-pub fn end_input<I: OctetIn>(input: &mut I, part: Part) -> Result<Part, SegmentFault>
+pub(crate) fn end_input<I: OctetIn>(input: &mut I, part: Part) -> Result<Part, SegmentFault>
     ensures { (book : BookValue) (head : HeadValue) (before : I) (blocks : List ℤ) →
         DecodesItems I.source book head (head_length head) (Ok part) before input.old blocks →
         DecodesSegment I.source book head result before input.new blocks }
