@@ -5,14 +5,12 @@ use Rattle.item_defs.specs.Bits.{bit}
 use Rattle.plane_defs.specs.Sets.{significant, coded, type_due}
 use Rattle.plane_defs.specs.StepLaws.{IsAc}
 use Rattle.plane_defs.specs.Entries.{negative}
-use Rattle.plane_defs.specs.Spans.{span}
 use Rattle.plane_defs.proofs.Equations.{type_due-is}
 use Rattle.block_masks.specs.declared.gaggle.Gaggle.{Gaggle}
 use Rattle.block_masks.specs.Gaggles.{families_in}
 use Rattle.block_masks.specs.Masks.{Shows}
 use Rattle.block_masks.specs.Slices.{mask_in, minus_slot, PutsMask}
 use Rattle.block_masks.proofs.Viewing.{shows_own}
-use Rattle.bit_pipe.specs.declared.fault.Part.{Part}
 use Rattle.bit_pipe.specs.declared.fault.Part.TheVariants.{Whole, Ended}
 use Rattle.bit_pipe.specs.declared.fault.TextFault.{TextFault}
 use Rattle.bit_pipe.specs.declared.fault.TextFault.TheVariants as texts

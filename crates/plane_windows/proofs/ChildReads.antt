@@ -1,5 +1,5 @@
 -- What a block sends of its children, as it is read from a window that is held.
-use Rattle.std.proofs.Common.{◌≡◌, ℕ, ◌+◌, ◌*◌, ◌<◌, Bool, true, false, not, ◌&&◌, ◌||◌, ℤ, List, refl, ap, sym, ◌∙◌, subst, arith, if◌then◌else◌, Ok, Err, Some, None, Result, Option}
+use Rattle.std.proofs.Common.{◌≡◌, ℕ, ◌+◌, Bool, true, false, not, ◌&&◌, ◌||◌, ℤ, List, ap, sym, ◌∙◌, subst, arith, if◌then◌else◌, Ok, Err, Some, None, Result, Option}
 use Rattle.std.specs.List.{list_any}
 use Rattle.item_defs.specs.Bits.{bit}
 use Rattle.plane_defs.specs.declared.sets.Set.TheVariants.{Descendants, Family, Grandchildren}
@@ -7,9 +7,7 @@ use Rattle.plane_defs.specs.Spans.{span}
 use Rattle.plane_defs.specs.Steps.{some_one_where}
 use Rattle.plane_defs.specs.Sets.{coded, members, live, type_due}
 use Rattle.block_masks.specs.declared.gaggle.Gaggle.{Gaggle}
-use Rattle.block_masks.specs.declared.sets.Sets.{Sets}
 use Rattle.block_masks.specs.Masks.{Shows}
-use Rattle.block_masks.specs.SetMasks.{AreSets}
 use Rattle.bit_pipe.specs.declared.fault.TextFault.{TextFault}
 use Rattle.bit_pipe.specs.Sources.{SourceOf}
 use Rattle.bit_pipe.specs.Coming.{IsIn}
@@ -23,9 +21,9 @@ use Rattle.plane_windows.specs.Takes.{IsState}
 use Rattle.plane_windows.specs.Held.{Point, ReadsFrom}
 use Rattle.plane_windows.specs.HeldTakes.{HeldState, HeldOnes, HeldFamilies}
 use Rattle.plane_windows.specs.Blocks.{IsAbove}
-use Rattle.plane_windows.proofs.HeldReads.{moves_start, in_moved, leads_start, reads_then, reads_done, reads_cut, reads_fault}
+use Rattle.plane_windows.proofs.HeldReads.{leads_start, reads_then, reads_done, reads_cut, reads_fault}
 use Rattle.plane_windows.proofs.TypeReads.{on}
-use Rattle.plane_windows.proofs.SetMarks.{shows_range, was_set, live_set, due_set, is_set, turned}
+use Rattle.plane_windows.proofs.SetMarks.{shows_range, live_set, due_set, is_set, turned}
 
 -- ---- the flag of all descendants
 

@@ -1,9 +1,9 @@
 -- The bits of positions that are dealt out from a window, four positions at a time.
-use Rattle.std.proofs.Common.{◌≡◌, ℕ, zero, suc, ◌+◌, ◌-◌, ◌*◌, ◌/◌, ◌%◌, ◌<◌, ◌≤◌, ◌^◌, ◌==◌, ◌&&◌, ◌||◌, if◌then◌else◌, cond, Bool, true, false, List, [], ◌∷◌, ◌++◌, length, map, filter, refl, ap, sym, ◌∙◌, subst, arith, Option, Some, Result, Ok, count_ones}
-use Rattle.std.proofs.Math.Bool.{and-false, or-false}
+use Rattle.std.proofs.Common.{◌≡◌, ℕ, zero, suc, ◌+◌, ◌-◌, ◌*◌, ◌/◌, ◌%◌, ◌<◌, ◌≤◌, ◌^◌, ◌==◌, ◌&&◌, ◌||◌, if◌then◌else◌, cond, Bool, true, false, [], ◌∷◌, ◌++◌, length, map, filter, refl, ap, sym, ◌∙◌, subst, arith, Some, Ok, count_ones}
+use Rattle.std.proofs.Math.Bool.{or-false}
 use Rattle.std.proofs.lemmas.Bool.Decides.{nat_tests}
 use Rattle.std.proofs.lemmas.List.{length-map}
-use Rattle.item_defs.specs.Bits.{bit, bits_of, value_of}
+use Rattle.item_defs.specs.Bits.{bit, value_of}
 use Rattle.item_defs.proofs.NumberBits.{bits_none, length-bits_of, value_below}
 use Rattle.plane_defs.specs.Spans.{span}
 use Rattle.plane_defs.proofs.SpanLists.{map-filter-span-suc, map-filter-span-none}
@@ -14,7 +14,7 @@ use Rattle.block_masks.specs.Picks.{AreSpread}
 use Rattle.block_masks.proofs.LaneMasks.{shows_same}
 use Rattle.bit_pipe.specs.Sources.{SourceOf}
 use Rattle.bit_pipe.specs.Windows.{first_of}
-use Rattle.item_scripts.specs.Scripts.{Script, done, then_ask, in_turn, run}
+use Rattle.item_scripts.specs.Scripts.{done, in_turn, run}
 use Rattle.item_scripts.specs.Sources.{Gets, GoesOn}
 use Rattle.item_scripts.proofs.ReaderLaws.{gets_goes_on, goes_on_then}
 use Rattle.plane_scripts.specs.States.{State, with_bits, and_one}
@@ -27,7 +27,7 @@ use Rattle.plane_windows.proofs.HeldReads.{moves_then, reads_gets}
 use Rattle.plane_windows.proofs.PlaceReads.{due_count}
 use Rattle.plane_windows.proofs.SignReads.{bit_read, same_bits}
 use Rattle.plane_windows.proofs.HeldTypes.{signs_word}
-use Rattle.plane_windows.proofs.WindowParts.{window_parts, moved_on}
+use Rattle.plane_windows.proofs.WindowParts.{window_parts}
 
 -- a state with these bits too
 pub record Grown (s t : State) (new : ℕ → Bool) : Type 0 where

@@ -1,9 +1,9 @@
 -- A stage of a gaggle once the window is let go, and the states of its blocks then.
-use Rattle.std.proofs.Common.{◌≡◌, ℕ, ◌-◌, ◌*◌, ◌<◌, Bool, false, if◌then◌else◌, List, [], length, refl, sym, ap, subst, ◌∙◌, arith, Option, Some, None, Result, Ok, Err, ℤ, pos, get_or}
+use Rattle.std.proofs.Common.{◌≡◌, ℕ, ◌-◌, ◌*◌, ◌<◌, false, if◌then◌else◌, List, [], sym, ap, subst, ◌∙◌, Option, Some, None, Ok, Err, ℤ, get_or}
 use Rattle.std.proofs.lemmas.Grind.{same_number_lists}
 use Rattle.plane_defs.specs.Marks.{depths_of}
 use Rattle.block_masks.specs.declared.gaggle.Gaggle.{Gaggle}
-use Rattle.block_masks.specs.Gaggles.{options_in, sent_in, options_at, sent_at, families_in}
+use Rattle.block_masks.specs.Gaggles.{options_in, sent_in, options_at, sent_at}
 use Rattle.block_masks.specs.Masks.{Shows}
 use Rattle.block_masks.specs.Stored.{Stores}
 use Rattle.block_masks.proofs.Marking.{depth_there, length-depths_of}
@@ -15,7 +15,7 @@ use Rattle.item_scripts.specs.Sources.{by_part}
 use Rattle.plane_scripts.specs.Planes.{PlaneState}
 use Rattle.plane_windows.specs.Takes.{AreIn}
 use Rattle.plane_windows.specs.Held.{Point, Stays}
-use Rattle.plane_windows.specs.Gaggles.{HaveFamilies, KeepStates, gaggle_at, TakesBlocks, TakesGaggle}
+use Rattle.plane_windows.specs.Gaggles.{KeepStates, TakesBlocks, TakesGaggle}
 use Rattle.plane_windows.proofs.HeldReads.{reads_closed}
 
 -- the same options and flags

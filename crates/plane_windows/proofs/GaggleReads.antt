@@ -19,10 +19,10 @@ use Rattle.plane_scripts.specs.States.{State}
 use Rattle.plane_scripts.specs.Stages.{Terms, dc_bit_script, parents_script, children_script, grandchildren_script, refinement_script, stage_script}
 use Rattle.plane_scripts.specs.Planes.{PlaneState, of_block, with_block}
 use Rattle.plane_windows.specs.Takes.{AreIn}
-use Rattle.plane_windows.specs.Held.{Point, Stays, ReadsFrom, LeadsTo}
+use Rattle.plane_windows.specs.Held.{Point, ReadsFrom, LeadsTo}
 use Rattle.plane_windows.specs.Blocks.{IsAbove, KeepsMasks, HasRead, TakesBlock, OnWhole, stage_part}
-use Rattle.plane_windows.specs.Gaggles.{AreAbove, HavePlane, HaveFamilies, KeepStates, block_script, gaggle_script, TakesBlocks, TakesGaggle}
-use Rattle.plane_windows.proofs.HeldReads.{leads_start, leads_then, leads_got, reads_later, reads_done, reads_cut, reads_fault, reads_closed}
+use Rattle.plane_windows.specs.Gaggles.{AreAbove, HavePlane, HaveFamilies, KeepSlots, KeepStates, block_script, gaggle_script, TakesBlocks}
+use Rattle.plane_windows.proofs.HeldReads.{leads_start, leads_then, leads_got, reads_later, reads_done, reads_cut, reads_fault}
 use Rattle.plane_windows.proofs.BlockReads.{reads_around}
 
 -- a block that stays as it is
@@ -44,14 +44,31 @@ have_with {plane} {r} {old} {new} numbers p b low keeps have has q inside = elim
       subst (λ z. HasRead plane q new (get_or numbers q []) (if z then b else p.blocks q)) (sym t) (has_kept low keeps there apart (have q there))
 ]
 
-pub above_kept : {plane r : ℕ} {old new : List ℤ} (numbers : List (List ℤ)) → plane < 27 → KeepsMasks r plane old new → AreAbove plane old numbers → AreAbove plane new numbers
-above_kept {plane} {r} {old} {new} numbers low keeps are q inside =
-    let there : 64 * q < length old = subst (λ n. 64 * q < n) keeps.long inside in
-    let same : mask_in new q above_slot ≡ mask_in old q above_slot = elim (cases_eq q r) [
-      | inl e ↦ subst (λ n. mask_in new n above_slot ≡ mask_in old n above_slot) (sym e) (keeps.slots above_slot (omega arith) (λ f. omega (arith, f, low)) (λ f. omega (arith, f)))
-      | inr apart ↦ keeps.others q above_slot there (omega arith) apart
-    ] in
-    subst (λ m. IsAbove m (get_or numbers q []) plane) (sym same) (are q there)
+-- ---- masks of other slots
+
+pub slots_kept : {plane : ℕ} (cells : List ℤ) → KeepSlots plane cells cells
+slots_kept cells = record { long = refl; slots = λ r slot lt low apart no_sign. refl }
+
+pub slots_then : {plane : ℕ} {old mid new : List ℤ} → KeepSlots plane old mid → KeepSlots plane mid new → KeepSlots plane old new
+slots_then {old = old} p q = record {
+  long = q.long ∙ p.long;
+  slots = λ r slot lt low apart no_sign. q.slots r slot (subst (λ n. 64 * r < n) (sym p.long) lt) low apart no_sign ∙ p.slots r slot lt low apart no_sign;
+}
+
+pub slots_more : {plane r : ℕ} {old mid new : List ℤ} → KeepSlots plane old mid → KeepsMasks r plane mid new → KeepSlots plane old new
+slots_more {plane} {r} {mid = mid} {new} p keeps = slots_then p (record {
+  long = keeps.long;
+  slots = λ q slot lt low apart no_sign. elim (cases_eq q r) [
+    | inl e ↦ subst (λ n. mask_in new n slot ≡ mask_in mid n slot) (sym e) (keeps.slots slot low apart no_sign)
+    | inr other ↦ keeps.others q slot lt low other
+  ];
+})
+
+pub above_after : {plane : ℕ} {old new : List ℤ} (numbers : List (List ℤ)) → plane < 27 → KeepSlots plane old new → AreAbove plane old numbers → AreAbove plane new numbers
+above_after {plane} {old} numbers low keeps are r inside =
+    let there : 64 * r < length old = subst (λ n. 64 * r < n) keeps.long inside in
+    let same = keeps.slots r above_slot there (omega arith) (λ f. omega (arith, f, low)) (λ f. omega (arith, f)) in
+    subst (λ m. IsAbove m (get_or numbers r []) plane) (sym same) (are r there)
 
 -- ---- states
 

@@ -1,13 +1,12 @@
 -- What a block sends of its grandchildren, as it is read from a window that is held.
-use Rattle.std.proofs.Common.{◌≡◌, ℕ, suc, ◌+◌, ◌-◌, ◌*◌, ◌<◌, ◌≤◌, ◌==◌, Bool, true, false, not, ◌&&◌, ◌||◌, if◌then◌else◌, ℤ, List, map, filter, refl, ap, sym, ◌∙◌, subst, arith, inl, inr, Ok, Err, Some, None, Result, Option}
+use Rattle.std.proofs.Common.{◌≡◌, ℕ, suc, ◌+◌, ◌-◌, ◌<◌, ◌≤◌, Bool, true, false, not, ◌&&◌, ◌||◌, if◌then◌else◌, ℤ, List, map, filter, refl, ap, sym, ◌∙◌, subst, arith, Ok, Err, Some, None, Result, Option}
 use Rattle.std.specs.List.{list_any}
-use Rattle.std.proofs.lemmas.Bool.{cases_lt}
 use Rattle.item_defs.specs.Bits.{bit}
 use Rattle.plane_defs.specs.declared.sets.Set.TheVariants.{Family, Grandchildren, Quad}
 use Rattle.base_122.specs.declared.book.Book.{Book}
 use Rattle.plane_defs.specs.Spans.{span}
 use Rattle.plane_defs.specs.Steps.{some_one_where, ones_at}
-use Rattle.plane_defs.specs.Sets.{coded, significant, members, children_of, live, type_due, quad_of}
+use Rattle.plane_defs.specs.Sets.{coded, significant, members, children_of, type_due, quad_of}
 use Rattle.plane_defs.specs.StepLaws.{IsAc}
 use Rattle.plane_defs.proofs.Above.{all_acs, any_alike}
 use Rattle.block_masks.specs.declared.gaggle.Gaggle.{Gaggle}
@@ -16,7 +15,7 @@ use Rattle.bit_pipe.specs.declared.fault.TextFault.{TextFault}
 use Rattle.bit_pipe.specs.Sources.{SourceOf}
 use Rattle.bit_pipe.specs.Coming.{IsIn}
 use Rattle.item_scripts.specs.Scripts.{Script, done, then_ask, in_turn}
-use Rattle.item_scripts.specs.Sources.{got, ends, by_fault, by_done}
+use Rattle.item_scripts.specs.Sources.{got, by_done}
 use Rattle.plane_scripts.specs.States.{State, with_options}
 use Rattle.plane_scripts.specs.Words.{due_script, group_script}
 use Rattle.plane_scripts.specs.Stages.{Terms, above, is_due, is_childless, quads_script}
@@ -26,10 +25,10 @@ use Rattle.plane_windows.specs.Held.{Point, ReadsFrom, LeadsTo}
 use Rattle.plane_windows.specs.HeldTakes.{HeldState, HeldOnes}
 use Rattle.plane_windows.specs.Blocks.{IsAbove}
 use Rattle.plane_windows.specs.Grandchildren.{sixteen_script}
-use Rattle.plane_windows.proofs.HeldReads.{leads_start, reads_then, reads_done, reads_cut, reads_fault, reads_gets, moves_start}
+use Rattle.plane_windows.proofs.HeldReads.{leads_start, reads_then, reads_done, reads_cut, reads_fault}
 use Rattle.plane_windows.proofs.HeldGroups.{turn_all, turn_more, turn_fault, turn_cut}
 use Rattle.plane_windows.proofs.TypeReads.{on}
-use Rattle.plane_windows.proofs.SetMarks.{shows_range, was_set, live_set, due_set, is_set}
+use Rattle.plane_windows.proofs.SetMarks.{shows_range, was_set, due_set, is_set}
 
 -- a part of a stage, and then another that reads on from its word
 module _ {I : Type 0} {k : SourceOf I} (word : Script State (State × (ℕ → Bool))) (next : State × (ℕ → Bool) → Script State State) (start count : ℕ) (s : State) {h : Gaggle} {f : Found} (is : IsState h f s) {h' : Gaggle} {x y : Point I} where

@@ -1,5 +1,5 @@
 -- Raw bits, and words of flags with their checks, that are read from a window that is held.
-use Rattle.std.proofs.Common.{◌≡◌, ℕ, ◌+◌, ◌-◌, ◌/◌, ◌%◌, ◌<◌, ◌≤◌, ◌^◌, ◌==◌, ◌&&◌, ◌||◌, not, List, [], ◌∷◌, Bool, true, false, if◌then◌else◌, cond, length, map, filter, refl, sym, ap, ◌∙◌, subst, arith, Option, Some, None, Result, Ok, Err}
+use Rattle.std.proofs.Common.{◌≡◌, ℕ, ◌-◌, ◌/◌, ◌%◌, ◌<◌, ◌≤◌, ◌^◌, ◌==◌, ◌&&◌, ◌||◌, not, List, [], ◌∷◌, Bool, true, false, cond, length, map, filter, refl, ap, ◌∙◌, subst, arith, Option, Some, None, Result, Ok, Err}
 use Rattle.std.specs.List.{list_any}
 use Rattle.std.proofs.lemmas.Bool.Decides.{nat_tests}
 use Rattle.std.proofs.lemmas.List.{length-map}
@@ -7,7 +7,7 @@ use Rattle.item_defs.specs.Bits.{bit, bits_of}
 use Rattle.item_defs.proofs.NumberBits.{bits_first, bits_none}
 use Rattle.base_122.specs.declared.book.Book.{Book}
 use Rattle.plane_defs.specs.Spans.{span}
-use Rattle.plane_defs.specs.Steps.{Check, lacks_one, refuses as is_refused, some_one_where, ones_at}
+use Rattle.plane_defs.specs.Steps.{Check, lacks_one, refuses as is_refused, ones_at}
 use Rattle.block_masks.specs.declared.gaggle.Gaggle.{Gaggle}
 use Rattle.block_masks.specs.Masks.{Shows}
 use Rattle.block_masks.proofs.LaneMasks.{shows_same}
@@ -16,8 +16,8 @@ use Rattle.bit_pipe.specs.declared.fault.TextFault.{TextFault}
 use Rattle.bit_pipe.specs.declared.fault.TextFault.TheVariants.{FalseFlag}
 use Rattle.bit_pipe.specs.Sources.{SourceOf}
 use Rattle.bit_pipe.specs.Windows.{first_of}
-use Rattle.item_scripts.specs.Scripts.{Script, done, ask_bit}
-use Rattle.item_scripts.specs.Sources.{by_item, by_done}
+use Rattle.item_scripts.specs.Scripts.{done, ask_bit}
+use Rattle.item_scripts.specs.Sources.{by_item}
 use Rattle.plane_scripts.specs.States.{State, with_options}
 use Rattle.plane_scripts.specs.Words.{due_script}
 use Rattle.plane_windows.specs.Takes.{AreOnes, TakesFlag, unless_bad}

@@ -26,3 +26,16 @@ pub mod TypeReads
 pub mod WindowParts
 pub mod WindowWords
 pub mod WordReads
+pub mod ScriptKeeps
+pub mod StageKeeps
+pub mod SlicedCells
+pub mod JoinedCells
+pub mod CellGroups
+pub mod DcSums
+pub mod PlaneStates
+pub mod CellNumbers
+pub mod DcReads
+pub mod ClearStates
+pub mod StageReads
+pub mod PlaneReads
+pub mod PlanesReads

@@ -1,7 +1,7 @@
 -- The bits of the positions of a mask, as they are read from a window that is held.
-use Rattle.std.proofs.Common.{◌≡◌, ℕ, zero, suc, ◌+◌, ◌-◌, ◌<◌, ◌≤◌, ◌==◌, ◌&&◌, ◌||◌, if◌then◌else◌, Bool, true, false, List, [], ℤ, refl, ap, sym, ◌∙◌, subst, arith, Option, Some, None, Result, Ok, Err}
+use Rattle.std.proofs.Common.{◌≡◌, ℕ, zero, suc, ◌+◌, ◌-◌, ◌<◌, ◌≤◌, ◌&&◌, if◌then◌else◌, Bool, true, false, List, [], ℤ, refl, ap, sym, ◌∙◌, subst, arith, Option, Some, None, Result, Ok, Err}
 use Rattle.item_defs.specs.Bits.{bit}
-use Rattle.plane_defs.specs.Sets.{significant, coded, refined}
+use Rattle.plane_defs.specs.Sets.{coded, refined}
 use Rattle.plane_defs.proofs.Equations.{refined-is}
 use Rattle.block_masks.specs.declared.gaggle.Gaggle.{Gaggle}
 use Rattle.block_masks.specs.Masks.{Shows}
@@ -9,7 +9,7 @@ use Rattle.bit_pipe.specs.declared.fault.TextFault.{TextFault}
 use Rattle.bit_pipe.specs.Sources.{SourceOf}
 use Rattle.bit_pipe.specs.Coming.{IsIn}
 use Rattle.item_scripts.specs.Scripts.{Script, done, ask_bit, then_ask, in_turn, run}
-use Rattle.item_scripts.specs.Sources.{got, ends, by_fault, by_done, Gets}
+use Rattle.item_scripts.specs.Sources.{got, by_done, Gets}
 use Rattle.item_scripts.proofs.ScriptLaws.{turns_split}
 use Rattle.plane_scripts.specs.States.{State, with_bits, and_one}
 use Rattle.plane_scripts.specs.Stages.{Terms, bit_script, refinement_script}

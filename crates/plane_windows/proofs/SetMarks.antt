@@ -1,10 +1,9 @@
 -- The sets of a block by masks, as the scripts of stages name them.
-use Rattle.std.proofs.Common.{◌≡◌, ℕ, ◌+◌, ◌*◌, ◌<◌, ◌≤◌, Bool, true, false, not, ◌&&◌, ◌||◌, ℤ, List, refl, ap, sym, ◌∙◌, arith}
+use Rattle.std.proofs.Common.{◌≡◌, ℕ, ◌+◌, ◌<◌, Bool, true, false, not, ◌&&◌, ◌||◌, ℤ, List, refl, ap, sym, ◌∙◌}
 use Rattle.std.specs.List.{list_any}
 use Rattle.item_defs.specs.Bits.{bit}
 use Rattle.plane_defs.specs.declared.sets.Set.{Set}
-use Rattle.plane_defs.specs.declared.sets.Set.TheVariants.{Descendants, Family, Grandchildren, Quad}
-use Rattle.plane_defs.specs.Sets.{significant, coded, members, set_significant, live, IsKnown}
+use Rattle.plane_defs.specs.Sets.{significant, coded, members, live, IsKnown}
 use Rattle.plane_defs.proofs.Above.{members_acs, any_alike}
 use Rattle.plane_defs.proofs.Equations.{live-is, set_significant-is}
 use Rattle.block_masks.specs.Masks.{Shows}

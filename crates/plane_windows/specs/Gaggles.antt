@@ -1,11 +1,12 @@
 -- What the masks of a segment have of a plane that is read, gaggle by gaggle. (This project's own.)
-use Rattle.std.specs.Prelude.{◌≡◌, ◌<◌, ℕ, ◌*◌, ℤ, pos, nat_lt, List, [], length, Result, Option}
+use Rattle.std.specs.Prelude.{◌≡◌, ◌<◌, ℕ, ◌*◌, ◌%◌, ◌^◌, ℤ, pos, ◌+ℤ◌, nat_lt, List, [], length, Result}
+use Rattle.std.specs.Int.{w32, cast_signed}
 use lib.ListN.{get_or}
 use Rattle.plane_defs.specs.Marks.{depth_of}
 use Rattle.block_masks.specs.declared.gaggle.Gaggle.{Gaggle}
 use Rattle.block_masks.specs.Gaggles.{options_in, sent_in, families_in, options_at, sent_at}
 use Rattle.block_masks.specs.Masks.{Shows}
-use Rattle.block_masks.specs.Slices.{mask_in, above_slot}
+use Rattle.block_masks.specs.Slices.{mask_in, above_slot, minus_slot, dc_slot}
 use Rattle.bit_pipe.specs.declared.fault.Part.{Part}
 use Rattle.bit_pipe.specs.declared.fault.TextFault.{TextFault}
 use Rattle.bit_pipe.specs.Sources.{SourceOf}
@@ -13,7 +14,7 @@ use Rattle.bit_pipe.specs.Coming.{Coming}
 use Rattle.item_scripts.specs.Scripts.{Script, in_turn, around}
 use Rattle.item_scripts.specs.Sources.{ReadsAs, by_part}
 use Rattle.plane_scripts.specs.Stages.{Terms, stage_script}
-use Rattle.plane_scripts.specs.Planes.{PlaneState, of_block, with_block}
+use Rattle.plane_scripts.specs.Planes.{PlaneState, of_block, with_block, bit_of_plane}
 use Rattle.plane_windows.specs.declared.gaggles.Blocks.{Blocks}
 use Rattle.plane_windows.specs.Takes.{AreIn}
 use Rattle.plane_windows.specs.Held.{Point, ReadsFrom}
@@ -30,6 +31,19 @@ AreAbove plane cells numbers = (r : ℕ) → 64 * r < length cells → IsAbove (
 -- the masks have what was read of all blocks in the plane, and the signs that they had before
 abbrev pub HavePlane : (plane : ℕ) → (cells : List ℤ) → List (List ℤ) → PlaneState → Type 0
 HavePlane plane cells numbers p = (r : ℕ) → 64 * r < length cells → HasRead plane r cells (get_or numbers r []) (p.blocks r)
+
+-- the DC of block r
+abbrev pub dc_in : (cells : List ℤ) → ℕ → ℤ
+dc_in cells r = cast_signed w32 (mask_in cells r dc_slot % 2 ^ 32)
+
+-- the DCs have the bits that were read of them in the plane
+abbrev pub HaveDcs : (plane : ℕ) → (cells : List ℤ) → List (List ℤ) → PlaneState → Type 0
+HaveDcs plane cells numbers p = (r : ℕ) → 64 * r < length cells → dc_in cells r ≡ get_or (get_or numbers r []) 0 (pos 0) +ℤ pos (bit_of_plane plane (p.blocks r) 0)
+
+-- only masks of the plane and of signs changed
+pub record KeepSlots (plane : ℕ) (old new : List ℤ) : Type 0 where
+  pub long : length new ≡ length old
+  pub slots : (r slot : ℕ) → 64 * r < length old → slot < 32 → (slot ≡ plane → ⊥) → (slot ≡ minus_slot → ⊥) → mask_in new r slot ≡ mask_in old r slot
 
 -- the states have the families of all blocks that are significant in the plane
 abbrev pub HaveFamilies : (marks : List ℤ) → PlaneState → Type 0
@@ -78,11 +92,19 @@ pub record TakesGaggle {I : Type 0} (k : SourceOf I) (plane g : ℕ) (numbers : 
 abbrev pub HaveOptions : (marks : List ℤ) → PlaneState → Type 0
 HaveOptions marks p = (g : ℕ) → 16 * g < length marks → AreIn (gaggle_at marks g) (p.options g)
 
+-- the masks and the states have what was read of all blocks in the plane
+pub record HaveRead (plane : ℕ) (cells marks : List ℤ) (numbers : List (List ℤ)) (p : PlaneState) : Type 0 where
+  pub has : HavePlane plane cells numbers p
+  pub dcs : HaveDcs plane cells numbers p
+  pub families : HaveFamilies marks p
+  pub options : HaveOptions marks p
+
 -- a stage of all blocks was read, and the masks and the states have what was read: exactly the bits that decide were taken
 pub record TakesStage {I : Type 0} (k : SourceOf I) (plane : ℕ) (numbers : List (List ℤ)) (script : Script PlaneState PlaneState)
     (result : Result Part TextFault) (cells marks : List ℤ) (old new : Coming I) : Type 0 where
   pub now : PlaneState
   pub has : HavePlane plane cells numbers now
+  pub dcs : HaveDcs plane cells numbers now
   pub families : OnWhole result (HaveFamilies marks now)
   pub options : OnWhole result (HaveOptions marks now)
   pub read : ReadsAs k script (by_part result now now) old new

@@ -6,3 +6,6 @@ pub mod Blocks
 pub mod Gaggles
 pub mod Groups
 pub mod Grandchildren
+pub mod Above
+pub mod Joined
+pub mod Planes

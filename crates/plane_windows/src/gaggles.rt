@@ -8,7 +8,7 @@ ghost use Rattle.plane_windows.specs.Takes.{AreIn};
 ghost use Rattle.plane_windows.specs.Held.{Holds, point};
 ghost use Rattle.plane_windows.specs.HeldTakes.{IsReading};
 ghost use Rattle.plane_windows.specs.Blocks.{terms_of, OnWhole};
-ghost use Rattle.plane_windows.specs.Gaggles.{AreDeep, AreAbove, HavePlane, HaveFamilies, KeepStates, gaggle_at, gaggle_script, TakesBlocks, TakesGaggle};
+ghost use Rattle.plane_windows.specs.Gaggles.{AreDeep, AreAbove, HavePlane, HaveFamilies, KeepSlots, KeepStates, gaggle_at, gaggle_script, TakesBlocks, TakesGaggle};
 ghost use Rattle.block_masks.specs.Gaggles.{AreOptions, options_at, sent_at};
 ghost use Rattle.plane_defs.specs.Marks.{depths_of};
 
@@ -18,14 +18,12 @@ use crate::stages::{Block, take_block};
 use bit_pipe::{BitIn, OctetIn, Part, TextFault};
 use block_masks::{CodedPlane, Column, has, load, store};
 
-/// The blocks of a gaggle.
+// The blocks of a gaggle: the first, their number, at most 16, and those that are deep enough to have bits of the plane, of which bit k is
+// for the k-th.
 #[derive(Clone, Copy)]
-pub struct Blocks {
-    /// The first block.
+pub(crate) struct Blocks {
     pub first: Column,
-    /// The number of blocks, at most 16.
     pub count: u8,
-    /// The blocks that are deep enough to have bits of the plane: bit k is for the k-th.
     pub deep: u64,
 }
 
@@ -51,12 +49,11 @@ fn take_blocks<I: OctetIn, const STAGE: u8>(
         TakesBlocks I.source plan.now.plane (blocks.first.block / 16) numbers p (gaggle_script (terms_of plan.now reading.old.tables.now.words.book) STAGE depths numbers blocks.first.block blocks.count p) result reading.new.gaggle cells.new marks.new
         (point (coming input.old) reading.old.cursor) (point (coming input.new) reading.new.cursor) }
     ensures states { KeepStates marks.old marks.new }
-    ensures above { (numbers : List (List ℤ)) → AreAbove plan.now.plane cells.old numbers → AreAbove plan.now.plane cells.new numbers }
+    ensures keeps { KeepSlots plan.now.plane cells.old cells.new }
     ensures tables { reading.new.tables ≡ reading.old.tables }
     ensures reading { OnWhole result (IsReading I.source (coming input.new) reading.new) }
     ensures holds { Holds I.source (coming input.new) reading.new.cursor }
     ensures is_in { IsIn (coming input.new) }
-    ensures size { length cells.new ≡ length cells.old }
 {
     for k in 0..blocks.count {
         if !has(blocks.deep, k) {
@@ -76,26 +73,18 @@ fn take_blocks<I: OctetIn, const STAGE: u8>(
     Ok(Part::Whole)
 }
 
-/// A plane, and the codes of its words.
+// A plane, and the codes of its words.
 #[derive(Clone, Copy)]
-pub struct Terms<'a> {
-    /// The plane.
+pub(crate) struct Terms<'a> {
     pub plan: &'a CodedPlane,
-    /// The codes of words.
     pub tables: &'a PlaceTables,
 }
 
-/// Reads stage 1, 2, 3 or 4 of a gaggle (docs/formats.md, "Bit planes"), and adds what was read to the masks of its blocks.
-///
-/// The masks of the plane must have what was read of the blocks in it before. `marks` has the state of each block: its families that are
-/// significant in the plane, and in that of a gaggle's first block the options that were read in this gaggle and plane. Returns `Ended` if
-/// the input or the bound ends within an item; the masks have what was read before.
-///
-/// # Errors
-///
-/// `BadOption` for an identifier that names no option, `FalseFlag` for a word that leaves a set without a significant member, and the
-/// faults of the input. The masks have what was read before.
-pub fn take_gaggle<I: OctetIn, const STAGE: u8>(
+// Reads stage 1, 2, 3 or 4 of a gaggle, and adds what was read to the masks of its blocks, after a fault too.
+//
+// The masks of the plane must have what was read of the blocks in it before. `marks` has the state of each block: its families that are
+// significant in the plane, and in that of a gaggle's first block the options that were read in this gaggle and plane.
+pub(crate) fn take_gaggle<I: OctetIn, const STAGE: u8>(
     input: &mut BitIn<I>,
     terms: &Terms,
     blocks: Blocks,
@@ -114,12 +103,11 @@ pub fn take_gaggle<I: OctetIn, const STAGE: u8>(
     ensures blocks { (depths : List ℕ) (numbers : List (List ℤ)) (p : PlaneState) → AreDeep terms.now.plan.now.plane depths blocks → AreAbove terms.now.plan.now.plane cells.old numbers → HavePlane terms.now.plan.now.plane cells.old numbers p → HaveFamilies marks.old p →
         AreIn (gaggle_at marks.old (blocks.first.block / 16)) (p.options (blocks.first.block / 16)) →
         TakesGaggle I.source terms.now.plan.now.plane (blocks.first.block / 16) numbers p (gaggle_script (terms_of terms.now.plan.now terms.now.tables.now.words.book) STAGE depths numbers blocks.first.block blocks.count p) result cells.new marks.new (coming input.old) (coming input.new) }
-    ensures above { (numbers : List (List ℤ)) → AreAbove terms.now.plan.now.plane cells.old numbers → AreAbove terms.now.plan.now.plane cells.new numbers }
+    ensures keeps { KeepSlots terms.now.plan.now.plane cells.old cells.new }
     ensures options { OnWhole result (AreOptions (options_at marks.new (blocks.first.block / 16))) }
     ensures others { (g : ℕ) → (g ≡ blocks.first.block / 16 → ⊥) → (options_at marks.new g ≡ options_at marks.old g) × (sent_at marks.new g ≡ sent_at marks.old g) }
     ensures depths { depths_of marks.new ≡ depths_of marks.old }
     ensures is_in { IsIn (coming input.new) }
-    ensures size { length cells.new ≡ length cells.old }
 {
     let g = blocks.first.block / 16;
     let mut reading = Reading::open(input, terms.tables, load(marks, g));

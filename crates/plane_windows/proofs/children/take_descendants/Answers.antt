@@ -1,6 +1,5 @@
 use Rattle.std.proofs.Common.{◌≡◌, ◌⊎◌, ◌&&◌, not, true, false, inl, inr, Bool, refl}
 use Rattle.plane_windows.proofs.ChildReads.{flag_known, flag_read}
-use Rattle.plane_windows.proofs.SmallTests.{never}
 use Rattle.plane_windows.proofs.children.take_descendants.Goals as goal
 
 pub returns-then-was-clause-flag : goal.returns-then-was-clause-flag

@@ -1,17 +1,16 @@
-use Rattle.std.proofs.Common.{rules, FitsSigned, w32, pos, ◌≡◌, ◌<◌, ◌+◌, ◌*◌, ◌/◌, ◌∙◌, nat_lt, get_or, length, refl, sym, ap, arith}
+use Rattle.std.proofs.Common.{rules, FitsSigned, w32, pos, ◌≡◌, ◌<◌, ◌+◌, ◌*◌, ◌/◌, ◌∙◌, nat_lt, get_or, length, refl, sym, arith}
 use Rattle.std.proofs.lemmas.Result.{err_from_is_err_and}
 use Rattle.std.proofs.lemmas.Int.{to_z-of_z}
 use Rattle.plane_windows.specs.Blocks.{terms_of}
-use Rattle.plane_windows.proofs.GaggleReads.{blocks_start, blocks_skip, blocks_done, above_kept, states_kept, states_set, block_whole, block_cut, block_fault}
+use Rattle.plane_windows.proofs.GaggleReads.{blocks_start, blocks_skip, blocks_done, slots_kept, slots_more, above_after, states_kept, states_set, block_whole, block_cut, block_fault}
 use Rattle.plane_windows.proofs.gaggles.take_blocks.Goals as goal
 
 pub loop-k-init : goal.loop-k-init
 loop-k-init g c = record {
   reading = c.requires.reading;
   tables = refl;
-  size = refl;
+  keeps = slots_kept c.args.cells.now;
   states = states_kept c.args.marks.now;
-  above = λ numbers a. a;
   left = λ depths numbers p deep above have families are.
       blocks_start (terms_of c.args.plan.now c.args.reading.now.tables.now.words.book) g.row.STAGE depths numbers c.args.plan.now.plane (c.args.blocks.first.block / 16) c.args.blocks.first.block p c.args.blocks.count c.requires.reading.is_in are have families;
 }
@@ -22,9 +21,8 @@ loop-k-preserved-then-not-has g c =
     record {
       reading = i.reading;
       tables = i.tables;
-      size = i.size;
+      keeps = i.keeps;
       states = i.states;
-      above = i.above;
       left = λ depths numbers p deep above have families are.
           let i = c.loop-k.invariant in
           let plan = c.args.plan.now in
@@ -35,7 +33,7 @@ loop-k-preserved-then-not-has g c =
           let lt : k < c.args.blocks.count = c.loop-k-test.true in
           let same : (first + k) / 16 ≡ first / 16 = omega (arith, c.requires.gaggle, c.requires.count, lt) in
           let in_marks : first + k < length c.loop-k.marks = omega (arith, c.requires.within, lt, i.states.long) in
-          let inside : 64 * (first + k) < length c.loop-k.cells = omega (arith, c.requires.within, c.requires.whole, lt, i.size) in
+          let inside : 64 * (first + k) < length c.loop-k.cells = omega (arith, c.requires.within, c.requires.whole, lt, i.keeps.long) in
           let is_deep = c.has.ensures (λ r. nat_lt plan.plane (get_or depths r 0)) first c.args.blocks.count deep lt in
           blocks_skip t g.row.STAGE depths numbers plan.plane (first / 16) first p lt l same c.requires.some plan.low i.reading.is_in (sym is_deep ∙ c.if-not-has.true) inside;
     }
@@ -59,10 +57,10 @@ returns-in_err-read-clause-blocks g c = λ depths numbers p deep above have fami
     let lt : k < c.args.blocks.count = c.loop-k-test.true in
     let same : (first + k) / 16 ≡ first / 16 = omega (arith, c.requires.gaggle, c.requires.count, lt) in
     let in_marks : first + k < length c.loop-k.marks = omega (arith, c.requires.within, lt, i.states.long) in
-    let inside : 64 * (first + k) < length c.loop-k.cells = omega (arith, c.requires.within, c.requires.whole, lt, i.size) in
+    let inside : 64 * (first + k) < length c.loop-k.cells = omega (arith, c.requires.within, c.requires.whole, lt, i.keeps.long) in
     let is_deep = c.has.ensures (λ r. nat_lt plan.plane (get_or depths r 0)) first c.args.blocks.count deep lt in
     let at : c.further-column.result.block ≡ first + k = omega (arith, c.further-column.ensures.block, c.from.ensures) in
-    let now = i.above numbers above in
+    let now = above_after numbers plan.low i.keeps above in
     rw (e.1, e.2) (block_fault t g.row.STAGE depths numbers plan.plane (first / 16) first p lt l same c.requires.some plan.low c.requires.stage (sym is_deep ∙ c.if-not-has.false) at inside in_marks now h.keeps (λ block s a b read kept. rw i.tables at (h.block block s a b read (rw own kept))) _ refl)
 
 pub returns-in_default-clause-blocks : goal.returns-in_default-clause-blocks
@@ -79,10 +77,10 @@ returns-in_default-clause-blocks g c = λ depths numbers p deep above have famil
     let lt : k < c.args.blocks.count = c.loop-k-test.true in
     let same : (first + k) / 16 ≡ first / 16 = omega (arith, c.requires.gaggle, c.requires.count, lt) in
     let in_marks : first + k < length c.loop-k.marks = omega (arith, c.requires.within, lt, i.states.long) in
-    let inside : 64 * (first + k) < length c.loop-k.cells = omega (arith, c.requires.within, c.requires.whole, lt, i.size) in
+    let inside : 64 * (first + k) < length c.loop-k.cells = omega (arith, c.requires.within, c.requires.whole, lt, i.keeps.long) in
     let is_deep = c.has.ensures (λ r. nat_lt plan.plane (get_or depths r 0)) first c.args.blocks.count deep lt in
     let at : c.further-column.result.block ≡ first + k = omega (arith, c.further-column.ensures.block, c.from.ensures) in
-    let now = i.above numbers above in
+    let now = above_after numbers plan.low i.keeps above in
     block_cut t g.row.STAGE depths numbers plan.plane (first / 16) first p lt l same c.requires.some plan.low c.requires.stage (sym is_deep ∙ c.if-not-has.false) at inside in_marks now h.keeps (λ block s a b read kept. rw i.tables at (h.block block s a b read (rw own kept))) refl
 
 pub loop-k-preserved : goal.loop-k-preserved
@@ -98,9 +96,8 @@ loop-k-preserved g c =
     record {
       reading = h.reading;
       tables = h.tables ∙ j.tables;
-      size = h.keeps.long ∙ j.size;
+      keeps = slots_more j.keeps h.keeps;
       states = rw back (states_set c.args.marks.now c.loop-k.marks c.further-column.result.block new in_states (rw own at h.depth) (rw own at h.options) (rw own at h.sent) j.states);
-      above = λ numbers a. above_kept numbers c.args.plan.now.low h.keeps (j.above numbers a);
       left = λ depths numbers p deep above have families are.
           let i = c.loop-k.invariant in
           let plan = c.args.plan.now in
@@ -111,10 +108,10 @@ loop-k-preserved g c =
           let lt : k < c.args.blocks.count = c.loop-k-test.true in
           let same : (first + k) / 16 ≡ first / 16 = omega (arith, c.requires.gaggle, c.requires.count, lt) in
           let in_marks : first + k < length c.loop-k.marks = omega (arith, c.requires.within, lt, i.states.long) in
-          let inside : 64 * (first + k) < length c.loop-k.cells = omega (arith, c.requires.within, c.requires.whole, lt, i.size) in
+          let inside : 64 * (first + k) < length c.loop-k.cells = omega (arith, c.requires.within, c.requires.whole, lt, i.keeps.long) in
           let is_deep = c.has.ensures (λ r. nat_lt plan.plane (get_or depths r 0)) first c.args.blocks.count deep lt in
           let at : c.further-column.result.block ≡ first + k = omega (arith, c.further-column.ensures.block, c.from.ensures) in
-          let now = i.above numbers above in
+          let now = above_after numbers plan.low i.keeps above in
           rw back (block_whole t g.row.STAGE depths numbers plan.plane (first / 16) first p lt l same c.requires.some plan.low c.requires.stage (sym is_deep ∙ c.if-not-has.false) at inside in_marks now h.keeps (λ block s a b read kept. rw i.tables at (h.block block s a b read (rw own kept))) refl);
     }
 
@@ -130,10 +127,8 @@ returns-in_err-read-clause-states g c =
     let in_states : c.further-column.result.block < length c.loop-k.marks = omega (arith, c.requires.within, c.loop-k-test.true, j.states.long, c.further-column.ensures.block, c.from.ensures) in
     rw back (states_set c.args.marks.now c.loop-k.marks c.further-column.result.block new in_states (rw own at h.depth) (rw own at h.options) (rw own at h.sent) j.states)
 
-pub returns-in_err-read-clause-above : goal.returns-in_err-read-clause-above
-returns-in_err-read-clause-above g c = λ numbers a.
-    let h = c.in_err-read.ensures in
-    above_kept numbers c.args.plan.now.low h.keeps (c.loop-k.invariant.above numbers a)
+pub returns-in_err-read-clause-keeps : goal.returns-in_err-read-clause-keeps
+returns-in_err-read-clause-keeps g c = let h = c.in_err-read.ensures in slots_more c.loop-k.invariant.keeps h.keeps
 
 pub returns-in_default-clause-states : goal.returns-in_default-clause-states
 returns-in_default-clause-states g c =
@@ -147,7 +142,5 @@ returns-in_default-clause-states g c =
     let in_states : c.further-column.result.block < length c.loop-k.marks = omega (arith, c.requires.within, c.loop-k-test.true, j.states.long, c.further-column.ensures.block, c.from.ensures) in
     rw back (states_set c.args.marks.now c.loop-k.marks c.further-column.result.block new in_states (rw own at h.depth) (rw own at h.options) (rw own at h.sent) j.states)
 
-pub returns-in_default-clause-above : goal.returns-in_default-clause-above
-returns-in_default-clause-above g c = λ numbers a.
-    let h = rw c.in_default.is at c.in_ok-read.ensures in
-    above_kept numbers c.args.plan.now.low h.keeps (c.loop-k.invariant.above numbers a)
+pub returns-in_default-clause-keeps : goal.returns-in_default-clause-keeps
+returns-in_default-clause-keeps g c = let h = rw c.in_default.is at c.in_ok-read.ensures in slots_more c.loop-k.invariant.keeps h.keeps

@@ -1,9 +1,8 @@
-use Rattle.std.proofs.Common.{◌≡◌, ◌+◌, ◌*◌, ◌/◌, ◌∙◌, sym, ap, arith, subst}
+use Rattle.std.proofs.Common.{◌/◌, ◌∙◌, sym, arith, subst}
 use Rattle.std.proofs.lemmas.Result.{err_from_is_err_and}
-use Rattle.block_masks.specs.Gaggles.{AreOptions, options_in, sent_in}
 use Rattle.plane_windows.specs.Takes.{AreIn}
 use Rattle.plane_windows.specs.Gaggles.{gaggle_at}
-use Rattle.plane_windows.proofs.GaggleEnds.{same_options, depths_same, others_same, gaggle_fault, gaggle_cut, gaggle_whole}
+use Rattle.plane_windows.proofs.GaggleEnds.{same_options, depths_same, gaggle_fault, gaggle_cut, gaggle_whole}
 use Rattle.plane_windows.proofs.gaggles.take_gaggle.Goals as goal
 
 pub load-requires : goal.load-requires

@@ -1,15 +1,11 @@
-use Rattle.std.proofs.Common.{◌≡◌, ◌+◌, ◌<◌, ◌&&◌, ◌||◌, not, true, false, ap, sym, ◌∙◌, arith, rules, map, filter}
+use Rattle.std.proofs.Common.{◌≡◌, ◌+◌, ◌&&◌, ◌||◌, not, ap, sym, ◌∙◌, arith, rules}
 use Rattle.std.specs.List.{list_any}
 use Rattle.std.proofs.lemmas.Result.{err_from_is_err_and}
 use Rattle.item_defs.specs.Bits.{bit}
-use Rattle.plane_defs.specs.Spans.{span}
-use Rattle.plane_defs.specs.Steps.{ones_at}
 use Rattle.plane_defs.specs.Sets.{coded, members}
 use Rattle.plane_defs.specs.declared.sets.Set.TheVariants.{Grandchildren}
 use Rattle.block_masks.proofs.Viewing.{shows_own}
-use Rattle.item_scripts.specs.Scripts.{in_turn}
 use Rattle.plane_scripts.specs.States.{with_options}
-use Rattle.plane_scripts.specs.Words.{due_script}
 use Rattle.plane_scripts.specs.Stages.{above, is_due, is_childless}
 use Rattle.plane_windows.specs.Blocks.{terms_of}
 use Rattle.plane_windows.proofs.TypeReads.{on}

@@ -1,4 +1,4 @@
-use Rattle.std.proofs.Common.{◌≡◌, ◌+◌, ◌*◌, ◌<◌, ◌&&◌, ◌||◌, not, true, false, ap, sym, ◌∙◌, subst, arith}
+use Rattle.std.proofs.Common.{◌≡◌, ◌+◌, ◌*◌, ◌&&◌, ◌||◌, not, true, ap, sym, ◌∙◌, arith}
 use Rattle.std.specs.List.{list_any}
 use Rattle.std.proofs.lemmas.Result.{err_from_is_err_and}
 use Rattle.item_defs.specs.Bits.{bit}
@@ -8,7 +8,6 @@ use Rattle.block_masks.proofs.Viewing.{shows_own}
 use Rattle.plane_scripts.specs.States.{with_options}
 use Rattle.plane_scripts.specs.Stages.{above, is_due}
 use Rattle.plane_windows.specs.Blocks.{terms_of}
-use Rattle.plane_windows.specs.Takes.{Marks}
 use Rattle.plane_windows.proofs.TypeReads.{on}
 use Rattle.plane_windows.proofs.BlockReads.{due_marks}
 use Rattle.plane_windows.proofs.DueSets.{both_are, is_false, some_bit, new_quad, new_grandchild, any_marked, among_is}

@@ -1,4 +1,4 @@
-use Rattle.std.proofs.Common.{◌+◌, not, ap, sym, rules}
+use Rattle.std.proofs.Common.{not, ap, sym, rules}
 use Rattle.item_defs.specs.Bits.{bit}
 use Rattle.std.specs.List.{list_any}
 use Rattle.plane_defs.specs.Spans.{span}
