@@ -14,3 +14,9 @@ mod ItemsDecoded
 mod FromText
 mod Joined
 mod EndsSay
+mod Leaving
+mod LeftNumbers
+mod LeftDcs
+mod LeftPlanes
+mod LeftBlocks
+mod PartsGiven
