@@ -54,8 +54,10 @@ module _ (book : Book) (head : SegmentHead) (fits : IsHead head) (says : SaysWha
         let d : Decided = record { answer = gives o.text.part o.text.blocks; octets = length o.front } in
         let longer = (goes_on book head says (head_length head) o.front d o.text.is).1 (o.next ∷ more) in
         let same : octets ++ more ≡ o.front ++ (o.next ∷ more) = ap (λ l. l ++ more) o.both ∙ append_assoc o.front (o.next ∷ []) more in
-        let off : (length o.front == length (octets ++ more)) ≡ false = differ (length o.front) (length (octets ++ more)) (omega (arith, ap length same, length-append o.front (o.next ∷ more))) in
-        outcome_is (octets ++ more) (Some d) (ap (answer_in book head (head_length head)) same ∙ longer) ∙ ap (λ b. if b then Ok o.text.blocks else Err overlong) off
+        let off : (length o.front == length (octets ++ more)) ≡ false = differ (length o.front) (length (octets ++ more))
+        (omega (arith, ap length same, length-append o.front (o.next ∷ more))) in
+        outcome_is (octets ++ more) (Some d) (ap (answer_in book head (head_length head)) same ∙ longer) ∙ ap
+        (λ b. if b then Ok o.text.blocks else Err overlong) off
         );
     held = λ octets w e. held octets w (answer_in book head (head_length head) octets) refl (sym (outcomes_agree book head octets fits) ∙ e);
   }

@@ -7,3 +7,4 @@ pub mod TakenText
 pub mod DecodedItems
 pub mod Decoded
 pub mod Laws
+pub mod Parts

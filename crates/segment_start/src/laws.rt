@@ -1,5 +1,6 @@
 // What some octets hold, and the laws of what octets after a head hold.
 ghost use Rattle.segment_start.specs.Laws.{TextsEndThere, OutcomesAgree, TextsEndSo};
+ghost use Rattle.segment_start.specs.Parts.{TextsGiveParts};
 ghost use Rattle.segment_start.specs.Worked.{WorkedAnswers};
 
 use text_scripts::segments_are_read;
@@ -27,3 +28,8 @@ pub const fn texts_end_so()
 {
     segments_are_read();
 }
+
+/// The numbers that a text gives are multiples of their weights, and small.
+pub const fn texts_give_parts()
+    ensures { TextsGiveParts }
+{}

@@ -1,4 +1,4 @@
-//! This crate reads a coded segment: its text from the octets after its head (docs/formats.md, "Reading a segment").
+//! This crate reads a coded segment's text, from the octets after its head (docs/formats.md, "Reading a segment").
 #![tactic(auto)]
 
 mod decode;
@@ -12,4 +12,4 @@ mod text_in;
 
 pub use decode::{SegmentReader, decode_segment};
 pub use fault::SegmentFault;
-pub use laws::{outcomes_agree, texts_end_so, texts_end_there, worked_answers};
+pub use laws::{outcomes_agree, texts_end_so, texts_end_there, texts_give_parts, worked_answers};
