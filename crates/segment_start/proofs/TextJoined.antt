@@ -1,16 +1,14 @@
 -- A segment's text up to its planes, and its planes.
-use Rattle.std.proofs.Common.{◌≡◌, ℕ, ◌+◌, ◌-◌, ◌*◌, ◌/◌, ◌^◌, ◌<◌, ◌≤◌, ◌==◌, min, nat_lt, Bool, true, false, if◌then◌else◌, List, [], length, refl, sym, ap, ◌∙◌, subst, arith, ℤ, pos, get_or}
-use Rattle.std.specs.Prelude.{max}
-use Rattle.std.specs.List.{range_with_len}
+use Rattle.std.proofs.Common.{◌≡◌, ℕ, ◌+◌, ◌-◌, ◌*◌, ◌/◌, ◌^◌, ◌<◌, ◌≤◌, min, List, [], length, ap, ◌∙◌, arith, ℤ, pos, get_or}
 use Rattle.std.specs.Int.RustNames.{unsigned_abs}
 use Rattle.std.proofs.lemmas.List.FromFn.{length-map-range_with_len, get_or-map-range_with_len}
 use Rattle.std.proofs.Common.{pow-add}
 use Rattle.wave_defs.specs.Held.{block_at, blocks_in}
 use Rattle.wave_defs.proofs.Equations.{blocks_in-is}
 use Rattle.segment_defs.specs.declared.head.SegmentHead.{SegmentHead}
-use Rattle.segment_defs.specs.SegmentItems.{dc_shift, q_of}
+use Rattle.segment_defs.specs.SegmentItems.{q_of}
 use Rattle.segment_start.specs.Starts.{low_bits, HasDc}
-use Rattle.plane_windows.specs.Above.{HasNoneBelow, AwaitDcs, HasNoAcs}
+use Rattle.plane_windows.specs.Above.{AwaitDcs, HasNoAcs}
 
 module _ (head : SegmentHead) (blocks : List ℤ) (whole : length blocks ≡ 64 * head.blocks) (dcs : (r : ℕ) → r < head.blocks → HasDc head (block_at blocks r)) where
   pub no_acs : HasNoAcs blocks
