@@ -20,3 +20,4 @@ mod LeftDcs
 mod LeftPlanes
 mod LeftBlocks
 mod PartsGiven
+mod HoldsSo

@@ -9,6 +9,8 @@ mod start;
 mod text_end;
 
 pub use fault::SegmentFault;
-pub use laws::{outcomes_agree, texts_end_so, texts_end_there, texts_give_parts, worked_answers};
+pub use laws::{
+    outcomes_agree, texts_end_so, texts_end_there, texts_give_parts, texts_hold_so, worked_answers,
+};
 pub use start::take_start;
 pub use text_end::{end_input, end_text};
