@@ -21,3 +21,4 @@ mod LeftDcs
 mod LeftPlanes
 mod LeftBlocks
 mod PartsGiven
+mod HoldsSo

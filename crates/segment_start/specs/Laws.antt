@@ -6,7 +6,7 @@ use Rattle.item_defs.specs.Items.{Refusal}
 use Rattle.bit_pipe.specs.declared.fault.Part.{Part}
 use Rattle.segment_defs.specs.declared.head.SegmentHead.{SegmentHead}
 use Rattle.segment_defs.specs.Head.{IsHead, head_length}
-use Rattle.text_defs.specs.Outcomes.{at_item, short_segment, overlong}
+use Rattle.text_defs.specs.Outcomes.{Holds, Refused, at_item, short_segment, overlong}
 use Rattle.text_scripts.specs.Outcomes.{Answer, text_outcome}
 use Rattle.segment_start.specs.TextAnswers.{TextAnswer, gives, refuses, Decided, answer_in, Decides, NeedsMore}
 use Rattle.segment_start.specs.Decoded.{Overruns}
@@ -49,3 +49,15 @@ pub record EndsSay (book : Book) (head : SegmentHead) : Type 0 where
 
 abbrev pub TextsEndSo : Type 0
 TextsEndSo = (book : Book) → is_book_sound book ≡ true → (head : SegmentHead) → IsHead head → EndsSay book head
+
+-- Octets decide a text's blocks exactly if they hold some, and refuse an item by a name exactly if they have this name, by the relation of
+-- text_defs.
+pub record HoldsSo (book : Book) (head : SegmentHead) (rest : List ℕ) : Type 0 where
+  pub decided : (w : List (List ℤ)) → Holds book head rest w → (part : Part) × ((v : List (List ℤ)) × Decides book head (head_length head) rest (gives part v))
+  pub holds : (part : Part) (v : List (List ℤ)) → Decides book head (head_length head) rest (gives part v) → (w : List (List ℤ)) × Holds book head rest w
+  pub refused : (name : Refusal) → Decides book head (head_length head) rest (refuses name) → Refused book head rest (at_item name)
+  pub short : NeedsMore book head (head_length head) rest → Refused book head rest short_segment
+  pub lacks : Refused book head rest short_segment → NeedsMore book head (head_length head) rest
+
+abbrev pub TextsHoldSo : Type 0
+TextsHoldSo = (book : Book) → is_book_sound book ≡ true → (head : SegmentHead) (rest : List ℕ) → IsHead head → HoldsSo book head rest

@@ -1,9 +1,9 @@
 // What some octets hold, and the laws of what octets after a head hold.
-ghost use Rattle.segment_start.specs.Laws.{TextsEndThere, OutcomesAgree, TextsEndSo};
+ghost use Rattle.segment_start.specs.Laws.{TextsEndThere, OutcomesAgree, TextsEndSo, TextsHoldSo};
 ghost use Rattle.segment_start.specs.Parts.{TextsGiveParts};
 ghost use Rattle.segment_start.specs.Worked.{WorkedAnswers};
 
-use text_scripts::segments_are_read;
+use text_scripts::{segments_are_read, texts_are_read};
 
 /// Octets of coded segments that are worked out by hand hold what they should.
 pub const fn worked_answers()
@@ -33,3 +33,11 @@ pub const fn texts_end_so()
 pub const fn texts_give_parts()
     ensures { TextsGiveParts }
 {}
+
+/// Octets decide a text's blocks exactly if they hold some by the relation of `text_defs`, and are refused exactly if they are by it.
+pub const fn texts_hold_so()
+    ensures { TextsHoldSo }
+{
+    segments_are_read();
+    texts_are_read();
+}
