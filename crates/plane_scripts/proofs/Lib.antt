@@ -25,5 +25,9 @@ pub mod StageBack
 pub mod StageAnswers
 pub mod FamiliesTrue
 pub mod PlaneAnswers
+pub mod StatesLeft
+pub mod NumbersLeft
+pub mod BlockLeft
+pub mod PlanesBack
 pub mod BlockBack
 pub mod PlaneBack

@@ -13,7 +13,7 @@ use Rattle.plane_scripts.specs.Planes.{PlaneState, nothing_yet, of_block, with_b
 use Rattle.plane_scripts.proofs.WordGoes.{HasOptions, Options}
 use Rattle.plane_scripts.proofs.StageGoes.{stage_goes}
 
-abbrev AllOptions : PlaneState → Type 0
+abbrev pub AllOptions : PlaneState → Type 0
 AllOptions s = (g : ℕ) → HasOptions (s.options g)
 
 block_put : (s : PlaneState) (r : ℕ) (b : State) → AllOptions s → Options b → AllOptions (with_block s r b)
@@ -32,7 +32,7 @@ module _ (t : Terms) (is_sound : is_book_sound t.book ≡ true) (depths : List �
       (stage_script t stage (get_or depths r 0) (get_or blocks r []) (of_block u r))
       (stage_goes t is_sound (get_or blocks r []) stage (get_or depths r 0) (of_block u r) (p (r / 16)))) s h
 
-  plane_goes : (stages : ℕ) → Goes (plane_script t depths blocks stages) AllOptions
+  pub plane_goes : (stages : ℕ) → Goes (plane_script t depths blocks stages) AllOptions
   plane_goes stages = goes_in_turn (λ i. AllOptions) (blocks_script t depths blocks) 0 stages (λ i u low high p. blocks_go i u p) nothing_yet
       (λ g count option e. absurd cc)
 

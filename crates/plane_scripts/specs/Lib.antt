@@ -5,3 +5,4 @@ pub mod Planes
 pub mod Worked
 pub mod Laws
 pub mod Written
+pub mod Back
