@@ -29,7 +29,7 @@ use Rattle.number_scripts.specs.Numbers.{numbers_script}
 use Rattle.number_scripts.specs.DcPart.{with_dc, dc_bits_script, dcs_of_heights, high_script, dc_planes_script, dc_script}
 use Rattle.number_scripts.specs.Laws.{AreCounted, AreGiven, given_part, DcLaws}
 use Rattle.number_scripts.proofs.NumberLaws.{numbers_counted, written_counted, back_counted}
-use Rattle.number_scripts.proofs.DcNumbers.{twice, step_value, shr_step, bit_below, range_more, cancel, twice_same, shr_multiple}
+use Rattle.number_scripts.proofs.DcNumbers.{twice, step_value, shr_step, bit_below, range_more, cancel, twice_same}
 
 same_map : (f g : ℕ → Item) (a n : ℕ) → ((r : ℕ) → a ≤ r → r < a + n → f r ≡ g r) → map f (range_with_len a n) ≡ map g (range_with_len a n)
 same_map f g a zero same = refl
@@ -445,26 +445,16 @@ module _ (depth_dc depth_ac shift count : ℕ) where
       (high_written N q count dcs long (λ r lt. fits r (omega (arith, lt, long))) o) (λ s p. planes_written N q count dcs long planes s planes_within p) in
       rw dc_items-is (w.end, w.follows, w.is)
 
-  back : (items : List Item) (end : ℕ → ℤ) → ArePossible items → Follows (dc_script depth_dc depth_ac shift count) items end →
-      (o : ℕ → ℕ) × (2 ≤ N → (g : ℕ) → g < gaggle_count count → is_option N (o g) ≡ true) ×
-      (items ≡ dc_items depth_dc depth_ac shift (map end (range_with_len 0 count)) o)
-  back items end are f =
-      let xs = map end (range_with_len 0 count) in
-      let long : length xs ≡ count = length-map-range_with_len end 0 count in
+  back : (items : List Item) (end : ℕ → ℤ) → ArePossible items → Follows (dc_script depth_dc depth_ac shift count) items end → (dcs : List ℤ) →
+      length dcs ≡ count → ((r : ℕ) → r < count → end r ≡ given_part q planes (get_or dcs r (pos 0))) →
+      (o : ℕ → ℕ) × (2 ≤ N → (g : ℕ) → g < gaggle_count count → is_option N (o g) ≡ true) × (items ≡ dc_items depth_dc depth_ac shift dcs o)
+  back items end are f dcs long parts =
       let a = follows_split (dc_planes_script q count planes) (high_script N q count) items end f in
       let aa = possible_parts a.first a.rest (subst ArePossible a.both are) in
       let mid = goes_end (AreGiven N q 0 count) (high_script N q count) (high_goes N q count) a.first a.value aa.0 a.follows in
-      let last = goes_end (AreGiven N q planes count) (dc_planes_script q count planes a.value)
-      (planes_go N q count planes a.value some_bits planes_within mid) a.rest end aa.1 a.then in
-      let rest = planes_back N q count xs long planes a.value end some_bits planes_within mid a.rest aa.1 a.then (parts last) in
-      let first = high_back N q count xs long some_bits (few_bits depth_dc depth_ac shift) a.first a.value aa.0 a.follows rest.0 in
-      (first.0, first.1, a.both ∙ (λ t. first.2 t ++ rest.1 t) ∙ sym (dc_items-is depth_dc depth_ac shift xs first.0))
-    where
-      parts : AreGiven N q planes count end → (r : ℕ) → r < count → end r ≡ given_part q planes (get_or (map end (range_with_len 0 count)) r (pos 0))
-      parts given r lt =
-          let g = given r lt in
-          let at : get_or (map end (range_with_len 0 count)) r (pos 0) ≡ end r = get_or-map-range_with_len end 0 count r r (pos 0) lt (omega arith) in
-          g.2 ∙ ap (λ z. z *ℤ pos (2 ^ (q - planes))) (sym (shr_multiple g.0 (q - planes)) ∙ ap (λ z. int_shr z (q - planes)) (sym (at ∙ g.2)))
+      let rest = planes_back N q count dcs long planes a.value end some_bits planes_within mid a.rest aa.1 a.then parts in
+      let first = high_back N q count dcs long some_bits (few_bits depth_dc depth_ac shift) a.first a.value aa.0 a.follows rest.0 in
+      (first.0, first.1, a.both ∙ (λ t. first.2 t ++ rest.1 t) ∙ sym (dc_items-is depth_dc depth_ac shift dcs first.0))
 
   pub dc_laws : DcLaws depth_dc depth_ac shift count
   dc_laws = record {
