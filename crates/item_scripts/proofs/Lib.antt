@@ -4,3 +4,4 @@ pub mod FollowLaws
 pub mod ReaderLaws
 pub mod Completing
 pub mod Writing
+pub mod Starting

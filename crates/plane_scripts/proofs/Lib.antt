@@ -29,5 +29,6 @@ pub mod StatesLeft
 pub mod NumbersLeft
 pub mod BlockLeft
 pub mod PlanesBack
+pub mod PlanesStart
 pub mod BlockBack
 pub mod PlaneBack
