@@ -2,4 +2,6 @@ mod WorkedRead
 mod SegmentGoes
 pub mod AsksItems
 pub mod SegmentWritten
+pub mod SegmentBack
+pub mod TextBack
 pub mod TextReads

@@ -45,7 +45,7 @@ not_reached : (m k : ℕ) → m < k → nat_le k m ≡ false
 not_reached m k lt = grind (arith, nat_tests)
 
 -- the planes from the top are those from the highest down
-planes_are : (head : SegmentHead) (blocks : List (List ℤ)) (depths : List ℕ) (options : Options) (below n : ℕ) → n + below ≡ head.depth_ac →
+pub planes_are : (head : SegmentHead) (blocks : List (List ℤ)) (depths : List ℕ) (options : Options) (below n : ℕ) → n + below ≡ head.depth_ac →
     flat_map (nth_plane_items head blocks depths options) (span n below) ≡
     planes_reading options.book options.words blocks depths head.image.weights.shifts (q_of head) (stages_sent head) below
 planes_are head blocks depths options zero n e = ap (flat_map (nth_plane_items head blocks depths options)) (span-none n)
@@ -59,7 +59,7 @@ planes_are head blocks depths options (suc b) n e =
     planes_reading options.book options.words blocks depths head.image.weights.shifts (q_of head) (stages_sent head) b) here
 
 -- below a plane of which not all stages are sent, none is
-stages_stop : (head : SegmentHead) → head.stop.stage < 4 → Stops (stages_sent head)
+pub stages_stop : (head : SegmentHead) → head.stop.stage < 4 → Stops (stages_sent head)
 stages_stop head few b = by (nat_lt head.stop.plane b) refl (b == head.stop.plane) refl
   where
     none : (c : ℕ) → c < head.stop.plane → stages_sent head c ≡ 0

@@ -5,13 +5,11 @@ use Rattle.std.proofs.lemmas.Bool.Decides.{nat_tests}
 use Rattle.item_defs.specs.Items.{Item, Refusal, text}
 use Rattle.item_defs.specs.Readings.{AreItems, item_at}
 use Rattle.base_122.specs.declared.book.Book.{Book}
-use Rattle.plane_defs.specs.Codes.{is_book_sound}
 use Rattle.segment_defs.specs.declared.head.SegmentHead.{SegmentHead}
 use Rattle.segment_defs.specs.Head.{IsHead}
 use Rattle.segment_defs.specs.SegmentItems.{Options, segment_items}
 use Rattle.text_defs.specs.Fronts.{NothingFollows, RefusalFollows}
 use Rattle.text_defs.specs.Outcomes.{SegmentRefusal, at_item, short_segment, overlong, length_of, bits_read, expected_length, Reading, IsCut, IsTaken, IsOff, IsOffLimit, IsRefusedItem, Holds, Refused}
-use Rattle.text_defs.proofs.Further.{has_outcome}
 use Rattle.item_scripts.specs.Scripts.{Script}
 use Rattle.item_scripts.specs.Following.{SaysWhat}
 use Rattle.text_scripts.specs.Segments.{segment_script}
@@ -19,6 +17,7 @@ use Rattle.text_scripts.specs.Outcomes.{Answer, by_length, expected, verdict, te
 use Rattle.text_scripts.specs.Laws.{TextsAreRead}
 use Rattle.text_scripts.proofs.SegmentGoes.{segments_are_read}
 use Rattle.text_scripts.proofs.SegmentWritten.{segment_follows, segment_asks}
+use Rattle.text_scripts.proofs.TextBack.{held_back, name_back}
 
 abbrev Blocks : Type 0
 Blocks = List (List ℤ)
@@ -153,31 +152,10 @@ refused_reads : (book : Book) (head : SegmentHead) (rest : List ℕ) (name : Seg
 refused_reads book head rest name is_head h =
     ap (λ b. text_outcome b head rest) (sym h.of_book) ∙ off_read head is_head rest h.blocks h.depths h.options h.count h.more h.reading name h.cause
 
--- ---- back
-
-not_both : (v : Blocks) (name : SegmentRefusal) → ◌≡◌ {A = Answer} (Ok v) (Err name) → ⊥
-not_both v name e = cc
-
-same_name : (a b : SegmentRefusal) → ◌≡◌ {A = Answer} (Err a) (Err b) → a ≡ b
-same_name a b e = cc
-
-module _ (book : Book) (sound : is_book_sound book ≡ true) (head : SegmentHead) (rest : List ℕ) (is_head : IsHead head) where
-  abbrev Either : Type 0
-  Either = ((w : Blocks) × Holds book head rest w) ⊎ ((name : SegmentRefusal) × Refused book head rest name)
-
-  read_held : (v : Blocks) → text_outcome book head rest ≡ Ok v → Either → (w : Blocks) × Holds book head rest w
-  read_held v e (inl h) = h
-  read_held v e (inr h) = absurd (not_both v h.0 (sym e ∙ refused_reads book head rest h.0 is_head h.1))
-
-  read_refused : (name : SegmentRefusal) → text_outcome book head rest ≡ Err name → Either → Refused book head rest name
-  read_refused name e (inl h) = let r = holds_read book head rest h.0 is_head h.1 in absurd (not_both r.0 name (sym r.1 ∙ e))
-  read_refused name e (inr h) =
-      subst (Refused book head rest) (same_name h.0 name (sym (refused_reads book head rest h.0 is_head h.1) ∙ e)) h.1
-
 pub texts_are_read : TextsAreRead
 texts_are_read book sound head rest is_head = record {
   holds = λ w h. holds_read book head rest w is_head h;
   refuses = λ name h. refused_reads book head rest name is_head h;
-  held = λ v e. read_held book sound head rest is_head v e (has_outcome book sound head rest is_head);
-  refused = λ name e. read_refused book sound head rest is_head name e (has_outcome book sound head rest is_head);
+  held = λ v e. held_back book sound head is_head rest v e;
+  refused = λ name e. name_back book sound head is_head rest name e;
 }
