@@ -16,8 +16,8 @@ use Rattle.plane_defs.specs.StepLaws.{IsAc, SameAc}
 use Rattle.plane_defs.specs.Laws.{IsMultiple}
 use Rattle.plane_defs.proofs.Equations.{significant-is, coded-is, type_due-is, newly_significant-is}
 use Rattle.plane_defs.proofs.SpanLists.{length-map-span, get_or-map-span}
-use Rattle.plane_scripts.specs.Written.{AreChosen, Shows}
-use Rattle.plane_scripts.specs.Back.{low_bits, IsBegun}
+use Rattle.plane_scripts.specs.Written.{AreChosen, Shows, low_bits}
+use Rattle.plane_scripts.specs.Back.{IsBegun}
 use Rattle.plane_scripts.specs.States.{State}
 use Rattle.plane_scripts.specs.Stages.{Terms}
 use Rattle.plane_scripts.specs.Planes.{bit_of_plane, number_with, block_with}

@@ -118,7 +118,7 @@ module _ (z : ℤ) (b : ℕ) (x : Bool) (whole : IsWhole (b + 1) z) where
   abbrev now : ℤ
   now = z +ℤ pos (weight b x)
 
-  value : now ≡ twice whole.0 (digit x) *ℤ pos (2 ^ b)
+  pub value : now ≡ twice whole.0 (digit x) *ℤ pos (2 ^ b)
   value =
       let two : 2 ^ (b + 1) ≡ 2 * 2 ^ b = doubled b ∙ (let y : 2 ^ b * 2 ≡ 2 * 2 ^ b = omega arith in y) in
       ap (λ y. y +ℤ pos (weight b x)) (whole.1 ∙ ap (λ y. whole.0 *ℤ pos y) two) ∙ ap (λ y. (whole.0 *ℤ pos (2 * 2 ^ b)) +ℤ y) (weight_is x) ∙
@@ -158,6 +158,10 @@ module _ (z : ℤ) (b : ℕ) (x : Bool) (whole : IsWhole (b + 1) z) where
       is true = refl
       is false = refl
 
+below_zero : (x n : ℕ) → neg_ℤ (pos x) *ℤ pos n ≡ neg_ℤ (pos (x * n))
+below_zero zero n = let e : 0 * n ≡ 0 = omega arith in ap pos e ∙ sym (ap (λ x. neg_ℤ (pos x)) e)
+below_zero (suc y) n = refl
+
 pub whole_lower : (z : ℤ) (c s : ℕ) → s ≤ c → IsWhole c z → IsWhole s z
 whole_lower z c s le w =
     let f : c ≡ (c - s) + s = omega (arith, le) in
@@ -166,10 +170,6 @@ whole_lower z c s le w =
     assoc : (z : ℤ) (m n : ℕ) → (z *ℤ pos m) *ℤ pos n ≡ z *ℤ pos (m * n)
     assoc (pos a) m n = ap pos (let e : a * m * n ≡ a * (m * n) = omega arith in e)
     assoc (negsuc a) m n = below_zero (suc a * m) n ∙ ap (λ x. neg_ℤ (pos x)) (let e : suc a * m * n ≡ suc a * (m * n) = grind arith in e)
-      where
-        below_zero : (x n : ℕ) → neg_ℤ (pos x) *ℤ pos n ≡ neg_ℤ (pos (x * n))
-        below_zero zero n = let e : 0 * n ≡ 0 = omega arith in ap pos e ∙ sym (ap (λ x. neg_ℤ (pos x)) e)
-        below_zero (suc y) n = refl
 
 pub whole_size : (z : ℤ) (k : ℕ) → (w : IsWhole k z) → unsigned_abs z ≡ 2 ^ k * unsigned_abs w.0
 whole_size z k w = ap unsigned_abs w.1 ∙ size w.0 (2 ^ k)
@@ -177,3 +177,27 @@ whole_size z k w = ap unsigned_abs w.1 ∙ size w.0 (2 ^ k)
     size : (y : ℤ) (n : ℕ) → unsigned_abs (y *ℤ pos n) ≡ n * unsigned_abs y
     size (pos a) n = omega arith
     size (negsuc a) n = grind (arith, nat_tests, ints)
+
+-- a number of this magnitude is its own part from the place on
+pub whole_part : (z : ℤ) (k part : ℕ) → unsigned_abs z ≡ 2 ^ k * part → z ≡ int_shr z k *ℤ pos (2 ^ k)
+whole_part z k part e = let w = multiple z e in w.1 ∙ ap (λ y. y *ℤ pos (2 ^ k)) (sym (shr_multiple w.0 k) ∙ ap (λ y. int_shr y k) (sym w.1))
+  where
+    multiple : (z : ℤ) → unsigned_abs z ≡ 2 ^ k * part → IsWhole k z
+    multiple (pos a) e = (pos part, ap pos (e ∙ (let f : 2 ^ k * part ≡ part * 2 ^ k = omega arith in f)))
+    multiple (negsuc a) e =
+        let f : suc a ≡ part * 2 ^ k = e ∙ (let g : 2 ^ k * part ≡ part * 2 ^ k = omega arith in g) in
+        (neg_ℤ (pos part), ap (λ x. neg_ℤ (pos x)) f ∙ sym (below_zero part (2 ^ k)))
+
+-- a DC with its bit of the plane is the DC from that bit up
+pub dc_step : (z v : ℤ) (b : ℕ) (x : Bool) → z ≡ int_shr v (b + 1) *ℤ pos (2 ^ (b + 1)) → x ≡ twos_bit v b →
+    z +ℤ pos (weight b x) ≡ int_shr v b *ℤ pos (2 ^ b)
+dc_step z v b x is e =
+    let f : suc b ≡ b + 1 = omega arith in
+    value z b x (int_shr v (b + 1), is) ∙
+    ap (λ y. y *ℤ pos (2 ^ b)) (ap (twice (int_shr v (b + 1))) (ap digit (e ∙ twos v b) ∙ one (complement 1 (int_shr v b)) (bit_below (int_shr v b))) ∙
+    ap (λ n. twice (int_shr v n) (complement 1 (int_shr v b))) (sym f) ∙ sym (shr_step v b))
+  where
+    one : (n : ℕ) → n < 2 → digit (n == 1) ≡ n
+    one zero lt = refl
+    one (suc zero) lt = refl
+    one (suc (suc n)) lt = absurd (omega (arith, lt))

@@ -22,8 +22,8 @@ use Rattle.item_scripts.specs.Following.{Follows}
 use Rattle.item_scripts.specs.Completing.{ArePossible}
 use Rattle.item_scripts.proofs.FollowLaws.{follows_split, around_follows}
 use Rattle.item_scripts.proofs.Completing.{possible_parts, goes_end}
-use Rattle.plane_scripts.specs.Written.{AreChosen, planes_reading, Shows}
-use Rattle.plane_scripts.specs.Back.{low_bits, dc_in, IsBegun, AreBegun, WrittenBack, PlanesBack}
+use Rattle.plane_scripts.specs.Written.{AreChosen, planes_reading, Shows, low_bits}
+use Rattle.plane_scripts.specs.Back.{dc_in, IsBegun, AreBegun, WrittenBack, PlanesBack}
 use Rattle.plane_scripts.specs.Words.{option_of}
 use Rattle.plane_scripts.specs.Stages.{Terms}
 use Rattle.plane_scripts.specs.Planes.{PlaneState, block_with, blocks_with, plane_script, planes_script}

@@ -1,9 +1,9 @@
 -- What is read of all planes is what the values at their end write.
-use Rattle.std.specs.Prelude.{◌≡◌, ◌≤◌, ◌<◌, ℕ, ◌*◌, ◌/◌, ◌^◌, max, min, true, ℤ, pos, ◌*ℤ◌, List, [], length}
+use Rattle.std.specs.Prelude.{◌≡◌, ◌≤◌, ◌<◌, ℕ, ◌*◌, ◌/◌, ◌^◌, true, ℤ, pos, ◌*ℤ◌, List, [], length}
 use Rattle.std.specs.Int.{int_shr}
 use lib.ListN.{get_or}
 use Rattle.base_122.specs.declared.book.Book.{Book}
-use Rattle.plane_defs.specs.Sets.{magnitude, shift}
+use Rattle.plane_defs.specs.Sets.{magnitude}
 use Rattle.plane_defs.specs.Codes.{is_book_sound}
 use Rattle.plane_defs.specs.StepLaws.{IsAc}
 use Rattle.plane_defs.specs.Laws.{IsMultiple}
@@ -11,11 +11,7 @@ use Rattle.item_defs.specs.Items.{Item}
 use Rattle.item_scripts.specs.Following.{Follows}
 use Rattle.item_scripts.specs.Completing.{ArePossible}
 use Rattle.plane_scripts.specs.Planes.{planes_script}
-use Rattle.plane_scripts.specs.Written.{AreChosen, planes_reading, Shows}
-
--- the low bits of a DC that are 0 before the planes below this one
-abbrev pub low_bits : (weights : List ℕ) → (q below : ℕ) → ℕ
-low_bits weights q below = max (min below q) (shift weights 0)
+use Rattle.plane_scripts.specs.Written.{AreChosen, planes_reading, Shows, low_bits}
 
 abbrev pub dc_in : List (List ℤ) → ℕ → ℤ
 dc_in blocks r = get_or (get_or blocks r []) 0 (pos 0)

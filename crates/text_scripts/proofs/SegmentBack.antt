@@ -37,7 +37,7 @@ use Rattle.number_scripts.proofs.DcLaws.{dc_laws}
 use Rattle.number_scripts.proofs.DepthLaws.{depth_laws}
 use Rattle.number_scripts.proofs.DcNumbers.{shr_multiple}
 use Rattle.plane_scripts.specs.Planes.{planes_script}
-use Rattle.plane_scripts.specs.Back.{low_bits, dc_in, IsBegun, AreBegun, WrittenBack}
+use Rattle.plane_scripts.specs.Back.{dc_in, IsBegun, AreBegun, WrittenBack}
 use Rattle.plane_scripts.proofs.NumbersLeft.{shr_more, whole_lower, whole_size}
 use Rattle.plane_scripts.proofs.PlaneGoes.{planes_go}
 use Rattle.plane_scripts.proofs.PlanesBack.{planes_are_back}
