@@ -134,7 +134,7 @@ dc_next weights q b block v s above is = by (coded weights b 0) refl (nat_lt b q
 
 -- ---- blocks
 
-dc_nothing : (low : ℕ) → ShowsDc low [] []
+pub dc_nothing : (low : ℕ) → ShowsDc low [] []
 dc_nothing low =
     let e : 0 / 2 ^ low ≡ 0 = grind arith in
     let f : 0 ≡ 0 / 2 ^ low * 2 ^ low = (let g : 0 ≡ 0 * 2 ^ low = omega arith in g ∙ ap (λ n. n * 2 ^ low) (sym e)) in ap pos f

@@ -1,6 +1,6 @@
 -- What is read of a segment, to the end of all planes, is what the blocks at the end write.
-use Rattle.std.proofs.Common.{◌≡◌, ℕ, zero, suc, ◌+◌, ◌-◌, ◌*◌, ◌/◌, ◌^◌, ◌≤◌, ◌<◌, max, min, Bool, true, false, cond, if◌then◌else◌, List, [], ◌∷◌, ◌++◌, length, refl, ap, sym, ◌∙◌, subst, arith, ℤ, pos, ◌*ℤ◌, inl, inr, append_assoc, pow_pos}
-use Rattle.std.specs.Prelude.{replicate, slice_index, slice_index_or}
+use Rattle.std.proofs.Common.{◌≡◌, ℕ, zero, suc, ◌+◌, ◌-◌, ◌*◌, ◌/◌, ◌^◌, ◌≤◌, ◌<◌, max, Bool, true, false, cond, if◌then◌else◌, List, [], ◌∷◌, ◌++◌, length, refl, ap, sym, ◌∙◌, subst, arith, ℤ, pos, ◌*ℤ◌, inl, inr, append_assoc, pow_pos}
+use Rattle.std.specs.Prelude.{replicate, slice_index_or}
 use Rattle.std.specs.Int.{int_shr}
 use Rattle.std.specs.Int.RustNames.{unsigned_abs}
 use Rattle.std.proofs.lemmas.Bool.{cases_lt}
@@ -8,7 +8,6 @@ use Rattle.std.proofs.lemmas.List.{get_or_past, get_or-replicate, get_or-map, le
 use lib.ListN.{get_or}
 use Rattle.item_defs.specs.Items.{Item}
 use Rattle.base_122.specs.declared.book.Book.{Book}
-use Rattle.wave_defs.specs.Blocks.{place_of}
 use Rattle.number_defs.specs.Ranges.{IsInRange}
 use Rattle.number_defs.specs.Depths.{depth_bits, depth_items}
 use Rattle.number_defs.specs.DcPart.{dc_bits, dc_planes}
@@ -37,6 +36,7 @@ use Rattle.number_scripts.proofs.DcLaws.{dc_laws}
 use Rattle.number_scripts.proofs.DepthLaws.{depth_laws}
 use Rattle.number_scripts.proofs.DcNumbers.{shr_multiple}
 use Rattle.plane_scripts.specs.Planes.{planes_script}
+use Rattle.plane_scripts.specs.Written.{low_bits}
 use Rattle.plane_scripts.specs.Back.{dc_in, IsBegun, AreBegun, WrittenBack}
 use Rattle.plane_scripts.proofs.NumbersLeft.{shr_more, whole_lower, whole_size}
 use Rattle.plane_scripts.proofs.PlaneGoes.{planes_go}
@@ -46,7 +46,7 @@ use Rattle.text_scripts.specs.Laws.{HasBlocks}
 use Rattle.text_scripts.specs.Segments.{dc_blocks, dc_part_script, planes_part_script, segment_script}
 use Rattle.text_scripts.proofs.AsksItems.{beside_follows}
 use Rattle.text_scripts.proofs.SegmentGoes.{dc_goes}
-use Rattle.text_scripts.proofs.SegmentWritten.{planes_are, stages_stop}
+use Rattle.text_scripts.proofs.SegmentWritten.{low_same, planes_are, stages_stop}
 
 -- ---- a block that has only a DC number
 
@@ -75,10 +75,6 @@ module _ (dc : ℤ) where
       part zero =
           let v = whole_lower dc (low_bits weights q below) (shift weights 0) (omega arith) whole in (unsigned_abs v.0, whole_size dc (shift weights 0) v)
       part (suc p) = (0, nothing_else (suc p) (omega arith) ∙ (let e : 0 ≡ 2 ^ shift weights (suc p) * 0 = omega arith in e))
-
-first_shift : (weights : List ℕ) → shift weights 0 ≡ slice_index weights 9
-unfolding place_of
-first_shift weights = refl
 
 -- ---- the segment without a stop
 
@@ -139,12 +135,6 @@ module _ (book : Book) (is_sound : is_book_sound book ≡ true) (head : SegmentH
   abbrev count : ℕ
   count = head.blocks
 
-  low_same : low_bits W q head.depth_ac ≡ q - n
-  low_same = ap (λ s. max (min head.depth_ac q) s) (first_shift W) ∙ same _ head.depth_ac (dc_shift head)
-    where
-      same : (x a s : ℕ) → max (min a (max x s)) s ≡ max x s - (max x s - max a s)
-      same x a s = omega arith
-
   module _ (dcs : ℕ → ℤ) (given : AreGiven N q n count dcs) (depths : List ℕ) (counted : AreCounted (2 ^ depth_bits head.depth_ac) count depths)
       (items : List Item) (w : List (List ℤ))
       (b : WrittenBack book W q depths head.depth_ac (dc_blocks count dcs) items w) where
@@ -160,7 +150,7 @@ module _ (book : Book) (is_sound : is_book_sound book ≡ true) (head : SegmentH
     -- the bits of a DC from those that the DC part gives on
     dc_same : (r c : ℕ) → r < count → q - n ≤ c → int_shr (slice_index_or (dcs_of w) r (pos 0)) c ≡ int_shr (dcs r) c
     dc_same r c lt le =
-        ap (λ z. int_shr z c) (dc_at r lt) ∙ b.dcs r c (subst (λ k. k ≤ c) (sym low_same) le) ∙
+        ap (λ z. int_shr z c) (dc_at r lt) ∙ b.dcs r c (subst (λ k. k ≤ c) (sym (low_same head)) le) ∙
         ap (λ l. int_shr (get_or l 0 (pos 0)) c) (first_at r lt)
 
     pub parts : (r : ℕ) → r < count → dcs r ≡ given_part q n (slice_index_or (dcs_of w) r (pos 0))
@@ -253,7 +243,7 @@ module _ (book : Book) (is_sound : is_book_sound book ≡ true) (head : SegmentH
                 let in_count : r < count = (let e = length-map-span (λ i. dcs i ∷ replicate 63 (pos 0)) count in omega (arith, lt, e)) in
                 subst (IsBegun W q head.depth_ac (get_or depths r 0)) (sym (get_or-map-span (λ i. dcs i ∷ replicate 63 (pos 0)) count r [] in_count))
                 (dc_begun (dcs r) W q head.depth_ac (get_or depths r 0)
-                (let g = given r in_count in (g.0, g.2 ∙ ap (λ k. g.0 *ℤ pos (2 ^ k)) (sym low_same))))
+                (let g = given r in_count in (g.0, g.2 ∙ ap (λ k. g.0 *ℤ pos (2 ^ k)) (sym (low_same head)))))
 
             -- the items up to the stop
             stopped : (D E P rest : List Item) (t : Bool) → (more : List Item) × (D ++ (E ++ (P ++ rest)) ≡ cond t D (D ++ (E ++ P)) ++ more)

@@ -14,9 +14,9 @@ use Rattle.item_scripts.specs.Scripts.{Script}
 use Rattle.item_scripts.specs.Following.{SaysWhat}
 use Rattle.text_scripts.specs.Segments.{segment_script}
 use Rattle.text_scripts.specs.Outcomes.{Answer, by_length, expected, verdict, text_outcome}
-use Rattle.text_scripts.specs.Laws.{TextsAreRead}
+use Rattle.text_scripts.specs.Laws.{HasAllPlanes, TextsAreRead}
 use Rattle.text_scripts.proofs.SegmentGoes.{segments_are_read}
-use Rattle.text_scripts.proofs.SegmentWritten.{segment_follows, segment_asks}
+use Rattle.text_scripts.proofs.SegmentWritten.{segment_follows, segment_exact, segment_asks}
 use Rattle.text_scripts.proofs.TextBack.{held_back, name_back}
 
 abbrev Blocks : Type 0
@@ -99,6 +99,22 @@ module _ (head : SegmentHead) (is_head : IsHead head) (rest : List ℕ) (blocks 
       let used : length bits - length more ≡ length (text items) = (let a = ap length read in let b = length-append (text items) more in omega (arith, a, b)) in
       (w.0, ap (verdict head rest) ran ∙ ap (λ n. by_length (length_of head rest) (expected head n) w.0) used)
 
+  -- all items of a text without a stop
+  exact_read : m ≡ length items → HasAllPlanes head → length_of head rest ≡ expected_length head items → text_outcome options.book head rest ≡ Ok blocks
+  exact_read e no_stop size =
+      let same = take_all items m e in
+      let are : AreItems items = subst AreItems same all in
+      let read : bits ≡ text items ++ more = r.front.read ∙ ap (λ l. text l ++ more) same in
+      let ran = says.is_whole bits more blocks (record {
+        items = items;
+        are = are;
+        read = read;
+        follows = segment_exact head is_head blocks depths options r.spellable r.known are no_stop;
+      }) in
+      let used : length bits - length more ≡ length (text items) = (let a = ap length read in let b = length-append (text items) more in omega (arith, a, b)) in
+      ap (verdict head rest) ran ∙ ap (λ n. by_length (length_of head rest) (expected head n) blocks) used ∙
+      exact (length_of head rest) (expected_length head items) blocks size
+
   -- an item is cut
   cut_read : NothingFollows items m more → (w : Blocks) × (text_outcome options.book head rest ≡ cut_verdict head rest w)
   cut_read c =
@@ -147,6 +163,13 @@ holds_read book head rest w is_head h =
     let t = taken_read head is_head rest h.blocks h.depths h.options h.count h.more h.reading h.is_taken in
     (t.0, ap (λ b. text_outcome b head rest) (sym h.of_book) ∙ t.1)
 
+exact_reads : (book : Book) (head : SegmentHead) (rest : List ℕ) (w : Blocks) → IsHead head → (h : Holds book head rest w) → HasAllPlanes head →
+    h.count ≡ length (segment_items head h.blocks h.depths h.options) → text_outcome book head rest ≡ Ok h.blocks
+exact_reads book head rest w is_head h no_stop e = ap (λ b. text_outcome b head rest) (sym h.of_book) ∙ elim h.is_taken [
+  | inl a ↦ exact_read head is_head rest h.blocks h.depths h.options h.count h.more h.reading e no_stop a.1
+  | inr c ↦ absurd (let lt = c.0.within in omega (arith, lt, e))
+]
+
 refused_reads : (book : Book) (head : SegmentHead) (rest : List ℕ) (name : SegmentRefusal) → IsHead head → Refused book head rest name →
     text_outcome book head rest ≡ Err name
 refused_reads book head rest name is_head h =
@@ -155,6 +178,7 @@ refused_reads book head rest name is_head h =
 pub texts_are_read : TextsAreRead
 texts_are_read book sound head rest is_head = record {
   holds = λ w h. holds_read book head rest w is_head h;
+  exact = λ w h no_stop e. exact_reads book head rest w is_head h no_stop e;
   refuses = λ name h. refused_reads book head rest name is_head h;
   held = λ v e. held_back book sound head is_head rest v e;
   refused = λ name e. name_back book sound head is_head rest name e;

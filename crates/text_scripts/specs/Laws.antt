@@ -1,5 +1,5 @@
 -- The laws of coded segments, as they are read.
-use Rattle.std.specs.Prelude.{◌≡◌, ℕ, List, length, true, ℤ, Ok, Err}
+use Rattle.std.specs.Prelude.{◌≡◌, ℕ, List, length, true, false, ℤ, Ok, Err}
 use Rattle.item_defs.specs.Items.{Form, Item}
 use Rattle.item_defs.specs.Readings.{AreItems}
 use Rattle.base_122.specs.declared.book.Book.{Book}
@@ -8,6 +8,7 @@ use Rattle.segment_defs.specs.declared.head.SegmentHead.{SegmentHead}
 use Rattle.item_scripts.specs.Following.{SaysWhat, Asks}
 use Rattle.item_scripts.specs.Completing.{Goes, Completed}
 use Rattle.segment_defs.specs.Head.{IsHead}
+use Rattle.segment_defs.specs.SegmentItems.{segment_items}
 use Rattle.text_defs.specs.Outcomes.{SegmentRefusal, Holds, Refused}
 use Rattle.text_scripts.specs.Segments.{segment_script}
 use Rattle.text_scripts.specs.Outcomes.{text_outcome}
@@ -28,9 +29,18 @@ pub record SegmentLaws (book : Book) (head : SegmentHead) : Type 0 where
 abbrev pub SegmentsAreRead : Type 0
 SegmentsAreRead = (book : Book) (head : SegmentHead) → is_book_sound book ≡ true → SegmentLaws book head
 
+-- the stop is after the last stage of the last bit plane
+pub record HasAllPlanes (head : SegmentHead) : Type 0 where
+  pub goes_on : head.stop.dc ≡ false
+  pub plane : head.stop.plane ≡ 0
+  pub stage : head.stop.stage ≡ 3
+
 -- a text is read as values exactly if it holds some, and is refused by a name exactly if it has this name
 pub record TextReads (book : Book) (head : SegmentHead) (rest : List ℕ) : Type 0 where
   pub holds : (w : List (List ℤ)) → Holds book head rest w → (v : List (List ℤ)) × (text_outcome book head rest ≡ Ok v)
+  -- values of which all items are given are read as they are, if there is no stop
+  pub exact : (w : List (List ℤ)) (h : Holds book head rest w) → HasAllPlanes head → h.count ≡ length (segment_items head h.blocks h.depths h.options) →
+      text_outcome book head rest ≡ Ok h.blocks
   pub refuses : (name : SegmentRefusal) → Refused book head rest name → text_outcome book head rest ≡ Err name
   pub held : (v : List (List ℤ)) → text_outcome book head rest ≡ Ok v → (w : List (List ℤ)) × Holds book head rest w
   pub refused : (name : SegmentRefusal) → text_outcome book head rest ≡ Err name → Refused book head rest name
