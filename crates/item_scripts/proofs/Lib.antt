@@ -5,3 +5,4 @@ pub mod ReaderLaws
 pub mod Completing
 pub mod Writing
 pub mod Starting
+pub mod Giving

@@ -32,3 +32,4 @@ pub mod PlanesBack
 pub mod PlanesStart
 pub mod BlockBack
 pub mod PlaneBack
+pub mod BlockGives
