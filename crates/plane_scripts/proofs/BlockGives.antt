@@ -50,7 +50,7 @@ give_then book o P Q s next before xs ys w g more =
     subst (λ l. Gives (then_ask s next) l Q) (sym (read_append book o before xs ys))
     (gives_then Q s next (read_after book o before xs) (read_after book o (before ++ entries_of xs) ys) w.end w.follows g (more w.end w.is))
 
-give_in_turn : {S : Type 0} (book : Book) (o : List ℕ) (P : ℕ → List Entry → S → Type 0) (Q : S → Type 0) (item : ℕ → S → Script S S) (steps : ℕ → List Step)
+pub give_in_turn : {S : Type 0} (book : Book) (o : List ℕ) (P : ℕ → List Entry → S → Type 0) (Q : S → Type 0) (item : ℕ → S → Script S S) (steps : ℕ → List Step)
     (j n : ℕ) →
     ((i : ℕ) (b : List Entry) (s : S) → j ≤ i → i < j + n → P i b s →
     Sends book o (item i s) b (steps i) (P (suc i)) × Gives (item i s) (read_after book o b (steps i)) Q) →

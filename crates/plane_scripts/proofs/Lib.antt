@@ -33,3 +33,5 @@ pub mod PlanesStart
 pub mod BlockBack
 pub mod PlaneBack
 pub mod BlockGives
+pub mod CutBlocks
+pub mod CutPlanes

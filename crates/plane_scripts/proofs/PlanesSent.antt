@@ -45,13 +45,13 @@ module _ (v : List ℤ) (weights : List ℕ) (b : ℕ) (whole : IsMultiple v wei
   abbrev X : Bool
   X = significant v b p
 
-  no_bit : C ≡ false → bit M b ≡ false
+  pub no_bit : C ≡ false → bit M b ≡ false
   no_bit e = bit_below M b (shift weights p) (whole.part p) (whole.whole p) (under (shift weights p) b (sym (coded-is weights b p) ∙ e))
     where
       under : (s b : ℕ) → nat_le s b ≡ false → b < s
       under s b e = grind (arith, nat_tests)
 
-  new_bit : A ≡ false → X ≡ bit M b
+  pub new_bit : A ≡ false → X ≡ bit M b
   new_bit e = significant-is v b p ∙ bit_reached M b (sym (significant-is v (b + 1) p) ∙ e)
 
   -- a new number has the bit, and any other if it is refined so
@@ -103,7 +103,7 @@ shows_next weights b block v families dc o before s whole above r p ac =
         by (suc q) k lt = let f : k ≤ suc q * k = omega arith in grind (arith, nat_tests)
 
 -- the DC that a block has above a plane, and the plane's bit
-dc_next : (weights : List ℕ) (q b : ℕ) (block v : List ℤ) (s : State) → ShowsDc (low_bits weights q (b + 1)) block v →
+pub dc_next : (weights : List ℕ) (q b : ℕ) (block v : List ℤ) (s : State) → ShowsDc (low_bits weights q (b + 1)) block v →
     s.bits 0 ≡ ((coded weights b 0 && nat_lt b q) && twos_bit (get_or v 0 (pos 0)) b) → ShowsDc (low_bits weights q b) (block_with b block s) v
 dc_next weights q b block v s above is = by (coded weights b 0) refl (nat_lt b q) refl is
   where
@@ -169,7 +169,7 @@ module _ (book : Book) (options : ℕ → ℕ → List ℕ) (chosen : (b g : ℕ
   abbrev Ends : ℕ → List (List ℤ) → Type 0
   Ends = WrotePlanes values stages
 
-  abbrev Related : ℕ → List (List ℤ) → Type 0
+  abbrev pub Related : ℕ → List (List ℤ) → Type 0
   Related b blocks = (r : ℕ) → Shows b (get_or blocks r []) (get_or values r []) × ShowsDc (low_bits weights q b) (get_or blocks r []) (get_or values r [])
 
   long_with : (b : ℕ) (blocks : List (List ℤ)) (u : PlaneState) → length (blocks_with b blocks u) ≡ length blocks
@@ -192,7 +192,7 @@ module _ (book : Book) (options : ℕ → ℕ → List ℕ) (chosen : (b g : ℕ
       (sym (flat_map-span-none (stage_reading book (options b) (record { blocks = values; depths = depths; weights = weights; number = b; q = q })) 0))
       (silent b (λ c lt. none c (omega (arith, lt))) (blocks_with b blocks nothing_yet) (long_with b blocks nothing_yet ∙ long)))
 
-  none_of : (b r : ℕ) → nat_lt b (get_or depths r 0) ≡ false → (i : ℕ) → IsAc i → significant (get_or values r []) b i ≡ false
+  pub none_of : (b r : ℕ) → nat_lt b (get_or depths r 0) ≡ false → (i : ℕ) → IsAc i → significant (get_or values r []) b i ≡ false
   none_of b r deep i ac =
       significant-is (get_or values r []) b i ∙ too_small (get_or depths r 0) (magnitude (get_or values r []) i) deep (sendable.small r i ac.0)
     where
@@ -203,14 +203,14 @@ module _ (book : Book) (options : ℕ → ℕ → List ℕ) (chosen : (b g : ℕ
           grind (arith, nat_tests)
 
   -- what a plane leaves
-  abbrev Step : ℕ → List (List ℤ) → Type 0
+  abbrev pub Step : ℕ → List (List ℤ) → Type 0
   Step b now = (length now ≡ length values) × (stages b ≡ 5 → Related b now)
 
   module _ (b : ℕ) (blocks : List (List ℤ)) (long : length blocks ≡ length values) (above : Related (b + 1) blocks) where
-    abbrev terms : Terms
+    abbrev pub terms : Terms
     terms = record { book = book; weights = weights; plane = b; q = q }
 
-    same : (r : ℕ) → SameAc (get_or blocks r []) (get_or values r []) (b + 1)
+    pub same : (r : ℕ) → SameAc (get_or blocks r []) (get_or values r []) (b + 1)
     same r = same_above (b + 1) (get_or blocks r []) (get_or values r []) (above r).0
 
     abbrev At_end : PlaneState → Type 0
@@ -235,7 +235,7 @@ module _ (book : Book) (options : ℕ → ℕ → List ℕ) (chosen : (b g : ℕ
         Now : ℕ → List ℤ → Type 0
         Now r l = Shows b l (get_or values r []) × ShowsDc (low_bits weights q b) l (get_or values r [])
 
-    plane_step : Writes (around (blocks_with b blocks) (plane_script terms depths blocks (stages b)))
+    pub plane_step : Writes (around (blocks_with b blocks) (plane_script terms depths blocks (stages b)))
         (plane_reading book (options b) (record { blocks = values; depths = depths; weights = weights; number = b; q = q }) (stages b)) (Step b)
     plane_step =
         writes_around At_end (Step b) (blocks_with b blocks) (λ u z. (long_with b blocks u ∙ long, next u z)) (plane_script terms depths blocks (stages b)) _

@@ -6,3 +6,4 @@ pub mod Worked
 pub mod Laws
 pub mod Written
 pub mod Back
+pub mod Cuts
