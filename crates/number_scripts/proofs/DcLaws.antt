@@ -44,13 +44,13 @@ pub record HaveBits (weight : ℤ) (j n : ℕ) (bits : ℕ → ℕ) (old new : �
   pub others : (r : ℕ) → (j ≤ r → r < j + n → ⊥) → new r ≡ old r
 
 module _ (weight : ℤ) where
-  abbrev turn : ℕ → (ℕ → ℤ) → Script (ℕ → ℤ) (ℕ → ℤ)
+  abbrev pub turn : ℕ → (ℕ → ℤ) → Script (ℕ → ℤ) (ℕ → ℤ)
   turn r dcs = ask dcs bit_form (λ b. done (with_dc dcs r (dcs r +ℤ (pos b *ℤ weight))))
 
   at_place : (dcs : ℕ → ℤ) (j : ℕ) (z : ℤ) → with_dc dcs j z j ≡ z
   at_place dcs j z = let t : (j == j) ≡ true = grind (arith, nat_tests) in rw t refl
 
-  elsewhere : (dcs : ℕ → ℤ) (j r : ℕ) (z : ℤ) → (r ≡ j → ⊥) → with_dc dcs j z r ≡ dcs r
+  pub elsewhere : (dcs : ℕ → ℤ) (j r : ℕ) (z : ℤ) → (r ≡ j → ⊥) → with_dc dcs j z r ≡ dcs r
   elsewhere dcs j r z ne = let t : (r == j) ≡ false = grind (arith, nat_tests) in rw t refl
 
   -- one place more
@@ -160,7 +160,7 @@ module _ (weight : ℤ) where
 abbrev bits_at : List ℤ → ℕ → ℕ → ℕ
 bits_at dcs c r = complement 1 (int_shr (get_or dcs r (pos 0)) c)
 
-map_range : (c : ℕ) (dcs : List ℤ) → map (dc_bit c) dcs ≡ map (λ r. raw (bits_at dcs c r)) (range_with_len 0 (length dcs))
+pub map_range : (c : ℕ) (dcs : List ℤ) → map (dc_bit c) dcs ≡ map (λ r. raw (bits_at dcs c r)) (range_with_len 0 (length dcs))
 map_range c dcs =
     ext_get_or (raw 0) (map (dc_bit c) dcs) (map (λ r. raw (bits_at dcs c r)) (range_with_len 0 (length dcs))) (length-map dcs (dc_bit c) ∙
     sym (length-map-range_with_len (λ r. raw (bits_at dcs c r)) 0 (length dcs)))
@@ -183,11 +183,11 @@ part_more q n dc le =
     ap (λ z. z *ℤ pos (2 ^ (q - suc n))) (ap (λ k. twice (int_shr dc k) (complement 1 (int_shr dc (q - suc n)))) e ∙ sym (shr_step dc (q - suc n)))
 
 module _ (N q count : ℕ) where
-  abbrev plane : ℕ → (ℕ → ℤ) → Script (ℕ → ℤ) (ℕ → ℤ)
+  abbrev pub plane : ℕ → (ℕ → ℤ) → Script (ℕ → ℤ) (ℕ → ℤ)
   plane i = dc_bits_script (pos (2 ^ (q - suc i))) count
 
   -- the given parts of these numbers
-  abbrev Parts : List ℤ → ℕ → (ℕ → ℤ) → Type 0
+  abbrev pub Parts : List ℤ → ℕ → (ℕ → ℤ) → Type 0
   Parts xs n dcs = (r : ℕ) → r < count → dcs r ≡ given_part q n (get_or xs r (pos 0))
 
   plane_goes : (n : ℕ) (dcs : ℕ → ℤ) → 1 ≤ N → suc n ≤ q → AreGiven N q n count dcs → Goes (plane n dcs) (AreGiven N q (suc n) count)
@@ -205,30 +205,34 @@ module _ (N q count : ℕ) where
       subst (λ m. Goes (in_turn plane 0 n dcs) (AreGiven N q m count)) e
       (goes_in_turn (λ i. AreGiven N q i count) plane 0 n (λ i s low high p. plane_goes i s some (omega (arith, high, le)) p) dcs given)
 
-  last_turn : (n : ℕ) (dcs : ℕ → ℤ) → in_turn plane 0 (suc n) dcs ≡ then_ask (in_turn plane 0 n dcs) (plane n)
+  pub last_turn : (n : ℕ) (dcs : ℕ → ℤ) → in_turn plane 0 (suc n) dcs ≡ then_ask (in_turn plane 0 n dcs) (plane n)
   last_turn n dcs =
       let e : suc n ≡ n + 1 = omega arith in
       let z : 0 + n ≡ n = omega arith in
       ap (λ m. in_turn plane 0 m dcs) e ∙ turns_split (ℕ → ℤ) plane 0 n 1 dcs ∙ ap (λ j. then_ask (in_turn plane 0 n dcs) (in_turn plane j 1)) z ∙
       (λ t. then_ask (in_turn plane 0 n dcs) (λ s. then_done (plane n s) t))
 
-  planes_written : (xs : List ℤ) → length xs ≡ count → (n : ℕ) (dcs : ℕ → ℤ) → n ≤ q → Parts xs 0 dcs →
+  pub plane_written : (xs : List ℤ) → length xs ≡ count → (n : ℕ) (s : ℕ → ℤ) → suc n ≤ q → Parts xs n s →
+      Writes (plane n s) (map (dc_bit (q - suc n)) xs) (Parts xs (suc n))
+  plane_written xs long n s le p =
+      let bits = bits_at xs (q - suc n) in
+      let items : map (λ r. raw (bits r)) (range_with_len 0 count) ≡ map (dc_bit (q - suc n)) xs =
+      ap (λ m. map (λ r. raw (bits r)) (range_with_len 0 m)) (sym long) ∙ sym (map_range (q - suc n) xs) in
+      subst (λ l. Writes (plane n s) l (Parts xs (suc n))) items
+      (writes_weaker (HaveBits (pos (2 ^ (q - suc n))) 0 count bits s) (Parts xs (suc n)) (plane n s) (map (λ r. raw (bits r)) (range_with_len 0 count))
+      (λ new have r lt. have.here r (omega arith) (omega (arith, lt)) ∙ ap (λ z. z +ℤ (pos (bits r) *ℤ pos (2 ^ (q - suc n)))) (p r lt) ∙
+      part_more q n (get_or xs r (pos 0)) le)
+      (bits_written (pos (2 ^ (q - suc n))) bits 0 count s))
+
+  pub planes_written : (xs : List ℤ) → length xs ≡ count → (n : ℕ) (dcs : ℕ → ℤ) → n ≤ q → Parts xs 0 dcs →
       Writes (in_turn plane 0 n dcs) (planes_before q xs n) (Parts xs n)
   planes_written xs long zero dcs le parts =
       subst (λ l. Writes {G = ℕ → ℤ} (done dcs) l (Parts xs 0)) (sym (planes_before-none q xs)) (writes_none (Parts xs 0) dcs parts)
   planes_written xs long (suc n) dcs le parts =
-      let bits = bits_at xs (q - suc n) in
-      let items : map (λ r. raw (bits r)) (range_with_len 0 count) ≡ map (dc_bit (q - suc n)) xs =
-      ap (λ m. map (λ r. raw (bits r)) (range_with_len 0 m)) (sym long) ∙ sym (map_range (q - suc n) xs) in
       subst (λ l. Writes (in_turn plane 0 (suc n) dcs) l (Parts xs (suc n))) (sym (planes_before-more q xs n))
       (subst (λ s. Writes s (planes_before q xs n ++ map (dc_bit (q - suc n)) xs) (Parts xs (suc n))) (sym (last_turn n dcs))
       (writes_then (Parts xs n) (Parts xs (suc n)) (in_turn plane 0 n dcs) (plane n) (planes_before q xs n) (map (dc_bit (q - suc n)) xs)
-      (planes_written xs long n dcs (omega (arith, le)) parts)
-      (λ s p. subst (λ l. Writes (plane n s) l (Parts xs (suc n))) items
-      (writes_weaker (HaveBits (pos (2 ^ (q - suc n))) 0 count bits s) (Parts xs (suc n)) (plane n s) (map (λ r. raw (bits r)) (range_with_len 0 count))
-      (λ new have r lt. have.here r (omega arith) (omega (arith, lt)) ∙ ap (λ z. z +ℤ (pos (bits r) *ℤ pos (2 ^ (q - suc n)))) (p r lt) ∙
-      part_more q n (get_or xs r (pos 0)) le)
-      (bits_written (pos (2 ^ (q - suc n))) bits 0 count s)))))
+      (planes_written xs long n dcs (omega (arith, le)) parts) (λ s p. plane_written xs long n s le p)))
 
   -- the numbers determine the bits
   plane_same : (xs : List ℤ) (n : ℕ) (mid new : ℕ → ℤ) (bits : ℕ → ℕ) → suc n ≤ q → AreGiven N q n count mid → ((r : ℕ) → bits r < 2) →
@@ -342,7 +346,7 @@ module _ (N q count : ℕ) where
     unfolding heights
     height_at r lt = get_or-map (shifted_height true N q) xs r (pos 0) 0 (omega (arith, lt, long))
 
-    high_written : Writes (high_script N q count) (high_items N q xs o) (Parts N q count xs 0)
+    pub high_written : Writes (high_script N q count) (high_items N q xs o) (Parts N q count xs 0)
     unfolding heights
     high_written = by (N == 1) refl
       where

@@ -62,7 +62,7 @@ module _ (o : ℕ → List ℕ) (chosen : (g : ℕ) → AreChosen (o g)) (t : Te
         block_with t.plane (get_or blocks r []) (u.blocks r) ≡ cut_block t.weights t.q (get_or values r []) t.plane (reach_of spot r)
 
   -- after some stages of a block
-  at_stage : (k r : ℕ) → k ≤ 5 → (s : State) → BlockAt k r s →
+  pub at_stage : (k r : ℕ) → k ≤ 5 → (s : State) → BlockAt k r s →
       block_with t.plane (get_or blocks r []) s ≡ cut_block t.weights t.q (get_or values r []) t.plane (after_stages k)
   at_stage k r le s w =
       cuts.after_cut (o (r / 16)) (chosen (r / 16)) t (get_or blocks r []) (get_or values r []) (same r) (whole r) (shows r) (shows_dc r) k le w.0 s w.1
@@ -179,7 +179,7 @@ module _ (book : Book) (options : ℕ → ℕ → List ℕ) (chosen : (b g : ℕ
   abbrev Cut : ℕ → List (List ℤ) → Type 0
   Cut = AreCut weights q values
 
-  wider : (a b : ℕ) → a ≤ b → (w : List (List ℤ)) → Cut a w → Cut b w
+  pub wider : (a b : ℕ) → a ≤ b → (w : List (List ℤ)) → Cut a w → Cut b w
   wider a b le w c = record { plane = c.plane; inside = (let lt = c.inside in omega (arith, le, lt)); spot = c.spot; is = c.is }
 
   silent : (below : ℕ) → ((c : ℕ) → c < below → stages c ≡ 0) → (blocks : List (List ℤ)) (items : List Item) (Q : List (List ℤ) → Type 0) →

@@ -35,3 +35,4 @@ pub mod PlaneBack
 pub mod BlockGives
 pub mod CutBlocks
 pub mod CutPlanes
+pub mod CutEnds

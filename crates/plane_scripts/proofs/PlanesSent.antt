@@ -217,7 +217,7 @@ module _ (book : Book) (options : ℕ → ℕ → List ℕ) (chosen : (b g : ℕ
     At_end u = (r : ℕ) → r < length depths →
         plane.BlockAt (options b) (chosen b) terms depths blocks values same sendable.multiples (none_of b) (stages b) r (u.blocks r)
 
-    next : (u : PlaneState) → At_end u → stages b ≡ 5 → Related b (blocks_with b blocks u)
+    pub next : (u : PlaneState) → At_end u → stages b ≡ 5 → Related b (blocks_with b blocks u)
     next u z five r = elim (cases_lt r (length blocks)) [
       | inl lt ↦
           let w = subst (λ n. plane.BlockAt (options b) (chosen b) terms depths blocks values same sendable.multiples (none_of b) n r (u.blocks r)) five
