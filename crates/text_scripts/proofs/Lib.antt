@@ -2,6 +2,7 @@ mod WorkedRead
 mod SegmentGoes
 pub mod AsksItems
 pub mod SegmentWritten
+pub mod SegmentParts
 pub mod SegmentBack
 pub mod TextBack
 pub mod TextReads

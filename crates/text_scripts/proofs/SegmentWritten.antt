@@ -102,26 +102,30 @@ stages_stop head few b = by (nat_lt head.stop.plane b) refl (b == head.stop.plan
 
 module _ (head : SegmentHead) (is_head : IsHead head) (blocks : List (List ℤ)) (depths : List ℕ) (options : Options) (p : IsSpellable head blocks depths)
     (known : AreWordOptions options) where
-  abbrev D : List Item
+  abbrev pub D : List Item
   D = dc_part_items head blocks options
 
-  abbrev E : List Item
+  abbrev pub E : List Item
   E = depth_items head.depth_ac depths options.depths
 
-  abbrev P : List Item
+  abbrev pub P : List Item
   P = planes_items head blocks depths options head.depth_ac
 
-  dcs : (end : ℕ → ℤ) × Follows (dc_script head.depth_dc head.depth_ac (dc_shift head) head.blocks) D end ×
+  pub dcs : (end : ℕ → ℤ) × Follows (dc_script head.depth_dc head.depth_ac (dc_shift head) head.blocks) D end ×
       ((r : ℕ) → r < head.blocks → end r ≡ given_part (q_of head) (dc_planes head.depth_dc head.depth_ac (dc_shift head)) (get_or (dcs_of blocks) r (pos 0)))
   dcs = let w = (dc_laws head.depth_dc head.depth_ac (dc_shift head) head.blocks).written (dcs_of blocks) options.dcs (length-map blocks dc_of ∙
       p.blocks_all) p.dcs_fit in
       (w.0, w.1, w.2)
 
   -- the blocks after the DC part
-  first : List (List ℤ)
+  pub first : List (List ℤ)
   first = dc_blocks head.blocks dcs.0
 
-  dc_follows : Follows (dc_part_script head) D first
+  pub first_is : first ≡ dc_blocks head.blocks dcs.0
+  unfolding first
+  first_is = refl
+
+  pub dc_follows : Follows (dc_part_script head) D first
   unfolding first
   dc_follows = follows_around (dc_blocks head.blocks) (dc_script head.depth_dc head.depth_ac (dc_shift head) head.blocks) D dcs.0 dcs.1
 
@@ -132,7 +136,7 @@ module _ (head : SegmentHead) (is_head : IsHead head) (blocks : List (List ℤ))
       by i (inl lt) = p.depths_few i lt
       by i (inr ge) = let e : slice_index depths i ≡ 0 = get_or_past depths i 0 ge in rw e (pow_pos (depth_bits head.depth_ac))
 
-  depths_follow : Follows (beside first (depths_script head.depth_ac head.blocks)) E depths
+  pub depths_follow : Follows (beside first (depths_script head.depth_ac head.blocks)) E depths
   depths_follow = follows_beside first (depths_script head.depth_ac head.blocks) E depths
       (depth_laws.written head.depth_ac head.blocks depths options.depths counted)
 
@@ -149,11 +153,11 @@ module _ (head : SegmentHead) (is_head : IsHead head) (blocks : List (List ℤ))
       by (inr ge) = let e : get_or depths r 0 ≡ 0 = get_or_past depths r 0 (let l = p.depths_all in omega (arith, l, ge)) in omega (arith, e)
 
   -- the blocks after the DC part have what is above the planes: the bits of the DC numbers that it gives
-  Shown : (block v : List ℤ) → Type 0
+  abbrev pub Shown : (block v : List ℤ) → Type 0
   Shown block v = Shows head.depth_ac block v × ShowsDc (low_bits head.image.weights.shifts (q_of head) head.depth_ac) block v
 
-  shown : AreItems E → (r : ℕ) → Shown (get_or first r []) (get_or blocks r [])
-  unfolding first Shown
+  pub shown : AreItems E → (r : ℕ) → Shown (get_or first r []) (get_or blocks r [])
+  unfolding first
   shown are r = by (cases_lt r head.blocks)
     where
       V : List ℤ
@@ -195,8 +199,8 @@ module _ (head : SegmentHead) (is_head : IsHead head) (blocks : List (List ℤ))
           (subst (λ l. Shows head.depth_ac [] l × ShowsDc low [] l) (sym b) (shows_nothing head.depth_ac, dc_nothing low))
 
   -- what the planes leave, if their items are none that is refused
-  planes_wrote : AreItems E → Writes (planes_part_script options.book head first depths) P (WrotePlanes blocks (stages_sent head) head.depth_ac)
-  unfolding first Shown
+  pub planes_wrote : AreItems E → Writes (planes_part_script options.book head first depths) P (WrotePlanes blocks (stages_sent head) head.depth_ac)
+  unfolding first
   planes_wrote are =
       subst (λ l. Writes (planes_part_script options.book head first depths) l (WrotePlanes blocks (stages_sent head) head.depth_ac))
       (sym (planes_are head blocks depths options head.depth_ac 0 (omega arith)))
@@ -208,10 +212,10 @@ module _ (head : SegmentHead) (is_head : IsHead head) (blocks : List (List ℤ))
   planes_follow : AreItems E → (w : List (List ℤ)) × Follows (planes_part_script options.book head first depths) P w
   planes_follow are = let w = planes_wrote are in (w.end, w.follows)
 
-  abbrev S : Script (List (List ℤ)) (List (List ℤ))
+  abbrev pub S : Script (List (List ℤ)) (List (List ℤ))
   S = segment_script options.book head
 
-  abbrev Rest : Bool → List (List ℤ) → Script (List (List ℤ)) (List (List ℤ))
+  abbrev pub Rest : Bool → List (List ℤ) → Script (List (List ℤ)) (List (List ℤ))
   Rest x now = if x then done now else then_ask (beside now (depths_script head.depth_ac head.blocks)) (planes_part_script options.book head now)
 
   -- if none is refused, they follow the whole script
@@ -237,6 +241,26 @@ module _ (head : SegmentHead) (is_head : IsHead head) (blocks : List (List ℤ))
                 (depths_script head.depth_ac head.blocks)) E P depths w.0 depths_follow w.1),
           )
 
+  -- if all stages are sent, the planes lead to the blocks
+  first_long : (r : ℕ) → r < head.blocks → length (get_or first r []) ≡ 64
+  unfolding first
+  first_long r lt = ap length (get_or-map-span (λ i. dcs.0 i ∷ replicate 63 (pos 0)) head.blocks r [] lt) ∙
+      (let e = length-replicate 63 (pos 0) in omega (arith, e))
+
+  pub they_are : (w : Writes (planes_part_script options.book head first depths) P (WrotePlanes blocks (stages_sent head) head.depth_ac)) → AreItems P →
+      ((b : ℕ) → b < head.depth_ac → stages_sent head b ≡ 5) →
+      w.end ≡ blocks
+  unfolding first
+  they_are w good five =
+      let long = goes_end (λ v. (r : ℕ) → r < head.blocks → length (get_or v r []) ≡ 64) (planes_part_script options.book head first depths)
+      (planes_long options.book known.sound head.image.weights.shifts (q_of head) depths (stages_sent head) head.depth_ac head.blocks first
+      (length-map-span (λ i. dcs.0 i ∷ replicate 63 (pos 0)) head.blocks) first_long) P w.end (are_possible P good) w.follows in
+      ext_get_or [] w.end blocks w.is.long (λ r lt.
+      let in_head : r < head.blocks = (let a = w.is.long in let b = p.blocks_all in omega (arith, lt, a, b)) in
+      let size = long r in_head in
+      ext_get_or (pos 0) (get_or w.end r []) (get_or blocks r []) (size ∙ sym (p.whole r (let b = p.blocks_all in omega (arith, in_head, b))))
+      (λ k few. w.is.all five r k (omega (arith, few, size))))
+
   -- if there is no stop, they lead to the blocks
   pub segment_exact : AreItems (segment_items head blocks depths options) → HasAllPlanes head → Follows S (segment_items head blocks depths options) blocks
   unfolding first
@@ -249,7 +273,7 @@ module _ (head : SegmentHead) (is_head : IsHead head) (blocks : List (List ℤ))
       (subst (λ x. Follows (then_ask (dc_part_script head) (Rest x)) (D ++ (E ++ P)) blocks) (sym all.goes_on)
       (follows_then (Rest false) (dc_part_script head) D (E ++ P) first blocks dc_follows
       (follows_then (planes_part_script options.book head first) (beside first (depths_script head.depth_ac head.blocks)) E P depths blocks depths_follow
-      (subst (Follows (planes_part_script options.book head first depths) P) (they_are w parts.1) w.follows))))
+      (subst (Follows (planes_part_script options.book head first depths) P) (they_are w parts.1 (λ b low. all_stages b)) w.follows))))
     where
       all_stages : (b : ℕ) → stages_sent head b ≡ 5
       all_stages b = (λ t. if nat_lt (all.plane t) b then 5 else if b == all.plane t then all.stage t + 2 else 0) ∙ by b
@@ -257,22 +281,6 @@ module _ (head : SegmentHead) (is_head : IsHead head) (blocks : List (List ℤ))
           by : (b : ℕ) → (if nat_lt 0 b then 5 else if b == 0 then 3 + 2 else 0) ≡ 5
           by zero = refl
           by (suc b) = let e : nat_lt 0 (suc b) ≡ true = grind (arith, nat_tests) in ap (λ (x : Bool). if x then 5 else if suc b == 0 then 3 + 2 else 0) e
-
-      first_long : (r : ℕ) → r < head.blocks → length (get_or first r []) ≡ 64
-      first_long r lt = ap length (get_or-map-span (λ i. dcs.0 i ∷ replicate 63 (pos 0)) head.blocks r [] lt) ∙
-          (let e = length-replicate 63 (pos 0) in omega (arith, e))
-
-      they_are : (w : Writes (planes_part_script options.book head first depths) P (WrotePlanes blocks (stages_sent head) head.depth_ac)) → AreItems P →
-          w.end ≡ blocks
-      they_are w good =
-          let long = goes_end (λ v. (r : ℕ) → r < head.blocks → length (get_or v r []) ≡ 64) (planes_part_script options.book head first depths)
-          (planes_long options.book known.sound head.image.weights.shifts (q_of head) depths (stages_sent head) head.depth_ac head.blocks first
-          (length-map-span (λ i. dcs.0 i ∷ replicate 63 (pos 0)) head.blocks) first_long) P w.end (are_possible P good) w.follows in
-          ext_get_or [] w.end blocks w.is.long (λ r lt.
-          let in_head : r < head.blocks = (let a = w.is.long in let b = p.blocks_all in omega (arith, lt, a, b)) in
-          let size = long r in_head in
-          ext_get_or (pos 0) (get_or w.end r []) (get_or blocks r []) (size ∙ sym (p.whole r (let b = p.blocks_all in omega (arith, in_head, b))))
-          (λ k few. w.is.all (λ b low. all_stages b) r k (omega (arith, few, size))))
 
   -- each is asked for after those before it, if none of them is refused
   pub segment_asks : AsksAll S (segment_items head blocks depths options)

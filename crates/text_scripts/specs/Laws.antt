@@ -11,6 +11,7 @@ use Rattle.segment_defs.specs.Head.{IsHead}
 use Rattle.segment_defs.specs.SegmentItems.{segment_items}
 use Rattle.text_defs.specs.Outcomes.{SegmentRefusal, Holds, Refused}
 use Rattle.text_scripts.specs.Segments.{segment_script}
+use Rattle.text_scripts.specs.Parts.{IsPart}
 use Rattle.text_scripts.specs.Outcomes.{text_outcome}
 
 -- there are as many blocks as the head has
@@ -37,7 +38,8 @@ pub record HasAllPlanes (head : SegmentHead) : Type 0 where
 
 -- a text is read as values exactly if it holds some, and is refused by a name exactly if it has this name
 pub record TextReads (book : Book) (head : SegmentHead) (rest : List ℕ) : Type 0 where
-  pub holds : (w : List (List ℤ)) → Holds book head rest w → (v : List (List ℤ)) × (text_outcome book head rest ≡ Ok v)
+  -- whichever values are read in it, the same part of them is given
+  pub holds : (w : List (List ℤ)) → (h : Holds book head rest w) → (v : List (List ℤ)) × (text_outcome book head rest ≡ Ok v) × IsPart head h.blocks v
   -- values of which all items are given are read as they are, if there is no stop
   pub exact : (w : List (List ℤ)) (h : Holds book head rest w) → HasAllPlanes head → h.count ≡ length (segment_items head h.blocks h.depths h.options) →
       text_outcome book head rest ≡ Ok h.blocks
