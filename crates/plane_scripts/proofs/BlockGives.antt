@@ -50,8 +50,8 @@ give_then book o P Q s next before xs ys w g more =
     subst (λ l. Gives (then_ask s next) l Q) (sym (read_append book o before xs ys))
     (gives_then Q s next (read_after book o before xs) (read_after book o (before ++ entries_of xs) ys) w.end w.follows g (more w.end w.is))
 
-pub give_in_turn : {S : Type 0} (book : Book) (o : List ℕ) (P : ℕ → List Entry → S → Type 0) (Q : S → Type 0) (item : ℕ → S → Script S S) (steps : ℕ → List Step)
-    (j n : ℕ) →
+pub give_in_turn : {S : Type 0} (book : Book) (o : List ℕ) (P : ℕ → List Entry → S → Type 0) (Q : S → Type 0) (item : ℕ → S → Script S S)
+    (steps : ℕ → List Step) (j n : ℕ) →
     ((i : ℕ) (b : List Entry) (s : S) → j ≤ i → i < j + n → P i b s →
     Sends book o (item i s) b (steps i) (P (suc i)) × Gives (item i s) (read_after book o b (steps i)) Q) →
     (b : List Entry) (s : S) → P j b s → Gives (in_turn item j n s) (read_after book o b (flat_map steps (span j n))) Q
@@ -60,7 +60,8 @@ give_in_turn book o P Q item steps j (suc n) each b s p =
     let here = each j b s (omega arith) (omega arith) p in
     subst (λ l. Gives (in_turn item j (suc n) s) (read_after book o b (flat_map steps l)) Q) (span-first j n)
     (give_then book o (P (suc j)) Q (item j s) (in_turn item (suc j) n) b (steps j) (flat_map steps (span (suc j) n)) here.0 here.1
-    (λ t q. give_in_turn book o P Q item steps (suc j) n (λ i c u low high. each i c u (omega (arith, low)) (omega (arith, high))) (b ++ entries_of (steps j)) t q))
+    (λ t q. give_in_turn book o P Q item steps (suc j) n (λ i c u low high. each i c u (omega (arith, low)) (omega (arith, high)))
+    (b ++ entries_of (steps j)) t q))
 
 -- ---- words: only options are read before their bits
 
@@ -231,6 +232,9 @@ module _ (o : List ℕ) (chosen : AreChosen o) (t : Terms) (block v : List ℤ) 
 
   -- ---- groups
 
+  abbrev group_steps : (new : ℕ → Bool) (place : ℕ → ℕ) → ℕ → List Step
+  group_steps = words.group_steps o chosen t block v same whole
+
   groups_give : (first n m : ℕ) (families : ℕ → Bool) (dc : Bool) (sent wanted in_v new : ℕ → Bool) (place : ℕ → ℕ) → ((j : ℕ) → first + 4 * j ≡ place j) →
       1 ≤ first → first + 4 * n ≤ 64 → ((j : ℕ) → j < n → sent j ≡ in_v j) → ((j : ℕ) → j < n → wanted j ≡ new j) →
       ((j : ℕ) → j < n → in_v j ≡ false → list_any (significant v b) (span (place j) 4) ≡ false) → (before : List Entry) (s : State) →
@@ -252,18 +256,19 @@ module _ (o : List ℕ) (chosen : AreChosen o) (t : Terms) (block v : List ℤ) 
     where
       each : (j : ℕ) → j < n → (c : List Entry) (u : State) → Reads (first + 4 * j) m families dc c u → (x : Bool) → in_v j ≡ x →
           Gives (group_script t.book (type_due block W b) first sent wanted j u)
-          (read_after t.book o c (if in_v j then typed_steps v W b (some_one_where (new j)) (span (place j) 4) else [])) (Partial dc)
+          (read_after t.book o c (if in_v j then group_steps new place j else [])) (Partial dc)
       each j lt c u p true e =
           let T = types_script t.book (type_due block W b) (wanted j) (span (first + 4 * j) 4) u in
-          subst (λ y. Gives (if y then T else done u) (read_after t.book o c (if in_v j then typed_steps v W b (some_one_where (new j)) (span (place j) 4) else []))
+          subst (λ y. Gives (if y then T else done u) (read_after t.book o c (if in_v j then group_steps new place j else []))
           (Partial dc)) (sym (sent_is j lt ∙ e))
-          (subst (λ y. Gives T (read_after t.book o c (if y then typed_steps v W b (some_one_where (new j)) (span (place j) 4) else [])) (Partial dc)) (sym e)
+          (subst (λ y. Gives T (read_after t.book o c (if y then group_steps new place j else [])) (Partial dc)) (sym e)
           (subst (λ i. Gives T (read_after t.book o c (typed_steps v W b (some_one_where (new j)) (span i 4))) (Partial dc)) (at j)
           (subst (λ y. Gives T (read_after t.book o c (typed_steps v W b (some_one_where y) (span (first + 4 * j) 4))) (Partial dc)) (wanted_is j lt)
-          (types_give (first + 4 * j) 4 m families dc (omega (arith, low)) (omega arith) (omega (arith, lt, high)) (four_long (first + 4 * j)) (wanted j) c u p))))
+          (types_give (first + 4 * j) 4 m families dc (omega (arith, low)) (omega arith) (omega (arith, lt, high)) (four_long (first + 4 * j)) (wanted j) c u
+          p))))
       each j lt c u p false e =
           let T = types_script t.book (type_due block W b) (wanted j) (span (first + 4 * j) 4) u in
-          let l = read_after t.book o c (if in_v j then typed_steps v W b (some_one_where (new j)) (span (place j) 4) else []) in
+          let l = read_after t.book o c (if in_v j then group_steps new place j else []) in
           subst (λ y. Gives (if y then T else done u) l (Partial dc)) (sym (sent_is j lt ∙ e)) tt
 
   -- ---- the stages

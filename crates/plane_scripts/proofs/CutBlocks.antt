@@ -144,6 +144,8 @@ module _ (o : List ℕ) (chosen : AreChosen o) (t : Terms) (block v : List ℤ) 
   after_cut (suc zero) le before s r = stage_cut 1 s (record { types = 1; signs = 1; fine = 1; bits = r.bits; minus = r.minus; low = r.low })
   after_cut (suc (suc zero)) le before s r = stage_cut 2 s (record { types = 4; signs = 4; fine = 1; bits = r.bits; minus = r.minus; low = r.low })
   after_cut (suc (suc (suc zero))) le before s r = stage_cut 3 s (record { types = 16; signs = 16; fine = 1; bits = r.bits; minus = r.minus; low = r.low })
-  after_cut (suc (suc (suc (suc zero)))) le before s r = stage_cut 4 s (record { types = 64; signs = 64; fine = 1; bits = r.bits; minus = r.minus; low = r.low })
-  after_cut (suc (suc (suc (suc (suc zero))))) le before s r = stage_cut 5 s (record { types = 64; signs = 64; fine = 64; bits = r.bits; minus = r.minus; low = r.low })
+  after_cut (suc (suc (suc (suc zero)))) le before s r =
+      stage_cut 4 s (record { types = 64; signs = 64; fine = 1; bits = r.bits; minus = r.minus; low = r.low })
+  after_cut (suc (suc (suc (suc (suc zero))))) le before s r =
+      stage_cut 5 s (record { types = 64; signs = 64; fine = 64; bits = r.bits; minus = r.minus; low = r.low })
   after_cut (suc (suc (suc (suc (suc (suc k)))))) le before s r = absurd (omega (arith, le))

@@ -104,7 +104,8 @@ module _ (book : Book) (options : ℕ → ℕ → List ℕ) (chosen : (b g : ℕ
     where
       -- the blocks after the plane
       cut_here : (u : PlaneState) →
-          ((r : ℕ) → r < length values → block_with b (get_or blocks r []) (u.blocks r) ≡ cut_block weights q (get_or values r []) b (after_stages (stages b))) →
+          ((r : ℕ) → r < length values →
+          block_with b (get_or blocks r []) (u.blocks r) ≡ cut_block weights q (get_or values r []) b (after_stages (stages b))) →
           AreCut weights q values (suc b) (blocks_with b blocks u)
       cut_here u each = record {
         plane = b;

@@ -230,7 +230,8 @@ module _ (book : Book) (is_sound : is_book_sound book ≡ true) (weights : List 
           let picked : ℕ → ℕ → List ℕ = λ c. if c == b then here else ih.options c in
           record {
             options = picked;
-            chosen = λ c g. by_place g (c == b) here (ih.options c) (options_chosen b blocks long begun u has fair w long_w ih.begun ih.shows ih.dcs g) (ih.chosen c g);
+            chosen = λ c g.
+                by_place g (c == b) here (ih.options c) (options_chosen b blocks long begun u has fair w long_w ih.begun ih.shows ih.dcs g) (ih.chosen c g);
             is =
                 all ∙ (λ i. items_back b blocks long begun u has fair w long_w ih.begun ih.shows ih.dcs first good follows i ++ ih.is i) ∙
                 (λ i. plane_reading book (sym (self b here (ih.options b)) i)
@@ -256,4 +257,5 @@ module _ (book : Book) (is_sound : is_book_sound book ≡ true) (weights : List 
           other c lt f h = let e : (c == b) ≡ false = grind (arith, nat_tests) in ap (λ (x : Bool). if x then f else h) e
 
 pub planes_are_back : PlanesBack
-planes_are_back book is_sound weights q depths below blocks long begun items w are f = planes_back book is_sound weights q depths below blocks long begun items w are f
+planes_are_back book is_sound weights q depths below blocks long begun items w are f =
+    planes_back book is_sound weights q depths below blocks long begun items w are f

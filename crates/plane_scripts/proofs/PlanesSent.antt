@@ -258,7 +258,8 @@ module _ (book : Book) (options : ℕ → ℕ → List ℕ) (chosen : (b g : ℕ
   })
   planes_sent (suc b) blocks long shown =
       let e : suc b ≡ b + 1 = omega arith in
-      let above : Related (b + 1) blocks = λ r. subst (λ n. Shows n (get_or blocks r []) (get_or values r []) × ShowsDc (low_bits weights q n) (get_or blocks r []) (get_or values r [])) e (shown r) in
+      let above : Related (b + 1) blocks = λ r. subst (λ n. Shows n (get_or blocks r []) (get_or values r []) ×
+      ShowsDc (low_bits weights q n) (get_or blocks r []) (get_or values r [])) e (shown r) in
       writes_then (Step b) (Ends (suc b)) (around (blocks_with b blocks) (plane_script (terms b blocks long above) depths blocks (stages b)))
       (planes_script book weights q depths stages b)
       (plane_reading book (options b) (record { blocks = values; depths = depths; weights = weights; number = b; q = q }) (stages b))

@@ -6,3 +6,4 @@ pub mod SegmentParts
 pub mod SegmentBack
 pub mod TextBack
 pub mod TextReads
+pub mod TextOutcomes

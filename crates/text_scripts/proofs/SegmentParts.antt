@@ -130,7 +130,8 @@ module _ (head : SegmentHead) (is_head : IsHead head) (blocks : List (List ℤ))
           (gives_all_then Part (dc_part_script head) (Rest true) D [] first (written.dc_follows head is_head blocks depths options p known) dcs_give
           (λ are m le all. tt))
       by false =
-          gives_all_then Part (dc_part_script head) (Rest false) D (E ++ P) first (written.dc_follows head is_head blocks depths options p known) dcs_give (λ good.
+          gives_all_then Part (dc_part_script head) (Rest false) D (E ++ P) first (written.dc_follows head is_head blocks depths options p known) dcs_give
+          (λ good.
           gives_all_then Part (beside first (depths_script head.depth_ac head.blocks)) (planes_part_script options.book head first) E P depths
           (written.depths_follow head is_head blocks depths options p known) (gives_beside Part first first_part (depths_script head.depth_ac head.blocks) E)
           (λ are. gives_all Part (planes_part_script options.book head first depths) P (planes_part_give are)))

@@ -95,7 +95,8 @@ module _ (book : Book) (sound : is_book_sound book ≡ true) (head : SegmentHead
       -- the values' own items follow, or ask for the next
       values_follow : AreItems L → (w : Blocks) × Follows S L w
       values_follow all =
-          subst (λ b. (w : Blocks) × Follows (segment_script b head) L w) p.of_book (segment_follows head is_head end p.depths p.options p.spellable p.words all)
+          subst (λ b. (w : Blocks) × Follows (segment_script b head) L w) p.of_book
+          (segment_follows head is_head end p.depths p.options p.spellable p.words all)
 
       values_ask : length items < length L → Asks S items (item_at L (length items)).form
       values_ask lt =

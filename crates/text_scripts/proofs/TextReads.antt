@@ -173,6 +173,12 @@ refused_reads : (book : Book) (head : SegmentHead) (rest : List ℕ) (name : Seg
 refused_reads book head rest name is_head h =
     ap (λ b. text_outcome b head rest) (sym h.of_book) ∙ off_read head is_head rest h.blocks h.depths h.options h.count h.more h.reading name h.cause
 
+pub not_both : (v : Blocks) (name : SegmentRefusal) → ◌≡◌ {A = Answer} (Ok v) (Err name) → ⊥
+not_both v name e = cc
+
+pub same_name : (a b : SegmentRefusal) → ◌≡◌ {A = Answer} (Err a) (Err b) → a ≡ b
+same_name a b e = cc
+
 pub texts_are_read : TextsAreRead
 texts_are_read book sound head rest is_head = record {
   holds = λ w h. holds_read book head rest w is_head h;

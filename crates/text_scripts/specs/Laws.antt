@@ -1,5 +1,5 @@
 -- The laws of coded segments, as they are read.
-use Rattle.std.specs.Prelude.{◌≡◌, ℕ, List, length, true, false, ℤ, Ok, Err}
+use Rattle.std.specs.Prelude.{◌≡◌, ◌⊎◌, ℕ, List, length, true, false, ℤ, Ok, Err}
 use Rattle.item_defs.specs.Items.{Form, Item}
 use Rattle.item_defs.specs.Readings.{AreItems}
 use Rattle.base_122.specs.declared.book.Book.{Book}
@@ -49,3 +49,12 @@ pub record TextReads (book : Book) (head : SegmentHead) (rest : List ℕ) : Type
 
 abbrev pub TextsAreRead : Type 0
 TextsAreRead = (book : Book) → is_book_sound book ≡ true → (head : SegmentHead) (rest : List ℕ) → IsHead head → TextReads book head rest
+
+-- so each text holds some values or is refused, by one name, and not both
+pub record OutcomesExclude (book : Book) (head : SegmentHead) (rest : List ℕ) : Type 0 where
+  pub some : ((w : List (List ℤ)) × Holds book head rest w) ⊎ ((name : SegmentRefusal) × Refused book head rest name)
+  pub one_name : (a b : SegmentRefusal) → Refused book head rest a → Refused book head rest b → a ≡ b
+  pub not_both : (w : List (List ℤ)) (name : SegmentRefusal) → Holds book head rest w → Refused book head rest name → ⊥
+
+abbrev pub TextsHaveOutcomes : Type 0
+TextsHaveOutcomes = (book : Book) → is_book_sound book ≡ true → (head : SegmentHead) (rest : List ℕ) → IsHead head → OutcomesExclude book head rest
