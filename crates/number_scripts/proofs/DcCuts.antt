@@ -15,8 +15,7 @@ use Rattle.item_scripts.proofs.FollowLaws.{follows_split, around_follows}
 use Rattle.item_scripts.proofs.Giving.{Gives, Always, gives_always, gives_weaker, gives_then, gives_around}
 use Rattle.number_scripts.specs.Numbers.{option_script, zeros_script, number_script, differences_script, lead_script, gaggle_script, numbers_script}
 use Rattle.number_scripts.specs.DcPart.{with_dc, dc_bits_script, dcs_of_heights, high_script, dc_planes_script, dc_script}
-use Rattle.number_scripts.specs.Laws.{given_part}
-use Rattle.number_scripts.specs.Cuts.{DcSpot, cut_dcs}
+use Rattle.number_scripts.specs.Cuts.{parts_of, AreDcsCut}
 use Rattle.number_scripts.proofs.DcLaws.{turn, elsewhere, plane, Parts, last_turn, plane_written, planes_written, high_written}
 
 -- ---- numbers: each list that is given is the first part of the one at the end
@@ -142,27 +141,27 @@ module _ (weight : ℤ) (start : ℕ → ℤ) where
 
 -- ---- the DC part
 
--- a place of which this is what is given
-abbrev pub AreCut : (q count : ℕ) → List ℤ → (ℕ → ℤ) → Type 0
-AreCut q count xs d = (spot : DcSpot) × ((r : ℕ) → r < count → d r ≡ cut_dcs q xs spot r)
-
-module _ (N q count : ℕ) (xs : List ℤ) (long : length xs ≡ count) where
+module _ (N q planes count : ℕ) (xs : List ℤ) (long : length xs ≡ count) where
   abbrev Cut : (ℕ → ℤ) → Type 0
-  Cut = AreCut q count xs
+  Cut = AreDcsCut q planes count xs
 
-  between_parts : (start end d : ℕ → ℤ) (high : Bool) (planes : ℕ) →
-      ((r : ℕ) → r < count → start r ≡ (if high then given_part q planes (get_or xs r (pos 0)) else pos 0)) →
-      ((r : ℕ) → r < count → end r ≡ given_part q (if high then planes + 1 else 0) (get_or xs r (pos 0))) → Between start end d → Cut d
-  between_parts start end d high planes first last w = (
-    record { high = high; planes = planes; blocks = w.0 },
-    λ r lt. w.1 r ∙ (λ i. if nat_lt r w.0 then last r lt i else first r lt i),
-  )
+  between_parts : (start end d : ℕ → ℤ) (parts : ℕ) → parts ≤ planes → ((r : ℕ) → r < count → start r ≡ parts_of q parts (get_or xs r (pos 0))) →
+      ((r : ℕ) → r < count → end r ≡ parts_of q (suc parts) (get_or xs r (pos 0))) → Between start end d → Cut d
+  between_parts start end d parts le first last w = record {
+    spot = record { parts = parts; blocks = w.0 };
+    inside = le;
+    is = λ r lt. w.1 r ∙ (λ i. if nat_lt r w.0 then last r lt i else first r lt i) ∙ pick (nat_lt r w.0) (get_or xs r (pos 0));
+  }
+    where
+      pick : (x : Bool) (z : ℤ) → (if x then parts_of q (suc parts) z else parts_of q parts z) ≡ parts_of q (if x then suc parts else parts) z
+      pick true z = refl
+      pick false z = refl
 
   high_give : ((r : ℕ) → r < count → IsInRange true N (int_shr (get_or xs r (pos 0)) q)) → (o : ℕ → ℕ) →
       Gives (high_script N q count) (high_items N q xs o) Cut
   high_give fits o =
       let w = high_written N q count xs long fits o in
-      gives_weaker (Between (λ r. pos 0) w.end) Cut (λ d z. between_parts (λ r. pos 0) w.end d false 0 (λ r lt. refl) (λ r lt. w.is r lt) z)
+      gives_weaker (Between (λ r. pos 0) w.end) Cut (λ d z. between_parts (λ r. pos 0) w.end d 0 (omega arith) (λ r lt. refl) (λ r lt. w.is r lt) z)
       (high_script N q count) (high_items N q xs o) (by (N == 1) (high_items N q xs o) w.end w.follows)
     where
       keeps : (g hs : List ℕ) (e : ℕ → ℤ) → dcs_of_heights N q hs ≡ e → IsStart g hs → Between (λ r. pos 0) e (dcs_of_heights N q g)
@@ -190,24 +189,23 @@ module _ (N q count : ℕ) (xs : List ℤ) (long : length xs ≡ count) where
           gives_around (λ g. IsStart g a.0) (Between (λ r. pos 0) e) (dcs_of_heights N q) (λ g z. keeps g a.0 e a.1 z) (numbers_script (dc_kind N) count) items
           (numbers_extend (dc_kind N) count items a.0 a.2).1
 
-  planes_give : (n : ℕ) (dcs : ℕ → ℤ) → n ≤ q → Parts N q count xs 0 dcs → Gives (in_turn (plane N q count) 0 n dcs) (planes_before q xs n) Cut
-  planes_give zero dcs le parts = tt
-  planes_give (suc n) dcs le parts =
+  planes_give : (n : ℕ) (dcs : ℕ → ℤ) → n ≤ q → n ≤ planes → Parts N q count xs 0 dcs → Gives (in_turn (plane N q count) 0 n dcs) (planes_before q xs n) Cut
+  planes_give zero dcs le few parts = tt
+  planes_give (suc n) dcs le few parts =
       let w = planes_written N q count xs long n dcs (omega (arith, le)) parts in
       let x = plane_written N q count xs long n w.end le w.is in
-      let e : suc n ≡ n + 1 = omega arith in
       subst (λ l. Gives (in_turn (plane N q count) 0 (suc n) dcs) l Cut) (sym (planes_before-more q xs n))
       (subst (λ s. Gives s (planes_before q xs n ++ map (dc_bit (q - suc n)) xs) Cut) (sym (last_turn N q count n dcs))
       (gives_then Cut (in_turn (plane N q count) 0 n dcs) (plane N q count n) (planes_before q xs n) (map (dc_bit (q - suc n)) xs) w.end w.follows
-      (planes_give n dcs (omega (arith, le)) parts)
-      (gives_weaker (Between w.end x.end) Cut (λ d z. between_parts w.end x.end d true n w.is
-      (λ r lt. x.is r lt ∙ ap (λ k. given_part q k (get_or xs r (pos 0))) e) z)
+      (planes_give n dcs (omega (arith, le)) (omega (arith, few)) parts)
+      (gives_weaker (Between w.end x.end) Cut (λ d z. between_parts w.end x.end d (suc n) few w.is x.is z)
       (plane N q count n w.end) (map (dc_bit (q - suc n)) xs)
       (bits_give (pos (2 ^ (q - suc n))) w.end 0 count w.end (map (dc_bit (q - suc n)) xs) x.end x.follows (λ r le. refl)))))
 
 -- what is given within a DC part
 pub dc_gives : (depth_dc depth_ac shift count : ℕ) (dcs : List ℤ) (o : ℕ → ℕ) → length dcs ≡ count → DcsFit depth_dc depth_ac shift dcs →
-    Gives (dc_script depth_dc depth_ac shift count) (dc_items depth_dc depth_ac shift dcs o) (AreCut (dc_q depth_dc depth_ac shift) count dcs)
+    Gives (dc_script depth_dc depth_ac shift count) (dc_items depth_dc depth_ac shift dcs o)
+    (AreDcsCut (dc_q depth_dc depth_ac shift) (dc_planes depth_dc depth_ac shift) count dcs)
 dc_gives depth_dc depth_ac shift count dcs o long fits =
     let N = dc_bits depth_dc depth_ac shift in
     let q = dc_q depth_dc depth_ac shift in
@@ -215,5 +213,5 @@ dc_gives depth_dc depth_ac shift count dcs o long fits =
     let inside : (r : ℕ) → r < count → IsInRange true N (int_shr (get_or dcs r (pos 0)) q) = λ r lt. fits r (omega (arith, lt, long)) in
     let w = high_written N q count dcs long inside o in
     rw dc_items-is
-    (gives_then (AreCut q count dcs) (high_script N q count) (dc_planes_script q count n) (high_items N q dcs o) (planes_before q dcs n) w.end w.follows
-    (high_give N q count dcs long inside o) (planes_give N q count dcs long n w.end (omega arith) w.is))
+    (gives_then (AreDcsCut q n count dcs) (high_script N q count) (dc_planes_script q count n) (high_items N q dcs o) (planes_before q dcs n) w.end w.follows
+    (high_give N q n count dcs long inside o) (planes_give N q n count dcs long n w.end (omega arith) (omega arith) w.is))

@@ -36,3 +36,4 @@ pub mod BlockGives
 pub mod CutBlocks
 pub mod CutPlanes
 pub mod CutEnds
+pub mod CutNumbers

@@ -5,5 +5,6 @@ pub mod SegmentWritten
 pub mod SegmentParts
 pub mod SegmentBack
 pub mod TextBack
+pub mod TextNumbers
 pub mod TextReads
 pub mod TextOutcomes

@@ -1,5 +1,5 @@
 -- What the items of a segment give of its values, at their end and at each question.
-use Rattle.std.proofs.Common.{◌≡◌, ◌+◌, ◌<◌, ◌≤◌, ℕ, zero, suc, nat_lt, Bool, true, false, cond, if◌then◌else◌, List, [], ◌∷◌, ◌++◌, length, take, refl, ap, sym, ◌∙◌, subst, arith, ℤ, pos, inl, inr, append-nil}
+use Rattle.std.proofs.Common.{◌≡◌, ◌^◌, ◌<◌, ◌≤◌, ℕ, zero, suc, nat_lt, Bool, true, false, cond, if◌then◌else◌, List, [], ◌∷◌, ◌++◌, length, take, refl, ap, sym, ◌∙◌, subst, arith, ℤ, pos, pow_mono, inl, inr, append-nil}
 use Rattle.std.specs.Prelude.{replicate}
 use Rattle.std.proofs.lemmas.Bool.Decides.{nat_tests}
 use Rattle.std.proofs.lemmas.List.{length-map}
@@ -19,16 +19,15 @@ use Rattle.item_scripts.specs.Following.{Follows}
 use Rattle.item_scripts.proofs.FollowLaws.{follows_then}
 use Rattle.item_scripts.proofs.Giving.{Gives, gives_weaker, gives_around, gives_beside}
 use Rattle.number_scripts.specs.Laws.{given_part}
-use Rattle.number_scripts.specs.Cuts.{cut_dcs}
+use Rattle.number_scripts.specs.Cuts.{parts_of, AreDcsCut}
 use Rattle.number_scripts.specs.Depths.{depths_script}
 use Rattle.number_scripts.specs.DcPart.{dc_script}
-use Rattle.number_scripts.proofs.DcCuts.{AreCut as DcsCut, dc_gives}
+use Rattle.number_scripts.proofs.DcCuts.{dc_gives}
 use Rattle.plane_scripts.specs.Cuts.{AreCut}
-use Rattle.plane_scripts.proofs.CutBlocks.{map_same}
 use Rattle.plane_scripts.proofs.CutPlanes.{planes_give}
 use Rattle.plane_scripts.proofs.CutEnds.{planes_end}
 use Rattle.text_scripts.specs.Segments.{dc_blocks, dc_part_script, planes_part_script, segment_script}
-use Rattle.text_scripts.specs.Parts.{IsPart}
+use Rattle.text_scripts.specs.Parts.{AreDeep, IsPart}
 use Rattle.text_scripts.proofs.AsksItems.{items_parts}
 use Rattle.text_scripts.proofs.SegmentWritten as written
 use Rattle.text_scripts.proofs.SegmentWritten.{stages_stop, planes_are}
@@ -54,10 +53,6 @@ gives_all_then Q (ask g form now) next (x ∷ xs) ys a f p more zero le are = p.
 gives_all_then Q (ask g form now) next (x ∷ xs) ys a f p more (suc m) le are =
     (p.0, gives_all_then Q (now x.said) next xs ys a f.1 p.1 (λ all. more (are.0, all)) m (omega (arith, le)) are.1)
 
-dcs_same : (count : ℕ) (d e : ℕ → ℤ) → ((r : ℕ) → r < count → d r ≡ e r) → dc_blocks count d ≡ dc_blocks count e
-dcs_same count d e same =
-    map_same (λ r. d r ∷ replicate 63 (pos 0)) (λ r. e r ∷ replicate 63 (pos 0)) [] count (λ r lt. ap (λ z. z ∷ replicate 63 (pos 0)) (same r lt))
-
 module _ (head : SegmentHead) (is_head : IsHead head) (blocks : List (List ℤ)) (depths : List ℕ) (options : Options) (p : IsSpellable head blocks depths)
     (known : AreWordOptions options) where
   abbrev Part : List (List ℤ) → Type 0
@@ -82,24 +77,31 @@ module _ (head : SegmentHead) (is_head : IsHead head) (blocks : List (List ℤ))
   Rest x now = if x then done now else then_ask (beside now (depths_script head.depth_ac head.blocks)) (planes_part_script options.book head now)
 
   -- the DC part
-  dcs_are : (d : ℕ → ℤ) → DcsCut (q_of head) head.blocks (dcs_of blocks) d → Part (dc_blocks head.blocks d)
-  dcs_are d z = inr (inr (record { spot = z.0; is = dcs_same head.blocks d (cut_dcs (q_of head) (dcs_of blocks) z.0) z.1 }))
+  abbrev planes : ℕ
+  planes = dc_planes head.depth_dc head.depth_ac (dc_shift head)
 
   first_part : Part first
   first_part =
       let w = written.dcs head is_head blocks depths options p known in
-      subst Part (sym (written.first_is head is_head blocks depths options p known)) (dcs_are w.0 (
-        record { high = true; planes = dc_planes head.depth_dc head.depth_ac (dc_shift head); blocks = 0 },
-        λ r lt. w.2 r lt ∙ all r (given_part (q_of head) (dc_planes head.depth_dc head.depth_ac (dc_shift head) + 1) (get_or (dcs_of blocks) r (pos 0)))
-            (given_part (q_of head) (dc_planes head.depth_dc head.depth_ac (dc_shift head)) (get_or (dcs_of blocks) r (pos 0))),
-      ))
+      inl (record {
+        dcs = w.0;
+        cut = record {
+          spot = record { parts = planes; blocks = head.blocks };
+          inside = omega arith;
+          is = λ r lt. w.2 r lt ∙ all r lt (get_or (dcs_of blocks) r (pos 0));
+        };
+        is = written.first_is head is_head blocks depths options p known;
+      })
     where
-      all : (r : ℕ) (a z : ℤ) → z ≡ (if nat_lt r 0 then a else z)
-      all r a z = let e : nat_lt r 0 ≡ false = grind (arith, nat_tests) in ap (λ (x : Bool). if x then a else z) (sym e)
+      all : (r : ℕ) → r < head.blocks → (z : ℤ) →
+          given_part (q_of head) planes z ≡ parts_of (q_of head) (if nat_lt r head.blocks then suc planes else planes) z
+      all r lt z = let e : nat_lt r head.blocks ≡ true = grind (arith, nat_tests) in
+          ap (λ (x : Bool). parts_of (q_of head) (if x then suc planes else planes) z) (sym e)
 
   dcs_give : Gives (dc_part_script head) D Part
   dcs_give =
-      gives_around (DcsCut (q_of head) head.blocks (dcs_of blocks)) Part (dc_blocks head.blocks) dcs_are
+      gives_around (AreDcsCut (q_of head) planes head.blocks (dcs_of blocks)) Part (dc_blocks head.blocks)
+      (λ d z. inl (record { dcs = d; cut = z; is = refl }))
       (dc_script head.depth_dc head.depth_ac (dc_shift head) head.blocks) D
       (dc_gives head.depth_dc head.depth_ac (dc_shift head) head.blocks (dcs_of blocks) options.dcs (length-map blocks dc_of ∙ p.blocks_all) p.dcs_fit)
 
@@ -109,9 +111,15 @@ module _ (head : SegmentHead) (is_head : IsHead head) (blocks : List (List ℤ))
       ap length (written.first_is head is_head blocks depths options p known) ∙
       length-map-span (λ i. (written.dcs head is_head blocks depths options p known).0 i ∷ replicate 63 (pos 0)) head.blocks ∙ sym p.blocks_all
 
+  all_deep : AreItems E → AreDeep head blocks
+  all_deep are r k low =
+      let le : 2 ^ get_or depths r 0 ≤ 2 ^ head.depth_ac = pow_mono (written.deep head is_head blocks depths options p known are r) in
+      let lt = p.below r k low in
+      omega (arith, lt, le)
+
   planes_part_give : AreItems E → Gives (planes_part_script options.book head first depths) P Part
   planes_part_give are =
-      gives_weaker (AreCut head.image.weights.shifts (q_of head) blocks head.depth_ac) Part (λ g z. inr (inl z))
+      gives_weaker (AreCut head.image.weights.shifts (q_of head) blocks head.depth_ac) Part (λ g z. inr (all_deep are, inr z))
       (planes_part_script options.book head first depths) P
       (subst (λ l. Gives (planes_part_script options.book head first depths) l (AreCut head.image.weights.shifts (q_of head) blocks head.depth_ac))
       (sym (planes_are head blocks depths options head.depth_ac 0 (omega arith)))
@@ -164,7 +172,7 @@ module _ (head : SegmentHead) (is_head : IsHead head) (blocks : List (List ℤ))
                 (follows_then (planes_part_script options.book head first) (beside first (depths_script head.depth_ac head.blocks)) E P depths w.end
                 (written.depths_follow head is_head blocks depths options p known) w.follows),
             elim end [
-              | inl five ↦ inl (written.they_are head is_head blocks depths options p known w good.1 five)
-              | inr cut ↦ inr (inl cut)
+              | inl five ↦ inr (all_deep good.0, inl (written.they_are head is_head blocks depths options p known w good.1 five))
+              | inr cut ↦ inr (all_deep good.0, inr cut)
             ],
           )

@@ -66,7 +66,7 @@ planes_are head blocks depths options (suc b) n e =
     planes_reading options.book options.words blocks depths head.image.weights.shifts (q_of head) (stages_sent head) b) here
 
 -- the DC part leaves out the bits that the planes give
-first_shift : (weights : List ℕ) → shift weights 0 ≡ slice_index weights 9
+pub first_shift : (weights : List ℕ) → shift weights 0 ≡ slice_index weights 9
 unfolding place_of
 first_shift weights = refl
 
@@ -141,7 +141,7 @@ module _ (head : SegmentHead) (is_head : IsHead head) (blocks : List (List ℤ))
       (depth_laws.written head.depth_ac head.blocks depths options.depths counted)
 
   -- depths that are not refused
-  deep : AreItems E → (r : ℕ) → get_or depths r 0 ≤ head.depth_ac
+  pub deep : AreItems E → (r : ℕ) → get_or depths r 0 ≤ head.depth_ac
   deep are r = by (cases_lt r head.blocks)
     where
       ends : (length depths ≡ head.blocks) × ((i : ℕ) → i < head.blocks → slice_index depths i ≤ head.depth_ac)

@@ -5,6 +5,7 @@ use Rattle.std.proofs.lemmas.Bool.Decides.{nat_tests}
 use Rattle.item_defs.specs.Items.{Item, Refusal, text}
 use Rattle.item_defs.specs.Readings.{AreItems, item_at}
 use Rattle.base_122.specs.declared.book.Book.{Book}
+use Rattle.plane_defs.specs.Codes.{is_book_sound}
 use Rattle.segment_defs.specs.declared.head.SegmentHead.{SegmentHead}
 use Rattle.segment_defs.specs.Head.{IsHead}
 use Rattle.segment_defs.specs.SegmentItems.{Options, segment_items}
@@ -13,13 +14,14 @@ use Rattle.text_defs.specs.Outcomes.{SegmentRefusal, at_item, short_segment, ove
 use Rattle.item_scripts.specs.Scripts.{Script, run}
 use Rattle.item_scripts.specs.Following.{SaysWhat}
 use Rattle.item_scripts.proofs.Giving.{cut_given}
-use Rattle.text_scripts.specs.Parts.{IsPart}
+use Rattle.text_scripts.specs.Parts.{IsPart, AreWeighted}
 use Rattle.text_scripts.specs.Segments.{segment_script}
 use Rattle.text_scripts.specs.Outcomes.{Answer, by_length, expected, verdict, text_outcome}
 use Rattle.text_scripts.specs.Laws.{HasAllPlanes, TextsAreRead}
 use Rattle.text_scripts.proofs.SegmentGoes.{segments_are_read}
 use Rattle.text_scripts.proofs.SegmentWritten.{segment_exact, segment_asks}
 use Rattle.text_scripts.proofs.SegmentParts.{segment_gives, segment_part}
+use Rattle.text_scripts.proofs.TextNumbers.{part_weighted}
 use Rattle.text_scripts.proofs.TextBack.{held_back, name_back}
 
 abbrev Blocks : Type 0
@@ -179,6 +181,17 @@ not_both v name e = cc
 pub same_name : (a b : SegmentRefusal) → ◌≡◌ {A = Answer} (Err a) (Err b) → a ≡ b
 same_name a b e = cc
 
+same_blocks : (a b : Blocks) → ◌≡◌ {A = Answer} (Ok a) (Ok b) → a ≡ b
+same_blocks a b e = cc
+
+numbers_read : (book : Book) → is_book_sound book ≡ true → (head : SegmentHead) (rest : List ℕ) (v : Blocks) → IsHead head →
+    text_outcome book head rest ≡ Ok v → AreWeighted head v
+numbers_read book sound head rest v is_head e =
+    let w = held_back book sound head is_head rest v e in
+    let r = holds_read book head rest w.0 is_head w.1 in
+    part_weighted head is_head w.1.blocks w.1.depths w.1.reading.spellable v
+    (subst (IsPart head w.1.blocks) (same_blocks r.0 v (sym r.1 ∙ e)) r.2)
+
 pub texts_are_read : TextsAreRead
 texts_are_read book sound head rest is_head = record {
   holds = λ w h. holds_read book head rest w is_head h;
@@ -186,4 +199,5 @@ texts_are_read book sound head rest is_head = record {
   refuses = λ name h. refused_reads book head rest name is_head h;
   held = λ v e. held_back book sound head is_head rest v e;
   refused = λ name e. name_back book sound head is_head rest name e;
+  numbers = λ v e. numbers_read book sound head rest v is_head e;
 }

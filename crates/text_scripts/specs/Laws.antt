@@ -11,7 +11,7 @@ use Rattle.segment_defs.specs.Head.{IsHead}
 use Rattle.segment_defs.specs.SegmentItems.{segment_items}
 use Rattle.text_defs.specs.Outcomes.{SegmentRefusal, Holds, Refused}
 use Rattle.text_scripts.specs.Segments.{segment_script}
-use Rattle.text_scripts.specs.Parts.{IsPart}
+use Rattle.text_scripts.specs.Parts.{IsPart, AreWeighted}
 use Rattle.text_scripts.specs.Outcomes.{text_outcome}
 
 -- there are as many blocks as the head has
@@ -46,6 +46,8 @@ pub record TextReads (book : Book) (head : SegmentHead) (rest : List ℕ) : Type
   pub refuses : (name : SegmentRefusal) → Refused book head rest name → text_outcome book head rest ≡ Err name
   pub held : (v : List (List ℤ)) → text_outcome book head rest ≡ Ok v → (w : List (List ℤ)) × Holds book head rest w
   pub refused : (name : SegmentRefusal) → text_outcome book head rest ≡ Err name → Refused book head rest name
+  -- the numbers that are given are multiples of their weights
+  pub numbers : (v : List (List ℤ)) → text_outcome book head rest ≡ Ok v → AreWeighted head v
 
 abbrev pub TextsAreRead : Type 0
 TextsAreRead = (book : Book) → is_book_sound book ≡ true → (head : SegmentHead) (rest : List ℕ) → IsHead head → TextReads book head rest
