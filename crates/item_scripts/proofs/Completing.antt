@@ -28,7 +28,7 @@ possible_parts (x ∷ xs) ys p = let w = possible_parts xs ys p.1 in ((p.0, w.0)
 
 module _ {G A : Type 0} (P : A → Type 0) where
   -- some way to the end
-  on_way : (s : Script G A) → Goes s P → Completed s P []
+  pub on_way : (s : Script G A) → Goes s P → Completed s P []
   on_way (done a) p = record { more = []; end = a; is = p; are = tt; follows = refl }
   on_way (ask g form next) p =
       let n = p.1.0 in

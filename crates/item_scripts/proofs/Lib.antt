@@ -4,3 +4,5 @@ pub mod FollowLaws
 pub mod ReaderLaws
 pub mod Completing
 pub mod Writing
+pub mod Starting
+pub mod Giving

@@ -55,11 +55,11 @@ turns_split S item j (suc m) n s =
 -- ---- items that follow are read
 
 module _ {G A : Type 0} where
-  abbrev Next : G → Form → (ℕ → Script G A) → Option (ℕ × List Bool) → Outcome G A
+  abbrev pub Next : G → Form → (ℕ → Script G A) → Option (ℕ × List Bool) → Outcome G A
   Next g form next o = answered g form (λ n. run (next n)) o
 
   -- the first item is read, and then the rest
-  first_read : (g : G) (form : Form) (next : ℕ → Script G A) (i : Item) (items : List Item) (left : List Bool) → form ≡ i.form → IsSound i.form.shape →
+  pub first_read : (g : G) (form : Form) (next : ℕ → Script G A) (i : Item) (items : List Item) (left : List Bool) → form ≡ i.form → IsSound i.form.shape →
       IsSaid i.form.shape i.said → i.form.refusal i.said ≡ None →
       run (ask g form next) (text (i ∷ items) ++ left) ≡ run (next i.said) (text items ++ left)
   first_read g form next i items left same sound said good =

@@ -29,7 +29,7 @@ use Rattle.number_scripts.specs.Numbers.{numbers_script}
 use Rattle.number_scripts.specs.DcPart.{with_dc, dc_bits_script, dcs_of_heights, high_script, dc_planes_script, dc_script}
 use Rattle.number_scripts.specs.Laws.{AreCounted, AreGiven, given_part, DcLaws}
 use Rattle.number_scripts.proofs.NumberLaws.{numbers_counted, written_counted, back_counted}
-use Rattle.number_scripts.proofs.DcNumbers.{twice, step_value, shr_step, bit_below, range_more, cancel, twice_same, shr_multiple}
+use Rattle.number_scripts.proofs.DcNumbers.{twice, step_value, shr_step, bit_below, range_more, cancel, twice_same}
 
 same_map : (f g : ℕ → Item) (a n : ℕ) → ((r : ℕ) → a ≤ r → r < a + n → f r ≡ g r) → map f (range_with_len a n) ≡ map g (range_with_len a n)
 same_map f g a zero same = refl
@@ -44,13 +44,13 @@ pub record HaveBits (weight : ℤ) (j n : ℕ) (bits : ℕ → ℕ) (old new : �
   pub others : (r : ℕ) → (j ≤ r → r < j + n → ⊥) → new r ≡ old r
 
 module _ (weight : ℤ) where
-  abbrev turn : ℕ → (ℕ → ℤ) → Script (ℕ → ℤ) (ℕ → ℤ)
+  abbrev pub turn : ℕ → (ℕ → ℤ) → Script (ℕ → ℤ) (ℕ → ℤ)
   turn r dcs = ask dcs bit_form (λ b. done (with_dc dcs r (dcs r +ℤ (pos b *ℤ weight))))
 
   at_place : (dcs : ℕ → ℤ) (j : ℕ) (z : ℤ) → with_dc dcs j z j ≡ z
   at_place dcs j z = let t : (j == j) ≡ true = grind (arith, nat_tests) in rw t refl
 
-  elsewhere : (dcs : ℕ → ℤ) (j r : ℕ) (z : ℤ) → (r ≡ j → ⊥) → with_dc dcs j z r ≡ dcs r
+  pub elsewhere : (dcs : ℕ → ℤ) (j r : ℕ) (z : ℤ) → (r ≡ j → ⊥) → with_dc dcs j z r ≡ dcs r
   elsewhere dcs j r z ne = let t : (r == j) ≡ false = grind (arith, nat_tests) in rw t refl
 
   -- one place more
@@ -160,7 +160,7 @@ module _ (weight : ℤ) where
 abbrev bits_at : List ℤ → ℕ → ℕ → ℕ
 bits_at dcs c r = complement 1 (int_shr (get_or dcs r (pos 0)) c)
 
-map_range : (c : ℕ) (dcs : List ℤ) → map (dc_bit c) dcs ≡ map (λ r. raw (bits_at dcs c r)) (range_with_len 0 (length dcs))
+pub map_range : (c : ℕ) (dcs : List ℤ) → map (dc_bit c) dcs ≡ map (λ r. raw (bits_at dcs c r)) (range_with_len 0 (length dcs))
 map_range c dcs =
     ext_get_or (raw 0) (map (dc_bit c) dcs) (map (λ r. raw (bits_at dcs c r)) (range_with_len 0 (length dcs))) (length-map dcs (dc_bit c) ∙
     sym (length-map-range_with_len (λ r. raw (bits_at dcs c r)) 0 (length dcs)))
@@ -183,11 +183,11 @@ part_more q n dc le =
     ap (λ z. z *ℤ pos (2 ^ (q - suc n))) (ap (λ k. twice (int_shr dc k) (complement 1 (int_shr dc (q - suc n)))) e ∙ sym (shr_step dc (q - suc n)))
 
 module _ (N q count : ℕ) where
-  abbrev plane : ℕ → (ℕ → ℤ) → Script (ℕ → ℤ) (ℕ → ℤ)
+  abbrev pub plane : ℕ → (ℕ → ℤ) → Script (ℕ → ℤ) (ℕ → ℤ)
   plane i = dc_bits_script (pos (2 ^ (q - suc i))) count
 
   -- the given parts of these numbers
-  abbrev Parts : List ℤ → ℕ → (ℕ → ℤ) → Type 0
+  abbrev pub Parts : List ℤ → ℕ → (ℕ → ℤ) → Type 0
   Parts xs n dcs = (r : ℕ) → r < count → dcs r ≡ given_part q n (get_or xs r (pos 0))
 
   plane_goes : (n : ℕ) (dcs : ℕ → ℤ) → 1 ≤ N → suc n ≤ q → AreGiven N q n count dcs → Goes (plane n dcs) (AreGiven N q (suc n) count)
@@ -205,30 +205,34 @@ module _ (N q count : ℕ) where
       subst (λ m. Goes (in_turn plane 0 n dcs) (AreGiven N q m count)) e
       (goes_in_turn (λ i. AreGiven N q i count) plane 0 n (λ i s low high p. plane_goes i s some (omega (arith, high, le)) p) dcs given)
 
-  last_turn : (n : ℕ) (dcs : ℕ → ℤ) → in_turn plane 0 (suc n) dcs ≡ then_ask (in_turn plane 0 n dcs) (plane n)
+  pub last_turn : (n : ℕ) (dcs : ℕ → ℤ) → in_turn plane 0 (suc n) dcs ≡ then_ask (in_turn plane 0 n dcs) (plane n)
   last_turn n dcs =
       let e : suc n ≡ n + 1 = omega arith in
       let z : 0 + n ≡ n = omega arith in
       ap (λ m. in_turn plane 0 m dcs) e ∙ turns_split (ℕ → ℤ) plane 0 n 1 dcs ∙ ap (λ j. then_ask (in_turn plane 0 n dcs) (in_turn plane j 1)) z ∙
       (λ t. then_ask (in_turn plane 0 n dcs) (λ s. then_done (plane n s) t))
 
-  planes_written : (xs : List ℤ) → length xs ≡ count → (n : ℕ) (dcs : ℕ → ℤ) → n ≤ q → Parts xs 0 dcs →
+  pub plane_written : (xs : List ℤ) → length xs ≡ count → (n : ℕ) (s : ℕ → ℤ) → suc n ≤ q → Parts xs n s →
+      Writes (plane n s) (map (dc_bit (q - suc n)) xs) (Parts xs (suc n))
+  plane_written xs long n s le p =
+      let bits = bits_at xs (q - suc n) in
+      let items : map (λ r. raw (bits r)) (range_with_len 0 count) ≡ map (dc_bit (q - suc n)) xs =
+      ap (λ m. map (λ r. raw (bits r)) (range_with_len 0 m)) (sym long) ∙ sym (map_range (q - suc n) xs) in
+      subst (λ l. Writes (plane n s) l (Parts xs (suc n))) items
+      (writes_weaker (HaveBits (pos (2 ^ (q - suc n))) 0 count bits s) (Parts xs (suc n)) (plane n s) (map (λ r. raw (bits r)) (range_with_len 0 count))
+      (λ new have r lt. have.here r (omega arith) (omega (arith, lt)) ∙ ap (λ z. z +ℤ (pos (bits r) *ℤ pos (2 ^ (q - suc n)))) (p r lt) ∙
+      part_more q n (get_or xs r (pos 0)) le)
+      (bits_written (pos (2 ^ (q - suc n))) bits 0 count s))
+
+  pub planes_written : (xs : List ℤ) → length xs ≡ count → (n : ℕ) (dcs : ℕ → ℤ) → n ≤ q → Parts xs 0 dcs →
       Writes (in_turn plane 0 n dcs) (planes_before q xs n) (Parts xs n)
   planes_written xs long zero dcs le parts =
       subst (λ l. Writes {G = ℕ → ℤ} (done dcs) l (Parts xs 0)) (sym (planes_before-none q xs)) (writes_none (Parts xs 0) dcs parts)
   planes_written xs long (suc n) dcs le parts =
-      let bits = bits_at xs (q - suc n) in
-      let items : map (λ r. raw (bits r)) (range_with_len 0 count) ≡ map (dc_bit (q - suc n)) xs =
-      ap (λ m. map (λ r. raw (bits r)) (range_with_len 0 m)) (sym long) ∙ sym (map_range (q - suc n) xs) in
       subst (λ l. Writes (in_turn plane 0 (suc n) dcs) l (Parts xs (suc n))) (sym (planes_before-more q xs n))
       (subst (λ s. Writes s (planes_before q xs n ++ map (dc_bit (q - suc n)) xs) (Parts xs (suc n))) (sym (last_turn n dcs))
       (writes_then (Parts xs n) (Parts xs (suc n)) (in_turn plane 0 n dcs) (plane n) (planes_before q xs n) (map (dc_bit (q - suc n)) xs)
-      (planes_written xs long n dcs (omega (arith, le)) parts)
-      (λ s p. subst (λ l. Writes (plane n s) l (Parts xs (suc n))) items
-      (writes_weaker (HaveBits (pos (2 ^ (q - suc n))) 0 count bits s) (Parts xs (suc n)) (plane n s) (map (λ r. raw (bits r)) (range_with_len 0 count))
-      (λ new have r lt. have.here r (omega arith) (omega (arith, lt)) ∙ ap (λ z. z +ℤ (pos (bits r) *ℤ pos (2 ^ (q - suc n)))) (p r lt) ∙
-      part_more q n (get_or xs r (pos 0)) le)
-      (bits_written (pos (2 ^ (q - suc n))) bits 0 count s)))))
+      (planes_written xs long n dcs (omega (arith, le)) parts) (λ s p. plane_written xs long n s le p)))
 
   -- the numbers determine the bits
   plane_same : (xs : List ℤ) (n : ℕ) (mid new : ℕ → ℤ) (bits : ℕ → ℕ) → suc n ≤ q → AreGiven N q n count mid → ((r : ℕ) → bits r < 2) →
@@ -342,7 +346,7 @@ module _ (N q count : ℕ) where
     unfolding heights
     height_at r lt = get_or-map (shifted_height true N q) xs r (pos 0) 0 (omega (arith, lt, long))
 
-    high_written : Writes (high_script N q count) (high_items N q xs o) (Parts N q count xs 0)
+    pub high_written : Writes (high_script N q count) (high_items N q xs o) (Parts N q count xs 0)
     unfolding heights
     high_written = by (N == 1) refl
       where
@@ -445,26 +449,16 @@ module _ (depth_dc depth_ac shift count : ℕ) where
       (high_written N q count dcs long (λ r lt. fits r (omega (arith, lt, long))) o) (λ s p. planes_written N q count dcs long planes s planes_within p) in
       rw dc_items-is (w.end, w.follows, w.is)
 
-  back : (items : List Item) (end : ℕ → ℤ) → ArePossible items → Follows (dc_script depth_dc depth_ac shift count) items end →
-      (o : ℕ → ℕ) × (2 ≤ N → (g : ℕ) → g < gaggle_count count → is_option N (o g) ≡ true) ×
-      (items ≡ dc_items depth_dc depth_ac shift (map end (range_with_len 0 count)) o)
-  back items end are f =
-      let xs = map end (range_with_len 0 count) in
-      let long : length xs ≡ count = length-map-range_with_len end 0 count in
+  back : (items : List Item) (end : ℕ → ℤ) → ArePossible items → Follows (dc_script depth_dc depth_ac shift count) items end → (dcs : List ℤ) →
+      length dcs ≡ count → ((r : ℕ) → r < count → end r ≡ given_part q planes (get_or dcs r (pos 0))) →
+      (o : ℕ → ℕ) × (2 ≤ N → (g : ℕ) → g < gaggle_count count → is_option N (o g) ≡ true) × (items ≡ dc_items depth_dc depth_ac shift dcs o)
+  back items end are f dcs long parts =
       let a = follows_split (dc_planes_script q count planes) (high_script N q count) items end f in
       let aa = possible_parts a.first a.rest (subst ArePossible a.both are) in
       let mid = goes_end (AreGiven N q 0 count) (high_script N q count) (high_goes N q count) a.first a.value aa.0 a.follows in
-      let last = goes_end (AreGiven N q planes count) (dc_planes_script q count planes a.value)
-      (planes_go N q count planes a.value some_bits planes_within mid) a.rest end aa.1 a.then in
-      let rest = planes_back N q count xs long planes a.value end some_bits planes_within mid a.rest aa.1 a.then (parts last) in
-      let first = high_back N q count xs long some_bits (few_bits depth_dc depth_ac shift) a.first a.value aa.0 a.follows rest.0 in
-      (first.0, first.1, a.both ∙ (λ t. first.2 t ++ rest.1 t) ∙ sym (dc_items-is depth_dc depth_ac shift xs first.0))
-    where
-      parts : AreGiven N q planes count end → (r : ℕ) → r < count → end r ≡ given_part q planes (get_or (map end (range_with_len 0 count)) r (pos 0))
-      parts given r lt =
-          let g = given r lt in
-          let at : get_or (map end (range_with_len 0 count)) r (pos 0) ≡ end r = get_or-map-range_with_len end 0 count r r (pos 0) lt (omega arith) in
-          g.2 ∙ ap (λ z. z *ℤ pos (2 ^ (q - planes))) (sym (shr_multiple g.0 (q - planes)) ∙ ap (λ z. int_shr z (q - planes)) (sym (at ∙ g.2)))
+      let rest = planes_back N q count dcs long planes a.value end some_bits planes_within mid a.rest aa.1 a.then parts in
+      let first = high_back N q count dcs long some_bits (few_bits depth_dc depth_ac shift) a.first a.value aa.0 a.follows rest.0 in
+      (first.0, first.1, a.both ∙ (λ t. first.2 t ++ rest.1 t) ∙ sym (dc_items-is depth_dc depth_ac shift dcs first.0))
 
   pub dc_laws : DcLaws depth_dc depth_ac shift count
   dc_laws = record {

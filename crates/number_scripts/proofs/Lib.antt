@@ -7,3 +7,4 @@ pub mod NumberLaws
 pub mod DepthLaws
 pub mod DcNumbers
 pub mod DcLaws
+pub mod DcCuts

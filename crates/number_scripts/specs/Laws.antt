@@ -1,8 +1,7 @@
 -- The laws of numbers by differences, of the DC part and of block depths, as they are read: `goes`, each question is sound and has a
 -- possible answer; `written`, what is written follows; `back`, what is read whole is what its values write; `ends`, what is read whole
 -- without a refusal.
-use Rattle.std.specs.Prelude.{◌≡◌, ◌≤◌, ◌<◌, ℕ, ◌+◌, ◌-◌, ◌^◌, ℤ, pos, ◌*ℤ◌, List, length, map, slice_index, slice_index_or, true, false}
-use Rattle.std.specs.List.{range_with_len}
+use Rattle.std.specs.Prelude.{◌≡◌, ◌≤◌, ◌<◌, ℕ, ◌+◌, ◌-◌, ◌^◌, ℤ, pos, ◌*ℤ◌, List, length, slice_index, slice_index_or, true, false}
 use Rattle.std.specs.Int.{int_shr}
 use Rattle.item_defs.specs.Items.{Item}
 use Rattle.number_defs.specs.Gaggles.{Kind, is_option, gaggle_count, number_items}
@@ -59,7 +58,9 @@ pub record DcLaws (depth_dc depth_ac shift count : ℕ) : Type 0 where
       let q = dc_q depth_dc depth_ac shift in
       (end : ℕ → ℤ) × Follows (dc_script depth_dc depth_ac shift count) (dc_items depth_dc depth_ac shift dcs o) end ×
       ((r : ℕ) → r < count → end r ≡ given_part q (dc_planes depth_dc depth_ac shift) (slice_index_or dcs r (pos 0)))
-  pub back : (items : List Item) (end : ℕ → ℤ) → ArePossible items → Follows (dc_script depth_dc depth_ac shift count) items end →
+  -- of any numbers of which this much was read
+  pub back : (items : List Item) (end : ℕ → ℤ) → ArePossible items → Follows (dc_script depth_dc depth_ac shift count) items end → (dcs : List ℤ) →
+      length dcs ≡ count →
+      ((r : ℕ) → r < count → end r ≡ given_part (dc_q depth_dc depth_ac shift) (dc_planes depth_dc depth_ac shift) (slice_index_or dcs r (pos 0))) →
       let N = dc_bits depth_dc depth_ac shift in
-      (o : ℕ → ℕ) × (2 ≤ N → (g : ℕ) → g < gaggle_count count → is_option N (o g) ≡ true) ×
-      (items ≡ dc_items depth_dc depth_ac shift (map end (range_with_len 0 count)) o)
+      (o : ℕ → ℕ) × (2 ≤ N → (g : ℕ) → g < gaggle_count count → is_option N (o g) ≡ true) × (items ≡ dc_items depth_dc depth_ac shift dcs o)

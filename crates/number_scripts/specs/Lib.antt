@@ -3,3 +3,4 @@ pub mod DcPart
 pub mod Depths
 pub mod Worked
 pub mod Laws
+pub mod Cuts

@@ -84,13 +84,13 @@ module _ (o : List ℕ) (chosen : AreChosen o) (t : Terms) (block v : List ℤ) 
 
   -- ---- stage 4
 
-  refinement_sent : (families : ℕ → Bool) (dc : Bool) (before : List Entry) (s : State) → Reads 64 1 families dc before s →
-      Sends t.book o (refinement_script t block s) before (refinement_steps v W b) (Reads 64 64 families dc)
-  refinement_sent families dc before s r =
-      subst (λ l. Sends t.book o (refinement_script t block s) before l (Reads 64 64 families dc))
-      (sym (flat_map_filter (λ p. sent p ∷ []) (refined v W b) (span 1 63)) ∙ flat_map_single sent (filter (refined v W b) (span 1 63)))
-      (sends_in_turn t.book o (λ p. Reads 64 p families dc) item (λ p. if refined v W b p then sent p ∷ [] else []) 1 63
-      (λ p c u low high z. each p c u low (omega (arith, high)) z) before s r)
+  pub refined_sent : (families : ℕ → Bool) (dc : Bool) (p : ℕ) (c : List Entry) (u : State) → 1 ≤ p → p < 64 → Reads 64 p families dc c u →
+      Sends t.book o (if refined block W b p then bit_script p u else done u) c
+      (if refined v W b p then step free (bit_at p) (Bit (bit (magnitude v p) b)) ∷ [] else []) (Reads 64 (suc p) families dc)
+  refined_sent families dc p c u low high r =
+      subst (λ y. Sends {G = State} t.book o (if y then bit_script p u else done u) c (if refined v W b p then sent p ∷ [] else []) (Reads 64
+      (suc p) families dc))
+      (sym (places.refined_is o chosen t block v same whole p (low, high))) (by (refined v W b p) refl)
     where
       sent : ℕ → Step
       sent p = step free (bit_at p) (Bit (bit (magnitude v p) b))
@@ -104,55 +104,62 @@ module _ (o : List ℕ) (chosen : AreChosen o) (t : Terms) (block v : List ℤ) 
       A : ℕ → Bool
       A q = nat_lt q 64 && newly_significant v W b q
 
-      each : (p : ℕ) (c : List Entry) (u : State) → 1 ≤ p → p < 64 → Reads 64 p families dc c u →
-          Sends t.book o (item p u) c (if refined v W b p then sent p ∷ [] else []) (Reads 64 (suc p) families dc)
-      each p c u low high r =
-          subst (λ y. Sends {G = State} t.book o (if y then bit_script p u else done u) c (if refined v W b p then sent p ∷ [] else []) (Reads 64
-          (suc p) families dc))
-          (sym (places.refined_is o chosen t block v same whole p (low, high))) (by (refined v W b p) refl)
+      bits_one : (q : ℕ) (x z a : Bool) → ((q == p) ≡ true → x ≡ z) →
+          ((a || (nat_lt q p && z)) || (false || ((q == p) && x))) ≡ (a || (nat_lt q (suc p) && z))
+      bits_one q x z a h = here (q == p) refl h
         where
-          bits_one : (q : ℕ) (x z a : Bool) → ((q == p) ≡ true → x ≡ z) →
-              ((a || (nat_lt q p && z)) || (false || ((q == p) && x))) ≡ (a || (nat_lt q (suc p) && z))
-          bits_one q x z a h = here (q == p) refl h
-            where
-              here : (e : Bool) → (q == p) ≡ e → (e ≡ true → x ≡ z) → ((a || (nat_lt q p && z)) || (false || (e && x))) ≡ (a || (nat_lt q (suc p) && z))
-              here true e h =
-                  let f : nat_lt q p ≡ false = grind (arith, nat_tests) in
-                  let g : nat_lt q (suc p) ≡ true = grind (arith, nat_tests) in
-                  rw (f, g, h refl) (ap (λ y. y || z) (or-false a))
-              here false e h =
-                  let f : nat_lt q p ≡ nat_lt q (suc p) = grind (arith, nat_tests) in
-                  or-false (a || (nat_lt q p && z)) ∙ ap (λ y. a || (y && z)) f
+          here : (e : Bool) → (q == p) ≡ e → (e ≡ true → x ≡ z) → ((a || (nat_lt q p && z)) || (false || (e && x))) ≡ (a || (nat_lt q (suc p) && z))
+          here true e h =
+              let f : nat_lt q p ≡ false = grind (arith, nat_tests) in
+              let g : nat_lt q (suc p) ≡ true = grind (arith, nat_tests) in
+              rw (f, g, h refl) (ap (λ y. y || z) (or-false a))
+          here false e h =
+              let f : nat_lt q p ≡ nat_lt q (suc p) = grind (arith, nat_tests) in
+              or-false (a || (nat_lt q p && z)) ∙ ap (λ y. a || (y && z)) f
 
-          skipped : (q : ℕ) (z : Bool) → ((q == p) ≡ true → z ≡ false) → (nat_lt q p && z) ≡ (nat_lt q (suc p) && z)
-          skipped q z h = here (q == p) refl h
-            where
-              here : (e : Bool) → (q == p) ≡ e → (e ≡ true → z ≡ false) → (nat_lt q p && z) ≡ (nat_lt q (suc p) && z)
-              here true e h = let f = h refl in ap (λ y. nat_lt q p && y) f ∙ and-false (nat_lt q p) ∙ sym (ap (λ y. nat_lt q (suc p) && y) f ∙
-                  and-false (nat_lt q (suc p)))
-              here false e h = let f : nat_lt q p ≡ nat_lt q (suc p) = grind (arith, nat_tests) in ap (λ y. y && z) f
+      skipped : (q : ℕ) (z : Bool) → ((q == p) ≡ true → z ≡ false) → (nat_lt q p && z) ≡ (nat_lt q (suc p) && z)
+      skipped q z h = here (q == p) refl h
+        where
+          here : (e : Bool) → (q == p) ≡ e → (e ≡ true → z ≡ false) → (nat_lt q p && z) ≡ (nat_lt q (suc p) && z)
+          here true e h = let f = h refl in ap (λ y. nat_lt q p && y) f ∙ and-false (nat_lt q p) ∙ sym (ap (λ y. nat_lt q (suc p) && y) f ∙
+              and-false (nat_lt q (suc p)))
+          here false e h = let f : nat_lt q p ≡ nat_lt q (suc p) = grind (arith, nat_tests) in ap (λ y. y && z) f
 
-          at : (q : ℕ) → (q == p) ≡ true → p ≡ q
-          at q e = grind (arith, nat_tests)
+      at : (q : ℕ) → (q == p) ≡ true → p ≡ q
+      at q e = grind (arith, nat_tests)
 
-          by : (y : Bool) → refined v W b p ≡ y →
-              Sends {G = State} t.book o (if y then bit_script p u else done u) c (if y then sent p ∷ [] else []) (Reads 64 (suc p) families dc)
-          by true e = bit_sent t.book o p (bit (magnitude v p) b) (bit_at p) (Reads 64 (suc p) families dc) c u (record {
-            knows = knows_same o c (Bit (bit (magnitude v p) b)) u.options (λ n few. refl) r.knows;
-            bits = λ q ac. ap (λ y. y || (false || ((q == p) && bit (magnitude v p) b))) (r.bits q ac) ∙
-                bits_one q (bit (magnitude v p) b) (Z q) (A q) (λ f. ap (λ y. y && bit (magnitude v p) b) (sym e) ∙ ap Z (at q f));
-            minus = r.minus;
-            enclosing = r.enclosing;
-            low = (let f : (0 == p) ≡ false = grind (arith, nat_tests) in
-                ap (λ y. u.bits 0 || (false || (y && bit (magnitude v p) b))) f ∙ or-false (u.bits 0)) ∙ r.low;
-          })
-          by false e = sends_none t.book o (Reads 64 (suc p) families dc) u c (record {
-            knows = r.knows;
-            bits = λ q ac. r.bits q ac ∙ ap (λ y. A q || y) (skipped q (Z q) (λ f. ap Z (sym (at q f)) ∙ ap (λ y. y && bit (magnitude v p) b) e));
-            minus = r.minus;
-            enclosing = r.enclosing;
-            low = r.low;
-          })
+      by : (y : Bool) → refined v W b p ≡ y →
+          Sends {G = State} t.book o (if y then bit_script p u else done u) c (if y then sent p ∷ [] else []) (Reads 64 (suc p) families dc)
+      by true e = bit_sent t.book o p (bit (magnitude v p) b) (bit_at p) (Reads 64 (suc p) families dc) c u (record {
+        knows = knows_same o c (Bit (bit (magnitude v p) b)) u.options (λ n few. refl) r.knows;
+        bits = λ q ac. ap (λ y. y || (false || ((q == p) && bit (magnitude v p) b))) (r.bits q ac) ∙
+            bits_one q (bit (magnitude v p) b) (Z q) (A q) (λ f. ap (λ y. y && bit (magnitude v p) b) (sym e) ∙ ap Z (at q f));
+        minus = r.minus;
+        enclosing = r.enclosing;
+        low = (let f : (0 == p) ≡ false = grind (arith, nat_tests) in
+            ap (λ y. u.bits 0 || (false || (y && bit (magnitude v p) b))) f ∙ or-false (u.bits 0)) ∙ r.low;
+      })
+      by false e = sends_none t.book o (Reads 64 (suc p) families dc) u c (record {
+        knows = r.knows;
+        bits = λ q ac. r.bits q ac ∙ ap (λ y. A q || y) (skipped q (Z q) (λ f. ap Z (sym (at q f)) ∙ ap (λ y. y && bit (magnitude v p) b) e));
+        minus = r.minus;
+        enclosing = r.enclosing;
+        low = r.low;
+      })
+
+  refinement_sent : (families : ℕ → Bool) (dc : Bool) (before : List Entry) (s : State) → Reads 64 1 families dc before s →
+      Sends t.book o (refinement_script t block s) before (refinement_steps v W b) (Reads 64 64 families dc)
+  refinement_sent families dc before s r =
+      subst (λ l. Sends t.book o (refinement_script t block s) before l (Reads 64 64 families dc))
+      (sym (flat_map_filter (λ p. sent p ∷ []) (refined v W b) (span 1 63)) ∙ flat_map_single sent (filter (refined v W b) (span 1 63)))
+      (sends_in_turn t.book o (λ p. Reads 64 p families dc) item (λ p. if refined v W b p then sent p ∷ [] else []) 1 63
+      (λ p c u low high z. refined_sent families dc p c u low (omega (arith, high)) z) before s r)
+    where
+      sent : ℕ → Step
+      sent p = step free (bit_at p) (Bit (bit (magnitude v p) b))
+
+      item : ℕ → State → Script State State
+      item p u = if refined block W b p then bit_script p u else done u
 
   -- ---- any stage
 

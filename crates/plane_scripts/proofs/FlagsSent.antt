@@ -209,6 +209,37 @@ module _ (o : List ℕ) (chosen : AreChosen o) (t : Terms) (block v : List ℤ) 
       ap (λ x. type_due v W b q && x) (at_span (λ p. significant v b p ≡ false) a c q (none_any (significant v b) (span a c) none) low high) ∙
       and-false (type_due v W b q)
 
+  -- the types of a group
+  abbrev pub group_steps : (new : ℕ → Bool) (place : ℕ → ℕ) → ℕ → List Step
+  group_steps new place j = typed_steps v W b (some_one_where (new j)) (span (place j) 4)
+
+  pub group_sent : (first n m : ℕ) (families : ℕ → Bool) (dc : Bool) (sent wanted in_v new : ℕ → Bool) (place : ℕ → ℕ) → ((j : ℕ) → first + 4 * j ≡ place j) →
+      1 ≤ first → first + 4 * n ≤ 64 → ((j : ℕ) → j < n → sent j ≡ in_v j) → ((j : ℕ) → j < n → wanted j ≡ new j) →
+      ((j : ℕ) → j < n → in_v j ≡ false → list_any (significant v b) (span (place j) 4) ≡ false) →
+      (j : ℕ) → j < n → (c : List Entry) (u : State) → Reads (first + 4 * j) m families dc c u → (x : Bool) → in_v j ≡ x →
+      Sends t.book o (group_script t.book (type_due block W b) first sent wanted j u) c
+      (if in_v j then group_steps new place j else []) (Reads (first + 4 * suc j) m families dc)
+  group_sent first n m families dc sent wanted in_v new place at low high sent_is wanted_is none j lt c u p true e =
+      let k : first + 4 * j + 4 ≡ first + 4 * suc j = omega arith in
+      let T = types_script t.book (type_due block W b) (wanted j) (span (first + 4 * j) 4) u in
+      subst (λ y. Sends t.book o (if y then T else done u) c (if in_v j then group_steps new place j else []) (Reads (first + 4 * suc j) m families dc))
+      (sym (sent_is j lt ∙ e))
+      (subst (λ y. Sends t.book o T c (if y then group_steps new place j else []) (Reads (first + 4 * suc j) m families dc)) (sym e)
+      (subst (λ i. Sends t.book o T c (typed_steps v W b (some_one_where (new j)) (span (place j) 4)) (Reads i m families dc)) k
+      (subst (λ i. Sends t.book o T c (typed_steps v W b (some_one_where (new j)) (span i 4)) (Reads (first + 4 * j + 4) m families dc)) (at j)
+      (subst (λ y. Sends t.book o T c (typed_steps v W b (some_one_where y) (span (first + 4 * j) 4)) (Reads (first + 4 * j + 4) m families dc))
+      (wanted_is j lt)
+      (places.types_sent o chosen t block v same whole (first + 4 * j) 4 m families dc (omega (arith, low)) (omega arith) (omega (arith, lt, high))
+      (four_long (first + 4 * j)) (wanted j) c u p)))))
+  group_sent first n m families dc sent wanted in_v new place at low high sent_is wanted_is none j lt c u p false e =
+      let T = types_script t.book (type_due block W b) (wanted j) (span (first + 4 * j) 4) u in
+      subst (λ y. Sends t.book o (if y then T else done u) c (if in_v j then group_steps new place j else []) (Reads (first + 4 * suc j) m families dc))
+      (sym (sent_is j lt ∙ e))
+      (subst (λ y. Sends {G = State} t.book o (done u) c (if y then group_steps new place j else []) (Reads (first + 4 * suc j) m families dc)) (sym e)
+      (sends_none t.book o (Reads (first + 4 * suc j) m families dc) u c
+      (reads_skip (first + 4 * j) (first + 4 * suc j) m families dc (omega arith)
+      (λ q from to. quiet (place j) 4 q (none j lt e) (let a = at j in omega (arith, a, from)) (let a = at j in omega (arith, a, to))) c u p)))
+
   pub groups_sent : (first n m : ℕ) (families : ℕ → Bool) (dc : Bool) (sent wanted in_v new : ℕ → Bool) (place : ℕ → ℕ) → ((j : ℕ) → first + 4 * j ≡ place j) →
       1 ≤ first → first + 4 * n ≤ 64 → ((j : ℕ) → j < n → sent j ≡ in_v j) → ((j : ℕ) → j < n → wanted j ≡ new j) →
       ((j : ℕ) → j < n → in_v j ≡ false → list_any (significant v b) (span (place j) 4) ≡ false) → (before : List Entry) (s : State) →
@@ -220,36 +251,14 @@ module _ (o : List ℕ) (chosen : AreChosen o) (t : Terms) (block v : List ℤ) 
       let y : first ≡ first + 4 * 0 = omega arith in
       subst (λ l. Sends t.book o (in_turn (group_script t.book due first sent wanted) 0 n s) before l (Reads (first + 4 * n) m families dc))
       (sym (flat_map_filter steps in_v (span 0 n)))
-      (subst (λ k. Sends t.book o (in_turn (group_script t.book due first sent wanted) 0 n s) before (flat_map (λ j. if in_v j then steps j else []) (span 0 n))
-      (Reads (first + 4 * k) m families dc)) z
+      (subst (λ k. Sends t.book o (in_turn (group_script t.book due first sent wanted) 0 n s) before
+      (flat_map (λ j. if in_v j then steps j else []) (span 0 n)) (Reads (first + 4 * k) m families dc)) z
       (sends_in_turn t.book o (λ j. Reads (first + 4 * j) m families dc) (group_script t.book due first sent wanted) (λ j. if in_v j then steps j else []) 0 n
-      (λ j c u from to p. each j (omega (arith, to, z)) c u p (in_v j) refl) before s (subst (λ k. Reads k m families dc before s) y r)))
+      (λ j c u from to p. group_sent first n m families dc sent wanted in_v new place at low high sent_is wanted_is none j (omega (arith, to, z)) c u p
+      (in_v j) refl) before s (subst (λ k. Reads k m families dc before s) y r)))
     where
       due : ℕ → Bool
       due = type_due block W b
 
       steps : ℕ → List Step
-      steps j = typed_steps v W b (some_one_where (new j)) (span (place j) 4)
-
-      each : (j : ℕ) → j < n → (c : List Entry) (u : State) → Reads (first + 4 * j) m families dc c u → (x : Bool) → in_v j ≡ x →
-          Sends t.book o (group_script t.book due first sent wanted j u) c (if in_v j then steps j else []) (Reads (first + 4 * suc j) m families dc)
-      each j lt c u p true e =
-          let k : first + 4 * j + 4 ≡ first + 4 * suc j = omega arith in
-          let T = types_script t.book due (wanted j) (span (first + 4 * j) 4) u in
-          subst (λ y. Sends t.book o (if y then T else done u) c (if in_v j then steps j else []) (Reads (first + 4 * suc j) m families dc))
-          (sym (sent_is j lt ∙ e))
-          (subst (λ y. Sends t.book o T c (if y then steps j else []) (Reads (first + 4 * suc j) m families dc)) (sym e)
-          (subst (λ i. Sends t.book o T c (typed_steps v W b (some_one_where (new j)) (span (place j) 4)) (Reads i m families dc)) k
-          (subst (λ i. Sends t.book o T c (typed_steps v W b (some_one_where (new j)) (span i 4)) (Reads (first + 4 * j + 4) m families dc)) (at j)
-          (subst (λ y. Sends t.book o T c (typed_steps v W b (some_one_where y) (span (first + 4 * j) 4)) (Reads (first + 4 * j + 4) m families dc))
-          (wanted_is j lt)
-          (places.types_sent o chosen t block v same whole (first + 4 * j) 4 m families dc (omega (arith, low)) (omega arith) (omega (arith, lt, high))
-          (four_long (first + 4 * j)) (wanted j) c u p)))))
-      each j lt c u p false e =
-          let T = types_script t.book due (wanted j) (span (first + 4 * j) 4) u in
-          subst (λ y. Sends t.book o (if y then T else done u) c (if in_v j then steps j else []) (Reads (first + 4 * suc j) m families dc))
-          (sym (sent_is j lt ∙ e))
-          (subst (λ y. Sends {G = State} t.book o (done u) c (if y then steps j else []) (Reads (first + 4 * suc j) m families dc)) (sym e)
-          (sends_none t.book o (Reads (first + 4 * suc j) m families dc) u c
-          (reads_skip (first + 4 * j) (first + 4 * suc j) m families dc (omega arith)
-          (λ q from to. quiet (place j) 4 q (none j lt e) (let a = at j in omega (arith, a, from)) (let a = at j in omega (arith, a, to))) c u p)))
+      steps = group_steps new place

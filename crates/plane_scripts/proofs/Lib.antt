@@ -25,5 +25,15 @@ pub mod StageBack
 pub mod StageAnswers
 pub mod FamiliesTrue
 pub mod PlaneAnswers
+pub mod StatesLeft
+pub mod NumbersLeft
+pub mod BlockLeft
+pub mod PlanesBack
+pub mod PlanesStart
 pub mod BlockBack
 pub mod PlaneBack
+pub mod BlockGives
+pub mod CutBlocks
+pub mod CutPlanes
+pub mod CutEnds
+pub mod CutNumbers

@@ -10,7 +10,7 @@ use Rattle.std.proofs.Math.Bool.{or-false}
 use Rattle.plane_defs.specs.Entries.{negative}
 use Rattle.item_defs.specs.Bits.{bit}
 
-doubled : (b : ℕ) → 2 ^ (b + 1) ≡ 2 ^ b * 2
+pub doubled : (b : ℕ) → 2 ^ (b + 1) ≡ 2 ^ b * 2
 doubled b = let e : b + 1 ≡ suc b = omega arith in ap (λ k. 2 ^ k) e ∙ pow-suc 2 b
 
 pub next_half : (m b : ℕ) → m / 2 ^ (b + 1) ≡ m / 2 ^ b / 2

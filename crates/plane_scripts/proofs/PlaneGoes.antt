@@ -1,19 +1,19 @@
 -- Each question of bit planes has a possible answer.
-use Rattle.std.proofs.Common.{refl, ◌∙◌, ◌≡◌, ℕ, zero, suc, ◌/◌, ◌==◌, Bool, true, false, if◌then◌else◌, List, [], length, ℤ}
+use Rattle.std.proofs.Common.{refl, ap, ◌∙◌, ◌≡◌, ◌<◌, arith, ℕ, zero, suc, ◌/◌, ◌==◌, Bool, true, false, if◌then◌else◌, List, [], length, ℤ}
 use lib.ListN.{get_or}
 use Rattle.base_122.specs.declared.book.Book.{Book}
 use Rattle.plane_defs.specs.Codes.{is_book_sound}
-use Rattle.plane_defs.proofs.SpanLists.{length-map-span}
+use Rattle.plane_defs.proofs.SpanLists.{length-map-span, get_or-map-span}
 use Rattle.item_scripts.specs.Scripts.{around}
 use Rattle.item_scripts.specs.Completing.{Goes}
 use Rattle.item_scripts.proofs.Completing.{goes_then, goes_in_turn, goes_around, goes_weaker}
 use Rattle.plane_scripts.specs.States.{State}
 use Rattle.plane_scripts.specs.Stages.{Terms, stage_script}
-use Rattle.plane_scripts.specs.Planes.{PlaneState, nothing_yet, of_block, with_block, blocks_script, plane_script, blocks_with, block_with, planes_script}
+use Rattle.plane_scripts.specs.Planes.{PlaneState, nothing_yet, of_block, with_block, blocks_script, plane_script, blocks_with, block_with, number_with, planes_script}
 use Rattle.plane_scripts.proofs.WordGoes.{HasOptions, Options}
 use Rattle.plane_scripts.proofs.StageGoes.{stage_goes}
 
-abbrev AllOptions : PlaneState → Type 0
+abbrev pub AllOptions : PlaneState → Type 0
 AllOptions s = (g : ℕ) → HasOptions (s.options g)
 
 block_put : (s : PlaneState) (r : ℕ) (b : State) → AllOptions s → Options b → AllOptions (with_block s r b)
@@ -32,7 +32,7 @@ module _ (t : Terms) (is_sound : is_book_sound t.book ≡ true) (depths : List �
       (stage_script t stage (get_or depths r 0) (get_or blocks r []) (of_block u r))
       (stage_goes t is_sound (get_or blocks r []) stage (get_or depths r 0) (of_block u r) (p (r / 16)))) s h
 
-  plane_goes : (stages : ℕ) → Goes (plane_script t depths blocks stages) AllOptions
+  pub plane_goes : (stages : ℕ) → Goes (plane_script t depths blocks stages) AllOptions
   plane_goes stages = goes_in_turn (λ i. AllOptions) (blocks_script t depths blocks) 0 stages (λ i u low high p. blocks_go i u p) nothing_yet
       (λ g count option e. absurd cc)
 
@@ -50,3 +50,20 @@ planes_go book is_sound weights q depths stages (suc plane) blocks =
     (plane_script t depths blocks (stages plane)) (plane_goes t is_sound depths blocks (stages plane)))
     (λ w e. goes_weaker (λ v. length v ≡ length w) (λ v. length v ≡ length blocks) (λ v p. p ∙
     e) (planes_script book weights q depths stages plane w) (planes_go book is_sound weights q depths stages plane w))
+
+-- blocks of 64 numbers stay so
+pub planes_long : (book : Book) → is_book_sound book ≡ true → (weights : List ℕ) (q : ℕ) (depths : List ℕ) (stages : ℕ → ℕ) (below count : ℕ)
+    (blocks : List (List ℤ)) → length blocks ≡ count → ((r : ℕ) → r < count → length (get_or blocks r []) ≡ 64) →
+    Goes (planes_script book weights q depths stages below blocks) (λ w. (r : ℕ) → r < count → length (get_or w r []) ≡ 64)
+planes_long book is_sound weights q depths stages zero count blocks size long = long
+planes_long book is_sound weights q depths stages (suc plane) count blocks size long =
+    let t : Terms = record { book = book; weights = weights; plane = plane; q = q } in
+    goes_then (λ w. (length w ≡ count) × ((r : ℕ) → r < count → length (get_or w r []) ≡ 64)) (λ w. (r : ℕ) → r < count → length (get_or w r []) ≡ 64)
+    (around (blocks_with plane blocks) (plane_script t depths blocks (stages plane))) (planes_script book weights q depths stages plane)
+    (goes_around AllOptions (λ w. (length w ≡ count) × ((r : ℕ) → r < count → length (get_or w r []) ≡ 64)) (blocks_with plane blocks)
+    (λ s p. (
+      long_with plane blocks s ∙ size,
+      λ r lt. ap length (get_or-map-span (λ i. block_with plane (get_or blocks i []) (s.blocks i)) (length blocks) r [] (omega (arith, lt, size))) ∙
+          length-map-span (number_with plane (get_or blocks r []) (s.blocks r)) 64,
+    )) (plane_script t depths blocks (stages plane)) (plane_goes t is_sound depths blocks (stages plane)))
+    (λ w e. planes_long book is_sound weights q depths stages plane count w e.0 e.1)

@@ -87,7 +87,7 @@ pub record WroteDue (o : List ℕ) (before : List Entry) (e : Entry) (here : Lis
   pub is : (q : ℕ) → r.1 q ≡ (has here q && f q)
 
 -- the places of types that are 1 are those of numbers that become significant
-new_due : (due : ℕ → Bool) (v : List ℤ) (weights : List ℕ) (plane : ℕ) (ps : List ℕ) → filter due ps ≡ filter (type_due v weights plane) ps →
+pub new_due : (due : ℕ → Bool) (v : List ℤ) (weights : List ℕ) (plane : ℕ) (ps : List ℕ) → filter due ps ≡ filter (type_due v weights plane) ps →
     filter (λ q. due q && significant v plane q) ps ≡ filter (newly_significant v weights plane) ps
 new_due due v weights plane ps same = filter_alike (λ q. due q && significant v plane q) (newly_significant v weights plane) ps (λ q here.
     ap (λ b. b && significant v plane q) (sym (ap (λ b. b && due q) here) ∙ sym (has_filter due ps q) ∙ ap (λ l. has l q) same ∙

@@ -5,3 +5,5 @@ pub mod Planes
 pub mod Worked
 pub mod Laws
 pub mod Written
+pub mod Back
+pub mod Cuts

@@ -1,10 +1,11 @@
 -- What is written of types and signs and of planes, as it is read.
-use Rattle.std.specs.Prelude.{◌≡◌, ◌⊎◌, ◌≤◌, ◌<◌, ℕ, zero, suc, ◌*◌, ◌/◌, ◌^◌, ◌==◌, ◌&&◌, ◌||◌, Bool, false, if◌then◌else◌, List, [], ◌∷◌, ◌++◌, length, filter, Option, Some, None, ℤ, pos}
+use Rattle.std.specs.Prelude.{◌≡◌, ◌⊎◌, ◌≤◌, ◌<◌, ℕ, zero, suc, ◌*◌, ◌/◌, ◌^◌, ◌==◌, ◌&&◌, ◌||◌, Bool, false, if◌then◌else◌, List, [], ◌∷◌, ◌++◌, length, filter, Option, Some, None, max, min, ℤ, pos, ◌*ℤ◌}
 use Rattle.std.specs.List.{list_any}
+use Rattle.std.specs.Int.{int_shr}
 use lib.ListN.{get_or}
 use Rattle.base_122.specs.declared.book.Book.{Book}
 use Rattle.plane_defs.specs.declared.entries.Entry.{Entry}
-use Rattle.plane_defs.specs.Sets.{magnitude, significant, type_due, newly_significant}
+use Rattle.plane_defs.specs.Sets.{magnitude, shift, significant, type_due, newly_significant}
 use Rattle.plane_defs.specs.Entries.{negative}
 use Rattle.plane_defs.specs.Spelled.{is_word_of, option_of as chosen_of}
 use Rattle.plane_defs.specs.Reading.{read_after, plane_reading}
@@ -61,6 +62,14 @@ abbrev pub Shows : (plane : ℕ) → (block v : List ℤ) → Type 0
 Shows plane block v = (p : ℕ) → IsAc p →
     (magnitude block p ≡ magnitude v p / 2 ^ plane * 2 ^ plane) × (negative (get_or block p (pos 0)) ≡ (significant v plane p && negative (get_or v p (pos 0))))
 
+-- the low bits of a DC that are 0 before the planes below this one
+abbrev pub low_bits : (weights : List ℕ) → (q below : ℕ) → ℕ
+low_bits weights q below = max (min below q) (shift weights 0)
+
+-- a block's DC is that of another from these bits up, and 0 below
+abbrev pub ShowsDc : (low : ℕ) → (block v : List ℤ) → Type 0
+ShowsDc low block v = get_or block 0 (pos 0) ≡ int_shr (get_or v 0 (pos 0)) low *ℤ pos (2 ^ low)
+
 -- values of which each number is a multiple of 2 ^ shift, and below 2 ^ depth in magnitude
 pub record AreSendable (values : List (List ℤ)) (depths weights : List ℕ) : Type 0 where
   pub long : length depths ≡ length values
@@ -71,15 +80,15 @@ pub record AreSendable (values : List (List ℤ)) (depths weights : List ℕ) : 
 abbrev pub Stops : (stages : ℕ → ℕ) → Type 0
 Stops stages = (b : ℕ) → (stages b ≤ 5) × ((stages b ≡ 5) ⊎ ((c : ℕ) → c < b → stages c ≡ 0))
 
--- what the planes leave: as many blocks, and the values' AC numbers if all stages are sent
+-- what the planes leave: as many blocks, and the values if all stages are sent
 pub record WrotePlanes (values : List (List ℤ)) (stages : ℕ → ℕ) (below : ℕ) (w : List (List ℤ)) : Type 0 where
   pub long : length w ≡ length values
-  pub all : ((b : ℕ) → b < below → stages b ≡ 5) → (r p : ℕ) → IsAc p → get_or (get_or w r []) p (pos 0) ≡ get_or (get_or values r []) p (pos 0)
+  pub all : ((b : ℕ) → b < below → stages b ≡ 5) → (r p : ℕ) → p < 64 → get_or (get_or w r []) p (pos 0) ≡ get_or (get_or values r []) p (pos 0)
 
 -- The items of planes that some values send follow the script of planes, if the blocks have what is above them.
 abbrev pub PlanesWritten : Type 0
 PlanesWritten = (book : Book) (options : ℕ → ℕ → List ℕ) → ((b g : ℕ) → AreChosen (options b g)) → (values : List (List ℤ)) (depths weights : List ℕ) →
     AreSendable values depths weights → (q : ℕ) (stages : ℕ → ℕ) → Stops stages → (below : ℕ) (blocks : List (List ℤ)) → length blocks ≡ length values →
-    ((r : ℕ) → Shows below (get_or blocks r []) (get_or values r [])) →
+    ((r : ℕ) → Shows below (get_or blocks r []) (get_or values r []) × ShowsDc (low_bits weights q below) (get_or blocks r []) (get_or values r [])) →
     Writes (planes_script book weights q depths stages below blocks) (planes_reading book options values depths weights q stages below)
     (WrotePlanes values stages below)

@@ -1,6 +1,7 @@
 // What some texts are read as, and the laws of the scripts.
 ghost use Rattle.plane_scripts.specs.Laws.{PlanesGo};
 ghost use Rattle.plane_scripts.specs.Written.{TypesWritten, PlanesWritten};
+ghost use Rattle.plane_scripts.specs.Back.{PlanesBack};
 ghost use Rattle.plane_scripts.specs.Worked.{WorkedTexts};
 
 /// Texts that are worked out by hand are read so.
@@ -22,4 +23,9 @@ pub const fn types_are_read()
 /// numbers if all stages are sent.
 pub const fn planes_are_read()
     ensures { PlanesWritten }
+{}
+
+/// If all stages of all planes are read with possible answers, the items are those that the blocks at the end write.
+pub const fn planes_come_back()
+    ensures { PlanesBack }
 {}

@@ -3,4 +3,4 @@
 
 mod laws;
 
-pub use laws::{planes_are_read, planes_go, types_are_read, worked_texts};
+pub use laws::{planes_are_read, planes_come_back, planes_go, types_are_read, worked_texts};

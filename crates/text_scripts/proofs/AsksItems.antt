@@ -32,6 +32,12 @@ follows_beside given (done b) (i ∷ is) a f = absurd f
 follows_beside given (ask g form more) [] a f = absurd f
 follows_beside given (ask g form more) (i ∷ is) a f = (f.0, follows_beside given (more i.said) is a f.1)
 
+pub beside_follows : {G H A : Type 0} (given : H) (s : Script G A) (items : List Item) (a : A) → Follows (beside given s) items a → Follows s items a
+beside_follows given (done b) [] a f = f
+beside_follows given (done b) (i ∷ is) a f = absurd f
+beside_follows given (ask g form more) [] a f = absurd f
+beside_follows given (ask g form more) (i ∷ is) a f = (f.0, beside_follows given (more i.said) is a f.1)
+
 -- items of which none is refused lead to an end of this kind
 pub ends_at : {G A : Type 0} (P : A → Type 0) (s : Script G A) → Ends s P → (items : List Item) (a : A) → AreItems items → Follows s items a → P a
 ends_at P (done b) p [] a are f = subst P f p

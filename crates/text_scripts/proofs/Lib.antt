@@ -2,4 +2,9 @@ mod WorkedRead
 mod SegmentGoes
 pub mod AsksItems
 pub mod SegmentWritten
+pub mod SegmentParts
+pub mod SegmentBack
+pub mod TextBack
+pub mod TextNumbers
 pub mod TextReads
+pub mod TextOutcomes

@@ -25,7 +25,7 @@ module _ (book : Book) (is_sound : is_book_sound book ≡ true) (head : SegmentH
   abbrev Long : List (List ℤ) → Type 0
   Long = HasBlocks head
 
-  dc_goes : Goes (dc_part_script head) Long
+  pub dc_goes : Goes (dc_part_script head) Long
   dc_goes =
       goes_around (AreGiven (dc_bits head.depth_dc head.depth_ac (dc_shift head)) (dc_q head.depth_dc head.depth_ac (dc_shift head))
       (dc_planes head.depth_dc head.depth_ac (dc_shift head)) head.blocks) Long

@@ -1,18 +1,21 @@
 -- The items of a segment follow its script.
-use Rattle.std.proofs.Common.{◌≡◌, ◌⊎◌, ◌<◌, ◌≤◌, ℕ, zero, suc, ◌+◌, ◌-◌, ◌*◌, ◌/◌, ◌^◌, ◌==◌, ◌&&◌, nat_lt, nat_le, Bool, true, false, cond, if◌then◌else◌, List, [], ◌∷◌, ◌++◌, length, refl, ap, sym, ◌∙◌, subst, arith, ℤ, pos, inl, inr, append-nil, pow_pos, pow_mono}
+use Rattle.std.proofs.Common.{◌≡◌, ◌⊎◌, ◌<◌, ◌≤◌, ℕ, zero, suc, ◌+◌, ◌-◌, ◌*◌, ◌/◌, ◌^◌, ◌==◌, ◌&&◌, nat_lt, nat_le, max, min, Bool, true, false, cond, if◌then◌else◌, List, [], ◌∷◌, ◌++◌, length, refl, ap, sym, ◌∙◌, subst, arith, ℤ, pos, ◌*ℤ◌, inl, inr, append-nil, pow_pos, pow_mono}
 use Rattle.std.specs.Prelude.{replicate, slice_index}
 use Rattle.std.specs.List.{flat_map}
+use Rattle.std.specs.Int.{int_shr}
 use Rattle.std.specs.Int.RustNames.{unsigned_abs}
 use Rattle.std.proofs.Math.Nat.{div-eq_of_lt}
 use Rattle.std.proofs.lemmas.Bool.{cases_lt}
 use Rattle.std.proofs.lemmas.Bool.Decides.{nat_tests}
-use Rattle.std.proofs.lemmas.List.{get_or_past, get_or-replicate, length-map}
+use Rattle.std.proofs.lemmas.List.{get_or_past, get_or-replicate, get_or-map, length-map, length-replicate, ext_get_or}
 use lib.ListN.{get_or}
 use Rattle.item_defs.specs.Items.{Item}
 use Rattle.item_defs.specs.Readings.{AreItems}
+use Rattle.wave_defs.specs.Blocks.{place_of}
 use Rattle.number_defs.specs.Depths.{depth_bits, depth_items}
+use Rattle.number_defs.specs.DcPart.{dc_planes}
 use Rattle.plane_defs.specs.Spans.{span}
-use Rattle.plane_defs.specs.Sets.{magnitude, significant}
+use Rattle.plane_defs.specs.Sets.{magnitude, shift, significant}
 use Rattle.plane_defs.specs.Entries.{negative}
 use Rattle.plane_defs.specs.Reading.{plane_reading}
 use Rattle.plane_defs.specs.StepLaws.{IsAc}
@@ -26,15 +29,19 @@ use Rattle.segment_defs.proofs.Equations.{segment_items-is}
 use Rattle.text_defs.specs.Spellable.{IsSpellable, AreWordOptions}
 use Rattle.item_scripts.specs.Scripts.{Script, done, then_ask, beside}
 use Rattle.item_scripts.specs.Following.{Follows}
+use Rattle.item_scripts.specs.Writing.{Writes}
 use Rattle.item_scripts.proofs.FollowLaws.{follows_then, follows_around}
 use Rattle.number_scripts.specs.Depths.{depths_script}
 use Rattle.number_scripts.specs.DcPart.{dc_script}
-use Rattle.number_scripts.specs.Laws.{AreCounted}
+use Rattle.number_scripts.specs.Laws.{AreCounted, given_part}
 use Rattle.number_scripts.proofs.DcLaws.{dc_laws}
 use Rattle.number_scripts.proofs.DepthLaws.{depth_laws}
-use Rattle.plane_scripts.specs.Written.{planes_reading, Shows, Stops}
+use Rattle.plane_scripts.specs.Written.{planes_reading, Shows, low_bits, ShowsDc, Stops, WrotePlanes}
 use Rattle.plane_scripts.proofs.Sending.{span-first}
-use Rattle.plane_scripts.proofs.PlanesSent.{planes_sent, shows_nothing}
+use Rattle.plane_scripts.proofs.PlanesSent.{planes_sent, shows_nothing, dc_nothing}
+use Rattle.plane_scripts.proofs.PlaneGoes.{planes_long}
+use Rattle.item_scripts.proofs.Completing.{goes_end, are_possible}
+use Rattle.text_scripts.specs.Laws.{HasAllPlanes}
 use Rattle.text_scripts.specs.Segments.{dc_blocks, dc_part_script, planes_part_script, segment_script}
 use Rattle.text_scripts.proofs.AsksItems.{AsksAll, asks_then, asks_all, follows_beside, ends_at, items_parts}
 
@@ -45,7 +52,7 @@ not_reached : (m k : ℕ) → m < k → nat_le k m ≡ false
 not_reached m k lt = grind (arith, nat_tests)
 
 -- the planes from the top are those from the highest down
-planes_are : (head : SegmentHead) (blocks : List (List ℤ)) (depths : List ℕ) (options : Options) (below n : ℕ) → n + below ≡ head.depth_ac →
+pub planes_are : (head : SegmentHead) (blocks : List (List ℤ)) (depths : List ℕ) (options : Options) (below n : ℕ) → n + below ≡ head.depth_ac →
     flat_map (nth_plane_items head blocks depths options) (span n below) ≡
     planes_reading options.book options.words blocks depths head.image.weights.shifts (q_of head) (stages_sent head) below
 planes_are head blocks depths options zero n e = ap (flat_map (nth_plane_items head blocks depths options)) (span-none n)
@@ -58,8 +65,20 @@ planes_are head blocks depths options (suc b) n e =
     ap (λ k. plane_reading options.book (options.words k) (plane_at head blocks depths k) (stages_sent head k) ++
     planes_reading options.book options.words blocks depths head.image.weights.shifts (q_of head) (stages_sent head) b) here
 
+-- the DC part leaves out the bits that the planes give
+pub first_shift : (weights : List ℕ) → shift weights 0 ≡ slice_index weights 9
+unfolding place_of
+first_shift weights = refl
+
+pub low_same : (head : SegmentHead) →
+    low_bits head.image.weights.shifts (q_of head) head.depth_ac ≡ q_of head - dc_planes head.depth_dc head.depth_ac (dc_shift head)
+low_same head = ap (λ s. max (min head.depth_ac (q_of head)) s) (first_shift head.image.weights.shifts) ∙ same _ head.depth_ac (dc_shift head)
+  where
+    same : (x a s : ℕ) → max (min a (max x s)) s ≡ max x s - (max x s - max a s)
+    same x a s = omega arith
+
 -- below a plane of which not all stages are sent, none is
-stages_stop : (head : SegmentHead) → head.stop.stage < 4 → Stops (stages_sent head)
+pub stages_stop : (head : SegmentHead) → head.stop.stage < 4 → Stops (stages_sent head)
 stages_stop head few b = by (nat_lt head.stop.plane b) refl (b == head.stop.plane) refl
   where
     none : (c : ℕ) → c < head.stop.plane → stages_sent head c ≡ 0
@@ -83,25 +102,30 @@ stages_stop head few b = by (nat_lt head.stop.plane b) refl (b == head.stop.plan
 
 module _ (head : SegmentHead) (is_head : IsHead head) (blocks : List (List ℤ)) (depths : List ℕ) (options : Options) (p : IsSpellable head blocks depths)
     (known : AreWordOptions options) where
-  abbrev D : List Item
+  abbrev pub D : List Item
   D = dc_part_items head blocks options
 
-  abbrev E : List Item
+  abbrev pub E : List Item
   E = depth_items head.depth_ac depths options.depths
 
-  abbrev P : List Item
+  abbrev pub P : List Item
   P = planes_items head blocks depths options head.depth_ac
 
-  dcs : (end : ℕ → ℤ) × Follows (dc_script head.depth_dc head.depth_ac (dc_shift head) head.blocks) D end
+  pub dcs : (end : ℕ → ℤ) × Follows (dc_script head.depth_dc head.depth_ac (dc_shift head) head.blocks) D end ×
+      ((r : ℕ) → r < head.blocks → end r ≡ given_part (q_of head) (dc_planes head.depth_dc head.depth_ac (dc_shift head)) (get_or (dcs_of blocks) r (pos 0)))
   dcs = let w = (dc_laws head.depth_dc head.depth_ac (dc_shift head) head.blocks).written (dcs_of blocks) options.dcs (length-map blocks dc_of ∙
       p.blocks_all) p.dcs_fit in
-      (w.0, w.1)
+      (w.0, w.1, w.2)
 
   -- the blocks after the DC part
-  first : List (List ℤ)
+  pub first : List (List ℤ)
   first = dc_blocks head.blocks dcs.0
 
-  dc_follows : Follows (dc_part_script head) D first
+  pub first_is : first ≡ dc_blocks head.blocks dcs.0
+  unfolding first
+  first_is = refl
+
+  pub dc_follows : Follows (dc_part_script head) D first
   unfolding first
   dc_follows = follows_around (dc_blocks head.blocks) (dc_script head.depth_dc head.depth_ac (dc_shift head) head.blocks) D dcs.0 dcs.1
 
@@ -112,12 +136,12 @@ module _ (head : SegmentHead) (is_head : IsHead head) (blocks : List (List ℤ))
       by i (inl lt) = p.depths_few i lt
       by i (inr ge) = let e : slice_index depths i ≡ 0 = get_or_past depths i 0 ge in rw e (pow_pos (depth_bits head.depth_ac))
 
-  depths_follow : Follows (beside first (depths_script head.depth_ac head.blocks)) E depths
+  pub depths_follow : Follows (beside first (depths_script head.depth_ac head.blocks)) E depths
   depths_follow = follows_beside first (depths_script head.depth_ac head.blocks) E depths
       (depth_laws.written head.depth_ac head.blocks depths options.depths counted)
 
   -- depths that are not refused
-  deep : AreItems E → (r : ℕ) → get_or depths r 0 ≤ head.depth_ac
+  pub deep : AreItems E → (r : ℕ) → get_or depths r 0 ≤ head.depth_ac
   deep are r = by (cases_lt r head.blocks)
     where
       ends : (length depths ≡ head.blocks) × ((i : ℕ) → i < head.blocks → slice_index depths i ≤ head.depth_ac)
@@ -128,15 +152,29 @@ module _ (head : SegmentHead) (is_head : IsHead head) (blocks : List (List ℤ))
       by (inl lt) = ends.1 r lt
       by (inr ge) = let e : get_or depths r 0 ≡ 0 = get_or_past depths r 0 (let l = p.depths_all in omega (arith, l, ge)) in omega (arith, e)
 
-  -- the blocks after the DC part have what is above the planes: nothing
-  shown : AreItems E → (r : ℕ) → Shows head.depth_ac (get_or first r []) (get_or blocks r [])
+  -- the blocks after the DC part have what is above the planes: the bits of the DC numbers that it gives
+  abbrev pub Shown : (block v : List ℤ) → Type 0
+  Shown block v = Shows head.depth_ac block v × ShowsDc (low_bits head.image.weights.shifts (q_of head) head.depth_ac) block v
+
+  pub shown : AreItems E → (r : ℕ) → Shown (get_or first r []) (get_or blocks r [])
   unfolding first
   shown are r = by (cases_lt r head.blocks)
     where
-      by : (r < head.blocks) ⊎ (head.blocks ≤ r) → Shows head.depth_ac (get_or first r []) (get_or blocks r [])
-      by (inl lt) = subst (λ l. Shows head.depth_ac l (get_or blocks r []))
-          (sym (get_or-map-span (λ i. dcs.0 i ∷ replicate 63 (pos 0)) head.blocks r [] lt)) (λ i ac. one i ac)
+      V : List ℤ
+      V = get_or blocks r []
+
+      by : (r < head.blocks) ⊎ (head.blocks ≤ r) → Shows head.depth_ac (get_or first r []) V ×
+          ShowsDc (low_bits head.image.weights.shifts (q_of head) head.depth_ac) (get_or first r []) V
+      by (inl lt) = subst (λ l. Shows head.depth_ac l V × ShowsDc (low_bits head.image.weights.shifts (q_of head) head.depth_ac) l V)
+          (sym (get_or-map-span (λ i. dcs.0 i ∷ replicate 63 (pos 0)) head.blocks r [] lt)) ((λ i ac. one i ac), dc)
         where
+          dc : dcs.0 r ≡ int_shr (get_or (get_or blocks r []) 0 (pos 0)) (low_bits head.image.weights.shifts (q_of head) head.depth_ac) *ℤ
+              pos (2 ^ low_bits head.image.weights.shifts (q_of head) head.depth_ac)
+          dc =
+              dcs.2 r lt ∙
+              (λ t. int_shr (get_or-map dc_of blocks r [] (pos 0) (let e = p.blocks_all in omega (arith, lt, e)) t) (sym (low_same head) t) *ℤ
+              pos (2 ^ sym (low_same head) t))
+
           one : (i : ℕ) → IsAc i → (magnitude (dcs.0 r ∷ replicate 63 (pos 0)) i ≡ magnitude (get_or blocks r []) i / 2 ^ head.depth_ac * 2 ^ head.depth_ac) ×
               (negative (get_or (dcs.0 r ∷ replicate 63 (pos 0)) i (pos 0)) ≡ (significant (get_or blocks r []) head.depth_ac i && negative (get_or
               (get_or blocks r []) i (pos 0))))
@@ -156,24 +194,28 @@ module _ (head : SegmentHead) (is_head : IsHead head) (blocks : List (List ℤ))
           let a : get_or first r [] ≡ [] = get_or_past first r [] (let e = length-map-span (λ i. dcs.0 i ∷ replicate 63 (pos 0)) head.blocks in omega
           (arith, e, ge)) in
           let b : get_or blocks r [] ≡ [] = get_or_past blocks r [] (let e = p.blocks_all in omega (arith, e, ge)) in
-          subst (λ l. Shows head.depth_ac l (get_or blocks r [])) (sym a) (subst (λ l. Shows head.depth_ac [] l) (sym b) (shows_nothing head.depth_ac))
+          let low = low_bits head.image.weights.shifts (q_of head) head.depth_ac in
+          subst (λ l. Shows head.depth_ac l (get_or blocks r []) × ShowsDc low l (get_or blocks r [])) (sym a)
+          (subst (λ l. Shows head.depth_ac [] l × ShowsDc low [] l) (sym b) (shows_nothing head.depth_ac, dc_nothing low))
 
-  planes_follow : AreItems E → (w : List (List ℤ)) × Follows (planes_part_script options.book head first depths) P w
+  -- what the planes leave, if their items are none that is refused
+  pub planes_wrote : AreItems E → Writes (planes_part_script options.book head first depths) P (WrotePlanes blocks (stages_sent head) head.depth_ac)
   unfolding first
-  planes_follow are =
-      let w = planes_sent options.book options.words (λ b g. known.at b g) blocks depths head.image.weights.shifts
+  planes_wrote are =
+      subst (λ l. Writes (planes_part_script options.book head first depths) l (WrotePlanes blocks (stages_sent head) head.depth_ac))
+      (sym (planes_are head blocks depths options head.depth_ac 0 (omega arith)))
+      (planes_sent options.book options.words (λ b g. known.at b g) blocks depths head.image.weights.shifts
       (record { long = p.depths_all ∙ sym p.blocks_all; multiples = p.multiples; small = p.below }) (q_of head) (stages_sent head)
       (stages_stop head is_head.stage)
-      head.depth_ac first (length-map-span (λ i. dcs.0 i ∷ replicate 63 (pos 0)) head.blocks ∙ sym p.blocks_all) (shown are) in (
-        w.end,
-        subst (λ l. Follows (planes_part_script options.book head first depths) l w.end)
-            (sym (planes_are head blocks depths options head.depth_ac 0 (omega arith))) w.follows,
-      )
+      head.depth_ac first (length-map-span (λ i. dcs.0 i ∷ replicate 63 (pos 0)) head.blocks ∙ sym p.blocks_all) (shown are))
 
-  abbrev S : Script (List (List ℤ)) (List (List ℤ))
+  planes_follow : AreItems E → (w : List (List ℤ)) × Follows (planes_part_script options.book head first depths) P w
+  planes_follow are = let w = planes_wrote are in (w.end, w.follows)
+
+  abbrev pub S : Script (List (List ℤ)) (List (List ℤ))
   S = segment_script options.book head
 
-  abbrev Rest : Bool → List (List ℤ) → Script (List (List ℤ)) (List (List ℤ))
+  abbrev pub Rest : Bool → List (List ℤ) → Script (List (List ℤ)) (List (List ℤ))
   Rest x now = if x then done now else then_ask (beside now (depths_script head.depth_ac head.blocks)) (planes_part_script options.book head now)
 
   -- if none is refused, they follow the whole script
@@ -198,6 +240,47 @@ module _ (head : SegmentHead) (is_head : IsHead head) (blocks : List (List ℤ))
                 (follows_then (planes_part_script options.book head first) (beside first
                 (depths_script head.depth_ac head.blocks)) E P depths w.0 depths_follow w.1),
           )
+
+  -- if all stages are sent, the planes lead to the blocks
+  first_long : (r : ℕ) → r < head.blocks → length (get_or first r []) ≡ 64
+  unfolding first
+  first_long r lt = ap length (get_or-map-span (λ i. dcs.0 i ∷ replicate 63 (pos 0)) head.blocks r [] lt) ∙
+      (let e = length-replicate 63 (pos 0) in omega (arith, e))
+
+  pub they_are : (w : Writes (planes_part_script options.book head first depths) P (WrotePlanes blocks (stages_sent head) head.depth_ac)) → AreItems P →
+      ((b : ℕ) → b < head.depth_ac → stages_sent head b ≡ 5) →
+      w.end ≡ blocks
+  unfolding first
+  they_are w good five =
+      let long = goes_end (λ v. (r : ℕ) → r < head.blocks → length (get_or v r []) ≡ 64) (planes_part_script options.book head first depths)
+      (planes_long options.book known.sound head.image.weights.shifts (q_of head) depths (stages_sent head) head.depth_ac head.blocks first
+      (length-map-span (λ i. dcs.0 i ∷ replicate 63 (pos 0)) head.blocks) first_long) P w.end (are_possible P good) w.follows in
+      ext_get_or [] w.end blocks w.is.long (λ r lt.
+      let in_head : r < head.blocks = (let a = w.is.long in let b = p.blocks_all in omega (arith, lt, a, b)) in
+      let size = long r in_head in
+      ext_get_or (pos 0) (get_or w.end r []) (get_or blocks r []) (size ∙ sym (p.whole r (let b = p.blocks_all in omega (arith, in_head, b))))
+      (λ k few. w.is.all five r k (omega (arith, few, size))))
+
+  -- if there is no stop, they lead to the blocks
+  pub segment_exact : AreItems (segment_items head blocks depths options) → HasAllPlanes head → Follows S (segment_items head blocks depths options) blocks
+  unfolding first
+  segment_exact are all =
+      let i = segment_items-is head blocks depths options in
+      let same : cond head.stop.dc D (D ++ (E ++ P)) ≡ D ++ (E ++ P) = ap (λ x. cond x D (D ++ (E ++ P))) all.goes_on in
+      let parts = items_parts E P (items_parts D (E ++ P) (subst AreItems (i ∙ same) are)).1 in
+      let w = planes_wrote parts.0 in
+      subst (λ l. Follows S l blocks) (sym (i ∙ same))
+      (subst (λ x. Follows (then_ask (dc_part_script head) (Rest x)) (D ++ (E ++ P)) blocks) (sym all.goes_on)
+      (follows_then (Rest false) (dc_part_script head) D (E ++ P) first blocks dc_follows
+      (follows_then (planes_part_script options.book head first) (beside first (depths_script head.depth_ac head.blocks)) E P depths blocks depths_follow
+      (subst (Follows (planes_part_script options.book head first depths) P) (they_are w parts.1 (λ b low. all_stages b)) w.follows))))
+    where
+      all_stages : (b : ℕ) → stages_sent head b ≡ 5
+      all_stages b = (λ t. if nat_lt (all.plane t) b then 5 else if b == all.plane t then all.stage t + 2 else 0) ∙ by b
+        where
+          by : (b : ℕ) → (if nat_lt 0 b then 5 else if b == 0 then 3 + 2 else 0) ≡ 5
+          by zero = refl
+          by (suc b) = let e : nat_lt 0 (suc b) ≡ true = grind (arith, nat_tests) in ap (λ (x : Bool). if x then 5 else if suc b == 0 then 3 + 2 else 0) e
 
   -- each is asked for after those before it, if none of them is refused
   pub segment_asks : AsksAll S (segment_items head blocks depths options)

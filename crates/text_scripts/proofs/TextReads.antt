@@ -11,14 +11,18 @@ use Rattle.segment_defs.specs.Head.{IsHead}
 use Rattle.segment_defs.specs.SegmentItems.{Options, segment_items}
 use Rattle.text_defs.specs.Fronts.{NothingFollows, RefusalFollows}
 use Rattle.text_defs.specs.Outcomes.{SegmentRefusal, at_item, short_segment, overlong, length_of, bits_read, expected_length, Reading, IsCut, IsTaken, IsOff, IsOffLimit, IsRefusedItem, Holds, Refused}
-use Rattle.text_defs.proofs.Further.{has_outcome}
-use Rattle.item_scripts.specs.Scripts.{Script}
+use Rattle.item_scripts.specs.Scripts.{Script, run}
 use Rattle.item_scripts.specs.Following.{SaysWhat}
+use Rattle.item_scripts.proofs.Giving.{cut_given}
+use Rattle.text_scripts.specs.Parts.{IsPart, AreWeighted}
 use Rattle.text_scripts.specs.Segments.{segment_script}
 use Rattle.text_scripts.specs.Outcomes.{Answer, by_length, expected, verdict, text_outcome}
-use Rattle.text_scripts.specs.Laws.{TextsAreRead}
+use Rattle.text_scripts.specs.Laws.{HasAllPlanes, TextsAreRead}
 use Rattle.text_scripts.proofs.SegmentGoes.{segments_are_read}
-use Rattle.text_scripts.proofs.SegmentWritten.{segment_follows, segment_asks}
+use Rattle.text_scripts.proofs.SegmentWritten.{segment_exact, segment_asks}
+use Rattle.text_scripts.proofs.SegmentParts.{segment_gives, segment_part}
+use Rattle.text_scripts.proofs.TextNumbers.{part_weighted}
+use Rattle.text_scripts.proofs.TextBack.{held_back, name_back}
 
 abbrev Blocks : Type 0
 Blocks = List (List ℤ)
@@ -90,29 +94,40 @@ module _ (head : SegmentHead) (is_head : IsHead head) (rest : List ℕ) (blocks 
   all = r.front.taken
 
   -- all items are given
-  whole_read : m ≡ length items → (w : Blocks) × (text_outcome options.book head rest ≡ by_length (length_of head rest) (expected_length head items) w)
+  whole_read : m ≡ length items →
+      (w : Blocks) × (text_outcome options.book head rest ≡ by_length (length_of head rest) (expected_length head items) w) × IsPart head blocks w
   whole_read e =
       let same = take_all items m e in
       let are : AreItems items = subst AreItems same all in
-      let w = segment_follows head is_head blocks depths options r.spellable r.known are in
+      let w = segment_part head is_head blocks depths options r.spellable r.known are in
       let read : bits ≡ text items ++ more = r.front.read ∙ ap (λ l. text l ++ more) same in
       let ran = says.is_whole bits more w.0 (record { items = items; are = are; read = read; follows = w.1 }) in
       let used : length bits - length more ≡ length (text items) = (let a = ap length read in let b = length-append (text items) more in omega (arith, a, b)) in
-      (w.0, ap (verdict head rest) ran ∙ ap (λ n. by_length (length_of head rest) (expected head n) w.0) used)
+      (w.0, ap (verdict head rest) ran ∙ ap (λ n. by_length (length_of head rest) (expected head n) w.0) used, w.2)
+
+  -- all items of a text without a stop
+  exact_read : m ≡ length items → HasAllPlanes head → length_of head rest ≡ expected_length head items → text_outcome options.book head rest ≡ Ok blocks
+  exact_read e no_stop size =
+      let same = take_all items m e in
+      let are : AreItems items = subst AreItems same all in
+      let read : bits ≡ text items ++ more = r.front.read ∙ ap (λ l. text l ++ more) same in
+      let ran = says.is_whole bits more blocks (record {
+        items = items;
+        are = are;
+        read = read;
+        follows = segment_exact head is_head blocks depths options r.spellable r.known are no_stop;
+      }) in
+      let used : length bits - length more ≡ length (text items) = (let a = ap length read in let b = length-append (text items) more in omega (arith, a, b)) in
+      ap (verdict head rest) ran ∙ ap (λ n. by_length (length_of head rest) (expected head n) blocks) used ∙
+      exact (length_of head rest) (expected_length head items) blocks size
 
   -- an item is cut
-  cut_read : NothingFollows items m more → (w : Blocks) × (text_outcome options.book head rest ≡ cut_verdict head rest w)
+  cut_read : NothingFollows items m more → (w : Blocks) × (text_outcome options.book head rest ≡ cut_verdict head rest w) × IsPart head blocks w
   cut_read c =
-      let ran = says.is_cut bits (record {
-        items = take m items;
-        are = all;
-        some = more;
-        read = r.front.read;
-        form = (item_at items m).form;
-        asks = segment_asks head is_head blocks depths options r.spellable r.known m c.within all;
-        lacks = c.lacks;
-      }) in
-      (ran.0, ap (verdict head rest) ran.1)
+      let ran = cut_given (IsPart head blocks) S (take m items) (item_at items m).form more all
+      (segment_asks head is_head blocks depths options r.spellable r.known m c.within all) c.lacks
+      (segment_gives head is_head blocks depths options r.spellable r.known m (let lt = c.within in omega (arith, lt)) all) in
+      (ran.0, ap (λ b. verdict head rest (run S b)) r.front.read ∙ ap (verdict head rest) ran.1, ran.2)
 
   -- an item is refused
   refused_read : (name : Refusal) → RefusalFollows items m more name → text_outcome options.book head rest ≡ Err (at_item name)
@@ -129,9 +144,9 @@ module _ (head : SegmentHead) (is_head : IsHead head) (rest : List ℕ) (blocks 
       }) in
       ap (verdict head rest) ran.1
 
-  taken_read : IsTaken head rest items m more → (w : Blocks) × (text_outcome options.book head rest ≡ Ok w)
-  taken_read (inl h) = let w = whole_read h.0 in (w.0, w.1 ∙ exact (length_of head rest) (expected_length head items) w.0 h.1)
-  taken_read (inr h) = let w = cut_read h.0 in (w.0, w.1 ∙ cut_full head rest w.0 h.1)
+  taken_read : IsTaken head rest items m more → (w : Blocks) × (text_outcome options.book head rest ≡ Ok w) × IsPart head blocks w
+  taken_read (inl h) = let w = whole_read h.0 in (w.0, w.1 ∙ exact (length_of head rest) (expected_length head items) w.0 h.1, w.2)
+  taken_read (inr h) = let w = cut_read h.0 in (w.0, w.1 ∙ cut_full head rest w.0 h.1, w.2)
 
   off_read : (name : SegmentRefusal) → IsRefusedItem items m more name
       ⊎ (((m ≡ length items) × IsOff (length_of head rest) (expected_length head items) name) ⊎ (NothingFollows items m more × IsOffLimit head rest name)) →
@@ -142,42 +157,47 @@ module _ (head : SegmentHead) (is_head : IsHead head) (rest : List ℕ) (blocks 
   off_read name (inr (inl h)) = let w = whole_read h.0 in w.1 ∙ off (length_of head rest) (expected_length head items) w.0 name h.1
   off_read name (inr (inr h)) = let w = cut_read h.0 in w.1 ∙ cut_off head rest w.0 name h.1
 
-holds_read : (book : Book) (head : SegmentHead) (rest : List ℕ) (w : Blocks) → IsHead head → Holds book head rest w →
-    (v : Blocks) × (text_outcome book head rest ≡ Ok v)
+holds_read : (book : Book) (head : SegmentHead) (rest : List ℕ) (w : Blocks) → IsHead head → (h : Holds book head rest w) →
+    (v : Blocks) × (text_outcome book head rest ≡ Ok v) × IsPart head h.blocks v
 holds_read book head rest w is_head h =
     let t = taken_read head is_head rest h.blocks h.depths h.options h.count h.more h.reading h.is_taken in
-    (t.0, ap (λ b. text_outcome b head rest) (sym h.of_book) ∙ t.1)
+    (t.0, ap (λ b. text_outcome b head rest) (sym h.of_book) ∙ t.1, t.2)
+
+exact_reads : (book : Book) (head : SegmentHead) (rest : List ℕ) (w : Blocks) → IsHead head → (h : Holds book head rest w) → HasAllPlanes head →
+    h.count ≡ length (segment_items head h.blocks h.depths h.options) → text_outcome book head rest ≡ Ok h.blocks
+exact_reads book head rest w is_head h no_stop e = ap (λ b. text_outcome b head rest) (sym h.of_book) ∙ elim h.is_taken [
+  | inl a ↦ exact_read head is_head rest h.blocks h.depths h.options h.count h.more h.reading e no_stop a.1
+  | inr c ↦ absurd (let lt = c.0.within in omega (arith, lt, e))
+]
 
 refused_reads : (book : Book) (head : SegmentHead) (rest : List ℕ) (name : SegmentRefusal) → IsHead head → Refused book head rest name →
     text_outcome book head rest ≡ Err name
 refused_reads book head rest name is_head h =
     ap (λ b. text_outcome b head rest) (sym h.of_book) ∙ off_read head is_head rest h.blocks h.depths h.options h.count h.more h.reading name h.cause
 
--- ---- back
-
-not_both : (v : Blocks) (name : SegmentRefusal) → ◌≡◌ {A = Answer} (Ok v) (Err name) → ⊥
+pub not_both : (v : Blocks) (name : SegmentRefusal) → ◌≡◌ {A = Answer} (Ok v) (Err name) → ⊥
 not_both v name e = cc
 
-same_name : (a b : SegmentRefusal) → ◌≡◌ {A = Answer} (Err a) (Err b) → a ≡ b
+pub same_name : (a b : SegmentRefusal) → ◌≡◌ {A = Answer} (Err a) (Err b) → a ≡ b
 same_name a b e = cc
 
-module _ (book : Book) (sound : is_book_sound book ≡ true) (head : SegmentHead) (rest : List ℕ) (is_head : IsHead head) where
-  abbrev Either : Type 0
-  Either = ((w : Blocks) × Holds book head rest w) ⊎ ((name : SegmentRefusal) × Refused book head rest name)
+same_blocks : (a b : Blocks) → ◌≡◌ {A = Answer} (Ok a) (Ok b) → a ≡ b
+same_blocks a b e = cc
 
-  read_held : (v : Blocks) → text_outcome book head rest ≡ Ok v → Either → (w : Blocks) × Holds book head rest w
-  read_held v e (inl h) = h
-  read_held v e (inr h) = absurd (not_both v h.0 (sym e ∙ refused_reads book head rest h.0 is_head h.1))
-
-  read_refused : (name : SegmentRefusal) → text_outcome book head rest ≡ Err name → Either → Refused book head rest name
-  read_refused name e (inl h) = let r = holds_read book head rest h.0 is_head h.1 in absurd (not_both r.0 name (sym r.1 ∙ e))
-  read_refused name e (inr h) =
-      subst (Refused book head rest) (same_name h.0 name (sym (refused_reads book head rest h.0 is_head h.1) ∙ e)) h.1
+numbers_read : (book : Book) → is_book_sound book ≡ true → (head : SegmentHead) (rest : List ℕ) (v : Blocks) → IsHead head →
+    text_outcome book head rest ≡ Ok v → AreWeighted head v
+numbers_read book sound head rest v is_head e =
+    let w = held_back book sound head is_head rest v e in
+    let r = holds_read book head rest w.0 is_head w.1 in
+    part_weighted head is_head w.1.blocks w.1.depths w.1.reading.spellable v
+    (subst (IsPart head w.1.blocks) (same_blocks r.0 v (sym r.1 ∙ e)) r.2)
 
 pub texts_are_read : TextsAreRead
 texts_are_read book sound head rest is_head = record {
   holds = λ w h. holds_read book head rest w is_head h;
+  exact = λ w h no_stop e. exact_reads book head rest w is_head h no_stop e;
   refuses = λ name h. refused_reads book head rest name is_head h;
-  held = λ v e. read_held book sound head rest is_head v e (has_outcome book sound head rest is_head);
-  refused = λ name e. read_refused book sound head rest is_head name e (has_outcome book sound head rest is_head);
+  held = λ v e. held_back book sound head is_head rest v e;
+  refused = λ name e. name_back book sound head is_head rest name e;
+  numbers = λ v e. numbers_read book sound head rest v is_head e;
 }

@@ -1,5 +1,5 @@
 -- The laws of coded segments, as they are read.
-use Rattle.std.specs.Prelude.{◌≡◌, ℕ, List, length, true, ℤ, Ok, Err}
+use Rattle.std.specs.Prelude.{◌≡◌, ◌⊎◌, ℕ, List, length, true, false, ℤ, Ok, Err}
 use Rattle.item_defs.specs.Items.{Form, Item}
 use Rattle.item_defs.specs.Readings.{AreItems}
 use Rattle.base_122.specs.declared.book.Book.{Book}
@@ -8,8 +8,10 @@ use Rattle.segment_defs.specs.declared.head.SegmentHead.{SegmentHead}
 use Rattle.item_scripts.specs.Following.{SaysWhat, Asks}
 use Rattle.item_scripts.specs.Completing.{Goes, Completed}
 use Rattle.segment_defs.specs.Head.{IsHead}
+use Rattle.segment_defs.specs.SegmentItems.{segment_items}
 use Rattle.text_defs.specs.Outcomes.{SegmentRefusal, Holds, Refused}
 use Rattle.text_scripts.specs.Segments.{segment_script}
+use Rattle.text_scripts.specs.Parts.{IsPart, AreWeighted}
 use Rattle.text_scripts.specs.Outcomes.{text_outcome}
 
 -- there are as many blocks as the head has
@@ -28,12 +30,33 @@ pub record SegmentLaws (book : Book) (head : SegmentHead) : Type 0 where
 abbrev pub SegmentsAreRead : Type 0
 SegmentsAreRead = (book : Book) (head : SegmentHead) → is_book_sound book ≡ true → SegmentLaws book head
 
+-- the stop is after the last stage of the last bit plane
+pub record HasAllPlanes (head : SegmentHead) : Type 0 where
+  pub goes_on : head.stop.dc ≡ false
+  pub plane : head.stop.plane ≡ 0
+  pub stage : head.stop.stage ≡ 3
+
 -- a text is read as values exactly if it holds some, and is refused by a name exactly if it has this name
 pub record TextReads (book : Book) (head : SegmentHead) (rest : List ℕ) : Type 0 where
-  pub holds : (w : List (List ℤ)) → Holds book head rest w → (v : List (List ℤ)) × (text_outcome book head rest ≡ Ok v)
+  -- whichever values are read in it, the same part of them is given
+  pub holds : (w : List (List ℤ)) → (h : Holds book head rest w) → (v : List (List ℤ)) × (text_outcome book head rest ≡ Ok v) × IsPart head h.blocks v
+  -- values of which all items are given are read as they are, if there is no stop
+  pub exact : (w : List (List ℤ)) (h : Holds book head rest w) → HasAllPlanes head → h.count ≡ length (segment_items head h.blocks h.depths h.options) →
+      text_outcome book head rest ≡ Ok h.blocks
   pub refuses : (name : SegmentRefusal) → Refused book head rest name → text_outcome book head rest ≡ Err name
   pub held : (v : List (List ℤ)) → text_outcome book head rest ≡ Ok v → (w : List (List ℤ)) × Holds book head rest w
   pub refused : (name : SegmentRefusal) → text_outcome book head rest ≡ Err name → Refused book head rest name
+  -- the numbers that are given are multiples of their weights
+  pub numbers : (v : List (List ℤ)) → text_outcome book head rest ≡ Ok v → AreWeighted head v
 
 abbrev pub TextsAreRead : Type 0
 TextsAreRead = (book : Book) → is_book_sound book ≡ true → (head : SegmentHead) (rest : List ℕ) → IsHead head → TextReads book head rest
+
+-- so each text holds some values or is refused, by one name, and not both
+pub record OutcomesExclude (book : Book) (head : SegmentHead) (rest : List ℕ) : Type 0 where
+  pub some : ((w : List (List ℤ)) × Holds book head rest w) ⊎ ((name : SegmentRefusal) × Refused book head rest name)
+  pub one_name : (a b : SegmentRefusal) → Refused book head rest a → Refused book head rest b → a ≡ b
+  pub not_both : (w : List (List ℤ)) (name : SegmentRefusal) → Holds book head rest w → Refused book head rest name → ⊥
+
+abbrev pub TextsHaveOutcomes : Type 0
+TextsHaveOutcomes = (book : Book) → is_book_sound book ≡ true → (head : SegmentHead) (rest : List ℕ) → IsHead head → OutcomesExclude book head rest

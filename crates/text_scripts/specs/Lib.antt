@@ -1,4 +1,5 @@
 pub mod Segments
+pub mod Parts
 pub mod Outcomes
 pub mod Worked
 pub mod Laws

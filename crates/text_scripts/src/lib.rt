@@ -4,4 +4,4 @@
 
 mod laws;
 
-pub use laws::{segments_are_read, texts_are_read, worked_texts};
+pub use laws::{segments_are_read, texts_are_read, texts_have_outcomes, worked_texts};
