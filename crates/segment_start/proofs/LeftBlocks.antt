@@ -14,7 +14,7 @@ use Rattle.plane_defs.proofs.Equations.{coded-is}
 use Rattle.plane_defs.proofs.SpanLists.{length-map-span, get_or-map-span}
 use Rattle.plane_scripts.specs.Planes.{PlaneState, number_with, block_with, blocks_with}
 use Rattle.plane_scripts.proofs.Numbers.{signed_size}
-use Rattle.segment_start.specs.Parts.{IsPart}
+use Rattle.text_scripts.specs.Parts.{IsWeighted}
 use Rattle.segment_start.proofs.LeftDcs.{DcAt, dc_step}
 use Rattle.segment_start.proofs.LeftPlanes.{AllCoded}
 
@@ -141,22 +141,22 @@ module _ (weights : List ℕ) (N q s count b : ℕ) (some : 1 ≤ N) (least : s 
 
 -- ---- as multiples
 
-pub part_of : (s k : ℕ) (z : ℤ) → unsigned_abs z ≡ 2 ^ s * k → unsigned_abs z ≤ 2 ^ 27 → IsPart s z
+pub part_of : (s k : ℕ) (z : ℤ) → unsigned_abs z ≡ 2 ^ s * k → unsigned_abs z ≤ 2 ^ 27 → IsWeighted s z
 part_of s k (pos n) e le =
     let least : 1 * k ≤ 2 ^ s * k = mul-le-mul_right k (pow_pos s) in
-    record { part = pos k; whole = ap pos (e ∙ turn (2 ^ s) k); small = omega (arith, e, le, least) }
+    record { part = pos k; is = ap pos (e ∙ turn (2 ^ s) k); small = omega (arith, e, le, least) }
   where
     turn : (w k : ℕ) → w * k ≡ k * w
     turn w k = grind arith
 part_of s zero (negsuc n) e le = absurd (let z : 2 ^ s * 0 ≡ 0 = omega arith in omega (arith, e, z))
 part_of s (suc j) (negsuc n) e le =
     let least : 1 * suc j ≤ 2 ^ s * suc j = mul-le-mul_right (suc j) (pow_pos s) in
-    record { part = negsuc j; whole = ap (λ m. neg_ℤ (pos m)) (e ∙ turn (2 ^ s) (suc j)) ∙ sym (negsuc-*ℤ-pos j (2 ^ s)); small = omega (arith, e, le, least) }
+    record { part = negsuc j; is = ap (λ m. neg_ℤ (pos m)) (e ∙ turn (2 ^ s) (suc j)) ∙ sym (negsuc-*ℤ-pos j (2 ^ s)); small = omega (arith, e, le, least) }
   where
     turn : (w k : ℕ) → w * k ≡ k * w
     turn w k = grind arith
 
-pub ac_part : (b s : ℕ) (z : ℤ) → AcAt b s (unsigned_abs z) → IsPart s z
+pub ac_part : (b s : ℕ) (z : ℤ) → AcAt b s (unsigned_abs z) → IsWeighted s z
 ac_part b s z p =
     let split : 2 ^ max b s ≡ 2 ^ s * 2 ^ (max b s - s) = (let from : max b s ≡ s + (max b s - s) = omega arith in ap (λ k. 2 ^ k) from ∙ pow-add 2 s
     (max b s - s)) in
@@ -165,7 +165,7 @@ ac_part b s z p =
     turn : (u v k : ℕ) → u * v * k ≡ u * (v * k)
     turn u v k = grind arith
 
-pub dc_part : (N q s m : ℕ) (z : ℤ) → 1 ≤ N → s ≤ q → m ≤ q - s → N - 1 + q ≤ 27 → DcAt N q m z → IsPart s z
+pub dc_part : (N q s m : ℕ) (z : ℤ) → 1 ≤ N → s ≤ q → m ≤ q - s → N - 1 + q ≤ 27 → DcAt N q m z → IsWeighted s z
 dc_part N q s m z some over few small p =
     let size : unsigned_abs z ≡ unsigned_abs p.part * 2 ^ (q - m) = ap unsigned_abs p.is ∙ unsigned_abs-mul p.part (pos (2 ^ (q - m))) in
     let split : 2 ^ (q - m) ≡ 2 ^ s * 2 ^ (q - m - s) = (let from : q - m ≡ s + (q - m - s) = omega (arith, few, over) in ap (λ k. 2 ^ k) from ∙ pow-add 2 s
