@@ -22,3 +22,4 @@ mod LeftPlanes
 mod LeftBlocks
 mod PartsGiven
 mod HoldsSo
+mod SpelledDecide

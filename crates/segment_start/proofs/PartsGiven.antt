@@ -163,7 +163,8 @@ module _ (book : Book) (head : SegmentHead) (fits : IsHead head) where
       rest w p false =
           leaves_then (AreWeighted head) (λ depths. (length depths ≡ head.blocks) × _) (AreWeighted head) (beside w (depths_script head.depth_ac head.blocks))
           (planes_part_script book head w)
-          (leaves_beside (AreWeighted head) _ w (parts_at head.depth_ac w p) (depths_script head.depth_ac head.blocks) (depth_laws.ends head.depth_ac head.blocks))
+          (leaves_beside (AreWeighted head) _ w (parts_at head.depth_ac w p) (depths_script head.depth_ac head.blocks)
+          (depth_laws.ends head.depth_ac head.blocks))
           (λ depths d. planes_leave depths (stages_sent head) head.depth_ac w p)
 
   given_parts : (size : ℕ) (rest : List ℕ) (part : Part) (w : Blocks) (octets : ℕ) → answer_in book head size rest ≡ Some

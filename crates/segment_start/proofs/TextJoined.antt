@@ -10,7 +10,8 @@ use Rattle.segment_defs.specs.SegmentItems.{q_of}
 use Rattle.segment_start.specs.Starts.{low_bits, HasDc}
 use Rattle.plane_windows.specs.Above.{AwaitDcs, HasNoAcs}
 
-module _ (head : SegmentHead) (blocks : List ℤ) (whole : length blocks ≡ 64 * head.blocks) (dcs : (r : ℕ) → r < head.blocks → HasDc head (block_at blocks r)) where
+module _ (head : SegmentHead) (blocks : List ℤ) (whole : length blocks ≡ 64 * head.blocks) (dcs : (r : ℕ) → r < head.blocks →
+    HasDc head (block_at blocks r)) where
   pub no_acs : HasNoAcs blocks
   no_acs r p lt is = (dcs r (omega (arith, whole, lt))).acs p is.0
 

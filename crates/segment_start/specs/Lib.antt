@@ -8,3 +8,4 @@ pub mod DecodedItems
 pub mod Decoded
 pub mod Laws
 pub mod Parts
+pub mod Spelled

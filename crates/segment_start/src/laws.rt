@@ -1,6 +1,7 @@
 // What some octets hold, and the laws of what octets after a head hold.
 ghost use Rattle.segment_start.specs.Laws.{TextsEndThere, OutcomesAgree, TextsEndSo, TextsHoldSo};
 ghost use Rattle.segment_start.specs.Parts.{TextsGiveParts};
+ghost use Rattle.segment_start.specs.Spelled.{SpelledTextsDecide};
 ghost use Rattle.segment_start.specs.Worked.{WorkedAnswers};
 
 use text_scripts::{segments_are_read, texts_are_read};
@@ -40,4 +41,11 @@ pub const fn texts_hold_so()
 {
     segments_are_read();
     texts_are_read();
+}
+
+/// Octets that begin with the items of some values decide blocks: without a stop these values.
+pub const fn spelled_texts_decide()
+    ensures { SpelledTextsDecide }
+{
+    segments_are_read();
 }
