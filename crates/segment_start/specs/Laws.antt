@@ -50,14 +50,18 @@ pub record EndsSay (book : Book) (head : SegmentHead) : Type 0 where
 abbrev pub TextsEndSo : Type 0
 TextsEndSo = (book : Book) → is_book_sound book ≡ true → (head : SegmentHead) → IsHead head → EndsSay book head
 
--- Octets decide a text's blocks exactly if they hold some, and refuse an item by a name exactly if they have this name, by the relation of
--- text_defs.
+-- Octets decide a text's blocks exactly if they hold some by the relation of text_defs, refuse an item by a name exactly if they have
+-- this name, and need more octets exactly if they are short.
 pub record HoldsSo (book : Book) (head : SegmentHead) (rest : List ℕ) : Type 0 where
-  pub decided : (w : List (List ℤ)) → Holds book head rest w → (part : Part) × ((v : List (List ℤ)) × Decides book head (head_length head) rest (gives part v))
+  pub decided : (w : List (List ℤ)) → Holds book head rest w →
+      (part : Part) × ((v : List (List ℤ)) × Decides book head (head_length head) rest (gives part v))
   pub holds : (part : Part) (v : List (List ℤ)) → Decides book head (head_length head) rest (gives part v) → (w : List (List ℤ)) × Holds book head rest w
-  pub refused : (name : Refusal) → Decides book head (head_length head) rest (refuses name) → Refused book head rest (at_item name)
-  pub short : NeedsMore book head (head_length head) rest → Refused book head rest short_segment
+  pub named : (name : Refusal) → Refused book head rest (at_item name) →
+      (count : ℕ) × (answer_in book head (head_length head) rest ≡ Some (record { answer = refuses name; octets = count }))
+  pub refused : (name : Refusal) (count : ℕ) → answer_in book head (head_length head) rest ≡ Some (record { answer = refuses name; octets = count }) →
+      Refused book head rest (at_item name)
   pub lacks : Refused book head rest short_segment → NeedsMore book head (head_length head) rest
+  pub short : NeedsMore book head (head_length head) rest → Refused book head rest short_segment
 
 abbrev pub TextsHoldSo : Type 0
 TextsHoldSo = (book : Book) → is_book_sound book ≡ true → (head : SegmentHead) (rest : List ℕ) → IsHead head → HoldsSo book head rest

@@ -35,7 +35,7 @@ pub const fn texts_give_parts()
     ensures { TextsGiveParts }
 {}
 
-/// Octets decide a text's blocks exactly if they hold some by the relation of `text_defs`, and are refused exactly if they are by it.
+/// Octets decide what a text holds, or by which name it is refused, exactly as the relation of `text_defs` says.
 pub const fn texts_hold_so()
     ensures { TextsHoldSo }
 {
