@@ -42,7 +42,8 @@ module _ {before now : List ℤ} (n : ℕ) (given : ℕ → ℤ) (whole : length
     block_is : block_at now r ≡ given r ∷ replicate 63 (pos 0)
     block_is =
         let zeros : length (replicate {A = ℤ} 63 (pos 0)) ≡ 63 = length-replicate {A = ℤ} 63 (pos 0) in
-        ext_get_or (pos 0) (block_at now r) (given r ∷ replicate 63 (pos 0)) (omega (arith, block_long now n r now_whole lt, zeros)) (λ j less. at j (omega (arith, less, block_long now n r now_whole lt)))
+        ext_get_or (pos 0) (block_at now r) (given r ∷ replicate 63 (pos 0)) (omega (arith, block_long now n r now_whole lt, zeros))
+        (λ j less. at j (omega (arith, less, block_long now n r now_whole lt)))
       where
         at : (j : ℕ) → j < 64 → get_or (block_at now r) j (pos 0) ≡ get_or (given r ∷ replicate 63 (pos 0)) j (pos 0)
         at zero less = dc_there
@@ -59,7 +60,8 @@ module _ {before now : List ℤ} (n : ℕ) (given : ℕ → ℤ) (whole : length
 
       at : (r : ℕ) → r < n → get_or (map (block_at now) (range_with_len 0 (length now / 64))) r [] ≡ get_or (dc_blocks n given) r []
       at r lt =
-          get_or-map-range_with_len (block_at now) 0 (length now / 64) r r [] (omega (arith, now_whole, lt)) (omega arith) ∙ block_is r lt ∙ sym (get_or-map-span (λ i. given i ∷ replicate 63 (pos 0)) n r [] lt)
+          get_or-map-range_with_len (block_at now) 0 (length now / 64) r r [] (omega (arith, now_whole, lt)) (omega arith) ∙ block_is r lt ∙ sym
+          (get_or-map-span (λ i. given i ∷ replicate 63 (pos 0)) n r [] lt)
 
 -- ---- depths
 
@@ -74,8 +76,10 @@ low_depths (d ∷ ds) low =
     let rest = low_depths ds (λ r. low (suc r)) in
     ap (λ x. x ∷ map depth_of (map pos ds)) first ∙ ap (λ l. d ∷ l) rest
 
-pub marks_are : (marks : List ℤ) (ds : List ℕ) → length ds ≡ length marks → ((r : ℕ) → get_or ds r 0 < 32) → ((i : ℕ) → i < length marks → get_or marks i (pos 0) ≡ pos (get_or ds i 0)) → depths_of marks ≡ ds
+pub marks_are : (marks : List ℤ) (ds : List ℕ) → length ds ≡ length marks → ((r : ℕ) → get_or ds r 0 < 32) →
+    ((i : ℕ) → i < length marks → get_or marks i (pos 0) ≡ pos (get_or ds i 0)) → depths_of marks ≡ ds
 marks_are marks ds long low each = ap depths_of same ∙ low_depths ds low
   where
     same : marks ≡ map pos ds
-    same = ext_get_or (pos 0) marks (map pos ds) (sym long ∙ sym (length-map ds pos)) (λ i lt. each i lt ∙ sym (get_or-map pos ds i 0 (pos 0) (omega (arith, lt, long))))
+    same = ext_get_or (pos 0) marks (map pos ds) (sym long ∙ sym (length-map ds pos))
+        (λ i lt. each i lt ∙ sym (get_or-map pos ds i 0 (pos 0) (omega (arith, lt, long))))

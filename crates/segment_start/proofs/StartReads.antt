@@ -46,20 +46,28 @@ module _ {G H A : Type 0} (h : H) where
   unless_beside g (Some name) left o = refl
   unless_beside g None left o = refl
 
-  answered_beside : (g : G) (form : Form) (f : ℕ → List Bool → Outcome G A) (o : Option (ℕ × List Bool)) → answered h form (λ n left. outcome_beside (f n left)) o ≡ outcome_beside (answered g form f o)
+  answered_beside : (g : G) (form : Form) (f : ℕ → List Bool → Outcome G A) (o : Option (ℕ × List Bool)) → answered h form
+      (λ n left. outcome_beside (f n left)) o ≡ outcome_beside (answered g form f o)
   answered_beside g form f (Some p) = unless_beside g (form.refusal p.0) p.1 (f p.0 p.1)
   answered_beside g form f None = refl
 
   run_beside : (s : Script G A) (bits : List Bool) → run (beside h s) bits ≡ outcome_beside (run s bits)
   run_beside (done a) bits = refl
-  run_beside (ask g form more) bits = (λ i. answered h form (λ n left. run_beside (more n) left i) (first_number form.shape bits)) ∙ answered_beside g form (λ n. run (more n)) (first_number form.shape bits)
+  run_beside (ask g form more) bits = (λ i. answered h form (λ n left. run_beside (more n) left i) (first_number form.shape bits)) ∙ answered_beside g form
+      (λ n. run (more n)) (first_number form.shape bits)
 
   in_beside : (s : Script G A) (bits : List Bool) (o : Outcome G A) → run s bits ≡ o → run (beside h s) bits ≡ outcome_beside o
   in_beside s bits o e = run_beside s bits ∙ ap outcome_beside e
 
 module _ {I H A : Type 0} {k : SourceOf I} (h : H) (s : Script A A) (given : A) {a b : Coming I} where
   refused_beside : (name : Refusal) → ReadsAs k s (refuses given name) a b → ReadsAs k (beside h s) (refuses h name) a b
-  refused_beside name p = record { bits = p.bits; taken = p.taken; says = λ more. in_beside h s (p.bits ++ more) (refused given name more) (p.says more); stops = tt }
+  refused_beside name p = record {
+    bits = p.bits;
+    taken = p.taken;
+    says = λ more. in_beside h s (p.bits ++ more) (refused given name more)
+        (p.says more);
+    stops = tt;
+  }
 
   pub beside_got : ReadsAs k s (got given) a b → ReadsAs k (beside h s) (got given) a b
   beside_got p = record { bits = p.bits; taken = p.taken; says = λ more. in_beside h s (p.bits ++ more) (whole given more) (p.says more); stops = tt }
@@ -84,36 +92,47 @@ module _ (book : Book) (head : SegmentHead) where
   depths = depths_script head.depth_ac head.blocks
 
   abbrev after_dc : List (List ℤ) → Script (List (List ℤ)) (List (List ℤ))
-  after_dc blocks = if head.stop.dc then done blocks else then_ask (beside blocks (depths_script head.depth_ac head.blocks)) (planes_part_script book head blocks)
+  after_dc blocks = if head.stop.dc then done blocks else then_ask (beside blocks (depths_script head.depth_ac head.blocks))
+      (planes_part_script book head blocks)
 
-module _ {I : Type 0} {k : SourceOf I} (book : Book) (head : SegmentHead) {a b : Coming I} {before now : List ℤ} (long : length before ≡ 64 * head.blocks) (clear : AreClear before) where
-  module _ {result : Result Part TextFault} (t : TakesDcs k (dc_script head.depth_dc head.depth_ac (dc_shift head) (block_count before)) result a b before now) where
+module _ {I : Type 0} {k : SourceOf I} (book : Book) (head : SegmentHead) {a b : Coming I} {before now : List ℤ} (long : length before ≡ 64 * head.blocks)
+    (clear : AreClear before) where
+  module _ {result : Result Part TextFault} (t : TakesDcs k (dc_script head.depth_dc head.depth_ac (dc_shift head)
+      (block_count before)) result a b before now) where
     dc_count : block_count before ≡ head.blocks
     dc_count = omega (arith, long)
 
     pub part_read : ReadsAs k (dc_part_script head) (by_part result (blocks_in now) (blocks_in now)) a b
-    part_read = rw (blocks_are head.blocks t.given long clear t.cells) (around_part (dc_blocks head.blocks) (dc_script head.depth_dc head.depth_ac (dc_shift head) head.blocks) t.given result (rw dc_count at t.read))
+    part_read = rw (blocks_are head.blocks t.given long clear t.cells)
+        (around_part (dc_blocks head.blocks) (dc_script head.depth_dc head.depth_ac (dc_shift head) head.blocks) t.given result (rw dc_count at t.read))
 
-  pub text_fault : (fault : TextFault) → TakesDcs k (dc_script head.depth_dc head.depth_ac (dc_shift head) (block_count before)) (Err fault) a b before now → TakesText k book head (Err fault) a b now
+  pub text_fault : (fault : TextFault) → TakesDcs k (dc_script head.depth_dc head.depth_ac (dc_shift head) (block_count before)) (Err fault) a b before now →
+      TakesText k book head (Err fault) a b now
   text_fault fault t = read_fault (dc_part_script head) (after_dc book head) (blocks_in now) fault (part_read t)
 
-  pub text_cut : TakesDcs k (dc_script head.depth_dc head.depth_ac (dc_shift head) (block_count before)) (Ok Ended) a b before now → TakesText k book head (Ok Ended) a b now
+  pub text_cut : TakesDcs k (dc_script head.depth_dc head.depth_ac (dc_shift head) (block_count before)) (Ok Ended) a b before now → TakesText k book head
+      (Ok Ended) a b now
   text_cut t = read_cut (dc_part_script head) (after_dc book head) (blocks_in now) (part_read t)
 
   module _ (t : TakesDcs k (dc_script head.depth_dc head.depth_ac (dc_shift head) (block_count before)) (Ok Whole) a b before now) where
     pub text_stops : IsIn b → head.stop.dc ≡ true → TakesText k book head (Ok Whole) a b now
-    text_stops h e = read_then (dc_part_script head) (after_dc book head) (blocks_in now) (got (blocks_in now)) (part_read t) (rw e (read_done (blocks_in now) b h))
+    text_stops h e = read_then (dc_part_script head) (after_dc book head) (blocks_in now) (got (blocks_in now)) (part_read t)
+        (rw e (read_done (blocks_in now) b h))
 
     module _ (e : head.stop.dc ≡ false) where
-      after_depths : (f : Found (List (List ℤ)) (List (List ℤ))) {d : Coming I} → ReadsAs k (then_ask (beside (blocks_in now) (depths book head)) (planes_part_script book head (blocks_in now))) f b d → ReadsAs k (segment_script book head) f a d
+      after_depths : (f : Found (List (List ℤ)) (List (List ℤ))) {d : Coming I} → ReadsAs k
+          (then_ask (beside (blocks_in now) (depths book head)) (planes_part_script book head (blocks_in now))) f b d → ReadsAs k
+          (segment_script book head) f a d
       after_depths f p = read_then (dc_part_script head) (after_dc book head) (blocks_in now) f (part_read t) (rw e p)
 
       module _ {c : Coming I} {marks : List ℤ} (count : length marks ≡ head.blocks) where
         pub depths_fault : (fault : TextFault) → TakesDepths k head.depth_ac (Err fault) b c marks → TakesText k book head (Err fault) a c now
-        depths_fault fault u = after_depths (by_fault fault (blocks_in now)) (read_fault _ _ (blocks_in now) fault (beside_fault (blocks_in now) (depths book head) u.given fault (rw count at u.read)))
+        depths_fault fault u = after_depths (by_fault fault (blocks_in now))
+            (read_fault _ _ (blocks_in now) fault (beside_fault (blocks_in now) (depths book head) u.given fault (rw count at u.read)))
 
         pub depths_cut : TakesDepths k head.depth_ac (Ok Ended) b c marks → TakesText k book head (Ok Ended) a c now
-        depths_cut u = after_depths (ends (blocks_in now)) (read_cut _ _ (blocks_in now) (beside_cut (blocks_in now) (depths book head) u.given (rw count at u.read)))
+        depths_cut u = after_depths (ends (blocks_in now)) (read_cut _ _ (blocks_in now)
+            (beside_cut (blocks_in now) (depths book head) u.given (rw count at u.read)))
 
         module _ (fits : IsHead head) (h : IsIn c) (u : TakesDepths k head.depth_ac (Ok Whole) b c marks) where
           given_long : length u.given ≡ head.blocks
@@ -136,10 +155,12 @@ module _ {I : Type 0} {k : SourceOf I} (book : Book) (head : SegmentHead) {a b :
                 dc = ap unsigned_abs (dc_there head.blocks t.given long clear t.cells r lt) ∙ size;
               }
             where
-              given : (z : ℤ) × IsInRange true (dc_bits head.depth_dc head.depth_ac (dc_shift head) + dc_planes head.depth_dc head.depth_ac (dc_shift head)) z × (t.given r ≡ z *ℤ pos (2 ^ (q_of head - dc_planes head.depth_dc head.depth_ac (dc_shift head))))
+              given : (z : ℤ) × IsInRange true (dc_bits head.depth_dc head.depth_ac (dc_shift head) + dc_planes head.depth_dc head.depth_ac
+                  (dc_shift head)) z × (t.given r ≡ z *ℤ pos (2 ^ (q_of head - dc_planes head.depth_dc head.depth_ac (dc_shift head))))
               given =
                   let script = dc_script head.depth_dc head.depth_ac (dc_shift head) (block_count before) in
-                  let are : (ℕ → ℤ) → Type 0 = AreGiven (dc_bits head.depth_dc head.depth_ac (dc_shift head)) (q_of head) (dc_planes head.depth_dc head.depth_ac (dc_shift head)) (block_count before) in
+                  let are : (ℕ → ℤ) → Type 0 = AreGiven (dc_bits head.depth_dc head.depth_ac (dc_shift head)) (q_of head)
+                  (dc_planes head.depth_dc head.depth_ac (dc_shift head)) (block_count before) in
                   let laws = dc_laws head.depth_dc head.depth_ac (dc_shift head) (block_count before) in
                   end_is are script (ends_of_goes are script laws.goes) (t.read.bits ++ []) [] t.given (t.read.says []) r (omega (arith, lt, dc_count t))
 
@@ -150,7 +171,8 @@ module _ {I : Type 0} {k : SourceOf I} (book : Book) (head : SegmentHead) {a b :
 
           pub awaits_planes : AwaitsPlanes k book head a c now marks
           awaits_planes = record {
-            left = λ f last q. after_depths f (read_then (beside (blocks_in now) (depths book head)) (planes_part_script book head (blocks_in now)) u.given f (beside_got (blocks_in now) (depths book head) u.given (rw count at u.read)) (rw same_depths at q));
+            left = λ f last q. after_depths f (read_then (beside (blocks_in now) (depths book head)) (planes_part_script book head (blocks_in now)) u.given f
+                (beside_got (blocks_in now) (depths book head) u.given (rw count at u.read)) (rw same_depths at q));
             is_in = h;
             dcs = has_dc;
             low = λ r. rw same_depths (u.low r);

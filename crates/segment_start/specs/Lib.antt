@@ -1,1 +1,11 @@
 pub mod Starts
+pub mod TextAnswers
+pub mod Worked
+pub mod Faults
+pub mod TextEnds
+pub mod TakenText
+pub mod DecodedItems
+pub mod Decoded
+pub mod Laws
+pub mod Parts
+pub mod Spelled

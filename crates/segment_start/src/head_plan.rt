@@ -1,11 +1,14 @@
-// What the reader of the DC part needs of a head.
-ghost use Rattle.std.specs.Prelude.{◌≡◌, length};
+// What the readers of a text's parts need of a head.
+ghost use Rattle.std.specs.Prelude.{◌≡◌, ◌≤◌, ℕ};
 ghost use Rattle.base_122.specs.Weights.{shift_of};
 ghost use Rattle.base_122.specs.declared.weights.Band.TheVariants.{Ll3};
-ghost use Rattle.segment_defs.specs.SegmentItems.{dc_shift};
+ghost use Rattle.segment_defs.specs.Head.{IsHead};
+ghost use Rattle.segment_defs.specs.SegmentItems.{dc_shift, q_of, stages_sent};
+ghost use Rattle.plane_windows.specs.Planes.{stages_of};
 
 use base_122::Band;
 use number_reader::DcPlan;
+use plane_windows::SentPlanes;
 use segment_defs::SegmentHead;
 
 // Returns the plan of the DC part.
@@ -25,4 +28,22 @@ fn ll3_shift(shifts: &[u8; 10]) -> u8
     ensures { result ≡ shift_of shifts.now Ll3 }
 {
     shifts[Band::Ll3 as usize]
+}
+
+// Returns the planes that are sent.
+pub(crate) fn sent_planes(head: &SegmentHead) -> SentPlanes
+    requires fits { IsHead head.now }
+    ensures weights { result.weights ≡ head.now.image.weights }
+    ensures q { result.q ≡ q_of head.now }
+    ensures below { result.below ≡ head.now.depth_ac }
+    ensures last { result.last ≤ 4 }
+    ensures stages { (plane : ℕ) → stages_sent head.now plane ≡ stages_of result plane }
+{
+    SentPlanes {
+        weights: head.image.weights,
+        q: plan_of(head).q(),
+        below: head.depth_ac,
+        stop: head.stop.plane,
+        last: head.stop.stage + 1,
+    }
 }

@@ -17,7 +17,7 @@ use segment_defs::SegmentHead;
 /// # Errors
 ///
 /// The name by which the text is refused, or how the input ended. The blocks also have what is given then.
-pub fn take_start<I: OctetIn>(
+pub(crate) fn take_start<I: OctetIn>(
     input: &mut BitIn<I>,
     head: &SegmentHead,
     blocks: &mut [i32],

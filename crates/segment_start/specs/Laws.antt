@@ -1,0 +1,67 @@
+-- The laws of what octets after a head hold.
+use Rattle.std.specs.Prelude.{◌≡◌, ◌<◌, ◌≤◌, ℕ, ℤ, true, ◌==◌, if◌then◌else◌, List, ◌++◌, length, Option, Some, None, Ok, Err}
+use Rattle.base_122.specs.declared.book.Book.{Book}
+use Rattle.plane_defs.specs.Codes.{is_book_sound}
+use Rattle.item_defs.specs.Items.{Refusal}
+use Rattle.bit_pipe.specs.declared.fault.Part.{Part}
+use Rattle.segment_defs.specs.declared.head.SegmentHead.{SegmentHead}
+use Rattle.segment_defs.specs.Head.{IsHead, head_length}
+use Rattle.text_defs.specs.Outcomes.{Holds, Refused, at_item, short_segment, overlong}
+use Rattle.text_scripts.specs.Outcomes.{Answer, text_outcome}
+use Rattle.segment_start.specs.TextAnswers.{TextAnswer, gives, refuses, Decided, answer_in, Decides, NeedsMore}
+use Rattle.segment_start.specs.Decoded.{Overruns}
+
+-- octets that decide an answer are there, more octets do not change it, and fewer decide nothing
+pub record EndsThere (book : Book) (head : SegmentHead) (size : ℕ) : Type 0 where
+  pub enough : (rest : List ℕ) (d : Decided) → answer_in book head size rest ≡ Some d → d.octets ≤ length rest
+  pub stays : (rest more : List ℕ) (d : Decided) → answer_in book head size rest ≡ Some d → answer_in book head size (rest ++ more) ≡ Some d
+  pub least : (rest more : List ℕ) (d : Decided) → answer_in book head size (rest ++ more) ≡ Some d → length rest < d.octets →
+      answer_in book head size rest ≡ None
+
+abbrev pub TextsEndThere : Type 0
+TextsEndThere = (book : Book) → is_book_sound book ≡ true → (head : SegmentHead) (size : ℕ) → IsHead head → size ≤ 20 → EndsThere book head size
+
+-- what a text of this number of octets holds if some of them decide this answer
+abbrev pub by_answer : (octets count : ℕ) → TextAnswer → Answer
+by_answer octets count (gives part w) = if count == octets then Ok w else Err overlong
+by_answer octets count (refuses name) = Err (at_item name)
+
+abbrev pub with_end : (octets : ℕ) → Option Decided → Answer
+with_end octets (Some d) = by_answer octets d.octets d.answer
+with_end octets None = Err short_segment
+
+-- a text with its end holds what its octets hold, if it ends with them
+abbrev pub OutcomesAgree : Type 0
+OutcomesAgree = (book : Book) (head : SegmentHead) (rest : List ℕ) → IsHead head →
+    text_outcome book head rest ≡ with_end (length rest) (answer_in book head (head_length head) rest)
+
+-- what octets that were taken say of a text with its end, if they are its first ones
+pub record EndsSay (book : Book) (head : SegmentHead) : Type 0 where
+  pub given : (octets : List ℕ) (part : Part) (w : List (List ℤ)) → Decides book head (head_length head) octets (gives part w) →
+      text_outcome book head octets ≡ Ok w
+  pub refused : (octets more : List ℕ) (name : Refusal) → Decides book head (head_length head) octets (refuses name) →
+      text_outcome book head (octets ++ more) ≡ Err (at_item name)
+  pub short : (octets : List ℕ) → NeedsMore book head (head_length head) octets → text_outcome book head octets ≡ Err short_segment
+  pub overruns : (octets more : List ℕ) → Overruns book head octets → text_outcome book head (octets ++ more) ≡ Err overlong
+  -- and a text that holds blocks decides them
+  pub held : (octets : List ℕ) (w : List (List ℤ)) → text_outcome book head octets ≡ Ok w →
+      (part : Part) × Decides book head (head_length head) octets (gives part w)
+
+abbrev pub TextsEndSo : Type 0
+TextsEndSo = (book : Book) → is_book_sound book ≡ true → (head : SegmentHead) → IsHead head → EndsSay book head
+
+-- Octets decide a text's blocks exactly if they hold some by the relation of text_defs, refuse an item by a name exactly if they have
+-- this name, and need more octets exactly if they are short.
+pub record HoldsSo (book : Book) (head : SegmentHead) (rest : List ℕ) : Type 0 where
+  pub decided : (w : List (List ℤ)) → Holds book head rest w →
+      (part : Part) × ((v : List (List ℤ)) × Decides book head (head_length head) rest (gives part v))
+  pub holds : (part : Part) (v : List (List ℤ)) → Decides book head (head_length head) rest (gives part v) → (w : List (List ℤ)) × Holds book head rest w
+  pub named : (name : Refusal) → Refused book head rest (at_item name) →
+      (count : ℕ) × (answer_in book head (head_length head) rest ≡ Some (record { answer = refuses name; octets = count }))
+  pub refused : (name : Refusal) (count : ℕ) → answer_in book head (head_length head) rest ≡ Some (record { answer = refuses name; octets = count }) →
+      Refused book head rest (at_item name)
+  pub lacks : Refused book head rest short_segment → NeedsMore book head (head_length head) rest
+  pub short : NeedsMore book head (head_length head) rest → Refused book head rest short_segment
+
+abbrev pub TextsHoldSo : Type 0
+TextsHoldSo = (book : Book) → is_book_sound book ≡ true → (head : SegmentHead) (rest : List ℕ) → IsHead head → HoldsSo book head rest

@@ -1,0 +1,13 @@
+-- The numbers that a text gives, after a head of any size. (This project's own.)
+use Rattle.std.specs.Prelude.{◌≡◌, ℕ, ℤ, List, Some}
+use Rattle.base_122.specs.declared.book.Book.{Book}
+use Rattle.bit_pipe.specs.declared.fault.Part.{Part}
+use Rattle.segment_defs.specs.declared.head.SegmentHead.{SegmentHead}
+use Rattle.segment_defs.specs.Head.{IsHead}
+use Rattle.text_scripts.specs.Parts.{AreWeighted}
+use Rattle.segment_start.specs.TextAnswers.{gives, answer_in}
+
+-- what a text gives, whole or cut, are blocks of multiples of their weights
+abbrev pub TextsGiveParts : Type 0
+TextsGiveParts = (book : Book) (head : SegmentHead) (size : ℕ) (rest : List ℕ) (part : Part) (w : List (List ℤ)) (octets : ℕ) → IsHead head →
+    answer_in book head size rest ≡ Some (record { answer = gives part w; octets = octets }) → AreWeighted head w

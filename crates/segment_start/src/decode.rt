@@ -1,0 +1,183 @@
+// The reader of a segment's text.
+ghost use Rattle.std.specs.Prelude.{◌≡◌, ◌≤◌, ◌*◌, IsTrue, length};
+ghost use Rattle.plane_defs.specs.Codes.{is_book_sound};
+ghost use Rattle.segment_defs.specs.Head.{IsHead};
+ghost use Rattle.segment_start.specs.Decoded.{DecodesSegment};
+ghost use Rattle.segment_start.specs.DecodedItems.{DecodesItems};
+ghost use Rattle.segment_start.specs.Starts.{AreClear};
+ghost use Rattle.segment_start.specs.TakenText.{TakesFrom};
+
+use crate::fault::SegmentFault;
+use crate::text_end::{end_input, end_text};
+use crate::text_in::take_text;
+use base_122::Book;
+use bit_pipe::{BitIn, OctetIn, Part, TextFault};
+use plane_windows::PlaceTables;
+use segment_defs::SegmentHead;
+
+// Sets all numbers to 0.
+fn clear(blocks: &mut [i32])
+    ensures size { length blocks.new ≡ length blocks.old }
+    ensures clear { AreClear blocks.new }
+{
+    blocks.fill(0);
+}
+
+/// A reader of the texts of segments, with tables of their words that are made once.
+#[derive(Drop)]
+pub struct SegmentReader {
+    /// The tables of the words, as the reader's book has their codes.
+    pub tables: PlaceTables,
+}
+
+impl SegmentReader {
+    /// A reader of the segments that were written with this book. The book is sound.
+    pub fn new(book: &Book) -> SegmentReader
+        requires sound { IsTrue (is_book_sound book.now) }
+        ensures book { result.tables.words.book ≡ book.now }
+    {
+        SegmentReader {
+            tables: PlaceTables::new(book),
+        }
+    }
+
+    /// Reads a segment's text from the octets after its head into 64 numbers for each block (docs/formats.md, "Reading a
+    /// segment"). Returns `Whole` if the text has all items, and `Ended` if the limit cut them; what is not given is 0, and
+    /// positive. It asks for the input's end before it returns either. `marks` has one number for each block, its state, and
+    /// the call overwrites it.
+    ///
+    /// # Errors
+    ///
+    /// The name by which the text is refused, or how the input ended. `blocks` and `marks` have no meaning then.
+    pub fn decode<I: OctetIn>(
+        &self,
+        input: &mut I,
+        head: &SegmentHead,
+        blocks: &mut [i32],
+        marks: &mut [i32],
+    ) -> Result<Part, SegmentFault>
+        requires fits { IsHead head.now }
+        requires count { length blocks.old ≡ 64 * length marks.old }
+        requires marks { length marks.old ≡ head.now.blocks }
+        ensures decodes { DecodesSegment I.source self.now.tables.words.book head.now result input.old input.new blocks.new }
+        ensures sizes { (length blocks.new ≡ length blocks.old) × (length marks.new ≡ length marks.old) }
+    {
+        clear(blocks);
+        self.decode_into_clear(input, head, blocks, marks)
+    }
+
+    /// The same as `decode`, for blocks whose numbers are all 0: it saves the time of clearing them.
+    ///
+    /// # Errors
+    ///
+    /// Those of `decode`.
+    pub fn decode_into_clear<I: OctetIn>(
+        &self,
+        input: &mut I,
+        head: &SegmentHead,
+        blocks: &mut [i32],
+        marks: &mut [i32],
+    ) -> Result<Part, SegmentFault>
+        requires fits { IsHead head.now }
+        requires count { length blocks.old ≡ 64 * length marks.old }
+        requires marks { length marks.old ≡ head.now.blocks }
+        requires clear { AreClear blocks.old }
+        ensures decodes { DecodesSegment I.source self.now.tables.words.book head.now result input.old input.new blocks.new }
+        ensures sizes { (length blocks.new ≡ length blocks.old) × (length marks.new ≡ length marks.old) }
+    {
+        let part = self.items_into_clear(input, head, head.octets(), blocks, marks)?;
+        end_input(input, part)
+    }
+
+    /// Reads the items of a segment's text, with their padding and fill, from the octets after its head into 64 numbers for
+    /// each block (docs/formats.md, "Reading a segment"). The head has `size` octets there, at most 20. `Whole` and `Ended`
+    /// are as in `decode`. The octets that it takes are exactly those of the text after the head: it needs no end from
+    /// outside, and asks for nothing after them.
+    ///
+    /// # Errors
+    ///
+    /// Those of `decode`, except `Overlong`: what follows the text is not read.
+    pub fn decode_items<I: OctetIn>(
+        &self,
+        input: &mut I,
+        head: &SegmentHead,
+        size: u8,
+        blocks: &mut [i32],
+        marks: &mut [i32],
+    ) -> Result<Part, SegmentFault>
+        requires fits { IsHead head.now }
+        requires size { size ≤ 20 }
+        requires count { length blocks.old ≡ 64 * length marks.old }
+        requires marks { length marks.old ≡ head.now.blocks }
+        ensures decodes { DecodesItems I.source self.now.tables.words.book head.now size result input.old input.new blocks.new }
+        ensures sizes { (length blocks.new ≡ length blocks.old) × (length marks.new ≡ length marks.old) }
+    {
+        clear(blocks);
+        self.items_into_clear(input, head, size, blocks, marks)
+    }
+
+    // The same as `decode_items`, for blocks whose numbers are all 0.
+    fn items_into_clear<I: OctetIn>(
+        &self,
+        input: &mut I,
+        head: &SegmentHead,
+        size: u8,
+        blocks: &mut [i32],
+        marks: &mut [i32],
+    ) -> Result<Part, SegmentFault>
+        requires fits { IsHead head.now }
+        requires size { size ≤ 20 }
+        requires count { length blocks.old ≡ 64 * length marks.old }
+        requires marks { length marks.old ≡ head.now.blocks }
+        requires clear { AreClear blocks.old }
+        ensures decodes { DecodesItems I.source self.now.tables.words.book head.now size result input.old input.new blocks.new }
+        ensures sizes { (length blocks.new ≡ length blocks.old) × (length marks.new ≡ length marks.old) }
+    {
+        let (part, used) = self.take_from(input, head, size, blocks, marks)?;
+        end_text(input, head, part, used)
+    }
+
+    // Reads the items of a text, up to the limit, after a head of `size` octets; returns also the number of bits of head and items.
+    fn take_from<I: OctetIn>(
+        &self,
+        input: &mut I,
+        head: &SegmentHead,
+        size: u8,
+        blocks: &mut [i32],
+        marks: &mut [i32],
+    ) -> Result<(Part, u64), TextFault>
+        requires fits { IsHead head.now }
+        requires size { size ≤ 20 }
+        requires count { length blocks.old ≡ 64 * length marks.old }
+        requires marks { length marks.old ≡ head.now.blocks }
+        requires clear { AreClear blocks.old }
+        ensures takes { TakesFrom I.source self.now.tables.words.book head.now size result input.old input.new blocks.new }
+        ensures sizes { (length blocks.new ≡ length blocks.old) × (length marks.new ≡ length marks.old) }
+    {
+        let mut bits = BitIn::new(input, u64::from(head.limit), u64::from(size));
+        let part = take_text(&mut bits, head, &self.tables, blocks, marks)?;
+        Ok((part, bits.used()))
+    }
+}
+
+/// The same for a single segment, with a sound book: `SegmentReader` serves many.
+///
+/// # Errors
+///
+/// Those of `decode`.
+pub fn decode_segment<I: OctetIn>(
+    input: &mut I,
+    head: &SegmentHead,
+    blocks: &mut [i32],
+    marks: &mut [i32],
+    book: &Book,
+) -> Result<Part, SegmentFault>
+    requires sound { IsTrue (is_book_sound book.now) }
+    requires fits { IsHead head.now }
+    requires count { length blocks.old ≡ 64 * length marks.old }
+    requires marks { length marks.old ≡ head.now.blocks }
+    ensures decodes { DecodesSegment I.source book.now head.now result input.old input.new blocks.new }
+    ensures sizes { (length blocks.new ≡ length blocks.old) × (length marks.new ≡ length marks.old) }
+{
+    SegmentReader::new(book).decode(input, head, blocks, marks)
+}

@@ -1,0 +1,51 @@
+// What some octets hold, and the laws of what octets after a head hold.
+ghost use Rattle.segment_start.specs.Laws.{TextsEndThere, OutcomesAgree, TextsEndSo, TextsHoldSo};
+ghost use Rattle.segment_start.specs.Parts.{TextsGiveParts};
+ghost use Rattle.segment_start.specs.Spelled.{SpelledTextsDecide};
+ghost use Rattle.segment_start.specs.Worked.{WorkedAnswers};
+
+use text_scripts::{segments_are_read, texts_are_read};
+
+/// Octets of coded segments that are worked out by hand hold what they should.
+pub const fn worked_answers()
+    ensures { WorkedAnswers }
+{}
+
+/// Octets that decide what a text holds decide it whatever follows, and fewer decide nothing.
+pub const fn texts_end_there()
+    ensures { TextsEndThere }
+{
+    segments_are_read();
+}
+
+/// A text with its end holds what its octets hold, if it ends with them.
+pub const fn outcomes_agree()
+    ensures { OutcomesAgree }
+{}
+
+/// The octets that were taken of a text determine what it holds, or by which name it is refused.
+pub const fn texts_end_so()
+    ensures { TextsEndSo }
+{
+    segments_are_read();
+}
+
+/// The numbers that a text gives are multiples of their weights, and small.
+pub const fn texts_give_parts()
+    ensures { TextsGiveParts }
+{}
+
+/// Octets decide what a text holds, or by which name it is refused, exactly as the relation of `text_defs` says.
+pub const fn texts_hold_so()
+    ensures { TextsHoldSo }
+{
+    segments_are_read();
+    texts_are_read();
+}
+
+/// Octets that begin with the items of some values decide blocks: without a stop these values.
+pub const fn spelled_texts_decide()
+    ensures { SpelledTextsDecide }
+{
+    segments_are_read();
+}
