@@ -9,8 +9,8 @@ extern "C" {
 #endif
 
 /* Hands in the buffer from which later calls of the library, in one thread, take their memory. No call may be running, and no encoder may
-   be open. strip122_encode and strip122_decode give all of it back before they return, and strip122_encoder_free what its encoder has, so
-   one buffer serves call after call. */
+   be open. Each call for a whole image or for packets gives all of it back before it returns, and strip122_encoder_free what its encoder
+   has, so one buffer serves call after call. */
 void strip122_arena(void *memory, size_t octets);
 
 /* The most octets that were in use at once since it was handed in. */
@@ -40,11 +40,27 @@ static inline uint64_t strip122_encode_memory(const strip122_setting *s, uint64_
 }
 
 /* Octets that are enough for strip122_decode, if the packets are those of an image of this size, with `segment` blocks in a segment, and
-   its picture has `octets` octets. If the height is reported last, `rows` is 262,144 here, and `octets` the size of the room. */
+   its picture has `octets` octets. If the height is reported last, `rows` is 262,144 here. */
 static inline uint64_t strip122_decode_memory(uint32_t width, uint32_t rows, uint32_t segment, uint64_t octets) {
     uint64_t columns = ((uint64_t)width + 7) / 8 * 8;
     uint64_t blocks = strip122_segment_blocks(width, rows, segment);
     return octets + 640 * columns + 260 * blocks + 131084 + STRIP122_ARENA_MORE;
+}
+
+/* The same for strip122_look, whose look has `octets` octets. */
+static inline uint64_t strip122_look_memory(uint32_t width, uint32_t rows, uint32_t segment, uint64_t octets) {
+    uint64_t columns = ((uint64_t)width + 7) / 8 * 8;
+    return octets + columns + 260 * strip122_segment_blocks(width, rows, segment) + 131084 + STRIP122_ARENA_MORE;
+}
+
+/* The same for strip122_rects, whose lines have `octets` octets. */
+static inline uint64_t strip122_rects_memory(uint32_t width, uint32_t rows, uint32_t segment, uint64_t octets) {
+    return 12 * octets + 260 * strip122_segment_blocks(width, rows, segment) + 131084 + STRIP122_ARENA_MORE;
+}
+
+/* Octets that are enough for strip122_info, whose lines have `octets` octets. */
+static inline uint64_t strip122_info_memory(uint64_t octets) {
+    return 3 * octets + 4096 * 88 + 131084 + STRIP122_ARENA_MORE;
 }
 
 #ifdef __cplusplus

@@ -17,22 +17,23 @@ extern "C" {
 /* What a call answers. */
 typedef enum strip122_answer {
     STRIP122_DONE = 0,
-    STRIP122_DAMAGED = 1,      /* decode: the picture is given, but rows are damaged, the packets can't be read to their end, or the
-                                  height isn't known */
+    STRIP122_DAMAGED = 1,      /* decode, look, rects, info: all is given, but the packets can't be read to their end; or, except for
+                                  info, rows are damaged or the height isn't known */
     STRIP122_OUT_OF_RANGE = 2, /* new, encode: a field of the setting is out of range */
     STRIP122_SHORT = 3,        /* row, encode: there are fewer octets than the setting needs */
     STRIP122_LONG = 4,         /* row, encode: there are more octets than the setting needs */
     STRIP122_BAD_PIXEL = 5,    /* row, encode: a value is out of the range of its bits */
-    STRIP122_NO_SEGMENT = 6,   /* decode: no packet that is kept begins a segment */
-    STRIP122_SMALL_ROOM = 7,   /* row, end, encode, decode: the room has fewer octets than `octets` of the report */
-    STRIP122_NO_MEMORY = 8,    /* new, encode, decode: an allocation failed */
+    STRIP122_NO_SEGMENT = 6,   /* decode, look, rects: no packet that is kept begins a segment */
+    STRIP122_SMALL_ROOM = 7,   /* row, end, encode, decode, look, rects, info: the room has fewer octets than `octets` of the report */
+    STRIP122_NO_MEMORY = 8,    /* new, encode, decode, look, rects, info: an allocation failed */
     STRIP122_NO_IMAGE = 9,     /* row, end: there is no encoder, since `new` was refused or `free` was called */
     STRIP122_ALL_ROWS = 10,    /* row: the image has all of its rows */
     STRIP122_UNFINISHED = 11,  /* end: rows of the image are missing */
-    STRIP122_BAD_BOOK = 12,    /* new, encode, decode: the book is not a sound code book */
+    STRIP122_BAD_BOOK = 12,    /* new, encode, decode, look, rects, info: the book is not a sound code book */
     STRIP122_WRONG_SIZE = 13,  /* all: the first field of a structure is not its size */
-    STRIP122_TOO_MANY_PIXELS = 14, /* decode: a header reports more pixels than the wish allows */
-    STRIP122_LONG_INPUT = 15,  /* decode: there are as many octets as the wish has */
+    STRIP122_TOO_MANY_PIXELS = 14, /* decode, look, rects: a header reports more pixels than the wish allows */
+    STRIP122_LONG_INPUT = 15,  /* decode, look, rects, info: there are as many octets as the wish has */
+    STRIP122_TOO_MANY_IMAGES = 16, /* info: more than 4,096 images begin */
     STRIP122_ANSWERS = 0x7fffffff /* no answer: with it the type has 32 bits */
 } strip122_answer;
 
@@ -93,23 +94,25 @@ typedef struct strip122_encoded {
 
 #define STRIP122_ENCODED {sizeof(strip122_encoded), 0, 0, 0, 0, 0, 0, 0, 0}
 
-/* The parameters of the decoder. The packets don't carry the code book: with another book than the encoder's, segments are refused or give
+/* The parameters of the calls that read packets. The packets don't carry the code book: with another book than the encoder's, segments are refused or give
    another picture. */
 typedef struct strip122_wish {
     uint32_t size;     /* sizeof(strip122_wish) */
-    uint16_t apid;     /* of the packets that are read */
+    uint16_t apid;     /* of the packets that are read; for info STRIP122_EACH_APID is each */
     uint8_t has_book;  /* `book` is the code book; 0: that of the profile is */
     uint8_t book[138]; /* the octets of a code book (docs/formats.md, "Words and codes") */
     uint64_t pixels;   /* greatest number of pixels of a picture */
     uint64_t octets;   /* at which reading ends */
 } strip122_wish;
 
+#define STRIP122_EACH_APID 65535u
+
 /* What was found, or what room is needed. Set `size` before the call (STRIP122_DECODED does). Every other field is written; one that the
    answer does not need is 0. */
 typedef struct strip122_decoded {
     uint32_t size;         /* sizeof(strip122_decoded) */
     uint32_t width;
-    uint64_t octets;       /* of the picture, which the room needs */
+    uint64_t octets;       /* of what is given, which the room needs */
     uint64_t ranges;       /* ranges of damaged rows, including those for which there was no place */
     uint64_t fault_octets; /* the octet at which a packet has another version, or the octets missing from the last packet */
     uint64_t pixels;       /* that a header reports, if they are too many */
@@ -125,6 +128,18 @@ typedef struct strip122_decoded {
 } strip122_decoded;
 
 #define STRIP122_DECODED {sizeof(strip122_decoded), 0, 0, 0, 0, 0, 0, 0, 0, 0, 0, 0, 0, 0, {0}}
+
+/* What was listed, or what room is needed. Set `size` before the call (STRIP122_LISTED does). Every other field is written; one that the
+   answer does not need is 0. */
+typedef struct strip122_listed {
+    uint32_t size;         /* sizeof(strip122_listed) */
+    uint32_t fault;        /* why the packets can't be read on, as in strip122_decoded */
+    uint64_t octets;       /* of the lines, which the room needs */
+    uint64_t images;       /* at most 4,096 */
+    uint64_t fault_octets; /* as in strip122_decoded */
+} strip122_listed;
+
+#define STRIP122_LISTED {sizeof(strip122_listed), 0, 0, 0, 0}
 
 /* The rows from one to another, both among them. */
 typedef struct strip122_range {
@@ -183,6 +198,19 @@ strip122_answer strip122_encode(const strip122_setting *setting, const uint8_t *
 strip122_answer strip122_decode(const strip122_wish *wish, const uint8_t *packets, size_t octets, uint8_t *room, size_t size,
                                 strip122_range *ranges, size_t places, strip122_decoded *decoded);
 
+/* The same for the look at the packets, a raster as the command `look` gives it: a row for each block row, and in each a value for each of
+   (width + 7) / 8 blocks. */
+strip122_answer strip122_look(const strip122_wish *wish, const uint8_t *packets, size_t octets, uint8_t *room, size_t size,
+                              strip122_range *ranges, size_t places, strip122_decoded *decoded);
+
+/* The same for the rectangles of pixels that losses damage: the lines of the command `rects`, none if there is no damage. */
+strip122_answer strip122_rects(const strip122_wish *wish, const uint8_t *packets, size_t octets, uint8_t *room, size_t size,
+                               strip122_range *ranges, size_t places, strip122_decoded *decoded);
+
+/* Lists the images of the packets: after answers 0 and 1 the room begins with the lines of the command `info`. */
+strip122_answer strip122_info(const strip122_wish *wish, const uint8_t *packets, size_t octets, uint8_t *room, size_t size,
+                              strip122_listed *listed);
+
 /* ---- without the library */
 
 /* The setting for an image of this size, with the usual value of each other field. */
@@ -217,6 +245,7 @@ static inline const char *strip122_text(strip122_answer answer) {
         case STRIP122_WRONG_SIZE: return "a structure has another size";
         case STRIP122_TOO_MANY_PIXELS: return "too many pixels";
         case STRIP122_LONG_INPUT: return "long input";
+        case STRIP122_TOO_MANY_IMAGES: return "too many images";
         case STRIP122_ANSWERS: break;
     }
     return "no answer";
@@ -245,6 +274,12 @@ static inline strip122_range *strip122_places(strip122_range *ranges) {
     (strip122_encode)(setting, strip122_octets(raster), octets, strip122_room(room), size, encoded)
 #define strip122_decode(wish, packets, octets, room, size, ranges, places, decoded)                                                       \
     (strip122_decode)(wish, strip122_octets(packets), octets, strip122_room(room), size, strip122_places(ranges), places, decoded)
+#define strip122_look(wish, packets, octets, room, size, ranges, places, decoded)                                                         \
+    (strip122_look)(wish, strip122_octets(packets), octets, strip122_room(room), size, strip122_places(ranges), places, decoded)
+#define strip122_rects(wish, packets, octets, room, size, ranges, places, decoded)                                                        \
+    (strip122_rects)(wish, strip122_octets(packets), octets, strip122_room(room), size, strip122_places(ranges), places, decoded)
+#define strip122_info(wish, packets, octets, room, size, listed)                                                                          \
+    (strip122_info)(wish, strip122_octets(packets), octets, strip122_room(room), size, listed)
 
 #ifdef __cplusplus
 }

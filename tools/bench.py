@@ -247,6 +247,21 @@ class Bench:
         for depth in (8, 12):
             self.others(square, depth, rasters[depth])
 
+    def rows(self, rounds: int) -> str:
+        """Measures the library row by row beside whole images, and returns the row of a table, or why there is none."""
+        top = Path(__file__).resolve().parent.parent
+        library = os.environ.get("STRIP122_C") or str(top / "crates/strip122_c/out/libstrip122_c.a")
+        compiler = shutil.which(os.environ.get("CC", "cc"))
+        if compiler is None or not os.path.exists(library):
+            return f"Rows are not measured: {library} or a C compiler is missing."
+        binary = str(self.folder / "rows")
+        sources = [str(top / "tools/rows.c"), str(top / "c/heap.c")]
+        subprocess.run([compiler, "-std=c99", "-O2", f"-I{top / 'c'}", "-o", binary, *sources, library], check=True)
+        target = self.folder / "rows.line"
+        Process([binary, str(SIDE), str(SIDE), str(rounds)], self.folder / "drawn8", target).run()
+        head = "| `strip122_encode` | `strip122_encoder_row` | percent more |\n|---|---|---|"
+        return f"The library, drawn picture of {SIDE} x {SIDE}, depth 8:\n\n{head}\n| {target.read_text().strip()} |"
+
     def add_file(self, name: str) -> None:
         size, depth, octets = read_pgm(name)
         path = self.keep(f"{len(self.lines)}.raster", octets)
@@ -308,6 +323,7 @@ def main() -> None:
         print("|---|---|---|---|---|---|---|---|")
         for line in bench.lines:
             print(line.row())
+        print(f"\n{bench.rows(given.rounds)}")
         print(f"\nAt the end: {machine()}.")
         sys.exit(0 if all(line.is_same for line in bench.lines) else "what is decoded isn't what was encoded")
 

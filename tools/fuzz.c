@@ -113,28 +113,68 @@ static void try_encode(input *in) {
     free(room);
 }
 
-static void try_decode(input *in) {
-    strip122_decoded report = STRIP122_DECODED;
+/* The calls that read packets and report alike. */
+typedef strip122_answer reading(const strip122_wish *, const uint8_t *, size_t, uint8_t *, size_t, strip122_range *, size_t, strip122_decoded *);
+
+/* The parameters of an input, with caps that often are reached. */
+static strip122_wish wish_of(input *in) {
+    strip122_wish wish = strip122_usual_wish();
+    uint32_t flags = take(in, 1);
+    wish.apid = (uint16_t)take(in, 2);
+    wish.pixels = flags & 1 ? take(in, 2) : 1u << 20;
+    wish.octets = flags & 2 ? take(in, 2) : wish.octets;
+    return wish;
+}
+
+/* Reads packets into a room of any size, and then into one of exactly the size that was reported. */
+static void try_reading(input *in, reading *call) {
+    strip122_decoded report = STRIP122_DECODED, again = STRIP122_DECODED;
     strip122_range ranges[4];
     size_t size = take(in, 2);
-    strip122_wish wish = strip122_usual_wish();
-    wish.apid = (uint16_t)take(in, 2);
-    wish.pixels = 1u << 20;
+    strip122_wish wish = wish_of(in);
     uint8_t *room = room_of(size), *packets = malloc(in->left + 1);
     demand(packets != NULL);
     memcpy(packets, in->at, in->left);
-    strip122_answer answer = strip122_decode(&wish, packets, in->left, room, size, ranges, 4, &report);
+    strip122_answer answer = call(&wish, packets, in->left, room, size, ranges, 4, &report);
     demand(is_painted(room, answer <= 1 ? report.octets : 0, size));
+    demand(answer != STRIP122_SMALL_ROOM || report.octets > size);
+    demand(answer != STRIP122_TOO_MANY_PIXELS || report.pixels > wish.pixels);
+    demand(answer != STRIP122_LONG_INPUT || in->left >= wish.octets);
+    if (answer == STRIP122_SMALL_ROOM && report.octets <= 1u << 21) {
+        uint8_t *enough = room_of((size_t)report.octets);
+        answer = call(&wish, packets, in->left, enough, (size_t)report.octets, ranges, 4, &again);
+        demand(answer <= 1 ? again.octets == report.octets : answer == STRIP122_LONG_INPUT || answer == STRIP122_TOO_MANY_PIXELS);
+        free(enough);
+    }
+    free(packets);
+    free(room);
+}
+
+static void try_info(input *in) {
+    strip122_listed report = STRIP122_LISTED;
+    size_t size = take(in, 2);
+    strip122_wish wish = wish_of(in);
+    wish.apid = wish.apid < 2048 ? wish.apid : STRIP122_EACH_APID;
+    uint8_t *room = room_of(size), *packets = malloc(in->left + 1);
+    demand(packets != NULL);
+    memcpy(packets, in->at, in->left);
+    strip122_answer answer = strip122_info(&wish, packets, in->left, room, size, &report);
+    demand(is_painted(room, answer <= 1 ? report.octets : 0, size));
+    demand(answer != STRIP122_SMALL_ROOM || report.octets > size);
+    demand(answer > 1 || (report.images == 0) == (report.octets == 0));
     free(packets);
     free(room);
 }
 
 int LLVMFuzzerTestOneInput(const uint8_t *octets, size_t count) {
     input in = {octets, count};
-    switch (take(&in, 1) % 3) {
+    switch (take(&in, 1) % 6) {
         case 0: try_rows(&in); break;
         case 1: try_encode(&in); break;
-        default: try_decode(&in);
+        case 2: try_reading(&in, (strip122_look)); break;
+        case 3: try_reading(&in, (strip122_rects)); break;
+        case 4: try_info(&in); break;
+        default: try_reading(&in, (strip122_decode));
     }
     return 0;
 }

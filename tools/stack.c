@@ -43,6 +43,24 @@ static void *decode(void *setting) {
     return same ? NULL : setting;
 }
 
+static void *look(void *setting) {
+    strip122_decoded report = STRIP122_DECODED;
+    strip122_wish wish = strip122_usual_wish();
+    return strip122_look(&wish, packets, octets, picture, sizeof picture, NULL, 0, &report) == STRIP122_DONE ? NULL : setting;
+}
+
+static void *rects(void *setting) {
+    strip122_decoded report = STRIP122_DECODED;
+    strip122_wish wish = strip122_usual_wish();
+    return strip122_rects(&wish, packets, octets, picture, sizeof picture, NULL, 0, &report) == STRIP122_DONE ? NULL : setting;
+}
+
+static void *info(void *setting) {
+    strip122_listed report = STRIP122_LISTED;
+    strip122_wish wish = strip122_usual_wish();
+    return strip122_info(&wish, packets, octets, picture, sizeof picture, &report) == STRIP122_DONE ? NULL : setting;
+}
+
 /* Runs a call on the painted stack, and prints how much of it was written. */
 static void measure(const char *name, void *(*call)(void *), strip122_setting *setting) {
     pthread_attr_t attributes;
@@ -71,6 +89,9 @@ int main(void) {
         measure("rows", rows, &setting);
         measure("encode", encode, &setting);
         measure("decode", decode, &setting);
+        measure("look", look, &setting);
+        measure("rects", rects, &setting);
+        measure("info", info, &setting);
     }
     return 0;
 }

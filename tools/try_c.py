@@ -136,9 +136,20 @@ class Tries:
         self.counts[what] = self.counts.get(what, 0) + 1
 
     def hand_in(self, octets):
-        """Hands in a buffer of this many octets."""
-        self.memory = (ctypes.c_uint8 * octets)()
-        self.arena_calls.strip122_arena(self.memory, ctypes.c_size_t(octets))
+        """Hands in a buffer of this many octets, at a multiple of 16."""
+        self.memory = (ctypes.c_uint8 * (octets + 16))()
+        start = ctypes.addressof(self.memory)
+        self.arena_calls.strip122_arena(ctypes.c_void_p(start + -start % 16), ctypes.c_size_t(octets))
+
+    def exact_memory(self, call, expected):
+        """The memory that the last call took is enough for the same call, and one octet less is not."""
+        most = self.arena_calls.strip122_arena_most()
+        self.hand_in(most)
+        got = call()
+        assert (got.answer, got.room) == expected, ("arena", got.answer)
+        self.hand_in(most - 1)
+        got = call()
+        assert (got.answer, got.room, got.report.octets) == (strip122.NO_MEMORY, bytes(len(got.room)), 0), got.answer
 
     def encode(self, chosen, raster):
         """The packets, where the raster was encoded."""
@@ -244,7 +255,7 @@ class Tries:
             ran = run("encode", words, raster[: rows * octets])
             assert ran.stdout.startswith(given[rows]) if is_open else ran.stdout == given[rows], (rows, words)
 
-    def decode(self, chosen, packets, all_there):
+    def decode(self, chosen, packets, all_there, is_open):
         words = [f"apid={chosen['apid']}"]
         ran = run("decode", words, packets)
         if b"too many pixels" in ran.stderr or len(ran.stdout) > 1 << 22:
@@ -263,14 +274,101 @@ class Tries:
         if all_there:
             for name in ("width", "rows", "depth", "is_signed", "segment", "image", "word"):
                 assert getattr(report, name) == chosen[name], name
-        size = report.width, report.rows, report.segment
-        small, report, room, got = self.heap.decode(chosen["apid"], packets, need - 1, 1)
-        assert (small, report.octets, room) == (strip122.SMALL_ROOM, need, bytes(need - 1))
+        size = report.width, 262144 if is_open else report.rows, report.segment
+        if need > 0:
+            small, report, room, got = self.heap.decode(chosen["apid"], packets, need - 1, 1)
+            assert (small, report.octets, room) == (strip122.SMALL_ROOM, need, bytes(need - 1))
+            asked = self.heap.decode(chosen["apid"], packets, 0, 0)
+            assert (asked.answer, asked.report.octets, asked.report.written) == (strip122.SMALL_ROOM, need, report.written)
         self.hand_in(need + 640 * padded(size[0]) + 260 * blocks(*size) + 131084 + 8192)
         answer, report, room, got = self.arena.decode(chosen["apid"], packets, need, 0)
         assert (answer, room) == (wanted, ran.stdout), ("arena", answer)
+        self.exact_memory(lambda: self.arena.decode(chosen["apid"], packets, need, 0), (wanted, ran.stdout))
         self.count("decoded alike, whole" if wanted == 0 else "decoded alike, damaged")
         self.caps(chosen["apid"], packets, need)
+        self.readings(chosen["apid"], packets, ranges, size)
+
+    def readings(self, apid, packets, ranges, size):
+        """The look and the rectangles, as the commands give them."""
+        wish = strip122.usual_wish(apid)
+        for command in ("look", "rects"):
+            call, fixed = getattr(self.heap, command), getattr(self.arena, command)
+            ran = run(command, [f"apid={apid}"], packets)
+            wanted, need = wanted_answer(ran), len(ran.stdout)
+            got = call(wish, packets, need + 3, len(ranges) + 1)
+            assert (got.answer, got.room, got.ranges) == (wanted, ran.stdout + b"\0\0\0", ranges), (command, got.answer, ran)
+            assert (got.report.octets, got.report.ranges) == (need, len(ranges))
+            if need > 0:
+                got = call(wish, packets, need - 1, 1)
+                assert (got.answer, got.report.octets, got.room) == (strip122.SMALL_ROOM, need, bytes(need - 1)), (command, got.answer)
+            more = need + 8 * padded(size[0]) // 8 if command == "look" else 3 * need + 48 * (need // 8 + 4)
+            self.hand_in(more + 260 * blocks(*size) + 131084 + 8192)
+            got = fixed(wish, packets, need, 0)
+            assert (got.answer, got.room) == (wanted, ran.stdout), ("arena", command, got.answer)
+            self.exact_memory(lambda: fixed(wish, packets, need, 0), (wanted, ran.stdout))
+            self.count(f"{command}: alike")
+
+    def info(self, apid, packets):
+        """The list of images of an APID, and of each, as the command gives it."""
+        for wished, words in ((apid, [f"apid={apid}"]), (strip122.EACH_APID, [])):
+            wish = strip122.usual_wish(wished)
+            ran = run("info", words, packets)
+            wanted, need = wanted_answer(ran), len(ran.stdout)
+            got = self.heap.info(wish, packets, need + 3)
+            assert (got.answer, got.room, got.report.octets) == (wanted, ran.stdout + b"\0\0\0", need), (got.answer, ran)
+            assert got.report.images == ran.stdout.count(b"\n") and (got.report.fault == 0) == (wanted == 0), ran
+            if need > 0:
+                got = self.heap.info(wish, packets, need - 1)
+                assert (got.answer, got.report.octets, got.room) == (strip122.SMALL_ROOM, need, bytes(need - 1)), got.answer
+            self.hand_in(3 * need + 131084 + INFO_TABLE + 8192)
+            got = self.arena.info(wish, packets, need)
+            assert (got.answer, got.room) == (wanted, ran.stdout), ("arena", got.answer)
+            self.exact_memory(lambda: self.arena.info(wish, packets, need), (wanted, ran.stdout))
+            short = strip122.usual_wish(wished, octets=len(packets))
+            ran = run("info", [*words, f"octets={len(packets)}"], packets)
+            got = self.heap.info(short, packets, 1 << 16)
+            assert got.answer == (ran.returncode if ran.returncode < 2 else strip122.LONG_INPUT), (got.answer, ran)
+            self.count("info: alike")
+
+    def many_images(self):
+        """There is room for 4,096 images, and not for one more."""
+        packets = b""
+        for image in range(4097):
+            setting = strip122.usual(17, 17, image=image)
+            answer, report, room = self.heap.encode(setting, bytes(289), 4096)
+            assert answer == 0
+            before, packets = packets, packets + room[: report.octets]
+        for given, wanted in ((before, strip122.DONE), (packets, strip122.TOO_MANY_IMAGES)):
+            ran = run("info", [], given)
+            got = self.heap.info(strip122.usual_wish(strip122.EACH_APID), given, 1 << 20)
+            assert got.answer == wanted and (ran.returncode == 0) == (wanted == 0), (got.answer, ran.returncode)
+            assert got.room[: got.report.octets] == ran.stdout
+        self.count("4,097 images")
+
+    def first_ending(self, chosen, packets, is_open):
+        """Whether a room is too small or the packets are too long is answered by what is read first: the size is known from the first
+        packet, or if the height is reported last from all of them."""
+        total = padded(chosen["width"]) * padded(chosen["rows"]) // 64
+        is_last = is_open and total > chosen["segment"]
+        known = len(packets) + 1 if is_last else 7 + int.from_bytes(packets[4:6], "big")
+        for call in (self.heap.decode_with, self.heap.look):
+            for octets, wanted in ((known - 1, strip122.LONG_INPUT), (known, strip122.SMALL_ROOM)):
+                got = call(strip122.usual_wish(chosen["apid"], octets=octets), packets, 0, 0)
+                assert got.answer == wanted, (got.answer, wanted, octets, known)
+        self.count("first ending")
+
+    def wrong_reports(self, packets):
+        """Reports and wishes of another size, and a book that is none, are refused, and nothing is written."""
+        wish, bad = strip122.usual_wish(), strip122.usual_wish(book=bytes(138))
+        wrong = strip122.usual_wish()
+        wrong.size += 8
+        for call in (self.heap.decode_with, self.heap.look, self.heap.rects):
+            assert call(bad, packets, 9, 0).answer == strip122.BAD_BOOK and call(wrong, packets, 9, 0).answer == strip122.WRONG_SIZE
+        assert self.heap.info(bad, packets, 9).answer == strip122.BAD_BOOK and self.heap.info(wrong, packets, 9).answer == strip122.WRONG_SIZE
+        room, report = (ctypes.c_uint8 * 9)(), strip122.Listed(size=31, images=7)
+        answer = self.heap.calls.strip122_info(wish, packets, len(packets), room, 9, report)
+        assert (answer, report.size, report.images) == (strip122.WRONG_SIZE, 31, 7)
+        self.count("structures refused")
 
     def caps(self, apid, packets, need):
         """A pixel or an octet too many: the program and the library refuse alike, before there is a room and with one."""
@@ -291,6 +389,10 @@ class Tries:
         self.count("caps alike")
 
 
+# octets of the table of 4,096 images, as c/arena.h has them
+INFO_TABLE = 4096 * 88
+
+
 def lost(random, packets):
     """Packets of which an octet is changed, or some at the end are cut, now and then."""
     dice = random.random()
@@ -304,6 +406,9 @@ def lost(random, packets):
 
 def main():
     tries = Tries()
+    tries.many_images()
+    tries.wrong_reports(b"")
+    before = []
     for seed in range(COUNT):
         dice = random.Random(f"{SEED} {seed}")
         chosen = random_setting(dice)
@@ -311,8 +416,16 @@ def main():
         packets = tries.encode(chosen, raster)
         if packets:
             tries.rows(chosen, raster, packets, dice)
-            tries.decode(chosen, packets, True)
-            tries.decode(chosen, lost(dice, packets), False)
+            tries.decode(chosen, packets, True, False)
+            tries.decode(chosen, lost(dice, packets), False, False)
+            tries.first_ending(chosen, packets, False)
+            before = before[-2:] + [packets]
+            tries.info(chosen["apid"], lost(dice, b"".join(before)))
+            if "total" not in chosen:
+                opened = run("encode", words_of({**chosen, "rows": 0}), raster).stdout
+                tries.decode(chosen, opened, True, True)
+                tries.decode(chosen, lost(dice, opened), False, True)
+                tries.first_ending(chosen, opened, True)
     for what, count in sorted(tries.counts.items()):
         print(f"{count:6} {what}")
 

@@ -1,7 +1,7 @@
 #!/bin/sh
 # Builds the library for C, links it, and compares its answers with those of the program: the header by itself, an example in C with fixed
-# memory and one that encodes row by row, also under valgrind if it is there, one in Rust if rustc is there, and random settings, row by
-# row and whole, by Python's ctypes. It prints how much of a painted stack each call has written.
+# memory, one that encodes row by row and one that reads packets, these also under valgrind if it is there, one in Rust if rustc is there,
+# and random settings, row by row and whole, by Python's ctypes. It prints how much of a painted stack each call has written.
 #
 #   tools/try_c.sh [SETTINGS] [SEED]
 #
@@ -53,12 +53,37 @@ for compiler in $compilers; do
     example "example_c_$compiler" "$kept/packets" "$kept/example_$compiler" 200 100
     example "example_rows_$compiler" "$kept/rows.packets" "$kept/example_rows_$compiler" 200 100 8
     example "open_rows_$compiler" "$kept/open.packets" "$kept/example_rows_$compiler" 200 0 8
+    "$compiler" $strict -o "$kept/example_ground_$compiler" "$top/c/example_ground.c" "$top/c/heap.c" "$library" || exit
+done
+
+# NAME COMMAND ..: an example gives what each command gives of packets of which one is lost, with the same status.
+reads() {
+    name=$1
+    shift
+    for call in decode look rects info; do
+        "$program" $call apid=100 <"$kept/lost.packets" >"$kept/wanted" 2>"$kept/note"
+        wanted=$?
+        "$@" $call 100 <"$kept/lost.packets" >"$kept/got" 2>"$kept/note"
+        got=$?
+        [ $got -eq $wanted ] && [ $got -le 1 ] && cmp "$kept/got" "$kept/wanted" || {
+            cat "$kept/note" >&2
+            echo "$0: $name $call differs from the program: status $got, and not $wanted" >&2
+            exit 1
+        }
+    done
+    echo "same: $name"
+}
+
+head -c 12000 "$kept/packets" >"$kept/lost.packets"
+for compiler in $compilers; do
+    reads "example_ground_$compiler" "$kept/example_ground_$compiler"
 done
 
 compiler=${compilers# }
 compiler=${compiler%% *}
 if command -v valgrind >/dev/null; then
     example valgrind_rows "$kept/rows.packets" valgrind -q --error-exitcode=9 "$kept/example_rows_$compiler" 200 100 8
+    reads valgrind_ground valgrind -q --leak-check=full --error-exitcode=9 "$kept/example_ground_$compiler"
 else
     echo "no valgrind: it is skipped"
 fi

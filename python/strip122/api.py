@@ -15,6 +15,7 @@ from .images import SortedImage
 from .keys import checked
 from .outputs import decoded_stream, early_rects, stream_of
 from .passes import Pass, sort
+from .program import shared_library
 from .rasters import Array
 from .source import Given
 
@@ -69,7 +70,7 @@ class Image:
     def look(self) -> Array:
         """Returns a value for each block of 8 x 8 pixels: shape (rows / 8, width / 8), both rounded up, and the picture's type."""
         assert self._image.format
-        return look_of(self.stream, self.apid, self._image.format.pixels, self._pixels)
+        return look_of(self.stream, self.apid, self._image.format.pixels, self._pixels, shared_library())
 
     @property
     def damage(self) -> List[range]:

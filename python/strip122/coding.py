@@ -89,7 +89,7 @@ def encode(array: ArrayLike, *, engine: Optional[str] = None, **keys: Any) -> by
     raster, form = raster_of(array, settings.pop("depth", None), settings.pop("signed", None))
     settings = {"width": form.width, "rows": len(raster) // form.dtype.itemsize // form.width, "depth": form.depth} | settings
     settings["signed"] = form.signed
-    lib = library_for(engine, "book" in settings or bool(settings.get("total")))
+    lib = library_for(engine)
     if lib:
         return encoded_by_library(lib, raster, settings)
     ran = call(["encode", *to_words(settings)], settings.get("book", b"") + raster)
@@ -112,21 +112,18 @@ def out_of_range(field_name: str) -> BadKey:
     return BadKey(f"{field_name}: is not {about}")
 
 
-def library_for(engine: Optional[str], needs_program: bool) -> Optional[c.Library]:
+def library_for(engine: Optional[str]) -> Optional[c.Library]:
     """Returns the library, or None if the program does the work. Raises BadKey and MissingPackage."""
     if engine not in (None, "program", "library"):
         raise BadKey(f"engine: {engine!r} is not 'program' or 'library'")
-    if engine == "program" or (engine is None and needs_program):
-        return None
-    lib = shared_library()
-    if engine == "library" and (lib is None or needs_program):
-        raise BadKey("engine: the library has no book and no total" if lib else "engine: there is no shared library")
+    lib = None if engine == "program" else shared_library()
+    if engine == "library" and lib is None:
+        raise BadKey("engine: there is no shared library")
     return lib
 
 
 def encoded_by_library(lib: c.Library, raster: bytes, settings: Dict[str, Any]) -> bytes:
     fields = {name: value for name, value in settings.items() if name not in ("signed", "select", "stop", "weights")}
-    fields.pop("total", None)
     fields["is_signed"] = settings["signed"]
     fields["optimal"] = settings.get("select", "optimal") == "optimal"
     fields["weights"] = tuple(map(int, settings["weights"])) if "weights" in settings else c.USUAL_WEIGHTS
@@ -138,6 +135,8 @@ def encoded_by_library(lib: c.Library, raster: bytes, settings: Dict[str, Any]) 
     got = lib.encode_whole(c.usual(**fields), raster)
     if got.answer == c.OUT_OF_RANGE:
         raise out_of_range(c.FIELDS[got.report.field])
+    if got.answer == c.BAD_BOOK:
+        raise BadInput("book refused")
     if got.answer == c.NO_MEMORY:
         raise NoMemory("no memory")
     if got.answer != c.DONE:
@@ -170,7 +169,7 @@ def decode(
         if len(headers) == 0:
             raise BadInput("no packet of this coder")
         apid = int(headers.apid[0])
-    lib = library_for(engine, book is not None)
+    lib = library_for(engine)
     form = None if lib else form_in(headers, packets, apid)
     return decoded_as(packets, apid, form, pixels, book, lib)
 
@@ -188,13 +187,13 @@ def decoded_as(
 
     `early` gives its rectangles of damage, if they are asked for while the picture is decoded.
     """
-    decoded = decoded_by_library(lib, packets, apid, pixels) if lib else decoded_by_program(packets, apid, form, pixels, book)
+    decoded = decoded_by_library(lib, packets, apid, pixels, book) if lib else decoded_by_program(packets, apid, form, pixels, book)
     if not decoded.damage:
         return decoded
     if book is not None:  # `rects` of the program takes no book
         rects = [Rect(it.start, it.stop - 1, 0, decoded.array.shape[1] - 1) for it in decoded.damage]
     else:
-        rects = early.result() if early else rects_of(packets, apid, pixels)
+        rects = early.result() if early else rects_of(packets, apid, pixels, lib)
     return replace(decoded, rects=rects)
 
 
@@ -227,29 +226,43 @@ def first_kept(packets: Octets, apid: int) -> int:
     return -1
 
 
-def decoded_by_library(lib: c.Library, packets: Octets, apid: int, pixels: int) -> Decoded:
-    got = lib.decode_whole(apid, bytes(packets), pixels)
-    report = got.report
+def given(got: c.Picture) -> bytes:
+    """Returns what the library gave of packets. Raises the exception of another answer."""
     if got.answer == c.NO_MEMORY:
         raise NoMemory("no memory")
+    if got.answer == c.BAD_BOOK:
+        raise BadInput("book refused")
     if got.answer == c.TOO_MANY_PIXELS:
-        raise BadInput(f"too many pixels, {report.pixels}")
+        raise BadInput(f"too many pixels, {got.report.pixels}")
     if got.answer not in (c.DONE, c.DAMAGED):
         raise BadInput("no segment")
+    return got.room
+
+
+def decoded_by_library(lib: c.Library, packets: Octets, apid: int, pixels: int, book: Optional[bytes]) -> Decoded:
+    got = lib.decode_whole(apid, bytes(packets), pixels, book or b"")
+    picture, report = given(got), got.report
     form = Pixels(report.width, report.depth, bool(report.is_signed))
     damage = [range(first, last + 1) for first, last in got.ranges]
     fault = FAULTS[report.fault].format(report.fault_octets) if report.fault else ""
-    return Decoded(array_of(got.room, form), form.depth, damage, [], bool(report.rows), fault)
+    return Decoded(array_of(picture, form), form.depth, damage, [], bool(report.rows), fault)
 
 
-def rects_of(packets: Octets, apid: int, pixels: int = MOST_PIXELS) -> List[Rect]:
-    """Returns the rectangles of pixels that can't be trusted, by `rects` of the program."""
-    lines = run(["rects", f"apid={apid}", f"pixels={pixels}"], packets).output.decode().split()
+def rects_of(packets: Octets, apid: int, pixels: int = MOST_PIXELS, lib: Optional[c.Library] = None) -> List[Rect]:
+    """Returns the rectangles of pixels that can't be trusted, by `rects` of the library or of the program."""
+    if lib:
+        output = given(lib.whole(lib.rects, c.usual_wish(apid, pixels), bytes(packets)))
+    else:
+        output = run(["rects", f"apid={apid}", f"pixels={pixels}"], packets).output
+    lines = output.decode().split()
     numbers = [list(map(int, it.split("-"))) for it in lines]
     return [Rect(*rows, *columns) for rows, columns in zip(numbers[::2], numbers[1::2])]
 
 
-def look_of(packets: Octets, apid: int, form: Pixels, pixels: int = MOST_PIXELS) -> Array:
-    """Returns the quick look by `look` of the program: a value for each block of 8 x 8 pixels."""
-    output = run(["look", f"apid={apid}", f"pixels={pixels}"], packets).output
+def look_of(packets: Octets, apid: int, form: Pixels, pixels: int = MOST_PIXELS, lib: Optional[c.Library] = None) -> Array:
+    """Returns the quick look by `look` of the library or of the program: a value for each block of 8 x 8 pixels."""
+    if lib:
+        output = given(lib.whole(lib.look, c.usual_wish(apid, pixels), bytes(packets)))
+    else:
+        output = run(["look", f"apid={apid}", f"pixels={pixels}"], packets).output
     return array_of(output, Pixels(-(-form.width // 8), form.depth, form.signed))

@@ -1,4 +1,5 @@
-"""The library for C (docs/c.md) by ctypes: its declarations and its calls, `Library(path).encode(..)`, `.decode(..)` and `.encoder(..)`.
+"""The library for C (docs/c.md) by ctypes: its declarations and its calls, `Library(path).encode(..)`, `.decode(..)`, `.look(..)`,
+`.rects(..)`, `.info(..)` and `.encoder(..)`.
 
 Nothing else in this package knows the declarations, and this module needs nothing else of the package.
 """
@@ -6,13 +7,15 @@ Nothing else in this package knows the declarations, and this module needs nothi
 from __future__ import annotations
 
 import ctypes
-from typing import Any, Dict, List, NamedTuple, Sequence, Tuple
+from typing import Any, Callable, Dict, List, NamedTuple, Sequence, Tuple
 
 # The version of the header that these declarations follow. A library fits if the first two of its three numbers are the same.
 VERSION = 200
 
 DONE, DAMAGED, OUT_OF_RANGE, SHORT, LONG, BAD_PIXEL, NO_SEGMENT, SMALL_ROOM, NO_MEMORY = range(9)
-NO_IMAGE, ALL_ROWS, UNFINISHED, BAD_BOOK, WRONG_SIZE, TOO_MANY_PIXELS, LONG_INPUT = range(9, 16)
+NO_IMAGE, ALL_ROWS, UNFINISHED, BAD_BOOK, WRONG_SIZE, TOO_MANY_PIXELS, LONG_INPUT, TOO_MANY_IMAGES = range(9, 17)
+# The APID of a wish by which `info` lists the images of each APID.
+EACH_APID = 65535
 FIELDS = "none width rows depth segment limit fill word stop weights apid image packet pixels octets total".split()
 USUAL: Dict[str, Any] = {"segment": 64, "packet": 1024, "apid": 100, "depth": 8, "word": 1, "stop_stage": 3, "optimal": 1}
 USUAL_WEIGHTS = (0, 1, 1, 1, 2, 2, 2, 3, 3, 3)
@@ -50,7 +53,7 @@ class Encoded(ctypes.Structure):
 
 
 class Wish(ctypes.Structure):
-    """The parameters of the decoder; `usual_wish` makes one."""
+    """The parameters of the calls that read packets; `usual_wish` makes one."""
 
     _fields_ = (
         fields(ctypes.c_uint32, "size")
@@ -72,6 +75,12 @@ class Decoded(ctypes.Structure):
         + fields(ctypes.c_uint8, "depth is_signed word fault")
         + [("weights", ctypes.c_uint8 * 10)]
     )
+
+
+class Listed(ctypes.Structure):
+    """What a list of images reports."""
+
+    _fields_ = fields(ctypes.c_uint32, "size fault") + fields(ctypes.c_uint64, "octets images fault_octets")
 
 
 class Range(ctypes.Structure):
@@ -122,13 +131,24 @@ class Packets(NamedTuple):
     room: bytes
 
 
+class Lines(NamedTuple):
+    """An answer of a list of images: the answer, what it reports, and its room."""
+
+    answer: int
+    report: Listed
+    room: bytes
+
+
 class Picture(NamedTuple):
-    """An answer of the decoder: the answer, what it reports, its room, and the ranges of damaged rows."""
+    """An answer of the decoder, of a look or of rectangles: the answer, what it reports, its room, and the ranges of damaged rows."""
 
     answer: int
     report: Decoded
     room: bytes
     ranges: List[Tuple[int, int]]
+
+
+Call = Callable[[Wish, bytes, int, int], Picture]
 
 
 def new_report() -> Encoded:
@@ -167,10 +187,14 @@ class Library:
         if not hasattr(library, "strip122_version") or library.strip122_version() // 100 != VERSION // 100:
             raise OSError(f"{path}: is not the library of this version of strip122")
         size, octets, pointer = ctypes.c_size_t, ctypes.c_void_p, ctypes.POINTER
-        self._encode, self._decode = library.strip122_encode, library.strip122_decode
-        self._encode.restype = self._decode.restype = ctypes.c_uint32
+        self._encode = library.strip122_encode
         self._encode.argtypes = [pointer(Setting), octets, size, octets, size, pointer(Encoded)]
-        self._decode.argtypes = [pointer(Wish), octets, size, octets, size, octets, size, pointer(Decoded)]
+        reading = (library.strip122_decode, library.strip122_look, library.strip122_rects)
+        for call in reading:
+            call.argtypes = [pointer(Wish), octets, size, octets, size, octets, size, pointer(Decoded)]
+        library.strip122_info.argtypes = [pointer(Wish), octets, size, octets, size, pointer(Listed)]
+        for call in (self._encode, library.strip122_info, *reading):
+            call.restype = ctypes.c_uint32
         place, report = pointer(Place), pointer(Encoded)
         library.strip122_encoder_new.argtypes = [place, pointer(Setting), report]
         library.strip122_encoder_row.argtypes = [place, octets, size, octets, size, report]
@@ -209,9 +233,27 @@ class Library:
 
     def decode_with(self, wish: Wish, packets: bytes, size: int, places: int) -> Picture:
         """Decodes packets into a room of `size` octets, with places for that number of ranges of damaged rows."""
+        return self._read(self.calls.strip122_decode, wish, packets, size, places)
+
+    def look(self, wish: Wish, packets: bytes, size: int, places: int) -> Picture:
+        """Makes the look at packets, as the command `look` does."""
+        return self._read(self.calls.strip122_look, wish, packets, size, places)
+
+    def rects(self, wish: Wish, packets: bytes, size: int, places: int) -> Picture:
+        """Lists the damaged rectangles of packets, as the command `rects` does."""
+        return self._read(self.calls.strip122_rects, wish, packets, size, places)
+
+    def info(self, wish: Wish, packets: bytes, size: int) -> Lines:
+        """Lists the images of packets, as the command `info` does: of the wish's APID, or of each if that is EACH_APID."""
+        room, report = (ctypes.c_uint8 * max(size, 1))(), Listed(size=ctypes.sizeof(Listed))
+        answer = self.calls.strip122_info(wish, bytes(packets) or b"\0", len(packets), room, size, report)
+        return Lines(answer, report, bytes(memoryview(room)[:size]))
+
+    def _read(self, call: Any, wish: Wish, packets: bytes, size: int, places: int) -> Picture:
+        """Reads packets by a call, into a room of `size` octets."""
         room, ranges = (ctypes.c_uint8 * max(size, 1))(), (Range * max(places, 1))()
         report = Decoded(size=ctypes.sizeof(Decoded))
-        answer = self._decode(wish, bytes(packets) or b"\0", len(packets), room, size, ranges, places, report)
+        answer = call(wish, bytes(packets) or b"\0", len(packets), room, size, ranges, places, report)
         found = [(ranges[it].first, ranges[it].last) for it in range(min(report.ranges, places))]
         return Picture(answer, report, bytes(memoryview(room)[:size]), found)
 
@@ -220,13 +262,16 @@ class Library:
         got = self.encode(setting, raster, 2 * len(raster) + (1 << 16))
         return self.encode(setting, raster, got.report.octets) if got.answer == SMALL_ROOM else got
 
-    def decode_whole(self, apid: int, packets: bytes, most: int) -> Picture:
+    def decode_whole(self, apid: int, packets: bytes, most: int, book: bytes = b"") -> Picture:
         """Decodes packets, with a room that is found, if the picture has at most this number of pixels.
 
         Otherwise the answer is TOO_MANY_PIXELS, and the report has the number of pixels.
         """
-        wish = usual_wish(apid, most)
-        asked = self.decode_with(wish, packets, 0, 0)
+        return self.whole(self.decode_with, usual_wish(apid, most, book=book), packets)
+
+    def whole(self, call: Call, wish: Wish, packets: bytes) -> Picture:
+        """Reads packets by `decode_with`, `look` or `rects`, with a room that is found."""
+        asked = call(wish, packets, 0, 0)
         if asked.answer != SMALL_ROOM:
             return asked
-        return self.decode_with(wish, packets, asked.report.octets, asked.report.written // 52 + 2)
+        return call(wish, packets, asked.report.octets, asked.report.written // 52 + 2)

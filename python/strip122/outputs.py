@@ -6,7 +6,7 @@ import json
 import multiprocessing
 import os
 import sys
-from concurrent.futures import Executor, ProcessPoolExecutor, ThreadPoolExecutor, as_completed
+from concurrent.futures import Executor, Future, ProcessPoolExecutor, ThreadPoolExecutor, as_completed
 from dataclasses import dataclass
 from pathlib import Path
 from typing import Any, Dict, Iterator, List, Optional, Tuple
@@ -20,9 +20,11 @@ from .images import SortedImage
 from .passes import Pass, record_of
 from .pictures import mask_picture, plain_picture, small_picture
 from .program import shared_library
+from .rasters import Array
 from .writers import store_image, store_png
 
 Record = Dict[str, Any]
+EarlyLook = Optional["Future[Array]"]
 
 
 @dataclass(frozen=True)
@@ -52,7 +54,14 @@ def stream_of(them: Pass, image: SortedImage, pixels: int) -> bytes:
 def early_rects(image: SortedImage, stream: bytes, pixels: int, thread: Executor) -> EarlyRects:
     """Asks in a thread for the rectangles of damage, if damage is expected, so that they are there when the picture is."""
     is_hurt = not image.is_whole or bool(image.before_junk) or bool(image.differing)
-    return thread.submit(rects_of, stream, image.key.apid, pixels) if is_hurt else None
+    return thread.submit(rects_of, stream, image.key.apid, pixels, shared_library()) if is_hurt else None
+
+
+def early_look(image: SortedImage, stream: bytes, wish: Wish, thread: Executor) -> EarlyLook:
+    """Asks in a thread for the look, if it is wished."""
+    if not wish.has_look or not image.format:
+        return None
+    return thread.submit(look_of, stream, image.key.apid, image.format.pixels, wish.pixels, shared_library())
 
 
 def decoded_stream(image: SortedImage, stream: bytes, pixels: int, early: EarlyRects) -> Decoded:
@@ -76,8 +85,7 @@ def write_image(them: Pass, number: int, wish: Wish) -> Record:
         stream = stream_of(them, image, wish.pixels)
         with ThreadPoolExecutor(1) as thread:  # it asks for the rectangles, and then for the look
             early = early_rects(image, stream, wish.pixels, thread)
-            form = image.format.pixels if image.format else None
-            look = thread.submit(look_of, stream, image.key.apid, form, wish.pixels) if wish.has_look and form else None
+            look = early_look(image, stream, wish, thread)
             decoded = decoded_stream(image, stream, wish.pixels, early)
             write_pictures(record, decoded, wish)
             if look:

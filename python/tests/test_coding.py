@@ -10,8 +10,9 @@ import pytest
 import strip122
 import wire
 from strip122 import BadInput, BadKey, Decoded, Rect, library
-from strip122.coding import mask_of
+from strip122.coding import library_for, look_of, mask_of
 from strip122.keys import from_words
+from strip122.program import call
 from strip122.rasters import Pixels, array_of, raster_of
 
 # Rows, columns, depth and sign: the least size, odd sizes, and the ends of depths.
@@ -109,18 +110,49 @@ def test_keys(engine: str, chance: random.Random, keys: Dict[str, Any]) -> None:
     assert strip122.encode(array, depth=10, engine=engine, **keys) == wire.encoded(raster, width=50, rows=40, depth=10, **words)
 
 
-def test_total_and_book(chance: random.Random) -> None:
+def test_total_and_book(engine: str, chance: random.Random) -> None:
     array = noise(chance, 40, 50, 8, 0)
-    assert strip122.encode(array, total=900) == wire.encoded(array.tobytes(), width=50, rows=40, total=900)
+    assert strip122.encode(array, total=900, engine=engine) == wire.encoded(array.tobytes(), width=50, rows=40, total=900)
     lengths = ["1 2 3 3", "4 1 2 5 3 6 7 7", "2 2 3 3 4 4 4 4", "6 2 2 3 3 4 5 6 6 4 6 7 7 7 8 8"]
     lengths += ["6 3 3 2 2 5 5 6 5 5 5 6 7 6 6 7", "6 3 3 3 3 4 4 5 5 4 4 6 5 5 5 4"]
     book = strip122.book([list(map(int, it.split())) for it in lengths])
-    packets = strip122.encode(array, book=book, segment=16)
+    packets = strip122.encode(array, book=book, segment=16, engine=engine)
     assert packets == wire.encoded(book + array.tobytes(), width=50, rows=40, segment=16, book=1)
-    assert (strip122.decode(packets, book=book).array == array).all()
+    assert (strip122.decode(packets, book=book, engine=engine).array == array).all()
     lost = b"".join(wire.packets_of(packets)[2:])
-    back = strip122.decode(lost, book=book)
+    back = strip122.decode(lost, book=book, engine=engine)
     assert back.damage and back.rects == [Rect(it.start, it.stop - 1, 0, 49) for it in back.damage]
+    for refused in (
+        lambda: strip122.encode(array, book=bytes(138), engine=engine),
+        lambda: strip122.decode(packets, book=bytes(138), engine=engine),
+    ):
+        with pytest.raises(BadInput, match="^book "):
+            refused()
+
+
+def test_engine_without_program(shared_library: str, chance: random.Random, monkeypatch: pytest.MonkeyPatch) -> None:
+    """The library alone encodes with a total and a book, decodes, and finds rectangles and looks."""
+    monkeypatch.setenv("STRIP122_LIBRARY", shared_library)
+    array = noise(chance, 40, 50, 8, 0)
+    wanted = wire.encoded(array.tobytes(), width=50, rows=40, total=900, segment=16)
+    lost = b"".join(wire.packets_of(wanted)[1:])
+    by_program = [strip122.decode(lost, engine="program").rects, look_of(lost, 100, Pixels(50, 8, False))]
+    monkeypatch.setenv("STRIP122", "/no/program")
+    assert strip122.encode(array, total=900, segment=16) == wanted
+    by_library = [strip122.decode(lost).rects, look_of(lost, 100, Pixels(50, 8, False), lib=library_for("library"))]
+    assert by_program[0] == by_library[0] and (by_program[1] == by_library[1]).all()
+
+
+def test_info_of_the_library(images: wire.Streams, shared_library: str) -> None:
+    """The images of a stream are listed as `info` lists them: of each APID and of one."""
+    lib = library.Library(shared_library)
+    octets = b"".join(images.all())
+    for apid, words in ((library.EACH_APID, []), (7, ["apid=7"])):
+        asked = lib.info(library.usual_wish(apid), octets, 0)
+        assert asked.answer == library.SMALL_ROOM
+        got = lib.info(library.usual_wish(apid), octets, asked.report.octets)
+        assert got.answer == library.DONE and got.room == call(["info", *words], octets).output
+        assert got.report.images == got.room.count(b"\n")
 
 
 BAD_KEYS: List[Tuple[Dict[str, Any], str]] = [

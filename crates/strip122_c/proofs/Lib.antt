@@ -1,9 +1,14 @@
 pub mod Admitted
 pub mod WholeEncoded
 pub mod ReadOut
-pub mod Found
+pub mod ProductRuns
 pub mod Written
+pub mod FirstHeads
 pub mod WholeDecoded
+pub mod ImagesBack
+pub mod Excluded
+pub mod Measures
+pub mod WholeListed
 pub mod RasterBack
 pub mod Puts
 pub mod RangesPut

@@ -11,12 +11,12 @@ use Rattle.raster_rows.proofs.OctetLaws.{pixel_octets-pixel_at}
 use Rattle.stream_defs.specs.Output.{output}
 use Rattle.strip_coder.specs.declared.encode.EncodeDone.{EncodeDone}
 use Rattle.strip_coder.specs.Rasters.{image_of}
-use Rattle.segment_walk.specs.declared.ending.DecodeDone.{DecodeDone}
+use Rattle.strip122_c.specs.declared.decode.Made.{Made}
 use Rattle.strip122_c.specs.declared.decode.DecodeRefusal.{DecodeRefusal}
 use Rattle.strip122_c.specs.declared.decode.DecodeRefusal.TheVariants.{NoSegment, SmallRoom, TooManyPixels, LongInput, Memory}
 use Rattle.strip122_c.specs.ComingBack.{AreOctets, BringsRaster}
 use Rattle.strip122_c.specs.WholeEncoding.{HasPackets}
-use Rattle.strip122_c.specs.WholeDecoding.{picture_length, BringsBack}
+use Rattle.strip122_c.specs.WholeDecoding.{BringsBack}
 
 -- ---- the octets of a raster's image
 
@@ -75,19 +75,19 @@ packets_are : (s : Setting) (raster old new : List ℕ) (done : EncodeDone) → 
 packets_are s raster old new done has =
     ap (take done.octets) has.room ∙ ap (λ n. take n (output s s.rows (image_of s raster) ++ drop done.octets old)) has.done_for.octets ∙ take-append_seam (output s s.rows (image_of s raster)) (drop done.octets old)
 
-pub comes_back : (s : Setting) (wish : DecodeWish) (raster old new room : List ℕ) (done : EncodeDone) (result : Result DecodeDone DecodeRefusal) → wish.apid ≡ s.apid → wish.book ≡ s.book →
+pub comes_back : (s : Setting) (wish : DecodeWish) (raster old new room : List ℕ) (done : EncodeDone) (result : Result Made DecodeRefusal) → wish.apid ≡ s.apid → wish.book ≡ s.book →
     AreOctets raster → HasPackets s raster old new done → BringsBack wish (take done.octets new) room result → BringsRaster wish s raster (take done.octets new) room result
-comes_back s wish raster old new room done (Ok found) mine own are has back =
-    let gives = back s s.rows (image_of s raster) mine own (packets_are s raster old new done has) has.image in
-    let size : length raster ≡ picture_length found.geometry found.written =
-    has.took.whole ∙ ap (λ g. picture_length g s.rows) (sym gives.geometry) ∙ ap (picture_length found.geometry) (sym gives.written) in (
+comes_back s wish raster old new room done (Ok made) mine own are has back =
+    let brings = back s s.rows (image_of s raster) mine own (packets_are s raster old new done has) has.image in
+    let gives = brings.1 in
+    let size : length raster ≡ made.octets = has.took.whole ∙ sym brings.0 in (
       gives.written,
       gives.missing,
       gives.framing_is,
       λ all. ap (λ n. take n room) size ∙ gives.same all ∙ raster-same s.depth s.signed s.rows s.width raster are has.took.whole,
     )
 comes_back s wish raster old new room done (Err NoSegment) mine own are has back = back s s.rows (image_of s raster) mine own (packets_are s raster old new done has) has.image
-comes_back s wish raster old new room done (Err (SmallRoom g rows)) mine own are has back = back s s.rows (image_of s raster) mine own (packets_are s raster old new done has) has.image
+comes_back s wish raster old new room done (Err (SmallRoom g rows octets)) mine own are has back = back s s.rows (image_of s raster) mine own (packets_are s raster old new done has) has.image
 comes_back s wish raster old new room done (Err (TooManyPixels pixels)) mine own are has back = back s s.rows (image_of s raster) mine own (packets_are s raster old new done has) has.image
 comes_back s wish raster old new room done (Err LongInput) mine own are has back =
     let packets = packets_are s raster old new done has in

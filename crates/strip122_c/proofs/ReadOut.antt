@@ -18,7 +18,7 @@ pub record ReadsAll (took packets : List ℕ) : Type 0 where
   pub whole : whole_packets took ≡ whole_packets packets
   pub framing_is : framing took ≡ framing packets
 
-reads_bad : (took more : List ℕ) → has_bad_version (left_over took) ≡ true → ReadsAll took (took ++ more)
+pub reads_bad : (took more : List ℕ) → has_bad_version (left_over took) ≡ true → ReadsAll took (took ++ more)
 reads_bad took more bad =
     let whole : whole_packets took ≡ whole_packets (took ++ more) = sym (bad_stays took more bad) in
     let place : place_after took ≡ place_after (took ++ more) = ap (λ packets. length (joined packets)) whole in

@@ -1,166 +1,218 @@
--- The result of a run of the decoder over all packets.
-use Rattle.std.proofs.Common.{◌≡◌, ◌≢◌, ◌≤◌, ◌∙◌, ℕ, ℤ, List, [], ◌++◌, length, length-append, take, drop, refl, sym, ap, subst, arith, Some, None, Result, Ok, Err}
-use Rattle.std.proofs.Math.Seq.{take-append_seam}
-use Rattle.port_122.specs.Outside.{Outside}
-use Rattle.port_122.proofs.Told.{given_told}
+-- The result of a run over all packets.
+use Rattle.std.proofs.Common.{◌≡◌, ◌≢◌, ◌≤◌, ◌<◌, ◌/◌, ◌∙◌, ℕ, List, [], ◌++◌, length, refl, sym, ap, subst, inl, inr, arith, IsTrue, Option, Some, None, Result, Ok, Err, append-nil}
+use Rattle.port_122.specs.Outside.{Outside, Exchange, IsUsedUp}
+use Rattle.port_122.proofs.Told.{end_told, given_told}
 use Rattle.base_122.specs.Ranges.{rows_range}
-use Rattle.base_122.specs.Setting.{image_geometry}
-use Rattle.base_122.specs.declared.book.Book.{Book}
+use Rattle.base_122.specs.Sizes.{block_count}
 use Rattle.base_122.specs.declared.geometry.Geometry.{Geometry}
-use Rattle.base_122.specs.declared.setting.Setting.{Setting}
 use Rattle.base_122.specs.declared.wish.DecodeWish.{DecodeWish}
-use Rattle.packet_defs.specs.Streams.{framing}
+use Rattle.packet_defs.specs.Streams.{whole_packets}
+use Rattle.plane_defs.specs.Codes.{is_book_sound}
 use Rattle.raster_rows.proofs.RasterLaws.{length-raster_octets}
-use Rattle.stream_defs.specs.Begun.{begun_in, height}
-use Rattle.stream_defs.specs.Damage.{whole_missing}
+use Rattle.stream_defs.specs.Begun.{HasFewPixels, begun_in, height}
 use Rattle.stream_defs.specs.Fates.{fresh, after_all, kept, geometry_in}
-use Rattle.stream_defs.specs.KnownHeights.{KnownHeights}
-use Rattle.stream_defs.specs.Output.{output}
-use Rattle.stream_defs.specs.Picture.{picture, picture_octets, whole_octets}
-use Rattle.stream_defs.specs.Received.{AreReceived, ReceivedIn}
+use Rattle.stream_defs.specs.Picture.{picture}
+use Rattle.stream_defs.specs.Received.{AreReceived}
+use Rattle.stream_defs.proofs.PlacedLaws.{is_not_open}
+use Rattle.quick_look.specs.Look.{look}
 use Rattle.segment_walk.specs.declared.ending.DecodeDone.{DecodeDone}
-use Rattle.segment_walk.specs.declared.ending.DecodeFault.TheVariants as faults
-use Rattle.strip_decoder.specs.Answers.{Decodes as RunsDecoder}
-use Rattle.segment_walk.specs.Images.{IsImageFor}
 use Rattle.segment_walk.specs.Laws.{ReceivedIsTold}
-use Rattle.strip_decoder.specs.RoundTrip.{RoundTrip}
-use Rattle.segment_walk.specs.Runs.{holds_after}
+use Rattle.segment_walk.specs.Runs.{HasFew, Numbers, holds_after}
 use Rattle.segment_walk.specs.Walks.{IsDamageOf}
-use Rattle.strip122_c.specs.declared.decode.DecodeRefusal.{DecodeRefusal}
-use Rattle.strip122_c.specs.declared.decode.DecodeRefusal.TheVariants.{NoSegment, SmallRoom, TooManyPixels, LongInput, Memory}
-use Rattle.strip122_c.specs.WholeDecoding.{picture_length, HasGeometry, HasRun, IsShown, Decodes, BringsImage, BringsBack}
-use Rattle.strip122_c.proofs.ReadOut.{ReadsAll, reads_all}
 use Rattle.segment_walk.proofs.Endings.{height_known}
 use Rattle.segment_walk.proofs.TextReads.{left_after}
+use Rattle.packet_assembly.specs.Readings.{IsReadOut}
+use Rattle.strip122_c.specs.Products.{octets_of, raster_length}
+use Rattle.strip122_c.specs.Runs.{HasRun, RunsAs}
+use Rattle.strip122_c.specs.Measuring.{HasLong, HasSize, IsMeasured}
+use Rattle.strip122_c.specs.WholeDecoding.{FitsRoom, HasSmallRoom, IsMade, IsReadToEnd, IsRefused, Makes, TellsFirst}
+use Rattle.strip122_c.specs.declared.decode.DecodeRefusal.{DecodeRefusal}
+use Rattle.strip122_c.specs.declared.decode.DecodeRefusal.TheVariants.{NoSegment, SmallRoom, TooManyPixels, LongInput, Memory}
+use Rattle.strip122_c.specs.declared.measure.Measured.{Measured}
+use Rattle.strip122_c.specs.declared.product.Product.{Product}
+use Rattle.strip122_c.specs.declared.product.Product.TheVariants.{Picture, Look, Rects}
+use Rattle.strip122_c.proofs.ProductRuns.{Anything, Ran, ran, took_nothing, took_many, took_long}
+use Rattle.strip122_c.proofs.FirstHeads.{known_first, tells_more}
+use Rattle.strip122_c.proofs.ReadOut.{ReadsAll, reads_all, reads_bad}
 use Rattle.strip122_c.proofs.Written.{begun_same, written_few}
+
+-- ---- the end
+
+pub ended_to_end : (cap : ℕ) (took packets rest : List ℕ) (new : Outside) → new.rest ≡ Some rest → packets ≡ took ++ rest → length took ≤ cap → IsReadOut cap new took → IsReadToEnd cap packets
+ended_to_end cap took packets rest new told are within (inl bad) = record { took = took; rest = rest; are = are; within = within; out = inl bad }
+ended_to_end cap took packets rest new told are within (inr ended) =
+    let none : IsUsedUp (Some rest) = subst IsUsedUp told ended.0 in
+    record { took = took; rest = rest; are = are; within = within; out = inr (none, ended.1 rest told) }
+
+pub read_to_end : {g w : List ℕ} {Q : ℕ → ℕ → Type 0} (cap : ℕ) (took packets : List ℕ) (old new : Outside) → Exchange old new took g w Q → old.rest ≡ Some packets → length took ≤ cap → IsReadOut cap new took → IsReadToEnd cap packets
+read_to_end cap took packets old new since told within out =
+    let left = left_after old.rest new.rest took packets since.rest told in
+    ended_to_end cap took packets left.rest new left.told left.are within out
+
+-- so their packets are those of the octets that are read
+pub end_whole : {cap : ℕ} {packets : List ℕ} → (r : IsReadToEnd cap packets) → whole_packets r.took ≡ whole_packets packets
+end_whole {packets = packets} r = elim r.out [
+  | inl bad ↦ (reads_bad r.took r.rest bad).whole ∙ ap whole_packets (sym r.are)
+  | inr all ↦ ap whole_packets (sym (r.are ∙ ap (λ more. r.took ++ more) all.0 ∙ append-nil r.took))
+]
+
+pub ended_whole : (cap : ℕ) (took packets rest : List ℕ) (new : Outside) → new.rest ≡ Some rest → packets ≡ took ++ rest → IsReadOut cap new took → whole_packets took ≡ whole_packets packets
+ended_whole cap took packets rest new told are (inl bad) = (reads_bad took rest bad).whole ∙ ap whole_packets (sym are)
+ended_whole cap took packets rest new told are (inr ended) =
+    let none : IsUsedUp (Some rest) = subst IsUsedUp told ended.0 in
+    ap whole_packets (sym (are ∙ ap (λ more. took ++ more) none ∙ append-nil took))
 
 -- ---- what a run gives
 
-tells_same : (apid : ℕ) (took packets : List ℕ) → ReadsAll took packets → geometry_in apid took ≡ geometry_in apid packets
-tells_same apid took packets same = ap (λ all. (after_all apid fresh all).geometry) same.whole
+geometry_same : (apid : ℕ) (took packets : List ℕ) → ReadsAll took packets → geometry_in apid took ≡ geometry_in apid packets
+geometry_same apid took packets same = ap (λ all. (after_all apid fresh all).geometry) same.whole
 
-pub is_shown : (wish : DecodeWish) (packets given : List ℕ) (old new : Outside) (done : DecodeDone) → old.rest ≡ Some packets → old.given ≡ Some [] → new.given ≡ Some given →
-    RunsDecoder wish old new (Ok done) → IsShown wish.book wish.apid packets given done
-is_shown wish packets given old new done rest none gives run =
-    let is = run.answer in
-    let same = reads_all wish.octets run.took packets old new run.since rest is.out in
-    let told = is.told packets rest in
-    let tells = sym (tells_same wish.apid run.took packets same) ∙ is.geometry in
-    let begun = begun_same wish.apid run.took packets done.geometry same is.geometry tells in
+pub is_made : (product : Product) (wish : DecodeWish) (packets given : List ℕ) (old new : Outside) (done : DecodeDone) → ReceivedIsTold → old.rest ≡ Some packets → old.given ≡ Some [] → new.given ≡ Some given →
+    RunsAs product wish old new (Ok done) → IsMade product wish packets given done
+is_made product wish packets given old new done laws rest none gives run =
+    let is = ran product wish old new done laws run in
+    let same = reads_all wish.octets is.took packets old new is.since rest is.out in
+    let made = is.made packets rest in
+    let tells = sym (geometry_same wish.apid is.took packets same) ∙ is.geometry in
+    let begun = begun_same wish.apid is.took packets done.geometry same is.geometry tells in
     let written = is.written ∙ ap (height done.geometry) begun in
     record {
       tells = record { geometry = tells; range = is.range };
+      few = subst (HasFew wish.pixels wish.apid) same.whole is.few;
+      to_end = read_to_end wish.octets is.took packets old new is.since rest is.within is.out;
       framing_is = is.framing_is ∙ same.framing_is;
       written = written;
       most = subst (λ n. n ≤ rows_range.most) (sym written) (written_few wish.apid packets done.geometry is.range tells);
       rows = is.rows;
-      received = told.0;
-      received_are = subst (λ all. AreReceived (holds_after wish.book) (kept wish.apid fresh all) told.0) same.whole told.1;
-      picture_is = given_told [] given run.since none gives ∙ told.2 ∙ ap (picture_octets done.geometry told.0) begun;
-      damage = subst (λ n. IsDamageOf done.geometry told.0 n done.damage) begun told.3;
+      received = made.0;
+      received_are = subst (λ all. AreReceived (holds_after wish.book) (kept wish.apid fresh all) made.0) same.whole made.1;
+      octets_are = given_told [] given is.since none gives ∙ made.2 ∙ ap (octets_of product done.geometry made.0) begun;
+      damage = subst (λ n. IsDamageOf done.geometry made.0 n done.damage) begun made.3;
     }
 
-pub picture_size : (book : Book) (apid : ℕ) (packets picture : List ℕ) (done : DecodeDone) → IsShown book apid packets picture done → length picture ≡ picture_length done.geometry done.written
-picture_size book apid packets given done shown =
-    let g = done.geometry in
-    let n = begun_in apid packets in
-    ap length shown.picture_is ∙ length-raster_octets g.depth (height g n) g.width (picture g shown.received n) ∙ ap (picture_length g) (sym shown.written)
+-- they don't fit the room
+pub small_room : (product : Product) (wish : DecodeWish) (packets given : List ℕ) (room : ℕ) (done : DecodeDone) → IsMade product wish packets given done → room < length given → HasSmallRoom product wish packets room done.geometry done.written (length given)
+small_room product wish packets given room done made small = record {
+  took = made.to_end.took;
+  rest = made.to_end.rest;
+  are = made.to_end.are;
+  within = made.to_end.within;
+  few = subst (HasFew wish.pixels wish.apid) (sym (end_whole made.to_end)) made.few;
+  known = inr record { to_end = made.to_end; few = made.few };
+  tells = made.tells;
+  written = made.written;
+  most = made.most;
+  received = made.received;
+  received_are = made.received_are;
+  octets_are = ap length made.octets_are;
+  small = small;
+}
 
--- the size of the picture, which may not fit the room
-pub record HasSize (apid : ℕ) (packets : List ℕ) (done : DecodeDone) : Type 0 where
-  pub tells : HasGeometry apid packets done.geometry
-  pub written : done.written ≡ height done.geometry (begun_in apid packets)
-  pub most : done.written ≤ rows_range.most
+-- ---- refusals
 
-pub has_size : (wish : DecodeWish) (packets : List ℕ) (old new : Outside) (done : DecodeDone) → old.rest ≡ Some packets → RunsDecoder wish old new (Ok done) → HasSize wish.apid packets done
-has_size wish packets old new done rest run =
-    let is = run.answer in
-    let same = reads_all wish.octets run.took packets old new run.since rest is.out in
-    let tells = sym (tells_same wish.apid run.took packets same) ∙ is.geometry in
-    let written = is.written ∙ ap (height done.geometry) (begun_same wish.apid run.took packets done.geometry same is.geometry tells) in
-    record {
-      tells = record { geometry = tells; range = is.range };
-      written = written;
-      most = subst (λ n. n ≤ rows_range.most) (sym written) (written_few wish.apid packets done.geometry is.range tells);
-    }
-
-no_segment : (wish : DecodeWish) (packets : List ℕ) (old new : Outside) → old.rest ≡ Some packets → RunsDecoder wish old new (Err faults.NoSegment) → geometry_in wish.apid packets ≡ None
-no_segment wish packets old new rest run =
-    let answer = run.answer in
-    sym (tells_same wish.apid run.took packets (reads_all wish.octets run.took packets old new run.since rest answer.1)) ∙ answer.0
-
-pub refused : (wish : DecodeWish) (packets room : List ℕ) (old new : Outside) (refusal : DecodeRefusal) → old.rest ≡ Some packets → HasRun wish packets old new (Err refusal) → Decodes wish packets room room (Err refusal)
-refused wish packets room old new NoSegment rest run = (refl, no_segment wish packets old new rest run)
-refused wish packets room old new (SmallRoom g rows) rest run = absurd run
-refused wish packets room old new (TooManyPixels pixels) rest run =
-    let left = left_after old.rest new.rest run.took packets run.since.rest rest in (
+pub refused : (product : Product) (wish : DecodeWish) (packets room : List ℕ) (old new : Outside) (refusal : DecodeRefusal) → FitsRoom product wish packets (length room) → old.rest ≡ Some packets → HasRun product wish old new (Err refusal) → Makes product wish packets room room (Err refusal)
+refused product wish packets room old new NoSegment fits rest run =
+    let is = took_nothing product wish old new run in
+    let same = reads_all wish.octets is.all.took packets old new is.all.since rest is.out in (
       refl,
-      record { took = run.took; rest = left.rest; are = left.are; many = run.answer.0.many },
-    )
-refused wish packets room old new LongInput rest run =
-    let left = left_after old.rest new.rest run.took packets run.since.rest rest in (
-      refl,
-      record { took = run.took; rest = left.rest; are = left.are; long = run.answer.0; readable = run.answer.1; few = run.answer.2 },
-    )
-refused wish packets room old new Memory rest run = (refl, tt)
-
--- ---- the round trip
-
-some_geometry : {x y : Geometry} → Some x ≡ Some y → x ≡ y
-some_geometry e = cc
-
-module _ (trip : RoundTrip) (told : ReceivedIsTold) (known : KnownHeights) (s : Setting) (rows : ℕ) (x : ℕ → ℕ → ℤ) (image : IsImageFor s rows x) where
-  abbrev whole_image : Geometry
-  whole_image = image_geometry s rows
-
-  -- all packets of an image report its geometry
-  tells_image : geometry_in s.apid (output s rows x) ≡ Some whole_image
-  tells_image =
-      let some = told.some s.book image.sound s.apid (output s rows x) in
-      (trip.whole s rows x some.0 image some.1).geometry
-
-  of_image : (apid : ℕ) (packets : List ℕ) → apid ≡ s.apid → packets ≡ output s rows x → geometry_in apid packets ≡ Some whole_image
-  of_image apid packets mine are = ap (λ n. geometry_in n packets) mine ∙ ap (geometry_in s.apid) are ∙ tells_image
-
-  -- which has a height
-  some_rows : (g : Geometry) → g ≡ whole_image → g.rows ≢ 0
-  some_rows g e none = let same = ap (λ (g : Geometry). g.rows) e in let least = image.height.0.0 in omega (arith, none, same, least)
-
-  -- so all of its rows are given
-  rows_are : (g : Geometry) (n written : ℕ) → g ≡ whole_image → written ≡ height g n → written ≡ rows
-  rows_are g n written e is = is ∙ height_known g n (some_rows g e) ∙ ap (λ (g : Geometry). g.rows) e
-
-  brings_image : (wish : DecodeWish) (packets old new : List ℕ) (result : Result DecodeDone DecodeRefusal) → Decodes wish packets old new result → wish.apid ≡ s.apid → wish.book ≡ s.book → packets ≡ output s rows x → BringsImage wish s rows x new result
-  brings_image wish packets old new (Ok done) has mine own are =
-      let shown = has.shown in
-      let got : ReceivedIn (holds_after s.book) s.apid (output s rows x) shown.received =
-      subst (λ octets. ReceivedIn (holds_after s.book) s.apid octets shown.received) are
-      (subst (λ n. ReceivedIn (holds_after s.book) n packets shown.received) mine (subst (λ b. ReceivedIn (holds_after b) wish.apid packets shown.received) own shown.received_are)) in
-      let whole = trip.whole s rows x shown.received image got in
-      let geometry : done.geometry ≡ whole_image = some_geometry (sym shown.tells.geometry ∙ of_image wish.apid packets mine are) in
-      let some = some_rows done.geometry geometry in
-      let n = begun_in wish.apid packets in
-      let front : take (picture_length done.geometry done.written) new ≡ has.picture =
-      ap (λ n. take n new) (sym has.octets) ∙ ap (take (length has.picture)) has.room ∙ take-append_seam has.picture (drop (length has.picture) old) in
       record {
-        geometry = geometry;
-        written = rows_are done.geometry n done.written geometry shown.written;
-        missing = shown.damage.missing some ∙ ap (λ g. whole_missing g shown.received) geometry ∙ whole.missing;
-        framing_is = shown.framing_is ∙ ap framing are ∙ whole.framing_is;
-        same = λ all. front ∙ shown.picture_is ∙ known.octets done.geometry shown.received n some ∙ ap (λ g. whole_octets g shown.received) geometry ∙ (trip.same s rows x shown.received image all got).octets;
-      }
-  brings_image wish packets old new (Err NoSegment) refused mine own are =
-      absurd (let both : None ≡ Some whole_image = sym refused.1 ∙ of_image wish.apid packets mine are in cc)
-  brings_image wish packets old new (Err (SmallRoom g needed)) refused mine own are =
-      let small = refused.1 in
-      let geometry : g ≡ whole_image = some_geometry (sym small.tells.geometry ∙ of_image wish.apid packets mine are) in
-      (geometry, rows_are g (begun_in wish.apid packets) needed geometry small.written)
-  brings_image wish packets old new (Err (TooManyPixels pixels)) refused mine own are = refused.1.many.many
-  brings_image wish packets old new (Err LongInput) refused mine own are =
-      let long = refused.1 in
-      let lengths = ap length (sym are ∙ long.are) in omega (arith, lengths, length-append long.took long.rest, long.long)
-  brings_image wish packets old new (Err Memory) refused mine own are = tt
+        none = sym (geometry_same wish.apid is.all.took packets same) ∙ is.none;
+        to_end = read_to_end wish.octets is.all.took packets old new is.all.since rest is.all.within is.out;
+      },
+    )
+refused product wish packets room old new (SmallRoom g rows octets) fits rest run = absurd run
+refused product wish packets room old new (TooManyPixels pixels) fits rest run =
+    let is = took_many product wish old new pixels run in
+    let left = left_after old.rest new.rest is.all.took packets is.all.since.rest rest in (
+      refl,
+      record { took = is.all.took; rest = left.rest; are = left.are; within = is.all.within; many = is.many },
+    )
+refused product wish packets room old new LongInput fits rest run =
+    let is = took_long product wish old new run in
+    let left = left_after old.rest new.rest is.all.took packets is.all.since.rest rest in (
+      refl,
+      record {
+        took = is.all.took;
+        rest = left.rest;
+        are = left.are;
+        long = is.long;
+        readable = is.readable;
+        few = is.few;
+        fits = λ g raster tells. fits g raster (subst (λ octets. TellsFirst wish.apid octets g) (sym left.are) (tells_more wish.apid is.all.took left.rest g tells));
+      },
+    )
+refused product wish packets room old new Memory fits rest run = (refl, tt)
 
-pub brings_back : (wish : DecodeWish) (packets old new : List ℕ) (result : Result DecodeDone DecodeRefusal) → RoundTrip → ReceivedIsTold → KnownHeights → Decodes wish packets old new result → BringsBack wish packets new result
-brings_back wish packets old new result trip told known decodes s rows x mine own are image =
-    brings_image trip told known s rows x image wish packets old new result decodes mine own are
+-- ---- the size of a raster
+
+pub raster_octets : (product : Product) (g : Geometry) (received : Numbers) (n : ℕ) → product ≢ Rects → length (octets_of product g received n) ≡ raster_length product g n
+raster_octets Picture g received n raster = length-raster_octets g.depth (height g n) g.width (picture g received n)
+raster_octets Look g received n raster = length-raster_octets g.depth _ _ (look g received)
+raster_octets Rects g received n raster = absurd (raster refl)
+
+-- it doesn't depend on what the headers reach if the height is known
+pub known_length : (product : Product) (g : Geometry) (m n : ℕ) → g.rows ≢ 0 → raster_length product g m ≡ raster_length product g n
+known_length Picture g m n known = rw (is_not_open g.rows known) refl
+known_length Look g m n known = rw (is_not_open g.rows known) refl
+known_length Rects g m n known = refl
+
+-- what the headers report is that of the packets
+begun_length : (product : Product) (wish : DecodeWish) (packets : List ℕ) (m : Measured) → HasSize wish packets m → raster_length product m.geometry (m.ended / block_count m.geometry.width) ≡ raster_length product m.geometry (begun_in wish.apid packets)
+begun_length product wish packets m has = elim has.tells.range.rows [
+  | inl untold ↦ ap (raster_length product m.geometry) (has.begun untold)
+  | inr within ↦
+      let known : m.geometry.rows ≢ 0 = λ none. (let least = within.0 in omega (arith, none, least)) in
+      known_length product m.geometry (m.ended / block_count m.geometry.width) (begun_in wish.apid packets) known
+]
+
+begun_height : (wish : DecodeWish) (packets : List ℕ) (m : Measured) → HasSize wish packets m → height m.geometry (m.ended / block_count m.geometry.width) ≡ height m.geometry (begun_in wish.apid packets)
+begun_height wish packets m has = elim has.tells.range.rows [
+  | inl untold ↦ ap (height m.geometry) (has.begun untold)
+  | inr within ↦
+      let known : m.geometry.rows ≢ 0 = λ none. (let least = within.0 in omega (arith, none, least)) in
+      height_known m.geometry (m.ended / block_count m.geometry.width) known ∙ sym (height_known m.geometry (begun_in wish.apid packets) known)
+]
+
+-- ---- before a raster is made
+
+-- it doesn't fit
+pub small_raster : (product : Product) (wish : DecodeWish) (packets : List ℕ) (room rows octets : ℕ) (m : Measured) → ReceivedIsTold → IsTrue (is_book_sound wish.book) → product ≢ Rects → HasSize wish packets m →
+    rows ≡ height m.geometry (m.ended / block_count m.geometry.width) → octets ≡ raster_length product m.geometry (m.ended / block_count m.geometry.width) → room < octets → HasSmallRoom product wish packets room m.geometry rows octets
+small_raster product wish packets room rows octets m laws sound raster has rows_are octets_are small =
+    let some = laws.some wish.book sound wish.apid packets in
+    let n = begun_in wish.apid packets in
+    let written = rows_are ∙ begun_height wish packets m has in
+    record {
+      took = has.took;
+      rest = has.rest;
+      are = has.are;
+      within = has.within;
+      few = has.few;
+      known = elim has.known [ inl first ↦ inl (raster, first) | inr all ↦ inr all ];
+      tells = has.tells;
+      written = written;
+      most = subst (λ n. n ≤ rows_range.most) (sym written) (written_few wish.apid packets m.geometry has.tells.range has.tells.geometry);
+      received = some.0;
+      received_are = some.1;
+      octets_are = octets_are ∙ begun_length product wish packets m has ∙ sym (raster_octets product m.geometry some.0 n raster);
+      small = small;
+    }
+
+-- it fits
+pub fitting_raster : (product : Product) (wish : DecodeWish) (packets : List ℕ) (room octets : ℕ) (m : Measured) → HasSize wish packets m → octets ≡ raster_length product m.geometry (m.ended / block_count m.geometry.width) → octets ≤ room → FitsRoom product wish packets room
+fitting_raster product wish packets room octets m has octets_are fits g raster tells =
+    let same : m.geometry ≡ g = (let both : Some m.geometry ≡ Some g = sym has.tells.geometry ∙ known_first wish.apid packets g tells in cc) in
+    let n = m.ended / block_count m.geometry.width in
+    subst (λ n. n ≤ room) (octets_are ∙ ap (λ g. raster_length product g n) same ∙ known_length product g n 0 tells.1) fits
+
+-- it is refused by its headers
+pub refused_raster : (product : Product) (wish : DecodeWish) (packets : List ℕ) (room : ℕ) (refusal : DecodeRefusal) → IsMeasured wish packets (Err refusal) → IsRefused product wish packets room refusal
+refused_raster product wish packets room NoSegment is = is
+refused_raster product wish packets room (SmallRoom g rows octets) is = absurd is
+refused_raster product wish packets room (TooManyPixels pixels) is = is
+refused_raster product wish packets room LongInput is = record { took = is.took; rest = is.rest; are = is.are; long = is.long; readable = is.readable; few = is.few; fits = λ g raster tells. absurd (is.open_first g tells) }
+refused_raster product wish packets room Memory is = tt
+
+-- the lines of rectangles are no raster
+pub fitting_rects : (product : Product) (wish : DecodeWish) (packets : List ℕ) (room : ℕ) → product ≡ Rects → FitsRoom product wish packets room
+fitting_rects product wish packets room is g raster tells = absurd (raster is)

@@ -13,7 +13,7 @@ use Rattle.packet_assembly.proofs.Images.{end_few}
 use Rattle.segment_walk.proofs.Endings.{height_known}
 use Rattle.strip122_c.proofs.ReadOut.{ReadsAll}
 
-begun_is : (apid : ℕ) (octets : List ℕ) (g : Geometry) → geometry_in apid octets ≡ Some g → begun_in apid octets ≡ begun g (kept_in apid octets)
+pub begun_is : (apid : ℕ) (octets : List ℕ) (g : Geometry) → geometry_in apid octets ≡ Some g → begun_in apid octets ≡ begun g (kept_in apid octets)
 begun_is apid octets g is = rw is refl
 
 -- octets that were read to the end reach as far as all

@@ -3,7 +3,7 @@ use Rattle.std.specs.Prelude.{List, [], ◌++◌, length, map, take, drop, Resul
 use Rattle.stream_defs.specs.declared.range.RowRange.{RowRange}
 use Rattle.stream_defs.specs.Damage.{ranges}
 use Rattle.stream_defs.specs.Marks.{Marks}
-use Rattle.segment_walk.specs.declared.ending.DecodeDone.{DecodeDone}
+use Rattle.strip122_c.specs.declared.decode.Made.{Made}
 use Rattle.strip122_c.specs.declared.decode.DecodeRefusal.{DecodeRefusal}
 use Rattle.strip122_c.specs.declared.ranges.Strip122Range.{Strip122Range}
 
@@ -14,9 +14,9 @@ range_of range = record { first = range.first; last = range.last }
 abbrev pub ranges_in : Marks → List Strip122Range
 ranges_in m = map range_of (ranges m.rows m.missing)
 
--- those of a picture that was decoded, and none if there is no picture
-abbrev pub ranges_of : Result DecodeDone DecodeRefusal → List Strip122Range
-ranges_of (Ok done) = ranges_in done.damage
+-- those of a picture that was read, and none if there is no picture
+abbrev pub ranges_of : Result Made DecodeRefusal → List Strip122Range
+ranges_of (Ok made) = ranges_in made.done.damage
 ranges_of (Err refusal) = []
 
 -- these in the first of some places, as far as there are places

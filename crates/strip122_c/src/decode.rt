@@ -1,135 +1,171 @@
-// Decodes packets to whole pictures.
-ghost use Rattle.std.specs.Prelude.{◌≡◌, IfErr, IsTrue, Some};
+// Makes a picture, a look or the lines of rectangles of packets.
+ghost use Rattle.std.specs.Prelude.{◌≡◌, ◌≢◌, IsTrue, MatchResult};
 ghost use Rattle.plane_defs.specs.Codes.{is_book_sound};
 ghost use Rattle.strip122_c.specs.Lent.{outside_of};
-ghost use Rattle.strip122_c.specs.WholeDecoding.{HasRun, IsRefused, Decodes, BringsBack};
+ghost use Rattle.strip122_c.specs.declared.product.Product.TheVariants.{Picture, Look, Rects};
+ghost use Rattle.strip122_c.specs.Runs.{HasRun, RunsAs};
+ghost use Rattle.strip122_c.specs.WholeDecoding.{FitsRoom, IsRefused, Makes, BringsBack};
 
-use crate::geometry::{find_geometry, picture_length};
+use crate::measure::{measure, raster_length, rows_of};
 use crate::port::LentPort;
+use crate::product::Product;
 use base_122::{DecodeWish, Geometry};
+use damage_rects::list_rects;
+use quick_look::look_packets;
 use segment_walk::received_is_told;
 use std::alloc::Global;
 use stream_defs::heights_are_known;
 use strip_decoder::{DecodeDone, DecodeFault, decode_packets, round_trip};
 
-/// The reason why no picture of packets is given.
+/// What was read, and the number of octets of what was made of it.
+#[derive(Drop)]
+pub struct Made {
+    pub done: DecodeDone,
+    pub octets: u64,
+}
+
+/// The reason why nothing is made of packets.
 #[derive(Clone, Copy, Debug, PartialEq, Eq)]
 pub enum DecodeRefusal {
     /// No packet that is kept begins a segment.
     NoSegment,
-    /// The room has fewer octets than the picture, which has this geometry and this number of rows.
-    SmallRoom { geometry: Geometry, rows: u32 },
+    /// The room has fewer octets than what is made, which has this number. The picture has this geometry and this number of rows.
+    SmallRoom {
+        geometry: Geometry,
+        rows: u32,
+        octets: u64,
+    },
     /// A header reports this number of pixels, and the wish allows fewer.
-    TooManyPixels { pixels: u64 },
+    TooManyPixels {
+        pixels: u64,
+    },
     /// The packets have the number of octets at which reading ends.
     LongInput,
     /// There is no memory.
     Memory,
 }
 
-/// Decodes the packets of the wish's APID, and puts their picture at the start of the room; the rest of the room is unchanged, and so is all of it
-/// after a refusal. If the first packet that is kept reports a picture that doesn't fit the room, and no more pixels than the wish allows,
-/// `SmallRoom` is given. Otherwise the causes of the results exclude each other, so each result except `Memory` is given exactly if its cause
-/// holds. If the room is too small, the packets are read no further than to the first one that is kept, or to their end if their height is reported
-/// last. If it isn't reported at all, the picture has the rows that the block rows determine which the packets reach (docs/formats.md,
-/// "Picture and damage").
+/// Reads the packets of the wish's APID, and puts what is made of them at the start of the room; the rest of the room is unchanged, and so is
+/// all of it after a refusal. The causes of the results exclude each other, so each result except `Memory` is given exactly if its cause holds
+/// (docs/c.md, "Calls"). The size of a picture or a look is known from the headers: from the first packet that is kept if it reports the
+/// height, otherwise from all of them. So no text is decoded for a room that is too small. If no header reports the height, the picture has
+/// the rows that the block rows determine which the packets reach (docs/formats.md, "Picture and damage").
 ///
 /// Segments are read with the wish's code book, which must be sound. The packets do not carry it: with another book than the encoder's, segments
 /// are refused or give another picture.
-pub fn decode_whole(
+pub fn make_whole(
     alloc: Global,
+    product: Product,
     wish: &DecodeWish,
     packets: &[u8],
     room: &mut [u8],
-) -> Result<DecodeDone, DecodeRefusal>
+) -> Result<Made, DecodeRefusal>
     requires book { IsTrue (is_book_sound wish.now.book) }
-    ensures decodes { Decodes wish.now packets.now room.old room.new result }
-    ensures back { BringsBack wish.now packets.now room.new result }
+    ensures makes { Makes product wish.now packets.now room.old room.new result }
+    ensures back { product ≡ Picture → BringsBack wish.now packets.now room.new result }
 {
     round_trip();
     received_is_told();
     heights_are_known();
-    put_picture(alloc, wish, packets, room)
+    put_product(alloc, product, wish, packets, room)
 }
 
-// Decodes packets, and puts their picture at the start of the room.
-fn put_picture(
+// Reads packets, and puts what is made of them at the start of the room.
+fn put_product(
     alloc: Global,
+    product: Product,
     wish: &DecodeWish,
     packets: &[u8],
     room: &mut [u8],
-) -> Result<DecodeDone, DecodeRefusal>
+) -> Result<Made, DecodeRefusal>
     requires book { IsTrue (is_book_sound wish.now.book) }
-    ensures { Decodes wish.now packets.now room.old room.new result }
+    ensures { Makes product wish.now packets.now room.old room.new result }
 {
-    let kept = match octets_kept(alloc, wish, packets, room.len()) {
+    received_is_told();
+    let kept = match octets_kept(alloc, product, wish, packets, room.len()) {
         Ok(kept) => kept,
         Err(refusal) => return Err(refusal),
     };
     let Ok(mut port) = LentPort::new(alloc, packets, kept) else {
         return Err(DecodeRefusal::Memory);
     };
-    let done = match decode(alloc, wish, packets, &mut port) {
+    let done = match run(alloc, product, wish, &mut port) {
         Ok(done) => done,
         Err(refusal) => return Err(refusal),
     };
-    let length = picture_length(&done.geometry, done.written);
-    if length > room.len() {
+    // No clause of a port states that it keeps what fits, so this is tested.
+    let Some(given) = port.given() else {
+        return Err(DecodeRefusal::Memory);
+    };
+    let octets = given.len() as u64;
+    if given.len() > room.len() {
         return Err(DecodeRefusal::SmallRoom {
             geometry: done.geometry,
             rows: done.written,
+            octets,
         });
     }
-    // The picture fits, so it was kept. No clause of a port states that it keeps what fits, so this is tested.
-    let Some(picture) = port.given() else {
-        return Err(DecodeRefusal::Memory);
-    };
-    room[..length].copy_from_slice(picture);
-    Ok(done)
+    room[..given.len()].copy_from_slice(given);
+    Ok(Made { done, octets })
 }
 
-// Returns the octets of the picture for which memory is needed in addition to the room: all, or the number of octets in the room if the
-// first packet that is kept reports no height, or none if it reports too many pixels. Refuses a picture whose first packet reports that it
-// doesn't fit.
+// Returns the number of octets for which memory is needed in addition to the room, or none if it is not known before. Refuses a picture or a
+// look that doesn't fit the room.
 fn octets_kept(
     alloc: Global,
+    product: Product,
     wish: &DecodeWish,
     packets: &[u8],
     room: usize,
-) -> Result<usize, DecodeRefusal>
-    ensures { IfErr result (IsRefused wish.now packets.now room) }
+) -> Result<Option<usize>, DecodeRefusal>
+    requires book { IsTrue (is_book_sound wish.now.book) }
+    ensures { MatchResult result (λ _. FitsRoom product wish.now packets.now room) (IsRefused product wish.now packets.now room) }
 {
-    let geometry = match find_geometry(alloc, wish.apid, packets) {
-        Ok(Some(geometry)) => geometry,
-        Ok(None) => return Ok(0),
-        Err(_) => return Err(DecodeRefusal::Memory),
-    };
-    let rows = geometry.rows;
-    if rows == 0 {
-        return Ok(room);
+    match product {
+        Product::Rects => Ok(None),
+        Product::Picture | Product::Look => raster_kept(alloc, product, wish, packets, room),
     }
-    if u64::from(geometry.width) * u64::from(rows) > wish.pixels {
-        return Ok(0);
-    }
-    let length = picture_length(&geometry, rows);
-    if length > room {
-        return Err(DecodeRefusal::SmallRoom { geometry, rows });
-    }
-    Ok(length)
 }
 
-// Decodes the packets that a port has.
-fn decode(
+// The same for a raster.
+fn raster_kept(
     alloc: Global,
+    product: Product,
     wish: &DecodeWish,
     packets: &[u8],
+    room: usize,
+) -> Result<Option<usize>, DecodeRefusal>
+    requires raster { product ≢ Rects }
+    requires book { IsTrue (is_book_sound wish.now.book) }
+    ensures { MatchResult result (λ _. FitsRoom product wish.now packets.now room) (IsRefused product wish.now packets.now room) }
+{
+    received_is_told();
+    let measured = match measure(alloc, wish, packets) {
+        Ok(measured) => measured,
+        Err(refusal) => return Err(refusal),
+    };
+    let length = raster_length(product, &measured);
+    if length > room {
+        return Err(DecodeRefusal::SmallRoom {
+            geometry: measured.geometry,
+            rows: rows_of(&measured),
+            octets: length as u64,
+        });
+    }
+    Ok(Some(length))
+}
+
+// Reads the packets that a port has.
+fn run(
+    alloc: Global,
+    product: Product,
+    wish: &DecodeWish,
     port: &mut LentPort,
 ) -> Result<DecodeDone, DecodeRefusal>
     requires book { IsTrue (is_book_sound wish.now.book) }
-    requires input { (outside_of port.old).rest ≡ Some packets.now }
-    ensures { HasRun wish.now packets.now (outside_of port.old) (outside_of port.new) result }
+    ensures { HasRun product wish.now (outside_of port.old) (outside_of port.new) result }
 {
-    match decode_packets(alloc, port, wish) {
+    match walk(alloc, product, wish, port) {
         Ok(done) => Ok(done),
         Err(DecodeFault::NoSegment) => Err(DecodeRefusal::NoSegment),
         Err(DecodeFault::Memory) => Err(DecodeRefusal::Memory),
@@ -138,4 +174,46 @@ fn decode(
         Err(DecodeFault::ReadFault) => unreachable!(),
         Err(DecodeFault::WriteFault) => unreachable!(),
     }
+}
+
+// Reads the packets that a port has by the call that makes the product.
+fn walk(
+    alloc: Global,
+    product: Product,
+    wish: &DecodeWish,
+    port: &mut LentPort,
+) -> Result<DecodeDone, DecodeFault>
+    requires book { IsTrue (is_book_sound wish.now.book) }
+    ensures { RunsAs product wish.now (outside_of port.old) (outside_of port.new) result }
+{
+    match product {
+        Product::Picture => decode(alloc, wish, port),
+        Product::Look => look(alloc, wish, port),
+        Product::Rects => rects(alloc, wish, port),
+    }
+}
+
+// Each of these has a stack frame of its own, since one frame would have the sum of what the three need.
+#[inline(never)]
+fn decode(alloc: Global, wish: &DecodeWish, port: &mut LentPort) -> Result<DecodeDone, DecodeFault>
+    requires book { IsTrue (is_book_sound wish.now.book) }
+    ensures { RunsAs Picture wish.now (outside_of port.old) (outside_of port.new) result }
+{
+    decode_packets(alloc, port, wish)
+}
+
+#[inline(never)]
+fn look(alloc: Global, wish: &DecodeWish, port: &mut LentPort) -> Result<DecodeDone, DecodeFault>
+    requires book { IsTrue (is_book_sound wish.now.book) }
+    ensures { RunsAs Look wish.now (outside_of port.old) (outside_of port.new) result }
+{
+    look_packets(alloc, port, wish)
+}
+
+#[inline(never)]
+fn rects(alloc: Global, wish: &DecodeWish, port: &mut LentPort) -> Result<DecodeDone, DecodeFault>
+    requires book { IsTrue (is_book_sound wish.now.book) }
+    ensures { RunsAs Rects wish.now (outside_of port.old) (outside_of port.new) result }
+{
+    list_rects(alloc, port, wish)
 }

@@ -1,13 +1,10 @@
-// The report on a picture.
-ghost use Rattle.std.specs.Prelude.{◌≡◌, ◌≤◌};
-ghost use Rattle.base_122.specs.Ranges.{IsGeometryInRange, rows_range};
-ghost use Rattle.strip122_c.specs.Decoding.{geometry_report, framing_report, report_with, answer_with, HasSizeInRange};
+// The report on what is made of packets.
+ghost use Rattle.std.specs.Prelude.{◌≡◌};
+ghost use Rattle.strip122_c.specs.Decoding.{geometry_report, framing_report, report_with, answer_with};
 
-use crate::decode::DecodeRefusal;
-use crate::geometry::picture_length;
+use crate::decode::{DecodeRefusal, Made};
 use base_122::Geometry;
 use packet_defs::Framing;
-use strip_decoder::DecodeDone;
 
 /// What was found, or what room is needed. A field that the answer does not need is 0.
 #[repr(C)]
@@ -16,7 +13,7 @@ pub struct Strip122Decoded {
     /// The size of this structure.
     pub size: u32,
     pub width: u32,
-    /// The number of octets of the picture, which the room needs.
+    /// The number of octets that are made, which the room needs.
     pub octets: u64,
     /// The number of ranges of damaged rows, including those for which there was no place.
     pub ranges: u64,
@@ -62,14 +59,19 @@ pub(crate) const NOTHING: Strip122Decoded = Strip122Decoded {
     weights: [0; 10],
 };
 
-/// Returns the report on a decoding that ended so, with this number of ranges of damaged rows.
-pub fn report_of(ended: &Result<DecodeDone, DecodeRefusal>, ranges: u64) -> Strip122Decoded
-    requires { HasSizeInRange ended.now }
+/// Returns the report on a reading that ended so, with this number of ranges of damaged rows.
+pub(crate) fn report_of(ended: &Result<Made, DecodeRefusal>, ranges: u64) -> Strip122Decoded
     ensures { result ≡ report_with ended.now ranges }
 {
     match ended {
-        Ok(done) => picture_report(done, ranges),
-        Err(DecodeRefusal::SmallRoom { geometry, rows }) => geometry_report(geometry, *rows),
+        Ok(made) => made_report(made, ranges),
+        Err(
+            DecodeRefusal::SmallRoom {
+                geometry,
+                rows,
+                octets,
+            },
+        ) => geometry_report(geometry, *rows, *octets),
         Err(DecodeRefusal::TooManyPixels { pixels }) => Strip122Decoded {
             pixels: *pixels,
             ..NOTHING
@@ -78,13 +80,12 @@ pub fn report_of(ended: &Result<DecodeDone, DecodeRefusal>, ranges: u64) -> Stri
     }
 }
 
-// Returns the report on a picture.
-fn picture_report(done: &DecodeDone, ranges: u64) -> Strip122Decoded
-    requires range { IsGeometryInRange done.now.geometry }
-    requires rows { done.now.written ≤ rows_range.most }
-    ensures { result ≡ record (framing_report (geometry_report done.now.geometry done.now.written) done.now.framing) { ranges = ranges } }
+// Returns the report on what was made.
+fn made_report(made: &Made, ranges: u64) -> Strip122Decoded
+    ensures { result ≡ record (framing_report (geometry_report made.now.done.geometry made.now.done.written made.now.octets) made.now.done.framing) { ranges = ranges } }
 {
-    let mut report = geometry_report(&done.geometry, done.written);
+    let done = &made.done;
+    let mut report = geometry_report(&done.geometry, done.written, made.octets);
     report.ranges = ranges;
     match done.framing {
         None => {}
@@ -100,16 +101,14 @@ fn picture_report(done: &DecodeDone, ranges: u64) -> Strip122Decoded
     report
 }
 
-// Returns the report on a geometry and a number of rows: its fields, and the octets of a picture of these rows.
-fn geometry_report(geometry: &Geometry, written: u32) -> Strip122Decoded
-    requires range { IsGeometryInRange geometry.now }
-    requires rows { written ≤ rows_range.most }
-    ensures { result ≡ geometry_report geometry.now written }
+// Returns the report on a geometry, a number of rows of its picture, and the octets that are made.
+fn geometry_report(geometry: &Geometry, written: u32, octets: u64) -> Strip122Decoded
+    ensures { result ≡ geometry_report geometry.now written octets }
 {
     Strip122Decoded {
         size: DECODED_SIZE,
         width: geometry.width,
-        octets: picture_length(geometry, written) as u64,
+        octets,
         ranges: 0,
         fault_octets: 0,
         pixels: 0,
@@ -125,12 +124,13 @@ fn geometry_report(geometry: &Geometry, written: u32) -> Strip122Decoded
     }
 }
 
-/// Returns the answer to a decoding that ended so, with this number of ranges of damaged rows.
-pub fn answer_of(ended: &Result<DecodeDone, DecodeRefusal>, ranges: u64) -> u32
+/// Returns the answer to a reading that ended so, with this number of ranges of damaged rows.
+pub(crate) fn answer_of(ended: &Result<Made, DecodeRefusal>, ranges: u64) -> u32
     ensures { result ≡ answer_with ended.now ranges }
 {
     match ended {
-        Ok(done) => {
+        Ok(made) => {
+            let done = &made.done;
             if ranges == 0 && done.framing.is_none() && done.geometry.rows != 0 {
                 0
             } else {

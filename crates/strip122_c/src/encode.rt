@@ -60,7 +60,7 @@ fn put_packets(
     if let Err(field) = admit(setting) {
         return Err(EncodeRefusal::OutOfRange(field));
     }
-    let Ok(mut port) = LentPort::new(alloc, raster, room.len()) else {
+    let Ok(mut port) = LentPort::new(alloc, raster, Some(room.len())) else {
         return Err(EncodeRefusal::Memory);
     };
     let done = match encode(alloc, setting, &mut port) {

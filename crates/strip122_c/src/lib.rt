@@ -7,10 +7,14 @@ mod decoded;
 mod encode;
 mod encoded;
 mod encoder;
-mod geometry;
+mod info;
 mod laws;
+mod listed;
+mod measure;
 mod port;
+mod product;
 mod ranges;
+mod reading;
 mod rooms;
 mod row_reports;
 mod setting;
@@ -27,19 +31,25 @@ ghost use Rattle.std.specs.Ptr.{lies_at, room_at};
 ghost use Rattle.encoder_rows.specs.Room.{row_room, end_room};
 ghost use Rattle.strip122_c.specs.Decoding.{DecodesInto};
 ghost use Rattle.strip122_c.specs.Encoding.{EncodesInto};
+ghost use Rattle.strip122_c.specs.Listing.{ListsInto};
 ghost use Rattle.strip122_c.specs.Kept.{kept};
 ghost use Rattle.strip122_c.specs.Rooms.{RoomIs, bound};
 ghost use Rattle.strip122_c.specs.RowCalls.{Closes, EndsInto, IsReady, MakesInto, TakesInto};
 ghost use Rattle.strip122_c.specs.Settings.{setting_in};
 ghost use Rattle.strip122_c.specs.contracts.encoder.Strip122Encoder.{the_row};
+ghost use Rattle.strip122_c.specs.declared.product.Product.TheVariants.{Picture, Look, Rects};
 ghost use Rattle.strip122_c.specs.declared.encoder.Strip122Encoder.{Strip122Encoder};
 
-use decode::decode_whole;
+use decode::make_whole;
 pub use decoded::Strip122Decoded;
 pub use encoded::Strip122Encoded;
 pub use encoder::Strip122Encoder;
-pub use laws::rasters_come_back;
+use info::list_into;
+pub use laws::{causes_exclude, rasters_come_back};
+pub use listed::Strip122Listed;
+use product::Product;
 pub use ranges::Strip122Range;
+use reading::{report_into, wish_for};
 pub use setting::Strip122Setting;
 use std::alloc::Global;
 use whole::encode_into;
@@ -170,20 +180,69 @@ pub extern "C" fn strip122_decode(
     ranges: &mut [Strip122Range],
     decoded: &mut Strip122Decoded,
 ) -> u32
-    ensures { DecodesInto wish.now packets.now room.old room.new ranges.old ranges.new decoded.old decoded.new result }
+    ensures { DecodesInto Picture wish.now packets.now room.old room.new ranges.old ranges.new decoded.old decoded.new result }
 {
-    if decoded.size != decoded::DECODED_SIZE {
-        return encoder::WRONG_SIZE;
-    }
-    let wish = match wish::read_wish(wish) {
+    let wish = match wish_for(wish, decoded) {
         Ok(wish) => wish,
-        Err(refusal) => {
-            *decoded = decoded::NOTHING;
-            return setting::refusal_answer(refusal);
-        }
+        Err(answer) => return answer,
     };
-    let ended = decode_whole(alloc, &wish, packets, room);
-    let count = ranges::put_damage(&ended, ranges);
-    *decoded = decoded::report_of(&ended, count);
-    decoded::answer_of(&ended, count)
+    let ended = make_whole(alloc, Product::Picture, &wish, packets, room);
+    report_into(&ended, ranges, decoded)
+}
+
+/// Makes the look at the packets of the wish's APID, as the command `look` does. If the answer is 0 or 1, the room begins with it; the rest is
+/// as with `strip122_decode`.
+#[unsafe(no_mangle)]
+pub extern "C" fn strip122_look(
+    alloc: Global,
+    wish: &Strip122Wish,
+    packets: &[u8],
+    room: &mut [u8],
+    ranges: &mut [Strip122Range],
+    decoded: &mut Strip122Decoded,
+) -> u32
+    ensures { DecodesInto Look wish.now packets.now room.old room.new ranges.old ranges.new decoded.old decoded.new result }
+{
+    let wish = match wish_for(wish, decoded) {
+        Ok(wish) => wish,
+        Err(answer) => return answer,
+    };
+    let ended = make_whole(alloc, Product::Look, &wish, packets, room);
+    report_into(&ended, ranges, decoded)
+}
+
+/// Lists the rectangles of pixels that losses damage, as the command `rects` does. If the answer is 0 or 1, the room begins with their lines;
+/// the rest is as with `strip122_decode`.
+#[unsafe(no_mangle)]
+pub extern "C" fn strip122_rects(
+    alloc: Global,
+    wish: &Strip122Wish,
+    packets: &[u8],
+    room: &mut [u8],
+    ranges: &mut [Strip122Range],
+    decoded: &mut Strip122Decoded,
+) -> u32
+    ensures { DecodesInto Rects wish.now packets.now room.old room.new ranges.old ranges.new decoded.old decoded.new result }
+{
+    let wish = match wish_for(wish, decoded) {
+        Ok(wish) => wish,
+        Err(answer) => return answer,
+    };
+    let ended = make_whole(alloc, Product::Rects, &wish, packets, room);
+    report_into(&ended, ranges, decoded)
+}
+
+/// Lists the images of packets, as the command `info` does: those of the wish's APID, or of each APID. If the answer is 0 or 1, the room begins
+/// with their lines; `listed` reports what was found, or what room is needed.
+#[unsafe(no_mangle)]
+pub extern "C" fn strip122_info(
+    alloc: Global,
+    wish: &Strip122Wish,
+    packets: &[u8],
+    room: &mut [u8],
+    listed: &mut Strip122Listed,
+) -> u32
+    ensures { ListsInto wish.now packets.now room.old room.new listed.old listed.new result }
+{
+    list_into(alloc, wish, packets, room, listed)
 }

@@ -1,5 +1,6 @@
 // A port over a slice that never fails.
 ghost use Rattle.std.specs.Prelude.{◌≡◌, ◌≤◌, ◌+◌, ◌++◌, ◌-◌, [], length, min, vec_capacity, IfOk, IfSome, Ok, Some, None, MatchResult, nat_le, if◌then◌else◌};
+ghost use Rattle.std.specs.Option.{ForSome};
 ghost use Rattle.port_122.specs.Outside.{Outside, Read, ReadFailed, Written, WriteFailed, Noted, NoteFailed};
 
 use port_122::{Failed, Port};
@@ -13,18 +14,24 @@ use std::alloc::{AllocError, Global};
 pub struct LentPort<'a> {
     input: &'a [u8],
     at: usize,
-    room: usize,
+    // the octets that it keeps at most; with none it takes memory for all
+    room: Option<usize>,
     given: Vec<u8>,
     full: bool,
     ghost within: { at ≤ length input.now },
-    ghost given_room: { room ≤ vec_capacity given },
+    ghost given_room: { ForSome room (λ octets. octets ≤ vec_capacity given) },
 }
 
 impl<'a> LentPort<'a> {
     ghost use Rattle.strip122_c.specs.Lent.{outside_of};
 
-    /// Returns a port at the start of this input, with room for this number of octets.
-    pub fn new(alloc: Global, input: &'a [u8], room: usize) -> Result<LentPort<'a>, AllocError>
+    /// Returns a port at the start of this input, with room for this number of octets, which is taken at once, or without a number with
+    /// room that grows.
+    pub fn new(
+        alloc: Global,
+        input: &'a [u8],
+        room: Option<usize>,
+    ) -> Result<LentPort<'a>, AllocError>
         ensures outside { IfOk result (λ port. outside_of port ≡ record {
           rest = Some input.now;
           taken = Some [];
@@ -40,7 +47,7 @@ impl<'a> LentPort<'a> {
             input,
             at: 0,
             room,
-            given: Vec::with_capacity(alloc, room)?,
+            given: make_room(alloc, room)?,
             full: false,
         })
     }
@@ -53,8 +60,32 @@ impl<'a> LentPort<'a> {
     }
 }
 
+// Returns an empty list with room for this number of octets, if there is a number.
+fn make_room(alloc: Global, room: Option<usize>) -> Result<Vec<u8>, AllocError>
+    ensures none { IfOk result (λ made. made.items ≡ []) }
+    ensures room { IfOk result (λ made. IfSome room (λ octets. octets ≤ vec_capacity made)) }
+{
+    match room {
+        Some(octets) => Ok(Vec::with_capacity(alloc, octets)?),
+        None => Ok(Vec::new(alloc)),
+    }
+}
+
+// Keeps the octets if they fit the room, if there is one, and if there is memory. Returns whether it did.
+fn keep(kept: &mut Vec<u8>, room: Option<usize>, bytes: &[u8]) -> bool
+    requires { IfSome room (λ octets. octets ≤ vec_capacity kept.old) }
+    ensures fits { IfSome room (λ octets. result ≡ nat_le (length kept.old.items + length bytes.now) octets) }
+    ensures items { kept.new.items ≡ (if result then kept.old.items ++ bytes.now else kept.old.items) }
+    ensures capacity { IfSome room (λ octets. octets ≤ vec_capacity kept.new) }
+{
+    match room {
+        Some(room) => keep_within(kept, room, bytes),
+        None => kept.extend_from_slice(bytes).is_ok(),
+    }
+}
+
 // Keeps the octets if they fit the room, and returns whether they did.
-fn keep(kept: &mut Vec<u8>, room: usize, bytes: &[u8]) -> bool
+fn keep_within(kept: &mut Vec<u8>, room: usize, bytes: &[u8]) -> bool
     requires { room ≤ vec_capacity kept.old }
     ensures fits { result ≡ nat_le (length kept.old.items + length bytes.now) room }
     ensures items { kept.new.items ≡ (if result then kept.old.items ++ bytes.now else kept.old.items) }

@@ -2,9 +2,8 @@
 ghost use Rattle.std.specs.Prelude.{◌≡◌, ◌≤◌, length, IfOk, slice_set, nat_lt, if◌then◌else◌};
 ghost use Rattle.strip122_c.specs.Ranges.{range_of, ranges_of, ranges_in, put_over};
 
-use crate::decode::DecodeRefusal;
+use crate::decode::{DecodeRefusal, Made};
 use damage_rows::{Damage, RowRange};
-use strip_decoder::DecodeDone;
 
 /// The rows from `first` to `last`, both included.
 #[repr(C)]
@@ -17,13 +16,13 @@ pub struct Strip122Range {
 const _: () = prove!(size_of::<Strip122Range>() == 8);
 
 /// Puts the ranges of a picture's damaged rows into the places, at most one into each, and returns the number of its ranges.
-pub fn put_damage(ended: &Result<DecodeDone, DecodeRefusal>, places: &mut [Strip122Range]) -> u64
-    requires { IfOk ended.now (λ done. done.damage.rows ≤ 262144) }
+pub(crate) fn put_damage(ended: &Result<Made, DecodeRefusal>, places: &mut [Strip122Range]) -> u64
+    requires { IfOk ended.now (λ made. made.done.damage.rows ≤ 262144) }
     ensures places { places.new ≡ put_over (ranges_of ended.now) places.old }
     ensures count { result ≡ length (ranges_of ended.now) }
 {
     match ended {
-        Ok(done) => put_ranges(&done.damage, places),
+        Ok(made) => put_ranges(&made.done.damage, places),
         Err(_) => 0,
     }
 }

@@ -1,9 +1,12 @@
 ghost use Rattle.std.specs.Prelude.{◌≡◌, IsTrue};
 ghost use Rattle.plane_defs.specs.Codes.{is_book_sound};
 
-use crate::decode::{DecodeRefusal, decode_whole};
+use crate::decode::{DecodeRefusal, make_whole};
 use crate::encode::{EncodeRefusal, encode_whole};
+use crate::info::list_whole;
+use crate::product::Product;
 use base_122::{DecodeWish, Field, Setting};
+use image_info::InfoWish;
 use std::alloc::Global;
 use std::test::Fail;
 
@@ -57,7 +60,13 @@ fn there_and_back(rt: HostRuntime) -> Result<(), Fail> {
         assert!(rt; done.octets < 4000);
         let octets = done.octets as usize;
         let mut back = vec![in alloc; 7; 900]?;
-        let found = decode_whole(alloc, &wish(), &packets[..octets], &mut back);
+        let found = make_whole(
+            alloc,
+            Product::Picture,
+            &wish(),
+            &packets[..octets],
+            &mut back,
+        );
         assert!(rt; found.is_ok());
         assert!(rt; raster.len() <= back.len());
         let (picture, rest) = back.split_at(raster.len());
@@ -82,11 +91,15 @@ fn small_rooms(rt: HostRuntime) -> Result<(), Fail> {
     assert!(rt; octets < 4000);
     let mut back = vec![in alloc; 7; 815]?;
     let packets = &packets[..octets as usize];
-    let Err(refusal) = decode_whole(alloc, &wish(), packets, &mut back) else {
+    let Err(refusal) = make_whole(alloc, Product::Picture, &wish(), packets, &mut back) else {
         return Err(Fail::from("not refused"));
     };
     let geometry = setting.geometry();
-    let small = DecodeRefusal::SmallRoom { geometry, rows: 17 };
+    let small = DecodeRefusal::SmallRoom {
+        geometry,
+        rows: 17,
+        octets: 816,
+    };
     assert_eq!(rt; refusal, small);
     Ok(())
 }
@@ -104,18 +117,53 @@ fn a_height_reported_last(rt: HostRuntime) -> Result<(), Fail> {
     packets[13] = 0;
     let packets = &packets[..done.octets as usize];
     let mut back = vec![in alloc; 7; 408]?;
-    let Ok(found) = decode_whole(alloc, &wish(), packets, &mut back) else {
+    let Ok(found) = make_whole(alloc, Product::Picture, &wish(), packets, &mut back) else {
         return Err(Fail::from("refused"));
     };
-    assert_eq!(rt; (found.geometry.rows, found.written), (17, 17));
+    assert_eq!(rt; (found.done.geometry.rows, found.done.written), (17, 17));
     assert!(rt; back.as_slice() == raster.as_slice());
     let mut small_room = vec![in alloc; 7; 407]?;
-    let Err(refusal) = decode_whole(alloc, &wish(), packets, &mut small_room) else {
+    let Err(refusal) = make_whole(alloc, Product::Picture, &wish(), packets, &mut small_room) else {
         return Err(Fail::from("not refused"));
     };
     let geometry = setting.geometry();
-    let small = DecodeRefusal::SmallRoom { geometry, rows: 17 };
+    let small = DecodeRefusal::SmallRoom {
+        geometry,
+        rows: 17,
+        octets: 408,
+    };
     assert_eq!(rt; refusal, small);
+    Ok(())
+}
+
+// A flat image of three times three blocks has this look. No block is missing, so there is no rectangle, and it is listed in one line.
+#[test]
+fn looks_and_lists(rt: HostRuntime) -> Result<(), Fail> {
+    let alloc = rt.alloc();
+    let raster = flat(alloc, 1, 77)?;
+    let mut packets = vec![in alloc; 9; 4000]?;
+    let done = encode_whole(alloc, &setting(8), &raster, &mut packets)?;
+    assert!(rt; done.octets < 4000);
+    let packets = &packets[..done.octets as usize];
+    let mut room = [7; 10];
+    let Ok(look) = make_whole(alloc, Product::Look, &wish(), packets, &mut room) else {
+        return Err(Fail::from("refused"));
+    };
+    assert_eq!(rt; look.octets, 9);
+    assert_eq!(rt; room, [77, 77, 77, 77, 77, 77, 77, 77, 77, 7]);
+    let Ok(rects) = make_whole(alloc, Product::Rects, &wish(), packets, &mut room) else {
+        return Err(Fail::from("refused"));
+    };
+    assert_eq!(rt; rects.octets, 0);
+    let mut lines = vec![in alloc; 7; 200]?;
+    let wish = InfoWish {
+        apid: None,
+        octets: 4000,
+    };
+    let listed = list_whole(alloc, &wish, packets, &mut lines)?;
+    assert_eq!(rt; listed.images, 1);
+    let known = "apid 100 image 0 width 24 rows 17 depth 8 signed 0 segment 16 packets 1 octets ";
+    assert!(rt; lines.starts_with(known.as_bytes()));
     Ok(())
 }
 

@@ -1,0 +1,25 @@
+-- What a call makes of the packets of an image. This project's own.
+use Rattle.std.specs.Prelude.{ℕ, ◌*◌, List}
+use Rattle.base_122.specs.Sizes.{block_count}
+use Rattle.base_122.specs.declared.geometry.Geometry.{Geometry}
+use Rattle.raster_rows.specs.Pixels.{pixel_size}
+use Rattle.stream_defs.specs.Begun.{block_rows, height}
+use Rattle.stream_defs.specs.Picture.{picture_octets}
+use Rattle.segment_walk.specs.Runs.{Numbers}
+use Rattle.quick_look.specs.Look.{look_octets}
+use Rattle.rect_defs.specs.RectLines.{rect_lines}
+use Rattle.rect_defs.specs.Rects.{rects}
+use Rattle.strip122_c.specs.declared.product.Product.{Product}
+use Rattle.strip122_c.specs.declared.product.Product.TheVariants.{Picture, Look, Rects}
+
+-- the octets that are made of received segments, if the kept heads reach n block rows
+abbrev pub octets_of : Product → Geometry → Numbers → (n : ℕ) → List ℕ
+octets_of Picture g received n = picture_octets g received n
+octets_of Look g received n = look_octets g received n
+octets_of Rects g received n = rect_lines (rects g received n)
+
+-- the number of octets of a raster, which a picture and a look are
+abbrev pub raster_length : Product → Geometry → (n : ℕ) → ℕ
+raster_length Picture g n = height g n * (g.width * pixel_size g.depth)
+raster_length Look g n = block_rows g n * (block_count g.width * pixel_size g.depth)
+raster_length Rects g n = 0
