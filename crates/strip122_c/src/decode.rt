@@ -193,7 +193,7 @@ fn walk(
     }
 }
 
-// Each of these has a stack frame of its own, since one frame would have the sum of what the three need.
+// Each of these has a stack frame of its own, as large as its call needs.
 #[inline(never)]
 fn decode(alloc: Global, wish: &DecodeWish, port: &mut LentPort) -> Result<DecodeDone, DecodeFault>
     requires book { IsTrue (is_book_sound wish.now.book) }
