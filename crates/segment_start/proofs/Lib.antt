@@ -15,11 +15,6 @@ mod FromText
 mod Joined
 mod EndsSay
 mod TextJoined
-mod Leaving
-mod LeftNumbers
-mod LeftDcs
-mod LeftPlanes
-mod LeftBlocks
 mod PartsGiven
 mod HoldsSo
 mod SpelledDecide
