@@ -18,3 +18,6 @@ mod TextJoined
 mod PartsGiven
 mod HoldsSo
 mod SpelledDecide
+mod CodedChoices
+mod CodedFronts
+mod CodedRead
