@@ -26,6 +26,7 @@ use Rattle.text_defs.specs.Spellable.{IsSpellable, AreWordOptions, AreNumberOpti
 use Rattle.text_defs.specs.Outcomes.{IsTaken, bits_read, length_of, expected_length}
 use Rattle.text_defs.proofs.SegmentItems.{segment_are_items}
 use Rattle.text_defs.proofs.Cuts.{cut_front, whole_front}
+use Rattle.segment_start.specs.Coded.{IsUncut}
 
 -- ---- octets and padding
 
@@ -76,6 +77,7 @@ pub record CodedFront (book : Book) (h : SegmentHead) (blocks : List (List ℤ))
   pub more : List Bool
   pub front : Front (coded_items book h blocks) count (bits_read h (after_head book h blocks)) more
   pub taken : IsTaken h (after_head book h blocks) (coded_items book h blocks) count more
+  pub all : IsUncut book h blocks → count ≡ length (coded_items book h blocks)
 
 module _ (book : Book) (h : SegmentHead) (blocks : List (List ℤ)) (ok : IsHead h) (ten : length h.image.weights.shifts ≡ 10) where
   abbrev items : List Item
@@ -180,6 +182,7 @@ module _ (book : Book) (h : SegmentHead) (blocks : List (List ℤ)) (ok : IsHead
             refl,
             total ∙ sym (ap (λ f. cond f h.limit (rounded (8 * h.image.word) (8 * head_length h + length (text items)) / 8)) plain),
           );
+          all = λ uncut. refl;
         }
 
     expected : all ≤ 8 * h.limit → rounded (8 * h.image.word) (length bits) ≡ rounded (8 * h.image.word) (8 * head_length h + length (text items)) →
@@ -210,6 +213,10 @@ module _ (book : Book) (h : SegmentHead) (blocks : List (List ℤ)) (ok : IsHead
                 more = c.more;
                 front = subst (λ b. Front items c.count b c.more) (sym (read ∙ shorter)) c.front;
                 taken = inr (c.ends, record { limited = λ e. absurd (omega (arith, e, room)); full = omega (arith, count, fits) });
+                all = λ uncut. absurd (elim uncut [
+                  | inl none ↦ omega (arith, none, room)
+                  | inr within ↦ omega (arith, within, used, short, fits)
+                ]);
               }
           | inr whole ↦
               let k = 8 * n - length (text items) in
@@ -224,6 +231,7 @@ module _ (book : Book) (h : SegmentHead) (blocks : List (List ℤ)) (ok : IsHead
                 more = take k zeros;
                 front = subst (λ b. Front items (length items) b (take k zeros)) (sym (read ∙ more)) (whole_front items (take k zeros) are);
                 taken = inl (refl, omega (arith, count, long) ∙ expected within (ap (rounded (8 * h.image.word)) used));
+                all = λ uncut. refl;
               }
         ]
 

@@ -1,5 +1,5 @@
 -- A coded text is read as the blocks that were coded, or as a part of them.
-use Rattle.std.proofs.Common.{◌≡◌, true, List, length, refl, arith, ℤ, inl, inr}
+use Rattle.std.proofs.Common.{◌≡◌, true, List, refl, arith, ℤ}
 use Rattle.base_122.specs.declared.book.Book.{Book}
 use Rattle.plane_defs.specs.Codes.{is_book_sound}
 use Rattle.segment_defs.specs.declared.head.SegmentHead.{SegmentHead}
@@ -11,10 +11,11 @@ use Rattle.text_defs.specs.Spellable.{IsSpellable}
 use Rattle.text_scripts.specs.Laws.{TextReads, TextsAreRead}
 use Rattle.segment_start.specs.Coded.{CodedReads, CodedTextsAreRead}
 use Rattle.segment_start.proofs.CodedChoices.{words_are, numbers_are, within_greatest}
-use Rattle.segment_start.proofs.CodedFronts.{coded_items, after_head, CodedFront, coded_front}
+use Rattle.segment_start.proofs.CodedFronts.{after_head, CodedFront, coded_front}
 
 module _ (book : Book) (sound : is_book_sound book ≡ true) (head : SegmentHead) (blocks : List (List ℤ))
-    (spellable : IsSpellable head blocks (block_depths blocks)) (reads : TextReads book head (after_head book head blocks)) (f : CodedFront book head blocks) where
+    (spellable : IsSpellable head blocks (block_depths blocks))
+    (reads : TextReads book head (after_head book head blocks)) (f : CodedFront book head blocks) where
   abbrev given : List (List ℤ)
   given = given_blocks head blocks (block_depths blocks) (chosen_options book head blocks) f.count
 
@@ -31,18 +32,12 @@ module _ (book : Book) (sound : is_book_sound book ≡ true) (head : SegmentHead
     given = refl;
   }
 
-  all_taken : head.limit ≡ 0 → f.count ≡ length (coded_items book head blocks)
-  all_taken none = elim f.taken [
-    | inl all ↦ all.0
-    | inr cut ↦ absurd (cut.1.limited none)
-  ]
-
   coded_reads : CodedReads book head blocks
   unfolding coded_holds
   coded_reads = record {
     part = reads.holds given coded_holds;
-    whole = λ none. reads.whole given coded_holds (all_taken none);
-    exact = λ none no_stop. reads.exact given coded_holds no_stop (all_taken none);
+    whole = λ uncut. reads.whole given coded_holds (f.all uncut);
+    exact = λ uncut no_stop. reads.exact given coded_holds no_stop (f.all uncut);
   }
 
 pub coded_texts_are_read : TextsAreRead → CodedTextsAreRead

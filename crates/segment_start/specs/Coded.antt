@@ -1,11 +1,11 @@
 -- What is decoded of what was coded. (docs/formats.md, "Stops, cut and fill" and "Reading a segment"; this project's own.)
-use Rattle.std.specs.Prelude.{◌≡◌, ℤ, true, List, length, drop, Ok}
+use Rattle.std.specs.Prelude.{◌≡◌, ◌≤◌, ◌⊎◌, ◌*◌, ℤ, true, List, length, drop, Ok}
 use Rattle.base_122.specs.declared.book.Book.{Book}
 use Rattle.plane_defs.specs.Codes.{is_book_sound}
 use Rattle.segment_defs.specs.declared.head.SegmentHead.{SegmentHead}
 use Rattle.segment_defs.specs.Depths.{block_depths, depth_ac_of}
 use Rattle.segment_defs.specs.Head.{IsHead, head_length}
-use Rattle.segment_defs.specs.Coded.{coded}
+use Rattle.segment_defs.specs.Coded.{coded_bits, coded}
 use Rattle.text_defs.specs.Spellable.{IsSpellable}
 use Rattle.text_scripts.specs.Laws.{HasAllPlanes}
 use Rattle.text_scripts.specs.Outcomes.{Answer, text_outcome}
@@ -15,13 +15,17 @@ use Rattle.text_scripts.specs.Parts.{IsPart, stopped}
 abbrev pub coded_outcome : Book → SegmentHead → List (List ℤ) → Answer
 coded_outcome book head blocks = text_outcome book head (drop (head_length head) (coded book head blocks))
 
+-- there is no limit, or head and items are within it
+abbrev pub IsUncut : Book → SegmentHead → List (List ℤ) → Type 0
+IsUncut book head blocks = (head.limit ≡ 0) ⊎ (length (coded_bits book head blocks) ≤ 8 * head.limit)
+
 pub record CodedReads (book : Book) (head : SegmentHead) (blocks : List (List ℤ)) : Type 0 where
   -- a part of the blocks is given, whatever stop and limit the head has
   pub part : (w : List (List ℤ)) × (coded_outcome book head blocks ≡ Ok w) × IsPart head blocks w
-  -- without a limit they are given as far as the stop
-  pub whole : head.limit ≡ 0 → coded_outcome book head blocks ≡ Ok (stopped head blocks)
+  -- if no limit cuts the items, they are given as far as the stop
+  pub whole : IsUncut book head blocks → coded_outcome book head blocks ≡ Ok (stopped head blocks)
   -- and as they are, if there is none
-  pub exact : head.limit ≡ 0 → HasAllPlanes head → coded_outcome book head blocks ≡ Ok blocks
+  pub exact : IsUncut book head blocks → HasAllPlanes head → coded_outcome book head blocks ≡ Ok blocks
 
 -- of values that can be coded, with the depths that they have
 abbrev pub CodedTextsAreRead : Type 0

@@ -51,8 +51,8 @@ pub const fn spelled_texts_decide()
     segments_are_read();
 }
 
-/// What was encoded is decoded: of values that can be coded, a coded text gives a part. Without a limit it gives them as far as the stop,
-/// and as they are if there is no stop.
+/// What was encoded is decoded: of values that can be coded, a coded text gives a part. If no limit cuts its items it gives the values as
+/// far as the stop, and as they are if there is no stop.
 pub const fn coded_texts_are_read()
     ensures { CodedTextsAreRead }
 {
