@@ -15,11 +15,9 @@ mod FromText
 mod Joined
 mod EndsSay
 mod TextJoined
-mod Leaving
-mod LeftNumbers
-mod LeftDcs
-mod LeftPlanes
-mod LeftBlocks
 mod PartsGiven
 mod HoldsSo
 mod SpelledDecide
+mod CodedChoices
+mod CodedFronts
+mod CodedRead

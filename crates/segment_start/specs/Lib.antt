@@ -9,3 +9,4 @@ pub mod Decoded
 pub mod Laws
 pub mod Parts
 pub mod Spelled
+pub mod Coded

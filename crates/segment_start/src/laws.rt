@@ -1,4 +1,5 @@
 // What some octets hold, and the laws of what octets after a head hold.
+ghost use Rattle.segment_start.specs.Coded.{CodedTextsAreRead};
 ghost use Rattle.segment_start.specs.Laws.{TextsEndThere, OutcomesAgree, TextsEndSo, TextsHoldSo};
 ghost use Rattle.segment_start.specs.Parts.{TextsGiveParts};
 ghost use Rattle.segment_start.specs.Spelled.{SpelledTextsDecide};
@@ -48,4 +49,12 @@ pub const fn spelled_texts_decide()
     ensures { SpelledTextsDecide }
 {
     segments_are_read();
+}
+
+/// What was encoded is decoded: of values that can be coded, a coded text gives a part. If no limit cuts its items it gives the values as
+/// far as the stop, and as they are if there is no stop.
+pub const fn coded_texts_are_read()
+    ensures { CodedTextsAreRead }
+{
+    texts_are_read();
 }

@@ -13,6 +13,6 @@ mod text_in;
 pub use decode::{SegmentReader, decode_segment};
 pub use fault::SegmentFault;
 pub use laws::{
-    outcomes_agree, spelled_texts_decide, texts_end_so, texts_end_there, texts_give_parts,
-    texts_hold_so, worked_answers,
+    coded_texts_are_read, outcomes_agree, spelled_texts_decide, texts_end_so, texts_end_there,
+    texts_give_parts, texts_hold_so, worked_answers,
 };

@@ -6,5 +6,6 @@ pub mod SegmentParts
 pub mod SegmentBack
 pub mod TextBack
 pub mod TextNumbers
+pub mod RunNumbers
 pub mod TextReads
 pub mod TextOutcomes

@@ -38,7 +38,7 @@ take_first [] ys = refl
 take_first (x ∷ xs) ys = ap (λ l. x ∷ l) (take_first xs ys)
 
 -- of two prefixes of a list one is a prefix of the other
-shorter : (xs ys L zs : List Item) → xs ++ ys ≡ L ++ zs → length xs ≤ length L → take (length xs) L ≡ xs
+pub shorter : (xs ys L zs : List Item) → xs ++ ys ≡ L ++ zs → length xs ≤ length L → take (length xs) L ≡ xs
 shorter [] ys L zs e le = refl
 shorter (x ∷ xs) ys [] zs e le = absurd (omega (arith, le))
 shorter (x ∷ xs) ys (l ∷ L) zs e le =
@@ -85,7 +85,7 @@ module _ (book : Book) (sound : is_book_sound book ≡ true) (head : SegmentHead
 
   module _ (items : List Item) (are : AreItems items) where
     -- completed items are those of their blocks
-    completed_back : (c : Completed W (HasBlocks head) items) → Spelled book head (items ++ c.more) c.end
+    pub completed_back : (c : Completed W (HasBlocks head) items) → Spelled book head (items ++ c.more) c.end
     completed_back c = spelled_back book sound head is_head (items ++ c.more) c.end (both_possible items c.more (are_possible items are) c.are) c.follows
 
     module _ (more : List Item) (end : Blocks) (p : Spelled book head (items ++ more) end) where
@@ -106,7 +106,7 @@ module _ (book : Book) (sound : is_book_sound book ≡ true) (head : SegmentHead
           (segment_asks head is_head end p.depths p.options p.spellable p.words (length items) lt (subst AreItems (sym same) are)))
 
       -- items that ask are the first of the values' items, and the next has the form that is asked for
-      asked_back : (form : Form) → Asks S items form → (length items < length L) × ((item_at L (length items)).form ≡ form)
+      pub asked_back : (form : Form) → Asks S items form → (length items < length L) × ((item_at L (length items)).form ≡ form)
       asked_back form asks = elim (cases_lt (length items) (length L)) [
         | inl lt ↦ (lt, asks_one S items (item_at L (length items)).form form (values_ask lt) asks)
         | inr ge ↦
@@ -116,7 +116,7 @@ module _ (book : Book) (sound : is_book_sound book ≡ true) (head : SegmentHead
       ]
 
       -- items that follow to the end are the values' items
-      followed_back : (v : Blocks) → Follows S items v → items ≡ L
+      pub followed_back : (v : Blocks) → Follows S items v → items ≡ L
       followed_back v follows = elim (cases_lt (length items) (length L)) [
         | inl lt ↦
             absurd (none_asked S items [] v (item_at L (length items)).form follows
@@ -128,12 +128,12 @@ module _ (book : Book) (sound : is_book_sound book ≡ true) (head : SegmentHead
             u.1 ∙ ap (λ l. L ++ l) none ∙ append-nil L
       ]
 
-    of_asked : (form : Form) → Asks S items form → Completed W (HasBlocks head) items
+    pub of_asked : (form : Form) → Asks S items form → Completed W (HasBlocks head) items
     of_asked form asks =
         completes (HasBlocks head) W (whole_goes book sound head is_head) items form (are_possible items are)
         (starts_asks S W (whole_starts book sound head is_head) items form asks)
 
-    of_followed : (v : Blocks) → Follows S items v → Completed W (HasBlocks head) items
+    pub of_followed : (v : Blocks) → Follows S items v → Completed W (HasBlocks head) items
     of_followed v follows =
         starts_on (HasBlocks head) S W (whole_starts book sound head is_head) (whole_goes book sound head is_head) items v (are_possible items are) follows
 

@@ -1,12 +1,12 @@
 -- The numbers that a text gives are multiples of their weights, by at most 2 ^ 27 in magnitude.
-use Rattle.std.proofs.Common.{◌≡◌, ◌⊎◌, ◌<◌, ◌≤◌, ℕ, zero, suc, ◌+◌, ◌-◌, ◌*◌, ◌^◌, ◌==◌, nat_lt, max, Bool, true, false, if◌then◌else◌, List, [], ◌∷◌, length, ap, sym, ◌∙◌, subst, arith, ℤ, pos, negsuc, ◌*ℤ◌, inl, inr, pow_pos, pow_mono, All}
+use Rattle.std.proofs.Common.{◌≡◌, ◌⊎◌, ◌<◌, ◌≤◌, ℕ, zero, suc, ◌+◌, ◌-◌, ◌*◌, ◌^◌, ◌==◌, nat_lt, max, Bool, true, false, if◌then◌else◌, List, [], ◌∷◌, length, ap, sym, ◌∙◌, subst, arith, ℤ, pos, negsuc, ◌*ℤ◌, inl, inr, pow_pos, pow_mono}
 use Rattle.std.specs.Prelude.{replicate}
 use Rattle.std.specs.Int.{int_shr}
 use Rattle.std.specs.Int.RustNames.{unsigned_abs}
 use Rattle.std.proofs.Math.Nat.{div-eq_of_lt, mul-le-mul_right}
 use Rattle.std.proofs.lemmas.Bool.Decides.{nat_tests}
 use Rattle.std.proofs.lemmas.Int.{ints}
-use Rattle.std.proofs.lemmas.List.{get_or_past, get_or-replicate, get_or-map, length-replicate, length-map}
+use Rattle.std.proofs.lemmas.List.{get_or-replicate, get_or-map, length-replicate, length-map}
 use lib.ListN.{get_or}
 use Rattle.number_defs.specs.Ranges.{IsInRange}
 use Rattle.number_defs.specs.DcPart.{dc_q, dc_bits, dc_planes}
@@ -18,6 +18,7 @@ use Rattle.segment_defs.specs.Head.{IsHead}
 use Rattle.segment_defs.specs.Depths.{dc_of, dcs_of}
 use Rattle.segment_defs.specs.SegmentItems.{dc_shift, q_of}
 use Rattle.text_defs.specs.Spellable.{IsSpellable}
+use Rattle.text_defs.proofs.GivenParts.{shift_low}
 use Rattle.number_scripts.specs.Cuts.{parts_of}
 use Rattle.plane_scripts.specs.Written.{low_bits}
 use Rattle.plane_scripts.specs.Cuts.{Reach, reach_of, cut_dc, cut_number, cut_block, cut_blocks}
@@ -40,9 +41,6 @@ weighted s most z few t =
 -- a number of N bits above q bits has at most 28 bits
 high_few : (depth_dc depth_ac shift : ℕ) → 1 ≤ depth_dc → depth_dc ≤ 28 → shift ≤ 3 → dc_bits depth_dc depth_ac shift - 1 + dc_q depth_dc depth_ac shift ≤ 27
 high_few depth_dc depth_ac shift low high few = grind (arith, nat_tests)
-
-shift_low : (shifts : List ℕ) (k : ℕ) → All (λ shift. shift ≤ 3) shifts → get_or shifts k 0 ≤ 3
-shift_low shifts k all = grind (arith, nat_tests, get_or_past)
 
 module _ (head : SegmentHead) (is_head : IsHead head) (values : List (List ℤ)) (depths : List ℕ) (p : IsSpellable head values depths) where
   abbrev W : List ℕ
