@@ -1,5 +1,5 @@
 -- The chains of a table.
-use Rattle.std.proofs.Common.{◌≡◌, ◌≢◌, ◌⊎◌, ◌<◌, ◌≤◌, ◌+◌, ◌*◌, ◌∙◌, ◌==◌, ◌&&◌, nat_lt, if◌then◌else◌, ℕ, zero, suc, true, false, cond, List, [], ◌∷◌, ◌++◌, length, get_or, slice_set, refl, sym, ap, subst, arith, inl, inr, None, length-append}
+use Rattle.std.proofs.Common.{◌≡◌, ◌≢◌, ◌⊎◌, ◌<◌, ◌≤◌, ◌+◌, ◌*◌, ◌∙◌, ◌==◌, ◌&&◌, nat_lt, if◌then◌else◌, ℕ, zero, suc, true, false, cond, List, [], ◌∷◌, ◌++◌, length, get_or, slice_set, refl, sym, ap, subst, arith, inl, inr, length-append}
 use Rattle.std.proofs.lemmas.Bool.{cases_lt, cases_eq, eq-eqb, ne_eqb, false≢true}
 use Rattle.std.proofs.lemmas.Bool.Decides.{nat_tests}
 use Rattle.std.proofs.lemmas.List.{get_or-set_same, get_or-set_other, length-set}
@@ -8,7 +8,7 @@ use Rattle.std.proofs.Math.Seq.{get_or-append_seam}
 use Rattle.std.proofs.lemmas.Nat.{mod_below}
 use Rattle.image_info.specs.declared.image.ImageId.{ImageId}
 use Rattle.image_info.specs.declared.image.ImageEntry.{ImageEntry}
-use Rattle.image_info.specs.Tables.{entry_at, no_entry, IsPlace}
+use Rattle.image_info.specs.Tables.{entry_at, no_entry}
 use Rattle.image_info.specs.Chains.{bucket_of, bucket_at, last_before, AreChained}
 
 pub bucket_low : (id : ImageId) → bucket_of id < 4096
@@ -165,9 +165,6 @@ ahead_next table last earlier id place few c lt other ahead =
       | inl same ↦ absurd (other (ap (λ j. (entry_at table j).id) (sym same) ∙ is))
       | inr apart ↦ omega (arith, apart, (ahead.later k inside is).1)
     ]))
-
-pub none_ahead : (table : List ImageEntry) (id : ImageId) (place : ℕ) → length table ≤ place → IsAhead table id place → IsPlace table id None
-none_ahead table id place past ahead k lt is = omega (arith, past, (ahead.later k lt is).0)
 
 -- the place before one in its bucket is less, or none
 pub earlier_less : (table : List ImageEntry) (last earlier : List ℕ) (place : ℕ) → AreChained table last earlier → place < length table → (get_or earlier place 0 < place) ⊎ (get_or earlier place 0 ≡ 65535)

@@ -1,4 +1,4 @@
--- The images of a table in chains, one for each of 4,096 buckets: an image is found at once. This project's own.
+-- The images of a table in chains, one for each of 4,096 buckets. This project's own.
 use Rattle.std.specs.Prelude.{◌≡◌, ◌<◌, ◌+◌, ◌*◌, ◌%◌, ◌==◌, if◌then◌else◌, ℕ, zero, suc, List, length}
 use lib.ListN.{get_or}
 use Rattle.image_info.specs.declared.image.ImageId.{ImageId}

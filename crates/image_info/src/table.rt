@@ -28,7 +28,7 @@ fn bucket_of(id: ImageId) -> usize
 
 /// The images that have begun, in this order, with what is known of each.
 ///
-/// Images in one bucket are a chain, from the last to the first, so an image is found at once, whatever number has begun.
+/// The images in one bucket are a chain, from the last to the first, so an image is searched among those of its bucket alone.
 #[derive(Drop)]
 pub struct Table {
     entries: Vec<ImageEntry>,
