@@ -19,6 +19,9 @@ size_t strip122_arena_most(void);
 /* For the heads of the blocks, and for all that is small. */
 #define STRIP122_ARENA_MORE 8192u
 
+/* For what is read ahead, 131,084 octets, and the tables of the words in a text, 49,152 octets. */
+#define STRIP122_ARENA_READER 180236u
+
 /* The blocks of a segment, in an image of this size. */
 static inline uint64_t strip122_segment_blocks(uint32_t width, uint32_t rows, uint32_t segment) {
     uint64_t blocks = (((uint64_t)width + 7) / 8) * (((uint64_t)rows + 7) / 8);
@@ -44,18 +47,18 @@ static inline uint64_t strip122_encode_memory(const strip122_setting *s, uint64_
 static inline uint64_t strip122_decode_memory(uint32_t width, uint32_t rows, uint32_t segment, uint64_t octets) {
     uint64_t columns = ((uint64_t)width + 7) / 8 * 8;
     uint64_t blocks = strip122_segment_blocks(width, rows, segment);
-    return octets + 640 * columns + 260 * blocks + 131084 + STRIP122_ARENA_MORE;
+    return octets + 640 * columns + 260 * blocks + STRIP122_ARENA_READER + STRIP122_ARENA_MORE;
 }
 
 /* The same for strip122_look, whose look has `octets` octets. */
 static inline uint64_t strip122_look_memory(uint32_t width, uint32_t rows, uint32_t segment, uint64_t octets) {
     uint64_t columns = ((uint64_t)width + 7) / 8 * 8;
-    return octets + columns + 260 * strip122_segment_blocks(width, rows, segment) + 131084 + STRIP122_ARENA_MORE;
+    return octets + columns + 260 * strip122_segment_blocks(width, rows, segment) + STRIP122_ARENA_READER + STRIP122_ARENA_MORE;
 }
 
 /* The same for strip122_rects, whose lines have `octets` octets. */
 static inline uint64_t strip122_rects_memory(uint32_t width, uint32_t rows, uint32_t segment, uint64_t octets) {
-    return 12 * octets + 260 * strip122_segment_blocks(width, rows, segment) + 131084 + STRIP122_ARENA_MORE;
+    return 12 * octets + 260 * strip122_segment_blocks(width, rows, segment) + STRIP122_ARENA_READER + STRIP122_ARENA_MORE;
 }
 
 /* Octets that are enough for strip122_info, whose lines have `octets` octets. */

@@ -280,7 +280,7 @@ class Tries:
             assert (small, report.octets, room) == (strip122.SMALL_ROOM, need, bytes(need - 1))
             asked = self.heap.decode(chosen["apid"], packets, 0, 0)
             assert (asked.answer, asked.report.octets, asked.report.written) == (strip122.SMALL_ROOM, need, report.written)
-        self.hand_in(need + 640 * padded(size[0]) + 260 * blocks(*size) + 131084 + 8192)
+        self.hand_in(need + 640 * padded(size[0]) + 260 * blocks(*size) + READER + 8192)
         answer, report, room, got = self.arena.decode(chosen["apid"], packets, need, 0)
         assert (answer, room) == (wanted, ran.stdout), ("arena", answer)
         self.exact_memory(lambda: self.arena.decode(chosen["apid"], packets, need, 0), (wanted, ran.stdout))
@@ -302,7 +302,7 @@ class Tries:
                 got = call(wish, packets, need - 1, 1)
                 assert (got.answer, got.report.octets, got.room) == (strip122.SMALL_ROOM, need, bytes(need - 1)), (command, got.answer)
             more = need + 8 * padded(size[0]) // 8 if command == "look" else 3 * need + 48 * (need // 8 + 4)
-            self.hand_in(more + 260 * blocks(*size) + 131084 + 8192)
+            self.hand_in(more + 260 * blocks(*size) + READER + 8192)
             got = fixed(wish, packets, need, 0)
             assert (got.answer, got.room) == (wanted, ran.stdout), ("arena", command, got.answer)
             self.exact_memory(lambda: fixed(wish, packets, need, 0), (wanted, ran.stdout))
@@ -391,6 +391,8 @@ class Tries:
 
 # octets of the table of 4,096 images, as c/arena.h has them
 INFO_TABLE = 4096 * 88
+# What is read ahead, and the tables of words.
+READER = 131084 + 49152
 
 
 def lost(random, packets):

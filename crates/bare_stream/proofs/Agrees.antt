@@ -10,8 +10,8 @@ use Rattle.bare_text.specs.Agreement.{columns, blocks_before, first_agrees, bloc
 use Rattle.std.proofs.lemmas.Slice.Eq.{bytes_eq-Decides}
 use mathlib.Core.Bool.{beq}
 use Rattle.std.proofs.lemmas.Bool.{and_parts, leb-true, ltb-true, and_from, eqb-true}
-use Rattle.bare_stream.specs.BareStream.{AgreesWith}
-use Rattle.bare_stream.specs.SegmentsRead.{pixels_at}
+use Rattle.bare_stream.specs.Heads.{AgreesWith}
+use Rattle.bare_stream.specs.Pictures.{pixels_at}
 
 passes : (b : Bool) (fault : HeadFault) (tests : List (Option HeadFault)) → first_refusal (refused_where (not b) fault ∷ tests) ≡ None → (b ≡ true) × (first_refusal tests ≡ None)
 passes true fault tests e = (refl, e)

@@ -1,27 +1,52 @@
 -- The bare stream of an image gives the image back.
-use Rattle.std.proofs.Common.{◌≡◌, ℕ, ℤ, List, [], sym, ap, subst, ◌∙◌, Option, None, Some, Result, Ok, Err, append-nil}
+use Rattle.std.proofs.Common.{◌≡◌, ◌<◌, ◌*◌, ℕ, ℤ, List, [], ◌++◌, length, take, nat_lt, if◌then◌else◌, Bool, true, false, refl, sym, ap, subst, ◌∙◌, arith, Option, None, Some, Result, Ok, Err, append-nil}
+use Rattle.port_122.specs.Outside.{Outside, Loses, IsUsedUp}
+use Rattle.base_122.specs.declared.book.Book.{Book}
 use Rattle.base_122.specs.declared.geometry.Geometry.{Geometry}
 use Rattle.base_122.specs.declared.setting.Setting.{Setting}
+use Rattle.base_122.specs.declared.wish.DecodeWish.{DecodeWish}
 use Rattle.bare_stream.specs.declared.fault.BareFault.{BareFault}
 use Rattle.bare_stream.specs.declared.fault.BareFault.TheVariants.{LongInput, TooManyPixels, Refused}
 use Rattle.bare_stream.specs.Bare.{bare}
 use Rattle.bare_stream.specs.BareStream.{BareStream}
-use Rattle.bare_stream.specs.Decoded.{StreamThen, rows_of_read}
+use Rattle.bare_stream.specs.Decoded.{AnswersBy, DecodesBare}
 use Rattle.bare_stream.specs.Images.{IsBareImage, SaysImage, ImagesAreBareStreams, bare_geometry}
+use Rattle.bare_stream.specs.Pictures.{all_rows}
 use Rattle.bare_stream.specs.RoundTrip.{ReadsWhole, StreamsAreRead, GivesImage, AnswersImage, BareRoundTrip}
-use Rattle.bare_stream.specs.SegmentsRead.{SegmentsRead, all_rows, rows_with}
+use Rattle.bare_stream.specs.StreamRead.{needs_more, stream_in, answer_for}
+use Rattle.bare_stream.proofs.Endings.{left_told}
 use Rattle.bare_stream.proofs.ImagePictures.{picture_is}
+use Rattle.bare_stream.proofs.WholeReads.{within, whole_input, rows_input, same_whole, one_geometry}
 
-module _ (streams : ImagesAreBareStreams) (s : Setting) (x : ℕ → ℕ → ℤ) (is : IsBareImage s x) (g : Geometry) (took gave : List ℕ) (all : took ≡ bare s x) where
-  read_back : (read : Option SegmentsRead) (index : ℕ) → gave ≡ rows_of_read read → StreamThen s.book took read [] index g → GivesImage s x gave g
-  read_back None index given then = absurd then
-  read_back (Some r) index given (octets, parts, stream, ended, count) =
-      let whole : octets ≡ bare s x = sym (append-nil octets) ∙ sym parts ∙ all in
-      let said = streams.only s x g r.blocks is (subst (λ o. BareStream s.book o g r.blocks) whole stream) in
-      record {
-        geometry = said.0;
-        same = λ sends. given ∙ ap (λ e. rows_with r.first e r.blocks) ended ∙ ap (λ h. all_rows h r.blocks) said.0 ∙ ap (all_rows (bare_geometry s)) (said.1.exact sends) ∙ picture_is s x is;
-      }
+module _ (streams : ImagesAreBareStreams) (s : Setting) (x : ℕ → ℕ → ℤ) (is : IsBareImage s x) (wish : DecodeWish) (book : wish.book ≡ s.book) (g : Geometry) (took gave : List ℕ) (why : AnswersBy wish (bare s x) took gave (Ok g)) where
+  abbrev own : (w : List (List (List ℤ))) × SaysImage s x w
+  own = streams.says s x is
+
+  abbrev p : ℕ
+  p = wish.pixels
+
+  abbrev q : ℕ
+  q = (bare_geometry s).width * (bare_geometry s).rows
+
+  mine : (stream_in s.book p (bare s x)).ending ≡ needs_more (Ok g)
+  mine = subst (λ b. (stream_in b p (bare s x)).ending ≡ needs_more (Ok g)) book (whole_input wish (bare s x) g why.answer)
+
+  same : stream_in s.book p (bare s x) ≡ stream_in s.book q (bare s x)
+  same = same_whole s.book p q (bare s x) g (bare_geometry s) mine own.1.stream.whole
+
+  geometry : g ≡ bare_geometry s
+  geometry = one_geometry (stream_in s.book p (bare s x)) (stream_in s.book q (bare s x)) g (bare_geometry s) same mine own.1.stream.whole
+
+  blocks : (stream_in wish.book p (bare s x)).segments.blocks ≡ own.0
+  blocks = ap (λ b. (stream_in b p (bare s x)).segments.blocks) book ∙ ap (λ z. z.segments.blocks) same ∙ own.1.stream.blocks
+
+  pub read_back : GivesImage s x gave g
+  read_back = record {
+    geometry = geometry;
+    same = λ sends.
+        why.rows ∙ rows_input wish (bare s x) g why.answer ∙ ap (all_rows g) (ap (λ l. (stream_in wish.book p l).segments.blocks) (within wish (bare s x) g why.answer) ∙ blocks) ∙ ap (λ h. all_rows h own.0) geometry
+        ∙ ap (all_rows (bare_geometry s)) (own.1.exact sends) ∙ picture_is s x is;
+  }
 
 -- what was given of its stream
 module _ (streams : ImagesAreBareStreams) (s : Setting) (x : ℕ → ℕ → ℤ) (is : IsBareImage s x) (gave : List ℕ) (w : List (List (List ℤ))) (says : SaysImage s x w) where
@@ -36,8 +61,10 @@ pub round_trip : ImagesAreBareStreams → StreamsAreRead → BareRoundTrip
 round_trip streams reads = record {
   picture = λ s x is. picture_is s x is;
   decoded = λ wish old new g left s x run told all book is.
-      let why = run.reason left told in
-      read_back streams s x is g run.took run.gave all run.read why.0 run.gives (subst (λ b. StreamThen b run.took run.read [] why.0 g) book why.1);
+      let b = left_told old.rest new.rest left run.took told run.since.rest in
+      let none : b.0 ≡ [] = subst IsUsedUp b.1 run.ends in
+      let whole : left ≡ bare s x = b.2 ∙ ap (λ l. run.took ++ l) none ∙ append-nil run.took ∙ all in
+      read_back streams s x is wish book g run.took run.gave (subst (λ l. AnswersBy wish l run.took run.gave (Ok g)) whole (run.answers left told));
   answered = λ wish old new result s x run told book is caps.
       let says = streams.says s x is in
       gives_back streams s x is run.gave says.0 says.1 result (reads.read wish old new result (bare s x) (bare_geometry s) says.0 run (subst (λ b. BareStream b (bare s x) (bare_geometry s) says.0) (sym book) says.1.stream) told caps);

@@ -1,5 +1,7 @@
 -- The heads of an image's segments agree with the first one.
-use Rattle.std.proofs.Common.{◌≡◌, ◌≤◌, ◌<◌, ◌+◌, ◌*◌, ◌%◌, ◌==◌, ℕ, ℤ, Bool, true, false, List, length, refl, sym, ap, ◌∙◌, arith, nat_le, nat_lt, ◌&&◌, ◌||◌, if◌then◌else◌, mul-le-mul_left}
+use Rattle.std.proofs.Common.{◌≡◌, ◌≤◌, ◌<◌, ◌+◌, ◌-◌, ◌*◌, ◌%◌, ◌==◌, max, ℕ, ℤ, Bool, true, false, List, length, refl, sym, ap, ◌∙◌, arith, nat_le, nat_lt, ◌&&◌, ◌||◌, if◌then◌else◌, mul-le-mul_left}
+use Rattle.std.specs.Int.{div_ceil}
+use Rattle.std.proofs.lemmas.Grind.{div_ceil_times}
 use Rattle.std.proofs.lemmas.Bool.Decides.{nat_tests}
 use Rattle.std.proofs.lemmas.Nat.{div-mul-add, mod-mul-add}
 use Rattle.std.proofs.lemmas.Bool.{le-leb, lt-ltb, eq-eqb, and_from}
@@ -8,11 +10,13 @@ use Rattle.base_122.specs.Sizes.{block_count, total_blocks, segment_blocks}
 use Rattle.base_122.specs.declared.setting.Setting.{Setting}
 use Rattle.base_122.proofs.SizeBounds.{three-le-block_count, nine-le-total_blocks, one-le-segment_blocks}
 use Rattle.segment_defs.specs.declared.head.SegmentHead.{SegmentHead}
+use Rattle.stream_defs.specs.Begun.{rows_reached}
 use Rattle.stream_defs.specs.Output.{head_for, image_blocks, image_part, segment_of, segments_of}
 use Rattle.bare_text.specs.Agreement.{blocks_before, blocks_agree, last_agrees, height_at}
-use Rattle.bare_stream.specs.BareStream.{AgreesWith, geometry_at}
+use Rattle.bare_stream.specs.Heads.{AgreesWith}
+use Rattle.bare_stream.specs.Pictures.{geometry_at, open_geometry, pixels_at}
 use Rattle.bare_stream.specs.Images.{bare_geometry}
-use Rattle.bare_stream.proofs.Agrees.{all_agree, same_flag, same_number, same_image}
+use Rattle.bare_stream.proofs.Agrees.{all_agree, pixels_last, same_flag, same_number, same_image}
 use Rattle.bare_stream.proofs.SegmentCounts.{whole_before, room_before, few_last, all_blocks, least_first, least_is}
 
 module _ (s : Setting) (x : ℕ → ℕ → ℤ) (range : IsInRange s) (height : IsWithin rows_range s.rows)
@@ -101,6 +105,34 @@ module _ (s : Setting) (x : ℕ → ℕ → ℤ) (range : IsInRange s) (height :
     count = same_number (index % 256);
     image = same_image (image_part s);
   }
+
+  -- ---- the pixels
+
+  reached : (k : ℕ) → k < total → max 17 (8 * div_ceil k c - 7) ≤ s.rows
+  reached k lt =
+      let some = some_columns in
+      let high : div_ceil k c ≤ r = (let most : k ≤ r * c = omega (arith, lt, rows_total) in grind (arith, nat_tests, div_ceil_times)) in
+      let low = height.0 in
+      omega (arith, high, low)
+
+  -- no head reports more than the image has
+  pub few_pixels : (index : ℕ) → index < n → pixels_at (head 0) index (head index) ≤ s.width * s.rows
+  few_pixels index lt = by (index + 1 == n) refl
+    where
+      by : (b : Bool) → (index + 1 == n) ≡ b → pixels_at (head 0) index (head index) ≤ s.width * s.rows
+      by true e =
+          let last : index + 1 ≡ n = grind (arith, nat_tests) in
+          let all = pixels_last (head 0) index (head index) (heads_agree index lt) e ∙ ap (λ h. s.width * h) (height_is index last) in
+          omega (arith, all)
+      by false e =
+          let more : index + 1 < n = grind (arith, nat_tests) in
+          let before = room index more in
+          let whole_one = whole index more in
+          let k = index * size 0 + size index in
+          let there : pixels_at (head 0) index (head index) ≡ s.width * max 17 (8 * div_ceil k c - 7) =
+          ap (λ t. s.width * rows_reached (if t then geometry_at (head 0) index (head index) else open_geometry (head 0)) k) e in
+          let most : s.width * max 17 (8 * div_ceil k c - 7) ≤ s.width * s.rows = mul-le-mul_left s.width (reached k (omega (arith, before, whole_one))) in
+          omega (arith, there, most)
 
   -- ---- the geometry
 

@@ -12,7 +12,7 @@ use Rattle.stream_defs.specs.Picture.{number_at, picture_of, whole_with}
 use Rattle.stream_defs.proofs.HeightPictures.{raster_same}
 use Rattle.picture_rows.proofs.SameImages as images
 use Rattle.bare_stream.specs.Images.{IsBareImage, bare_geometry, image_segments}
-use Rattle.bare_stream.specs.SegmentsRead.{all_rows, segments_in}
+use Rattle.bare_stream.specs.Pictures.{all_rows, segments_in}
 use Rattle.bare_stream.proofs.Counts.{rows_in}
 use Rattle.bare_stream.proofs.RowsShown.{number_is}
 use Rattle.bare_stream.proofs.SegmentCounts.{segment_within, place_within, place_is}

@@ -1,10 +1,8 @@
 -- The last segment, of which the text was read, is given to the picture.
-use Rattle.std.proofs.Common.{◌≡◌, ◌≤◌, ◌<◌, ◌+◌, ◌*◌, ◌^◌, ℕ, ℤ, List, [], ◌∷◌, ◌++◌, length, take, refl, sym, ap, ◌∙◌, subst, arith, length-append, append_assoc, ap₂, Some, Err, true, false}
-use Rattle.std.specs.List.{concat}
+use Rattle.std.proofs.Common.{◌≡◌, ◌≤◌, ◌<◌, ◌+◌, ◌*◌, ◌^◌, ℕ, ℤ, List, [], ◌∷◌, ◌++◌, length, take, refl, sym, ap, ◌∙◌, subst, arith, length-append, ap₂, if◌then◌else◌, None, Some, Err, true, false}
 use Rattle.std.proofs.Math.Nat.{mul-le-mul_left, div-add-mod}
 use Rattle.std.proofs.lemmas.Bool.Decides.{nat_tests}
 use Rattle.port_122.specs.Outside.{Outside}
-use Rattle.port_122.proofs.Stretches.{since_weaker}
 use Rattle.base_122.specs.Ranges.{IsWithin, rows_range}
 use Rattle.base_122.specs.Sizes.{block_count, first_block, total_blocks}
 use Rattle.base_122.specs.declared.geometry.Geometry.{Geometry}
@@ -22,21 +20,21 @@ use Rattle.picture_rows.specs.Steps.{StopsEarly, HasEnded as EndsAt}
 use Rattle.bare_text.specs.Agreement.{blocks_before, height_at}
 use Rattle.bare_text.specs.declared.parts.PartsInForce.{PartsInForce}
 use Rattle.bare_text.specs.declared.read.BareHead.{BareHead}
-use Rattle.bare_text.specs.InForce.{none_in_force}
 use Rattle.bare_stream.specs.declared.fault.BareFault.TheVariants.{WriteFault}
 use Rattle.bare_stream.specs.declared.input.PortIn.{PortIn}
 use Rattle.bare_stream.specs.declared.walk.Walk.{Walk}
 use Rattle.bare_stream.specs.Blocks.{AreParts, HasNextBlocks, HasPutBlocks}
-use Rattle.bare_stream.specs.BareStream.{StartsWith, BareStream, geometry_at}
 use Rattle.bare_stream.specs.Input.{waiting}
-use Rattle.bare_stream.specs.SegmentsRead.{SegmentsRead, AgreeingText, BeginsSo, Told, open_geometry, segments_in, shape_with, all_rows}
-use Rattle.bare_stream.specs.Reads.{ShowsRead, AreNumbersOf}
-use Rattle.bare_stream.specs.Decoded.{DecodesBare}
+use Rattle.bare_stream.specs.Pictures.{geometry_at, open_geometry, segments_in, shape_with, all_rows}
+use Rattle.bare_stream.specs.StreamRead.{text as next_is, next_in}
+use Rattle.bare_stream.specs.Decoded.{Told, DecodesBare}
+use Rattle.bare_stream.specs.Reads.{SegmentsRead, InForceAfter, ShowsRead, AreNumbersOf, segments_of}
 use Rattle.bare_stream.specs.Walks.{IsSound, IsNext, IsAt, IsHeadOf, IsNextText, HasEnded}
-use Rattle.bare_stream.proofs.Agrees.{Ends, ends, least_blocks, pixels_last, same_weights}
-use Rattle.bare_stream.proofs.NextGiven.{begins_so, broken_off, cells_long, total_is}
+use Rattle.bare_stream.proofs.Agrees.{Ends, ends, least_blocks, same_weights}
+use Rattle.bare_stream.proofs.NextHeads.{first_is}
+use Rattle.bare_stream.proofs.NextGiven.{broken_off, cells_long, total_is}
 use Rattle.bare_stream.proofs.RowsShown.{rows_closed}
-use Rattle.bare_stream.proofs.SegmentMore.{with_more, asks_all, octets_all, stream_of}
+use Rattle.bare_stream.proofs.SegmentMore.{with_more, reaches_more, segment_read}
 use Rattle.bare_stream.proofs.SegmentShown.{rows_now, rows_broken}
 
 -- ---- the height
@@ -44,13 +42,6 @@ use Rattle.bare_stream.proofs.SegmentShown.{rows_now, rows_broken}
 -- the blocks of an image of this height are all blocks up to the last one
 pub last_total : (first : SegmentHead) (index : ℕ) (head : SegmentHead) → IsHead head → Ends first index head → total_blocks first.image.width (height_at first index head) ≡ blocks_before first index + head.blocks
 last_total first index head ok e = grind (arith, nat_tests, div-add-mod)
-
--- the first octets of the texts
-starts_all : (first : SegmentHead) (texts : List (List ℕ)) (t : List ℕ) → BeginsSo first (texts ++ t ∷ []) → StartsWith first (concat (texts ++ t ∷ []))
-starts_all first [] t begins = record { front = begins.front; rest = begins.rest ++ []; parts = ap (λ l. l ++ []) begins.parts ∙ append_assoc begins.front begins.rest []; read = begins.read; whole = begins.whole }
-starts_all first (x ∷ texts) t begins =
-    let more = concat (texts ++ t ∷ []) in
-    record { front = begins.front; rest = begins.rest ++ more; parts = ap (λ l. l ++ more) begins.parts ∙ append_assoc begins.front begins.rest more; read = begins.read; whole = begins.whole }
 
 -- all rows of a picture whose segments count from the first head
 closed_octets : (first : SegmentHead) (index : ℕ) (head : SegmentHead) (w : List (List (List ℤ))) →
@@ -98,7 +89,7 @@ module _ (w : Walk) (read : BareHead) (sound : IsSound w) (next : IsNext w read)
     last_weights cells parts = subst (AreParts cells read.head.blocks) (same_weights w.first w.index read.head next.agrees ∙ sym (ap (λ (g : Geometry). g.weights.shifts) shape_ended)) parts
 
     module _ {X : Type 0} (outside : X → Outside) (wish : DecodeWish) (start : Outside) (r : SegmentsRead) (front text : List ℕ) (before : PartsInForce) (t u : PortIn X) (at : IsAt outside wish start r text t w)
-        (head : Told start (IsHeadOf wish.book r before w.parts front read)) (is_next : Told start (IsNextText wish.book r before w text read)) (waits : waiting u ≡ waiting t) (left : u.left ≡ t.left) where
+        (head : Told start (λ input. IsHeadOf wish r before w.parts front read)) (is_next : Told start (λ input. IsNextText wish r before w text read)) (waits : waiting u ≡ waiting t) (left : u.left ≡ t.left) (failed : u.failed ≡ t.failed) where
       abbrev cells : List ℤ
       cells = w.room.blocks.items
 
@@ -150,19 +141,22 @@ module _ (w : Walk) (read : BareHead) (sound : IsSound w) (next : IsNext w read)
           ∙ ap (λ h. raster_octets w.first.image.depth height w.first.image.width (whole_with shape (number_at (open_geometry h) (segments_in all)))) at.first
           ∙ closed_octets w.first w.index read.head all
 
-      texts_told : Told start (BareStream wish.book (concat more.texts) g more.blocks)
-      texts_told told_all told =
-          let h = head told_all told in
-          let n = is_next told_all told in
-          let index : w.index ≡ 0 + length r.texts = omega (arith, at.index) in
-          let g_is : g ≡ geometry_at r.first w.index read.head = ap (λ h. geometry_at h w.index read.head) (sym at.first) in
-          record {
-            first = r.first;
-            starts = starts_all r.first r.texts text (begins_so wish.book r before w front text read h n);
-            texts = stream_of wish.book r.first g none_in_force before 0 r.texts r.blocks text held h.are
-                (subst (λ k. AgreeingText wish.book r.first before k text held (λ head now. (head.last ≡ true) × (g ≡ geometry_at r.first k head))) index
-                (record { head = n.head; after = n.after; is = n.is; agrees = n.agrees; goes_on = (ap (λ (h : SegmentHead). h.last) n.goes_on.0 ∙ last, g_is ∙ ap (geometry_at r.first w.index) (sym n.goes_on.0)) }));
-          }
+      reaches : InForceAfter wish start r before
+      reaches input told = (head input told).reaches
+
+      next_told : Told start (λ input. next_in wish.book wish.pixels (segments_of r before) text ≡ next_is read.head (length text) held)
+      next_told input told = (is_next input told).next
+
+      same_index : w.index ≡ length r.blocks
+      same_index = at.index ∙ at.read.same
+
+      later : InForceAfter wish start more w.parts
+      later input told =
+          let h = head input told in
+          let n = is_next input told in
+          reaches_more wish at.laws r before w.parts read.head text held (Some g) h.reaches n.next n.force (first_is r.first r.texts read.head h.starts)
+          (ap (λ b. if b then Some (geometry_at r.first (length r.blocks) read.head) else None) last
+          ∙ ap (λ h. Some (geometry_at h (length r.blocks) read.head)) at.first ∙ ap (λ k. Some (geometry_at w.first k read.head)) (sym same_index))
 
       blocks_all : w.index + 1 ≡ length all
       blocks_all = (let size = length-append r.blocks (held ∷ []) in let index = at.index in let same = at.read.same in omega (arith, size, index, same))
@@ -171,24 +165,18 @@ module _ (w : Walk) (read : BareHead) (sound : IsSound w) (next : IsNext w read)
       has_ended z put first index =
           let rows = rows_now shape r text held (Some g) at.read.gave cells read.head.blocks e shows last_long some few refl (picture_state z.picture) put (number_at (open_geometry r.first) (segments_in all)) (total_blocks w.first.image.width height) reached own ∙ closed in
           record {
+            laws = at.laws;
             r = more;
             g = g;
+            before = w.parts;
             ended = refl;
             g_is = sym (ap₂ (λ h n. record (geometry_at h 0 h) { rows = n }) first (ap (λ (g : Geometry). g.rows) (put.geometry ∙ shape_ended)));
-            few = (let f = next.few in let p = pixels_last w.first w.index read.head next.agrees last in let same = at.pixels in omega (arith, f, p, same));
             index = index ∙ blocks_all;
-            took = at.read.took;
-            gave = at.read.gave ++ put.goes.gave;
-            since = since_weaker (asks_all outside wish.octets start r text put.goes.gave held t u at.read waits left put.goes.out (Some g)) (λ i j le asks. asks.0);
-            gave_is = rows;
-            octets = octets_all outside wish.octets start r text put.goes.gave held t u at.read waits left put.goes.out (Some g);
-            left = (let n = at.read.left in omega (arith, n, left));
-            all = length-append r.texts (text ∷ []) ∙ ap (λ n. n + 1) at.read.same ∙ sym (length-append r.blocks (held ∷ []));
-            stream = texts_told;
+            read = segment_read wish at.laws outside start r before read.head text put.goes.gave held t u at.read reaches next_told waits left failed put.goes.out (Some g) rows;
+            reaches = later;
           }
 
       pub last_broken : StopsEarly (HasNextBlocks cells read.head.blocks e) (block_rows_before e.geometry (passed_in e + read.head.blocks)) (outside t.port.now) (outside u.port.now) e → DecodesBare wish start (outside u.port.now) (Err WriteFault)
       last_broken broken =
           let rows = rows_broken shape r text held (Some g) at.read.gave cells read.head.blocks e shows last_long some few refl (number_at (open_geometry r.first) (segments_in all)) (total_blocks w.first.image.width height) reached own broken in
-          broken_off outside wish start r text broken.gave held t u at.read waits left broken.out broken.rose (Some g) rows.0 (rows.1 ∙ ap (take rows.0) closed)
-          (λ told_all told. (waiting u, length all, (concat more.texts, octets_all outside wish.octets start r text broken.gave held t u at.read waits left broken.out (Some g), texts_told told_all told, refl, refl)))
+          broken_off wish at.laws outside start r before w.parts read.head text broken.gave held t u at.read reaches next_told waits left failed broken.out broken.rose (Some g) later rows.0 (rows.1 ∙ ap (take rows.0) closed)

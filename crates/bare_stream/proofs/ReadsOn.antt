@@ -1,66 +1,90 @@
 -- Octets of the next segment are read.
-use Rattle.std.proofs.Common.{◌≡◌, ◌≤◌, ◌+◌, ℕ, List, ◌++◌, length, take, refl, sym, ap, ◌∙◌, arith, append_assoc, length-append, nat_lt, false, if◌then◌else◌, Option, None, Some}
+use Rattle.std.proofs.Common.{◌≡◌, ◌⊎◌, ◌≤◌, ◌<◌, ◌+◌, ℕ, inl, inr, true, Bool, List, [], ◌++◌, length, take, refl, sym, ap, subst, ◌∙◌, arith, append_assoc, length-append, Option, None, Some}
 use Rattle.std.specs.List.{concat}
-use Rattle.std.proofs.lemmas.Bool.Decides.{nat_tests}
-use Rattle.std.proofs.Math.Seq.{take-length}
+use Rattle.std.proofs.lemmas.List.{append-nil, take-append-le}
 use Rattle.port_122.specs.Outside.{Outside, Loses}
-use Rattle.port_122.proofs.Stretches.{since_weaker}
+use Rattle.port_122.proofs.Stretches.{since_weaker, rose_since}
 use Rattle.port_122.proofs.ReadCalls.{since_in}
+use Rattle.base_122.specs.declared.wish.DecodeWish.{DecodeWish}
 use Rattle.bit_pipe.specs.Sources.{Comes}
 use Rattle.bare_stream.specs.declared.input.PortIn.{PortIn}
-use Rattle.bare_stream.specs.Input.{Went, waiting, tail_of}
-use Rattle.bare_stream.specs.SegmentsRead.{SegmentsRead, Told, open_rows, rows_after, rows_read}
-use Rattle.bare_stream.specs.Reads.{HasRead, AsksIn}
+use Rattle.bare_stream.specs.Input.{Went, AsksWithin, IsLast, waiting, tail_of}
+use Rattle.bare_stream.specs.InputLaws.{still_known, still_last}
+use Rattle.bare_stream.specs.Decoded.{Told, IsOpen, TakesNone}
+use Rattle.bare_stream.specs.Reads.{SegmentsRead, HasRead, AskedBefore, AskedNow, AsksIn, size_of}
 use Rattle.bare_stream.proofs.InputSteps.{came_is}
 
--- the port still reports what is left
-pub still_told : (a b : Option (List ℕ)) (took all : List ℕ) → Loses a b took → a ≡ Some all → (rest : List ℕ) × (b ≡ Some rest)
-still_told None b took all loses told = absurd cc
-still_told (Some before) None took all loses told = absurd loses
-still_told (Some before) (Some now) took all loses told = (now, refl)
+-- what is known of a call before stays so, if more octets are taken
+pub before_longer : (wish : DecodeWish) (took more gave : List ℕ) (failed now : Bool) (left later : Option (List ℕ)) (i j : ℕ) → i ≤ length took → (failed ≡ true → (more ≡ []) × (now ≡ true)) → Loses left later more →
+    AskedBefore wish took gave failed left i j → AskedBefore wish (took ++ more) gave now later i j
+before_longer wish took more gave failed now left later i j le stops loses (inl opened) = inl (subst (λ l. IsOpen wish l (take j gave)) (sym (take-append-le i took more le)) opened)
+before_longer wish took more gave failed now left later i j le stops loses (inr (last, none)) =
+    let l = still_last took more failed now left later i stops loses last in
+    inr (l.1, subst (λ t. TakesNone wish t gave i j) (sym (ap (λ m. took ++ m) l.0 ∙ append-nil took)) none)
 
--- if n is the number of the texts, the first n are all of them
-pub all_texts : (n : ℕ) (texts : List (List ℕ)) → n ≡ length texts → concat (take n texts) ≡ concat texts
-all_texts n texts e = ap concat (ap (λ m. take m texts) e ∙ take-length texts)
+module _ {X : Type 0} (outside : X → Outside) (wish : DecodeWish) (start : Outside) (r : SegmentsRead) (part : List ℕ) (s t : PortIn X) (read : HasRead outside wish start r part s) (went : Went outside s t) where
+  abbrev before : List ℕ
+  before = read.took
 
-not_below : (k n : ℕ) → k ≡ n → nat_lt k n ≡ false
-not_below k n e = grind (arith, nat_tests)
+  abbrev after : List ℕ
+  after = read.took ++ went.took
 
-pub rows_of_all : (r : SegmentsRead) → length r.texts ≡ length r.blocks → rows_read r ≡ rows_after r (length r.texts)
-rows_of_all r same = sym (ap (λ b. if b then open_rows r.first (take (length r.texts) r.blocks) else rows_read r) (not_below (length r.texts) (length r.blocks) same))
+  sizes : length before ≡ size_of r + (length part + length (waiting s))
+  sizes = (let a = ap length read.octets ∙ length-append (concat r.texts) (part ++ waiting s) in let b = length-append part (waiting s) in omega (arith, a, b))
 
-module _ {X : Type 0} (outside : X → Outside) (cap : ℕ) (start : Outside) (r : SegmentsRead) (part : List ℕ) (s t : PortIn X) (read : HasRead outside cap start r part s) (went : Went outside s t) where
-  before : length read.took ≡ length (concat r.texts) + (length part + length (waiting s))
-  before = (let a = ap length read.octets ∙ length-append (concat r.texts) (part ++ waiting s) in let b = length-append part (waiting s) in omega (arith, a, b))
+  now_longer : (i j : ℕ) → AskedNow r part before read.gave s.failed (outside s.port.now).rest i j → AskedNow r (part ++ went.gave) after read.gave t.failed (outside t.port.now).rest i j
+  now_longer i j asked = (
+    asked.0,
+    asked.1,
+    elim asked.2 [
+      | inl lt ↦ inl (omega (arith, lt, length-append part went.gave))
+      | inr last ↦ inr (still_last before went.took s.failed t.failed (outside s.port.now).rest (outside t.port.now).rest i went.stops went.since.rest last).1
+    ],
+  )
 
-  asks : (i j : ℕ) → i ≤ length went.took → (j ≡ 0) × (length (waiting s) + i ≤ length went.gave) → AsksIn r (part ++ went.gave) read.gave (length read.took + i) (length read.gave + j)
-  asks i j le at =
-      let all = ap length (all_texts (length r.texts) r.texts refl) in
-      let size = length-append part went.gave in
-      let count : length read.gave + j ≡ length read.gave = omega (arith, at.0) in (
-        record {
-          k = length r.texts;
-          most = omega arith;
-          whole = omega (arith, all, before);
-          next = λ lt. absurd (omega (arith, lt));
-          given = ap (λ n. take n read.gave) count ∙ take-length read.gave ∙ read.gave_is ∙ rows_of_all r read.same;
-        },
-        omega (arith, before, at.1, size),
-        omega (arith, at.0),
-      )
+  asks_old : (i j : ℕ) → i ≤ length before → AsksIn wish start r part before read.gave s.failed (outside s.port.now).rest i j → AsksIn wish start r (part ++ went.gave) after read.gave t.failed (outside t.port.now).rest i j
+  asks_old i j le asks = (
+    asks.0,
+    asks.1,
+    λ input told. elim (asks.2 input told) [
+      | inl past ↦ inl (before_longer wish before went.took read.gave s.failed t.failed (outside s.port.now).rest (outside t.port.now).rest i j le went.stops went.since.rest past)
+      | inr now ↦ inr (now_longer i j now)
+    ],
+  )
 
-  pub read_on : HasRead outside cap start r (part ++ went.gave) t
+  asks_new : (i j : ℕ) → i ≤ length went.took → AsksWithin outside s t went.took went.gave i j → AsksIn wish start r (part ++ went.gave) after read.gave t.failed (outside t.port.now).rest (length before + i) (length read.gave + j)
+  asks_new i j le asks = (
+    (let room = asks.1 in let left = read.left in omega (arith, room, left)),
+    (let none = asks.0 in omega (arith, none)),
+    λ input told. inr (
+      (let none = asks.0 in omega (arith, none)),
+      omega (arith, sizes),
+      elim asks.2 [
+        | inl lt ↦ inl (omega (arith, lt, sizes, length-append part went.gave))
+        | inr last ↦
+            let here = still_known start.rest (outside s.port.now).rest before input read.since.rest told in
+            let l = last here.0 here.1 in
+            inr (record { all = ap (λ n. length before + n) l.all ∙ sym (length-append before went.took); over = l.over })
+      ],
+    ),
+  )
+
+  pub read_on : HasRead outside wish start r (part ++ went.gave) t
   read_on = record {
-    going = read.going;
+    some = read.some;
     same = read.same;
-    took = read.took ++ went.took;
+    took = after;
     gave = read.gave;
-    since = since_in (since_weaker read.since (λ i j le a. (a.0, (let size = length-append part went.gave in omega (arith, a.1, size)), a.2))) went.since asks;
+    since = since_in (since_weaker read.since asks_old) went.since asks_new;
     gave_is = read.gave_is;
     octets =
         ap (λ l. l ++ went.took) read.octets ∙ append_assoc (concat r.texts) (part ++ waiting s) went.took
         ∙ ap (λ l. concat r.texts ++ l) (append_assoc part (waiting s) went.took ∙ ap (λ l. part ++ l) went.flow ∙ sym (append_assoc part went.gave (waiting t)));
     left = (let size = length-append read.took went.took in omega (arith, size, read.left, went.left));
+    rises = λ failed. elim (went.rises failed) [
+      | inl old ↦ (let rose = read.rises old in let less = went.since.faults.reads in omega (arith, rose, less))
+      | inr rose ↦ rose_since read.since.faults.reads rose
+    ];
   }
 
   pub read_on-gave : read_on.gave ≡ read.gave
@@ -68,7 +92,7 @@ module _ {X : Type 0} (outside : X → Outside) (cap : ℕ) (start : Outside) (r
   read_on-gave = refl
 
   -- what was given is what was read, if the port reports what is left
-  pub gave_told : (octets : List ℕ) → Comes (tail_of outside s) (tail_of outside t) octets → Told start (octets ≡ went.gave)
-  gave_told octets comes all told =
-      let here = still_told start.rest (outside s.port.now).rest read.took all read.since.rest told in
+  pub gave_told : (octets : List ℕ) → Comes (tail_of outside s) (tail_of outside t) octets → Told start (λ input. octets ≡ went.gave)
+  gave_told octets comes input told =
+      let here = still_known start.rest (outside s.port.now).rest read.took input read.since.rest told in
       came_is outside s t went octets here.0 here.1 comes

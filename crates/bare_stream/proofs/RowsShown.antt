@@ -14,7 +14,7 @@ use Rattle.stream_defs.specs.Settled.{rows_through, block_rows_before}
 use Rattle.stream_defs.proofs.HeightPictures.{placed_octets}
 use Rattle.picture_rows.specs.Fronts.{rows_of}
 use Rattle.picture_rows.proofs.RowsOut.{all_rows as rows_all}
-use Rattle.bare_stream.specs.SegmentsRead.{open_geometry, segments_in, block_rows_in, open_rows, shape_with}
+use Rattle.bare_stream.specs.Pictures.{open_geometry, segments_in, block_rows_in, open_rows, shape_with}
 use Rattle.stream_defs.proofs.Equations.{number_at-is}
 
 -- ---- before the last segment

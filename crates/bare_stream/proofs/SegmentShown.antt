@@ -13,8 +13,8 @@ use Rattle.picture_rows.specs.Fronts.{rows_of}
 use Rattle.picture_rows.specs.Pictures.{PictureState, passed_in}
 use Rattle.picture_rows.specs.Steps.{StopsEarly}
 use Rattle.picture_rows.proofs.RowsOut.{rows_out}
-use Rattle.bare_stream.specs.SegmentsRead.{SegmentsRead, open_geometry}
-use Rattle.bare_stream.specs.Reads.{AreNumbersOf, ShowsRead}
+use Rattle.bare_stream.specs.Pictures.{open_geometry}
+use Rattle.bare_stream.specs.Reads.{SegmentsRead, AreNumbersOf, ShowsRead}
 use Rattle.bare_stream.specs.Blocks.{HasNextBlocks, HasPutBlocks}
 use Rattle.bare_stream.proofs.RowsShown.{number_is}
 use Rattle.bare_stream.proofs.SegmentMore.{with_more}

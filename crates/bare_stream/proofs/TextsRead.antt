@@ -1,17 +1,18 @@
 -- The text of the next segment is read, or a decoder ends in it.
-use Rattle.std.proofs.Common.{◌≡◌, ◌≤◌, ℕ, ℤ, List, [], ◌++◌, length, refl, sym, ap, ◌∙◌, subst, arith, append_assoc, Some, unwrap_or, Result, Ok, Err, append-nil}
+use Rattle.std.proofs.Common.{◌≡◌, ◌≤◌, ◌+◌, ℕ, ℤ, List, [], ◌++◌, length, refl, sym, ap, ◌∙◌, subst, arith, append_assoc, length-append, None, Some, unwrap_or, Result, Ok, Err}
 use Rattle.port_122.specs.Outside.{Outside}
-use Rattle.port_122.proofs.Stretches.{rose_since}
 use Rattle.base_122.specs.declared.wish.DecodeWish.{DecodeWish}
 use Rattle.item_defs.specs.Items.{Refusal, bad_option, bad_delta, bad_depth, false_flag}
 use Rattle.wave_defs.specs.Held.{blocks_in}
 use Rattle.bit_pipe.specs.declared.fault.Part.{Part}
+use Rattle.segment_defs.specs.declared.head.SegmentHead.{SegmentHead}
 use Rattle.segment_code.specs.DecodedItems.{DecodesItems}
-use Rattle.segment_code.specs.ItemsHeld.{HoldsItems, RefusesItem, LacksItems}
-use Rattle.segment_code.specs.declared.decode.SegmentFault.{SegmentFault}
-use Rattle.segment_code.specs.declared.decode.SegmentFault.TheVariants as faults
+use Rattle.segment_code.specs.TextAnswers.{gives, refuses, Decides, NeedsMore}
+use Rattle.segment_code.specs.declared.fault.SegmentFault.{SegmentFault}
+use Rattle.segment_code.specs.declared.fault.SegmentFault.TheVariants as faults
 use Rattle.bare_text.specs.declared.parts.PartsInForce.{PartsInForce}
 use Rattle.bare_text.specs.declared.read.BareHead.{BareHead}
+use Rattle.bare_text.specs.InForce.{parts_after}
 use Rattle.bare_stream.specs.declared.input.PortIn.{PortIn}
 use Rattle.bare_stream.specs.declared.walk.Walk.{Walk}
 use Rattle.bare_stream.specs.declared.fault.BareCause.{BareCause}
@@ -20,123 +21,131 @@ use Rattle.bare_stream.specs.declared.fault.BareFault.{BareFault}
 use Rattle.bare_stream.specs.declared.fault.BareFault.TheVariants.{ReadFault, LongInput, Refused}
 use Rattle.bare_stream.specs.Input.{waiting}
 use Rattle.bare_stream.specs.Inputs.{source_of}
-use Rattle.bare_stream.specs.BareStream.{AgreesWith}
-use Rattle.bare_stream.specs.Heads.{FaultOf}
-use Rattle.bare_stream.specs.SegmentsRead.{SegmentsRead, AgreeingText, Told, pixels_at, shape_with}
-use Rattle.bare_stream.specs.Decoded.{MayFollow, ItemRefused, ReadThen, Refuses, BeginsBy, DecodesBare, first_of}
-use Rattle.bare_stream.specs.Reads.{HasRead, ShowsRead}
-use Rattle.bare_stream.specs.Walks.{IsAt, IsNext, IsHeadOf, book_in}
+use Rattle.bare_stream.specs.Pictures.{pixels_at, shape_with}
+use Rattle.bare_stream.specs.StreamRead.{needs_more, stops, Segments, text, ends, cause_of, next_in}
+use Rattle.bare_stream.specs.Decoded.{Told, DecodesBare}
+use Rattle.bare_stream.specs.Heads.{AgreesWith, FaultOf}
+use Rattle.bare_stream.specs.Reads.{SegmentsRead, HasRead, InForceAfter, ShowsRead, first_of, segments_of, size_of}
+use Rattle.bare_stream.specs.Walks.{IsAt, IsNext, IsHeadOf, IsNextText, book_in}
 use Rattle.picture_rows.specs.Pictures.{picture_state}
 use Rattle.bare_stream.proofs.ReadsOn.{read_on, read_on-gave, gave_told}
-use Rattle.bare_stream.proofs.HeadsRefused.{first_is, ends_plain, ends_long, not_broken}
-use Rattle.bare_stream.proofs.NextHeads.{ended_at, read_then, rest_told}
+use Rattle.bare_stream.proofs.NextHeads.{first_is}
+use Rattle.bare_stream.proofs.NextOf.{next_text, next_item, next_cut}
+use Rattle.bare_stream.proofs.NextReads.{Opens}
+use Rattle.bare_stream.proofs.Endings.{ended_by, ended_plainly, failed, was_long, was_broken}
 
 abbrev no_error : SegmentFault → Result Part SegmentFault
 no_error f = Err f
 
 module _ {X : Type 0} (outside : X → Outside) (wish : DecodeWish) (start : Outside) (r : SegmentsRead) (front : List ℕ) (s t : PortIn X) (w : Walk) (before : PartsInForce) (read : BareHead) (at : IsAt outside wish start r front s w)
-    (head : Told start (IsHeadOf wish.book r before w.parts front read)) (next : IsNext w read) where
-  abbrev now : Outside
-  now = outside t.port.now
+    (head : Told start (λ input. IsHeadOf wish r before w.parts front read)) (next : IsNext w read) where
+  abbrev segments : Segments
+  segments = segments_of r before
 
-  may_follow : MayFollow wish.pixels r.first w.index read.head
-  may_follow = record {
-    agrees = subst (λ h. AgreesWith h w.index read.head) (sym at.first) next.agrees;
-    few = subst (λ p. pixels_at r.first w.index read.head ≤ p) at.pixels (subst (λ h. pixels_at h w.index read.head ≤ w.pixels) (sym at.first) next.few);
-  }
+  reaches : InForceAfter wish start r before
+  reaches input told = (head input told).reaches
 
-  may_begin : (r.texts ≡ [] → read.head ≡ r.first) → MayFollow wish.pixels (unwrap_or (first_of r.first r.texts) read.head) w.index read.head
-  may_begin starts = subst (λ h. MayFollow wish.pixels h w.index read.head) (sym (first_is r.first r.texts read.head starts)) may_follow
+  same_index : w.index ≡ length r.blocks
+  same_index = at.index ∙ at.read.same
 
-  module _ (cells : List ℤ) (f : SegmentFault) (x : DecodesItems (source_of outside) wish.book read.head read.size (no_error f) s t cells) where
+  -- the head agrees with the first one, and has few pixels
+  module _ (starts : r.texts ≡ [] → read.head ≡ r.first) where
+    abbrev first : SegmentHead
+    first = unwrap_or segments.first read.head
+
+    same_first : w.first ≡ first
+    same_first = sym at.first ∙ sym (first_is r.first r.texts read.head starts)
+
+    agrees : AgreesWith first (length r.blocks) read.head
+    agrees = subst (λ n. AgreesWith first n read.head) same_index (subst (λ h. AgreesWith h w.index read.head) same_first next.agrees)
+
+    few : pixels_at first (length r.blocks) read.head ≤ wish.pixels
+    few = subst (λ p. pixels_at first (length r.blocks) read.head ≤ p) at.pixels (subst (λ n. pixels_at first n read.head ≤ w.pixels) same_index (subst (λ h. pixels_at h w.index read.head ≤ w.pixels) same_first next.few))
+
+  -- ---- the octets after the head
+
+  module _ {result : Result Part SegmentFault} {cells : List ℤ} (x : DecodesItems (source_of outside) wish.book read.head read.size result s t cells) where
     abbrev gave : List ℕ
     gave = x.went.gave
 
-    abbrev now_read : HasRead outside wish.octets start r (front ++ gave) t
-    now_read = read_on outside wish.octets start r front s t at.read x.went
+    abbrev all : List ℕ
+    all = front ++ gave
 
-    is_gave : Told start (x.octets ≡ gave)
-    is_gave = gave_told outside wish.octets start r front s t at.read x.went x.octets x.came
+    abbrev now_read : HasRead outside wish start r all t
+    now_read = read_on outside wish start r front s t at.read x.went
 
-    begins : Told start (BeginsBy wish.book r.ended now_read.took r)
-    begins all told =
-        let h = head all told in
-        subst (λ e. BeginsBy wish.book e now_read.took r) (sym now_read.going) (read_then outside wish start r (front ++ gave) t now_read before (λ first index b rest. Unit {0}) (h.begins, h.are) tt)
+    is_gave : Told start (λ input. x.octets ≡ gave)
+    is_gave = gave_told outside wish start r front s t at.read x.went x.octets x.came
+
+    -- what is decided of the octets is so of those that were given
+    moved : (P : ℕ → List ℕ → Type 0) → P read.size x.octets → Told start (λ input. P (length front) gave)
+    moved P p input told = subst (λ n. P n gave) (head input told).size (subst (P read.size) (is_gave input told) p)
+
+    size_all : size_of r + (length front + length gave) ≡ size_of r + length all
+    size_all = omega (arith, length-append front gave)
+
+    item_is : (name : Refusal) → Decides wish.book read.head read.size x.octets (refuses name) → Told start (λ input. next_in wish.book wish.pixels segments all ≡ ends (stops (Refused w.index (cause_of name)) (size_of r + length all)))
+    item_is name decides input told =
+        let h = head input told in
+        next_item at.laws.heads wish.book wish.pixels segments at.going front read.head h.head (agrees h.starts) (few h.starts) gave name (moved (λ n l. Decides wish.book read.head n l (refuses name)) decides input told)
+        ∙ ap (λ n. ends (stops (Refused n (cause_of name)) (size_of r + (length front + length gave)))) (sym same_index)
+        ∙ ap (λ n. ends (stops (Refused w.index (cause_of name)) n)) size_all
+
+    cut_is : NeedsMore wish.book read.head read.size x.octets → Told start (λ input. next_in wish.book wish.pixels segments all ≡ ends (needs_more (Err (Refused w.index Short))))
+    cut_is needs input told =
+        let h = head input told in
+        next_cut at.laws.heads wish.book wish.pixels segments at.going front read.head h.head (agrees h.starts) (few h.starts) gave (moved (λ n l. NeedsMore wish.book read.head n l) needs input told)
+        ∙ ap (λ n. ends (needs_more (Err (Refused n Short)))) (sym same_index)
+
+    opens : NeedsMore wish.book read.head read.size x.octets → Told start (λ input. Opens (next_in wish.book wish.pixels segments all))
+    opens needs input told = (_, cut_is needs input told)
 
     -- an item is refused
-    item_refused : (name : Refusal) → RefusesItem wish.book read.head read.size x.octets name → Told start (ItemRefused wish.book wish.pixels (first_of r.first r.texts) before w.index ((front ++ gave) ++ waiting t) name)
-    item_refused name refuses all told =
-        let h = head all told in
-        let same : RefusesItem wish.book read.head (length front) gave name = subst (λ n. RefusesItem wish.book read.head n gave name) h.size (subst (λ l. RefusesItem wish.book read.head read.size l name) (is_gave all told) refuses) in
-        record { front = front; rest = gave ++ waiting t; head = read.head; parts = append_assoc front gave (waiting t); read = h.head; whole = h.whole; goes_on = (may_begin h.starts, (gave, waiting t, refl, same)) }
+    refused_by : (name : Refusal) → Decides wish.book read.head read.size x.octets (refuses name) → DecodesBare wish start (outside t.port.now) (Err (Refused w.index (cause_of name)))
+    refused_by name decides =
+        ended_by wish at.laws outside start r before all t now_read reaches (Refused w.index (cause_of name)) (size_of r + length all) (item_is name decides) refl tt (λ input a. a)
 
-    reason_for : (cause : BareCause) → Told start (Refuses wish.book wish.pixels (first_of r.first r.texts) before w.index ((front ++ gave) ++ waiting t) now cause) →
-        Told start (ReadThen wish.book now_read.took (Some r) (λ first index b rest. (w.index ≡ index) × Refuses wish.book wish.pixels first b w.index rest now cause))
-    reason_for cause why all told =
-        let h = head all told in
-        read_then outside wish start r (front ++ gave) t now_read before (λ first index b rest. (w.index ≡ index) × Refuses wish.book wish.pixels first b w.index rest now cause) (h.begins, h.are) (at.index, why all told)
+  abbrev Ended : BareFault → Type 0
+  Ended fault = DecodesBare wish start (outside t.port.now) (Err fault)
 
-  -- it ends in the text
-  pub items_faulted : (cells : List ℤ) (f : SegmentFault) (fault : BareFault) → DecodesItems (source_of outside) wish.book read.head read.size (no_error f) s t cells → FaultOf w.index f fault → DecodesBare wish start now (Err fault)
-  items_faulted cells faults.BadOption fault x e = subst (λ f. DecodesBare wish start now (Err f)) (sym e)
-      (ended_at outside wish start r (front ++ x.went.gave) t (now_read cells faults.BadOption x) (Err (Refused w.index BadOption)) (now_read cells faults.BadOption x).gave_is tt
-      (reason_for cells faults.BadOption x BadOption (item_refused cells faults.BadOption x bad_option x.ends)))
-  items_faulted cells faults.BadDelta fault x e = subst (λ f. DecodesBare wish start now (Err f)) (sym e)
-      (ended_at outside wish start r (front ++ x.went.gave) t (now_read cells faults.BadDelta x) (Err (Refused w.index BadDelta)) (now_read cells faults.BadDelta x).gave_is tt
-      (reason_for cells faults.BadDelta x BadDelta (item_refused cells faults.BadDelta x bad_delta x.ends)))
-  items_faulted cells faults.BadDepth fault x e = subst (λ f. DecodesBare wish start now (Err f)) (sym e)
-      (ended_at outside wish start r (front ++ x.went.gave) t (now_read cells faults.BadDepth x) (Err (Refused w.index BadDepth)) (now_read cells faults.BadDepth x).gave_is tt
-      (reason_for cells faults.BadDepth x BadDepth (item_refused cells faults.BadDepth x bad_depth x.ends)))
-  items_faulted cells faults.FalseFlag fault x e = subst (λ f. DecodesBare wish start now (Err f)) (sym e)
-      (ended_at outside wish start r (front ++ x.went.gave) t (now_read cells faults.FalseFlag x) (Err (Refused w.index FalseFlag)) (now_read cells faults.FalseFlag x).gave_is tt
-      (reason_for cells faults.FalseFlag x FalseFlag (item_refused cells faults.FalseFlag x false_flag x.ends)))
-  items_faulted cells faults.ShortSegment fault x e = subst (λ f. DecodesBare wish start now (Err f)) (sym e)
-      (ended_at outside wish start r (front ++ x.went.gave) t (now_read cells faults.ShortSegment x) (Err (Refused w.index Short)) (now_read cells faults.ShortSegment x).gave_is tt
-      (reason_for cells faults.ShortSegment x Short (λ all told.
-      let h = head all told in
-      let here = rest_told outside wish start r (front ++ x.went.gave) t (now_read cells faults.ShortSegment x) all told in
-      let over = ends_plain now.rest (waiting t) here.0 t.left here.1 x.ends.0 in
-      let rest : x.went.gave ++ waiting t ≡ x.went.gave = ap (λ l. x.went.gave ++ l) over.none ∙ append-nil x.went.gave in
-      let lacks : LacksItems wish.book read.head (length front) (x.went.gave ++ waiting t) =
-      subst (LacksItems wish.book read.head (length front)) (sym rest) (subst (λ n. LacksItems wish.book read.head n x.went.gave) h.size (subst (LacksItems wish.book read.head read.size) (is_gave cells faults.ShortSegment x all told) x.ends.1)) in
-      (record { front = front; rest = x.went.gave ++ waiting t; head = read.head; parts = append_assoc front x.went.gave (waiting t); read = h.head; whole = h.whole; goes_on = (may_begin h.starts, lacks) }, over.end))))
+  -- the items were not read
+  pub items_faulted : (cells : List ℤ) (f : SegmentFault) (fault : BareFault) → DecodesItems (source_of outside) wish.book read.head read.size (no_error f) s t cells → FaultOf w.index f fault → Ended fault
+  items_faulted cells faults.BadOption fault x e = subst Ended (sym e) (refused_by x bad_option x.ends)
+  items_faulted cells faults.BadDelta fault x e = subst Ended (sym e) (refused_by x bad_delta x.ends)
+  items_faulted cells faults.BadDepth fault x e = subst Ended (sym e) (refused_by x bad_depth x.ends)
+  items_faulted cells faults.FalseFlag fault x e = subst Ended (sym e) (refused_by x false_flag x.ends)
+  items_faulted cells faults.ShortSegment fault x e =
+      subst Ended (sym e) (ended_plainly wish at.laws outside start r before (all x) t (now_read x) reaches (opens x x.ends.0) (Err (Refused w.index Short)) (cut_is x x.ends.0) x.ends.1 tt (λ input a. a))
   items_faulted cells faults.Overlong fault x e = absurd x.ends
-  items_faulted cells faults.BrokenSegment fault x e = subst (λ f. DecodesBare wish start now (Err f)) (sym e)
-      (ended_at outside wish start r (front ++ x.went.gave) t (now_read cells faults.BrokenSegment x) (Err LongInput) (now_read cells faults.BrokenSegment x).gave_is tt
-      (λ all told. let here = rest_told outside wish start r (front ++ x.went.gave) t (now_read cells faults.BrokenSegment x) all told in absurd (not_broken now.rest (waiting t) here.0 t.left here.1 x.ends)))
-  items_faulted cells faults.ReadFault fault x e = subst (λ f. DecodesBare wish start now (Err f)) (sym e)
-      (ended_at outside wish start r (front ++ x.went.gave) t (now_read cells faults.ReadFault x) (Err ReadFault) (now_read cells faults.ReadFault x).gave_is (rose_since at.read.since.faults.reads x.ends) (begins cells faults.ReadFault x))
-  items_faulted cells faults.LongInput fault x e = subst (λ f. DecodesBare wish start now (Err f)) (sym e)
-      (ended_at outside wish start r (front ++ x.went.gave) t (now_read cells faults.LongInput x) (Err LongInput) (now_read cells faults.LongInput x).gave_is tt
-      (λ all told.
-      let here = rest_told outside wish start r (front ++ x.went.gave) t (now_read cells faults.LongInput x) all told in
-      let long = ends_long now.rest (waiting t) here.0 t.left here.1 x.ends in
-      let left = (now_read cells faults.LongInput x).left in
-      let none = long.1 in
-      (omega (arith, left, none), begins cells faults.LongInput x all told)))
+  items_faulted cells faults.BrokenSegment fault x e = subst Ended (sym e) (was_broken wish at.laws outside start r before (all x) t (now_read x) reaches (opens x x.ends.0) x.ends.1)
+  items_faulted cells faults.ReadFault fault x e = subst Ended (sym e) (failed wish at.laws outside start r before (all x) t (now_read x) reaches (opens x x.ends.0) s x.ends.1)
+  items_faulted cells faults.LongInput fault x e = subst Ended (sym e) (was_long wish at.laws outside start r before (all x) t (now_read x) reaches (opens x x.ends.0) x.ends.1)
 
-  -- it is read
+  -- ---- the text is read
+
   module _ (cells : List ℤ) (part : Part) (x : DecodesItems (source_of outside) wish.book read.head read.size (Ok part) s t cells) where
     pub text_at : (v : Walk) → v.first ≡ w.first → v.index ≡ w.index → v.pixels ≡ w.pixels → book_in v ≡ book_in w → v.picture ≡ w.picture → IsAt outside wish start r (front ++ x.went.gave) t v
     text_at v first index pixels book picture = record {
-      read = read_on outside wish.octets start r front s t at.read x.went;
+      laws = at.laws;
+      read = read_on outside wish start r front s t at.read x.went;
+      going = at.going;
       first = at.first ∙ sym first;
       index = index ∙ at.index;
       pixels = pixels ∙ at.pixels;
       book = book ∙ at.book;
-      shows = subst (λ p. ShowsRead (shape_with r.first 262144) r (read_on outside wish.octets start r front s t at.read x.went).gave (picture_state p)) (sym picture)
-          (subst (λ l. ShowsRead (shape_with r.first 262144) r l (picture_state w.picture)) (sym (read_on-gave outside wish.octets start r front s t at.read x.went)) at.shows);
+      shows = subst (λ p. ShowsRead (shape_with r.first 262144) r (read_on outside wish start r front s t at.read x.went).gave (picture_state p)) (sym picture)
+          (subst (λ l. ShowsRead (shape_with r.first 262144) r l (picture_state w.picture)) (sym (read_on-gave outside wish start r front s t at.read x.went)) at.shows);
     }
 
-    pub is_text : Told start (AgreeingText wish.book r.first before w.index (front ++ x.went.gave) (blocks_in cells) (λ h after. (h ≡ read.head) × (after ≡ w.parts)))
-    is_text all told =
-        let h = head all told in
-        let held : HoldsItems wish.book read.head (length front) x.went.gave (blocks_in cells) part =
-        subst (λ n. HoldsItems wish.book read.head n x.went.gave (blocks_in cells) part) h.size (subst (λ l. HoldsItems wish.book read.head read.size l (blocks_in cells) part) (gave_told outside wish.octets start r front s t at.read x.went x.octets x.came all told) x.ends) in
-        record {
-          head = read.head;
-          after = w.parts;
-          is = record { front = front; rest = x.went.gave; parts = refl; read = h.head; whole = h.whole; part = part; holds = held; force = h.force };
-          agrees = may_follow.agrees;
-          goes_on = (refl, refl);
-        }
+    pub text_is : Told start (λ input. next_in wish.book wish.pixels segments (front ++ x.went.gave) ≡ text read.head (length (front ++ x.went.gave)) (blocks_in cells))
+    text_is input told =
+        let h = head input told in
+        let decides = moved x (λ n l. Decides wish.book read.head n l (gives part (blocks_in cells))) x.ends input told in
+        next_text at.laws.heads wish.book wish.pixels segments at.going front read.head h.head (agrees h.starts) (few h.starts) x.went.gave part (blocks_in cells) decides
+        ∙ ap (λ n. text read.head n (blocks_in cells)) (sym (length-append front x.went.gave))
+
+    pub text_force : Told start (λ input. (more : List ℕ) → parts_after before ((front ++ x.went.gave) ++ more) ≡ w.parts)
+    text_force input told more =
+        let h = head input told in
+        ap (parts_after before) (append_assoc front x.went.gave more)
+        ∙ (at.laws.heads before front (record { result = Ok read.head; octets = length front }) h.head).force read.head refl (x.went.gave ++ more) ∙ sym h.force

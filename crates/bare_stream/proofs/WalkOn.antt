@@ -3,13 +3,14 @@ use Rattle.std.proofs.Common.{◌≡◌, ◌≤◌, ◌<◌, ◌+◌, ◌-◌, �
 use Rattle.std.proofs.lemmas.Bool.Decides.{nat_tests}
 use Rattle.port_122.specs.Outside.{Outside}
 use Rattle.base_122.specs.Sizes.{first_block, total_blocks}
-use Rattle.base_122.specs.declared.book.Book.{Book}
+use Rattle.base_122.specs.declared.wish.DecodeWish.{DecodeWish}
 use Rattle.segment_defs.specs.declared.head.SegmentHead.{SegmentHead}
 use Rattle.bare_text.specs.declared.parts.PartsInForce.{PartsInForce}
 use Rattle.bare_text.specs.declared.read.BareHead.{BareHead}
 use Rattle.bare_stream.specs.declared.walk.Walk.{Walk}
-use Rattle.bare_stream.specs.BareStream.{AgreesWith}
-use Rattle.bare_stream.specs.SegmentsRead.{SegmentsRead, Told}
+use Rattle.bare_stream.specs.Decoded.{Told}
+use Rattle.bare_stream.specs.Heads.{AgreesWith}
+use Rattle.bare_stream.specs.Reads.{SegmentsRead}
 use Rattle.bare_stream.specs.Walks.{IsSound, IsNext, IsHeadOf}
 use Rattle.bare_stream.proofs.Agrees.{ends, goes_on}
 
@@ -48,8 +49,9 @@ module _ (w v : Walk) (same : v ≡ record w { room = v.room }) where
   pub text_fits : (0 < w.index → w.first.last ≡ false) → 0 < v.index → v.first.last ≡ false
   text_fits fits lt = ap (λ (x : Walk). x.first.last) same ∙ fits (let index = ap (λ (x : Walk). x.index) same in omega (arith, lt, index))
 
-  pub text_head : (book : Book) (start : Outside) (r : SegmentsRead) (before : PartsInForce) (front : List ℕ) (read : BareHead) → Told start (IsHeadOf book r before w.parts front read) → Told start (IsHeadOf book r before v.parts front read)
-  text_head book start r before front read head = subst (λ p. Told start (IsHeadOf book r before p front read)) (sym (ap (λ (x : Walk). x.parts) same)) head
+  pub text_head : (wish : DecodeWish) (start : Outside) (r : SegmentsRead) (before : PartsInForce) (front : List ℕ) (read : BareHead) → Told start (λ input. IsHeadOf wish r before w.parts front read) →
+      Told start (λ input. IsHeadOf wish r before v.parts front read)
+  text_head wish start r before front read head = subst (λ p. Told start (λ input. IsHeadOf wish r before p front read)) (sym (ap (λ (x : Walk). x.parts) same)) head
 
 -- ---- the next head was read
 

@@ -4,8 +4,8 @@ use Rattle.bit_pipe.specs.declared.fault.InFault.TheVariants as in_faults
 use Rattle.bit_pipe.specs.Sources.{SourceOf, GivesOctet}
 use Rattle.segment_defs.specs.declared.head.SegmentHead.{SegmentHead}
 use Rattle.segment_defs.specs.Reading.{first_refusal}
-use Rattle.segment_code.specs.declared.decode.SegmentFault.{SegmentFault}
-use Rattle.segment_code.specs.declared.decode.SegmentFault.TheVariants as faults
+use Rattle.segment_code.specs.declared.fault.SegmentFault.{SegmentFault}
+use Rattle.segment_code.specs.declared.fault.SegmentFault.TheVariants as faults
 use Rattle.bare_text.specs.declared.parts.PartsInForce.{PartsInForce}
 use Rattle.bare_text.specs.declared.read.BareHead.{BareHead}
 use Rattle.bare_text.specs.declared.read.BareHeadFault.TheVariants as head_faults
@@ -14,8 +14,7 @@ use Rattle.bare_text.specs.Taken.{ReadsHead}
 use Rattle.bare_stream.specs.declared.fault.BareCause.TheVariants as causes
 use Rattle.bare_stream.specs.declared.fault.BareFault.{BareFault}
 use Rattle.bare_stream.specs.declared.fault.BareFault.TheVariants.{ReadFault, LongInput, TooManyPixels, Refused}
-use Rattle.bare_stream.specs.BareStream.{AgreesWith}
-use Rattle.bare_stream.specs.SegmentsRead.{pixels_at}
+use Rattle.bare_stream.specs.Pictures.{pixels_at}
 
 -- the head of the segment of this index was read, or is refused by itself, or the input failed
 abbrev pub TakesHead : {I : Type 0} → SourceOf I → PartsInForce → (index : ℕ) → Result BareHead BareFault → (old new : I) → PartsInForce → Type 0
@@ -25,6 +24,10 @@ TakesHead k before index (Err ReadFault) old new after = ReadsHead k before (Err
 TakesHead k before index (Err LongInput) old new after =
     ReadsHead k before (Err (head_faults.Input in_faults.LongInput)) old new after ⊎ ReadsHead k before (Err (head_faults.Input in_faults.Broken)) old new after
 TakesHead k before index (Err other) old new after = ⊥
+
+-- the head of the segment of this index agrees with the first head
+abbrev pub AgreesWith : (first : SegmentHead) → (index : ℕ) → SegmentHead → Type 0
+AgreesWith first index head = first_refusal (agreement_tests first index head) ≡ None
 
 -- a head agrees with the first one, and reports at most the pixels of the wish
 abbrev pub ChecksHead : (pixels : ℕ) → (first : SegmentHead) → (index : ℕ) → SegmentHead → Result (Unit {0}) BareFault → Type 0

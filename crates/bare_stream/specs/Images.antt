@@ -1,5 +1,5 @@
 -- What the bare stream of an image reports, and what a decoder gives for it. (This project's own.)
-use Rattle.std.specs.Prelude.{◌≡◌, ◌<◌, ℕ, ℤ, min, List, [], length, map, slice_index_or, IsTrue, Some}
+use Rattle.std.specs.Prelude.{◌≡◌, ◌<◌, ℕ, ℤ, min, List, [], ◌++◌, length, map, slice_index_or, IsTrue}
 use Rattle.std.specs.List.{range_with_len}
 use Rattle.base_122.specs.Setting.{geometry_of}
 use Rattle.base_122.specs.Sizes.{total_blocks}
@@ -7,10 +7,12 @@ use Rattle.base_122.specs.declared.geometry.Geometry.{Geometry}
 use Rattle.base_122.specs.declared.setting.Setting.{Setting}
 use Rattle.plane_defs.specs.Codes.{is_book_sound}
 use Rattle.stream_defs.specs.Output.{head_for, image_blocks, segment_of, segments_of}
+use Rattle.segment_code.specs.TextAnswers.{gives, Decides}
 use Rattle.segment_walk.specs.Images.{ArePixels, SendsAll}
-use Rattle.bare_text.specs.Laws.{in_force}
+use Rattle.bit_pipe.specs.declared.fault.Part.{Part}
+use Rattle.bare_text.specs.Laws.{bare_head}
 use Rattle.bare_stream.specs.Bare.{bare, head_before, segment_octets}
-use Rattle.bare_stream.specs.BareStream.{IsText, BareStream}
+use Rattle.bare_stream.specs.BareStream.{BareStream}
 use Rattle.bare_stream.specs.Rasters.{IsBare}
 
 -- an image of a setting of a bare stream, whose book is sound, and whose ten weights and pixels are in range
@@ -28,10 +30,12 @@ bare_geometry s = record (geometry_of s) { segment = min s.segment (total_blocks
 abbrev pub image_segments : Setting → (ℕ → ℕ → ℤ) → List (List (List ℤ))
 image_segments s x = map (segment_of s (image_blocks s x)) (range_with_len 0 (segments_of s))
 
--- the text of the segment of this index holds these blocks, by a reader that has read the head before
-abbrev pub IsSegmentText : Setting → List (List ℤ) → (index : ℕ) → List (List ℤ) → Type 0
-IsSegmentText s all index blocks =
-    IsText s.book (in_force (head_before s all index)) (segment_octets s all index) (head_for s all index) blocks (in_force (Some (head_for s all index)))
+-- the text of the segment of this index is its head and the octets that decide these blocks, after a reader has read the head before
+pub record IsSegmentText (s : Setting) (all : List (List ℤ)) (index : ℕ) (blocks : List (List ℤ)) : Type 0 where
+  pub part : Part
+  pub rest : List ℕ
+  pub octets : segment_octets s all index ≡ bare_head (head_before s all index) (head_for s all index) ++ rest
+  pub decides : Decides s.book (head_for s all index) (length (bare_head (head_before s all index) (head_for s all index))) rest (gives part blocks)
 
 -- The stream of an image reports its geometry and holds these blocks, text by text. If nothing is missing, they are those of the image.
 pub record SaysImage (s : Setting) (x : ℕ → ℕ → ℤ) (w : List (List (List ℤ))) : Type 0 where

@@ -7,6 +7,9 @@ pub mod TextSinks
 pub mod Works
 pub mod Steps
 pub mod RowsIn
+pub mod Pictures
+pub mod StreamRead
+pub mod WorkedStreams
 pub mod BareStream
 pub mod Images
 pub mod Laws
@@ -14,7 +17,6 @@ pub mod Pieces
 pub mod Input
 pub mod InputLaws
 pub mod Inputs
-pub mod SegmentsRead
 pub mod Decoded
 pub mod RoundTrip
 pub mod Blocks

@@ -1,38 +1,91 @@
 -- How far a decoder has read a bare stream. (This project's own.)
-use Rattle.std.specs.Prelude.{◌≡◌, ◌≤◌, ◌+◌, ◌<◌, ℕ, ℤ, List, [], ◌++◌, length, None}
+use Rattle.std.specs.Prelude.{◌≡◌, ◌⊎◌, ◌≤◌, ◌+◌, ◌<◌, ℕ, ℤ, Bool, true, List, [], ◌∷◌, ◌++◌, length, take, Option, None, Some}
 use Rattle.std.specs.List.{concat}
-use Rattle.port_122.specs.Outside.{Outside, Exchange}
+use Rattle.port_122.specs.Outside.{Outside, Exchange, Rose}
 use Rattle.base_122.specs.Sizes.{first_block}
-use Rattle.base_122.specs.declared.book.Book.{Book}
 use Rattle.base_122.specs.declared.geometry.Geometry.{Geometry}
+use Rattle.base_122.specs.declared.wish.DecodeWish.{DecodeWish}
+use Rattle.plane_defs.specs.Codes.{is_book_sound}
+use Rattle.segment_defs.specs.declared.head.SegmentHead.{SegmentHead}
+use Rattle.segment_code.specs.Laws.{TextsEndThere}
 use Rattle.stream_defs.specs.Picture.{number_at}
 use Rattle.picture_rows.specs.Fronts.{rows_of}
 use Rattle.picture_rows.specs.Pictures.{PictureState, IsCurrent, Represents, passed_in}
 use Rattle.bare_text.specs.declared.parts.PartsInForce.{PartsInForce}
-use Rattle.bare_text.specs.InForce.{none_in_force}
+use Rattle.bare_text.specs.Laws.{BareHeadsEndThere}
 use Rattle.bare_stream.specs.declared.input.PortIn.{PortIn}
-use Rattle.bare_stream.specs.Input.{waiting}
-use Rattle.bare_stream.specs.SegmentsRead.{SegmentsRead, AreTexts, BeginsSo, IsPrompt, Told, open_geometry, segments_in, rows_read}
+use Rattle.bare_stream.specs.Input.{IsLast, waiting}
+use Rattle.bare_stream.specs.Pictures.{open_geometry, segments_in, rows_with}
+use Rattle.bare_stream.specs.StreamRead.{Segments, read_on}
+use Rattle.bare_stream.specs.Decoded.{Told, IsOpen, TakesNone, read_by}
 
--- a read call within the octets of these segments and a part of the next one, with some of these octets given
-abbrev pub AsksIn : SegmentsRead → (part gave : List ℕ) → ℕ → ℕ → Type 0
-AsksIn r part gave i j = IsPrompt r gave i j × (i ≤ length (concat r.texts) + length part) × (j ≤ length gave)
+-- the laws by which a stream is read with the book of a wish
+pub record HasLaws (wish : DecodeWish) : Type 0 where
+  pub heads : BareHeadsEndThere
+  pub texts : TextsEndThere
+  pub sound : is_book_sound wish.book ≡ true
 
--- Since a start the octets of these segments and this part of the next one were given by an input, and others wait. The last segment isn't
--- among them, and the rows are given that they determine.
-pub record HasRead {X : Type 0} (outside : X → Outside) (cap : ℕ) (start : Outside) (r : SegmentsRead) (part : List ℕ) (input : PortIn X) : Type 0 where
-  pub going : r.ended ≡ None
+-- ---- the segments that were read
+
+-- the head of the first, and the octets and the blocks of each; if the last segment is among them, there is a geometry
+pub record SegmentsRead : Type 0 where
+  pub first : SegmentHead
+  pub texts : List (List ℕ)
+  pub blocks : List (List (List ℤ))
+  pub ended : Option Geometry
+
+abbrev pub rows_read : SegmentsRead → List ℕ
+rows_read r = rows_with r.first r.ended r.blocks
+
+-- the first head, if a segment was read
+abbrev pub first_of : SegmentHead → (texts : List (List ℕ)) → Option SegmentHead
+first_of first [] = None
+first_of first (t ∷ texts) = Some first
+
+-- how many octets they have
+abbrev pub size_of : SegmentsRead → ℕ
+size_of r = length (concat r.texts)
+
+-- these segments, with these parts in force after them
+abbrev pub segments_of : SegmentsRead → PartsInForce → Segments
+segments_of r before = record { first = first_of r.first r.texts; before = before; blocks = r.blocks; ended = r.ended; octets = size_of r }
+
+-- whatever follows these octets, they are read as these segments, and the reading continues after them
+abbrev pub Reaches : DecodeWish → SegmentsRead → PartsInForce → Type 0
+Reaches wish r before = (more : List ℕ) → read_by wish (concat r.texts ++ more) ≡ read_on wish.book wish.pixels (segments_of r before) more
+
+-- it is so, if the port reports what is left
+abbrev pub InForceAfter : DecodeWish → (start : Outside) → SegmentsRead → PartsInForce → Type 0
+InForceAfter wish start r parts = Told start (λ input. Reaches wish r parts)
+
+-- ---- the octets
+
+-- a read call for octets of the segments before, or the last one
+abbrev pub AskedBefore : DecodeWish → (took gave : List ℕ) → (failed : Bool) → (left : Option (List ℕ)) → ℕ → ℕ → Type 0
+AskedBefore wish took gave failed left i j = IsOpen wish (take i took) (take j gave) ⊎ (IsLast took failed left i × TakesNone wish took gave i j)
+
+-- a read call after these segments, with this part of the next one given since: an octet of it was given after the call, or it was the last one
+abbrev pub AskedNow : SegmentsRead → (part took gave : List ℕ) → (failed : Bool) → (left : Option (List ℕ)) → ℕ → ℕ → Type 0
+AskedNow r part took gave failed left i j = (j ≡ length gave) × (size_of r ≤ i) × ((i < size_of r + length part) ⊎ IsLast took failed left i)
+
+abbrev pub AsksIn : DecodeWish → (start : Outside) → SegmentsRead → (part took gave : List ℕ) → (failed : Bool) → (left : Option (List ℕ)) → ℕ → ℕ → Type 0
+AsksIn wish start r part took gave failed left i j =
+    (i < wish.octets) × (j ≤ length gave) × Told start (λ input. AskedBefore wish took gave failed left i j ⊎ AskedNow r part took gave failed left i j)
+
+-- Since a start the octets of these segments and this part of the next one were given by an input, and others wait. The rows are given that
+-- the segments determine.
+pub record HasRead {X : Type 0} (outside : X → Outside) (wish : DecodeWish) (start : Outside) (r : SegmentsRead) (part : List ℕ) (input : PortIn X) : Type 0 where
+  pub some : r.texts ≡ [] → r.ended ≡ None
   pub same : length r.texts ≡ length r.blocks
   pub took : List ℕ
   pub gave : List ℕ
-  pub since : Exchange start (outside input.port.now) took gave [] (AsksIn r part gave)
+  pub since : Exchange start (outside input.port.now) took gave [] (AsksIn wish start r part took gave input.failed (outside input.port.now).rest)
   pub gave_is : gave ≡ rows_read r
   pub octets : took ≡ concat r.texts ++ (part ++ waiting input)
-  pub left : length took + input.left ≡ cap
+  pub left : length took + input.left ≡ wish.octets
+  pub rises : input.failed ≡ true → Rose start.read_faults (outside input.port.now).read_faults
 
--- these parts are in force after the segments, if the port reports what is left
-abbrev pub InForceAfter : Book → (start : Outside) → SegmentsRead → PartsInForce → Type 0
-InForceAfter book start r parts = Told start (BeginsSo r.first r.texts × AreTexts book r.first none_in_force 0 r.texts r.blocks (λ before. before ≡ parts))
+-- ---- the picture
 
 -- blocks, counted in raster order, whose first ones have the numbers of these segments
 pub record AreNumbersOf (r : SegmentsRead) (numbers : ℕ → ℕ → ℤ) : Type 0 where

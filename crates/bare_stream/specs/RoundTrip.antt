@@ -10,9 +10,10 @@ use Rattle.bare_stream.specs.declared.fault.BareFault.{BareFault}
 use Rattle.bare_stream.specs.declared.fault.BareFault.TheVariants.{ReadFault, WriteFault, Memory}
 use Rattle.bare_stream.specs.Bare.{bare}
 use Rattle.bare_stream.specs.BareStream.{BareStream}
-use Rattle.bare_stream.specs.Decoded.{DecodesBare}
+use Rattle.bare_stream.specs.Decoded.{DecodesBare, rows_of}
 use Rattle.bare_stream.specs.Images.{IsBareImage, bare_geometry, image_segments}
-use Rattle.bare_stream.specs.SegmentsRead.{all_rows}
+use Rattle.bare_stream.specs.Pictures.{all_rows}
+use Rattle.bare_stream.specs.StreamRead.{reading, answer_for}
 
 -- ---- any bare stream
 
@@ -29,8 +30,13 @@ ReadsWhole g w gave (Err WriteFault) = Unit {0}
 ReadsWhole g w gave (Err Memory) = Unit {0}
 ReadsWhole g w gave (Err other) = ⊥
 
--- A bare stream within the caps, with the codes of the book that is wished, is read whole: it isn't refused.
+-- A bare stream within the caps, with the codes of the book that is wished, has its geometry as the answer. So it is read whole: it isn't
+-- refused.
 pub record StreamsAreRead : Type 0 where
+  pub answer : (wish : DecodeWish) (octets : List ℕ) (g : Geometry) (w : List (List (List ℤ))) → BareStream wish.book octets g w → IsWithinCaps wish octets g → answer_for wish octets ≡ Ok g
+  pub blocks : (wish : DecodeWish) (octets : List ℕ) (g : Geometry) (w : List (List (List ℤ))) → BareStream wish.book octets g w → IsWithinCaps wish octets g → (reading wish octets).segments.blocks ≡ w
+  -- whichever stream is read whole, its segments determine all rows of its picture
+  pub rows : (wish : DecodeWish) (input : List ℕ) (g : Geometry) → answer_for wish input ≡ Ok g → rows_of (reading wish input).segments ≡ all_rows g (reading wish input).segments.blocks
   pub read : (wish : DecodeWish) (old new : Outside) (result : Result Geometry BareFault) (octets : List ℕ) (g : Geometry) (w : List (List (List ℤ))) (run : DecodesBare wish old new result) →
       BareStream wish.book octets g w → old.rest ≡ Some octets → IsWithinCaps wish octets g → ReadsWhole g w run.gave result
 

@@ -1,7 +1,6 @@
 -- The effect of the steps of a decoder that advance from segment to segment of a bare stream. (This project's own.)
-use Rattle.std.specs.Prelude.{◌≡◌, ◌≤◌, ◌<◌, ◌+◌, ◌*◌, ℕ, List, [], ◌++◌, length, take, vec_len, Some, Ok}
-use Rattle.std.specs.List.{concat}
-use Rattle.port_122.specs.Outside.{Outside, Exchange}
+use Rattle.std.specs.Prelude.{◌≡◌, ◌≤◌, ◌<◌, ◌*◌, ℕ, List, [], ◌++◌, length, take, vec_len, None, Some, Ok}
+use Rattle.port_122.specs.Outside.{Outside}
 use Rattle.base_122.specs.Sizes.{first_block, total_blocks}
 use Rattle.base_122.specs.declared.book.Book.{Book}
 use Rattle.base_122.specs.declared.geometry.Geometry.{Geometry}
@@ -9,21 +8,21 @@ use Rattle.base_122.specs.declared.wish.DecodeWish.{DecodeWish}
 use Rattle.segment_defs.specs.Head.{IsHead}
 use Rattle.bare_text.specs.declared.parts.PartsInForce.{PartsInForce}
 use Rattle.bare_text.specs.declared.read.BareHead.{BareHead}
-use Rattle.bare_text.specs.InForce.{none_in_force, bare_length, parts_after}
-use Rattle.bare_text.specs.Reading.{bare_head_read}
+use Rattle.bare_text.specs.InForce.{parts_after}
+use Rattle.bare_text.specs.Taken.{DecidesHead}
 use Rattle.wave_defs.specs.Held.{blocks_in}
 use Rattle.picture_rows.specs.Pictures.{picture_state, IsCurrent, passed_in}
 use Rattle.bare_stream.specs.declared.input.PortIn.{PortIn}
 use Rattle.bare_stream.specs.declared.walk.Walk.{Walk}
-use Rattle.bare_stream.specs.BareStream.{AgreesWith, BareStream, geometry_at}
-use Rattle.bare_stream.specs.Heads.{IsRoom}
-use Rattle.bare_stream.specs.Input.{waiting}
-use Rattle.bare_stream.specs.Reads.{HasRead, ShowsRead}
-use Rattle.bare_stream.specs.SegmentsRead.{SegmentsRead, AgreeingText, AreTexts, BeginsSo, IsPrompt, Told, pixels_at, rows_read, shape_with}
+use Rattle.bare_stream.specs.Pictures.{geometry_at, shape_with, pixels_at}
+use Rattle.bare_stream.specs.StreamRead.{text, next_in}
+use Rattle.bare_stream.specs.Decoded.{Told}
+use Rattle.bare_stream.specs.Heads.{AgreesWith, IsRoom}
+use Rattle.bare_stream.specs.Reads.{HasLaws, SegmentsRead, Reaches, HasRead, ShowsRead, segments_of}
 
 -- the book with which a walk reads items
 abbrev pub book_in : Walk → Book
-book_in w = w.room.reader.reader.tables.book
+book_in w = w.room.reader.reader.tables.words.book
 
 -- what a walk holds has the sizes of its stream: the next segment is in the tallest image
 pub record IsSound (w : Walk) : Type 0 where
@@ -44,9 +43,11 @@ pub record IsNext (w : Walk) (read : BareHead) : Type 0 where
 
 -- ---- which segments
 
--- a walk has passed these segments, and this part of the next one was given
+-- a walk has passed these segments, none of which is the last, and this part of the next one was given
 pub record IsAt {X : Type 0} (outside : X → Outside) (wish : DecodeWish) (start : Outside) (r : SegmentsRead) (part : List ℕ) (input : PortIn X) (w : Walk) : Type 0 where
-  pub read : HasRead outside wish.octets start r part input
+  pub laws : HasLaws wish
+  pub read : HasRead outside wish start r part input
+  pub going : r.ended ≡ None
   pub first : r.first ≡ w.first
   pub index : w.index ≡ length r.texts
   pub pixels : w.pixels ≡ wish.pixels
@@ -54,11 +55,9 @@ pub record IsAt {X : Type 0} (outside : X → Outside) (wish : DecodeWish) (star
   pub shows : ShowsRead (shape_with r.first 262144) r read.gave (picture_state w.picture)
 
 -- the next head was read from these octets: if it is the first one, it is the first head
-pub record IsHeadOf (book : Book) (r : SegmentsRead) (before after : PartsInForce) (front : List ℕ) (read : BareHead) : Type 0 where
-  pub begins : BeginsSo r.first r.texts
-  pub are : AreTexts book r.first none_in_force 0 r.texts r.blocks (λ b. b ≡ before)
-  pub head : bare_head_read before front ≡ Ok read.head
-  pub whole : length front ≡ bare_length front
+pub record IsHeadOf (wish : DecodeWish) (r : SegmentsRead) (before after : PartsInForce) (front : List ℕ) (read : BareHead) : Type 0 where
+  pub reaches : Reaches wish r before
+  pub head : DecidesHead before (Ok read.head) front
   pub size : read.size ≡ length front
   pub force : after ≡ parts_after before front
   pub starts : r.texts ≡ [] → read.head ≡ r.first
@@ -69,26 +68,21 @@ pub record IsReading {X : Type 0} (outside : X → Outside) (wish : DecodeWish) 
   pub front : List ℕ
   pub before : PartsInForce
   pub at : IsAt outside wish start r front input w
-  pub head : Told start (IsHeadOf wish.book r before w.parts front read)
+  pub head : Told start (λ all. IsHeadOf wish r before w.parts front read)
 
 -- the octets are the text of the next segment with this head, whose blocks the walk holds
-abbrev pub IsNextText : Book → SegmentsRead → PartsInForce → Walk → List ℕ → BareHead → Type 0
-IsNextText book r before w text read =
-    AgreeingText book r.first before w.index text (blocks_in (take (64 * read.head.blocks) w.room.blocks.items)) (λ head after. (head ≡ read.head) × (after ≡ w.parts))
+pub record IsNextText (wish : DecodeWish) (r : SegmentsRead) (before : PartsInForce) (w : Walk) (octets : List ℕ) (read : BareHead) : Type 0 where
+  pub next : next_in wish.book wish.pixels (segments_of r before) octets ≡ text read.head (length octets) (blocks_in (take (64 * read.head.blocks) w.room.blocks.items))
+  pub force : (more : List ℕ) → parts_after before (octets ++ more) ≡ w.parts
 
 -- all segments were read, and all rows of the picture are given
 pub record HasEnded {X : Type 0} (outside : X → Outside) (wish : DecodeWish) (start : Outside) (input : PortIn X) (w : Walk) : Type 0 where
+  pub laws : HasLaws wish
   pub r : SegmentsRead
   pub g : Geometry
+  pub before : PartsInForce
   pub ended : r.ended ≡ Some g
   pub g_is : g ≡ record (geometry_at w.first 0 w.first) { rows = w.picture.geometry.rows }
-  pub few : g.width * g.rows ≤ wish.pixels
   pub index : w.index ≡ length r.blocks
-  pub took : List ℕ
-  pub gave : List ℕ
-  pub since : Exchange start (outside input.port.now) took gave [] (IsPrompt r gave)
-  pub gave_is : gave ≡ rows_read r
-  pub octets : took ≡ concat r.texts ++ waiting input
-  pub left : length took + input.left ≡ wish.octets
-  pub all : length r.texts ≡ length r.blocks
-  pub stream : Told start (BareStream wish.book (concat r.texts) g r.blocks)
+  pub read : HasRead outside wish start r [] input
+  pub reaches : Told start (λ all. Reaches wish r before)

@@ -1,5 +1,5 @@
 // Decodes a bare stream to a picture.
-ghost use Rattle.std.specs.Prelude.{◌≡◌, [], IsTrue};
+ghost use Rattle.std.specs.Prelude.{◌≡◌, [], false, IsTrue};
 ghost use Rattle.plane_defs.specs.Codes.{is_book_sound};
 ghost use Rattle.bare_stream.specs.Decoded.{DecodesBare};
 ghost use Rattle.bare_stream.specs.Input.{waiting};
@@ -8,9 +8,10 @@ use crate::fault::BareFault;
 use crate::heads::{check_head, take_head};
 use crate::input::PortIn;
 use crate::walk::{Walk, take_stream};
-use bare_text::PartsInForce;
+use bare_text::{PartsInForce, bare_heads_end_there};
 use base_122::{DecodeWish, Geometry};
 use port_122::Port;
+use segment_code::texts_end_there;
 use std::alloc::Global;
 
 /// Takes a bare stream and gives the picture of its segments, each row as soon as the segments so far determine it (docs/formats.md,
@@ -47,9 +48,12 @@ fn decode_input<X: Port>(
     requires book { IsTrue (is_book_sound wish.now.book) }
     requires none { waiting input.old ≡ [] }
     requires left { input.old.left ≡ wish.now.octets }
+    requires whole { input.old.failed ≡ false }
     ensures port { input.new.port.ghost_name ≡ input.old.port.ghost_name }
     ensures decodes { DecodesBare wish.now (X.outside input.old.port.now) (X.outside input.new.port.now) result }
 {
+    bare_heads_end_there();
+    texts_end_there();
     let mut parts = PartsInForce::none();
     let first = match take_head(input, &mut parts, 0) {
         Ok(first) => first,

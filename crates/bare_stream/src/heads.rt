@@ -2,10 +2,9 @@
 ghost use Rattle.std.specs.Prelude.{◌≡◌, ◌≤◌, true, IfOk};
 ghost use Rattle.segment_defs.specs.Head.{IsHead};
 ghost use Rattle.bare_text.specs.Agreement.{height_at};
-ghost use Rattle.bare_stream.specs.BareStream.{AgreesWith};
 ghost use Rattle.bare_stream.specs.Inputs.{source_of};
-ghost use Rattle.bare_stream.specs.SegmentsRead.{pixels_at};
-ghost use Rattle.bare_stream.specs.Heads.{TakesHead, ChecksHead};
+ghost use Rattle.bare_stream.specs.Pictures.{pixels_at};
+ghost use Rattle.bare_stream.specs.Heads.{AgreesWith, TakesHead, ChecksHead};
 
 use crate::fault::{BareCause, BareFault};
 use crate::input::PortIn;

@@ -1,5 +1,5 @@
 // The octets of a port, at most a given number of them.
-ghost use Rattle.std.specs.Prelude.{◌≡◌, ◌≤◌, ◌<◌, length, MatchResult};
+ghost use Rattle.std.specs.Prelude.{◌≡◌, ◌≤◌, ◌<◌, true, length, MatchResult};
 ghost use Rattle.port_122.specs.Outside.{ReadFailed};
 ghost use Rattle.bare_stream.specs.Pieces.{ReadsPiece};
 
@@ -10,7 +10,7 @@ use port_122::{Failed, Port};
 const PIECE: usize = 1024;
 
 /// A port as the source of the octets of a bare stream. It takes at most the number of octets that it was made with, in pieces, and reads
-/// on only if each octet that it has taken was given.
+/// on only if each octet that it has taken was given and another one is asked for. Once a read failed, it reads no more.
 #[derive(Drop)]
 pub struct PortIn<'a, X> {
     pub(crate) port: &'a mut X,
@@ -19,9 +19,12 @@ pub struct PortIn<'a, X> {
     piece: [u8; PIECE],
     next: usize,
     end: usize,
+    // Whether a read failed.
+    pub(crate) failed: bool,
     ghost order: { next ≤ end },
     ghost within: { end ≤ length piece },
     ghost size: { length piece ≡ 1024 },
+    ghost over: { failed ≡ true → next ≡ end },
 }
 
 // Reads octets into the first places of a piece, at most `most`; their number is 0 only at the end.
@@ -35,8 +38,9 @@ fn read_piece<X: Port>(port: &mut X, piece: &mut [u8], most: usize) -> Result<us
 }
 
 impl<'a, X: Port> PortIn<'a, X> {
-    ghost use Rattle.std.specs.Prelude.{[]};
-    ghost use Rattle.bare_stream.specs.Input.{waiting, FillsPiece, IsReady, GivesFirst};
+    ghost use Rattle.std.specs.Prelude.{[], Ok, true, false};
+    ghost use Rattle.bare_stream.specs.Input.{waiting, FillsPiece, GivesFirst};
+    ghost use Rattle.bare_stream.specs.Inputs.{IsReady};
 
     /// Returns the octets of a port, of which at most `octets` are taken.
     pub fn new(port: &'a mut X, octets: u64) -> PortIn<'a, X>
@@ -44,6 +48,7 @@ impl<'a, X: Port> PortIn<'a, X> {
         ensures port { result.port.now ≡ port.old }
         ensures none { waiting result ≡ [] }
         ensures left { result.left ≡ octets }
+        ensures whole { result.failed ≡ false }
     {
         PortIn {
             port,
@@ -51,6 +56,7 @@ impl<'a, X: Port> PortIn<'a, X> {
             piece: [0; PIECE],
             next: 0,
             end: 0,
+            failed: false,
         }
     }
 
@@ -62,10 +68,14 @@ impl<'a, X: Port> PortIn<'a, X> {
         if self.left == 0 {
             return Err(InFault::LongInput);
         }
+        if self.failed {
+            return Err(InFault::ReadFault);
+        }
         let most = self.left.min(PIECE as u64) as usize;
         self.next = 0;
         self.end = 0;
         let Ok(count) = read_piece(self.port, &mut self.piece[..], most) else {
+            self.failed = true;
             return Err(InFault::ReadFault);
         };
         self.end = count;
@@ -76,6 +86,7 @@ impl<'a, X: Port> PortIn<'a, X> {
     // Reads the next piece if no octet waits. Returns whether one waits then.
     fn make_ready(&mut self) -> Result<bool, InFault>
         ensures ready { IsReady X.outside result self.old self.new }
+        ensures waits { result ≡ Ok true → self.new.next < self.new.end }
     {
         if self.next < self.end {
             return Ok(true);

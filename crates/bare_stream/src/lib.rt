@@ -2,10 +2,11 @@
 //! "Bare texts").
 #![tactic(auto)]
 
-ghost use Rattle.bare_stream.specs.BareStream.{BareStreamsEndThere};
+ghost use Rattle.bare_stream.specs.BareStream.{BareStreamsEndThere, BareStreamsStopThere};
 ghost use Rattle.bare_stream.specs.Images.{ImagesAreBareStreams};
 ghost use Rattle.bare_stream.specs.Laws.{LastRowSettlesTexts};
 ghost use Rattle.bare_stream.specs.RoundTrip.{BareRoundTrip, StreamsAreRead};
+ghost use Rattle.bare_stream.specs.WorkedStreams.{WorkedStreams};
 
 mod blocks;
 mod decode;
@@ -25,14 +26,27 @@ use bare_text::{bare_heads_end_there, bare_heads_undo, bare_texts_hold};
 pub use decode::decode_bare;
 pub use encode::encode_bare;
 pub use fault::{BareCause, BareFault};
-use segment_code::items_end_there;
+use segment_code::texts_end_there;
 
-/// A bare stream has one geometry and one list of blocks, and no proper prefix of it is a bare stream.
+/// Octets that are worked out by hand are read as they should be.
+pub const fn worked_streams()
+    ensures { WorkedStreams }
+{}
+
+/// Octets that decide a fault of a bare stream decide it whatever follows, and fewer decide nothing, if the book is sound.
+pub const fn bare_streams_stop_there()
+    ensures { BareStreamsStopThere }
+{
+    bare_heads_end_there();
+    texts_end_there();
+}
+
+/// A bare stream has one geometry and one list of blocks, and no proper prefix of it is a bare stream, if it is read with a sound book.
 pub const fn bare_streams_end_there()
     ensures { BareStreamsEndThere }
 {
     bare_heads_end_there();
-    items_end_there();
+    texts_end_there();
 }
 
 /// Once the last row of a raster is taken, all texts of its image are given.
@@ -47,17 +61,15 @@ pub const fn images_are_bare_streams()
 {
     bare_texts_hold();
     bare_heads_undo();
+    bare_heads_end_there();
+    texts_end_there();
     bare_streams_end_there();
 }
 
 /// A bare stream within the caps isn't refused: it is read whole and all its rows are given, unless the port or the memory fails.
 pub const fn bare_streams_are_read()
     ensures { StreamsAreRead }
-{
-    bare_heads_end_there();
-    items_end_there();
-    bare_streams_end_there();
-}
+{}
 
 /// The bare stream of an image gives the image back: a decoder that takes it gives the raster, if nothing is missing from the stream.
 pub const fn bare_round_trip()

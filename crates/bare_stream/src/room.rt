@@ -32,13 +32,14 @@ impl Room {
         requires count { count ≤ 1048575 }
         requires book { IsTrue (is_book_sound book.now) }
         ensures room { IfOk result (λ room. IsRoom count (vec_len room.blocks) (vec_len room.marks)) }
-        ensures book { IfOk result (λ room. room.reader.reader.tables.book ≡ book.now) }
+        ensures book { IfOk result (λ room. room.reader.reader.tables.words.book ≡ book.now) }
     {
         let count = count as usize;
         let blocks = vec![in alloc; 0; 64 * count]?;
         let marks = vec![in alloc; 0; count]?;
+        let reader = BareReader::new(alloc, book)?;
         Ok(Room {
-            reader: BareReader::new(book),
+            reader,
             blocks,
             marks,
         })
@@ -73,7 +74,7 @@ pub fn read_items<X: Port>(
     requires size { read.now.size ≤ 20 }
     requires blocks { 64 * read.now.head.blocks ≤ length blocks.old }
     requires marks { read.now.head.blocks ≤ length marks.old }
-    ensures items { DecodesItems (source_of X.outside) reader.now.reader.tables.book read.now.head read.now.size result input.old input.new (take (64 * read.now.head.blocks) blocks.new) }
+    ensures items { DecodesItems (source_of X.outside) reader.now.reader.tables.words.book read.now.head read.now.size result input.old input.new (take (64 * read.now.head.blocks) blocks.new) }
     ensures sizes { (length blocks.new ≡ length blocks.old) × (length marks.new ≡ length marks.old) }
 {
     let count = read.head.blocks as usize;

@@ -5,13 +5,12 @@ ghost use Rattle.base_122.specs.declared.wish.DecodeWish.{DecodeWish};
 ghost use Rattle.segment_defs.specs.Head.{IsHead};
 ghost use Rattle.plane_defs.specs.Codes.{is_book_sound};
 ghost use Rattle.bare_text.specs.declared.parts.PartsInForce.{PartsInForce};
-ghost use Rattle.bare_stream.specs.BareStream.{geometry_at};
-ghost use Rattle.bare_stream.specs.Decoded.{DecodesBare};
+ghost use Rattle.bare_stream.specs.Decoded.{DecodesBare, Told};
 ghost use Rattle.bare_stream.specs.Heads.{ExpectsEnd};
 ghost use Rattle.bare_stream.specs.Inputs.{source_of};
-ghost use Rattle.bare_stream.specs.Reads.{InForceAfter};
+ghost use Rattle.bare_stream.specs.Pictures.{geometry_at, shape_with};
+ghost use Rattle.bare_stream.specs.Reads.{SegmentsRead, InForceAfter};
 ghost use Rattle.picture_rows.specs.Pictures.{picture_state, IsFresh};
-ghost use Rattle.bare_stream.specs.SegmentsRead.{SegmentsRead, Told, shape_with};
 ghost use Rattle.bare_stream.specs.Walks.{book_in, IsSound, IsNext, IsAt, IsHeadOf, IsNextText, IsReading, HasEnded};
 ghost use Rattle.bare_stream.specs.Blocks.{AreParts};
 
@@ -25,6 +24,7 @@ use base_122::{DecodeWish, FieldRange, Geometry};
 use bit_pipe::{InFault, OctetIn};
 use picture_rows::Picture;
 use port_122::Port;
+use segment_code::texts_give_parts;
 use segment_head::SegmentHead;
 use std::alloc::{AllocError, Global};
 
@@ -104,8 +104,8 @@ fn next_head<X: Port>(walk: &mut Walk, input: &mut PortIn<X>) -> Result<BareHead
     ensures walk { walk.new ≡ record walk.old { parts = walk.new.parts } }
     ensures next { IfOk result (λ read. IsNext walk.new read) }
     ensures port { input.new.port.ghost_name ≡ input.old.port.ghost_name }
-    ensures run { (wish : DecodeWish) (start : Outside) (r : SegmentsRead) → IsAt X.outside wish start r [] input.old walk.old → InForceAfter wish.book start r walk.old.parts → MatchResult result
-        (λ read. (front : List ℕ) × IsAt X.outside wish start r front input.new walk.new × Told start (IsHeadOf wish.book r walk.old.parts walk.new.parts front read))
+    ensures run { (wish : DecodeWish) (start : Outside) (r : SegmentsRead) → IsAt X.outside wish start r [] input.old walk.old → InForceAfter wish start r walk.old.parts → MatchResult result
+        (λ read. (front : List ℕ) × IsAt X.outside wish start r front input.new walk.new × Told start (λ all. IsHeadOf wish r walk.old.parts walk.new.parts front read))
         (λ fault. DecodesBare wish start (X.outside input.new.port.now) (Err fault)) }
 {
     let read = match take_head(input, &mut walk.parts, walk.index) {
@@ -131,10 +131,11 @@ fn take_text<X: Port>(
     ensures port { input.new.port.ghost_name ≡ input.old.port.ghost_name }
     ensures parts { IfOk result (λ _. AreParts walk.new.room.blocks.items read.now.head.blocks read.now.head.image.weights.shifts) }
     ensures room { (vec_len walk.new.room.blocks ≡ vec_len walk.old.room.blocks) × (vec_len walk.new.room.marks ≡ vec_len walk.old.room.marks) }
-    ensures run { (wish : DecodeWish) (start : Outside) (r : SegmentsRead) (front : List ℕ) (before : PartsInForce) → IsAt X.outside wish start r front input.old walk.old → Told start (IsHeadOf wish.book r before walk.old.parts front read.now) → MatchResult result
-        (λ _. (text : List ℕ) × IsAt X.outside wish start r text input.new walk.new × Told start (IsNextText wish.book r before walk.new text read.now))
+    ensures run { (wish : DecodeWish) (start : Outside) (r : SegmentsRead) (front : List ℕ) (before : PartsInForce) → IsAt X.outside wish start r front input.old walk.old → Told start (λ all. IsHeadOf wish r before walk.old.parts front read.now) → MatchResult result
+        (λ _. (text : List ℕ) × IsAt X.outside wish start r text input.new walk.new × Told start (λ all. IsNextText wish r before walk.new text read.now))
         (λ fault. DecodesBare wish start (X.outside input.new.port.now) (Err fault)) }
 {
+    texts_give_parts();
     let items = read_items(
         input,
         &walk.room.reader,

@@ -1,4 +1,4 @@
--- A bare text is its head and what holds its items.
+-- A bare text is its head and what decides its items.
 use Rattle.std.proofs.Common.{◌≡◌, ℕ, ◌+◌, ◌*◌, ◌≤◌, ◌<◌, List, ◌++◌, length, get_or, Bool, true, false, if◌then◌else◌, refl, sym, ap, ◌∙◌, subst, arith, length-append, flat_map}
 use Rattle.item_defs.proofs.OctetBits.{length-octets_of}
 use Rattle.segment_defs.specs.declared.head.SegmentHead.{SegmentHead}
@@ -9,11 +9,10 @@ use Rattle.segment_head.specs.declared.carried.Carried.{Carried}
 use Rattle.segment_head.specs.Parts.{part_1}
 use Rattle.segment_defs.proofs.WrittenFields.{width_of, length-bits_in}
 use Rattle.segment_head.proofs.WrittenHeads.{length_4}
-use Rattle.text_defs.specs.Given.{given_blocks}
-use Rattle.text_defs.specs.Laws.{AllGiven}
 use Rattle.text_defs.proofs.SegmentItems.{segment_are_items}
-use Rattle.segment_code.specs.ItemsHeld.{HoldsItems}
-use Rattle.segment_code.proofs.CodedOptions.{words_are, numbers_are, within_greatest}
+use Rattle.segment_code.proofs.CodedChoices.{words_are, numbers_are, within_greatest}
+use Rattle.segment_code.specs.TextAnswers.{gives, Decides}
+use Rattle.segment_code.specs.Spelled.{SpelledTextsDecide}
 use Rattle.bare_text.specs.Writing.{carried_after, fields_where, bare_head_bits, bare_text}
 use Rattle.bare_text.specs.Laws.{bare_head, BareTextsHold}
 use Rattle.bare_text.proofs.HeadLengths.{length_first}
@@ -51,23 +50,24 @@ size_most last a b d = omega (arith, most last 4 3 4 (omega arith) (omega arith)
     most true m n k p q = p
     most false m n k p q = q
 
-pub bare_texts_hold : AllGiven → BareTextsHold
+pub bare_texts_hold : SpelledTextsDecide → BareTextsHold
 unfolding bare_text
-bare_texts_hold given book sound before h blocks fits ten spellable deep =
+bare_texts_hold spelled book sound before h blocks fits ten spellable deep =
     let c = carried_after before h in
     let options = chosen_options book h blocks in
     let long = bits_long c h ten in
     let low = λ (r : ℕ) (lt : r < length (block_depths blocks)). low_is r lt in
-    let are = segment_are_items h blocks (block_depths blocks) options fits spellable (words_are book sound h blocks) (numbers_are book h blocks fits) low in
-    let held = text_held h blocks (block_depths blocks) options fits spellable (words_are book sound h blocks) are (bare_head_bits c h) (size_with c h) long (size_most h.last c.part_2 c.part_3 c.part_4) in
+    let words = words_are book sound h blocks in
+    let are = segment_are_items h blocks (block_depths blocks) options fits spellable words (numbers_are book h blocks fits) low in
+    let held = text_held spelled h blocks (block_depths blocks) options fits spellable words are (bare_head_bits c h) (size_with c h) long (size_most h.last c.part_2 c.part_3 c.part_4) in
     let size : size_with c h ≡ length (bare_head before h) = sym (length-octets_of (bare_head_bits c h) ∙ omega (arith, long)) in
     record {
       rest = held.rest;
-      w = given_blocks h blocks (block_depths blocks) options held.count;
+      w = held.w;
       part = held.part;
       octets = held.parts;
-      holds = subst (λ n. HoldsItems book h n held.rest (given_blocks h blocks (block_depths blocks) options held.count) held.part) size held.holds;
-      exact = λ none whole. ap (given_blocks h blocks (block_depths blocks) options) (held.all none) ∙ given h blocks (block_depths blocks) options fits spellable whole.goes_on whole.plane whole.stage low;
+      decides = subst (λ n. Decides book h n held.rest (gives held.part held.w)) size held.decides;
+      exact = held.exact;
     }
   where
     low_is : (r : ℕ) → r < length (block_depths blocks) → get_or (block_depths blocks) r 0 ≤ h.depth_ac

@@ -1,18 +1,19 @@
 -- Octets after a head change nothing in it.
-use Rattle.std.proofs.Common.{◌≡◌, ℕ, ◌+◌, ◌-◌, ◌*◌, ◌/◌, ◌≤◌, List, ◌∷◌, ◌++◌, inl, inr, length, take, drop, get_or, Bool, true, false, ◌||◌, if◌then◌else◌, refl, sym, ap, ◌∙◌, arith, length-append, length-drop, Option, None, Some, Ok, Err}
+use Rattle.std.proofs.Common.{◌≡◌, ℕ, ◌+◌, ◌-◌, ◌*◌, ◌/◌, ◌≤◌, List, ◌∷◌, ◌++◌, inl, inr, length, take, drop, get_or, Bool, true, false, ◌||◌, if◌then◌else◌, is_none, refl, sym, ap, ◌∙◌, subst, arith, length-append, length-drop, Option, None, Some, Ok, Err}
 use Rattle.std.proofs.lemmas.Bool.{cases_lt}
-use Rattle.std.proofs.lemmas.List.{take-append-le, drop-append-le, get_or_append_left, take_at}
+use Rattle.std.proofs.lemmas.List.{take-append-le, drop-append-le, get_or_append_left}
 use Rattle.segment_defs.specs.declared.head.SegmentHead.{SegmentHead}
 use Rattle.segment_defs.specs.declared.fault.HeadFault.{HeadFault}
 use Rattle.segment_defs.specs.declared.fault.HeadFault.TheVariants.{HeadShort}
 use Rattle.segment_defs.specs.Fields.{is_set}
 use Rattle.segment_defs.specs.Reading.{part_1_length, first_refusal, head_read}
-use Rattle.segment_defs.specs.Head.{IsHead}
 use Rattle.segment_defs.proofs.ReadHeads.{read_fits}
 use Rattle.bare_text.specs.declared.parts.PartsInForce.{PartsInForce}
 use Rattle.bare_text.specs.InForce.{bare_length, second_in, third_in, fourth_in, part_or, rest_after, parts_after, completed, completed_with, whole_part_1}
-use Rattle.bare_text.specs.Reading.{carry_tests, bare_head_read}
-use Rattle.bare_text.proofs.HeadTests.{flag_alike, length_alike, carry_alike, read_start, read_carry, read_whole, read_last}
+use Rattle.bare_text.specs.Reading.{carry_tests, bare_head_read, head_octets, HeadDecided, bare_head_in}
+use Rattle.bare_text.specs.Taken.{DecidesHead}
+use Rattle.bare_text.specs.Laws.{HeadEndsThere, BareHeadsEndThere}
+use Rattle.bare_text.proofs.HeadTests.{flag_alike, length_alike, carry_alike, read_start, read_carry, read_last, in_short, in_there, octets_whole, octets_least, octets_most}
 
 -- ---- one part
 
@@ -114,39 +115,94 @@ module _ (octets more : List ℕ) (three : 3 ≤ length octets) where
           let long : bare_length (octets ++ more) ≤ length (octets ++ more) = (let n = length-append octets more in let m = further_length in omega (arith, n, m, whole)) in
           read_last before (octets ++ more) more_three (carry ∙ e) long ∙ ap head_read (completed_same before) ∙ sym (read_last before octets three e whole)
 
--- ---- two heads that octets begin with are one
+-- ---- octets that decide a head
 
--- a head that is read has three octets at least
-pub read_three : (before : PartsInForce) (octets : List ℕ) (head : SegmentHead) → bare_head_read before octets ≡ Ok head → 3 ≤ length octets
-read_three before octets head read = elim (cases_lt (length octets) 3) [
-  | inl lt ↦ absurd (clash (HeadShort (length octets)) head (sym (read_start before octets lt) ∙ read))
-  | inr ge ↦ ge
-]
-  where
-    clash : (f : HeadFault) (h : SegmentHead) → Err f ≡ Ok h → ⊥
-    clash f h e = cc
+clash : (f : HeadFault) (h : SegmentHead) → Err f ≡ Ok h → ⊥
+clash f h e = cc
 
-pub one_head : (before : PartsInForce) (a b x y : List ℕ) (g h : SegmentHead) → bare_head_read before a ≡ Ok g → bare_head_read before b ≡ Ok h → length a ≡ bare_length a → length b ≡ bare_length b →
-    a ++ x ≡ b ++ y → a ≡ b
-one_head before a b x y g h first second whole whole' e =
-    let three = read_three before a g first in
-    let three' = read_three before b h second in
-    let same : bare_length a ≡ bare_length b = sym (further_length a x three) ∙ ap bare_length e ∙ further_length b y three' in
-    let long : length a ≡ length b = whole ∙ same ∙ sym whole' in
-    sym (take_at a x (length b) long) ∙ ap (take (length b)) e ∙ take_at b y (length b) refl
-
--- a head that is read is one that can be written
-pub bare_fits : (before : PartsInForce) (octets : List ℕ) (head : SegmentHead) → bare_head_read before octets ≡ Ok head → IsHead head
-bare_fits before octets head read = by_carry (first_refusal (carry_tests before octets)) refl where
+module _ (before : PartsInForce) (octets : List ℕ) (le : head_octets before octets ≤ length octets) where
   three : 3 ≤ length octets
-  three = read_three before octets head read
+  three = let least = octets_least before octets in omega (arith, least, le)
 
-  clash : (f : HeadFault) (h : SegmentHead) → Err f ≡ Ok h → ⊥
-  clash f h e = cc
+  abbrev missing : Option HeadFault
+  missing = first_refusal (carry_tests before octets)
 
-  by_carry : (o : Option HeadFault) → first_refusal (carry_tests before octets) ≡ o → IsHead head
-  by_carry (Some fault) e = absurd (clash fault head (sym (read_carry before octets fault three e) ∙ read))
-  by_carry None e = elim (cases_lt (length octets) (bare_length octets)) [
-    | inl lt ↦ absurd (clash (HeadShort (length octets)) head (sym (read_whole before octets three e lt) ∙ read))
-    | inr ge ↦ read_fits (completed before octets) head (sym (read_last before octets three e ge) ∙ read)
-  ]
+  whole_if : missing ≡ None → bare_length octets ≤ length octets
+  whole_if none = let n = octets_whole before octets none in omega (arith, n, le)
+
+  -- a head is read only from all octets that its flags ask for
+  whole_read : (head : SegmentHead) → bare_head_read before octets ≡ Ok head → bare_length octets ≤ length octets
+  whole_read head read = by missing refl
+    where
+      by : (o : Option HeadFault) → missing ≡ o → bare_length octets ≤ length octets
+      by (Some fault) e = absurd (clash fault head (sym (read_carry before octets fault three e) ∙ read))
+      by None e = whole_if e
+
+  module _ (more : List ℕ) where
+    same_missing : first_refusal (carry_tests before (octets ++ more)) ≡ missing
+    same_missing = ap first_refusal (carry_alike (octets ++ more) octets (begins octets more three) (more_three octets more three) three before)
+
+    same_octets : head_octets before (octets ++ more) ≡ head_octets before octets
+    same_octets = ap (λ o. if is_none o then bare_length (octets ++ more) else 3) same_missing ∙ ap (λ n. if is_none missing then n else 3) (further_length octets more three)
+
+    same_read : bare_head_read before (octets ++ more) ≡ bare_head_read before octets
+    same_read = by missing refl
+      where
+        by : (o : Option HeadFault) → missing ≡ o → bare_head_read before (octets ++ more) ≡ bare_head_read before octets
+        by (Some fault) e = read_carry before (octets ++ more) fault (more_three octets more three) (same_missing ∙ e) ∙ sym (read_carry before octets fault three e)
+        by None e = further_read octets more three (whole_if e) before
+
+    stays_so : bare_head_in before (octets ++ more) ≡ Some (record { result = bare_head_read before octets; octets = head_octets before octets })
+    stays_so =
+        in_there before (octets ++ more) (let n = length-append octets more in let m = same_octets in omega (arith, n, m, le))
+        ∙ ap (λ r. Some (record { result = r; octets = head_octets before (octets ++ more) })) same_read
+        ∙ ap (λ n. Some (record { result = bare_head_read before octets; octets = n })) same_octets
+
+  ends_so : HeadEndsThere before octets (record { result = bare_head_read before octets; octets = head_octets before octets })
+  ends_so = record {
+    least = octets_least before octets;
+    most = octets_most before octets;
+    enough = le;
+    stays = stays_so;
+    force = λ head read more. further_parts octets more three (whole_read head read) before;
+    fits = λ head read. read_fits (completed before octets) head (sym (last (whole_read head read) head read) ∙ read);
+  }
+    where
+      last : bare_length octets ≤ length octets → (head : SegmentHead) → bare_head_read before octets ≡ Ok head → bare_head_read before octets ≡ head_read (completed before octets)
+      last whole head read = by missing refl
+        where
+          by : (o : Option HeadFault) → missing ≡ o → bare_head_read before octets ≡ head_read (completed before octets)
+          by (Some fault) e = absurd (clash fault head (sym (read_carry before octets fault three e) ∙ read))
+          by None e = read_last before octets three e whole
+
+some_none : {A : Type 0} (a : A) (o : Option A) → o ≡ None → o ≡ Some a → ⊥
+some_none a o e f = absurd cc
+
+some_one : {A : Type 0} (a b : A) (o : Option A) → o ≡ Some a → o ≡ Some b → a ≡ b
+some_one a b o e f = cc
+
+pub heads_end_there : BareHeadsEndThere
+heads_end_there before octets d e = elim (cases_lt (length octets) (head_octets before octets)) [
+  | inl lt ↦ absurd (some_none d (bare_head_in before octets) (in_short before octets lt) e)
+  | inr le ↦
+      let is = some_one (record { result = bare_head_read before octets; octets = head_octets before octets }) d (bare_head_in before octets) (in_there before octets le) e in
+      subst (HeadEndsThere before octets) is (ends_so before octets le)
+]
+
+-- a head whose octets are all there
+pub in_whole : (before : PartsInForce) (octets : List ℕ) (head : SegmentHead) → bare_head_read before octets ≡ Ok head → bare_length octets ≡ length octets → DecidesHead before (Ok head) octets
+in_whole before octets head read long = by (first_refusal (carry_tests before octets)) refl
+  where
+    three_there : 3 ≤ length octets
+    three_there = elim (cases_lt (length octets) 3) [
+      | inl lt ↦ absurd (clash (HeadShort (length octets)) head (sym (read_start before octets lt) ∙ read))
+      | inr ge ↦ ge
+    ]
+
+    by : (o : Option HeadFault) → first_refusal (carry_tests before octets) ≡ o → DecidesHead before (Ok head) octets
+    by (Some fault) e = absurd (clash fault head (sym (read_carry before octets fault three_there e) ∙ read))
+    by None e =
+        let n = octets_whole before octets e ∙ long in
+        in_there before octets (omega (arith, n))
+        ∙ ap (λ r. Some (record { result = r; octets = head_octets before octets })) read
+        ∙ ap (λ m. Some (record { result = Ok head; octets = m })) n

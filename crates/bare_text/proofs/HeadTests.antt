@@ -1,5 +1,5 @@
 -- The tests of a head with absent parts, one after another.
-use Rattle.std.proofs.Common.{◌≡◌, ℕ, ◌+◌, ◌*◌, ◌<◌, ◌≤◌, List, [], ◌∷◌, length, take, Bool, true, false, not, nat_lt, ◌==◌, ◌||◌, refl, sym, ap, ◌∙◌, subst, arith, Option, None, Some, Result, Err}
+use Rattle.std.proofs.Common.{◌≡◌, ℕ, ◌+◌, ◌*◌, ◌<◌, ◌≤◌, List, [], ◌∷◌, length, take, Bool, true, false, not, nat_lt, is_none, if◌then◌else◌, ◌==◌, ◌||◌, refl, sym, ap, ◌∙◌, subst, arith, Option, None, Some, Result, Err}
 use Rattle.std.proofs.lemmas.Bool.Decides.{nat_tests}
 use Rattle.segment_defs.specs.declared.head.SegmentHead.{SegmentHead}
 use Rattle.segment_defs.specs.declared.fault.HeadFault.{HeadFault}
@@ -9,7 +9,7 @@ use Rattle.segment_defs.specs.Reading.{refused_where, first_refusal, head_read}
 use Rattle.segment_head.proofs.FieldBits.{number_in-within}
 use Rattle.bare_text.specs.declared.parts.PartsInForce.{PartsInForce}
 use Rattle.bare_text.specs.InForce.{bare_length, completed}
-use Rattle.bare_text.specs.Reading.{carry_tests, whole_tests, then_read, bare_head_read}
+use Rattle.bare_text.specs.Reading.{carry_tests, whole_tests, then_read, bare_head_read, head_octets, HeadDecided, bare_head_in}
 
 -- ---- lists that begin with the same three octets
 
@@ -68,6 +68,48 @@ module _ (before : PartsInForce) (octets : List ℕ) where
 
   pub read_last : 3 ≤ length octets → first_refusal (carry_tests before octets) ≡ None → bare_length octets ≤ length octets → bare_head_read before octets ≡ head_read (completed before octets)
   read_last le e ge = carried le e ∙ one_passes (nat_lt (length octets) (bare_length octets)) (HeadShort (length octets)) (head_read (completed before octets)) (grind (arith, nat_tests))
+
+-- ---- the octets that decide
+
+abbrev if_there : (short : Bool) → HeadDecided → Option HeadDecided
+if_there short d = if short then None else Some d
+
+all_there : (short : Bool) (d : HeadDecided) → short ≡ false → if_there short d ≡ Some d
+all_there true d e = absurd cc
+all_there false d e = refl
+
+module _ (before : PartsInForce) (octets : List ℕ) where
+  abbrev fault : Option HeadFault
+  fault = first_refusal (carry_tests before octets)
+
+  -- what is known if there are this number of octets, or fewer
+  pub in_short : length octets < head_octets before octets → bare_head_in before octets ≡ None
+  unfolding bare_head_in
+  in_short lt = grind (arith, nat_tests)
+
+  pub in_there : head_octets before octets ≤ length octets → bare_head_in before octets ≡ Some (record { result = bare_head_read before octets; octets = head_octets before octets })
+  unfolding bare_head_in
+  in_there le = all_there (nat_lt (length octets) (head_octets before octets)) (record { result = bare_head_read before octets; octets = head_octets before octets }) (grind (arith, nat_tests))
+
+  pub octets_missing : (missing : HeadFault) → fault ≡ Some missing → head_octets before octets ≡ 3
+  octets_missing missing e = rw e refl
+
+  pub octets_whole : fault ≡ None → head_octets before octets ≡ bare_length octets
+  octets_whole e = rw e refl
+
+  pub octets_least : 3 ≤ head_octets before octets
+  octets_least = by (is_none fault)
+    where
+      by : (b : Bool) → 3 ≤ (if b then bare_length octets else 3)
+      by true = grind (arith, nat_tests)
+      by false = omega arith
+
+  pub octets_most : head_octets before octets ≤ 20
+  octets_most = by (is_none fault)
+    where
+      by : (b : Bool) → (if b then bare_length octets else 3) ≤ 20
+      by true = grind (arith, nat_tests)
+      by false = omega arith
 
 -- a part that is missing is the name of the tests of parts
 missing_by : (a b c : Bool) (p q r fault : HeadFault) (Q : HeadFault → Type 0) → Q p → Q q → Q r →

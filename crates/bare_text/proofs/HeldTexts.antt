@@ -1,8 +1,10 @@
--- A text holds its items, whatever head is before them.
-use Rattle.std.proofs.Common.{◌≡◌, ℕ, ℤ, ◌+◌, ◌-◌, ◌*◌, ◌/◌, ◌<◌, ◌≤◌, inl, inr, Bool, true, false, cond, List, ◌++◌, length, take, refl, sym, ap, ◌∙◌, subst, arith, append_assoc, length-append, ◌≢◌, append-nil, length-take-le}
+-- A text decides its items, whatever head is before them.
+use Rattle.std.proofs.Common.{◌≡◌, ◌≢◌, ℕ, ℤ, ◌+◌, ◌-◌, ◌*◌, ◌/◌, ◌<◌, ◌≤◌, inl, inr, Bool, true, false, cond, nat_lt, List, [], ◌++◌, length, take, refl, sym, ap, ◌∙◌, subst, arith, append_assoc, length-append, append-nil, length-take-le, Option, None, Some, ◌==◌}
 use Rattle.std.proofs.lemmas.Bool.{cases_lt, cases_Bool}
+use Rattle.std.proofs.lemmas.Bool.Decides.{nat_tests}
+use Rattle.std.proofs.lemmas.List.{take_all}
 use Rattle.std.proofs.Math.Seq.{take-append-add}
-use Rattle.item_defs.specs.Bits.{copies, octets_of}
+use Rattle.item_defs.specs.Bits.{copies, bits_of_octets, octets_of}
 use Rattle.item_defs.specs.Items.{Item, text}
 use Rattle.item_defs.specs.Padding.{rounded, padded_length, padding, padded}
 use Rattle.item_defs.specs.Readings.{AreItems}
@@ -16,24 +18,44 @@ use Rattle.segment_defs.specs.SegmentItems.{Options, segment_items}
 use Rattle.segment_defs.specs.Text.{text_octets}
 use Rattle.segment_defs.proofs.WrittenFields.{octets_of-append}
 use Rattle.text_defs.specs.Fronts.{Front}
-use Rattle.text_defs.specs.Given.{given_blocks}
 use Rattle.text_defs.specs.Spellable.{IsSpellable, AreWordOptions}
-use Rattle.text_defs.proofs.Cuts.{cut_front, whole_front}
-use Rattle.segment_code.specs.ItemsHeld.{wanted_octets, HoldsItems}
-use Rattle.segment_code.proofs.CodedHeld.{whole_octets}
-use Rattle.segment_code.proofs.TextOctets.{IsLimit, padded_within, length-padded, text_within, text_unlimited, text_cut}
+use Rattle.text_defs.specs.TextLaws.{HasAllPlanes}
+use Rattle.text_defs.proofs.Cuts.{cut_front}
+use Rattle.segment_code.proofs.TextOctets.{IsLimit, padded_within, padded_least, length-padded, text_within, text_unlimited, text_cut}
+use Rattle.segment_code.specs.TextAnswers.{TextAnswer, gives, refuses, Decided, if_enough, whole_octets, bits_within, answer_in, Decides}
+use Rattle.segment_code.specs.Spelled.{SpelledDecide, SpelledTextsDecide}
 
--- a text is these octets of a head and what holds the items
-pub record HeldAfter (h : SegmentHead) (blocks : List (List ℤ)) (depths : List ℕ) (options : Options) (head octets : List ℕ) (size : ℕ) : Type 0 where
+-- a text is these octets of a head and what decides its items
+pub record HeldAfter (h : SegmentHead) (blocks : List (List ℤ)) (options : Options) (head octets : List ℕ) (size : ℕ) : Type 0 where
   pub rest : List ℕ
-  pub count : ℕ
+  pub w : List (List ℤ)
   pub part : Part
   pub parts : octets ≡ head ++ rest
-  pub holds : HoldsItems options.book h size rest (given_blocks h blocks depths options count) part
-  pub all : h.limit ≡ 0 → count ≡ length (segment_items h blocks depths options)
+  pub decides : Decides options.book h size rest (gives part w)
+  pub exact : h.limit ≡ 0 → HasAllPlanes h → w ≡ blocks
 
-module _ (h : SegmentHead) (blocks : List (List ℤ)) (depths : List ℕ) (options : Options) (fits : IsHead h) (spellable : IsSpellable h blocks depths) (words : AreWordOptions options)
-    (are : AreItems (segment_items h blocks depths options)) (front : List Bool) (size : ℕ) (eight : length front ≡ 8 * size) (few : size ≤ 20) where
+-- an answer that is decided by all octets that are there
+all_there : (there octets : ℕ) (answer : TextAnswer) → octets ≡ there → if_enough there octets answer ≡ Some (record { answer = answer; octets = there })
+all_there there octets answer e = grind (arith, nat_tests)
+
+-- the blocks that are given
+abbrev blocks_of : TextAnswer → List (List ℤ)
+blocks_of (gives part w) = w
+blocks_of (refuses name) = []
+
+abbrev blocks_in : Option Decided → List (List ℤ)
+blocks_in None = []
+blocks_in (Some d) = blocks_of d.answer
+
+-- one answer gives one list of blocks
+one_given : (o : Option Decided) (part : Part) (n : ℕ) (v w : List (List ℤ)) → o ≡ Some (record { answer = gives part v; octets = n }) → o ≡ Some (record { answer = gives part w; octets = n }) → v ≡ w
+one_given o part n v w e f = sym (ap blocks_in e) ∙ ap blocks_in f
+
+eight_parts : (word limit used : ℕ) (fill : Bool) → padded_length word limit fill used ≡ 8 * (padded_length word limit fill used / 8)
+eight_parts word limit used fill = grind (arith, nat_tests)
+
+module _ (spelled : SpelledTextsDecide) (h : SegmentHead) (blocks : List (List ℤ)) (depths : List ℕ) (options : Options) (fits : IsHead h) (spellable : IsSpellable h blocks depths)
+    (words : AreWordOptions options) (are : AreItems (segment_items h blocks depths options)) (front : List Bool) (size : ℕ) (eight : length front ≡ 8 * size) (few : size ≤ 20) where
   abbrev items : List Item
   items = segment_items h blocks depths options
 
@@ -49,6 +71,10 @@ module _ (h : SegmentHead) (blocks : List (List ℤ)) (depths : List ℕ) (optio
   abbrev all : ℕ
   all = padded_length h.image.word h.limit h.fill (length bits)
 
+  -- what octets after the head decide
+  decide : (rest : List ℕ) → SpelledDecide h size blocks depths options rest
+  decide rest = spelled h size blocks depths options rest fits spellable words
+
   used : length bits ≡ 8 * size + length (text items)
   used = omega (arith, length-append front (text items), eight)
 
@@ -56,7 +82,7 @@ module _ (h : SegmentHead) (blocks : List (List ℤ)) (depths : List ℕ) (optio
   long = omega (arith, length-padded h.image.word h.limit h.fill bits fits.image.word.0, length-append bits zeros, length-append (text items) zeros, used)
 
   eights : length after ≡ 8 * (all / 8 - size)
-  eights = omega (arith, long, whole_octets h.image.word h.limit (length bits) h.fill)
+  eights = omega (arith, long, eight_parts h.image.word h.limit (length bits) h.fill)
 
   parts_are : octets_of (padded h.image.word h.limit h.fill bits) ≡ octets_of front ++ octets_of after
   parts_are = ap octets_of (append_assoc front (text items) zeros) ∙ octets_of-append size front after eight
@@ -66,46 +92,58 @@ module _ (h : SegmentHead) (blocks : List (List ℤ)) (depths : List ℕ) (optio
 
   -- ---- all items
 
-  expected : (h.fill ≡ true → all ≤ 8 * h.limit) → size + length (octets_of after) ≡ wanted_octets h size items
+  expected : (h.fill ≡ true → all ≤ 8 * h.limit) → whole_octets h (8 * size + length (text items)) - size ≡ length (octets_of after)
   expected within =
-      let count : size + length (octets_of after) ≡ all / 8 = omega (arith, after_octets, long, whole_octets h.image.word h.limit (length bits) h.fill) in
-      count ∙ by_fill h.fill within
+      let count : size + length (octets_of after) ≡ all / 8 = omega (arith, after_octets, long, eight_parts h.image.word h.limit (length bits) h.fill) in
+      let wanted = by_fill h.fill within in
+      omega (arith, count, wanted)
     where
       same : rounded (8 * h.image.word) (length bits) ≡ rounded (8 * h.image.word) (8 * size + length (text items))
       same = ap (rounded (8 * h.image.word)) used
 
-      by_fill : (f : Bool) → (f ≡ true → padded_length h.image.word h.limit f (length bits) ≤ 8 * h.limit) → padded_length h.image.word h.limit f (length bits) / 8 ≡ cond f h.limit (rounded (8 * h.image.word) (8 * size + length (text items)) / 8)
+      by_fill : (f : Bool) → (f ≡ true → padded_length h.image.word h.limit f (length bits) ≤ 8 * h.limit) →
+          padded_length h.image.word h.limit f (length bits) / 8 ≡ cond f h.limit (rounded (8 * h.image.word) (8 * size + length (text items)) / 8)
       by_fill true within = let w = within refl in omega (arith, w)
       by_fill false within = let s = same in omega (arith, s)
 
-  all_held : text_octets h.image.word h.limit h.fill bits ≡ octets_of (padded h.image.word h.limit h.fill bits) → (h.fill ≡ true → all ≤ 8 * h.limit) → (h.limit ≢ 0 → all ≤ 8 * h.limit) →
-      HeldAfter h blocks depths options (octets_of front) (text_octets h.image.word h.limit h.fill bits) size
-  all_held e filled within = record {
-    rest = octets_of after;
-    count = length items;
-    part = Whole;
-    parts = e ∙ parts_are;
-    holds = record {
-      blocks = blocks;
-      depths = depths;
-      options = options;
-      of_book = refl;
-      count = length items;
-      more = zeros;
-      items = record {
-        spellable = spellable;
-        known = words;
-        front = subst (λ b. Front items (length items) b zeros) (sym (bits_of_octets-octets_of after (all / 8 - size) eights)) (whole_front items zeros are);
-        within = λ some. let w = within some in omega (arith, after_octets, w, long);
-      };
-      all = inl (refl, expected filled);
-      given = refl;
-      so = refl;
-    };
-    all = λ none. refl;
-  }
+  abbrev rest : List ℕ
+  rest = octets_of after
 
-  unlimited : h.limit ≡ 0 → HeldAfter h blocks depths options (octets_of front) (text_octets h.image.word h.limit h.fill bits) size
+  -- the items are read in the bits of these octets
+  read_in : (h.limit ≢ 0 → all ≤ 8 * h.limit) → bits_within h size (octets_of after) ≡ text items ++ zeros
+  read_in within = elim (cases_Bool (h.limit == 0)) [
+    | inl none ↦ ap (λ b. bits_of_octets (cond b rest (take (h.limit - size) rest))) none ∙ whole
+    | inr some ↦
+        let limited : h.limit ≢ 0 = λ e. not_zero h.limit e some in
+        let le = within limited in
+        let short : length rest ≤ h.limit - size = omega (arith, after_octets, le) in
+        ap (λ b. bits_of_octets (cond b rest (take (h.limit - size) rest))) some ∙ ap bits_of_octets (take_all (h.limit - size) rest short) ∙ whole
+  ]
+    where
+      whole : bits_of_octets rest ≡ text items ++ zeros
+      whole = bits_of_octets-octets_of after (all / 8 - size) eights
+
+      not_zero : (n : ℕ) → n ≡ 0 → (n == 0) ≡ false → ⊥
+      not_zero n e f = grind (arith, nat_tests)
+
+  all_held : text_octets h.image.word h.limit h.fill bits ≡ octets_of (padded h.image.word h.limit h.fill bits) → (h.fill ≡ true → all ≤ 8 * h.limit) → (h.limit ≢ 0 → all ≤ 8 * h.limit) →
+      HeldAfter h blocks options (octets_of front) (text_octets h.image.word h.limit h.fill bits) size
+  all_held e filled within =
+      let rest = octets_of after in
+      let d = decide rest in
+      let read = read_in within in
+      let w = d.whole are zeros read in
+      let there = λ (v : List (List ℤ)). all_there (length rest) (whole_octets h (8 * size + length (text items)) - size) (gives Whole v) (expected filled) in
+      record {
+        rest = rest;
+        w = w.0;
+        part = Whole;
+        parts = e ∙ parts_are;
+        decides = w.1 ∙ there w.0;
+        exact = λ none no_stop. one_given (answer_in options.book h size rest) Whole (length rest) w.0 blocks (w.1 ∙ there w.0) (d.exact are no_stop zeros read ∙ there blocks);
+      }
+
+  unlimited : h.limit ≡ 0 → HeldAfter h blocks options (octets_of front) (text_octets h.image.word h.limit h.fill bits) size
   unlimited none =
       let plain : h.fill ≡ false = elim (cases_Bool h.fill) [ inl filled ↦ absurd (fits.fill filled none) | inr plain ↦ plain ] in
       let same : text_octets h.image.word h.limit h.fill bits ≡ octets_of (padded h.image.word h.limit h.fill bits) = by_values h.limit h.fill none plain in
@@ -117,7 +155,7 @@ module _ (h : SegmentHead) (blocks : List (List ℤ)) (depths : List ℕ) (optio
   -- ---- a limit
 
   module _ (l : IsLimit h.image.word h.limit) (room : 32 ≤ h.limit) where
-    fitting : length bits ≤ 8 * h.limit → HeldAfter h blocks depths options (octets_of front) (text_octets h.image.word h.limit h.fill bits) size
+    fitting : length bits ≤ 8 * h.limit → HeldAfter h blocks options (octets_of front) (text_octets h.image.word h.limit h.fill bits) size
     fitting le =
         let within = padded_within h.image.word h.limit (length bits) h.fill l le in
         all_held (sym (text_within h.image.word h.limit h.fill bits l le)) (λ filled. within) (λ some. within)
@@ -136,43 +174,31 @@ module _ (h : SegmentHead) (blocks : List (List ℤ)) (depths : List ℕ) (optio
         let some : first ≡ front ++ take (8 * left) (text items) = ap (λ k. take k bits) split ∙ take-append-add front (text items) (8 * left) in
         sym (text_cut h.image.word h.limit h.fill bits l (omega (arith, lt))) ∙ ap octets_of (plain ∙ some) ∙ octets_of-append size front (take (8 * left) (text items)) eight
 
-    cut_held : 8 * h.limit < length bits → HeldAfter h blocks depths options (octets_of front) (text_octets h.image.word h.limit h.fill bits) size
+    cut_held : 8 * h.limit < length bits → HeldAfter h blocks options (octets_of front) (text_octets h.image.word h.limit h.fill bits) size
     cut_held lt =
         let cut : 8 * left < length (text items) = omega (arith, lt, used, few, room) in
         let first = take (8 * left) (text items) in
+        let rest = octets_of first in
         let count : length first ≡ 8 * left = length-take-le (8 * left) (text items) (omega (arith, cut)) in
         let c = cut_front items are (8 * left) cut in
-        let rest_long : length (octets_of first) ≡ left = length-octets_of first ∙ omega (arith, count) in
-        let full : size + length (octets_of first) ≡ h.limit = omega (arith, rest_long, few, room) in
+        let rest_long : length rest ≡ left = length-octets_of first ∙ omega (arith, count) in
+        let some : (h.limit == 0) ≡ false = grind (arith, nat_tests) in
+        let read : bits_within h size rest ≡ first =
+        ap (λ b. bits_of_octets (cond b rest (take left rest))) some ∙ ap bits_of_octets (take_all left rest (omega (arith, rest_long))) ∙ bits_of_octets-octets_of first left count in
+        let d = (decide rest).cut c.count c.more (subst (λ b. Front items c.count b c.more) (sym read) c.front) c.ends in
         record {
-          rest = octets_of first;
-          count = c.count;
+          rest = rest;
+          w = d.0;
           part = Ended;
           parts = cut_octets lt;
-          holds = record {
-            blocks = blocks;
-            depths = depths;
-            options = options;
-            of_book = refl;
-            count = c.count;
-            more = c.more;
-            items = record {
-              spellable = spellable;
-              known = words;
-              front = subst (λ b. Front items c.count b c.more) (sym (bits_of_octets-octets_of first left count)) c.front;
-              within = λ some. omega (arith, full);
-            };
-            all = inr (c.ends, λ e. omega (arith, e, room), full);
-            given = refl;
-            so = c.ends.within;
-          };
-          all = λ none. absurd (omega (arith, none, room));
+          decides = d.1 ∙ ap (λ b. cond b None (if_enough (length rest) left (gives Ended d.0))) some ∙ all_there (length rest) left (gives Ended d.0) (sym rest_long);
+          exact = λ none no_stop. absurd (omega (arith, none, room));
         }
 
-    limited : HeldAfter h blocks depths options (octets_of front) (text_octets h.image.word h.limit h.fill bits) size
+    limited : HeldAfter h blocks options (octets_of front) (text_octets h.image.word h.limit h.fill bits) size
     limited = elim (cases_lt (8 * h.limit) (length bits)) [ inl lt ↦ cut_held lt | inr ge ↦ fitting ge ]
 
-  pub text_held : HeldAfter h blocks depths options (octets_of front) (text_octets h.image.word h.limit h.fill bits) size
+  pub text_held : HeldAfter h blocks options (octets_of front) (text_octets h.image.word h.limit h.fill bits) size
   text_held = elim fits.limit [
     | inl none ↦ unlimited none
     | inr some ↦ limited (record { octets = fits.image.word.0; some = omega (arith, some.0); whole = some.2 }) some.0

@@ -6,7 +6,7 @@ use Rattle.segment_head.specs.declared.carried.Carried.{Carried}
 use Rattle.segment_head.specs.Parts.{carried_in}
 use Rattle.bare_text.specs.declared.parts.PartsInForce.{PartsInForce}
 use Rattle.bare_text.specs.InForce.{bare_length, second_in, third_in, fourth_in, part_or, rest_after, parts_after}
-use Rattle.segment_code.proofs.ItemEnds.{none_long}
+use Rattle.segment_code.proofs.TextOctets.{none_long}
 
 -- three parts put into sixteen octets
 pub three_put : (zeros s t f a b c : List ℕ) → length s ≡ 5 → length t ≡ 3 → length f ≡ 8 → length zeros ≡ 16 →

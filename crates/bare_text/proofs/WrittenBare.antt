@@ -23,7 +23,7 @@ use Rattle.bare_text.specs.Laws.{in_force, bare_head}
 use Rattle.bare_text.proofs.FirstPart.{whole_flags}
 use Rattle.bare_text.proofs.HeadLengths.{length_first}
 use Rattle.bare_text.proofs.HeadTests.{read_last}
-use Rattle.segment_code.proofs.ItemEnds.{none_long}
+use Rattle.segment_code.proofs.TextOctets.{none_long}
 
 no_bits : octets_of [] ≡ []
 no_bits = none_long (octets_of []) (length-octets_of [])

@@ -4,10 +4,10 @@ use Rattle.item_defs.specs.Bits.{AreOctets}
 use Rattle.bit_pipe.specs.Sources.{SourceOf, Comes, IsOver, Plainly, Fails}
 use Rattle.bit_pipe.specs.declared.fault.InFault.{InFault}
 
--- the place after the last octet that was taken; if it is below the end of the places, the input is over
+-- the place after the last octet that was taken; if it is below the end of the places, the input is over, or failed
 abbrev pub EndsFill : {I : Type 0} → SourceOf I → (from to : ℕ) → Result ℕ InFault → List ℕ → I → I → Type 0
 EndsFill k from to (Ok place) octets old new = (place ≡ from + length octets) × (place ≤ to) × (place < to → IsOver (k.tail new) Plainly)
-EndsFill k from to (Err fault) octets old new = Fails k fault old new
+EndsFill k from to (Err fault) octets old new = (from + length octets < to) × Fails k fault old new
 
 -- these octets were taken into the places from one on
 pub record Fills {I : Type 0} (k : SourceOf I) (from to : ℕ) (result : Result ℕ InFault) (old new : I) (before after : List ℕ) : Type 0 where

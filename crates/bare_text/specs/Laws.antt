@@ -8,12 +8,13 @@ use Rattle.segment_defs.specs.Depths.{block_depths, depth_ac_of}
 use Rattle.segment_defs.specs.Head.{IsHead, part_2, part_3, part_4}
 use Rattle.bit_pipe.specs.declared.fault.Part.{Part}
 use Rattle.text_defs.specs.Spellable.{IsSpellable}
-use Rattle.segment_code.specs.ItemsHeld.{HoldsItems}
-use Rattle.segment_code.specs.Laws.{HasNoStop}
+use Rattle.text_defs.specs.TextLaws.{HasAllPlanes}
+use Rattle.segment_code.specs.TextAnswers.{gives, Decides}
 use Rattle.segment_head.specs.Parts.{all_carried}
 use Rattle.bare_text.specs.declared.parts.PartsInForce.{PartsInForce}
-use Rattle.bare_text.specs.InForce.{none_in_force, bare_length, parts_after}
-use Rattle.bare_text.specs.Reading.{bare_head_read}
+use Rattle.bare_text.specs.InForce.{none_in_force, parts_after}
+use Rattle.bare_text.specs.Reading.{HeadDecided, bare_head_in}
+use Rattle.bare_text.specs.Taken.{DecidesHead}
 use Rattle.bare_text.specs.Writing.{part_octets, carried_after, bare_head_bits, bare_text}
 
 -- the parts in force after a head that was written: none before the first, and otherwise its own
@@ -25,31 +26,33 @@ in_force (Some h) = record { carried = all_carried; octets = part_octets (part_2
 abbrev pub bare_head : Option SegmentHead → SegmentHead → List ℕ
 bare_head before h = octets_of (bare_head_bits (carried_after before h) h)
 
--- A head is read as it was written after the head before, and its parts are in force then.
+-- A head is read as it was written after the head before, by exactly its octets, and its parts are in force then.
 pub record BareHeadsUndo : Type 0 where
-  pub read : (before : Option SegmentHead) (h : SegmentHead) → IsHead h → h.count < 256 → length h.image.weights.shifts ≡ 10 → bare_head_read (in_force before) (bare_head before h) ≡ Ok h
-  pub whole : (before : Option SegmentHead) (h : SegmentHead) → IsHead h → h.count < 256 → length h.image.weights.shifts ≡ 10 → bare_length (bare_head before h) ≡ length (bare_head before h)
+  pub read : (before : Option SegmentHead) (h : SegmentHead) → IsHead h → h.count < 256 → length h.image.weights.shifts ≡ 10 → DecidesHead (in_force before) (Ok h) (bare_head before h)
   pub force : (before : Option SegmentHead) (h : SegmentHead) → IsHead h → h.count < 256 → length h.image.weights.shifts ≡ 10 → parts_after (in_force before) (bare_head before h) ≡ in_force (Some h)
 
--- Octets that follow a whole head change nothing in it, so octets begin with at most one head. A head that is read is one that can be
--- written.
-pub record BareHeadsEndThere : Type 0 where
-  pub read : (before : PartsInForce) (octets more : List ℕ) → 3 ≤ length octets → bare_length octets ≤ length octets → bare_head_read before (octets ++ more) ≡ bare_head_read before octets
-  pub size : (octets more : List ℕ) → 3 ≤ length octets → bare_length (octets ++ more) ≡ bare_length octets
-  pub force : (before : PartsInForce) (octets more : List ℕ) → 3 ≤ length octets → bare_length octets ≤ length octets → parts_after before (octets ++ more) ≡ parts_after before octets
-  pub one : (before : PartsInForce) (a b x y : List ℕ) (g h : SegmentHead) → bare_head_read before a ≡ Ok g → bare_head_read before b ≡ Ok h → length a ≡ bare_length a → length b ≡ bare_length b →
-      a ++ x ≡ b ++ y → a ≡ b
-  pub fits : (before : PartsInForce) (octets : List ℕ) (h : SegmentHead) → bare_head_read before octets ≡ Ok h → IsHead h
+-- octets that decide a head, or its refusal, are there, and more octets do not change it
+pub record HeadEndsThere (before : PartsInForce) (octets : List ℕ) (d : HeadDecided) : Type 0 where
+  pub least : 3 ≤ d.octets
+  pub most : d.octets ≤ 20
+  pub enough : d.octets ≤ length octets
+  pub stays : (more : List ℕ) → bare_head_in before (octets ++ more) ≡ Some d
+  pub force : (head : SegmentHead) → d.result ≡ Ok head → (more : List ℕ) → parts_after before (octets ++ more) ≡ parts_after before octets
+  -- a head that is read is one that can be written
+  pub fits : (head : SegmentHead) → d.result ≡ Ok head → IsHead head
 
--- The text after the head before is its head and octets that hold blocks, with the codes of this book, and end by themselves; with
--- neither a stop nor a limit these are the blocks that were coded.
+abbrev pub BareHeadsEndThere : Type 0
+BareHeadsEndThere = (before : PartsInForce) (octets : List ℕ) (d : HeadDecided) → bare_head_in before octets ≡ Some d → HeadEndsThere before octets d
+
+-- The text after the head before is its head and exactly the octets that decide its blocks, with the codes of this book; with neither a
+-- stop nor a limit these are the blocks that were coded.
 pub record HoldsText (book : Book) (before : Option SegmentHead) (h : SegmentHead) (blocks : List (List ℤ)) : Type 0 where
   pub rest : List ℕ
   pub w : List (List ℤ)
   pub part : Part
   pub octets : bare_text book before h blocks ≡ bare_head before h ++ rest
-  pub holds : HoldsItems book h (length (bare_head before h)) rest w part
-  pub exact : h.limit ≡ 0 → HasNoStop h → w ≡ blocks
+  pub decides : Decides book h (length (bare_head before h)) rest (gives part w)
+  pub exact : h.limit ≡ 0 → HasAllPlanes h → w ≡ blocks
 
 abbrev pub BareTextsHold : Type 0
 BareTextsHold = (book : Book) → IsTrue (is_book_sound book) → (before : Option SegmentHead) (h : SegmentHead) (blocks : List (List ℤ)) → IsHead h → length h.image.weights.shifts ≡ 10 →

@@ -1,6 +1,6 @@
 -- The head with absent parts that octets represent, or the first test that refuses them. (The tests and their order are this project's
 -- own.)
-use Rattle.std.specs.Prelude.{ℕ, ◌||◌, not, nat_lt, List, [], ◌∷◌, length, Option, None, Some, Result, Err}
+use Rattle.std.specs.Prelude.{ℕ, ◌||◌, not, nat_lt, if◌then◌else◌, is_none, List, [], ◌∷◌, length, Option, None, Some, Result, Err}
 use Rattle.segment_defs.specs.declared.head.SegmentHead.{SegmentHead}
 use Rattle.segment_defs.specs.declared.fault.HeadFault.{HeadFault}
 use Rattle.segment_defs.specs.declared.fault.HeadFault.TheVariants.{HeadShort, MissingPart}
@@ -35,3 +35,21 @@ bare_head_read before octets =
     then_read (first_refusal (start_tests octets))
     (then_read (first_refusal (carry_tests before octets))
     (then_read (first_refusal (whole_tests octets)) (head_read (completed before octets))))
+
+-- ---- how many octets decide it
+
+-- the third octet shows that a part is missing; otherwise all octets are needed that the flags ask for
+abbrev pub head_octets : PartsInForce → List ℕ → ℕ
+head_octets before octets = if is_none (first_refusal (carry_tests before octets)) then bare_length octets else 3
+
+-- what was read, and the number of octets that decide it
+pub record HeadDecided : Type 0 where
+  pub result : Result SegmentHead HeadFault
+  pub octets : ℕ
+
+-- the head with which the octets begin, or its refusal, if they are enough to decide it
+unfoldable pub bare_head_in : PartsInForce → List ℕ → Option HeadDecided
+bare_head_in before octets =
+    if nat_lt (length octets) (head_octets before octets)
+    then None
+    else Some (record { result = bare_head_read before octets; octets = head_octets before octets })

@@ -15,8 +15,8 @@ pub use encode::BareWriter;
 pub use parts::PartsInForce;
 pub use read::{BareHead, BareHeadFault, BareReader, read_bare_head};
 pub use segment_code::SegmentFault;
+use segment_code::spelled_texts_decide;
 pub use segment_head::{Carried, HeadFault, SegmentHead};
-use text_defs::items_give_all;
 pub use write::put_bare_head;
 
 /// A head that carries only the parts that changed is read as it was written, by a reader that has read the head before.
@@ -24,15 +24,15 @@ pub const fn bare_heads_undo()
     ensures { BareHeadsUndo }
 {}
 
-/// A head is read in the same way whatever octets follow it, and octets begin with at most one head.
+/// Octets that decide a head, or its refusal, decide it whatever octets follow.
 pub const fn bare_heads_end_there()
     ensures { BareHeadsEndThere }
 {}
 
-/// What was encoded can be decoded: a text is its head and octets that hold blocks, the coded ones if there is neither a stop nor a
-/// limit.
+/// What was encoded can be decoded: a text is its head and the octets that decide its blocks, the coded ones if there is neither a stop nor
+/// a limit.
 pub const fn bare_texts_hold()
     ensures { BareTextsHold }
 {
-    items_give_all();
+    spelled_texts_decide();
 }

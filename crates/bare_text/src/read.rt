@@ -13,6 +13,7 @@ use base_122::Book;
 use bit_pipe::{InFault, OctetIn, Part};
 use segment_code::{SegmentFault, SegmentReader};
 use segment_head::{HeadFault, SegmentHead, carried_in};
+use std::alloc::{AllocError, Global};
 
 /// Reads the items of bare texts, by tables of their words that are made once.
 #[derive(Drop)]
@@ -22,17 +23,17 @@ pub struct BareReader {
 }
 
 impl BareReader {
-    ghost use Rattle.std.specs.Prelude.{IsTrue};
+    ghost use Rattle.std.specs.Prelude.{IsTrue, IfOk};
     ghost use Rattle.plane_defs.specs.Codes.{is_book_sound};
 
-    /// A reader of the items of bare texts that were written with this book. The book is sound.
-    pub fn new(book: &Book) -> BareReader
+    /// Returns a reader of the items of bare texts that were written with this book, with tables in memory that it takes. The book is
+    /// sound. The only error is a lack of memory.
+    pub fn new(alloc: Global, book: &Book) -> Result<BareReader, AllocError>
         requires sound { IsTrue (is_book_sound book.now) }
-        ensures book { result.reader.tables.book ≡ book.now }
+        ensures book { IfOk result (λ reader. reader.reader.tables.words.book ≡ book.now) }
     {
-        BareReader {
-            reader: SegmentReader::new(book),
-        }
+        let reader = SegmentReader::new(alloc, book)?;
+        Ok(BareReader { reader })
     }
 }
 
@@ -64,7 +65,7 @@ impl BareHead {
         requires size { self.now.size ≤ 20 }
         requires count { length blocks.old ≡ 64 * length marks.old }
         requires marks { length marks.old ≡ self.now.head.blocks }
-        ensures decodes { DecodesItems I.source reader.now.reader.tables.book self.now.head self.now.size result input.old input.new blocks.new }
+        ensures decodes { DecodesItems I.source reader.now.reader.tables.words.book self.now.head self.now.size result input.old input.new blocks.new }
         ensures sizes { (length blocks.new ≡ length blocks.old) × (length marks.new ≡ length marks.old) }
     {
         reader

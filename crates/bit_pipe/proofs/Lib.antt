@@ -15,3 +15,4 @@ mod FrontBits
 mod FrontTaking
 pub mod WindowBits
 pub mod Endings
+pub mod ScriptReading

@@ -13,3 +13,4 @@ pub mod Streams
 pub mod Answers
 pub mod Fronts
 pub mod Windows
+pub mod ScriptSources

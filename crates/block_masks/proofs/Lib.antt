@@ -1,8 +1,6 @@
 pub mod Fours
 pub mod LaneMasks
 pub mod SizeLanes
-pub mod JoiningLanes
-pub mod JoiningSizes
 pub mod Maskings
 pub mod Picking
 pub mod Viewing

@@ -3,10 +3,8 @@ pub mod Picks
 pub mod SetMasks
 pub mod Gaggles
 pub mod Stored
-pub mod BitsSet
 pub mod Places
 pub mod MaskedNumbers
 pub mod Slices
 pub mod SegmentNumbers
 pub mod ByteLists
-pub mod Halves

@@ -5,7 +5,7 @@ use Rattle.std.proofs.lemmas.List.{take-append-le}
 use Rattle.std.proofs.Math.Seq.{take-append-add}
 use Rattle.bit_pipe.specs.declared.fault.InFault.TheVariants as in_faults
 use Rattle.port_122.specs.Outside.{Outside}
-use Rattle.port_122.proofs.Stretches.{rose_since}
+use Rattle.port_122.proofs.Stretches.{rose_since, since_out}
 use Rattle.base_122.specs.declared.wish.DecodeWish.{DecodeWish}
 use Rattle.packet_defs.specs.declared.packet.Framing.{Framing}
 use Rattle.packet_defs.specs.Packets.{joined}
@@ -35,6 +35,7 @@ all_picked {wish = wish} {image = image} {new = new} {found = found} before x =
       took = come.took;
       gave = joined (picked_of wish.apid image come.passed);
       since = come.since;
+      readable = come.readable;
       within = read_within read;
       answer = record {
         octets = ap (λ ps. joined (picked_of wish.apid image ps)) (sym whole);
@@ -53,6 +54,7 @@ long_picked {wish = wish} {image = image} before x =
       took = come.took;
       gave = joined (picked_of wish.apid image come.passed);
       since = come.since;
+      readable = come.readable;
       within = read_within come.read;
       answer = (long_full come.read x.over, long_good come.read x.over, ap (λ ps. joined (picked_of wish.apid image ps)) (sym (long_packets come.read x.over)));
     }
@@ -86,6 +88,7 @@ write_failed {wish = wish} {image = image} before x =
       took = come.took;
       gave = gave ++ take x.some packet;
       since = gave_on come x.gives;
+      readable = since_out come.readable x.gives;
       within = read_within come.read;
       answer = (rose_since come.since.faults.writes x.rose, (some, sym front));
     }

@@ -14,8 +14,9 @@ use Rattle.packet_defs.proofs.Joins.{joined-append}
 use Rattle.space_packets.specs.Intake.{Intake, unread}
 use Rattle.space_packets.specs.PacketReads.{AsksUndecided, TakenSoFar}
 use Rattle.packet_assembly.proofs.Readings.{end_later}
+use Rattle.packet_assembly.specs.Readings.{AsksReadable}
 use Rattle.packet_assembly.specs.PacketSteps.{reading}
-use Rattle.packet_assembly.proofs.PacketSteps.{unread_so, unended_so, whole_so_far, read_more, end_more, read_past, end_past, octets_left, less_left}
+use Rattle.packet_assembly.proofs.PacketSteps.{unread_so, unended_so, whole_so_far, read_more, readable_fed, end_more, read_past, end_past, octets_left, less_left}
 use Rattle.camera_defs.specs.Picked.{is_picked, picked_of, picked}
 use Rattle.camera_mux.specs.PickProgress.{AsksPicked, HasPicked}
 use Rattle.camera_mux.specs.PickSteps.{GivesNext, PassesOther}
@@ -73,6 +74,7 @@ filled {wish = wish} {image = image} {start = start} {new = new} {v = v} {packet
       took = come.took ++ x.took;
       passed = come.passed;
       since = since_in (since_weaker come.since (λ i j le r. asks_took wish.apid image come.took x.took given i j le r)) x.since (λ i j le r. asks_now i j r);
+      readable = readable_fed come.read x come.readable;
       read = read_more come.read x;
       at_end = end_more come.read x come.at_end;
       packets_are = come.packets_are;
@@ -92,6 +94,7 @@ given_one {wish = wish} {image = image} {start = start} {new = new} {packets = p
       took = come.took;
       passed = all;
       since = subst (λ gave. Exchange start new come.took gave [] (AsksPicked wish.apid image come.took gave)) (sym more) (gave_on come x.gives);
+      readable = subst (λ gave. Exchange start new come.took gave [] (AsksReadable wish.octets come.took)) (sym more) (since_out come.readable x.gives);
       read = read_past wish.apid wish.apid x.full come.passed x.holds.whole wish.octets come.took come.read;
       at_end = end_past wish.apid wish.apid x.full come.passed x.holds.whole new (end_later (reading wish.apid x.full come.passed None) x.gives come.at_end);
       packets_are = ap (λ n. n + 1) come.packets_are ∙ sym (count_more wish.apid image come.passed packet x.holds.test);
@@ -109,6 +112,7 @@ passed_one {wish = wish} {image = image} {start = start} {new = new} {packets = 
       took = come.took;
       passed = all;
       since = subst (λ ps. Exchange start new come.took (joined ps) [] (AsksPicked wish.apid image come.took (joined ps))) (sym same) come.since;
+      readable = subst (λ ps. Exchange start new come.took (joined ps) [] (AsksReadable wish.octets come.took)) (sym same) come.readable;
       read = read_past wish.apid wish.apid x.full come.passed x.holds.whole wish.octets come.took come.read;
       at_end = end_past wish.apid wish.apid x.full come.passed x.holds.whole new come.at_end;
       packets_are = come.packets_are ∙ ap length (sym same);
@@ -121,6 +125,7 @@ none_picked wish image start v is = subst (λ v. HasPicked wish image start star
   took = [];
   passed = [];
   since = since_start start _;
+  readable = since_start start _;
   read = unread_so wish.apid wish.octets;
   at_end = unended_so wish.apid wish.octets start;
   packets_are = refl;

@@ -4,7 +4,7 @@ use Rattle.port_122.specs.Outside.{Outside, Exchange}
 use Rattle.base_122.specs.declared.wish.DecodeWish.{DecodeWish}
 use Rattle.packet_defs.specs.Packets.{joined}
 use Rattle.space_packets.specs.Intake.{Intake}
-use Rattle.packet_assembly.specs.Readings.{HasRead, SawEnd}
+use Rattle.packet_assembly.specs.Readings.{HasRead, SawEnd, AsksReadable}
 use Rattle.packet_assembly.specs.PacketSteps.{reading}
 use Rattle.camera_defs.specs.Picked.{picked_of, picked}
 
@@ -17,6 +17,7 @@ pub record HasPicked (wish : DecodeWish) (image : Option ℕ) (start now : Outsi
   pub took : List ℕ
   pub passed : List (List ℕ)
   pub since : Exchange start now took (joined (picked_of wish.apid image passed)) [] (AsksPicked wish.apid image took (joined (picked_of wish.apid image passed)))
+  pub readable : Exchange start now took (joined (picked_of wish.apid image passed)) [] (AsksReadable wish.octets took)
   pub read : HasRead wish.apid wish.octets (reading wish.apid v passed None) took passed
   pub at_end : SawEnd now (reading wish.apid v passed None)
   pub packets_are : packets ≡ length (picked_of wish.apid image passed)

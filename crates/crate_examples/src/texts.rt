@@ -2,7 +2,7 @@
 ghost use Rattle.crate_examples.specs.Texts.{IsReadAs};
 
 use bit_pipe::{Part, SliceIn};
-use segment_code::{SegmentFault, decode_segment};
+use segment_code::{SegmentFault, decode_segment, texts_end_so};
 use segment_head::{HeadFault, SegmentHead, read_head};
 use std::alloc::Global;
 use word_codes::profile_book;
@@ -31,6 +31,7 @@ pub enum NotRead {
 pub fn read_text(alloc: Global, text: &[u8]) -> Result<ReadBlocks, NotRead>
     ensures { IsReadAs text.now result }
 {
+    texts_end_so();
     let head = match read_head(text) {
         Ok(head) => head,
         Err(fault) => return Err(NotRead::BadHead(fault)),

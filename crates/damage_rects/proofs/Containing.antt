@@ -6,7 +6,7 @@ use Rattle.base_122.specs.Setting.{image_geometry}
 use Rattle.base_122.specs.declared.geometry.Geometry.{Geometry}
 use Rattle.base_122.specs.declared.setting.Setting.{Setting}
 use Rattle.base_122.specs.declared.wish.DecodeWish.{DecodeWish}
-use Rattle.segment_code.specs.Laws.{TextsAreShort}
+use Rattle.segment_code.specs.ShortTexts.{TextsAreShort}
 use Rattle.stream_defs.specs.Begun.{begun_in, height}
 use Rattle.stream_defs.specs.Fates.{geometry_in}
 use Rattle.stream_defs.specs.Picture.{picture, picture_octets, picture_with, whole_picture}

@@ -5,7 +5,7 @@ use Rattle.base_122.specs.Setting.{image_geometry}
 use Rattle.base_122.specs.Sizes.{block_count}
 use Rattle.base_122.specs.declared.geometry.Geometry.{Geometry}
 use Rattle.base_122.specs.declared.setting.Setting.{Setting}
-use Rattle.segment_code.specs.Laws.{TextsAreShort}
+use Rattle.segment_code.specs.ShortTexts.{TextsAreShort}
 use Rattle.stream_defs.specs.Begun.{height}
 use Rattle.stream_defs.specs.Output.{output}
 use Rattle.stream_defs.specs.Picture.{number_at, picture, picture_with, whole_picture}

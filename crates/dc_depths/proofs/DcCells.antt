@@ -4,17 +4,13 @@ use Rattle.std.specs.Int.{div_ceil}
 use Rattle.std.proofs.lemmas.Bool.{cases_eq}
 use Rattle.std.proofs.lemmas.Bool.Decides.{nat_tests}
 use Rattle.number_defs.specs.Cells.{cell_at}
-use Rattle.dc_depths.specs.TakenDc.{SetsDcs}
-use Rattle.dc_depths.specs.DcReading.{zero_dc}
+use Rattle.dc_depths.specs.Dcs.{SetsDcs}
 
 pub dcs_same : (cells : List ℤ) → SetsDcs (cell_at 64 cells) cells cells
 dcs_same cells = record { size = refl; dcs = λ r lt. refl; others = λ i none. refl }
 
 pub dcs_as : {old new : List ℤ} (dc next : ℕ → ℤ) → ((r : ℕ) → r * 64 < length old → dc r ≡ next r) → SetsDcs dc old new → SetsDcs next old new
 dcs_as dc next same s = record { size = s.size; dcs = λ r lt. s.dcs r lt ∙ same r lt; others = s.others }
-
-pub dcs_then : {a b c : List ℤ} (f g next : ℕ → ℤ) → ((r : ℕ) → r * 64 < length a → g r ≡ next r) → SetsDcs f a b → SetsDcs g b c → SetsDcs next a c
-dcs_then f g next same p q = grind (arith, nat_tests)
 
 -- the DC of block i is set
 pub dcs_set : {old new : List ℤ} (dc next : ℕ → ℤ) (i : ℕ) (z : ℤ) → i * 64 < length old → next i ≡ z → ((r : ℕ) → (r ≡ i → ⊥) → next r ≡ dc r) → SetsDcs dc old new → SetsDcs next old (set new (i * 64) z)
@@ -44,5 +40,5 @@ clear_more {old} i lt s = dcs_set (cleared i old) (cleared (i + 1) old) i (pos 0
     there : (r : ℕ) → (r ≡ i → ⊥) → cleared (i + 1) old r ≡ cleared i old r
     there r ne = grind (arith, nat_tests)
 
-pub clear_all : {old new : List ℤ} (i : ℕ) → div_ceil (length old) 64 ≤ i → SetsDcs (cleared i old) old new → SetsDcs zero_dc old new
-clear_all {old} i le s = dcs_as (cleared i old) zero_dc (λ r lt. let less : r < i = omega (arith, lt, le) in let t : nat_lt r i ≡ true = grind (arith, nat_tests) in rw t refl) s
+pub clear_all : {old new : List ℤ} (i : ℕ) → div_ceil (length old) 64 ≤ i → SetsDcs (cleared i old) old new → SetsDcs (λ r. pos 0) old new
+clear_all {old} i le s = dcs_as (cleared i old) (λ r. pos 0) (λ r lt. let less : r < i = omega (arith, lt, le) in let t : nat_lt r i ≡ true = grind (arith, nat_tests) in rw t refl) s

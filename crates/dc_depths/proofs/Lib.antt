@@ -2,10 +2,6 @@ mod OneBit
 mod Planes
 mod DepthCells
 mod Parts
-mod TakenDepths
-mod DcNumbers
-mod DcCells
-mod TakenBits
-pub mod TakenPlanes
-mod TakenHigh
-pub mod TakenDcs
+pub mod DcCells
+pub mod DcReads
+pub mod DepthReads

@@ -8,7 +8,7 @@ use Rattle.std.proofs.lemmas.Nat.{and_mask, shr_le}
 use Rattle.std.proofs.lemmas.Bool.Decides.{nat_tests}
 use Rattle.item_defs.specs.Bits.{bit, bits_of}
 use Rattle.item_defs.proofs.NumberBits.{bits_cons, bits_none}
-use Rattle.number_defs.specs.Ranges.{complement}
+use Rattle.item_defs.specs.TwosComplement.{complement}
 
 one_bit : (n : ℕ) → bits_of 1 n ≡ bit n 0 ∷ []
 one_bit n = bits_cons 0 n ∙ ap (λ r. bit n 0 ∷ r) (bits_none n)

@@ -9,11 +9,8 @@ use Rattle.bit_pipe.specs.declared.fault.PutFault.{PutFault}
 use Rattle.bit_pipe.proofs.Putting.{puts_then, puts_cut}
 use Rattle.number_defs.specs.Ranges.{shifted_height}
 use Rattle.number_defs.specs.Gaggles.{number_items}
-use Rattle.number_defs.specs.DcPart.{dc_kind, dc_bit, high_items, planes_before, dc_q, dc_bits, dc_planes, dc_items}
+use Rattle.number_defs.specs.DcPart.{dc_kind, high_items, planes_before, dc_q, dc_bits, dc_planes, dc_items}
 use Rattle.number_defs.proofs.Equations.{dc_items-is}
-
-pub high_raw : (N q : ℕ) (dcs : List ℤ) (options : ℕ → ℕ) → N ≡ 1 → high_items N q dcs options ≡ map (dc_bit q) dcs
-high_raw N q dcs options e = let t : eqb N 1 ≡ true = grind (arith, nat_tests) in rw t refl
 
 pub high_coded : (N q : ℕ) (dcs : List ℤ) (options : ℕ → ℕ) → N ≢ 1 → high_items N q dcs options ≡ number_items (dc_kind N) (map (shifted_height true N q) dcs) options
 high_coded N q dcs options ne = let t : eqb N 1 ≡ false = grind (arith, nat_tests) in rw t refl

@@ -1,4 +1,3 @@
 pub mod Marks
-pub mod Taken
-pub mod TakenDc
-pub mod DcReading
+pub mod Dcs
+pub mod Depths

@@ -1,10 +1,9 @@
 // The reader of the DC part.
-ghost use Rattle.std.specs.Prelude.{◌≡◌, ◌≤◌, ◌<◌, ◌^◌, ◌*ℤ◌, ℕ, pos, neg_ℤ, length};
+ghost use Rattle.std.specs.Prelude.{◌≡◌, ◌≤◌, ◌<◌, ◌^◌, ◌*ℤ◌, ℕ, ℤ, pos, length, List, unsigned_abs};
 ghost use Rattle.std.specs.Int.{div_ceil};
 ghost use Rattle.bit_pipe.specs.Coming.{coming, IsIn};
-ghost use Rattle.number_defs.specs.DcPart.{dc_q, dc_bits, dc_planes};
-ghost use Rattle.dc_depths.specs.DcReading.{zero_dc, HasRoom, TakesBits, TakesHigh, TakesPlanes};
-ghost use Rattle.dc_depths.specs.TakenDc.{SetsDcs, TakesDc};
+ghost use Rattle.number_defs.specs.DcScript.{dc_bits_script, high_script, dc_planes_script, dc_script};
+ghost use Rattle.dc_depths.specs.Dcs.{block_count, SetsDcs, TakesDcs, q_in, bits_in, planes_in, HasRoom, GrowsBy};
 
 use crate::plan::DcPlan;
 use bit_pipe::{BitIn, OctetIn, Part, TextFault};
@@ -15,7 +14,7 @@ const BLOCK: usize = 64;
 
 // Sets each DC to 0.
 fn clear(blocks: &mut [i32])
-    ensures { SetsDcs zero_dc blocks.old blocks.new }
+    ensures { SetsDcs (λ r. pos 0) blocks.old blocks.new }
 {
     for block in 0..blocks.len().div_ceil(BLOCK) {
         blocks[block * BLOCK] = 0;
@@ -45,8 +44,10 @@ fn take_bits<I: OctetIn>(
     weight: i32,
 ) -> Result<Part, TextFault>
     requires open { IsIn (coming input.old) }
-    requires room { HasRoom weight blocks.old }
-    ensures { TakesBits I.source weight result (coming input.old) (coming input.new) blocks.old blocks.new }
+    requires room { HasRoom (unsigned_abs weight) blocks.old }
+    ensures takes { (dcs : ℕ → ℤ) (first : List ℤ) → SetsDcs dcs first blocks.old →
+        TakesDcs I.source (dc_bits_script weight (block_count first) dcs) result (coming input.old) (coming input.new) first blocks.new }
+    ensures grows { GrowsBy (unsigned_abs weight) blocks.old blocks.new }
 {
     for block in 0..blocks.len().div_ceil(BLOCK) {
         let Some(bit) = input.take_bits(1)? else {
@@ -67,8 +68,9 @@ fn take_high<I: OctetIn>(
     requires dc { plan.now.depth_dc ≤ 28 }
     requires shift { plan.now.shift ≤ 3 }
     requires few { div_ceil (length blocks.old) 64 < 2 ^ 20 }
-    ensures { TakesHigh I.source (dc_bits plan.now.depth_dc plan.now.depth_ac plan.now.shift) (dc_q plan.now.depth_dc plan.now.depth_ac plan.now.shift)
+    ensures takes { TakesDcs I.source (high_script (bits_in plan.now) (q_in plan.now) (block_count blocks.old))
         result (coming input.old) (coming input.new) blocks.old blocks.new }
+    ensures room { HasRoom 1073741824 blocks.new }
 {
     let bits = plan.bits();
     if bits == 1 {
@@ -89,9 +91,10 @@ fn take_dc_planes<I: OctetIn>(
     requires open { IsIn (coming input.old) }
     requires dc { plan.now.depth_dc ≤ 28 }
     requires shift { plan.now.shift ≤ 3 }
-    requires room { HasRoom (pos 1073741824) blocks.old }
-    ensures { TakesPlanes I.source (dc_q plan.now.depth_dc plan.now.depth_ac plan.now.shift) (dc_planes plan.now.depth_dc plan.now.depth_ac plan.now.shift)
-        result (coming input.old) (coming input.new) blocks.old blocks.new }
+    requires room { HasRoom 1073741824 blocks.old }
+    ensures { (dcs : ℕ → ℤ) (first : List ℤ) → SetsDcs dcs first blocks.old →
+        TakesDcs I.source (dc_planes_script (q_in plan.now) (block_count first) (planes_in plan.now) dcs)
+        result (coming input.old) (coming input.new) first blocks.new }
 {
     let last = plan.depth_ac.max(plan.shift);
     let mut plane = plan.q();
@@ -124,7 +127,8 @@ pub fn take_dc<I: OctetIn>(
     requires dc { plan.now.depth_dc ≤ 28 }
     requires shift { plan.now.shift ≤ 3 }
     requires few { div_ceil (length blocks.old) 64 < 2 ^ 20 }
-    ensures { TakesDc I.source plan.now.depth_dc plan.now.depth_ac plan.now.shift result (coming input.old) (coming input.new) blocks.old blocks.new }
+    ensures { TakesDcs I.source (dc_script plan.now.depth_dc plan.now.depth_ac plan.now.shift (block_count blocks.old))
+        result (coming input.old) (coming input.new) blocks.old blocks.new }
 {
     let Part::Whole = take_high(input, blocks, plan)? else {
         return Ok(Part::Ended);

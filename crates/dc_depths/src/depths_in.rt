@@ -1,11 +1,28 @@
 // The reader of the block depths.
 ghost use Rattle.std.specs.Prelude.{◌≡◌, ◌≤◌, ◌<◌, ◌^◌, ℕ, pos, length, slice_index_or};
 ghost use Rattle.bit_pipe.specs.Coming.{coming, IsIn};
-ghost use Rattle.dc_depths.specs.Taken.{TakesDepths};
+ghost use Rattle.number_defs.specs.Depths.{depth_bits};
+ghost use Rattle.dc_depths.specs.Depths.{TakesDepths};
 
-use crate::depths::depth_bits_of;
 use bit_pipe::{BitIn, OctetIn, Part, TextFault};
 use gaggle_codes::{NumberRange, take_bounded};
+
+// Returns the number of bits of each depth, if the greatest is at least 2.
+fn depth_bits_of(depth_ac: u8) -> u8
+    requires low { 2 ≤ depth_ac }
+    requires high { depth_ac ≤ 27 }
+    ensures is { result ≡ depth_bits depth_ac }
+    ensures low { 2 ≤ result }
+    ensures high { result ≤ 5 }
+    ensures holds { depth_ac < 2 ^ result }
+{
+    match depth_ac {
+        0..=3 => 2,
+        4..=7 => 3,
+        8..=15 => 4,
+        _ => 5,
+    }
+}
 
 // Sets each number of `marks` to 0.
 fn clear(marks: &mut [i32])

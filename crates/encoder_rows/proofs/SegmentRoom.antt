@@ -9,7 +9,7 @@ use Rattle.base_122.specs.Setting.{IsHeight, sized}
 use Rattle.base_122.specs.declared.setting.Setting.{Setting}
 use Rattle.base_122.proofs.GeometryRanges.{in_range-sized}
 use Rattle.packet_defs.specs.Packets.{joined}
-use Rattle.segment_code.proofs.CodedOptions.{words_are}
+use Rattle.segment_code.proofs.CodedChoices.{words_are}
 use Rattle.segment_walk.specs.Images.{ArePixels}
 use Rattle.segment_walk.proofs.SpelledImages.{head_fits, spells}
 use Rattle.stream_defs.specs.Output.{head_for, image_blocks, output, packets_of, segment_of, segment_text, segments_of, tells_last, used_before}

@@ -24,8 +24,8 @@ use Rattle.segment_defs.specs.Coded.{chosen_options, coded, coded_bits}
 use Rattle.segment_defs.proofs.Equations.{coded-is, segment_items-is, text_octets-is}
 use Rattle.segment_head.proofs.WrittenHeads.{length-head_bits}
 use Rattle.text_defs.specs.Spellable.{AreWordOptions}
-use Rattle.text_defs.proofs.GivenParts.{shift_low}
-use Rattle.text_defs.proofs.SegmentAlike.{sent_most}
+use Rattle.base_122.proofs.ShiftLaws.{shift_low}
+use Rattle.segment_defs.proofs.SentStages.{sent_most}
 use Rattle.encoder_rows.proofs.NumberRoom.{dcs_few, depths_few}
 use Rattle.encoder_rows.proofs.BlockRoom.{plane_few, text_each, length_span}
 

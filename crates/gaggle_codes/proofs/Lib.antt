@@ -9,18 +9,9 @@ pub mod ValueParts
 pub mod TextBits
 pub mod GaggleParts
 mod Few
-mod WholeValues
-pub mod RangeItems
-mod Zeros
-mod WholeItems
-mod Wholes
-mod WholeLoop
-mod Leads
-mod Differences
-mod Setting
-mod ScaledNumbers
-mod GaggleRead
-mod Counting
-mod LowNumbers
-mod NumbersRead
-pub mod AllGiven
+pub mod Setting
+pub mod ScaledNumbers
+pub mod NumbersRead
+pub mod FormReads
+pub mod ValueReads
+pub mod GaggleReads

@@ -9,7 +9,7 @@ use Rattle.std.specs.Int.{div_ceil}
 use Rattle.number_defs.specs.Ranges.{number_at}
 use Rattle.number_defs.specs.Cells.{cell_at}
 use Rattle.gaggle_codes.specs.declared.range.NumberRange.{NumberRange}
-use Rattle.gaggle_codes.specs.Given.{given_number, SetsCells}
+use Rattle.gaggle_codes.specs.Cells.{given_number, SetsCells}
 
 -- places that differ are in cells that differ
 apart : (m n stride : ℕ) → 1 ≤ stride → m * stride ≡ n * stride → m ≡ n

@@ -2,7 +2,8 @@
 use Rattle.std.specs.Prelude.{ℕ, zero, suc, ◌/◌, ◌%◌, ◌^◌, ◌==◌, List, [], ◌∷◌, ◌++◌, slice_index, Bool, true, false, if◌then◌else◌}
 use Rattle.std.specs.List.{flat_map}
 use Rattle.item_defs.specs.Bits.{bits_of, copies}
-use Rattle.number_defs.specs.Ranges.{number_at, complement}
+use Rattle.number_defs.specs.Ranges.{number_at}
+use Rattle.item_defs.specs.TwosComplement.{complement}
 use Rattle.number_defs.specs.Gaggles.{identifier_bits, gaggle_values}
 use Rattle.number_defs.specs.Choice.{choices}
 use Rattle.base_122.specs.declared.setting.Select.{Select}

@@ -2,4 +2,5 @@ pub mod Options
 pub mod Written
 pub mod GaggleBits
 pub mod Given
-pub mod Taken
+pub mod Items
+pub mod Cells

@@ -1,13 +1,14 @@
 // Reads mapped values and the numbers of a gaggle from bits.
-ghost use Rattle.std.specs.Prelude.{◌≡◌, ◌<◌, ◌≤◌, ◌+◌, ◌-◌, ◌^◌, ◌++◌, ◌∷◌, [], ℕ, Bool, true, length, slice_index, MatchResult};
-ghost use Rattle.item_defs.specs.Items.{zeros_to};
+ghost use Rattle.std.specs.Prelude.{◌≡◌, ◌<◌, ◌≤◌, ◌+◌, ◌-◌, ◌*◌, ◌^◌, ◌++◌, ◌∷◌, ◌==◌, ◌||◌, [], ℕ, List, Bool, true, length, slice_index, MatchResult, IfOk, IfSome};
 ghost use Rattle.bit_pipe.specs.Coming.{coming, IsIn};
 ghost use Rattle.bit_pipe.specs.declared.fault.TextFault.TheVariants.{BadDepth};
 ghost use Rattle.number_defs.specs.Mapping.{unmapped};
 ghost use Rattle.number_defs.specs.Gaggles.{uncoded, is_option};
-ghost use Rattle.gaggle_codes.specs.Written.{kind_of};
-ghost use Rattle.gaggle_codes.specs.Given.{heights_in};
-ghost use Rattle.gaggle_codes.specs.Taken.{IsBound, StayLow, TakesValue, itself, whole_shape, whole_value, TakesZeros, TakesWhole};
+ghost use Rattle.item_defs.specs.Scripts.{in_turn};
+ghost use Rattle.bit_pipe.specs.ScriptSources.{ReadsAs, by_item, by_part};
+ghost use Rattle.number_defs.specs.NumberScript.{zeros_form, zeros_script, value_form, number_script, last_of};
+ghost use Rattle.gaggle_codes.specs.Given.{heights_in, by_given, Adds, AreWithin, IsBound, kind_of};
+ghost use Rattle.gaggle_codes.specs.Items.{EndsForm, free_kind};
 
 use crate::gaggle_heights::GaggleHeights;
 use crate::range::NumberRange;
@@ -26,7 +27,8 @@ pub(crate) fn uncoded_of(bits: u8) -> u8
 fn take_unary<I: OctetIn>(input: &mut BitIn<I>, bits: u8, k: u8) -> Result<Option<u16>, TextFault>
     requires open { IsIn (coming input.old) }
     requires bits { bits ≤ 10 }
-    ensures { TakesValue I.source (zeros_to (2 ^ (bits - k))) itself (2 ^ (bits - k)) result (coming input.old) (coming input.new) }
+    ensures few { IfOk result (λ zeros. IfSome zeros (λ n. n < 2 ^ (bits - k))) }
+    ensures read { EndsForm I.source (zeros_form bits k) (λ n. n) (by_item result tt) (coming input.old) (coming input.new) }
 {
     let limit = 1 << bits.saturating_sub(k);
     let Some(zeros) = input.take_zeros(limit)? else {
@@ -49,7 +51,10 @@ fn take_value<I: OctetIn>(
     requires bits { bits ≤ 10 }
     requires option { is_option bits option ≡ true }
     requires zeros { zeros < 2 ^ (bits - option) }
-    ensures { TakesValue I.source (whole_shape bits option) (whole_value bits option zeros) (2 ^ bits) result (coming input.old) (coming input.new) }
+    requires plain { ((option == 0) || (option == uncoded bits)) ≡ true → zeros ≡ 0 }
+    ensures few { IfOk result (λ value. IfSome value (λ n. n < 2 ^ bits)) }
+    ensures read { EndsForm I.source (value_form (free_kind bits) option 0 zeros) (λ n. zeros * 2 ^ option + n)
+        (by_item result tt) (coming input.old) (coming input.new) }
 {
     if option == uncoded_of(bits) {
         let Some(value) = input.take_bits(bits)? else {
@@ -79,8 +84,10 @@ fn follow(
     requires before { before < 2 ^ bits }
     requires value { value < 2 ^ bits }
     ensures is { MatchResult result (λ height. height ≡ unmapped bits before value) (λ fault. fault ≡ BadDepth) }
+    ensures few { unmapped bits before value < 2 ^ bits }
     ensures bound { MatchResult result (λ height. height ≤ most) (λ fault. most < unmapped bits before value) }
-    ensures numbers { MatchResult result (λ height. heights_in numbers.new ≡ heights_in numbers.old ++ height ∷ []) (λ fault. heights_in numbers.new ≡ heights_in numbers.old) }
+    ensures numbers { MatchResult result (λ height. heights_in numbers.new ≡ heights_in numbers.old ++ height ∷ [])
+        (λ fault. heights_in numbers.new ≡ heights_in numbers.old) }
 {
     let height = unmapped_of(bits, before, value);
     if height > most {
@@ -100,7 +107,9 @@ pub(crate) fn take_unary_parts<I: OctetIn>(
     requires open { IsIn (coming input.old) }
     requires bits { bits ≤ 10 }
     requires none { (j : ℕ) → slice_index zeros.old j ≡ 0 }
-    ensures { TakesZeros I.source bits k zeros.new result (coming input.old) (coming input.new) }
+    ensures few { (j : ℕ) → slice_index zeros.new j < 2 ^ (bits - k) }
+    ensures read { (given : List ℕ) → ReadsAs I.source (zeros_script given bits k (length zeros.old) [])
+        (by_part result zeros.new given) (coming input.old) (coming input.new) }
 {
     for place in 0..zeros.len() {
         let Some(count) = take_unary(input, bits, k)? else {
@@ -126,10 +135,14 @@ pub(crate) fn take_whole<I: OctetIn>(
     requires option { is_option range.bits option ≡ true }
     requires before { before < 2 ^ range.bits }
     requires zeros { (j : ℕ) → slice_index zeros.now j < 2 ^ (range.bits - option) }
+    requires plain { ((option == 0) || (option == uncoded range.bits)) ≡ true → (j : ℕ) → slice_index zeros.now j ≡ 0 }
     requires room { length (heights_in numbers.old) + length zeros.now ≤ 16 }
-    ensures takes { (too_great : ℕ → Bool) → IsBound most range.bits too_great →
-        TakesWhole I.source (kind_of range too_great) option before zeros.now result (coming input.old) (coming input.new) (heights_in numbers.old) (heights_in numbers.new) }
-    ensures low { StayLow most (heights_in numbers.old) (heights_in numbers.new) }
+    ensures read { (too_great : ℕ → Bool) (prior : List ℕ) → IsBound most range.bits too_great →
+        last_of (prior ++ heights_in numbers.old) ≡ before →
+        ReadsAs I.source (in_turn (λ j. number_script (kind_of range too_great) option (slice_index zeros.now j)) 0 (length zeros.now)
+        (prior ++ heights_in numbers.old)) (by_given result (prior ++ heights_in numbers.new)) (coming input.old) (coming input.new) }
+    ensures adds { Adds result (length zeros.now) (heights_in numbers.old) (heights_in numbers.new) }
+    ensures within { AreWithin range.bits most (heights_in numbers.old) → AreWithin range.bits most (heights_in numbers.new) }
 {
     let mut before = before;
     for zeros in zeros {

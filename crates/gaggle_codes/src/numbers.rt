@@ -22,7 +22,8 @@ pub(crate) struct Numbers<'a> {
 impl Numbers<'_> {
     ghost use Rattle.std.specs.Prelude.{◌+◌, length, map, slice_index};
     ghost use Rattle.std.specs.List.{range_with_len};
-    ghost use Rattle.number_defs.specs.Ranges.{number_at, complement};
+    ghost use Rattle.item_defs.specs.TwosComplement.{complement};
+    ghost use Rattle.number_defs.specs.Ranges.{number_at};
     ghost use Rattle.number_defs.specs.Gaggles.{value_at};
     ghost use Rattle.gaggle_codes.specs.Written.{heights_of};
 

@@ -1,7 +1,7 @@
 // Numbers that are put into every `stride`-th cell.
 ghost use Rattle.std.specs.Prelude.{◌≡◌, ◌<◌, ◌≤◌, ◌+◌, ◌-◌, ◌*◌, ◌^◌, ◌*ℤ◌, ℕ, ℤ, List, pos, [], ◌++◌, length, slice_index, unsigned_abs};
 ghost use Rattle.number_defs.specs.Ranges.{number_at};
-ghost use Rattle.gaggle_codes.specs.Given.{SetsCells};
+ghost use Rattle.gaggle_codes.specs.Cells.{SetsCells};
 
 use crate::range::NumberRange;
 

@@ -2,8 +2,8 @@
 ghost use Rattle.std.specs.Prelude.{◌≡◌, ◌<◌, ◌≤◌, ◌+◌, ◌-◌, ◌*◌, ◌^◌, ℕ, Bool, length, slice_index};
 ghost use Rattle.std.specs.Int.{div_ceil};
 ghost use Rattle.bit_pipe.specs.Coming.{coming, IsIn};
-ghost use Rattle.gaggle_codes.specs.Written.{any_of, kind_of};
-ghost use Rattle.gaggle_codes.specs.Taken.{IsBound, TakesNumbers};
+ghost use Rattle.gaggle_codes.specs.Given.{IsBound, kind_of, any_of};
+ghost use Rattle.gaggle_codes.specs.Cells.{TakesNumbers};
 
 use crate::gaggle_heights::{GAGGLE, GaggleHeights};
 use crate::range::NumberRange;
@@ -45,7 +45,7 @@ pub fn take_bounded<I: OctetIn>(
     requires both { range.bits + shift ≤ 28 }
     requires few { div_ceil (length cells.old) stride < 2 ^ 20 }
     ensures { (too_great : ℕ → Bool) → IsBound most range.bits too_great →
-        TakesNumbers I.source (kind_of range too_great) range shift stride result (coming input.old) (coming input.new) cells.old cells.new }
+        TakesNumbers I.source (kind_of range too_great) range most shift stride result (coming input.old) (coming input.new) cells.old cells.new }
 {
     clear(cells, stride, shift, range);
     let count = cells.len().div_ceil(stride);
@@ -89,7 +89,7 @@ pub fn take_values<I: OctetIn>(
     requires high { range.bits ≤ 10 }
     requires both { range.bits + shift ≤ 28 }
     requires few { div_ceil (length cells.old) stride < 2 ^ 20 }
-    ensures { TakesNumbers I.source (any_of range) range shift stride result (coming input.old) (coming input.new) cells.old cells.new }
+    ensures { TakesNumbers I.source (any_of range) range (2 ^ range.bits - 1) shift stride result (coming input.old) (coming input.new) cells.old cells.new }
 {
     let greatest = (1 << range.bits) - 1;
     take_bounded(input, cells, stride, shift, range, greatest)

@@ -1,11 +1,10 @@
 // The reader of the numbers of one gaggle.
-ghost use Rattle.std.specs.Prelude.{◌≡◌, ◌<◌, ◌≤◌, ◌+◌, ◌^◌, ◌-◌, ◌*◌, ℕ, Bool, true, [], length};
+ghost use Rattle.std.specs.Prelude.{◌≡◌, ◌<◌, ◌≤◌, ◌+◌, ◌*◌, ◌^◌, ◌-◌, ◌++◌, ◌∷◌, min, suc, ℕ, List, Bool, true, [], length, slice_index, IfOk, IfSome};
 ghost use Rattle.bit_pipe.specs.Coming.{coming, IsIn};
-ghost use Rattle.bit_pipe.specs.Answers.{TakesOne};
 ghost use Rattle.number_defs.specs.Gaggles.{is_option};
-ghost use Rattle.gaggle_codes.specs.Written.{kind_of};
-ghost use Rattle.gaggle_codes.specs.Given.{heights_in};
-ghost use Rattle.gaggle_codes.specs.Taken.{IsBound, AreLow, StayLow, IsOption, option_item, TakesReference, TakesDifferences, TakesGaggle};
+ghost use Rattle.bit_pipe.specs.ScriptSources.{ReadsAs, by_item, by_done};
+ghost use Rattle.number_defs.specs.NumberScript.{option_script, lead_script, differences_script, gaggle_script, last_of};
+ghost use Rattle.gaggle_codes.specs.Given.{heights_in, by_given, Adds, IsFirst, AreWithin, IsBound, kind_of};
 
 use crate::gaggle_heights::{GAGGLE, GaggleHeights};
 use crate::mapped_values::{take_unary_parts, take_whole, uncoded_of};
@@ -26,7 +25,8 @@ fn take_identifier<I: OctetIn>(input: &mut BitIn<I>, bits: u8) -> Result<Option<
     requires open { IsIn (coming input.old) }
     requires low { 2 ≤ bits }
     requires high { bits ≤ 10 }
-    ensures { TakesOne I.source (IsOption bits) (option_item bits) result (coming input.old) (coming input.new) }
+    ensures known { IfOk result (λ option. IfSome option (λ n. is_option bits n ≡ true)) }
+    ensures read { (given : List ℕ) → ReadsAs I.source (option_script given bits) (by_item result given) (coming input.old) (coming input.new) }
 {
     let Some(number) = input.take_bits(option_bits(bits))? else {
         return Ok(None);
@@ -48,10 +48,12 @@ fn take_reference<I: OctetIn>(
     requires open { IsIn (coming input.old) }
     requires low { 2 ≤ range.bits }
     requires high { range.bits ≤ 10 }
-    requires room { length (heights_in numbers.old) < 16 }
-    ensures takes { (too_great : ℕ → Bool) → IsBound most range.bits too_great →
-        TakesReference I.source (kind_of range too_great) result (coming input.old) (coming input.new) (heights_in numbers.old) (heights_in numbers.new) }
-    ensures low { StayLow most (heights_in numbers.old) (heights_in numbers.new) }
+    requires none { heights_in numbers.old ≡ [] }
+    ensures few { IfOk result (λ height. IfSome height (λ h. h < 2 ^ range.bits)) }
+    ensures adds { IsFirst result (heights_in numbers.new) }
+    ensures within { AreWithin range.bits most (heights_in numbers.new) }
+    ensures read { (too_great : ℕ → Bool) → IsBound most range.bits too_great → ReadsAs I.source (lead_script (kind_of range too_great) 0 [])
+        (by_done result (heights_in numbers.new) (heights_in numbers.new)) (coming input.old) (coming input.new) }
 {
     let Some(number) = input.take_bits(range.bits)? else {
         return Ok(None);
@@ -79,9 +81,12 @@ fn take_differences<I: OctetIn>(
     requires option { is_option range.bits option ≡ true }
     requires before { before < 2 ^ range.bits }
     requires room { length (heights_in numbers.old) + count ≤ 16 }
-    ensures takes { (too_great : ℕ → Bool) → IsBound most range.bits too_great →
-        TakesDifferences I.source (kind_of range too_great) option before count result (coming input.old) (coming input.new) (heights_in numbers.old) (heights_in numbers.new) }
-    ensures low { StayLow most (heights_in numbers.old) (heights_in numbers.new) }
+    ensures read { (too_great : ℕ → Bool) (prior : List ℕ) → IsBound most range.bits too_great →
+        last_of (prior ++ heights_in numbers.old) ≡ before →
+        ReadsAs I.source (differences_script (kind_of range too_great) option count (prior ++ heights_in numbers.old))
+        (by_given result (prior ++ heights_in numbers.new)) (coming input.old) (coming input.new) }
+    ensures adds { Adds result count (heights_in numbers.old) (heights_in numbers.new) }
+    ensures within { AreWithin range.bits most (heights_in numbers.old) → AreWithin range.bits most (heights_in numbers.new) }
 {
     let mut room = [0; GAGGLE];
     let zeros = &mut room[..count];
@@ -108,9 +113,10 @@ pub(crate) fn take_first<I: OctetIn>(
     requires some { 1 ≤ size }
     requires room { size ≤ 16 }
     requires none { heights_in numbers.old ≡ [] }
-    ensures takes { (too_great : ℕ → Bool) → IsBound most range.bits too_great →
-        TakesGaggle I.source (kind_of range too_great) 0 0 size result (coming input.old) (coming input.new) (heights_in numbers.new) }
-    ensures low { AreLow most (heights_in numbers.new) }
+    ensures read { (too_great : ℕ → Bool) (all : ℕ) → IsBound most range.bits too_great → min all 16 ≡ size →
+        ReadsAs I.source (gaggle_script (kind_of range too_great) all 0 []) (by_given result (heights_in numbers.new)) (coming input.old) (coming input.new) }
+    ensures adds { Adds result size [] (heights_in numbers.new) }
+    ensures within { AreWithin range.bits most (heights_in numbers.new) }
 {
     let Some(option) = take_identifier(input, range.bits)? else {
         return Ok(Part::Ended);
@@ -136,9 +142,12 @@ pub(crate) fn take_next<I: OctetIn>(
     requires before { before < 2 ^ range.bits }
     requires room { size ≤ 16 }
     requires none { heights_in numbers.old ≡ [] }
-    ensures takes { (too_great : ℕ → Bool) → IsBound most range.bits too_great → (g : ℕ) →
-        TakesGaggle I.source (kind_of range too_great) (g + 1) before size result (coming input.old) (coming input.new) (heights_in numbers.new) }
-    ensures low { AreLow most (heights_in numbers.new) }
+    ensures read { (too_great : ℕ → Bool) (all g : ℕ) (prior : List ℕ) → IsBound most range.bits too_great →
+        min all (16 * suc g + 16) - 16 * suc g ≡ size → last_of prior ≡ before →
+        ReadsAs I.source (gaggle_script (kind_of range too_great) all (suc g) prior)
+        (by_given result (prior ++ heights_in numbers.new)) (coming input.old) (coming input.new) }
+    ensures adds { Adds result size [] (heights_in numbers.new) }
+    ensures within { AreWithin range.bits most (heights_in numbers.new) }
 {
     let Some(option) = take_identifier(input, range.bits)? else {
         return Ok(Part::Ended);
@@ -160,13 +169,16 @@ pub(crate) fn take_gaggle<I: OctetIn>(
     requires low { 2 ≤ range.bits }
     requires high { range.bits ≤ 10 }
     requires before { before < 2 ^ range.bits }
-    requires first { gaggle ≡ 0 → before ≡ 0 }
     requires some { 1 ≤ size }
     requires room { size ≤ 16 }
     requires none { heights_in numbers.old ≡ [] }
-    ensures takes { (too_great : ℕ → Bool) → IsBound most range.bits too_great →
-        TakesGaggle I.source (kind_of range too_great) gaggle before size result (coming input.old) (coming input.new) (heights_in numbers.new) }
-    ensures low { AreLow most (heights_in numbers.new) }
+    ensures read { (too_great : ℕ → Bool) (all : ℕ) (prior : List ℕ) → IsBound most range.bits too_great →
+        min all (16 * gaggle + 16) - 16 * gaggle ≡ size → length prior ≡ 16 * gaggle → (0 < gaggle → last_of prior ≡ before) →
+        ReadsAs I.source (gaggle_script (kind_of range too_great) all gaggle prior)
+        (by_given result (prior ++ heights_in numbers.new)) (coming input.old) (coming input.new) }
+    ensures adds { Adds result size [] (heights_in numbers.new) }
+    ensures most { length (heights_in numbers.new) ≤ size }
+    ensures within { AreWithin range.bits most (heights_in numbers.new) }
 {
     if gaggle == 0 {
         return take_first(input, range, most, size, numbers);

@@ -50,6 +50,7 @@ all_informed {wish = wish} {new = new} {last = last} {table = table} {found = fo
       took = come.took;
       gave = lines_of table;
       since = since_out come.since gives;
+      readable = since_out come.readable gives;
       within = read_within read;
       answer = record {
         lines = ap lines_of (table_whole come whole);
@@ -71,6 +72,7 @@ write_failed {wish = wish} {new = new} {last = last} {table = table} {found = fo
       took = come.took;
       gave = take n (lines_of table);
       since = since_out come.since gives;
+      readable = since_out come.readable gives;
       within = read_within read;
       answer = (
         rose_since come.since.faults.writes rose,
@@ -90,6 +92,7 @@ long_informed {wish = wish} before x =
       took = come.took;
       gave = [];
       since = come.since;
+      readable = come.readable;
       within = read_within come.read;
       answer = (long_full come.read x.over, long_good come.read x.over, few_whole come (long_packets come.read x.over), refl);
     }
@@ -104,6 +107,7 @@ read_failed {wish = wish} {now = now} {new = new} {v = v} before x =
       took = come.took;
       gave = [];
       since = come.since;
+      readable = come.readable;
       within = read_within come.read;
       answer = (rose_since before.since.faults.reads x.ends.0, few_whole come whole, refl);
     }

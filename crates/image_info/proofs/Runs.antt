@@ -9,9 +9,9 @@ use Rattle.packet_defs.specs.Reading.{apid_in}
 use Rattle.packet_defs.specs.Streams.{first_packet}
 use Rattle.space_packets.specs.Intake.{Intake, unread}
 use Rattle.space_packets.specs.PacketReads.{AsksUndecided, TakenSoFar}
-use Rattle.packet_assembly.specs.Readings.{HasRead, SawEnd}
+use Rattle.packet_assembly.specs.Readings.{HasRead, SawEnd, AsksReadable}
 use Rattle.packet_assembly.specs.PacketSteps.{reading}
-use Rattle.packet_assembly.proofs.PacketSteps.{unread_so, unended_so, whole_so_far, read_more, end_more, read_past, end_past, octets_left, less_left}
+use Rattle.packet_assembly.proofs.PacketSteps.{unread_so, unended_so, whole_so_far, read_more, readable_fed, end_more, read_past, end_past, octets_left, less_left}
 use Rattle.image_info.specs.declared.image.ImageEntry.{ImageEntry}
 use Rattle.image_info.specs.declared.info.InfoWish.{InfoWish}
 use Rattle.image_info.specs.declared.table.TableFull.{TableFull}
@@ -28,6 +28,7 @@ pub record HasTabled (wish : InfoWish) (start now : Outside) (v : Intake) (table
   pub took : List ℕ
   pub passed : List (List ℕ)
   pub since : Exchange start now took [] [] (AsksFew wish.apid took)
+  pub readable : Exchange start now took [] [] (AsksReadable wish.octets took)
   pub read : HasRead 0 wish.octets (reading 0 v passed None) took passed
   pub at_end : SawEnd now (reading 0 v passed None)
   pub table_of : IsTable wish.apid passed table
@@ -52,6 +53,7 @@ filled {wish = wish} {start = start} {new = new} {v = v} {table = table} come x 
       took = come.took ++ x.took;
       passed = come.passed;
       since = since_in (since_weaker come.since (λ i j le r. asks_took wish.apid come.took x.took i j le r)) x.since (λ i j le r. asks_now i j r);
+      readable = readable_fed come.read x come.readable;
       read = read_more come.read x;
       at_end = end_more come.read x come.at_end;
       table_of = come.table_of;
@@ -72,6 +74,7 @@ passed_one {wish = wish} {start = start} {new = new} {table = table} {after = af
       took = come.took;
       passed = come.passed ++ packet ∷ [];
       since = come.since;
+      readable = come.readable;
       read = read_past 0 apid x.full come.passed x.whole wish.octets come.took come.read;
       at_end = end_past 0 apid x.full come.passed x.whole new come.at_end;
       table_of = table_next wish.apid come.passed packet table after come.table_of x.passes;
@@ -86,6 +89,7 @@ none_tabled wish start v table is none = subst (λ v. HasTabled wish start start
   took = [];
   passed = [];
   since = since_start start _;
+  readable = since_start start _;
   read = unread_so 0 wish.octets;
   at_end = unended_so 0 wish.octets start;
   table_of = table_none wish.apid;

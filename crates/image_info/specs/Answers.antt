@@ -2,7 +2,7 @@
 use Rattle.std.specs.Prelude.{◌≡◌, ◌≤◌, ◌<◌, ℕ, List, [], length, take, false, Option, Result, Ok, Err}
 use Rattle.port_122.specs.Outside.{Outside, Exchange, Rose}
 use Rattle.packet_defs.specs.Streams.{whole_packets, left_over, has_bad_version, framing}
-use Rattle.packet_assembly.specs.Readings.{IsReadOut}
+use Rattle.packet_assembly.specs.Readings.{IsReadOut, AsksReadable}
 use Rattle.image_info.specs.declared.info.InfoWish.{InfoWish}
 use Rattle.image_info.specs.declared.info.InfoDone.{InfoDone}
 use Rattle.image_info.specs.declared.info.InfoFault.{InfoFault}
@@ -41,10 +41,12 @@ Answers wish old new took gave (Err TooManyImages) = (most_images < image_count 
 Answers wish old new took gave (Err Memory) = (old ≡ new) × (took ≡ []) × (gave ≡ [])
 
 -- One run over a port: what it took and gave, when, and why it ended so. However it ends, it takes at most the number of octets in the
--- wish, and it gives nothing before its last read call.
+-- wish, and it gives nothing before its last read call. At each read call the octets taken by then can be read on, and are fewer than the
+-- wish allows.
 pub record Informs (wish : InfoWish) (old new : Outside) (result : Result InfoDone InfoFault) : Type 0 where
   pub took : List ℕ
   pub gave : List ℕ
   pub since : Exchange old new took gave [] (AsksFew wish.apid took)
+  pub readable : Exchange old new took gave [] (AsksReadable wish.octets took)
   pub within : length took ≤ wish.octets
   pub answer : Answers wish old new took gave result

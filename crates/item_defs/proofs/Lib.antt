@@ -6,3 +6,11 @@ pub mod Spellings
 pub mod ReadingLaws
 pub mod Rounding
 pub mod Equations
+pub mod FirstNumbers
+pub mod ScriptLaws
+pub mod FollowLaws
+pub mod Completing
+pub mod Writing
+pub mod TwosComplement
+pub mod ScriptStarts
+pub mod ScriptGives

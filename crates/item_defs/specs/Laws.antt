@@ -1,25 +1,10 @@
 -- The laws that the definitions keep.
-use Rattle.std.specs.Prelude.{◌≡◌, ◌≤◌, ◌%◌, ◌+◌, ◌*◌, ◌/◌, ◌^◌, ℕ, List, ◌++◌, length, map, take, Bool}
+use Rattle.std.specs.Prelude.{◌≡◌, ◌%◌, ◌+◌, ◌*◌, ◌/◌, ◌^◌, ℕ, List, ◌++◌, length, map, Bool}
 use Rattle.item_defs.specs.Bits.{bits_of, value_of, AreOctets, bits_of_octets, octets_of}
-use Rattle.item_defs.specs.Items.{Item, Form, text}
-use Rattle.item_defs.specs.Readings.{AreItems, StepsAlike, Stop, Stops}
-
-abbrev pub forms_of : List Item → List Form
-forms_of items = map (λ item. item.form) items
+use Rattle.item_defs.specs.Items.{Item}
 
 abbrev pub said_of : List Item → List ℕ
 said_of items = map (λ item. item.said) items
-
--- two readings of one text say the same, item by item, and leave the same bits
-abbrev pub ReadsOnce : Type 0
-ReadsOnce = (is js : List Item) (m : ℕ) (xs ys : List Bool) → StepsAlike is js → AreItems is → AreItems js →
-    m ≤ length is → m ≤ length js → text (take m is) ++ xs ≡ text (take m js) ++ ys →
-    (said_of (take m is) ≡ said_of (take m js)) × (forms_of (take m is) ≡ forms_of (take m js)) × (xs ≡ ys)
-
--- a text stops all readings at one place, in one way and with one name
-abbrev pub StopsOnce : Type 0
-StopsOnce = (is js : List Item) (bits : List Bool) (s t : Stop) → StepsAlike is js → AreItems is → AreItems js →
-    Stops is bits s → Stops js bits t → s ≡ t
 
 -- bits and numbers, and bits and octets, represent each other
 pub record BitsUndo : Type 0 where

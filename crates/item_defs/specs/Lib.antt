@@ -3,3 +3,10 @@ pub mod Items
 pub mod Readings
 pub mod Laws
 pub mod Padding
+pub mod Outcomes
+pub mod Scripts
+pub mod Following
+pub mod Completing
+pub mod Writing
+pub mod ScriptLaws
+pub mod TwosComplement

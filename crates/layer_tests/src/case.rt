@@ -68,6 +68,16 @@ impl<'a> Case<'a> {
         &[]
     }
 
+    // Returns the signed number that follows a name, if its magnitude is in range.
+    pub fn signed_named(&self, name: &str, most: u32) -> Result<i32, Refusal>
+        ensures { IfOk result (λ n. unsigned_abs n ≤ most) }
+    {
+        match self.words_after(name).first() {
+            Some(word) => signed(word, most),
+            None => Err(Refusal::Words),
+        }
+    }
+
     // Returns the number at a place of the data, if it is in this range.
     pub fn number_at(&self, place: usize, least: u64, most: u64) -> Result<u64, Refusal>
         ensures low { IfOk result (λ n. least ≤ n) }

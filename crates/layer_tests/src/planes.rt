@@ -1,13 +1,9 @@
 // Bit planes of one block, put and taken.
-ghost use Rattle.std.specs.Prelude.{◌≡◌, ◌≢◌, ◌<◌, ◌≤◌, ◌+◌, ℕ, pos, [], ◌∷◌, true, length, slice_index_or, unsigned_abs};
+ghost use Rattle.std.specs.Prelude.{◌≡◌, ◌≢◌, ◌<◌, ◌≤◌, ◌%◌, ◌^◌, ℕ, pos, ◌∷◌, true, length, min, replicate, slice_index_or, unsigned_abs};
 ghost use Rattle.bit_pipe.specs.declared.fault.PutFault.TheVariants.{WriteFault};
 ghost use Rattle.bit_pipe.specs.Slices.{slice_sink};
 ghost use Rattle.bit_pipe.specs.Standing.{stand, IsOpen};
-ghost use Rattle.plane_defs.specs.Marks.{depths_of};
-ghost use Rattle.block_masks.specs.Slices.{numbers_in};
 ghost use Rattle.block_masks.specs.SegmentNumbers.{AreAbove};
-ghost use Rattle.plane_reader.specs.Above.{AreReady};
-ghost use Rattle.plane_reader.specs.Taken.{AwaitPlane};
 
 use crate::bit_words::{Aligned, aligned_in};
 use crate::block_words::blocks_in;
@@ -16,105 +12,105 @@ use crate::shown::{Blocks, Hex};
 use base_122::Weights;
 use bit_pipe::{BitIn, BitOut, Part, PutFault, SliceIn, SliceOut, TextFault};
 use plane_coder::{CodeTables, GaggleRoom, PlanePlan, PlaneSource, SegmentMasks, put_plane};
-use plane_reader::{join_numbers, slice_numbers, take_plane};
+use plane_reader::{PlaceTables, SentPlanes, take_planes};
 use word_codes::profile_book;
 
-// Reads the plane of one block of this depth into its masks.
-#[tactic(auto, using(bit_pipe::proofs::Taking::in_after_item))]
-fn take(text: &Aligned, cells: &mut [i32], depth: i32, plan: &PlanePlan) -> Result<Part, TextFault>
-    requires whole { length cells.old ≡ 64 }
-    requires plane { plan.now.plane ≤ 26 }
-    requires last { plan.now.last ≤ 4 }
-    requires awaits { AwaitPlane plan.now.weights.shifts plan.now.plane plan.now.q (depths_of (depth ∷ [])) (numbers_in cells.old) }
-    requires ready { AreReady (plan.now.plane + 1) cells.old }
-    ensures size { length cells.new ≡ length cells.old }
-    ensures ready { AreReady plan.now.plane cells.new }
+// Which planes of a block are read, and what is known of it before: its depth and its DC.
+#[derive(Clone, Copy)]
+struct Known {
+    sent: SentPlanes,
+    depth: u8,
+    dc: i32,
+    ghost below: { sent.below ≤ 27 },
+    ghost last: { sent.last ≤ 4 },
+    ghost none: { unsigned_abs dc % 2 ^ min sent.below sent.q ≡ 0 },
+}
+
+// Returns whether a DC has no bit below a plane.
+fn has_none_below(dc: i32, plane: u8) -> bool
+    requires { plane < 32 }
+    ensures { result ≡ true → unsigned_abs dc % 2 ^ plane ≡ 0 }
 {
-    let mut source = SliceIn::new(text.octets.as_slice());
-    let mut input = BitIn::new(&mut source, 0, 0);
-    input.take_bits(text.lead)?;
-    take_plane(&mut input, cells, &mut [depth], plan, &profile_book())
+    dc.unsigned_abs() % (1 << plane) == 0
 }
 
-fn are_same(one: &[i32], other: &[i32]) -> bool
-    ensures { result ≡ true → one.now ≡ other.now }
-{
-    one == other
-}
-
-// Returns whether the masks of a block are those of these numbers.
-fn are_masks_of(cells: &[i32; 64], expected: &[i32; 64]) -> bool
-    ensures { result ≡ true → numbers_in cells.now ≡ expected.now }
-{
-    let mut read = *cells;
-    join_numbers(&mut read);
-    are_same(&read, expected)
-}
-
-// Reads plane 1 and then plane 0 of a block of depth 2 whose DC part gave 4. Returns also whether plane 1 gives -2 as the first parent
-// alone; plane 0 is read only then.
-fn take_two(upper: &Aligned, lower: &Aligned) -> (bool, Result<Part, TextFault>, [i32; 64]) {
-    let mut plan = PlanePlan {
-        plane: 1,
-        q: 2,
-        weights: Weights { shifts: [0; 10] },
-        last: 4,
-    };
-    let mut block = [0; 64];
-    block[0] = 4;
-    slice_numbers(&mut block);
-    let higher = take(upper, &mut block, 2, &plan);
-    if higher != Ok(Part::Whole) {
-        return (false, higher, block);
-    }
-    let mut expected = [0; 64];
-    expected[0] = 4;
-    expected[1] = -2;
-    if !are_masks_of(&block, &expected) {
-        return (false, higher, block);
-    }
-    plan.plane = 0;
-    let result = take(lower, &mut block, 2, &plan);
-    join_numbers(&mut block);
-    (true, result, block)
-}
-
-// The bits of plane 0 of a block after `higher`, those of plane 1, which give 4 for the DC and -2 for the first parent.
-pub(crate) fn take_lower(case: &Case) -> Result<String, Refusal> {
-    let higher = aligned_in(case.alloc, case.words_after("higher"))?;
-    let lower = aligned_in(case.alloc, case.data)?;
-    let (is_lower, taken, block) = take_two(&higher, &lower);
-    if !is_lower {
+fn known_of(case: &Case) -> Result<Known, Refusal> {
+    let below = case.named("below", 0, 27)? as u8;
+    let q = case.named("q", 0, 28)? as u8;
+    let dc = case.signed_named("dc", 1 << 27)?;
+    if !has_none_below(dc, below.min(q)) {
         return Err(Refusal::Words);
     }
-    let shown = Blocks(&block);
-    Ok(format!(in case.alloc; "{taken:?}{shown}")?)
-}
-
-// Reads plane 0 of a block of depth 1.
-fn take_only(text: &Aligned, weights: Weights) -> (Result<Part, TextFault>, [i32; 64]) {
-    let plan = PlanePlan {
-        plane: 0,
-        q: 0,
-        weights,
-        last: 4,
-    };
-    let mut block = [0; 64];
-    slice_numbers(&mut block);
-    let result = take(text, &mut block, 1, &plan);
-    join_numbers(&mut block);
-    (result, block)
-}
-
-// The bits of plane 0 of a block of depth 1, with weights of 1, or of 2 for the three finest bands if these are `coarse`.
-pub(crate) fn take_one(case: &Case) -> Result<String, Refusal> {
-    let text = aligned_in(case.alloc, case.data)?;
     let finest = u8::from(case.has("coarse"));
     let mut shifts = [0; 10];
     shifts[0] = finest;
     shifts[1] = finest;
     shifts[2] = finest;
-    let (taken, block) = take_only(&text, Weights { shifts });
+    Ok(Known {
+        sent: SentPlanes {
+            weights: Weights { shifts },
+            q,
+            below,
+            stop: case.named("stop", 0, 27)? as u8,
+            last: case.named("last", 0, 4)? as u8,
+        },
+        depth: case.named("depth", 0, 27)? as u8,
+        dc,
+    })
+}
+
+// Reads the planes of a block that has only its DC.
+#[tactic(auto, using(bit_pipe::proofs::Taking::in_after_item))]
+fn take_after(
+    text: &Aligned,
+    known: &Known,
+    tables: &PlaceTables,
+    block: &mut [i32],
+) -> Result<Part, TextFault>
+    requires { block.old ≡ known.now.dc ∷ replicate 63 (pos 0) }
+    ensures { length block.new ≡ length block.old }
+{
+    let mut source = SliceIn::new(text.octets.as_slice());
+    let mut input = BitIn::new(&mut source, 0, 0);
+    input.take_bits(text.lead)?;
+    let mut marks = [i32::from(known.depth)];
+    take_planes(&mut input, &known.sent, tables, block, &mut marks)
+}
+
+// Puts the DC into a block of zeros.
+fn put_first(block: &mut [i32], dc: i32)
+    requires { block.old ≡ replicate 64 (pos 0) }
+    ensures { block.new ≡ dc ∷ replicate 63 (pos 0) }
+{
+    block[0] = dc;
+}
+
+// Returns the answer of the reader, and the numbers of the block.
+fn take_block(
+    text: &Aligned,
+    known: &Known,
+    tables: &PlaceTables,
+) -> (Result<Part, TextFault>, [i32; 64]) {
+    let mut block = [0; 64];
+    put_first(&mut block, known.dc);
+    let taken = take_after(text, known, tables, &mut block);
+    (taken, block)
+}
+
+// The bits of the planes of a block of this depth from `below` - 1 down, the last of them up to a stage, after a DC part that gave `dc`
+// and left out `q` low bits. The weights are 1, or 2 for the three finest bands if these are `coarse`. The answer is the same with tables
+// of all masks and with those of the words alone.
+pub(crate) fn take(case: &Case) -> Result<String, Refusal> {
+    let text = aligned_in(case.alloc, case.data)?;
+    let known = known_of(case)?;
+    let book = profile_book();
+    let tables = PlaceTables::new(case.alloc, &book)?;
+    let words = PlaceTables::of_words(&book);
+    let (taken, block) = take_block(&text, &known, &tables);
+    let (slowly, other) = take_block(&text, &known, &words);
+    if taken != slowly || block != other {
+        return Err(Refusal::Words);
+    }
     let shown = Blocks(&block);
     Ok(format!(in case.alloc; "{taken:?}{shown}")?)
 }

@@ -11,7 +11,8 @@ use Rattle.item_defs.specs.Items.{Item, Refusal, bad_delta, bad_depth, bad_optio
 use Rattle.item_defs.specs.Readings.{IsItem, AreItems}
 use Rattle.item_defs.proofs.ReadingLaws.{are_append}
 use Rattle.number_defs.specs.Given.{numbers_through}
-use Rattle.number_defs.specs.Ranges.{negatives, number_at, complement, shifted_height}
+use Rattle.number_defs.specs.Ranges.{negatives, number_at, shifted_height}
+use Rattle.item_defs.specs.TwosComplement.{complement}
 use Rattle.number_defs.specs.Gaggles.{Kind, identifier_bits, uncoded, is_option, value_at, first_place, places, depth_refusal, uncoded_value, unary_part, rest_part, value_items, lead_items, gaggle_items, items_before, gaggle_count, number_items}
 use Rattle.number_defs.specs.DcPart.{dc_q, dc_bits, dc_kind, dc_bit, high_items, planes_before, dc_planes, dc_items}
 use Rattle.number_defs.specs.Depths.{depth_bits, depth_kind, depth_items}

@@ -41,11 +41,6 @@ pub dc_items-is : (depth_dc depth_ac shift : ℕ) (dcs : List ℤ) (options : �
 unfolding dc_items
 dc_items-is depth_dc depth_ac shift dcs options = refl
 
-pub depth_items-is : (depth_ac : ℕ) (depths : List ℕ) (options : ℕ → ℕ) →
-    depth_items depth_ac depths options ≡ cond (eqb depth_ac 0) [] (cond (eqb depth_ac 1) (map raw depths) (number_items (depth_kind depth_ac) depths options))
-unfolding depth_items
-depth_items-is depth_ac depths options = refl
-
 pub depths_none : (depth_ac : ℕ) (depths : List ℕ) (options : ℕ → ℕ) → depth_ac ≡ 0 → depth_items depth_ac depths options ≡ []
 unfolding depth_items
 depths_none depth_ac depths options e = let t : eqb depth_ac 0 ≡ true = grind (arith, nat_tests) in rw t refl

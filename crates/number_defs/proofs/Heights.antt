@@ -5,7 +5,8 @@ use Rattle.std.proofs.lemmas.Nat.{mod_low}
 use Rattle.std.proofs.Math.Nat.{mod-eq_of_lt, pow-succ'}
 use Rattle.std.proofs.lemmas.Bool.{cases_lt}
 use Rattle.std.proofs.lemmas.Bool.Decides.{nat_tests}
-use Rattle.number_defs.specs.Ranges.{IsInRange, negatives, number_at, height_of, complement}
+use Rattle.number_defs.specs.Ranges.{IsInRange, negatives, number_at, height_of}
+use Rattle.item_defs.specs.TwosComplement.{complement}
 
 up_and_down : (a n : ℕ) → pos a -ℤ pos n +ℤ pos n ≡ pos a
 up_and_down a n = omega (arith, ints)

@@ -13,4 +13,13 @@ pub mod SegmentSteps
 pub mod CellPlaces
 pub mod NotRefused
 pub mod AreItems
-pub mod DcPlanes
+pub mod NumberGoes
+pub mod NumberWritten
+pub mod NumberBack
+pub mod NumberEnds
+pub mod NumberLaws
+pub mod DepthLaws
+pub mod DcNumbers
+pub mod DcLaws
+pub mod DcCuts
+mod WorkedRead

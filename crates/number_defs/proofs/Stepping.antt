@@ -9,7 +9,8 @@ use Rattle.item_defs.specs.Items.{Item}
 use Rattle.item_defs.specs.Readings.{StepsAlike}
 use Rattle.item_defs.specs.Laws.{said_of}
 use Rattle.item_defs.proofs.ReadingLaws.{steps_append, said_split}
-use Rattle.number_defs.specs.Ranges.{negatives, number_at, complement}
+use Rattle.number_defs.specs.Ranges.{negatives, number_at}
+use Rattle.item_defs.specs.TwosComplement.{complement}
 use Rattle.number_defs.specs.Mapping.{unmapped}
 use Rattle.number_defs.specs.Gaggles.{Kind, uncoded, value_at, first_place, places, uncoded_form, unary_form, rest_form, uncoded_value, unary_part, rest_part, value_items, lead_items, gaggle_items, items_before, gaggle_count, number_items}
 use Rattle.number_defs.proofs.MappingLaws.{mapped_back}
@@ -204,9 +205,6 @@ module _ (kind : Kind) (xs ys : List ℕ) (p : (i : ℕ) → get_or xs i 0 < 2 ^
                 let parts = said_split (items_before kind xs o g) (items_before kind ys u g) (gaggle_items kind xs (o g) g) (gaggle_items kind ys (u g) g) steps e in
                 gaggle_same (o g) (u g) g (same parts.0) parts.1 i (omega arith),
           )
-
-      pub numbers_step : StepsAlike (number_items kind xs o) (number_items kind ys u)
-      numbers_step = rw (sym same_length) (before_both (gaggle_count (length xs))).0
 
       -- lists that say the same have the same numbers
       pub numbers_same : said_of (number_items kind xs o) ≡ said_of (number_items kind ys u) → (i : ℕ) → get_or xs i 0 ≡ get_or ys i 0

@@ -2,7 +2,8 @@
 use Rattle.std.specs.Prelude.{ℕ, zero, suc, ◌+◌, ◌-◌, ◌/◌, ◌==◌, max, ℤ, List, [], ◌++◌, map, true, false, if◌then◌else◌, nat_le, nat_lt}
 use Rattle.std.specs.Int.{int_shr}
 use Rattle.item_defs.specs.Items.{Item, raw}
-use Rattle.number_defs.specs.Ranges.{shifted_height, complement}
+use Rattle.number_defs.specs.Ranges.{shifted_height}
+use Rattle.item_defs.specs.TwosComplement.{complement}
 use Rattle.number_defs.specs.Gaggles.{Kind, number_items}
 use Rattle.number_defs.specs.Choice.{choices}
 

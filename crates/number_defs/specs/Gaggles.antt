@@ -3,7 +3,8 @@
 use Rattle.std.specs.Prelude.{ℕ, zero, suc, ◌+◌, ◌-◌, ◌*◌, ◌/◌, ◌%◌, ◌^◌, ◌==◌, ◌||◌, min, max, List, [], ◌∷◌, ◌++◌, length, map, slice_index, Bool, if◌then◌else◌, nat_le, Option, Some, None}
 use Rattle.std.specs.List.{range_with_len}
 use Rattle.item_defs.specs.Items.{Item, Form, Refusal, bad_delta, bad_depth, fixed, zeros_to, identifier, refused_where}
-use Rattle.number_defs.specs.Ranges.{negatives, number_at, complement}
+use Rattle.number_defs.specs.Ranges.{negatives, number_at}
+use Rattle.item_defs.specs.TwosComplement.{complement}
 use Rattle.number_defs.specs.Mapping.{mapped, unmapped}
 
 -- the kind of a list of numbers: their number of bits, signed or not; and the heights that are refused as too great

@@ -2,13 +2,12 @@
 use Rattle.std.specs.Prelude.{◌≡◌, ◌≤◌, ◌<◌, ℕ, ◌+◌, ◌%◌, ◌^◌, List, length, map, ℤ, pos, Bool, true, slice_index, slice_index_or, IsTrue}
 use Rattle.std.specs.Int.{int_shr}
 use Rattle.item_defs.specs.Items.{text}
-use Rattle.item_defs.specs.Readings.{StepsAlike}
-use Rattle.number_defs.specs.Ranges.{IsInRange, negatives, number_at, height_of, complement}
+use Rattle.number_defs.specs.Ranges.{IsInRange, negatives, number_at, height_of}
+use Rattle.item_defs.specs.TwosComplement.{complement}
 use Rattle.number_defs.specs.Mapping.{mapped, unmapped}
-use Rattle.number_defs.specs.Gaggles.{Kind, number_items, value_items, value_at, is_option}
+use Rattle.number_defs.specs.Gaggles.{Kind, value_items, value_at, is_option}
 use Rattle.number_defs.specs.Choice.{coded_bits}
-use Rattle.number_defs.specs.DcPart.{dc_q, dc_bits, dc_items}
-use Rattle.number_defs.specs.Depths.{depth_bits, depth_items}
+use Rattle.number_defs.specs.DcPart.{dc_q, dc_bits}
 
 -- each number is below 2 ^ N
 abbrev pub AreFew : ℕ → List ℕ → Type 0
@@ -45,16 +44,3 @@ pub record DcBitsAreFew : Type 0 where
   pub bits : (depth_dc depth_ac shift : ℕ) → dc_bits depth_dc depth_ac shift ≤ 10
   pub fit : (depth_dc depth_ac shift : ℕ) (dc : ℤ) → 1 ≤ depth_dc → IsInRange true depth_dc dc →
       IsInRange true (dc_bits depth_dc depth_ac shift) (int_shr dc (dc_q depth_dc depth_ac shift))
-
--- Lists of the same number of numbers, with any options, have items that step alike; so a text is read as such numbers
--- in at most one way. The numbers have no more bits than their range.
-pub record NumbersStepAlike : Type 0 where
-  pub numbers : (kind : Kind) (xs ys : List ℕ) (o p : ℕ → ℕ) → length xs ≡ length ys →
-      AreFew kind.bits xs → AreFew kind.bits ys →
-      StepsAlike (number_items kind xs o) (number_items kind ys p)
-  pub dcs : (depth_dc depth_ac shift : ℕ) (xs ys : List ℤ) (o p : ℕ → ℕ) → length xs ≡ length ys →
-      DcsFit depth_dc depth_ac shift xs → DcsFit depth_dc depth_ac shift ys →
-      StepsAlike (dc_items depth_dc depth_ac shift xs o) (dc_items depth_dc depth_ac shift ys p)
-  pub depths : (depth_ac : ℕ) (xs ys : List ℕ) (o p : ℕ → ℕ) → length xs ≡ length ys →
-      AreFew (depth_bits depth_ac) xs → AreFew (depth_bits depth_ac) ys →
-      StepsAlike (depth_items depth_ac xs o) (depth_items depth_ac ys p)

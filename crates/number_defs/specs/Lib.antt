@@ -7,3 +7,9 @@ pub mod DcPart
 pub mod Depths
 pub mod Laws
 pub mod Given
+pub mod NumberScript
+pub mod DcScript
+pub mod DepthScript
+pub mod Worked
+pub mod ScriptLaws
+pub mod Cuts

@@ -1,6 +1,6 @@
 -- Numbers of N bits, signed or not. A number is given by its height: how far it is above the least of
 -- its range. (CCSDS 122.0-B-2, section 4.3.2.)
-use Rattle.std.specs.Prelude.{ℕ, ◌-◌, ◌%◌, ◌^◌, ℤ, pos, negsuc, ◌+ℤ◌, ◌-ℤ◌, neg_ℤ, nat_abs, ◌≤ℤ◌, ◌<ℤ◌, Bool, if◌then◌else◌}
+use Rattle.std.specs.Prelude.{ℕ, ◌-◌, ◌^◌, ℤ, pos, ◌+ℤ◌, ◌-ℤ◌, neg_ℤ, nat_abs, ◌≤ℤ◌, ◌<ℤ◌, Bool, if◌then◌else◌}
 use Rattle.std.specs.Int.{int_shr}
 
 -- the number of numbers of the range that are below 0
@@ -21,8 +21,3 @@ height_of signed N z = nat_abs (z +ℤ pos (negatives signed N))
 -- the height of z / 2 ^ shift, rounded down
 abbrev pub shifted_height : Bool → ℕ → ℕ → ℤ → ℕ
 shifted_height signed N shift z = height_of signed N (int_shr z shift)
-
--- the lowest w bits of a number's two's complement form
-abbrev pub complement : ℕ → ℤ → ℕ
-complement w (pos a) = a % 2 ^ w
-complement w (negsuc a) = 2 ^ w - 1 - a % 2 ^ w

@@ -1,8 +1,13 @@
-//! This crate defines numbers by differences, the DC part and the block depths of a segment's text, with
-//! their laws.
+//! This crate defines numbers by differences, the DC part and the block depths of a segment's text: how they
+//! are written, how they are read, as scripts, and their laws (docs/formats.md, "Numbers by differences" and "DC part and block
+//! depths").
 #![tactic(auto)]
 
-ghost use Rattle.number_defs.specs.Laws.{MappingUndoes, HeightsUndo, CountsBits, DcBitsAreFew, NumbersStepAlike};
+mod scripts;
+
+ghost use Rattle.number_defs.specs.Laws.{MappingUndoes, HeightsUndo, CountsBits, DcBitsAreFew};
+
+pub use scripts::{dc_part_is_read, depths_are_read, numbers_are_read, worked_texts};
 
 /// After each number, mapped values and numbers undo each other.
 pub const fn mapping_undoes()
@@ -22,9 +27,4 @@ pub const fn choice_counts_bits()
 /// The numbers of a DC part have at most 10 bits, and hold each DC of the head's BitDepthDC.
 pub const fn dc_bits_are_few()
     ensures { DcBitsAreFew }
-{}
-
-/// A text is read as numbers, as a DC part and as block depths in at most one way.
-pub const fn numbers_step_alike()
-    ensures { NumbersStepAlike }
 {}

@@ -1,23 +1,23 @@
 -- The effect of one read on a stretch: one packet more, or none.
 use Rattle.std.proofs.lemmas.Bool.Decides.{nat_tests}
-use Rattle.std.proofs.Common.{◌≡◌, ◌<◌, ◌+◌, ◌-◌, ℕ, List, [], ◌∷◌, ◌++◌, length, take, refl, sym, ap, subst, ◌∙◌, arith, add-zero, length-append, Bool, true, false, Option, Some, None, Result, Ok, Err, append-nil, take-append-drop}
+use Rattle.std.proofs.Common.{◌≡◌, ◌≤◌, ◌<◌, ◌+◌, ◌-◌, ℕ, List, [], ◌∷◌, ◌++◌, length, length-take-le, take, refl, sym, ap, subst, ◌∙◌, arith, add-zero, length-append, Bool, true, false, Option, Some, None, Result, Ok, Err, append-nil, take-append-drop}
 use Rattle.bit_pipe.specs.declared.fault.InFault.{InFault}
 use Rattle.bit_pipe.specs.declared.fault.InFault.TheVariants.{ReadFault, LongInput, Broken}
 use Rattle.port_122.specs.Outside.{Outside, Exchange, AtEnd, Rose}
 use Rattle.port_122.proofs.Stretches.{since_weaker}
 use Rattle.packet_defs.specs.declared.packet.PacketRead.{PacketRead}
 use Rattle.packet_defs.specs.declared.packet.PacketRead.TheVariants.{Mine, Skipped, Ended, Fault}
-use Rattle.packet_defs.specs.Streams.{told_length, begins_packet, first_packet, after_packet, IsPacket, Splits, whole_packets}
+use Rattle.packet_defs.specs.Streams.{told_length, has_bad_version, begins_packet, first_packet, after_packet, IsPacket, Splits, whole_packets}
 use Rattle.packet_defs.proofs.Fronts.{begins_so, first_is_packet}
-use Rattle.packet_defs.proofs.Splits.{splits_whole}
+use Rattle.packet_defs.proofs.Splits.{splits_whole, splits_left}
 use Rattle.stream_defs.specs.declared.fate.FateState.{FateState}
 use Rattle.stream_defs.specs.Fates.{after, after_all}
 use Rattle.space_packets.specs.Intake.{Intake, verdict, answered, text_mine, fed, end_read}
 use Rattle.space_packets.specs.PacketReads.{AsksUndecided, ReadsPacket}
 use Rattle.space_packets.proofs.Intakes.{answered_packet, answered_none}
-use Rattle.space_packets.proofs.StreamReads.{undecided_none}
+use Rattle.space_packets.proofs.StreamReads.{undecided_none, undecided_good, undecided_below}
 use Rattle.packet_assembly.specs.declared.note.Passed.{Passed}
-use Rattle.packet_assembly.specs.Assembling.{Assembling, AsksAt, Passes}
+use Rattle.packet_assembly.specs.Assembling.{Assembling, AsksAt, AsksReadableFrom, Passes}
 use Rattle.packet_assembly.specs.Notes.{text_brought, passed_for, stands_after, past_next, at_end, PassesNext}
 use Rattle.packet_assembly.specs.Segments.{StandsEnded, StandsLong}
 use Rattle.space_packets.proofs.Verdicts.{mine_read, other_read, over_read, long_read, shorter_past}
@@ -46,6 +46,15 @@ AsksNone a took i j = (whole_packets (a.intake.pending ++ take i took) ≡ []) �
 
 asks_none : (a : Assembling) (took : List ℕ) (i j : ℕ) → AsksUndecided a.intake took i j → AsksNone a took i j
 asks_none a took i j r = (none_whole (a.intake.pending ++ take i took) (undecided_none (fed a.intake (take i took) false) r.0), r.1)
+
+-- and the octets can be read on, and are fewer than the cap allows
+pub asks_readable : (a : Assembling) (took : List ℕ) → a.intake.taken + length took ≤ a.intake.cap → (i j : ℕ) → i ≤ length took → AsksUndecided a.intake took i j → AsksReadableFrom a took i j
+asks_readable a took within i j le r =
+    let u = fed a.intake (take i took) false in
+    let s : Splits u.pending [] u.pending = record { octets_are = refl; packets_are = tt; none_left = undecided_none u r.0 } in
+    let below = undecided_below u r.0 in
+    let some : length (take i took) ≡ i = length-take-le i took le in
+    (subst (λ zs. has_bad_version zs ≡ false) (sym (splits_left s)) (undecided_good u r.0), grind (arith, nat_tests))
 
 -- packets that were passed are so whatever text the assembly has after them, and whatever segment it holds
 pub passes_as : {P : FateState → Type 0} {old new : Outside} {a b : Assembling} {passed : List (List ℕ)} (text : List ℕ) (held : Option SegmentStart) → Passes P old new a b passed → Passes P old new a (record b { text = text; held = held }) passed
@@ -91,6 +100,7 @@ packet_on {P = P} {old = old} {new = new} {a = a} {b = b} {told = told} reads he
       passes = record {
         took = reads.took;
         since = since_weaker reads.since (λ i j le r. asks_at P a reads.took here i j r);
+        readable = since_weaker reads.since (asks_readable a reads.took reads.within);
         octets_are = sym (ap (λ zs. zs ++ b.intake.pending) (append-nil packet) ∙ ap (λ zs. packet ++ zs) rest ∙ take-append-drop (told_length u.pending) u.pending);
         packets_are = (first_is_packet (begins_so u.pending whole), tt);
         apid = ap (λ (b : Assembling). b.apid) stands;
@@ -149,6 +159,7 @@ nothing_on {P = P} {new = new} {a = a} {b = b} framing reads here intake stands 
       passes = record {
         took = reads.took;
         since = since_weaker reads.since (λ i j le r. asks_at P a reads.took here i j r);
+        readable = since_weaker reads.since (asks_readable a reads.took reads.within);
         octets_are = sym (ap (λ (w : Intake). w.pending) intake);
         packets_are = tt;
         apid = ap (λ (b : Assembling). b.apid) stands;

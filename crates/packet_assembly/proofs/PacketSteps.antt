@@ -5,8 +5,8 @@ use Rattle.std.proofs.lemmas.Bool.Decides.{nat_tests}
 use Rattle.std.proofs.Math.Seq.{take-append-add}
 use Rattle.bit_pipe.specs.declared.fault.InFault.{InFault}
 use Rattle.bit_pipe.specs.declared.fault.InFault.TheVariants as in_faults
-use Rattle.port_122.specs.Outside.{Outside}
-use Rattle.port_122.proofs.Stretches.{each_of_both}
+use Rattle.port_122.specs.Outside.{Outside, Exchange}
+use Rattle.port_122.proofs.Stretches.{each_of_both, since_weaker}
 use Rattle.packet_defs.specs.declared.packet.Framing.{Framing}
 use Rattle.packet_defs.specs.declared.packet.PacketRead.{PacketRead}
 use Rattle.packet_defs.specs.Packets.{joined}
@@ -18,10 +18,11 @@ use Rattle.space_packets.specs.PacketReads.{TakenSoFar, ReadsPacket}
 use Rattle.space_packets.proofs.Intakes.{answered_packet}
 use Rattle.space_packets.proofs.StreamReads.{undecided_none}
 use Rattle.packet_assembly.specs.Passing.{whole_after}
-use Rattle.packet_assembly.specs.Readings.{HasRead, SawEnd}
+use Rattle.packet_assembly.specs.Readings.{HasRead, SawEnd, AsksReadable}
 use Rattle.packet_assembly.specs.PacketSteps.{framing_in, reading}
 use Rattle.packet_assembly.proofs.Comings.{decided_ended}
-use Rattle.packet_assembly.proofs.OneStep.{none_whole, nothing_left}
+use Rattle.packet_assembly.proofs.OneStep.{none_whole, asks_readable, nothing_left}
+use Rattle.packet_assembly.proofs.Readings.{readable_more}
 use Rattle.space_packets.proofs.Verdicts.{mine_read, other_read, long_read, shorter_past}
 
 -- ---- the beginning
@@ -44,6 +45,10 @@ module _ {mine cap : ℕ} {v u : Intake} {took : List ℕ} {passed : List (List 
 
   pub read_more : HasRead mine cap (reading mine (fed v x.took x.saw_end) passed None) (took ++ x.took) passed
   read_more = grind (arith, nat_tests, length-append, append_assoc)
+
+  -- each read call was made while the octets could be read on
+  pub readable_fed : {start : Outside} {gave : List ℕ} → Exchange start now took gave [] (AsksReadable cap took) → Exchange start new (took ++ x.took) gave [] (AsksReadable cap (took ++ x.took))
+  readable_fed before = readable_more mine cap read before (since_weaker x.since (asks_readable (reading mine v passed None) x.took x.within))
 
   -- if the end was reached, nothing is left
   pub end_more : SawEnd now (reading mine v passed None) → SawEnd new (reading mine (fed v x.took x.saw_end) passed None)

@@ -1,10 +1,12 @@
 -- How a stream is read on, and to its end.
-use Rattle.std.proofs.Common.{◌≡◌, ◌≤◌, ◌<◌, ◌-◌, ℕ, List, [], ◌∷◌, ◌++◌, length, take, refl, sym, ap, ◌∙◌, arith, append_assoc, length-append, Bool, true, false, nat_lt, ◌==◌, Option, Some, Result, Ok, Err, ltb-true, append-nil, take_all}
+use Rattle.std.proofs.Common.{◌≡◌, ◌≤◌, ◌<◌, ◌+◌, ◌-◌, ℕ, List, [], ◌∷◌, ◌++◌, length, take, refl, sym, ap, ◌∙◌, arith, append_assoc, length-append, Bool, true, false, nat_lt, ◌==◌, Option, Some, Result, Ok, Err, ltb-true, append-nil, take_all, subst}
 use Rattle.std.proofs.lemmas.Bool.Decides.{nat_tests}
+use Rattle.std.proofs.lemmas.List.{take-append-le}
+use Rattle.std.proofs.Math.Seq.{take-append-add}
 use Rattle.bit_pipe.specs.declared.fault.InFault.{InFault}
 use Rattle.bit_pipe.specs.declared.fault.InFault.TheVariants as in_faults
 use Rattle.port_122.specs.Outside.{Outside, Exchange}
-use Rattle.port_122.proofs.Stretches.{each_of_both, at_end_later}
+use Rattle.port_122.proofs.Stretches.{since_then, since_weaker, each_of_both, at_end_later}
 use Rattle.packet_defs.specs.Packets.{joined}
 use Rattle.packet_defs.specs.Tests.{when, first_of}
 use Rattle.packet_defs.specs.declared.packet.Framing.{Framing}
@@ -18,10 +20,10 @@ use Rattle.stream_defs.specs.declared.fate.FateState.{FateState}
 use Rattle.stream_defs.proofs.ChosenLaws.{after_all-append}
 use Rattle.space_packets.specs.Intake.{end_read, place_of}
 use Rattle.space_packets.proofs.Equations.{verdict-is}
-use Rattle.packet_assembly.specs.Assembling.{Assembling, Passes, unread_assembly}
+use Rattle.packet_assembly.specs.Assembling.{Assembling, AsksReadableFrom, Passes, unread_assembly}
 use Rattle.packet_assembly.specs.Segments.{StandsEnded, StandsLong}
-use Rattle.packet_assembly.specs.Passing.{before_loses}
-use Rattle.packet_assembly.specs.Readings.{HasRead, SawEnd, IsReadOut}
+use Rattle.packet_assembly.specs.Passing.{before_loses, left_after}
+use Rattle.packet_assembly.specs.Readings.{HasRead, SawEnd, IsReadOut, AsksReadable}
 use Rattle.space_packets.proofs.Verdicts.{is_over, over_read, long_read}
 use Rattle.packet_defs.proofs.Equations.{framing_at-is}
 
@@ -38,6 +40,25 @@ read_on {a = a} {b = b} {took = took} {passed = passed} {went = went} apid cap r
 -- at most the octets that the cap allows were taken
 pub read_within : {apid cap : ℕ} {a : Assembling} {took : List ℕ} {passed : List (List ℕ)} → HasRead apid cap a took passed → length took ≤ cap
 read_within read = omega (arith, read.taken, read.cap, read.capped)
+
+-- a read call of a stretch, as one of all that was read
+readable_here : {a : Assembling} {took : List ℕ} {passed : List (List ℕ)} (apid cap : ℕ) (t : List ℕ) → HasRead apid cap a took passed → (i j k : ℕ) →
+    AsksReadableFrom a t i j → AsksReadable cap (took ++ t) (length took + i) k
+readable_here {a = a} {took = took} {passed = passed} apid cap t read i j k r =
+    let octets : take (length took + i) (took ++ t) ≡ joined passed ++ (a.intake.pending ++ take i t) =
+    take-append-add took t i ∙ ap (λ zs. zs ++ take i t) read.octets_are ∙ append_assoc (joined passed) a.intake.pending (take i t) in
+    let left = ap left_over octets ∙ left_after passed (a.intake.pending ++ take i t) read.packets_are in
+    (subst (λ zs. has_bad_version zs ≡ false) (sym left) r.0, omega (arith, r.1, read.taken, read.cap))
+
+-- so all read calls were made while the octets could be read on
+pub readable_more : {start now new : Outside} {a : Assembling} {took gave t : List ℕ} {passed : List (List ℕ)} (apid cap : ℕ) → HasRead apid cap a took passed →
+    Exchange start now took gave [] (AsksReadable cap took) → Exchange now new t [] [] (AsksReadableFrom a t) → Exchange start new (took ++ t) gave [] (AsksReadable cap (took ++ t))
+readable_more {start = start} {now = now} {new = new} {took = took} {gave = gave} {t = t} apid cap read before more =
+    let Q : ℕ → ℕ → Type 0 = AsksReadable cap (took ++ t) in
+    let first : Exchange start now took gave [] Q =
+    since_weaker before (λ i j le r. (subst (λ zs. has_bad_version (left_over zs) ≡ false) (sym (take-append-le i took t le)) r.0, r.1)) in
+    let both : Exchange start new (took ++ t) (gave ++ []) [] Q = since_then first more (λ i j le r. readable_here apid cap t read i j (length gave + j) r) in
+    subst (λ zs. Exchange start new (took ++ t) zs [] Q) (append-nil gave) both
 
 -- ---- the end
 

@@ -1,5 +1,5 @@
 -- The progress of an assembly. This project's own.
-use Rattle.std.specs.Prelude.{◌≡◌, ◌≤◌, ℕ, ◌+◌, ◌==◌, Bool, true, false, if◌then◌else◌, List, [], ◌∷◌, ◌++◌, length, take, drop, Option, None, Some, Ok}
+use Rattle.std.specs.Prelude.{◌≡◌, ◌≤◌, ◌<◌, ℕ, ◌+◌, ◌==◌, Bool, true, false, if◌then◌else◌, List, [], ◌∷◌, ◌++◌, length, take, drop, Option, None, Some, Ok}
 use Rattle.std.specs.List.{AllByRecursion}
 use Rattle.segment_defs.specs.declared.head.SegmentHead.{SegmentHead}
 use Rattle.segment_defs.specs.Head.{head_length}
@@ -8,7 +8,7 @@ use Rattle.port_122.specs.Outside.{Outside, Exchange}
 use Rattle.packet_defs.specs.declared.packet.Framing.{Framing}
 use Rattle.packet_defs.specs.Packets.{joined}
 use Rattle.packet_defs.specs.Reading.{ancillary_in, text_in}
-use Rattle.packet_defs.specs.Streams.{IsPacket, whole_packets}
+use Rattle.packet_defs.specs.Streams.{IsPacket, has_bad_version, left_over, whole_packets}
 use Rattle.stream_defs.specs.declared.fate.FateState.{FateState}
 use Rattle.stream_defs.specs.declared.fate.LastPart.{LastPart}
 use Rattle.stream_defs.specs.Fates.{fresh, fate, after, after_all, is_kept}
@@ -68,12 +68,17 @@ last_index (Some last) = Some last.index
 abbrev pub AsksAt : (FateState → Type 0) → Assembling → List ℕ → ℕ → ℕ → Type 0
 AsksAt P a took i j = P (state_with a (take i took)) × (j ≡ 0)
 
+-- a read call with i of these octets taken: they can be read on, and fewer were taken than the cap allows
+abbrev pub AsksReadableFrom : Assembling → List ℕ → ℕ → ℕ → Type 0
+AsksReadableFrom a took i j = (has_bad_version (left_over (a.intake.pending ++ take i took)) ≡ false) × (a.intake.taken + i < a.intake.cap)
+
 -- Whole packets were passed, one after another, and the octets after them wait. At each read call the octets that were taken so far left a
--- state for which P held. At most the octets that the cap allows were taken, and what is left is what was left before, without these
--- packets.
+-- state for which P held, could be read on, and were fewer than the cap allows. At most these were taken, and what is left is what was left
+-- before, without these packets.
 pub record Passes (P : FateState → Type 0) (old new : Outside) (a b : Assembling) (passed : List (List ℕ)) : Type 0 where
   pub took : List ℕ
   pub since : Exchange old new took [] [] (AsksAt P a took)
+  pub readable : Exchange old new took [] [] (AsksReadableFrom a took)
   pub octets_are : a.intake.pending ++ took ≡ joined passed ++ b.intake.pending
   pub packets_are : AllByRecursion IsPacket passed
   pub apid : b.apid ≡ a.apid

@@ -1,12 +1,12 @@
 -- Stretches in which packets were passed, one after another. These laws are here since the meaning of a text needs them.
-use Rattle.std.proofs.Common.{◌≡◌, ℕ, List, [], ◌∷◌, ◌++◌, take, refl, sym, ap, subst, ◌∙◌, arith, append_assoc, add-zero, length-append}
+use Rattle.std.proofs.Common.{◌≡◌, ℕ, false, List, [], ◌∷◌, ◌++◌, take, refl, sym, ap, subst, ◌∙◌, arith, append_assoc, add-zero, length-append}
 use Rattle.std.specs.List.{AllByRecursion}
 use Rattle.std.proofs.lemmas.List.{append-nil, take-append-le}
 use Rattle.std.proofs.Math.Seq.{take-append-add}
 use Rattle.port_122.specs.Outside.{Outside, Exchange, Loses}
 use Rattle.port_122.proofs.Stretches.{since_start, since_then, since_weaker, each_of_both}
 use Rattle.packet_defs.specs.Packets.{joined}
-use Rattle.packet_defs.specs.Streams.{IsPacket, Splits, whole_packets, left_over}
+use Rattle.packet_defs.specs.Streams.{IsPacket, Splits, has_bad_version, whole_packets, left_over}
 use Rattle.packet_defs.proofs.Joins.{joined-append}
 use Rattle.packet_defs.proofs.Splits.{whole_splits, splits_whole, splits_left}
 use Rattle.stream_defs.specs.declared.fate.FateState.{FateState}
@@ -14,7 +14,7 @@ use Rattle.stream_defs.specs.Fates.{after, after_all}
 use Rattle.stream_defs.proofs.ChosenLaws.{after_all-append}
 use Rattle.std.specs.Prelude.{Option, None, Some}
 use Rattle.packet_assembly.specs.declared.note.SegmentStart.{SegmentStart}
-use Rattle.packet_assembly.specs.Assembling.{Assembling, state_with, AsksAt, Passes, BeginsNone, Starts}
+use Rattle.packet_assembly.specs.Assembling.{Assembling, state_with, AsksAt, AsksReadableFrom, Passes, BeginsNone, Starts}
 use Rattle.packet_assembly.specs.Comings.{coming, sees_end}
 use Rattle.packet_assembly.specs.Segments.{Continues, BeganAt}
 
@@ -35,23 +35,33 @@ whole_after packets rest are = splits_whole (both_split packets rest are)
 pub left_after : (packets : List (List ℕ)) (rest : List ℕ) → AllByRecursion IsPacket packets → left_over (joined packets ++ rest) ≡ left_over rest
 left_after packets rest are = splits_left (both_split packets rest are)
 
+-- the octets that waited, those of a stretch, and more
+octets_on : {P : FateState → Type 0} {old new : Outside} {a b : Assembling} {passed : List (List ℕ)} → (p : Passes P old new a b passed) → (more : List ℕ) →
+    a.intake.pending ++ (p.took ++ more) ≡ joined passed ++ (b.intake.pending ++ more)
+octets_on {a = a} {b = b} {passed = passed} p more =
+    sym (append_assoc a.intake.pending p.took more) ∙ ap (λ zs. zs ++ more) p.octets_are ∙ append_assoc (joined passed) b.intake.pending more
+
 -- the state after a stretch and then more octets
 pub state_on : {P : FateState → Type 0} {old new : Outside} {a b : Assembling} {passed : List (List ℕ)} → (p : Passes P old new a b passed) → (more : List ℕ) →
     state_with a (p.took ++ more) ≡ state_with b more
 state_on {a = a} {b = b} {passed = passed} p more =
     let later = whole_packets (b.intake.pending ++ more) in
-    let octets : a.intake.pending ++ (p.took ++ more) ≡ joined passed ++ (b.intake.pending ++ more) =
-    sym (append_assoc a.intake.pending p.took more) ∙ ap (λ zs. zs ++ more) p.octets_are ∙ append_assoc (joined passed) b.intake.pending more in
-    ap (λ zs. after_all a.apid a.state (whole_packets zs)) octets
+    ap (λ zs. after_all a.apid a.state (whole_packets zs)) (octets_on p more)
     ∙ ap (after_all a.apid a.state) (whole_after passed (b.intake.pending ++ more) p.packets_are)
     ∙ after_all-append a.apid a.state passed later
     ∙ ap (λ s. after_all a.apid s later) (sym p.state)
     ∙ ap (λ n. after_all n b.state later) (sym p.apid)
 
+-- what is left over after a stretch and then more octets
+left_on : {P : FateState → Type 0} {old new : Outside} {a b : Assembling} {passed : List (List ℕ)} → (p : Passes P old new a b passed) → (more : List ℕ) →
+    left_over (a.intake.pending ++ (p.took ++ more)) ≡ left_over (b.intake.pending ++ more)
+left_on {b = b} {passed = passed} p more = ap left_over (octets_on p more) ∙ left_after passed (b.intake.pending ++ more) p.packets_are
+
 pub passes_none : {P : FateState → Type 0} (p : Outside) (a : Assembling) → Passes P p p a a []
 passes_none p a = record {
   took = [];
   since = since_start p _;
+  readable = since_start p _;
   octets_are = append-nil a.intake.pending;
   packets_are = tt;
   apid = refl;
@@ -78,9 +88,14 @@ passes_then {P = P} {Q = Q} {old = old} {mid = mid} {new = new} {a = a} {b = b} 
     let first : Exchange old mid p.took [] [] (AsksAt P a took) =
     since_weaker p.since (λ i j le r. (subst (λ zs. P (state_with a zs)) (sym (take-append-le i p.took q.took le)) r.0, r.1)) in
     let here = λ (i : ℕ). ap (state_with a) (take-append-add p.took q.took i) ∙ state_on p (take i q.took) in
+    let left = λ (i : ℕ). ap (λ zs. left_over (a.intake.pending ++ zs)) (take-append-add p.took q.took i) ∙ left_on p (take i q.took) in
+    let first_readable : Exchange old mid p.took [] [] (AsksReadableFrom a took) =
+    since_weaker p.readable (λ i j le r. (subst (λ zs. has_bad_version (left_over (a.intake.pending ++ zs)) ≡ false) (sym (take-append-le i p.took q.took le)) r.0, r.1)) in
     record {
       took = took;
       since = since_then first q.since (λ i j le r. (subst P (sym (here i)) (f _ r.0), omega (arith, r.1)));
+      readable = since_then first_readable q.readable
+          (λ i j le r. (subst (λ zs. has_bad_version zs ≡ false) (sym (left i)) r.0, omega (arith, r.1, p.cap, p.taken)));
       octets_are = sym (append_assoc a.intake.pending p.took q.took) ∙ ap (λ zs. zs ++ q.took) p.octets_are ∙ append_assoc (joined xs) b.intake.pending q.took
           ∙ ap (λ zs. joined xs ++ zs) q.octets_are ∙ sym (append_assoc (joined xs) (joined ys) c.intake.pending) ∙ ap (λ zs. zs ++ c.intake.pending) (sym (joined-append xs ys));
       packets_are = each_of_both IsPacket xs ys p.packets_are q.packets_are;

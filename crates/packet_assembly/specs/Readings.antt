@@ -1,5 +1,5 @@
 -- What of a stream was read since the beginning, and that it was read to its end. This project's own.
-use Rattle.std.specs.Prelude.{◌≡◌, ◌⊎◌, ◌≤◌, ◌<◌, ℕ, true, List, [], ◌++◌, length, Some}
+use Rattle.std.specs.Prelude.{◌≡◌, ◌⊎◌, ◌≤◌, ◌<◌, ℕ, true, false, List, [], ◌++◌, length, take, Some}
 use Rattle.std.specs.List.{AllByRecursion}
 use Rattle.port_122.specs.Outside.{Outside, AtEnd}
 use Rattle.packet_defs.specs.Packets.{joined}
@@ -25,3 +25,8 @@ SawEnd now a = (rest : List ℕ) → now.rest ≡ Some rest → a.intake.ended �
 -- The end was read, for which more octets may be taken, or what can't be read on.
 abbrev pub IsReadOut : (cap : ℕ) → Outside → List ℕ → Type 0
 IsReadOut cap now took = (has_bad_version (left_over took) ≡ true) ⊎ (AtEnd now × ((rest : List ℕ) → now.rest ≡ Some rest → length took < cap))
+
+-- A read call with i of these octets taken since the beginning: they can be read on, and are fewer than may be taken. So no call reads
+-- once they have ended the stream.
+abbrev pub AsksReadable : (cap : ℕ) → List ℕ → ℕ → ℕ → Type 0
+AsksReadable cap took i j = (has_bad_version (left_over (take i took)) ≡ false) × (i < cap)

@@ -8,7 +8,7 @@ use Rattle.base_122.specs.declared.wish.DecodeWish.{DecodeWish}
 use Rattle.bit_pipe.specs.declared.fault.InFault.{InFault}
 use Rattle.bit_pipe.specs.declared.fault.InFault.TheVariants as in_faults
 use Rattle.port_122.specs.Outside.{Outside}
-use Rattle.port_122.proofs.Stretches.{rose_since}
+use Rattle.port_122.proofs.Stretches.{rose_since, since_out}
 use Rattle.packet_defs.specs.declared.packet.Framing.{Framing}
 use Rattle.packet_defs.specs.Streams.{begins_packet, whole_packets}
 use Rattle.space_packets.proofs.StreamReads.{undecided_none}
@@ -19,7 +19,7 @@ use Rattle.packet_assembly.specs.Passing.{whole_after}
 use Rattle.packet_assembly.proofs.OneStep.{NoneOn, EndOn, end_on as step_end_on}
 use Rattle.space_packets.proofs.Verdicts.{long_read}
 use Rattle.packet_assembly.specs.Readings.{HasRead}
-use Rattle.packet_assembly.proofs.Readings.{read_on, read_within, end_on, whole_so, ended_none, ended_packets, ended_framing, ended_out, long_packets, long_good, long_full}
+use Rattle.packet_assembly.proofs.Readings.{read_on, readable_more, read_within, end_on, whole_so, ended_none, ended_packets, ended_framing, ended_out, long_packets, long_good, long_full}
 use Rattle.packet_list.specs.declared.list.ListFault.{ListFault}
 use Rattle.packet_list.specs.declared.list.ListFault.TheVariants.{ReadFault, WriteFault, LongInput, Memory}
 use Rattle.packet_list.specs.Lines.{lines_of, listing}
@@ -41,6 +41,7 @@ stays_listed {wish = wish} {b = b} come due none =
       gave = come.gave;
       lines_are = come.lines_are;
       since = read_since come due q none.asks;
+      readable = readable_more wish.apid wish.octets come.read come.readable q.readable;
       read = subst (HasRead wish.apid wish.octets b (come.took ++ q.took)) (append-nil come.passed) (read_on wish.apid wish.octets come.read q);
       at_end = end_on q come.at_end;
       packets_are = come.packets_are;
@@ -86,6 +87,7 @@ all_listed {wish = wish} {new = new} {b = b} found before x is =
       took = come.took;
       gave = come.gave;
       since = come.since;
+      readable = come.readable;
       within = read_within come.read;
       answer = record {
         lines = end.all (ended_none come.read over.ended) ∙ ap (lines_of wish.apid) (sym whole);
@@ -110,6 +112,7 @@ long_listed {wish = wish} {b = b} before x =
       took = come.took;
       gave = come.gave;
       since = come.since;
+      readable = come.readable;
       within = read_within come.read;
       answer = (
         long_full come.read long,
@@ -130,6 +133,7 @@ read_failed {wish = wish} {b = b} before x =
       took = come.took;
       gave = come.gave;
       since = come.since;
+      readable = come.readable;
       within = read_within come.read;
       answer = (rose_since mid.since.faults.reads fail.fails.fails, end.all none ∙ ap (lines_of wish.apid) (sym (whole_so come.read none)));
     }
@@ -148,6 +152,7 @@ write_failed {wish = wish} {a = a} {before = before} new come x =
       took = come.took;
       gave = gave ++ take x.some before;
       since = gave_on come x.gives;
+      readable = since_out come.readable x.gives;
       within = read_within come.read;
       answer = (rose_since come.since.faults.writes x.rose, (some, sym front));
     }

@@ -20,7 +20,7 @@ use Rattle.packet_assembly.specs.Assembling.{Assembling, Passes, unread_assembly
 use Rattle.packet_assembly.specs.Notes.{note_in, PassesNext, ReadsNote}
 use Rattle.packet_assembly.specs.Passing.{whole_after}
 use Rattle.packet_assembly.specs.Readings.{HasRead}
-use Rattle.packet_assembly.proofs.Readings.{none_read, read_on, end_on, end_later}
+use Rattle.packet_assembly.proofs.Readings.{none_read, read_on, readable_more, end_on, end_later}
 use Rattle.packet_assembly.proofs.OneStep.{AsksNone, OneOn, FailOn, one_on, fail_on, measure}
 use Rattle.packet_list.specs.Lines.{line_of, lines_of, listing}
 use Rattle.packet_list.specs.Progress.{AsksListed, HasListed}
@@ -55,6 +55,7 @@ given_on {a = a} {waiting = waiting} come x = record {
   gave = come.gave ++ x.gave;
   lines_are = append_assoc come.gave x.gave waiting ∙ ap (λ zs. come.gave ++ zs) x.lines_are ∙ come.lines_are;
   since = gave_on come x.gives;
+  readable = since_out come.readable x.gives;
   read = come.read;
   at_end = end_later a x.gives come.at_end;
   packets_are = come.packets_are;
@@ -104,6 +105,7 @@ none_listed wish start a unread = subst (λ a. HasListed wish start start a 0 []
   gave = [];
   lines_are = sym (lines-none wish.apid);
   since = since_start start _;
+  readable = since_start start _;
   read = none_read wish.apid wish.octets;
   at_end = λ rest told ended. absurd (false≢true ended);
   packets_are = refl;
@@ -160,6 +162,7 @@ one_listed {wish = wish} come x =
       gave = mid.gave;
       lines_are = ap (λ zs. mid.gave ++ zs) x.lines_are ∙ sym (append_assoc mid.gave x.earlier (line_of x.note)) ∙ ap (λ zs. zs ++ line_of x.note) mid.lines_are ∙ sym lines;
       since = read_since mid given.due q n.one.asks;
+      readable = readable_more wish.apid wish.octets mid.read mid.readable q.readable;
       read = read_on wish.apid wish.octets mid.read q;
       at_end = end_on q mid.at_end;
       packets_are = omega (arith, come.packets_are, length-append mid.passed (n.one.packet ∷ []));

@@ -3,7 +3,7 @@ use Rattle.std.specs.Prelude.{◌≡◌, ◌≤◌, ℕ, List, [], length, take,
 use Rattle.port_122.specs.Outside.{Outside, Exchange, Rose}
 use Rattle.base_122.specs.declared.wish.DecodeWish.{DecodeWish}
 use Rattle.packet_defs.specs.Streams.{whole_packets, left_over, has_bad_version, framing}
-use Rattle.packet_assembly.specs.Readings.{IsReadOut}
+use Rattle.packet_assembly.specs.Readings.{IsReadOut, AsksReadable}
 use Rattle.packet_list.specs.declared.list.ListDone.{ListDone}
 use Rattle.packet_list.specs.declared.list.ListFault.{ListFault}
 use Rattle.packet_list.specs.declared.list.ListFault.TheVariants.{ReadFault, WriteFault, LongInput, Memory}
@@ -28,10 +28,12 @@ Answers wish old new took gave (Err WriteFault) = Rose old.write_faults new.writ
 Answers wish old new took gave (Err Memory) = (old ≡ new) × (took ≡ []) × (gave ≡ [])
 
 -- One run over a port: what it took and gave, when, and why it ended so. However it ends, it takes at most the number of octets in the
--- wish. At each read call what is given is exactly the lines of the packets that are whole in the octets taken by then.
+-- wish. At each read call what is given is exactly the lines of the packets that are whole in the octets taken by then, and these can be
+-- read on and are fewer than the wish allows.
 pub record Lists (wish : DecodeWish) (old new : Outside) (result : Result ListDone ListFault) : Type 0 where
   pub took : List ℕ
   pub gave : List ℕ
   pub since : Exchange old new took gave [] (AsksListed wish.apid took gave)
+  pub readable : Exchange old new took gave [] (AsksReadable wish.octets took)
   pub within : length took ≤ wish.octets
   pub answer : Answers wish old new took gave result

@@ -3,7 +3,7 @@ use Rattle.std.specs.Prelude.{◌≡◌, ◌≤◌, ℕ, List, [], ◌++◌, len
 use Rattle.port_122.specs.Outside.{Outside, Exchange}
 use Rattle.base_122.specs.declared.wish.DecodeWish.{DecodeWish}
 use Rattle.packet_assembly.specs.Assembling.{Assembling}
-use Rattle.packet_assembly.specs.Readings.{HasRead, SawEnd}
+use Rattle.packet_assembly.specs.Readings.{HasRead, SawEnd, AsksReadable}
 use Rattle.packet_list.specs.Lines.{lines_of, listing}
 
 -- a read call with i octets taken and j given: what is given is the lines of the packets that are whole by then
@@ -17,6 +17,7 @@ pub record HasListed (wish : DecodeWish) (start now : Outside) (a : Assembling) 
   pub gave : List ℕ
   pub lines_are : gave ++ waiting ≡ lines_of wish.apid passed
   pub since : Exchange start now took gave [] (AsksListed wish.apid took gave)
+  pub readable : Exchange start now took gave [] (AsksReadable wish.octets took)
   pub read : HasRead wish.apid wish.octets a took passed
   pub at_end : SawEnd now a
   pub packets_are : packets ≡ length passed

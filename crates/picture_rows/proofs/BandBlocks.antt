@@ -3,16 +3,10 @@ use Rattle.std.proofs.Common.{◌≡◌, ◌≤◌, ◌^◌, ◌*ℤ◌, ℕ, �
 use Rattle.std.proofs.lemmas.Bool.{cases_lt}
 use Rattle.std.proofs.lemmas.List.{get_or_past}
 use Rattle.base_122.specs.Weights.{IsShift}
+use Rattle.base_122.proofs.ShiftLaws.{shift_low}
 use Rattle.wave_defs.specs.Line.{floor_div}
 use Rattle.wave_defs.specs.Blocks.{place_of, weight_at}
 use Rattle.block_families.proofs.Dividing.{divided}
-
--- the weight of a band
-shift_low : (weights : List ℕ) (k : ℕ) → All IsShift weights → get_or weights k 0 ≤ 3
-shift_low weights k each = elim (cases_lt k (length weights)) [
-  | inl lt ↦ each k 0 lt
-  | inr ge ↦ let none = get_or_past weights k 0 ge in omega (arith, none)
-]
 
 -- a number that was divided by its weight
 pub part_is : (weights : List ℕ) (i : ℕ) (part number : ℤ) → All IsShift weights → part *ℤ weight_at weights i ≡ number → part ≡ floor_div number (2 ^ get_or weights (place_of i).band 0)

@@ -1,8 +1,7 @@
 -- Two blocks whose AC numbers are the same above a plane send steps of one kind for as long as they send the same.
-use Rattle.std.proofs.Common.{◌≡◌, ℕ, zero, suc, ◌+◌, ◌-◌, ◌/◌, ◌%◌, ◌<◌, ◌≤◌, inl, inr, Bool, true, false, not, ◌&&◌, cond, List, [], ◌∷◌, ◌++◌, length, refl, ap, sym, ◌∙◌, subst, arith, ℤ, pos, get_or, map, filter, nat_lt, ◌||◌}
+use Rattle.std.proofs.Common.{◌≡◌, ℕ, zero, suc, ◌+◌, ◌<◌, ◌≤◌, inl, inr, Bool, true, false, not, ◌&&◌, cond, List, [], ◌∷◌, ◌++◌, length, refl, ap, sym, ◌∙◌, subst, arith, ℤ, pos, get_or, map, filter, nat_lt, ◌||◌}
 use Rattle.std.specs.List.{flat_map, list_any, AllByRecursion}
 use Rattle.std.proofs.lemmas.Bool.{cases_lt, or_parts}
-use Rattle.plane_defs.proofs.Determined.{enclosed}
 use Rattle.std.proofs.lemmas.List.Folds.{list_any-append}
 use Rattle.std.proofs.lemmas.Bool.Decides.{nat_tests}
 use Rattle.item_defs.specs.Bits.{bit}
@@ -14,7 +13,7 @@ use Rattle.plane_defs.specs.Sets.{magnitude, significant, coded, set_significant
 use Rattle.plane_defs.specs.Entries.{word, types, flags, negative, twos_bit, significant_families}
 use Rattle.plane_defs.specs.Steps.{Check, free, ones_at, some_one_where, Told, flags_alone, types_at, sign_at, bit_at, Step, step, is_new, is_forced, typed_steps, flags_step, dc_steps, parents_steps, descendants_check, children_check, children_types_steps, children_steps, three_grandchildren, grandchildren_check, quads_types_steps, quads_steps, all_quads_steps, grandchildren_steps, refinement_steps}
 use Rattle.plane_defs.specs.Laws.{SameSets, three_families}
-use Rattle.plane_defs.specs.StepLaws.{entry_of, entries_of, SameSteps, IsAc, SameAc, AcsAlike, value_of_entry}
+use Rattle.plane_defs.specs.StepLaws.{entry_of, entries_of, SameSteps, IsAc, AcsAlike, value_of_entry}
 use Rattle.plane_defs.proofs.Settled.{head_same, tail_same}
 use Rattle.plane_defs.proofs.Alike.{all_filter, filter_same, same_bits, length_map_same, in_three, in_four, bits_inside, of_descendants, of_grandchildren, of_quad, known_families, enclosed_families}
 use Rattle.plane_defs.proofs.ReadingTexts.{map_map}
@@ -367,78 +366,6 @@ module _ (u v : List ℤ) (weights : List ℕ) (plane : ℕ) (alike : AcsAlike u
     module _ (told : entries_of (grandchildren_steps u weights plane) ≡ entries_of (grandchildren_steps v weights plane)) where
       sets_same : SameSets u v plane three_grandchildren
       sets_same = flags_word three_grandchildren known_grandchildren enclosed_grandchildren (head_same _ _ _ _ told)
-
-      quads_said : AllByRecursion (λ i. set_significant u plane (Grandchildren i) ≡ true → entries_of (quads_steps u weights plane i) ≡ entries_of (quads_steps v weights plane i)) (span 0 3)
-      quads_said =
-          of_filter (λ i. entries_of (quads_steps u weights plane i) ≡ entries_of (quads_steps v weights plane i)) (λ i. set_significant u plane (Grandchildren i)) (span 0 3)
-          (flat_parts (quads_steps u weights plane) (quads_steps v weights plane) (significant_families u plane Grandchildren) (each_quads sets_same)
-          (tail_same _ _ _ _ told ∙ sym (ap (λ l. entries_of (flat_map (quads_steps v weights plane) l)) (grandchildren_filter sets_same))))
-
-      -- the quads of a family
-      abbrev QuadsSettle : ℕ → Type 0
-      QuadsSettle i = AllByRecursion (λ j. Same u v plane (span (quad_of i j) 4)) (span 0 4)
-
-      module _ (i : ℕ) (known : i < 3) (same : set_significant u plane (Grandchildren i) ≡ set_significant v plane (Grandchildren i)) where
-        quad_settles : (j : ℕ) → j < 4 → set_significant u plane (Quad i j) ≡ set_significant v plane (Quad i j) →
-            (set_significant u plane (Quad i j) ≡ true → entries_of (quad_sent u i j) ≡ entries_of (quad_sent v i j)) → Same u v plane (span (quad_of i j) 4)
-        quad_settles j also alike_sets when = by_quad (set_significant u plane (Quad i j)) refl
-          where
-            by_quad : (b : Bool) → set_significant u plane (Quad i j) ≡ b → Same u v plane (span (quad_of i j) 4)
-            by_quad true e = typed_settle (some_one_where (is_new u plane (Quad i j))) (some_one_where (is_new v plane (Quad i j))) (span (quad_of i j) 4) (quad_acs i j known also) (when e)
-            by_quad false e = none_both (significant u plane) (significant v plane) (span (quad_of i j) 4) (in_quad u plane i j e) (in_quad v plane i j (sym alike_sets ∙ e))
-
-        said_quads : entries_of (quads_steps u weights plane i) ≡ entries_of (quads_steps v weights plane i) → QuadsSettle i
-        unfolding span
-        said_quads e =
-            let sets = flags_word (quads_in i) (known_quads i known) (enclosed_quads i same) (head_same _ _ _ _ e) in
-            let t = of_filter (λ j. entries_of (quad_sent u i j) ≡ entries_of (quad_sent v i j)) (λ j. set_significant u plane (Quad i j)) (span 0 4)
-            (flat_parts (quad_sent u i) (quad_sent v i) (filter (λ j. set_significant u plane (Quad i j)) (span 0 4)) (each_quad i known sets)
-            (tail_same _ _ _ _ e ∙ sym (ap (λ l. entries_of (flat_map (quad_sent v i) l)) (quads_filter i sets)))) in
-            (quad_settles 0 (omega arith) sets.0 t.0, (quad_settles 1 (omega arith) sets.1.0 t.1.0, (quad_settles 2 (omega arith) sets.1.1.0 t.1.1.0, (quad_settles 3 (omega arith) sets.1.1.1.0 t.1.1.1.0, tt))))
-
-      no_quad : (w : List ℤ) (i j : ℕ) → i < 3 → j < 4 → set_significant w plane (Grandchildren i) ≡ false → set_significant w plane (Quad i j) ≡ false
-      unfolding enclosing_significant
-      no_quad w i j known also none = by_quad (set_significant w plane (Quad i j)) refl
-        where
-          by_quad : (b : Bool) → set_significant w plane (Quad i j) ≡ b → set_significant w plane (Quad i j) ≡ false
-          by_quad false e = e
-          by_quad true e = let inside : set_significant w plane (Grandchildren i) ≡ true = enclosed w plane (Quad i j) (known, also) e in absurd (true_false (sym inside ∙ none))
-
-      quads_settle : (i : ℕ) → i < 3 → set_significant u plane (Grandchildren i) ≡ set_significant v plane (Grandchildren i) →
-          (set_significant u plane (Grandchildren i) ≡ true → entries_of (quads_steps u weights plane i) ≡ entries_of (quads_steps v weights plane i)) → QuadsSettle i
-      quads_settle i known same when = by_set (set_significant u plane (Grandchildren i)) refl
-        where
-          none : set_significant u plane (Grandchildren i) ≡ false → (j : ℕ) → j < 4 → Same u v plane (span (quad_of i j) 4)
-          none e j also = none_both (significant u plane) (significant v plane) (span (quad_of i j) 4) (in_quad u plane i j (no_quad u i j known also e)) (in_quad v plane i j (no_quad v i j known also (sym same ∙ e)))
-
-          by_set : (b : Bool) → set_significant u plane (Grandchildren i) ≡ b → QuadsSettle i
-          by_set true e = said_quads i known same (when e)
-          by_set false e = in_four (λ j. Same u v plane (span (quad_of i j) 4)) (none e 0 (omega arith)) (none e 1 (omega arith)) (none e 2 (omega arith)) (none e 3 (omega arith))
-
-      grandchildren_settle : AllByRecursion QuadsSettle (span 0 3)
-      unfolding span
-      grandchildren_settle =
-          let s = sets_same in
-          let q = quads_said in
-          (quads_settle 0 (omega arith) s.0 q.0, (quads_settle 1 (omega arith) s.1.0 q.1.0, (quads_settle 2 (omega arith) s.1.1.0 q.1.1.0, tt)))
-
-      pub plane_settles : entries_of (parents_steps u weights plane) ≡ entries_of (parents_steps v weights plane) → SameAc u v plane
-      plane_settles first p ac =
-          elim (cases_lt p 4) [
-            | inl parent ↦ at_span (λ p. significant u plane p ≡ significant v plane p) 1 3 p (typed_settle free free (span 1 3) (all_acs 1 3 (omega arith) (omega arith)) first) ac.0 (omega arith)
-            | inr rest ↦ elim (cases_lt p 16) [
-              | inl child ↦
-                  let i = (p - 4) / 4 in
-                  at_span (λ p. significant u plane p ≡ significant v plane p) (children_of i) 4 p
-                  (at_span (λ i. Same u v plane (span (children_of i) 4)) 0 3 i children_settle (omega arith) (omega arith)) (omega arith) (omega arith)
-              | inr grandchild ↦
-                  let i = (p - 16) / 16 in
-                  let j = (p - 16) / 4 % 4 in
-                  at_span (λ p. significant u plane p ≡ significant v plane p) (quad_of i j) 4 p
-                  (at_span (λ j. Same u v plane (span (quad_of i j) 4)) 0 4 j
-                  (at_span QuadsSettle 0 3 i grandchildren_settle (omega arith) (omega (arith, ac.1))) (omega arith) (omega arith)) (omega arith) (omega arith)
-            ]
-          ]
 
 -- ---- stages 0 and 4
 

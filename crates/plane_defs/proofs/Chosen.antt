@@ -5,10 +5,10 @@ use Rattle.std.proofs.lemmas.Bool.Decides.{nat_tests}
 use Rattle.std.proofs.lemmas.Bool.{or_left, or_right, eqb-true}
 use Rattle.plane_defs.proofs.AlikeSteps.{any_equal}
 use Rattle.plane_defs.specs.declared.sets.Set.{Set}
-use Rattle.plane_defs.specs.declared.sets.Set.TheVariants.{Family, Grandchildren}
+use Rattle.plane_defs.specs.declared.sets.Set.TheVariants.{Family}
 use Rattle.plane_defs.specs.Spans.{span}
 use Rattle.plane_defs.specs.Sets.{members, children_of, grandchildren_of}
-use Rattle.plane_defs.specs.Choosing.{family_of, sixteen_of, chosen_anew, AreApart, WordsChosen}
+use Rattle.plane_defs.specs.Choosing.{family_of, chosen_anew, AreApart}
 use Rattle.plane_defs.proofs.Above.{all_append, all_span, all_zip}
 
 pub equal_self : (p : ℕ) → (p == p) ≡ true
@@ -22,14 +22,6 @@ all_inside (x ∷ xs) = (
   all_zip {P = λ p. list_any (λ q. q == p) xs ≡ true} xs (λ p e. or_right (x == p) (list_any (λ q. q == p) xs) e) (all_inside xs),
 )
 
-any_and : (b : Bool) (g : ℕ → Bool) (xs : List ℕ) → list_any g xs ≡ true → list_any (λ x. b && g x) xs ≡ b
-any_and true g xs e = e
-any_and false g xs e = none xs
-  where
-    none : (xs : List ℕ) → list_any (λ x. false && g x) xs ≡ false
-    none [] = refl
-    none (x ∷ xs) = none xs
-
 module _ (sets : ℕ → Set) (owner : ℕ → ℕ) (count : ℕ) (free wanted : ℕ → Bool) (pick : ℕ → ℕ) (chosen : ℕ → Bool) (j : ℕ) (apart : AreApart sets owner count) where
   in_set : (b : Bool) → j < count → free j ≡ b →
       AllByRecursion (λ p. chosen_anew owner free wanted pick chosen p ≡ cond b (wanted j && (p == pick j)) (chosen p)) (members (sets j))
@@ -41,11 +33,6 @@ module _ (sets : ℕ → Set) (owner : ℕ → ℕ) (count : ℕ) (free wanted :
 
   pub before : j < count → free j ≡ false → list_any (chosen_anew owner free wanted pick chosen) (members (sets j)) ≡ list_any chosen (members (sets j))
   before below e = any_equal (chosen_anew owner free wanted pick chosen) chosen (members (sets j)) (in_set false below e)
-
-  pub as_asked : j < count → free j ≡ true → list_any (λ q. q == pick j) (members (sets j)) ≡ true → list_any (chosen_anew owner free wanted pick chosen) (members (sets j)) ≡ wanted j
-  as_asked below e inside =
-      any_equal (chosen_anew owner free wanted pick chosen) (λ p. wanted j && (p == pick j)) (members (sets j)) (in_set true below e)
-      ∙ any_and (wanted j) (λ p. p == pick j) (members (sets j)) inside
 
 -- ---- the place of a member
 
@@ -69,19 +56,3 @@ in_family i p known e =
 
     grandchild : (q : ℕ) → grandchildren_of i ≤ q → q < grandchildren_of i + 16 → family_of q ≡ i
     grandchild q low high = grind (arith, nat_tests)
-
-in_sixteen : (i p : ℕ) → list_any (λ q. q == p) (members (Grandchildren i)) ≡ true → sixteen_of p ≡ i
-in_sixteen i p e =
-    found (λ q. sixteen_of q ≡ i) p (members (Grandchildren i)) (all_span (λ q. sixteen_of q ≡ i) (grandchildren_of i) 16 (λ q low high. grandchild q low high)) e
-  where
-    grandchild : (q : ℕ) → grandchildren_of i ≤ q → q < grandchildren_of i + 16 → sixteen_of q ≡ i
-    grandchild q low high = grind (arith, nat_tests)
-
-pub words_chosen : WordsChosen
-words_chosen = record {
-  as_wanted = λ sets owner count block weights plane free wanted pick chosen j apart picks e.
-      as_asked sets owner count free wanted pick chosen j apart (picks.below j e) e (picks.inside j e);
-  as_before = λ sets owner count free wanted pick chosen j apart below e. before sets owner count free wanted pick chosen j apart below e;
-  families = record { known = λ j below. below; owned = λ j p below e. in_family j p below e };
-  sixteens = record { known = λ j below. below; owned = λ j p below e. in_sixteen j p e };
-}

@@ -11,7 +11,7 @@ use Rattle.plane_defs.specs.declared.sets.Set.{Set}
 use Rattle.plane_defs.specs.Sets.{magnitude, significant, shift, coded, members, set_significant, live, type_due, IsKnown}
 use Rattle.plane_defs.specs.Laws.{IsMultiple}
 use Rattle.plane_defs.specs.StepLaws.{IsAc, SameAc}
-use Rattle.plane_defs.specs.Completed.{completed_number, completed, MayComplete, Completes, CompletionLaws}
+use Rattle.plane_defs.specs.Completed.{completed_number, completed, MayComplete, Completes}
 use Rattle.plane_defs.proofs.SpanLists.{length-map-span, get_or-map-span}
 use Rattle.plane_defs.proofs.Above.{members_acs}
 
@@ -136,6 +136,3 @@ unfolding live set_significant
 live_member block weights plane s known some none =
     let r = some_member (coded weights plane) (significant block (plane + 1)) (members s) (members_acs s known) some none in
     (r.0, r.1, is_due block weights plane r.0 r.3 r.2, r.4)
-
-pub completion_laws : CompletionLaws
-completion_laws = record { completes = completes; member = live_member }

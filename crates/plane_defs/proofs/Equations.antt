@@ -1,5 +1,5 @@
 -- What the definitions of planes compute to: outside this crate these equations are cited, and nothing is unfolded.
-use Rattle.std.proofs.Common.{◌≡◌, ℕ, suc, ◌+◌, ◌^◌, Bool, true, not, ◌&&◌, List, [], ◌∷◌, ◌++◌, eqb, cond, refl, ℤ, ◌==◌, nat_le, nat_lt, map, count_by}
+use Rattle.std.proofs.Common.{◌≡◌, ℕ, suc, ◌+◌, ◌^◌, Bool, true, not, ◌&&◌, List, [], ◌∷◌, ◌++◌, eqb, cond, refl, ℤ, ◌==◌, nat_le, nat_lt, count_by}
 use Rattle.std.specs.List.{list_any, list_all}
 use Rattle.item_defs.specs.Bits.{digit, bits_of}
 use Rattle.base_122.specs.declared.book.Code.{Code}
@@ -18,7 +18,6 @@ use Rattle.plane_defs.specs.Spelled.{option_of, opening, entry_items}
 use Rattle.plane_defs.specs.Entries.{dc_bits, parents, children, grandchildren, refinement, block_entries}
 use Rattle.plane_defs.specs.Steps.{Check, refuses, is_new, is_forced, dc_steps, parents_steps, children_steps, grandchildren_steps, refinement_steps, block_steps}
 use Rattle.plane_defs.specs.Reading.{checked, checked_word, entry_reading}
-use Rattle.plane_defs.specs.Completed.{completed, completed_number}
 use Rattle.std.specs.Prelude.{if◌then◌else◌, ◌==◌}
 
 -- ---- spans
@@ -88,10 +87,6 @@ module _ (block : List ℤ) (weights : List ℕ) (plane : ℕ) where
   unfolding refined
   refined-is p = refl
 
-pub completed-is : (block : List ℤ) (plane : ℕ) (chosen minus : ℕ → Bool) → completed block plane chosen minus ≡ map (completed_number block plane chosen minus) (span 0 64)
-unfolding completed
-completed-is block plane chosen minus = refl
-
 -- ---- stages
 
 module _ (block : List ℤ) (d : ℕ) (weights : List ℕ) (plane q : ℕ) where
@@ -159,22 +154,6 @@ symbol-is length w = refl
 pub live-is : (weights : List ℕ) (plane : ℕ) (s : Set) → live weights plane s ≡ list_any (coded weights plane) (members s)
 unfolding live
 live-is weights plane s = refl
-
-pub enclosing_significant-descendants : (block : List ℤ) (plane : ℕ) → enclosing_significant block plane Descendants ≡ true
-unfolding enclosing_significant
-enclosing_significant-descendants block plane = refl
-
-pub enclosing_significant-family : (block : List ℤ) (plane i : ℕ) → enclosing_significant block plane (Family i) ≡ set_significant block plane Descendants
-unfolding enclosing_significant
-enclosing_significant-family block plane i = refl
-
-pub enclosing_significant-grandchildren : (block : List ℤ) (plane i : ℕ) → enclosing_significant block plane (Grandchildren i) ≡ set_significant block plane (Family i)
-unfolding enclosing_significant
-enclosing_significant-grandchildren block plane i = refl
-
-pub enclosing_significant-quad : (block : List ℤ) (plane i j : ℕ) → enclosing_significant block plane (Quad i j) ≡ set_significant block plane (Grandchildren i)
-unfolding enclosing_significant
-enclosing_significant-quad block plane i j = refl
 
 pub entry_items-bit : (book : Book) (options : List ℕ) (before : List Entry) (bit : Bool) → entry_items book options before (Bit bit) ≡ raw (digit bit) ∷ []
 unfolding entry_items

@@ -3,12 +3,12 @@ use Rattle.std.proofs.Common.{◌≡◌, ℕ, ◌+◌, ◌<◌, Bool, true, fals
 use Rattle.std.specs.List.{list_any}
 use Rattle.std.proofs.lemmas.Bool.{and_parts, eqb-true, both_ways}
 use Rattle.plane_defs.specs.declared.sets.Set.{Set}
-use Rattle.plane_defs.specs.Sets.{significant, members, set_significant, type_due}
+use Rattle.plane_defs.specs.Sets.{members, set_significant, type_due}
 use Rattle.plane_defs.specs.StepLaws.{IsAc}
 use Rattle.plane_defs.specs.Completed.{completed, MayComplete}
-use Rattle.plane_defs.specs.Choosing.{chosen_anew, AreApart, AreFree, ChosenAs, FlagsFree, typed_anew, TypesFree}
-use Rattle.plane_defs.proofs.Completing.{completes, live_member, due_above}
-use Rattle.plane_defs.proofs.Chosen.{before, as_asked}
+use Rattle.plane_defs.specs.Choosing.{chosen_anew, AreApart, AreFree}
+use Rattle.plane_defs.proofs.Completing.{completes, live_member}
+use Rattle.plane_defs.proofs.Chosen.{before}
 
 module _ (sets : ℕ → Set) (owner : ℕ → ℕ) (count : ℕ) (block : List ℤ) (weights : List ℕ) (plane : ℕ) (chosen minus free wanted : ℕ → Bool)
     (apart : AreApart sets owner count) (may : MayComplete block weights plane chosen) (are_free : AreFree sets count block weights plane free) where
@@ -48,13 +48,6 @@ module _ (sets : ℕ → Set) (owner : ℕ → ℕ) (count : ℕ) (block : List 
     chosen_due = by_owner (λ p. type_due block weights plane p ≡ true) (λ j e. ((choose j).1 e).1) may.chosen_due;
   }
 
-  as_wanted : (j : ℕ) → free j ≡ true → set_significant (completed block plane other minus) plane (sets j) ≡ wanted j
-  as_wanted j e =
-      let below = are_free.below j e in
-      (completes block weights plane other minus may_other).sets (sets j) (apart.known j below)
-      ∙ ap (λ b. b || list_any other (members (sets j))) (are_free.none_above j e)
-      ∙ as_asked sets owner count free wanted pick chosen j apart below e ((choose j).1 e).2
-
   as_before : (j : ℕ) → j < count → free j ≡ false → set_significant (completed block plane other minus) plane (sets j) ≡ set_significant (completed block plane chosen minus) plane (sets j)
   as_before j below e =
       (completes block weights plane other minus may_other).sets (sets j) (apart.known j below)
@@ -63,40 +56,3 @@ module _ (sets : ℕ → Set) (owner : ℕ → ℕ) (count : ℕ) (block : List 
 
   kept : (p : ℕ) → free (owner p) ≡ false → other p ≡ chosen p
   kept p e = ap (λ b. cond b (wanted (owner p) && (p == pick (owner p))) (chosen p)) e
-
-  pub chosen_as : ChosenAs sets owner count block weights plane chosen minus free wanted
-  chosen_as = record { other = other; may = may_other; elsewhere = kept; wanted_sets = as_wanted; other_sets = as_before }
-
-pub flags_free : FlagsFree
-flags_free sets owner count block weights plane chosen minus free wanted apart may are_free = chosen_as sets owner count block weights plane chosen minus free wanted apart may are_free
-
--- ---- types
-
-pub types_free : TypesFree
-types_free block weights plane chosen minus inside wanted may acs = record { may = may_typed; wanted_types = typed; elsewhere = kept }
-  where
-    split : (P : ℕ → Type 0) → ((p : ℕ) → inside p ≡ true → type_due block weights plane p ≡ true → P p) → ((p : ℕ) → chosen p ≡ true → P p) → (p : ℕ) → typed_anew block weights plane inside wanted chosen p ≡ true → P p
-    split P here before p h = by_place (inside p) refl h
-      where
-        by_place : (b : Bool) → inside p ≡ b → cond b (type_due block weights plane p && wanted p) (chosen p) ≡ true → P p
-        by_place true e h = here p e (and_parts (type_due block weights plane p) (wanted p) h).0
-        by_place false e h = before p h
-
-    may_typed : MayComplete block weights plane (typed_anew block weights plane inside wanted chosen)
-    may_typed = record {
-      whole = may.whole;
-      multiple = may.multiple;
-      none_new = may.none_new;
-      chosen_acs = split IsAc (λ p e due. acs p e) may.chosen_acs;
-      chosen_due = split (λ p. type_due block weights plane p ≡ true) (λ p e due. due) may.chosen_due;
-    }
-
-    kept : (p : ℕ) → inside p ≡ false → typed_anew block weights plane inside wanted chosen p ≡ chosen p
-    kept p e = ap (λ b. cond b (type_due block weights plane p && wanted p) (chosen p)) e
-
-    typed : (p : ℕ) → IsAc p → inside p ≡ true → type_due block weights plane p ≡ true → significant (completed block plane (typed_anew block weights plane inside wanted chosen) minus) plane p ≡ wanted p
-    typed p ac e due =
-        (completes block weights plane (typed_anew block weights plane inside wanted chosen) minus may_typed).here p ac
-        ∙ ap (λ b. b || typed_anew block weights plane inside wanted chosen p) (due_above block weights plane p due)
-        ∙ ap (λ b. cond b (type_due block weights plane p && wanted p) (chosen p)) e
-        ∙ ap (λ b. b && wanted p) due

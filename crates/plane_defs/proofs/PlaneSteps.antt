@@ -1,30 +1,24 @@
 -- Two planes whose AC numbers above are the same have items that step alike; a whole plane that says the same determines its numbers.
-use Rattle.std.proofs.Common.{◌≡◌, ℕ, zero, suc, ◌-◌, ◌*◌, ◌/◌, ◌^◌, ◌<◌, ◌≤◌, inl, inr, min, Bool, true, false, cond, List, [], ◌∷◌, ◌++◌, length, refl, ap, sym, ◌∙◌, subst, arith, ℤ, get_or, add-one, zero-add, nat_lt, pow_mono}
+use Rattle.std.proofs.Common.{◌≡◌, ℕ, zero, suc, ◌-◌, ◌*◌, ◌<◌, min, Bool, true, false, cond, List, [], ◌∷◌, ◌++◌, length, refl, ap, sym, ◌∙◌, subst, arith, ℤ, get_or, add-one, zero-add, nat_lt}
 use Rattle.std.specs.List.{flat_map, AllByRecursion}
-use Rattle.std.proofs.lemmas.Bool.{cases_lt}
-use Rattle.std.proofs.lemmas.Bool.Decides.{nat_tests}
 use Rattle.item_defs.specs.Items.{Item}
-use Rattle.item_defs.specs.Readings.{StepsAlike}
-use Rattle.item_defs.specs.Laws.{said_of}
-use Rattle.item_defs.proofs.ReadingLaws.{steps_append, said_split}
 use Rattle.base_122.specs.declared.book.Book.{Book}
 use Rattle.plane_defs.specs.declared.stages.Stage.{Stage}
 use Rattle.plane_defs.specs.declared.stages.Stage.TheVariants as stages
 use Rattle.plane_defs.specs.declared.entries.Entry.{Entry}
 use Rattle.plane_defs.specs.Spans.{span}
-use Rattle.plane_defs.specs.Sets.{magnitude, significant}
 use Rattle.plane_defs.specs.Entries.{IsEntry, stage_number}
-use Rattle.plane_defs.specs.Steps.{Step, block_steps, parents_steps, children_steps, grandchildren_steps}
-use Rattle.plane_defs.specs.Planes.{Plane, gaggles, of_gaggle, before_stage}
-use Rattle.plane_defs.specs.Reading.{steps_of_block, steps_of_gaggle, gaggle_reading, stage_reading, plane_reading, read_after}
-use Rattle.plane_defs.specs.StepLaws.{entries_of, SameSteps, IsAc, SameAc, AcsAlike}
+use Rattle.plane_defs.specs.Steps.{Step, block_steps, children_steps, grandchildren_steps}
+use Rattle.plane_defs.specs.Planes.{Plane, of_gaggle, before_stage}
+use Rattle.plane_defs.specs.Reading.{steps_of_block, steps_of_gaggle, stage_reading, plane_reading}
+use Rattle.plane_defs.specs.StepLaws.{entries_of, SameSteps, AcsAlike}
 use Rattle.plane_defs.proofs.SpanLists.{flat_map-span-suc}
 use Rattle.plane_defs.proofs.Fitting.{Fit, fit_block}
 use Rattle.plane_defs.proofs.ReadingTexts.{steps_entries, gaggle_entries}
 use Rattle.plane_defs.proofs.Alike.{all_of}
-use Rattle.plane_defs.proofs.Above.{all_append, all_span, all_zip}
-use Rattle.plane_defs.proofs.AlikeSteps.{at_span, flat_steps, flat_parts, dcs_same, parents_same, children_same, grandchildren_same, refinement_same, plane_settles}
-use Rattle.plane_defs.proofs.StepItems.{flat_alike, AreOptionsOf, OptionsAgree, none_agree, Fits, after_alike}
+use Rattle.plane_defs.proofs.Above.{all_append}
+use Rattle.plane_defs.proofs.AlikeSteps.{flat_steps, flat_parts, dcs_same, parents_same, children_same, grandchildren_same, refinement_same}
+use Rattle.plane_defs.proofs.StepItems.{AreOptionsOf, OptionsAgree, Fits}
 
 -- ---- a stage of a block
 
@@ -62,23 +56,6 @@ module _ (u v : List ℤ) (d : ℕ) (weights : List ℕ) (plane q : ℕ) (alike 
       sent false e = tt
   block_same (suc (suc (suc (suc zero)))) below before = sent_same (nat_lt plane d) _ _ (refinement_same u v weights plane alike)
   block_same (suc (suc (suc (suc (suc k))))) below before = absurd (omega arith)
-
-  small_insignificant : (w : List ℤ) (p : ℕ) → d ≤ plane → magnitude w p < 2 ^ d → significant w plane p ≡ false
-  unfolding significant
-  small_insignificant w p deep small = grind (arith, nat_tests, pow_mono)
-
-  pub block_settles : ((p : ℕ) → IsAc p → magnitude u p < 2 ^ d) → ((p : ℕ) → IsAc p → magnitude v p < 2 ^ d) → SaidIn stages.Parents → SaidIn stages.Children → SaidIn stages.Grandchildren → SameAc u v plane
-  unfolding block_steps
-  block_settles small also first second third = sent (nat_lt plane d) refl first second third
-    where
-      deep : (a b : ℕ) → nat_lt a b ≡ false → b ≤ a
-      deep a b e = grind (arith, nat_tests)
-
-      sent : (b : Bool) → nat_lt plane d ≡ b → entries_of (cond b (parents_steps u weights plane) []) ≡ entries_of (cond b (parents_steps v weights plane) []) →
-          entries_of (cond b (children_steps u weights plane) []) ≡ entries_of (cond b (children_steps v weights plane) []) →
-          entries_of (cond b (grandchildren_steps u weights plane) []) ≡ entries_of (cond b (grandchildren_steps v weights plane) []) → SameAc u v plane
-      sent true e a b c = plane_settles u v weights plane alike b c a
-      sent false e a b c = λ p ac. small_insignificant u p (deep plane d e) (small p ac) ∙ sym (small_insignificant v p (deep plane d e) (also p ac))
 
 -- ---- a plane
 
@@ -123,9 +100,6 @@ module _ (book : Book) (o u : ℕ → List ℕ) (known : (g : ℕ) → AreOption
       flat_steps (steps_of_block (plane_with xs) (stage_number k)) (steps_of_block (plane_with ys) (stage_number k)) (rows g)
       (all_same k g below (λ e. plain_parts 2 g (omega arith) (said 2 (omega arith))))
 
-  pub gaggle_fits : (blocks : List (List ℤ)) (stage : Stage) (g : ℕ) → Fits (steps_of_gaggle (plane_with blocks) stage g)
-  gaggle_fits blocks stage g = flat_fits (steps_of_block (plane_with blocks) stage) (λ r. block_fits stage (get_or blocks r []) (get_or depths r 0) weights number q) (rows g)
-
   -- what precedes a stage is the same
   pub sent_before : (k g : ℕ) → ((j : ℕ) → j < k → GaggleSaid j g) → before_stage (plane_with xs) k g ≡ before_stage (plane_with ys) k g
   unfolding span
@@ -147,67 +121,8 @@ module _ (book : Book) (o u : ℕ → List ℕ) (known : (g : ℕ) → AreOption
       ap (λ m. flat_map f (span 0 m)) (sym (add-one k)) ∙ flat_map-span-suc f 0 k ∙ ap (λ m. flat_map f (span 0 k) ++ f m) (zero-add k)
       ∙ ap (λ l. flat_map f (span 0 k) ++ l) (sym (gaggle_entries book o (plane_with blocks) (stage_number k) g))
 
-  -- a stage of a gaggle
-  pub gaggle_both : (k g : ℕ) → k < 5 → Known k g →
-      StepsAlike (gaggle_reading book o (plane_with xs) k g) (gaggle_reading book u (plane_with ys) k g)
-      × (said_of (gaggle_reading book o (plane_with xs) k g) ≡ said_of (gaggle_reading book u (plane_with ys) k g) → Known (suc k) g)
-  gaggle_both k g below known_k =
-      let ss = steps_of_gaggle (plane_with xs) (stage_number k) g in
-      let ts = steps_of_gaggle (plane_with ys) (stage_number k) g in
-      let r = after_alike book (o g) (u g) (known g) (also g) (before_stage (plane_with xs) k g) ss ts known_k.1 (gaggle_same k g below known_k.0) (gaggle_fits xs (stage_number k) g) (gaggle_fits ys (stage_number k) g) in
-      let same : before_stage (plane_with xs) k g ≡ before_stage (plane_with ys) k g = sent_before k g known_k.0 in (
-        subst (λ b. StepsAlike (gaggle_reading book o (plane_with xs) k g) (read_after book (u g) b ts)) same r.0,
-        λ said.
-            let e = r.1 (subst (λ b. said_of (gaggle_reading book o (plane_with xs) k g) ≡ said_of (read_after book (u g) b ts)) (sym same) said) in (
-              λ j lt. below_or_last j k lt (known_k.0 j) e.0,
-              subst (λ b. OptionsAgree b (o g) (u g)) (sym (before_more xs k g)) e.1,
-            ),
-      )
-    where
-      below_or_last : (j k : ℕ) → j < suc k → (j < k → GaggleSaid j g) → GaggleSaid k g → GaggleSaid j g
-      below_or_last j k lt early last = elim (cases_lt j k) [ inl before ↦ early before | inr at ↦ let e : k ≡ j = omega arith in subst (λ n. GaggleSaid n g) e last ]
-
-  stage_both : (k : ℕ) → k < 5 → AllByRecursion (Known k) (span 0 (gaggles (plane_with xs))) →
-      StepsAlike (stage_reading book o (plane_with xs) k) (stage_reading book u (plane_with ys) k)
-      × (said_of (stage_reading book o (plane_with xs) k) ≡ said_of (stage_reading book u (plane_with ys) k) → AllByRecursion (Known (suc k)) (span 0 (gaggles (plane_with xs))))
-  stage_both k below all =
-      flat_alike (gaggle_reading book o (plane_with xs) k) (gaggle_reading book u (plane_with ys) k) (Known (suc k)) (span 0 (gaggles (plane_with xs)))
-      (all_zip {P = Known k} (span 0 (gaggles (plane_with xs))) (λ g known_k. gaggle_both k g below known_k) all)
-
   stages_more : (options : ℕ → List ℕ) (blocks : List (List ℤ)) (n : ℕ) →
       plane_reading book options (plane_with blocks) (suc n) ≡ plane_reading book options (plane_with blocks) n ++ stage_reading book options (plane_with blocks) n
   stages_more options blocks n =
       let f : ℕ → List Item = stage_reading book options (plane_with blocks) in
       ap (λ m. flat_map f (span 0 m)) (sym (add-one n)) ∙ flat_map-span-suc f 0 n ∙ ap (λ m. flat_map f (span 0 n) ++ f m) (zero-add n)
-
-  pub plane_both : (n : ℕ) → n ≤ 5 →
-      StepsAlike (plane_reading book o (plane_with xs) n) (plane_reading book u (plane_with ys) n)
-      × (said_of (plane_reading book o (plane_with xs) n) ≡ said_of (plane_reading book u (plane_with ys) n) → AllByRecursion (Known n) (span 0 (gaggles (plane_with xs))))
-  unfolding span
-  plane_both zero most = (tt, λ said. all_span (Known 0) 0 (gaggles (plane_with xs)) (λ g low high. (λ j lt. absurd (omega arith), none_agree (o g) (u g))))
-  plane_both (suc n) most =
-      let before = plane_both n (omega arith) in
-      let steps : StepsAlike (plane_reading book o (plane_with xs) n ++ stage_reading book o (plane_with xs) n) (plane_reading book u (plane_with ys) n ++ stage_reading book u (plane_with ys) n) =
-      steps_append (plane_reading book o (plane_with xs) n) (plane_reading book u (plane_with ys) n) _ _ before.0 (λ s. (stage_both n (omega arith) (before.1 s)).0) in (
-        subst (λ l. StepsAlike l (plane_reading book u (plane_with ys) (suc n))) (sym (stages_more o xs n))
-            (subst (λ l. StepsAlike (plane_reading book o (plane_with xs) n ++ stage_reading book o (plane_with xs) n) l) (sym (stages_more u ys n)) steps),
-        λ said.
-            let whole : said_of (plane_reading book o (plane_with xs) n ++ stage_reading book o (plane_with xs) n) ≡ said_of (plane_reading book u (plane_with ys) n ++ stage_reading book u (plane_with ys) n) =
-            ap said_of (sym (stages_more o xs n)) ∙ said ∙ ap said_of (stages_more u ys n) in
-            let parts = said_split (plane_reading book o (plane_with xs) n) (plane_reading book u (plane_with ys) n) (stage_reading book o (plane_with xs) n) (stage_reading book u (plane_with ys) n) before.0 whole in
-            (stage_both n (omega arith) (before.1 parts.0)).1 parts.1,
-      )
-
-  -- a whole plane determines which numbers reach it
-  pub numbers_settle : ((r p : ℕ) → IsAc p → magnitude (get_or xs r []) p < 2 ^ get_or depths r 0) → ((r p : ℕ) → IsAc p → magnitude (get_or ys r []) p < 2 ^ get_or depths r 0) →
-      said_of (plane_reading book o (plane_with xs) 5) ≡ said_of (plane_reading book u (plane_with ys) 5) → (r : ℕ) → r < length depths → SameAc (get_or xs r []) (get_or ys r []) number
-  numbers_settle small also_small said r within =
-      let g = r / 16 in
-      let all = (plane_both 5 (omega arith)).1 said in
-      let there : Known 5 g = at_span (Known 5) 0 (gaggles (plane_with xs)) g all (omega arith) (omega arith) in
-      let of : (k : ℕ) → AllByRecursion (BlockSaid k) (rows g) → BlockSaid k r = λ k parts. at_span (BlockSaid k) (16 * g) (min 16 (length depths - 16 * g)) r parts (omega arith) (omega arith) in
-      let children = plain_parts 2 g (omega arith) (there.0 2 (omega arith)) in
-      let grandchildren : AllByRecursion (BlockSaid 3) (rows g) =
-      flat_parts (steps_of_block (plane_with xs) (stage_number 3)) (steps_of_block (plane_with ys) (stage_number 3)) (rows g) (all_same 3 g (omega arith) (λ e. children)) (there.0 3 (omega arith)) in
-      block_settles (get_or xs r []) (get_or ys r []) (get_or depths r 0) weights number q (acs r) (small r) (also_small r)
-      (of 1 (plain_parts 1 g (omega arith) (there.0 1 (omega arith)))) (of 2 children) (of 3 grandchildren)

@@ -63,20 +63,8 @@ words_again (suc (suc (suc zero))) low high = refl
 words_again (suc (suc (suc (suc zero)))) low high = refl
 words_again (suc (suc (suc (suc (suc n))))) low high = absurd (omega arith)
 
-words_below : (n : ℕ) → 2 ≤ n → n ≤ 4 → list_all (λ s. nat_lt (word_of n s) (2 ^ n)) (span 0 (2 ^ n)) ≡ true
-unfolding word_of symbol span ones
-words_below zero low high = absurd (omega arith)
-words_below (suc zero) low high = absurd (omega arith)
-words_below (suc (suc zero)) low high = refl
-words_below (suc (suc (suc zero))) low high = refl
-words_below (suc (suc (suc (suc zero)))) low high = refl
-words_below (suc (suc (suc (suc (suc n))))) low high = absurd (omega arith)
-
 pub symbol-word_of : (n s : ℕ) → 2 ≤ n → n ≤ 4 → s < 2 ^ n → symbol n (word_of n s) ≡ s
 symbol-word_of n s low high lt = eqb-true (symbol n (word_of n s)) s (list_all-span-zero (λ s. symbol n (word_of n s) == s) (2 ^ n) s (words_again n low high) lt)
-
-pub word_of-below : (n s : ℕ) → 2 ≤ n → n ≤ 4 → s < 2 ^ n → word_of n s < 2 ^ n
-word_of-below n s low high lt = ltb-true (word_of n s) (2 ^ n) (list_all-span-zero (λ s. nat_lt (word_of n s) (2 ^ n)) (2 ^ n) s (words_below n low high) lt)
 
 symbols_below : (n : ℕ) → 2 ≤ n → n ≤ 4 → list_all (λ v. nat_lt (symbol n v) (2 ^ n)) (span 0 (2 ^ n)) ≡ true
 unfolding symbol span ones

@@ -1,11 +1,11 @@
 -- Blocks that complete a reading: if a set is significant and none of its members was read so, some member that was not read yet
 -- is made significant in the plane. (this project's own)
-use Rattle.std.specs.Prelude.{◌≡◌, ◌<◌, ℕ, ◌+◌, ◌-◌, ◌^◌, ℤ, pos, negsuc, Bool, true, ◌||◌, ◌==◌, if◌then◌else◌, List, map, length}
+use Rattle.std.specs.Prelude.{◌≡◌, ◌<◌, ℕ, ◌+◌, ◌-◌, ◌^◌, ℤ, pos, negsuc, Bool, true, ◌||◌, if◌then◌else◌, List, map, length}
 use Rattle.std.specs.List.{list_any}
 use lib.ListN.{get_or}
 use Rattle.plane_defs.specs.declared.sets.Set.{Set}
 use Rattle.plane_defs.specs.Spans.{span}
-use Rattle.plane_defs.specs.Sets.{magnitude, significant, members, set_significant, live, type_due, IsKnown}
+use Rattle.plane_defs.specs.Sets.{magnitude, significant, members, set_significant, type_due, IsKnown}
 use Rattle.plane_defs.specs.Laws.{IsMultiple}
 use Rattle.plane_defs.specs.StepLaws.{IsAc, SameAc}
 
@@ -34,10 +34,3 @@ pub record Completes (block : List ℤ) (weights : List ℕ) (plane : ℕ) (chos
   pub here : (p : ℕ) → IsAc p → significant new plane p ≡ (significant block (plane + 1) p || chosen p)
   pub sets : (s : Set) → IsKnown s → set_significant new plane s ≡ (set_significant block (plane + 1) s || list_any chosen (members s))
   pub below : (d p : ℕ) → plane < d → IsAc p → magnitude block p < 2 ^ d → magnitude new p < 2 ^ d
-
-pub record CompletionLaws : Type 0 where
-  pub completes : (block : List ℤ) (weights : List ℕ) (plane : ℕ) (chosen minus : ℕ → Bool) → MayComplete block weights plane chosen →
-      Completes block weights plane chosen minus (completed block plane chosen minus)
-  -- a set that is live and not significant above has a member whose type is due
-  pub member : (block : List ℤ) (weights : List ℕ) (plane : ℕ) (s : Set) → IsKnown s → live weights plane s ≡ true → (set_significant block (plane + 1) s ≡ true → ⊥) →
-      (p : ℕ) × IsAc p × (type_due block weights plane p ≡ true) × (list_any (λ q. q == p) (members s) ≡ true)

@@ -12,3 +12,12 @@ pub mod Reading
 pub mod StepLaws
 pub mod Completed
 pub mod Choosing
+pub mod States
+pub mod WordScripts
+pub mod StageScripts
+pub mod PlaneScript
+pub mod Worked
+pub mod ScriptLaws
+pub mod Written
+pub mod Back
+pub mod Cuts

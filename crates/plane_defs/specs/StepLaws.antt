@@ -1,19 +1,16 @@
 -- What reading needs of a plane's steps: what was said before in a plane determines each step's kind, its length, the words that
 -- are refused there and what it reports. Of the numbers above the plane only the AC numbers matter. (this project's own)
 use Rattle.std.specs.Prelude.{◌≡◌, ◌<◌, ◌≤◌, ℕ, ◌+◌, ℤ, pos, true, false, List, [], ◌∷◌, map}
-use Rattle.std.specs.List.{AllByRecursion}
 use Rattle.plane_defs.specs.declared.entries.Entry.{Entry}
 use Rattle.plane_defs.specs.declared.entries.Entry.TheVariants.{Bit, Word}
 use lib.ListN.{get_or}
 use Rattle.item_defs.specs.Bits.{bit}
 use Rattle.base_122.specs.declared.book.Book.{Book}
-use Rattle.plane_defs.specs.declared.sets.Set.TheVariants.{Family, Grandchildren}
-use Rattle.plane_defs.specs.Spans.{span}
-use Rattle.plane_defs.specs.Sets.{magnitude, significant, live, children_of}
-use Rattle.plane_defs.specs.Entries.{negative, twos_bit, types}
+use Rattle.plane_defs.specs.Sets.{magnitude, significant}
+use Rattle.plane_defs.specs.Entries.{negative, twos_bit}
 use Rattle.plane_defs.specs.Reading.{plane_reading}
 use Rattle.plane_defs.specs.Laws.{IsMultiple}
-use Rattle.plane_defs.specs.Steps.{is_new, Step, refuses, dc_steps, parents_steps, children_steps, grandchildren_steps, refinement_steps}
+use Rattle.plane_defs.specs.Steps.{Step, refuses}
 
 abbrev pub entry_of : Step → Entry
 entry_of s = s.entry
@@ -56,29 +53,6 @@ value_of_entry (Word bits) = bits.value
 
 abbrev pub IsAllowed : Step → Type 0
 IsAllowed s = refuses s.check (value_of_entry s.entry) ≡ false
-
-pub record StepsSettle : Type 0 where
-  pub dcs : (u v : List ℤ) (weights : List ℕ) (plane q : ℕ) → SameSteps (dc_steps u weights plane q) (dc_steps v weights plane q)
-  pub parents : (u v : List ℤ) (weights : List ℕ) (plane : ℕ) → AcsAlike u v weights plane → SameSteps (parents_steps u weights plane) (parents_steps v weights plane)
-  pub children : (u v : List ℤ) (weights : List ℕ) (plane : ℕ) → AcsAlike u v weights plane → SameSteps (children_steps u weights plane) (children_steps v weights plane)
-  -- the stage of the children determines what the stage of the grandchildren depends on
-  pub grandchildren : (u v : List ℤ) (weights : List ℕ) (plane : ℕ) → AcsAlike u v weights plane →
-      entries_of (children_steps u weights plane) ≡ entries_of (children_steps v weights plane) →
-      SameSteps (grandchildren_steps u weights plane) (grandchildren_steps v weights plane)
-  pub refinement : (u v : List ℤ) (weights : List ℕ) (plane : ℕ) → AcsAlike u v weights plane → SameSteps (refinement_steps u weights plane) (refinement_steps v weights plane)
-  -- the stages determine which numbers reach this plane
-  pub plane : (u v : List ℤ) (weights : List ℕ) (plane : ℕ) → AcsAlike u v weights plane →
-      entries_of (parents_steps u weights plane) ≡ entries_of (parents_steps v weights plane) →
-      entries_of (children_steps u weights plane) ≡ entries_of (children_steps v weights plane) →
-      entries_of (grandchildren_steps u weights plane) ≡ entries_of (grandchildren_steps v weights plane) → SameAc u v plane
-
--- no block's own words are refused
-pub record StepsAllowed : Type 0 where
-  pub children : (block : List ℤ) (weights : List ℕ) (plane : ℕ) → IsMultiple block weights → AllByRecursion IsAllowed (children_steps block weights plane)
-  pub grandchildren : (block : List ℤ) (weights : List ℕ) (plane : ℕ) → IsMultiple block weights → AllByRecursion IsAllowed (grandchildren_steps block weights plane)
-  -- if one of the types of a new family's children must be 1, some are due
-  pub some_due : (block : List ℤ) (weights : List ℕ) (plane i : ℕ) → IsMultiple block weights → i < 3 →
-      is_new block plane (Family i) ≡ true → live weights plane (Grandchildren i) ≡ false → types block weights plane (span (children_of i) 4) ≡ [] → ⊥
 
 -- two blocks that are the same in a plane: the AC numbers that reach it and the plane above, the signs and bits there, and the
 -- DC's bit

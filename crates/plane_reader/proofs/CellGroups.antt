@@ -36,7 +36,12 @@ module _ (a b : List ℤ) (groups : length a % 15360 ≡ 0) where
   pub mask_left : (r s : ℕ) → 64 * r < length a → s < 32 → mask_in (a ++ b) r s ≡ mask_in a r s
   unfolding mask_in
   mask_left r s known few =
-      ap (mask_from (a ++ b)) (place_left r s known) ∙ from_left (place (length a / 64) r s) (omega (arith, groups, place_within (length a / 64) r s (omega (arith, known, groups)) few))
+      ap (mask_from (a ++ b)) (place_left r s known) ∙ from_left (place (length a / 64) r s) (omega (
+        arith,
+        groups,
+        place_within
+            (length a / 64) r s (omega (arith, known, groups)) few,
+      ))
 
   pub mask_right : (r s : ℕ) → mask_in (a ++ b) (length a / 64 + r) s ≡ mask_in b r s
   unfolding mask_in
@@ -47,12 +52,20 @@ module _ (a b : List ℤ) (groups : length a % 15360 ≡ 0) where
   numbers_append = ext_get_or (pos 0) (numbers_in (a ++ b)) (numbers_in a ++ numbers_in b) long each
     where
       long : length (numbers_in (a ++ b)) ≡ length (numbers_in a ++ numbers_in b)
-      long = length-numbers_in (a ++ b) ∙ omega (arith, length-append a b, length-append (numbers_in a) (numbers_in b), length-numbers_in a, length-numbers_in b)
+      long = length-numbers_in (a ++ b) ∙ omega (
+        arith,
+        length-append a b,
+        length-append (numbers_in a) (numbers_in b),
+        length-numbers_in a,
+        length-numbers_in
+            b,
+      )
 
       each : (i : ℕ) → i < length (numbers_in (a ++ b)) → get_or (numbers_in (a ++ b)) i (pos 0) ≡ get_or (numbers_in a ++ numbers_in b) i (pos 0)
       each i lt = elim (cases_lt i (length a)) [
         | inl low ↦
-            number_at (a ++ b) i (omega (arith, low, length-append a b)) ∙ same_number (a ++ b) a (i / 64) (i / 64) (i % 64) (λ s few other. mask_left (i / 64) s (omega (arith, low)) few) ∙ sym (number_at a i low) ∙
+            number_at (a ++ b) i (omega (arith, low, length-append a b)) ∙ same_number (a ++ b) a (i / 64) (i / 64) (i % 64) (λ s few other. mask_left
+            (i / 64) s (omega (arith, low)) few) ∙ sym (number_at a i low) ∙
             sym (get_or_append_left (numbers_in a) (numbers_in b) (pos 0) i (omega (arith, low, length-numbers_in a)))
         | inr high ↦
             let j : ℕ = i - length a in
@@ -61,7 +74,8 @@ module _ (a b : List ℤ) (groups : length a % 15360 ≡ 0) where
             let d : i / 64 ≡ length a / 64 + j / 64 = omega (arith, groups, high) in
             let m : i % 64 ≡ j % 64 = omega (arith, groups, high) in
             let at : i ≡ length (numbers_in a) + j = omega (arith, high, length-numbers_in a) in
-            number_at (a ++ b) i (omega (arith, lt, length-numbers_in (a ++ b))) ∙ ap (λ n. number_in (a ++ b) n (i % 64)) d ∙ ap (number_in (a ++ b) (length a / 64 + j / 64)) m ∙
+            number_at (a ++ b) i (omega (arith, lt, length-numbers_in (a ++ b))) ∙ ap (λ n. number_in (a ++ b) n (i % 64)) d ∙ ap (number_in
+            (a ++ b) (length a / 64 + j / 64)) m ∙
             same_number (a ++ b) b (length a / 64 + j / 64) (j / 64) (j % 64) (λ s few other. mask_right (j / 64) s) ∙ sym (number_at b j within) ∙
             sym (ap (λ n. get_or (numbers_in a ++ numbers_in b) n (pos 0)) at ∙ get_or-append-add (numbers_in a) (numbers_in b) j (pos 0))
       ]
@@ -83,4 +97,5 @@ put_long g n e now part ends within size =
     )
 
 pub drop_then : (g n e : ℕ) (old now : List ℤ) → e ≡ 15360 * g + n → drop (15360 * g) now ≡ drop (15360 * g) old → drop e now ≡ drop e old
-drop_then g n e old now ends rest = ap (λ k. drop k now) ends ∙ sym (drop-drop n (15360 * g) now) ∙ ap (drop n) rest ∙ drop-drop n (15360 * g) old ∙ ap (λ k. drop k old) (sym ends)
+drop_then g n e old now ends rest = ap (λ k. drop k now) ends ∙ sym (drop-drop n (15360 * g) now) ∙ ap (drop n) rest ∙ drop-drop n (15360 * g) old ∙
+    ap (λ k. drop k old) (sym ends)

@@ -1,62 +1,45 @@
-pub mod PlaneItems
-pub mod PlaneStands
-pub mod PlaneSteps
-pub mod PlaneStart
-pub mod PlaneStop
-pub mod GaggleMarks
-pub mod BitsTwice
-pub mod CellNumbers
-pub mod ApplyCells
-pub mod SettledCells
-pub mod CellGroups
+pub mod BlockReads
+pub mod ChildReads
+pub mod CodeReads
+pub mod DealReads
+pub mod DueSets
+pub mod FoundMasks
+pub mod Frames
+pub mod GaggleEnds
+pub mod GaggleReads
+pub mod GrandchildReads
+pub mod HeldGroups
+pub mod SentGroups
+pub mod SetMarks
+pub mod HeldReads
+pub mod HeldStates
+pub mod HeldTypes
+pub mod HeldWords
+pub mod NothingDue
+pub mod PlaceReads
+pub mod RefineReads
+pub mod EntryTables
+pub mod SignLoop
+pub mod SignReads
+pub mod SmallTests
+pub mod TypeReads
+pub mod WindowParts
+pub mod WindowWords
+pub mod WordReads
+pub mod ScriptKeeps
+pub mod StageKeeps
 pub mod SlicedCells
 pub mod JoinedCells
-pub mod GaggleSteps
-pub mod GaggleStages
-pub mod PlaneEnds
-pub mod WordReading
-pub mod PieceLaws
-pub mod StepReading
-pub mod StepPieces
-mod BitPieces
-pub mod DueReading
-pub mod WordPieces
-pub mod WordTests
-pub mod FoundMasks
-pub mod IndexPieces
-pub mod SignPieces
-mod SignsPassed
-mod SignWindows
-mod RefineWindows
-mod GroupsPassed
-pub mod TypePieces
-pub mod GroupPieces
-pub mod FoundPieces
-pub mod SetFacts
-pub mod ChildPieces
-mod Dealing
-mod NothingDue
-mod SentGroups
-pub mod RefinePieces
-pub mod DcBitPieces
-pub mod ChildStage
-pub mod ChildCalls
-pub mod ToldNumbers
-pub mod ToldBlocks
-pub mod ApplyNumbers
-pub mod ToldSigns
-pub mod ToldDc
-pub mod ToldFurther
-pub mod GrandchildFacts
-pub mod QuadPieces
-pub mod QuietStage
-pub mod GrandchildPieces
-pub mod GrandchildFlags
-pub mod BlockWords
-pub mod MarkWords
-pub mod DeepStage
-pub mod DcStage
-pub mod BlockStage
-mod Shadows
-mod TypesAtHand
-mod GroupsRead
+pub mod NumberLanes
+pub mod CellGroups
+pub mod DcSums
+pub mod DeepLanes
+pub mod PlaneStates
+pub mod CellNumbers
+pub mod DcReads
+pub mod ClearStates
+pub mod StageReads
+pub mod PlaneReads
+pub mod PlanesReads
+mod PartLanes
+mod NumbersJoined

@@ -16,7 +16,7 @@ use Rattle.block_masks.specs.MaskedNumbers.{size_in}
 use Rattle.block_masks.proofs.SliceNumbers.{ac_number, dc_number, length-numbers_in, number_at}
 use Rattle.block_masks.proofs.MaskedNumbers.{size_in-is}
 use Rattle.plane_reader.specs.Above.{AreReady, HasNoAcs}
-use Rattle.plane_reader.specs.Joined.{HasOnlyDcs}
+use Rattle.plane_reader.specs.Joined.{AreBelow, HasOnlyDcs}
 use Rattle.plane_reader.proofs.CellGroups.{mask_left, mask_right, numbers_append, put_long, drop_then}
 
 -- ---- the DC numbers of a group
@@ -29,16 +29,22 @@ pub record Lifts (b : ℕ) (old now dcs : List ℤ) : Type 0 where
   pub later : (i : ℕ) → 64 * b ≤ i → get_or now i (pos 0) ≡ get_or old i (pos 0)
   pub others : (i : ℕ) → (i % 64 ≡ 0 → ⊥) → get_or now i (pos 0) ≡ get_or old i (pos 0)
 
-pub lifts_more : {b : ℕ} {old now dcs : List ℤ} → 64 * b < length old → b < 240 → Lifts b old now dcs → Lifts (b + 1) old (set now (64 * b) (pos 0)) (set dcs b (get_or now (64 * b) (pos 0)))
+pub lifts_more : {b : ℕ} {old now dcs : List ℤ} → 64 * b < length old → b < 240 → Lifts b old now dcs →
+    Lifts (b + 1) old (set now (64 * b) (pos 0)) (set dcs b (get_or now (64 * b) (pos 0)))
 lifts_more {b} {old} {now} {dcs} within low l = record {
   long = length-set now (64 * b) (pos 0) ∙ l.long;
   size = length-set dcs b _ ∙ l.size;
   told = λ q lt. elim (cases_eq q b) [
-    | inl e ↦ subst (λ k. get_or (set dcs b (get_or now (64 * b) (pos 0))) k (pos 0) ≡ get_or old (64 * k) (pos 0)) (sym e) (get_or-set_same dcs b (get_or now (64 * b) (pos 0)) (pos 0) (omega (arith, low, l.size)) ∙ l.later (64 * b) (omega arith))
+    | inl e ↦ subst (λ k. get_or (set dcs b (get_or now (64 * b) (pos 0))) k (pos 0) ≡ get_or old (64 * k) (pos 0)) (sym e) (get_or-set_same dcs b (get_or now
+        (64 * b) (pos 0)) (pos 0) (omega (arith, low, l.size)) ∙ l.later (64 * b) (omega arith))
     | inr apart ↦ get_or-set_other dcs b q (get_or now (64 * b) (pos 0)) (pos 0) apart ∙ l.told q (omega (arith, lt, apart))
   ];
   gone = λ q lt. elim (cases_eq q b) [
-    | inl e ↦ subst (λ k. get_or (set now (64 * b) (pos 0)) (64 * k) (pos 0) ≡ pos 0) (sym e) (get_or-set_same now (64 * b) (pos 0) (pos 0) (omega (arith, within, l.long)))
+    | inl e ↦ subst (λ k. get_or (set now (64 * b) (pos 0)) (64 * k) (pos 0) ≡ pos 0) (sym e) (get_or-set_same now (64 * b) (pos 0) (pos 0) (omega (
+      arith,
+      within,
+      l.long,
+    )))
     | inr apart ↦ get_or-set_other now (64 * b) (64 * q) (pos 0) (pos 0) (λ e. apart (omega (arith, e))) ∙ l.gone q (omega (arith, lt, apart))
   ];
   later = λ i le. get_or-set_other now (64 * b) i (pos 0) (pos 0) (λ e. omega (arith, e, le)) ∙ l.later i (omega (arith, le));
@@ -46,11 +52,17 @@ lifts_more {b} {old} {now} {dcs} within low l = record {
 }
 
 -- nothing is left of a group without AC numbers
-pub none_left : (old now : List ℤ) → length old % 64 ≡ 0 → length now ≡ length old → ((b : ℕ) → 64 * b + 63 < length old → get_or now (64 * b) (pos 0) ≡ pos 0) → ((i : ℕ) → (i % 64 ≡ 0 → ⊥) → get_or now i (pos 0) ≡ get_or old i (pos 0)) →
+pub none_left : (old now : List ℤ) → length old % 64 ≡ 0 → length now ≡ length old → ((b : ℕ) → 64 * b + 63 < length old →
+    get_or now (64 * b) (pos 0) ≡ pos 0) → ((i : ℕ) → (i % 64 ≡ 0 → ⊥) → get_or now i (pos 0) ≡ get_or old i (pos 0)) →
     ((i : ℕ) → (i % 64 ≡ 0 → ⊥) → get_or old i (pos 0) ≡ pos 0) → (i : ℕ) → get_or now i (pos 0) ≡ pos 0
 none_left old now whole long gone others no_acs i = elim (cases_lt i (length old)) [
   | inl lt ↦ elim (cases_eq (i % 64) 0) [
-    | inl e ↦ let there : i ≡ 64 * (i / 64) = omega (arith, e) in subst (λ k. get_or now k (pos 0) ≡ pos 0) (sym there) (gone (i / 64) (omega (arith, lt, whole, there)))
+    | inl e ↦ let there : i ≡ 64 * (i / 64) = omega (arith, e) in subst (λ k. get_or now k (pos 0) ≡ pos 0) (sym there) (gone (i / 64) (omega (
+      arith,
+      lt,
+      whole,
+      there,
+    )))
     | inr apart ↦ others i apart ∙ no_acs i apart
   ]
   | inr past ↦ get_or_past now i (pos 0) (omega (arith, past, long))
@@ -67,12 +79,15 @@ pub record HasDcs (b : ℕ) (old dcs now : List ℤ) : Type 0 where
   pub told : (q : ℕ) → q < b → cast_signed w32 (mask_in now q dc_slot % 2 ^ 32) ≡ get_or dcs q (pos 0)
   pub others : (q s : ℕ) → 64 * q < length old → s < 32 → (s ≡ dc_slot → ⊥) → mask_in now q s ≡ 0
 
-pub has_more : {b mask : ℕ} {old dcs now new : List ℤ} → 64 * b < length old → HasDcs b old dcs now → PutsMask b dc_slot mask now new → cast_signed w32 (mask % 2 ^ 32) ≡ get_or dcs b (pos 0) → HasDcs (b + 1) old dcs new
+pub has_more : {b mask : ℕ} {old dcs now new : List ℤ} → 64 * b < length old → HasDcs b old dcs now → PutsMask b dc_slot mask now new →
+    cast_signed w32 (mask % 2 ^ 32) ≡ get_or dcs b (pos 0) → HasDcs (b + 1) old dcs new
 has_more {b} {mask} {old} {dcs} {now} {new} within h put is = record {
   long = put.long ∙ h.long;
   told = λ q lt. elim (cases_eq q b) [
-    | inl e ↦ subst (λ k. cast_signed w32 (mask_in new k dc_slot % 2 ^ 32) ≡ get_or dcs k (pos 0)) (sym e) (ap (λ m. cast_signed w32 (m % 2 ^ 32)) put.here ∙ is)
-    | inr apart ↦ ap (λ m. cast_signed w32 (m % 2 ^ 32)) (put.other_blocks q dc_slot (omega (arith, lt, within, h.long)) (omega arith) apart) ∙ h.told q (omega (arith, lt, apart))
+    | inl e ↦ subst (λ k. cast_signed w32 (mask_in new k dc_slot % 2 ^ 32) ≡ get_or dcs k (pos 0)) (sym e) (ap (λ m. cast_signed w32 (m % 2 ^ 32)) put.here ∙
+        is)
+    | inr apart ↦ ap (λ m. cast_signed w32 (m % 2 ^ 32)) (put.other_blocks q dc_slot (omega (arith, lt, within, h.long)) (omega arith) apart) ∙
+        h.told q (omega (arith, lt, apart))
   ];
   others = λ q s there few other. elim (cases_eq q b) [
     | inl e ↦ subst (λ k. mask_in new k s ≡ 0) (sym e) (put.other_slots s few other ∙ h.others b s within few other)
@@ -86,18 +101,28 @@ none_there k = ap (λ n. n == 1) (bit_at_above 0 0 k (omega arith) (omega arith)
 -- an AC number of empty masks
 pub only_zero : (cells : List ℤ) (r k : ℕ) → HasOnlyDcs cells → 64 * r < length cells → 1 ≤ k → number_in cells r k ≡ pos 0
 only_zero cells r k only known first =
-    let size : size_in (mask_in cells r) k ≡ 0 = size_in-is (mask_in cells r) k 0 (omega arith) (λ p lt. ap (λ m. bit m k) (only.others r p known (omega (arith, lt)) (λ e. omega (arith, e, lt))) ∙ none_there k ∙ sym (none_there p)) in
-    let minus : bit (mask_in cells r minus_slot) k ≡ false = ap (λ m. bit m k) (only.others r minus_slot known (omega arith) (λ e. omega (arith, e))) ∙ none_there k in
+    let size : size_in (mask_in cells r) k ≡ 0 = size_in-is (mask_in cells r) k 0 (omega arith) (λ p lt. ap (λ m. bit m k) (only.others r p known (omega
+    (arith, lt)) (λ e. omega (arith, e, lt))) ∙ none_there k ∙ sym (none_there p)) in
+    let minus : bit (mask_in cells r minus_slot) k ≡ false = ap (λ m. bit m k) (only.others r minus_slot known (omega arith) (λ e. omega (arith, e))) ∙
+    none_there k in
     ac_number cells r k first ∙ rw (minus, size) refl
 
-pub group_numbers : (old now dcs : List ℤ) → length old % 64 ≡ 0 → length now ≡ length old → HasOnlyDcs now → ((b : ℕ) → 64 * b < length now → cast_signed w32 (mask_in now b dc_slot % 2 ^ 32) ≡ get_or dcs b (pos 0)) →
-    ((b : ℕ) → 64 * b + 63 < length old → get_or dcs b (pos 0) ≡ get_or old (64 * b) (pos 0)) → ((i : ℕ) → (i % 64 ≡ 0 → ⊥) → get_or old i (pos 0) ≡ pos 0) → numbers_in now ≡ old
+pub group_numbers : (old now dcs : List ℤ) → length old % 64 ≡ 0 → length now ≡ length old → HasOnlyDcs now → ((b : ℕ) → 64 * b < length now →
+    cast_signed w32 (mask_in now b dc_slot % 2 ^ 32) ≡ get_or dcs b (pos 0)) →
+    ((b : ℕ) → 64 * b + 63 < length old → get_or dcs b (pos 0) ≡ get_or old (64 * b) (pos 0)) → ((i : ℕ) → (i % 64 ≡ 0 → ⊥) → get_or old i (pos 0) ≡ pos 0) →
+    numbers_in now ≡ old
 group_numbers old now dcs whole long only told was no_acs = ext_get_or (pos 0) (numbers_in now) old (length-numbers_in now ∙ long) (λ i lt.
     let within : i < length now = omega (arith, lt, length-numbers_in now) in
     number_at now i within ∙ elim (cases_eq (i % 64) 0) [
       | inl e ↦
           let there : i ≡ 64 * (i / 64) = omega (arith, e) in
-          ap (number_in now (i / 64)) e ∙ dc_number now (i / 64) ∙ told (i / 64) (omega (arith, within)) ∙ was (i / 64) (omega (arith, within, whole, long, there)) ∙ ap (λ k. get_or old k (pos 0)) (sym there)
+          ap (number_in now (i / 64)) e ∙ dc_number now (i / 64) ∙ told (i / 64) (omega (arith, within)) ∙ was (i / 64) (omega (
+            arith,
+            within,
+            whole,
+            long,
+            there,
+          )) ∙ ap (λ k. get_or old k (pos 0)) (sym there)
       | inr apart ↦ only_zero now (i / 64) (i % 64) only (omega (arith, within)) (omega (arith, apart)) ∙ sym (no_acs i apart)
     ])
 
@@ -115,18 +140,30 @@ only_both a b groups p q = record {
     | inl low ↦ mask_left a b groups r s low few ∙ p.others r s low few other
     | inr high ↦
         let there : r ≡ length a / 64 + (r - length a / 64) = omega (arith, high, groups) in
-        ap (λ n. mask_in (a ++ b) n s) there ∙ mask_right a b groups (r - length a / 64) s ∙ q.others (r - length a / 64) s (omega (arith, high, groups, known, length-append a b)) few other
+        ap (λ n. mask_in (a ++ b) n s) there ∙ mask_right a b groups (r - length a / 64) s ∙ q.others (r - length a / 64) s (omega (
+          arith,
+          high,
+          groups,
+          known,
+          length-append a b,
+        )) few other
   ];
 }
 
-pub sliced_more : (g n e : ℕ) {old now part : List ℤ} → e ≡ 15360 * g + n → e ≤ length old → length part ≡ n → SlicedTo (15360 * g) old now → numbers_in part ≡ take n (drop (15360 * g) now) → HasOnlyDcs part → SlicedTo e old (put_mid (15360 * g) n now part)
+pub sliced_more : (g n e : ℕ) {old now part : List ℤ} → e ≡ 15360 * g + n → e ≤ length old → length part ≡ n → SlicedTo (15360 * g) old now → numbers_in
+    part ≡ take n (drop (15360 * g) now) → HasOnlyDcs part → SlicedTo e old (put_mid (15360 * g) n now part)
 sliced_more g n e {old} {now} {part} ends within size s told only =
     let inside : 15360 * g ≤ length now = omega (arith, ends, within, s.long) in
     let groups : length (take (15360 * g) now) % 15360 ≡ 0 = omega (arith, length-take-le (15360 * g) now inside) in
-    let here : take e (put_mid (15360 * g) n now part) ≡ take (15360 * g) now ++ part = take-put_mid (15360 * g) n now part e (omega (arith, ends, size)) inside in
+    let here : take e (put_mid (15360 * g) n now part) ≡ take (15360 * g) now ++ part = take-put_mid (15360 * g) n now part e (omega (
+      arith,
+      ends,
+      size,
+    )) inside in
     record {
       long = put_long g n e now part ends (omega (arith, within, s.long)) size ∙ s.long;
-      front = ap numbers_in here ∙ numbers_append (take (15360 * g) now) part groups ∙ ap (λ l. l ++ numbers_in part) s.front ∙ ap (λ l. take (15360 * g) old ++ l) (told ∙ ap (take n) s.rest) ∙
+      front = ap numbers_in here ∙ numbers_append (take (15360 * g) now) part groups ∙ ap (λ l. l ++ numbers_in part) s.front ∙
+          ap (λ l. take (15360 * g) old ++ l) (told ∙ ap (take n) s.rest) ∙
           sym (take-add (15360 * g) n old) ∙ ap (λ k. take k old) (sym ends);
       only = subst HasOnlyDcs (sym here) (only_both (take (15360 * g) now) part groups s.only only);
       rest = drop-put_mid (15360 * g) n now part e (omega (arith, ends)) inside size ∙ drop_then g n e old now ends s.rest;
@@ -138,7 +175,9 @@ pub only_ready : (old cells : List ℤ) → numbers_in cells ≡ old → HasOnly
 unfolding significant
 only_ready old cells are only no_acs plane = record {
   signed = λ r p known ac e. absurd (apart (sym e ∙ ap (λ m. bit m p) (only.others r minus_slot known (omega arith) (λ e. omega (arith, e))) ∙ none_there p));
-  above = λ r p known ac. ap (λ m. bit m p) (only.others r above_slot known (omega arith) (λ e. omega (arith, e))) ∙ none_there p ∙ sym (ap (λ b. significant (block_at b r) plane p) are ∙ small r p (no_acs r p (omega (arith, known, ap length are, length-numbers_in cells)) ac));
+  above = λ r p known ac. ap (λ m. bit m p) (only.others r above_slot known (omega arith) (λ e. omega (arith, e))) ∙ none_there p ∙
+      sym (ap (λ b. significant (block_at b r) plane p) are ∙ small r p (no_acs r p (omega (arith, known, ap length are, length-numbers_in cells)) ac));
+  empty = λ r slot p known less few ac. ap (λ m. bit m p) (only.others r slot known (omega (arith, few)) (λ e. omega (arith, e, few))) ∙ none_there p;
 }
   where
     apart : true ≡ false → ⊥
@@ -150,20 +189,26 @@ only_ready old cells are only no_acs plane = record {
     small : (r p : ℕ) → get_or (block_at old r) p (pos 0) ≡ pos 0 → significant (block_at old r) plane p ≡ false
     small r p e = ap (λ z. nat_le (2 ^ plane) (unsigned_abs z)) e ∙ no (2 ^ plane) (pow_pos plane)
 
+pub only_below : (cells : List ℤ) → HasOnlyDcs cells → (planes : ℕ) → AreBelow planes cells
+only_below cells only planes r slot known le few = only.others r slot known (omega (arith, few)) (λ e. omega (arith, e, few))
+
 -- AC numbers by their places
 pub flat_acs : (blocks : List ℤ) → length blocks % 64 ≡ 0 → HasNoAcs blocks → (i : ℕ) → (i % 64 ≡ 0 → ⊥) → get_or blocks i (pos 0) ≡ pos 0
 flat_acs blocks whole no_acs i apart = elim (cases_lt i (length blocks)) [
   | inl lt ↦
       let there : i ≡ 64 * (i / 64) + i % 64 = omega arith in
-      ap (λ k. get_or blocks k (pos 0)) there ∙ sym (get_or-take 64 (drop (64 * (i / 64)) blocks) (i % 64) (pos 0) (omega arith) ∙ get_or-drop (64 * (i / 64)) blocks (i % 64) (pos 0)) ∙
+      ap (λ k. get_or blocks k (pos 0)) there ∙ sym (get_or-take 64 (drop (64 * (i / 64)) blocks) (i % 64) (pos 0) (omega arith) ∙
+      get_or-drop (64 * (i / 64)) blocks (i % 64) (pos 0)) ∙
       no_acs (i / 64) (i % 64) (omega (arith, lt)) (omega (arith, apart), omega arith)
   | inr past ↦ get_or_past blocks i (pos 0) past
 ]
 
 -- those of a group
-pub part_acs : (blocks : List ℤ) (g n : ℕ) → ((i : ℕ) → (i % 64 ≡ 0 → ⊥) → get_or blocks i (pos 0) ≡ pos 0) → (i : ℕ) → (i % 64 ≡ 0 → ⊥) → get_or (take n (drop (15360 * g) blocks)) i (pos 0) ≡ pos 0
+pub part_acs : (blocks : List ℤ) (g n : ℕ) → ((i : ℕ) → (i % 64 ≡ 0 → ⊥) → get_or blocks i (pos 0) ≡ pos 0) → (i : ℕ) → (i % 64 ≡ 0 → ⊥) →
+    get_or (take n (drop (15360 * g) blocks)) i (pos 0) ≡ pos 0
 part_acs blocks g n no_acs i apart = elim (cases_lt i n) [
-  | inl lt ↦ get_or-take n (drop (15360 * g) blocks) i (pos 0) lt ∙ get_or-drop (15360 * g) blocks i (pos 0) ∙ no_acs (15360 * g + i) (λ e. apart (omega (arith, e)))
+  | inl lt ↦ get_or-take n (drop (15360 * g) blocks) i (pos 0) lt ∙ get_or-drop (15360 * g) blocks i (pos 0) ∙
+      no_acs (15360 * g + i) (λ e. apart (omega (arith, e)))
   | inr past ↦ get_or_past (take n (drop (15360 * g) blocks)) i (pos 0) (omega (arith, past, length-take n (drop (15360 * g) blocks)))
 ]
 

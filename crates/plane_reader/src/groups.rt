@@ -1,23 +1,23 @@
 // Groups of four positions, one after another.
 
-ghost use Rattle.std.specs.Prelude.{◌≡◌, ◌≤◌, ◌<◌, ◌+◌, ◌*◌, ◌^◌, ℕ, ℤ, Bool, List, IfSome};
+ghost use Rattle.std.specs.Prelude.{◌≡◌, ◌≤◌, ◌<◌, ◌+◌, ◌*◌, ◌^◌, ℕ, Bool, true};
+ghost use Rattle.std.specs.List.{list_any};
+ghost use Rattle.item_defs.specs.Bits.{bit};
+ghost use Rattle.plane_defs.specs.Spans.{span};
 ghost use Rattle.bit_pipe.specs.Coming.{coming, IsIn};
-ghost use Rattle.plane_defs.specs.Steps.{Step};
-ghost use Rattle.block_masks.specs.Gaggles.{AreOptions};
-ghost use Rattle.plane_reader.specs.Frames.{Frame, group_steps, GroupsNext};
-ghost use Rattle.plane_reader.specs.Groups.{Covers};
-ghost use Rattle.plane_reader.specs.GroupsRead.{AreGroupsIn};
 ghost use Rattle.block_masks.specs.Masks.{Shows};
-ghost use Rattle.plane_reader.specs.Pieces.{FoundPiece, Anything, OnSome};
+ghost use Rattle.item_defs.specs.Scripts.{in_turn};
+ghost use Rattle.plane_defs.specs.States.{State};
+ghost use Rattle.plane_defs.specs.WordScripts.{group_script};
+ghost use Rattle.plane_reader.specs.Groups.{Covers};
+ghost use Rattle.plane_reader.specs.Takes.{IsState, Marks, OnSome};
+ghost use Rattle.plane_reader.specs.Held.{Holds, point};
+ghost use Rattle.plane_reader.specs.HeldTakes.{IsReading, HeldState};
 
-use crate::found::Found;
-use crate::types::{Group, take_types};
-use crate::window::{Lengths, first_types};
+use crate::reading::Reading;
+use crate::types::Group;
 use bit_pipe::{BitIn, OctetIn, TextFault};
-use block_masks::{
-    Gaggle, both, either, first_in, fours_of, has, joined, masked, one, part, without,
-};
-use word_codes::WordTables;
+use block_masks::{both, either, first_in, fours_of, has, without};
 
 // Groups of four positions from `first` on: the groups whose types are sent, and those in which at least one type must be 1.
 #[derive(Clone, Copy)]
@@ -28,13 +28,6 @@ pub(crate) struct Groups {
     pub wanted: u64,
 }
 
-// What was read of some groups in a window: what they gave, and how many bits that took.
-#[derive(Clone, Copy)]
-struct Read {
-    found: Found,
-    len: u8,
-}
-
 // Returns the groups that have bits: those of which a type is due, and those that must have a type of 1.
 #[inline(always)]
 fn groups_with_bits(due: u64, groups: Groups) -> u64
@@ -42,75 +35,36 @@ fn groups_with_bits(due: u64, groups: Groups) -> u64
     requires count { groups.count ≤ 4 }
     requires few { groups.now < 2 ^ groups.count }
     ensures few { result < 2 ^ groups.count }
-    ensures covers { (now wanted : ℕ → Bool) → Shows groups.now now 0 groups.count → Shows groups.wanted wanted 0 groups.count → Covers groups.first groups.count now wanted due result }
+    ensures covers { (now wanted : ℕ → Bool) → Shows groups.now now 0 groups.count → Shows groups.wanted wanted 0 groups.count →
+        Covers groups.first groups.count now wanted due result }
 {
     let some_due = fours_of(due, groups.first);
     both(groups.now, either(some_due, groups.wanted))
 }
 
-// Returns what a window has of these groups, of whose types these are due. Returns none if a word's option is not known, or a group that
-// must have a type of 1 has none. There is no branch for a group: one that has no bits gives nothing.
-#[inline(always)]
-fn groups_in(
-    tables: &WordTables,
-    gaggle: &Gaggle,
-    found: Found,
-    due: u64,
-    groups: Groups,
-    window: u64,
-) -> Option<Read>
-    requires known { AreOptions gaggle.now.options }
-    requires first { groups.first < 64 }
-    requires count { groups.count ≤ 4 }
-    requires within { groups.first + 4 * groups.count ≤ 64 }
-    requires few { groups.now < 2 ^ groups.count }
-    ensures { IfSome result (AreGroupsIn tables.now.book gaggle.now found due groups window) }
-{
-    let sent = groups_with_bits(due, groups);
-    let lengths = Lengths::of(gaggle);
-    let mut read = Read { found, len: 0 };
-    let mut rest = window;
-    let mut known = 1;
-    let mut empty = 0;
-    for j in 0..groups.count {
-        let start = groups.first + 4 * j;
-        let here = masked(part(due, start, 4), has(sent, j));
-        let types = first_types(tables, &lengths, here, rest);
-        read.found.add_bits(types.new, start);
-        read.found.add_minus(types.minus, start);
-        read.len += types.len;
-        rest <<= types.len;
-        known &= types.known;
-        empty = joined(empty, one(types.new == 0), j);
-    }
-    if known == 0 || both(both(groups.wanted, sent), empty) != 0 {
-        return None;
-    }
-    Some(read)
-}
-
 // Reads the types of these groups, of which these are due, and their signs, one group after another.
-#[inline(never)]
-fn take_groups_in_turn<I: OctetIn>(
+#[inline(always)]
+pub(crate) fn take_groups<I: OctetIn>(
     input: &mut BitIn<I>,
-    tables: &WordTables,
-    gaggle: &mut Gaggle,
-    found: &mut Found,
+    reading: &mut Reading,
     due: u64,
     groups: Groups,
 ) -> Result<Option<()>, TextFault>
-    requires open { IsIn (coming input.old) }
-    requires known { AreOptions gaggle.old.options }
+    requires reading { IsReading I.source (coming input.old) reading.old }
     requires first { groups.first < 64 }
     requires count { groups.count ≤ 4 }
     requires within { groups.first + 4 * groups.count ≤ 64 }
     requires few { groups.now < 2 ^ groups.count }
-    ensures groups { (f : Frame) (stage : ℕ) (earlier : ℕ → List Step) (done : List Step) (now wanted : ℕ → Bool) (after : List ℤ → List Step) →
-        GroupsNext f stage earlier done groups.first groups.count now wanted due groups.now groups.wanted after →
-        FoundPiece I.source tables.now.book f stage earlier done (group_steps f groups.first groups.count now wanted) Anything
-        result gaggle.old gaggle.new found.old found.new (coming input.old) (coming input.new) }
-    ensures options { AreOptions gaggle.new.options }
-    ensures is_in { OnSome result (IsIn (coming input.new)) }
+    requires some { (j : ℕ) → j < groups.count → bit groups.wanted j ≡ true → list_any (bit due) (span (groups.first + 4 * j) 4) ≡ true }
+    ensures groups { (s : State) (g now wanted : ℕ → Bool) → IsState reading.old.gaggle reading.old.found s → Marks due g groups.first (4 * groups.count) →
+        Shows groups.now now 0 groups.count → Shows groups.wanted wanted 0 groups.count →
+        HeldState I.source (in_turn (group_script reading.old.tables.now.words.book g groups.first now wanted) 0 groups.count s) result reading.new.gaggle
+        reading.new.found
+        (point (coming input.old) reading.old.cursor) (point (coming input.new) reading.new.cursor) }
+    ensures tables { reading.new.tables ≡ reading.old.tables }
+    ensures reading { OnSome result (λ x. IsReading I.source (coming input.new) reading.new) }
+    ensures holds { Holds I.source (coming input.new) reading.new.cursor }
+    ensures is_in { IsIn (coming input.new) }
 {
     let sent = groups_with_bits(due, groups);
     let mut left = sent;
@@ -121,46 +75,10 @@ fn take_groups_in_turn<I: OctetIn>(
             count: 4,
             is_wanted: has(groups.wanted, j),
         };
-        let Some(()) = take_types(input, tables, gaggle, found, due, group)? else {
+        let Some(()) = reading.types(input, due, group)? else {
             return Ok(None);
         };
         left = without(left, j);
     }
     Ok(Some(()))
-}
-
-// Reads the types of these groups, of which these are due, and their signs: all at once if a window has them. Often no group has bits.
-#[inline(always)]
-pub(crate) fn take_groups<I: OctetIn>(
-    input: &mut BitIn<I>,
-    tables: &WordTables,
-    gaggle: &mut Gaggle,
-    found: &mut Found,
-    due: u64,
-    groups: Groups,
-) -> Result<Option<()>, TextFault>
-    requires open { IsIn (coming input.old) }
-    requires known { AreOptions gaggle.old.options }
-    requires first { groups.first < 64 }
-    requires count { groups.count ≤ 4 }
-    requires within { groups.first + 4 * groups.count ≤ 64 }
-    requires few { groups.now < 2 ^ groups.count }
-    ensures groups { (f : Frame) (stage : ℕ) (earlier : ℕ → List Step) (done : List Step) (now wanted : ℕ → Bool) (after : List ℤ → List Step) →
-        GroupsNext f stage earlier done groups.first groups.count now wanted due groups.now groups.wanted after →
-        FoundPiece I.source tables.now.book f stage earlier done (group_steps f groups.first groups.count now wanted) Anything
-        result gaggle.old gaggle.new found.old found.new (coming input.old) (coming input.new) }
-    ensures options { AreOptions gaggle.new.options }
-    ensures is_in { OnSome result (IsIn (coming input.new)) }
-{
-    if groups_with_bits(due, groups) == 0 {
-        return Ok(Some(()));
-    }
-    if let Some(window) = input.window() {
-        if let Some(read) = groups_in(tables, gaggle, *found, due, groups, window) {
-            input.take_window(window, read.len);
-            *found = read.found;
-            return Ok(Some(()));
-        }
-    }
-    take_groups_in_turn(input, tables, gaggle, found, due, groups)
 }

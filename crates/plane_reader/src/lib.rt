@@ -1,28 +1,38 @@
-//! This crate reads a bit plane of a segment (docs/formats.md, "Bit planes", "Words and codes" and "Reading a segment").
+//! This crate reads the bit planes of a segment (docs/formats.md, "Bit planes", "Words and codes" and "Stops, cut and fill").
 //!
-//! `take_plane` puts the bits and signs that the plane's text gives into the masks of a segment, which are in the place of its numbers
-//! (the slots of `block_masks`): `slicing` makes them before the first plane, and `joining` turns them into numbers after the last.
-//! `plane` goes over the stages, gaggles and blocks. `stages` reads what a block sends in a stage: `children`, `grandchildren` and
-//! `refine` read the parts of a stage, `groups` and `types` read flags, types and signs, and `word` reads the words of a gaggle.
-//! `found` collects what they give, and `apply` puts it into the block's masks. If the octets are in memory, all groups of a set and
-//! refinement bits are read from one window of their bits (`window`), otherwise one after another. Groups and parents of which no type
-//! is due have no bits, and are passed without a look at the text, except a group in which a type must be 1.
+//! `take_planes` goes over the planes, from the top down, with masks in the place of the numbers: `slicing` makes them before the first
+//! plane, and `joining` turns them into numbers after the last, block by block (`number_lanes`). `plane` goes over the stages and gaggles
+//! of a plane, and `dc_bits` reads stage 0. A stage of a gaggle is read from a window of the text that is held while it lasts: `gaggles`
+//! goes over its blocks that are deep enough (`deep`).
+//!
+//! A `Cursor` holds the window: the input is behind by the bits that were read of it, until the cursor is closed. `PlaceTables` have the
+//! word that is first in an octet for each mask of what is due. A `Reading` reads flags, words, types and signs by them, and deals out the
+//! bits of half a block at once; a word whose option is not known yet, for which the window is too short, or for which there are no tables is read item
+//! by item after the cursor is closed, by `word`, `types` and `signs`. `children`, `grandchildren` and `refine` read what a block sends in stages 2, 3 and 4,
+//! and `stages` adds what was found to the masks of the block.
 #![tactic(auto)]
 
 mod apply;
 mod children;
+mod cursor;
+mod dc_bits;
+mod deep;
 mod found;
+mod gaggles;
 mod grandchildren;
 mod groups;
 mod joining;
+mod number_lanes;
+mod places;
 mod plane;
+mod planes;
+mod reading;
 mod refine;
+mod signs;
 mod slicing;
 mod stages;
 mod types;
-mod window;
 mod word;
 
-pub use joining::join_numbers;
-pub use plane::{take_plane, take_plane_with};
-pub use slicing::slice_numbers;
+pub use places::PlaceTables;
+pub use planes::{SentPlanes, take_planes};

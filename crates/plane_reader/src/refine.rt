@@ -1,129 +1,99 @@
-// The reader of the refinement bits of a block, and of the DC's bit.
+// The reader of the refinement bits of a block.
 
-ghost use Rattle.std.specs.Prelude.{◌≡◌, ◌<◌, ◌≤◌, ◌&&◌, ℕ, ℤ, false, [], List, nat_lt, count_ones};
-ghost use Rattle.std.specs.Bool.{OnTrue};
+ghost use Rattle.std.specs.Prelude.{◌≡◌, ◌<◌, ◌≤◌, ◌+◌, ◌^◌, ℕ, ℤ, Bool, List};
 ghost use Rattle.bit_pipe.specs.Coming.{coming, IsIn};
-ghost use Rattle.plane_defs.specs.Sets.{coded};
-ghost use Rattle.plane_defs.specs.Steps.{Step, dc_steps, refinement_steps};
-ghost use Rattle.base_122.specs.declared.book.Book.{Book as BookValue};
-ghost use Rattle.block_masks.specs.declared.gaggle.Gaggle.{Gaggle as GaggleValue};
-ghost use Rattle.block_masks.specs.Gaggles.{AreOptions};
-ghost use Rattle.plane_reader.specs.Frames.{Frame};
-ghost use Rattle.plane_reader.specs.Pieces.{Piece, FoundPiece, Anything, OnSome};
-ghost use Rattle.plane_reader.specs.Refining.{IsFront, Deals, RefinementNext, DcBitNext, IsDcBit};
+ghost use Rattle.block_masks.specs.Masks.{Shows};
+ghost use Rattle.item_defs.specs.Scripts.{in_turn};
+ghost use Rattle.plane_defs.specs.States.{State};
+ghost use Rattle.plane_defs.specs.StageScripts.{refinement_script};
+ghost use Rattle.plane_reader.specs.Takes.{IsState, OnSome};
+ghost use Rattle.plane_reader.specs.Held.{Holds, point};
+ghost use Rattle.plane_reader.specs.HeldTakes.{IsReading, HeldState, marked_script};
+ghost use Rattle.plane_reader.specs.Blocks.{terms_of, IsAbove};
 
-use crate::found::{Found, placed};
-use crate::word::{count_of, take_flag};
+use crate::reading::{HALF, Reading};
 use bit_pipe::{BitIn, OctetIn, TextFault};
-use block_masks::{CodedPlane, either, except, first_in, has, one, part, spread_first, without};
+use block_masks::{CodedPlane, both, first_in, one, part, without};
 
-// Returns those of a mask's positions that a window surely has bits for: all, or those among the first 56 if there are more than 56.
-#[inline(always)]
-fn served(mask: u64) -> u64
-    requires some { 0 < mask }
-    ensures some { 0 < result }
-    ensures few { count_ones result ≤ 56 }
-    ensures front { IsFront mask result }
-{
-    if mask.count_ones() <= 56 {
-        mask
-    } else {
-        mask & ((1 << 56) - 1)
-    }
-}
-
-// What bits were dealt out to positions: the positions whose bit is 1, those that are left, and how many bits were taken.
-#[derive(Clone, Copy)]
-struct Dealt {
-    bits: u64,
-    left: u64,
-    count: u8,
-}
-
-// Deals the bits of a window out to the positions of a mask that it has bits for, the first bit to the first position. A table has
-// what four positions get, so there is no branch.
-#[inline(always)]
-fn deal(mask: u64, window: u64) -> Dealt
-    requires some { 0 < mask }
-    ensures { Deals mask window result.count result.left result.bits }
-{
-    let here = served(mask);
-    let mut bits = 0;
-    let mut rest = window;
-    for k in 0..16 {
-        let start = 4 * k;
-        let due = part(here, start, 4);
-        let places = spread_first(due, (rest >> 60) as u8);
-        bits = either(bits, placed(places, start));
-        rest <<= count_of(due);
-    }
-    Dealt {
-        bits,
-        left: except(here, mask),
-        count: here.count_ones() as u8,
-    }
-}
-
-// Reads the plane's bit of each AC number of this mask: as many at once as a window has, otherwise one after another.
-pub(crate) fn take_refinement<I: OctetIn>(
+// Reads the plane's bit of each position of a mask of 32 from `start` on, one after another.
+#[inline(never)]
+fn take_bits<I: OctetIn>(
     input: &mut BitIn<I>,
-    found: &mut Found,
-    refined: u64,
+    reading: &mut Reading,
+    here: u64,
+    start: u8,
 ) -> Result<Option<()>, TextFault>
-    requires open { IsIn (coming input.old) }
-    ensures refinement { (book : BookValue) (gaggle : GaggleValue) (f : Frame) (stage : ℕ) (earlier : ℕ → List Step) (done : List Step) (after : List ℤ → List Step) →
-        AreOptions gaggle.options → RefinementNext f stage earlier done refined after →
-        FoundPiece I.source book f stage earlier done (λ v. refinement_steps v f.weights f.plane) Anything result gaggle gaggle found.old found.new (coming input.old) (coming input.new) }
-    ensures is_in { OnSome result (IsIn (coming input.new)) }
+    requires reading { IsReading I.source (coming input.old) reading.old }
+    requires start { start ≤ 32 }
+    requires few { here < 2 ^ 32 }
+    ensures bits { (s : State) (g : ℕ → Bool) → IsState reading.old.gaggle reading.old.found s → Shows here g start 32 →
+        HeldState I.source (in_turn (marked_script g) start 32 s) result reading.new.gaggle reading.new.found
+        (point (coming input.old) reading.old.cursor) (point (coming input.new) reading.new.cursor) }
+    ensures tables { reading.new.tables ≡ reading.old.tables }
+    ensures reading { OnSome result (λ x. IsReading I.source (coming input.new) reading.new) }
+    ensures holds { Holds I.source (coming input.new) reading.new.cursor }
+    ensures is_in { IsIn (coming input.new) }
 {
-    let mut left = without(refined, 0);
+    let mut left = here;
     while left != 0 {
-        if let Some(window) = input.window() {
-            let dealt = deal(left, window);
-            input.take_window(window, dealt.count);
-            found.bits = either(found.bits, dealt.bits);
-            left = dealt.left;
-        } else {
-            let position = first_in(left);
-            let Some(bit) = take_flag(input)? else {
-                return Ok(None);
-            };
-            found.add_bits(one(bit), position);
-            left = without(left, position);
-        }
+        let j = first_in(left);
+        let Some(bit) = reading.flag(input)? else {
+            return Ok(None);
+        };
+        reading.found.add_bits(one(bit), start + j);
+        left = without(left, j);
     }
     Ok(Some(()))
 }
 
-// Returns whether the plane's bit of the DC was not in the DC part and can be other than 0.
-#[inline]
-fn is_dc_bit_due(plan: &CodedPlane) -> bool
-    ensures { result ≡ (coded plan.now.weights.shifts plan.now.plane 0 && nat_lt plan.now.plane plan.now.q) }
+// Reads the plane's bit of each position of a mask of all 64 that is one of the 32 from `start` on.
+#[inline(always)]
+fn take_half<I: OctetIn>(
+    input: &mut BitIn<I>,
+    reading: &mut Reading,
+    positions: u64,
+    start: u8,
+) -> Result<Option<()>, TextFault>
+    requires reading { IsReading I.source (coming input.old) reading.old }
+    requires start { start ≤ 32 }
+    ensures bits { (s : State) (g : ℕ → Bool) → IsState reading.old.gaggle reading.old.found s → Shows positions g 0 64 →
+        HeldState I.source (in_turn (marked_script g) start 32 s) result reading.new.gaggle reading.new.found
+        (point (coming input.old) reading.old.cursor) (point (coming input.new) reading.new.cursor) }
+    ensures tables { reading.new.tables ≡ reading.old.tables }
+    ensures reading { OnSome result (λ x. IsReading I.source (coming input.new) reading.new) }
+    ensures holds { Holds I.source (coming input.new) reading.new.cursor }
+    ensures is_in { IsIn (coming input.new) }
 {
-    has(plan.coded, 0) && plan.plane < plan.q
+    let here = part(positions, start, HALF);
+    if here == 0 {
+        return Ok(Some(()));
+    }
+    if reading.deal(input, here, start) {
+        return Ok(Some(()));
+    }
+    take_bits(input, reading, here, start)
 }
 
-// Returns whether no block has anything of the stage of this number: it has the bits of the DC numbers, and they are not due.
-#[inline]
-pub(crate) fn is_quiet(plan: &CodedPlane, number: u8) -> bool
-    ensures { OnTrue result ((number ≡ 0) × ((coded plan.now.weights.shifts plan.now.plane 0 && nat_lt plan.now.plane plan.now.q) ≡ false)) }
-{
-    number == 0 && !is_dc_bit_due(plan)
-}
-
-// Reads the DC's bit if it is due, and returns whether it is 1.
-pub(crate) fn take_dc_bit<I: OctetIn>(
+// Reads the bits that refine the AC numbers that are significant above the plane.
+#[inline(always)]
+pub(crate) fn take_refinement<I: OctetIn>(
     input: &mut BitIn<I>,
     plan: &CodedPlane,
-) -> Result<Option<bool>, TextFault>
-    requires open { IsIn (coming input.old) }
-    ensures bit { (book : BookValue) (gaggle : GaggleValue) (f : Frame) (earlier : ℕ → List Step) (after : List ℤ → List Step) →
-        AreOptions gaggle.options → DcBitNext f plan.now earlier after →
-        Piece I.source book f 0 earlier [] (λ v. dc_steps v f.weights f.plane f.q) (IsDcBit f) result gaggle gaggle (coming input.old) (coming input.new) }
-    ensures is_in { OnSome result (IsIn (coming input.new)) }
+    reading: &mut Reading,
+    above: u64,
+) -> Result<Option<()>, TextFault>
+    requires reading { IsReading I.source (coming input.old) reading.old }
+    ensures refinement { (block : List ℤ) (s : State) → IsState reading.old.gaggle reading.old.found s → IsAbove above block plan.now.plane →
+        HeldState I.source (refinement_script (terms_of plan.now reading.old.tables.now.words.book) block s) result reading.new.gaggle reading.new.found
+        (point (coming input.old) reading.old.cursor) (point (coming input.new) reading.new.cursor) }
+    ensures tables { reading.new.tables ≡ reading.old.tables }
+    ensures reading { OnSome result (λ x. IsReading I.source (coming input.new) reading.new) }
+    ensures holds { Holds I.source (coming input.new) reading.new.cursor }
+    ensures is_in { IsIn (coming input.new) }
 {
-    if !is_dc_bit_due(plan) {
-        return Ok(Some(false));
-    }
-    take_flag(input)
+    let refined = without(both(above, plan.coded), 0);
+    let Some(()) = take_half(input, reading, refined, 0)? else {
+        return Ok(None);
+    };
+    take_half(input, reading, refined, HALF)
 }

@@ -5,7 +5,7 @@ ghost use Rattle.std.specs.Int.{w32, cast_signed};
 ghost use lib.ListN.{get_or};
 ghost use Rattle.block_masks.specs.Slices.{dc_slot, mask_in, numbers_in};
 ghost use Rattle.plane_reader.specs.Above.{AreReady, HasNoAcs};
-ghost use Rattle.plane_reader.specs.Joined.{HasOnlyDcs};
+ghost use Rattle.plane_reader.specs.Joined.{AreBelow, HasOnlyDcs};
 
 use block_masks::{Column, DC, GROUP, put_mask};
 
@@ -59,13 +59,14 @@ fn slice_group(part: &mut [i32])
     put_dcs(part, &dcs);
 }
 
-/// Turns the 64 numbers of each block into masks in their place, as `take_plane` needs them (the slots of `block_masks`). All
-/// AC numbers are 0, as they are after the DC part. `join_numbers` turns masks into numbers again.
-pub fn slice_numbers(blocks: &mut [i32])
+// Turns the 64 numbers of each block into masks in their place, as `take_plane` needs them (the slots of `block_masks`). All
+// AC numbers are 0, as they are after the DC part. `join_numbers` turns masks into numbers again.
+pub(crate) fn slice_numbers(blocks: &mut [i32])
     requires whole { length blocks.old % 64 ≡ 0 }
     requires no_acs { HasNoAcs blocks.old }
     ensures numbers { numbers_in blocks.new ≡ blocks.old }
     ensures ready { (plane : ℕ) → AreReady plane blocks.new }
+    ensures below { (planes : ℕ) → AreBelow planes blocks.new }
     ensures size { length blocks.new ≡ length blocks.old }
 {
     let len = blocks.len();

@@ -1,254 +1,178 @@
 // The reader of the stages of a block.
 
-ghost use Rattle.std.specs.Prelude.{◌≡◌, ◌≤◌, ◌<◌, ◌⊎◌, ◌+◌, ◌*◌, ◌%◌, ℕ, ℤ, List, [], length, Some, None};
-ghost use Rattle.bit_pipe.specs.declared.fault.Part.TheVariants.{Whole, Ended};
+ghost use Rattle.std.specs.Prelude.{◌≡◌, ◌+◌, ◌%◌, ◌<◌, ◌≤◌, ◌||◌, ℕ, ℤ, List, length};
+ghost use Rattle.item_defs.specs.Bits.{bit};
 ghost use Rattle.bit_pipe.specs.Coming.{coming, IsIn};
-ghost use Rattle.plane_defs.specs.Marks.{depth_of as depth_in};
-ghost use Rattle.plane_defs.specs.Steps.{Step, parents_steps, children_steps};
-ghost use Rattle.base_122.specs.declared.book.Book.{Book as BookValue};
-ghost use Rattle.block_masks.specs.declared.gaggle.Gaggle.{Gaggle as GaggleValue};
-ghost use Rattle.block_masks.specs.Gaggles.{AreOptions, options_in, sent_in};
-ghost use Rattle.plane_reader.specs.Frames.{Frame, steps_of};
-ghost use Rattle.plane_reader.specs.Pieces.{FoundPiece, Anything, OnSome};
-ghost use Rattle.plane_reader.specs.Children.{StageNext};
-ghost use Rattle.plane_reader.specs.Blocks.{MarkSays};
-ghost use Rattle.plane_reader.specs.Stages.{StandsBefore, StageTaken};
-ghost use Rattle.plane_reader.specs.Terms.{IsFrame};
-ghost use Rattle.item_defs.specs.Bits.{bit as bit_in};
-ghost use Rattle.wave_defs.specs.Held.{block_at};
 ghost use Rattle.plane_defs.specs.Sets.{significant};
 ghost use Rattle.plane_defs.specs.StepLaws.{IsAc};
-ghost use Rattle.block_masks.specs.Slices.{numbers_in, IsColumn};
-ghost use Rattle.plane_reader.specs.Above.{IsAbove, AreReady, ChangesBlock};
+ghost use Rattle.plane_defs.specs.Marks.{depth_of as depth_in};
+ghost use Rattle.block_masks.specs.Gaggles.{families_in, options_in, sent_in};
+ghost use Rattle.block_masks.specs.Masks.{Shows};
+ghost use Rattle.block_masks.specs.Slices.{mask_in, above_slot, IsColumn};
+ghost use Rattle.plane_defs.specs.States.{State};
+ghost use Rattle.plane_defs.specs.StageScripts.{parents_script};
+ghost use Rattle.plane_reader.specs.Takes.{AreIn, IsState, OnSome};
+ghost use Rattle.plane_reader.specs.Held.{Holds, point};
+ghost use Rattle.plane_reader.specs.HeldTakes.{IsReading, HeldState};
+ghost use Rattle.plane_reader.specs.Blocks.{terms_of, IsAbove, KeepsMasks, HasRead, HeldStage, TakesBlock, OnWhole, part_from, stage_part};
 
-use crate::apply::{add_dc, apply};
+use crate::apply::apply;
 use crate::children::take_children;
 use crate::found::Found;
-use crate::grandchildren::take_grandchildren;
-use crate::refine::{take_dc_bit, take_refinement};
-use crate::types::{Group, take_types};
+use crate::grandchildren::{Seen, take_grandchildren};
+use crate::reading::Reading;
+use crate::refine::take_refinement;
+use crate::types::Group;
 use bit_pipe::{BitIn, OctetIn, Part, TextFault};
-use block_masks::{
-    ABOVE, CodedPlane, Column, Gaggle, both, depth_of, either, except, families_of, mask_of,
-    with_families,
-};
-use word_codes::WordTables;
-
-// A plane, and the codes of its words.
-#[derive(Clone, Copy)]
-pub(crate) struct Terms<'a> {
-    pub plan: &'a CodedPlane,
-    pub tables: &'a WordTables,
-}
-
-// Which AC numbers of a block are significant before a stage: above the plane, and in the plane so far.
-#[derive(Clone, Copy)]
-struct Seen {
-    above: u64,
-    now: u64,
-}
+use block_masks::{ABOVE, CodedPlane, Column, either, except, families_of, mask_of, with_families};
 
 // Reads the types of the parents, and their signs.
+#[inline(always)]
 fn take_parents<I: OctetIn>(
     input: &mut BitIn<I>,
-    terms: &Terms,
-    gaggle: &mut Gaggle,
-    found: &mut Found,
+    plan: &CodedPlane,
+    reading: &mut Reading,
     above: u64,
 ) -> Result<Option<()>, TextFault>
-    requires open { IsIn (coming input.old) }
-    requires known { AreOptions gaggle.old.options }
-    ensures parents { (f : Frame) (stage : ℕ) (earlier : ℕ → List Step) (done : List Step) (after : List ℤ → List Step) →
-        StageNext f stage earlier done terms.now.plan.now above (λ v. parents_steps v f.weights f.plane) after →
-        FoundPiece I.source terms.now.tables.now.book f stage earlier done (λ v. parents_steps v f.weights f.plane) Anything result gaggle.old gaggle.new found.old found.new (coming input.old) (coming input.new) }
-    ensures options { AreOptions gaggle.new.options }
-    ensures is_in { OnSome result (IsIn (coming input.new)) }
+    requires reading { IsReading I.source (coming input.old) reading.old }
+    ensures parents { (block : List ℤ) (s : State) → IsState reading.old.gaggle reading.old.found s → IsAbove above block plan.now.plane →
+        HeldState I.source (parents_script (terms_of plan.now reading.old.tables.now.words.book) block s) result reading.new.gaggle reading.new.found
+        (point (coming input.old) reading.old.cursor) (point (coming input.new) reading.new.cursor) }
+    ensures tables { reading.new.tables ≡ reading.old.tables }
+    ensures reading { OnSome result (λ x. IsReading I.source (coming input.new) reading.new) }
+    ensures holds { Holds I.source (coming input.new) reading.new.cursor }
+    ensures is_in { IsIn (coming input.new) }
 {
     let group = Group {
         start: 1,
         count: 3,
         is_wanted: false,
     };
-    let due = except(above, terms.plan.coded);
-    take_types(input, terms.tables, gaggle, found, due, group)
+    reading.types(input, except(above, plan.coded), group)
 }
 
-// Reads what a block sends of its children, and keeps in its state which families are significant.
-fn take_families<I: OctetIn>(
+// Reads what a block sends in stage 1, 3 or 4.
+#[inline(always)]
+fn take_numbers<I: OctetIn, const STAGE: u8>(
     input: &mut BitIn<I>,
-    terms: &Terms,
-    gaggle: &mut Gaggle,
-    found: &mut Found,
-    above: u64,
-    mark: &mut i32,
+    plan: &CodedPlane,
+    reading: &mut Reading,
+    seen: Seen,
 ) -> Result<Option<()>, TextFault>
-    requires open { IsIn (coming input.old) }
-    requires known { AreOptions gaggle.old.options }
-    ensures children { (f : Frame) (earlier : ℕ → List Step) (done : List Step) (after : List ℤ → List Step) →
-        StageNext f 2 earlier done terms.now.plan.now above (λ v. children_steps v f.weights f.plane) after →
-        FoundPiece I.source terms.now.tables.now.book f 2 earlier done (λ v. children_steps v f.weights f.plane) (MarkSays f 2 mark.new) result gaggle.old gaggle.new found.old found.new (coming input.old) (coming input.new) }
-    ensures depth { depth_in mark.new ≡ depth_in mark.old }
-    ensures options_kept { options_in mark.new ≡ options_in mark.old }
-    ensures sent { sent_in mark.new ≡ sent_in mark.old }
-    ensures options { AreOptions gaggle.new.options }
-    ensures is_in { OnSome result (IsIn (coming input.new)) }
+    requires reading { IsReading I.source (coming input.old) reading.old }
+    ensures numbers { (block : List ℤ) (earlier s : State) → IsState reading.old.gaggle reading.old.found s → IsAbove seen.above block plan.now.plane →
+        Shows seen.families earlier.families 0 3 →
+        ((p : ℕ) → IsAc p → bit seen.now p ≡ (significant block (plan.now.plane + 1) p || earlier.bits p)) →
+        HeldState I.source (part_from (terms_of plan.now reading.old.tables.now.words.book) STAGE block earlier s) result reading.new.gaggle reading.new.found
+        (point (coming input.old) reading.old.cursor) (point (coming input.new) reading.new.cursor) }
+    ensures tables { reading.new.tables ≡ reading.old.tables }
+    ensures reading { OnSome result (λ x. IsReading I.source (coming input.new) reading.new) }
+    ensures holds { Holds I.source (coming input.new) reading.new.cursor }
+    ensures is_in { IsIn (coming input.new) }
 {
-    let Some(families) = take_children(input, terms, gaggle, found, above)? else {
-        return Ok(None);
-    };
-    *mark = with_families(*mark, families);
-    Ok(Some(()))
+    match STAGE {
+        1 => take_parents(input, plan, reading, seen.above),
+        3 => take_grandchildren(input, plan, reading, seen),
+        _ => take_refinement(input, plan, reading, seen.above),
+    }
 }
 
-// Reads the words of the stage of this number of a block that is deep enough.
+// Reads what a block sends in stage 1, 2, 3 or 4, and returns which families are significant then.
 #[inline(always)]
 fn take_words<I: OctetIn, const STAGE: u8>(
     input: &mut BitIn<I>,
-    terms: &Terms,
-    gaggle: &mut Gaggle,
-    found: &mut Found,
-    mark: &mut i32,
-    seen: Seen,
-) -> Result<Option<()>, TextFault>
-    requires open { IsIn (coming input.old) }
-    requires known { AreOptions gaggle.old.options }
-    requires some { 1 ≤ STAGE }
-    requires stage { STAGE < 5 }
-    ensures words { (f : Frame) (earlier : ℕ → List Step) (block : List ℤ) → IsFrame f terms.now.plan.now (depth_in mark.old) → f.plane < f.depth → IsAbove f seen.above →
-        ((p : ℕ) → IsAc p → bit_in seen.now p ≡ significant block terms.now.plan.now.plane p) → StandsBefore f STAGE earlier mark.old block →
-        FoundPiece I.source terms.now.tables.now.book f STAGE earlier [] (steps_of f STAGE) (MarkSays f STAGE mark.new) result gaggle.old gaggle.new found.old found.new (coming input.old) (coming input.new) }
-    ensures depth { depth_in mark.new ≡ depth_in mark.old }
-    ensures options_kept { options_in mark.new ≡ options_in mark.old }
-    ensures sent { sent_in mark.new ≡ sent_in mark.old }
-    ensures options { AreOptions gaggle.new.options }
-    ensures is_in { OnSome result (IsIn (coming input.new)) }
-{
-    match STAGE {
-        1 => take_parents(input, terms, gaggle, found, seen.above),
-        2 => take_families(input, terms, gaggle, found, seen.above, mark),
-        3 => {
-            let families = families_of(*mark);
-            take_grandchildren(input, terms, gaggle, found, seen.above, seen.now, families)
-        }
-        _ => take_refinement(input, found, both(seen.above, terms.plan.coded)),
-    }
-}
-
-// Returns whether all was read.
-#[inline]
-fn part_of(read: Option<()>) -> Part
-    ensures { (read ≡ Some tt → result ≡ Whole) × (read ≡ None → result ≡ Ended) }
-{
-    if read.is_some() {
-        Part::Whole
-    } else {
-        Part::Ended
-    }
-}
-
-// Reads the bit of a block's DC.
-fn take_dc<I: OctetIn>(
-    input: &mut BitIn<I>,
     plan: &CodedPlane,
-    cells: &mut [i32],
-    column: Column,
-) -> Result<Part, TextFault>
-    requires open { IsIn (coming input.old) }
-    requires whole { length cells.old % 64 ≡ 0 }
-    requires column { IsColumn cells.old column }
-    requires ready { AreReady (plan.now.plane + 1) cells.old }
-    ensures taken { (book : BookValue) (gaggle : GaggleValue) (mark : ℤ) (f : Frame) (earlier : ℕ → List Step) → AreOptions gaggle.options → IsFrame f plan.now f.depth →
-        StandsBefore f 0 earlier mark (block_at (numbers_in cells.old) column.block) → StageTaken I.source book f 0 earlier result gaggle gaggle mark (block_at (numbers_in cells.new) column.block) (coming input.old) (coming input.new) }
-    ensures ready { AreReady (plan.now.plane + 1) cells.new }
-    ensures others { ChangesBlock column.block cells.old cells.new }
+    reading: &mut Reading,
+    seen: Seen,
+) -> Result<Option<u64>, TextFault>
+    requires reading { IsReading I.source (coming input.old) reading.old }
+    requires bits { reading.old.found.bits ≡ 0 }
+    requires minus { reading.old.found.minus ≡ 0 }
+    requires few { seen.families < 8 }
+    ensures words { (block : List ℤ) (s : State) → AreIn reading.old.gaggle s.options → IsAbove seen.above block plan.now.plane →
+        Shows seen.families s.families 0 3 →
+        ((p : ℕ) → IsAc p → bit seen.now p ≡ (significant block (plan.now.plane + 1) p || s.bits p)) →
+        HeldStage I.source (stage_part (terms_of plan.now reading.old.tables.now.words.book) STAGE block s) s result reading.new.gaggle reading.new.found
+        (point (coming input.old) reading.old.cursor) (point (coming input.new) reading.new.cursor) }
+    ensures small { OnSome result (λ families. families < 8) }
+    ensures same { (STAGE ≡ 2 → ⊥) → OnSome result (λ families. families ≡ seen.families) }
+    ensures tables { reading.new.tables ≡ reading.old.tables }
+    ensures reading { OnSome result (λ x. IsReading I.source (coming input.new) reading.new) }
+    ensures holds { Holds I.source (coming input.new) reading.new.cursor }
+    ensures is_in { IsIn (coming input.new) }
 {
-    let Some(bit) = take_dc_bit(input, plan)? else {
-        return Ok(Part::Ended);
+    if STAGE == 2 {
+        return take_children(input, plan, reading, seen.above);
+    }
+    let Some(()) = take_numbers::<I, STAGE>(input, plan, reading, seen)? else {
+        return Ok(None);
     };
-    add_dc(bit, plan.plane, cells, column);
-    Ok(Part::Whole)
+    Ok(Some(seen.families))
 }
 
-// Returns which AC numbers of a block are significant in a plane of which a part was read.
+// Returns the state of a block with the families that are significant after a stage, which only stage 2 changes.
 #[inline(always)]
-fn seen_before(cells: &[i32], column: Column, plane: u8) -> Seen
-    requires whole { length cells.now % 64 ≡ 0 }
-    requires column { IsColumn cells.now column }
-    requires low { plane < 27 }
-    requires ready { AreReady (plane + 1) cells.now }
-    ensures above { (p : ℕ) → IsAc p → bit_in result.above p ≡ significant (block_at (numbers_in cells.now) column.block) (plane + 1) p }
-    ensures now { (p : ℕ) → IsAc p → bit_in result.now p ≡ significant (block_at (numbers_in cells.now) column.block) plane p }
+fn mark_after<const STAGE: u8>(mark: i32, families: u64) -> i32
+    requires few { families < 8 }
+    requires same { (STAGE ≡ 2 → ⊥) → families ≡ families_in mark }
+    ensures families { families_in result ≡ families }
+    ensures depth { depth_in result ≡ depth_in mark }
+    ensures options { options_in result ≡ options_in mark }
+    ensures sent { sent_in result ≡ sent_in mark }
 {
-    let above = mask_of(cells, column, ABOVE);
-    Seen {
-        above,
-        now: either(above, mask_of(cells, column, plane)),
+    if STAGE == 2 {
+        with_families(mark, families)
+    } else {
+        mark
     }
 }
 
-// Reads the words of the stage of this number of a block that is deep enough, and puts what they give into its masks.
-#[inline(always)]
-fn take_deep<I: OctetIn, const STAGE: u8>(
-    input: &mut BitIn<I>,
-    terms: &Terms,
-    gaggle: &mut Gaggle,
-    column: Column,
-    mark: &mut i32,
-    cells: &mut [i32],
-) -> Result<Part, TextFault>
-    requires open { IsIn (coming input.old) }
-    requires known { AreOptions gaggle.old.options }
-    requires some { 1 ≤ STAGE }
-    requires stage { STAGE < 5 }
-    requires whole { length cells.old % 64 ≡ 0 }
-    requires column { IsColumn cells.old column }
-    requires ready { AreReady (terms.now.plan.now.plane + 1) cells.old }
-    ensures taken { (f : Frame) (earlier : ℕ → List Step) → IsFrame f terms.now.plan.now (depth_in mark.old) → f.plane < f.depth →
-        StandsBefore f STAGE earlier mark.old (block_at (numbers_in cells.old) column.block) →
-        StageTaken I.source terms.now.tables.now.book f STAGE earlier result gaggle.old gaggle.new mark.new (block_at (numbers_in cells.new) column.block) (coming input.old) (coming input.new) }
-    ensures depth { depth_in mark.new ≡ depth_in mark.old }
-    ensures options { options_in mark.new ≡ options_in mark.old }
-    ensures sent { sent_in mark.new ≡ sent_in mark.old }
-    ensures ready { AreReady (terms.now.plan.now.plane + 1) cells.new }
-    ensures others { ChangesBlock column.block cells.old cells.new }
-{
-    let mut found = Found::NOTHING;
-    let seen = seen_before(cells, column, terms.plan.plane);
-    let read = take_words::<I, STAGE>(input, terms, gaggle, &mut found, mark, seen);
-    apply(found, terms.plan.plane, cells, column);
-    Ok(part_of(read?))
+// A block: where its masks are, and its state, which has its families.
+#[derive(Clone, Copy)]
+pub(crate) struct Block {
+    pub column: Column,
+    pub mark: i32,
 }
 
-// Reads the stage of this number of a block, whose state has its depth and its families.
+// Reads what a block sends in stage 1, 2, 3 or 4, and puts what it gives into the masks and the state of the block.
 #[inline(always)]
 pub(crate) fn take_block<I: OctetIn, const STAGE: u8>(
     input: &mut BitIn<I>,
-    terms: &Terms,
-    gaggle: &mut Gaggle,
-    column: Column,
-    mark: &mut i32,
+    plan: &CodedPlane,
+    reading: &mut Reading,
+    block: &mut Block,
     cells: &mut [i32],
 ) -> Result<Part, TextFault>
-    requires open { IsIn (coming input.old) }
-    requires stage { STAGE < 5 }
-    requires known { AreOptions gaggle.old.options }
+    requires reading { IsReading I.source (coming input.old) reading.old }
     requires whole { length cells.old % 64 ≡ 0 }
-    requires column { IsColumn cells.old column }
-    requires ready { AreReady (terms.now.plan.now.plane + 1) cells.old }
-    ensures taken { (f : Frame) (earlier : ℕ → List Step) → IsFrame f terms.now.plan.now (depth_in mark.old) →
-        StandsBefore f STAGE earlier mark.old (block_at (numbers_in cells.old) column.block) →
-        StageTaken I.source terms.now.tables.now.book f STAGE earlier result gaggle.old gaggle.new mark.new (block_at (numbers_in cells.new) column.block) (coming input.old) (coming input.new) }
-    ensures depth { depth_in mark.new ≡ depth_in mark.old }
-    ensures options { options_in mark.new ≡ options_in mark.old }
-    ensures sent { sent_in mark.new ≡ sent_in mark.old }
-    ensures ready { AreReady (terms.now.plan.now.plane + 1) cells.new }
-    ensures others { ChangesBlock column.block cells.old cells.new }
+    requires column { IsColumn cells.old block.old.column }
+    ensures block { (numbers : List ℤ) (s : State) → AreIn reading.old.gaggle s.options → IsAbove (mask_in
+        cells.old block.old.column.block above_slot) numbers plan.now.plane →
+        HasRead plan.now.plane block.old.column.block cells.old numbers s → Shows (families_in block.old.mark) s.families 0 3 →
+        TakesBlock I.source plan.now.plane block.old.column.block numbers (stage_part
+        (terms_of plan.now reading.old.tables.now.words.book) STAGE numbers s) result reading.new.gaggle block.new.mark cells.new
+        (point (coming input.old) reading.old.cursor) (point (coming input.new) reading.new.cursor) }
+    ensures keeps { KeepsMasks block.old.column.block plan.now.plane cells.old cells.new }
+    ensures depth { depth_in block.new.mark ≡ depth_in block.old.mark }
+    ensures options { options_in block.new.mark ≡ options_in block.old.mark }
+    ensures sent { sent_in block.new.mark ≡ sent_in block.old.mark }
+    ensures tables { reading.new.tables ≡ reading.old.tables }
+    ensures reading { OnWhole result (IsReading I.source (coming input.new) reading.new) }
+    ensures holds { Holds I.source (coming input.new) reading.new.cursor }
+    ensures is_in { IsIn (coming input.new) }
 {
-    if STAGE == 0 {
-        return take_dc(input, terms.plan, cells, column);
-    }
-    if depth_of(*mark) <= terms.plan.plane {
-        return Ok(Part::Whole);
-    }
-    take_deep::<I, STAGE>(input, terms, gaggle, column, mark, cells)
+    let above = mask_of(cells, block.column, ABOVE);
+    let seen = Seen {
+        above,
+        now: either(above, mask_of(cells, block.column, plan.plane)),
+        families: families_of(block.mark),
+    };
+    reading.found = Found::NOTHING;
+    let read = take_words::<I, STAGE>(input, plan, reading, seen);
+    apply(reading.found, plan.plane, cells, block.column);
+    let Some(families) = read? else {
+        return Ok(Part::Ended);
+    };
+    block.mark = mark_after::<STAGE>(block.mark, families);
+    Ok(Part::Whole)
 }

@@ -1,12 +1,14 @@
-// The reader of a word of a block's stage.
+// The reader of a word of a block's stage, one item after another.
 
-ghost use Rattle.std.specs.Prelude.{◌≡◌, ◌≤◌, ◌<◌, ◌-◌, count_ones};
+ghost use Rattle.std.specs.Prelude.{◌≡◌, ◌≤◌, ◌<◌, ◌-◌, ◌^◌, ℕ, Bool, count_ones};
 ghost use Rattle.item_defs.specs.Items.{raw};
 ghost use Rattle.bit_pipe.specs.Coming.{coming, IsIn};
 ghost use Rattle.bit_pipe.specs.Answers.{IsBelow, TakesOne};
 ghost use Rattle.block_masks.specs.Gaggles.{AreOptions};
-ghost use Rattle.plane_reader.specs.Pieces.{TakesWord};
-ghost use Rattle.plane_reader.specs.Words.{OpensLength, TakesFlag, TakesDue};
+ghost use Rattle.block_masks.specs.Masks.{Shows};
+ghost use Rattle.plane_defs.specs.Spans.{span};
+ghost use Rattle.plane_defs.specs.States.{State};
+ghost use Rattle.plane_reader.specs.Takes.{AreIn, Opens, TakesWord, TakesPlaces, TakesFlag, OnSome};
 
 use bit_pipe::{BitIn, OctetIn, TextFault};
 use block_masks::{Gaggle, spread};
@@ -44,7 +46,10 @@ fn open<I: OctetIn>(
     requires short { 2 ≤ length }
     requires long { length ≤ 4 }
     requires known { AreOptions gaggle.old.options }
-    ensures { OpensLength I.source length result gaggle.old gaggle.new (coming input.old) (coming input.new) }
+    ensures option { (s : State) → AreIn gaggle.old s.options → Opens I.source length s result gaggle.new (coming input.old) (coming input.new) }
+    ensures fits { OnSome result (λ option. option < length) }
+    ensures options { AreOptions gaggle.new.options }
+    ensures is_in { OnSome result (λ x. IsIn (coming input.new)) }
 {
     let place = length as usize - 2;
     if gaggle.sent[place] {
@@ -70,7 +75,11 @@ pub(crate) fn take_any<I: OctetIn>(
     requires open { IsIn (coming input.old) }
     requires few { count ≤ 4 }
     requires known { AreOptions gaggle.old.options }
-    ensures { TakesWord I.source tables.now.book count result gaggle.old gaggle.new (coming input.old) (coming input.new) }
+    ensures word { (s : State) → AreIn gaggle.old s.options → TakesWord I.source tables.now.book count s result gaggle.new (coming input.old)
+        (coming input.new) }
+    ensures fits { OnSome result (λ value. value < 2 ^ count) }
+    ensures options { AreOptions gaggle.new.options }
+    ensures is_in { OnSome result (λ x. IsIn (coming input.new)) }
 {
     if count == 0 {
         return Ok(Some(0));
@@ -87,32 +96,13 @@ pub(crate) fn take_any<I: OctetIn>(
 // Reads a raw bit.
 pub(crate) fn take_flag<I: OctetIn>(input: &mut BitIn<I>) -> Result<Option<bool>, TextFault>
     requires open { IsIn (coming input.old) }
-    ensures { TakesFlag I.source result (coming input.old) (coming input.new) }
+    ensures flag { TakesFlag I.source result (coming input.old) (coming input.new) }
+    ensures is_in { IsIn (coming input.new) }
 {
     Ok(input.take()?)
 }
 
-// Reads the word of at most four due places by a call, and returns the places whose bit is 1.
-#[inline(never)]
-fn take_due_word<I: OctetIn>(
-    input: &mut BitIn<I>,
-    tables: &WordTables,
-    gaggle: &mut Gaggle,
-    due: u64,
-) -> Result<Option<u64>, TextFault>
-    requires open { IsIn (coming input.old) }
-    requires due { due < 16 }
-    requires known { AreOptions gaggle.old.options }
-    ensures { TakesDue I.source tables.now.book due result gaggle.old gaggle.new (coming input.old) (coming input.new) }
-{
-    let Some(word) = take_any(input, tables, gaggle, count_of(due))? else {
-        return Ok(None);
-    };
-    Ok(Some(spread(due, word)))
-}
-
-// Reads the word of at most four due places, and returns the places whose bit is 1. Often none is due, and then there is no call.
-#[inline(always)]
+// Reads the word of at most four due places, and returns the places whose bit is 1.
 pub(crate) fn take_due<I: OctetIn>(
     input: &mut BitIn<I>,
     tables: &WordTables,
@@ -122,10 +112,14 @@ pub(crate) fn take_due<I: OctetIn>(
     requires open { IsIn (coming input.old) }
     requires due { due < 16 }
     requires known { AreOptions gaggle.old.options }
-    ensures { TakesDue I.source tables.now.book due result gaggle.old gaggle.new (coming input.old) (coming input.new) }
+    ensures places { (s : State) (g : ℕ → Bool) (start count : ℕ) → AreIn gaggle.old s.options → count ≤ 4 → Shows due g start count →
+        TakesPlaces I.source tables.now.book due g start count s result gaggle.new (coming input.old) (coming input.new) }
+    ensures small { (count : ℕ) → count ≤ 4 → due < 2 ^ count → OnSome result (λ places. places < 2 ^ count) }
+    ensures options { AreOptions gaggle.new.options }
+    ensures is_in { IsIn (coming input.new) }
 {
-    if due == 0 {
-        return Ok(Some(0));
-    }
-    take_due_word(input, tables, gaggle, due)
+    let Some(word) = take_any(input, tables, gaggle, count_of(due))? else {
+        return Ok(None);
+    };
+    Ok(Some(spread(due, word)))
 }

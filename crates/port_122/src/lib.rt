@@ -2,6 +2,7 @@
 //! fault counted. The rules are in docs/architecture.md, "The outside".
 #![tactic(auto)]
 
+mod answers;
 mod memory;
 mod pieces;
 mod port;
@@ -9,6 +10,7 @@ mod retries;
 mod standard;
 mod steady;
 
+pub use answers::{Reader, Writer};
 pub use memory::MemoryPort;
 pub use pieces::{note_all, write_all};
 pub use port::{Failed, Port};

@@ -1,13 +1,15 @@
 // The real outside: the trusted edge of the program.
-ghost use Rattle.std.specs.Prelude.{◌≡◌, MatchResult};
+ghost use Rattle.std.specs.Prelude.{◌≡◌, ℕ, length, Result, MatchResult};
 ghost use Rattle.std.specs.Io.KnownBytes.{ReadConsumes, WriteAppends, Keeps};
 ghost use Rattle.port_122.specs.Outside.{Outside, Read, ReadFailed, Written, WriteFailed, Noted, NoteFailed};
 ghost use Rattle.port_122.specs.Faults.{HasFaults, faults_after};
 ghost use Rattle.port_122.specs.Standard.{outside_of};
+ghost use Rattle.port_122.specs.Answers.{EndsWith, IsRead, IsWritten};
+ghost use Rattle.std.specs.declared.io.Error.{Error};
 
+use crate::answers::{Reader, Writer};
 use crate::port::{Failed, Port};
 use crate::retries::{read_some, write_some};
-use std::io::{Read, Write};
 
 /// A port over a reader and two writers, which counts their faults (docs/architecture.md, "The outside").
 ///
@@ -15,7 +17,7 @@ use std::io::{Read, Write};
 /// (`ErrorKind::Interrupted`) moved nothing and is made again. Any other error is a fault, also `WouldBlock`, and so
 /// is a write or a note that takes nothing of a piece that is not empty.
 #[derive(Drop)]
-pub struct StdPort<I: Read, O: Write, N: Write> {
+pub struct StdPort<I: Reader, O: Writer, N: Writer> {
     input: I,
     output: O,
     notes: N,
@@ -24,7 +26,7 @@ pub struct StdPort<I: Read, O: Write, N: Write> {
     note_faults: u64,
 }
 
-impl<I: Read, O: Write, N: Write> StdPort<I, O, N> {
+impl<I: Reader, O: Writer, N: Writer> StdPort<I, O, N> {
     /// Returns a port over these, without a fault so far.
     pub fn new(input: I, output: O, notes: N) -> StdPort<I, O, N>
         ensures input { result.input ≡ input }
@@ -43,7 +45,7 @@ impl<I: Read, O: Write, N: Write> StdPort<I, O, N> {
     }
 }
 
-impl<I: Read, O: Write, N: Write> Port for StdPort<I, O, N> {
+impl<I: Reader, O: Writer, N: Writer> Port for StdPort<I, O, N> {
     ghost outside = { outside_of };
 
     fn read(&mut self, into: &mut [u8]) -> Result<usize, Failed>
@@ -51,6 +53,7 @@ impl<I: Read, O: Write, N: Write> Port for StdPort<I, O, N> {
             (λ n. Read (outside_of self.old) (outside_of self.new) into.new n)
             (λ _. ReadFailed (outside_of self.old) (outside_of self.new)) }
         ensures faults { HasFaults (outside_of self.new) (faults_after result self.old.read_faults) self.old.write_faults self.old.note_faults }
+        ensures answer { (answer : Result ℕ Error) × EndsWith I.answers self.old.input answer self.new.input × IsRead answer result }
         ensures reads { ReadConsumes (I.remaining self.old.input) (I.remaining self.new.input) result into.new }
         ensures output { self.new.output ≡ self.old.output }
         ensures notes { self.new.notes ≡ self.old.notes }
@@ -69,6 +72,7 @@ impl<I: Read, O: Write, N: Write> Port for StdPort<I, O, N> {
             (λ n. Written (outside_of self.old) (outside_of self.new) bytes.now n)
             (λ _. WriteFailed (outside_of self.old) (outside_of self.new)) }
         ensures faults { HasFaults (outside_of self.new) self.old.read_faults (faults_after result self.old.write_faults) self.old.note_faults }
+        ensures answer { (answer : Result ℕ Error) × EndsWith O.answers self.old.output answer self.new.output × IsWritten (length bytes.now) answer result }
         ensures writes { WriteAppends (O.contents self.old.output) (O.contents self.new.output) result bytes.now }
         ensures input { self.new.input ≡ self.old.input }
         ensures notes { self.new.notes ≡ self.old.notes }
@@ -87,6 +91,7 @@ impl<I: Read, O: Write, N: Write> Port for StdPort<I, O, N> {
             (λ n. Noted (outside_of self.old) (outside_of self.new) bytes.now n)
             (λ _. NoteFailed (outside_of self.old) (outside_of self.new)) }
         ensures faults { HasFaults (outside_of self.new) self.old.read_faults self.old.write_faults (faults_after result self.old.note_faults) }
+        ensures answer { (answer : Result ℕ Error) × EndsWith N.answers self.old.notes answer self.new.notes × IsWritten (length bytes.now) answer result }
         ensures writes { WriteAppends (N.contents self.old.notes) (N.contents self.new.notes) result bytes.now }
         ensures input { self.new.input ≡ self.old.input }
         ensures output { self.new.output ≡ self.old.output }

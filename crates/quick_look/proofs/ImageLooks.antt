@@ -8,7 +8,8 @@ use Rattle.base_122.specs.declared.geometry.Geometry.{Geometry}
 use Rattle.base_122.specs.declared.setting.Setting.{Setting}
 use Rattle.base_122.specs.declared.wish.DecodeWish.{DecodeWish}
 use Rattle.raster_rows.specs.Pixels.{clamped, raster_octets}
-use Rattle.segment_code.specs.Laws.{CodedHolds, CodedHoldsExactly, TextsAreShort}
+use Rattle.segment_code.specs.ShortTexts.{TextsAreShort}
+use Rattle.segment_code.specs.Coded.{CodedTextsAreRead}
 use Rattle.stream_defs.specs.Begun.{begun_in, block_rows}
 use Rattle.stream_defs.specs.Fates.{geometry_in}
 use Rattle.stream_defs.specs.Output.{output}
@@ -28,7 +29,7 @@ use Rattle.quick_look.specs.Looks.{IsLook}
 use Rattle.quick_look.specs.LookLaws.{low_image}
 use Rattle.quick_look.proofs.LowBands.{first_is, low_is}
 
-module _ (short : TextsAreShort) (holds : CodedHolds) (exact : CodedHoldsExactly) (s : Setting) (rows : ℕ) (x : ℕ → ℕ → ℤ) (is : IsImageFor s rows x) (received : Numbers)
+module _ (short : TextsAreShort) (read : CodedTextsAreRead) (s : Setting) (rows : ℕ) (x : ℕ → ℕ → ℤ) (is : IsImageFor s rows x) (received : Numbers)
     (received_is : ReceivedIn (holds_after s.book) s.apid (output s rows x) received) (sends : SendsAll s) where
   abbrev g : Geometry
   g = image_geometry s rows
@@ -48,16 +49,16 @@ module _ (short : TextsAreShort) (holds : CodedHolds) (exact : CodedHoldsExactly
   pub look_is : (t k : ℕ) → t < r → k < c → look g received t k ≡ low_image s rows x t k
   look_is t k row column =
       let low = pyramid_with (number_at g received) c weights in
-      let same = block_same (sized s rows) x (sized_range short s rows x is) is.height.0 is.pixels.at (number_at g received) (number_is short s rows x is received received_is holds exact sends) t k row column in
+      let same = block_same (sized s rows) x (sized_range short s rows x is) is.height.0 is.pixels.at (number_at g received) (number_is short s rows x is received received_is read sends) t k row column in
       let there : low.ll3 t k ≡ bands.ll3 t k = sym (first_is low t k) ∙ same.at 0 (omega arith) ∙ first_is bands t k in
       ap (clamped s.depth s.signed) (low_is g (number_at g received) t k ∙ there)
 
 -- ---- what a look gives
 
-pub given_back : TextsAreShort → CodedHolds → CodedHoldsExactly → (wish : DecodeWish) (start new : Outside) (took gave every : List ℕ) (done : DecodeDone) (s : Setting) (rows : ℕ) (x : ℕ → ℕ → ℤ) →
+pub given_back : TextsAreShort → CodedTextsAreRead → (wish : DecodeWish) (start new : Outside) (took gave every : List ℕ) (done : DecodeDone) (s : Setting) (rows : ℕ) (x : ℕ → ℕ → ℤ) →
     IsLook wish start new took gave done → start.rest ≡ Some every → wish.apid ≡ s.apid → wish.book ≡ s.book → took ≡ output s rows x → IsImageFor s rows x → SendsAll s →
     gave ≡ raster_octets s.depth (block_count rows) (block_count s.width) (low_image s rows x)
-given_back short holds exact wish start new took gave every done s rows x found told apid book took_is is sends =
+given_back short read wish start new took gave every done s rows x found told apid book took_is is sends =
     let t = found.found.told every told in
     let received = t.0 in
     let n : ℕ = begun_in wish.apid took in
@@ -69,4 +70,4 @@ given_back short holds exact wish start new took gave every done s rows x found 
     let mine : ReceivedIn (holds_after s.book) s.apid (output s rows x) received = subst (λ octets. ReceivedIn (holds_after s.book) s.apid octets received) took_is (subst (λ n. ReceivedIn (holds_after s.book) n took received) apid (subst (λ b. ReceivedIn (holds_after b) wish.apid took received) book t.1)) in
     found.look every told received t.1 ∙ ap (λ g. look_octets g received n) size
     ∙ ap (λ k. raster_octets s.depth k (block_count s.width) (look (image_geometry s rows) received)) all_rows
-    ∙ raster_same s.depth (block_count rows) (block_count s.width) (look (image_geometry s rows) received) (low_image s rows x) (look_is short holds exact s rows x is received mine sends)
+    ∙ raster_same s.depth (block_count rows) (block_count s.width) (look (image_geometry s rows) received) (low_image s rows x) (look_is short read s rows x is received mine sends)

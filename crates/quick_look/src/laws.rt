@@ -2,7 +2,7 @@
 ghost use Rattle.quick_look.specs.Look.{LookIsLow};
 ghost use Rattle.quick_look.specs.LookLaws.{LooksOfImages};
 
-use segment_code::{coded_holds, coded_holds_exactly, texts_are_short};
+use segment_code::{coded_texts_are_read, texts_are_short};
 
 /// A look has the values of the lowest of the bands that the picture of the same blocks is made from, each clamped.
 pub const fn look_is_low()
@@ -15,6 +15,5 @@ pub const fn looks_are_of_images()
     ensures { LooksOfImages }
 {
     texts_are_short();
-    coded_holds();
-    coded_holds_exactly();
+    coded_texts_are_read();
 }

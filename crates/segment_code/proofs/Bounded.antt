@@ -13,7 +13,7 @@ use Rattle.segment_defs.specs.Head.{IsHead}
 use Rattle.segment_defs.specs.SegmentItems.{dc_shift}
 use Rattle.segment_defs.specs.Coded.{chosen_options, coded_bits}
 use Rattle.segment_code.proofs.Encoding.{IsBounded}
-use Rattle.segment_code.proofs.CodedOptions.{words_are, numbers_are}
+use Rattle.segment_code.proofs.CodedChoices.{words_are, numbers_are}
 use Rattle.segment_code.proofs.DcFits.{blocks_fit}
 use Rattle.segment_code.proofs.BlockLists.{length-blocks_in}
 use Rattle.segment_code.proofs.DepthMarks.{depth_within}

@@ -14,7 +14,7 @@ use Rattle.segment_defs.specs.declared.head.SegmentHead.{SegmentHead}
 use Rattle.segment_defs.specs.Coded.{choice_of, chosen_options}
 use Rattle.segment_defs.specs.Depths.{block_depth, block_depths, depth_ac_of}
 use Rattle.segment_code.proofs.BlockLists.{blocks_push}
-use Rattle.segment_code.proofs.CodedOptions.{within_greatest}
+use Rattle.segment_code.proofs.CodedChoices.{within_greatest}
 
 -- the depths as the writer of depths reads them
 pub plain_depths : (ds : List ℕ) → plain.depths_of (map pos ds) ≡ ds

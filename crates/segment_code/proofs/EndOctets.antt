@@ -8,7 +8,7 @@ use Rattle.item_defs.proofs.OctetBits.{octets_both, octet_alone}
 use Rattle.bit_pipe.specs.declared.fault.Part.{Part}
 use Rattle.bit_pipe.specs.Sources.{SourceOf, Comes, GivesOctet}
 use Rattle.bit_pipe.proofs.Taking.{comes_then}
-use Rattle.segment_code.specs.declared.decode.SegmentFault.{SegmentFault}
+use Rattle.segment_code.specs.declared.fault.SegmentFault.{SegmentFault}
 use Rattle.segment_code.specs.TextEnds.{EndsLength, Passes}
 
 -- this number of octets was read
@@ -31,7 +31,8 @@ module _ {I : Type 0} {k : SourceOf I} where
     went = k.went_both a b c p.went q.went;
   }
 
-  ends_so : {a b : I} {n : ℕ} (p : HaveCome k n a b) (count : ℕ) (part : Part) (r : Result Part SegmentFault) → EndsLength k count part r p.octets a b → Passes k count part r a b
+  ends_so : {a b : I} {n : ℕ} (p : HaveCome k n a b) (count : ℕ) (part : Part) (r : Result Part SegmentFault) → EndsLength k count part r p.octets a b →
+      Passes k count part r a b
   ends_so p count part r e = record { octets = p.octets; small = p.small; came = p.came; faults = p.faults; went = p.went; ends = e }
 
   -- all of them were read
@@ -40,7 +41,8 @@ module _ {I : Type 0} {k : SourceOf I} where
 
 -- ---- the expected length
 
-pub rounded_octets : (word used ceiling a b : ℕ) → 0 < word → a ≡ word → b ≡ word → ceiling ≡ used / (8 * a) + min 1 (used % (8 * a)) → 8 * (ceiling * b) ≡ rounded (8 * word) used
+pub rounded_octets : (word used ceiling a b : ℕ) → 0 < word → a ≡ word → b ≡ word → ceiling ≡ used / (8 * a) + min 1 (used % (8 * a)) → 8 *
+    (ceiling * b) ≡ rounded (8 * word) used
 rounded_octets word used ceiling a b some f g h =
     let unit = 8 * word in
     let c : ceiling ≡ used / unit + min 1 (used % unit) = h ∙ ap (λ n. used / (8 * n) + min 1 (used % (8 * n))) f in

@@ -16,25 +16,25 @@ pub mod TextBits
 mod DepthMarks
 mod SegmentDepths
 mod Holding
+mod BlocksHeld
+mod StartReads
 mod EndOctets
-mod Decoding
-mod BriefItems
-mod LowParts
-mod GivenTests
-mod GivenParts
-mod DcGiven
-mod ItemFronts
-mod DcReads
-mod PartReads
-mod StepFacts
-mod NumberCuts
-mod PlaneGiven
-mod PlaneSteps
-mod PlaneStates
+mod Deciding
+mod AnswerLaws
+mod BoundedScripts
+mod BoundedNumbers
+mod BoundedPlanes
+mod BoundedTexts
+mod OutcomesAgree
+mod WorkedRead
+mod TakenOctets
+mod ItemsDecoded
 mod FromText
 mod Joined
-mod ReadNames
-pub mod CodedHeld
-pub mod CodedOptions
-mod ExactTexts
-pub mod ItemEnds
+mod EndsSay
+mod TextJoined
+mod PartsGiven
+mod SpelledDecide
+pub mod CodedChoices
+mod CodedFronts
+mod CodedRead

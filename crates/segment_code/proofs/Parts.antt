@@ -9,7 +9,7 @@ use Rattle.segment_defs.specs.Depths.{block_depths}
 use Rattle.number_defs.specs.Depths.{depth_items}
 use Rattle.segment_defs.specs.SegmentItems.{items_after_dc, segment_items}
 use Rattle.segment_defs.specs.Coded.{chosen_options, dc_part}
-use Rattle.segment_code.specs.Parts.{coded_planes, coded_rest}
+use Rattle.segment_code.specs.CodedParts.{coded_planes, coded_rest}
 
 module _ (book : Book) (h : SegmentHead) (blocks : List (List ℤ)) where
   -- DC part and rest

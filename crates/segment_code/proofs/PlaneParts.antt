@@ -18,7 +18,7 @@ use Rattle.plane_coder.specs.Views.{plane_of}
 use Rattle.segment_defs.specs.declared.head.SegmentHead.{SegmentHead}
 use Rattle.segment_defs.specs.Depths.{block_depths}
 use Rattle.segment_defs.specs.SegmentItems.{q_of, plane_at, stages_sent, nth_plane}
-use Rattle.segment_code.specs.Parts.{coded_plane, coded_planes}
+use Rattle.segment_code.specs.CodedParts.{coded_plane, coded_planes}
 
 -- the plane that a call is given
 told_plane : (h : SegmentHead) (cells : List ℤ) (depths : List ℕ) (plan : PlanePlan) (n : ℕ) → depths ≡ block_depths (blocks_in cells) →

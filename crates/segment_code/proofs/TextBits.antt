@@ -14,8 +14,8 @@ use Rattle.segment_defs.specs.Head.{IsHead, head_bits}
 use Rattle.segment_defs.specs.SegmentItems.{Options, dc_shift, dc_part_items, nth_plane_items, planes_items, items_after_dc, segment_items}
 use Rattle.segment_head.proofs.WrittenHeads.{length-head_bits}
 use Rattle.text_defs.specs.Spellable.{AreWordOptions, AreNumberOptions}
-use Rattle.text_defs.proofs.SegmentAlike.{sent_most}
-use Rattle.segment_code.specs.Laws.{TextsAreShort}
+use Rattle.segment_defs.proofs.SentStages.{sent_most}
+use Rattle.segment_code.specs.ShortTexts.{TextsAreShort}
 use Rattle.segment_code.proofs.NumberBits.{dc_few, depths_few}
 use Rattle.segment_code.proofs.EntryBits.{text_each, length_span}
 use Rattle.segment_code.proofs.PlaneBits.{plane_few}

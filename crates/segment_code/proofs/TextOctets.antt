@@ -1,5 +1,5 @@
 -- The octets of a text that was put whole, or up to its limit.
-use Rattle.std.proofs.Common.{◌≡◌, ℕ, ◌*◌, ◌%◌, ◌≤◌, List, ◌++◌, length, take, drop, Bool, false, refl, sym, ap, ◌∙◌, arith, length-append, ◌==◌}
+use Rattle.std.proofs.Common.{◌≡◌, ℕ, ◌*◌, ◌%◌, ◌≤◌, List, [], ◌∷◌, ◌++◌, length, take, drop, Bool, false, refl, sym, ap, ◌∙◌, arith, length-append, ◌==◌}
 use Rattle.std.proofs.lemmas.Bool.Decides.{nat_tests}
 use Rattle.std.proofs.lemmas.List.{append-nil, take_all, take_at, take-append-le, take-append-drop, length-take-le}
 use Rattle.item_defs.specs.Bits.{copies, octets_of}
@@ -62,3 +62,8 @@ text_cut word limit fill bits l le =
     ∙ ap octets_of (sym (take-append-le (8 * limit) bits zeros le))
     ∙ sym (take-octets_of limit (bits ++ zeros) (omega (arith, le, length-append bits zeros)))
     )
+
+-- a list without a length is empty
+pub none_long : (l : List ℕ) → length l ≡ 0 → l ≡ []
+none_long [] e = refl
+none_long (x ∷ l) e = absurd (omega (arith, e))

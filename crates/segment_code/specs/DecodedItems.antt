@@ -8,25 +8,27 @@ use Rattle.bit_pipe.specs.Sinks.{Rose}
 use Rattle.bit_pipe.specs.declared.fault.Part.{Part}
 use Rattle.bit_pipe.specs.Sources.{SourceOf, Comes, IsOver, Plainly, TooLong, InPieces}
 use Rattle.segment_defs.specs.declared.head.SegmentHead.{SegmentHead}
-use Rattle.segment_code.specs.ItemsHeld.{HoldsItems, RefusesItem, LacksItems}
-use Rattle.segment_code.specs.declared.decode.SegmentFault.{SegmentFault}
-use Rattle.segment_code.specs.declared.decode.SegmentFault.TheVariants.{BadOption, BadDelta, BadDepth, FalseFlag, ShortSegment, Overlong, BrokenSegment, ReadFault, LongInput}
+use Rattle.segment_code.specs.TextAnswers.{gives, refuses, Decides, NeedsMore}
+use Rattle.segment_code.specs.declared.fault.SegmentFault.{SegmentFault}
+use Rattle.segment_code.specs.declared.fault.SegmentFault.TheVariants.{BadOption, BadDelta, BadDepth, FalseFlag, ShortSegment, Overlong, BrokenSegment, ReadFault, LongInput}
 
+-- the answer that the octets decide; or the input ended, or failed, where more octets are needed
 abbrev pub EndsItems : {I : Type 0} → SourceOf I → Book → SegmentHead → (size : ℕ) → Result Part SegmentFault → List ℕ → I → I → List ℤ → Type 0
-EndsItems k book head size (Ok part) octets old new blocks = HoldsItems book head size octets (blocks_in blocks) part
-EndsItems k book head size (Err BadOption) octets old new blocks = RefusesItem book head size octets bad_option
-EndsItems k book head size (Err BadDelta) octets old new blocks = RefusesItem book head size octets bad_delta
-EndsItems k book head size (Err BadDepth) octets old new blocks = RefusesItem book head size octets bad_depth
-EndsItems k book head size (Err FalseFlag) octets old new blocks = RefusesItem book head size octets false_flag
-EndsItems k book head size (Err ShortSegment) octets old new blocks = IsOver (k.tail new) Plainly × LacksItems book head size octets
+EndsItems k book head size (Ok part) octets old new blocks = Decides book head size octets (gives part (blocks_in blocks))
+EndsItems k book head size (Err BadOption) octets old new blocks = Decides book head size octets (refuses bad_option)
+EndsItems k book head size (Err BadDelta) octets old new blocks = Decides book head size octets (refuses bad_delta)
+EndsItems k book head size (Err BadDepth) octets old new blocks = Decides book head size octets (refuses bad_depth)
+EndsItems k book head size (Err FalseFlag) octets old new blocks = Decides book head size octets (refuses false_flag)
+EndsItems k book head size (Err ShortSegment) octets old new blocks = NeedsMore book head size octets × IsOver (k.tail new) Plainly
 EndsItems k book head size (Err Overlong) octets old new blocks = ⊥
-EndsItems k book head size (Err BrokenSegment) octets old new blocks = IsOver (k.tail new) InPieces
-EndsItems k book head size (Err LongInput) octets old new blocks = IsOver (k.tail new) TooLong
-EndsItems k book head size (Err ReadFault) octets old new blocks = Rose (k.faults old) (k.faults new)
+EndsItems k book head size (Err BrokenSegment) octets old new blocks = NeedsMore book head size octets × IsOver (k.tail new) InPieces
+EndsItems k book head size (Err LongInput) octets old new blocks = NeedsMore book head size octets × IsOver (k.tail new) TooLong
+EndsItems k book head size (Err ReadFault) octets old new blocks = NeedsMore book head size octets × Rose (k.faults old) (k.faults new)
 
--- The octets of a text after its head were read, and no others: these are the octets, and the answer is what they hold, the name
--- by which they are refused, or how the input ended.
-pub record DecodesItems {I : Type 0} (k : SourceOf I) (book : Book) (head : SegmentHead) (size : ℕ) (result : Result Part SegmentFault) (old new : I) (blocks : List ℤ) : Type 0 where
+-- The octets of a text after its head were read, and no others: these are the octets, and the answer is the one that they decide, or
+-- how the input ended.
+pub record DecodesItems {I : Type 0} (k : SourceOf I) (book : Book) (head : SegmentHead) (size : ℕ) (result : Result Part SegmentFault) (old new : I)
+    (blocks : List ℤ) : Type 0 where
   pub octets : List ℕ
   pub small : AreOctets octets
   pub came : Comes (k.tail old) (k.tail new) octets

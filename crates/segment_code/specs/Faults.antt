@@ -3,8 +3,8 @@ use Rattle.bit_pipe.specs.declared.fault.InFault.{InFault}
 use Rattle.bit_pipe.specs.declared.fault.InFault.TheVariants as inputs
 use Rattle.bit_pipe.specs.declared.fault.TextFault.{TextFault}
 use Rattle.bit_pipe.specs.declared.fault.TextFault.TheVariants as texts
-use Rattle.segment_code.specs.declared.decode.SegmentFault.{SegmentFault}
-use Rattle.segment_code.specs.declared.decode.SegmentFault.TheVariants as segments
+use Rattle.segment_code.specs.declared.fault.SegmentFault.{SegmentFault}
+use Rattle.segment_code.specs.declared.fault.SegmentFault.TheVariants as segments
 
 abbrev pub of_input : InFault → SegmentFault
 of_input inputs.ReadFault = segments.ReadFault

@@ -1,43 +1,51 @@
--- The laws of a segment's text.
-use Rattle.std.specs.Prelude.{◌≡◌, ◌<◌, ◌↔◌, ℕ, ◌^◌, ℤ, true, false, List, [], ◌++◌, length, drop}
-use Rattle.item_defs.specs.Items.{text}
+-- The laws of what octets after a head hold.
+use Rattle.std.specs.Prelude.{◌≡◌, ◌<◌, ◌≤◌, ℕ, ℤ, true, ◌==◌, if◌then◌else◌, List, ◌++◌, length, Option, Some, None, Ok, Err}
 use Rattle.base_122.specs.declared.book.Book.{Book}
 use Rattle.plane_defs.specs.Codes.{is_book_sound}
-use Rattle.segment_defs.specs.declared.head.SegmentHead.{SegmentHead}
-use Rattle.segment_defs.specs.Depths.{block_depths, depth_ac_of}
-use Rattle.segment_defs.specs.Head.{IsHead, head_bits, head_length}
-use Rattle.segment_defs.specs.SegmentItems.{Options, segment_items}
-use Rattle.segment_defs.specs.Coded.{coded}
-use Rattle.text_defs.specs.Spellable.{IsSpellable, AreWordOptions, AreNumberOptions}
-use Rattle.text_defs.specs.Outcomes.{Holds}
+use Rattle.item_defs.specs.Items.{Refusal}
 use Rattle.bit_pipe.specs.declared.fault.Part.{Part}
-use Rattle.segment_code.specs.ItemsHeld.{HoldsItems}
+use Rattle.segment_defs.specs.declared.head.SegmentHead.{SegmentHead}
+use Rattle.segment_defs.specs.Head.{IsHead, head_length}
+use Rattle.text_defs.specs.Outcomes.{at_item, short_segment, overlong}
+use Rattle.text_defs.specs.TextOutcome.{Answer, text_outcome}
+use Rattle.segment_code.specs.TextAnswers.{TextAnswer, gives, refuses, Decided, answer_in, Decides, NeedsMore}
+use Rattle.segment_code.specs.Decoded.{Overruns}
 
--- the coded text of values that can be spelled holds something, whatever its sound book, its stop and its limit
-abbrev pub CodedHolds : Type 0
-CodedHolds = (book : Book) → is_book_sound book ≡ true → (head : SegmentHead) (blocks : List (List ℤ)) → IsHead head → length head.image.weights.shifts ≡ 10 → IsSpellable head blocks (block_depths blocks) →
-    head.depth_ac ≡ depth_ac_of blocks → (w : List (List ℤ)) × Holds book head (drop (head_length head) (coded book head blocks)) w
+-- octets that decide an answer are there, more octets do not change it, and fewer decide nothing
+pub record EndsThere (book : Book) (head : SegmentHead) (size : ℕ) : Type 0 where
+  pub enough : (rest : List ℕ) (d : Decided) → answer_in book head size rest ≡ Some d → d.octets ≤ length rest
+  pub stays : (rest more : List ℕ) (d : Decided) → answer_in book head size rest ≡ Some d → answer_in book head size (rest ++ more) ≡ Some d
+  pub least : (rest more : List ℕ) (d : Decided) → answer_in book head size (rest ++ more) ≡ Some d → length rest < d.octets →
+      answer_in book head size rest ≡ None
 
--- the stop is after the last stage of the last bit plane
-pub record HasNoStop (head : SegmentHead) : Type 0 where
-  pub goes_on : head.stop.dc ≡ false
-  pub plane : head.stop.plane ≡ 0
-  pub stage : head.stop.stage ≡ 3
+abbrev pub TextsEndThere : Type 0
+TextsEndThere = (book : Book) → is_book_sound book ≡ true → (head : SegmentHead) (size : ℕ) → IsHead head → size ≤ 20 → EndsThere book head size
 
--- a coded text with neither a stop nor a limit holds exactly the blocks that were coded
-abbrev pub CodedHoldsExactly : Type 0
-CodedHoldsExactly = (book : Book) → is_book_sound book ≡ true → (head : SegmentHead) (blocks : List (List ℤ)) → IsHead head → length head.image.weights.shifts ≡ 10 → IsSpellable head blocks (block_depths blocks) →
-    head.depth_ac ≡ depth_ac_of blocks → head.limit ≡ 0 → HasNoStop head →
-    (w : List (List ℤ)) → Holds book head (drop (head_length head) (coded book head blocks)) w ↔ (w ≡ blocks)
+-- what a text of this number of octets holds if some of them decide this answer
+abbrev pub by_answer : (octets count : ℕ) → TextAnswer → Answer
+by_answer octets count (gives part w) = if count == octets then Ok w else Err overlong
+by_answer octets count (refuses name) = Err (at_item name)
 
--- head and items of values that can be coded, with any options, take fewer than 2 ^ 31 octets, so the bound of 2 ^
--- 32 octets that represents no limit never cuts them
-abbrev pub TextsAreShort : Type 0
-TextsAreShort = (head : SegmentHead) (blocks : List (List ℤ)) (depths : List ℕ) (options : Options) → IsHead head → length head.image.weights.shifts ≡ 10 →
-    IsSpellable head blocks depths → AreWordOptions options → AreNumberOptions head options → length (head_bits head ++ text (segment_items head blocks depths options)) < 2 ^ 34
+abbrev pub with_end : (octets : ℕ) → Option Decided → Answer
+with_end octets (Some d) = by_answer octets d.octets d.answer
+with_end octets None = Err short_segment
 
--- Octets that hold the items of a text need no end from outside: no proper prefix of them holds items after such a head. They hold one
--- list of blocks.
-pub record ItemsEndThere : Type 0 where
-  pub no_prefix : (book : Book) (head : SegmentHead) (size : ℕ) (rest more : List ℕ) (v w : List (List ℤ)) (p q : Part) → IsHead head → HoldsItems book head size rest v p → HoldsItems book head size (rest ++ more) w q → more ≡ []
-  pub one : (book : Book) (head : SegmentHead) (size : ℕ) (rest : List ℕ) (v w : List (List ℤ)) (p q : Part) → IsHead head → HoldsItems book head size rest v p → HoldsItems book head size rest w q → v ≡ w
+-- a text with its end holds what its octets hold, if it ends with them
+abbrev pub OutcomesAgree : Type 0
+OutcomesAgree = (book : Book) (head : SegmentHead) (rest : List ℕ) → IsHead head →
+    text_outcome book head rest ≡ with_end (length rest) (answer_in book head (head_length head) rest)
+
+-- what octets that were taken say of a text with its end, if they are its first ones
+pub record EndsSay (book : Book) (head : SegmentHead) : Type 0 where
+  pub given : (octets : List ℕ) (part : Part) (w : List (List ℤ)) → Decides book head (head_length head) octets (gives part w) →
+      text_outcome book head octets ≡ Ok w
+  pub refused : (octets more : List ℕ) (name : Refusal) → Decides book head (head_length head) octets (refuses name) →
+      text_outcome book head (octets ++ more) ≡ Err (at_item name)
+  pub short : (octets : List ℕ) → NeedsMore book head (head_length head) octets → text_outcome book head octets ≡ Err short_segment
+  pub overruns : (octets more : List ℕ) → Overruns book head octets → text_outcome book head (octets ++ more) ≡ Err overlong
+  -- and a text that holds blocks decides them
+  pub held : (octets : List ℕ) (w : List (List ℤ)) → text_outcome book head octets ≡ Ok w →
+      (part : Part) × Decides book head (head_length head) octets (gives part w)
+
+abbrev pub TextsEndSo : Type 0
+TextsEndSo = (book : Book) → is_book_sound book ≡ true → (head : SegmentHead) → IsHead head → EndsSay book head

@@ -1,20 +1,14 @@
--- The parts of a coded text: what a writer sends of these blocks.
-use Rattle.std.specs.Prelude.{ℕ, ℤ, if◌then◌else◌, List, []}
-use Rattle.item_defs.specs.Items.{Item}
+-- The numbers that a text gives, after a head of any size. (This project's own.)
+use Rattle.std.specs.Prelude.{◌≡◌, ℕ, ℤ, true, List, Some}
 use Rattle.base_122.specs.declared.book.Book.{Book}
+use Rattle.plane_defs.specs.Codes.{is_book_sound}
+use Rattle.bit_pipe.specs.declared.fault.Part.{Part}
 use Rattle.segment_defs.specs.declared.head.SegmentHead.{SegmentHead}
-use Rattle.segment_defs.specs.Depths.{block_depths}
-use Rattle.segment_defs.specs.SegmentItems.{nth_plane_items, planes_items, items_after_dc}
-use Rattle.segment_defs.specs.Coded.{chosen_options}
+use Rattle.segment_defs.specs.Head.{IsHead}
+use Rattle.text_defs.specs.Parts.{AreWeighted}
+use Rattle.segment_code.specs.TextAnswers.{gives, answer_in}
 
--- the nth plane from the top
-abbrev pub coded_plane : Book → SegmentHead → List (List ℤ) → ℕ → List Item
-coded_plane book head blocks n = nth_plane_items head blocks (block_depths blocks) (chosen_options book head blocks) n
-
--- the first n planes from the top
-abbrev pub coded_planes : Book → SegmentHead → List (List ℤ) → ℕ → List Item
-coded_planes book head blocks n = planes_items head blocks (block_depths blocks) (chosen_options book head blocks) n
-
--- the items after the DC part: the block depths and all planes, unless the text stops at the DC numbers
-abbrev pub coded_rest : Book → SegmentHead → List (List ℤ) → List Item
-coded_rest book head blocks = if head.stop.dc then [] else items_after_dc head blocks (block_depths blocks) (chosen_options book head blocks)
+-- what a text gives, whole or cut, are blocks of multiples of their weights
+abbrev pub TextsGiveParts : Type 0
+TextsGiveParts = (book : Book) → is_book_sound book ≡ true → (head : SegmentHead) (size : ℕ) (rest : List ℕ) (part : Part) (w : List (List ℤ))
+    (octets : ℕ) → IsHead head → answer_in book head size rest ≡ Some (record { answer = gives part w; octets = octets }) → AreWeighted head w

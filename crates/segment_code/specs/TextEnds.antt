@@ -8,8 +8,8 @@ use Rattle.bit_pipe.specs.declared.fault.Part.{Part}
 use Rattle.bit_pipe.specs.declared.fault.Part.TheVariants.{Whole, Ended}
 use Rattle.bit_pipe.specs.Sources.{SourceOf, Comes, IsOver, Plainly, TooLong, InPieces}
 use Rattle.segment_defs.specs.declared.head.SegmentHead.{SegmentHead}
-use Rattle.segment_code.specs.declared.decode.SegmentFault.{SegmentFault}
-use Rattle.segment_code.specs.declared.decode.SegmentFault.TheVariants.{ShortSegment, BrokenSegment, ReadFault, LongInput}
+use Rattle.segment_code.specs.declared.fault.SegmentFault.{SegmentFault}
+use Rattle.segment_code.specs.declared.fault.SegmentFault.TheVariants.{ShortSegment, BrokenSegment, ReadFault, LongInput}
 
 -- the bits of a whole text in which this number of bits are head and items
 abbrev pub wanted_bits : SegmentHead → ℕ → ℕ
@@ -19,9 +19,9 @@ wanted_bits head used = if head.fill then 8 * head.limit else rounded (8 * head.
 abbrev pub EndsLength : {I : Type 0} → SourceOf I → ℕ → Part → Result Part SegmentFault → List ℕ → I → I → Type 0
 EndsLength k count part (Ok answered) octets old new = (answered ≡ part) × (length octets ≡ count)
 EndsLength k count part (Err ShortSegment) octets old new = (length octets < count) × IsOver (k.tail new) Plainly
-EndsLength k count part (Err BrokenSegment) octets old new = IsOver (k.tail new) InPieces
-EndsLength k count part (Err LongInput) octets old new = IsOver (k.tail new) TooLong
-EndsLength k count part (Err ReadFault) octets old new = Rose (k.faults old) (k.faults new)
+EndsLength k count part (Err BrokenSegment) octets old new = (length octets < count) × IsOver (k.tail new) InPieces
+EndsLength k count part (Err LongInput) octets old new = (length octets < count) × IsOver (k.tail new) TooLong
+EndsLength k count part (Err ReadFault) octets old new = (length octets < count) × Rose (k.faults old) (k.faults new)
 EndsLength k count part (Err other) octets old new = ⊥
 
 -- a number of octets was asked for

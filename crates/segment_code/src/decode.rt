@@ -1,72 +1,20 @@
 // The reader of a segment's text.
-ghost use Rattle.std.specs.Prelude.{◌≡◌, ◌≤◌, ◌*◌, IsTrue, length};
+ghost use Rattle.std.specs.Prelude.{◌≡◌, ◌≤◌, ◌*◌, IfOk, IsTrue, length};
 ghost use Rattle.plane_defs.specs.Codes.{is_book_sound};
 ghost use Rattle.segment_defs.specs.Head.{IsHead};
 ghost use Rattle.segment_code.specs.Decoded.{DecodesSegment};
 ghost use Rattle.segment_code.specs.DecodedItems.{DecodesItems};
-ghost use Rattle.segment_code.specs.TakenText.{AreClear, TakesFrom};
+ghost use Rattle.segment_code.specs.Starts.{AreClear};
+ghost use Rattle.segment_code.specs.TakenText.{TakesFrom};
 
-use crate::end_in::{end_cut, end_whole};
+use crate::fault::SegmentFault;
+use crate::text_end::{end_input, end_text};
 use crate::text_in::take_text;
 use base_122::Book;
-use bit_pipe::{BitIn, InFault, OctetIn, Part, TextFault};
-use segment_head::SegmentHead;
-use word_codes::WordTables;
-
-/// The reason why a segment's text is not accepted (docs/formats.md, "Reading a segment").
-#[derive(Clone, Copy, Debug, PartialEq, Eq)]
-pub enum SegmentFault {
-    /// An identifier has no option.
-    BadOption,
-    /// A unary part has too many zeros.
-    BadDelta,
-    /// A block depth is above that of the head.
-    BadDepth,
-    /// A flag says that a set is significant, but none of its members can be.
-    FalseFlag,
-    /// The text ends before its items and their padding do.
-    ShortSegment,
-    /// There are octets after the text's end.
-    Overlong,
-    /// The packets of the text do not all follow one another.
-    BrokenSegment,
-    /// The input failed.
-    ReadFault,
-    /// The input is longer than its bound.
-    LongInput,
-}
-
-impl From<InFault> for SegmentFault {
-    ghost use Rattle.segment_code.specs.Faults.{of_input};
-
-    ghost from_gives = { λ f e. e ≡ of_input f };
-
-    fn from(fault: InFault) -> SegmentFault {
-        match fault {
-            InFault::ReadFault => SegmentFault::ReadFault,
-            InFault::LongInput => SegmentFault::LongInput,
-            InFault::Broken => SegmentFault::BrokenSegment,
-        }
-    }
-}
-
-impl From<TextFault> for SegmentFault {
-    ghost use Rattle.segment_code.specs.Faults.{of_text};
-
-    ghost from_gives = { λ f e. e ≡ of_text f };
-
-    fn from(fault: TextFault) -> SegmentFault {
-        match fault {
-            TextFault::BadOption => SegmentFault::BadOption,
-            TextFault::BadDelta => SegmentFault::BadDelta,
-            TextFault::BadDepth => SegmentFault::BadDepth,
-            TextFault::FalseFlag => SegmentFault::FalseFlag,
-            TextFault::ReadFault => SegmentFault::ReadFault,
-            TextFault::LongInput => SegmentFault::LongInput,
-            TextFault::Broken => SegmentFault::BrokenSegment,
-        }
-    }
-}
+use bit_pipe::{BitIn, OctetIn, Part, TextFault};
+use plane_reader::PlaceTables;
+use segment_defs::SegmentHead;
+use std::alloc::{AllocError, Global};
 
 // Sets all numbers to 0.
 fn clear(blocks: &mut [i32])
@@ -76,45 +24,23 @@ fn clear(blocks: &mut [i32])
     blocks.fill(0);
 }
 
-// Reads the items of a text, up to the limit, after a head of `size` octets; returns also the number of bits of head and items.
-fn take_from<I: OctetIn>(
-    input: &mut I,
-    head: &SegmentHead,
-    size: u8,
-    blocks: &mut [i32],
-    marks: &mut [i32],
-    tables: &WordTables,
-) -> Result<(Part, u64), TextFault>
-    requires fits { IsHead head.now }
-    requires size { size ≤ 20 }
-    requires count { length blocks.old ≡ 64 * length marks.old }
-    requires marks { length marks.old ≡ head.now.blocks }
-    requires clear { AreClear blocks.old }
-    ensures takes { TakesFrom I.source tables.now.book head.now size result input.old input.new blocks.new }
-    ensures sizes { (length blocks.new ≡ length blocks.old) × (length marks.new ≡ length marks.old) }
-    ensures ten { length head.now.image.weights.shifts ≡ 10 }
-{
-    let mut bits = BitIn::new(input, u64::from(head.limit), u64::from(size));
-    let part = take_text(&mut bits, head, blocks, marks, tables)?;
-    Ok((part, bits.used()))
-}
-
 /// A reader of the texts of segments, with tables of their words that are made once.
 #[derive(Drop)]
 pub struct SegmentReader {
     /// The tables of the words, as the reader's book has their codes.
-    pub tables: WordTables,
+    pub tables: PlaceTables,
 }
 
 impl SegmentReader {
-    /// A reader of the segments that were written with this book. The book is sound.
-    pub fn new(book: &Book) -> SegmentReader
+    /// Returns a reader of the segments that were written with this book, with 48 kB of tables in memory that it takes. The book is sound.
+    /// The only error is a lack of memory.
+    pub fn new(alloc: Global, book: &Book) -> Result<SegmentReader, AllocError>
         requires sound { IsTrue (is_book_sound book.now) }
-        ensures book { result.tables.book ≡ book.now }
+        ensures book { IfOk result (λ reader. reader.tables.words.book ≡ book.now) }
     {
-        SegmentReader {
-            tables: WordTables::new(book),
-        }
+        Ok(SegmentReader {
+            tables: PlaceTables::new(alloc, book)?,
+        })
     }
 
     /// Reads a segment's text from the octets after its head into 64 numbers for each block (docs/formats.md, "Reading a
@@ -135,7 +61,7 @@ impl SegmentReader {
         requires fits { IsHead head.now }
         requires count { length blocks.old ≡ 64 * length marks.old }
         requires marks { length marks.old ≡ head.now.blocks }
-        ensures decodes { DecodesSegment I.source self.now.tables.book head.now result input.old input.new blocks.new }
+        ensures decodes { DecodesSegment I.source self.now.tables.words.book head.now result input.old input.new blocks.new }
         ensures sizes { (length blocks.new ≡ length blocks.old) × (length marks.new ≡ length marks.old) }
     {
         clear(blocks);
@@ -158,14 +84,11 @@ impl SegmentReader {
         requires count { length blocks.old ≡ 64 * length marks.old }
         requires marks { length marks.old ≡ head.now.blocks }
         requires clear { AreClear blocks.old }
-        ensures decodes { DecodesSegment I.source self.now.tables.book head.now result input.old input.new blocks.new }
+        ensures decodes { DecodesSegment I.source self.now.tables.words.book head.now result input.old input.new blocks.new }
         ensures sizes { (length blocks.new ≡ length blocks.old) × (length marks.new ≡ length marks.old) }
     {
         let part = self.items_into_clear(input, head, head.octets(), blocks, marks)?;
-        let None = input.take()? else {
-            return Err(SegmentFault::Overlong);
-        };
-        Ok(part)
+        end_input(input, part)
     }
 
     /// Reads the items of a segment's text, with their padding and fill, from the octets after its head into 64 numbers for
@@ -188,7 +111,7 @@ impl SegmentReader {
         requires size { size ≤ 20 }
         requires count { length blocks.old ≡ 64 * length marks.old }
         requires marks { length marks.old ≡ head.now.blocks }
-        ensures decodes { DecodesItems I.source self.now.tables.book head.now size result input.old input.new blocks.new }
+        ensures decodes { DecodesItems I.source self.now.tables.words.book head.now size result input.old input.new blocks.new }
         ensures sizes { (length blocks.new ≡ length blocks.old) × (length marks.new ≡ length marks.old) }
     {
         clear(blocks);
@@ -209,18 +132,37 @@ impl SegmentReader {
         requires count { length blocks.old ≡ 64 * length marks.old }
         requires marks { length marks.old ≡ head.now.blocks }
         requires clear { AreClear blocks.old }
-        ensures decodes { DecodesItems I.source self.now.tables.book head.now size result input.old input.new blocks.new }
+        ensures decodes { DecodesItems I.source self.now.tables.words.book head.now size result input.old input.new blocks.new }
         ensures sizes { (length blocks.new ≡ length blocks.old) × (length marks.new ≡ length marks.old) }
     {
-        let (part, used) = take_from(input, head, size, blocks, marks, &self.tables)?;
-        match part {
-            Part::Whole => end_whole(input, head, used),
-            Part::Ended => end_cut(head, used),
-        }
+        let (part, used) = self.take_from(input, head, size, blocks, marks)?;
+        end_text(input, head, part, used)
+    }
+
+    // Reads the items of a text, up to the limit, after a head of `size` octets; returns also the number of bits of head and items.
+    fn take_from<I: OctetIn>(
+        &self,
+        input: &mut I,
+        head: &SegmentHead,
+        size: u8,
+        blocks: &mut [i32],
+        marks: &mut [i32],
+    ) -> Result<(Part, u64), TextFault>
+        requires fits { IsHead head.now }
+        requires size { size ≤ 20 }
+        requires count { length blocks.old ≡ 64 * length marks.old }
+        requires marks { length marks.old ≡ head.now.blocks }
+        requires clear { AreClear blocks.old }
+        ensures takes { TakesFrom I.source self.now.tables.words.book head.now size result input.old input.new blocks.new }
+        ensures sizes { (length blocks.new ≡ length blocks.old) × (length marks.new ≡ length marks.old) }
+    {
+        let mut bits = BitIn::new(input, u64::from(head.limit), u64::from(size));
+        let part = take_text(&mut bits, head, &self.tables, blocks, marks)?;
+        Ok((part, bits.used()))
     }
 }
 
-/// The same for a single segment, with a sound book: `SegmentReader` serves many.
+/// The same for a single segment, with a sound book. It takes no memory, and each word takes more time: `SegmentReader` serves many.
 ///
 /// # Errors
 ///
@@ -239,5 +181,8 @@ pub fn decode_segment<I: OctetIn>(
     ensures decodes { DecodesSegment I.source book.now head.now result input.old input.new blocks.new }
     ensures sizes { (length blocks.new ≡ length blocks.old) × (length marks.new ≡ length marks.old) }
 {
-    SegmentReader::new(book).decode(input, head, blocks, marks)
+    let reader = SegmentReader {
+        tables: PlaceTables::of_words(book),
+    };
+    reader.decode(input, head, blocks, marks)
 }

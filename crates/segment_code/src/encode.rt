@@ -8,7 +8,7 @@ ghost use Rattle.segment_defs.specs.Depths.{depth_dc_of, depth_ac_of};
 ghost use Rattle.segment_defs.specs.Head.{IsHead, head_length};
 ghost use Rattle.segment_defs.specs.Coded.{coded, coded_bits};
 ghost use Rattle.segment_defs.specs.SegmentItems.{dc_shift};
-ghost use Rattle.segment_code.specs.Parts.{coded_rest};
+ghost use Rattle.segment_code.specs.CodedParts.{coded_rest};
 ghost use Rattle.segment_code.specs.Text.{GivesText, BreaksWithin, EncodesItems};
 
 use crate::blocks::SegmentBlocks;

@@ -5,9 +5,9 @@ ghost use Rattle.bit_pipe.specs.Bounds.{bound_of};
 ghost use Rattle.segment_defs.specs.Head.{IsHead};
 ghost use Rattle.segment_code.specs.TextEnds.{wanted_bits, Passes, EndsWhole, EndsCut};
 
-use crate::decode::SegmentFault;
+use crate::fault::SegmentFault;
 use bit_pipe::{OctetIn, Part};
-use segment_head::SegmentHead;
+use segment_defs::SegmentHead;
 
 // Takes this number of octets, whatever they are.
 fn pass<I: OctetIn>(input: &mut I, count: u64, part: Part) -> Result<Part, SegmentFault>

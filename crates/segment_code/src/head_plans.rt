@@ -1,13 +1,16 @@
-// What the writers of a text's parts need of a head.
-ghost use Rattle.std.specs.Prelude.{◌≡◌, length};
+// What the writers and the readers of a text's parts need of a head.
+ghost use Rattle.std.specs.Prelude.{◌≡◌, ◌≤◌, ℕ, length};
 ghost use Rattle.base_122.specs.Weights.{shift_of};
 ghost use Rattle.base_122.specs.declared.weights.Band.TheVariants.{Ll3};
 ghost use Rattle.segment_defs.specs.Coded.{choice_of};
-ghost use Rattle.segment_defs.specs.SegmentItems.{dc_shift};
+ghost use Rattle.segment_defs.specs.Head.{IsHead};
+ghost use Rattle.segment_defs.specs.SegmentItems.{dc_shift, q_of, stages_sent};
+ghost use Rattle.plane_reader.specs.Planes.{stages_of};
 ghost use Rattle.gaggle_codes.specs.Options.{choice_of as choice_of_select};
 
 use base_122::{Band, Select};
 use dc_depths::DcPlan;
+use plane_reader::SentPlanes;
 use segment_head::SegmentHead;
 
 // Returns the plan of the DC part.
@@ -38,5 +41,23 @@ pub(crate) fn select_of(best: bool) -> Select
         Select::Optimal
     } else {
         Select::Heuristic
+    }
+}
+
+// Returns the planes that are sent.
+pub(crate) fn sent_planes(head: &SegmentHead) -> SentPlanes
+    requires fits { IsHead head.now }
+    ensures weights { result.weights ≡ head.now.image.weights }
+    ensures q { result.q ≡ q_of head.now }
+    ensures below { result.below ≡ head.now.depth_ac }
+    ensures last { result.last ≤ 4 }
+    ensures stages { (plane : ℕ) → stages_sent head.now plane ≡ stages_of result plane }
+{
+    SentPlanes {
+        weights: head.image.weights,
+        q: plan_of(head).q(),
+        below: head.depth_ac,
+        stop: head.stop.plane,
+        last: head.stop.stage + 1,
     }
 }

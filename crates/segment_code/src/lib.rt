@@ -34,40 +34,19 @@ mod decode;
 mod depths;
 mod encode;
 mod end_in;
+mod fault;
 mod head_plans;
+mod laws;
 mod planes;
-mod planes_in;
+mod start;
+mod text_end;
 mod text_in;
 
-ghost use Rattle.segment_code.specs.Laws.{CodedHolds, CodedHoldsExactly, TextsAreShort, ItemsEndThere};
-
 pub use blocks::SegmentBlocks;
-pub use decode::{SegmentFault, SegmentReader, decode_segment};
+pub use decode::{SegmentReader, decode_segment};
 pub use encode::{SegmentWriter, encode_segment};
-use text_defs::{items_give_all, readings_give_one};
-
-/// What was encoded can be decoded: the coded text of values that can be coded holds values.
-pub const fn coded_holds()
-    ensures { CodedHolds }
-{}
-
-/// A coded text with neither a stop nor a limit holds exactly the blocks that were coded.
-pub const fn coded_holds_exactly()
-    ensures { CodedHoldsExactly }
-{
-    readings_give_one();
-    items_give_all();
-}
-
-/// Without a limit a text is never cut: head and items of values that can be coded take fewer than 2^31 octets.
-pub const fn texts_are_short()
-    ensures { TextsAreShort }
-{}
-
-/// The octets that `SegmentReader::decode_items` takes of a text that it reads need no end from outside: no proper prefix of
-/// them holds items, and they hold one list of blocks.
-pub const fn items_end_there()
-    ensures { ItemsEndThere }
-{
-    readings_give_one();
-}
+pub use fault::SegmentFault;
+pub use laws::{
+    coded_texts_are_read, outcomes_agree, spelled_texts_decide, texts_are_short, texts_end_so,
+    texts_end_there, texts_give_parts, worked_answers,
+};

@@ -7,7 +7,7 @@ ghost use Rattle.block_masks.specs.SegmentNumbers.{AreAbove};
 ghost use Rattle.segment_defs.specs.Depths.{depth_ac_of};
 ghost use Rattle.segment_defs.specs.Head.{IsHead};
 ghost use Rattle.segment_defs.specs.SegmentItems.{stages_sent, q_of};
-ghost use Rattle.segment_code.specs.Parts.{coded_plane, coded_planes};
+ghost use Rattle.segment_code.specs.CodedParts.{coded_plane, coded_planes};
 
 use crate::blocks::SegmentBlocks;
 use crate::head_plans::plan_of;

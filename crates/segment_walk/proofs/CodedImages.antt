@@ -20,10 +20,10 @@ use Rattle.segment_defs.specs.Reading.{head_read}
 use Rattle.segment_defs.specs.SegmentItems.{segment_items}
 use Rattle.segment_defs.proofs.WrittenFields.{octets_of-append}
 use Rattle.segment_head.proofs.WrittenHeads.{head_undoes, length-head_bits}
-use Rattle.segment_code.specs.Laws.{TextsAreShort}
+use Rattle.segment_code.specs.ShortTexts.{TextsAreShort}
 use Rattle.plane_defs.specs.Codes.{is_book_sound}
-use Rattle.segment_code.proofs.CodedOptions.{words_are, numbers_are}
 use Rattle.segment_code.proofs.TextBits.{head_short}
+use Rattle.segment_code.proofs.CodedChoices.{words_are, numbers_are}
 use Rattle.packet_assembly.proofs.HeadLengths.{head_within}
 use Rattle.packet_defs.specs.Packets.{part_of, part_size}
 use Rattle.stream_defs.specs.Output.{head_for, image_blocks, segment_of, segment_text, segments_of}

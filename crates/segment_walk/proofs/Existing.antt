@@ -1,5 +1,5 @@
 -- For each stream it is decided which segments are received.
-use Rattle.std.proofs.Common.{◌≡◌, ◌⊎◌, ℕ, ℤ, List, [], ◌∷◌, ◌++◌, length, drop, map, refl, sym, ap, subst, ◌∙◌, inl, inr, arith, length-append, Bool, true, false, Option, None, Some, Result, Ok, Err, MatchOption, slice_index_or, IsTrue, bytes_eq}
+use Rattle.std.proofs.Common.{◌≡◌, ◌⊎◌, ℕ, ℤ, List, [], ◌∷◌, ◌++◌, length, drop, map, refl, sym, ap, subst, ◌∙◌, inl, inr, arith, length-append, Bool, true, false, Option, None, Some, Result, Ok, Err, MatchOption, slice_index_or, is_err, bytes_eq}
 use Rattle.std.specs.List.{range_with_len}
 use Rattle.std.proofs.lemmas.Bool.{false≢true}
 use Rattle.std.proofs.lemmas.Slice.Eq.{bytes_eq-Decides}
@@ -8,15 +8,12 @@ use Rattle.segment_defs.specs.declared.head.SegmentHead.{SegmentHead}
 use Rattle.segment_defs.specs.declared.fault.HeadFault.{HeadFault}
 use Rattle.segment_defs.specs.Head.{head_length}
 use Rattle.segment_defs.specs.Reading.{head_read}
-use Rattle.segment_defs.proofs.ReadHeads.{read_fits}
-use Rattle.text_defs.proofs.OutcomeLaws.{outcomes_exclude}
-use Rattle.text_defs.proofs.Further.{has_outcome}
-use Rattle.plane_defs.specs.Codes.{is_book_sound}
+use Rattle.text_defs.specs.TextOutcome.{Answer, text_outcome}
 use Rattle.packet_defs.specs.Reading.{flags_in, text_in}
 use Rattle.stream_defs.specs.Fates.{closes, kept_in}
 use Rattle.stream_defs.specs.Received.{number_of_part, packets_at, IsComplete, text_of_parts, IsReceived, ReceivedIn}
 use Rattle.segment_walk.specs.Runs.{Numbers, holds_after}
-use Rattle.segment_walk.proofs.Receiving.{some_head}
+use Rattle.segment_walk.proofs.Receiving.{one_value, no_value}
 use Rattle.packet_assembly.proofs.Agreed.{bytes_so}
 
 -- ---- the last of some packets
@@ -55,23 +52,21 @@ decide_complete (x ∷ xs) = by (bytes_eq (map number_of_part (x ∷ xs)) (range
 abbrev Decided : (book : Book) (packets : List (List ℕ)) (index : ℕ) → Type 0
 Decided book packets index = ((w : List (List ℤ)) × IsReceived (holds_after book) packets index w) ⊎ ((w : List (List ℤ)) → IsReceived (holds_after book) packets index w → ⊥)
 
-decide_received : (book : Book) (packets : List (List ℕ)) (index : ℕ) → IsTrue (is_book_sound book) → Decided book packets index
-decide_received book packets index sound = elim (decide_complete (packets_at index packets)) [
+decide_received : (book : Book) (packets : List (List ℕ)) (index : ℕ) → Decided book packets index
+decide_received book packets index = elim (decide_complete (packets_at index packets)) [
   | inr never ↦ inr (λ w x. never x.whole)
   | inl whole ↦ by_head whole (head_read (text_in (slice_index_or (packets_at index packets) 0 []))) refl
 ]
   where
     by_head : IsComplete (packets_at index packets) → (r : Result SegmentHead HeadFault) → head_read (text_in (slice_index_or (packets_at index packets) 0 [])) ≡ r → Decided book packets index
     by_head whole (Err fault) e = inr (λ w x. absurd (let both = sym e ∙ x.head_is in cc))
-    by_head whole (Ok head) e =
-        let ok = read_fits _ head e in
-        let octets = drop (head_length head) (text_of_parts (packets_at index packets)) in
-        elim (has_outcome book sound head octets ok) [
-          | inl held ↦ inl (held.0, record { whole = whole; head = head; head_is = e; accepted = held.1 })
-          | inr refused ↦ inr (λ w x.
-              let there = subst (λ h. holds_after book h (text_of_parts (packets_at index packets)) w) (some_head _ x.head head x.head_is e) x.accepted in
-              outcomes_exclude.not_both book head octets w refused.0 ok there refused.1)
-        ]
+    by_head whole (Ok head) e = by_text (text_outcome book head (drop (head_length head) (text_of_parts (packets_at index packets)))) refl
+      where
+        by_text : (o : Answer) → text_outcome book head (drop (head_length head) (text_of_parts (packets_at index packets))) ≡ o → Decided book packets index
+        by_text (Ok w) held = inl (w, record { whole = whole; head = head; head_is = e; accepted = held })
+        by_text (Err name) refused = inr (λ w x.
+            let there = subst (λ h. holds_after book h (text_of_parts (packets_at index packets)) w) (one_value _ x.head head x.head_is e) x.accepted in
+            no_value _ w (ap is_err refused) there)
 
 number_of : (book : Book) (packets : List (List ℕ)) (index : ℕ) → Decided book packets index → Option (List (List ℤ))
 number_of book packets index (inl held) = Some held.0
@@ -82,7 +77,7 @@ unfolding number_of
 number_told book packets index (inl held) = held.1
 number_told book packets index (inr never) = never
 
-pub some_received : (book : Book) → IsTrue (is_book_sound book) → (apid : ℕ) (taken : List ℕ) → (received : Numbers) × ReceivedIn (holds_after book) apid taken received
-some_received book sound apid taken =
+pub some_received : (book : Book) (apid : ℕ) (taken : List ℕ) → (received : Numbers) × ReceivedIn (holds_after book) apid taken received
+some_received book apid taken =
     let packets = kept_in apid taken in
-    ((λ index. number_of book packets index (decide_received book packets index sound)), record { at = λ index. number_told book packets index (decide_received book packets index sound) })
+    ((λ index. number_of book packets index (decide_received book packets index)), record { at = λ index. number_told book packets index (decide_received book packets index) })

@@ -1,18 +1,13 @@
 -- Which segments are received, when a decoder has passed them.
-use Rattle.std.proofs.Common.{◌≡◌, ◌≤◌, ◌<◌, ℕ, ℤ, List, [], ◌∷◌, ◌++◌, length, drop, sym, ap, subst, ◌∙◌, inl, inr, arith, append_assoc, length-append, true, false, None, Some, Result, Ok, MatchOption, slice_index_or}
-use Rattle.std.proofs.lemmas.Bool.{cases_lt}
+use Rattle.std.proofs.Common.{◌≡◌, ◌≤◌, ◌<◌, ℕ, ℤ, List, [], ◌∷◌, ◌++◌, length, drop, sym, ap, subst, ◌∙◌, inl, inr, arith, append_assoc, length-append, true, false, None, Some, Result, Ok, IsErr, is_err, MatchOption, slice_index_or}
+use Rattle.std.proofs.lemmas.Bool.{cases_lt, false≢true}
 use Rattle.std.proofs.lemmas.List.{drop-append-le}
 use Rattle.std.proofs.lemmas.Bool.Decides.{nat_tests}
 use Rattle.bit_pipe.specs.Sources.{Plainly, InPieces, Tail}
 use Rattle.base_122.specs.declared.book.Book.{Book}
-use Rattle.segment_defs.specs.declared.head.SegmentHead.{SegmentHead}
-use Rattle.segment_defs.specs.Head.{IsHead, head_length}
-use Rattle.segment_defs.specs.declared.fault.HeadFault.{HeadFault}
+use Rattle.segment_defs.specs.Head.{head_length}
 use Rattle.segment_defs.specs.Reading.{head_read}
-use Rattle.segment_defs.proofs.ReadHeads.{read_fits}
-use Rattle.text_defs.specs.Outcomes.{Holds}
-use Rattle.text_defs.proofs.OutcomeLaws.{outcomes_exclude}
-use Rattle.text_defs.proofs.GivenAlike.{same_given}
+use Rattle.text_defs.specs.TextOutcome.{text_outcome}
 use Rattle.packet_defs.specs.Reading.{text_in}
 use Rattle.stream_defs.specs.declared.fate.FateState.{FateState}
 use Rattle.stream_defs.specs.Fates.{fresh, after, after_all, kept, part_in}
@@ -33,21 +28,20 @@ use Rattle.segment_walk.proofs.TailLaws.{from_more, from_closes, from_closed}
 
 -- ---- one list of numbers
 
--- a text holds one list of blocks
-one_held : (book : Book) (head : SegmentHead) (rest : List ℕ) (v w : List (List ℤ)) → IsHead head → Holds book head rest v → Holds book head rest w → v ≡ w
-one_held book head rest v w ok h k =
-    let count = outcomes_exclude.one_count book head rest v w ok h k in
-    grind (arith, nat_tests, same_given)
+-- a result has one value
+pub one_value : {T E : Type 0} (r : Result T E) (x y : T) → r ≡ Ok x → r ≡ Ok y → x ≡ y
+one_value r x y e h = cc
 
-pub some_head : (r : Result SegmentHead HeadFault) (x y : SegmentHead) → r ≡ Ok x → r ≡ Ok y → x ≡ y
-some_head r x y e h = cc
+-- and none if it is a fault
+pub no_value : {T E : Type 0} (r : Result T E) (x : T) → IsErr r → r ≡ Ok x → ⊥
+no_value r x err e = false≢true (sym (ap is_err e) ∙ err)
 
 -- a segment is received with one list of numbers
 pub one_received : (book : Book) (packets : List (List ℕ)) (index : ℕ) (v w : List (List ℤ)) → IsReceived (holds_after book) packets index v → IsReceived (holds_after book) packets index w → v ≡ w
 one_received book packets index v w x y =
-    let same : x.head ≡ y.head = some_head _ x.head y.head x.head_is y.head_is in
+    let same : x.head ≡ y.head = one_value _ x.head y.head x.head_is y.head_is in
     let there = subst (λ head. holds_after book head (text_of_parts (packets_at index packets)) w) (sym same) y.accepted in
-    one_held book x.head _ v w (read_fits _ x.head x.head_is) x.accepted there
+    one_value _ v w x.accepted there
 
 -- none of its packets is kept
 pub none_received : (book : Book) (packets : List (List ℕ)) (index : ℕ) (w : List (List ℤ)) → packets_at index packets ≡ [] → IsReceived (holds_after book) packets index w → ⊥
@@ -141,7 +135,7 @@ module _ (book : Book) (apid : ℕ) (passed : List (List ℕ)) (a : Assembling) 
 
   -- it was accepted, and the packets that were passed have closed it: so it is received, whatever follows
   pub is_received : (rest : List ℕ) (went next : List (List ℕ)) (later : List (List ℕ)) (w : List (List ℤ)) → future a rest ≡ went ++ later → last_index (after_all apid there went).last ≡ Some index → is_closed (after_all apid there went).last ≡ true →
-      Holds book start.head (text_tail a rest).octets w → IsReceived (holds_after book) (kept apid fresh (passed ++ (went ++ next))) index w
+      text_outcome book start.head (text_tail a rest).octets ≡ Ok w → IsReceived (holds_after book) (kept apid fresh (passed ++ (went ++ next))) index w
   is_received rest went next later w are last closed holds =
       let plain = from_closed apid index there went (part_in b.packet) last_is index_is last closed in
       let on : tail_past apid b.before b.packet (went ++ next) InPieces ≡ tail_past apid b.before b.packet went InPieces = from_more apid there went next InPieces InPieces in_pieces plain in
@@ -151,19 +145,19 @@ module _ (book : Book) (apid : ℕ) (passed : List (List ℕ)) (a : Assembling) 
         whole = (tells (went ++ next)).complete (ap (λ (t : Tail). t.ends) on ∙ plain);
         head = start.head;
         head_is = head_there (went ++ next);
-        accepted = subst (λ zs. Holds book start.head zs w) (sym octets) holds;
+        accepted = ap (text_outcome book start.head) octets ∙ holds;
       }
 
   -- it was refused, or it breaks off: so it isn't received, however many of the next packets follow
   pub not_received : (rest : List ℕ) (next more : List (List ℕ)) (w : List (List ℤ)) → future a rest ≡ next ++ more →
-      ((text_tail a rest).ends ≡ Plainly → (w : List (List ℤ)) → Holds book start.head (text_tail a rest).octets w → ⊥) → IsReceived (holds_after book) (kept apid fresh (passed ++ next)) index w → ⊥
+      ((text_tail a rest).ends ≡ Plainly → IsErr (text_outcome book start.head (text_tail a rest).octets)) → IsReceived (holds_after book) (kept apid fresh (passed ++ next)) index w → ⊥
   not_received rest next more w are refused x =
       let plain = (tells next).plain x.whole in
       let all = all_there rest next more are plain in
-      let same : x.head ≡ start.head = some_head _ x.head start.head x.head_is (head_there next) in
+      let same : x.head ≡ start.head = one_value _ x.head start.head x.head_is (head_there next) in
       let octets : drop (head_length start.head) (text_of_parts (packets_at index (kept apid fresh (passed ++ next)))) ≡ (text_tail a rest).octets = grind (arith, nat_tests, octets_after) in
       let holds = subst (λ head. holds_after book head (text_of_parts (packets_at index (kept apid fresh (passed ++ next)))) w) same x.accepted in
-      refused (ap (λ (t : Tail). t.ends) all ∙ plain) w (subst (λ zs. Holds book start.head zs w) octets holds)
+      no_value _ w (refused (ap (λ (t : Tail). t.ends) all ∙ plain)) (ap (text_outcome book start.head) (sym octets) ∙ holds)
 
   -- while its text is open it isn't received
   pub open_received : (next : List (List ℕ)) (w : List (List ℤ)) → last_index (after_all apid there next).last ≡ Some index → is_closed (after_all apid there next).last ≡ false → IsReceived (holds_after book) (kept apid fresh (passed ++ next)) index w → ⊥

@@ -1,12 +1,12 @@
 -- A run through the text of a segment.
-use Rattle.std.proofs.Common.{◌≡◌, ◌≤◌, ◌+◌, ◌/◌, ◌==◌, ℕ, ℤ, List, ◌++◌, refl, sym, ap, subst, ◌∙◌, inl, inr, arith, append_assoc, Bool, true, false, Option, None, Some, is_some, MatchOption, Ok}
+use Rattle.std.proofs.Common.{◌≡◌, ◌≤◌, ◌+◌, ◌/◌, ◌==◌, ℕ, ℤ, List, ◌++◌, refl, sym, ap, subst, ◌∙◌, inl, inr, arith, append_assoc, Bool, true, false, Option, None, Some, is_some, MatchOption, Ok, IsErr}
 use Rattle.std.proofs.lemmas.Bool.{cases_lt}
 use Rattle.std.proofs.lemmas.Bool.Decides.{nat_tests}
 use Rattle.std.proofs.lemmas.Nat.{div_below}
 use Rattle.port_122.specs.Outside.{Outside}
 use Rattle.wave_defs.specs.Held.{blocks_in}
 use Rattle.segment_defs.specs.declared.head.SegmentHead.{SegmentHead}
-use Rattle.text_defs.specs.Outcomes.{Holds}
+use Rattle.text_defs.specs.TextOutcome.{text_outcome}
 use Rattle.packet_defs.specs.Streams.{whole_packets}
 use Rattle.stream_defs.specs.declared.fate.FateState.{FateState}
 use Rattle.stream_defs.specs.Fates.{fresh, after_all, kept}
@@ -105,7 +105,7 @@ module _ {S : Type 0} (k : SinkOf S) (w : Run) (now new : Outside) (a b : Assemb
   told_before rest told = before_loses now.rest new.rest goes.passes.took rest goes.passes.since.rest told
 
   -- it is received
-  decides_some : (v : List (List ℤ)) → b.held ≡ None → is_closed b.state.last ≡ true → ((rest : List ℕ) → now.rest ≡ Some rest → Holds w.book start.head (text_tail a rest).octets v) → Decides (Some v)
+  decides_some : (v : List (List ℤ)) → b.held ≡ None → is_closed b.state.last ≡ true → ((rest : List ℕ) → now.rest ≡ Some rest → text_outcome w.book start.head (text_tail a rest).octets ≡ Ok v) → Decides (Some v)
   decides_some v open_now closed holds rest told next more are =
       let state : after_all w.apid before goes.passed ≡ b.state = state_there goes.passed ∙ sym goes.passes.state in
       let stays = (goes.still open_now).1 ∙ last in
@@ -114,7 +114,7 @@ module _ {S : Type 0} (k : SinkOf S) (w : Run) (now new : Outside) (a b : Assemb
       (ap (λ (s : FateState). last_index s.last) state ∙ stays) (ap (λ (s : FateState). is_closed s.last) state ∙ closed) (holds (before_rest rest) (told_before rest told)))
 
   -- it isn't
-  decides_none : ((rest : List ℕ) → now.rest ≡ Some rest → (text_tail a rest).ends ≡ Plainly → (v : List (List ℤ)) → Holds w.book start.head (text_tail a rest).octets v → ⊥) → Decides None
+  decides_none : ((rest : List ℕ) → now.rest ≡ Some rest → (text_tail a rest).ends ≡ Plainly → IsErr (text_outcome w.book start.head (text_tail a rest).octets)) → Decides None
   decides_none refused rest told next more are v x =
       let all : future a (before_rest rest) ≡ (goes.passed ++ next) ++ more = future_past goes.passes rest told ∙ ap (λ xs. goes.passed ++ xs) are ∙ sym (append_assoc goes.passed next more) in
       not_received w.book w.apid passed a start index begun come.known.read.apid come.known.read.state unheld (before_rest rest) (goes.passed ++ next) more v all (refused (before_rest rest) (told_before rest told))

@@ -13,8 +13,11 @@ use Rattle.wave_defs.specs.Held.{block_at, blocks_in}
 use Rattle.plane_defs.specs.Sets.{shift}
 use Rattle.segment_defs.specs.declared.head.SegmentHead.{SegmentHead}
 use Rattle.segment_defs.specs.Head.{IsHead}
-use Rattle.text_defs.specs.Outcomes.{Holds}
-use Rattle.text_defs.proofs.GivenParts.{IsPart, holds_parts, shift_low}
+use Rattle.plane_defs.specs.Codes.{is_book_sound}
+use Rattle.text_defs.specs.Parts.{IsWeighted}
+use Rattle.text_defs.specs.TextLaws.{TextsAreRead}
+use Rattle.text_defs.specs.TextOutcome.{text_outcome}
+use Rattle.base_122.proofs.ShiftLaws.{shift_low}
 use Rattle.block_families.specs.Places.{AreWeighted}
 use Rattle.packet_assembly.specs.declared.note.SegmentStart.{SegmentStart}
 use Rattle.packet_assembly.specs.Assembling.{Assembling, last_index}
@@ -34,34 +37,35 @@ use Rattle.segment_walk.proofs.Between.{fewer_blocks, fits_ended, image_on, held
 -- ---- the numbers that were read
 
 -- the numbers of a block that a text holds are parts of their weights
-weighted : (book : Book) (head : SegmentHead) (octets : List ℕ) (cells : List ℤ) (k : ℕ) → IsHead head → Holds book head octets (blocks_in (cells_of head cells)) → 64 * head.blocks ≤ length cells → k < head.blocks →
+weighted : TextsAreRead → (book : Book) (head : SegmentHead) (octets : List ℕ) (cells : List ℤ) (k : ℕ) → is_book_sound book ≡ true → IsHead head →
+    text_outcome book head octets ≡ Ok (blocks_in (cells_of head cells)) → 64 * head.blocks ≤ length cells → k < head.blocks →
     AreWeighted (block_at cells k) head.image.weights.shifts
-weighted book head octets cells k ok holds long lt =
+weighted read book head octets cells k sound ok holds long lt =
     let weights = head.image.weights.shifts in
     let front = cells_of head cells in
     let size : length front ≡ 64 * head.blocks = length-take-le (64 * head.blocks) cells long in
     let number = λ (i : ℕ). get_or (block_at cells k) i (pos 0) in
-    let part : (i : ℕ) → i < 64 → IsPart (shift weights i) (number i) = λ i small.
-    subst (IsPart (shift weights i)) (ap (λ b. get_or b i (pos 0)) (block_in front k (omega (arith, size, lt)) ∙ front_block cells head.blocks k lt)) (holds_parts head octets (blocks_in front) ok holds k i lt small) in
+    let part : (i : ℕ) → i < 64 → IsWeighted (shift weights i) (number i) = λ i small.
+    subst (IsWeighted (shift weights i)) (ap (λ b. get_or b i (pos 0)) (block_in front k (omega (arith, size, lt)) ∙ front_block cells head.blocks k lt)) (((read book sound head octets ok).numbers (blocks_in front) holds).each k i lt small) in
     let quotient : (i : ℕ) → (small : i < 64) → (part i small).part ≡ floor_div (number i) (2 ^ get_or weights (place_of i).band 0) = λ i small.
     let k = get_or weights (place_of i).band 0 in
-    sym (divided (part i small).part k (shift_low weights (place_of i).band ok.image.weights)) ∙ ap (λ z. floor_div z (2 ^ k)) (sym (part i small).whole) in
+    sym (divided (part i small).part k (shift_low weights (place_of i).band ok.image.weights)) ∙ ap (λ z. floor_div z (2 ^ k)) (sym (part i small).is) in
     record {
       part = λ i. floor_div (number i) (2 ^ get_or weights (place_of i).band 0);
-      whole = λ i small. (part i small).whole ∙ ap (λ z. z *ℤ weight_at weights i) (quotient i small);
+      whole = λ i small. (part i small).is ∙ ap (λ z. z *ℤ weight_at weights i) (quotient i small);
       small = λ i small. subst (λ z. unsigned_abs z ≤ 2 ^ 27) (quotient i small) (part i small).small;
     }
 
 -- so they are blocks of the image
-pub accepted_blocks : (book : Book) (g : Geometry) (start : SegmentStart) (cells : List ℤ) (old new : Outside) (a b : Assembling) (accepted : Bool) → FitsImage g start → 64 * start.head.blocks ≤ length cells →
+pub accepted_blocks : TextsAreRead → (book : Book) → is_book_sound book ≡ true → (g : Geometry) (start : SegmentStart) (cells : List ℤ) (old new : Outside) (a b : Assembling) (accepted : Bool) → FitsImage g start → 64 * start.head.blocks ≤ length cells →
     ReadsText book old new a b start.head cells (Ok accepted) → accepted ≡ true → AreBlocks start.head.blocks g cells
-accepted_blocks book g start cells old new a b true fits long reads e = record {
-  at = λ k lt. (block_whole cells k (omega (arith, long, lt)), subst (AreWeighted (block_at cells k)) fits.weights (weighted book start.head reads.some cells k fits.head reads.holds long lt));
+accepted_blocks read book sound g start cells old new a b true fits long reads e = record {
+  at = λ k lt. (block_whole cells k (omega (arith, long, lt)), subst (AreWeighted (block_at cells k)) fits.weights (weighted read book start.head reads.some cells k sound fits.head reads.holds long lt));
 }
   where
     block_whole : (cells : List ℤ) (k : ℕ) → 64 * k + 64 ≤ length cells → length (block_at cells k) ≡ 64
     block_whole cells k le = length-take-le 64 (drop (64 * k) cells) (let size = length-drop (64 * k) cells in omega (arith, size, le))
-accepted_blocks book g start cells old new a b false fits long reads e = absurd cc
+accepted_blocks read book sound g start cells old new a b false fits long reads e = absurd cc
 
 -- ---- the blocks that were passed
 

@@ -30,9 +30,9 @@ use Rattle.segment_defs.specs.declared.head.SegmentHead.{SegmentHead}
 use Rattle.segment_defs.specs.Head.{IsHead}
 use Rattle.segment_defs.specs.SegmentItems.{dc_shift}
 use Rattle.segment_defs.proofs.DepthLaws.{each_above, range_of_size, depths_law}
-use Rattle.segment_code.proofs.CodedOptions.{within_greatest}
+use Rattle.segment_code.proofs.CodedChoices.{within_greatest}
 use Rattle.text_defs.specs.Spellable.{IsSpellable}
-use Rattle.text_defs.proofs.GivenParts.{shift_low}
+use Rattle.base_122.proofs.ShiftLaws.{shift_low}
 use Rattle.stream_defs.proofs.Small.{pixel_small, within_small}
 use Rattle.stream_defs.specs.Output.{head_for, head_with, image_blocks, segment_of, segments_of}
 use Rattle.stream_defs.specs.Shares.{CanBeSaid}

@@ -18,7 +18,7 @@ use Rattle.packet_defs.specs.Packets.{joined}
 use Rattle.packet_defs.specs.Reading.{text_in}
 use Rattle.packet_defs.specs.Streams.{IsPacket, whole_packets}
 use Rattle.packet_defs.proofs.Splits.{splits_whole, joined_splits}
-use Rattle.segment_code.specs.Laws.{TextsAreShort}
+use Rattle.segment_code.specs.ShortTexts.{TextsAreShort}
 use Rattle.stream_defs.specs.Begun.{band_rows, begun, begun_in, block_rows, end_in, end_of, end_told, height}
 use Rattle.stream_defs.specs.Chosen.{IsRising, IsChoice, chosen, all_parts, run}
 use Rattle.stream_defs.specs.Fates.{fresh, kept, kept_in, geometry_in}
@@ -188,7 +188,13 @@ module _ (short : TextsAreShort) (s : Setting) (rows : ℕ) (x : ℕ → ℕ →
 
     -- with the numbers of all packets in the lost blocks
     pub with_all : (r n : ℕ) → block_rows (image_geometry s r) n ≤ block_count rows → AreWith (image_geometry s r) received (number_at (image_geometry s r) whole) n
-    with_all r n few = grind (arith, nat_tests, mul-le-mul_right, segment_within, number_by, same_by)
+    with_all r n few = record {
+      at = λ block i lt small some.
+          let more : block_rows (image_geometry s r) n * block_count s.width ≤ block_count rows * block_count s.width = mul-le-mul_right (block_count s.width) few in
+          let turned : block_count rows * block_count s.width ≡ total_blocks s.width rows = grind arith in
+          let within = segment_within short s rows x are.image block (omega (arith, lt, more, turned)) in
+          number_by (image_geometry s r) whole received block i (same_by (block / s.segment) (received (block / s.segment)) within refl some);
+    }
 
     -- whether the height is reported or not
     module _ (r n : ℕ) (is : (r ≡ rows) ⊎ ((s.rows ≡ 0) × (r ≡ 0))) (few : n ≤ block_count rows) where

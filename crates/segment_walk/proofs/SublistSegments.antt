@@ -4,7 +4,8 @@ use Rattle.std.proofs.lemmas.Bool.{false≢true}
 use Rattle.base_122.specs.Setting.{sized}
 use Rattle.base_122.specs.declared.setting.Setting.{Setting}
 use Rattle.packet_defs.specs.Streams.{whole_packets}
-use Rattle.segment_code.specs.Laws.{CodedHolds, TextsAreShort}
+use Rattle.segment_code.specs.ShortTexts.{TextsAreShort}
+use Rattle.segment_code.specs.Coded.{CodedTextsAreRead}
 use Rattle.stream_defs.specs.Chosen.{all_parts}
 use Rattle.stream_defs.specs.Fates.{fresh, kept}
 use Rattle.stream_defs.specs.Output.{head_for, image_blocks, segment_of, segment_text, segments_of, tells_last}
@@ -47,20 +48,20 @@ module _ (short : TextsAreShort) (s : Setting) (rows : ℕ) (x : ℕ → ℕ →
         (subst (λ ps. IsReceived (holds_after s.book) (kept s.apid fresh ps) index w) (packets_are short s rows x parts are) (answered index (Some w) e))
 
     -- a segment with all its packets is received
-    pub each_whole : CodedHolds → (index : ℕ) → index < segments_of t → parts index ≡ all_parts t all index → is_some (received index) ≡ true
-    each_whole holds index lt whole = by (received index) refl
+    pub each_whole : CodedTextsAreRead → (index : ℕ) → index < segments_of t → parts index ≡ all_parts t all index → is_some (received index) ≡ true
+    each_whole read index lt whole = by (received index) refl
       where
         by : (o : Option (List (List ℤ))) → received index ≡ o → is_some o ≡ true
         by (Some w) e = refl
         by None e =
             let blocks = segment_of t all index in
             let image = are.image in
-            let held = holds s.book image.sound (head_for t all index) blocks (head_fits t x (sized_range short s rows x image) image.height.0 pixels index lt) image.weights (spells t x (sized_range short s rows x image) image.height.0 pixels index lt) refl in
+            let held = (read s.book image.sound (head_for t all index) blocks (head_fits t x (sized_range short s rows x image) image.height.0 pixels index lt) image.weights (spells t x (sized_range short s rows x image) image.height.0 pixels index lt) refl).part in
             absurd (answered index None e held.0 (subst (λ ps. IsReceived (holds_after s.book) (kept s.apid fresh ps) index held.0) (sym (packets_are short s rows x parts are))
             (received_each told t all coded parts are.choice (holds_after s.book) index held.0 lt whole held.1)))
 
-    pub receives_those : CodedHolds → ReceivesThose s rows x parts received
-    receives_those holds = record { at = λ index lt. (λ some. from_some index (received index) lt refl some, each_whole holds index lt) }
+    pub receives_those : CodedTextsAreRead → ReceivesThose s rows x parts received
+    receives_those read = record { at = λ index lt. (λ some. from_some index (received index) lt refl some, each_whole read index lt) }
       where
         from_some : (index : ℕ) (o : Option (List (List ℤ))) → index < segments_of t → received index ≡ o → is_some o ≡ true → parts index ≡ all_parts t all index
         from_some index None lt e some = absurd (false≢true some)

@@ -1,5 +1,5 @@
 -- A segment's text that was read, by what its packets bring.
-use Rattle.std.proofs.Common.{◌≡◌, ◌*◌, ℕ, ℤ, List, [], ◌∷◌, ◌++◌, length, take, refl, sym, ap, subst, ◌∙◌, arith, Bool, true, false, Option, Some, Result, Ok, Err, option_map}
+use Rattle.std.proofs.Common.{◌≡◌, ◌*◌, ℕ, ℤ, List, [], ◌∷◌, ◌++◌, length, take, refl, sym, ap, subst, ◌∙◌, arith, Bool, true, false, Option, Some, Result, Ok, Err, IsErr, is_err, option_map}
 use Rattle.std.proofs.lemmas.List.{append-nil, take-append-le}
 use Rattle.std.proofs.lemmas.Bool.Decides.{nat_tests}
 use Rattle.port_122.specs.Outside.{Outside, Loses}
@@ -9,12 +9,12 @@ use Rattle.wave_defs.specs.Held.{blocks_in}
 use Rattle.bit_pipe.specs.declared.fault.Part.{Part}
 use Rattle.bit_pipe.specs.Sources.{End, Plainly, TooLong, InPieces, Comes, IsOver}
 use Rattle.segment_defs.specs.declared.head.SegmentHead.{SegmentHead}
-use Rattle.segment_defs.specs.Head.{IsHead}
-use Rattle.text_defs.specs.Outcomes.{Holds, Refused, SegmentRefusal, short_segment}
-use Rattle.text_defs.proofs.OutcomeLaws.{outcomes_exclude}
-use Rattle.segment_code.specs.Decoded.{DecodesSegment, RefusedBy}
-use Rattle.segment_code.specs.declared.decode.SegmentFault.{SegmentFault}
-use Rattle.segment_code.specs.declared.decode.SegmentFault.TheVariants as faults
+use Rattle.text_defs.specs.Outcomes.{SegmentRefusal}
+use Rattle.text_defs.specs.TextOutcome.{text_outcome}
+use Rattle.segment_code.specs.Decoded.{DecodesSegment}
+use Rattle.segment_code.specs.Laws.{EndsSay}
+use Rattle.segment_code.specs.declared.fault.SegmentFault.{SegmentFault}
+use Rattle.segment_code.specs.declared.fault.SegmentFault.TheVariants as faults
 use Rattle.packet_assembly.specs.declared.text.SegmentText.{SegmentText}
 use Rattle.packet_assembly.specs.Assembling.{Assembling}
 use Rattle.packet_assembly.specs.Segments.{Continues}
@@ -64,7 +64,8 @@ module _ {X : Type 0} (outside : X → Outside) (book : Book) (s t : SegmentText
 
   -- ---- a text that holds something
 
-  module _ (head : SegmentHead) (part : Part) (cells more : List ℤ) (long : length cells ≡ 64 * head.blocks) (d : DecodesSegment (segment_source outside) book head (Ok part) s t cells) (new : Outside) (b : Assembling) where
+  module _ (head : SegmentHead) (part : Part) (cells more : List ℤ) (long : length cells ≡ 64 * head.blocks) (say : EndsSay book head)
+      (d : DecodesSegment (segment_source outside) book head (Ok part) s t cells) (new : Outside) (b : Assembling) where
     goes : Continues old now s.assembly.now t.assembly.now
     goes = d.went.goes
 
@@ -78,7 +79,10 @@ module _ {X : Type 0} (outside : X → Outside) (book : Book) (s t : SegmentText
         grind (arith, nat_tests, over_by, append-nil)
 
     none_left : (before : List ℕ) → now.rest ≡ Some before → ((text_tail t.assembly.now before).octets ≡ []) × ((text_tail t.assembly.now before).ends ≡ Plainly)
-    none_left before told = over_by t.assembly.now now.rest before Plainly told d.ends.0
+    none_left before told = over_by t.assembly.now now.rest before Plainly told d.ends.1
+
+    outcome : text_outcome book head d.octets ≡ Ok (blocks_in (cells_of head (cells ++ more)))
+    outcome = say.given d.octets part (blocks_in cells) d.ends.0 ∙ ap (λ xs. Ok (blocks_in xs)) cells_are
 
     ends_by : (result : Result Bool DecodeFault) → EndsText now new t.assembly.now b result → ReadsText book old new s.assembly.now b head (cells ++ more) result
     ends_by (Ok true) e = record {
@@ -86,15 +90,15 @@ module _ {X : Type 0} (outside : X → Outside) (book : Book) (s t : SegmentText
       unheld = e.unheld;
       closed = e.closed;
       some = d.octets;
-      holds = subst (λ xs. Holds book head d.octets (blocks_in xs)) cells_are d.ends.1.holds;
-      told = grind (arith, nat_tests, whole, cells_are);
+      holds = outcome;
+      told = λ before told. let all = whole before told in (all.0, ap (text_outcome book head) all.1 ∙ outcome);
     }
     ends_by (Ok false) e = record {
       goes = goes_both goes e.goes;
-      told = λ before told plain w holds.
+      told = λ before told plain.
           let left = left_after old.rest now.rest goes.passes.took before goes.passes.since.rest told in
           let none = none_left left.rest left.told in
-          e.told left.rest left.told none.0 none.1;
+          absurd (e.told left.rest left.told none.0 none.1);
     }
     ends_by (Err ReadFault) e = record { goes = goes_both goes e.goes; rose = rose_since goes.passes.since.faults.reads e.rose }
     ends_by (Err other) e = absurd e
@@ -105,39 +109,42 @@ module _ {X : Type 0} (outside : X → Outside) (book : Book) (s t : SegmentText
 
   -- ---- a text that is refused
 
-  module _ (head : SegmentHead) (cells : List ℤ) (fault : SegmentFault) (ok : IsHead head) (d : DecodesSegment (segment_source outside) book head (Err fault) s t cells) where
+  module _ (head : SegmentHead) (cells : List ℤ) (fault : SegmentFault) (d : DecodesSegment (segment_source outside) book head (Err fault) s t cells) where
+    abbrev HasRefusal : List ℕ → Type 0
+    HasRefusal before = IsErr (text_outcome book head (text_tail s.assembly.now before).octets)
+
     -- by its first octets
-    by_name : (name : SegmentRefusal) → RefusedBy book head d.octets name → (before : List ℕ) → old.rest ≡ Some before → (w : List (List ℤ)) → Holds book head (text_tail s.assembly.now before).octets w → ⊥
-    by_name name refused before told w holds =
+    by_name : (name : SegmentRefusal) → ((more : List ℕ) → text_outcome book head (d.octets ++ more) ≡ Err name) → (before : List ℕ) → old.rest ≡ Some before → HasRefusal before
+    by_name name refused before told =
         let x = come d.octets before d.went.goes d.came told in
-        outcomes_exclude.not_both book head (text_tail s.assembly.now before).octets w name ok holds (subst (λ zs. Refused book head zs name) (sym x.octets_are) (refused (text_tail t.assembly.now x.rest).octets))
+        ap is_err (ap (text_outcome book head) x.octets_are ∙ refused (text_tail t.assembly.now x.rest).octets)
 
     -- as it is too short
-    by_end : IsOver ((segment_source outside).tail t) Plainly → Refused book head d.octets short_segment → (before : List ℕ) → old.rest ≡ Some before → (w : List (List ℤ)) → Holds book head (text_tail s.assembly.now before).octets w → ⊥
-    by_end over refused before told w holds =
+    by_end : IsOver ((segment_source outside).tail t) Plainly → (name : SegmentRefusal) → text_outcome book head d.octets ≡ Err name → (before : List ℕ) → old.rest ≡ Some before → HasRefusal before
+    by_end over name refused before told =
         let x = come d.octets before d.went.goes d.came told in
         let none = over_by t.assembly.now now.rest x.rest Plainly x.told over in
         let whole : (text_tail s.assembly.now before).octets ≡ d.octets = x.octets_are ∙ ap (λ zs. d.octets ++ zs) none.0 ∙ append-nil d.octets in
-        outcomes_exclude.not_both book head (text_tail s.assembly.now before).octets w short_segment ok holds (subst (λ zs. Refused book head zs short_segment) (sym whole) refused)
+        ap is_err (ap (text_outcome book head) whole ∙ refused)
 
     -- as it ends otherwise
     by_break : (ends : End) → (ends ≡ Plainly → ⊥) → IsOver ((segment_source outside).tail t) ends → (before : List ℕ) → old.rest ≡ Some before → (text_tail s.assembly.now before).ends ≡ Plainly → ⊥
     by_break ends other over before told plain = grind (arith, nat_tests, come, goes, over_by)
 
-  pub text_refused : (head : SegmentHead) (cells : List ℤ) (fault : SegmentFault) → IsHead head → (fault ≡ faults.ReadFault → ⊥) → DecodesSegment (segment_source outside) book head (Err fault) s t cells →
+  pub text_refused : (head : SegmentHead) (cells : List ℤ) (fault : SegmentFault) → EndsSay book head → (fault ≡ faults.ReadFault → ⊥) → DecodesSegment (segment_source outside) book head (Err fault) s t cells →
       (p x : X) (a y : Assembling) → s.port.now ≡ p → s.assembly.now ≡ a → x ≡ t.port.now → y ≡ t.assembly.now → Refuses book (outside p) (outside x) a y head
-  text_refused head cells fault ok other d p x a y begins from e f =
+  text_refused head cells fault say other d p x a y begins from e f =
       subst (λ p. Refuses book (outside p) (outside x) a y head) begins (subst (λ a. Refuses book old (outside x) a y head) from
       (subst (λ x. Refuses book old (outside x) s.assembly.now y head) (sym e) (subst (λ y. Refuses book old now s.assembly.now y head) (sym f) record { goes = d.went.goes; told = by fault other d })))
     where
       by : (fault : SegmentFault) → (fault ≡ faults.ReadFault → ⊥) → DecodesSegment (segment_source outside) book head (Err fault) s t cells →
-          (before : List ℕ) → old.rest ≡ Some before → (text_tail s.assembly.now before).ends ≡ Plainly → (w : List (List ℤ)) → Holds book head (text_tail s.assembly.now before).octets w → ⊥
-      by faults.BadOption other d before told plain w holds = by_name head cells faults.BadOption ok d _ d.ends before told w holds
-      by faults.BadDelta other d before told plain w holds = by_name head cells faults.BadDelta ok d _ d.ends before told w holds
-      by faults.BadDepth other d before told plain w holds = by_name head cells faults.BadDepth ok d _ d.ends before told w holds
-      by faults.FalseFlag other d before told plain w holds = by_name head cells faults.FalseFlag ok d _ d.ends before told w holds
-      by faults.ShortSegment other d before told plain w holds = by_end head cells faults.ShortSegment ok d d.ends.0 d.ends.1 before told w holds
-      by faults.Overlong other d before told plain w holds = by_name head cells faults.Overlong ok d _ d.ends before told w holds
-      by faults.BrokenSegment other d before told plain w holds = by_break head cells faults.BrokenSegment ok d InPieces (λ e. absurd cc) d.ends before told plain
-      by faults.LongInput other d before told plain w holds = by_break head cells faults.LongInput ok d TooLong (λ e. absurd cc) d.ends before told plain
-      by faults.ReadFault other d before told plain w holds = other refl
+          (before : List ℕ) → old.rest ≡ Some before → (text_tail s.assembly.now before).ends ≡ Plainly → IsErr (text_outcome book head (text_tail s.assembly.now before).octets)
+      by faults.BadOption other d before told plain = by_name head cells faults.BadOption d _ (λ more. say.refused d.octets more _ d.ends) before told
+      by faults.BadDelta other d before told plain = by_name head cells faults.BadDelta d _ (λ more. say.refused d.octets more _ d.ends) before told
+      by faults.BadDepth other d before told plain = by_name head cells faults.BadDepth d _ (λ more. say.refused d.octets more _ d.ends) before told
+      by faults.FalseFlag other d before told plain = by_name head cells faults.FalseFlag d _ (λ more. say.refused d.octets more _ d.ends) before told
+      by faults.ShortSegment other d before told plain = by_end head cells faults.ShortSegment d d.ends.1 _ (say.short d.octets d.ends.0) before told
+      by faults.Overlong other d before told plain = by_name head cells faults.Overlong d _ (λ more. say.overruns d.octets more d.ends) before told
+      by faults.BrokenSegment other d before told plain = absurd (by_break head cells faults.BrokenSegment d InPieces (λ e. absurd cc) d.ends.1 before told plain)
+      by faults.LongInput other d before told plain = absurd (by_break head cells faults.LongInput d TooLong (λ e. absurd cc) d.ends.1 before told plain)
+      by faults.ReadFault other d before told plain = absurd (other refl)

@@ -1,5 +1,5 @@
 -- All packets of an image: each of its segments is received.
-use Rattle.std.proofs.Common.{◌≡◌, ◌≤◌, ◌<◌, ◌+◌, ◌-◌, ◌*◌, ◌/◌, ℕ, zero, suc, ℤ, List, [], ◌∷◌, refl, ap, subst, ◌∙◌, arith, sym, pos, drop, get_or, ◌%◌, Bool, true, false, cond, not, None, Some, is_some, filter, if◌then◌else◌, Option, mul-le-mul_right, get_or-drop, get_or-take}
+use Rattle.std.proofs.Common.{◌≡◌, ◌≤◌, ◌<◌, ◌+◌, ◌-◌, ◌*◌, ◌/◌, ℕ, zero, suc, ℤ, List, [], ◌∷◌, refl, ap, subst, ◌∙◌, inl, arith, sym, pos, drop, get_or, ◌%◌, Bool, true, false, cond, not, None, Some, is_some, filter, if◌then◌else◌, Option, mul-le-mul_right, get_or-drop, get_or-take}
 use Rattle.std.specs.List.{range_with_len}
 use Rattle.std.proofs.lemmas.Nat.{le-div, div-add-mod', mod_below}
 use Rattle.std.proofs.lemmas.Bool.Decides.{nat_tests}
@@ -11,7 +11,8 @@ use Rattle.base_122.proofs.SizeBounds.{total-le-segments, nine-le-total_blocks}
 use Rattle.packet_defs.specs.Packets.{joined}
 use Rattle.packet_defs.specs.Streams.{left_over, place_after, framing, framing_at}
 use Rattle.packet_defs.proofs.Splits.{joined_splits, splits_left}
-use Rattle.segment_code.specs.Laws.{CodedHolds, TextsAreShort, CodedHoldsExactly}
+use Rattle.segment_code.specs.ShortTexts.{TextsAreShort}
+use Rattle.segment_code.specs.Coded.{CodedTextsAreRead}
 use Rattle.stream_defs.specs.Chosen.{IsChoice, chosen, all_parts}
 use Rattle.stream_defs.specs.Damage.{is_missing, whole_missing}
 use Rattle.stream_defs.specs.Fates.{geometry_in}
@@ -20,6 +21,7 @@ use Rattle.stream_defs.specs.Places.{parts_of, AreCoded}
 use Rattle.stream_defs.specs.Received.{ReceivedIn}
 use Rattle.segment_walk.specs.Runs.{Numbers, holds_after}
 use Rattle.segment_walk.specs.Images.{some_output, BeginsOne, is_begun, AreSome, IsImageFor, ComesWhole, ArePixels, SendsAll}
+use Rattle.segment_walk.proofs.Receiving.{one_value}
 use Rattle.segment_walk.proofs.RunEnds.{any_miss}
 use Rattle.segment_walk.proofs.SublistPictures.{all_packets, choice_all, coded_for, geometry_there, reported_begun, segment_within, whole_choice, sized_range}
 use Rattle.segment_walk.proofs.SublistSegments.{only_whole, each_whole}
@@ -118,20 +120,20 @@ module _ (short : TextsAreShort) (s : Setting) (rows : ℕ) (x : ℕ → ℕ →
     held_by index w lt e = (only_whole short s rows x (all_parts t all) are received of_all index w lt e).1
 
     -- and each is received
-    pub each_received : CodedHolds → (index : ℕ) → index < segments_of t → is_some (received index) ≡ true
-    each_received holds index lt = each_whole short s rows x (all_parts t all) are received of_all holds index lt refl
+    pub each_received : CodedTextsAreRead → (index : ℕ) → index < segments_of t → is_some (received index) ≡ true
+    each_received read index lt = each_whole short s rows x (all_parts t all) are received of_all read index lt refl
 
-    pub comes_whole : CodedHolds → ComesWhole s rows x received
-    comes_whole holds = record {
+    pub comes_whole : CodedTextsAreRead → ComesWhole s rows x received
+    comes_whole read = record {
       geometry = geometry_told;
       missing = none_missing (image_geometry s rows) received (λ block lt.
           let turned : block_count rows * block_count s.width ≡ total_blocks s.width rows = grind arith in
-          each_received holds (block / s.segment) (segment_within short s rows x is block (omega (arith, lt, turned))));
+          each_received read (block / s.segment) (segment_within short s rows x is block (omega (arith, lt, turned))));
       framing_is = framed;
     }
 
     -- if nothing is omitted
-    module _ (holds : CodedHolds) (exact : CodedHoldsExactly) (sends : SendsAll s) where
+    module _ (read : CodedTextsAreRead) (sends : SendsAll s) where
       range : IsInRange t
       range = sized_range short s rows x is
 
@@ -140,7 +142,7 @@ module _ (short : TextsAreShort) (s : Setting) (rows : ℕ) (x : ℕ → ℕ →
 
       -- each segment is received with its own blocks
       segment_is : (index : ℕ) → index < segments_of t → received index ≡ Some (segment_of t all index)
-      segment_is index lt = by (received index) refl (each_received holds index lt)
+      segment_is index lt = by (received index) refl (each_received read index lt)
         where
           by : (o : Option (List (List ℤ))) → received index ≡ o → is_some o ≡ true → received index ≡ Some (segment_of t all index)
           by None e some = absurd (false≢true some)
@@ -149,8 +151,9 @@ module _ (short : TextsAreShort) (s : Setting) (rows : ℕ) (x : ℕ → ℕ →
               let h = head_for t all index in
               let plane : h.stop.plane ≡ 0 = ap (λ b. if b then 0 else s.stop.plane) sends.goes_on ∙ sends.plane in
               let stage : h.stop.stage ≡ 3 = ap (λ b. if b then 3 else s.stop.stage) sends.goes_on ∙ sends.stage in
-              e ∙ ap Some ((exact s.book is.sound h blocks (head_fits t x range is.height.0 pixels index lt) is.weights (spells t x range is.height.0 pixels index lt) refl (share_none t index (used_before t all index) sends.total ∙ sends.limit)
-              (record { goes_on = sends.goes_on; plane = plane; stage = stage }) w).0 (held_by index w lt e))
+              let uncut = share_none t index (used_before t all index) sends.total ∙ sends.limit in
+              let reads = read s.book is.sound h blocks (head_fits t x range is.height.0 pixels index lt) is.weights (spells t x range is.height.0 pixels index lt) refl in
+              e ∙ ap Some (one_value _ w blocks (held_by index w lt e) (reads.exact (inl uncut) (record { goes_on = sends.goes_on; plane = plane; stage = stage })))
 
       -- so each block is there with its numbers
       pub number_is : (b i : ℕ) → b < total_blocks s.width rows → number_at (image_geometry s rows) received b i ≡ get_or (get_or all b []) i (pos 0)

@@ -1,12 +1,11 @@
 -- What is received of a stream. This project's own.
-use Rattle.std.specs.Prelude.{◌≡◌, ℕ, List, IsTrue}
+use Rattle.std.specs.Prelude.{◌≡◌, ℕ, List}
 use Rattle.base_122.specs.declared.book.Book.{Book}
-use Rattle.plane_defs.specs.Codes.{is_book_sound}
 use Rattle.stream_defs.specs.Received.{ReceivedIn}
 use Rattle.segment_walk.specs.Runs.{Numbers, holds_after}
 
--- The octets that were taken determine which segments are received with a book, and with which numbers. If the book is sound, there is an
--- answer for each stream.
+-- The octets that were taken determine which segments are received with a book, and with which numbers: there is exactly one answer for
+-- each stream.
 pub record ReceivedIsTold : Type 0 where
   pub one : (book : Book) (apid : ℕ) (taken : List ℕ) (a b : Numbers) → ReceivedIn (holds_after book) apid taken a → ReceivedIn (holds_after book) apid taken b → (index : ℕ) → a index ≡ b index
-  pub some : (book : Book) → IsTrue (is_book_sound book) → (apid : ℕ) (taken : List ℕ) → (received : Numbers) × ReceivedIn (holds_after book) apid taken received
+  pub some : (book : Book) (apid : ℕ) (taken : List ℕ) → (received : Numbers) × ReceivedIn (holds_after book) apid taken received

@@ -5,7 +5,7 @@ use Rattle.base_122.specs.Sizes.{first_block, segment_blocks}
 use Rattle.base_122.specs.declared.geometry.Geometry.{Geometry}
 use Rattle.base_122.specs.declared.book.Book.{Book}
 use Rattle.segment_defs.specs.Head.{head_length}
-use Rattle.text_defs.specs.Outcomes.{Holds}
+use Rattle.text_defs.specs.TextOutcome.{text_outcome}
 use Rattle.packet_defs.specs.Streams.{whole_packets, left_over, has_bad_version}
 use Rattle.stream_defs.specs.declared.fate.LastPart.{LastPart}
 use Rattle.stream_defs.specs.declared.fate.FateState.{FateState}
@@ -28,9 +28,9 @@ use Rattle.segment_walk.specs.Segments.{HasImage}
 
 -- ---- what is claimed
 
--- a text holds what its octets after the head hold, with the codes of this book
+-- a text holds the numbers that its octets after the head are read as, with the codes of this book
 abbrev pub holds_after : Book → Acceptance
-holds_after book head text numbers = Holds book head (drop (head_length head) text) numbers
+holds_after book head text numbers = text_outcome book head (drop (head_length head) text) ≡ Ok numbers
 
 abbrev pub Numbers : Type 0
 Numbers = sinks.Numbers

@@ -1,5 +1,5 @@
 -- The effect of the steps from segment to segment. This project's own.
-use Rattle.std.specs.Prelude.{◌≡◌, ◌≤◌, ◌<◌, ◌+◌, ◌-◌, ◌*◌, ℕ, ℤ, List, [], take, min, Bool, true, false, Option, None, Some, Result, Ok, Err, IsOk, MatchOption, MatchResult}
+use Rattle.std.specs.Prelude.{◌≡◌, ◌≤◌, ◌<◌, ◌+◌, ◌-◌, ◌*◌, ℕ, ℤ, List, [], take, min, Bool, true, false, Option, None, Some, Result, Ok, Err, IsOk, IsErr, MatchOption, MatchResult}
 use Rattle.port_122.specs.Outside.{Outside, Rose, NoFewerFaults}
 use Rattle.base_122.specs.Sizes.{first_block}
 use Rattle.base_122.specs.Ranges.{IsGeometryInRange}
@@ -10,7 +10,7 @@ use Rattle.bit_pipe.specs.declared.fault.InFault.TheVariants as in_faults
 use Rattle.bit_pipe.specs.Sources.{Plainly}
 use Rattle.segment_defs.specs.declared.head.SegmentHead.{SegmentHead}
 use Rattle.segment_defs.specs.Head.{IsHead}
-use Rattle.text_defs.specs.Outcomes.{Holds}
+use Rattle.text_defs.specs.TextOutcome.{text_outcome}
 use Rattle.packet_assembly.specs.declared.note.SegmentStart.{SegmentStart}
 use Rattle.packet_assembly.specs.Assembling.{Assembling, last_index, is_closed}
 use Rattle.packet_assembly.specs.Segments as assembling
@@ -137,19 +137,19 @@ EndsText old new a b (Err other) = ⊥
 abbrev pub cells_of : SegmentHead → List ℤ → List ℤ
 cells_of head cells = take (64 * head.blocks) cells
 
--- A segment's text was read whole, and holds these blocks with the codes of this book; its closing part was passed.
+-- A segment's text was read whole, as these blocks with the codes of this book; its closing part was passed.
 pub record Accepts (book : Book) (old new : Outside) (a b : Assembling) (head : SegmentHead) (cells : List ℤ) : Type 0 where
   pub goes : assembling.Continues old new a b
   pub unheld : b.held ≡ None
   pub closed : is_closed b.state.last ≡ true
   pub some : List ℕ
-  pub holds : Holds book head some (blocks_in (cells_of head cells))
-  pub told : (rest : List ℕ) → old.rest ≡ Some rest → ((text_tail a rest).ends ≡ Plainly) × Holds book head (text_tail a rest).octets (blocks_in (cells_of head cells))
+  pub holds : text_outcome book head some ≡ Ok (blocks_in (cells_of head cells))
+  pub told : (rest : List ℕ) → old.rest ≡ Some rest → ((text_tail a rest).ends ≡ Plainly) × (text_outcome book head (text_tail a rest).octets ≡ Ok (blocks_in (cells_of head cells)))
 
--- It breaks off, or it holds nothing.
+-- It breaks off, or it is refused.
 pub record Refuses (book : Book) (old new : Outside) (a b : Assembling) (head : SegmentHead) : Type 0 where
   pub goes : assembling.Continues old new a b
-  pub told : (rest : List ℕ) → old.rest ≡ Some rest → (text_tail a rest).ends ≡ Plainly → (w : List (List ℤ)) → Holds book head (text_tail a rest).octets w → ⊥
+  pub told : (rest : List ℕ) → old.rest ≡ Some rest → (text_tail a rest).ends ≡ Plainly → IsErr (text_outcome book head (text_tail a rest).octets)
 
 abbrev pub ReadsText : Book → (old new : Outside) (a b : Assembling) (head : SegmentHead) (cells : List ℤ) → Result Bool DecodeFault → Type 0
 ReadsText book old new a b head cells (Ok true) = Accepts book old new a b head cells

@@ -3,7 +3,7 @@ ghost use Rattle.std.specs.Prelude.{◌≡◌, ◌≤◌, ◌*◌, true, length,
 ghost use Rattle.base_122.specs.Ranges.{IsGeometryInRange};
 ghost use Rattle.segment_defs.specs.Head.{IsHead};
 ghost use Rattle.segment_code.specs.Decoded.{DecodesSegment};
-ghost use Rattle.segment_code.specs.TakenText.{AreClear};
+ghost use Rattle.segment_code.specs.Starts.{AreClear};
 ghost use Rattle.stream_defs.specs.Begun.{placed};
 ghost use Rattle.packet_assembly.specs.Assembling.{Assembling};
 ghost use Rattle.segment_walk.specs.Steps.{walking, IsCurrent, HasRoom, PassesBlocks, AreBlocks};
@@ -19,8 +19,9 @@ use base_122::{FieldRange, Geometry};
 use bit_pipe::{InFault, OctetIn, Part};
 use packet_assembly::{Assembly, SegmentStart};
 use port_122::{Failed, Port};
-use segment_code::{SegmentFault, SegmentReader};
+use segment_code::{SegmentFault, SegmentReader, texts_end_so};
 use segment_head::SegmentHead;
+use text_defs::texts_are_read;
 
 /// Advances to the next segment, or to the end of the stream.
 pub fn find_next<X: Port>(
@@ -59,7 +60,7 @@ fn decode_first<I: OctetIn>(
     requires blocks { 64 * head.now.blocks ≤ length blocks.old }
     requires marks { head.now.blocks ≤ length marks.old }
     requires clear { AreClear (take (64 * head.now.blocks) blocks.old) }
-    ensures decodes { DecodesSegment I.source reader.now.tables.book head.now result text.old text.new (take (64 * head.now.blocks) blocks.new) }
+    ensures decodes { DecodesSegment I.source reader.now.tables.words.book head.now result text.old text.new (take (64 * head.now.blocks) blocks.new) }
     ensures sizes { (length blocks.new ≡ length blocks.old) × (length marks.new ≡ length marks.old) }
 {
     let count = head.blocks as usize;
@@ -80,8 +81,9 @@ fn read_text<X: Port>(
     ensures marks { vec_len room.new.marks ≡ vec_len room.old.marks }
     ensures pixels { room.new.pixels ≡ room.old.pixels }
     ensures reader { room.new.reader ≡ room.old.reader }
-    ensures reads { ReadsText room.old.reader.tables.book (X.outside port.old) (X.outside port.new) assembly.old assembly.new head.now room.new.blocks.items result }
+    ensures reads { ReadsText room.old.reader.tables.words.book (X.outside port.old) (X.outside port.new) assembly.old assembly.new head.now room.new.blocks.items result }
 {
+    texts_end_so();
     room.clear_blocks(64 * head.blocks as usize);
     let mut text = assembly.text(port);
     let read = decode_first(
@@ -219,10 +221,11 @@ pub fn take_segment<S: BlockSink, X: Port>(
     ensures blocks { vec_len room.new.blocks ≡ vec_len room.old.blocks }
     ensures marks { vec_len room.new.marks ≡ vec_len room.old.marks }
     ensures pixels { room.new.pixels ≡ room.old.pixels }
-    ensures book { room.new.reader.tables.book ≡ room.old.reader.tables.book }
+    ensures book { room.new.reader.tables.words.book ≡ room.old.reader.tables.words.book }
     ensures takes { TakesSegment S.sink (X.outside port.old) (X.outside port.new) assembly.old assembly.new (walking walk.old) (walking walk.new) result }
-    ensures runs { (w : Run) → w.pixels ≡ room.old.pixels → w.book ≡ room.old.reader.tables.book → WalksIn S.sink w (X.outside port.old) assembly.old (walking walk.old) start.now → RunsSegment S.sink w (X.outside port.new) assembly.new (walking walk.new) result }
+    ensures runs { (w : Run) → w.pixels ≡ room.old.pixels → w.book ≡ room.old.reader.tables.words.book → WalksIn S.sink w (X.outside port.old) assembly.old (walking walk.old) start.now → RunsSegment S.sink w (X.outside port.new) assembly.new (walking walk.new) result }
 {
+    texts_are_read();
     let Ok(()) = reach_segment(walk, port, start) else {
         return Err(DecodeFault::WriteFault);
     };

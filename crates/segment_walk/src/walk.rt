@@ -1,7 +1,7 @@
 // The state of a walk over segments.
 ghost use Rattle.std.specs.Prelude.{◌≡◌, ◌≤◌, ◌+◌, ◌*◌, length, take, IfOk, IsTrue, vec_len};
 ghost use Rattle.base_122.specs.Ranges.{IsGeometryInRange, IsWithin, rows_range};
-ghost use Rattle.segment_code.specs.TakenText.{AreClear};
+ghost use Rattle.segment_code.specs.Starts.{AreClear};
 ghost use Rattle.stream_defs.specs.Begun.{placed};
 ghost use Rattle.segment_walk.specs.Sinks.{MayEnd};
 ghost use Rattle.segment_walk.specs.Steps.{walking, passed_in, IsCurrent, IsFresh, HasGeometry};
@@ -95,7 +95,7 @@ impl SegmentRoom {
     ghost use Rattle.std.specs.Prelude.{◌≡◌, ◌≤◌, ◌+◌, ◌*◌, false, take, IfOk, IsTrue, vec_len};
     ghost use Rattle.base_122.specs.Ranges.{IsGeometryInRange, IsWithin, rows_range};
     ghost use Rattle.plane_defs.specs.Codes.{is_book_sound};
-    ghost use Rattle.segment_code.specs.TakenText.{AreClear};
+    ghost use Rattle.segment_code.specs.Starts.{AreClear};
     ghost use Rattle.segment_walk.specs.Rooms.{IsRoom};
 
     /// Takes the memory for the segments of an image, which are read with the wish's code book. It fails only if there is too little memory.
@@ -109,13 +109,14 @@ impl SegmentRoom {
         requires book { IsTrue (is_book_sound wish.now.book) }
         ensures room { IfOk result (λ room. IsRoom geometry.now (vec_len room.blocks) (vec_len room.marks)) }
         ensures pixels { IfOk result (λ room. room.pixels ≡ wish.now.pixels) }
-        ensures book { IfOk result (λ room. room.reader.tables.book ≡ wish.now.book) }
+        ensures book { IfOk result (λ room. room.reader.tables.words.book ≡ wish.now.book) }
     {
         let count = geometry.blocks_of(0) as usize;
         let blocks = vec![in alloc; 0; 64 * count]?;
         let marks = vec![in alloc; 0; count]?;
+        let reader = SegmentReader::new(alloc, &wish.book)?;
         Ok(SegmentRoom {
-            reader: SegmentReader::new(&wish.book),
+            reader,
             blocks,
             marks,
             pixels: wish.pixels,

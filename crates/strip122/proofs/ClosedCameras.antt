@@ -9,7 +9,7 @@ use Rattle.base_122.specs.Ranges.{IsInRange, IsWithin, rows_range}
 use Rattle.base_122.specs.Setting.{IsHeight}
 use Rattle.base_122.specs.declared.setting.Setting.{Setting}
 use Rattle.raster_rows.specs.RowReads.{FirstInRange}
-use Rattle.segment_code.specs.Laws.{TextsAreShort}
+use Rattle.segment_code.specs.ShortTexts.{TextsAreShort}
 use Rattle.segment_walk.proofs.WholeImages.{geometry_told}
 use Rattle.stream_defs.specs.declared.fate.FateState.{FateState}
 use Rattle.stream_defs.specs.Fates.{geometry_in, kept_in}

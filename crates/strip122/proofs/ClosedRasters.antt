@@ -14,7 +14,7 @@ use Rattle.packet_defs.specs.Streams.{framing, framing_at, left_over, place_afte
 use Rattle.packet_defs.proofs.Equations.{framing_at-is}
 use Rattle.raster_rows.specs.Pixels.{raster_octets}
 use Rattle.strip_decoder.proofs.RasterAgain.{raster-again}
-use Rattle.segment_code.specs.Laws.{TextsAreShort}
+use Rattle.segment_code.specs.ShortTexts.{TextsAreShort}
 use Rattle.stream_defs.specs.Begun.{HasFewPixels, begun_in, end_of, rows_reached}
 use Rattle.stream_defs.specs.Damage.{whole_missing}
 use Rattle.stream_defs.specs.Fates.{geometry_in, kept_in}

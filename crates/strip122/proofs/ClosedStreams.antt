@@ -1,5 +1,5 @@
 -- A raster whose bare stream is decoded.
-use Rattle.std.proofs.Common.{◌≡◌, ◌<◌, ◌∙◌, ℕ, true, List, [], length, All, sym, ap, subst, inl, inr, Some}
+use Rattle.std.proofs.Common.{◌≡◌, ◌<◌, ◌∙◌, ℕ, ℤ, true, List, [], length, All, sym, ap, subst, inl, inr, Some, Result, Ok}
 use Rattle.port_122.specs.Outside.{Outside, Exchange}
 use Rattle.port_122.proofs.Told.{end_told}
 use Rattle.base_122.specs.declared.geometry.Geometry.{Geometry}
@@ -11,13 +11,15 @@ use Rattle.strip_coder.specs.Rasters.{image_of}
 use Rattle.segment_walk.specs.Images.{SendsAll}
 use Rattle.bare_stream.specs.Bare.{bare}
 use Rattle.bare_stream.specs.BareStream.{BareStream}
-use Rattle.bare_stream.specs.Decoded.{AsksRead}
-use Rattle.bare_stream.specs.Images.{IsBareImage, ImagesAreBareStreams, bare_geometry, image_segments}
+use Rattle.bare_stream.specs.Decoded.{AsksBare}
+use Rattle.bare_stream.specs.Images.{IsBareImage, SaysImage, ImagesAreBareStreams, bare_geometry, image_segments}
 use Rattle.bare_stream.specs.Rasters.{IsBare}
-use Rattle.bare_stream.specs.RoundTrip.{BareRoundTrip, StreamsAreRead}
-use Rattle.bare_stream.specs.SegmentsRead.{all_rows}
+use Rattle.bare_stream.specs.RoundTrip.{IsWithinCaps, BareRoundTrip, StreamsAreRead}
+use Rattle.bare_stream.specs.Pictures.{all_rows}
+use Rattle.bare_stream.specs.StreamRead.{reading, answer_for}
+use Rattle.bare_stream.specs.declared.fault.BareFault.{BareFault}
 use Rattle.plane_defs.specs.Codes.{is_book_sound}
-use Rattle.strip122.specs.BareStreams.{DecodesStream, DecodedBare, IsStreamOf, EncodedBare, decodes_bare}
+use Rattle.strip122.specs.BareStreams.{DecodesStream, DecodedBare, GivesPicture, IsStreamOf, EncodedBare, decodes_bare}
 use Rattle.strip122.specs.Behaviours.{IsSteady, Completes}
 use Rattle.strip122.specs.Closed.{AdmitsBare, GivesBareRaster, BareClosed}
 use Rattle.strip122.proofs.BareRuns.{bare_decode_law}
@@ -29,29 +31,41 @@ module _ (streams : StreamsAreRead) (images : ImagesAreBareStreams) (trip : Bare
   stream = bare s (image_of s raster)
 
   module _ (wish : DecodeWish) (old new : Outside) (admits : AdmitsBare wish s (length stream)) (told : old.rest ≡ Some stream) where
+    abbrev says : (w : List (List (List ℤ))) × SaysImage s (image_of s raster) w
+    says = images.says s (image_of s raster) image
+
+    found : BareStream wish.book stream (bare_geometry s) says.0
+    found = subst (λ book. BareStream book stream (bare_geometry s) says.0) (sym admits.book) says.1.stream
+
+    caps : IsWithinCaps wish stream (bare_geometry s)
+    caps = record { few = admits.pixels; short = admits.octets }
+
+    right : IsStreamOf wish stream (bare_geometry s)
+    right = streams.answer wish stream (bare_geometry s) says.0 found caps
+
     has : (decodes_bare wish).right old
-    has =
-        let says = images.says s (image_of s raster) image in
-        let found : BareStream wish.book stream (bare_geometry s) says.0 = subst (λ book. BareStream book stream (bare_geometry s) says.0) (sym admits.book) says.1.stream in
-        (stream, told, bare_geometry s, record { blocks = says.0; stream = found; caps = record { few = admits.pixels; short = admits.octets } })
+    has = (stream, told, bare_geometry s, right)
 
     -- the picture of a stream that was taken whole
-    shown : (all : SendsAll s) (g : Geometry) (is : IsStreamOf wish stream g) → all_rows g is.blocks ≡ all_rows (bare_geometry s) (image_segments s (image_of s raster))
-    shown all g is =
-        let found : BareStream s.book stream g is.blocks = subst (λ book. BareStream book stream g is.blocks) admits.book is.stream in
-        let only = images.only s (image_of s raster) g is.blocks image found in
-        ap (λ h. all_rows h is.blocks) only.0 ∙ ap (all_rows (bare_geometry s)) (only.1.exact all)
+    shown : (all : SendsAll s) (gave : List ℕ) (g : Geometry) → GivesPicture wish stream gave g → gave ≡ all_rows (bare_geometry s) (image_segments s (image_of s raster))
+    shown all gave g picture =
+        let same : g ≡ bare_geometry s = ok_one (answer_for wish stream) g (bare_geometry s) picture.stream right in
+        picture.rows ∙ ap (λ h. all_rows h (reading wish stream).segments.blocks) same
+        ∙ ap (all_rows (bare_geometry s)) (streams.blocks wish stream (bare_geometry s) says.0 found caps ∙ says.1.exact all)
+      where
+        ok_one : (o : Result Geometry BareFault) (a b : Geometry) → o ≡ Ok a → o ≡ Ok b → a ≡ b
+        ok_one o a b e f = cc
 
     module _ (all : SendsAll s) (octets : All (λ octet. octet < 256) raster) (whole : TookRaster s s.rows raster) where
-      by_whole : (w : DecodedBare wish old new) → Exchange old new stream raster [] (AsksRead w.read raster)
+      by_whole : DecodedBare wish old new → Exchange old new stream raster [] (AsksBare wish old stream raster)
       by_whole w =
           let took : w.took ≡ stream = end_told stream w.since told w.ended in
-          let picture = subst (λ t. (is : IsStreamOf wish t w.g) × (w.gave ≡ all_rows w.g is.blocks)) took (w.picture stream told) in
-          let gave : w.gave ≡ raster = picture.1 ∙ shown all w.g picture.0 ∙ trip.picture s (image_of s raster) image ∙ raster-again s.depth s.signed s.rows s.width raster octets whole.whole in
-          subst (λ g. Exchange old new stream g [] (AsksRead w.read g)) gave (subst (λ t. Exchange old new t w.gave [] (AsksRead w.read w.gave)) took w.since)
+          let picture = subst (λ t. GivesPicture wish t w.gave w.g) took (w.picture stream told) in
+          let gave : w.gave ≡ raster = shown all w.gave w.g picture ∙ trip.picture s (image_of s raster) image ∙ raster-again s.depth s.signed s.rows s.width raster octets whole.whole in
+          subst (λ g. Exchange old new stream g [] (AsksBare wish old stream g)) gave (subst (λ t. Exchange old new t w.gave [] (AsksBare wish old t w.gave)) took w.since)
 
       ends : (status : ℕ) → Completes (decodes_bare wish) old new status → GivesBareRaster wish raster stream old new status
-      ends status (inl w) = inl (w.0, w.1.read, by_whole w.1)
+      ends status (inl w) = inl (w.0, by_whole w.1)
       ends status (inr (inl p)) = absurd p.1
       ends status (inr (inr n)) = inr n
 

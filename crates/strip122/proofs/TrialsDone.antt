@@ -22,7 +22,7 @@ use Rattle.raster_rows.proofs.PixelPlaces.{size_some, whole_pixels-is, whole_bef
 use Rattle.raster_rows.proofs.RasterLaws.{raster_pixel-raster_octets, length-raster_octets}
 use Rattle.packet_defs.specs.Packets.{joined}
 use Rattle.packet_defs.specs.Streams.{left_over}
-use Rattle.segment_code.specs.Laws.{TextsAreShort}
+use Rattle.segment_code.specs.ShortTexts.{TextsAreShort}
 use Rattle.stream_defs.specs.Begun.{begun_in}
 use Rattle.stream_defs.specs.Fates.{geometry_in}
 use Rattle.stream_defs.specs.KnownHeights.{KnownHeights}

@@ -1,5 +1,5 @@
 -- The effect of a run of `bare-encode` and `bare-decode`. This project's own.
-use Rattle.std.specs.Prelude.{◌≡◌, ◌≤◌, ℕ, ℤ, List, [], length, Option, Some, Result, Ok, Err}
+use Rattle.std.specs.Prelude.{◌≡◌, ◌≤◌, ℕ, ℤ, List, [], length, Some, Result, Ok, Err}
 use Rattle.port_122.specs.Outside.{Outside, GivenBy, Exchange, AtEnd}
 use Rattle.base_122.specs.declared.geometry.Geometry.{Geometry}
 use Rattle.base_122.specs.declared.setting.Setting.{Setting}
@@ -9,11 +9,11 @@ use Rattle.strip_coder.specs.Answers.{TookRaster}
 use Rattle.bare_stream.specs.Bare.{bare}
 use Rattle.bare_stream.specs.Rasters.{texts_for}
 use Rattle.bare_stream.specs.Answers.{BareAnswers}
-use Rattle.bare_stream.specs.BareStream.{BareStream}
 use Rattle.bare_stream.specs.Images.{IsBareImage}
-use Rattle.bare_stream.specs.RoundTrip.{IsWithinCaps, GivesImage}
-use Rattle.bare_stream.specs.SegmentsRead.{SegmentsRead, Told, all_rows}
-use Rattle.bare_stream.specs.Decoded.{BareReasons, GivesRead, EndsSo, AsksRead}
+use Rattle.bare_stream.specs.RoundTrip.{GivesImage}
+use Rattle.bare_stream.specs.Pictures.{all_rows}
+use Rattle.bare_stream.specs.StreamRead.{reading, answer_for}
+use Rattle.bare_stream.specs.Decoded.{Told, Answers, EndsSo, AsksBare}
 use Rattle.bare_stream.specs.declared.fault.BareFault.{BareFault}
 use Rattle.strip122.specs.Notes.{IsNoted, bare_fault_status, bare_fault_line}
 use Rattle.strip122.specs.Ran.{Asking, Ran, CausedWithin}
@@ -47,43 +47,35 @@ abbrev pub bare_line : Result Geometry BareFault → List ℕ
 bare_line (Ok g) = []
 bare_line (Err fault) = bare_fault_line fault
 
--- The cause of an answer, if these segments were read: what is given, how the run ended, and the reason.
-pub record BareCauses (wish : DecodeWish) (read : Option SegmentsRead) (old new : Outside) (took gave : List ℕ) (answer : Result Geometry BareFault) : Type 0 where
-  pub gives : GivesRead answer gave read
-  pub ends : EndsSo answer old new
-  pub reason : Told old (BareReasons wish new took read answer)
+-- The cause of an answer: how the run ended, and the answer of the function by which the stream is read.
+pub record BareCauses (wish : DecodeWish) (old new : Outside) (took gave : List ℕ) (answer : Result Geometry BareFault) : Type 0 where
+  pub ends : EndsSo answer old new gave
+  pub answers : Told old (λ input. Answers wish input took gave answer)
 
--- what is done at a read call: exactly the rows are given that the segments so far determine
-abbrev pub AsksBare : Option SegmentsRead → Asking
-AsksBare read old took gave = AsksRead read gave
-
--- one run, with the segments that were read
+-- one run: each read call that takes octets does so while those before decide nothing, and has given exactly the rows that they determine
 abbrev pub DecodesStream : DecodeWish → (old new : Outside) (status : ℕ) → Type 0
-DecodesStream wish old new status =
-    (read : Option SegmentsRead) × Ran (CausedWithin wish.octets (BareCauses wish read)) (AsksBare read) bare_status bare_line old new status
+DecodesStream wish = Ran (CausedWithin wish.octets (BareCauses wish)) (AsksBare wish) bare_status bare_line
 
 -- ---- what follows for one status
 
--- The octets are a bare stream of this geometry, within the caps: they are fewer than may be taken, and their image has no more pixels than
--- are wished. Then no header of theirs reports more.
-pub record IsStreamOf (wish : DecodeWish) (octets : List ℕ) (g : Geometry) : Type 0 where
-  pub blocks : List (List (List ℤ))
-  pub stream : BareStream wish.book octets g blocks
-  pub caps : IsWithinCaps wish octets g
+-- The octets are a bare stream of this geometry, within the caps: they are fewer than may be taken, and no header of theirs reports more
+-- pixels than are wished.
+abbrev pub IsStreamOf : DecodeWish → (octets : List ℕ) → Geometry → Type 0
+IsStreamOf wish octets g = answer_for wish octets ≡ Ok g
 
 -- a bare stream within the caps was taken, and the picture of all its segments is given
-abbrev pub GivesPicture : DecodeWish → (took gave : List ℕ) → Geometry → Type 0
-GivesPicture wish took gave g = (is : IsStreamOf wish took g) × (gave ≡ all_rows g is.blocks)
+pub record GivesPicture (wish : DecodeWish) (took gave : List ℕ) (g : Geometry) : Type 0 where
+  pub stream : IsStreamOf wish took g
+  pub rows : gave ≡ all_rows g (reading wish took).segments.blocks
 
 -- A bare stream was read to the end of the input, and its picture is given.
 pub record DecodedBare (wish : DecodeWish) (old new : Outside) : Type 0 where
   pub g : Geometry
   pub took : List ℕ
   pub gave : List ℕ
-  pub read : Option SegmentsRead
-  pub since : Exchange old new took gave [] (AsksRead read gave)
+  pub since : Exchange old new took gave [] (AsksBare wish old took gave)
   pub ended : AtEnd new
-  pub picture : Told old (GivesPicture wish took gave g)
+  pub picture : Told old (λ input. GivesPicture wish took gave g)
 
 -- The decoder refused its input: the cause and the note name the same fault.
 pub record BareRefuses (wish : DecodeWish) (old new : Outside) : Type 0 where
@@ -91,19 +83,17 @@ pub record BareRefuses (wish : DecodeWish) (old new : Outside) : Type 0 where
   pub took : List ℕ
   pub gave : List ℕ
   pub wrote : List ℕ
-  pub read : Option SegmentsRead
-  pub since : Exchange old new took gave wrote (AsksRead read gave)
+  pub since : Exchange old new took gave wrote (AsksBare wish old took gave)
   pub within : length took ≤ wish.octets
   pub input : bare_fault_status fault ≡ 3
-  pub cause : BareCauses wish read old new took gave (Err fault)
+  pub cause : BareCauses wish old new took gave (Err fault)
   pub noted : IsNoted old new wrote (bare_fault_line fault)
 
 -- there is too little memory for the decoder: nothing is given
 pub record BareLacksMemory (wish : DecodeWish) (old new : Outside) : Type 0 where
   pub took : List ℕ
   pub wrote : List ℕ
-  pub read : Option SegmentsRead
-  pub since : Exchange old new took [] wrote (AsksRead read [])
+  pub since : Exchange old new took [] wrote (AsksBare wish old took [])
   pub within : length took ≤ wish.octets
 
 -- ---- the behaviour
@@ -128,6 +118,5 @@ pub record GaveBare (wish : DecodeWish) (old new : Outside) : Type 0 where
   pub g : Geometry
   pub took : List ℕ
   pub gave : List ℕ
-  pub read : Option SegmentsRead
-  pub since : Exchange old new took gave [] (AsksRead read gave)
-  pub back : Told old ((s : Setting) (x : ℕ → ℕ → ℤ) → wish.book ≡ s.book → IsBareImage s x → took ≡ bare s x → GivesImage s x gave g)
+  pub since : Exchange old new took gave [] (AsksBare wish old took gave)
+  pub back : Told old (λ input. (s : Setting) (x : ℕ → ℕ → ℤ) → wish.book ≡ s.book → IsBareImage s x → took ≡ bare s x → GivesImage s x gave g)

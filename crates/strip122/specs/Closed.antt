@@ -1,5 +1,5 @@
 -- A raster that is encoded and decoded again. This project's own.
-use Rattle.std.specs.Prelude.{◌≡◌, ◌⊎◌, ◌<◌, ◌≤◌, ◌*◌, ℕ, Bool, true, false, List, [], length, All, Option, Some}
+use Rattle.std.specs.Prelude.{◌≡◌, ◌⊎◌, ◌<◌, ◌≤◌, ◌*◌, ℕ, Bool, true, false, List, [], length, All, Some}
 use Rattle.port_122.specs.Outside.{Outside, Exchange}
 use Rattle.base_122.specs.declared.setting.Setting.{Setting}
 use Rattle.base_122.specs.declared.wish.DecodeWish.{DecodeWish}
@@ -10,8 +10,7 @@ use Rattle.strip_decoder.specs.Answers.{Asks}
 use Rattle.camera_mux.specs.MuxOut.{mux_out}
 use Rattle.camera_mux.specs.Records.{raster_of, setting_at}
 use Rattle.bare_stream.specs.Bare.{bare}
-use Rattle.bare_stream.specs.Decoded.{AsksRead}
-use Rattle.bare_stream.specs.SegmentsRead.{SegmentsRead}
+use Rattle.bare_stream.specs.Decoded.{AsksBare}
 use Rattle.strip122.specs.BareStreams.{DecodesStream, BareLacksMemory, EncodedBare}
 use Rattle.strip122.specs.Behaviours.{IsSteady}
 use Rattle.strip122.specs.Books.{AfterBook}
@@ -69,7 +68,7 @@ pub record AdmitsBare (wish : DecodeWish) (s : Setting) (size : ℕ) : Type 0 wh
 -- the raster is given for this stream, with status 0 and without a note; or there is too little memory, and nothing is given
 abbrev pub GivesBareRaster : DecodeWish → (raster stream : List ℕ) → (old new : Outside) (status : ℕ) → Type 0
 GivesBareRaster wish raster stream old new status =
-    ((status ≡ 0) × (read : Option SegmentsRead) × Exchange old new stream raster [] (AsksRead read raster)) ⊎ ((status ≡ 6) × BareLacksMemory wish old new)
+    ((status ≡ 0) × Exchange old new stream raster [] (AsksBare wish old stream raster)) ⊎ ((status ≡ 6) × BareLacksMemory wish old new)
 
 -- each run of `bare-decode` that reads exactly this stream, with such a wish and without a failed call, gives the raster
 pub record BareComesBack (s : Setting) (raster stream : List ℕ) : Type 0 where

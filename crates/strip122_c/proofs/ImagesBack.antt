@@ -62,7 +62,7 @@ module _ (trip : RoundTrip) (told : ReceivedIsTold) (known : KnownHeights) (s : 
   -- all packets of an image report its geometry
   tells_image : geometry_in s.apid (output s rows x) ≡ Some whole_image
   tells_image =
-      let some = told.some s.book image.sound s.apid (output s rows x) in
+      let some = told.some s.book s.apid (output s rows x) in
       (trip.whole s rows x some.0 image some.1).geometry
 
   of_image : (apid : ℕ) (packets : List ℕ) → apid ≡ s.apid → packets ≡ output s rows x → geometry_in apid packets ≡ Some whole_image

@@ -1,5 +1,5 @@
 -- The result of a run over all packets.
-use Rattle.std.proofs.Common.{◌≡◌, ◌≢◌, ◌≤◌, ◌<◌, ◌/◌, ◌∙◌, ℕ, List, [], ◌++◌, length, refl, sym, ap, subst, inl, inr, arith, IsTrue, Option, Some, None, Result, Ok, Err, append-nil}
+use Rattle.std.proofs.Common.{◌≡◌, ◌≢◌, ◌≤◌, ◌<◌, ◌/◌, ◌∙◌, ℕ, List, [], ◌++◌, length, refl, sym, ap, subst, inl, inr, arith, Option, Some, None, Result, Ok, Err, append-nil}
 use Rattle.port_122.specs.Outside.{Outside, Exchange, IsUsedUp}
 use Rattle.port_122.proofs.Told.{end_told, given_told}
 use Rattle.base_122.specs.Ranges.{rows_range}
@@ -7,7 +7,6 @@ use Rattle.base_122.specs.Sizes.{block_count}
 use Rattle.base_122.specs.declared.geometry.Geometry.{Geometry}
 use Rattle.base_122.specs.declared.wish.DecodeWish.{DecodeWish}
 use Rattle.packet_defs.specs.Streams.{whole_packets}
-use Rattle.plane_defs.specs.Codes.{is_book_sound}
 use Rattle.raster_rows.proofs.RasterLaws.{length-raster_octets}
 use Rattle.stream_defs.specs.Begun.{HasFewPixels, begun_in, height}
 use Rattle.stream_defs.specs.Fates.{fresh, after_all, kept, geometry_in}
@@ -176,10 +175,10 @@ begun_height wish packets m has = elim has.tells.range.rows [
 -- ---- before a raster is made
 
 -- it doesn't fit
-pub small_raster : (product : Product) (wish : DecodeWish) (packets : List ℕ) (room rows octets : ℕ) (m : Measured) → ReceivedIsTold → IsTrue (is_book_sound wish.book) → product ≢ Rects → HasSize wish packets m →
+pub small_raster : (product : Product) (wish : DecodeWish) (packets : List ℕ) (room rows octets : ℕ) (m : Measured) → ReceivedIsTold → product ≢ Rects → HasSize wish packets m →
     rows ≡ height m.geometry (m.ended / block_count m.geometry.width) → octets ≡ raster_length product m.geometry (m.ended / block_count m.geometry.width) → room < octets → HasSmallRoom product wish packets room m.geometry rows octets
-small_raster product wish packets room rows octets m laws sound raster has rows_are octets_are small =
-    let some = laws.some wish.book sound wish.apid packets in
+small_raster product wish packets room rows octets m laws raster has rows_are octets_are small =
+    let some = laws.some wish.book wish.apid packets in
     let n = begun_in wish.apid packets in
     let written = rows_are ∙ begun_height wish packets m has in
     record {

@@ -118,7 +118,6 @@ fn octets_kept(
     packets: &[u8],
     room: usize,
 ) -> Result<Option<usize>, DecodeRefusal>
-    requires book { IsTrue (is_book_sound wish.now.book) }
     ensures { MatchResult result (λ _. FitsRoom product wish.now packets.now room) (IsRefused product wish.now packets.now room) }
 {
     match product {
@@ -136,7 +135,6 @@ fn raster_kept(
     room: usize,
 ) -> Result<Option<usize>, DecodeRefusal>
     requires raster { product ≢ Rects }
-    requires book { IsTrue (is_book_sound wish.now.book) }
     ensures { MatchResult result (λ _. FitsRoom product wish.now packets.now room) (IsRefused product wish.now packets.now room) }
 {
     received_is_told();

@@ -1,5 +1,5 @@
 // A port over a slice that never fails.
-ghost use Rattle.std.specs.Prelude.{◌≡◌, ◌≤◌, ◌+◌, ◌++◌, ◌-◌, [], length, min, vec_capacity, IfOk, IfSome, Ok, Some, None, MatchResult, nat_le, if◌then◌else◌};
+ghost use Rattle.std.specs.Prelude.{◌≡◌, ◌≤◌, ◌+◌, ◌++◌, ◌-◌, [], length, min, vec_capacity, IfOk, IfSome, Ok, Some, None, MatchOption, MatchResult, nat_le, if◌then◌else◌};
 ghost use Rattle.std.specs.Option.{ForSome};
 ghost use Rattle.port_122.specs.Outside.{Outside, Read, ReadFailed, Written, WriteFailed, Noted, NoteFailed};
 
@@ -23,7 +23,7 @@ pub struct LentPort<'a> {
 }
 
 impl<'a> LentPort<'a> {
-    ghost use Rattle.strip122_c.specs.Lent.{outside_of};
+    ghost use Rattle.strip122_c.specs.Lent.{outside_of, IsEmpty};
 
     /// Returns a port at the start of this input, with room for this number of octets, which is taken at once, or without a number with
     /// room that grows.
@@ -42,6 +42,7 @@ impl<'a> LentPort<'a> {
           write_faults = 0;
           note_faults = 0;
         }) }
+        ensures empty { IfOk result (IsEmpty room) }
     {
         Ok(LentPort {
             input,
@@ -52,9 +53,10 @@ impl<'a> LentPort<'a> {
         })
     }
 
-    /// Returns the octets that it was given, if all of them fit the room.
+    /// Returns the octets that it was given, if all of them were kept: if it has a room, exactly if they fit it, and otherwise if there
+    /// was memory for them.
     pub fn given(&self) -> Option<&[u8]>
-        ensures { IfSome result (λ octets. (outside_of self.now).given ≡ Some octets.now) }
+        ensures { MatchOption result ((outside_of self.now).given ≡ None) (λ octets. (outside_of self.now).given ≡ Some octets.now) }
     {
         if self.full { None } else { Some(&self.given) }
     }
@@ -95,7 +97,7 @@ fn keep_within(kept: &mut Vec<u8>, room: usize, bytes: &[u8]) -> bool
 }
 
 impl<'a> Port for LentPort<'a> {
-    ghost use Rattle.strip122_c.specs.Lent.{outside_of};
+    ghost use Rattle.strip122_c.specs.Lent.{outside_of, KeepsWhatFits};
 
     ghost outside = { outside_of };
 
@@ -114,6 +116,7 @@ impl<'a> Port for LentPort<'a> {
         ensures octets { MatchResult result
             (λ n. Written (outside_of self.old) (outside_of self.new) bytes.now n)
             (λ _. WriteFailed (outside_of self.old) (outside_of self.new)) }
+        ensures kept { KeepsWhatFits self.old self.new bytes.now }
     {
         if !self.full && !keep(&mut self.given, self.room, bytes) {
             self.full = true;

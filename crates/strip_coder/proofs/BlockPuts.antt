@@ -1,5 +1,5 @@
 -- One block of a block row after those of a segment.
-use Rattle.std.proofs.Common.{◌≡◌, ℕ, ◌+◌, ◌*◌, ◌^◌, ◌<◌, ◌++◌, ℤ, pos, ◌*ℤ◌, List, length, take, drop, sym, ap, ◌∙◌, subst, arith, get_or, inl, length-append, length-drop, All, unsigned_abs}
+use Rattle.std.proofs.Common.{◌≡◌, ℕ, ◌*◌, ◌^◌, ◌<◌, ◌++◌, ℤ, pos, ◌*ℤ◌, List, length, take, drop, sym, ap, ◌∙◌, subst, arith, get_or, inl, length-append, length-drop, All, unsigned_abs}
 use Rattle.std.proofs.lemmas.List.{drop-append-le, take-append-le, take_all}
 use Rattle.std.proofs.lemmas.List.FromFn.{get_or-map-range_with_len, length-map-range_with_len}
 use Rattle.std.proofs.Math.Seq.{drop-append_seam}

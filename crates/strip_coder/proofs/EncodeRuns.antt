@@ -23,12 +23,13 @@ use Rattle.strip_coder.specs.declared.encode.EncodeFault.TheVariants.{ReadFault,
 use Rattle.strip_coder.specs.declared.work.Work.{Work}
 use Rattle.strip_coder.specs.Plans.{tallest}
 use Rattle.strip_coder.specs.Rasters.{row_length, most_length, image_of, given_for}
-use Rattle.strip_coder.specs.Answers.{AllInRange, TookRaster, TookRows, DoneFor, EncodesImage}
+use Rattle.strip_coder.specs.Answers.{AllInRange, AsksInRange, TookRaster, TookRows, DoneFor, EncodesImage}
 use Rattle.strip_coder.specs.Steps.{RowIs, EndsImage, EndBreaks}
 use Rattle.strip_coder.specs.RowsIn.{HasCome, HasAll, LastStands}
 use Rattle.strip_coder.proofs.PlanLaws.{tall_height, tall_most, tall_or_open, known_tallest, known_height}
 use Rattle.strip_coder.proofs.RowsGiven.{given_all}
 use Rattle.strip_coder.proofs.RowsTakenLaws.{all_whole}
+use Rattle.strip_coder.proofs.RangeAsks.{end_asked}
 use Rattle.strip_coder.proofs.FrontsGiven.{broken_front, known_front, broke_off}
 
 module _ (s : Setting) (range : IsInRange s) (p q : Outside) (w : Work) (all : HasAll s p q w) where
@@ -61,6 +62,9 @@ module _ (s : Setting) (range : IsInRange s) (p q : Outside) (w : Work) (all : H
   so_far : Exchange p q come.took (joined (front_packets s w.at.rows (image_of s come.took) w.at.index)) [] (GivenBy (given_for s) come.took)
   so_far = subst (λ g. Exchange p q come.took g [] (GivenBy (given_for s) come.took)) gave_is come.since
 
+  so_far_asks : Exchange p q come.took (joined (front_packets s w.at.rows (image_of s come.took) w.at.index)) [] (AsksInRange s come.took)
+  so_far_asks = subst (λ g. Exchange p q come.took g [] (AsksInRange s come.took)) gave_is come.asks
+
   rows_taken : TookRows s come.took w.at.rows
   rows_taken = record { whole = come.whole; most = most; in_range = raster.in_range }
 
@@ -81,7 +85,7 @@ module _ (s : Setting) (range : IsInRange s) (p q : Outside) (w : Work) (all : H
 
       known_breaks : EncodesImage s p r (Err WriteFault)
       known_breaks =
-          broke_off s come.took (joined (front_packets s w.at.rows (image_of s come.took) w.at.index)) w.at.rows w.at.index so_far rows_taken breaks.rose
+          broke_off s come.took (joined (front_packets s w.at.rows (image_of s come.took) w.at.index)) w.at.rows w.at.index so_far so_far_asks rows_taken breaks.rose
           (known_front s (image_of s come.took) w.at.rows w.at.index (total_blocks s.width w.at.rows) known same_rows few (λ y h. breaks.breaks y (come.stands.follows y h) (row_is y h)))
           gave_same
 
@@ -94,6 +98,7 @@ module _ (s : Setting) (range : IsInRange s) (p q : Outside) (w : Work) (all : H
           took = come.took;
           gave = joined (front_packets s w.at.rows x w.at.index) ++ broke.gave;
           since = since_out so_far broke.out;
+          asks = since_out so_far_asks broke.out;
           answer = (
             rose_since so_far.faults.writes breaks.rose,
             (
@@ -121,6 +126,11 @@ module _ (s : Setting) (range : IsInRange s) (p q : Outside) (w : Work) (all : H
         let goes = ends.goes (image_of s come.took) (come.stands.follows (image_of s come.took) itself) (row_is (image_of s come.took) itself) in
         subst (λ g. Exchange p r come.took g [] (GivenBy (given_for s) come.took)) goes.then_are (since_out so_far goes.out)
 
+    all_asks : Exchange p r come.took (output s w.at.rows (image_of s come.took)) [] (AsksInRange s come.took)
+    all_asks =
+        let goes = ends.goes (image_of s come.took) (come.stands.follows (image_of s come.took) itself) (row_is (image_of s come.took) itself) in
+        subst (λ g. Exchange p r come.took g [] (AsksInRange s come.took)) goes.then_are (since_out so_far_asks goes.out)
+
     done_is : DoneFor s w.at.rows (image_of s come.took) done
     done_is = ends.done (image_of s come.took) (come.stands.follows (image_of s come.took) itself) (row_is (image_of s come.took) itself)
 
@@ -132,6 +142,7 @@ module _ (s : Setting) (range : IsInRange s) (p q : Outside) (w : Work) (all : H
           took = come.took;
           gave = output s w.at.rows (image_of s come.took);
           since = all_given;
+          asks = all_asks;
           answer = (w.at.rows, raster, used_up_later q.rest r.rest goes.out.rest (all.ended left_open), refl, done_is);
         }
 
@@ -157,11 +168,16 @@ module _ (s : Setting) (range : IsInRange s) (p q : Outside) (w : Work) (all : H
       same_took : come.took ++ [] ≡ come.took
       same_took = append-nil come.took
 
+      none_asks : {d : Outside} → Exchange r d [] [] [] AtStart → Exchange p d come.took (output s w.at.rows (image_of s come.took)) [] (AsksInRange s come.took)
+      none_asks {d = d} read =
+          subst (λ t. Exchange p d t (output s w.at.rows (image_of s come.took)) [] (AsksInRange s t)) same_took (end_asked s come.took raster.in_range all_asks read)
+
       pub run_done : {d : Outside} → SawEnd r d true → EncodesImage s p d (Ok done)
       run_done {d = d} end = record {
         took = come.took;
         gave = output s w.at.rows (image_of s come.took);
         since = subst (λ t. Exchange p d t (output s w.at.rows (image_of s come.took)) [] (GivenBy (given_for s) t)) same_took (asked_end end.0);
+        asks = none_asks end.0;
         answer = (w.at.rows, raster, end.1, refl, done_is);
       }
 
@@ -172,6 +188,7 @@ module _ (s : Setting) (range : IsInRange s) (p q : Outside) (w : Work) (all : H
             took = come.took ++ end.0 ∷ [];
             gave = output s w.at.rows (image_of s come.took);
             since = asked_end end.1;
+            asks = end_asked s come.took raster.in_range all_asks end.1;
             answer = (
               length-append come.took (end.0 ∷ []) ∙ ap (λ n. n + 1) longest,
               subst (AllInRange s) (sym front) raster.in_range,
@@ -188,5 +205,6 @@ module _ (s : Setting) (range : IsInRange s) (p q : Outside) (w : Work) (all : H
             took = come.took;
             gave = output s w.at.rows (image_of s come.took);
             since = subst (λ t. Exchange p d t (output s w.at.rows (image_of s come.took)) [] (GivenBy (given_for s) t)) same_took (asked_end failed.since);
+            asks = none_asks failed.since;
             answer = (rose_since all_given.faults.reads failed.rose, (let m = longest in omega (arith, m)), raster.in_range, sym stands);
           }

@@ -22,7 +22,7 @@ use Rattle.strip_coder.specs.Plans.{plan_of, tallest}
 use Rattle.strip_coder.specs.declared.encode.EncodeFault.TheVariants.{WriteFault}
 use Rattle.std.proofs.lemmas.Bool.Decides.{nat_tests}
 use Rattle.strip_coder.specs.Rasters.{image_of, given_for}
-use Rattle.strip_coder.specs.Answers.{TookRows, EncodesImage}
+use Rattle.strip_coder.specs.Answers.{AsksInRange, TookRows, EncodesImage}
 use Rattle.strip_coder.specs.Steps.{StopsEarly}
 use Rattle.strip_coder.proofs.PlanLaws.{tall_height, tall_or_open, open_last, known_height}
 use Rattle.strip_coder.proofs.SettledCounts.{settled_so}
@@ -226,13 +226,14 @@ known_front {p = p} {q = q} s x rows from count known is le breaks = by_told q.g
   }
 
 -- a run in which a write failed
-pub broke_off : {p q r : Outside} (s : Setting) (took gave : List ℕ) (k from : ℕ) → Exchange p q took gave [] (GivenBy (given_for s) took) → TookRows s took k →
+pub broke_off : {p q r : Outside} (s : Setting) (took gave : List ℕ) (k from : ℕ) → Exchange p q took gave [] (GivenBy (given_for s) took) → Exchange p q took gave [] (AsksInRange s took) → TookRows s took k →
     Rose q.write_faults r.write_faults → FrontOut s k (image_of s took) from q r →
     ((rows : ℕ) (y : ℕ → ℕ → ℤ) → IsHeight s rows → k ≤ rows → SameWithin k s.width (image_of s took) y → gave ≡ joined (front_packets s rows y from)) → EncodesImage s p r (Err WriteFault)
-broke_off s took gave k from since rows rose front same = record {
+broke_off s took gave k from since asks rows rose front same = record {
   took = took;
   gave = gave ++ front.gave;
   since = since_out since front.out;
+  asks = since_out asks front.out;
   answer = (
     rose_since since.faults.writes rose,
     (

@@ -20,6 +20,7 @@ mod OtherHeights
 pub mod RowsGiven
 pub mod FrontsGiven
 pub mod RowsTakenLaws
+pub mod RangeAsks
 pub mod RowComes
 mod TallEnds
 mod EncodeRuns

@@ -28,13 +28,14 @@ use Rattle.stream_defs.proofs.KeptOrder.{is_zero}
 use Rattle.strip_coder.specs.declared.encode.EncodeFault.TheVariants as encode_faults
 use Rattle.strip_coder.specs.declared.work.Work.{Work}
 use Rattle.strip_coder.specs.Rasters.{row_length, most_length, LacksRows, image_of, AreInRange, settled_octets, given_for}
-use Rattle.strip_coder.specs.Answers.{FirstBad, EncodesImage}
+use Rattle.strip_coder.specs.Answers.{AsksInRange, FirstBad, EncodesImage}
 use Rattle.strip_coder.specs.Works.{HasTaken, FollowsRows, RepresentsNone}
 use Rattle.strip_coder.specs.Steps.{IsRowInRange, RowIs, TakesRow, BreaksAt}
 use Rattle.strip_coder.specs.RowsIn.{fault_after, ends_here, HasCome, HasAll}
 use Rattle.strip_coder.proofs.RowTakes.{OnlyRow, row_follows_any}
 use Rattle.strip_coder.proofs.RowsGiven.{same_rows, settled_same, same_octets, given_within}
 use Rattle.strip_coder.proofs.RowsTakenLaws.{row_pixels, all_whole, in_range-more, all_in_range-more, first_bad-more}
+use Rattle.strip_coder.proofs.RangeAsks.{row_asked}
 use Rattle.strip_coder.specs.Plans.{plan_of, tallest}
 use Rattle.strip_coder.proofs.PlanLaws.{tall_height, tall_plan, open_last}
 use Rattle.strip_coder.proofs.SettledCounts.{count, few_gathered}
@@ -58,6 +59,7 @@ none_come s p w range start =
       stands = record { taken = start.taken; follows = λ y same. start.follows y };
       last = λ some. absurd (omega (arith, some));
       since = subst (λ g. Exchange p p [] g [] (GivenBy (given_for s) [])) (sym none) (since_start p (GivenBy (given_for s) []));
+      asks = subst (λ g. Exchange p p [] g [] (AsksInRange s [])) (sym none) (since_start p (AsksInRange s []));
     }
 
 -- a row has the pixels of these octets
@@ -119,6 +121,9 @@ module _ (s : Setting) (range : IsInRange s) (k : ℕ) (p q : Outside) (old : Wo
   so_far : Exchange p q come.took (settled_octets s come.took k) [] (GivenBy (given_for s) come.took)
   so_far = subst (λ g. Exchange p q come.took g [] (GivenBy (given_for s) come.took)) gave_is come.since
 
+  so_far_asks : Exchange p q come.took (settled_octets s come.took k) [] (AsksInRange s come.took)
+  so_far_asks = subst (λ g. Exchange p q come.took g [] (AsksInRange s come.took)) gave_is come.asks
+
   -- octets of the next row were taken
   part_taken : {m : Outside} (got : List ℕ) → Exchange q m got [] [] (InRow s.depth s.signed s.width got) →
       Exchange p m (come.took ++ got) (settled_octets s come.took k) [] (GivenBy (given_for s) (come.took ++ got))
@@ -128,6 +133,10 @@ module _ (s : Setting) (range : IsInRange s) (k : ℕ) (p q : Outside) (old : Wo
       let short : length (take i got) < row_length s = omega (arith, size, r.0) in
       let same = given_within s k come.took (take i got) range le come.whole short in
       omega (arith, r.1, ap length same))
+
+  part_asks : {m : Outside} (got : List ℕ) → Exchange q m got [] [] (InRow s.depth s.signed s.width got) →
+      Exchange p m (come.took ++ got) (settled_octets s come.took k) [] (AsksInRange s (come.took ++ got))
+  part_asks got read = row_asked s k come.took got come.whole come.in_range so_far_asks read
 
   row_below : k * row_length s + row_length s ≤ most_length s
   row_below = grind (arith, nat_tests, mul-le-mul_right)
@@ -142,6 +151,7 @@ module _ (s : Setting) (range : IsInRange s) (k : ℕ) (p q : Outside) (old : Wo
         took = come.took ++ read.took;
         gave = settled_octets s come.took k;
         since = part_taken read.took read.since;
+        asks = part_asks read.took read.since;
         answer = (
           rose_since so_far.faults.reads read.answer.0,
           omega (arith, size, inside, come.whole, row_below),
@@ -157,6 +167,7 @@ module _ (s : Setting) (range : IsInRange s) (k : ℕ) (p q : Outside) (old : Wo
         took = come.took ++ read.took;
         gave = settled_octets s come.took k;
         since = part_taken read.took read.since;
+        asks = part_asks read.took read.since;
         answer = (
           omega (arith, size, count, come.whole),
           row_short s k octets (length (come.took ++ read.took)) less (omega (arith, count, inside)) (omega (arith, size, count, come.whole)) goes_on,
@@ -174,6 +185,7 @@ module _ (s : Setting) (range : IsInRange s) (k : ℕ) (p q : Outside) (old : Wo
         took = come.took ++ read.took;
         gave = settled_octets s come.took k;
         since = part_taken read.took read.since;
+        asks = part_asks read.took read.since;
         answer = (
           omega (arith, size, most, come.whole, row_below),
           subst (λ r. FirstBad s (come.took ++ read.took) r column value) at bad,
@@ -201,6 +213,8 @@ module _ (s : Setting) (range : IsInRange s) (k : ℕ) (p q : Outside) (old : Wo
       sym gave_is ∙ ap (λ n. joined (front_packets s (tallest s) (image_of s come.took) n)) (sym (ap (λ a. a.index) only.at)) in
       let so : Exchange p m come.took (settled_octets s come.took k) [] (GivenBy (given_for s) come.took) =
       subst (λ t. Exchange p m t (settled_octets s come.took k) [] (GivenBy (given_for s) t)) same_took (part_taken read.took read.since) in
+      let so_asks : Exchange p m come.took (settled_octets s come.took k) [] (AsksInRange s come.took) =
+      subst (λ t. Exchange p m t (settled_octets s come.took k) [] (AsksInRange s t)) same_took (part_asks read.took read.since) in
       let now : HasCome s k p m mid = record {
         took = come.took;
         whole = come.whole;
@@ -211,6 +225,7 @@ module _ (s : Setting) (range : IsInRange s) (k : ℕ) (p q : Outside) (old : Wo
           same = record { at = λ j lt. row j ∙ l.same.at j lt };
         };
         since = subst (λ g. Exchange p m come.took g [] (GivenBy (given_for s) come.took)) gave so;
+        asks = subst (λ g. Exchange p m come.took g [] (AsksInRange s come.took)) gave so_asks;
       } in (
         left_open,
         record {
@@ -283,6 +298,7 @@ module _ (s : Setting) (range : IsInRange s) (k : ℕ) (p q : Outside) (old : Wo
             same = record { at = λ j lt. takes.row.at j lt ∙ (row_is (image_of s (come.took ++ got)) itself).at j lt ∙ ap (λ n. image_of s (come.took ++ got) n j) (sym back) };
           };
           since = subst (λ g. Exchange p r (come.took ++ got) g [] (GivenBy (given_for s) (come.took ++ got))) gave (since_out (part_taken got read) goes.out);
+          asks = subst (λ g. Exchange p r (come.took ++ got) g [] (AsksInRange s (come.took ++ got))) gave (since_out (part_asks got read) goes.out);
         }
 
     pub row_breaks_off : {r : Outside} (new : Work) → BreaksAt s k m r mid new → EncodesImage s p r (Err encode_faults.WriteFault)
@@ -290,7 +306,7 @@ module _ (s : Setting) (range : IsInRange s) (k : ℕ) (p q : Outside) (old : Wo
         let rises = settled_rises (tells_last s) (sized s (tallest s)) k (k + 1) (omega arith) (omega (arith, less)) in
         let here = mid_index in
         let settled_now : mid.at.index ≤ settled_in s (tallest s) (k + 1) = omega (arith, here, rises) in
-        broke_off s (come.took ++ got) (settled_octets s come.took k) (k + 1) mid.at.index (part_taken got read)
+        broke_off s (come.took ++ got) (settled_octets s come.took k) (k + 1) mid.at.index (part_taken got read) (part_asks got read)
         (record { whole = took_whole; most = omega (arith, less); in_range = all_whole s (k + 1) (come.took ++ got) took_whole took_in_range })
         breaks.rose
         (front_out s range (k + 1) mid.at.index (omega (arith, less)) settled_now (image_of s (come.took ++ got)) (λ y h. breaks.breaks y (follows y h) (row_is y h)))

@@ -14,11 +14,12 @@ use Rattle.strip_coder.specs.declared.encode.EncodeFault.TheVariants.{ReadFault,
 use Rattle.strip_coder.specs.declared.work.Work.{Work}
 use Rattle.strip_coder.specs.Plans.{tallest}
 use Rattle.strip_coder.specs.Rasters.{most_length, image_of, settled_octets, given_for}
-use Rattle.strip_coder.specs.Answers.{AllInRange, EncodesImage}
+use Rattle.strip_coder.specs.Answers.{AllInRange, AsksInRange, EncodesImage}
 use Rattle.strip_coder.specs.RowsIn.{HasCome, HasAll}
 use Rattle.strip_coder.proofs.PlanLaws.{tall_height}
 use Rattle.strip_coder.proofs.RowsGiven.{given_whole}
 use Rattle.strip_coder.proofs.RowsTakenLaws.{all_whole}
+use Rattle.strip_coder.proofs.RangeAsks.{end_asked}
 
 module _ (s : Setting) (range : IsInRange s) (p q : Outside) (w : Work) (come : HasCome s (tallest s) p q w) where
   -- their number was known before
@@ -36,6 +37,9 @@ module _ (s : Setting) (range : IsInRange s) (p q : Outside) (w : Work) (come : 
 
     so_far : Exchange p q come.took (settled_octets s come.took (tallest s)) [] (GivenBy (given_for s) come.took)
     so_far = subst (λ g. Exchange p q come.took g [] (GivenBy (given_for s) come.took)) gave_is come.since
+
+    so_far_asks : Exchange p q come.took (settled_octets s come.took (tallest s)) [] (AsksInRange s come.took)
+    so_far_asks = subst (λ g. Exchange p q come.took g [] (AsksInRange s come.took)) gave_is come.asks
 
     -- the end is read
     asked_end : {d : Outside} {more : List ℕ} → Exchange q d more [] [] AtStart →
@@ -55,6 +59,10 @@ module _ (s : Setting) (range : IsInRange s) (p q : Outside) (w : Work) (come : 
     asked_none : {d : Outside} → Exchange q d [] [] [] AtStart → Exchange p d come.took (settled_octets s come.took (tallest s)) [] (GivenBy (given_for s) come.took)
     asked_none {d = d} read = subst (λ t. Exchange p d t (settled_octets s come.took (tallest s)) [] (GivenBy (given_for s) t)) same_took (asked_end read)
 
+    none_asks : {d : Outside} → Exchange q d [] [] [] AtStart → Exchange p d come.took (settled_octets s come.took (tallest s)) [] (AsksInRange s come.took)
+    none_asks {d = d} read =
+        subst (λ t. Exchange p d t (settled_octets s come.took (tallest s)) [] (AsksInRange s t)) same_took (end_asked s come.took in_range so_far_asks read)
+
     pub tall_ended : {d : Outside} → SawEnd q d true → HasAll s p d w
     tall_ended {d = d} end = record {
       height = subst (IsHeight s) (sym come.stands.taken.rows) (tall_height s range);
@@ -65,6 +73,7 @@ module _ (s : Setting) (range : IsInRange s) (p q : Outside) (w : Work) (come : 
         stands = come.stands;
         last = come.last;
         since = subst (λ g. Exchange p d come.took g [] (GivenBy (given_for s) come.took)) (sym gave_is) (asked_none end.0);
+        asks = subst (λ g. Exchange p d come.took g [] (AsksInRange s come.took)) (sym gave_is) (none_asks end.0);
       });
       ended = λ none. end.1;
     }
@@ -76,6 +85,7 @@ module _ (s : Setting) (range : IsInRange s) (p q : Outside) (w : Work) (come : 
           took = come.took ++ end.0 ∷ [];
           gave = settled_octets s come.took (tallest s);
           since = asked_end end.1;
+          asks = end_asked s come.took in_range so_far_asks end.1;
           answer = (length-append come.took (end.0 ∷ []) ∙ ap (λ n. n + 1) come.whole, subst (AllInRange s) (sym front) in_range, sym (given_whole s come.took (end.0 ∷ []) range come.whole), λ known. absurd (known left_open));
         }
 
@@ -84,6 +94,7 @@ module _ (s : Setting) (range : IsInRange s) (p q : Outside) (w : Work) (come : 
       took = come.took;
       gave = settled_octets s come.took (tallest s);
       since = asked_none failed.since;
+      asks = none_asks failed.since;
       answer = (
         rose_since so_far.faults.reads failed.rose,
         (let m = come.whole in omega (arith, m)),

@@ -14,6 +14,7 @@ use Rattle.strip_coder.specs.declared.encode.EncodeFault.{EncodeFault}
 use Rattle.strip_coder.specs.declared.encode.EncodeFault.TheVariants.{ReadFault, Short, BadPixel}
 use Rattle.strip_coder.specs.declared.work.Work.{Work}
 use Rattle.strip_coder.specs.Rasters.{row_length, image_of, AreInRange, given_for}
+use Rattle.strip_coder.specs.Answers.{AsksInRange}
 use Rattle.strip_coder.specs.Works.{Represents}
 use Rattle.strip_coder.specs.Steps.{IsRowInRange}
 
@@ -48,6 +49,7 @@ pub record HasCome (s : Setting) (k : ℕ) (p q : Outside) (w : Work) : Type 0 w
   pub stands : Represents s k (image_of s took) w
   pub last : 0 < k → LastStands s k took w.row.items
   pub since : Exchange p q took (joined (front_packets s (tallest s) (image_of s took) w.at.index)) [] (GivenBy (given_for s) took)
+  pub asks : Exchange p q took (joined (front_packets s (tallest s) (image_of s took) w.at.index)) [] (AsksInRange s took)
 
 -- All rows of a raster were taken. If their number is reported last, the input has ended.
 pub record HasAll (s : Setting) (p q : Outside) (w : Work) : Type 0 where

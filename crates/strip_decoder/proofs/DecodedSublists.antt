@@ -6,7 +6,8 @@ use Rattle.base_122.specs.Setting.{image_geometry}
 use Rattle.base_122.specs.declared.geometry.Geometry.{Geometry}
 use Rattle.base_122.specs.declared.setting.Setting.{Setting}
 use Rattle.base_122.specs.declared.wish.DecodeWish.{DecodeWish}
-use Rattle.segment_code.specs.Laws.{CodedHolds, TextsAreShort}
+use Rattle.segment_code.specs.ShortTexts.{TextsAreShort}
+use Rattle.segment_code.specs.Coded.{CodedTextsAreRead}
 use Rattle.stream_defs.specs.declared.range.RowRange.{RowRange}
 use Rattle.stream_defs.specs.Begun.{begun_in, height}
 use Rattle.stream_defs.specs.Damage.{damage}
@@ -58,9 +59,9 @@ decoded_contained wish start new took gave every done is told =
           (subst (λ rs. SameOutside (height g n) g.width rs (picture_with g numbers n) (picture g t.0 n)) (sym t.3.ranges_are) (contained g t.0 numbers n is.range are));
     }
 
-pub decoded_alike : TextsAreShort → CodedHolds → (wish : DecodeWish) (start new : Outside) (took gave every : List ℕ) (done : DecodeDone) (s : Setting) (rows : ℕ) (x : ℕ → ℕ → ℤ) (parts : ℕ → List ℕ) →
+pub decoded_alike : TextsAreShort → CodedTextsAreRead → (wish : DecodeWish) (start new : Outside) (took gave every : List ℕ) (done : DecodeDone) (s : Setting) (rows : ℕ) (x : ℕ → ℕ → ℤ) (parts : ℕ → List ℕ) →
     IsPicture wish start new took gave done → start.rest ≡ Some every → wish.apid ≡ s.apid → wish.book ≡ s.book → took ≡ some_output s rows x parts → AreSome s rows x parts → BeginsOne s rows parts → GivesAlike s rows x parts gave done
-decoded_alike short holds wish start new took gave every done s rows x parts is told apid book took_is are begins =
+decoded_alike short read wish start new took gave every done s rows x parts is told apid book took_is are begins =
     let t = is.told every told in
     let received = t.0 in
     let octets = some_output s rows x parts in
@@ -75,7 +76,7 @@ decoded_alike short holds wish start new took gave every done s rows x parts is 
       geometry = same;
       received = received;
       received_is = mine;
-      those = receives_those short s rows x parts are received mine holds;
+      those = receives_those short s rows x parts are received mine read;
       gave_is = t.2 ∙ ap (picture_octets done.geometry received) begun_same;
       same = λ whole all_are.
           let whole_is = whole_picture (image_geometry s rows) whole in

@@ -2,7 +2,7 @@
 ghost use Rattle.strip_decoder.specs.Containment.{DecodedContained, LossesContained};
 ghost use Rattle.strip_decoder.specs.RoundTrip.{RoundTrip};
 
-use segment_code::{coded_holds, coded_holds_exactly, texts_are_short};
+use segment_code::{coded_texts_are_read, texts_are_short};
 
 /// Whatever numbers the lost blocks have, no pixel outside the damaged rows changes. So if some packets of an image are read, in order,
 /// each pixel outside their damage is that of the picture for all of them, and exactly the segments with all their packets are received.
@@ -12,7 +12,7 @@ pub const fn losses_are_contained()
     ensures { LossesContained }
 {
     texts_are_short();
-    coded_holds();
+    coded_texts_are_read();
 }
 
 /// The same holds for a picture that a decoder gave whole; and each pixel outside its damage is that of the picture for all packets, if it
@@ -21,7 +21,7 @@ pub const fn decoding_contains()
     ensures { DecodedContained }
 {
     texts_are_short();
-    coded_holds();
+    coded_texts_are_read();
 }
 
 /// All packets of an image, in order, give it whole, whether its height is reported first or last: its size, each of its block rows, and no
@@ -31,6 +31,5 @@ pub const fn round_trip()
     ensures { RoundTrip }
 {
     texts_are_short();
-    coded_holds();
-    coded_holds_exactly();
+    coded_texts_are_read();
 }

@@ -1,16 +1,16 @@
 -- No item of a plane of values that can be coded is refused.
-use Rattle.std.proofs.Common.{◌≡◌, ℕ, ◌*◌, ◌^◌, ◌<◌, ◌≤◌, Bool, true, false, cond, List, [], ◌∷◌, ◌++◌, refl, arith, get_or, None, Some}
+use Rattle.std.proofs.Common.{◌≡◌, ℕ, ◌+◌, ◌*◌, ◌^◌, ◌<◌, ◌≤◌, ◌==◌, if◌then◌else◌, Bool, true, false, cond, List, [], ◌∷◌, ◌++◌, refl, arith, get_or, None, Some}
 use Rattle.std.specs.List.{flat_map, AllByRecursion}
 use Rattle.std.proofs.lemmas.Bool.Decides.{nat_tests}
 use Rattle.item_defs.specs.Bits.{digit}
-use Rattle.item_defs.specs.Items.{Item, false_flag}
-use Rattle.item_defs.specs.Readings.{IsItem, AreItems}
+use Rattle.item_defs.specs.Items.{Item, plain, code, false_flag}
+use Rattle.item_defs.specs.Readings.{IsItem, IsSound, AreItems}
 use Rattle.item_defs.proofs.ReadingLaws.{are_append}
 use Rattle.base_122.specs.declared.book.Book.{Book}
 use Rattle.plane_defs.specs.declared.entries.Entry.{Entry}
 use Rattle.plane_defs.specs.Spans.{span}
 use Rattle.plane_defs.specs.Entries.{IsEntry, stage_number}
-use Rattle.plane_defs.specs.Codes.{is_book_sound, option_item}
+use Rattle.plane_defs.specs.Codes.{is_book_sound, option_item, codes_of, uncoded, symbol, word_item}
 use Rattle.plane_defs.specs.Steps.{Check, refuses, Step}
 use Rattle.plane_defs.specs.StepLaws.{IsAllowed, value_of_entry}
 use Rattle.plane_defs.specs.Laws.{IsMultiple}
@@ -22,7 +22,7 @@ use Rattle.plane_defs.proofs.Above.{all_append}
 use Rattle.plane_defs.proofs.Allowed.{block_is_allowed}
 use Rattle.plane_defs.proofs.StepItems.{AreOptionsOf, Fits, word_of-symbol}
 use Rattle.plane_defs.proofs.PlaneSteps.{block_fits, flat_fits}
-use Rattle.text_defs.proofs.SoundItems.{word_sound}
+use Rattle.plane_defs.proofs.ReadOnce.{words}
 use Rattle.plane_defs.proofs.Equations.{span-none, span-more, bit_reading, word_reading}
 
 -- ---- options and symbols
@@ -46,6 +46,14 @@ allowed : (b : Bool) → b ≡ false → cond b (Some false_flag) None ≡ None
 allowed b e = rw e refl
 
 module _ (book : Book) (sound : is_book_sound book ≡ true) where
+  -- no code of a word is a prefix of another
+  word_sound : (n option value : ℕ) → 2 ≤ n → n ≤ 4 → option < n → IsSound (word_item book n option value).form.shape
+  word_sound n option value low high known = by (option == uncoded n) refl
+    where
+      by : (t : Bool) → (option == uncoded n) ≡ t → IsSound (if t then plain n value else code (codes_of book n option) (symbol n value)).form.shape
+      by true e = tt
+      by false e = words book n option sound low high (let lt : option + 1 < n = grind (arith, nat_tests) in lt)
+
   word_is_item : (n option value : ℕ) (check : Check) → 2 ≤ n → n ≤ 4 → option < n → value < 2 ^ n → refuses check value ≡ false → IsItem (checked_word book n option value check)
   word_is_item n option value check low high known lt passes = grind (arith, nat_tests, word_sound, symbol-below, length-map-span, allowed, word_of-symbol)
 

@@ -1,6 +1,8 @@
 pub mod Fronts
 pub mod Spellable
-pub mod Given
 pub mod Outcomes
-pub mod Agreement
-pub mod Laws
+pub mod Segments
+pub mod Parts
+pub mod TextOutcome
+pub mod Worked
+pub mod TextLaws

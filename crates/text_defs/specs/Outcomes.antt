@@ -10,7 +10,6 @@ use Rattle.segment_defs.specs.Head.{head_length}
 use Rattle.segment_defs.specs.SegmentItems.{Options, segment_items}
 use Rattle.text_defs.specs.Fronts.{Front, NothingFollows, RefusalFollows}
 use Rattle.text_defs.specs.Spellable.{IsSpellable, AreWordOptions}
-use Rattle.text_defs.specs.Given.{given_blocks}
 
 -- ---- lengths in octets, the head included
 
@@ -45,8 +44,8 @@ abbrev pub IsTaken : SegmentHead → List ℕ → List Item → ℕ → List Boo
 IsTaken head rest items m more =
     ((m ≡ length items) × (length_of head rest ≡ expected_length head items)) ⊎ (NothingFollows items m more × IsCut head rest)
 
--- the text holds these blocks, with the codes of this book
-pub record Holds (book : Book) (head : SegmentHead) (rest : List ℕ) (w : List (List ℤ)) : Type 0 where
+-- the text holds some values, with the codes of this book: all their items, or those before the limit
+pub record Holds (book : Book) (head : SegmentHead) (rest : List ℕ) : Type 0 where
   pub blocks : List (List ℤ)
   pub depths : List ℕ
   pub options : Options
@@ -55,7 +54,6 @@ pub record Holds (book : Book) (head : SegmentHead) (rest : List ℕ) (w : List 
   pub more : List Bool
   pub reading : Reading head rest blocks depths options count more
   pub is_taken : IsTaken head rest (segment_items head blocks depths options) count more
-  pub given : w ≡ given_blocks head blocks depths options count
 
 -- ---- refusals
 

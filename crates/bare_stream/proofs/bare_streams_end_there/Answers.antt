@@ -1,5 +1,5 @@
-use Rattle.bare_stream.proofs.StreamEnds.{streams_end_there}
+use Rattle.bare_stream.proofs.StreamLaws.{streams_end_there}
 use Rattle.bare_stream.proofs.bare_streams_end_there.Goals as goal
 
 pub returns : goal.returns
-returns c = streams_end_there c.bare_heads_end_there.ensures c.items_end_there.ensures
+returns c = streams_end_there c.bare_heads_end_there.ensures c.texts_end_there.ensures

@@ -26,7 +26,7 @@ put_blocks-requires-clause-parts g c =
 pub returns-in_default-clause-run : goal.returns-in_default-clause-run
 returns-in_default-clause-run g c = λ wish start r front text before at head is.
     last_broken c.args.walk.now c.args.read.now c.requires.sound c.requires.next c.requires.last (picture_state c.end_at.new.self) (rw c.height_with-height.ensures at c.end_at.ensures)
-    g.X.Port.outside wish start r front text before c.args.input.now (record c.args.input.now { port = record c.args.input.now.port { now = c.put_blocks.new.port } }) at head is refl refl
+    g.X.Port.outside wish start r front text before c.args.input.now (record c.args.input.now { port = record c.args.input.now.port { now = c.put_blocks.new.port } }) at head is refl refl refl
     (rw c.deref.ensures.value at c.in_default.ensures)
 
 pub overflow_add-walk : goal.overflow_add-walk
@@ -35,4 +35,4 @@ overflow_add-walk g c = let few = last_index c.args.walk.now c.args.read.now c.r
 pub returns-clause-run : goal.returns-clause-run
 returns-clause-run g c = λ wish start r front text before at head is.
     has_ended c.args.walk.now c.args.read.now c.requires.sound c.requires.next c.requires.last (picture_state c.end_at.new.self) (rw c.height_with-height.ensures at c.end_at.ensures)
-    g.X.Port.outside wish start r front text before c.args.input.now _ at head is refl refl _ (rw c.deref.ensures.value at c.in-Ok.ensures) refl refl
+    g.X.Port.outside wish start r front text before c.args.input.now _ at head is refl refl refl _ (rw c.deref.ensures.value at c.in-Ok.ensures) refl refl

@@ -13,7 +13,7 @@ put_blocks-requires-clause-parts g c = rw c.deref.ensures.value (weights_are c.a
 
 pub returns-in_default-clause-run : goal.returns-in_default-clause-run
 returns-in_default-clause-run g c = λ wish start r front text before at head is.
-    next_broken c.args.walk.now c.args.read.now c.requires.sound c.requires.next g.X.Port.outside wish start r front text before c.args.input.now (record c.args.input.now { port = record c.args.input.now.port { now = c.put_blocks.new.port } }) at head is c.requires.going refl refl
+    next_broken c.args.walk.now c.args.read.now c.requires.sound c.requires.next g.X.Port.outside wish start r front text before c.args.input.now (record c.args.input.now { port = record c.args.input.now.port { now = c.put_blocks.new.port } }) at head is c.requires.going refl refl refl
     (rw c.deref.ensures.value at c.in_default.ensures)
 
 pub overflow_add-walk : goal.overflow_add-walk
@@ -24,7 +24,7 @@ returns-clause-walk g c = (next_sound c.args.walk.now c.args.read.now c.requires
 
 pub returns-clause-run : goal.returns-clause-run
 returns-clause-run g c = λ wish start r front text before at head is. (
-  more c.args.walk.now c.args.read.now c.requires.sound c.requires.next g.X.Port.outside wish start r front text before c.args.input.now c.args.input.now at head is c.requires.going refl refl,
-  next_at c.args.walk.now c.args.read.now c.requires.sound c.requires.next g.X.Port.outside wish start r front text before c.args.input.now _ at head is c.requires.going refl refl _ (rw c.deref.ensures.value at c.in-Ok.ensures) refl refl refl refl,
-  force_next c.args.walk.now c.args.read.now c.requires.sound c.requires.next g.X.Port.outside wish start r front text before c.args.input.now c.args.input.now at head is c.requires.going refl refl,
+  more c.args.walk.now c.args.read.now c.requires.sound c.requires.next g.X.Port.outside wish start r front text before c.args.input.now c.args.input.now at head is c.requires.going refl refl refl,
+  next_at c.args.walk.now c.args.read.now c.requires.sound c.requires.next g.X.Port.outside wish start r front text before c.args.input.now _ at head is c.requires.going refl refl refl _ (rw c.deref.ensures.value at c.in-Ok.ensures) refl refl refl refl,
+  force_next c.args.walk.now c.args.read.now c.requires.sound c.requires.next g.X.Port.outside wish start r front text before c.args.input.now c.args.input.now at head is c.requires.going refl refl refl,
 )

@@ -28,7 +28,7 @@ pub returns-then-read-clause-run : goal.returns-then-read-clause-run
 returns-then-read-clause-run g c = λ wish start x.
     let i = c.loop-walk.invariant.reading wish start x in
     let t = c.in_ok-take_text.ensures.run wish start i.r i.front i.before i.at i.head in
-    let head = text_head c.loop-walk.walk c.take_text.new.walk c.in_ok-take_text.ensures.walk wish.book start i.r i.before i.front c.loop-walk.read i.head in
+    let head = text_head c.loop-walk.walk c.take_text.new.walk c.in_ok-take_text.ensures.walk wish start i.r i.before i.front c.loop-walk.read i.head in
     c.give_last.ensures.run wish start i.r i.front t.0 i.before t.1 head t.2
 
 pub give_next-requires-clause-sound : goal.give_next-requires-clause-sound
@@ -42,7 +42,7 @@ returns-in_err-give_next-clause-run g c = λ wish start x.
     let p = err_from_is_err_and c.from_residual-in_err-give_next.result c.from_residual-in_err-give_next.ensures.1 in
     let i = c.loop-walk.invariant.reading wish start x in
     let t = c.in_ok-take_text.ensures.run wish start i.r i.front i.before i.at i.head in
-    let head = text_head c.loop-walk.walk c.take_text.new.walk c.in_ok-take_text.ensures.walk wish.book start i.r i.before i.front c.loop-walk.read i.head in
+    let head = text_head c.loop-walk.walk c.take_text.new.walk c.in_ok-take_text.ensures.walk wish start i.r i.before i.front c.loop-walk.read i.head in
     rw (p.1, p.2) (c.in_err-give_next.ensures.run wish start i.r i.front t.0 i.before t.1 head t.2)
 
 pub returns-in_err-read-clause-run : goal.returns-in_err-read-clause-run
@@ -50,7 +50,7 @@ returns-in_err-read-clause-run g c = λ wish start x.
     let p = err_from_is_err_and c.from_residual-in_err-read.result c.from_residual-in_err-read.ensures.1 in
     let i = c.loop-walk.invariant.reading wish start x in
     let t = c.in_ok-take_text.ensures.run wish start i.r i.front i.before i.at i.head in
-    let head = text_head c.loop-walk.walk c.take_text.new.walk c.in_ok-take_text.ensures.walk wish.book start i.r i.before i.front c.loop-walk.read i.head in
+    let head = text_head c.loop-walk.walk c.take_text.new.walk c.in_ok-take_text.ensures.walk wish start i.r i.before i.front c.loop-walk.read i.head in
     let n = c.in_ok-give_next.ensures.run wish start i.r i.front t.0 i.before t.1 head t.2 in
     rw (p.1, p.2) (c.in_err-read.ensures.run wish start n.0 n.1 n.2)
 
@@ -75,7 +75,7 @@ loop-walk-preserved g c =
       reading = λ wish start x.
           let now = i.reading wish start x in
           let t = c.in_ok-take_text.ensures.run wish start now.r now.front now.before now.at now.head in
-          let head = text_head c.loop-walk.walk c.take_text.new.walk text wish.book start now.r now.before now.front c.loop-walk.read now.head in
+          let head = text_head c.loop-walk.walk c.take_text.new.walk text wish start now.r now.before now.front c.loop-walk.read now.head in
           let n = c.in_ok-give_next.ensures.run wish start now.r now.front t.0 now.before t.1 head t.2 in
           let h = c.in_ok-read.ensures.run wish start n.0 n.1 n.2 in
           record { r = n.0; front = h.0; before = c.give_next.new.walk.parts; at = h.1; head = h.2 };

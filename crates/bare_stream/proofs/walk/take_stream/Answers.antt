@@ -1,4 +1,4 @@
-use Rattle.bare_stream.proofs.StreamRead.{end_faulted, stream_read}
+use Rattle.bare_stream.proofs.StreamEnd.{end_faulted, stream_read}
 use Rattle.bare_stream.proofs.walk.take_stream.Goals as goal
 
 pub returns-in-Err-expect_end-clause-run : goal.returns-in-Err-expect_end-clause-run

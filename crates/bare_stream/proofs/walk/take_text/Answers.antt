@@ -4,10 +4,11 @@ use Rattle.wave_defs.specs.Held.{blocks_in}
 use Rattle.segment_code.specs.DecodedItems.{DecodesItems}
 use Rattle.bare_stream.specs.Blocks.{AreParts}
 use Rattle.bare_stream.specs.Inputs.{source_of}
-use Rattle.bare_stream.specs.SegmentsRead.{AgreeingText}
+use Rattle.bare_stream.specs.StreamRead.{text, next_in}
+use Rattle.bare_stream.specs.Reads.{segments_of}
 use Rattle.bare_stream.specs.Walks.{book_in}
 use Rattle.bare_stream.proofs.ItemParts.{items_weighted}
-use Rattle.bare_stream.proofs.TextsRead.{items_faulted, text_at, is_text}
+use Rattle.bare_stream.proofs.TextsRead.{items_faulted, text_at, text_is, text_force}
 use Rattle.bare_stream.proofs.walk.take_text.Goals as goal
 
 pub returns-in-Ok-clause-parts : goal.returns-in-Ok-clause-parts
@@ -17,7 +18,7 @@ returns-in-Ok-clause-parts g c =
     let same : length new ≡ vec_len c.args.walk.now.room.blocks = search rules in
     let long : 64 * read.head.blocks ≤ length new = omega (arith, same, c.requires.blocks) in
     subst (λ l. AreParts l read.head.blocks read.head.image.weights.shifts) (sym (with_items_is c.args.walk.now.room.blocks new same))
-    (items_weighted (book_in c.args.walk.now) read.head read.size c.in-Ok.ensures.items.octets new c.in-Ok.field-0 c.requires.next.fits c.in-Ok.ensures.items.ends long)
+    (items_weighted c.texts_give_parts.ensures (book_in c.args.walk.now) c.args.walk.now.room.reader.reader.tables.words.sound read.head read.size c.in-Ok.ensures.items.octets new c.in-Ok.field-0 c.requires.next.fits c.in-Ok.ensures.items.ends long)
 
 pub returns-in-Ok-clause-run : goal.returns-in-Ok-clause-run
 returns-in-Ok-clause-run g c = λ wish start r front before at head.
@@ -29,9 +30,12 @@ returns-in-Ok-clause-run g c = λ wish start r front before at head.
     let is = with_items_is c.args.walk.now.room.blocks new same in (
       front ++ x.went.gave,
       text_at g.X.Port.outside wish start r front c.args.input.now c.read_items-items.new.input c.args.walk.now before c.args.read.now at head c.requires.next (take n new) c.in-Ok.field-0 x _ refl refl refl refl refl,
-      λ all told.
-          subst (λ l. AgreeingText wish.book r.first before c.args.walk.now.index (front ++ x.went.gave) (blocks_in (take n l)) (λ h after. (h ≡ c.args.read.now.head) × (after ≡ c.args.walk.now.parts))) (sym is)
-          (is_text g.X.Port.outside wish start r front c.args.input.now c.read_items-items.new.input c.args.walk.now before c.args.read.now at head c.requires.next (take n new) c.in-Ok.field-0 x all told),
+      λ all told. record {
+        next =
+            subst (λ l. next_in wish.book wish.pixels (segments_of r before) (front ++ x.went.gave) ≡ text c.args.read.now.head (length (front ++ x.went.gave)) (blocks_in (take n l))) (sym is)
+            (text_is g.X.Port.outside wish start r front c.args.input.now c.read_items-items.new.input c.args.walk.now before c.args.read.now at head c.requires.next (take n new) c.in-Ok.field-0 x all told);
+        force = text_force g.X.Port.outside wish start r front c.args.input.now c.read_items-items.new.input c.args.walk.now before c.args.read.now at head c.requires.next (take n new) c.in-Ok.field-0 x all told;
+      },
     )
 
 pub returns-in-Err-clause-run : goal.returns-in-Err-clause-run

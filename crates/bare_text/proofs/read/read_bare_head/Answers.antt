@@ -1,11 +1,16 @@
 use Rattle.std.proofs.Common.{refl}
 use Rattle.std.proofs.lemmas.Result.{err_from_is_err_and}
-use Rattle.bare_text.proofs.HeadTaken.{start_short, part_missing, later_failed, later_short, has_length, head_refused, head_taken}
+use Rattle.bare_text.proofs.HeadTaken.{start_failed, start_short, part_missing, later_failed, later_short, has_length, head_refused, head_taken}
 use Rattle.bare_text.proofs.read.read_bare_head.Goals as goal
 
 pub returns-then-count-lt3-clause-reads : goal.returns-then-count-lt3-clause-reads
 returns-then-count-lt3-clause-reads g c =
     rw c.short.ensures (start_short g.I.OctetIn.source c.args.parts.now c.args.input.now c.fill.new.input _ c.fill.new.into c.in_ok-count.count c.in_ok-count.ensures c.if-count-lt3.true c.args.parts.now)
+
+pub returns-in_err-count-clause-reads : goal.returns-in_err-count-clause-reads
+returns-in_err-count-clause-reads g c =
+    let p = err_from_is_err_and c.from_residual.result c.from_residual.ensures.1 in
+    rw (p.1, p.2) (start_failed g.I.OctetIn.source c.args.parts.now c.args.input.now c.fill.new.input _ c.fill.new.into _ c.in_err-count.ensures c.args.parts.now)
 
 pub returns-in_err-check_carried-clause-reads : goal.returns-in_err-check_carried-clause-reads
 returns-in_err-check_carried-clause-reads g c =

@@ -1,4 +1,4 @@
-use Rattle.dc_depths.specs.TakenDc.{SetsDcs}
+use Rattle.dc_depths.specs.Dcs.{SetsDcs}
 use Rattle.dc_depths.proofs.DcCells.{cleared}
 use Rattle.dc_depths.proofs.dc_in.clear.Given as goal
 

@@ -1,9 +1,13 @@
+use Rattle.std.proofs.Common.{ℕ, ℤ, List, unsigned_abs}
 use Rattle.bit_pipe.specs.Coming.{coming, IsIn}
-use Rattle.dc_depths.proofs.TakenBits.{BitsSoFar}
+use Rattle.dc_depths.specs.Dcs.{block_count, SetsDcs}
+use Rattle.dc_depths.proofs.DcReads.{BitsSoFar, GrewTo}
 use Rattle.dc_depths.proofs.dc_in.take_bits.Given as goal
 
 abbrev pub invariant-loop-block : goal.invariant-loop-block
 invariant-loop-block g l = record {
   is_in : IsIn (coming l.input);
-  so_far : BitsSoFar g.I.OctetIn.source l.weight l.block (coming l.initial.input) (coming l.input) l.initial.blocks l.blocks;
+  grew : GrewTo (unsigned_abs l.weight) l.block l.initial.blocks l.blocks;
+  so_far : (dcs : ℕ → ℤ) (first : List ℤ) → SetsDcs dcs first l.initial.blocks →
+      BitsSoFar g.I.OctetIn.source l.weight (block_count first) l.block dcs (coming l.initial.input) (coming l.input) first l.blocks;
 }

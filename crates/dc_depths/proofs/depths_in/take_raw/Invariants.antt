@@ -1,5 +1,5 @@
 use Rattle.bit_pipe.specs.Coming.{coming, IsIn}
-use Rattle.dc_depths.proofs.TakenDepths.{RawSoFar}
+use Rattle.dc_depths.proofs.DepthReads.{RawSoFar}
 use Rattle.dc_depths.proofs.depths_in.take_raw.Given as goal
 
 abbrev pub invariant-loop-place : goal.invariant-loop-place

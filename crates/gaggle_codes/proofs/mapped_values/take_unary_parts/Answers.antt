@@ -1,23 +1,34 @@
-use Rattle.std.proofs.Common.{arith}
+use Rattle.std.proofs.Common.{arith, length, ◌-◌, ◌+◌, ◌∙◌}
 use Rattle.std.proofs.lemmas.Result.{err_from_is_err_and}
-use Rattle.bit_pipe.proofs.Taking.{in_later}
-use Rattle.gaggle_codes.proofs.Zeros.{zeros_start, zeros_more, zeros_ended, zeros_fault, zeros_whole}
+use Rattle.std.proofs.lemmas.List.{length-set, take_all, take_more_set}
+use Rattle.number_defs.specs.NumberScript.{zeros_form}
+use Rattle.gaggle_codes.proofs.FormReads.{form_in}
+use Rattle.gaggle_codes.proofs.ValueReads.{zeros_fault, zeros_ended, zeros_all, zeros_more, few_set}
 use Rattle.gaggle_codes.proofs.mapped_values.take_unary_parts.Goals as goal
-use Rattle.std.proofs.lemmas.Grind.{common_steps}
 
-pub loop-place-init : goal.loop-place-init
-loop-place-init g c = record { is_in = c.requires.open; so_far = zeros_start c.args.bits c.args.k c.args.zeros.now _ c.requires.open c.requires.none }
+pub returns-in_err-count-clause-read : goal.returns-in_err-count-clause-read
+returns-in_err-count-clause-read g c = λ given.
+    let p = err_from_is_err_and c.from_residual.result c.from_residual.ensures.1 in
+    rw (p.1, p.2) (zeros_fault given c.args.bits c.args.k _ _ _ (c.loop-place.invariant.left given) (length c.loop-place.zeros - (c.loop-place.place + 1)) (omega arith) _ c.in_err-count.ensures.read)
+
+pub returns-in_default-clause-read : goal.returns-in_default-clause-read
+returns-in_default-clause-read g c = λ given.
+    zeros_ended given c.args.bits c.args.k _ _ _ (c.loop-place.invariant.left given) (length c.loop-place.zeros - (c.loop-place.place + 1)) (omega arith) (rw c.in_default.is at c.in_ok-count.ensures.read)
 
 pub loop-place-preserved : goal.loop-place-preserved
-loop-place-preserved g c = grind (arith, common_steps, in_later, zeros_more)
+loop-place-preserved g c =
+    let i = c.loop-place.invariant in
+    let place = c.loop-place.place in
+    let long = length-set c.loop-place.zeros place c.in-Some.count in
+    let few = rw c.in-Some.is at c.in_ok-count.ensures.few in
+    let read = rw c.in-Some.is at c.in_ok-count.ensures.read in
+    record {
+      is_in = form_in (zeros_form c.args.bits c.args.k) (λ n. n) c.in-Some.count i.is_in read;
+      few = few_set c.loop-place.zeros place c.in-Some.count _ (omega arith) few i.few;
+      same = long ∙ i.same;
+      left = λ given. zeros_more given c.args.bits c.args.k _ _ _ (i.left given) _ (omega (arith, long)) c.in-Some.count _ (take_more_set c.loop-place.zeros place c.in-Some.count (omega arith)) read;
+    }
 
-pub returns-in_err-count : goal.returns-in_err-count
-returns-in_err-count g c =
-    let p = err_from_is_err_and c.from_residual.result c.from_residual.ensures.1 in
-    rw (p.1, p.2) (zeros_fault c.args.bits c.args.k c.loop-place.zeros c.loop-place.place (omega arith) c.loop-place.invariant.so_far _ c.in_err-count.ensures.ends)
-
-pub returns-in_default : goal.returns-in_default
-returns-in_default g c = grind (arith, common_steps, zeros_ended)
-
-pub returns : goal.returns
-returns g c = zeros_whole c.args.bits c.args.k c.loop-place.zeros c.loop-place.place (omega arith) c.loop-place.invariant.so_far
+pub returns-clause-read : goal.returns-clause-read
+returns-clause-read g c = λ given.
+    rw (take_all c.loop-place.place c.loop-place.zeros (omega arith)) at (zeros_all given c.args.bits c.args.k _ _ _ (c.loop-place.invariant.left given) (omega arith) c.loop-place.invariant.is_in)

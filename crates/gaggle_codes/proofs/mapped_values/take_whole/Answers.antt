@@ -1,55 +1,49 @@
-use Rattle.std.proofs.Common.{arith, length-append}
+use Rattle.std.proofs.Common.{◌∷◌, ◌++◌, ◌-◌, ◌+◌, [], arith, length, append_assoc, ap, sym, ◌∙◌, length-append}
 use Rattle.std.proofs.lemmas.Result.{err_from_is_err_and}
-use Rattle.bit_pipe.proofs.Taking.{in_later}
-use Rattle.gaggle_codes.proofs.LowNumbers.{low_same, low_more, low_stays}
-use Rattle.gaggle_codes.proofs.WholeLoop.{whole_start, whole_more, whole_all, whole_ended, whole_fault, whole_depth}
+use Rattle.gaggle_codes.specs.Given.{heights_in, kind_of}
+use Rattle.gaggle_codes.proofs.FormReads.{form_in}
+use Rattle.gaggle_codes.proofs.ValueReads.{whole_all, whole_fault, whole_ended, whole_deep, whole_more, last_more, within_more, bound_low, bound_high}
 use Rattle.gaggle_codes.proofs.mapped_values.take_whole.Goals as goal
-use Rattle.std.proofs.lemmas.Grind.{common_steps}
 
-pub loop-zeros-init : goal.loop-zeros-init
-loop-zeros-init g c = grind (arith, common_steps, whole_start, low_same)
-
-pub take_value-requires-clause-open : goal.take_value-requires-clause-open
-take_value-requires-clause-open g c = c.loop-zeros.invariant.is_in
-
-pub returns-in_err-value-clause-takes : goal.returns-in_err-value-clause-takes
-returns-in_err-value-clause-takes g c = λ too_great bound.
+pub returns-in_err-value-clause-read : goal.returns-in_err-value-clause-read
+returns-in_err-value-clause-read g c = λ too_great prior bound last.
     let p = err_from_is_err_and c.from_residual.result c.from_residual.ensures.1 in
-    rw (p.1, p.2) (whole_fault c.args.range c.args.option c.args.before c.args.zeros.now c.requires.option c.requires.zeros too_great _ (omega arith) c.loop-zeros.invariant.so_far c.in_err-value.ensures.ends)
+    rw (p.1, p.2) (whole_fault (kind_of c.args.range too_great) c.args.option c.loop-zeros.before c.args.zeros.now _ _ _ _ (c.loop-zeros.invariant.left too_great prior bound last)
+    (length c.args.zeros.now - (c.loop-zeros.zeros-index + 1)) (omega arith) _ c.in_err-value.ensures.read)
 
-pub returns-in_default-clause-takes : goal.returns-in_default-clause-takes
-returns-in_default-clause-takes g c = λ too_great bound.
-    let h = rw c.in_default.is at c.in_ok-value.ensures in
-    whole_ended c.args.range c.args.option c.args.before c.args.zeros.now c.requires.option c.requires.zeros too_great (omega arith) c.loop-zeros.invariant.so_far h.ends
+pub returns-in_default-clause-read : goal.returns-in_default-clause-read
+returns-in_default-clause-read g c = λ too_great prior bound last.
+    whole_ended (kind_of c.args.range too_great) c.args.option c.loop-zeros.before c.args.zeros.now _ _ _ _ (c.loop-zeros.invariant.left too_great prior bound last)
+    (length c.args.zeros.now - (c.loop-zeros.zeros-index + 1)) (omega arith) (rw c.in_default.is at c.in_ok-value.ensures.read)
 
-pub follow-requires-clause-room : goal.follow-requires-clause-room
-follow-requires-clause-room g c = grind (arith, common_steps, length-append)
-
-pub follow-requires-clause-before : goal.follow-requires-clause-before
-follow-requires-clause-before g c = c.loop-zeros.invariant.so_far.chained.small
-
-pub follow-requires-clause-value : goal.follow-requires-clause-value
-follow-requires-clause-value g c = let h = rw c.in-Some.is at c.in_ok-value.ensures in h.ends.3
-
-pub returns-in_err-before-clause-takes : goal.returns-in_err-before-clause-takes
-returns-in_err-before-clause-takes g c = λ too_great bound.
+pub returns-in_err-before-clause-read : goal.returns-in_err-before-clause-read
+returns-in_err-before-clause-read g c = λ too_great prior bound last.
     let p = err_from_is_err_and c.from_residual-in_err-before.result c.from_residual-in_err-before.ensures.1 in
-    let h = rw c.in-Some.is at c.in_ok-value.ensures in
     rw (p.1, p.2, c.in_err-before.ensures.is, c.in_err-before.ensures.numbers)
-    (whole_depth c.args.range c.args.option c.args.before c.args.zeros.now c.requires.option c.requires.zeros too_great c.args.most c.in-Some.value bound (omega arith) c.loop-zeros.invariant.so_far h.ends c.in_err-before.ensures.bound)
+    (whole_deep (kind_of c.args.range too_great) c.args.option c.loop-zeros.before c.args.zeros.now _ _ _ _ (c.loop-zeros.invariant.left too_great prior bound last)
+    (length c.args.zeros.now - (c.loop-zeros.zeros-index + 1)) (omega arith) (c.loop-zeros.invariant.last prior last) (λ t. c.requires.plain t c.loop-zeros.zeros-index) c.in-Some.value
+    (bound_high bound c.in_err-before.ensures.few c.in_err-before.ensures.bound)
+    (rw c.in-Some.is at c.in_ok-value.ensures.read))
 
 pub loop-zeros-preserved : goal.loop-zeros-preserved
 loop-zeros-preserved g c =
     let i = c.loop-zeros.invariant in
-    let h = rw c.in-Some.is at c.in_ok-value.ensures in
+    let now = heights_in c.loop-zeros.numbers in
+    let more = c.in_ok-before.ensures.numbers in
+    let read = rw c.in-Some.is at c.in_ok-value.ensures.read in
+    let few = rw (sym c.in_ok-before.ensures.is) at c.in_ok-before.ensures.few in
     record {
-      is_in = in_later i.is_in h.ends.4;
-      so_far = whole_more c.args.range c.args.option c.args.before c.args.zeros.now c.in-Some.value c.in_ok-before.before i.so_far h.ends c.in_ok-before.ensures.is c.in_ok-before.ensures.numbers;
-      low = low_more c.args.most c.in_ok-before.before i.low c.in_ok-before.ensures.bound c.in_ok-before.ensures.numbers;
+      is_in = form_in _ _ c.in-Some.value i.is_in read;
+      small = few;
+      count = ap length more ∙ length-append now (c.in_ok-before.before ∷ []) ∙ omega (arith, i.count);
+      within = λ before. rw more (within_more now c.in_ok-before.before few c.in_ok-before.ensures.bound (i.within before));
+      last = λ prior start. rw (more, ← append_assoc prior now (c.in_ok-before.before ∷ [])) (last_more (prior ++ now) c.in_ok-before.before);
+      left = λ too_great prior bound start. whole_more (kind_of c.args.range too_great) c.args.option c.loop-zeros.before c.args.zeros.now _ _ _ _ (i.left too_great prior bound start)
+          (length c.args.zeros.now - (c.loop-zeros.zeros-index + 1)) (omega arith) (i.last prior start) (λ t. c.requires.plain t c.loop-zeros.zeros-index) c.in-Some.value
+          _ c.in_ok-before.before _ (omega arith) c.in_ok-before.ensures.is (bound_low bound few c.in_ok-before.ensures.bound)
+          (ap (λ l. prior ++ l) more ∙ sym (append_assoc prior now (c.in_ok-before.before ∷ []))) read;
     }
 
-pub returns-clause-takes : goal.returns-clause-takes
-returns-clause-takes g c = λ too_great bound. whole_all c.args.range c.args.option c.args.before c.args.zeros.now too_great (omega arith) c.loop-zeros.invariant.so_far
-
-pub returns-in_err-before-clause-low : goal.returns-in_err-before-clause-low
-returns-in_err-before-clause-low g c = low_stays c.args.most c.loop-zeros.invariant.low c.in_err-before.ensures.numbers
+pub returns-clause-read : goal.returns-clause-read
+returns-clause-read g c = λ too_great prior bound last.
+    whole_all (kind_of c.args.range too_great) c.args.option c.loop-zeros.before c.args.zeros.now _ _ _ _ (c.loop-zeros.invariant.left too_great prior bound last) (omega arith) c.loop-zeros.invariant.is_in

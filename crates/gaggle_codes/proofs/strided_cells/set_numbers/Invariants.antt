@@ -1,5 +1,5 @@
 use Rattle.std.proofs.Common.{◌≡◌, ℕ, ℤ, List, ◌++◌, length, take}
-use Rattle.gaggle_codes.specs.Given.{SetsCells}
+use Rattle.gaggle_codes.specs.Cells.{SetsCells}
 use Rattle.gaggle_codes.proofs.strided_cells.set_numbers.Given as goal
 
 abbrev pub invariant-loop-place : goal.invariant-loop-place

@@ -1,107 +1,94 @@
-use Rattle.std.proofs.Common.{◌≡◌, ◌<◌, ◌+◌, ◌-◌, ◌*◌, min, ℕ, Bool, length, ap, ◌∙◌, refl, arith, nat_lt}
+use Rattle.std.proofs.Common.{◌≡◌, ◌<◌, ◌+◌, ◌-◌, ◌*◌, ◌/◌, ◌++◌, refl, min, length, ap, ◌∙◌, arith, length-append, pow_pos, nat_lt, ℕ, Bool}
 use Rattle.std.proofs.lemmas.Result.{err_from_is_err_and}
 use Rattle.std.specs.Int.{div_ceil}
 use Rattle.number_defs.proofs.CellPlaces.{place_within}
-use Rattle.gaggle_codes.specs.Taken.{IsBound}
-use Rattle.gaggle_codes.proofs.LowNumbers.{low_allowed}
-use Rattle.gaggle_codes.proofs.NumbersRead.{so_start, long, got_all, numbers_stop, numbers_all, so_more, in_after_gaggle, got_small, got_fits, err_like, ended_like, err_cuts, ended_cuts}
+use Rattle.bit_pipe.proofs.ScriptReading.{in_read}
+use Rattle.gaggle_codes.specs.Given.{AreWithin, IsBound, kind_of}
+use Rattle.gaggle_codes.proofs.ValueReads.{within_both}
+use Rattle.gaggle_codes.proofs.NumbersRead.{so_start, so_long, so_size, so_fault, so_cut, so_more, so_all, takes_numbers}
 use Rattle.gaggle_codes.proofs.take.take_bounded.Goals as goal
-use Rattle.std.proofs.lemmas.Grind.{common_steps}
-
--- the test itself
-above : ℕ → ℕ → Bool
-above most = λ height. nat_lt most height
-
-is_bound : (most N : ℕ) → IsBound most N (above most)
-unfolding above
-is_bound most N = record { at = λ height lt. refl }
 
 pub loop-gaggle-init : goal.loop-gaggle-init
-loop-gaggle-init g c = grind (arith, common_steps, so_start)
-
-pub take_gaggle-result-requires-clause-before : goal.take_gaggle-result-requires-clause-before
-take_gaggle-result-requires-clause-before g c = (c.loop-gaggle.invariant.so_far (above c.args.most) (is_bound c.args.most c.args.range.bits)).small
-
-pub take_gaggle-result-requires-clause-first : goal.take_gaggle-result-requires-clause-first
-take_gaggle-result-requires-clause-first g c = (c.loop-gaggle.invariant.so_far (above c.args.most) (is_bound c.args.most c.args.range.bits)).first
-
-pub set_numbers-requires-clause-few : goal.set_numbers-requires-clause-few
-set_numbers-requires-clause-few g c =
-    let count = c.div_ceil-count.result in
-    let lt : 16 * c.loop-gaggle.gaggle < count = omega arith in
-    let size_is : c.min-size.result ≡ min (count - 16 * c.loop-gaggle.gaggle) 16 = omega arith in
-    let bound = is_bound c.args.most c.args.range.bits in
-    let s = c.loop-gaggle.invariant.so_far (above c.args.most) bound in
-    let t = c.take_gaggle-result.ensures.takes (above c.args.most) bound in
-    rw c.as_slice-heights.ensures (got_small c.args.range (above c.args.most) c.args.shift c.args.stride c.div_ceil-count.result c.loop-gaggle.gaggle c.min-size.result c.loop-gaggle.before lt size_is s t)
+loop-gaggle-init g c = record {
+  is_in = c.requires.open;
+  small = pow_pos c.args.range.bits;
+  so_far = λ too_great bound. so_start (kind_of c.args.range too_great) c.args.range c.args.most c.args.shift c.args.stride _ _ _ _ c.clear.ensures;
+}
 
 pub set_numbers-requires-clause-within : goal.set_numbers-requires-clause-within
-set_numbers-requires-clause-within g c =
-    let count = c.div_ceil-count.result in
-    let lt : 16 * c.loop-gaggle.gaggle < count = omega arith in
-    let size_is : c.min-size.result ≡ min (count - 16 * c.loop-gaggle.gaggle) 16 = omega arith in
-    let bound = is_bound c.args.most c.args.range.bits in
-    let s = c.loop-gaggle.invariant.so_far (above c.args.most) bound in
-    let t = c.take_gaggle-result.ensures.takes (above c.args.most) bound in
-    let fits = got_fits c.args.range (above c.args.most) c.args.shift c.args.stride c.div_ceil-count.result c.loop-gaggle.gaggle c.min-size.result c.loop-gaggle.before lt size_is s t in
+set_numbers-requires-clause-within g c = λ some.
+    let s = c.loop-gaggle.invariant.so_far (λ h. nat_lt c.args.most h) (record { at = λ h lt. refl }) in
     let count_is = c.div_ceil-count.ensures ∙ ap (λ n. div_ceil n c.args.stride) c.clear.ensures.size in
-    λ some. place_within (length c.loop-gaggle.cells) c.args.stride (16 * c.loop-gaggle.gaggle + length c.as_slice-heights.result.now - 1) c.requires.stride
-    (let long = ap length c.as_slice-heights.ensures in let same = ap (λ n. div_ceil n c.args.stride) s.cells.size in omega (arith, fits, long, same, count_is, some))
+    let same = ap (λ n. div_ceil n c.args.stride) s.held.size in
+    let most = c.take_gaggle-result.ensures.most in
+    place_within (length c.loop-gaggle.cells) c.args.stride (16 * c.loop-gaggle.gaggle + length c.as_slice-heights.result.now - 1) c.requires.stride
+    (omega (arith, ap length c.as_slice-heights.ensures, same, count_is, some, most))
 
 pub returns-in_err-result : goal.returns-in_err-result
 returns-in_err-result g c = λ too_great bound.
+    let kind = kind_of c.args.range too_great in
     let count = c.div_ceil-count.result in
-    let lt : 16 * c.loop-gaggle.gaggle < count = omega arith in
+    let lt : c.loop-gaggle.gaggle < (count + 15) / 16 = omega arith in
     let size_is : c.min-size.result ≡ min (count - 16 * c.loop-gaggle.gaggle) 16 = omega arith in
     let p = err_from_is_err_and c.from_residual.result c.from_residual.ensures.1 in
     let s = c.loop-gaggle.invariant.so_far too_great bound in
-    let t = c.in_err-result.ensures.takes too_great bound in
+    let long = so_long kind c.args.range c.args.most c.args.shift c.args.stride count c.loop-gaggle.gaggle c.loop-gaggle.before c.min-size.result lt size_is s in
+    let size = so_size kind c.args.range c.args.most c.args.shift c.args.stride count c.loop-gaggle.gaggle c.loop-gaggle.before c.min-size.result lt size_is s in
     let count_is = c.div_ceil-count.ensures ∙ ap (λ n. div_ceil n c.args.stride) c.clear.ensures.size in
-    let cells = rw c.as_slice-heights.ensures at (c.set_numbers.ensures s.heights c.args.cells.now (long c.args.range too_great c.args.shift c.args.stride count c.loop-gaggle.gaggle c.min-size.result c.loop-gaggle.before lt size_is s) s.cells) in
-    rw (p.1, p.2) (numbers_stop c.args.range too_great c.args.shift c.args.stride count c.loop-gaggle.gaggle c.min-size.result c.loop-gaggle.before lt size_is s t _ (low_allowed too_great bound c.in_err-result.ensures.low (got_small c.args.range too_great c.args.shift c.args.stride count c.loop-gaggle.gaggle c.min-size.result c.loop-gaggle.before lt size_is s t)) (λ e n q. err_like refl _ e n q) (err_cuts refl t.ending t.answer) count_is cells)
+    rw (p.1, p.2) (takes_numbers kind c.args.range c.args.most c.args.shift c.args.stride count _ (s.given ++ c.as_slice-heights.result.now) count_is tt
+    (within_both s.given c.as_slice-heights.result.now s.within (rw c.as_slice-heights.ensures c.in_err-result.ensures.within))
+    (rw c.as_slice-heights.ensures (so_fault kind c.args.range c.args.most c.args.shift c.args.stride count c.loop-gaggle.gaggle c.loop-gaggle.before c.min-size.result lt size_is s _ _ (c.in_err-result.ensures.read too_great count s.given bound size long s.last)))
+    (c.set_numbers.ensures s.given c.args.cells.now long s.held))
 
 pub returns-in_default : goal.returns-in_default
 returns-in_default g c = λ too_great bound.
+    let kind = kind_of c.args.range too_great in
     let count = c.div_ceil-count.result in
-    let lt : 16 * c.loop-gaggle.gaggle < count = omega arith in
+    let lt : c.loop-gaggle.gaggle < (count + 15) / 16 = omega arith in
     let size_is : c.min-size.result ≡ min (count - 16 * c.loop-gaggle.gaggle) 16 = omega arith in
     let s = c.loop-gaggle.invariant.so_far too_great bound in
-    let t = rw c.in_default.is at (c.in_ok-result.ensures.takes too_great bound) in
+    let long = so_long kind c.args.range c.args.most c.args.shift c.args.stride count c.loop-gaggle.gaggle c.loop-gaggle.before c.min-size.result lt size_is s in
+    let size = so_size kind c.args.range c.args.most c.args.shift c.args.stride count c.loop-gaggle.gaggle c.loop-gaggle.before c.min-size.result lt size_is s in
     let count_is = c.div_ceil-count.ensures ∙ ap (λ n. div_ceil n c.args.stride) c.clear.ensures.size in
-    let cells = rw c.as_slice-heights.ensures at (c.set_numbers.ensures s.heights c.args.cells.now (long c.args.range too_great c.args.shift c.args.stride count c.loop-gaggle.gaggle c.min-size.result c.loop-gaggle.before lt size_is s) s.cells) in
-    rw c.as_slice-heights.ensures
-    (numbers_stop c.args.range too_great c.args.shift c.args.stride count c.loop-gaggle.gaggle c.min-size.result c.loop-gaggle.before lt size_is s t _ (low_allowed too_great bound c.in_ok-result.ensures.low (got_small c.args.range too_great c.args.shift c.args.stride count c.loop-gaggle.gaggle c.min-size.result c.loop-gaggle.before lt size_is s t)) (λ e n q. ended_like refl _ e n q) (ended_cuts refl t.ending t.answer) count_is cells)
-
-pub last_of-before-requires : goal.last_of-before-requires
-last_of-before-requires g c =
-    let count = c.div_ceil-count.result in
-    let lt : 16 * c.loop-gaggle.gaggle < count = omega arith in
-    let size_is : c.min-size.result ≡ min (count - 16 * c.loop-gaggle.gaggle) 16 = omega arith in
-    let bound = is_bound c.args.most c.args.range.bits in
-    let s = c.loop-gaggle.invariant.so_far (above c.args.most) bound in
-    let t = rw c.in-Whole.is at (c.in_ok-result.ensures.takes (above c.args.most) bound) in
-    let all = ap length (got_all c.args.range (above c.args.most) c.args.shift c.args.stride c.div_ceil-count.result c.loop-gaggle.gaggle c.min-size.result c.loop-gaggle.before lt size_is s t refl) in
-    omega (arith, all, t.all, size_is, lt, ap length c.as_slice-heights.ensures)
+    takes_numbers kind c.args.range c.args.most c.args.shift c.args.stride count _ (s.given ++ c.as_slice-heights.result.now) count_is
+    (omega (arith, length-append s.given c.as_slice-heights.result.now, long))
+    (within_both s.given c.as_slice-heights.result.now s.within (rw c.as_slice-heights.ensures c.in_ok-result.ensures.within))
+    (rw c.as_slice-heights.ensures (so_cut kind c.args.range c.args.most c.args.shift c.args.stride count c.loop-gaggle.gaggle c.loop-gaggle.before c.min-size.result lt size_is s _ (rw c.in_default.is at (c.in_ok-result.ensures.read too_great count s.given bound size long s.last))))
+    (c.set_numbers.ensures s.given c.args.cells.now long s.held)
 
 pub loop-gaggle-preserved : goal.loop-gaggle-preserved
 loop-gaggle-preserved g c =
     let count = c.div_ceil-count.result in
-    let lt : 16 * c.loop-gaggle.gaggle < count = omega arith in
+    let lt : c.loop-gaggle.gaggle < (count + 15) / 16 = omega arith in
     let size_is : c.min-size.result ≡ min (count - 16 * c.loop-gaggle.gaggle) 16 = omega arith in
+    let heights = c.as_slice-heights.result.now in
+    let adds = rw c.in-Whole.is at c.in_ok-result.ensures.adds in
+    let same = c.as_slice-heights.ensures in
+    let few : AreWithin c.args.range.bits c.args.most heights = rw same c.in_ok-result.ensures.within in
+    let more = λ (too_great : ℕ → Bool) (bound : IsBound c.args.most c.args.range.bits too_great).
+    let kind = kind_of c.args.range too_great in
+    let s = c.loop-gaggle.invariant.so_far too_great bound in
+    let long = so_long kind c.args.range c.args.most c.args.shift c.args.stride count c.loop-gaggle.gaggle c.loop-gaggle.before c.min-size.result lt size_is s in
+    let size = so_size kind c.args.range c.args.most c.args.shift c.args.stride count c.loop-gaggle.gaggle c.loop-gaggle.before c.min-size.result lt size_is s in
+    let read = rw c.in-Whole.is at (c.in_ok-result.ensures.read too_great count s.given bound size long s.last) in
+    so_more kind c.args.range c.args.most c.args.shift c.args.stride count c.loop-gaggle.gaggle c.loop-gaggle.before c.min-size.result lt size_is s (s.given ++ heights) heights c.last_of-before.result _ refl
+    (omega (arith, ap length same, adds)) few c.last_of-before.ensures (c.set_numbers.ensures s.given c.args.cells.now long s.held) (rw same read) in
+    let exact : IsBound c.args.most c.args.range.bits (λ h. nat_lt c.args.most h) = record { at = λ h lt. refl } in
+    let s = c.loop-gaggle.invariant.so_far (λ h. nat_lt c.args.most h) exact in
+    let kind = kind_of c.args.range (λ h. nat_lt c.args.most h) in
+    let long = so_long kind c.args.range c.args.most c.args.shift c.args.stride count c.loop-gaggle.gaggle c.loop-gaggle.before c.min-size.result lt size_is s in
+    let size = so_size kind c.args.range c.args.most c.args.shift c.args.stride count c.loop-gaggle.gaggle c.loop-gaggle.before c.min-size.result lt size_is s in
     record {
-      is_in =
-          (let bound = is_bound c.args.most c.args.range.bits in
-          let s = c.loop-gaggle.invariant.so_far (above c.args.most) bound in
-          let t = rw c.in-Whole.is at (c.in_ok-result.ensures.takes (above c.args.most) bound) in
-          in_after_gaggle c.args.range (above c.args.most) c.args.shift c.args.stride c.div_ceil-count.result c.loop-gaggle.gaggle c.min-size.result c.loop-gaggle.before lt size_is s t refl c.loop-gaggle.invariant.is_in);
-      so_far = λ too_great bound.
-          let s = c.loop-gaggle.invariant.so_far too_great bound in
-          let t = rw c.in-Whole.is at (c.in_ok-result.ensures.takes too_great bound) in
-          let cells = rw c.as_slice-heights.ensures at (c.set_numbers.ensures s.heights c.args.cells.now (long c.args.range too_great c.args.shift c.args.stride count c.loop-gaggle.gaggle c.min-size.result c.loop-gaggle.before lt size_is s) s.cells) in
-          so_more c.args.range too_great c.args.shift c.args.stride count c.loop-gaggle.gaggle c.min-size.result c.loop-gaggle.before lt size_is s t refl c.last_of-before.result
-          (low_allowed too_great bound c.in_ok-result.ensures.low (got_small c.args.range too_great c.args.shift c.args.stride count c.loop-gaggle.gaggle c.min-size.result c.loop-gaggle.before lt size_is s t))
-          (rw (← c.as_slice-heights.ensures) c.last_of-before.ensures) cells;
+      is_in = in_read c.loop-gaggle.invariant.is_in (rw c.in-Whole.is at (c.in_ok-result.ensures.read (λ h. nat_lt c.args.most h) count s.given exact size long s.last));
+      small = rw c.last_of-before.ensures (few.few _);
+      so_far = more;
     }
 
 pub returns : goal.returns
-returns g c = grind (arith, common_steps, numbers_all)
+returns g c = λ too_great bound.
+    let kind = kind_of c.args.range too_great in
+    let count_is = c.div_ceil-count.ensures ∙ ap (λ n. div_ceil n c.args.stride) c.clear.ensures.size in
+    let s = c.loop-gaggle.invariant.so_far too_great bound in
+    let end : c.loop-gaggle.gaggle ≡ (c.div_ceil-count.result + 15) / 16 = omega arith in
+    takes_numbers kind c.args.range c.args.most c.args.shift c.args.stride c.div_ceil-count.result _ s.given count_is (omega (arith, s.long, end)) s.within
+    (so_all kind c.args.range c.args.most c.args.shift c.args.stride c.div_ceil-count.result c.loop-gaggle.gaggle c.loop-gaggle.before c.loop-gaggle.invariant.is_in end s) s.held

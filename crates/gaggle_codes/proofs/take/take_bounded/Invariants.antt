@@ -1,12 +1,13 @@
-use Rattle.std.proofs.Common.{ℕ, Bool}
+use Rattle.std.proofs.Common.{◌<◌, ◌^◌, ℕ, Bool}
 use Rattle.bit_pipe.specs.Coming.{coming, IsIn}
-use Rattle.gaggle_codes.specs.Taken.{IsBound}
+use Rattle.gaggle_codes.specs.Given.{IsBound, kind_of}
 use Rattle.gaggle_codes.proofs.NumbersRead.{SoFar}
 use Rattle.gaggle_codes.proofs.take.take_bounded.Given as goal
 
 abbrev pub invariant-loop-gaggle : goal.invariant-loop-gaggle
 invariant-loop-gaggle g l = record {
   is_in : IsIn (coming l.input);
+  small : l.before < 2 ^ l.range.bits;
   so_far : (too_great : ℕ → Bool) → IsBound l.most l.range.bits too_great →
-      SoFar g.I.OctetIn.source l.range too_great l.shift l.stride l.count l.gaggle l.before (coming l.fn.input) (coming l.input) l.fn.cells l.cells;
+      SoFar g.I.OctetIn.source (kind_of l.range too_great) l.range l.most l.shift l.stride l.count l.gaggle l.before (coming l.fn.input) (coming l.input) l.fn.cells l.cells;
 }

@@ -1,29 +1,31 @@
-use Rattle.std.proofs.Common.{◌≡◌, ◌+◌, ◌*◌, ◌%◌, ◌^◌, arith}
+use Rattle.std.proofs.Common.{pow_mono, refl, ◌≡◌, ◌<◌, ◌+◌, ◌*◌, ◌%◌, ◌^◌, ◌++◌, arith, ap, ◌∙◌, ◌∷◌, [], mod-lt, pow_pos}
 use Rattle.std.proofs.lemmas.Result.{err_from_is_err_and}
-use Rattle.number_defs.specs.Ranges.{negatives}
-use Rattle.gaggle_codes.specs.Written.{kind_of}
-use Rattle.gaggle_codes.specs.Given.{heights_in}
-use Rattle.gaggle_codes.proofs.Leads.{reference_one, reference_great, reference_ended, reference_failed, reference_code}
+use Rattle.gaggle_codes.specs.Given.{kind_of}
+use Rattle.gaggle_codes.proofs.GaggleReads.{reference_failed, reference_ended, reference_great, reference_got}
+use Rattle.gaggle_codes.proofs.ValueReads.{bound_low, bound_high}
 use Rattle.gaggle_codes.proofs.take_gaggle.take_reference.Goals as goal
-use Rattle.std.proofs.lemmas.Grind.{common_steps}
-use Rattle.std.proofs.lemmas.Bool.Decides.{nat_tests}
 
-pub returns-in_err-number-clause-takes : goal.returns-in_err-number-clause-takes
-returns-in_err-number-clause-takes g c = grind (arith, common_steps, err_from_is_err_and, reference_failed)
+pub returns-in_err-number-clause-read : goal.returns-in_err-number-clause-read
+returns-in_err-number-clause-read g c = λ too_great bound.
+    let p = err_from_is_err_and c.from_residual.result c.from_residual.ensures.1 in
+    rw (p.1, p.2, c.requires.none) (reference_failed (kind_of c.args.range too_great) _ c.in_err-number.ensures.ends)
 
-pub returns-in_default-clause-takes : goal.returns-in_default-clause-takes
-returns-in_default-clause-takes g c = λ too_great bound. grind (arith, nat_tests, reference_ended)
+pub returns-in_default-clause-read : goal.returns-in_default-clause-read
+returns-in_default-clause-read g c = λ too_great bound.
+    rw c.requires.none (reference_ended (kind_of c.args.range too_great) (rw c.in_default.is at c.in_ok-number.ensures).ends)
 
-pub returns-then-height-most-clause-takes : goal.returns-then-height-most-clause-takes
-returns-then-height-most-clause-takes g c = λ too_great bound.
-    let range = c.args.range in
-    let h = rw c.in-Some.is at c.in_ok-number.ensures in
-    let code : (c.in-Some.number + c.negatives.result) % (1 * 2 ^ range.bits % 65536) ≡ (c.in-Some.number + negatives range.signed range.bits) % 2 ^ range.bits = grind (arith, nat_tests, reference_code) in
-    reference_great (kind_of range too_great) c.in-Some.number (omega (arith, c.requires.low)) h.ends.0 c.args.most ((c.in-Some.number + c.negatives.result) % (1 * 2 ^ range.bits % 65536)) (heights_in c.args.numbers.now) bound code c.if-height-most.true h.ends.1
+pub returns-then-height-most-clause-read : goal.returns-then-height-most-clause-read
+returns-then-height-most-clause-read g c = λ too_great bound.
+    let p = rw c.in-Some.is at c.in_ok-number.ensures in
+    let w : 1 * 2 ^ c.args.range.bits % 65536 ≡ 2 ^ c.args.range.bits = omega (arith, pow_mono c.requires.high) in
+    let few : (c.in-Some.number + c.negatives.result) % (1 * 2 ^ c.args.range.bits % 65536) < 2 ^ c.args.range.bits = rw w (mod-lt (c.in-Some.number + c.negatives.result) (pow_pos c.args.range.bits)) in
+    rw c.requires.none (reference_great (kind_of c.args.range too_great) c.in-Some.number ((c.in-Some.number + c.negatives.result) % (1 * 2 ^ c.args.range.bits % 65536)) (rw (w, c.negatives.ensures.is) refl) p.ends (bound_high bound few c.if-height-most.true))
 
-pub returns-clause-takes : goal.returns-clause-takes
-returns-clause-takes g c = λ too_great bound.
-    let range = c.args.range in
-    let h = rw c.in-Some.is at c.in_ok-number.ensures in
-    let code : (c.in-Some.number + c.negatives.result) % (1 * 2 ^ range.bits % 65536) ≡ (c.in-Some.number + negatives range.signed range.bits) % 2 ^ range.bits = grind (arith, nat_tests, reference_code) in
-    reference_one (kind_of range too_great) c.in-Some.number (omega (arith, c.requires.low)) h.ends.0 _ (heights_in c.args.numbers.now) (heights_in c.push.new.self) code c.push.ensures h.ends.1
+pub returns-clause-read : goal.returns-clause-read
+returns-clause-read g c = λ too_great bound.
+    let p = rw c.in-Some.is at c.in_ok-number.ensures in
+    let w : 1 * 2 ^ c.args.range.bits % 65536 ≡ 2 ^ c.args.range.bits = omega (arith, pow_mono c.requires.high) in
+    let few : (c.in-Some.number + c.negatives.result) % (1 * 2 ^ c.args.range.bits % 65536) < 2 ^ c.args.range.bits = rw w (mod-lt (c.in-Some.number + c.negatives.result) (pow_pos c.args.range.bits)) in
+    let height = (c.in-Some.number + c.negatives.result) % (1 * 2 ^ c.args.range.bits % 65536) in
+    reference_got (kind_of c.args.range too_great) c.in-Some.number height (rw (w, c.negatives.ensures.is) refl) p.ends _ c.requires.open (bound_low bound few (omega arith))
+    (c.push.ensures ∙ ap (λ l. l ++ height ∷ []) c.requires.none)

@@ -1,16 +1,18 @@
-use Rattle.std.proofs.Common.{◌≡◌, ◌⊎◌, true, false, inl, inr}
-use Rattle.bit_pipe.proofs.Taking.{takes_start}
-use Rattle.plane_reader.proofs.ChildPieces.{descendants_known, descendants_read}
+use Rattle.std.proofs.Common.{◌≡◌, ◌⊎◌, ◌&&◌, not, true, false, inl, inr, Bool, refl}
+use Rattle.plane_reader.proofs.ChildReads.{flag_known, flag_read}
 use Rattle.plane_reader.proofs.children.take_descendants.Goals as goal
 
 pub returns-then-was-clause-flag : goal.returns-then-was-clause-flag
-returns-then-was-clause-flag g c = λ book gaggle found f stage earlier done after known next.
-    descendants_known next known (either c.then-was.either) c.requires.open (takes_start g.I.OctetIn.source _ c.requires.open)
+returns-then-was-clause-flag g c = record { read = λ s. flag_known s c.args.is_live c.args.was (either c.then-was.either) c.requires.reading.is_in }
   where
-    either : {w l : _} → ((w ≡ true) ⊎ ((w ≡ false) × (l ≡ false))) → (w ≡ true) ⊎ (l ≡ false)
-    either (inl e) = inl e
-    either (inr p) = inr p.1
+    either : {w l : Bool} → ((w ≡ true) ⊎ ((w ≡ false) × (l ≡ false))) → (not w && l) ≡ false
+    either {w} {l} (inl e) = rw e refl
+    either {w} {l} (inr p) = rw (p.0, p.1) refl
 
 pub returns-clause-flag : goal.returns-clause-flag
-returns-clause-flag g c = λ book gaggle found f stage earlier done after known next.
-    descendants_read next known c.if-was.false c.if-not-is_live.false c.take_flag.ensures
+returns-clause-flag g c = record {
+  read = λ s. flag_read s c.args.is_live c.args.was c.flag.result (rw (
+    c.if-was.false,
+    c.if-not-is_live.false,
+  ) refl) (c.flag.ensures.flag.read s);
+}

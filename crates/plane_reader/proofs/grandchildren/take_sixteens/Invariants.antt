@@ -1,17 +1,23 @@
-use Rattle.plane_reader.specs.Pieces.{SoFar}
-use Rattle.std.proofs.Common.{ℕ, ℤ, List}
-use Rattle.plane_defs.specs.Steps.{Step}
-use Rattle.block_masks.specs.Gaggles.{AreOptions}
-use Rattle.bit_pipe.specs.Coming.{coming, IsIn}
-use Rattle.plane_reader.specs.Frames.{Frame}
-use Rattle.plane_reader.specs.Grandchildren.{AllQuadsNext}
-use Rattle.plane_reader.proofs.GrandchildPieces.{sixteen_item}
+use Rattle.std.proofs.Common.{◌≡◌, ℕ, ◌-◌, Bool, List, ℤ}
+use Rattle.bit_pipe.specs.Coming.{coming}
+use Rattle.block_masks.specs.Masks.{Shows}
+use Rattle.item_defs.specs.Scripts.{in_turn}
+use Rattle.plane_defs.specs.States.{State}
+use Rattle.plane_reader.specs.Takes.{IsState}
+use Rattle.plane_reader.specs.Held.{point}
+use Rattle.plane_reader.specs.HeldTakes.{IsReading}
+use Rattle.plane_reader.specs.Blocks.{terms_of, IsAbove}
+use Rattle.plane_reader.specs.Grandchildren.{sixteen_script}
+use Rattle.plane_reader.proofs.GrandchildReads.{TurnsLeft}
 use Rattle.plane_reader.proofs.grandchildren.take_sixteens.Given as goal
 
 abbrev pub invariant-loop-i : goal.invariant-loop-i
 invariant-loop-i g l = record {
-  is_in : IsIn (coming l.input);
-  options : AreOptions l.gaggle.options;
-  so_far : (f : Frame) (stage : ℕ) (earlier : ℕ → List Step) (done : List Step) (after : List ℤ → List Step) → AllQuadsNext f stage earlier done l.terms.plan.now l.above l.sixteens l.new after →
-      SoFar g.I.OctetIn.source l.terms.tables.now.book f stage earlier done (sixteen_item f l.sixteens) 0 l.i l.initial.gaggle l.gaggle l.initial.found l.found (coming l.initial.input) (coming l.input);
+  reading : IsReading g.I.OctetIn.source (coming l.input) l.reading;
+  tables : l.reading.tables ≡ l.fn.reading.tables;
+  left : (block : List ℤ) (s : State) (now new : ℕ → Bool) → IsState l.fn.reading.gaggle l.fn.reading.found s → IsAbove l.above block l.plan.plane →
+      Shows l.sets.now now 0 3 → Shows l.sets.new new 0 3 →
+      TurnsLeft g.I.OctetIn.source (in_turn (sixteen_script (terms_of l.plan l.fn.reading.tables.now.words.book) block now new) 0 3 s) (sixteen_script
+      (terms_of l.plan l.fn.reading.tables.now.words.book) block now new) l.i (3 - l.i) l.reading.gaggle l.reading.found
+      (point (coming l.fn.input) l.fn.reading.cursor) (point (coming l.input) l.reading.cursor);
 }

@@ -1,7 +1,7 @@
 use Rattle.std.proofs.Common.{arith, get_or, pos, w32}
 use Rattle.std.proofs.lemmas.Int.{to_z-of_z}
 use Rattle.std.proofs.lemmas.Grind.{common_steps}
-use Rattle.plane_reader.proofs.GaggleMarks.{clears_more, clears_all}
+use Rattle.plane_reader.proofs.ClearStates.{clears_more, clears_all}
 use Rattle.plane_reader.proofs.plane.clear.Goals as goal
 
 pub loop-place-preserved : goal.loop-place-preserved

@@ -1,6 +1,6 @@
 use Rattle.std.proofs.Common.{◌≡◌, ℕ, ◌<◌, get_or, pos}
 use Rattle.plane_defs.specs.Marks.{depths_of}
-use Rattle.plane_reader.specs.Progress.{IsClear}
+use Rattle.plane_reader.proofs.ClearStates.{IsClear}
 use Rattle.plane_reader.proofs.plane.clear.Given as goal
 
 abbrev pub invariant-loop-place : goal.invariant-loop-place

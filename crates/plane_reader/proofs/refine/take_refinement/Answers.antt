@@ -1,58 +1,49 @@
-use Rattle.std.proofs.Common.{arith, refl}
+use Rattle.std.proofs.Common.{sym, rules}
 use Rattle.std.proofs.lemmas.Result.{err_from_is_err_and}
-use Rattle.bit_pipe.proofs.Taking.{takes_start, in_later}
-use Rattle.plane_reader.proofs.FoundMasks.{room_one}
-use Rattle.plane_reader.proofs.SignPieces.{flag_in}
-use Rattle.plane_reader.proofs.RefinePieces.{passed_none, passed_more, passed_all, bit_missing, bit_fault}
-use Rattle.plane_reader.proofs.RefineWindows.{passed_at_once}
+use Rattle.item_defs.specs.Bits.{bit}
+use Rattle.block_masks.proofs.Viewing.{shows_own}
+use Rattle.item_defs.specs.Scripts.{in_turn}
+use Rattle.plane_reader.specs.HeldTakes.{marked_script}
+use Rattle.plane_reader.specs.Blocks.{terms_of}
+use Rattle.plane_reader.proofs.RefineReads.{refinement_is, refined_marks, half_fault, half_cut, half_then}
 use Rattle.plane_reader.proofs.refine.take_refinement.Goals as goal
 
-pub loop-left-init : goal.loop-left-init
-loop-left-init g c = record {
-  is_in = c.requires.open;
-  passed = λ book gaggle f stage earlier done after known next.
-      passed_none next known c.without-left.result c.requires.open (takes_start g.I.OctetIn.source _ c.requires.open) c.without-left.ensures.gone c.without-left.ensures.others;
-}
-
-pub returns-in_err-bit-clause-refinement : goal.returns-in_err-bit-clause-refinement
-returns-in_err-bit-clause-refinement g c = λ book gaggle f stage earlier done after known next.
+pub returns-in_err-take_half-clause-refinement : goal.returns-in_err-take_half-clause-refinement
+returns-in_err-take_half-clause-refinement g c = λ block s is marked.
     let p = err_from_is_err_and c.from_residual.result c.from_residual.ensures.1 in
-    let passed = c.loop-left.invariant.passed book gaggle f stage earlier done after known next in
-    let first = c.first_in-position.ensures in
-    rw (p.1, p.2) (bit_fault next known passed c.first_in-position.result first.within first.here first.none_before c.in_err-bit.ensures)
+    let plan = c.args.plan.now in
+    let t = terms_of plan c.args.reading.now.tables.now.words.book in
+    let mask = c.without-refined.result in
+    let item = marked_script (bit mask) in
+    let shown = c.both.ensures.told _ _ 0 64 (shows_own c.args.above 64 c.ranges.above.fits) plan.shown in
+    let marks = refined_marks mask c.args.above plan.plane plan.weights.shifts block shown marked c.without-refined.ensures.others in
+    let own = shows_own mask 64 (search rules) in
+    rw (p.1, p.2, sym (refinement_is t block (bit mask) c.without-refined.ensures.gone marks s)) (half_fault (in_turn item 0 32 s) (in_turn item 32 32) _
+    (c.in_err-take_half.ensures.bits s (bit mask) is own))
 
-pub returns-in_default-2-clause-refinement : goal.returns-in_default-2-clause-refinement
-returns-in_default-2-clause-refinement g c = λ book gaggle f stage earlier done after known next.
-    let passed = c.loop-left.invariant.passed book gaggle f stage earlier done after known next in
-    let first = c.first_in-position.ensures in
-    let t = rw c.in_default-2.is at c.in_ok-bit.ensures in
-    bit_missing next known passed c.first_in-position.result first.within first.here first.none_before t
-
-pub add_bits-requires-clause-room : goal.add_bits-requires-clause-room
-add_bits-requires-clause-room g c = room_one c.one.result c.first_in-position.result c.first_in-position.ensures.within c.one.ensures.within
-
-pub loop-left-preserved-in-Some : goal.loop-left-preserved-in-Some
-loop-left-preserved-in-Some g c = record {
-  is_in = in_later c.loop-left.invariant.is_in c.take_window.ensures;
-  passed = λ book gaggle f stage earlier done after known next.
-      passed_at_once next known (c.loop-left.invariant.passed book gaggle f stage earlier done after known next) c.deal-dealt.ensures c.loop-left.invariant.is_in c.take_window.ensures refl
-      (λ f' g' shows dealt. c.either-found.ensures f' g' 0 64 shows dealt);
-}
-
-pub loop-left-preserved : goal.loop-left-preserved
-loop-left-preserved g c =
-    let t = rw c.in-Some-2.is at c.in_ok-bit.ensures in
-    record {
-      is_in = flag_in t;
-      passed = λ book gaggle f stage earlier done after known next.
-          let passed = c.loop-left.invariant.passed book gaggle f stage earlier done after known next in
-          let position = c.first_in-position.result in
-          let first = c.first_in-position.ensures in
-          let rest = c.without-left-in_default in
-          passed_more next known passed position first.within first.here first.none_before c.in-Some-2.bit c.add_bits.new.self rest.result t c.add_bits.ensures.minus
-          (λ f' shows. c.add_bits.ensures.bits f' (λ p. c.in-Some-2.bit) 1 (omega (arith, first.within)) shows (c.one.ensures.told position)) rest.ensures.gone rest.ensures.others;
-    }
+pub returns-in_default-clause-refinement : goal.returns-in_default-clause-refinement
+returns-in_default-clause-refinement g c = λ block s is marked.
+    let x = rw c.in_default.is at c.in_ok-take_half.ensures in
+    let plan = c.args.plan.now in
+    let t = terms_of plan c.args.reading.now.tables.now.words.book in
+    let mask = c.without-refined.result in
+    let item = marked_script (bit mask) in
+    let shown = c.both.ensures.told _ _ 0 64 (shows_own c.args.above 64 c.ranges.above.fits) plan.shown in
+    let marks = refined_marks mask c.args.above plan.plane plan.weights.shifts block shown marked c.without-refined.ensures.others in
+    let own = shows_own mask 64 (search rules) in
+    rw (sym (refinement_is t block (bit mask) c.without-refined.ensures.gone marks s)) (half_cut (in_turn item 0 32 s) (in_turn item 32 32) (x.bits s
+    (bit mask) is own))
 
 pub returns-clause-refinement : goal.returns-clause-refinement
-returns-clause-refinement g c = λ book gaggle f stage earlier done after known next.
-    passed_all next known (c.loop-left.invariant.passed book gaggle f stage earlier done after known next) c.loop-left-test.false
+returns-clause-refinement g c = λ block s is marked.
+    let x = rw c.in-Some.is at c.in_ok-take_half.ensures in
+    let plan = c.args.plan.now in
+    let t = terms_of plan c.args.reading.now.tables.now.words.book in
+    let mask = c.without-refined.result in
+    let item = marked_script (bit mask) in
+    let shown = c.both.ensures.told _ _ 0 64 (shows_own c.args.above 64 c.ranges.above.fits) plan.shown in
+    let marks = refined_marks mask c.args.above plan.plane plan.weights.shifts block shown marked c.without-refined.ensures.others in
+    let own = shows_own mask 64 (search rules) in
+    let q = x.bits s (bit mask) is own in
+    rw (sym (refinement_is t block (bit mask) c.without-refined.ensures.gone marks s)) (half_then (in_turn item 0 32 s) (in_turn item 32 32) q _
+    (c.take_half-2.ensures.bits q.now (bit mask) q.is own))

@@ -18,7 +18,8 @@ loop-b-preserved c =
     let fits : FitsSigned w32 dc = search rules in
     let number : c.cast_unsigned.result ≡ of_z w32 dc = c.cast_unsigned.ensures ∙ ap (of_z w32) (to_z-of_z w32 dc fits) in
     let same : c.from.result % 2 ^ 32 ≡ of_z w32 dc = omega (arith, c.from.ensures, number, c.cast_unsigned.type_inv) in
-    let put : PutsMask c.loop-b.b 30 c.from.result c.loop-b.part c.put_mask.new.cells = subst (λ r. PutsMask r 30 c.from.result c.loop-b.part c.put_mask.new.cells) c.of-column.ensures.block c.put_mask.ensures in
+    let put : PutsMask c.loop-b.b 30 c.from.result c.loop-b.part c.put_mask.new.cells = subst
+    (λ r. PutsMask r 30 c.from.result c.loop-b.part c.put_mask.new.cells) c.of-column.ensures.block c.put_mask.ensures in
     has_more (omega (arith, c.loop-b-test.true)) c.loop-b.invariant put (ap (cast_signed w32) same ∙ to_z-of_z w32 dc fits)
 
 pub returns-clause-dcs : goal.returns-clause-dcs

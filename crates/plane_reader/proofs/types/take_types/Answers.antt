@@ -1,44 +1,54 @@
-use Rattle.std.proofs.Common.{rules, ◌≡◌, false, sym, subst, Ok, Some}
-use Rattle.item_defs.specs.Bits.{bit}
-use Rattle.bit_pipe.specs.Coming.{coming}
-use Rattle.plane_defs.specs.Spans.{span}
-use Rattle.plane_defs.specs.Steps.{typed_steps, some_one_where}
-use Rattle.block_masks.specs.Masks.{Shows}
-use Rattle.plane_reader.specs.Frames.{TypesNext}
-use Rattle.plane_reader.specs.Pieces.{FoundPiece, Anything}
-use Rattle.plane_reader.proofs.NothingDue.{none_due}
-use Rattle.block_masks.proofs.Viewing.{from_zero, nibble_small, shows_own}
+use Rattle.std.proofs.Common.{◌≡◌, ◌≤◌, ◌+◌, ◌&&◌, ◌==◌, false, true, arith}
+use Rattle.std.proofs.lemmas.Bool.Decides.{nat_tests}
+use Rattle.std.proofs.lemmas.Result.{err_from_is_err_and}
+use Rattle.block_masks.proofs.Viewing.{nibble_small}
 use Rattle.plane_reader.proofs.FoundMasks.{room_four}
-use Rattle.plane_reader.proofs.TypesAtHand.{types_at_hand}
+use Rattle.plane_reader.proofs.TypeReads.{types_fault, types_missing, types_false, types_read}
+use Rattle.plane_reader.proofs.SmallTests.{not_zero, not_wanted}
 use Rattle.plane_reader.proofs.types.take_types.Goals as goal
+use Rattle.plane_reader.proofs.types.take_types.Goals.{else-group-via-then-group+else-new-eq0, else-group-via-else-group}
 
-pub returns-then-not-group-clause-types : goal.returns-then-not-group-clause-types
-returns-then-not-group-clause-types g c = λ f stage earlier done after next.
+pub take_due-requires-clause-due : goal.take_due-requires-clause-due
+take_due-requires-clause-due g c = nibble_small c.args.due c.args.group.count c.requires.few c.requires.due
+
+pub returns-in_err-new-clause-types : goal.returns-in_err-new-clause-types
+returns-in_err-new-clause-types g c = λ s f is shown.
+    let p = err_from_is_err_and c.from_residual.result c.from_residual.ensures.1 in
     let group = c.args.group in
-    let none : c.part-here.result ≡ 0 = c.if-here-eq0.true in
-    let free : group.is_wanted ≡ false = search rules in
-    let shown = from_zero group.start (c.part-here.ensures.told _ 0 64 (shows_own c.args.due 64 (search rules)) next.within) in
-    subst (λ w. FoundPiece g.I.OctetIn.source c.args.tables.now.book f stage earlier done (λ v. typed_steps v f.weights f.plane (some_one_where w) (span group.start group.count)) Anything (Ok (Some tt)) c.args.gaggle.now c.args.gaggle.now c.args.found.now c.args.found.now (coming c.args.input.now) (coming c.args.input.now))
-    (sym free)
-    (none_due c.requires.known (subst (λ w. TypesNext f stage earlier done w group.start group.count c.args.due after) free next) (subst (λ n. Shows n (λ p. bit c.args.due p) group.start group.count) none shown) c.requires.open)
+    rw (p.1, p.2) (types_fault c.args.tables.now.book group.is_wanted f group.start group.count c.args.due c.requires.few shown c.requires.some s is _
+    (c.in_err-new.ensures.places s f group.start group.count is.options c.requires.few shown))
 
-pub types_in-requires-clause-due : goal.types_in-requires-clause-due
-types_in-requires-clause-due g c = nibble_small c.part-here.result c.args.group.count c.requires.few c.part-here.ensures.within
+pub returns-in_default-clause-types : goal.returns-in_default-clause-types
+returns-in_default-clause-types g c = λ s f is shown.
+    let t = rw c.in_default.is at c.in_ok-new.ensures in
+    let group = c.args.group in
+    types_missing c.args.tables.now.book group.is_wanted f group.start group.count c.args.due c.requires.few shown c.requires.some s is
+    (t.places s f group.start group.count is.options c.requires.few shown)
+
+pub returns-then-new-eq0-clause-types : goal.returns-then-new-eq0-clause-types
+returns-then-new-eq0-clause-types g c = λ s f is shown.
+    let t = rw c.in-Some.is at c.in_ok-new.ensures in
+    let group = c.args.group in
+    let e : (group.is_wanted && (c.in-Some.new == 0)) ≡ true = grind (arith, nat_tests, c.if-new-eq0.true) in
+    types_false c.args.tables.now.book group.is_wanted f group.start group.count c.args.due c.requires.few shown c.requires.some s is
+    (t.places s f group.start group.count is.options c.requires.few shown) e
 
 pub add_bits-requires-clause-room : goal.add_bits-requires-clause-room
-add_bits-requires-clause-room g c = room_four c.in-Some-types_in.types.new c.args.group.start c.requires.start c.in-Some-types_in.ensures.0.new.small
-
-pub add_minus-requires-clause-room : goal.add_minus-requires-clause-room
-add_minus-requires-clause-room g c = room_four c.in-Some-types_in.types.minus c.args.group.start c.requires.start c.in-Some-types_in.ensures.0.minus.small
-
-pub returns-in-Some-types_in-clause-types : goal.returns-in-Some-types_in-clause-types
-returns-in-Some-types_in-clause-types g c = λ f stage earlier done after next.
-    let small = nibble_small c.part-here.result c.args.group.count c.requires.few c.part-here.ensures.within in
-    let shown = from_zero c.args.group.start (c.part-here.ensures.told _ 0 64 (shows_own c.args.due 64 (search rules)) next.within) in
-    types_at_hand c.requires.known next c.part-here.result small shown c.in-Some.window c.in-Some-types_in.ensures.0 c.in-Some-types_in.ensures.1 c.requires.open c.take_window.ensures
-    c.add_bits.ensures.minus c.add_bits.ensures.bits c.add_minus.ensures.bits c.add_minus.ensures.minus
+add_bits-requires-clause-room g c =
+    let t = rw c.in-Some.is at c.in_ok-new.ensures in
+    room_four c.in-Some.new c.args.group.start c.requires.start (t.small 4 (omega arith)
+    (nibble_small c.args.due c.args.group.count c.requires.few c.requires.due))
 
 pub returns-clause-types : goal.returns-clause-types
-returns-clause-types g c = λ f stage earlier done after next.
-    let shown = from_zero c.args.group.start (c.part-here.ensures.told _ 0 64 (shows_own c.args.due 64 (search rules)) next.within) in
-    c.take_types_in_turn.ensures.types f stage earlier done c.args.due after next shown
+returns-clause-types g c = λ s f is shown.
+    let t = rw c.in-Some.is at c.in_ok-new.ensures in
+    let group = c.args.group in
+    let within : group.start + group.count ≤ 64 = omega (arith, c.requires.start, c.requires.few) in
+    let d = t.places s f group.start group.count is.options c.requires.few shown in
+    let e : (group.is_wanted && (c.in-Some.new == 0)) ≡ false = elim c.else-group.branch [
+      | else-group-via-then-group+else-new-eq0 w ↦ not_zero group.is_wanted c.in-Some.new w.if-new-eq0.false
+      | else-group-via-else-group w ↦ not_wanted group.is_wanted (c.in-Some.new == 0) w.if-group.false
+    ] in
+    types_read c.args.tables.now.book group.is_wanted f group.start group.count c.args.due c.requires.few shown c.requires.some s is d e
+    c.add_bits.ensures.bits within c.add_bits.ensures.minus
+    (c.take_signs.ensures.signs _ (rw c.add_bits.ensures.minus is.minus)) c.take_signs.ensures.bits

@@ -4,9 +4,8 @@ use Rattle.quick_look.proofs.laws.looks_are_of_images.Goals as goal
 pub returns : goal.returns
 returns c =
     let short = c.texts_are_short.ensures in
-    let holds = c.coded_holds.ensures in
-    let exact = c.coded_holds_exactly.ensures in
+    let read = c.coded_texts_are_read.ensures in
     record {
-      at = λ s rows x received is sends received_is t k row column. look_is short holds exact s rows x is received received_is sends t k row column;
-      given = λ wish start new took gave every done s rows x found told apid book took_is is sends. given_back short holds exact wish start new took gave every done s rows x found told apid book took_is is sends;
+      at = λ s rows x received is sends received_is t k row column. look_is short read s rows x is received received_is sends t k row column;
+      given = λ wish start new took gave every done s rows x found told apid book took_is is sends. given_back short read wish start new took gave every done s rows x found told apid book took_is is sends;
     }

@@ -4,7 +4,7 @@ use Rattle.std.proofs.lemmas.Grind.{common_steps}
 use Rattle.item_defs.specs.Items.{text}
 use Rattle.bit_pipe.proofs.Putting.{adds_start, puts_whole, puts_then, puts_cut}
 use Rattle.wave_defs.specs.Held.{blocks_in}
-use Rattle.segment_code.specs.Parts.{coded_planes}
+use Rattle.segment_code.specs.CodedParts.{coded_planes}
 use Rattle.segment_code.proofs.Parts.{rest_none, rest_parts}
 use Rattle.segment_code.proofs.DepthMarks.{are_depths, depths_put}
 use Rattle.segment_code.proofs.Holding.{plain_marks, held_plain}

@@ -4,7 +4,7 @@ use Rattle.std.proofs.lemmas.Grind.{common_steps}
 use Rattle.wave_defs.specs.Held.{blocks_in}
 use Rattle.bit_pipe.proofs.Putting.{open_later, puts_whole}
 use Rattle.plane_coder.proofs.Sending.{none_put, more_put, put_ended}
-use Rattle.segment_code.specs.Parts.{coded_plane, coded_planes}
+use Rattle.segment_code.specs.CodedParts.{coded_plane, coded_planes}
 use Rattle.segment_code.proofs.PlaneParts.{planes_ended, no_planes}
 use Rattle.segment_code.proofs.planes.put_planes.Goals as goal
 

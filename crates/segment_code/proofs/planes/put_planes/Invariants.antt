@@ -3,7 +3,7 @@ use Rattle.item_defs.specs.Items.{text}
 use Rattle.bit_pipe.specs.Standing.{stand, IsOpen, Adds}
 use Rattle.wave_defs.specs.Held.{blocks_in}
 use Rattle.block_masks.specs.SegmentNumbers.{AreAbove}
-use Rattle.segment_code.specs.Parts.{coded_planes}
+use Rattle.segment_code.specs.CodedParts.{coded_planes}
 use Rattle.segment_code.proofs.planes.put_planes.Given as goal
 
 abbrev pub invariant-loop-n : goal.invariant-loop-n

@@ -23,7 +23,7 @@ returns-in_default-clause-runs g c w pixels book to = c.in_default.ensures.runs 
 pub returns-in-Err-clause-takes : goal.returns-in-Err-clause-takes
 returns-in-Err-clause-takes g c =
     let at = c.in-Ok.ensures.reaches c.args.assembly.now c.requires.at in
-    read_takes g.S.BlockSink.sink c.args.room.now.reader.tables.book (g.X.Port.outside c.args.port.now) (g.X.Port.outside c.reach_segment.new.port) (g.X.Port.outside c.read_text.new.port) c.args.assembly.now c.read_text.new.assembly (walking c.args.walk.now) (walking c.reach_segment.new.walk)
+    read_takes g.S.BlockSink.sink c.args.room.now.reader.tables.words.book (g.X.Port.outside c.args.port.now) (g.X.Port.outside c.reach_segment.new.port) (g.X.Port.outside c.read_text.new.port) c.args.assembly.now c.read_text.new.assembly (walking c.args.walk.now) (walking c.reach_segment.new.walk)
     c.args.start.now.head c.read_text.new.room.blocks.items c.in-Err.fault at.faults c.in-Err.ensures.reads
 
 pub returns-in-Err-clause-runs : goal.returns-in-Err-clause-runs
@@ -40,7 +40,7 @@ pub follow_held-requires-clause-held : goal.follow_held-requires-clause-held
 follow_held-requires-clause-held g c =
     let at = c.in-Ok.ensures.reaches c.args.assembly.now c.requires.at in
     may_follow c.args.assembly.now c.read_text.new.assembly (walking c.reach_segment.new.walk) c.args.start.now at.at
-    (text_goes c.args.room.now.reader.tables.book (g.X.Port.outside c.reach_segment.new.port) (g.X.Port.outside c.read_text.new.port) c.args.assembly.now c.read_text.new.assembly c.args.start.now.head c.read_text.new.room.blocks.items c.in-Ok-read_text.accepted c.in-Ok-read_text.ensures.reads)
+    (text_goes c.args.room.now.reader.tables.words.book (g.X.Port.outside c.reach_segment.new.port) (g.X.Port.outside c.read_text.new.port) c.args.assembly.now c.read_text.new.assembly c.args.start.now.head c.read_text.new.room.blocks.items c.in-Ok-read_text.accepted c.in-Ok-read_text.ensures.reads)
     (segment_low (walking c.reach_segment.new.walk) c.args.start.now at.at.next.fits at.there)
 
 pub returns-in-Err-follow_held-clause-takes : goal.returns-in-Err-follow_held-clause-takes
@@ -48,7 +48,7 @@ returns-in-Err-follow_held-clause-takes g c =
     let at = c.in-Ok.ensures.reaches c.args.assembly.now c.requires.at in
     follow_takes g.S.BlockSink.sink c.read_text.new.room.pixels (g.X.Port.outside c.args.port.now) (g.X.Port.outside c.read_text.new.port) (g.X.Port.outside c.reach_segment.new.port) c.args.assembly.now c.read_text.new.assembly (walking c.args.walk.now) (walking c.reach_segment.new.walk) (walking c.follow_held.new.walk)
     c.args.start.now c.in-Err-follow_held.fault at.at at.there
-    (text_goes c.args.room.now.reader.tables.book (g.X.Port.outside c.reach_segment.new.port) (g.X.Port.outside c.read_text.new.port) c.args.assembly.now c.read_text.new.assembly c.args.start.now.head c.read_text.new.room.blocks.items c.in-Ok-read_text.accepted c.in-Ok-read_text.ensures.reads)
+    (text_goes c.args.room.now.reader.tables.words.book (g.X.Port.outside c.reach_segment.new.port) (g.X.Port.outside c.read_text.new.port) c.args.assembly.now c.read_text.new.assembly c.args.start.now.head c.read_text.new.room.blocks.items c.in-Ok-read_text.accepted c.in-Ok-read_text.ensures.reads)
     c.in-Err-follow_held.ensures
 
 pub returns-in-Err-follow_held-clause-runs : goal.returns-in-Err-follow_held-clause-runs
@@ -65,13 +65,13 @@ pub pass_segment-requires-clause-standing : goal.pass_segment-requires-clause-st
 pass_segment-requires-clause-standing g c =
     let at = c.in-Ok.ensures.reaches c.args.assembly.now c.requires.at in
     (has_followed g.S.BlockSink.sink c.read_text.new.room.pixels c.args.assembly.now c.read_text.new.assembly (walking c.reach_segment.new.walk) (walking c.follow_held.new.walk) c.args.start.now at.at at.standing at.there
-    (text_goes c.args.room.now.reader.tables.book (g.X.Port.outside c.reach_segment.new.port) (g.X.Port.outside c.read_text.new.port) c.args.assembly.now c.read_text.new.assembly c.args.start.now.head c.read_text.new.room.blocks.items c.in-Ok-read_text.accepted c.in-Ok-read_text.ensures.reads) c.in-Ok-follow_held.ensures).standing
+    (text_goes c.args.room.now.reader.tables.words.book (g.X.Port.outside c.reach_segment.new.port) (g.X.Port.outside c.read_text.new.port) c.args.assembly.now c.read_text.new.assembly c.args.start.now.head c.read_text.new.room.blocks.items c.in-Ok-read_text.accepted c.in-Ok-read_text.ensures.reads) c.in-Ok-follow_held.ensures).standing
 
 pub pass_segment-requires-clause-room : goal.pass_segment-requires-clause-room
 pass_segment-requires-clause-room g c =
     let at = c.in-Ok.ensures.reaches c.args.assembly.now c.requires.at in
     let followed = has_followed g.S.BlockSink.sink c.read_text.new.room.pixels c.args.assembly.now c.read_text.new.assembly (walking c.reach_segment.new.walk) (walking c.follow_held.new.walk) c.args.start.now at.at at.standing at.there
-    (text_goes c.args.room.now.reader.tables.book (g.X.Port.outside c.reach_segment.new.port) (g.X.Port.outside c.read_text.new.port) c.args.assembly.now c.read_text.new.assembly c.args.start.now.head c.read_text.new.room.blocks.items c.in-Ok-read_text.accepted c.in-Ok-read_text.ensures.reads) c.in-Ok-follow_held.ensures in
+    (text_goes c.args.room.now.reader.tables.words.book (g.X.Port.outside c.reach_segment.new.port) (g.X.Port.outside c.read_text.new.port) c.args.assembly.now c.read_text.new.assembly c.args.start.now.head c.read_text.new.room.blocks.items c.in-Ok-read_text.accepted c.in-Ok-read_text.ensures.reads) c.in-Ok-follow_held.ensures in
     omega (arith, followed.count, at.there, followed.fits.blocks, followed.fits.within)
 
 pub pass_segment-requires-clause-parts : goal.pass_segment-requires-clause-parts
@@ -82,17 +82,17 @@ pass_segment-requires-clause-parts g c e =
     let w2 = g.X.Port.outside c.read_text.new.port in
     let at = c.in-Ok.ensures.reaches c.args.assembly.now c.requires.at in
     let followed = has_followed g.S.BlockSink.sink c.read_text.new.room.pixels c.args.assembly.now c.read_text.new.assembly (walking c.reach_segment.new.walk) q start at.at at.standing at.there
-    (text_goes c.args.room.now.reader.tables.book w1 w2 c.args.assembly.now c.read_text.new.assembly start.head c.read_text.new.room.blocks.items c.in-Ok-read_text.accepted c.in-Ok-read_text.ensures.reads) c.in-Ok-follow_held.ensures in
+    (text_goes c.args.room.now.reader.tables.words.book w1 w2 c.args.assembly.now c.read_text.new.assembly start.head c.read_text.new.room.blocks.items c.in-Ok-read_text.accepted c.in-Ok-read_text.ensures.reads) c.in-Ok-follow_held.ensures in
     let long : length c.read_text.new.room.blocks.items ≡ vec_len c.args.room.now.blocks = sym c.read_text.new.room.blocks.ok.0 ∙ c.in-Ok-read_text.ensures.blocks in
     let cells : c.deref.result.now ≡ c.read_text.new.room.blocks.items = c.deref.ensures.value in
     let room = (blocks_fit c.args.walk.now.geometry start _ _ c.requires.room c.requires.at.next.fits).0 in
     subst (AreBlocks start.head.blocks q.geometry) (sym cells)
-    (accepted_blocks c.args.room.now.reader.tables.book q.geometry start c.read_text.new.room.blocks.items w1 w2 c.args.assembly.now c.read_text.new.assembly c.in-Ok-read_text.accepted followed.fits (omega (arith, long, room)) c.in-Ok-read_text.ensures.reads e)
+    (accepted_blocks c.texts_are_read.ensures c.args.room.now.reader.tables.words.book c.args.room.now.reader.tables.words.sound q.geometry start c.read_text.new.room.blocks.items w1 w2 c.args.assembly.now c.read_text.new.assembly c.in-Ok-read_text.accepted followed.fits (omega (arith, long, room)) c.in-Ok-read_text.ensures.reads e)
 
 pub returns-in_default-pass_segment-clause-takes : goal.returns-in_default-pass_segment-clause-takes
 returns-in_default-pass_segment-clause-takes g c =
     let at = c.in-Ok.ensures.reaches c.args.assembly.now c.requires.at in
-    let goes = text_goes c.args.room.now.reader.tables.book (g.X.Port.outside c.reach_segment.new.port) (g.X.Port.outside c.read_text.new.port) c.args.assembly.now c.read_text.new.assembly c.args.start.now.head c.read_text.new.room.blocks.items c.in-Ok-read_text.accepted c.in-Ok-read_text.ensures.reads in
+    let goes = text_goes c.args.room.now.reader.tables.words.book (g.X.Port.outside c.reach_segment.new.port) (g.X.Port.outside c.read_text.new.port) c.args.assembly.now c.read_text.new.assembly c.args.start.now.head c.read_text.new.room.blocks.items c.in-Ok-read_text.accepted c.in-Ok-read_text.ensures.reads in
     write_later g.S.BlockSink.sink c.pass_segment.result (g.X.Port.outside c.args.port.now) (g.X.Port.outside c.reach_segment.new.port) (g.X.Port.outside c.read_text.new.port) (g.X.Port.outside c.pass_segment.new.port) (walking c.follow_held.new.walk) (walking c.pass_segment.new.walk)
     _ _ (ap is_err c.in_default-pass_segment.is) at.faults goes.passes.since.faults c.pass_segment.ensures
 
@@ -107,7 +107,7 @@ returns-in_default-pass_segment-clause-runs g c w pixels book to =
     let at = c.in-Ok.ensures.reaches c.args.assembly.now c.requires.at in
     let follows = subst (λ n. FollowsHeld k n c.read_text.new.assembly p q is_done) (c.in-Ok-read_text.ensures.pixels ∙ sym pixels) c.in-Ok-follow_held.ensures in
     let followed = has_followed k w.pixels c.args.assembly.now c.read_text.new.assembly p q start at.at at.standing at.there
-    (text_goes c.args.room.now.reader.tables.book w1 w2 c.args.assembly.now c.read_text.new.assembly start.head c.read_text.new.room.blocks.items c.in-Ok-read_text.accepted c.in-Ok-read_text.ensures.reads) follows in
+    (text_goes c.args.room.now.reader.tables.words.book w1 w2 c.args.assembly.now c.read_text.new.assembly start.head c.read_text.new.room.blocks.items c.in-Ok-read_text.accepted c.in-Ok-read_text.ensures.reads) follows in
     let long : length c.read_text.new.room.blocks.items ≡ vec_len c.args.room.now.blocks = sym c.read_text.new.room.blocks.ok.0 ∙ c.in-Ok-read_text.ensures.blocks in
     let cells : c.deref.result.now ≡ c.read_text.new.room.blocks.items = c.deref.ensures.value in
     let room = (blocks_fit c.args.walk.now.geometry start _ _ c.requires.room c.requires.at.next.fits).0 in
@@ -126,8 +126,8 @@ returns-clause-takes g c =
     let w2 = g.X.Port.outside c.read_text.new.port in
     let at = c.in-Ok.ensures.reaches c.args.assembly.now c.requires.at in
     let followed = has_followed k c.read_text.new.room.pixels c.args.assembly.now c.read_text.new.assembly p q start at.at at.standing at.there
-    (text_goes c.args.room.now.reader.tables.book w1 w2 c.args.assembly.now c.read_text.new.assembly start.head c.read_text.new.room.blocks.items c.in-Ok-read_text.accepted c.in-Ok-read_text.ensures.reads) c.in-Ok-follow_held.ensures in
-    segment_taken k c.args.room.now.reader.tables.book c.read_text.new.room.pixels c.pass_segment.result (g.X.Port.outside c.args.port.now) w1 w2 (g.X.Port.outside c.pass_segment.new.port) c.args.assembly.now c.read_text.new.assembly start (walking c.args.walk.now) p q (walking c.pass_segment.new.walk)
+    (text_goes c.args.room.now.reader.tables.words.book w1 w2 c.args.assembly.now c.read_text.new.assembly start.head c.read_text.new.room.blocks.items c.in-Ok-read_text.accepted c.in-Ok-read_text.ensures.reads) c.in-Ok-follow_held.ensures in
+    segment_taken k c.args.room.now.reader.tables.words.book c.read_text.new.room.pixels c.pass_segment.result (g.X.Port.outside c.args.port.now) w1 w2 (g.X.Port.outside c.pass_segment.new.port) c.args.assembly.now c.read_text.new.assembly start (walking c.args.walk.now) p q (walking c.pass_segment.new.walk)
     c.read_text.new.room.blocks.items c.in-Ok-read_text.accepted _ (ap is_ok c.in-Ok-pass_segment.is) c.requires.at at c.in-Ok-read_text.ensures.reads followed c.pass_segment.ensures
 
 pub returns-clause-runs : goal.returns-clause-runs
@@ -141,7 +141,7 @@ returns-clause-runs g c w pixels book to =
     let at = c.in-Ok.ensures.reaches c.args.assembly.now c.requires.at in
     let follows = subst (λ n. FollowsHeld k n c.read_text.new.assembly p q is_done) (c.in-Ok-read_text.ensures.pixels ∙ sym pixels) c.in-Ok-follow_held.ensures in
     let followed = has_followed k w.pixels c.args.assembly.now c.read_text.new.assembly p q start at.at at.standing at.there
-    (text_goes c.args.room.now.reader.tables.book w1 w2 c.args.assembly.now c.read_text.new.assembly start.head c.read_text.new.room.blocks.items c.in-Ok-read_text.accepted c.in-Ok-read_text.ensures.reads) follows in
+    (text_goes c.args.room.now.reader.tables.words.book w1 w2 c.args.assembly.now c.read_text.new.assembly start.head c.read_text.new.room.blocks.items c.in-Ok-read_text.accepted c.in-Ok-read_text.ensures.reads) follows in
     let long : length c.read_text.new.room.blocks.items ≡ vec_len c.args.room.now.blocks = sym c.read_text.new.room.blocks.ok.0 ∙ c.in-Ok-read_text.ensures.blocks in
     let cells : c.deref.result.now ≡ c.read_text.new.room.blocks.items = c.deref.ensures.value in
     let room = (blocks_fit c.args.walk.now.geometry start _ _ c.requires.room c.requires.at.next.fits).0 in

@@ -61,3 +61,8 @@ returns-in-BareEncode-clause-bare_closed g c setting is done =
     let here = c.in-BareEncode.is in
     let same : setting ≡ c.in-BareEncode.setting = cc in
     subst (λ s. BareClosed s (g.X.Port.outside c.args.port.now) (g.X.Port.outside c.bare_encode.new.port)) (sym same) (c.bare_encode.ensures.closed done)
+
+pub returns-in-BareDecode-clause-performs : goal.returns-in-BareDecode-clause-performs
+returns-in-BareDecode-clause-performs g c =
+    subst (λ k. (behaviour k).performs (g.X.Port.outside c.args.port.now) (g.X.Port.outside c.bare_decode.new.port) c.bare_decode.result)
+    (sym c.in-BareDecode.is) c.bare_decode.ensures

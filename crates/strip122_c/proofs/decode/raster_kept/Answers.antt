@@ -6,7 +6,7 @@ returns-in-Err c = refused_raster c.args.product c.args.wish.now c.args.packets.
 
 pub returns-then-length-room : goal.returns-then-length-room
 returns-then-length-room c =
-    small_raster c.args.product c.args.wish.now c.args.packets.now c.args.room c.rows_of.result c.raster_length-length.result c.in-Ok.measured c.received_is_told.ensures c.requires.book c.requires.raster c.in-Ok.ensures
+    small_raster c.args.product c.args.wish.now c.args.packets.now c.args.room c.rows_of.result c.raster_length-length.result c.in-Ok.measured c.received_is_told.ensures c.requires.raster c.in-Ok.ensures
     c.rows_of.ensures c.raster_length-length.ensures c.if-length-room.true
 
 pub returns : goal.returns

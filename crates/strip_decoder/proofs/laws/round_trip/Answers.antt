@@ -5,10 +5,9 @@ use Rattle.strip_decoder.proofs.laws.round_trip.Goals as goal
 pub returns : goal.returns
 returns c =
     let short = c.texts_are_short.ensures in
-    let holds = c.coded_holds.ensures in
-    let exact = c.coded_holds_exactly.ensures in
+    let read = c.coded_texts_are_read.ensures in
     record {
-      whole = λ s rows x received is received_is. comes_whole short s rows x is received received_is holds;
-      same = λ s rows x received is sends received_is. comes_same short holds exact s rows x is received received_is sends;
-      decoded = λ wish start new took gave every done s rows x found told apid book took_is is. decoded_back short holds exact wish start new took gave every done s rows x found told apid book took_is is;
+      whole = λ s rows x received is received_is. comes_whole short s rows x is received received_is read;
+      same = λ s rows x received is sends received_is. comes_same short read s rows x is received received_is sends;
+      decoded = λ wish start new took gave every done s rows x found told apid book took_is is. decoded_back short read wish start new took gave every done s rows x found told apid book took_is is;
     }

@@ -13,4 +13,7 @@ returns-clause-none c = λ e.
     let old = c.args.self.now.minus in
     let start = c.args.start in
     nothing_added old c.either-self.result start (search rules)
-    (c.either-self.ensures (bit old) (λ p. inside start 0 p && false) 0 64 (shows_own old 64 (search rules)) (c.placed.ensures (λ p. false) 0 (omega (arith, c.requires.start)) (record { at = λ k lt. absurd (omega (arith, lt)); small = omega (arith, e) })))
+    (c.either-self.ensures (bit old) (λ p. inside start 0 p && false) 0 64 (shows_own old 64 (search rules)) (c.placed.ensures (λ p. false) 0 (omega (
+      arith,
+      c.requires.start,
+    )) (record { at = λ k lt. absurd (omega (arith, lt)); small = omega (arith, e) })))

@@ -1,5 +1,0 @@
-use Rattle.item_scripts.proofs.Completing.{completes, are_possible}
-use Rattle.item_scripts.proofs.laws.scripts_complete.Goals as goal
-
-pub returns : goal.returns
-returns c start = λ s p items form are asks. completes _ s p items form (are_possible items are) asks

@@ -1,0 +1,5 @@
+use Rattle.number_defs.proofs.WorkedRead.{worked}
+use Rattle.number_defs.proofs.scripts.worked_texts.Goals as goal
+
+pub returns : goal.returns
+returns c = worked

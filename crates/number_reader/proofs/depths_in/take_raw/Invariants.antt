@@ -1,9 +1,0 @@
-use Rattle.bit_pipe.specs.Coming.{coming, IsIn}
-use Rattle.number_reader.proofs.DepthReads.{RawSoFar}
-use Rattle.number_reader.proofs.depths_in.take_raw.Given as goal
-
-abbrev pub invariant-loop-place : goal.invariant-loop-place
-invariant-loop-place g l = record {
-  is_in : IsIn (coming l.input);
-  so_far : RawSoFar g.I.OctetIn.source l.place (coming l.initial.input) (coming l.input) l.marks;
-}

@@ -1,0 +1,68 @@
+-- Tables of the words of due positions.
+use Rattle.std.proofs.Common.{◌≡◌, ℕ, zero, suc, ◌+◌, ◌-◌, ◌*◌, ◌/◌, ◌%◌, ◌<◌, ◌≤◌, ◌^◌, [], ◌∷◌, Bool, true, false, get_or, sym, ap, subst, ◌∙◌, arith, count_ones, cond}
+use Rattle.std.proofs.lemmas.Nat.{shr-shr}
+use Rattle.item_defs.specs.Bits.{bit, bits_of}
+use Rattle.item_defs.specs.Items.{item_bits}
+use Rattle.plane_defs.specs.Codes.{word_item}
+use Rattle.base_122.specs.declared.book.Book.{Book}
+use Rattle.block_masks.specs.declared.gaggle.Gaggle.{Gaggle}
+use Rattle.block_masks.specs.Picks.{AreSpread}
+use Rattle.block_masks.proofs.Viewing.{shows_own}
+use Rattle.bit_pipe.specs.Windows.{first_of}
+use Rattle.plane_reader.specs.Places.{word_at, IsFirst, row_by}
+
+-- the first bits of a window are those of its highest octet
+pub same_octet : (n a b : ℕ) → n ≤ 8 → a / 2 ^ 56 ≡ b / 2 ^ 56 → first_of n a ≡ first_of n b
+same_octet n a b few e =
+    let up : 56 + (8 - n) ≡ 64 - n = omega arith in
+    ap (bits_of n) (ap (λ m. a / 2 ^ m) (sym up) ∙ sym (shr-shr a 56 (8 - n)) ∙ ap (λ m. m / 2 ^ (8 - n)) e ∙ shr-shr b 56 (8 - n) ∙ ap (λ m. b / 2 ^ m) up)
+
+pub octet_of : (octet : ℕ) → octet < 256 → octet * 2 ^ 56 % 2 ^ 64 / 2 ^ 56 ≡ octet
+octet_of octet lt = omega arith
+
+pub word_there : (due number places : ℕ) → due < 16 → number < 2 ^ count_ones due → AreSpread due number places → word_at due places ≡ number
+word_there due number places small fits spread = spread.back (bit due) 0 4 (omega arith) (shows_own due 4 small) fits
+
+module _ (book : Book) (due option window number places len signed : ℕ) (small : due < 16) (fits : number < 2 ^ count_ones due)
+    (spread : AreSpread due number places) where
+  pub first_is : len ≤ 8 → (count_ones due ≡ 0 → len ≡ 0) → (1 ≤ count_ones due → item_bits (word_item book
+      (count_ones due) option number) ≡ first_of len window) → signed ≡ len + count_ones number → IsFirst book due option window (record {
+        places = places;
+        len = len;
+        signed_len = signed;
+      })
+  first_is few none code signed_is =
+      let w = word_there due number places small fits spread in
+      record {
+        fits = subst (λ n. n < 2 ^ count_ones due) (sym w) fits;
+        few = few;
+        none = none;
+        code = λ some. subst (λ n. item_bits (word_item book (count_ones due) option n) ≡ first_of len window) (sym w) (code some);
+        places = subst (λ n. AreSpread due n places) (sym w) spread;
+        signed = signed_is ∙ ap (λ n. len + n) (sym (spread.ones fits));
+      }
+
+-- ---- rows
+
+module _ (g : Gaggle) (due : ℕ) where
+  abbrev pub known_in : ℕ → Bool
+  known_in count = get_or (true ∷ true ∷ get_or g.sent 0 false ∷ get_or g.sent 1 false ∷ get_or g.sent 2 false ∷ []) count false
+
+  abbrev pub option_at : ℕ → ℕ
+  option_at count = get_or (0 ∷ 0 ∷ get_or g.options 0 0 ∷ get_or g.options 1 0 ∷ get_or g.options 2 0 ∷ []) count 0
+
+  pub row_known : (count : ℕ) → count ≤ 4 → known_in count ≡ true → 4 * due + option_at count ≡ row_by g due count
+  row_known zero few e = omega arith
+  row_known (suc zero) few e = omega arith
+  row_known (suc (suc zero)) few e = sym (ap (λ (b : Bool). cond b (4 * due + get_or g.options 0 0) 255) e)
+  row_known (suc (suc (suc zero))) few e = sym (ap (λ (b : Bool). cond b (4 * due + get_or g.options 1 0) 255) e)
+  row_known (suc (suc (suc (suc zero)))) few e = sym (ap (λ (b : Bool). cond b (4 * due + get_or g.options 2 0) 255) e)
+  row_known (suc (suc (suc (suc (suc n))))) few e = absurd (omega (arith, few))
+
+  pub row_unknown : (count : ℕ) → count ≤ 4 → known_in count ≡ false → 255 ≡ row_by g due count
+  row_unknown zero few e = absurd cc
+  row_unknown (suc zero) few e = absurd cc
+  row_unknown (suc (suc zero)) few e = sym (ap (λ (b : Bool). cond b (4 * due + get_or g.options 0 0) 255) e)
+  row_unknown (suc (suc (suc zero))) few e = sym (ap (λ (b : Bool). cond b (4 * due + get_or g.options 1 0) 255) e)
+  row_unknown (suc (suc (suc (suc zero)))) few e = sym (ap (λ (b : Bool). cond b (4 * due + get_or g.options 2 0) 255) e)
+  row_unknown (suc (suc (suc (suc (suc n))))) few e = absurd (omega (arith, few))

@@ -1,0 +1,69 @@
+-- The planes of a segment, from the top down. (docs/formats.md, "Stops, cut and fill"; this project's own.)
+use Rattle.std.specs.Prelude.{◌≡◌, ◌<◌, ℕ, Bool, ◌+◌, ◌*◌, ◌^◌, ◌==◌, if◌then◌else◌, nat_lt, ℤ, pos, ◌+ℤ◌, List, [], ◌∷◌, length, Result, false}
+use lib.ListN.{get_or}
+use Rattle.plane_defs.specs.Marks.{depths_of}
+use Rattle.block_masks.specs.Gaggles.{options_in, sent_in, families_in}
+use Rattle.bit_pipe.specs.declared.fault.Part.{Part}
+use Rattle.bit_pipe.specs.declared.fault.TextFault.{TextFault}
+use Rattle.bit_pipe.specs.Sources.{SourceOf}
+use Rattle.item_defs.specs.Scripts.{Script, done, around}
+use Rattle.bit_pipe.specs.Coming.{Coming}
+use Rattle.bit_pipe.specs.ScriptSources.{ReadsAs, by_part}
+use Rattle.block_masks.specs.Slices.{dc_slot, minus_slot, mask_in}
+use Rattle.plane_defs.specs.StageScripts.{bit_script}
+use Rattle.plane_defs.specs.PlaneScript.{PlaneState, of_block, with_block}
+use Rattle.plane_reader.specs.Above.{HasNoneBelow}
+use Rattle.plane_reader.specs.Held.{Point, ReadsFrom}
+use Rattle.plane_reader.specs.Gaggles.{dc_in, HavePlane, HaveDcs, HaveFamilies, HaveOptions}
+use Rattle.plane_reader.specs.declared.planes.SentPlanes.{SentPlanes}
+
+-- block r has the plane's bit in its DC, if that had no bit of the plane or below it
+pub record AddsDc (plane r : ℕ) (old new : List ℤ) : Type 0 where
+  pub long : length new ≡ length old
+  pub dc : HasNoneBelow (plane + 1) (dc_in old r) → dc_in new r ≡ dc_in old r +ℤ pos (2 ^ plane)
+  pub slots : (slot : ℕ) → slot < 32 → (slot ≡ dc_slot → ⊥) → mask_in new r slot ≡ mask_in old r slot
+  pub others : (q slot : ℕ) → 64 * q < length old → slot < 32 → (q ≡ r → ⊥) → mask_in new q slot ≡ mask_in old q slot
+
+-- only DCs changed
+pub record KeepOthers (old new : List ℤ) : Type 0 where
+  pub long : length new ≡ length old
+  pub slots : (r slot : ℕ) → 64 * r < length old → slot < 32 → (slot ≡ dc_slot → ⊥) → mask_in new r slot ≡ mask_in old r slot
+
+-- the bit of a block's DC, if it is due
+abbrev pub dc_item : (is_due : Bool) → ℕ → PlaneState → Script PlaneState PlaneState
+dc_item is_due r p = around (with_block p r) (if is_due then bit_script 0 (of_block p r) else done (of_block p r))
+
+-- the bits of DCs were read from a window that is held
+pub record HeldDcs {I : Type 0} (k : SourceOf I) (plane : ℕ) (numbers : List (List ℤ)) (script : Script PlaneState PlaneState)
+    (result : Result Part TextFault) (cells marks : List ℤ) (old new : Point I) : Type 0 where
+  pub now : PlaneState
+  pub has : HavePlane plane cells numbers now
+  pub dcs : HaveDcs plane cells numbers now
+  pub families : HaveFamilies marks now
+  pub options : HaveOptions marks now
+  pub read : ReadsFrom k script (by_part result now now) old new
+
+-- the number of first stages that are sent of a plane
+abbrev pub stages_of : SentPlanes → ℕ → ℕ
+stages_of sent plane = if nat_lt sent.stop plane then 5 else if plane == sent.stop then sent.last + 1 else 0
+
+-- the states keep the depths, and nothing of gaggles or families
+pub record Clears (old new : List ℤ) : Type 0 where
+  pub depths : depths_of new ≡ depths_of old
+  pub options : (r : ℕ) → options_in (get_or new r (pos 0)) ≡ 0 ∷ 0 ∷ 0 ∷ []
+  pub sent : (r : ℕ) → sent_in (get_or new r (pos 0)) ≡ false ∷ false ∷ false ∷ []
+  pub families : (r : ℕ) → families_in (get_or new r (pos 0)) ≡ 0
+
+-- only masks of the plane and of signs changed, and DCs
+pub record KeepPlanes (plane : ℕ) (old new : List ℤ) : Type 0 where
+  pub long : length new ≡ length old
+  pub slots : (r slot : ℕ) → 64 * r < length old → slot < 32 → (slot ≡ plane → ⊥) → (slot ≡ minus_slot → ⊥) → (slot ≡ dc_slot → ⊥) → mask_in
+      new r slot ≡ mask_in old r slot
+
+-- stages of a plane were read, and the masks have what was read: exactly the bits that decide were taken
+pub record TakesStages {I : Type 0} (k : SourceOf I) (plane : ℕ) (numbers : List (List ℤ)) (script : Script PlaneState PlaneState)
+    (result : Result Part TextFault) (cells : List ℤ) (old new : Coming I) : Type 0 where
+  pub now : PlaneState
+  pub has : HavePlane plane cells numbers now
+  pub dcs : HaveDcs plane cells numbers now
+  pub read : ReadsAs k script (by_part result now now) old new

@@ -1,5 +1,0 @@
-use Rattle.plane_scripts.proofs.WorkedRead.{worked}
-use Rattle.plane_scripts.proofs.laws.worked_texts.Goals as goal
-
-pub returns : goal.returns
-returns c = worked

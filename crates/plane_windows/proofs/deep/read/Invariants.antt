@@ -1,5 +1,0 @@
-use Rattle.std.proofs.Common.{ℕ, ◌+◌, ◌<◌, pos, get_or, w32, FitsSigned}
-use Rattle.plane_windows.proofs.deep.read.Given as goal
-
-abbrev pub invariant-loop-k : goal.invariant-loop-k
-invariant-loop-k l = (j : ℕ) → j < l.k → FitsSigned w32 (get_or l.marks (l.first + j) (pos 0))

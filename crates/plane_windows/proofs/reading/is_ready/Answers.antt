@@ -1,5 +1,0 @@
-use Rattle.plane_windows.proofs.HeldReads.{moves_start}
-use Rattle.plane_windows.proofs.reading.is_ready.Goals as goal
-
-pub returns-else-table-ne-UNKNOWN-clause-stays : goal.returns-else-table-ne-UNKNOWN-clause-stays
-returns-else-table-ne-UNKNOWN-clause-stays g c = moves_start c.requires.is_in

@@ -1,0 +1,34 @@
+-- What is decoded of what was coded. (docs/formats.md, "Stops, cut and fill" and "Reading a segment"; this project's own.)
+use Rattle.std.specs.Prelude.{◌≡◌, ◌≤◌, ◌⊎◌, ◌*◌, ℤ, true, List, length, drop, Ok}
+use Rattle.base_122.specs.declared.book.Book.{Book}
+use Rattle.plane_defs.specs.Codes.{is_book_sound}
+use Rattle.segment_defs.specs.declared.head.SegmentHead.{SegmentHead}
+use Rattle.segment_defs.specs.Depths.{block_depths, depth_ac_of}
+use Rattle.segment_defs.specs.Head.{IsHead, head_length}
+use Rattle.segment_defs.specs.Coded.{coded_bits, coded}
+use Rattle.text_defs.specs.Spellable.{IsSpellable}
+use Rattle.text_defs.specs.TextLaws.{HasAllPlanes}
+use Rattle.text_defs.specs.TextOutcome.{Answer, text_outcome}
+use Rattle.text_defs.specs.Parts.{IsPart, stopped}
+
+-- what the coded text of these blocks holds, after its head
+abbrev pub coded_outcome : Book → SegmentHead → List (List ℤ) → Answer
+coded_outcome book head blocks = text_outcome book head (drop (head_length head) (coded book head blocks))
+
+-- there is no limit, or head and items are within it
+abbrev pub IsUncut : Book → SegmentHead → List (List ℤ) → Type 0
+IsUncut book head blocks = (head.limit ≡ 0) ⊎ (length (coded_bits book head blocks) ≤ 8 * head.limit)
+
+pub record CodedReads (book : Book) (head : SegmentHead) (blocks : List (List ℤ)) : Type 0 where
+  -- a part of the blocks is given, whatever stop and limit the head has
+  pub part : (w : List (List ℤ)) × (coded_outcome book head blocks ≡ Ok w) × IsPart head blocks w
+  -- if no limit cuts the items, they are given as far as the stop
+  pub whole : IsUncut book head blocks → coded_outcome book head blocks ≡ Ok (stopped head blocks)
+  -- and as they are, if there is none
+  pub exact : IsUncut book head blocks → HasAllPlanes head → coded_outcome book head blocks ≡ Ok blocks
+
+-- of values that can be coded, with the depths that they have
+abbrev pub CodedTextsAreRead : Type 0
+CodedTextsAreRead = (book : Book) → is_book_sound book ≡ true → (head : SegmentHead) (blocks : List (List ℤ)) → IsHead head →
+    length head.image.weights.shifts ≡ 10 → IsSpellable head blocks (block_depths blocks) → head.depth_ac ≡ depth_ac_of blocks →
+    CodedReads book head blocks

@@ -1,0 +1,8 @@
+-- How many stages of a bit plane are sent.
+use Rattle.std.proofs.Common.{◌≤◌, ◌<◌, ℕ, arith}
+use Rattle.std.proofs.lemmas.Bool.Decides.{nat_tests}
+use Rattle.segment_defs.specs.declared.head.SegmentHead.{SegmentHead}
+use Rattle.segment_defs.specs.SegmentItems.{stages_sent}
+
+pub sent_most : (head : SegmentHead) (b : ℕ) → head.stop.stage < 4 → stages_sent head b ≤ 5
+sent_most head b lt = grind (arith, nat_tests)

@@ -1,5 +1,0 @@
-use Rattle.segment_start.proofs.CodedRead.{coded_texts_are_read}
-use Rattle.segment_start.proofs.laws.coded_texts_are_read.Goals as goal
-
-pub returns : goal.returns
-returns c = coded_texts_are_read c.texts_are_read.ensures

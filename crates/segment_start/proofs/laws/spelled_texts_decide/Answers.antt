@@ -1,5 +1,0 @@
-use Rattle.segment_start.proofs.SpelledDecide.{spelled_texts_decide}
-use Rattle.segment_start.proofs.laws.spelled_texts_decide.Goals as goal
-
-pub returns : goal.returns
-returns c = spelled_texts_decide c.segments_are_read.ensures

@@ -1,5 +1,0 @@
-use Rattle.segment_start.proofs.PartsGiven.{texts_give_parts}
-use Rattle.segment_start.proofs.laws.texts_give_parts.Goals as goal
-
-pub returns : goal.returns
-returns c = texts_give_parts

@@ -1,5 +1,0 @@
-pub mod Segments
-pub mod Parts
-pub mod Outcomes
-pub mod Worked
-pub mod Laws
