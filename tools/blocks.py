@@ -43,12 +43,17 @@ def blocks_of(file: Path) -> list[Block]:
     """The declarations of a file, those of its modules and `where` parts too; fields of records belong to the record."""
     blocks: list[Block] = []
     record = None
+    heading = False  # whether the line belongs to the heading of a module, or to a set of rules
     for number, line in enumerate(file.read_text(encoding="utf-8").splitlines(), 1):
         text = line.strip()
-        if not text or text.startswith(("--", "use ", "pub mod ", "mod ", "module ", "where", "unfolding ")):
-            continue
-        if record is not None and indent_of(line) <= record:
+        if record is not None and text and indent_of(line) <= record:
             record = None
+        heading = heading or text.startswith(("module ", "ruleset ", "pub ruleset "))
+        if heading:
+            heading = not text.endswith(("where", ")"))
+            continue
+        if not text or text == "where" or text.startswith(("--", "use ", "pub mod ", "mod ", "where ", "unfolding ")):
+            continue
         match = DECLARED.match(text) if record is None else None
         if match and (not blocks or (match[1] or match[2]) != blocks[-1].name):
             if re.match(r"(pub )?(record|data) ", text):

@@ -14,7 +14,7 @@ sys.dont_write_bytecode = True
 sys.path.insert(0, str(Path(__file__).resolve().parents[1]))
 from blocks import IMPORT, MODULE, TOP, WORD, Block, blocks_of, crate_of
 
-MODULES = re.compile(r"^ *module .*$", re.M)
+HEADINGS = re.compile(r"^ *(?:module [^\0]*?where$|(?:pub )?ruleset [^\0]*?\)$|unfolding .*$)", re.M)
 UNFOLDS = re.compile(r"^\s*unfolding (.+)$")
 CRATES = {folder.name for folder in (TOP / "crates").iterdir()}
 
@@ -48,7 +48,7 @@ def main() -> None:
             own.pop(block.name, None)
             cited.update(own.keys())
         text = file.read_text(encoding="utf-8")
-        cited.update(set(WORD.findall(text if not blocks else " ".join(MODULES.findall(text)))))
+        cited.update(set(WORD.findall(text if not blocks else " ".join(HEADINGS.findall(text)))))
     for file in sources(".rt"):
         cited.update(set(re.findall(r"[\w'-]+", file.read_text(encoding="utf-8"))))
     dead = [b for f, bs in files.items() if not is_answer(f) for b in bs if not cited[b.name]]

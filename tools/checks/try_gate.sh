@@ -1,5 +1,5 @@
 #!/bin/sh
-# Checks tools/clauses.py and tools/edits.py on a small repository: what they print, and their status, after each change of its files.
+# Checks tools/clauses.py, tools/edits.py, tools/checks/layers.py and tools/checks/lines.py on a small repository: what they print, and their status, after each change of its files.
 . "$(dirname "$0")/../common.sh"
 need python3
 make_folder
@@ -29,6 +29,14 @@ clauses() {
 
 edits() {
     python3 "$top/tools/edits.py" "$kept"
+}
+
+layers() {
+    python3 "$top/tools/checks/layers.py" "$@" "$kept"
+}
+
+lines() {
+    python3 "$top/tools/checks/lines.py" "$kept"
 }
 
 whole() {
@@ -116,6 +124,38 @@ printf 'file: src/pair.rt\nold: first + more\nnew: first + more\n' >"$edit"
 expect 1 'stays as it is' edits
 mv "$edit" "$kept/crates/two/must-fail/again.edit"
 expect 1 'crates/two/must-fail/again.edit' edits
+
+# two crates, of which the second uses the first
+crates() {
+    mkdir -p "$kept/crates/one/src" "$kept/docs"
+    printf '//! Numbers.\n//!\n//! They are whole.\npub struct Number;\n' >"$kept/crates/one/src/lib.rt"
+    printf '//! Pairs.\nuse one::Number;\n' >"$kept/crates/two/src/lib.rt"
+    printf '# == The bottom.\n# nothing to numbers\none:\n\n# == The top.\n# numbers to pairs\ntwo: one\n' >"$kept/crates.txt"
+    printf '# Pairs\n\n## The layers\n\n- `one`: numbers\n- `two`: pairs of `Number`\n\n## Pairs\n' >"$kept/docs/architecture.md"
+}
+
+crates
+expect 1 "two: its documentation doesn't say its layer" layers
+expect 0 '2 crates, the longest chain has 2' layers --write
+expect 0 'Layer: the top. It uses `one`.' cat "$kept/crates/two/src/lib.rt"
+expect 0 'They are whole.' cat "$kept/crates/one/src/lib.rt"
+expect 0 '2 crates, the longest chain has 2' layers
+sed -i 's/use one/use own/' "$kept/crates/two/src/lib.rt"
+expect 1 'two: one is not used' layers
+crates
+sed -i '/nothing to numbers/d' "$kept/crates.txt"
+expect 1 'one: no line says what enters and what leaves' layers --write
+crates
+printf 'two: one\none:\n' >"$kept/crates.txt"
+expect 1 'two: one has a later line' layers
+crates
+sed -i 's/`one`/`two`/' "$kept/docs/architecture.md"
+expect 1 'docs/architecture.md: the list of crates' layers
+expect 0 '3 files, 0 lines or files that are too long' lines
+printf -- '-- %158d\n' 1 >"$kept/crates/two/src/long.antt"
+expect 1 'long.antt:1: 161 characters' lines
+seq 800 >"$kept/crates/two/src/long.antt"
+expect 1 'long.antt: 800 lines' lines
 
 echo "$count runs of the gate's tools, $([ $wrong = 0 ] && echo all as expected || echo some WRONG)"
 exit $wrong

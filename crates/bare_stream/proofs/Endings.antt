@@ -1,5 +1,6 @@
 -- A decoder that ends, at an octet that decides the answer or where no octet follows.
-use Rattle.std.proofs.Common.{◌≡◌, ◌≤◌, ◌<◌, ◌+◌, ◌-◌, ℕ, ℤ, true, false, nat_lt, if◌then◌else◌, List, [], ◌++◌, length, take, refl, sym, ap, subst, ◌∙◌, arith, append_assoc, length-append, Option, None, Some, Result, Ok, Err}
+use Rattle.std.proofs.Common.{◌≡◌, ◌≤◌, ◌<◌, ◌+◌, ◌-◌, ℕ, ℤ, true, false, nat_lt, if◌then◌else◌, List, [], ◌++◌, length, take, refl, sym, ap, subst, ◌∙◌}
+use Rattle.std.proofs.Common.{arith, append_assoc, length-append, Option, None, Some, Result, Ok, Err}
 use Rattle.std.specs.List.{concat}
 use Rattle.std.proofs.lemmas.List.{append-nil, take_all}
 use Rattle.std.proofs.lemmas.Bool.Decides.{nat_tests}
@@ -17,7 +18,7 @@ use Rattle.bare_stream.specs.declared.input.PortIn.{PortIn}
 use Rattle.bare_stream.specs.Input.{waiting, tail_of}
 use Rattle.bare_stream.specs.Inputs.{source_of}
 use Rattle.bare_stream.specs.StreamRead.{Ending, needs_more, stops, Segments, Next, ends, next_in, Read, reading, answer_by, octets_by, answer_for, octets_for}
-use Rattle.bare_stream.specs.Decoded.{Told, AnswersBy, Answers, EndsSo, DecodesBare, read_by, rows_of}
+use Rattle.bare_stream.specs.Decoded.{IfKnown, AnswersBy, Answers, EndsSo, DecodesBare, read_by, rows_of}
 use Rattle.bare_stream.specs.Reads.{HasLaws, SegmentsRead, HasRead, InForceAfter, segments_of, size_of}
 use Rattle.bare_stream.proofs.InputEnds.{ends_plain, ends_long, not_broken, failed_is, failed_waits}
 use Rattle.bare_stream.proofs.NextReads.{Opens, fewer_open, open_before, stop_stays, needed}
@@ -25,10 +26,11 @@ use Rattle.bare_stream.proofs.ReadLaws.{read_ends}
 use Rattle.bare_stream.proofs.Settles.{rows_same, open_with, asks_all}
 
 -- what the port still reports
-pub left_told : (old now : Option (List ℕ)) (octets took : List ℕ) → old ≡ Some octets → Loses old now took → (beyond : List ℕ) × (now ≡ Some beyond) × (octets ≡ took ++ beyond)
-left_told None now octets took told loses = absurd cc
-left_told (Some all) None octets took told loses = absurd loses
-left_told (Some all) (Some beyond) octets took told loses = (beyond, refl, of_some octets all told ∙ loses)
+pub left_known : (old now : Option (List ℕ)) (octets took : List ℕ) → old ≡ Some octets → Loses old now took →
+    (beyond : List ℕ) × (now ≡ Some beyond) × (octets ≡ took ++ beyond)
+left_known None now octets took if_known loses = absurd cc
+left_known (Some all) None octets took if_known loses = absurd loses
+left_known (Some all) (Some beyond) octets took if_known loses = (beyond, refl, of_some octets all if_known ∙ loses)
   where
     of_some : (a b : List ℕ) → Some b ≡ Some a → a ≡ b
     of_some a b e = cc
@@ -44,11 +46,12 @@ module _ (wish : DecodeWish) (laws : HasLaws wish) {X : Type 0} (outside : X →
   abbrev next : Next
   next = next_in wish.book wish.pixels s part
 
-  pub beyond_told : Told start (λ input. (beyond : List ℕ) × (now.rest ≡ Some beyond) × (input ≡ read.took ++ beyond))
-  beyond_told input told = left_told start.rest now.rest input read.took told read.since.rest
+  pub beyond_known : IfKnown start (λ input. (beyond : List ℕ) × (now.rest ≡ Some beyond) × (input ≡ read.took ++ beyond))
+  beyond_known input if_known = left_known start.rest now.rest input read.took if_known read.since.rest
 
-  ended_at : Told start (λ input. (n : ℕ) → n < length part → Opens (next_in wish.book wish.pixels s (take n part))) → (result : Result Geometry BareFault) → EndsSo result start now read.gave →
-      Told start (λ input. Answers wish input read.took read.gave result) → DecodesBare wish start now result
+  ended_at : IfKnown start (λ input. (n : ℕ) → n < length part → Opens (next_in wish.book wish.pixels s (take n part))) →
+      (result : Result Geometry BareFault) → EndsSo result start now read.gave →
+      IfKnown start (λ input. Answers wish input read.took read.gave result) → DecodesBare wish start now result
   ended_at opens result finish answers = record {
     took = read.took;
     gave = read.gave;
@@ -66,7 +69,8 @@ module _ (wish : DecodeWish) (laws : HasLaws wish) {X : Type 0} (outside : X →
   within_is input beyond e = ap (take wish.octets) e ∙ ap (λ n. take n (read.took ++ beyond)) (sym read.left) ∙ take-append-add read.took beyond t.left
 
   -- an answer by how the octets are read
-  answers_by : (input : List ℕ) (ending : Ending) (result : Result Geometry BareFault) → reading wish input ≡ record { segments = s; ending = ending } → result ≡ answer_by wish input ending →
+  answers_by : (input : List ℕ) (ending : Ending) (result : Result Geometry BareFault) → reading wish input ≡ record { segments = s; ending = ending } →
+      result ≡ answer_by wish input ending →
       octets_by wish input ending ≤ length read.took → AnswersBy wish input read.took read.gave result
   answers_by input ending result is so few = record {
     answer = so ∙ ap (λ x. answer_by wish input x.ending) (sym is);
@@ -76,20 +80,21 @@ module _ (wish : DecodeWish) (laws : HasLaws wish) {X : Type 0} (outside : X →
 
   -- ---- the last of the octets that were given decides a fault
 
-  module _ (fault : BareFault) (n : ℕ) (stop : Told start (λ input. next ≡ ends (stops fault n))) (last : n ≡ size_of r + length part) where
-    stops_opens : Told start (λ input. (m : ℕ) → m < length part → Opens (next_in wish.book wish.pixels s (take m part)))
-    stops_opens input told m lt =
-        fewer_open laws.heads laws.texts wish.book laws.sound wish.pixels s part m (let e = ap (needed s) (stop input told) in omega (arith, lt, e, last))
+  module _ (fault : BareFault) (n : ℕ) (stop : IfKnown start (λ input. next ≡ ends (stops fault n))) (last : n ≡ size_of r + length part) where
+    stops_opens : IfKnown start (λ input. (m : ℕ) → m < length part → Opens (next_in wish.book wish.pixels s (take m part)))
+    stops_opens input if_known m lt =
+        fewer_open laws.heads laws.texts wish.book laws.sound wish.pixels s part m (let e = ap (needed s) (stop input if_known) in omega (arith, lt, e, last))
 
-    stops_reading : Told start (λ input. reading wish input ≡ record { segments = s; ending = stops fault n })
-    stops_reading input told =
-        let b = beyond_told input told in
+    stops_reading : IfKnown start (λ input. reading wish input ≡ record { segments = s; ending = stops fault n })
+    stops_reading input if_known =
+        let b = beyond_known input if_known in
         let more = waiting t ++ take t.left b.0 in
         let all : take wish.octets input ≡ concat r.texts ++ (part ++ more) =
         within_is input b.0 b.2 ∙ ap (λ l. l ++ take t.left b.0) read.octets ∙ append_assoc (concat r.texts) (part ++ waiting t) (take t.left b.0)
         ∙ ap (λ l. concat r.texts ++ l) (append_assoc part (waiting t) (take t.left b.0)) in
-        ap (read_by wish) all ∙ reaches input told (part ++ more)
-        ∙ read_ends laws.heads laws.texts wish.book laws.sound wish.pixels s (part ++ more) (stops fault n) (stop_stays laws.heads laws.texts wish.book laws.sound wish.pixels s part more fault n (stop input told))
+        ap (read_by wish) all ∙ reaches input if_known (part ++ more)
+        ∙ read_ends laws.heads laws.texts wish.book laws.sound wish.pixels s (part ++ more) (stops fault n)
+        (stop_stays laws.heads laws.texts wish.book laws.sound wish.pixels s part more fault n (stop input if_known))
 
     few : n ≤ length read.took
     few = (
@@ -97,29 +102,35 @@ module _ (wish : DecodeWish) (laws : HasLaws wish) {X : Type 0} (outside : X →
         omega (arith, a, last, length-append (concat r.texts) (part ++ waiting t), length-append part (waiting t))
         )
 
-    stops_answer : Told start (λ input. AnswersBy wish input read.took read.gave (Err fault))
-    stops_answer input told = answers_by input (stops fault n) (Err fault) (stops_reading input told) refl few
+    stops_answer : IfKnown start (λ input. AnswersBy wish input read.took read.gave (Err fault))
+    stops_answer input if_known = answers_by input (stops fault n) (Err fault) (stops_reading input if_known) refl few
 
     -- `Answers` is that for each fault of a stream
-    pub ended_by : EndsSo (Err fault) start now read.gave → ((input : List ℕ) → AnswersBy wish input read.took read.gave (Err fault) → Answers wish input read.took read.gave (Err fault)) → DecodesBare wish start now (Err fault)
-    ended_by finish so = ended_at stops_opens (Err fault) finish (λ input told. so input (stops_answer input told))
+    pub ended_by : EndsSo (Err fault) start now read.gave → ((input : List ℕ) → AnswersBy wish input read.took read.gave (Err fault) →
+        Answers wish input read.took read.gave (Err fault)) → DecodesBare wish start now (Err fault)
+    ended_by finish so = ended_at stops_opens (Err fault) finish (λ input if_known. so input (stops_answer input if_known))
 
   -- ---- more octets are needed
 
-  module _ (opened : Told start (λ input. Opens next)) where
-    more_opens : Told start (λ input. (m : ℕ) → m < length part → Opens (next_in wish.book wish.pixels s (take m part)))
-    more_opens input told m lt = open_before laws.heads laws.texts wish.book laws.sound wish.pixels s part m (opened input told)
+  module _ (opened : IfKnown start (λ input. Opens next)) where
+    more_opens : IfKnown start (λ input. (m : ℕ) → m < length part → Opens (next_in wish.book wish.pixels s (take m part)))
+    more_opens input if_known m lt = open_before laws.heads laws.texts wish.book laws.sound wish.pixels s part m (opened input if_known)
 
     took_is : waiting t ≡ [] → read.took ≡ concat r.texts ++ part
     took_is none = read.octets ∙ ap (λ l. concat r.texts ++ (part ++ l)) none ∙ ap (λ l. concat r.texts ++ l) (append-nil part)
 
-    open_reading : (input : List ℕ) (at_end : Result Geometry BareFault) → Told start (λ all. next ≡ ends (needs_more at_end) → take wish.octets input ≡ concat r.texts ++ part → reading wish input ≡ record { segments = s; ending = needs_more at_end })
-    open_reading input at_end all told e within = ap (read_by wish) within ∙ reaches all told part ∙ read_ends laws.heads laws.texts wish.book laws.sound wish.pixels s part (needs_more at_end) e
+    open_reading : (input : List ℕ) (at_end : Result Geometry BareFault) →
+        IfKnown start (λ all. next ≡ ends (needs_more at_end) → take wish.octets input ≡ concat r.texts ++ part →
+        reading wish input ≡ record { segments = s; ending = needs_more at_end })
+    open_reading input at_end all if_known e within = ap (read_by wish) within ∙ reaches all if_known part ∙ read_ends laws.heads laws.texts wish.book
+        laws.sound
+        wish.pixels s part (needs_more at_end) e
 
     -- the end
-    end_answer : (answer : Result Geometry BareFault) → Told start (λ input. next ≡ ends (needs_more answer)) → IsOver (tail_of outside t) Plainly → Told start (λ input. AnswersBy wish input read.took read.gave answer)
-    end_answer answer is over input told =
-        let b = beyond_told input told in
+    end_answer : (answer : Result Geometry BareFault) → IfKnown start (λ input. next ≡ ends (needs_more answer)) → IsOver (tail_of outside t) Plainly →
+        IfKnown start (λ input. AnswersBy wish input read.took read.gave answer)
+    end_answer answer is over input if_known =
+        let b = beyond_known input if_known in
         let end = ends_plain now.rest (waiting t) b.0 t.left b.1 over in
         let nothing : b.0 ≡ [] = subst IsUsedUp b.1 end.end in
         let all : input ≡ read.took = b.2 ∙ ap (λ l. read.took ++ l) nothing ∙ append-nil read.took in
@@ -127,25 +138,28 @@ module _ (wish : DecodeWish) (laws : HasLaws wish) {X : Type 0} (outside : X →
         let some = end.some in
         let size = ap length all in
         let within : take wish.octets input ≡ input = take_all wish.octets input (omega (arith, left, size)) in
-        let test : nat_lt (length input) wish.octets ≡ true = (let lt : length input < wish.octets = omega (arith, left, size, some) in grind (arith, nat_tests)) in
-        answers_by input (needs_more answer) answer (open_reading input answer input told (is input told) (within ∙ all ∙ took_is end.none))
+        let test : nat_lt (length input) wish.octets ≡ true =
+        (let lt : length input < wish.octets = omega (arith, left, size, some) in grind (arith, nat_tests)) in
+        answers_by input (needs_more answer) answer (open_reading input answer input if_known (is input if_known) (within ∙ all ∙ took_is end.none))
         (sym (ap (λ b. if b then answer else Err LongInput) test)) (let few = ap length within in omega (arith, few, size))
 
-    pub ended_plainly : (answer : Result Geometry BareFault) → Told start (λ input. next ≡ ends (needs_more answer)) → IsOver (tail_of outside t) Plainly → EndsSo answer start now read.gave →
+    pub ended_plainly : (answer : Result Geometry BareFault) → IfKnown start (λ input. next ≡ ends (needs_more answer)) → IsOver (tail_of outside t) Plainly →
+        EndsSo answer start now read.gave →
         ((input : List ℕ) → AnswersBy wish input read.took read.gave answer → Answers wish input read.took read.gave answer) → DecodesBare wish start now answer
-    ended_plainly answer is over finish so = ended_at more_opens answer finish (λ input told. so input (end_answer answer is over input told))
+    ended_plainly answer is over finish so = ended_at more_opens answer finish (λ input if_known. so input (end_answer answer is over input if_known))
 
     -- the cap
-    long_answer : (waiting t ≡ []) → t.left ≡ 0 → Told start (λ input. AnswersBy wish input read.took read.gave (Err LongInput))
-    long_answer none full input told =
-        let b = beyond_told input told in
+    long_answer : (waiting t ≡ []) → t.left ≡ 0 → IfKnown start (λ input. AnswersBy wish input read.took read.gave (Err LongInput))
+    long_answer none full input if_known =
+        let b = beyond_known input if_known in
         let left = read.left in
         let first : take t.left b.0 ≡ [] = ap (λ n. take n b.0) full in
         let within : take wish.octets input ≡ read.took = within_is input b.0 b.2 ∙ ap (λ l. read.took ++ l) first ∙ append-nil read.took in
         let size = ap length b.2 ∙ length-append read.took b.0 in
-        let test : nat_lt (length input) wish.octets ≡ false = (let le : wish.octets ≤ length input = omega (arith, left, full, size) in grind (arith, nat_tests)) in
-        let o = opened input told in
-        answers_by input (needs_more o.0) (Err LongInput) (open_reading input o.0 input told o.1 (within ∙ took_is none))
+        let test : nat_lt (length input) wish.octets ≡ false =
+        (let le : wish.octets ≤ length input = omega (arith, left, full, size) in grind (arith, nat_tests)) in
+        let o = opened input if_known in
+        answers_by input (needs_more o.0) (Err LongInput) (open_reading input o.0 input if_known o.1 (within ∙ took_is none))
         (sym (ap (λ b. if b then o.0 else Err LongInput) test)) (let few = ap length within in omega (arith, few))
 
     -- the input failed, or is too long
@@ -153,16 +167,18 @@ module _ (wish : DecodeWish) (laws : HasLaws wish) {X : Type 0} (outside : X →
     failed u rose =
         let fails = failed_is u t rose in
         ended_at more_opens (Err ReadFault) (read.rises fails)
-        (λ input told. open_with wish laws r before read.some read.same (reaches input told) part read.took read.gave (opened input told) (took_is (failed_waits t fails)) read.gave_is)
+        (λ input if_known. open_with wish laws r before read.some read.same (reaches input if_known) part read.took read.gave (opened input if_known)
+        (took_is (failed_waits t fails)) read.gave_is)
 
-    long_answer_told : IsOver (tail_of outside t) TooLong → Told start (λ input. AnswersBy wish input read.took read.gave (Err LongInput))
-    long_answer_told over input told =
-        let b = beyond_told input told in
+    long_answer_known : IsOver (tail_of outside t) TooLong → IfKnown start (λ input. AnswersBy wish input read.took read.gave (Err LongInput))
+    long_answer_known over input if_known =
+        let b = beyond_known input if_known in
         let long = ends_long now.rest (waiting t) b.0 t.left b.1 over in
-        long_answer long.0 long.1 input told
+        long_answer long.0 long.1 input if_known
 
     pub was_long : IsOver (tail_of outside t) TooLong → DecodesBare wish start now (Err LongInput)
-    was_long over = ended_at more_opens (Err LongInput) tt (long_answer_told over)
+    was_long over = ended_at more_opens (Err LongInput) tt (long_answer_known over)
 
     pub was_broken : IsOver (tail_of outside t) InPieces → DecodesBare wish start now (Err LongInput)
-    was_broken over = ended_at more_opens (Err LongInput) tt (λ input told. let b = beyond_told input told in absurd (not_broken now.rest (waiting t) b.0 t.left b.1 over))
+    was_broken over = ended_at more_opens (Err LongInput) tt (λ input if_known. let b =
+        beyond_known input if_known in absurd (not_broken now.rest (waiting t) b.0 t.left b.1 over))

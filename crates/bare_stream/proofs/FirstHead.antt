@@ -20,10 +20,10 @@ use Rattle.bare_stream.specs.Heads.{TakesHead, ChecksHead}
 use Rattle.bare_stream.specs.Input.{waiting}
 use Rattle.bare_stream.specs.Inputs.{source_of}
 use Rattle.bare_stream.specs.Pictures.{shape_with}
-use Rattle.bare_stream.specs.Decoded.{Told, DecodesBare}
+use Rattle.bare_stream.specs.Decoded.{IfKnown, DecodesBare}
 use Rattle.bare_stream.specs.Reads.{HasLaws, SegmentsRead, AsksIn, HasRead, InForceAfter, segments_of}
 use Rattle.bare_stream.specs.Walks.{IsReading, book_in}
-use Rattle.bare_stream.proofs.ReadsOn.{read_on, read_on-gave, gave_told}
+use Rattle.bare_stream.proofs.ReadsOn.{read_on, read_on-gave, gave_known}
 use Rattle.bare_stream.proofs.Settles.{no_open_rows, asks_all}
 use Rattle.bare_stream.proofs.NextHeads.{head_faulted, check_faulted}
 use Rattle.bare_stream.proofs.NextOf.{head_opens}
@@ -35,7 +35,8 @@ none_read first = record { first = first; texts = []; blocks = []; ended = None 
 not_true : (b : Bool) → b ≡ false → b ≡ true → ⊥
 not_true b e f = cc
 
-module _ {X : Type 0} (outside : X → Outside) (wish : DecodeWish) (laws : HasLaws wish) (s t : PortIn X) (fresh : waiting s ≡ []) (left : s.left ≡ wish.octets) (whole : s.failed ≡ false) where
+module _ {X : Type 0} (outside : X → Outside) (wish : DecodeWish) (laws : HasLaws wish) (s t : PortIn X) (fresh : waiting s ≡ [])
+    (left : s.left ≡ wish.octets) (whole : s.failed ≡ false) where
   abbrev start : Outside
   start = outside s.port.now
 
@@ -60,11 +61,13 @@ module _ {X : Type 0} (outside : X → Outside) (wish : DecodeWish) (laws : HasL
   before_it-gave first = refl
 
   reaches : (first : SegmentHead) → InForceAfter wish start (none_read first) none_in_force
-  reaches first input told more = refl
+  reaches first input if_known more = refl
 
   -- without a first head
-  pub first_faulted : (after : PartsInForce) (fault : BareFault) → TakesHead (source_of outside) none_in_force 0 (Err fault) s t after → DecodesBare wish start now (Err fault)
-  first_faulted after fault x = head_faulted outside wish laws start (none_read (head_in [])) s t none_in_force after 0 (before_it (head_in [])) refl (reaches (head_in [])) refl fault x
+  pub first_faulted : (after : PartsInForce) (fault : BareFault) → TakesHead (source_of outside) none_in_force 0 (Err fault) s t after →
+      DecodesBare wish start now (Err fault)
+  first_faulted after fault x = head_faulted outside wish laws start (none_read (head_in [])) s t none_in_force after 0 (before_it (head_in [])) refl
+      (reaches (head_in [])) refl fault x
 
   -- ---- with it
 
@@ -72,38 +75,43 @@ module _ {X : Type 0} (outside : X → Outside) (wish : DecodeWish) (laws : HasL
     abbrev r : SegmentsRead
     r = none_read read.head
 
-    abbrev front : List ℕ
-    front = reads.went.gave
+    abbrev prefix : List ℕ
+    prefix = reads.went.gave
 
-    now_read : HasRead outside wish start r front t
+    now_read : HasRead outside wish start r prefix t
     now_read = read_on outside wish start r [] s t (before_it read.head) reads.went
 
     now_gave : now_read.gave ≡ []
     unfolding now_read
     now_gave = read_on-gave outside wish start r [] s t (before_it read.head) reads.went ∙ before_it-gave read.head
 
-    first_told : Told start (λ input. EndsHead (source_of outside) none_in_force (Ok read) front s t after)
-    first_told input told =
-        subst (λ l. EndsHead (source_of outside) none_in_force (Ok read) l s t after) (gave_told outside wish start r [] s t (before_it read.head) reads.went reads.octets reads.came input told) reads.ends
+    first_known : IfKnown start (λ input. EndsHead (source_of outside) none_in_force (Ok read) prefix s t after)
+    first_known input if_known =
+        subst (λ l. EndsHead (source_of outside) none_in_force (Ok read) l s t after)
+        (gave_known outside wish start r [] s t (before_it read.head) reads.went reads.octets reads.came input if_known) reads.ends
 
     pub first_refused : (fault : BareFault) → ChecksHead wish.pixels read.head 0 read.head (Err fault) → DecodesBare wish start now (Err fault)
-    first_refused fault x = check_faulted outside wish laws start r front t none_in_force 0 now_read refl (reaches read.head) refl read.head (λ input told. (first_told input told).0) (λ none. refl) fault x
+    first_refused fault x = check_faulted outside wish laws start r prefix t none_in_force 0 now_read refl (reaches read.head) refl read.head
+        (λ input if_known. (first_known input if_known).0) (λ none. refl) fault x
 
     pub no_memory : DecodesBare wish start now (Err Memory)
     no_memory = record {
       took = now_read.took;
       gave = now_read.gave;
-      since = asks_all wish laws outside start r none_in_force front t now_read (reaches read.head)
-          (λ input told n lt. head_opens laws.heads wish.book wish.pixels (segments_of r none_in_force) refl front (Ok read.head) (first_told input told).0 n lt);
+      since = asks_all wish laws outside start r none_in_force prefix t now_read (reaches read.head)
+          (λ input if_known n lt. head_opens laws.heads wish.book wish.pixels (segments_of r none_in_force) refl prefix (Ok read.head)
+          (first_known input if_known).0
+          n lt);
       within = (let left = now_read.left in omega (arith, left));
       ends = now_gave;
-      answers = λ input told. tt;
+      answers = λ input if_known. tt;
     }
 
-    pub first_reading : (w : Walk) → w.first ≡ read.head → w.parts ≡ after → w.index ≡ 0 → w.pixels ≡ wish.pixels → book_in w ≡ wish.book → IsFresh (shape_with read.head 262144) (picture_state w.picture) → IsReading outside wish start t w read
+    pub first_reading : (w : Walk) → w.first ≡ read.head → w.parts ≡ after → w.index ≡ 0 → w.pixels ≡ wish.pixels → book_in w ≡ wish.book →
+        IsFresh (shape_with read.head 262144) (picture_state w.picture) → IsReading outside wish start t w read
     first_reading w first parts index pixels book new = record {
       r = r;
-      front = front;
+      prefix = prefix;
       before = none_in_force;
       at = record {
         laws = laws;
@@ -114,14 +122,15 @@ module _ {X : Type 0} (outside : X → Outside) (wish : DecodeWish) (laws : HasL
         pixels = pixels;
         book = book;
         shows = record {
-          standing = new.standing;
+          current = new.current;
           geometry = new.geometry;
-          passed = (let row = new.row in let column = new.column in ap (λ n. n * block_count w.picture.geometry.width + w.picture.at.column) row ∙ omega (arith, column));
-          stands = λ numbers are. new.stands numbers;
+          passed = (let row = new.row in let column = new.column in ap (λ n. n * block_count w.picture.geometry.width + w.picture.at.column) row ∙ omega
+              (arith, column));
+          valid = λ numbers are. new.valid numbers;
           given = λ numbers are. now_gave ∙ no_rows w.picture.geometry numbers w.picture.at.next new.next;
         };
       };
-      head = λ input told.
-          let h = first_told input told in
-          record { reaches = reaches read.head input told; head = h.0; size = h.1; force = parts ∙ h.2; starts = λ none. refl };
+      head = λ input if_known.
+          let h = first_known input if_known in
+          record { reaches = reaches read.head input if_known; head = h.0; size = h.1; force = parts ∙ h.2; starts = λ none. refl };
     }

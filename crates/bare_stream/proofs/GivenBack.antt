@@ -1,5 +1,6 @@
 -- The bare stream of an image gives the image back.
-use Rattle.std.proofs.Common.{◌≡◌, ◌<◌, ◌*◌, ℕ, ℤ, List, [], ◌++◌, length, take, nat_lt, if◌then◌else◌, Bool, true, false, refl, sym, ap, subst, ◌∙◌, arith, Option, None, Some, Result, Ok, Err, append-nil}
+use Rattle.std.proofs.Common.{◌≡◌, ◌<◌, ◌*◌, ℕ, ℤ, List, [], ◌++◌, length, take, nat_lt, if◌then◌else◌, Bool, true, false, refl, sym, ap, subst, ◌∙◌, arith}
+use Rattle.std.proofs.Common.{Option, None, Some, Result, Ok, Err, append-nil}
 use Rattle.port_122.specs.Outside.{Outside, Loses, IsUsedUp}
 use Rattle.base_122.specs.declared.book.Book.{Book}
 use Rattle.base_122.specs.declared.geometry.Geometry.{Geometry}
@@ -14,11 +15,12 @@ use Rattle.bare_stream.specs.Images.{IsBareImage, SaysImage, ImagesAreBareStream
 use Rattle.bare_stream.specs.Pictures.{all_rows}
 use Rattle.bare_stream.specs.RoundTrip.{ReadsWhole, StreamsAreRead, GivesImage, AnswersImage, BareRoundTrip}
 use Rattle.bare_stream.specs.StreamRead.{needs_more, stream_in, answer_for}
-use Rattle.bare_stream.proofs.Endings.{left_told}
+use Rattle.bare_stream.proofs.Endings.{left_known}
 use Rattle.bare_stream.proofs.ImagePictures.{picture_is}
 use Rattle.bare_stream.proofs.WholeReads.{within, whole_input, rows_input, same_whole, one_geometry}
 
-module _ (streams : ImagesAreBareStreams) (s : Setting) (x : ℕ → ℕ → ℤ) (is : IsBareImage s x) (wish : DecodeWish) (book : wish.book ≡ s.book) (g : Geometry) (took gave : List ℕ) (why : AnswersBy wish (bare s x) took gave (Ok g)) where
+module _ (streams : ImagesAreBareStreams) (s : Setting) (x : ℕ → ℕ → ℤ) (is : IsBareImage s x) (wish : DecodeWish) (book : wish.book ≡ s.book)
+    (g : Geometry) (took gave : List ℕ) (why : AnswersBy wish (bare s x) took gave (Ok g)) where
   abbrev own : (w : List (List (List ℤ))) × SaysImage s x w
   own = streams.says s x is
 
@@ -44,12 +46,15 @@ module _ (streams : ImagesAreBareStreams) (s : Setting) (x : ℕ → ℕ → ℤ
   read_back = record {
     geometry = geometry;
     same = λ sends.
-        why.rows ∙ rows_input wish (bare s x) g why.answer ∙ ap (all_rows g) (ap (λ l. (stream_in wish.book p l).segments.blocks) (within wish (bare s x) g why.answer) ∙ blocks) ∙ ap (λ h. all_rows h own.0) geometry
+        why.rows ∙ rows_input wish (bare s x) g why.answer
+        ∙ ap (all_rows g) (ap (λ l. (stream_in wish.book p l).segments.blocks) (within wish (bare s x) g why.answer) ∙ blocks)
+        ∙ ap (λ h. all_rows h own.0) geometry
         ∙ ap (all_rows (bare_geometry s)) (own.1.exact sends) ∙ picture_is s x is;
   }
 
 -- what was given of its stream
-module _ (streams : ImagesAreBareStreams) (s : Setting) (x : ℕ → ℕ → ℤ) (is : IsBareImage s x) (gave : List ℕ) (w : List (List (List ℤ))) (says : SaysImage s x w) where
+module _ (streams : ImagesAreBareStreams) (s : Setting) (x : ℕ → ℕ → ℤ) (is : IsBareImage s x) (gave : List ℕ) (w : List (List (List ℤ)))
+    (says : SaysImage s x w) where
   gives_back : (result : Result Geometry BareFault) → ReadsWhole (bare_geometry s) w gave result → AnswersImage s x gave result
   gives_back (Ok g) whole = record { geometry = whole.0; same = λ sends. whole.1 ∙ ap (all_rows (bare_geometry s)) (says.exact sends) ∙ picture_is s x is }
   gives_back (Err LongInput) whole = absurd whole
@@ -60,12 +65,13 @@ module _ (streams : ImagesAreBareStreams) (s : Setting) (x : ℕ → ℕ → ℤ
 pub round_trip : ImagesAreBareStreams → StreamsAreRead → BareRoundTrip
 round_trip streams reads = record {
   picture = λ s x is. picture_is s x is;
-  decoded = λ wish old new g left s x run told all book is.
-      let b = left_told old.rest new.rest left run.took told run.since.rest in
+  decoded = λ wish old new g left s x run if_known all book is.
+      let b = left_known old.rest new.rest left run.took if_known run.since.rest in
       let none : b.0 ≡ [] = subst IsUsedUp b.1 run.ends in
       let whole : left ≡ bare s x = b.2 ∙ ap (λ l. run.took ++ l) none ∙ append-nil run.took ∙ all in
-      read_back streams s x is wish book g run.took run.gave (subst (λ l. AnswersBy wish l run.took run.gave (Ok g)) whole (run.answers left told));
-  answered = λ wish old new result s x run told book is caps.
+      read_back streams s x is wish book g run.took run.gave (subst (λ l. AnswersBy wish l run.took run.gave (Ok g)) whole (run.answers left if_known));
+  answered = λ wish old new result s x run if_known book is caps.
       let says = streams.says s x is in
-      gives_back streams s x is run.gave says.0 says.1 result (reads.read wish old new result (bare s x) (bare_geometry s) says.0 run (subst (λ b. BareStream b (bare s x) (bare_geometry s) says.0) (sym book) says.1.stream) told caps);
+      gives_back streams s x is run.gave says.0 says.1 result (reads.read wish old new result (bare s x) (bare_geometry s) says.0 run
+      (subst (λ b. BareStream b (bare s x) (bare_geometry s) says.0) (sym book) says.1.stream) if_known caps);
 }

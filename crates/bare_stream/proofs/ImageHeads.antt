@@ -1,5 +1,6 @@
 -- The heads of an image's segments agree with the first one.
-use Rattle.std.proofs.Common.{◌≡◌, ◌≤◌, ◌<◌, ◌+◌, ◌-◌, ◌*◌, ◌%◌, ◌==◌, max, ℕ, ℤ, Bool, true, false, List, length, refl, sym, ap, ◌∙◌, arith, nat_le, nat_lt, ◌&&◌, ◌||◌, if◌then◌else◌, mul-le-mul_left}
+use Rattle.std.proofs.Common.{◌≡◌, ◌≤◌, ◌<◌, ◌+◌, ◌-◌, ◌*◌, ◌%◌, ◌==◌, max, ℕ, ℤ, Bool, true, false, List, length, refl, sym, ap, ◌∙◌, arith, nat_le}
+use Rattle.std.proofs.Common.{nat_lt, ◌&&◌, ◌||◌, if◌then◌else◌, mul-le-mul_left}
 use Rattle.std.specs.Int.{div_ceil}
 use Rattle.std.proofs.lemmas.Grind.{div_ceil_times}
 use Rattle.std.proofs.lemmas.Bool.Decides.{nat_tests}
@@ -64,7 +65,8 @@ module _ (s : Setting) (x : ℕ → ℕ → ℤ) (range : IsInRange s) (height :
   -- ---- the number of blocks
 
   blocks_are : (index : ℕ) → index < n → blocks_agree (head 0) (head index) ≡ true
-  blocks_are index lt = and_from _ _ (by (index + 1 == n) refl) (ap (λ k. nat_le 16 k || (0 + 1 == n)) (sized 0) ∙ least_first total s.segment range.segment.0 any)
+  blocks_are index lt = and_from _ _ (by (index + 1 == n) refl) (ap (λ k. nat_le 16 k || (0 + 1 == n)) (sized 0) ∙ least_first total s.segment
+      range.segment.0 any)
     where
       by : (b : Bool) → (index + 1 == n) ≡ b → (if b then nat_le 1 (size index) && nat_le (size index) (size 0) else size index == size 0) ≡ true
       by b e = grind (arith, nat_tests, and_from, le-leb, some, few, eq-eqb, whole)
@@ -84,7 +86,8 @@ module _ (s : Setting) (x : ℕ → ℕ → ℤ) (range : IsInRange s) (height :
   last_are index lt = by (index + 1 == n) refl
     where
       by : (b : Bool) → (index + 1 == n) ≡ b →
-          (if b then ((blocks_before (head 0) index + size index) % c == 0) && is_within rows_range (height_at (head 0) index (head index)) else nat_lt (blocks_before (head 0) index + size 0) (32768 * c)) ≡ true
+          (if b then ((blocks_before (head 0) index + size index) % c == 0) && is_within rows_range (height_at (head 0) index (head index)) else nat_lt
+          (blocks_before (head 0) index + size 0) (32768 * c)) ≡ true
       by true e =
           let last : index + 1 ≡ n = grind (arith, nat_tests) in
           let rest : (index * size 0 + size index) % c ≡ 0 = ap (λ k. k % c) (ended index last ∙ rows_total) ∙ mod-mul-add r c 0 some_columns in

@@ -44,7 +44,8 @@ module _ (s : Setting) (x : ℕ → ℕ → ℤ) (is : IsBareImage s x) where
       let there : get_or (image_segments s x) index [] ≡ segment_of s all index =
       get_or-map-range_with_len (segment_of s all) 0 (segments_of s) index index [] (segment_within total S some any b lt) (omega arith) in
       let in_segment : get_or (segment_of s all index) k [] ≡ get_or all b [] =
-      get_or-take S (drop (first_block S index) all) k [] (place_within total S some any b) ∙ get_or-drop (index * S) all k [] ∙ ap (λ n. get_or all n []) (place_is total S some any b lt) in
+      get_or-take S (drop (first_block S index) all) k [] (place_within total S some any b) ∙ get_or-drop (index * S) all k [] ∙ ap (λ n. get_or all n [])
+      (place_is total S some any b lt) in
       number_is g (image_segments s x) b i ∙ ap (λ xs. get_or (get_or xs k []) i (pos 0)) there ∙ ap (λ xs. get_or xs i (pos 0)) in_segment
 
   pixel_same : (i j : ℕ) → i < s.rows → j < s.width → whole_with g numbers i j ≡ x i j

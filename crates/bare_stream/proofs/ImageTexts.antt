@@ -1,5 +1,6 @@
 -- The octets that are written for an image are a bare stream.
-use Rattle.std.proofs.Common.{◌≡◌, ◌≤◌, ◌<◌, ◌+◌, ◌*◌, ◌%◌, ◌==◌, ◌⊎◌, ℕ, zero, suc, ℤ, List, [], ◌∷◌, ◌++◌, length, map, true, false, if◌then◌else◌, refl, sym, ap, subst, ◌∙◌, inl, inr, arith, append_assoc, length-append, Option, None, Some, Ok, unwrap_or}
+use Rattle.std.proofs.Common.{◌≡◌, ◌≤◌, ◌<◌, ◌+◌, ◌*◌, ◌%◌, ◌==◌, ◌⊎◌, ℕ, zero, suc, ℤ, List, [], ◌∷◌, ◌++◌, length, map, true, false, if◌then◌else◌, refl}
+use Rattle.std.proofs.Common.{sym, ap, subst, ◌∙◌, inl, inr, arith, append_assoc, length-append, Option, None, Some, Ok, unwrap_or}
 use Rattle.std.specs.List.{range_with_len, flat_map}
 use Rattle.std.proofs.lemmas.Bool.{cases_lt}
 use Rattle.std.proofs.lemmas.Bool.Decides.{nat_tests}
@@ -49,7 +50,8 @@ first_here : (head : ℕ → SegmentHead) (index : ℕ) → unwrap_or (first_bef
 first_here head zero = refl
 first_here head (suc index) = refl
 
-module _ (hold : BareTextsHold) (undo : BareHeadsUndo) (heads : BareHeadsEndThere) (texts : TextsEndThere) (s : Setting) (x : ℕ → ℕ → ℤ) (is : IsBareImage s x) where
+module _ (hold : BareTextsHold) (undo : BareHeadsUndo) (heads : BareHeadsEndThere) (texts : TextsEndThere) (s : Setting) (x : ℕ → ℕ → ℤ)
+    (is : IsBareImage s x) where
   abbrev all : List (List ℤ)
   all = image_blocks s x
 
@@ -77,7 +79,8 @@ module _ (hold : BareTextsHold) (undo : BareHeadsUndo) (heads : BareHeadsEndTher
   fits index lt = head_fits s x is.setting.in_range rows is.pixels index lt
 
   held : (index : ℕ) → index < n → HoldsText s.book (head_before s all index) (head index) (segment_of s all index)
-  held index lt = hold s.book is.sound (head_before s all index) (head index) (segment_of s all index) (fits index lt) is.weights (spells s x is.setting.in_range rows is.pixels index lt) refl
+  held index lt = hold s.book is.sound (head_before s all index) (head index) (segment_of s all index) (fits index lt) is.weights
+      (spells s x is.setting.in_range rows is.pixels index lt) refl
 
   count_small : (index : ℕ) → index % 256 < 256
   count_small index = omega arith
@@ -136,30 +139,33 @@ module _ (hold : BareTextsHold) (undo : BareHeadsUndo) (heads : BareHeadsEndTher
 
   -- what holds of the first head and the index
   moved : (P : SegmentHead → ℕ → Type 0) (index : ℕ) → P (head 0) index → P (unwrap_or (first_before (head 0) index) (head index)) (length (blocks_of index))
-  moved P index p = subst (λ k. P (unwrap_or (first_before (head 0) index) (head index)) k) (sym (count_is index)) (subst (λ h. P h index) (sym (first_here head index)) p)
+  moved P index p = subst (λ k. P (unwrap_or (first_before (head 0) index) (head index)) k) (sym (count_is index))
+      (subst (λ h. P h index) (sym (first_here head index)) p)
 
-  next_is : (index : ℕ) (more : List ℕ) → index < n → next_in s.book pixels (those index) (text index ++ more) ≡ next_text_is (head index) (length (text index)) (blocks index)
+  next_is : (index : ℕ) (more : List ℕ) → index < n → next_in s.book pixels (those index) (text index ++ more) ≡ next_text_is (head index)
+      (length (text index)) (blocks index)
   next_is index more lt =
       let t = text_is index lt in
-      let front = bare_head (head_before s all index) (head index) in
+      let prefix = bare_head (head_before s all index) (head index) in
       let decides = undo.read (head_before s all index) (head index) (fits index lt) (count_small index) is.weights in
       let agrees = moved (λ h k. AgreesWith h k (head index)) index (agree index lt) in
-      let few = moved (λ h k. pixels_at h k (head index) ≤ pixels) index (few_pixels s x is.setting.in_range rows (length-segment s x is.setting.in_range rows is.pixels) index lt) in
+      let few = moved (λ h k. pixels_at h k (head index) ≤ pixels) index
+      (few_pixels s x is.setting.in_range rows (length-segment s x is.setting.in_range rows is.pixels) index lt) in
       let here : next_in s.book pixels (those index) (text index) ≡ next_text_is (head index) (length (text index)) (blocks index) =
       ap (next_in s.book pixels (those index)) t.octets
-      ∙ next_text heads s.book pixels (those index) refl front (head index) decides agrees few t.rest t.part (blocks index) t.decides
-      ∙ ap (λ k. next_text_is (head index) k (blocks index)) (sym (length-append front t.rest) ∙ sym (ap length t.octets)) in
+      ∙ next_text heads s.book pixels (those index) refl prefix (head index) decides agrees few t.rest t.part (blocks index) t.decides
+      ∙ ap (λ k. next_text_is (head index) k (blocks index)) (sym (length-append prefix t.rest) ∙ sym (ap length t.octets)) in
       text_stays heads texts s.book is.sound pixels (those index) (text index) more (head index) (length (text index)) (blocks index) here
 
   -- one segment more
   parts_are : (index : ℕ) (more : List ℕ) → index < n → parts_after (force index) (text index ++ more) ≡ force (index + 1)
   parts_are index more lt =
       let t = text_is index lt in
-      let front = bare_head (head_before s all index) (head index) in
+      let prefix = bare_head (head_before s all index) (head index) in
       let decides = undo.read (head_before s all index) (head index) (fits index lt) (count_small index) is.weights in
-      let there = heads (force index) front (record { result = Ok (head index); octets = length front }) decides in
+      let there = heads (force index) prefix (record { result = Ok (head index); octets = length prefix }) decides in
       let next : suc index ≡ index + 1 = omega arith in
-      ap (λ l. parts_after (force index) (l ++ more)) t.octets ∙ ap (parts_after (force index)) (append_assoc front t.rest more)
+      ap (λ l. parts_after (force index) (l ++ more)) t.octets ∙ ap (parts_after (force index)) (append_assoc prefix t.rest more)
       ∙ there.force (head index) refl (t.rest ++ more)
       ∙ undo.force (head_before s all index) (head index) (fits index lt) (count_small index) is.weights
       ∙ ap force next
@@ -178,8 +184,10 @@ module _ (hold : BareTextsHold) (undo : BareHeadsUndo) (heads : BareHeadsEndTher
       moved (λ h k. (if (head index).last then Some (geometry_at h k (head index)) else None) ≡ ended) index e in
       ap (λ o. made o parts list (if (head index).last then Some (geometry_at first (length (blocks_of index)) (head index)) else None) size)
       (ap (λ h. Some h) (first_here head index) ∙ ap (first_before (head 0)) next)
-      ∙ ap (λ p. made (first_before (head 0) (index + 1)) p list (if (head index).last then Some (geometry_at first (length (blocks_of index)) (head index)) else None) size) (parts_are index more lt)
-      ∙ ap (λ l. made (first_before (head 0) (index + 1)) (force (index + 1)) l (if (head index).last then Some (geometry_at first (length (blocks_of index)) (head index)) else None) size)
+      ∙ ap (λ p. made (first_before (head 0) (index + 1)) p list (if (head index).last then Some (geometry_at first (length (blocks_of index)) (head index))
+      else None) size) (parts_are index more lt)
+      ∙ ap (λ l. made (first_before (head 0) (index + 1)) (force (index + 1)) l
+      (if (head index).last then Some (geometry_at first (length (blocks_of index)) (head index)) else None) size)
       (sym (map-range_with_len_more blocks 0 index index (omega arith)))
       ∙ ap (λ o. made (first_before (head 0) (index + 1)) (force (index + 1)) (blocks_of (index + 1)) o size) end
       ∙ ap (made (first_before (head 0) (index + 1)) (force (index + 1)) (blocks_of (index + 1)) ended)
@@ -197,8 +205,10 @@ module _ (hold : BareTextsHold) (undo : BareHeadsUndo) (heads : BareHeadsEndTher
       let geometry = geometry_is s x is.setting.in_range rows (length-segment s x is.setting.in_range rows is.pixels) index last in
       let ended = ap (λ b. if b then Some (geometry_at (head 0) index (head index)) else None) flag ∙ ap (λ h. Some h) (sym geometry) in
       read_text heads texts s.book is.sound pixels (those index) (text index ++ []) (head index) (length (text index)) (blocks index) (next_is index [] lt)
-      ∙ ap (read_on s.book pixels (with_text (those index) (head index) (length (text index)) (blocks index) (text index ++ []))) (drop_at (text index) [] (length (text index)) refl)
-      ∙ ap (λ z. read_on s.book pixels z []) (with_one index [] (Some g) lt ended ∙ ap (λ k. made (first_before (head 0) k) (force k) (blocks_of k) (Some g) (length (first_texts s all k))) last)
+      ∙ ap (read_on s.book pixels (with_text (those index) (head index) (length (text index)) (blocks index) (text index ++ [])))
+      (drop_at (text index) [] (length (text index)) refl)
+      ∙ ap (λ z. read_on s.book pixels z []) (with_one index [] (Some g) lt ended ∙ ap (λ k. made (first_before (head 0) k) (force k) (blocks_of k) (Some g)
+      (length (first_texts s all k))) last)
       ∙ read_ends heads texts s.book is.sound pixels all_of_them [] (needs_more (Ok g)) refl
   read_from index (suc more) e =
       let lt : index < n = omega (arith, e) in
@@ -206,7 +216,8 @@ module _ (hold : BareTextsHold) (undo : BareHeadsUndo) (heads : BareHeadsEndTher
       let ended = ap (λ b. if b then Some (geometry_at (head 0) index (head index)) else None) flag in
       let rest = texts_of (index + 1) (suc more) in
       read_text heads texts s.book is.sound pixels (those index) (text index ++ rest) (head index) (length (text index)) (blocks index) (next_is index rest lt)
-      ∙ ap (read_on s.book pixels (with_text (those index) (head index) (length (text index)) (blocks index) (text index ++ rest))) (drop_at (text index) rest (length (text index)) refl)
+      ∙ ap (read_on s.book pixels (with_text (those index) (head index) (length (text index)) (blocks index) (text index ++ rest)))
+      (drop_at (text index) rest (length (text index)) refl)
       ∙ ap (λ z. read_on s.book pixels z rest) (with_one index rest None lt ended)
       ∙ read_from (index + 1) more (omega (arith, e))
 
@@ -240,6 +251,8 @@ pub images_are_streams : BareTextsHold → BareHeadsUndo → BareHeadsEndThere �
 images_are_streams hold undo heads texts ends = record {
   says = λ s x is. blocks_there hold undo heads texts s x is;
   only = λ s x g w is other.
-      let mine = blocks_there hold undo heads texts s x is in
-      (ends.geometry s.book (bare s x) g (bare_geometry s) w mine.0 other mine.1.stream, subst (SaysImage s x) (sym (ends.blocks s.book (bare s x) g (bare_geometry s) w mine.0 other mine.1.stream)) mine.1);
+      let mine = blocks_there hold undo heads texts s x is in (
+        ends.geometry s.book (bare s x) g (bare_geometry s) w mine.0 other mine.1.stream,
+        subst (SaysImage s x) (sym (ends.blocks s.book (bare s x) g (bare_geometry s) w mine.0 other mine.1.stream)) mine.1,
+      );
 }

@@ -1,5 +1,6 @@
 -- How an input ends.
-use Rattle.std.proofs.Common.{◌≡◌, ◌≤◌, ◌<◌, ◌+◌, ◌-◌, ◌^◌, min, ℕ, List, [], ◌∷◌, ◌++◌, length, take, drop, refl, ap, arith, nat_lt, Bool, true, false, if◌then◌else◌, Option, None, Some, length-take}
+use Rattle.std.proofs.Common.{◌≡◌, ◌≤◌, ◌<◌, ◌+◌, ◌-◌, ◌^◌, min, ℕ, List, [], ◌∷◌, ◌++◌, length, take, drop, refl, ap, arith, nat_lt, Bool, true, false}
+use Rattle.std.proofs.Common.{if◌then◌else◌, Option, None, Some, length-take}
 use Rattle.std.proofs.lemmas.Bool.Decides.{nat_tests}
 use Rattle.port_122.specs.Outside.{IsUsedUp}
 use Rattle.bit_pipe.specs.Sinks.{Rose}
@@ -22,9 +23,9 @@ is_plain b e = grind (arith, nat_tests)
 is_long : (b : Bool) → IsEnd (if b then Plainly else TooLong) TooLong → b ≡ false
 is_long b e = grind (arith, nat_tests)
 
-no_front : (a b : List ℕ) → a ++ b ≡ [] → a ≡ []
-no_front [] b e = refl
-no_front (x ∷ a) b e = absurd cc
+no_prefix : (a b : List ℕ) → a ++ b ≡ [] → a ≡ []
+no_prefix [] b e = refl
+no_prefix (x ∷ a) b e = absurd cc
 
 no_rest : (a b : List ℕ) → a ++ b ≡ [] → b ≡ []
 no_rest [] b e = e
@@ -40,27 +41,32 @@ pub record EndsPlain (left : ℕ) (o : Option (List ℕ)) (waits : List ℕ) : T
   pub some : 0 < left
 
 pub ends_plain : (o : Option (List ℕ)) (waits all : List ℕ) (left : ℕ) → o ≡ Some all → IsOver (tail_with o waits left) Plainly → EndsPlain left o waits
-ends_plain None waits all left told over = absurd cc
-ends_plain (Some rest) waits all left told over =
+ends_plain None waits all left if_known over = absurd cc
+ends_plain (Some rest) waits all left if_known over =
     let low : nat_lt (length rest) left ≡ true = is_plain (nat_lt (length rest) left) over.1 in
     let below : length rest < left = grind (arith, nat_tests) in
-    record { none = no_front waits (take left rest) over.0; end = none_taken left rest below (no_rest waits (take left rest) over.0); some = omega (arith, below) }
+    record {
+      none = no_prefix waits (take left rest) over.0;
+      end = none_taken left rest below (no_rest waits (take left rest) over.0);
+      some =
+          omega (arith, below);
+    }
 
 -- the input is longer than the cap
 pub ends_long : (o : Option (List ℕ)) (waits all : List ℕ) (left : ℕ) → o ≡ Some all → IsOver (tail_with o waits left) TooLong → (waits ≡ []) × (left ≡ 0)
-ends_long None waits all left told over = absurd cc
-ends_long (Some rest) waits all left told over =
+ends_long None waits all left if_known over = absurd cc
+ends_long (Some rest) waits all left if_known over =
     let high : nat_lt (length rest) left ≡ false = is_long (nat_lt (length rest) left) over.1 in
     let above : left ≤ length rest = grind (arith, nat_tests) in
     let none = ap length (no_rest waits (take left rest) over.0) in
     let size = length-take left rest in (
-      no_front waits (take left rest) over.0,
+      no_prefix waits (take left rest) over.0,
       omega (arith, above, none, size),
     )
 
 -- an input of a port doesn't break
 pub not_broken : (o : Option (List ℕ)) (waits all : List ℕ) (left : ℕ) → o ≡ Some all → IsOver (tail_with o waits left) InPieces → ⊥
-not_broken o waits all left told over = grind (arith, nat_tests, plainly_or_long)
+not_broken o waits all left if_known over = grind (arith, nat_tests, plainly_or_long)
 
 -- ---- a fault
 

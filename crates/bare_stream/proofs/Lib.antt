@@ -4,7 +4,7 @@ mod Counts
 mod Pushes
 mod Puts
 mod Presents
-mod Comes
+mod Arrives
 mod Runs
 mod InputSteps
 mod ReadsOn

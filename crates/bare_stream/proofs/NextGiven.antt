@@ -1,5 +1,6 @@
 -- The next segment, of which the text was read, is given to the picture.
-use Rattle.std.proofs.Common.{◌≡◌, ◌≤◌, ◌<◌, ◌+◌, ◌*◌, ◌^◌, ℕ, ℤ, List, [], ◌∷◌, ◌++◌, length, take, refl, sym, ap, ◌∙◌, subst, arith, length-append, if◌then◌else◌, Option, None, Some, Err, false, mul-le-mul_left}
+use Rattle.std.proofs.Common.{◌≡◌, ◌≤◌, ◌<◌, ◌+◌, ◌*◌, ◌^◌, ℕ, ℤ, List, [], ◌∷◌, ◌++◌, length, take, refl, sym, ap, ◌∙◌, subst, arith, length-append}
+use Rattle.std.proofs.Common.{if◌then◌else◌, Option, None, Some, Err, false, mul-le-mul_left}
 use Rattle.std.specs.List.{concat}
 use Rattle.std.proofs.lemmas.Bool.Decides.{nat_tests}
 use Rattle.std.proofs.lemmas.List.{length_push, take_at}
@@ -24,7 +25,7 @@ use Rattle.bare_stream.specs.Blocks.{AreParts, HasNextBlocks, HasPutBlocks}
 use Rattle.bare_stream.specs.Input.{waiting}
 use Rattle.bare_stream.specs.Pictures.{geometry_at, open_geometry, segments_in, shape_with}
 use Rattle.bare_stream.specs.StreamRead.{text as next_is, next_in}
-use Rattle.bare_stream.specs.Decoded.{Told, DecodesBare}
+use Rattle.bare_stream.specs.Decoded.{IfKnown, DecodesBare}
 use Rattle.bare_stream.specs.Reads.{HasLaws, SegmentsRead, HasRead, InForceAfter, ShowsRead, AreNumbersOf, rows_read, segments_of, size_of}
 use Rattle.bare_stream.specs.Walks.{IsSound, IsNext, IsAt, IsHeadOf, IsNextText, book_in}
 use Rattle.bare_stream.proofs.Agrees.{Continues, goes_on, same_weights}
@@ -37,11 +38,14 @@ use Rattle.bare_stream.proofs.WholeGiven.{whole_read, whole_read-gave, whole_sho
 
 -- ---- a write failed
 
-module _ (wish : DecodeWish) (laws : HasLaws wish) {X : Type 0} (outside : X → Outside) (start : Outside) (r : SegmentsRead) (before after : PartsInForce) (head : SegmentHead) (text more : List ℕ) (w : List (List ℤ)) (t u : PortIn X)
+module _ (wish : DecodeWish) (laws : HasLaws wish) {X : Type 0} (outside : X → Outside) (start : Outside) (r : SegmentsRead) (before after : PartsInForce)
+    (head : SegmentHead) (text more : List ℕ) (w : List (List ℤ)) (t u : PortIn X)
     (read : HasRead outside wish start r text t) (reaches : InForceAfter wish start r before)
-    (next : Told start (λ input. next_in wish.book wish.pixels (segments_of r before) text ≡ next_is head (length text) w))
-    (waits : waiting u ≡ waiting t) (left : u.left ≡ t.left) (failed : u.failed ≡ t.failed) (out : Exchange (outside t.port.now) (outside u.port.now) [] more [] NoRead)
-    (rose : Rose (outside t.port.now).write_faults (outside u.port.now).write_faults) (ended : Option Geometry) (later : InForceAfter wish start (with_more r text w ended) after) where
+    (next : IfKnown start (λ input. next_in wish.book wish.pixels (segments_of r before) text ≡ next_is head (length text) w))
+    (waits : waiting u ≡ waiting t) (left : u.left ≡ t.left) (failed : u.failed ≡ t.failed)
+    (out : Exchange (outside t.port.now) (outside u.port.now) [] more [] NoRead)
+    (rose : Rose (outside t.port.now).write_faults (outside u.port.now).write_faults) (ended : Option Geometry)
+    (later : InForceAfter wish start (with_more r text w ended) after) where
   abbrev r' : SegmentsRead
   r' = with_more r text w ended
 
@@ -50,14 +54,17 @@ module _ (wish : DecodeWish) (laws : HasLaws wish) {X : Type 0} (outside : X →
   broken_off some rows = record {
     took = read.took;
     gave = read.gave ++ more;
-    since = asks_given wish laws outside start r before text t read reaches (text_opens wish laws outside start r before head text more w t u read reaches next waits left failed out) u more out;
+    since = asks_given wish laws outside start r before text t read reaches (text_opens wish laws outside start r before head text more w t u read reaches
+        next waits left failed out) u more out;
     within = (let n = read.left in omega (arith, n));
     ends = rose_since read.since.faults.writes rose;
-    answers = λ input told.
+    answers = λ input if_known.
         let octets = octets_all wish laws outside start r before head text more w t u read reaches next waits left failed out ended in
-        let at : take (size_of r') read.took ≡ concat r'.texts = ap (take (size_of r')) octets ∙ take_at (concat r'.texts) ([] ++ waiting u) (size_of r') refl in
+        let at : take (size_of r') read.took ≡ concat r'.texts = ap (take (size_of r')) octets ∙ take_at (concat r'.texts) ([] ++ waiting u) (size_of r')
+        refl in
         let same = length_push r.texts text ∙ ap (λ n. n + 1) read.same ∙ sym (length_push r.blocks w) in
-        let opened = open_none wish laws r' after (λ none. absurd (not_none r.texts none)) same (later input told) (take (size_of r') read.took) (rows_read r') at refl in
+        let opened = open_none wish laws r' after (λ none. absurd (not_none r.texts none)) same (later input if_known) (take (size_of r') read.took)
+        (rows_read r') at refl in
         (size_of r', some, rows ∙ ap (take some) opened.rows);
   }
     where
@@ -75,8 +82,10 @@ module _ (w : Walk) (read : BareHead) (sound : IsSound w) (next : IsNext w read)
   pub total_in-is : total_in (picture_state w.picture) ≡ 32768 * block_count w.first.image.width
   total_in-is = ap (λ (g : Geometry). total_blocks g.width g.rows) sound.geometry ∙ total_is w.first.image.width
 
-  pub weights_are : (cells : List ℤ) → AreParts cells read.head.blocks read.head.image.weights.shifts → AreParts cells read.head.blocks w.picture.geometry.weights.shifts
-  weights_are cells parts = subst (AreParts cells read.head.blocks) (same_weights w.first w.index read.head next.agrees ∙ sym (ap (λ (g : Geometry). g.weights.shifts) sound.geometry)) parts
+  pub weights_are : (cells : List ℤ) → AreParts cells read.head.blocks read.head.image.weights.shifts →
+      AreParts cells read.head.blocks w.picture.geometry.weights.shifts
+  weights_are cells parts = subst (AreParts cells read.head.blocks)
+      (same_weights w.first w.index read.head next.agrees ∙ sym (ap (λ (g : Geometry). g.weights.shifts) sound.geometry)) parts
 
   -- there is room for its blocks
   pub cells_long : read.head.blocks ≤ w.first.blocks → 64 * read.head.blocks ≤ length w.room.blocks.items
@@ -103,25 +112,29 @@ module _ (w : Walk) (read : BareHead) (sound : IsSound w) (next : IsNext w read)
         let wide = sound.first.image.width.1 in
         omega (arith, room, some, least, wide)
 
-    pub next_sound : {a b : Outside} (cells : List ℤ) (z : Walk) → z.first ≡ w.first → z.index ≡ w.index + 1 → z.room ≡ w.room → HasPutBlocks cells read.head.blocks a b (picture_state w.picture) (picture_state z.picture) → IsSound z
+    pub next_sound : {a b : Outside} (cells : List ℤ) (z : Walk) → z.first ≡ w.first → z.index ≡ w.index + 1 → z.room ≡ w.room →
+        HasPutBlocks cells read.head.blocks a b (picture_state w.picture) (picture_state z.picture) → IsSound z
     next_sound cells z first index room put =
         let more : (w.index + 1) * w.first.blocks ≡ w.index * w.first.blocks + w.first.blocks = grind arith in
         let total = total_is w.first.image.width in
         let below = on.room in
-        let passed : passed_in (picture_state z.picture) ≡ first_block w.first.blocks (w.index + 1) = (let c = put.count in omega (arith, c, sound.passed, next_size, more)) in
+        let passed : passed_in (picture_state z.picture) ≡ first_block w.first.blocks (w.index + 1) =
+        (let c = put.count in omega (arith, c, sound.passed, next_size, more)) in
         let left : first_block w.first.blocks (w.index + 1) < total_blocks w.first.image.width 262144 = omega (arith, more, total, below) in
         record {
           first = subst (λ h. IsHead h) (sym first) sound.first;
           ten = ap (λ (h : SegmentHead). length h.image.weights.shifts) first ∙ sound.ten;
           room = rw (first, room) sound.room;
-          standing = put.standing;
+          current = put.current;
           geometry = put.geometry ∙ sound.geometry ∙ sym (ap (λ h. shape_with h 262144) first);
           passed = rw (first, index) passed;
           left = rw (first, index) left;
         }
 
-  module _ {X : Type 0} (outside : X → Outside) (wish : DecodeWish) (start : Outside) (r : SegmentsRead) (front text : List ℕ) (before : PartsInForce) (t u : PortIn X) (at : IsAt outside wish start r text t w)
-      (head : Told start (λ input. IsHeadOf wish r before w.parts front read)) (is_next : Told start (λ input. IsNextText wish r before w text read)) (going : read.head.last ≡ false)
+  module _ {X : Type 0} (outside : X → Outside) (wish : DecodeWish) (start : Outside) (r : SegmentsRead) (prefix text : List ℕ) (before : PartsInForce)
+      (t u : PortIn X) (at : IsAt outside wish start r text t w)
+      (head : IfKnown start (λ input. IsHeadOf wish r before w.parts prefix read)) (is_next : IfKnown start (λ input. IsNextText wish r before w text read))
+      (going : read.head.last ≡ false)
       (waits : waiting u ≡ waiting t) (left : u.left ≡ t.left) (failed : u.failed ≡ t.failed) where
     abbrev pub cells : List ℤ
     cells = w.room.blocks.items
@@ -136,15 +149,15 @@ module _ (w : Walk) (read : BareHead) (sound : IsSound w) (next : IsNext w read)
     size_is = next_size going ∙ sym (ap (λ (h : SegmentHead). h.blocks) at.first)
 
     reaches : InForceAfter wish start r before
-    reaches input told = (head input told).reaches
+    reaches input if_known = (head input if_known).reaches
 
-    next_told : Told start (λ input. next_in wish.book wish.pixels (segments_of r before) text ≡ next_is read.head (length text) held)
-    next_told input told = (is_next input told).next
+    next_known : IfKnown start (λ input. next_in wish.book wish.pixels (segments_of r before) text ≡ next_is read.head (length text) held)
+    next_known input if_known = (is_next input if_known).next
 
     pub force_next : InForceAfter wish start more w.parts
-    force_next input told =
-        let h = head input told in
-        let n = is_next input told in
+    force_next input if_known =
+        let h = head input if_known in
+        let n = is_next input if_known in
         reaches_more wish at.laws r before w.parts read.head text held None h.reaches n.next n.force (first_is r.first r.texts read.head h.starts)
         (ap (λ b. if b then Some (geometry_at r.first (length r.blocks) read.head) else None) going)
 
@@ -160,24 +173,32 @@ module _ (w : Walk) (read : BareHead) (sound : IsSound w) (next : IsNext w read)
     some : 1 ≤ r.first.blocks
     some = rw at.first sound.first.blocks.0
 
-    pub next_at : (z : Walk) → HasPutBlocks cells read.head.blocks (outside t.port.now) (outside u.port.now) (picture_state w.picture) (picture_state z.picture) → z.first ≡ w.first → z.index ≡ w.index + 1 → z.pixels ≡ w.pixels → book_in z ≡ book_in w → IsAt outside wish start more [] u z
+    pub next_at : (z : Walk) → HasPutBlocks cells read.head.blocks (outside t.port.now) (outside u.port.now) (picture_state w.picture)
+        (picture_state z.picture) → z.first ≡ w.first → z.index ≡ w.index + 1 → z.pixels ≡ w.pixels → book_in z ≡ book_in w →
+        IsAt outside wish start more [] u z
     next_at z put first index pixels book =
-        let put' = subst (λ n. HasPutBlocks cells n (outside t.port.now) (outside u.port.now) (picture_state w.picture) (picture_state z.picture)) size_is put in
+        let put' = subst (λ n. HasPutBlocks cells n (outside t.port.now) (outside u.port.now) (picture_state w.picture) (picture_state z.picture)) size_is
+        put in
         let is : held ≡ blocks_in (take (64 * r.first.blocks) cells) = ap (λ n. blocks_in (take (64 * n) cells)) size_is in
         record {
           laws = at.laws;
-          read = whole_read wish at.laws outside start r before read.head text held cells t u at.read reaches next_told w z at.shows waits left failed put' wide some long is room_is;
+          read = whole_read wish at.laws outside start r before read.head text held cells t u at.read reaches next_known w z at.shows waits left failed put'
+              wide some long is room_is;
           going = refl;
           first = at.first ∙ sym first;
           index = index ∙ ap (λ n. n + 1) at.index ∙ sym (length-append r.texts (text ∷ []));
           pixels = pixels ∙ at.pixels;
           book = book ∙ at.book;
           shows = subst (λ l. ShowsRead (shape_with r.first 262144) more l (picture_state z.picture))
-              (sym (whole_read-gave wish at.laws outside start r before read.head text held cells t u at.read reaches next_told w z at.shows waits left failed put' wide some long is room_is))
-              (whole_shown wish at.laws outside start r before read.head text held cells t u at.read reaches next_told w z at.shows waits left failed put' wide some long is room_is);
+              (sym (whole_read-gave wish at.laws outside start r before read.head text held cells t u at.read reaches next_known w z at.shows waits left
+              failed put' wide some long is room_is))
+              (whole_shown wish at.laws outside start r before read.head text held cells t u at.read reaches next_known w z at.shows waits left failed put'
+              wide some long is room_is);
         }
 
-    pub next_broken : (broken : StopsEarly (HasNextBlocks cells read.head.blocks (picture_state w.picture)) (block_rows_before w.picture.geometry (passed_in (picture_state w.picture) + read.head.blocks)) (outside t.port.now) (outside u.port.now) (picture_state w.picture)) →
+    pub next_broken : (broken : StopsEarly (HasNextBlocks cells read.head.blocks (picture_state w.picture))
+        (block_rows_before w.picture.geometry (passed_in (picture_state w.picture) + read.head.blocks)) (outside t.port.now) (outside u.port.now)
+        (picture_state w.picture)) →
         DecodesBare wish start (outside u.port.now) (Err WriteFault)
     next_broken broken =
         let numbers = number_at (open_geometry r.first) (segments_in (r.blocks ++ held ∷ [])) in
@@ -187,7 +208,9 @@ module _ (w : Walk) (read : BareHead) (sound : IsSound w) (next : IsNext w read)
         let n = first_block r.first.blocks (length (r.blocks ++ held ∷ [])) in
         let n_is : n ≡ length r.blocks * r.first.blocks + r.first.blocks = ap (λ k. k * r.first.blocks) count ∙ all in
         let passed : passed_in (picture_state w.picture) + read.head.blocks ≡ n = (let p = at.shows.passed in omega (arith, p, size_is, n_is)) in
-        let rows = rows_broken (shape_with r.first 262144) r text held None at.read.gave cells read.head.blocks (picture_state w.picture) at.shows (next_long going) some (omega (arith, size_is)) refl numbers n passed own broken in
+        let rows = rows_broken (shape_with r.first 262144) r text held None at.read.gave cells read.head.blocks (picture_state w.picture) at.shows
+        (next_long going) some (omega (arith, size_is)) refl numbers n passed own broken in
         let room : n < total_blocks r.first.image.width 262144 = (let b = room_is in omega (arith, b, n_is)) in
-        broken_off wish at.laws outside start r before w.parts read.head text broken.gave held t u at.read reaches next_told waits left failed broken.out broken.rose None force_next rows.0
+        broken_off wish at.laws outside start r before w.parts read.head text broken.gave held t u at.read reaches next_known waits left failed broken.out
+        broken.rose None force_next rows.0
         (rows.1 ∙ ap (take rows.0) (rows_open r.first (r.blocks ++ held ∷ []) wide room))

@@ -1,5 +1,7 @@
 -- What octets after some segments begin with stays so, if more octets follow.
-use Rattle.std.proofs.Common.{◌≡◌, ◌⊎◌, ◌≤◌, ◌<◌, ◌+◌, ◌-◌, ℕ, ℤ, true, false, Bool, nat_lt, if◌then◌else◌, inl, inr, List, [], ◌∷◌, ◌++◌, length, take, drop, refl, sym, ap, ◌∙◌, subst, arith, length-append, Option, None, Some, Result, Ok, Err, unwrap_or, length-take-le, length-drop}
+use Rattle.std.proofs.Common.{◌≡◌, ◌⊎◌, ◌≤◌, ◌<◌, ◌+◌, ◌-◌, ℕ, ℤ, true, false, Bool, nat_lt, if◌then◌else◌, inl, inr, List, [], ◌∷◌, ◌++◌, length, take}
+use Rattle.std.proofs.Common.{drop, refl, sym, ap, ◌∙◌, subst, arith, length-append, Option, None, Some, Result, Ok, Err, unwrap_or, length-take-le}
+use Rattle.std.proofs.Common.{length-drop}
 use Rattle.std.proofs.lemmas.List.{drop-append-le, take-append-drop}
 use Rattle.base_122.specs.declared.book.Book.{Book}
 use Rattle.base_122.specs.declared.geometry.Geometry.{Geometry}
@@ -18,7 +20,8 @@ use Rattle.bare_stream.specs.declared.fault.BareCause.TheVariants.{Short}
 use Rattle.bare_stream.specs.declared.fault.BareFault.{BareFault}
 use Rattle.bare_stream.specs.declared.fault.BareFault.TheVariants.{Refused}
 use Rattle.bare_stream.specs.Pictures.{pixels_at}
-use Rattle.bare_stream.specs.StreamRead.{Ending, needs_more, stops, Segments, Next, text, ends, too_many, by_answer, items_next, by_pixels, by_agreement, checked, by_head, head_next, end_next, next_by, next_in}
+use Rattle.bare_stream.specs.StreamRead.{Ending, needs_more, stops, Segments, Next, text, ends, too_many, by_answer, items_next, by_pixels, by_agreement}
+use Rattle.bare_stream.specs.StreamRead.{checked, by_head, head_next, end_next, next_by, next_in}
 
 -- more octets are needed
 abbrev pub Opens : Next → Type 0
@@ -59,7 +62,8 @@ module _ (s : Segments) where
       by true = tt
       by false = long
 
-  items_stay : (head : SegmentHead) (size : ℕ) (o p : Option Decided) → ((d : Decided) → o ≡ Some d → p ≡ Some d) → Stays (items_next s head size o) (items_next s head size p)
+  items_stay : (head : SegmentHead) (size : ℕ) (o p : Option Decided) → ((d : Decided) → o ≡ Some d → p ≡ Some d) →
+      Stays (items_next s head size o) (items_next s head size p)
   items_stay head size None p f = inl (Err (Refused (length s.blocks) Short), refl)
   items_stay head size (Some d) p f = inr (sym (ap (items_next s head size) (f d refl)))
 
@@ -76,7 +80,8 @@ module _ (s : Segments) where
 
   -- ---- how many octets are needed
 
-  items_few : (head : SegmentHead) (size all : ℕ) (o : Option Decided) → size ≤ all → ((d : Decided) → o ≡ Some d → size + d.octets ≤ all) → needed s (items_next s head size o) ≤ all
+  items_few : (head : SegmentHead) (size all : ℕ) (o : Option Decided) → size ≤ all → ((d : Decided) → o ≡ Some d → size + d.octets ≤ all) →
+      needed s (items_next s head size o) ≤ all
   items_few head size all None le f = omega arith
   items_few head size all (Some d) le f = by d.answer (f d refl)
     where
@@ -103,12 +108,14 @@ module _ (heads : BareHeadsEndThere) (texts : TextsEndThere) (book : Book) (soun
     answer_few : (d : Decided) → answer_in book head size (drop size octets) ≡ Some d → size + d.octets ≤ length octets
     answer_few d e = (let few = there.enough (drop size octets) d e in let long = length-drop size octets in omega (arith, few, long, le))
 
-    answer_stays : (more : List ℕ) (d : Decided) → answer_in book head size (drop size octets) ≡ Some d → answer_in book head size (drop size (octets ++ more)) ≡ Some d
+    answer_stays : (more : List ℕ) (d : Decided) → answer_in book head size (drop size octets) ≡ Some d →
+        answer_in book head size (drop size (octets ++ more)) ≡ Some d
     answer_stays more d e = ap (answer_in book head size) (drop-append-le size octets more le) ∙ there.stays (drop size octets) more d e
 
   -- ---- after a head
 
-  result_stays : (octets more : List ℕ) (size : ℕ) (result : Result SegmentHead HeadFault) → size ≤ length octets → size ≤ 20 → ((head : SegmentHead) → result ≡ Ok head → IsHead head) →
+  result_stays : (octets more : List ℕ) (size : ℕ) (result : Result SegmentHead HeadFault) → size ≤ length octets → size ≤ 20 →
+      ((head : SegmentHead) → result ≡ Ok head → IsHead head) →
       Stays (by_head book pixels s octets size result) (by_head book pixels s (octets ++ more) size result)
   result_stays octets more size (Err fault) le most fits = inr refl
   result_stays octets more size (Ok head) le most fits =
@@ -116,9 +123,11 @@ module _ (heads : BareHeadsEndThere) (texts : TextsEndThere) (book : Book) (soun
       let index = length s.blocks in
       agreement_stays s size (first_refusal (agreement_tests first index head)) _ _
       (pixels_stay s pixels (pixels_at first index head) size _ _
-      (items_stay s head size (answer_in book head size (drop size octets)) (answer_in book head size (drop size (octets ++ more))) (answer_stays octets size le head (fits head refl) most more)))
+      (items_stay s head size (answer_in book head size (drop size octets)) (answer_in book head size (drop size (octets ++ more)))
+      (answer_stays octets size le head (fits head refl) most more)))
 
-  result_few : (octets : List ℕ) (size : ℕ) (result : Result SegmentHead HeadFault) → size ≤ length octets → size ≤ 20 → ((head : SegmentHead) → result ≡ Ok head → IsHead head) →
+  result_few : (octets : List ℕ) (size : ℕ) (result : Result SegmentHead HeadFault) → size ≤ length octets → size ≤ 20 →
+      ((head : SegmentHead) → result ≡ Ok head → IsHead head) →
       needed s (by_head book pixels s octets size result) ≤ length octets
   result_few octets size (Err fault) le most fits = omega (arith, le)
   result_few octets size (Ok head) le most fits =
@@ -133,11 +142,13 @@ module _ (heads : BareHeadsEndThere) (texts : TextsEndThere) (book : Book) (soun
   result_long octets size (Ok head) le =
       let first = unwrap_or s.first head in
       let index = length s.blocks in
-      agreement_long s size (first_refusal (agreement_tests first index head)) _ (pixels_long s pixels (pixels_at first index head) size _ (items_long s head size (answer_in book head size (drop size octets)) le))
+      agreement_long s size (first_refusal (agreement_tests first index head)) _
+      (pixels_long s pixels (pixels_at first index head) size _ (items_long s head size (answer_in book head size (drop size octets)) le))
 
   -- ---- what is next
 
-  head_long : (octets : List ℕ) (o : Option HeadDecided) → ((d : HeadDecided) → o ≡ Some d → HeadEndsThere s.before octets d) → IsLong (head_next book pixels s octets o)
+  head_long : (octets : List ℕ) (o : Option HeadDecided) → ((d : HeadDecided) → o ≡ Some d → HeadEndsThere s.before octets d) →
+      IsLong (head_next book pixels s octets o)
   head_long octets None there = tt
   head_long octets (Some d) there = result_long octets d.octets d.result (there d refl).least
 
@@ -155,7 +166,8 @@ module _ (heads : BareHeadsEndThere) (texts : TextsEndThere) (book : Book) (soun
   pub text_least : (octets : List ℕ) (head : SegmentHead) (n : ℕ) (w : List (List ℤ)) → next_in book pixels s octets ≡ text head n w → 3 ≤ n
   text_least octets head n w e = subst IsLong e (next_long octets)
 
-  head_stays : (octets more : List ℕ) (o p : Option HeadDecided) → ((d : HeadDecided) → o ≡ Some d → HeadEndsThere s.before octets d) → ((d : HeadDecided) → o ≡ Some d → p ≡ Some d) →
+  head_stays : (octets more : List ℕ) (o p : Option HeadDecided) → ((d : HeadDecided) → o ≡ Some d → HeadEndsThere s.before octets d) →
+      ((d : HeadDecided) → o ≡ Some d → p ≡ Some d) →
       Stays (head_next book pixels s octets o) (head_next book pixels s (octets ++ more) p)
   head_stays octets more None p there f = inl (_, refl)
   head_stays octets more (Some d) p there f =
@@ -163,7 +175,8 @@ module _ (heads : BareHeadsEndThere) (texts : TextsEndThere) (book : Book) (soun
       subst (λ q. Stays (by_head book pixels s octets d.octets d.result) (head_next book pixels s (octets ++ more) q)) (sym (f d refl))
       (result_stays octets more d.octets d.result h.enough h.most h.fits)
 
-  head_few : (octets : List ℕ) (o : Option HeadDecided) → ((d : HeadDecided) → o ≡ Some d → HeadEndsThere s.before octets d) → needed s (head_next book pixels s octets o) ≤ length octets
+  head_few : (octets : List ℕ) (o : Option HeadDecided) → ((d : HeadDecided) → o ≡ Some d → HeadEndsThere s.before octets d) →
+      needed s (head_next book pixels s octets o) ≤ length octets
   head_few octets None there = omega arith
   head_few octets (Some d) there = (let h = there d refl in result_few octets d.octets d.result h.enough h.most h.fits)
 
@@ -195,18 +208,21 @@ module _ (heads : BareHeadsEndThere) (texts : TextsEndThere) (book : Book) (soun
   text_most octets head n w e = (let few = next_few octets in let same = ap (needed s) e in omega (arith, few, same))
 
   -- a text puts the same parts in force, if more octets follow
-  pub force_stays : (octets more : List ℕ) (head : SegmentHead) (n : ℕ) (w : List (List ℤ)) → next_in book pixels s octets ≡ text head n w → parts_after s.before (octets ++ more) ≡ parts_after s.before octets
+  pub force_stays : (octets more : List ℕ) (head : SegmentHead) (n : ℕ) (w : List (List ℤ)) → next_in book pixels s octets ≡ text head n w →
+      parts_after s.before (octets ++ more) ≡ parts_after s.before octets
   force_stays octets more head n w e = by s.ended e
     where
       not_text : (ending : Ending) → ends ending ≡ text head n w → ⊥
       not_text ending e = cc
 
-      by_result : (d : HeadDecided) (result : Result SegmentHead HeadFault) → HeadEndsThere s.before octets d → d.result ≡ result → by_head book pixels s octets d.octets result ≡ text head n w →
+      by_result : (d : HeadDecided) (result : Result SegmentHead HeadFault) → HeadEndsThere s.before octets d → d.result ≡ result →
+          by_head book pixels s octets d.octets result ≡ text head n w →
           parts_after s.before (octets ++ more) ≡ parts_after s.before octets
       by_result d (Err fault) there so e = absurd (not_text _ e)
       by_result d (Ok h) there so e = there.force h so more
 
-      by_decided : (o : Option HeadDecided) → ((d : HeadDecided) → o ≡ Some d → HeadEndsThere s.before octets d) → head_next book pixels s octets o ≡ text head n w → parts_after s.before (octets ++ more) ≡ parts_after s.before octets
+      by_decided : (o : Option HeadDecided) → ((d : HeadDecided) → o ≡ Some d → HeadEndsThere s.before octets d) →
+          head_next book pixels s octets o ≡ text head n w → parts_after s.before (octets ++ more) ≡ parts_after s.before octets
       by_decided None there e = absurd (not_text _ e)
       by_decided (Some d) there e = by_result d d.result (there d refl) refl e
 
@@ -256,7 +272,8 @@ module _ (heads : BareHeadsEndThere) (texts : TextsEndThere) (book : Book) (soun
       by (Some g) = (Ok g, refl)
 
   -- what is not open stays
-  pub text_stays : (octets more : List ℕ) (head : SegmentHead) (n : ℕ) (w : List (List ℤ)) → next_in book pixels s octets ≡ text head n w → next_in book pixels s (octets ++ more) ≡ text head n w
+  pub text_stays : (octets more : List ℕ) (head : SegmentHead) (n : ℕ) (w : List (List ℤ)) → next_in book pixels s octets ≡ text head n w →
+      next_in book pixels s (octets ++ more) ≡ text head n w
   text_stays octets more head n w e = elim (next_stays octets more) [
     | inl opened ↦ absurd (not_open head n w opened.0 (sym e ∙ opened.1))
     | inr same ↦ sym same ∙ e
@@ -265,7 +282,8 @@ module _ (heads : BareHeadsEndThere) (texts : TextsEndThere) (book : Book) (soun
       not_open : (head : SegmentHead) (n : ℕ) (w : List (List ℤ)) (r : Result Geometry BareFault) → text head n w ≡ ends (needs_more r) → ⊥
       not_open head n w r e = cc
 
-  pub stop_stays : (octets more : List ℕ) (fault : BareFault) (n : ℕ) → next_in book pixels s octets ≡ ends (stops fault n) → next_in book pixels s (octets ++ more) ≡ ends (stops fault n)
+  pub stop_stays : (octets more : List ℕ) (fault : BareFault) (n : ℕ) → next_in book pixels s octets ≡ ends (stops fault n) →
+      next_in book pixels s (octets ++ more) ≡ ends (stops fault n)
   stop_stays octets more fault n e = elim (next_stays octets more) [
     | inl opened ↦ absurd (not_open fault n opened.0 (sym e ∙ opened.1))
     | inr same ↦ sym same ∙ e

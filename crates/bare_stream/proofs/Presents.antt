@@ -7,7 +7,7 @@ use Rattle.base_122.specs.declared.setting.Setting.{Setting}
 use Rattle.base_122.proofs.SizeBounds.{one-le-segment_blocks}
 use Rattle.wave_defs.specs.Held.{signal, blocks_in}
 use Rattle.wave_defs.specs.Pyramid.{padded}
-use Rattle.wave_strip.specs.Strip.{rows_of, answered_of, is_standing, Follows}
+use Rattle.wave_strip.specs.Strip.{rows_of, answered_of, is_current, Follows}
 use Rattle.segment_defs.specs.declared.head.SegmentHead.{SegmentHead}
 use Rattle.segment_defs.specs.Depths.{depth_dc_of, depth_ac_of}
 use Rattle.stream_defs.specs.Output.{head_for, head_with, image_blocks, segment_of, segments_of}
@@ -30,7 +30,8 @@ pub head_is_now : (s : Setting) (all : List (List ℤ)) (index : ℕ) → IsBare
 head_is_now s all index bare = grind (arith, nat_tests, share_none)
 
 -- a head with the counts of these blocks is that of their segment
-pub head_made : (s : Setting) (index count dc ac : ℕ) (head : SegmentHead) (cells : List ℤ) → head ≡ head_with s index s.limit count dc ac → 64 * count ≡ length cells →
+pub head_made : (s : Setting) (index count dc ac : ℕ) (head : SegmentHead) (cells : List ℤ) → head ≡ head_with s index s.limit count dc ac →
+    64 * count ≡ length cells →
     dc ≡ depth_dc_of (blocks_in cells) → ac ≡ depth_ac_of (blocks_in cells) → head ≡ head_now s index (blocks_in cells)
 head_made s index count dc ac head cells is long dc_is ac_is =
     let e : count ≡ length (blocks_in cells) = omega (arith, long, length-blocks_in cells) in
@@ -51,7 +52,8 @@ module _ (s : Setting) (bare : IsBare s) (column : ℕ) (w : Work) (at : IsAt s 
 
   module _ (full : w.at.filled ≡ present_size s w) where
     pub some_numbers : 64 ≤ length w.blocks.numbers
-    some_numbers = let some = one-le-segment_blocks (total_blocks s.width s.rows) s.segment w.at.index (some_blocks s bare) lt in let held = at.held in omega (arith, some, held, full)
+    some_numbers = let some = one-le-segment_blocks (total_blocks s.width s.rows) s.segment w.at.index (some_blocks s bare) lt in let held =
+        at.held in omega (arith, some, held, full)
 
     -- they are the blocks of the segment of each image that the work follows
     pub segment_held : (x : ℕ → ℕ → ℤ) → FollowsTo s x column w → present_blocks w ≡ segment_of s (image_blocks s x) w.at.index
@@ -59,15 +61,18 @@ module _ (s : Setting) (bare : IsBare s) (column : ℕ) (w : Work) (at : IsAt s 
 
 -- ---- a work after its text was written
 
-module _ (s : Setting) (bare : IsBare s) (column : ℕ) (old new : Work) (at : IsAt s column old) (lt : old.at.index < segments_of s) (full : old.at.filled ≡ present_size s old) (same : Rewritten old new)
+module _ (s : Setting) (bare : IsBare s) (column : ℕ) (old new : Work) (at : IsAt s column old) (lt : old.at.index < segments_of s)
+    (full : old.at.filled ≡ present_size s old) (same : Rewritten old new)
     (packets : new.packets ≡ old.packets) where
   pub now_made : IsMadeFor s new
   now_made = still_made s old new at.made same (ap (λ v. v.packet) packets)
 
-  pub present_cut : {p q : Outside} (before : Option SegmentHead) → TextCut p q (bare_text s.book before (head_now s old.at.index (present_blocks old)) (present_blocks old)) → PresentCut s before p q old new
+  pub present_cut : {p q : Outside} (before : Option SegmentHead) →
+      TextCut p q (bare_text s.book before (head_now s old.at.index (present_blocks old)) (present_blocks old)) → PresentCut s before p q old new
   present_cut before cut = record { made = now_made; cut = cut }
 
-  module _ (rows : new.at.rows ≡ old.at.rows) (filled : new.at.filled ≡ 0) (empty : new.blocks.numbers ≡ []) (index : new.at.index ≡ old.at.index + 1) (octets : ℕ) (few : octets ≤ 2 ^ 32) (used : new.at.used ≡ old.at.used + octets) where
+  module _ (rows : new.at.rows ≡ old.at.rows) (filled : new.at.filled ≡ 0) (empty : new.blocks.numbers ≡ []) (index : new.at.index ≡ old.at.index + 1)
+      (octets : ℕ) (few : octets ≤ 2 ^ 32) (used : new.at.used ≡ old.at.used + octets) where
     next_at : IsAt s column new
     next_at =
         let before = first_below s bare old column at lt in
@@ -76,10 +81,12 @@ module _ (s : Setting) (bare : IsBare s) (column : ℕ) (old new : Work) (at : I
           made = now_made;
           rows = same_rows s old new same.strip rows at.rows;
           columns = at.columns;
-          stands = λ inside. ap is_standing same.strip ∙ at.stands inside;
+          valid = λ inside. ap is_current same.strip ∙ at.valid inside;
           count =
-              let next : first_block s.segment new.at.index ≡ first_block s.segment old.at.index + s.segment = ap (λ n. n * s.segment) index ∙ (let t : (old.at.index + 1) * s.segment ≡ old.at.index * s.segment + s.segment = omega arith in t) in
-              let answered : block_count s.width * answered_of new.strip ≡ block_count s.width * answered_of old.strip = ap (λ t. block_count s.width * answered_of t) same.strip in
+              let next : first_block s.segment new.at.index ≡ first_block s.segment old.at.index + s.segment =
+              ap (λ n. n * s.segment) index ∙ (let t : (old.at.index + 1) * s.segment ≡ old.at.index * s.segment + s.segment = omega arith in t) in
+              let answered : block_count s.width * answered_of new.strip ≡ block_count s.width * answered_of old.strip =
+              ap (λ t. block_count s.width * answered_of t) same.strip in
               omega (arith, next, answered, count, filled, full, before);
           index = omega (arith, index, lt);
           filled = omega (arith, filled);
@@ -88,7 +95,8 @@ module _ (s : Setting) (bare : IsBare s) (column : ℕ) (old new : Work) (at : I
           used = (let most = at.used in rw index (omega (arith, used, most, few)));
         }
 
-    pub present_out : {p q : Outside} (before : Option SegmentHead) (head : SegmentHead) → SegmentOut s old.at.index before (present_blocks old) p q head octets → PresentOut s column before p q old new head
+    pub present_out : {p q : Outside} (before : Option SegmentHead) (head : SegmentHead) →
+        SegmentOut s old.at.index before (present_blocks old) p q head octets → PresentOut s column before p q old new head
     present_out before head out = record {
       at = next_at;
       index = index;

@@ -6,7 +6,7 @@ use Rattle.base_122.specs.declared.setting.Setting.{Setting}
 use Rattle.wave_defs.specs.Held.{block_at, signal}
 use Rattle.wave_defs.specs.Pyramid.{padded}
 use Rattle.block_families.specs.Places.{gathered}
-use Rattle.wave_strip.specs.Strip.{rows_of, answered_of, is_standing, number_in, Follows}
+use Rattle.wave_strip.specs.Strip.{rows_of, answered_of, is_current, number_in, Follows}
 use Rattle.stream_defs.specs.Output.{image_blocks, segments_of}
 use Rattle.strip_coder.specs.declared.work.Work.{Work}
 use Rattle.strip_coder.proofs.SegmentSteps.{still_made}
@@ -26,7 +26,8 @@ same_rows s old new strip rows are = record {
   few = rw strip are.few;
 }
 
-module _ (s : Setting) (bare : IsBare s) (column : ℕ) (old new : Work) (at : IsAt s column old) (inside : column < block_count s.width) (lt : old.at.index < segments_of s)
+module _ (s : Setting) (bare : IsBare s) (column : ℕ) (old new : Work) (at : IsAt s column old) (inside : column < block_count s.width)
+    (lt : old.at.index < segments_of s)
     (more : old.at.filled < present_size s old) (put : gathers.HasPut old new (gathered (number_in old.strip) s.weights.shifts column)) where
   put_at : IsAt s (column + 1) new
   put_at =
@@ -36,10 +37,11 @@ module _ (s : Setting) (bare : IsBare s) (column : ℕ) (old new : Work) (at : I
         made = still_made s old new at.made put.same (ap (λ v. v.packet) put.packets);
         rows = same_rows s old new put.same.strip put.rows at.rows;
         columns = omega (arith, inside);
-        stands = λ _. ap is_standing put.same.strip ∙ at.stands inside;
+        valid = λ _. ap is_current put.same.strip ∙ at.valid inside;
         count =
             let first : first_block s.segment new.at.index ≡ first_block s.segment old.at.index = ap (λ n. n * s.segment) index in
-            let answered : block_count s.width * answered_of new.strip ≡ block_count s.width * answered_of old.strip = ap (λ t. block_count s.width * answered_of t) put.same.strip in
+            let answered : block_count s.width * answered_of new.strip ≡ block_count s.width * answered_of old.strip =
+            ap (λ t. block_count s.width * answered_of t) put.same.strip in
             let count = at.count in
             omega (arith, first, answered, count, filled);
         index = subst (λ n. n ≤ segments_of s) (sym index) at.index;
@@ -49,10 +51,12 @@ module _ (s : Setting) (bare : IsBare s) (column : ℕ) (old new : Work) (at : I
         used = rw (put.used, index) at.used;
       }
 
-  put_present : (x : ℕ → ℕ → ℤ) → FollowsTo s x column old → (i : ℕ) → i < new.at.filled → block_at new.blocks.numbers i ≡ get_or (image_blocks s x) (first_block s.segment new.at.index + i) []
+  put_present : (x : ℕ → ℕ → ℤ) → FollowsTo s x column old → (i : ℕ) → i < new.at.filled → block_at new.blocks.numbers i ≡ get_or (image_blocks s x)
+      (first_block s.segment new.at.index + i) []
   put_present x follows i few =
       let filled = put.filled in
-      let there : get_or (image_blocks s x) (first_block s.segment new.at.index + i) [] ≡ get_or (image_blocks s x) (first_block s.segment old.at.index + i) [] =
+      let there : get_or (image_blocks s x) (first_block s.segment new.at.index + i) [] ≡ get_or (image_blocks s x) (first_block s.segment old.at.index + i)
+      [] =
       ap (λ n. get_or (image_blocks s x) (n * s.segment + i) []) put.index in
       elim (cases_lt i old.at.filled) [
         | inl before ↦ put.puts.before i before ∙ follows.present.at i before ∙ sym there
@@ -60,9 +64,12 @@ module _ (s : Setting) (bare : IsBare s) (column : ℕ) (old new : Work) (at : I
             let e : i ≡ old.at.filled = omega (arith, past, few, filled) in
             let before = first_below s bare old column at lt in
             let count = at.count in
-            let one : block_count s.width * (answered_of old.strip - 1) + block_count s.width ≡ block_count s.width * answered_of old.strip = back (block_count s.width) (answered_of old.strip) (some column) in
-            let place : block_count s.width * (answered_of old.strip - 1) + column ≡ first_block s.segment old.at.index + i = omega (arith, before, count, one, e) in
-            ap (block_at new.blocks.numbers) e ∙ put.puts.here ∙ sym (follows.shows.at column (omega arith) inside) ∙ ap (λ n. get_or (image_blocks s x) n []) place ∙ sym there
+            let one : block_count s.width * (answered_of old.strip - 1) + block_count s.width ≡ block_count s.width * answered_of old.strip =
+            back (block_count s.width) (answered_of old.strip) (some column) in
+            let place : block_count s.width * (answered_of old.strip - 1) + column ≡ first_block s.segment old.at.index + i =
+            omega (arith, before, count, one, e) in
+            ap (block_at new.blocks.numbers) e ∙ put.puts.here ∙ sym (follows.shows.at column (omega arith) inside)
+            ∙ ap (λ n. get_or (image_blocks s x) n []) place ∙ sym there
       ]
     where
       back : (c a : ℕ) → 0 < a → c * (a - 1) + c ≡ c * a
@@ -73,7 +80,8 @@ module _ (s : Setting) (bare : IsBare s) (column : ℕ) (old new : Work) (at : I
         | inl more_rows ↦ more_rows
         | inr none ↦
             let e : answered_of old.strip ≡ 0 = omega (arith, none) in
-            let zero : block_count s.width * answered_of old.strip ≡ 0 = ap (λ n. block_count s.width * n) e ∙ (let t : block_count s.width * 0 ≡ 0 = omega arith in t) in
+            let zero : block_count s.width * answered_of old.strip ≡ 0 = ap (λ n. block_count s.width * n) e ∙ (let t : block_count s.width * 0 ≡ 0 =
+            omega arith in t) in
             let count = at.count in
             absurd (omega (arith, count, zero, inside))
       ]

@@ -1,5 +1,6 @@
 -- One more segment is read.
-use Rattle.std.proofs.Common.{◌≡◌, ◌≤◌, ◌<◌, ◌+◌, ℕ, ℤ, List, [], ◌∷◌, ◌++◌, length, take, drop, refl, sym, ap, ◌∙◌, subst, arith, append_assoc, length-append, Bool, if◌then◌else◌, Option, None, Some, unwrap_or}
+use Rattle.std.proofs.Common.{◌≡◌, ◌≤◌, ◌<◌, ◌+◌, ℕ, ℤ, List, [], ◌∷◌, ◌++◌, length, take, drop, refl, sym, ap, ◌∙◌, subst, arith, append_assoc}
+use Rattle.std.proofs.Common.{length-append, Bool, if◌then◌else◌, Option, None, Some, unwrap_or}
 use Rattle.std.specs.List.{concat}
 use Rattle.std.proofs.lemmas.List.{append-nil, length_push, drop_at}
 use Rattle.port_122.specs.Outside.{Outside, Exchange, NoRead}
@@ -12,7 +13,7 @@ use Rattle.bare_stream.specs.declared.input.PortIn.{PortIn}
 use Rattle.bare_stream.specs.Input.{waiting}
 use Rattle.bare_stream.specs.Pictures.{geometry_at}
 use Rattle.bare_stream.specs.StreamRead.{Segments, text as next_is, next_in, with_text, read_on}
-use Rattle.bare_stream.specs.Decoded.{Told, read_by}
+use Rattle.bare_stream.specs.Decoded.{IfKnown, read_by}
 use Rattle.bare_stream.specs.Reads.{HasLaws, SegmentsRead, HasRead, Reaches, InForceAfter, first_of, rows_read, segments_of, size_of}
 use Rattle.bare_stream.proofs.NextReads.{Opens, fewer_open, text_stays, needed}
 use Rattle.bare_stream.proofs.ReadLaws.{read_text}
@@ -35,9 +36,12 @@ first_more first (x ∷ texts) t = refl
 abbrev pub made : Option SegmentHead → PartsInForce → List (List (List ℤ)) → Option Geometry → ℕ → Segments
 made first before blocks ended octets = record { first = first; before = before; blocks = blocks; ended = ended; octets = octets }
 
-module _ (wish : DecodeWish) (laws : HasLaws wish) (r : SegmentsRead) (before after : PartsInForce) (head : SegmentHead) (text : List ℕ) (w : List (List ℤ)) (ended : Option Geometry) (reaches : Reaches wish r before)
-    (next : next_in wish.book wish.pixels (segments_of r before) text ≡ next_is head (length text) w) (force : (more : List ℕ) → parts_after before (text ++ more) ≡ after)
-    (first : unwrap_or (first_of r.first r.texts) head ≡ r.first) (ends : (if head.last then Some (geometry_at r.first (length r.blocks) head) else None) ≡ ended) where
+module _ (wish : DecodeWish) (laws : HasLaws wish) (r : SegmentsRead) (before after : PartsInForce) (head : SegmentHead) (text : List ℕ) (w : List (List ℤ))
+    (ended : Option Geometry) (reaches : Reaches wish r before)
+    (next : next_in wish.book wish.pixels (segments_of r before) text ≡ next_is head (length text) w) (force : (more : List ℕ) →
+    parts_after before (text ++ more) ≡ after)
+    (first : unwrap_or (first_of r.first r.texts) head ≡ r.first) (ends : (if head.last then Some (geometry_at r.first (length r.blocks) head) else None) ≡
+    ended) where
   abbrev s : Segments
   s = segments_of r before
 
@@ -51,7 +55,8 @@ module _ (wish : DecodeWish) (laws : HasLaws wish) (r : SegmentsRead) (before af
   same_segments more =
       let end = λ (h : SegmentHead). if head.last then Some (geometry_at h (length r.blocks) head) else None in
       ap (λ h. made (Some h) (parts_after before (text ++ more)) (r.blocks ++ w ∷ []) (end h) (size_of r + length text)) first
-      ∙ ap (λ o. made o (parts_after before (text ++ more)) (r.blocks ++ w ∷ []) (end r.first) (size_of r + length text)) (sym (first_more r.first r.texts text))
+      ∙ ap (λ o. made o (parts_after before (text ++ more)) (r.blocks ++ w ∷ []) (end r.first) (size_of r + length text))
+      (sym (first_more r.first r.texts text))
       ∙ ap (λ p. made (first_of r.first r'.texts) p (r.blocks ++ w ∷ []) (end r.first) (size_of r + length text)) (force more)
       ∙ ap (λ e. made (first_of r.first r'.texts) after (r.blocks ++ w ∷ []) e (size_of r + length text)) ends
       ∙ ap (λ n. made (first_of r.first r'.texts) after (r.blocks ++ w ∷ []) ended n) size
@@ -67,13 +72,16 @@ module _ (wish : DecodeWish) (laws : HasLaws wish) (r : SegmentsRead) (before af
 
 -- ---- one more text
 
-module _ (wish : DecodeWish) (laws : HasLaws wish) {X : Type 0} (outside : X → Outside) (start : Outside) (r : SegmentsRead) (before : PartsInForce) (head : SegmentHead) (text more : List ℕ) (w : List (List ℤ)) (t u : PortIn X)
+module _ (wish : DecodeWish) (laws : HasLaws wish) {X : Type 0} (outside : X → Outside) (start : Outside) (r : SegmentsRead) (before : PartsInForce)
+    (head : SegmentHead) (text more : List ℕ) (w : List (List ℤ)) (t u : PortIn X)
     (read : HasRead outside wish start r text t) (reaches : InForceAfter wish start r before)
-    (next : Told start (λ input. next_in wish.book wish.pixels (segments_of r before) text ≡ next_is head (length text) w))
-    (waits : waiting u ≡ waiting t) (left : u.left ≡ t.left) (failed : u.failed ≡ t.failed) (out : Exchange (outside t.port.now) (outside u.port.now) [] more [] NoRead) where
-  pub text_opens : Told start (λ input. (n : ℕ) → n < length text → Opens (next_in wish.book wish.pixels (segments_of r before) (take n text)))
-  text_opens input told n lt =
-      fewer_open laws.heads laws.texts wish.book laws.sound wish.pixels (segments_of r before) text n (let e = ap (needed (segments_of r before)) (next input told) in omega (arith, lt, e))
+    (next : IfKnown start (λ input. next_in wish.book wish.pixels (segments_of r before) text ≡ next_is head (length text) w))
+    (waits : waiting u ≡ waiting t) (left : u.left ≡ t.left) (failed : u.failed ≡ t.failed)
+    (out : Exchange (outside t.port.now) (outside u.port.now) [] more [] NoRead) where
+  pub text_opens : IfKnown start (λ input. (n : ℕ) → n < length text → Opens (next_in wish.book wish.pixels (segments_of r before) (take n text)))
+  text_opens input if_known n lt =
+      fewer_open laws.heads laws.texts wish.book laws.sound wish.pixels (segments_of r before) text n (let e =
+      ap (needed (segments_of r before)) (next input if_known) in omega (arith, lt, e))
 
   pub octets_all : (ended : Option Geometry) → read.took ≡ concat (with_more r text w ended).texts ++ ([] ++ waiting u)
   octets_all ended =
@@ -84,7 +92,8 @@ module _ (wish : DecodeWish) (laws : HasLaws wish) {X : Type 0} (outside : X →
   not_none [] e = cc
   not_none (x ∷ texts) e = cc
 
-  pub segment_read : (ended : Option Geometry) → read.gave ++ more ≡ rows_read (with_more r text w ended) → HasRead outside wish start (with_more r text w ended) [] u
+  pub segment_read : (ended : Option Geometry) → read.gave ++ more ≡ rows_read (with_more r text w ended) →
+      HasRead outside wish start (with_more r text w ended) [] u
   segment_read ended rows = record {
     some = λ none. absurd (not_none r.texts none);
     same = length_push r.texts text ∙ ap (λ n. n + 1) read.same ∙ sym (length_push r.blocks w);
@@ -97,6 +106,7 @@ module _ (wish : DecodeWish) (laws : HasLaws wish) {X : Type 0} (outside : X →
     rises = λ f. (let rose = read.rises (sym failed ∙ f) in let less = out.faults.reads in omega (arith, rose, less));
   }
 
-  pub segment_read-gave : (ended : Option Geometry) (rows : read.gave ++ more ≡ rows_read (with_more r text w ended)) → (segment_read ended rows).gave ≡ read.gave ++ more
+  pub segment_read-gave : (ended : Option Geometry) (rows : read.gave ++ more ≡ rows_read (with_more r text w ended)) →
+      (segment_read ended rows).gave ≡ read.gave ++ more
   unfolding segment_read
   segment_read-gave ended rows = refl

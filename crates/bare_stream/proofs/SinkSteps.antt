@@ -17,11 +17,13 @@ parted octets n more = ap (λ l. l ++ more) (sym (take-append-drop n octets)) �
 pub cut_to : {X : Type 0} (outside : X → Outside) (x y : X) {p : Outside} {text : List ℕ} → x ≡ y → TextCut p (outside y) text → TextCut p (outside x) text
 cut_to outside x y {p = p} {text = text} e cut = subst (λ z. TextCut p (outside z) text) (sym e) cut
 
-pub out_to : {X : Type 0} (outside : X → Outside) (x y : X) {p : Outside} {text : List ℕ} {octets : ℕ} → x ≡ y → TextOut p (outside y) text octets → TextOut p (outside x) text octets
+pub out_to : {X : Type 0} (outside : X → Outside) (x y : X) {p : Outside} {text : List ℕ} {octets : ℕ} → x ≡ y → TextOut p (outside y) text octets →
+    TextOut p (outside x) text octets
 out_to outside x y {p = p} {text = text} {octets = octets} e out = subst (λ z. TextOut p (outside z) text octets) (sym e) out
 
 -- these octets are written, and the text has more
-cut_at : {p q : Outside} (text wrote more : List ℕ) → text ≡ wrote ++ more → Exchange p q [] wrote [] NoRead → Rose p.write_faults q.write_faults → TextCut p q text
+cut_at : {p q : Outside} (text wrote more : List ℕ) → text ≡ wrote ++ more → Exchange p q [] wrote [] NoRead → Rose p.write_faults q.write_faults →
+    TextCut p q text
 cut_at {p = p} {q = q} text wrote more e out rose = record {
   some = length wrote;
   out = subst (λ l. Exchange p q [] l [] NoRead) (sym (ap (take (length wrote)) e ∙ take-append_seam wrote more)) out;
@@ -29,14 +31,14 @@ cut_at {p = p} {q = q} text wrote more e out rose = record {
 }
 
 module _ {X : Type 0} (outside : X → Outside) (s u : TextSink X) (port : X) (text : List ℕ) (same : s.port.now ≡ port) (none : waiting s ≡ []) where
-  all_of : (front : List ℕ) → waiting s ++ front ≡ front
-  all_of front = ap (λ l. l ++ front) none
+  all_of : (prefix : List ℕ) → waiting s ++ prefix ≡ prefix
+  all_of prefix = ap (λ l. l ++ prefix) none
 
   pub text_broke : BreaksWithin (text_sink outside) s u text → TextCut (outside port) (outside u.port.now) text
   text_broke broken =
       let b = broken.broke in
       let parts : text ≡ b.wrote ++ (b.more ++ broken.more) =
-      broken.parts ∙ ap (λ l. l ++ broken.more) (sym (all_of broken.front) ∙ b.waits) ∙ append_assoc b.wrote b.more broken.more in
+      broken.parts ∙ ap (λ l. l ++ broken.more) (sym (all_of broken.prefix) ∙ b.waits) ∙ append_assoc b.wrote b.more broken.more in
       subst (λ x. TextCut (outside x) (outside u.port.now) text) same (cut_at text b.wrote (b.more ++ broken.more) parts b.out broken.rose)
 
   module _ (octets : ℕ) (gives : GivesText (text_sink outside) s u text octets) where
@@ -47,7 +49,8 @@ module _ {X : Type 0} (outside : X → Outside) (s u : TextSink X) (port : X) (t
     text_unflushed v fault =
         let wrote = gives.gave.wrote ++ take fault.some (waiting u) in
         let parts : text ≡ wrote ++ drop fault.some (waiting u) =
-        text_is ∙ ap (λ l. gives.gave.wrote ++ l) (sym (take-append-drop fault.some (waiting u))) ∙ sym (append_assoc gives.gave.wrote (take fault.some (waiting u)) (drop fault.some (waiting u))) in
+        text_is ∙ ap (λ l. gives.gave.wrote ++ l) (sym (take-append-drop fault.some (waiting u)))
+        ∙ sym (append_assoc gives.gave.wrote (take fault.some (waiting u)) (drop fault.some (waiting u))) in
         subst (λ x. TextCut (outside x) (outside v.port.now) text) same
         (cut_at text wrote (drop fault.some (waiting u)) parts (since_out gives.gave.out fault.out) (rose_since gives.gave.out.faults.writes fault.rose))
 
@@ -56,5 +59,6 @@ module _ {X : Type 0} (outside : X → Outside) (s u : TextSink X) (port : X) (t
       out = subst (λ x. Exchange (outside x) (outside v.port.now) [] text [] NoRead) same
           (subst (λ l. Exchange (outside s.port.now) (outside v.port.now) [] l [] NoRead) (sym text_is) (since_out gives.gave.out flushed.out));
       count = gives.count;
-      few = (let few = gives.gave.few (omega (arith, fresh)) in let given = gives.gave.given in let count = gives.count in omega (arith, few, given, count, fresh));
+      few = (let few = gives.gave.few (omega (arith, fresh)) in let given = gives.gave.given in let count =
+          gives.count in omega (arith, few, given, count, fresh));
     }

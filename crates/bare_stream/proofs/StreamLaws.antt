@@ -1,5 +1,6 @@
 -- The laws of how octets are read as a bare stream.
-use Rattle.std.proofs.Common.{◌≡◌, ◌≤◌, ◌<◌, ◌+◌, ◌-◌, ◌*◌, max, ℕ, zero, suc, ℤ, true, inl, inr, List, [], ◌∷◌, ◌++◌, length, take, drop, refl, sym, ap, ◌∙◌, subst, arith, nat_lt, if◌then◌else◌, Option, None, Some, Result, Ok, Err, length-append, length-drop}
+use Rattle.std.proofs.Common.{◌≡◌, ◌≤◌, ◌<◌, ◌+◌, ◌-◌, ◌*◌, max, ℕ, zero, suc, ℤ, true, inl, inr, List, [], ◌∷◌, ◌++◌, length, take, drop, refl, sym, ap}
+use Rattle.std.proofs.Common.{◌∙◌, subst, arith, nat_lt, if◌then◌else◌, Option, None, Some, Result, Ok, Err, length-append, length-drop}
 use Rattle.std.proofs.lemmas.Bool.{cases_lt}
 use Rattle.std.proofs.lemmas.Bool.Decides.{nat_tests}
 use Rattle.std.proofs.lemmas.List.{drop-append-le, drop-take, take_all, take-append-drop}
@@ -15,7 +16,8 @@ use Rattle.bare_stream.specs.declared.fault.BareCause.TheVariants.{Trailing}
 use Rattle.bare_stream.specs.declared.fault.BareFault.{BareFault}
 use Rattle.bare_stream.specs.declared.fault.BareFault.TheVariants.{ReadFault, WriteFault, LongInput, Memory}
 use Rattle.bare_stream.specs.Pictures.{all_rows}
-use Rattle.bare_stream.specs.StreamRead.{Ending, needs_more, stops, Segments, Next, text, ends, refused, next_by, next_in, with_text, Read, continued, read_after, read_on, none_read, stream_in, reading, answer_by, answer_for}
+use Rattle.bare_stream.specs.StreamRead.{Ending, needs_more, stops, Segments, Next, text, ends, refused, next_by, next_in, with_text, Read, continued}
+use Rattle.bare_stream.specs.StreamRead.{read_after, read_on, none_read, stream_in, reading, answer_by, answer_for}
 use Rattle.bare_stream.specs.BareStream.{BareStream, BareStreamsEndThere, StopsThere, BareStreamsStopThere}
 use Rattle.bare_stream.specs.Decoded.{AnswersBy, Answers, DecodesBare, EndsSo, rows_of}
 use Rattle.bare_stream.specs.RoundTrip.{IsWithinCaps, ReadsWhole, StreamsAreRead}
@@ -39,22 +41,27 @@ module _ (heads : BareHeadsEndThere) (texts : TextsEndThere) (book : Book) (soun
       ∙ ap (read_on book pixels (with_text s head k w (octets ++ more))) (drop-append-le k octets more most)
       ∙ ap (λ p. read_on book pixels (record (with_text s head k w octets) { before = p }) (drop k octets ++ more)) force
 
-  shorter : (s : Segments) (octets : List ℕ) (n : ℕ) (head : SegmentHead) (k : ℕ) (w : List (List ℤ)) → next_in book pixels s octets ≡ text head k w → length octets < suc n → length (drop k octets) < n
+  shorter : (s : Segments) (octets : List ℕ) (n : ℕ) (head : SegmentHead) (k : ℕ) (w : List (List ℤ)) → next_in book pixels s octets ≡ text head k w →
+      length octets < suc n → length (drop k octets) < n
   shorter s octets n head k w e lt =
       let least = text_least heads texts book sound pixels s octets head k w e in
       let most = text_most heads texts book sound pixels s octets head k w e in
       omega (arith, length-drop k octets, least, most, lt)
 
   -- after a stream that is read whole
-  whole_then : (n : ℕ) (s : Segments) (octets more : List ℕ) (g : Geometry) → length octets < n → (read_after n book pixels s octets).ending ≡ needs_more (Ok g) →
+  whole_then : (n : ℕ) (s : Segments) (octets more : List ℕ) (g : Geometry) → length octets < n → (read_after n book pixels s octets).ending
+      ≡ needs_more (Ok g) →
       read_on book pixels s (octets ++ more) ≡ read_on book pixels (read_after n book pixels s octets).segments more
   unfolding read_after
   whole_then zero s octets more g lt e = absurd (omega (arith, lt))
   whole_then (suc n) s octets more g lt e = by (λ z l a b. whole_then n z l more g a b) (next_in book pixels s octets) refl e
     where
-      by : ((z : Segments) (l : List ℕ) → length l < n → (read_after n book pixels z l).ending ≡ needs_more (Ok g) → read_on book pixels z (l ++ more) ≡ read_on book pixels (read_after n book pixels z l).segments more) → (next : Next) → next_in book pixels s octets ≡ next → (continued (read_after n book pixels) s octets next).ending ≡ needs_more (Ok g) →
+      by : ((z : Segments) (l : List ℕ) → length l < n → (read_after n book pixels z l).ending ≡ needs_more (Ok g) →
+          read_on book pixels z (l ++ more) ≡ read_on book pixels (read_after n book pixels z l).segments more) → (next : Next) →
+          next_in book pixels s octets ≡ next → (continued (read_after n book pixels) s octets next).ending ≡ needs_more (Ok g) →
           read_on book pixels s (octets ++ more) ≡ read_on book pixels (continued (read_after n book pixels) s octets next).segments more
-      by again (text head k w) so e = text_further s octets more head k w so ∙ again (with_text s head k w octets) (drop k octets) (shorter s octets n head k w so lt) e
+      by again (text head k w) so e = text_further s octets more head k w so ∙ again (with_text s head k w octets) (drop k octets)
+          (shorter s octets n head k w so lt) e
       by again (ends ending) so e =
           let last = next_ok book pixels s octets g (so ∙ ap (λ x. ends x) e) in
           ap (λ l. read_on book pixels s (l ++ more)) last.none
@@ -68,18 +75,21 @@ module _ (heads : BareHeadsEndThere) (texts : TextsEndThere) (book : Book) (soun
   open_read : (s : Segments) (octets : List ℕ) → Opens (next_in book pixels s octets) → IsOpenRead (read_on book pixels s octets)
   open_read s octets opened = (opened.0, ap (λ x. x.ending) (read_ends heads texts book sound pixels s octets (needs_more opened.0) opened.1))
 
-  stopped : (s : Segments) (octets : List ℕ) (fault : BareFault) (k : ℕ) → next_in book pixels s octets ≡ ends (stops fault k) → StopsAt s octets (record { segments = s; ending = stops fault k }) k
+  stopped : (s : Segments) (octets : List ℕ) (fault : BareFault) (k : ℕ) → next_in book pixels s octets ≡ ends (stops fault k) →
+      StopsAt s octets (record { segments = s; ending = stops fault k }) k
   stopped s octets fault k so =
       let few = next_few heads texts book sound pixels s octets in
       let same = ap (needed s) so in
       record {
         enough = omega (arith, few, same);
-        stays = λ more. read_ends heads texts book sound pixels s (octets ++ more) (stops fault k) (stop_stays heads texts book sound pixels s octets more fault k so);
+        stays = λ more. read_ends heads texts book sound pixels s (octets ++ more) (stops fault k)
+            (stop_stays heads texts book sound pixels s octets more fault k so);
         least = λ m lt. open_read s (take m octets) (fewer_open heads texts book sound pixels s octets m (omega (arith, same, lt)));
       }
 
   -- within the first text, or after it
-  module _ (s : Segments) (octets : List ℕ) (head : SegmentHead) (j : ℕ) (w : List (List ℤ)) (so : next_in book pixels s octets ≡ text head j w) (x : Read) (k : ℕ)
+  module _ (s : Segments) (octets : List ℕ) (head : SegmentHead) (j : ℕ) (w : List (List ℤ)) (so : next_in book pixels s octets ≡ text head j w) (x : Read)
+      (k : ℕ)
       (later : StopsAt (with_text s head j w octets) (drop j octets) x k) where
     most : j ≤ length octets
     most = text_most heads texts book sound pixels s octets head j w so
@@ -98,7 +108,8 @@ module _ (heads : BareHeadsEndThere) (texts : TextsEndThere) (book : Book) (soun
           let read : read_on book pixels s (take m octets) ≡ read_on book pixels (with_text s head j w octets) (take n (drop j octets)) =
           read_text heads texts book sound pixels s (take m octets) head j w here
           ∙ ap (read_on book pixels (with_text s head j w (take m octets))) rest
-          ∙ ap (λ p. read_on book pixels (record (with_text s head j w octets) { before = p }) (take n (drop j octets))) (sym force ∙ ap (parts_after s.before) parts) in
+          ∙ ap (λ p. read_on book pixels (record (with_text s head j w octets) { before = p }) (take n (drop j octets)))
+          (sym force ∙ ap (parts_after s.before) parts) in
           (opened.0, ap (λ z. z.ending) read ∙ opened.1)
     ]
 
@@ -107,17 +118,21 @@ module _ (heads : BareHeadsEndThere) (texts : TextsEndThere) (book : Book) (soun
       enough = (let few = later.enough in let long = length-drop j octets in let all = most in omega (arith, few, long, all));
       stays = λ more. text_further s octets more head j w so ∙ later.stays more;
       least = λ m lt. elim (cases_lt m j) [
-        | inl before ↦ open_read s (take m octets) (fewer_open heads texts book sound pixels s octets m (let same = ap (needed s) so in omega (arith, before, same)))
+        | inl before ↦ open_read s (take m octets) (fewer_open heads texts book sound pixels s octets m (let same =
+            ap (needed s) so in omega (arith, before, same)))
         | inr ge ↦ after_text m ge lt
       ];
     }
 
-  stops_at : (n : ℕ) (s : Segments) (octets : List ℕ) (fault : BareFault) (k : ℕ) → length octets < n → (read_after n book pixels s octets).ending ≡ stops fault k → StopsAt s octets (read_after n book pixels s octets) k
+  stops_at : (n : ℕ) (s : Segments) (octets : List ℕ) (fault : BareFault) (k : ℕ) → length octets < n → (read_after n book pixels s octets).ending
+      ≡ stops fault k → StopsAt s octets (read_after n book pixels s octets) k
   unfolding read_after
   stops_at zero s octets fault k lt e = absurd (omega (arith, lt))
   stops_at (suc n) s octets fault k lt e = by (λ z l a b. stops_at n z l fault k a b) (next_in book pixels s octets) refl e
     where
-      by : ((z : Segments) (l : List ℕ) → length l < n → (read_after n book pixels z l).ending ≡ stops fault k → StopsAt z l (read_after n book pixels z l) k) → (next : Next) → next_in book pixels s octets ≡ next → (continued (read_after n book pixels) s octets next).ending ≡ stops fault k → StopsAt s octets (continued (read_after n book pixels) s octets next) k
+      by : ((z : Segments) (l : List ℕ) → length l < n → (read_after n book pixels z l).ending ≡ stops fault k →
+          StopsAt z l (read_after n book pixels z l) k) → (next : Next) → next_in book pixels s octets ≡ next →
+          (continued (read_after n book pixels) s octets next).ending ≡ stops fault k → StopsAt s octets (continued (read_after n book pixels) s octets next) k
       by again (text head j w) so e = text_stops s octets head j w so (read_after n book pixels (with_text s head j w octets) (drop j octets)) k
           (again (with_text s head j w octets) (drop j octets) (shorter s octets n head j w so lt) e)
       by again (ends ending) so e =
@@ -130,7 +145,8 @@ streams_stop_there heads texts book sound pixels octets fault n e =
 
 -- ---- one stream
 
-nothing_more : (s : Segments) (book : Book) (pixels : ℕ) (g h : Geometry) (more : List ℕ) → s.ended ≡ Some g → (read_on book pixels s more).ending ≡ needs_more (Ok h) → more ≡ []
+nothing_more : (s : Segments) (book : Book) (pixels : ℕ) (g h : Geometry) (more : List ℕ) → s.ended ≡ Some g →
+    (read_on book pixels s more).ending ≡ needs_more (Ok h) → more ≡ []
 unfolding read_after
 nothing_more s book pixels g h [] ended e = refl
 nothing_more s book pixels g h (x ∷ more) ended e = absurd (by (next_in book pixels s (x ∷ more)) (ap (next_by book pixels s (x ∷ more)) ended) e)
@@ -153,12 +169,14 @@ streams_end_there heads texts = record {
       let after = whole_then heads texts book sound m (suc (length octets)) none_read octets more g (omega arith) whole in
       nothing_more (stream_in book m octets).segments book m g h more (whole_ended book m octets g whole) (ap (λ x. x.ending) (sym after ∙ all) ∙ b.whole);
   geometry = λ book octets g h v w a b. one_geometry _ _ g h (same_whole book (g.width * g.rows) (h.width * h.rows) octets g h a.whole b.whole) a.whole b.whole;
-  blocks = λ book octets g h v w a b. sym a.blocks ∙ ap (λ x. x.segments.blocks) (same_whole book (g.width * g.rows) (h.width * h.rows) octets g h a.whole b.whole) ∙ b.blocks;
+  blocks = λ book octets g h v w a b. sym a.blocks ∙ ap (λ x. x.segments.blocks) (same_whole book (g.width * g.rows) (h.width * h.rows) octets g h a.whole
+      b.whole) ∙ b.blocks;
 }
 
 -- ---- a stream within the caps
 
-module _ (wish : DecodeWish) (octets : List ℕ) (g : Geometry) (w : List (List (List ℤ))) (stream : BareStream wish.book octets g w) (caps : IsWithinCaps wish octets g) where
+module _ (wish : DecodeWish) (octets : List ℕ) (g : Geometry) (w : List (List (List ℤ))) (stream : BareStream wish.book octets g w)
+    (caps : IsWithinCaps wish octets g) where
   whole_reading : reading wish octets ≡ stream_in wish.book (g.width * g.rows) octets
   whole_reading =
       let short = caps.short in
@@ -193,5 +211,6 @@ streams_are_read = record {
   answer = λ wish octets g w stream caps. answer_is wish octets g w stream caps;
   blocks = λ wish octets g w stream caps. ap (λ x. x.segments.blocks) (whole_reading wish octets g w stream caps) ∙ stream.blocks;
   rows = λ wish input g right. rows_input wish input g (sym right);
-  read = λ wish old new result octets g w run stream told caps. reads_whole wish octets g w stream caps run.took run.gave result (run.answers octets told);
+  read = λ wish old new result octets g w run stream if_known caps. reads_whole wish octets g w stream caps run.took run.gave result
+      (run.answers octets if_known);
 }

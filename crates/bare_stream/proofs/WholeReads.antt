@@ -1,5 +1,6 @@
 -- Octets that are read whole, as a bare stream.
-use Rattle.std.proofs.Common.{◌≡◌, ◌⊎◌, ◌≤◌, ◌<◌, ◌+◌, max, ℕ, zero, suc, ℤ, true, false, Bool, nat_lt, if◌then◌else◌, inl, inr, List, [], ◌∷◌, ◌++◌, length, take, drop, refl, sym, ap, ◌∙◌, subst, arith, Option, None, Some, Result, Ok, Err, unwrap_or}
+use Rattle.std.proofs.Common.{◌≡◌, ◌⊎◌, ◌≤◌, ◌<◌, ◌+◌, max, ℕ, zero, suc, ℤ, true, false, Bool, nat_lt, if◌then◌else◌, inl, inr, List, [], ◌∷◌, ◌++◌}
+use Rattle.std.proofs.Common.{length, take, drop, refl, sym, ap, ◌∙◌, subst, arith, Option, None, Some, Result, Ok, Err, unwrap_or}
 use Rattle.std.proofs.lemmas.Bool.Decides.{nat_tests}
 use Rattle.std.proofs.lemmas.List.{take_all}
 use Rattle.base_122.specs.declared.book.Book.{Book}
@@ -14,7 +15,9 @@ use Rattle.bare_text.specs.Reading.{HeadDecided, bare_head_in}
 use Rattle.bare_stream.specs.declared.fault.BareFault.{BareFault}
 use Rattle.bare_stream.specs.declared.fault.BareFault.TheVariants.{LongInput}
 use Rattle.bare_stream.specs.Pictures.{pixels_at, all_rows}
-use Rattle.bare_stream.specs.StreamRead.{Ending, needs_more, stops, Segments, Next, text, ends, too_many, by_answer, items_next, by_pixels, by_agreement, by_head, head_next, end_next, next_by, next_in, with_text, Read, continued, read_after, none_read, stream_in, reading, answer_by, answer_for}
+use Rattle.bare_stream.specs.StreamRead.{Ending, needs_more, stops, Segments, Next, text, ends, too_many, by_answer, items_next, by_pixels, by_agreement}
+use Rattle.bare_stream.specs.StreamRead.{by_head, head_next, end_next, next_by, next_in, with_text, Read, continued, read_after, none_read, stream_in}
+use Rattle.bare_stream.specs.StreamRead.{reading, answer_by, answer_for}
 use Rattle.bare_stream.specs.Decoded.{rows_of}
 
 -- ---- only the end after the last segment is right
@@ -87,7 +90,8 @@ module _ (book : Book) (pixels : ℕ) where
   abbrev IsSound : Segments → Type 0
   IsSound s = (s.ended ≡ None) ⊎ ((first : SegmentHead) × (s.first ≡ Some first))
 
-  whole_after : (n : ℕ) (s : Segments) (octets : List ℕ) (g : Geometry) → IsSound s → (read_after n book pixels s octets).ending ≡ needs_more (Ok g) → IsWhole (read_after n book pixels s octets) g
+  whole_after : (n : ℕ) (s : Segments) (octets : List ℕ) (g : Geometry) → IsSound s → (read_after n book pixels s octets).ending ≡ needs_more (Ok g) →
+      IsWhole (read_after n book pixels s octets) g
   unfolding read_after
   whole_after zero s octets g sound e = absurd (wrong e)
     where
@@ -95,7 +99,9 @@ module _ (book : Book) (pixels : ℕ) where
       wrong e = cc
   whole_after (suc n) s octets g sound e = by (λ z l a b. whole_after n z l g a b) (next_in book pixels s octets) refl e
     where
-      by : ((z : Segments) (l : List ℕ) → IsSound z → (read_after n book pixels z l).ending ≡ needs_more (Ok g) → IsWhole (read_after n book pixels z l) g) → (next : Next) → next_in book pixels s octets ≡ next → (continued (read_after n book pixels) s octets next).ending ≡ needs_more (Ok g) → IsWhole (continued (read_after n book pixels) s octets next) g
+      by : ((z : Segments) (l : List ℕ) → IsSound z → (read_after n book pixels z l).ending ≡ needs_more (Ok g) →
+          IsWhole (read_after n book pixels z l) g) → (next : Next) → next_in book pixels s octets ≡ next →
+          (continued (read_after n book pixels) s octets next).ending ≡ needs_more (Ok g) → IsWhole (continued (read_after n book pixels) s octets next) g
       by again (text head k w) so e = again (with_text s head k w octets) (drop k octets) (inr (unwrap_or s.first head, refl)) e
       by again (ends ending) so e =
           let last = next_ok s octets g (so ∙ ap (λ x. ends x) e) in
@@ -115,13 +121,15 @@ whole_rows book pixels octets g e =
     by x w = rw (w.first_is, w.ended) refl
 
 -- and the last segment was read
-pub whole_ended : (book : Book) (pixels : ℕ) (octets : List ℕ) (g : Geometry) → (stream_in book pixels octets).ending ≡ needs_more (Ok g) → (stream_in book pixels octets).segments.ended ≡ Some g
+pub whole_ended : (book : Book) (pixels : ℕ) (octets : List ℕ) (g : Geometry) → (stream_in book pixels octets).ending ≡ needs_more (Ok g) →
+    (stream_in book pixels octets).segments.ended ≡ Some g
 whole_ended book pixels octets g e = (whole_after book pixels (suc (length octets)) none_read octets g (inl refl) e).ended
 
 -- ---- more pixels may be allowed
 
 module _ (book : Book) (p q : ℕ) (le : p ≤ q) where
-  found_few : (found : ℕ) (s : Segments) (size : ℕ) (a b : Next) (head : SegmentHead) (k : ℕ) (w : List (List ℤ)) → (a ≡ text head k w → b ≡ text head k w) → by_pixels p found s size a ≡ text head k w → by_pixels q found s size b ≡ text head k w
+  found_few : (found : ℕ) (s : Segments) (size : ℕ) (a b : Next) (head : SegmentHead) (k : ℕ) (w : List (List ℤ)) →
+      (a ≡ text head k w → b ≡ text head k w) → by_pixels p found s size a ≡ text head k w → by_pixels q found s size b ≡ text head k w
   found_few found s size a b head k w same e = by (nat_lt p found) refl e
     where
       wrong : (ending : Ending) → ends ending ≡ text head k w → ⊥
@@ -134,39 +142,46 @@ module _ (book : Book) (p q : ℕ) (le : p ≤ q) where
       by true t e = absurd (wrong _ e)
       by false t e = ap (λ u. if u then too_many s size found else b) (fewer t) ∙ same e
 
-  agrees_few : (s : Segments) (size : ℕ) (o : Option HeadFault) (a b : Next) (head : SegmentHead) (k : ℕ) (w : List (List ℤ)) → (a ≡ text head k w → b ≡ text head k w) → by_agreement s size o a ≡ text head k w → by_agreement s size o b ≡ text head k w
+  agrees_few : (s : Segments) (size : ℕ) (o : Option HeadFault) (a b : Next) (head : SegmentHead) (k : ℕ) (w : List (List ℤ)) →
+      (a ≡ text head k w → b ≡ text head k w) → by_agreement s size o a ≡ text head k w → by_agreement s size o b ≡ text head k w
   agrees_few s size None a b head k w same e = same e
   agrees_few s size (Some fault) a b head k w same e = e
 
-  result_few : (s : Segments) (octets : List ℕ) (size : ℕ) (result : Result SegmentHead HeadFault) (head : SegmentHead) (k : ℕ) (w : List (List ℤ)) → by_head book p s octets size result ≡ text head k w → by_head book q s octets size result ≡ text head k w
+  result_few : (s : Segments) (octets : List ℕ) (size : ℕ) (result : Result SegmentHead HeadFault) (head : SegmentHead) (k : ℕ) (w : List (List ℤ)) →
+      by_head book p s octets size result ≡ text head k w → by_head book q s octets size result ≡ text head k w
   result_few s octets size (Err fault) head k w e = e
   result_few s octets size (Ok h) head k w e =
       let first = unwrap_or s.first h in
       let index = length s.blocks in
       agrees_few s size (first_refusal (agreement_tests first index h)) _ _ head k w (found_few (pixels_at first index h) s size _ _ head k w (λ f. f)) e
 
-  head_few : (s : Segments) (octets : List ℕ) (o : Option HeadDecided) (head : SegmentHead) (k : ℕ) (w : List (List ℤ)) → head_next book p s octets o ≡ text head k w → head_next book q s octets o ≡ text head k w
+  head_few : (s : Segments) (octets : List ℕ) (o : Option HeadDecided) (head : SegmentHead) (k : ℕ) (w : List (List ℤ)) →
+      head_next book p s octets o ≡ text head k w → head_next book q s octets o ≡ text head k w
   head_few s octets None head k w e = e
   head_few s octets (Some d) head k w e = result_few s octets d.octets d.result head k w e
 
-  next_few : (s : Segments) (octets : List ℕ) (head : SegmentHead) (k : ℕ) (w : List (List ℤ)) → next_in book p s octets ≡ text head k w → next_in book q s octets ≡ text head k w
+  next_few : (s : Segments) (octets : List ℕ) (head : SegmentHead) (k : ℕ) (w : List (List ℤ)) → next_in book p s octets ≡ text head k w →
+      next_in book q s octets ≡ text head k w
   next_few s octets head k w e = by s.ended e
     where
       by : (ended : Option Geometry) → next_by book p s octets ended ≡ text head k w → next_by book q s octets ended ≡ text head k w
       by None e = head_few s octets (bare_head_in s.before octets) head k w e
       by (Some g) e = e
 
-  end_few : (s : Segments) (octets : List ℕ) (g : Geometry) → next_in book p s octets ≡ ends (needs_more (Ok g)) → next_in book q s octets ≡ ends (needs_more (Ok g))
+  end_few : (s : Segments) (octets : List ℕ) (g : Geometry) → next_in book p s octets ≡ ends (needs_more (Ok g)) →
+      next_in book q s octets ≡ ends (needs_more (Ok g))
   end_few s octets g e =
       let last = next_ok book p s octets g e in
       ap (next_by book q s octets) last.ended ∙ sym (ap (next_by book p s octets) last.ended) ∙ e
 
-  same_after : (n : ℕ) (s : Segments) (octets : List ℕ) (g : Geometry) → (read_after n book p s octets).ending ≡ needs_more (Ok g) → read_after n book q s octets ≡ read_after n book p s octets
+  same_after : (n : ℕ) (s : Segments) (octets : List ℕ) (g : Geometry) → (read_after n book p s octets).ending ≡ needs_more (Ok g) →
+      read_after n book q s octets ≡ read_after n book p s octets
   unfolding read_after
   same_after zero s octets g e = refl
   same_after (suc n) s octets g e = by (λ z l a. same_after n z l g a) (next_in book p s octets) refl e
     where
-      by : ((z : Segments) (l : List ℕ) → (read_after n book p z l).ending ≡ needs_more (Ok g) → read_after n book q z l ≡ read_after n book p z l) → (next : Next) → next_in book p s octets ≡ next → (continued (read_after n book p) s octets next).ending ≡ needs_more (Ok g) →
+      by : ((z : Segments) (l : List ℕ) → (read_after n book p z l).ending ≡ needs_more (Ok g) → read_after n book q z l ≡ read_after n book p z l) →
+          (next : Next) → next_in book p s octets ≡ next → (continued (read_after n book p) s octets next).ending ≡ needs_more (Ok g) →
           continued (read_after n book q) s octets (next_in book q s octets) ≡ continued (read_after n book p) s octets next
       by again (text head k w) so e =
           ap (continued (read_after n book q) s octets) (next_few s octets head k w so) ∙ again (with_text s head k w octets) (drop k octets) e
@@ -179,7 +194,8 @@ module _ (book : Book) (p q : ℕ) (le : p ≤ q) where
   more_pixels octets g e = same_after (suc (length octets)) none_read octets g e
 
 -- so it is read in one way
-pub same_whole : (book : Book) (p q : ℕ) (octets : List ℕ) (g h : Geometry) → (stream_in book p octets).ending ≡ needs_more (Ok g) → (stream_in book q octets).ending ≡ needs_more (Ok h) → stream_in book p octets ≡ stream_in book q octets
+pub same_whole : (book : Book) (p q : ℕ) (octets : List ℕ) (g h : Geometry) → (stream_in book p octets).ending ≡ needs_more (Ok g) →
+    (stream_in book q octets).ending ≡ needs_more (Ok h) → stream_in book p octets ≡ stream_in book q octets
 same_whole book p q octets g h e f =
     sym (more_pixels book p (max p q) (omega arith) octets g e) ∙ more_pixels book q (max p q) (omega arith) octets h f
 
@@ -192,7 +208,8 @@ one_geometry x y g h same e f = by g h (sym e ∙ ap (λ z. z.ending) same ∙ f
 -- ---- an input that was taken whole
 
 -- the answer is right only if the octets are read whole
-ended_right : (wish : DecodeWish) (input : List ℕ) (g : Geometry) (ending : Ending) → Ok g ≡ answer_by wish input ending → (ending ≡ needs_more (Ok g)) × (nat_lt (length input) wish.octets ≡ true)
+ended_right : (wish : DecodeWish) (input : List ℕ) (g : Geometry) (ending : Ending) → Ok g ≡ answer_by wish input ending →
+    (ending ≡ needs_more (Ok g)) × (nat_lt (length input) wish.octets ≡ true)
 ended_right wish input g (stops fault n) e = absurd cc
 ended_right wish input g (needs_more at_end) e = by (nat_lt (length input) wish.octets) e
   where
@@ -205,7 +222,8 @@ ended_right wish input g (needs_more at_end) e = by (nat_lt (length input) wish.
 
 module _ (wish : DecodeWish) (input : List ℕ) (g : Geometry) (right : Ok g ≡ answer_for wish input) where
   pub within : take wish.octets input ≡ input
-  within = (let low = (ended_right wish input g (reading wish input).ending right).1 in take_all wish.octets input (let lt : length input < wish.octets = grind (arith, nat_tests) in omega (arith, lt)))
+  within = (let low = (ended_right wish input g (reading wish input).ending right).1 in take_all wish.octets input (let lt : length input < wish.octets =
+      grind (arith, nat_tests) in omega (arith, lt)))
 
   pub whole_input : (stream_in wish.book wish.pixels input).ending ≡ needs_more (Ok g)
   whole_input = ap (λ l. (stream_in wish.book wish.pixels l).ending) (sym within) ∙ (ended_right wish input g (reading wish input).ending right).0

@@ -16,7 +16,8 @@ use Rattle.bare_stream.specs.StreamRead.{read_after}
 use Rattle.bare_stream.specs.WorkedStreams.{WorkedStreams}
 
 pub worked : WorkedStreams
-unfolding read_after bare_head_in bare_head_read agreement_tests presence_tests support_tests depth_tests value_tests head_read profile span significant coded set_significant live type_due refined symbol word_of
+unfolding read_after bare_head_in bare_head_read agreement_tests presence_tests support_tests depth_tests value_tests head_read profile span significant
+    coded set_significant live type_due refined symbol word_of
     bits_of value_of bits_of_octets place_of unmapped number_in lib.Count.ones
 worked = record {
   whole = refl;

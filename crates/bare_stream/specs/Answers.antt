@@ -8,7 +8,7 @@ use Rattle.strip_coder.specs.declared.encode.EncodeDone.{EncodeDone}
 use Rattle.strip_coder.specs.declared.encode.EncodeFault.{EncodeFault}
 use Rattle.strip_coder.specs.declared.encode.EncodeFault.TheVariants.{ReadFault, WriteFault, Short, Long, BadPixel}
 use Rattle.strip_coder.specs.Rasters.{most_length, LacksRows, image_of}
-use Rattle.strip_coder.specs.Answers.{AllInRange, FirstBad, TookRaster, TookRows}
+use Rattle.strip_coder.specs.Answers.{AllInRange, AsksInRange, FirstBad, TookRaster, TookRows}
 use Rattle.bare_stream.specs.Bare.{bare}
 use Rattle.bare_stream.specs.Rasters.{settled_texts, texts_for}
 
@@ -40,9 +40,10 @@ BareAnswers s old new took gave (Err WriteFault) =
     Rose old.write_faults new.write_faults × ((k : ℕ) × TookRows s took k × IsPrefixOfEach s took k gave)
 
 -- One run over a port: what it took and gave, when, and why it ended so. At each read call the texts of the segments that were settled by
--- then are given, and nothing else.
+-- then are given, and nothing else, and all whole pixels taken by then are in range.
 pub record EncodesBare (s : Setting) (old new : Outside) (result : Result EncodeDone EncodeFault) : Type 0 where
   pub took : List ℕ
   pub gave : List ℕ
   pub since : Exchange old new took gave [] (GivenBy (texts_for s) took)
+  pub asks : Exchange old new took gave [] (AsksInRange s took)
   pub answer : BareAnswers s old new took gave result

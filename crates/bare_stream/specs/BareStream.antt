@@ -14,7 +14,8 @@ pub record BareStream (book : Book) (octets : List ℕ) (g : Geometry) (w : List
 
 -- A bare stream has one geometry and one list of blocks, if it is read with one book, and no proper prefix of it is one if the book is sound.
 pub record BareStreamsEndThere : Type 0 where
-  pub no_prefix : (book : Book) → is_book_sound book ≡ true → (octets more : List ℕ) (g h : Geometry) (v w : List (List (List ℤ))) → BareStream book octets g v → BareStream book (octets ++ more) h w → more ≡ []
+  pub no_prefix : (book : Book) → is_book_sound book ≡ true → (octets more : List ℕ) (g h : Geometry) (v w : List (List (List ℤ))) →
+      BareStream book octets g v → BareStream book (octets ++ more) h w → more ≡ []
   pub geometry : (book : Book) (octets : List ℕ) (g h : Geometry) (v w : List (List (List ℤ))) → BareStream book octets g v → BareStream book octets h w → g ≡ h
   pub blocks : (book : Book) (octets : List ℕ) (g h : Geometry) (v w : List (List (List ℤ))) → BareStream book octets g v → BareStream book octets h w → v ≡ w
 

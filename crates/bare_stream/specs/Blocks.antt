@@ -9,7 +9,7 @@ use Rattle.picture_rows.specs.Steps.{Continues, StopsEarly}
 
 -- the next n blocks have these numbers, 64 each
 pub record HasNextBlocks (cells : List ℤ) (n : ℕ) (p : PictureState) (numbers : ℕ → ℕ → ℤ) : Type 0 where
-  pub stands : Represents numbers p
+  pub valid : Represents numbers p
   pub next : (k i : ℕ) → k < n → i < 64 → numbers (passed_in p + k) i ≡ slice_index_or (block_at cells k) i (pos 0)
 
 -- the numbers of the first n blocks are multiples of their weights
@@ -18,7 +18,7 @@ pub record AreParts (cells : List ℤ) (n : ℕ) (weights : List ℕ) : Type 0 w
 
 -- the next n blocks were passed, and the rows that they complete are given
 pub record HasPutBlocks (cells : List ℤ) (n : ℕ) (p q : Outside) (old new : PictureState) : Type 0 where
-  pub standing : IsCurrent new
+  pub current : IsCurrent new
   pub geometry : new.geometry ≡ old.geometry
   pub count : passed_in new ≡ passed_in old + n
   pub goes : Continues (HasNextBlocks cells n old) p q old new

@@ -11,8 +11,8 @@ use Rattle.bare_stream.specs.Pictures.{rows_with}
 use Rattle.bare_stream.specs.StreamRead.{needs_more, Segments, Read, stream_in, reading, answer_for, octets_for}
 
 -- this holds of what is left, if the port reports it
-abbrev pub Told : Outside → (List ℕ → Type 0) → Type 0
-Told start P = (input : List ℕ) → start.rest ≡ Some input → P input
+abbrev pub IfKnown : Outside → (List ℕ → Type 0) → Type 0
+IfKnown start P = (input : List ℕ) → start.rest ≡ Some input → P input
 
 -- the rows that segments determine
 abbrev pub rows_from : (first : Option SegmentHead) → Segments → List ℕ
@@ -41,7 +41,7 @@ pub record TakesNone (wish : DecodeWish) (took gave : List ℕ) (i j : ℕ) : Ty
 -- Each read call that takes octets does so while those before decide no answer, and are fewer than may be taken. Before it exactly the rows
 -- are given that the segments so far determine.
 abbrev pub AsksBare : DecodeWish → (old : Outside) → (took gave : List ℕ) → ℕ → ℕ → Type 0
-AsksBare wish old took gave i j = (i < wish.octets) × Told old (λ input. IsOpen wish (take i took) (take j gave) ⊎ TakesNone wish took gave i j)
+AsksBare wish old took gave i j = (i < wish.octets) × IfKnown old (λ input. IsOpen wish (take i took) (take j gave) ⊎ TakesNone wish took gave i j)
 
 -- ---- the answer
 
@@ -74,4 +74,4 @@ pub record DecodesBare (wish : DecodeWish) (old new : Outside) (result : Result 
   pub since : Exchange old new took gave [] (AsksBare wish old took gave)
   pub within : length took ≤ wish.octets
   pub ends : EndsSo result old new gave
-  pub answers : Told old (λ input. Answers wish input took gave result)
+  pub answers : IfKnown old (λ input. Answers wish input took gave result)

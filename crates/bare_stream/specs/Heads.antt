@@ -19,7 +19,8 @@ use Rattle.bare_stream.specs.Pictures.{pixels_at}
 -- the head of the segment of this index was read, or is refused by itself, or the input failed
 abbrev pub TakesHead : {I : Type 0} → SourceOf I → PartsInForce → (index : ℕ) → Result BareHead BareFault → (old new : I) → PartsInForce → Type 0
 TakesHead k before index (Ok read) old new after = ReadsHead k before (Ok read) old new after
-TakesHead k before index (Err (Refused at (causes.Head fault))) old new after = (at ≡ index) × ReadsHead k before (Err (head_faults.Refused fault)) old new after
+TakesHead k before index (Err (Refused at (causes.Head fault))) old new after =
+    (at ≡ index) × ReadsHead k before (Err (head_faults.Refused fault)) old new after
 TakesHead k before index (Err ReadFault) old new after = ReadsHead k before (Err (head_faults.Input in_faults.ReadFault)) old new after
 TakesHead k before index (Err LongInput) old new after =
     ReadsHead k before (Err (head_faults.Input in_faults.LongInput)) old new after ⊎ ReadsHead k before (Err (head_faults.Input in_faults.Broken)) old new after

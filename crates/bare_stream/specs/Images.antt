@@ -47,4 +47,5 @@ pub record SaysImage (s : Setting) (x : ℕ → ℕ → ℤ) (w : List (List (Li
 -- The octets that are written for an image are a bare stream, which reports this and nothing else.
 pub record ImagesAreBareStreams : Type 0 where
   pub says : (s : Setting) (x : ℕ → ℕ → ℤ) → IsBareImage s x → (w : List (List (List ℤ))) × SaysImage s x w
-  pub only : (s : Setting) (x : ℕ → ℕ → ℤ) (g : Geometry) (w : List (List (List ℤ))) → IsBareImage s x → BareStream s.book (bare s x) g w → (g ≡ bare_geometry s) × SaysImage s x w
+  pub only : (s : Setting) (x : ℕ → ℕ → ℤ) (g : Geometry) (w : List (List (List ℤ))) → IsBareImage s x → BareStream s.book (bare s x) g w →
+      (g ≡ bare_geometry s) × SaysImage s x w

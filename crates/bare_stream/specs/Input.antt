@@ -1,5 +1,6 @@
 -- What is known of the octets of a port that are taken up to a cap. (This project's own.)
-use Rattle.std.specs.Prelude.{◌≡◌, ◌⊎◌, ◌≤◌, ◌<◌, ◌+◌, ◌-◌, ◌^◌, ℕ, List, [], ◌∷◌, ◌++◌, length, take, drop, Bool, true, false, nat_lt, if◌then◌else◌, Option, None, Some, Result, Ok, Err}
+use Rattle.std.specs.Prelude.{◌≡◌, ◌⊎◌, ◌≤◌, ◌<◌, ◌+◌, ◌-◌, ◌^◌, ℕ, List, [], ◌∷◌, ◌++◌, length, take, drop, Bool, true, false, nat_lt, if◌then◌else◌}
+use Rattle.std.specs.Prelude.{Option, None, Some, Result, Ok, Err}
 use Rattle.port_122.specs.Outside.{Outside, Exchange, AtStart, AtEnd, Rose}
 use Rattle.bit_pipe.specs.Sources.{Plainly, TooLong, Tail}
 use Rattle.bit_pipe.specs.declared.fault.InFault.{InFault}
@@ -32,7 +33,8 @@ pub record IsLast (took : List ℕ) (failed : Bool) (left : Option (List ℕ)) (
 abbrev pub AsksWithin : {X : Type 0} → (X → Outside) → (old new : PortIn X) → (took gave : List ℕ) → ℕ → ℕ → Type 0
 AsksWithin outside old new took gave i j =
     (j ≡ 0) × (i < old.left)
-    × ((length (waiting old) + i < length gave) ⊎ ((input : List ℕ) → (outside old.port.now).rest ≡ Some input → IsLast took new.failed (outside new.port.now).rest i))
+    × ((length (waiting old) + i < length gave) ⊎ ((input : List ℕ) → (outside old.port.now).rest ≡ Some input →
+    IsLast took new.failed (outside new.port.now).rest i))
 
 -- Some octets were taken and some given: each read call had given all octets that were taken by then, and an octet that it took was given.
 pub record Went {X : Type 0} (outside : X → Outside) (old new : PortIn X) : Type 0 where

@@ -1,5 +1,6 @@
 -- Octets that are taken from a port can be continued. These laws are here since the meaning of a source needs them.
-use Rattle.std.proofs.Common.{ℕ, ◌≡◌, ◌⊎◌, ◌≤◌, ◌<◌, ◌+◌, true, inl, inr, List, [], ◌∷◌, ◌++◌, length, refl, sym, ap, subst, ◌∙◌, arith, append_assoc, length-append, Bool, Option, None, Some}
+use Rattle.std.proofs.Common.{ℕ, ◌≡◌, ◌⊎◌, ◌≤◌, ◌<◌, ◌+◌, true, inl, inr, List, [], ◌∷◌, ◌++◌, length, refl, sym, ap, subst, ◌∙◌, arith, append_assoc}
+use Rattle.std.proofs.Common.{length-append, Bool, Option, None, Some}
 use Rattle.std.proofs.lemmas.List.{append-nil}
 use Rattle.port_122.specs.Outside.{Outside, Loses, Rose}
 use Rattle.port_122.proofs.Stretches.{since_start, since_then, since_weaker, rose_since}
@@ -37,12 +38,13 @@ none_left (Some before) (Some now) took loses e = by took now (sym loses ∙ of_
     by (x ∷ a) b e = absurd cc
 
 pub still_known : (a b : Option (List ℕ)) (took all : List ℕ) → Loses a b took → a ≡ Some all → (rest : List ℕ) × (b ≡ Some rest)
-still_known None b took all loses told = absurd cc
-still_known (Some before) None took all loses told = absurd loses
-still_known (Some before) (Some now) took all loses told = (now, refl)
+still_known None b took all loses if_known = absurd cc
+still_known (Some before) None took all loses if_known = absurd loses
+still_known (Some before) (Some now) took all loses if_known = (now, refl)
 
 -- the last call stays the last one
-pub still_last : (took more : List ℕ) (before now : Bool) (old new : Option (List ℕ)) (i : ℕ) → (before ≡ true → (more ≡ []) × (now ≡ true)) → Loses old new more → IsLast took before old i →
+pub still_last : (took more : List ℕ) (before now : Bool) (old new : Option (List ℕ)) (i : ℕ) → (before ≡ true → (more ≡ []) × (now ≡ true)) →
+    Loses old new more → IsLast took before old i →
     (more ≡ []) × IsLast (took ++ more) now new i
 still_last took more before now old new i stops loses last = elim last.over [
   | inl failed ↦ let after = stops failed in (after.0, record { all = same after.0; over = inl after.1 })
@@ -68,18 +70,20 @@ module _ {X : Type 0} (outside : X → Outside) (s t u : PortIn X) (first : Went
     asks.1,
     elim asks.2 [
       | inl lt ↦ inl (omega (arith, lt, length-append first.gave next.gave))
-      | inr last ↦ inr (λ input told. (still_last first.took next.took t.failed u.failed (outside t.port.now).rest (outside u.port.now).rest i next.stops next.since.rest (last input told)).1)
+      | inr last ↦ inr (λ input if_known. (still_last first.took next.took t.failed u.failed (outside t.port.now).rest (outside u.port.now).rest i next.stops
+          next.since.rest (last input if_known)).1)
     ],
   )
 
-  asks_next : (i j : ℕ) → i ≤ length next.took → AsksWithin outside t u next.took next.gave i j → AsksWithin outside s u took gave (length first.took + i) (0 + j)
+  asks_next : (i j : ℕ) → i ≤ length next.took → AsksWithin outside t u next.took next.gave i j → AsksWithin outside s u took gave (length first.took + i)
+      (0 + j)
   asks_next i j le asks = (
     (let e = asks.0 in omega (arith, e)),
     (let room = asks.1 in let left = first.left in omega (arith, room, left)),
     elim asks.2 [
       | inl lt ↦ inl (omega (arith, lt, sizes, length-append first.gave next.gave))
-      | inr last ↦ inr (λ input told.
-          let here = still_known (outside s.port.now).rest (outside t.port.now).rest first.took input first.since.rest told in
+      | inr last ↦ inr (λ input if_known.
+          let here = still_known (outside s.port.now).rest (outside t.port.now).rest first.took input first.since.rest if_known in
           let l = last here.0 here.1 in
           record { all = ap (λ n. length first.took + n) l.all ∙ sym (length-append first.took next.took); over = l.over })
     ],

@@ -9,7 +9,7 @@ use Rattle.plane_defs.specs.Codes.{is_book_sound}
 use Rattle.segment_defs.specs.declared.head.SegmentHead.{SegmentHead}
 use Rattle.segment_code.specs.Laws.{TextsEndThere}
 use Rattle.stream_defs.specs.Picture.{number_at}
-use Rattle.picture_rows.specs.Fronts.{rows_of}
+use Rattle.picture_rows.specs.Prefixes.{rows_of}
 use Rattle.picture_rows.specs.Pictures.{PictureState, IsCurrent, Represents, passed_in}
 use Rattle.bare_text.specs.declared.parts.PartsInForce.{PartsInForce}
 use Rattle.bare_text.specs.Laws.{BareHeadsEndThere}
@@ -17,7 +17,7 @@ use Rattle.bare_stream.specs.declared.input.PortIn.{PortIn}
 use Rattle.bare_stream.specs.Input.{IsLast, waiting}
 use Rattle.bare_stream.specs.Pictures.{open_geometry, segments_in, rows_with}
 use Rattle.bare_stream.specs.StreamRead.{Segments, read_on}
-use Rattle.bare_stream.specs.Decoded.{Told, IsOpen, TakesNone, read_by}
+use Rattle.bare_stream.specs.Decoded.{IfKnown, IsOpen, TakesNone, read_by}
 
 -- the laws by which a stream is read with the book of a wish
 pub record HasLaws (wish : DecodeWish) : Type 0 where
@@ -56,7 +56,7 @@ Reaches wish r before = (more : List ℕ) → read_by wish (concat r.texts ++ mo
 
 -- it is so, if the port reports what is left
 abbrev pub InForceAfter : DecodeWish → (start : Outside) → SegmentsRead → PartsInForce → Type 0
-InForceAfter wish start r parts = Told start (λ input. Reaches wish r parts)
+InForceAfter wish start r parts = IfKnown start (λ input. Reaches wish r parts)
 
 -- ---- the octets
 
@@ -70,31 +70,33 @@ AskedNow r part took gave failed left i j = (j ≡ length gave) × (size_of r �
 
 abbrev pub AsksIn : DecodeWish → (start : Outside) → SegmentsRead → (part took gave : List ℕ) → (failed : Bool) → (left : Option (List ℕ)) → ℕ → ℕ → Type 0
 AsksIn wish start r part took gave failed left i j =
-    (i < wish.octets) × (j ≤ length gave) × Told start (λ input. AskedBefore wish took gave failed left i j ⊎ AskedNow r part took gave failed left i j)
+    (i < wish.octets) × (j ≤ length gave) × IfKnown start (λ input. AskedBefore wish took gave failed left i j ⊎ AskedNow r part took gave failed left i j)
 
 -- Since a start the octets of these segments and this part of the next one were given by an input, and others wait. The rows are given that
 -- the segments determine.
-pub record HasRead {X : Type 0} (outside : X → Outside) (wish : DecodeWish) (start : Outside) (r : SegmentsRead) (part : List ℕ) (input : PortIn X) : Type 0 where
-  pub some : r.texts ≡ [] → r.ended ≡ None
-  pub same : length r.texts ≡ length r.blocks
-  pub took : List ℕ
-  pub gave : List ℕ
-  pub since : Exchange start (outside input.port.now) took gave [] (AsksIn wish start r part took gave input.failed (outside input.port.now).rest)
-  pub gave_is : gave ≡ rows_read r
-  pub octets : took ≡ concat r.texts ++ (part ++ waiting input)
-  pub left : length took + input.left ≡ wish.octets
-  pub rises : input.failed ≡ true → Rose start.read_faults (outside input.port.now).read_faults
+pub record HasRead {X : Type 0} (outside : X → Outside) (wish : DecodeWish) (start : Outside) (r : SegmentsRead) (part : List ℕ) (input : PortIn X) : Type 0
+  where
+    pub some : r.texts ≡ [] → r.ended ≡ None
+    pub same : length r.texts ≡ length r.blocks
+    pub took : List ℕ
+    pub gave : List ℕ
+    pub since : Exchange start (outside input.port.now) took gave [] (AsksIn wish start r part took gave input.failed (outside input.port.now).rest)
+    pub gave_is : gave ≡ rows_read r
+    pub octets : took ≡ concat r.texts ++ (part ++ waiting input)
+    pub left : length took + input.left ≡ wish.octets
+    pub rises : input.failed ≡ true → Rose start.read_faults (outside input.port.now).read_faults
 
 -- ---- the picture
 
 -- blocks, counted in raster order, whose first ones have the numbers of these segments
 pub record AreNumbersOf (r : SegmentsRead) (numbers : ℕ → ℕ → ℤ) : Type 0 where
-  pub at : (block i : ℕ) → block < first_block r.first.blocks (length r.blocks) → i < 64 → numbers block i ≡ number_at (open_geometry r.first) (segments_in r.blocks) block i
+  pub at : (block i : ℕ) → block < first_block r.first.blocks (length r.blocks) → i < 64 →
+      numbers block i ≡ number_at (open_geometry r.first) (segments_in r.blocks) block i
 
 -- a picture of this geometry has passed the blocks of these segments, and these octets are given
 pub record ShowsRead (g : Geometry) (r : SegmentsRead) (gave : List ℕ) (p : PictureState) : Type 0 where
-  pub standing : IsCurrent p
+  pub current : IsCurrent p
   pub geometry : p.geometry ≡ g
   pub passed : passed_in p ≡ first_block r.first.blocks (length r.blocks)
-  pub stands : (numbers : ℕ → ℕ → ℤ) → AreNumbersOf r numbers → Represents numbers p
+  pub valid : (numbers : ℕ → ℕ → ℤ) → AreNumbersOf r numbers → Represents numbers p
   pub given : (numbers : ℕ → ℕ → ℤ) → AreNumbersOf r numbers → gave ≡ rows_of p.geometry numbers p.at.next

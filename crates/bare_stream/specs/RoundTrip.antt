@@ -33,11 +33,15 @@ ReadsWhole g w gave (Err other) = ⊥
 -- A bare stream within the caps, with the codes of the book that is wished, has its geometry as the answer. So it is read whole: it isn't
 -- refused.
 pub record StreamsAreRead : Type 0 where
-  pub answer : (wish : DecodeWish) (octets : List ℕ) (g : Geometry) (w : List (List (List ℤ))) → BareStream wish.book octets g w → IsWithinCaps wish octets g → answer_for wish octets ≡ Ok g
-  pub blocks : (wish : DecodeWish) (octets : List ℕ) (g : Geometry) (w : List (List (List ℤ))) → BareStream wish.book octets g w → IsWithinCaps wish octets g → (reading wish octets).segments.blocks ≡ w
+  pub answer : (wish : DecodeWish) (octets : List ℕ) (g : Geometry) (w : List (List (List ℤ))) → BareStream wish.book octets g w →
+      IsWithinCaps wish octets g → answer_for wish octets ≡ Ok g
+  pub blocks : (wish : DecodeWish) (octets : List ℕ) (g : Geometry) (w : List (List (List ℤ))) → BareStream wish.book octets g w →
+      IsWithinCaps wish octets g → (reading wish octets).segments.blocks ≡ w
   -- whichever stream is read whole, its segments determine all rows of its picture
-  pub rows : (wish : DecodeWish) (input : List ℕ) (g : Geometry) → answer_for wish input ≡ Ok g → rows_of (reading wish input).segments ≡ all_rows g (reading wish input).segments.blocks
-  pub read : (wish : DecodeWish) (old new : Outside) (result : Result Geometry BareFault) (octets : List ℕ) (g : Geometry) (w : List (List (List ℤ))) (run : DecodesBare wish old new result) →
+  pub rows : (wish : DecodeWish) (input : List ℕ) (g : Geometry) → answer_for wish input ≡ Ok g → rows_of (reading wish input).segments
+      ≡ all_rows g (reading wish input).segments.blocks
+  pub read : (wish : DecodeWish) (old new : Outside) (result : Result Geometry BareFault) (octets : List ℕ) (g : Geometry) (w : List (List (List ℤ)))
+      (run : DecodesBare wish old new result) →
       BareStream wish.book octets g w → old.rest ≡ Some octets → IsWithinCaps wish octets g → ReadsWhole g w run.gave result
 
 -- ---- that of an image
@@ -62,5 +66,6 @@ pub record BareRoundTrip : Type 0 where
   pub picture : (s : Setting) (x : ℕ → ℕ → ℤ) → IsBareImage s x → all_rows (bare_geometry s) (image_segments s x) ≡ raster_octets s.depth s.rows s.width x
   pub decoded : (wish : DecodeWish) (old new : Outside) (g : Geometry) (left : List ℕ) (s : Setting) (x : ℕ → ℕ → ℤ) (run : DecodesBare wish old new (Ok g)) →
       old.rest ≡ Some left → run.took ≡ bare s x → wish.book ≡ s.book → IsBareImage s x → GivesImage s x run.gave g
-  pub answered : (wish : DecodeWish) (old new : Outside) (result : Result Geometry BareFault) (s : Setting) (x : ℕ → ℕ → ℤ) (run : DecodesBare wish old new result) →
+  pub answered : (wish : DecodeWish) (old new : Outside) (result : Result Geometry BareFault) (s : Setting) (x : ℕ → ℕ → ℤ)
+      (run : DecodesBare wish old new result) →
       old.rest ≡ Some (bare s x) → wish.book ≡ s.book → IsBareImage s x → IsWithinCaps wish (bare s x) (bare_geometry s) → AnswersImage s x run.gave result

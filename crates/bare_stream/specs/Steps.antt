@@ -91,7 +91,8 @@ pub record TextCut (p q : Outside) (text : List ℕ) : Type 0 where
   pub rose : Rose p.write_faults q.write_faults
 
 -- the text of a segment with this head is written
-pub record SegmentOut (s : Setting) (index : ℕ) (before : Option SegmentHead) (segment : List (List ℤ)) (p q : Outside) (head : SegmentHead) (octets : ℕ) : Type 0 where
+pub record SegmentOut (s : Setting) (index : ℕ) (before : Option SegmentHead) (segment : List (List ℤ)) (p q : Outside) (head : SegmentHead)
+    (octets : ℕ) : Type 0 where
   pub is_head : head ≡ head_now s index segment
   pub fits : IsHead head
   pub text : TextOut p q (bare_text s.book before head segment) octets

@@ -4,7 +4,7 @@ use Rattle.base_122.specs.Sizes.{block_count, padded_size, total_blocks, first_b
 use Rattle.base_122.specs.declared.setting.Setting.{Setting}
 use Rattle.wave_defs.specs.Held.{block_at}
 use Rattle.block_families.specs.Places.{gathered}
-use Rattle.wave_strip.specs.Strip.{rows_of, answered_of, has_ended, is_standing, number_in}
+use Rattle.wave_strip.specs.Strip.{rows_of, answered_of, has_ended, is_current, number_in}
 use Rattle.wave_strip.specs.Counts.{settled}
 use Rattle.stream_defs.specs.Output.{image_blocks, segments_of}
 use Rattle.strip_coder.specs.declared.work.Work.{Work}
@@ -35,7 +35,7 @@ pub record IsAt (s : Setting) (column : ℕ) (w : Work) : Type 0 where
   pub made : IsMadeFor s w
   pub rows : AreRows s w
   pub columns : column ≤ block_count s.width
-  pub stands : column < block_count s.width → is_standing w.strip ≡ true
+  pub valid : column < block_count s.width → is_current w.strip ≡ true
   pub count : gathered_in (plan s) w.at + block_count s.width ≡ block_count s.width * answered_of w.strip + column
   pub index : w.at.index ≤ segments_of s
   pub filled : w.at.filled ≤ present_size s w

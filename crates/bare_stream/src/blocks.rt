@@ -13,7 +13,7 @@ pub fn put_blocks<X: Port>(
     blocks: &[i32],
     count: usize,
 ) -> Result<(), Failed>
-    requires standing { IsCurrent (picture_state picture.old) }
+    requires current { IsCurrent (picture_state picture.old) }
     requires room { passed_in (picture_state picture.old) + count ≤ total_in (picture_state picture.old) }
     requires whole { 64 * count ≤ length blocks.now }
     requires parts { AreParts blocks.now count picture.old.geometry.weights.shifts }

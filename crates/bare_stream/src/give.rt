@@ -4,7 +4,7 @@ ghost use Rattle.port_122.specs.Outside.{Outside};
 ghost use Rattle.base_122.specs.declared.wish.DecodeWish.{DecodeWish};
 ghost use Rattle.bare_text.specs.declared.parts.PartsInForce.{PartsInForce};
 ghost use Rattle.bare_stream.specs.Blocks.{AreParts};
-ghost use Rattle.bare_stream.specs.Decoded.{DecodesBare, Told};
+ghost use Rattle.bare_stream.specs.Decoded.{DecodesBare, IfKnown};
 ghost use Rattle.bare_stream.specs.Reads.{SegmentsRead, InForceAfter};
 ghost use Rattle.bare_stream.specs.Walks.{IsSound, IsNext, IsAt, IsHeadOf, IsNextText, HasEnded};
 
@@ -28,7 +28,9 @@ pub fn give_next<X: Port>(
     requires parts { AreParts walk.old.room.blocks.items read.now.head.blocks read.now.head.image.weights.shifts }
     ensures port { input.new.port.ghost_name ≡ input.old.port.ghost_name }
     ensures walk { IfOk result (λ _. IsSound walk.new × (walk.new.first ≡ walk.old.first) × (walk.new.index ≡ walk.old.index + 1)) }
-    ensures run { (wish : DecodeWish) (start : Outside) (r : SegmentsRead) (front text : List ℕ) (before : PartsInForce) → IsAt X.outside wish start r text input.old walk.old → Told start (λ all. IsHeadOf wish r before walk.old.parts front read.now) → Told start (λ all. IsNextText wish r before walk.old text read.now) → MatchResult result
+    ensures run { (wish : DecodeWish) (start : Outside) (r : SegmentsRead) (prefix text : List ℕ) (before : PartsInForce) →
+        IsAt X.outside wish start r text input.old walk.old → IfKnown start (λ all. IsHeadOf wish r before walk.old.parts prefix read.now) →
+        IfKnown start (λ all. IsNextText wish r before walk.old text read.now) → MatchResult result
         (λ _. (more : SegmentsRead) × IsAt X.outside wish start more [] input.new walk.new × InForceAfter wish start more walk.new.parts)
         (λ fault. DecodesBare wish start (X.outside input.new.port.now) (Err fault)) }
 {
@@ -52,7 +54,9 @@ pub fn give_last<X: Port>(
     requires fits { 0 < walk.old.index → walk.old.first.last ≡ false }
     requires parts { AreParts walk.old.room.blocks.items read.now.head.blocks read.now.head.image.weights.shifts }
     ensures port { input.new.port.ghost_name ≡ input.old.port.ghost_name }
-    ensures run { (wish : DecodeWish) (start : Outside) (r : SegmentsRead) (front text : List ℕ) (before : PartsInForce) → IsAt X.outside wish start r text input.old walk.old → Told start (λ all. IsHeadOf wish r before walk.old.parts front read.now) → Told start (λ all. IsNextText wish r before walk.old text read.now) → MatchResult result
+    ensures run { (wish : DecodeWish) (start : Outside) (r : SegmentsRead) (prefix text : List ℕ) (before : PartsInForce) →
+        IsAt X.outside wish start r text input.old walk.old → IfKnown start (λ all. IsHeadOf wish r before walk.old.parts prefix read.now) →
+        IfKnown start (λ all. IsNextText wish r before walk.old text read.now) → MatchResult result
         (λ _. HasEnded X.outside wish start input.new walk.new)
         (λ fault. DecodesBare wish start (X.outside input.new.port.now) (Err fault)) }
 {

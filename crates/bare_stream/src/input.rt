@@ -31,7 +31,8 @@ pub struct PortIn<'a, X> {
 fn read_piece<X: Port>(port: &mut X, piece: &mut [u8], most: usize) -> Result<usize, Failed>
     requires some { 0 < most }
     requires room { most ≤ length piece.old }
-    ensures reads { MatchResult result (ReadsPiece (X.outside port.old) (X.outside port.new) most piece.new) (λ _. ReadFailed (X.outside port.old) (X.outside port.new)) }
+    ensures reads { MatchResult result (ReadsPiece (X.outside port.old) (X.outside port.new) most piece.new)
+        (λ _. ReadFailed (X.outside port.old) (X.outside port.new)) }
     ensures size { length piece.new ≡ length piece.old }
 {
     port.read(&mut piece[..most])

@@ -74,7 +74,8 @@ pub fn read_items<X: Port>(
     requires size { read.now.size ≤ 20 }
     requires blocks { 64 * read.now.head.blocks ≤ length blocks.old }
     requires marks { read.now.head.blocks ≤ length marks.old }
-    ensures items { DecodesItems (source_of X.outside) reader.now.reader.tables.words.book read.now.head read.now.size result input.old input.new (take (64 * read.now.head.blocks) blocks.new) }
+    ensures items { DecodesItems (source_of X.outside) reader.now.reader.tables.words.book read.now.head read.now.size result input.old input.new
+        (take (64 * read.now.head.blocks) blocks.new) }
     ensures sizes { (length blocks.new ≡ length blocks.old) × (length marks.new ≡ length marks.old) }
 {
     let count = read.head.blocks as usize;

@@ -35,7 +35,8 @@ fn write_segment<X: Port>(
     requires before { IfSome place.now.writer.before (λ h. IsHead h) }
     requires some { 64 ≤ length blocks.old.numbers }
     requires most { length blocks.old.numbers ≤ 64 * 1048575 }
-    ensures text { WritesSegment result setting.now place.now.index place.now.writer.before (blocks_in blocks.old.numbers) (X.outside port.old) (X.outside port.new) }
+    ensures text { WritesSegment result setting.now place.now.index place.now.writer.before (blocks_in blocks.old.numbers) (X.outside port.old)
+        (X.outside port.new) }
     ensures most { blocks.new.most ≡ blocks.old.most }
 {
     let (depth_dc, depth_ac) = blocks.depths();

@@ -11,7 +11,7 @@ ghost use Rattle.bare_stream.specs.Rasters.{IsBare};
 ghost use Rattle.bare_stream.specs.Answers.{EncodesBare};
 ghost use Rattle.bare_stream.specs.Works.{IsAt, plan, present_size};
 ghost use Rattle.bare_stream.specs.Steps.{HasPushed, HasFinished, HasPut, HasStepped, HasBrought};
-ghost use Rattle.bare_stream.specs.RowsIn.{HasCome, StepsOn};
+ghost use Rattle.bare_stream.specs.RowsIn.{HasArrived, StepsOn};
 
 use base_122::Setting;
 use port_122::Port;
@@ -52,7 +52,8 @@ fn take_row<X: Port>(port: &mut X, setting: &Setting, work: &mut Work) -> Result
     requires more { work.old.at.filled < present_size setting.now work.old }
     requires few { work.old.at.rows < setting.now.rows }
     ensures step { MatchResult result (λ came. HasStepped setting.now came work.old work.new) (λ _. IsMadeFor setting.now work.new) }
-    ensures row { (start : Outside) (before : Option SegmentHead) → HasCome setting.now (block_count setting.now.width) before start (X.outside port.old) work.old →
+    ensures row { (start : Outside) (before : Option SegmentHead) → HasArrived setting.now (block_count setting.now.width) before start (X.outside port.old)
+        work.old →
         StepsOn result setting.now before start (X.outside port.new) work.new }
 {
     let row = work.at.rows;
@@ -70,7 +71,8 @@ fn next_row<X: Port>(port: &mut X, setting: &Setting, work: &mut Work) -> Result
     requires index { work.old.at.index < segments_of setting.now }
     requires more { work.old.at.filled < present_size setting.now work.old }
     ensures step { MatchResult result (λ came. HasStepped setting.now came work.old work.new) (λ _. IsMadeFor setting.now work.new) }
-    ensures row { (start : Outside) (before : Option SegmentHead) → HasCome setting.now (block_count setting.now.width) before start (X.outside port.old) work.old →
+    ensures row { (start : Outside) (before : Option SegmentHead) → HasArrived setting.now (block_count setting.now.width) before start (X.outside port.old)
+        work.old →
         StepsOn result setting.now before start (X.outside port.new) work.new }
 {
     if work.at.rows < setting.rows {
@@ -94,8 +96,9 @@ fn bring_block_row<X: Port>(
     requires index { work.old.at.index < segments_of setting.now }
     requires more { work.old.at.filled < present_size setting.now work.old }
     ensures step { MatchResult result (λ _. HasBrought setting.now 0 work.old.at.filled work.old work.new) (λ _. IsMadeFor setting.now work.new) }
-    ensures row { (start : Outside) (before : Option SegmentHead) → HasCome setting.now (block_count setting.now.width) before start (X.outside port.old) work.old → MatchResult result
-        (λ _. HasCome setting.now 0 before start (X.outside port.new) work.new)
+    ensures row { (start : Outside) (before : Option SegmentHead) → HasArrived setting.now (block_count setting.now.width) before start (X.outside port.old)
+        work.old → MatchResult result
+        (λ _. HasArrived setting.now 0 before start (X.outside port.new) work.new)
         (λ fault. EncodesBare setting.now start (X.outside port.new) (Err fault)) }
 {
     while !next_row(port, setting, work)? {}
@@ -113,9 +116,11 @@ fn ready_column<X: Port>(
     requires at { IsAt setting.now column work.old }
     requires index { work.old.at.index < segments_of setting.now }
     requires more { work.old.at.filled < present_size setting.now work.old }
-    ensures step { MatchResult result (λ ready. (ready < block_count setting.now.width) × HasBrought setting.now ready work.old.at.filled work.old work.new) (λ _. IsMadeFor setting.now work.new) }
-    ensures row { (start : Outside) (before : Option SegmentHead) → HasCome setting.now column before start (X.outside port.old) work.old → MatchResult result
-        (λ ready. HasCome setting.now ready before start (X.outside port.new) work.new)
+    ensures step { MatchResult result (λ ready. (ready < block_count setting.now.width) × HasBrought setting.now ready work.old.at.filled work.old work.new)
+        (λ _. IsMadeFor setting.now work.new) }
+    ensures row { (start : Outside) (before : Option SegmentHead) → HasArrived setting.now column before start (X.outside port.old) work.old →
+        MatchResult result
+        (λ ready. HasArrived setting.now ready before start (X.outside port.new) work.new)
         (λ fault. EncodesBare setting.now start (X.outside port.new) (Err fault)) }
 {
     if column < setting.width.div_ceil(8) {
@@ -150,9 +155,11 @@ pub fn fill_segment<X: Port>(
     requires at { IsAt setting.now column work.old }
     requires index { work.old.at.index < segments_of setting.now }
     requires none { work.old.at.filled ≡ 0 }
-    ensures step { MatchResult result (λ now. HasBrought setting.now now (present_size setting.now work.old) work.old work.new) (λ _. IsMadeFor setting.now work.new) }
-    ensures rows { (start : Outside) (before : Option SegmentHead) → HasCome setting.now column before start (X.outside port.old) work.old → MatchResult result
-        (λ now. HasCome setting.now now before start (X.outside port.new) work.new)
+    ensures step { MatchResult result (λ now. HasBrought setting.now now (present_size setting.now work.old) work.old work.new)
+        (λ _. IsMadeFor setting.now work.new) }
+    ensures rows { (start : Outside) (before : Option SegmentHead) → HasArrived setting.now column before start (X.outside port.old) work.old →
+        MatchResult result
+        (λ now. HasArrived setting.now now before start (X.outside port.new) work.new)
         (λ fault. EncodesBare setting.now start (X.outside port.new) (Err fault)) }
 {
     let mut next = column;

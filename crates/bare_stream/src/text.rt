@@ -26,8 +26,10 @@ pub fn write_text<X: Port>(
     requires dc { head.now.depth_dc ≡ depth_dc_of (blocks_in blocks.old.numbers) }
     requires ac { head.now.depth_ac ≡ depth_ac_of (blocks_in blocks.old.numbers) }
     ensures text { MatchResult result
-        (λ octets. TextOut (X.outside port.old) (X.outside port.new) (bare_text writer.now.items.now.tables.book writer.now.before head.now (blocks_in blocks.old.numbers)) octets)
-        (λ _. TextCut (X.outside port.old) (X.outside port.new) (bare_text writer.now.items.now.tables.book writer.now.before head.now (blocks_in blocks.old.numbers))) }
+        (λ octets. TextOut (X.outside port.old) (X.outside port.new) (bare_text writer.now.items.now.tables.book writer.now.before head.now
+        (blocks_in blocks.old.numbers)) octets)
+        (λ _. TextCut (X.outside port.old) (X.outside port.new) (bare_text writer.now.items.now.tables.book writer.now.before head.now
+        (blocks_in blocks.old.numbers))) }
     ensures most { blocks.new.most ≡ blocks.old.most }
 {
     let mut sink = TextSink::new(port);

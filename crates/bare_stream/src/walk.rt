@@ -5,7 +5,7 @@ ghost use Rattle.base_122.specs.declared.wish.DecodeWish.{DecodeWish};
 ghost use Rattle.segment_defs.specs.Head.{IsHead};
 ghost use Rattle.plane_defs.specs.Codes.{is_book_sound};
 ghost use Rattle.bare_text.specs.declared.parts.PartsInForce.{PartsInForce};
-ghost use Rattle.bare_stream.specs.Decoded.{DecodesBare, Told};
+ghost use Rattle.bare_stream.specs.Decoded.{DecodesBare, IfKnown};
 ghost use Rattle.bare_stream.specs.Heads.{ExpectsEnd};
 ghost use Rattle.bare_stream.specs.Inputs.{source_of};
 ghost use Rattle.bare_stream.specs.Pictures.{geometry_at, shape_with};
@@ -52,7 +52,8 @@ impl Walk {
         requires fits { IsHead first.now }
         requires book { IsTrue (is_book_sound wish.now.book) }
         ensures sound { IfOk result (λ w. IsSound w) }
-        ensures begins { IfOk result (λ w. (w.first ≡ first.now) × (w.parts ≡ parts) × (w.index ≡ 0) × (w.pixels ≡ wish.now.pixels) × (book_in w ≡ wish.now.book)) }
+        ensures begins { IfOk result (λ w. (w.first ≡ first.now) × (w.parts ≡ parts) × (w.index ≡ 0) × (w.pixels ≡ wish.now.pixels) ×
+            (book_in w ≡ wish.now.book)) }
         ensures fresh { IfOk result (λ w. IsFresh (shape_with first.now 262144) (picture_state w.picture)) }
     {
         let room = Room::new(alloc, first.blocks, &wish.book)?;
@@ -104,8 +105,10 @@ fn next_head<X: Port>(walk: &mut Walk, input: &mut PortIn<X>) -> Result<BareHead
     ensures walk { walk.new ≡ record walk.old { parts = walk.new.parts } }
     ensures next { IfOk result (λ read. IsNext walk.new read) }
     ensures port { input.new.port.ghost_name ≡ input.old.port.ghost_name }
-    ensures run { (wish : DecodeWish) (start : Outside) (r : SegmentsRead) → IsAt X.outside wish start r [] input.old walk.old → InForceAfter wish start r walk.old.parts → MatchResult result
-        (λ read. (front : List ℕ) × IsAt X.outside wish start r front input.new walk.new × Told start (λ all. IsHeadOf wish r walk.old.parts walk.new.parts front read))
+    ensures run { (wish : DecodeWish) (start : Outside) (r : SegmentsRead) → IsAt X.outside wish start r [] input.old walk.old →
+        InForceAfter wish start r walk.old.parts → MatchResult result
+        (λ read. (prefix : List ℕ) × IsAt X.outside wish start r prefix input.new walk.new × IfKnown start
+        (λ all. IsHeadOf wish r walk.old.parts walk.new.parts prefix read))
         (λ fault. DecodesBare wish start (X.outside input.new.port.now) (Err fault)) }
 {
     let read = match take_head(input, &mut walk.parts, walk.index) {
@@ -131,8 +134,10 @@ fn take_text<X: Port>(
     ensures port { input.new.port.ghost_name ≡ input.old.port.ghost_name }
     ensures parts { IfOk result (λ _. AreParts walk.new.room.blocks.items read.now.head.blocks read.now.head.image.weights.shifts) }
     ensures room { (vec_len walk.new.room.blocks ≡ vec_len walk.old.room.blocks) × (vec_len walk.new.room.marks ≡ vec_len walk.old.room.marks) }
-    ensures run { (wish : DecodeWish) (start : Outside) (r : SegmentsRead) (front : List ℕ) (before : PartsInForce) → IsAt X.outside wish start r front input.old walk.old → Told start (λ all. IsHeadOf wish r before walk.old.parts front read.now) → MatchResult result
-        (λ _. (text : List ℕ) × IsAt X.outside wish start r text input.new walk.new × Told start (λ all. IsNextText wish r before walk.new text read.now))
+    ensures run { (wish : DecodeWish) (start : Outside) (r : SegmentsRead) (prefix : List ℕ) (before : PartsInForce) →
+        IsAt X.outside wish start r prefix input.old walk.old → IfKnown start (λ all. IsHeadOf wish r before walk.old.parts prefix read.now) →
+        MatchResult result
+        (λ _. (text : List ℕ) × IsAt X.outside wish start r text input.new walk.new × IfKnown start (λ all. IsNextText wish r before walk.new text read.now))
         (λ fault. DecodesBare wish start (X.outside input.new.port.now) (Err fault)) }
 {
     texts_give_parts();
@@ -161,7 +166,8 @@ pub fn take_stream<X: Port>(
     requires none { walk.old.index ≡ 0 }
     requires first { first.head ≡ walk.old.first }
     ensures port { input.new.port.ghost_name ≡ input.old.port.ghost_name }
-    ensures run { (wish : DecodeWish) (start : Outside) → IsReading X.outside wish start input.old walk.old first → DecodesBare wish start (X.outside input.new.port.now) result }
+    ensures run { (wish : DecodeWish) (start : Outside) → IsReading X.outside wish start input.old walk.old first →
+        DecodesBare wish start (X.outside input.new.port.now) result }
 {
     if let Err(fault) = take_segments(walk, input, first) {
         return Err(fault);

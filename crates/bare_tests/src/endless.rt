@@ -14,9 +14,9 @@ struct EndlessPort {
 }
 
 impl Port for EndlessPort {
-    ghost use Rattle.bare_tests.specs.Endless.{untold};
+    ghost use Rattle.bare_tests.specs.Endless.{unknown};
 
-    ghost outside = { λ _. untold };
+    ghost outside = { λ _. unknown };
 
     fn read(&mut self, into: &mut [u8]) -> Result<usize, Failed> {
         if into.is_empty() {

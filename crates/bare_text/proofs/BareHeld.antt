@@ -1,5 +1,6 @@
 -- A bare text is its head and what decides its items.
-use Rattle.std.proofs.Common.{◌≡◌, ℕ, ◌+◌, ◌*◌, ◌≤◌, ◌<◌, List, ◌++◌, length, get_or, Bool, true, false, if◌then◌else◌, refl, sym, ap, ◌∙◌, subst, arith, length-append, flat_map}
+use Rattle.std.proofs.Common.{◌≡◌, ℕ, ◌+◌, ◌*◌, ◌≤◌, ◌<◌, List, ◌++◌, length, get_or, Bool, true, false, if◌then◌else◌, refl, sym, ap, ◌∙◌, subst, arith}
+use Rattle.std.proofs.Common.{length-append, flat_map}
 use Rattle.item_defs.proofs.OctetBits.{length-octets_of}
 use Rattle.segment_defs.specs.declared.head.SegmentHead.{SegmentHead}
 use Rattle.segment_defs.specs.Depths.{block_depth, block_depths}
@@ -9,7 +10,7 @@ use Rattle.segment_head.specs.declared.carried.Carried.{Carried}
 use Rattle.segment_head.specs.Parts.{part_1}
 use Rattle.segment_defs.proofs.WrittenFields.{width_of, length-bits_in}
 use Rattle.segment_head.proofs.WrittenHeads.{length_4}
-use Rattle.text_defs.proofs.SegmentItems.{segment_are_items}
+use Rattle.segment_defs.proofs.SegmentItems.{segment_are_items}
 use Rattle.segment_code.proofs.CodedChoices.{words_are, numbers_are, within_greatest}
 use Rattle.segment_code.specs.TextAnswers.{gives, Decides}
 use Rattle.segment_code.specs.Spelled.{SpelledTextsDecide}
@@ -44,7 +45,13 @@ bits_long c h ten =
     eight false fields n e = refl
 
 size_most : (last a b d : Bool) → (if last then 4 else 3) + ((if a then 5 else 0) + ((if b then 3 else 0) + (if d then 8 else 0))) ≤ 20
-size_most last a b d = omega (arith, most last 4 3 4 (omega arith) (omega arith), most a 5 0 5 (omega arith) (omega arith), most b 3 0 3 (omega arith) (omega arith), most d 8 0 8 (omega arith) (omega arith))
+size_most last a b d = omega (
+  arith,
+  most last 4 3 4 (omega arith) (omega arith),
+  most a 5 0 5 (omega arith) (omega arith),
+  most b 3 0 3 (omega arith) (omega arith),
+  most d 8 0 8 (omega arith) (omega arith),
+)
   where
     most : (b : Bool) (m n k : ℕ) → m ≤ k → n ≤ k → (if b then m else n) ≤ k
     most true m n k p q = p
@@ -59,7 +66,8 @@ bare_texts_hold spelled book sound before h blocks fits ten spellable deep =
     let low = λ (r : ℕ) (lt : r < length (block_depths blocks)). low_is r lt in
     let words = words_are book sound h blocks in
     let are = segment_are_items h blocks (block_depths blocks) options fits spellable words (numbers_are book h blocks fits) low in
-    let held = text_held spelled h blocks (block_depths blocks) options fits spellable words are (bare_head_bits c h) (size_with c h) long (size_most h.last c.part_2 c.part_3 c.part_4) in
+    let held = text_held spelled h blocks (block_depths blocks) options fits spellable words are (bare_head_bits c h) (size_with c h) long
+    (size_most h.last c.part_2 c.part_3 c.part_4) in
     let size : size_with c h ≡ length (bare_head before h) = sym (length-octets_of (bare_head_bits c h) ∙ omega (arith, long)) in
     record {
       rest = held.rest;

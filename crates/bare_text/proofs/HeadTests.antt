@@ -1,5 +1,6 @@
 -- The tests of a head with absent parts, one after another.
-use Rattle.std.proofs.Common.{◌≡◌, ℕ, ◌+◌, ◌*◌, ◌<◌, ◌≤◌, List, [], ◌∷◌, length, take, Bool, true, false, not, nat_lt, is_none, if◌then◌else◌, ◌==◌, ◌||◌, refl, sym, ap, ◌∙◌, subst, arith, Option, None, Some, Result, Err}
+use Rattle.std.proofs.Common.{◌≡◌, ℕ, ◌+◌, ◌*◌, ◌<◌, ◌≤◌, List, [], ◌∷◌, length, take, Bool, true, false, not, nat_lt, is_none, if◌then◌else◌, ◌==◌, ◌||◌}
+use Rattle.std.proofs.Common.{refl, sym, ap, ◌∙◌, subst, arith, Option, None, Some, Result, Err}
 use Rattle.std.proofs.lemmas.Bool.Decides.{nat_tests}
 use Rattle.segment_defs.specs.declared.head.SegmentHead.{SegmentHead}
 use Rattle.segment_defs.specs.declared.fault.HeadFault.{HeadFault}
@@ -28,11 +29,13 @@ module _ (a b : List ℕ) (e : take 3 a ≡ take 3 b) (la : 3 ≤ length a) (lb 
 
 -- ---- what is answered
 
-one_refuses : (test : Bool) (fault : HeadFault) (later : Result SegmentHead HeadFault) → test ≡ true → then_read (first_refusal (refused_where test fault ∷ [])) later ≡ Err fault
+one_refuses : (test : Bool) (fault : HeadFault) (later : Result SegmentHead HeadFault) → test ≡ true →
+    then_read (first_refusal (refused_where test fault ∷ [])) later ≡ Err fault
 one_refuses true fault later e = refl
 one_refuses false fault later e = absurd cc
 
-one_passes : (test : Bool) (fault : HeadFault) (later : Result SegmentHead HeadFault) → test ≡ false → then_read (first_refusal (refused_where test fault ∷ [])) later ≡ later
+one_passes : (test : Bool) (fault : HeadFault) (later : Result SegmentHead HeadFault) → test ≡ false →
+    then_read (first_refusal (refused_where test fault ∷ [])) later ≡ later
 one_passes true fault later e = absurd cc
 one_passes false fault later e = refl
 
@@ -63,11 +66,15 @@ module _ (before : PartsInForce) (octets : List ℕ) where
   carried : 3 ≤ length octets → first_refusal (carry_tests before octets) ≡ None → bare_head_read before octets ≡ after_whole
   carried le e = started le ∙ none_passes (first_refusal (carry_tests before octets)) after_whole e
 
-  pub read_whole : 3 ≤ length octets → first_refusal (carry_tests before octets) ≡ None → length octets < bare_length octets → bare_head_read before octets ≡ Err (HeadShort (length octets))
-  read_whole le e lt = carried le e ∙ one_refuses (nat_lt (length octets) (bare_length octets)) (HeadShort (length octets)) (head_read (completed before octets)) (grind (arith, nat_tests))
+  pub read_whole : 3 ≤ length octets → first_refusal (carry_tests before octets) ≡ None → length octets < bare_length octets →
+      bare_head_read before octets ≡ Err (HeadShort (length octets))
+  read_whole le e lt = carried le e ∙ one_refuses (nat_lt (length octets) (bare_length octets)) (HeadShort (length octets))
+      (head_read (completed before octets)) (grind (arith, nat_tests))
 
-  pub read_last : 3 ≤ length octets → first_refusal (carry_tests before octets) ≡ None → bare_length octets ≤ length octets → bare_head_read before octets ≡ head_read (completed before octets)
-  read_last le e ge = carried le e ∙ one_passes (nat_lt (length octets) (bare_length octets)) (HeadShort (length octets)) (head_read (completed before octets)) (grind (arith, nat_tests))
+  pub read_last : 3 ≤ length octets → first_refusal (carry_tests before octets) ≡ None → bare_length octets ≤ length octets →
+      bare_head_read before octets ≡ head_read (completed before octets)
+  read_last le e ge = carried le e ∙ one_passes (nat_lt (length octets) (bare_length octets)) (HeadShort (length octets))
+      (head_read (completed before octets)) (grind (arith, nat_tests))
 
 -- ---- the octets that decide
 
@@ -87,9 +94,14 @@ module _ (before : PartsInForce) (octets : List ℕ) where
   unfolding bare_head_in
   in_short lt = grind (arith, nat_tests)
 
-  pub in_there : head_octets before octets ≤ length octets → bare_head_in before octets ≡ Some (record { result = bare_head_read before octets; octets = head_octets before octets })
+  pub in_there : head_octets before octets ≤ length octets →
+      bare_head_in before octets ≡ Some (record { result = bare_head_read before octets; octets = head_octets before octets })
   unfolding bare_head_in
-  in_there le = all_there (nat_lt (length octets) (head_octets before octets)) (record { result = bare_head_read before octets; octets = head_octets before octets }) (grind (arith, nat_tests))
+  in_there le = all_there (nat_lt (length octets) (head_octets before octets)) (record {
+    result = bare_head_read before octets;
+    octets =
+        head_octets before octets;
+  }) (grind (arith, nat_tests))
 
   pub octets_missing : (missing : HeadFault) → fault ≡ Some missing → head_octets before octets ≡ 3
   octets_missing missing e = rw e refl
@@ -128,7 +140,9 @@ missing_by false false true p q r fault Q u v w e = subst Q (some_of r fault e) 
     some_of p q e = cc
 missing_by false false false p q r fault Q u v w e = absurd cc
 
-pub is_missing : (before : PartsInForce) (octets : List ℕ) (fault : HeadFault) (Q : HeadFault → Type 0) → ((part : ℕ) → Q (MissingPart part)) → first_refusal (carry_tests before octets) ≡ Some fault → Q fault
+pub is_missing : (before : PartsInForce) (octets : List ℕ) (fault : HeadFault) (Q : HeadFault → Type 0) → ((part : ℕ) → Q (MissingPart part)) →
+    first_refusal (carry_tests before octets) ≡ Some fault → Q fault
 is_missing before octets fault Q u e =
-    missing_by (not (is_set octets 21 || before.carried.part_2)) (not (is_set octets 22 || before.carried.part_3)) (not (is_set octets 23 || before.carried.part_4))
+    missing_by (not (is_set octets 21 || before.carried.part_2)) (not (is_set octets 22 || before.carried.part_3))
+    (not (is_set octets 23 || before.carried.part_4))
     (MissingPart 2) (MissingPart 3) (MissingPart 4) fault Q (u 2) (u 3) (u 4) e

@@ -48,8 +48,11 @@ module _ (a b : SegmentHead) (fits_a : IsHead a) (fits_b : IsHead b) where
   third_values : part_octets (part_3 a) ≡ part_octets (part_3 b) → SameThird
   third_values e =
       let x = says_third a (part_octets (part_3 a)) [] fits_a (has_whole 3 (part_3 a) (length-bits_in (part_3 a))) in
-      let y = says_third b (part_octets (part_3 b)) [] fits_b (has_whole 3 (part_3 b) (length-bits_in (part_3 b))) in
-      ((sym x.blocks ∙ ap (λ o. number_in o 0 20) e ∙ y.blocks, sym x.best_dc ∙ ap (λ o. is_set o 20) e ∙ y.best_dc), sym x.best_ac ∙ ap (λ o. is_set o 21) e ∙ y.best_ac)
+      let y = says_third b (part_octets (part_3 b)) [] fits_b (has_whole 3 (part_3 b) (length-bits_in (part_3 b))) in (
+        (sym x.blocks ∙ ap (λ o. number_in o 0 20) e ∙ y.blocks, sym x.best_dc ∙ ap (λ o. is_set o 20) e ∙ y.best_dc),
+        sym x.best_ac ∙ ap (λ o. is_set o 21)
+            e ∙ y.best_ac,
+      )
 
   pub same_third : (r : Bool) → Decides r SameThird → r ≡ bytes_eq (part_octets (part_3 a)) (part_octets (part_3 b))
   same_third r d = one_answer r _ (Decides-like r third_octets third_values d) (bytes_eq-Decides (part_octets (part_3 a)) (part_octets (part_3 b)))

@@ -1,5 +1,6 @@
 -- A text with a short head that was put into a sink, and ended.
-use Rattle.std.proofs.Common.{◌≡◌, ℕ, ℤ, ◌*◌, ◌≤◌, List, ◌++◌, length, Bool, true, false, inl, inr, subst, arith, length-append, IsTrue, Option, Result, Ok, Err, MatchResult, flat_map}
+use Rattle.std.proofs.Common.{◌≡◌, ℕ, ℤ, ◌*◌, ◌≤◌, List, ◌++◌, length, Bool, true, false, inl, inr, subst, arith, length-append, IsTrue, Option, Result, Ok}
+use Rattle.std.proofs.Common.{Err, MatchResult, flat_map}
 use Rattle.item_defs.specs.Items.{text}
 use Rattle.bit_pipe.specs.Sinks.{SinkOf}
 use Rattle.base_122.specs.declared.book.Book.{Book}
@@ -44,19 +45,26 @@ fewer : (word limit : ℕ) (fill : Bool) (m n : ℕ) → m ≤ n → IsBounded w
 fewer word limit fill m n le (inl (some, few, none, plain, short)) = inl (some, few, none, plain, omega (arith, short, le))
 fewer word limit fill m n le (inr l) = inr l
 
-pub bare_bounded : (book : Book) → IsTrue (is_book_sound book) → (before : Option SegmentHead) (h : SegmentHead) (cells : List ℤ) → IsHead h → length h.image.weights.shifts ≡ 10 → length cells ≡ 64 * h.blocks → h.depth_dc ≡ depth_dc_of (blocks_in cells) → h.depth_ac ≡ depth_ac_of (blocks_in cells) →
+pub bare_bounded : (book : Book) → IsTrue (is_book_sound book) → (before : Option SegmentHead) (h : SegmentHead) (cells : List ℤ) → IsHead h →
+    length h.image.weights.shifts ≡ 10 → length cells ≡ 64 * h.blocks → h.depth_dc ≡ depth_dc_of (blocks_in cells) →
+    h.depth_ac ≡ depth_ac_of (blocks_in cells) →
     IsBounded h.image.word h.limit h.fill (length (bare_bits book before h (blocks_in cells)))
 bare_bounded book sound before h cells fits ten count dc ac =
     let blocks = blocks_in cells in
     let items = text (segment_items h blocks (block_depths blocks) (chosen_options book h blocks)) in
     let short = bare_head_short (carried_after before h) h ten in
     fewer h.image.word h.limit h.fill (length (bare_bits book before h blocks)) (length (coded_bits book h blocks))
-    (omega (arith, short, length-append (bare_head_bits (carried_after before h) h) items, length-append (head_bits h) items, length-head_bits h ten)) (is_bounded book sound h cells fits ten count dc ac)
+    (omega (arith, short, length-append (bare_head_bits (carried_after before h) h) items, length-append (head_bits h) items, length-head_bits h ten))
+    (is_bounded book sound h cells fits ten count dc ac)
 
 -- the sink has the same value at the return
-pub told : {S E : Type 0} (k : SinkOf S) (out : S) (r : Result ℕ E) (book : Book) (before : Option SegmentHead) (h : SegmentHead) (blocks : List (List ℤ)) (u v : S) → u ≡ v →
-    MatchResult r (λ octets. GivesText k out u (text_octets h.image.word h.limit h.fill (bare_bits book before h blocks)) octets) (λ _. BreaksWithin k out u (text_octets h.image.word h.limit h.fill (bare_bits book before h blocks))) →
+pub if_known : {S E : Type 0} (k : SinkOf S) (out : S) (r : Result ℕ E) (book : Book) (before : Option SegmentHead) (h : SegmentHead) (blocks : List (List ℤ))
+    (u v : S) → u ≡ v →
+    MatchResult r (λ octets. GivesText k out u (text_octets h.image.word h.limit h.fill (bare_bits book before h blocks)) octets)
+    (λ _. BreaksWithin k out u (text_octets h.image.word h.limit h.fill (bare_bits book before h blocks))) →
     MatchResult r (λ octets. GivesText k out v (bare_text book before h blocks) octets) (λ _. BreaksWithin k out v (bare_text book before h blocks))
 unfolding bare_text
-told k out (Ok n) book before h blocks u v e m = subst (λ x. GivesText k out x (text_octets h.image.word h.limit h.fill (bare_bits book before h blocks)) n) e m
-told k out (Err x) book before h blocks u v e m = subst (λ y. BreaksWithin k out y (text_octets h.image.word h.limit h.fill (bare_bits book before h blocks))) e m
+if_known k out (Ok n) book before h blocks u v e m =
+    subst (λ x. GivesText k out x (text_octets h.image.word h.limit h.fill (bare_bits book before h blocks)) n) e m
+if_known k out (Err x) book before h blocks u v e m = subst (λ y. BreaksWithin k out y
+    (text_octets h.image.word h.limit h.fill (bare_bits book before h blocks))) e m

@@ -1,5 +1,6 @@
 -- A head with absent parts is read as it was written.
-use Rattle.std.proofs.Common.{◌≡◌, ℕ, ◌+◌, ◌*◌, ◌<◌, ◌≤◌, List, [], ◌∷◌, ◌++◌, length, take, drop, Bool, true, false, not, ◌||◌, bytes_eq, if◌then◌else◌, refl, sym, ap, ◌∙◌, subst, arith, append_assoc, length-append, Option, None, Some, Ok, flat_map, append-nil, take_at, drop_at}
+use Rattle.std.proofs.Common.{◌≡◌, ℕ, ◌+◌, ◌*◌, ◌<◌, ◌≤◌, List, [], ◌∷◌, ◌++◌, length, take, drop, Bool, true, false, not, ◌||◌, bytes_eq, if◌then◌else◌}
+use Rattle.std.proofs.Common.{refl, sym, ap, ◌∙◌, subst, arith, append_assoc, length-append, Option, None, Some, Ok, flat_map, append-nil, take_at, drop_at}
 use Rattle.std.proofs.lemmas.Slice.Eq.{bytes_eq-Decides}
 use Rattle.std.proofs.Math.Bool.{or-true}
 use Rattle.item_defs.specs.Bits.{octets_of, bits_of_octets}
@@ -14,9 +15,10 @@ use Rattle.segment_head.specs.declared.carried.Carried.{Carried}
 use Rattle.segment_head.specs.Parts.{all_carried, part_1}
 use Rattle.segment_defs.proofs.WrittenFields.{octets_of-append, length-bits_in, width_of}
 use Rattle.segment_head.proofs.WrittenParts.{Has, number_at, flag_of}
-use Rattle.segment_head.proofs.WrittenHeads.{has_front, length_4, split_bits, head_undoes}
+use Rattle.segment_head.proofs.WrittenHeads.{has_prefix, length_4, split_bits, head_undoes}
 use Rattle.bare_text.specs.declared.parts.PartsInForce.{PartsInForce}
-use Rattle.bare_text.specs.InForce.{second_in, third_in, fourth_in, part_or, rest_after, after_part_2, after_part_3, bare_length, parts_after, completed_with, completed}
+use Rattle.bare_text.specs.InForce.{second_in, third_in, fourth_in, part_or, rest_after, after_part_2, after_part_3, bare_length, parts_after}
+use Rattle.bare_text.specs.InForce.{completed_with, completed}
 use Rattle.bare_text.specs.Reading.{carry_tests, bare_head_read}
 use Rattle.bare_text.specs.Writing.{part_octets, carried_after, fields_where, bare_head_bits}
 use Rattle.bare_text.specs.Laws.{in_force, bare_head}
@@ -78,7 +80,8 @@ same_part xs ys e = (bytes_eq-Decides xs ys).0 (by_test (bytes_eq xs ys) e)
     by_test false e = absurd cc
 
 module _ (h : SegmentHead) (fits : IsHead h) (small : h.count < 256) (ten : length h.image.weights.shifts ≡ 10) (c : Carried) (force : PartsInForce)
-    (second : c.part_2 ≡ false → second_in force.octets ≡ part_octets (part_2 h)) (third : c.part_3 ≡ false → third_in force.octets ≡ part_octets (part_3 h)) (fourth : c.part_4 ≡ false → fourth_in force.octets ≡ part_octets (part_4 h.image))
+    (second : c.part_2 ≡ false → second_in force.octets ≡ part_octets (part_2 h)) (third : c.part_3 ≡ false →
+    third_in force.octets ≡ part_octets (part_3 h)) (fourth : c.part_4 ≡ false → fourth_in force.octets ≡ part_octets (part_4 h.image))
     (all : ((c.part_2 || force.carried.part_2) ≡ true) × ((c.part_3 || force.carried.part_3) ≡ true) × ((c.part_4 || force.carried.part_4) ≡ true)) where
   abbrev first : List ℕ
   first = octets_of (flat_map field_bits (part_1 c h))
@@ -105,10 +108,11 @@ module _ (h : SegmentHead) (fits : IsHead h) (small : h.count < 256) (ten : leng
   are =
       octets_of-append start (flat_map field_bits (part_1 c h)) _ first_bits
       ∙ ap (λ l. first ++ l) (split_where c.part_2 (part_2 h) 5 refl _
-      ∙ ap (λ l. octets_where c.part_2 (part_2 h) ++ l) (split_where c.part_3 (part_3 h) 3 refl _ ∙ ap (λ l. octets_where c.part_3 (part_3 h) ++ l) (part_where c.part_4 (part_4 h.image))))
+      ∙ ap (λ l. octets_where c.part_2 (part_2 h) ++ l) (split_where c.part_3 (part_3 h) 3 refl _ ∙ ap (λ l. octets_where c.part_3 (part_3 h) ++ l)
+      (part_where c.part_4 (part_4 h.image))))
 
   has : Has octets (part_1 c h) (bits_of_octets later)
-  has = subst (λ o. Has o (part_1 c h) (bits_of_octets later)) (sym are) (has_front start (part_1 c h) later first_bits)
+  has = subst (λ o. Has o (part_1 c h) (bits_of_octets later)) (sym are) (has_prefix start (part_1 c h) later first_bits)
 
   last_is : is_set octets 1 ≡ h.last
   last_is = flag_of (number_in octets 1 1) h.last (number_at has 1 (omega arith))
@@ -137,11 +141,14 @@ module _ (h : SegmentHead) (fits : IsHead h) (small : h.count < 256) (ten : leng
   parts_read : (parts_after force octets).octets ≡ part_octets (part_2 h) ++ (part_octets (part_3 h) ++ part_octets (part_4 h.image))
   parts_read =
       let two : part_or (is_set octets 21) 5 (after_part_1 octets) (second_in force.octets) ≡ part_octets (part_2 h) =
-      ap (λ b. part_or b 5 (after_part_1 octets) (second_in force.octets)) is_2 ∙ ap (λ l. part_or c.part_2 5 l (second_in force.octets)) after_1 ∙ part_read c.part_2 (part_2 h) 5 refl _ (second_in force.octets) second in
+      ap (λ b. part_or b 5 (after_part_1 octets) (second_in force.octets)) is_2 ∙ ap (λ l. part_or c.part_2 5 l (second_in force.octets)) after_1
+      ∙ part_read c.part_2 (part_2 h) 5 refl _ (second_in force.octets) second in
       let three : part_or (is_set octets 22) 3 (after_part_2 octets) (third_in force.octets) ≡ part_octets (part_3 h) =
-      ap (λ b. part_or b 3 (after_part_2 octets) (third_in force.octets)) is_3 ∙ ap (λ l. part_or c.part_3 3 l (third_in force.octets)) after_2 ∙ part_read c.part_3 (part_3 h) 3 refl _ (third_in force.octets) third in
+      ap (λ b. part_or b 3 (after_part_2 octets) (third_in force.octets)) is_3 ∙ ap (λ l. part_or c.part_3 3 l (third_in force.octets)) after_2
+      ∙ part_read c.part_3 (part_3 h) 3 refl _ (third_in force.octets) third in
       let four : part_or (is_set octets 23) 8 (after_part_3 octets) (fourth_in force.octets) ≡ part_octets (part_4 h.image) =
-      ap (λ b. part_or b 8 (after_part_3 octets) (fourth_in force.octets)) is_4 ∙ ap (λ l. part_or c.part_4 8 l (fourth_in force.octets)) (after_3 ∙ sym (append-nil (octets_where c.part_4 (part_4 h.image))))
+      ap (λ b. part_or b 8 (after_part_3 octets) (fourth_in force.octets)) is_4 ∙ ap (λ l. part_or c.part_4 8 l (fourth_in force.octets))
+      (after_3 ∙ sym (append-nil (octets_where c.part_4 (part_4 h.image))))
       ∙ part_read c.part_4 (part_4 h.image) 8 wide_4 [] (fourth_in force.octets) fourth in
       rw (two, three, four) refl
 
@@ -150,9 +157,11 @@ module _ (h : SegmentHead) (fits : IsHead h) (small : h.count < 256) (ten : leng
       let carried_2 : (is_set octets 21 || force.carried.part_2) ≡ true = ap (λ b. b || force.carried.part_2) is_2 ∙ all.0 in
       let carried_3 : (is_set octets 22 || force.carried.part_3) ≡ true = ap (λ b. b || force.carried.part_3) is_3 ∙ all.1 in
       let carried_4 : (is_set octets 23 || force.carried.part_4) ≡ true = ap (λ b. b || force.carried.part_4) is_4 ∙ all.2 in
-      same_parts (is_set octets 21 || force.carried.part_2) (is_set octets 22 || force.carried.part_3) (is_set octets 23 || force.carried.part_4) (parts_after force octets).octets carried_2 carried_3 carried_4 parts_read
+      same_parts (is_set octets 21 || force.carried.part_2) (is_set octets 22 || force.carried.part_3) (is_set octets 23 || force.carried.part_4)
+      (parts_after force octets).octets carried_2 carried_3 carried_4 parts_read
     where
-      same_parts : (a b d : Bool) (l : List ℕ) → a ≡ true → b ≡ true → d ≡ true → l ≡ part_octets (part_2 h) ++ (part_octets (part_3 h) ++ part_octets (part_4 h.image)) →
+      same_parts : (a b d : Bool) (l : List ℕ) → a ≡ true → b ≡ true → d ≡ true →
+          l ≡ part_octets (part_2 h) ++ (part_octets (part_3 h) ++ part_octets (part_4 h.image)) →
           record { carried = record { part_2 = a; part_3 = b; part_4 = d }; octets = l } ≡ in_force (Some h)
       same_parts a b d l e f g i = rw (e, f, g, i) refl
 
@@ -168,7 +177,8 @@ module _ (h : SegmentHead) (fits : IsHead h) (small : h.count < 256) (ten : leng
       ∙ sym (
       ap octets_of (split_bits h [] ∙ ap (λ l. one ++ (two ++ (three ++ l))) (append-nil four))
       ∙ octets_of-append start one (two ++ (three ++ four)) (length_first all_carried h h.last refl)
-      ∙ ap (λ l. octets_of one ++ l) (octets_of-append 5 two (three ++ four) (length-bits_in (part_2 h)) ∙ ap (λ l. octets_of two ++ l) (octets_of-append 3 three four (length-bits_in (part_3 h))))
+      ∙ ap (λ l. octets_of one ++ l) (octets_of-append 5 two (three ++ four) (length-bits_in (part_2 h)) ∙ ap (λ l. octets_of two ++ l)
+      (octets_of-append 3 three four (length-bits_in (part_3 h))))
       )
 
   pub whole_is : bare_length octets ≡ length octets
@@ -191,9 +201,11 @@ module _ (h : SegmentHead) (fits : IsHead h) (small : h.count < 256) (ten : leng
       let carried_2 : (is_set octets 21 || force.carried.part_2) ≡ true = ap (λ b. b || force.carried.part_2) is_2 ∙ all.0 in
       let carried_3 : (is_set octets 22 || force.carried.part_3) ≡ true = ap (λ b. b || force.carried.part_3) is_3 ∙ all.1 in
       let carried_4 : (is_set octets 23 || force.carried.part_4) ≡ true = ap (λ b. b || force.carried.part_4) is_4 ∙ all.2 in
-      three_pass (is_set octets 21 || force.carried.part_2) (is_set octets 22 || force.carried.part_3) (is_set octets 23 || force.carried.part_4) (MissingPart 2) (MissingPart 3) (MissingPart 4) carried_2 carried_3 carried_4
+      three_pass (is_set octets 21 || force.carried.part_2) (is_set octets 22 || force.carried.part_3) (is_set octets 23 || force.carried.part_4)
+      (MissingPart 2) (MissingPart 3) (MissingPart 4) carried_2 carried_3 carried_4
     where
-      three_pass : (a b d : Bool) (p q r : HeadFault) → a ≡ true → b ≡ true → d ≡ true → first_refusal (refused_where (not a) p ∷ refused_where (not b) q ∷ refused_where (not d) r ∷ []) ≡ None
+      three_pass : (a b d : Bool) (p q r : HeadFault) → a ≡ true → b ≡ true → d ≡ true →
+          first_refusal (refused_where (not a) p ∷ refused_where (not b) q ∷ refused_where (not d) r ∷ []) ≡ None
       three_pass a b d p q r e f g = rw (e, f, g) refl
 
   pub read_is : bare_head_read force octets ≡ Ok h
@@ -212,14 +224,16 @@ module _ (h : SegmentHead) (fits : IsHead h) (small : h.count < 256) (ten : leng
   second_of b = take_at (part_octets (part_2 b)) _ 5 (part_long true (part_2 b) 5 refl)
 
   third_of : (b : SegmentHead) → third_in (in_force (Some b)).octets ≡ part_octets (part_3 b)
-  third_of b = ap (take 3) (drop_at (part_octets (part_2 b)) _ 5 (part_long true (part_2 b) 5 refl)) ∙ take_at (part_octets (part_3 b)) _ 3 (part_long true (part_3 b) 3 refl)
+  third_of b = ap (take 3) (drop_at (part_octets (part_2 b)) _ 5 (part_long true (part_2 b) 5 refl)) ∙ take_at (part_octets (part_3 b)) _ 3
+      (part_long true (part_3 b) 3 refl)
 
   fourth_of : (b : SegmentHead) → fourth_in (in_force (Some b)).octets ≡ part_octets (part_4 b.image)
   fourth_of b =
       let p2 = part_octets (part_2 b) in
       let p3 = part_octets (part_3 b) in
       ap (drop 8) (sym (append_assoc p2 p3 (part_octets (part_4 b.image))))
-      ∙ drop_at (p2 ++ p3) (part_octets (part_4 b.image)) 8 (omega (arith, length-append p2 p3, part_long true (part_2 b) 5 refl, part_long true (part_3 b) 3 refl))
+      ∙ drop_at (p2 ++ p3) (part_octets (part_4 b.image)) 8
+      (omega (arith, length-append p2 p3, part_long true (part_2 b) 5 refl, part_long true (part_3 b) 3 refl))
 
   not_true : {A : Type 0} → true ≡ false → A
   not_true e = absurd cc
@@ -227,17 +241,20 @@ module _ (h : SegmentHead) (fits : IsHead h) (small : h.count < 256) (ten : leng
   pub read_after : (before : Option SegmentHead) → bare_head_read (in_force before) (bare_head before h) ≡ Ok h
   read_after None = read_is h fits small ten all_carried (in_force None) not_true not_true not_true (refl, refl, refl)
   read_after (Some b) =
-      read_is h fits small ten (carried_after (Some b) h) (in_force (Some b)) (λ e. second_of b ∙ same_part _ _ e) (λ e. third_of b ∙ same_part _ _ e) (λ e. fourth_of b ∙ same_part _ _ e)
+      read_is h fits small ten (carried_after (Some b) h) (in_force (Some b)) (λ e. second_of b ∙ same_part _ _ e) (λ e. third_of b ∙ same_part _ _ e)
+      (λ e. fourth_of b ∙ same_part _ _ e)
       (or-true _, or-true _, or-true _)
 
   pub whole_after : (before : Option SegmentHead) → bare_length (bare_head before h) ≡ length (bare_head before h)
   whole_after None = whole_is h fits small ten all_carried (in_force None) not_true not_true not_true (refl, refl, refl)
   whole_after (Some b) =
-      whole_is h fits small ten (carried_after (Some b) h) (in_force (Some b)) (λ e. second_of b ∙ same_part _ _ e) (λ e. third_of b ∙ same_part _ _ e) (λ e. fourth_of b ∙ same_part _ _ e)
+      whole_is h fits small ten (carried_after (Some b) h) (in_force (Some b)) (λ e. second_of b ∙ same_part _ _ e) (λ e. third_of b ∙ same_part _ _ e)
+      (λ e. fourth_of b ∙ same_part _ _ e)
       (or-true _, or-true _, or-true _)
 
   pub force_after : (before : Option SegmentHead) → parts_after (in_force before) (bare_head before h) ≡ in_force (Some h)
   force_after None = force_is h fits small ten all_carried (in_force None) not_true not_true not_true (refl, refl, refl)
   force_after (Some b) =
-      force_is h fits small ten (carried_after (Some b) h) (in_force (Some b)) (λ e. second_of b ∙ same_part _ _ e) (λ e. third_of b ∙ same_part _ _ e) (λ e. fourth_of b ∙ same_part _ _ e)
+      force_is h fits small ten (carried_after (Some b) h) (in_force (Some b)) (λ e. second_of b ∙ same_part _ _ e) (λ e. third_of b ∙ same_part _ _ e)
+      (λ e. fourth_of b ∙ same_part _ _ e)
       (or-true _, or-true _, or-true _)

@@ -45,7 +45,8 @@ count_agrees index h = h.count == index % 256
 
 -- the image part is that of the first head
 abbrev pub image_agrees : ImagePart → ImagePart → Bool
-image_agrees a b = beq a.signed b.signed && ((a.depth == b.depth) && ((a.width == b.width) && ((a.word == b.word) && bytes_eq a.weights.shifts b.weights.shifts)))
+image_agrees a b = beq a.signed b.signed && ((a.depth == b.depth) &&
+    ((a.width == b.width) && ((a.word == b.word) && bytes_eq a.weights.shifts b.weights.shifts)))
 
 -- the points, in their order
 unfoldable pub agreement_tests : SegmentHead → ℕ → SegmentHead → List (Option HeadFault)

@@ -7,8 +7,8 @@ use Rattle.segment_defs.specs.declared.head.SegmentHead.{SegmentHead}
 use Rattle.segment_defs.specs.Depths.{block_depths, depth_ac_of}
 use Rattle.segment_defs.specs.Head.{IsHead, part_2, part_3, part_4}
 use Rattle.bit_pipe.specs.declared.fault.Part.{Part}
-use Rattle.text_defs.specs.Spellable.{IsSpellable}
-use Rattle.text_defs.specs.TextLaws.{HasAllPlanes}
+use Rattle.segment_defs.specs.Spellable.{IsSpellable}
+use Rattle.segment_defs.specs.TextLaws.{HasAllPlanes}
 use Rattle.segment_code.specs.TextAnswers.{gives, Decides}
 use Rattle.segment_head.specs.Parts.{all_carried}
 use Rattle.bare_text.specs.declared.parts.PartsInForce.{PartsInForce}
@@ -28,8 +28,10 @@ bare_head before h = octets_of (bare_head_bits (carried_after before h) h)
 
 -- A head is read as it was written after the head before, by exactly its octets, and its parts are in force then.
 pub record BareHeadsUndo : Type 0 where
-  pub read : (before : Option SegmentHead) (h : SegmentHead) → IsHead h → h.count < 256 → length h.image.weights.shifts ≡ 10 → DecidesHead (in_force before) (Ok h) (bare_head before h)
-  pub force : (before : Option SegmentHead) (h : SegmentHead) → IsHead h → h.count < 256 → length h.image.weights.shifts ≡ 10 → parts_after (in_force before) (bare_head before h) ≡ in_force (Some h)
+  pub read : (before : Option SegmentHead) (h : SegmentHead) → IsHead h → h.count < 256 → length h.image.weights.shifts ≡ 10 →
+      DecidesHead (in_force before) (Ok h) (bare_head before h)
+  pub force : (before : Option SegmentHead) (h : SegmentHead) → IsHead h → h.count < 256 → length h.image.weights.shifts ≡ 10 →
+      parts_after (in_force before) (bare_head before h) ≡ in_force (Some h)
 
 -- octets that decide a head, or its refusal, are there, and more octets do not change it
 pub record HeadEndsThere (before : PartsInForce) (octets : List ℕ) (d : HeadDecided) : Type 0 where
@@ -55,5 +57,6 @@ pub record HoldsText (book : Book) (before : Option SegmentHead) (h : SegmentHea
   pub exact : h.limit ≡ 0 → HasAllPlanes h → w ≡ blocks
 
 abbrev pub BareTextsHold : Type 0
-BareTextsHold = (book : Book) → IsTrue (is_book_sound book) → (before : Option SegmentHead) (h : SegmentHead) (blocks : List (List ℤ)) → IsHead h → length h.image.weights.shifts ≡ 10 →
+BareTextsHold = (book : Book) → IsTrue (is_book_sound book) → (before : Option SegmentHead) (h : SegmentHead) (blocks : List (List ℤ)) → IsHead h →
+    length h.image.weights.shifts ≡ 10 →
     IsSpellable h blocks (block_depths blocks) → h.depth_ac ≡ depth_ac_of blocks → HoldsText book before h blocks

@@ -1,7 +1,7 @@
 -- The effect of a call that reads a head with absent parts from an input. (This project's own.)
 use Rattle.std.specs.Prelude.{◌≡◌, ◌≤◌, ℕ, List, length, Option, Some, None, Result, Ok, Err}
 use Rattle.item_defs.specs.Bits.{AreOctets}
-use Rattle.bit_pipe.specs.Sources.{SourceOf, Comes, IsOver, Plainly, Fails}
+use Rattle.bit_pipe.specs.Sources.{SourceOf, Arrives, IsOver, Plainly, Fails}
 use Rattle.segment_defs.specs.declared.head.SegmentHead.{SegmentHead}
 use Rattle.segment_defs.specs.declared.fault.HeadFault.{HeadFault}
 use Rattle.segment_defs.specs.declared.fault.HeadFault.TheVariants.{HeadShort}
@@ -29,10 +29,11 @@ EndsHead k before (Err (Refused fault)) octets old new after = DecidesHead befor
 EndsHead k before (Err (Input fault)) octets old new after = NeedsHead before octets × Fails k fault old new
 
 -- the octets of a head were read, and no more
-pub record ReadsHead {I : Type 0} (k : SourceOf I) (before : PartsInForce) (result : Result BareHead BareHeadFault) (old new : I) (after : PartsInForce) : Type 0 where
+pub record ReadsHead {I : Type 0} (k : SourceOf I) (before : PartsInForce) (result : Result BareHead BareHeadFault) (old new : I)
+    (after : PartsInForce) : Type 0 where
   pub octets : List ℕ
   pub small : AreOctets octets
-  pub came : Comes (k.tail old) (k.tail new) octets
+  pub came : Arrives (k.tail old) (k.tail new) octets
   pub faults : k.faults old ≤ k.faults new
   pub went : k.Went old new
   pub ends : EndsHead k before result octets old new after

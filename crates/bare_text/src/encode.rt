@@ -1,6 +1,6 @@
 // Writes the text of a segment, whose head carries only the parts that changed.
 ghost use Rattle.std.specs.Prelude.{◌≡◌, ◌≤◌, ◌*◌, length, take, MatchResult, IfSome};
-ghost use Rattle.bit_pipe.specs.Standing.{stand, Adds, Breaks, IsReady, Writes};
+ghost use Rattle.bit_pipe.specs.SinkState.{sink_state, Adds, Breaks, IsReady, Writes};
 ghost use Rattle.wave_defs.specs.Held.{blocks_in};
 ghost use Rattle.segment_defs.specs.Depths.{depth_dc_of, depth_ac_of};
 ghost use Rattle.segment_defs.specs.Head.{IsHead, head_length};
@@ -42,7 +42,8 @@ impl BareWriter<'_> {
         requires ac { head.now.depth_ac ≡ depth_ac_of (blocks_in blocks.old.numbers) }
         requires none { (O.sink.counts out.old).given ≡ 0 }
         ensures text { MatchResult result
-            (λ octets. GivesText O.sink out.old out.new (bare_text self.now.items.now.tables.book self.now.before head.now (blocks_in blocks.old.numbers)) octets)
+            (λ octets. GivesText O.sink out.old out.new (bare_text self.now.items.now.tables.book self.now.before head.now (blocks_in blocks.old.numbers))
+            octets)
             (λ _. BreaksWithin O.sink out.old out.new (bare_text self.now.items.now.tables.book self.now.before head.now (blocks_in blocks.old.numbers))) }
         ensures most { blocks.new.most ≡ blocks.old.most }
     {
@@ -70,13 +71,15 @@ fn put_fitting<O: OctetOut>(
     requires before { IfSome writer.now.before (λ h. IsHead h) }
     requires fits { IsHead head.now }
     requires open { IsReady O.sink out.old }
-    requires room { 8 * head_length head.now ≤ (stand O.sink out.old).room }
+    requires room { 8 * head_length head.now ≤ (sink_state O.sink out.old).room }
     requires count { length blocks.old.numbers ≡ 64 * head.now.blocks }
     requires dc { head.now.depth_dc ≡ depth_dc_of (blocks_in blocks.old.numbers) }
     requires ac { head.now.depth_ac ≡ depth_ac_of (blocks_in blocks.old.numbers) }
     ensures puts { MatchResult result
-        (λ _. Adds O.sink (stand O.sink out.old) (stand O.sink out.new) (take (stand O.sink out.old).room (bare_bits writer.now.items.now.tables.book writer.now.before head.now (blocks_in blocks.old.numbers))))
-        (λ _. Breaks O.sink (stand O.sink out.old) (stand O.sink out.new) (take (stand O.sink out.old).room (bare_bits writer.now.items.now.tables.book writer.now.before head.now (blocks_in blocks.old.numbers)))) }
+        (λ _. Adds O.sink (sink_state O.sink out.old) (sink_state O.sink out.new)
+        (take (sink_state O.sink out.old).room (bare_bits writer.now.items.now.tables.book writer.now.before head.now (blocks_in blocks.old.numbers))))
+        (λ _. Breaks O.sink (sink_state O.sink out.old) (sink_state O.sink out.new)
+        (take (sink_state O.sink out.old).room (bare_bits writer.now.items.now.tables.book writer.now.before head.now (blocks_in blocks.old.numbers)))) }
     ensures most { blocks.new.most ≡ blocks.old.most }
 {
     match put_text(out, writer, head, blocks) {
@@ -96,7 +99,7 @@ fn put_text<O: OctetOut>(
     requires before { IfSome writer.now.before (λ h. IsHead h) }
     requires fits { IsHead head.now }
     requires open { IsReady O.sink out.old }
-    requires room { 8 * head_length head.now ≤ (stand O.sink out.old).room }
+    requires room { 8 * head_length head.now ≤ (sink_state O.sink out.old).room }
     requires count { length blocks.old.numbers ≡ 64 * head.now.blocks }
     requires dc { head.now.depth_dc ≡ depth_dc_of (blocks_in blocks.old.numbers) }
     requires ac { head.now.depth_ac ≡ depth_ac_of (blocks_in blocks.old.numbers) }

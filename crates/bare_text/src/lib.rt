@@ -1,5 +1,8 @@
 //! One text of a bare stream, both ways: a head that carries only the parts that changed, and the items after it
 //! (docs/formats.md, "Bare texts").
+//!
+//! Layer: bits and the parts of a segment. It uses `base_122`, `item_defs`, `wave_defs`, `plane_defs`, `segment_defs`, `bit_pipe`,
+//! `segment_head` and `segment_code`. It is used by `bare_stream`.
 #![tactic(auto)]
 
 ghost use Rattle.bare_text.specs.Laws.{BareHeadsUndo, BareHeadsEndThere, BareTextsHold};

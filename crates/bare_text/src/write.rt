@@ -2,7 +2,7 @@
 ghost use Rattle.std.specs.Prelude.{◌≡◌, ◌≤◌, ◌*◌, length, IfSome};
 ghost use Rattle.std.specs.List.{flat_map};
 ghost use Rattle.std.specs.Str.{bytes_eq};
-ghost use Rattle.bit_pipe.specs.Standing.{stand, IsReady, Writes};
+ghost use Rattle.bit_pipe.specs.SinkState.{sink_state, IsReady, Writes};
 ghost use Rattle.segment_defs.specs.Head.{IsHead, IsImagePart, head_length, field_bits, part_2, part_3, part_4};
 ghost use Rattle.bare_text.specs.Writing.{part_octets, carried_after, fields_where, bare_head_bits};
 
@@ -80,7 +80,7 @@ pub fn put_bare_head<O: OctetOut>(
     requires before { IfSome before (λ h. IsHead h) }
     requires fits { IsHead head.now }
     requires open { IsReady O.sink out.old }
-    requires room { 8 * head_length head.now ≤ (stand O.sink out.old).room }
+    requires room { 8 * head_length head.now ≤ (sink_state O.sink out.old).room }
     ensures { Writes O.sink result out.old out.new (bare_head_bits (carried_after before head.now) head.now) }
 {
     let carried = carried_after(before, head);
@@ -128,7 +128,7 @@ fn put_fourth<O: OctetOut>(
 ) -> Result<(), PutFault>
     requires word { 1 ≤ image.now.word }
     requires open { IsReady O.sink out.old }
-    requires room { 64 ≤ (stand O.sink out.old).room }
+    requires room { 64 ≤ (sink_state O.sink out.old).room }
     ensures { Writes O.sink result out.old out.new (flat_map field_bits (fields_where is_carried (part_4 image.now))) }
 {
     if !is_carried {

@@ -16,11 +16,11 @@ in_range-image_geometry s rows in_range tall = record {
 }
 
 -- rows that are not left open are in their range
-pub rows_told : (s : Setting) → IsInRange s → (s.rows ≡ 0 → ⊥) → IsWithin rows_range s.rows
-rows_told s in_range some = elim in_range.rows [ inl none ↦ absurd (some none) | inr told ↦ told ]
+pub rows_known : (s : Setting) → IsInRange s → (s.rows ≡ 0 → ⊥) → IsWithin rows_range s.rows
+rows_known s in_range some = elim in_range.rows [ inl none ↦ absurd (some none) | inr if_known ↦ if_known ]
 
 pub in_range-geometry : (s : Setting) → IsInRange s → (s.rows ≡ 0 → ⊥) → IsGeometryInRange (geometry_of s)
-in_range-geometry s in_range some = in_range-image_geometry s s.rows in_range (rows_told s in_range some)
+in_range-geometry s in_range some = in_range-image_geometry s s.rows in_range (rows_known s in_range some)
 
 pub in_range-sized : (s : Setting) (rows : ℕ) → IsInRange s → IsHeight s rows → IsInRange (sized s rows)
 in_range-sized s rows in_range height = record {

@@ -1,15 +1,19 @@
 -- A check finds no field out of range exactly if the setting is in range.
-use Rattle.std.proofs.Common.{◌≡◌, ◌≢◌, ◌≤◌, ◌%◌, ℕ, List, refl, sym, ◌∙◌, inl, inr, true, false, arith, ◌⊎◌, All, Bool, not, cond, ◌&&◌, ◌||◌, ◌==◌, nat_le, Option, Some, None}
+use Rattle.std.proofs.Common.{◌≡◌, ◌≢◌, ◌≤◌, ◌%◌, ℕ, List, refl, sym, ◌∙◌, inl, inr, true, false, arith, ◌⊎◌, All, Bool, not, cond, ◌&&◌, ◌||◌, ◌==◌}
+use Rattle.std.proofs.Common.{nat_le, Option, Some, None}
 use Rattle.std.specs.Bool.{Decides}
 use Rattle.std.specs.List.{list_all}
-use Rattle.std.proofs.lemmas.Bool.{or_cases, or_left, or_right, and_parts, and_from, not-true, not_from_false, false≢true, ne_eqb, eqb-true, eq-eqb, leb-true, le-leb}
+use Rattle.std.proofs.lemmas.Bool.{or_cases, or_left, or_right, and_parts, and_from, not-true, not_from_false, false≢true, ne_eqb, eqb-true, eq-eqb}
+use Rattle.std.proofs.lemmas.Bool.{leb-true, le-leb}
 use Rattle.std.proofs.lemmas.Bool.Decides.{Decides-and, Decides-by_and}
 use Rattle.base_122.specs.declared.field.Field.{Field}
 use Rattle.base_122.specs.declared.field.Field.TheVariants.{Width, Rows, Depth, Segment, Limit, Fill, Word, Stop, Weights, Apid, Image, Packet, Total}
 use Rattle.base_122.specs.declared.range.FieldRange.{FieldRange}
 use Rattle.base_122.specs.declared.setting.Setting.{Setting}
 use Rattle.base_122.specs.Weights.{IsShift, is_shift}
-use Rattle.base_122.specs.Ranges.{IsWithin, is_within, limit_range, word_range, width_range, rows_range, depth_range, segment_range, plane_range, stage_range, apid_range, image_range, packet_range, HasTotal, IsInRange, segments_in, total_range, limit_test, total_test, field_test, first_out_of_range}
+use Rattle.base_122.specs.Ranges.{IsWithin, is_within, limit_range, word_range, width_range, rows_range, depth_range, segment_range, plane_range}
+use Rattle.base_122.specs.Ranges.{stage_range, apid_range, image_range, packet_range, HasTotal, IsInRange, segments_in, total_range, limit_test, total_test}
+use Rattle.base_122.specs.Ranges.{field_test, first_out_of_range}
 
 decides-le : (m n : ℕ) → Decides (nat_le m n) (m ≤ n)
 decides-le m n = (leb-true m n, le-leb m n)
@@ -149,7 +153,8 @@ none-from_in_range s in_range =
     (pass (field_test s Limit) Limit _ (limit_from s.limit s.word in_range.limit)
     (pass (field_test s Fill) Fill _ (fill_from s.fill s.limit s.total in_range.fill)
     (pass (field_test s Word) Word _ ((within word_range s.word).1 in_range.word)
-    (pass (field_test s Stop) Stop _ (and_from (is_within plane_range s.stop.plane) (is_within stage_range s.stop.stage) ((within plane_range s.stop.plane).1 in_range.plane) ((within stage_range s.stop.stage).1 in_range.stage))
+    (pass (field_test s Stop) Stop _ (and_from (is_within plane_range s.stop.plane) (is_within stage_range s.stop.stage)
+    ((within plane_range s.stop.plane).1 in_range.plane) ((within stage_range s.stop.stage).1 in_range.stage))
     (pass (field_test s Weights) Weights _ ((shifts_pass s.weights.shifts).1 in_range.weights)
     (pass (field_test s Apid) Apid _ ((within apid_range s.apid).1 in_range.apid)
     (pass (field_test s Image) Image _ ((within image_range s.image).1 in_range.image)

@@ -70,7 +70,7 @@ fn memory_port_fails_by_number(rt: HostRuntime) -> Result<(), Fail> {
 }
 
 #[test]
-fn steady_port_stops_telling_past_its_room(rt: HostRuntime) -> Result<(), Fail> {
+fn steady_port_stops_reporting_past_its_room(rt: HostRuntime) -> Result<(), Fail> {
     let mut port = SteadyPort::new(rt.alloc(), [1, 2].to_vec(rt.alloc())?, 3)?;
     let mut piece = [0; 4];
     assert_eq!(rt; port.read(&mut piece), Ok(2));

@@ -1,5 +1,6 @@
 -- Bits that are put after those that wait.
-use Rattle.std.proofs.Common.{◌≡◌, ℕ, ◌+◌, ◌-◌, ◌*◌, ◌/◌, ◌%◌, ◌^◌, ◌<◌, ◌≤◌, [], ◌∷◌, ◌++◌, Bool, refl, sym, ap, subst, ◌∙◌, append_assoc, arith, mul_comm, bit_and, bit_or}
+use Rattle.std.proofs.Common.{◌≡◌, ℕ, ◌+◌, ◌-◌, ◌*◌, ◌/◌, ◌%◌, ◌^◌, ◌<◌, ◌≤◌, [], ◌∷◌, ◌++◌, Bool, refl, sym, ap, subst, ◌∙◌, append_assoc, arith, mul_comm}
+use Rattle.std.proofs.Common.{bit_and, bit_or}
 use Rattle.std.proofs.lemmas.Nat.{mod_below, pow_pos, shl_whole, shr_below, one_shl, and_mask, or_shifted, pow-add, mul-add-lt}
 use Rattle.std.proofs.lemmas.Bool.Decides.{nat_tests}
 use mir.Val.{bool_byte}
@@ -7,12 +8,12 @@ use Rattle.item_defs.specs.Bits.{bits_of, digit}
 use Rattle.item_defs.proofs.NumberBits.{bits_none, bits_push, bits_of-mod, bits_of-split, bits_join, digit_code, length-bits_of}
 use Rattle.bit_pipe.specs.Bounds.{bound_of}
 use Rattle.bit_pipe.specs.Sinks.{SinkOf, GaveBits, BrokeBits}
-use Rattle.bit_pipe.specs.Standing.{Standing, IsOpen, Begins, Adds, Breaks}
+use Rattle.bit_pipe.specs.SinkState.{SinkState, IsOpen, Begins, Adds, Breaks}
 use Rattle.bit_pipe.proofs.Giving.{gives_none, broke_more}
 
 -- what a writer shows, field by field
-abbrev pub standing : {S : Type 0} → SinkOf S → S → ℕ → ℕ → ℕ → ℕ → ℕ → Standing S
-standing k sink filled pending bound room name = record {
+abbrev pub current : {S : Type 0} → SinkOf S → S → ℕ → ℕ → ℕ → ℕ → ℕ → SinkState S
+current k sink filled pending bound room name = record {
   sink = sink;
   pending = bits_of filled pending;
   used = 8 * (k.counts sink).given + filled;
@@ -21,11 +22,12 @@ standing k sink filled pending bound room name = record {
   name = name;
 }
 
-pub begins : {S : Type 0} (k : SinkOf S) (s : S) (bound room name : ℕ) → Begins k s bound (standing k s 0 0 bound room name)
+pub begins : {S : Type 0} (k : SinkOf S) (s : S) (bound room name : ℕ) → Begins k s bound (current k s 0 0 bound room name)
 begins k s bound room name = record { sink = refl; pending = bits_none 0; used = omega arith; bound = refl }
 
-pub opens : {S : Type 0} (k : SinkOf S) (s : S) (filled pending bound room name : ℕ) → 8 * (k.counts s).given + filled + room ≡ 8 * bound → bound ≤ 2 ^ 32 → filled < 64 →
-    IsOpen (standing k s filled pending bound room name)
+pub opens : {S : Type 0} (k : SinkOf S) (s : S) (filled pending bound room name : ℕ) → 8 * (k.counts s).given + filled + room ≡ 8 * bound → bound ≤ 2 ^ 32 →
+    filled < 64 →
+    IsOpen (current k s filled pending bound room name)
 opens k s filled pending bound room name e le lt = record { whole = e; bound = le; pending = omega (arith, length-bits_of filled pending) }
 
 bound_small : (limit : ℕ) → limit ≤ 2 ^ 32 → bound_of limit ≤ 2 ^ 32
@@ -84,7 +86,7 @@ module _ {S : Type 0} (k : SinkOf S) (s : S) (filled pending bound room name cou
   low_bits = sym (ap (bits_of count) is ∙ bits_of-mod count value)
 
   pub adds_waiting : (next n : ℕ) → next ≡ pending * 2 ^ count + low → n ≡ count → filled + count < 64 → count ≤ room →
-      Adds k (standing k s filled pending bound room name) (standing k s (filled + count) next bound (room - n) name) (bits_of count value)
+      Adds k (current k s filled pending bound room name) (current k s (filled + count) next bound (room - n) name) (bits_of count value)
   adds_waiting next n e f lt fits = record {
     out = [];
     gave = gives_none k s;
@@ -108,12 +110,15 @@ module _ {S : Type 0} (k : SinkOf S) (s : S) (filled pending bound room name cou
       ∙ sym (append_assoc (bits_of filled pending) (bits_of (count - rest) high) (bits_of rest low))
       ∙ ap (λ r. r ++ bits_of rest low) (bits_join filled (count - rest) pending high small ∙ ap (λ n. bits_of n (pending * 2 ^ (count - rest) + high)) word)
 
-  pub adds_word : {t : S} (rest word last n : ℕ) → word ≡ pending * 2 ^ (count - rest) + low / 2 ^ rest → last ≡ low % 2 ^ rest → n ≡ count → 64 ≤ filled + count → filled + count ≡ 64 + rest → rest ≤ count → count ≤ room →
-      rest < 64 → GaveBits k s t (bits_of 64 word) → Adds k (standing k s filled pending bound room name) (standing k t rest last bound (room - n) name) (bits_of count value)
+  pub adds_word : {t : S} (rest word last n : ℕ) → word ≡ pending * 2 ^ (count - rest) + low / 2 ^ rest → last ≡ low % 2 ^ rest → n ≡ count →
+      64 ≤ filled + count → filled + count ≡ 64 + rest → rest ≤ count → count ≤ room →
+      rest < 64 → GaveBits k s t (bits_of 64 word) → Adds k (current k s filled pending bound room name) (current k t rest last bound (room - n) name)
+      (bits_of count value)
   adds_word {t} rest word last n e f g full sum le fits lt h = record {
     out = bits_of 64 word;
     gave = h;
-    bits = parted rest full sum le ∙ ap (λ w. bits_of 64 w ++ bits_of rest low) (sym e) ∙ ap (λ r. bits_of 64 word ++ r) (sym (ap (bits_of rest) f ∙ bits_of-mod rest low));
+    bits = parted rest full sum le ∙ ap (λ w. bits_of 64 w ++ bits_of rest low) (sym e) ∙ ap (λ r. bits_of 64 word ++ r)
+        (sym (ap (bits_of rest) f ∙ bits_of-mod rest low));
     pending = omega (arith, length-bits_of rest last);
     used = omega (arith, h.given, length-bits_of count value, length-bits_of 64 word);
     room = omega (arith, g, length-bits_of count value);
@@ -121,15 +126,20 @@ module _ {S : Type 0} (k : SinkOf S) (s : S) (filled pending bound room name cou
     name = refl;
   }
 
-  pub breaks_in_word : {t : S} (rest word : ℕ) → word ≡ pending * 2 ^ (count - rest) + low / 2 ^ rest → 64 ≤ filled + count → filled + count ≡ 64 + rest → rest ≤ count →
-      (b : Standing S) → b.sink ≡ t → b.name ≡ name → BrokeBits k s t (bits_of 64 word) → Breaks k (standing k s filled pending bound room name) b (bits_of count value)
+  pub breaks_in_word : {t : S} (rest word : ℕ) → word ≡ pending * 2 ^ (count - rest) + low / 2 ^ rest → 64 ≤ filled + count → filled + count ≡ 64 + rest →
+      rest ≤ count →
+      (b : SinkState S) → b.sink ≡ t → b.name ≡ name → BrokeBits k s t (bits_of 64 word) → Breaks k (current k s filled pending bound room name) b
+      (bits_of count value)
   breaks_in_word {t} rest word e full sum le b f g h =
-      let same : bits_of 64 word ++ bits_of rest low ≡ bits_of filled pending ++ bits_of count value = sym (parted rest full sum le ∙ ap (λ w. bits_of 64 w ++ bits_of rest low) (sym e)) in
+      let same : bits_of 64 word ++ bits_of rest low ≡ bits_of filled pending ++ bits_of count value =
+      sym (parted rest full sum le ∙ ap (λ w. bits_of 64 w ++ bits_of rest low) (sym e)) in
       let all : BrokeBits k s t (bits_of filled pending ++ bits_of count value) = subst (BrokeBits k s t) same (broke_more k (bits_of rest low) h) in
       record { broke = subst (λ u. BrokeBits k s u (bits_of filled pending ++ bits_of count value)) (sym f) all; name = g }
 
 -- the highest bits of a number, for which there is room, and those after them
-pub fits_then : (count fitting value v : ℕ) → v ≡ value → fitting ≤ count → bits_of fitting (v / 2 ^ (count - fitting)) ++ bits_of (count - fitting) value ≡ bits_of count value
+pub fits_then : (count fitting value v : ℕ) → v ≡ value → fitting ≤ count → bits_of fitting (v / 2 ^ (count - fitting)) ++ bits_of (count - fitting) value
+    ≡ bits_of count value
 fits_then count fitting value v e le =
     let whole : fitting + (count - fitting) ≡ count = omega arith in
-    ap (λ n. bits_of fitting (n / 2 ^ (count - fitting)) ++ bits_of (count - fitting) value) e ∙ sym (bits_of-split fitting (count - fitting) value) ∙ ap (λ n. bits_of n value) whole
+    ap (λ n. bits_of fitting (n / 2 ^ (count - fitting)) ++ bits_of (count - fitting) value) e ∙ sym (bits_of-split fitting (count - fitting) value)
+    ∙ ap (λ n. bits_of n value) whole

@@ -47,7 +47,8 @@ module _ {S : Type 0} (k : SinkOf S) where
     octets = p.octets ++ q.octets;
     small = octets_both p.octets q.octets p.small q.small;
     more = q.more;
-    spell = ap (λ r. r ++ ys) p.spell ∙ ap (λ r. bits_of_octets p.octets ++ r) q.spell ∙ sym (append_assoc (bits_of_octets p.octets) (bits_of_octets q.octets) q.more) ∙ ap (λ r. r ++ q.more) (sym (octets_append p.octets q.octets));
+    spell = ap (λ r. r ++ ys) p.spell ∙ ap (λ r. bits_of_octets p.octets ++ r) q.spell
+        ∙ sym (append_assoc (bits_of_octets p.octets) (bits_of_octets q.octets) q.more) ∙ ap (λ r. r ++ q.more) (sym (octets_append p.octets q.octets));
     broke = k.broke_after a b c p.octets q.octets p.gave q.broke;
     rose = rose_since (k.counts a).faults (k.counts b).faults (k.counts c).faults p.faults q.rose;
   }

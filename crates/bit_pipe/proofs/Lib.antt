@@ -11,8 +11,8 @@ mod ZeroSteps
 mod Ending
 mod PieceSteps
 pub mod WordOctets
-mod FrontBits
-mod FrontTaking
+mod PrefixBits
+mod PrefixTaking
 pub mod WindowBits
 pub mod Endings
 pub mod ScriptReading

@@ -1,5 +1,6 @@
 -- Octets of a number and octets of zeros, one more at a time.
-use Rattle.std.proofs.Common.{◌≡◌, ℕ, ◌+◌, ◌-◌, ◌*◌, ◌/◌, ◌%◌, ◌^◌, ◌<◌, ◌≤◌, [], ◌++◌, false, sym, ap, subst, ◌∙◌, append_assoc, arith, bit_and, Result, Ok, Err}
+use Rattle.std.proofs.Common.{◌≡◌, ℕ, ◌+◌, ◌-◌, ◌*◌, ◌/◌, ◌%◌, ◌^◌, ◌<◌, ◌≤◌, [], ◌++◌, false, sym, ap, subst, ◌∙◌, append_assoc, arith, bit_and, Result}
+use Rattle.std.proofs.Common.{Ok, Err}
 use Rattle.std.proofs.lemmas.Nat.{and_mask, mod_below, one_shl, pow_pos}
 use Rattle.item_defs.specs.Bits.{bits_of, copies}
 use Rattle.item_defs.proofs.BitLists.{copies_none, copies_then, length-copies}
@@ -19,7 +20,8 @@ octet_at left x le =
     let eight : left - (left - 8) ≡ 8 = omega arith in
     ap (bits_of 8) (low_octet (x / 2 ^ (left - 8))) ∙ bits_of-mod 8 (x / 2 ^ (left - 8)) ∙ ap (λ k. bits_of k (x / 2 ^ (left - 8))) (sym eight)
 
-one_more : (count left x : ℕ) → 8 ≤ left → left ≤ count → bits_of (count - left) (x / 2 ^ left) ++ bits_of 8 (bit_and (x / 2 ^ (left - 8)) 255) ≡ bits_of (count - (left - 8)) (x / 2 ^ (left - 8))
+one_more : (count left x : ℕ) → 8 ≤ left → left ≤ count → bits_of (count - left) (x / 2 ^ left) ++ bits_of 8 (bit_and (x / 2 ^ (left - 8)) 255)
+    ≡ bits_of (count - (left - 8)) (x / 2 ^ (left - 8))
 one_more count left x p q =
     ap (λ r. bits_of (count - left) (x / 2 ^ left) ++ r) (octet_at left x p) ∙ bits_between count left (left - 8) x (omega arith) q
 
@@ -27,7 +29,8 @@ octet_small : (n : ℕ) → bit_and n 255 < 256
 octet_small n = omega (arith, low_octet n, mod_below n 256 (omega arith))
 
 -- the bits that wait: those of whole octets, and those after them
-pending_parts : (filled pending : ℕ) → bits_of (filled - filled % 8) (pending / 2 ^ (filled % 8)) ++ (bits_of (filled % 8) pending ++ copies ((8 - filled % 8) % 8) false) ≡ bits_of filled pending ++ copies ((8 - filled % 8) % 8) false
+pending_parts : (filled pending : ℕ) → bits_of (filled - filled % 8) (pending / 2 ^ (filled % 8))
+    ++ (bits_of (filled % 8) pending ++ copies ((8 - filled % 8) % 8) false) ≡ bits_of filled pending ++ copies ((8 - filled % 8) % 8) false
 pending_parts filled pending =
     let whole : (filled - filled % 8) + filled % 8 ≡ filled = omega arith in
     sym (append_assoc (bits_of (filled - filled % 8) (pending / 2 ^ (filled % 8))) (bits_of (filled % 8) pending) (copies ((8 - filled % 8) % 8) false))
@@ -41,9 +44,12 @@ mask_of filled pending =
 pub pending_fits : (filled pending : ℕ) → bit_and pending ((1 * 2 ^ (filled % 8)) % 2 ^ 64 - 1) < 2 ^ (filled % 8)
 pending_fits filled pending = rw (mask_of filled pending) (mod_below pending (2 ^ (filled % 8)) (pow_pos (filled % 8)))
 
-pending_all : (filled pending : ℕ) → bits_of (filled - filled % 8) (pending / 2 ^ (filled % 8)) ++ (bits_of (filled % 8) (bit_and pending ((1 * 2 ^ (filled % 8)) % 2 ^ 64 - 1)) ++ copies ((8 - filled % 8) % 8) false) ≡ bits_of filled pending ++ copies ((8 - filled % 8) % 8) false
+pending_all : (filled pending : ℕ) → bits_of (filled - filled % 8) (pending / 2 ^ (filled % 8))
+    ++ (bits_of (filled % 8) (bit_and pending ((1 * 2 ^ (filled % 8)) % 2 ^ 64 - 1)) ++ copies ((8 - filled % 8) % 8) false) ≡ bits_of filled pending
+    ++ copies ((8 - filled % 8) % 8) false
 pending_all filled pending =
-    let kept : bits_of (filled % 8) (bit_and pending ((1 * 2 ^ (filled % 8)) % 2 ^ 64 - 1)) ≡ bits_of (filled % 8) pending = ap (bits_of (filled % 8)) (mask_of filled pending) ∙ bits_of-mod (filled % 8) pending in
+    let kept : bits_of (filled % 8) (bit_and pending ((1 * 2 ^ (filled % 8)) % 2 ^ 64 - 1)) ≡ bits_of (filled % 8) pending =
+    ap (bits_of (filled % 8)) (mask_of filled pending) ∙ bits_of-mod (filled % 8) pending in
     ap (λ r. bits_of (filled - filled % 8) (pending / 2 ^ (filled % 8)) ++ (r ++ copies ((8 - filled % 8) % 8) false)) kept ∙ pending_parts filled pending
 
 module _ {S : Type 0} (k : SinkOf S) where
@@ -64,7 +70,8 @@ module _ {S : Type 0} (k : SinkOf S) where
       let le : count % 8 ≤ left - 8 = omega (arith, same) in
       subst (BrokeBits k a c) (bits_between count (left - 8) (count % 8) x le (omega arith)) (broke_more k rest broke)
 
-  pub number_room : {a b : S} (count left x : ℕ) → 8 ≤ left → left ≤ count → 8 * (k.counts a).given + count ≤ 2 ^ 35 → GaveBits k a b (bits_of (count - left) (x / 2 ^ left)) → (k.counts b).given < 2 ^ 32
+  pub number_room : {a b : S} (count left x : ℕ) → 8 ≤ left → left ≤ count → 8 * (k.counts a).given + count ≤ 2 ^ 35 →
+      GaveBits k a b (bits_of (count - left) (x / 2 ^ left)) → (k.counts b).given < 2 ^ 32
   number_room count left x p q r h = omega (arith, h.given, length-bits_of (count - left) (x / 2 ^ left))
 
   -- all octets of a word
@@ -89,25 +96,30 @@ module _ {S : Type 0} (k : SinkOf S) where
       ap (λ r. copies (8 * n) false ++ r) (bits_of_zero 8) ∙ copies_then (8 * n) 8 false ∙ ap (λ m. copies m false) (omega arith) in
       subst (GaveBits k a c) e (gives_then k h (gives_octet k 0 (omega arith) o))
 
-  pub zeros_broke : {a b c : S} (n count : ℕ) → n < count → GaveBits k a b (copies (8 * n) false) → BrokeOctet k b c 0 → BrokeBits k a c (copies (8 * count) false)
+  pub zeros_broke : {a b c : S} (n count : ℕ) → n < count → GaveBits k a b (copies (8 * n) false) → BrokeOctet k b c 0 →
+      BrokeBits k a c (copies (8 * count) false)
   zeros_broke {a} {b} {c} n count lt h o =
       let rest = copies (8 * (count - (n + 1))) false in
       let e : (copies (8 * n) false ++ bits_of 8 0) ++ rest ≡ copies (8 * count) false =
-      ap (λ r. (copies (8 * n) false ++ r) ++ rest) (bits_of_zero 8) ∙ ap (λ r. r ++ rest) (copies_then (8 * n) 8 false) ∙ copies_then (8 * n + 8) (8 * (count - (n + 1))) false ∙ ap (λ m. copies m false) (omega arith) in
+      ap (λ r. (copies (8 * n) false ++ r) ++ rest) (bits_of_zero 8) ∙ ap (λ r. r ++ rest) (copies_then (8 * n) 8 false) ∙ copies_then (8 * n + 8)
+      (8 * (count - (n + 1))) false ∙ ap (λ m. copies m false) (omega arith) in
       subst (BrokeBits k a c) e (broke_more k rest (broke_then k h (breaks_octet k 0 (omega arith) o)))
 
-  pub zeros_room : {a b : S} (n count : ℕ) → n < count → (k.counts a).given + count ≤ 2 ^ 32 → GaveBits k a b (copies (8 * n) false) → (k.counts b).given < 2 ^ 32
+  pub zeros_room : {a b : S} (n count : ℕ) → n < count → (k.counts a).given + count ≤ 2 ^ 32 → GaveBits k a b (copies (8 * n) false) →
+      (k.counts b).given < 2 ^ 32
   zeros_room n count lt r h = omega (arith, h.given, length-copies (8 * n) false)
 
   -- ---- the last octet
 
-  last_bits : (filled pending : ℕ) → 0 < filled → filled < 8 → bits_of 8 (pending * 2 ^ (8 - filled)) ≡ bits_of filled pending ++ copies ((8 - filled) % 8) false
+  last_bits : (filled pending : ℕ) → 0 < filled → filled < 8 → bits_of 8 (pending * 2 ^ (8 - filled)) ≡ bits_of filled pending
+      ++ copies ((8 - filled) % 8) false
   last_bits filled pending some lt =
       let zeros : (8 - filled) % 8 ≡ 8 - filled = omega arith in
       let whole : filled + (8 - filled) ≡ 8 = omega arith in
       let plus : pending * 2 ^ (8 - filled) + 0 ≡ pending * 2 ^ (8 - filled) = omega arith in
       let below : 0 < 2 ^ (8 - filled) = pow_pos (8 - filled) in
-      sym (ap (λ n. bits_of filled pending ++ copies n false) zeros ∙ ap (λ r. bits_of filled pending ++ r) (sym (bits_of_zero (8 - filled))) ∙ bits_join filled (8 - filled) pending 0 below ∙ ap (λ n. bits_of n (pending * 2 ^ (8 - filled) + 0)) whole ∙ ap (bits_of 8) plus)
+      sym (ap (λ n. bits_of filled pending ++ copies n false) zeros ∙ ap (λ r. bits_of filled pending ++ r) (sym (bits_of_zero (8 - filled))) ∙ bits_join
+      filled (8 - filled) pending 0 below ∙ ap (λ n. bits_of n (pending * 2 ^ (8 - filled) + 0)) whole ∙ ap (bits_of 8) plus)
 
   pub last_none : (s : S) (filled pending : ℕ) → filled ≡ 0 → GaveBits k s s (bits_of filled pending ++ copies ((8 - filled) % 8) false)
   last_none s filled pending e =
@@ -116,14 +128,16 @@ module _ {S : Type 0} (k : SinkOf S) where
       ap (λ r. r ++ copies ((8 - filled) % 8) false) (no_bits filled pending e) ∙ ap (λ n. copies n false) zeros ∙ copies_none false in
       subst (GaveBits k s s) (sym nothing) (gives_none k s)
 
-  pub last_gave : {a b : S} (filled pending octet : ℕ) → 0 < filled → filled < 8 → pending < 2 ^ filled → octet ≡ pending * 2 ^ (8 - filled) % 2 ^ 8 → GaveOctet k a b octet →
+  pub last_gave : {a b : S} (filled pending octet : ℕ) → 0 < filled → filled < 8 → pending < 2 ^ filled → octet ≡ pending * 2 ^ (8 - filled) % 2 ^ 8 →
+      GaveOctet k a b octet →
       GaveBits k a b (bits_of filled pending ++ copies ((8 - filled) % 8) false)
   last_gave {a} {b} filled pending octet some lt fits e o =
       let small : octet < 256 = omega (arith, e, mod_below (pending * 2 ^ (8 - filled)) 256 (omega arith)) in
       let same : bits_of 8 octet ≡ bits_of 8 (pending * 2 ^ (8 - filled)) = ap (bits_of 8) e ∙ bits_of-mod 8 (pending * 2 ^ (8 - filled)) in
       subst (GaveBits k a b) (same ∙ last_bits filled pending some lt) (gives_octet k octet small o)
 
-  pub last_broke : {a b : S} (filled pending octet : ℕ) → 0 < filled → filled < 8 → pending < 2 ^ filled → octet ≡ pending * 2 ^ (8 - filled) % 2 ^ 8 → BrokeOctet k a b octet →
+  pub last_broke : {a b : S} (filled pending octet : ℕ) → 0 < filled → filled < 8 → pending < 2 ^ filled → octet ≡ pending * 2 ^ (8 - filled) % 2 ^ 8 →
+      BrokeOctet k a b octet →
       BrokeBits k a b (bits_of filled pending ++ copies ((8 - filled) % 8) false)
   last_broke {a} {b} filled pending octet some lt fits e o =
       let small : octet < 256 = omega (arith, e, mod_below (pending * 2 ^ (8 - filled)) 256 (omega arith)) in
@@ -132,15 +146,18 @@ module _ {S : Type 0} (k : SinkOf S) where
 
   -- ---- what waits: its whole octets, and the bits after them
 
-  pub pending_room : {a b : S} (filled pending : ℕ) → 8 * (k.counts a).given + filled ≤ 2 ^ 35 → GaveBits k a b (bits_of (filled - filled % 8) (pending / 2 ^ (filled % 8))) → 8 * (k.counts b).given + filled % 8 ≤ 2 ^ 35
+  pub pending_room : {a b : S} (filled pending : ℕ) → 8 * (k.counts a).given + filled ≤ 2 ^ 35 →
+      GaveBits k a b (bits_of (filled - filled % 8) (pending / 2 ^ (filled % 8))) → 8 * (k.counts b).given + filled % 8 ≤ 2 ^ 35
   pending_room filled pending r h = omega (arith, h.given, length-bits_of (filled - filled % 8) (pending / 2 ^ (filled % 8)))
 
-  pub pending_broke : {a b : S} (filled pending : ℕ) → BrokeBits k a b (bits_of (filled - filled % 8) (pending / 2 ^ (filled % 8))) → BrokeBits k a b (bits_of filled pending ++ copies ((8 - filled % 8) % 8) false)
+  pub pending_broke : {a b : S} (filled pending : ℕ) → BrokeBits k a b (bits_of (filled - filled % 8) (pending / 2 ^ (filled % 8))) →
+      BrokeBits k a b (bits_of filled pending ++ copies ((8 - filled % 8) % 8) false)
   pending_broke {a} {b} filled pending h =
       let rest = bits_of (filled % 8) pending ++ copies ((8 - filled % 8) % 8) false in
       subst (BrokeBits k a b) (pending_parts filled pending) (broke_more k rest h)
 
-  pub pending_puts : {T E : Type 0} {a b : S} (c : S) (filled pending : ℕ) (r : Result T E) → GaveBits k a b (bits_of (filled - filled % 8) (pending / 2 ^ (filled % 8))) →
+  pub pending_puts : {T E : Type 0} {a b : S} (c : S) (filled pending : ℕ) (r : Result T E) →
+      GaveBits k a b (bits_of (filled - filled % 8) (pending / 2 ^ (filled % 8))) →
       PutsOctets k r b c (bits_of (filled % 8) (bit_and pending ((1 * 2 ^ (filled % 8)) % 2 ^ 64 - 1)) ++ copies ((8 - filled % 8) % 8) false) →
       PutsOctets k r a c (bits_of filled pending ++ copies ((8 - filled % 8) % 8) false)
   pending_puts {a = a} {b} c filled pending (Ok x) h o = subst (GaveBits k a c) (pending_all filled pending) (gives_then k h o)

@@ -5,7 +5,7 @@ use Rattle.item_defs.specs.Bits.{bits_of}
 use Rattle.item_defs.proofs.NumberBits.{bits_of-mod, bits_of-split, bits_join, bits_first, bit_is, length-bits_of}
 use Rattle.bit_pipe.specs.declared.piece.Piece.{Piece}
 use Rattle.bit_pipe.specs.Sources.{SourceOf, GivesOctet}
-use Rattle.bit_pipe.specs.Coming.{Coming, Takes}
+use Rattle.bit_pipe.specs.SourceState.{SourceState, Takes}
 use Rattle.bit_pipe.specs.Pieces.{TakesPiece}
 use Rattle.bit_pipe.proofs.Taking.{at, takes_then, takes_pending, takes_octet}
 
@@ -20,7 +20,8 @@ pub first_bits : (octet o left count : ℕ) → o ≡ octet → count ≤ 8 → 
 first_bits octet o left count e le within =
     let whole : count + (left - count) ≡ left = omega arith in
     let value : bits_of count (bit_and (o / 2 ^ (left - count)) ((1 * 2 ^ count) % 2 ^ 16 - 1)) ≡ bits_of count (octet / 2 ^ (left - count)) =
-    ap (bits_of count) (first_value (o / 2 ^ (left - count)) count le) ∙ bits_of-mod count (o / 2 ^ (left - count)) ∙ ap (λ n. bits_of count (n / 2 ^ (left - count))) e in
+    ap (bits_of count) (first_value (o / 2 ^ (left - count)) count le) ∙ bits_of-mod count (o / 2 ^ (left - count))
+    ∙ ap (λ n. bits_of count (n / 2 ^ (left - count))) e in
     ap (λ n. bits_of n octet) (sym whole) ∙ bits_of-split count (left - count) octet ∙ ap (λ r. r ++ bits_of (left - count) octet) (sym value)
 
 -- the code's first bit
@@ -41,11 +42,13 @@ code_number value taken v b n e p q le =
     let whole : (value * 2 ^ n) % 2 ^ 64 ≡ value * 2 ^ n = shl_whole value taken n 64 p (omega arith) in
     rw (e, whole) (or_shifted value n v q)
 
-pub number_more : {I : Type 0} {k : SourceOf I} {a b c : Coming I} (value taken v n : ℕ) → v < 2 ^ n → Takes k a b (bits_of taken value) → Takes k b c (bits_of n v) → Takes k a c (bits_of (taken + n) (value * 2 ^ n + v))
+pub number_more : {I : Type 0} {k : SourceOf I} {a b c : SourceState I} (value taken v n : ℕ) → v < 2 ^ n → Takes k a b (bits_of taken value) →
+    Takes k b c (bits_of n v) → Takes k a c (bits_of (taken + n) (value * 2 ^ n + v))
 number_more {I} {k} {a} {b} {c} value taken v n q p r = subst (Takes k a c) (bits_join taken n value v q) (takes_then p r)
 
 module _ {I : Type 0} (k : SourceOf I) where
-  pub piece_pending : (s : I) (octet left used room name most n a b : ℕ) (piece : Piece) → a ≡ n → b ≡ n → n ≡ min (min most left) room → 0 < most → 0 < left → 0 < room → left < 8 →
+  pub piece_pending : (s : I) (octet left used room name most n a b : ℕ) (piece : Piece) → a ≡ n → b ≡ n → n ≡ min (min most left) room → 0 < most →
+      0 < left → 0 < room → left < 8 →
       piece.count ≡ n → piece.value < 2 ^ n → bits_of left octet ≡ bits_of n piece.value ++ bits_of (left - n) octet →
       TakesPiece k most piece (at s octet left used room name) (at s octet (left - n) (used + b) (room - a) name)
   piece_pending s octet left used room name most n a b piece ea eb e p q r lt count fits bits =
@@ -58,12 +61,14 @@ module _ {I : Type 0} (k : SourceOf I) where
         taken = rw (ea, eb, count) taken;
       }
 
-  pub piece_octet : (s t : I) (before octet left used room name most n a b : ℕ) (piece : Piece) → a ≡ n → b ≡ n → n ≡ min (min most 8) room → 0 < most → left ≡ 0 → 0 < room →
+  pub piece_octet : (s t : I) (before octet left used room name most n a b : ℕ) (piece : Piece) → a ≡ n → b ≡ n → n ≡ min (min most 8) room → 0 < most →
+      left ≡ 0 → 0 < room →
       piece.count ≡ n → piece.value < 2 ^ n → bits_of 8 octet ≡ bits_of n piece.value ++ bits_of (8 - n) octet → GivesOctet k (Ok (Some octet)) s t →
       TakesPiece k most piece (at s before left used room name) (at t octet (8 - n) (used + b) (room - a) name)
   piece_octet s t before octet left used room name most n a b piece ea eb e p none r count fits bits h =
       let taken : Takes k (at s before left used room name) (at t octet (8 - n) (used + n) (room - n) name) (bits_of n piece.value) =
-      takes_octet k s t before octet left used room name n (bits_of n piece.value) bits (length-bits_of n piece.value) none (omega (arith, e)) (omega (arith, e)) h in
+      takes_octet k s t before octet left used room name n (bits_of n piece.value) bits (length-bits_of n piece.value) none (omega (arith, e))
+      (omega (arith, e)) h in
       record {
         some = omega (arith, e, count);
         within = omega (arith, e, count);

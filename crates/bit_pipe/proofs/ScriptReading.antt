@@ -8,7 +8,7 @@ use Rattle.bit_pipe.specs.declared.fault.TextFault.{TextFault}
 use Rattle.bit_pipe.specs.declared.fault.TextFault.TheVariants as texts
 use Rattle.bit_pipe.specs.Faults.{of_input}
 use Rattle.bit_pipe.specs.Sources.{SourceOf}
-use Rattle.bit_pipe.specs.Coming.{Coming, IsIn, Takes, EndsItem}
+use Rattle.bit_pipe.specs.SourceState.{SourceState, IsIn, Takes, EndsItem}
 use Rattle.bit_pipe.proofs.Taking.{takes_start, takes_then, fails_so_later, in_later}
 use Rattle.item_defs.specs.Outcomes.{Outcome, whole, cut, refused, first_number}
 use Rattle.item_defs.specs.Scripts.{Script, done, ask, then_ask, around, proceed, unless_named, answered, run}
@@ -26,14 +26,8 @@ says_on s t xs ys (refuses g name) p q = λ more. ap (run s) (append_assoc xs ys
 says_on s t xs ys (fails g e) p q = p ys ∙ q
 
 module _ {G A : Type 0} where
-  pub goes_on_none : (s : Script G A) → GoesOn s [] s
-  goes_on_none s = λ more. refl
-
   pub goes_on_then : (s t u : Script G A) (xs ys : List Bool) → GoesOn s xs t → GoesOn t ys u → GoesOn s (xs ++ ys) u
   goes_on_then s t u xs ys p q = λ more. ap (run s) (append_assoc xs ys more) ∙ p (ys ++ more) ∙ q more
-
-  pub goes_on_gets : (s t : Script G A) (xs ys : List Bool) (a : A) → GoesOn s xs t → Gets t ys a → Gets s (xs ++ ys) a
-  goes_on_gets s t xs ys a p q = says_on s t xs ys (got a) p q
 
   -- the spelling of a number that is not refused is read
   pub goes_on_ask : (g : G) (form : Form) (next : ℕ → Script G A) (n : ℕ) → IsSound form.shape → IsSaid form.shape n → form.refusal n ≡ None →
@@ -53,7 +47,7 @@ module _ {G A B : Type 0} (s : Script G A) (next : A → Script G B) where
 
 -- ---- a source
 
-stops_then : {I G B : Type 0} {k : SourceOf I} (a b c : Coming I) (xs : List Bool) (f : Found G B) → Takes k a b xs → Stops k f b c → Stops k f a c
+stops_then : {I G B : Type 0} {k : SourceOf I} (a b c : SourceState I) (xs : List Bool) (f : Found G B) → Takes k a b xs → Stops k f b c → Stops k f a c
 stops_then a b c xs (got x) p q = tt
 stops_then a b c xs (ends g) p q = q
 stops_then a b c xs (refuses g name) p q = tt
@@ -61,26 +55,23 @@ stops_then a b c xs (fails g e) p q = fails_so_later p q
 
 module _ {I : Type 0} {k : SourceOf I} {G A : Type 0} where
   -- nothing is read
-  pub read_done : (a : A) (s : Coming I) → IsIn s → ReadsAs {G = G} k (done a) (got a) s s
+  pub read_done : (a : A) (s : SourceState I) → IsIn s → ReadsAs {G = G} k (done a) (got a) s s
   read_done a s h = record { bits = []; taken = takes_start k s h; says = λ more. refl; stops = tt }
 
-  pub in_read : {s : Script G A} {a : A} {b c : Coming I} → IsIn b → ReadsAs k s (got a) b c → IsIn c
+  pub in_read : {s : Script G A} {a : A} {b c : SourceState I} → IsIn b → ReadsAs k s (got a) b c → IsIn c
   in_read h p = in_later h p.taken
 
-  -- bits that are read as a value were taken
-  pub read_gets : {s : Script G A} {bits : List Bool} {a : A} {b c : Coming I} → Gets s bits a → Takes k b c bits → ReadsAs k s (got a) b c
-  read_gets {bits = bits} p t = record { bits = bits; taken = t; says = p; stops = tt }
-
   -- some bits were taken, and what follows them was read
-  pub read_on : (s t : Script G A) (xs : List Bool) (f : Found G A) {a b c : Coming I} → GoesOn s xs t → Takes k a b xs → ReadsAs k t f b c → ReadsAs k s f a c
+  pub read_on : (s t : Script G A) (xs : List Bool) (f : Found G A) {a b c : SourceState I} → GoesOn s xs t → Takes k a b xs → ReadsAs k t f b c →
+      ReadsAs k s f a c
   read_on s t xs f {a} {b} {c} p t1 q =
       record { bits = xs ++ q.bits; taken = takes_then t1 q.taken; says = says_on s t xs q.bits f p q.says; stops = stops_then a b c xs f t1 q.stops }
 
   -- ---- an item
 
-  module _ (g : G) (form : Form) (next : ℕ → Script G A) {s t : Coming I} where
+  module _ (g : G) (form : Form) (next : ℕ → Script G A) {s t : SourceState I} where
     -- a number of the item was read, and then what follows it
-    pub ask_got : (n : ℕ) (f : Found G A) {u : Coming I} → IsSound form.shape → EndsItem k form.shape (Ok (Some n)) s t → form.refusal n ≡ None →
+    pub ask_got : (n : ℕ) (f : Found G A) {u : SourceState I} → IsSound form.shape → EndsItem k form.shape (Ok (Some n)) s t → form.refusal n ≡ None →
         ReadsAs k (next n) f t u → ReadsAs k (ask g form next) f s u
     ask_got n f sound p good q = read_on (ask g form next) (next n) (spelling form.shape n) f (goes_on_ask g form next n sound p.0 good) p.1 q
 
@@ -89,7 +80,8 @@ module _ {I : Type 0} {k : SourceOf I} {G A : Type 0} where
     ask_refused n name sound p bad = record {
       bits = spelling form.shape n;
       taken = p.1;
-      says = λ more. ap (answered g form (λ m. run (next m))) (spelt_first form.shape n more sound p.0) ∙ ap (λ x. unless_named g x more (run (next n) more)) bad;
+      says = λ more. ap (answered g form (λ m. run (next m))) (spelt_first form.shape n more sound p.0)
+          ∙ ap (λ x. unless_named g x more (run (next n) more)) bad;
       stops = tt;
     }
 
@@ -118,9 +110,9 @@ module _ {I : Type 0} {k : SourceOf I} {G A : Type 0} where
 
 -- ---- one script after another
 
-module _ {I : Type 0} {k : SourceOf I} {G A B : Type 0} (r : Script G A) (next : A → Script G B) {s t : Coming I} where
+module _ {I : Type 0} {k : SourceOf I} {G A B : Type 0} (r : Script G A) (next : A → Script G B) {s t : SourceState I} where
   -- the first part was read, and then the next
-  pub read_then : (a : A) (f : Found G B) {u : Coming I} → ReadsAs k r (got a) s t → ReadsAs k (next a) f t u → ReadsAs k (then_ask r next) f s u
+  pub read_then : (a : A) (f : Found G B) {u : SourceState I} → ReadsAs k r (got a) s t → ReadsAs k (next a) f t u → ReadsAs k (then_ask r next) f s u
   read_then a f p q = read_on (then_ask r next) (next a) p.bits f (gets_goes_on r next p.bits a p.says) p.taken q
 
   -- the first part was cut
@@ -128,7 +120,12 @@ module _ {I : Type 0} {k : SourceOf I} {G A B : Type 0} (r : Script G A) (next :
   read_cut g p = record { bits = p.bits; taken = p.taken; says = later r next p.bits (cut g) p.says; stops = p.stops }
 
   refused_first : (g : G) (name : Refusal) → ReadsAs k r (refuses g name) s t → ReadsAs k (then_ask r next) (refuses g name) s t
-  refused_first g name p = record { bits = p.bits; taken = p.taken; says = λ more. later r next (p.bits ++ more) (refused g name more) (p.says more); stops = tt }
+  refused_first g name p = record {
+    bits = p.bits;
+    taken = p.taken;
+    says = λ more. later r next (p.bits ++ more) (refused g name more) (p.says more);
+    stops = tt;
+  }
 
   failed_first : (g : G) (e : InFault) → ReadsAs k r (fails g e) s t → ReadsAs k (then_ask r next) (fails g e) s t
   failed_first g e p = record { bits = p.bits; taken = p.taken; says = later r next p.bits (cut g) p.says; stops = p.stops }
@@ -145,13 +142,13 @@ module _ {I : Type 0} {k : SourceOf I} {G A B : Type 0} (r : Script G A) (next :
 
 -- ---- what is left of a reading after a part of it: however the rest ends, so does the whole
 
-pub record Leaves {I G A : Type 0} (k : SourceOf I) (all rest : Script G A) (old new : Coming I) : Type 0 where
-  pub then : (f : Found G A) (last : Coming I) → ReadsAs k rest f new last → ReadsAs k all f old last
+pub record Leaves {I G A : Type 0} (k : SourceOf I) (all rest : Script G A) (old new : SourceState I) : Type 0 where
+  pub then : (f : Found G A) (last : SourceState I) → ReadsAs k rest f new last → ReadsAs k all f old last
 
-pub leaves_all : {I G A : Type 0} {k : SourceOf I} (r : Script G A) (s : Coming I) → Leaves k r r s s
+pub leaves_all : {I G A : Type 0} {k : SourceOf I} (r : Script G A) (s : SourceState I) → Leaves k r r s s
 leaves_all r s = record { then = λ f last p. p }
 
-pub leaves_more : {I G A B : Type 0} {k : SourceOf I} (all : Script G B) (r : Script G A) (next : A → Script G B) {s t u : Coming I} (a : A) →
+pub leaves_more : {I G A B : Type 0} {k : SourceOf I} (all : Script G B) (r : Script G A) (next : A → Script G B) {s t u : SourceState I} (a : A) →
     Leaves k all (then_ask r next) s t → ReadsAs k r (got a) t u → Leaves k all (next a) s u
 leaves_more all r next {u = u} a l p = record { then = λ f last q. l.then f last (read_then r next a f p q) }
 
@@ -204,7 +201,7 @@ module _ {S T : Type 0} (put : S → T) where
   pub gets_around : (r : Script S S) (bits : List Bool) (s : S) → Gets r bits s → Gets (around put r) bits (put s)
   gets_around r bits s q = λ more. in_around r (bits ++ more) (whole s more) (q more)
 
-module _ {I S T : Type 0} {k : SourceOf I} (put : S → T) (r : Script S S) {old new : Coming I} where
+module _ {I S T : Type 0} {k : SourceOf I} (put : S → T) (r : Script S S) {old new : SourceState I} where
   pub read_in : (f : Found S S) → ReadsAs k r f old new → ReadsAs k (around put r) (found_in put f) old new
   read_in (got a) q = record { bits = q.bits; taken = q.taken; says = gets_around put r q.bits a q.says; stops = tt }
   read_in (ends g) q = record { bits = q.bits; taken = q.taken; says = in_around put r q.bits (cut g) q.says; stops = q.stops }

@@ -1,5 +1,6 @@
 -- The octets of a word, as a slice takes them.
-use Rattle.std.proofs.Common.{◌≡◌, ℕ, zero, suc, ◌+◌, ◌*◌, ◌/◌, ◌%◌, ◌^◌, ◌<◌, ◌≤◌, List, ◌++◌, length, take, drop, refl, sym, ap, ◌∙◌, arith, length-append, length-drop, pow-suc, length-take-le}
+use Rattle.std.proofs.Common.{◌≡◌, ℕ, zero, suc, ◌+◌, ◌*◌, ◌/◌, ◌%◌, ◌^◌, ◌<◌, ◌≤◌, List, ◌++◌, length, take, drop, refl, sym, ap, ◌∙◌, arith}
+use Rattle.std.proofs.Common.{length-append, length-drop, pow-suc, length-take-le}
 use Rattle.std.specs.Int.{w64, byte_at, bytes_high_first, to_be_bytes}
 use Rattle.std.proofs.lemmas.Nat.{mod_below, pow-add}
 use Rattle.std.proofs.lemmas.Slice.{take-put_mid, drop-put_mid}
@@ -33,7 +34,8 @@ octets_bits (suc k) n =
 
 pub are_octets : (k n : ℕ) → AreOctets (bytes_high_first k n)
 are_octets zero n = All-nil (λ m. m < 256)
-are_octets (suc k) n = All-cons (λ m. m < 256) (byte_at k n) (bytes_high_first k n) (rw (octet_is k n) (mod_below (n / 2 ^ (8 * k)) 256 (omega arith))) (are_octets k n)
+are_octets (suc k) n = All-cons (λ m. m < 256) (byte_at k n) (bytes_high_first k n) (rw (octet_is k n) (mod_below (n / 2 ^ (8 * k)) 256 (omega arith)))
+    (are_octets k n)
 
 pub length-octets : (k n : ℕ) → length (bytes_high_first k n) ≡ k
 length-octets zero n = refl
@@ -41,17 +43,25 @@ length-octets (suc k) n = ap suc (length-octets k n)
 
 -- a word adds eight octets to a slice
 pub fills_word : (name name' len faults k word : ℕ) (slice octets : List ℕ) → name' ≡ name → octets ≡ to_be_bytes w64 word → k ≡ 8 → len + 8 ≤ length slice →
-    Fills (record { name = name; slice = slice; len = len; faults = faults }) (record { name = name'; slice = put_mid len k slice octets; len = len + 8; faults = faults }) (to_be_bytes w64 word)
+    Fills (record { name = name; slice = slice; len = len; faults = faults }) (record {
+      name = name';
+      slice = put_mid len k slice octets;
+      len =
+          len + 8;
+      faults = faults;
+    }) (to_be_bytes w64 word)
 fills_word name name' len faults k word slice octets e f g le =
     let eight : length octets ≡ 8 = ap length f ∙ length-octets 8 word in
-    let front : take (len + 8) (put_mid len k slice octets) ≡ take len slice ++ octets = take-put_mid len k slice octets (len + 8) (omega (arith, eight)) (omega arith) in
-    let rest : drop (len + 8) (put_mid len k slice octets) ≡ drop (len + 8) slice = drop-put_mid len k slice octets (len + 8) (omega arith) (omega arith) (omega (arith, eight, g)) in
+    let prefix : take (len + 8) (put_mid len k slice octets) ≡ take len slice ++ octets =
+    take-put_mid len k slice octets (len + 8) (omega (arith, eight)) (omega arith) in
+    let rest : drop (len + 8) (put_mid len k slice octets) ≡ drop (len + 8) slice =
+    drop-put_mid len k slice octets (len + 8) (omega arith) (omega arith) (omega (arith, eight, g)) in
     let whole : length (put_mid len k slice octets) ≡ length slice =
     simp (length-append, length-drop) (omega (arith, eight, g, length-take-le len slice (omega arith))) in
     record {
       name = e;
       len = omega (arith, length-octets 8 word);
-      front = front ∙ ap (λ r. take len slice ++ r) f;
+      prefix = prefix ∙ ap (λ r. take len slice ++ r) f;
       rest = rest;
       size = whole;
       faults = refl;

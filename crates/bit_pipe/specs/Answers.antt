@@ -3,7 +3,7 @@ use Rattle.std.specs.Prelude.{◌≡◌, ◌<◌, ℕ, [], ◌∷◌, Option, No
 use Rattle.item_defs.specs.Items.{Item}
 use Rattle.item_defs.specs.Readings.{whole, ended, refused}
 use Rattle.bit_pipe.specs.Sources.{SourceOf}
-use Rattle.bit_pipe.specs.Coming.{Coming}
+use Rattle.bit_pipe.specs.SourceState.{SourceState}
 use Rattle.bit_pipe.specs.Reading.{Ending, stopped, failed, Reads}
 use Rattle.bit_pipe.specs.Faults.{of_input, of_refusal}
 use Rattle.bit_pipe.specs.declared.fault.Part.{Part}
@@ -28,7 +28,8 @@ abbrev pub IsBelow : ℕ → ℕ → Type 0
 IsBelow most n = n < most
 
 -- the result of a call for one item, whose value has a property
-pub record TakesOne {I : Type 0} (k : SourceOf I) (Is : ℕ → Type 0) (item : ℕ → Item) (result : Result (Option ℕ) TextFault) (old new : Coming I) : Type 0 where
+pub record TakesOne {I : Type 0} (k : SourceOf I) (Is : ℕ → Type 0) (item : ℕ → Item) (result : Result (Option ℕ) TextFault)
+    (old new : SourceState I) : Type 0 where
   pub value : ℕ
   pub known : Is value
   pub ending : Ending

@@ -13,7 +13,7 @@ pub record Filling : Type 0 where
 pub record Fills (old new : Filling) (octets : List ℕ) : Type 0 where
   pub name : new.name ≡ old.name
   pub len : new.len ≡ old.len + length octets
-  pub front : take new.len new.slice ≡ take old.len old.slice ++ octets
+  pub prefix : take new.len new.slice ≡ take old.len old.slice ++ octets
   pub rest : drop new.len new.slice ≡ drop new.len old.slice
   pub size : length new.slice ≡ length old.slice
   pub faults : new.faults ≡ old.faults
@@ -27,6 +27,6 @@ pub record Overfills (old new : Filling) (octets : List ℕ) : Type 0 where
   pub parts : octets ≡ fitting ++ over
   pub some : 0 < length over
   pub full : length new.slice ≡ new.len
-  pub front : new.slice ≡ take old.len old.slice ++ fitting
+  pub prefix : new.slice ≡ take old.len old.slice ++ fitting
   pub size : length new.slice ≡ length old.slice
   pub faults : new.faults ≡ min (old.faults + length over) (2 ^ 64 - 1)

@@ -1,8 +1,8 @@
 pub mod Bounds
 pub mod Sinks
-pub mod Standing
+pub mod SinkState
 pub mod Sources
-pub mod Coming
+pub mod SourceState
 pub mod Pieces
 pub mod Reading
 pub mod Faults
@@ -11,6 +11,6 @@ pub mod FillLaws
 pub mod Slices
 pub mod Streams
 pub mod Answers
-pub mod Fronts
+pub mod Prefixes
 pub mod Windows
 pub mod ScriptSources

@@ -8,7 +8,7 @@ use Rattle.bit_pipe.specs.declared.fault.Part.TheVariants.{Whole, Ended}
 use Rattle.bit_pipe.specs.declared.fault.TextFault.{TextFault}
 use Rattle.bit_pipe.specs.declared.fault.TextFault.TheVariants as texts
 use Rattle.bit_pipe.specs.Sources.{SourceOf}
-use Rattle.bit_pipe.specs.Coming.{Coming, Takes, IsEnd, FailsSo}
+use Rattle.bit_pipe.specs.SourceState.{SourceState, Takes, IsEnd, FailsSo}
 use Rattle.item_defs.specs.Outcomes.{whole, cut, refused}
 use Rattle.item_defs.specs.Scripts.{Script, run}
 
@@ -26,14 +26,14 @@ Says s bits (ends g) = run s bits ≡ cut g
 Says s bits (refuses g name) = (more : List Bool) → run s (bits ++ more) ≡ refused g name more
 Says s bits (fails g e) = run s bits ≡ cut g
 
-abbrev pub Stops : {I G A : Type 0} → SourceOf I → Found G A → Coming I → Coming I → Type 0
+abbrev pub Stops : {I G A : Type 0} → SourceOf I → Found G A → SourceState I → SourceState I → Type 0
 Stops k (got a) old new = Unit {0}
 Stops k (ends g) old new = IsEnd k new
 Stops k (refuses g name) old new = Unit {0}
 Stops k (fails g e) old new = FailsSo k e old new
 
 -- exactly the bits that decide what was found were taken
-pub record ReadsAs {I G A : Type 0} (k : SourceOf I) (s : Script G A) (found : Found G A) (old new : Coming I) : Type 0 where
+pub record ReadsAs {I G A : Type 0} (k : SourceOf I) (s : Script G A) (found : Found G A) (old new : SourceState I) : Type 0 where
   pub bits : List Bool
   pub taken : Takes k old new bits
   pub says : Says s bits found

@@ -26,11 +26,11 @@ pub record SourceOf (I : Type 0) : Type 1 where
   pub went_both : (s t u : I) → Went s t → Went t u → Went s u
 
 -- these octets were read, if what is left is known
-abbrev pub Comes : Option Tail → Option Tail → List ℕ → Type 0
-Comes None None octets = Unit {0}
-Comes (Some before) (Some now) octets = (before.octets ≡ octets ++ now.octets) × (before.ends ≡ now.ends)
-Comes None (Some now) octets = ⊥
-Comes (Some before) None octets = ⊥
+abbrev pub Arrives : Option Tail → Option Tail → List ℕ → Type 0
+Arrives None None octets = Unit {0}
+Arrives (Some before) (Some now) octets = (before.octets ≡ octets ++ now.octets) × (before.ends ≡ now.ends)
+Arrives None (Some now) octets = ⊥
+Arrives (Some before) None octets = ⊥
 
 -- nothing is left, and it ends in this way
 abbrev pub IsOver : Option Tail → End → Type 0
@@ -44,9 +44,9 @@ Fails k LongInput old new = IsOver (k.tail new) TooLong
 Fails k Broken old new = IsOver (k.tail new) InPieces
 
 abbrev pub EndsOctet : {I : Type 0} → SourceOf I → Result (Option ℕ) InFault → I → I → Type 0
-EndsOctet k (Ok (Some octet)) old new = Comes (k.tail old) (k.tail new) (octet ∷ []) × (octet < 256)
-EndsOctet k (Ok None) old new = Comes (k.tail old) (k.tail new) [] × IsOver (k.tail new) Plainly
-EndsOctet k (Err e) old new = Comes (k.tail old) (k.tail new) [] × Fails k e old new
+EndsOctet k (Ok (Some octet)) old new = Arrives (k.tail old) (k.tail new) (octet ∷ []) × (octet < 256)
+EndsOctet k (Ok None) old new = Arrives (k.tail old) (k.tail new) [] × IsOver (k.tail new) Plainly
+EndsOctet k (Err e) old new = Arrives (k.tail old) (k.tail new) [] × Fails k e old new
 
 -- the result of a call for one octet
 pub record GivesOctet {I : Type 0} (k : SourceOf I) (result : Result (Option ℕ) InFault) (old new : I) : Type 0 where
@@ -56,6 +56,6 @@ pub record GivesOctet {I : Type 0} (k : SourceOf I) (result : Result (Option ℕ
 
 -- the result of a call that consumes `count` of the octets in memory
 pub record Consumes {I : Type 0} (k : SourceOf I) (count : ℕ) (old new : I) : Type 0 where
-  pub came : Comes (k.tail old) (k.tail new) (take count (k.buffer old))
+  pub came : Arrives (k.tail old) (k.tail new) (take count (k.buffer old))
   pub faults : k.faults old ≤ k.faults new
   pub went : k.Went old new

@@ -2,14 +2,14 @@
 use Rattle.std.specs.Prelude.{◌≡◌, ◌≤◌, ℕ, List, Bool, ◌+◌, ◌-◌, ◌/◌, ◌^◌, ◌++◌, length, take}
 use Rattle.item_defs.specs.Bits.{bits_of, bits_of_octets, AreOctets}
 use Rattle.bit_pipe.specs.Sources.{SourceOf}
-use Rattle.bit_pipe.specs.Coming.{Coming}
+use Rattle.bit_pipe.specs.SourceState.{SourceState}
 
 -- the next seven octets in memory
 abbrev pub seven_next : {I : Type 0} → SourceOf I → I → List ℕ
 seven_next k s = take 7 (k.buffer s)
 
 -- a number of 64 bits whose highest bits are those that are left and those of seven octets in memory; there is room for 56
-pub record IsWindow {I : Type 0} (k : SourceOf I) (s : Coming I) (window : ℕ) : Type 0 where
+pub record IsWindow {I : Type 0} (k : SourceOf I) (s : SourceState I) (window : ℕ) : Type 0 where
   pub room : 56 ≤ s.room
   pub many : 7 ≤ length (k.buffer s.source)
   pub small : AreOctets (seven_next k s.source)

@@ -3,8 +3,8 @@ ghost use Rattle.std.specs.Prelude.{◌≡◌, ◌<◌, ◌≤◌, ◌+◌, ◌*
 
 use crate::bound::octets_within;
 use crate::fault::{InFault, TextFault};
-use crate::front::Front;
 use crate::piece::{Piece, width_of};
+use crate::prefix::Prefix;
 use crate::source::OctetIn;
 use crate::word::word_of;
 
@@ -24,9 +24,9 @@ pub struct BitIn<'a, I> {
 impl<'a, I: OctetIn> BitIn<'a, I> {
     ghost use Rattle.item_defs.specs.Items.{Item, fixed, zeros_to};
     ghost use Rattle.bit_pipe.specs.Answers.{IsBelow, TakesOne};
-    ghost use Rattle.bit_pipe.specs.Fronts.{Tells, IsTable, front_at, hand_of};
+    ghost use Rattle.bit_pipe.specs.Prefixes.{Reports, IsTable, prefix_at, hand_of};
     ghost use Rattle.bit_pipe.specs.Bounds.{bound_of};
-    ghost use Rattle.bit_pipe.specs.Coming.{coming, IsIn, BeginsIn, Takes, GivesBit, GivesItem};
+    ghost use Rattle.bit_pipe.specs.SourceState.{source_state, IsIn, BeginsIn, Takes, GivesBit, GivesItem};
     ghost use Rattle.bit_pipe.specs.Pieces.{GivesPiece};
     ghost use Rattle.bit_pipe.specs.Windows.{IsWindow, first_of};
 
@@ -36,8 +36,8 @@ impl<'a, I: OctetIn> BitIn<'a, I> {
         requires limit { limit ≤ 2 ^ 32 }
         requires bound { before ≤ bound_of limit }
         ensures same { result.input.ghost_name ≡ input.entry.ghost_name }
-        ensures begins { BeginsIn input.old (bound_of limit) before (coming result) }
-        ensures is_in { IsIn (coming result) }
+        ensures begins { BeginsIn input.old (bound_of limit) before (source_state result) }
+        ensures is_in { IsIn (source_state result) }
     {
         let bound = octets_within(limit);
         BitIn {
@@ -51,15 +51,15 @@ impl<'a, I: OctetIn> BitIn<'a, I> {
 
     /// Returns how many bits were taken, with those before.
     pub fn used(&self) -> u64
-        ensures { result ≡ (coming self.now).used }
+        ensures { result ≡ (source_state self.now).used }
     {
         self.used
     }
 
     /// Takes the next bit. Returns none at the input's end and at the bound.
     pub fn take(&mut self) -> Result<Option<bool>, InFault>
-        requires { IsIn (coming self.old) }
-        ensures { GivesBit I.source result (coming self.old) (coming self.new) }
+        requires { IsIn (source_state self.old) }
+        ensures { GivesBit I.source result (source_state self.old) (source_state self.new) }
     {
         if self.room == 0 {
             return Ok(None);
@@ -83,8 +83,8 @@ impl<'a, I: OctetIn> BitIn<'a, I> {
     /// Returns the next bits, the first highest, if at least 56 of them are available.
     #[inline(always)]
     pub fn window(&self) -> Option<u64>
-        requires { IsIn (coming self.now) }
-        ensures { IfSome result (IsWindow I.source (coming self.now)) }
+        requires { IsIn (source_state self.now) }
+        ensures { IfSome result (IsWindow I.source (source_state self.now)) }
     {
         if self.room < 56 {
             return None;
@@ -96,10 +96,10 @@ impl<'a, I: OctetIn> BitIn<'a, I> {
     /// Takes the first of the bits that are available.
     #[inline(always)]
     pub fn take_window(&mut self, window: u64, count: u8)
-        requires window { IsWindow I.source (coming self.old) window }
+        requires window { IsWindow I.source (source_state self.old) window }
         requires count { count ≤ 56 }
-        requires bound { IsIn (coming self.old) }
-        ensures { Takes I.source (coming self.old) (coming self.new) (first_of count window) }
+        requires bound { IsIn (source_state self.old) }
+        ensures { Takes I.source (source_state self.old) (source_state self.new) (first_of count window) }
     {
         let past = 7 - self.left + count;
         let left = 7 - past % 8;
@@ -113,8 +113,8 @@ impl<'a, I: OctetIn> BitIn<'a, I> {
     // Takes some bits, at least one and at most `most`, that are in one octet.
     fn take_piece(&mut self, most: u8) -> Result<Option<Piece>, InFault>
         requires some { 0 < most }
-        requires bound { IsIn (coming self.old) }
-        ensures { GivesPiece I.source most result (coming self.old) (coming self.new) }
+        requires bound { IsIn (source_state self.old) }
+        ensures { GivesPiece I.source most result (source_state self.old) (source_state self.new) }
     {
         if self.room == 0 {
             return Ok(None);
@@ -142,8 +142,8 @@ impl<'a, I: OctetIn> BitIn<'a, I> {
     #[inline]
     pub fn take_bits(&mut self, count: u8) -> Result<Option<u32>, InFault>
         requires count { count ≤ 32 }
-        requires bound { IsIn (coming self.old) }
-        ensures { GivesItem I.source (fixed count) result (coming self.old) (coming self.new) }
+        requires bound { IsIn (source_state self.old) }
+        ensures { GivesItem I.source (fixed count) result (source_state self.old) (source_state self.new) }
     {
         let Some(window) = self.window() else {
             return self.take_pieces(count);
@@ -156,8 +156,8 @@ impl<'a, I: OctetIn> BitIn<'a, I> {
     #[cold]
     fn take_pieces(&mut self, count: u8) -> Result<Option<u32>, InFault>
         requires count { count ≤ 32 }
-        requires bound { IsIn (coming self.old) }
-        ensures { GivesItem I.source (fixed count) result (coming self.old) (coming self.new) }
+        requires bound { IsIn (source_state self.old) }
+        ensures { GivesItem I.source (fixed count) result (source_state self.old) (source_state self.new) }
     {
         let mut value = 0u64;
         let mut taken = 0;
@@ -173,8 +173,8 @@ impl<'a, I: OctetIn> BitIn<'a, I> {
 
     /// Takes a unary part and returns the number of its zeros; `limit` zeros are not followed by a one.
     pub fn take_zeros(&mut self, limit: u16) -> Result<Option<u16>, InFault>
-        requires { IsIn (coming self.old) }
-        ensures { GivesItem I.source (zeros_to limit) result (coming self.old) (coming self.new) }
+        requires { IsIn (source_state self.old) }
+        ensures { GivesItem I.source (zeros_to limit) result (source_state self.old) (source_state self.new) }
     {
         for zeros in 0..limit {
             let Some(bit) = self.take()? else {
@@ -202,47 +202,47 @@ impl<'a, I: OctetIn> BitIn<'a, I> {
     ///
     /// The faults of the input.
     #[inline]
-    pub fn take_front(&mut self, fronts: &[Front; 256]) -> Result<Option<u8>, TextFault>
-        requires bound { IsIn (coming self.old) }
-        requires table { IsTable fronts.now }
-        ensures { (most : ℕ) (item : ℕ → Item) → Tells most item fronts.now →
-            TakesOne I.source (IsBelow most) item result (coming self.old) (coming self.new) }
+    pub fn take_prefix(&mut self, prefixes: &[Prefix; 256]) -> Result<Option<u8>, TextFault>
+        requires bound { IsIn (source_state self.old) }
+        requires table { IsTable prefixes.now }
+        ensures { (most : ℕ) (item : ℕ → Item) → Reports most item prefixes.now →
+            TakesOne I.source (IsBelow most) item result (source_state self.old) (source_state self.new) }
     {
         let Some(window) = self.window() else {
-            return self.take_front_octetwise(fronts);
+            return self.take_prefix_octetwise(prefixes);
         };
-        let front = fronts[(window >> 56) as usize];
-        self.take_window(window, front.len);
-        Ok(Some(front.number))
+        let prefix = prefixes[(window >> 56) as usize];
+        self.take_window(window, prefix.len);
+        Ok(Some(prefix.number))
     }
 
     // Takes an item octet by octet.
     #[cold]
-    fn take_front_octetwise(&mut self, fronts: &[Front; 256]) -> Result<Option<u8>, TextFault>
-        requires bound { IsIn (coming self.old) }
-        requires table { IsTable fronts.now }
-        ensures { (most : ℕ) (item : ℕ → Item) → Tells most item fronts.now →
-            TakesOne I.source (IsBelow most) item result (coming self.old) (coming self.new) }
+    fn take_prefix_octetwise(&mut self, prefixes: &[Prefix; 256]) -> Result<Option<u8>, TextFault>
+        requires bound { IsIn (source_state self.old) }
+        requires table { IsTable prefixes.now }
+        ensures { (most : ℕ) (item : ℕ → Item) → Reports most item prefixes.now →
+            TakesOne I.source (IsBelow most) item result (source_state self.old) (source_state self.new) }
     {
-        let front = fronts[self.hand() as usize];
-        if front.len > self.left {
-            return self.take_across(fronts);
+        let prefix = prefixes[self.hand() as usize];
+        if prefix.len > self.left {
+            return self.take_across(prefixes);
         }
-        self.left -= front.len;
-        self.room -= u64::from(front.len);
-        self.used += u64::from(front.len);
-        Ok(Some(front.number))
+        self.left -= prefix.len;
+        self.room -= u64::from(prefix.len);
+        self.used += u64::from(prefix.len);
+        Ok(Some(prefix.number))
     }
 
     // Takes an item whose last bits are in the next octet. Without them the bits that are left are no item's,
     // so the next octet is needed.
     #[inline]
-    fn take_across(&mut self, fronts: &[Front; 256]) -> Result<Option<u8>, TextFault>
-        requires bound { IsIn (coming self.old) }
-        requires table { IsTable fronts.now }
-        requires across { self.old.left < (front_at fronts.now (hand_of self.old.left self.old.octet)).len }
-        ensures { (most : ℕ) (item : ℕ → Item) → Tells most item fronts.now →
-            TakesOne I.source (IsBelow most) item result (coming self.old) (coming self.new) }
+    fn take_across(&mut self, prefixes: &[Prefix; 256]) -> Result<Option<u8>, TextFault>
+        requires bound { IsIn (source_state self.old) }
+        requires table { IsTable prefixes.now }
+        requires across { self.old.left < (prefix_at prefixes.now (hand_of self.old.left self.old.octet)).len }
+        ensures { (most : ℕ) (item : ℕ → Item) → Reports most item prefixes.now →
+            TakesOne I.source (IsBelow most) item result (source_state self.old) (source_state self.new) }
     {
         let held = self.octet;
         let count = self.left;
@@ -256,12 +256,12 @@ impl<'a, I: OctetIn> BitIn<'a, I> {
             return Ok(None);
         };
         let word = 256 * u16::from(held) + u16::from(octet);
-        let front = fronts[((word >> count) % 256) as usize];
-        let more = front.len - count;
+        let prefix = prefixes[((word >> count) % 256) as usize];
+        let more = prefix.len - count;
         self.octet = octet;
         self.left = 8 - more;
         self.room -= u64::from(more);
         self.used += u64::from(more);
-        Ok(Some(front.number))
+        Ok(Some(prefix.number))
     }
 }

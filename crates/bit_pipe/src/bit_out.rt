@@ -25,7 +25,7 @@ pub struct BitOut<'a, O> {
 impl<'a, O: OctetOut> BitOut<'a, O> {
     ghost use Rattle.item_defs.specs.Bits.{bits_of, copies};
     ghost use Rattle.item_defs.specs.Padding.{padded_length};
-    ghost use Rattle.bit_pipe.specs.Standing.{stand, IsOpen, Puts, Begins, Closes};
+    ghost use Rattle.bit_pipe.specs.SinkState.{sink_state, IsOpen, Puts, Begins, Closes};
     ghost use Rattle.bit_pipe.specs.Bounds.{bound_of};
 
     /// Returns a writer of the bits from here on. The bound is `limit` octets, or 2^32 octets if `limit` is 0.
@@ -35,8 +35,8 @@ impl<'a, O: OctetOut> BitOut<'a, O> {
         requires before { before ≡ (O.sink.counts out.old).given }
         requires bound { before ≤ bound_of limit }
         ensures same { result.out.ghost_name ≡ out.entry.ghost_name }
-        ensures begins { Begins O.sink out.old (bound_of limit) (stand O.sink result) }
-        ensures is_open { IsOpen (stand O.sink result) }
+        ensures begins { Begins O.sink out.old (bound_of limit) (sink_state O.sink result) }
+        ensures is_open { IsOpen (sink_state O.sink result) }
     {
         let bound = octets_within(limit);
         BitOut {
@@ -50,8 +50,8 @@ impl<'a, O: OctetOut> BitOut<'a, O> {
 
     /// Puts one bit.
     pub fn put(&mut self, bit: bool) -> Result<(), PutFault>
-        requires { IsOpen (stand O.sink self.old) }
-        ensures { Puts O.sink result (stand O.sink self.old) (stand O.sink self.new) (bit ∷ []) }
+        requires { IsOpen (sink_state O.sink self.old) }
+        ensures { Puts O.sink result (sink_state O.sink self.old) (sink_state O.sink self.new) (bit ∷ []) }
     {
         if self.room == 0 {
             return Err(PutFault::Stopped);
@@ -62,8 +62,8 @@ impl<'a, O: OctetOut> BitOut<'a, O> {
     /// Puts the lowest bits of a number, highest first.
     pub fn put_bits(&mut self, value: u32, count: u8) -> Result<(), PutFault>
         requires count { count ≤ 32 }
-        requires bound { IsOpen (stand O.sink self.old) }
-        ensures { Puts O.sink result (stand O.sink self.old) (stand O.sink self.new) (bits_of count value) }
+        requires bound { IsOpen (sink_state O.sink self.old) }
+        ensures { Puts O.sink result (sink_state O.sink self.old) (sink_state O.sink self.new) (bits_of count value) }
     {
         self.put_long(u64::from(value), count)
     }
@@ -71,8 +71,8 @@ impl<'a, O: OctetOut> BitOut<'a, O> {
     /// Puts the lowest bits of a long number, highest first.
     pub fn put_long(&mut self, value: u64, count: u8) -> Result<(), PutFault>
         requires count { count < 64 }
-        requires bound { IsOpen (stand O.sink self.old) }
-        ensures { Puts O.sink result (stand O.sink self.old) (stand O.sink self.new) (bits_of count value) }
+        requires bound { IsOpen (sink_state O.sink self.old) }
+        ensures { Puts O.sink result (sink_state O.sink self.old) (sink_state O.sink self.new) (bits_of count value) }
     {
         if u64::from(count) <= self.room {
             return self.put_fitting(value, count);
@@ -87,8 +87,8 @@ impl<'a, O: OctetOut> BitOut<'a, O> {
     fn put_fitting(&mut self, value: u64, count: u8) -> Result<(), PutFault>
         requires count { count < 64 }
         requires room { count ≤ self.old.room }
-        requires bound { IsOpen (stand O.sink self.old) }
-        ensures { Puts O.sink result (stand O.sink self.old) (stand O.sink self.new) (bits_of count value) }
+        requires bound { IsOpen (sink_state O.sink self.old) }
+        ensures { Puts O.sink result (sink_state O.sink self.old) (sink_state O.sink self.new) (bits_of count value) }
     {
         let filled = self.filled + count;
         if filled >= 64 {
@@ -108,8 +108,8 @@ impl<'a, O: OctetOut> BitOut<'a, O> {
         requires count { count < 64 }
         requires room { count ≤ self.old.room }
         requires full { 64 ≤ self.old.filled + count }
-        requires bound { IsOpen (stand O.sink self.old) }
-        ensures { Puts O.sink result (stand O.sink self.old) (stand O.sink self.new) (bits_of count value) }
+        requires bound { IsOpen (sink_state O.sink self.old) }
+        ensures { Puts O.sink result (sink_state O.sink self.old) (sink_state O.sink self.new) (bits_of count value) }
     {
         let low = value & ((1 << count) - 1);
         let rest = self.filled + count - 64;
@@ -123,8 +123,8 @@ impl<'a, O: OctetOut> BitOut<'a, O> {
 
     /// Puts a number of zeros.
     pub fn put_zeros(&mut self, count: u16) -> Result<(), PutFault>
-        requires { IsOpen (stand O.sink self.old) }
-        ensures { Puts O.sink result (stand O.sink self.old) (stand O.sink self.new) (copies count false) }
+        requires { IsOpen (sink_state O.sink self.old) }
+        ensures { Puts O.sink result (sink_state O.sink self.old) (sink_state O.sink self.new) (copies count false) }
     {
         let mut left = count;
         while left > 32 {
@@ -139,9 +139,9 @@ impl<'a, O: OctetOut> BitOut<'a, O> {
     pub fn end(self, word: u8, fill: bool) -> Result<u64, Failed>
         requires word { 0 < word }
         requires four { word ≤ 4 }
-        requires bound { IsOpen (stand O.sink self) }
-        requires padded { padded_length word self.bound fill (stand O.sink self).used ≤ 8 * self.bound }
-        ensures { Closes O.sink result word fill (stand O.sink self.entry) self.exit.0.now }
+        requires bound { IsOpen (sink_state O.sink self) }
+        requires padded { padded_length word self.bound fill (sink_state O.sink self).used ≤ 8 * self.bound }
+        ensures { Closes O.sink result word fill (sink_state O.sink self.entry) self.exit.0.now }
     {
         let used = 8 * self.bound - self.room;
         let length = padded_octets(used, self.bound, word, fill);

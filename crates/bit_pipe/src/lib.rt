@@ -1,5 +1,8 @@
 //! This crate writes and reads bits over octets, for texts up to a bound (docs/formats.md, "Stops, cut and fill").
 //!
+//! Layer: bits and the parts of a segment. It uses `item_defs`. It is used by `gaggle_codes`, `dc_depths`, `word_codes`, `plane_coder`,
+//! `plane_reader`, `segment_head`, `segment_code` and 12 more.
+//!
 //! Bits are taken from octets so (`bits_are_taken_from_octets` of `crate_examples`):
 //!
 //! ```rust
@@ -15,9 +18,9 @@ mod bit_in;
 mod bit_out;
 mod bound;
 mod fault;
-mod front;
 mod octets;
 mod piece;
+mod prefix;
 mod sink;
 mod slice_in;
 mod slice_out;
@@ -27,7 +30,7 @@ mod word;
 pub use bit_in::BitIn;
 pub use bit_out::BitOut;
 pub use fault::{Failed, InFault, Part, PutFault, TextFault};
-pub use front::Front;
+pub use prefix::Prefix;
 pub use sink::OctetOut;
 pub use slice_in::SliceIn;
 pub use slice_out::SliceOut;

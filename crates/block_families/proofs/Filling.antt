@@ -1,18 +1,13 @@
 -- Stretches of a list that are filled one after another.
-use Rattle.std.proofs.Common.{◌≡◌, ℕ, ◌+◌, ◌<◌, ◌≤◌, ℤ, pos, List, length, map, inl, inr, sym, ap, ◌∙◌, arith, slice_set}
+use Rattle.std.proofs.Common.{◌≡◌, ℕ, ◌+◌, ◌*◌, ◌<◌, ◌≤◌, ℤ, pos, List, length, map, drop, inl, inr, refl, sym, ap, ◌∙◌, arith, slice_set, ext_get_or}
+use Rattle.std.proofs.Common.{length-take, length-drop, get_or-take, get_or-drop}
 use Rattle.std.specs.List.{range_with_len}
 use Rattle.std.proofs.lemmas.Bool.{cases_lt}
-use Rattle.std.proofs.lemmas.List.{length-set, get_or-set_other, same_lists, get_or_default}
+use Rattle.std.proofs.lemmas.List.{length-set, get_or-set_other}
 use Rattle.std.proofs.lemmas.List.FromFn.{length-map-range_with_len, get_or-map-range_with_len}
 use Rattle.std.proofs.lemmas.Grind.{get_or-set_at}
-use Rattle.std.proofs.lemmas.Bool.Decides.{nat_tests}
-use Rattle.block_families.specs.Gathering.{Fills}
-
--- the same values in another form
-pub fills_as : (value other : ℕ → ℤ) (from count : ℕ) (old new : List ℤ) → Fills other from count old new →
-    ((i : ℕ) → from ≤ i → i < from + count → other i ≡ value i) → Fills value from count old new
-fills_as value other from count old new f same =
-    record { whole = f.whole; there = λ i h k. f.there i h k ∙ same i h k; others = f.others }
+use Rattle.wave_defs.specs.Held.{block_at}
+use Rattle.block_families.specs.Gathering.{Fills, FillsEach}
 
 -- one stretch and then the next
 pub fills_on : (value : ℕ → ℤ) (from a b next count : ℕ) (old mid new : List ℤ) → next ≡ from + a → count ≡ a + b →
@@ -49,6 +44,59 @@ fills_four value at a b c d old room ea eb ec ed =
     let three = fills_on value at 2 1 (at + 2) 3 old y z (omega arith) (omega arith) two (fills_one value (at + 2) c y (omega arith) ec) in
     fills_on value at 3 1 (at + 3) 4 old z (slice_set z (at + 3) d) (omega arith) (omega arith) three (fills_one value (at + 3) d z (omega arith) ed)
 
+-- ---- the same places of each of some blocks
+
+pub each_none : (value : ℕ → ℕ → ℤ) (from count : ℕ) (old : List ℤ) → FillsEach value from count 0 old old
+each_none value from count old = record { whole = refl; there = λ k i none h l. absurd (omega (arith, none)); others = λ j out. refl }
+
+-- the same values in another form
+pub each_as : (value other : ℕ → ℕ → ℤ) (from count n : ℕ) (old new : List ℤ) → FillsEach other from count n old new →
+    ((k i : ℕ) → k < n → from ≤ i → i < from + count → other k i ≡ value k i) → FillsEach value from count n old new
+each_as value other from count n old new f same = record {
+  whole = f.whole;
+  there = λ k i few h l. f.there k i few h l ∙ same k i few h l;
+  others = f.others;
+}
+
+-- one more block
+pub each_more : (value : ℕ → ℕ → ℤ) (one : ℕ → ℤ) (from count n at : ℕ) (old mid new : List ℤ) → at ≡ 64 * n + from → from + count ≤ 64 →
+    FillsEach value from count n old mid → Fills one at count mid new →
+    ((i : ℕ) → from ≤ i → i < from + count → one (64 * n + i) ≡ value n i) → FillsEach value from count (n + 1) old new
+each_more value one from count n at old mid new here fit x y same = record {
+  whole = y.whole ∙ x.whole;
+  there = λ k i few h l. elim (cases_lt k n) [
+    | inl lt ↦ y.others (64 * k + i) (λ u v. absurd (omega (arith, lt, here, fit, h, l, u))) ∙ x.there k i lt h l
+    | inr ge ↦
+        let e : k ≡ n = omega (arith, few, ge) in
+        let place : 64 * k + i ≡ 64 * n + i = ap (λ m. 64 * m + i) e in
+        y.there (64 * k + i) (omega (arith, here, e, h)) (omega (arith, here, e, l)) ∙ ap one place ∙ same i h l ∙ ap (λ m. value m i) (sym e)
+  ];
+  others = λ j out.
+      y.others j (λ u v. out n (omega arith) (omega (arith, u, here)) (omega (arith, v, here)))
+      ∙ x.others j (λ k few u v. out k (omega (arith, few)) u v);
+}
+
+-- one stretch of each block and then the next
+pub each_on : (value : ℕ → ℕ → ℤ) (from a b next count n m : ℕ) (old mid new : List ℤ) → next ≡ from + a → count ≡ a + b → from + count ≤ 64 → m ≡ n →
+    FillsEach value from a n old mid → FillsEach value next b m mid new → FillsEach value from count n old new
+each_on value from a b next count n m old mid new en ec fit em x y = record {
+  whole = y.whole ∙ x.whole;
+  there = λ k i few h l. elim (cases_lt i next) [
+    | inl lt ↦ y.others (64 * k + i) (λ q some u v. absurd (omega (arith, u, v, lt, l, en, ec, fit))) ∙ x.there k i few h (omega (arith, lt, en))
+    | inr ge ↦ y.there k i (omega (arith, few, em)) ge (omega (arith, l, en, ec))
+  ];
+  others = λ j out.
+      y.others j (λ k few u v. out k (omega (arith, few, em)) (omega (arith, u, en)) (omega (arith, v, en, ec)))
+      ∙ x.others j (λ k few u v. out k few u (omega (arith, v, ec)));
+}
+
 -- the whole list
-pub fills_all : (value : ℕ → ℤ) (count : ℕ) (old new : List ℤ) → length old ≡ count → Fills value 0 count old new → new ≡ map value (range_with_len 0 count)
-fills_all value count old new long f = grind (arith, nat_tests, same_lists, map, length-map-range_with_len, get_or_default, pos, get_or-map-range_with_len)
+pub each_all : (value : ℕ → ℕ → ℤ) (n : ℕ) (old new : List ℤ) → 64 * n ≤ length old → FillsEach value 0 64 n old new → (k : ℕ) → k < n →
+    block_at new k ≡ map (value k) (range_with_len 0 64)
+each_all value n old new long f k few =
+    let whole = f.whole in
+    let size : length (block_at new k) ≡ 64 = omega (arith, length-take 64 (drop (64 * k) new), length-drop (64 * k) new, long, whole, few) in
+    ext_get_or (pos 0) (block_at new k) (map (value k) (range_with_len 0 64)) (size ∙ sym (length-map-range_with_len (value k) 0 64)) (λ i lt.
+    let low : i < 64 = omega (arith, lt, size) in
+    get_or-take 64 (drop (64 * k) new) i (pos 0) low ∙ get_or-drop (64 * k) new i (pos 0) ∙ f.there k i few (omega arith) (omega (arith, low))
+    ∙ sym (get_or-map-range_with_len (value k) 0 64 i i (pos 0) low (omega arith)))

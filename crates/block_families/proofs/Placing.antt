@@ -45,4 +45,5 @@ one_place column i j hi hj same =
     let row : p.row ≡ q.row = ap (λ x. x.row) same in
     let columns : block_side p.band * column + p.column ≡ block_side q.band * column + q.column = ap (λ x. x.column) same in
     let rest : p.column ≡ q.column = same_rest (block_side q.band) column p.column q.column (ap (λ b. block_side b * column + p.column) (sym band) ∙ columns) in
-    sym (back i hi) ∙ ap (λ b. position_at b p.row p.column) band ∙ ap (λ r. position_at q.band r p.column) row ∙ ap (λ c. position_at q.band q.row c) rest ∙ back j hj
+    sym (back i hi) ∙ ap (λ b. position_at b p.row p.column) band ∙ ap (λ r. position_at q.band r p.column) row ∙ ap (λ c. position_at q.band q.row c) rest
+    ∙ back j hj

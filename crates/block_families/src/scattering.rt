@@ -36,11 +36,11 @@ fn unweighted_square(from: &[i32], at: usize, shift: u8) -> [i64; 4]
 
 // Puts back the DC number and the three parents.
 fn scatter_tops<B: BandSink>(bands: &mut B, column: u32, weights: &Weights, from: &[i32])
-    requires stands { IsTrue (B.stands bands.old) }
+    requires valid { IsTrue (B.valid bands.old) }
     requires ready { CanScatter weights.now.shifts from.now (B.columns bands.old) column }
     ensures scattered { PutsBack weights.now.shifts column from.now 0 4 (B.number bands.old) (B.number bands.new) }
     ensures columns { B.columns bands.new ≡ B.columns bands.old }
-    ensures stands { B.stands bands.new ≡ B.stands bands.old }
+    ensures valid { B.valid bands.new ≡ B.valid bands.old }
     ensures keeps { B.keeps bands.old bands.new }
 {
     for position in 0..4u8 {
@@ -58,12 +58,12 @@ fn scatter_tops<B: BandSink>(bands: &mut B, column: u32, weights: &Weights, from
 // Puts back the four numbers of a square. All tests of the band are resolved at compile time, as its place is constant.
 #[inline(always)]
 fn put_square<B: BandSink>(bands: &mut B, column: u32, weights: &Weights, from: &[i32], square: u8)
-    requires stands { IsTrue (B.stands bands.old) }
+    requires valid { IsTrue (B.valid bands.old) }
     requires ready { CanScatter weights.now.shifts from.now (B.columns bands.old) column }
     requires square { square < 15 }
     ensures scattered { PutsBack weights.now.shifts column from.now (4 + 4 * square) 4 (B.number bands.old) (B.number bands.new) }
     ensures columns { B.columns bands.new ≡ B.columns bands.old }
-    ensures stands { B.stands bands.new ≡ B.stands bands.old }
+    ensures valid { B.valid bands.new ≡ B.valid bands.old }
     ensures keeps { B.keeps bands.old bands.new }
 {
     let place = square_of(square, column);
@@ -74,11 +74,11 @@ fn put_square<B: BandSink>(bands: &mut B, column: u32, weights: &Weights, from: 
 
 // Puts back the children.
 fn scatter_children<B: BandSink>(bands: &mut B, column: u32, weights: &Weights, from: &[i32])
-    requires stands { IsTrue (B.stands bands.old) }
+    requires valid { IsTrue (B.valid bands.old) }
     requires ready { CanScatter weights.now.shifts from.now (B.columns bands.old) column }
     ensures scattered { PutsBack weights.now.shifts column from.now 4 12 (B.number bands.old) (B.number bands.new) }
     ensures columns { B.columns bands.new ≡ B.columns bands.old }
-    ensures stands { B.stands bands.new ≡ B.stands bands.old }
+    ensures valid { B.valid bands.new ≡ B.valid bands.old }
     ensures keeps { B.keeps bands.old bands.new }
 {
     for square in 0..3u8 {
@@ -89,12 +89,12 @@ fn scatter_children<B: BandSink>(bands: &mut B, column: u32, weights: &Weights, 
 // Puts back the grandchildren of a family. Its squares are written out one by one, so that each is constant if the first is.
 #[inline(always)]
 fn put_family<B: BandSink>(bands: &mut B, column: u32, weights: &Weights, from: &[i32], family: u8)
-    requires stands { IsTrue (B.stands bands.old) }
+    requires valid { IsTrue (B.valid bands.old) }
     requires ready { CanScatter weights.now.shifts from.now (B.columns bands.old) column }
     requires family { family < 3 }
     ensures scattered { PutsBack weights.now.shifts column from.now (16 + 16 * family) 16 (B.number bands.old) (B.number bands.new) }
     ensures columns { B.columns bands.new ≡ B.columns bands.old }
-    ensures stands { B.stands bands.new ≡ B.stands bands.old }
+    ensures valid { B.valid bands.new ≡ B.valid bands.old }
     ensures keeps { B.keeps bands.old bands.new }
 {
     let first = 3 + 4 * family;
@@ -106,11 +106,11 @@ fn put_family<B: BandSink>(bands: &mut B, column: u32, weights: &Weights, from: 
 
 // Puts back the grandchildren.
 fn scatter_grandchildren<B: BandSink>(bands: &mut B, column: u32, weights: &Weights, from: &[i32])
-    requires stands { IsTrue (B.stands bands.old) }
+    requires valid { IsTrue (B.valid bands.old) }
     requires ready { CanScatter weights.now.shifts from.now (B.columns bands.old) column }
     ensures scattered { PutsBack weights.now.shifts column from.now 16 48 (B.number bands.old) (B.number bands.new) }
     ensures columns { B.columns bands.new ≡ B.columns bands.old }
-    ensures stands { B.stands bands.new ≡ B.stands bands.old }
+    ensures valid { B.valid bands.new ≡ B.valid bands.old }
     ensures keeps { B.keeps bands.old bands.new }
 {
     for family in 0..3u8 {
@@ -124,7 +124,7 @@ fn scatter_grandchildren<B: BandSink>(bands: &mut B, column: u32, weights: &Weig
 /// A block row is available, the column is in it and below 2^17, `from` has 64 numbers, each shift is at most
 /// 3, the divisions leave no remainder, and their quotients are at most 2^27 in magnitude.
 pub fn scatter<B: BandSink>(bands: &mut B, column: u32, weights: &Weights, from: &[i32])
-    requires stands { IsTrue (B.stands bands.old) }
+    requires valid { IsTrue (B.valid bands.old) }
     requires column { column < B.columns bands.old }
     requires wide { column < 2 ^ 17 }
     requires whole { length from.now ≡ 64 }
@@ -132,7 +132,7 @@ pub fn scatter<B: BandSink>(bands: &mut B, column: u32, weights: &Weights, from:
     requires parts { AreWeighted from.now weights.now.shifts }
     ensures scattered { Scatters (B.number bands.old) (B.number bands.new) weights.now.shifts column from.now }
     ensures columns { B.columns bands.new ≡ B.columns bands.old }
-    ensures stands { B.stands bands.new ≡ B.stands bands.old }
+    ensures valid { B.valid bands.new ≡ B.valid bands.old }
     ensures keeps { B.keeps bands.old bands.new }
 {
     scatter_tops(bands, column, weights, from);

@@ -1,5 +1,6 @@
 -- The options of a gaggle, and the flags that say which words it sent.
-use Rattle.std.proofs.Common.{◌≡◌, ◌≢◌, ℕ, ◌+◌, ◌-◌, ◌<◌, ◌≤◌, ℤ, inl, inr, Bool, true, false, List, [], ◌∷◌, ◌++◌, length, ap, sym, ◌∙◌, subst, arith, get_or, set, get_or-set_same, get_or-set_other, ◌==◌, ◌||◌}
+use Rattle.std.proofs.Common.{◌≡◌, ◌≢◌, ℕ, ◌+◌, ◌-◌, ◌<◌, ◌≤◌, ℤ, inl, inr, Bool, true, false, List, [], ◌∷◌, ◌++◌, length, ap, sym, ◌∙◌, subst, arith}
+use Rattle.std.proofs.Common.{get_or, set, get_or-set_same, get_or-set_other, ◌==◌, ◌||◌}
 use Rattle.std.specs.List.{list_any}
 use Rattle.std.proofs.lemmas.List.Folds.{list_any-append}
 use Rattle.std.proofs.lemmas.Bool.Decides.{nat_tests}
@@ -28,7 +29,8 @@ or_true : (b : Bool) → true ≡ (b || true)
 or_true b = grind (arith, nat_tests)
 
 -- an entry that is no word of two bits or more changes nothing
-pub agrees_other : (sent : List Bool) (before : List Entry) (x : Entry) → ((n : ℕ) → 2 ≤ n → is_word_of n x ≡ false) → Agrees sent before → Agrees sent (before ++ x ∷ [])
+pub agrees_other : (sent : List Bool) (before : List Entry) (x : Entry) → ((n : ℕ) → 2 ≤ n → is_word_of n x ≡ false) → Agrees sent before →
+    Agrees sent (before ++ x ∷ [])
 agrees_other sent before x none agrees = record {
   at = λ n low high. agrees.at n low high ∙ or_no _ _ (none n low) ∙ sym (list_any-last (is_word_of n) before x);
 }

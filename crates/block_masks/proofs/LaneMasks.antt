@@ -1,5 +1,6 @@
 -- From the lanes of sixteen numbers to a mask.
-use Rattle.std.proofs.Common.{◌≡◌, ℕ, ◌+◌, ◌/◌, ◌%◌, ◌<◌, ◌≤◌, ◌^◌, ℤ, pos, Bool, false, cond, List, length, take, drop, map, get_or, replicate, FitsSigned, ap, sym, ◌∙◌, subst, arith, w32, ◌==◌}
+use Rattle.std.proofs.Common.{◌≡◌, ℕ, ◌+◌, ◌/◌, ◌%◌, ◌<◌, ◌≤◌, ◌^◌, ℤ, pos, Bool, false, cond, List, length, take, drop, map, get_or, replicate, FitsSigned}
+use Rattle.std.proofs.Common.{ap, sym, ◌∙◌, subst, arith, w32, ◌==◌}
 use Rattle.std.specs.Simd.Lanes.{mask_l, top, zip2}
 use Rattle.std.proofs.lemmas.List.{get_or-map, get_or-take, get_or-drop, length-map, length-take, length-drop}
 use Rattle.std.proofs.lemmas.Simd.{bit_mask_l, mask_l-lt, mask_l-mod, zip2_splat, map-map}

@@ -1,5 +1,6 @@
 -- What the states of blocks keep, and the result of a store of something else of a gaggle.
-use Rattle.std.proofs.Common.{◌≡◌, ◌≢◌, ◌⊎◌, inl, inr, ℕ, ◌*◌, ◌<◌, ℤ, pos, List, length, refl, ap, sym, ◌∙◌, subst, arith, get_or, set, get_or-set_same, get_or-set_other}
+use Rattle.std.proofs.Common.{◌≡◌, ◌≢◌, ◌⊎◌, inl, inr, ℕ, ◌*◌, ◌<◌, ℤ, pos, List, length, refl, ap, sym, ◌∙◌, subst, arith, get_or, set, get_or-set_same}
+use Rattle.std.proofs.Common.{get_or-set_other}
 use Rattle.std.proofs.Math.ListN.{length-set, get_or-map}
 use Rattle.std.proofs.Math.Seq.{map-set_same}
 use Rattle.std.proofs.lemmas.List.{length-map}
@@ -26,7 +27,8 @@ kept_set : {A : Type 0} (f : ℤ → A) (marks : List ℤ) (r : ℕ) (mark : ℤ
 kept_set f marks r mark within kept h = grind (arith, nat_tests, same_or_other, set, get_or-set_same, get_or-set_other)
 
 pub stored : (marks : List ℤ) (g : ℕ) (mark : ℤ) (gaggle : Gaggle) → 16 * g < length marks → depth_of mark ≡ depth_of (first_mark marks g) →
-    options_in mark ≡ gaggle.options → sent_in mark ≡ gaggle.sent → families_in mark ≡ families_in (first_mark marks g) → Stores marks (set marks (16 * g) mark) g gaggle
+    options_in mark ≡ gaggle.options → sent_in mark ≡ gaggle.sent → families_in mark ≡ families_in (first_mark marks g) →
+    Stores marks (set marks (16 * g) mark) g gaggle
 unfolding depths_of
 stored marks g mark gaggle within depth options sent families =
     let here : first_mark (set marks (16 * g) mark) g ≡ mark = rw get_or-set_same refl in

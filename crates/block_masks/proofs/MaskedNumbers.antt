@@ -1,5 +1,6 @@
 -- The numbers that masks of planes give.
-use Rattle.std.proofs.Common.{◌≡◌, ◌<◌, ◌≤◌, ℕ, zero, suc, ◌^◌, ◌==◌, inl, inr, refl, ap, sym, ◌∙◌, subst, arith, ℤ, pos, neg_ℤ, Bool, false, [], ◌∷◌, length, get_or, drop, if◌then◌else◌}
+use Rattle.std.proofs.Common.{◌≡◌, ◌<◌, ◌≤◌, ℕ, zero, suc, ◌^◌, ◌==◌, inl, inr, refl, ap, sym, ◌∙◌, subst, arith, ℤ, pos, neg_ℤ, Bool, false, [], ◌∷◌}
+use Rattle.std.proofs.Common.{length, get_or, drop, if◌then◌else◌}
 use Rattle.std.proofs.lemmas.Bool.{cases_eq, ne_eqb}
 use Rattle.item_defs.specs.Bits.{bit, bits_of, value_of}
 use Rattle.item_defs.proofs.Equations.{bits_of-none, bits_of-more}
@@ -75,4 +76,5 @@ below_bit masks k (suc w) m p same lt =
 -- the bit of a magnitude is that of the plane's mask
 pub size_bit : (masks : ℕ → ℕ) (k p : ℕ) → p < 27 → bit (size_in masks k) p ≡ bit (masks p) k
 size_bit masks k p lt =
-    below_bit masks k 27 (size_in masks k) p (subst (λ n. bits_of n (size_in masks k) ≡ bits_below masks k 27) (length-bits_below masks k 27) (bits_of-value_of (bits_below masks k 27))) lt
+    below_bit masks k 27 (size_in masks k) p (subst (λ n. bits_of n (size_in masks k) ≡ bits_below masks k 27) (length-bits_below masks k 27)
+    (bits_of-value_of (bits_below masks k 27))) lt

@@ -1,11 +1,13 @@
 -- Masks of masks, bit by bit.
-use Rattle.std.proofs.Common.{◌≡◌, ℕ, zero, suc, ◌+◌, ◌-◌, ◌*◌, ◌/◌, ◌%◌, ◌<◌, ◌≤◌, ◌^◌, inl, inr, min, max, Bool, true, false, not, ◌&&◌, ◌||◌, nat_eq, bit_and, bit_or, bit_xor, ap, sym, ◌∙◌, subst, arith, w64, shr-shr, eq-zero-or-pos, add-one, ◌==◌}
+use Rattle.std.proofs.Common.{◌≡◌, ℕ, zero, suc, ◌+◌, ◌-◌, ◌*◌, ◌/◌, ◌%◌, ◌<◌, ◌≤◌, ◌^◌, inl, inr, min, max, Bool, true, false, not, ◌&&◌, ◌||◌, nat_eq}
+use Rattle.std.proofs.Common.{bit_and, bit_or, bit_xor, ap, sym, ◌∙◌, subst, arith, w64, shr-shr, eq-zero-or-pos, add-one, ◌==◌}
 use Rattle.std.specs.Int.{trailing_zeros}
 use Rattle.std.specs.List.{list_any}
 use Rattle.std.proofs.Math.Bool.{and-true}
 use Rattle.std.proofs.lemmas.Bool.{cases_lt}
 use Rattle.std.proofs.lemmas.Nat.{and_le_l, and_le_r, xor_lt, or_lt, and_mask, one_shl, mod_below, pow_pos, shl_whole, or_shifted, pow-add, mul-add-lt}
-use Rattle.std.proofs.lemmas.Nat.Bits.{bit_at_and, bit_at_xor, bit_at_or, bit_at_cat_low, bit_at_cat_high, bit_at-trailing_zeros, bit_at-zero, bit_at_ones, bit_at_above}
+use Rattle.std.proofs.lemmas.Nat.Bits.{bit_at_and, bit_at_xor, bit_at_or, bit_at_cat_low, bit_at_cat_high, bit_at-trailing_zeros, bit_at-zero, bit_at_ones}
+use Rattle.std.proofs.lemmas.Nat.Bits.{bit_at_above}
 use Rattle.std.proofs.lemmas.Bool.Decides.{nat_tests}
 use Rattle.item_defs.specs.Bits.{bit}
 use Rattle.plane_defs.specs.Spans.{span}
@@ -62,21 +64,25 @@ part_is mask at n lt = ap (λ m. bit_and (mask / 2 ^ at) (m - 1)) (one_shl n 64 
 pub part_within : (mask at n : ℕ) → n < 64 → bit_and (mask / 2 ^ at) ((1 * 2 ^ n) % 2 ^ 64 - 1) < 2 ^ n
 part_within mask at n lt = rw (part_is mask at n lt) (mod_below (mask / 2 ^ at) (2 ^ n) (pow_pos n))
 
-pub shows_part : {mask start whole : ℕ} {f : ℕ → Bool} (at n : ℕ) → n < 64 → Shows mask f start whole → at + n ≤ whole → Shows (bit_and (mask / 2 ^ at) ((1 * 2 ^ n) % 2 ^ 64 - 1)) f (start + at) n
+pub shows_part : {mask start whole : ℕ} {f : ℕ → Bool} (at n : ℕ) → n < 64 → Shows mask f start whole → at + n ≤ whole →
+    Shows (bit_and (mask / 2 ^ at) ((1 * 2 ^ n) % 2 ^ 64 - 1)) f (start + at) n
 shows_part {mask} {start} {whole} {f} at n lt p within = record {
   at = λ k low.
       let there : start + (at + k) ≡ (start + at) + k = omega arith in
-      ap (λ x. bit x k) (part_is mask at n lt) ∙ bit_low (mask / 2 ^ at) n k low ∙ ap (λ n. n % 2 == 1) (shr-shr mask at k) ∙ p.at (at + k) (omega arith) ∙ ap f there;
+      ap (λ x. bit x k) (part_is mask at n lt) ∙ bit_low (mask / 2 ^ at) n k low ∙ ap (λ n. n % 2 == 1) (shr-shr mask at k) ∙ p.at (at + k) (omega arith)
+      ∙ ap f there;
   small = part_within mask at n lt;
 }
 
 joined_is : {low high : ℕ} (at : ℕ) → at < 64 → low < 2 ^ at → high < 2 ^ (64 - at) → bit_or ((high * 2 ^ at) % 2 ^ 64) low ≡ high * 2 ^ at + low
 joined_is {low} {high} at lt fits room = ap (λ x. bit_or x low) (shl_whole high (64 - at) at 64 room (omega arith)) ∙ or_shifted high at low fits
 
-pub joined_within : {low high : ℕ} (at n : ℕ) → at < 64 → low < 2 ^ at → high < 2 ^ (64 - at) → high < 2 ^ n → bit_or ((high * 2 ^ at) % 2 ^ 64) low < 2 ^ (at + n)
+pub joined_within : {low high : ℕ} (at n : ℕ) → at < 64 → low < 2 ^ at → high < 2 ^ (64 - at) → high < 2 ^ n →
+    bit_or ((high * 2 ^ at) % 2 ^ 64) low < 2 ^ (at + n)
 joined_within at n lt fits room small = grind (arith, nat_tests, pow-add, joined_is, mul-add-lt)
 
-pub shows_joined : {low high start n : ℕ} {f : ℕ → Bool} (at : ℕ) → at < 64 → low < 2 ^ at → high < 2 ^ (64 - at) → Shows low f start at → Shows high f (start + at) n → Shows (bit_or ((high * 2 ^ at) % 2 ^ 64) low) f start (at + n)
+pub shows_joined : {low high start n : ℕ} {f : ℕ → Bool} (at : ℕ) → at < 64 → low < 2 ^ at → high < 2 ^ (64 - at) → Shows low f start at →
+    Shows high f (start + at) n → Shows (bit_or ((high * 2 ^ at) % 2 ^ 64) low) f start (at + n)
 shows_joined {low} {high} {start} {n} {f} at lt fits room p q = record {
   at = λ k below. ap (λ x. bit x k) (joined_is at lt fits room) ∙ elim (cases_lt k at) [
     | inl h ↦ ap (λ x. x == 1) (bit_at_cat_low high at low k h) ∙ p.at k h
@@ -96,7 +102,8 @@ none_there : (f : ℕ → Bool) (start count : ℕ) → ((k : ℕ) → k < count
 none_there f start zero none = list_any-span-none f start
 none_there f start (suc count) none =
     let step : list_any f (span start (count + 1)) ≡ false =
-    list_any-span-suc f start count ∙ ap (λ b. b || f (start + count)) (none_there f start count (λ k below. none k (omega arith))) ∙ none count (omega arith) in
+    list_any-span-suc f start count ∙ ap (λ b. b || f (start + count)) (none_there f start count (λ k below. none k (omega arith)))
+    ∙ none count (omega arith) in
     subst (λ n. list_any f (span start n) ≡ false) (add-one count) step
 
 pub any_shown : {mask start count : ℕ} {f : ℕ → Bool} → mask < 2 ^ 64 → Shows mask f start count → not (nat_eq mask 0) ≡ list_any f (span start count)

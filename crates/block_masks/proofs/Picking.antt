@@ -1,7 +1,9 @@
 -- The tables of what is picked and of what is spread, entry by entry.
 use Rattle.std.proofs.lemmas.Bool.{cases_lt, eqb-true, eqb-false, ltb-true, lt-ltb, false≢true}
 use Rattle.std.proofs.lemmas.Nat.Bits.{bit_at_above}
-use Rattle.std.proofs.Common.{◌≡◌, inl, inr, ◌≤◌, ◌-◌, ℕ, zero, suc, ◌+◌, ◌*◌, ◌/◌, ◌%◌, ◌^◌, ◌<◌, Bool, true, false, not, ◌&&◌, cond, List, [], ◌∷◌, ◌++◌, length, map, filter, nat_lt, slice_index_or, refl, ap, sym, ◌∙◌, subst, arith, length-append, pow_mono, ◌==◌, ◌||◌, count_ones}
+use Rattle.std.proofs.Common.{◌≡◌, inl, inr, ◌≤◌, ◌-◌, ℕ, zero, suc, ◌+◌, ◌*◌, ◌/◌, ◌%◌, ◌^◌, ◌<◌, Bool, true, false, not, ◌&&◌, cond, List, [], ◌∷◌, ◌++◌}
+use Rattle.std.proofs.Common.{length, map, filter, nat_lt, slice_index_or, refl, ap, sym, ◌∙◌, subst, arith, length-append, pow_mono, ◌==◌, ◌||◌}
+use Rattle.std.proofs.Common.{count_ones}
 use Rattle.std.specs.List.{list_all}
 use Rattle.std.proofs.lemmas.Bool.Decides.{nat_tests}
 use Rattle.item_defs.specs.Bits.{bit, digit, value_of}
@@ -118,7 +120,8 @@ wider mask start count f few p = record {
   small = let most : 2 ^ count ≤ 2 ^ 4 = pow_mono few in omega (arith, p.small, most);
 }
 
-same_choice : (f g a b : ℕ → Bool) (start count : ℕ) → ((k : ℕ) → k < count → f (start + k) ≡ a (start + k)) → ((k : ℕ) → k < count → g (start + k) ≡ b (start + k)) →
+same_choice : (f g a b : ℕ → Bool) (start count : ℕ) → ((k : ℕ) → k < count → f (start + k) ≡ a (start + k)) →
+    ((k : ℕ) → k < count → g (start + k) ≡ b (start + k)) →
     map f (filter g (span start count)) ≡ map a (filter b (span start count))
 same_choice f g a b start zero p q = map-filter-span-none f g start ∙ sym (map-filter-span-none a b start)
 same_choice f g a b start (suc count) p q =
@@ -131,13 +134,16 @@ same_choice f g a b start (suc count) p q =
     sym (map-filter-span-suc a b start count) ∙ ap (λ n. map a (filter b (span start n))) one
 
 -- positions that are not due add nothing
-shorter : (f g : ℕ → Bool) (start count more : ℕ) → ((k : ℕ) → count ≤ k → g (start + k) ≡ false) → map f (filter g (span start (count + more))) ≡ map f (filter g (span start count))
+shorter : (f g : ℕ → Bool) (start count more : ℕ) → ((k : ℕ) → count ≤ k → g (start + k) ≡ false) → map f (filter g (span start (count + more)))
+    ≡ map f (filter g (span start count))
 shorter f g start count zero none = let e : count + 0 ≡ count = omega arith in ap (λ n. map f (filter g (span start n))) e
 shorter f g start count (suc more) none =
     let e : count + suc more ≡ (count + more) + 1 = omega arith in
-    ap (λ n. map f (filter g (span start n))) e ∙ map-filter-span-passed f g start (count + more) (none (count + more) (omega arith)) ∙ shorter f g start count more none
+    ap (λ n. map f (filter g (span start n))) e ∙ map-filter-span-passed f g start (count + more) (none (count + more) (omega arith))
+    ∙ shorter f g start count more none
 
-pub picked_of : (due bits start count : ℕ) (f g : ℕ → Bool) → count ≤ 4 → Shows due g start count → Shows bits f start count → entry due bits ≡ packed (map f (filter g (span start count)))
+pub picked_of : (due bits start count : ℕ) (f g : ℕ → Bool) → count ≤ 4 → Shows due g start count → Shows bits f start count →
+    entry due bits ≡ packed (map f (filter g (span start count)))
 picked_of due bits start count f g few p q =
     let a = within start count f in
     let b = within start count g in
@@ -222,18 +228,23 @@ four_shows f start = shown (f (start + 0)) (f (start + 1)) (f (start + 2)) (f (s
         each_bit (suc (suc (suc zero))) below = bit_three a b c d ∙ sym ed
         each_bit (suc (suc (suc (suc k)))) below = absurd (omega arith)
 
-spread_of_four : (due word start : ℕ) (f g : ℕ → Bool) → Shows due g start 4 → value_of (map f (filter g (span start 4))) ≡ word → Shows (spread_entry due word) (λ p. g p && f p) start 4
+spread_of_four : (due word start : ℕ) (f g : ℕ → Bool) → Shows due g start 4 → value_of (map f (filter g (span start 4))) ≡ word →
+    Shows (spread_entry due word) (λ p. g p && f p) start 4
 spread_of_four due word start f g p e =
-    let same : spread_entry due word ≡ four (g (start + 0) && f (start + 0)) (g (start + 1) && f (start + 1)) (g (start + 2) && f (start + 2)) (g (start + 3) && f (start + 3)) =
+    let same : spread_entry due word ≡ four (g (start + 0) && f (start + 0)) (g (start + 1) && f (start + 1)) (g (start + 2) && f (start + 2))
+    (g (start + 3) && f (start + 3)) =
     ap (λ n. spread_entry n word) (four_is due start g p) ∙
     ap (spread_entry (four (g (start + 0)) (g (start + 1)) (g (start + 2)) (g (start + 3)))) (sym e ∙ ap value_of (chosen_is f g start)) ∙
-    eqb-true _ _ (one_spreads (g (start + 0)) (g (start + 1)) (g (start + 2)) (g (start + 3)) (f (start + 0)) (f (start + 1)) (f (start + 2)) (f (start + 3))) in
+    eqb-true _ _ (one_spreads (g (start + 0)) (g (start + 1)) (g (start + 2)) (g (start + 3)) (f (start + 0)) (f (start + 1)) (f (start + 2))
+    (f (start + 3))) in
     subst (λ n. Shows n (λ p. g p && f p) start 4) (sym same) (four_shows (λ p. g p && f p) start)
 
 small_below : (mask count : ℕ) → ((k : ℕ) → count ≤ k → k < 4 → bit mask k ≡ false) → mask < 16 → count ≤ 4 → mask < 2 ^ count
 small_below mask zero none lt le =
-    let a = none 0 (omega arith) (omega arith) in let b = none 1 (omega arith) (omega arith) in let c = none 2 (omega arith) (omega arith) in let d = none 3 (omega arith) (omega arith) in
-    let a' = eqb-false (mask / 1 % 2) 1 a in let b' = eqb-false (mask / 2 % 2) 1 b in let c' = eqb-false (mask / 4 % 2) 1 c in let d' = eqb-false (mask / 8 % 2) 1 d in
+    let a = none 0 (omega arith) (omega arith) in let b = none 1 (omega arith) (omega arith) in let c = none 2 (omega arith) (omega arith) in let d =
+    none 3 (omega arith) (omega arith) in
+    let a' = eqb-false (mask / 1 % 2) 1 a in let b' = eqb-false (mask / 2 % 2) 1 b in let c' = eqb-false (mask / 4 % 2) 1 c in let d' =
+    eqb-false (mask / 8 % 2) 1 d in
     omega arith
 small_below mask (suc zero) none lt le =
     let b = none 1 (omega arith) (omega arith) in let c = none 2 (omega arith) (omega arith) in let d = none 3 (omega arith) (omega arith) in
@@ -247,10 +258,16 @@ small_below mask (suc (suc (suc zero))) none lt le = let d = none 3 (omega arith
 small_below mask (suc (suc (suc (suc zero)))) none lt le = lt
 small_below mask (suc (suc (suc (suc (suc n))))) none lt le = absurd (omega (arith, le))
 
-narrower : (mask start count : ℕ) (f h : ℕ → Bool) → count ≤ 4 → Shows mask f start 4 → ((k : ℕ) → k < count → f (start + k) ≡ h (start + k)) → ((k : ℕ) → count ≤ k → k < 4 → f (start + k) ≡ false) → Shows mask h start count
-narrower mask start count f h few p same none = record { at = λ k below. p.at k (omega (arith, below, few)) ∙ same k below; small = small_below mask count (λ k ge lt. p.at k lt ∙ none k ge lt) p.small few }
+narrower : (mask start count : ℕ) (f h : ℕ → Bool) → count ≤ 4 → Shows mask f start 4 → ((k : ℕ) → k < count → f (start + k) ≡ h (start + k)) →
+    ((k : ℕ) → count ≤ k → k < 4 → f (start + k) ≡ false) → Shows mask h start count
+narrower mask start count f h few p same none = record {
+  at = λ k below. p.at k (omega (arith, below, few)) ∙ same k below;
+  small =
+      small_below mask count (λ k ge lt. p.at k lt ∙ none k ge lt) p.small few;
+}
 
-pub spread_of : (due word start count : ℕ) (f g : ℕ → Bool) → count ≤ 4 → Shows due g start count → value_of (map f (filter g (span start count))) ≡ word → Shows (spread_entry due word) (λ p. g p && f p) start count
+pub spread_of : (due word start count : ℕ) (f g : ℕ → Bool) → count ≤ 4 → Shows due g start count → value_of (map f (filter g (span start count))) ≡ word →
+    Shows (spread_entry due word) (λ p. g p && f p) start count
 spread_of due word start count f g few p e =
     let a = within start count f in
     let b = within start count g in
@@ -259,7 +276,8 @@ spread_of due word start count f g few p e =
     ap (λ n. value_of (map a (filter b (span start n)))) (sym whole) ∙
     ap value_of (shorter a b start count (4 - count) (λ k beyond. past start count k g beyond) ∙
     same_choice a b f g start count (λ k h. there start count k f h) (λ k h. there start count k g h)) ∙ e in
-    narrower (spread_entry due word) start count (λ p. b p && a p) (λ p. g p && f p) few (spread_of_four due word start a b (wider due start count g few p) word_same)
+    narrower (spread_entry due word) start count (λ p. b p && a p) (λ p. g p && f p) few
+    (spread_of_four due word start a b (wider due start count g few p) word_same)
     (λ k below. both (there start count k g below) (there start count k f below)) (λ k beyond below. ap (λ x. x && a (start + k)) (past start count k g beyond))
   where
     both : {a b c d : Bool} → a ≡ b → c ≡ d → (a && c) ≡ (b && d)
@@ -299,9 +317,11 @@ back_of_four due word start g p small fits =
     let a = g (start + 0) in let b = g (start + 1) in let c = g (start + 2) in let d = g (start + 3) in
     let m = spread_entry due word in
     let same : due ≡ four a b c d = four_is due start g p in
-    let test = list_all-span-zero (λ w. spread_back a b c d w) 16 word (of_each_four (λ p q r s. list_all (λ w. spread_back p q r s w) (span 0 16)) all_back a b c d) small in
+    let test = list_all-span-zero (λ w. spread_back a b c d w) 16 word (of_each_four (λ p q r s. list_all (λ w. spread_back p q r s w) (span 0 16)) all_back
+    a b c d) small in
     let n = spread_entry (four a b c d) word in
-    let found : value_of (chosen a b c d (bit n 0) (bit n 1) (bit n 2) (bit n 3)) ≡ word = eqb-true _ _ (or_from _ _ test (lt-ltb word (2 ^ count_ones (four a b c d)) (subst (λ x. word < 2 ^ count_ones x) same fits))) in
+    let found : value_of (chosen a b c d (bit n 0) (bit n 1) (bit n 2) (bit n 3)) ≡ word =
+    eqb-true _ _ (or_from _ _ test (lt-ltb word (2 ^ count_ones (four a b c d)) (subst (λ x. word < 2 ^ count_ones x) same fits))) in
     let h = placed m start in
     ap value_of (chosen_is h g start) ∙
     ap (λ x. value_of (chosen a b c d x (h (start + 1)) (h (start + 2)) (h (start + 3)))) (placed_at m start 0) ∙
@@ -320,7 +340,8 @@ wider_choice f g start count few =
 pub back_of : (due word start count : ℕ) (g : ℕ → Bool) → count ≤ 4 → Shows due g start count → word < 16 → word < 2 ^ count_ones due →
     value_of (map (placed (spread_entry due word) start) (filter g (span start count))) ≡ word
 back_of due word start count g few p small fits =
-    sym (ap value_of (wider_choice (placed (spread_entry due word) start) g start count few)) ∙ back_of_four due word start (within start count g) (wider due start count g few p) small fits
+    sym (ap value_of (wider_choice (placed (spread_entry due word) start) g start count few)) ∙ back_of_four due word start (within start count g)
+    (wider due start count g few p) small fits
 
 -- the number of positions is the number of ones of the word
 abbrev ones_kept : ℕ → ℕ → Bool
@@ -339,7 +360,7 @@ ones_spread due word four low fits =
 pub are_spread : (due word : ℕ) → due < 16 → word < 16 → AreSpread due word (spread_entry due word)
 are_spread due word four low = record {
   small = small_spread due word four low;
-  told = λ f g start count few p is. spread_of due word start count f g few p is;
+  if_known = λ f g start count few p is. spread_of due word start count f g few p is;
   back = λ g start count few p fits. back_of due word start count g few p low fits;
   ones = λ fits. ones_spread due word four low fits;
 }
@@ -353,7 +374,8 @@ ones_of due start count f g few p =
     let b = within start count g in
     let w = b (start + 0) in let x = b (start + 1) in let y = b (start + 2) in let z = b (start + 3) in
     ap count_ones (four_is due start b (wider due start count g few p)) ∙ eqb-true _ _ (of_each_four (λ p q r s. ones_there p q r s) all_ones w x y z) ∙
-    sym (chosen_length w x y z (f (start + 0)) (f (start + 1)) (f (start + 2)) (f (start + 3))) ∙ sym (ap length (chosen_is f b start)) ∙ ap length (wider_choice f g start count few)
+    sym (chosen_length w x y z (f (start + 0)) (f (start + 1)) (f (start + 2)) (f (start + 3))) ∙ sym (ap length (chosen_is f b start))
+    ∙ ap length (wider_choice f g start count few)
 
 -- ---- a word that is first in four bits
 
@@ -371,4 +393,5 @@ pub first_spread : (due bits : ℕ) → due < 16 → bits < 16 → AreSpread due
 first_spread due bits four low =
     let row = list_all-span-zero (λ i. list_all (λ j. is_first i j) (span 0 16)) 16 due all_first four in
     let test = list_all-span-zero (λ j. is_first due j) 16 bits row low in
-    subst (AreSpread due (bits / 2 ^ (4 - count_ones due))) (eqb-true _ _ (and-left _ _ test)) (are_spread due (bits / 2 ^ (4 - count_ones due)) four (ltb-true _ _ (and-right _ _ test)))
+    subst (AreSpread due (bits / 2 ^ (4 - count_ones due))) (eqb-true _ _ (and-left _ _ test))
+    (are_spread due (bits / 2 ^ (4 - count_ones due)) four (ltb-true _ _ (and-right _ _ test)))

@@ -1,5 +1,6 @@
 -- The masks of the planes of a block, put among the words of a segment.
-use Rattle.std.proofs.Common.{◌≡◌, ◌<◌, ◌≤◌, ℕ, ◌+◌, ◌*◌, ◌/◌, ◌%◌, ◌^◌, ◌==◌, inl, inr, refl, ap, sym, ◌∙◌, subst, arith, ℤ, false, List, length, set, length-set, pow_mono}
+use Rattle.std.proofs.Common.{◌≡◌, ◌<◌, ◌≤◌, ℕ, ◌+◌, ◌*◌, ◌/◌, ◌%◌, ◌^◌, ◌==◌, inl, inr, refl, ap, sym, ◌∙◌, subst, arith, ℤ, false, List, length, set}
+use Rattle.std.proofs.Common.{length-set, pow_mono}
 use native.Mathlib.Nat.{div-eq_of_lt, zero-div}
 use Rattle.std.proofs.lemmas.Bool.{cases_eq, cases_lt}
 use Rattle.item_defs.specs.Bits.{bit}
@@ -12,12 +13,15 @@ pub no_plane_put : (step r : ℕ) (block : List ℤ) (words : List ℕ) → Puts
 no_plane_put step r block words = record { long = refl; here = λ p lt. absurd (omega (arith, lt)); others = λ slot q low other. refl; fit = λ fit. fit }
 
 pub plane_put : {planes step r mask : ℕ} {block : List ℤ} {old now : List ℕ} → step * (2 + planes) + r < length old → r < step →
-    PutsPlanes planes step r block old now → Shows mask (λ k. bit (magnitude block k) planes) 0 64 → PutsPlanes (planes + 1) step r block old (set now (step * (2 + planes) + r) mask)
+    PutsPlanes planes step r block old now → Shows mask (λ k. bit (magnitude block k) planes) 0 64 →
+    PutsPlanes (planes + 1) step r block old (set now (step * (2 + planes) + r) mask)
 plane_put {planes} {step} {r} {mask} {block} {old} {now} within low so_far shows = record {
   long = length-set now (step * (2 + planes) + r) mask ∙ so_far.long;
   here = λ p lt. elim (cases_eq p planes) [
-    | inl same ↦ rw same (subst (λ m. Shows m (λ k. bit (magnitude block k) planes) 0 64) (sym (word_put_here now step (2 + planes) r mask (omega (arith, within, so_far.long)))) shows)
-    | inr other ↦ subst (λ m. Shows m (λ k. bit (magnitude block k) p) 0 64) (sym (word_put_other now step (2 + planes) r mask (2 + p) r low low (λ e f. other (omega (arith, e)))))
+    | inl same ↦ rw same (subst (λ m. Shows m (λ k. bit (magnitude block k) planes) 0 64)
+        (sym (word_put_here now step (2 + planes) r mask (omega (arith, within, so_far.long)))) shows)
+    | inr other ↦ subst (λ m. Shows m (λ k. bit (magnitude block k) p) 0 64)
+        (sym (word_put_other now step (2 + planes) r mask (2 + p) r low low (λ e f. other (omega (arith, e)))))
         (so_far.here p (omega (arith, lt, other)))
   ];
   others = λ slot q there other. word_put_other now step (2 + planes) r mask slot q there low (λ e f. other f) ∙ so_far.others slot q there other;
@@ -45,7 +49,8 @@ all_planes {planes} {step} {slots} {r} {block} {old} {new} long past none puts =
   long = puts.long;
   here = λ p lt. elim (cases_lt p planes) [
     | inl below ↦ puts.here p below
-    | inr le ↦ subst (λ m. Shows m (λ k. bit (magnitude block k) p) 0 64) (sym (word_past new step slots (2 + p) r (puts.long ∙ long) (omega (arith, le, past)))) (none_shown block p (λ k. none k p le lt))
+    | inr le ↦ subst (λ m. Shows m (λ k. bit (magnitude block k) p) 0 64)
+        (sym (word_past new step slots (2 + p) r (puts.long ∙ long) (omega (arith, le, past)))) (none_shown block p (λ k. none k p le lt))
   ];
   others = puts.others;
   fit = puts.fit;

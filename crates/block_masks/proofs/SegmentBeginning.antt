@@ -1,5 +1,6 @@
 -- What is significant above plane 27 in the words of a segment: only DCs can be.
-use Rattle.std.proofs.Common.{◌≡◌, ◌<◌, ◌≤◌, ℕ, zero, suc, ◌+◌, ◌*◌, ◌^◌, inl, inr, refl, ap, sym, ◌∙◌, subst, arith, zero-add, ℤ, pos, Bool, false, List, length, get_or, set, unsigned_abs, nat_le, length-set, to_z, of_z, w32}
+use Rattle.std.proofs.Common.{◌≡◌, ◌<◌, ◌≤◌, ℕ, zero, suc, ◌+◌, ◌*◌, ◌^◌, inl, inr, refl, ap, sym, ◌∙◌, subst, arith, zero-add, ℤ, pos, Bool, false, List}
+use Rattle.std.proofs.Common.{length, get_or, set, unsigned_abs, nat_le, length-set, to_z, of_z, w32}
 use Rattle.std.proofs.lemmas.Bool.{cases_eq}
 use Rattle.std.proofs.lemmas.Int.{to_z-of_z, fits_signed_from_abs}
 use Rattle.std.proofs.lemmas.Bool.Decides.{nat_tests}
@@ -31,13 +32,15 @@ none_begun step dcs words = record {
 }
 
 -- the mask of a block: whether its DC reaches plane 27
-pub top_shown : {mask : ℕ} {reaches : Bool} (words : List ℕ) (step : ℕ) (dcs : List ℤ) (r : ℕ) → r < length dcs → reaches ≡ nat_le (2 ^ 27) (unsigned_abs (get_or dcs r (pos 0))) →
+pub top_shown : {mask : ℕ} {reaches : Bool} (words : List ℕ) (step : ℕ) (dcs : List ℤ) (r : ℕ) → r < length dcs →
+    reaches ≡ nat_le (2 ^ 27) (unsigned_abs (get_or dcs r (pos 0))) →
     Shows mask (λ p. reaches) 0 1 → mask < 2 → Shows mask (significant (block_at (numbers_at words step dcs) r) 27) 0 64
 unfolding significant
-top_shown {mask} {reaches} words step dcs r known told shows few = record { at = bit_is; small = omega (arith, few) }
+top_shown {mask} {reaches} words step dcs r known if_known shows few = record { at = bit_is; small = omega (arith, few) }
   where
     bit_is : (k : ℕ) → k < 64 → bit mask k ≡ nat_le (2 ^ 27) (magnitude (block_at (numbers_at words step dcs) r) (0 + k))
-    bit_is zero lt = shows.at 0 (omega arith) ∙ told ∙ ap (λ n. nat_le (2 ^ 27) (unsigned_abs n)) (sym (block_number words step dcs r 0 known lt ∙ dc_number words step dcs r))
+    bit_is zero lt = shows.at 0 (omega arith) ∙ if_known ∙ ap (λ n. nat_le (2 ^ 27) (unsigned_abs n))
+        (sym (block_number words step dcs r 0 known lt ∙ dc_number words step dcs r))
     bit_is (suc k) lt =
         let place : 0 + suc k ≡ suc k = zero-add (suc k) in
         let none : nat_le (2 ^ 27) (magnitude (block_at (numbers_at words step dcs) r) (suc k)) ≡ false =
@@ -52,18 +55,22 @@ more_begun {step} {r} {mask} {dcs} {old} {now} low within so_far shows = record 
   keeps = record { others = λ slot q there other. word_put_other now step 1 r mask slot q there low (λ e f. other e) ∙ so_far.keeps.others slot q there other };
   fit = λ fit. put_fits now (step * 1 + r) mask shows.small (so_far.fit fit);
   shown = λ q lt. elim (cases_eq q r) [
-    | inl same ↦ rw same (subst (λ m. Shows m (significant (block_at (numbers_at old step dcs) r) 27) 0 64) (sym (word_put_here now step 1 r mask (omega (arith, within, so_far.long)))) shows)
-    | inr other ↦ subst (λ m. Shows m (significant (block_at (numbers_at old step dcs) q) 27) 0 64) (sym (word_put_other now step 1 r mask 1 q (omega (arith, lt, low)) low (λ e f. other f)))
+    | inl same ↦ rw same (subst (λ m. Shows m (significant (block_at (numbers_at old step dcs) r) 27) 0 64)
+        (sym (word_put_here now step 1 r mask (omega (arith, within, so_far.long)))) shows)
+    | inr other ↦ subst (λ m. Shows m (significant (block_at (numbers_at old step dcs) q) 27) 0 64)
+        (sym (word_put_other now step 1 r mask 1 q (omega (arith, lt, low)) low (λ e f. other f)))
         (so_far.shown q (omega (arith, lt, other)))
   ];
 }
 
 -- whether the DC that was read reaches plane 27
-pub reach_told : {n : ℕ} {x : ℤ} (dcs : List ℤ) (r : ℕ) → unsigned_abs (get_or dcs r (pos 0)) < 2 ^ 28 → n ≡ unsigned_abs (to_z w32 (of_z w32 x)) → x ≡ get_or dcs r (pos 0) →
+pub reach_known : {n : ℕ} {x : ℤ} (dcs : List ℤ) (r : ℕ) → unsigned_abs (get_or dcs r (pos 0)) < 2 ^ 28 → n ≡ unsigned_abs (to_z w32 (of_z w32 x)) →
+    x ≡ get_or dcs r (pos 0) →
     nat_le (2 ^ 27) n ≡ nat_le (2 ^ 27) (unsigned_abs (get_or dcs r (pos 0)))
-reach_told dcs r small value read =
+reach_known dcs r small value read =
     let dc = get_or dcs r (pos 0) in
-    ap (nat_le (2 ^ 27)) (value ∙ ap (λ y. unsigned_abs (to_z w32 (of_z w32 y))) read ∙ ap unsigned_abs (to_z-of_z w32 dc (fits_signed_from_abs w32 dc (omega (arith, small)))))
+    ap (nat_le (2 ^ 27)) (value ∙ ap (λ y. unsigned_abs (to_z w32 (of_z w32 y))) read ∙ ap unsigned_abs
+    (to_z-of_z w32 dc (fits_signed_from_abs w32 dc (omega (arith, small)))))
 
 -- ---- all blocks
 
@@ -74,6 +81,7 @@ module _ {step blocks : ℕ} {dcs : List ℤ} {old new : List ℕ} (fit : length
   pub begun_numbers : BeginsAbove step blocks dcs old new → numbers_at new step dcs ≡ numbers_at old step dcs
   begun_numbers begins = numbers_kept dcs (begun_keeps begins)
 
-  pub begun_above : (most : ℕ) → length dcs ≤ blocks → BeginsAbove step blocks dcs old new → AreAbove 27 (record { most = most; numbers = numbers_at new step dcs; above = above_at new step (length dcs) })
+  pub begun_above : (most : ℕ) → length dcs ≤ blocks → BeginsAbove step blocks dcs old new →
+      AreAbove 27 (record { most = most; numbers = numbers_at new step dcs; above = above_at new step (length dcs) })
   begun_above most all begins = shown_above new step dcs (λ r known.
       subst (λ n. Shows (word_at new step 1 r) (significant (block_at n r) 27) 0 64) (sym (begun_numbers begins)) (begins.shown r (omega (arith, known, all))))

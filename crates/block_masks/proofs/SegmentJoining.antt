@@ -16,18 +16,23 @@ none_joined to from words = record {
 
 -- one more word
 pub more_joined : {to from r mask : ℕ} {old now : List ℕ} → to + r < from → from + r < length old → mask < 2 ^ 64 → JoinsWords to from r old now →
-    ((f g : ℕ → Bool) (start count : ℕ) → Shows (get_or now (to + r) 0) f start count → Shows (get_or now (from + r) 0) g start count → Shows mask (λ p. f p || g p) start count) →
+    ((f g : ℕ → Bool) (start count : ℕ) → Shows (get_or now (to + r) 0) f start count → Shows (get_or now (from + r) 0) g start count →
+    Shows mask (λ p. f p || g p) start count) →
     JoinsWords to from (r + 1) old (set now (to + r) mask)
-more_joined {to} {from} {r} {mask} {old} {now} apart within small so_far told = record {
+more_joined {to} {from} {r} {mask} {old} {now} apart within small so_far if_known = record {
   long = length-set now (to + r) mask ∙ so_far.long;
   here = λ q f g lt f_shown g_shown. elim (cases_eq q r) [
     | inl same ↦
-        let f_now = subst (λ m. Shows m f 0 64) (sym (so_far.others (to + r) (inr (omega arith)))) (subst (λ k. Shows (get_or old (to + k) 0) f 0 64) same f_shown) in
-        let g_now = subst (λ m. Shows m g 0 64) (sym (so_far.others (from + r) (inr (omega (arith, apart))))) (subst (λ k. Shows (get_or old (from + k) 0) g 0 64) same g_shown) in
+        let f_now = subst (λ m. Shows m f 0 64) (sym (so_far.others (to + r) (inr (omega arith))))
+        (subst (λ k. Shows (get_or old (to + k) 0) f 0 64) same f_shown) in
+        let g_now = subst (λ m. Shows m g 0 64) (sym (so_far.others (from + r) (inr (omega (arith, apart)))))
+        (subst (λ k. Shows (get_or old (from + k) 0) g 0 64) same g_shown) in
         let there : to + r < length now = omega (arith, apart, within, so_far.long) in
-        subst (λ m. Shows m (λ p. f p || g p) 0 64) (sym (ap (λ k. get_or (set now (to + r) mask) (to + k) 0) same ∙ get_or-set_same now (to + r) mask 0 there)) (told f g 0 64 f_now g_now)
+        subst (λ m. Shows m (λ p. f p || g p) 0 64) (sym (ap (λ k. get_or (set now (to + r) mask) (to + k) 0) same ∙ get_or-set_same now (to + r) mask 0
+        there)) (if_known f g 0 64 f_now g_now)
     | inr other ↦
-        subst (λ m. Shows m (λ p. f p || g p) 0 64) (sym (get_or-set_other now (to + r) (to + q) mask 0 (λ e. other (omega (arith, e))))) (so_far.here q f g (omega (arith, lt, other)) f_shown g_shown)
+        subst (λ m. Shows m (λ p. f p || g p) 0 64) (sym (get_or-set_other now (to + r) (to + q) mask 0 (λ e. other (omega (arith, e)))))
+        (so_far.here q f g (omega (arith, lt, other)) f_shown g_shown)
   ];
   others = λ i far. get_or-set_other now (to + r) i mask 0 (λ e. elim far [ inl lt ↦ omega (arith, lt, e) | inr le ↦ omega (arith, le, e) ])
       ∙ so_far.others i (elim far as (λ _. (i < to) ⊎ (to + r ≤ i)) [ inl lt ↦ inl lt | inr le ↦ inr (omega (arith, le)) ]);

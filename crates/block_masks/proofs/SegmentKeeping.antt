@@ -18,9 +18,11 @@ module _ (step r : ℕ) (old new : List ℕ) (keeps : KeepsBlock step r old new)
   same_bits : (k : ℕ) → bits_below (planes_at new step r) k 27 ≡ bits_below (planes_at old step r) k 27
   same_bits k = bits_below-same (planes_at new step r) (planes_at old step r) k 27 (λ p lt. ap (λ m. bit m k) (keeps (2 + p) (λ e. omega (arith, e))))
 
-  pub number_kept : (dc : ℤ) (k : ℕ) → number_from (planes_at new step r) (word_at new step 0 r) dc k ≡ number_from (planes_at old step r) (word_at old step 0 r) dc k
+  pub number_kept : (dc : ℤ) (k : ℕ) → number_from (planes_at new step r) (word_at new step 0 r) dc k ≡ number_from (planes_at old step r)
+      (word_at old step 0 r) dc k
   number_kept dc k =
-      number_from-is (planes_at new step r) (word_at new step 0 r) dc k ∙ rw (same_bits k, keeps 0 (λ e. omega (arith, e))) refl ∙ sym (number_from-is (planes_at old step r) (word_at old step 0 r) dc k)
+      number_from-is (planes_at new step r) (word_at new step 0 r) dc k ∙ rw (same_bits k, keeps 0 (λ e. omega (arith, e))) refl
+      ∙ sym (number_from-is (planes_at old step r) (word_at old step 0 r) dc k)
 
   pub masked_kept : {first : ℤ} → IsMasked old step first r → IsMasked new step first r
   masked_kept is = record {
@@ -33,10 +35,12 @@ pub numbers_kept : {step : ℕ} (dcs : List ℤ) {old new : List ℕ} → KeepsN
 numbers_kept {step} dcs {old} {new} keeps =
     ext_get_or (pos 0) (numbers_at new step dcs) (numbers_at old step dcs) (length-numbers_at new step dcs ∙ sym (length-numbers_at old step dcs)) (λ i lt.
     let within : i < 64 * length dcs = omega (arith, lt, length-numbers_at new step dcs) in
-    number_get new step dcs i within ∙ number_kept step (i / 64) old new (λ slot other. keeps.others slot (i / 64) (omega (arith, within)) other) (get_or dcs (i / 64) (pos 0)) (i % 64)
+    number_get new step dcs i within ∙ number_kept step (i / 64) old new (λ slot other. keeps.others slot (i / 64) (omega (arith, within)) other)
+    (get_or dcs (i / 64) (pos 0)) (i % 64)
     ∙ sym (number_get old step dcs i within))
 
-pub masks_kept : {step : ℕ} {dcs : List ℤ} {old new : List ℕ} → AreWords new → KeepsNumbers step (length dcs) old new → AreMasks old step dcs → AreMasks new step dcs
+pub masks_kept : {step : ℕ} {dcs : List ℤ} {old new : List ℕ} → AreWords new → KeepsNumbers step (length dcs) old new → AreMasks old step dcs →
+    AreMasks new step dcs
 masks_kept {step} {dcs} {old} {new} fit keeps are = record {
   fit = fit;
   small = are.small;

@@ -1,5 +1,6 @@
 -- One more block in the words of a segment.
-use Rattle.std.proofs.Common.{◌≡◌, ◌<◌, ℕ, zero, suc, ◌+◌, ◌-◌, ◌*◌, ◌/◌, ◌%◌, ◌^◌, inl, inr, refl, ap, sym, ◌∙◌, subst, arith, zero-add, ℤ, pos, negsuc, true, List, [], ◌∷◌, ◌++◌, length, get_or, set, replicate, length-append, unsigned_abs}
+use Rattle.std.proofs.Common.{◌≡◌, ◌<◌, ℕ, zero, suc, ◌+◌, ◌-◌, ◌*◌, ◌/◌, ◌%◌, ◌^◌, inl, inr, refl, ap, sym, ◌∙◌, subst, arith, zero-add, ℤ, pos, negsuc}
+use Rattle.std.proofs.Common.{true, List, [], ◌∷◌, ◌++◌, length, get_or, set, replicate, length-append, unsigned_abs}
 use Rattle.std.proofs.Math.Seq.{get_or-append_seam}
 use Rattle.std.proofs.lemmas.Bool.{cases_lt, cases_eq}
 use Rattle.std.proofs.lemmas.List.{ext_get_or, get_or_append_left, get_or-append_right, get_or_past}
@@ -37,7 +38,8 @@ module _ (step r : ℕ) (block : List ℤ) (words : List ℕ) (shows : ShowsBloc
   size_shown : (k : ℕ) → 0 < k → k < 64 → size_in (planes_at words step r) k ≡ magnitude block k
   size_shown k some lt =
       let place : 0 + k ≡ k = zero-add k in
-      size_in-is (planes_at words step r) k (magnitude block k) (small k some) (λ p low. (shows.planes p low).at k lt ∙ ap (λ j. bit (magnitude block j) p) place)
+      size_in-is (planes_at words step r) k (magnitude block k) (small k some) (λ p low. (shows.planes p low).at k lt ∙ ap (λ j. bit (magnitude block j) p)
+      place)
 
   minus_at : (k : ℕ) → k < 64 → bit (word_at words step 0 r) k ≡ negative (get_or block k (pos 0))
   minus_at k lt = (let place : 0 + k ≡ k = zero-add k in shows.minus.at k lt ∙ ap (λ j. negative (get_or block j (pos 0))) place)
@@ -56,19 +58,23 @@ module _ (step r : ℕ) (block : List ℤ) (words : List ℕ) (shows : ShowsBloc
     signed = λ k some lt minus. rw (size_shown k some lt) (negative_some (get_or block k (pos 0)) (sym (minus_at k lt) ∙ minus));
   }
 
-module _ (step : ℕ) (dcs : List ℤ) (block : List ℤ) (old new : List ℕ) (puts : PutsBlock step (length dcs) block old new) (small : (k : ℕ) → 0 < k → magnitude block k < 2 ^ 27) where
+module _ (step : ℕ) (dcs : List ℤ) (block : List ℤ) (old new : List ℕ) (puts : PutsBlock step (length dcs) block old new) (small : (k : ℕ) → 0 < k →
+    magnitude block k < 2 ^ 27) where
   long_more : length (dcs ++ get_or block 0 (pos 0) ∷ []) ≡ length dcs + 1
   long_more = length-append dcs (get_or block 0 (pos 0) ∷ [])
 
-  number_before : (i : ℕ) → i < 64 * length dcs → number_at new step (dcs ++ get_or block 0 (pos 0) ∷ []) (i / 64) (i % 64) ≡ number_at old step dcs (i / 64) (i % 64)
+  number_before : (i : ℕ) → i < 64 * length dcs → number_at new step (dcs ++ get_or block 0 (pos 0) ∷ []) (i / 64) (i % 64) ≡ number_at old step dcs
+      (i / 64) (i % 64)
   number_before i lt =
       let low : i / 64 < length dcs = omega (arith, lt) in
-      ap (λ d. number_from (planes_at new step (i / 64)) (word_at new step 0 (i / 64)) d (i % 64)) (get_or_append_left dcs (get_or block 0 (pos 0) ∷ []) (pos 0) (i / 64) low)
+      ap (λ d. number_from (planes_at new step (i / 64)) (word_at new step 0 (i / 64)) d (i % 64))
+      (get_or_append_left dcs (get_or block 0 (pos 0) ∷ []) (pos 0) (i / 64) low)
       ∙ number_kept step (i / 64) old new (λ slot other. puts.keeps slot (i / 64) low) (get_or dcs (i / 64) (pos 0)) (i % 64)
 
   number_here : (r k : ℕ) → r ≡ length dcs → k < 64 → number_at new step (dcs ++ get_or block 0 (pos 0) ∷ []) r k ≡ get_or block k (pos 0)
   number_here r k last lt = rw last
-      (ap (λ d. number_from (planes_at new step (length dcs)) (word_at new step 0 (length dcs)) d k) (get_or-append_seam dcs (get_or block 0 (pos 0)) [] (pos 0))
+      (ap (λ d. number_from (planes_at new step (length dcs)) (word_at new step 0 (length dcs)) d k)
+      (get_or-append_seam dcs (get_or block 0 (pos 0)) [] (pos 0))
       ∙ number_shown step (length dcs) block new puts.shows small k lt)
 
   pub pushed_numbers : length block ≡ 64 → numbers_at new step (dcs ++ get_or block 0 (pos 0) ∷ []) ≡ numbers_at old step dcs ++ block
@@ -77,8 +83,10 @@ module _ (step : ℕ) (dcs : List ℤ) (block : List ℤ) (old new : List ℕ) (
       let before = numbers_at old step dcs in
       let long : length (numbers_at new step more) ≡ 64 * length dcs + 64 = omega (arith, length-numbers_at new step more, long_more) in
       let long' : length (before ++ block) ≡ 64 * length dcs + 64 = omega (arith, length-append before block, length-numbers_at old step dcs, whole) in
-      ext_get_or (pos 0) (numbers_at new step more) (before ++ block) (long ∙ sym long') (λ i lt. number_get new step more i (omega (arith, lt, long, long_more)) ∙ elim (cases_lt i (64 * length dcs)) [
-        | inl under ↦ number_before i under ∙ sym (number_get old step dcs i under) ∙ sym (get_or_append_left before block (pos 0) i (omega (arith, under, length-numbers_at old step dcs)))
+      ext_get_or (pos 0) (numbers_at new step more) (before ++ block) (long ∙ sym long')
+      (λ i lt. number_get new step more i (omega (arith, lt, long, long_more)) ∙ elim (cases_lt i (64 * length dcs)) [
+        | inl under ↦ number_before i under ∙ sym (number_get old step dcs i under)
+            ∙ sym (get_or_append_left before block (pos 0) i (omega (arith, under, length-numbers_at old step dcs)))
         | inr from ↦
             let place : i % 64 ≡ i - 64 * length dcs = omega (arith, lt, long, from) in
             number_here (i / 64) (i % 64) (omega (arith, lt, long, from)) (omega arith) ∙ ap (λ k. get_or block k (pos 0)) place
@@ -96,7 +104,8 @@ module _ (step : ℕ) (dcs : List ℤ) (block : List ℤ) (old new : List ℕ) (
       ]
     ];
     blocks = λ r known. elim (cases_lt r (length dcs)) [
-      | inl lt ↦ rw (get_or_append_left dcs (get_or block 0 (pos 0) ∷ []) (pos 0) r lt) (masked_kept step r old new (λ slot other. puts.keeps slot r lt) (are.blocks r lt))
+      | inl lt ↦ rw (get_or_append_left dcs (get_or block 0 (pos 0) ∷ []) (pos 0) r lt) (masked_kept step r old new (λ slot other. puts.keeps slot r lt)
+          (are.blocks r lt))
       | inr le ↦
           let last : r ≡ length dcs = omega (arith, le, known, long_more) in
           rw (last, get_or-append_seam dcs (get_or block 0 (pos 0)) [] (pos 0)) (block_masked step (length dcs) block new puts.shows small)
@@ -111,7 +120,8 @@ block_put {step} {r} {mask} {block} {old} {filled} {put} n is low within puts mi
       word_put_other put step 0 r mask slot q (omega (arith, before, low)) low (λ e f. omega (arith, f, before))
       ∙ puts.others slot q (omega (arith, before, low)) (λ e. omega (arith, e, before)) ∙ ap (λ w. word_at w step slot q) is ∙ word_filled old n step slot q;
   shows = record {
-    planes = λ p lt. subst (λ w. Shows w (λ k. bit (magnitude block k) p) 0 64) (sym (word_put_other put step 0 r mask (2 + p) r low low (λ e f. omega (arith, e)))) (puts.here p lt);
+    planes = λ p lt. subst (λ w. Shows w (λ k. bit (magnitude block k) p) 0 64)
+        (sym (word_put_other put step 0 r mask (2 + p) r low low (λ e f. omega (arith, e)))) (puts.here p lt);
     minus = subst (λ w. Shows w (λ k. negative (get_or block k (pos 0))) 0 64) (sym (word_put_here put step 0 r mask within)) minus;
   };
   fit = λ fit. put_fits put (step * 0 + r) mask minus.small (puts.fit (rw is (filled_fit old n fit)));

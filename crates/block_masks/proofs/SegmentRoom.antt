@@ -34,7 +34,8 @@ module _ {most step slots words words_room dcs dcs_room : ℕ} (room : HasRoom m
   slots_more more few = (let most : step * slots ≤ step * more = mul-le-mul_left step few in omega (arith, most, room.long))
 
   -- one more block
-  pub pushed_room : {slots' words' words_room' dcs' dcs_room' : ℕ} → slots ≤ slots' → slots' ≤ 29 → words' ≡ step * slots' → words_room' ≡ words_room → dcs < most → dcs' ≡ dcs + 1 → dcs_room' ≡ dcs_room →
+  pub pushed_room : {slots' words' words_room' dcs' dcs_room' : ℕ} → slots ≤ slots' → slots' ≤ 29 → words' ≡ step * slots' → words_room' ≡ words_room →
+      dcs < most → dcs' ≡ dcs + 1 → dcs_room' ≡ dcs_room →
       HasRoom most step slots' words' words_room' dcs' dcs_room'
   pushed_room more greatest long room_stays free one_more dcs_stays = record {
     few = room.few;

@@ -1,5 +1,6 @@
 -- What is significant above a plane, from plane to plane, in the words of a segment.
-use Rattle.std.proofs.Common.{◌≡◌, ◌<◌, ◌≤◌, ℕ, zero, suc, ◌+◌, ◌*◌, ◌/◌, ◌%◌, ◌^◌, ◌==◌, ◌⊎◌, inl, inr, refl, ap, sym, ◌∙◌, subst, arith, ℤ, Bool, true, false, ◌||◌, List, length}
+use Rattle.std.proofs.Common.{◌≡◌, ◌<◌, ◌≤◌, ℕ, zero, suc, ◌+◌, ◌*◌, ◌/◌, ◌%◌, ◌^◌, ◌==◌, ◌⊎◌, inl, inr, refl, ap, sym, ◌∙◌, subst, arith, ℤ, Bool, true}
+use Rattle.std.proofs.Common.{false, ◌||◌, List, length}
 use native.Mathlib.Nat.{zero-div}
 use Rattle.item_defs.specs.Bits.{bit}
 use Rattle.wave_defs.specs.Held.{block_at}
@@ -19,7 +20,8 @@ pub joins_all : {to from count len : ℕ} {was old new : List ℕ} → JoinsWord
 joins_all joins same long = rw (← same, ← long) joins
 
 -- the words of the slots that did not get bits stay
-pub keeps_joined : (step slot : ℕ) {count : ℕ} {old new : List ℕ} → count ≤ step → JoinsWords (step * 1) (step * slot) count old new → KeepsNumbers step count old new
+pub keeps_joined : (step slot : ℕ) {count : ℕ} {old new : List ℕ} → count ≤ step → JoinsWords (step * 1) (step * slot) count old new →
+    KeepsNumbers step count old new
 keeps_joined step slot {count} {old} {new} fit joins = record {
   others = λ s r known other.
       let far : (step * s + r < step * 1) ⊎ (step * 1 + count ≤ step * s + r) = apart s r known other in
@@ -32,12 +34,15 @@ keeps_joined step slot {count} {old} {new} fit joins = record {
     apart (suc (suc s)) r known other = inr (let next = next_slot step 1 (suc (suc s)) (omega arith) in omega (arith, next, fit))
 
 -- what is above a plane, by the words
-above_shown : {plane most : ℕ} (words : List ℕ) (step : ℕ) (dcs : List ℤ) → AreAbove plane (record { most = most; numbers = numbers_at words step dcs; above = above_at words step (length dcs) }) →
+above_shown : {plane most : ℕ} (words : List ℕ) (step : ℕ) (dcs : List ℤ) →
+    AreAbove plane (record { most = most; numbers = numbers_at words step dcs; above = above_at words step (length dcs) }) →
     (r : ℕ) → r < length dcs → Shows (word_at words step 1 r) (significant (block_at (numbers_at words step dcs) r) plane) 0 64
 above_shown {plane} words step dcs are r known =
-    subst (λ m. Shows m (significant (block_at (numbers_at words step dcs) r) plane) 0 64) (above_get words step (length dcs) r known) (are.at r (omega (arith, known, length-numbers_at words step dcs)))
+    subst (λ m. Shows m (significant (block_at (numbers_at words step dcs) r) plane) 0 64) (above_get words step (length dcs) r known)
+    (are.at r (omega (arith, known, length-numbers_at words step dcs)))
 
-pub shown_above : {plane most : ℕ} (words : List ℕ) (step : ℕ) (dcs : List ℤ) → ((r : ℕ) → r < length dcs → Shows (word_at words step 1 r) (significant (block_at (numbers_at words step dcs) r) plane) 0 64) →
+pub shown_above : {plane most : ℕ} (words : List ℕ) (step : ℕ) (dcs : List ℤ) →
+    ((r : ℕ) → r < length dcs → Shows (word_at words step 1 r) (significant (block_at (numbers_at words step dcs) r) plane) 0 64) →
     AreAbove plane (record { most = most; numbers = numbers_at words step dcs; above = above_at words step (length dcs) })
 shown_above {plane} words step dcs shown = record {
   at = λ r there.
@@ -56,13 +61,16 @@ module _ (plane most : ℕ) (old : List ℕ) (step : ℕ) (dcs : List ℤ) (low 
       (subst (λ m. Shows m (significant block (plane + 1)) 0 64) (word_at-is old step 1 r) (above_shown old step dcs above r known))
       (subst (λ m. Shows m (λ k. bit (magnitude block k) plane) 0 64) (word_at-is old step (2 + plane) r) (bits_shown masks r plane known low)) in
       subst (λ n. Shows (word_at new step 1 r) (significant (block_at n r) plane) 0 64) (sym (numbers_kept dcs (keeps_joined step (2 + plane) fit joins)))
-      (shows_same (reached_is block plane) (subst (λ m. Shows m (λ k. significant block (plane + 1) k || bit (magnitude block k) plane) 0 64) (sym (word_at-is new step 1 r)) joined)))
+      (shows_same (reached_is block plane) (subst (λ m. Shows m (λ k. significant block (plane + 1) k || bit (magnitude block k) plane) 0 64)
+      (sym (word_at-is new step 1 r)) joined)))
 
   -- no number has the plane's bit
-  pub above_same : (slots : ℕ) → length old ≡ step * slots → slots ≤ 2 + plane → AreAbove plane (record { most = most; numbers = numbers_at old step dcs; above = above_at old step (length dcs) })
+  pub above_same : (slots : ℕ) → length old ≡ step * slots → slots ≤ 2 + plane →
+      AreAbove plane (record { most = most; numbers = numbers_at old step dcs; above = above_at old step (length dcs) })
   above_same slots long past = shown_above old step dcs (λ r known.
       let block = block_at (numbers_at old step dcs) r in
-      let none = subst (λ m. Shows m (λ k. bit (magnitude block k) plane) 0 64) (word_past old step slots (2 + plane) r long past) (bits_shown masks r plane known low) in
+      let none = subst (λ m. Shows m (λ k. bit (magnitude block k) plane) 0 64) (word_past old step slots (2 + plane) r long past)
+      (bits_shown masks r plane known low) in
       shows_same (reached_is block plane) (with_none (above_shown old step dcs above r known) none))
     where
       with_none : {mask : ℕ} {f g : ℕ → Bool} → Shows mask f 0 64 → Shows 0 g 0 64 → Shows mask (λ k. f k || g k) 0 64

@@ -1,5 +1,6 @@
 -- The places of the words of a segment, and words that were put there.
-use Rattle.std.proofs.Common.{◌≡◌, ◌≢◌, ◌<◌, ◌≤◌, ℕ, ◌+◌, ◌-◌, ◌*◌, ◌^◌, inl, inr, refl, ap, sym, ◌∙◌, subst, arith, List, ◌++◌, length, get_or, set, length-set, replicate}
+use Rattle.std.proofs.Common.{◌≡◌, ◌≢◌, ◌<◌, ◌≤◌, ℕ, ◌+◌, ◌-◌, ◌*◌, ◌^◌, inl, inr, refl, ap, sym, ◌∙◌, subst, arith, List, ◌++◌, length, get_or, set}
+use Rattle.std.proofs.Common.{length-set, replicate}
 use Rattle.std.proofs.Math.Nat.{mul-le-mul_left}
 use Rattle.std.proofs.lemmas.Bool.{cases_lt, cases_eq}
 use Rattle.std.proofs.lemmas.List.{get_or-set_same, get_or-set_other, get_or_append_left, get_or-append_right, get_or_past, get_or-replicate, length-replicate}
@@ -35,7 +36,8 @@ within_slots step slots slot r len long there low = omega (arith, next_slot step
 -- words of slots that there are not are 0
 pub word_past : (words : List ℕ) (step slots slot r : ℕ) → length words ≡ step * slots → slots ≤ slot → word_at words step slot r ≡ 0
 word_past words step slots slot r long past =
-    word_at-is words step slot r ∙ get_or_past words (step * slot + r) 0 (let least : step * slots ≤ step * slot = mul-le-mul_left step past in omega (arith, least, long))
+    word_at-is words step slot r ∙ get_or_past words (step * slot + r) 0 (let least : step * slots ≤ step * slot =
+    mul-le-mul_left step past in omega (arith, least, long))
 
 -- ---- changes
 

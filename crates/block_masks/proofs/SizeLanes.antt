@@ -1,5 +1,6 @@
 -- The magnitudes of sixteen numbers, and their bits.
-use Rattle.std.proofs.Common.{◌≡◌, ℕ, ◌+◌, ◌-◌, ◌%◌, ℤ, Bool, cond, List, [], ◌∷◌, length, map, replicate, unsigned_abs, FitsSigned, refl, ap, sym, ◌∙◌, arith, w32, map-id}
+use Rattle.std.proofs.Common.{◌≡◌, ℕ, ◌+◌, ◌-◌, ◌%◌, ℤ, Bool, cond, List, [], ◌∷◌, length, map, replicate, unsigned_abs, FitsSigned, refl, ap, sym, ◌∙◌}
+use Rattle.std.proofs.Common.{arith, w32, map-id}
 use Rattle.std.specs.Simd.Lanes.{top, zip2, sel_l}
 use Rattle.std.proofs.lemmas.Simd.{zip2_splat_left, zip2_of_maps, map-map}
 use Rattle.std.proofs.lemmas.Bool.Decides.{nat_tests}

@@ -1,5 +1,6 @@
 -- The places of masks: no two of them overlap.
-use Rattle.std.proofs.Common.{◌≡◌, ◌<◌, ◌≤◌, ℕ, ◌+◌, ◌-◌, ◌*◌, ◌/◌, ◌%◌, ◌^◌, min, inl, inr, ◌⊎◌, ap, sym, ◌∙◌, subst, arith, ℤ, List, length, set, length-set, w32, to_z}
+use Rattle.std.proofs.Common.{◌≡◌, ◌<◌, ◌≤◌, ℕ, ◌+◌, ◌-◌, ◌*◌, ◌/◌, ◌%◌, ◌^◌, min, inl, inr, ◌⊎◌, ap, sym, ◌∙◌, subst, arith, ℤ, List, length, set}
+use Rattle.std.proofs.Common.{length-set, w32, to_z}
 use Rattle.std.proofs.Math.Nat.{mul_assoc}
 use Rattle.std.proofs.lemmas.Bool.{cases_lt, cases_eq}
 use Rattle.std.proofs.lemmas.Int.{of_z-to_z}
@@ -67,7 +68,8 @@ same_from cells i j low high apart = grind (arith, get_or-set_other)
 put_from : (cells : List ℤ) (i low high : ℕ) → i + 1 < length cells → low < 2 ^ 32 → high < 2 ^ 32 → mask_from (put_at cells i low high) i ≡ low + 2 ^ 32 * high
 put_from cells i low high within small small' = grind (arith, get_or-set_same, get_or-set_other, of_z-to_z, length-set)
 
-module _ (cells : List ℤ) (r slot mask : ℕ) (whole : length cells % 64 ≡ 0) (block : 64 * r < length cells) (few : slot < 32) (fits : mask < 2 ^ 64) (within : place (length cells / 64) r slot + 1 < length cells) where
+module _ (cells : List ℤ) (r slot mask : ℕ) (whole : length cells % 64 ≡ 0) (block : 64 * r < length cells) (few : slot < 32) (fits : mask < 2 ^ 64)
+    (within : place (length cells / 64) r slot + 1 < length cells) where
   abbrev put : List ℤ
   put = put_at cells (place (length cells / 64) r slot) (mask % 2 ^ 32) (mask / 2 ^ 32)
 

@@ -1,5 +1,6 @@
 -- What the masks of a block say of its positions and sets.
-use Rattle.std.proofs.Common.{◌≡◌, ℕ, ◌+◌, ◌*◌, ◌/◌, ◌%◌, ◌^◌, ◌<◌, ◌≤◌, ℤ, Bool, true, false, ◌||◌, List, ◌++◌, nat_le, ap, sym, ◌∙◌, subst, arith, zero-add, zero, suc, add-one, ◌==◌, pow-suc, pow_mono}
+use Rattle.std.proofs.Common.{◌≡◌, ℕ, ◌+◌, ◌*◌, ◌/◌, ◌%◌, ◌^◌, ◌<◌, ◌≤◌, ℤ, Bool, true, false, ◌||◌, List, ◌++◌, nat_le, ap, sym, ◌∙◌, subst, arith}
+use Rattle.std.proofs.Common.{zero-add, zero, suc, add-one, ◌==◌, pow-suc, pow_mono}
 use Rattle.std.specs.List.{list_any}
 use Rattle.std.proofs.lemmas.List.Folds.{list_any-append}
 use Rattle.std.proofs.lemmas.Nat.{pow_pos, mod_below, div-add-mod'}
@@ -49,7 +50,8 @@ any_from_zero f at count e = e ∙ ap (λ s. list_any f (span s count)) (zero-ad
 -- ---- sets
 
 -- the positions of two spans
-pub any_of_both : {a b : Bool} (f : ℕ → Bool) (s m t n : ℕ) → a ≡ list_any f (span s m) → b ≡ list_any f (span t n) → (a || b) ≡ list_any f (span s m ++ span t n)
+pub any_of_both : {a b : Bool} (f : ℕ → Bool) (s m t n : ℕ) → a ≡ list_any f (span s m) → b ≡ list_any f (span t n) →
+    (a || b) ≡ list_any f (span s m ++ span t n)
 any_of_both {a} {b} f s m t n p q = ap (λ x. x || b) p ∙ ap (λ y. list_any f (span s m) || y) q ∙ sym (list_any-append f (span s m) (span t n))
 
 -- a nibble is below 16

@@ -1,5 +1,6 @@
 -- The numbers of the blocks of a segment, kept as masks of bits. (This project's own.)
-use Rattle.std.specs.Prelude.{◌≡◌, ◌<◌, ◌≤◌, ℕ, ◌+◌, ◌-◌, ◌*◌, ◌/◌, ◌%◌, ◌^◌, ◌⊎◌, ℤ, pos, Bool, true, ◌||◌, unsigned_abs, List, length, map, if◌then◌else◌, nat_lt}
+use Rattle.std.specs.Prelude.{◌≡◌, ◌<◌, ◌≤◌, ℕ, ◌+◌, ◌-◌, ◌*◌, ◌/◌, ◌%◌, ◌^◌, ◌⊎◌, ℤ, pos, Bool, true, ◌||◌, unsigned_abs, List, length, map, if◌then◌else◌}
+use Rattle.std.specs.Prelude.{nat_lt}
 use Rattle.std.specs.List.{range_with_len}
 use Rattle.std.specs.Int.{div_ceil}
 use lib.ListN.{get_or}
@@ -87,6 +88,7 @@ pub record PutsPlanes (planes step r : ℕ) (block : List ℤ) (old new : List �
 -- the first `count` words from a place on got the bits of those from another place on, and all other words stay
 pub record JoinsWords (to from count : ℕ) (old new : List ℕ) : Type 0 where
   pub long : length new ≡ length old
-  pub here : (r : ℕ) (f g : ℕ → Bool) → r < count → Shows (get_or old (to + r) 0) f 0 64 → Shows (get_or old (from + r) 0) g 0 64 → Shows (get_or new (to + r) 0) (λ k. f k || g k) 0 64
+  pub here : (r : ℕ) (f g : ℕ → Bool) → r < count → Shows (get_or old (to + r) 0) f 0 64 → Shows (get_or old (from + r) 0) g 0 64 →
+      Shows (get_or new (to + r) 0) (λ k. f k || g k) 0 64
   pub others : (i : ℕ) → (i < to) ⊎ (to + count ≤ i) → get_or new i 0 ≡ get_or old i 0
   pub fit : AreWords old → AreWords new

@@ -60,8 +60,9 @@ pub record PutsMask (r slot mask : ℕ) (old new : List ℤ) : Type 0 where
 -- the masks of what is significant above a plane got what has the plane's bit, for the first `blocks` blocks, and all other masks stay
 pub record Settles (plane blocks : ℕ) (old new : List ℤ) : Type 0 where
   pub long : length new ≡ length old
-  pub told : (r : ℕ) (f g : ℕ → Bool) → r < blocks → 64 * r < length old → Shows (mask_in old r above_slot) f 0 64 → Shows (mask_in old r plane) g 0 64 →
+  pub if_known : (r : ℕ) (f g : ℕ → Bool) → r < blocks → 64 * r < length old → Shows (mask_in old r above_slot) f 0 64 → Shows (mask_in old r plane) g 0 64 →
       Shows (mask_in new r above_slot) (λ p. f p || g p) 0 64
-  pub bits : (r k : ℕ) → r < blocks → 64 * r < length old → k < 64 → bit (mask_in new r above_slot) k ≡ (bit (mask_in old r above_slot) k || bit (mask_in old r plane) k)
+  pub bits : (r k : ℕ) → r < blocks → 64 * r < length old → k < 64 →
+      bit (mask_in new r above_slot) k ≡ (bit (mask_in old r above_slot) k || bit (mask_in old r plane) k)
   pub later : (r : ℕ) → blocks ≤ r → 64 * r < length old → mask_in new r above_slot ≡ mask_in old r above_slot
   pub other_slots : (r s : ℕ) → 64 * r < length old → s < 32 → (s ≡ above_slot → ⊥) → mask_in new r s ≡ mask_in old r s

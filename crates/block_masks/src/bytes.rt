@@ -30,7 +30,7 @@ fn bytes_of(block: &[i32], start: usize, from: u8) -> u8x16
 fn highest(bytes: u8x16) -> u64
     requires long { length bytes ≡ 16 }
     requires few { (k : ℕ) → k < 16 → slice_index_or bytes k 0 < 256 }
-    ensures told { (k : ℕ) → k < 16 → bit result k ≡ bit (slice_index_or bytes k 0) 7 }
+    ensures if_known { (k : ℕ) → k < 16 → bit result k ≡ bit (slice_index_or bytes k 0) 7 }
     ensures small { result < 2 ^ 16 }
 {
     bytes.simd_ge(u8x16::splat(128)).to_bitmask()
@@ -45,21 +45,22 @@ fn doubled(bytes: u8x16) -> u8x16
     bytes + bytes
 }
 
-// Returns the masks of eight planes from one on: which numbers of a block have the bit of the plane in their magnitude. All magnitudes
-// are below 2^28.
+// Returns masks of eight planes from one on, of which the `count` highest say which numbers of a block have the bit of the plane in their
+// magnitude. All magnitudes are below 2^28.
 #[inline(always)]
-pub(crate) fn eight_planes(block: &[i32], from: u8) -> [u64; 8]
+pub(crate) fn high_planes(block: &[i32], from: u8, count: u8) -> [u64; 8]
     requires whole { length block.now ≡ 64 }
     requires low { from < 32 }
+    requires few { count ≤ 8 }
     requires small { (k : ℕ) → magnitude block.now k < 2 ^ 28 }
-    ensures { (i : ℕ) → i < 8 → Shows (slice_index_or result i 0) (λ p. bit (magnitude block.now p) (from + i)) 0 64 }
+    ensures { (i : ℕ) → i < 8 → 8 ≤ i + count → Shows (slice_index_or result i 0) (λ p. bit (magnitude block.now p) (from + i)) 0 64 }
 {
     let mut first = bytes_of(block, 0, from);
     let mut second = bytes_of(block, 16, from);
     let mut third = bytes_of(block, 32, from);
     let mut fourth = bytes_of(block, 48, from);
     let mut masks = [0; 8];
-    for doublings in 0..8 {
+    for doublings in 0..count as usize {
         masks[7 - doublings] = whole(
             highest(first),
             highest(second),

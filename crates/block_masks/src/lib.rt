@@ -1,6 +1,9 @@
 //! This crate has the numbers of a block in a bit plane as masks of 64 bits, and what the writer and the reader of a plane
 //! share (docs/formats.md, "Bit planes").
 //!
+//! Layer: transform and blocks. It uses `base_122`, `item_defs`, `wave_defs`, `plane_defs` and `block_families`. It is used by
+//! `plane_coder`, `plane_reader`, `segment_code` and `layer_tests`.
+//!
 //! Bit k of a mask is for the k-th position. `plan` makes a `CodedPlane` of a `PlanePlan`, once for all blocks. `masks` and
 //! `bytes` read a block, `mask_sets` makes masks of masks, `sets` finds the sets of positions that have a member of a mask, and `picks`
 //! collects the bits of up to four positions. `walk` goes over the positions of a mask. `segment_masks` has the masks of a segment that

@@ -9,7 +9,7 @@ ghost use Rattle.block_masks.specs.Masks.{Shows};
 #[inline(always)]
 pub fn both(a: u64, b: u64) -> u64
     ensures within { result ≤ a }
-    ensures told { (f g : ℕ → Bool) (start count : ℕ) → Shows a f start count → Shows b g start count → Shows result (λ p. f p && g p) start count }
+    ensures if_known { (f g : ℕ → Bool) (start count : ℕ) → Shows a f start count → Shows b g start count → Shows result (λ p. f p && g p) start count }
 {
     a & b
 }
@@ -18,7 +18,7 @@ pub fn both(a: u64, b: u64) -> u64
 #[inline(always)]
 pub fn except(a: u64, b: u64) -> u64
     ensures within { (count : ℕ) → b < 2 ^ count → result < 2 ^ count }
-    ensures told { (f g : ℕ → Bool) (start count : ℕ) → Shows a f start count → Shows b g start count → Shows result (λ p. not (f p) && g p) start count }
+    ensures if_known { (f g : ℕ → Bool) (start count : ℕ) → Shows a f start count → Shows b g start count → Shows result (λ p. not (f p) && g p) start count }
 {
     b ^ (a & b)
 }
@@ -36,7 +36,7 @@ pub fn either(a: u64, b: u64) -> u64
 pub fn part(mask: u64, at: u8, count: u8) -> u64
     requires at { at < 64 }
     requires count { count < 64 }
-    ensures told { (f : ℕ → Bool) (start whole : ℕ) → Shows mask f start whole → at + count ≤ whole → Shows result f (start + at) count }
+    ensures if_known { (f : ℕ → Bool) (start whole : ℕ) → Shows mask f start whole → at + count ≤ whole → Shows result f (start + at) count }
     ensures within { result < 2 ^ count }
 {
     (mask >> at) & ((1 << count) - 1)
@@ -49,7 +49,7 @@ pub fn joined(low: u64, high: u64, at: u8) -> u64
     requires low { low < 2 ^ at }
     requires high { high < 2 ^ (64 - at) }
     ensures within { (count : ℕ) → high < 2 ^ count → result < 2 ^ (at + count) }
-    ensures told { (f : ℕ → Bool) (start count : ℕ) → Shows low f start at → Shows high f (start + at) count → Shows result f start (at + count) }
+    ensures if_known { (f : ℕ → Bool) (start count : ℕ) → Shows low f start at → Shows high f (start + at) count → Shows result f start (at + count) }
 {
     (high << at) | low
 }
@@ -67,7 +67,7 @@ pub fn has(mask: u64, k: u8) -> bool
 #[inline(always)]
 pub fn masked(mask: u64, holds: bool) -> u64
     ensures within { result ≤ mask }
-    ensures told { (f : ℕ → Bool) (start count : ℕ) → Shows mask f start count → Shows result (λ p. f p && holds) start count }
+    ensures if_known { (f : ℕ → Bool) (start count : ℕ) → Shows mask f start count → Shows result (λ p. f p && holds) start count }
 {
     if holds { mask } else { 0 }
 }
@@ -76,7 +76,7 @@ pub fn masked(mask: u64, holds: bool) -> u64
 #[inline(always)]
 pub fn one(holds: bool) -> u64
     ensures within { result < 2 }
-    ensures told { (start : ℕ) → Shows result (λ p. holds) start 1 }
+    ensures if_known { (start : ℕ) → Shows result (λ p. holds) start 1 }
 {
     u64::from(holds)
 }
@@ -92,7 +92,7 @@ pub fn is_any(mask: u64) -> bool
 /// Returns a mask of three positions.
 #[inline(always)]
 pub fn three(a: bool, b: bool, c: bool) -> u64
-    ensures told { (f : ℕ → Bool) → f 0 ≡ a → f 1 ≡ b → f 2 ≡ c → Shows result f 0 3 }
+    ensures if_known { (f : ℕ → Bool) → f 0 ≡ a → f 1 ≡ b → f 2 ≡ c → Shows result f 0 3 }
     ensures within { result < 8 }
 {
     u64::from(a) + 2 * u64::from(b) + 4 * u64::from(c)
@@ -101,7 +101,7 @@ pub fn three(a: bool, b: bool, c: bool) -> u64
 /// Returns a mask of four positions.
 #[inline(always)]
 pub fn four(a: bool, b: bool, c: bool, d: bool) -> u64
-    ensures told { (f : ℕ → Bool) → f 0 ≡ a → f 1 ≡ b → f 2 ≡ c → f 3 ≡ d → Shows result f 0 4 }
+    ensures if_known { (f : ℕ → Bool) → f 0 ≡ a → f 1 ≡ b → f 2 ≡ c → f 3 ≡ d → Shows result f 0 4 }
     ensures within { result < 16 }
 {
     u64::from(a) + 2 * u64::from(b) + 4 * u64::from(c) + 8 * u64::from(d)

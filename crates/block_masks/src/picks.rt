@@ -62,7 +62,8 @@ const PICKS: [[u8; 16]; 16] = [
 pub fn pick(due: u64, bits: u64) -> u8
     requires due { due < 16 }
     requires bits { bits < 16 }
-    ensures picked { (f g : ℕ → Bool) (start count : ℕ) → count ≤ 4 → Shows due g start count → Shows bits f start count → result ≡ packed (map f (filter g (span start count))) }
+    ensures picked { (f g : ℕ → Bool) (start count : ℕ) → count ≤ 4 → Shows due g start count → Shows bits f start count →
+        result ≡ packed (map f (filter g (span start count))) }
     ensures within { result < 80 }
     ensures fits { result % 16 < 2 ^ (result / 16) }
 {

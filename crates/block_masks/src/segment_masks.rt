@@ -1,6 +1,7 @@
 // The numbers of a segment as masks of bits.
 
-ghost use Rattle.std.specs.Prelude.{◌≡◌, ◌+◌, ◌-◌, ◌*◌, ◌≤◌, ◌<◌, ◌^◌, ◌++◌, ℕ, IfOk, List, [], false, length, min, replicate, vec_len, vec_capacity, pos, slice_index_or};
+ghost use Rattle.std.specs.Prelude.{◌≡◌, ◌+◌, ◌-◌, ◌*◌, ◌≤◌, ◌<◌, ◌^◌, ◌++◌, ℕ, IfOk, List, [], false, length, min, replicate, vec_len, vec_capacity, pos};
+ghost use Rattle.std.specs.Prelude.{slice_index_or};
 ghost use Rattle.item_defs.specs.Bits.{bit};
 ghost use Rattle.wave_defs.specs.Held.{block_at};
 ghost use Rattle.plane_defs.specs.Sets.{magnitude};
@@ -8,7 +9,7 @@ ghost use Rattle.plane_defs.specs.Entries.{negative as is_negative};
 ghost use Rattle.block_masks.specs.Masks.{Shows};
 ghost use Rattle.block_masks.specs.SegmentNumbers.{AreAbove, PutsPlanes, JoinsWords, step_for};
 
-use crate::bytes::eight_planes;
+use crate::bytes::high_planes;
 use crate::mask_sets::{either, one};
 use crate::masks::all_negative;
 use std::alloc::{AllocError, Global};
@@ -49,9 +50,15 @@ impl Model for SegmentMasks {
 
     ghost Value = { SegmentNumbers };
 
-    ghost view = { λ s. record { most = s.most; numbers = numbers_at s.words.items s.step s.dcs.items; above = above_at s.words.items s.step (length s.dcs.items) } };
+    ghost view = { λ s. record {
+      most = s.most;
+      numbers = numbers_at s.words.items s.step s.dcs.items;
+      above =
+          above_at s.words.items s.step (length s.dcs.items);
+    } };
 
-    ghost invariant = { λ s. HasRoom s.most s.step s.slots (vec_len s.words) (vec_capacity s.words) (vec_len s.dcs) (vec_capacity s.dcs) × AreMasks s.words.items s.step s.dcs.items };
+    ghost invariant = { λ s. HasRoom s.most s.step s.slots (vec_len s.words) (vec_capacity s.words) (vec_len s.dcs) (vec_capacity s.dcs) × AreMasks
+        s.words.items s.step s.dcs.items };
 }
 
 // Returns how far slots are apart.
@@ -96,14 +103,36 @@ fn put_eight_planes(words: &mut [u64], at: WordsOfBlock, block: &[i32], from: u8
     requires most { at.slots ≤ 29 }
     requires from { from < 32 }
     requires small { (k : ℕ) → magnitude block.now k < 2 ^ 28 }
-    ensures { (start : List ℕ) → PutsPlanes (min from (at.slots - 2)) at.step at.block block.now start words.old → PutsPlanes (min (from + 8) (at.slots - 2)) at.step at.block block.now start words.new }
+    ensures { (start : List ℕ) → PutsPlanes (min from (at.slots - 2)) at.step at.block block.now start words.old →
+        PutsPlanes (min (from + 8) (at.slots - 2)) at.step at.block block.now start words.new }
 {
-    let masks = eight_planes(block, from);
+    let masks = high_planes(block, from, 8);
     for i in 0..8u8 {
         let slot = PLANES + (from + i) as usize;
         if slot < at.slots {
             words[at.step * slot + at.block] = masks[i as usize];
         }
+    }
+}
+
+// Puts the masks of the highest `count` planes below `planes`, at most eight of at least nine, for a block.
+fn put_high_planes(words: &mut [u64], at: WordsOfBlock, block: &[i32], planes: u8, count: u8)
+    requires whole { length block.now ≡ 64 }
+    requires within { at.block < at.step }
+    requires long { length words.old ≡ at.step * at.slots }
+    requires least { planes + 2 ≤ at.slots }
+    requires most { at.slots ≤ 29 }
+    requires many { 8 ≤ planes }
+    requires few { count ≤ 8 }
+    requires small { (k : ℕ) → magnitude block.now k < 2 ^ 28 }
+    ensures { (start : List ℕ) → PutsPlanes (planes - count) at.step at.block block.now start words.old →
+        PutsPlanes planes at.step at.block block.now start words.new }
+{
+    let from = planes - 8;
+    let masks = high_planes(block, from, count);
+    for i in 8 - count..8 {
+        let slot = PLANES + (from + i) as usize;
+        words[at.step * slot + at.block] = masks[i as usize];
     }
 }
 
@@ -118,18 +147,20 @@ fn put_planes(words: &mut [u64], at: WordsOfBlock, block: &[i32], planes: u8)
     requires none { (k p : ℕ) → planes ≤ p → p < 27 → bit (magnitude block.now k) p ≡ false }
     ensures { PutsPlanes 27 at.step at.block block.now words.old words.new }
 {
-    let eights = planes.div_ceil(8);
+    put_eight_planes(words, at, block, 0);
+    let eights = planes.saturating_sub(1) / 8;
     // Each number of planes that is passed by is known to the compiler.
-    for eight in 0..eights {
+    for eight in 1..eights {
         match eight {
-            0 => put_eight_planes(words, at, block, 0),
             1 => put_eight_planes(words, at, block, 8),
-            2 => put_eight_planes(words, at, block, 16),
-            _ => put_eight_planes(words, at, block, 24),
+            _ => put_eight_planes(words, at, block, 16),
         }
     }
+    if eights > 0 {
+        put_high_planes(words, at, block, planes, planes - 8 * eights);
+    }
     let count = at.slots as u8 - 2;
-    for plane in (8 * eights).min(count)..count {
+    for plane in planes.max(8).min(count)..count {
         words[at.step * (PLANES + plane as usize) + at.block] = 0;
     }
 }

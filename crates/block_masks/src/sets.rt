@@ -80,7 +80,7 @@ pub fn quads_of(mask: u64, i: u8) -> u64
 pub fn fours_of(mask: u64, at: u8) -> u64
     requires { at < 64 }
     ensures within { result < 16 }
-    ensures told { (j : ℕ) → j < 4 → bit result j ≡ list_any (bit mask) (span (at + 4 * j) 4) }
+    ensures if_known { (j : ℕ) → j < 4 → bit result j ≡ list_any (bit mask) (span (at + 4 * j) 4) }
 {
     let here = mask >> at;
     let pairs = here | (here >> 1);

@@ -29,12 +29,15 @@ module _ (apid : ℕ) where
   after_picked s [] = refl
   after_picked s (packet ∷ packets) = by_test (λ s. after_picked s packets) (is_picked apid None packet) refl
     where
-      by_test : ((s : FateState) → after_all apid s (picked_of apid None packets) ≡ after_all apid s packets) → (b : Bool) → is_picked apid None packet ≡ b → after_all apid s (cond b (packet ∷ picked_of apid None packets) (picked_of apid None packets)) ≡ after_all apid (after apid s packet) packets
+      by_test : ((s : FateState) → after_all apid s (picked_of apid None packets) ≡ after_all apid s packets) → (b : Bool) →
+          is_picked apid None packet ≡ b → after_all apid s (cond b (packet ∷ picked_of apid None packets) (picked_of apid None packets))
+          ≡ after_all apid (after apid s packet) packets
       by_test rest true e = rest (after apid s packet)
       by_test rest false e = rest s ∙ ap (λ s. after_all apid s packets) (sym (other_leaves s packet e))
 
   -- the same packets are kept of two lists if this holds for what follows a first packet
-  kept_same : (s : FateState) (packet : List ℕ) (xs ys : List (List ℕ)) → kept apid (after apid s packet) xs ≡ kept apid (after apid s packet) ys → kept apid s (packet ∷ xs) ≡ kept apid s (packet ∷ ys)
+  kept_same : (s : FateState) (packet : List ℕ) (xs ys : List (List ℕ)) → kept apid (after apid s packet) xs ≡ kept apid (after apid s packet) ys →
+      kept apid s (packet ∷ xs) ≡ kept apid s (packet ∷ ys)
   kept_same s packet xs ys same = elim (does apid s packet) [
     | inl lost ↦ lost.kept_are xs ∙ same ∙ sym (lost.kept_are ys)
     | inr (inl begins) ↦ begins.kept_are xs ∙ ap (λ zs. packet ∷ zs) same ∙ sym (begins.kept_are ys)
@@ -54,7 +57,8 @@ module _ (apid : ℕ) where
   kept_picked s [] = refl
   kept_picked s (packet ∷ packets) = by_test (λ s. kept_picked s packets) (is_picked apid None packet) refl
     where
-      by_test : ((s : FateState) → kept apid s (picked_of apid None packets) ≡ kept apid s packets) → (b : Bool) → is_picked apid None packet ≡ b → kept apid s (cond b (packet ∷ picked_of apid None packets) (picked_of apid None packets)) ≡ kept apid s (packet ∷ packets)
+      by_test : ((s : FateState) → kept apid s (picked_of apid None packets) ≡ kept apid s packets) → (b : Bool) → is_picked apid None packet ≡ b →
+          kept apid s (cond b (packet ∷ picked_of apid None packets) (picked_of apid None packets)) ≡ kept apid s (packet ∷ packets)
       by_test rest true e = kept_same s packet (picked_of apid None packets) packets (rest (after apid s packet))
       by_test rest false e = rest s ∙ sym (kept_past s packet packets e)
 

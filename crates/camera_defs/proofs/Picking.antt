@@ -29,7 +29,8 @@ filter_narrower : (p q : List ℕ → Bool) → ((x : List ℕ) → q x ≡ true
 filter_narrower p q narrower [] = refl
 filter_narrower p q narrower (x ∷ packets) = by_tests (filter_narrower p q narrower packets) (p x) (q x) refl refl
   where
-    by_tests : filter q (filter p packets) ≡ filter q packets → (a b : Bool) → p x ≡ a → q x ≡ b → filter q (cond a (x ∷ filter p packets) (filter p packets)) ≡ cond b (x ∷ filter q packets) (filter q packets)
+    by_tests : filter q (filter p packets) ≡ filter q packets → (a b : Bool) → p x ≡ a → q x ≡ b →
+        filter q (cond a (x ∷ filter p packets) (filter p packets)) ≡ cond b (x ∷ filter q packets) (filter q packets)
     by_tests rest true true ea eb = rw eb (ap (λ zs. x ∷ zs) rest)
     by_tests rest true false ea eb = rw eb rest
     by_tests rest false true ea eb = absurd (false≢true (sym ea ∙ narrower x eb))
@@ -61,7 +62,8 @@ image_own apid (Some number) packet e =
 
 picked_splits : (octets : List ℕ) (apid : ℕ) (image : Option ℕ) → Splits (picked octets apid image) (picked_of apid image (whole_packets octets)) []
 picked_splits octets apid image =
-    joined_splits (picked_of apid image (whole_packets octets)) (each_picked IsPacket (is_picked apid image) (whole_packets octets) (whole_splits octets).packets_are)
+    joined_splits (picked_of apid image (whole_packets octets)) (each_picked IsPacket (is_picked apid image) (whole_packets octets)
+    (whole_splits octets).packets_are)
 
 pub picked_whole : (octets : List ℕ) (apid : ℕ) (image : Option ℕ) → whole_packets (picked octets apid image) ≡ picked_of apid image (whole_packets octets)
 picked_whole octets apid image = splits_whole (picked_splits octets apid image)
@@ -74,5 +76,6 @@ picks_whole octets apid image =
       whole = picked_whole octets apid image;
       left = splits_left (picked_splits octets apid image);
       again = ap (λ ps. joined (filter by ps)) (picked_whole octets apid image) ∙ ap joined (filter_narrower by by (λ x e. e) packets);
-      of_apid = ap (λ ps. joined (filter by ps)) (picked_whole octets apid None) ∙ ap joined (filter_narrower (is_picked apid None) by (image_own apid image) packets);
+      of_apid = ap (λ ps. joined (filter by ps)) (picked_whole octets apid None)
+          ∙ ap joined (filter_narrower (is_picked apid None) by (image_own apid image) packets);
     }

@@ -1,4 +1,7 @@
 //! The definitions of packets that are picked from a stream by their APID and image.
+//!
+//! Layer: definitions and their laws, no code. It uses `packet_defs` and `stream_defs`. It is used by `image_info`, `camera_mux` and
+//! `strip122`.
 #![tactic(auto)]
 
 ghost use Rattle.camera_defs.specs.PickLaws.{PickingKeeps};

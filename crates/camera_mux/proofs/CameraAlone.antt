@@ -1,5 +1,6 @@
 -- The packets of a camera's APID, of all that is given, are those that its rows settle.
-use Rattle.std.proofs.Common.{◌≡◌, inl, inr, ◌≤◌, ◌<◌, ◌+◌, ◌*◌, ℕ, zero, suc, ℤ, List, [], ◌∷◌, ◌++◌, length, take, refl, sym, ap, subst, ◌∙◌, arith, length-append, Bool, true, ◌==◌, ◌&&◌, ◌||◌, not, nat_lt, None}
+use Rattle.std.proofs.Common.{◌≡◌, inl, inr, ◌≤◌, ◌<◌, ◌+◌, ◌*◌, ℕ, zero, suc, ℤ, List, [], ◌∷◌, ◌++◌, length, take, refl, sym, ap, subst, ◌∙◌, arith}
+use Rattle.std.proofs.Common.{length-append, Bool, true, ◌==◌, ◌&&◌, ◌||◌, not, nat_lt, None}
 use Rattle.std.specs.List.{AllByRecursion, flat_map}
 use Rattle.std.proofs.lemmas.Bool.{cases_lt, false≢true, ne_eqb}
 use Rattle.std.proofs.lemmas.Bool.Decides.{nat_tests}
@@ -14,9 +15,9 @@ use Rattle.packet_defs.specs.Packets.{joined}
 use Rattle.packet_defs.specs.Streams.{IsPacket, left_over, whole_packets}
 use Rattle.packet_defs.proofs.Joins.{joined-append}
 use Rattle.packet_defs.proofs.Splits.{splits_whole, splits_left, joined_splits}
-use Rattle.stream_defs.specs.Output.{image_blocks, tells_last}
+use Rattle.stream_defs.specs.Output.{image_blocks, reports_last}
 use Rattle.stream_defs.specs.Settled.{last_block_row}
-use Rattle.stream_defs.specs.SettledImages.{front_packets, settled_in}
+use Rattle.stream_defs.specs.SettledImages.{leading_packets, settled_in}
 use Rattle.stream_defs.proofs.Outputs.{packets_of-none}
 use Rattle.stream_defs.proofs.SettledLaws.{settled_first}
 use Rattle.stream_defs.proofs.ImageLaws.{settled_rises}
@@ -31,12 +32,12 @@ use Rattle.camera_mux.specs.MuxOut.{settled_by, mux_out}
 use Rattle.camera_mux.specs.MuxProgress.{AreSettings}
 use Rattle.camera_mux.specs.MuxLaws.{KeepsCamera}
 use Rattle.camera_mux.proofs.RecordLaws.{count_own, raster_own, records_other, out_with}
-use Rattle.camera_mux.proofs.FrontPackets.{next_packets, front_more}
+use Rattle.camera_mux.proofs.LeadingPackets.{next_packets, prefix_more}
 use Rattle.camera_mux.proofs.OwnPackets.{IsOwn, own_segments, are_whole, own_picked, others_left}
 
 -- the packets that rows of a raster settle
 abbrev settled_packets : Setting → (raster : List ℕ) (k : ℕ) → List (List ℕ)
-settled_packets s raster k = front_packets s (tallest s) (image_of s raster) (settled_in s (tallest s) k)
+settled_packets s raster k = leading_packets s (tallest s) (image_of s raster) (settled_in s (tallest s) k)
 
 -- What is given for records is whole packets, of which those of a camera's APID are those that its rows settle.
 pub record HasPackets (settings : List Setting) (records : List CameraRow) : Type 0 where
@@ -46,7 +47,8 @@ pub record HasPackets (settings : List Setting) (records : List CameraRow) : Typ
   pub rasters : (camera : ℕ) → camera < length settings → length (raster_of camera records) ≡ count_of camera records * row_length (setting_at settings camera)
   pub counts : (camera : ℕ) → camera < length settings → count_of camera records ≤ (setting_at settings camera).rows
   pub own : (camera : ℕ) → camera < length settings →
-      picked_of (setting_at settings camera).apid None packets ≡ settled_packets (setting_at settings camera) (raster_of camera records) (count_of camera records)
+      picked_of (setting_at settings camera).apid None packets ≡ settled_packets (setting_at settings camera) (raster_of camera records)
+      (count_of camera records)
 
 -- ---- no record
 
@@ -55,21 +57,23 @@ unfolding mux_out
 no_octets settings = refl
 
 module _ (s : Setting) (range : IsInRange s) (known : s.rows ≡ 0 → ⊥) where
-  not_settled : (m : ℕ) (told : Bool) → (not told && (0 == s.rows) || nat_lt m 0) ≡ true → ⊥
-  not_settled m told e = grind (arith, nat_tests, ne_eqb, nat_lt, false≢true)
+  not_settled : (m : ℕ) (if_known : Bool) → (not if_known && (0 == s.rows) || nat_lt m 0) ≡ true → ⊥
+  not_settled m if_known e = grind (arith, nat_tests, ne_eqb, nat_lt, false≢true)
 
   -- no rows settle no segment
   none_settled : settled_in s (tallest s) 0 ≡ 0
   none_settled = elim (cases_lt 0 (settled_in s (tallest s) 0)) [
     | inl some ↦
         let tall = known_tallest s known in
-        let e = settled_first (tells_last s) (sized s (tallest s)) (in_range-sized s (tallest s) range (tall_height s range)) 0 0 some in
-        absurd (not_settled (8 * last_block_row (sized s (tallest s)) 0 + 28) (tells_last s) (subst (λ n. (not (tells_last s) && (0 == n) || nat_lt (8 * last_block_row (sized s (tallest s)) 0 + 28) 0) ≡ true) tall e))
+        let e = settled_first (reports_last s) (sized s (tallest s)) (in_range-sized s (tallest s) range (tall_height s range)) 0 0 some in
+        absurd (not_settled (8 * last_block_row (sized s (tallest s)) 0 + 28) (reports_last s)
+        (subst (λ n. (not (reports_last s) && (0 == n) || nat_lt (8 * last_block_row (sized s (tallest s)) 0 + 28) 0) ≡ true) tall e))
     | inr none ↦ omega (arith, none)
   ]
 
   no_packets : (raster : List ℕ) → settled_packets s raster 0 ≡ []
-  no_packets raster = ap (front_packets s (tallest s) (image_of s raster)) none_settled ∙ packets_of-none (tells_last s) (sized s (tallest s)) (image_blocks (sized s (tallest s)) (image_of s raster))
+  no_packets raster = ap (leading_packets s (tallest s) (image_of s raster)) none_settled ∙ packets_of-none (reports_last s) (sized s (tallest s))
+      (image_blocks (sized s (tallest s)) (image_of s raster))
 
 none_given : (settings : List Setting) → AreSettings settings → HasPackets settings []
 none_given settings cameras = record {
@@ -83,7 +87,8 @@ none_given settings cameras = record {
 
 -- ---- a camera's next row
 
-module _ (s : Setting) (range : IsInRange s) (known : s.rows ≡ 0 → ⊥) (k : ℕ) (less : k < s.rows) (raster row : List ℕ) (whole : length raster ≡ k * row_length s) where
+module _ (s : Setting) (range : IsInRange s) (known : s.rows ≡ 0 → ⊥) (k : ℕ) (less : k < s.rows) (raster row : List ℕ)
+    (whole : length raster ≡ k * row_length s) where
   abbrev x : ℕ → ℕ → ℤ
   x = image_of s (raster ++ row)
 
@@ -106,8 +111,9 @@ module _ (s : Setting) (range : IsInRange s) (known : s.rows ≡ 0 → ⊥) (k :
   pub grown : settled_packets s raster k ++ new ≡ settled_packets s (raster ++ row) (k + 1)
   grown =
       let height = tall_height s range in
-      ap (λ ps. ps ++ new) (sym (images_settle s (tallest s) (tallest s) k range height height before_le before_le x (image_of s raster) (same_rows s k raster row whole)))
-      ∙ sym (front_more s (tallest s) x a b (settled_rises (tells_last s) (sized s (tallest s)) k (k + 1) (omega arith) after_le))
+      ap (λ ps. ps ++ new) (sym (images_settle s (tallest s) (tallest s) k range height height before_le before_le x (image_of s raster)
+      (same_rows s k raster row whole)))
+      ∙ sym (prefix_more s (tallest s) x a b (settled_rises (reports_last s) (sized s (tallest s)) k (k + 1) (omega arith) after_le))
 
   pub new_own : AllByRecursion (IsOwn s.apid) new
   new_own = grind (arith, nat_tests, own_segments)
@@ -118,7 +124,8 @@ module _ (s : Setting) (range : IsInRange s) (known : s.rows ≡ 0 → ⊥) (k :
   pub octets_grown : settled_octets s raster k ++ joined new ≡ settled_octets s (raster ++ row) (k + 1)
   octets_grown = grind (arith, nat_tests, settled_as, before_le, joined-append, grown, after_le)
 
-module _ (settings : List Setting) (cameras : AreSettings settings) (records : List CameraRow) (h : HasPackets settings records) (r : CameraRow) (can : CanFollow settings records r) where
+module _ (settings : List Setting) (cameras : AreSettings settings) (records : List CameraRow) (h : HasPackets settings records) (r : CameraRow)
+    (can : CanFollow settings records r) where
   abbrev s : Setting
   s = setting_at settings r.camera
 
@@ -153,7 +160,8 @@ module _ (settings : List Setting) (cameras : AreSettings settings) (records : L
   different camera lt ne e = grind (arith, nat_tests, cases_lt)
 
   other_now : (camera : ℕ) → camera < length settings → (r.camera ≡ camera → ⊥) →
-      picked_of (setting_at settings camera).apid None (h.packets ++ more) ≡ settled_packets (setting_at settings camera) (raster_of camera now) (count_of camera now)
+      picked_of (setting_at settings camera).apid None (h.packets ++ more) ≡ settled_packets (setting_at settings camera) (raster_of camera now)
+      (count_of camera now)
   other_now camera lt ne =
       let t = setting_at settings camera in
       filter-append (is_picked t.apid None) h.packets more

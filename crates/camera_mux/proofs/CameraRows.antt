@@ -6,17 +6,18 @@ use Rattle.base_122.specs.Ranges.{IsInRange}
 use Rattle.base_122.specs.declared.setting.Setting.{Setting}
 use Rattle.packet_defs.specs.Packets.{joined}
 use Rattle.raster_rows.specs.RowReads.{RowRead}
-use Rattle.stream_defs.specs.SettledImages.{front_packets, settled_in}
+use Rattle.stream_defs.specs.SettledImages.{leading_packets, settled_in}
 use Rattle.strip_coder.specs.declared.work.Work.{Work}
 use Rattle.strip_coder.specs.Plans.{tallest}
 use Rattle.strip_coder.specs.Steps.{RowIs, TakesRow, BreaksAt}
 use Rattle.strip_coder.proofs.RowTakes.{OnlyRow, row_follows_any}
-use Rattle.strip_coder.proofs.RowComes.{HoldsRow, row_values}
+use Rattle.strip_coder.proofs.RowArrives.{HoldsRow, row_values}
 use Rattle.camera_mux.proofs.SettledThrough.{settled_through}
-use Rattle.camera_mux.proofs.FrontPackets.{cut_of_more}
+use Rattle.camera_mux.proofs.LeadingPackets.{cut_of_more}
 use Rattle.camera_mux.specs.RowSteps.{HasRow, TakesOctets, TakesCameraRow, CutsCameraRow}
 
-module _ (s : Setting) (k : ℕ) (p q r : Outside) (old mid : Work) {T : Type 0} (before after : List ℤ) (done : T) (read : RowRead s.depth s.signed s.width k p q before after (Ok done)) (only : OnlyRow old mid)
+module _ (s : Setting) (k : ℕ) (p q r : Outside) (old mid : Work) {T : Type 0} (before after : List ℤ) (done : T)
+    (read : RowRead s.depth s.signed s.width k p q before after (Ok done)) (only : OnlyRow old mid)
     (holds : HoldsRow s read.took mid.row.items) where
   octets : TakesOctets s p q read.took
   octets = record { since = read.since; whole = read.answer.0; in_range = read.answer.1 }
@@ -41,6 +42,6 @@ module _ (s : Setting) (k : ℕ) (p q r : Outside) (old mid : Work) {T : Type 0}
           gave = broke.gave;
           out = broke.out;
           some = part.0;
-          front = ap (λ a. joined (front_packets s (tallest s) x a.index) ++ broke.gave) (sym only.at) ∙ broke.front ∙ part.1;
+          prefix = ap (λ a. joined (leading_packets s (tallest s) x a.index) ++ broke.gave) (sym only.at) ∙ broke.prefix ∙ part.1;
         };
   }

@@ -10,7 +10,7 @@ use Rattle.base_122.specs.declared.setting.Setting.{Setting}
 use Rattle.packet_defs.specs.Packets.{joined}
 use Rattle.raster_rows.proofs.PixelPlaces.{pixel_at-append_right}
 use Rattle.stream_defs.specs.Output.{output, segments_of}
-use Rattle.stream_defs.specs.SettledImages.{front_packets, settled_in}
+use Rattle.stream_defs.specs.SettledImages.{leading_packets, settled_in}
 use Rattle.strip_coder.specs.declared.encode.EncodeDone.{EncodeDone}
 use Rattle.strip_coder.specs.declared.work.Work.{Work}
 use Rattle.strip_coder.specs.Plans.{tallest}
@@ -19,7 +19,7 @@ use Rattle.strip_coder.specs.Works.{FollowsRows, Represents}
 use Rattle.strip_coder.specs.Steps.{RowIs, EndsImage, EndBreaks}
 use Rattle.strip_coder.proofs.PlanLaws.{tall_height, known_tallest}
 use Rattle.strip_coder.proofs.RowsGiven.{same_rows, settled_same, rows_whole}
-use Rattle.camera_mux.proofs.FrontPackets.{cut_of_more}
+use Rattle.camera_mux.proofs.LeadingPackets.{cut_of_more}
 use Rattle.camera_mux.specs.declared.camera_rows.Place.{Place}
 use Rattle.camera_mux.specs.declared.mux.MuxFault.{MuxFault}
 use Rattle.camera_mux.specs.RowSteps.{HasRow, TakesCameraRow, CutsCameraRow, FailsInRow, GivesRow, CutsRow, FailsAtRow}
@@ -44,24 +44,26 @@ module _ (s : Setting) (k : ℕ) (raster got : List ℕ) (whole : length raster 
   itself : SameWithin (k + 1) s.width (image_of s (raster ++ got)) (image_of s (raster ++ got))
   itself = record { at = λ i j hi hj. refl }
 
-module _ (s : Setting) (range : IsInRange s) (known : s.rows ≢ 0) (k : ℕ) (less : k < tallest s) (raster : List ℕ) (whole : length raster ≡ k * row_length s) (old : Work)
-    (stands : Represents s k (image_of s raster) old) where
+module _ (s : Setting) (range : IsInRange s) (known : s.rows ≢ 0) (k : ℕ) (less : k < tallest s) (raster : List ℕ)
+    (whole : length raster ≡ k * row_length s) (old : Work)
+    (valid : Represents s k (image_of s raster) old) where
   -- what was given before
-  from_is : (got : List ℕ) → settled_octets s raster k ≡ joined (front_packets s (tallest s) (image_of s (raster ++ got)) old.at.index)
+  from_is : (got : List ℕ) → settled_octets s raster k ≡ joined (leading_packets s (tallest s) (image_of s (raster ++ got)) old.at.index)
   from_is got =
       let x = image_of s (raster ++ got) in
       let le : k ≤ tallest s = omega (arith, less) in
       settled_same s (tallest s) k raster x range (tall_height s range) le le (before_is s k raster got whole x (itself s k raster got whole))
-      ∙ ap (λ n. joined (front_packets s (tallest s) x n)) (sym (stands.taken.index (inl less)))
+      ∙ ap (λ n. joined (leading_packets s (tallest s) x n)) (sym (valid.taken.index (inl less)))
 
   follows_old : (got : List ℕ) → FollowsRows s (image_of s (raster ++ got)) old
-  follows_old got = stands.follows (image_of s (raster ++ got)) (before_is s k raster got whole (image_of s (raster ++ got)) (itself s k raster got whole))
+  follows_old got = valid.follows (image_of s (raster ++ got)) (before_is s k raster got whole (image_of s (raster ++ got)) (itself s k raster got whole))
 
   has_itself : (got : List ℕ) → HasRow s (image_of s (raster ++ got)) k got
   has_itself got = has_row s k raster got whole (image_of s (raster ++ got)) (itself s k raster got whole)
 
   -- what is settled with the next row
-  next_is : (got : List ℕ) → settled_octets s (raster ++ got) (k + 1) ≡ joined (front_packets s (tallest s) (image_of s (raster ++ got)) (settled_in s (tallest s) (k + 1)))
+  next_is : (got : List ℕ) → settled_octets s (raster ++ got) (k + 1)
+      ≡ joined (leading_packets s (tallest s) (image_of s (raster ++ got)) (settled_in s (tallest s) (k + 1)))
   next_is got = grind (arith, nat_tests, settled_same, tall_height, itself)
 
   -- a write failed at the row
@@ -73,7 +75,13 @@ module _ (s : Setting) (range : IsInRange s) (known : s.rows ≢ 0) (k : ℕ) (l
         got = x.got;
         octets = x.octets;
         rose = x.rose;
-        cut = record { gave = cut.gave; out = cut.out; some = cut.some; front = ap (λ g. g ++ cut.gave) (from_is x.got) ∙ cut.front ∙ ap (take cut.some) (sym (next_is x.got)) };
+        cut = record {
+          gave = cut.gave;
+          out = cut.out;
+          some = cut.some;
+          prefix = ap (λ g. g ++ cut.gave) (from_is x.got) ∙ cut.prefix ∙ ap (take cut.some)
+              (sym (next_is x.got));
+        };
       }
 
   pub fails_given : (p q : Outside) (place : Place) (fault : MuxFault) → FailsInRow s k place p q old fault → FailsAtRow s k raster place p q fault
@@ -83,15 +91,15 @@ module _ (s : Setting) (range : IsInRange s) (known : s.rows ≢ 0) (k : ℕ) (l
     got : List ℕ
     got = takes.got
 
-    stands_next : Represents s (k + 1) (image_of s (raster ++ takes.got)) new
-    stands_next = grind (arith, nat_tests, before_is, got, has_row)
+    valid_next : Represents s (k + 1) (image_of s (raster ++ takes.got)) new
+    valid_next = grind (arith, nat_tests, before_is, got, has_row)
 
     -- rows are still to be taken
     pub gives_more : k + 1 < s.rows → GivesRow s k raster p q new (record { packets = 0; octets = 0 })
     gives_more more =
         let x = image_of s (raster ++ takes.got) in
         let goes = takes.goes x (follows_old takes.got) (has_itself takes.got) in
-        grind (arith, nat_tests, known_tallest, got, next_is, from_is, stands_next)
+        grind (arith, nat_tests, known_tallest, got, next_is, from_is, valid_next)
 
     last_row : k + 1 ≡ s.rows → RowIs s (image_of s (raster ++ takes.got)) (s.rows - 1) new
     last_row last =
@@ -108,10 +116,10 @@ module _ (s : Setting) (range : IsInRange s) (known : s.rows ≢ 0) (k : ℕ) (l
     gives_last end done last ends =
         let x = image_of s (raster ++ takes.got) in
         let goes = takes.goes x (follows_old takes.got) (has_itself takes.got) in
-        let then = ends.goes x (stands_next.follows x (itself s k raster takes.got whole)) (last_row last) in
-        let for_image = ends.done x (stands_next.follows x (itself s k raster takes.got whole)) (last_row last) in
+        let then = ends.goes x (valid_next.follows x (itself s k raster takes.got whole)) (last_row last) in
+        let for_image = ends.done x (valid_next.follows x (itself s k raster takes.got whole)) (last_row last) in
         let tall = known_tallest s known in
-        let first : settled_octets s raster k ++ goes.gave ≡ joined (front_packets s s.rows x new.at.index) = grind (arith, nat_tests, from_is, got) in
+        let first : settled_octets s raster k ++ goes.gave ≡ joined (leading_packets s s.rows x new.at.index) = grind (arith, nat_tests, from_is, got) in
         record {
           between = takes.between;
           got = takes.got;
@@ -119,7 +127,7 @@ module _ (s : Setting) (range : IsInRange s) (known : s.rows ≢ 0) (k : ℕ) (l
           gave = goes.gave ++ then.gave;
           out = since_out goes.out then.out;
           then_are = sym (append_assoc (settled_octets s raster k) goes.gave then.gave) ∙ ap (λ g. g ++ then.gave) first ∙ then.then_are ∙ sym (last_is last);
-          stands = λ less. absurd (omega (arith, less, last));
+          valid = λ less. absurd (omega (arith, less, last));
           done_is = record { last = λ e. (for_image.packets, for_image.octets); before = λ ne. absurd (ne last) };
         }
 
@@ -128,9 +136,9 @@ module _ (s : Setting) (range : IsInRange s) (known : s.rows ≢ 0) (k : ℕ) (l
     cuts_last end last ends =
         let x = image_of s (raster ++ takes.got) in
         let goes = takes.goes x (follows_old takes.got) (has_itself takes.got) in
-        let broke = ends.breaks x (stands_next.follows x (itself s k raster takes.got whole)) (last_row last) in
+        let broke = ends.breaks x (valid_next.follows x (itself s k raster takes.got whole)) (last_row last) in
         let tall = known_tallest s known in
-        let first : settled_octets s raster k ++ goes.gave ≡ joined (front_packets s s.rows x new.at.index) = grind (arith, nat_tests, from_is, got) in
+        let first : settled_octets s raster k ++ goes.gave ≡ joined (leading_packets s s.rows x new.at.index) = grind (arith, nat_tests, from_is, got) in
         let inside = broke.inside in
         let part = cut_of_more s s.rows x broke.some (broke.index + 1) (segments_of (sized s s.rows)) (omega (arith, inside)) in
         record {
@@ -142,6 +150,6 @@ module _ (s : Setting) (range : IsInRange s) (known : s.rows ≢ 0) (k : ℕ) (l
             gave = goes.gave ++ broke.gave;
             out = since_out goes.out broke.out;
             some = part.0;
-            front = grind (arith, nat_tests, append_assoc, last_is);
+            prefix = grind (arith, nat_tests, append_assoc, last_is);
           };
         }

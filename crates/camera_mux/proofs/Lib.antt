@@ -1,6 +1,6 @@
 pub mod PickRuns
 pub mod PickEnds
-pub mod FrontPackets
+pub mod LeadingPackets
 pub mod SettledThrough
 pub mod CameraRows
 pub mod CameraRowsGiven

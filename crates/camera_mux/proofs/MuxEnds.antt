@@ -1,23 +1,23 @@
 -- How a mux begins and ends.
 use Rattle.std.proofs.lemmas.Bool.Decides.{nat_tests}
-use Rattle.std.proofs.Common.{◌≡◌, ◌≤◌, ◌<◌, ◌+◌, ◌-◌, ◌*◌, ◌^◌, ℕ, ℤ, List, [], ◌∷◌, length, inl, inr, refl, sym, ◌∙◌, subst, arith, suc, true, false, min, sum, slice_index, EachIndex, Ok, Err}
+use Rattle.std.proofs.Common.{◌≡◌, ◌≤◌, ◌<◌, ◌+◌, ◌-◌, ◌*◌, ◌^◌, ℕ, ℤ, List, [], ◌∷◌, length, inl, inr, refl, sym, ◌∙◌, subst, arith, suc, true, false, min}
+use Rattle.std.proofs.Common.{sum, slice_index, EachIndex, Ok, Err}
 use Rattle.std.proofs.lemmas.Bool.{cases_lt}
 use Rattle.std.proofs.lemmas.List.Sums.{sum_by-cons}
 use Rattle.camera_mux.proofs.CameraAlone.{no_octets}
 use Rattle.port_122.specs.Outside.{Outside, Exchange}
 use Rattle.port_122.proofs.Stretches.{since_start}
-use Rattle.port_122.proofs.ReadCalls.{since_asked}
 use Rattle.base_122.specs.Ranges.{IsInRange}
 use Rattle.base_122.specs.declared.setting.Setting.{Setting}
 use Rattle.raster_rows.specs.Ends.{SawEnd}
 use Rattle.strip_coder.specs.declared.work.Work.{Work}
 use Rattle.camera_mux.specs.declared.mux.MuxFault.TheVariants.{Long}
 use Rattle.camera_mux.specs.declared.muxing.Progress.{Progress}
-use Rattle.camera_mux.specs.Records.{setting_at, octets_of, AreFull}
+use Rattle.camera_mux.specs.Records.{setting_at, AreFull}
 use Rattle.camera_mux.specs.MuxOut.{mux_out, sum_of, packets_in, octets_in}
 use Rattle.camera_mux.specs.MuxProgress.{AreSettings, CanMux, AsksMux, HasMuxed, IsUnbegun}
 use Rattle.camera_mux.specs.MuxAnswers.{Muxes}
-use Rattle.camera_mux.proofs.MuxRuns.{asks_at}
+use Rattle.camera_mux.proofs.MuxRuns.{asked}
 
 -- ---- before the first record
 
@@ -44,49 +44,50 @@ left_few {settings = settings} {v = v} cameras x =
     ]) in
     grind (arith, nat_tests, length)
 
-pub none_muxed : {settings : List Setting} {works : List Work} (start : Outside) (v : Progress) → CanMux settings works → IsUnbegun settings v → HasMuxed settings works start start v
+pub none_muxed : {settings : List Setting} {works : List Work} (start : Outside) (v : Progress) → CanMux settings works → IsUnbegun settings v →
+    HasMuxed settings works start start v
 none_muxed {settings = settings} start v can x = record {
   records = [];
   accepted = record { each = λ i lt. absurd (omega (arith, lt)) };
-  since = subst (λ g. Exchange start start [] g [] (AsksMux settings [])) (sym (no_octets settings)) (since_start start (AsksMux settings []));
+  since = subst (λ g. Exchange start start [] g [] (AsksMux settings [] [])) (sym (no_octets settings)) (since_start start (AsksMux settings [] []));
   left = λ camera lt. let left = x.left camera lt in omega (arith, left);
   others = x.others;
-  ready = λ camera d lt. record { made = can.made camera d lt; stands = λ some less. absurd (omega (arith, some)) };
+  ready = λ camera d lt. record { made = can.made camera d lt; valid = λ some less. absurd (omega (arith, some)) };
   rasters = λ camera lt. omega arith;
   size = x.size;
   records_are = x.records;
   octets_are = x.octets;
-  packets_done = x.packets_done ∙ (let none = sum_none packets_in settings in let e : 0 ≡ min (sum_of packets_in settings []) (2 ^ 64 - 1) = omega (arith, none) in e);
-  octets_done = x.octets_done ∙ (let none = sum_none octets_in settings in let e : 0 ≡ min (sum_of octets_in settings []) (2 ^ 64 - 1) = omega (arith, none) in e);
+  packets_done = x.packets_done ∙ (let none = sum_none packets_in settings in let e : 0 ≡ min (sum_of packets_in settings []) (2 ^ 64 - 1) =
+      omega (arith, none) in e);
+  octets_done = x.octets_done ∙ (let none = sum_none octets_in settings in let e : 0 ≡ min (sum_of octets_in settings []) (2 ^ 64 - 1) =
+      omega (arith, none) in e);
   bound = let few = left_few can.cameras x in omega (arith, few);
   most = let none = x.octets in omega (arith, none);
 }
 
 -- ---- after the last
 
-module _ {settings : List Setting} {works : List Work} {start now : Outside} {v : Progress} (cameras : AreSettings settings) (come : HasMuxed settings works start now v) where
-  here : AsksMux settings come.records (length (octets_of come.records)) (length (mux_out settings come.records))
-  here = asks_at settings come.records (length (octets_of come.records)) (omega arith)
-
-  is_full : EachIndex v.left (λ k. slice_index v.left k ≡ 0) → AreFull settings come.records
+module _ {settings : List Setting} {works : List Work} {start now : Outside} {v : Progress} (cameras : AreSettings settings)
+    (arrived : HasMuxed settings works start now v) where
+  is_full : EachIndex v.left (λ k. slice_index v.left k ≡ 0) → AreFull settings arrived.records
   is_full none = grind (arith, nat_tests)
 
   pub all_muxed : {new : Outside} → EachIndex v.left (λ k. slice_index v.left k ≡ 0) → SawEnd now new true → Muxes settings start new (Ok v.done)
   all_muxed none x = record {
-    records = come.records;
+    records = arrived.records;
     rest = [];
-    gave = mux_out settings come.records;
-    accepted = come.accepted;
-    since = since_asked come.since x.0 here;
-    answer = (is_full none, refl, x.1, refl, come.packets_done, come.octets_done);
+    gave = mux_out settings arrived.records;
+    accepted = arrived.accepted;
+    since = asked arrived x.0;
+    answer = (is_full none, refl, x.1, refl, arrived.packets_done, arrived.octets_done);
   }
 
   pub long_muxed : {new : Outside} → EachIndex v.left (λ k. slice_index v.left k ≡ 0) → SawEnd now new false → Muxes settings start new (Err Long)
   long_muxed none x = record {
-    records = come.records;
+    records = arrived.records;
     rest = x.0 ∷ [];
-    gave = mux_out settings come.records;
-    accepted = come.accepted;
-    since = since_asked come.since x.1 here;
+    gave = mux_out settings arrived.records;
+    accepted = arrived.accepted;
+    since = asked arrived x.1;
     answer = (is_full none, refl, refl);
   }

@@ -1,21 +1,23 @@
 -- The packets of an image are whole and have its APID, so they are all picked by it, and by no other.
 use Rattle.std.proofs.lemmas.Bool.Decides.{nat_tests}
-use Rattle.std.proofs.Common.{◌≡◌, ◌≤◌, ◌<◌, ◌+◌, ◌-◌, ◌*◌, ◌%◌, ◌^◌, ℕ, zero, suc, ℤ, List, [], ◌∷◌, ◌++◌, length, map, drop, refl, sym, ap, subst, ◌∙◌, arith, length-append, length-take, Bool, false, cond, ◌==◌, None, eq-eqb, ne_eqb}
+use Rattle.std.proofs.Common.{◌≡◌, ◌≤◌, ◌<◌, ◌+◌, ◌-◌, ◌*◌, ◌%◌, ◌^◌, ℕ, zero, suc, ℤ, List, [], ◌∷◌, ◌++◌, length, map, drop, refl, sym, ap, subst, ◌∙◌}
+use Rattle.std.proofs.Common.{arith, length-append, length-take, Bool, false, cond, ◌==◌, None, eq-eqb, ne_eqb}
 use Rattle.std.specs.List.{AllByRecursion, range_with_len}
 use Rattle.byteorder.specs.Endian.{big_bytes}
 use Rattle.port_122.proofs.Stretches.{each_of_both}
 use Rattle.base_122.specs.declared.setting.Setting.{Setting}
 use Rattle.packet_defs.specs.declared.ancillary.Ancillary.{Ancillary}
-use Rattle.packet_defs.specs.Packets.{identification, sequence_control, sequence_flags, ancillary_octets, packet_with, part_count, part_of, part_packet, part_size, text_packets}
+use Rattle.packet_defs.specs.Packets.{identification, sequence_control, sequence_flags, ancillary_octets, packet_with, part_count, part_of, part_packet}
+use Rattle.packet_defs.specs.Packets.{part_size, text_packets}
 use Rattle.packet_defs.specs.Reading.{apid_in, number_at}
 use Rattle.packet_defs.specs.Streams.{IsPacket}
 use Rattle.packet_defs.specs.Written.{IsAncillary}
-use Rattle.packet_defs.proofs.Fronts.{told-append, version-append}
+use Rattle.packet_defs.proofs.Prefixes.{if_known-append, version-append}
 use Rattle.packet_defs.proofs.ReadBack.{reads_back}
 use Rattle.stream_defs.specs.Output.{ancillary_of, packets_before, segment_packets, segment_text}
 use Rattle.stream_defs.proofs.OutPackets.{flags_few}
 use Rattle.camera_defs.specs.Picked.{picked_of}
-use Rattle.camera_mux.proofs.FrontPackets.{packets_from}
+use Rattle.camera_mux.proofs.LeadingPackets.{packets_from}
 use Rattle.packet_defs.proofs.Equations.{text_packets-is}
 
 -- a whole packet with this APID
@@ -26,7 +28,7 @@ pub record IsOwn (apid : ℕ) (packet : List ℕ) : Type 0 where
 -- ---- one packet
 
 abbrev no_ancillary : Ancillary
-no_ancillary = record { image = 0; told_last = false; rows = 0; segment = 0; index = 0; first = 0; part = 0 }
+no_ancillary = record { image = 0; reported_last = false; rows = 0; segment = 0; index = 0; first = 0; part = 0 }
 
 none_fits : IsAncillary no_ancillary
 none_fits = record { image = omega arith; rows = omega arith; segment = omega arith; index = omega arith; first = omega arith; part = omega arith }
@@ -36,7 +38,8 @@ abbrev header : (apid flags number n : ℕ) → List ℕ
 header apid flags number n = big_bytes 2 (identification apid) ++ big_bytes 2 (sequence_control flags number) ++ big_bytes 2 (n - 1)
 
 -- whether it is a packet depends on its header and on its length
-same_length : (apid flags number : ℕ) (a b : List ℕ) → length a ≡ length b → IsPacket (packet_with apid flags number a) → IsPacket (packet_with apid flags number b)
+same_length : (apid flags number : ℕ) (a b : List ℕ) → length a ≡ length b → IsPacket (packet_with apid flags number a) →
+    IsPacket (packet_with apid flags number b)
 same_length apid flags number a b e p =
     let h = header apid flags number (length b) in
     let q : IsPacket (h ++ a) = subst (λ n. IsPacket (header apid flags number n ++ a)) e p in
@@ -44,10 +47,12 @@ same_length apid flags number a b e p =
     let some : 0 < length h = omega arith in
     record {
       version = version-append h b some ∙ sym (version-append h a some) ∙ q.version;
-      whole = length-append h b ∙ ap (λ n. length h + n) (sym e) ∙ sym (length-append h a) ∙ q.whole ∙ told-append h a long ∙ sym (told-append h b long);
+      whole = length-append h b ∙ ap (λ n. length h + n) (sym e) ∙ sym (length-append h a) ∙ q.whole ∙ if_known-append h a long
+          ∙ sym (if_known-append h b long);
     }
 
-own_packet : (apid flags number : ℕ) (a : Ancillary) (text : List ℕ) → apid < 2047 → flags < 4 → 24 + length text ≤ 65536 → IsOwn apid (packet_with apid flags number (ancillary_octets a ++ text))
+own_packet : (apid flags number : ℕ) (a : Ancillary) (text : List ℕ) → apid < 2047 → flags < 4 → 24 + length text ≤ 65536 →
+    IsOwn apid (packet_with apid flags number (ancillary_octets a ++ text))
 own_packet apid flags number a text own few room =
     let field = ancillary_octets a ++ text in
     let other = ancillary_octets no_ancillary ++ text in
@@ -63,23 +68,26 @@ own_packet apid flags number a text own few room =
 -- ---- the packets of a text, and of segments
 
 module _ (apid packet : ℕ) (known : apid < 2047) (least : 64 ≤ packet) (most : packet ≤ 65536) where
-  own_parts : (a : Ancillary) (before n : ℕ) (text : List ℕ) (parts : List ℕ) → AllByRecursion (IsOwn apid) (map (λ part. part_packet apid a packet before n part text) parts)
+  own_parts : (a : Ancillary) (before n : ℕ) (text : List ℕ) (parts : List ℕ) →
+      AllByRecursion (IsOwn apid) (map (λ part. part_packet apid a packet before n part text) parts)
   own_parts a before n text [] = tt
   own_parts a before n text (part ∷ parts) = (
-    own_packet apid (sequence_flags part n) (before + part) (record a { part = part }) (part_of (part_size packet) part text) known (flags_few (part == 0) (part + 1 == n))
+    own_packet apid (sequence_flags part n) (before + part) (record a { part = part }) (part_of (part_size packet) part text) known
+        (flags_few (part == 0) (part + 1 == n))
         (omega (arith, least, most, length-take (part_size packet) (drop (part * part_size packet) text))),
     own_parts a before n text parts,
   )
 
   own_text : (a : Ancillary) (before : ℕ) (text : List ℕ) → AllByRecursion (IsOwn apid) (text_packets apid a packet before text)
-  own_text a before text = rw text_packets-is (own_parts a before (part_count (part_size packet) (length text)) text (range_with_len 0 (part_count (part_size packet) (length text))))
+  own_text a before text = rw text_packets-is (own_parts a before (part_count (part_size packet) (length text)) text
+      (range_with_len 0 (part_count (part_size packet) (length text))))
 
-module _ (told_last : Bool) (s : Setting) (all : List (List ℤ)) (apid : s.apid < 2047) (least : 64 ≤ s.packet) (most : s.packet ≤ 65536) where
-  pub own_segments : (from more : ℕ) → AllByRecursion (IsOwn s.apid) (packets_from told_last s all from more)
+module _ (reported_last : Bool) (s : Setting) (all : List (List ℤ)) (apid : s.apid < 2047) (least : 64 ≤ s.packet) (most : s.packet ≤ 65536) where
+  pub own_segments : (from more : ℕ) → AllByRecursion (IsOwn s.apid) (packets_from reported_last s all from more)
   own_segments from zero = tt
   own_segments from (suc more) =
-      each_of_both (IsOwn s.apid) (segment_packets told_last s all from) (packets_from told_last s all (from + 1) more)
-      (own_text s.apid s.packet apid least most (ancillary_of told_last s from) (packets_before s all from) (segment_text s all from))
+      each_of_both (IsOwn s.apid) (segment_packets reported_last s all from) (packets_from reported_last s all (from + 1) more)
+      (own_text s.apid s.packet apid least most (ancillary_of reported_last s from) (packets_before s all from) (segment_text s all from))
       (own_segments (from + 1) more)
 
 -- ---- what is picked of them

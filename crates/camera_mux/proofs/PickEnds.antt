@@ -25,23 +25,24 @@ use Rattle.camera_mux.specs.PickAnswers.{Picks}
 use Rattle.camera_mux.proofs.PickRuns.{picked_both, picked_more, gave_on, filled}
 
 -- the end was read, or what can't be read on
-pub all_picked : {wish : DecodeWish} {image : Option ℕ} {start now new : Outside} {v : Intake} {packets : ℕ} {found : Option Framing} → HasPicked wish image start now v packets →
+pub all_picked : {wish : DecodeWish} {image : Option ℕ} {start now new : Outside} {v : Intake} {packets : ℕ} {found : Option Framing} →
+    HasPicked wish image start now v packets →
     FindsEnd wish.apid now new v found → Picks wish image start new (Ok (record { packets = packets; framing = found }))
 all_picked {wish = wish} {image = image} {new = new} {found = found} before x =
-    let come = filled before x.taken in
-    let read = read_found found come.read in
+    let arrived = filled before x.taken in
+    let read = read_found found arrived.read in
     let whole = ended_packets read x.over in
     record {
-      took = come.took;
-      gave = joined (picked_of wish.apid image come.passed);
-      since = come.since;
-      readable = come.readable;
+      took = arrived.took;
+      gave = joined (picked_of wish.apid image arrived.passed);
+      since = arrived.since;
+      readable = arrived.readable;
       within = read_within read;
       answer = record {
         octets = ap (λ ps. joined (picked_of wish.apid image ps)) (sym whole);
-        packets = come.packets_are ∙ ap (λ ps. length (picked_of wish.apid image ps)) (sym whole);
+        packets = arrived.packets_are ∙ ap (λ ps. length (picked_of wish.apid image ps)) (sym whole);
         framing_is = ended_framing read x.over;
-        out = ended_out read new x.over come.at_end;
+        out = ended_out read new x.over arrived.at_end;
       };
     }
 
@@ -49,51 +50,57 @@ all_picked {wish = wish} {image = image} {new = new} {found = found} before x =
 long_picked : {wish : DecodeWish} {image : Option ℕ} {start now new : Outside} {v : Intake} {packets : ℕ} → HasPicked wish image start now v packets →
     FindsCap wish.apid now new v → Picks wish image start new (Err LongInput)
 long_picked {wish = wish} {image = image} before x =
-    let come = filled before x.taken in
+    let arrived = filled before x.taken in
     record {
-      took = come.took;
-      gave = joined (picked_of wish.apid image come.passed);
-      since = come.since;
-      readable = come.readable;
-      within = read_within come.read;
-      answer = (long_full come.read x.over, long_good come.read x.over, ap (λ ps. joined (picked_of wish.apid image ps)) (sym (long_packets come.read x.over)));
+      took = arrived.took;
+      gave = joined (picked_of wish.apid image arrived.passed);
+      since = arrived.since;
+      readable = arrived.readable;
+      within = read_within arrived.read;
+      answer = (
+        long_full arrived.read x.over,
+        long_good arrived.read x.over,
+        ap (λ ps. joined (picked_of wish.apid image ps))
+            (sym (long_packets arrived.read x.over)),
+      );
     }
 
 -- a read failed
 read_failed : {wish : DecodeWish} {image : Option ℕ} {start now new : Outside} {v w : Intake} {packets : ℕ} → HasPicked wish image start now v packets →
     ReadsPacket wish.apid now new v w (Err in_faults.ReadFault) → Picks wish image start new (Err ReadFault)
 read_failed {wish = wish} {image = image} {now = now} {new = new} {v = v} before x =
-    let come = filled before (taken_by x) in
-    let whole = whole_so come.read (undecided_none _ x.ends.1) in
+    let arrived = filled before (taken_by x) in
+    let whole = whole_so arrived.read (undecided_none _ x.ends.1) in
     grind (arith, nat_tests, read_within, rose_since)
 
 -- a write failed: a prefix of its packet was given after all before
 write_failed : {wish : DecodeWish} {image : Option ℕ} {start now new : Outside} {v : Intake} {packets : ℕ} → HasPicked wish image start now v packets →
     FailsToGive wish.apid image now new v → Picks wish image start new (Err WriteFault)
 write_failed {wish = wish} {image = image} before x =
-    let come = filled before x.holds.taken in
+    let arrived = filled before x.holds.taken in
     let packet = first_packet x.full.pending in
     let rest = after_packet x.full.pending in
-    let all = come.passed ++ packet ∷ [] in
-    let gave = joined (picked_of wish.apid image come.passed) in
+    let all = arrived.passed ++ packet ∷ [] in
+    let gave = joined (picked_of wish.apid image arrived.passed) in
     let later = joined (picked_of wish.apid image (whole_packets rest)) in
-    let whole = whole_past wish.apid wish.apid x.full come.passed x.holds.whole wish.octets come.took come.read in
-    let octets : picked come.took wish.apid image ≡ (gave ++ packet) ++ later =
+    let whole = whole_past wish.apid wish.apid x.full arrived.passed x.holds.whole wish.octets arrived.took arrived.read in
+    let octets : picked arrived.took wish.apid image ≡ (gave ++ packet) ++ later =
     ap (λ ps. joined (picked_of wish.apid image ps)) whole ∙ picked_both wish.apid image all (whole_packets rest)
-    ∙ ap (λ zs. zs ++ later) (picked_more wish.apid image come.passed packet x.holds.test) in
+    ∙ ap (λ zs. zs ++ later) (picked_more wish.apid image arrived.passed packet x.holds.test) in
     let some = length gave + x.some in
     let few : some ≤ length (gave ++ packet) = omega (arith, x.within, length-append gave packet) in
-    let front : take some (picked come.took wish.apid image) ≡ gave ++ take x.some packet = grind (arith, nat_tests, take-append-le, take-append-add) in
+    let prefix : take some (picked arrived.took wish.apid image) ≡ gave ++ take x.some packet = grind (arith, nat_tests, take-append-le, take-append-add) in
     record {
-      took = come.took;
+      took = arrived.took;
       gave = gave ++ take x.some packet;
-      since = gave_on come x.gives;
-      readable = since_out come.readable x.gives;
-      within = read_within come.read;
-      answer = (rose_since come.since.faults.writes x.rose, (some, sym front));
+      since = gave_on arrived x.gives;
+      readable = since_out arrived.readable x.gives;
+      within = read_within arrived.read;
+      answer = (rose_since arrived.since.faults.writes x.rose, (some, sym prefix));
     }
 
-pub picks_failed : {wish : DecodeWish} {image : Option ℕ} {start now : Outside} {v : Intake} {packets : ℕ} (new : Outside) (w : Intake) (fault : ListFault) → HasPicked wish image start now v packets →
+pub picks_failed : {wish : DecodeWish} {image : Option ℕ} {start now : Outside} {v : Intake} {packets : ℕ} (new : Outside) (w : Intake)
+    (fault : ListFault) → HasPicked wish image start now v packets →
     PicksNext wish.apid image now new v w (Err fault) → Picks wish image start new (Err fault)
 picks_failed new w ReadFault before x = read_failed before x
 picks_failed new w LongInput before x = long_picked before x

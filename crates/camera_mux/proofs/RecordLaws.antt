@@ -1,6 +1,7 @@
 -- One record more.
 use Rattle.std.proofs.lemmas.Bool.Decides.{nat_tests}
-use Rattle.std.proofs.Common.{◌≡◌, ◌≤◌, ◌<◌, ◌+◌, ◌-◌, ℕ, ℤ, zero, suc, List, [], ◌∷◌, ◌++◌, length, take, drop, refl, sym, ap, ◌∙◌, arith, length-append, length-take, cond, slice_index_or}
+use Rattle.std.proofs.Common.{◌≡◌, ◌≤◌, ◌<◌, ◌+◌, ◌-◌, ℕ, ℤ, zero, suc, List, [], ◌∷◌, ◌++◌, length, take, drop, refl, sym, ap, ◌∙◌, arith, length-append}
+use Rattle.std.proofs.Common.{length-take, cond, slice_index_or}
 use Rattle.std.specs.List.{range_with_len, sum_by}
 use Rattle.std.proofs.lemmas.Bool.{cases_lt, eq-eqb, ne_eqb}
 use Rattle.std.proofs.lemmas.Grind.{flat_map-append}
@@ -30,8 +31,10 @@ same_sum f g zero same = refl
 same_sum f g (suc n) same =
     let e : suc n ≡ n + 1 = omega arith in
     let t : 0 + n ≡ n = omega arith in
-    let range = λ (h : ℕ → ℕ). ap (λ m. sum_by h (range_with_len 0 m)) e ∙ ap (sum_by h) (range_with_len-more 0 n ∙ ap (λ m. range_with_len 0 n ++ m ∷ []) t) ∙ sum_by_push h (range_with_len 0 n) n in
-    range f ∙ ap (λ m. m + f n) (same_sum f g n (λ i lt. same i (omega (arith, lt)))) ∙ ap (λ m. sum_by g (range_with_len 0 n) + m) (same n (omega arith)) ∙ sym (range g)
+    let range = λ (h : ℕ → ℕ). ap (λ m. sum_by h (range_with_len 0 m)) e
+    ∙ ap (sum_by h) (range_with_len-more 0 n ∙ ap (λ m. range_with_len 0 n ++ m ∷ []) t) ∙ sum_by_push h (range_with_len 0 n) n in
+    range f ∙ ap (λ m. m + f n) (same_sum f g n (λ i lt. same i (omega (arith, lt)))) ∙ ap (λ m. sum_by g (range_with_len 0 n) + m) (same n (omega arith))
+    ∙ sym (range g)
 
 -- ---- of one record more
 
@@ -70,10 +73,12 @@ module _ (records : List CameraRow) (r : CameraRow) where
   out_before : (settings : List Setting) (i : ℕ) → i < length records → settled_at settings (records ++ r ∷ []) i ≡ settled_at settings records i
   out_before settings i lt = grind (arith, nat_tests, before_last, length, take_before)
 
-  out_last : (settings : List Setting) → settled_at settings (records ++ r ∷ []) (length records) ≡ drop (length (settled_by settings r.camera records)) (settled_by settings r.camera (records ++ r ∷ []))
+  out_last : (settings : List Setting) → settled_at settings (records ++ r ∷ []) (length records) ≡ drop (length (settled_by settings r.camera records))
+      (settled_by settings r.camera (records ++ r ∷ []))
   out_last settings = grind (arith, nat_tests, length, at_last, take_here, take_last)
 
-  pub out_more : (settings : List Setting) → mux_out settings (records ++ r ∷ []) ≡ mux_out settings records ++ drop (length (settled_by settings r.camera records)) (settled_by settings r.camera (records ++ r ∷ []))
+  pub out_more : (settings : List Setting) → mux_out settings (records ++ r ∷ []) ≡ mux_out settings records
+      ++ drop (length (settled_by settings r.camera records)) (settled_by settings r.camera (records ++ r ∷ []))
   unfolding mux_out
   out_more settings =
       let n = length records in
@@ -86,25 +91,32 @@ module _ (records : List CameraRow) (r : CameraRow) where
   out_with settings gave e = grind (arith, nat_tests, out_more, length, drop_at)
 
   -- a prefix of what is settled then
-  pub out_cut : (settings : List Setting) (part : List ℕ) (some : ℕ) → settled_by settings r.camera records ++ part ≡ take some (settled_by settings r.camera (records ++ r ∷ [])) →
+  pub out_cut : (settings : List Setting) (part : List ℕ) (some : ℕ) → settled_by settings r.camera records ++ part
+      ≡ take some (settled_by settings r.camera (records ++ r ∷ [])) →
       (n : ℕ) × (mux_out settings records ++ part ≡ take n (mux_out settings (records ++ r ∷ [])))
   out_cut settings part some e =
       let before = settled_by settings r.camera records in
       let all = settled_by settings r.camera (records ++ r ∷ []) in
-      let front = mux_out settings records in
+      let prefix = mux_out settings records in
       let rest = drop (length before) all in
       let more = some - length before in
       let long : length before ≤ some = omega (arith, ap length e, length-append before part, length-take some all) in
       let sum : some ≡ length before + more = omega (arith, long) in
       let part_is : part ≡ take more rest =
-      sym (drop_at before part (length before) refl) ∙ ap (drop (length before)) e ∙ ap (λ m. drop (length before) (take m all)) sum ∙ drop-take (length before) more all in
-      (length front + more, ap (λ zs. front ++ zs) part_is ∙ sym (take-append-add front rest more) ∙ ap (take (length front + more)) (sym (out_more settings)))
+      sym (drop_at before part (length before) refl) ∙ ap (drop (length before)) e ∙ ap (λ m. drop (length before) (take m all)) sum
+      ∙ drop-take (length before) more all in (
+        length prefix + more,
+        ap (λ zs. prefix ++ zs) part_is ∙ sym (take-append-add prefix rest more) ∙ ap (take (length prefix + more))
+            (sym (out_more settings)),
+      )
 
   sum_before : (measure : Setting → (ℕ → ℕ → ℤ) → ℕ) (settings : List Setting) (i : ℕ) → i < length records →
-      of_whole measure settings (record_at (records ++ r ∷ []) i).camera (take (i + 1) (records ++ r ∷ [])) ≡ of_whole measure settings (record_at records i).camera (take (i + 1) records)
+      of_whole measure settings (record_at (records ++ r ∷ []) i).camera (take (i + 1) (records ++ r ∷ [])) ≡ of_whole measure settings
+      (record_at records i).camera (take (i + 1) records)
   sum_before measure settings i lt = grind (arith, nat_tests, before_last, take_before)
 
-  pub sum_more : (measure : Setting → (ℕ → ℕ → ℤ) → ℕ) (settings : List Setting) → sum_of measure settings (records ++ r ∷ []) ≡ sum_of measure settings records + of_whole measure settings r.camera (records ++ r ∷ [])
+  pub sum_more : (measure : Setting → (ℕ → ℕ → ℤ) → ℕ) (settings : List Setting) → sum_of measure settings (records ++ r ∷ [])
+      ≡ sum_of measure settings records + of_whole measure settings r.camera (records ++ r ∷ [])
   unfolding sum_of
   sum_more measure settings = grind (arith, nat_tests, length, at_last, take_last, size_more, range_with_len-more, sum_by_push, same_sum, sum_before)
 

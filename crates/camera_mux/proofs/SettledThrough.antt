@@ -8,7 +8,7 @@ use Rattle.base_122.specs.Sizes.{block_count, total_blocks, first_block, segment
 use Rattle.base_122.specs.declared.setting.Setting.{Setting}
 use Rattle.base_122.proofs.SizeBounds.{three-le-block_count, one-le-segment_blocks}
 use Rattle.wave_strip.specs.Counts.{settled as block_rows_in}
-use Rattle.stream_defs.specs.Output.{segments_of, tells_last}
+use Rattle.stream_defs.specs.Output.{segments_of, reports_last}
 use Rattle.stream_defs.specs.Settled.{is_settled}
 use Rattle.stream_defs.specs.SettledImages.{settled_in}
 use Rattle.stream_defs.proofs.SettledLaws.{count_many}
@@ -25,7 +25,7 @@ module _ (s : Setting) (range : IsInRange s) (k index : ℕ) (inside : index < s
   before : (j : ℕ) → j ≤ index → first_block s.segment j + segment_blocks total s.segment j ≤ first_block s.segment index + segment_blocks total s.segment index
   before j le = grind (arith, nat_tests, cases_lt, mul-le-mul_right)
 
-  settled_at : (j : ℕ) → j ≤ index → is_settled (tells_last s) (sized s (tallest s)) k j ≡ true
+  settled_at : (j : ℕ) → j ≤ index → is_settled (reports_last s) (sized s (tallest s)) k j ≡ true
   settled_at j le =
       let segment = range.segment in
       let three = three-le-block_count s.width range.width.0 in

@@ -13,7 +13,9 @@ use Rattle.camera_mux.specs.MuxProgress.{AreSettings}
 pub record KeepsCamera (settings : List Setting) (records : List CameraRow) (camera : ℕ) : Type 0 where
   pub so_far : picked (mux_out settings records) (setting_at settings camera).apid None ≡ settled_by settings camera records
   pub whole : count_of camera records ≡ (setting_at settings camera).rows →
-      picked (mux_out settings records) (setting_at settings camera).apid None ≡ output (setting_at settings camera) (setting_at settings camera).rows (image_of (setting_at settings camera) (raster_of camera records))
+      picked (mux_out settings records) (setting_at settings camera).apid None ≡ output (setting_at settings camera) (setting_at settings camera).rows
+      (image_of (setting_at settings camera) (raster_of camera records))
 
 pub record CamerasAreKept : Type 0 where
-  pub each : (settings : List Setting) (records : List CameraRow) → AreSettings settings → AreAccepted settings records → (camera : ℕ) → camera < length settings → KeepsCamera settings records camera
+  pub each : (settings : List Setting) (records : List CameraRow) → AreSettings settings → AreAccepted settings records → (camera : ℕ) →
+      camera < length settings → KeepsCamera settings records camera

@@ -2,7 +2,7 @@
 use Rattle.std.specs.Prelude.{ℕ, ℤ, ◌+◌, ◌==◌, if◌then◌else◌, List, length, take, drop}
 use Rattle.std.specs.List.{range_with_len, flat_map, sum_by}
 use Rattle.base_122.specs.declared.setting.Setting.{Setting}
-use Rattle.stream_defs.specs.Output.{image_packets, output, tells_last}
+use Rattle.stream_defs.specs.Output.{image_packets, output, reports_last}
 use Rattle.strip_coder.specs.Rasters.{image_of, settled_octets}
 use Rattle.camera_mux.specs.Records.{CameraRow, setting_at, record_at, count_of, raster_of}
 
@@ -30,11 +30,12 @@ of_whole measure settings camera records =
 
 -- the sum of that for the images whose last row one of these records has
 unfoldable pub sum_of : (measure : Setting → (ℕ → ℕ → ℤ) → ℕ) → List Setting → List CameraRow → ℕ
-sum_of measure settings records = sum_by (λ number. of_whole measure settings (record_at records number).camera (take (number + 1) records)) (range_with_len 0 (length records))
+sum_of measure settings records = sum_by (λ number. of_whole measure settings (record_at records number).camera (take (number + 1) records))
+    (range_with_len 0 (length records))
 
 -- all packets of an image, and their octets
 abbrev pub packets_in : Setting → (ℕ → ℕ → ℤ) → ℕ
-packets_in s x = length (image_packets (tells_last s) s x)
+packets_in s x = length (image_packets (reports_last s) s x)
 
 abbrev pub octets_in : Setting → (ℕ → ℕ → ℤ) → ℕ
 octets_in s x = length (output s s.rows x)

@@ -1,5 +1,6 @@
 -- The progress of a mux since it began. This project's own.
-use Rattle.std.specs.Prelude.{◌≡◌, ◌≢◌, ◌<◌, ◌≤◌, ◌+◌, ◌-◌, ◌*◌, ◌^◌, ℕ, min, sum, List, [], ◌∷◌, length, take, slice_index, slice_index_or, slice_set, Option, None, Some}
+use Rattle.std.specs.Prelude.{◌≡◌, ◌≢◌, ◌<◌, ◌≤◌, ◌+◌, ◌-◌, ◌*◌, ◌^◌, ℕ, min, sum, List, [], ◌∷◌, ◌++◌, length, take, slice_index, slice_index_or, slice_set}
+use Rattle.std.specs.Prelude.{Option, None, Some}
 use Rattle.port_122.specs.Outside.{Outside, Exchange, AtStart, AtEnd}
 use Rattle.base_122.specs.Ranges.{IsInRange}
 use Rattle.base_122.specs.declared.setting.Setting.{Setting}
@@ -8,7 +9,7 @@ use Rattle.strip_coder.specs.Rasters.{row_length, image_of}
 use Rattle.strip_coder.specs.Works.{IsMadeFor, Represents}
 use Rattle.camera_mux.specs.declared.mux.MuxDone.{MuxDone}
 use Rattle.camera_mux.specs.declared.muxing.Progress.{Progress}
-use Rattle.camera_mux.specs.Records.{CameraRow, setting_at, octets_of, count_of, raster_of, AreAccepted}
+use Rattle.camera_mux.specs.Records.{CameraRow, setting_at, octets_of, count_of, raster_of, AreAccepted, IsPart}
 use Rattle.camera_mux.specs.MuxOut.{mux_out, sum_of, packets_in, octets_in}
 
 -- one to 16 settings in range whose rows are known, with different APIDs
@@ -25,28 +26,30 @@ pub record CanMux (settings : List Setting) (works : List Work) : Type 0 where
   pub same : length works ≡ length settings
   pub made : (camera : ℕ) (d : Work) → camera < length settings → IsMadeFor (setting_at settings camera) (slice_index_or works camera d)
 
--- A read call with i octets taken and j given. The first n records are whole in the octets taken, and no more; exactly what they settle
--- is given.
-pub record AsksMux (settings : List Setting) (records : List CameraRow) (i j : ℕ) : Type 0 where
+-- A read call with i of these octets taken and j given. The octets taken are the first n records and a part of a record that can follow
+-- them; exactly what these records settle is given.
+pub record AsksMux (settings : List Setting) (records : List CameraRow) (took : List ℕ) (i j : ℕ) : Type 0 where
   pub n : ℕ
   pub most : n ≤ length records
-  pub whole : length (octets_of (take n records)) ≤ i
-  pub next : n < length records → i < length (octets_of (take (n + 1) records))
+  pub part : List ℕ
+  pub taken : take i took ≡ octets_of (take n records) ++ part
+  pub follows : IsPart settings (take n records) part
   pub given : j ≡ length (mux_out settings (take n records))
 
 -- a work is ready for the next row of its camera's image, after k rows of a raster
 pub record IsReady (s : Setting) (k : ℕ) (raster : List ℕ) (w : Work) : Type 0 where
   pub made : IsMadeFor s w
-  pub stands : 0 < k → k < s.rows → Represents s k (image_of s raster) w
+  pub valid : 0 < k → k < s.rows → Represents s k (image_of s raster) w
 
 -- These records were taken, and what they settle was given.
 pub record HasMuxed (settings : List Setting) (works : List Work) (start now : Outside) (v : Progress) : Type 0 where
   pub records : List CameraRow
   pub accepted : AreAccepted settings records
-  pub since : Exchange start now (octets_of records) (mux_out settings records) [] (AsksMux settings records)
+  pub since : Exchange start now (octets_of records) (mux_out settings records) [] (AsksMux settings records (octets_of records))
   pub left : (camera : ℕ) → camera < length settings → slice_index v.left camera + count_of camera records ≡ (setting_at settings camera).rows
   pub others : (camera : ℕ) → length settings ≤ camera → slice_index v.left camera ≡ 0
-  pub ready : (camera : ℕ) (d : Work) → camera < length settings → IsReady (setting_at settings camera) (count_of camera records) (raster_of camera records) (slice_index_or works camera d)
+  pub ready : (camera : ℕ) (d : Work) → camera < length settings → IsReady (setting_at settings camera) (count_of camera records) (raster_of camera records)
+      (slice_index_or works camera d)
   pub rasters : (camera : ℕ) → camera < length settings → length (raster_of camera records) ≡ count_of camera records * row_length (setting_at settings camera)
   pub size : length v.left ≡ 16
   pub records_are : v.records ≡ length records

@@ -21,7 +21,8 @@ pub record IsPick (wish : DecodeWish) (image : Option ℕ) (new : Outside) (took
 -- is too long.
 abbrev pub Answers : DecodeWish → (image : Option ℕ) → (old new : Outside) → (took gave : List ℕ) → Result ListDone ListFault → Type 0
 Answers wish image old new took gave (Ok done) = IsPick wish image new took gave done
-Answers wish image old new took gave (Err LongInput) = (length took ≡ wish.octets) × (has_bad_version (left_over took) ≡ false) × (gave ≡ picked took wish.apid image)
+Answers wish image old new took gave (Err LongInput) = (length took ≡ wish.octets) × (has_bad_version (left_over took) ≡ false)
+    × (gave ≡ picked took wish.apid image)
 Answers wish image old new took gave (Err ReadFault) = Rose old.read_faults new.read_faults × (gave ≡ picked took wish.apid image)
 Answers wish image old new took gave (Err WriteFault) = Rose old.write_faults new.write_faults × ((some : ℕ) × (gave ≡ take some (picked took wish.apid image)))
 Answers wish image old new took gave (Err Memory) = (old ≡ new) × (took ≡ []) × (gave ≡ [])

@@ -16,7 +16,8 @@ AsksPicked apid image took gave i j = (j ≤ length gave) × (take j gave ≡ pi
 pub record HasPicked (wish : DecodeWish) (image : Option ℕ) (start now : Outside) (v : Intake) (packets : ℕ) : Type 0 where
   pub took : List ℕ
   pub passed : List (List ℕ)
-  pub since : Exchange start now took (joined (picked_of wish.apid image passed)) [] (AsksPicked wish.apid image took (joined (picked_of wish.apid image passed)))
+  pub since : Exchange start now took (joined (picked_of wish.apid image passed)) []
+      (AsksPicked wish.apid image took (joined (picked_of wish.apid image passed)))
   pub readable : Exchange start now took (joined (picked_of wish.apid image passed)) [] (AsksReadable wish.octets took)
   pub read : HasRead wish.apid wish.octets (reading wish.apid v passed None) took passed
   pub at_end : SawEnd now (reading wish.apid v passed None)

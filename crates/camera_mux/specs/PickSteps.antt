@@ -24,13 +24,13 @@ pub record GivesNext (apid : ℕ) (image : Option ℕ) (old new : Outside) (v w 
   pub full : Intake
   pub holds : HoldsNext apid image old between v full true
   pub gives : Exchange between new [] (first_packet full.pending) [] NoRead
-  pub stands : w ≡ answered apid full
+  pub valid : w ≡ answered apid full
 
 -- it wasn't picked
 pub record PassesOther (apid : ℕ) (image : Option ℕ) (old new : Outside) (v w : Intake) : Type 0 where
   pub full : Intake
   pub holds : HoldsNext apid image old new v full false
-  pub stands : w ≡ answered apid full
+  pub valid : w ≡ answered apid full
 
 -- it was picked, and its write failed
 pub record FailsToGive (apid : ℕ) (image : Option ℕ) (old new : Outside) (v : Intake) : Type 0 where

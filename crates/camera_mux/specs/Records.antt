@@ -3,6 +3,7 @@ use Rattle.std.specs.Prelude.{◌≡◌, ◌<◌, ℕ, ◌==◌, false, List, []
 use Rattle.std.specs.List.{flat_map}
 use Rattle.base_122.specs.declared.setting.Select.TheVariants.{Heuristic}
 use Rattle.base_122.specs.declared.setting.Setting.{Setting}
+use Rattle.raster_rows.specs.Pixels.{whole_pixels}
 use Rattle.raster_rows.specs.RowReads.{FirstInRange}
 use Rattle.strip_coder.specs.Rasters.{row_length}
 
@@ -73,3 +74,17 @@ pub record AreAccepted (settings : List Setting) (records : List CameraRow) : Ty
 -- each camera has all its rows
 pub record AreFull (settings : List Setting) (records : List CameraRow) : Type 0 where
   pub each : (camera : ℕ) → camera < length settings → count_of camera records ≡ (setting_at settings camera).rows
+
+-- ---- which octets can follow
+
+-- a camera has rows left
+pub record IsAwaited (settings : List Setting) (records : List CameraRow) (camera : ℕ) : Type 0 where
+  pub known : camera < length settings
+  pub misses : count_of camera records < (setting_at settings camera).rows
+
+-- These octets are a part of a record that can follow: less than all of it, and nothing in it is refused.
+abbrev pub IsPart : List Setting → List CameraRow → List ℕ → Type 0
+IsPart settings records [] = Unit {0}
+IsPart settings records (camera ∷ got) =
+    let s = setting_at settings camera in
+    IsAwaited settings records camera × (length got < row_length s) × FirstInRange s.depth s.signed got (whole_pixels s.depth got)

@@ -7,8 +7,8 @@ use Rattle.raster_rows.specs.Pixels.{pixel_at, whole_pixels}
 use Rattle.raster_rows.specs.RowReads.{FirstInRange, InRow, IsFirstBad}
 use Rattle.raster_rows.specs.declared.reading.RowFault.{RowFault}
 use Rattle.raster_rows.specs.declared.reading.RowFault.TheVariants as row_faults
-use Rattle.stream_defs.specs.Output.{image_packets, output, tells_last}
-use Rattle.stream_defs.specs.SettledImages.{front_packets, settled_in}
+use Rattle.stream_defs.specs.Output.{image_packets, output, reports_last}
+use Rattle.stream_defs.specs.SettledImages.{leading_packets, settled_in}
 use Rattle.strip_coder.specs.declared.work.Work.{Work}
 use Rattle.strip_coder.specs.Plans.{plan_of, tallest}
 use Rattle.strip_coder.specs.Rasters.{row_length, image_of, settled_octets}
@@ -65,7 +65,7 @@ pub record IsCut (before all : List ℕ) (p q : Outside) : Type 0 where
   pub gave : List ℕ
   pub out : Exchange p q [] gave [] NoRead
   pub some : ℕ
-  pub front : before ++ gave ≡ take some all
+  pub prefix : before ++ gave ≡ take some all
 
 pub record CutsCameraRow (s : Setting) (k : ℕ) (p q : Outside) (old : Work) : Type 0 where
   pub between : Outside
@@ -73,13 +73,14 @@ pub record CutsCameraRow (s : Setting) (k : ℕ) (p q : Outside) (old : Work) : 
   pub octets : TakesOctets s p between got
   pub rose : Rose between.write_faults q.write_faults
   pub cut : (x : ℕ → ℕ → ℤ) → FollowsRows s x old → HasRow s x k got →
-      IsCut (joined (front_packets s (tallest s) x old.at.index)) (joined (front_packets s (tallest s) x (settled_in s (tallest s) (k + 1)))) between q
+      IsCut (joined (leading_packets s (tallest s) x old.at.index)) (joined (leading_packets s (tallest s) x (settled_in s (tallest s) (k + 1)))) between q
 
 abbrev pub FailsInRow : Setting → (k : ℕ) → Place → (p q : Outside) → Work → MuxFault → Type 0
 FailsInRow s k place p q old ReadFault = (got : List ℕ) × LacksOctets s p q got × Rose p.read_faults q.read_faults
 FailsInRow s k place p q old (Short octets) = (got : List ℕ) × LacksOctets s p q got × AtEnd q × (octets ≡ place.octets + length got)
 FailsInRow s k place p q old (BadPixel camera row column value) =
-    (got : List ℕ) × Exchange p q got [] [] (InRow s.depth s.signed s.width got) × (length got ≤ row_length s) × (camera ≡ place.camera) × (row ≡ k) × IsFirstBad s.depth s.signed got column value
+    (got : List ℕ) × Exchange p q got [] [] (InRow s.depth s.signed s.width got) × (length got ≤ row_length s) × (camera ≡ place.camera) × (row ≡ k)
+    × IsFirstBad s.depth s.signed got column value
 FailsInRow s k place p q old WriteFault = CutsCameraRow s k p q old
 FailsInRow s k place p q old Long = ⊥
 FailsInRow s k place p q old (BadCamera number camera) = ⊥
@@ -88,7 +89,7 @@ FailsInRow s k place p q old (BadCamera number camera) = ⊥
 
 -- what is done at a row of an image: all of it if the row is its last
 pub record DoneAt (s : Setting) (x : ℕ → ℕ → ℤ) (rows : ℕ) (done : MuxDone) : Type 0 where
-  pub last : rows ≡ s.rows → (done.packets ≡ length (image_packets (tells_last s) s x)) × (done.octets ≡ length (output s s.rows x))
+  pub last : rows ≡ s.rows → (done.packets ≡ length (image_packets (reports_last s) s x)) × (done.octets ≡ length (output s s.rows x))
   pub before : rows ≢ s.rows → (done.packets ≡ 0) × (done.octets ≡ 0)
 
 -- One more row was taken after those of a raster, and the packets of the segments were given that it settles.
@@ -99,7 +100,7 @@ pub record GivesRow (s : Setting) (k : ℕ) (raster : List ℕ) (p q : Outside) 
   pub gave : List ℕ
   pub out : Exchange between q [] gave [] NoRead
   pub then_are : settled_octets s raster k ++ gave ≡ settled_octets s (raster ++ got) (k + 1)
-  pub stands : k + 1 < s.rows → Represents s (k + 1) (image_of s (raster ++ got)) new
+  pub valid : k + 1 < s.rows → Represents s (k + 1) (image_of s (raster ++ got)) new
   pub done_is : DoneAt s (image_of s (raster ++ got)) (k + 1) done
 
 pub record CutsRow (s : Setting) (k : ℕ) (raster : List ℕ) (p q : Outside) : Type 0 where
@@ -113,7 +114,8 @@ abbrev pub FailsAtRow : Setting → (k : ℕ) (raster : List ℕ) → Place → 
 FailsAtRow s k raster place p q ReadFault = (got : List ℕ) × LacksOctets s p q got × Rose p.read_faults q.read_faults
 FailsAtRow s k raster place p q (Short octets) = (got : List ℕ) × LacksOctets s p q got × AtEnd q × (octets ≡ place.octets + length got)
 FailsAtRow s k raster place p q (BadPixel camera row column value) =
-    (got : List ℕ) × Exchange p q got [] [] (InRow s.depth s.signed s.width got) × (length got ≤ row_length s) × (camera ≡ place.camera) × (row ≡ k) × IsFirstBad s.depth s.signed got column value
+    (got : List ℕ) × Exchange p q got [] [] (InRow s.depth s.signed s.width got) × (length got ≤ row_length s) × (camera ≡ place.camera) × (row ≡ k)
+    × IsFirstBad s.depth s.signed got column value
 FailsAtRow s k raster place p q WriteFault = CutsRow s k raster p q
 FailsAtRow s k raster place p q Long = ⊥
 FailsAtRow s k raster place p q (BadCamera number camera) = ⊥

@@ -33,7 +33,8 @@ pub(crate) fn take_camera_row<X: Port>(
     requires few { work.old.at.rows < tallest setting.now }
     requires octets { place.octets < 2 ^ 63 }
     ensures made { IsMadeFor setting.now work.new }
-    ensures row { (raster : List ℕ) → length raster ≡ work.old.at.rows * row_length setting.now → Represents setting.now work.old.at.rows (image_of setting.now raster) work.old → MatchResult result
+    ensures row { (raster : List ℕ) → length raster ≡ work.old.at.rows * row_length setting.now →
+        Represents setting.now work.old.at.rows (image_of setting.now raster) work.old → MatchResult result
         (λ done. GivesRow setting.now work.old.at.rows raster (X.outside port.old) (X.outside port.new) work.new done)
         (λ fault. FailsAtRow setting.now work.old.at.rows raster place (X.outside port.old) (X.outside port.new) fault) }
 {

@@ -1,5 +1,6 @@
 // Takes the rows of several cameras, and writes all their packets.
-ghost use Rattle.std.specs.Prelude.{Err, ◌≡◌, ◌≢◌, ◌≤◌, ◌<◌, ◌+◌, ◌-◌, ◌*◌, ◌^◌, ◌↔◌, ℕ, List, length, min, sum, slice_index, slice_index_or, EachIndex, IsTrue, MatchResult};
+ghost use Rattle.std.specs.Prelude.{Err, ◌≡◌, ◌≢◌, ◌≤◌, ◌<◌, ◌+◌, ◌-◌, ◌*◌, ◌^◌, ◌↔◌, ℕ, List, length, min, sum, slice_index, slice_index_or, EachIndex};
+ghost use Rattle.std.specs.Prelude.{IsTrue, MatchResult};
 ghost use Rattle.port_122.specs.Outside.{Outside, ReadFailed};
 ghost use Rattle.base_122.specs.Ranges.{IsInRange};
 ghost use Rattle.strip_coder.specs.declared.work.Work.{Work};
@@ -30,11 +31,12 @@ struct Progress {
     done: MuxDone,
 }
 
-/// Takes records, each one octet with a camera's number, from 0, and that camera's next row (docs/formats.md, "Raster and made image"),
-/// and writes the packets of each camera's image. After each record, and before the next read call, the packets of the segments are
-/// written that its row settles (docs/architecture.md, "The encoder"). It ends once each camera has all its rows and the end of the
-/// input is read. There are 1 to 16 settings with known rows and different APIDs, and a work that was made for each; each camera's packets
-/// are written with the code book of its setting. The works can be used again after any return, and no memory is taken.
+/// Takes records, each one octet with a camera's number, from 0, and that camera's next row (docs/formats.md, "Raster and made image"), and
+/// writes the packets of each camera's image. After each record, and before the next read call, the packets of the segments are written
+/// that its row settles (docs/architecture.md, "The encoder"). It ends once each camera has all its rows and the end of the input is read,
+/// and makes no read call after an octet that is refused. There are 1 to 16 settings with known rows and different APIDs, and a work that
+/// was made for each; each camera's packets are written with the code book of its setting. The works can be used again after any return,
+/// and no memory is taken.
 ///
 /// # Errors
 ///
@@ -149,7 +151,7 @@ fn make_ready(setting: &Setting, work: &mut Work, row: u32)
     requires taken { 0 < row → HasTaken (plan_of setting.now (tallest setting.now)) row work.old }
     requires few { row < setting.now.rows }
     ensures taken { HasTaken (plan_of setting.now (tallest setting.now)) row work.new }
-    ensures stands { (raster : List ℕ) → IsReady setting.now row raster work.old → Represents setting.now row (image_of setting.now raster) work.new }
+    ensures valid { (raster : List ℕ) → IsReady setting.now row raster work.old → Represents setting.now row (image_of setting.now raster) work.new }
 {
     if row == 0 {
         start_image(setting, work);

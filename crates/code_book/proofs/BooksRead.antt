@@ -1,5 +1,6 @@
 -- A book that was read whole, and which books are read.
-use Rattle.std.proofs.Common.{◌≡◌, ◌<◌, ℕ, Bool, true, false, List, [], length, refl, sym, ap, ◌∙◌, subst, arith, Option, None, Some, IfSome, IfOk, IfErr, IsTrue, Result, Ok, Err, if◌then◌else◌, take_all}
+use Rattle.std.proofs.Common.{◌≡◌, ◌<◌, ℕ, Bool, true, false, List, [], length, refl, sym, ap, ◌∙◌, subst, arith, Option, None, Some, IfSome, IfOk, IfErr}
+use Rattle.std.proofs.Common.{IsTrue, Result, Ok, Err, if◌then◌else◌, take_all}
 use Rattle.std.proofs.lemmas.Bool.Decides.{nat_tests}
 use Rattle.port_122.specs.Outside.{Outside, Exchange}
 use Rattle.base_122.specs.declared.book.Book.{Book}
@@ -51,7 +52,8 @@ answers old new took (Err (BadBits table symbol)) kind is = is
 answers old new took (Err (Clash table first second)) kind is = is
 answers old new took (Err (Incomplete table)) kind is = is
 
-pub book_taken : {old new : Outside} {octets : List ℕ} {result : Result Book BookFault} → FilledTo old new octets 138 → result ≡ book_read octets → ReadsBook old new result
+pub book_taken : {old new : Outside} {octets : List ℕ} {result : Result Book BookFault} → FilledTo old new octets 138 → result ≡ book_read octets →
+    ReadsBook old new result
 book_taken {old = old} {new = new} {octets = octets} {result = result} p is = record {
   took = octets;
   since = subst (λ took. Exchange old new took [] [] (λ i j. i < 138)) (take_all 138 octets (omega (arith, p.room))) p.since;
@@ -89,7 +91,8 @@ or_sound book back None e = let same : book ≡ back = cc in (same, refl)
 or_sound book back (Some fault) e = absurd cc
 
 -- octets that are read as a book have the mark, and no table of their codes has a fault
-parts_read : (octets : List ℕ) (book : Book) → book_read octets ≡ Ok book → (has_mark octets ≡ true) × (book ≡ book_in octets) × (fault_from (book_in octets) 0 6 ≡ None)
+parts_read : (octets : List ℕ) (book : Book) → book_read octets ≡ Ok book → (has_mark octets ≡ true) × (book ≡ book_in octets)
+    × (fault_from (book_in octets) 0 6 ≡ None)
 unfolding book_read
 parts_read octets book e = by_mark (has_mark octets) refl e
   where

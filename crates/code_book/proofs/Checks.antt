@@ -1,5 +1,6 @@
 -- Nothing is wrong with a table, or a book, exactly if it is sound.
-use Rattle.std.proofs.Common.{◌≡◌, inl, inr, ◌≤◌, ◌<◌, ◌+◌, ◌-◌, ◌^◌, ℕ, zero, suc, List, [], ◌∷◌, refl, sym, ap, ◌∙◌, arith, Bool, true, false, not, ◌==◌, if◌then◌else◌, is_some, slice_index_or, Option, Some, None}
+use Rattle.std.proofs.Common.{◌≡◌, inl, inr, ◌≤◌, ◌<◌, ◌+◌, ◌-◌, ◌^◌, ℕ, zero, suc, List, [], ◌∷◌, refl, sym, ap, ◌∙◌, arith, Bool, true, false, not, ◌==◌}
+use Rattle.std.proofs.Common.{if◌then◌else◌, is_some, slice_index_or, Option, Some, None}
 use Rattle.std.proofs.lemmas.Bool.{cases_lt, false≢true}
 use Rattle.std.proofs.lemmas.Bool.Decides.{nat_tests}
 use Rattle.base_122.specs.declared.book.Code.{Code}
@@ -8,7 +9,8 @@ use Rattle.plane_defs.specs.Codes.{entry, table, is_table_sound, is_book_sound}
 use Rattle.code_book.specs.declared.fault.BookFault.{BookFault}
 use Rattle.code_book.specs.declared.fault.BookFault.TheVariants.{BadLength, BadBits, Incomplete}
 use Rattle.code_book.specs.Sound.{symbols_of, IsCode, AreCodes, IsTableSound, IsSound}
-use Rattle.code_book.specs.Tests.{has_length, fits, clashes, first_from, bad_length, bad_bits, clash_of, pair_with, clash_from, room_of, named, or_else, table_fault, fault_from}
+use Rattle.code_book.specs.Tests.{has_length, fits, clashes, first_from, bad_length, bad_bits, clash_of, pair_with, clash_from, room_of, named, or_else}
+use Rattle.code_book.specs.Tests.{table_fault, fault_from}
 use Rattle.code_book.proofs.Rooms.{AreApart, sound_from, usable_from, tests_from}
 
 -- ---- no number passes
@@ -17,7 +19,8 @@ none_each : (test : ℕ → Bool) (start n i : ℕ) → first_from test start n 
 none_each test start zero i e low high = absurd (omega (arith, low, high))
 none_each test start (suc n) i e low high = by_test (test start) refl e (λ f later. none_each test (start + 1) n i f later (omega (arith, high)))
   where
-    by_test : (b : Bool) → test start ≡ b → (if b then Some start else first_from test (start + 1) n) ≡ None → (first_from test (start + 1) n ≡ None → start + 1 ≤ i → test i ≡ false) → test i ≡ false
+    by_test : (b : Bool) → test start ≡ b → (if b then Some start else first_from test (start + 1) n) ≡ None →
+        (first_from test (start + 1) n ≡ None → start + 1 ≤ i → test i ≡ false) → test i ≡ false
     by_test true f e rest = absurd (let no : Some start ≡ None = e in cc)
     by_test false f e rest = elim (cases_lt start i) [
       | inl later ↦ rest e (omega (arith, later))
@@ -47,7 +50,11 @@ not_false : (b : Bool) → not b ≡ false → b ≡ true
 not_false b e = grind (arith, nat_tests, false≢true)
 
 code_from : (c : Code) → has_length c ≡ true → fits c ≡ true → IsCode c
-code_from c long fit = record { some = (let e : 1 ≤ c.len = grind (arith, nat_tests) in e); few = (let e : c.len ≤ 8 = grind (arith, nat_tests) in e); fits = (let e : c.bits < 2 ^ c.len = grind (arith, nat_tests) in e) }
+code_from c long fit = record {
+  some = (let e : 1 ≤ c.len = grind (arith, nat_tests) in e);
+  few = (let e : c.len ≤ 8 = grind (arith, nat_tests) in e);
+  fits = (let e : c.bits < 2 ^ c.len = grind (arith, nat_tests) in e);
+}
 
 has_length_so : (c : Code) → IsCode c → has_length c ≡ true
 has_length_so c is = let some = is.some in let few = is.few in grind (arith, nat_tests)
@@ -90,7 +97,8 @@ module _ (t : ℕ) (codes : List Code) (count : ℕ) where
 
   apart_from : clash_from t codes count 0 count ≡ None → AreApart codes count
   apart_from none s r less lt =
-      none_each (λ k. clashes (entry codes s) (entry codes k)) (s + 1) (count - (s + 1)) r (none_clash 0 count s none (omega arith) (omega (arith, less, lt))) (omega (arith, less)) (omega (arith, less, lt))
+      none_each (λ k. clashes (entry codes s) (entry codes k)) (s + 1) (count - (s + 1)) r
+      (none_clash 0 count s none (omega arith) (omega (arith, less, lt))) (omega (arith, less)) (omega (arith, less, lt))
 
   apart_none : AreApart codes count → clash_from t codes count 0 count ≡ None
   apart_none apart = grind (arith, nat_tests, clash_none, each_none)
@@ -98,8 +106,11 @@ module _ (t : ℕ) (codes : List Code) (count : ℕ) where
   passes : table_fault t codes count ≡ None → Passes codes count
   unfolding table_fault
   passes e =
-      let long = named_none (BadLength t) (bad_length codes count) (named (BadBits t) (bad_bits codes count) (or_else (clash_from t codes count 0 count) (if room_of codes count == 256 then None else Some (Incomplete t)))) e in
-      let fit = named_none (BadBits t) (bad_bits codes count) (or_else (clash_from t codes count 0 count) (if room_of codes count == 256 then None else Some (Incomplete t))) long.1 in
+      let long = named_none (BadLength t) (bad_length codes count)
+      (named (BadBits t) (bad_bits codes count) (or_else (clash_from t codes count 0 count)
+      (if room_of codes count == 256 then None else Some (Incomplete t)))) e in
+      let fit = named_none (BadBits t) (bad_bits codes count)
+      (or_else (clash_from t codes count 0 count) (if room_of codes count == 256 then None else Some (Incomplete t))) long.1 in
       let clash = or_else_none (clash_from t codes count 0 count) (if room_of codes count == 256 then None else Some (Incomplete t)) fit.1 in
       record {
         codes_are = codes_from long.0 fit.0;
@@ -129,7 +140,8 @@ tables_each book start (suc n) i e low high =
       | inr first ↦ let same : i ≡ start = omega (arith, first, low) in ap (λ k. table_fault k (table book k) (symbols_of k)) same ∙ parts.0
     ]
 
-each_tables : (book : Book) (start n : ℕ) → ((i : ℕ) → start ≤ i → i < start + n → table_fault i (table book i) (symbols_of i) ≡ None) → fault_from book start n ≡ None
+each_tables : (book : Book) (start n : ℕ) → ((i : ℕ) → start ≤ i → i < start + n → table_fault i (table book i) (symbols_of i) ≡ None) →
+    fault_from book start n ≡ None
 unfolding fault_from
 each_tables book start zero each = refl
 each_tables book start (suc n) each =
@@ -144,7 +156,8 @@ sound_book book sound = each_tables book 0 6 (λ i low high. no_fault i (table b
 
 pub book_usable : (book : Book) → fault_from book 0 6 ≡ None → is_book_sound book ≡ true
 book_usable book e =
-    let at : (i : ℕ) → i < 6 → is_table_sound (table book i) (symbols_of i) ≡ true = λ i lt. table_usable i (table book i) (symbols_of i) (tables_each book 0 6 i e (omega arith) (omega (arith, lt))) in
+    let at : (i : ℕ) → i < 6 → is_table_sound (table book i) (symbols_of i) ≡ true =
+    λ i lt. table_usable i (table book i) (symbols_of i) (tables_each book 0 6 i e (omega arith) (omega (arith, lt))) in
     rw (at 0 (omega arith), at 1 (omega arith), at 2 (omega arith), at 3 (omega arith), at 4 (omega arith), at 5 (omega arith)) refl
 
 -- ---- the tests of a table, one after another
@@ -167,11 +180,14 @@ module _ (t : ℕ) (codes : List Code) (count : ℕ) where
   unfolding table_fault
   fault_bits s long fit = ap (λ o. named (BadLength t) o after_length) long ∙ ap (λ o. named (BadBits t) o after_bits) fit
 
-  pub fault_clash : (fault : BookFault) → bad_length codes count ≡ None → bad_bits codes count ≡ None → clash_from t codes count 0 count ≡ Some fault → table_fault t codes count ≡ Some fault
+  pub fault_clash : (fault : BookFault) → bad_length codes count ≡ None → bad_bits codes count ≡ None → clash_from t codes count 0 count ≡ Some fault →
+      table_fault t codes count ≡ Some fault
   unfolding table_fault
-  fault_clash fault long fit clash = ap (λ o. named (BadLength t) o after_length) long ∙ ap (λ o. named (BadBits t) o after_bits) fit ∙ ap (λ o. or_else o after_clash) clash
+  fault_clash fault long fit clash = ap (λ o. named (BadLength t) o after_length) long ∙ ap (λ o. named (BadBits t) o after_bits) fit
+      ∙ ap (λ o. or_else o after_clash) clash
 
-  pub fault_room : bad_length codes count ≡ None → bad_bits codes count ≡ None → clash_from t codes count 0 count ≡ None → (room_of codes count == 256) ≡ false →
+  pub fault_room : bad_length codes count ≡ None → bad_bits codes count ≡ None → clash_from t codes count 0 count ≡ None →
+      (room_of codes count == 256) ≡ false →
       table_fault t codes count ≡ Some (Incomplete t)
   unfolding table_fault
   fault_room long fit clash room = grind (arith, nat_tests)
@@ -183,7 +199,8 @@ module _ (t : ℕ) (codes : List Code) (count : ℕ) where
 
   pub lengths_from : bad_length codes count ≡ None → (s : ℕ) → s < count → (entry codes s).len ≤ 8
   lengths_from long s lt =
-      let e : has_length (entry codes s) ≡ true = not_false (has_length (entry codes s)) (none_each (λ s. not (has_length (entry codes s))) 0 count s long (omega arith) (omega (arith, lt))) in
+      let e : has_length (entry codes s) ≡ true = not_false (has_length (entry codes s)) (none_each (λ s. not (has_length (entry codes s))) 0 count s long
+      (omega arith) (omega (arith, lt))) in
       grind (arith, nat_tests)
 
 -- ---- tables, one after another
@@ -201,12 +218,14 @@ fault_step : (book : Book) (i n m : ℕ) → n ≡ suc m → fault_from book i n
 unfolding fault_from
 fault_step book i n m e = ap (fault_from book i) e
 
-pub fault_found : (book : Book) (whole result : Option BookFault) (i : ℕ) → whole ≡ fault_from book i (6 - i) → i < 6 → result ≡ table_fault i (table book i) (symbols_of i) → is_some result ≡ true → result ≡ whole
+pub fault_found : (book : Book) (whole result : Option BookFault) (i : ℕ) → whole ≡ fault_from book i (6 - i) → i < 6 →
+    result ≡ table_fault i (table book i) (symbols_of i) → is_some result ≡ true → result ≡ whole
 fault_found book whole result i so_far lt is some =
     let rest = fault_from book (i + 1) (6 - (i + 1)) in
     sym (so_far ∙ fault_step book i (6 - i) (6 - (i + 1)) (omega (arith, lt)) ∙ ap (λ o. or_else o rest) (sym is) ∙ or_else_some result rest some)
 
-pub fault_past : (book : Book) (whole result : Option BookFault) (i : ℕ) → whole ≡ fault_from book i (6 - i) → i < 6 → result ≡ table_fault i (table book i) (symbols_of i) → is_some result ≡ false →
+pub fault_past : (book : Book) (whole result : Option BookFault) (i : ℕ) → whole ≡ fault_from book i (6 - i) → i < 6 →
+    result ≡ table_fault i (table book i) (symbols_of i) → is_some result ≡ false →
     whole ≡ fault_from book (i + 1) (6 - (i + 1))
 fault_past book whole result i so_far lt is none =
     let rest = fault_from book (i + 1) (6 - (i + 1)) in

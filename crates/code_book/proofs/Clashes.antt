@@ -1,5 +1,6 @@
 -- Two codes of which one is a prefix of the other, found one after another.
-use Rattle.std.proofs.Common.{◌≡◌, ◌≤◌, ◌<◌, ◌+◌, ◌-◌, ◌/◌, ◌^◌, ℕ, suc, Bool, true, false, List, [], ◌∷◌, length, ap, subst, ◌∙◌, arith, ◌==◌, ◌||◌, Option, Some, None}
+use Rattle.std.proofs.Common.{◌≡◌, ◌≤◌, ◌<◌, ◌+◌, ◌-◌, ◌/◌, ◌^◌, ℕ, suc, Bool, true, false, List, [], ◌∷◌, length, ap, subst, ◌∙◌, arith, ◌==◌, ◌||◌}
+use Rattle.std.proofs.Common.{Option, Some, None}
 use Rattle.std.specs.List.{list_all}
 use Rattle.std.proofs.lemmas.Bool.{false≢true}
 use Rattle.std.proofs.lemmas.Bool.Decides.{nat_tests}
@@ -19,7 +20,8 @@ module _ (t : ℕ) (codes : List Code) (count : ℕ) where
   step : (i n m : ℕ) → n ≡ suc m → clash_from t codes count i n ≡ pair_with t i (clash_of codes count i) (clash_from t codes count (i + 1) m)
   step i n m e = ap (clash_from t codes count i) e
 
-  pub clash_found : (whole : Option BookFault) (i bound r : ℕ) → whole ≡ clash_from t codes count i (bound - i) → i < bound → clash_of codes count i ≡ Some r → whole ≡ Some (Clash t i r)
+  pub clash_found : (whole : Option BookFault) (i bound r : ℕ) → whole ≡ clash_from t codes count i (bound - i) → i < bound →
+      clash_of codes count i ≡ Some r → whole ≡ Some (Clash t i r)
   clash_found whole i bound r so_far lt e = grind (arith, nat_tests, step)
 
   pub clash_past : (whole : Option BookFault) (i bound : ℕ) → whole ≡ clash_from t codes count i (bound - i) → i < bound → clash_of codes count i ≡ None →
@@ -40,12 +42,15 @@ begins_so a b is_a is_b le =
     let most = is_b.few in
     let m : 1 + (b.len - 1) ≡ b.len = omega (arith, some, le) in
     let n : 1 + (a.len - 1) ≡ a.len = omega (arith, some) in
-    let outer : list_all (λ n. bits_agree n (1 + (b.len - 1))) (span 1 (1 + (b.len - 1))) ≡ true = list_all-span-at (λ m. list_all (λ n. bits_agree n m) (span 1 m)) 1 8 (b.len - 1) all_agree (omega (arith, most, some, le)) in
+    let outer : list_all (λ n. bits_agree n (1 + (b.len - 1))) (span 1 (1 + (b.len - 1))) ≡ true =
+    list_all-span-at (λ m. list_all (λ n. bits_agree n m) (span 1 m)) 1 8 (b.len - 1) all_agree (omega (arith, most, some, le)) in
     let wide : list_all (λ n. bits_agree n b.len) (span 1 b.len) ≡ true = subst (λ k. list_all (λ n. bits_agree n k) (span 1 k) ≡ true) m outer in
     let inner : bits_agree (1 + (a.len - 1)) b.len ≡ true = list_all-span-at (λ n. bits_agree n b.len) 1 b.len (a.len - 1) wide (omega (arith, some, le)) in
     let here : bits_agree a.len b.len ≡ true = subst (λ k. bits_agree k b.len ≡ true) n inner in
-    let row = list_all-span-zero (λ x. list_all (λ y. same (is_prefix (bits_of a.len x) (bits_of b.len y)) (y / 2 ^ (b.len - a.len) == x)) (span 0 (2 ^ b.len))) (2 ^ a.len) a.bits here is_a.fits in
-    same_so _ _ (list_all-span-zero (λ y. same (is_prefix (bits_of a.len a.bits) (bits_of b.len y)) (y / 2 ^ (b.len - a.len) == a.bits)) (2 ^ b.len) b.bits row is_b.fits)
+    let row = list_all-span-zero (λ x. list_all (λ y. same (is_prefix (bits_of a.len x) (bits_of b.len y)) (y / 2 ^ (b.len - a.len) == x))
+    (span 0 (2 ^ b.len))) (2 ^ a.len) a.bits here is_a.fits in
+    same_so _ _ (list_all-span-zero (λ y. same (is_prefix (bits_of a.len a.bits) (bits_of b.len y)) (y / 2 ^ (b.len - a.len) == a.bits)) (2 ^ b.len) b.bits
+    row is_b.fits)
 
 -- a prefix of a string is not longer than the string
 no_longer : (xs ys : List Bool) → is_prefix xs ys ≡ true → length xs ≤ length ys

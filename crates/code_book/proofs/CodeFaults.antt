@@ -8,7 +8,8 @@ use Rattle.code_book.specs.declared.fault.BookFault.TheVariants.{BadLength, BadB
 use Rattle.code_book.specs.Sound.{symbols_of}
 use Rattle.code_book.specs.Tests.{IsOfCodes, named, or_else, pair_with, clash_of, clash_from, bad_length, bad_bits, table_fault, fault_from}
 
-named_kind : (fault : ℕ → BookFault) (o : Option ℕ) (rest : Option BookFault) → ((s : ℕ) → IsOfCodes (fault s)) → IfSome rest IsOfCodes → IfSome (named fault o rest) IsOfCodes
+named_kind : (fault : ℕ → BookFault) (o : Option ℕ) (rest : Option BookFault) → ((s : ℕ) → IsOfCodes (fault s)) → IfSome rest IsOfCodes →
+    IfSome (named fault o rest) IsOfCodes
 named_kind fault None rest is more = more
 named_kind fault (Some s) rest is more = is s
 
@@ -22,7 +23,8 @@ pair_kind table first (Some second) rest more = tt
 
 clash_kind : (table : ℕ) (codes : List Code) (count start n : ℕ) → IfSome (clash_from table codes count start n) IsOfCodes
 clash_kind table codes count start zero = tt
-clash_kind table codes count start (suc n) = pair_kind table start (clash_of codes count start) (clash_from table codes count (start + 1) n) (clash_kind table codes count (start + 1) n)
+clash_kind table codes count start (suc n) = pair_kind table start (clash_of codes count start) (clash_from table codes count (start + 1) n)
+    (clash_kind table codes count (start + 1) n)
 
 room_kind : (table : ℕ) (full : Bool) → IfSome (if full then None else Some (Incomplete table)) IsOfCodes
 room_kind table true = tt
@@ -38,4 +40,5 @@ table_kind table codes count =
 pub fault_kind : (book : Book) (start n : ℕ) → IfSome (fault_from book start n) IsOfCodes
 unfolding fault_from
 fault_kind book start zero = tt
-fault_kind book start (suc n) = or_else_kind (table_fault start (table book start) (symbols_of start)) (fault_from book (start + 1) n) (table_kind start (table book start) (symbols_of start)) (fault_kind book (start + 1) n)
+fault_kind book start (suc n) = or_else_kind (table_fault start (table book start) (symbols_of start)) (fault_from book (start + 1) n)
+    (table_kind start (table book start) (symbols_of start)) (fault_kind book (start + 1) n)

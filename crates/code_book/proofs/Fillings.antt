@@ -32,7 +32,8 @@ fill_next {old = old} {new = new} {piece = piece} {read = read} {count = count} 
   room = same ∙ p.room;
   within = omega (arith, room, q.within);
   since =
-      let taken : take (count + n) (put_mid count k piece read) ≡ take count piece ++ take n read = taken_more piece read count n k (omega (arith, p.room, p.within)) q.within in
+      let taken : take (count + n) (put_mid count k piece read) ≡ take count piece ++ take n read =
+      taken_more piece read count n k (omega (arith, p.room, p.within)) q.within in
       rw taken (since_read n p.since q (still_missing p missing));
 }
 

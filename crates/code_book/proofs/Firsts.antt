@@ -17,7 +17,8 @@ module _ (test : ℕ → Bool) where
   pub found : (first : Option ℕ) (i bound : ℕ) → first ≡ first_from test i (bound - i) → i < bound → test i ≡ true → first ≡ Some i
   found first i bound so_far lt e = so_far ∙ here i (bound - i) (omega (arith, lt)) e
 
-  pub past : (first : Option ℕ) (i bound : ℕ) → first ≡ first_from test i (bound - i) → i < bound → test i ≡ false → first ≡ first_from test (i + 1) (bound - (i + 1))
+  pub past : (first : Option ℕ) (i bound : ℕ) → first ≡ first_from test i (bound - i) → i < bound → test i ≡ false →
+      first ≡ first_from test (i + 1) (bound - (i + 1))
   past first i bound so_far lt e = so_far ∙ next i (bound - i) (bound - (i + 1)) (omega (arith, lt)) e
 
   pub nowhere : (first : Option ℕ) (i bound : ℕ) → first ≡ first_from test i (bound - i) → bound ≤ i → first ≡ None

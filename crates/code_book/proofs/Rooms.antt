@@ -1,5 +1,6 @@
 -- A table whose codes are free of prefixes is sound exactly if they leave no room.
-use Rattle.std.proofs.Common.{◌≡◌, inl, inr, ◌≤◌, ◌<◌, ◌+◌, ◌-◌, ◌^◌, ℕ, List, refl, sym, subst, ◌∙◌, arith, Bool, true, false, ◌==◌, ◌&&◌, ◌||◌, count_by, nat_le, sum_by}
+use Rattle.std.proofs.Common.{◌≡◌, inl, inr, ◌≤◌, ◌<◌, ◌+◌, ◌-◌, ◌^◌, ℕ, List, refl, sym, subst, ◌∙◌, arith, Bool, true, false, ◌==◌, ◌&&◌, ◌||◌, count_by}
+use Rattle.std.proofs.Common.{nat_le, sum_by}
 use Rattle.std.proofs.lemmas.Bool.{cases_lt, false≢true, eqb-true, eq-eqb, or_left, or_right, le-leb}
 use Rattle.std.proofs.lemmas.Bool.Decides.{nat_tests}
 use Rattle.plane_defs.proofs.ReadOnce.{count_one, counted_somewhere}
@@ -21,7 +22,8 @@ code_room c is =
     let place : 1 + (c.len - 1) ≡ c.len = omega (arith, some) in
     let at : leaves_room (1 + (c.len - 1)) ≡ true = list_all-span-at leaves_room 1 8 (c.len - 1) rooms (omega (arith, some, few)) in
     let here : leaves_room c.len ≡ true = subst (λ n. leaves_room n ≡ true) place at in
-    eqb-true _ (2 ^ (8 - c.len)) (list_all-span-zero (λ bits. count_by (λ v. is_prefix (bits_of c.len bits) (bits_of 8 v)) (span 0 256) == 2 ^ (8 - c.len)) (2 ^ c.len) c.bits here is.fits)
+    eqb-true _ (2 ^ (8 - c.len)) (list_all-span-zero (λ bits. count_by (λ v. is_prefix (bits_of c.len bits) (bits_of 8 v)) (span 0 256) == 2 ^ (8 - c.len))
+    (2 ^ c.len) c.bits here is.fits)
 
 module _ (codes : List Code) (count : ℕ) where
   abbrev begins : ℕ → ℕ → Bool
@@ -36,7 +38,8 @@ module _ (codes : List Code) (count : ℕ) where
 
   all_begun : AreCodes codes count → sum_by begun (span 0 256) ≡ room_of codes count
   all_begun are =
-      sym (counted_twice begins count 256) ∙ sum_same (λ s. count_by (λ v. begins s v) (span 0 256)) (λ s. room (entry codes s)) count (λ s lt. code_room (entry codes s) (are.each s lt))
+      sym (counted_twice begins count 256) ∙ sum_same (λ s. count_by (λ v. begins s v) (span 0 256)) (λ s. room (entry codes s)) count
+      (λ s lt. code_room (entry codes s) (are.each s lt))
 
   once_apart : AreApart → (v j k : ℕ) → j < count → k < count → begins j v ≡ true → begins k v ≡ true → j ≡ k
   once_apart apart v j k hj hk f g = elim (cases_lt j k) [
@@ -83,15 +86,18 @@ module _ (codes : List Code) (count : ℕ) where
 
   -- the same in the other direction
   apart_so : IsTableSound codes count → AreApart
-  apart_so sound s r less lt = none _ _ (first (is_prefix (code_bits (entry codes s)) (code_bits (entry codes r))) refl) (second (is_prefix (code_bits (entry codes r)) (code_bits (entry codes s))) refl)
+  apart_so sound s r less lt = none _ _ (first (is_prefix (code_bits (entry codes s)) (code_bits (entry codes r))) refl)
+      (second (is_prefix (code_bits (entry codes r)) (code_bits (entry codes s))) refl)
     where
       none : (a b : Bool) → a ≡ false → b ≡ false → (a || b) ≡ false
       none a b x y = rw (x, y) refl
 
-      first : (b : Bool) → is_prefix (code_bits (entry codes s)) (code_bits (entry codes r)) ≡ b → is_prefix (code_bits (entry codes s)) (code_bits (entry codes r)) ≡ false
+      first : (b : Bool) → is_prefix (code_bits (entry codes s)) (code_bits (entry codes r)) ≡ b →
+          is_prefix (code_bits (entry codes s)) (code_bits (entry codes r)) ≡ false
       first b e = grind (arith, nat_tests)
 
-      second : (b : Bool) → is_prefix (code_bits (entry codes r)) (code_bits (entry codes s)) ≡ b → is_prefix (code_bits (entry codes r)) (code_bits (entry codes s)) ≡ false
+      second : (b : Bool) → is_prefix (code_bits (entry codes r)) (code_bits (entry codes s)) ≡ b →
+          is_prefix (code_bits (entry codes r)) (code_bits (entry codes s)) ≡ false
       second b e = grind (arith, nat_tests)
 
   full_so : IsTableSound codes count → room_of codes count ≡ 256

@@ -1,5 +1,6 @@
 -- A table's codes, read code by code.
-use Rattle.std.proofs.Common.{◌≡◌, ◌≢◌, ◌<◌, ◌+◌, ◌*◌, ◌∙◌, inl, inr, ℕ, List, length, sym, ap, nat_lt, if◌then◌else◌, get_or, set, get_or-set_same, get_or-set_other, arith, ext_get_or, length-set}
+use Rattle.std.proofs.Common.{◌≡◌, ◌≢◌, ◌<◌, ◌+◌, ◌*◌, ◌∙◌, inl, inr, ℕ, List, length, sym, ap, nat_lt, if◌then◌else◌, get_or, set, get_or-set_same}
+use Rattle.std.proofs.Common.{get_or-set_other, arith, ext_get_or, length-set}
 use Rattle.std.proofs.lemmas.List.FromFn.{get_or-map-range_with_len, length-map-range_with_len}
 use Rattle.std.proofs.lemmas.Bool.{cases_eq}
 use Rattle.std.proofs.lemmas.Bool.Decides.{nat_tests}
@@ -34,6 +35,8 @@ table_next octets start k lt =
     let few : s < 16 = omega (arith, within, length-set old k code, long octets start k) in
     let room : k < length old = omega (arith, lt, long octets start k) in
     elim (cases_eq s k) [
-      | inl same ↦ ap (λ i. get_or (set old k code) i no_code) same ∙ get_or-set_same old k code no_code room ∙ sym (here octets start k) ∙ sym (ap (code_of octets start (k + 1)) same) ∙ sym (entry_of octets start (k + 1) s few)
-      | inr other ↦ get_or-set_other old k s code no_code other ∙ entry_of octets start k s few ∙ there octets start k s other ∙ sym (entry_of octets start (k + 1) s few)
+      | inl same ↦ ap (λ i. get_or (set old k code) i no_code) same ∙ get_or-set_same old k code no_code room ∙ sym (here octets start k)
+          ∙ sym (ap (code_of octets start (k + 1)) same) ∙ sym (entry_of octets start (k + 1) s few)
+      | inr other ↦ get_or-set_other old k s code no_code other ∙ entry_of octets start k s few ∙ there octets start k s other
+          ∙ sym (entry_of octets start (k + 1) s few)
     ])

@@ -1,5 +1,6 @@
 -- How a book is written in octets, and how a reader of one ends. (This project's own.)
-use Rattle.std.specs.Prelude.{◌≡◌, ◌<◌, ◌↔◌, ℕ, ◌+◌, ◌*◌, ◌&&◌, ◌==◌, Bool, true, nat_lt, if◌then◌else◌, List, [], length, map, Option, None, Some, Result, Ok, Err}
+use Rattle.std.specs.Prelude.{◌≡◌, ◌<◌, ◌↔◌, ℕ, ◌+◌, ◌*◌, ◌&&◌, ◌==◌, Bool, true, nat_lt, if◌then◌else◌, List, [], length, map, Option, None, Some, Result}
+use Rattle.std.specs.Prelude.{Ok, Err}
 use Rattle.std.specs.List.{sum_by, range_with_len}
 use lib.ListN.{get_or}
 use Rattle.port_122.specs.Outside.{Outside, Exchange, AtEnd, Rose}

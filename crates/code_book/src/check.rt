@@ -2,7 +2,8 @@
 ghost use Rattle.std.specs.Prelude.{◌≡◌, ℕ, ◌<◌, ◌≤◌, ◌+◌, ◌*◌, ◌↔◌, Ok, IsTrue, IfErr, length};
 ghost use Rattle.plane_defs.specs.Codes.{entry, is_book_sound};
 ghost use Rattle.code_book.specs.Sound.{IsCode, AreCodes, IsSound, symbols_of};
-ghost use Rattle.code_book.specs.Tests.{has_length, fits, clashes, bad_length, bad_bits, clash_of, clash_from, room_of, table_fault, fault_from, book_check, IsOfCodes};
+ghost use Rattle.code_book.specs.Tests.{has_length, fits, clashes, bad_length, bad_bits, clash_of, clash_from, room_of, table_fault, fault_from, book_check};
+ghost use Rattle.code_book.specs.Tests.{IsOfCodes};
 
 use crate::fault::BookFault;
 use base_122::{Book, Code};

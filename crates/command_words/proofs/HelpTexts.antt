@@ -25,7 +25,8 @@ line_made old first head a b d e f last start column at is_start is_a is_b is_d 
     let begun : b ≡ old ++ (first ++ head) = is_b ∙ ap (λ t. t ++ head) is_a ∙ append_assoc old first head in
     let used : length b - start ≡ length (first ++ head) = omega (arith, ap length begun, length-append old (first ++ head), is_start) in
     let spaced : d ≡ old ++ whole =
-    is_d ∙ ap (λ n. b ++ spaces_to n 45) used ∙ ap (λ t. t ++ spaces_to (length (first ++ head)) 45) begun ∙ append_assoc old (first ++ head) (spaces_to (length (first ++ head)) 45) in
+    is_d ∙ ap (λ n. b ++ spaces_to n 45) used ∙ ap (λ t. t ++ spaces_to (length (first ++ head)) 45) begun ∙ append_assoc old (first ++ head)
+    (spaces_to (length (first ++ head)) 45) in
     let reached : column ≡ length whole = omega (arith, ap length spaced, length-append old whole, is_start, is_column) in
     let listed : e ≡ old ++ (whole ++ at (length whole)) =
     is_e ∙ ap (λ n. d ++ at n) reached ∙ ap (λ t. t ++ at (length whole)) spaced ∙ append_assoc old whole (at (length whole)) in

@@ -1,5 +1,6 @@
 -- An argument has at most one key, and one text after it.
-use Rattle.std.proofs.Common.{◌≡◌, ◌≢◌, ◌<◌, ℕ, zero, suc, List, [], ◌∷◌, ◌++◌, length, get_or, refl, sym, ◌∙◌, ap, append_assoc, arith, true, false, codes, Bool, not, cond, find, Option, Some, None, is_some, ◌==◌, bytes_eq}
+use Rattle.std.proofs.Common.{◌≡◌, ◌≢◌, ◌<◌, ℕ, zero, suc, List, [], ◌∷◌, ◌++◌, length, get_or, refl, sym, ◌∙◌, ap, append_assoc, arith, true, false, codes}
+use Rattle.std.proofs.Common.{Bool, not, cond, find, Option, Some, None, is_some, ◌==◌, bytes_eq}
 use Rattle.std.specs.List.{list_all}
 use Rattle.std.proofs.lemmas.Bool.{false≢true, and_parts, eq-eqb}
 use Rattle.std.proofs.lemmas.Slice.Eq.{bytes_eq-Decides}
@@ -43,7 +44,7 @@ text_of_named text key e = (bytes_eq-Decides (key_text key) text).0 (found_passe
 
 pub keyed_from_parts : (word before text : List ℕ) (key : Key) → word ≡ before ++ (61 ∷ text) → key_named before ≡ Some key → IsKeyed word key text
 keyed_from_parts word before text key e named =
-    e ∙ ap (λ front. front ++ (61 ∷ text)) (sym (text_of_named before key named)) ∙ sym (append_assoc (key_text key) (codes "=") text)
+    e ∙ ap (λ prefix. prefix ++ (61 ∷ text)) (sym (text_of_named before key named)) ∙ sym (append_assoc (key_text key) (codes "=") text)
 
 -- two readings of one argument have the same key and the same text
 pub keyed_one : (word text text' : List ℕ) (key key' : Key) → IsKeyed word key text → IsKeyed word key' text' → (key ≡ key') × (text ≡ text')

@@ -1,8 +1,10 @@
 -- The command that is made of the values is in range.
-use Rattle.std.proofs.Common.{◌≡◌, ◌≤◌, ◌+◌, ◌*◌, ℕ, List, [], ◌∷◌, refl, arith, ap, subst, true, false, Option, Some, None, Result, Ok, IfOk, IfSome, Bool, not, unwrap_or, cond, find, nat_le, ◌==◌, ◌||◌, option_map}
+use Rattle.std.proofs.Common.{◌≡◌, ◌≤◌, ◌+◌, ◌*◌, ℕ, List, [], ◌∷◌, refl, arith, ap, subst, true, false, Option, Some, None, Result, Ok, IfOk, IfSome, Bool}
+use Rattle.std.proofs.Common.{not, unwrap_or, cond, find, nat_le, ◌==◌, ◌||◌, option_map}
 use Rattle.std.proofs.lemmas.Bool.{and_parts, or_right}
 use Rattle.std.proofs.lemmas.Bool.Decides.{nat_tests}
-use Rattle.base_122.specs.Ranges.{rows_range, apid_range, image_range, pixels_range, octets_range, IsWithin, is_within, field_test, fields, IsInRange as IsSettingInRange, IsWishInRange}
+use Rattle.base_122.specs.Ranges.{rows_range, apid_range, image_range, pixels_range, octets_range, IsWithin, is_within, field_test, fields}
+use Rattle.base_122.specs.Ranges.{IsInRange as IsSettingInRange, IsWishInRange}
 use Rattle.base_122.specs.declared.field.Field.{Field}
 use Rattle.base_122.specs.declared.range.FieldRange.{FieldRange}
 use Rattle.base_122.specs.declared.field.Field.TheVariants as field
@@ -17,7 +19,8 @@ use Rattle.command_words.specs.declared.command.WordFault.TheVariants.{MissingKe
 use Rattle.command_words.specs.declared.values.Value.{Value}
 use Rattle.command_words.specs.Values.{number_of, cap_of}
 use Rattle.command_words.specs.Tables.{command_of, row_of, Finds, setting_of, wish_of, number_at, given_number}
-use Rattle.command_words.specs.Commands.{is_small, leaves_rows_open, cameras_test, passes, after, first_missing, first_refused, field_of, made, LacksTotal, IsInRange}
+use Rattle.command_words.specs.Commands.{is_small, leaves_rows_open, cameras_test, passes, after, first_missing, first_refused, field_of, made, LacksTotal}
+use Rattle.command_words.specs.Commands.{IsInRange}
 
 -- the first key passes, and so do those after it
 passed : (b : Bool) (key : Key) (field : Field) (rest : Option Key) → (row_of key).field ≡ Some field →
@@ -87,7 +90,8 @@ all_in_range task finds e =
     let c = passed (passes task finds key.Cameras) key.Cameras field.Cameras _ refl t.1 in
     let rows = and_parts (leaves_rows_open task finds || is_within rows_range s.rows) (is_small task finds) r.0 in
     record {
-      setting = in_range-from_none s (none_fails (field_test s) fields (w.0, (open_is_zero task finds _ rows.0, (d.0, (g.0, (l.0, (f.0, (o.0, (p.0, (h.0, (a.0, (i.0, (k.0, (t.0, tt))))))))))))));
+      setting = in_range-from_none s (none_fails (field_test s) fields
+          (w.0, (open_is_zero task finds _ rows.0, (d.0, (g.0, (l.0, (f.0, (o.0, (p.0, (h.0, (a.0, (i.0, (k.0, (t.0, tt))))))))))))));
       rows = λ closed. (within rows_range s.rows).0 (closed_rows (leaves_rows_open task finds) _ rows.0 closed);
       wish = record {
         apid = (within apid_range wish.apid).0 a.0;
@@ -136,10 +140,12 @@ command_in_range Trial finds lacks e =
     let small : nat_le (number_at finds key.Width * number_at finds key.Rows) 16777216 ≡ true = all.small in
     (all.setting, all.rows refl, grind (arith, nat_tests, small), refl)
 
-ok_after : (fault : Field → WordFault) (first : Option Field) (result : Result Command WordFault) → (first ≡ None → IfOk result IsInRange) → IfOk (after fault first result) IsInRange
+ok_after : (fault : Field → WordFault) (first : Option Field) (result : Result Command WordFault) → (first ≡ None → IfOk result IsInRange) →
+    IfOk (after fault first result) IsInRange
 ok_after fault None result ok = ok refl
 ok_after fault (Some field) result ok = tt
 
 pub made_in_range : (task : Task) (keys : List Key) (finds : Finds) → LacksTotal task finds → IfOk (made task keys finds) IsInRange
 made_in_range task keys finds lacks =
-    ok_after MissingKey (field_of (first_missing keys finds)) _ (λ _. ok_after OutOfRange (field_of (first_refused task finds)) (Ok (command_of task finds)) (command_in_range task finds lacks))
+    ok_after MissingKey (field_of (first_missing keys finds)) _ (λ _. ok_after OutOfRange (field_of (first_refused task finds)) (Ok (command_of task finds))
+    (command_in_range task finds lacks))

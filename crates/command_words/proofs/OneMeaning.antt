@@ -1,5 +1,6 @@
 -- Arguments have at most one meaning.
-use Rattle.std.proofs.Common.{◌≡◌, ◌<◌, ◌≤◌, ◌+◌, ◌^◌, ℕ, List, [], ◌∷◌, ◌++◌, map, decimal, get_or, refl, sym, ◌∙◌, ap, subst, inl, inr, arith, append_assoc, true, false, codes, Some, None, Result, Ok, Err}
+use Rattle.std.proofs.Common.{◌≡◌, ◌<◌, ◌≤◌, ◌+◌, ◌^◌, ℕ, List, [], ◌∷◌, ◌++◌, map, decimal, get_or, refl, sym, ◌∙◌, ap, subst, inl, inr, arith}
+use Rattle.std.proofs.Common.{append_assoc, true, false, codes, Some, None, Result, Ok, Err}
 use Rattle.std.proofs.lemmas.Fmt.{decimal_injective, decimal_nonempty}
 use Rattle.std.proofs.lemmas.List.{get_or_append_left}
 use Rattle.std.proofs.lemmas.Bool.Decides.{nat_tests}
@@ -10,7 +11,8 @@ use Rattle.command_words.specs.declared.tables.Key.{Key}
 use Rattle.command_words.specs.declared.tables.Form.{Form}
 use Rattle.command_words.specs.declared.tables.Form.TheVariants.{Number, Cap, Flag, Stop, Weights, Select}
 use Rattle.command_words.specs.declared.values.Value.{Value}
-use Rattle.command_words.specs.declared.values.Value.TheVariants.{Number as NumberValue, Cap as CapValue, Flag as FlagValue, StopDc, StopAt, Weights as WeightsValue, Select as SelectValue}
+use Rattle.command_words.specs.declared.values.Value.TheVariants.{Number as NumberValue, Cap as CapValue, Flag as FlagValue, StopDc, StopAt}
+use Rattle.command_words.specs.declared.values.Value.TheVariants.{Weights as WeightsValue, Select as SelectValue}
 use Rattle.command_words.specs.declared.entries.Entry.{Entry}
 use Rattle.command_words.specs.declared.command.Command.{Command}
 use Rattle.command_words.specs.declared.command.WordFault.{WordFault}
@@ -28,9 +30,9 @@ not_dc : (plane stage : ℕ) → plane < 2 ^ 32 → codes "dc" ≡ decimal plane
 not_dc plane stage small e =
     let some = decimal_nonempty plane (omega arith) in
     let first = digit plane small 0 some in
-    let front = get_or_append_left (decimal plane) (codes "." ++ decimal stage) 0 0 some in
+    let prefix = get_or_append_left (decimal plane) (codes "." ++ decimal stage) 0 0 some in
     let same = ap (λ xs. get_or xs 0 0) (e ∙ append_assoc (decimal plane) (codes ".") (decimal stage)) in
-    omega (arith, first.1, front, same)
+    omega (arith, first.1, prefix, same)
 
 one_number : (m n : ℕ) → m < 2 ^ 32 → n < 2 ^ 32 → decimal m ≡ decimal n → m ≡ n
 one_number m n p q e = decimal_injective m n (omega arith) (omega arith) e
@@ -114,7 +116,8 @@ entries_say_one keys (word ∷ words) finds place a b (inr p) (inr q) =
     entries_say_one keys words (with_entry finds q.0) (place + 1) a b
     (subst (λ e. EntriesSay keys (with_entry finds e) (place + 1) words a) same p.2) q.2
 
-rest_says_one : (said : Result (Task × List Key) WordFault) (rest : List (List ℕ)) (a b : Result Command WordFault) → RestSays said rest a → RestSays said rest b → a ≡ b
+rest_says_one : (said : Result (Task × List Key) WordFault) (rest : List (List ℕ)) (a b : Result Command WordFault) → RestSays said rest a →
+    RestSays said rest b → a ≡ b
 rest_says_one (Err fault) rest a b p q = p ∙ sym q
 rest_says_one (Ok named) rest a b p q = p.2 ∙ ap (made_of named) (entries_say_one named.1 rest nothing 1 p.0 q.0 p.1 q.1) ∙ sym q.2
 
@@ -125,7 +128,8 @@ says_one (first ∷ rest) a b p q = rest_says_one (name_said first) rest a b p q
 pub says_rest : (words rest : List (List ℕ)) (first : List ℕ) (named : Task × List Key) (said : Result Finds WordFault) → words ≡ first ∷ rest →
     command_named first ≡ Some named → EntriesSay named.1 nothing 1 rest said → Says words (made_of named said)
 says_rest words rest first named said is is_named entries =
-    subst (λ ws. Says ws (made_of named said)) (sym is) (subst (λ n. RestSays (named_or_fault n) rest (made_of named said)) (sym is_named) (said, entries, refl))
+    subst (λ ws. Says ws (made_of named said)) (sym is) (subst (λ n. RestSays (named_or_fault n) rest (made_of named said)) (sym is_named)
+    (said, entries, refl))
 
 pub says_first : (words rest : List (List ℕ)) (first : List ℕ) → words ≡ first ∷ rest → command_named first ≡ None → Says words (Err (BadWord 0))
 says_first words rest first is not_named =

@@ -1,5 +1,6 @@
 -- A fault's place is that of an argument.
-use Rattle.std.proofs.Common.{◌≡◌, ◌<◌, ◌+◌, ℕ, List, [], ◌∷◌, length, sym, subst, inl, inr, arith, Result, Ok, Err, Option, Some, None, IfErr, String, string_bytes}
+use Rattle.std.proofs.Common.{◌≡◌, ◌<◌, ◌+◌, ℕ, List, [], ◌∷◌, length, sym, subst, inl, inr, arith, Result, Ok, Err, Option, Some, None, IfErr, String}
+use Rattle.std.proofs.Common.{string_bytes}
 use Rattle.std.specs.declared.alloc.Global.{Global}
 use Rattle.std.proofs.lemmas.List.{length-map}
 use Rattle.base_122.specs.declared.field.Field.{Field}
@@ -33,7 +34,8 @@ after_placed : (count : ℕ) (fault : Field → WordFault) (first : Option Field
 after_placed count fault None result placed rest = rest
 after_placed count fault (Some field) result placed rest = placed field
 
-made_of_placed : (named : Task × List Key) (count : ℕ) (said : Result Finds WordFault) → IfErr said (IsPlaced count) → IfErr (made_of named said) (IsPlaced count)
+made_of_placed : (named : Task × List Key) (count : ℕ) (said : Result Finds WordFault) → IfErr said (IsPlaced count) →
+    IfErr (made_of named said) (IsPlaced count)
 made_of_placed named count (Ok finds) placed =
     after_placed count MissingKey (field_of (first_missing named.1 finds)) _ (λ field. tt)
     (after_placed count OutOfRange (field_of (first_refused named.0 finds)) (Ok (command_of named.0 finds)) (λ field. tt) tt)

@@ -1,5 +1,6 @@
 -- The texts of values.
-use Rattle.std.proofs.Common.{◌≡◌, ◌≢◌, ◌<◌, ◌≤◌, ◌+◌, ◌^◌, ◌-◌, ◌/◌, ◌%◌, ℕ, zero, suc, List, [], ◌∷◌, ◌++◌, length, get_or, map, decimal, arith, append_assoc, sym, ◌∙◌, subst, codes, All}
+use Rattle.std.proofs.Common.{◌≡◌, ◌≢◌, ◌<◌, ◌≤◌, ◌+◌, ◌^◌, ◌-◌, ◌/◌, ◌%◌, ℕ, zero, suc, List, [], ◌∷◌, ◌++◌, length, get_or, map, decimal, arith}
+use Rattle.std.proofs.Common.{append_assoc, sym, ◌∙◌, subst, codes, All}
 use Rattle.std.proofs.lemmas.Grind.{common_steps}
 use Rattle.std.proofs.lemmas.Fmt.{decimal_by_steps}
 use Rattle.std.proofs.lemmas.List.{length-map, get_or-map, ext_get_or}
@@ -8,7 +9,8 @@ use Rattle.std.proofs.lemmas.Bool.Decides.{nat_tests}
 use Rattle.base_122.specs.Weights.{IsShift}
 use Rattle.command_words.specs.declared.tables.Form.TheVariants.{Stop, Weights}
 use Rattle.command_words.specs.declared.values.Value.{Value}
-use Rattle.command_words.specs.declared.values.Value.TheVariants.{Number as NumberValue, Cap as CapValue, Flag as FlagValue, StopDc, StopAt, Weights as WeightsValue, Select as SelectValue}
+use Rattle.command_words.specs.declared.values.Value.TheVariants.{Number as NumberValue, Cap as CapValue, Flag as FlagValue, StopDc, StopAt}
+use Rattle.command_words.specs.declared.values.Value.TheVariants.{Weights as WeightsValue, Select as SelectValue}
 use Rattle.command_words.specs.Values.{IsWeightDigit, IsValueText}
 
 -- each octet of a number's text is a digit
@@ -47,7 +49,8 @@ digit_of_shift n small = (omega arith, omega arith)
 
 pub All-weights : (text : List ℕ) (value : Value) → IsValueText Weights text value → All IsWeightDigit text
 All-weights text (WeightsValue w) is =
-    subst (All IsWeightDigit) (sym is.1) (All-map IsWeightDigit (λ shift. 48 + shift) w.shifts (All-weaker IsShift (λ shift. IsWeightDigit (48 + shift)) digit_of_shift w.shifts is.0.1))
+    subst (All IsWeightDigit) (sym is.1) (All-map IsWeightDigit (λ shift. 48 + shift) w.shifts
+    (All-weaker IsShift (λ shift. IsWeightDigit (48 + shift)) digit_of_shift w.shifts is.0.1))
 All-weights text (NumberValue n) is = absurd is.0
 All-weights text (CapValue n) is = absurd is.0
 All-weights text (FlagValue b) is = absurd is.0
@@ -58,7 +61,11 @@ All-weights text (SelectValue s) is = absurd is.0
 -- ten such digits less 48 are ten exponents
 pub weights_from_digits : (text shifts : List ℕ) → length text ≡ 10 → length shifts ≡ 10 → All IsWeightDigit text →
     ((k : ℕ) → k < 10 → get_or shifts k 0 ≡ get_or text k 0 - 48) → All IsShift shifts × (text ≡ map (λ shift. 48 + shift) shifts)
-weights_from_digits text shifts ten as_many digits each = (All-from_get_or IsShift shifts 0 small, ext_get_or 0 text (map (λ shift. 48 + shift) shifts) (ten ∙ sym as_many ∙ sym (length-map shifts (λ shift. 48 + shift))) same)
+weights_from_digits text shifts ten as_many digits each = (
+  All-from_get_or IsShift shifts 0 small,
+  ext_get_or 0 text (map (λ shift. 48 + shift) shifts)
+      (ten ∙ sym as_many ∙ sym (length-map shifts (λ shift. 48 + shift))) same,
+)
   where
     in_digits : (k : ℕ) → k < 10 → IsWeightDigit (get_or text k 0)
     in_digits k below = All-get_or IsWeightDigit text k 0 (omega arith) digits

@@ -18,5 +18,6 @@ first_word (w ∷ ws) word some is =
     ap (λ v. string_bytes v ∷ texts ws) (sym is) ∙ ap (λ vs. string_bytes word ∷ texts vs) (sym rest)
 
 pub entry_first : (keys : List Key) (finds : Finds) (place : ℕ) (word : List ℕ) (words after : List (List ℕ)) (entry : Entry) (said : Result Finds WordFault) →
-    words ≡ word ∷ after → IsEntry keys finds word entry → EntriesSay keys (with_entry finds entry) (place + 1) after said → EntriesSay keys finds place words said
+    words ≡ word ∷ after → IsEntry keys finds word entry → EntriesSay keys (with_entry finds entry) (place + 1) after said →
+    EntriesSay keys finds place words said
 entry_first keys finds place word words after entry said is spells more = rw is (inr (entry, spells, more))

@@ -1,9 +1,11 @@
 -- The command that is made of the values, or the first thing that is wrong with them. This project's own.
-use Rattle.std.specs.Prelude.{◌≡◌, ◌≤◌, ◌+◌, ◌*◌, ℕ, IfSome, ◌&&◌, ◌||◌, ◌==◌, nat_le, Bool, true, false, not, List, find, is_some, option_and_then, Option, Some, None, Result, Ok, Err}
+use Rattle.std.specs.Prelude.{◌≡◌, ◌≤◌, ◌+◌, ◌*◌, ℕ, IfSome, ◌&&◌, ◌||◌, ◌==◌, nat_le, Bool, true, false, not, List, find, is_some, option_and_then, Option}
+use Rattle.std.specs.Prelude.{Some, None, Result, Ok, Err}
 use Rattle.std.specs.List.{list_all}
 use Rattle.base_122.specs.Profile.{profile}
 use Rattle.base_122.specs.Weights.{is_shift}
-use Rattle.base_122.specs.Ranges.{IsWithin, is_within, width_range, rows_range, depth_range, apid_range, image_range, octets_range, plane_range, stage_range, limit_test, total_test, IsInRange as IsSettingInRange, IsWishInRange}
+use Rattle.base_122.specs.Ranges.{IsWithin, is_within, width_range, rows_range, depth_range, apid_range, image_range, octets_range, plane_range}
+use Rattle.base_122.specs.Ranges.{stage_range, limit_test, total_test, IsInRange as IsSettingInRange, IsWishInRange}
 use Rattle.base_122.specs.declared.field.Field.{Field}
 use Rattle.base_122.specs.declared.setting.Setting.{Setting}
 use Rattle.raster_rows.specs.declared.made.MadeImage.{MadeImage}
@@ -12,7 +14,9 @@ use Rattle.command_words.specs.declared.tables.Task.TheVariants.{Encode as to_en
 use Rattle.command_words.specs.declared.tables.Key.{Key}
 use Rattle.command_words.specs.declared.tables.Key.TheVariants.{Width, Rows, Limit, Word, Total, Apid}
 use Rattle.command_words.specs.declared.tables.Range.{Range}
-use Rattle.command_words.specs.declared.tables.Range.TheVariants.{All as any_value, Number as number_range, Cap as cap_range, Rows as few_rows, Limit as limit_range, Total as total_range, Fill as fill_range, Stop as stop_range, Weights as weights_range, Cameras as cameras_range}
+use Rattle.command_words.specs.declared.tables.Range.TheVariants.{All as any_value, Number as number_range, Cap as cap_range, Rows as few_rows}
+use Rattle.command_words.specs.declared.tables.Range.TheVariants.{Limit as limit_range, Total as total_range, Fill as fill_range, Stop as stop_range}
+use Rattle.command_words.specs.declared.tables.Range.TheVariants.{Weights as weights_range, Cameras as cameras_range}
 use Rattle.command_words.specs.Listed.{all_keys}
 use Rattle.command_words.specs.declared.command.Command.{Command}
 use Rattle.command_words.specs.declared.command.Command.TheVariants.{Encode, Mux, Read, Info, Pick, BareEncode, BareDecode, Make, Trial}
@@ -72,7 +76,8 @@ after fault (Some field) result = Err (fault field)
 
 -- the tests in their order, and the command that passes all
 abbrev pub made : Task → List Key → Finds → Result Command WordFault
-made task keys finds = after MissingKey (field_of (first_missing keys finds)) (after OutOfRange (field_of (first_refused task finds)) (Ok (command_of task finds)))
+made task keys finds = after MissingKey (field_of (first_missing keys finds))
+    (after OutOfRange (field_of (first_refused task finds)) (Ok (command_of task finds)))
 
 -- a total that wasn't found is 0; `bare-encode` has no key for it
 abbrev pub LacksTotal : Task → Finds → Type 0
@@ -101,4 +106,5 @@ IsInRange (Pick wish image) = IsWishInRange wish × IfSome image (IsWithin image
 IsInRange (BareEncode setting) = IsSettingInRange setting × IsWithin rows_range setting.rows × (setting.total ≡ 0) × (setting.book ≡ profile)
 IsInRange (BareDecode wish) = IsWishInRange wish × (wish.book ≡ profile)
 IsInRange (Make made) = IsMadeInRange made
-IsInRange (Trial setting seed) = IsSettingInRange setting × IsWithin rows_range setting.rows × (setting.width * setting.rows ≤ 16777216) × (setting.book ≡ profile)
+IsInRange (Trial setting seed) = IsSettingInRange setting × IsWithin rows_range setting.rows × (setting.width * setting.rows ≤ 16777216)
+    × (setting.book ≡ profile)

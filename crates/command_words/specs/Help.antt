@@ -1,5 +1,6 @@
 -- The texts of help. This project's own.
-use Rattle.std.specs.Prelude.{◌≡◌, ◌+◌, ◌-◌, ℕ, nat_lt, Bool, true, false, if◌then◌else◌, List, [], ◌∷◌, ◌++◌, length, map, replicate, flat_map, codes, decimal, Result, IfOk, String, string_bytes}
+use Rattle.std.specs.Prelude.{◌≡◌, ◌+◌, ◌-◌, ℕ, nat_lt, Bool, true, false, if◌then◌else◌, List, [], ◌∷◌, ◌++◌, length, map, replicate, flat_map, codes}
+use Rattle.std.specs.Prelude.{decimal, Result, IfOk, String, string_bytes}
 use Rattle.std.specs.declared.alloc.Global.{Global}
 use Rattle.base_122.specs.Ranges.{limit_range as limits, plane_range, stage_range}
 use Rattle.base_122.specs.declared.range.FieldRange.{FieldRange}
@@ -11,7 +12,9 @@ use Rattle.command_words.specs.declared.tables.Task.TheVariants.{Info, Pick}
 use Rattle.command_words.specs.declared.tables.Form.{Form}
 use Rattle.command_words.specs.declared.tables.Form.TheVariants.{Number, Cap, Flag, Stop, Weights, Select}
 use Rattle.command_words.specs.declared.tables.Range.{Range}
-use Rattle.command_words.specs.declared.tables.Range.TheVariants.{All as any_value, Number as number_range, Cap as cap_range, Rows as image_rows, Limit as limit_range, Total as total_range, Fill as fill_range, Stop as stop_range, Weights as weights_range, Cameras as cameras_range}
+use Rattle.command_words.specs.declared.tables.Range.TheVariants.{All as any_value, Number as number_range, Cap as cap_range, Rows as image_rows}
+use Rattle.command_words.specs.declared.tables.Range.TheVariants.{Limit as limit_range, Total as total_range, Fill as fill_range, Stop as stop_range}
+use Rattle.command_words.specs.declared.tables.Range.TheVariants.{Weights as weights_range, Cameras as cameras_range}
 use Rattle.command_words.specs.declared.tables.TheConstants.{COMMANDS, GROUPS}
 use Rattle.command_words.specs.declared.help.TheConstants.{USAGE, RASTERS, STATUSES}
 use Rattle.command_words.specs.Values.{value_text, form_of}

@@ -1,7 +1,8 @@
 -- The commands and the keys of the program, one literal list each; the program's own tables are these (docs/DECISIONS.md, "Words"). This project's own.
 use Rattle.std.specs.Prelude.{ℕ, Bool, true, false, List, [], ◌∷◌, codes, Option, Some, None}
 use Rattle.base_122.specs.Weights.{usual_shifts}
-use Rattle.base_122.specs.Ranges.{width_range, rows_range, depth_range, segment_range, word_range, apid_range, image_range, packet_range, pixels_range, octets_range}
+use Rattle.base_122.specs.Ranges.{width_range, rows_range, depth_range, segment_range, word_range, apid_range, image_range, packet_range, pixels_range}
+use Rattle.base_122.specs.Ranges.{octets_range}
 use Rattle.base_122.specs.declared.field.Field.{Field}
 use Rattle.base_122.specs.declared.field.Field.TheVariants as field
 use Rattle.base_122.specs.declared.setting.Select.TheVariants.{Optimal}
@@ -9,9 +10,12 @@ use Rattle.command_words.specs.declared.tables.Task.{Task}
 use Rattle.command_words.specs.declared.tables.Task.TheVariants.{Encode, Mux, Read, Info, Pick, BareEncode, BareDecode, Make, Trial}
 use Rattle.command_words.specs.declared.tables.Reading.TheVariants.{Decode, Damage, Look, Rects, List as ListPackets}
 use Rattle.command_words.specs.declared.tables.Key.{Key}
-use Rattle.command_words.specs.declared.tables.Key.TheVariants.{Width, Rows, Depth, Signed, Segment, Limit, Fill, Word, Stop, Weights, Select, Apid, Image, Packet, Pixels, Octets, Total, Cameras, Book, Seed}
+use Rattle.command_words.specs.declared.tables.Key.TheVariants.{Width, Rows, Depth, Signed, Segment, Limit, Fill, Word, Stop, Weights, Select, Apid, Image}
+use Rattle.command_words.specs.declared.tables.Key.TheVariants.{Packet, Pixels, Octets, Total, Cameras, Book, Seed}
 use Rattle.command_words.specs.declared.tables.Range.{Range}
-use Rattle.command_words.specs.declared.tables.Range.TheVariants.{All as any_value, Number as number_range, Cap as cap_range, Rows as image_rows, Limit as limit_range, Total as total_range, Fill as fill_range, Stop as stop_range, Weights as weights_range, Cameras as cameras_range}
+use Rattle.command_words.specs.declared.tables.Range.TheVariants.{All as any_value, Number as number_range, Cap as cap_range, Rows as image_rows}
+use Rattle.command_words.specs.declared.tables.Range.TheVariants.{Limit as limit_range, Total as total_range, Fill as fill_range, Stop as stop_range}
+use Rattle.command_words.specs.declared.tables.Range.TheVariants.{Weights as weights_range, Cameras as cameras_range}
 use Rattle.command_words.specs.declared.values.Value.{Value}
 use Rattle.command_words.specs.declared.values.Value.TheVariants.{Number, Cap, Flag, StopAt, Weights as WeightsValue, Select as SelectValue}
 
@@ -115,12 +119,17 @@ named_field Seed = None
 
 -- all keys, in the order in which their ranges are tested
 abbrev pub all_keys : List Key
-all_keys = Width ∷ Rows ∷ Depth ∷ Signed ∷ Segment ∷ Limit ∷ Fill ∷ Word ∷ Stop ∷ Weights ∷ Select ∷ Apid ∷ Image ∷ Packet ∷ Pixels ∷ Octets ∷ Total ∷ Cameras ∷ Book ∷ Seed ∷ []
+all_keys = Width ∷ Rows ∷ Depth ∷ Signed ∷ Segment ∷ Limit ∷ Fill ∷ Word ∷ Stop ∷ Weights ∷ Select ∷ Apid ∷ Image ∷ Packet ∷ Pixels ∷ Octets ∷ Total
+    ∷ Cameras ∷ Book ∷ Seed ∷ []
 
 -- the commands: for each its name, what it does, and its keys in the order in which a missing one is named
 abbrev pub commands : List (List ℕ × Task × List Key)
-commands =
-    (codes "encode", Encode, Width ∷ Rows ∷ Depth ∷ Signed ∷ Segment ∷ Limit ∷ Fill ∷ Word ∷ Stop ∷ Weights ∷ Select ∷ Apid ∷ Image ∷ Packet ∷ Total ∷ Book ∷ []) ∷
+commands = (
+  codes "encode",
+  Encode,
+  Width ∷ Rows ∷ Depth ∷ Signed ∷ Segment ∷ Limit ∷ Fill ∷ Word ∷ Stop ∷ Weights ∷ Select ∷ Apid ∷ Image ∷ Packet ∷ Total ∷
+      Book ∷ [],
+) ∷
     (codes "mux", Mux, Width ∷ Rows ∷ Depth ∷ Signed ∷ Segment ∷ Limit ∷ Fill ∷ Word ∷ Stop ∷ Weights ∷ Select ∷ Apid ∷ Image ∷ Packet ∷ Total ∷ Cameras ∷ []) ∷
     (codes "decode", Read Decode, Apid ∷ Pixels ∷ Octets ∷ Book ∷ []) ∷
     (codes "damage", Read Damage, Apid ∷ Pixels ∷ Octets ∷ Book ∷ []) ∷
@@ -131,6 +140,10 @@ commands =
     (codes "pick", Pick, Apid ∷ Image ∷ Octets ∷ []) ∷
     (codes "bare-encode", BareEncode, Width ∷ Rows ∷ Depth ∷ Signed ∷ Segment ∷ Limit ∷ Fill ∷ Word ∷ Stop ∷ Weights ∷ Select ∷ []) ∷
     (codes "bare-decode", BareDecode, Pixels ∷ Octets ∷ []) ∷
-    (codes "make", Make, Width ∷ Rows ∷ Depth ∷ Signed ∷ Seed ∷ []) ∷
-    (codes "trial", Trial, Width ∷ Rows ∷ Depth ∷ Signed ∷ Segment ∷ Limit ∷ Fill ∷ Word ∷ Stop ∷ Weights ∷ Select ∷ Apid ∷ Image ∷ Packet ∷ Total ∷ Seed ∷ []) ∷
+    (codes "make", Make, Width ∷ Rows ∷ Depth ∷ Signed ∷ Seed ∷ []) ∷ (
+      codes "trial",
+      Trial,
+      Width ∷ Rows ∷ Depth ∷ Signed ∷ Segment ∷ Limit ∷ Fill ∷ Word ∷ Stop ∷ Weights ∷ Select ∷ Apid ∷ Image ∷ Packet ∷ Total ∷ Seed ∷
+          [],
+    ) ∷
     []

@@ -7,11 +7,14 @@ use Rattle.base_122.specs.declared.setting.Setting.{Setting}
 use Rattle.base_122.specs.declared.wish.DecodeWish.{DecodeWish}
 use Rattle.raster_rows.specs.declared.made.MadeImage.{MadeImage}
 use Rattle.command_words.specs.declared.tables.Task.{Task}
-use Rattle.command_words.specs.declared.tables.Task.TheVariants.{Encode as to_encode, Mux as to_mux, Read as to_read, Info as to_info, Pick as to_pick, BareEncode as to_bare_encode, BareDecode as to_bare_decode, Make as to_make, Trial as to_try}
+use Rattle.command_words.specs.declared.tables.Task.TheVariants.{Encode as to_encode, Mux as to_mux, Read as to_read, Info as to_info, Pick as to_pick}
+use Rattle.command_words.specs.declared.tables.Task.TheVariants.{BareEncode as to_bare_encode, BareDecode as to_bare_decode, Make as to_make}
+use Rattle.command_words.specs.declared.tables.Task.TheVariants.{Trial as to_try}
 use Rattle.command_words.specs.declared.command.Command.{Command}
 use Rattle.command_words.specs.declared.command.Command.TheVariants.{Encode, Mux, Read, Info, Pick, BareEncode, BareDecode, Make, Trial}
 use Rattle.command_words.specs.declared.tables.Key.{Key}
-use Rattle.command_words.specs.declared.tables.Key.TheVariants.{Width, Rows, Depth, Signed, Segment, Limit, Fill, Word, Stop, Weights, Select, Apid, Image, Packet, Pixels, Octets, Total, Cameras, Book, Seed}
+use Rattle.command_words.specs.declared.tables.Key.TheVariants.{Width, Rows, Depth, Signed, Segment, Limit, Fill, Word, Stop, Weights, Select, Apid, Image}
+use Rattle.command_words.specs.declared.tables.Key.TheVariants.{Packet, Pixels, Octets, Total, Cameras, Book, Seed}
 use Rattle.command_words.specs.declared.tables.KeyRow.{KeyRow}
 use Rattle.command_words.specs.declared.values.Value.{Value}
 use Rattle.command_words.specs.declared.tables.Range.TheVariants.{All as any_value}

@@ -8,7 +8,8 @@ use Rattle.base_122.specs.declared.setting.Select.TheVariants.{Heuristic, Optima
 use Rattle.command_words.specs.declared.tables.Form.{Form}
 use Rattle.command_words.specs.declared.tables.Form.TheVariants.{Number, Cap, Flag, Stop, Weights, Select}
 use Rattle.command_words.specs.declared.values.Value.{Value}
-use Rattle.command_words.specs.declared.values.Value.TheVariants.{Number as NumberValue, Cap as CapValue, Flag as FlagValue, StopDc, StopAt, Weights as WeightsValue, Select as SelectValue}
+use Rattle.command_words.specs.declared.values.Value.TheVariants.{Number as NumberValue, Cap as CapValue, Flag as FlagValue, StopDc, StopAt}
+use Rattle.command_words.specs.declared.values.Value.TheVariants.{Weights as WeightsValue, Select as SelectValue}
 
 -- a value as it is written
 abbrev pub value_text : Value → List ℕ

@@ -101,7 +101,8 @@ pub fn answer_text(alloc: Global, answer: Answer) -> Result<String, AllocError>
 // Returns the help on the command at this place of the table.
 fn command_help_at(alloc: Global, table: &[CommandRow], place: usize) -> Result<String, AllocError>
     requires { place < length table.now }
-    ensures { IfOk result (λ text. string_bytes text ≡ slice_index_or (map (λ row. command_help row.0.now row.1 row.2.now row.3.now row.4.now) table.now) place []) }
+    ensures { IfOk result (λ text. string_bytes text ≡ slice_index_or (map (λ row. command_help row.0.now row.1 row.2.now row.3.now row.4.now) table.now)
+        place []) }
 {
     command_help(alloc, &table[place])
 }

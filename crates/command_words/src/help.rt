@@ -2,7 +2,8 @@
 ghost use Rattle.std.specs.Prelude.{◌≡◌, ◌+◌, ◌-◌, ◌++◌, All, IfOk, length, map, flat_map, string_bytes};
 ghost use Rattle.base_122.specs.Weights.{IsShift};
 ghost use Rattle.command_words.specs.Values.{form_of, HasForm, value_text};
-ghost use Rattle.command_words.specs.Help.{Appends, numbers_text, form_text, range_text, default_text, key_head, spaces_to, command_line, name_if_own, columns, column_text, column_after, key_line, group_lines, page, takes_all, command_key, command_help, key_help};
+ghost use Rattle.command_words.specs.Help.{Appends, numbers_text, form_text, range_text, default_text, key_head, spaces_to, command_line, name_if_own};
+ghost use Rattle.command_words.specs.Help.{columns, column_text, column_after, key_line, group_lines, page, takes_all, command_key, command_help, key_help};
 
 use crate::tables::{COMMANDS, CommandRow, Form, GROUPS, Key, KeyRow, Range, Task};
 use crate::values::Value;

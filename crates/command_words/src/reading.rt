@@ -84,8 +84,8 @@ fn make_command(task: Task, keys: &[Key], given: &Given) -> Result<Command, Word
 /// The first argument is the command, and each further one is `key=value`. A key that is missing has its default. If the arguments make no
 /// command, the result is the first thing that is wrong with them: the arguments are tested from left to right, then for a required key
 /// that is missing, then for the command's first field out of range in the order of `Field`. A command that is returned has its fields in
-/// range, and the code book of the profile. The rows of `encode` are 0, for an image whose height is reported last, or 17 to 262,144 (docs/formats.md, "Bounds"); `rows=0` is
-/// out of range for all other commands.
+/// range, and the code book of the profile. The rows of `encode` are 0, for an image whose height is reported last, or 17 to 262,144
+/// (docs/formats.md, "Bounds"); `rows=0` is out of range for all other commands.
 pub fn read_words(words: &[String]) -> Result<Command, WordFault>
     ensures says { Says (texts words.now) result }
     ensures only { (said : Result Command WordFault) → Says (texts words.now) said → said ≡ result }

@@ -15,9 +15,11 @@ left_of octets took None p = absurd p
 left_of octets took (Some rest) p = (rest, p, λ end. end)
 
 module _ (wish : DecodeWish) (octets : List ℕ) (old new : Outside) (all : old.rest ≡ Some octets) where
-  pub all_lines : (done : ListDone) (lines : List ℕ) → old.given ≡ Some [] → new.given ≡ Some lines → Lists wish old new (Ok done) → lines ≡ listing wish.apid octets
+  pub all_lines : (done : ListDone) (lines : List ℕ) → old.given ≡ Some [] → new.given ≡ Some lines → Lists wish old new (Ok done) →
+      lines ≡ listing wish.apid octets
   all_lines done lines none given l =
-      let grew : Grows (Some []) (Some lines) l.gave = subst (λ now. Grows (Some []) now l.gave) given (subst (λ before. Grows before new.given l.gave) none l.since.given) in
+      let grew : Grows (Some []) (Some lines) l.gave = subst (λ now. Grows (Some []) now l.gave) given
+      (subst (λ before. Grows before new.given l.gave) none l.since.given) in
       let left = left_of octets l.took new.rest (subst (λ before. Loses before new.rest l.took) all l.since.rest) in
       let same : whole_packets (l.took ++ left.0) ≡ whole_packets l.took = read_out left.0 left.2 l.answer.out in
       grew ∙ l.answer.lines ∙ sym (ap (lines_of wish.apid) (ap whole_packets left.1 ∙ same))

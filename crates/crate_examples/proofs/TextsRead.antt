@@ -8,9 +8,10 @@ use Rattle.item_defs.specs.Items.{bad_option, bad_delta, bad_depth, false_flag}
 use Rattle.base_122.specs.Profile.{profile}
 use Rattle.wave_defs.specs.Held.{blocks_in}
 use Rattle.segment_defs.specs.declared.head.SegmentHead.{SegmentHead}
-use Rattle.text_defs.specs.Outcomes.{at_item, short_segment, overlong}
+use Rattle.segment_defs.specs.Outcomes.{at_item, short_segment, overlong}
 use Rattle.segment_code.specs.declared.fault.SegmentFault.{SegmentFault}
-use Rattle.segment_code.specs.declared.fault.SegmentFault.TheVariants.{BadOption, BadDelta, BadDepth, FalseFlag, ShortSegment, Overlong, BrokenSegment, ReadFault, LongInput}
+use Rattle.segment_code.specs.declared.fault.SegmentFault.TheVariants.{BadOption, BadDelta, BadDepth, FalseFlag, ShortSegment, Overlong, BrokenSegment}
+use Rattle.segment_code.specs.declared.fault.SegmentFault.TheVariants.{ReadFault, LongInput}
 use Rattle.segment_code.specs.Decoded.{DecodesSegment}
 use Rattle.segment_code.specs.Laws.{EndsSay}
 use Rattle.crate_examples.specs.Texts.{HoldsBlocks, IsNamed, RefusedFor}

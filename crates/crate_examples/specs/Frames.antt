@@ -4,7 +4,7 @@ use Rattle.port_122.specs.Outside.{Outside, Exchange, NoRead, Rose}
 use Rattle.base_122.specs.declared.setting.Setting.{Setting}
 use Rattle.packet_defs.specs.Packets.{joined}
 use Rattle.stream_defs.specs.Output.{output}
-use Rattle.stream_defs.specs.SettledImages.{front_packets}
+use Rattle.stream_defs.specs.SettledImages.{leading_packets}
 use Rattle.strip_coder.specs.declared.encode.EncodeDone.{EncodeDone}
 use Rattle.strip_coder.specs.declared.work.Work.{Work}
 use Rattle.strip_coder.specs.Answers.{DoneFor}
@@ -17,15 +17,15 @@ abbrev pub HasOctets : Setting → Type 0
 HasOctets s = (s.depth ≡ 8) × (s.signed ≡ false)
 
 -- the row in the work is the last one that was taken
-abbrev pub LastStands : Setting → (ℕ → ℕ → ℤ) → Work → Type 0
-LastStands s image w = IsRowInRange s w.row.items × RowIs s image (w.at.rows - 1) w
+abbrev pub LastIsValid : Setting → (ℕ → ℕ → ℤ) → Work → Type 0
+LastIsValid s image w = IsRowInRange s w.row.items × RowIs s image (w.at.rows - 1) w
 
 -- A work took the first rows of an image, and since a start exactly the packets of the segments before the present one were given.
 pub record HasGiven (s : Setting) (image : ℕ → ℕ → ℤ) (start now : Outside) (w : Work) : Type 0 where
   pub taken : HasTaken (plan_of s (tallest s)) w.at.rows w
   pub follows : FollowsRows s image w
-  pub last : 0 < w.at.rows → LastStands s image w
-  pub since : Exchange start now [] (joined (front_packets s (tallest s) image w.at.index)) [] NoRead
+  pub last : 0 < w.at.rows → LastIsValid s image w
+  pub since : Exchange start now [] (joined (leading_packets s (tallest s) image w.at.index)) [] NoRead
 
 -- all packets of the image were given
 pub record GaveAll (s : Setting) (image : ℕ → ℕ → ℤ) (start now : Outside) (done : EncodeDone) : Type 0 where

@@ -7,11 +7,12 @@ use Rattle.wave_defs.specs.Held.{blocks_in}
 use Rattle.segment_defs.specs.declared.head.SegmentHead.{SegmentHead}
 use Rattle.segment_defs.specs.Head.{head_length}
 use Rattle.segment_defs.specs.Reading.{head_read}
-use Rattle.text_defs.specs.Outcomes.{SegmentRefusal, at_item, short_segment, overlong}
-use Rattle.text_defs.specs.TextOutcome.{text_outcome}
+use Rattle.segment_defs.specs.Outcomes.{SegmentRefusal, at_item, short_segment, overlong}
+use Rattle.segment_defs.specs.TextOutcome.{text_outcome}
 use Rattle.segment_code.specs.TextAnswers.{gives, Decides}
 use Rattle.segment_code.specs.declared.fault.SegmentFault.{SegmentFault}
-use Rattle.segment_code.specs.declared.fault.SegmentFault.TheVariants.{BadOption, BadDelta, BadDepth, FalseFlag, ShortSegment, Overlong, BrokenSegment, ReadFault, LongInput}
+use Rattle.segment_code.specs.declared.fault.SegmentFault.TheVariants.{BadOption, BadDelta, BadDepth, FalseFlag, ShortSegment, Overlong, BrokenSegment}
+use Rattle.segment_code.specs.declared.fault.SegmentFault.TheVariants.{ReadFault, LongInput}
 use Rattle.crate_examples.specs.declared.texts.ReadBlocks.{ReadBlocks}
 use Rattle.crate_examples.specs.declared.texts.NotRead.{NotRead}
 use Rattle.crate_examples.specs.declared.texts.NotRead.TheVariants.{BadHead, BadText, NoMemory}

@@ -1,5 +1,8 @@
-//! An example for each of three ways to call the crates: rows are encoded, a segment's text is read, packets are listed (docs/crates.md).
+//! An example for each of three ways to call the crates: rows are encoded, a segment's text is read, packets are listed (crates/README.md).
 //! It is not part of the program.
+//!
+//! Layer: tests and examples, no part of the program. It uses `base_122`, `port_122`, `raster_rows`, `item_defs`, `wave_defs`,
+//! `plane_defs`, `segment_defs` and 10 more.
 #![tactic(auto)]
 
 mod lists;

@@ -21,9 +21,10 @@ use Rattle.segment_walk.proofs.SublistPictures.{begun_few, geometry_there}
 use Rattle.damage_rects.specs.Containment.{GivesInRects, GivesAlikeInRects}
 use Rattle.damage_rects.proofs.SomePackets.{in_rects, sublist_in_rects}
 
-pub decoded_in_rects : (wish : DecodeWish) (start new : Outside) (took gave every : List ℕ) (done : DecodeDone) → IsPicture wish start new took gave done → start.rest ≡ Some every → GivesInRects wish took gave done
-decoded_in_rects wish start new took gave every done is told =
-    let t = is.told every told in
+pub decoded_in_rects : (wish : DecodeWish) (start new : Outside) (took gave every : List ℕ) (done : DecodeDone) → IsPicture wish start new took gave done →
+    start.rest ≡ Some every → GivesInRects wish took gave done
+decoded_in_rects wish start new took gave every done is if_known =
+    let t = is.if_known every if_known in
     let g = done.geometry in
     let n : ℕ = begun_in wish.apid took in
     record {
@@ -31,20 +32,25 @@ decoded_in_rects wish start new took gave every done is told =
       received_is = t.1;
       gave_is = t.2;
       whatever = λ numbers are.
-          subst (λ rows. SameOutsideRects rows g.width (rects g t.0 n) (picture_with g numbers n) (picture g t.0 n)) (sym is.written) (in_rects g t.0 numbers n is.range are);
+          subst (λ rows. SameOutsideRects rows g.width (rects g t.0 n) (picture_with g numbers n) (picture g t.0 n)) (sym is.written)
+          (in_rects g t.0 numbers n is.range are);
     }
 
-pub decoded_alike : TextsAreShort → (wish : DecodeWish) (start new : Outside) (took gave every : List ℕ) (done : DecodeDone) (s : Setting) (rows : ℕ) (x : ℕ → ℕ → ℤ) (parts : ℕ → List ℕ) →
-    IsPicture wish start new took gave done → start.rest ≡ Some every → wish.apid ≡ s.apid → wish.book ≡ s.book → took ≡ some_output s rows x parts → AreSome s rows x parts → BeginsOne s rows parts → GivesAlikeInRects s rows x parts gave done
-decoded_alike short wish start new took gave every done s rows x parts is told apid book took_is are begins =
-    let t = is.told every told in
+pub decoded_alike : TextsAreShort → (wish : DecodeWish) (start new : Outside) (took gave every : List ℕ) (done : DecodeDone) (s : Setting) (rows : ℕ)
+    (x : ℕ → ℕ → ℤ) (parts : ℕ → List ℕ) →
+    IsPicture wish start new took gave done → start.rest ≡ Some every → wish.apid ≡ s.apid → wish.book ≡ s.book → took ≡ some_output s rows x parts →
+    AreSome s rows x parts → BeginsOne s rows parts → GivesAlikeInRects s rows x parts gave done
+decoded_alike short wish start new took gave every done s rows x parts is if_known apid book took_is are begins =
+    let t = is.if_known every if_known in
     let received = t.0 in
     let octets = some_output s rows x parts in
     let n : ℕ = begun_in s.apid octets in
     let begun_same : begun_in wish.apid took ≡ n = ap (λ apid. begun_in apid took) apid ∙ ap (begun_in s.apid) took_is in
-    let there : geometry_in s.apid octets ≡ Some done.geometry = subst (λ octets. geometry_in s.apid octets ≡ Some done.geometry) took_is (subst (λ n. geometry_in n took ≡ Some done.geometry) apid is.geometry) in
+    let there : geometry_in s.apid octets ≡ Some done.geometry = subst (λ octets. geometry_in s.apid octets ≡ Some done.geometry) took_is
+    (subst (λ n. geometry_in n took ≡ Some done.geometry) apid is.geometry) in
     let same : done.geometry ≡ reported s rows parts = same_Some _ _ (sym there ∙ geometry_there short s rows x parts are begins) in
-    let mine : ReceivedIn (holds_after s.book) s.apid octets received = subst (λ octets. ReceivedIn (holds_after s.book) s.apid octets received) took_is (subst (λ n. ReceivedIn (holds_after s.book) n took received) apid (subst (λ b. ReceivedIn (holds_after b) wish.apid took received) book t.1)) in
+    let mine : ReceivedIn (holds_after s.book) s.apid octets received = subst (λ octets. ReceivedIn (holds_after s.book) s.apid octets received) took_is
+    (subst (λ n. ReceivedIn (holds_after s.book) n took received) apid (subst (λ b. ReceivedIn (holds_after b) wish.apid took received) book t.1)) in
     let written : done.written ≡ height done.geometry n = is.written ∙ ap (height done.geometry) begun_same in
     record {
       geometry = same;

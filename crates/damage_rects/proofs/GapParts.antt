@@ -6,7 +6,8 @@ use Rattle.rect_defs.specs.declared.gap.Gap.{Gap}
 use Rattle.rect_defs.specs.Gaps.{gap_rows}
 
 -- the block rows of a gap, one after another
-pub row_at : (width : ℕ) (gap : Gap) (row : ℕ) → gap.first / block_count width ≤ row → row ≤ gap.last / block_count width → (row - gap.first / block_count width < length (gap_rows width gap)) × (row ≡ get_or (gap_rows width gap) (row - gap.first / block_count width) row)
+pub row_at : (width : ℕ) (gap : Gap) (row : ℕ) → gap.first / block_count width ≤ row → row ≤ gap.last / block_count width →
+    (row - gap.first / block_count width < length (gap_rows width gap)) × (row ≡ get_or (gap_rows width gap) (row - gap.first / block_count width) row)
 row_at width gap row low high =
     let a = gap.first / block_count width in
     let n = gap.last / block_count width + 1 - a in

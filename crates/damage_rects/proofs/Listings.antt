@@ -1,5 +1,6 @@
 -- How a search for rectangles ends.
-use Rattle.std.proofs.Common.{◌≡◌, ◌≤◌, ◌<◌, ◌+◌, ◌-◌, ◌*◌, ◌/◌, ◌%◌, ℕ, ℤ, List, [], take, refl, sym, ap, subst, ◌∙◌, inl, inr, arith, Bool, not, if◌then◌else◌, All, Option, None, Some, is_some, slice_index_or, Result, Ok, Err, IsOk, IsErr, false, flat_map, option_map}
+use Rattle.std.proofs.Common.{◌≡◌, ◌≤◌, ◌<◌, ◌+◌, ◌-◌, ◌*◌, ◌/◌, ◌%◌, ℕ, ℤ, List, [], take, refl, sym, ap, subst, ◌∙◌, inl, inr, arith, Bool, not}
+use Rattle.std.proofs.Common.{if◌then◌else◌, All, Option, None, Some, is_some, slice_index_or, Result, Ok, Err, IsOk, IsErr, false, flat_map, option_map}
 use Rattle.std.proofs.lemmas.Bool.{false≢true}
 use Rattle.std.proofs.lemmas.Nat.{le-div}
 use Rattle.std.proofs.Math.Nat.{div-le_of_le-mul, div-mul-le_self, mul-le-mul_right}
@@ -52,7 +53,8 @@ module _ (wish : DecodeWish) (old mid : Outside) (took gave : List ℕ) (walked 
   passed = blocks_passed g ended
 
   abbrev AreAllGaps : List Gap → Type 0
-  AreAllGaps gaps = (lost : ℕ → Bool) → HasKept walked.sink lost walked.sink.passed → AreGaps (lost_below walked.sink.passed lost) 0 gaps (walked.sink.passed + 1)
+  AreAllGaps gaps = (lost : ℕ → Bool) → HasKept walked.sink lost walked.sink.passed →
+      AreGaps (lost_below walked.sink.passed lost) 0 gaps (walked.sink.passed + 1)
 
   some : 0 < g.width
   some = let least = x.range.width.0 in omega (arith, least)
@@ -100,10 +102,11 @@ module _ (wish : DecodeWish) (old mid : Outside) (took gave : List ℕ) (walked 
       by None = refl
       by (Some v) = refl
 
-  pub rects_are : (received : Numbers) (gaps : List Gap) → AreAllGaps gaps → HasKept walked.sink (lost_in (blocks_with g received)) passed → flat_map (gap_rects walked.done.written g.width) gaps ≡ rects g received n
+  pub rects_are : (received : Numbers) (gaps : List Gap) → AreAllGaps gaps → HasKept walked.sink (lost_in (blocks_with g received)) passed →
+      flat_map (gap_rects walked.done.written g.width) gaps ≡ rects g received n
   rects_are received gaps are kept =
       let lost = lost_in (blocks_with g received) in
-      let count : walked.sink.passed ≡ passed = x.stands.passed in
+      let count : walked.sink.passed ≡ passed = x.valid.passed in
       let all : AreGaps (lost_below passed lost) 0 gaps (passed + 1) =
       subst (λ m. AreGaps (lost_below m lost) 0 gaps (m + 1)) count (are lost (subst (HasKept walked.sink lost) (sym count) kept)) in
       ap (λ rows. flat_map (gap_rects rows g.width) gaps) x.written
@@ -114,8 +117,8 @@ module _ (wish : DecodeWish) (old mid : Outside) (took gave : List ℕ) (walked 
 
   placed_few : passed ≤ 32768 * c
   placed_few =
-      let few = x.stands.few in
-      let tall = block_count-rows (placed_rows g) x.stands.height in
+      let few = x.valid.few in
+      let tall = block_count-rows (placed_rows g) x.valid.height in
       let most : block_count (placed_rows g) * c ≤ 32768 * c = mul-le-mul_right c (omega (arith, tall)) in
       let turned : blocks_of (placed g) ≡ block_count (placed_rows g) * c = grind arith in
       omega (arith, few, most, turned)
@@ -139,21 +142,29 @@ module _ (wish : DecodeWish) (old mid : Outside) (took gave : List ℕ) (walked 
 
   pub all_within : (gaps : List Gap) → AreAllGaps gaps → All (IsWithinImage g.width) gaps
   all_within gaps are =
-      let count : walked.sink.passed ≡ passed = x.stands.passed in
+      let count : walked.sink.passed ≡ passed = x.valid.passed in
       let few = placed_few in
-      gaps_within (lost_below walked.sink.passed x.stands.lost) g.width 0 gaps (walked.sink.passed + 1) (omega (arith, count, few)) (are x.stands.lost (subst (HasKept walked.sink x.stands.lost) (sym count) x.stands.kept))
+      gaps_within (lost_below walked.sink.passed x.valid.lost) g.width 0 gaps (walked.sink.passed + 1) (omega (arith, count, few))
+      (are x.valid.lost (subst (HasKept walked.sink x.valid.lost) (sym count) x.valid.kept))
 
   pub has_open : HasOpen walked.sink
   has_open refused first is =
-      let count : walked.sink.passed ≡ passed = x.stands.passed in
-      let below = open_below x.stands.lost walked.sink.ended.items walked.sink.open_from passed (x.stands.kept refused) first is in
+      let count : walked.sink.passed ≡ passed = x.valid.passed in
+      let below = open_below x.valid.lost walked.sink.ended.items walked.sink.open_from passed (x.valid.kept refused) first is in
       omega (arith, count, below)
 
 -- ---- the answers
 
 -- a fault ended it
 pub list_fails : (wish : DecodeWish) (old new : Outside) (fault : DecodeFault) → Walks gap_sink wish old new (Err fault) → ListsRects wish old new (Err fault)
-list_fails wish old new fault x = record { took = x.took; gave = []; since = silent_since wish old new (Err fault) x (λ some. some.part); within = x.within; answer = by fault x.answer }
+list_fails wish old new fault x = record {
+  took = x.took;
+  gave = [];
+  since = silent_since wish old new (Err fault) x (λ some. some.part);
+  within =
+      x.within;
+  answer = by fault x.answer;
+}
   where
     by : (fault : DecodeFault) → WalkAnswers gap_sink wish old new x.took x.gave (Err fault) → RectAnswers wish old new x.took [] (Err fault)
     by ReadFault a = (a.0, refl)
@@ -164,24 +175,37 @@ list_fails wish old new fault x = record { took = x.took; gave = []; since = sil
     by Memory a = refl
 
 -- memory for the gaps was refused
-pub list_refused : (wish : DecodeWish) (old new : Outside) (walked : Walked Gaps) → Walks gap_sink wish old new (Ok walked) → ListsRects wish old new (Err Memory)
-list_refused wish old new walked x = record { took = x.took; gave = []; since = silent_since wish old new (Ok walked) x (λ some. some.part); within = x.within; answer = refl }
+pub list_refused : (wish : DecodeWish) (old new : Outside) (walked : Walked Gaps) → Walks gap_sink wish old new (Ok walked) →
+    ListsRects wish old new (Err Memory)
+list_refused wish old new walked x = record {
+  took = x.took;
+  gave = [];
+  since = silent_since wish old new (Ok walked) x (λ some. some.part);
+  within =
+      x.within;
+  answer = refl;
+}
 
 abbrev pub AllGaps : Walked Gaps → List Gap → Type 0
-AllGaps walked gaps = (lost : ℕ → Bool) → HasKept walked.sink lost walked.sink.passed → AreGaps (lost_below walked.sink.passed lost) 0 gaps (walked.sink.passed + 1)
+AllGaps walked gaps = (lost : ℕ → Bool) → HasKept walked.sink lost walked.sink.passed →
+    AreGaps (lost_below walked.sink.passed lost) 0 gaps (walked.sink.passed + 1)
 
 abbrev pub lines_of : Walked Gaps → List Gap → List ℕ
 lines_of walked gaps = rect_lines (flat_map (gap_rects walked.done.written walked.done.geometry.width) gaps)
 
 -- what was found remains true after the lines
-found_later : {g : List ℕ} (wish : DecodeWish) (old mid new : Outside) (took gave : List ℕ) (walked : Walked Gaps) (gaps : List Gap) → IsWalked gap_sink wish old mid took gave walked → AllGaps walked gaps → Exchange mid new [] g [] NoRead → AreLines wish old new took (lines_of walked gaps) walked.done
+found_later : {g : List ℕ} (wish : DecodeWish) (old mid new : Outside) (took gave : List ℕ) (walked : Walked Gaps) (gaps : List Gap) →
+    IsWalked gap_sink wish old mid took gave walked → AllGaps walked gaps → Exchange mid new [] g [] NoRead →
+    AreLines wish old new took (lines_of walked gaps) walked.done
 found_later wish old mid new took gave walked gaps found are out = record {
   found = found_as false [] found (out_later wish.octets mid new took out found.out) (λ received follows. refl);
-  told = λ all told. let t = found.told all told in (t.0, t.1, ap rect_lines (rects_are wish old mid took gave walked found t.0 gaps are t.2.kept));
+  if_known = λ all if_known. let t = found.if_known all if_known in
+      (t.0, t.1, ap rect_lines (rects_are wish old mid took gave walked found t.0 gaps are t.2.kept));
 }
 
 -- all lines were given
-pub list_done : {T E : Type 0} (wish : DecodeWish) (old mid new : Outside) (walked : Walked Gaps) (gaps : List Gap) (r : Result T E) → IsOk r → Walks gap_sink wish old mid (Ok walked) → AllGaps walked gaps → WritesAll r mid new (lines_of walked gaps) → ListsRects wish old new (Ok walked.done)
+pub list_done : {T E : Type 0} (wish : DecodeWish) (old mid new : Outside) (walked : Walked Gaps) (gaps : List Gap) (r : Result T E) → IsOk r →
+    Walks gap_sink wish old mid (Ok walked) → AllGaps walked gaps → WritesAll r mid new (lines_of walked gaps) → ListsRects wish old new (Ok walked.done)
 list_done wish old mid new walked gaps (Err e) is x are out = absurd (false≢true is)
 list_done wish old mid new walked gaps (Ok y) is x are out = record {
   took = x.took;
@@ -192,7 +216,8 @@ list_done wish old mid new walked gaps (Ok y) is x are out = record {
 }
 
 -- or some of them
-pub list_cut : {T E : Type 0} (wish : DecodeWish) (old mid new : Outside) (walked : Walked Gaps) (gaps : List Gap) (r : Result T E) → IsErr r → Walks gap_sink wish old mid (Ok walked) → AllGaps walked gaps → WritesAll r mid new (lines_of walked gaps) → ListsRects wish old new (Err WriteFault)
+pub list_cut : {T E : Type 0} (wish : DecodeWish) (old mid new : Outside) (walked : Walked Gaps) (gaps : List Gap) (r : Result T E) → IsErr r →
+    Walks gap_sink wish old mid (Ok walked) → AllGaps walked gaps → WritesAll r mid new (lines_of walked gaps) → ListsRects wish old new (Err WriteFault)
 list_cut wish old mid new walked gaps (Ok y) is x are out = absurd (false≢true is)
 list_cut wish old mid new walked gaps (Err e) is x are out =
     let n = out.1.0 in
@@ -205,6 +230,12 @@ list_cut wish old mid new walked gaps (Err e) is x are out =
       answer = (
         rose_since x.since.faults.writes out.0,
         λ known. x.answer.few,
-        inr record { done = walked.done; lines = lines_of walked gaps; are = found_later wish old mid new x.took x.gave walked gaps x.answer are since; some = n; gave_is = refl },
+        inr record {
+          done = walked.done;
+          lines = lines_of walked gaps;
+          are = found_later wish old mid new x.took x.gave walked gaps x.answer are since;
+          some = n;
+          gave_is = refl;
+        },
       );
     }

@@ -23,7 +23,8 @@ pub in_rects : (g : Geometry) (received : Numbers) (numbers : ℕ → ℕ → �
 in_rects g received numbers n range are = stays g received n numbers (number_at g received) range (record { at = are.at })
 
 module _ (short : TextsAreShort) (s : Setting) (rows : ℕ) (x : ℕ → ℕ → ℤ) (parts : ℕ → List ℕ) (are : AreSome s rows x parts) where
-  module _ (received whole : Numbers) (some_are : ReceivedIn (holds_after s.book) s.apid (some_output s rows x parts) received) (all_are : ReceivedIn (holds_after s.book) s.apid (output s rows x) whole) where
+  module _ (received whole : Numbers) (some_are : ReceivedIn (holds_after s.book) s.apid (some_output s rows x parts) received)
+      (all_are : ReceivedIn (holds_after s.book) s.apid (output s rows x) whole) where
     -- whether the height is reported or not
     module _ (r n : ℕ) (is : (r ≡ rows) ⊎ ((s.rows ≡ 0) × (r ≡ 0))) (few : n ≤ block_count rows) where
       abbrev g : Geometry
@@ -34,8 +35,12 @@ module _ (short : TextsAreShort) (s : Setting) (rows : ℕ) (x : ℕ → ℕ →
           let range = geometry_range short s rows x parts are received whole some_are all_are r n is few in
           let blocks = few_blocks short s rows x parts are received whole some_are all_are r n is few in
           let there = in_rects g received (number_at g whole) n range (with_all short s rows x parts are received whole some_are all_are r n blocks) in
-          record { at = λ i j inside across none. sym (there.at i j inside across none) ∙ all_shows short s rows x parts are received whole some_are all_are r n is few i j inside across }
+          record {
+            at = λ i j inside across none. sym (there.at i j inside across none) ∙ all_shows short s rows x parts are received whole some_are all_are
+                r n is few i j inside across;
+          }
 
     pub sublist_in_rects : (n : ℕ) → n ≤ block_count rows →
-        SameOutsideRects (height (reported s rows parts) n) s.width (rects (reported s rows parts) received n) (picture (reported s rows parts) received n) (whole_picture (image_geometry s rows) whole)
+        SameOutsideRects (height (reported s rows parts) n) s.width (rects (reported s rows parts) received n) (picture (reported s rows parts) received n)
+        (whole_picture (image_geometry s rows) whole)
     sublist_in_rects n few = same_at (reported_rows s rows parts) n (reported_is s rows parts) few

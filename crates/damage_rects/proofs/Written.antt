@@ -1,5 +1,6 @@
 -- The octets of the elements of a list, given one after another.
-use Rattle.std.proofs.Common.{◌≡◌, ◌≤◌, ◌<◌, ◌+◌, ℕ, List, [], ◌∷◌, ◌++◌, length, map, take, drop, get_or, refl, sym, ap, subst, ◌∙◌, arith, append_assoc, length-append, Bool, true, false, cond, filter, Result, Ok, Err, IsErr, flat_map}
+use Rattle.std.proofs.Common.{◌≡◌, ◌≤◌, ◌<◌, ◌+◌, ℕ, List, [], ◌∷◌, ◌++◌, length, map, take, drop, get_or, refl, sym, ap, subst, ◌∙◌, arith, append_assoc}
+use Rattle.std.proofs.Common.{length-append, Bool, true, false, cond, filter, Result, Ok, Err, IsErr, flat_map}
 use Rattle.std.proofs.lemmas.Bool.{false≢true}
 use Rattle.std.proofs.lemmas.Grind.{flat_map-append}
 use Rattle.std.proofs.lemmas.List.{append-nil, take-append-drop, take-append-le, take_more, take_all}
@@ -15,7 +16,8 @@ module _ {X : Type 0} (f : X → List ℕ) (xs : List X) where
 
   more : (i : ℕ) (d : X) → i < length xs → flat_map f (take (i + 1) xs) ≡ flat_map f (take i xs) ++ f (get_or xs i d)
   more i d lt =
-      ap (flat_map f) (take_more xs i d lt) ∙ flat_map-append f (take i xs) (get_or xs i d ∷ []) ∙ ap (λ zs. flat_map f (take i xs) ++ zs) (append-nil (f (get_or xs i d)))
+      ap (flat_map f) (take_more xs i d lt) ∙ flat_map-append f (take i xs) (get_or xs i d ∷ []) ∙ ap (λ zs. flat_map f (take i xs) ++ zs)
+      (append-nil (f (get_or xs i d)))
 
   parts : (i : ℕ) (d : X) → i < length xs → flat_map f xs ≡ flat_map f (take i xs) ++ (f (get_or xs i d) ++ flat_map f (drop (i + 1) xs))
   parts i d lt =
@@ -25,12 +27,14 @@ module _ {X : Type 0} (f : X → List ℕ) (xs : List X) where
       ∙ append_assoc (flat_map f (take i xs)) (f (get_or xs i d)) (flat_map f (drop (i + 1) xs))
 
   -- the next one was given
-  pub given_more : (a b c : Outside) (i : ℕ) (x : X) → i < length xs → x ≡ get_or xs i x → Exchange a b [] (flat_map f (take i xs)) [] NoRead → Exchange b c [] (f x) [] NoRead → Exchange a c [] (flat_map f (take (i + 1) xs)) [] NoRead
+  pub given_more : (a b c : Outside) (i : ℕ) (x : X) → i < length xs → x ≡ get_or xs i x → Exchange a b [] (flat_map f (take i xs)) [] NoRead →
+      Exchange b c [] (f x) [] NoRead → Exchange a c [] (flat_map f (take (i + 1) xs)) [] NoRead
   given_more a b c i x lt is before out =
       subst (λ zs. Exchange a c [] zs [] NoRead) (ap (λ y. flat_map f (take i xs) ++ f y) is ∙ sym (more i x lt)) (since_out before out)
 
   -- or a part of it
-  pub given_part : {T E : Type 0} (r : Result T E) (a b c : Outside) (i : ℕ) (x : X) → IsErr r → i < length xs → x ≡ get_or xs i x → Exchange a b [] (flat_map f (take i xs)) [] NoRead →
+  pub given_part : {T E : Type 0} (r : Result T E) (a b c : Outside) (i : ℕ) (x : X) → IsErr r → i < length xs → x ≡ get_or xs i x →
+      Exchange a b [] (flat_map f (take i xs)) [] NoRead →
       Rose b.write_faults c.write_faults × ((n : ℕ) × (n ≤ length (f x)) × Exchange b c [] (take n (f x)) [] NoRead) → WritesAll r a c (flat_map f xs)
   given_part (Ok y) a b c i x fails lt is before failed = absurd (false≢true fails)
   given_part (Err e) a b c i x fails lt is before failed =
@@ -40,13 +44,13 @@ module _ {X : Type 0} (f : X → List ℕ) (xs : List X) where
       let one = f x in
       let later = flat_map f (drop (i + 1) xs) in
       let all : flat_map f xs ≡ first ++ (one ++ later) = parts i x lt ∙ ap (λ y. first ++ (f y ++ later)) (sym is) in
-      let front : take (length first + n) (flat_map f xs) ≡ first ++ take n one =
+      let prefix : take (length first + n) (flat_map f xs) ≡ first ++ take n one =
       ap (take (length first + n)) all ∙ take-append-add first (one ++ later) n ∙ ap (λ zs. first ++ zs) (take-append-le n one later le) in (
         rose_since before.faults.writes failed.0,
         (
           length first + n,
           omega (arith, le, ap length all, length-append first (one ++ later), length-append one later),
-          subst (λ zs. Exchange a c [] zs [] NoRead) (sym front) (since_out before failed.1.2),
+          subst (λ zs. Exchange a c [] zs [] NoRead) (sym prefix) (since_out before failed.1.2),
         ),
       )
 
@@ -57,11 +61,13 @@ module _ {X : Type 0} (f : X → List ℕ) (xs : List X) where
 -- ---- the lines of rectangles
 
 -- of those that are chosen, one after another
-pub lines_each : {X : Type 0} (p : Rect → Bool) (made : X → Rect) (xs : List X) → flat_map (λ x. rect_lines (filter p (made x ∷ []))) xs ≡ rect_lines (filter p (map made xs))
+pub lines_each : {X : Type 0} (p : Rect → Bool) (made : X → Rect) (xs : List X) → flat_map (λ x. rect_lines (filter p (made x ∷ []))) xs
+    ≡ rect_lines (filter p (map made xs))
 lines_each p made [] = refl
 lines_each p made (x ∷ xs) = ap (λ zs. rect_lines (filter p (made x ∷ [])) ++ zs) (lines_each p made xs) ∙ by (p (made x))
   where
-    by : (b : Bool) → rect_lines (cond b (made x ∷ []) []) ++ rect_lines (filter p (map made xs)) ≡ rect_lines (cond b (made x ∷ filter p (map made xs)) (filter p (map made xs)))
+    by : (b : Bool) → rect_lines (cond b (made x ∷ []) []) ++ rect_lines (filter p (map made xs))
+        ≡ rect_lines (cond b (made x ∷ filter p (map made xs)) (filter p (map made xs)))
     by true = ap (λ zs. zs ++ rect_lines (filter p (map made xs))) (append-nil (rect_line (made x)))
     by false = refl
 

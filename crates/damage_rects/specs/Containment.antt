@@ -24,7 +24,8 @@ pub record GivesInRects (wish : DecodeWish) (took gave : List ℕ) (done : Decod
   pub received_is : ReceivedIn (holds_after wish.book) wish.apid took received
   pub gave_is : gave ≡ picture_octets done.geometry received (begun_in wish.apid took)
   pub whatever : (numbers : ℕ → ℕ → ℤ) → AreWith done.geometry received numbers (begun_in wish.apid took) →
-      SameOutsideRects done.written done.geometry.width (rects done.geometry received (begun_in wish.apid took)) (picture_with done.geometry numbers (begun_in wish.apid took)) (picture done.geometry received (begun_in wish.apid took))
+      SameOutsideRects done.written done.geometry.width (rects done.geometry received (begun_in wish.apid took))
+      (picture_with done.geometry numbers (begun_in wish.apid took)) (picture done.geometry received (begun_in wish.apid took))
 
 -- What is given is the picture of some packets of an image, and each pixel outside the rectangles is that of the picture for all of them.
 pub record GivesAlikeInRects (s : Setting) (rows : ℕ) (x : ℕ → ℕ → ℤ) (parts : ℕ → List ℕ) (gave : List ℕ) (done : DecodeDone) : Type 0 where
@@ -33,7 +34,8 @@ pub record GivesAlikeInRects (s : Setting) (rows : ℕ) (x : ℕ → ℕ → ℤ
   pub received_is : ReceivedIn (holds_after s.book) s.apid (some_output s rows x parts) received
   pub gave_is : gave ≡ picture_octets done.geometry received (begun_in s.apid (some_output s rows x parts))
   pub same : (whole : Numbers) → ReceivedIn (holds_after s.book) s.apid (output s rows x) whole →
-      SameOutsideRects done.written s.width (rects done.geometry received (begun_in s.apid (some_output s rows x parts))) (picture done.geometry received (begun_in s.apid (some_output s rows x parts)))
+      SameOutsideRects done.written s.width (rects done.geometry received (begun_in s.apid (some_output s rows x parts)))
+      (picture done.geometry received (begun_in s.apid (some_output s rows x parts)))
       (whole_picture (image_geometry s rows) whole)
 
 -- Whatever numbers the missing blocks have, no pixel outside the rectangles changes. So if some packets of an image are read, each pixel
@@ -42,11 +44,15 @@ pub record GivesAlikeInRects (s : Setting) (rows : ℕ) (x : ℕ → ℕ → ℤ
 pub record LossesStay : Type 0 where
   pub whatever : (g : Geometry) (received : Numbers) (numbers : ℕ → ℕ → ℤ) (n : ℕ) → IsGeometryInRange g → AreWith g received numbers n →
       SameOutsideRects (height g n) g.width (rects g received n) (picture_with g numbers n) (picture g received n)
-  pub sublists : (s : Setting) (rows : ℕ) (x : ℕ → ℕ → ℤ) (parts : ℕ → List ℕ) (received whole : Numbers) (n : ℕ) → AreSome s rows x parts → n ≤ block_count rows →
+  pub sublists : (s : Setting) (rows : ℕ) (x : ℕ → ℕ → ℤ) (parts : ℕ → List ℕ) (received whole : Numbers) (n : ℕ) → AreSome s rows x parts →
+      n ≤ block_count rows →
       ReceivedIn (holds_after s.book) s.apid (some_output s rows x parts) received → ReceivedIn (holds_after s.book) s.apid (output s rows x) whole →
       SameOutsideRects (height (reported s rows parts) n) s.width (rects (reported s rows parts) received n)
       (picture (reported s rows parts) received n) (whole_picture (image_geometry s rows) whole)
-  pub decoded : (wish : DecodeWish) (start new : Outside) (took gave all : List ℕ) (done : DecodeDone) → IsPicture wish start new took gave done → start.rest ≡ Some all → GivesInRects wish took gave done
-  pub some_decoded : (wish : DecodeWish) (start new : Outside) (took gave all : List ℕ) (done : DecodeDone) (s : Setting) (rows : ℕ) (x : ℕ → ℕ → ℤ) (parts : ℕ → List ℕ) →
-      IsPicture wish start new took gave done → start.rest ≡ Some all → wish.apid ≡ s.apid → wish.book ≡ s.book → took ≡ some_output s rows x parts → AreSome s rows x parts → BeginsOne s rows parts →
+  pub decoded : (wish : DecodeWish) (start new : Outside) (took gave all : List ℕ) (done : DecodeDone) → IsPicture wish start new took gave done →
+      start.rest ≡ Some all → GivesInRects wish took gave done
+  pub some_decoded : (wish : DecodeWish) (start new : Outside) (took gave all : List ℕ) (done : DecodeDone) (s : Setting) (rows : ℕ) (x : ℕ → ℕ → ℤ)
+      (parts : ℕ → List ℕ) →
+      IsPicture wish start new took gave done → start.rest ≡ Some all → wish.apid ≡ s.apid → wish.book ≡ s.book → took ≡ some_output s rows x parts →
+      AreSome s rows x parts → BeginsOne s rows parts →
       GivesAlikeInRects s rows x parts gave done

@@ -26,7 +26,7 @@ abbrev pub HasOpen : Gaps → Type 0
 HasOpen s = s.refused ≡ false → (first : ℕ) → s.open_from ≡ Some first → first < s.passed
 
 -- it has taken the first n blocks of an image, and kept the gaps of some blocks
-pub record StandsAt (s : Gaps) (g : Geometry) (n : ℕ) : Type 0 where
+pub record IsValidAt (s : Gaps) (g : Geometry) (n : ℕ) : Type 0 where
   pub range : IsGeometryInRange g
   pub height : IsWithin rows_range g.rows
   pub passed : s.passed ≡ n
@@ -41,11 +41,11 @@ pub record KeepsGaps (s : Gaps) (blocks : Blocks) (n : ℕ) (gave : List ℕ) : 
 
 abbrev pub gap_sink : SinkOf Gaps
 gap_sink = record {
-  Stands = StandsAt;
+  IsValid = IsValidAt;
   Follows = λ s g blocks n gave. KeepsGaps s blocks n gave;
   Given = λ g blocks n gave. gave ≡ [];
   Part = λ g blocks n gave. gave ≡ [];
-  given_of = λ s g blocks n gave stands keeps. keeps.silent;
+  given_of = λ s g blocks n gave valid keeps. keeps.silent;
   part_of = λ g blocks n gave none. none;
   part_none = λ g blocks. refl;
   given_ended = λ g h blocks n gave ends none. none;

@@ -19,7 +19,7 @@ use Rattle.segment_walk.specs.Walks.{HasTooMany}
 -- For the octets that were taken the answer is a decoder's, and these are the lines of the rectangles that the missing blocks reach.
 pub record AreLines (wish : DecodeWish) (start new : Outside) (took lines : List ℕ) (done : DecodeDone) : Type 0 where
   pub found : PictureBy false wish start new took [] done
-  pub told : (all : List ℕ) → start.rest ≡ Some all → (received : Numbers) × ReceivedIn (holds_after wish.book) wish.apid took received
+  pub if_known : (all : List ℕ) → start.rest ≡ Some all → (received : Numbers) × ReceivedIn (holds_after wish.book) wish.apid took received
       × (lines ≡ rect_lines (rects done.geometry received (begun_in wish.apid took)))
 
 -- a prefix of the lines, for the octets that were taken to their end
@@ -40,13 +40,15 @@ abbrev pub RectAnswers : DecodeWish → (old new : Outside) (took gave : List �
 RectAnswers wish old new took gave (Ok done) = AreLines wish old new took gave done
 RectAnswers wish old new took gave (Err NoSegment) = (geometry_in wish.apid took ≡ None) × IsReadOut wish.octets new took × (gave ≡ [])
 RectAnswers wish old new took gave (Err (TooManyPixels pixels)) = HasTooMany wish took gave pixels × (gave ≡ [])
-RectAnswers wish old new took gave (Err LongInput) = (length took ≡ wish.octets) × (has_bad_version (left_over took) ≡ false) × HasFewPixels wish.pixels wish.apid took × (gave ≡ [])
+RectAnswers wish old new took gave (Err LongInput) = (length took ≡ wish.octets) × (has_bad_version (left_over took) ≡ false)
+    × HasFewPixels wish.pixels wish.apid took × (gave ≡ [])
 RectAnswers wish old new took gave (Err ReadFault) = Rose old.read_faults new.read_faults × (gave ≡ [])
-RectAnswers wish old new took gave (Err WriteFault) = Rose old.write_faults new.write_faults × HasFewKnown wish.pixels wish.apid took × GivesSome wish old new took gave
+RectAnswers wish old new took gave (Err WriteFault) = Rose old.write_faults new.write_faults × HasFewKnown wish.pixels wish.apid took
+    × GivesSome wish old new took gave
 RectAnswers wish old new took gave (Err Memory) = gave ≡ []
 
 -- One run over a port: what it took and gave, when, and why it ended so. However it ends, it takes at most the number of octets in the
--- wish. At each read call nothing is given.
+-- wish. At each read call the octets that were taken by then decide no answer, and nothing is given.
 pub record ListsRects (wish : DecodeWish) (old new : Outside) (result : Result DecodeDone DecodeFault) : Type 0 where
   pub took : List ℕ
   pub gave : List ℕ

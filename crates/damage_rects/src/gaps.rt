@@ -59,7 +59,8 @@ fn end_gap(gaps: &mut Gaps)
     requires { HasOpen gaps.old }
     ensures passed { gaps.new.passed ≡ gaps.old.passed }
     ensures none_open { gaps.new.open_from ≡ None }
-    ensures ended { (lost : ℕ → Bool) → HasKept gaps.old lost gaps.old.passed → lost gaps.old.passed ≡ false → gaps.new.refused ≡ false → AreGaps lost 0 gaps.new.ended.items (gaps.old.passed + 1) }
+    ensures ended { (lost : ℕ → Bool) → HasKept gaps.old lost gaps.old.passed → lost gaps.old.passed ≡ false → gaps.new.refused ≡ false →
+        AreGaps lost 0 gaps.new.ended.items (gaps.old.passed + 1) }
 {
     let Some(first) = gaps.open_from else {
         return;
@@ -80,7 +81,8 @@ fn end_gap(gaps: &mut Gaps)
 /// Returns the gaps of all blocks that were passed, or none if memory was refused.
 pub fn into_gaps(mut sink: Gaps) -> Option<Vec<Gap>>
     requires { HasOpen sink }
-    ensures { MatchOption result (Unit {0}) (λ gaps. (lost : ℕ → Bool) → HasKept sink lost sink.passed → AreGaps (lost_below sink.passed lost) 0 gaps.items (sink.passed + 1)) }
+    ensures { MatchOption result (Unit {0}) (λ gaps. (lost : ℕ → Bool) → HasKept sink lost sink.passed →
+        AreGaps (lost_below sink.passed lost) 0 gaps.items (sink.passed + 1)) }
 {
     end_gap(&mut sink);
     if sink.refused {

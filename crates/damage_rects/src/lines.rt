@@ -64,7 +64,8 @@ fn give_part<X: Port>(
     requires within { IsWithinImage size.now.width gap.now }
     requires first { gap.now.first / block_count size.now.width ≤ block_row }
     requires last { block_row ≤ gap.now.last / block_count size.now.width }
-    ensures { WritesAll result (X.outside port.old) (X.outside port.new) (rect_lines (filter (has_pixels size.now.rows size.now.width) (gap_rect size.now.rows size.now.width gap.now block_row ∷ []))) }
+    ensures { WritesAll result (X.outside port.old) (X.outside port.new)
+        (rect_lines (filter (has_pixels size.now.rows size.now.width) (gap_rect size.now.rows size.now.width gap.now block_row ∷ []))) }
 {
     match rect_of(size, gap, block_row) {
         Some(rect) => give_line(port, rect),
@@ -78,7 +79,8 @@ fn rect_of(size: &PictureSize, gap: &Gap, block_row: u64) -> Option<Rect>
     requires within { IsWithinImage size.now.width gap.now }
     requires first { gap.now.first / block_count size.now.width ≤ block_row }
     requires last { block_row ≤ gap.now.last / block_count size.now.width }
-    ensures { let rect = gap_rect size.now.rows size.now.width gap.now block_row in result ≡ (if has_pixels size.now.rows size.now.width rect then Some rect else None) }
+    ensures { let rect = gap_rect size.now.rows size.now.width gap.now block_row in result ≡
+        (if has_pixels size.now.rows size.now.width rect then Some rect else None) }
 {
     let first_row = (8 * block_row).saturating_sub(21);
     if first_row >= u64::from(size.rows) {

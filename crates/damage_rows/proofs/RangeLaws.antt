@@ -1,5 +1,6 @@
 -- The first range of damaged rows from a row on.
-use Rattle.std.proofs.Common.{◌≡◌, ◌≤◌, ◌<◌, ◌+◌, ◌-◌, ◌*◌, ℕ, zero, suc, List, length, map, refl, sym, ◌∙◌, ap, inl, inr, arith, Bool, true, false, ◌&&◌, nat_le, nat_lt, filter, find, take_while, Option, Some, None}
+use Rattle.std.proofs.Common.{◌≡◌, ◌≤◌, ◌<◌, ◌+◌, ◌-◌, ◌*◌, ℕ, zero, suc, List, length, map, refl, sym, ◌∙◌, ap, inl, inr, arith, Bool, true, false, ◌&&◌}
+use Rattle.std.proofs.Common.{nat_le, nat_lt, filter, find, take_while, Option, Some, None}
 use Rattle.std.specs.List.{range_with_len, list_any}
 use Rattle.std.proofs.lemmas.Bool.Decides.{nat_tests}
 use Rattle.std.proofs.lemmas.Bool.{cases_lt, and_right}
@@ -22,7 +23,8 @@ damaged_within rows missing row d = by (nat_lt row rows) refl d
     by false e d = absurd (let no : false ≡ true = d in cc)
 
 -- what a missing block row reaches is damaged
-pub damaged_by : (rows : ℕ) (missing : List ℕ) (row r : ℕ) → row < rows → is_missing missing r ≡ true → 8 * r ≤ row + 21 → row ≤ 8 * r + 29 → is_damaged rows missing row ≡ true
+pub damaged_by : (rows : ℕ) (missing : List ℕ) (row r : ℕ) → row < rows → is_missing missing r ≡ true → 8 * r ≤ row + 21 → row ≤ 8 * r + 29 →
+    is_damaged rows missing row ≡ true
 damaged_by rows missing row r within listed low high =
     let t : nat_lt row rows ≡ true = grind (arith, nat_tests) in
     let reached : reaches r row ≡ true = grind (arith, nat_tests) in
@@ -90,8 +92,11 @@ module _ (rows : ℕ) (missing : List ℕ) where
   found_from_start from zero le = simp ranges-is (ap (found from 0) (let whole : rows ≡ rows - 0 = omega arith in whole))
   found_from_start from (suc a) le =
       found_from_start from a (omega (arith, le)) ∙ elim (cases_lt a rows) [
-        | inl within ↦ ap (found from a) (let left : rows - a ≡ suc (rows - (a + 1)) = omega (arith, within) in left) ∙ found_past from a (rows - (a + 1)) (omega (arith, le)) ∙ ap (found from (a + 1)) (let same : rows - (a + 1) ≡ rows - suc a = omega arith in same) ∙ ap (λ k. found from k (rows - suc a)) (let next : a + 1 ≡ suc a = omega arith in next)
-        | inr far ↦ ap (found from a) (let left : rows - a ≡ 0 = omega (arith, far) in left) ∙ sym (ap (found from (suc a)) (let none : rows - suc a ≡ 0 = omega (arith, far) in none))
+        | inl within ↦ ap (found from a) (let left : rows - a ≡ suc (rows - (a + 1)) = omega (arith, within) in left) ∙ found_past from a (rows - (a + 1))
+            (omega (arith, le)) ∙ ap (found from (a + 1)) (let same : rows - (a + 1) ≡ rows - suc a = omega arith in same)
+            ∙ ap (λ k. found from k (rows - suc a)) (let next : a + 1 ≡ suc a = omega arith in next)
+        | inr far ↦ ap (found from a) (let left : rows - a ≡ 0 = omega (arith, far) in left)
+            ∙ sym (ap (found from (suc a)) (let none : rows - suc a ≡ 0 = omega (arith, far) in none))
       ]
 
   pub found_begins : (from a : ℕ) → from ≤ a → a < rows → begins_range rows missing a ≡ true → found_from from a ≡ Some (range_from rows missing a)

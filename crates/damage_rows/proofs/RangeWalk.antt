@@ -24,7 +24,8 @@ pub record Walk (m : Marks) (from : ℕ) : Type 0 where
 abbrev pub walk_start : (m : Marks) → Walk m 0
 walk_start m = record { before = []; after = ranges m.rows m.missing; parts = refl; past = tt; apart = (whole_damage m.rows m.missing).1 }
 
-none_found : (from : ℕ) (before after : List RowRange) → AllBefore from before → find (λ r. nat_le from r.first) (before ++ after) ≡ find (λ r. nat_le from r.first) after
+none_found : (from : ℕ) (before after : List RowRange) → AllBefore from before → find (λ r. nat_le from r.first) (before ++ after)
+    ≡ find (λ r. nat_le from r.first) after
 none_found from [] after past = refl
 none_found from (r ∷ rs) after past = let miss = lt-leb from r.first past.0 in rw miss (none_found from rs after past.1)
 
@@ -46,10 +47,11 @@ covered_there [] rest r le = let e : (nat_le r.first r.last && nat_le r.last r.l
   where
     both : (a b : ℕ) → a ≤ b → (nat_le a b && nat_le b b) ≡ true
     both a b le = grind (arith, nat_tests)
-covered_there (x ∷ before) rest r le = or_right (nat_le x.first r.last && nat_le r.last x.last) (is_covered (before ++ r ∷ rest) r.last) (covered_there before rest r le)
+covered_there (x ∷ before) rest r le = or_right (nat_le x.first r.last && nat_le r.last x.last) (is_covered (before ++ r ∷ rest) r.last)
+    (covered_there before rest r le)
 
 -- a range is the next one, and others follow it
-pub record StandsNext (m : Marks) (from : ℕ) (after : List RowRange) (range : RowRange) : Type 0 where
+pub record IsValidNext (m : Marks) (from : ℕ) (after : List RowRange) (range : RowRange) : Type 0 where
   pub rest : List RowRange
   pub after_is : after ≡ range ∷ rest
   pub low : from ≤ range.first
@@ -60,10 +62,11 @@ pub record StandsNext (m : Marks) (from : ℕ) (after : List RowRange) (range : 
 some_same : {x y : RowRange} → Some x ≡ Some y → x ≡ y
 some_same e = cc
 
-pub stands_next : (m : Marks) (from : ℕ) (w : Walk m from) (range : RowRange) → Some range ≡ next_range m from → StandsNext m from w.after range
-stands_next m from w range found = by w.after w.parts w.apart (found ∙ next_is m from w)
+pub valid_next : (m : Marks) (from : ℕ) (w : Walk m from) (range : RowRange) → Some range ≡ next_range m from → IsValidNext m from w.after range
+valid_next m from w range found = by w.after w.parts w.apart (found ∙ next_is m from w)
   where
-    by : (after : List RowRange) → ranges m.rows m.missing ≡ w.before ++ after → LieApart from after → Some range ≡ find (λ r. nat_le from r.first) after → StandsNext m from after range
+    by : (after : List RowRange) → ranges m.rows m.missing ≡ w.before ++ after → LieApart from after → Some range ≡ find (λ r. nat_le from r.first) after →
+        IsValidNext m from after range
     by [] parts apart found = absurd cc
     by (r ∷ rest) parts apart found =
         let hit = le-leb from r.first apart.0 in
@@ -81,12 +84,13 @@ stands_next m from w range found = by w.after w.parts w.apart (found ∙ next_is
         }
 
 -- after the next range
-abbrev pub walk_on : (m : Marks) (from : ℕ) (w : Walk m from) (range : RowRange) → StandsNext m from w.after range → Walk m (range.last + 1)
+abbrev pub walk_on : (m : Marks) (from : ℕ) (w : Walk m from) (range : RowRange) → IsValidNext m from w.after range → Walk m (range.last + 1)
 walk_on m from w range next = record {
   before = w.before ++ range ∷ [];
   after = next.rest;
   parts = w.parts ∙ ap (λ rs. w.before ++ rs) next.after_is ∙ sym (append_assoc w.before (range ∷ []) next.rest);
-  past = all_more (range.last + 1) w.before range (all_later from (range.last + 1) w.before (omega (arith, next.low, next.order)) w.past) (omega (arith, next.order));
+  past = all_more (range.last + 1) w.before range (all_later from (range.last + 1) w.before (omega (arith, next.low, next.order)) w.past)
+      (omega (arith, next.order));
   apart = apart_earlier (range.last + 1) (range.last + 2) next.rest (omega arith) next.apart;
 }
 

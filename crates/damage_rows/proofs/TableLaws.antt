@@ -1,5 +1,6 @@
 -- Block rows in a table of bits.
-use Rattle.std.proofs.Common.{◌≡◌, ◌≢◌, ◌≤◌, ◌<◌, ◌+◌, ◌*◌, ◌/◌, ◌%◌, ◌^◌, ℕ, zero, suc, List, [], ◌∷◌, length, refl, sym, ◌∙◌, ap, inl, inr, arith, get_or-set_other, Bool, true, false, cond, ◌==◌, ◌||◌, ◌⊎◌, filter, slice_index, slice_set, replicate, bit_and, bit_or}
+use Rattle.std.proofs.Common.{◌≡◌, ◌≢◌, ◌≤◌, ◌<◌, ◌+◌, ◌*◌, ◌/◌, ◌%◌, ◌^◌, ℕ, zero, suc, List, [], ◌∷◌, length, refl, sym, ◌∙◌, ap, inl, inr, arith}
+use Rattle.std.proofs.Common.{get_or-set_other, Bool, true, false, cond, ◌==◌, ◌||◌, ◌⊎◌, filter, slice_index, slice_set, replicate, bit_and, bit_or}
 use Rattle.std.specs.Int.{bit_at, w64}
 use Rattle.std.specs.List.{range_with_len, list_any}
 use Rattle.std.proofs.lemmas.Bool.Decides.{nat_tests}
@@ -27,7 +28,8 @@ pub any_listed : (f : ℕ → Bool) (xs : List ℕ) (i : ℕ) → is_missing xs 
 any_listed f [] i h e = h
 any_listed f (x ∷ xs) i h e = at (x == i) refl h (λ later. any_listed f xs i later e)
   where
-    at : (b : Bool) → (x == i) ≡ b → (b || list_any (λ k. k == i) xs) ≡ true → (list_any (λ k. k == i) xs ≡ true → list_any f xs ≡ true) → (f x || list_any f xs) ≡ true
+    at : (b : Bool) → (x == i) ≡ b → (b || list_any (λ k. k == i) xs) ≡ true → (list_any (λ k. k == i) xs ≡ true → list_any f xs ≡ true) →
+        (f x || list_any f xs) ≡ true
     at true same h on = or_left (f x) _ (ap f (eqb-true x i same) ∙ e)
     at false other h on = or_right (f x) _ (on h)
 
@@ -45,7 +47,8 @@ any_none f p zero a none = refl
 any_none f p (suc n) a none =
     at (p a) refl (any_none f p n (a + 1) (λ i low high. none i (omega (arith, low)) (omega (arith, high))))
   where
-    at : (b : Bool) → p a ≡ b → list_any f (filter p (range_with_len (a + 1) n)) ≡ false → list_any f (cond b (a ∷ filter p (range_with_len (a + 1) n)) (filter p (range_with_len (a + 1) n))) ≡ false
+    at : (b : Bool) → p a ≡ b → list_any f (filter p (range_with_len (a + 1) n)) ≡ false →
+        list_any f (cond b (a ∷ filter p (range_with_len (a + 1) n)) (filter p (range_with_len (a + 1) n))) ≡ false
     at true e rest = false_or (f a) _ false (none a (omega arith) (omega arith) e) rest
     at false e rest = rest
 
@@ -53,7 +56,8 @@ any_none f p (suc n) a none =
 pub filter_same : (p q : ℕ → Bool) (n a : ℕ) → ((i : ℕ) → a ≤ i → i < a + n → p i ≡ q i) → filter p (range_with_len a n) ≡ filter q (range_with_len a n)
 filter_same p q zero a same = refl
 filter_same p q (suc n) a same =
-    let rest : filter p (range_with_len (a + 1) n) ≡ filter q (range_with_len (a + 1) n) = filter_same p q n (a + 1) (λ i low high. same i (omega (arith, low)) (omega (arith, high))) in
+    let rest : filter p (range_with_len (a + 1) n) ≡ filter q (range_with_len (a + 1) n) =
+    filter_same p q n (a + 1) (λ i low high. same i (omega (arith, low)) (omega (arith, high))) in
     ap (λ b. cond b (a ∷ filter p (range_with_len (a + 1) n)) (filter p (range_with_len (a + 1) n))) (same a (omega arith) (omega arith))
     ∙ ap (λ xs. cond (q a) (a ∷ xs) xs) rest
 
@@ -61,18 +65,22 @@ filter_same p q (suc n) a same =
 pub filter_none_from : (p : ℕ → Bool) (n a : ℕ) → ((i : ℕ) → a ≤ i → p i ≡ false) → filter p (range_with_len a n) ≡ []
 filter_none_from p zero a none = refl
 filter_none_from p (suc n) a none =
-    ap (λ b. cond b (a ∷ filter p (range_with_len (a + 1) n)) (filter p (range_with_len (a + 1) n))) (none a (omega arith)) ∙ filter_none_from p n (a + 1) (λ i far. none i (omega (arith, far)))
+    ap (λ b. cond b (a ∷ filter p (range_with_len (a + 1) n)) (filter p (range_with_len (a + 1) n))) (none a (omega arith)) ∙ filter_none_from p n (a + 1)
+    (λ i far. none i (omega (arith, far)))
 
 -- a test that none passes from a number on chooses the same as one before it
-pub filter_front : (p q : ℕ → Bool) (m n : ℕ) → m ≤ n → ((i : ℕ) → i < m → p i ≡ q i) → ((i : ℕ) → m ≤ i → p i ≡ false) → filter p (range_with_len 0 n) ≡ filter q (range_with_len 0 m)
-filter_front p q m n le same none = by 0 m n le (λ i low high. same i (omega (arith, high))) (λ i far. none i (omega (arith, far)))
+pub filter_prefix : (p q : ℕ → Bool) (m n : ℕ) → m ≤ n → ((i : ℕ) → i < m → p i ≡ q i) → ((i : ℕ) → m ≤ i → p i ≡ false) →
+    filter p (range_with_len 0 n) ≡ filter q (range_with_len 0 m)
+filter_prefix p q m n le same none = by 0 m n le (λ i low high. same i (omega (arith, high))) (λ i far. none i (omega (arith, far)))
   where
-    by : (a m n : ℕ) → m ≤ n → ((i : ℕ) → a ≤ i → i < a + m → p i ≡ q i) → ((i : ℕ) → a + m ≤ i → p i ≡ false) → filter p (range_with_len a n) ≡ filter q (range_with_len a m)
+    by : (a m n : ℕ) → m ≤ n → ((i : ℕ) → a ≤ i → i < a + m → p i ≡ q i) → ((i : ℕ) → a + m ≤ i → p i ≡ false) →
+        filter p (range_with_len a n) ≡ filter q (range_with_len a m)
     by a zero n le same none = filter_none_from p n a (λ i far. none i (omega (arith, far)))
     by a (suc m) zero le same none = absurd (omega (arith, le))
     by a (suc m) (suc n) le same none =
         ap (λ b. cond b (a ∷ filter p (range_with_len (a + 1) n)) (filter p (range_with_len (a + 1) n))) (same a (omega arith) (omega arith))
-        ∙ ap (λ xs. cond (q a) (a ∷ xs) xs) (by (a + 1) m n (omega (arith, le)) (λ i low high. same i (omega (arith, low)) (omega (arith, high))) (λ i far. none i (omega (arith, far))))
+        ∙ ap (λ xs. cond (q a) (a ∷ xs) xs) (by (a + 1) m n (omega (arith, le)) (λ i low high. same i (omega (arith, low)) (omega (arith, high)))
+        (λ i far. none i (omega (arith, far))))
 
 -- ---- the table
 
@@ -151,12 +159,15 @@ pub marked_by_bit : (words : List ℕ) (rows r : ℕ) → length words ≡ 512 �
 unfolding set_rows
 marked_by_bit words rows r long low =
     ap (λ missing. let m : Marks = record { rows = rows; missing = missing } in m)
-    (filter_same (is_set (with_bit words r)) (λ i. is_missing (set_rows words) i || (i == r)) most_block_rows 0 (λ i from below. at i (omega (arith, below, most_is)) (i == r) refl) ∙ sym (and_missing-is (set_rows words) r))
+    (filter_same (is_set (with_bit words r)) (λ i. is_missing (set_rows words) i || (i == r)) most_block_rows 0
+    (λ i from below. at i (omega (arith, below, most_is)) (i == r) refl) ∙ sym (and_missing-is (set_rows words) r))
   where
     at : (i : ℕ) → i < 32768 → (b : Bool) → (i == r) ≡ b → is_set (with_bit words r) i ≡ (is_missing (set_rows words) i || b)
     at i small true same =
-        ap (is_set (with_bit words r)) (eqb-true i r same) ∙ bit_same words r (omega (arith, long, low)) ∙ sym (or_right (is_missing (set_rows words) i) true refl)
+        ap (is_set (with_bit words r)) (eqb-true i r same) ∙ bit_same words r (omega (arith, long, low))
+        ∙ sym (or_right (is_missing (set_rows words) i) true refl)
     at i small false other =
-        bit_other words r i (omega (arith, long, low)) (unequal_from i r other) ∙ sym (missing_is_set words i small) ∙ sym (or-false (is_missing (set_rows words) i))
+        bit_other words r i (omega (arith, long, low)) (unequal_from i r other) ∙ sym (missing_is_set words i small)
+        ∙ sym (or-false (is_missing (set_rows words) i))
 
 -- ---- block rows that come in rising order

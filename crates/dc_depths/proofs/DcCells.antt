@@ -1,5 +1,6 @@
 -- DCs that are written.
-use Rattle.std.proofs.Common.{◌≡◌, ℕ, ◌+◌, ◌*◌, ◌<◌, ◌≤◌, ℤ, pos, List, length, cond, true, false, refl, sym, ◌∙◌, arith, inl, inr, nat_lt, set, get_or-set_same, get_or-set_other, length-set}
+use Rattle.std.proofs.Common.{◌≡◌, ℕ, ◌+◌, ◌*◌, ◌<◌, ◌≤◌, ℤ, pos, List, length, cond, true, false, refl, sym, ◌∙◌, arith, inl, inr, nat_lt, set}
+use Rattle.std.proofs.Common.{get_or-set_same, get_or-set_other, length-set}
 use Rattle.std.specs.Int.{div_ceil}
 use Rattle.std.proofs.lemmas.Bool.{cases_eq}
 use Rattle.std.proofs.lemmas.Bool.Decides.{nat_tests}
@@ -13,7 +14,8 @@ pub dcs_as : {old new : List ℤ} (dc next : ℕ → ℤ) → ((r : ℕ) → r *
 dcs_as dc next same s = record { size = s.size; dcs = λ r lt. s.dcs r lt ∙ same r lt; others = s.others }
 
 -- the DC of block i is set
-pub dcs_set : {old new : List ℤ} (dc next : ℕ → ℤ) (i : ℕ) (z : ℤ) → i * 64 < length old → next i ≡ z → ((r : ℕ) → (r ≡ i → ⊥) → next r ≡ dc r) → SetsDcs dc old new → SetsDcs next old (set new (i * 64) z)
+pub dcs_set : {old new : List ℤ} (dc next : ℕ → ℤ) (i : ℕ) (z : ℤ) → i * 64 < length old → next i ≡ z → ((r : ℕ) → (r ≡ i → ⊥) → next r ≡ dc r) →
+    SetsDcs dc old new → SetsDcs next old (set new (i * 64) z)
 dcs_set {old} {new} dc next i z lt here there s = record {
   size = length-set new (i * 64) z ∙ s.size;
   dcs = λ r within. elim (cases_eq r i) [
@@ -31,7 +33,8 @@ cleared i cells r = cond (nat_lt r i) (pos 0) (cell_at 64 cells r)
 pub clear_start : (cells : List ℤ) → SetsDcs (cleared 0 cells) cells cells
 clear_start cells = dcs_as (cell_at 64 cells) (cleared 0 cells) (λ r lt. let t : nat_lt r 0 ≡ false = grind (arith, nat_tests) in rw t refl) (dcs_same cells)
 
-pub clear_more : {old new : List ℤ} (i : ℕ) → i * 64 < length old → SetsDcs (cleared i old) old new → SetsDcs (cleared (i + 1) old) old (set new (i * 64) (pos 0))
+pub clear_more : {old new : List ℤ} (i : ℕ) → i * 64 < length old → SetsDcs (cleared i old) old new →
+    SetsDcs (cleared (i + 1) old) old (set new (i * 64) (pos 0))
 clear_more {old} i lt s = dcs_set (cleared i old) (cleared (i + 1) old) i (pos 0) lt here there s
   where
     here : cleared (i + 1) old i ≡ pos 0
@@ -41,4 +44,5 @@ clear_more {old} i lt s = dcs_set (cleared i old) (cleared (i + 1) old) i (pos 0
     there r ne = grind (arith, nat_tests)
 
 pub clear_all : {old new : List ℤ} (i : ℕ) → div_ceil (length old) 64 ≤ i → SetsDcs (cleared i old) old new → SetsDcs (λ r. pos 0) old new
-clear_all {old} i le s = dcs_as (cleared i old) (λ r. pos 0) (λ r lt. let less : r < i = omega (arith, lt, le) in let t : nat_lt r i ≡ true = grind (arith, nat_tests) in rw t refl) s
+clear_all {old} i le s = dcs_as (cleared i old) (λ r. pos 0) (λ r lt. let less : r < i = omega (arith, lt, le) in let t : nat_lt r i ≡ true =
+    grind (arith, nat_tests) in rw t refl) s

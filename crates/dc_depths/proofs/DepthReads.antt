@@ -1,6 +1,7 @@
 -- The block depths, as they are read.
 use Rattle.std.specs.Prelude.{◌==◌, replicate}
-use Rattle.std.proofs.Common.{◌≡◌, ℕ, suc, ◌-◌, ◌*◌, ◌<◌, ◌≤◌, ◌++◌, ◌∷◌, [], ℤ, pos, List, length, Bool, true, false, refl, sym, ap, ◌∙◌, arith, inl, inr, Some, None, Ok, Err, set, Result, nat_lt, get_or, length-append, length-set}
+use Rattle.std.proofs.Common.{◌≡◌, ℕ, suc, ◌-◌, ◌*◌, ◌<◌, ◌≤◌, ◌++◌, ◌∷◌, [], ℤ, pos, List, length, Bool, true, false, refl, sym, ap, ◌∙◌, arith, inl, inr}
+use Rattle.std.proofs.Common.{Some, None, Ok, Err, set, Result, nat_lt, get_or, length-append, length-set}
 use Rattle.std.proofs.lemmas.Int.{ints}
 use Rattle.std.proofs.lemmas.Bool.{cases_lt}
 use Rattle.std.proofs.lemmas.Bool.Decides.{nat_tests}
@@ -14,7 +15,7 @@ use Rattle.bit_pipe.specs.declared.fault.Part.TheVariants.{Whole, Ended}
 use Rattle.bit_pipe.specs.declared.fault.TextFault.{TextFault}
 use Rattle.bit_pipe.specs.Faults.{of_input}
 use Rattle.bit_pipe.specs.Sources.{SourceOf}
-use Rattle.bit_pipe.specs.Coming.{Coming, IsIn, EndsItem}
+use Rattle.bit_pipe.specs.SourceState.{SourceState, IsIn, EndsItem}
 use Rattle.number_defs.specs.Depths.{depth_kind}
 use Rattle.item_defs.specs.Scripts.{Script, done, ask, in_turn, bit_form}
 use Rattle.bit_pipe.specs.ScriptSources.{got, ends, by_fault}
@@ -26,7 +27,8 @@ use Rattle.dc_depths.proofs.DcReads.{part_of, numbers_part}
 use Rattle.gaggle_codes.proofs.GaggleReads.{zero_at}
 
 -- nothing is sent
-pub no_depths : {I : Type 0} {k : SourceOf I} (depth_ac : ℕ) (a : Coming I) (now : List ℤ) → depth_ac ≡ 0 → IsIn a → ((i : ℕ) → get_or now i (pos 0) ≡ pos 0) → TakesDepths k depth_ac (Ok Whole) a a now
+pub no_depths : {I : Type 0} {k : SourceOf I} (depth_ac : ℕ) (a : SourceState I) (now : List ℤ) → depth_ac ≡ 0 → IsIn a →
+    ((i : ℕ) → get_or now i (pos 0) ≡ pos 0) → TakesDepths k depth_ac (Ok Whole) a a now
 no_depths depth_ac a now e h none = rw e (record {
   given = replicate (length now) 0;
   read = read_done (replicate (length now) 0) a h;
@@ -39,7 +41,7 @@ no_depths depth_ac a now e h none = rw e (record {
 abbrev pub raw_of : ℕ → List ℕ → Script (List ℕ) (List ℕ)
 raw_of r depths = ask depths bit_form (λ b. done (depths ++ b ∷ []))
 
-pub record RawSoFar {I : Type 0} (k : SourceOf I) (i : ℕ) (old new : Coming I) (now : List ℤ) : Type 0 where
+pub record RawSoFar {I : Type 0} (k : SourceOf I) (i : ℕ) (old new : SourceState I) (now : List ℤ) : Type 0 where
   pub given : List ℕ
   pub long : length given ≡ i
   pub low : (j : ℕ) → get_or given j 0 ≤ 1
@@ -57,12 +59,25 @@ elsewhere xs h j ne = elim (cases_lt j (length xs)) [
 ]
 
 module _ {I : Type 0} {k : SourceOf I} where
-  pub raw_start : (a : Coming I) (now : List ℤ) → ((i : ℕ) → get_or now i (pos 0) ≡ pos 0) → RawSoFar k 0 a a now
-  raw_start a now none = let e : length now - 0 ≡ length now = omega arith in record { given = []; long = refl; low = λ j. omega arith; marks = none; left = rw e (leaves_all (raw_depths_script (length now)) a) }
+  pub raw_start : (a : SourceState I) (now : List ℤ) → ((i : ℕ) → get_or now i (pos 0) ≡ pos 0) → RawSoFar k 0 a a now
+  raw_start a now none = let e : length now - 0 ≡ length now = omega arith in record {
+    given = [];
+    long = refl;
+    low = λ j. omega arith;
+    marks = none;
+    left =
+        rw e (leaves_all (raw_depths_script (length now)) a);
+  }
 
-  module _ (i : ℕ) {a b : Coming I} {now : List ℤ} (s : RawSoFar k i a b now) where
+  module _ (i : ℕ) {a b : SourceState I} {now : List ℤ} (s : RawSoFar k i a b now) where
     pub raw_all : IsIn b → length now ≤ i → TakesDepths k 1 (Ok Whole) a b now
-    raw_all h le = let none : length now - i ≡ 0 = omega arith in record { given = s.given; read = s.left.then (got s.given) b (rw none (read_done s.given b h)); low = s.low; marks = λ j lt. s.marks j }
+    raw_all h le = let none : length now - i ≡ 0 = omega arith in record {
+      given = s.given;
+      read =
+          s.left.then (got s.given) b (rw none (read_done s.given b h));
+      low = s.low;
+      marks = λ j lt. s.marks j;
+    }
 
     module _ (lt : i < length now) where
       left_is : length now - i ≡ suc (length now - suc i)
@@ -71,12 +86,23 @@ module _ {I : Type 0} {k : SourceOf I} where
       abbrev next : ℕ → Script (List ℕ) (List ℕ)
       next n = in_turn raw_of (suc i) (length now - suc i) (s.given ++ n ∷ [])
 
-      module _ {c : Coming I} where
+      module _ {c : SourceState I} where
         pub raw_ended : EndsItem k (fixed 1) (Ok None) b c → TakesDepths k 1 (Ok Ended) a c now
-        raw_ended p = record { given = s.given; read = s.left.then (ends s.given) c (rw left_is (ask_ended s.given bit_form next p)); low = s.low; marks = λ j lt. s.marks j }
+        raw_ended p = record {
+          given = s.given;
+          read = s.left.then (ends s.given) c (rw left_is (ask_ended s.given bit_form next p));
+          low = s.low;
+          marks =
+              λ j lt. s.marks j;
+        }
 
         pub raw_failed : (e : InFault) → EndsItem k (fixed 1) (Err e) b c → TakesDepths k 1 (Err (of_input e)) a c now
-        raw_failed e p = record { given = s.given; read = s.left.then (by_fault (of_input e) s.given) c (rw left_is (ask_failed s.given bit_form next e p)); low = s.low; marks = λ j lt. s.marks j }
+        raw_failed e p = record {
+          given = s.given;
+          read = s.left.then (by_fault (of_input e) s.given) c (rw left_is (ask_failed s.given bit_form next e p));
+          low = s.low;
+          marks = λ j lt. s.marks j;
+        }
 
         pub raw_more : (j n : ℕ) → j ≡ suc i → n < 2 → EndsItem k (fixed 1) (Ok (Some n)) b c → RawSoFar k j a c (set now i (pos n))
         raw_more j n h small p = record {
@@ -84,7 +110,10 @@ module _ {I : Type 0} {k : SourceOf I} where
           long = omega (arith, h, s.long, length-append s.given (n ∷ []));
           low = λ m. either m (m == i) refl;
           marks = λ m. mark m (m == i) refl;
-          left = rw (h, length-set now i (pos n)) (record { then = λ f last q. s.left.then f last (rw left_is (ask_got s.given bit_form next n f tt p refl q)) });
+          left = rw (h, length-set now i (pos n)) (record {
+            then =
+                λ f last q. s.left.then f last (rw left_is (ask_got s.given bit_form next n f tt p refl q));
+          });
         }
           where
             new : get_or (s.given ++ n ∷ []) i 0 ≡ n
@@ -92,7 +121,8 @@ module _ {I : Type 0} {k : SourceOf I} where
 
             either : (m : ℕ) (t : Bool) → (m == i) ≡ t → get_or (s.given ++ n ∷ []) m 0 ≤ 1
             either m true e = let same : m ≡ i = grind (arith, nat_tests) in rw (same, new) (omega (arith, small))
-            either m false e = let other : m ≡ length s.given → ⊥ = (λ q. let r : m ≡ i → ⊥ = grind (arith, nat_tests) in r (q ∙ s.long)) in rw (elsewhere s.given n m other) (s.low m)
+            either m false e = let other : m ≡ length s.given → ⊥ =
+                (λ q. let r : m ≡ i → ⊥ = grind (arith, nat_tests) in r (q ∙ s.long)) in rw (elsewhere s.given n m other) (s.low m)
 
             mark : (m : ℕ) (t : Bool) → (m == i) ≡ t → get_or (set now i (pos n)) m (pos 0) ≡ pos (get_or (s.given ++ n ∷ []) m 0)
             mark m true e = let same : m ≡ i = grind (arith, nat_tests) in rw (same, new) (get_or-set_same now i (pos n) (pos 0) lt)
@@ -102,7 +132,8 @@ module _ {I : Type 0} {k : SourceOf I} where
 
 -- ---- numbers by differences
 
-module _ {I : Type 0} {k : SourceOf I} {r : Result (Part × ℕ) TextFault} {a b : Coming I} {before now : List ℤ} (depth_ac N : ℕ) (low : 2 ≤ depth_ac) (size : length now ≡ length before)
+module _ {I : Type 0} {k : SourceOf I} {r : Result (Part × ℕ) TextFault} {a b : SourceState I} {before now : List ℤ} (depth_ac N : ℕ) (low : 2 ≤ depth_ac)
+    (size : length now ≡ length before)
     (t : TakesNumbers k (depth_kind depth_ac) (record { signed = false; bits = N }) depth_ac 0 1 r a b before now) where
   mark_is : (hs : List ℕ) (i : ℕ) → given_number (record { signed = false; bits = N }) 0 hs i ≡ pos (get_or hs i 0)
   mark_is hs i = elim (cases_lt i (length hs)) [

@@ -23,7 +23,8 @@ shifted_bit : (z : ℤ) (plane : ℕ) → SFits w32 z → eqb (bit_and (of_z w32
 shifted_bit z plane fits = grind (arith, nat_tests, low_bit, shr_le)
 
 -- what the code tests of a cell
-pub plane_bit : (z : ℤ) (plane : ℕ) → SFits w32 z → eqb (bit_and (of_z w32 (int_shr (to_z w32 (of_z w32 z)) plane)) 1) 1 ∷ [] ≡ bits_of 1 (complement 1 (int_shr z plane))
+pub plane_bit : (z : ℤ) (plane : ℕ) → SFits w32 z → eqb (bit_and (of_z w32 (int_shr (to_z w32 (of_z w32 z)) plane)) 1) 1 ∷ []
+    ≡ bits_of 1 (complement 1 (int_shr z plane))
 plane_bit z plane fits = grind (arith, nat_tests, to_z-of_z, shifted_bit, one_bit)
 
 -- a depth of 0 or 1

@@ -4,7 +4,7 @@ use Rattle.std.specs.Int.{div_ceil}
 use Rattle.bit_pipe.specs.declared.fault.Part.{Part}
 use Rattle.bit_pipe.specs.declared.fault.TextFault.{TextFault}
 use Rattle.bit_pipe.specs.Sources.{SourceOf}
-use Rattle.bit_pipe.specs.Coming.{Coming}
+use Rattle.bit_pipe.specs.SourceState.{SourceState}
 use Rattle.number_defs.specs.Cells.{cell_at}
 use Rattle.number_defs.specs.DcPart.{dc_q, dc_bits, dc_planes}
 use Rattle.item_defs.specs.Scripts.{Script}
@@ -24,7 +24,7 @@ pub record SetsDcs (dc : ℕ → ℤ) (old new : List ℤ) : Type 0 where
 
 -- DCs were read as this script says: the blocks have those that it gives
 pub record TakesDcs {I : Type 0} (k : SourceOf I) (script : Script (ℕ → ℤ) (ℕ → ℤ)) (result : Result Part TextFault)
-    (old new : Coming I) (before now : List ℤ) : Type 0 where
+    (old new : SourceState I) (before now : List ℤ) : Type 0 where
   pub given : ℕ → ℤ
   pub read : ReadsAs k script (by_given result given) old new
   pub cells : SetsDcs given before now

@@ -1,7 +1,7 @@
 // The writer of the DC part.
 ghost use Rattle.std.specs.Prelude.{◌≡◌, ◌≤◌, ◌<◌, ◌-◌, map, true};
 ghost use Rattle.item_defs.specs.Items.{text};
-ghost use Rattle.bit_pipe.specs.Standing.{IsReady, Writes};
+ghost use Rattle.bit_pipe.specs.SinkState.{IsReady, Writes};
 ghost use Rattle.number_defs.specs.Cells.{AreInRange};
 ghost use Rattle.number_defs.specs.DcPart.{dc_q, dc_bits, dc_bit, high_items, planes_before, dc_planes, dc_items, dc_choices};
 ghost use Rattle.gaggle_codes.specs.Options.{choice_of};
@@ -33,7 +33,8 @@ fn put_high<O: OctetOut>(
     requires open { IsReady O.sink out.old }
     requires dc { plan.now.depth_dc ≤ 28 }
     requires shift { plan.now.shift ≤ 3 }
-    requires fit { AreInRange true (dc_bits plan.now.depth_dc plan.now.depth_ac plan.now.shift) (dc_q plan.now.depth_dc plan.now.depth_ac plan.now.shift) 1 dcs.now }
+    requires fit { AreInRange true (dc_bits plan.now.depth_dc plan.now.depth_ac plan.now.shift) (dc_q plan.now.depth_dc plan.now.depth_ac plan.now.shift) 1
+        dcs.now }
     ensures { Writes O.sink result out.old out.new
         (text (high_items (dc_bits plan.now.depth_dc plan.now.depth_ac plan.now.shift) (dc_q plan.now.depth_dc plan.now.depth_ac plan.now.shift) dcs.now
         (dc_choices (choice_of select) plan.now.depth_dc plan.now.depth_ac plan.now.shift dcs.now))) }
@@ -52,7 +53,8 @@ fn put_planes<O: OctetOut>(out: &mut BitOut<O>, dcs: &[i32], plan: &DcPlan) -> R
     requires dc { plan.now.depth_dc ≤ 28 }
     requires shift { plan.now.shift ≤ 3 }
     ensures { Writes O.sink result out.old out.new
-        (text (planes_before (dc_q plan.now.depth_dc plan.now.depth_ac plan.now.shift) dcs.now (dc_planes plan.now.depth_dc plan.now.depth_ac plan.now.shift))) }
+        (text (planes_before (dc_q plan.now.depth_dc plan.now.depth_ac plan.now.shift) dcs.now
+        (dc_planes plan.now.depth_dc plan.now.depth_ac plan.now.shift))) }
 {
     let last = plan.depth_ac.max(plan.shift);
     let mut plane = plan.q();
@@ -75,7 +77,8 @@ pub fn put_dc<O: OctetOut>(
     requires open { IsReady O.sink out.old }
     requires dc { plan.now.depth_dc ≤ 28 }
     requires shift { plan.now.shift ≤ 3 }
-    requires fit { AreInRange true (dc_bits plan.now.depth_dc plan.now.depth_ac plan.now.shift) (dc_q plan.now.depth_dc plan.now.depth_ac plan.now.shift) 1 dcs.now }
+    requires fit { AreInRange true (dc_bits plan.now.depth_dc plan.now.depth_ac plan.now.shift) (dc_q plan.now.depth_dc plan.now.depth_ac plan.now.shift) 1
+        dcs.now }
     ensures { Writes O.sink result out.old out.new
         (text (dc_items plan.now.depth_dc plan.now.depth_ac plan.now.shift dcs.now
         (dc_choices (choice_of select) plan.now.depth_dc plan.now.depth_ac plan.now.shift dcs.now))) }

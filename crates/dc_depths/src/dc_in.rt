@@ -1,7 +1,7 @@
 // The reader of the DC part.
 ghost use Rattle.std.specs.Prelude.{◌≡◌, ◌≤◌, ◌<◌, ◌^◌, ◌*ℤ◌, ℕ, ℤ, pos, length, List, unsigned_abs};
 ghost use Rattle.std.specs.Int.{div_ceil};
-ghost use Rattle.bit_pipe.specs.Coming.{coming, IsIn};
+ghost use Rattle.bit_pipe.specs.SourceState.{source_state, IsIn};
 ghost use Rattle.number_defs.specs.DcScript.{dc_bits_script, high_script, dc_planes_script, dc_script};
 ghost use Rattle.dc_depths.specs.Dcs.{block_count, SetsDcs, TakesDcs, q_in, bits_in, planes_in, HasRoom, GrowsBy};
 
@@ -43,10 +43,10 @@ fn take_bits<I: OctetIn>(
     blocks: &mut [i32],
     weight: i32,
 ) -> Result<Part, TextFault>
-    requires open { IsIn (coming input.old) }
+    requires open { IsIn (source_state input.old) }
     requires room { HasRoom (unsigned_abs weight) blocks.old }
     ensures takes { (dcs : ℕ → ℤ) (first : List ℤ) → SetsDcs dcs first blocks.old →
-        TakesDcs I.source (dc_bits_script weight (block_count first) dcs) result (coming input.old) (coming input.new) first blocks.new }
+        TakesDcs I.source (dc_bits_script weight (block_count first) dcs) result (source_state input.old) (source_state input.new) first blocks.new }
     ensures grows { GrowsBy (unsigned_abs weight) blocks.old blocks.new }
 {
     for block in 0..blocks.len().div_ceil(BLOCK) {
@@ -64,12 +64,12 @@ fn take_high<I: OctetIn>(
     blocks: &mut [i32],
     plan: &DcPlan,
 ) -> Result<Part, TextFault>
-    requires open { IsIn (coming input.old) }
+    requires open { IsIn (source_state input.old) }
     requires dc { plan.now.depth_dc ≤ 28 }
     requires shift { plan.now.shift ≤ 3 }
     requires few { div_ceil (length blocks.old) 64 < 2 ^ 20 }
     ensures takes { TakesDcs I.source (high_script (bits_in plan.now) (q_in plan.now) (block_count blocks.old))
-        result (coming input.old) (coming input.new) blocks.old blocks.new }
+        result (source_state input.old) (source_state input.new) blocks.old blocks.new }
     ensures room { HasRoom 1073741824 blocks.new }
 {
     let bits = plan.bits();
@@ -88,13 +88,13 @@ fn take_dc_planes<I: OctetIn>(
     blocks: &mut [i32],
     plan: &DcPlan,
 ) -> Result<Part, TextFault>
-    requires open { IsIn (coming input.old) }
+    requires open { IsIn (source_state input.old) }
     requires dc { plan.now.depth_dc ≤ 28 }
     requires shift { plan.now.shift ≤ 3 }
     requires room { HasRoom 1073741824 blocks.old }
     ensures { (dcs : ℕ → ℤ) (first : List ℤ) → SetsDcs dcs first blocks.old →
         TakesDcs I.source (dc_planes_script (q_in plan.now) (block_count first) (planes_in plan.now) dcs)
-        result (coming input.old) (coming input.new) first blocks.new }
+        result (source_state input.old) (source_state input.new) first blocks.new }
 {
     let last = plan.depth_ac.max(plan.shift);
     let mut plane = plan.q();
@@ -123,12 +123,12 @@ pub fn take_dc<I: OctetIn>(
     blocks: &mut [i32],
     plan: &DcPlan,
 ) -> Result<Part, TextFault>
-    requires open { IsIn (coming input.old) }
+    requires open { IsIn (source_state input.old) }
     requires dc { plan.now.depth_dc ≤ 28 }
     requires shift { plan.now.shift ≤ 3 }
     requires few { div_ceil (length blocks.old) 64 < 2 ^ 20 }
     ensures { TakesDcs I.source (dc_script plan.now.depth_dc plan.now.depth_ac plan.now.shift (block_count blocks.old))
-        result (coming input.old) (coming input.new) blocks.old blocks.new }
+        result (source_state input.old) (source_state input.new) blocks.old blocks.new }
 {
     let Part::Whole = take_high(input, blocks, plan)? else {
         return Ok(Part::Ended);

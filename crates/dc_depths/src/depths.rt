@@ -1,7 +1,7 @@
 // The writer of the block depths.
 ghost use Rattle.std.specs.Prelude.{◌≡◌, ◌≤◌, ◌<◌, ◌^◌, map};
 ghost use Rattle.item_defs.specs.Items.{raw, text};
-ghost use Rattle.bit_pipe.specs.Standing.{IsReady, Writes};
+ghost use Rattle.bit_pipe.specs.SinkState.{IsReady, Writes};
 ghost use Rattle.number_defs.specs.Depths.{depth_bits, depth_items, depth_choices};
 ghost use Rattle.gaggle_codes.specs.Options.{choice_of};
 ghost use Rattle.dc_depths.specs.Marks.{depths_of, AreDepths};

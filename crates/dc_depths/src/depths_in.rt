@@ -1,6 +1,6 @@
 // The reader of the block depths.
 ghost use Rattle.std.specs.Prelude.{◌≡◌, ◌≤◌, ◌<◌, ◌^◌, ℕ, pos, length, slice_index_or};
-ghost use Rattle.bit_pipe.specs.Coming.{coming, IsIn};
+ghost use Rattle.bit_pipe.specs.SourceState.{source_state, IsIn};
 ghost use Rattle.number_defs.specs.Depths.{depth_bits};
 ghost use Rattle.dc_depths.specs.Depths.{TakesDepths};
 
@@ -35,9 +35,9 @@ fn clear(marks: &mut [i32])
 
 // Takes depths of 0 or 1, one bit each.
 fn take_raw<I: OctetIn>(input: &mut BitIn<I>, marks: &mut [i32]) -> Result<Part, TextFault>
-    requires open { IsIn (coming input.old) }
+    requires open { IsIn (source_state input.old) }
     requires none { (i : ℕ) → slice_index_or marks.old i (pos 0) ≡ pos 0 }
-    ensures { TakesDepths I.source 1 result (coming input.old) (coming input.new) marks.new }
+    ensures { TakesDepths I.source 1 result (source_state input.old) (source_state input.new) marks.new }
 {
     for place in 0..marks.len() {
         let Some(bit) = input.take_bits(1)? else {
@@ -62,10 +62,10 @@ pub fn take_depths<I: OctetIn>(
     marks: &mut [i32],
     depth_ac: u8,
 ) -> Result<Part, TextFault>
-    requires open { IsIn (coming input.old) }
+    requires open { IsIn (source_state input.old) }
     requires ac { depth_ac ≤ 27 }
     requires few { length marks.old < 2 ^ 20 }
-    ensures { TakesDepths I.source depth_ac result (coming input.old) (coming input.new) marks.new }
+    ensures { TakesDepths I.source depth_ac result (source_state input.old) (source_state input.new) marks.new }
 {
     clear(marks);
     match depth_ac {

@@ -1,4 +1,7 @@
 //! This crate codes the DC part and the block depths of a segment's text (docs/formats.md, "DC part and block depths").
+//!
+//! Layer: bits and the parts of a segment. It uses `base_122`, `item_defs`, `number_defs`, `bit_pipe` and `gaggle_codes`. It is used by
+//! `segment_code` and `layer_tests`.
 #![tactic(auto)]
 
 mod dc;

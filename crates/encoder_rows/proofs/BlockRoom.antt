@@ -1,5 +1,6 @@
 -- How many bits the blocks of a segment take at most in a bit plane.
-use Rattle.std.proofs.Common.{◌≡◌, ℕ, zero, suc, ◌+◌, ◌*◌, ◌<◌, ◌≤◌, Bool, true, false, cond, List, [], ◌∷◌, ◌++◌, length, get_or, refl, ap, arith, length-append, map, filter, add-one, zero-add, ℤ, pos, sym, ◌∙◌, nat_lt, ◌&&◌, flat_map, mul-le-mul_right, mul-le-mul_left}
+use Rattle.std.proofs.Common.{◌≡◌, ℕ, zero, suc, ◌+◌, ◌*◌, ◌<◌, ◌≤◌, Bool, true, false, cond, List, [], ◌∷◌, ◌++◌, length, get_or, refl, ap, arith}
+use Rattle.std.proofs.Common.{length-append, map, filter, add-one, zero-add, ℤ, pos, sym, ◌∙◌, nat_lt, ◌&&◌, flat_map, mul-le-mul_right, mul-le-mul_left}
 use Rattle.std.specs.List.{flat_map, list_any}
 use Rattle.std.proofs.lemmas.List.{length-map, get_or_past}
 use Rattle.std.proofs.lemmas.Bool.Decides.{nat_tests}
@@ -10,7 +11,8 @@ use Rattle.base_122.specs.declared.book.Book.{Book}
 use Rattle.plane_defs.specs.declared.entries.Entry.{Entry}
 use Rattle.plane_defs.specs.declared.entries.Entry.TheVariants.{Bit, Word}
 use Rattle.plane_defs.specs.Spans.{span}
-use Rattle.plane_defs.specs.Entries.{IsEntry, twos_bit, negative, word, flags, typed, parents, children, children_types, quads, quads_types, all_quads, grandchildren, refinement, significant_families, block_entries, stage_number}
+use Rattle.plane_defs.specs.Entries.{IsEntry, twos_bit, negative, word, flags, typed, parents, children, children_types, quads, quads_types, all_quads}
+use Rattle.plane_defs.specs.Entries.{grandchildren, refinement, significant_families, block_entries, stage_number}
 use Rattle.plane_defs.specs.Codes.{is_book_sound, codes_of, word_item, option_item, identifier_width, identifier_number}
 use Rattle.plane_defs.specs.Spelled.{is_word_of, option_of, opening, entry_items, spelled_after}
 use Rattle.plane_defs.proofs.Fitting.{Fit, fit_each, fit_block}
@@ -56,17 +58,26 @@ module _ (book : Book) (sound : is_book_sound book ≡ true) where
           let i = option_item n (option_of options n) in
           omega (arith, ap length (text-one i), length-bits_of (identifier_width n) (identifier_number n (option_of options n)), identifier_few n)
 
-  entry_few : (options : List ℕ) → AreOptionsOf options → (before : List Entry) (e : Entry) → IsEntry e → length (text (entry_items book options before e)) ≤ most_bits e
+  entry_few : (options : List ℕ) → AreOptionsOf options → (before : List Entry) (e : Entry) → IsEntry e →
+      length (text (entry_items book options before e)) ≤ most_bits e
   unfolding entry_items
   entry_few options known before e fit = grind (arith, nat_tests, text-one, length-bits_of, text-append, length-append, opening_few, word_few)
 
-  spelled_few : (options : List ℕ) → AreOptionsOf options → (before xs : List Entry) → Fit xs → length (text (spelled_after book options before xs)) ≤ most_of xs
+  spelled_few : (options : List ℕ) → AreOptionsOf options → (before xs : List Entry) → Fit xs →
+      length (text (spelled_after book options before xs)) ≤ most_of xs
   spelled_few options known before [] fit = omega arith
   spelled_few options known before (x ∷ xs) fit =
       let here = entry_few options known before x fit.0 in
       let rest = spelled_few options known (before ++ x ∷ []) xs fit.1 in
       let more = spelled_after book options (before ++ x ∷ []) xs in
-      omega (arith, here, rest, ap length (text-append (entry_items book options before x) more), length-append (text (entry_items book options before x)) (text more))
+      omega (
+        arith,
+        here,
+        rest,
+        ap length (text-append (entry_items book options before x) more),
+        length-append (text (entry_items book options before x))
+            (text more),
+      )
 
 -- ---- sums
 
@@ -142,7 +153,11 @@ module _ (block : List ℤ) (weights : List ℕ) (plane : ℕ) where
 
   refinement_most : most_of (refinement block weights plane) ≤ 63
   refinement_most =
-      omega (arith, bits_most (λ p. bit (magnitude block p) plane) (filter (refined block weights plane) (span 1 63)), chosen_few (refined block weights plane) 1 63)
+      omega (
+        arith,
+        bits_most (λ p. bit (magnitude block p) plane) (filter (refined block weights plane) (span 1 63)),
+        chosen_few (refined block weights plane) 1 63,
+      )
 
 abbrev stage_most : Stage → ℕ
 stage_most stages.DcBits = 1
@@ -154,12 +169,15 @@ stage_most stages.Refinement = 63
 where_sent : (b : Bool) (xs : List Entry) (m : ℕ) → most_of xs ≤ m → most_of (cond b xs []) ≤ m
 where_sent b xs m le = grind (arith, nat_tests)
 
-block_most : (stage : Stage) (block : List ℤ) (d : ℕ) (weights : List ℕ) (plane q : ℕ) → most_of (block_entries stage block d weights plane q) ≤ stage_most stage
+block_most : (stage : Stage) (block : List ℤ) (d : ℕ) (weights : List ℕ) (plane q : ℕ) → most_of (block_entries stage block d weights plane q) ≤ stage_most
+    stage
 unfolding block_entries
-block_most stages.DcBits block d weights plane q = where_sent (coded weights plane 0 && nat_lt plane q) (Bit (twos_bit (get_or block 0 (pos 0)) plane) ∷ []) 1 (omega arith)
+block_most stages.DcBits block d weights plane q = where_sent (coded weights plane 0 && nat_lt plane q) (Bit (twos_bit (get_or block 0 (pos 0)) plane) ∷ [])
+    1 (omega arith)
 block_most stages.Parents block d weights plane q = where_sent (nat_lt plane d) (parents block weights plane) 13 (typed_most block weights plane 1 3)
 block_most stages.Children block d weights plane q = where_sent (nat_lt plane d) (children block weights plane) 53 (children_most block weights plane)
-block_most stages.Grandchildren block d weights plane q = where_sent (nat_lt plane d) (grandchildren block weights plane) 208 (grandchildren_most block weights plane)
+block_most stages.Grandchildren block d weights plane q =
+    where_sent (nat_lt plane d) (grandchildren block weights plane) 208 (grandchildren_most block weights plane)
 block_most stages.Refinement block d weights plane q = where_sent (nat_lt plane d) (refinement block weights plane) 63 (refinement_most block weights plane)
 
 -- ---- a plane
@@ -177,9 +195,11 @@ module _ (book : Book) (sound : is_book_sound book ≡ true) (options : ℕ → 
   gaggle_few k g =
       let stage = stage_number k in
       let places = span (16 * g) (gaggle_size p g) in
-      let fit : Fit (of_gaggle p stage g) = fit_each (of_block p stage) places (λ r. fit_block stage (get_or p.blocks r []) (get_or p.depths r 0) p.weights p.number p.q) in
+      let fit : Fit (of_gaggle p stage g) = fit_each (of_block p stage) places (λ r. fit_block stage (get_or p.blocks r []) (get_or p.depths r 0) p.weights
+      p.number p.q) in
       let spelled = spelled_few book sound (options g) (known g) (before_stage p k g) (of_gaggle p stage g) fit in
-      let sum = most_each (of_block p stage) (stage_most stage) places (λ r. block_most stage (get_or p.blocks r []) (get_or p.depths r 0) p.weights p.number p.q) in
+      let sum = most_each (of_block p stage) (stage_most stage) places (λ r. block_most stage (get_or p.blocks r []) (get_or p.depths r 0) p.weights
+      p.number p.q) in
       let count : length places ≤ 16 = omega (arith, length_span (16 * g) (gaggle_size p g)) in
       let most : length places * stage_most stage ≤ 16 * stage_most stage = mul-le-mul_right (stage_most stage) count in
       omega (arith, spelled, sum, most)
@@ -200,8 +220,17 @@ module _ (book : Book) (sound : is_book_sound book ≡ true) (options : ℕ → 
       let parts : plane_items book options p (suc k) ≡ first ++ stage_items book options p k =
       let f = stage_items book options p in
       ap (λ m. flat_map f (span 0 m)) (sym (add-one k)) ∙ flat_map-span-suc f 0 k ∙ ap (λ m. flat_map f (span 0 k) ++ f m) (zero-add k) in
-      let more : gaggles p * (16 * (stages_most k + stage_most (stage_number k))) ≡ gaggles p * (16 * stages_most k) + gaggles p * (16 * stage_most (stage_number k)) = grind arith in
-      omega (arith, rest, here, more, ap (λ l. length (text l)) parts, ap length (text-append first (stage_items book options p k)), length-append (text first) (text (stage_items book options p k)))
+      let more : gaggles p * (16 * (stages_most k + stage_most (stage_number k))) ≡ gaggles p * (16 * stages_most k)
+      + gaggles p * (16 * stage_most (stage_number k)) = grind arith in
+      omega (
+        arith,
+        rest,
+        here,
+        more,
+        ap (λ l. length (text l)) parts,
+        ap length (text-append first (stage_items book options p k)),
+        length-append (text first) (text (stage_items book options p k)),
+      )
 
   pub plane_few : (k : ℕ) → k ≤ 5 → length (text (plane_items book options p k)) ≤ gaggles p * 5408
   plane_few k le =

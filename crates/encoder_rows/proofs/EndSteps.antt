@@ -11,12 +11,12 @@ use Rattle.base_122.specs.Sizes.{block_count, total_blocks}
 use Rattle.base_122.specs.declared.setting.Setting.{Setting}
 use Rattle.packet_defs.specs.Packets.{joined}
 use Rattle.segment_walk.specs.Images.{ArePixels}
-use Rattle.stream_defs.specs.Output.{image_blocks, output, segments_of, tells_last}
-use Rattle.stream_defs.specs.SettledImages.{front_packets, settled_in}
+use Rattle.stream_defs.specs.Output.{image_blocks, output, segments_of, reports_last}
+use Rattle.stream_defs.specs.SettledImages.{leading_packets, settled_in}
 use Rattle.stream_defs.proofs.HeightLaws.{images_settle, settled_alike}
 use Rattle.stream_defs.proofs.Outputs.{packets_of-none}
 use Rattle.strip_coder.specs.Answers.{DoneFor}
-use Rattle.strip_coder.specs.Plans.{MoreMayCome, plan_of, tallest}
+use Rattle.strip_coder.specs.Plans.{MoreMayArrive, plan_of, tallest}
 use Rattle.strip_coder.specs.Rasters.{image_of}
 use Rattle.strip_coder.specs.Steps.{EndBreaks, EndsImage, RowIs}
 use Rattle.strip_coder.specs.Works.{RepresentsNone}
@@ -40,13 +40,13 @@ none_rows s w range start =
     let zero : block_count s.width * settled 0 ≡ 0 = omega arith in
     let reached_none : reached s 0 ≡ 0 = ap (λ n. n / s.segment) zero ∙ (let none : 0 / s.segment ≡ 0 = omega (arith, div-le_self 0 s.segment) in none) in
     let index : w.at.index ≡ 0 = reached_is s range 0 w (omega arith) start.taken ∙ reached_none in
-    let given : joined (front_packets s (tallest s) (image_of s []) w.at.index) ≡ [] =
-    ap (λ n. joined (front_packets s (tallest s) (image_of s []) n)) index ∙ ap joined (packets_of-none (tells_last s) (sized s (tallest s)) all) in
+    let given : joined (leading_packets s (tallest s) (image_of s []) w.at.index) ≡ [] =
+    ap (λ n. joined (leading_packets s (tallest s) (image_of s []) n)) index ∙ ap joined (packets_of-none (reports_last s) (sized s (tallest s)) all) in
     let none : HasRows s 0 [] [] w = record {
       most = omega arith;
       whole = omega arith;
       in_range = record { each = λ k lt. absurd (omega (arith, lt)) };
-      stands = record { taken = start.taken; follows = λ y same. start.follows y };
+      valid = record { taken = start.taken; follows = λ y same. start.follows y };
       last = λ some. absurd (omega (arith, some));
       given_are = sym given;
     } in
@@ -99,38 +99,40 @@ module _ (s : Setting) (usable : IsUsable s) (k : ℕ) (height : IsHeight s k) (
   row_is : RowIs s image (k - 1) w
   row_is = record { at = λ j lt. (has.last some).same.at j lt }
 
-  index : MoreMayCome (plan_of s (tallest s)) k → w.at.index ≡ settled_in s (tallest s) k
-  index more = has.stands.taken.index more
+  index : MoreMayArrive (plan_of s (tallest s)) k → w.at.index ≡ settled_in s (tallest s) k
+  index more = has.valid.taken.index more
 
   -- what is given is that of the image of exactly these rows
-  given_is : given ≡ joined (front_packets s k image w.at.index)
+  given_is : given ≡ joined (leading_packets s k image w.at.index)
   given_is = elim (tall_or_open s k usable.in_range height) [
-    | inl tall ↦ has.given_are ∙ ap (λ n. joined (front_packets s n image w.at.index)) (sym tall)
+    | inl tall ↦ has.given_are ∙ ap (λ n. joined (leading_packets s n image w.at.index)) (sym tall)
     | inr other ↦
         let range = usable.in_range in
         let here = index (inr other.0) in
         let alike = settled_alike s (tallest s) k k range (tall_height s range) height le (omega arith) in
         has.given_are
-        ∙ ap (λ n. joined (front_packets s (tallest s) image n)) here
+        ∙ ap (λ n. joined (leading_packets s (tallest s) image n)) here
         ∙ ap joined (images_settle s (tallest s) k k range (tall_height s range) height le (omega arith) image image itself)
-        ∙ ap (λ n. joined (front_packets s k image n)) (sym (here ∙ alike))
+        ∙ ap (λ n. joined (leading_packets s k image n)) (sym (here ∙ alike))
   ]
 
   from : w.at.index ≡ reached s k
-  from = reached_is s usable.in_range k w le has.stands.taken
+  from = reached_is s usable.in_range k w le has.valid.taken
 
   module _ (size size' faults : ℕ) (packets : List ℕ) (new : Work) where
-    pub end_given : (done : EncodeDone) → EndsImage s k (room_outside size [] 0) (room_outside size' packets faults) w new done → (given ++ packets ≡ output s k image) × DoneFor s k image done
+    pub end_given : (done : EncodeDone) → EndsImage s k (room_outside size [] 0) (room_outside size' packets faults) w new done →
+        (given ++ packets ≡ output s k image) × DoneFor s k image done
     end_given done ends =
-        let goes = ends.goes image (has.stands.follows image itself) row_is in
+        let goes = ends.goes image (has.valid.follows image itself) row_is in
         let same : packets ≡ goes.gave = goes.out.given in (
-          ap (λ g. g ++ packets) given_is ∙ ap (λ g. joined (front_packets s k image w.at.index) ++ g) same ∙ goes.then_are,
-          ends.done image (has.stands.follows image itself) row_is,
+          ap (λ g. g ++ packets) given_is ∙ ap (λ g. joined (leading_packets s k image w.at.index) ++ g) same ∙ goes.then_are,
+          ends.done image (has.valid.follows image itself) row_is,
         )
 
-    pub end_fits_room : (done : EncodeDone) → EndsImage s k (room_outside size [] 0) (room_outside size' packets faults) w new done → length packets ≤ end_need s k
+    pub end_fits_room : (done : EncodeDone) → EndsImage s k (room_outside size [] 0) (room_outside size' packets faults) w new done →
+        length packets ≤ end_need s k
     end_fits_room done ends =
-        let goes = ends.goes image (has.stands.follows image itself) row_is in
+        let goes = ends.goes image (has.valid.follows image itself) row_is in
         let few = goes_few s usable k height image pixels w.at.index (segments_of (sized s k)) (omega arith) goes in
         let same : packets ≡ goes.gave = goes.out.given in
         omega (arith, subst (λ n. length goes.gave ≤ (segments_of (sized s k) - n) * segment_room s) from few, ap length same)
@@ -138,15 +140,16 @@ module _ (s : Setting) (usable : IsUsable s) (k : ℕ) (height : IsHeight s k) (
     -- the room has the size that it had
     pub end_size : (done : EncodeDone) → EndsImage s k (room_outside size [] 0) (room_outside size' packets faults) w new done → size' ≡ size
     end_size done ends =
-        let goes = ends.goes image (has.stands.follows image itself) row_is in
+        let goes = ends.goes image (has.valid.follows image itself) row_is in
         let sizes : range_with_len 0 size' ≡ range_with_len 0 size ++ [] = goes.out.taken in
         let one = ap length sizes ∙ length-append (range_with_len 0 size) [] in
         omega (arith, one, length-range_with_len 0 size, length-range_with_len 0 size')
 
     -- so no write fails in a room of more octets
-    pub end_never_breaks : end_need s k < size → (0 < faults → length packets ≡ size') → EndBreaks s k (room_outside size [] 0) (room_outside size' packets faults) w new → ⊥
+    pub end_never_breaks : end_need s k < size → (0 < faults → length packets ≡ size') →
+        EndBreaks s k (room_outside size [] 0) (room_outside size' packets faults) w new → ⊥
     end_never_breaks enough full breaks =
-        let broke = breaks.breaks image (has.stands.follows image itself) row_is in
+        let broke = breaks.breaks image (has.valid.follows image itself) row_is in
         let inside = broke.inside in
         let same : packets ≡ broke.gave = broke.out.given in
         let sizes : range_with_len 0 size' ≡ range_with_len 0 size ++ [] = broke.out.taken in
@@ -154,4 +157,13 @@ module _ (s : Setting) (usable : IsUsable s) (k : ℕ) (height : IsHeight s k) (
         let few = stops_few s usable k height image pixels w.at.index (segments_of (sized s k)) (total_blocks s.width k) broke (omega (arith, inside)) in
         let rose = breaks.rose in
         let filled = full (omega (arith, rose)) in
-        omega (arith, subst (λ n. length broke.gave ≤ (segments_of (sized s k) - n) * segment_room s) from few, ap length same, filled, enough, one, length-range_with_len 0 size, length-range_with_len 0 size')
+        omega (
+          arith,
+          subst (λ n. length broke.gave ≤ (segments_of (sized s k) - n) * segment_room s) from few,
+          ap length same,
+          filled,
+          enough,
+          one,
+          length-range_with_len 0 size,
+          length-range_with_len 0 size',
+        )

@@ -1,5 +1,7 @@
 -- How many bits the numbers of a segment take at most with the options that a writer chooses: a value of N bits takes at most N + 1.
-use Rattle.std.proofs.Common.{◌≡◌, ℕ, zero, suc, ◌+◌, ◌-◌, ◌*◌, ◌/◌, ◌^◌, ◌<◌, ◌≤◌, List, [], ◌∷◌, ◌++◌, length, map, min, Bool, true, false, cond, eqb, refl, ap, arith, inl, inr, ◌⊎◌, length-append, ℤ, slice_index, nat_le, nat_lt, mul-le-mul_right, mul-le-mul_left, sum, sum_by, find, unwrap_or, Some, not, ◌||◌}
+use Rattle.std.proofs.Common.{◌≡◌, ℕ, zero, suc, ◌+◌, ◌-◌, ◌*◌, ◌/◌, ◌^◌, ◌<◌, ◌≤◌, List, [], ◌∷◌, ◌++◌, length, map, min, Bool, true, false, cond, eqb}
+use Rattle.std.proofs.Common.{refl, ap, arith, inl, inr, ◌⊎◌, length-append, ℤ, slice_index, nat_le, nat_lt, mul-le-mul_right, mul-le-mul_left, sum, sum_by}
+use Rattle.std.proofs.Common.{find, unwrap_or, Some, not, ◌||◌}
 use Rattle.std.specs.List.{list_all, range_with_len}
 use Rattle.std.proofs.Math.Nat.{div-mul-le_self, le_of_mul-le-mul_right}
 use Rattle.std.proofs.lemmas.Bool.{and_parts}
@@ -12,7 +14,8 @@ use Rattle.item_defs.specs.Items.{Item, text, item_bits, raw, identifier}
 use Rattle.item_defs.proofs.Texts.{text-append, text-cons, text-one}
 use Rattle.item_defs.proofs.NumberBits.{length-bits_of}
 use Rattle.number_defs.specs.Ranges.{shifted_height}
-use Rattle.number_defs.specs.Gaggles.{Kind, reference, is_option, identifier_bits, uncoded, value_at, places, first_place, value_items, lead_items, gaggle_items, gaggle_values, items_before, number_items, gaggle_count}
+use Rattle.number_defs.specs.Gaggles.{Kind, reference, is_option, identifier_bits, uncoded, value_at, places, first_place, value_items, lead_items}
+use Rattle.number_defs.specs.Gaggles.{gaggle_items, gaggle_values, items_before, number_items, gaggle_count}
 use Rattle.number_defs.specs.Choice.{coded_bits, suits, greatest_suiting, heuristic, optimal, is_least, candidates, choices}
 use Rattle.number_defs.specs.DcPart.{dc_q, dc_bits, dc_kind, dc_bit, high_items, planes_before, dc_planes, dc_items, dc_choices}
 use Rattle.number_defs.specs.Depths.{depth_bits, depth_kind, depth_items, depth_choices}
@@ -53,7 +56,8 @@ module _ (N : ℕ) (two : 2 ≤ N) (values : List ℕ) where
   split_few : (k : ℕ) → k + 2 ≤ N → sum values ≤ 2 * count * 2 ^ k → sum_by (λ v. (v / 2 ^ k + 1) + k) values ≤ count * (N + 1)
   split_few k le few =
       let some : 0 < 2 ^ k = pow_pos k in
-      let zeros : sum_by (λ v. v / 2 ^ k) values ≤ 2 * count = le_of_mul-le-mul_right {m = sum_by (λ v. v / 2 ^ k) values} {n = 2 * count} {k = 2 ^ k} (omega (arith, over k values, few)) some in
+      let zeros : sum_by (λ v. v / 2 ^ k) values ≤ 2 * count = le_of_mul-le-mul_right {m = sum_by (λ v. v / 2 ^ k) values} {n = 2 * count} {k =
+      2 ^ k} (omega (arith, over k values, few)) some in
       let most : (k + 3) * count ≤ (N + 1) * count = mul-le-mul_right count (omega (arith, le)) in
       let parts : (k + 3) * count ≡ (k + 1) * count + 2 * count = grind arith in
       let turned : (N + 1) * count ≡ count * (N + 1) = grind arith in
@@ -79,7 +83,8 @@ module _ (N : ℕ) (two : 2 ≤ N) (values : List ℕ) where
   next_over total zero = inl (greatest_suiting-none count total)
   next_over total (suc m) = by (suits count total (suc m)) refl (next_over total m)
     where
-      by : (b : Bool) → suits count total (suc m) ≡ b → (greatest_suiting count total m ≡ m) ⊎ (128 * total + 49 * count < count * 2 ^ (greatest_suiting count total m + 8)) →
+      by : (b : Bool) → suits count total (suc m) ≡ b → (greatest_suiting count total m ≡ m)
+          ⊎ (128 * total + 49 * count < count * 2 ^ (greatest_suiting count total m + 8)) →
           (greatest_suiting count total (suc m) ≡ suc m) ⊎ (128 * total + 49 * count < count * 2 ^ (greatest_suiting count total (suc m) + 8))
       by true e before = inl (greatest_suiting-taken count total m e)
       by false e before =
@@ -126,7 +131,8 @@ module _ (N : ℕ) (two : 2 ≤ N) (values : List ℕ) where
   found_or p [] d = inr refl
   found_or p (x ∷ xs) d = by (p x) refl (found_or p xs d)
     where
-      by : (b : Bool) → p x ≡ b → (p (unwrap_or (find p xs) d) ≡ true) ⊎ (unwrap_or (find p xs) d ≡ d) → (p (unwrap_or (cond b (Some x) (find p xs)) d) ≡ true) ⊎ (unwrap_or (cond b (Some x) (find p xs)) d ≡ d)
+      by : (b : Bool) → p x ≡ b → (p (unwrap_or (find p xs) d) ≡ true) ⊎ (unwrap_or (find p xs) d ≡ d) →
+          (p (unwrap_or (cond b (Some x) (find p xs)) d) ≡ true) ⊎ (unwrap_or (cond b (Some x) (find p xs)) d ≡ d)
       by true e rest = inl e
       by false e rest = rest
 
@@ -134,13 +140,15 @@ module _ (N : ℕ) (two : 2 ≤ N) (values : List ℕ) where
   optimal_few = rw optimal-is (elim (found_or (is_least N values) (candidates N) (uncoded N)) [
     | inl least ↦
         let o = unwrap_or (find (is_least N values) (candidates N)) (uncoded N) in
-        let first = (and_parts (nat_le (coded_bits N values o) (coded_bits N values (uncoded N))) (list_all (λ other. nat_le (coded_bits N values o) (coded_bits N values other)) (range_with_len 0 (N - 1))) least).0 in
+        let first = (and_parts (nat_le (coded_bits N values o) (coded_bits N values (uncoded N)))
+        (list_all (λ other. nat_le (coded_bits N values o) (coded_bits N values other)) (range_with_len 0 (N - 1))) least).0 in
         let le : coded_bits N values o ≤ coded_bits N values (uncoded N) = grind (arith, nat_tests) in
         omega (arith, le, uncoded_few)
     | inr plain ↦ rw plain uncoded_few
   ])
 
-pub choice_few : (best : Bool) (N : ℕ) (values : List ℕ) → 2 ≤ N → coded_bits N values (cond best (optimal N values) (heuristic N values)) ≤ length values * (N + 1)
+pub choice_few : (best : Bool) (N : ℕ) (values : List ℕ) → 2 ≤ N → coded_bits N values (cond best (optimal N values) (heuristic N values)) ≤ length values *
+    (N + 1)
 choice_few true N values two = optimal_few N two values
 choice_few false N values two = heuristic_few N two values
 
@@ -160,7 +168,8 @@ lead_few : (kind : Kind) (heights : List ℕ) (g : ℕ) → length (text (lead_i
 lead_few kind heights zero = let r = reference kind (slice_index heights 0) in omega (arith, ap length (text-one r), length-bits_of kind.bits r.said)
 lead_few kind heights (suc g) = omega arith
 
-module _ (kind : Kind) (heights : List ℕ) (below : AreFew kind.bits heights) (choice : ℕ → List ℕ → ℕ) (is : (values : List ℕ) → is_option kind.bits (choice kind.bits values) ≡ true)
+module _ (kind : Kind) (heights : List ℕ) (below : AreFew kind.bits heights) (choice : ℕ → List ℕ → ℕ) (is : (values : List ℕ) →
+    is_option kind.bits (choice kind.bits values) ≡ true)
     (cheap : (values : List ℕ) → coded_bits kind.bits values (choice kind.bits values) ≤ length values * (kind.bits + 1)) where
   abbrev N : ℕ
   N = kind.bits
@@ -217,7 +226,13 @@ plane_bits b [] = refl
 plane_bits b (x ∷ xs) =
     let rest = plane_bits b xs in
     let first = dc_bit b x in
-    omega (arith, rest, ap length (text-cons first (map (dc_bit b) xs)), length-append (item_bits first) (text (map (dc_bit b) xs)), length-bits_of 1 first.said)
+    omega (
+      arith,
+      rest,
+      ap length (text-cons first (map (dc_bit b) xs)),
+      length-append (item_bits first) (text (map (dc_bit b) xs)),
+      length-bits_of 1 first.said,
+    )
 
 planes_few : (q : ℕ) (dcs : List ℤ) (n : ℕ) → length (text (planes_before q dcs n)) ≡ n * length dcs
 unfolding planes_before
@@ -256,7 +271,8 @@ module _ (best : Bool) where
   high_few N q dcs some few below = by (eqb N 1) refl
     where
       by : (one : Bool) → eqb N 1 ≡ one →
-          length (text (cond one (map (dc_bit q) dcs) (number_items (dc_kind N) (map (shifted_height true N q) dcs) (choices chosen N (map (shifted_height true N q) dcs))))) ≤ gaggle_count (length dcs) * 190
+          length (text (cond one (map (dc_bit q) dcs) (number_items (dc_kind N) (map (shifted_height true N q) dcs)
+          (choices chosen N (map (shifted_height true N q) dcs))))) ≤ gaggle_count (length dcs) * 190
       by true e = omega (arith, plane_bits q dcs)
       by false e =
           let two : 2 ≤ N = grind (arith, nat_tests) in
@@ -264,10 +280,12 @@ module _ (best : Bool) where
           let all = numbers_few (dc_kind N) heights below chosen (choice_is best N two) (λ values. choice_few best N values two) in
           let count = length-map dcs (shifted_height true N q) in
           let same : gaggle_count (length heights) ≡ gaggle_count (length dcs) = ap gaggle_count count in
-          let most : gaggle_count (length heights) * gaggle_room N ≤ gaggle_count (length heights) * gaggle_room 10 = mul-le-mul_left (gaggle_count (length heights)) (narrow N 10 few) in
+          let most : gaggle_count (length heights) * gaggle_room N ≤ gaggle_count (length heights) * gaggle_room 10 =
+          mul-le-mul_left (gaggle_count (length heights)) (narrow N 10 few) in
           omega (arith, all, most, same)
 
-  pub dcs_few : (D A s : ℕ) (dcs : List ℤ) → D ≤ 28 → s ≤ 3 → DcsFit D A s dcs → length (text (dc_items D A s dcs (dc_choices chosen D A s dcs))) ≤ gaggle_count (length dcs) * 622
+  pub dcs_few : (D A s : ℕ) (dcs : List ℤ) → D ≤ 28 → s ≤ 3 → DcsFit D A s dcs → length (text (dc_items D A s dcs (dc_choices chosen D A s dcs))) ≤
+      gaggle_count (length dcs) * 622
   unfolding dc_items
   dcs_few D A s dcs dc shift fit =
       let N = dc_bits D A s in
@@ -294,7 +312,8 @@ module _ (best : Bool) where
   two_from : (d b : ℕ) → (not (nat_le 2 d) || nat_le 2 b) ≡ true → 2 ≤ d → 2 ≤ b
   two_from d b e two = grind (arith, nat_tests)
 
-  pub depths_few : (A : ℕ) (ds : List ℕ) → A ≤ 27 → AreFew (depth_bits A) ds → length (text (depth_items A ds (depth_choices chosen A ds))) ≤ gaggle_count (length ds) * 105
+  pub depths_few : (A : ℕ) (ds : List ℕ) → A ≤ 27 → AreFew (depth_bits A) ds → length (text (depth_items A ds (depth_choices chosen A ds))) ≤ gaggle_count
+      (length ds) * 105
   unfolding depth_items
   depths_few A ds ac few = by (eqb A 0) (eqb A 1) refl refl
     where
@@ -304,7 +323,9 @@ module _ (best : Bool) where
       by false true e f = omega (arith, raw_bits ds)
       by false false e f =
           let deep : 2 ≤ A = grind (arith, nat_tests) in
-          let two : 2 ≤ depth_bits A = two_from A (depth_bits A) (list_all-span-zero (λ d. not (nat_le 2 d) || nat_le 2 (depth_bits d)) 28 A deep_bits (omega (arith, ac))) deep in
+          let two : 2 ≤ depth_bits A = two_from A (depth_bits A) (list_all-span-zero (λ d. not (nat_le 2 d) || nat_le 2 (depth_bits d)) 28 A deep_bits
+          (omega (arith, ac))) deep in
           let all = numbers_few (depth_kind A) ds few chosen (choice_is best (depth_bits A) two) (λ values. choice_few best (depth_bits A) values two) in
-          let most : gaggle_count (length ds) * gaggle_room (depth_bits A) ≤ gaggle_count (length ds) * gaggle_room 5 = mul-le-mul_left (gaggle_count (length ds)) (narrow (depth_bits A) 5 (five_bits A ac)) in
+          let most : gaggle_count (length ds) * gaggle_room (depth_bits A) ≤ gaggle_count (length ds) * gaggle_room 5 =
+          mul-le-mul_left (gaggle_count (length ds)) (narrow (depth_bits A) 5 (five_bits A ac)) in
           omega (arith, all, most)

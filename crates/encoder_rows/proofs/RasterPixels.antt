@@ -1,5 +1,6 @@
 -- The pixels of the image of some rows are in range, also those of rows that weren't taken, which are 0.
-use Rattle.std.proofs.Common.{◌≡◌, ◌≤◌, ◌+◌, ◌*◌, ◌^◌, ℕ, pos, Bool, true, false, nat_le, nat_lt, List, length, get_or, refl, sym, ap, subst, arith, inl, inr, if◌then◌else◌, mul-le-mul_right}
+use Rattle.std.proofs.Common.{◌≡◌, ◌≤◌, ◌+◌, ◌*◌, ◌^◌, ℕ, pos, Bool, true, false, nat_le, nat_lt, List, length, get_or, refl, sym, ap, subst, arith, inl}
+use Rattle.std.proofs.Common.{inr, if◌then◌else◌, mul-le-mul_right}
 use Rattle.std.proofs.lemmas.Bool.{cases_lt}
 use Rattle.std.proofs.lemmas.Bool.Decides.{nat_tests}
 use Rattle.std.proofs.lemmas.Int.{ints}
@@ -12,7 +13,8 @@ use Rattle.strip_coder.proofs.RowsTakenLaws.{row_pixels}
 
 -- ---- no octets are there
 
-number_past : (b : Bool) (octets : List ℕ) (place : ℕ) → length octets ≤ place * (if b then 1 else 2) → (if b then get_or octets place 0 else 256 * get_or octets (2 * place) 0 + get_or octets (2 * place + 1) 0) ≡ 0
+number_past : (b : Bool) (octets : List ℕ) (place : ℕ) → length octets ≤ place * (if b then 1 else 2) →
+    (if b then get_or octets place 0 else 256 * get_or octets (2 * place) 0 + get_or octets (2 * place + 1) 0) ≡ 0
 number_past true octets place past = get_or_past octets place 0 (omega (arith, past))
 number_past false octets place past =
     let high = get_or_past octets (2 * place) 0 (omega (arith, past)) in
@@ -36,7 +38,8 @@ module _ (s : Setting) (k : ℕ) (taken : List ℕ) (whole : length taken ≡ k 
       let size = pixel_size s.depth in
       let octets : k * s.width * size ≤ place * size = mul-le-mul_right size ge in
       let none : number_at s.depth taken place ≡ 0 = number_past (nat_le s.depth 8) taken place (omega (arith, octets, row_pixels s k taken whole)) in
-      subst (IsPixel s.depth s.signed) (sym (ap (value_of s.depth s.signed) none)) (subst (IsPixel s.depth s.signed) (sym (value_none s.depth s.signed)) (zero_pixel s.depth s.signed))
+      subst (IsPixel s.depth s.signed) (sym (ap (value_of s.depth s.signed) none)) (subst (IsPixel s.depth s.signed) (sym (value_none s.depth s.signed))
+      (zero_pixel s.depth s.signed))
 
   pub raster_pixels : (rows : ℕ) → ArePixels s rows (image_of s taken)
   raster_pixels rows = record {

@@ -39,7 +39,8 @@ module _ (s : Setting) (range : IsInRange s) where
   below_all k w le taken = below (plan_of s (tallest s)) (tall_plan s range) k w taken.running taken.strip_rows le
 
   -- a segment all of whose blocks are in the block rows that k rows complete is reached
-  pub reaches : (k index : ℕ) → k ≤ tallest s → first_block s.segment index + segment_blocks (total_blocks s.width (tallest s)) s.segment index ≤ block_count s.width * settled k → index + 1 ≤ reached s k
+  pub reaches : (k index : ℕ) → k ≤ tallest s → first_block s.segment index + segment_blocks (total_blocks s.width (tallest s)) s.segment index ≤
+      block_count s.width * settled k → index + 1 ≤ reached s k
   reaches k index le there =
       let least = (tall_height s range).0.0 in
       let c = block_count s.width in
@@ -57,11 +58,6 @@ module _ (s : Setting) (range : IsInRange s) where
       let rise : c * settled (k + 1) ≤ c * (settled k + 1) = mul-le-mul_left c one in
       let parts : c * (settled k + 1) ≡ c * settled k + c = grind arith in
       parts_more (c * settled (k + 1)) (c * settled k) c s.segment some_blocks (omega (arith, rise, parts))
-
-  pub reach_rises : (k l : ℕ) → k ≤ l → reached s k ≤ reached s l
-  reach_rises k l le =
-      let c = block_count s.width in
-      rows_rise (c * settled k) (c * settled l) s.segment some_blocks (mul-le-mul_left c (rows_rise (k - 21) (l - 21) 8 (omega arith) (omega (arith, le))))
 
   pub end_few : (k : ℕ) → IsWithin rows_range k → segments_of (sized s k) - reached s k ≤ div_ceil (4 * block_count s.width) s.segment + 1
   end_few k within =
@@ -81,7 +77,8 @@ module _ (s : Setting) (range : IsInRange s) where
   pub row_room-most : row_room s ≤ end_room s
   row_room-most =
       let c = block_count s.width in
-      mul-le-mul_right (segment_room s) (let rise : c / s.segment ≤ 4 * c / s.segment = rows_rise c (4 * c) s.segment some_blocks (omega arith) in omega (arith, rise))
+      mul-le-mul_right (segment_room s) (let rise : c / s.segment ≤ 4 * c / s.segment =
+      rows_rise c (4 * c) s.segment some_blocks (omega arith) in omega (arith, rise))
 
   -- ---- numbers that fit
 

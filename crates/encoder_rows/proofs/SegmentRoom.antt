@@ -1,5 +1,6 @@
 -- The packets of some segments of an image fit the room that is computed for them.
-use Rattle.std.proofs.Common.{◌≡◌, ◌≢◌, ◌≤◌, ◌<◌, ◌+◌, ◌-◌, ◌*◌, ◌/◌, ◌==◌, ◌∙◌, ℕ, ℤ, Bool, true, false, if◌then◌else◌, List, length, drop, min, refl, sym, ap, subst, arith, inl, inr, length-append, length-take, mul-le-mul_right}
+use Rattle.std.proofs.Common.{◌≡◌, ◌≢◌, ◌≤◌, ◌<◌, ◌+◌, ◌-◌, ◌*◌, ◌/◌, ◌==◌, ◌∙◌, ℕ, ℤ, Bool, true, false, if◌then◌else◌, List, length, drop, min, refl, sym}
+use Rattle.std.proofs.Common.{ap, subst, arith, inl, inr, length-append, length-take, mul-le-mul_right}
 use Rattle.std.proofs.Math.Nat.{div-mul-le_self, div-le_self}
 use Rattle.std.proofs.lemmas.Bool.{cases_lt}
 use Rattle.std.proofs.lemmas.Bool.Decides.{nat_tests}
@@ -12,7 +13,7 @@ use Rattle.packet_defs.specs.Packets.{joined}
 use Rattle.segment_code.proofs.CodedChoices.{words_are}
 use Rattle.segment_walk.specs.Images.{ArePixels}
 use Rattle.segment_walk.proofs.SpelledImages.{head_fits, spells}
-use Rattle.stream_defs.specs.Output.{head_for, image_blocks, output, packets_of, segment_of, segment_text, segments_of, tells_last, used_before}
+use Rattle.stream_defs.specs.Output.{head_for, image_blocks, output, packets_of, segment_of, segment_text, segments_of, reports_last, used_before}
 use Rattle.stream_defs.proofs.Outputs.{packets_of-none}
 use Rattle.stream_defs.proofs.SettledLaws.{rows_rise}
 use Rattle.stream_defs.proofs.ShareLaws.{coded_within, left_after, share_none, share_some, text_within}
@@ -70,13 +71,15 @@ module _ (s : Setting) (usable : IsUsable s) (rows : ℕ) (height : IsHeight s r
       let same : h.limit ≡ 0 = share_none whole index (used_before whole all index) no_total ∙ none in
       let few = text_few s.book h segment ok usable.weights refl spelled.dcs_fit spelled.depths_few (words_are s.book usable.sound h segment) same in
       let count : length segment ≤ s.segment = omega (arith, length-take s.segment (drop (index * s.segment) all)) in
-      let gaggles : (length segment + 15) / 16 ≤ (s.segment + 15) / 16 = rows_rise (length segment + 15) (s.segment + 15) 16 (omega arith) (omega (arith, count)) in
+      let gaggles : (length segment + 15) / 16 ≤ (s.segment + 15) / 16 =
+      rows_rise (length segment + 15) (s.segment + 15) 16 (omega arith) (omega (arith, count)) in
       omega (arith, few, gaggles)
 
   pub text_fits : (index : ℕ) → index < segments_of whole → length (segment_text whole all index) ≤ text_room s
   text_fits index inside = by (s.limit == 0) (s.total == 0) refl refl
     where
-      by : (none no_total : Bool) → (s.limit == 0) ≡ none → (s.total == 0) ≡ no_total → length (segment_text whole all index) ≤ (if none then (if no_total then whole_octets s.segment else min s.total limit_range.most) else s.limit)
+      by : (none no_total : Bool) → (s.limit == 0) ≡ none → (s.total == 0) ≡ no_total →
+          length (segment_text whole all index) ≤ (if none then (if no_total then whole_octets s.segment else min s.total limit_range.most) else s.limit)
       by true true e f = unlimited index inside (grind (arith, nat_tests)) (grind (arith, nat_tests))
       by true false e f = shared index inside (grind (arith, nat_tests))
       by false t e f = limited index (grind (arith, nat_tests))
@@ -84,11 +87,12 @@ module _ (s : Setting) (usable : IsUsable s) (rows : ℕ) (height : IsHeight s r
   -- ---- the packets of some segments
 
   abbrev packets : ℕ → List ℕ
-  packets n = joined (packets_of (tells_last s) whole all n)
+  packets n = joined (packets_of (reports_last s) whole all n)
 
   more_few : (from n : ℕ) → from + n ≤ segments_of whole → length (packets (from + n)) ≤ length (packets from) + n * segment_room s
   more_few from n le =
-      let few = length-packets_of (tells_last s) whole (let p = usable.in_range.packet in omega (arith, p)) all (text_room s) from n (λ index low high. text_fits index (omega (arith, high, le))) in
+      let few = length-packets_of (reports_last s) whole (let p = usable.in_range.packet in omega (arith, p)) all (text_room s) from n
+      (λ index low high. text_fits index (omega (arith, high, le))) in
       rw segment_room-is few
 
   up_to_few : (from to : ℕ) → to ≤ segments_of whole → length (packets to) ≤ length (packets from) + (to - from) * segment_room s
@@ -99,7 +103,7 @@ module _ (s : Setting) (usable : IsUsable s) (rows : ℕ) (height : IsHeight s r
         subst (λ k. length (packets k) ≤ length (packets from) + (to - from) * segment_room s) e few
     | inr ge ↦
         let e : to + (from - to) ≡ from = omega (arith, ge) in
-        let rises = packets_of-rises (tells_last s) whole all to (from - to) in
+        let rises = packets_of-rises (reports_last s) whole all to (from - to) in
         let same = ap (λ k. length (packets k)) e in
         omega (arith, rises, same)
   ]
@@ -107,7 +111,7 @@ module _ (s : Setting) (usable : IsUsable s) (rows : ℕ) (height : IsHeight s r
   -- all packets
   pub all_few : length (output s rows x) ≤ segments_of whole * segment_room s
   all_few =
-      let none = ap (λ ps. length (joined ps)) (packets_of-none (tells_last s) whole all) in
+      let none = ap (λ ps. length (joined ps)) (packets_of-none (reports_last s) whole all) in
       let from_none : 0 + segments_of whole ≡ segments_of whole = omega arith in
       let few : length (packets (segments_of whole)) ≤ length (packets 0) + segments_of whole * segment_room s =
       subst (λ k. length (packets k) ≤ length (packets 0) + segments_of whole * segment_room s) from_none (more_few 0 (segments_of whole) (omega arith)) in
@@ -116,16 +120,18 @@ module _ (s : Setting) (usable : IsUsable s) (rows : ℕ) (height : IsHeight s r
       most
 
   -- what was given up to a segment
-  pub goes_few : {p q : Outside} (from to : ℕ) → to ≤ segments_of whole → (goes : Continues (plan_of s rows) all from to p q) → length goes.gave ≤ (to - from) * segment_room s
+  pub goes_few : {p q : Outside} (from to : ℕ) → to ≤ segments_of whole → (goes : Continues (plan_of s rows) all from to p q) →
+      length goes.gave ≤ (to - from) * segment_room s
   goes_few from to le goes =
       let parts = sym (length-append (packets from) goes.gave) ∙ ap length goes.then_are in
       omega (arith, parts, up_to_few from to le)
 
   -- what was given when a write failed
-  pub stops_few : {p q : Outside} (from to count : ℕ) → (broke : StopsEarly (plan_of s rows) all from count p q) → broke.index + 1 ≤ to → length broke.gave ≤ (to - from) * segment_room s
+  pub stops_few : {p q : Outside} (from to count : ℕ) → (broke : StopsEarly (plan_of s rows) all from count p q) → broke.index + 1 ≤ to →
+      length broke.gave ≤ (to - from) * segment_room s
   stops_few from to count broke le =
       let inside = broke.inside in
-      let parts = sym (length-append (packets from) broke.gave) ∙ ap length broke.front in
+      let parts = sym (length-append (packets from) broke.gave) ∙ ap length broke.prefix in
       let cut = length-take broke.some (packets (broke.index + 1)) in
       let few = up_to_few from (broke.index + 1) (omega (arith, inside)) in
       let rise : (broke.index + 1 - from) * segment_room s ≤ (to - from) * segment_room s = mul-le-mul_right (segment_room s) (omega (arith, le)) in

@@ -1,5 +1,6 @@
 -- How many octets a coded segment without a limit has at most.
-use Rattle.std.proofs.Common.{◌≡◌, ℕ, ◌+◌, ◌*◌, ◌≤◌, Bool, true, false, cond, List, ◌++◌, length, ℤ, ap, ◌∙◌, arith, length-append, length-take, if◌then◌else◌, mul-le-mul_right}
+use Rattle.std.proofs.Common.{◌≡◌, ℕ, ◌+◌, ◌*◌, ◌≤◌, Bool, true, false, cond, List, ◌++◌, length, ℤ, ap, ◌∙◌, arith, length-append, length-take}
+use Rattle.std.proofs.Common.{if◌then◌else◌, mul-le-mul_right}
 use Rattle.std.proofs.lemmas.Bool.Decides.{nat_tests}
 use Rattle.std.proofs.lemmas.List.{length-map}
 use Rattle.item_defs.specs.Bits.{copies, octets_of}
@@ -18,12 +19,13 @@ use Rattle.plane_defs.proofs.ReadingTexts.{plane_text}
 use Rattle.segment_defs.specs.declared.head.SegmentHead.{SegmentHead}
 use Rattle.segment_defs.specs.Depths.{block_depth, block_depths, dc_of, dcs_of}
 use Rattle.segment_defs.specs.Head.{IsHead}
-use Rattle.segment_defs.specs.SegmentItems.{Options, dc_shift, plane_at, stages_sent, dc_part_items, nth_plane, nth_plane_items, planes_items, items_after_dc, segment_items}
+use Rattle.segment_defs.specs.SegmentItems.{Options, dc_shift, plane_at, stages_sent, dc_part_items, nth_plane, nth_plane_items, planes_items}
+use Rattle.segment_defs.specs.SegmentItems.{items_after_dc, segment_items}
 use Rattle.segment_defs.specs.Text.{cut}
 use Rattle.segment_defs.specs.Coded.{chosen_options, coded, coded_bits}
 use Rattle.segment_defs.proofs.Equations.{coded-is, segment_items-is, text_octets-is}
 use Rattle.segment_head.proofs.WrittenHeads.{length-head_bits}
-use Rattle.text_defs.specs.Spellable.{AreWordOptions}
+use Rattle.segment_defs.specs.Spellable.{AreWordOptions}
 use Rattle.base_122.proofs.ShiftLaws.{shift_low}
 use Rattle.segment_defs.proofs.SentStages.{sent_most}
 use Rattle.encoder_rows.proofs.NumberRoom.{dcs_few, depths_few}
@@ -40,7 +42,8 @@ none_filled true limit none = omega (arith, none)
 none_filled false limit none = omega arith
 
 module _ (book : Book) (h : SegmentHead) (blocks : List (List ℤ)) (ok : IsHead h) (ten : length h.image.weights.shifts ≡ 10) (all : length blocks ≡ h.blocks)
-    (fit : DcsFit h.depth_dc h.depth_ac (dc_shift h) (dcs_of blocks)) (few : AreFew (depth_bits h.depth_ac) (block_depths blocks)) (words : AreWordOptions (chosen_options book h blocks)) where
+    (fit : DcsFit h.depth_dc h.depth_ac (dc_shift h) (dcs_of blocks)) (few : AreFew (depth_bits h.depth_ac) (block_depths blocks))
+    (words : AreWordOptions (chosen_options book h blocks)) where
   abbrev o : Options
   o = chosen_options book h blocks
 

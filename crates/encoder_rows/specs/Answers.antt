@@ -66,7 +66,8 @@ RefusesSize e octets room (rows.BadPixel column value) = ⊥
 -- the cause of a refusal, by the number of octets of the room
 abbrev pub RowCause : Encoder → (octets : List ℕ) → (room : ℕ) → RowRefusal → Type 0
 RowCause e octets room (rows.BadPixel column value) =
-    HasPlace e × (length octets ≡ row_length e.setting) × (row_need e.setting e.work.at.rows ≤ room) × IsFirstBad e.setting.depth e.setting.signed octets column value
+    HasPlace e × (length octets ≡ row_length e.setting) × (row_need e.setting e.work.at.rows ≤ room) × IsFirstBad e.setting.depth e.setting.signed octets
+    column value
 RowCause e octets room refusal = RefusesSize e (length octets) room refusal
 
 -- The causes exclude each other and the answer `Ok`, so each answer is given exactly if its cause holds. A refusal leaves the encoder and
@@ -94,7 +95,8 @@ pub record Ends (image : ℕ) (old new : Encoder) (before after : List ℕ) (end
   pub count_is : ended.octets ≡ length packets
   pub room : after ≡ packets ++ drop ended.octets before
   pub all : (taken given : List ℕ) → HasTakenRows taken given old →
-      (given ++ packets ≡ output old.setting old.work.at.rows (image_of old.setting taken)) × DoneFor old.setting old.work.at.rows (image_of old.setting taken) ended.done
+      (given ++ packets ≡ output old.setting old.work.at.rows (image_of old.setting taken)) × DoneFor old.setting old.work.at.rows
+      (image_of old.setting taken) ended.done
   pub setting : new.setting ≡ with_image old.setting image
   pub none : HasTakenRows [] [] new
 

@@ -10,10 +10,10 @@ use Rattle.plane_defs.specs.Codes.{is_book_sound}
 use Rattle.raster_rows.specs.Pixels.{pixel_at}
 use Rattle.segment_walk.specs.Images.{ArePixels}
 use Rattle.stream_defs.specs.Output.{output}
-use Rattle.stream_defs.specs.SettledImages.{front_packets}
-use Rattle.strip_coder.specs.Plans.{MoreMayCome, plan_of, tallest}
+use Rattle.stream_defs.specs.SettledImages.{leading_packets}
+use Rattle.strip_coder.specs.Plans.{MoreMayArrive, plan_of, tallest}
 use Rattle.strip_coder.specs.Rasters.{row_length, image_of, AreInRange, given_for}
-use Rattle.strip_coder.specs.RowsIn.{LastStands}
+use Rattle.strip_coder.specs.RowsIn.{LastIsValid}
 use Rattle.strip_coder.specs.Steps.{RowIs}
 use Rattle.strip_coder.specs.Works.{FollowsRows, Represents}
 use Rattle.strip_coder.specs.declared.work.Work.{Work}
@@ -21,15 +21,16 @@ use Rattle.encoder_rows.specs.Room.{row_need, end_need, row_room, end_room, imag
 use Rattle.encoder_rows.specs.declared.encoder.Encoder.{Encoder}
 use Rattle.encoder_rows.specs.declared.progress.Progress.{Progress}
 
--- The octets are those of the first k rows of a raster, no more than an image can have, each value in range. The work represents these rows, and the packets of the
+-- The octets are those of the first k rows of a raster, no more than an image can have, each value in range. The work represents these
+-- rows, and the packets of the
 -- segments before the present one are given.
 pub record HasRows (s : Setting) (k : ℕ) (taken given : List ℕ) (w : Work) : Type 0 where
   pub most : k ≤ tallest s
   pub whole : length taken ≡ k * row_length s
   pub in_range : AreInRange s taken (k * s.width)
-  pub stands : Represents s k (image_of s taken) w
-  pub last : 0 < k → LastStands s k taken w.row.items
-  pub given_are : given ≡ joined (front_packets s (tallest s) (image_of s taken) w.at.index)
+  pub valid : Represents s k (image_of s taken) w
+  pub last : 0 < k → LastIsValid s k taken w.row.items
+  pub given_are : given ≡ joined (leading_packets s (tallest s) (image_of s taken) w.at.index)
 
 -- an encoder has taken these octets of its present image, and given these
 abbrev pub HasTakenRows : (taken given : List ℕ) → Encoder → Type 0
@@ -72,7 +73,8 @@ pub record HasNext (s : Setting) (w : Work) : Type 0 where
 
 -- what an encoder has given is exactly what `encode` has given after the same octets, as long as it isn't known that the rows are all
 pub record GivesAsEncode : Type 0 where
-  pub same : (taken given : List ℕ) (e : Encoder) → IsInRange e.setting → HasTakenRows taken given e → MoreMayCome (plan_of e.setting (tallest e.setting)) e.work.at.rows → given ≡ given_for e.setting taken
+  pub same : (taken given : List ℕ) (e : Encoder) → IsInRange e.setting → HasTakenRows taken given e →
+      MoreMayArrive (plan_of e.setting (tallest e.setting)) e.work.at.rows → given ≡ given_for e.setting taken
 
 -- the packets of an image whose pixels are in range fit the room that is computed for them
 pub record OutputsFit : Type 0 where

@@ -1,5 +1,8 @@
 //! The encoder as a value that its caller keeps from row to row: it takes rows from memory, and puts their packets into memory.
 //!
+//! Layer: packets and pictures. It uses `base_122`, `port_122`, `raster_rows`, `item_defs`, `number_defs`, `wave_defs`, `plane_defs` and 8
+//! more. It is used by `strip122_c`.
+//!
 //! ```rust
 //! let mut encoder = Encoder::new(alloc, &setting)?;
 //! for row in raster.chunks(row_octets) {

@@ -1,5 +1,6 @@
 -- The first option of the fewest bits.
-use Rattle.std.proofs.Common.{◌≡◌, ℕ, suc, ◌+◌, ◌*◌, ◌-◌, ◌/◌, ◌^◌, ◌<◌, ◌≤◌, List, [], ◌∷◌, length, get_or, true, false, refl, ap, ◌∙◌, arith, leb, eqb, inl, inr, ◌⊎◌, ◌&&◌, sum, sum_by, find, Some}
+use Rattle.std.proofs.Common.{◌≡◌, ℕ, suc, ◌+◌, ◌*◌, ◌-◌, ◌/◌, ◌^◌, ◌<◌, ◌≤◌, List, [], ◌∷◌, length, get_or, true, false, refl, ap, ◌∙◌, arith, leb, eqb}
+use Rattle.std.proofs.Common.{inl, inr, ◌⊎◌, ◌&&◌, sum, sum_by, find, Some}
 use Rattle.std.specs.List.{range_with_len, list_all}
 use Rattle.std.proofs.lemmas.Bool.Decides.{nat_tests}
 use Rattle.std.proofs.lemmas.List.Sums.{sum_by-cons}
@@ -46,18 +47,22 @@ module _ (N : ℕ) (values : List ℕ) where
       let same : bits ≡ coded_bits N values (uncoded N) = (let t : bits ≡ N * length values = omega arith in t) ∙ uncoded_bits N values in
       record { cost = same; no_more = omega arith; no_more_k = λ j lt. absurd (omega arith); first = inl refl }
 
-  pub best_changes : (k best fewest needed : ℕ) → 2 ≤ N → N ≤ 10 → k < N - 1 → needed ≡ sum_by (λ v. (v / 2 ^ k + 1) + k) values → needed < fewest → IsBest N values k best fewest → IsBest N values (k + 1) k needed
+  pub best_changes : (k best fewest needed : ℕ) → 2 ≤ N → N ≤ 10 → k < N - 1 → needed ≡ sum_by (λ v. (v / 2 ^ k + 1) + k) values → needed < fewest →
+      IsBest N values k best fewest → IsBest N values (k + 1) k needed
   best_changes k best fewest needed low high lt is less b = grind (arith, nat_tests, split_bits, named_k)
 
-  pub best_stays : (k best fewest needed : ℕ) → 2 ≤ N → N ≤ 10 → k < N - 1 → needed ≡ sum_by (λ v. (v / 2 ^ k + 1) + k) values → fewest ≤ needed → IsBest N values k best fewest → IsBest N values (k + 1) best fewest
+  pub best_stays : (k best fewest needed : ℕ) → 2 ≤ N → N ≤ 10 → k < N - 1 → needed ≡ sum_by (λ v. (v / 2 ^ k + 1) + k) values → fewest ≤ needed →
+      IsBest N values k best fewest → IsBest N values (k + 1) best fewest
   best_stays k best fewest needed low high lt is more b = grind (arith, nat_tests, split_bits)
 
-  least_where : (o : ℕ) → coded_bits N values o ≤ coded_bits N values (uncoded N) → ((j : ℕ) → j < N - 1 → coded_bits N values o ≤ coded_bits N values j) → is_least N values o ≡ true
+  least_where : (o : ℕ) → coded_bits N values o ≤ coded_bits N values (uncoded N) → ((j : ℕ) → j < N - 1 → coded_bits N values o ≤ coded_bits N values j) →
+      is_least N values o ≡ true
   least_where o p h = grind (arith, nat_tests, all_of_range)
 
   not_least_where : (o j : ℕ) → j < N - 1 → coded_bits N values j < coded_bits N values o → is_least N values o ≡ false
   not_least_where o j lt less =
-      elim (leb (coded_bits N values o) (coded_bits N values (uncoded N))) as (λ t. (t && list_all (λ other. leb (coded_bits N values o) (coded_bits N values other)) (range_with_len 0 (N - 1))) ≡ false) [
+      elim (leb (coded_bits N values o) (coded_bits N values (uncoded N))) as
+      (λ t. (t && list_all (λ other. leb (coded_bits N values o) (coded_bits N values other)) (range_with_len 0 (N - 1))) ≡ false) [
         | true ↦ (not_all_of_range _ 0 (N - 1) j (omega arith) (omega arith) (grind (arith, nat_tests)))
         | false ↦ refl
       ]

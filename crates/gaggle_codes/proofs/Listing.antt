@@ -3,7 +3,7 @@ use Rattle.std.proofs.Common.{◌≡◌, ℕ, ◌+◌, ◌<◌, ◌≤◌, List,
 use Rattle.std.proofs.lemmas.List.{append-nil, take_more, take_all, take-append-drop}
 use Rattle.std.proofs.lemmas.List.Concat.{flat_map-append, flat_map-cons}
 use Rattle.bit_pipe.specs.Sinks.{SinkOf}
-use Rattle.bit_pipe.specs.Standing.{Standing, Adds, Puts}
+use Rattle.bit_pipe.specs.SinkState.{SinkState, Adds, Puts}
 use Rattle.bit_pipe.specs.declared.fault.PutFault.{PutFault}
 use Rattle.bit_pipe.proofs.Putting.{adds_then, puts_ended, puts_whole}
 
@@ -22,12 +22,14 @@ module _ {X : Type 0} (f : X → List Bool) (xs : List X) where
       sym (append_assoc (flat_map f (take i xs)) (f (get_or xs i d)) (flat_map f (drop (i + 1) xs)))
       ∙ ap (λ r. r ++ flat_map f (drop (i + 1) xs)) (bits_more i d lt) ∙ bits_parts (i + 1)
 
-  pub each_more : {S : Type 0} {k : SinkOf S} {a b c : Standing S} (i : ℕ) (d : X) → i < length xs → Adds k a b (flat_map f (take i xs)) → Adds k b c (f (get_or xs i d)) → Adds k a c (flat_map f (take (i + 1) xs))
+  pub each_more : {S : Type 0} {k : SinkOf S} {a b c : SinkState S} (i : ℕ) (d : X) → i < length xs → Adds k a b (flat_map f (take i xs)) →
+      Adds k b c (f (get_or xs i d)) → Adds k a c (flat_map f (take (i + 1) xs))
   each_more i d lt p q = rw (← bits_more i d lt) (adds_then p q)
 
-  pub each_ended : {S T U : Type 0} {k : SinkOf S} {e : PutFault} {a b c : Standing S} (i : ℕ) (d : X) → i < length xs → Adds k a b (flat_map f (take i xs)) →
+  pub each_ended : {S T U : Type 0} {k : SinkOf S} {e : PutFault} {a b c : SinkState S} (i : ℕ) (d : X) → i < length xs → Adds k a b (flat_map f (take i xs)) →
       Puts {T = T} k (Err e) b c (f (get_or xs i d)) → Puts {T = U} k (Err e) a c (flat_map f xs)
   each_ended i d lt p q = puts_ended (flat_map f (drop (i + 1) xs)) p q (bits_go_on i d lt)
 
-  pub each_whole : {S T : Type 0} {k : SinkOf S} {x : T} {a b : Standing S} (i : ℕ) → length xs ≤ i → Adds k a b (flat_map f (take i xs)) → Puts k (Ok x) a b (flat_map f xs)
+  pub each_whole : {S T : Type 0} {k : SinkOf S} {x : T} {a b : SinkState S} (i : ℕ) → length xs ≤ i → Adds k a b (flat_map f (take i xs)) →
+      Puts k (Ok x) a b (flat_map f xs)
   each_whole i le p = let e : take i xs ≡ xs = take_all i xs le in puts_whole (rw e at p)

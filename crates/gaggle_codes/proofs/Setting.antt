@@ -1,5 +1,6 @@
 -- Numbers that are written into every `stride`-th cell.
-use Rattle.std.proofs.Common.{subst, ◌≡◌, ℕ, ◌+◌, ◌*◌, ◌^◌, ◌<◌, ◌≤◌, ℤ, pos, ◌*ℤ◌, List, [], ◌∷◌, ◌++◌, length, get_or, true, refl, ap, ◌∙◌, arith, inl, inr, length-append, nat_lt, set, mul-le-mul_right}
+use Rattle.std.proofs.Common.{subst, ◌≡◌, ℕ, ◌+◌, ◌*◌, ◌^◌, ◌<◌, ◌≤◌, ℤ, pos, ◌*ℤ◌, List, [], ◌∷◌, ◌++◌, length, get_or, true, refl, ap, ◌∙◌, arith, inl}
+use Rattle.std.proofs.Common.{inr, length-append, nat_lt, set, mul-le-mul_right}
 use Rattle.std.proofs.lemmas.Bool.{cases_lt}
 use Rattle.std.proofs.lemmas.Bool.Decides.{nat_tests}
 use Rattle.std.proofs.lemmas.List.{get_or-set_same, get_or-set_other, length-set, get_or_append_left}
@@ -45,12 +46,14 @@ module _ (stride : ℕ) (low : 1 ≤ stride) where
     others = λ j ne. get_or-set_other now (i * stride) j (pos 0) (pos 0) (λ e. ne i e) ∙ c.others j ne;
   }
 
-  pub clears_all : (range : NumberRange) (shift : ℕ) {old now : List ℤ} (i : ℕ) → ((m : ℕ) → m * stride < length old → m < i) → Clears stride i old now → SetsCells range shift stride [] old now
+  pub clears_all : (range : NumberRange) (shift : ℕ) {old now : List ℤ} (i : ℕ) → ((m : ℕ) → m * stride < length old → m < i) → Clears stride i old now →
+      SetsCells range shift stride [] old now
   clears_all range shift i all c = grind (arith, nat_tests)
 
   -- one number more
   module _ (range : NumberRange) (shift : ℕ) where
-    pub sets_more : {old now : List ℤ} (heights : List ℕ) (h i : ℕ) (z : ℤ) → i ≡ length heights → i * stride < length old → z ≡ number_at range.signed range.bits h *ℤ pos (2 ^ shift) → SetsCells range shift stride heights old now →
+    pub sets_more : {old now : List ℤ} (heights : List ℕ) (h i : ℕ) (z : ℤ) → i ≡ length heights → i * stride < length old →
+        z ≡ number_at range.signed range.bits h *ℤ pos (2 ^ shift) → SetsCells range shift stride heights old now →
         SetsCells range shift stride (heights ++ h ∷ []) old (set now (i * stride) z)
     sets_more {old} {now} heights h i z e lt f s = record {
       size = length-set now (i * stride) z ∙ s.size;
@@ -67,7 +70,8 @@ module _ (stride : ℕ) (low : 1 ≤ stride) where
         same : (m : ℕ) → m < i → given_number range shift heights m ≡ given_number range shift (heights ++ h ∷ []) m
         same m below =
             let t : nat_lt m (length heights) ≡ true = (let q : m < length heights = omega (arith, e, below) in grind (arith, nat_tests)) in
-            let u : nat_lt m (length (heights ++ h ∷ [])) ≡ true = (let q : m < length (heights ++ h ∷ []) = omega (arith, e, below, length-append heights (h ∷ [])) in grind (arith, nat_tests)) in
+            let u : nat_lt m (length (heights ++ h ∷ [])) ≡ true =
+            (let q : m < length (heights ++ h ∷ []) = omega (arith, e, below, length-append heights (h ∷ [])) in grind (arith, nat_tests)) in
             rw (t, u, get_or_append_left heights (h ∷ []) 0 m (omega (arith, e, below))) refl
 
         past : (m : ℕ) → i < m → given_number range shift heights m ≡ given_number range shift (heights ++ h ∷ []) m
@@ -75,10 +79,12 @@ module _ (stride : ℕ) (low : 1 ≤ stride) where
 
         new : number_at range.signed range.bits h *ℤ pos (2 ^ shift) ≡ given_number range shift (heights ++ h ∷ []) i
         new =
-            let u : nat_lt i (length (heights ++ h ∷ [])) ≡ true = (let q : i < length (heights ++ h ∷ []) = omega (arith, e, length-append heights (h ∷ [])) in grind (arith, nat_tests)) in
+            let u : nat_lt i (length (heights ++ h ∷ [])) ≡ true =
+            (let q : i < length (heights ++ h ∷ []) = omega (arith, e, length-append heights (h ∷ [])) in grind (arith, nat_tests)) in
             rw (u, ap (λ n. get_or (heights ++ h ∷ []) n 0) e ∙ get_or-append_seam heights h [] 0) refl
 
-pub sets_as : (range : NumberRange) (shift stride : ℕ) {heights more : List ℕ} {old new : List ℤ} → heights ≡ more → SetsCells range shift stride heights old new → SetsCells range shift stride more old new
+pub sets_as : (range : NumberRange) (shift stride : ℕ) {heights more : List ℕ} {old new : List ℤ} → heights ≡ more →
+    SetsCells range shift stride heights old new → SetsCells range shift stride more old new
 sets_as range shift stride {heights} {more} {old} {new} e s = subst (λ l. SetsCells range shift stride l old new) e s
 
 -- an earlier place is within the slice too

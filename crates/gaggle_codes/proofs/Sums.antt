@@ -23,7 +23,8 @@ pub height_sum : (signed : Bool) (N shift n : ℕ) (z k : ℤ) → SFits w32 z �
 height_sum signed N shift n z k fits h few e f =
     let most : 2 ^ N ≤ 1024 = pow_mono few in
     let r = int_shr z shift in
-    let a : to_z w32 (of_z w32 (int_shr (to_z w32 (of_z w32 z)) shift)) ≡ r = ap (λ y. to_z w32 (of_z w32 (int_shr y shift))) (to_z-of_z w32 z fits) ∙ to_z-of_z w32 r (range_fits signed N r h few) in
+    let a : to_z w32 (of_z w32 (int_shr (to_z w32 (of_z w32 z)) shift)) ≡ r = ap (λ y. to_z w32 (of_z w32 (int_shr y shift))) (to_z-of_z w32 z fits)
+    ∙ to_z-of_z w32 r (range_fits signed N r h few) in
     let b : to_z w32 (of_z w32 k) ≡ pos (negatives signed N) = grind (arith, nat_tests, to_z-of_z, small_fits, negatives_fit) in
     let s : r +ℤ pos (negatives signed N) ≡ pos (height_of signed N r) = sum_is signed N r h in
     ap (λ y. to_z w32 (of_z w32 (y +ℤ to_z w32 (of_z w32 k)))) a ∙ ap (λ y. to_z w32 (of_z w32 (r +ℤ y))) b ∙ ap (λ y. to_z w32 (of_z w32 y)) s

@@ -23,24 +23,28 @@ module _ (kind : Kind) (heights : List ℕ) (few : (i : ℕ) → get_or heights 
   value_below i = mapped_below kind.bits (get_or heights (i - 1) 0) (get_or heights i 0) (few (i - 1)) (few i)
 
   unary_text : (k i : ℕ) → k ≤ kind.bits → item_bits (unary_part kind heights k i) ≡ unary_bits k (value_at kind.bits heights i)
-  unary_text k i le = sym (zeros_then_one (value_at kind.bits heights i / 2 ^ k) (2 ^ (kind.bits - k)) (high_small kind.bits k (value_at kind.bits heights i) le (value_below i)))
+  unary_text k i le = sym (zeros_then_one (value_at kind.bits heights i / 2 ^ k) (2 ^ (kind.bits - k))
+      (high_small kind.bits k (value_at kind.bits heights i) le (value_below i)))
 
   split_text : (k : ℕ) (at : List ℕ) → k ≤ kind.bits - 2 →
       text (map (unary_part kind heights k) at ++ cond (eqb k 0) [] (map (rest_part kind heights k) at))
       ≡ flat_map (unary_bits k) (map (value_at kind.bits heights) at) ++ cond (eqb k 0) [] (flat_map (rest_bits k) (map (value_at kind.bits heights) at))
   split_text k at le = grind (arith, nat_tests, each_text, unary_text, text-append)
 
-  values_text : (option : ℕ) (at : List ℕ) → is_option kind.bits option ≡ true → text (value_items kind heights option at) ≡ value_bits kind.bits (name_of kind.bits option) (map (value_at kind.bits heights) at)
+  values_text : (option : ℕ) (at : List ℕ) → is_option kind.bits option ≡ true → text (value_items kind heights option at)
+      ≡ value_bits kind.bits (name_of kind.bits option) (map (value_at kind.bits heights) at)
   values_text option at is = simp value_items-is (grind (arith, nat_tests, each_text, option_within, split_text))
 
   lead_text : (g : ℕ) → text (lead_items kind heights g) ≡ lead_bits kind.signed kind.bits heights g
   lead_text zero = text-one (reference kind (get_or heights 0 0))
   lead_text (suc g) = refl
 
-  gaggle_text : (option g : ℕ) → is_option kind.bits option ≡ true → text (gaggle_items kind heights option g) ≡ gaggle_bits kind.signed kind.bits heights (name_of kind.bits option) g
+  gaggle_text : (option g : ℕ) → is_option kind.bits option ≡ true → text (gaggle_items kind heights option g) ≡ gaggle_bits kind.signed kind.bits heights
+      (name_of kind.bits option) g
   gaggle_text option g is = simp gaggle_items-is (grind (arith, nat_tests, text-cons, name_bits, text-append, lead_text, values_text))
 
-  pub before_text : (options : ℕ → ℕ) → ((g : ℕ) → is_option kind.bits (options g) ≡ true) → (g : ℕ) → text (items_before kind heights options g) ≡ bits_before kind.signed kind.bits heights (λ h. name_of kind.bits (options h)) g
+  pub before_text : (options : ℕ → ℕ) → ((g : ℕ) → is_option kind.bits (options g) ≡ true) → (g : ℕ) → text (items_before kind heights options g)
+      ≡ bits_before kind.signed kind.bits heights (λ h. name_of kind.bits (options h)) g
   unfolding bits_before
   before_text options are zero = simp (items_before-none, items_before-more)
   before_text options are (suc g) = grind (arith, nat_tests, items_before-none, items_before-more, text-append, gaggle_text, before_text options are g)

@@ -1,6 +1,7 @@
 -- Mapped values and the numbers that they make, as they are read.
 use Rattle.std.specs.Prelude.{◌==◌, ◌||◌, if◌then◌else◌}
-use Rattle.std.proofs.Common.{zero, nat_lt, ◌≡◌, ◌⊎◌, ℕ, suc, ◌+◌, ◌-◌, ◌*◌, ◌%◌, ◌<◌, ◌≤◌, ◌^◌, List, [], ◌∷◌, ◌++◌, Bool, true, false, refl, ap, sym, subst, ◌∙◌, arith, get_or, set, eqb, length, pow_mono, length-append, Some, None, Ok, Err}
+use Rattle.std.proofs.Common.{zero, nat_lt, ◌≡◌, ◌⊎◌, ℕ, suc, ◌+◌, ◌-◌, ◌*◌, ◌%◌, ◌<◌, ◌≤◌, ◌^◌, List, [], ◌∷◌, ◌++◌, Bool, true, false, refl, ap, sym}
+use Rattle.std.proofs.Common.{subst, ◌∙◌, arith, get_or, set, eqb, length, pow_mono, length-append, Some, None, Ok, Err}
 use Rattle.std.proofs.lemmas.Nat.{pow-add, mul-add-lt, pow_pos}
 use Rattle.std.proofs.lemmas.List.{get_or-set_same, get_or-set_other}
 use Rattle.std.proofs.Math.Seq.{get_or-append_seam}
@@ -12,7 +13,7 @@ use Rattle.bit_pipe.specs.declared.fault.InFault.TheVariants as inputs
 use Rattle.bit_pipe.specs.declared.fault.TextFault.{TextFault}
 use Rattle.bit_pipe.specs.declared.fault.TextFault.TheVariants.{BadDepth}
 use Rattle.bit_pipe.specs.Sources.{SourceOf}
-use Rattle.bit_pipe.specs.Coming.{Coming, IsIn, EndsItem}
+use Rattle.bit_pipe.specs.SourceState.{SourceState, IsIn, EndsItem}
 use Rattle.bit_pipe.specs.Faults.{of_input}
 use Rattle.number_defs.specs.Mapping.{unmapped}
 use Rattle.number_defs.specs.Gaggles.{Kind, uncoded, is_option, depth_refusal, uncoded_form, unary_form, rest_form}
@@ -31,7 +32,8 @@ module _ (kind : Kind) (option before p zeros : ℕ) where
   asked t u = if t then uncoded_form kind before else if u then unary_form kind 0 before else rest_form kind option before zeros
 
   abbrev taken : Bool → Bool → Form
-  taken t u = if t then uncoded_form (free_kind kind.bits) p else if u then unary_form (free_kind kind.bits) 0 p else rest_form (free_kind kind.bits) option p zeros
+  taken t u = if t then uncoded_form (free_kind kind.bits) p else if u then unary_form (free_kind kind.bits) 0 p else rest_form (free_kind kind.bits) option
+      p zeros
 
   shapes : (t u : Bool) → (taken t u).shape ≡ (asked t u).shape
   shapes true u = refl
@@ -52,7 +54,8 @@ module _ (kind : Kind) (option before p zeros : ℕ) where
       at false q = cc
   refuse false false n name e = cc
 
-  passes : (t u : Bool) → ((u || t) ≡ true → zeros ≡ 0) → (n : ℕ) → (taken t u).refusal n ≡ None → (asked t u).refusal n ≡ depth_refusal kind before (zeros * 2 ^ option + n)
+  passes : (t u : Bool) → ((u || t) ≡ true → zeros ≡ 0) → (n : ℕ) → (taken t u).refusal n ≡ None →
+      (asked t u).refusal n ≡ depth_refusal kind before (zeros * 2 ^ option + n)
   passes true u none n e = let z : zeros * 2 ^ option + n ≡ n = alone (none (or_true u)) n in ap (depth_refusal kind before) (sym z)
     where
       or_true : (b : Bool) → (b || true) ≡ true
@@ -66,7 +69,8 @@ module _ (kind : Kind) (option before p zeros : ℕ) where
       alone : zeros ≡ 0 → (m : ℕ) → zeros * 2 ^ option + m ≡ m
       alone f m = rw f (omega arith)
 
-      at : (b : Bool) → (if b then Some bad_delta else None) ≡ None → (if b then Some bad_delta else depth_refusal kind before n) ≡ depth_refusal kind before (zeros * 2 ^ option + n)
+      at : (b : Bool) → (if b then Some bad_delta else None) ≡ None → (if b then Some bad_delta else depth_refusal kind before n)
+          ≡ depth_refusal kind before (zeros * 2 ^ option + n)
       at true q = cc
       at false q = ap (depth_refusal kind before) (sym (alone (none refl) n))
   passes false false none n e = refl
@@ -80,7 +84,8 @@ module _ (kind : Kind) (option before p zeros : ℕ) where
   pub value_refuses : Refuses (value_form (free_kind kind.bits) option p zeros) (value_form kind option before zeros)
   value_refuses = refuse (option == uncoded kind.bits) (option == 0)
 
-  pub value_passes : (((option == 0) || (option == uncoded kind.bits)) ≡ true → zeros ≡ 0) → (n : ℕ) → (value_form (free_kind kind.bits) option p zeros).refusal n ≡ None →
+  pub value_passes : (((option == 0) || (option == uncoded kind.bits)) ≡ true → zeros ≡ 0) → (n : ℕ) →
+      (value_form (free_kind kind.bits) option p zeros).refusal n ≡ None →
       (value_form kind option before zeros).refusal n ≡ depth_refusal kind before (zeros * 2 ^ option + n)
   value_passes = passes (option == uncoded kind.bits) (option == 0)
 
@@ -106,7 +111,7 @@ module _ (N option : ℕ) where
 
 -- ---- a unary part
 
-module _ {I : Type 0} {k : SourceOf I} (N option limit : ℕ) (is : limit ≡ 2 ^ (N - option)) {a b : Coming I} where
+module _ {I : Type 0} {k : SourceOf I} (N option limit : ℕ) (is : limit ≡ 2 ^ (N - option)) {a b : SourceState I} where
   pub unary_failed : (e : InFault) → EndsItem k (zeros_to limit) (Err e) a b → EndsForm k (zeros_form N option) (λ n. n) (by_fault (of_input e) tt) a b
   unary_failed inputs.ReadFault p = rw is at p
   unary_failed inputs.LongInput p = rw is at p
@@ -138,9 +143,10 @@ free_form N option zeros = value_form (free_kind N) option 0 zeros
 abbrev pub whole_value : (option zeros : ℕ) → ℕ → ℕ
 whole_value option zeros n = zeros * 2 ^ option + n
 
-module _ {I : Type 0} {k : SourceOf I} (N option zeros : ℕ) {a b : Coming I} where
+module _ {I : Type 0} {k : SourceOf I} (N option zeros : ℕ) {a b : SourceState I} where
   module _ (all : option ≡ uncoded N) where
-    pub plain_failed : (e : InFault) → EndsItem k (fixed N) (Err e) a b → EndsForm k (free_form N option zeros) (whole_value option zeros) (by_fault (of_input e) tt) a b
+    pub plain_failed : (e : InFault) → EndsItem k (fixed N) (Err e) a b → EndsForm k (free_form N option zeros) (whole_value option zeros)
+        (by_fault (of_input e) tt) a b
     plain_failed inputs.ReadFault p = rw (all_test N option all) p
     plain_failed inputs.LongInput p = rw (all_test N option all) p
     plain_failed inputs.Broken p = rw (all_test N option all) p
@@ -152,7 +158,8 @@ module _ {I : Type 0} {k : SourceOf I} (N option zeros : ℕ) {a b : Coming I} w
     plain_got n none p = let e : zeros * 2 ^ option + n ≡ n = rw none (omega arith) in rw (all_test N option all) (n, e, refl, p)
 
   module _ (some : option ≡ uncoded N → ⊥) (some_k : option ≡ 0 → ⊥) where
-    pub rest_failed : (e : InFault) → EndsItem k (fixed option) (Err e) a b → EndsForm k (free_form N option zeros) (whole_value option zeros) (by_fault (of_input e) tt) a b
+    pub rest_failed : (e : InFault) → EndsItem k (fixed option) (Err e) a b → EndsForm k (free_form N option zeros) (whole_value option zeros)
+        (by_fault (of_input e) tt) a b
     rest_failed inputs.ReadFault p = rw (not_all_test N option some, k_test option some_k) p
     rest_failed inputs.LongInput p = rw (not_all_test N option some, k_test option some_k) p
     rest_failed inputs.Broken p = rw (not_all_test N option some, k_test option some_k) p
@@ -160,11 +167,13 @@ module _ {I : Type 0} {k : SourceOf I} (N option zeros : ℕ) {a b : Coming I} w
     pub rest_ended : EndsItem k (fixed option) (Ok None) a b → EndsForm k (free_form N option zeros) (whole_value option zeros) (ends tt) a b
     rest_ended p = rw (not_all_test N option some, k_test option some_k) p
 
-    pub rest_got : (v n : ℕ) → zeros * 2 ^ option + n ≡ v → EndsItem k (fixed option) (Ok (Some n)) a b → EndsForm k (free_form N option zeros) (whole_value option zeros) (got v) a b
+    pub rest_got : (v n : ℕ) → zeros * 2 ^ option + n ≡ v → EndsItem k (fixed option) (Ok (Some n)) a b →
+        EndsForm k (free_form N option zeros) (whole_value option zeros) (got v) a b
     rest_got v n e p = rw (not_all_test N option some, k_test option some_k) (n, e, refl, p)
 
-module _ {I : Type 0} (k : SourceOf I) (N zeros : ℕ) (a b : Coming I) where
-  alone_at : (0 ≡ uncoded N → ⊥) → zeros ≡ 0 → (f : Found (Unit {0}) ℕ) → EndsForm k (zeros_form N 0) (λ n. n) f a b → EndsForm k (value_form (free_kind N) 0 0 zeros) (λ n. zeros * 2 ^ 0 + n) f a b
+module _ {I : Type 0} (k : SourceOf I) (N zeros : ℕ) (a b : SourceState I) where
+  alone_at : (0 ≡ uncoded N → ⊥) → zeros ≡ 0 → (f : Found (Unit {0}) ℕ) → EndsForm k (zeros_form N 0) (λ n. n) f a b →
+      EndsForm k (value_form (free_kind N) 0 0 zeros) (λ n. zeros * 2 ^ 0 + n) f a b
   alone_at some none f p = rw (not_all_test N 0 some) (at f p)
     where
       whole : (n : ℕ) → zeros * 2 ^ 0 + n ≡ n
@@ -185,7 +194,8 @@ module _ {I : Type 0} (k : SourceOf I) (N zeros : ℕ) (a b : Coming I) where
 -- ---- numbers after one another
 
 pub last_more : (heights : List ℕ) (h : ℕ) → last_of (heights ++ h ∷ []) ≡ h
-last_more heights h = let e : length (heights ++ h ∷ []) - 1 ≡ length heights = omega (arith, length-append heights (h ∷ [])) in rw e (get_or-append_seam heights h [] 0)
+last_more heights h = let e : length (heights ++ h ∷ []) - 1 ≡ length heights =
+    omega (arith, length-append heights (h ∷ [])) in rw e (get_or-append_seam heights h [] 0)
 
 -- the number at a place, after the zeros there
 abbrev pub each : Kind → ℕ → List ℕ → ℕ → List ℕ → Script (List ℕ) (List ℕ)
@@ -211,7 +221,8 @@ module _ (kind : Kind) (option : ℕ) (zs : List ℕ) (i : ℕ) where
     sound : IsSound asks.shape
     sound = value_sound kind option (last_of given) 0 (get_or zs i 0)
 
-    module _ (before : ℕ) (last_is : last_of given ≡ before) (plain : ((option == 0) || (option == uncoded kind.bits)) ≡ true → get_or zs i 0 ≡ 0) (v s : ℕ) (good : form.refusal s ≡ None) (is : value s ≡ v) where
+    module _ (before : ℕ) (last_is : last_of given ≡ before) (plain : ((option == 0) || (option == uncoded kind.bits)) ≡ true → get_or zs i 0 ≡ 0) (v s : ℕ)
+        (good : form.refusal s ≡ None) (is : value s ≡ v) where
       asked_as : asks.refusal s ≡ depth_refusal kind (last_of given) v
       asked_as = value_passes kind option (last_of given) 0 (get_or zs i 0) plain s good ∙ ap (depth_refusal kind (last_of given)) is
 
@@ -221,30 +232,38 @@ module _ (kind : Kind) (option : ℕ) (zs : List ℕ) (i : ℕ) where
       refused : kind.too_great (unmapped kind.bits before v) ≡ true → asks.refusal s ≡ Some bad_depth
       refused great = asked_as ∙ value_high kind option (last_of given) 0 0 v (rw last_is great)
 
-module _ {I : Type 0} {k : SourceOf I} (kind : Kind) (option before : ℕ) (zs : List ℕ) (i n : ℕ) (given : List ℕ) (all : Script (List ℕ) (List ℕ)) {old now : Coming I} (l : Leaves k all (in_turn (each kind option zs) i n given) old now) where
+module _ {I : Type 0} {k : SourceOf I} (kind : Kind) (option before : ℕ) (zs : List ℕ) (i n : ℕ) (given : List ℕ) (all : Script (List ℕ) (List ℕ))
+    {old now : SourceState I} (l : Leaves k all (in_turn (each kind option zs) i n given) old now) where
   pub whole_all : n ≡ 0 → IsIn now → ReadsAs k all (got given) old now
   whole_all none h = l.then (got given) now (rw none (read_done given now h))
 
-  module _ (m : ℕ) (e : n ≡ suc m) {last : Coming I} where
-    pub whole_fault : (fault : TextFault) → EndsForm k (form kind option zs i) (value kind option zs i) (by_fault fault tt) now last → ReadsAs k all (by_fault fault given) old last
+  module _ (m : ℕ) (e : n ≡ suc m) {last : SourceState I} where
+    pub whole_fault : (fault : TextFault) → EndsForm k (form kind option zs i) (value kind option zs i) (by_fault fault tt) now last →
+        ReadsAs k all (by_fault fault given) old last
     whole_fault fault p =
-        l.then (by_fault fault given) last (rw e (form_fault (form kind option zs i) (value kind option zs i) given (asks kind option zs i given) (next kind option zs i given m) (shape kind option zs i given) fault
+        l.then (by_fault fault given) last (rw e (form_fault (form kind option zs i) (value kind option zs i) given (asks kind option zs i given)
+        (next kind option zs i given m) (shape kind option zs i given) fault
         (sound kind option zs i given) (value_refuses kind option (last_of given) 0 (get_or zs i 0)) p))
 
     pub whole_ended : EndsForm k (form kind option zs i) (value kind option zs i) (ends tt) now last → ReadsAs k all (ends given) old last
-    whole_ended p = l.then (ends given) last (rw e (form_cut (form kind option zs i) (value kind option zs i) given (asks kind option zs i given) (next kind option zs i given m) (shape kind option zs i given) p))
+    whole_ended p = l.then (ends given) last (rw e (form_cut (form kind option zs i) (value kind option zs i) given (asks kind option zs i given)
+        (next kind option zs i given m) (shape kind option zs i given) p))
 
     module _ (last_is : last_of given ≡ before) (plain : ((option == 0) || (option == uncoded kind.bits)) ≡ true → get_or zs i 0 ≡ 0) (v : ℕ) where
-      pub whole_deep : kind.too_great (unmapped kind.bits before v) ≡ true → EndsForm k (form kind option zs i) (value kind option zs i) (got v) now last → ReadsAs k all (by_fault BadDepth given) old last
+      pub whole_deep : kind.too_great (unmapped kind.bits before v) ≡ true → EndsForm k (form kind option zs i) (value kind option zs i) (got v) now last →
+          ReadsAs k all (by_fault BadDepth given) old last
       whole_deep great p =
-          l.then (by_fault BadDepth given) last (rw e (form_refused (form kind option zs i) (value kind option zs i) given (asks kind option zs i given) (next kind option zs i given m) (shape kind option zs i given) v bad_depth
+          l.then (by_fault BadDepth given) last (rw e (form_refused (form kind option zs i) (value kind option zs i) given (asks kind option zs i given)
+          (next kind option zs i given m) (shape kind option zs i given) v bad_depth
           (sound kind option zs i given) (λ s good is. refused kind option zs i given before last_is plain v s good is great) p))
 
-      pub whole_more : (j height : ℕ) (more : List ℕ) → j ≡ suc i → height ≡ unmapped kind.bits before v → kind.too_great height ≡ false → more ≡ given ++ height ∷ [] →
+      pub whole_more : (j height : ℕ) (more : List ℕ) → j ≡ suc i → height ≡ unmapped kind.bits before v → kind.too_great height ≡ false →
+          more ≡ given ++ height ∷ [] →
           EndsForm k (form kind option zs i) (value kind option zs i) (got v) now last → Leaves k all (in_turn (each kind option zs) j m more) old last
       whole_more j height more h f low g p = rw h (record {
         then = λ found end q. l.then found end (rw e
-            (form_got (form kind option zs i) (value kind option zs i) given (asks kind option zs i given) (next kind option zs i given m) (shape kind option zs i given) v found
+            (form_got (form kind option zs i) (value kind option zs i) given (asks kind option zs i given) (next kind option zs i given m)
+            (shape kind option zs i given) v found
             (sound kind option zs i given) (λ s good is. accepted kind option zs i given before last_is plain v s good is (rw (← f) low)) p
             (λ s is. rw (is, last_is, ← f, ← g) q)));
       })
@@ -286,21 +305,28 @@ within_both {N} {most} xs ys p q = record {
 
 -- ---- the zeros of several unary parts
 
-module _ {I : Type 0} {k : SourceOf I} (given : List ℕ) (N option : ℕ) (all : Script (List ℕ) (List ℕ)) (m : ℕ) (zs : List ℕ) {old now : Coming I} (l : Leaves k all (zeros_script given N option m zs) old now) where
+module _ {I : Type 0} {k : SourceOf I} (given : List ℕ) (N option : ℕ) (all : Script (List ℕ) (List ℕ)) (m : ℕ) (zs : List ℕ) {old now : SourceState I}
+    (l : Leaves k all (zeros_script given N option m zs) old now) where
   pub zeros_all : m ≡ 0 → IsIn now → ReadsAs k all (got zs) old now
   zeros_all none h = l.then (got zs) now (rw none (read_done zs now h))
 
-  module _ (n : ℕ) (e : m ≡ suc n) {last : Coming I} where
-    pub zeros_fault : (fault : TextFault) → EndsForm k (zeros_form N option) (λ z. z) (by_fault fault tt) now last → ReadsAs k all (by_fault fault given) old last
-    zeros_fault fault p = l.then (by_fault fault given) last (rw e (form_fault (zeros_form N option) (λ z. z) given (zeros_form N option) (λ z. zeros_script given N option n (zs ++ z ∷ [])) refl fault tt (λ z name r. r) p))
+  module _ (n : ℕ) (e : m ≡ suc n) {last : SourceState I} where
+    pub zeros_fault : (fault : TextFault) → EndsForm k (zeros_form N option) (λ z. z) (by_fault fault tt) now last →
+        ReadsAs k all (by_fault fault given) old last
+    zeros_fault fault p = l.then (by_fault fault given) last
+        (rw e (form_fault (zeros_form N option) (λ z. z) given (zeros_form N option) (λ z. zeros_script given N option n (zs ++ z ∷ [])) refl fault tt
+        (λ z name r. r) p))
 
     pub zeros_ended : EndsForm k (zeros_form N option) (λ z. z) (ends tt) now last → ReadsAs k all (ends given) old last
-    zeros_ended p = l.then (ends given) last (rw e (form_cut (zeros_form N option) (λ z. z) given (zeros_form N option) (λ z. zeros_script given N option n (zs ++ z ∷ [])) refl p))
+    zeros_ended p = l.then (ends given) last (rw e (form_cut (zeros_form N option) (λ z. z) given (zeros_form N option)
+        (λ z. zeros_script given N option n (zs ++ z ∷ [])) refl p))
 
-    pub zeros_more : (z : ℕ) (ys : List ℕ) → ys ≡ zs ++ z ∷ [] → EndsForm k (zeros_form N option) (λ x. x) (got z) now last → Leaves k all (zeros_script given N option n ys) old last
+    pub zeros_more : (z : ℕ) (ys : List ℕ) → ys ≡ zs ++ z ∷ [] → EndsForm k (zeros_form N option) (λ x. x) (got z) now last →
+        Leaves k all (zeros_script given N option n ys) old last
     zeros_more z ys f p = record {
       then = λ found end q. l.then found end
-          (rw e (form_got (zeros_form N option) (λ x. x) given (zeros_form N option) (λ x. zeros_script given N option n (zs ++ x ∷ [])) refl z found tt (λ x good is. good) p (λ x is. rw (is, ← f) q)));
+          (rw e (form_got (zeros_form N option) (λ x. x) given (zeros_form N option) (λ x. zeros_script given N option n (zs ++ x ∷ [])) refl z found tt
+          (λ x good is. good) p (λ x is. rw (is, ← f) q)));
     }
 
 -- one element of a list is set

@@ -7,7 +7,7 @@ use Rattle.number_defs.specs.Gaggles.{Kind}
 use Rattle.bit_pipe.specs.declared.fault.Part.{Part}
 use Rattle.bit_pipe.specs.declared.fault.TextFault.{TextFault}
 use Rattle.bit_pipe.specs.Sources.{SourceOf}
-use Rattle.bit_pipe.specs.Coming.{Coming}
+use Rattle.bit_pipe.specs.SourceState.{SourceState}
 use Rattle.bit_pipe.specs.ScriptSources.{Found, by_fault, ReadsAs}
 use Rattle.number_defs.specs.NumberScript.{numbers_script}
 use Rattle.gaggle_codes.specs.declared.range.NumberRange.{NumberRange}
@@ -34,7 +34,7 @@ IsCounted (Err fault) count = Unit {0}
 
 -- numbers were read as their script says: the cells have those that it gives, and 0 for further ones
 pub record TakesNumbers {I : Type 0} (k : SourceOf I) (kind : Kind) (range : NumberRange) (most shift stride : ℕ)
-    (result : Result (Part × ℕ) TextFault) (old new : Coming I) (before now : List ℤ) : Type 0 where
+    (result : Result (Part × ℕ) TextFault) (old new : SourceState I) (before now : List ℤ) : Type 0 where
   pub given : List ℕ
   pub read : ReadsAs k (numbers_script kind (div_ceil (length before) stride)) (by_numbers result given) old new
   pub counted : IsCounted result (length given)

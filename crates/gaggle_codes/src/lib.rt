@@ -1,4 +1,7 @@
 //! This crate codes numbers by differences, gaggle by gaggle (docs/formats.md, "Numbers by differences").
+//!
+//! Layer: bits and the parts of a segment. It uses `base_122`, `item_defs`, `number_defs` and `bit_pipe`. It is used by `dc_depths`,
+//! `segment_code` and `layer_tests`.
 #![tactic(auto)]
 
 mod choice;

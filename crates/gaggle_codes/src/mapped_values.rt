@@ -1,6 +1,7 @@
 // Reads mapped values and the numbers of a gaggle from bits.
-ghost use Rattle.std.specs.Prelude.{◌≡◌, ◌<◌, ◌≤◌, ◌+◌, ◌-◌, ◌*◌, ◌^◌, ◌++◌, ◌∷◌, ◌==◌, ◌||◌, [], ℕ, List, Bool, true, length, slice_index, MatchResult, IfOk, IfSome};
-ghost use Rattle.bit_pipe.specs.Coming.{coming, IsIn};
+ghost use Rattle.std.specs.Prelude.{◌≡◌, ◌<◌, ◌≤◌, ◌+◌, ◌-◌, ◌*◌, ◌^◌, ◌++◌, ◌∷◌, ◌==◌, ◌||◌, [], ℕ, List, Bool, true, length, slice_index, MatchResult};
+ghost use Rattle.std.specs.Prelude.{IfOk, IfSome};
+ghost use Rattle.bit_pipe.specs.SourceState.{source_state, IsIn};
 ghost use Rattle.bit_pipe.specs.declared.fault.TextFault.TheVariants.{BadDepth};
 ghost use Rattle.number_defs.specs.Mapping.{unmapped};
 ghost use Rattle.number_defs.specs.Gaggles.{uncoded, is_option};
@@ -25,10 +26,10 @@ pub(crate) fn uncoded_of(bits: u8) -> u8
 
 // Takes a unary part, and returns the number of its zeros.
 fn take_unary<I: OctetIn>(input: &mut BitIn<I>, bits: u8, k: u8) -> Result<Option<u16>, TextFault>
-    requires open { IsIn (coming input.old) }
+    requires open { IsIn (source_state input.old) }
     requires bits { bits ≤ 10 }
     ensures few { IfOk result (λ zeros. IfSome zeros (λ n. n < 2 ^ (bits - k))) }
-    ensures read { EndsForm I.source (zeros_form bits k) (λ n. n) (by_item result tt) (coming input.old) (coming input.new) }
+    ensures read { EndsForm I.source (zeros_form bits k) (λ n. n) (by_item result tt) (source_state input.old) (source_state input.new) }
 {
     let limit = 1 << bits.saturating_sub(k);
     let Some(zeros) = input.take_zeros(limit)? else {
@@ -47,14 +48,14 @@ fn take_value<I: OctetIn>(
     option: u8,
     zeros: u16,
 ) -> Result<Option<u16>, TextFault>
-    requires open { IsIn (coming input.old) }
+    requires open { IsIn (source_state input.old) }
     requires bits { bits ≤ 10 }
     requires option { is_option bits option ≡ true }
     requires zeros { zeros < 2 ^ (bits - option) }
     requires plain { ((option == 0) || (option == uncoded bits)) ≡ true → zeros ≡ 0 }
     ensures few { IfOk result (λ value. IfSome value (λ n. n < 2 ^ bits)) }
     ensures read { EndsForm I.source (value_form (free_kind bits) option 0 zeros) (λ n. zeros * 2 ^ option + n)
-        (by_item result tt) (coming input.old) (coming input.new) }
+        (by_item result tt) (source_state input.old) (source_state input.new) }
 {
     if option == uncoded_of(bits) {
         let Some(value) = input.take_bits(bits)? else {
@@ -104,12 +105,12 @@ pub(crate) fn take_unary_parts<I: OctetIn>(
     k: u8,
     zeros: &mut [u16],
 ) -> Result<Part, TextFault>
-    requires open { IsIn (coming input.old) }
+    requires open { IsIn (source_state input.old) }
     requires bits { bits ≤ 10 }
     requires none { (j : ℕ) → slice_index zeros.old j ≡ 0 }
     ensures few { (j : ℕ) → slice_index zeros.new j < 2 ^ (bits - k) }
     ensures read { (given : List ℕ) → ReadsAs I.source (zeros_script given bits k (length zeros.old) [])
-        (by_part result zeros.new given) (coming input.old) (coming input.new) }
+        (by_part result zeros.new given) (source_state input.old) (source_state input.new) }
 {
     for place in 0..zeros.len() {
         let Some(count) = take_unary(input, bits, k)? else {
@@ -130,7 +131,7 @@ pub(crate) fn take_whole<I: OctetIn>(
     zeros: &[u16],
     numbers: &mut GaggleHeights,
 ) -> Result<Part, TextFault>
-    requires open { IsIn (coming input.old) }
+    requires open { IsIn (source_state input.old) }
     requires bits { range.bits ≤ 10 }
     requires option { is_option range.bits option ≡ true }
     requires before { before < 2 ^ range.bits }
@@ -140,7 +141,7 @@ pub(crate) fn take_whole<I: OctetIn>(
     ensures read { (too_great : ℕ → Bool) (prior : List ℕ) → IsBound most range.bits too_great →
         last_of (prior ++ heights_in numbers.old) ≡ before →
         ReadsAs I.source (in_turn (λ j. number_script (kind_of range too_great) option (slice_index zeros.now j)) 0 (length zeros.now)
-        (prior ++ heights_in numbers.old)) (by_given result (prior ++ heights_in numbers.new)) (coming input.old) (coming input.new) }
+        (prior ++ heights_in numbers.old)) (by_given result (prior ++ heights_in numbers.new)) (source_state input.old) (source_state input.new) }
     ensures adds { Adds result (length zeros.now) (heights_in numbers.old) (heights_in numbers.new) }
     ensures within { AreWithin range.bits most (heights_in numbers.old) → AreWithin range.bits most (heights_in numbers.new) }
 {

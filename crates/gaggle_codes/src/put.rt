@@ -1,7 +1,7 @@
 // The writer of numbers, gaggle by gaggle.
 ghost use Rattle.std.specs.Prelude.{◌≡◌, ◌<◌, ◌≤◌, ◌*◌, ◌++◌, ℕ, Bool, length};
 ghost use Rattle.item_defs.specs.Items.{text};
-ghost use Rattle.bit_pipe.specs.Standing.{Puts, IsReady, Writes};
+ghost use Rattle.bit_pipe.specs.SinkState.{Puts, IsReady, Writes};
 ghost use Rattle.number_defs.specs.Cells.{AreInRange};
 ghost use Rattle.number_defs.specs.Gaggles.{gaggle_values, number_items};
 ghost use Rattle.number_defs.specs.Choice.{choices};

@@ -1,7 +1,7 @@
 // The reader of numbers, gaggle by gaggle.
 ghost use Rattle.std.specs.Prelude.{◌≡◌, ◌<◌, ◌≤◌, ◌+◌, ◌-◌, ◌*◌, ◌^◌, ℕ, Bool, length, slice_index};
 ghost use Rattle.std.specs.Int.{div_ceil};
-ghost use Rattle.bit_pipe.specs.Coming.{coming, IsIn};
+ghost use Rattle.bit_pipe.specs.SourceState.{source_state, IsIn};
 ghost use Rattle.gaggle_codes.specs.Given.{IsBound, kind_of, any_of};
 ghost use Rattle.gaggle_codes.specs.Cells.{TakesNumbers};
 
@@ -38,14 +38,14 @@ pub fn take_bounded<I: OctetIn>(
     range: NumberRange,
     most: u16,
 ) -> Result<(Part, u32), TextFault>
-    requires open { IsIn (coming input.old) }
+    requires open { IsIn (source_state input.old) }
     requires stride { 1 ≤ stride }
     requires low { 2 ≤ range.bits }
     requires high { range.bits ≤ 10 }
     requires both { range.bits + shift ≤ 28 }
     requires few { div_ceil (length cells.old) stride < 2 ^ 20 }
     ensures { (too_great : ℕ → Bool) → IsBound most range.bits too_great →
-        TakesNumbers I.source (kind_of range too_great) range most shift stride result (coming input.old) (coming input.new) cells.old cells.new }
+        TakesNumbers I.source (kind_of range too_great) range most shift stride result (source_state input.old) (source_state input.new) cells.old cells.new }
 {
     clear(cells, stride, shift, range);
     let count = cells.len().div_ceil(stride);
@@ -83,13 +83,14 @@ pub fn take_values<I: OctetIn>(
     shift: u8,
     range: NumberRange,
 ) -> Result<(Part, u32), TextFault>
-    requires open { IsIn (coming input.old) }
+    requires open { IsIn (source_state input.old) }
     requires stride { 1 ≤ stride }
     requires low { 2 ≤ range.bits }
     requires high { range.bits ≤ 10 }
     requires both { range.bits + shift ≤ 28 }
     requires few { div_ceil (length cells.old) stride < 2 ^ 20 }
-    ensures { TakesNumbers I.source (any_of range) range (2 ^ range.bits - 1) shift stride result (coming input.old) (coming input.new) cells.old cells.new }
+    ensures { TakesNumbers I.source (any_of range) range (2 ^ range.bits - 1) shift stride result (source_state input.old) (source_state input.new)
+        cells.old cells.new }
 {
     let greatest = (1 << range.bits) - 1;
     take_bounded(input, cells, stride, shift, range, greatest)

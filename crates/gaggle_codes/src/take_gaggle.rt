@@ -1,6 +1,6 @@
 // The reader of the numbers of one gaggle.
 ghost use Rattle.std.specs.Prelude.{◌≡◌, ◌<◌, ◌≤◌, ◌+◌, ◌*◌, ◌^◌, ◌-◌, ◌++◌, ◌∷◌, min, suc, ℕ, List, Bool, true, [], length, slice_index, IfOk, IfSome};
-ghost use Rattle.bit_pipe.specs.Coming.{coming, IsIn};
+ghost use Rattle.bit_pipe.specs.SourceState.{source_state, IsIn};
 ghost use Rattle.number_defs.specs.Gaggles.{is_option};
 ghost use Rattle.bit_pipe.specs.ScriptSources.{ReadsAs, by_item, by_done};
 ghost use Rattle.number_defs.specs.NumberScript.{option_script, lead_script, differences_script, gaggle_script, last_of};
@@ -22,11 +22,11 @@ fn names_option(bits: u8, option: u8) -> bool
 
 // Takes the option of a gaggle.
 fn take_identifier<I: OctetIn>(input: &mut BitIn<I>, bits: u8) -> Result<Option<u8>, TextFault>
-    requires open { IsIn (coming input.old) }
+    requires open { IsIn (source_state input.old) }
     requires low { 2 ≤ bits }
     requires high { bits ≤ 10 }
     ensures known { IfOk result (λ option. IfSome option (λ n. is_option bits n ≡ true)) }
-    ensures read { (given : List ℕ) → ReadsAs I.source (option_script given bits) (by_item result given) (coming input.old) (coming input.new) }
+    ensures read { (given : List ℕ) → ReadsAs I.source (option_script given bits) (by_item result given) (source_state input.old) (source_state input.new) }
 {
     let Some(number) = input.take_bits(option_bits(bits))? else {
         return Ok(None);
@@ -45,7 +45,7 @@ fn take_reference<I: OctetIn>(
     most: u16,
     numbers: &mut GaggleHeights,
 ) -> Result<Option<u16>, TextFault>
-    requires open { IsIn (coming input.old) }
+    requires open { IsIn (source_state input.old) }
     requires low { 2 ≤ range.bits }
     requires high { range.bits ≤ 10 }
     requires none { heights_in numbers.old ≡ [] }
@@ -53,7 +53,7 @@ fn take_reference<I: OctetIn>(
     ensures adds { IsFirst result (heights_in numbers.new) }
     ensures within { AreWithin range.bits most (heights_in numbers.new) }
     ensures read { (too_great : ℕ → Bool) → IsBound most range.bits too_great → ReadsAs I.source (lead_script (kind_of range too_great) 0 [])
-        (by_done result (heights_in numbers.new) (heights_in numbers.new)) (coming input.old) (coming input.new) }
+        (by_done result (heights_in numbers.new) (heights_in numbers.new)) (source_state input.old) (source_state input.new) }
 {
     let Some(number) = input.take_bits(range.bits)? else {
         return Ok(None);
@@ -76,7 +76,7 @@ fn take_differences<I: OctetIn>(
     count: usize,
     numbers: &mut GaggleHeights,
 ) -> Result<Part, TextFault>
-    requires open { IsIn (coming input.old) }
+    requires open { IsIn (source_state input.old) }
     requires bits { range.bits ≤ 10 }
     requires option { is_option range.bits option ≡ true }
     requires before { before < 2 ^ range.bits }
@@ -84,7 +84,7 @@ fn take_differences<I: OctetIn>(
     ensures read { (too_great : ℕ → Bool) (prior : List ℕ) → IsBound most range.bits too_great →
         last_of (prior ++ heights_in numbers.old) ≡ before →
         ReadsAs I.source (differences_script (kind_of range too_great) option count (prior ++ heights_in numbers.old))
-        (by_given result (prior ++ heights_in numbers.new)) (coming input.old) (coming input.new) }
+        (by_given result (prior ++ heights_in numbers.new)) (source_state input.old) (source_state input.new) }
     ensures adds { Adds result count (heights_in numbers.old) (heights_in numbers.new) }
     ensures within { AreWithin range.bits most (heights_in numbers.old) → AreWithin range.bits most (heights_in numbers.new) }
 {
@@ -107,14 +107,15 @@ pub(crate) fn take_first<I: OctetIn>(
     size: usize,
     numbers: &mut GaggleHeights,
 ) -> Result<Part, TextFault>
-    requires open { IsIn (coming input.old) }
+    requires open { IsIn (source_state input.old) }
     requires low { 2 ≤ range.bits }
     requires high { range.bits ≤ 10 }
     requires some { 1 ≤ size }
     requires room { size ≤ 16 }
     requires none { heights_in numbers.old ≡ [] }
     ensures read { (too_great : ℕ → Bool) (all : ℕ) → IsBound most range.bits too_great → min all 16 ≡ size →
-        ReadsAs I.source (gaggle_script (kind_of range too_great) all 0 []) (by_given result (heights_in numbers.new)) (coming input.old) (coming input.new) }
+        ReadsAs I.source (gaggle_script (kind_of range too_great) all 0 []) (by_given result (heights_in numbers.new)) (source_state input.old)
+        (source_state input.new) }
     ensures adds { Adds result size [] (heights_in numbers.new) }
     ensures within { AreWithin range.bits most (heights_in numbers.new) }
 {
@@ -136,7 +137,7 @@ pub(crate) fn take_next<I: OctetIn>(
     size: usize,
     numbers: &mut GaggleHeights,
 ) -> Result<Part, TextFault>
-    requires open { IsIn (coming input.old) }
+    requires open { IsIn (source_state input.old) }
     requires low { 2 ≤ range.bits }
     requires high { range.bits ≤ 10 }
     requires before { before < 2 ^ range.bits }
@@ -145,7 +146,7 @@ pub(crate) fn take_next<I: OctetIn>(
     ensures read { (too_great : ℕ → Bool) (all g : ℕ) (prior : List ℕ) → IsBound most range.bits too_great →
         min all (16 * suc g + 16) - 16 * suc g ≡ size → last_of prior ≡ before →
         ReadsAs I.source (gaggle_script (kind_of range too_great) all (suc g) prior)
-        (by_given result (prior ++ heights_in numbers.new)) (coming input.old) (coming input.new) }
+        (by_given result (prior ++ heights_in numbers.new)) (source_state input.old) (source_state input.new) }
     ensures adds { Adds result size [] (heights_in numbers.new) }
     ensures within { AreWithin range.bits most (heights_in numbers.new) }
 {
@@ -165,7 +166,7 @@ pub(crate) fn take_gaggle<I: OctetIn>(
     size: usize,
     numbers: &mut GaggleHeights,
 ) -> Result<Part, TextFault>
-    requires open { IsIn (coming input.old) }
+    requires open { IsIn (source_state input.old) }
     requires low { 2 ≤ range.bits }
     requires high { range.bits ≤ 10 }
     requires before { before < 2 ^ range.bits }
@@ -175,7 +176,7 @@ pub(crate) fn take_gaggle<I: OctetIn>(
     ensures read { (too_great : ℕ → Bool) (all : ℕ) (prior : List ℕ) → IsBound most range.bits too_great →
         min all (16 * gaggle + 16) - 16 * gaggle ≡ size → length prior ≡ 16 * gaggle → (0 < gaggle → last_of prior ≡ before) →
         ReadsAs I.source (gaggle_script (kind_of range too_great) all gaggle prior)
-        (by_given result (prior ++ heights_in numbers.new)) (coming input.old) (coming input.new) }
+        (by_given result (prior ++ heights_in numbers.new)) (source_state input.old) (source_state input.new) }
     ensures adds { Adds result size [] (heights_in numbers.new) }
     ensures most { length (heights_in numbers.new) ≤ size }
     ensures within { AreWithin range.bits most (heights_in numbers.new) }

@@ -1,7 +1,7 @@
 // The bits of mapped values.
 ghost use Rattle.std.specs.Prelude.{◌≡◌, ◌<◌, ◌≤◌, ◌+◌, ◌-◌, ◌^◌, ◌++◌, ◌∷◌, [], true, false, flat_map};
 ghost use Rattle.item_defs.specs.Bits.{bits_of, copies};
-ghost use Rattle.bit_pipe.specs.Standing.{IsReady, Writes};
+ghost use Rattle.bit_pipe.specs.SinkState.{IsReady, Writes};
 ghost use Rattle.number_defs.specs.Gaggles.{identifier_bits};
 ghost use Rattle.gaggle_codes.specs.GaggleBits.{unary_bits, rest_bits, value_bits};
 

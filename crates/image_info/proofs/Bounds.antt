@@ -54,7 +54,8 @@ fewer_kept apid s (x ∷ xs) = elim (does apid s x) [
   ]
 ]
 
-pub counts_below : (id : ImageId) (packets : List (List ℕ)) → AllByRecursion IsPacket packets → CountsBelow (count_of (kept_of id packets)) (length (joined packets))
+pub counts_below : (id : ImageId) (packets : List (List ℕ)) → AllByRecursion IsPacket packets →
+    CountsBelow (count_of (kept_of id packets)) (length (joined packets))
 counts_below id packets whole =
     let own = fewer_own (is_own id) packets in
     let few = fewer_kept id.apid fresh (own_packets id packets) in
@@ -63,5 +64,12 @@ counts_below id packets whole =
     record {
       packets = (let a = own.number in let b = few.number in omega (arith, a, b, all));
       octets_are = (let a = own.octets in let b = few.octets in omega (arith, a, b, octets));
-      received = (let a = own.number in let b = few.number in omega (arith, a, b, all, count_by-le-length (λ packet. closes (flags_in packet)) (kept_of id packets)));
+      received = (let a = own.number in let b = few.number in omega (
+        arith,
+        a,
+        b,
+        all,
+        count_by-le-length (λ packet. closes (flags_in packet))
+            (kept_of id packets),
+      ));
     }

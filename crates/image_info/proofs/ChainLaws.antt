@@ -1,5 +1,6 @@
 -- The chains of a table.
-use Rattle.std.proofs.Common.{◌≡◌, ◌≢◌, ◌⊎◌, ◌<◌, ◌≤◌, ◌+◌, ◌*◌, ◌∙◌, ◌==◌, ◌&&◌, nat_lt, if◌then◌else◌, ℕ, zero, suc, true, false, cond, List, [], ◌∷◌, ◌++◌, length, get_or, slice_set, refl, sym, ap, subst, arith, inl, inr, length-append}
+use Rattle.std.proofs.Common.{◌≡◌, ◌≢◌, ◌⊎◌, ◌<◌, ◌≤◌, ◌+◌, ◌*◌, ◌∙◌, ◌==◌, ◌&&◌, nat_lt, if◌then◌else◌, ℕ, zero, suc, true, false, cond, List, [], ◌∷◌}
+use Rattle.std.proofs.Common.{◌++◌, length, get_or, slice_set, refl, sym, ap, subst, arith, inl, inr, length-append}
 use Rattle.std.proofs.lemmas.Bool.{cases_lt, cases_eq, eq-eqb, ne_eqb, false≢true}
 use Rattle.std.proofs.lemmas.Bool.Decides.{nat_tests}
 use Rattle.std.proofs.lemmas.List.{get_or-set_same, get_or-set_other, length-set}
@@ -19,14 +20,17 @@ bucket_low id = mod_below (521 * id.apid + id.image) 4096 (omega arith)
 last_here : (table : List ImageEntry) (bucket place : ℕ) → bucket_at table place ≡ bucket → last_before table bucket (suc place) ≡ place
 last_here table bucket place is = ap (λ b. cond b place (last_before table bucket place)) (eq-eqb (bucket_at table place) bucket is)
 
-last_earlier : (table : List ImageEntry) (bucket place : ℕ) → bucket_at table place ≢ bucket → last_before table bucket (suc place) ≡ last_before table bucket place
+last_earlier : (table : List ImageEntry) (bucket place : ℕ) → bucket_at table place ≢ bucket → last_before table bucket (suc place)
+    ≡ last_before table bucket place
 last_earlier table bucket place other = ap (λ b. cond b place (last_before table bucket place)) (ne_eqb (bucket_at table place) bucket other)
 
 -- only the images before a place count
-last_same : (t u : List ImageEntry) (bucket before : ℕ) → ((k : ℕ) → k < before → bucket_at u k ≡ bucket_at t k) → last_before u bucket before ≡ last_before t bucket before
+last_same : (t u : List ImageEntry) (bucket before : ℕ) → ((k : ℕ) → k < before → bucket_at u k ≡ bucket_at t k) →
+    last_before u bucket before ≡ last_before t bucket before
 last_same t u bucket zero same = refl
 last_same t u bucket (suc n) same =
-    ap (λ k. cond (k == bucket) n (last_before u bucket n)) (same n (omega arith)) ∙ ap (cond (bucket_at t n == bucket) n) (last_same t u bucket n (λ k lt. same k (omega (arith, lt))))
+    ap (λ k. cond (k == bucket) n (last_before u bucket n)) (same n (omega arith)) ∙ ap (cond (bucket_at t n == bucket) n)
+    (last_same t u bucket n (λ k lt. same k (omega (arith, lt))))
 
 -- no image in the bucket is at one of these places
 abbrev HasNone : List ImageEntry → (bucket from to : ℕ) → Type 0
@@ -55,13 +59,15 @@ is_last table bucket (suc n) = elim (cases_eq (bucket_at table n) bucket) [
 -- ---- the table changes
 
 -- an entry of the same image
-pub put_chained : (t : List ImageEntry) (last earlier : List ℕ) (place : ℕ) (entry : ImageEntry) → place < length t → (entry_at t place).id ≡ entry.id → AreChained t last earlier →
+pub put_chained : (t : List ImageEntry) (last earlier : List ℕ) (place : ℕ) (entry : ImageEntry) → place < length t → (entry_at t place).id ≡ entry.id →
+    AreChained t last earlier →
     AreChained (slice_set t place entry) last earlier
 put_chained t last earlier place entry lt own c = record {
   ends = λ bucket low. c.ends bucket low ∙ sym (last_same t now bucket (length t) same) ∙ ap (last_before now bucket) (sym (length-set t place entry));
   links = λ k inside.
       let before : k < length t = omega (arith, inside, length-set t place entry) in
-      c.links k before ∙ sym (last_same t now (bucket_at t k) k (λ j less. same j (omega (arith, less, before)))) ∙ ap (λ b. last_before now b k) (sym (same k before));
+      c.links k before ∙ sym (last_same t now (bucket_at t k) k (λ j less. same j (omega (arith, less, before)))) ∙ ap (λ b. last_before now b k)
+      (sym (same k before));
 }
   where
     now : List ImageEntry
@@ -70,12 +76,14 @@ put_chained t last earlier place entry lt own c = record {
     same : (k : ℕ) → k < length t → bucket_at now k ≡ bucket_at t k
     same k inside = elim (cases_eq k place) [
       | inl here ↦
-          ap (bucket_at now) here ∙ ap (λ (e : ImageEntry). bucket_of e.id) (get_or-set_same t place entry no_entry lt) ∙ ap bucket_of (sym own) ∙ ap (bucket_at t) (sym here)
+          ap (bucket_at now) here ∙ ap (λ (e : ImageEntry). bucket_of e.id) (get_or-set_same t place entry no_entry lt) ∙ ap bucket_of (sym own)
+          ∙ ap (bucket_at t) (sym here)
       | inr other ↦ ap (λ (e : ImageEntry). bucket_of e.id) (get_or-set_other t place k entry no_entry other)
     ]
 
 -- an image that begins
-module _ (t : List ImageEntry) (last earlier : List ℕ) (entry : ImageEntry) (buckets : length last ≡ 4096) (size : length earlier ≡ length t) (c : AreChained t last earlier) where
+module _ (t : List ImageEntry) (last earlier : List ℕ) (entry : ImageEntry) (buckets : length last ≡ 4096) (size : length earlier ≡ length t)
+    (c : AreChained t last earlier) where
   abbrev b : ℕ
   b = bucket_of entry.id
 
@@ -100,16 +108,19 @@ module _ (t : List ImageEntry) (last earlier : List ℕ) (entry : ImageEntry) (b
   ends_now : (bucket : ℕ) → bucket < 4096 → get_or (slice_set last b n) bucket 0 ≡ last_before now bucket (suc n)
   ends_now bucket lt = elim (cases_eq bucket b) [
     | inl same ↦
-        ap (λ k. get_or (slice_set last b n) k 0) same ∙ get_or-set_same last b n 0 (omega (arith, b_low, buckets)) ∙ sym (last_here now bucket n (here ∙ sym same))
+        ap (λ k. get_or (slice_set last b n) k 0) same ∙ get_or-set_same last b n 0 (omega (arith, b_low, buckets))
+        ∙ sym (last_here now bucket n (here ∙ sym same))
     | inr other ↦
-        get_or-set_other last b bucket n 0 other ∙ c.ends bucket lt ∙ sym (last_same t now bucket n before) ∙ sym (last_earlier now bucket n (λ is. other (sym is ∙ here)))
+        get_or-set_other last b bucket n 0 other ∙ c.ends bucket lt ∙ sym (last_same t now bucket n before)
+        ∙ sym (last_earlier now bucket n (λ is. other (sym is ∙ here)))
   ]
 
   links_now : (place : ℕ) → place < suc n → get_or (earlier ++ get_or last b 0 ∷ []) place 0 ≡ last_before now (bucket_at now place) place
   links_now place lt = elim (cases_lt place n) [
     | inl old ↦
         get_or-append earlier (get_or last b 0 ∷ []) 0 place (omega (arith, old, size)) ∙ c.links place old
-        ∙ sym (last_same t now (bucket_at t place) place (λ k less. before k (omega (arith, less, old)))) ∙ ap (λ b. last_before now b place) (sym (before place old))
+        ∙ sym (last_same t now (bucket_at t place) place (λ k less. before k (omega (arith, less, old)))) ∙ ap (λ b. last_before now b place)
+        (sym (before place old))
     | inr new ↦
         let e : place ≡ n = omega (arith, new, lt) in
         let at_end : get_or (earlier ++ get_or last b 0 ∷ []) n 0 ≡ get_or last b 0 =
@@ -149,13 +160,15 @@ found_last table id end place le few (inr some) low = record {
   ];
 }
 
-pub ahead_first : (table : List ImageEntry) (last earlier : List ℕ) (id : ImageId) → length table ≤ 4096 → AreChained table last earlier → IsAhead table id (get_or last (bucket_of id) 0)
+pub ahead_first : (table : List ImageEntry) (last earlier : List ℕ) (id : ImageId) → length table ≤ 4096 → AreChained table last earlier →
+    IsAhead table id (get_or last (bucket_of id) 0)
 ahead_first table last earlier id few c =
     let bucket = bucket_of id in
     subst (IsAhead table id) (sym (c.ends bucket (bucket_low id)))
     (found_last table id (length table) (last_before table bucket (length table)) (omega arith) few (is_last table bucket (length table)) (λ k lt is. lt))
 
-pub ahead_next : (table : List ImageEntry) (last earlier : List ℕ) (id : ImageId) (place : ℕ) → length table ≤ 4096 → AreChained table last earlier → place < length table →
+pub ahead_next : (table : List ImageEntry) (last earlier : List ℕ) (id : ImageId) (place : ℕ) → length table ≤ 4096 → AreChained table last earlier →
+    place < length table →
     ((entry_at table place).id ≡ id → ⊥) → IsAhead table id place → IsAhead table id (get_or earlier place 0)
 ahead_next table last earlier id place few c lt other ahead =
     let link : get_or earlier place 0 ≡ last_before table (bucket_of id) place = c.links place lt ∙ ap (λ b. last_before table b place) (ahead.bucket lt) in
@@ -167,7 +180,8 @@ ahead_next table last earlier id place few c lt other ahead =
     ]))
 
 -- the place before one in its bucket is less, or none
-pub earlier_less : (table : List ImageEntry) (last earlier : List ℕ) (place : ℕ) → AreChained table last earlier → place < length table → (get_or earlier place 0 < place) ⊎ (get_or earlier place 0 ≡ 65535)
+pub earlier_less : (table : List ImageEntry) (last earlier : List ℕ) (place : ℕ) → AreChained table last earlier → place < length table →
+    (get_or earlier place 0 < place) ⊎ (get_or earlier place 0 ≡ 65535)
 earlier_less table last earlier place c lt = elim (is_last table (bucket_at table place) place) [
   | inl none ↦ inr (c.links place lt ∙ none.0)
   | inr some ↦ inl (omega (arith, c.links place lt, some.0))

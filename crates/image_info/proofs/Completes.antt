@@ -1,6 +1,7 @@
 -- The segments that kept packets close are those that are complete in them.
 use Rattle.std.proofs.lemmas.Bool.Decides.{nat_tests}
-use Rattle.std.proofs.Common.{◌≡◌, ◌⊎◌, inl, inr, ◌<◌, ◌+◌, ℕ, zero, suc, List, [], ◌∷◌, ◌++◌, length, map, refl, sym, ap, subst, ◌∙◌, arith, Bool, true, false, filter, Contains, get_or, Some, None}
+use Rattle.std.proofs.Common.{◌≡◌, ◌⊎◌, inl, inr, ◌<◌, ◌+◌, ℕ, zero, suc, List, [], ◌∷◌, ◌++◌, length, map, refl, sym, ap, subst, ◌∙◌, arith, Bool, true}
+use Rattle.std.proofs.Common.{false, filter, Contains, get_or, Some, None}
 use Rattle.std.specs.List.{range_with_len}
 use Rattle.std.specs.List.Sorted.{IsStrictlyIncreasing}
 use Rattle.std.proofs.lemmas.Bool.{cases_lt, cases_eq, cases_Bool}
@@ -106,27 +107,27 @@ numbers_of n (x ∷ xs) h =
     λ i. first i ∷ rest i
 
 record Ends (xs : List (List ℕ)) : Type 0 where
-  front : List (List ℕ)
+  prefix : List (List ℕ)
   last : List ℕ
-  are : xs ≡ front ++ last ∷ []
+  are : xs ≡ prefix ++ last ∷ []
   closed : closing last ≡ true
 
 ends_of : (n : ℕ) (xs : List (List ℕ)) → Parts n xs → HasClosing xs → Ends xs
 ends_of n [] h c = absurd c
-ends_of n (x ∷ xs) h (inl closed) = record { front = []; last = x; are = ap (λ xs. x ∷ xs) (h.1 closed); closed = closed }
+ends_of n (x ∷ xs) h (inl closed) = record { prefix = []; last = x; are = ap (λ xs. x ∷ xs) (h.1 closed); closed = closed }
 ends_of n (x ∷ xs) h (inr later) =
     let e = ends_of (n + 1) xs h.2 later in
-    record { front = x ∷ e.front; last = e.last; are = ap (λ xs. x ∷ xs) e.are; closed = e.closed }
+    record { prefix = x ∷ e.prefix; last = e.last; are = ap (λ xs. x ∷ xs) e.are; closed = e.closed }
 
 complete_of : (xs : List (List ℕ)) → Parts 0 xs → HasClosing xs → IsComplete xs
 complete_of xs h c = grind (arith, nat_tests, ends_of, numbers_of)
 
-closing_last : (front : List (List ℕ)) (last : List ℕ) → closing last ≡ true → HasClosing (front ++ last ∷ [])
+closing_last : (prefix : List (List ℕ)) (last : List ℕ) → closing last ≡ true → HasClosing (prefix ++ last ∷ [])
 closing_last [] last e = inl e
-closing_last (x ∷ front) last e = inr (closing_last front last e)
+closing_last (x ∷ prefix) last e = inr (closing_last prefix last e)
 
 closing_of : (xs : List (List ℕ)) → IsComplete xs → HasClosing xs
-closing_of xs c = subst HasClosing (sym c.parts_are) (closing_last c.front c.closing c.closed)
+closing_of xs c = subst HasClosing (sym c.parts_are) (closing_last c.prefix c.closing c.closed)
 
 -- ---- kept packets
 
@@ -141,11 +142,13 @@ none_parts n xs e = subst (Parts n) (sym e) tt
 kept_parts : (index apid : ℕ) (s : FateState) (packets : List (List ℕ)) (n : ℕ) → Awaits index s n → Parts n (packets_at index (kept apid s packets))
 kept_parts index apid s [] n h = none_parts n _ (ap (packets_at index) (kept_nothing apid s) ∙ at_none index)
 kept_parts index apid s (x ∷ xs) n h = elim (does apid s x) [
-  | inl lost ↦ subst (Parts n) (sym (ap (packets_at index) (lost.kept_are xs))) (kept_parts index apid (after apid s x) xs n (subst (λ s. Awaits index s n) (sym lost.same) h))
+  | inl lost ↦ subst (Parts n) (sym (ap (packets_at index) (lost.kept_are xs)))
+      (kept_parts index apid (after apid s x) xs n (subst (λ s. Awaits index s n) (sym lost.same) h))
   | inr here ↦ elim here [
     | inl first ↦ subst (Parts n) (sym (ap (packets_at index) (first.kept_are xs))) (elim (cases_eq (index_in x) index) [
       | inl same ↦ elim h [
-        | inl none ↦ own same (first.part ∙ sym none.1) first.last (kept_parts index apid (after apid s x) xs (n + 1) (goes_on same (first.part ∙ sym none.1) first.last))
+        | inl none ↦ own same (first.part ∙ sym none.1) first.last
+            (kept_parts index apid (after apid s x) xs (n + 1) (goes_on same (first.part ∙ sym none.1) first.last))
         | inr going ↦ absurd (let more = first.later going.0 going.1 in let is = going.2 in omega (arith, more, is, same))
       ]
       | inr other ↦ elim h [
@@ -169,13 +172,15 @@ kept_parts index apid s (x ∷ xs) n h = elim (does apid s x) [
     elsewhere : (after apid s x).last ≡ Some (part_in x) → (index_in x ≡ index → ⊥) → IsElsewhere index (after apid s x)
     elsewhere last other l is e = other (ap (λ (l : LastPart). l.index) (same_Some _ _ (sym last ∙ is)) ∙ e)
 
-    passed : (index_in x ≡ index → ⊥) → Parts n (packets_at index (kept apid (after apid s x) xs)) → Parts n (packets_at index (x ∷ kept apid (after apid s x) xs))
+    passed : (index_in x ≡ index → ⊥) → Parts n (packets_at index (kept apid (after apid s x) xs)) →
+        Parts n (packets_at index (x ∷ kept apid (after apid s x) xs))
     passed other h = subst (Parts n) (sym (at_other index x (kept apid (after apid s x) xs) other)) h
 
     goes_on : index_in x ≡ index → number_of_part x ≡ n → (after apid s x).last ≡ Some (part_in x) → Awaits index (after apid s x) (n + 1)
     goes_on same part last = inr (part_in x, last, same, ap (λ m. m + 1) (sym part))
 
-    own : index_in x ≡ index → number_of_part x ≡ n → (after apid s x).last ≡ Some (part_in x) → Parts (n + 1) (packets_at index (kept apid (after apid s x) xs)) → Parts n (packets_at index (x ∷ kept apid (after apid s x) xs))
+    own : index_in x ≡ index → number_of_part x ≡ n → (after apid s x).last ≡ Some (part_in x) →
+        Parts (n + 1) (packets_at index (kept apid (after apid s x) xs)) → Parts n (packets_at index (x ∷ kept apid (after apid s x) xs))
     own same part last rest = grind (arith, nat_tests, at_same, shut)
 
 -- and each segment that they close is after those that were closed before
@@ -193,12 +198,14 @@ kept_rise apid s (x ∷ xs) = elim (does apid s x) [
     above last closed n h = elim (cases_lt (index_in x) n) [
       | inl less ↦ less
       | inr most ↦
-          let past : (n < index_in x) ⊎ ((n ≡ index_in x) × (closing x ≡ true)) = elim (cases_lt n (index_in x)) [ inl less ↦ inl less | inr least ↦ inr (omega (arith, most, least), closed) ] in
+          let past : (n < index_in x) ⊎ ((n ≡ index_in x) × (closing x ≡ true)) =
+          elim (cases_lt n (index_in x)) [ inl less ↦ inl less | inr least ↦ inr (omega (arith, most, least), closed) ] in
           let none = shut n apid (after apid s x) xs record { last = part_in x; last_is = last; past = past } in
           absurd (subst HasClosing none (closing_from n (kept apid (after apid s x) xs) h))
     ]
 
-    own : (after apid s x).last ≡ Some (part_in x) → Rises (closed_indices (kept apid (after apid s x) xs)) → Rises (closed_indices (x ∷ kept apid (after apid s x) xs))
+    own : (after apid s x).last ≡ Some (part_in x) → Rises (closed_indices (kept apid (after apid s x) xs)) →
+        Rises (closed_indices (x ∷ kept apid (after apid s x) xs))
     own last rest = grind (arith, nat_tests, closed_some, above, closed_none)
 
 -- ---- an image's

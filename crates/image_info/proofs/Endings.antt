@@ -22,7 +22,7 @@ use Rattle.image_info.specs.Images.{entries, most_images}
 use Rattle.image_info.specs.Lines.{lines_of}
 use Rattle.image_info.specs.Answers.{image_count, Informs}
 use Rattle.image_info.specs.Steps.{TakesPacket, TakesNext}
-use Rattle.image_info.proofs.ImageLists.{images-front}
+use Rattle.image_info.proofs.ImageLists.{images-prefix}
 use Rattle.image_info.proofs.EntryLists.{length-entries}
 use Rattle.image_info.proofs.Passed.{table_full}
 use Rattle.image_info.proofs.Runs.{HasTabled, filled}
@@ -30,103 +30,113 @@ use Rattle.image_info.proofs.Runs.{HasTabled, filled}
 -- ---- all packets were passed
 
 -- the table has all images of the octets that were taken
-table_whole : {wish : InfoWish} {start now : Outside} {v : Intake} {table : List ImageEntry} (come : HasTabled wish start now v table) → whole_packets come.took ≡ come.passed →
-    table ≡ entries wish.apid (whole_packets come.took)
-table_whole {wish = wish} come whole = come.table_of.table_is ∙ ap (entries wish.apid) (sym whole)
+table_whole : {wish : InfoWish} {start now : Outside} {v : Intake} {table : List ImageEntry} (arrived : HasTabled wish start now v table) →
+    whole_packets arrived.took ≡ arrived.passed →
+    table ≡ entries wish.apid (whole_packets arrived.took)
+table_whole {wish = wish} arrived whole = arrived.table_of.table_is ∙ ap (entries wish.apid) (sym whole)
 
-few_whole : {wish : InfoWish} {start now : Outside} {v : Intake} {table : List ImageEntry} (come : HasTabled wish start now v table) → whole_packets come.took ≡ come.passed →
-    image_count wish.apid come.took ≤ most_images
-few_whole {wish = wish} come whole = grind (arith, nat_tests, table_whole, length-entries)
+few_whole : {wish : InfoWish} {start now : Outside} {v : Intake} {table : List ImageEntry} (arrived : HasTabled wish start now v table) →
+    whole_packets arrived.took ≡ arrived.passed →
+    image_count wish.apid arrived.took ≤ most_images
+few_whole {wish = wish} arrived whole = grind (arith, nat_tests, table_whole, length-entries)
 
 -- all lines were given
-pub all_informed : {wish : InfoWish} {start now new last : Outside} {v : Intake} {table : List ImageEntry} {found : Option Framing} (count : ℕ) → HasTabled wish start now v table → FindsEnd 0 now new v found →
+pub all_informed : {wish : InfoWish} {start now new last : Outside} {v : Intake} {table : List ImageEntry} {found : Option Framing} (count : ℕ) →
+    HasTabled wish start now v table → FindsEnd 0 now new v found →
     Exchange new last [] (lines_of table) [] NoRead → count ≡ length table → Informs wish start last (Ok (record { images = count; framing = found }))
 all_informed {wish = wish} {new = new} {last = last} {table = table} {found = found} count before x gives is =
-    let come = filled before x.taken in
-    let read = read_found found come.read in
+    let arrived = filled before x.taken in
+    let read = read_found found arrived.read in
     let whole = ended_packets read x.over in
-    let images_are : count ≡ image_count wish.apid come.took = is ∙ ap length (table_whole come whole) ∙ length-entries wish.apid (whole_packets come.took) in
+    let images_are : count ≡ image_count wish.apid arrived.took =
+    is ∙ ap length (table_whole arrived whole) ∙ length-entries wish.apid (whole_packets arrived.took) in
     record {
-      took = come.took;
+      took = arrived.took;
       gave = lines_of table;
-      since = since_out come.since gives;
-      readable = since_out come.readable gives;
+      since = since_out arrived.since gives;
+      readable = since_out arrived.readable gives;
       within = read_within read;
       answer = record {
-        lines = ap lines_of (table_whole come whole);
+        lines = ap lines_of (table_whole arrived whole);
         images_are = images_are;
-        few = subst (λ n. n ≤ most_images) (sym images_are) (few_whole come whole);
+        few = subst (λ n. n ≤ most_images) (sym images_are) (few_whole arrived whole);
         framing_is = ended_framing read x.over;
-        out = out_later wish.octets new last come.took gives (ended_out read new x.over come.at_end);
+        out = out_later wish.octets new last arrived.took gives (ended_out read new x.over arrived.at_end);
       };
     }
 
 -- a prefix of them was given
-pub write_failed : {wish : InfoWish} {start now new last : Outside} {v : Intake} {table : List ImageEntry} {found : Option Framing} → HasTabled wish start now v table → FindsEnd 0 now new v found →
-    Rose new.write_faults last.write_faults × ((n : ℕ) × (n ≤ length (lines_of table)) × Exchange new last [] (take n (lines_of table)) [] NoRead) → Informs wish start last (Err WriteFault)
+pub write_failed : {wish : InfoWish} {start now new last : Outside} {v : Intake} {table : List ImageEntry} {found : Option Framing} →
+    HasTabled wish start now v table → FindsEnd 0 now new v found →
+    Rose new.write_faults last.write_faults × ((n : ℕ) × (n ≤ length (lines_of table)) × Exchange new last [] (take n (lines_of table)) [] NoRead) →
+    Informs wish start last (Err WriteFault)
 write_failed {wish = wish} {new = new} {last = last} {table = table} {found = found} before x (rose, (n, le, gives)) =
-    let come = filled before x.taken in
-    let read = read_found found come.read in
+    let arrived = filled before x.taken in
+    let read = read_found found arrived.read in
     let whole = ended_packets read x.over in
     record {
-      took = come.took;
+      took = arrived.took;
       gave = take n (lines_of table);
-      since = since_out come.since gives;
-      readable = since_out come.readable gives;
+      since = since_out arrived.since gives;
+      readable = since_out arrived.readable gives;
       within = read_within read;
       answer = (
-        rose_since come.since.faults.writes rose,
-        few_whole come whole,
-        out_later wish.octets new last come.took gives (ended_out read new x.over come.at_end),
-        (n, ap (λ t. take n (lines_of t)) (table_whole come whole)),
+        rose_since arrived.since.faults.writes rose,
+        few_whole arrived whole,
+        out_later wish.octets new last arrived.took gives (ended_out read new x.over arrived.at_end),
+        (n, ap (λ t. take n (lines_of t)) (table_whole arrived whole)),
       );
     }
 
 -- ---- not all were passed
 
 -- all octets that may be taken were taken
-long_informed : {wish : InfoWish} {start now new : Outside} {v : Intake} {table : List ImageEntry} → HasTabled wish start now v table → FindsCap 0 now new v → Informs wish start new (Err LongInput)
+long_informed : {wish : InfoWish} {start now new : Outside} {v : Intake} {table : List ImageEntry} → HasTabled wish start now v table →
+    FindsCap 0 now new v → Informs wish start new (Err LongInput)
 long_informed {wish = wish} before x =
-    let come = filled before x.taken in
+    let arrived = filled before x.taken in
     record {
-      took = come.took;
+      took = arrived.took;
       gave = [];
-      since = come.since;
-      readable = come.readable;
-      within = read_within come.read;
-      answer = (long_full come.read x.over, long_good come.read x.over, few_whole come (long_packets come.read x.over), refl);
+      since = arrived.since;
+      readable = arrived.readable;
+      within = read_within arrived.read;
+      answer = (long_full arrived.read x.over, long_good arrived.read x.over, few_whole arrived (long_packets arrived.read x.over), refl);
     }
 
 -- a read failed
-read_failed : {wish : InfoWish} {start now new : Outside} {v w : Intake} {table : List ImageEntry} → HasTabled wish start now v table → ReadsPacket 0 now new v w (Err in_faults.ReadFault) →
+read_failed : {wish : InfoWish} {start now new : Outside} {v w : Intake} {table : List ImageEntry} → HasTabled wish start now v table →
+    ReadsPacket 0 now new v w (Err in_faults.ReadFault) →
     Informs wish start new (Err ReadFault)
 read_failed {wish = wish} {now = now} {new = new} {v = v} before x =
-    let come = filled before (taken_by x) in
-    let whole = whole_so come.read (undecided_none _ x.ends.1) in
+    let arrived = filled before (taken_by x) in
+    let whole = whole_so arrived.read (undecided_none _ x.ends.1) in
     record {
-      took = come.took;
+      took = arrived.took;
       gave = [];
-      since = come.since;
-      readable = come.readable;
-      within = read_within come.read;
-      answer = (rose_since before.since.faults.reads x.ends.0, few_whole come whole, refl);
+      since = arrived.since;
+      readable = arrived.readable;
+      within = read_within arrived.read;
+      answer = (rose_since before.since.faults.reads x.ends.0, few_whole arrived whole, refl);
     }
 
 -- one image more begins than the table has room for
-full_informed : {wish : InfoWish} {start now new : Outside} {v w : Intake} {table after : List ImageEntry} (full : TableFull) → HasTabled wish start now v table →
+full_informed : {wish : InfoWish} {start now new : Outside} {v w : Intake} {table after : List ImageEntry} (full : TableFull) →
+    HasTabled wish start now v table →
     TakesPacket wish.apid now new v w table after (Err full) → Informs wish start new (Err TooManyImages)
 full_informed {wish = wish} {table = table} {after = after} full before x =
-    let come = filled before x.taken in
+    let arrived = filled before x.taken in
     let packet = first_packet x.full.pending in
     let apid = apid_in packet in
     let rest = after_packet x.full.pending in
-    let all = come.passed ++ packet ∷ [] in
-    let whole = whole_past 0 apid x.full come.passed x.whole wish.octets come.took come.read in
-    let many = table_full wish.apid come.passed packet table after full come.table_of x.passes in
-    let more = images-front wish.apid all (whole_packets rest) in
+    let all = arrived.passed ++ packet ∷ [] in
+    let whole = whole_past 0 apid x.full arrived.passed x.whole wish.octets arrived.took arrived.read in
+    let many = table_full wish.apid arrived.passed packet table after full arrived.table_of x.passes in
+    let more = images-prefix wish.apid all (whole_packets rest) in
     grind (arith, nat_tests, length, length-append, read_within)
 
-pub info_failed : {wish : InfoWish} {start now : Outside} {v : Intake} {table : List ImageEntry} (new : Outside) (w : Intake) (after : List ImageEntry) (fault : InfoFault) → HasTabled wish start now v table →
+pub info_failed : {wish : InfoWish} {start now : Outside} {v : Intake} {table : List ImageEntry} (new : Outside) (w : Intake) (after : List ImageEntry)
+    (fault : InfoFault) → HasTabled wish start now v table →
     TakesNext wish.apid now new v w table after (Err fault) → Informs wish start new (Err fault)
 info_failed new w after ReadFault before x = read_failed before x
 info_failed new w after LongInput before x = long_informed before x

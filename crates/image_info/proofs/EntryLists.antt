@@ -1,5 +1,6 @@
 -- The table of images, and one packet more.
-use Rattle.std.proofs.Common.{◌≡◌, ◌<◌, ℕ, zero, suc, List, [], ◌∷◌, ◌++◌, length, map, refl, sym, ap, subst, ◌∙◌, inl, inr, arith, Bool, true, false, slice_index_or, slice_set, Option}
+use Rattle.std.proofs.Common.{◌≡◌, ◌<◌, ℕ, zero, suc, List, [], ◌∷◌, ◌++◌, length, map, refl, sym, ap, subst, ◌∙◌, inl, inr, arith, Bool, true, false}
+use Rattle.std.proofs.Common.{slice_index_or, slice_set, Option}
 use Rattle.std.proofs.lemmas.Bool.{and_parts, false≢true}
 use Rattle.std.proofs.lemmas.List.{map-append, length-map}
 use Rattle.std.proofs.lemmas.Bool.Decides.{nat_tests}
@@ -22,7 +23,8 @@ map_same f g (id ∷ ids) same =
     ap (λ e. e ∷ map f ids) (same zero (omega arith)) ∙ ap (λ es. g id ∷ es) (map_same f g ids (λ j lt. same (suc j) (omega (arith, lt))))
 
 -- another function at one place alone
-map_set : (f g : ImageId → ImageEntry) (ids : List ImageId) (i : ℕ) (y : ImageEntry) → i < length ids → y ≡ g (id_at ids i) → ((j : ℕ) → j < length ids → (j ≡ i → ⊥) → f (id_at ids j) ≡ g (id_at ids j)) →
+map_set : (f g : ImageId → ImageEntry) (ids : List ImageId) (i : ℕ) (y : ImageEntry) → i < length ids → y ≡ g (id_at ids i) →
+    ((j : ℕ) → j < length ids → (j ≡ i → ⊥) → f (id_at ids j) ≡ g (id_at ids j)) →
     slice_set (map f ids) i y ≡ map g ids
 map_set f g [] i y lt here others = absurd (omega (arith, lt))
 map_set f g (id ∷ ids) zero y lt here others =
@@ -41,7 +43,8 @@ map_at f (id ∷ ids) (suc i) d lt = map_at f ids i d (omega (arith, lt))
 pub length-entries : (wanted : Option ℕ) (packets : List (List ℕ)) → length (entries wanted packets) ≡ length (images wanted packets)
 length-entries wanted packets = length-map (images wanted packets) (entry_of packets)
 
-pub entry_is : (wanted : Option ℕ) (packets : List (List ℕ)) (i : ℕ) → i < length (images wanted packets) → entry_at (entries wanted packets) i ≡ entry_of packets (id_at (images wanted packets) i)
+pub entry_is : (wanted : Option ℕ) (packets : List (List ℕ)) (i : ℕ) → i < length (images wanted packets) → entry_at (entries wanted packets) i
+    ≡ entry_of packets (id_at (images wanted packets) i)
 entry_is wanted packets i lt = map_at (entry_of packets) (images wanted packets) i no_entry lt
 
 -- no packet of an image that is asked for is kept
@@ -75,7 +78,8 @@ module _ (wanted : Option ℕ) (packets : List (List ℕ)) (packet : List ℕ) (
   entries_counted i lt here =
       let some : 0 < length (kept_of (id_in packet) packets) = subst (λ id. 0 < length (kept_of id packets)) here (known.some_each i lt) in
       ap (map (entry_of (packets ++ packet ∷ []))) (images_same wanted packets packet (begins_no_more wanted packets packet some))
-      ∙ sym (map_set (entry_of packets) (entry_of (packets ++ packet ∷ [])) (images wanted packets) i (entry_of (packets ++ packet ∷ []) (id_in packet)) lt (ap (entry_of (packets ++ packet ∷ [])) (sym here))
+      ∙ sym (map_set (entry_of packets) (entry_of (packets ++ packet ∷ [])) (images wanted packets) i (entry_of (packets ++ packet ∷ []) (id_in packet)) lt
+      (ap (entry_of (packets ++ packet ∷ [])) (sym here))
       (λ j ltj other. others_same (id_at (images wanted packets) j) (λ e. other (known.apart j i ltj lt (sym e ∙ sym here)))))
 
   -- that of one that begins

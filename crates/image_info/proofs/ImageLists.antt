@@ -1,6 +1,7 @@
 -- The images of packets, and one packet more.
 use Rattle.std.proofs.lemmas.Bool.Decides.{nat_tests}
-use Rattle.std.proofs.Common.{◌≡◌, ◌<◌, ◌+◌, ◌≤◌, ℕ, zero, suc, List, [], ◌∷◌, ◌++◌, length, take, map, refl, sym, ap, subst, ◌∙◌, inl, inr, arith, append_assoc, length-append, Bool, true, false, cond, ◌==◌, ◌&&◌, filter, slice_index_or, Option}
+use Rattle.std.proofs.Common.{◌≡◌, ◌<◌, ◌+◌, ◌≤◌, ℕ, zero, suc, List, [], ◌∷◌, ◌++◌, length, take, map, refl, sym, ap, subst, ◌∙◌, inl, inr, arith}
+use Rattle.std.proofs.Common.{append_assoc, length-append, Bool, true, false, cond, ◌==◌, ◌&&◌, filter, slice_index_or, Option}
 use Rattle.std.specs.List.{range_with_len}
 use Rattle.std.proofs.lemmas.Bool.{and_parts, cases_lt, false≢true, eqb-true}
 use Rattle.std.proofs.lemmas.List.{append-nil, map-append, take-append-le, take_all}
@@ -18,7 +19,8 @@ use Rattle.stream_defs.proofs.Equations.{kept-none}
 -- ---- lists by place
 
 -- what holds of each element, and of one more, holds of each of them
-pub each_more : {A : Type 0} (P : A → Type 0) (xs : List A) (y d : A) → ((i : ℕ) → i < length xs → P (slice_index_or xs i d)) → P y → (i : ℕ) → i < length (xs ++ y ∷ []) → P (slice_index_or (xs ++ y ∷ []) i d)
+pub each_more : {A : Type 0} (P : A → Type 0) (xs : List A) (y d : A) → ((i : ℕ) → i < length xs → P (slice_index_or xs i d)) → P y → (i : ℕ) →
+    i < length (xs ++ y ∷ []) → P (slice_index_or (xs ++ y ∷ []) i d)
 each_more P xs y d all last i lt = elim (cases_lt i (length xs)) [
   | inl before ↦ subst P (sym (get_or-append xs (y ∷ []) d i before)) (all i before)
   | inr past ↦
@@ -35,7 +37,8 @@ same_places p q f g a (suc n) tests gives =
     by (p a) (tests a (omega arith)) (gives a (omega arith)) rest
   where
     by : (b : Bool) → b ≡ q a → f a ≡ g a → map f (filter p (range_with_len (a + 1) n)) ≡ map g (filter q (range_with_len (a + 1) n)) →
-        map f (cond b (a ∷ filter p (range_with_len (a + 1) n)) (filter p (range_with_len (a + 1) n))) ≡ map g (cond (q a) (a ∷ filter q (range_with_len (a + 1) n)) (filter q (range_with_len (a + 1) n)))
+        map f (cond b (a ∷ filter p (range_with_len (a + 1) n)) (filter p (range_with_len (a + 1) n)))
+        ≡ map g (cond (q a) (a ∷ filter q (range_with_len (a + 1) n)) (filter q (range_with_len (a + 1) n)))
     by true e is rest = rw (← e) (ap (λ x. x ∷ map f (filter p (range_with_len (a + 1) n))) is ∙ ap (λ xs. g a ∷ xs) rest)
     by false e is rest = rw (← e) rest
 
@@ -61,9 +64,10 @@ module _ (wanted : Option ℕ) (packets : List (List ℕ)) (packet : List ℕ) w
 
   test_last : begins_at wanted (packets ++ packet ∷ []) (length packets) ≡ begins_next wanted packets packet
   test_last =
-      let front : take (length packets) (packets ++ packet ∷ []) ≡ packets = take-append-le (length packets) packets (packet ∷ []) (omega arith) ∙ take_all (length packets) packets (omega arith) in
+      let prefix : take (length packets) (packets ++ packet ∷ []) ≡ packets = take-append-le (length packets) packets (packet ∷ []) (omega arith)
+      ∙ take_all (length packets) packets (omega arith) in
       ap (λ p. is_wanted wanted (apid_in p) && begins_image (take (length packets) (packets ++ packet ∷ [])) p) (get_or-append_seam packets packet [] [])
-      ∙ ap (λ ps. is_wanted wanted (apid_in packet) && begins_image ps packet) front
+      ∙ ap (λ ps. is_wanted wanted (apid_in packet) && begins_image ps packet) prefix
 
   pub images-more : images wanted (packets ++ packet ∷ []) ≡ images wanted packets ++ cond (begins_next wanted packets packet) (id_in packet ∷ []) []
   unfolding images
@@ -78,7 +82,8 @@ module _ (wanted : Option ℕ) (packets : List (List ℕ)) (packet : List ℕ) w
       ∙ ap (λ r. map f (filter p r)) (range_with_len-more 0 n)
       ∙ ap (map f) (filter-append p (range_with_len 0 n) ((0 + n) ∷ []))
       ∙ map-append f (filter p (range_with_len 0 n)) (filter p ((0 + n) ∷ []))
-      ∙ ap (λ xs. xs ++ map f (filter p ((0 + n) ∷ []))) (same_places p q f g 0 n (λ i lt. test_before i (omega (arith, lt))) (λ i lt. ap id_in (get_or-append packets (packet ∷ []) [] i (omega (arith, lt)))))
+      ∙ ap (λ xs. xs ++ map f (filter p ((0 + n) ∷ []))) (same_places p q f g 0 n (λ i lt. test_before i (omega (arith, lt)))
+      (λ i lt. ap id_in (get_or-append packets (packet ∷ []) [] i (omega (arith, lt)))))
       ∙ ap (λ k. map g (filter q (range_with_len 0 n)) ++ map f (filter p (k ∷ []))) here
       ∙ ap (λ xs. map g (filter q (range_with_len 0 n)) ++ xs) (last_one f n (p n) test_last (ap id_in (get_or-append_seam packets packet [] [])))
     where
@@ -94,13 +99,15 @@ module _ (wanted : Option ℕ) (packets : List (List ℕ)) (packet : List ℕ) w
   images_begun e = images-more ∙ ap (λ b. images wanted packets ++ cond b (id_in packet ∷ []) []) e
 
 -- the images of packets are the first of those of more
-pub images-front : (wanted : Option ℕ) (packets later : List (List ℕ)) → (rest : List ImageId) × (images wanted (packets ++ later) ≡ images wanted packets ++ rest)
-images-front wanted packets [] = ([], ap (images wanted) (append-nil packets) ∙ sym (append-nil (images wanted packets)))
-images-front wanted packets (x ∷ later) =
+pub images-prefix : (wanted : Option ℕ) (packets later : List (List ℕ)) →
+    (rest : List ImageId) × (images wanted (packets ++ later) ≡ images wanted packets ++ rest)
+images-prefix wanted packets [] = ([], ap (images wanted) (append-nil packets) ∙ sym (append-nil (images wanted packets)))
+images-prefix wanted packets (x ∷ later) =
     let more = cond (begins_next wanted packets x) (id_in x ∷ []) [] in
-    let next = images-front wanted (packets ++ x ∷ []) later in (
+    let next = images-prefix wanted (packets ++ x ∷ []) later in (
       more ++ next.0,
-      ap (images wanted) (sym (append_assoc packets (x ∷ []) later)) ∙ next.1 ∙ ap (λ zs. zs ++ next.0) (images-more wanted packets x) ∙ append_assoc (images wanted packets) more next.0,
+      ap (images wanted) (sym (append_assoc packets (x ∷ []) later)) ∙ next.1 ∙ ap (λ zs. zs ++ next.0) (images-more wanted packets x)
+          ∙ append_assoc (images wanted packets) more next.0,
     )
 
 -- ---- what is known of them
@@ -133,15 +140,18 @@ pub kept_grows : (id : ImageId) (packets : List (List ℕ)) (packet : List ℕ) 
 kept_grows id packets packet some = grind (arith, nat_tests, length, kept_more, length-append, kept_lost, kept_other)
 
 -- if a packet of its image was kept before, a packet doesn't begin it
-pub begins_no_more : (wanted : Option ℕ) (packets : List (List ℕ)) (packet : List ℕ) → 0 < length (kept_of (id_in packet) packets) → begins_next wanted packets packet ≡ false
+pub begins_no_more : (wanted : Option ℕ) (packets : List (List ℕ)) (packet : List ℕ) → 0 < length (kept_of (id_in packet) packets) →
+    begins_next wanted packets packet ≡ false
 begins_no_more wanted packets packet some = grind (arith, nat_tests, and_parts, eqb-true, length)
 
 -- and if none was, a kept one does
-pub begins_so : (wanted : Option ℕ) (packets : List (List ℕ)) (packet : List ℕ) → is_wanted wanted (apid_in packet) ≡ true → is_kept_after packets packet ≡ true → kept_of (id_in packet) packets ≡ [] →
+pub begins_so : (wanted : Option ℕ) (packets : List (List ℕ)) (packet : List ℕ) → is_wanted wanted (apid_in packet) ≡ true →
+    is_kept_after packets packet ≡ true → kept_of (id_in packet) packets ≡ [] →
     begins_next wanted packets packet ≡ true
 begins_so wanted packets packet is keeps none = rw (is, keeps, none) refl
 
-begun_more : (wanted : Option ℕ) (packets : List (List ℕ)) (packet : List ℕ) (ids : List ImageId) → begins_next wanted packets packet ≡ true → AreBegun wanted packets ids →
+begun_more : (wanted : Option ℕ) (packets : List (List ℕ)) (packet : List ℕ) (ids : List ImageId) → begins_next wanted packets packet ≡ true →
+    AreBegun wanted packets ids →
     AreBegun wanted (packets ++ packet ∷ []) (ids ++ id_in packet ∷ [])
 begun_more wanted packets packet ids begins known =
     let q = id_in packet in
@@ -149,10 +159,12 @@ begun_more wanted packets packet ids begins known =
     let parts = and_parts (is_kept_after packets packet) (length (kept_of q packets) == 0) two.1 in
     let none : length (kept_of q packets) ≡ 0 = eqb-true (length (kept_of q packets)) 0 parts.1 in
     let own : is_own q packet ≡ true = kept_own (state_of q packets) packet parts.0 in
-    let now : 0 < length (kept_of q (packets ++ packet ∷ [])) = (let more = ap length (kept_more q packets packet own parts.0) in omega (arith, more, length-append (kept_of q packets) (packet ∷ []))) in
+    let now : 0 < length (kept_of q (packets ++ packet ∷ [])) =
+    (let more = ap length (kept_more q packets packet own parts.0) in omega (arith, more, length-append (kept_of q packets) (packet ∷ []))) in
     record {
       wanted_each = each_more (λ id. is_wanted wanted id.apid ≡ true) ids q no_id known.wanted_each two.0;
-      some_each = each_more (λ id. 0 < length (kept_of id (packets ++ packet ∷ []))) ids q no_id (λ i lt. kept_grows (id_at ids i) packets packet (known.some_each i lt)) now;
+      some_each = each_more (λ id. 0 < length (kept_of id (packets ++ packet ∷ []))) ids q no_id
+          (λ i lt. kept_grows (id_at ids i) packets packet (known.some_each i lt)) now;
       others = λ id is misses. others id is misses (is_own id packet) refl;
       apart = λ i j lti ltj e. apart i j lti ltj e none;
     }
@@ -160,38 +172,47 @@ begun_more wanted packets packet ids begins known =
     before : (id : ImageId) → Misses (ids ++ id_in packet ∷ []) id → Misses ids id
     before id misses i lt e = misses i (omega (arith, lt, length-append ids (id_in packet ∷ []))) (get_or-append ids ((id_in packet) ∷ []) no_id i lt ∙ e)
 
-    others : (id : ImageId) → is_wanted wanted id.apid ≡ true → Misses (ids ++ id_in packet ∷ []) id → (b : Bool) → is_own id packet ≡ b → kept_of id (packets ++ packet ∷ []) ≡ []
-    others id is misses true own = absurd (misses (length ids) (omega (arith, length-append ids (id_in packet ∷ []))) (get_or-append_seam ids (id_in packet) [] no_id ∙ own_id id packet own))
+    others : (id : ImageId) → is_wanted wanted id.apid ≡ true → Misses (ids ++ id_in packet ∷ []) id → (b : Bool) → is_own id packet ≡ b →
+        kept_of id (packets ++ packet ∷ []) ≡ []
+    others id is misses true own = absurd (misses (length ids) (omega (arith, length-append ids (id_in packet ∷ [])))
+        (get_or-append_seam ids (id_in packet) [] no_id ∙ own_id id packet own))
     others id is misses false own = kept_other id packets packet own ∙ known.others id is (before id misses)
 
     -- the new image isn't among those before
     new : (i : ℕ) → i < length ids → length (kept_of (id_in packet) packets) ≡ 0 → id_at ids i ≡ id_in packet → ⊥
     new i lt none e = let some = known.some_each i lt in let same = ap (λ id. length (kept_of id packets)) e in absurd (omega (arith, some, same, none))
 
-    apart : (i j : ℕ) → i < length (ids ++ id_in packet ∷ []) → j < length (ids ++ id_in packet ∷ []) → id_at (ids ++ id_in packet ∷ []) i ≡ id_at (ids ++ id_in packet ∷ []) j → length (kept_of (id_in packet) packets) ≡ 0 → i ≡ j
+    apart : (i j : ℕ) → i < length (ids ++ id_in packet ∷ []) → j < length (ids ++ id_in packet ∷ []) → id_at (ids ++ id_in packet ∷ []) i
+        ≡ id_at (ids ++ id_in packet ∷ []) j → length (kept_of (id_in packet) packets) ≡ 0 → i ≡ j
     apart i j lti ltj e none = elim (cases_lt i (length ids)) [
       | inl bi ↦ elim (cases_lt j (length ids)) [
         | inl bj ↦ known.apart i j bi bj (sym (get_or-append ids ((id_in packet) ∷ []) no_id i bi) ∙ e ∙ get_or-append ids ((id_in packet) ∷ []) no_id j bj)
         | inr pj ↦
             let here : j ≡ length ids = omega (arith, ltj, pj, length-append ids (id_in packet ∷ [])) in
-            absurd (new i bi none (sym (get_or-append ids ((id_in packet) ∷ []) no_id i bi) ∙ e ∙ ap (id_at (ids ++ id_in packet ∷ [])) here ∙ get_or-append_seam ids (id_in packet) [] no_id))
+            absurd (new i bi none (sym (get_or-append ids ((id_in packet) ∷ []) no_id i bi) ∙ e ∙ ap (id_at (ids ++ id_in packet ∷ [])) here ∙
+            get_or-append_seam ids (id_in packet) [] no_id))
       ]
       | inr pi ↦
           let there : i ≡ length ids = omega (arith, lti, pi, length-append ids (id_in packet ∷ [])) in
           elim (cases_lt j (length ids)) [
-            | inl bj ↦ absurd (new j bj none (sym (get_or-append ids ((id_in packet) ∷ []) no_id j bj) ∙ sym e ∙ ap (id_at (ids ++ id_in packet ∷ [])) there ∙ get_or-append_seam ids (id_in packet) [] no_id))
+            | inl bj ↦ absurd (new j bj none (sym (get_or-append ids ((id_in packet) ∷ []) no_id j bj) ∙ sym e ∙ ap (id_at (ids ++ id_in packet ∷ []))
+                there ∙ get_or-append_seam ids (id_in packet) [] no_id))
             | inr pj ↦ omega (arith, lti, pi, ltj, pj, length-append ids (id_in packet ∷ []))
           ]
     ]
 
-begun_same : (wanted : Option ℕ) (packets : List (List ℕ)) (packet : List ℕ) (ids : List ImageId) → begins_next wanted packets packet ≡ false → AreBegun wanted packets ids →
+begun_same : (wanted : Option ℕ) (packets : List (List ℕ)) (packet : List ℕ) (ids : List ImageId) → begins_next wanted packets packet ≡ false →
+    AreBegun wanted packets ids →
     AreBegun wanted (packets ++ packet ∷ []) ids
 begun_same wanted packets packet ids not known = grind (arith, nat_tests, kept_grows, kept_lost, own_id, false≢true, begins_so, kept_other)
 
 -- the images of some packets, and then of one more
-pub begun_next : (wanted : Option ℕ) (packets : List (List ℕ)) (packet : List ℕ) → AreBegun wanted packets (images wanted packets) → AreBegun wanted (packets ++ packet ∷ []) (images wanted (packets ++ packet ∷ []))
+pub begun_next : (wanted : Option ℕ) (packets : List (List ℕ)) (packet : List ℕ) → AreBegun wanted packets (images wanted packets) →
+    AreBegun wanted (packets ++ packet ∷ []) (images wanted (packets ++ packet ∷ []))
 begun_next wanted packets packet known = by (begins_next wanted packets packet) refl
   where
     by : (b : Bool) → begins_next wanted packets packet ≡ b → AreBegun wanted (packets ++ packet ∷ []) (images wanted (packets ++ packet ∷ []))
-    by true e = subst (AreBegun wanted (packets ++ packet ∷ [])) (sym (images_begun wanted packets packet e)) (begun_more wanted packets packet (images wanted packets) e known)
-    by false e = subst (AreBegun wanted (packets ++ packet ∷ [])) (sym (images_same wanted packets packet e)) (begun_same wanted packets packet (images wanted packets) e known)
+    by true e = subst (AreBegun wanted (packets ++ packet ∷ [])) (sym (images_begun wanted packets packet e))
+        (begun_more wanted packets packet (images wanted packets) e known)
+    by false e = subst (AreBegun wanted (packets ++ packet ∷ [])) (sym (images_same wanted packets packet e))
+        (begun_same wanted packets packet (images wanted packets) e known)

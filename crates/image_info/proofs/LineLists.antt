@@ -14,7 +14,8 @@ module _ (entries : List ImageEntry) (i : ℕ) (d : ImageEntry) (lt : i < length
       ap lines_of (take_more entries i d lt) ∙ flat_map-append line_of (take i entries) (slice_index_or entries i d ∷ [])
       ∙ ap (λ zs. lines_of (take i entries) ++ zs) (append-nil (line_of (slice_index_or entries i d)))
 
-  pub gave_one : {a b c : Outside} (octets : List ℕ) → octets ≡ line_of (slice_index_or entries i d) → Exchange a b [] (lines_of (take i entries)) [] NoRead → Exchange b c [] octets [] NoRead →
+  pub gave_one : {a b c : Outside} (octets : List ℕ) → octets ≡ line_of (slice_index_or entries i d) →
+      Exchange a b [] (lines_of (take i entries)) [] NoRead → Exchange b c [] octets [] NoRead →
       Exchange a c [] (lines_of (take (i + 1) entries)) [] NoRead
   gave_one {a = a} {c = c} octets is before gives =
       subst (λ gave. Exchange a c [] gave [] NoRead) (ap (λ zs. lines_of (take i entries) ++ zs) is ∙ sym lines_more) (since_out before gives)
@@ -32,8 +33,8 @@ module _ (entries : List ImageEntry) (i : ℕ) (d : ImageEntry) (lt : i < length
       let size : length (lines_of entries) ≡ length (first ++ octets) + length later = ap length all ∙ length-append (first ++ octets) later in
       let some = length first + n in
       let few : some ≤ length (first ++ octets) = omega (arith, le, length-append first octets) in
-      let front : take some (lines_of entries) ≡ first ++ take n octets =
+      let prefix : take some (lines_of entries) ≡ first ++ take n octets =
       ap (take some) all ∙ take-append-le some (first ++ octets) later few ∙ take-append-add first octets n in (
         rose_since before.faults.writes rose,
-        (some, omega (arith, few, size), subst (λ gave. Exchange a c [] gave [] NoRead) (sym front) (since_out before gives)),
+        (some, omega (arith, few, size), subst (λ gave. Exchange a c [] gave [] NoRead) (sym prefix) (since_out before gives)),
       )

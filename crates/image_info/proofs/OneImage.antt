@@ -1,5 +1,6 @@
 -- What is known of an image, and one packet more.
-use Rattle.std.proofs.Common.{◌≡◌, ℕ, List, [], ◌∷◌, ◌++◌, length, refl, ap, ◌∙◌, arith, length-append, Bool, true, false, cond, ◌==◌, is_none, None, Some, append-nil}
+use Rattle.std.proofs.Common.{◌≡◌, ℕ, List, [], ◌∷◌, ◌++◌, length, refl, ap, ◌∙◌, arith, length-append, Bool, true, false, cond, ◌==◌, is_none, None, Some}
+use Rattle.std.proofs.Common.{append-nil}
 use Rattle.std.proofs.lemmas.Bool.{and_parts, eqb-true}
 use Rattle.std.proofs.lemmas.Bool.Decides.{nat_tests}
 use Rattle.std.proofs.lemmas.List.Elements.{filter-append}
@@ -43,10 +44,12 @@ kept_own s packet e = skip_own packet (kept_tests (apid_in packet) s packet (is_
 
 -- ---- one packet more
 
-pub own_other : (id : ImageId) (packets : List (List ℕ)) (packet : List ℕ) → is_own id packet ≡ false → own_packets id (packets ++ packet ∷ []) ≡ own_packets id packets
+pub own_other : (id : ImageId) (packets : List (List ℕ)) (packet : List ℕ) → is_own id packet ≡ false → own_packets id (packets ++ packet ∷ [])
+    ≡ own_packets id packets
 own_other id packets packet other = grind (arith, nat_tests, filter-append, append-nil)
 
-own_more : (id : ImageId) (packets : List (List ℕ)) (packet : List ℕ) → is_own id packet ≡ true → own_packets id (packets ++ packet ∷ []) ≡ own_packets id packets ++ packet ∷ []
+own_more : (id : ImageId) (packets : List (List ℕ)) (packet : List ℕ) → is_own id packet ≡ true → own_packets id (packets ++ packet ∷ [])
+    ≡ own_packets id packets ++ packet ∷ []
 own_more id packets packet own = filter-append (is_own id) packets (packet ∷ []) ∙ ap (λ b. own_packets id packets ++ cond b (packet ∷ []) []) own
 
 kept_one : (apid : ℕ) (s : FateState) (packet : List ℕ) → is_kept (fate apid s packet) ≡ true → kept apid s (packet ∷ []) ≡ packet ∷ []
@@ -60,10 +63,12 @@ abbrev pub is_kept_by : ImageId → List (List ℕ) → List ℕ → Bool
 is_kept_by id packets packet = is_kept (fate id.apid (state_of id packets) packet)
 
 -- a packet of another image changes nothing
-pub entry_other : (id : ImageId) (packets : List (List ℕ)) (packet : List ℕ) → is_own id packet ≡ false → entry_of (packets ++ packet ∷ []) id ≡ entry_of packets id
+pub entry_other : (id : ImageId) (packets : List (List ℕ)) (packet : List ℕ) → is_own id packet ≡ false → entry_of (packets ++ packet ∷ []) id
+    ≡ entry_of packets id
 entry_other id packets packet other = grind (arith, nat_tests, own_other)
 
-pub kept_other : (id : ImageId) (packets : List (List ℕ)) (packet : List ℕ) → is_own id packet ≡ false → kept_of id (packets ++ packet ∷ []) ≡ kept_of id packets
+pub kept_other : (id : ImageId) (packets : List (List ℕ)) (packet : List ℕ) → is_own id packet ≡ false → kept_of id (packets ++ packet ∷ [])
+    ≡ kept_of id packets
 kept_other id packets packet other = ap (kept id.apid fresh) (own_other id packets packet other)
 
 module _ (id : ImageId) (packets : List (List ℕ)) (packet : List ℕ) (own : is_own id packet ≡ true) where
@@ -85,11 +90,17 @@ module _ (id : ImageId) (packets : List (List ℕ)) (packet : List ℕ) (own : i
 
 -- ---- a packet that is kept
 
-count_more : (packets : List (List ℕ)) (packet : List ℕ) → count_of (packets ++ packet ∷ []) ≡ count_with (count_of packets) (length packet) (closes (flags_in packet))
+count_more : (packets : List (List ℕ)) (packet : List ℕ) → count_of (packets ++ packet ∷ []) ≡ count_with (count_of packets) (length packet)
+    (closes (flags_in packet))
 count_more packets packet = grind (arith, nat_tests, length-append, sum_by_push, fold-append)
 
 pub entry_more : (id : ImageId) (packets : List (List ℕ)) (packet : List ℕ) → is_own id packet ≡ true → is_kept_by id packets packet ≡ true →
-    entry_of (packets ++ packet ∷ []) id ≡ record { id = id; state = after id.apid (state_of id packets) packet; count = count_with (count_of (kept_of id packets)) (length packet) (closes (flags_in packet)) }
+    entry_of (packets ++ packet ∷ []) id ≡ record {
+      id = id;
+      state = after id.apid (state_of id packets) packet;
+      count =
+          count_with (count_of (kept_of id packets)) (length packet) (closes (flags_in packet));
+    }
 entry_more id packets packet own is =
     let state = state_more id packets packet own in
     grind (arith, nat_tests, length, kept_more, count_more)

@@ -1,5 +1,6 @@
 -- An image of which a packet is kept has a geometry.
-use Rattle.std.proofs.Common.{◌≡◌, ◌<◌, ◌+◌, ℕ, List, [], ◌∷◌, ◌++◌, length, sym, ap, subst, ◌∙◌, inl, inr, arith, append_assoc, All, slice_index_or, Option, Some, None, IsSome, Result, eq-eqb, ne_eqb}
+use Rattle.std.proofs.Common.{◌≡◌, ◌<◌, ◌+◌, ℕ, List, [], ◌∷◌, ◌++◌, length, sym, ap, subst, ◌∙◌, inl, inr, arith, append_assoc, All, slice_index_or}
+use Rattle.std.proofs.Common.{Option, Some, None, IsSome, Result, eq-eqb, ne_eqb}
 use Rattle.std.proofs.lemmas.List.{append-nil, get_or_default}
 use Rattle.std.proofs.lemmas.Bool.Decides.{nat_tests}
 use Rattle.base_122.specs.declared.geometry.Geometry.{Geometry}
@@ -24,14 +25,16 @@ use Rattle.packet_assembly.proofs.Ends.{kept_nothing}
 -- ---- one packet
 
 -- a head that isn't refused makes a geometry
-made : (standing : Option Geometry) (a : Ancillary) (read : Result SegmentHead HeadFault) → head_refusal standing a read ≡ None → IsSome (geometry_with standing a read)
-made standing a read e = grind (arith, nat_tests)
+made : (current : Option Geometry) (a : Ancillary) (read : Result SegmentHead HeadFault) → head_refusal current a read ≡ None →
+    IsSome (geometry_with current a read)
+made current a read e = grind (arith, nat_tests)
 
-first_made : (standing : Option Geometry) (packet : List ℕ) → number_of_part packet ≡ 0 → refusal_in standing packet ≡ None → IsSome (geometry_after standing packet)
-first_made standing packet part none = grind (arith, nat_tests, eq-eqb, made)
+first_made : (current : Option Geometry) (packet : List ℕ) → number_of_part packet ≡ 0 → refusal_in current packet ≡ None →
+    IsSome (geometry_after current packet)
+first_made current packet part none = grind (arith, nat_tests, eq-eqb, made)
 
-next_same : (standing : Option Geometry) (packet : List ℕ) (n : ℕ) → number_of_part packet ≡ n + 1 → geometry_after standing packet ≡ standing
-next_same standing packet n part = grind (arith, nat_tests, ne_eqb)
+next_same : (current : Option Geometry) (packet : List ℕ) (n : ℕ) → number_of_part packet ≡ n + 1 → geometry_after current packet ≡ current
+next_same current packet n part = grind (arith, nat_tests, ne_eqb)
 
 -- ---- all packets
 
@@ -66,7 +69,8 @@ size_of id packets some =
 
 -- ---- the images
 
-begun_on : (wanted : Option ℕ) (packets later : List (List ℕ)) → AreBegun wanted packets (images wanted packets) → AreBegun wanted (packets ++ later) (images wanted (packets ++ later))
+begun_on : (wanted : Option ℕ) (packets later : List (List ℕ)) → AreBegun wanted packets (images wanted packets) →
+    AreBegun wanted (packets ++ later) (images wanted (packets ++ later))
 begun_on wanted packets [] known = subst (λ ps. AreBegun wanted ps (images wanted ps)) (sym (append-nil packets)) known
 begun_on wanted packets (x ∷ later) known =
     subst (λ ps. AreBegun wanted ps (images wanted ps)) (append_assoc packets (x ∷ []) later)
@@ -78,5 +82,7 @@ all_begun wanted packets = begun_on wanted [] packets (subst (AreBegun wanted []
 pub have_geometry : (wanted : Option ℕ) (packets : List (List ℕ)) → All (λ (entry : ImageEntry). IsSome entry.state.geometry) (entries wanted packets)
 have_geometry wanted packets k d lt =
     let within : k < length (images wanted packets) = omega (arith, lt, length-entries wanted packets) in
-    let is : slice_index_or (entries wanted packets) k d ≡ entry_of packets (id_at (images wanted packets) k) = get_or_default (entries wanted packets) k d no_entry lt ∙ entry_is wanted packets k within in
-    subst (λ (entry : ImageEntry). IsSome entry.state.geometry) (sym is) (size_of (id_at (images wanted packets) k) packets ((all_begun wanted packets).some_each k within))
+    let is : slice_index_or (entries wanted packets) k d ≡ entry_of packets (id_at (images wanted packets) k) =
+    get_or_default (entries wanted packets) k d no_entry lt ∙ entry_is wanted packets k within in
+    subst (λ (entry : ImageEntry). IsSome entry.state.geometry) (sym is)
+    (size_of (id_at (images wanted packets) k) packets ((all_begun wanted packets).some_each k within))

@@ -35,7 +35,7 @@ pub record TakesPacket (wanted : Option ℕ) (old new : Outside) (v w : Intake) 
   pub taken : TakenSoFar old new v full
   pub whole : begins_packet full.pending ≡ true
   pub passes : PassesPacket wanted table after (first_packet full.pending) result
-  pub stands : w ≡ answered (apid_in (first_packet full.pending)) full
+  pub valid : w ≡ answered (apid_in (first_packet full.pending)) full
 
 abbrev pub TakesNext : (wanted : Option ℕ) → (old new : Outside) (v w : Intake) (table after : List ImageEntry) → Result Step InfoFault → Type 0
 TakesNext wanted old new v w table after (Ok Passed) = TakesPacket wanted old new v w table after (Ok tt)

@@ -1,5 +1,6 @@
 -- The table of the images that have begun, and the effect of a packet on it. This project's own.
-use Rattle.std.specs.Prelude.{◌≡◌, ◌≤◌, ◌<◌, ◌+◌, ◌^◌, ℕ, Bool, true, false, if◌then◌else◌, List, [], ◌∷◌, ◌++◌, length, slice_index_or, slice_set, Option, None, Some, Result, Ok, Err}
+use Rattle.std.specs.Prelude.{◌≡◌, ◌≤◌, ◌<◌, ◌+◌, ◌^◌, ℕ, Bool, true, false, if◌then◌else◌, List, [], ◌∷◌, ◌++◌, length, slice_index_or, slice_set, Option}
+use Rattle.std.specs.Prelude.{None, Some, Result, Ok, Err}
 use Rattle.segment_defs.specs.declared.head.SegmentHead.{SegmentHead}
 use Rattle.packet_defs.specs.declared.ancillary.Ancillary.{Ancillary}
 use Rattle.packet_defs.specs.declared.packet.Skip.{Skip}
@@ -89,12 +90,14 @@ entry_past table id place flags a octets found = record {
 }
 
 -- the table after a packet with this classification
-abbrev pub LeavesTable : (old new : List ImageEntry) → ImageId → Option ℕ → (flags : ℕ) → Ancillary → (octets : ℕ) → Result (Option SegmentHead) Fate → Result Unit TableFull → Type 0
+abbrev pub LeavesTable : (old new : List ImageEntry) → ImageId → Option ℕ → (flags : ℕ) → Ancillary → (octets : ℕ) → Result (Option SegmentHead) Fate →
+    Result Unit TableFull → Type 0
 LeavesTable old new id place flags a octets (Err why) result = (result ≡ Ok tt) × (new ≡ old)
 LeavesTable old new id place flags a octets (Ok found) result = PutsEntry old new place (entry_past old id place flags a octets found) result
 
 -- a packet of an image was passed
-pub record PassesImage (old new : List ImageEntry) (id : ImageId) (flags : ℕ) (a : Ancillary) (text : List ℕ) (octets : ℕ) (result : Result Unit TableFull) : Type 0 where
+pub record PassesImage (old new : List ImageEntry) (id : ImageId) (flags : ℕ) (a : Ancillary) (text : List ℕ) (octets : ℕ)
+    (result : Result Unit TableFull) : Type 0 where
   pub place : Option ℕ
   pub is_place : IsPlace old id place
   pub leaves : LeavesTable old new id place flags a octets (classified (state_at old place) flags a text) result

@@ -29,7 +29,7 @@ pub fn pass_packet(
     requires room { CanCount table.old.entries.items (length (first_packet reader.old.pending)) }
     ensures passed { PassesPacket wanted table.old.entries.items table.new.entries.items (first_packet reader.old.pending) result }
     ensures in_range { AreRanged table.new.entries.items }
-    ensures stands { reader.new ≡ answered (apid_in (first_packet reader.old.pending)) reader.old }
+    ensures valid { reader.new ≡ answered (apid_in (first_packet reader.old.pending)) reader.old }
 {
     let apid = BigEndian::read_u16(reader.octets()) % (1 << 11);
     let Ok(read) = reader.answer(apid) else {
@@ -64,7 +64,8 @@ fn pass_image(
     requires ranged { AreRanged table.old.entries.items }
     requires room { CanCount table.old.entries.items (6 + head.now.length) }
     requires image { ancillary.now.image ≤ 65535 }
-    ensures passed { PassesImage table.old.entries.items table.new.entries.items (record { apid = head.now.apid; image = ancillary.now.image }) head.now.flags ancillary.now text.now (6 + head.now.length) result }
+    ensures passed { PassesImage table.old.entries.items table.new.entries.items (record { apid = head.now.apid; image = ancillary.now.image })
+        head.now.flags ancillary.now text.now (6 + head.now.length) result }
     ensures in_range { AreRanged table.new.entries.items }
 {
     let id = ImageId {

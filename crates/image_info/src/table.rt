@@ -91,7 +91,7 @@ impl Table {
         match place {
             None => FateState {
                 geometry: None,
-                told_last: false,
+                reported_last: false,
                 last: None,
             },
             Some(place) => self.entries[place].state,

@@ -16,7 +16,8 @@ correction-turned a b = grind (arith, nat_tests, correction-is)
 
 -- An odd sample from four low samples and five high ones. What the high ones add to the even samples and what is predicted
 -- from these cancel in part, so their bound counts once.
-spread-within : (m d : ℕ) (a b c e v w x y z : ℤ) → IsWithin m a → IsWithin m b → IsWithin m c → IsWithin m e → IsWithin d v → IsWithin d w → IsWithin d x → IsWithin d y → IsWithin d z
+spread-within : (m d : ℕ) (a b c e v w x y z : ℤ) → IsWithin m a → IsWithin m b → IsWithin m c → IsWithin m e → IsWithin d v → IsWithin d w → IsWithin d x →
+    IsWithin d y → IsWithin d z
     → IsWithin (5 * m / 4 + d + 2) (x +ℤ predicted (a +ℤ correction v w) (b +ℤ correction w x) (c +ℤ correction x y) (e +ℤ correction y z))
 spread-within m d a b c e v w x y z wa wb wc we wv ww wx wy wz =
     simp (predicted-is, correction-is) (
@@ -45,14 +46,17 @@ even_of-bound m d n j c h l wc wh =
 pub odd_of-bound : (m d n j : ℕ) (c h : ℕ → ℤ) → 3 ≤ n → j < n → AllWithin m n c → AllWithin d n h → IsWithin (5 * m / 4 + d + 2) (odd_of c h n j)
 odd_of-bound m d n j c h long l wc wh =
     let spread = λ (p q s t v w x y z : ℕ) (hp : p < n) (hq : q < n) (hs : s < n) (ht : t < n) (hv : v < n) (hw : w < n) (hx : x < n) (hy : y < n) (hz : z < n).
-    spread-within m d (c p) (c q) (c s) (c t) (h v) (h w) (h x) (h y) (h z) (wc.at p hp) (wc.at q hq) (wc.at s hs) (wc.at t ht) (wh.at v hv) (wh.at w hw) (wh.at x hx) (wh.at y hy) (wh.at z hz) in
+    spread-within m d (c p) (c q) (c s) (c t) (h v) (h w) (h x) (h y) (h z) (wc.at p hp) (wc.at q hq) (wc.at s hs) (wc.at t ht) (wh.at v hv) (wh.at w hw)
+    (wh.at x hx) (wh.at y hy) (wh.at z hz) in
     let first = λ (e : j ≡ 0).
     let k0 : even_before j ≡ 1 = omega arith in
     let k2 : even_within n (j + 1) ≡ 1 = omega arith in
     let k3 : even_within n (j + 2) ≡ 2 = omega arith in
     let t0 = correction-turned (h 0) (h 1) in
-    let is : odd_of c h n j ≡ (h 0 +ℤ predicted (c 1 +ℤ correction (h 1) (h 0)) (c 0 +ℤ correction (h 0) (h 0)) (c 1 +ℤ correction (h 0) (h 1)) (c 2 +ℤ correction (h 1) (h 2))) = grind (arith, odd_of-is, prediction-is, even_of-is) in
-    let at = spread 1 0 1 2 1 0 0 1 2 (omega arith) (omega arith) (omega arith) (omega arith) (omega arith) (omega arith) (omega arith) (omega arith) (omega arith) in
+    let is : odd_of c h n j ≡ (h 0 +ℤ predicted (c 1 +ℤ correction (h 1) (h 0)) (c 0 +ℤ correction (h 0) (h 0)) (c 1 +ℤ correction (h 0) (h 1))
+    (c 2 +ℤ correction (h 1) (h 2))) = grind (arith, odd_of-is, prediction-is, even_of-is) in
+    let at = spread 1 0 1 2 1 0 0 1 2 (omega arith) (omega arith) (omega arith) (omega arith) (omega arith) (omega arith) (omega arith) (omega arith)
+    (omega arith) in
     let r : IsWithin (5 * m / 4 + d + 2) (odd_of c h n j) = rw is at in r in
     let last = λ (e : j + 1 ≡ n).
     let k0 : even_before j ≡ j - 1 = omega arith in
@@ -60,8 +64,10 @@ odd_of-bound m d n j c h long l wc wh =
     let k3 : even_within n (j + 2) ≡ j - 1 = omega arith in
     let t0 = correction-turned (h (j - 1)) (h j) in
     let t1 = correction-turned (h (j - 1 - 1)) (h (j - 1)) in
-    let is : odd_of c h n j ≡ (h j +ℤ predicted (c (j - 1) +ℤ correction (h (j - 1 - 1)) (h (j - 1))) (c j +ℤ correction (h (j - 1)) (h j)) (c j +ℤ correction (h j) (h (j - 1))) (c (j - 1) +ℤ correction (h (j - 1)) (h (j - 1 - 1)))) = grind (arith, odd_of-is, prediction-is, even_of-is) in
-    let at = spread (j - 1) j j (j - 1) (j - 1 - 1) (j - 1) j (j - 1) (j - 1 - 1) (omega arith) (omega arith) (omega arith) (omega arith) (omega arith) (omega arith) (omega arith) (omega arith) (omega arith) in
+    let is : odd_of c h n j ≡ (h j +ℤ predicted (c (j - 1) +ℤ correction (h (j - 1 - 1)) (h (j - 1))) (c j +ℤ correction (h (j - 1)) (h j))
+    (c j +ℤ correction (h j) (h (j - 1))) (c (j - 1) +ℤ correction (h (j - 1)) (h (j - 1 - 1)))) = grind (arith, odd_of-is, prediction-is, even_of-is) in
+    let at = spread (j - 1) j j (j - 1) (j - 1 - 1) (j - 1) j (j - 1) (j - 1 - 1) (omega arith) (omega arith) (omega arith) (omega arith) (omega arith)
+    (omega arith) (omega arith) (omega arith) (omega arith) in
     let r : IsWithin (5 * m / 4 + d + 2) (odd_of c h n j) = rw is at in r in
     let before_last = λ (nf : j ≢ 0) (e : j + 2 ≡ n).
     let k0 : even_before j ≡ j - 1 = omega arith in
@@ -69,8 +75,10 @@ odd_of-bound m d n j c h long l wc wh =
     let k3 : even_within n (j + 2) ≡ j + 1 = omega arith in
     let k4 : j + 1 - 1 ≡ j = omega arith in
     let t0 = correction-turned (h j) (h (j + 1)) in
-    let is : odd_of c h n j ≡ (h j +ℤ predicted (c (j - 1) +ℤ correction (h (j - 1 - 1)) (h (j - 1))) (c j +ℤ correction (h (j - 1)) (h j)) (c (j + 1) +ℤ correction (h j) (h (j + 1))) (c (j + 1) +ℤ correction (h (j + 1)) (h j))) = grind (arith, odd_of-is, prediction-is, even_of-is) in
-    let at = spread (j - 1) j (j + 1) (j + 1) (j - 1 - 1) (j - 1) j (j + 1) j (omega arith) (omega arith) (omega arith) (omega arith) (omega arith) (omega arith) (omega arith) (omega arith) (omega arith) in
+    let is : odd_of c h n j ≡ (h j +ℤ predicted (c (j - 1) +ℤ correction (h (j - 1 - 1)) (h (j - 1))) (c j +ℤ correction (h (j - 1)) (h j))
+    (c (j + 1) +ℤ correction (h j) (h (j + 1))) (c (j + 1) +ℤ correction (h (j + 1)) (h j))) = grind (arith, odd_of-is, prediction-is, even_of-is) in
+    let at = spread (j - 1) j (j + 1) (j + 1) (j - 1 - 1) (j - 1) j (j + 1) j (omega arith) (omega arith) (omega arith) (omega arith) (omega arith)
+    (omega arith) (omega arith) (omega arith) (omega arith) in
     let r : IsWithin (5 * m / 4 + d + 2) (odd_of c h n j) = rw is at in r in
     let inner = λ (nf : j ≢ 0) (n1 : j + 1 ≢ n) (n2 : j + 2 ≢ n).
     let k0 : even_before j ≡ j - 1 = omega arith in
@@ -78,8 +86,10 @@ odd_of-bound m d n j c h long l wc wh =
     let k3 : even_within n (j + 2) ≡ j + 2 = omega arith in
     let k4 : j + 1 - 1 ≡ j = omega arith in
     let k5 : j + 2 - 1 ≡ j + 1 = omega arith in
-    let is : odd_of c h n j ≡ (h j +ℤ predicted (c (j - 1) +ℤ correction (h (j - 1 - 1)) (h (j - 1))) (c j +ℤ correction (h (j - 1)) (h j)) (c (j + 1) +ℤ correction (h j) (h (j + 1))) (c (j + 2) +ℤ correction (h (j + 1)) (h (j + 2)))) = grind (arith, odd_of-is, prediction-is, even_of-is) in
-    let at = spread (j - 1) j (j + 1) (j + 2) (j - 1 - 1) (j - 1) j (j + 1) (j + 2) (omega arith) (omega arith) (omega arith) (omega arith) (omega arith) (omega arith) (omega arith) (omega arith) (omega arith) in
+    let is : odd_of c h n j ≡ (h j +ℤ predicted (c (j - 1) +ℤ correction (h (j - 1 - 1)) (h (j - 1))) (c j +ℤ correction (h (j - 1)) (h j))
+    (c (j + 1) +ℤ correction (h j) (h (j + 1))) (c (j + 2) +ℤ correction (h (j + 1)) (h (j + 2)))) = grind (arith, odd_of-is, prediction-is, even_of-is) in
+    let at = spread (j - 1) j (j + 1) (j + 2) (j - 1 - 1) (j - 1) j (j + 1) (j + 2) (omega arith) (omega arith) (omega arith) (omega arith) (omega arith)
+    (omega arith) (omega arith) (omega arith) (omega arith) in
     let r : IsWithin (5 * m / 4 + d + 2) (odd_of c h n j) = rw is at in r in
     ⊎_elim first
     (λ (nf : j ≢ 0). ⊎_elim last
@@ -97,14 +107,17 @@ merged-bound m d n c h long wc wh = record {
 }
 
 -- and a row of columns of them
-pub columns_merged-bound : (m d n w i : ℕ) (c h : ℕ → ℕ → ℤ) → 3 ≤ n → i < 2 * n → EachWithin m n w c → EachWithin d n w h → AllWithin (5 * m / 4 + d + 2) w (columns_merged c h n i)
+pub columns_merged-bound : (m d n w i : ℕ) (c h : ℕ → ℕ → ℤ) → 3 ≤ n → i < 2 * n → EachWithin m n w c → EachWithin d n w h →
+    AllWithin (5 * m / 4 + d + 2) w (columns_merged c h n i)
 columns_merged-bound m d n w i c h long l wc wh = record {
   at = λ j hj. rw columns_merged-is (
       let column = merged-bound m d n (λ r. c r j) (λ r. h r j) long (record { at = λ k hk. wc.at k j hk hj }) (record { at = λ k hk. wh.at k j hk hj }) in
       column.at i l);
 }
 
-pub columns_even-bound : (m d n w k : ℕ) (c h : ℕ → ℕ → ℤ) → k < n → EachWithin m n w c → EachWithin d n w h → AllWithin (m + (d + 1) / 2) w (columns_even c h k)
+pub columns_even-bound : (m d n w k : ℕ) (c h : ℕ → ℕ → ℤ) → k < n → EachWithin m n w c → EachWithin d n w h →
+    AllWithin (m + (d + 1) / 2) w (columns_even c h k)
 columns_even-bound m d n w k c h l wc wh = record {
-  at = λ j hj. rw columns_even-is (even_of-bound m d n k (λ r. c r j) (λ r. h r j) l (record { at = λ i hi. wc.at i j hi hj }) (record { at = λ i hi. wh.at i j hi hj }));
+  at = λ j hj. rw columns_even-is (even_of-bound m d n k (λ r. c r j) (λ r. h r j) l (record { at = λ i hi. wc.at i j hi hj })
+      (record { at = λ i hi. wh.at i j hi hj }));
 }

@@ -1,6 +1,7 @@
 -- Rings that are as after pairs of rows within a bound, and one more pair.
 use mathlib.Core.Logic.{∥∥₁_elim, ∥∥₁_map}
-use Rattle.std.proofs.Common.{◌≡◌, ℕ, Bool, true, false, ◌+◌, ◌-◌, ◌*◌, ◌^◌, ◌<◌, ◌≤◌, ◌&&◌, ℤ, pos, List, [], length, get_or, if◌then◌else◌, nat_lt, refl, sym, ◌∙◌, ⊎_elim, arith}
+use Rattle.std.proofs.Common.{◌≡◌, ℕ, Bool, true, false, ◌+◌, ◌-◌, ◌*◌, ◌^◌, ◌<◌, ◌≤◌, ◌&&◌, ℤ, pos, List, [], length, get_or, if◌then◌else◌, nat_lt, refl}
+use Rattle.std.proofs.Common.{sym, ◌∙◌, ⊎_elim, arith}
 use Rattle.std.specs.Bool.{OnTrue}
 use Rattle.std.proofs.Math.Dec.{T_prop}
 use Rattle.std.proofs.lemmas.Bool.{cases_lt}
@@ -41,7 +42,8 @@ even-same c d n i j x y h =
     let e = continued-before d n i j y h in
     grind (arith, columns_even-is, even_of-is)
 
-HoldPairs-continued : (c d : ℕ → ℕ → ℤ) (w n : ℕ) (es hs : List (List ℤ)) (x y : ℕ → ℤ) → HoldPairs c d w n es hs → HoldPairs (continued c n x) (continued d n y) w n es hs
+HoldPairs-continued : (c d : ℕ → ℕ → ℤ) (w n : ℕ) (es hs : List (List ℤ)) (x y : ℕ → ℤ) → HoldPairs c d w n es hs →
+    HoldPairs (continued c n x) (continued d n y) w n es hs
 HoldPairs-continued c d w n es hs x y hold = record {
   evens = AreNewest-same _ _ w n es (λ i j h. even-same c d n i j x y h) hold.evens;
   highs = AreNewest-same _ _ w n hs (λ i j h. continued-before d n i j y h) hold.highs;
@@ -58,11 +60,14 @@ EachWithin-continued m w n f x wf wx = record {
 }
 
 -- one more pair: the rings after it hold it for all low and high rows that they held before it
-pub ArePairsWithin-turn : (m w n : ℕ) (es hs es' hs' : List (List ℤ)) (x y : ℕ → ℤ) → ((c d : ℕ → ℕ → ℤ) → HoldPairs c d w n es hs → Agrees w x (c n) → Agrees w y (d n) → HoldPairs c d w (n + 1) es' hs') → ArePairsWithin m w n es hs → AllWithin m w x → AllWithin (2 ^ 27) w y → ArePairsWithin m w (n + 1) es' hs'
+pub ArePairsWithin-turn : (m w n : ℕ) (es hs es' hs' : List (List ℤ)) (x y : ℕ → ℤ) →
+    ((c d : ℕ → ℕ → ℤ) → HoldPairs c d w n es hs → Agrees w x (c n) → Agrees w y (d n) → HoldPairs c d w (n + 1) es' hs') → ArePairsWithin m w n es hs →
+    AllWithin m w x → AllWithin (2 ^ 27) w y → ArePairsWithin m w (n + 1) es' hs'
 ArePairsWithin-turn m w n es hs es' hs' x y turned some wx wy = ∥∥₁_map some (λ (pairs : PairsWithin m w n es hs). record {
   low = continued pairs.low n x;
   high = continued pairs.high n y;
-  hold = turned (continued pairs.low n x) (continued pairs.high n y) (HoldPairs-continued pairs.low pairs.high w n es hs x y pairs.hold) (continued-here pairs.low w n x) (continued-here pairs.high w n y);
+  hold = turned (continued pairs.low n x) (continued pairs.high n y) (HoldPairs-continued pairs.low pairs.high w n es hs x y pairs.hold)
+      (continued-here pairs.low w n x) (continued-here pairs.high w n y);
   low_within = EachWithin-continued m w n pairs.low x pairs.low_within wx;
   high_within = EachWithin-continued (2 ^ 27) w n pairs.high y pairs.high_within wy;
 })
@@ -88,20 +93,24 @@ on_true true f = f refl
 on_true false f = tt
 
 -- the even rows of the rings
-pub evens-within : (m w n t k : ℕ) (es hs : List (List ℤ)) → length es ≡ 4 → t < 4 → k < n → n + t ≡ k + 4 → ArePairsWithin m w n es hs → AllWithin (m + (2 ^ 26 + 1)) w (signal (get_or es t []))
-evens-within m w n t k es hs four ht hk e some = ∥∥₁_elim some (AllWithin-prop (m + (2 ^ 26 + 1)) w (signal (get_or es t []))) (λ (pairs : PairsWithin m w n es hs).
+pub evens-within : (m w n t k : ℕ) (es hs : List (List ℤ)) → length es ≡ 4 → t < 4 → k < n → n + t ≡ k + 4 → ArePairsWithin m w n es hs →
+    AllWithin (m + (2 ^ 26 + 1)) w (signal (get_or es t []))
+evens-within m w n t k es hs four ht hk e some = ∥∥₁_elim some (AllWithin-prop (m + (2 ^ 26 + 1)) w (signal (get_or es t [])))
+    (λ (pairs : PairsWithin m w n es hs).
     let here = newest_at (columns_even pairs.low pairs.high) w n t k es pairs.hold.evens (omega arith) (omega arith) in
     let bound = columns_even-bound m (2 ^ 27) n w k pairs.low pairs.high hk pairs.low_within pairs.high_within in
     record { at = λ j h. rw (here.at j h) (IsWithin-more _ (m + (2 ^ 26 + 1)) _ (omega arith) (bound.at j h)) })
 
 -- one of them, by its number and within a wider bound
-pub even-fits : (b m w v n t k : ℕ) (es hs : List (List ℤ)) (x : List ℤ) → v ≡ w → x ≡ get_or es t [] → length es ≡ 4 → t < 4 → k < n → n + t ≡ k + 4 → m + (2 ^ 26 + 1) ≤ b → ArePairsWithin m w n es hs → AllWithin b v (signal x)
+pub even-fits : (b m w v n t k : ℕ) (es hs : List (List ℤ)) (x : List ℤ) → v ≡ w → x ≡ get_or es t [] → length es ≡ 4 → t < 4 → k < n → n + t ≡ k + 4 →
+    m + (2 ^ 26 + 1) ≤ b → ArePairsWithin m w n es hs → AllWithin b v (signal x)
 even-fits b m w v n t k es hs x ev ex four ht hk e le some =
     let row = evens-within m w n t k es hs four ht hk e some in
     rw (ev, ex) (AllWithin-more _ b w _ le row)
 
 -- a row of the columns
-pub row-within : (m w n i : ℕ) (es hs : List (List ℤ)) (x : ℕ → ℤ) → 3 ≤ n → i < 2 * n → ((c d : ℕ → ℕ → ℤ) → HoldPairs c d w n es hs → Agrees w x (columns_merged c d n i)) → ArePairsWithin m w n es hs → AllWithin (column_bound m) w x
+pub row-within : (m w n i : ℕ) (es hs : List (List ℤ)) (x : ℕ → ℤ) → 3 ≤ n → i < 2 * n →
+    ((c d : ℕ → ℕ → ℤ) → HoldPairs c d w n es hs → Agrees w x (columns_merged c d n i)) → ArePairsWithin m w n es hs → AllWithin (column_bound m) w x
 row-within m w n i es hs x long inside made some = ∥∥₁_elim some (AllWithin-prop (column_bound m) w x) (λ (pairs : PairsWithin m w n es hs).
     let row = made pairs.low pairs.high pairs.hold in
     let bound = columns_merged-bound m (2 ^ 27) n w i pairs.low pairs.high long inside pairs.low_within pairs.high_within in

@@ -22,7 +22,8 @@ module _ (w : ℕ) (evens highs : List (List ℤ)) (row high : List ℤ) (s : Ar
     highs = AreRows-turn 3 w highs high (omega arith) s.highs lh;
   }
 
-  pub HoldPairs-turn : (c d : ℕ → ℕ → ℤ) (n : ℕ) → HoldPairs c d w n evens highs → Agrees w (signal row) (columns_even c d n) → Agrees w (signal high) (d n) → HoldPairs c d w (n + 1) (drop 1 evens ++ row ∷ []) (drop 1 highs ++ high ∷ [])
+  pub HoldPairs-turn : (c d : ℕ → ℕ → ℤ) (n : ℕ) → HoldPairs c d w n evens highs → Agrees w (signal row) (columns_even c d n) →
+      Agrees w (signal high) (d n) → HoldPairs c d w (n + 1) (drop 1 evens ++ row ∷ []) (drop 1 highs ++ high ∷ [])
   HoldPairs-turn c d n hold even odd =
       let four = s.evens.count_is in
       let three = s.highs.count_is in
@@ -32,7 +33,8 @@ module _ (w : ℕ) (evens highs : List (List ℤ)) (row high : List ℤ) (s : Ar
       }
 
 -- the rings after a push, whose even row was made in place of the low one
-pub HoldPairs-pushed : (w v n : ℕ) (es hs es' hs' : List (List ℤ)) (low start out made high : List ℤ) → AreRings w es hs → v ≡ w → length out ≡ w → length high ≡ w → start ≡ low → made ≡ out → es' ≡ drop 1 es ++ made ∷ [] → hs' ≡ drop 1 hs ++ high ∷ []
+pub HoldPairs-pushed : (w v n : ℕ) (es hs es' hs' : List (List ℤ)) (low start out made high : List ℤ) → AreRings w es hs → v ≡ w → length out ≡ w →
+    length high ≡ w → start ≡ low → made ≡ out → es' ≡ drop 1 es ++ made ∷ [] → hs' ≡ drop 1 hs ++ high ∷ []
     → ((c d : ℕ → ℕ → ℤ) → AreNewest d v n hs → Agrees v (signal start) (c n) → Agrees v (signal high) (d n) → Agrees v (signal out) (columns_even c d n))
     → (c d : ℕ → ℕ → ℤ) → HoldPairs c d w n es hs → Agrees w (signal low) (c n) → Agrees w (signal high) (d n) → HoldPairs c d w (n + 1) es' hs'
 HoldPairs-pushed w v n es hs es' hs' low start out made high s ev lo lh is em ee eh even c d hold here_low here_high =
@@ -44,7 +46,8 @@ HoldPairs-pushed w v n es hs es' hs' low start out made high s ev lo lh is em ee
     rw (ee, eh, em) (HoldPairs-turn w es hs out high s lo lh c d n hold (subst (λ (u : ℕ). Agrees u (signal out) (columns_even c d n)) ev row) here_high)
 
 -- the even and the odd rows of the columns
-pub columns_merged-even : (c d : ℕ → ℕ → ℤ) (n i w : ℕ) (y : ℕ → ℤ) → i ≡ 2 * (i / 2) → Agrees w y (columns_even c d (i / 2)) → Agrees w y (columns_merged c d n i)
+pub columns_merged-even : (c d : ℕ → ℕ → ℤ) (n i w : ℕ) (y : ℕ → ℤ) → i ≡ 2 * (i / 2) → Agrees w y (columns_even c d (i / 2)) →
+    Agrees w y (columns_merged c d n i)
 columns_merged-even c d n i w y e a = record {
   at = λ j h.
       a.at j h ∙ columns_even-is c d (i / 2) j ∙ sym (even_of-merged (λ r. c r j) (λ r. d r j) n (i / 2))
@@ -56,10 +59,12 @@ odd_of-row c d n k j =
     columns_merged-is c d n (2 * k + 1) j ∙ odd_of-merged (λ r. c r j) (λ r. d r j) n k
     ∙ grind (arith, odd_of-is, prediction-is, columns_odd-is, columns_even-is)
 
-pub columns_merged-odd : (c d : ℕ → ℕ → ℤ) (n i w : ℕ) (y : ℕ → ℤ) → i ≡ 2 * (i / 2) + 1 → Agrees w y (columns_odd (columns_even c d) d n (i / 2)) → Agrees w y (columns_merged c d n i)
+pub columns_merged-odd : (c d : ℕ → ℕ → ℤ) (n i w : ℕ) (y : ℕ → ℤ) → i ≡ 2 * (i / 2) + 1 → Agrees w y (columns_odd (columns_even c d) d n (i / 2)) →
+    Agrees w y (columns_merged c d n i)
 columns_merged-odd c d n i w y e a = record {
   at = λ j h. a.at j h ∙ sym (odd_of-row c d n (i / 2) j) ∙ ap (λ (k : ℕ). columns_merged c d n k j) (sym e);
 }
 
-pub columns_merged-odd_at : (c d : ℕ → ℕ → ℤ) (n k w : ℕ) (y : ℕ → ℤ) → Agrees w y (columns_odd (columns_even c d) d n k) → Agrees w y (columns_merged c d n (2 * k + 1))
+pub columns_merged-odd_at : (c d : ℕ → ℕ → ℤ) (n k w : ℕ) (y : ℕ → ℤ) → Agrees w y (columns_odd (columns_even c d) d n k) →
+    Agrees w y (columns_merged c d n (2 * k + 1))
 columns_merged-odd_at c d n k w y a = record { at = λ j h. a.at j h ∙ sym (odd_of-row c d n k j) }

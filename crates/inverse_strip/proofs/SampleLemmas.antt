@@ -26,8 +26,8 @@ ring-samples n w rows s =
 
 columns-samples : (s : Columns) → columns_samples s ≡ 7 * s.width
 columns-samples s =
-    let evens = ring-samples 4 s.width s.evens s.stand.evens in
-    let highs = ring-samples 3 s.width s.highs s.stand.highs in
+    let evens = ring-samples 4 s.width s.evens s.sink_state.evens in
+    let highs = ring-samples 3 s.width s.highs s.sink_state.highs in
     omega arith
 
 level-samples : (s : InverseLevel) → level_samples s ≡ 16 * s.left.width
@@ -39,14 +39,15 @@ level-samples s =
     let c = s.right_room in
     omega arith
 
-stage-samples : (n : ℕ) (s : LevelStage) → s.kept ≡ n → stage_samples s ≡ 16 * s.level.left.width + (n * s.level.left.width + n * s.level.left.width + n * s.level.left.width)
+stage-samples : (n : ℕ) (s : LevelStage) → s.kept ≡ n → stage_samples s ≡ 16 * s.level.left.width
+    + (n * s.level.left.width + n * s.level.left.width + n * s.level.left.width)
 stage-samples n s e =
     let w = s.level.left.width in
     let level = level-samples s.level in
     let kept = ap (λ (k : ℕ). k * w) e in
-    let hl = ring-samples s.kept w s.hl s.hl_stands in
-    let lh = ring-samples s.kept w s.lh s.lh_stands in
-    let hh = ring-samples s.kept w s.hh s.hh_stands in
+    let hl = ring-samples s.kept w s.hl s.hl_valid in
+    let lh = ring-samples s.kept w s.lh s.lh_valid in
+    let hh = ring-samples s.kept w s.hh s.hh_valid in
     omega arith
 
 -- the rows of a block row, whose lengths are known

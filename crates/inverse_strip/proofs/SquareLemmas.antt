@@ -38,5 +38,6 @@ module _ (n0 n1 n2 n3 n4 : Place → ℤ) (p q0 q1 q2 q3 : Place) (values : List
   sets_square = record {
     there = there;
     others = λ q out.
-        o3 q (λ e. out 3 (omega arith) (e ∙ e3)) ∙ o2 q (λ e. out 2 (omega arith) (e ∙ e2)) ∙ o1 q (λ e. out 1 (omega arith) (e ∙ e1)) ∙ o0 q (λ e. out 0 (omega arith) (e ∙ e0));
+        o3 q (λ e. out 3 (omega arith) (e ∙ e3)) ∙ o2 q (λ e. out 2 (omega arith) (e ∙ e2)) ∙ o1 q (λ e. out 1 (omega arith) (e ∙ e1))
+        ∙ o0 q (λ e. out 0 (omega arith) (e ∙ e0));
   }

@@ -18,7 +18,8 @@ pub first-low : (p : Pyramid) (r w v : ℕ) → v ≡ 2 * w → (first_of p r w)
 first-low p r w v e = rw first_of-is (ap (λ (k : ℕ). joined (second_of p r w) (2 * r) k) (sym e))
 
 -- one more row of the second level
-pub Counts-second : (n third second first height : ℕ) → Counts n third second first height → HasRow third second (2 * height) → Counts n third (second + 1) first height
+pub Counts-second : (n third second first height : ℕ) → Counts n third second first height → HasRow third second (2 * height) →
+    Counts n third (second + 1) first height
 Counts-second n third second first height c row =
     let within = c.within in
     let waits = c.first_waits in
@@ -34,7 +35,8 @@ Counts-second n third second first height c row =
     }
 
 -- one more row of the first level
-pub Counts-first : (n third second first height : ℕ) → Counts n third second first height → HasRow second first (4 * height) → Counts n third second (first + 1) height
+pub Counts-first : (n third second first height : ℕ) → Counts n third second first height → HasRow second first (4 * height) →
+    Counts n third second (first + 1) height
 Counts-first n third second first height c row =
     let within = c.within in
     record {
@@ -50,7 +52,8 @@ Counts-first n third second first height c row =
     }
 
 -- the row of the image
-pub made-row : (p : Pyramid) (r w v g k : ℕ) (y : ℕ → ℤ) → v ≡ 4 * w → g ≡ k → Agrees (2 * v) y (joined (first_of p r w) (4 * r) v g) → Agrees (8 * w) y (rebuilt p r w k)
+pub made-row : (p : Pyramid) (r w v g k : ℕ) (y : ℕ → ℤ) → v ≡ 4 * w → g ≡ k → Agrees (2 * v) y (joined (first_of p r w) (4 * r) v g) →
+    Agrees (8 * w) y (rebuilt p r w k)
 made-row p r w v g k y ev eg made = rw rebuilt-is (record {
   at = λ j h.
       let e = made.at j (omega arith) in
@@ -60,8 +63,11 @@ made-row p r w v g k y ev eg made = rw rebuilt-is (record {
 -- ---- the block row that is set next
 
 -- the one row of a band of the third level
-pub row-comes : (f : ℕ → ℕ → ℤ) (band t columns : ℕ) (cells : List (List ℤ)) (x : List ℤ) → block_side band ≡ 1 → HasBlockRow f band (block_side band * t) columns cells → ((j : ℕ) → j < block_side band * columns → signal x j ≡ number_in columns cells (record { band = band; row = 0; column = j })) → Agrees columns (signal x) (f t)
-row-comes f band t columns cells x side has number = record {
+pub row-arrives : (f : ℕ → ℕ → ℤ) (band t columns : ℕ) (cells : List (List ℤ)) (x : List ℤ) → block_side band ≡ 1 →
+    HasBlockRow f band (block_side band * t) columns cells →
+    ((j : ℕ) → j < block_side band * columns → signal x j ≡ number_in columns cells (record { band = band; row = 0; column = j })) →
+    Agrees columns (signal x) (f t)
+row-arrives f band t columns cells x side has number = record {
   at = λ j h.
       let wide : block_side band * columns ≡ 1 * columns = ap (λ (k : ℕ). k * columns) side in
       let first : block_side band * t ≡ 1 * t = ap (λ (k : ℕ). k * t) side in
@@ -69,13 +75,16 @@ row-comes f band t columns cells x side has number = record {
       number j (omega arith) ∙ sym (has.at 0 j (omega arith) (omega arith)) ∙ ap (λ (k : ℕ). f k j) row;
 }
 
-pub block_row-at : (f : ℕ → ℕ → ℤ) (band n m columns : ℕ) (cells : List (List ℤ)) → m ≡ n → HasBlockRow f band n columns cells → HasBlockRow f band m columns cells
+pub block_row-at : (f : ℕ → ℕ → ℤ) (band n m columns : ℕ) (cells : List (List ℤ)) → m ≡ n → HasBlockRow f band n columns cells →
+    HasBlockRow f band m columns cells
 block_row-at f band n m columns cells e has = subst (λ (k : ℕ). HasBlockRow f band k columns cells) (sym e) has
 
 -- and after other rows took the place of those of later bands
-pub block_row-moved : (f : ℕ → ℕ → ℤ) (band n columns m : ℕ) (xs ys : List (List ℤ)) → band < 3 → m ≡ columns → ((i : ℕ) → i < first_row 3 → get_or ys i [] ≡ get_or xs i []) → HasBlockRow f band n columns xs → HasBlockRow f band n m ys
+pub block_row-moved : (f : ℕ → ℕ → ℤ) (band n columns m : ℕ) (xs ys : List (List ℤ)) → band < 3 → m ≡ columns →
+    ((i : ℕ) → i < first_row 3 → get_or ys i [] ≡ get_or xs i []) → HasBlockRow f band n columns xs → HasBlockRow f band n m ys
 block_row-moved f band n columns m xs ys hb em same has = subst (λ (k : ℕ). HasBlockRow f band n k ys) (sym em) (record {
   at = λ y j hy hj.
       has.at y j hy hj
-      ∙ number-same columns xs ys (record { band = band; row = y; column = j }) (λ is. ap (λ (x : List ℤ). signal x j) (sym (same (row_place band y) (grind (arith, nat_tests)))));
+      ∙ number-same columns xs ys (record { band = band; row = y; column = j })
+      (λ is. ap (λ (x : List ℤ). signal x j) (sym (same (row_place band y) (grind (arith, nat_tests)))));
 })

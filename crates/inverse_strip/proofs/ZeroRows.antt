@@ -19,7 +19,8 @@ RowsWithin-zeros b count w rows is =
     subst (RowsWithin b w) (sym is) (record {
       at = λ t h. record {
         at = λ k hk.
-            let zero : signal (get_or (replicate count (replicate w (pos 0))) t []) k ≡ pos 0 = ap (λ (x : List ℤ). signal x k) (get_or-replicate count t (replicate w (pos 0)) [] (omega arith)) ∙ get_or-replicate w k (pos 0) (pos 0) hk in
+            let zero : signal (get_or (replicate count (replicate w (pos 0))) t []) k ≡ pos 0 =
+            ap (λ (x : List ℤ). signal x k) (get_or-replicate count t (replicate w (pos 0)) [] (omega arith)) ∙ get_or-replicate w k (pos 0) (pos 0) hk in
             rw zero (record { above = omega (arith, ints); below = omega (arith, ints) });
       };
     })

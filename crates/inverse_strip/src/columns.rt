@@ -70,7 +70,7 @@ pub struct Columns {
     pub evens: RowRing<i32>,
     pub highs: RowRing<i32>,
     pub small: bool,
-    ghost stand: { AreRings width evens highs },
+    ghost sink_state: { AreRings width evens highs },
     ghost narrow: { RowsWithin (2 ^ 27) width highs },
     ghost within: { ArePairsWithin (375 * 2 ^ 22) width taken evens highs },
     ghost small_within: { small ≡ true → ArePairsWithin (2 ^ 27) width taken evens highs },

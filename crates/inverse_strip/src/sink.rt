@@ -9,7 +9,7 @@ impl BandSink for StripInverse {
 
     ghost columns = { columns_of };
 
-    ghost stands = { λ s. nat_lt (taken_of s) (height_of s) };
+    ghost valid = { λ s. nat_lt (taken_of s) (height_of s) };
 
     ghost number = { numbers_of };
 

@@ -18,9 +18,9 @@ pub struct LevelStage {
     pub lh: RowRing<i32>,
     pub hh: RowRing<i32>,
     ghost some: { 1 ≤ kept },
-    ghost hl_stands: { AreRows kept level.left.width hl },
-    ghost lh_stands: { AreRows kept level.left.width lh },
-    ghost hh_stands: { AreRows kept level.left.width hh },
+    ghost hl_valid: { AreRows kept level.left.width hl },
+    ghost lh_valid: { AreRows kept level.left.width lh },
+    ghost hh_valid: { AreRows kept level.left.width hh },
     ghost hl_small: { RowsWithin (2 ^ 27) level.left.width hl },
     ghost lh_small: { RowsWithin (2 ^ 27) level.left.width lh },
     ghost hh_small: { RowsWithin (2 ^ 27) level.left.width hh },
@@ -66,7 +66,7 @@ impl LevelStage {
     }
 
     // Takes row y of its high bands out of a block row, in which it leaves other rows. There is room for them.
-    fn come(&mut self, bands: &mut BlockRow, high: usize, y: usize)
+    fn take_row(&mut self, bands: &mut BlockRow, high: usize, y: usize)
         requires high { high < 8 }
         requires row { y < block_side high }
         requires side_hl { block_side (high + 1) ≡ block_side high }
@@ -94,7 +94,7 @@ impl LevelStage {
 
     /// Takes the rows of its high bands out of a block row, in which it leaves other rows. HH has the number `high`, and HL and LH have
     /// the next two.
-    pub fn come_rows(&mut self, bands: &mut BlockRow, high: usize, side: usize)
+    pub fn take_rows(&mut self, bands: &mut BlockRow, high: usize, side: usize)
         requires high { high < 8 }
         requires side { block_side high ≡ side }
         requires side_hl { block_side (high + 1) ≡ side }
@@ -114,7 +114,7 @@ impl LevelStage {
             → FollowStage q self.new }
     {
         for y in 0..side {
-            self.come(bands, high, y);
+            self.take_row(bands, high, y);
         }
     }
 

@@ -146,8 +146,8 @@ impl StripInverse {
             self.next.row(8, 0),
             self.next.row(6, 0),
         );
-        self.second.come_rows(&mut self.next, 3, 2);
-        self.first.come_rows(&mut self.next, 0, 4);
+        self.second.take_rows(&mut self.next, 3, 2);
+        self.first.take_rows(&mut self.next, 0, 4);
         self.next.clear();
     }
 

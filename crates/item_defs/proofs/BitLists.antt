@@ -1,5 +1,6 @@
 -- Lists of bits of one kind, and prefixes of lists.
-use Rattle.std.proofs.Common.{◌≡◌, ℕ, zero, suc, ◌+◌, ◌<◌, ◌≤◌, List, [], ◌∷◌, ◌++◌, length, take, Bool, true, false, eqb, refl, ap, ◌∙◌, append_assoc, arith, zero-add, inl, inr, length-append, append-nil}
+use Rattle.std.proofs.Common.{◌≡◌, ℕ, zero, suc, ◌+◌, ◌<◌, ◌≤◌, List, [], ◌∷◌, ◌++◌, length, take, Bool, true, false, eqb, refl, ap, ◌∙◌, append_assoc}
+use Rattle.std.proofs.Common.{arith, zero-add, inl, inr, length-append, append-nil}
 use Rattle.std.proofs.lemmas.Bool.{cases_eq}
 use Rattle.std.proofs.lemmas.Bool.Decides.{nat_tests}
 use Rattle.item_defs.specs.Bits.{copies}
@@ -55,7 +56,14 @@ zeros_differ i limit n more lt le e =
       | inl same ↦
           let t : eqb n limit ≡ true = grind (arith, nat_tests) in
           let f : copies i false ≡ (copies n false ++ []) ++ more = rw t at e in
-          absurd (omega (arith, ap length f, length-append (copies n false ++ []) more, length-append {A = Bool} (copies n false) [], length-copies i false, length-copies n false))
+          absurd (omega (
+            arith,
+            ap length f,
+            length-append (copies n false ++ []) more,
+            length-append {A = Bool} (copies n false) [],
+            length-copies i false,
+            length-copies n false,
+          ))
       | inr ne ↦
           let t : eqb n limit ≡ false = grind (arith, nat_tests) in
           let f : copies i false ≡ (copies n false ++ true ∷ []) ++ more = rw t at e in

@@ -135,16 +135,3 @@ end_is {G} {A} P (ask g form next) p bits left a e =
         named None f e = more r.0 r.1 (first_spelt form.shape bits r.1 r.0 q).0 f e
 
 -- ---- answers determine items
-
-pub same_items : {G A : Type 0} (s : Script G A) (xs ys : List Item) (a b : A) → Follows s xs a → Follows s ys b → said_of xs ≡ said_of ys →
-    (xs ≡ ys) × (a ≡ b)
-same_items (done c) [] [] a b p q e = (refl, sym p ∙ q)
-same_items (done c) [] (y ∷ ys) a b p q e = absurd q
-same_items (done c) (x ∷ xs) ys a b p q e = absurd p
-same_items (ask g form next) [] ys a b p q e = absurd p
-same_items (ask g form next) (x ∷ xs) [] a b p q e = absurd q
-same_items (ask g form next) (x ∷ xs) (y ∷ ys) a b p q e =
-    let first : x.said ≡ y.said = cc in
-    let rest : said_of xs ≡ said_of ys = cc in
-    let w = same_items (next x.said) xs ys a b p.1 (subst (λ n. Follows (next n) ys b) (sym first) q.1) rest in
-    ((λ i. record { form = (sym p.0 ∙ q.0) i; said = first i } ∷ w.0 i), w.1)

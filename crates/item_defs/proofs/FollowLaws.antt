@@ -101,10 +101,3 @@ module _ {G A : Type 0} where
   asks_one (done b) items f h p q = absurd p
   asks_one (ask g form next) [] f h p q = sym p ∙ q
   asks_one (ask g form next) (i ∷ is) f h p q = asks_one (next i.said) is f h p.1 q.1
-
-  -- the same items lead to one end
-  pub follows_one : (s : Script G A) (items : List Item) (a b : A) → Follows s items a → Follows s items b → a ≡ b
-  follows_one (done c) [] a b p q = sym p ∙ q
-  follows_one (done c) (i ∷ is) a b p q = absurd p
-  follows_one (ask g form next) [] a b p q = absurd p
-  follows_one (ask g form next) (i ∷ is) a b p q = follows_one (next i.said) is a b p.1 q.1

@@ -1,5 +1,7 @@
 -- Bits of numbers, and the numbers of bits.
-use Rattle.std.proofs.Common.{◌≡◌, ℕ, zero, suc, ◌+◌, ◌*◌, ◌-◌, ◌/◌, ◌%◌, ◌^◌, ◌<◌, ◌≤◌, List, [], ◌∷◌, ◌++◌, length, take, drop, Bool, false, refl, sym, ap, ◌∙◌, append_assoc, arith, sub-one, zero-add, eqb, bit_and, nat_eq, fold, append-nil, take_at, drop_at, pow-suc, mod-eq_of_lt, mul-le-mul_right}
+use Rattle.std.proofs.Common.{◌≡◌, ℕ, zero, suc, ◌+◌, ◌*◌, ◌-◌, ◌/◌, ◌%◌, ◌^◌, ◌<◌, ◌≤◌, List, [], ◌∷◌, ◌++◌, length, take, drop, Bool, false, refl, sym}
+use Rattle.std.proofs.Common.{ap, ◌∙◌, append_assoc, arith, sub-one, zero-add, eqb, bit_and, nat_eq, fold, append-nil, take_at, drop_at, pow-suc}
+use Rattle.std.proofs.Common.{mod-eq_of_lt, mul-le-mul_right}
 use Rattle.std.proofs.lemmas.Nat.{shr_le, shr-shr, and_mask, mod-pow-add, shr_high, mod_low}
 use Rattle.std.proofs.lemmas.Bool.Decides.{nat_tests}
 use mir.Val.{bool_byte}
@@ -84,7 +86,8 @@ unfolding value_of
 value_after a [] = omega arith
 value_after a (b ∷ bits) =
     let p : 2 ^ suc (length bits) ≡ 2 ^ length bits * 2 = pow-suc 2 (length bits) in
-    value_after (2 * a + digit b) bits ∙ spread a (digit b) (2 ^ length bits) (2 ^ suc (length bits)) (value_of bits) p ∙ ap (λ k. a * 2 ^ suc (length bits) + k) (sym (value_after (2 * 0 + digit b) bits))
+    value_after (2 * a + digit b) bits ∙ spread a (digit b) (2 ^ length bits) (2 ^ suc (length bits)) (value_of bits) p
+    ∙ ap (λ k. a * 2 ^ suc (length bits) + k) (sym (value_after (2 * 0 + digit b) bits))
 
 pub value_of-append : (xs ys : List Bool) → value_of (xs ++ ys) ≡ value_of xs * 2 ^ length ys + value_of ys
 unfolding value_of
@@ -99,7 +102,8 @@ room a d p q n e lt h = grind (arith, nat_tests, mul-le-mul_right)
 
 after_below : (a : ℕ) (bits : List Bool) → fold (λ n b. 2 * n + digit b) a bits < (a + 1) * 2 ^ length bits
 after_below a [] = omega arith
-after_below a (b ∷ bits) = room a (digit b) (2 ^ length bits) (2 ^ suc (length bits)) _ (pow-suc 2 (length bits)) (digit_small b) (after_below (2 * a + digit b) bits)
+after_below a (b ∷ bits) = room a (digit b) (2 ^ length bits) (2 ^ suc (length bits)) _ (pow-suc 2 (length bits)) (digit_small b)
+    (after_below (2 * a + digit b) bits)
 
 pub value_below : (bits : List Bool) → value_of bits < 2 ^ length bits
 unfolding value_of
@@ -129,7 +133,8 @@ value_after_bits (suc w) n a =
     let split' : n % 2 ^ suc w ≡ (n / 2 ^ w % 2) * 2 ^ w + n % 2 ^ w = rw one at split in
     let p : 2 ^ suc w ≡ 2 ^ w * 2 = pow-suc 2 w in
     let d : digit (bit n w) ≡ n / 2 ^ w % 2 = digit_of (n / 2 ^ w) in
-    value_after_bits w n (2 * a + digit (bit n w)) ∙ ap (λ k. (2 * a + k) * 2 ^ w + n % 2 ^ w) d ∙ spread_rest a (n / 2 ^ w % 2) (2 ^ w) (2 ^ suc w) (n % 2 ^ w) (n % 2 ^ suc w) p split'
+    value_after_bits w n (2 * a + digit (bit n w)) ∙ ap (λ k. (2 * a + k) * 2 ^ w + n % 2 ^ w) d ∙ spread_rest a (n / 2 ^ w % 2) (2 ^ w) (2 ^ suc w)
+    (n % 2 ^ w) (n % 2 ^ suc w) p split'
 
 pub value_of-bits_of : (w n : ℕ) → value_of (bits_of w n) ≡ n % 2 ^ w
 unfolding value_of
@@ -165,4 +170,5 @@ bits_between a b c x p q =
     let whole : (a - b) + (b - c) ≡ a - c = omega arith in
     let place : c + (b - c) ≡ b = omega arith in
     let high : x / 2 ^ c / 2 ^ (b - c) ≡ x / 2 ^ b = shr-shr x c (b - c) ∙ ap (λ k. x / 2 ^ k) place in
-    ap (λ k. bits_of (a - b) k ++ bits_of (b - c) (x / 2 ^ c)) (sym high) ∙ sym (bits_of-split (a - b) (b - c) (x / 2 ^ c)) ∙ ap (λ k. bits_of k (x / 2 ^ c)) whole
+    ap (λ k. bits_of (a - b) k ++ bits_of (b - c) (x / 2 ^ c)) (sym high) ∙ sym (bits_of-split (a - b) (b - c) (x / 2 ^ c))
+    ∙ ap (λ k. bits_of k (x / 2 ^ c)) whole

@@ -1,5 +1,6 @@
 -- Bits of octets, and the octets that bits fill.
-use Rattle.std.proofs.Common.{◌≡◌, ℕ, zero, suc, ◌+◌, ◌*◌, ◌/◌, ◌^◌, ◌<◌, List, [], ◌∷◌, ◌++◌, length, take, drop, map, Bool, refl, sym, ap, ◌∙◌, arith, length-append, length-drop, mod-eq_of_lt, append-nil, take_at, drop_at, drop-drop, take-append-drop, length-take-le}
+use Rattle.std.proofs.Common.{◌≡◌, ℕ, zero, suc, ◌+◌, ◌*◌, ◌/◌, ◌^◌, ◌<◌, List, [], ◌∷◌, ◌++◌, length, take, drop, map, Bool, refl, sym, ap, ◌∙◌, arith}
+use Rattle.std.proofs.Common.{length-append, length-drop, mod-eq_of_lt, append-nil, take_at, drop_at, drop-drop, take-append-drop, length-take-le}
 use Rattle.std.specs.List.{range_with_len}
 use Rattle.std.proofs.lemmas.List.Elements.{All-nil, All-cons, All-append}
 use Rattle.std.proofs.lemmas.List.Concat.{flat_map-append}
@@ -50,10 +51,12 @@ octets_of-first first bits eight =
     let after : (i : ℕ) → f (i + 1) ≡ g i =
     λ i.
     let split : 8 * (i + 1) ≡ 8 + 8 * i = omega arith in
-    let past : drop (8 + 8 * i) (first ++ bits) ≡ drop (8 * i) bits = sym (drop-drop (8 * i) 8 (first ++ bits)) ∙ ap (drop (8 * i)) (drop_at first bits 8 eight) in
+    let past : drop (8 + 8 * i) (first ++ bits) ≡ drop (8 * i) bits =
+    sym (drop-drop (8 * i) 8 (first ++ bits)) ∙ ap (drop (8 * i)) (drop_at first bits 8 eight) in
     ap (λ k. value_of (take 8 (drop k (first ++ bits)))) split ∙ ap (λ r. value_of (take 8 r)) past
     in
-    ap (λ k. map f (range_with_len 0 k)) count ∙ ap (λ r. value_of r ∷ map f (range_with_len (0 + 1) (length bits / 8))) here ∙ ap (λ r. value_of first ∷ r) (shifted f g 0 (length bits / 8) after)
+    ap (λ k. map f (range_with_len 0 k)) count ∙ ap (λ r. value_of r ∷ map f (range_with_len (0 + 1) (length bits / 8))) here ∙ ap (λ r. value_of first ∷ r)
+    (shifted f g 0 (length bits / 8) after)
 
 octets_of-none : octets_of [] ≡ []
 unfolding octets_of
@@ -76,7 +79,8 @@ octets_of-bits_of_octets [] h = ap octets_of no_octets ∙ octets_of-none
 octets_of-bits_of_octets (x ∷ xs) h =
     let small : x < 2 ^ 8 = h 0 0 (omega arith) in
     let first : value_of (bits_of 8 x) ≡ x = value_of-bits_of 8 x ∙ mod-eq_of_lt small in
-    ap octets_of (octets_first x xs) ∙ octets_of-first (bits_of 8 x) (bits_of_octets xs) (length-bits_of 8 x) ∙ ap (λ n. n ∷ octets_of (bits_of_octets xs)) first ∙ ap (λ r. x ∷ r) (octets_of-bits_of_octets xs (octets_rest x xs h))
+    ap octets_of (octets_first x xs) ∙ octets_of-first (bits_of 8 x) (bits_of_octets xs) (length-bits_of 8 x) ∙ ap (λ n. n ∷ octets_of (bits_of_octets xs))
+    first ∙ ap (λ r. x ∷ r) (octets_of-bits_of_octets xs (octets_rest x xs h))
 
 pub bits_of_octets-octets_of : (bits : List Bool) (n : ℕ) → length bits ≡ 8 * n → bits_of_octets (octets_of bits) ≡ bits
 bits_of_octets-octets_of [] n e = ap bits_of_octets octets_of-none ∙ no_octets
@@ -90,7 +94,8 @@ bits_of_octets-octets_of (b ∷ bits) (suc n) e =
     let left : length rest ≡ 8 * n = length-drop 8 all ∙ omega (arith, e) in
     let here : bits_of 8 (value_of first) ≡ first = ap (λ k. bits_of k (value_of first)) (sym eight) ∙ bits_of-value_of first in
     let there : bits_of_octets (octets_of rest) ≡ rest = bits_of_octets-octets_of rest n left in
-    ap (λ r. bits_of_octets (octets_of r)) (sym whole) ∙ ap bits_of_octets (octets_of-first first rest eight) ∙ octets_first (value_of first) (octets_of rest) ∙ ap (λ r. r ++ bits_of_octets (octets_of rest)) here ∙ ap (λ r. first ++ r) there ∙ whole
+    ap (λ r. bits_of_octets (octets_of r)) (sym whole) ∙ ap bits_of_octets (octets_of-first first rest eight) ∙ octets_first (value_of first)
+    (octets_of rest) ∙ ap (λ r. r ++ bits_of_octets (octets_of rest)) here ∙ ap (λ r. first ++ r) there ∙ whole
 
 -- the octets that bits fill are those whose bits they are
 pub octets_are : (bits : List Bool) (octets : List ℕ) → AreOctets octets → bits ≡ bits_of_octets octets → octets_of bits ≡ octets

@@ -29,7 +29,8 @@ pub some_of : (o : Option Refusal) (a b : Refusal) → o ≡ Some a → o ≡ So
 some_of o a b p q = cc
 
 -- lists that step alike, and say the same together with what follows
-pub said_split : (is js is' js' : List Item) → StepsAlike is js → said_of (is ++ is') ≡ said_of (js ++ js') → (said_of is ≡ said_of js) × (said_of is' ≡ said_of js')
+pub said_split : (is js is' js' : List Item) → StepsAlike is js → said_of (is ++ is') ≡ said_of (js ++ js') →
+    (said_of is ≡ said_of js) × (said_of is' ≡ said_of js')
 said_split [] [] is' js' p e = (refl, e)
 said_split [] (j ∷ js) is' js' p e = absurd p
 said_split (i ∷ is) [] is' js' p e = absurd p

@@ -155,13 +155,15 @@ module _ {G A : Type 0} where
                 lacks = w.lacks;
               }
 
-  refused_asks : (s : Script G A) → AreSound s → (bits left : List Bool) (h : G) (name : Refusal) → run s bits ≡ refused h name left → ReadRefused s bits name left
+  refused_asks : (s : Script G A) → AreSound s → (bits left : List Bool) (h : G) (name : Refusal) → run s bits ≡ refused h name left →
+      ReadRefused s bits name left
   refused_asks (done b) sound bits left h name e = absurd cc
   refused_asks (ask g form next) sound bits left h name e =
       here (first_number form.shape bits) refl e (λ n rest said good. refused_asks (next n) (sound.1 n said good) rest left h name)
     where
       here : (o : Option (ℕ × List Bool)) → first_number form.shape bits ≡ o → Next g form next o ≡ refused h name left →
-          ((n : ℕ) (rest : List Bool) → IsSaid form.shape n → form.refusal n ≡ None → run (next n) rest ≡ refused h name left → ReadRefused (next n) rest name left) →
+          ((n : ℕ) (rest : List Bool) → IsSaid form.shape n → form.refusal n ≡ None → run (next n) rest ≡ refused h name left →
+          ReadRefused (next n) rest name left) →
           ReadRefused (ask g form next) bits name left
       here None q e more = absurd cc
       here (Some r) q e more = named (form.refusal r.0) refl e
@@ -204,5 +206,6 @@ scripts_say G A s sound = record {
   cut_is = λ bits g e. cut_asks s sound bits g e;
   is_cut = λ bits w. (let r = asks_cut s w.items w.form w.some w.are w.asks w.lacks in (r.0, ap (run s) w.read ∙ r.1));
   refused_is = λ bits left g name e. refused_asks s sound bits left g name e;
-  is_refused = λ bits left name w. (let r = asks_refused s sound w.items w.form w.said name left w.are w.asks w.says w.refuses in (r.0, ap (run s) w.read ∙ r.1));
+  is_refused = λ bits left name w. (let r = asks_refused s sound w.items w.form w.said name left w.are w.asks w.says w.refuses in
+      (r.0, ap (run s) w.read ∙ r.1));
 }

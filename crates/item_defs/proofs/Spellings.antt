@@ -1,5 +1,6 @@
 -- No code of a shape is a prefix of another.
-use Rattle.std.proofs.Common.{◌≡◌, ℕ, zero, suc, ◌^◌, ◌<◌, ◌≤◌, List, [], ◌∷◌, ◌++◌, length, Bool, true, false, eqb, refl, sym, ap, subst, ◌∙◌, arith, length-append, take_at, drop_at, take, drop}
+use Rattle.std.proofs.Common.{◌≡◌, ℕ, zero, suc, ◌^◌, ◌<◌, ◌≤◌, List, [], ◌∷◌, ◌++◌, length, Bool, true, false, eqb, refl, sym, ap, subst, ◌∙◌, arith}
+use Rattle.std.proofs.Common.{length-append, take_at, drop_at, take, drop}
 use Rattle.std.proofs.lemmas.Bool.Decides.{nat_tests}
 use Rattle.item_defs.specs.Bits.{bits_of, copies}
 use Rattle.item_defs.specs.Items.{Shape, fixed, zeros_to, coded, spelling, IsSaid, zeros_and_one}
@@ -46,11 +47,13 @@ same_zeros (suc limit) (suc m) zero xs ys p q e =
     let f : false ∷ (zeros_and_one limit m ++ xs) ≡ true ∷ ys = sym (ap (λ r. r ++ xs) (one_more limit m)) ∙ e ∙ ap (λ r. r ++ ys) (one_first limit) in
     absurd cc
 same_zeros (suc limit) (suc m) (suc n) xs ys p q e =
-    let f : false ∷ (zeros_and_one limit m ++ xs) ≡ false ∷ (zeros_and_one limit n ++ ys) = sym (ap (λ r. r ++ xs) (one_more limit m)) ∙ e ∙ ap (λ r. r ++ ys) (one_more limit n) in
+    let f : false ∷ (zeros_and_one limit m ++ xs) ≡ false ∷ (zeros_and_one limit n ++ ys) =
+    sym (ap (λ r. r ++ xs) (one_more limit m)) ∙ e ∙ ap (λ r. r ++ ys) (one_more limit n) in
     let r = same_zeros limit m n xs ys (omega arith) (omega arith) (same_tail false false (zeros_and_one limit m ++ xs) (zeros_and_one limit n ++ ys) f) in
     (ap suc r.0, r.1)
 
-pub one_spelling : (s : Shape) (m n : ℕ) (xs ys : List Bool) → IsSound s → IsSaid s m → IsSaid s n → spelling s m ++ xs ≡ spelling s n ++ ys → (m ≡ n) × (xs ≡ ys)
+pub one_spelling : (s : Shape) (m n : ℕ) (xs ys : List Bool) → IsSound s → IsSaid s m → IsSaid s n → spelling s m ++ xs ≡ spelling s n ++ ys →
+    (m ≡ n) × (xs ≡ ys)
 one_spelling (fixed w) m n xs ys sound p q e = same_fixed w m n xs ys p q e
 one_spelling (zeros_to limit) m n xs ys sound p q e = same_zeros limit m n xs ys p q e
 one_spelling (coded codes) m n xs ys sound p q e = sound m n xs ys p q e

@@ -1,5 +1,6 @@
 -- A block of which the planes are read: its DC, and no AC numbers.
-use Rattle.std.proofs.Common.{◌≡◌, ℕ, zero, suc, ◌+◌, ◌*◌, ◌/◌, ◌%◌, ◌^◌, ◌<◌, ◌≤◌, min, ℤ, pos, List, [], ◌∷◌, length, ap, ◌∙◌, refl, arith, get_or, replicate, unsigned_abs, pow_pos}
+use Rattle.std.proofs.Common.{◌≡◌, ℕ, zero, suc, ◌+◌, ◌*◌, ◌/◌, ◌%◌, ◌^◌, ◌<◌, ◌≤◌, min, ℤ, pos, List, [], ◌∷◌, length, ap, ◌∙◌, refl, arith, get_or}
+use Rattle.std.proofs.Common.{replicate, unsigned_abs, pow_pos}
 use Rattle.std.proofs.lemmas.List.FromFn.{length-map-range_with_len, get_or-map-range_with_len}
 use Rattle.wave_defs.specs.Held.{block_at, blocks_in}
 use Rattle.wave_defs.proofs.Equations.{blocks_in-is}

@@ -1,9 +1,9 @@
 // Bits that are put into octets, and taken from octets.
 ghost use Rattle.std.specs.Prelude.{◌≡◌, ◌≢◌, ◌<◌, ◌≤◌, true, IfOk, IfSome};
-ghost use Rattle.bit_pipe.specs.Coming.{coming, IsIn};
+ghost use Rattle.bit_pipe.specs.SourceState.{source_state, IsIn};
 ghost use Rattle.bit_pipe.specs.declared.fault.PutFault.TheVariants.{WriteFault};
 ghost use Rattle.bit_pipe.specs.Slices.{slice_sink, filling};
-ghost use Rattle.bit_pipe.specs.Standing.{stand, IsOpen};
+ghost use Rattle.bit_pipe.specs.SinkState.{sink_state, IsOpen};
 
 use crate::bit_words::octets_in;
 use crate::case::{Case, Refusal, number, push};
@@ -32,9 +32,9 @@ fn bits_in(word: &str) -> Result<Bits, Refusal> {
 // Puts bits by the call for their number.
 #[tactic(auto, using(crate::proofs::Open::open_unless, crate::proofs::Open::bound_unless))]
 fn put_bits(out: &mut BitOut<SliceOut>, bits: Bits) -> Result<(), PutFault>
-    requires { IsOpen (stand slice_sink out.old) }
-    ensures is_open { result ≢ Err WriteFault → IsOpen (stand slice_sink out.new) }
-    ensures bound { result ≢ Err WriteFault → (stand slice_sink out.new).bound ≡ (stand slice_sink out.old).bound }
+    requires { IsOpen (sink_state slice_sink out.old) }
+    ensures is_open { result ≢ Err WriteFault → IsOpen (sink_state slice_sink out.new) }
+    ensures bound { result ≢ Err WriteFault → (sink_state slice_sink out.new).bound ≡ (sink_state slice_sink out.old).bound }
 {
     if bits.len == 1 {
         return out.put(bits.value == 1);
@@ -50,9 +50,9 @@ fn put_bits(out: &mut BitOut<SliceOut>, bits: Bits) -> Result<(), PutFault>
 
 // Puts the bits of all words, until they stop at the limit. Returns whether none failed to be written.
 fn put_each(out: &mut BitOut<SliceOut>, words: &[Bits]) -> bool
-    requires { IsOpen (stand slice_sink out.old) }
-    ensures is_open { result ≡ true → IsOpen (stand slice_sink out.new) }
-    ensures bound { result ≡ true → (stand slice_sink out.new).bound ≡ (stand slice_sink out.old).bound }
+    requires { IsOpen (sink_state slice_sink out.old) }
+    ensures is_open { result ≡ true → IsOpen (sink_state slice_sink out.new) }
+    ensures bound { result ≡ true → (sink_state slice_sink out.new).bound ≡ (sink_state slice_sink out.old).bound }
 {
     for place in 0..words.len() {
         match put_bits(out, words[place]) {
@@ -141,8 +141,8 @@ fn item_of(word: &str) -> Result<Item, Refusal> {
 
 #[tactic(auto, using(bit_pipe::proofs::Taking::in_after_bit, bit_pipe::proofs::Taking::in_after_item))]
 fn take_item(input: &mut BitIn<SliceIn>, item: Item) -> Result<Option<u32>, InFault>
-    requires { IsIn (coming input.old) }
-    ensures { IfOk result (λ taken. IfSome taken (λ n. IsIn (coming input.new))) }
+    requires { IsIn (source_state input.old) }
+    ensures { IfOk result (λ taken. IfSome taken (λ n. IsIn (source_state input.new))) }
 {
     match item {
         Item::Bit => match input.take()? {

@@ -1,5 +1,8 @@
 //! Answers cases on the layers of the coder. A line of standard input has a subject with named numbers, a colon and data; it is written
 //! to standard output with the answer after it. A line that is empty or begins with `#` is written as it is.
+//!
+//! Layer: tests and examples, no part of the program. It uses `base_122`, `port_122`, `number_defs`, `wave_defs`, `plane_defs`,
+//! `segment_defs`, `block_masks` and 9 more.
 #![tactic(auto)]
 
 mod bit_words;

@@ -182,7 +182,7 @@ fn put_four<O: OctetOut>(out: &mut O, select: Select) -> Result<u64, PutFault>
 
 // Puts the bits of them that one octet takes.
 #[tactic(auto, using(bit_pipe::proofs::Putting::open_later))]
-fn put_front<O: OctetOut>(out: &mut O, select: Select) -> Result<u64, PutFault>
+fn put_prefix<O: OctetOut>(out: &mut O, select: Select) -> Result<u64, PutFault>
     requires { (O.sink.counts out.old).given ≡ 0 }
 {
     let mut bits = BitOut::new(out, 1, 0);
@@ -200,7 +200,7 @@ pub(crate) fn put_numbers(case: &Case) -> Result<String, Refusal> {
     let select = select_of(case);
     let mut octets = [0; 2];
     let put = if case.has("limit") {
-        put_front(&mut SliceOut::new(&mut octets), select)
+        put_prefix(&mut SliceOut::new(&mut octets), select)
     } else {
         put_four(&mut SliceOut::new(&mut octets), select)
     };

@@ -2,7 +2,7 @@
 ghost use Rattle.std.specs.Prelude.{◌≡◌, ◌≢◌, ◌<◌, ◌≤◌, ◌%◌, ◌^◌, ℕ, pos, ◌∷◌, true, length, min, replicate, slice_index_or, unsigned_abs};
 ghost use Rattle.bit_pipe.specs.declared.fault.PutFault.TheVariants.{WriteFault};
 ghost use Rattle.bit_pipe.specs.Slices.{slice_sink};
-ghost use Rattle.bit_pipe.specs.Standing.{stand, IsOpen};
+ghost use Rattle.bit_pipe.specs.SinkState.{sink_state, IsOpen};
 ghost use Rattle.block_masks.specs.SegmentNumbers.{AreAbove};
 
 use crate::bit_words::{Aligned, aligned_in};
@@ -145,7 +145,7 @@ impl Wish {
 // Ends the text of planes that are whole, or that stop at the limit.
 #[tactic(auto, using(bit_pipe::proofs::Putting::open_after, bit_pipe::proofs::Putting::open_later))]
 fn end_planes(out: BitOut<SliceOut>, put: Result<(), PutFault>) -> Result<u64, PutFault>
-    requires { put ≢ Err WriteFault → IsOpen (stand slice_sink out) }
+    requires { put ≢ Err WriteFault → IsOpen (sink_state slice_sink out) }
 {
     if let Err(PutFault::WriteFault) = put {
         return Err(PutFault::WriteFault);

@@ -1,5 +1,7 @@
 //! This crate has the lifting steps at each place of slices of one length, on lanes. Nothing is refused: the
 //! sums fit by the bounds that the caller guarantees.
+//!
+//! Layer: transform and blocks. It uses `wave_defs`. It is used by `lift_rows` and `wave_tests`.
 #![tactic(auto)]
 
 mod back;

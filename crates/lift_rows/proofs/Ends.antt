@@ -1,5 +1,6 @@
 -- A line whose inner samples a kernel computed, and whose ends are computed one by one.
-use Rattle.std.proofs.Common.{◌≡◌, ◌≢◌, ℕ, ◌+◌, ◌-◌, ◌<◌, ◌≤◌, ℤ, pos, ◌+ℤ◌, ◌-ℤ◌, List, length, set, refl, sym, ap, ◌∙◌, ⊎_elim, subst, arith, get_or-set_other, get_or-set_same, length-set}
+use Rattle.std.proofs.Common.{◌≡◌, ◌≢◌, ℕ, ◌+◌, ◌-◌, ◌<◌, ◌≤◌, ℤ, pos, ◌+ℤ◌, ◌-ℤ◌, List, length, set, refl, sym, ap, ◌∙◌, ⊎_elim, subst, arith}
+use Rattle.std.proofs.Common.{get_or-set_other, get_or-set_same, length-set}
 use Rattle.std.specs.List.{between}
 use borrow.Rule.Slice.PartMut.{put_mid}
 use Rattle.std.proofs.lemmas.Bool.{cases_eq}
@@ -18,7 +19,8 @@ pub predicted_by_parts : (n : ℕ) (o e ys : List ℤ) (a b z : ℤ) → 3 ≤ n
     → a ≡ (signal o 0 -ℤ predicted (signal e 1) (signal e 0) (signal e 1) (signal e 2))
     → b ≡ (signal o (n - 2) -ℤ predicted (signal e (n - 3)) (signal e (n - 2)) (signal e (n - 1)) (signal e (n - 1)))
     → z ≡ (signal o (n - 1) -ℤ predicted (signal e (n - 2)) (signal e (n - 1)) (signal e (n - 1)) (signal e (n - 2)))
-    → Agrees (n - 2 - 1) (signal ys) (less_predicted (signal (between 1 (n - 2) o)) (signal (between 0 (n - 3) e)) (signal (between 1 (n - 2) e)) (signal (between 2 (n - 1) e)) (signal (between 3 n e)))
+    → Agrees (n - 2 - 1) (signal ys) (less_predicted (signal (between 1 (n - 2) o)) (signal (between 0 (n - 3) e)) (signal (between 1 (n - 2) e))
+    (signal (between 2 (n - 1) e)) (signal (between 3 n e)))
     → Agrees n (signal (set (set (set (put_mid 1 (n - 2 - 1) o ys) 0 a) (n - 2) b) (n - 1) z)) (high_half (signal o) (signal e) n)
 unfolding high_half
 predicted_by_parts n o e ys a b z long lo le ly ea eb ez inner =
@@ -40,24 +42,29 @@ predicted_by_parts n o e ys a b z long lo le ly ea eb ez inner =
     let q : even_within n (n - 2 + 1) ≡ n - 1 = omega arith in
     let s : even_within n (n - 2 + 2) ≡ n - 1 = omega arith in
     let ne : n - 2 ≢ n - 1 = omega arith in
-    let t : r (n - 2) ≡ b = get_or-set_other (set (set xs 0 a) (n - 2) b) (n - 1) (n - 2) z (pos 0) ne ∙ get_or-set_same (set xs 0 a) (n - 2) b (pos 0) (omega arith) in
+    let t : r (n - 2) ≡ b = get_or-set_other (set (set xs 0 a) (n - 2) b) (n - 1) (n - 2) z (pos 0) ne ∙ get_or-set_same (set xs 0 a) (n - 2) b (pos 0)
+    (omega arith) in
     let k : r (n - 2) ≡ f (n - 2) = grind (arith, prediction-is, less_predicted-is) in
     subst (λ (i : ℕ). r i ≡ f i) (sym h) k in
     let at_first = λ (j : ℕ) (h : j ≡ 0).
     let p : even_before 0 ≡ 1 = refl in
     let q : even_within n (0 + 1) ≡ 1 = omega arith in
     let s : even_within n (0 + 2) ≡ 2 = omega arith in
-    let t : r 0 ≡ a = get_or-set_other (set (set xs 0 a) (n - 2) b) (n - 1) 0 z (pos 0) (omega arith) ∙ get_or-set_other (set xs 0 a) (n - 2) 0 b (pos 0) (omega arith) ∙ get_or-set_same xs 0 a (pos 0) (omega arith) in
+    let t : r 0 ≡ a = get_or-set_other (set (set xs 0 a) (n - 2) b) (n - 1) 0 z (pos 0) (omega arith) ∙ get_or-set_other (set xs 0 a) (n - 2) 0 b (pos 0)
+    (omega arith) ∙ get_or-set_same xs 0 a (pos 0) (omega arith) in
     let k : r 0 ≡ f 0 = grind (arith, prediction-is, less_predicted-is) in
     subst (λ (i : ℕ). r i ≡ f i) (sym h) k in
     let at_inner = λ (i : ℕ) (h : i < n - 2 - 1).
     let p : even_before (1 + i) ≡ i = omega arith in
     let q : even_within n (1 + i + 1) ≡ 2 + i = omega arith in
     let s : even_within n (1 + i + 2) ≡ 3 + i = omega arith in
-    let t : r (1 + i) ≡ signal ys i = get_or-set_other (set (set xs 0 a) (n - 2) b) (n - 1) (1 + i) z (pos 0) (omega arith) ∙ get_or-set_other (set xs 0 a) (n - 2) (1 + i) b (pos 0) (omega arith) ∙ get_or-set_other xs 0 (1 + i) a (pos 0) (omega arith) ∙ part_at 1 (n - 2 - 1) i o ys (pos 0) (omega arith) (omega arith) in
+    let t : r (1 + i) ≡ signal ys i = get_or-set_other (set (set xs 0 a) (n - 2) b) (n - 1) (1 + i) z (pos 0) (omega arith) ∙ get_or-set_other (set xs 0 a)
+    (n - 2) (1 + i) b (pos 0) (omega arith) ∙ get_or-set_other xs 0 (1 + i) a (pos 0) (omega arith) ∙ part_at 1 (n - 2 - 1) i o ys (pos 0) (omega arith)
+    (omega arith) in
     let g = inner.at i h in
     let go = get_or-between o 1 (n - 2) i (pos 0) (omega arith) in
-    let g0 : signal (between 0 (n - 3) e) i ≡ signal e i = get_or-between e 0 (n - 3) i (pos 0) (omega arith) ∙ ap (signal e) (let u : 0 + i ≡ i = omega arith in u) in
+    let g0 : signal (between 0 (n - 3) e) i ≡ signal e i = get_or-between e 0 (n - 3) i (pos 0) (omega arith) ∙ ap (signal e) (let u : 0 + i ≡ i =
+    omega arith in u) in
     let g1 = get_or-between e 1 (n - 2) i (pos 0) (omega arith) in
     let g2 = get_or-between e 2 (n - 1) i (pos 0) (omega arith) in
     let g3 = get_or-between e 3 n i (pos 0) (omega arith) in
@@ -94,7 +101,8 @@ corrected_by_parts n e d ys a long le ld ly ea inner =
     let t : r (1 + i) ≡ signal ys i = get_or-set_other xs 0 (1 + i) a (pos 0) (omega arith) ∙ part_at 1 (n - 1) i e ys (pos 0) (omega arith) (omega arith) in
     let g = inner.at i h in
     let g0 = get_or-between e 1 n i (pos 0) (omega arith) in
-    let g1 : signal (between 0 (n - 1) d) i ≡ signal d i = get_or-between d 0 (n - 1) i (pos 0) (omega arith) ∙ ap (signal d) (let u : 0 + i ≡ i = omega arith in u) in
+    let g1 : signal (between 0 (n - 1) d) i ≡ signal d i = get_or-between d 0 (n - 1) i (pos 0) (omega arith) ∙ ap (signal d) (let u : 0 + i ≡ i =
+    omega arith in u) in
     let g2 = get_or-between d 1 n i (pos 0) (omega arith) in
     let k : r (1 + i) ≡ f (1 + i) = grind (arith, less_correction-is) in
     k in
@@ -133,21 +141,25 @@ odd_by_parts n o e ys a b z long lo ly ea eb ez inner =
     let q : even_within n (n - 2 + 1) ≡ n - 1 = omega arith in
     let s : even_within n (n - 2 + 2) ≡ n - 1 = omega arith in
     let ne : n - 2 ≢ n - 1 = omega arith in
-    let t : r (n - 2) ≡ b = get_or-set_other (set (set xs 0 a) (n - 2) b) (n - 1) (n - 2) z (pos 0) ne ∙ get_or-set_same (set xs 0 a) (n - 2) b (pos 0) (omega arith) in
+    let t : r (n - 2) ≡ b = get_or-set_other (set (set xs 0 a) (n - 2) b) (n - 1) (n - 2) z (pos 0) ne ∙ get_or-set_same (set xs 0 a) (n - 2) b (pos 0)
+    (omega arith) in
     let k : r (n - 2) ≡ f (n - 2) = grind (arith, prediction-is) in
     subst (λ (i : ℕ). r i ≡ f i) (sym h) k in
     let at_first = λ (j : ℕ) (h : j ≡ 0).
     let p : even_before 0 ≡ 1 = refl in
     let q : even_within n (0 + 1) ≡ 1 = omega arith in
     let s : even_within n (0 + 2) ≡ 2 = omega arith in
-    let t : r 0 ≡ a = get_or-set_other (set (set xs 0 a) (n - 2) b) (n - 1) 0 z (pos 0) (omega arith) ∙ get_or-set_other (set xs 0 a) (n - 2) 0 b (pos 0) (omega arith) ∙ get_or-set_same xs 0 a (pos 0) (omega arith) in
+    let t : r 0 ≡ a = get_or-set_other (set (set xs 0 a) (n - 2) b) (n - 1) 0 z (pos 0) (omega arith) ∙ get_or-set_other (set xs 0 a) (n - 2) 0 b (pos 0)
+    (omega arith) ∙ get_or-set_same xs 0 a (pos 0) (omega arith) in
     let k : r 0 ≡ f 0 = grind (arith, prediction-is) in
     subst (λ (i : ℕ). r i ≡ f i) (sym h) k in
     let at_inner = λ (i : ℕ) (h : i < n - 2 - 1).
     let p : even_before (1 + i) ≡ i = omega arith in
     let q : even_within n (1 + i + 1) ≡ 2 + i = omega arith in
     let s : even_within n (1 + i + 2) ≡ 3 + i = omega arith in
-    let t : r (1 + i) ≡ signal ys i = get_or-set_other (set (set xs 0 a) (n - 2) b) (n - 1) (1 + i) z (pos 0) (omega arith) ∙ get_or-set_other (set xs 0 a) (n - 2) (1 + i) b (pos 0) (omega arith) ∙ get_or-set_other xs 0 (1 + i) a (pos 0) (omega arith) ∙ part_at 1 (n - 2 - 1) i o ys (pos 0) (omega arith) (omega arith) in
+    let t : r (1 + i) ≡ signal ys i = get_or-set_other (set (set xs 0 a) (n - 2) b) (n - 1) (1 + i) z (pos 0) (omega arith) ∙ get_or-set_other (set xs 0 a)
+    (n - 2) (1 + i) b (pos 0) (omega arith) ∙ get_or-set_other xs 0 (1 + i) a (pos 0) (omega arith) ∙ part_at 1 (n - 2 - 1) i o ys (pos 0) (omega arith)
+    (omega arith) in
     let g = inner.at i h in
     let go = get_or-between o 1 (n - 2) i (pos 0) (omega arith) in
     let k : r (1 + i) ≡ f (1 + i) = grind (arith, prediction-is) in
@@ -182,7 +194,8 @@ even_by_parts n e d ys a long le ld ly ea inner =
     let t : r (1 + i) ≡ signal ys i = get_or-set_other xs 0 (1 + i) a (pos 0) (omega arith) ∙ part_at 1 (n - 1) i e ys (pos 0) (omega arith) (omega arith) in
     let g = inner.at i h in
     let g0 = get_or-between e 1 n i (pos 0) (omega arith) in
-    let g1 : signal (between 0 (n - 1) d) i ≡ signal d i = get_or-between d 0 (n - 1) i (pos 0) (omega arith) ∙ ap (signal d) (let u : 0 + i ≡ i = omega arith in u) in
+    let g1 : signal (between 0 (n - 1) d) i ≡ signal d i = get_or-between d 0 (n - 1) i (pos 0) (omega arith) ∙ ap (signal d) (let u : 0 + i ≡ i =
+    omega arith in u) in
     let g2 = get_or-between d 1 n i (pos 0) (omega arith) in
     let k : r (1 + i) ≡ f (1 + i) = grind (arith, even_of-is, plus_correction-is) in
     k in

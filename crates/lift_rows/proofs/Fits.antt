@@ -38,7 +38,8 @@ corrected-fits e b a we wb wa =
     record { above = omega (arith, ints); below = omega (arith, ints) }
 
 -- the even samples of an inner part are parts of all even samples
-pub inner-same : (n k : ℕ) (o : ℕ → ℤ) (e : List ℤ) → k < n → plus_predicted o (signal (between 0 n e)) (signal (between 1 (n + 1) e)) (signal (between 2 (n + 2) e)) (signal (between 3 (n + 3) e)) k ≡ inner_half o (signal e) k
+pub inner-same : (n k : ℕ) (o : ℕ → ℤ) (e : List ℤ) → k < n → plus_predicted o (signal (between 0 n e)) (signal (between 1 (n + 1) e))
+    (signal (between 2 (n + 2) e)) (signal (between 3 (n + 3) e)) k ≡ inner_half o (signal e) k
 unfolding inner_half
 inner-same n k o e h =
     rw plus_predicted-is (

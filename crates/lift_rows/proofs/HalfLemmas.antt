@@ -29,7 +29,8 @@ odds-within n m k x o em ek w a = record {
 }
 
 -- k, b and m are the lengths of the slices, all of them n
-pub high_half-is : (n k b m : ℕ) (x o e h : ℕ → ℤ) → 2 ≤ n → k ≡ n → b ≡ n → m ≡ n → Agrees k e (evens x) → Agrees k o (odds x) → Agrees b h (high_half o e b) → Agrees m h (high_of x m)
+pub high_half-is : (n k b m : ℕ) (x o e h : ℕ → ℤ) → 2 ≤ n → k ≡ n → b ≡ n → m ≡ n → Agrees k e (evens x) → Agrees k o (odds x) →
+    Agrees b h (high_half o e b) → Agrees m h (high_of x m)
 unfolding evens odds high_half
 high_half-is n k b m x o e h two ek eb em ae ao ah = record {
   at = λ j l.
@@ -48,6 +49,7 @@ high-within n m k x h two em ek w a = record {
       record { above = omega (arith, ints); below = omega (arith, ints) };
 }
 
-pub low_half-is : (n k b m : ℕ) (x e d l : ℕ → ℤ) → k ≡ n → b ≡ n → m ≡ n → Agrees k e (evens x) → Agrees n d (high_of x n) → Agrees b l (low_half e d) → Agrees m l (low_of x m)
+pub low_half-is : (n k b m : ℕ) (x e d l : ℕ → ℤ) → k ≡ n → b ≡ n → m ≡ n → Agrees k e (evens x) → Agrees n d (high_of x n) → Agrees b l (low_half e d) →
+    Agrees m l (low_of x m)
 unfolding evens low_half
 low_half-is n k b m x e d l ek eb em ae ad al = grind (arith, nat_tests, low_of-is)

@@ -13,6 +13,6 @@ pub record AreHalves (low high row : List ℤ) : Type 0 where
   pub high_bounded : AllWithin (2 ^ 38) (length low) (signal high)
 
 -- the first `evens` even and the first `odds` odd samples of the line are in the row
-pub record Stands (evens odds : ℕ) (low high row : List ℤ) : Type 0 where
+pub record IsValid (evens odds : ℕ) (low high row : List ℤ) : Type 0 where
   pub even : Agrees evens (λ k. signal row (2 * k)) (even_of (signal low) (signal high))
   pub odd : Agrees odds (λ k. signal row (2 * k + 1)) (odd_of (signal low) (signal high) (length low))

@@ -3,7 +3,7 @@
 ghost use Rattle.std.specs.Prelude.{◌≡◌, ℕ, ◌+◌, ◌-◌, ◌^◌, ◌<◌, length};
 ghost use Rattle.wave_defs.specs.Within.{AllWithin};
 ghost use Rattle.wave_defs.specs.Held.{signal};
-ghost use Rattle.lift_rows.specs.Back.{AreHalves, Stands};
+ghost use Rattle.lift_rows.specs.Back.{AreHalves, IsValid};
 
 use crate::{mirrored_after, mirrored_before};
 use lift_lanes::{even_sample, odd_sample};
@@ -14,8 +14,8 @@ pub fn put_even_widened(low: &[i32], high: &[i32], row: &mut [i64], j: usize)
     requires low_bounded { AllWithin (2 ^ 31 - 1) (length low.now) (signal low.now) }
     requires high_bounded { AllWithin (2 ^ 31 - 1) (length low.now) (signal high.now) }
     requires inside { j < length low.now }
-    requires stands { Stands j 0 low.now high.now row.old }
-    ensures { Stands (j + 1) 0 low.now high.now row.new }
+    requires valid { IsValid j 0 low.now high.now row.old }
+    ensures { IsValid (j + 1) 0 low.now high.now row.new }
 {
     row[2 * j] = even_sample(
         i64::from(low[j]),
@@ -30,8 +30,8 @@ pub fn put_odd_widened(low: &[i32], high: &[i32], row: &mut [i64], j: usize)
     requires low_bounded { AllWithin (2 ^ 31 - 1) (length low.now) (signal low.now) }
     requires high_bounded { AllWithin (2 ^ 31 - 1) (length low.now) (signal high.now) }
     requires inside { j < length low.now }
-    requires stands { Stands (length low.now) j low.now high.now row.old }
-    ensures { Stands (length low.now) (j + 1) low.now high.now row.new }
+    requires valid { IsValid (length low.now) j low.now high.now row.old }
+    ensures { IsValid (length low.now) (j + 1) low.now high.now row.new }
 {
     let n = low.len();
     let before = row[2 * mirrored_before(j)];

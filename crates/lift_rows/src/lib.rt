@@ -1,5 +1,8 @@
 //! This crate has one line of the wavelet transform, forward in i32 and its inverse in i32 and in i64, and the lifting
 //! of whole rows.
+//!
+//! Layer: transform and blocks. It uses `wave_defs` and `lift_lanes`. It is used by `wave_strip`, `inverse_strip`, `wave_plain` and
+//! `wave_tests`.
 #![tactic(auto)]
 
 ghost use Rattle.std.specs.Prelude.{◌≡◌, ℕ, ◌+◌, ◌*◌, ◌-◌, ◌^◌, ◌<◌, ◌≤◌, length};

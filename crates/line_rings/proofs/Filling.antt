@@ -7,7 +7,8 @@ use Rattle.circular_buffer.specs.Buffer.{keep_last}
 pub length-filled : {X Y : Type 0} (f : X → Y) (n : ℕ) (xs : List X) (y : Y) → map f xs ≡ replicate n y → length xs ≡ n
 length-filled f n xs y e = sym (length-map xs f) ∙ ap length e ∙ length-replicate n y
 
-pub map-keep_last : {X Y : Type 0} (f : X → Y) (n k : ℕ) (xs : List X) (x : X) (y : Y) → map f xs ≡ replicate n y → f x ≡ y → n < k → map f (keep_last k (xs ++ x ∷ [])) ≡ replicate (n + 1) y
+pub map-keep_last : {X Y : Type 0} (f : X → Y) (n k : ℕ) (xs : List X) (x : X) (y : Y) → map f xs ≡ replicate n y → f x ≡ y → n < k →
+    map f (keep_last k (xs ++ x ∷ [])) ≡ replicate (n + 1) y
 map-keep_last {Y = Y} f n k xs x y e ex h =
     let long = length-filled f n xs y e in
     let none : length (xs ++ x ∷ []) - k ≡ 0 = omega (arith, length_push xs x) in

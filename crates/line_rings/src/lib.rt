@@ -1,4 +1,6 @@
 //! This crate has rings of rows of one width, and tables of rows that are exchanged for those of a ring.
+//!
+//! Layer: transform and blocks. It is used by `wave_strip`, `inverse_strip` and `wave_tests`.
 #![tactic(auto)]
 
 ghost use Rattle.std.specs.Prelude.{◌≡◌, ℕ, ◌+◌, ◌<◌, ◌≤◌, length, List, [], ◌∷◌, ◌++◌, map, drop, slice_index_or, slice_set, vec_len, IfOk, replicate, ℤ, pos};

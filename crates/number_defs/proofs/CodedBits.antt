@@ -1,5 +1,6 @@
 -- The bits that a choice counts are those of the items.
-use Rattle.std.proofs.Common.{◌≡◌, ℕ, ◌+◌, ◌*◌, ◌-◌, ◌/◌, ◌^◌, ◌<◌, ◌≤◌, List, [], ◌∷◌, ◌++◌, length, map, true, false, eqb, cond, refl, sym, ap, ◌∙◌, arith, length-append, sum_by, IsTrue}
+use Rattle.std.proofs.Common.{◌≡◌, ℕ, ◌+◌, ◌*◌, ◌-◌, ◌/◌, ◌^◌, ◌<◌, ◌≤◌, List, [], ◌∷◌, ◌++◌, length, map, true, false, eqb, cond, refl, sym, ap, ◌∙◌}
+use Rattle.std.proofs.Common.{arith, length-append, sum_by, IsTrue}
 use Rattle.std.proofs.lemmas.Bool.Decides.{nat_tests}
 use Rattle.std.proofs.lemmas.Nat.{shr_below}
 use Rattle.std.proofs.lemmas.List.Sums.{sum_by-cons}
@@ -46,7 +47,8 @@ module _ (kind : Kind) (heights : List ℕ) (fits : (i : ℕ) → value_at kind.
       each_length (uncoded_value kind heights) (value_at kind.bits heights) (λ v. kind.bits) (λ i. length-bits_of kind.bits (value_at kind.bits heights i)) at
       ∙ sum_alike kind.bits (map (value_at kind.bits heights) at)
 
-  unary_length : (k : ℕ) → k ≤ kind.bits → length (text (map (unary_part kind heights k) at)) ≡ sum_by (λ v. v / 2 ^ k + 1) (map (value_at kind.bits heights) at)
+  unary_length : (k : ℕ) → k ≤ kind.bits → length (text (map (unary_part kind heights k) at)) ≡ sum_by (λ v. v / 2 ^ k + 1)
+      (map (value_at kind.bits heights) at)
   unary_length k le = grind (arith, nat_tests, each_length, zeros_length, high_small)
 
   rests_length : (k : ℕ) → length (text (cond (eqb k 0) [] (map (rest_part kind heights k) at))) ≡ sum_by (λ v. k) (map (value_at kind.bits heights) at)

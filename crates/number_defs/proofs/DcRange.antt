@@ -25,7 +25,8 @@ dc_in_range d q (negsuc a) low h =
     let below = shifted_below d q a low lt in
     record { low = omega (arith, ints, below); high = omega (arith, ints, left) }
 
-pub dc_fits : (depth_dc depth_ac shift : ℕ) (z : ℤ) → 1 ≤ depth_dc → IsInRange true depth_dc z → IsInRange true (dc_bits depth_dc depth_ac shift) (int_shr z (dc_q depth_dc depth_ac shift))
+pub dc_fits : (depth_dc depth_ac shift : ℕ) (z : ℤ) → 1 ≤ depth_dc → IsInRange true depth_dc z →
+    IsInRange true (dc_bits depth_dc depth_ac shift) (int_shr z (dc_q depth_dc depth_ac shift))
 dc_fits depth_dc depth_ac shift z low h = dc_in_range depth_dc (dc_q depth_dc depth_ac shift) z low h
 
 -- the DCs of blocks of 64 numbers

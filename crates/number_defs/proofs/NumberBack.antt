@@ -1,5 +1,6 @@
 -- What is read of numbers by differences is what they write.
-use Rattle.std.proofs.Common.{zero, drop, ◌≡◌, ℕ, suc, ◌+◌, ◌-◌, ◌*◌, ◌/◌, ◌%◌, ◌<◌, ◌≤◌, ◌^◌, ◌==◌, ◌||◌, min, Bool, true, false, if◌then◌else◌, List, [], ◌∷◌, ◌++◌, length, take, get_or, refl, ap, sym, ◌∙◌, subst, arith, length-append, pow_pos}
+use Rattle.std.proofs.Common.{zero, drop, ◌≡◌, ℕ, suc, ◌+◌, ◌-◌, ◌*◌, ◌/◌, ◌%◌, ◌<◌, ◌≤◌, ◌^◌, ◌==◌, ◌||◌, min, Bool, true, false, if◌then◌else◌, List, []}
+use Rattle.std.proofs.Common.{◌∷◌, ◌++◌, length, take, get_or, refl, ap, sym, ◌∙◌, subst, arith, length-append, pow_pos}
 use Rattle.std.proofs.Math.Seq.{take-append_seam}
 use Rattle.std.proofs.lemmas.Bool.Decides.{nat_tests}
 use Rattle.std.proofs.lemmas.List.{length-take-le}
@@ -8,7 +9,8 @@ use Rattle.std.proofs.lemmas.Grind.{same_number_lists}
 use Rattle.item_defs.specs.Items.{Form, Item, IsSaid}
 use Rattle.number_defs.specs.Ranges.{negatives}
 use Rattle.number_defs.specs.Mapping.{unmapped, mapped}
-use Rattle.number_defs.specs.Gaggles.{Kind, uncoded_form, unary_form, rest_form, reference_form, uncoded, is_option, first_place, gaggle_count, gaggle_items, items_before, number_items}
+use Rattle.number_defs.specs.Gaggles.{Kind, uncoded_form, unary_form, rest_form, reference_form, uncoded, is_option, first_place, gaggle_count}
+use Rattle.number_defs.specs.Gaggles.{gaggle_items, items_before, number_items}
 use Rattle.number_defs.proofs.Equations.{gaggle_items-is, items_before-none, items_before-more}
 use Rattle.number_defs.proofs.MappingLaws.{unmapped_back}
 use Rattle.number_defs.proofs.Heights.{complement_is, complement_back}
@@ -18,8 +20,10 @@ use Rattle.item_defs.specs.Completing.{ArePossible, Goes}
 use Rattle.item_defs.proofs.ScriptLaws.{turns_split, then_done}
 use Rattle.item_defs.proofs.FollowLaws.{asked, asked_first, follows_split}
 use Rattle.item_defs.proofs.Completing.{goes_end, possible_parts}
-use Rattle.number_defs.specs.NumberScript.{option_form, zeros_form, zeros_script, value_form, last_of, number_script, differences_script, lead_script, gaggle_script, numbers_script}
-use Rattle.number_defs.proofs.NumberGoes.{differences_go, Few, Grew, AreZeros, ZerosIf, value_said, number_goes, turns_go, zeros_go, lead_goes, leads, gaggles_part, size, gaggle_goes, not_option, few_grew, few_none, long_grew}
+use Rattle.number_defs.specs.NumberScript.{option_form, zeros_form, zeros_script, value_form, last_of, number_script, differences_script, lead_script}
+use Rattle.number_defs.specs.NumberScript.{gaggle_script, numbers_script}
+use Rattle.number_defs.proofs.NumberGoes.{differences_go, Few, Grew, AreZeros, ZerosIf, value_said, number_goes, turns_go, zeros_go, lead_goes, leads}
+use Rattle.number_defs.proofs.NumberGoes.{gaggles_part, size, gaggle_goes, not_option, few_grew, few_none, long_grew}
 use Rattle.number_defs.proofs.NumberWritten.{gaggle_written, gaggle_possible}
 
 -- a list of this length begins in one way

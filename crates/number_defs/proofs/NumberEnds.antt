@@ -1,5 +1,6 @@
 -- Numbers that are not refused are not too great.
-use Rattle.std.proofs.Common.{zero, ◌≡◌, ℕ, suc, ◌+◌, ◌-◌, ◌*◌, ◌<◌, ◌^◌, ◌==◌, ◌||◌, min, Bool, true, false, if◌then◌else◌, List, [], ◌∷◌, ◌++◌, length, get_or, refl, ap, ◌∙◌, arith, Option, Some, None}
+use Rattle.std.proofs.Common.{zero, ◌≡◌, ℕ, suc, ◌+◌, ◌-◌, ◌*◌, ◌<◌, ◌^◌, ◌==◌, ◌||◌, min, Bool, true, false, if◌then◌else◌, List, [], ◌∷◌, ◌++◌, length}
+use Rattle.std.proofs.Common.{get_or, refl, ap, ◌∙◌, arith, Option, Some, None}
 use Rattle.item_defs.specs.Items.{Refusal, bad_delta, bad_depth}
 use Rattle.number_defs.specs.Mapping.{unmapped}
 use Rattle.number_defs.specs.Gaggles.{Kind, uncoded, first_place, gaggle_count, uncoded_form, unary_form, rest_form}

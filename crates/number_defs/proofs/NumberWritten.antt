@@ -1,5 +1,6 @@
 -- What is written of numbers by differences follows their script.
-use Rattle.std.proofs.Common.{zero, ℤ, mod-lt, ◌≡◌, ℕ, suc, ◌+◌, ◌-◌, ◌*◌, ◌/◌, ◌%◌, ◌<◌, ◌≤◌, ◌^◌, ◌==◌, ◌||◌, min, Bool, true, false, if◌then◌else◌, List, [], ◌∷◌, ◌++◌, length, take, get_or, map, refl, ap, sym, ◌∙◌, subst, arith, append-nil, append_assoc, pow_pos, Some, None}
+use Rattle.std.proofs.Common.{zero, ℤ, mod-lt, ◌≡◌, ℕ, suc, ◌+◌, ◌-◌, ◌*◌, ◌/◌, ◌%◌, ◌<◌, ◌≤◌, ◌^◌, ◌==◌, ◌||◌, min, Bool, true, false, if◌then◌else◌, List}
+use Rattle.std.proofs.Common.{[], ◌∷◌, ◌++◌, length, take, get_or, map, refl, ap, sym, ◌∙◌, subst, arith, append-nil, append_assoc, pow_pos, Some, None}
 use Rattle.std.specs.List.{range_with_len}
 use Rattle.std.proofs.Math.Seq.{take-suc}
 use Rattle.std.proofs.lemmas.Bool.Decides.{nat_tests}
@@ -10,7 +11,9 @@ use Rattle.item_defs.specs.Items.{Item, bad_delta, bad_depth, zeros_to}
 use Rattle.number_defs.specs.Ranges.{number_at}
 use Rattle.item_defs.specs.TwosComplement.{complement}
 use Rattle.number_defs.specs.Mapping.{unmapped}
-use Rattle.number_defs.specs.Gaggles.{Kind, identifier_bits, uncoded, is_option, first_place, places, gaggle_count, number_before, value_at, unary_form, uncoded_form, rest_form, depth_refusal, uncoded_value, unary_part, rest_part, value_items, lead_items, gaggle_items, items_before, number_items}
+use Rattle.number_defs.specs.Gaggles.{Kind, identifier_bits, uncoded, is_option, first_place, places, gaggle_count, number_before, value_at, unary_form}
+use Rattle.number_defs.specs.Gaggles.{uncoded_form, rest_form, depth_refusal, uncoded_value, unary_part, rest_part, value_items, lead_items, gaggle_items}
+use Rattle.number_defs.specs.Gaggles.{items_before, number_items}
 use Rattle.number_defs.proofs.CodedBits.{high_small}
 use Rattle.number_defs.proofs.Equations.{value_items-is, gaggle_items-is, items_before-none, items_before-more}
 use Rattle.number_defs.proofs.MappingLaws.{mapped_below, mapped_back}
@@ -21,7 +24,8 @@ use Rattle.item_defs.specs.Completing.{IsPossible, IsPossibleItem, ArePossible}
 use Rattle.item_defs.proofs.Completing.{both_possible}
 use Rattle.item_defs.proofs.ScriptLaws.{turns_split}
 use Rattle.item_defs.proofs.FollowLaws.{follows_then}
-use Rattle.number_defs.specs.NumberScript.{zeros_form, zeros_script, value_form, last_of, number_script, differences_script, lead_script, gaggle_script, numbers_script}
+use Rattle.number_defs.specs.NumberScript.{zeros_form, zeros_script, value_form, last_of, number_script, differences_script, lead_script, gaggle_script}
+use Rattle.number_defs.specs.NumberScript.{numbers_script}
 use Rattle.number_defs.proofs.NumberGoes.{Few, depth_possible, below_limit, none_option, k_below}
 
 -- with a rest, the number before does not matter to the form of a unary part

@@ -20,7 +20,8 @@ not_all_of_range p a (suc n) j le lt e =
       | false ↦ λ q. refl
     ] refl
 
-pub first_of_range : (p : ℕ → Bool) (a n j : ℕ) → a ≤ j → j < a + n → p j ≡ true → ((i : ℕ) → a ≤ i → i < j → p i ≡ false) → find p (range_with_len a n) ≡ Some j
+pub first_of_range : (p : ℕ → Bool) (a n j : ℕ) → a ≤ j → j < a + n → p j ≡ true → ((i : ℕ) → a ≤ i → i < j → p i ≡ false) →
+    find p (range_with_len a n) ≡ Some j
 first_of_range p a zero j le lt e h = absurd (omega arith)
 first_of_range p a (suc n) j le lt e h =
     elim (eqb a j) as (λ t. eqb a j ≡ t → find p (range_with_len a (suc n)) ≡ Some j) [

@@ -10,8 +10,10 @@ use Rattle.number_defs.proofs.Heights.{height_below}
 pub few_anywhere : (N : ℕ) (xs : List ℕ) → AreFew N xs → (i : ℕ) → get_or xs i 0 < 2 ^ N
 few_anywhere N xs few i = grind (arith, nat_tests, get_or_past, pow_pos)
 
-pub heights_few : (N q : ℕ) (dcs : List ℤ) → ((i : ℕ) → i < length dcs → IsInRange true N (int_shr (get_or dcs i (pos 0)) q)) → AreFew N (map (shifted_height true N q) dcs)
+pub heights_few : (N q : ℕ) (dcs : List ℤ) → ((i : ℕ) → i < length dcs → IsInRange true N (int_shr (get_or dcs i (pos 0)) q)) →
+    AreFew N (map (shifted_height true N q) dcs)
 heights_few N q dcs fit i lt =
     let within : i < length dcs = omega (arith, length-map dcs (shifted_height true N q)) in
-    let e : get_or (map (shifted_height true N q) dcs) i 0 ≡ shifted_height true N q (get_or dcs i (pos 0)) = get_or-map (shifted_height true N q) dcs i (pos 0) 0 within in
+    let e : get_or (map (shifted_height true N q) dcs) i 0 ≡ shifted_height true N q (get_or dcs i (pos 0)) =
+    get_or-map (shifted_height true N q) dcs i (pos 0) 0 within in
     rw e (height_below true N (int_shr (get_or dcs i (pos 0)) q) (fit i within))

@@ -17,7 +17,8 @@ last-more o (y ∷ ys) x = last-more (Some y) ys x
 
 module _ (count total : ℕ) where
   -- the options that suit, up to one more
-  more_suiting : (k : ℕ) → filter (suits count total) (range_with_len 0 (suc k + 1)) ≡ filter (suits count total) (range_with_len 0 (k + 1)) ++ filter (suits count total) ((suc k) ∷ [])
+  more_suiting : (k : ℕ) → filter (suits count total) (range_with_len 0 (suc k + 1)) ≡ filter (suits count total) (range_with_len 0 (k + 1))
+      ++ filter (suits count total) ((suc k) ∷ [])
   more_suiting k =
       let n : suc k + 1 ≡ suc (suc k) = omega arith in
       let m : suc k ≡ k + 1 = omega arith in

@@ -1,6 +1,7 @@
 -- The option that a writer chooses for a gaggle of mapped values of N bits. (The thresholds of the heuristic
 -- choice and the ties of the optimal one are this project's own.)
-use Rattle.std.specs.Prelude.{ℕ, ◌+◌, ◌-◌, ◌*◌, ◌/◌, ◌^◌, ◌==◌, List, ◌∷◌, None, length, sum, sum_by, filter, find, unwrap_or, Bool, if◌then◌else◌, nat_le, nat_lt}
+use Rattle.std.specs.Prelude.{ℕ, ◌+◌, ◌-◌, ◌*◌, ◌/◌, ◌^◌, ◌==◌, List, ◌∷◌, None, length, sum, sum_by, filter, find, unwrap_or, Bool, if◌then◌else◌, nat_le}
+use Rattle.std.specs.Prelude.{nat_lt}
 use Rattle.std.specs.List.{range_with_len, list_all, last_or}
 use Rattle.number_defs.specs.Gaggles.{uncoded, gaggle_values}
 

@@ -1,6 +1,7 @@
 -- Numbers by differences, gaggle by gaggle: each item is given by the place of its number.
 -- (CCSDS 122.0-B-2, section 4.3.2; the greatest k and the test of what is refused are this project's own.)
-use Rattle.std.specs.Prelude.{ℕ, zero, suc, ◌+◌, ◌-◌, ◌*◌, ◌/◌, ◌%◌, ◌^◌, ◌==◌, ◌||◌, min, max, List, [], ◌∷◌, ◌++◌, length, map, slice_index, Bool, if◌then◌else◌, nat_le, Option, Some, None}
+use Rattle.std.specs.Prelude.{ℕ, zero, suc, ◌+◌, ◌-◌, ◌*◌, ◌/◌, ◌%◌, ◌^◌, ◌==◌, ◌||◌, min, max, List, [], ◌∷◌, ◌++◌, length, map, slice_index, Bool}
+use Rattle.std.specs.Prelude.{if◌then◌else◌, nat_le, Option, Some, None}
 use Rattle.std.specs.List.{range_with_len}
 use Rattle.item_defs.specs.Items.{Item, Form, Refusal, bad_delta, bad_depth, fixed, zeros_to, identifier, refused_where}
 use Rattle.number_defs.specs.Ranges.{negatives, number_at}

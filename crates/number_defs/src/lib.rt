@@ -1,6 +1,9 @@
 //! This crate defines numbers by differences, the DC part and the block depths of a segment's text: how they
 //! are written, how they are read, as scripts, and their laws (docs/formats.md, "Numbers by differences" and "DC part and block
 //! depths").
+//!
+//! Layer: definitions and their laws, no code. It uses `item_defs`. It is used by `segment_defs`, `gaggle_codes`, `dc_depths`,
+//! `segment_code`, `segment_walk`, `encoder_rows`, `bare_stream` and `layer_tests`.
 #![tactic(auto)]
 
 mod scripts;

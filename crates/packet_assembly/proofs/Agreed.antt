@@ -1,5 +1,6 @@
 -- What a segment header that agrees reports of its segment and of the image.
-use Rattle.std.proofs.Common.{◌≡◌, ◌⊎◌, ◌≤◌, ◌<◌, ◌+◌, ◌-◌, ◌*◌, ◌/◌, ◌%◌, ℕ, List, [], ◌∷◌, refl, ap, ◌∙◌, arith, Bool, true, false, ◌==◌, ◌&&◌, nat_le, nat_lt, min, if◌then◌else◌, bytes_eq, None}
+use Rattle.std.proofs.Common.{◌≡◌, ◌⊎◌, ◌≤◌, ◌<◌, ◌+◌, ◌-◌, ◌*◌, ◌/◌, ◌%◌, ℕ, List, [], ◌∷◌, refl, ap, ◌∙◌, arith, Bool, true, false, ◌==◌, ◌&&◌, nat_le}
+use Rattle.std.proofs.Common.{nat_lt, min, if◌then◌else◌, bytes_eq, None}
 use Rattle.std.proofs.lemmas.Bool.{false≢true, and_parts, leb-true, not-false, ltb-true, eqb-true}
 use Rattle.std.proofs.lemmas.Bool.Decides.{nat_tests}
 use Rattle.base_122.specs.Sizes.{block_count}
@@ -10,7 +11,8 @@ use Rattle.segment_defs.specs.declared.head.SegmentHead.{SegmentHead}
 use Rattle.segment_defs.specs.declared.fault.HeadFault.{HeadFault}
 use Rattle.packet_defs.specs.declared.ancillary.Ancillary.{Ancillary}
 use Rattle.packet_defs.specs.Tests.{when, first_of}
-use Rattle.stream_defs.specs.Agreement.{geometry_past, blocks_of, same_flag, is_of_image, has_blocks, may_have_blocks, ends_where_told, may_end, told_height, disagreement}
+use Rattle.stream_defs.specs.Agreement.{geometry_past, blocks_of, same_flag, is_of_image, has_blocks, may_have_blocks, ends_where_reported, may_end}
+use Rattle.stream_defs.specs.Agreement.{reported_height, disagreement}
 use Rattle.stream_defs.specs.Begun.{placed}
 use Rattle.packet_assembly.proofs.Ranges.{within_from}
 use Rattle.stream_defs.proofs.PlacedLaws.{blocks_open, blocks_known, within_not}
@@ -32,8 +34,8 @@ six_pass a b c d e f v w x y z u h = grind (arith, nat_tests)
 
 -- the tests on blocks, on the end and on the image
 record Passes (g : Geometry) (a : Ancillary) (head : SegmentHead) : Type 0 where
-  blocks : (if a.told_last then may_have_blocks g head else has_blocks g a head) ≡ true
-  ends : (if a.told_last then may_end g a head else ends_where_told g a head) ≡ true
+  blocks : (if a.reported_last then may_have_blocks g head else has_blocks g a head) ≡ true
+  ends : (if a.reported_last then may_end g a head else ends_where_reported g a head) ≡ true
   width : head.image.width ≡ g.width
   shifts : head.image.weights.shifts ≡ g.weights.shifts
 
@@ -58,17 +60,17 @@ passes g a head e =
 pub record Agrees (g : Geometry) (a : Ancillary) (head : SegmentHead) (past : Geometry) : Type 0 where
   pub same : past ≡ record g { rows = past.rows }
   pub height : (past.rows ≡ 0) ⊎ IsWithin rows_range past.rows
-  pub told : a.told_last ≡ false → past ≡ g
+  pub if_known : a.reported_last ≡ false → past ≡ g
   pub wide : 17 ≤ g.width
   pub first : a.first < blocks_of (placed past)
   pub blocks : head.blocks ≡ min g.segment (blocks_of (placed past) - a.first)
   pub shifts : head.image.weights.shifts ≡ g.weights.shifts
   pub room : past.rows ≡ 0 → a.first + g.segment < 32768 * block_count g.width
-  pub shut : a.told_last ≡ true → (past.rows ≡ 0 → ⊥) → blocks_of past ≡ a.first + head.blocks
+  pub shut : a.reported_last ≡ true → (past.rows ≡ 0 → ⊥) → blocks_of past ≡ a.first + head.blocks
 
 -- before it the height is known from the packets, or isn't known since it is reported last
 abbrev pub IsBefore : Geometry → Ancillary → Type 0
-IsBefore g a = ((a.told_last ≡ true) × (g.rows ≡ 0)) ⊎ ((a.told_last ≡ false) × IsWithin rows_range g.rows)
+IsBefore g a = ((a.reported_last ≡ true) × (g.rows ≡ 0)) ⊎ ((a.reported_last ≡ false) × IsWithin rows_range g.rows)
 
 -- the height that a last header reports has the block rows that it ends
 ends_rows : (columns ended pads : ℕ) → 0 < columns → pads < 8 → ended % columns ≡ 0 → 17 ≤ 8 * (ended / columns) - pads →
@@ -83,19 +85,35 @@ module _ (g : Geometry) (a : Ancillary) (head : SegmentHead) (is : IsHead head) 
   some_columns = let w = wide_there in omega (arith, w)
 
   -- of a height that the packets have
-  told_each : a.told_last ≡ false → IsWithin rows_range g.rows → Agrees g a head g
-  told_each told within = grind (arith, nat_tests, within_not, and_parts, nat_lt, blocks_known, wide_there, ltb-true, eqb-true, false≢true)
+  known_each : a.reported_last ≡ false → IsWithin rows_range g.rows → Agrees g a head g
+  known_each if_known within = grind (arith, nat_tests, within_not, and_parts, nat_lt, blocks_known, wide_there, ltb-true, eqb-true, false≢true)
 
   -- of one that is reported last, by a header that isn't the last
-  told_later : a.told_last ≡ true → g.rows ≡ 0 → head.last ≡ false → Agrees g a head g
-  told_later told untold last = grind (arith, nat_tests, nat_lt, eqb-true, ltb-true, blocks_open, false≢true, wide_there)
+  known_later : a.reported_last ≡ true → g.rows ≡ 0 → head.last ≡ false → Agrees g a head g
+  known_later if_known unknown last = grind (arith, nat_tests, nat_lt, eqb-true, ltb-true, blocks_open, false≢true, wide_there)
 
   -- and by the last
-  told_here : a.told_last ≡ true → head.last ≡ true → Agrees g a head (record g { rows = told_height g a head })
-  told_here told last = grind (arith, nat_tests, nat_le, and_parts, leb-true, eqb-true, within_from, within_not, ends_rows, some_columns, blocks_known, false≢true, wide_there)
+  known_here : a.reported_last ≡ true → head.last ≡ true → Agrees g a head (record g { rows = reported_height g a head })
+  known_here if_known last = grind (
+    arith,
+    nat_tests,
+    nat_le,
+    and_parts,
+    leb-true,
+    eqb-true,
+    within_from,
+    within_not,
+    ends_rows,
+    some_columns,
+    blocks_known,
+    false≢true,
+    wide_there,
+  )
 
-  agrees_by : (told last : Bool) → a.told_last ≡ told → head.last ≡ last → IsBefore g a → Agrees g a head (if told && last then record g { rows = told_height g a head } else g)
-  agrees_by given last told is_last before = grind (arith, nat_tests, told_here, told_later, false≢true, told_each)
+  agrees_by : (if_known last : Bool) → a.reported_last ≡ if_known → head.last ≡ last → IsBefore g a →
+      Agrees g a head (if if_known && last then record g { rows = reported_height g a head } else g)
+  agrees_by given last if_known is_last before = grind (arith, nat_tests, known_here, known_later, false≢true, known_each)
 
-pub agrees : (g : Geometry) (a : Ancillary) (head : SegmentHead) → IsHead head → IsBefore g a → disagreement g a head ≡ None → Agrees g a head (geometry_past g a head)
-agrees g a head is before none = agrees_by g a head is (passes g a head none) a.told_last head.last refl refl before
+pub agrees : (g : Geometry) (a : Ancillary) (head : SegmentHead) → IsHead head → IsBefore g a → disagreement g a head ≡ None →
+    Agrees g a head (geometry_past g a head)
+agrees g a head is before none = agrees_by g a head is (passes g a head none) a.reported_last head.last refl refl before

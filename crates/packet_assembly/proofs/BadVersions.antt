@@ -3,7 +3,7 @@ use Rattle.std.proofs.lemmas.Bool.Decides.{nat_tests}
 use Rattle.std.proofs.Common.{◌≡◌, ◌<◌, ◌∙◌, ℕ, List, [], ◌∷◌, ◌++◌, length, arith, append_assoc, true}
 use Rattle.std.proofs.lemmas.Bool.{false≢true}
 use Rattle.packet_defs.specs.Streams.{Splits, has_bad_version, left_over, whole_packets}
-use Rattle.packet_defs.proofs.Fronts.{version-append}
+use Rattle.packet_defs.proofs.Prefixes.{version-append}
 use Rattle.packet_defs.proofs.Splits.{splits_left, splits_whole, whole_splits}
 use Rattle.space_packets.proofs.Intakes.{no_begin}
 

@@ -1,5 +1,6 @@
 -- How far the heads of kept packets reach, and the geometry, from one packet on to another.
-use Rattle.std.proofs.Common.{◌≡◌, inl, inr, ◌≤◌, ◌<◌, ◌+◌, ◌*◌, ℕ, List, [], ◌∷◌, refl, sym, ap, subst, ◌∙◌, arith, Bool, true, false, ◌==◌, max, if◌then◌else◌, Option, None, Some, fold, not, Result, Ok, Err}
+use Rattle.std.proofs.Common.{◌≡◌, inl, inr, ◌≤◌, ◌<◌, ◌+◌, ◌*◌, ℕ, List, [], ◌∷◌, refl, sym, ap, subst, ◌∙◌, arith, Bool, true, false, ◌==◌, max}
+use Rattle.std.proofs.Common.{if◌then◌else◌, Option, None, Some, fold, not, Result, Ok, Err}
 use Rattle.std.proofs.lemmas.Bool.{false≢true}
 use Rattle.std.proofs.lemmas.Bool.Decides.{nat_tests}
 use Rattle.std.proofs.lemmas.Grind.{fold-append}
@@ -39,7 +40,8 @@ none_reaches apid s packet none = grind (arith, nat_tests, kept-none, kept-cons,
 kept_more : (apid : ℕ) (s : FateState) (x : List ℕ) (xs : List (List ℕ)) (n : ℕ) →
     end_from n (kept apid s (x ∷ xs)) ≡ end_from (end_from n (kept apid s (x ∷ []))) (kept apid (after apid s x) xs)
 kept_more apid s x xs n =
-    ap (end_from n) (kept-append apid s (x ∷ []) xs) ∙ fold-append (λ most packet. max most (end_in packet)) n (kept apid s (x ∷ [])) (kept apid (after apid s x) xs)
+    ap (end_from n) (kept-append apid s (x ∷ []) xs) ∙ fold-append (λ most packet. max most (end_in packet)) n (kept apid s (x ∷ []))
+    (kept apid (after apid s x) xs)
 
 pub kept_nothing : (apid : ℕ) (s : FateState) → kept apid s [] ≡ []
 kept_nothing apid s = simp (kept-none, kept-cons)
@@ -62,11 +64,13 @@ not_back : (last : Option LastPart) (i j : ℕ) → ((l : LastPart) → last ≡
 not_back last i j later least before = grind (arith, nat_tests)
 
 -- Packets begin no segment if the last place is in the same one after them, or if there is none.
-pub stays_none : (apid : ℕ) (s : FateState) (packets : List (List ℕ)) → last_index (after_all apid s packets).last ≡ last_index s.last → BeginsNone apid s packets
+pub stays_none : (apid : ℕ) (s : FateState) (packets : List (List ℕ)) → last_index (after_all apid s packets).last ≡ last_index s.last →
+    BeginsNone apid s packets
 stays_none apid s [] same = tt
 stays_none apid s (x ∷ xs) same = by (λ e. stays_none apid (after apid s x) xs (same ∙ sym (stays apid s x e))) (is_first apid s x) refl
   where
-    by : ((is_first apid s x ≡ false) → BeginsNone apid (after apid s x) xs) → (b : Bool) → is_first apid s x ≡ b → (is_first apid s x ≡ false) × BeginsNone apid (after apid s x) xs
+    by : ((is_first apid s x ≡ false) → BeginsNone apid (after apid s x) xs) → (b : Bool) → is_first apid s x ≡ b →
+        (is_first apid s x ≡ false) × BeginsNone apid (after apid s x) xs
     by rest false e = (e, rest e)
     by rest true e =
         let b = begins_so apid s x e in
@@ -85,8 +89,8 @@ next_left apid s x n left next = elim left.by [
       let a = ancillary_in x in
       let part : (a.part == 0) ≡ false = let e = next.part in grind (arith, nat_tests) in
       let differ = or_rest (not (a.first == a.index * a.segment)) _ (or_rest _ _ (or_rest _ _ tests.own)) in
-      let own = own_so begun.g s.told_last a (ap (λ (o : Option Geometry). differs o s.told_last a) (sym begun.geometry) ∙ differ) in
-      let told : (after apid s x).told_last ≡ s.told_last = ap (λ (s : FateState). s.told_last) (after_as_kept apid s x is) ∙ own.told in
+      let own = own_so begun.g s.reported_last a (ap (λ (o : Option Geometry). differs o s.reported_last a) (sym begun.geometry) ∙ differ) in
+      let if_known : (after apid s x).reported_last ≡ s.reported_last = ap (λ (s : FateState). s.reported_last) (after_as_kept apid s x is) ∙ own.if_known in
       let same : next.before ≡ begun.l = same_Some _ _ (sym next.before_is ∙ begun.last) in
       let index : begun.l.index ≡ (part_in x).index = ap (λ (l : LastPart). l.index) (sym same) ∙ sym next.index in
       record {
@@ -95,12 +99,14 @@ next_left apid s x n left next = elim left.by [
           geometry = ap (λ (s : FateState). s.geometry) (after_as_kept apid s x is) ∙ rw part begun.geometry;
           l = part_in x;
           last = next.last;
-          leaves = subst (λ i. Leaves begun.g (after apid s x).told_last i n) index (subst (λ t. Leaves begun.g t begun.l.index n) (sym told) begun.leaves);
+          leaves = subst (λ i. Leaves begun.g (after apid s x).reported_last i n) index
+              (subst (λ t. Leaves begun.g t begun.l.index n) (sym if_known) begun.leaves);
         };
       }
 ]
 
-first_left : (apid : ℕ) (s : FateState) (x : List ℕ) (n : ℕ) (start : SegmentStart) → IsLeft s n → Starts apid s x start → IsLeft (after apid s x) (start.ancillary.first + start.head.blocks)
+first_left : (apid : ℕ) (s : FateState) (x : List ℕ) (n : ℕ) (start : SegmentStart) → IsLeft s n → Starts apid s x start →
+    IsLeft (after apid s x) (start.ancillary.first + start.head.blocks)
 first_left apid s x n start left starts =
     let f = first_leaves apid s x n start left starts in
     let ended = start.ancillary.first + start.head.blocks in
@@ -110,7 +116,8 @@ first_left apid s x n start left starts =
         geometry = f.geometry;
         l = part_in x;
         last = f.last;
-        leaves = subst (λ i. Leaves f.g (after apid s x).told_last i ended) (sym f.index) (subst (λ t. Leaves f.g t start.ancillary.index ended) (sym f.told) f.begun.leaves);
+        leaves = subst (λ i. Leaves f.g (after apid s x).reported_last i ended) (sym f.index)
+            (subst (λ t. Leaves f.g t start.ancillary.index ended) (sym f.if_known) f.begun.leaves);
       };
     }
 
@@ -123,7 +130,8 @@ first_reaches apid s x start n starts low = simp (kept-none, kept-cons) (grind (
 pub starts_with : (apid : ℕ) (s : FateState) (x : List ℕ) → is_first apid s x ≡ true → (start : SegmentStart) × Starts apid s x start
 starts_with apid s x first = grind (arith, nat_tests, first_keeps, kept_tests, is_kept_so, by)
   where
-    by : (r : Result SegmentHead HeadFault) → head_read (text_in x) ≡ r → head_refusal s.geometry (ancillary_in x) r ≡ None → (start : SegmentStart) × Starts apid s x start
+    by : (r : Result SegmentHead HeadFault) → head_read (text_in x) ≡ r → head_refusal s.geometry (ancillary_in x) r ≡ None →
+        (start : SegmentStart) × Starts apid s x start
     by (Ok head) is none = (record { ancillary = ancillary_in x; head = head }, record { first = first; head_is = is; ancillary_is = refl })
     by (Err fault) is none = absurd cc
 
@@ -140,27 +148,30 @@ one_left apid s x n left = by (is_first apid s x) refl
 pub more_left : (apid : ℕ) (s : FateState) (packets : List (List ℕ)) (n : ℕ) → IsLeft s n → IsLeft (after_all apid s packets) (end_from n (kept apid s packets))
 more_left apid s [] n left = subst (λ zs. IsLeft s (end_from n zs)) (sym (kept_nothing apid s)) left
 more_left apid s (x ∷ xs) n left =
-    subst (IsLeft (after_all apid (after apid s x) xs)) (sym (kept_more apid s x xs n)) (more_left apid (after apid s x) xs (end_from n (kept apid s (x ∷ []))) (one_left apid s x n left))
+    subst (IsLeft (after_all apid (after apid s x) xs)) (sym (kept_more apid s x xs n))
+    (more_left apid (after apid s x) xs (end_from n (kept apid s (x ∷ []))) (one_left apid s x n left))
 
 -- the state after any packets, and how far their heads reach
 pub all_left : (apid : ℕ) (packets : List (List ℕ)) → IsLeft (after_all apid fresh packets) (end_of (kept apid fresh packets))
 all_left apid packets = simp end_of-is (more_left apid fresh packets 0 fresh_left)
 
 -- whether the height is reported last doesn't change after the first kept packet
-pub told_one : (apid : ℕ) (s : FateState) (x : List ℕ) (g : Geometry) → s.geometry ≡ Some g → (h : Geometry) × ((after apid s x).geometry ≡ Some h) × ((after apid s x).told_last ≡ s.told_last)
-told_one apid s x g is = by (is_kept (fate apid s x)) refl
+pub known_one : (apid : ℕ) (s : FateState) (x : List ℕ) (g : Geometry) → s.geometry ≡ Some g → (h : Geometry) × ((after apid s x).geometry ≡ Some h)
+    × ((after apid s x).reported_last ≡ s.reported_last)
+known_one apid s x g is = by (is_kept (fate apid s x)) refl
   where
-    some_after : (o : Option Geometry) → o ≡ Some g → (b : Bool) (r : Result SegmentHead HeadFault) → (h : Geometry) × ((if b then geometry_with o (ancillary_in x) r else o) ≡ Some h)
+    some_after : (o : Option Geometry) → o ≡ Some g → (b : Bool) (r : Result SegmentHead HeadFault) →
+        (h : Geometry) × ((if b then geometry_with o (ancillary_in x) r else o) ≡ Some h)
     some_after o is true (Ok head) = (geometry_past (geometry_for o (ancillary_in x) head.image) (ancillary_in x) head, refl)
     some_after o is true (Err fault) = (g, is)
     some_after o is false r = (g, is)
 
-    by : (b : Bool) → is_kept (fate apid s x) ≡ b → (h : Geometry) × ((after apid s x).geometry ≡ Some h) × ((after apid s x).told_last ≡ s.told_last)
-    by false e = let same = after_as_other apid s x e in (g, ap (λ (s : FateState). s.geometry) same ∙ is, ap (λ (s : FateState). s.told_last) same)
+    by : (b : Bool) → is_kept (fate apid s x) ≡ b → (h : Geometry) × ((after apid s x).geometry ≡ Some h) × ((after apid s x).reported_last ≡ s.reported_last)
+    by false e = let same = after_as_other apid s x e in (g, ap (λ (s : FateState). s.geometry) same ∙ is, ap (λ (s : FateState). s.reported_last) same)
     by true e =
         let kept = is_kept_so (fate apid s x) e in
         let tests = kept_tests apid s x kept in
         let differ = or_rest (not ((ancillary_in x).first == (ancillary_in x).index * (ancillary_in x).segment)) _ (or_rest _ _ (or_rest _ _ tests.own)) in
-        let own = own_so g s.told_last (ancillary_in x) (ap (λ (o : Option Geometry). differs o s.told_last (ancillary_in x)) (sym is) ∙ differ) in
+        let own = own_so g s.reported_last (ancillary_in x) (ap (λ (o : Option Geometry). differs o s.reported_last (ancillary_in x)) (sym is) ∙ differ) in
         let some = some_after s.geometry is ((ancillary_in x).part == 0) (head_read (text_in x)) in
         grind (arith, nat_tests, after_as_kept)

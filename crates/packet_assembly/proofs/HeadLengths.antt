@@ -7,7 +7,7 @@ use Rattle.segment_defs.specs.Head.{head_length}
 use Rattle.segment_defs.specs.Reading.{part_1_length, first_refusal, presence_tests, answer, head_read}
 use Rattle.packet_defs.specs.declared.ancillary.Ancillary.{Ancillary}
 use Rattle.stream_defs.specs.declared.fate.FateState.{FateState}
-use Rattle.packet_assembly.specs.Classification.{unkept, ok_of, head_told, classified}
+use Rattle.packet_assembly.specs.Classification.{unkept, ok_of, head_known, classified}
 use Rattle.packet_assembly.specs.Notes.{head_octets}
 use Rattle.packet_assembly.proofs.FateSteps.{classified_ok}
 use Rattle.segment_defs.proofs.Equations.{head_read-is}
@@ -33,10 +33,11 @@ head_within octets head e = grind (arith, nat_tests, head_read-is, answered, par
 found_within : (text : List ℕ) (r : Result SegmentHead HeadFault) → head_read text ≡ r → head_octets (ok_of r) ≤ length text
 found_within text r e = grind (arith, nat_tests, head_within)
 
-told_within : (b : Bool) (text : List ℕ) → head_octets (if b then ok_of (head_read text) else None) ≤ length text
-told_within b text = grind (arith, nat_tests, found_within)
+known_within : (b : Bool) (text : List ℕ) → head_octets (if b then ok_of (head_read text) else None) ≤ length text
+known_within b text = grind (arith, nat_tests, found_within)
 
 -- so are the octets of the head in a packet that is kept
-pub kept_within : (s : FateState) (flags : ℕ) (a : Ancillary) (text : List ℕ) (found : Option SegmentHead) → classified s flags a text ≡ Ok found → head_octets found ≤ length text
+pub kept_within : (s : FateState) (flags : ℕ) (a : Ancillary) (text : List ℕ) (found : Option SegmentHead) → classified s flags a text ≡ Ok found →
+    head_octets found ≤ length text
 kept_within s flags a text found e =
-    subst (λ h. head_octets h ≤ length text) (classified_ok (unkept s flags a text) (head_told a text) found e).1 (told_within (a.part == 0) text)
+    subst (λ h. head_octets h ≤ length text) (classified_ok (unkept s flags a text) (head_known a text) found e).1 (known_within (a.part == 0) text)

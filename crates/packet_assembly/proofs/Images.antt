@@ -1,5 +1,6 @@
 -- The laws of an image's geometry and of what the kept heads reach, whether its height is known or reported last.
-use Rattle.std.proofs.Common.{◌≡◌, ◌⊎◌, ◌≤◌, ◌<◌, ◌+◌, ◌-◌, ℕ, List, [], ◌∷◌, ◌++◌, refl, ap, ◌∙◌, arith, ◌≢◌, Bool, true, false, min, Option, None, Some, is_some, ℤ, max}
+use Rattle.std.proofs.Common.{◌≡◌, ◌⊎◌, ◌≤◌, ◌<◌, ◌+◌, ◌-◌, ℕ, List, [], ◌∷◌, ◌++◌, refl, ap, ◌∙◌, arith, ◌≢◌, Bool, true, false, min, Option, None, Some}
+use Rattle.std.proofs.Common.{is_some, ℤ, max}
 use Rattle.std.proofs.lemmas.Grind.{fold-append}
 use Rattle.std.proofs.lemmas.Bool.Decides.{nat_tests}
 use Rattle.base_122.specs.Sizes.{first_block}
@@ -17,14 +18,14 @@ use Rattle.stream_defs.proofs.ChosenLaws.{kept-append}
 use Rattle.stream_defs.proofs.PlacedLaws.{is_open, blocks_open, blocks_known, placed_open, placed_known, within_not}
 use Rattle.packet_assembly.specs.declared.note.SegmentStart.{SegmentStart}
 use Rattle.packet_assembly.specs.Assembling.{Starts, BeginsNone, is_first, last_index}
-use Rattle.packet_assembly.proofs.Begun.{Leaves, HasBegun, IsLeft, first_leaves, told_if}
-use Rattle.packet_assembly.proofs.Ends.{end_from, none_begun, stays_none, first_reaches, starts_with, one_left, all_left, told_one}
+use Rattle.packet_assembly.proofs.Begun.{Leaves, HasBegun, IsLeft, first_leaves, known_if}
+use Rattle.packet_assembly.proofs.Ends.{end_from, none_begun, stays_none, first_reaches, starts_with, one_left, all_left, known_one}
 use Rattle.stream_defs.proofs.Equations.{end_of-is}
 
 -- ---- the last place
 
 -- the state after packets, at a geometry and a last place
-pub leaves_at : (s : FateState) (n : ℕ) (g : Geometry) (l : LastPart) → IsLeft s n → s.geometry ≡ Some g → s.last ≡ Some l → Leaves g s.told_last l.index n
+pub leaves_at : (s : FateState) (n : ℕ) (g : Geometry) (l : LastPart) → IsLeft s n → s.geometry ≡ Some g → s.last ≡ Some l → Leaves g s.reported_last l.index n
 leaves_at s n g l left geometry last = grind (arith, nat_tests)
 
 -- at the index of the last place
@@ -40,7 +41,7 @@ module _ (apid : ℕ) (packets : List (List ℕ)) (g : Geometry) (geometry : (af
   there : HasBegun (after_all apid fresh packets) (end_of (kept apid fresh packets))
   there = grind (arith, nat_tests, all_left)
 
-  leaves_there : Leaves g (after_all apid fresh packets).told_last there.l.index (end_of (kept apid fresh packets))
+  leaves_there : Leaves g (after_all apid fresh packets).reported_last there.l.index (end_of (kept apid fresh packets))
   leaves_there = leaves_at (after_all apid fresh packets) (end_of (kept apid fresh packets)) g there.l (all_left apid packets) geometry there.last
 
   -- the kept heads reach no further than the image
@@ -53,11 +54,11 @@ module _ (apid : ℕ) (packets : List (List ℕ)) (g : Geometry) (geometry : (af
 
   -- while the height isn't reported, the kept heads don't reach the last block
   pub end_room : g.rows ≡ 0 → end_of (kept apid fresh packets) < blocks_of (placed g)
-  end_room untold = grind (arith, nat_tests, leaves_there, there, blocks_open)
+  end_room unknown = grind (arith, nat_tests, leaves_there, there, blocks_open)
 
 module _ (apid : ℕ) (packets : List (List ℕ)) (g : Geometry) (index : ℕ) (geometry : (after_all apid fresh packets).geometry ≡ Some g)
     (last : last_index (after_all apid fresh packets).last ≡ Some index) where
-  leaves : Leaves g (after_all apid fresh packets).told_last index (end_of (kept apid fresh packets))
+  leaves : Leaves g (after_all apid fresh packets).reported_last index (end_of (kept apid fresh packets))
   leaves = grind (arith, nat_tests, at_index, leaves_at, all_left)
 
   -- and no further than the last segment
@@ -65,14 +66,15 @@ module _ (apid : ℕ) (packets : List (List ℕ)) (g : Geometry) (index : ℕ) (
   end_within = leaves.through
 
   -- while the height isn't reported, there is room for a segment after the last one
-  pub untold_room : g.rows ≡ 0 → first_block g.segment index + g.segment < blocks_of (placed g)
-  untold_room untold = let room = leaves.room untold in omega (arith, room, blocks_open g untold)
+  pub unknown_room : g.rows ≡ 0 → first_block g.segment index + g.segment < blocks_of (placed g)
+  unknown_room unknown = let room = leaves.room unknown in omega (arith, room, blocks_open g unknown)
 
   blocks_there : blocks_in g index ≡ blocks_in (placed g) index
-  blocks_there = grind (arith, nat_tests, leaves, untold_room, is_open, placed_open, placed_known, within_not)
+  blocks_there = grind (arith, nat_tests, leaves, unknown_room, is_open, placed_open, placed_known, within_not)
 
 -- so blocks are passed as in the image that they are placed in
-pub through_open : (apid : ℕ) (packets : List (List ℕ)) (g : Geometry) (received : ℕ → Option (List (List ℤ))) (index : ℕ) → (after_all apid fresh packets).geometry ≡ Some g →
+pub through_open : (apid : ℕ) (packets : List (List ℕ)) (g : Geometry) (received : ℕ → Option (List (List ℤ))) (index : ℕ) →
+    (after_all apid fresh packets).geometry ≡ Some g →
     last_index (after_all apid fresh packets).last ≡ Some index → blocks_through g received index ≡ blocks_through (placed g) received index
 through_open apid packets g received index geometry last = grind (arith, nat_tests, is_some, blocks_there)
 
@@ -87,7 +89,8 @@ end_rises n [] = omega arith
 end_rises n (x ∷ xs) = let rest = end_rises (max n (end_in x)) xs in omega (arith, rest)
 
 pub end_more : (apid : ℕ) (before packets : List (List ℕ)) → end_of (kept apid fresh before) ≤ end_of (kept apid fresh (before ++ packets))
-end_more apid before packets = let most = end_rises (end_of (kept apid fresh before)) (kept apid (after_all apid fresh before) packets) in omega (arith, most, end_joined apid before packets)
+end_more apid before packets = let most = end_rises (end_of (kept apid fresh before)) (kept apid (after_all apid fresh before) packets) in omega
+    (arith, most, end_joined apid before packets)
 
 -- a segment that begins: they reach its end
 pub end_begun : (apid : ℕ) (before : List (List ℕ)) (packet : List ℕ) (start : SegmentStart) → Starts apid (after_all apid fresh before) packet start →
@@ -100,12 +103,14 @@ end_begun apid before packet start starts =
 -- packets that begin none leave the end, the geometry and the index of the last place
 pub end_none : (apid : ℕ) (before packets : List (List ℕ)) → BeginsNone apid (after_all apid fresh before) packets →
     end_of (kept apid fresh (before ++ packets)) ≡ end_of (kept apid fresh before)
-end_none apid before packets none = end_joined apid before packets ∙ (none_begun apid (after_all apid fresh before) packets none).ended (end_of (kept apid fresh before))
+end_none apid before packets none = end_joined apid before packets ∙ (none_begun apid (after_all apid fresh before) packets none).ended
+    (end_of (kept apid fresh before))
 
 pub geometry_none : (apid : ℕ) (s : FateState) (packets : List (List ℕ)) → BeginsNone apid s packets → (after_all apid s packets).geometry ≡ s.geometry
 geometry_none apid s packets none = (none_begun apid s packets none).geometry
 
-pub index_none : (apid : ℕ) (s : FateState) (packets : List (List ℕ)) → BeginsNone apid s packets → last_index (after_all apid s packets).last ≡ last_index s.last
+pub index_none : (apid : ℕ) (s : FateState) (packets : List (List ℕ)) → BeginsNone apid s packets → last_index (after_all apid s packets).last
+    ≡ last_index s.last
 index_none apid s packets none = (none_begun apid s packets none).last
 
 -- so do packets after which the last place is in the same segment
@@ -113,7 +118,8 @@ pub geometry_same : (apid : ℕ) (s : FateState) (packets : List (List ℕ)) →
     (after_all apid s packets).geometry ≡ s.geometry
 geometry_same apid s packets same = geometry_none apid s packets (stays_none apid s packets same)
 
-pub end_same : (apid : ℕ) (before packets : List (List ℕ)) → last_index (after_all apid (after_all apid fresh before) packets).last ≡ last_index (after_all apid fresh before).last →
+pub end_same : (apid : ℕ) (before packets : List (List ℕ)) → last_index (after_all apid (after_all apid fresh before) packets).last
+    ≡ last_index (after_all apid fresh before).last →
     end_of (kept apid fresh (before ++ packets)) ≡ end_of (kept apid fresh before)
 end_same apid before packets same = end_none apid before packets (stays_none apid (after_all apid fresh before) packets same)
 
@@ -130,7 +136,8 @@ one_known apid s n x g left is known = by (is_first apid s x) refl
         let f = first_leaves apid s x n some.0 left some.1 in
         f.geometry ∙ ap Some (f.begun.known g is known)
 
-known_on : (apid : ℕ) (s : FateState) (n : ℕ) (packets : List (List ℕ)) (g : Geometry) → IsLeft s n → s.geometry ≡ Some g → g.rows ≢ 0 → (after_all apid s packets).geometry ≡ Some g
+known_on : (apid : ℕ) (s : FateState) (n : ℕ) (packets : List (List ℕ)) (g : Geometry) → IsLeft s n → s.geometry ≡ Some g → g.rows ≢ 0 →
+    (after_all apid s packets).geometry ≡ Some g
 known_on apid s n [] g left is known = is
 known_on apid s n (x ∷ xs) g left is known =
     known_on apid (after apid s x) (end_from n (kept apid s (x ∷ []))) xs g (one_left apid s x n left) (one_known apid s n x g left is known) known
@@ -140,15 +147,16 @@ pub geometry_known : (apid : ℕ) (before packets : List (List ℕ)) (g : Geomet
 geometry_known apid before packets g = known_on apid (after_all apid fresh before) (end_of (kept apid fresh before)) packets g (all_left apid before)
 
 -- nor does it change that it is reported last
-told_on : (apid : ℕ) (s : FateState) (packets : List (List ℕ)) (g : Geometry) → s.geometry ≡ Some g → (after_all apid s packets).told_last ≡ s.told_last
-told_on apid s [] g is = refl
-told_on apid s (x ∷ xs) g is =
-    let one = told_one apid s x g is in
-    told_on apid (after apid s x) xs one.0 one.1 ∙ one.2
+if_known_on : (apid : ℕ) (s : FateState) (packets : List (List ℕ)) (g : Geometry) → s.geometry ≡ Some g →
+    (after_all apid s packets).reported_last ≡ s.reported_last
+if_known_on apid s [] g is = refl
+if_known_on apid s (x ∷ xs) g is =
+    let one = known_one apid s x g is in
+    if_known_on apid (after apid s x) xs one.0 one.1 ∙ one.2
 
-pub told_last_open : (apid : ℕ) (packets more : List (List ℕ)) (g : Geometry) → (after_all apid fresh packets).geometry ≡ Some g → g.rows ≡ 0 →
-    (after_all apid (after_all apid fresh packets) more).told_last ≡ true
-told_last_open apid packets more g geometry untold = grind (arith, nat_tests, told_on, all_left, leaves_at, told_if)
+pub reported_last_open : (apid : ℕ) (packets more : List (List ℕ)) (g : Geometry) → (after_all apid fresh packets).geometry ≡ Some g → g.rows ≡ 0 →
+    (after_all apid (after_all apid fresh packets) more).reported_last ≡ true
+reported_last_open apid packets more g geometry unknown = grind (arith, nat_tests, if_known_on, all_left, leaves_at, known_if)
 
 -- ---- a segment that begins
 
@@ -161,7 +169,7 @@ pub record Begun (apid : ℕ) (s : FateState) (packet : List ℕ) (start : Segme
   pub segment : start.ancillary.segment ≡ image.segment
   pub first : start.ancillary.first ≡ first_block image.segment start.ancillary.index
   pub within : start.ancillary.first < blocks_of (placed image)
-  pub within_told : image.rows ≢ 0 → start.ancillary.first < blocks_of image
+  pub within_known : image.rows ≢ 0 → start.ancillary.first < blocks_of image
   pub blocks : start.head.blocks ≡ min image.segment (blocks_of (placed image) - start.ancillary.first)
   pub head : IsHead start.head
   pub weights : start.head.image.weights.shifts ≡ image.weights.shifts
@@ -186,7 +194,7 @@ begun_by apid before packet start starts =
     let b = f.begun in
     let g = f.g in
     let low = b.first in
-    let told : g.rows ≢ 0 → start.ancillary.first < blocks_of g = λ some. omega (arith, low, blocks_known g some) in
+    let if_known : g.rows ≢ 0 → start.ancillary.first < blocks_of g = λ some. omega (arith, low, blocks_known g some) in
     record {
       image = g;
       geometry = f.geometry;
@@ -194,7 +202,7 @@ begun_by apid before packet start starts =
       segment = b.segment;
       first = b.first_is;
       within = b.first;
-      within_told = told;
+      within_known = if_known;
       blocks = b.blocks;
       head = b.head;
       weights = b.shifts;

@@ -21,9 +21,9 @@ use Rattle.packet_assembly.specs.Notes.{start_of, text_brought, start_brought}
 -- ---- the first part
 
 -- whether a kept packet begins a segment
-start_by : (standing : Option Geometry) (a : Ancillary) (text : List ℕ) (b : Bool) (r : Result SegmentHead HeadFault) →
-    (if b then head_refusal standing a r else None) ≡ None → start_of a (if b then ok_of r else None) ≡ None → b ≡ false
-start_by standing a text b r good none = grind (arith, nat_tests)
+start_by : (current : Option Geometry) (a : Ancillary) (text : List ℕ) (b : Bool) (r : Result SegmentHead HeadFault) →
+    (if b then head_refusal current a r else None) ≡ None → start_of a (if b then ok_of r else None) ≡ None → b ≡ false
+start_by current a text b r good none = grind (arith, nat_tests)
 
 pub none_first : (apid : ℕ) (s : FateState) (packet : List ℕ) → start_brought apid s packet ≡ None → is_first apid s packet ≡ false
 unfolding start_brought
@@ -52,7 +52,8 @@ follows_index last a e = grind (arith, nat_tests)
 pub stays : (apid : ℕ) (s : FateState) (packet : List ℕ) → is_first apid s packet ≡ false → last_index (after apid s packet).last ≡ last_index s.last
 stays apid s packet none = grind (arith, nat_tests, after_as_other, is_kept_so, kept_tests, after_as_kept, follows_index, or_second)
 
-pub begins_more : (apid : ℕ) (s : FateState) (packets : List (List ℕ)) (packet : List ℕ) → BeginsNone apid s packets → is_first apid (after_all apid s packets) packet ≡ false →
+pub begins_more : (apid : ℕ) (s : FateState) (packets : List (List ℕ)) (packet : List ℕ) → BeginsNone apid s packets →
+    is_first apid (after_all apid s packets) packet ≡ false →
     BeginsNone apid s (packets ++ packet ∷ [])
 begins_more apid s [] packet none e = (e, tt)
 begins_more apid s (x ∷ packets) packet none e = (none.0, begins_more apid (after apid s x) packets packet none.1 e)

@@ -3,7 +3,7 @@ pub mod HeadLengths
 pub mod Steps
 pub mod KeptPackets
 pub mod BadVersions
-pub mod Comings
+pub mod Arriving
 pub mod Again
 pub mod OneStep
 pub mod Seeking

@@ -17,7 +17,8 @@ use Rattle.packet_assembly.proofs.Ends.{end_from, starts_with, one_left, all_lef
 use Rattle.packet_assembly.proofs.Images.{leaves_at, geometry_none, geometry_known, end_more}
 
 -- of the geometry only the height changes
-one_more : (apid : ℕ) (s : FateState) (n : ℕ) (x : List ℕ) (g : Geometry) → IsLeft s n → s.geometry ≡ Some g → (h : Geometry) × ((after apid s x).geometry ≡ Some h) × (h ≡ record g { rows = h.rows })
+one_more : (apid : ℕ) (s : FateState) (n : ℕ) (x : List ℕ) (g : Geometry) → IsLeft s n → s.geometry ≡ Some g →
+    (h : Geometry) × ((after apid s x).geometry ≡ Some h) × (h ≡ record g { rows = h.rows })
 one_more apid s n x g left is = by (is_first apid s x) refl
   where
     by : (b : Bool) → is_first apid s x ≡ b → (h : Geometry) × ((after apid s x).geometry ≡ Some h) × (h ≡ record g { rows = h.rows })
@@ -41,20 +42,25 @@ geometry_more apid before packets g = more_on apid (after_all apid fresh before)
 
 -- ---- rows
 
-reached_by : (g h : Geometry) (m n : ℕ) → h ≡ record g { rows = h.rows } → 0 < block_count g.width → m ≤ n → n ≤ blocks_of (placed h) → (h.rows ≡ 0) ⊎ IsWithin rows_range h.rows →
+reached_by : (g h : Geometry) (m n : ℕ) → h ≡ record g { rows = h.rows } → 0 < block_count g.width → m ≤ n → n ≤ blocks_of (placed h) →
+    (h.rows ≡ 0) ⊎ IsWithin rows_range h.rows →
     (g.rows ≢ 0 → h ≡ g) → rows_reached g m ≤ rows_reached h n
-reached_by g h m n sized some le few height stays = grind (arith, nat_tests, reached_rises, within_not, blocks_known, reached_few, reached_known, eqb-true, false≢true, is_open)
+reached_by g h m n sized some le few height stays =
+    grind (arith, nat_tests, reached_rises, within_not, blocks_known, reached_few, reached_known, eqb-true, false≢true, is_open)
 
 -- the rows that the kept heads reach don't fall
-pub reached_more : (apid : ℕ) (before packets : List (List ℕ)) (g h : Geometry) → (after_all apid fresh before).geometry ≡ Some g → (after_all apid fresh (before ++ packets)).geometry ≡ Some h →
+pub reached_more : (apid : ℕ) (before packets : List (List ℕ)) (g h : Geometry) → (after_all apid fresh before).geometry ≡ Some g →
+    (after_all apid fresh (before ++ packets)).geometry ≡ Some h →
     rows_reached g (end_of (kept apid fresh before)) ≤ rows_reached h (end_of (kept apid fresh (before ++ packets)))
 reached_more apid before packets g h first last = by (geometry_more apid before packets g first)
   where
     joined : after_all apid fresh (before ++ packets) ≡ after_all apid (after_all apid fresh before) packets
     joined = after_all-append apid fresh before packets
 
-    leaves : (begun : HasBegun (after_all apid fresh (before ++ packets)) (end_of (kept apid fresh (before ++ packets)))) → Leaves h (after_all apid fresh (before ++ packets)).told_last begun.l.index (end_of (kept apid fresh (before ++ packets)))
-    leaves begun = leaves_at (after_all apid fresh (before ++ packets)) (end_of (kept apid fresh (before ++ packets))) h begun.l (all_left apid (before ++ packets)) last begun.last
+    leaves : (begun : HasBegun (after_all apid fresh (before ++ packets)) (end_of (kept apid fresh (before ++ packets)))) →
+        Leaves h (after_all apid fresh (before ++ packets)).reported_last begun.l.index (end_of (kept apid fresh (before ++ packets)))
+    leaves begun = leaves_at (after_all apid fresh (before ++ packets)) (end_of (kept apid fresh (before ++ packets))) h begun.l
+        (all_left apid (before ++ packets)) last begun.last
 
     by : (k : Geometry) × ((after_all apid (after_all apid fresh before) packets).geometry ≡ Some k) × (k ≡ record g { rows = k.rows }) →
         rows_reached g (end_of (kept apid fresh before)) ≤ rows_reached h (end_of (kept apid fresh (before ++ packets)))

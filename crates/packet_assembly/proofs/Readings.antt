@@ -1,5 +1,6 @@
 -- How a stream is read on, and to its end.
-use Rattle.std.proofs.Common.{◌≡◌, ◌≤◌, ◌<◌, ◌+◌, ◌-◌, ℕ, List, [], ◌∷◌, ◌++◌, length, take, refl, sym, ap, ◌∙◌, arith, append_assoc, length-append, Bool, true, false, nat_lt, ◌==◌, Option, Some, Result, Ok, Err, ltb-true, append-nil, take_all, subst}
+use Rattle.std.proofs.Common.{◌≡◌, ◌≤◌, ◌<◌, ◌+◌, ◌-◌, ℕ, List, [], ◌∷◌, ◌++◌, length, take, refl, sym, ap, ◌∙◌, arith, append_assoc, length-append, Bool}
+use Rattle.std.proofs.Common.{true, false, nat_lt, ◌==◌, Option, Some, Result, Ok, Err, ltb-true, append-nil, take_all, subst}
 use Rattle.std.proofs.lemmas.Bool.Decides.{nat_tests}
 use Rattle.std.proofs.lemmas.List.{take-append-le}
 use Rattle.std.proofs.Math.Seq.{take-append-add}
@@ -21,7 +22,7 @@ use Rattle.stream_defs.proofs.ChosenLaws.{after_all-append}
 use Rattle.space_packets.specs.Intake.{end_read, place_of}
 use Rattle.space_packets.proofs.Equations.{verdict-is}
 use Rattle.packet_assembly.specs.Assembling.{Assembling, AsksReadableFrom, Passes, unread_assembly}
-use Rattle.packet_assembly.specs.Segments.{StandsEnded, StandsLong}
+use Rattle.packet_assembly.specs.Segments.{IsValidEnded, IsValidLong}
 use Rattle.packet_assembly.specs.Passing.{before_loses, left_after}
 use Rattle.packet_assembly.specs.Readings.{HasRead, SawEnd, IsReadOut, AsksReadable}
 use Rattle.space_packets.proofs.Verdicts.{is_over, over_read, long_read}
@@ -33,9 +34,11 @@ use Rattle.packet_defs.proofs.Equations.{framing_at-is}
 pub none_read : (apid cap : ℕ) → HasRead apid cap (unread_assembly apid cap) [] []
 none_read apid cap = record { apid = refl; taken = refl; cap = refl; capped = omega arith; octets_are = refl; packets_are = tt; state = refl; count = refl }
 
-pub read_on : {P : FateState → Type 0} {old new : Outside} {a b : Assembling} {took : List ℕ} {passed went : List (List ℕ)} (apid cap : ℕ) → HasRead apid cap a took passed → (q : Passes P old new a b went) →
+pub read_on : {P : FateState → Type 0} {old new : Outside} {a b : Assembling} {took : List ℕ} {passed went : List (List ℕ)} (apid cap : ℕ) →
+    HasRead apid cap a took passed → (q : Passes P old new a b went) →
     HasRead apid cap b (took ++ q.took) (passed ++ went)
-read_on {a = a} {b = b} {took = took} {passed = passed} {went = went} apid cap read q = grind (arith, nat_tests, length-append, append_assoc, joined-append, each_of_both, after_all-append)
+read_on {a = a} {b = b} {took = took} {passed = passed} {went = went} apid cap read q =
+    grind (arith, nat_tests, length-append, append_assoc, joined-append, each_of_both, after_all-append)
 
 -- at most the octets that the cap allows were taken
 pub read_within : {apid cap : ℕ} {a : Assembling} {took : List ℕ} {passed : List (List ℕ)} → HasRead apid cap a took passed → length took ≤ cap
@@ -52,7 +55,8 @@ readable_here {a = a} {took = took} {passed = passed} apid cap t read i j k r =
 
 -- so all read calls were made while the octets could be read on
 pub readable_more : {start now new : Outside} {a : Assembling} {took gave t : List ℕ} {passed : List (List ℕ)} (apid cap : ℕ) → HasRead apid cap a took passed →
-    Exchange start now took gave [] (AsksReadable cap took) → Exchange now new t [] [] (AsksReadableFrom a t) → Exchange start new (took ++ t) gave [] (AsksReadable cap (took ++ t))
+    Exchange start now took gave [] (AsksReadable cap took) → Exchange now new t [] [] (AsksReadableFrom a t) →
+    Exchange start new (took ++ t) gave [] (AsksReadable cap (took ++ t))
 readable_more {start = start} {now = now} {new = new} {took = took} {gave = gave} {t = t} apid cap read before more =
     let Q : ℕ → ℕ → Type 0 = AsksReadable cap (took ++ t) in
     let first : Exchange start now took gave [] Q =
@@ -72,25 +76,27 @@ all_nothing [] rest e = (e, refl)
 all_nothing (x ∷ took) rest e = absurd (let long = ap length e in omega (arith, long))
 
 -- if the end was reached, nothing is left
-pub end_on : {P : FateState → Type 0} {old new : Outside} {a b : Assembling} {went : List (List ℕ)} → (q : Passes P old new a b went) → SawEnd old a → SawEnd new b
-end_on {old = old} {new = new} {a = a} {b = b} {went = went} q before rest told ended = by a.intake.ended refl
+pub end_on : {P : FateState → Type 0} {old new : Outside} {a b : Assembling} {went : List (List ℕ)} → (q : Passes P old new a b went) → SawEnd old a →
+    SawEnd new b
+end_on {old = old} {new = new} {a = a} {b = b} {went = went} q before rest if_known ended = by a.intake.ended refl
   where
     by : (c : Bool) → a.intake.ended ≡ c → (rest ≡ []) × (b.intake.taken < b.intake.cap)
     by true e = grind (arith, nat_tests, all_nothing)
     by false e =
         let n : ℕ = a.intake.cap - a.intake.taken in
-        let sees : nat_lt (length (q.took ++ rest)) n ≡ true = rw (e, ended) at (q.sees rest told) in
+        let sees : nat_lt (length (q.took ++ rest)) n ≡ true = rw (e, ended) at (q.sees rest if_known) in
         let fewer : length (q.took ++ rest) < n = ltb-true (length (q.took ++ rest)) n sees in
-        let comes : a.intake.pending ++ take n (q.took ++ rest) ≡ joined went ++ (b.intake.pending ++ []) = rw (e, ended) at (q.comes rest told) in
+        let arrives : a.intake.pending ++ take n (q.took ++ rest) ≡ joined went ++ (b.intake.pending ++ []) = rw (e, ended) at (q.arrives rest if_known) in
         let all : take n (q.took ++ rest) ≡ q.took ++ rest = take_all n (q.took ++ rest) (omega (arith, fewer)) in
-        let long = ap length comes in
+        let long = ap length arrives in
         grind (arith, nat_tests, length, nothing_more, length-append, append-nil)
 
 -- what was valid before octets were written is valid after it
 pub end_later : {Q : ℕ → ℕ → Type 0} {now new : Outside} {g : List ℕ} (a : Assembling) → Exchange now new [] g [] Q → SawEnd now a → SawEnd new a
-end_later {now = now} {new = new} a out before rest told = before rest (before_loses now.rest new.rest [] rest out.rest told)
+end_later {now = now} {new = new} a out before rest if_known = before rest (before_loses now.rest new.rest [] rest out.rest if_known)
 
-pub out_later : {Q : ℕ → ℕ → Type 0} {g : List ℕ} (cap : ℕ) (now new : Outside) (took : List ℕ) → Exchange now new [] g [] Q → IsReadOut cap now took → IsReadOut cap new took
+pub out_later : {Q : ℕ → ℕ → Type 0} {g : List ℕ} (cap : ℕ) (now new : Outside) (took : List ℕ) → Exchange now new [] g [] Q → IsReadOut cap now took →
+    IsReadOut cap new took
 out_later cap now new took since given = grind (arith, nat_tests, at_end_later)
 
 -- ---- the packets of the octets that were taken
@@ -104,10 +110,12 @@ end_answer found = Some (Ok (end_read found))
 
 abbrev answer_by : (bad begins ended full : Bool) (place : ℕ) (left : List ℕ) (read : PacketRead) → Option (Result PacketRead InFault)
 answer_by bad begins ended full place left read =
-    first_of (when bad (Ok (Fault (BadVersion place))) ∷ when begins (Ok read) ∷ when ended (Ok (end_read (framing_at place left))) ∷ when full (Err in_faults.LongInput) ∷ [])
+    first_of (when bad (Ok (Fault (BadVersion place))) ∷ when begins (Ok read) ∷ when ended (Ok (end_read (framing_at place left))) ∷ when full
+    (Err in_faults.LongInput) ∷ [])
 
 -- why it ended
-by_tests : (bad begins ended full : Bool) (place : ℕ) (left : List ℕ) (read : PacketRead) (found : Option Framing) → has_bad_version left ≡ bad → begins ≡ false → answer_by bad begins ended full place left read ≡ end_answer found → found ≡ framing_at place left
+by_tests : (bad begins ended full : Bool) (place : ℕ) (left : List ℕ) (read : PacketRead) (found : Option Framing) → has_bad_version left ≡ bad →
+    begins ≡ false → answer_by bad begins ended full place left read ≡ end_answer found → found ≡ framing_at place left
 by_tests bad begins ended full place left read found h8 none e = grind (arith, nat_tests, framing_at-is)
 
 module _ {apid cap : ℕ} {b : Assembling} {took : List ℕ} {passed : List (List ℕ)} (read : HasRead apid cap b took passed) where
@@ -119,31 +127,33 @@ module _ {apid cap : ℕ} {b : Assembling} {took : List ℕ} {passed : List (Lis
   whole_so none = splits_whole (splits_so none)
 
   -- none waits at the end
-  pub ended_none : StandsEnded b → begins_packet b.intake.pending ≡ false
+  pub ended_none : IsValidEnded b → begins_packet b.intake.pending ≡ false
   ended_none ended = (over_read b.apid b.intake (end_read b.framing) (end_is_over b.framing) ended).0
 
   -- so the packets of the octets that were taken are those that were passed
-  pub ended_packets : StandsEnded b → whole_packets took ≡ passed
+  pub ended_packets : IsValidEnded b → whole_packets took ≡ passed
   ended_packets ended = whole_so (ended_none ended)
 
-  pub ended_framing : StandsEnded b → b.framing ≡ framing took
+  pub ended_framing : IsValidEnded b → b.framing ≡ framing took
   ended_framing ended =
       let v = b.intake in
       let splits = splits_so (ended_none ended) in
-      let place : place_after took ≡ place_of v = ap (λ xs. length (joined xs)) (splits_whole splits) ∙ (let size = ap length read.octets_are in omega (arith, size, length-append (joined passed) v.pending, read.taken)) in
-      by_tests (has_bad_version v.pending) (begins_packet v.pending) v.ended (v.taken == v.cap) (place_of v) v.pending _ b.framing refl (ended_none ended) (sym (verdict-is b.apid v) ∙ ended)
+      let place : place_after took ≡ place_of v = ap (λ xs. length (joined xs)) (splits_whole splits)
+      ∙ (let size = ap length read.octets_are in omega (arith, size, length-append (joined passed) v.pending, read.taken)) in
+      by_tests (has_bad_version v.pending) (begins_packet v.pending) v.ended (v.taken == v.cap) (place_of v) v.pending _ b.framing refl (ended_none ended)
+      (sym (verdict-is b.apid v) ∙ ended)
       ∙ ap (λ n. framing_at n v.pending) (sym place) ∙ ap (framing_at (place_after took)) (sym (splits_left splits))
 
   -- the end was read, or what can't be read on
-  pub ended_out : (now : Outside) → StandsEnded b → SawEnd now b → IsReadOut cap now took
+  pub ended_out : (now : Outside) → IsValidEnded b → SawEnd now b → IsReadOut cap now took
   ended_out now ended at_end = grind (arith, nat_tests, over_read, end_is_over, splits_left, splits_so, ended_none)
 
   -- the same if all octets that the cap allows were taken; then more can be read
-  pub long_packets : StandsLong b → whole_packets took ≡ passed
+  pub long_packets : IsValidLong b → whole_packets took ≡ passed
   long_packets long = whole_so (long_read b.apid b.intake in_faults.LongInput long).none
 
-  pub long_good : StandsLong b → has_bad_version (left_over took) ≡ false
+  pub long_good : IsValidLong b → has_bad_version (left_over took) ≡ false
   long_good long = let at = long_read b.apid b.intake in_faults.LongInput long in ap has_bad_version (splits_left (splits_so at.none)) ∙ at.good
 
-  pub long_full : StandsLong b → length took ≡ cap
+  pub long_full : IsValidLong b → length took ≡ cap
   long_full long = let full = (long_read b.apid b.intake in_faults.LongInput long).full in omega (arith, full, read.taken, read.cap)

@@ -1,6 +1,7 @@
 -- Octets of a text that were read and not given yet, passed at once.
-use Rattle.std.proofs.Common.{◌≡◌, ℕ, ◌≤◌, List, [], length, take, drop, refl, sym, ap, ◌∙◌, arith, append_assoc, ◌++◌, Option, None, Some, take-append-drop, option_map}
-use Rattle.bit_pipe.specs.Sources.{Comes}
+use Rattle.std.proofs.Common.{◌≡◌, ℕ, ◌≤◌, List, [], length, take, drop, refl, sym, ap, ◌∙◌, arith, append_assoc, ◌++◌, Option, None, Some}
+use Rattle.std.proofs.Common.{take-append-drop, option_map}
+use Rattle.bit_pipe.specs.Sources.{Arrives}
 use Rattle.port_122.specs.Outside.{Outside}
 use Rattle.packet_assembly.specs.declared.note.SegmentStart.{SegmentStart}
 use Rattle.packet_assembly.specs.Assembling.{Assembling}
@@ -20,11 +21,11 @@ module _ (a : Assembling) (count : ℕ) (le : count ≤ length (text_ready a)) w
   none_where_held : (start : SegmentStart) → a.held ≡ Some start → count ≡ 0
   none_where_held start e = let none : count ≤ 0 = rw e at le in omega arith
 
-  pub tails_past : (o : Option (List ℕ)) → Comes (option_map (text_tail a) o) (option_map (text_tail (past a count)) o) (take count (text_ready a))
+  pub tails_past : (o : Option (List ℕ)) → Arrives (option_map (text_tail a) o) (option_map (text_tail (past a count)) o) (take count (text_ready a))
   tails_past None = tt
   tails_past (Some rest) = by a.held refl
     where
-      by : (h : Option SegmentStart) → a.held ≡ h → Comes (Some (text_tail a rest)) (Some (text_tail (past a count) rest)) (take count (text_ready a))
+      by : (h : Option SegmentStart) → a.held ≡ h → Arrives (Some (text_tail a rest)) (Some (text_tail (past a count) rest)) (take count (text_ready a))
       by None e =
           let after = tail_after a rest in
           let parted : a.text ++ after.octets ≡ take count a.text ++ (drop count a.text ++ after.octets) =

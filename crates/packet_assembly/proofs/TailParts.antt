@@ -1,5 +1,6 @@
 -- What a segment's text reports of its kept packets, by induction over the packets after its first.
-use Rattle.std.proofs.Common.{◌≡◌, inl, inr, ◌<◌, ◌+◌, ℕ, List, [], ◌∷◌, ◌++◌, length, map, refl, sym, ap, subst, ◌∙◌, arith, Bool, true, false, ◌==◌, if◌then◌else◌, Some, None}
+use Rattle.std.proofs.Common.{◌≡◌, inl, inr, ◌<◌, ◌+◌, ℕ, List, [], ◌∷◌, ◌++◌, length, map, refl, sym, ap, subst, ◌∙◌, arith, Bool, true, false, ◌==◌}
+use Rattle.std.proofs.Common.{if◌then◌else◌, Some, None}
 use Rattle.std.specs.List.{range_with_len}
 use Rattle.std.proofs.lemmas.Bool.{false≢true}
 use Rattle.std.proofs.lemmas.Bool.Decides.{nat_tests}
@@ -13,38 +14,38 @@ use Rattle.stream_defs.specs.Received.{index_in, number_of_part, packets_at, tex
 use Rattle.stream_defs.proofs.ChosenLaws.{kept-append}
 use Rattle.stream_defs.proofs.KeptOrder.{Begins, does, at_none, at_same, at_other, at_both, shut, begun_or_none, before_none, IsElsewhere}
 use Rattle.packet_assembly.specs.Assembling.{is_first, is_closed, last_index, BeginsNone}
-use Rattle.packet_assembly.specs.Tails.{in_front, nothing, kept_tail, tail_over}
+use Rattle.packet_assembly.specs.Tails.{before_it, nothing, kept_tail, tail_over}
 use Rattle.packet_assembly.proofs.TailSteps.{over_none}
-use Rattle.packet_assembly.specs.Wholes.{parts_in, tail_past, TellsParts}
+use Rattle.packet_assembly.specs.Wholes.{parts_in, tail_past, ReportsParts}
 use Rattle.packet_assembly.proofs.Ends.{kept_nothing}
 
 -- ---- packets that end with a closing one
 
 pub record AreClosed (parts : List (List ℕ)) : Type 0 where
-  pub front : List (List ℕ)
+  pub prefix : List (List ℕ)
   pub closing : List ℕ
-  pub parts_are : parts ≡ front ++ closing ∷ []
+  pub parts_are : parts ≡ prefix ++ closing ∷ []
   pub closed : closes (flags_in closing) ≡ true
 
-not_nil : (x : List ℕ) (front : List (List ℕ)) → [] ≡ front ++ x ∷ [] → ⊥
+not_nil : (x : List ℕ) (prefix : List (List ℕ)) → [] ≡ prefix ++ x ∷ [] → ⊥
 not_nil x [] e = cc
-not_nil x (y ∷ front) e = cc
+not_nil x (y ∷ prefix) e = cc
 
 none_closed : AreClosed [] → ⊥
-none_closed c = not_nil c.closing c.front c.parts_are
+none_closed c = not_nil c.closing c.prefix c.parts_are
 
 closed_more : (x : List ℕ) {parts : List (List ℕ)} → AreClosed parts → AreClosed (x ∷ parts)
-closed_more x c = record { front = x ∷ c.front; closing = c.closing; parts_are = ap (λ xs. x ∷ xs) c.parts_are; closed = c.closed }
+closed_more x c = record { prefix = x ∷ c.prefix; closing = c.closing; parts_are = ap (λ xs. x ∷ xs) c.parts_are; closed = c.closed }
 
 closed_alone : (x : List ℕ) → closes (flags_in x) ≡ true → AreClosed (x ∷ [])
-closed_alone x e = record { front = []; closing = x; parts_are = refl; closed = e }
+closed_alone x e = record { prefix = []; closing = x; parts_are = refl; closed = e }
 
 closed_less : (x : List ℕ) (parts : List (List ℕ)) → closes (flags_in x) ≡ false → AreClosed (x ∷ parts) → AreClosed parts
-closed_less x parts e c = by c.front c.parts_are
+closed_less x parts e c = by c.prefix c.parts_are
   where
-    by : (front : List (List ℕ)) → x ∷ parts ≡ front ++ c.closing ∷ [] → AreClosed parts
+    by : (prefix : List (List ℕ)) → x ∷ parts ≡ prefix ++ c.closing ∷ [] → AreClosed parts
     by [] is = absurd (let same : x ≡ c.closing = cc in false≢true (sym e ∙ ap (λ p. closes (flags_in p)) same ∙ c.closed))
-    by (y ∷ front) is = record { front = front; closing = c.closing; parts_are = cc; closed = c.closed }
+    by (y ∷ prefix) is = record { prefix = prefix; closing = c.closing; parts_are = cc; closed = c.closed }
 
 -- ---- the packets after a part
 
@@ -62,12 +63,12 @@ brings_nothing first ends other = record { numbers = refl; octets = refl; closed
 pub in_pieces : InPieces ≡ Plainly → ⊥
 in_pieces e = cc
 
-brings_last : (x : List ℕ) (first : ℕ) → number_of_part x ≡ first → closes (flags_in x) ≡ true → Brings first (x ∷ []) (in_front (text_in x) (nothing Plainly))
+brings_last : (x : List ℕ) (first : ℕ) → number_of_part x ≡ first → closes (flags_in x) ≡ true → Brings first (x ∷ []) (before_it (text_in x) (nothing Plainly))
 unfolding text_of_parts
 brings_last x first number closed = grind (arith, nat_tests, closed_alone)
 
 brings_more : (x : List ℕ) (first : ℕ) (parts : List (List ℕ)) (later : Tail) → number_of_part x ≡ first → closes (flags_in x) ≡ false →
-    Brings (first + 1) parts later → Brings first (x ∷ parts) (in_front (text_in x) later)
+    Brings (first + 1) parts later → Brings first (x ∷ parts) (before_it (text_in x) later)
 unfolding text_of_parts
 brings_more x first parts later number unclosed b = grind (arith, nat_tests, map, closed_more, closed_less)
 
@@ -112,7 +113,8 @@ brings index apid stop other (x ∷ xs) part s at = elim (does apid s x) [
         let none : packets_at index (kept apid s (x ∷ xs)) ≡ [] =
         ap (packets_at index) (first.kept_are xs) ∙ at_other index x (kept apid (after apid s x) xs) (λ e. omega (arith, e, past))
         ∙ shut index apid (after apid s x) xs record { last = part_in x; last_is = first.last; past = inl past } in
-        let ends : tail_over apid s (x ∷ xs) stop ≡ nothing InPieces = over_kept apid s x xs stop first.is_kept ∙ rw (zero_test (number_of_part x) first.part) refl in
+        let ends : tail_over apid s (x ∷ xs) stop ≡ nothing InPieces =
+        over_kept apid s x xs stop first.is_kept ∙ rw (zero_test (number_of_part x) first.part) refl in
         subst (λ parts. Brings (part + 1) parts (tail_over apid s (x ∷ xs) stop)) (sym none)
         (subst (Brings (part + 1) []) (sym ends) (brings_nothing (part + 1) InPieces in_pieces))
     | inr next ↦
@@ -121,7 +123,8 @@ brings index apid stop other (x ∷ xs) part s at = elim (does apid s x) [
         let part_is : number_of_part x ≡ part + 1 = next.part ∙ ap (λ (l : LastPart). l.part + 1) same ∙ ap (λ n. n + 1) at.part_is in
         let parts : packets_at index (kept apid s (x ∷ xs)) ≡ x ∷ packets_at index (kept apid (after apid s x) xs) =
         ap (packets_at index) (next.kept_are xs) ∙ at_same index x (kept apid (after apid s x) xs) index_is in
-        let tail : tail_over apid s (x ∷ xs) stop ≡ (if closes (flags_in x) then in_front (text_in x) (nothing Plainly) else in_front (text_in x) (tail_over apid (after apid s x) xs stop)) =
+        let tail : tail_over apid s (x ∷ xs) stop ≡ (if closes (flags_in x) then before_it (text_in x) (nothing Plainly) else before_it (text_in x)
+        (tail_over apid (after apid s x) xs stop)) =
         over_kept apid s x xs stop next.is_kept ∙ rw (more_test (number_of_part x) part part_is) refl in
         subst (λ parts. Brings (part + 1) parts (tail_over apid s (x ∷ xs) stop)) (sym parts)
         (subst (Brings (part + 1) (x ∷ packets_at index (kept apid (after apid s x) xs))) (sym tail)
@@ -130,12 +133,13 @@ brings index apid stop other (x ∷ xs) part s at = elim (does apid s x) [
 ]
   where
     by_flags : index_in x ≡ index → number_of_part x ≡ part + 1 → (after apid s x).last ≡ Some (part_in x) → (c : Bool) → closes (flags_in x) ≡ c →
-        (IsAt index (part + 1) (after apid s x) → Brings (part + 1 + 1) (packets_at index (kept apid (after apid s x) xs)) (tail_over apid (after apid s x) xs stop)) →
+        (IsAt index (part + 1) (after apid s x) → Brings (part + 1 + 1) (packets_at index (kept apid (after apid s x) xs))
+        (tail_over apid (after apid s x) xs stop)) →
         Brings (part + 1) (x ∷ packets_at index (kept apid (after apid s x) xs))
-        (if c then in_front (text_in x) (nothing Plainly) else in_front (text_in x) (tail_over apid (after apid s x) xs stop))
+        (if c then before_it (text_in x) (nothing Plainly) else before_it (text_in x) (tail_over apid (after apid s x) xs stop))
     by_flags index_is part_is last true e on =
         let none : packets_at index (kept apid (after apid s x) xs) ≡ [] = grind (arith, nat_tests, shut) in
-        subst (λ parts. Brings (part + 1) (x ∷ parts) (in_front (text_in x) (nothing Plainly))) (sym none) (brings_last x (part + 1) part_is e)
+        subst (λ parts. Brings (part + 1) (x ∷ parts) (before_it (text_in x) (nothing Plainly))) (sym none) (brings_last x (part + 1) part_is e)
     by_flags index_is part_is last false e on =
         brings_more x (part + 1) (packets_at index (kept apid (after apid s x) xs)) (tail_over apid (after apid s x) xs stop) part_is e
         (on record { last = part_in x; last_is = last; index_is = index_is; part_is = part_is; unclosed = e })
@@ -174,33 +178,40 @@ module _ (apid : ℕ) (before : List (List ℕ)) (packet : List ℕ) (later : Li
     closed_is : is_closed (after apid state packet).last ≡ closes (flags_in packet)
     closed_is = ap is_closed begins_it.last
 
-    whole : Brings 0 (packet ∷ more) (in_front (text_in packet) tail)
+    whole : Brings 0 (packet ∷ more) (before_it (text_in packet) tail)
     whole = by (closes (flags_in packet)) refl
       where
-        by : (c : Bool) → closes (flags_in packet) ≡ c → Brings 0 (packet ∷ more) (in_front (text_in packet) tail)
+        by : (c : Bool) → closes (flags_in packet) ≡ c → Brings 0 (packet ∷ more) (before_it (text_in packet) tail)
         by true e =
-            let none : more ≡ [] = shut index apid (after apid state packet) later record { last = part_in packet; last_is = begins_it.last; past = inr (refl, e) } in
+            let none : more ≡ [] = shut index apid (after apid state packet) later record {
+              last = part_in packet;
+              last_is = begins_it.last;
+              past =
+                  inr (refl, e);
+            } in
             let is : tail ≡ nothing Plainly = rw (closed_is ∙ e) refl in
-            subst (λ t. Brings 0 (packet ∷ more) (in_front (text_in packet) t)) (sym is)
-            (subst (λ xs. Brings 0 (packet ∷ xs) (in_front (text_in packet) (nothing Plainly))) (sym none) (brings_last packet 0 begins_it.part e))
+            subst (λ t. Brings 0 (packet ∷ more) (before_it (text_in packet) t)) (sym is)
+            (subst (λ xs. Brings 0 (packet ∷ xs) (before_it (text_in packet) (nothing Plainly))) (sym none) (brings_last packet 0 begins_it.part e))
         by false e =
             let is : tail ≡ tail_over apid (after apid state packet) later stop = rw (closed_is ∙ e) refl in
-            subst (λ t. Brings 0 (packet ∷ more) (in_front (text_in packet) t)) (sym is)
+            subst (λ t. Brings 0 (packet ∷ more) (before_it (text_in packet) t)) (sym is)
             (brings_more packet 0 more (tail_over apid (after apid state packet) later stop) begins_it.part e
             (brings index apid stop other later 0 (after apid state packet)
             record { last = part_in packet; last_is = begins_it.last; index_is = refl; part_is = begins_it.part; unclosed = e }))
 
-    tells : TellsParts apid before packet later stop (packet ∷ more)
-    tells = grind (arith, nat_tests, whole, parts_are)
+    reports : ReportsParts apid before packet later stop (packet ∷ more)
+    reports = grind (arith, nat_tests, whole, parts_are)
 
-pub tells_parts : (apid : ℕ) (before : List (List ℕ)) (packet : List ℕ) (later : List (List ℕ)) (stop : End) → (stop ≡ Plainly → ⊥) →
+pub reports_parts : (apid : ℕ) (before : List (List ℕ)) (packet : List ℕ) (later : List (List ℕ)) (stop : End) → (stop ≡ Plainly → ⊥) →
     is_first apid (after_all apid fresh before) packet ≡ true →
-    TellsParts apid before packet later stop (parts_in apid (before ++ packet ∷ later) (index_in packet))
-tells_parts apid before packet later stop other first = elim (does apid (after_all apid fresh before) packet) [
+    ReportsParts apid before packet later stop (parts_in apid (before ++ packet ∷ later) (index_in packet))
+reports_parts apid before packet later stop other first = elim (does apid (after_all apid fresh before) packet) [
   | inl lost ↦ absurd (false≢true (sym lost.lost ∙ first_kept apid (after_all apid fresh before) packet first))
   | inr here ↦ elim here [
-    | inl b ↦ subst (TellsParts apid before packet later stop) (sym (parts_are apid before packet later stop other b)) (tells apid before packet later stop other b)
-    | inr next ↦ absurd (false≢true (sym (more_test (number_of_part packet) next.before.part next.part) ∙ first_part apid (after_all apid fresh before) packet first))
+    | inl b ↦ subst (ReportsParts apid before packet later stop) (sym (parts_are apid before packet later stop other b))
+        (reports apid before packet later stop other b)
+    | inr next ↦ absurd (false≢true (sym (more_test (number_of_part packet) next.before.part next.part) ∙ first_part apid (after_all apid fresh before)
+        packet first))
   ]
 ]
 

@@ -14,7 +14,7 @@ use Rattle.stream_defs.specs.declared.fate.LastPart.{LastPart}
 use Rattle.stream_defs.specs.Fates.{fresh, fate, after, after_all, is_kept}
 use Rattle.space_packets.specs.Intake.{Intake, unread}
 use Rattle.packet_assembly.specs.declared.note.SegmentStart.{SegmentStart}
-use Rattle.packet_assembly.specs.Comings.{coming, sees_end}
+use Rattle.packet_assembly.specs.Arriving.{arriving, sees_end}
 
 -- The APID; the reader; the state that the packets so far leave for the next one's fate, and the number of these packets; the octets of the
 -- open segment's text that were read and not given yet; the start of the segment whose first packet ended the text before it, if there is
@@ -87,7 +87,7 @@ pub record Passes (P : FateState → Type 0) (old new : Outside) (a b : Assembli
   pub state : b.state ≡ after_all a.apid a.state passed
   pub count : b.packets ≡ a.packets + length passed
   pub capped : a.intake.taken ≤ a.intake.cap → b.intake.taken ≤ b.intake.cap
-  pub comes : (rest : List ℕ) → new.rest ≡ Some rest → coming a.intake (took ++ rest) ≡ joined passed ++ coming b.intake rest
+  pub arrives : (rest : List ℕ) → new.rest ≡ Some rest → arriving a.intake (took ++ rest) ≡ joined passed ++ arriving b.intake rest
   pub sees : (rest : List ℕ) → new.rest ≡ Some rest → sees_end a.intake (took ++ rest) ≡ sees_end b.intake rest
 
 -- the segment of the last place is the one before the stretch, or there is none before and after

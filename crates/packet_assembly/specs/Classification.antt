@@ -14,8 +14,8 @@ use Rattle.stream_defs.specs.Agreement.{geometry_for, head_refusal, geometry_pas
 use Rattle.stream_defs.specs.Fates.{is_foreign, is_late, is_out_of_place, closes}
 
 -- why the segment header of a packet with these fields is refused; only part 0 has one
-abbrev pub refusal_told : Option Geometry → Ancillary → List ℕ → Option HeadFault
-refusal_told standing a text = if a.part == 0 then head_refusal standing a (head_read text) else None
+abbrev pub refusal_known : Option Geometry → Ancillary → List ℕ → Option HeadFault
+refusal_known current a text = if a.part == 0 then head_refusal current a (head_read text) else None
 
 -- why a packet with these fields isn't kept: the first of these
 abbrev pub unkept : FateState → (flags : ℕ) → Ancillary → List ℕ → Option Fate
@@ -23,7 +23,7 @@ unkept s flags a text = first_of (
     when (is_foreign s a) Foreign
     ∷ when (is_late s.last a) Late
     ∷ when (is_out_of_place s.last flags a) OutOfPlace
-    ∷ option_map BadHead (refusal_told s.geometry a text)
+    ∷ option_map BadHead (refusal_known s.geometry a text)
     ∷ []
     )
 
@@ -32,8 +32,8 @@ ok_of (Ok head) = Some head
 ok_of (Err fault) = None
 
 -- the head that is read in part 0
-abbrev pub head_told : Ancillary → List ℕ → Option SegmentHead
-head_told a text = if a.part == 0 then ok_of (head_read text) else None
+abbrev pub head_known : Ancillary → List ℕ → Option SegmentHead
+head_known a text = if a.part == 0 then ok_of (head_read text) else None
 
 -- the head of a packet that is kept, or why it isn't
 abbrev pub classified_by : Option Fate → Option SegmentHead → Result (Option SegmentHead) Fate
@@ -41,17 +41,17 @@ classified_by None head = Ok head
 classified_by (Some fate) head = Err fate
 
 abbrev pub classified : FateState → (flags : ℕ) → Ancillary → List ℕ → Result (Option SegmentHead) Fate
-classified s flags a text = classified_by (unkept s flags a text) (head_told a text)
+classified s flags a text = classified_by (unkept s flags a text) (head_known a text)
 
 -- the geometry after a kept packet with these ancillary data, with this header
 abbrev pub geometry_left : Option Geometry → Ancillary → Option SegmentHead → Option Geometry
-geometry_left standing a None = standing
-geometry_left standing a (Some head) = Some (geometry_past (geometry_for standing a head.image) a head)
+geometry_left current a None = current
+geometry_left current a (Some head) = Some (geometry_past (geometry_for current a head.image) a head)
 
 -- the state after such a packet
 abbrev pub past_kept : FateState → (flags : ℕ) → Ancillary → Option SegmentHead → FateState
 past_kept s flags a head = record {
   geometry = geometry_left s.geometry a head;
-  told_last = a.told_last;
+  reported_last = a.reported_last;
   last = Some (record { index = a.index; part = a.part; closed = closes flags });
 }

@@ -30,8 +30,8 @@ assembling a = record {
 }
 
 -- the reader is at the octet at which it returns this fault
-abbrev pub StandsAtFault : (apid : ℕ) → Intake → Framing → Type 0
-StandsAtFault apid v fault = verdict apid v ≡ Some (Ok (Fault fault))
+abbrev pub IsValidAtFault : (apid : ℕ) → Intake → Framing → Type 0
+IsValidAtFault apid v fault = verdict apid v ≡ Some (Ok (Fault fault))
 
 -- Each packet that was passed had at least one octet; a geometry that is known is in range; and if a reason was found why the stream can't
 -- be read on, it is true.
@@ -41,16 +41,16 @@ pub record IsAssembled (a : Inside) : Type 0 where
   pub capped : a.reader.taken ≤ a.reader.cap
   pub cap : a.reader.cap < 2 ^ 64
   pub range : IsRanged a.state
-  pub framing : (fault : Framing) → a.framing ≡ Some fault → StandsAtFault a.apid a.reader fault
+  pub framing : (fault : Framing) → a.framing ≡ Some fault → IsValidAtFault a.apid a.reader fault
 
 -- ---- a packet of the image that was read, by what it says
 
-abbrev pub note_told : Assembling → Fate → PacketHead → Ancillary → PacketNote
-note_told v fate head a = record { number = v.packets; fate = fate; index = a.index; part = a.part; octets = head.length - 24 }
+abbrev pub note_known : Assembling → Fate → PacketHead → Ancillary → PacketNote
+note_known v fate head a = record { number = v.packets; fate = fate; index = a.index; part = a.part; octets = head.length - 24 }
 
-abbrev pub told_by : Assembling → PacketHead → Ancillary → Result (Option SegmentHead) Fate → Passed
-told_by v head a (Ok found) = record { note = note_told v Kept head a; start = start_of a found }
-told_by v head a (Err refusal) = record { note = note_told v refusal head a; start = None }
+abbrev pub known_by : Assembling → PacketHead → Ancillary → Result (Option SegmentHead) Fate → Passed
+known_by v head a (Ok found) = record { note = note_known v Kept head a; start = start_of a found }
+known_by v head a (Err refusal) = record { note = note_known v refusal head a; start = None }
 
 abbrev pub after_by : Assembling → PacketHead → Ancillary → Result (Option SegmentHead) Fate → Assembling
 after_by v head a (Ok found) = record v {
@@ -60,16 +60,16 @@ after_by v head a (Ok found) = record v {
 }
 after_by v head a (Err refusal) = record v { packets = v.packets + 1; text = [] }
 
-abbrev pub told_mine : Assembling → PacketHead → Ancillary → Passed
-told_mine v head a = told_by v head a (classified v.state head.flags a v.intake.text)
+abbrev pub known_mine : Assembling → PacketHead → Ancillary → Passed
+known_mine v head a = known_by v head a (classified v.state head.flags a v.intake.text)
 
 abbrev pub after_mine : Assembling → PacketHead → Ancillary → Assembling
 after_mine v head a = after_by v head a (classified v.state head.flags a v.intake.text)
 
 -- ---- another packet that was read
 
-abbrev pub told_other : Assembling → Skip → Passed
-told_other v skip =
+abbrev pub known_other : Assembling → Skip → Passed
+known_other v skip =
     record { note = record { number = v.packets; fate = Skipped skip; index = 0; part = 0; octets = 0 }; start = None }
 
 abbrev pub after_other : Assembling → Assembling

@@ -1,5 +1,5 @@
 pub mod Classification
-pub mod Comings
+pub mod Arriving
 pub mod Assembling
 pub mod Notes
 pub mod Ranged

@@ -20,7 +20,7 @@ use Rattle.packet_assembly.specs.declared.note.PacketNote.{PacketNote}
 use Rattle.packet_assembly.specs.declared.note.SegmentStart.{SegmentStart}
 use Rattle.packet_assembly.specs.declared.note.Passed.{Passed}
 use Rattle.packet_assembly.specs.Assembling.{Assembling}
-use Rattle.packet_assembly.specs.Classification.{head_told}
+use Rattle.packet_assembly.specs.Classification.{head_known}
 
 -- ---- what a packet adds
 
@@ -47,12 +47,12 @@ start_of a (Some head) = Some (record { ancillary = a; head = head })
 -- the octets of a packet's text that are its segment's after the head; of a packet that isn't kept there are none
 unfoldable pub text_brought : (apid : ℕ) → FateState → List ℕ → List ℕ
 text_brought apid s packet =
-    if is_kept (fate apid s packet) then drop (head_octets (head_told (ancillary_in packet) (text_in packet))) (text_in packet) else []
+    if is_kept (fate apid s packet) then drop (head_octets (head_known (ancillary_in packet) (text_in packet))) (text_in packet) else []
 
 -- the segment that a packet begins
 unfoldable pub start_brought : (apid : ℕ) → FateState → List ℕ → Option SegmentStart
 start_brought apid s packet =
-    if is_kept (fate apid s packet) then start_of (ancillary_in packet) (head_told (ancillary_in packet) (text_in packet)) else None
+    if is_kept (fate apid s packet) then start_of (ancillary_in packet) (head_known (ancillary_in packet) (text_in packet)) else None
 
 -- ---- one step
 
@@ -90,19 +90,19 @@ abbrev pub at_end : Assembling → Intake → Option Framing → Assembling
 at_end a intake framing = record a { intake = intake; text = []; framing = framing }
 
 -- the state after this was read
-abbrev pub stands_after : Assembling → List ℕ → Result PacketRead InFault → Intake → Assembling
-stands_after a octets (Ok (Mine head ancillary)) intake = past_next a octets intake
-stands_after a octets (Ok (Skipped skip)) intake = past_next a octets intake
-stands_after a octets (Ok Ended) intake = at_end a intake None
-stands_after a octets (Ok (Fault fault)) intake = at_end a intake (Some fault)
-stands_after a octets (Err fault) intake = at_end a intake a.framing
+abbrev pub valid_after : Assembling → List ℕ → Result PacketRead InFault → Intake → Assembling
+valid_after a octets (Ok (Mine head ancillary)) intake = past_next a octets intake
+valid_after a octets (Ok (Skipped skip)) intake = past_next a octets intake
+valid_after a octets (Ok Ended) intake = at_end a intake None
+valid_after a octets (Ok (Fault fault)) intake = at_end a intake (Some fault)
+valid_after a octets (Err fault) intake = at_end a intake a.framing
 
 -- One read of the reader, and its effect on the fates: each step of the code is one step of the fold.
 pub record PassesNext (old new : Outside) (a b : Assembling) (result : Result (Option Passed) InFault) : Type 0 where
   pub read : Result PacketRead InFault
   pub reads : ReadsPacket a.apid old new a.intake b.intake read
   pub answer : result ≡ passed_for a (fed a.intake reads.took reads.saw_end).pending read
-  pub stands : b ≡ stands_after a (fed a.intake reads.took reads.saw_end).pending read b.intake
+  pub valid : b ≡ valid_after a (fed a.intake reads.took reads.saw_end).pending read b.intake
 
 -- the same, if only the packet's note is returned
 pub record ReadsNote (old new : Outside) (a b : Assembling) (result : Result (Option PacketNote) InFault) : Type 0 where

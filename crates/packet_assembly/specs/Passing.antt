@@ -15,11 +15,12 @@ use Rattle.stream_defs.proofs.ChosenLaws.{after_all-append}
 use Rattle.std.specs.Prelude.{Option, None, Some}
 use Rattle.packet_assembly.specs.declared.note.SegmentStart.{SegmentStart}
 use Rattle.packet_assembly.specs.Assembling.{Assembling, state_with, AsksAt, AsksReadableFrom, Passes, BeginsNone, Starts}
-use Rattle.packet_assembly.specs.Comings.{coming, sees_end}
+use Rattle.packet_assembly.specs.Arriving.{arriving, sees_end}
 use Rattle.packet_assembly.specs.Segments.{Continues, BeganAt}
 
 -- packets before octets
-both_split : (packets : List (List ℕ)) (rest : List ℕ) → AllByRecursion IsPacket packets → Splits (joined packets ++ rest) (packets ++ whole_packets rest) (left_over rest)
+both_split : (packets : List (List ℕ)) (rest : List ℕ) → AllByRecursion IsPacket packets → Splits (joined packets ++ rest) (packets ++ whole_packets rest)
+    (left_over rest)
 both_split packets rest are =
     let s = whole_splits rest in
     record {
@@ -29,7 +30,8 @@ both_split packets rest are =
       none_left = s.none_left;
     }
 
-pub whole_after : (packets : List (List ℕ)) (rest : List ℕ) → AllByRecursion IsPacket packets → whole_packets (joined packets ++ rest) ≡ packets ++ whole_packets rest
+pub whole_after : (packets : List (List ℕ)) (rest : List ℕ) → AllByRecursion IsPacket packets → whole_packets (joined packets ++ rest) ≡ packets
+    ++ whole_packets rest
 whole_after packets rest are = splits_whole (both_split packets rest are)
 
 pub left_after : (packets : List (List ℕ)) (rest : List ℕ) → AllByRecursion IsPacket packets → left_over (joined packets ++ rest) ≡ left_over rest
@@ -70,16 +72,16 @@ passes_none p a = record {
   state = refl;
   count = sym (add-zero a.packets);
   capped = λ le. le;
-  comes = λ rest told. refl;
-  sees = λ rest told. refl;
+  arrives = λ rest if_known. refl;
+  sees = λ rest if_known. refl;
 }
 
 -- what was left before octets were taken
 pub before_loses : (o n : Option (List ℕ)) (took rest : List ℕ) → Loses o n took → n ≡ Some rest → o ≡ Some (took ++ rest)
-before_loses None None took rest loses told = absurd cc
-before_loses (Some before) (Some now) took rest loses told = let same : now ≡ rest = cc in ap Some (loses ∙ ap (λ zs. took ++ zs) same)
-before_loses None (Some now) took rest loses told = absurd loses
-before_loses (Some before) None took rest loses told = absurd loses
+before_loses None None took rest loses if_known = absurd cc
+before_loses (Some before) (Some now) took rest loses if_known = let same : now ≡ rest = cc in ap Some (loses ∙ ap (λ zs. took ++ zs) same)
+before_loses None (Some now) took rest loses if_known = absurd loses
+before_loses (Some before) None took rest loses if_known = absurd loses
 
 pub passes_then : {P Q : FateState → Type 0} {old mid new : Outside} {a b c : Assembling} {xs ys : List (List ℕ)} → ((s : FateState) → Q s → P s) →
     Passes P old mid a b xs → Passes Q mid new b c ys → Passes P old new a c (xs ++ ys)
@@ -90,14 +92,19 @@ passes_then {P = P} {Q = Q} {old = old} {mid = mid} {new = new} {a = a} {b = b} 
     let here = λ (i : ℕ). ap (state_with a) (take-append-add p.took q.took i) ∙ state_on p (take i q.took) in
     let left = λ (i : ℕ). ap (λ zs. left_over (a.intake.pending ++ zs)) (take-append-add p.took q.took i) ∙ left_on p (take i q.took) in
     let first_readable : Exchange old mid p.took [] [] (AsksReadableFrom a took) =
-    since_weaker p.readable (λ i j le r. (subst (λ zs. has_bad_version (left_over (a.intake.pending ++ zs)) ≡ false) (sym (take-append-le i p.took q.took le)) r.0, r.1)) in
+    since_weaker p.readable (λ i j le r. (
+      subst (λ zs. has_bad_version (left_over (a.intake.pending ++ zs)) ≡ false)
+          (sym (take-append-le i p.took q.took le)) r.0,
+      r.1,
+    )) in
     record {
       took = took;
       since = since_then first q.since (λ i j le r. (subst P (sym (here i)) (f _ r.0), omega (arith, r.1)));
       readable = since_then first_readable q.readable
           (λ i j le r. (subst (λ zs. has_bad_version zs ≡ false) (sym (left i)) r.0, omega (arith, r.1, p.cap, p.taken)));
       octets_are = sym (append_assoc a.intake.pending p.took q.took) ∙ ap (λ zs. zs ++ q.took) p.octets_are ∙ append_assoc (joined xs) b.intake.pending q.took
-          ∙ ap (λ zs. joined xs ++ zs) q.octets_are ∙ sym (append_assoc (joined xs) (joined ys) c.intake.pending) ∙ ap (λ zs. zs ++ c.intake.pending) (sym (joined-append xs ys));
+          ∙ ap (λ zs. joined xs ++ zs) q.octets_are ∙ sym (append_assoc (joined xs) (joined ys) c.intake.pending) ∙ ap (λ zs. zs ++ c.intake.pending)
+          (sym (joined-append xs ys));
       packets_are = each_of_both IsPacket xs ys p.packets_are q.packets_are;
       apid = q.apid ∙ p.apid;
       cap = q.cap ∙ p.cap;
@@ -105,19 +112,20 @@ passes_then {P = P} {Q = Q} {old = old} {mid = mid} {new = new} {a = a} {b = b} 
       state = q.state ∙ ap (λ n. after_all n b.state ys) p.apid ∙ ap (λ s. after_all a.apid s ys) p.state ∙ sym (after_all-append a.apid a.state xs ys);
       count = omega (arith, q.count, p.count, length-append xs ys);
       capped = λ le. q.capped (p.capped le);
-      comes = λ rest told.
-          let there = before_loses mid.rest new.rest q.took rest q.since.rest told in
-          ap (coming a.intake) (append_assoc p.took q.took rest) ∙ p.comes (q.took ++ rest) there ∙ ap (λ zs. joined xs ++ zs) (q.comes rest told)
-          ∙ sym (append_assoc (joined xs) (joined ys) (coming c.intake rest)) ∙ ap (λ zs. zs ++ coming c.intake rest) (sym (joined-append xs ys));
-      sees = λ rest told.
-          let there = before_loses mid.rest new.rest q.took rest q.since.rest told in
-          ap (sees_end a.intake) (append_assoc p.took q.took rest) ∙ p.sees (q.took ++ rest) there ∙ q.sees rest told;
+      arrives = λ rest if_known.
+          let there = before_loses mid.rest new.rest q.took rest q.since.rest if_known in
+          ap (arriving a.intake) (append_assoc p.took q.took rest) ∙ p.arrives (q.took ++ rest) there ∙ ap (λ zs. joined xs ++ zs) (q.arrives rest if_known)
+          ∙ sym (append_assoc (joined xs) (joined ys) (arriving c.intake rest)) ∙ ap (λ zs. zs ++ arriving c.intake rest) (sym (joined-append xs ys));
+      sees = λ rest if_known.
+          let there = before_loses mid.rest new.rest q.took rest q.since.rest if_known in
+          ap (sees_end a.intake) (append_assoc p.took q.took rest) ∙ p.sees (q.took ++ rest) there ∙ q.sees rest if_known;
     }
 
 -- ---- within a text
 
 -- packets that begin no segment, one part after another
-begins_both : (apid : ℕ) (s : FateState) (xs ys : List (List ℕ)) → BeginsNone apid s xs → BeginsNone apid (after_all apid s xs) ys → BeginsNone apid s (xs ++ ys)
+begins_both : (apid : ℕ) (s : FateState) (xs ys : List (List ℕ)) → BeginsNone apid s xs → BeginsNone apid (after_all apid s xs) ys →
+    BeginsNone apid s (xs ++ ys)
 begins_both apid s [] ys p q = q
 begins_both apid s (x ∷ xs) ys p q = (p.0, begins_both apid (after apid s x) xs ys p.1 q)
 
@@ -144,17 +152,18 @@ module _ {old mid new : Outside} {a b c : Assembling} (p : Continues old mid a b
   began_later : (start : SegmentStart) → b.held ≡ None → BeganAt b q.passed start c.text → BeganAt a (p.passed ++ q.passed) start c.text
   began_later start unheld x =
       let state : b.state ≡ after_all a.apid a.state p.passed = p.passes.state in
-      let none : BeginsNone a.apid (after_all a.apid a.state p.passed) x.front =
-      subst (λ s. BeginsNone a.apid s x.front) state (subst (λ n. BeginsNone n b.state x.front) p.passes.apid x.none_before) in
-      let there : after_all b.apid b.state x.front ≡ after_all a.apid a.state (p.passed ++ x.front) =
-      ap (λ n. after_all n b.state x.front) p.passes.apid ∙ ap (λ s. after_all a.apid s x.front) state ∙ sym (after_all-append a.apid a.state p.passed x.front) in
-      let starts : Starts a.apid (after_all a.apid a.state (p.passed ++ x.front)) x.packet start =
-      subst (λ s. Starts a.apid s x.packet start) there (subst (λ n. Starts n (after_all b.apid b.state x.front) x.packet start) p.passes.apid x.starts) in
+      let none : BeginsNone a.apid (after_all a.apid a.state p.passed) x.prefix =
+      subst (λ s. BeginsNone a.apid s x.prefix) state (subst (λ n. BeginsNone n b.state x.prefix) p.passes.apid x.none_before) in
+      let there : after_all b.apid b.state x.prefix ≡ after_all a.apid a.state (p.passed ++ x.prefix) =
+      ap (λ n. after_all n b.state x.prefix) p.passes.apid ∙ ap (λ s. after_all a.apid s x.prefix) state
+      ∙ sym (after_all-append a.apid a.state p.passed x.prefix) in
+      let starts : Starts a.apid (after_all a.apid a.state (p.passed ++ x.prefix)) x.packet start =
+      subst (λ s. Starts a.apid s x.packet start) there (subst (λ n. Starts n (after_all b.apid b.state x.prefix) x.packet start) p.passes.apid x.starts) in
       record {
-        front = p.passed ++ x.front;
+        prefix = p.passed ++ x.prefix;
         packet = x.packet;
-        passed_are = ap (λ zs. p.passed ++ zs) x.passed_are ∙ sym (append_assoc p.passed x.front (x.packet ∷ []));
-        none_before = begins_both a.apid a.state p.passed x.front (p.begins_none unheld) none;
+        passed_are = ap (λ zs. p.passed ++ zs) x.passed_are ∙ sym (append_assoc p.passed x.prefix (x.packet ∷ []));
+        none_before = begins_both a.apid a.state p.passed x.prefix (p.begins_none unheld) none;
         starts = starts;
         text_is = x.text_is;
       }
@@ -164,7 +173,7 @@ module _ {old mid new : Outside} {a b c : Assembling} (p : Continues old mid a b
   began_before start held x =
       let on = q.held_on start held in
       record {
-        front = x.front;
+        prefix = x.prefix;
         packet = x.packet;
         passed_are = ap (λ zs. p.passed ++ zs) on.0 ∙ append-nil p.passed ∙ x.passed_are;
         none_before = x.none_before;
@@ -192,7 +201,12 @@ module _ {old mid new : Outside} {a b c : Assembling} (p : Continues old mid a b
   pub goes_both : Continues old new a c
   goes_both = record {
     passed = p.passed ++ q.passed;
-    passes = passes_then (λ s open_there. let x = p.still open_there.unheld in record { unheld = x.0; unclosed = open_there.unclosed; same = open_there.same ∙ x.1 }) p.passes q.passes;
+    passes = passes_then (λ s open_there. let x = p.still open_there.unheld in record {
+      unheld = x.0;
+      unclosed = open_there.unclosed;
+      same =
+          open_there.same ∙ x.1;
+    }) p.passes q.passes;
     still = λ e. let y = q.still e in let x = p.still y.0 in (x.0, y.1 ∙ x.1);
     begins_none = none_both;
     began = began_both;

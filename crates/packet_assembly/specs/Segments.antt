@@ -13,17 +13,17 @@ use Rattle.packet_assembly.specs.Assembling.{Assembling, Starts, BeginsNone, Pas
 -- it was held: its first packet had ended the text before
 pub record WasHeld (old new : Outside) (a b : Assembling) (start : SegmentStart) : Type 0 where
   pub held : a.held ≡ Some start
-  pub stands : b ≡ record a { held = None }
+  pub valid : b ≡ record a { held = None }
   pub same : old ≡ new
 
 -- it was found: its first packet is the first of those that were passed which begins a segment
 pub record WasFound (old new : Outside) (a b : Assembling) (start : SegmentStart) : Type 0 where
   pub none_held : a.held ≡ None
-  pub front : List (List ℕ)
+  pub prefix : List (List ℕ)
   pub packet : List ℕ
-  pub passed : Passes (StaysAt a) old new a b (front ++ packet ∷ [])
-  pub none_before : BeginsNone a.apid a.state front
-  pub starts : Starts a.apid (after_all a.apid a.state front) packet start
+  pub passed : Passes (StaysAt a) old new a b (prefix ++ packet ∷ [])
+  pub none_before : BeginsNone a.apid a.state prefix
+  pub starts : Starts a.apid (after_all a.apid a.state prefix) packet start
   pub text : b.text ≡ text_after packet start.head
   pub none_after : b.held ≡ None
 
@@ -37,36 +37,36 @@ pub record FoundNone (old new : Outside) (a b : Assembling) : Type 0 where
   pub none_after : b.held ≡ None
 
 -- the reader is at the octet at which it returns the end, or why there is none
-abbrev pub StandsEnded : Assembling → Type 0
-StandsEnded b = verdict b.apid b.intake ≡ Some (Ok (end_read b.framing))
+abbrev pub IsValidEnded : Assembling → Type 0
+IsValidEnded b = verdict b.apid b.intake ≡ Some (Ok (end_read b.framing))
 
 -- the reader is at the octet at which it returns that the input is too long
-abbrev pub StandsLong : Assembling → Type 0
-StandsLong b = verdict b.apid b.intake ≡ Some (Err LongInput)
+abbrev pub IsValidLong : Assembling → Type 0
+IsValidLong b = verdict b.apid b.intake ≡ Some (Err LongInput)
 
 abbrev pub EndsSegment : (old new : Outside) (a b : Assembling) → Result (Option SegmentStart) InFault → Type 0
 EndsSegment old new a b (Ok (Some start)) = WasHeld old new a b start ⊎ WasFound old new a b start
-EndsSegment old new a b (Ok None) = FoundNone old new a b × StandsEnded b
+EndsSegment old new a b (Ok None) = FoundNone old new a b × IsValidEnded b
 EndsSegment old new a b (Err ReadFault) = FoundNone old new a b × Rose old.read_faults new.read_faults
-EndsSegment old new a b (Err LongInput) = FoundNone old new a b × StandsLong b
+EndsSegment old new a b (Err LongInput) = FoundNone old new a b × IsValidLong b
 EndsSegment old new a b (Err Broken) = ⊥
 
 -- The effect of a call that advances to the next segment. If none is held, and the end, what can't be read on or an input that is too long
 -- was returned before, it is returned again.
 pub record FindsSegment (old new : Outside) (a b : Assembling) (result : Result (Option SegmentStart) InFault) : Type 0 where
   pub ends : EndsSegment old new a b result
-  pub ended : a.held ≡ None → StandsEnded a → result ≡ Ok None
-  pub long : a.held ≡ None → StandsLong a → result ≡ Err LongInput
+  pub ended : a.held ≡ None → IsValidEnded a → result ≡ Ok None
+  pub long : a.held ≡ None → IsValidLong a → result ≡ Err LongInput
 
 -- ---- a segment's text
 
 -- the last of the packets that were passed begins a segment, and no other does; the octets that wait are of its text
 pub record BeganAt (a : Assembling) (passed : List (List ℕ)) (start : SegmentStart) (text : List ℕ) : Type 0 where
-  pub front : List (List ℕ)
+  pub prefix : List (List ℕ)
   pub packet : List ℕ
-  pub passed_are : passed ≡ front ++ packet ∷ []
-  pub none_before : BeginsNone a.apid a.state front
-  pub starts : Starts a.apid (after_all a.apid a.state front) packet start
+  pub passed_are : passed ≡ prefix ++ packet ∷ []
+  pub none_before : BeginsNone a.apid a.state prefix
+  pub starts : Starts a.apid (after_all a.apid a.state prefix) packet start
   pub text_is : text ≡ text_after packet start.head
 
 -- Some calls continued within a text: packets were passed, and at each read call the octets that were taken so far left the text of the

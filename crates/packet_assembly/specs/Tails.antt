@@ -8,16 +8,16 @@ use Rattle.packet_defs.specs.Streams.{has_bad_version, whole_packets, left_over}
 use Rattle.stream_defs.specs.declared.fate.FateState.{FateState}
 use Rattle.stream_defs.specs.Fates.{fate, after, is_kept, closes}
 use Rattle.space_packets.specs.Intake.{Intake}
-use Rattle.packet_assembly.specs.Comings.{coming, sees_end}
+use Rattle.packet_assembly.specs.Arriving.{arriving, sees_end}
 use Rattle.packet_assembly.specs.Assembling.{Assembling, is_closed}
 
 -- how a text that isn't closed ends with the stream: in pieces at the end and at what can't be read on, otherwise at the cap
 abbrev pub stop_of : Intake → List ℕ → End
-stop_of v rest = if has_bad_version (left_over (coming v rest)) || sees_end v rest then InPieces else TooLong
+stop_of v rest = if has_bad_version (left_over (arriving v rest)) || sees_end v rest then InPieces else TooLong
 
 -- some octets before what follows
-abbrev pub in_front : List ℕ → Tail → Tail
-in_front octets tail = record { octets = octets ++ tail.octets; ends = tail.ends }
+abbrev pub before_it : List ℕ → Tail → Tail
+before_it octets tail = record { octets = octets ++ tail.octets; ends = tail.ends }
 
 abbrev pub nothing : End → Tail
 nothing ends = record { octets = []; ends = ends }
@@ -26,7 +26,7 @@ nothing ends = record { octets = []; ends = ends }
 abbrev pub kept_tail : List ℕ → Tail → Tail
 kept_tail packet later =
     if (ancillary_in packet).part == 0 then nothing InPieces else
-    (if closes (flags_in packet) then in_front (text_in packet) (nothing Plainly) else in_front (text_in packet) later)
+    (if closes (flags_in packet) then before_it (text_in packet) (nothing Plainly) else before_it (text_in packet) later)
 
 -- what whole packets add to the text, and then this end
 unfoldable pub tail_over : (apid : ℕ) → FateState → List (List ℕ) → End → Tail
@@ -41,12 +41,12 @@ tail_from apid s packets stop = if is_closed s.last then nothing Plainly else ta
 
 -- what follows the octets that were read
 abbrev pub tail_after : Assembling → List ℕ → Tail
-tail_after a rest = tail_from a.apid a.state (whole_packets (coming a.intake rest)) (stop_of a.intake rest)
+tail_after a rest = tail_from a.apid a.state (whole_packets (arriving a.intake rest)) (stop_of a.intake rest)
 
 -- all that follows of the text, if these octets are left to be read; nothing if another segment was begun
 abbrev pub text_tail : Assembling → List ℕ → Tail
-text_tail a rest = if is_some a.held then nothing InPieces else in_front a.text (tail_after a rest)
+text_tail a rest = if is_some a.held then nothing InPieces else before_it a.text (tail_after a rest)
 
 -- the same, if the port reports what is left
-abbrev pub told_tail : Outside → Assembling → Option Tail
-told_tail now a = option_map (text_tail a) now.rest
+abbrev pub known_tail : Outside → Assembling → Option Tail
+known_tail now a = option_map (text_tail a) now.rest

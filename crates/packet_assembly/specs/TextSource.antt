@@ -7,7 +7,7 @@ use Rattle.packet_assembly.specs.declared.text.SegmentText.{SegmentText}
 use Rattle.packet_assembly.specs.Assembling.{Assembling}
 use Rattle.packet_assembly.specs.Segments.{Continues}
 use Rattle.packet_assembly.specs.Passing.{goes_nowhere, goes_both}
-use Rattle.packet_assembly.specs.Tails.{told_tail}
+use Rattle.packet_assembly.specs.Tails.{known_tail}
 
 -- some calls continued within the text, by the same assembly and port
 pub record Went {X : Type 0} (outside : X → Outside) (s t : SegmentText X) : Type 0 where
@@ -28,7 +28,7 @@ text_ready a = if is_some a.held then [] else a.text
 -- Its octets are known if the port reports what is left to be read, and it counts the port's faults of reading.
 abbrev pub segment_source : {X : Type 0} → (X → Outside) → SourceOf (SegmentText X)
 segment_source outside = record {
-  tail = λ s. told_tail (outside s.port.now) s.assembly.now;
+  tail = λ s. known_tail (outside s.port.now) s.assembly.now;
   buffer = λ s. text_ready s.assembly.now;
   faults = λ s. (outside s.port.now).read_faults;
   Went = Went outside;

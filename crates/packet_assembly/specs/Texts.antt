@@ -1,6 +1,6 @@
 -- The effect of a call for the next octet of a text. This project's own.
 use Rattle.std.specs.Prelude.{◌≡◌, ◌<◌, ◌++◌, ℕ, take, List, [], ◌∷◌, Option, None, Some, Result, Ok, Err, IfOk, Bool, true, false, length}
-use Rattle.bit_pipe.specs.Sources.{Plainly, TooLong, InPieces, Comes, IsOver}
+use Rattle.bit_pipe.specs.Sources.{Plainly, TooLong, InPieces, Arrives, IsOver}
 use Rattle.bit_pipe.specs.declared.fault.InFault.{InFault}
 use Rattle.bit_pipe.specs.declared.fault.InFault.TheVariants.{ReadFault, LongInput, Broken}
 use Rattle.port_122.specs.Outside.{Outside, Exchange, Rose}
@@ -10,22 +10,22 @@ use Rattle.stream_defs.specs.Fates.{after}
 use Rattle.packet_assembly.specs.Assembling.{Assembling, is_first, is_closed}
 use Rattle.packet_assembly.specs.Notes.{text_brought}
 use Rattle.packet_assembly.specs.Segments.{Continues}
-use Rattle.packet_assembly.specs.Tails.{told_tail}
+use Rattle.packet_assembly.specs.Tails.{known_tail}
 
 -- why no octet was given
 abbrev pub FailsSo : InFault → (old new : Outside) (b : Assembling) → Type 0
 FailsSo ReadFault old new b = Rose old.read_faults new.read_faults
-FailsSo LongInput old new b = IsOver (told_tail new b) TooLong
-FailsSo Broken old new b = IsOver (told_tail new b) InPieces
+FailsSo LongInput old new b = IsOver (known_tail new b) TooLong
+FailsSo Broken old new b = IsOver (known_tail new b) InPieces
 
 -- the octets that were given
-abbrev pub ComesSo : (old new : Outside) (a b : Assembling) → List ℕ → Type 0
-ComesSo old new a b octets = Comes (told_tail old a) (told_tail new b) octets
+abbrev pub ArrivesSo : (old new : Outside) (a b : Assembling) → List ℕ → Type 0
+ArrivesSo old new a b octets = Arrives (known_tail old a) (known_tail new b) octets
 
 abbrev pub EndsTaken : (old new : Outside) (a b : Assembling) → Result (Option ℕ) InFault → Type 0
-EndsTaken old new a b (Ok (Some octet)) = ComesSo old new a b (octet ∷ []) × (octet < 256)
-EndsTaken old new a b (Ok None) = ComesSo old new a b [] × IsOver (told_tail new b) Plainly
-EndsTaken old new a b (Err fault) = ComesSo old new a b [] × FailsSo fault old new b
+EndsTaken old new a b (Ok (Some octet)) = ArrivesSo old new a b (octet ∷ []) × (octet < 256)
+EndsTaken old new a b (Ok None) = ArrivesSo old new a b [] × IsOver (known_tail new b) Plainly
+EndsTaken old new a b (Err fault) = ArrivesSo old new a b [] × FailsSo fault old new b
 
 -- ---- no call reads while an octet of the text, its end or its break was read already
 
@@ -63,14 +63,14 @@ pub record TakesOctet (old new : Outside) (a b : Assembling) (result : Result (O
 
 abbrev pub EndsFilling : (old new : Outside) (a b : Assembling) → Result Bool InFault → Type 0
 EndsFilling old new a b (Ok true) = 0 < length b.text
-EndsFilling old new a b (Ok false) = IsOver (told_tail new b) Plainly
+EndsFilling old new a b (Ok false) = IsOver (known_tail new b) Plainly
 EndsFilling old new a b (Err fault) = FailsSo fault old new b
 
 -- octets of the text wait, or its end, or why there is none
 pub record FillsText (old new : Outside) (a b : Assembling) (result : Result Bool InFault) : Type 0 where
   pub goes : Continues old new a b
   pub silent : Silent old new a
-  pub comes : ComesSo old new a b []
+  pub arrives : ArrivesSo old new a b []
   pub unheld : IfOk result (λ _. b.held ≡ None)
   pub closed : result ≡ Ok false → is_closed b.state.last ≡ true
   pub ends : EndsFilling old new a b result

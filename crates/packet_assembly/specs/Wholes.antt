@@ -18,7 +18,7 @@ tail_past apid before packet later stop = tail_from apid (after apid (after_all 
 
 -- The segment's kept packets are the one that begins it and those that carry the rest of its text. They are complete exactly if the text
 -- ends plainly.
-pub record TellsParts (apid : ℕ) (before : List (List ℕ)) (packet : List ℕ) (later : List (List ℕ)) (stop : End) (parts : List (List ℕ)) : Type 0 where
+pub record ReportsParts (apid : ℕ) (before : List (List ℕ)) (packet : List ℕ) (later : List (List ℕ)) (stop : End) (parts : List (List ℕ)) : Type 0 where
   pub first : slice_index_or parts 0 [] ≡ packet
   pub text : text_of_parts parts ≡ text_in packet ++ (tail_past apid before packet later stop).octets
   pub complete : (tail_past apid before packet later stop).ends ≡ Plainly → IsComplete parts
@@ -26,10 +26,10 @@ pub record TellsParts (apid : ℕ) (before : List (List ℕ)) (packet : List ℕ
 
 -- This holds for each segment that is begun, if the stream's own end isn't plain. If none of the packets begins a segment, none of that
 -- segment is kept.
-pub record TailsTell : Type 0 where
+pub record TailsReport : Type 0 where
   pub begun : (apid : ℕ) (before : List (List ℕ)) (packet : List ℕ) (later : List (List ℕ)) (stop : End) → (stop ≡ Plainly → ⊥) →
       is_first apid (after_all apid fresh before) packet ≡ true →
-      TellsParts apid before packet later stop (parts_in apid (before ++ packet ∷ later) (index_in packet))
+      ReportsParts apid before packet later stop (parts_in apid (before ++ packet ∷ later) (index_in packet))
   pub unbegun : (apid index : ℕ) (packets : List (List ℕ)) →
       ((before : List (List ℕ)) (packet : List ℕ) (later : List (List ℕ)) → packets ≡ before ++ packet ∷ later →
       is_first apid (after_all apid fresh before) packet ≡ true → index_in packet ≡ index → ⊥) →

@@ -1,20 +1,18 @@
 // Whether a segment header agrees with the image of its packet.
 ghost use Rattle.std.specs.Prelude.{◌≡◌, ◌<◌, ◌^◌, ◌&&◌, true, if◌then◌else◌};
-ghost use Rattle.stream_defs.specs.Agreement.{geometry_for, blocks_of, has_blocks, ends_where_told, pads_as_told, may_have_blocks, told_height, may_end, is_of_image, disagreement, geometry_past};
+ghost use Rattle.stream_defs.specs.Agreement.{geometry_for, blocks_of, has_blocks, ends_where_reported, pads_as_reported, may_have_blocks, reported_height};
+ghost use Rattle.stream_defs.specs.Agreement.{may_end};
+ghost use Rattle.stream_defs.specs.Agreement.{is_of_image, disagreement, geometry_past};
 
 use base_122::{FieldRange, Geometry};
 use packet_defs::Ancillary;
 use segment_defs::{HeadFault, HeadField, ImagePart, SegmentHead};
 
 /// Returns the geometry that is known, or that of a segment's packet and header.
-pub fn geometry_for(
-    standing: Option<Geometry>,
-    ancillary: &Ancillary,
-    image: &ImagePart,
-) -> Geometry
-    ensures { result ≡ geometry_for standing ancillary.now image.now }
+pub fn geometry_for(current: Option<Geometry>, ancillary: &Ancillary, image: &ImagePart) -> Geometry
+    ensures { result ≡ geometry_for current ancillary.now image.now }
 {
-    if let Some(geometry) = standing {
+    if let Some(geometry) = current {
         return geometry;
     }
     Geometry {
@@ -60,7 +58,7 @@ pub fn disagreement(
     if u32::from(head.count) != ancillary.index % 256 {
         return Some(HeadFault::BadValue(HeadField::Count));
     }
-    if !ancillary.told_last && !pads_as_told(geometry, head) {
+    if !ancillary.reported_last && !pads_as_reported(geometry, head) {
         return Some(HeadFault::BadValue(HeadField::PadRows));
     }
     if !is_of_image(geometry, &head.image) {
@@ -71,9 +69,9 @@ pub fn disagreement(
 
 // Returns whether the blocks are those that the segment can have.
 fn agree_in_blocks(geometry: &Geometry, ancillary: &Ancillary, head: &SegmentHead) -> bool
-    ensures { result ≡ (if ancillary.now.told_last then may_have_blocks geometry.now head.now else has_blocks geometry.now ancillary.now head.now) }
+    ensures { result ≡ (if ancillary.now.reported_last then may_have_blocks geometry.now head.now else has_blocks geometry.now ancillary.now head.now) }
 {
-    if ancillary.told_last {
+    if ancillary.reported_last {
         return may_have_blocks(geometry, head);
     }
     has_blocks(geometry, ancillary, head)
@@ -82,12 +80,13 @@ fn agree_in_blocks(geometry: &Geometry, ancillary: &Ancillary, head: &SegmentHea
 // Returns whether the segment is the last one exactly if the image can end, or ends, with it.
 fn agree_in_end(geometry: &Geometry, ancillary: &Ancillary, head: &SegmentHead) -> bool
     requires { 0 < geometry.now.width }
-    ensures { result ≡ (if ancillary.now.told_last then may_end geometry.now ancillary.now head.now else ends_where_told geometry.now ancillary.now head.now) }
+    ensures { result ≡ (if ancillary.now.reported_last then may_end geometry.now ancillary.now head.now else ends_where_reported geometry.now ancillary.now
+        head.now) }
 {
-    if ancillary.told_last {
+    if ancillary.reported_last {
         return may_end(geometry, ancillary, head);
     }
-    ends_where_told(geometry, ancillary, head)
+    ends_where_reported(geometry, ancillary, head)
 }
 
 // Returns whether the blocks are the segment's, if the height is known.
@@ -103,16 +102,16 @@ fn has_blocks(geometry: &Geometry, ancillary: &Ancillary, head: &SegmentHead) ->
 }
 
 // Returns whether the segment is the last one exactly if it has the image's last block.
-fn ends_where_told(geometry: &Geometry, ancillary: &Ancillary, head: &SegmentHead) -> bool
-    ensures { result ≡ ends_where_told geometry.now ancillary.now head.now }
+fn ends_where_reported(geometry: &Geometry, ancillary: &Ancillary, head: &SegmentHead) -> bool
+    ensures { result ≡ ends_where_reported geometry.now ancillary.now head.now }
 {
     let ends = u64::from(ancillary.first) + u64::from(head.blocks) == blocks_of(geometry);
     head.last == ends
 }
 
 // Returns whether the padding rows are those of the image, in its last segment.
-fn pads_as_told(geometry: &Geometry, head: &SegmentHead) -> bool
-    ensures { result ≡ pads_as_told geometry.now head.now }
+fn pads_as_reported(geometry: &Geometry, head: &SegmentHead) -> bool
+    ensures { result ≡ pads_as_reported geometry.now head.now }
 {
     let rows = u64::from(geometry.rows);
     !head.last || u64::from(head.pad_rows) == rows.div_ceil(8) * 8 - rows
@@ -139,26 +138,26 @@ fn may_end(geometry: &Geometry, ancillary: &Ancillary, head: &SegmentHead) -> bo
         return first + u64::from(geometry.segment) < 32_768 * columns;
     }
     (first + u64::from(head.blocks)) % columns == 0
-        && FieldRange::ROWS.contains(told_height(geometry, ancillary, head))
+        && FieldRange::ROWS.contains(reported_height(geometry, ancillary, head))
 }
 
 /// Returns the geometry after a header that agrees is kept: if the height is reported last, the last header reports it.
 pub fn geometry_past(geometry: &Geometry, ancillary: &Ancillary, head: &SegmentHead) -> Geometry
     requires width { 0 < geometry.now.width }
-    requires height { (ancillary.now.told_last && head.now.last) ≡ true → told_height geometry.now ancillary.now head.now < 2 ^ 32 }
+    requires height { (ancillary.now.reported_last && head.now.last) ≡ true → reported_height geometry.now ancillary.now head.now < 2 ^ 32 }
     ensures { result ≡ geometry_past geometry.now ancillary.now head.now }
 {
-    if !ancillary.told_last || !head.last {
+    if !ancillary.reported_last || !head.last {
         return *geometry;
     }
-    let rows = told_height(geometry, ancillary, head) as u32;
+    let rows = reported_height(geometry, ancillary, head) as u32;
     Geometry { rows, ..*geometry }
 }
 
 // Returns the height that a last header reports.
-fn told_height(geometry: &Geometry, ancillary: &Ancillary, head: &SegmentHead) -> u64
+fn reported_height(geometry: &Geometry, ancillary: &Ancillary, head: &SegmentHead) -> u64
     requires { 0 < geometry.now.width }
-    ensures { result ≡ told_height geometry.now ancillary.now head.now }
+    ensures { result ≡ reported_height geometry.now ancillary.now head.now }
 {
     let columns = u64::from(geometry.width.div_ceil(8));
     let block_rows = (u64::from(ancillary.first) + u64::from(head.blocks)) / columns;

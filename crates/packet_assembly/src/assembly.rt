@@ -48,7 +48,7 @@ impl Model for Assembly {
 
 impl Assembly {
     ghost use Rattle.packet_assembly.specs.Assembling.{unread_assembly};
-    ghost use Rattle.packet_assembly.specs.Held.{StandsAtFault, told_mine, after_mine, told_other, after_other};
+    ghost use Rattle.packet_assembly.specs.Held.{IsValidAtFault, known_mine, after_mine, known_other, after_other};
     ghost use Rattle.packet_assembly.specs.Notes.{PassesNext, ReadsNote};
     ghost use Rattle.packet_defs.specs.Streams.{begins_packet};
     ghost use Rattle.packet_assembly.specs.Assembling.{is_closed};
@@ -68,7 +68,7 @@ impl Assembly {
             apid,
             state: FateState {
                 geometry: None,
-                told_last: false,
+                reported_last: false,
                 last: None,
             },
             packets: 0,
@@ -81,7 +81,7 @@ impl Assembly {
     /// Returns the geometry of the image, from its first kept packet on. Each of its fields is in range; its rows are 0 while the
     /// height isn't reported.
     pub fn geometry(&self) -> Option<Geometry>
-        ensures standing { result ≡ self.now.state.geometry }
+        ensures current { result ≡ self.now.state.geometry }
         ensures in_range { IfSome result IsGeometryInRange }
     {
         self.state.geometry
@@ -90,7 +90,7 @@ impl Assembly {
     /// Returns why the stream can't be read on, if that was found: the reader is at that octet.
     pub fn framing(&self) -> Option<Framing>
         ensures found { result ≡ self.now.framing }
-        ensures met { IfSome result (StandsAtFault self.now.apid self.now.intake) }
+        ensures met { IfSome result (IsValidAtFault self.now.apid self.now.intake) }
     {
         self.framing
     }
@@ -269,8 +269,8 @@ impl Assembly {
         requires counted { self.old.packets + length self.old.intake.pending < self.old.intake.taken }
         requires field { 24 ≤ head.now.length }
         requires image { ancillary.now.image ≤ 65535 }
-        ensures told { result ≡ told_mine self.old head.now ancillary.now }
-        ensures stands { self.new ≡ after_mine self.old head.now ancillary.now }
+        ensures if_known { result ≡ known_mine self.old head.now ancillary.now }
+        ensures valid { self.new ≡ after_mine self.old head.now ancillary.now }
     {
         let text = self.reader.text();
         let octets = text.len();
@@ -282,14 +282,14 @@ impl Assembly {
                 self.state = past_kept(&self.state, head.flags, ancillary, found);
                 self.next = head_octets(found);
                 Passed {
-                    note: note_told(number, Fate::Kept, head, ancillary),
+                    note: note_known(number, Fate::Kept, head, ancillary),
                     start: start_of(ancillary, found),
                 }
             }
             Err(fate) => {
                 self.next = octets;
                 Passed {
-                    note: note_told(number, fate, head, ancillary),
+                    note: note_known(number, fate, head, ancillary),
                     start: None,
                 }
             }
@@ -299,8 +299,8 @@ impl Assembly {
     // Passes another packet that was read.
     fn pass_other(&mut self, skip: Skip) -> Passed
         requires counted { self.old.packets + length self.old.intake.pending < self.old.intake.taken }
-        ensures told { result ≡ told_other self.old skip }
-        ensures stands { self.new ≡ after_other self.old }
+        ensures if_known { result ≡ known_other self.old skip }
+        ensures valid { self.new ≡ after_other self.old }
     {
         let number = self.packets;
         self.packets += 1;
@@ -319,7 +319,7 @@ impl Assembly {
 }
 
 // Returns the report of a packet of the image.
-fn note_told(number: u64, fate: Fate, head: &PacketHead, ancillary: &Ancillary) -> PacketNote
+fn note_known(number: u64, fate: Fate, head: &PacketHead, ancillary: &Ancillary) -> PacketNote
     requires { 24 ≤ head.now.length }
     ensures { result ≡ record { number = number; fate = fate; index = ancillary.now.index; part = ancillary.now.part; octets = head.now.length - 24 } }
 {

@@ -1,12 +1,12 @@
 // The fate of an image's packet, by its fields.
 ghost use Rattle.std.specs.Prelude.{◌≡◌, ◌&&◌, Some, None, Ok, Err, if◌then◌else◌, MatchResult, IfOk, IfSome};
 ghost use Rattle.stream_defs.specs.Agreement.{head_refusal};
-ghost use Rattle.stream_defs.specs.Fates.{tells_rows, is_past, differs, is_foreign, is_late, follows, is_out_of_place, closes};
+ghost use Rattle.stream_defs.specs.Fates.{reports_rows, is_past, differs, is_foreign, is_late, follows, is_out_of_place, closes};
 ghost use Rattle.segment_defs.specs.Head.{IsHead};
 ghost use Rattle.segment_defs.specs.Reading.{head_read};
 ghost use Rattle.base_122.specs.Ranges.{IsGeometryInRange};
 ghost use Rattle.packet_assembly.specs.Classification.{classified, past_kept};
-ghost use Rattle.packet_assembly.specs.Ranged.{IsRanged, TellsHeight};
+ghost use Rattle.packet_assembly.specs.Ranged.{IsRanged, ReportsHeight};
 
 use crate::agreement::{blocks_of, disagreement, geometry_for, geometry_past};
 use base_122::{FieldRange, Geometry};
@@ -54,7 +54,7 @@ pub fn past_kept(
 ) -> FateState
     requires ranged { IsRanged state.now }
     requires fits { IfSome head IsHead }
-    requires height { IfSome head (TellsHeight state.now ancillary.now) }
+    requires height { IfSome head (ReportsHeight state.now ancillary.now) }
     ensures { result ≡ past_kept state.now flags ancillary.now head }
 {
     let last = Some(LastPart {
@@ -71,25 +71,25 @@ pub fn past_kept(
     };
     FateState {
         geometry,
-        told_last: ancillary.told_last,
+        reported_last: ancillary.reported_last,
         last,
     }
 }
 
 // Returns the segment header in a segment's first packet, if it agrees with the rest.
 fn read_first(
-    standing: Option<Geometry>,
+    current: Option<Geometry>,
     ancillary: &Ancillary,
     text: &[u8],
 ) -> Result<SegmentHead, HeadFault>
-    requires ranged { IfSome standing IsGeometryInRange }
+    requires ranged { IfSome current IsGeometryInRange }
     ensures read { MatchResult result
-        (λ head. (head_read text.now ≡ Ok head) × (head_refusal standing ancillary.now (Ok head) ≡ None))
-        (λ fault. head_refusal standing ancillary.now (head_read text.now) ≡ Some fault) }
+        (λ head. (head_read text.now ≡ Ok head) × (head_refusal current ancillary.now (Ok head) ≡ None))
+        (λ fault. head_refusal current ancillary.now (head_read text.now) ≡ Some fault) }
     ensures fits { IfOk result (λ head. IsHead head) }
 {
     let head = read_head(text)?;
-    let geometry = geometry_for(standing, ancillary, &head.image);
+    let geometry = geometry_for(current, ancillary, &head.image);
     match disagreement(&geometry, ancillary, &head) {
         None => Ok(head),
         Some(fault) => Err(fault),
@@ -100,7 +100,7 @@ fn read_first(
 fn is_foreign(state: &FateState, ancillary: &Ancillary) -> bool
     ensures { result ≡ is_foreign state.now ancillary.now }
 {
-    if !tells_rows(ancillary) || !FieldRange::SEGMENT.contains(u64::from(ancillary.segment)) {
+    if !reports_rows(ancillary) || !FieldRange::SEGMENT.contains(u64::from(ancillary.segment)) {
         return true;
     }
     if u64::from(ancillary.first) != u64::from(ancillary.index) * u64::from(ancillary.segment) {
@@ -108,26 +108,26 @@ fn is_foreign(state: &FateState, ancillary: &Ancillary) -> bool
     }
     match state.geometry {
         None => false,
-        Some(geometry) => differs(&geometry, state.told_last, ancillary),
+        Some(geometry) => differs(&geometry, state.reported_last, ancillary),
     }
 }
 
 // Returns whether the rows are those of an image, or 0 if its height is reported last.
-fn tells_rows(ancillary: &Ancillary) -> bool
-    ensures { result ≡ tells_rows ancillary.now }
+fn reports_rows(ancillary: &Ancillary) -> bool
+    ensures { result ≡ reports_rows ancillary.now }
 {
-    if ancillary.told_last {
+    if ancillary.reported_last {
         return ancillary.rows == 0;
     }
     FieldRange::ROWS.contains(u64::from(ancillary.rows))
 }
 
 // Returns whether the packet is one of another image than this, or has a block past its last.
-fn differs(geometry: &Geometry, told_last: bool, ancillary: &Ancillary) -> bool
-    ensures { result ≡ differs (Some geometry.now) told_last ancillary.now }
+fn differs(geometry: &Geometry, reported_last: bool, ancillary: &Ancillary) -> bool
+    ensures { result ≡ differs (Some geometry.now) reported_last ancillary.now }
 {
-    let rows = if told_last { 0 } else { geometry.rows };
-    ancillary.told_last != told_last
+    let rows = if reported_last { 0 } else { geometry.rows };
+    ancillary.reported_last != reported_last
         || ancillary.image != geometry.image
         || ancillary.rows != rows
         || ancillary.segment != geometry.segment

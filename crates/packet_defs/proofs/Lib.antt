@@ -1,5 +1,5 @@
 pub mod Joins
-pub mod Fronts
+pub mod Prefixes
 pub mod Splits
 pub mod ReadBack
 pub mod Equations

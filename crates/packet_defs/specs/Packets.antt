@@ -22,12 +22,12 @@ abbrev pub ancillary_length : ℕ
 ancillary_length = 24
 
 -- the mark of the ancillary data: one if they report the height of the image, another if the height is reported last
-abbrev pub mark_of : (told_last : Bool) → ℕ
-mark_of told_last = if told_last then 0x1221 else 0x1220
+abbrev pub mark_of : (reported_last : Bool) → ℕ
+mark_of reported_last = if reported_last then 0x1221 else 0x1220
 
 abbrev pub ancillary_octets : Ancillary → List ℕ
 ancillary_octets a =
-    big_bytes 2 (mark_of a.told_last) ++ big_bytes 2 a.image ++ big_bytes 4 a.rows ++ big_bytes 4 a.segment ++ big_bytes 4 a.index
+    big_bytes 2 (mark_of a.reported_last) ++ big_bytes 2 a.image ++ big_bytes 4 a.rows ++ big_bytes 4 a.segment ++ big_bytes 4 a.index
     ++ big_bytes 4 a.first ++ big_bytes 4 a.part
 
 -- a packet whose data field has these octets; the header has their number less 1

@@ -16,8 +16,8 @@ abbrev pub header_length : ℕ
 header_length = 6
 
 -- octets before the text
-abbrev pub front_length : ℕ
-front_length = header_length + ancillary_length
+abbrev pub prefix_length : ℕ
+prefix_length = header_length + ancillary_length
 
 -- the number in a number of octets of a packet, from a place on
 abbrev pub number_at : List ℕ → (place size : ℕ) → ℕ
@@ -61,7 +61,7 @@ mark_in packet = number_at packet 6 2
 
 abbrev pub ancillary_in : List ℕ → Ancillary
 ancillary_in packet = record {
-  told_last = mark_in packet == mark_of true;
+  reported_last = mark_in packet == mark_of true;
   image = number_at packet 8 2;
   rows = number_at packet 10 4;
   segment = number_at packet 14 4;
@@ -71,7 +71,7 @@ ancillary_in packet = record {
 }
 
 abbrev pub text_in : List ℕ → List ℕ
-text_in packet = drop front_length packet
+text_in packet = drop prefix_length packet
 
 -- ---- whether it is one of the image's
 

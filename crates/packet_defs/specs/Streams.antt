@@ -1,6 +1,7 @@
 -- A stream of octets as packets, and why it can't be read on (CCSDS 133.0-B-2, section 4.1; that a version is tested at a
 -- packet's first octet, and what is counted as missing, is this project's own).
-use Rattle.std.specs.Prelude.{◌≡◌, ℕ, zero, suc, ◌+◌, ◌-◌, ◌^◌, ◌&&◌, ◌==◌, Bool, false, not, nat_le, nat_lt, if◌then◌else◌, List, [], ◌∷◌, ◌++◌, length, take, drop, slice_index, Option}
+use Rattle.std.specs.Prelude.{◌≡◌, ℕ, zero, suc, ◌+◌, ◌-◌, ◌^◌, ◌&&◌, ◌==◌, Bool, false, not, nat_le, nat_lt, if◌then◌else◌, List, [], ◌∷◌, ◌++◌, length}
+use Rattle.std.specs.Prelude.{take, drop, slice_index, Option}
 use Rattle.std.specs.List.{AllByRecursion}
 use Rattle.packet_defs.specs.declared.packet.Framing.{Framing}
 use Rattle.packet_defs.specs.declared.packet.Framing.TheVariants.{BadVersion, CutPacket}
@@ -13,25 +14,25 @@ abbrev pub has_bad_version : List ℕ → Bool
 has_bad_version octets = nat_le (2 ^ 5) (slice_index octets 0)
 
 -- octets of the packet with which octets begin, by its header
-unfoldable pub told_length : List ℕ → ℕ
-told_length octets = header_length + field_length octets
+unfoldable pub reported_length : List ℕ → ℕ
+reported_length octets = header_length + field_length octets
 
 -- these octets begin with a whole packet
 unfoldable pub begins_packet : List ℕ → Bool
 begins_packet octets =
-    not (has_bad_version octets) && (nat_le header_length (length octets) && nat_le (told_length octets) (length octets))
+    not (has_bad_version octets) && (nat_le header_length (length octets) && nat_le (reported_length octets) (length octets))
 
 -- that packet, and what follows it
 abbrev pub first_packet : List ℕ → List ℕ
-first_packet octets = take (told_length octets) octets
+first_packet octets = take (reported_length octets) octets
 
 abbrev pub after_packet : List ℕ → List ℕ
-after_packet octets = drop (told_length octets) octets
+after_packet octets = drop (reported_length octets) octets
 
 -- these octets are one whole packet
 pub record IsPacket (packet : List ℕ) : Type 0 where
   pub version : has_bad_version packet ≡ false
-  pub whole : length packet ≡ told_length packet
+  pub whole : length packet ≡ reported_length packet
 
 -- these octets are whole packets and then a rest that begins with none
 pub record Splits (octets : List ℕ) (packets : List (List ℕ)) (left : List ℕ) : Type 0 where
@@ -59,7 +60,7 @@ left_over octets = drop (place_after octets) octets
 
 -- the missing octets of a packet that begins with these: of its primary header if that is cut, otherwise of its data field
 abbrev pub missing : List ℕ → ℕ
-missing left = if nat_lt (length left) header_length then header_length - length left else told_length left - length left
+missing left = if nat_lt (length left) header_length then header_length - length left else reported_length left - length left
 
 -- why octets at a place, which begin with no whole packet, can't be read on, if the input ends after them
 unfoldable pub framing_at : (place : ℕ) → List ℕ → Option Framing

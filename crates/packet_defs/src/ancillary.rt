@@ -6,7 +6,7 @@ pub struct Ancillary {
     /// The number of the image.
     pub image: u16,
     /// Whether the height of the image is reported last, by the head of its last segment.
-    pub told_last: bool,
+    pub reported_last: bool,
     /// The rows of the image; 0 if they are reported last.
     pub rows: u32,
     /// The blocks of each segment of the image except the last.

@@ -1,4 +1,7 @@
 //! The definitions of packets: their octets, and how a stream of octets is read as packets.
+//!
+//! Layer: definitions and their laws, no code. It is used by `stream_defs`, `camera_defs`, `space_packets`, `packet_assembly`,
+//! `strip_coder`, `segment_walk`, `encoder_rows` and 10 more.
 #![tactic(auto)]
 
 ghost use Rattle.packet_defs.specs.Laws.{PacketsReadBack, StreamsSplit};

@@ -49,16 +49,18 @@ module _ (apid : ℕ) (packets : List (List ℕ)) (packet : List ℕ) where
   note_last = grind (arith, nat_tests, fates-more, length-fates, get_or-append_seam)
 
   -- so its line follows theirs
-  pub lines-more : lines_of apid (packets ++ packet ∷ []) ≡ lines_of apid packets ++ line_of (note_of (length packets) (fate apid (after_all apid fresh packets) packet) packet)
+  pub lines-more : lines_of apid (packets ++ packet ∷ []) ≡ lines_of apid packets
+      ++ line_of (note_of (length packets) (fate apid (after_all apid fresh packets) packet) packet)
   unfolding lines_of
   lines-more = grind (arith, nat_tests, length, length-append, range_with_len-more, flat_map-append, same_parts, note_before, append-nil, note_last)
 
 -- the lines of packets are a prefix of those of these and later ones
-pub lines-front : (apid : ℕ) (packets later : List (List ℕ)) → (rest : List ℕ) × (lines_of apid (packets ++ later) ≡ lines_of apid packets ++ rest)
-lines-front apid packets [] = ([], ap (lines_of apid) (append-nil packets) ∙ sym (append-nil (lines_of apid packets)))
-lines-front apid packets (x ∷ later) =
+pub lines-prefix : (apid : ℕ) (packets later : List (List ℕ)) → (rest : List ℕ) × (lines_of apid (packets ++ later) ≡ lines_of apid packets ++ rest)
+lines-prefix apid packets [] = ([], ap (lines_of apid) (append-nil packets) ∙ sym (append-nil (lines_of apid packets)))
+lines-prefix apid packets (x ∷ later) =
     let line = line_of (note_of (length packets) (fate apid (after_all apid fresh packets) x) x) in
-    let next = lines-front apid (packets ++ x ∷ []) later in (
+    let next = lines-prefix apid (packets ++ x ∷ []) later in (
       line ++ next.0,
-      ap (lines_of apid) (sym (append_assoc packets (x ∷ []) later)) ∙ next.1 ∙ ap (λ zs. zs ++ next.0) (lines-more apid packets x) ∙ append_assoc (lines_of apid packets) line next.0,
+      ap (lines_of apid) (sym (append_assoc packets (x ∷ []) later)) ∙ next.1 ∙ ap (λ zs. zs ++ next.0) (lines-more apid packets x)
+          ∙ append_assoc (lines_of apid packets) line next.0,
     )

@@ -2,8 +2,8 @@
 use Rattle.std.specs.Prelude.{None}
 use Rattle.port_122.specs.Outside.{Outside}
 
-abbrev pub untold : Outside
-untold = record {
+abbrev pub unknown : Outside
+unknown = record {
   rest = None;
   taken = None;
   given = None;

@@ -16,9 +16,9 @@ struct EndlessPort {
 }
 
 impl Port for EndlessPort {
-    ghost use Rattle.packet_tests.specs.Endless.{untold};
+    ghost use Rattle.packet_tests.specs.Endless.{unknown};
 
-    ghost outside = { λ _. untold };
+    ghost outside = { λ _. unknown };
 
     fn read(&mut self, into: &mut [u8]) -> Result<usize, Failed> {
         let count = into.len().min(52 - self.at);

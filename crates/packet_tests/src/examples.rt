@@ -21,7 +21,7 @@ pub const FIRST: [u8; 51] = [
 
 // Segment 0 of image 0, which has 17 rows and segments of 64 blocks.
 pub const FIRST_SEGMENT: Ancillary = Ancillary {
-    told_last: false,
+    reported_last: false,
     image: 0,
     rows: 17,
     segment: 64,

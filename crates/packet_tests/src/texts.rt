@@ -66,7 +66,7 @@ fn expect(
 }
 
 #[test]
-fn a_text_comes_octet_by_octet(rt: HostRuntime) -> Result<(), Fail> {
+fn a_text_arrives_octet_by_octet(rt: HostRuntime) -> Result<(), Fail> {
     let steps = [
         FIRST_FOUND,
         Step::Octet(Ok(Some(0x5a))),

@@ -9,7 +9,8 @@ use Rattle.wave_defs.specs.Blocks.{place_of, weight_at}
 use Rattle.block_families.proofs.Dividing.{divided}
 
 -- a number that was divided by its weight
-pub part_is : (weights : List ℕ) (i : ℕ) (part number : ℤ) → All IsShift weights → part *ℤ weight_at weights i ≡ number → part ≡ floor_div number (2 ^ get_or weights (place_of i).band 0)
+pub part_is : (weights : List ℕ) (i : ℕ) (part number : ℤ) → All IsShift weights → part *ℤ weight_at weights i ≡ number →
+    part ≡ floor_div number (2 ^ get_or weights (place_of i).band 0)
 part_is weights i part number shifts e =
     let k = get_or weights (place_of i).band 0 in
     sym (divided part k (shift_low weights (place_of i).band shifts)) ∙ ap (λ z. floor_div z (2 ^ k)) e

@@ -1,5 +1,6 @@
 -- A block of a picture that is passed.
-use Rattle.std.proofs.Common.{◌≡◌, ◌<◌, ◌≤◌, ◌+◌, ◌*◌, ◌/◌, ◌*ℤ◌, ℕ, ℤ, pos, List, [], ◌++◌, take, get_or, refl, sym, ap, subst, ◌∙◌, arith, inl, inr, Result, Ok, Err, append-nil}
+use Rattle.std.proofs.Common.{◌≡◌, ◌<◌, ◌≤◌, ◌+◌, ◌*◌, ◌/◌, ◌*ℤ◌, ℕ, ℤ, pos, List, [], ◌++◌, take, get_or, refl, sym, ap, subst, ◌∙◌, arith, inl, inr}
+use Rattle.std.proofs.Common.{Result, Ok, Err, append-nil}
 use Rattle.std.proofs.lemmas.Bool.{cases_lt}
 use Rattle.std.proofs.lemmas.Nat.{div-mul-add}
 use Rattle.port_122.specs.Outside.{Outside, NoRead}
@@ -16,7 +17,7 @@ use Rattle.inverse_strip.specs.Kept.{IsCompletion}
 use Rattle.inverse_strip.specs.Strip.{columns_of, height_of, taken_of, next_of, numbers_of, FollowStrip, IsNext, Keeps}
 use Rattle.inverse_strip.proofs.NextLemmas.{IsNext-blocks}
 use Rattle.picture_rows.specs.declared.picture.PictureAt.{PictureAt}
-use Rattle.picture_rows.specs.Fronts.{bands_of, rows_of}
+use Rattle.picture_rows.specs.Prefixes.{bands_of, rows_of}
 use Rattle.picture_rows.specs.Pictures.{PictureState, IsSized, IsCurrent, Represents, HasRoom, passed_in}
 use Rattle.picture_rows.specs.Steps.{Continues, StopsEarly, Represented, HasNone, HasNextSet, HasNextNumbers, HasPassed, PassesBlock, GivesRows}
 use Rattle.picture_rows.proofs.BandBlocks.{part_is, zero_is}
@@ -50,11 +51,11 @@ columns_end g n e le = omega (arith, e, le)
 -- within its block row
 pub column_passed : (p : PictureState) (a : Outside) → IsCurrent p → HasRoom p → p.at.column + 1 < block_count p.geometry.width →
     HasPassed (HasNextSet p) a a p (at_column p (p.at.column + 1))
-column_passed p a standing room lt =
-    let sized = standing.sized in
+column_passed p a current room lt =
+    let sized = current.sized in
     let inside = row_there p sized room in
     record {
-      standing = record {
+      current = record {
         sized = record {
           range = sized.range;
           columns = sized.columns;
@@ -66,8 +67,8 @@ column_passed p a standing room lt =
           none = λ e. absurd (omega (arith, e, inside));
           next_most = sized.next_most;
         };
-        next_settled = standing.next_settled;
-        all_made = standing.all_made;
+        next_settled = current.next_settled;
+        all_made = current.all_made;
       };
       geometry = refl;
       count = omega arith;
@@ -94,23 +95,25 @@ pub record RowTaken (s t : StripInverse) : Type 0 where
 abbrev pub past_row : PictureState → StripInverse → PictureState
 past_row p strip = record p { strip = strip; at = record p.at { column = 0; row = p.at.row + 1 } }
 
-module _ (p : PictureState) (t : StripInverse) (standing : IsCurrent p) (room : HasRoom p) (last : block_count p.geometry.width ≤ p.at.column + 1) (pushed : RowTaken p.strip t) where
+module _ (p : PictureState) (t : StripInverse) (current : IsCurrent p) (room : HasRoom p) (last : block_count p.geometry.width ≤ p.at.column + 1)
+    (pushed : RowTaken p.strip t) where
   full : p.at.column + 1 ≡ block_count p.geometry.width
-  full = let column = standing.sized.column in omega (arith, column, last)
+  full = let column = current.sized.column in omega (arith, column, last)
 
   -- an image that may continue from it may continue from the block row before
   completes : (r : ℕ) → IsCompletion (taken_of t) (height_of t) r → IsCompletion (taken_of p.strip) (height_of p.strip) r
   completes r is =
-      let sized = standing.sized in
+      let sized = current.sized in
       let inside = row_there p sized room in
       let more = is.more in
       record { more = omega (arith, more, pushed.taken); whole = λ e. absurd (omega (arith, e, sized.taken, sized.height, inside)) }
 
-  row_stands : (numbers : ℕ → ℕ → ℤ) → HasNextSet p numbers → Represents numbers (past_row p t)
-  row_stands numbers set =
-      let sized = standing.sized in
+  row_valid : (numbers : ℕ → ℕ → ℤ) → HasNextSet p numbers → Represents numbers (past_row p t)
+  row_valid numbers set =
+      let sized = current.sized in
       let bands = bands_of p.geometry numbers in
-      let next : IsNext bands p.at.row p.strip = IsNext-blocks bands p.at.row p.strip (λ column i lt small. set.set column i (omega (arith, lt, p.strip.next_wide, sized.columns, full)) small) in
+      let next : IsNext bands p.at.row p.strip = IsNext-blocks bands p.at.row p.strip
+      (λ column i lt small. set.set column i (omega (arith, lt, p.strip.next_wide, sized.columns, full)) small) in
       record {
         strip = λ r is. pushed.follows bands r (set.strip r (completes r is)) (subst (λ n. IsNext bands n p.strip) (sym sized.taken) next);
         set = λ column i lt small. absurd (omega (arith, lt));
@@ -121,7 +124,7 @@ module _ (p : PictureState) (t : StripInverse) (standing : IsCurrent p) (room : 
   row_goes a = record {
     gave = [];
     out = since_start a NoRead;
-    follows = row_stands;
+    follows = row_valid;
     given = λ numbers set. append-nil (rows_of p.geometry numbers p.at.next);
   }
 
@@ -131,13 +134,14 @@ module _ (p : PictureState) (t : StripInverse) (standing : IsCurrent p) (room : 
       let same = rows.same in
       let geometry = same.geometry in
       let passed : passed_in z ≡ (p.at.row + 1) * block_count p.geometry.width + 0 =
-      ap (λ (g : Geometry). z.at.row * block_count g.width + z.at.column) geometry ∙ ap (λ n. n * block_count p.geometry.width + z.at.column) same.row ∙ ap (λ n. (p.at.row + 1) * block_count p.geometry.width + n) same.column in
+      ap (λ (g : Geometry). z.at.row * block_count g.width + z.at.column) geometry ∙ ap (λ n. n * block_count p.geometry.width + z.at.column) same.row
+      ∙ ap (λ n. (p.at.row + 1) * block_count p.geometry.width + n) same.column in
       let more : (p.at.row + 1) * block_count p.geometry.width ≡ p.at.row * block_count p.geometry.width + block_count p.geometry.width = grind arith in
       record {
-        standing = rows.standing;
+        current = rows.current;
         geometry = geometry;
         count = omega (arith, passed, more, full);
-        goes = goes_then refl (λ numbers before stands. stands) (row_goes a) rows.goes;
+        goes = goes_then refl (λ numbers before valid. valid) (row_goes a) rows.goes;
       }
 
   -- those are the whole block rows after its last block
@@ -146,11 +150,12 @@ module _ (p : PictureState) (t : StripInverse) (standing : IsCurrent p) (room : 
       let c = block_count p.geometry.width in
       let more : (p.at.row + 1) * c ≡ p.at.row * c + c = grind arith in
       let count : (p.at.row + 1) * c + 0 ≡ passed_in p + 1 = omega (arith, more, full) in
-      let column = standing.sized.column in
+      let column = current.sized.column in
       sym (div-mul-add (p.at.row + 1) c 0 (omega (arith, column))) ∙ ap (λ n. n / c) count
 
-  pub row_broke : (a b : Outside) → StopsEarly (Represented (past_row p t)) (p.at.row + 1) a b (past_row p t) → StopsEarly (HasNextSet p) (block_rows_before p.geometry (passed_in p + 1)) a b p
-  row_broke a b broken = subst (λ r. StopsEarly (HasNextSet p) r a b p) rows_whole (breaks_then refl (λ numbers before stands. stands) (row_goes a) broken)
+  pub row_broke : (a b : Outside) → StopsEarly (Represented (past_row p t)) (p.at.row + 1) a b (past_row p t) →
+      StopsEarly (HasNextSet p) (block_rows_before p.geometry (passed_in p + 1)) a b p
+  row_broke a b broken = subst (λ r. StopsEarly (HasNextSet p) r a b p) rows_whole (breaks_then refl (λ numbers before valid. valid) (row_goes a) broken)
 
   pub rows_passed : {T E : Type 0} (r : Result T E) (a b : Outside) (z : PictureState) → GivesRows r a b (past_row p t) z → PassesBlock r (HasNextSet p) a b p z
   rows_passed (Ok x) a b z rows = row_passed a b z rows
@@ -163,11 +168,13 @@ abbrev through : Geometry → PictureAt → ℕ
 through g at = rows_through g (block_rows_before g (at.row * block_count g.width + at.column + 1))
 
 -- so they are set
-passes_set : {T E : Type 0} {B C : (ℕ → ℕ → ℤ) → Type 0} (r : Result T E) (p q z : PictureState) (a b : Outside) → q.geometry ≡ p.geometry → q.at ≡ p.at → ((numbers : ℕ → ℕ → ℤ) → B numbers → C numbers) → PassesBlock r C a b q z → PassesBlock r B a b p z
+passes_set : {T E : Type 0} {B C : (ℕ → ℕ → ℤ) → Type 0} (r : Result T E) (p q z : PictureState) (a b : Outside) → q.geometry ≡ p.geometry → q.at ≡ p.at →
+    ((numbers : ℕ → ℕ → ℤ) → B numbers → C numbers) → PassesBlock r C a b q z → PassesBlock r B a b p z
 passes_set {B = B} {C = C} (Ok x) p q z a b same at f passed = record {
-  standing = passed.standing;
+  current = passed.current;
   geometry = passed.geometry ∙ same;
-  count = passed.count ∙ ap (λ (h : Geometry). q.at.row * block_count h.width + q.at.column + 1) same ∙ ap (λ (x : PictureAt). x.row * block_count p.geometry.width + x.column + 1) at;
+  count = passed.count ∙ ap (λ (h : Geometry). q.at.row * block_count h.width + q.at.column + 1) same
+      ∙ ap (λ (x : PictureAt). x.row * block_count p.geometry.width + x.column + 1) at;
   goes = record {
     gave = passed.goes.gave;
     out = passed.goes.out;
@@ -193,26 +200,27 @@ passes_set {B = B} {C = C} (Err e) p q z a b same at f broken = record {
 
 -- a block whose numbers are 0 was set
 pub zero_set : (p : PictureState) → IsCurrent p → (numbers : ℕ → ℕ → ℤ) → HasNextNumbers [] p numbers → HasNextSet p numbers
-zero_set p standing numbers lost =
+zero_set p current numbers lost =
     let g = p.geometry in
-    let stands = lost.stands in
-    let column_in = standing.sized.column in
+    let valid = lost.valid in
+    let column_in = current.sized.column in
     record {
-      strip = stands.strip;
+      strip = valid.strip;
       set = λ column i lt small. elim (cases_lt column p.at.column) [
-        | inl before ↦ stands.set column i before small
+        | inl before ↦ valid.set column i before small
         | inr from ↦
             let here : column ≡ p.at.column = omega (arith, lt, from) in
             let none : numbers (p.at.row * block_count g.width + column) i ≡ pos 0 = ap (λ n. numbers n i) (omega (arith, here)) ∙ lost.next i small in
-            stands.unset column i from (omega (arith, here, column_in)) small
-            ∙ zero_is g.weights.shifts i (numbers (p.at.row * block_count g.width + column) i) standing.sized.range.weights none
+            valid.unset column i from (omega (arith, here, column_in)) small
+            ∙ zero_is g.weights.shifts i (numbers (p.at.row * block_count g.width + column) i) current.sized.range.weights none
             ∙ sym (coefficient_with numbers (block_count g.width) g.weights.shifts p.at.row column i small)
       ];
-      unset = λ column i le lt small. stands.unset column i (omega (arith, le)) lt small;
+      unset = λ column i le lt small. valid.unset column i (omega (arith, le)) lt small;
     }
 
-pub block_loses : {T E : Type 0} (r : Result T E) (p z : PictureState) (a b : Outside) → IsCurrent p → PassesBlock r (HasNextSet p) a b p z → PassesBlock r (HasNextNumbers [] p) a b p z
-block_loses r p z a b standing passed = passes_set r p p z a b refl refl (zero_set p standing) passed
+pub block_loses : {T E : Type 0} (r : Result T E) (p z : PictureState) (a b : Outside) → IsCurrent p → PassesBlock r (HasNextSet p) a b p z →
+    PassesBlock r (HasNextNumbers [] p) a b p z
+block_loses r p z a b current passed = passes_set r p p z a b refl refl (zero_set p current) passed
 
 -- ---- a block that was put
 
@@ -226,7 +234,8 @@ apart c d i j hi hj same =
     let columns : block_side p.band * c + p.column ≡ block_side q.band * d + q.column = ap (λ (x : Place). x.column) same in
     let across : (n k : ℕ) → n * k ≡ k * n = λ n k. grind arith in
     let first : c ≡ (block_side p.band * c + p.column) / block_side p.band =
-    sym (ap (λ n. (n + p.column) / block_side p.band) (across (block_side p.band) c) ∙ div-mul-add c (block_side p.band) p.column (place_of-is_place i hi).column) in
+    sym (ap (λ n. (n + p.column) / block_side p.band) (across (block_side p.band) c) ∙ div-mul-add c (block_side p.band) p.column
+    (place_of-is_place i hi).column) in
     let second : (block_side q.band * d + q.column) / block_side q.band ≡ d =
     ap (λ n. (n + q.column) / block_side q.band) (across (block_side q.band) d) ∙ div-mul-add d (block_side q.band) q.column (place_of-is_place j hj).column in
     first ∙ ap (λ n. n / block_side p.band) columns ∙ ap (λ n. (block_side q.band * d + q.column) / n) side ∙ second
@@ -235,7 +244,7 @@ apart c d i j hi hj same =
 abbrev pub with_strip : PictureState → StripInverse → PictureState
 with_strip p strip = record p { strip = strip }
 
-module _ (p : PictureState) (t : StripInverse) (xs : List ℤ) (standing : IsCurrent p) (room : HasRoom p) (keeps : Keeps p.strip t)
+module _ (p : PictureState) (t : StripInverse) (xs : List ℤ) (current : IsCurrent p) (room : HasRoom p) (keeps : Keeps p.strip t)
     (scattered : Scatters (numbers_of p.strip) (numbers_of t) p.geometry.weights.shifts p.at.column xs) where
   -- another block has the numbers that it had
   stays : (column i : ℕ) → i < 64 → (column ≡ p.at.column → ⊥) → numbers_of t (place_in column i) ≡ numbers_of p.strip (place_in column i)
@@ -244,11 +253,11 @@ module _ (p : PictureState) (t : StripInverse) (xs : List ℤ) (standing : IsCur
   pub block_set : (numbers : ℕ → ℕ → ℤ) → HasNextNumbers xs p numbers → HasNextSet (with_strip p t) numbers
   block_set numbers held =
       let g = p.geometry in
-      let stands = held.stands in
+      let valid = held.valid in
       record {
-        strip = λ r is. keeps.follows _ _ (stands.strip r (completes_before p.strip t r keeps.taken keeps.height is));
+        strip = λ r is. keeps.follows _ _ (valid.strip r (completes_before p.strip t r keeps.taken keeps.height is));
         set = λ column i lt small. elim (cases_lt column p.at.column) [
-          | inl before ↦ stays column i small (λ e. absurd (omega (arith, e, before))) ∙ stands.set column i before small
+          | inl before ↦ stays column i small (λ e. absurd (omega (arith, e, before))) ∙ valid.set column i before small
           | inr from ↦
               let here : column ≡ p.at.column = omega (arith, lt, from) in
               let at : p.at.row * block_count g.width + column ≡ passed_in p = omega (arith, here) in
@@ -256,11 +265,13 @@ module _ (p : PictureState) (t : StripInverse) (xs : List ℤ) (standing : IsCur
               ap (λ n. numbers n i) at ∙ held.next i small in
               let whole : numbers_of t (place_in column i) *ℤ weight_at g.weights.shifts i ≡ numbers (p.at.row * block_count g.width + column) i =
               ap (λ n. numbers_of t (place_in n i) *ℤ weight_at g.weights.shifts i) here ∙ scattered.block i small ∙ sym value in
-              part_is g.weights.shifts i (numbers_of t (place_in column i)) (numbers (p.at.row * block_count g.width + column) i) standing.sized.range.weights whole
+              part_is g.weights.shifts i (numbers_of t (place_in column i)) (numbers (p.at.row * block_count g.width + column) i)
+              current.sized.range.weights whole
               ∙ sym (coefficient_with numbers (block_count g.width) g.weights.shifts p.at.row column i small)
         ];
-        unset = λ column i le lt small. stays column i small (λ e. absurd (omega (arith, e, le))) ∙ stands.unset column i (omega (arith, le)) lt small;
+        unset = λ column i le lt small. stays column i small (λ e. absurd (omega (arith, e, le))) ∙ valid.unset column i (omega (arith, le)) lt small;
       }
 
-  pub block_puts : {T E : Type 0} (r : Result T E) (a b : Outside) (z : PictureState) → PassesBlock r (HasNextSet (with_strip p t)) a b (with_strip p t) z → PassesBlock r (HasNextNumbers xs p) a b p z
+  pub block_puts : {T E : Type 0} (r : Result T E) (a b : Outside) (z : PictureState) → PassesBlock r (HasNextSet (with_strip p t)) a b (with_strip p t) z →
+      PassesBlock r (HasNextNumbers xs p) a b p z
   block_puts r a b z passed = passes_set r p (with_strip p t) z a b refl refl block_set passed

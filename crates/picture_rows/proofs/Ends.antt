@@ -38,7 +38,7 @@ row_before p rows room = elim (cases_lt p.at.row (block_count rows)) [
       omega (arith, all, turned, room))
 ]
 
-module _ (p : PictureState) (rows padded : ℕ) (t : StripInverse) (standing : IsCurrent p) (range : IsWithin rows_range rows) (fewer : rows ≤ p.geometry.rows)
+module _ (p : PictureState) (rows padded : ℕ) (t : StripInverse) (current : IsCurrent p) (range : IsWithin rows_range rows) (fewer : rows ≤ p.geometry.rows)
     (more : passed_in p < total_blocks p.geometry.width rows) (whole : padded ≡ padded_size rows) (strip : StripEnded padded p.strip t) where
   open_row : p.at.row < block_count rows
   open_row = row_before p rows more
@@ -48,10 +48,19 @@ module _ (p : PictureState) (rows padded : ℕ) (t : StripInverse) (standing : I
 
   sized_end : IsSized (ended p rows t)
   sized_end =
-      let sized = standing.sized in
+      let sized = current.sized in
       let fits = sized.range in
       record {
-        range = record { width = fits.width; rows = inr range; depth = fits.depth; segment = fits.segment; image = fits.image; word = fits.word; weights = fits.weights };
+        range = record {
+          width = fits.width;
+          rows = inr range;
+          depth = fits.depth;
+          segment = fits.segment;
+          image = fits.image;
+          word = fits.word;
+          weights =
+              fits.weights;
+        };
         columns = strip.width ∙ sized.columns;
         height = let height = strip.height in omega (arith, height, whole);
         taken = strip.taken ∙ sized.taken;
@@ -65,30 +74,22 @@ module _ (p : PictureState) (rows padded : ℕ) (t : StripInverse) (standing : I
   -- whatever the height is, the block rows so far begin the image
   completes : (r : ℕ) → IsCompletion (taken_of t) (height_of t) r → IsCompletion (taken_of p.strip) (height_of p.strip) r
   completes r is =
-      let sized = standing.sized in
+      let sized = current.sized in
       let least = is.more in
       record { more = omega (arith, least, strip.taken); whole = λ e. absurd (omega (arith, e, sized.taken, sized.height, open_before)) }
 
   pub has_ended : HasEnded rows p (ended p rows t)
   has_ended = record {
-    standing = record { sized = sized_end; next_settled = λ lt. standing.next_settled open_before; all_made = λ e. absurd (omega (arith, e, open_row)) };
+    current = record { sized = sized_end; next_settled = λ lt. current.next_settled open_before; all_made = λ e. absurd (omega (arith, e, open_row)) };
     geometry = refl;
     at = refl;
-    follows = λ numbers stands. record {
-      strip = λ r is. strip.follows _ r (stands.strip r (completes r is));
-      set = λ column i lt small. strip.numbers _ ∙ stands.set column i lt small;
-      unset = λ column i le lt small. strip.numbers _ ∙ stands.unset column i le lt small;
+    follows = λ numbers valid. record {
+      strip = λ r is. strip.follows _ r (valid.strip r (completes r is));
+      set = λ column i lt small. strip.numbers _ ∙ valid.set column i lt small;
+      unset = λ column i le lt small. strip.numbers _ ∙ valid.unset column i le lt small;
     };
-    given = λ numbers. sym (rows_of_shorter p.geometry rows numbers standing.sized.range.width fewer p.at.row p.at.next open_row (standing.sized.next_most open_before));
+    given = λ numbers. sym (rows_of_shorter p.geometry rows numbers current.sized.range.width fewer p.at.row p.at.next open_row
+        (current.sized.next_most open_before));
   }
 
 -- ---- past the end
-
--- the picture has passed the blocks that it had passed
-pub ended-passed : (rows : ℕ) (p q : PictureState) → HasEnded rows p q → passed_in q ≡ passed_in p
-ended-passed rows p q end =
-    ap (λ (g : Geometry). q.at.row * block_count g.width + q.at.column) end.geometry ∙ ap (λ (at : PictureAt). at.row * block_count p.geometry.width + at.column) end.at
-
--- they are blocks of the lower image
-pub ended-total : (rows : ℕ) (p q : PictureState) → HasEnded rows p q → total_in q ≡ total_blocks p.geometry.width rows
-ended-total rows p q end = ap (λ (g : Geometry). total_blocks g.width g.rows) end.geometry

@@ -1,5 +1,6 @@
 -- A row of a picture that is made and given.
-use Rattle.std.proofs.Common.{◌≡◌, ◌<◌, ◌≤◌, ◌+◌, ◌-◌, ◌*◌, ◌==◌, ℕ, ℤ, Bool, List, [], ◌∷◌, ◌++◌, length, take, map, refl, sym, ap, subst, ◌∙◌, arith, ⊎_elim, append_assoc, true, false, min, if◌then◌else◌, Result, Ok, Err, IsErr}
+use Rattle.std.proofs.Common.{◌≡◌, ◌<◌, ◌≤◌, ◌+◌, ◌-◌, ◌*◌, ◌==◌, ℕ, ℤ, Bool, List, [], ◌∷◌, ◌++◌, length, take, map, refl, sym, ap, subst, ◌∙◌, arith}
+use Rattle.std.proofs.Common.{⊎_elim, append_assoc, true, false, min, if◌then◌else◌, Result, Ok, Err, IsErr}
 use Rattle.std.proofs.lemmas.Bool.{false≢true}
 use Rattle.std.proofs.lemmas.Bool.Decides.{nat_tests}
 use Rattle.std.specs.List.{range_with_len}
@@ -22,7 +23,7 @@ use Rattle.stream_defs.specs.Settled.{rows_through}
 use Rattle.inverse_strip.specs.declared.strip.StripInverse.{StripInverse}
 use Rattle.inverse_strip.specs.Strip.{columns_of, height_of, taken_of, next_of, numbers_of, row_of, FollowStrip}
 use Rattle.inverse_strip.specs.Kept.{IsCompletion, HasNext, IsIdle}
-use Rattle.picture_rows.specs.Fronts.{bands_of, rows_of}
+use Rattle.picture_rows.specs.Prefixes.{bands_of, rows_of}
 use Rattle.picture_rows.specs.Pictures.{PictureState, IsSized, RepresentsTo, Represents}
 use Rattle.raster_rows.specs.Gathered.{Adds, GivesPart}
 use Rattle.picture_rows.specs.Steps.{Continues, StopsEarly, Represented, SameBut, HasGathered, HasNoneLeft, StopsInRow, GivesRow, GivesRows}
@@ -34,9 +35,9 @@ module _ (g : Geometry) (numbers : ℕ → ℕ → ℤ) (n : ℕ) where
   row_octets = pixel_octets g.depth (row_pixels g.width (whole_with g numbers n))
 
   -- one row more
-  pub front-more : n < g.rows → rows_of g numbers (n + 1) ≡ rows_of g numbers n ++ row_octets
+  pub prefix-more : n < g.rows → rows_of g numbers (n + 1) ≡ rows_of g numbers n ++ row_octets
   unfolding rows_of
-  front-more lt =
+  prefix-more lt =
       let now : min n g.rows ≡ n = omega arith in
       let next : min (n + 1) g.rows ≡ n + 1 = omega arith in
       ap (λ k. raster_octets g.depth k g.width (whole_with g numbers)) next
@@ -44,16 +45,16 @@ module _ (g : Geometry) (numbers : ℕ → ℕ → ℤ) (n : ℕ) where
       ∙ ap (λ k. raster_octets g.depth k g.width (whole_with g numbers) ++ row_octets) (sym now)
 
   -- padding rows of the picture aren't given
-  pub front-same : g.rows ≤ n → rows_of g numbers (n + 1) ≡ rows_of g numbers n
+  pub prefix-same : g.rows ≤ n → rows_of g numbers (n + 1) ≡ rows_of g numbers n
   unfolding rows_of
-  front-same le =
+  prefix-same le =
       let e : min (n + 1) g.rows ≡ min n g.rows = omega arith in
       ap (λ k. raster_octets g.depth k g.width (whole_with g numbers)) e
 
 -- the first rows begin with fewer of them
-pub front-begins : (g : Geometry) (numbers : ℕ → ℕ → ℤ) (m n : ℕ) → m ≤ n → (more : List ℕ) × (rows_of g numbers n ≡ rows_of g numbers m ++ more)
+pub prefix-begins : (g : Geometry) (numbers : ℕ → ℕ → ℤ) (m n : ℕ) → m ≤ n → (more : List ℕ) × (rows_of g numbers n ≡ rows_of g numbers m ++ more)
 unfolding rows_of
-front-begins g numbers m n le =
+prefix-begins g numbers m n le =
     let k = min m g.rows in
     let l = min n g.rows - k in
     let image = whole_with g numbers in
@@ -61,11 +62,15 @@ front-begins g numbers m n le =
     (rows_from g.depth g.width image (0 + k) l, ap (λ i. raster_octets g.depth i g.width image) all ∙ rows_from-append g.depth g.width image 0 k l)
 
 -- a part of what follows the first rows
-pub front-part : (g : Geometry) (numbers : ℕ → ℕ → ℤ) (n m all : ℕ) (octets more : List ℕ) → rows_of g numbers all ≡ rows_of g numbers n ++ (octets ++ more) → m ≤ length octets →
+pub prefix-part : (g : Geometry) (numbers : ℕ → ℕ → ℤ) (n m all : ℕ) (octets more : List ℕ) → rows_of g numbers all ≡ rows_of g numbers n
+    ++ (octets ++ more) → m ≤ length octets →
     (some : ℕ) × (rows_of g numbers n ++ take m octets ≡ take some (rows_of g numbers all))
-front-part g numbers n m all octets more whole le =
-    let before = rows_of g numbers n in
-    (length before + m, sym (ap (take (length before + m)) whole ∙ take-append-add before (octets ++ more) m ∙ ap (λ zs. before ++ zs) (take-append-le m octets more le)))
+prefix-part g numbers n m all octets more whole le =
+    let before = rows_of g numbers n in (
+      length before + m,
+      sym (ap (take (length before + m)) whole ∙ take-append-add before (octets ++ more) m ∙ ap (λ zs. before ++ zs)
+          (take-append-le m octets more le)),
+    )
 
 -- ---- a row's octets
 
@@ -82,7 +87,8 @@ made_octets g numbers n columns row wide long made =
     let first : take g.width row ≡ map f (range_with_len 0 g.width) = ap (take g.width) table ∙ take-map-range_with_len f 0 (length row) g.width within in
     ap (λ xs. pixel_octets g.depth (map (clamped g.depth g.signed) xs)) first
     ∙ ap (pixel_octets g.depth) (both (clamped g.depth g.signed) f (range_with_len 0 g.width))
-    ∙ ap (λ k. pixel_octets g.depth (map (λ j. clamped g.depth g.signed (rebuilt (bands_of g numbers) (block_count g.rows) k n j)) (range_with_len 0 g.width))) wide
+    ∙ ap (λ k. pixel_octets g.depth (map (λ j. clamped g.depth g.signed (rebuilt (bands_of g numbers) (block_count g.rows) k n j))
+    (range_with_len 0 g.width))) wide
   where
     both : (h : ℤ → ℤ) (f : ℕ → ℤ) (xs : List ℕ) → map h (map f xs) ≡ map (λ j. h (f j)) xs
     both h f [] = refl
@@ -123,12 +129,14 @@ completes p sized =
     record { more = omega (arith, rows, taken); whole = λ _. sym sized.height }
 
 -- an image that a strip may have begun, of another strip that took the same block rows
-pub completes_before : (s t : StripInverse) (r : ℕ) → taken_of t ≡ taken_of s → height_of t ≡ height_of s → IsCompletion (taken_of t) (height_of t) r → IsCompletion (taken_of s) (height_of s) r
+pub completes_before : (s t : StripInverse) (r : ℕ) → taken_of t ≡ taken_of s → height_of t ≡ height_of s → IsCompletion (taken_of t) (height_of t) r →
+    IsCompletion (taken_of s) (height_of s) r
 completes_before s t r taken height is =
     let more = is.more in
     record { more = omega (arith, more, taken); whole = λ e. is.whole (taken ∙ e ∙ sym height) ∙ height }
 
-sized_on : (p : PictureState) (t : StripInverse) (next : ℕ) → IsSized p → height_of t ≡ height_of p.strip → columns_of t ≡ columns_of p.strip → taken_of t ≡ taken_of p.strip → next_of t ≡ next →
+sized_on : (p : PictureState) (t : StripInverse) (next : ℕ) → IsSized p → height_of t ≡ height_of p.strip → columns_of t ≡ columns_of p.strip →
+    taken_of t ≡ taken_of p.strip → next_of t ≡ next →
     (p.at.row < block_count p.geometry.rows → next ≤ 8 * p.at.row - 21) → IsSized (stepped p t next)
 sized_on p t next sized height width taken given most = record {
   range = sized.range;
@@ -142,12 +150,13 @@ sized_on p t next sized height width taken given most = record {
   next_most = most;
 }
 
-stands_on : (p : PictureState) (t : StripInverse) (next columns : ℕ) (numbers : ℕ → ℕ → ℤ) → ((r : ℕ) → IsCompletion (taken_of t) (height_of t) r → FollowStrip (bands_of p.geometry numbers) r t) →
+valid_on : (p : PictureState) (t : StripInverse) (next columns : ℕ) (numbers : ℕ → ℕ → ℤ) →
+    ((r : ℕ) → IsCompletion (taken_of t) (height_of t) r → FollowStrip (bands_of p.geometry numbers) r t) →
     ((q : Place) → numbers_of t q ≡ numbers_of p.strip q) → RepresentsTo columns numbers p → RepresentsTo columns numbers (stepped p t next)
-stands_on p t next columns numbers strip same stands = record {
+valid_on p t next columns numbers strip same valid = record {
   strip = strip;
-  set = λ column i lt small. same _ ∙ stands.set column i lt small;
-  unset = λ column i le lt small. same _ ∙ stands.unset column i le lt small;
+  set = λ column i lt small. same _ ∙ valid.set column i lt small;
+  unset = λ column i le lt small. same _ ∙ valid.unset column i le lt small;
 }
 
 pub same_but : (p : PictureState) (t : StripInverse) (next : ℕ) → SameBut p (stepped p t next)
@@ -155,7 +164,8 @@ same_but p t next = record { geometry = refl; row = refl; column = refl }
 
 module _ (p : PictureState) (t : StripInverse) (sized : IsSized p) (made : RowMade p.strip t) where
   could_next : HasNext p.at.row p.at.next (block_count p.geometry.rows)
-  could_next = subst (λ h. HasNext p.at.row p.at.next h) sized.height (subst (λ n. HasNext p.at.row n (height_of p.strip)) sized.next (subst (λ k. HasNext k (next_of p.strip) (height_of p.strip)) sized.taken made.could))
+  could_next = subst (λ h. HasNext p.at.row p.at.next h) sized.height
+      (subst (λ n. HasNext p.at.row n (height_of p.strip)) sized.next (subst (λ k. HasNext k (next_of p.strip) (height_of p.strip)) sized.taken made.could))
 
   most_next : p.at.row < block_count p.geometry.rows → p.at.next + 1 ≤ 8 * p.at.row - 21
   most_next lt = ⊎_elim (λ (few : _). omega (arith, few)) (λ (whole : _). absurd (omega (arith, whole.0, lt))) could_next.made
@@ -170,23 +180,26 @@ module _ (p : PictureState) (t : StripInverse) (sized : IsSized p) (made : RowMa
       by : (b : Bool) → (p.at.row == block_count p.geometry.rows) ≡ b → p.at.next + 1 ≤ (if b then p.geometry.rows else 8 * p.at.row - 21)
       by true e = omega (arith, lt)
       by false e =
-          let other : p.at.row ≡ block_count p.geometry.rows → ⊥ = λ all. (let hit : (p.at.row == block_count p.geometry.rows) ≡ true = grind (arith, nat_tests) in absurd (let both : true ≡ false = sym hit ∙ e in cc)) in
+          let other : p.at.row ≡ block_count p.geometry.rows → ⊥ = λ all. (let hit : (p.at.row == block_count p.geometry.rows) ≡ true =
+          grind (arith, nat_tests) in absurd (let both : true ≡ false = sym hit ∙ e in cc)) in
           let within = sized.rows in
           most_next (omega (arith, other, within))
 
   follows_next : (numbers : ℕ → ℕ → ℤ) → Represents numbers p → Represents numbers (stepped p t (p.at.next + 1))
-  follows_next numbers stands =
-      stands_on p t (p.at.next + 1) p.at.column numbers
-      (λ r is. let before = completes_before p.strip t r made.taken made.height is in made.follows _ r before (stands.strip r before)) made.numbers stands
+  follows_next numbers valid =
+      valid_on p t (p.at.next + 1) p.at.column numbers
+      (λ r is. let before = completes_before p.strip t r made.taken made.height is in made.follows _ r before (valid.strip r before)) made.numbers valid
 
   -- the octets of the row
   octets_next : length (row_of t) ≡ 8 * columns_of t → (numbers : ℕ → ℕ → ℤ) → Represents numbers p →
       pixel_octets p.geometry.depth (map (clamped p.geometry.depth p.geometry.signed) (take p.geometry.width (row_of t)))
       ≡ pixel_octets p.geometry.depth (row_pixels p.geometry.width (whole_with p.geometry numbers p.at.next))
-  octets_next long numbers stands =
-      let value = made.value _ _ (completes p sized) (stands.strip _ (completes p sized)) in
-      let at : Agrees (8 * columns_of p.strip) (signal (row_of t)) (rebuilt (bands_of p.geometry numbers) (block_count p.geometry.rows) (columns_of p.strip) p.at.next) =
-      subst (λ n. Agrees (8 * columns_of p.strip) (signal (row_of t)) (rebuilt (bands_of p.geometry numbers) (block_count p.geometry.rows) (columns_of p.strip) n)) sized.next value in
+  octets_next long numbers valid =
+      let value = made.value _ _ (completes p sized) (valid.strip _ (completes p sized)) in
+      let at : Agrees (8 * columns_of p.strip) (signal (row_of t)) (rebuilt (bands_of p.geometry numbers) (block_count p.geometry.rows) (columns_of p.strip)
+      p.at.next) =
+      subst (λ n. Agrees (8 * columns_of p.strip) (signal (row_of t)) (rebuilt (bands_of p.geometry numbers) (block_count p.geometry.rows)
+      (columns_of p.strip) n)) sized.next value in
       made_octets p.geometry numbers p.at.next (columns_of p.strip) (row_of t) sized.columns (long ∙ ap (λ n. 8 * n) made.width) at
 
   -- a row of the picture was added
@@ -202,7 +215,8 @@ module _ (p : PictureState) (t : StripInverse) (sized : IsSized p) (made : RowMa
       octets = _;
       adds = adds;
       follows = follows_next;
-      given = λ numbers stands. ap (λ zs. rows_of p.geometry numbers p.at.next ++ zs) (octets_next long numbers stands) ∙ sym (front-more p.geometry numbers p.at.next lt);
+      given = λ numbers valid. ap (λ zs. rows_of p.geometry numbers p.at.next ++ zs) (octets_next long numbers valid)
+          ∙ sym (prefix-more p.geometry numbers p.at.next lt);
     };
   }
 
@@ -217,7 +231,7 @@ module _ (p : PictureState) (t : StripInverse) (sized : IsSized p) (made : RowMa
       octets = [];
       adds = record { gave = []; out = since_start a NoRead; all = sym (append-nil before) };
       follows = follows_next;
-      given = λ numbers stands. append-nil (rows_of p.geometry numbers p.at.next) ∙ sym (front-same p.geometry numbers p.at.next le);
+      given = λ numbers valid. append-nil (rows_of p.geometry numbers p.at.next) ∙ sym (prefix-same p.geometry numbers p.at.next le);
     };
   }
 
@@ -228,12 +242,13 @@ module _ (p : PictureState) (t : StripInverse) (sized : IsSized p) (made : RowMa
   row_broken long a b before lt gives = record {
     octets = _;
     gives = gives;
-    given = λ numbers stands.
+    given = λ numbers valid.
         let g = p.geometry in
-        let later = front-begins g numbers (p.at.next + 1) (rows_through g p.at.row) (next_through lt) in (
+        let later = prefix-begins g numbers (p.at.next + 1) (rows_through g p.at.row) (next_through lt) in (
           later.0,
-          later.1 ∙ ap (λ zs. zs ++ later.0) (front-more g numbers p.at.next lt) ∙ append_assoc (rows_of g numbers p.at.next) (row_octets g numbers p.at.next) later.0
-              ∙ ap (λ zs. rows_of g numbers p.at.next ++ (zs ++ later.0)) (sym (octets_next long numbers stands)),
+          later.1 ∙ ap (λ zs. zs ++ later.0) (prefix-more g numbers p.at.next lt) ∙ append_assoc (rows_of g numbers p.at.next)
+              (row_octets g numbers p.at.next) later.0
+              ∙ ap (λ zs. rows_of g numbers p.at.next ++ (zs ++ later.0)) (sym (octets_next long numbers valid)),
         );
   }
 
@@ -242,14 +257,15 @@ pub row_failed : {E : Type 0} {a b : Outside} {before : List ℕ} {p : PictureSt
 row_failed after q (Ok x) is broken = absurd (false≢true is)
 row_failed after q (Err e) is broken = broken
 
-pub rows_failed : {T E : Type 0} {a b : Outside} {p : PictureState} (q : PictureState) (r : Result T E) → IsErr r → StopsEarly (Represented p) p.at.row a b p → GivesRows r a b p q
+pub rows_failed : {T E : Type 0} {a b : Outside} {p : PictureState} (q : PictureState) (r : Result T E) → IsErr r →
+    StopsEarly (Represented p) p.at.row a b p → GivesRows r a b p q
 rows_failed q (Ok x) is broken = absurd (false≢true is)
 rows_failed q (Err e) is broken = broken
 
 -- none was left
 pub row_none : (p : PictureState) (t : StripInverse) → IsSized p → NoneMade p.strip t → HasNoneLeft p (stepped p t p.at.next)
 row_none p t sized none = record {
-  standing = record {
+  current = record {
     sized = sized_on p t p.at.next sized none.height none.width none.taken (none.next ∙ sized.next) sized.next_most;
     next_settled = λ lt.
         let waits = none.idle.next_waits (omega (arith, lt, none.taken, none.height, sized.taken, sized.height)) in
@@ -261,15 +277,16 @@ row_none p t sized none = record {
   };
   same = same_but p t p.at.next;
   next = refl;
-  follows = λ numbers stands.
-      stands_on p t p.at.next p.at.column numbers
-      (λ r is. let before = completes_before p.strip t r none.taken none.height is in none.follows _ r before (stands.strip r before)) none.numbers stands;
+  follows = λ numbers valid.
+      valid_on p t p.at.next p.at.column numbers
+      (λ r is. let before = completes_before p.strip t r none.taken none.height is in none.follows _ r before (valid.strip r before)) none.numbers valid;
 }
 
 -- ---- one stretch after another
 
 -- the rows are continued by rows, and then by more of them
-pub goes_then : {B C : (ℕ → ℕ → ℤ) → Type 0} {a b c : Outside} {x y z : PictureState} → y.geometry ≡ x.geometry → ((numbers : ℕ → ℕ → ℤ) → B numbers → Represents numbers y → C numbers) →
+pub goes_then : {B C : (ℕ → ℕ → ℤ) → Type 0} {a b c : Outside} {x y z : PictureState} → y.geometry ≡ x.geometry →
+    ((numbers : ℕ → ℕ → ℤ) → B numbers → Represents numbers y → C numbers) →
     Continues B a b x y → Continues C b c y z → Continues B a c x z
 goes_then {B = B} {C = C} {a = a} {b = b} {c = c} {x = x} {y = y} {z = z} same f u v = record {
   gave = u.gave ++ v.gave;
@@ -283,7 +300,8 @@ goes_then {B = B} {C = C} {a = a} {b = b} {c = c} {x = x} {y = y} {z = z} same f
 }
 
 -- the rows are continued by rows, and then a write fails
-pub breaks_then : {B C : (ℕ → ℕ → ℤ) → Type 0} {r : ℕ} {a b c : Outside} {x y : PictureState} → y.geometry ≡ x.geometry → ((numbers : ℕ → ℕ → ℤ) → B numbers → Represents numbers y → C numbers) →
+pub breaks_then : {B C : (ℕ → ℕ → ℤ) → Type 0} {r : ℕ} {a b c : Outside} {x y : PictureState} → y.geometry ≡ x.geometry →
+    ((numbers : ℕ → ℕ → ℤ) → B numbers → Represents numbers y → C numbers) →
     Continues B a b x y → StopsEarly C r b c y → StopsEarly B r a c x
 breaks_then {B = B} {C = C} {r = r} {a = a} {b = b} {c = c} {x = x} {y = y} same f u v = record {
   gave = u.gave ++ v.gave;

@@ -1,5 +1,6 @@
 -- Rows of a picture that are gathered one after another, and then given.
-use Rattle.std.proofs.Common.{◌≡◌, ◌<◌, ◌≤◌, ◌+◌, ◌-◌, ◌*◌, ℕ, ℤ, List, [], ◌++◌, length, take, map, refl, sym, ap, subst, ◌∙◌, arith, ⊎_elim, append_assoc, length-append, Result, Ok, Err, append-nil}
+use Rattle.std.proofs.Common.{◌≡◌, ◌<◌, ◌≤◌, ◌+◌, ◌-◌, ◌*◌, ℕ, ℤ, List, [], ◌++◌, length, take, map, refl, sym, ap, subst, ◌∙◌, arith, ⊎_elim, append_assoc}
+use Rattle.std.proofs.Common.{length-append, Result, Ok, Err, append-nil}
 use Rattle.std.proofs.Math.Seq.{take-append-add}
 use Rattle.port_122.specs.Outside.{Outside, Exchange, NoRead, WritesAll}
 use Rattle.port_122.proofs.Stretches.{since_start, since_out, rose_since}
@@ -8,15 +9,16 @@ use Rattle.raster_rows.specs.Pixels.{pixel_octets, clamped}
 use Rattle.raster_rows.specs.declared.gathered.GatheredRows.{GatheredRows}
 use Rattle.raster_rows.specs.Gathered.{depth_of, is_signed, width_of, Adds, GivesPart}
 use Rattle.stream_defs.specs.Settled.{rows_through}
-use Rattle.picture_rows.specs.Fronts.{rows_of}
+use Rattle.picture_rows.specs.Prefixes.{rows_of}
 use Rattle.picture_rows.specs.Pictures.{PictureState, IsSized}
 use Rattle.picture_rows.specs.Steps.{StopsEarly, Represented, HasGathered, HasGatheredSome, HasNoneLeft, StopsInRow, GivesRows, IsFor}
-use Rattle.picture_rows.proofs.RowGives.{front-part, same_then}
+use Rattle.picture_rows.proofs.RowGives.{prefix-part, same_then}
 use Rattle.picture_rows.proofs.RowsOut.{next_rows}
 
 -- rows of the form of the picture have its octets
 pub form_of : (g : Geometry) (rows : GatheredRows) (row : List ℤ) → IsFor g rows →
-    pixel_octets (depth_of rows) (map (clamped (depth_of rows) (is_signed rows)) (take (width_of rows) row)) ≡ pixel_octets g.depth (map (clamped g.depth g.signed) (take g.width row))
+    pixel_octets (depth_of rows) (map (clamped (depth_of rows) (is_signed rows)) (take (width_of rows) row)) ≡ pixel_octets g.depth
+    (map (clamped g.depth g.signed) (take g.width row))
 form_of g rows row form =
     ap (λ d. pixel_octets d (map (clamped d (is_signed rows)) (take (width_of rows) row))) form.depth
     ∙ ap (λ s. pixel_octets g.depth (map (clamped g.depth s) (take (width_of rows) row))) form.signed
@@ -37,8 +39,8 @@ gathered_nothing a p waiting sized none = record {
   goes = record {
     octets = [];
     adds = record { gave = []; out = since_start a NoRead; all = none };
-    follows = λ numbers stands. stands;
-    given = λ numbers stands. append-nil (rows_of p.geometry numbers p.at.next);
+    follows = λ numbers valid. valid;
+    given = λ numbers valid. append-nil (rows_of p.geometry numbers p.at.next);
   };
 }
 
@@ -61,14 +63,17 @@ gathered_then {x = x} {y = y} {z = z} u v = record {
     follows = λ numbers before. v.goes.follows numbers (u.goes.follows numbers before);
     given = λ numbers before.
         let there : rows_of x.geometry numbers y.at.next ++ v.goes.octets ≡ rows_of x.geometry numbers z.at.next =
-        subst (λ g. rows_of g numbers y.at.next ++ v.goes.octets ≡ rows_of g numbers z.at.next) u.same.geometry (v.goes.given numbers (u.goes.follows numbers before)) in
-        sym (append_assoc (rows_of x.geometry numbers x.at.next) u.goes.octets v.goes.octets) ∙ ap (λ zs. zs ++ v.goes.octets) (u.goes.given numbers before) ∙ there;
+        subst (λ g. rows_of g numbers y.at.next ++ v.goes.octets ≡ rows_of g numbers z.at.next) u.same.geometry
+        (v.goes.given numbers (u.goes.follows numbers before)) in
+        sym (append_assoc (rows_of x.geometry numbers x.at.next) u.goes.octets v.goes.octets) ∙ ap (λ zs. zs ++ v.goes.octets) (u.goes.given numbers before)
+        ∙ there;
   };
 }
 
 -- a prefix of what waits and of more octets is given, which continue the rows
 broken_of : {a b c : Outside} {w : List ℕ} {x y : PictureState} (more : List ℕ) → HasGatheredSome a b w x y → GivesPart b c (w ++ more) →
-    ((numbers : ℕ → ℕ → ℤ) → Represented y numbers → (rest : List ℕ) × (rows_of y.geometry numbers (rows_through y.geometry y.at.row) ≡ rows_of y.geometry numbers y.at.next ++ (more ++ rest))) →
+    ((numbers : ℕ → ℕ → ℤ) → Represented y numbers → (rest : List ℕ) × (rows_of y.geometry numbers (rows_through y.geometry y.at.row) ≡ rows_of y.geometry
+    numbers y.at.next ++ (more ++ rest))) →
     StopsEarly (Represented x) x.at.row a c x
 broken_of {w = w} {x = x} {y = y} more u part goes =
     let gave = u.goes.adds.gave in
@@ -91,18 +96,20 @@ broken_of {w = w} {x = x} {y = y} more u part goes =
           let whole : rows_of g numbers (rows_through g x.at.row) ≡ rows_of g numbers x.at.next ++ ((octets ++ more) ++ later.0) =
           through ∙ ap (λ zs. zs ++ (more ++ later.0)) (sym (u.goes.given numbers before)) ∙ append_assoc (rows_of g numbers x.at.next) octets (more ++ later.0)
           ∙ ap (λ zs. rows_of g numbers x.at.next ++ zs) (sym (append_assoc octets more later.0)) in
-          let found = front-part g numbers x.at.next (length gave + part.count) (rows_through g x.at.row) (octets ++ more) later.0 whole within in
+          let found = prefix-part g numbers x.at.next (length gave + part.count) (rows_through g x.at.row) (octets ++ more) later.0 whole within in
           (found.0, ap (λ zs. rows_of g numbers x.at.next ++ zs) (sym some) ∙ found.1);
     }
 
 -- a row could not be added
-pub gathered_broken : {a b c : Outside} {w : List ℕ} {x y : PictureState} → HasGatheredSome a b w x y → StopsInRow (Represented y) y.at.row b c w y → StopsEarly (Represented x) x.at.row a c x
+pub gathered_broken : {a b c : Outside} {w : List ℕ} {x y : PictureState} → HasGatheredSome a b w x y → StopsInRow (Represented y) y.at.row b c w y →
+    StopsEarly (Represented x) x.at.row a c x
 gathered_broken u v = broken_of v.octets u v.gives v.given
 
 -- what waited was given, or a prefix of it
-pub gathered_given : {T E : Type 0} {a b : Outside} {w : List ℕ} {x y z : PictureState} (c : Outside) (r : Result T E) → HasGatheredSome a b w x y → HasNoneLeft y z → WritesAll r b c w → GivesRows r a c x z
+pub gathered_given : {T E : Type 0} {a b : Outside} {w : List ℕ} {x y z : PictureState} (c : Outside) (r : Result T E) → HasGatheredSome a b w x y →
+    HasNoneLeft y z → WritesAll r b c w → GivesRows r a c x z
 gathered_given {a = a} {w = w} {x = x} {y = y} {z = z} c (Ok t) u none out = record {
-  standing = none.standing;
+  current = none.current;
   same = same_then u.same none.same;
   goes = record {
     gave = u.goes.octets;
@@ -114,8 +121,8 @@ gathered_given {a = a} {w = w} {x = x} {y = y} {z = z} c (Ok t) u none out = rec
 gathered_given {b = b} {w = w} {y = y} {z = z} c (Err e) u none out =
     let same : w ++ [] ≡ w = append-nil w in
     let part : GivesPart b c w = record { rose = out.0; count = out.1.0; within = out.1.1; out = out.1.2 } in
-    broken_of [] u (subst (GivesPart b c) (sym same) part) (λ numbers stands.
-    let there : rows_of z.geometry numbers z.at.next ≡ rows_of z.geometry numbers (rows_through z.geometry z.at.row) = next_rows z numbers none.standing in
+    broken_of [] u (subst (GivesPart b c) (sym same) part) (λ numbers valid.
+    let there : rows_of z.geometry numbers z.at.next ≡ rows_of z.geometry numbers (rows_through z.geometry z.at.row) = next_rows z numbers none.current in
     let here : rows_of y.geometry numbers y.at.next ≡ rows_of y.geometry numbers (rows_through y.geometry y.at.row) =
     subst (λ (g : Geometry). rows_of g numbers y.at.next ≡ rows_of g numbers (rows_through g y.at.row)) none.same.geometry
     (subst (λ (n : ℕ). rows_of z.geometry numbers n ≡ rows_of z.geometry numbers (rows_through z.geometry y.at.row)) none.next

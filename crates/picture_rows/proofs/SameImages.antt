@@ -22,7 +22,8 @@ use Rattle.picture_rows.proofs.BandBlocks.{part_is}
 use Rattle.stream_defs.proofs.BandPlaces.{coefficient_with}
 
 -- numbers that are those of the image's blocks
-module _ (s : Setting) (x : ℕ → ℕ → ℤ) (range : IsInRange s) (height : IsWithin rows_range s.rows) (pixels : (i j : ℕ) → i < s.rows → j < s.width → IsPixel s.depth s.signed (x i j)) (numbers : ℕ → ℕ → ℤ)
+module _ (s : Setting) (x : ℕ → ℕ → ℤ) (range : IsInRange s) (height : IsWithin rows_range s.rows) (pixels : (i j : ℕ) → i < s.rows → j < s.width →
+    IsPixel s.depth s.signed (x i j)) (numbers : ℕ → ℕ → ℤ)
     (same : (b i : ℕ) → b < total_blocks s.width s.rows → numbers b i ≡ get_or (get_or (image_blocks s x) b []) i (pos 0)) where
   abbrev r : ℕ
   r = block_count s.rows
@@ -56,6 +57,7 @@ module _ (s : Setting) (x : ℕ → ℕ → ℤ) (range : IsInRange s) (height :
       let here : padded x s.rows s.width i j ≡ x i j = ap (λ n. x n (min j (s.width - 1))) row ∙ ap (x i) column in
       let pixel = pixels i j inside across in
       ap (clamped s.depth s.signed)
-      (sample-reach (pyramid_with numbers c weights) bands r c i j (omega (arith, tall)) (omega (arith, wide)) (omega (arith, inside)) (omega (arith, across)) (λ t k low few above beside. block_same t k low few)
+      (sample-reach (pyramid_with numbers c weights) bands r c i j (omega (arith, tall)) (omega (arith, wide)) (omega (arith, inside))
+      (omega (arith, across)) (λ t k low few above beside. block_same t k low few)
       ∙ ap (λ (f : ℕ → ℕ → ℤ). f i j) (rebuilt-pyramid (padded x s.rows s.width) r c) ∙ here)
       ∙ (clamped_is s.depth s.signed (x i j) range.depth).2 pixel.low pixel.high

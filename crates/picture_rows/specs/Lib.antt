@@ -1,3 +1,3 @@
 pub mod Pictures
-pub mod Fronts
+pub mod Prefixes
 pub mod Steps

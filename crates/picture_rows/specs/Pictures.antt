@@ -11,7 +11,7 @@ use Rattle.inverse_strip.specs.Strip.{columns_of, height_of, taken_of, next_of, 
 use Rattle.inverse_strip.specs.declared.strip.StripInverse.{StripInverse}
 use Rattle.picture_rows.specs.declared.picture.Picture.{Picture}
 use Rattle.picture_rows.specs.declared.picture.PictureAt.{PictureAt}
-use Rattle.picture_rows.specs.Fronts.{bands_of}
+use Rattle.picture_rows.specs.Prefixes.{bands_of}
 
 -- its parts
 pub record PictureState : Type 0 where
@@ -74,8 +74,8 @@ Represents numbers p = RepresentsTo p.at.column numbers p
 -- no block was taken yet of a picture of this geometry
 pub record IsFresh (g : Geometry) (p : PictureState) : Type 0 where
   pub geometry : p.geometry ≡ g
-  pub standing : IsCurrent p
+  pub current : IsCurrent p
   pub row : p.at.row ≡ 0
   pub column : p.at.column ≡ 0
   pub next : p.at.next ≡ 0
-  pub stands : (numbers : ℕ → ℕ → ℤ) → Represents numbers p
+  pub valid : (numbers : ℕ → ℕ → ℤ) → Represents numbers p

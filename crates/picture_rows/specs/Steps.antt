@@ -7,7 +7,7 @@ use Rattle.raster_rows.specs.Gathered.{depth_of, is_signed, width_of, Adds, Give
 use Rattle.raster_rows.specs.declared.gathered.GatheredRows.{GatheredRows}
 use Rattle.stream_defs.specs.Settled.{rows_through, block_rows_before}
 use Rattle.inverse_strip.specs.Kept.{HasNext}
-use Rattle.picture_rows.specs.Fronts.{rows_of}
+use Rattle.picture_rows.specs.Prefixes.{rows_of}
 use Rattle.picture_rows.specs.Pictures.{PictureState, IsSized, IsCurrent, RepresentsTo, Represents, passed_in}
 
 -- ---- rows
@@ -61,7 +61,7 @@ pub record HasGathered (p q : Outside) (before after : List ℕ) (old new : Pict
 
 -- none is left to make before the next block row
 pub record HasNoneLeft (old new : PictureState) : Type 0 where
-  pub standing : IsCurrent new
+  pub current : IsCurrent new
   pub same : SameBut old new
   pub next : new.at.next ≡ old.at.next
   pub follows : (numbers : ℕ → ℕ → ℤ) → Represents numbers old → Represents numbers new
@@ -86,7 +86,7 @@ pub record HasGatheredSome (p q : Outside) (waiting : List ℕ) (old new : Pictu
 
 -- all rows were given that can be made before the next block row
 pub record HasNone (p q : Outside) (old new : PictureState) : Type 0 where
-  pub standing : IsCurrent new
+  pub current : IsCurrent new
   pub same : SameBut old new
   pub goes : Continues (Represented old) p q old new
 
@@ -101,25 +101,26 @@ HasNextSet p numbers = RepresentsTo (p.at.column + 1) numbers p
 
 -- the next block has these numbers, and zeros after them
 pub record HasNextNumbers (xs : List ℤ) (p : PictureState) (numbers : ℕ → ℕ → ℤ) : Type 0 where
-  pub stands : Represents numbers p
+  pub valid : Represents numbers p
   pub next : (i : ℕ) → i < 64 → numbers (passed_in p) i ≡ slice_index_or xs i (pos 0)
 
 -- the next block was passed, and the rows that it completes were given
 pub record HasPassed (Before : (ℕ → ℕ → ℤ) → Type 0) (p q : Outside) (old new : PictureState) : Type 0 where
-  pub standing : IsCurrent new
+  pub current : IsCurrent new
   pub geometry : new.geometry ≡ old.geometry
   pub count : passed_in new ≡ passed_in old + 1
   pub goes : Continues Before p q old new
 
 abbrev pub PassesBlock : {T E : Type 0} → Result T E → ((ℕ → ℕ → ℤ) → Type 0) → (p q : Outside) (old new : PictureState) → Type 0
-PassesBlock result Before p q old new = MatchResult result (λ _. HasPassed Before p q old new) (λ _. StopsEarly Before (block_rows_before old.geometry (passed_in old + 1)) p q old)
+PassesBlock result Before p q old new = MatchResult result (λ _. HasPassed Before p q old new)
+    (λ _. StopsEarly Before (block_rows_before old.geometry (passed_in old + 1)) p q old)
 
 -- ---- the height
 
 -- The image has this number of rows now, and all else is unchanged: the rows that were given are the first ones of the image of either
 -- height.
 pub record HasEnded (rows : ℕ) (old new : PictureState) : Type 0 where
-  pub standing : IsCurrent new
+  pub current : IsCurrent new
   pub geometry : new.geometry ≡ record old.geometry { rows = rows }
   pub at : new.at ≡ old.at
   pub follows : (numbers : ℕ → ℕ → ℤ) → Represents numbers old → Represents numbers new

@@ -13,9 +13,10 @@ use port_122::{Failed, Port};
 
 // Advances past the next block, whose numbers are set, and gives the rows that its block row determines if it is whole.
 fn pass_block<X: Port>(port: &mut X, picture: &mut Picture) -> Result<(), Failed>
-    requires standing { IsCurrent (picture_state picture.old) }
+    requires current { IsCurrent (picture_state picture.old) }
     requires room { HasRoom (picture_state picture.old) }
-    ensures { PassesBlock result (HasNextSet (picture_state picture.old)) (X.outside port.old) (X.outside port.new) (picture_state picture.old) (picture_state picture.new) }
+    ensures { PassesBlock result (HasNextSet (picture_state picture.old)) (X.outside port.old) (X.outside port.new) (picture_state picture.old)
+        (picture_state picture.new) }
 {
     picture.at.column += 1;
     if picture.at.column < picture.geometry.padded_width() / 8 {
@@ -29,9 +30,10 @@ fn pass_block<X: Port>(port: &mut X, picture: &mut Picture) -> Result<(), Failed
 
 /// Passes the next block as lost: its numbers are 0.
 pub fn put_missing<X: Port>(port: &mut X, picture: &mut Picture) -> Result<(), Failed>
-    requires standing { IsCurrent (picture_state picture.old) }
+    requires current { IsCurrent (picture_state picture.old) }
     requires room { HasRoom (picture_state picture.old) }
-    ensures { PassesBlock result (HasNextNumbers [] (picture_state picture.old)) (X.outside port.old) (X.outside port.new) (picture_state picture.old) (picture_state picture.new) }
+    ensures { PassesBlock result (HasNextNumbers [] (picture_state picture.old)) (X.outside port.old) (X.outside port.new) (picture_state picture.old)
+        (picture_state picture.new) }
 {
     pass_block(port, picture)
 }
@@ -42,11 +44,12 @@ pub fn put_block<X: Port>(
     picture: &mut Picture,
     numbers: &[i32],
 ) -> Result<(), Failed>
-    requires standing { IsCurrent (picture_state picture.old) }
+    requires current { IsCurrent (picture_state picture.old) }
     requires room { HasRoom (picture_state picture.old) }
     requires whole { length numbers.now ≡ 64 }
     requires parts { AreWeighted numbers.now picture.old.geometry.weights.shifts }
-    ensures { PassesBlock result (HasNextNumbers numbers.now (picture_state picture.old)) (X.outside port.old) (X.outside port.new) (picture_state picture.old) (picture_state picture.new) }
+    ensures { PassesBlock result (HasNextNumbers numbers.now (picture_state picture.old)) (X.outside port.old) (X.outside port.new)
+        (picture_state picture.old) (picture_state picture.new) }
 {
     scatter(
         &mut picture.strip,

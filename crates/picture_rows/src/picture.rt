@@ -53,7 +53,7 @@ impl Picture {
     /// Sets the number of rows of the image, 17 to 262,144 and at most the number that it had (docs/formats.md, "Levels and padding").
     /// At least one block of an image of this height is still to be passed. The rows that were given are its first rows too.
     pub fn end_at(&mut self, rows: u32)
-        requires standing { IsCurrent (picture_state self.old) }
+        requires current { IsCurrent (picture_state self.old) }
         requires range { IsWithin rows_range rows }
         requires fewer { rows ≤ self.old.geometry.rows }
         requires more { passed_in (picture_state self.old) < total_blocks self.old.geometry.width rows }

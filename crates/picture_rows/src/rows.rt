@@ -16,7 +16,8 @@ fn give_row<X: Port>(
 ) -> Result<bool, Failed>
     requires sized { IsSized (picture_state picture.old) }
     requires form { IsFor picture.old.geometry rows.old }
-    ensures row { GivesRow result (X.outside port.old) (X.outside port.new) (waiting_of rows.old) (waiting_of rows.new) (picture_state picture.old) (picture_state picture.new) }
+    ensures row { GivesRow result (X.outside port.old) (X.outside port.new) (waiting_of rows.old) (waiting_of rows.new) (picture_state picture.old)
+        (picture_state picture.new) }
     ensures alike { IsAlike rows.old rows.new }
 {
     if !picture.strip.make_row() {

@@ -15,7 +15,8 @@ block_there numbers r within = rw blocks_in-is (grind (arith, nat_tests, get_or-
 
 pub stage_there : (stage : Stage) (numbers marks : List ℤ) (weights : List ℕ) (plane q r d : ℕ) → length numbers ≡ 64 * length marks → r < length marks →
     d ≡ depth_of (get_or marks r (pos 0)) →
-    block_entries stage (block_at numbers r) d weights plane q ≡ block_entries stage (get_or (blocks_in numbers) r []) (get_or (depths_of marks) r 0) weights plane q
+    block_entries stage (block_at numbers r) d weights plane q ≡ block_entries stage (get_or (blocks_in numbers) r []) (get_or (depths_of marks) r 0)
+    weights plane q
 stage_there stage numbers marks weights plane q r d whole within is = grind (arith, nat_tests, block_there, depth_there)
 
 -- the DC of a block

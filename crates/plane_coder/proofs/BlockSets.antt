@@ -1,5 +1,6 @@
 -- What the sets of a block send, one after another.
-use Rattle.std.proofs.Common.{◌≡◌, ℕ, zero, suc, ◌+◌, ◌*◌, ◌-◌, ◌≤◌, ℤ, Bool, true, false, cond, ◌||◌, List, [], ◌∷◌, ◌++◌, map, filter, refl, ap, sym, ◌∙◌, arith, append-nil, append_assoc}
+use Rattle.std.proofs.Common.{◌≡◌, ℕ, zero, suc, ◌+◌, ◌*◌, ◌-◌, ◌≤◌, ℤ, Bool, true, false, cond, ◌||◌, List, [], ◌∷◌, ◌++◌, map, filter, refl, ap, sym, ◌∙◌}
+use Rattle.std.proofs.Common.{arith, append-nil, append_assoc}
 use Rattle.std.specs.List.{flat_map, list_any}
 use Rattle.std.proofs.lemmas.List.{map-append}
 use Rattle.std.proofs.lemmas.List.Elements.{filter-append}
@@ -20,7 +21,8 @@ span_both s m zero = let e : m + 0 ≡ m = omega arith in append-nil (span s m) 
 span_both s m (suc n) =
     let e : m + suc n ≡ suc (m + n) = omega arith in
     let there : (s + m) + n ≡ s + (m + n) = omega arith in
-    sym (append_assoc (span s m) (span (s + m) n) ((s + m + n) ∷ [])) ∙ ap (λ l. l ++ (s + m + n) ∷ []) (span_both s m n) ∙ ap (λ k. span s (m + n) ++ k ∷ []) there ∙ ap (span s) (sym e)
+    sym (append_assoc (span s m) (span (s + m) n) ((s + m + n) ∷ [])) ∙ ap (λ l. l ++ (s + m + n) ∷ []) (span_both s m n)
+    ∙ ap (λ k. span s (m + n) ++ k ∷ []) there ∙ ap (span s) (sym e)
 
 none_passes : (p : ℕ → Bool) (xs : List ℕ) → list_any p xs ≡ false → filter p xs ≡ []
 none_passes p [] none = refl
@@ -35,7 +37,8 @@ filtered : (f : ℕ → List Entry) (p : ℕ → Bool) (xs : List ℕ) → flat_
 filtered f p [] = refl
 filtered f p (x ∷ xs) = one (p x) (filtered f p xs)
   where
-    one : (b : Bool) → flat_map f (filter p xs) ≡ flat_map (λ i. cond (p i) (f i) []) xs → flat_map f (cond b (x ∷ filter p xs) (filter p xs)) ≡ cond b (f x) [] ++ flat_map (λ i. cond (p i) (f i) []) xs
+    one : (b : Bool) → flat_map f (filter p xs) ≡ flat_map (λ i. cond (p i) (f i) []) xs → flat_map f (cond b (x ∷ filter p xs) (filter p xs))
+        ≡ cond b (f x) [] ++ flat_map (λ i. cond (p i) (f i) []) xs
     one true rest = ap (λ l. f x ++ l) rest
     one false rest = rest
 
@@ -47,7 +50,8 @@ module _ (block : List ℤ) (weights : List ℕ) (plane : ℕ) where
   pub children_are : flat_map of_children (span 0 3) ≡ children_types block weights plane
   children_are = sym (filtered (λ i. typed block weights plane (span (children_of i) 4)) (λ i. set_significant block plane (Family i)) (span 0 3))
 
-  pub of_children_is : (b : Bool) (i : ℕ) → b ≡ set_significant block plane (Family (0 + i)) → cond b (typed block weights plane (span (4 + 4 * i) 4)) [] ≡ of_children (0 + i)
+  pub of_children_is : (b : Bool) (i : ℕ) → b ≡ set_significant block plane (Family (0 + i)) → cond b (typed block weights plane (span (4 + 4 * i) 4)) []
+      ≡ of_children (0 + i)
   of_children_is b i same = grind (arith, nat_tests)
 
   -- what a set of four grandchildren sends
@@ -57,7 +61,8 @@ module _ (block : List ℤ) (weights : List ℕ) (plane : ℕ) where
   pub quads_are : (i : ℕ) → flat_map (of_quad i) (span 0 4) ≡ quads_types block weights plane i
   quads_are i = sym (filtered (λ j. typed block weights plane (span (quad_of i j) 4)) (λ j. set_significant block plane (Quad i j)) (span 0 4))
 
-  pub of_quad_is : (b : Bool) (i j : ℕ) → b ≡ set_significant block plane (Quad i (0 + j)) → cond b (typed block weights plane (span (16 + 16 * i + 4 * j) 4)) [] ≡ of_quad i (0 + j)
+  pub of_quad_is : (b : Bool) (i j : ℕ) → b ≡ set_significant block plane (Quad i (0 + j)) →
+      cond b (typed block weights plane (span (16 + 16 * i + 4 * j) 4)) [] ≡ of_quad i (0 + j)
   of_quad_is b i j same = grind (arith, nat_tests)
 
   -- what family i sends of its grandchildren
@@ -76,13 +81,15 @@ module _ (block : List ℤ) (weights : List ℕ) (plane : ℕ) where
   refining_both s m n =
       let f = λ (p : ℕ). Bit (bit (magnitude block p) plane) in
       let d = refined block weights plane in
-      sym (map-append f (filter d (span s m)) (filter d (span (s + m) n))) ∙ ap (map f) (sym (filter-append d (span s m) (span (s + m) n)) ∙ ap (filter d) (span_both s m n))
+      sym (map-append f (filter d (span s m)) (filter d (span (s + m) n)))
+      ∙ ap (map f) (sym (filter-append d (span s m) (span (s + m) n)) ∙ ap (filter d) (span_both s m n))
 
   pub refining_none : (s : ℕ) → refining block weights plane s 0 ≡ []
   refining_none s = grind (arith, nat_tests, span-none, span-more)
 
   -- this number of fours, and one more
-  pub refining_more : (from k : ℕ) → from ≤ k → refining block weights plane (4 * from) (4 * (k - from)) ++ refining block weights plane (4 * k) 4 ≡ refining block weights plane (4 * from) (4 * ((k + 1) - from))
+  pub refining_more : (from k : ℕ) → from ≤ k → refining block weights plane (4 * from) (4 * (k - from)) ++ refining block weights plane (4 * k) 4
+      ≡ refining block weights plane (4 * from) (4 * ((k + 1) - from))
   refining_more from k le =
       let place : 4 * k ≡ 4 * from + 4 * (k - from) = omega arith in
       let sum : 4 * (k - from) + 4 ≡ 4 * ((k + 1) - from) = omega arith in
@@ -93,5 +100,6 @@ module _ (block : List ℤ) (weights : List ℕ) (plane : ℕ) where
   pub refining_nothing : (s n : ℕ) → false ≡ list_any (refined block weights plane) (span s n) → [] ≡ refining block weights plane s n
   refining_nothing s n none = sym (ap (map (λ p. Bit (bit (magnitude block p) plane))) (none_passes (refined block weights plane) (span s n) (sym none)))
 
-  pub refining_parts : (s m n o : ℕ) → (refining block weights plane s m ++ refining block weights plane (s + m) n) ++ refining block weights plane (s + (m + n)) o ≡ refining block weights plane s ((m + n) + o)
+  pub refining_parts : (s m n o : ℕ) → (refining block weights plane s m ++ refining block weights plane (s + m) n) ++ refining block weights plane
+      (s + (m + n)) o ≡ refining block weights plane s ((m + n) + o)
   refining_parts s m n o = ap (λ l. l ++ refining block weights plane (s + (m + n)) o) (refining_both s m n) ∙ refining_both s (m + n) o

@@ -1,7 +1,7 @@
 -- The stages of a block by its depth.
 use Rattle.std.proofs.Common.{◌≡◌, ℕ, ◌<◌, ◌≤◌, inl, inr, ℤ, true, false, List, [], nat_lt, ap, ◌∙◌, subst, arith, Result}
 use Rattle.bit_pipe.specs.Sinks.{SinkOf}
-use Rattle.bit_pipe.specs.Standing.{Standing}
+use Rattle.bit_pipe.specs.SinkState.{SinkState}
 use Rattle.bit_pipe.specs.declared.fault.PutFault.{PutFault}
 use Rattle.base_122.specs.declared.book.Book.{Book}
 use Rattle.plane_defs.specs.declared.entries.Entry.{Entry}
@@ -32,23 +32,45 @@ pub deep_children : Deep stages.Children children
 deep_children block weights plane q d lt = grind (arith, nat_tests, dc_entries, parents_entries, children_entries, grandchildren_entries, refinement_entries)
 
 pub deep_grandchildren : Deep stages.Grandchildren grandchildren
-deep_grandchildren block weights plane q d lt = grind (arith, nat_tests, dc_entries, parents_entries, children_entries, grandchildren_entries, refinement_entries)
+deep_grandchildren block weights plane q d lt = grind (
+  arith,
+  nat_tests,
+  dc_entries,
+  parents_entries,
+  children_entries,
+  grandchildren_entries,
+  refinement_entries,
+)
 
 pub deep_refinement : Deep stages.Refinement refinement
 deep_refinement block weights plane q d lt = grind (arith, nat_tests, dc_entries, parents_entries, children_entries, grandchildren_entries, refinement_entries)
 
-pub shallow : (stage : Stage) (block : List ℤ) (weights : List ℕ) (plane q d : ℕ) → (stage ≡ stages.DcBits → ⊥) → d ≤ plane → block_entries stage block d weights plane q ≡ []
-shallow stage block weights plane q d other le = grind (arith, nat_tests, not_below, dc_entries, parents_entries, children_entries, grandchildren_entries, refinement_entries)
+pub shallow : (stage : Stage) (block : List ℤ) (weights : List ℕ) (plane q d : ℕ) → (stage ≡ stages.DcBits → ⊥) → d ≤ plane →
+    block_entries stage block d weights plane q ≡ []
+shallow stage block weights plane q d other le = grind (
+  arith,
+  nat_tests,
+  not_below,
+  dc_entries,
+  parents_entries,
+  children_entries,
+  grandchildren_entries,
+  refinement_entries,
+)
 
-pub first_stage : (n : ℕ) (block : List ℤ) (weights : List ℕ) (plane q d : ℕ) → n ≡ 0 → block_entries (stage_number n) block d weights plane q ≡ dc_bits block weights plane q
+pub first_stage : (n : ℕ) (block : List ℤ) (weights : List ℕ) (plane q d : ℕ) → n ≡ 0 → block_entries (stage_number n) block d weights plane q
+    ≡ dc_bits block weights plane q
 first_stage n block weights plane q d is = grind (arith, nat_tests, dc_entries, parents_entries, children_entries, grandchildren_entries, refinement_entries)
 
 pub last_stage : (n : ℕ) → HasNoWords n → (n ≡ 0 → ⊥) → stage_number n ≡ stages.Refinement
 last_stage n (inl first) other = absurd (other first)
 last_stage n (inr last) other = ap stage_number last
 
-module _ {S : Type 0} {k : SinkOf S} {book : Book} {a c : Gaggle} {r : Result (Unit {0}) PutFault} {s t : Standing S} where
-  pub spells_deep : (f : List ℤ → List ℕ → ℕ → List Entry) (stage : Stage) (block block' : List ℤ) (plan plan' : CodedPlane) (d : ℕ) → Deep stage f → block' ≡ block → plan' ≡ plan → plan.plane < d →
-      Spells k book a c r s t (f block' plan'.weights.shifts plan'.plane) → Spells k book a c r s t (block_entries stage block d plan.weights.shifts plan.plane plan.q)
+module _ {S : Type 0} {k : SinkOf S} {book : Book} {a c : Gaggle} {r : Result (Unit {0}) PutFault} {s t : SinkState S} where
+  pub spells_deep : (f : List ℤ → List ℕ → ℕ → List Entry) (stage : Stage) (block block' : List ℤ) (plan plan' : CodedPlane) (d : ℕ) → Deep stage f →
+      block' ≡ block → plan' ≡ plan → plan.plane < d →
+      Spells k book a c r s t (f block' plan'.weights.shifts plan'.plane) →
+      Spells k book a c r s t (block_entries stage block d plan.weights.shifts plan.plane plan.q)
   spells_deep f stage block block' plan plan' d deep e h lt p =
-      subst (λ l. Spells k book a c r s t l) (ap (λ b. f b plan'.weights.shifts plan'.plane) e ∙ ap (λ (q : CodedPlane). f block q.weights.shifts q.plane) h ∙ deep block plan.weights.shifts plan.plane plan.q d lt) p
+      subst (λ l. Spells k book a c r s t l) (ap (λ b. f b plan'.weights.shifts plan'.plane) e ∙ ap (λ (q : CodedPlane). f block q.weights.shifts q.plane)
+      h ∙ deep block plan.weights.shifts plan.plane plan.q d lt) p

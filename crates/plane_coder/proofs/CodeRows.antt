@@ -13,7 +13,8 @@ use Rattle.plane_coder.specs.Coding.{IsCodeOf, IsWordOf, row_of, code_in, option
 use Rattle.plane_coder.proofs.Appending.{no_less}
 use Rattle.block_masks.specs.Gaggles.{AreOptions}
 
-pub coded_word : (book : Book) (length option v : ℕ) (code : Code) → 2 ≤ length → code_bits code ≡ item_bits (word_item book length option v) → code.len ≤ 8 → code.bits < 2 ^ code.len → IsCodeOf book length option v code
+pub coded_word : (book : Book) (length option v : ℕ) (code : Code) → 2 ≤ length → code_bits code ≡ item_bits (word_item book length option v) →
+    code.len ≤ 8 → code.bits < 2 ^ code.len → IsCodeOf book length option v code
 coded_word book length option v code long is few fits = record {
   bits = is ∙ sym (ap (λ b. cond b (bits_of length v) (item_bits (word_item book length option v))) (no_less length long));
   few = few;
@@ -27,12 +28,15 @@ coded_nothing book v = record { bits = bits_none 0 ∙ sym (bits_none v); few = 
 abbrev Codes : Book → ℕ → ℕ → List Code → Type 0
 Codes book n option row = (v : ℕ) → v < 2 ^ n → IsCodeOf book n option v (get_or row v no_code)
 
-pub all_coded : (book : Book) (b c d e f g h i j k : List Code) → Codes book 1 0 b → Codes book 2 0 c → Codes book 2 1 d → Codes book 3 0 e → Codes book 3 1 f → Codes book 3 2 g →
+pub all_coded : (book : Book) (b c d e f g h i j k : List Code) → Codes book 1 0 b → Codes book 2 0 c → Codes book 2 1 d → Codes book 3 0 e →
+    Codes book 3 1 f → Codes book 3 2 g →
     Codes book 4 0 h → Codes book 4 1 i → Codes book 4 2 j → Codes book 4 3 k →
-    (n option v : ℕ) → IsWordOf n option v → IsCodeOf book n option v (code_in (replicate 16 no_code ∷ b ∷ c ∷ d ∷ e ∷ f ∷ g ∷ h ∷ i ∷ j ∷ k ∷ []) (row_of n option) v)
+    (n option v : ℕ) → IsWordOf n option v → IsCodeOf book n option v (code_in (replicate 16 no_code ∷ b ∷ c ∷ d ∷ e ∷ f ∷ g ∷ h ∷ i ∷ j ∷ k ∷ [])
+    (row_of n option) v)
 all_coded book b c d e f g h i j k tb tc td te tf tg th ti tj tk = rows
   where
-    rows : (n option v : ℕ) → IsWordOf n option v → IsCodeOf book n option v (code_in (replicate 16 no_code ∷ b ∷ c ∷ d ∷ e ∷ f ∷ g ∷ h ∷ i ∷ j ∷ k ∷ []) (row_of n option) v)
+    rows : (n option v : ℕ) → IsWordOf n option v → IsCodeOf book n option v (code_in (replicate 16 no_code ∷ b ∷ c ∷ d ∷ e ∷ f ∷ g ∷ h ∷ i ∷ j ∷ k ∷ [])
+        (row_of n option) v)
     rows zero zero zero w = coded_nothing book 0
     rows zero zero (suc v) w = absurd (omega (arith, w.fits))
     rows zero (suc option) v w = let none : suc option ≡ 0 = w.short (omega arith) in absurd (omega (arith, none))
@@ -49,11 +53,13 @@ all_coded book b c d e f g h i j k tb tc td te tf tg th ti tj tk = rows
     rows (suc (suc (suc (suc zero)))) (suc zero) v w = ti v w.fits
     rows (suc (suc (suc (suc zero)))) (suc (suc zero)) v w = tj v w.fits
     rows (suc (suc (suc (suc zero)))) (suc (suc (suc zero))) v w = tk v w.fits
-    rows (suc (suc (suc (suc zero)))) (suc (suc (suc (suc option)))) v w = let known : suc (suc (suc (suc option))) < 4 = w.known (omega arith) in absurd (omega (arith, known))
+    rows (suc (suc (suc (suc zero)))) (suc (suc (suc (suc option)))) v w = let known : suc (suc (suc (suc option))) < 4 =
+        w.known (omega arith) in absurd (omega (arith, known))
     rows (suc (suc (suc (suc (suc n))))) option v w = absurd (omega (arith, w.long))
 
 -- a word of one bit is its own code
-pub raw_coded : (book : Book) (rest : List Code) (v : ℕ) → v < 2 → IsCodeOf book 1 0 v (get_or (record { bits = 0; len = 1 } ∷ record { bits = 1; len = 1 } ∷ rest) v no_code)
+pub raw_coded : (book : Book) (rest : List Code) (v : ℕ) → v < 2 →
+    IsCodeOf book 1 0 v (get_or (record { bits = 0; len = 1 } ∷ record { bits = 1; len = 1 } ∷ rest) v no_code)
 raw_coded book rest zero below = record { bits = refl; few = omega arith; fits = omega arith }
 raw_coded book rest (suc zero) below = record { bits = refl; few = omega arith; fits = omega arith }
 raw_coded book rest (suc (suc v)) below = absurd (omega arith)

@@ -37,7 +37,8 @@ module _ (p : Plane) (wanted start : ℕ) where
     few = record { parents = omega (arith, x); children = omega (arith, y); grandchildren = omega (arith, z) };
   }
 
-  pub more_found : {a b : GaggleWords} (n : ℕ) → SoFar p wanted start n a → Collects wanted a b (λ stage. of_block p stage (start + n)) → SoFar p wanted start (n + 1) b
+  pub more_found : {a b : GaggleWords} (n : ℕ) → SoFar p wanted start n a → Collects wanted a b (λ stage. of_block p stage (start + n)) →
+      SoFar p wanted start (n + 1) b
   more_found n so p = record {
     parents = alike_more _ start n 1 so.parents p.parents;
     children = alike_more _ start n 5 so.children p.children;
@@ -49,7 +50,8 @@ module _ (p : Plane) (wanted start : ℕ) where
     };
   }
 
-pub all_found : (p : Plane) (wanted g n : ℕ) (words : GaggleWords) → n ≡ gaggle_size p g → SoFar p wanted (16 * g) n words → HasWords wanted (λ stage. of_gaggle p stage g) words
+pub all_found : (p : Plane) (wanted g n : ℕ) (words : GaggleWords) → n ≡ gaggle_size p g → SoFar p wanted (16 * g) n words →
+    HasWords wanted (λ stage. of_gaggle p stage g) words
 all_found p wanted g n words all so =
     record {
       parents = λ is. subst (λ m. AreAlike (listed words.parents) (flat_map (of_block p Parents) (span (16 * g) m))) all

@@ -1,5 +1,6 @@
 -- What the masks of types have, four positions at a time.
-use Rattle.std.proofs.Common.{◌≡◌, ℕ, zero, suc, ◌+◌, ◌-◌, ◌*◌, ◌/◌, ◌%◌, ◌^◌, ◌<◌, ◌≤◌, ℤ, pos, Bool, true, false, not, ◌&&◌, ◌||◌, cond, List, [], ◌∷◌, ◌++◌, map, filter, get_or, nat_lt, slice_index_or, refl, ap, sym, ◌∙◌, subst, arith, ◌==◌}
+use Rattle.std.proofs.Common.{◌≡◌, ℕ, zero, suc, ◌+◌, ◌-◌, ◌*◌, ◌/◌, ◌%◌, ◌^◌, ◌<◌, ◌≤◌, ℤ, pos, Bool, true, false, not, ◌&&◌, ◌||◌, cond, List, [], ◌∷◌}
+use Rattle.std.proofs.Common.{◌++◌, map, filter, get_or, nat_lt, slice_index_or, refl, ap, sym, ◌∙◌, subst, arith, ◌==◌}
 use Rattle.std.specs.List.{list_all, list_any}
 use Rattle.std.proofs.lemmas.Bool.{eqb-true, ltb-true, lt-ltb, false≢true}
 use Rattle.std.proofs.lemmas.Bool.Decides.{nat_tests}
@@ -62,7 +63,8 @@ abbrev chosen : List Bool → List Bool → List Bool → List Bool → List Boo
 chosen a b c d = ((([] ++ a) ++ b) ++ c) ++ d
 
 chosen_is : (f g : ℕ → Bool) (start : ℕ) → map f (filter g (span start 4)) ≡
-    chosen (due_there (g (start + 0)) (f (start + 0))) (due_there (g (start + 1)) (f (start + 1))) (due_there (g (start + 2)) (f (start + 2))) (due_there (g (start + 3)) (f (start + 3)))
+    chosen (due_there (g (start + 0)) (f (start + 0))) (due_there (g (start + 1)) (f (start + 1))) (due_there (g (start + 2)) (f (start + 2)))
+    (due_there (g (start + 3)) (f (start + 3)))
 chosen_is f g start =
     map-filter-span-suc f g start 3 ∙
     ap (λ l. l ++ due_there (g (start + 3)) (f (start + 3))) (
@@ -95,14 +97,16 @@ of_each_eight t all p q r s a b c d =
 
 -- the word has the positions of both masks, and the bits of the second
 abbrev is_word : Bool → Bool → Bool → Bool → Bool → Bool → Bool → Bool → Bool
-is_word p q r s a b c d = entry TYPED (four p q r s) (four a b c d) % 256 == packed (chosen (due_there (p || a) a) (due_there (q || b) b) (due_there (r || c) c) (due_there (s || d) d))
+is_word p q r s a b c d = entry TYPED (four p q r s) (four a b c d) % 256 == packed
+    (chosen (due_there (p || a) a) (due_there (q || b) b) (due_there (r || c) c) (due_there (s || d) d))
 
 all_words : each_eight is_word ≡ true
 all_words = grind (arith, nat_tests, packed-is, value_of-is)
 
 -- the signs are of the second mask's positions, and 1 if the first has none
 abbrev are_signs : Bool → Bool → Bool → Bool → Bool → Bool → Bool → Bool → Bool
-are_signs p q r s a b c d = entry TYPED (four p q r s) (four a b c d) / 256 == packed (chosen (due_there a (not p)) (due_there b (not q)) (due_there c (not r)) (due_there d (not s)))
+are_signs p q r s a b c d = entry TYPED (four p q r s) (four a b c d) / 256 == packed
+    (chosen (due_there a (not p)) (due_there b (not q)) (due_there c (not r)) (due_there d (not s)))
 
 all_signs : each_eight are_signs ≡ true
 all_signs = grind (arith, nat_tests, packed-is, value_of-is)
@@ -156,7 +160,8 @@ same_bit a b h = grind (arith, nat_tests, false≢true)
 pub shows_filled : (m count start : ℕ) (f : ℕ → Bool) → m < 16 → count ≤ 4 → Shows m f 0 count → Shows (filling m) (λ p. f ((p - start) / 4)) start (4 * count)
 shows_filled m count start f low few p = record {
   at = λ k below.
-      let row = list_all-span-zero (λ m. list_all (λ k. (bit (filling m) k && bit m (k / 4)) || (not (bit (filling m) k) && not (bit m (k / 4)))) (span 0 16)) 16 m fills low in
+      let row = list_all-span-zero (λ m. list_all (λ k. (bit (filling m) k && bit m (k / 4)) || (not (bit (filling m) k) && not (bit m (k / 4))))
+      (span 0 16)) 16 m fills low in
       let test = list_all-span-zero (λ k. (bit (filling m) k && bit m (k / 4)) || (not (bit (filling m) k) && not (bit m (k / 4)))) 16 k row (omega arith) in
       let there : 0 + k / 4 ≡ ((start + k) - start) / 4 = omega arith in
       same_bit (bit (filling m) k) (bit m (k / 4)) test ∙ p.at (k / 4) (omega arith) ∙ ap f there;
@@ -206,12 +211,15 @@ module _ (o at : ℕ) (f : ℕ → Bool) (low : o < 256) (p : Shows o f at 8) wh
   shows_some = record { at = each_set; small = somes_small o low }
     where
       each_set : (j : ℕ) → j < 2 → bit (somes o) j ≡ list_any f (span (at + 4 * (0 + j)) 4)
-      each_set zero lt = same_bit (bit (somes o) 0) (some_of o 0) (and-left _ _ (some_test o low)) ∙ some_there 0 (at + 4 * (0 + zero)) (omega arith) (omega arith)
-      each_set (suc zero) lt = same_bit (bit (somes o) 1) (some_of o 4) (and-left _ _ (and-right _ _ (some_test o low))) ∙ some_there 4 (at + 4 * (0 + suc zero)) (omega arith) (omega arith)
+      each_set zero lt = same_bit (bit (somes o) 0) (some_of o 0) (and-left _ _ (some_test o low)) ∙ some_there 0 (at + 4 * (0 + zero)) (omega arith)
+          (omega arith)
+      each_set (suc zero) lt = same_bit (bit (somes o) 1) (some_of o 4) (and-left _ _ (and-right _ _ (some_test o low)))
+          ∙ some_there 4 (at + 4 * (0 + suc zero)) (omega arith) (omega arith)
       each_set (suc (suc j)) lt = absurd (omega arith)
 
 -- the sets after the first two
-pub shows_later : (m at : ℕ) (f : ℕ → Bool) → Shows m (λ j. list_any f (span ((at + 8) + 4 * j) 4)) 0 2 → Shows m (λ j. list_any f (span (at + 4 * j) 4)) (0 + 2) 2
+pub shows_later : (m at : ℕ) (f : ℕ → Bool) → Shows m (λ j. list_any f (span ((at + 8) + 4 * j) 4)) 0 2 →
+    Shows m (λ j. list_any f (span (at + 4 * j) 4)) (0 + 2) 2
 shows_later m at f p = record {
   at = λ k lt. let there : (at + 8) + 4 * (0 + k) ≡ at + 4 * ((0 + 2) + k) = omega arith in p.at k lt ∙ ap (λ s. list_any f (span s 4)) there;
   small = p.small;
@@ -224,11 +232,13 @@ pub record IsTyped (b : Bool) (t : Typed) (entries : List Entry) : Type 0 where
   pub no_word : b ≡ false → word_in t ≡ 0
   pub no_signs : b ≡ false → signs_in t ≡ 0
 
-same_choice : (f d e : ℕ → Bool) (start count : ℕ) → ((k : ℕ) → k < count → d (start + k) ≡ e (start + k)) → map f (filter d (span start count)) ≡ map f (filter e (span start count))
+same_choice : (f d e : ℕ → Bool) (start count : ℕ) → ((k : ℕ) → k < count → d (start + k) ≡ e (start + k)) → map f (filter d (span start count))
+    ≡ map f (filter e (span start count))
 same_choice f d e start zero same = map-filter-span-none f d start ∙ sym (map-filter-span-none f e start)
 same_choice f d e start (suc count) same =
     let fewer = same_choice f d e start count (λ k h. same k (omega arith)) in
-    let last : cond (d (start + count)) (f (start + count) ∷ []) [] ≡ cond (e (start + count)) (f (start + count) ∷ []) [] = ap (λ x. cond x (f (start + count) ∷ []) []) (same count (omega arith)) in
+    let last : cond (d (start + count)) (f (start + count) ∷ []) [] ≡ cond (e (start + count)) (f (start + count) ∷ []) [] =
+    ap (λ x. cond x (f (start + count) ∷ []) []) (same count (omega arith)) in
     let one : count + 1 ≡ suc count = omega arith in
     ap (λ n. map f (filter d (span start n))) (sym one) ∙ map-filter-span-suc f d start count ∙
     ap (λ l. l ++ cond (d (start + count)) (f (start + count) ∷ []) []) fewer ∙ ap (λ l. map f (filter e (span start count)) ++ l) last ∙
@@ -257,13 +267,15 @@ module _ (block : List ℤ) (weights : List ℕ) (plane : ℕ) (b : Bool) (due :
         let here = λ (k : ℕ) (lt : k < 4). same k lt ∙ and_true (type_due block weights plane (start + k)) b h in
         typed_is block weights plane t start 4 (omega arith)
         (p.word ∙ ap packed (same_choice (significant block plane) due (type_due block weights plane) start 4 here))
-        (p.signs ∙ ap packed (same_choice minus (λ q. due q && significant block plane q) (λ q. type_due block weights plane q && significant block plane q) start 4 (λ k lt. ap (λ x. x && significant block plane (start + k)) (here k lt))));
+        (p.signs ∙ ap packed (same_choice minus (λ q. due q && significant block plane q) (λ q. type_due block weights plane q && significant block plane q)
+        start 4 (λ k lt. ap (λ x. x && significant block plane (start + k)) (here k lt))));
     no_word = λ h.
         let none = λ (k : ℕ) (lt : k < 4). same k lt ∙ and_false (type_due block weights plane (start + k)) b h in
         p.word ∙ ap packed (same_choice (significant block plane) due (λ q. false) start 4 none ∙ nothing (significant block plane) (span start 4)) ∙ empty;
     no_signs = λ h.
         let none = λ (k : ℕ) (lt : k < 4). same k lt ∙ and_false (type_due block weights plane (start + k)) b h in
-        p.signs ∙ ap packed (same_choice minus (λ q. due q && significant block plane q) (λ q. false) start 4 (λ k lt. ap (λ x. x && significant block plane (start + k)) (none k lt)) ∙ nothing minus (span start 4)) ∙ empty;
+        p.signs ∙ ap packed (same_choice minus (λ q. due q && significant block plane q) (λ q. false) start 4
+        (λ k lt. ap (λ x. x && significant block plane (start + k)) (none k lt)) ∙ nothing minus (span start 4)) ∙ empty;
   }
     where
       empty : packed [] ≡ 0
@@ -280,7 +292,8 @@ of_quad i j k low = omega arith
 module _ (block : List ℤ) (weights : List ℕ) (plane : ℕ) where
   -- the children of family i
   pub children_typed : (i : ℕ) (t : Typed) →
-      ArePicked (λ p. type_due block weights plane p && set_significant block plane (Family ((p - 4) / 4))) (significant block plane) (λ q. negative (get_or block q (pos 0))) (4 + 4 * i) t →
+      ArePicked (λ p. type_due block weights plane p && set_significant block plane (Family ((p - 4) / 4))) (significant block plane)
+      (λ q. negative (get_or block q (pos 0))) (4 + 4 * i) t →
       IsTyped (set_significant block plane (Family (0 + i))) t (typed block weights plane (span (4 + 4 * i) 4))
   children_typed i t p =
       is_typed block weights plane (set_significant block plane (Family (0 + i))) _ (4 + 4 * i) t
@@ -288,7 +301,8 @@ module _ (block : List ℤ) (weights : List ℕ) (plane : ℕ) where
 
   -- the four grandchildren below child j of family i
   pub quads_typed : (i j : ℕ) (t : Typed) →
-      ArePicked (λ p. type_due block weights plane p && set_significant block plane (Quad i ((p - (16 + 16 * i)) / 4))) (significant block plane) (λ q. negative (get_or block q (pos 0))) ((16 + 16 * i) + 4 * j) t →
+      ArePicked (λ p. type_due block weights plane p && set_significant block plane (Quad i ((p - (16 + 16 * i)) / 4))) (significant block plane)
+      (λ q. negative (get_or block q (pos 0))) ((16 + 16 * i) + 4 * j) t →
       IsTyped (set_significant block plane (Quad i (0 + j))) t (typed block weights plane (span (16 + 16 * i + 4 * j) 4))
   quads_typed i j t p =
       is_typed block weights plane (set_significant block plane (Quad i (0 + j))) _ ((16 + 16 * i) + 4 * j) t

@@ -23,13 +23,23 @@ module _ (g : ℕ) (kept now : List ℕ) (full : 32 * g + 32 ≤ length kept) (w
   length-put =
       let a = 32 * g in
       let rest = post_of a 32 kept in
-      omega (arith, full, whole, length-append (take a kept) (now ++ rest), length-append now rest, length-take-le a kept (omega (arith, full)), length-drop 32 (drop a kept), length-drop a kept)
+      omega (
+        arith,
+        full,
+        whole,
+        length-append (take a kept) (now ++ rest),
+        length-append now rest,
+        length-take-le a kept (omega (arith, full)),
+        length-drop 32 (drop a kept),
+        length-drop a kept,
+      )
 
   pub others_put : KeepsOthers g kept (put_mid (32 * g) 32 kept now)
   others_put = record {
     long = length-put;
     others = λ h apart there. elim (cases_lt h g) [
-      | inl below ↦ sym (drop-take (32 * h) 32 (put_mid (32 * g) 32 kept now)) ∙ ap (drop (32 * h)) (take-put_mid_below (32 * g) 32 kept now (32 * h + 32) (omega (arith, below)) (omega (arith, full))) ∙ drop-take (32 * h) 32 kept
+      | inl below ↦ sym (drop-take (32 * h) 32 (put_mid (32 * g) 32 kept now))
+          ∙ ap (drop (32 * h)) (take-put_mid_below (32 * g) 32 kept now (32 * h + 32) (omega (arith, below)) (omega (arith, full))) ∙ drop-take (32 * h) 32 kept
       | inr above ↦ ap (take 32) (drop-put_mid (32 * g) 32 kept now (32 * h) (omega (arith, above, apart)) (omega (arith, full)) whole)
     ];
   }

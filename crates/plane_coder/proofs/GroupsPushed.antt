@@ -1,5 +1,6 @@
 -- What is picked, as entries.
-use Rattle.std.proofs.Common.{◌≡◌, ℕ, ◌/◌, ◌%◌, ◌<◌, ◌≤◌, ◌^◌, ℤ, pos, Bool, true, false, cond, List, [], ◌∷◌, length, map, filter, get_or, refl, ap, ◌∙◌, arith, pow_mono}
+use Rattle.std.proofs.Common.{◌≡◌, ℕ, ◌/◌, ◌%◌, ◌<◌, ◌≤◌, ◌^◌, ℤ, pos, Bool, true, false, cond, List, [], ◌∷◌, length, map, filter, get_or, refl, ap, ◌∙◌}
+use Rattle.std.proofs.Common.{arith, pow_mono}
 use Rattle.item_defs.specs.Bits.{bit, value_of}
 use Rattle.item_defs.proofs.NumberBits.{value_below, bits_of-value_of}
 use Rattle.plane_defs.specs.declared.sets.Set.{Set}
@@ -36,7 +37,8 @@ is_packed n most fits = record { length = omega arith; value = fits }
 -- the types and signs of some positions
 module _ (block : List ℤ) (weights : List ℕ) (plane : ℕ) where
   pub typed_is : (s : Typed) (start count : ℕ) → count ≤ 4 → word_in s ≡ packed (types block weights plane (span start count)) →
-      signs_in s ≡ packed (map (λ q. negative (get_or block q (pos 0))) (filter (newly_significant block weights plane) (span start count))) → entries_of s ≡ typed block weights plane (span start count)
+      signs_in s ≡ packed (map (λ q. negative (get_or block q (pos 0))) (filter (newly_significant block weights plane) (span start count))) →
+      entries_of s ≡ typed block weights plane (span start count)
   typed_is s start count few w v =
       let bits = types block weights plane (span start count) in
       let sign = λ (q : ℕ). negative (get_or block q (pos 0)) in
@@ -49,11 +51,14 @@ module _ (block : List ℤ) (weights : List ℕ) (plane : ℕ) where
       map-map Bit sign (filter (newly_significant block weights plane) (span start count)) in
       ap (λ e. e ∷ raws_of (signs_in s)) first ∙ ap (λ l. word bits ∷ l) rest
 
-  pub refining_is : (n start count : ℕ) → count ≤ 4 → n ≡ packed (map (λ p. bit (magnitude block p) plane) (filter (refined block weights plane) (span start count))) → raws_of n ≡ refining block weights plane start count
+  pub refining_is : (n start count : ℕ) → count ≤ 4 →
+      n ≡ packed (map (λ p. bit (magnitude block p) plane) (filter (refined block weights plane) (span start count))) →
+      raws_of n ≡ refining block weights plane start count
   refining_is n start count few is =
       let f = λ (p : ℕ). bit (magnitude block p) plane in
       let some = length-chosen f (refined block weights plane) start count in
-      raws_are n (map f (filter (refined block weights plane) (span start count))) (omega (arith, some)) is ∙ map-map Bit f (filter (refined block weights plane) (span start count))
+      raws_are n (map f (filter (refined block weights plane) (span start count))) (omega (arith, some)) is
+      ∙ map-map Bit f (filter (refined block weights plane) (span start count))
 
   -- ---- flags of sets that are given by their numbers
 
@@ -65,12 +70,14 @@ module _ (block : List ℤ) (weights : List ℕ) (plane : ℕ) where
   by_number F D S (x ∷ xs) = one (D (S x)) (by_number F D S xs)
     where
       one : (b : Bool) → map F (filter D (map S xs)) ≡ map (λ i. F (S i)) (filter (λ i. D (S i)) xs) →
-          map F (cond b (S x ∷ filter D (map S xs)) (filter D (map S xs))) ≡ map (λ i. F (S i)) (cond b (x ∷ filter (λ i. D (S i)) xs) (filter (λ i. D (S i)) xs))
+          map F (cond b (S x ∷ filter D (map S xs)) (filter D (map S xs)))
+          ≡ map (λ i. F (S i)) (cond b (x ∷ filter (λ i. D (S i)) xs) (filter (λ i. D (S i)) xs))
       one true rest = ap (λ l. F (S x) ∷ l) rest
       one false rest = rest
 
   pub flags_word : (S : ℕ → Set) (n count : ℕ) → count ≤ 4 → n ≡ packed (flags_by S count) → word_of n ≡ word (flags block weights plane (map S (span 0 count)))
   flags_word S n count few is = grind (arith, nat_tests, length-chosen, word_is, by_number)
 
-  pub flags_raw : (S : ℕ → Set) (n count : ℕ) → count ≤ 4 → n ≡ packed (flags_by S count) → raws_of n ≡ map Bit (flags block weights plane (map S (span 0 count)))
+  pub flags_raw : (S : ℕ → Set) (n count : ℕ) → count ≤ 4 → n ≡ packed (flags_by S count) →
+      raws_of n ≡ map Bit (flags block weights plane (map S (span 0 count)))
   flags_raw S n count few is = grind (arith, nat_tests, length-chosen, raws_are, by_number)

@@ -1,5 +1,6 @@
 -- Bits in masks.
-use Rattle.std.proofs.Common.{◌≡◌, ◌<◌, ◌≤◌, ℕ, ◌+◌, ◌-◌, ◌*◌, ◌%◌, ◌^◌, ap, sym, ◌∙◌, arith, Bool, List, [], ◌++◌, get_or, flat_map, add-one, pow-suc, pow_mono}
+use Rattle.std.proofs.Common.{◌≡◌, ◌<◌, ◌≤◌, ℕ, ◌+◌, ◌-◌, ◌*◌, ◌%◌, ◌^◌, ap, sym, ◌∙◌, arith, Bool, List, [], ◌++◌, get_or, flat_map, add-one, pow-suc}
+use Rattle.std.proofs.Common.{pow_mono}
 use Rattle.std.specs.Int.Count.{count_leading_zeros, leading_unique}
 use Rattle.std.proofs.lemmas.Nat.{mod_low}
 use Rattle.item_defs.specs.Bits.{bits_of}
@@ -39,13 +40,15 @@ abbrev pub bits_at : List ℕ → ℕ → List Bool
 bits_at masks m = bits_in (get_or masks m 0)
 
 pub no_masks : (masks : List ℕ) (from : ℕ) → bits_between masks from from ≡ []
-no_masks masks from = let none : from - from ≡ 0 = omega arith in ap (λ n. flat_map (bits_at masks) (span from n)) none ∙ flat_map-span-none (bits_at masks) from
+no_masks masks from = let none : from - from ≡ 0 = omega arith in ap (λ n. flat_map (bits_at masks) (span from n)) none ∙ flat_map-span-none (bits_at masks)
+    from
 
 pub one_mask_more : (masks : List ℕ) (from to : ℕ) → from ≤ to → bits_between masks from (to + 1) ≡ bits_between masks from to ++ bits_at masks to
 one_mask_more masks from to order =
     let more : to + 1 - from ≡ to - from + 1 = omega (arith, order) in
     let last : from + (to - from) ≡ to = omega (arith, order) in
-    ap (λ n. flat_map (bits_at masks) (span from n)) more ∙ flat_map-span-suc (bits_at masks) from (to - from) ∙ ap (λ m. bits_between masks from to ++ bits_at masks m) last
+    ap (λ n. flat_map (bits_at masks) (span from n)) more ∙ flat_map-span-suc (bits_at masks) from (to - from)
+    ∙ ap (λ m. bits_between masks from to ++ bits_at masks m) last
 
 pub same_between : (a b : List ℕ) (from to : ℕ) → ((k : ℕ) → from ≤ k → k < to → get_or a k 0 ≡ get_or b k 0) → bits_between a from to ≡ bits_between b from to
 same_between a b from to same =

@@ -9,7 +9,7 @@ mod Collecting
 mod BlockSets
 mod CodeRows
 mod Spelling
-mod Tallying
+mod Costing
 mod BlockReads
 mod BlockStages
 mod Choosing

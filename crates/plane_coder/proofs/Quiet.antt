@@ -1,9 +1,10 @@
 -- A first stage in which no block sends a bit.
-use Rattle.std.proofs.Common.{◌≡◌, ℕ, zero, suc, add-one, ◌+◌, ◌*◌, ◌&&◌, nat_lt, false, List, [], ◌++◌, ap, sym, ◌∙◌, subst, append-nil, ℤ, arith, Ok, flat_map}
+use Rattle.std.proofs.Common.{◌≡◌, ℕ, zero, suc, add-one, ◌+◌, ◌*◌, ◌&&◌, nat_lt, false, List, [], ◌++◌, ap, sym, ◌∙◌, subst, append-nil, ℤ, arith, Ok}
+use Rattle.std.proofs.Common.{flat_map}
 use Rattle.std.proofs.lemmas.Bool.Decides.{nat_tests}
 use Rattle.item_defs.specs.Items.{text}
 use Rattle.bit_pipe.specs.Sinks.{SinkOf}
-use Rattle.bit_pipe.specs.Standing.{Standing, IsOpen, Adds, Puts}
+use Rattle.bit_pipe.specs.SinkState.{SinkState, IsOpen, Adds, Puts}
 use Rattle.bit_pipe.proofs.Putting.{adds_start, puts_whole}
 use Rattle.base_122.specs.declared.book.Book.{Book}
 use Rattle.plane_defs.specs.declared.stages.Stage.TheVariants.{DcBits}
@@ -31,7 +32,7 @@ module _ (p : Plane) (none : (coded p.weights p.number 0 && nat_lt p.number p.q)
   quiet_items : (book : Book) (options : ℕ → List ℕ) → stage_items book options p 0 ≡ []
   quiet_items book options = grind (arith, nat_tests, nothing, quiet_gaggle)
 
-  pub quiet_puts : {S : Type 0} {k : SinkOf S} (book : Book) (options : ℕ → List ℕ) (j : ℕ) (s : Standing S) → j ≡ 0 → IsOpen s →
+  pub quiet_puts : {S : Type 0} {k : SinkOf S} (book : Book) (options : ℕ → List ℕ) (j : ℕ) (s : SinkState S) → j ≡ 0 → IsOpen s →
       Puts {T = Unit {0}} k (Ok tt) s s (text (stage_items book options p j))
   quiet_puts {S} {k} book options j s is opened =
       subst (λ i. Puts {T = Unit {0}} k (Ok tt) s s (text (stage_items book options p i))) (sym is)
@@ -42,7 +43,8 @@ module _ (p : Plane) (none : (coded p.weights p.number 0 && nat_lt p.number p.q)
       let first : AllAgree p 0 marks = subst (λ i. AllAgree p i marks) is agree in
       let second : AllAgree p 1 marks = record {
         at = λ g below.
-            let same : before_stage p 0 g ≡ before_stage p 1 g = sym (append-nil (before_stage p 0 g)) ∙ ap (λ l. before_stage p 0 g ++ l) (sym (quiet_gaggle g)) ∙ before_more p 0 g in
+            let same : before_stage p 0 g ≡ before_stage p 1 g = sym (append-nil (before_stage p 0 g)) ∙ ap (λ l. before_stage p 0 g ++ l)
+            (sym (quiet_gaggle g)) ∙ before_more p 0 g in
             subst (Agrees (sent_at marks g)) same (first.at g below);
       } in
       subst (λ i. AllAgree p (i + 1) marks) (sym is) second

@@ -32,6 +32,10 @@ row_of length option = if nat_lt length 3 then length + option else if length ==
 abbrev pub code_in : List (List Code) → ℕ → ℕ → Code
 code_in rows row value = slice_index_or (slice_index_or rows row []) value no_code
 
+-- the rows have the codes of a book
+abbrev pub AreCodes : Book → List (List Code) → Type 0
+AreCodes book rows = (n option v : ℕ) → IsWordOf n option v → IsCodeOf book n option v (code_in rows (row_of n option) v)
+
 -- the option of a word of this length, if there is a choice
 abbrev pub option_for : List ℕ → ℕ → ℕ
 option_for options length = if nat_lt length 2 then 0 else option_of options length
@@ -40,3 +44,8 @@ option_for options length = if nat_lt length 2 then 0 else option_of options len
 abbrev pub unopened : List Bool → ℕ
 unopened sent =
     (if get_or sent 0 false then 0 else 1) + (if get_or sent 1 false then 0 else 2) + (if get_or sent 2 false then 0 else 2)
+
+-- the lengths of words whose identifier was not put yet, as a mask
+abbrev pub closed_in : List Bool → ℕ
+closed_in sent =
+    (if get_or sent 0 false then 0 else 4) + (if get_or sent 1 false then 0 else 8) + (if get_or sent 2 false then 0 else 16)

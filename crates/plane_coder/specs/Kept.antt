@@ -55,7 +55,8 @@ flags_in octet = bit octet 0 ∷ bit octet 1 ∷ bit octet 2 ∷ []
 
 -- the bits of a stage, and the flags after it
 pub record KeepsStage (book : Book) (options : List ℕ) (p : Plane) (g number : ℕ) (masks : List ℕ) : Type 0 where
-  pub bits : bits_between masks (octet_in masks (number - 1)) (octet_in masks number) ≡ text (spelled_after book options (before_stage p number g) (of_gaggle p (stage_number number) g))
+  pub bits : bits_between masks (octet_in masks (number - 1)) (octet_in masks number)
+      ≡ text (spelled_after book options (before_stage p number g) (of_gaggle p (stage_number number) g))
   pub flags : Agrees (flags_in (octet_in masks (3 + number))) (before_stage p (number + 1) g)
 
 -- those of each stage that has room

@@ -1,5 +1,5 @@
 pub mod Spells
-pub mod Tallies
+pub mod Costs
 pub mod Views
 pub mod Chosen
 pub mod Sends

@@ -2,11 +2,12 @@
 
 ghost use Rattle.std.specs.Prelude.{◌≡◌, ◌+◌, ◌-◌, ◌*◌, ◌<◌, ◌≤◌, ◌%◌, ◌^◌, ◌++◌, List, [], ◌∷◌, length, slice_index_or, vec_len};
 ghost use Rattle.block_masks.specs.SegmentNumbers.{AreAbove};
-ghost use Rattle.plane_defs.specs.Choice.{cheapest};
 ghost use Rattle.plane_defs.specs.Planes.{Plane, of_gaggle, before_stage, chosen};
 ghost use Rattle.plane_defs.specs.Marks.{depths_of};
 ghost use Rattle.block_masks.specs.Gaggles.{Agrees, AreOptions};
-ghost use Rattle.plane_coder.specs.Tallies.{CountsOf, AreAtMost, counts_in};
+ghost use Rattle.plane_coder.specs.Costs.{AreCosts, cheapest_for};
+ghost use Rattle.base_122.specs.declared.book.Book.{Book as BookValue};
+ghost use Rattle.plane_defs.specs.declared.entries.Entry.{Entry};
 ghost use Rattle.plane_coder.specs.Listed.{listed};
 ghost use Rattle.plane_coder.specs.Collected.{HasWords};
 ghost use Rattle.plane_coder.specs.Kept.{free_at, KeepsOthers, Keeps, AreKept};
@@ -14,36 +15,36 @@ ghost use Rattle.plane_coder.specs.Chosen.{Chooses};
 ghost use Rattle.plane_coder.specs.Views.{plane_in, plane_at};
 
 use crate::collect::{ALL, GaggleWords, collect_gaggle};
+use crate::costs::{Costs, least};
 use crate::kept::{FREE, keep};
 use crate::option_codes::OptionCodes;
 use crate::room::GaggleRoom;
 use crate::tables::CodeTables;
-use crate::tally::Tally;
 use crate::view::View;
-use base_122::Book;
 use block_masks::{CodedPlane, Gaggle, SegmentMasks, store};
-use word_codes::best_option;
 
-fn tally_gaggle(words: &GaggleWords) -> Tally
-    ensures counts { CountsOf result (listed words.now.parents ++ (listed words.now.children ++ listed words.now.grandchildren)) }
-    ensures small { AreAtMost result (2 ^ 13) }
+// Returns the bits that the words of a gaggle take.
+#[inline(always)]
+fn costs_of(words: &GaggleWords, tables: &CodeTables) -> Costs
+    ensures { AreCosts tables.now.book result (listed words.now.parents ++ (listed words.now.children ++ listed words.now.grandchildren)) }
 {
-    let mut tally = Tally::new();
-    tally.add_words(&words.parents);
-    tally.add_words(&words.children);
-    tally.add_words(&words.grandchildren);
-    tally
+    let mut costs = Costs::new();
+    costs.add_words(tables, &words.parents);
+    costs.add_words(tables, &words.children);
+    costs.add_words(tables, &words.grandchildren);
+    costs
 }
 
-fn best_options(book: &Book, tally: &Tally) -> [u8; 3]
-    requires { AreAtMost tally.now (2 ^ 13) }
-    ensures best { result ≡ cheapest book.now 2 (counts_in tally.now 2) ∷ cheapest book.now 3 (counts_in tally.now 3) ∷ cheapest book.now 4 (counts_in tally.now 4) ∷ [] }
+// Returns the options under which the words take the fewest bits.
+#[inline(always)]
+fn best_options(costs: Costs) -> [u8; 3]
+    ensures best { (book : BookValue) (entries : List Entry) → AreCosts book costs entries → result ≡ cheapest_for book entries }
     ensures known { AreOptions result }
 {
     [
-        best_option(book, &tally.counts_of(2), 2),
-        best_option(book, &tally.counts_of(3), 3),
-        best_option(book, &tally.counts_of(4), 4),
+        least(costs.short, 0, 2),
+        least(costs.short, 2, 3),
+        least(costs.long, 0, 4),
     ]
 }
 
@@ -56,14 +57,14 @@ fn choose_options(words: &mut GaggleWords, view: &View, marks: &[i32], g: usize)
     ensures words { HasWords 0 (λ stage. of_gaggle (plane_in view.now (depths_of marks.now)) stage g) words.new }
 {
     collect_gaggle::<ALL>(words, view, marks, g);
-    let tally = tally_gaggle(words);
-    best_options(&view.tables.book, &tally)
+    best_options(costs_of(words, view.tables))
 }
 
 // Keeps the bits of the words of gaggle g, if it has masks for them.
 fn keep_gaggle(kept: &mut [u64], tables: &CodeTables, gaggle: Gaggle, words: &GaggleWords, g: usize)
     requires known { AreOptions gaggle.options }
-    ensures keeps { (p : Plane) → 32 * g + 32 ≤ length kept.old → Agrees gaggle.sent (before_stage p 1 g) → HasWords 0 (λ stage. of_gaggle p stage g) words.now →
+    ensures keeps { (p : Plane) → 32 * g + 32 ≤ length kept.old → Agrees gaggle.sent (before_stage p 1 g) →
+        HasWords 0 (λ stage. of_gaggle p stage g) words.now →
         Keeps tables.now.book gaggle.options p g (free_at kept.new g) }
     ensures others { KeepsOthers g kept.old kept.new }
 {
@@ -90,7 +91,8 @@ pub(crate) fn choose_all(
     requires whole { length segment.now.numbers ≡ 64 * length marks.old }
     requires above { AreAbove (plan.now.plane + 1) segment.now }
     ensures chosen { Chooses tables.now.book (plane_at segment.now.numbers (depths_of marks.old) plan.now) marks.old marks.new }
-    ensures kept { AreKept tables.now.book (chosen tables.now.book (plane_at segment.now.numbers (depths_of marks.old) plan.now)) (plane_at segment.now.numbers (depths_of marks.old) plan.now) room.new.kept.items }
+    ensures kept { AreKept tables.now.book (chosen tables.now.book (plane_at segment.now.numbers (depths_of marks.old) plan.now))
+        (plane_at segment.now.numbers (depths_of marks.old) plan.now) room.new.kept.items }
     ensures room { vec_len room.new.kept ≡ vec_len room.old.kept }
 {
     let view = View {

@@ -39,7 +39,8 @@ fn is_wanted<const WANTED: u8>(number: u8) -> bool
 #[inline(always)]
 fn add_parents(words: &mut Words<16>, plane_masks: &PlaneMasks, is_wanted: bool)
     requires { words.old.count + 1 ≤ 16 }
-    ensures { Lists words.old words.new (cond is_wanted (parents (block_in plane_masks.now) plane_masks.now.plan.now.weights.shifts plane_masks.now.plan.now.plane) []) 1 }
+    ensures { Lists words.old words.new (cond is_wanted (parents (block_in plane_masks.now) plane_masks.now.plan.now.weights.shifts
+        plane_masks.now.plan.now.plane) []) 1 }
 {
     if !is_wanted {
         return;
@@ -63,7 +64,8 @@ fn add_children_types(words: &mut Words<80>, plane_masks: &PlaneMasks, sets: Set
 fn add_children(words: &mut Words<80>, plane_masks: &PlaneMasks, sets: Sets, is_wanted: bool)
     requires sets { AreSets (significant (block_in plane_masks.now) plane_masks.now.plan.now.plane) sets }
     requires room { words.old.count + 5 ≤ 80 }
-    ensures { Lists words.old words.new (cond is_wanted (children (block_in plane_masks.now) plane_masks.now.plan.now.weights.shifts plane_masks.now.plan.now.plane) []) 5 }
+    ensures { Lists words.old words.new (cond is_wanted (children (block_in plane_masks.now) plane_masks.now.plan.now.weights.shifts
+        plane_masks.now.plan.now.plane) []) 5 }
 {
     if !is_wanted {
         return;
@@ -90,7 +92,8 @@ fn add_quads(words: &mut Words<256>, plane_masks: &PlaneMasks, is_said: bool, i:
     requires family { i < 3 }
     requires enclosing { is_said ≡ set_significant (block_in plane_masks.now) plane_masks.now.plan.now.plane (Grandchildren i) }
     requires room { words.old.count + 5 ≤ 256 }
-    ensures { Lists words.old words.new (cond is_said (quads (block_in plane_masks.now) plane_masks.now.plan.now.weights.shifts plane_masks.now.plan.now.plane i) []) 5 }
+    ensures { Lists words.old words.new (cond is_said (quads (block_in plane_masks.now) plane_masks.now.plan.now.weights.shifts
+        plane_masks.now.plan.now.plane i) []) 5 }
 {
     if !is_said {
         return;
@@ -114,7 +117,8 @@ fn add_all_quads(words: &mut Words<256>, plane_masks: &PlaneMasks, sets: Sets)
 fn add_grandchildren(words: &mut Words<256>, plane_masks: &PlaneMasks, sets: Sets, is_wanted: bool)
     requires sets { AreSets (significant (block_in plane_masks.now) plane_masks.now.plan.now.plane) sets }
     requires room { words.old.count + 16 ≤ 256 }
-    ensures { Lists words.old words.new (cond is_wanted (grandchildren (block_in plane_masks.now) plane_masks.now.plan.now.weights.shifts plane_masks.now.plan.now.plane) []) 16 }
+    ensures { Lists words.old words.new (cond is_wanted (grandchildren (block_in plane_masks.now) plane_masks.now.plan.now.weights.shifts
+        plane_masks.now.plan.now.plane) []) 16 }
 {
     if !is_wanted {
         return;
@@ -137,7 +141,8 @@ impl GaggleWords {
     fn add_block<const WANTED: u8>(&mut self, plane_masks: &PlaneMasks, depth: u8)
         requires few { AreFew self.old 15 }
         requires deep { plane_masks.now.plan.now.plane < depth }
-        ensures { Collects WANTED self.old self.new (λ stage. block_entries stage (block_in plane_masks.now) depth plane_masks.now.plan.now.weights.shifts plane_masks.now.plan.now.plane plane_masks.now.plan.now.q) }
+        ensures { Collects WANTED self.old self.new (λ stage. block_entries stage (block_in plane_masks.now) depth plane_masks.now.plan.now.weights.shifts
+            plane_masks.now.plan.now.plane plane_masks.now.plan.now.q) }
     {
         let sets = plane_masks.sets();
         add_parents(&mut self.parents, plane_masks, is_wanted::<WANTED>(1));

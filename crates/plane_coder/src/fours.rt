@@ -109,7 +109,7 @@ const SOME: [u8; 256] = [
 #[inline(always)]
 fn two_sets(mask: u64, at: u8) -> u64
     requires within { at + 8 ≤ 64 }
-    ensures told { (f : ℕ → Bool) → Shows mask f 0 64 → Shows result (λ j. list_any f (span (at + 4 * j) 4)) 0 2 }
+    ensures if_known { (f : ℕ → Bool) → Shows mask f 0 64 → Shows result (λ j. list_any f (span (at + 4 * j) 4)) 0 2 }
     ensures within { result < 4 }
 {
     u64::from(SOME[part(mask, at, 8) as usize])

@@ -1,7 +1,7 @@
 // The bits that the words of a gaggle send in stages 1 to 3, in 32 masks.
 
 ghost use Rattle.std.specs.Prelude.{◌≡◌, ◌+◌, ◌-◌, ◌*◌, ◌/◌, ◌%◌, ◌<◌, ◌≤◌, ◌^◌, ℕ, List, OnOk, IfSome, length, set, slice_index_or};
-ghost use Rattle.bit_pipe.specs.Standing.{stand, IsReady, IsOpen, Writes};
+ghost use Rattle.bit_pipe.specs.SinkState.{sink_state, IsReady, IsOpen, Writes};
 ghost use Rattle.plane_defs.specs.Planes.{Plane, of_gaggle, before_stage};
 ghost use Rattle.block_masks.specs.Gaggles.{Agrees, AreOptions};
 ghost use Rattle.plane_coder.specs.Collected.{HasWords};

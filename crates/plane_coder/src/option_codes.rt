@@ -23,7 +23,8 @@ fn rows_of(options: [u8; 3]) -> [u8; 5]
 #[inline(always)]
 fn codes_of(tables: &CodeTables, options: [u8; 3]) -> [Code; 80]
     requires { AreOptions options }
-    ensures { (word : ℕ) → IsPacked word → IsCodeOf tables.now.book (word / 16) (option_for options (word / 16)) (word % 16) (slice_index_or result word no_code) }
+    ensures { (word : ℕ) → IsPacked word → IsCodeOf tables.now.book (word / 16) (option_for options (word / 16)) (word % 16)
+        (slice_index_or result word no_code) }
 {
     let rows = rows_of(options);
     let mut codes = [NOTHING; 80];
@@ -40,7 +41,8 @@ pub(crate) struct OptionCodes<'a> {
     pub options: [u8; 3],
     codes: [Code; 80],
     ghost known: { AreOptions options },
-    ghost coded: { (word : ℕ) → IsPacked word → IsCodeOf tables.now.book (word / 16) (option_for options (word / 16)) (word % 16) (slice_index_or codes word no_code) },
+    ghost coded: { (word : ℕ) → IsPacked word → IsCodeOf tables.now.book (word / 16) (option_for options (word / 16)) (word % 16)
+        (slice_index_or codes word no_code) },
 }
 
 impl<'a> OptionCodes<'a> {

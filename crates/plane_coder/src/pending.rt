@@ -9,8 +9,8 @@ ghost use Rattle.base_122.specs.declared.book.Book.{Book as BookValue};
 ghost use Rattle.plane_defs.specs.Spelled.{option_of};
 ghost use Rattle.block_masks.specs.Gaggles.{AreOptions};
 ghost use Rattle.plane_coder.specs.Picked.{IsPacked, ArePacked, word_of, raws_of, entries_of};
-ghost use Rattle.plane_coder.specs.Coding.{unopened};
-ghost use Rattle.bit_pipe.specs.Standing.{Writes, IsReady};
+ghost use Rattle.plane_coder.specs.Coding.{unopened, closed_in};
+ghost use Rattle.bit_pipe.specs.SinkState.{Writes, IsReady};
 
 use crate::option_codes::OptionCodes;
 use crate::plane_masks::Typed;
@@ -37,18 +37,26 @@ fn identifier_number(length: u8, option: u8) -> u8
     option
 }
 
-// Up to 63 bits that are collected, and the state of the gaggle after them.
-#[derive(Drop)]
+// Returns the lengths of which no word was sent: bit n is for words of n bits.
+fn closed_of(sent: [bool; 3]) -> u64
+    ensures { result ≡ closed_in sent }
+{
+    4 * u64::from(!sent[0]) + 8 * u64::from(!sent[1]) + 16 * u64::from(!sent[2])
+}
+
+// Up to 63 bits that are collected, and the state of the gaggle after them. It is a value, and nothing refers to one while words are added, so
+// its bits can be in registers.
+#[derive(Clone, Copy)]
 pub(crate) struct PendingBits {
     value: u64,
     count: u8,
     pub gaggle: Gaggle,
-    // For each length of words from 0 on: whether no identifier is due before the next word of that length.
-    opened: [bool; 5],
+    // The lengths of words before which an identifier is due: bit n is for words of n bits.
+    closed: u64,
     ghost fits: { value < 2 ^ count },
     ghost most: { count + unopened gaggle.sent ≤ 63 },
     ghost known: { AreOptions gaggle.options },
-    ghost opened_told: { opened ≡ true ∷ true ∷ gaggle.sent },
+    ghost closed_known: { closed ≡ closed_in gaggle.sent },
 }
 
 impl PendingBits {
@@ -66,7 +74,7 @@ impl PendingBits {
             value: 0,
             count: 0,
             gaggle,
-            opened: [true, true, gaggle.sent[0], gaggle.sent[1], gaggle.sent[2]],
+            closed: closed_of(gaggle.sent),
         }
     }
 
@@ -83,23 +91,25 @@ impl PendingBits {
         self.count += count;
     }
 
-    // Adds the identifier of an option, before the first word of its length.
+    // Returns the bits with the identifier of an option after them, before the first word of its length.
     #[cold]
     #[inline(never)]
-    fn open(&mut self, length: u8)
+    fn opened(self, length: u8) -> PendingBits
         requires short { 2 ≤ length }
         requires long { length ≤ 4 }
-        requires new { slice_index_or self.old.gaggle.sent (length - 2) false ≡ false }
-        ensures said { said self.new ≡ said self.old ++ item_bits (option_item length (option_of self.old.gaggle.options length)) }
-        ensures load { load self.new ≡ load self.old }
-        ensures sent { self.new.gaggle.sent ≡ slice_set self.old.gaggle.sent (length - 2) true }
-        ensures options { self.new.gaggle.options ≡ self.old.gaggle.options }
+        requires new { slice_index_or self.gaggle.sent (length - 2) false ≡ false }
+        ensures said { said result ≡ said self ++ item_bits (option_item length (option_of self.gaggle.options length)) }
+        ensures load { load result ≡ load self }
+        ensures sent { result.gaggle.sent ≡ slice_set self.gaggle.sent (length - 2) true }
+        ensures options { result.gaggle.options ≡ self.gaggle.options }
     {
         let place = length as usize - 2;
         let option = self.gaggle.options[place];
-        self.gaggle.sent[place] = true;
-        self.opened[length as usize] = true;
-        self.push(identifier_number(length, option), identifier_width(length));
+        let mut next = self;
+        next.gaggle.sent[place] = true;
+        next.closed = closed_of(next.gaggle.sent);
+        next.push(identifier_number(length, option), identifier_width(length));
+        next
     }
 
     // Adds the identifier before a word of this length, if the word is the first.
@@ -109,10 +119,13 @@ impl PendingBits {
         ensures opens { Opens length self.old self.new }
         ensures load { load self.new ≡ load self.old }
     {
-        if self.opened[length as usize] {
+        if self.closed == 0 {
             return;
         }
-        self.open(length);
+        if (self.closed >> length) % 2 == 0 {
+            return;
+        }
+        *self = self.opened(length);
     }
 
     // Adds a word.

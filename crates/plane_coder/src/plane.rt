@@ -2,7 +2,7 @@
 
 ghost use Rattle.std.specs.Prelude.{◌≡◌, ◌+◌, ◌*◌, ◌≤◌, ◌<◌, length, vec_len};
 ghost use Rattle.item_defs.specs.Items.{text};
-ghost use Rattle.bit_pipe.specs.Standing.{Puts, IsReady, Writes};
+ghost use Rattle.bit_pipe.specs.SinkState.{Puts, IsReady, Writes};
 ghost use Rattle.plane_defs.specs.Marks.{depths_of};
 ghost use Rattle.plane_defs.specs.Planes.{chosen};
 ghost use Rattle.plane_coder.specs.Sends.{chosen_items};
@@ -32,7 +32,8 @@ pub(crate) fn put_stages<O: OctetOut>(
     requires whole { length view.now.segment.now.numbers ≡ 64 * length marks.old }
     requires last { last ≤ 4 }
     requires chosen { AreChosen view.now.tables.now.book (plane_in view.now (depths_of marks.old)) marks.old }
-    requires kept { AreKept view.now.tables.now.book (chosen view.now.tables.now.book (plane_in view.now (depths_of marks.old))) (plane_in view.now (depths_of marks.old)) view.now.kept.now }
+    requires kept { AreKept view.now.tables.now.book (chosen view.now.tables.now.book (plane_in view.now (depths_of marks.old)))
+        (plane_in view.now (depths_of marks.old)) view.now.kept.now }
     ensures puts { Writes O.sink result out.old out.new (text (chosen_items view.now.tables.now.book (plane_in view.now (depths_of marks.old)) last)) }
     ensures depths { depths_of marks.new ≡ depths_of marks.old }
 {
@@ -72,7 +73,8 @@ pub fn put_plane<O: OctetOut>(
     requires plane { source.now.plan.now.plane ≤ 26 }
     requires last { source.now.plan.now.last ≤ 4 }
     requires above { AreAbove (source.now.plan.now.plane + 1) segment.old }
-    ensures puts { Writes O.sink result out.old out.new (text (chosen_items source.now.tables.now.book (plane_of segment.old.numbers (depths_of marks.old) source.now.plan.now) source.now.plan.now.last)) }
+    ensures puts { Writes O.sink result out.old out.new
+        (text (chosen_items source.now.tables.now.book (plane_of segment.old.numbers (depths_of marks.old) source.now.plan.now) source.now.plan.now.last)) }
     ensures depths { depths_of marks.new ≡ depths_of marks.old }
     ensures numbers { segment.new.numbers ≡ segment.old.numbers }
     ensures most { segment.new.most ≡ segment.old.most }

@@ -118,7 +118,9 @@ impl<'a> PlaneMasks<'a> {
         requires few { count ≤ 16 }
         requires within { at + count ≤ 64 }
         requires at { at < 64 }
-        ensures { (g : ℕ → Bool) → Shows among g at count → AreFours (λ p. type_due (block_in self.now) self.now.plan.now.weights.shifts self.now.plan.now.plane p && g p) (significant (block_in self.now) self.now.plan.now.plane) (λ p. is_negative (slice_index_or (block_in self.now) p (pos 0))) at count result }
+        ensures { (g : ℕ → Bool) → Shows among g at count →
+            AreFours (λ p. type_due (block_in self.now) self.now.plan.now.weights.shifts self.now.plan.now.plane p && g p)
+            (significant (block_in self.now) self.now.plan.now.plane) (λ p. is_negative (slice_index_or (block_in self.now) p (pos 0))) at count result }
     {
         let due = both(part(self.due, at, count), among);
         let ones = both(due, part(self.reached, at, count));
@@ -133,7 +135,9 @@ impl<'a> PlaneMasks<'a> {
     #[inline(always)]
     pub fn types_of_children(&self, sets: Sets) -> Fours
         requires { AreSets (significant (block_in self.now) self.now.plan.now.plane) sets }
-        ensures { AreFours (λ p. type_due (block_in self.now) self.now.plan.now.weights.shifts self.now.plan.now.plane p && set_significant (block_in self.now) self.now.plan.now.plane (Family ((p - 4) / 4))) (significant (block_in self.now) self.now.plan.now.plane) (λ p. is_negative (slice_index_or (block_in self.now) p (pos 0))) 4 12 result }
+        ensures { AreFours (λ p. type_due (block_in self.now) self.now.plan.now.weights.shifts self.now.plan.now.plane p && set_significant
+            (block_in self.now) self.now.plan.now.plane (Family ((p - 4) / 4))) (significant (block_in self.now) self.now.plan.now.plane)
+            (λ p. is_negative (slice_index_or (block_in self.now) p (pos 0))) 4 12 result }
     {
         self.types_in(4, 12, filled(sets.families))
     }
@@ -142,7 +146,9 @@ impl<'a> PlaneMasks<'a> {
     #[inline(always)]
     pub fn types_of_quads(&self, i: u8) -> Fours
         requires { i < 3 }
-        ensures { AreFours (λ p. type_due (block_in self.now) self.now.plan.now.weights.shifts self.now.plan.now.plane p && set_significant (block_in self.now) self.now.plan.now.plane (Quad i ((p - (16 + 16 * i)) / 4))) (significant (block_in self.now) self.now.plan.now.plane) (λ p. is_negative (slice_index_or (block_in self.now) p (pos 0))) (16 + 16 * i) 16 result }
+        ensures { AreFours (λ p. type_due (block_in self.now) self.now.plan.now.weights.shifts self.now.plan.now.plane p && set_significant
+            (block_in self.now) self.now.plan.now.plane (Quad i ((p - (16 + 16 * i)) / 4))) (significant (block_in self.now) self.now.plan.now.plane)
+            (λ p. is_negative (slice_index_or (block_in self.now) p (pos 0))) (16 + 16 * i) 16 result }
     {
         self.types_in(16 + 16 * i, 16, filled(self.quads(i)))
     }
@@ -171,7 +177,8 @@ impl<'a> PlaneMasks<'a> {
     // Returns the flags of the families.
     #[inline(always)]
     pub fn flags_of_families(&self) -> u8
-        ensures flags { word_of result ≡ word (flags (block_in self.now) self.now.plan.now.weights.shifts self.now.plan.now.plane (Family 0 ∷ Family 1 ∷ Family 2 ∷ [])) }
+        ensures flags { word_of result ≡ word (flags (block_in self.now) self.now.plan.now.weights.shifts self.now.plan.now.plane
+            (Family 0 ∷ Family 1 ∷ Family 2 ∷ [])) }
         ensures packed { IsPacked result }
     {
         let sets = self.sets();
@@ -182,7 +189,8 @@ impl<'a> PlaneMasks<'a> {
     // Returns the flags of the families' grandchildren.
     #[inline(always)]
     pub fn flags_of_grandchildren(&self) -> u8
-        ensures flags { word_of result ≡ word (flags (block_in self.now) self.now.plan.now.weights.shifts self.now.plan.now.plane (Grandchildren 0 ∷ Grandchildren 1 ∷ Grandchildren 2 ∷ [])) }
+        ensures flags { word_of result ≡ word (flags (block_in self.now) self.now.plan.now.weights.shifts self.now.plan.now.plane
+            (Grandchildren 0 ∷ Grandchildren 1 ∷ Grandchildren 2 ∷ [])) }
         ensures packed { IsPacked result }
     {
         let sets = self.sets();
@@ -207,7 +215,8 @@ impl<'a> PlaneMasks<'a> {
     pub fn flags_of_quads(&self, i: u8) -> u8
         requires family { i < 3 }
         requires enclosing { set_significant (block_in self.now) self.now.plan.now.plane (Grandchildren i) ≡ true }
-        ensures flags { word_of result ≡ word (flags (block_in self.now) self.now.plan.now.weights.shifts self.now.plan.now.plane (Quad i 0 ∷ Quad i 1 ∷ Quad i 2 ∷ Quad i 3 ∷ [])) }
+        ensures flags { word_of result ≡ word (flags (block_in self.now) self.now.plan.now.weights.shifts self.now.plan.now.plane
+            (Quad i 0 ∷ Quad i 1 ∷ Quad i 2 ∷ Quad i 3 ∷ [])) }
         ensures packed { IsPacked result }
     {
         let before = four_sets(self.above, 16 + 16 * i);

@@ -27,7 +27,8 @@ pub(crate) fn push_refinement(
     requires shown { Shows refined (is_refined (block_in plane_masks.now) plane_masks.now.plan.now.weights.shifts plane_masks.now.plan.now.plane) 0 64 }
     requires room { load pending.old + 4 * (to - from) ≤ 63 }
     ensures { (book : BookValue) → Appends book pending.old pending.new
-        (refining (block_in plane_masks.now) plane_masks.now.plan.now.weights.shifts plane_masks.now.plan.now.plane (4 * from) (4 * (to - from))) (4 * (to - from)) }
+        (refining (block_in plane_masks.now) plane_masks.now.plan.now.weights.shifts plane_masks.now.plan.now.plane (4 * from) (4 * (to - from)))
+        (4 * (to - from)) }
 {
     if !is_any_of(refined, 4 * from, 4 * (to - from)) {
         return;

@@ -2,7 +2,7 @@
 
 ghost use Rattle.std.specs.Prelude.{◌≡◌, ◌+◌, ◌*◌, ◌&&◌, ◌<◌, ◌≤◌, ◌%◌, false, length, nat_lt, pos, slice_index_or};
 ghost use Rattle.std.specs.Bool.{OnTrue};
-ghost use Rattle.bit_pipe.specs.Standing.{stand, IsReady};
+ghost use Rattle.bit_pipe.specs.SinkState.{sink_state, IsReady};
 ghost use Rattle.wave_defs.specs.Held.{block_at};
 ghost use Rattle.plane_defs.specs.Sets.{coded};
 ghost use Rattle.plane_defs.specs.Entries.{twos_bit, dc_bits, refinement, block_entries, stage_number};
@@ -53,7 +53,8 @@ fn put_dc_bit<O: OctetOut>(
 ) -> Result<(), PutFault>
     requires open { IsReady O.sink out.old }
     requires block { 64 * r < length segment.now.numbers }
-    ensures { (book : BookValue) (gaggle : GaggleValue) → Spells O.sink book gaggle gaggle result (stand O.sink out.old) (stand O.sink out.new) (dc_bits (block_at segment.now.numbers r) plan.now.weights.shifts plan.now.plane plan.now.q) }
+    ensures { (book : BookValue) (gaggle : GaggleValue) → Spells O.sink book gaggle gaggle result (sink_state O.sink out.old) (sink_state O.sink out.new)
+        (dc_bits (block_at segment.now.numbers r) plan.now.weights.shifts plan.now.plane plan.now.q) }
 {
     if !is_dc_bit_due(plan) {
         return Ok(());
@@ -72,7 +73,8 @@ pub(crate) fn put_words<O: OctetOut, const MOST: usize>(
     requires open { IsReady O.sink out.old }
     requires same { option_codes.now.options ≡ pending.old.gaggle.options }
     requires silent { pending.old.count ≡ 0 }
-    ensures spells { Spells O.sink option_codes.now.tables.now.book pending.old.gaggle pending.new.gaggle result (stand O.sink out.old) (stand O.sink out.new) (listed words.now) }
+    ensures spells { Spells O.sink option_codes.now.tables.now.book pending.old.gaggle pending.new.gaggle result (sink_state O.sink out.old)
+        (sink_state O.sink out.new) (listed words.now) }
     ensures silent { pending.new.count ≡ 0 }
 {
     for i in 0..words.count() {
@@ -92,7 +94,9 @@ fn put_refinement<O: OctetOut>(
 ) -> Result<(), PutFault>
     requires open { IsReady O.sink out.old }
     requires silent { pending.old.count ≡ 0 }
-    ensures spells { (book : BookValue) → Spells O.sink book pending.old.gaggle pending.new.gaggle result (stand O.sink out.old) (stand O.sink out.new) (refinement (block_in plane_masks.now) plane_masks.now.plan.now.weights.shifts plane_masks.now.plan.now.plane) }
+    ensures spells { (book : BookValue) → Spells O.sink book pending.old.gaggle pending.new.gaggle result (sink_state O.sink out.old)
+        (sink_state O.sink out.new)
+        (refinement (block_in plane_masks.now) plane_masks.now.plan.now.weights.shifts plane_masks.now.plan.now.plane) }
     ensures silent { pending.new.count ≡ 0 }
 {
     let refined = plane_masks.refined();
@@ -122,8 +126,10 @@ pub(crate) fn put_block_stage<O: OctetOut, const STAGE: u8>(
     requires stage { HasNoWords STAGE }
     requires block { 64 * r < length view.now.segment.now.numbers }
     requires silent { pending.old.count ≡ 0 }
-    ensures spells { (book : BookValue) → Spells O.sink book pending.old.gaggle pending.new.gaggle result (stand O.sink out.old) (stand O.sink out.new)
-        (block_entries (stage_number STAGE) (block_at view.now.segment.now.numbers r) depth view.now.plan.now.weights.shifts view.now.plan.now.plane view.now.plan.now.q) }
+    ensures spells { (book : BookValue) → Spells O.sink book pending.old.gaggle pending.new.gaggle result (sink_state O.sink out.old)
+        (sink_state O.sink out.new)
+        (block_entries (stage_number STAGE) (block_at view.now.segment.now.numbers r) depth view.now.plan.now.weights.shifts view.now.plan.now.plane
+        view.now.plan.now.q) }
     ensures silent { pending.new.count ≡ 0 }
 {
     if STAGE == 0 {

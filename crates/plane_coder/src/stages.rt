@@ -2,7 +2,7 @@
 
 ghost use Rattle.std.specs.Prelude.{◌≡◌, ◌+◌, ◌*◌, ◌<◌, ◌≤◌, List, OnOk, length};
 ghost use Rattle.item_defs.specs.Items.{text};
-ghost use Rattle.bit_pipe.specs.Standing.{stand, IsReady, Writes};
+ghost use Rattle.bit_pipe.specs.SinkState.{sink_state, IsReady, Writes};
 ghost use Rattle.plane_defs.specs.Planes.{of_block, of_gaggle, stage_items};
 ghost use Rattle.plane_defs.specs.Entries.{stage_number};
 ghost use Rattle.plane_defs.specs.declared.entries.Entry.{Entry};
@@ -38,7 +38,8 @@ fn put_block_at<O: OctetOut, const STAGE: u8>(
     requires silent { pending.old.count ≡ 0 }
     requires whole { length view.now.segment.now.numbers ≡ 64 * length marks.now }
     requires block { 64 * r < length view.now.segment.now.numbers }
-    ensures spells { Spells O.sink view.now.tables.now.book pending.old.gaggle pending.new.gaggle result (stand O.sink out.old) (stand O.sink out.new) (of_block (plane_in view.now (depths_of marks.now)) (stage_number STAGE) r) }
+    ensures spells { Spells O.sink view.now.tables.now.book pending.old.gaggle pending.new.gaggle result (sink_state O.sink out.old) (sink_state O.sink out.new)
+        (of_block (plane_in view.now (depths_of marks.now)) (stage_number STAGE) r) }
     ensures silent { pending.new.count ≡ 0 }
 {
     put_block_stage::<O, STAGE>(out, pending, view, depth_of(marks[r]), r)
@@ -58,7 +59,8 @@ fn put_blocks<O: OctetOut, const STAGE: u8>(
     requires silent { pending.old.count ≡ 0 }
     requires whole { length view.now.segment.now.numbers ≡ 64 * length marks.now }
     requires within { 16 * g < length marks.now }
-    ensures { Spells O.sink view.now.tables.now.book pending.old.gaggle pending.new.gaggle result (stand O.sink out.old) (stand O.sink out.new) (of_gaggle (plane_in view.now (depths_of marks.now)) (stage_number STAGE) g) }
+    ensures { Spells O.sink view.now.tables.now.book pending.old.gaggle pending.new.gaggle result (sink_state O.sink out.old) (sink_state O.sink out.new)
+        (of_gaggle (plane_in view.now (depths_of marks.now)) (stage_number STAGE) g) }
 {
     for place in 0..(marks.len() - 16 * g).min(16) {
         put_block_at::<O, STAGE>(out, pending, view, marks, 16 * g + place)?;
@@ -79,7 +81,8 @@ fn put_stage_words<O: OctetOut, const STAGE: u8>(
     requires open { IsReady O.sink out.old }
     requires silent { pending.old.count ≡ 0 }
     ensures { (sent : Stage → List Entry) → HasWords STAGE sent words.now →
-        Spells O.sink tables.now.book pending.old.gaggle pending.new.gaggle result (stand O.sink out.old) (stand O.sink out.new) (sent (stage_number STAGE)) }
+        Spells O.sink tables.now.book pending.old.gaggle pending.new.gaggle result (sink_state O.sink out.old) (sink_state O.sink out.new)
+        (sent (stage_number STAGE)) }
 {
     let option_codes = OptionCodes::new(tables, pending.gaggle.options);
     match STAGE {
@@ -105,7 +108,8 @@ fn put_again<O: OctetOut, const STAGE: u8>(
     requires silent { pending.old.count ≡ 0 }
     requires whole { length view.now.segment.now.numbers ≡ 64 * length marks.now }
     requires within { 16 * g < length marks.now }
-    ensures { Spells O.sink view.now.tables.now.book pending.old.gaggle pending.new.gaggle result (stand O.sink out.old) (stand O.sink out.new) (of_gaggle (plane_in view.now (depths_of marks.now)) (stage_number STAGE) g) }
+    ensures { Spells O.sink view.now.tables.now.book pending.old.gaggle pending.new.gaggle result (sink_state O.sink out.old) (sink_state O.sink out.new)
+        (of_gaggle (plane_in view.now (depths_of marks.now)) (stage_number STAGE) g) }
 {
     collect_gaggle::<STAGE>(words, view, marks, g);
     put_stage_words::<O, STAGE>(out, pending, view.tables, words)
@@ -126,8 +130,10 @@ fn put_gaggle<O: OctetOut, const STAGE: u8>(
     requires silent { pending.old.count ≡ 0 }
     requires whole { length view.now.segment.now.numbers ≡ 64 * length marks.now }
     requires within { 16 * g < length marks.now }
-    requires kept { 32 * g + 32 ≤ length view.now.kept.now → Keeps view.now.tables.now.book pending.old.gaggle.options (plane_in view.now (depths_of marks.now)) g (free_at view.now.kept.now g) }
-    ensures { PutsStage O.sink view.now.tables.now.book (plane_in view.now (depths_of marks.now)) STAGE g pending.old.gaggle pending.new.gaggle result (stand O.sink out.old) (stand O.sink out.new) }
+    requires kept { 32 * g + 32 ≤ length view.now.kept.now → Keeps view.now.tables.now.book pending.old.gaggle.options
+        (plane_in view.now (depths_of marks.now)) g (free_at view.now.kept.now g) }
+    ensures { PutsStage O.sink view.now.tables.now.book (plane_in view.now (depths_of marks.now)) STAGE g pending.old.gaggle pending.new.gaggle result
+        (sink_state O.sink out.old) (sink_state O.sink out.new) }
 {
     if STAGE == 0 || STAGE == 4 {
         return put_blocks::<O, STAGE>(out, pending, view, marks, g);
@@ -155,7 +161,8 @@ fn put_gaggles<O: OctetOut, const STAGE: u8>(
     requires known { AreKnown marks.old }
     requires bits { AreKept view.now.tables.now.book (options_at marks.old) (plane_in view.now (depths_of marks.old)) view.now.kept.now }
     requires agree { AllAgree (plane_in view.now (depths_of marks.old)) STAGE marks.old }
-    ensures puts { Writes O.sink result out.old out.new (text (stage_items view.now.tables.now.book (options_at marks.old) (plane_in view.now (depths_of marks.old)) STAGE)) }
+    ensures puts { Writes O.sink result out.old out.new
+        (text (stage_items view.now.tables.now.book (options_at marks.old) (plane_in view.now (depths_of marks.old)) STAGE)) }
     ensures is_open { OnOk result (IsReady O.sink out.new) }
     ensures agree { OnOk result (AllAgree (plane_in view.now (depths_of marks.old)) (STAGE + 1) marks.new) }
     ensures kept { SameMarks marks.old marks.new }
@@ -186,7 +193,8 @@ pub(crate) fn put_stage<O: OctetOut>(
     requires known { AreKnown marks.old }
     requires bits { AreKept view.now.tables.now.book (options_at marks.old) (plane_in view.now (depths_of marks.old)) view.now.kept.now }
     requires agree { AllAgree (plane_in view.now (depths_of marks.old)) number marks.old }
-    ensures puts { Writes O.sink result out.old out.new (text (stage_items view.now.tables.now.book (options_at marks.old) (plane_in view.now (depths_of marks.old)) number)) }
+    ensures puts { Writes O.sink result out.old out.new
+        (text (stage_items view.now.tables.now.book (options_at marks.old) (plane_in view.now (depths_of marks.old)) number)) }
     ensures is_open { OnOk result (IsReady O.sink out.new) }
     ensures agree { OnOk result (AllAgree (plane_in view.now (depths_of marks.old)) (number + 1) marks.new) }
     ensures kept { SameMarks marks.old marks.new }

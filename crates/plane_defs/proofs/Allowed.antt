@@ -1,5 +1,6 @@
 -- No word that a block sends is refused in its place.
-use Rattle.std.proofs.Common.{◌≡◌, ◌⊎◌, ℕ, zero, suc, ◌+◌, ◌-◌, ◌/◌, ◌<◌, ◌≤◌, inl, inr, Bool, true, false, not, ◌&&◌, cond, List, [], ◌∷◌, ◌++◌, length, refl, ap, sym, ◌∙◌, subst, arith, ℤ, map, filter, nat_lt, ◌||◌}
+use Rattle.std.proofs.Common.{◌≡◌, ◌⊎◌, ℕ, zero, suc, ◌+◌, ◌-◌, ◌/◌, ◌<◌, ◌≤◌, inl, inr, Bool, true, false, not, ◌&&◌, cond, List, [], ◌∷◌, ◌++◌, length}
+use Rattle.std.proofs.Common.{refl, ap, sym, ◌∙◌, subst, arith, ℤ, map, filter, nat_lt, ◌||◌}
 use Rattle.std.specs.List.{flat_map, list_any, AllByRecursion}
 use Rattle.std.proofs.lemmas.Bool.{cases_lt, and_parts, false_from_ne_true}
 use Rattle.std.proofs.lemmas.Bool.Decides.{nat_tests}
@@ -13,9 +14,12 @@ use Rattle.plane_defs.specs.declared.stages.Stage.{Stage}
 use Rattle.plane_defs.specs.declared.stages.Stage.TheVariants as stages
 use Rattle.plane_defs.specs.declared.entries.Entry.TheVariants.{Bit}
 use Rattle.plane_defs.specs.Spans.{span}
-use Rattle.plane_defs.specs.Sets.{significant, coded, set_significant, live, enclosing_significant, type_due, flag_due, newly_significant, refined, IsKnown, children_of, grandchildren_of, quad_of}
+use Rattle.plane_defs.specs.Sets.{significant, coded, set_significant, live, enclosing_significant, type_due, flag_due, newly_significant, refined, IsKnown}
+use Rattle.plane_defs.specs.Sets.{children_of, grandchildren_of, quad_of}
 use Rattle.plane_defs.specs.Entries.{types, flags, significant_families}
-use Rattle.plane_defs.specs.Steps.{Check, free, refuses, lacks_one, some_one_where, flags_alone, Step, step, is_new, is_forced, typed_steps, dc_steps, parents_steps, children_check, children_steps, three_grandchildren, grandchildren_check, quads_steps, grandchildren_steps, refinement_steps, block_steps}
+use Rattle.plane_defs.specs.Steps.{Check, free, refuses, lacks_one, some_one_where, Step, step, is_new, is_forced, typed_steps, dc_steps}
+use Rattle.plane_defs.specs.Steps.{parents_steps, children_check, children_steps, three_grandchildren, grandchildren_check, quads_steps}
+use Rattle.plane_defs.specs.Steps.{grandchildren_steps, refinement_steps, block_steps}
 use Rattle.plane_defs.specs.Laws.{IsMultiple, three_families}
 use Rattle.plane_defs.specs.StepLaws.{IsAllowed}
 use Rattle.plane_defs.proofs.Determined.{undue, enclosed}
@@ -33,7 +37,8 @@ all_zeros (suc n) = simp (copies_none, copies-more) ((refl, all_zeros n))
 
 zero_bits : (bits : List Bool) → value_of bits ≡ 0 → AllByRecursion (λ b. b ≡ false) bits
 zero_bits bits none =
-    subst (λ l. AllByRecursion (λ b. b ≡ false) l) (sym (bits_of_zero (length bits)) ∙ ap (bits_of (length bits)) (sym none) ∙ bits_of-value_of bits) (all_zeros (length bits))
+    subst (λ l. AllByRecursion (λ b. b ≡ false) l) (sym (bits_of_zero (length bits)) ∙ ap (bits_of (length bits)) (sym none) ∙ bits_of-value_of bits)
+    (all_zeros (length bits))
 
 inside_map : {X : Type 0} (f : X → Bool) (xs : List X) → AllByRecursion (λ b. b ≡ false) (map f xs) → AllByRecursion (λ x. f x ≡ false) xs
 inside_map f [] all = tt
@@ -63,26 +68,27 @@ lacks_none want f [] all = refl
 lacks_none want f (x ∷ xs) all = ap (λ b. b || lacks_one (map want xs) (map f xs)) (met (want x) (f x) all.0) ∙ lacks_none want f xs all.1
   where
     met : (w b : Bool) → (w ≡ true → b ≡ true) → (w && not b) ≡ false
-    met true true h = refl
-    met true false h = absurd (true_false (sym (h refl)))
-    met false b h = refl
+    met w b h1 = grind (arith, nat_tests)
 
 module _ (block : List ℤ) (weights : List ℕ) (plane : ℕ) (whole : IsMultiple block weights) where
   -- ---- sets and numbers that no word makes significant
 
-  silent_sets : (sets : List Set) → AllByRecursion IsKnown sets → AllByRecursion (λ s. set_significant block (plane + 1) s ≡ false) sets → value_of (flags block weights plane sets) ≡ 0 →
+  silent_sets : (sets : List Set) → AllByRecursion IsKnown sets → AllByRecursion (λ s. set_significant block (plane + 1) s ≡ false) sets →
+      value_of (flags block weights plane sets) ≡ 0 →
       AllByRecursion (λ s. set_significant block plane s ≡ false) sets
   silent_sets sets known above none = each sets known above (zero_word (set_significant block plane) (flag_due block weights plane) sets none)
     where
       each : (sets : List Set) → AllByRecursion IsKnown sets → AllByRecursion (λ s. set_significant block (plane + 1) s ≡ false) sets →
-          AllByRecursion (λ s. flag_due block weights plane s ≡ true → set_significant block plane s ≡ false) sets → AllByRecursion (λ s. set_significant block plane s ≡ false) sets
+          AllByRecursion (λ s. flag_due block weights plane s ≡ true → set_significant block plane s ≡ false) sets →
+          AllByRecursion (λ s. set_significant block plane s ≡ false) sets
       each [] known above said = tt
       each (s ∷ sets) known above said = (
         by_test (flag_due block weights plane s) (set_significant block plane s) said.0 (λ no. undue block weights plane s known.0 whole no ∙ above.0),
         each sets known.1 above.1 said.1,
       )
 
-  silent_numbers : (ps : List ℕ) → list_any (significant block (plane + 1)) ps ≡ false → value_of (types block weights plane ps) ≡ 0 → list_any (significant block plane) ps ≡ false
+  silent_numbers : (ps : List ℕ) → list_any (significant block (plane + 1)) ps ≡ false → value_of (types block weights plane ps) ≡ 0 →
+      list_any (significant block plane) ps ≡ false
   silent_numbers ps above none =
       any_none (significant block plane) ps
       (all_zip {P = λ p. (significant block (plane + 1) p ≡ false) × (type_due block weights plane p ≡ true → significant block plane p ≡ false)} ps
@@ -102,12 +108,15 @@ module _ (block : List ℤ) (weights : List ℕ) (plane : ℕ) (whole : IsMultip
 
   family_above : (i : ℕ) → i < 3 → set_significant block (plane + 1) Descendants ≡ false → set_significant block (plane + 1) (Family i) ≡ false
   unfolding enclosing_significant
-  family_above i known h = false_from_ne_true (set_significant block (plane + 1) (Family i)) (λ e. let inside : set_significant block (plane + 1) Descendants ≡ true = enclosed block (plane + 1) (Family i) known e in true_false (sym inside ∙ h))
+  family_above i known h = false_from_ne_true (set_significant block (plane + 1) (Family i))
+      (λ e. let inside : set_significant block (plane + 1) Descendants ≡ true = enclosed block (plane + 1) (Family i) known e in true_false (sym inside ∙ h))
 
-  no_member : (i p : ℕ) → set_significant block plane (Family i) ≡ false → ((children_of i ≤ p) × (p < children_of i + 4)) ⊎ ((grandchildren_of i ≤ p) × (p < grandchildren_of i + 16)) → significant block plane p ≡ false
+  no_member : (i p : ℕ) → set_significant block plane (Family i) ≡ false → ((children_of i ≤ p) × (p < children_of i + 4))
+      ⊎ ((grandchildren_of i ≤ p) × (p < grandchildren_of i + 16)) → significant block plane p ≡ false
   unfolding set_significant
   no_member i p h where_it =
-      let parts = left_all (λ p. significant block plane p ≡ false) (span (children_of i) 4) (span (grandchildren_of i) 16) (none_any (significant block plane) (span (children_of i) 4 ++ span (grandchildren_of i) 16) h) in
+      let parts = left_all (λ p. significant block plane p ≡ false) (span (children_of i) 4) (span (grandchildren_of i) 16)
+      (none_any (significant block plane) (span (children_of i) 4 ++ span (grandchildren_of i) 16) h) in
       elim where_it [
         | inl in_children ↦ at_span (λ p. significant block plane p ≡ false) (children_of i) 4 p parts.0 in_children.0 in_children.1
         | inr in_grandchildren ↦ at_span (λ p. significant block plane p ≡ false) (grandchildren_of i) 16 p parts.1 in_grandchildren.0 in_grandchildren.1
@@ -130,7 +139,8 @@ module _ (block : List ℤ) (weights : List ℕ) (plane : ℕ) (whole : IsMultip
       (family_above 0 (omega arith) above, (family_above 1 (omega arith) above, (family_above 2 (omega arith) above, tt))) none in
       true_false (sym (here_of_new Descendants new) ∙ no_descendant (of_three s.0 s.1.0 s.1.1.0)))
     where
-      of_three : set_significant block plane (Family 0) ≡ false → set_significant block plane (Family 1) ≡ false → set_significant block plane (Family 2) ≡ false →
+      of_three : set_significant block plane (Family 0) ≡ false → set_significant block plane (Family 1) ≡ false → set_significant block plane (Family 2)
+          ≡ false →
           (i : ℕ) → i < 3 → set_significant block plane (Family i) ≡ false
       of_three a b c zero lt = a
       of_three a b c (suc zero) lt = b
@@ -139,14 +149,16 @@ module _ (block : List ℤ) (weights : List ℕ) (plane : ℕ) (whole : IsMultip
 
   -- ---- 2 and 3: a new family has a child or a grandchild
 
-  family_of : (i : ℕ) → list_any (significant block plane) (span (children_of i) 4) ≡ false → set_significant block plane (Grandchildren i) ≡ false → set_significant block plane (Family i) ≡ false
+  family_of : (i : ℕ) → list_any (significant block plane) (span (children_of i) 4) ≡ false → set_significant block plane (Grandchildren i) ≡ false →
+      set_significant block plane (Family i) ≡ false
   unfolding set_significant
   family_of i children grandchildren = grind (arith, nat_tests, list_any-append)
 
   no_grandchild_above : (i : ℕ) → i < 3 → set_significant block (plane + 1) (Family i) ≡ false → set_significant block (plane + 1) (Grandchildren i) ≡ false
   unfolding enclosing_significant
   no_grandchild_above i known h =
-      false_from_ne_true (set_significant block (plane + 1) (Grandchildren i)) (λ e. let inside : set_significant block (plane + 1) (Family i) ≡ true = enclosed block (plane + 1) (Grandchildren i) known e in true_false (sym inside ∙ h))
+      false_from_ne_true (set_significant block (plane + 1) (Grandchildren i)) (λ e. let inside : set_significant block (plane + 1) (Family i) ≡ true =
+      enclosed block (plane + 1) (Grandchildren i) known e in true_false (sym inside ∙ h))
 
   dead_undue : (s : Set) → live weights plane s ≡ false → flag_due block weights plane s ≡ false
   unfolding flag_due
@@ -154,7 +166,8 @@ module _ (block : List ℤ) (weights : List ℕ) (plane : ℕ) (whole : IsMultip
 
   children_allowed : (i : ℕ) → i < 3 → refuses (children_check block weights plane i) (value_of (types block weights plane (span (children_of i) 4))) ≡ false
   children_allowed i known =
-      some_one_allowed (is_new block plane (Family i) && not (live weights plane (Grandchildren i))) (value_of (types block weights plane (span (children_of i) 4))) (λ h none.
+      some_one_allowed (is_new block plane (Family i) && not (live weights plane (Grandchildren i)))
+      (value_of (types block weights plane (span (children_of i) 4))) (λ h none.
       let new : is_new block plane (Family i) ≡ true = (and_parts _ _ h).0 in
       let dead : live weights plane (Grandchildren i) ≡ false = not_false _ (and_parts (is_new block plane (Family i)) _ h).1 in
       let above = above_of_new (Family i) new in
@@ -169,12 +182,14 @@ module _ (block : List ℤ) (weights : List ℕ) (plane : ℕ) (whole : IsMultip
       let children : list_any (significant block plane) (span (children_of i) 4) ≡ false = not_false _ (and_parts (is_new block plane (Family i)) _ h).1 in
       by_grandchildren (set_significant block plane (Grandchildren i)) refl new children
     where
-      by_grandchildren : (b : Bool) → set_significant block plane (Grandchildren i) ≡ b → is_new block plane (Family i) ≡ true → list_any (significant block plane) (span (children_of i) 4) ≡ false →
+      by_grandchildren : (b : Bool) → set_significant block plane (Grandchildren i) ≡ b → is_new block plane (Family i) ≡ true →
+          list_any (significant block plane) (span (children_of i) 4) ≡ false →
           set_significant block plane (Grandchildren i) ≡ true
       by_grandchildren true e new children = e
       by_grandchildren false e new children = absurd (true_false (sym (here_of_new (Family i) new) ∙ family_of i children e))
 
-  grandchildren_allowed : refuses (grandchildren_check block weights plane three_grandchildren) (value_of (flags block weights plane three_grandchildren)) ≡ false
+  grandchildren_allowed : refuses (grandchildren_check block weights plane three_grandchildren) (value_of (flags block weights plane three_grandchildren))
+      ≡ false
   grandchildren_allowed = grind (arith, nat_tests, length-map, bits_of-value_of, lacks_none, all_filter, hope_met)
 
   -- ---- 4 and 5: a new set of grandchildren has one
@@ -182,14 +197,17 @@ module _ (block : List ℤ) (weights : List ℕ) (plane : ℕ) (whole : IsMultip
   quad_above : (i j : ℕ) → i < 3 → j < 4 → set_significant block (plane + 1) (Grandchildren i) ≡ false → set_significant block (plane + 1) (Quad i j) ≡ false
   unfolding enclosing_significant
   quad_above i j known also h =
-      false_from_ne_true (set_significant block (plane + 1) (Quad i j)) (λ e. let inside : set_significant block (plane + 1) (Grandchildren i) ≡ true = enclosed block (plane + 1) (Quad i j) (known, also) e in true_false (sym inside ∙ h))
+      false_from_ne_true (set_significant block (plane + 1) (Quad i j)) (λ e. let inside : set_significant block (plane + 1) (Grandchildren i) ≡ true =
+      enclosed block (plane + 1) (Quad i j) (known, also) e in true_false (sym inside ∙ h))
 
   no_grandchild : (i : ℕ) → ((j : ℕ) → j < 4 → set_significant block plane (Quad i j) ≡ false) → set_significant block plane (Grandchildren i) ≡ false
   unfolding set_significant
   no_grandchild i quads =
-      any_none (significant block plane) (span (grandchildren_of i) 16) (all_span (λ p. significant block plane p ≡ false) (grandchildren_of i) 16 (λ p low high.
+      any_none (significant block plane) (span (grandchildren_of i) 16) (all_span (λ p. significant block plane p ≡ false) (grandchildren_of i) 16
+      (λ p low high.
       let j = (p - grandchildren_of i) / 4 in
-      at_span (λ p. significant block plane p ≡ false) (quad_of i j) 4 p (none_any (significant block plane) (span (quad_of i j) 4) (quads j (omega arith))) (omega arith) (omega arith)))
+      at_span (λ p. significant block plane p ≡ false) (quad_of i j) 4 p (none_any (significant block plane) (span (quad_of i j) 4) (quads j (omega arith)))
+      (omega arith) (omega arith)))
 
   abbrev quads_in : ℕ → List Set
   quads_in i = Quad i 0 ∷ Quad i 1 ∷ Quad i 2 ∷ Quad i 3 ∷ []
@@ -198,11 +216,17 @@ module _ (block : List ℤ) (weights : List ℕ) (plane : ℕ) (whole : IsMultip
   quads_allowed i known =
       some_one_allowed (is_new block plane (Grandchildren i)) (value_of (flags block weights plane (quads_in i))) (λ new none.
       let above = above_of_new (Grandchildren i) new in
-      let s = silent_sets (quads_in i) ((known, omega arith), ((known, omega arith), ((known, omega arith), ((known, omega arith), tt))))
-      (quad_above i 0 known (omega arith) above, (quad_above i 1 known (omega arith) above, (quad_above i 2 known (omega arith) above, (quad_above i 3 known (omega arith) above, tt)))) none in
+      let s = silent_sets (quads_in i) ((known, omega arith), ((known, omega arith), ((known, omega arith), ((known, omega arith), tt)))) (
+        quad_above i 0 known (omega arith) above,
+        (
+          quad_above i 1 known (omega arith) above,
+          (quad_above i 2 known (omega arith) above, (quad_above i 3 known (omega arith) above, tt)),
+        ),
+      ) none in
       true_false (sym (here_of_new (Grandchildren i) new) ∙ no_grandchild i (of_four s.0 s.1.0 s.1.1.0 s.1.1.1.0)))
     where
-      of_four : set_significant block plane (Quad i 0) ≡ false → set_significant block plane (Quad i 1) ≡ false → set_significant block plane (Quad i 2) ≡ false → set_significant block plane (Quad i 3) ≡ false →
+      of_four : set_significant block plane (Quad i 0) ≡ false → set_significant block plane (Quad i 1) ≡ false → set_significant block plane (Quad i 2)
+          ≡ false → set_significant block plane (Quad i 3) ≡ false →
           (j : ℕ) → j < 4 → set_significant block plane (Quad i j) ≡ false
       of_four a b c d zero lt = a
       of_four a b c d (suc zero) lt = b
@@ -217,7 +241,8 @@ module _ (block : List ℤ) (weights : List ℕ) (plane : ℕ) (whole : IsMultip
   quad_allowed : (i j : ℕ) → refuses (some_one_where (is_new block plane (Quad i j))) (value_of (types block weights plane (span (quad_of i j) 4))) ≡ false
   quad_allowed i j =
       some_one_allowed (is_new block plane (Quad i j)) (value_of (types block weights plane (span (quad_of i j) 4))) (λ new none.
-      true_false (sym (here_of_new (Quad i j) new) ∙ quad_of_numbers i j (silent_numbers (span (quad_of i j) 4) (in_quad block (plane + 1) i j (above_of_new (Quad i j) new)) none)))
+      true_false (sym (here_of_new (Quad i j) new) ∙ quad_of_numbers i j
+      (silent_numbers (span (quad_of i j) 4) (in_quad block (plane + 1) i j (above_of_new (Quad i j) new)) none)))
 
   -- ---- all steps
 
@@ -229,7 +254,8 @@ module _ (block : List ℤ) (weights : List ℕ) (plane : ℕ) (whole : IsMultip
   all_flat f [] all = tt
   all_flat f (x ∷ xs) all = all_append IsAllowed (f x) (flat_map f xs) all.0 (all_flat f xs all.1)
 
-  typed_allowed : (check : Check) (ps : List ℕ) → refuses check (value_of (types block weights plane ps)) ≡ false → AllByRecursion IsAllowed (typed_steps block weights plane check ps)
+  typed_allowed : (check : Check) (ps : List ℕ) → refuses check (value_of (types block weights plane ps)) ≡ false →
+      AllByRecursion IsAllowed (typed_steps block weights plane check ps)
   typed_allowed check ps h = (h, all_free _ (λ p. refl) (filter (newly_significant block weights plane) ps))
 
   below_three : (P : ℕ → Type 0) → ((i : ℕ) → i < 3 → P i) → (p : ℕ → Bool) → AllByRecursion P (filter p (span 0 3))
@@ -243,27 +269,32 @@ module _ (block : List ℤ) (weights : List ℕ) (plane : ℕ) (whole : IsMultip
 
   pub children_are_allowed : AllByRecursion IsAllowed (children_steps block weights plane)
   children_are_allowed =
-      all_append IsAllowed (map (λ b. step free flags_alone (Bit b)) (flags block weights plane (Descendants ∷ []))) _
-      (all_free (λ b. step free flags_alone (Bit b)) (λ b. refl) (flags block weights plane (Descendants ∷ []))) (
+      all_append IsAllowed (map (λ b. step free (Bit b)) (flags block weights plane (Descendants ∷ []))) _
+      (all_free (λ b. step free (Bit b)) (λ b. refl) (flags block weights plane (Descendants ∷ []))) (
         descendants_allowed,
-        all_flat (λ i. typed_steps block weights plane (children_check block weights plane i) (span (children_of i) 4)) (significant_families block plane Family)
+        all_flat (λ i. typed_steps block weights plane (children_check block weights plane i) (span (children_of i) 4))
+            (significant_families block plane Family)
             (below_three (λ i. AllByRecursion IsAllowed (typed_steps block weights plane (children_check block weights plane i) (span (children_of i) 4)))
-            (λ i known. typed_allowed (children_check block weights plane i) (span (children_of i) 4) (children_allowed i known)) (λ i. set_significant block plane (Family i))),
+            (λ i known. typed_allowed (children_check block weights plane i) (span (children_of i) 4) (children_allowed i known))
+            (λ i. set_significant block plane (Family i))),
       )
 
   quads_are_allowed : (i : ℕ) → i < 3 → AllByRecursion IsAllowed (quads_steps block weights plane i)
   quads_are_allowed i known = (
     quads_allowed i known,
-    all_flat (λ j. typed_steps block weights plane (some_one_where (is_new block plane (Quad i j))) (span (quad_of i j) 4)) (filter (λ j. set_significant block plane (Quad i j)) (span 0 4))
+    all_flat (λ j. typed_steps block weights plane (some_one_where (is_new block plane (Quad i j))) (span (quad_of i j) 4))
+        (filter (λ j. set_significant block plane (Quad i j)) (span 0 4))
         (below_four (λ j. AllByRecursion IsAllowed (typed_steps block weights plane (some_one_where (is_new block plane (Quad i j))) (span (quad_of i j) 4)))
-        (λ j also. typed_allowed (some_one_where (is_new block plane (Quad i j))) (span (quad_of i j) 4) (quad_allowed i j)) (λ j. set_significant block plane (Quad i j))),
+        (λ j also. typed_allowed (some_one_where (is_new block plane (Quad i j))) (span (quad_of i j) 4) (quad_allowed i j))
+        (λ j. set_significant block plane (Quad i j))),
   )
 
   pub grandchildren_are_allowed : AllByRecursion IsAllowed (grandchildren_steps block weights plane)
   grandchildren_are_allowed = (
     grandchildren_allowed,
     all_flat (quads_steps block weights plane) (significant_families block plane Grandchildren)
-        (below_three (λ i. AllByRecursion IsAllowed (quads_steps block weights plane i)) quads_are_allowed (λ i. set_significant block plane (Grandchildren i))),
+        (below_three (λ i. AllByRecursion IsAllowed (quads_steps block weights plane i)) quads_are_allowed
+        (λ i. set_significant block plane (Grandchildren i))),
   )
 
   pub refinement_is_allowed : AllByRecursion IsAllowed (refinement_steps block weights plane)
@@ -276,19 +307,12 @@ module _ (block : List ℤ) (weights : List ℕ) (plane : ℕ) (whole : IsMultip
       if_sent true steps all = all
       if_sent false steps all = tt
 
--- the types of the children are not empty if one of them must be 1
-pub some_due : (block : List ℤ) (weights : List ℕ) (plane i : ℕ) → IsMultiple block weights → i < 3 →
-    is_new block plane (Family i) ≡ true → live weights plane (Grandchildren i) ≡ false → types block weights plane (span (children_of i) 4) ≡ [] → ⊥
-unfolding value_of
-some_due block weights plane i whole known new dead empty =
-    let wanted : (is_new block plane (Family i) && not (live weights plane (Grandchildren i))) ≡ true = ap (λ b. b && not (live weights plane (Grandchildren i))) new ∙ ap not dead in
-    true_false (ap (λ b. refuses (some_one_where b) (value_of [])) (sym wanted) ∙ ap (λ l. refuses (children_check block weights plane i) (value_of l)) (sym empty) ∙ children_allowed block weights plane whole i known)
-
 where_sent : (b : Bool) (steps : List Step) → AllByRecursion IsAllowed steps → AllByRecursion IsAllowed (cond b steps [])
 where_sent true steps all = all
 where_sent false steps all = tt
 
-pub block_is_allowed : (stage : Stage) (block : List ℤ) (d : ℕ) (weights : List ℕ) (plane q : ℕ) → IsMultiple block weights → AllByRecursion IsAllowed (block_steps stage block d weights plane q)
+pub block_is_allowed : (stage : Stage) (block : List ℤ) (d : ℕ) (weights : List ℕ) (plane q : ℕ) → IsMultiple block weights →
+    AllByRecursion IsAllowed (block_steps stage block d weights plane q)
 unfolding block_steps
 block_is_allowed stages.DcBits block d weights plane q whole = dcs_are_allowed block weights plane whole q
 block_is_allowed stages.Parents block d weights plane q whole = where_sent (nat_lt plane d) _ (parents_are_allowed block weights plane whole)

@@ -1,5 +1,6 @@
 -- What is given within a stage of a block: the types, the signs and the refinement of its values up to some places.
-use Rattle.std.proofs.Common.{◌≡◌, ℕ, zero, suc, ◌+◌, ◌*◌, ◌≤◌, ◌<◌, ◌==◌, ◌&&◌, ◌||◌, not, nat_lt, Bool, true, false, cond, if◌then◌else◌, List, [], ◌∷◌, ◌++◌, length, map, filter, refl, ap, sym, ◌∙◌, subst, arith, append-nil, append_assoc, ℤ, pos, Option, Some, None}
+use Rattle.std.proofs.Common.{◌≡◌, ℕ, zero, suc, ◌+◌, ◌*◌, ◌≤◌, ◌<◌, ◌==◌, ◌&&◌, ◌||◌, not, nat_lt, Bool, true, false, cond, if◌then◌else◌, List, [], ◌∷◌}
+use Rattle.std.proofs.Common.{◌++◌, length, map, filter, refl, ap, sym, ◌∙◌, subst, arith, append-nil, append_assoc, ℤ, pos, Option, Some, None}
 use Rattle.std.specs.List.{flat_map, list_any}
 use Rattle.std.proofs.lemmas.Bool.Decides.{nat_tests}
 use Rattle.std.proofs.lemmas.List.Concat.{flat_map_single}
@@ -15,10 +16,13 @@ use Rattle.plane_defs.specs.Spans.{span}
 use Rattle.plane_defs.specs.Sets.{magnitude, significant, coded, set_significant, live, type_due, newly_significant, refined, children_of, quad_of}
 use Rattle.plane_defs.specs.Entries.{word, negative, types, flags, stage_number}
 use Rattle.plane_defs.specs.Reading.{entry_reading, read_after}
-use Rattle.plane_defs.specs.Steps.{Check, free, flags_alone, sign_at, bit_at, ones_at, Step, step, is_new, some_one_where, flags_step, typed_steps, parents_steps, descendants_check, children_types_steps, children_steps, three_grandchildren, grandchildren_check, quads_types_steps, quads_steps, all_quads_steps, grandchildren_steps, refinement_steps, block_steps}
+use Rattle.plane_defs.specs.Steps.{Check, free, ones_at, Step, step, is_new, some_one_where, flags_step, typed_steps}
+use Rattle.plane_defs.specs.Steps.{parents_steps, descendants_check, children_types_steps, children_steps, three_grandchildren, grandchildren_check}
+use Rattle.plane_defs.specs.Steps.{quads_types_steps, quads_steps, all_quads_steps, grandchildren_steps, refinement_steps, block_steps}
 use Rattle.plane_defs.specs.StepLaws.{entries_of, IsAc, SameAc}
 use Rattle.plane_defs.specs.Laws.{IsMultiple}
-use Rattle.plane_defs.proofs.Equations.{span-none, bit_reading, enclosing-family, enclosing-grandchildren, enclosing-quad, is_new-is, parents_stage, children_stage, grandchildren_stage, refinement_stage}
+use Rattle.plane_defs.proofs.Equations.{span-none, bit_reading, enclosing-family, enclosing-grandchildren, enclosing-quad, is_new-is, parents_stage}
+use Rattle.plane_defs.proofs.Equations.{children_stage, grandchildren_stage, refinement_stage}
 use Rattle.plane_defs.proofs.Alike.{filter_same}
 use Rattle.plane_defs.proofs.Above.{all_acs, all_zip}
 use Rattle.plane_defs.proofs.AlikeSteps.{in_family, in_quad}
@@ -29,15 +33,16 @@ use Rattle.item_defs.proofs.ScriptGives.{GivesAfter, after_weaker, after_then, G
 use Rattle.plane_defs.specs.Written.{AreChosen}
 use Rattle.plane_defs.specs.States.{State, with_options, with_bits, with_minus, and_one, with_families}
 use Rattle.plane_defs.specs.WordScripts.{option_script, coded_script, due_script, signs_script, types_script, group_script, raw_form, ones}
-use Rattle.plane_defs.specs.StageScripts.{Terms, above, is_due, bit_script, parents_script, descendants_script, children_script, is_childless, quads_script, grandchildren_script, refinement_script, stage_script}
-use Rattle.plane_defs.proofs.WordGoes.{due_few, four_long}
+use Rattle.plane_defs.specs.StageScripts.{Terms, above, is_due, bit_script, parents_script, descendants_script, children_script, is_childless, quads_script}
+use Rattle.plane_defs.specs.StageScripts.{grandchildren_script, refinement_script, stage_script}
+use Rattle.plane_defs.proofs.WordGoes.{three_long, due_few, four_long}
 use Rattle.plane_defs.proofs.TypesWritten.{WroteDue, new_places, new_due, due_written}
 use Rattle.plane_defs.proofs.Sending.{span-first, flat_map_filter, read_append, Sends}
 use Rattle.plane_defs.proofs.PlacesSent as places
 use Rattle.plane_defs.proofs.PlacesSent.{At}
 use Rattle.plane_defs.proofs.FlagsSent as words
 use Rattle.plane_defs.proofs.StagesSent as stages
-use Rattle.plane_defs.proofs.StagesSent.{three_sets, four_sets, three_long}
+use Rattle.plane_defs.proofs.StagesSent.{three_sets, four_sets}
 use Rattle.plane_defs.proofs.BlockSent as sent
 
 -- ---- steps one after another
@@ -108,9 +113,6 @@ Same s g = g ≡ with_options s g.options
 due_always : (book : Book) (due : ℕ → Bool) (check : Check) (ps : List ℕ) (s : State) → Always (due_script book due check ps s) (Same s)
 due_always book due check ps s = by (length (filter due ps) == 0) (length (filter due ps) == 1) (s.options (length (filter due ps)))
   where
-    count : ℕ
-    count = length (filter due ps)
-
     next : State × ℕ → Script State (State × (ℕ → Bool))
     next w = done (w.0, ones (filter due ps) (bits_of (length (filter due ps)) w.1))
 
@@ -162,7 +164,7 @@ module _ (o : List ℕ) (chosen : AreChosen o) (t : Terms) (block v : List ℤ) 
   -- ---- signs
 
   abbrev sign_steps : List ℕ → List Step
-  sign_steps ps = map (λ p. step free (sign_at p) (Bit (minus_of p))) ps
+  sign_steps ps = map (λ p. step free (Bit (minus_of p))) ps
 
   -- the signs below this place were read
   record Signed (a n m : ℕ) (dc : Bool) (s : State) : Type 0 where
@@ -182,8 +184,7 @@ module _ (o : List ℕ) (chosen : AreChosen o) (t : Terms) (block v : List ℤ) 
       rest = filter newly (span (suc a) c)
 
       back : (x : Bool) → (digit x == 1) ≡ x
-      back true = refl
-      back false = refl
+      back x = grind (arith, nat_tests)
 
       at : (q : ℕ) → (q == a) ≡ true → q ≡ a
       at q e = grind (arith, nat_tests)
@@ -200,8 +201,7 @@ module _ (o : List ℕ) (chosen : AreChosen o) (t : Terms) (block v : List ℤ) 
           or_nothing (nat_lt q a && (newly q && minus_of q)) ∙ ap (λ x. x && (newly q && minus_of q)) f
         where
           or_nothing : (x : Bool) → (x || false) ≡ x
-          or_nothing true = refl
-          or_nothing false = refl
+          or_nothing x = grind (arith, nat_tests)
 
       skipped : newly a ≡ false → (q : ℕ) (e : Bool) → (q == a) ≡ e → (nat_lt q a && (newly q && minus_of q)) ≡ (nat_lt q (suc a) && (newly q && minus_of q))
       skipped old q true e =
@@ -326,7 +326,7 @@ module _ (o : List ℕ) (chosen : AreChosen o) (t : Terms) (block v : List ℤ) 
   children_give : (m : ℕ) (families : ℕ → Bool) (dc : Bool) (before : List Entry) (s : State) → Reads 4 m families dc before s →
       Gives (children_script t block s) (read_after t.book o before (children_steps v W b)) (Partial dc)
   children_give m families dc before s r =
-      let first = map (λ x. step free flags_alone (Bit x)) (flags v W b (Descendants ∷ [])) in
+      let first = map (λ x. step free (Bit x)) (flags v W b (Descendants ∷ [])) in
       let flags_of = flags_step v W b (descendants_check v b) (Family 0 ∷ Family 1 ∷ Family 2 ∷ []) in
       let start = partial_at 4 m families dc before s r in
       give_then t.book o (λ now. words.Flag o chosen t block v same whole now s) (Partial dc) (descendants_script t block s) _ before first
@@ -438,10 +438,10 @@ module _ (o : List ℕ) (chosen : AreChosen o) (t : Terms) (block v : List ℤ) 
   refinement_give : (families : ℕ → Bool) (dc : Bool) (before : List Entry) (s : State) → Reads 64 1 families dc before s →
       Gives (refinement_script t block s) (read_after t.book o before (refinement_steps v W b)) (Partial dc)
   refinement_give families dc before s r =
-      let steps : ℕ → List Step = λ p. if refined v W b p then step free (bit_at p) (Bit (bit (magnitude v p) b)) ∷ [] else [] in
+      let steps : ℕ → List Step = λ p. if refined v W b p then step free (Bit (bit (magnitude v p) b)) ∷ [] else [] in
       subst (λ l. Gives (refinement_script t block s) (read_after t.book o before l) (Partial dc))
-      (sym (flat_map_filter (λ p. step free (bit_at p) (Bit (bit (magnitude v p) b)) ∷ []) (refined v W b) (span 1 63)) ∙
-      flat_map_single (λ p. step free (bit_at p) (Bit (bit (magnitude v p) b))) (filter (refined v W b) (span 1 63)))
+      (sym (flat_map_filter (λ p. step free (Bit (bit (magnitude v p) b)) ∷ []) (refined v W b) (span 1 63)) ∙
+      flat_map_single (λ p. step free (Bit (bit (magnitude v p) b))) (filter (refined v W b) (span 1 63)))
       (give_in_turn t.book o (λ p. Reads 64 p families dc) (Partial dc) (λ p u. if refined block W b p then bit_script p u else done u) steps 1 63
       (λ p c u low high z. (
         sent.refined_sent o chosen t block v same whole families dc p c u low (omega (arith, high)) z,

@@ -1,5 +1,6 @@
 -- A block before a plane and after it, and what it is of the values at the end.
-use Rattle.std.proofs.Common.{◌≡◌, ℕ, zero, suc, ◌+◌, ◌*◌, ◌/◌, ◌%◌, ◌^◌, ◌≤◌, ◌<◌, ◌==◌, ◌&&◌, ◌||◌, not, nat_lt, nat_le, Bool, true, false, if◌then◌else◌, List, refl, ap, sym, ◌∙◌, subst, arith, ℤ, pos, ◌+ℤ◌, inl, inr, pow_pos, pow_mono}
+use Rattle.std.proofs.Common.{◌≡◌, ℕ, zero, suc, ◌+◌, ◌*◌, ◌/◌, ◌%◌, ◌^◌, ◌≤◌, ◌<◌, ◌==◌, ◌&&◌, ◌||◌, not, nat_lt, nat_le, Bool, true, false, if◌then◌else◌}
+use Rattle.std.proofs.Common.{List, refl, ap, sym, ◌∙◌, subst, arith, ℤ, pos, ◌+ℤ◌, inl, inr, pow_pos, pow_mono}
 use Rattle.std.specs.Prelude.{◌-ℤ◌}
 use Rattle.std.specs.Int.{int_shr}
 use Rattle.std.specs.Int.RustNames.{unsigned_abs}
@@ -24,9 +25,10 @@ use Rattle.plane_defs.specs.PlaneScript.{bit_of_plane, number_with, block_with}
 use Rattle.plane_defs.proofs.WordGoes.{both}
 use Rattle.plane_defs.proofs.StageGoes.{no_clash}
 use Rattle.plane_defs.proofs.NumberParts.{reach_same, signed_size, signed_negative}
-use Rattle.plane_defs.proofs.NumbersLeft.{weight, IsPart, part_step, split_back, small_step, multiple_step, IsWhole, same_from, whole_step, above_same, bit_back, whole_lower, whole_size}
+use Rattle.plane_defs.proofs.NumbersLeft.{weight, IsPart, part_step, split_back, small_step, multiple_step, IsWhole, same_from, whole_step, above_same}
+use Rattle.plane_defs.proofs.NumbersLeft.{bit_back, whole_lower, whole_size}
 use Rattle.plane_defs.proofs.PlanesSent.{the_bit}
-use Rattle.plane_defs.proofs.StatesLeft.{Fair}
+use Rattle.plane_defs.proofs.StageAnswers.{Fair}
 use Rattle.plane_defs.proofs.BlockBack as back
 use Rattle.plane_defs.proofs.BlockSent as sent
 
@@ -78,9 +80,7 @@ module _ (t : Terms) (block : List ℤ) (depth : ℕ) (s : State) (fair : Fair t
   magnitude_now p ac = ap unsigned_abs (number p ac) ∙ signed_size (sign p) (size_now p)
 
   negative_now : (p : ℕ) → IsAc p → negative (get_or now p (pos 0)) ≡ (sign p && nat_lt 0 (magnitude now p))
-  negative_now p ac =
-      ap negative (number p ac) ∙ signed_negative (sign p) (size_now p) ∙
-      ap (λ m. sign p && nat_lt 0 m) (sym (ap unsigned_abs (number p ac) ∙ signed_size (sign p) (size_now p)))
+  negative_now p ac = grind (arith, nat_tests, number, signed_negative, size_now, signed_size)
 
   dc_now : get_or now 0 (pos 0) ≡ get_or block 0 (pos 0) +ℤ pos (weight b (s.bits 0))
   dc_now = get_or-map-span (number_with b block s) 64 0 (pos 0) (omega arith)
@@ -167,21 +167,13 @@ module _ (t : Terms) (block : List ℤ) (depth : ℕ) (s : State) (fair : Fair t
         some (suc q) k lt = let f : k ≤ suc q * k = omega arith in grind (arith, nat_tests)
 
     old_sign : (p : ℕ) → s.minus p ≡ true → significant block (b + 1) p ≡ false
-    old_sign p e = not_old (significant block (b + 1) p) (coded W b p) (sym (type_due-is block W b p) ∙ (fair.minus p e).0)
-      where
-        not_old : (a c : Bool) → (not a && c) ≡ true → a ≡ false
-        not_old true c e = cc
-        not_old false c e = refl
+    old_sign p e = grind (arith, nat_tests, type_due-is)
 
     significant_above : (p : ℕ) → IsAc p → significant block (b + 1) p ≡ significant v (b + 1) p
-    significant_above p ac =
-        significant-is block (b + 1) p ∙ ap (nat_le (2 ^ (b + 1))) (split p ac).0 ∙ reach_same (2 ^ (b + 1)) (magnitude v p) (pow_pos (b + 1)) ∙
-        sym (significant-is v (b + 1) p)
+    significant_above p ac = grind (arith, nat_tests, significant-is, split, reach_same, pow_pos)
 
     reaches : (p : ℕ) → significant v (b + 1) p ≡ true → significant v b p ≡ true
-    reaches p e =
-        significant-is v b p ∙ (let f : 2 ^ (b + 1) ≤ magnitude v p = most_of (2 ^ (b + 1)) (magnitude v p) (sym (significant-is v (b + 1) p) ∙ e) in
-        let g : 2 ^ b ≤ 2 ^ (b + 1) = pow_mono (omega arith) in grind (arith, nat_tests))
+    reaches p e = grind (arith, nat_tests, significant-is, pow_mono)
 
     sign_above : (p : ℕ) → IsAc p → negative (get_or block p (pos 0)) ≡ (significant v (b + 1) p && negative (get_or v p (pos 0)))
     sign_above p ac = by (significant v (b + 1) p) refl
@@ -193,8 +185,7 @@ module _ (t : Terms) (block : List ℤ) (depth : ℕ) (s : State) (fair : Fair t
         more a x e = grind (arith, nat_tests)
 
         no_sign : (x : Bool) → (x ≡ true → ⊥) → x ≡ false
-        no_sign true h = absurd (h refl)
-        no_sign false h = refl
+        no_sign x h1 = grind (arith, nat_tests)
 
         by : (x : Bool) → significant v (b + 1) p ≡ x → negative (get_or block p (pos 0)) ≡ (x && negative (get_or v p (pos 0)))
         by false e = none (get_or block p (pos 0)) (some_above p ac ∙ e)
@@ -207,8 +198,7 @@ module _ (t : Terms) (block : List ℤ) (depth : ℕ) (s : State) (fair : Fair t
             ap (λ x. x && negative (get_or v p (pos 0))) (reaches p e)
           where
             and_true : (x : Bool) → ((x || false) && true) ≡ x
-            and_true true = refl
-            and_true false = refl
+            and_true x = grind (arith, nat_tests)
 
     pub above : Shows (b + 1) block v
     above p ac = ((split p ac).0, sign_above p ac)
@@ -222,15 +212,11 @@ module _ (t : Terms) (block : List ℤ) (depth : ℕ) (s : State) (fair : Fair t
       new_sign : (p : ℕ) → IsAc p → s.minus p ≡ (newly p && negative (get_or v p (pos 0)))
       new_sign p ac = by (s.minus p) refl
         where
-          v_sign : Bool
-          v_sign = negative (get_or v p (pos 0))
-
           is_new : newly p ≡ (type_due v W b p && significant v b p)
           is_new = newly_significant-is v W b p
 
           here : (x y : Bool) → (x && y) ≡ true → y ≡ true
-          here true y e = e
-          here false y e = cc
+          here x y h1 = grind (arith, nat_tests)
 
           some_here : (m : ℕ) → bit m b ≡ true → nat_le (2 ^ b) m ≡ true
           some_here m e = elim (cases_lt m (2 ^ b)) [
@@ -245,13 +231,7 @@ module _ (t : Terms) (block : List ℤ) (depth : ℕ) (s : State) (fair : Fair t
           due_same = type_due-is block W b p ∙ ap (λ x. not x && coded W b p) (significant_above p ac) ∙ sym (type_due-is v W b p)
 
           some_now : significant v b p ≡ true → nat_lt 0 (magnitude now p) ≡ true
-          some_now e =
-              ap (nat_lt 0) (shows p ac).0 ∙ reach (magnitude v p / 2 ^ b) (2 ^ b) (pow_pos b) ∙ reach_same (2 ^ b) (magnitude v p) (pow_pos b) ∙
-              sym (significant-is v b p) ∙ e
-            where
-              reach : (q k : ℕ) → 0 < k → nat_lt 0 (q * k) ≡ nat_le k (q * k)
-              reach zero k lt = let z : zero * k ≡ 0 = omega arith in grind (arith, nat_tests)
-              reach (suc q) k lt = let f : k ≤ suc q * k = omega arith in grind (arith, nat_tests)
+          some_now e = grind (arith, nat_tests, pow_pos, reach_same, significant-is)
 
           by : (x : Bool) → s.minus p ≡ x → x ≡ (newly p && negative (get_or v p (pos 0)))
           by true e =
@@ -265,16 +245,14 @@ module _ (t : Terms) (block : List ℤ) (depth : ℕ) (s : State) (fair : Fair t
               sym (ap (λ x. x && negative (get_or v p (pos 0))) n ∙ minus)
             where
               or_true : (x : Bool) → ((x || true) && true) ≡ true
-              or_true true = refl
-              or_true false = refl
+              or_true x = grind (arith, nat_tests)
           by false e = by_new (newly p) refl
             where
               parts : (x y : Bool) → (x && y) ≡ true → (x ≡ true) × (y ≡ true)
               parts = both
 
               not_above : (a c : Bool) → (not a && c) ≡ true → a ≡ false
-              not_above true c e = cc
-              not_above false c e = refl
+              not_above a c h1 = grind (arith, nat_tests)
 
               by_new : (x : Bool) → newly p ≡ x → false ≡ (x && negative (get_or v p (pos 0)))
               by_new false f = refl
@@ -290,8 +268,7 @@ module _ (t : Terms) (block : List ℤ) (depth : ℕ) (s : State) (fair : Fair t
       dc_bit = by (coded W b 0) refl (nat_lt b t.q) refl
         where
           no_bit : (x : Bool) → (x ≡ true → ⊥) → x ≡ false
-          no_bit true h = absurd (h refl)
-          no_bit false h = refl
+          no_bit x h1 = grind (arith, nat_tests)
 
           by : (x : Bool) → coded W b 0 ≡ x → (y : Bool) → nat_lt b t.q ≡ y → s.bits 0 ≡ ((x && y) && twos_bit (get_or v 0 (pos 0)) b)
           by false e y f = no_bit (s.bits 0) (λ g. no_clash (coded W b 0) (both (coded W b 0) (nat_lt b t.q) (fair.bits 0 g)).0 e)

@@ -1,5 +1,6 @@
 -- The items of each stage of a block follow its script.
-use Rattle.std.proofs.Common.{◌≡◌, ℕ, zero, suc, ◌+◌, ◌≤◌, ◌<◌, ◌==◌, ◌&&◌, ◌||◌, not, nat_lt, Bool, true, false, cond, if◌then◌else◌, List, [], ◌∷◌, ◌++◌, filter, refl, ap, sym, ◌∙◌, subst, arith, ℤ, pos}
+use Rattle.std.proofs.Common.{◌≡◌, ℕ, zero, suc, ◌+◌, ◌≤◌, ◌<◌, ◌==◌, ◌&&◌, ◌||◌, not, nat_lt, Bool, true, false, cond, if◌then◌else◌, List, [], ◌∷◌, ◌++◌}
+use Rattle.std.proofs.Common.{filter, refl, ap, sym, ◌∙◌, subst, arith, ℤ, pos}
 use Rattle.std.specs.List.{list_any}
 use Rattle.base_122.specs.declared.book.Book.{Book}
 use Rattle.std.proofs.lemmas.Bool.Decides.{nat_tests}
@@ -14,10 +15,11 @@ use Rattle.plane_defs.specs.declared.sets.Set.TheVariants.{Family}
 use Rattle.plane_defs.specs.Spans.{span}
 use Rattle.plane_defs.specs.Sets.{magnitude, significant, coded, set_significant, type_due, newly_significant, refined, members}
 use Rattle.plane_defs.specs.Entries.{twos_bit, negative, stage_number}
-use Rattle.plane_defs.specs.Steps.{free, Told, bit_at, Step, step, dc_steps, parents_steps, children_steps, grandchildren_steps, refinement_steps, block_steps}
+use Rattle.plane_defs.specs.Steps.{free, Step, step, dc_steps, parents_steps, children_steps, grandchildren_steps, refinement_steps, block_steps}
 use Rattle.plane_defs.specs.StepLaws.{IsAc, SameAc}
 use Rattle.plane_defs.specs.Laws.{IsMultiple}
-use Rattle.plane_defs.proofs.Equations.{set_significant-is, newly_significant-is, refined-is, bit_reading, dc_stage, parents_stage, children_stage, grandchildren_stage, refinement_stage}
+use Rattle.plane_defs.proofs.Equations.{set_significant-is, newly_significant-is, refined-is, bit_reading, dc_stage, parents_stage, children_stage}
+use Rattle.plane_defs.proofs.Equations.{grandchildren_stage, refinement_stage}
 use Rattle.plane_defs.proofs.Determined.{still_significant}
 use Rattle.plane_defs.proofs.Above.{members_acs, any_alike}
 use Rattle.item_defs.specs.Scripts.{Script, done, bit_form}
@@ -25,7 +27,8 @@ use Rattle.item_defs.specs.Writing.{Writes}
 use Rattle.item_defs.proofs.Writing.{writes_none, writes_ask}
 use Rattle.plane_defs.specs.Written.{AreChosen}
 use Rattle.plane_defs.specs.States.{State, with_bits, and_one}
-use Rattle.plane_defs.specs.StageScripts.{Terms, bit_script, dc_bit_script, parents_script, children_script, grandchildren_script, refinement_script, stage_script}
+use Rattle.plane_defs.specs.StageScripts.{Terms, bit_script, dc_bit_script, parents_script, children_script, grandchildren_script, refinement_script}
+use Rattle.plane_defs.specs.StageScripts.{stage_script}
 use Rattle.plane_defs.proofs.WordsWritten.{knows_same}
 use Rattle.plane_defs.proofs.Sending.{flat_map_filter, Sends, sends_none, sends_in_turn}
 use Rattle.plane_defs.proofs.PlacesSent as places
@@ -33,17 +36,15 @@ use Rattle.plane_defs.proofs.PlacesSent.{At}
 use Rattle.plane_defs.proofs.StagesSent as stages
 
 digit_is : (x : Bool) → (digit x == 1) ≡ x
-digit_is true = refl
-digit_is false = refl
+digit_is x = grind (arith, nat_tests)
 
 false_unless : (a x : Bool) → (a ≡ true → x ≡ true) → x ≡ false → a ≡ false
-false_unless true x h e = let f = h refl in cc
-false_unless false x h e = refl
+false_unless a x h1 h2 = grind (arith, nat_tests)
 
 -- a raw bit of a position
-pub bit_sent : (book : Book) (o : List ℕ) (p : ℕ) (x : Bool) (told : Told) (P : List Entry → State → Type 0) (before : List Entry) (s : State) →
-    P (before ++ Bit x ∷ []) (with_bits s (and_one (λ q. false) p x)) → Sends book o (bit_script p s) before (step free told (Bit x) ∷ []) P
-bit_sent book o p x told P before s r =
+pub bit_sent : (book : Book) (o : List ℕ) (p : ℕ) (x : Bool) (P : List Entry → State → Type 0) (before : List Entry) (s : State) →
+    P (before ++ Bit x ∷ []) (with_bits s (and_one (λ q. false) p x)) → Sends book o (bit_script p s) before (step free (Bit x) ∷ []) P
+bit_sent book o p x P before s r =
     subst (λ l. Writes (bit_script p s) (l ++ []) (P (before ++ Bit x ∷ []))) (sym (bit_reading book o before free x))
     (writes_ask (P (before ++ Bit x ∷ [])) s bit_form (λ n. done (with_bits s (and_one (λ q. false) p (n == 1)))) (raw (digit x)) [] refl
     (writes_none (P (before ++ Bit x ∷ [])) (with_bits s (and_one (λ q. false) p (digit x == 1)))
@@ -70,9 +71,9 @@ module _ (o : List ℕ) (chosen : AreChosen o) (t : Terms) (block v : List ℤ) 
   dc_sent m families before s r = by (coded W b 0 && nat_lt b t.q)
     where
       by : (c : Bool) → Sends {G = State} t.book o (if c then bit_script 0 s else done s) before
-          (if c then step free (bit_at 0) (Bit (twos_bit (get_or v 0 (pos 0)) b)) ∷ [] else [])
+          (if c then step free (Bit (twos_bit (get_or v 0 (pos 0)) b)) ∷ [] else [])
           (Reads 1 m families (c && twos_bit (get_or v 0 (pos 0)) b))
-      by true = bit_sent t.book o 0 (twos_bit (get_or v 0 (pos 0)) b) (bit_at 0) (Reads 1 m families (twos_bit (get_or v 0 (pos 0)) b)) before s (record {
+      by true = bit_sent t.book o 0 (twos_bit (get_or v 0 (pos 0)) b) (Reads 1 m families (twos_bit (get_or v 0 (pos 0)) b)) before s (record {
         knows = knows_same o before (Bit (twos_bit (get_or v 0 (pos 0)) b)) s.options (λ n low. refl) r.knows;
         bits = λ q ac. (let e : (q == 0) ≡ false = (let a : 1 ≤ q = ac.0 in grind (arith, nat_tests)) in
             ap (λ y. s.bits q || (false || (y && twos_bit (get_or v 0 (pos 0)) b))) e ∙ or-false (s.bits q)) ∙ r.bits q ac;
@@ -86,14 +87,14 @@ module _ (o : List ℕ) (chosen : AreChosen o) (t : Terms) (block v : List ℤ) 
 
   pub refined_sent : (families : ℕ → Bool) (dc : Bool) (p : ℕ) (c : List Entry) (u : State) → 1 ≤ p → p < 64 → Reads 64 p families dc c u →
       Sends t.book o (if refined block W b p then bit_script p u else done u) c
-      (if refined v W b p then step free (bit_at p) (Bit (bit (magnitude v p) b)) ∷ [] else []) (Reads 64 (suc p) families dc)
+      (if refined v W b p then step free (Bit (bit (magnitude v p) b)) ∷ [] else []) (Reads 64 (suc p) families dc)
   refined_sent families dc p c u low high r =
       subst (λ y. Sends {G = State} t.book o (if y then bit_script p u else done u) c (if refined v W b p then sent p ∷ [] else []) (Reads 64
       (suc p) families dc))
       (sym (places.refined_is o chosen t block v same whole p (low, high))) (by (refined v W b p) refl)
     where
       sent : ℕ → Step
-      sent p = step free (bit_at p) (Bit (bit (magnitude v p) b))
+      sent p = step free (Bit (bit (magnitude v p) b))
 
       item : ℕ → State → Script State State
       item p u = if refined block W b p then bit_script p u else done u
@@ -106,31 +107,17 @@ module _ (o : List ℕ) (chosen : AreChosen o) (t : Terms) (block v : List ℤ) 
 
       bits_one : (q : ℕ) (x z a : Bool) → ((q == p) ≡ true → x ≡ z) →
           ((a || (nat_lt q p && z)) || (false || ((q == p) && x))) ≡ (a || (nat_lt q (suc p) && z))
-      bits_one q x z a h = here (q == p) refl h
-        where
-          here : (e : Bool) → (q == p) ≡ e → (e ≡ true → x ≡ z) → ((a || (nat_lt q p && z)) || (false || (e && x))) ≡ (a || (nat_lt q (suc p) && z))
-          here true e h =
-              let f : nat_lt q p ≡ false = grind (arith, nat_tests) in
-              let g : nat_lt q (suc p) ≡ true = grind (arith, nat_tests) in
-              rw (f, g, h refl) (ap (λ y. y || z) (or-false a))
-          here false e h =
-              let f : nat_lt q p ≡ nat_lt q (suc p) = grind (arith, nat_tests) in
-              or-false (a || (nat_lt q p && z)) ∙ ap (λ y. a || (y && z)) f
+      bits_one q x z a h = grind (arith, nat_tests)
 
       skipped : (q : ℕ) (z : Bool) → ((q == p) ≡ true → z ≡ false) → (nat_lt q p && z) ≡ (nat_lt q (suc p) && z)
-      skipped q z h = here (q == p) refl h
-        where
-          here : (e : Bool) → (q == p) ≡ e → (e ≡ true → z ≡ false) → (nat_lt q p && z) ≡ (nat_lt q (suc p) && z)
-          here true e h = let f = h refl in ap (λ y. nat_lt q p && y) f ∙ and-false (nat_lt q p) ∙ sym (ap (λ y. nat_lt q (suc p) && y) f ∙
-              and-false (nat_lt q (suc p)))
-          here false e h = let f : nat_lt q p ≡ nat_lt q (suc p) = grind (arith, nat_tests) in ap (λ y. y && z) f
+      skipped q z h = grind (arith, nat_tests)
 
       at : (q : ℕ) → (q == p) ≡ true → p ≡ q
       at q e = grind (arith, nat_tests)
 
       by : (y : Bool) → refined v W b p ≡ y →
           Sends {G = State} t.book o (if y then bit_script p u else done u) c (if y then sent p ∷ [] else []) (Reads 64 (suc p) families dc)
-      by true e = bit_sent t.book o p (bit (magnitude v p) b) (bit_at p) (Reads 64 (suc p) families dc) c u (record {
+      by true e = bit_sent t.book o p (bit (magnitude v p) b) (Reads 64 (suc p) families dc) c u (record {
         knows = knows_same o c (Bit (bit (magnitude v p) b)) u.options (λ n few. refl) r.knows;
         bits = λ q ac. ap (λ y. y || (false || ((q == p) && bit (magnitude v p) b))) (r.bits q ac) ∙
             bits_one q (bit (magnitude v p) b) (Z q) (A q) (λ f. ap (λ y. y && bit (magnitude v p) b) (sym e) ∙ ap Z (at q f));
@@ -156,7 +143,7 @@ module _ (o : List ℕ) (chosen : AreChosen o) (t : Terms) (block v : List ℤ) 
       (λ p c u low high z. refined_sent families dc p c u low (omega (arith, high)) z) before s r)
     where
       sent : ℕ → Step
-      sent p = step free (bit_at p) (Bit (bit (magnitude v p) b))
+      sent p = step free (Bit (bit (magnitude v p) b))
 
       item : ℕ → State → Script State State
       item p u = if refined block W b p then bit_script p u else done u
@@ -210,13 +197,7 @@ module _ (o : List ℕ) (chosen : AreChosen o) (t : Terms) (block v : List ℤ) 
         never (x ∷ xs) = never xs
 
     known_same : (k j : ℕ) (i : ℕ) → i < 3 → known k i ≡ known j i
-    known_same k j i lt = none_known k ∙ sym (none_known j)
-      where
-        none_known : (k : ℕ) → known k i ≡ false
-        none_known zero = refl
-        none_known (suc zero) = refl
-        none_known (suc (suc zero)) = refl
-        none_known (suc (suc (suc k))) = no_family i lt
+    known_same k j i lt = grind (arith, nat_tests, no_family)
 
     -- a block that has no bit in the plane sends nothing
     idle : (n m k j : ℕ) (dc : Bool) (before : List Entry) (s : State) → Reads n m (known k) dc before s → (x y : ℕ) → Reads x y (known j) dc before s
@@ -230,10 +211,7 @@ module _ (o : List ℕ) (chosen : AreChosen o) (t : Terms) (block v : List ℤ) 
       where
         nothing : (q : ℕ) → IsAc q → (n m : ℕ) →
             ((nat_lt q n && newly_significant v W b q) || (nat_lt q m && (refined v W b q && bit (magnitude v q) b))) ≡ false
-        nothing q ac n m =
-            ap (λ y. (nat_lt q n && y) || (nat_lt q m && (refined v W b q && bit (magnitude v q) b))) (none_new q ac) ∙
-            ap (λ y. (nat_lt q n && false) || (nat_lt q m && (y && bit (magnitude v q) b))) (none_refined q ac) ∙
-            ap (λ y. y || (nat_lt q m && false)) (and-false (nat_lt q n)) ∙ and-false (nat_lt q m)
+        nothing q ac n m = grind (arith, nat_tests, none_new, none_refined, and-false)
 
         no_sign : (q : ℕ) → IsAc q → (n : ℕ) → (nat_lt q n && (newly_significant v W b q && negative (get_or v q (pos 0)))) ≡ false
         no_sign q ac n = ap (λ y. nat_lt q n && (y && negative (get_or v q (pos 0)))) (none_new q ac) ∙ and-false (nat_lt q n)

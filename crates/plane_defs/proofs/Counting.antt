@@ -1,5 +1,7 @@
 -- Sums and counts over spans, and the strings of 8 bits that begin with a code.
-use Rattle.std.proofs.Common.{◌≡◌, inl, inr, ◌≤◌, ◌<◌, ◌+◌, ◌-◌, ◌^◌, ◌/◌, ℕ, zero, suc, List, [], ◌∷◌, refl, sym, ap, ◌∙◌, arith, zero-add, add-one, if◌then◌else◌, not, Bool, true, false, ◌==◌, ◌||◌, cond, count_by}
+use Rattle.std.proofs.lemmas.Bool.Decides.{nat_tests}
+use Rattle.std.proofs.Common.{◌≡◌, inl, inr, ◌≤◌, ◌<◌, ◌+◌, ◌-◌, ◌^◌, ◌/◌, ℕ, zero, suc, List, [], ◌∷◌, refl, sym, ap, ◌∙◌, arith, zero-add, add-one}
+use Rattle.std.proofs.Common.{if◌then◌else◌, not, Bool, true, false, ◌==◌, ◌||◌, cond, count_by}
 use Rattle.std.specs.List.{list_all, sum_by}
 use Rattle.std.proofs.lemmas.Bool.{cases_lt, false≢true}
 use Rattle.std.proofs.Math.Bool.{or-true}
@@ -56,9 +58,11 @@ sum_ones f zero one = sum_none f
 sum_ones f (suc n) one = let here = one n (omega arith) in omega (arith, sum_suc f n, sum_ones f n (λ k lt. one k (omega (arith, lt))), here)
 
 -- pairs that pass are counted row by row or column by column
-pub counted_twice : (p : ℕ → ℕ → Bool) (m n : ℕ) → sum_by (λ s. count_by (λ v. p s v) (span 0 n)) (span 0 m) ≡ sum_by (λ v. count_by (λ s. p s v) (span 0 m)) (span 0 n)
+pub counted_twice : (p : ℕ → ℕ → Bool) (m n : ℕ) → sum_by (λ s. count_by (λ v. p s v) (span 0 n)) (span 0 m)
+    ≡ sum_by (λ v. count_by (λ s. p s v) (span 0 m)) (span 0 n)
 counted_twice p zero n =
-    let columns : sum_by (λ v. count_by (λ s. p s v) (span 0 0)) (span 0 n) ≡ sum_by (λ k. 0) (span 0 n) = sum_same (λ v. count_by (λ s. p s v) (span 0 0)) (λ k. 0) n (λ v lt. sum_none (λ s. cond (p s v) 1 0)) in
+    let columns : sum_by (λ v. count_by (λ s. p s v) (span 0 0)) (span 0 n) ≡ sum_by (λ k. 0) (span 0 n) =
+    sum_same (λ v. count_by (λ s. p s v) (span 0 0)) (λ k. 0) n (λ v lt. sum_none (λ s. cond (p s v) 1 0)) in
     sum_none (λ s. count_by (λ v. p s v) (span 0 n)) ∙ sym (columns ∙ sum_zero n)
 counted_twice p (suc m) n =
     let row = λ (s : ℕ). count_by (λ v. p s v) (span 0 n) in
@@ -83,8 +87,7 @@ count_once p (suc n) once =
     by_last (p n) refl (count_once p n (λ j k hj hk. once j k (omega (arith, hj)) (omega (arith, hk)))) (λ e. count_none p n (λ k lt. other k (p k) refl e lt))
   where
     other : (k : ℕ) (b : Bool) → p k ≡ b → p n ≡ true → k < n → p k ≡ false
-    other k true f e lt = absurd (let same = once k n (omega (arith, lt)) (omega arith) f e in omega (arith, same, lt))
-    other k false f e lt = f
+    other k b h1 h2 h3 = grind (arith, nat_tests)
 
     by_last : (b : Bool) → p n ≡ b → count_by p (span 0 n) ≤ 1 → (p n ≡ true → count_by p (span 0 n) ≡ 0) → count_by p (span 0 (suc n)) ≤ 1
     by_last true e rest none =

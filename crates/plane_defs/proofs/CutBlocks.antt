@@ -1,14 +1,14 @@
 -- A block of a plane that was read up to some places is its values, cut there.
-use Rattle.std.proofs.Common.{◌≡◌, ℕ, zero, suc, ◌+◌, ◌*◌, ◌/◌, ◌^◌, ◌≤◌, ◌<◌, ◌==◌, ◌&&◌, ◌||◌, not, nat_lt, Bool, true, false, if◌then◌else◌, List, map, refl, ap, sym, ◌∙◌, arith, ℤ, pos, ◌*ℤ◌}
+use Rattle.std.proofs.Common.{◌≡◌, ℕ, zero, suc, ◌+◌, ◌^◌, ◌≤◌, ◌<◌, ◌==◌, ◌&&◌, ◌||◌, nat_lt, Bool, true, false, if◌then◌else◌, List, map}
+use Rattle.std.proofs.Common.{ap, sym, ◌∙◌, arith, ℤ, pos, ◌*ℤ◌}
 use Rattle.std.specs.Prelude.{◌-ℤ◌, ◌+ℤ◌}
 use Rattle.std.specs.Int.{int_shr}
 use Rattle.std.proofs.lemmas.Bool.Decides.{nat_tests}
 use Rattle.std.proofs.lemmas.List.{ext_get_or}
 use lib.ListN.{get_or}
-use Rattle.item_defs.specs.Bits.{bit}
 use Rattle.plane_defs.specs.declared.entries.Entry.{Entry}
 use Rattle.plane_defs.specs.Spans.{span}
-use Rattle.plane_defs.specs.Sets.{magnitude, significant, coded}
+use Rattle.plane_defs.specs.Sets.{magnitude, significant}
 use Rattle.plane_defs.specs.Entries.{negative}
 use Rattle.plane_defs.specs.StepLaws.{IsAc, SameAc}
 use Rattle.plane_defs.specs.Laws.{IsMultiple}
@@ -25,44 +25,6 @@ use Rattle.plane_defs.proofs.BlockSent as sent
 use Rattle.plane_defs.proofs.BlockGives as gives
 
 -- ---- truth values: significant above, coded, significant here, the bit, negative, and the places
-
-cut_bits : (a c x z t f : Bool) → (c ≡ false → z ≡ false) → (a ≡ false → x ≡ z) →
-    ((t && ((not a && c) && x)) || (f && ((a && c) && z))) ≡ ((if a then f else t) && z)
-cut_bits true true x z true f h k = refl
-cut_bits true true x z false f h k = refl
-cut_bits true false x z t f h k = none t f ∙ sym (ap (λ y. f && y) (h refl) ∙ both_false f)
-  where
-    both_false : (y : Bool) → (y && false) ≡ false
-    both_false true = refl
-    both_false false = refl
-
-    none : (t f : Bool) → ((t && false) || (f && false)) ≡ false
-    none true f = both_false f
-    none false f = both_false f
-cut_bits false true x z t f h k = no_more (t && x) f ∙ ap (λ y. t && y) (k refl)
-  where
-    no_more : (y f : Bool) → (y || (f && false)) ≡ y
-    no_more true f = refl
-    no_more false true = refl
-    no_more false false = refl
-cut_bits false false x z t f h k = none t f ∙ sym (ap (λ y. t && y) (h refl) ∙ both_false t)
-  where
-    both_false : (y : Bool) → (y && false) ≡ false
-    both_false true = refl
-    both_false false = refl
-
-    none : (t f : Bool) → ((t && false) || (f && false)) ≡ false
-    none true f = both_false f
-    none false f = both_false f
-
-cut_signs : (a c x n s : Bool) → (c ≡ false → x ≡ a) → ((a && n) || (s && (((not a && c) && x) && n))) ≡ ((a || (s && x)) && n)
-cut_signs true c x true s h = refl
-cut_signs true c x false true h = refl
-cut_signs true c x false false h = refl
-cut_signs false true x n true h = refl
-cut_signs false true x n false h = refl
-cut_signs false false x n true h = ap (λ y. y && n) (sym (h refl))
-cut_signs false false x n false h = refl
 
 pub map_same : {A : Type 0} (f g : ℕ → A) (d : A) (n : ℕ) → ((i : ℕ) → i < n → f i ≡ g i) → map f (span 0 n) ≡ map g (span 0 n)
 map_same f g d n same =
@@ -86,22 +48,11 @@ module _ (o : List ℕ) (chosen : AreChosen o) (t : Terms) (block v : List ℤ) 
     reach = record { dc = dc; types = p.types; signs = p.signs; bits = p.fine }
 
     size : (q : ℕ) → IsAc q → magnitude block q + bit_of_plane b s q ≡ cut_size v b reach q
-    size q ac =
-        (λ i. (shows q ac).0 i + (if p.bits q ac i then 2 ^ b else 0)) ∙
-        (λ i. magnitude v q / 2 ^ (b + 1) * 2 ^ (b + 1) +
-        (if (nat_lt q p.types && (newly_significant-is v W b q ∙ ap (λ y. y && significant v b q) (type_due-is v W b q)) i) ||
-        (nat_lt q p.fine && (refined-is v W b q i && bit (magnitude v q) b)) then 2 ^ b else 0)) ∙
-        ap (λ (x : Bool). magnitude v q / 2 ^ (b + 1) * 2 ^ (b + 1) + (if x then 2 ^ b else 0))
-        (cut_bits (significant v (b + 1) q) (coded W b q) (significant v b q) (bit (magnitude v q) b) (nat_lt q p.types) (nat_lt q p.fine)
-        (no_bit v W b whole q) (new_bit v W b whole q))
+    size q ac = grind (arith, nat_tests, newly_significant-is, type_due-is, refined-is, no_bit, new_bit)
 
     sign : (q : ℕ) → IsAc q → (negative (get_or block q (pos 0)) || s.minus q) ≡
         ((significant v (b + 1) q || (nat_lt q p.signs && significant v b q)) && negative (get_or v q (pos 0)))
-    sign q ac =
-        (λ i. (shows q ac).1 i || p.minus q ac i) ∙
-        (λ i. (significant v (b + 1) q && negative (get_or v q (pos 0))) ||
-        (nat_lt q p.signs && ((newly_significant-is v W b q ∙ ap (λ y. y && significant v b q) (type_due-is v W b q)) i && negative (get_or v q (pos 0))))) ∙
-        cut_signs (significant v (b + 1) q) (coded W b q) (significant v b q) (negative (get_or v q (pos 0))) (nat_lt q p.signs) (not_coded v W b q whole)
+    sign q ac = grind (arith, nat_tests, newly_significant-is, type_due-is, not_coded)
 
     pub block_cut : get_or (block_with b block s) 0 (pos 0) ≡ cut_dc W t.q v b reach → block_with b block s ≡ cut_block W t.q v b reach
     block_cut dc_is =
@@ -121,12 +72,7 @@ module _ (o : List ℕ) (chosen : AreChosen o) (t : Terms) (block v : List ℤ) 
   -- the DC without its bit, and with it
   dc_out : (s : State) → s.bits 0 ≡ false → get_or (block_with b block s) 0 (pos 0) ≡
       int_shr (get_or v 0 (pos 0)) (low_bits W t.q (b + 1)) *ℤ pos (2 ^ low_bits W t.q (b + 1))
-  dc_out s e =
-      get_or-map-span (number_with b block s) 64 0 (pos 0) (omega arith) ∙
-      ap (λ (x : Bool). get_or block 0 (pos 0) +ℤ pos (if x then 2 ^ b else 0)) e ∙ no_more (get_or block 0 (pos 0)) ∙ shows_dc
-    where
-      no_more : (z : ℤ) → z +ℤ pos 0 ≡ z
-      no_more z = grind (arith, nat_tests)
+  dc_out s e = grind (arith, nat_tests, get_or-map-span)
 
   -- whether the DC's bit was read before a stage
   abbrev pub past_dc : ℕ → Bool

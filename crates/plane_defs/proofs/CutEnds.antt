@@ -1,5 +1,6 @@
 -- The end of planes with a stop is their values, cut there.
-use Rattle.std.proofs.Common.{◌≡◌, ◌⊎◌, ℕ, zero, suc, ◌+◌, ◌<◌, ◌==◌, ◌||◌, nat_lt, Bool, true, false, if◌then◌else◌, List, [], length, map, refl, ap, sym, ◌∙◌, subst, arith, ℤ, pos, inl, inr}
+use Rattle.std.proofs.Common.{◌≡◌, ◌⊎◌, ℕ, zero, suc, ◌+◌, ◌<◌, ◌==◌, ◌||◌, Bool, false, if◌then◌else◌, List, [], length, refl, ap, sym}
+use Rattle.std.proofs.Common.{◌∙◌, subst, arith, ℤ, pos, inl, inr}
 use Rattle.std.specs.Prelude.{◌-ℤ◌, ◌+ℤ◌}
 use Rattle.std.specs.Int.RustNames.{unsigned_abs}
 use Rattle.std.proofs.lemmas.Bool.{cases_lt}
@@ -8,7 +9,6 @@ use Rattle.std.proofs.lemmas.List.{ext_get_or}
 use lib.ListN.{get_or}
 use Rattle.item_defs.specs.Items.{Item}
 use Rattle.base_122.specs.declared.book.Book.{Book}
-use Rattle.plane_defs.specs.Spans.{span}
 use Rattle.plane_defs.specs.Entries.{negative}
 use Rattle.plane_defs.proofs.SpanLists.{length-map-span, get_or-map-span}
 use Rattle.item_defs.specs.Scripts.{Script, then_ask, around}
@@ -16,7 +16,7 @@ use Rattle.item_defs.specs.Following.{Follows}
 use Rattle.item_defs.proofs.FollowLaws.{follows_around}
 use Rattle.item_defs.proofs.ScriptGives.{follows_rest}
 use Rattle.plane_defs.specs.Written.{AreChosen, planes_reading, Shows, low_bits, ShowsDc, AreSendable, Stops}
-use Rattle.plane_defs.specs.Cuts.{after_stages, cut_block, reach_of, after_all, cut_blocks, AreCut}
+use Rattle.plane_defs.specs.Cuts.{after_stages, cut_block, after_all, cut_blocks, AreCut}
 use Rattle.plane_defs.specs.StageScripts.{Terms}
 use Rattle.plane_defs.specs.PlaneScript.{PlaneState, nothing_yet, plane_script, number_with, block_with, blocks_with, planes_script}
 use Rattle.plane_defs.proofs.PlaneSent as sent
@@ -33,17 +33,10 @@ block_kept b block long s r e =
     (λ p lt. let size = length-map-span (number_with b block (nothing_yet.blocks r)) 64 in
     get_or-map-span (number_with b block (nothing_yet.blocks r)) 64 p (pos 0) (omega (arith, lt, size)) ∙ by p (p == 0) refl)
   where
-    no_more : (z : ℤ) → z +ℤ pos 0 ≡ z
-    no_more z = grind (arith, nat_tests)
-
-    again : (z : ℤ) → (if negative z || false then pos 0 -ℤ pos (unsigned_abs z + 0) else pos (unsigned_abs z + 0)) ≡ z
-    again z = grind (arith, nat_tests)
-
     by : (p : ℕ) (x : Bool) → (p == 0) ≡ x → (if x then get_or block 0 (pos 0) +ℤ pos 0 else
         if negative (get_or block p (pos 0)) || false then pos 0 -ℤ pos (unsigned_abs (get_or block p (pos 0)) + 0) else
         pos (unsigned_abs (get_or block p (pos 0)) + 0)) ≡ get_or block p (pos 0)
-    by p true e = let f : 0 ≡ p = grind (arith, nat_tests) in no_more (get_or block 0 (pos 0)) ∙ ap (λ i. get_or block i (pos 0)) f
-    by p false e = again (get_or block p (pos 0))
+    by p x h1 = grind (arith, nat_tests)
 
 module _ (book : Book) (options : ℕ → ℕ → List ℕ) (chosen : (b g : ℕ) → AreChosen (options b g)) (values : List (List ℤ)) (depths weights : List ℕ)
     (sendable : AreSendable values depths weights) (q : ℕ) (stages : ℕ → ℕ) (stops : Stops stages) where
@@ -112,20 +105,7 @@ module _ (book : Book) (options : ℕ → ℕ → List ℕ) (chosen : (b g : ℕ
           ((r : ℕ) → r < length values →
           block_with b (get_or blocks r []) (u.blocks r) ≡ cut_block weights q (get_or values r []) b (after_stages (stages b))) →
           blocks_with b blocks u ≡ cut_blocks weights q values b (after_all (stages b))
-      cut_here u each =
-          ap (λ n. map (λ r. block_with b (get_or blocks r []) (u.blocks r)) (span 0 n)) long ∙
-          map_same (λ r. block_with b (get_or blocks r []) (u.blocks r)) _ [] (length values)
-          (λ r lt. each r lt ∙ ap (cut_block weights q (get_or values r []) b) (sym (reach r)))
-        where
-          either : {A : Type 0} (x : Bool) (a : A) → (if x then a else a) ≡ a
-          either true a = refl
-          either false a = refl
-
-          reach : (r : ℕ) → reach_of (after_all (stages b)) r ≡ after_stages (stages b)
-          reach r =
-              let e : nat_lt r 0 ≡ false = grind (arith, nat_tests) in
-              ap (λ (x : Bool). if x then after_stages (stages b + 1) else if r == 0 then after_stages (stages b) else after_stages (stages b)) e ∙
-              either (r == 0) (after_stages (stages b))
+      cut_here u each = grind (arith, nat_tests, map_same)
 
   -- the planes with a stop end with the values, cut there
   pub planes_stop : (stop : ℕ) → ((b : ℕ) → stop < b → stages b ≡ 5) → ((b : ℕ) → b < stop → stages b ≡ 0) → (below : ℕ) → stop < below →

@@ -1,5 +1,6 @@
 -- Numbers that are cut are multiples of their weights, and no greater.
-use Rattle.std.proofs.Common.{◌≡◌, ◌⊎◌, ℕ, suc, ◌+◌, ◌-◌, ◌*◌, ◌/◌, ◌^◌, ◌≤◌, ◌<◌, ◌==◌, ◌&&◌, ◌||◌, nat_lt, Bool, true, false, if◌then◌else◌, List, refl, ap, sym, ◌∙◌, subst, arith, ℤ, pos, negsuc, ◌*ℤ◌, inl, inr, pow_pos}
+use Rattle.std.proofs.Common.{◌≡◌, ◌⊎◌, ℕ, suc, ◌+◌, ◌-◌, ◌*◌, ◌/◌, ◌^◌, ◌≤◌, ◌<◌, ◌==◌, ◌&&◌, ◌||◌, nat_lt, Bool, true, false, if◌then◌else◌, List, refl}
+use Rattle.std.proofs.Common.{ap, sym, ◌∙◌, subst, arith, ℤ, pos, negsuc, ◌*ℤ◌, inl, inr, pow_pos}
 use Rattle.std.specs.Int.{int_shr}
 use Rattle.std.specs.Int.RustNames.{unsigned_abs}
 use Rattle.std.proofs.Math.Nat.{div-mul-le_self, lt-div-mul-add, mul-le-mul_right}
@@ -49,12 +50,10 @@ module _ (M b s part : ℕ) (whole : M ≡ 2 ^ s * part) (y : Bool) where
       grouped m u w = grind arith
 
       no_bit : (x : Bool) → (x && false) ≡ false
-      no_bit true = refl
-      no_bit false = refl
+      no_bit x = grind (arith, nat_tests)
 
       has : (x z : Bool) → (x && z) ≡ true → z ≡ true
-      has true z e = e
-      has false z e = cc
+      has x z h1 = grind (arith, nat_tests)
 
       clash : (z : Bool) → z ≡ true → z ≡ false → ⊥
       clash true e f = cc
@@ -65,12 +64,7 @@ module _ (M b s part : ℕ) (whole : M ≡ 2 ^ s * part) (y : Bool) where
       inside (inr le) g = le
 
   part_small : A + weight b (y && bit M b) ≤ M
-  part_small = let e = one_bit_more M b in let f = div-mul-le_self M (2 ^ b) in omega (arith, e, f, less y (bit M b))
-    where
-      less : (y z : Bool) → weight b (y && z) ≤ weight b z
-      less true z = omega arith
-      less false true = omega arith
-      less false false = omega arith
+  part_small = grind (arith, nat_tests, one_bit_more, div-mul-le_self, weight)
 
 pub number_times : (v : List ℤ) (plane : ℕ) (reach : Reach) (p s part : ℕ) → magnitude v p ≡ 2 ^ s * part →
     IsTimes s (magnitude v p) (cut_number v plane reach p)
@@ -105,10 +99,7 @@ dc_times z low s most le few is = record {
     room = let f : most ≡ (most - low) + low = omega (arith, few) in ap (λ n. 2 ^ n) f ∙ pow-add 2 (most - low) low
 
     below : (a : ℕ) → a / 2 ^ most ≡ 0 → a / 2 ^ low < 2 ^ (most - low)
-    below a e =
-        let f : a < 0 * 2 ^ most + 2 ^ most = subst (λ n. a < n * 2 ^ most + 2 ^ most) e (lt-div-mul-add (pow_pos most)) in
-        let lt : a < 2 ^ most = omega (arith, f) in
-        shr_below a (most - low) low (subst (λ n. a < 2 ^ n) (let f : most ≡ (most - low) + low = omega (arith, few) in f) lt)
+    below a e = grind (arith, nat_tests, lt-div-mul-add, pow_pos, shr_below)
 
     by : (z : ℤ) → (int_shr z most ≡ pos 0) ⊎ (int_shr z most ≡ negsuc 0) → unsigned_abs (int_shr z low) * 2 ^ low ≤ 2 ^ most
     by (pos a) (inl e) =

@@ -1,5 +1,6 @@
 -- What is given within the planes is their values, cut there.
-use Rattle.std.proofs.Common.{◌≡◌, ◌⊎◌, ℕ, zero, suc, ◌+◌, ◌-◌, ◌*◌, ◌/◌, ◌≤◌, ◌<◌, ◌==◌, min, nat_lt, Bool, true, false, if◌then◌else◌, List, [], ◌++◌, length, map, refl, ap, sym, ◌∙◌, subst, arith, append_assoc, ℤ, inl, inr}
+use Rattle.std.proofs.Common.{◌≡◌, ◌⊎◌, ℕ, zero, suc, ◌+◌, ◌-◌, ◌*◌, ◌/◌, ◌≤◌, ◌<◌, ◌==◌, min, nat_lt, Bool, true, false, if◌then◌else◌, List, [], ◌++◌}
+use Rattle.std.proofs.Common.{length, refl, ap, sym, ◌∙◌, subst, arith, append_assoc, ℤ, inl, inr}
 use Rattle.std.specs.List.{flat_map}
 use Rattle.std.proofs.lemmas.Bool.Decides.{nat_tests}
 use lib.ListN.{get_or}
@@ -325,10 +326,7 @@ module _ (book : Book) (options : ℕ → ℕ → List ℕ) (chosen : (b g : ℕ
       all : (u : PlaneState) (spot : Spot) →
           ((r : ℕ) → r < length depths → block_with b (get_or blocks r []) (u.blocks r) ≡ cut_block weights q (get_or values r []) b (reach_of spot r)) →
           blocks_with b blocks u ≡ cut_blocks weights q values b spot
-      all u spot each =
-          ap (λ n. map (λ r. block_with b (get_or blocks r []) (u.blocks r)) (span 0 n)) long ∙
-          map_same (λ r. block_with b (get_or blocks r []) (u.blocks r)) (λ r. cut_block weights q (get_or values r []) b (reach_of spot r)) [] (length values)
-          (λ r lt. each r (let f = sendable.long in omega (arith, f, lt)))
+      all u spot each = grind (arith, nat_tests, map_same)
 
       by : (now : List (List ℤ)) → length now ≡ length values →
           (stages b ≡ 5 → GivesAfter (planes_script book weights q depths stages b now) (planes_reading book options values depths weights q stages b)

@@ -1,5 +1,6 @@
 -- A set whose flag is not due is significant at a plane exactly if it is at the plane above.
-use Rattle.std.proofs.Common.{◌≡◌, ℕ, zero, suc, ◌+◌, ◌*◌, ◌<◌, ◌≤◌, ◌^◌, ◌⊎◌, inl, inr, Bool, true, false, not, ◌&&◌, List, [], ◌∷◌, refl, ap, sym, ◌∙◌, subst, arith, ℤ, add-one, nat_le, ◌||◌, mul-suc, pow_pos, pow_mono}
+use Rattle.std.proofs.Common.{◌≡◌, ℕ, zero, suc, ◌+◌, ◌*◌, ◌<◌, ◌≤◌, ◌^◌, ◌⊎◌, inl, inr, Bool, true, false, not, ◌&&◌, List, [], ◌∷◌, refl, ap, sym, ◌∙◌}
+use Rattle.std.proofs.Common.{subst, arith, ℤ, add-one, nat_le, ◌||◌, mul-suc, pow_pos, pow_mono}
 use Rattle.std.specs.List.{list_any}
 use Rattle.std.proofs.lemmas.List.Folds.{list_any-append}
 use Rattle.std.proofs.lemmas.Bool.{or_left, or_right, or_cases, or_parts}
@@ -79,7 +80,8 @@ below_shift m plane shift (suc k) whole low =
     at_least : (n k m : ℕ) → m ≡ n * suc k → n ≤ m
     at_least n k m e = omega (arith, mul-suc n k)
 
-pub not_coded : (block : List ℤ) (weights : List ℕ) (plane p : ℕ) → IsMultiple block weights → coded weights plane p ≡ false → significant block plane p ≡ significant block (plane + 1) p
+pub not_coded : (block : List ℤ) (weights : List ℕ) (plane p : ℕ) → IsMultiple block weights → coded weights plane p ≡ false →
+    significant block plane p ≡ significant block (plane + 1) p
 unfolding significant coded
 not_coded block weights plane p whole low = grind (arith, nat_tests, below_shift)
 

@@ -12,11 +12,13 @@ use Rattle.plane_defs.specs.declared.entries.Entry.{Entry}
 use Rattle.plane_defs.specs.declared.entries.Entry.TheVariants.{Bit, Word}
 use Rattle.plane_defs.specs.declared.entries.Bits.{Bits}
 use Rattle.plane_defs.specs.Spans.{span}
-use Rattle.plane_defs.specs.Sets.{magnitude, shift, members, significant, coded, set_significant, live, enclosing_significant, type_due, flag_due, newly_significant, refined, children_of}
+use Rattle.plane_defs.specs.Sets.{magnitude, shift, members, significant, coded, set_significant, live, enclosing_significant, type_due, flag_due}
+use Rattle.plane_defs.specs.Sets.{newly_significant, refined, children_of}
 use Rattle.plane_defs.specs.Codes.{is_prefix, code_bits, entry, is_table_sound, precedes, symbol, word_item}
 use Rattle.plane_defs.specs.Spelled.{option_of, opening, entry_items}
 use Rattle.plane_defs.specs.Entries.{dc_bits, parents, children, grandchildren, refinement, block_entries}
-use Rattle.plane_defs.specs.Steps.{Check, refuses, is_new, is_forced, dc_steps, parents_steps, children_steps, grandchildren_steps, refinement_steps, block_steps}
+use Rattle.plane_defs.specs.Steps.{Check, refuses, is_new, is_forced, dc_steps, parents_steps, children_steps, grandchildren_steps, refinement_steps}
+use Rattle.plane_defs.specs.Steps.{block_steps}
 use Rattle.plane_defs.specs.Reading.{checked, checked_word, entry_reading}
 use Rattle.std.specs.Prelude.{if◌then◌else◌, ◌==◌}
 
@@ -61,7 +63,8 @@ module _ (block : List ℤ) (plane : ℕ) where
   unfolding is_new
   is_new-is s = refl
 
-  pub is_forced-grandchildren : (i : ℕ) → is_forced block plane (Grandchildren i) ≡ (is_new block plane (Family i) && not (list_any (significant block plane) (span (children_of i) 4)))
+  pub is_forced-grandchildren : (i : ℕ) → is_forced block plane (Grandchildren i)
+      ≡ (is_new block plane (Family i) && not (list_any (significant block plane) (span (children_of i) 4)))
   unfolding is_forced
   is_forced-grandchildren i = refl
 
@@ -75,7 +78,8 @@ module _ (block : List ℤ) (weights : List ℕ) (plane : ℕ) where
   unfolding type_due
   type_due-is p = refl
 
-  pub flag_due-is : (s : Set) → flag_due block weights plane s ≡ (not (set_significant block (plane + 1) s) && live weights plane s && enclosing_significant block plane s)
+  pub flag_due-is : (s : Set) → flag_due block weights plane s
+      ≡ (not (set_significant block (plane + 1) s) && live weights plane s && enclosing_significant block plane s)
   unfolding flag_due
   flag_due-is s = refl
 
@@ -133,7 +137,8 @@ module _ (block : List ℤ) (d : ℕ) (weights : List ℕ) (plane q : ℕ) where
 -- ---- words and items
 
 pub is_table_sound-is : (table : List Code) (count : ℕ) → is_table_sound table count ≡
-    (list_all (λ s. nat_le 1 (entry table s).len && nat_le (entry table s).len 8) (span 0 count) && list_all (λ v. count_by (λ s. is_prefix (code_bits (entry table s)) (bits_of 8 v)) (span 0 count) == 1) (span 0 256))
+    (list_all (λ s. nat_le 1 (entry table s).len && nat_le (entry table s).len 8) (span 0 count) && list_all
+    (λ v. count_by (λ s. is_prefix (code_bits (entry table s)) (bits_of 8 v)) (span 0 count) == 1) (span 0 256))
 unfolding is_table_sound
 is_table_sound-is table count = refl
 
@@ -143,13 +148,11 @@ module _ (book : Book) (options : List ℕ) (before : List Entry) (check : Check
   bit_reading b = refl
 
   pub word_reading : (bits : Bits) →
-      entry_reading book options before check (Word bits) ≡ cond (eqb bits.count 0) [] (cond (eqb bits.count 1) (checked (refuses check) (raw bits.value) ∷ []) (opening options before bits.count ++ checked_word book bits.count (option_of options bits.count) bits.value check ∷ []))
+      entry_reading book options before check (Word bits) ≡ cond (eqb bits.count 0) []
+      (cond (eqb bits.count 1) (checked (refuses check) (raw bits.value) ∷ []) (opening options before bits.count ++ checked_word book bits.count
+      (option_of options bits.count) bits.value check ∷ []))
   unfolding entry_reading
   word_reading bits = refl
-
-pub symbol-is : (length w : ℕ) → symbol length w ≡ count_by (precedes w) (span 0 (2 ^ length))
-unfolding symbol
-symbol-is length w = refl
 
 pub live-is : (weights : List ℕ) (plane : ℕ) (s : Set) → live weights plane s ≡ list_any (coded weights plane) (members s)
 unfolding live
@@ -160,6 +163,7 @@ unfolding entry_items
 entry_items-bit book options before bit = refl
 
 pub entry_items-word : (book : Book) (options : List ℕ) (before : List Entry) (bits : Bits) → entry_items book options before (Word bits) ≡
-    (if bits.count == 0 then [] else if bits.count == 1 then raw bits.value ∷ [] else opening options before bits.count ++ word_item book bits.count (option_of options bits.count) bits.value ∷ [])
+    (if bits.count == 0 then [] else if bits.count == 1 then raw bits.value ∷ [] else opening options before bits.count ++ word_item book bits.count
+    (option_of options bits.count) bits.value ∷ [])
 unfolding entry_items
 entry_items-word book options before bits = refl

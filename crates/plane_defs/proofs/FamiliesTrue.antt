@@ -1,5 +1,6 @@
 -- The checks of a plane make the flags of families true: a family that was read is significant in the values, and no other is.
-use Rattle.std.proofs.Common.{◌≡◌, ◌⊎◌, ℕ, ◌+◌, ◌-◌, ◌*◌, ◌≤◌, ◌<◌, ◌&&◌, ◌||◌, not, nat_lt, nat_le, Bool, true, false, List, refl, ap, sym, ◌∙◌, arith, ℤ, inl, inr}
+use Rattle.std.proofs.Common.{◌≡◌, ◌⊎◌, ℕ, ◌+◌, ◌-◌, ◌*◌, ◌≤◌, ◌<◌, ◌&&◌, ◌||◌, not, nat_lt, nat_le, Bool, true, false, List, refl, ap, sym, ◌∙◌, arith, ℤ}
+use Rattle.std.proofs.Common.{inl, inr}
 use Rattle.std.specs.List.{list_any}
 use Rattle.std.proofs.lemmas.Bool.Decides.{nat_tests}
 use Rattle.std.proofs.lemmas.List.Folds.{list_any-append}
@@ -10,7 +11,7 @@ use Rattle.plane_defs.specs.Sets.{magnitude, significant, coded, live, set_signi
 use Rattle.plane_defs.specs.Codes.{is_book_sound}
 use Rattle.plane_defs.specs.StepLaws.{IsAc, SameAc}
 use Rattle.plane_defs.specs.Laws.{IsMultiple}
-use Rattle.plane_defs.proofs.Equations.{set_significant-is, newly_significant-is, type_due-is, refined-is, enclosing-grandchildren}
+use Rattle.plane_defs.proofs.Equations.{set_significant-is, newly_significant-is, refined-is, enclosing-grandchildren}
 use Rattle.plane_defs.proofs.Determined.{enclosed, still_significant, list_any-span-here}
 use Rattle.std.proofs.lemmas.Bool.{or_parts}
 use Rattle.std.proofs.lemmas.Bool.{or_right}
@@ -22,11 +23,11 @@ use Rattle.plane_defs.specs.States.{State}
 use Rattle.plane_defs.specs.StageScripts.{Terms, above, is_childless}
 use Rattle.plane_defs.proofs.StageGoes.{some_place}
 use Rattle.plane_defs.proofs.PlacesSent as places
-use Rattle.plane_defs.proofs.PlacesSent.{has_span}
-use Rattle.plane_defs.proofs.GroupsBack.{group}
+use Rattle.plane_defs.proofs.PlacesSent.{has_span, in_span}
 use Rattle.plane_defs.proofs.QuadsBack as quads
-use Rattle.plane_defs.proofs.QuadsBack.{same_truth, in_span}
-use Rattle.plane_defs.proofs.StageAnswers as answers
+use Rattle.plane_defs.proofs.QuadsBack.{same_truth}
+use Rattle.plane_defs.proofs.StageAnswers.{sixteen, Facts, ChildrenMay, GrandMay, untouched}
+use Rattle.plane_defs.proofs.TypesAnswers.{group}
 
 module _ (o : List ℕ) (chosen : AreChosen o) (t : Terms) (is_sound : is_book_sound t.book ≡ true) (block v : List ℤ) (same : SameAc block v (t.plane + 1))
     (whole : IsMultiple v t.weights) where
@@ -42,35 +43,15 @@ module _ (o : List ℕ) (chosen : AreChosen o) (t : Terms) (is_sound : is_book_s
   abbrev due : ℕ → Bool
   due = type_due block W b
 
-  abbrev sixteen : ℕ → List ℕ
-  sixteen i = span (16 + 16 * i) 16
-
-  abbrev Keeps : ℕ → State → State → Type 0
-  Keeps = answers.Keeps o chosen t is_sound block v same whole
-
-  abbrev ChildrenMay : State → State → Type 0
-  ChildrenMay = answers.ChildrenMay o chosen t is_sound block v same whole
-
-  abbrev GrandMay : State → State → Type 0
-  GrandMay = answers.GrandMay o chosen t is_sound block v same whole
-
-  old_not_due : (q : ℕ) → due q ≡ true → refined block W b q ≡ true → ⊥
-  old_not_due q e f = by (significant block (b + 1) q) (coded W b q) (sym (type_due-is block W b q) ∙ e) (sym (refined-is block W b q) ∙ f)
-    where
-      by : (a c : Bool) → (not a && c) ≡ true → (a && c) ≡ true → ⊥
-      by true c e f = cc
-      by false c e f = cc
-
   new_due : (q : ℕ) → IsAc q → newly q ≡ true → due q ≡ true
   new_due q ac e = places.type_is o chosen t block v same whole q ac ∙ (first (type_due v W b q) (significant v b q) (sym (newly_significant-is v W b q) ∙ e))
     where
       first : (x y : Bool) → (x && y) ≡ true → x ≡ true
-      first true y e = refl
-      first false y e = e
+      first x y h1 = grind (arith, nat_tests)
 
   -- from the state before the stage of the children to the end of the plane, by the states between
-  module _ (before children grand end : State) (first : Keeps 2 before children) (second : Keeps 3 children grand) (third : Keeps 4 grand end)
-      (of_children : ChildrenMay before children) (of_grand : GrandMay children grand)
+  module _ (depth : ℕ) (before children grand end : State) (first : Facts t block 2 depth before children) (second : Facts t block 3 depth children grand)
+      (third : Facts t block 4 depth grand end) (of_children : ChildrenMay t block before children) (of_grand : GrandMay t block children grand)
       (fresh : (q : ℕ) → IsAc q → 4 ≤ q → before.bits q ≡ false)
       (agrees : (q : ℕ) → IsAc q → end.bits q ≡ (newly q || (refined v W b q && bit (magnitude v q) b))) where
     abbrev sets : ℕ → Bool
@@ -84,8 +65,7 @@ module _ (o : List ℕ) (chosen : AreChosen o) (t : Terms) (is_sound : is_book_s
     bit_significant q ac e = by (newly q) (refined v W b q) refl refl (sym (agrees q ac) ∙ e)
       where
         first_of : (x y : Bool) → (x && y) ≡ true → x ≡ true
-        first_of true y e = refl
-        first_of false y e = e
+        first_of x y h1 = grind (arith, nat_tests)
 
         by : (x y : Bool) → newly q ≡ x → refined v W b q ≡ y → (x || (y && bit (magnitude v q) b)) ≡ true → significant v b q ≡ true
         by true y e f h = quads.sig_of_new o chosen t is_sound block v same whole q e
@@ -132,7 +112,7 @@ module _ (o : List ℕ) (chosen : AreChosen o) (t : Terms) (is_sound : is_book_s
         by false old (inl w) = above_family i lt w
         by false old (inr (inl w)) =
             let k = place_of_child i w.0 lt w.1 in
-            member i w.0 lt (bit_significant w.0 (omega (arith, k.0), omega (arith, k.1)) (third.more w.0 (second.more w.0 w.2))) (inl w.1)
+            member i w.0 lt (bit_significant w.0 (omega (arith, k.0), omega (arith, k.1)) (third.changes.more w.0 (second.changes.more w.0 w.2))) (inl w.1)
         by false old (inr (inr is_live)) = of_test (list_any (λ p. significant block (b + 1) p || children.bits p) (span (children_of i) 4)) refl
           where
             of_test : (x : Bool) → list_any (λ p. significant block (b + 1) p || children.bits p) (span (children_of i) 4) ≡ x → sets i ≡ true
@@ -144,7 +124,7 @@ module _ (o : List ℕ) (chosen : AreChosen o) (t : Terms) (is_sound : is_book_s
                 let ac : IsAc q = (omega (arith, k.0), omega (arith, k.1)) in
                 elim (either (significant block (b + 1) q) (children.bits q) w.2) [
                   | inl a ↦ member i q lt (still_significant v b q (sym (same q ac) ∙ a)) (inl inside)
-                  | inr a ↦ member i q lt (bit_significant q ac (third.more q (second.more q a))) (inl inside)
+                  | inr a ↦ member i q lt (bit_significant q ac (third.changes.more q (second.changes.more q a))) (inl inside)
                 ]
               where
                 tests : (q : ℕ) → 4 + 4 * i ≤ q → q < 4 + 4 * i + 4 → (nat_le (4 + 4 * i) q && nat_lt q (4 + 4 * i + 4)) ≡ true
@@ -156,7 +136,7 @@ module _ (o : List ℕ) (chosen : AreChosen o) (t : Terms) (is_sound : is_book_s
                 (children_of i) 4))) old ∙ ap not f in
                 let w = of_grand.forced i lt childless (above_grand i lt old) is_live in
                 let k = place_of_grand i w.0 lt w.1 in
-                member i w.0 lt (bit_significant w.0 (omega (arith, k.0), k.1) (third.more w.0 w.2)) (inr w.1)
+                member i w.0 lt (bit_significant w.0 (omega (arith, k.0), k.1) (third.changes.more w.0 w.2)) (inr w.1)
 
     -- a family that was not read is not
     true_read : (i : ℕ) → i < 3 → sets i ≡ true → end.families i ≡ true
@@ -167,8 +147,9 @@ module _ (o : List ℕ) (chosen : AreChosen o) (t : Terms) (is_sound : is_book_s
             let k = place_of_child i q lt inside in
             let ac : IsAc q = (omega (arith, k.0), omega (arith, k.1)) in
             let is_due = new_due q ac new in
-            let stays : end.bits q ≡ children.bits q = third.bits q ac (λ low high d. absurd (omega (arith, low, k.1))) (λ four old. old_not_due q is_due old) ∙
-            second.bits q ac (λ low high d. absurd (omega (arith, low, k.1))) (λ three old. old_not_due q is_due old) in
+            let stays : end.bits q ≡ children.bits q = third.changes.bits q
+            (untouched t block depth 4 q is_due ac.0 (λ low high. absurd (omega (arith, low, k.1)))) ∙
+            second.changes.bits q (untouched t block depth 3 q is_due ac.0 (λ low high. absurd (omega (arith, low, k.1)))) in
             no_clash (end.bits q) (agrees q ac ∙ ap (λ x. x || (refined v W b q && bit (magnitude v q) b)) new) (stays ∙
             of_children.none i lt none q inside ∙ fresh q ac k.0)
 
@@ -177,9 +158,10 @@ module _ (o : List ℕ) (chosen : AreChosen o) (t : Terms) (is_sound : is_book_s
             let k = place_of_grand i q lt inside in
             let ac : IsAc q = (omega (arith, k.0), k.1) in
             let is_due = new_due q ac new in
-            let stays : end.bits q ≡ grand.bits q = third.bits q ac (λ low high d. absurd (omega (arith, low, k.1))) (λ four old. old_not_due q is_due old) in
-            let earlier : children.bits q ≡ before.bits q = first.bits q ac (λ low high d. absurd (omega (arith, high, k.0)))
-            (λ two old. old_not_due q is_due old) in
+            let stays : end.bits q ≡ grand.bits q = third.changes.bits q
+            (untouched t block depth 4 q is_due ac.0 (λ low high. absurd (omega (arith, low, k.1)))) in
+            let earlier : children.bits q ≡ before.bits q = first.changes.bits q (untouched t block depth 2 q is_due ac.0 (λ low high. absurd (omega
+            (arith, high, k.0)))) in
             no_clash (end.bits q) (agrees q ac ∙ ap (λ x. x || (refined v W b q && bit (magnitude v q) b)) new)
             (stays ∙ of_grand.none i lt none old q inside ∙ earlier ∙ fresh q ac (omega (arith, k.0)))
 

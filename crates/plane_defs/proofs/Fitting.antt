@@ -11,7 +11,8 @@ use Rattle.plane_defs.specs.declared.entries.Entry.{Entry}
 use Rattle.plane_defs.specs.declared.entries.Entry.TheVariants.{Bit}
 use Rattle.plane_defs.specs.Spans.{span}
 use Rattle.plane_defs.specs.Sets.{magnitude, significant, set_significant, type_due, flag_due, newly_significant, refined, coded, children_of, quad_of}
-use Rattle.plane_defs.specs.Entries.{IsEntry, word, types, flags, typed, negative, twos_bit, parents, children, quads, grandchildren, refinement, significant_families, block_entries}
+use Rattle.plane_defs.specs.Entries.{IsEntry, word, types, flags, typed, negative, twos_bit, parents, children, quads, grandchildren, refinement}
+use Rattle.plane_defs.specs.Entries.{significant_families, block_entries}
 use Rattle.plane_defs.proofs.SpanLists.{length-chosen, length-map-filter}
 
 abbrev pub Fit : List Entry → Type 0
@@ -40,19 +41,22 @@ module _ (block : List ℤ) (weights : List ℕ) (plane : ℕ) where
   )
 
   fit_flags : (sets : List Set) → length sets ≤ 4 → IsEntry (word (flags block weights plane sets))
-  fit_flags sets few = fit_word (flags block weights plane sets) (omega (arith, length-map-filter (set_significant block plane) (flag_due block weights plane) sets))
+  fit_flags sets few = fit_word (flags block weights plane sets)
+      (omega (arith, length-map-filter (set_significant block plane) (flag_due block weights plane) sets))
 
   fit_children : Fit (children block weights plane)
   fit_children =
       fit_both (map Bit (flags block weights plane (Descendants ∷ []))) _ (fit_bits (λ b. b) (flags block weights plane (Descendants ∷ []))) (
         fit_flags (Family 0 ∷ Family 1 ∷ Family 2 ∷ []) (omega arith),
-        fit_each (λ i. typed block weights plane (span (children_of i) 4)) (significant_families block plane Family) (λ i. fit_typed (children_of i) 4 (omega arith)),
+        fit_each (λ i. typed block weights plane (span (children_of i) 4)) (significant_families block plane Family)
+            (λ i. fit_typed (children_of i) 4 (omega arith)),
       )
 
   fit_quads : (i : ℕ) → Fit (quads block weights plane i)
   fit_quads i = (
     fit_flags (Quad i 0 ∷ Quad i 1 ∷ Quad i 2 ∷ Quad i 3 ∷ []) (omega arith),
-    fit_each (λ j. typed block weights plane (span (quad_of i j) 4)) (filter (λ j. set_significant block plane (Quad i j)) (span 0 4)) (λ j. fit_typed (quad_of i j) 4 (omega arith)),
+    fit_each (λ j. typed block weights plane (span (quad_of i j) 4)) (filter (λ j. set_significant block plane (Quad i j)) (span 0 4))
+        (λ j. fit_typed (quad_of i j) 4 (omega arith)),
   )
 
   fit_grandchildren : Fit (grandchildren block weights plane)

@@ -1,5 +1,6 @@
 -- The items of words of flags, and of groups of types, follow their scripts.
-use Rattle.std.proofs.Common.{◌≡◌, ℕ, zero, suc, ◌+◌, ◌*◌, ◌≤◌, ◌<◌, ◌==◌, ◌&&◌, ◌||◌, not, nat_lt, nat_le, Bool, true, false, if◌then◌else◌, List, [], ◌∷◌, ◌++◌, map, filter, refl, ap, sym, ◌∙◌, subst, arith, ℤ, pos, length, length-append, append-nil, inl, inr}
+use Rattle.std.proofs.Common.{◌≡◌, ℕ, suc, ◌+◌, ◌*◌, ◌≤◌, ◌<◌, ◌==◌, ◌&&◌, ◌||◌, not, nat_lt, nat_le, Bool, true, false, if◌then◌else◌, List, [], ◌∷◌}
+use Rattle.std.proofs.Common.{◌++◌, map, filter, refl, ap, sym, ◌∙◌, subst, arith, ℤ, pos, append-nil, inl, inr}
 use Rattle.std.specs.List.{flat_map, list_any}
 use Rattle.std.proofs.lemmas.Bool.Decides.{nat_tests}
 use lib.ListN.{get_or}
@@ -15,7 +16,7 @@ use Rattle.plane_defs.specs.Spans.{span}
 use Rattle.plane_defs.specs.Sets.{magnitude, significant, refined, live, set_significant, enclosing_significant, type_due, flag_due, newly_significant, IsKnown}
 use Rattle.plane_defs.specs.Entries.{negative, word, flags}
 use Rattle.plane_defs.specs.Reading.{entry_reading}
-use Rattle.plane_defs.specs.Steps.{Check, free, flags_alone, Step, step, is_new, some_one_where, typed_steps, flags_step}
+use Rattle.plane_defs.specs.Steps.{Check, free, Step, step, is_new, some_one_where, typed_steps, flags_step}
 use Rattle.plane_defs.specs.StepLaws.{SameAc}
 use Rattle.plane_defs.specs.Laws.{IsMultiple}
 use Rattle.plane_defs.proofs.Equations.{newly_significant-is, enclosing-descendants, bit_reading}
@@ -29,17 +30,12 @@ use Rattle.plane_defs.specs.Written.{has, Knows, AreChosen}
 use Rattle.plane_defs.specs.States.{State, with_options}
 use Rattle.plane_defs.specs.WordScripts.{due_script, types_script, group_script}
 use Rattle.plane_defs.specs.StageScripts.{Terms, above, is_due, descendants_script}
-use Rattle.plane_defs.proofs.WordGoes.{due_few, four_long}
+use Rattle.plane_defs.proofs.WordGoes.{due_few, four_long, span_short}
 use Rattle.plane_defs.proofs.WordsWritten.{knows_same}
 use Rattle.plane_defs.proofs.TypesWritten.{has_filter, WroteDue, due_written}
 use Rattle.plane_defs.proofs.Sending.{flat_map_filter, Sends, sends_none, sends_in_turn}
 use Rattle.plane_defs.proofs.PlacesSent as places
 use Rattle.plane_defs.proofs.PlacesSent.{At, has_span, map_filter_map}
-
-pub long : (n : ℕ) → length (span 0 n) ≤ n
-unfolding span
-long zero = omega arith
-long (suc n) = let e = length-append (span 0 n) ((0 + n) ∷ []) in let l = long n in omega (arith, e, l)
 
 module _ (o : List ℕ) (chosen : AreChosen o) (t : Terms) (block v : List ℤ) (same : SameAc block v (t.plane + 1)) (whole : IsMultiple v t.weights) where
   abbrev W : List ℕ
@@ -89,7 +85,7 @@ module _ (o : List ℕ) (chosen : AreChosen o) (t : Terms) (block v : List ℤ) 
             ap (λ x. set_significant v (b + 1) (S i) || x) (p.is i ∙ ap (λ x. x && sig i) (at i lt)) ∙
             places.flag_all o chosen t block v same whole (S i) (known i lt);
       })
-      (due_written t.book o chosen before check due sig ps (let f = due_few due ps in let g = long n in omega (arith, f, g, few)) s knows)))
+      (due_written t.book o chosen before check due sig ps (let f = due_few due ps in let g = span_short 0 n in omega (arith, f, g, few)) s knows)))
     where
       due : ℕ → Bool
       due i = is_due t block (S i) (enclosing i)
@@ -130,7 +126,7 @@ module _ (o : List ℕ) (chosen : AreChosen o) (t : Terms) (block v : List ℤ) 
     pub is : all ≡ set_significant v b Descendants
 
   pub flag_sent : (before : List Entry) (s : State) → Knows o before s.options →
-      Sends t.book o (descendants_script t block s) before (map (λ x. step free flags_alone (Bit x)) (flags v W b (Descendants ∷ []))) (λ now. Flag now s)
+      Sends t.book o (descendants_script t block s) before (map (λ x. step free (Bit x)) (flags v W b (Descendants ∷ []))) (λ now. Flag now s)
   flag_sent before s knows =
       by (not (above t block Descendants) && live W b Descendants) refl
     where
@@ -138,7 +134,7 @@ module _ (o : List ℕ) (chosen : AreChosen o) (t : Terms) (block v : List ℤ) 
       sig = set_significant v b Descendants
 
       steps : Bool → List Step
-      steps x = map (λ x. step free flags_alone (Bit x)) (map (set_significant v b) (if x then Descendants ∷ [] else []))
+      steps x = map (λ x. step free (Bit x)) (map (set_significant v b) (if x then Descendants ∷ [] else []))
 
       flag_if : Bool → Script State Bool
       flag_if x = if x then ask_bit s (λ b. done b) else done (above t block Descendants)
@@ -147,16 +143,14 @@ module _ (o : List ℕ) (chosen : AreChosen o) (t : Terms) (block v : List ℤ) 
       due = places.due_is o chosen t block v same whole Descendants true tt (sym (enclosing-descendants v b))
 
       back : (x : Bool) → (digit x == 1) ≡ x
-      back true = refl
-      back false = refl
+      back x = grind (arith, nat_tests)
 
       none : flag_due v W b Descendants ≡ false → above t block Descendants ≡ sig
       none e = places.above_is o chosen t block v same whole Descendants tt ∙ or_nothing (set_significant v (b + 1) Descendants) ∙
           ap (λ x. set_significant v (b + 1) Descendants || (x && sig)) (sym e) ∙ places.flag_all o chosen t block v same whole Descendants tt
         where
           or_nothing : (a : Bool) → a ≡ (a || false)
-          or_nothing true = refl
-          or_nothing false = refl
+          or_nothing a = grind (arith, nat_tests)
 
       by : (x : Bool) → (not (above t block Descendants) && live W b Descendants) ≡ x →
           Sends t.book o (descendants_script t block s) before (steps (flag_due v W b Descendants)) (λ now. Flag now s)

@@ -13,10 +13,7 @@ pub mod AlikeSteps
 pub mod Allowed
 pub mod StepItems
 pub mod PlaneSteps
-pub mod Completing
 pub mod Chosen
-pub mod Freedom
-pub mod Seen
 pub mod ProfileSound
 pub mod SymbolTables
 pub mod Cheapest
@@ -35,11 +32,12 @@ pub mod BlockSent
 pub mod PlaneSent
 pub mod NumberParts
 pub mod PlanesSent
+pub mod PlaneItems
 pub mod Answers
 pub mod WordAnswers
+pub mod TypesAnswers
 pub mod WordsBack
 pub mod TypesBack
-pub mod GroupsBack
 pub mod QuadsBack
 pub mod SetsBack
 pub mod ChildrenBack
@@ -47,7 +45,6 @@ pub mod StageBack
 pub mod StageAnswers
 pub mod FamiliesTrue
 pub mod PlaneAnswers
-pub mod StatesLeft
 pub mod NumbersLeft
 pub mod BlockLeft
 pub mod PlanesBack

@@ -1,12 +1,12 @@
 -- A number with one more bit.
-use Rattle.std.proofs.Common.{◌≡◌, ℕ, zero, suc, ◌+◌, ◌-◌, ◌*◌, ◌/◌, ◌%◌, ◌^◌, ◌<◌, ◌≤◌, ◌==◌, ◌&&◌, ◌||◌, not, nat_lt, nat_le, Bool, true, false, if◌then◌else◌, refl, ap, sym, ◌∙◌, arith, pos, pow-suc, pow_pos, inl, inr}
+use Rattle.std.proofs.Common.{◌≡◌, ℕ, zero, suc, ◌+◌, ◌-◌, ◌*◌, ◌/◌, ◌%◌, ◌^◌, ◌<◌, ◌≤◌, ◌==◌, ◌&&◌, ◌||◌, not, nat_lt, nat_le, Bool, true, false}
+use Rattle.std.proofs.Common.{if◌then◌else◌, ap, sym, ◌∙◌, arith, pos, pow-suc, pow_pos, inl, inr}
 use Rattle.std.specs.Prelude.{◌-ℤ◌}
 use Rattle.std.specs.Int.RustNames.{unsigned_abs}
 use Rattle.std.proofs.lemmas.Bool.{cases_lt}
 use Rattle.std.proofs.lemmas.Bool.Decides.{nat_tests}
 use Rattle.std.proofs.lemmas.Nat.{pow-add, div-mul-add}
 use Rattle.std.proofs.Math.Nat.{div-div-eq-div-mul, lt-div-mul-add, div-mul-le_self}
-use Rattle.std.proofs.Math.Bool.{or-false}
 use Rattle.plane_defs.specs.Entries.{negative}
 use Rattle.item_defs.specs.Bits.{bit}
 
@@ -81,36 +81,16 @@ reach_same k m some = by (m / k) (lt-div-mul-add some) (div-mul-le_self m k)
 
 -- ---- signs
 
-pub less : (m : ℕ) → unsigned_abs (pos 0 -ℤ pos m) ≡ m
-less m = grind (arith, nat_tests)
-
-pub less_negative : (m : ℕ) → negative (pos 0 -ℤ pos m) ≡ nat_lt 0 m
-less_negative m = grind (arith, nat_tests)
-
 pub signed_size : (s : Bool) (m : ℕ) → unsigned_abs (if s then pos 0 -ℤ pos m else pos m) ≡ m
-signed_size true m = less m
-signed_size false m = refl
+signed_size s m = grind (arith, nat_tests)
 
 pub signed_negative : (s : Bool) (m : ℕ) → negative (if s then pos 0 -ℤ pos m else pos m) ≡ (s && nat_lt 0 m)
-signed_negative true m = less_negative m
-signed_negative false m = refl
+signed_negative s m = grind (arith, nat_tests)
 
 -- ---- truth values: significant above, coded, significant here, the bit, negative
 
 pub bits_all : (a c x z : Bool) → (c ≡ false → z ≡ false) → (a ≡ false → x ≡ z) → (((not a && c) && x) || ((a && c) && z)) ≡ z
-bits_all true true x z h k = refl
-bits_all true false x z h k = sym (h refl)
-bits_all false true x z h k = or-false x ∙ k refl
-bits_all false false x z h k = sym (h refl)
+bits_all a c x z h1 h2 = grind (arith, nat_tests)
 
 pub signs_all : (a c x n : Bool) → (a ≡ true → x ≡ true) → (c ≡ false → x ≡ a) → (((a && n) || (((not a && c) && x) && n)) && x) ≡ (x && n)
-signs_all true c true true h k = refl
-signs_all true c true false h k = refl
-signs_all true c false n h k = let e = h refl in absurd (clash e)
-  where
-    clash : false ≡ true → ⊥
-    clash e = cc
-signs_all false true true true h k = refl
-signs_all false true true false h k = refl
-signs_all false true false n h k = refl
-signs_all false false x n h k = ap (λ y. y && n) (sym (k refl))
+signs_all a c x n h1 h2 = grind (arith, nat_tests)

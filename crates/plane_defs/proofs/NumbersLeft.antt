@@ -1,5 +1,6 @@
 -- A number before its bit of a plane and after it, and what it is of the number at the end.
-use Rattle.std.proofs.Common.{◌≡◌, ℕ, zero, suc, ◌+◌, ◌-◌, ◌*◌, ◌/◌, ◌^◌, ◌<◌, ◌≤◌, ◌==◌, Bool, true, false, if◌then◌else◌, refl, ap, sym, ◌∙◌, subst, arith, ℤ, pos, negsuc, ◌+ℤ◌, ◌*ℤ◌, neg_ℤ, pow_pos}
+use Rattle.std.proofs.Common.{◌≡◌, ℕ, zero, suc, ◌+◌, ◌-◌, ◌*◌, ◌/◌, ◌^◌, ◌<◌, ◌≤◌, ◌==◌, Bool, true, false, if◌then◌else◌, refl, ap, sym, ◌∙◌, subst}
+use Rattle.std.proofs.Common.{arith, ℤ, pos, negsuc, ◌+ℤ◌, ◌*ℤ◌, neg_ℤ, pow_pos}
 use Rattle.std.specs.Int.{int_shr}
 use Rattle.std.specs.Int.RustNames.{unsigned_abs}
 use Rattle.std.proofs.lemmas.Bool.Decides.{nat_tests}
@@ -33,8 +34,7 @@ module _ (m b : ℕ) (x : Bool) (is : IsPart (b + 1) m) where
   with_bit = ap (λ y. y + weight b x) (is ∙ ap (λ y. k * y) (doubled b)) ∙ by x (2 ^ b)
     where
       by : (x : Bool) (w : ℕ) → k * (w * 2) + (if x then w else 0) ≡ (2 * k + digit x) * w
-      by true w = omega arith
-      by false w = omega arith
+      by x w = grind (arith, nat_tests)
 
   pub part_step : IsPart b (m + weight b x)
   part_step = part_of b (2 * k + digit x) (m + weight b x) with_bit
@@ -49,13 +49,10 @@ module _ (m b : ℕ) (x : Bool) (is : IsPart (b + 1) m) where
       (is ∙ ap (λ y. y * 2 ^ (b + 1)) w.0, w.1)
     where
       by : (x : Bool) (k w : ℕ) → k * (w * 2) + (if x then w else 0) ≡ (2 * k + digit x) * w
-      by true k w = omega arith
-      by false k w = omega arith
+      by x k w = grind (arith, nat_tests)
 
       cancel_right : (a c : ℕ) → a * 2 ^ b ≡ c * 2 ^ b → a ≡ c
-      cancel_right a c e =
-          let f : a * 2 ^ b + 0 ≡ c * 2 ^ b + 0 = omega (arith, e) in
-          sym (div-mul-add a (2 ^ b) 0 (pow_pos b)) ∙ ap (λ y. y / 2 ^ b) f ∙ div-mul-add c (2 ^ b) 0 (pow_pos b)
+      cancel_right a c e = grind (arith, nat_tests, div-mul-add, pow_pos)
 
       halves : (x y : Bool) (j : ℕ) → 2 * k + digit x ≡ 2 * j + digit y → (k ≡ j) × (x ≡ y)
       halves true true j e = (omega (arith, e), refl)
@@ -129,8 +126,7 @@ module _ (z : ℤ) (b : ℕ) (x : Bool) (whole : IsWhole (b + 1) z) where
       few false = omega arith
 
       weight_is : (x : Bool) → pos (weight b x) ≡ pos (digit x) *ℤ pos (2 ^ b)
-      weight_is true = ap pos (let y : 2 ^ b ≡ 1 * 2 ^ b = omega arith in y)
-      weight_is false = ap pos (let y : 0 ≡ 0 * 2 ^ b = omega arith in y)
+      weight_is x = grind (arith, nat_tests)
 
   pub whole_step : IsWhole b now
   whole_step = (twice whole.0 (digit x), value)
@@ -155,8 +151,7 @@ module _ (z : ℤ) (b : ℕ) (x : Bool) (whole : IsWhole (b + 1) z) where
   bit_back v e = twos v b ∙ ap (λ y. complement 1 y == 1) e ∙ ap (λ n. n == 1) (sym parts.1) ∙ is x
     where
       is : (x : Bool) → (digit x == 1) ≡ x
-      is true = refl
-      is false = refl
+      is x = grind (arith, nat_tests)
 
 below_zero : (x n : ℕ) → neg_ℤ (pos x) *ℤ pos n ≡ neg_ℤ (pos (x * n))
 below_zero zero n = let e : 0 * n ≡ 0 = omega arith in ap pos e ∙ sym (ap (λ x. neg_ℤ (pos x)) e)
@@ -172,11 +167,7 @@ whole_lower z c s le w =
     assoc (negsuc a) m n = below_zero (suc a * m) n ∙ ap (λ x. neg_ℤ (pos x)) (let e : suc a * m * n ≡ suc a * (m * n) = grind arith in e)
 
 pub whole_size : (z : ℤ) (k : ℕ) → (w : IsWhole k z) → unsigned_abs z ≡ 2 ^ k * unsigned_abs w.0
-whole_size z k w = ap unsigned_abs w.1 ∙ size w.0 (2 ^ k)
-  where
-    size : (y : ℤ) (n : ℕ) → unsigned_abs (y *ℤ pos n) ≡ n * unsigned_abs y
-    size (pos a) n = omega arith
-    size (negsuc a) n = grind (arith, nat_tests, ints)
+whole_size z k w = grind (arith, nat_tests, negsuc, ints)
 
 -- a number of this magnitude is its own part from the place on
 pub whole_part : (z : ℤ) (k part : ℕ) → unsigned_abs z ≡ 2 ^ k * part → z ≡ int_shr z k *ℤ pos (2 ^ k)

@@ -1,5 +1,6 @@
 -- The items of types, flags and groups, place after place, follow their scripts.
-use Rattle.std.proofs.Common.{◌≡◌, ℕ, zero, suc, ◌+◌, ◌≤◌, ◌<◌, ◌==◌, ◌&&◌, ◌||◌, not, nat_lt, nat_le, Bool, true, false, if◌then◌else◌, List, [], ◌∷◌, ◌++◌, length, map, filter, refl, ap, sym, ◌∙◌, arith, ℤ, pos}
+use Rattle.std.proofs.Common.{◌≡◌, ℕ, zero, suc, ◌+◌, ◌≤◌, ◌<◌, ◌==◌, ◌&&◌, ◌||◌, not, nat_lt, nat_le, Bool, true, false, if◌then◌else◌, List, [], ◌∷◌}
+use Rattle.std.proofs.Common.{◌++◌, length, map, filter, refl, ap, sym, ◌∙◌, arith, ℤ, pos}
 use Rattle.std.proofs.lemmas.Bool.Decides.{nat_tests}
 use Rattle.std.proofs.Math.Bool.{or-false}
 use lib.ListN.{get_or}
@@ -7,7 +8,8 @@ use Rattle.item_defs.specs.Bits.{bit}
 use Rattle.plane_defs.specs.declared.entries.Entry.{Entry}
 use Rattle.plane_defs.specs.declared.sets.Set.{Set}
 use Rattle.plane_defs.specs.Spans.{span}
-use Rattle.plane_defs.specs.Sets.{magnitude, significant, coded, live, set_significant, enclosing_significant, type_due, flag_due, newly_significant, refined, members, IsKnown}
+use Rattle.plane_defs.specs.Sets.{magnitude, significant, coded, live, set_significant, enclosing_significant, type_due, flag_due, newly_significant}
+use Rattle.plane_defs.specs.Sets.{refined, members, IsKnown}
 use Rattle.plane_defs.specs.Entries.{negative}
 use Rattle.plane_defs.specs.Steps.{is_new, some_one_where, typed_steps}
 use Rattle.plane_defs.specs.StepLaws.{IsAc, SameAc}
@@ -21,7 +23,7 @@ use Rattle.plane_defs.specs.Written.{has, Knows, AreChosen, WroteTypes}
 use Rattle.plane_defs.specs.States.{State}
 use Rattle.plane_defs.specs.WordScripts.{types_script}
 use Rattle.plane_defs.specs.StageScripts.{Terms, above, is_due}
-use Rattle.plane_defs.proofs.WordGoes.{due_few}
+use Rattle.plane_defs.proofs.WordGoes.{due_few, both}
 use Rattle.plane_defs.proofs.TypesWritten.{has_filter, types_written}
 use Rattle.plane_defs.proofs.Sending.{Sends}
 
@@ -32,8 +34,7 @@ has_append [] ys q = refl
 has_append (x ∷ xs) ys q = ap (λ b. (q == x) || b) (has_append xs ys q) ∙ or_assoc (q == x) (has xs q) (has ys q)
   where
     or_assoc : (a b c : Bool) → (a || (b || c)) ≡ ((a || b) || c)
-    or_assoc true b c = refl
-    or_assoc false b c = refl
+    or_assoc a b c = grind (arith, nat_tests)
 
 pub has_span : (a n q : ℕ) → has (span a n) q ≡ (nat_le a q && nat_lt q (a + n))
 has_span a zero q = ap (λ l. has l q) (span-none a) ∙ none
@@ -46,6 +47,27 @@ has_span a (suc n) q = ap (λ l. has l q) (span-more a n) ∙ has_append (span a
     last : ((nat_le a q && nat_lt q (a + n)) || ((q == a + n) || false)) ≡ (nat_le a q && nat_lt q (a + suc n))
     last = grind (arith, nat_tests)
 
+pub in_span : (a c q : ℕ) → has (span a c) q ≡ true → (a ≤ q) × (q < a + c)
+in_span a c q e =
+    let w = both (nat_le a q) (nat_lt q (a + c)) (sym (has_span a c q) ∙ e) in
+    (low (nat_le a q) refl w.0, high w.1)
+  where
+    low : (x : Bool) → nat_le a q ≡ x → x ≡ true → a ≤ q
+    low x e f = grind (arith, nat_tests)
+
+    high : nat_lt q (a + c) ≡ true → q < a + c
+    high f = grind (arith, nat_tests)
+
+pub due_here : (due : ℕ → Bool) (n i : ℕ) → i < n → due i ≡ true → has (filter due (span 0 n)) i ≡ true
+due_here due n i lt e = has_filter due (span 0 n) i ∙ ap (λ x. x && due i) (has_span 0 n i ∙ inside) ∙ e
+  where
+    inside : (nat_le 0 i && nat_lt i (0 + n)) ≡ true
+    inside = grind (arith, nat_tests)
+
+pub here_due : (due : ℕ → Bool) (n i : ℕ) → has (filter due (span 0 n)) i ≡ true → (i < n) × (due i ≡ true)
+here_due due n i e = let w = both (has (span 0 n) i) (due i) (sym (has_filter due (span 0 n) i) ∙ e) in
+    (let k = (in_span 0 n i w.0).1 in omega (arith, k), w.1)
+
 pub map_filter_map : {A : Type 0} (g : Set → A) (d : Set → Bool) (S : ℕ → Set) (ps : List ℕ) →
     map g (filter d (map S ps)) ≡ map (λ i. g (S i)) (filter (λ i. d (S i)) ps)
 map_filter_map g d S [] = refl
@@ -54,80 +76,26 @@ map_filter_map {A} g d S (p ∷ ps) = by (d (S p)) (map_filter_map g d S ps)
     by : (b : Bool) → map g (filter d (map S ps)) ≡ map (λ i. g (S i)) (filter (λ i. d (S i)) ps) →
         map g (if b then S p ∷ filter d (map S ps) else filter d (map S ps)) ≡
         map (λ i. g (S i)) (if b then p ∷ filter (λ i. d (S i)) ps else filter (λ i. d (S i)) ps)
-    by true e = ap (λ l. g (S p) ∷ l) e
-    by false e = e
+    by b h1 = grind (arith, nat_tests)
 
 -- ---- truth values
 
 -- a set that has no flag is significant exactly if it was
 all_cases : (a l e x : Bool) → ((not a && l && e) ≡ false → x ≡ a) → (a || ((not a && l && e) && x)) ≡ x
-all_cases true l e x h = sym (h refl)
-all_cases false false e x h = sym (h refl)
-all_cases false true false x h = sym (h refl)
-all_cases false true true x h = refl
+all_cases a l e x h1 = grind (arith, nat_tests)
 
 new_cases : (a l e x : Bool) → ((not a && l && e) ≡ false → x ≡ a) → ((not a && l && e) && x) ≡ (x && not a)
-new_cases true l e x h = ap (λ b. b && false) (sym (h refl))
-new_cases false false e x h = ap (λ b. b && true) (sym (h refl))
-new_cases false true false x h = ap (λ b. b && true) (sym (h refl))
-new_cases false true true true h = refl
-new_cases false true true false h = refl
+new_cases a l e x h1 = grind (arith, nat_tests)
 
 due_cases : (a b l e x : Bool) → a ≡ b → x ≡ e → (x && (not a && l)) ≡ (not b && l && e)
-due_cases true b l e x p q = let z : b ≡ true = sym p in rw z (none x)
-  where
-    none : (x : Bool) → (x && false) ≡ false
-    none true = refl
-    none false = refl
-due_cases false b l true true p q = let z : b ≡ false = sym p in rw z (same l)
-  where
-    same : (l : Bool) → l ≡ (l && true)
-    same true = refl
-    same false = refl
-due_cases false b l false false p q = let z : b ≡ false = sym p in rw z (none l)
-  where
-    none : (l : Bool) → false ≡ (l && false)
-    none true = refl
-    none false = refl
-due_cases false b l true false p q = cc
-due_cases false b l false true p q = cc
+due_cases a b l e x h1 h2 = grind (arith, nat_tests)
 
 -- the bits of the places before, and of these
 bits_cases : (x h y d s r : Bool) → y ≡ (x || h) → (((x && (d && s)) || r) || ((h && d) && s)) ≡ ((y && (d && s)) || r)
-bits_cases true true true true true r e = refl
-bits_cases true false true true true r e = refl
-bits_cases true h true true false true e = refl
-bits_cases true true true true false false e = refl
-bits_cases true false true true false false e = refl
-bits_cases true h true false s true e = refl
-bits_cases true true true false s false e = refl
-bits_cases true false true false s false e = refl
-bits_cases false true true true true true e = refl
-bits_cases false true true true true false e = refl
-bits_cases false true true true false true e = refl
-bits_cases false true true true false false e = refl
-bits_cases false true true false s true e = refl
-bits_cases false true true false s false e = refl
-bits_cases false false false d s true e = refl
-bits_cases false false false d s false e = refl
-bits_cases true h false d s r e = cc
-bits_cases false true false d s r e = cc
-bits_cases false false true d s r e = cc
+bits_cases x h y d s r h1 = grind (arith, nat_tests)
 
 signs_cases : (x h y n g : Bool) → y ≡ (x || h) → ((x && (n && g)) || ((h && n) && g)) ≡ (y && (n && g))
-signs_cases true true true true true e = refl
-signs_cases true true true true false e = refl
-signs_cases true true true false g e = refl
-signs_cases true false true true true e = refl
-signs_cases true false true true false e = refl
-signs_cases true false true false g e = refl
-signs_cases false true true true true e = refl
-signs_cases false true true true false e = refl
-signs_cases false true true false g e = refl
-signs_cases false false false n g e = refl
-signs_cases true h false n g e = cc
-signs_cases false true false n g e = cc
-signs_cases false false true n g e = cc
+signs_cases x h y n g h1 = grind (arith, nat_tests)
 
 -- What was read of a block in a plane, if some values are written: the types and signs of the places below n, the refinement of those
 -- below m, these families, and this bit of the DC.
@@ -163,23 +131,17 @@ module _ (o : List ℕ) (chosen : AreChosen o) (t : Terms) (block v : List ℤ) 
   refined_is p ac = refined-is block W b p ∙ ap (λ a. a && coded W b p) (same p ac) ∙ sym (refined-is v W b p)
 
   pub due_is : (s : Set) (enclosing : Bool) → IsKnown s → enclosing ≡ enclosing_significant v b s → is_due t block s enclosing ≡ flag_due v W b s
-  due_is s enclosing known e =
-      due_cases (above t block s) (set_significant v (b + 1) s) (live W b s) (enclosing_significant v b s) enclosing (above_is s known) e ∙
-      sym (flag_due-is v W b s)
+  due_is s enclosing known e = grind (arith, nat_tests, enclosing, due_cases, above_is, flag_due-is)
 
   settled : (s : Set) → IsKnown s →
       (not (set_significant v (b + 1) s) && live W b s && enclosing_significant v b s) ≡ false → set_significant v b s ≡ set_significant v (b + 1) s
   settled s known e = undue v W b s known whole (flag_due-is v W b s ∙ e)
 
   pub flag_all : (s : Set) → IsKnown s → (set_significant v (b + 1) s || (flag_due v W b s && set_significant v b s)) ≡ set_significant v b s
-  flag_all s known =
-      ap (λ d. set_significant v (b + 1) s || (d && set_significant v b s)) (flag_due-is v W b s) ∙
-      all_cases (set_significant v (b + 1) s) (live W b s) (enclosing_significant v b s) (set_significant v b s) (settled s known)
+  flag_all s known = grind (arith, nat_tests, flag_due-is, all_cases, settled)
 
   pub flag_new : (s : Set) → IsKnown s → (flag_due v W b s && set_significant v b s) ≡ is_new v b s
-  flag_new s known =
-      ap (λ d. d && set_significant v b s) (flag_due-is v W b s) ∙
-      new_cases (set_significant v (b + 1) s) (live W b s) (enclosing_significant v b s) (set_significant v b s) (settled s known) ∙ sym (is_new-is v b s)
+  flag_new s known = grind (arith, nat_tests, flag_due-is, new_cases, settled, is_new-is)
 
   -- ---- types
 

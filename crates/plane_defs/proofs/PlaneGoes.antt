@@ -1,40 +1,24 @@
 -- Each question of bit planes has a possible answer.
-use Rattle.std.proofs.Common.{refl, ap, ◌∙◌, ◌≡◌, ◌<◌, arith, ℕ, zero, suc, ◌/◌, ◌==◌, Bool, true, false, if◌then◌else◌, List, [], length, ℤ}
+use Rattle.std.proofs.Common.{refl, ap, ◌∙◌, ◌≡◌, ◌<◌, arith, ℕ, zero, suc, true, List, [], length, ℤ}
 use lib.ListN.{get_or}
 use Rattle.base_122.specs.declared.book.Book.{Book}
 use Rattle.plane_defs.specs.Codes.{is_book_sound}
 use Rattle.plane_defs.proofs.SpanLists.{length-map-span, get_or-map-span}
 use Rattle.item_defs.specs.Scripts.{around}
 use Rattle.item_defs.specs.Completing.{Goes}
-use Rattle.item_defs.proofs.Completing.{goes_then, goes_in_turn, goes_around, goes_weaker}
-use Rattle.plane_defs.specs.States.{State}
-use Rattle.plane_defs.specs.StageScripts.{Terms, stage_script}
-use Rattle.plane_defs.specs.PlaneScript.{PlaneState, nothing_yet, of_block, with_block, blocks_script, plane_script, blocks_with, block_with, number_with, planes_script}
-use Rattle.plane_defs.proofs.WordGoes.{HasOptions, Options}
-use Rattle.plane_defs.proofs.StageGoes.{stage_goes}
+use Rattle.item_defs.proofs.Completing.{goes_then, goes_around, goes_weaker}
+use Rattle.plane_defs.specs.StageScripts.{Terms}
+use Rattle.plane_defs.specs.PlaneScript.{PlaneState, plane_script, blocks_with, block_with, number_with}
+use Rattle.plane_defs.specs.PlaneScript.{planes_script}
+use Rattle.plane_defs.proofs.Answers.{goes_of}
+use Rattle.plane_defs.proofs.PlaneAnswers.{AllOptions, AllFair, plane_may}
 
-abbrev pub AllOptions : PlaneState → Type 0
-AllOptions s = (g : ℕ) → HasOptions (s.options g)
-
-block_put : (s : PlaneState) (r : ℕ) (b : State) → AllOptions s → Options b → AllOptions (with_block s r b)
-block_put s r b p q g = by (g == r / 16)
-  where
-    by : (t : Bool) → HasOptions (if t then b.options else s.options g)
-    by true = q
-    by false = p g
-
-module _ (t : Terms) (is_sound : is_book_sound t.book ≡ true) (depths : List ℕ) (blocks : List (List ℤ)) where
-  blocks_go : (stage : ℕ) (s : PlaneState) → AllOptions s → Goes (blocks_script t depths blocks stage s) AllOptions
-  blocks_go stage s h =
-      goes_in_turn (λ i. AllOptions) (λ r u. around (with_block u r) (stage_script t stage (get_or depths r 0) (get_or blocks r []) (of_block u r))) 0
-      (length depths)
-      (λ r u low high p. goes_around Options AllOptions (with_block u r) (λ b q. block_put u r b p q)
-      (stage_script t stage (get_or depths r 0) (get_or blocks r []) (of_block u r))
-      (stage_goes t is_sound (get_or blocks r []) stage (get_or depths r 0) (of_block u r) (p (r / 16)))) s h
-
-  pub plane_goes : (stages : ℕ) → Goes (plane_script t depths blocks stages) AllOptions
-  plane_goes stages = goes_in_turn (λ i. AllOptions) (blocks_script t depths blocks) 0 stages (λ i u low high p. blocks_go i u p) nothing_yet
-      (λ g count option e. absurd cc)
+pub plane_goes : (t : Terms) → is_book_sound t.book ≡ true → (depths : List ℕ) (blocks : List (List ℤ)) (stages : ℕ) →
+    Goes (plane_script t depths blocks stages) AllOptions
+plane_goes t is_sound depths blocks stages =
+    goes_weaker (λ u. (true ≡ true → AllOptions u) × AllFair t depths blocks u) AllOptions (λ u p. p.0 refl) (plane_script t depths blocks stages)
+    (goes_of (λ u. (true ≡ true → AllOptions u) × AllFair t depths blocks u) (plane_script t depths blocks stages)
+    (plane_may true t is_sound depths blocks stages))
 
 long_with : (plane : ℕ) (blocks : List (List ℤ)) (s : PlaneState) → length (blocks_with plane blocks s) ≡ length blocks
 long_with plane blocks s = length-map-span (λ r. block_with plane (get_or blocks r []) (s.blocks r)) (length blocks)

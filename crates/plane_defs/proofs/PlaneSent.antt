@@ -1,5 +1,6 @@
 -- The items of a plane, gaggle by gaggle and stage by stage, follow its script.
-use Rattle.std.proofs.Common.{◌≡◌, ℕ, zero, suc, ◌+◌, ◌*◌, ◌/◌, ◌≤◌, ◌<◌, ◌==◌, min, nat_lt, Bool, true, false, if◌then◌else◌, List, [], ◌++◌, length, refl, ap, sym, ◌∙◌, subst, arith, ℤ, Some, None}
+use Rattle.std.proofs.Common.{◌≡◌, ℕ, zero, suc, ◌+◌, ◌*◌, ◌/◌, ◌≤◌, ◌<◌, ◌==◌, min, nat_lt, Bool, true, false, if◌then◌else◌, List, [], ◌++◌, length, refl}
+use Rattle.std.proofs.Common.{ap, sym, ◌∙◌, subst, arith, ℤ, Some, None}
 use Rattle.std.specs.List.{flat_map, list_any, range_with_len}
 use Rattle.plane_defs.specs.Spelled.{is_word_of, option_of as chosen_of}
 use Rattle.std.proofs.lemmas.Bool.Decides.{nat_tests}
@@ -206,15 +207,17 @@ module _ (o : ℕ → List ℕ) (chosen : (g : ℕ) → AreChosen (o g)) (t : Te
       none_before h = let c : nat_lt h 0 ≡ false = grind (arith, nat_tests) in
           ap (λ (x : Bool). before_stage p (if x then 1 else 0) h) c ∙ flat_map-span-none (λ j. of_gaggle p (stage_number j) h) 0
 
+  pub plane_bound : (stages : ℕ) → stages ≤ 5 → Writes (plane_script t depths blocks stages) (plane_reading t.book o p stages) (Bound stages 0)
+  plane_bound stages few =
+      let z : 0 + stages ≡ stages = omega arith in
+      subst (λ l. Writes (plane_script t depths blocks stages) (flat_map (stage_reading t.book o p) l) (Bound stages 0)) (range_span 0 stages)
+      (subst (λ k. Writes (plane_script t depths blocks stages) (flat_map (stage_reading t.book o p) (range_with_len 0 stages)) (Bound k 0)) z
+      (writes_in_turn (λ k. Bound k 0) (blocks_script t depths blocks) (stage_reading t.book o p) 0 stages
+      (λ k u low high q. stage_sent k (omega (arith, high, few)) u q) nothing_yet start))
+
   pub plane_sent : (stages : ℕ) → stages ≤ 5 →
       Writes (plane_script t depths blocks stages) (plane_reading t.book o p stages)
       (λ u. (r : ℕ) → r < count → BlockAt stages r (u.blocks r))
   plane_sent stages few =
-      let z : 0 + stages ≡ stages = omega arith in
-      subst (λ l. Writes (plane_script t depths blocks stages) (flat_map (stage_reading t.book o p) l) (λ u. (r : ℕ) → r < count →
-      BlockAt stages r (u.blocks r)))
-      (range_span 0 stages)
-      (writes_weaker (Bound (0 + stages) 0) (λ u. (r : ℕ) → r < count → BlockAt stages r (u.blocks r)) (plane_script t depths blocks stages)
-      (flat_map (stage_reading t.book o p) (range_with_len 0 stages)) (λ u q r lt. subst (λ k. BlockAt k r (u.blocks r)) z (q.left r (omega arith) lt))
-      (writes_in_turn (λ k. Bound k 0) (blocks_script t depths blocks) (stage_reading t.book o p) 0 stages
-      (λ k u low high q. stage_sent k (omega (arith, high, few)) u q) nothing_yet start))
+      writes_weaker (Bound stages 0) (λ u. (r : ℕ) → r < count → BlockAt stages r (u.blocks r)) (plane_script t depths blocks stages)
+      (plane_reading t.book o p stages) (λ u q r lt. q.left r (omega arith) lt) (plane_bound stages few)

@@ -1,7 +1,7 @@
 -- What is read of all planes is what the blocks that they give write.
-use Rattle.std.proofs.Common.{◌≡◌, ℕ, zero, suc, ◌+◌, ◌*◌, ◌/◌, ◌^◌, ◌≤◌, ◌<◌, ◌==◌, ◌&&◌, nat_lt, nat_le, Bool, true, false, if◌then◌else◌, List, [], ◌∷◌, ◌++◌, length, refl, ap, sym, ◌∙◌, subst, arith, ℤ, pos, inl, inr, Option, Some, None, pow_pos, pow_mono}
+use Rattle.std.proofs.Common.{◌≡◌, ℕ, zero, suc, ◌+◌, ◌*◌, ◌/◌, ◌^◌, ◌≤◌, ◌<◌, ◌==◌, ◌&&◌, nat_lt, nat_le, Bool, true, false, if◌then◌else◌, List, [], ◌∷◌}
+use Rattle.std.proofs.Common.{◌++◌, length, refl, ap, sym, ◌∙◌, subst, arith, ℤ, pos, inl, inr, Option, Some, None, pow_pos, pow_mono}
 use Rattle.std.specs.Int.{int_shr}
-use Rattle.std.specs.Int.RustNames.{unsigned_abs}
 use Rattle.std.proofs.lemmas.Bool.{cases_lt}
 use Rattle.std.proofs.lemmas.Bool.Decides.{nat_tests}
 use Rattle.std.proofs.lemmas.List.{get_or_past}
@@ -21,7 +21,7 @@ use Rattle.item_defs.specs.Scripts.{around}
 use Rattle.item_defs.specs.Following.{Follows}
 use Rattle.item_defs.specs.Completing.{ArePossible}
 use Rattle.item_defs.proofs.FollowLaws.{follows_split, around_follows}
-use Rattle.item_defs.proofs.Completing.{possible_parts, goes_end}
+use Rattle.item_defs.proofs.Completing.{possible_parts}
 use Rattle.plane_defs.specs.Written.{AreChosen, planes_reading, Shows, low_bits}
 use Rattle.plane_defs.specs.Back.{dc_in, IsBegun, AreBegun, WrittenBack, PlanesBack}
 use Rattle.plane_defs.specs.WordScripts.{option_of}
@@ -29,19 +29,13 @@ use Rattle.plane_defs.specs.StageScripts.{Terms}
 use Rattle.plane_defs.specs.PlaneScript.{PlaneState, block_with, blocks_with, plane_script, planes_script}
 use Rattle.plane_defs.proofs.Answers.{may_end}
 use Rattle.plane_defs.proofs.WordGoes.{HasOptions}
-use Rattle.plane_defs.proofs.PlaneGoes.{AllOptions, plane_goes}
 use Rattle.plane_defs.proofs.PlanesSent.{same_above, shows_nothing}
 use Rattle.plane_defs.proofs.WordsBack.{Later, done_none}
-use Rattle.plane_defs.proofs.StatesLeft.{AllFair, plane_fair}
+use Rattle.plane_defs.proofs.PlaneAnswers.{AllOptions, AllFair, plane_may}
 use Rattle.plane_defs.proofs.BlockLeft as block
 use Rattle.plane_defs.proofs.PlaneBack as plane
 
 -- ---- the options that were read
-
-by_true : (x y : Bool) → (x ≡ true → y ≡ true) → x ≡ (y && x)
-by_true true y h = let e = h refl in sym (ap (λ z. z && true) e)
-by_true false true h = refl
-by_true false false h = refl
 
 pub chosen_by : (ℕ → Option ℕ) → List ℕ
 chosen_by options = option_of (options 2) ∷ option_of (options 3) ∷ option_of (options 4) ∷ []
@@ -201,10 +195,7 @@ module _ (book : Book) (is_sound : is_book_sound book ≡ true) (weights : List 
       once m = omega arith
 
       shown : (v : List ℤ) (p : ℕ) → negative (get_or v p (pos 0)) ≡ (significant v 0 p && negative (get_or v p (pos 0)))
-      shown v p = by_true (negative (get_or v p (pos 0))) (significant v 0 p) (λ e. significant-is v 0 p ∙ some (get_or v p (pos 0)) e)
-        where
-          some : (z : ℤ) → negative z ≡ true → nat_le (2 ^ 0) (unsigned_abs z) ≡ true
-          some z e = grind (arith, nat_tests)
+      shown v p = grind (arith, nat_tests, significant-is)
   planes_back (suc b) blocks long begun items w are f =
       let terms : Terms = record { book = book; weights = weights; plane = b; q = q } in
       let s = follows_split (planes_script book weights q depths (λ b. 5) b) (around (blocks_with b blocks) (plane_script terms depths blocks 5)) items w f in
@@ -220,8 +211,10 @@ module _ (book : Book) (is_sound : is_book_sound book ≡ true) (weights : List 
           WrittenBack book weights q depths (suc b) blocks items w
       one_plane b blocks long begun items w first rest all good fine u follows next back =
           let terms : Terms = record { book = book; weights = weights; plane = b; q = q } in
-          let has = goes_end AllOptions (plane_script terms depths blocks 5) (plane_goes terms is_sound depths blocks 5) first u good follows in
-          let fair = may_end (AllFair terms depths blocks) (plane_script terms depths blocks 5) (plane_fair terms depths blocks 5) first u good follows in
+          let left = may_end true (λ u. (true ≡ true → AllOptions u) × AllFair terms depths blocks u) (plane_script terms depths blocks 5)
+          (plane_may true terms is_sound depths blocks 5) first u good follows in
+          let has = left.0 refl in
+          let fair = left.1 in
           let now = blocks_with b blocks u in
           let size = long_now b blocks long begun u has in
           let ih = back now (long ∙ sym size) (all_begun b blocks long begun u has fair) rest w fine next in

@@ -1,5 +1,6 @@
 -- The items of all planes follow their script, and the numbers at the end are those that were written.
-use Rattle.std.proofs.Common.{◌≡◌, ◌⊎◌, ℕ, zero, suc, ◌+◌, ◌*◌, ◌/◌, ◌^◌, ◌≤◌, ◌<◌, ◌==◌, ◌&&◌, ◌||◌, not, nat_lt, nat_le, Bool, true, false, if◌then◌else◌, List, [], ◌++◌, length, refl, ap, sym, ◌∙◌, subst, arith, ℤ, pos, inl, inr, pow_pos, pow_mono}
+use Rattle.std.proofs.Common.{◌≡◌, ◌⊎◌, ℕ, zero, suc, ◌+◌, ◌*◌, ◌/◌, ◌^◌, ◌≤◌, ◌<◌, ◌==◌, ◌&&◌, ◌||◌, nat_lt, nat_le, Bool, true, false, if◌then◌else◌}
+use Rattle.std.proofs.Common.{List, [], ◌++◌, length, refl, ap, sym, ◌∙◌, subst, arith, ℤ, pos, inl, inr, pow_pos, pow_mono}
 use Rattle.std.specs.Prelude.{◌-ℤ◌, ◌+ℤ◌, ◌*ℤ◌}
 use Rattle.std.specs.Int.{int_shr}
 use Rattle.std.specs.Int.RustNames.{unsigned_abs}
@@ -46,24 +47,17 @@ module _ (v : List ℤ) (weights : List ℕ) (b : ℕ) (whole : IsMultiple v wei
   X = significant v b p
 
   pub no_bit : C ≡ false → bit M b ≡ false
-  no_bit e = bit_below M b (shift weights p) (whole.part p) (whole.whole p) (under (shift weights p) b (sym (coded-is weights b p) ∙ e))
-    where
-      under : (s b : ℕ) → nat_le s b ≡ false → b < s
-      under s b e = grind (arith, nat_tests)
+  no_bit e = grind (arith, nat_tests, bit_below, coded-is)
 
   pub new_bit : A ≡ false → X ≡ bit M b
   new_bit e = significant-is v b p ∙ bit_reached M b (sym (significant-is v (b + 1) p) ∙ e)
 
   -- a new number has the bit, and any other if it is refined so
   pub the_bit : (newly_significant v weights b p || (refined v weights b p && bit M b)) ≡ bit M b
-  the_bit =
-      ap (λ y. y || (refined v weights b p && bit M b)) (newly_significant-is v weights b p ∙ ap (λ y. y && X) (type_due-is v weights b p)) ∙
-      ap (λ y. ((not A && C) && X) || (y && bit M b)) (refined-is v weights b p) ∙ bits_all A C X (bit M b) no_bit new_bit
+  the_bit = grind (arith, nat_tests, newly_significant-is, type_due-is, refined-is, bits_all, no_bit, new_bit)
 
   pub the_sign : (n : Bool) → (((A && n) || (newly_significant v weights b p && n)) && X) ≡ (X && n)
-  the_sign n =
-      ap (λ y. ((A && n) || (y && n)) && X) (newly_significant-is v weights b p ∙ ap (λ y. y && X) (type_due-is v weights b p)) ∙
-      signs_all A C X n (still_significant v b p) (not_coded v weights b p whole)
+  the_sign n = grind (arith, nat_tests, newly_significant-is, type_due-is, signs_all, still_significant, not_coded)
 
 -- the AC numbers that a block has above a plane, and the plane's bits and signs
 pub shows_next : (weights : List ℕ) (b : ℕ) (block v : List ℤ) (families : ℕ → Bool) (dc : Bool) (o : List ℕ) (before : _) (s : State) → IsMultiple v weights →
@@ -96,11 +90,7 @@ shows_next weights b block v families dc o before s whole above r p ac =
     not_dc = let e : (p == 0) ≡ false = (let a : 1 ≤ p = ac.0 in grind (arith, nat_tests)) in rw e refl
 
     some : (y : ℕ) → nat_lt 0 (magnitude v p / 2 ^ b * 2 ^ b) ≡ nat_le (2 ^ b) (magnitude v p / 2 ^ b * 2 ^ b)
-    some y = by (magnitude v p / 2 ^ b) (2 ^ b) (pow_pos b)
-      where
-        by : (q k : ℕ) → 0 < k → nat_lt 0 (q * k) ≡ nat_le k (q * k)
-        by zero k lt = let z : zero * k ≡ 0 = omega arith in grind (arith, nat_tests)
-        by (suc q) k lt = let f : k ≤ suc q * k = omega arith in grind (arith, nat_tests)
+    some y = grind (arith, nat_tests, pow_pos)
 
 -- the DC that a block has above a plane, and the plane's bit
 pub dc_next : (weights : List ℕ) (q b : ℕ) (block v : List ℤ) (s : State) → ShowsDc (low_bits weights q (b + 1)) block v →
@@ -151,18 +141,7 @@ same_above b block v shows p ac =
 
 -- all bits make the number
 pub whole_shown : (block v : List ℤ) → Shows 0 block v → (p : ℕ) → IsAc p → get_or block p (pos 0) ≡ get_or v p (pos 0)
-whole_shown block v shows p ac =
-    same_number (get_or block p (pos 0)) (get_or v p (pos 0)) ((shows p ac).0 ∙ once (magnitude v p))
-    ((shows p ac).1 ∙ ap (λ y. y && negative (get_or v p (pos 0))) (significant-is v 0 p) ∙ kept (get_or v p (pos 0)))
-  where
-    once : (m : ℕ) → m / 2 ^ 0 * 2 ^ 0 ≡ m
-    once m = omega arith
-
-    kept : (z : ℤ) → (nat_le (2 ^ 0) (unsigned_abs z) && negative z) ≡ negative z
-    kept z = grind (arith, nat_tests)
-
-    same_number : (y z : ℤ) → unsigned_abs y ≡ unsigned_abs z → negative y ≡ negative z → y ≡ z
-    same_number y z e f = grind (arith, nat_tests)
+whole_shown block v shows p ac = grind (arith, nat_tests, significant-is)
 
 module _ (book : Book) (options : ℕ → ℕ → List ℕ) (chosen : (b g : ℕ) → AreChosen (options b g)) (values : List (List ℤ)) (depths weights : List ℕ)
     (sendable : AreSendable values depths weights) (q : ℕ) (stages : ℕ → ℕ) (stops : Stops stages) where
@@ -193,14 +172,7 @@ module _ (book : Book) (options : ℕ → ℕ → List ℕ) (chosen : (b g : ℕ
       (silent b (λ c lt. none c (omega (arith, lt))) (blocks_with b blocks nothing_yet) (long_with b blocks nothing_yet ∙ long)))
 
   pub none_of : (b r : ℕ) → nat_lt b (get_or depths r 0) ≡ false → (i : ℕ) → IsAc i → significant (get_or values r []) b i ≡ false
-  none_of b r deep i ac =
-      significant-is (get_or values r []) b i ∙ too_small (get_or depths r 0) (magnitude (get_or values r []) i) deep (sendable.small r i ac.0)
-    where
-      too_small : (d m : ℕ) → nat_lt b d ≡ false → m < 2 ^ d → nat_le (2 ^ b) m ≡ false
-      too_small d m deep lt =
-          let le : d ≤ b = grind (arith, nat_tests) in
-          let more : 2 ^ d ≤ 2 ^ b = pow_mono le in
-          grind (arith, nat_tests)
+  none_of b r deep i ac = grind (arith, nat_tests, significant-is, pow_mono)
 
   -- what a plane leaves
   abbrev pub Step : ℕ → List (List ℤ) → Type 0

@@ -11,8 +11,11 @@ use Rattle.plane_defs.specs.declared.sets.Set.TheVariants.{Family, Grandchildren
 use Rattle.plane_defs.specs.declared.entries.Entry.{Entry}
 use Rattle.plane_defs.specs.Spans.{span}
 use Rattle.plane_defs.specs.Sets.{set_significant, children_of, quad_of}
-use Rattle.plane_defs.specs.Entries.{word, types, flags, typed, parents, children, children_types, quads, quads_types, all_quads, grandchildren, refinement, dc_bits, significant_families, block_entries}
-use Rattle.plane_defs.specs.Steps.{Check, free, Step, typed_steps, parents_steps, children_steps, children_types_steps, children_check, quads_steps, quads_types_steps, all_quads_steps, grandchildren_steps, three_grandchildren, refinement_steps, dc_steps, block_steps, is_new, some_one_where}
+use Rattle.plane_defs.specs.Entries.{word, types, flags, typed, parents, children, children_types, quads, quads_types, all_quads, grandchildren, refinement}
+use Rattle.plane_defs.specs.Entries.{dc_bits, significant_families, block_entries}
+use Rattle.plane_defs.specs.Steps.{Check, free, Step, typed_steps, parents_steps, children_steps, children_types_steps, children_check, quads_steps}
+use Rattle.plane_defs.specs.Steps.{quads_types_steps, all_quads_steps, grandchildren_steps, three_grandchildren, refinement_steps, dc_steps, block_steps}
+use Rattle.plane_defs.specs.Steps.{is_new, some_one_where}
 use Rattle.plane_defs.specs.StepLaws.{entry_of}
 use Rattle.plane_defs.specs.Spelled.{entry_items, spelled_after}
 use Rattle.plane_defs.specs.Planes.{Plane, gaggles, of_gaggle, gaggle_items, stage_items, plane_items}
@@ -40,7 +43,8 @@ module _ (block : List ℤ) (weights : List ℕ) (plane : ℕ) where
   children_types_entries : map entry_of (children_types_steps block weights plane) ≡ children_types block weights plane
   children_types_entries =
       map_flat entry_of (λ i. typed_steps block weights plane (children_check block weights plane i) (span (children_of i) 4))
-      (λ i. typed block weights plane (span (children_of i) 4)) (λ i. typed_entries (children_check block weights plane i) (span (children_of i) 4)) (significant_families block plane Family)
+      (λ i. typed block weights plane (span (children_of i) 4)) (λ i. typed_entries (children_check block weights plane i) (span (children_of i) 4))
+      (significant_families block plane Family)
 
   children_entries : map entry_of (children_steps block weights plane) ≡ children block weights plane
   children_entries = grind (arith, nat_tests, map-append, map_map, children_types_entries)
@@ -55,7 +59,8 @@ module _ (block : List ℤ) (weights : List ℕ) (plane : ℕ) where
   quads_entries i = ap (λ l. word (flags block weights plane (Quad i 0 ∷ Quad i 1 ∷ Quad i 2 ∷ Quad i 3 ∷ [])) ∷ l) (quads_types_entries i)
 
   all_quads_entries : map entry_of (all_quads_steps block weights plane) ≡ all_quads block weights plane
-  all_quads_entries = map_flat entry_of (quads_steps block weights plane) (quads block weights plane) quads_entries (significant_families block plane Grandchildren)
+  all_quads_entries = map_flat entry_of (quads_steps block weights plane) (quads block weights plane) quads_entries
+      (significant_families block plane Grandchildren)
 
   grandchildren_entries : map entry_of (grandchildren_steps block weights plane) ≡ grandchildren block weights plane
   grandchildren_entries = ap (λ l. word (flags block weights plane three_grandchildren) ∷ l) all_quads_entries
@@ -83,10 +88,11 @@ steps_entries stages.Refinement block d weights plane q = where_sent (nat_lt pla
 text_flat : {X : Type 0} (f g : X → List Item) → ((x : X) → text (f x) ≡ text (g x)) → (xs : List X) → text (flat_map f xs) ≡ text (flat_map g xs)
 text_flat f g each [] = refl
 text_flat f g each (x ∷ xs) =
-    text-append (f x) (flat_map f xs) ∙ ap (λ l. l ++ text (flat_map f xs)) (each x) ∙ ap (λ l. text (g x) ++ l) (text_flat f g each xs) ∙ sym (text-append (g x) (flat_map g xs))
+    text-append (f x) (flat_map f xs) ∙ ap (λ l. l ++ text (flat_map f xs)) (each x) ∙ ap (λ l. text (g x) ++ l) (text_flat f g each xs)
+    ∙ sym (text-append (g x) (flat_map g xs))
 
-text_checked : (front : List Item) (test : ℕ → Bool) (i : Item) → text (front ++ checked test i ∷ []) ≡ text (front ++ i ∷ [])
-text_checked front test i = text-append front (checked test i ∷ []) ∙ sym (text-append front (i ∷ []))
+text_checked : (prefix : List Item) (test : ℕ → Bool) (i : Item) → text (prefix ++ checked test i ∷ []) ≡ text (prefix ++ i ∷ [])
+text_checked prefix test i = text-append prefix (checked test i ∷ []) ∙ sym (text-append prefix (i ∷ []))
 
 pub entry_text : (book : Book) (options : List ℕ) (before : List Entry) (check : Check) (e : Entry) →
     text (entry_reading book options before check e) ≡ text (entry_items book options before e)

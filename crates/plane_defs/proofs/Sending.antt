@@ -1,5 +1,7 @@
 -- Steps that are sent one after another follow scripts.
-use Rattle.std.proofs.Common.{◌≡◌, ℕ, zero, suc, ◌+◌, ◌≤◌, ◌<◌, Bool, true, false, if◌then◌else◌, List, [], ◌∷◌, ◌++◌, filter, refl, ap, sym, ◌∙◌, subst, arith, append_assoc, append-nil}
+use Rattle.std.proofs.lemmas.Bool.Decides.{nat_tests}
+use Rattle.std.proofs.Common.{◌≡◌, ℕ, zero, suc, ◌+◌, ◌≤◌, ◌<◌, Bool, if◌then◌else◌, List, [], ◌∷◌, ◌++◌, filter, refl, ap, sym, ◌∙◌, subst}
+use Rattle.std.proofs.Common.{arith, append_assoc, append-nil}
 use Rattle.std.specs.List.{flat_map, range_with_len}
 use Rattle.std.proofs.lemmas.List.{map-append}
 use Rattle.base_122.specs.declared.book.Book.{Book}
@@ -35,8 +37,7 @@ flat_map_filter {X} {A} f p (x ∷ xs) = by (p x) (flat_map_filter f p xs)
   where
     by : (b : Bool) → flat_map f (filter p xs) ≡ flat_map (λ x. if p x then f x else []) xs →
         flat_map f (if b then x ∷ filter p xs else filter p xs) ≡ ((if b then f x else []) ++ flat_map (λ x. if p x then f x else []) xs)
-    by true e = ap (λ l. f x ++ l) e
-    by false e = e
+    by b h1 = grind (arith, nat_tests)
 
 -- ---- steps
 

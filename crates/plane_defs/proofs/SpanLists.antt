@@ -1,5 +1,6 @@
 -- A span grows by one position at its end.
-use Rattle.std.proofs.Common.{◌≡◌, ℕ, suc, ◌+◌, Bool, false, List, [], ◌∷◌, ◌++◌, refl, ap, add-one, arith, cond, length, length-append, ◌≤◌, ◌<◌, zero, get_or, sum_by, ◌||◌, map, filter}
+use Rattle.std.proofs.Common.{◌≡◌, ℕ, suc, ◌+◌, Bool, false, List, [], ◌∷◌, ◌++◌, refl, ap, add-one, arith, cond, length, length-append, ◌≤◌, ◌<◌, zero}
+use Rattle.std.proofs.Common.{get_or, sum_by, ◌||◌, map, filter}
 use Rattle.std.specs.List.{list_any, flat_map}
 use Rattle.std.proofs.lemmas.List.Folds.{list_any-append}
 use Rattle.std.proofs.lemmas.List.Elements.{filter-append}
@@ -21,10 +22,12 @@ span-suc start count = rw add-one
 pub list_any-span-suc : (p : ℕ → Bool) (start count : ℕ) → list_any p (span start (count + 1)) ≡ (list_any p (span start count) || p (start + count))
 list_any-span-suc p start count = grind (arith, nat_tests, span-suc, list_any-append, or-false)
 
-pub filter-span-suc : (p : ℕ → Bool) (start count : ℕ) → filter p (span start (count + 1)) ≡ filter p (span start count) ++ cond (p (start + count)) ((start + count) ∷ []) []
+pub filter-span-suc : (p : ℕ → Bool) (start count : ℕ) → filter p (span start (count + 1)) ≡ filter p (span start count) ++ cond (p (start + count))
+    ((start + count) ∷ []) []
 filter-span-suc p start count = rw (span-suc, filter-append)
 
-pub flat_map-span-suc : {A : Type 0} (f : ℕ → List A) (start count : ℕ) → flat_map f (span start (count + 1)) ≡ flat_map f (span start count) ++ f (start + count)
+pub flat_map-span-suc : {A : Type 0} (f : ℕ → List A) (start count : ℕ) → flat_map f (span start (count + 1)) ≡ flat_map f (span start count)
+    ++ f (start + count)
 flat_map-span-suc f start count = grind (arith, nat_tests, span-suc, flat_map-append, append-nil)
 
 pub list_any-span-none : (p : ℕ → Bool) (start : ℕ) → list_any p (span start 0) ≡ false
@@ -70,7 +73,8 @@ pub length-chosen : {A : Type 0} (f : ℕ → A) (p : ℕ → Bool) (start count
 length-chosen f p start zero = rw map-filter-span-none (omega arith)
 length-chosen {A = A} f p start (suc count) =
     let more : length (map f (filter p (span start (count + 1)))) ≤ count + 1 =
-    rw (map-filter-span-suc f p start count, length-append) (omega (arith, length-chosen f p start count, at_most_one (p (start + count)) (f (start + count)))) in
+    rw (map-filter-span-suc f p start count, length-append)
+    (omega (arith, length-chosen f p start count, at_most_one (p (start + count)) (f (start + count)))) in
     rw (← add-one) more
 
 one_more : {X A : Type 0} (f : X → A) (b : Bool) (x : X) (kept : List X) (n : ℕ) → length (map f kept) ≤ n → length (map f (cond b (x ∷ kept) kept)) ≤ n + 1
@@ -99,7 +103,8 @@ get_or-map-span f (suc count) k d below =
     by_place (inr ge) before =
         let e : k ≡ count = omega arith in
         let here : k ≡ length (map f (span 0 count)) = omega (arith, length-map-span f count) in
-        ap (λ i. get_or (map f (span 0 count) ++ f (0 + count) ∷ []) i d) here ∙ get_or-append_seam (map f (span 0 count)) (f (0 + count)) [] d ∙ ap f (omega arith)
+        ap (λ i. get_or (map f (span 0 count) ++ f (0 + count) ∷ []) i d) here ∙ get_or-append_seam (map f (span 0 count)) (f (0 + count)) [] d
+        ∙ ap f (omega arith)
 
 -- what the places of a span send: those before one, that one, and the rest
 pub flat_map-span-parts : {A : Type 0} (f : ℕ → List A) (start count place : ℕ) → place < count →

@@ -11,4 +11,5 @@ spelled_after-append book options before (x ∷ xs) ys =
     ap (λ rest. entry_items book options before x ++ rest)
     (spelled_after-append book options (before ++ x ∷ []) xs ys ∙
     ap (λ b. spelled_after book options (before ++ x ∷ []) xs ++ spelled_after book options b ys) (append_assoc before (x ∷ []) xs)) ∙
-    sym (append_assoc (entry_items book options before x) (spelled_after book options (before ++ x ∷ []) xs) (spelled_after book options (before ++ (x ∷ xs)) ys))
+    sym (append_assoc (entry_items book options before x) (spelled_after book options (before ++ x ∷ []) xs)
+    (spelled_after book options (before ++ (x ∷ xs)) ys))

@@ -1,20 +1,25 @@
 -- The items of a block's stages follow their scripts.
-use Rattle.std.proofs.Common.{◌≡◌, ℕ, suc, ◌+◌, ◌*◌, ◌≤◌, ◌<◌, ◌&&◌, ◌||◌, not, nat_lt, Bool, true, false, if◌then◌else◌, List, [], ◌∷◌, ◌++◌, length, map, filter, refl, ap, sym, ◌∙◌, subst, arith, ℤ}
+use Rattle.std.proofs.Common.{◌≡◌, ℕ, suc, ◌+◌, ◌*◌, ◌≤◌, ◌<◌, ◌&&◌, ◌||◌, not, Bool, true, false, if◌then◌else◌, List, [], ◌∷◌, ◌++◌, map}
+use Rattle.std.proofs.Common.{filter, refl, ap, sym, ◌∙◌, subst, arith, ℤ}
 use Rattle.std.specs.List.{list_any}
 use Rattle.std.proofs.lemmas.Bool.Decides.{nat_tests}
 use Rattle.std.proofs.Math.Bool.{or-false}
-use Rattle.item_defs.specs.Bits.{bit}
 use Rattle.plane_defs.specs.declared.entries.Entry.{Entry}
 use Rattle.plane_defs.specs.declared.entries.Entry.TheVariants.{Bit}
 use Rattle.plane_defs.specs.declared.sets.Set.{Set}
 use Rattle.plane_defs.specs.declared.sets.Set.TheVariants.{Descendants, Family, Grandchildren, Quad}
 use Rattle.plane_defs.specs.Spans.{span}
-use Rattle.plane_defs.specs.Sets.{magnitude, significant, coded, live, set_significant, type_due, flag_due, newly_significant, refined, children_of, grandchildren_of, quad_of}
+use Rattle.plane_defs.specs.Sets.{significant, live, set_significant, type_due, flag_due, children_of}
+use Rattle.plane_defs.specs.Sets.{grandchildren_of, quad_of}
 use Rattle.plane_defs.specs.Entries.{flags}
-use Rattle.plane_defs.specs.Steps.{free, ones_at, flags_alone, step, is_new, is_forced, some_one_where, flags_step, parents_steps, descendants_check, children_types_steps, children_steps, three_grandchildren, grandchildren_check, quads_types_steps, quads_steps, all_quads_steps, grandchildren_steps}
+use Rattle.plane_defs.specs.Steps.{free, ones_at, step, is_new, is_forced, some_one_where, flags_step, parents_steps, descendants_check}
+use Rattle.plane_defs.specs.Steps.{children_types_steps, children_steps, three_grandchildren, grandchildren_check, quads_types_steps, quads_steps}
+use Rattle.plane_defs.specs.Steps.{all_quads_steps, grandchildren_steps}
 use Rattle.plane_defs.specs.StepLaws.{entries_of, IsAc, SameAc}
 use Rattle.plane_defs.specs.Laws.{IsMultiple}
-use Rattle.plane_defs.proofs.Equations.{enclosing-family, enclosing-grandchildren, enclosing-quad, is_new-is, is_forced-grandchildren, set_significant-is, newly_significant-is, type_due-is}
+use Rattle.plane_defs.proofs.WordGoes.{three_long}
+use Rattle.plane_defs.proofs.Equations.{enclosing-family, enclosing-grandchildren, enclosing-quad, is_new-is, is_forced-grandchildren, set_significant-is}
+use Rattle.plane_defs.proofs.Equations.{newly_significant-is, type_due-is}
 use Rattle.plane_defs.proofs.Determined.{still_significant}
 use Rattle.plane_defs.proofs.Settled.{type_undue}
 use Rattle.plane_defs.proofs.Alike.{all_filter, filter_same, in_three}
@@ -24,7 +29,8 @@ use Rattle.item_defs.specs.Scripts.{Script, done, in_turn}
 use Rattle.plane_defs.specs.Written.{Knows, AreChosen}
 use Rattle.plane_defs.specs.States.{State, with_options, with_families}
 use Rattle.plane_defs.specs.WordScripts.{due_script, group_script}
-use Rattle.plane_defs.specs.StageScripts.{Terms, above, is_due, parents_script, descendants_script, children_script, is_childless, quads_script, grandchildren_script}
+use Rattle.plane_defs.specs.StageScripts.{Terms, above, is_due, parents_script, descendants_script, children_script, is_childless, quads_script}
+use Rattle.plane_defs.specs.StageScripts.{grandchildren_script}
 use Rattle.plane_defs.proofs.Sending.{flat_map_filter, Sends, sends_none, sends_then, sends_last, sends_in_turn}
 use Rattle.plane_defs.proofs.PlacesSent as places
 use Rattle.plane_defs.proofs.PlacesSent.{At, map_filter_map}
@@ -37,16 +43,6 @@ three_sets S = refl
 pub four_sets : (S : ℕ → Set) → map S (span 0 4) ≡ S 0 ∷ S 1 ∷ S 2 ∷ S 3 ∷ []
 unfolding span
 four_sets S = refl
-
-pub three_long : (a : ℕ) → length (span a 3) ≤ 4
-unfolding span
-three_long a = omega arith
-
--- known before, or new
-here_cases : (a c x : Bool) → (a ≡ true → x ≡ true) → ((not a && c) ≡ false → x ≡ a) → (a || ((not a && c) && x)) ≡ x
-here_cases true c x h k = sym (h refl)
-here_cases false true x h k = refl
-here_cases false false x h k = sym (k refl)
 
 module _ (o : List ℕ) (chosen : AreChosen o) (t : Terms) (block v : List ℤ) (same : SameAc block v (t.plane + 1)) (whole : IsMultiple v t.weights) where
   abbrev W : List ℕ
@@ -87,7 +83,7 @@ module _ (o : List ℕ) (chosen : AreChosen o) (t : Terms) (block v : List ℤ) 
   pub children_sent : (m : ℕ) (families : ℕ → Bool) (dc : Bool) (before : List Entry) (s : State) → Reads 4 m families dc before s →
       Sends t.book o (children_script t block s) before (children_steps v W b) (Reads 16 m sets dc)
   children_sent m families dc before s r =
-      let first = map (λ x. step free flags_alone (Bit x)) (flags v W b (Descendants ∷ [])) in
+      let first = map (λ x. step free (Bit x)) (flags v W b (Descendants ∷ [])) in
       let flags_of = flags_step v W b (descendants_check v b) (Family 0 ∷ Family 1 ∷ Family 2 ∷ []) in
       sends_then t.book o (λ now. words.Flag o chosen t block v same whole now s) (Reads 16 m sets dc) (descendants_script t block s) _ before first
       (flags_of ∷ children_types_steps v W b) (words.flag_sent o chosen t block v same whole before s r.knows)
@@ -117,19 +113,7 @@ module _ (o : List ℕ) (chosen : AreChosen o) (t : Terms) (block v : List ℤ) 
   -- a number of the children is significant above, or was read so
   here_is : (m : ℕ) → m ≤ 1 → (dc : Bool) (before : List Entry) (s : State) → Reads 16 m sets dc before s → (p : ℕ) → IsAc p → p < 16 →
       (significant block (b + 1) p || s.bits p) ≡ significant v b p
-  here_is m le dc before s r p ac lt =
-      ap (λ x. x || s.bits p) (same p ac) ∙ ap (λ x. significant v (b + 1) p || x) (r.bits p ac ∙ known) ∙
-      ap (λ x. significant v (b + 1) p || (x && significant v b p)) (type_due-is v W b p) ∙
-      here_cases (significant v (b + 1) p) (coded W b p) (significant v b p) (still_significant v b p)
-      (λ e. type_undue v W b p whole (type_due-is v W b p ∙ e))
-    where
-      known : ((nat_lt p 16 && newly_significant v W b p) || (nat_lt p m && (refined v W b p && bit (magnitude v p) b))) ≡
-          (type_due v W b p && significant v b p)
-      known =
-          let first : nat_lt p 16 ≡ true = grind (arith, nat_tests) in
-          let low : 1 ≤ p = ac.0 in
-          let last : nat_lt p m ≡ false = grind (arith, nat_tests) in
-          rw (first, last) (or-false (newly_significant v W b p) ∙ newly_significant-is v W b p)
+  here_is m le dc before s r p ac lt = grind (arith, nat_tests, type_due-is, still_significant, type_undue, or-false, newly_significant-is)
 
   childless_is : (m : ℕ) → m ≤ 1 → (dc : Bool) (before : List Entry) (s : State) → Reads 16 m sets dc before s → (i : ℕ) → i < 3 →
       is_childless t block s i ≡ is_forced v b (Grandchildren i)

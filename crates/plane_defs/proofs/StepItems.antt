@@ -1,16 +1,15 @@
--- The items of steps alike: for as long as they say the same, they have one form.
-use Rattle.std.proofs.Common.{◌≡◌, ℕ, zero, suc, ◌^◌, ◌<◌, ◌≤◌, true, List, [], refl, arith, ◌==◌}
-use Rattle.std.specs.List.{list_any, list_all, AllByRecursion}
+-- The words of symbols, options of words, and steps whose words have at most four bits.
+use Rattle.std.proofs.Common.{◌≡◌, ℕ, zero, suc, ◌^◌, ◌<◌, ◌≤◌, true, List, refl, arith, ◌==◌}
+use Rattle.std.specs.List.{list_all, AllByRecursion}
 use Rattle.std.proofs.lemmas.Bool.Decides.{nat_tests}
 use Rattle.std.proofs.lemmas.Bool.{eqb-true}
 use Rattle.base_122.specs.declared.book.Book.{Book}
-use Rattle.plane_defs.specs.declared.entries.Entry.{Entry}
 use Rattle.plane_defs.specs.Spans.{span}
 use Rattle.plane_defs.specs.Entries.{IsEntry}
 use Rattle.plane_defs.specs.Codes.{symbol, word_item}
-use Rattle.plane_defs.specs.Spelled.{is_word_of, option_of}
-use Rattle.plane_defs.specs.Steps.{Check, Step}
-use Rattle.plane_defs.specs.Reading.{word_of, checked_word}
+use Rattle.plane_defs.specs.Spelled.{option_of}
+use Rattle.plane_defs.specs.Steps.{Step}
+use Rattle.plane_defs.specs.Reading.{word_of}
 use Rattle.plane_defs.proofs.Tables.{list_all-span-zero}
 
 -- ---- symbols
@@ -33,20 +32,10 @@ word_of-symbol n v low high below =
 pub record AreOptionsOf (options : List ℕ) : Type 0 where
   pub at : (n : ℕ) → 2 ≤ n → n ≤ 4 → option_of options n < n
 
--- the options of lengths that were sent are the same
-pub record OptionsAgree (before : List Entry) (o u : List ℕ) : Type 0 where
-  pub at : (n : ℕ) → 2 ≤ n → n ≤ 4 → list_any (is_word_of n) before ≡ true → option_of o n ≡ option_of u n
-
-pub none_agree : (o u : List ℕ) → OptionsAgree [] o u
-none_agree o u = record { at = λ n low high sent. cc }
-
 -- ---- words
 
 pub word_shape : (book : Book) (n option v w : ℕ) → (word_item book n option v).form.shape ≡ (word_item book n option w).form.shape
 word_shape book n option v w = grind (arith, nat_tests)
-
-word_form : (book : Book) (n o u v w : ℕ) (check : Check) → o ≡ u → (checked_word book n o v check).form ≡ (checked_word book n u w check).form
-word_form book n o u v w check same = grind (arith, nat_tests, word_shape)
 
 -- ---- lists of steps
 

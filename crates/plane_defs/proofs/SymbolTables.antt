@@ -1,10 +1,9 @@
 -- The symbols of all words, and the words of all symbols, by the rule.
-use Rattle.std.proofs.Common.{false, ◌≡◌, ℕ, zero, suc, ◌≤◌, ◌<◌, ◌^◌, true, [], ◌∷◌, refl, arith, get_or, ◌==◌, nat_lt, eqb-true, ltb-true}
+use Rattle.std.proofs.Common.{false, ◌≡◌, ℕ, zero, suc, ◌≤◌, ◌<◌, ◌^◌, true, [], ◌∷◌, refl, arith, get_or, ◌==◌, nat_lt, ltb-true}
 use Rattle.std.specs.List.{list_all}
 use lib.Count.{ones}
 use Rattle.plane_defs.specs.Spans.{span}
 use Rattle.plane_defs.specs.Codes.{symbol, names_option}
-use Rattle.plane_defs.specs.Reading.{word_of}
 use Rattle.plane_defs.proofs.Tables.{list_all-span-zero}
 
 of_two : list_all (λ w. get_or (0 ∷ 2 ∷ 1 ∷ 3 ∷ []) w 0 == symbol 2 w) (span 0 4) ≡ true
@@ -47,24 +46,20 @@ pub word_at_two : (n s : ℕ) → n ≡ 2 → s < 2 ^ n → symbol n (get_or (0 
 word_at_two n s e h = rw e (grind (arith, list_all-span-zero (λ s. symbol 2 (get_or (0 ∷ 2 ∷ 1 ∷ 3 ∷ []) s 0) == s) 4 s words_of_two (rw e at h)))
 
 pub word_at_three : (n s : ℕ) → n ≡ 3 → s < 2 ^ n → symbol n (get_or (0 ∷ 4 ∷ 2 ∷ 1 ∷ 6 ∷ 5 ∷ 3 ∷ 7 ∷ []) s 0) ≡ s
-word_at_three n s e h = rw e (grind (arith, list_all-span-zero (λ s. symbol 3 (get_or (0 ∷ 4 ∷ 2 ∷ 1 ∷ 6 ∷ 5 ∷ 3 ∷ 7 ∷ []) s 0) == s) 8 s words_of_three (rw e at h)))
+word_at_three n s e h = rw e (grind (
+  arith,
+  list_all-span-zero (λ s. symbol 3 (get_or (0 ∷ 4 ∷ 2 ∷ 1 ∷ 6 ∷ 5 ∷ 3 ∷ 7 ∷ []) s 0) == s) 8 s words_of_three
+      (rw e at h),
+))
 
 pub word_at_four : (n s : ℕ) → n ≡ 4 → s < 2 ^ n → symbol n (get_or (0 ∷ 8 ∷ 4 ∷ 2 ∷ 1 ∷ 12 ∷ 10 ∷ 9 ∷ 6 ∷ 5 ∷ 3 ∷ 14 ∷ 13 ∷ 11 ∷ 7 ∷ 15 ∷ []) s 0) ≡ s
-word_at_four n s e h = rw e (grind (arith, list_all-span-zero (λ s. symbol 4 (get_or (0 ∷ 8 ∷ 4 ∷ 2 ∷ 1 ∷ 12 ∷ 10 ∷ 9 ∷ 6 ∷ 5 ∷ 3 ∷ 14 ∷ 13 ∷ 11 ∷ 7 ∷ 15 ∷ []) s 0) == s) 16 s words_of_four (rw e at h)))
+word_at_four n s e h = rw e (grind (
+  arith,
+  list_all-span-zero
+      (λ s. symbol 4 (get_or (0 ∷ 8 ∷ 4 ∷ 2 ∷ 1 ∷ 12 ∷ 10 ∷ 9 ∷ 6 ∷ 5 ∷ 3 ∷ 14 ∷ 13 ∷ 11 ∷ 7 ∷ 15 ∷ []) s 0) == s) 16 s words_of_four (rw e at h),
+))
 
 -- ---- for any length
-
-words_again : (n : ℕ) → 2 ≤ n → n ≤ 4 → list_all (λ s. symbol n (word_of n s) == s) (span 0 (2 ^ n)) ≡ true
-unfolding word_of symbol span ones
-words_again zero low high = absurd (omega arith)
-words_again (suc zero) low high = absurd (omega arith)
-words_again (suc (suc zero)) low high = refl
-words_again (suc (suc (suc zero))) low high = refl
-words_again (suc (suc (suc (suc zero)))) low high = refl
-words_again (suc (suc (suc (suc (suc n))))) low high = absurd (omega arith)
-
-pub symbol-word_of : (n s : ℕ) → 2 ≤ n → n ≤ 4 → s < 2 ^ n → symbol n (word_of n s) ≡ s
-symbol-word_of n s low high lt = eqb-true (symbol n (word_of n s)) s (list_all-span-zero (λ s. symbol n (word_of n s) == s) (2 ^ n) s (words_again n low high) lt)
 
 symbols_below : (n : ℕ) → 2 ≤ n → n ≤ 4 → list_all (λ v. nat_lt (symbol n v) (2 ^ n)) (span 0 (2 ^ n)) ≡ true
 unfolding symbol span ones

@@ -1,5 +1,6 @@
 -- What a test of a whole table says of one entry.
-use Rattle.std.proofs.Common.{refl, ap, ◌≡◌, ℕ, zero, suc, ◌+◌, ◌^◌, ◌<◌, ◌≤◌, ◌⊎◌, inl, inr, Bool, true, List, [], ◌∷◌, sym, ◌∙◌, arith, zero-add, ◌==◌, ◌&&◌, nat_le, count_by, leb-true, eqb-true}
+use Rattle.std.proofs.Common.{refl, ap, ◌≡◌, ℕ, zero, suc, ◌+◌, ◌^◌, ◌<◌, ◌≤◌, ◌⊎◌, inl, inr, Bool, true, List, [], ◌∷◌, sym, ◌∙◌, arith, zero-add, ◌==◌}
+use Rattle.std.proofs.Common.{◌&&◌, nat_le, count_by, leb-true, eqb-true}
 use Rattle.std.specs.List.{list_all}
 use Rattle.std.proofs.lemmas.List.Folds.{list_all-append}
 use Rattle.std.proofs.lemmas.Bool.Decides.{nat_tests}
@@ -29,7 +30,8 @@ pub list_all-span-at : (p : ℕ → Bool) (start count k : ℕ) → list_all p (
 unfolding span
 list_all-span-at p start zero k all below = absurd (omega arith)
 list_all-span-at p start (suc count) k all below =
-    let parts : (list_all p (span start count) && (p (start + count) && true)) ≡ true = sym (list_all-append p (span start count) ((start + count) ∷ [])) ∙ all in
+    let parts : (list_all p (span start count) && (p (start + count) && true)) ≡ true = sym (list_all-append p (span start count) ((start + count) ∷ []))
+    ∙ all in
     let last : p (start + count) ≡ true = and-left _ _ (and-right _ _ parts) in
     let here : (k < count) ⊎ (k ≡ count) = below_or_at k count (omega arith) in
     elim here [ inl h ↦ list_all-span-at p start count k (and-left _ _ parts) h | inr e ↦ rw e last ]
@@ -52,7 +54,8 @@ pub table_begins : (t : List Code) (count v : ℕ) → is_table_sound t count �
     count_by (λ s. is_prefix (code_bits (entry t s)) (bits_of 8 v)) (span 0 count) ≡ 1
 unfolding is_table_sound
 table_begins t count v sound below =
-    eqb-true _ 1 (list_all-span-zero (λ v. count_by (λ s. is_prefix (code_bits (entry t s)) (bits_of 8 v)) (span 0 count) == 1) 256 v (and-right _ _ sound) below)
+    eqb-true _ 1 (list_all-span-zero (λ v. count_by (λ s. is_prefix (code_bits (entry t s)) (bits_of 8 v)) (span 0 count) == 1) 256 v (and-right _ _ sound)
+    below)
 
 pub sound_table : (book : Book) (length option : ℕ) → is_book_sound book ≡ true → 2 ≤ length → length ≤ 4 → option + 1 < length →
     is_table_sound (table book (table_place length option)) (2 ^ length) ≡ true

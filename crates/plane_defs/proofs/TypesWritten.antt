@@ -1,8 +1,9 @@
 -- The items of types and their signs follow their script.
-use Rattle.std.proofs.Common.{◌≡◌, ℕ, ◌<◌, ◌≤◌, ◌^◌, ◌==◌, ◌&&◌, ◌||◌, Bool, true, false, if◌then◌else◌, List, [], ◌∷◌, ◌++◌, length, map, filter, refl, ap, sym, ◌∙◌, subst, arith, append_assoc, append-nil, ℤ, pos}
+use Rattle.std.proofs.Common.{◌≡◌, ℕ, ◌<◌, ◌≤◌, ◌^◌, ◌==◌, ◌&&◌, ◌||◌, Bool, true, if◌then◌else◌, List, [], ◌∷◌, ◌++◌, length, map, filter, refl, ap}
+use Rattle.std.proofs.Common.{sym, ◌∙◌, subst, arith, append_assoc, append-nil, ℤ, pos}
 use Rattle.std.proofs.lemmas.Bool.Decides.{nat_tests}
 use Rattle.std.proofs.lemmas.List.{length-map}
-use Rattle.std.proofs.Math.Bool.{and-false, or-false}
+use Rattle.std.proofs.Math.Bool.{or-false}
 use lib.ListN.{get_or}
 use Rattle.item_defs.specs.Bits.{bits_of, value_of, digit}
 use Rattle.item_defs.specs.Items.{raw}
@@ -13,7 +14,7 @@ use Rattle.plane_defs.specs.declared.entries.Entry.TheVariants.{Bit}
 use Rattle.plane_defs.specs.Sets.{significant, type_due, newly_significant}
 use Rattle.plane_defs.specs.Entries.{word, negative, types}
 use Rattle.plane_defs.specs.Reading.{entry_reading, read_after}
-use Rattle.plane_defs.specs.Steps.{Check, free, Step, step, sign_at, some_one_where, typed_steps}
+use Rattle.plane_defs.specs.Steps.{Check, free, Step, step, some_one_where, typed_steps}
 use Rattle.plane_defs.specs.StepLaws.{entries_of}
 use Rattle.plane_defs.proofs.Equations.{bit_reading, newly_significant-is}
 use Rattle.item_defs.specs.Scripts.{done, then_ask, bit_form}
@@ -33,32 +34,21 @@ ones_of_test f [] q = refl
 ones_of_test f (p ∷ ps) q = ap (λ t. ((q == p) && f p) || t) (ones_of_test f ps q) ∙ here (q == p) refl
   where
     absorbed : (a h : Bool) → (a || (h && a)) ≡ a
-    absorbed true h = refl
-    absorbed false h = and-false h
+    absorbed a h = grind (arith, nat_tests)
 
     here : (t : Bool) → (q == p) ≡ t → ((t && f p) || (has ps q && f q)) ≡ ((t || has ps q) && f q)
-    here true e =
-        let same : q ≡ p = grind (arith, nat_tests) in
-        ap (λ b. b || (has ps q && f q)) (ap f (sym same)) ∙ absorbed (f q) (has ps q)
-    here false e = refl
+    here t h1 = grind (arith, nat_tests)
 
 pub has_filter : (d : ℕ → Bool) (ps : List ℕ) (q : ℕ) → has (filter d ps) q ≡ (has ps q && d q)
 has_filter d [] q = refl
 has_filter d (p ∷ ps) q = by (d p) refl (q == p) refl (has_filter d ps q)
   where
     absorbed : (a h : Bool) → (h && a) ≡ (a && h)
-    absorbed true true = refl
-    absorbed true false = refl
-    absorbed false true = refl
-    absorbed false false = refl
+    absorbed a h = grind (arith, nat_tests)
 
     by : (t : Bool) → d p ≡ t → (u : Bool) → (q == p) ≡ u → has (filter d ps) q ≡ (has ps q && d q) →
         has (if t then p ∷ filter d ps else filter d ps) q ≡ ((u || has ps q) && d q)
-    by true e true f rest = let same : q ≡ p = grind (arith, nat_tests) in ap (λ b. b || has (filter d ps) q) f ∙ sym (ap d same ∙ e)
-    by true e false f rest = ap (λ b. b || has (filter d ps) q) f ∙ rest
-    by false e true f rest = let same : q ≡ p = grind (arith, nat_tests) in let none : d q ≡ false = ap d same ∙ e in rest ∙ ap (λ b. has ps q && b) none ∙
-        and-false (has ps q) ∙ sym none
-    by false e false f rest = rest
+    by t h1 u h2 h3 = grind (arith, nat_tests)
 
 -- tests that are the same at each place
 pub filter_alike : (g h : ℕ → Bool) (ps : List ℕ) → ((q : ℕ) → has ps q ≡ true → g q ≡ h q) → filter g ps ≡ filter h ps
@@ -70,8 +60,7 @@ filter_alike g h (p ∷ ps) same = (λ t. if same p self t then p ∷ filter g p
     self = let e : (p == p) ≡ true = grind (arith, nat_tests) in ap (λ b. b || has ps p) e
 
     later : (a b : Bool) → b ≡ true → (a || b) ≡ true
-    later true b e = refl
-    later false b e = e
+    later a b h1 = grind (arith, nat_tests)
 
 -- the places of a word whose bit is 1
 pub new_places : (d f : ℕ → Bool) (ps : List ℕ) (new : ℕ → Bool) → ((q : ℕ) → new q ≡ (has (filter d ps) q && f q)) →
@@ -132,7 +121,7 @@ module _ (book : Book) (o : List ℕ) (chosen : AreChosen o) where
   -- ---- signs
 
   abbrev sign_steps : (ℕ → Bool) → List ℕ → List Step
-  sign_steps g ps = map (λ p. step free (sign_at p) (Bit (g p))) ps
+  sign_steps g ps = map (λ p. step free (Bit (g p))) ps
 
   record WroteSigns (before : List Entry) (g : ℕ → Bool) (ps : List ℕ) (s t : State) : Type 0 where
     knows : Knows o (before ++ entries_of (sign_steps g ps)) t.options
@@ -163,21 +152,8 @@ module _ (book : Book) (o : List ℕ) (chosen : AreChosen o) where
         is = λ q. r.is q ∙ one (s.minus q) q (has ps q) (q == p) refl;
       }) w))
     where
-      back : (b : Bool) → (digit b == 1) ≡ b
-      back true = refl
-      back false = refl
-
-      shared : (m h x : Bool) → ((m || x) || (h && x)) ≡ (m || x)
-      shared true h x = refl
-      shared false h true = refl
-      shared false h false = and-false h
-
       one : (m : Bool) (q : ℕ) (h t : Bool) → (q == p) ≡ t → ((m || (t && (digit (g p) == 1))) || (h && g q)) ≡ (m || ((t || h) && g q))
-      one m q h true e =
-          let same : q ≡ p = grind (arith, nat_tests) in
-          ap (λ b. (m || b) || (h && g q)) (back (g p) ∙ ap g (sym same)) ∙ shared m h (g q)
-      one true q h false e = refl
-      one false q h false e = refl
+      one m q h t h1 = grind (arith, nat_tests)
 
   -- ---- types
 

@@ -1,35 +1,34 @@
--- What is read of words, types and signs is what their values write.
-use Rattle.std.proofs.Common.{◌≡◌, ℕ, zero, suc, ◌+◌, ◌≤◌, ◌<◌, ◌^◌, ◌==◌, ◌&&◌, ◌||◌, not, nat_lt, nat_le, Bool, true, false, if◌then◌else◌, List, [], ◌∷◌, ◌++◌, length, map, filter, refl, ap, sym, ◌∙◌, subst, arith, Option, Some, None}
-use Rattle.std.specs.List.{list_any, list_all}
+-- The end decides the options and the words that are read.
+use Rattle.std.proofs.Common.{◌≡◌, ℕ, zero, suc, ◌+◌, ◌≤◌, ◌<◌, ◌^◌, ◌==◌, ◌&&◌, ◌||◌, not, nat_lt, nat_le, Bool, true, false, if◌then◌else◌, List, [], ◌∷◌}
+use Rattle.std.proofs.Common.{mod-eq_of_lt, length, map, filter, refl, ap, sym, ◌∙◌, subst, arith, Option, Some, None}
+use Rattle.std.specs.List.{list_all}
 use Rattle.std.proofs.lemmas.Bool.Decides.{nat_tests}
 use Rattle.std.proofs.Math.Bool.{or-false}
-use Rattle.item_defs.specs.Items.{Item, IsSaid, plain, code, refused_where, false_flag}
+use Rattle.item_defs.specs.Items.{Item, IsSaid, plain, code}
 use Rattle.base_122.specs.declared.book.Book.{Book}
-use Rattle.plane_defs.specs.declared.entries.Entry.{Entry}
-use Rattle.plane_defs.specs.declared.entries.Entry.TheVariants.{Word}
 use Rattle.plane_defs.specs.Spans.{span}
-use Rattle.plane_defs.specs.Codes.{codes_of, code_bits, code_at, identifier_number, identifier_width, names_option, uncoded, symbol, word_item, option_item}
-use Rattle.plane_defs.specs.Spelled.{is_word_of, opening, option_of as chosen_of}
-use Rattle.plane_defs.specs.Reading.{word_of, word_said, checked_word, entry_reading}
-use Rattle.plane_defs.specs.Steps.{Check, refuses}
+use Rattle.plane_defs.specs.Codes.{codes_of, code_bits, code_at, identifier_number, identifier_width, names_option, uncoded, symbol}
+use Rattle.plane_defs.specs.Spelled.{option_of as chosen_of}
+use Rattle.plane_defs.specs.Reading.{word_of}
+use Rattle.plane_defs.specs.Steps.{Check}
 use Rattle.plane_defs.proofs.Tables.{list_all-span-zero}
-use Rattle.plane_defs.proofs.Equations.{word_reading, span-none}
-use Rattle.plane_defs.proofs.StepItems.{word_shape}
+use Rattle.plane_defs.proofs.Equations.{span-none}
 use Rattle.plane_defs.proofs.SpanLists.{length-map-span}
 use Rattle.item_defs.specs.Scripts.{done, ask, then_ask}
 use Rattle.item_defs.specs.Following.{Follows}
-use Rattle.item_defs.specs.Completing.{ArePossible}
-use Rattle.item_defs.proofs.FollowLaws.{asked, follows_split}
-use Rattle.item_defs.proofs.Completing.{possible_parts}
 use Rattle.std.proofs.lemmas.Bool.{or_right}
-use Rattle.plane_defs.specs.Written.{has, Knows}
-use Rattle.plane_defs.specs.States.{State, with_options}
-use Rattle.plane_defs.specs.WordScripts.{option_form, option_named, with_option, option_script, option_of, raw_form, word_form, coded_script, word_script, ones}
-use Rattle.plane_defs.proofs.WordGoes.{possible_named}
+use Rattle.plane_defs.specs.Written.{has}
+use Rattle.plane_defs.specs.States.{State}
+use Rattle.plane_defs.specs.WordScripts.{option_named, option_script, option_of, raw_form, coded_script, word_script, ones}
+use Rattle.plane_defs.proofs.WordGoes.{possible_named, due_few}
 use Rattle.plane_defs.proofs.PlacesSent.{has_span}
 use Rattle.plane_defs.proofs.Sending.{span-first}
 use Rattle.plane_defs.proofs.TypesWritten.{has_filter}
-use Rattle.plane_defs.proofs.WordAnswers.{ones_has}
+use Rattle.plane_defs.proofs.WordAnswers.{ones_has, WordMay, word_may}
+use Rattle.plane_defs.proofs.Answers.{May, never, Decided, decided_then}
+use Rattle.item_defs.specs.Bits.{bits_of, value_of}
+use Rattle.item_defs.proofs.NumberBits.{value_of-bits_of, length-bits_of}
+use Rattle.plane_defs.specs.WordScripts.{due_script}
 
 -- ---- places that differ
 
@@ -56,8 +55,7 @@ differ_span a (suc n) = subst Differ (span-first a n) (has_span (suc a) n a ∙ 
     late = grind (arith, nat_tests)
 
 pub false_unless : (a b : Bool) → (a ≡ true → b ≡ true) → b ≡ false → a ≡ false
-false_unless true b h e = let f = h refl in cc
-false_unless false b h e = refl
+false_unless a b h1 h2 = grind (arith, nat_tests)
 
 pub same_place : (p : ℕ) → (p == p) ≡ true
 same_place p = grind (arith, nat_tests)
@@ -79,8 +77,7 @@ ones_bits f (p ∷ ps) (b ∷ bits) h long is =
     clash false e f = cc
 
     later : (q : ℕ) → has ps q ≡ true → (x : Bool) → (q == p) ≡ x → ((x && b) || ones ps bits q) ≡ f q → ones ps bits q ≡ f q
-    later q inside true e g = let same : q ≡ p = grind (arith, nat_tests) in absurd (clash (has ps p) (ap (has ps) (sym same) ∙ inside) h.0)
-    later q inside false e g = g
+    later q h1 x h2 h3 = grind (arith, nat_tests)
 
 -- ---- words
 
@@ -101,8 +98,7 @@ named_forth count number low high lt names =
     equal _ _ (past (not (names_option count number)) _ (ap not names) c)
   where
     past : (a b : Bool) → a ≡ false → (a || b) ≡ true → b ≡ true
-    past true b e f = cc
-    past false b e f = f
+    past a b h1 h2 = grind (arith, nat_tests)
 
     equal : (a b : ℕ) → (a == b) ≡ true → a ≡ b
     equal a b e = grind (arith, nat_tests)
@@ -130,92 +126,74 @@ done_none G b a (i ∷ is) f = absurd f
 abbrev pub Later : List ℕ → (ℕ → Option ℕ) → Type 0
 Later o options = (n x : ℕ) → 2 ≤ n → n ≤ 4 → options n ≡ Some x → chosen_of o n ≡ x
 
-some_is : {a b : ℕ} → Some a ≡ Some b → a ≡ b
-some_is e = cc
+module _ (book : Book) (o : List ℕ) (check : Check) (count : ℕ) (high : count ≤ 4) (s : State) where
+  abbrev End : (w : ℕ) → State × ℕ → Type 0
+  End w r = Later o r.0.options × (r.1 ≡ w)
 
-module _ (book : Book) (o : List ℕ) (before : List Entry) (check : Check) (count : ℕ) (s : State) (knows : Knows o before s.options) (high : count ≤ 4) where
-  option_back : 2 ≤ count → (items : List Item) (t : State) → ArePossible items → Follows (option_script count s (s.options count)) items t →
-      Later o t.options →
-      (items ≡ opening o before count) × (t.options count ≡ Some (chosen_of o count))
-  option_back low items t are f later = by (list_any (is_word_of count) before) (s.options count) refl (knows count low high) f
+  any_option : (x : Option ℕ) → May false (option_script count s x) (λ t. Unit {0})
+  any_option (Some x) = tt
+  any_option None = (never, λ n said good. tt)
+
+  option_decided : 2 ≤ count → (x : Option ℕ) → Decided (option_script count s x) (λ t. Later o t.options)
+  option_decided low (Some x) = tt
+  option_decided low None = (
+    identifier_number count (chosen_of o count),
+    λ n said good. (
+      λ later. (let is : chosen_of o count ≡ option_named count n = later count (option_named count n) low high
+          (ap (λ (x : Bool). if x then Some (option_named count n) else s.options count) (same_place count)) in
+          sym (ap (identifier_number count) is ∙ named_forth count n low high (narrow n said) (possible_named (names_option count n) good))),
+      tt,
+    ),
+  )
     where
-      by : (b : Bool) (x : Option ℕ) → s.options count ≡ x → s.options count ≡ (if b then Some (chosen_of o count) else None) →
-          Follows (option_script count s x) items t →
-          (items ≡ (if b then [] else option_item count (chosen_of o count) ∷ [])) × (t.options count ≡ Some (chosen_of o count))
-      by true (Some x) e g f = let d = done_none State s t items f in (d.0, (λ i. (sym d.1 i).options count) ∙ g)
-      by true None e g f = let h = sym e ∙ g in cc
-      by false (Some x) e g f = let h = sym e ∙ g in cc
-      by false None e g f =
-          let a = asked s (option_form count) (λ number. with_options s (with_option s.options count (option_named count number))) items t are f in
-          let here : t.options count ≡ Some (option_named count a.said) = (λ i. (sym a.gives i).options count) ∙
-          ap (λ (x : Bool). if x then Some (option_named count a.said) else s.options count) (same_place count) in
-          let is : chosen_of o count ≡ option_named count a.said = later count (option_named count a.said) low high here in
-          let said : identifier_number count (chosen_of o count) ≡ a.said = ap (identifier_number count) is ∙
-          named_forth count a.said low high (narrow a.said a.says) (possible_named (names_option count a.said) a.may) in
-          (a.is ∙ (λ i. record { form = option_form count; said = sym said i } ∷ []), here ∙ ap Some (sym is))
-        where
-          narrow : (n : ℕ) → n < 2 ^ identifier_width count → n < 4
-          narrow n lt = let w : 2 ^ identifier_width count ≤ 4 = wide (nat_lt count 3) in omega (arith, lt, w)
-            where
-              wide : (t : Bool) → 2 ^ (if t then 1 else 2) ≤ 4
-              wide true = omega arith
-              wide false = omega arith
+      narrow : (n : ℕ) → n < 2 ^ identifier_width count → n < 4
+      narrow n lt = grind (arith, nat_tests)
 
-  coded_back : 2 ≤ count → (t : State) → t.options count ≡ Some (chosen_of o count) → (items : List Item) (r : State × ℕ) → ArePossible items →
-      Follows (coded_script book count check t) items r → items ≡ checked_word book count (chosen_of o count) r.1 check ∷ []
-  coded_back low t here items r are f =
-      let c = chosen_of o count in
-      let g = subst (λ x. Follows {G = State} (ask t (word_form book count x check) (λ said. done (t, word_said count x said))) items r)
-      (ap option_of here) f in
-      let a = asked t (word_form book count c check) (λ said. (t, word_said count c said)) items r are g in
-      let value : word_said count c a.said ≡ r.1 = λ i. (a.gives i).1 in
-      let same : a.said ≡ (word_item book count c (word_said count c a.said)).said = sym (back c a.said (c == uncoded count) a.says) in
-      a.is ∙ (λ i. record {
-        form = record {
-          shape = word_shape book count c 0 (word_said count c a.said) i;
-          refusal = refused_where (λ said. refuses check
-              (word_said count c said)) false_flag;
-        };
-        said = same i;
-      } ∷ []) ∙ ap (λ v. checked_word book count c v check ∷ []) value
+  coded_decided : (w : ℕ) → 2 ≤ count → (t : State) → Decided (coded_script book count check t) (End w)
+  coded_decided w low t = (
+    if option_of (t.options count) == uncoded count then w else symbol count w,
+    λ n said good. (λ z. by (option_of (t.options count)) n (option_of (t.options count) == uncoded count) said z.1, tt),
+  )
     where
-      item_by : ℕ → Bool → ℕ → Item
-      item_by c u v = if u then plain count v else code (codes_of book count c) (symbol count v)
+      item_by : ℕ → Bool → Item
+      item_by c u = if u then plain count 0 else code (codes_of book count c) (symbol count 0)
 
-      back : (c n : ℕ) (u : Bool) → IsSaid (item_by c u 0).form.shape n → (item_by c u (if u then n else word_of count n)).said ≡ n
-      back c n true says = refl
-      back c n false says =
-          symbol-word_of count n low high (let e = length-map-span (λ i. code_bits (code_at book count c i)) (2 ^ count) in omega (arith, e, says))
+      by : (c n : ℕ) (u : Bool) → IsSaid (item_by c u).form.shape n → (if u then n else word_of count n) ≡ w → n ≡ (if u then w else symbol count w)
+      by c n true says e = e
+      by c n false says e =
+          sym (symbol-word_of count n low high (let z = length-map-span (λ i. code_bits (code_at book count c i)) (2 ^ count) in omega (arith, z, says))) ∙
+          ap (symbol count) e
 
-  pub word_back : (items : List Item) (r : State × ℕ) → ArePossible items → Follows (word_script book count check s) items r → Later o r.0.options →
-      items ≡ entry_reading book o before check (Word (record { value = r.1; count = count }))
-  word_back items r are f later =
-      by (count == 0) refl (count == 1) refl f ∙ sym (word_reading book o before check (record { value = r.1; count = count }))
+  pub word_decided : (w : ℕ) → Decided (word_script book count check s) (End w)
+  word_decided w = by (count == 0) refl (count == 1) refl
     where
       by : (a : Bool) → (count == 0) ≡ a → (b : Bool) → (count == 1) ≡ b →
-          Follows (if a then done (s, 0) else if b then ask s (raw_form check) (λ value. done (s, value)) else
-          then_ask (option_script count s (s.options count)) (coded_script book count check)) items r →
-          items ≡ (if a then [] else if b then record { form = raw_form check; said = r.1 } ∷ [] else
-          opening o before count ++ checked_word book count (chosen_of o count) r.1 check ∷ [])
-      by true e b g f = (done_none State (s, 0) r items f).0
-      by false e true g f =
-          let a = asked s (raw_form check) (λ value. (s, value)) items r are f in
-          a.is ∙ (λ i. record { form = raw_form check; said = (a.gives i).1 } ∷ [])
-      by false e false g f =
-          let z : count ≡ 0 → ⊥ = grind (arith, nat_tests) in
-          let one : count ≡ 1 → ⊥ = grind (arith, nat_tests) in
-          let low : 2 ≤ count = omega (arith, z, one) in
-          let w = follows_split (coded_script book count check) (option_script count s (s.options count)) items r f in
-          let p = possible_parts w.first w.rest (subst ArePossible w.both are) in
-          let kept : w.value ≡ r.0 = unchanged w.value w.rest p.1 w.then in
-          let first = option_back low w.first w.value p.0 w.follows (subst (λ u. Later o u.options) (sym kept) later) in
-          w.both ∙ ap (λ l. l ++ w.rest) first.0 ∙ ap (λ l. opening o before count ++ l) (coded_back low w.value first.1 w.rest r p.1 w.then)
-        where
-          unchanged : (t : State) (l : List Item) → ArePossible l → Follows (coded_script book count check t) l r → t ≡ r.0
-          unchanged t l are f =
-              let a = asked t (word_form book count (option_of (t.options count)) check) (λ said. (
-                t,
-                word_said count (option_of
-                    (t.options count)) said,
-              )) l r are f in
-              λ i. (a.gives i).0
+          Decided (if a then done (s, 0) else if b then ask s (raw_form check) (λ value. done (s, value)) else
+          then_ask (option_script count s (s.options count)) (coded_script book count check)) (End w)
+      by true e b f = tt
+      by false e true f = (w, λ n said good. (λ z. z.1, tt))
+      by false e false f =
+          let low : 2 ≤ count = grind (arith, nat_tests) in
+          decided_then (λ t. Unit {0}) (λ t. Later o t.options) (End w) (option_script count s (s.options count)) (coded_script book count check)
+          (any_option (s.options count)) (option_decided low (s.options count))
+          (λ t p. ((never, λ n said good z. z.0), coded_decided w low t))
+
+-- a word of due places
+pub due_decided : (book : Book) (o : List ℕ) (due : ℕ → Bool) (check : Check) (places : List ℕ) (f : ℕ → Bool) (s : State) → Differ places →
+    length places ≤ 4 →
+    Decided (due_script book due check places s) (λ r. Later o r.0.options × ((q : ℕ) → has (filter due places) q ≡ true → r.1 q ≡ f q))
+due_decided book o due check places f s apart few =
+    let here = filter due places in
+    let count = length here in
+    decided_then (WordMay false count check s) (λ w. Later o w.0.options × (w.1 ≡ value_of (map f here)))
+    (λ r. Later o r.0.options × ((q : ℕ) → has here q ≡ true → r.1 q ≡ f q)) (word_script book count check s) (λ w. done (w.0, ones here (bits_of count w.1)))
+    (word_may false book never count check s never never never)
+    (word_decided book o check count (let le = due_few due places in omega (arith, le, few)) s (value_of (map f here)))
+    (λ w p. (
+      λ z. (
+        z.0,
+        sym (value_of-bits_of count w.1 ∙ mod-eq_of_lt p.fits) ∙
+            ap value_of (ones_bits f here (bits_of count w.1) (differ_filter due places apart) (length-bits_of count w.1) z.1),
+      ),
+      tt,
+    ))

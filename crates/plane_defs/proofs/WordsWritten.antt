@@ -1,13 +1,13 @@
 -- The items of words, types and signs follow their scripts.
-use Rattle.std.proofs.Common.{◌≡◌, ℕ, ◌<◌, ◌≤◌, ◌^◌, ◌==◌, ◌||◌, Bool, true, false, if◌then◌else◌, List, [], ◌∷◌, ◌++◌, refl, ap, sym, ◌∙◌, subst, arith, Option, Some, None}
-use Rattle.std.specs.List.{list_all, list_any}
+use Rattle.std.proofs.Common.{◌≡◌, ℕ, ◌<◌, ◌≤◌, ◌^◌, ◌==◌, ◌||◌, Bool, true, false, if◌then◌else◌, List, [], ◌∷◌, ◌++◌, refl, ap, sym, ◌∙◌, subst, arith}
+use Rattle.std.proofs.Common.{Option, Some, None}
+use Rattle.std.specs.List.{list_any}
 use Rattle.std.proofs.lemmas.Bool.Decides.{nat_tests}
 use Rattle.std.proofs.lemmas.List.Folds.{list_any-append}
 use Rattle.item_defs.specs.Items.{Item, plain, code, refused_where, false_flag}
 use Rattle.base_122.specs.declared.book.Book.{Book}
 use Rattle.plane_defs.specs.declared.entries.Entry.{Entry}
 use Rattle.plane_defs.specs.declared.entries.Entry.TheVariants.{Word}
-use Rattle.plane_defs.specs.Spans.{span}
 use Rattle.plane_defs.specs.Codes.{codes_of, identifier_number, uncoded, symbol, word_item, option_item}
 use Rattle.plane_defs.specs.Spelled.{is_word_of, opening, option_of as chosen_of}
 use Rattle.plane_defs.specs.Reading.{word_of, word_said, checked_word, entry_reading}
@@ -25,25 +25,12 @@ use Rattle.plane_defs.specs.WordScripts.{option_form, option_named, with_option,
 is_back : (count option : ℕ) → Bool
 is_back count option = option_named count (identifier_number count option) == option
 
-all_back : list_all (λ count. list_all (is_back count) (span 0 count)) (span 0 5) ≡ true
-unfolding is_back span
-all_back = refl
-
 named_back : (count option : ℕ) → count ≤ 4 → option < count → option_named count (identifier_number count option) ≡ option
 unfolding is_back
-named_back count option high lt = let e =
-    list_all-span-zero (is_back count) count option (list_all-span-zero (λ n. list_all (is_back n) (span 0 n)) 5 count all_back (omega (arith, high))) lt in
-    equal _ _ e
-  where
-    equal : (a b : ℕ) → (a == b) ≡ true → a ≡ b
-    equal a b e = grind (arith, nat_tests)
+named_back count option high lt = grind (arith, nat_tests, list_all-span-zero)
 
 some_word : (e : Entry) (n : ℕ) (before : List Entry) → list_any (is_word_of n) (before ++ e ∷ []) ≡ (list_any (is_word_of n) before || is_word_of n e)
-some_word e n before = list_any-append (is_word_of n) before (e ∷ []) ∙ ap (λ b. list_any (is_word_of n) before || b) (or_none (is_word_of n e))
-  where
-    or_none : (b : Bool) → (b || false) ≡ b
-    or_none true = refl
-    or_none false = refl
+some_word e n before = grind (arith, nat_tests, list_any-append)
 
 -- an entry that is no longer word
 pub knows_same : (o : List ℕ) (before : List Entry) (e : Entry) (options : ℕ → Option ℕ) → ((n : ℕ) → 2 ≤ n → is_word_of n e ≡ false) → Knows o before options →
@@ -53,8 +40,7 @@ knows_same o before e options none knows n low high =
     ap (λ b. list_any (is_word_of n) before || b) (none n low) ∙ or_none (list_any (is_word_of n) before)))
   where
     or_none : (b : Bool) → (b || false) ≡ b
-    or_none true = refl
-    or_none false = refl
+    or_none b = grind (arith, nat_tests)
 
 -- what the word of an entry leaves
 pub record Wrote (o : List ℕ) (before : List Entry) (e : Entry) (s : State) (value : ℕ) (r : State × ℕ) : Type 0 where
@@ -79,12 +65,10 @@ module _ (book : Book) (o : List ℕ) (chosen : AreChosen o) (before : List Entr
     opened options here others = record { after = λ n lo hi. by n lo hi (count == n) refl; same = refl; here = here }
       where
         or_true : (b : Bool) → (b || true) ≡ true
-        or_true true = refl
-        or_true false = refl
+        or_true b = grind (arith, nat_tests)
 
         or_none : (b : Bool) → (b || false) ≡ b
-        or_none true = refl
-        or_none false = refl
+        or_none b = grind (arith, nat_tests)
 
         by : (n : ℕ) → 2 ≤ n → n ≤ 4 → (t : Bool) → (count == n) ≡ t →
             options n ≡ (if list_any (is_word_of n) (before ++ entry ∷ []) then Some (chosen_of o n) else None)

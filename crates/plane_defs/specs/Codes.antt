@@ -1,6 +1,7 @@
 -- The symbols of words, and the codes of symbols. (The use of variable length codes after CCSDS
 -- 122.0-B-2, section 4.5.3.3; symbols, tables and identifiers are this project's own.)
-use Rattle.std.specs.Prelude.{ℕ, ◌+◌, ◌-◌, ◌^◌, Bool, true, false, not, ◌&&◌, ◌||◌, ◌==◌, if◌then◌else◌, List, [], ◌∷◌, nat_le, nat_lt, count_ones, count_by, map}
+use Rattle.std.specs.Prelude.{ℕ, ◌+◌, ◌-◌, ◌^◌, Bool, true, false, not, ◌&&◌, ◌||◌, ◌==◌, if◌then◌else◌, List, [], ◌∷◌, nat_le, nat_lt, count_ones}
+use Rattle.std.specs.Prelude.{count_by, map}
 use Rattle.std.specs.List.{list_all, list_any}
 use lib.ListN.{get_or}
 use Rattle.item_defs.specs.Bits.{bits_of}

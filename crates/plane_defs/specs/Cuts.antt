@@ -1,6 +1,7 @@
 -- Values that are cut in a plane: what the text gives of them up to a place in its order. (docs/formats.md, "Bit planes" and "Stops, cut
 -- and fill"; this project's own.)
-use Rattle.std.specs.Prelude.{◌≡◌, ◌<◌, ℕ, zero, suc, ◌+◌, ◌-◌, ◌*◌, ◌/◌, ◌^◌, ◌==◌, ◌&&◌, ◌||◌, Bool, true, false, if◌then◌else◌, nat_lt, List, [], ◌++◌, length, map, ℤ, pos, ◌*ℤ◌, ◌-ℤ◌}
+use Rattle.std.specs.Prelude.{◌≡◌, ◌<◌, ℕ, zero, suc, ◌+◌, ◌-◌, ◌*◌, ◌/◌, ◌^◌, ◌==◌, ◌&&◌, ◌||◌, Bool, true, false, if◌then◌else◌, nat_lt, List, [], ◌++◌}
+use Rattle.std.specs.Prelude.{length, map, ℤ, pos, ◌*ℤ◌, ◌-ℤ◌}
 use Rattle.std.specs.Int.{int_shr}
 use Rattle.std.specs.List.{flat_map}
 use lib.ListN.{get_or}

@@ -1,7 +1,8 @@
 -- The raw bits and words that a block sends in a plane, made only from its values. (CCSDS 122.0-B-2, sections
 -- 4.5.2 and 4.5.3; that a flag of a set is sent only if some member can have a bit in the plane is this
 -- project's own.)
-use Rattle.std.specs.Prelude.{ℕ, ◌<◌, ◌≤◌, ◌/◌, ◌%◌, ◌^◌, ℤ, pos, negsuc, Bool, true, false, ◌&&◌, ◌==◌, if◌then◌else◌, List, [], ◌∷◌, ◌++◌, nat_lt, filter, map, length}
+use Rattle.std.specs.Prelude.{ℕ, ◌<◌, ◌≤◌, ◌/◌, ◌%◌, ◌^◌, ℤ, pos, negsuc, Bool, true, false, ◌&&◌, ◌==◌, if◌then◌else◌, List, [], ◌∷◌, ◌++◌, nat_lt, filter}
+use Rattle.std.specs.Prelude.{map, length}
 use Rattle.std.specs.List.{flat_map}
 use lib.ListN.{get_or}
 use Rattle.item_defs.specs.Bits.{bit, value_of}

@@ -1,43 +1,19 @@
--- What reading needs of planes: what was said before and the next word determine which bits are due next.
+-- Numbers that are multiples of 2 ^ shift, and the law of the tables of codes.
 use Rattle.std.specs.Prelude.{◌≡◌, ◌<◌, ◌≤◌, ℕ, ◌+◌, ◌*◌, ◌^◌, ℤ, true, List, [], ◌∷◌, ◌++◌, Bool}
-use Rattle.std.specs.List.{AllByRecursion}
 use Rattle.item_defs.specs.Bits.{bits_of}
 use Rattle.plane_defs.specs.declared.sets.Set.{Set}
 use Rattle.item_defs.specs.Items.{coded}
 use Rattle.item_defs.specs.Readings.{IsSound}
 use Rattle.base_122.specs.declared.book.Code.{Code}
 use Rattle.base_122.specs.declared.book.Book.{Book}
-use Rattle.plane_defs.specs.Sets.{magnitude, significant, shift, set_significant}
+use Rattle.plane_defs.specs.Sets.{magnitude, shift}
 use Rattle.plane_defs.specs.declared.sets.Set.TheVariants.{Family}
-use Rattle.plane_defs.specs.declared.entries.Entry.{Entry}
-use Rattle.plane_defs.specs.declared.entries.Entry.TheVariants.{Bit, Word}
 use Rattle.plane_defs.specs.Codes.{is_table_sound, is_book_sound, is_prefix, code_bits, codes_of, entry}
 
 -- each magnitude is a multiple of 2 ^ shift
 pub record IsMultiple (block : List ℤ) (weights : List ℕ) : Type 0 where
   pub part : ℕ → ℕ
   pub whole : (p : ℕ) → magnitude block p ≡ 2 ^ shift weights p * part p
-
--- the same numbers down to the plane above this one
-abbrev pub SameAbove : List ℤ → List ℤ → ℕ → Type 0
-SameAbove u v plane = (p : ℕ) → significant u (plane + 1) p ≡ significant v (plane + 1) p
-
--- both are significant in this plane, or neither is
-abbrev pub SameSets : List ℤ → List ℤ → ℕ → List Set → Type 0
-SameSets u v plane sets = AllByRecursion (λ s. set_significant u plane s ≡ set_significant v plane s) sets
-
--- entries that are of one kind and length for as long as they say the same
-abbrev pub EntriesAlike : List Entry → List Entry → Type 0
-EntriesAlike [] [] = Unit {0}
-EntriesAlike (Bit a ∷ xs) (Bit b ∷ ys) = a ≡ b → EntriesAlike xs ys
-EntriesAlike (Word a ∷ xs) (Word b ∷ ys) = (a.count ≡ b.count) × (a.value ≡ b.value → EntriesAlike xs ys)
-EntriesAlike xs ys = ⊥
-
--- two blocks that are the same above a plane, and what is known of the families in it
-pub record AreAlike (u v : List ℤ) (weights : List ℕ) (plane : ℕ) : Type 0 where
-  pub above : SameAbove u v plane
-  pub first : IsMultiple u weights
-  pub second : IsMultiple v weights
 
 abbrev pub three_families : List Set
 three_families = Family 0 ∷ Family 1 ∷ Family 2 ∷ []

@@ -10,8 +10,6 @@ pub mod Marks
 pub mod Steps
 pub mod Reading
 pub mod StepLaws
-pub mod Completed
-pub mod Choosing
 pub mod States
 pub mod WordScripts
 pub mod StageScripts

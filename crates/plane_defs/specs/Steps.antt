@@ -1,5 +1,5 @@
--- What a block sends in a plane, step by step: each raw bit or word, with the words that no values have there and with
--- what it reports of the block's numbers. (CCSDS 122.0-B-2, sections 4.5.2 and 4.5.3; which words are refused is this
+-- What a block sends in a plane, step by step: each raw bit or word, with the words that no values have there. (CCSDS 122.0-B-2, sections
+-- 4.5.2 and 4.5.3; which words are refused is this
 -- project's own.)
 use Rattle.std.specs.Prelude.{ℕ, ◌+◌, ℤ, pos, Bool, false, not, ◌&&◌, ◌||◌, ◌==◌, if◌then◌else◌, List, [], ◌∷◌, ◌++◌, nat_lt, filter, map, length}
 use Rattle.std.specs.List.{flat_map, list_any}
@@ -12,7 +12,7 @@ use Rattle.plane_defs.specs.declared.stages.Stage.TheVariants as stages
 use Rattle.plane_defs.specs.declared.entries.Entry.{Entry}
 use Rattle.plane_defs.specs.declared.entries.Entry.TheVariants.{Bit}
 use Rattle.plane_defs.specs.Spans.{span}
-use Rattle.plane_defs.specs.Sets.{magnitude, significant, coded, set_significant, live, type_due, flag_due, newly_significant, refined, children_of, quad_of}
+use Rattle.plane_defs.specs.Sets.{magnitude, significant, coded, set_significant, live, flag_due, newly_significant, refined, children_of, quad_of}
 use Rattle.plane_defs.specs.Entries.{twos_bit, negative, word, types, flags, significant_families}
 
 -- which words are refused: none, only the word of zeros, or those in which one of these ones is missing
@@ -32,20 +32,12 @@ refuses free w = false
 refuses some_one w = w == 0
 refuses (ones_at wants) w = lacks_one wants (bits_of (length wants) w)
 
--- what a step gives: only flags of sets, the types of numbers, a number's sign, or its bit of this plane
-pub data Told : Type 0 where
-  flags_alone : Told
-  types_at : List ℕ → Told
-  sign_at : ℕ → Told
-  bit_at : ℕ → Told
-
 pub record Step : Type 0 where
   pub entry : Entry
   pub check : Check
-  pub tells : Told
 
-abbrev pub step : Check → Told → Entry → Step
-step check tells entry = record { entry = entry; check = check; tells = tells }
+abbrev pub step : Check → Entry → Step
+step check entry = record { entry = entry; check = check }
 
 abbrev pub some_one_where : Bool → Check
 some_one_where b = if b then some_one else free
@@ -58,17 +50,17 @@ is_new block plane s = set_significant block plane s && not (set_significant blo
 
 abbrev pub typed_steps : List ℤ → List ℕ → ℕ → Check → List ℕ → List Step
 typed_steps block weights plane check positions =
-    step check (types_at (filter (type_due block weights plane) positions)) (word (types block weights plane positions))
-    ∷ map (λ p. step free (sign_at p) (Bit (negative (get_or block p (pos 0))))) (filter (newly_significant block weights plane) positions)
+    step check (word (types block weights plane positions)) ∷ map (λ p. step free (Bit (negative (get_or block p (pos 0)))))
+    (filter (newly_significant block weights plane) positions)
 
 abbrev pub flags_step : List ℤ → List ℕ → ℕ → Check → List Set → Step
-flags_step block weights plane check sets = step check flags_alone (word (flags block weights plane sets))
+flags_step block weights plane check sets = step check (word (flags block weights plane sets))
 
 -- ---- stages 0 and 1
 
 abbrev pub dc_steps : List ℤ → List ℕ → ℕ → ℕ → List Step
 dc_steps block weights plane q =
-    if coded weights plane 0 && nat_lt plane q then step free (bit_at 0) (Bit (twos_bit (get_or block 0 (pos 0)) plane)) ∷ [] else []
+    if coded weights plane 0 && nat_lt plane q then step free (Bit (twos_bit (get_or block 0 (pos 0)) plane)) ∷ [] else []
 
 abbrev pub parents_steps : List ℤ → List ℕ → ℕ → List Step
 parents_steps block weights plane = typed_steps block weights plane free (span 1 3)
@@ -89,7 +81,7 @@ children_types_steps block weights plane =
 
 abbrev pub children_steps : List ℤ → List ℕ → ℕ → List Step
 children_steps block weights plane =
-    map (λ b. step free flags_alone (Bit b)) (flags block weights plane (Descendants ∷ [])) ++
+    map (λ b. step free (Bit b)) (flags block weights plane (Descendants ∷ [])) ++
     flags_step block weights plane (descendants_check block plane) (Family 0 ∷ Family 1 ∷ Family 2 ∷ [])
     ∷ children_types_steps block weights plane
 
@@ -132,7 +124,7 @@ grandchildren_steps block weights plane =
 
 abbrev pub refinement_steps : List ℤ → List ℕ → ℕ → List Step
 refinement_steps block weights plane =
-    map (λ p. step free (bit_at p) (Bit (bit (magnitude block p) plane))) (filter (refined block weights plane) (span 1 63))
+    map (λ p. step free (Bit (bit (magnitude block p) plane))) (filter (refined block weights plane) (span 1 63))
 
 -- ---- a stage of a block of depth d
 

@@ -26,6 +26,6 @@ pub const fn planes_are_read()
 {}
 
 /// If all stages of all planes are read with possible answers, the items are those that the blocks at the end write.
-pub const fn planes_come_back()
+pub const fn planes_are_returned()
     ensures { PlanesBack }
 {}

@@ -1,5 +1,6 @@
 -- Blocks, as a stage reads them.
-use Rattle.std.proofs.Common.{◌≡◌, ℕ, ◌+◌, ◌*◌, ◌<◌, ◌≤◌, ◌^◌, ◌==◌, ◌&&◌, ◌||◌, not, List, ◌++◌, Bool, true, false, length, refl, sym, ap, subst, ◌∙◌, arith, Option, Some, None, Result, Ok, Err, ℤ, pos, get_or, pow_pos, if◌then◌else◌}
+use Rattle.std.proofs.Common.{◌≡◌, ℕ, ◌+◌, ◌*◌, ◌<◌, ◌≤◌, ◌^◌, ◌==◌, ◌&&◌, ◌||◌, not, List, ◌++◌, Bool, true, false, length, refl, sym, ap, subst, ◌∙◌}
+use Rattle.std.proofs.Common.{arith, Option, Some, None, Result, Ok, Err, ℤ, pos, get_or, pow_pos, if◌then◌else◌}
 use Rattle.std.proofs.lemmas.Nat.Bits.{bit_at_above}
 use Rattle.item_defs.specs.Bits.{bit}
 use Rattle.plane_defs.specs.Sets.{significant, coded, type_due}
@@ -27,7 +28,8 @@ use Rattle.plane_reader.specs.Held.{Point, ReadsFrom}
 use Rattle.plane_reader.specs.HeldTakes.{HeldState, HeldFamilies}
 use Rattle.plane_reader.specs.Grandchildren.{grandchildren_from}
 use Rattle.plane_reader.specs.Blocks.{IsAbove, Applies, HasRead, HeldStage, TakesBlock, part_from, stage_part}
-use Rattle.plane_reader.proofs.Frames.{as_read, as_before, beside, mapped, blank, beside_blank, parents_frame, grandchildren_frame, refinement_frame, children_frame, around_is}
+use Rattle.plane_reader.proofs.Frames.{as_read, as_before, beside, mapped, blank, beside_blank, parents_frame, grandchildren_frame, refinement_frame}
+use Rattle.plane_reader.proofs.Frames.{children_frame, around_is}
 
 -- ---- a part that is read and put back
 
@@ -83,9 +85,9 @@ module _ {S T : Type 0} (put : S → T) where
 
 pub either_at : {a b r : ℕ} → ((f g : ℕ → Bool) (start count : ℕ) → Shows a f start count → Shows b g start count → Shows r (λ p. f p || g p) start count) →
     a < 2 ^ 64 → b < 2 ^ 64 → (p : ℕ) → p < 64 → bit r p ≡ (bit a p || bit b p)
-either_at {a} {b} {r} told la lb p lt =
+either_at {a} {b} {r} if_known la lb p lt =
     let z : 0 + p ≡ p = omega arith in
-    (told (bit a) (bit b) 0 64 (shows_own a 64 la) (shows_own b 64 lb)).at p lt ∙ ap (λ q. bit a q || bit b q) z
+    (if_known (bit a) (bit b) 0 64 (shows_own a 64 la) (shows_own b 64 lb)).at p lt ∙ ap (λ q. bit a q || bit b q) z
 
 pub masks_put : {r plane bits minus : ℕ} {found : Found} {old mid new : List ℤ} → plane < 27 → PutsMask r minus_slot minus old mid →
     PutsMask r plane bits mid new → 64 * r < length old →
@@ -106,18 +108,18 @@ pub seen_is : {above there now plane r : ℕ} {numbers cells : List ℤ} {s : St
     Shows there g start count → Shows now (λ p. f p || g p) start count) → above < 2 ^ 64 → there < 2 ^ 64 →
     IsAbove above numbers plane → there ≡ mask_in cells r plane → HasRead plane r cells numbers s → (p : ℕ) → IsAc p →
     bit now p ≡ (significant numbers (plane + 1) p || s.bits p)
-seen_is {above} {there} {plane = plane} {numbers = numbers} told la lb marked e has p ac =
-    either_at told la lb p ac.1 ∙ ap (λ b. b || bit there p) (marked p ac) ∙ ap (λ b. significant numbers (plane + 1) p || b) (ap (λ m. bit m p) e ∙
+seen_is {above} {there} {plane = plane} {numbers = numbers} if_known la lb marked e has p ac =
+    either_at if_known la lb p ac.1 ∙ ap (λ b. b || bit there p) (marked p ac) ∙ ap (λ b. significant numbers (plane + 1) p || b) (ap (λ m. bit m p) e ∙
     has.bits p ac)
 
 -- the types that are due
 pub due_marks : {due above mask : ℕ} (plane : ℕ) (weights : List ℕ) (block : List ℤ) → ((f g : ℕ → Bool) (start count : ℕ) → Shows above f start count →
     Shows mask g start count → Shows due (λ p. not (f p) && g p) start count) → above < 2 ^ 64 → Shows mask (coded weights plane) 0 64 →
     IsAbove above block plane → (start count : ℕ) → 1 ≤ start → start + count ≤ 64 → Marks due (type_due block weights plane) start count
-due_marks {due} {above} {mask} plane weights block told fits shown is_above start count low high k lt =
+due_marks {due} {above} {mask} plane weights block if_known fits shown is_above start count low high k lt =
     let z : 0 + (start + k) ≡ start + k = omega arith in
     let within : start + k < 64 = omega (arith, lt, high) in
-    (told (bit above) (coded weights plane) 0 64 (shows_own above 64 fits) shown).at (start + k) within ∙
+    (if_known (bit above) (coded weights plane) 0 64 (shows_own above 64 fits) shown).at (start + k) within ∙
     ap (λ p. not (bit above p) && coded weights plane p) z ∙
     ap (λ b. not b && coded weights plane (start + k)) (is_above (start + k) (omega (arith, low), within)) ∙ sym (type_due-is block weights plane (start + k))
 
@@ -131,9 +133,6 @@ nothing_shown f none = record { at = λ k lt. zero_bit k ∙ sym (none (0 + k));
 
 abbrev pub nothing_found : Found
 nothing_found = record { bits = 0; minus = 0 }
-
-pub blank_is : {g : Gaggle} (s : State) → AreIn g s.options → IsState g nothing_found (blank s)
-blank_is s are = record { options = are; bits = nothing_shown (λ p. false) (λ p. refl); minus = nothing_shown (λ p. false) (λ p. refl) }
 
 -- nothing was found yet
 pub blank_found : {g : Gaggle} {f : Found} (s : State) → f.bits ≡ 0 → f.minus ≡ 0 → AreIn g s.options → IsState g f (blank s)

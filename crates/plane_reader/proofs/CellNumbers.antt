@@ -1,5 +1,6 @@
 -- The numbers that masks represent, if some masks are changed.
-use Rattle.std.proofs.Common.{◌≡◌, inl, inr, ℕ, ◌+◌, ◌*◌, ◌%◌, ◌<◌, ◌≤◌, ◌^◌, max, Bool, true, not, ◌==◌, List, length, ap, sym, ◌∙◌, subst, arith, ℤ, unsigned_abs, if◌then◌else◌}
+use Rattle.std.proofs.Common.{◌≡◌, inl, inr, ℕ, ◌+◌, ◌*◌, ◌%◌, ◌<◌, ◌≤◌, ◌^◌, max, Bool, true, not, ◌==◌, List, length, ap, sym, ◌∙◌, subst, arith, ℤ}
+use Rattle.std.proofs.Common.{unsigned_abs, if◌then◌else◌}
 use Rattle.std.specs.Int.{bit_at}
 use Rattle.std.specs.Prelude.{bit_or}
 use Rattle.std.specs.Int.Bits.{or_add_and}

@@ -1,5 +1,6 @@
 -- What a block sends of its children, as it is read from a window that is held.
-use Rattle.std.proofs.Common.{◌≡◌, ℕ, ◌+◌, Bool, true, false, not, ◌&&◌, ◌||◌, ℤ, List, ap, sym, ◌∙◌, subst, arith, if◌then◌else◌, Ok, Err, Some, None, Result, Option}
+use Rattle.std.proofs.Common.{◌≡◌, ℕ, ◌+◌, Bool, true, false, not, ◌&&◌, ◌||◌, ℤ, List, ap, sym, ◌∙◌, subst, arith, if◌then◌else◌, Ok, Err, Some, None}
+use Rattle.std.proofs.Common.{Result, Option}
 use Rattle.std.specs.List.{list_any}
 use Rattle.item_defs.specs.Bits.{bit}
 use Rattle.plane_defs.specs.declared.sets.Set.TheVariants.{Descendants, Family, Grandchildren}
@@ -10,7 +11,7 @@ use Rattle.block_masks.specs.declared.gaggle.Gaggle.{Gaggle}
 use Rattle.block_masks.specs.Masks.{Shows}
 use Rattle.bit_pipe.specs.declared.fault.TextFault.{TextFault}
 use Rattle.bit_pipe.specs.Sources.{SourceOf}
-use Rattle.bit_pipe.specs.Coming.{IsIn}
+use Rattle.bit_pipe.specs.SourceState.{IsIn}
 use Rattle.item_defs.specs.Scripts.{Script, done, ask_bit, then_ask, in_turn}
 use Rattle.bit_pipe.specs.ScriptSources.{got, ends, by_fault, by_item}
 use Rattle.plane_defs.specs.States.{State, with_options, with_families}

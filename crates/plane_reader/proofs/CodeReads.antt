@@ -1,5 +1,6 @@
 -- Identifiers and codes of words, as the numbers of items.
-use Rattle.std.proofs.Common.{◌≡◌, ℕ, zero, suc, ◌+◌, ◌<◌, ◌≤◌, ◌^◌, ◌==◌, ◌&&◌, ◌||◌, nat_lt, if◌then◌else◌, [], ◌∷◌, Bool, true, false, refl, ap, sym, ◌∙◌, subst, arith, append-nil, Option, Some, None, Result, Ok, Err, ◌⊎◌, inl, inr}
+use Rattle.std.proofs.Common.{◌≡◌, ℕ, zero, suc, ◌+◌, ◌<◌, ◌≤◌, ◌^◌, ◌==◌, ◌&&◌, ◌||◌, nat_lt, if◌then◌else◌, [], ◌∷◌, Bool, true, false, refl, ap, sym}
+use Rattle.std.proofs.Common.{◌∙◌, subst, arith, append-nil, Option, Some, None, Result, Ok, Err, ◌⊎◌, inl, inr}
 use Rattle.std.specs.List.{list_all}
 use Rattle.std.proofs.lemmas.Bool.Decides.{nat_tests}
 use Rattle.item_defs.specs.Items.{Refusal, bad_option, bad_delta, bad_depth, false_flag, plain, code, item_bits, Item, Form, IsSaid}
@@ -17,7 +18,7 @@ use Rattle.bit_pipe.specs.declared.fault.InFault.{InFault}
 use Rattle.bit_pipe.specs.declared.fault.TextFault.{TextFault}
 use Rattle.bit_pipe.specs.Faults.{of_input, of_refusal}
 use Rattle.bit_pipe.specs.Sources.{SourceOf}
-use Rattle.bit_pipe.specs.Coming.{Coming, Takes, EndsItem}
+use Rattle.bit_pipe.specs.SourceState.{SourceState, Takes, EndsItem}
 use Rattle.bit_pipe.specs.Reading.{Ending, stopped, failed, Reads}
 use Rattle.bit_pipe.specs.Answers.{item_answer}
 use Rattle.item_defs.specs.Scripts.{Script, ask}
@@ -28,14 +29,14 @@ use Rattle.plane_defs.specs.WordScripts.{option_named}
 -- ---- one item that a call reads
 
 -- its bits; or none of its codes, at the end of the bits or by a fault of the input; or a code that its form refuses
-abbrev pub OneEnds : {I : Type 0} → SourceOf I → Item → ℕ → Result (Option ℕ) TextFault → Coming I → Coming I → Type 0
+abbrev pub OneEnds : {I : Type 0} → SourceOf I → Item → ℕ → Result (Option ℕ) TextFault → SourceState I → SourceState I → Type 0
 OneEnds k it value (Ok (Some v)) old new = (v ≡ value) × Takes k old new (item_bits it)
 OneEnds k it value (Ok None) old new = EndsItem k it.form.shape (Ok None) old new
 OneEnds k it value (Err fault) old new =
     ((said : ℕ) × (name : Refusal) × (fault ≡ of_refusal name) × (it.form.refusal said ≡ Some name) × EndsItem k it.form.shape (Ok (Some said)) old new) ⊎
     ((e : InFault) × (fault ≡ of_input e) × EndsItem k it.form.shape (Err e) old new)
 
-pub one_ends : {I : Type 0} {k : SourceOf I} (it : Item) (value : ℕ) {old new : Coming I} (ending : Ending) → Reads k (it ∷ []) ending old new →
+pub one_ends : {I : Type 0} {k : SourceOf I} (it : Item) (value : ℕ) {old new : SourceState I} (ending : Ending) → Reads k (it ∷ []) ending old new →
     OneEnds k it value (item_answer value ending) old new
 one_ends {k = k} it value {old} {new} (stopped all_read) q = (refl, subst (Takes k old new) (append-nil (item_bits it)) q.ends)
 one_ends it value (stopped (cut_off zero)) q = (record { some = q.ends.0.some; taken = q.ends.0.taken; lacks = q.ends.0.lacks }, q.ends.1)
@@ -52,7 +53,7 @@ by_refusal bad_depth g = refl
 by_refusal false_flag g = refl
 
 -- a fault of an item is one of the question for it, if the question has the item's shape and refuses what the item's form refuses
-pub asked_fault : {I G A : Type 0} {k : SourceOf I} (g : G) (form : Form) (next : ℕ → Script G A) (it : Item) (value : ℕ) {old new : Coming I} →
+pub asked_fault : {I G A : Type 0} {k : SourceOf I} (g : G) (form : Form) (next : ℕ → Script G A) (it : Item) (value : ℕ) {old new : SourceState I} →
     IsSound form.shape → form.shape ≡ it.form.shape →
     ((n : ℕ) (name : Refusal) → it.form.refusal n ≡ Some name → form.refusal n ≡ Some name) → (fault : TextFault) → OneEnds k it value (Err fault) old new →
     ReadsAs k (ask g form next) (by_fault fault g) old new

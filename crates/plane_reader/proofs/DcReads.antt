@@ -1,5 +1,6 @@
 -- The bits of the DC numbers, as stage 0 reads them.
-use Rattle.std.proofs.Common.{◌≡◌, ℕ, zero, suc, ◌+◌, ◌*◌, ◌%◌, ◌^◌, ◌<◌, ◌≤◌, ◌==◌, ◌&&◌, ◌||◌, min, nat_lt, Bool, true, false, if◌then◌else◌, List, [], length, refl, ap, sym, ◌∙◌, subst, arith, ℤ, pos, ◌+ℤ◌, inl, inr, Option, Some, None, Result, Ok, Err, get_or, of_z, w32}
+use Rattle.std.proofs.Common.{◌≡◌, ℕ, zero, suc, ◌+◌, ◌*◌, ◌%◌, ◌^◌, ◌<◌, ◌≤◌, ◌==◌, ◌&&◌, ◌||◌, min, nat_lt, Bool, true, false, if◌then◌else◌, List, []}
+use Rattle.std.proofs.Common.{length, refl, ap, sym, ◌∙◌, subst, arith, ℤ, pos, ◌+ℤ◌, inl, inr, Option, Some, None, Result, Ok, Err, get_or, of_z, w32}
 use Rattle.std.specs.Int.{cast_signed}
 use mir.Val.{SFits}
 use Rattle.std.proofs.Math.Bool.{or-false}
@@ -13,7 +14,7 @@ use Rattle.bit_pipe.specs.declared.fault.Part.{Part}
 use Rattle.bit_pipe.specs.declared.fault.Part.TheVariants.{Whole, Ended}
 use Rattle.bit_pipe.specs.declared.fault.TextFault.{TextFault}
 use Rattle.bit_pipe.specs.Sources.{SourceOf}
-use Rattle.bit_pipe.specs.Coming.{Coming, IsIn}
+use Rattle.bit_pipe.specs.SourceState.{SourceState, IsIn}
 use Rattle.item_defs.specs.Scripts.{Script, done, ask_bit, then_ask, in_turn}
 use Rattle.bit_pipe.specs.ScriptSources.{got, ends, by_fault, ReadsAs}
 use Rattle.bit_pipe.proofs.ScriptReading.{read_done}
@@ -261,7 +262,7 @@ module _ (t : Terms) (depths : List ℕ) (numbers : List (List ℤ)) (same : len
       (length numbers) nothing_yet
   stage_is b e = ap (λ y. in_turn (dc_item y) 0 (length depths) nothing_yet) e ∙ ap (λ n. in_turn (dc_item b) 0 n nothing_yet) same
 
-  pub quiet_stage : {I : Type 0} {k : SourceOf I} {plane : ℕ} {cells marks : List ℤ} {x : Coming I} → IsIn x → length cells ≡ 64 * length numbers →
+  pub quiet_stage : {I : Type 0} {k : SourceOf I} {plane : ℕ} {cells marks : List ℤ} {x : SourceState I} → IsIn x → length cells ≡ 64 * length numbers →
       (coded t.weights t.plane 0 && nat_lt t.plane t.q) ≡ false → HaveRead plane cells marks numbers nothing_yet →
       TakesStage k plane numbers (blocks_script t depths numbers 0 nothing_yet) (Ok Whole) cells marks x x
   quiet_stage {k = k} {x = x} i whole off have =

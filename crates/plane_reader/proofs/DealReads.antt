@@ -1,5 +1,6 @@
 -- The bits of positions that are dealt out from a window, four positions at a time.
-use Rattle.std.proofs.Common.{◌≡◌, ℕ, zero, suc, ◌+◌, ◌-◌, ◌*◌, ◌/◌, ◌%◌, ◌<◌, ◌≤◌, ◌^◌, ◌==◌, ◌&&◌, ◌||◌, if◌then◌else◌, cond, Bool, true, false, [], ◌∷◌, ◌++◌, length, map, filter, refl, ap, sym, ◌∙◌, subst, arith, Some, Ok, count_ones}
+use Rattle.std.proofs.Common.{◌≡◌, ℕ, zero, suc, ◌+◌, ◌-◌, ◌*◌, ◌/◌, ◌%◌, ◌<◌, ◌≤◌, ◌^◌, ◌==◌, ◌&&◌, ◌||◌, if◌then◌else◌, cond, Bool, true, false, [], ◌∷◌}
+use Rattle.std.proofs.Common.{◌++◌, length, map, filter, refl, ap, sym, ◌∙◌, subst, arith, Some, Ok, count_ones}
 use Rattle.std.proofs.Math.Bool.{or-false}
 use Rattle.std.proofs.lemmas.Bool.Decides.{nat_tests}
 use Rattle.std.proofs.lemmas.List.{length-map}
@@ -167,7 +168,7 @@ module _ (g : ℕ → Bool) (a due : ℕ) (shown : Shows due g a 4) (rest places
   bits_are = same_bits _ _ (length-map (filter g (span a 4)) here ∙ sym (due_count g a 4 due four shown) ∙ sym long) (back ∙ word_is)
 
   pub places_shown : Shows places (λ q. g q && here q) a 4
-  places_shown = spread.told here g a 4 four shown back
+  places_shown = spread.if_known here g a 4 four shown back
 
   pub four_read : (s : State) → ReadTo g here a 4 s
   four_read s = read_to g here a 4 s

@@ -1,5 +1,6 @@
 -- Which of sixteen states have a depth above a plane, lane by lane.
-use Rattle.std.proofs.Common.{◌≡◌, ℕ, ◌+◌, ◌%◌, ◌<◌, ◌≤◌, ◌^◌, ℤ, pos, negsuc, Bool, cond, List, length, map, get_or, replicate, nat_lt, bit_and, FitsSigned, ap, sym, ◌∙◌, subst, arith, w32}
+use Rattle.std.proofs.Common.{◌≡◌, ℕ, ◌+◌, ◌%◌, ◌<◌, ◌≤◌, ◌^◌, ℤ, pos, negsuc, Bool, cond, List, length, map, get_or, replicate, nat_lt, bit_and}
+use Rattle.std.proofs.Common.{FitsSigned, ap, sym, ◌∙◌, subst, arith, w32}
 use Rattle.std.specs.Simd.Lanes.{mask_l, top, zip2}
 use Rattle.std.proofs.lemmas.Bool.Decides.{nat_tests}
 use Rattle.std.proofs.lemmas.Int.{ints, to_z_pos}

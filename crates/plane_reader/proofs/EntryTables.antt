@@ -1,5 +1,6 @@
 -- Tables of the words of due positions.
-use Rattle.std.proofs.Common.{◌≡◌, ℕ, zero, suc, ◌+◌, ◌-◌, ◌*◌, ◌/◌, ◌%◌, ◌<◌, ◌≤◌, ◌^◌, [], ◌∷◌, Bool, true, false, get_or, sym, ap, subst, ◌∙◌, arith, count_ones, cond}
+use Rattle.std.proofs.Common.{◌≡◌, ℕ, zero, suc, ◌+◌, ◌-◌, ◌*◌, ◌/◌, ◌%◌, ◌<◌, ◌≤◌, ◌^◌, [], ◌∷◌, Bool, true, false, get_or, sym, ap, subst, ◌∙◌, arith}
+use Rattle.std.proofs.Common.{count_ones, cond}
 use Rattle.std.proofs.lemmas.Nat.{shr-shr}
 use Rattle.item_defs.specs.Bits.{bit, bits_of}
 use Rattle.item_defs.specs.Items.{item_bits}

@@ -1,5 +1,6 @@
 -- What was read of a block before a stage only stands beside what the stage reads: scripts of words, types and signs do not depend on it.
-use Rattle.std.proofs.Common.{◌≡◌, ℕ, zero, suc, ◌+◌, ◌*◌, ◌==◌, ◌&&◌, ◌||◌, not, if◌then◌else◌, Bool, true, false, List, [], ◌∷◌, length, map, filter, ℤ, refl, sym, ap, ◌∙◌, Option, Some, None}
+use Rattle.std.proofs.Common.{◌≡◌, ℕ, zero, suc, ◌+◌, ◌*◌, ◌==◌, ◌&&◌, ◌||◌, not, if◌then◌else◌, Bool, true, false, List, [], ◌∷◌, length, map, filter, ℤ}
+use Rattle.std.proofs.Common.{refl, sym, ap, ◌∙◌, Option, Some, None}
 use Rattle.std.proofs.Math.Bool.{or-false}
 use Rattle.item_defs.specs.Bits.{bits_of}
 use Rattle.base_122.specs.declared.book.Book.{Book}
@@ -10,7 +11,8 @@ use Rattle.plane_defs.specs.Steps.{Check, some_one_where, ones_at}
 use Rattle.item_defs.specs.Scripts.{Script, done, ask, ask_bit, bit_form, then_ask, around, in_turn}
 use Rattle.plane_defs.specs.States.{State, with_bits, with_minus, with_families, and_one}
 use Rattle.plane_defs.specs.WordScripts.{raw_form, option_script, coded_script, word_script, ones, due_script, signs_script, types_script, group_script}
-use Rattle.plane_defs.specs.StageScripts.{Terms, above, is_due, bit_script, parents_script, descendants_script, children_script, is_childless, quads_script, refinement_script}
+use Rattle.plane_defs.specs.StageScripts.{Terms, above, is_due, bit_script, parents_script, descendants_script, children_script, is_childless, quads_script}
+use Rattle.plane_defs.specs.StageScripts.{refinement_script}
 use Rattle.plane_reader.specs.Grandchildren.{sixteen_script, grandchildren_from}
 use Rattle.plane_reader.proofs.ChildReads.{family_part, families_now, types_part, last_part, after_families, after_flag}
 use Rattle.plane_reader.proofs.GrandchildReads.{quads_word, quads_types, sixteens_word, sixteens_rest}

@@ -1,5 +1,7 @@
 -- The blocks of a gaggle, one after another.
-use Rattle.std.proofs.Common.{◌≡◌, ℕ, zero, suc, ◌+◌, ◌-◌, ◌*◌, ◌/◌, ◌<◌, ◌≤◌, ◌==◌, not, List, [], true, false, if◌then◌else◌, nat_lt, length, refl, sym, ap, subst, ◌∙◌, arith, Option, Some, None, Result, Ok, Err, ℤ, pos, get_or, set, get_or-set_same, get_or-set_other, length-set, inl, inr}
+use Rattle.std.proofs.Common.{◌≡◌, ℕ, zero, suc, ◌+◌, ◌-◌, ◌*◌, ◌/◌, ◌<◌, ◌≤◌, ◌==◌, not, List, [], true, false, if◌then◌else◌, nat_lt, length, refl, sym}
+use Rattle.std.proofs.Common.{ap, subst, ◌∙◌, arith, Option, Some, None, Result, Ok, Err, ℤ, pos, get_or, set, get_or-set_same, get_or-set_other}
+use Rattle.std.proofs.Common.{length-set, inl, inr}
 use Rattle.std.proofs.lemmas.Bool.{cases_eq, cases_lt}
 use Rattle.std.proofs.lemmas.Bool.Decides.{nat_tests}
 use Rattle.item_defs.specs.Bits.{bit}
@@ -12,7 +14,7 @@ use Rattle.bit_pipe.specs.declared.fault.Part.{Part}
 use Rattle.bit_pipe.specs.declared.fault.Part.TheVariants.{Whole, Ended}
 use Rattle.bit_pipe.specs.declared.fault.TextFault.{TextFault}
 use Rattle.bit_pipe.specs.Sources.{SourceOf}
-use Rattle.bit_pipe.specs.Coming.{IsIn}
+use Rattle.bit_pipe.specs.SourceState.{IsIn}
 use Rattle.item_defs.specs.Scripts.{Script, done, then_ask, in_turn, around}
 use Rattle.bit_pipe.specs.ScriptSources.{got, ends, by_fault, by_part, by_done}
 use Rattle.plane_defs.specs.States.{State}

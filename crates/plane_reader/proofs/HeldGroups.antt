@@ -1,5 +1,6 @@
 -- Groups of four positions, one after another.
-use Rattle.std.proofs.Common.{◌≡◌, ℕ, zero, suc, ◌+◌, ◌-◌, ◌*◌, ◌<◌, ◌≤◌, ◌==◌, inl, inr, List, [], ◌∷◌, length, filter, Bool, true, false, if◌then◌else◌, refl, sym, ap, ◌∙◌, subst, arith, Some, None, Ok, Err, Option, Result}
+use Rattle.std.proofs.Common.{◌≡◌, ℕ, zero, suc, ◌+◌, ◌-◌, ◌*◌, ◌<◌, ◌≤◌, ◌==◌, inl, inr, List, [], ◌∷◌, length, filter, Bool, true, false, if◌then◌else◌}
+use Rattle.std.proofs.Common.{refl, sym, ap, ◌∙◌, subst, arith, Some, None, Ok, Err, Option, Result}
 use Rattle.std.proofs.Math.Bool.{or-false}
 use Rattle.std.proofs.lemmas.Bool.{cases_lt}
 use Rattle.std.proofs.lemmas.Nat.Bits.{bit_at_above}
@@ -11,7 +12,7 @@ use Rattle.block_masks.specs.declared.gaggle.Gaggle.{Gaggle}
 use Rattle.block_masks.proofs.LaneMasks.{shows_same}
 use Rattle.bit_pipe.specs.declared.fault.TextFault.{TextFault}
 use Rattle.bit_pipe.specs.Sources.{SourceOf}
-use Rattle.bit_pipe.specs.Coming.{IsIn}
+use Rattle.bit_pipe.specs.SourceState.{IsIn}
 use Rattle.item_defs.specs.Scripts.{Script, done, then_ask, in_turn, run}
 use Rattle.bit_pipe.specs.ScriptSources.{Gets, got, ends, by_fault}
 use Rattle.plane_defs.specs.States.{State, with_bits}
@@ -106,10 +107,6 @@ module _ (book : Book) (g now wanted : ℕ → Bool) (first count due : ℕ) (ma
     -- a group that is in the mask
     pub group_on : (j : ℕ) → j < count → bit mask j ≡ true → (s : State) → group j s ≡ types_script book g (wanted j) (span (first + 4 * j) 4) s
     group_on j lt on s = ap (λ b. if b then types_script book g (wanted j) (span (first + 4 * j) 4) s else done s) (covers.sent j lt on)
-
-    pub group_gets : (j : ℕ) → j < count → bit mask j ≡ true → (s : State) (bits : List Bool) (t : State) →
-        Gets (types_script book g (wanted j) (span (first + 4 * j) 4) s) bits t → Gets (group j s) bits t
-    group_gets j lt on s bits t gets = subst (λ r. Gets r bits t) (sym (group_on j lt on s)) gets
 
 -- the groups below n were read, and these of the mask are left
 pub record GroupsLeft {I : Type 0} (k : SourceOf I) (all : Script State State) (item : ℕ → State → Script State State) (count mask left : ℕ) (h : Gaggle)

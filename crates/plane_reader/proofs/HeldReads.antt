@@ -1,5 +1,6 @@
 -- What is read from one place of a text to another, one part after another.
-use Rattle.std.proofs.Common.{◌≡◌, ℕ, ◌+◌, ◌*◌, ◌%◌, ◌<◌, ◌≤◌, ◌^◌, List, [], ◌++◌, length, ◌-◌, Bool, true, false, if◌then◌else◌, nat_le, refl, sym, ap, ◌∙◌, subst, arith, append_assoc, append-nil, ◌/◌, ◌⊎◌, inl, inr}
+use Rattle.std.proofs.Common.{◌≡◌, ℕ, ◌+◌, ◌*◌, ◌%◌, ◌<◌, ◌≤◌, ◌^◌, List, [], ◌++◌, length, ◌-◌, Bool, true, false, if◌then◌else◌, nat_le, refl, sym, ap}
+use Rattle.std.proofs.Common.{◌∙◌, subst, arith, append_assoc, append-nil, ◌/◌, ◌⊎◌, inl, inr}
 use Rattle.std.proofs.lemmas.Bool.Decides.{nat_tests}
 use Rattle.item_defs.specs.Items.{Refusal}
 use Rattle.item_defs.proofs.NumberBits.{bits_none, length-bits_of}
@@ -7,7 +8,7 @@ use Rattle.bit_pipe.specs.declared.fault.InFault.{InFault}
 use Rattle.bit_pipe.specs.declared.fault.TextFault.{TextFault}
 use Rattle.bit_pipe.specs.declared.fault.TextFault.TheVariants as texts
 use Rattle.bit_pipe.specs.Sources.{SourceOf}
-use Rattle.bit_pipe.specs.Coming.{Coming, IsIn, Takes, IsEnd, FailsSo}
+use Rattle.bit_pipe.specs.SourceState.{SourceState, IsIn, Takes, IsEnd, FailsSo}
 use Rattle.bit_pipe.specs.Windows.{IsWindow, first_of}
 use Rattle.bit_pipe.proofs.Taking.{takes_start, takes_then, fails_so_later, in_later}
 use Rattle.item_defs.specs.Outcomes.{Outcome, cut, refused}
@@ -40,21 +41,14 @@ module _ {I : Type 0} {k : SourceOf I} where
         append_assoc a.read xs ys;
   }
 
-  pub in_moved : {a b : Point I} {xs : List Bool} → IsIn a.input → Moves k a b xs → IsIn b.input
-  in_moved h p = in_later h p.taken
-
-  -- what was read of the window is taken
-  pub stays_taken : {a b : Coming I} (c d : Cursor) → Takes k a b (read_of c) → read_of d ≡ [] → Stays k (point a c) (point b d)
-  stays_taken c d t e = record { moved = read_of c; taken = t; same = ap (λ l. read_of c ++ l) e }
-
-  pub stays_empty : {s : Coming I} (c d : Cursor) → IsIn s → read_of c ≡ [] → read_of d ≡ [] → Stays k (point s c) (point s d)
+  pub stays_empty : {s : SourceState I} (c d : Cursor) → IsIn s → read_of c ≡ [] → read_of d ≡ [] → Stays k (point s c) (point s d)
   stays_empty {s} c d h e f = record { moved = []; taken = takes_start k s h; same = f ∙ ap (λ l. l ++ []) (sym e) }
 
   pub stays_then : {a b c : Point I} → Stays k a b → Stays k b c → Stays k a c
   stays_then p q = moves_then p q
 
   -- some bits of the window
-  module _ {s : Coming I} {c d : Cursor} (holds : Holds k s c) (n : ℕ) (left : has_left n c) (used : d.used ≡ c.used + n) (same : d.window ≡ c.window)
+  module _ {s : SourceState I} {c d : Cursor} (holds : Holds k s c) (n : ℕ) (left : has_left n c) (used : d.used ≡ c.used + n) (same : d.window ≡ c.window)
       (rest : d.rest ≡ c.rest * 2 ^ n % 2 ^ 64) where
     held : c.used ≤ 56
     held = omega (arith, left)

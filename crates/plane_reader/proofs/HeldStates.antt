@@ -8,7 +8,7 @@ use Rattle.block_masks.specs.declared.gaggle.Gaggle.{Gaggle}
 use Rattle.bit_pipe.specs.declared.fault.TextFault.{TextFault}
 use Rattle.bit_pipe.specs.declared.fault.TextFault.TheVariants.{FalseFlag}
 use Rattle.bit_pipe.specs.Sources.{SourceOf}
-use Rattle.bit_pipe.specs.Coming.{Coming}
+use Rattle.bit_pipe.specs.SourceState.{SourceState}
 use Rattle.item_defs.specs.Scripts.{Script}
 use Rattle.bit_pipe.specs.ScriptSources.{Says, Gets, by_done}
 use Rattle.plane_defs.specs.States.{State, with_options, with_bits}
@@ -21,7 +21,7 @@ use Rattle.plane_reader.specs.HeldTakes.{HeldState, HeldPlaces}
 use Rattle.plane_reader.proofs.HeldReads.{moves_then, leads_stays, reads_later, reads_by_calls, reads_gets, reads_refused}
 
 -- a window that is not there has anything
-pub holds_closed : {I : Type 0} {k : SourceOf I} {s : Coming I} {c : Cursor} → 56 < c.used → Holds k s c
+pub holds_closed : {I : Type 0} {k : SourceOf I} {s : SourceState I} {c : Cursor} → 56 < c.used → Holds k s c
 holds_closed lt = record { window = λ le. absurd (omega (arith, le, lt)); rest = λ le. absurd (omega (arith, le, lt)) }
 
 module _ {I X : Type 0} {k : SourceOf I} (r : Script State State) (result : Result (Option X) TextFault) {h : Gaggle} {f : Found} {x m y : Point I} where

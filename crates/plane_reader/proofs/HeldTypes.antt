@@ -1,5 +1,7 @@
 -- Words, types and signs that are first in a window.
-use Rattle.std.proofs.Common.{◌≡◌, ℕ, zero, suc, ◌+◌, ◌-◌, ◌*◌, ◌/◌, ◌%◌, ◌<◌, ◌≤◌, ◌^◌, ◌==◌, ◌&&◌, ◌||◌, not, max, inl, inr, List, [], ◌++◌, length, Bool, true, false, refl, sym, ap, ◌∙◌, subst, arith, Option, Some, None, IsSome, map, filter, count_ones, get_or, if◌then◌else◌, nat_lt}
+use Rattle.std.proofs.Common.{◌≡◌, ℕ, zero, suc, ◌+◌, ◌-◌, ◌*◌, ◌/◌, ◌%◌, ◌<◌, ◌≤◌, ◌^◌, ◌==◌, ◌&&◌, ◌||◌, not, max, inl, inr, List, [], ◌++◌, length, Bool}
+use Rattle.std.proofs.Common.{true, false, refl, sym, ap, ◌∙◌, subst, arith, Option, Some, None, IsSome, map, filter, count_ones, get_or, if◌then◌else◌}
+use Rattle.std.proofs.Common.{nat_lt}
 use Rattle.std.proofs.lemmas.Bool.Decides.{nat_tests}
 use Rattle.std.proofs.lemmas.Bool.{cases_lt}
 use Rattle.std.proofs.lemmas.List.{length-map}
@@ -30,7 +32,7 @@ use Rattle.plane_defs.specs.States.{State, with_bits, with_minus}
 use Rattle.plane_defs.specs.WordScripts.{raw_form, word_form, option_script, option_of, coded_script, word_script, ones, due_script, signs_script, types_script}
 use Rattle.plane_reader.specs.declared.found.Found.{Found}
 use Rattle.bit_pipe.specs.Sources.{SourceOf}
-use Rattle.bit_pipe.specs.Coming.{Coming}
+use Rattle.bit_pipe.specs.SourceState.{SourceState}
 use Rattle.plane_reader.specs.declared.places.FirstPlaces.{FirstPlaces}
 use Rattle.plane_reader.specs.declared.reading.Reading.{Reading}
 use Rattle.plane_reader.specs.HeldTakes.{IsReading}
@@ -169,7 +171,7 @@ by_tables : {X : Type 0} (tables : Option X) (g : Gaggle) (due table : ℕ) → 
 by_tables (Some tables) g due table known few e not_none = row_known g due table known few e not_none
 by_tables None g due table known few e not_none = absurd (not_none e)
 
-pub row_option : {I : Type 0} {k : SourceOf I} {s : Coming I} {r : Reading} (due table : ℕ) → IsReading k s r → due < 16 →
+pub row_option : {I : Type 0} {k : SourceOf I} {s : SourceState I} {r : Reading} (due table : ℕ) → IsReading k s r → due < 16 →
     table ≡ get_or r.rows.tables due 0 → (table ≡ 255 → ⊥) → RowOption r.gaggle due table
 row_option {r = r} due table reading small e not_none =
     by_tables r.tables.now.entries r.gaggle due table reading.options (few_ones due small) (e ∙ reading.rows.at due small) not_none
@@ -179,7 +181,7 @@ some_tables : {X : Type 0} (tables : Option X) (g : Gaggle) (due table : ℕ) �
 some_tables (Some tables) g due table e not_none = refl
 some_tables None g due table e not_none = absurd (not_none e)
 
-pub rows_there : {I : Type 0} {k : SourceOf I} {s : Coming I} {r : Reading} (due table : ℕ) → IsReading k s r → due < 16 →
+pub rows_there : {I : Type 0} {k : SourceOf I} {s : SourceState I} {r : Reading} (due table : ℕ) → IsReading k s r → due < 16 →
     table ≡ get_or r.rows.tables due 0 → (table ≡ 255 → ⊥) → IsSome r.tables.now.entries
 rows_there {r = r} due table reading small e not_none = some_tables r.tables.now.entries r.gaggle due table (e ∙ reading.rows.at due small) not_none
 
@@ -252,9 +254,6 @@ module _ (book : Book) (sound : is_book_sound book ≡ true) (g : ℕ → Bool) 
   abbrev pub types_end : State
   types_end = with_minus (with_bits s new) signed
 
-  pub signed_few : first.signed_len ≤ 12
-  signed_few = omega (arith, f.signed, f.few, few_ones first.places f.places.small)
-
   parts_are : first_of first.signed_len window ≡ first_of first.len window ++ first_of (count_ones first.places) rest
   parts_are = ap (λ n. first_of n window) f.signed ∙ window_parts window first.len (count_ones first.places) (omega (
     arith,
@@ -294,7 +293,7 @@ module _ (book : Book) (sound : is_book_sound book ≡ true) (g : ℕ → Bool) 
     signs_are = same_bits _ _ (length-map signs is_minus ∙ long) (back ∙ is_value)
 
     minus_shown : Shows minus (λ q. new q && is_minus q) start count
-    minus_shown = spread.told is_minus new start count few first_ones.shown back
+    minus_shown = spread.if_known is_minus new start count few first_ones.shown back
 
     signed_is : (q : ℕ) → signed q ≡ (s.minus q || (inside start count q && (new q && is_minus q)))
     signed_is q =

@@ -1,5 +1,6 @@
 -- Raw bits, and words of flags with their checks, that are read from a window that is held.
-use Rattle.std.proofs.Common.{◌≡◌, ℕ, ◌-◌, ◌/◌, ◌%◌, ◌<◌, ◌≤◌, ◌^◌, ◌==◌, ◌&&◌, ◌||◌, not, List, [], ◌∷◌, Bool, true, false, cond, length, map, filter, refl, ap, ◌∙◌, subst, arith, Option, Some, None, Result, Ok, Err}
+use Rattle.std.proofs.Common.{◌≡◌, ℕ, ◌-◌, ◌/◌, ◌%◌, ◌<◌, ◌≤◌, ◌^◌, ◌==◌, ◌&&◌, ◌||◌, not, List, [], ◌∷◌, Bool, true, false, cond, length, map, filter}
+use Rattle.std.proofs.Common.{refl, ap, ◌∙◌, subst, arith, Option, Some, None, Result, Ok, Err}
 use Rattle.std.specs.List.{list_any}
 use Rattle.std.proofs.lemmas.Bool.Decides.{nat_tests}
 use Rattle.std.proofs.lemmas.List.{length-map}
@@ -63,7 +64,7 @@ flag_passed {k = k} window fits {x} {m} {y} stays moves = record {
 pub among : {mask word start count places : ℕ} {f : ℕ → Bool} → AreOnes mask word f start count places → AreAmong mask places
 among {mask} {word} {places = places} are = λ count few below.
     let own = shows_own mask count below in
-    let shown = are.spread.told (λ p. bit places (p - 0)) (bit mask) 0 count few own (are.spread.back (bit mask) 0 count few own are.fits) in
+    let shown = are.spread.if_known (λ p. bit places (p - 0)) (bit mask) 0 count few own (are.spread.back (bit mask) 0 count few own are.fits) in
     shows_same (λ p. let z : p - 0 ≡ p = omega arith in ap (λ q. bit mask p && bit places q) z) shown
 
 module _ {I : Type 0} {k : SourceOf I} (book : Book) (check : Check) (g : ℕ → Bool) (start count : ℕ) (s : State) {mask : ℕ} {h : Gaggle} {x y : Point I}
@@ -131,7 +132,7 @@ module _ (forced g : ℕ → Bool) (start count due word places : ℕ) (few : co
 
   -- the positions of the word's ones
   pub here_shown : Shows places (λ p. g p && here p) start count
-  here_shown = are.spread.told here g start count few shown (back g start count due word places few shown are.fits are.spread)
+  here_shown = are.spread.if_known here g start count few shown (back g start count due word places few shown are.fits are.spread)
 
   -- a wanted flag is 0
   pub lacking_is : is_refused (ones_at (map forced (filter g (span start count)))) word ≡ list_any lacking (span start count)

@@ -1,5 +1,6 @@
 -- Masks that are turned into numbers.
-use Rattle.std.proofs.Common.{rules, ◌≡◌, inl, inr, ℕ, ◌+◌, ◌-◌, ◌*◌, ◌/◌, ◌%◌, ◌<◌, ◌≤◌, min, List, ◌++◌, length, get_or, take, drop, refl, ap, sym, ◌∙◌, subst, arith, ℤ, pos}
+use Rattle.std.proofs.Common.{rules, ◌≡◌, inl, inr, ℕ, ◌+◌, ◌-◌, ◌*◌, ◌/◌, ◌%◌, ◌<◌, ◌≤◌, min, List, ◌++◌, length, get_or, take, drop, refl, ap, sym, ◌∙◌}
+use Rattle.std.proofs.Common.{subst, arith, ℤ, pos}
 use borrow.Rule.Slice.PartMut.{put_mid}
 use lib.Seq.{take-add}
 use Rattle.std.proofs.lemmas.Bool.{cases_eq, cases_lt}
@@ -62,18 +63,18 @@ all_filled {r} {cells} {now} all f = ext_get_or (pos 0) now (numbers_in cells) (
 
 pub record JoinedTo (e : ℕ) (old now : List ℤ) : Type 0 where
   pub long : length now ≡ length old
-  pub front : take e now ≡ numbers_in (take e old)
+  pub prefix : take e now ≡ numbers_in (take e old)
   pub rest : drop e now ≡ drop e old
 
 pub joined_more : (g n e : ℕ) {old now part : List ℤ} → e ≡ 15360 * g + n → e ≤ length old → length part ≡ n → JoinedTo (15360 * g) old now →
     part ≡ numbers_in (take n (drop (15360 * g) now)) → JoinedTo e old (put_mid (15360 * g) n now part)
-joined_more g n e {old} {now} {part} ends within size s told =
+joined_more g n e {old} {now} {part} ends within size s if_known =
     let inside : 15360 * g ≤ length now = omega (arith, ends, within, s.long) in
     let groups : length (take (15360 * g) old) % 15360 ≡ 0 = omega (arith, length-take-le (15360 * g) old (omega (arith, ends, within))) in
     record {
       long = put_long g n e now part ends (omega (arith, within, s.long)) size ∙ s.long;
-      front = take-put_mid (15360 * g) n now part e (omega (arith, ends, size)) inside ∙ ap (λ l. l ++ part) s.front ∙ ap (λ l. numbers_in
-          (take (15360 * g) old) ++ l) (told ∙ ap (λ l. numbers_in (take n l)) s.rest) ∙
+      prefix = take-put_mid (15360 * g) n now part e (omega (arith, ends, size)) inside ∙ ap (λ l. l ++ part) s.prefix ∙ ap (λ l. numbers_in
+          (take (15360 * g) old) ++ l) (if_known ∙ ap (λ l. numbers_in (take n l)) s.rest) ∙
           sym (numbers_append (take (15360 * g) old) (take n (drop (15360 * g) old)) groups) ∙ ap numbers_in (sym (take-add (15360 * g) n old) ∙
           ap (λ k. take k old) (sym ends));
       rest = drop-put_mid (15360 * g) n now part e (omega (arith, ends)) inside size ∙ drop_then g n e old now ends s.rest;
@@ -81,10 +82,10 @@ joined_more g n e {old} {now} {part} ends within size s told =
 
 pub joined_none : (cells : List ℤ) (e : ℕ) → e ≡ 0 → JoinedTo e cells cells
 unfolding numbers_in
-joined_none cells e none = subst (λ k. JoinedTo k cells cells) (sym none) (record { long = refl; front = refl; rest = refl })
+joined_none cells e none = subst (λ k. JoinedTo k cells cells) (sym none) (record { long = refl; prefix = refl; rest = refl })
 
 pub joined_all : {e : ℕ} {old now : List ℤ} → length old ≤ e → JoinedTo e old now → now ≡ numbers_in old
-joined_all {e} {old} {now} all s = sym (take_all e now (omega (arith, all, s.long))) ∙ s.front ∙ ap numbers_in (take_all e old all)
+joined_all {e} {old} {now} all s = sym (take_all e now (omega (arith, all, s.long))) ∙ s.prefix ∙ ap numbers_in (take_all e old all)
 
 -- the masks of a group are those of the segment
 pub part_below : (planes g n : ℕ) (old now : List ℤ) → 15360 * g + n ≤ length old → n ≡ min 15360 (length old - 15360 * g) →
@@ -92,15 +93,15 @@ pub part_below : (planes g n : ℕ) (old now : List ℤ) → 15360 * g + n ≤ l
 part_below planes g n old now within width same below r slot lt le few =
     let d = 15360 * g in
     let rest = drop d old in
-    let front : length (take d old) ≡ d = length-take-le d old (omega (arith, within)) in
-    let groups : length (take d old) % 15360 ≡ 0 = omega (arith, front) in
+    let prefix : length (take d old) ≡ d = length-take-le d old (omega (arith, within)) in
+    let groups : length (take d old) % 15360 ≡ 0 = omega (arith, prefix) in
     let size : length (take n rest) ≡ n = length-take-le n rest (omega (arith, within, length-drop d old)) in
     let here : 64 * r < n = subst (λ l. 64 * r < l) (ap (λ l. length (take n l)) same ∙ size) lt in
     let long : length rest ≡ length old - d = length-drop d old in
     let first : mask_in (take n rest) r slot ≡ mask_in rest r slot = part_mask n rest r slot width long here (omega (arith, few)) in
     let second : mask_in rest r slot ≡ mask_in old (length (take d old) / 64 + r) slot = sym (mask_right (take d old) rest groups r slot) ∙ ap (λ l. mask_in
     l (length (take d old) / 64 + r) slot) (take-append-drop d old) in
-    ap (λ l. mask_in (take n l) r slot) same ∙ first ∙ second ∙ below (length (take d old) / 64 + r) slot (omega (arith, front, here, within)) le few
+    ap (λ l. mask_in (take n l) r slot) same ∙ first ∙ second ∙ below (length (take d old) / 64 + r) slot (omega (arith, prefix, here, within)) le few
   where
     part_mask : (n : ℕ) (rest : List ℤ) (r slot : ℕ) → n ≡ min 15360 (length old - 15360 * g) → length rest ≡ length old - 15360 * g → 64 * r < n →
         slot < 32 → mask_in (take n rest) r slot ≡ mask_in rest r slot

@@ -1,5 +1,6 @@
 -- The magnitudes of a block, as they are joined of the masks of its first planes.
-use Rattle.std.proofs.Common.{◌≡◌, ℕ, zero, suc, ◌+◌, ◌-◌, ◌*◌, ◌/◌, ◌%◌, ◌<◌, ◌≤◌, ◌^◌, ℤ, Bool, true, false, bit_or, List, [], ◌∷◌, length, map, get_or, refl, ap, sym, ◌∙◌, subst, arith, ◌==◌, if◌then◌else◌, min, max}
+use Rattle.std.proofs.Common.{◌≡◌, ℕ, zero, suc, ◌+◌, ◌-◌, ◌*◌, ◌/◌, ◌%◌, ◌<◌, ◌≤◌, ◌^◌, ℤ, Bool, true, false, bit_or, List, [], ◌∷◌, length, map, get_or}
+use Rattle.std.proofs.Common.{refl, ap, sym, ◌∙◌, subst, arith, ◌==◌, if◌then◌else◌, min, max}
 use Rattle.std.specs.List.{range_with_len}
 use Rattle.std.specs.Int.Bits.{or_zero_r}
 use Rattle.std.proofs.lemmas.List.FromFn.{get_or-map-range_with_len, length-map-range_with_len, fill_by_all}
@@ -24,7 +25,8 @@ value_to cells r p planes = value_of (bits_below (mask_in cells r) p planes)
 value_first : (b : Bool) (bits : List Bool) → value_of (b ∷ bits) ≡ digit b * 2 ^ length bits + value_of bits
 value_first b bits = value_of-append (b ∷ []) bits ∙ ap (λ n. n * 2 ^ length bits + value_of bits) (value_of-is (b ∷ []) ∙ omega arith)
 
-pub value_more : (cells : List ℤ) (r p plane : ℕ) → value_to cells r p (suc plane) ≡ digit (bit (mask_in cells r plane) p) * 2 ^ plane + value_to cells r p plane
+pub value_more : (cells : List ℤ) (r p plane : ℕ) → value_to cells r p (suc plane) ≡ digit (bit (mask_in cells r plane) p) * 2 ^ plane
+    + value_to cells r p plane
 value_more cells r p plane =
     ap value_of (bits_below-more (mask_in cells r) p plane) ∙ value_first (bit (mask_in cells r plane) p) (bits_below (mask_in cells r) p plane) ∙
     ap (λ n. digit (bit (mask_in cells r plane) p) * 2 ^ n + value_to cells r p plane) (length-bits_below (mask_in cells r) p plane)

@@ -1,5 +1,7 @@
 -- Sixteen numbers that are made of the halves of their magnitudes and of their signs.
-use Rattle.std.proofs.Common.{◌≡◌, ℕ, zero, suc, ◌+◌, ◌-◌, ◌*◌, ◌%◌, ◌<◌, ◌≤◌, ◌^◌, ℤ, pos, negsuc, neg_ℤ, Bool, true, false, cond, List, length, map, get_or, replicate, bit_and, bit_or, unsigned_abs, FitsSigned, refl, ap, sym, ◌∙◌, arith, w16, w32, nat_eq, if◌then◌else◌, map-id, pow_mono}
+use Rattle.std.proofs.Common.{◌≡◌, ℕ, zero, suc, ◌+◌, ◌-◌, ◌*◌, ◌%◌, ◌<◌, ◌≤◌, ◌^◌, ℤ, pos, negsuc, neg_ℤ, Bool, true, false, cond, List, length, map}
+use Rattle.std.proofs.Common.{get_or, replicate, bit_and, bit_or, unsigned_abs, FitsSigned, refl, ap, sym, ◌∙◌, arith, w16, w32, nat_eq, if◌then◌else◌}
+use Rattle.std.proofs.Common.{map-id, pow_mono}
 use Rattle.std.specs.List.{range_with_len}
 use Rattle.std.specs.Int.Bits.{bit_xor, xor_add_and, xor_zero_r, or_zero_r}
 use Rattle.std.specs.Simd.Lanes.{top, zip2, put_chunk}
@@ -9,7 +11,8 @@ use Rattle.std.proofs.lemmas.Int.{ints, to_z-of_z, fits_signed_from_abs}
 use Rattle.std.proofs.lemmas.Bool.Decides.{nat_tests}
 use Rattle.std.proofs.lemmas.List.{get_or-map, length-map}
 use Rattle.std.proofs.lemmas.List.FromFn.{get_or-map-range_with_len, length-map-range_with_len, fill_by_all}
-use Rattle.std.proofs.lemmas.Simd.{zip2_of_maps, splat_is_map, map-map, pick_l_whole, Each1-get_or, length-put_chunk, get_or-put_chunk_at, get_or-put_chunk_below, get_or-put_chunk_above}
+use Rattle.std.proofs.lemmas.Simd.{zip2_of_maps, splat_is_map, map-map, pick_l_whole, Each1-get_or, length-put_chunk, get_or-put_chunk_at}
+use Rattle.std.proofs.lemmas.Simd.{get_or-put_chunk_below, get_or-put_chunk_above}
 use lib.Lanes.{Each1}
 use mir.Val.{of_z, to_z, Fits}
 use Rattle.item_defs.specs.Bits.{bit}
@@ -67,12 +70,14 @@ bits_given sizes here mask start place long low same =
     let weight : 1 * 2 ^ place % 65536 ≡ 2 ^ place = omega (arith, most) in
     let each = λ (k : ℕ). bit_or (get_or sizes k 0) (chosen here (2 ^ k) (1 * 2 ^ place % 65536)) in
     zip2_of_maps bit_or (λ k. get_or sizes k 0) (λ k. chosen here (2 ^ k) (1 * 2 ^ place % 65536)) ks (sym (pick_l_whole 0 sizes 16 long)) refl ∙
-    fill_by_all (λ k. bit_or (get_or sizes k 0) (if bit mask (start + k) then 2 ^ place else 0)) (map each ks) 16 0 (length-map-range_with_len each 0 16) (λ k lt.
+    fill_by_all (λ k. bit_or (get_or sizes k 0) (if bit mask (start + k) then 2 ^ place else 0)) (map each ks) 16 0 (length-map-range_with_len each 0 16)
+    (λ k lt.
     get_or-map-range_with_len each 0 16 k k 0 lt (omega arith) ∙
     ap (λ n. bit_or (get_or sizes k 0) n) (chosen_is here k (1 * 2 ^ place % 65536) ∙ (λ i. if same k lt i then weight i else 0)))
 
 -- no magnitude is given a bit
-pub none_given : (sizes : List ℕ) (mask start place : ℕ) → length sizes ≡ 16 → ((k : ℕ) → k < 16 → bit mask (start + k) ≡ false) → sizes ≡ with_mask sizes mask start place
+pub none_given : (sizes : List ℕ) (mask start place : ℕ) → length sizes ≡ 16 → ((k : ℕ) → k < 16 → bit mask (start + k) ≡ false) →
+    sizes ≡ with_mask sizes mask start place
 none_given sizes mask start place long none =
     fill_by_all (λ k. bit_or (get_or sizes k 0) (if bit mask (start + k) then 2 ^ place else 0)) sizes 16 0 long (λ k lt.
     sym (ap (λ b. bit_or (get_or sizes k 0) (if b then 2 ^ place else 0)) (none k lt) ∙ or_zero_r (get_or sizes k 0)))
@@ -109,17 +114,19 @@ whole_is low high a b =
 
 -- ---- sixteen numbers
 
-abbrev pub all_numbers : (low high : List ℕ) (told : List ℤ) → List ℤ
-all_numbers low high told =
-    let sign = map (of_z w32) told in
-    map (to_z w32) (zip2 minus (zip2 bit_xor (zip2 bit_or (map (λ x. x) low) (zip2 (λ a b. a * 2 ^ b % 4294967296) (map (λ x. x) high) (replicate 16 16))) sign) sign)
+abbrev pub all_numbers : (low high : List ℕ) (if_known : List ℤ) → List ℤ
+all_numbers low high if_known =
+    let sign = map (of_z w32) if_known in
+    map (to_z w32) (zip2 minus (zip2 bit_xor (zip2 bit_or (map (λ x. x) low) (zip2 (λ a b. a * 2 ^ b % 4294967296) (map (λ x. x) high) (replicate 16 16)))
+    sign) sign)
 
-module _ (low high : List ℕ) (mask : ℕ) (low_long : length low ≡ 16) (high_long : length high ≡ 16) (few : (k : ℕ) → k < 16 → get_or low k 0 < 2 ^ 16) (small : (k : ℕ) → k < 16 → get_or high k 0 < 2 ^ 11) where
+module _ (low high : List ℕ) (mask : ℕ) (low_long : length low ≡ 16) (high_long : length high ≡ 16) (few : (k : ℕ) → k < 16 → get_or low k 0 < 2 ^ 16)
+    (small : (k : ℕ) → k < 16 → get_or high k 0 < 2 ^ 11) where
   abbrev each : ℕ → ℤ
   each k = to_z w32 (minus (bit_xor (whole (get_or low k 0) (get_or high k 0)) (of_z w32 (all_or_none (bit mask k)))) (of_z w32 (all_or_none (bit mask k))))
 
-  by_place : (told : List ℤ) → told ≡ map (λ k. all_or_none (bit mask k)) (range_with_len 0 16) → all_numbers low high told ≡ map each ks
-  by_place told is =
+  by_place : (if_known : List ℤ) → if_known ≡ map (λ k. all_or_none (bit mask k)) (range_with_len 0 16) → all_numbers low high if_known ≡ map each ks
+  by_place if_known is =
       let lows : map (λ x. x) low ≡ map (λ k. get_or low k 0) ks = map-id low ∙ sym (pick_l_whole 0 low 16 low_long) in
       let highs : map (λ x. x) high ≡ map (λ k. get_or high k 0) ks = map-id high ∙ sym (pick_l_whole 0 high 16 high_long) in
       let moved = zip2_of_maps (λ a b. a * 2 ^ b % 4294967296) (λ k. get_or high k 0) (λ k. 16) ks highs (splat_is_map ks 16 16 refl) in
@@ -131,11 +138,13 @@ module _ (low high : List ℕ) (mask : ℕ) (low_long : length low ≡ 16) (high
       let all = zip2_of_maps minus (λ k. bit_xor (size k) (s k)) s ks turns sign in
       ap (map (to_z w32)) all ∙ map-map (to_z w32) (λ k. minus (bit_xor (size k) (s k)) (s k)) ks
 
-  pub numbers_are : (told : List ℤ) → told ≡ map (λ k. all_or_none (bit mask k)) (range_with_len 0 16) → all_numbers low high told ≡ map (number_of low high mask 0) (range_with_len 0 16)
-  numbers_are told is =
-      by_place told is ∙
+  pub numbers_are : (if_known : List ℤ) → if_known ≡ map (λ k. all_or_none (bit mask k)) (range_with_len 0 16) →
+      all_numbers low high if_known ≡ map (number_of low high mask 0) (range_with_len 0 16)
+  numbers_are if_known is =
+      by_place if_known is ∙
       fill_by_all (number_of low high mask 0) (map each ks) 16 (pos 0) (length-map-range_with_len each 0 16) (λ k lt.
-      let size : whole (get_or low k 0) (get_or high k 0) ≡ get_or low k 0 + 2 ^ 16 * get_or high k 0 = whole_is (get_or low k 0) (get_or high k 0) (few k lt) (small k lt) in
+      let size : whole (get_or low k 0) (get_or high k 0) ≡ get_or low k 0 + 2 ^ 16 * get_or high k 0 =
+      whole_is (get_or low k 0) (get_or high k 0) (few k lt) (small k lt) in
       let fits : whole (get_or low k 0) (get_or high k 0) < 2147483648 = omega (arith, size, few k lt, small k lt) in
       let here : k ≡ 0 + k = omega arith in
       get_or-map-range_with_len each 0 16 k k (pos 0) lt (omega arith) ∙ by_sign (bit mask k) (whole (get_or low k 0) (get_or high k 0)) fits ∙
@@ -150,7 +159,8 @@ module _ (low high : List ℕ) (mask : ℕ) (low_long : length low ≡ 16) (high
       abs_small b n less = grind (arith, nat_tests, less)
 
   -- the numbers are stored
-  pub part_put : (start minus_mask : ℕ) (block lanes : List ℤ) → start + 16 ≤ length block → Shows mask (bit minus_mask) start 16 → lanes ≡ map (number_of low high mask 0) (range_with_len 0 16) →
+  pub part_put : (start minus_mask : ℕ) (block lanes : List ℤ) → start + 16 ≤ length block → Shows mask (bit minus_mask) start 16 →
+      lanes ≡ map (number_of low high mask 0) (range_with_len 0 16) →
       PutsPart low high minus_mask start block (put_chunk start block (map (to_z w32) (map (of_z w32) lanes)))
   part_put start minus_mask block lanes within shows is = record {
     long = length-put_chunk start block passed;
@@ -173,7 +183,8 @@ module _ (low high : List ℕ) (mask : ℕ) (low_long : length low ≡ 16) (high
 
       passed_at : (k : ℕ) → k < 16 → get_or passed k (pos 0) ≡ number_of low high mask 0 k
       passed_at k lt =
-          get_or-map (to_z w32) (map (of_z w32) lanes) k 0 (pos 0) (omega (arith, lt, long, length-map lanes (of_z w32))) ∙ ap (to_z w32) (get_or-map (of_z w32) lanes k (pos 0) 0 (omega (arith, lt, long))) ∙
+          get_or-map (to_z w32) (map (of_z w32) lanes) k 0 (pos 0) (omega (arith, lt, long, length-map lanes (of_z w32)))
+          ∙ ap (to_z w32) (get_or-map (of_z w32) lanes k (pos 0) 0 (omega (arith, lt, long))) ∙
           ap (λ z. to_z w32 (of_z w32 z)) (lane k lt) ∙ to_z-of_z w32 (number_of low high mask 0 k) (number_fits mask 0 k lt)
 
       same : (k : ℕ) → k < 16 → number_of low high mask 0 k ≡ number_of low high minus_mask start k

@@ -1,5 +1,6 @@
 -- The due places of a word, as scripts read them.
-use Rattle.std.proofs.Common.{◌≡◌, ℕ, zero, suc, ◌+◌, ◌-◌, ◌<◌, ◌≤◌, ◌^◌, ◌==◌, ◌&&◌, ◌||◌, not, List, [], ◌∷◌, length, Bool, true, false, cond, refl, sym, ap, ◌∙◌, subst, arith, Some, None, Ok, Err, Option, Result, map, filter, count_ones, pow_mono}
+use Rattle.std.proofs.Common.{◌≡◌, ℕ, zero, suc, ◌+◌, ◌-◌, ◌<◌, ◌≤◌, ◌^◌, ◌==◌, ◌&&◌, ◌||◌, not, List, [], ◌∷◌, length, Bool, true, false, cond, refl, sym}
+use Rattle.std.proofs.Common.{ap, ◌∙◌, subst, arith, Some, None, Ok, Err, Option, Result, map, filter, count_ones, pow_mono}
 use Rattle.std.specs.List.{list_any}
 use Rattle.std.proofs.lemmas.Bool.Decides.{nat_tests}
 use Rattle.std.proofs.lemmas.List.{length-map}
@@ -19,7 +20,7 @@ use Rattle.block_masks.proofs.Maskings.{any_shown}
 use Rattle.bit_pipe.specs.declared.fault.TextFault.{TextFault}
 use Rattle.bit_pipe.specs.declared.fault.TextFault.TheVariants.{FalseFlag}
 use Rattle.bit_pipe.specs.Sources.{SourceOf}
-use Rattle.bit_pipe.specs.Coming.{Coming, IsIn}
+use Rattle.bit_pipe.specs.SourceState.{SourceState, IsIn}
 use Rattle.bit_pipe.specs.ScriptSources.{ReadsAs}
 use Rattle.bit_pipe.proofs.ScriptReading.{read_done, read_then, read_cut, read_fault, in_read}
 use Rattle.plane_defs.specs.States.{State, with_options}
@@ -106,11 +107,11 @@ module _ (g : ℕ → Bool) (start count due value places : ℕ) (few : count �
 
   pub ones_shown : Shows places (word_ones g start count value) start count
   ones_shown =
-      let told = spread.told is_one g start count few shown back in
+      let if_known = spread.if_known is_one g start count few shown back in
       record {
-        at = λ k lt. let in_here : inside start count (start + k) ≡ true = grind (arith, nat_tests) in told.at k lt ∙
+        at = λ k lt. let in_here : inside start count (start + k) ≡ true = grind (arith, nat_tests) in if_known.at k lt ∙
             ap (λ t. t && (g (start + k) && is_one (start + k))) (sym in_here) ∙ sym (ones_are (start + k));
-        small = told.small;
+        small = if_known.small;
       }
 
   -- no one lies outside
@@ -127,7 +128,7 @@ due_count g start count due few shown = ones_of due start count (λ p. true) g f
 -- ---- the word of the due places
 
 module _ {I : Type 0} {k : SourceOf I} (book : Book) (s : State) {h : Gaggle} (g : ℕ → Bool) (start count due : ℕ) (few : count ≤ 4)
-    (shown : Shows due g start count) {a b : Coming I} where
+    (shown : Shows due g start count) {a b : SourceState I} where
   due_word : {result : Result (Option ℕ) TextFault} → TakesWord k book (count_ones due) s result h a b →
       TakesWord k book (length (filter g (span start count))) s result h a b
   due_word {result} w = subst (λ n. TakesWord k book n s result h a b) (due_count g start count due few shown) w

@@ -1,5 +1,7 @@
 -- The numbers that a plane gives, and the masks for the next one.
-use Rattle.std.proofs.Common.{◌≡◌, ℕ, zero, suc, ◌+◌, ◌-◌, ◌*◌, ◌/◌, ◌%◌, ◌^◌, ◌<◌, ◌≤◌, ◌==◌, ◌||◌, not, min, nat_le, Bool, true, false, if◌then◌else◌, List, [], length, refl, ap, sym, ◌∙◌, subst, arith, ℤ, pos, negsuc, neg_ℤ, ◌+ℤ◌, unsigned_abs, inl, inr, ◌⊎◌, Option, Some, None, Result, Ok, Err, get_or, pow_pos, pow-add}
+use Rattle.std.proofs.Common.{◌≡◌, ℕ, zero, suc, ◌+◌, ◌-◌, ◌*◌, ◌/◌, ◌%◌, ◌^◌, ◌<◌, ◌≤◌, ◌==◌, ◌||◌, not, min, nat_le, Bool, true, false, if◌then◌else◌}
+use Rattle.std.proofs.Common.{List, [], length, refl, ap, sym, ◌∙◌, subst, arith, ℤ, pos, negsuc, neg_ℤ, ◌+ℤ◌, unsigned_abs, inl, inr, ◌⊎◌, Option, Some}
+use Rattle.std.proofs.Common.{None, Result, Ok, Err, get_or, pow_pos, pow-add}
 use Rattle.std.specs.Prelude.{◌-ℤ◌}
 use Rattle.std.proofs.Math.Bool.{or-false}
 use Rattle.std.proofs.Math.Nat.{mul-sub}
@@ -26,7 +28,7 @@ use Rattle.bit_pipe.specs.declared.fault.Part.TheVariants.{Whole, Ended}
 use Rattle.bit_pipe.proofs.ScriptReading.{around_read}
 use Rattle.bit_pipe.specs.declared.fault.TextFault.{TextFault}
 use Rattle.bit_pipe.specs.Sources.{SourceOf}
-use Rattle.bit_pipe.specs.Coming.{Coming}
+use Rattle.bit_pipe.specs.SourceState.{SourceState}
 use Rattle.item_defs.specs.Scripts.{Script, around}
 use Rattle.bit_pipe.specs.ScriptSources.{by_part, ReadsAs}
 use Rattle.plane_defs.specs.StageScripts.{Terms}
@@ -57,10 +59,6 @@ minus_is n = omega (arith, ints)
 signed_is : (b : Bool) (n : ℕ) → (if b then pos 0 -ℤ pos n else pos n) ≡ signed b n
 signed_is true n = minus_is n
 signed_is false n = refl
-
-was_negative : (b : Bool) (n : ℕ) → negative (signed b n) ≡ true → b ≡ true
-was_negative true n e = refl
-was_negative false n e = e
 
 either : (a b : Bool) → (a || b) ≡ true → (a ≡ true) ⊎ (b ≡ true)
 either true b e = inl refl
@@ -323,19 +321,19 @@ await_next plane q old {new} now await same r lt =
 -- ---- what was read of a plane
 
 pub signs_read : {I : Type 0} {k : SourceOf I} (t : Terms) (depths : List ℕ) (numbers : List (List ℤ)) (stages : ℕ) (now : PlaneState)
-    (result : Result Part TextFault) {x y : Coming I} → ReadsAs k (plane_script t depths numbers stages) (by_part result now now) x y →
+    (result : Result Part TextFault) {x y : SourceState I} → ReadsAs k (plane_script t depths numbers stages) (by_part result now now) x y →
     All (λ r. IsSigned) now
 signs_read t depths numbers stages now result read = said_kept (All (λ r. IsSigned)) (plane_script t depths numbers stages)
     (plane_signed t depths numbers stages) read.bits now result read.says
 
-part_around : {I S T : Type 0} {k : SourceOf I} (put : S → T) (r : Script S S) (result : Result Part TextFault) (s : S) {x y : Coming I} →
+part_around : {I S T : Type 0} {k : SourceOf I} (put : S → T) (r : Script S S) (result : Result Part TextFault) (s : S) {x y : SourceState I} →
     ReadsAs k r (by_part result s s) x y → ReadsAs k (around put r) (by_part result (put s) (put s)) x y
 part_around put r (Ok Whole) s q = let all : Result (Option (Unit {0})) TextFault = Ok (Some tt) in around_read put r all s q
 part_around put r (Ok Ended) s q = let none : Result (Option (Unit {0})) TextFault = Ok None in around_read put r none s q
 part_around put r (Err fault) s q = let failed : Result (Option (Unit {0})) TextFault = Err fault in around_read put r failed s q
 
 pub plane_read : {I : Type 0} {k : SourceOf I} {plane : ℕ} {numbers w : List (List ℤ)} (script : Script PlaneState PlaneState)
-    (result : Result Part TextFault) {cells : List ℤ} {x y : Coming I} (s : TakesStages k plane numbers script result cells x y) →
+    (result : Result Part TextFault) {cells : List ℤ} {x y : SourceState I} (s : TakesStages k plane numbers script result cells x y) →
     blocks_with plane numbers s.now ≡ w → ReadsAs k (around (blocks_with plane numbers) script) (by_part result w w) x y
 plane_read {k = k} {plane} {numbers} script result {x = x} {y} s same =
     subst (λ v. ReadsAs k (around (blocks_with plane numbers) script) (by_part result v v) x y) same (part_around

@@ -1,5 +1,6 @@
 -- What a plane's state has of its blocks and gaggles, if one block was read on.
-use Rattle.std.proofs.Common.{◌≡◌, ℕ, ◌*◌, ◌/◌, ◌<◌, ◌==◌, true, false, if◌then◌else◌, List, [], length, refl, sym, subst, arith, ℤ, pos, ◌+ℤ◌, inl, inr, Option, get_or}
+use Rattle.std.proofs.Common.{◌≡◌, ℕ, ◌*◌, ◌/◌, ◌<◌, ◌==◌, true, false, if◌then◌else◌, List, [], length, refl, sym, subst, arith, ℤ, pos, ◌+ℤ◌, inl, inr}
+use Rattle.std.proofs.Common.{Option, get_or}
 use Rattle.std.proofs.lemmas.Bool.{cases_eq}
 use Rattle.std.proofs.lemmas.Bool.Decides.{nat_tests}
 use Rattle.block_masks.specs.Gaggles.{families_in}

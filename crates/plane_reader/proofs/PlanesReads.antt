@@ -1,5 +1,6 @@
 -- The planes of a segment, from the top down.
-use Rattle.std.proofs.Common.{◌≡◌, ℕ, zero, suc, ◌+◌, ◌*◌, ◌/◌, ◌%◌, ◌<◌, ◌==◌, ◌||◌, nat_lt, true, false, if◌then◌else◌, List, [], length, refl, ap, sym, ◌∙◌, subst, arith, ℤ, pos, ◌+ℤ◌, unsigned_abs, negsuc, get_or, drop}
+use Rattle.std.proofs.Common.{◌≡◌, ℕ, zero, suc, ◌+◌, ◌*◌, ◌/◌, ◌%◌, ◌<◌, ◌==◌, ◌||◌, nat_lt, true, false, if◌then◌else◌, List, [], length, refl, ap, sym}
+use Rattle.std.proofs.Common.{◌∙◌, subst, arith, ℤ, pos, ◌+ℤ◌, unsigned_abs, negsuc, get_or, drop}
 use Rattle.std.specs.Prelude.{◌-ℤ◌}
 use Rattle.std.proofs.lemmas.Bool.Decides.{nat_tests}
 use Rattle.std.proofs.lemmas.Int.{ints}
@@ -10,7 +11,7 @@ use Rattle.plane_defs.specs.Entries.{negative}
 use Rattle.plane_defs.proofs.SpanLists.{length-map-span, get_or-map-span}
 use Rattle.bit_pipe.specs.declared.fault.TextFault.{TextFault}
 use Rattle.bit_pipe.specs.Sources.{SourceOf}
-use Rattle.bit_pipe.specs.Coming.{Coming, IsIn}
+use Rattle.bit_pipe.specs.SourceState.{SourceState, IsIn}
 use Rattle.item_defs.specs.Scripts.{Script, done, then_ask, around}
 use Rattle.block_masks.specs.declared.plan.CodedPlane.{CodedPlane}
 use Rattle.plane_reader.specs.Blocks.{terms_of}
@@ -106,7 +107,7 @@ one_plane book weights q depths plane n blocks = around (blocks_with plane block
 
 -- the plane of a plan
 pub plane_as : {I : Type 0} {k : SourceOf I} (book : Book) (sent : SentPlanes) (plan : CodedPlane) (plane n : ℕ) (depths' depths : List ℕ) (blocks : List
-    (List ℤ)) (f : Found (List (List ℤ)) (List (List ℤ))) {x y : Coming I} →
+    (List ℤ)) (f : Found (List (List ℤ)) (List (List ℤ))) {x y : SourceState I} →
     plan.plane ≡ plane → plan.q ≡ sent.q → plan.weights ≡ sent.weights → depths' ≡ depths →
     ReadsAs k (around (blocks_with plan.plane blocks) (plane_script (terms_of plan book) depths' blocks n)) f x y →
     ReadsAs k (one_plane book sent.weights.shifts sent.q depths plane n blocks) f x y
@@ -123,7 +124,7 @@ plane_as {k = k} book sent plan plane n depths' depths blocks f {x} {y} is_plane
     subst (λ s. ReadsAs k s f x y) e read
 
 module _ {I : Type 0} {k : SourceOf I} (book : Book) (weights : List ℕ) (q : ℕ) (depths : List ℕ) (stages : ℕ → ℕ) where
-  module _ {all : Script (List (List ℤ)) (List (List ℤ))} {below plane n : ℕ} (blocks : List (List ℤ)) {x y : Coming I} (next : below ≡ suc plane)
+  module _ {all : Script (List (List ℤ)) (List (List ℤ))} {below plane n : ℕ} (blocks : List (List ℤ)) {x y : SourceState I} (next : below ≡ suc plane)
       (sent : n ≡ stages plane)
       (left : Leaves k all (planes_script book weights q depths stages below blocks) x y) where
     left_is : Leaves k all (then_ask (one_plane book weights q depths plane n blocks) (planes_script book weights q depths stages plane)) x y
@@ -131,22 +132,22 @@ module _ {I : Type 0} {k : SourceOf I} (book : Book) (weights : List ℕ) (q : �
         subst (λ m. Leaves k all (then_ask (one_plane book weights q depths plane m blocks) (planes_script book weights q depths stages plane)) x y) (sym sent)
         (subst (λ b. Leaves k all (planes_script book weights q depths stages b blocks) x y) next left)
 
-    pub planes_more : (now : List (List ℤ)) {z : Coming I} → ReadsAs k (one_plane book weights q depths plane n blocks) (got now) y z →
+    pub planes_more : (now : List (List ℤ)) {z : SourceState I} → ReadsAs k (one_plane book weights q depths plane n blocks) (got now) y z →
         Leaves k all (planes_script book weights q depths stages plane now) x z
     planes_more now read = leaves_more all (one_plane book weights q depths plane n blocks) (planes_script book weights q depths stages plane) now left_is read
 
-    pub planes_cut : (now : List (List ℤ)) {z : Coming I} → ReadsAs k (one_plane book weights q depths plane n blocks) (ends now) y z →
+    pub planes_cut : (now : List (List ℤ)) {z : SourceState I} → ReadsAs k (one_plane book weights q depths plane n blocks) (ends now) y z →
         ReadsAs k all (ends now) x z
     planes_cut now {z} read = left_is.then (ends now) z (read_cut (one_plane book weights q depths plane n blocks)
         (planes_script book weights q depths stages plane) now read)
 
-    pub planes_fault : (now : List (List ℤ)) (fault : TextFault) {z : Coming I} → ReadsAs k (one_plane book weights q depths plane n blocks)
+    pub planes_fault : (now : List (List ℤ)) (fault : TextFault) {z : SourceState I} → ReadsAs k (one_plane book weights q depths plane n blocks)
         (by_fault fault now) y z → ReadsAs k all (by_fault fault now) x z
     planes_fault now fault {z} read = left_is.then (by_fault fault now) z (read_fault (one_plane book weights q depths plane n blocks)
         (planes_script book weights q depths stages plane) now fault read)
 
   -- the planes that are left are not sent
-  pub planes_done : {all : Script (List (List ℤ)) (List (List ℤ))} {below : ℕ} {blocks : List (List ℤ)} {x y : Coming I} → IsIn y → ((plane : ℕ) →
+  pub planes_done : {all : Script (List (List ℤ)) (List (List ℤ))} {below : ℕ} {blocks : List (List ℤ)} {x y : SourceState I} → IsIn y → ((plane : ℕ) →
       plane < below → stages plane ≡ 0) → AreWhole blocks →
       Leaves k all (planes_script book weights q depths stages below blocks) x y → ReadsAs k all (got blocks) x y
   planes_done {all} {below} {blocks} {x} {y} i none whole left =

@@ -1,5 +1,6 @@
 -- The bits of the positions of a mask, as they are read from a window that is held.
-use Rattle.std.proofs.Common.{◌≡◌, ℕ, zero, suc, ◌+◌, ◌-◌, ◌<◌, ◌≤◌, ◌&&◌, if◌then◌else◌, Bool, true, false, List, [], ℤ, refl, ap, sym, ◌∙◌, subst, arith, Option, Some, None, Result, Ok, Err}
+use Rattle.std.proofs.Common.{◌≡◌, ℕ, zero, suc, ◌+◌, ◌-◌, ◌<◌, ◌≤◌, ◌&&◌, if◌then◌else◌, Bool, true, false, List, [], ℤ, refl, ap, sym, ◌∙◌, subst, arith}
+use Rattle.std.proofs.Common.{Option, Some, None, Result, Ok, Err}
 use Rattle.item_defs.specs.Bits.{bit}
 use Rattle.plane_defs.specs.Sets.{coded, refined}
 use Rattle.plane_defs.proofs.Equations.{refined-is}
@@ -7,7 +8,7 @@ use Rattle.block_masks.specs.declared.gaggle.Gaggle.{Gaggle}
 use Rattle.block_masks.specs.Masks.{Shows}
 use Rattle.bit_pipe.specs.declared.fault.TextFault.{TextFault}
 use Rattle.bit_pipe.specs.Sources.{SourceOf}
-use Rattle.bit_pipe.specs.Coming.{IsIn}
+use Rattle.bit_pipe.specs.SourceState.{IsIn}
 use Rattle.item_defs.specs.Scripts.{Script, done, ask_bit, then_ask, in_turn, run}
 use Rattle.bit_pipe.specs.ScriptSources.{got, by_done, Gets}
 use Rattle.item_defs.proofs.ScriptLaws.{turns_split}

@@ -30,7 +30,7 @@ pub covers_with : {first count due now_mask wanted_mask either result : ℕ} {no
     Shows wanted_mask wanted 0 count →
     Shows result (λ p. bit now_mask p && bit either p) 0 64 → Shows either (λ p. bit some p || bit wanted_mask p) 0 64 → ((n : ℕ) → n < 4 →
     bit some n ≡ due_in first due n) → result < 2 ^ count → Covers first count now wanted due result
-covers_with {first} {count} {due} {now_mask} {wanted_mask} {either} {result} {now} {wanted} some few now_shown wanted_shown both_shown either_shown some_told
+covers_with {first} {count} {due} {now_mask} {wanted_mask} {either} {result} {now} {wanted} some few now_shown wanted_shown both_shown either_shown some_known
     small = record {
       small = small;
       sent = λ n lt h. sym (now_is n lt) ∙ and-left (bit now_mask n) (bit either n) (sym (both_is n lt) ∙ h);
@@ -65,4 +65,4 @@ covers_with {first} {count} {due} {now_mask} {wanted_mask} {either} {result} {no
     either_is n lt = either_shown.at n (omega (arith, lt, few)) ∙ ap (λ p. bit some p || bit wanted_mask p) (there n)
 
     some_is : (n : ℕ) → n < count → bit some n ≡ due_in first due n
-    some_is n lt = some_told n (omega (arith, lt, few))
+    some_is n lt = some_known n (omega (arith, lt, few))

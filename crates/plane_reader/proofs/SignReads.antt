@@ -1,5 +1,6 @@
 -- Signs that are read one after another, or at once.
-use Rattle.std.proofs.Common.{◌≡◌, ℕ, zero, suc, ◌+◌, ◌-◌, ◌<◌, ◌≤◌, ◌^◌, List, [], ◌∷◌, ◌++◌, Bool, true, false, ◌&&◌, ◌||◌, ◌==◌, refl, sym, ap, ◌∙◌, subst, arith, length, map, filter, inl, inr, Ok, Some, None, Option, count_ones, ◌/◌, nat_le, if◌then◌else◌}
+use Rattle.std.proofs.Common.{◌≡◌, ℕ, zero, suc, ◌+◌, ◌-◌, ◌<◌, ◌≤◌, ◌^◌, List, [], ◌∷◌, ◌++◌, Bool, true, false, ◌&&◌, ◌||◌, ◌==◌, refl, sym, ap, ◌∙◌}
+use Rattle.std.proofs.Common.{subst, arith, length, map, filter, inl, inr, Ok, Some, None, Option, count_ones, ◌/◌, nat_le, if◌then◌else◌}
 use Rattle.std.proofs.lemmas.Bool.{cases_lt}
 use Rattle.std.proofs.lemmas.Bool.Decides.{nat_tests}
 use Rattle.std.proofs.lemmas.List.Elements.{filter-append}
@@ -19,7 +20,7 @@ use Rattle.block_masks.proofs.Picking.{ones_of}
 use Rattle.bit_pipe.specs.Windows.{first_of}
 use Rattle.bit_pipe.specs.declared.fault.TextFault.{TextFault}
 use Rattle.bit_pipe.specs.Sources.{SourceOf}
-use Rattle.bit_pipe.specs.Coming.{Coming, IsIn, Takes, EndsBit}
+use Rattle.bit_pipe.specs.SourceState.{SourceState, IsIn, Takes, EndsBit}
 use Rattle.item_defs.specs.Outcomes.{cut}
 use Rattle.item_defs.specs.Scripts.{Script, done, ask, ask_bit, bit_form, then_ask, answered, run}
 use Rattle.bit_pipe.specs.ScriptSources.{got, ends, ReadsAs, Gets, by_fault}
@@ -128,7 +129,7 @@ module _ (s : State) where
   flag_gets true more = bit_read s (λ n. done (n == 1)) true more
   flag_gets false more = bit_read s (λ n. done (n == 1)) false more
 
-pub takes_flag : {I : Type 0} {k : SourceOf I} {a b : Coming I} (o : Option Bool) → EndsBit k (Ok o) a b → TakesFlag k (Ok o) a b
+pub takes_flag : {I : Type 0} {k : SourceOf I} {a b : SourceState I} (o : Option Bool) → EndsBit k (Ok o) a b → TakesFlag k (Ok o) a b
 takes_flag (Some v) t = record { read = λ s. record { bits = v ∷ []; taken = t; says = flag_gets s v; stops = tt } }
 takes_flag None t = record { read = λ s. record { bits = []; taken = t.0; says = bit_cut s (λ n. done (n == 1)); stops = t.1 } }
 
@@ -140,12 +141,12 @@ after_sign s p ps b = signs_script ps (with_minus s (and_one s.minus p b))
 signs_are : (s : State) (p : ℕ) (ps : List ℕ) → signs_script (p ∷ ps) s ≡ then_ask (ask_bit s (λ b. done b)) (after_sign s p ps)
 signs_are s p ps = refl
 
-module _ {I : Type 0} {k : SourceOf I} (all : Script State State) (places : List ℕ) (s : State) {old now : Coming I} (l : Leaves k all
+module _ {I : Type 0} {k : SourceOf I} (all : Script State State) (places : List ℕ) (s : State) {old now : SourceState I} (l : Leaves k all
     (signs_script places s) old now) where
   pub signs_all : places ≡ [] → IsIn now → ReadsAs k all (got s) old now
   signs_all none h = l.then (got s) now (rw none (read_done s now h))
 
-  module _ (p : ℕ) (ps : List ℕ) (e : places ≡ p ∷ ps) {last : Coming I} where
+  module _ (p : ℕ) (ps : List ℕ) (e : places ≡ p ∷ ps) {last : SourceState I} where
     pub signs_fault : (fault : TextFault) → ReadsAs k (ask_bit s (λ b. done b)) (by_fault fault s) now last → ReadsAs k all (by_fault fault s) old last
     signs_fault fault q = l.then (by_fault fault s) last (rw (e, signs_are s p ps) (read_fault (ask_bit s (λ b. done b)) (after_sign s p ps) s fault q))
 
@@ -257,9 +258,9 @@ module _ (new start count window word due places : ℕ) (few : new < 2 ^ count) 
   bits_are = same_bits _ _ (length-map (positions new start count) is_minus ∙ long ∙ sym (length-bits_of due (window / 2 ^ (64 - due)))) (back ∙ sym value)
 
   places_shown : Shows places (λ q. bit new (q - start) && is_minus q) start count
-  places_shown = spread.told is_minus (λ p. bit new (p - start)) start count four (own_shown new start count few) back
+  places_shown = spread.if_known is_minus (λ p. bit new (p - start)) start count four (own_shown new start count few) back
 
-  pub signs_at_once : {I : Type 0} {k : SourceOf I} (s : State) (mask : ℕ) {a b : Coming I} → ((f g : ℕ → Bool) → Shows places g start count →
+  pub signs_at_once : {I : Type 0} {k : SourceOf I} (s : State) (mask : ℕ) {a b : SourceState I} → ((f g : ℕ → Bool) → Shows places g start count →
       Shows mask (λ p. s.minus p || (inside start count p && g p)) 0 64) → Takes k a b (first_of due window) →
       TakesSigns k (positions new start count) s (Ok (Some tt)) mask a b
   signs_at_once {k = k} s mask {a} {b} added taken = record {

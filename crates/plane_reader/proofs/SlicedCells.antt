@@ -1,5 +1,7 @@
 -- Numbers that are turned into masks.
-use Rattle.std.proofs.Common.{◌≡◌, inl, inr, ℕ, ◌+◌, ◌-◌, ◌*◌, ◌/◌, ◌%◌, ◌<◌, ◌≤◌, ◌^◌, ◌==◌, true, false, List, ◌++◌, length, get_or, set, take, drop, refl, ap, sym, ◌∙◌, subst, arith, ℤ, pos, nat_le, unsigned_abs, length-append, w32, get_or-set_same, get_or-set_other, length-set, pow_pos}
+use Rattle.std.proofs.Common.{◌≡◌, inl, inr, ℕ, ◌+◌, ◌-◌, ◌*◌, ◌/◌, ◌%◌, ◌<◌, ◌≤◌, ◌^◌, ◌==◌, true, false, List, ◌++◌, length, get_or, set, take, drop}
+use Rattle.std.proofs.Common.{refl, ap, sym, ◌∙◌, subst, arith, ℤ, pos, nat_le, unsigned_abs, length-append, w32, get_or-set_same, get_or-set_other}
+use Rattle.std.proofs.Common.{length-set, pow_pos}
 use borrow.Rule.Slice.PartMut.{put_mid}
 use lib.Seq.{take-add}
 use Rattle.std.specs.Int.{cast_signed}
@@ -24,7 +26,7 @@ use Rattle.plane_reader.proofs.CellGroups.{mask_left, mask_right, numbers_append
 pub record Lifts (b : ℕ) (old now dcs : List ℤ) : Type 0 where
   pub long : length now ≡ length old
   pub size : length dcs ≡ 240
-  pub told : (q : ℕ) → q < b → get_or dcs q (pos 0) ≡ get_or old (64 * q) (pos 0)
+  pub if_known : (q : ℕ) → q < b → get_or dcs q (pos 0) ≡ get_or old (64 * q) (pos 0)
   pub gone : (q : ℕ) → q < b → get_or now (64 * q) (pos 0) ≡ pos 0
   pub later : (i : ℕ) → 64 * b ≤ i → get_or now i (pos 0) ≡ get_or old i (pos 0)
   pub others : (i : ℕ) → (i % 64 ≡ 0 → ⊥) → get_or now i (pos 0) ≡ get_or old i (pos 0)
@@ -34,10 +36,10 @@ pub lifts_more : {b : ℕ} {old now dcs : List ℤ} → 64 * b < length old → 
 lifts_more {b} {old} {now} {dcs} within low l = record {
   long = length-set now (64 * b) (pos 0) ∙ l.long;
   size = length-set dcs b _ ∙ l.size;
-  told = λ q lt. elim (cases_eq q b) [
+  if_known = λ q lt. elim (cases_eq q b) [
     | inl e ↦ subst (λ k. get_or (set dcs b (get_or now (64 * b) (pos 0))) k (pos 0) ≡ get_or old (64 * k) (pos 0)) (sym e) (get_or-set_same dcs b (get_or now
         (64 * b) (pos 0)) (pos 0) (omega (arith, low, l.size)) ∙ l.later (64 * b) (omega arith))
-    | inr apart ↦ get_or-set_other dcs b q (get_or now (64 * b) (pos 0)) (pos 0) apart ∙ l.told q (omega (arith, lt, apart))
+    | inr apart ↦ get_or-set_other dcs b q (get_or now (64 * b) (pos 0)) (pos 0) apart ∙ l.if_known q (omega (arith, lt, apart))
   ];
   gone = λ q lt. elim (cases_eq q b) [
     | inl e ↦ subst (λ k. get_or (set now (64 * b) (pos 0)) (64 * k) (pos 0) ≡ pos 0) (sym e) (get_or-set_same now (64 * b) (pos 0) (pos 0) (omega (
@@ -76,18 +78,18 @@ empty_mask cells r s empty = rw (empty _, empty _) refl
 
 pub record HasDcs (b : ℕ) (old dcs now : List ℤ) : Type 0 where
   pub long : length now ≡ length old
-  pub told : (q : ℕ) → q < b → cast_signed w32 (mask_in now q dc_slot % 2 ^ 32) ≡ get_or dcs q (pos 0)
+  pub if_known : (q : ℕ) → q < b → cast_signed w32 (mask_in now q dc_slot % 2 ^ 32) ≡ get_or dcs q (pos 0)
   pub others : (q s : ℕ) → 64 * q < length old → s < 32 → (s ≡ dc_slot → ⊥) → mask_in now q s ≡ 0
 
 pub has_more : {b mask : ℕ} {old dcs now new : List ℤ} → 64 * b < length old → HasDcs b old dcs now → PutsMask b dc_slot mask now new →
     cast_signed w32 (mask % 2 ^ 32) ≡ get_or dcs b (pos 0) → HasDcs (b + 1) old dcs new
 has_more {b} {mask} {old} {dcs} {now} {new} within h put is = record {
   long = put.long ∙ h.long;
-  told = λ q lt. elim (cases_eq q b) [
+  if_known = λ q lt. elim (cases_eq q b) [
     | inl e ↦ subst (λ k. cast_signed w32 (mask_in new k dc_slot % 2 ^ 32) ≡ get_or dcs k (pos 0)) (sym e) (ap (λ m. cast_signed w32 (m % 2 ^ 32)) put.here ∙
         is)
     | inr apart ↦ ap (λ m. cast_signed w32 (m % 2 ^ 32)) (put.other_blocks q dc_slot (omega (arith, lt, within, h.long)) (omega arith) apart) ∙
-        h.told q (omega (arith, lt, apart))
+        h.if_known q (omega (arith, lt, apart))
   ];
   others = λ q s there few other. elim (cases_eq q b) [
     | inl e ↦ subst (λ k. mask_in new k s ≡ 0) (sym e) (put.other_slots s few other ∙ h.others b s within few other)
@@ -111,12 +113,12 @@ pub group_numbers : (old now dcs : List ℤ) → length old % 64 ≡ 0 → lengt
     cast_signed w32 (mask_in now b dc_slot % 2 ^ 32) ≡ get_or dcs b (pos 0)) →
     ((b : ℕ) → 64 * b + 63 < length old → get_or dcs b (pos 0) ≡ get_or old (64 * b) (pos 0)) → ((i : ℕ) → (i % 64 ≡ 0 → ⊥) → get_or old i (pos 0) ≡ pos 0) →
     numbers_in now ≡ old
-group_numbers old now dcs whole long only told was no_acs = ext_get_or (pos 0) (numbers_in now) old (length-numbers_in now ∙ long) (λ i lt.
+group_numbers old now dcs whole long only if_known was no_acs = ext_get_or (pos 0) (numbers_in now) old (length-numbers_in now ∙ long) (λ i lt.
     let within : i < length now = omega (arith, lt, length-numbers_in now) in
     number_at now i within ∙ elim (cases_eq (i % 64) 0) [
       | inl e ↦
           let there : i ≡ 64 * (i / 64) = omega (arith, e) in
-          ap (number_in now (i / 64)) e ∙ dc_number now (i / 64) ∙ told (i / 64) (omega (arith, within)) ∙ was (i / 64) (omega (
+          ap (number_in now (i / 64)) e ∙ dc_number now (i / 64) ∙ if_known (i / 64) (omega (arith, within)) ∙ was (i / 64) (omega (
             arith,
             within,
             whole,
@@ -130,7 +132,7 @@ group_numbers old now dcs whole long only told was no_acs = ext_get_or (pos 0) (
 
 pub record SlicedTo (e : ℕ) (old now : List ℤ) : Type 0 where
   pub long : length now ≡ length old
-  pub front : numbers_in (take e now) ≡ take e old
+  pub prefix : numbers_in (take e now) ≡ take e old
   pub only : HasOnlyDcs (take e now)
   pub rest : drop e now ≡ drop e old
 
@@ -152,7 +154,7 @@ only_both a b groups p q = record {
 
 pub sliced_more : (g n e : ℕ) {old now part : List ℤ} → e ≡ 15360 * g + n → e ≤ length old → length part ≡ n → SlicedTo (15360 * g) old now → numbers_in
     part ≡ take n (drop (15360 * g) now) → HasOnlyDcs part → SlicedTo e old (put_mid (15360 * g) n now part)
-sliced_more g n e {old} {now} {part} ends within size s told only =
+sliced_more g n e {old} {now} {part} ends within size s if_known only =
     let inside : 15360 * g ≤ length now = omega (arith, ends, within, s.long) in
     let groups : length (take (15360 * g) now) % 15360 ≡ 0 = omega (arith, length-take-le (15360 * g) now inside) in
     let here : take e (put_mid (15360 * g) n now part) ≡ take (15360 * g) now ++ part = take-put_mid (15360 * g) n now part e (omega (
@@ -162,8 +164,8 @@ sliced_more g n e {old} {now} {part} ends within size s told only =
     )) inside in
     record {
       long = put_long g n e now part ends (omega (arith, within, s.long)) size ∙ s.long;
-      front = ap numbers_in here ∙ numbers_append (take (15360 * g) now) part groups ∙ ap (λ l. l ++ numbers_in part) s.front ∙
-          ap (λ l. take (15360 * g) old ++ l) (told ∙ ap (take n) s.rest) ∙
+      prefix = ap numbers_in here ∙ numbers_append (take (15360 * g) now) part groups ∙ ap (λ l. l ++ numbers_in part) s.prefix ∙
+          ap (λ l. take (15360 * g) old ++ l) (if_known ∙ ap (take n) s.rest) ∙
           sym (take-add (15360 * g) n old) ∙ ap (λ k. take k old) (sym ends);
       only = subst HasOnlyDcs (sym here) (only_both (take (15360 * g) now) part groups s.only only);
       rest = drop-put_mid (15360 * g) n now part e (omega (arith, ends)) inside size ∙ drop_then g n e old now ends s.rest;
@@ -216,7 +218,7 @@ pub sliced_none : (blocks : List ℤ) (e : ℕ) → e ≡ 0 → SlicedTo e block
 unfolding numbers_in
 sliced_none blocks e none = subst (λ k. SlicedTo k blocks blocks) (sym none) (record {
   long = refl;
-  front = refl;
+  prefix = refl;
   only = record { others = λ r s known. absurd (omega (arith, known)) };
   rest = refl;
 })
@@ -224,4 +226,4 @@ sliced_none blocks e none = subst (λ k. SlicedTo k blocks blocks) (sym none) (r
 pub sliced_all : {e : ℕ} {old now : List ℤ} → length old ≤ e → SlicedTo e old now → (numbers_in now ≡ old) × HasOnlyDcs now
 sliced_all {e} {old} {now} all s =
     let here : take e now ≡ now = take_all e now (omega (arith, all, s.long)) in
-    (ap numbers_in (sym here) ∙ s.front ∙ take_all e old all, subst HasOnlyDcs here s.only)
+    (ap numbers_in (sym here) ∙ s.prefix ∙ take_all e old all, subst HasOnlyDcs here s.only)

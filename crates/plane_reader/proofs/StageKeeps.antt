@@ -1,5 +1,6 @@
 -- What the stages after the first keep of a block: the DC's bit, and that only numbers with the plane's bit got signs.
-use Rattle.std.proofs.Common.{◌≡◌, ◌⊎◌, ℕ, zero, suc, ◌+◌, ◌*◌, ◌/◌, ◌≤◌, ◌==◌, ◌&&◌, ◌||◌, not, nat_lt, Bool, true, false, if◌then◌else◌, List, [], ◌∷◌, map, filter, length, refl, ap, sym, ◌∙◌, subst, arith, ℤ, inl, inr, Option, Some, None, get_or}
+use Rattle.std.proofs.Common.{◌≡◌, ◌⊎◌, ℕ, zero, suc, ◌+◌, ◌*◌, ◌/◌, ◌≤◌, ◌==◌, ◌&&◌, ◌||◌, not, nat_lt, Bool, true, false, if◌then◌else◌, List, [], ◌∷◌}
+use Rattle.std.proofs.Common.{map, filter, length, refl, ap, sym, ◌∙◌, subst, arith, ℤ, inl, inr, Option, Some, None, get_or}
 use Rattle.std.specs.List.{AllByRecursion}
 use Rattle.std.proofs.lemmas.Bool.Decides.{nat_tests}
 use Rattle.std.proofs.lemmas.Bool.{cases_eq}
@@ -15,7 +16,8 @@ use Rattle.plane_defs.proofs.Alike.{all_filter}
 use Rattle.item_defs.specs.Scripts.{Script, done, in_turn, around}
 use Rattle.plane_defs.specs.States.{State, with_options, with_bits, with_minus, with_families, and_one}
 use Rattle.plane_defs.specs.WordScripts.{option_script, word_script, coded_script, raw_form, ones, due_script, signs_script, types_script, group_script}
-use Rattle.plane_defs.specs.StageScripts.{Terms, above, is_due, bit_script, dc_bit_script, parents_script, descendants_script, children_script, is_childless, quads_script, grandchildren_script, refinement_script, stage_script}
+use Rattle.plane_defs.specs.StageScripts.{Terms, above, is_due, bit_script, dc_bit_script, parents_script, descendants_script, children_script}
+use Rattle.plane_defs.specs.StageScripts.{is_childless, quads_script, grandchildren_script, refinement_script, stage_script}
 use Rattle.plane_defs.specs.PlaneScript.{PlaneState, of_block, with_block, blocks_script, plane_script}
 use Rattle.item_defs.specs.Scripts.{ask, ask_bit, then_ask}
 use Rattle.plane_reader.proofs.ScriptKeeps.{Keeps, keeps_then, keeps_turn, keeps_around}

@@ -1,5 +1,6 @@
 -- The stages of a plane, gaggle by gaggle.
-use Rattle.std.proofs.Common.{◌≡◌, ℕ, suc, ◌+◌, ◌-◌, ◌*◌, ◌/◌, ◌<◌, ◌≤◌, min, if◌then◌else◌, List, [], length, refl, ap, sym, ◌∙◌, subst, arith, ℤ, pos, ◌+ℤ◌, ◌%◌, ◌^◌, inl, inr, Result, Ok, Err, get_or, w32}
+use Rattle.std.proofs.Common.{◌≡◌, ℕ, suc, ◌+◌, ◌-◌, ◌*◌, ◌/◌, ◌<◌, ◌≤◌, min, if◌then◌else◌, List, [], length, refl, ap, sym, ◌∙◌, subst, arith, ℤ, pos}
+use Rattle.std.proofs.Common.{◌+ℤ◌, ◌%◌, ◌^◌, inl, inr, Result, Ok, Err, get_or, w32}
 use Rattle.std.specs.Int.{cast_signed}
 use Rattle.std.proofs.lemmas.Bool.{cases_eq, cases_lt}
 use Rattle.block_masks.specs.Gaggles.{AreOptions, AreKnown, options_at, sent_at}
@@ -8,7 +9,7 @@ use Rattle.bit_pipe.specs.declared.fault.Part.{Part}
 use Rattle.bit_pipe.specs.declared.fault.Part.TheVariants.{Whole, Ended}
 use Rattle.bit_pipe.specs.declared.fault.TextFault.{TextFault}
 use Rattle.bit_pipe.specs.Sources.{SourceOf}
-use Rattle.bit_pipe.specs.Coming.{Coming, IsIn}
+use Rattle.bit_pipe.specs.SourceState.{SourceState, IsIn}
 use Rattle.item_defs.specs.Scripts.{Script, then_ask, in_turn}
 use Rattle.bit_pipe.specs.ScriptSources.{got, ends, by_fault, by_part, ReadsAs}
 use Rattle.item_defs.proofs.ScriptLaws.{turns_split}
@@ -17,7 +18,8 @@ use Rattle.plane_defs.specs.States.{State}
 use Rattle.plane_defs.specs.StageScripts.{Terms}
 use Rattle.plane_defs.specs.PlaneScript.{PlaneState, blocks_script, plane_script, nothing_yet}
 use Rattle.plane_reader.specs.Takes.{AreIn}
-use Rattle.plane_reader.specs.Gaggles.{HavePlane, HaveDcs, HaveFamilies, HaveOptions, HaveRead, KeepSlots, gaggle_at, block_script, gaggle_script, TakesGaggle, TakesStage}
+use Rattle.plane_reader.specs.Gaggles.{HavePlane, HaveDcs, HaveFamilies, HaveOptions, HaveRead, KeepSlots, gaggle_at, block_script, gaggle_script}
+use Rattle.plane_reader.specs.Gaggles.{TakesGaggle, TakesStage}
 use Rattle.plane_reader.specs.Planes.{TakesStages}
 use Rattle.plane_reader.proofs.GaggleEnds.{same_options}
 use Rattle.plane_reader.proofs.ScriptKeeps.{said_kept}
@@ -26,7 +28,7 @@ use Rattle.plane_reader.proofs.StageKeeps.{All, dc_stable, later_keeps}
 -- the gaggles before the one that begins with block j were read, and m more blocks are left
 pub record GagglesLeft {I : Type 0} (k : SourceOf I) (plane j m : ℕ) (numbers : List (List ℤ)) (all : Script PlaneState PlaneState) (item : ℕ → PlaneState →
     Script PlaneState PlaneState)
-    (cells marks : List ℤ) (old now : Coming I) : Type 0 where
+    (cells marks : List ℤ) (old now : SourceState I) : Type 0 where
   pub state : PlaneState
   pub has : HavePlane plane cells numbers state
   pub families : HaveFamilies marks state
@@ -58,7 +60,7 @@ known_after {old} {new} {g} long here others known = record {
 
 -- the stages after the first change no DC
 pub dcs_kept : {I : Type 0} {k : SourceOf I} (t : Terms) (depths : List ℕ) (numbers : List (List ℤ)) (stage plane : ℕ) → 1 ≤ stage → plane < 27 →
-    (p now : PlaneState) (result : Result Part TextFault) {old new : List ℤ} {x y : Coming I} →
+    (p now : PlaneState) (result : Result Part TextFault) {old new : List ℤ} {x y : SourceState I} →
     KeepSlots plane old new → ReadsAs k (blocks_script t depths numbers stage p) (by_part result now now) x y → HaveDcs plane old numbers p →
     HaveDcs plane new numbers now
 dcs_kept t depths numbers stage plane some low p now result {old} {new} keeps read have r inside =
@@ -70,7 +72,7 @@ dcs_kept t depths numbers stage plane some low p now result {old} {new} keeps re
     sym (ap (λ y. get_or (get_or numbers r []) 0 (pos 0) +ℤ pos (if y then 2 ^ plane else 0)) kept)
 
 module _ {I : Type 0} {k : SourceOf I} (t : Terms) (stage : ℕ) (depths : List ℕ) (numbers : List (List ℤ)) (plane : ℕ) where
-  pub gaggles_start : {cells marks : List ℤ} (x : Coming I) (p : PlaneState) (j m : ℕ) → j ≡ 0 → m ≡ length depths → HaveRead plane cells marks numbers p →
+  pub gaggles_start : {cells marks : List ℤ} (x : SourceState I) (p : PlaneState) (j m : ℕ) → j ≡ 0 → m ≡ length depths → HaveRead plane cells marks numbers p →
       GagglesLeft k plane j m numbers (blocks_script t depths numbers stage p) (block_script t stage depths numbers) cells marks x x
   gaggles_start x p j m first count have =
       let all = blocks_script t depths numbers stage p in
@@ -84,7 +86,7 @@ module _ {I : Type 0} {k : SourceOf I} (t : Terms) (stage : ℕ) (depths : List 
       }
 
   -- the first block is that of gaggle g
-  pub at_gaggle : (b g c : ℕ) → b ≡ 16 * g → {s : PlaneState} (result : Result Part TextFault) {cells marks : List ℤ} {x y : Coming I} →
+  pub at_gaggle : (b g c : ℕ) → b ≡ 16 * g → {s : PlaneState} (result : Result Part TextFault) {cells marks : List ℤ} {x y : SourceState I} →
       TakesGaggle k plane (b / 16) numbers s (gaggle_script t stage depths numbers b c s) result cells marks x y →
       TakesGaggle k plane g numbers s (gaggle_script t stage depths numbers (16 * g) c s) result cells marks x y
   at_gaggle b g c e {s} result {cells} {marks} {x} {y} read =
@@ -92,7 +94,8 @@ module _ {I : Type 0} {k : SourceOf I} (t : Terms) (stage : ℕ) (depths : List 
       subst (λ h. TakesGaggle k plane h numbers s (gaggle_script t stage depths numbers (16 * g) c s) result cells marks x y) same (subst
       (λ a. TakesGaggle k plane (b / 16) numbers s (gaggle_script t stage depths numbers a c s) result cells marks x y) e read)
 
-  module _ {all : Script PlaneState PlaneState} (g count : ℕ) {cells marks : List ℤ} {x y : Coming I} (lt : 16 * g < count) (l : GagglesLeft k plane (16 * g)
+  module _ {all : Script PlaneState PlaneState} (g count : ℕ) {cells marks : List ℤ} {x y : SourceState I} (lt : 16 * g < count)
+      (l : GagglesLeft k plane (16 * g)
       (count - 16 * g) numbers all (block_script t stage depths numbers) cells marks x y)
       {c : ℕ} (width : c ≡ min (count - 16 * g) 16) where
     part : Script PlaneState PlaneState
@@ -126,7 +129,7 @@ module _ {I : Type 0} {k : SourceOf I} (t : Terms) (stage : ℕ) (depths : List 
           (g + 1)) s) b
     ]
 
-    pub gaggles_more : {cells' marks' : List ℤ} {z : Coming I} → length marks' ≡ length marks → OthersStay g marks marks' →
+    pub gaggles_more : {cells' marks' : List ℤ} {z : SourceState I} → length marks' ≡ length marks → OthersStay g marks marks' →
         TakesGaggle k plane g numbers l.state (gaggle_script t stage depths numbers (16 * g) c l.state) (Ok Whole) cells' marks' y z →
         GagglesLeft k plane (16 * (g + 1)) (count - 16 * (g + 1)) numbers all (block_script t stage depths numbers) cells' marks' x z
     unfolding part
@@ -138,19 +141,19 @@ module _ {I : Type 0} {k : SourceOf I} (t : Terms) (stage : ℕ) (depths : List 
       left = subst (λ r. Leaves k all r x z) (rest_is read.now) (leaves_more all part rest read.now left_is read.read);
     }
 
-    pub gaggles_cut : {cells' marks' : List ℤ} {z : Coming I} → (read : TakesGaggle k plane g numbers l.state (gaggle_script t stage depths numbers
+    pub gaggles_cut : {cells' marks' : List ℤ} {z : SourceState I} → (read : TakesGaggle k plane g numbers l.state (gaggle_script t stage depths numbers
         (16 * g) c l.state) (Ok Ended) cells' marks' y z) → ReadsAs k all (ends read.now) x z
     unfolding part
     gaggles_cut {z = z} read = left_is.then (ends read.now) z (read_cut part rest read.now read.read)
 
-    pub gaggles_fault : {cells' marks' : List ℤ} {z : Coming I} → (fault : TextFault) → (read : TakesGaggle k plane g numbers l.state
+    pub gaggles_fault : {cells' marks' : List ℤ} {z : SourceState I} → (fault : TextFault) → (read : TakesGaggle k plane g numbers l.state
         (gaggle_script t stage depths numbers (16 * g) c l.state) (Err fault) cells' marks' y z) → ReadsAs k all (by_fault fault read.now) x z
     unfolding part
     gaggles_fault {z = z} fault read = left_is.then (by_fault fault read.now) z (read_fault part rest read.now fault read.read)
 
   module _ (some : 1 ≤ stage) (low : plane < 27) (p : PlaneState) {old cells marks : List ℤ} (keeps : KeepSlots plane old cells)
-      (dcs : HaveDcs plane old numbers p) {x z : Coming I} where
-    pub stage_cut : {g : ℕ} {before : PlaneState} {script : Script PlaneState PlaneState} {marks' : List ℤ} {y : Coming I} →
+      (dcs : HaveDcs plane old numbers p) {x z : SourceState I} where
+    pub stage_cut : {g : ℕ} {before : PlaneState} {script : Script PlaneState PlaneState} {marks' : List ℤ} {y : SourceState I} →
         (read : TakesGaggle k plane g numbers before script (Ok Ended) cells marks' y z) →
         ReadsAs k (blocks_script t depths numbers stage p) (ends read.now) x z → TakesStage k plane numbers (blocks_script t depths numbers stage p)
         (Ok Ended) cells marks x z
@@ -163,7 +166,7 @@ module _ {I : Type 0} {k : SourceOf I} (t : Terms) (stage : ℕ) (depths : List 
       read = r;
     }
 
-    pub stage_fault : {g : ℕ} {before : PlaneState} {script : Script PlaneState PlaneState} {marks' : List ℤ} {y : Coming I} (fault : TextFault) →
+    pub stage_fault : {g : ℕ} {before : PlaneState} {script : Script PlaneState PlaneState} {marks' : List ℤ} {y : SourceState I} (fault : TextFault) →
         (read : TakesGaggle k plane g numbers before script (Err fault) cells marks' y z) →
         ReadsAs k (blocks_script t depths numbers stage p) (by_fault fault read.now) x z → TakesStage k plane numbers (blocks_script t depths numbers stage p)
         (Err fault) cells marks x z
@@ -198,13 +201,13 @@ module _ {I : Type 0} {k : SourceOf I} (t : Terms) (stage : ℕ) (depths : List 
 
 -- the stages before one were read, and m more are left
 pub record StagesLeft {I : Type 0} (k : SourceOf I) (t : Terms) (plane number m : ℕ) (depths : List ℕ) (numbers : List (List ℤ))
-    (all : Script PlaneState PlaneState) (cells marks : List ℤ) (old now : Coming I) : Type 0 where
+    (all : Script PlaneState PlaneState) (cells marks : List ℤ) (old now : SourceState I) : Type 0 where
   pub state : PlaneState
   pub have : HaveRead plane cells marks numbers state
   pub left : Leaves k all (in_turn (blocks_script t depths numbers) number m state) old now
 
 module _ {I : Type 0} {k : SourceOf I} (t : Terms) {plane : ℕ} (depths : List ℕ) {numbers : List (List ℤ)} where
-  pub stages_start : {n m : ℕ} → n ≡ suc m → {cells marks : List ℤ} {x y : Coming I} → TakesStage k plane numbers
+  pub stages_start : {n m : ℕ} → n ≡ suc m → {cells marks : List ℤ} {x y : SourceState I} → TakesStage k plane numbers
       (blocks_script t depths numbers 0 nothing_yet) (Ok Whole) cells marks x y →
       StagesLeft k t plane 1 m depths numbers (plane_script t depths numbers n) cells marks x y
   stages_start {n} {m} more {x = x} {y} s =
@@ -218,7 +221,8 @@ module _ {I : Type 0} {k : SourceOf I} (t : Terms) {plane : ℕ} (depths : List 
       }
 
   -- the first stage ends the plane
-  pub first_cut : {n m : ℕ} → n ≡ suc m → {cells marks : List ℤ} {x y : Coming I} → TakesStage k plane numbers (blocks_script t depths numbers 0 nothing_yet)
+  pub first_cut : {n m : ℕ} → n ≡ suc m → {cells marks : List ℤ} {x y : SourceState I} →
+      TakesStage k plane numbers (blocks_script t depths numbers 0 nothing_yet)
       (Ok Ended) cells marks x y →
       TakesStages k plane numbers (plane_script t depths numbers n) (Ok Ended) cells x y
   first_cut {n} {m} more {x = x} {y} s = record {
@@ -229,7 +233,7 @@ module _ {I : Type 0} {k : SourceOf I} (t : Terms) {plane : ℕ} (depths : List 
         (in_turn (blocks_script t depths numbers) 1 m) s.now s.read);
   }
 
-  pub first_fault : {n m : ℕ} → n ≡ suc m → (fault : TextFault) {cells marks : List ℤ} {x y : Coming I} →
+  pub first_fault : {n m : ℕ} → n ≡ suc m → (fault : TextFault) {cells marks : List ℤ} {x y : SourceState I} →
       TakesStage k plane numbers (blocks_script t depths numbers 0 nothing_yet) (Err fault) cells marks x y →
       TakesStages k plane numbers (plane_script t depths numbers n) (Err fault) cells x y
   first_fault {n} {m} more fault {x = x} {y} s = record {
@@ -240,12 +244,12 @@ module _ {I : Type 0} {k : SourceOf I} (t : Terms) {plane : ℕ} (depths : List 
         (blocks_script t depths numbers 0 nothing_yet) (in_turn (blocks_script t depths numbers) 1 m) s.now fault s.read);
   }
 
-  module _ {number n m : ℕ} {all : Script PlaneState PlaneState} {cells marks : List ℤ} {x y : Coming I} (more : n ≡ suc m)
+  module _ {number n m : ℕ} {all : Script PlaneState PlaneState} {cells marks : List ℤ} {x y : SourceState I} (more : n ≡ suc m)
       (l : StagesLeft k t plane number n depths numbers all cells marks x y) where
     stage_left : Leaves k all (then_ask (blocks_script t depths numbers number l.state) (in_turn (blocks_script t depths numbers) (suc number) m)) x y
     stage_left = subst (λ c. Leaves k all (in_turn (blocks_script t depths numbers) number c l.state) x y) more l.left
 
-    pub stages_more : {cells' marks' : List ℤ} {z : Coming I} → TakesStage k plane numbers (blocks_script t depths numbers number l.state)
+    pub stages_more : {cells' marks' : List ℤ} {z : SourceState I} → TakesStage k plane numbers (blocks_script t depths numbers number l.state)
         (Ok Whole) cells' marks' y z → StagesLeft k t plane (number + 1) m depths numbers all cells' marks' x z
     stages_more {z = z} s =
         let next : suc number ≡ number + 1 = omega arith in
@@ -256,7 +260,7 @@ module _ {I : Type 0} {k : SourceOf I} (t : Terms) {plane : ℕ} (depths : List 
               (blocks_script t depths numbers number l.state) (in_turn (blocks_script t depths numbers) (suc number) m) s.now stage_left s.read);
         }
 
-    pub stages_cut : {cells' marks' : List ℤ} {z : Coming I} → TakesStage k plane numbers (blocks_script t depths numbers number l.state)
+    pub stages_cut : {cells' marks' : List ℤ} {z : SourceState I} → TakesStage k plane numbers (blocks_script t depths numbers number l.state)
         (Ok Ended) cells' marks' y z → TakesStages k plane numbers all (Ok Ended) cells' x z
     stages_cut {z = z} s = record {
       now = s.now;
@@ -266,7 +270,7 @@ module _ {I : Type 0} {k : SourceOf I} (t : Terms) {plane : ℕ} (depths : List 
           (blocks_script t depths numbers number l.state) (in_turn (blocks_script t depths numbers) (suc number) m) s.now s.read);
     }
 
-    pub stages_fault : (fault : TextFault) {cells' marks' : List ℤ} {z : Coming I} → TakesStage k plane numbers
+    pub stages_fault : (fault : TextFault) {cells' marks' : List ℤ} {z : SourceState I} → TakesStage k plane numbers
         (blocks_script t depths numbers number l.state) (Err fault) cells' marks' y z → TakesStages k plane numbers all (Err fault) cells' x z
     stages_fault fault {z = z} s = record {
       now = s.now;
@@ -276,7 +280,7 @@ module _ {I : Type 0} {k : SourceOf I} (t : Terms) {plane : ℕ} (depths : List 
           (blocks_script t depths numbers number l.state) (in_turn (blocks_script t depths numbers) (suc number) m) s.now fault s.read);
     }
 
-  pub stages_done : {number m : ℕ} {all : Script PlaneState PlaneState} {cells marks : List ℤ} {x y : Coming I} → m ≡ 0 → IsIn y →
+  pub stages_done : {number m : ℕ} {all : Script PlaneState PlaneState} {cells marks : List ℤ} {x y : SourceState I} → m ≡ 0 → IsIn y →
       StagesLeft k t plane number m depths numbers all cells marks x y → TakesStages k plane numbers all (Ok Whole) cells x y
   stages_done {number} {all = all} {x = x} {y} none i l =
       let left : Leaves k all (in_turn (blocks_script t depths numbers) number 0 l.state) x y = subst (λ c. Leaves k all (in_turn

@@ -1,5 +1,6 @@
 -- The types of some positions and their signs, as scripts read them.
-use Rattle.std.proofs.Common.{◌≡◌, ℕ, zero, suc, ◌+◌, ◌-◌, ◌<◌, ◌≤◌, ◌==◌, ◌&&◌, ◌||◌, inl, inr, List, [], ◌∷◌, ◌++◌, length, Bool, true, false, cond, refl, sym, ap, ◌∙◌, subst, arith, Some, None, Ok, Err, Option, Result, filter, count_ones, get_or}
+use Rattle.std.proofs.Common.{◌≡◌, ℕ, zero, suc, ◌+◌, ◌-◌, ◌<◌, ◌≤◌, ◌==◌, ◌&&◌, ◌||◌, inl, inr, List, [], ◌∷◌, ◌++◌, length, Bool, true, false, cond, refl}
+use Rattle.std.proofs.Common.{sym, ap, ◌∙◌, subst, arith, Some, None, Ok, Err, Option, Result, filter, count_ones, get_or}
 use Rattle.std.proofs.lemmas.Bool.{cases_eq}
 use Rattle.std.proofs.lemmas.Bool.Decides.{nat_tests}
 use Rattle.std.proofs.lemmas.Nat.{zero_from_ones}
@@ -16,7 +17,7 @@ use Rattle.block_masks.proofs.LaneMasks.{shows_same}
 use Rattle.bit_pipe.specs.declared.fault.TextFault.{TextFault}
 use Rattle.bit_pipe.specs.declared.fault.TextFault.TheVariants.{FalseFlag}
 use Rattle.bit_pipe.specs.Sources.{SourceOf}
-use Rattle.bit_pipe.specs.Coming.{Coming}
+use Rattle.bit_pipe.specs.SourceState.{SourceState}
 use Rattle.bit_pipe.specs.ScriptSources.{ReadsAs, by_done}
 use Rattle.bit_pipe.proofs.ScriptReading.{read_then, read_cut, read_fault}
 use Rattle.plane_defs.specs.States.{State, with_options, with_bits, with_minus}
@@ -81,7 +82,7 @@ on is known = record { options = known; bits = is.bits; minus = is.minus }
 
 module _ {I : Type 0} {k : SourceOf I} (book : Book) (wanted : Bool) (g : ℕ → Bool) (start count due : ℕ) (few : count ≤ 4) (shown : Shows due g start count)
     (some : wanted ≡ true → 0 < due) (s : State) {h : Gaggle} {m : Found} (is : IsState h m s) where
-  pub types_fault : (fault : TextFault) {h' : Gaggle} {a b : Coming I} → TakesPlaces k book due g start count s (Err fault) h' a b → TakesState {X =
+  pub types_fault : (fault : TextFault) {h' : Gaggle} {a b : SourceState I} → TakesPlaces k book due g start count s (Err fault) h' a b → TakesState {X =
       Unit {0}} k (types_script book g wanted (span start count) s) (Err fault) h' m a b
   types_fault fault p = record {
     now = with_options s p.options;
@@ -89,7 +90,7 @@ module _ {I : Type 0} {k : SourceOf I} (book : Book) (wanted : Bool) (g : ℕ �
     read = read_fault _ _ (with_options s p.options) fault (p.read (some_one_where wanted) (free_if_empty wanted g start count due few shown some));
   }
 
-  pub types_missing : {h' : Gaggle} {a b : Coming I} → TakesPlaces k book due g start count s (Ok None) h' a b → TakesState {X =
+  pub types_missing : {h' : Gaggle} {a b : SourceState I} → TakesPlaces k book due g start count s (Ok None) h' a b → TakesState {X =
       Unit {0}} k (types_script book g wanted (span start count) s) (Ok None) h' m a b
   types_missing p = record {
     now = with_options s p.options;
@@ -98,7 +99,7 @@ module _ {I : Type 0} {k : SourceOf I} (book : Book) (wanted : Bool) (g : ℕ �
         (some_one_where wanted) (free_if_empty wanted g start count due few shown some));
   }
 
-  module _ {places : ℕ} {h' : Gaggle} {a b : Coming I} (p : TakesPlaces k book due g start count s (Ok (Some places)) h' a b) where
+  module _ {places : ℕ} {h' : Gaggle} {a b : SourceState I} (p : TakesPlaces k book due g start count s (Ok (Some places)) h' a b) where
     abbrev after : State
     after = with_options s p.options
 
@@ -112,7 +113,7 @@ module _ {I : Type 0} {k : SourceOf I} (book : Book) (wanted : Bool) (g : ℕ �
     pub types_false : (wanted && (places == 0)) ≡ true → TakesState {X = Unit {0}} k (types_script book g wanted (span start count) s) (Err FalseFlag) h' m a b
     types_false e = record { now = after; is = on is p.known; read = read_fault _ _ after FalseFlag (places_read true e) }
 
-    pub types_read : {o q : Found} {c : Coming I} {result : Result (Option (Unit {0})) TextFault} → (wanted && (places == 0)) ≡ false →
+    pub types_read : {o q : Found} {c : SourceState I} {result : Result (Option (Unit {0})) TextFault} → (wanted && (places == 0)) ≡ false →
         ((f g' : ℕ → Bool) (n : ℕ) → start + n ≤ 64 → Shows m.bits f 0 64 → Shows places g' start n → Shows o.bits (λ p. f p ||
         (inside start n p && g' p)) 0 64) → start + count ≤ 64 → o.minus ≡ m.minus →
         TakesSigns k (positions places start count) (with_bits after p.ones) result q.minus b c → q.bits ≡ o.bits →

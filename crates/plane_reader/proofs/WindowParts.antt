@@ -40,13 +40,3 @@ module _ (window first more : ℕ) (few : first + more ≤ 64) where
       let up : (64 - (first + more)) + more ≡ 64 - first = omega arith in
       bits_of-split first more y ∙ ap (λ n. bits_of first n ++ bits_of more y) (shr-shr window (64 - (first + more)) more ∙ ap (λ n. window / 2 ^ n) up) ∙
       ap (λ l. first_of first window ++ l) (sym moved)
-
--- the signs are the word of the bits after the types' one
-pub signs_value : (window len ones : ℕ) → len ≤ 8 → ones ≤ 4 → value_of (drop len (first_of (len + ones) window)) ≡ window * 2 ^ len % 2 ^ 64 / 2 / 2 ^
-    (63 - ones)
-signs_value window len ones brief few =
-    let rest = window * 2 ^ len % 2 ^ 64 in
-    let long : length (first_of len window) ≡ len = length-bits_of len (window / 2 ^ (64 - len)) in
-    ap (λ l. value_of (drop len l)) (window_parts window len ones (omega (arith, brief, few))) ∙ ap (λ n. value_of (drop n
-    (first_of len window ++ first_of ones rest))) (sym long) ∙
-    ap value_of (drop-append_seam (first_of len window) (first_of ones rest)) ∙ word_value rest (rest / 2 / 2 ^ (63 - ones)) ones (omega arith) refl few

@@ -1,5 +1,6 @@
 -- Words, as scripts read them.
-use Rattle.std.proofs.Common.{◌≡◌, ℕ, length, ◌-◌, ◌<◌, ◌≤◌, ◌^◌, ◌==◌, not, Bool, true, false, if◌then◌else◌, refl, sym, ap, ◌∙◌, subst, arith, Some, None, Ok, Err, Option, Result, get_or, set, get_or-set_same, get_or-set_other}
+use Rattle.std.proofs.Common.{◌≡◌, ℕ, length, ◌-◌, ◌<◌, ◌≤◌, ◌^◌, ◌==◌, not, Bool, true, false, if◌then◌else◌, refl, sym, ap, ◌∙◌, subst, arith, Some, None}
+use Rattle.std.proofs.Common.{Ok, Err, Option, Result, get_or, set, get_or-set_same, get_or-set_other}
 use Rattle.std.proofs.lemmas.Bool.Decides.{nat_tests}
 use Rattle.item_defs.specs.Items.{Item, raw, item_bits, Form, false_flag, bad_option}
 use Rattle.item_defs.specs.Readings.{IsSound}
@@ -10,7 +11,7 @@ use Rattle.plane_defs.specs.Steps.{Check, refuses as is_refused}
 use Rattle.block_masks.specs.declared.gaggle.Gaggle.{Gaggle}
 use Rattle.bit_pipe.specs.declared.fault.TextFault.{TextFault}
 use Rattle.bit_pipe.specs.Sources.{SourceOf}
-use Rattle.bit_pipe.specs.Coming.{Coming, IsIn, Takes, EndsItem}
+use Rattle.bit_pipe.specs.SourceState.{SourceState, IsIn, Takes, EndsItem}
 use Rattle.bit_pipe.specs.Answers.{IsBelow, TakesOne}
 use Rattle.bit_pipe.proofs.Taking.{in_later}
 use Rattle.item_defs.specs.Scripts.{Script, done, ask, then_ask}
@@ -25,7 +26,7 @@ equal_self : (n : ℕ) → (n == n) ≡ true
 equal_self n = grind (arith, nat_tests)
 
 -- what a call for one item says
-pub one_takes : {I : Type 0} {k : SourceOf I} (Is : ℕ → Type 0) (item : ℕ → Item) {result : Result (Option ℕ) TextFault} {a b : Coming I}
+pub one_takes : {I : Type 0} {k : SourceOf I} (Is : ℕ → Type 0) (item : ℕ → Item) {result : Result (Option ℕ) TextFault} {a b : SourceState I}
     (t : TakesOne k Is item result a b) → OneEnds k (item t.value) t.value result a b
 one_takes {k = k} Is item {result} {a} {b} t = subst (λ r. OneEnds k (item t.value) t.value r a b) (sym t.answer) (one_ends
     (item t.value) t.value t.ending t.read)
@@ -75,12 +76,12 @@ next count s number = done (with_options s (with_option s.options count (option_
 
 module _ {I : Type 0} {k : SourceOf I} (count : ℕ) (s : State) (g : Gaggle) (are : AreIn g s.options) (low : 2 ≤ count) (high : count ≤ 4) where
   -- it was read before
-  pub opens_known : {a : Coming I} → IsIn a → get_or g.sent (count - 2) false ≡ true → Opens k count s (Ok (Some (get_or g.options (count - 2) 0))) g a a
+  pub opens_known : {a : SourceState I} → IsIn a → get_or g.sent (count - 2) false ≡ true → Opens k count s (Ok (Some (get_or g.options (count - 2) 0))) g a a
   opens_known {a} i sent =
       let e = known_option count s.options g are low high sent in
       record { options = s.options; known = are; at = e; read = rw e (read_done s a i) }
 
-  pub opens_fault : (fault : TextFault) {a b : Coming I} → get_or g.sent (count - 2) false ≡ false → TakesOne k (IsBelow count) (option_item count)
+  pub opens_fault : (fault : TextFault) {a b : SourceState I} → get_or g.sent (count - 2) false ≡ false → TakesOne k (IsBelow count) (option_item count)
       (Err fault) a b → Opens k count s (Err fault) g a b
   opens_fault fault none t = record {
     options = s.options;
@@ -90,7 +91,7 @@ module _ {I : Type 0} {k : SourceOf I} (count : ℕ) (s : State) (g : Gaggle) (a
         (λ n name e. e) fault (one_takes (IsBelow count) (option_item count) t));
   }
 
-  pub opens_end : {a b : Coming I} → get_or g.sent (count - 2) false ≡ false → TakesOne k (IsBelow count) (option_item count) (Ok None) a b →
+  pub opens_end : {a b : SourceState I} → get_or g.sent (count - 2) false ≡ false → TakesOne k (IsBelow count) (option_item count) (Ok None) a b →
       Opens k count s (Ok None) g a b
   opens_end none t = record {
     options = s.options;
@@ -100,7 +101,7 @@ module _ {I : Type 0} {k : SourceOf I} (count : ℕ) (s : State) (g : Gaggle) (a
         (next count s) (one_takes (IsBelow count) (option_item count) t));
   }
 
-  pub opens_new : (option : ℕ) {a b : Coming I} → IsIn a → get_or g.sent (count - 2) false ≡ false → length g.options ≡ 3 → length g.sent ≡ 3 →
+  pub opens_new : (option : ℕ) {a b : SourceState I} → IsIn a → get_or g.sent (count - 2) false ≡ false → length g.options ≡ 3 → length g.sent ≡ 3 →
       TakesOne k (IsBelow count) (option_item count) (Ok (Some option)) a b →
       Opens k count s (Ok (Some option)) (with_sent g count option) a b
   opens_new option {a} {b} i none three three_sent t =
@@ -121,7 +122,7 @@ module _ {I : Type 0} {k : SourceOf I} (count : ℕ) (s : State) (g : Gaggle) (a
 
 -- ---- a question whose number has a value, of which some are refused
 
-module _ {I : Type 0} {k : SourceOf I} {G A : Type 0} (g : G) (form : Form) (next : ℕ → Script G A) (a : A) (bad : Bool) (n : ℕ) {s t : Coming I}
+module _ {I : Type 0} {k : SourceOf I} {G A : Type 0} (g : G) (form : Form) (next : ℕ → Script G A) (a : A) (bad : Bool) (n : ℕ) {s t : SourceState I}
     (sound : IsSound form.shape) (i : IsIn s) (read : EndsItem k form.shape (Ok (Some n)) s t) (is : next n ≡ done a) (refusal : form.refusal n ≡
     (if bad then Some false_flag else None)) where
   pub ask_checked : ReadsAs k (ask g form next) (unless_bad bad g a) s t
@@ -138,14 +139,14 @@ abbrev raw_next : State → ℕ → Script State (State × ℕ)
 raw_next s value = done (s, value)
 
 module _ {I : Type 0} {k : SourceOf I} (book : Book) (s : State) (g : Gaggle) where
-  pub word_none : {a : Coming I} → AreIn g s.options → IsIn a → TakesWord k book 0 s (Ok (Some 0)) g a a
+  pub word_none : {a : SourceState I} → AreIn g s.options → IsIn a → TakesWord k book 0 s (Ok (Some 0)) g a a
   word_none {a} are i = record {
     options = s.options;
     known = are;
     read = λ check free. let w : State × ℕ = (s, 0) in subst (λ b. ReadsAs k (done w) (unless_bad b s w) a a) (sym (free refl)) (read_done w a i);
   }
 
-  pub word_raw : {result : Result (Option ℕ) TextFault} {a b : Coming I} → AreIn g s.options → IsIn a → TakesOne k (IsBelow 2) raw result a b →
+  pub word_raw : {result : Result (Option ℕ) TextFault} {a b : SourceState I} → AreIn g s.options → IsIn a → TakesOne k (IsBelow 2) raw result a b →
       TakesWord k book 1 s result g a b
   word_raw {result} {a} {b} are i t = record { options = s.options; known = are; read = λ check free. rest_of check result (one_takes (IsBelow 2) raw t) }
     where
@@ -170,7 +171,7 @@ module _ (book : Book) (count : ℕ) (low : 2 ≤ count) (high : count ≤ 4) (s
   long_is check = several _ _ (long_script check)
 
   module _ {I : Type 0} {k : SourceOf I} {g : Gaggle} where
-    pub unopened_fault : (fault : TextFault) {a b : Coming I} → Opens k count s (Err fault) g a b → TakesWord k book count s (Err fault) g a b
+    pub unopened_fault : (fault : TextFault) {a b : SourceState I} → Opens k count s (Err fault) g a b → TakesWord k book count s (Err fault) g a b
     unopened_fault fault o = record {
       options = o.options;
       known = o.known;
@@ -178,10 +179,10 @@ module _ (book : Book) (count : ℕ) (low : 2 ≤ count) (high : count ≤ 4) (s
           (with_options s o.options) fault o.read);
     }
 
-    pub unopened_end : {a b : Coming I} → Opens k count s (Ok None) g a b → TakesWord k book count s (Ok None) g a b
+    pub unopened_end : {a b : SourceState I} → Opens k count s (Ok None) g a b → TakesWord k book count s (Ok None) g a b
     unopened_end o = record { options = o.options; known = o.known; read = λ check free. rw (long_is check) (read_cut _ _ (with_options s o.options) o.read) }
 
-    pub opened_word : is_book_sound book ≡ true → (option : ℕ) → option < count → {result : Result (Option ℕ) TextFault} {a b c : Coming I} → IsIn a →
+    pub opened_word : is_book_sound book ≡ true → (option : ℕ) → option < count → {result : Result (Option ℕ) TextFault} {a b c : SourceState I} → IsIn a →
         Opens k count s (Ok (Some option)) g a b → TakesOne k (IsBelow (2 ^ count)) (word_item book count option) result b c →
         TakesWord k book count s result g a c
     opened_word sound option lt {result} {a} {b} {c} i o t = record {

@@ -10,7 +10,7 @@ use Rattle.block_masks.specs.Slices.{mask_in, above_slot, minus_slot, dc_slot}
 use Rattle.bit_pipe.specs.declared.fault.Part.{Part}
 use Rattle.bit_pipe.specs.declared.fault.TextFault.{TextFault}
 use Rattle.bit_pipe.specs.Sources.{SourceOf}
-use Rattle.bit_pipe.specs.Coming.{Coming}
+use Rattle.bit_pipe.specs.SourceState.{SourceState}
 use Rattle.item_defs.specs.Scripts.{Script, in_turn, around}
 use Rattle.bit_pipe.specs.ScriptSources.{ReadsAs, by_part}
 use Rattle.plane_defs.specs.StageScripts.{Terms, stage_script}
@@ -81,7 +81,7 @@ pub record TakesBlocks {I : Type 0} (k : SourceOf I) (plane g : ℕ) (numbers : 
 
 -- the same once the window is let go: exactly the bits that decide were taken
 pub record TakesGaggle {I : Type 0} (k : SourceOf I) (plane g : ℕ) (numbers : List (List ℤ)) (before : PlaneState) (script : Script PlaneState PlaneState)
-    (result : Result Part TextFault) (cells marks : List ℤ) (old new : Coming I) : Type 0 where
+    (result : Result Part TextFault) (cells marks : List ℤ) (old new : SourceState I) : Type 0 where
   pub now : PlaneState
   pub options : OnWhole result (AreIn (gaggle_at marks g) (now.options g))
   pub others : (h : ℕ) → (h ≡ g → ⊥) → now.options h ≡ before.options h
@@ -102,7 +102,7 @@ pub record HaveRead (plane : ℕ) (cells marks : List ℤ) (numbers : List (List
 
 -- a stage of all blocks was read, and the masks and the states have what was read: exactly the bits that decide were taken
 pub record TakesStage {I : Type 0} (k : SourceOf I) (plane : ℕ) (numbers : List (List ℤ)) (script : Script PlaneState PlaneState)
-    (result : Result Part TextFault) (cells marks : List ℤ) (old new : Coming I) : Type 0 where
+    (result : Result Part TextFault) (cells marks : List ℤ) (old new : SourceState I) : Type 0 where
   pub now : PlaneState
   pub has : HavePlane plane cells numbers now
   pub dcs : HaveDcs plane cells numbers now

@@ -2,7 +2,7 @@
 -- (This project's own.)
 use Rattle.std.specs.Prelude.{◌≡◌, ◌≤◌, ℕ, ◌+◌, ◌*◌, ◌%◌, ◌^◌, if◌then◌else◌, nat_le, List, [], ◌++◌, Bool}
 use Rattle.bit_pipe.specs.Sources.{SourceOf}
-use Rattle.bit_pipe.specs.Coming.{Coming, Takes, IsEnd, FailsSo}
+use Rattle.bit_pipe.specs.SourceState.{SourceState, Takes, IsEnd, FailsSo}
 use Rattle.bit_pipe.specs.Windows.{IsWindow, first_of}
 use Rattle.item_defs.specs.Scripts.{Script}
 use Rattle.bit_pipe.specs.ScriptSources.{Found, got, ends, refuses, fails, Says, GoesOn}
@@ -17,16 +17,16 @@ abbrev pub has_left : ℕ → Cursor → Type 0
 has_left count c = c.used + count ≤ 56
 
 -- the window, if it is there, has the bits that the input has next, and its rest those after what was read
-pub record Holds {I : Type 0} (k : SourceOf I) (s : Coming I) (c : Cursor) : Type 0 where
+pub record Holds {I : Type 0} (k : SourceOf I) (s : SourceState I) (c : Cursor) : Type 0 where
   pub window : c.used ≤ 56 → IsWindow k s c.window
   pub rest : c.used ≤ 56 → c.rest ≡ c.window * 2 ^ c.used % 2 ^ 64
 
 -- a place in a text: the input, and the bits after it that were read of a window
 pub record Point (I : Type 0) : Type 0 where
-  pub input : Coming I
+  pub input : SourceState I
   pub read : List Bool
 
-abbrev pub point : {I : Type 0} → Coming I → Cursor → Point I
+abbrev pub point : {I : Type 0} → SourceState I → Cursor → Point I
 point s c = record { input = s; read = read_of c }
 
 -- these bits are between two places

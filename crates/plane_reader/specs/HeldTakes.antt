@@ -9,7 +9,7 @@ use Rattle.block_masks.specs.Gaggles.{AreOptions}
 use Rattle.block_masks.specs.Masks.{Shows}
 use Rattle.bit_pipe.specs.declared.fault.TextFault.{TextFault}
 use Rattle.bit_pipe.specs.Sources.{SourceOf}
-use Rattle.bit_pipe.specs.Coming.{Coming, IsIn}
+use Rattle.bit_pipe.specs.SourceState.{SourceState, IsIn}
 use Rattle.item_defs.specs.Scripts.{Script, done, ask_bit}
 use Rattle.bit_pipe.specs.ScriptSources.{by_item, by_done}
 use Rattle.plane_defs.specs.States.{State, with_options}
@@ -22,7 +22,7 @@ use Rattle.plane_reader.specs.Places.{AreRows}
 use Rattle.plane_reader.specs.Held.{Holds, Point, ReadsFrom}
 
 -- words can be read from the window that is held, by the options of the gaggle
-pub record IsReading {I : Type 0} (k : SourceOf I) (s : Coming I) (r : Reading) : Type 0 where
+pub record IsReading {I : Type 0} (k : SourceOf I) (s : SourceState I) (r : Reading) : Type 0 where
   pub is_in : IsIn s
   pub holds : Holds k s r.cursor
   pub options : AreOptions r.gaggle.options

@@ -7,7 +7,7 @@ use Rattle.bit_pipe.specs.declared.fault.Part.{Part}
 use Rattle.bit_pipe.specs.declared.fault.TextFault.{TextFault}
 use Rattle.bit_pipe.specs.Sources.{SourceOf}
 use Rattle.item_defs.specs.Scripts.{Script, done, around}
-use Rattle.bit_pipe.specs.Coming.{Coming}
+use Rattle.bit_pipe.specs.SourceState.{SourceState}
 use Rattle.bit_pipe.specs.ScriptSources.{ReadsAs, by_part}
 use Rattle.block_masks.specs.Slices.{dc_slot, minus_slot, mask_in}
 use Rattle.plane_defs.specs.StageScripts.{bit_script}
@@ -62,7 +62,7 @@ pub record KeepPlanes (plane : ℕ) (old new : List ℤ) : Type 0 where
 
 -- stages of a plane were read, and the masks have what was read: exactly the bits that decide were taken
 pub record TakesStages {I : Type 0} (k : SourceOf I) (plane : ℕ) (numbers : List (List ℤ)) (script : Script PlaneState PlaneState)
-    (result : Result Part TextFault) (cells : List ℤ) (old new : Coming I) : Type 0 where
+    (result : Result Part TextFault) (cells : List ℤ) (old new : SourceState I) : Type 0 where
   pub now : PlaneState
   pub has : HavePlane plane cells numbers now
   pub dcs : HaveDcs plane cells numbers now

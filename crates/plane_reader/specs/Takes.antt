@@ -1,5 +1,6 @@
 -- What a call has read of a script, and what its masks and its gaggle have then. (This project's own.)
-use Rattle.std.specs.Prelude.{◌≡◌, ◌≤◌, ◌<◌, ◌+◌, ◌-◌, ◌&&◌, ◌^◌, ℕ, Bool, count_ones, false, if◌then◌else◌, List, filter, length, Option, Some, None, Result, Ok, Err}
+use Rattle.std.specs.Prelude.{◌≡◌, ◌≤◌, ◌<◌, ◌+◌, ◌-◌, ◌&&◌, ◌^◌, ℕ, Bool, count_ones, false, if◌then◌else◌, List, filter, length, Option, Some, None}
+use Rattle.std.specs.Prelude.{Result, Ok, Err}
 use lib.ListN.{get_or}
 use Rattle.item_defs.specs.Bits.{bit}
 use Rattle.item_defs.specs.Items.{false_flag}
@@ -10,7 +11,7 @@ use Rattle.block_masks.specs.Masks.{Shows}
 use Rattle.block_masks.specs.Places.{inside}
 use Rattle.bit_pipe.specs.declared.fault.TextFault.{TextFault}
 use Rattle.bit_pipe.specs.Sources.{SourceOf}
-use Rattle.bit_pipe.specs.Coming.{Coming}
+use Rattle.bit_pipe.specs.SourceState.{SourceState}
 use Rattle.item_defs.specs.Scripts.{Script, done, ask_bit}
 use Rattle.bit_pipe.specs.ScriptSources.{Found as Finding, got, ends, refuses, ReadsAs, by_fault, by_item, by_done}
 use Rattle.plane_defs.specs.States.{State, with_options, with_minus}
@@ -42,7 +43,8 @@ OnSome (Ok (Some value)) Holds = Holds value
 OnSome other Holds = Unit {0}
 
 -- the option of a length, which was known or was read
-pub record Opens {I : Type 0} (k : SourceOf I) (count : ℕ) (s : State) (result : Result (Option ℕ) TextFault) (now : Gaggle) (old new : Coming I) : Type 0 where
+pub record Opens {I : Type 0} (k : SourceOf I) (count : ℕ) (s : State) (result : Result (Option ℕ) TextFault) (now : Gaggle)
+    (old new : SourceState I) : Type 0 where
   pub options : ℕ → Option ℕ
   pub known : AreIn now options
   pub at : OnSome result (λ option. options count ≡ Some option)
@@ -59,7 +61,7 @@ by_word (Err fault) check s = by_fault fault s
 
 -- a word was read, whichever words the check refuses; an empty word is not asked for
 pub record TakesWord {I : Type 0} (k : SourceOf I) (book : Book) (count : ℕ) (s : State) (result : Result (Option ℕ) TextFault) (now : Gaggle)
-    (old new : Coming I) : Type 0 where
+    (old new : SourceState I) : Type 0 where
   pub options : ℕ → Option ℕ
   pub known : AreIn now options
   pub read : (check : Check) → (count ≡ 0 → is_refused check 0 ≡ false) →
@@ -79,7 +81,7 @@ pub record AreOnes (mask word : ℕ) (ones : ℕ → Bool) (start count places :
 
 -- a word was read, whichever words the check refuses, and a mask has the due places whose bit is 1
 pub record TakesPlaces {I : Type 0} (k : SourceOf I) (book : Book) (mask : ℕ) (due : ℕ → Bool)
-    (start count : ℕ) (s : State) (result : Result (Option ℕ) TextFault) (now : Gaggle) (old new : Coming I) : Type 0 where
+    (start count : ℕ) (s : State) (result : Result (Option ℕ) TextFault) (now : Gaggle) (old new : SourceState I) : Type 0 where
   pub options : ℕ → Option ℕ
   pub known : AreIn now options
   pub word : ℕ
@@ -90,13 +92,13 @@ pub record TakesPlaces {I : Type 0} (k : SourceOf I) (book : Book) (mask : ℕ) 
 
 -- a state was read on, and the masks and the gaggle have what was read
 pub record TakesState {I X : Type 0} (k : SourceOf I) (r : Script State State) (result : Result (Option X) TextFault) (g : Gaggle) (f : Found)
-    (old new : Coming I) : Type 0 where
+    (old new : SourceState I) : Type 0 where
   pub now : State
   pub is : IsState g f now
   pub read : ReadsAs k r (by_done result now now) old new
 
 -- a raw bit was read
-pub record TakesFlag {I : Type 0} (k : SourceOf I) (result : Result (Option Bool) TextFault) (old new : Coming I) : Type 0 where
+pub record TakesFlag {I : Type 0} (k : SourceOf I) (result : Result (Option Bool) TextFault) (old new : SourceState I) : Type 0 where
   pub read : (s : State) → ReadsAs k (ask_bit s (λ b. done b)) (by_item result s) old new
 
 -- the positions of a mask, from a start on
@@ -105,7 +107,7 @@ positions mask start count = filter (λ p. bit mask (p - start)) (span start cou
 
 -- signs were read, and the mask has those that were
 pub record TakesSigns {I : Type 0} (k : SourceOf I) (places : List ℕ) (s : State) (result : Result (Option (Unit {0})) TextFault) (mask : ℕ)
-    (old new : Coming I) : Type 0 where
+    (old new : SourceState I) : Type 0 where
   pub minus : ℕ → Bool
   pub shown : Shows mask minus 0 64
   pub read : ReadsAs k (signs_script places s) (by_done result (with_minus s minus) (with_minus s minus)) old new

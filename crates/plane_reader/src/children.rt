@@ -1,7 +1,7 @@
 // The children of a block: the flags of its families, and the types of those that are significant.
 
 ghost use Rattle.std.specs.Prelude.{◌≡◌, ◌<◌, ◌&&◌, not, true, false, ℕ, ℤ, List};
-ghost use Rattle.bit_pipe.specs.Coming.{coming, IsIn};
+ghost use Rattle.bit_pipe.specs.SourceState.{source_state, IsIn};
 ghost use Rattle.plane_defs.specs.States.{State};
 ghost use Rattle.plane_defs.specs.StageScripts.{children_script};
 ghost use Rattle.plane_reader.specs.Takes.{IsState, OnSome};
@@ -22,15 +22,16 @@ fn take_descendants<I: OctetIn>(
     is_live: bool,
     was: bool,
 ) -> Result<Option<bool>, TextFault>
-    requires reading { IsReading I.source (coming input.old) reading.old }
-    ensures flag { HeldSetFlag I.source is_live was result (point (coming input.old) reading.old.cursor) (point (coming input.new) reading.new.cursor) }
+    requires reading { IsReading I.source (source_state input.old) reading.old }
+    ensures flag { HeldSetFlag I.source is_live was result (point (source_state input.old) reading.old.cursor)
+        (point (source_state input.new) reading.new.cursor) }
     ensures live { OnSome result (λ all. all ≡ true → was ≡ false → is_live ≡ true) }
     ensures gaggle { reading.new.gaggle ≡ reading.old.gaggle }
     ensures tables { reading.new.tables ≡ reading.old.tables }
     ensures found { reading.new.found ≡ reading.old.found }
-    ensures reading { OnSome result (λ x. IsReading I.source (coming input.new) reading.new) }
-    ensures holds { Holds I.source (coming input.new) reading.new.cursor }
-    ensures is_in { IsIn (coming input.new) }
+    ensures reading { OnSome result (λ x. IsReading I.source (source_state input.new) reading.new) }
+    ensures holds { Holds I.source (source_state input.new) reading.new.cursor }
+    ensures is_in { IsIn (source_state input.new) }
 {
     if was || !is_live {
         return Ok(Some(was));
@@ -54,15 +55,15 @@ pub(crate) fn take_children<I: OctetIn>(
     reading: &mut Reading,
     above: u64,
 ) -> Result<Option<u64>, TextFault>
-    requires reading { IsReading I.source (coming input.old) reading.old }
+    requires reading { IsReading I.source (source_state input.old) reading.old }
     ensures children { (block : List ℤ) (s : State) → IsState reading.old.gaggle reading.old.found s → IsAbove above block plan.now.plane →
         HeldFamilies I.source (children_script (terms_of plan.now reading.old.tables.now.words.book) block s) result reading.new.gaggle reading.new.found
-        (point (coming input.old) reading.old.cursor) (point (coming input.new) reading.new.cursor) }
+        (point (source_state input.old) reading.old.cursor) (point (source_state input.new) reading.new.cursor) }
     ensures small { OnSome result (λ families. families < 8) }
     ensures tables { reading.new.tables ≡ reading.old.tables }
-    ensures reading { OnSome result (λ x. IsReading I.source (coming input.new) reading.new) }
-    ensures holds { Holds I.source (coming input.new) reading.new.cursor }
-    ensures is_in { IsIn (coming input.new) }
+    ensures reading { OnSome result (λ x. IsReading I.source (source_state input.new) reading.new) }
+    ensures holds { Holds I.source (source_state input.new) reading.new.cursor }
+    ensures is_in { IsIn (source_state input.new) }
 {
     let before = Sets::of(above);
     let Some(all) = take_descendants(input, reading, plan.live.descendants, before.descendants)?

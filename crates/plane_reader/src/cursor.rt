@@ -1,7 +1,7 @@
 // A window of the text that is held while several words are read from it.
 
 ghost use Rattle.std.specs.Prelude.{◌≡◌, ◌≤◌, ◌<◌, ◌+◌, ◌-◌, ◌*◌, ◌%◌, ◌^◌, ℕ, ◌↔◌, IsTrue, []};
-ghost use Rattle.bit_pipe.specs.Coming.{coming, IsIn, Takes};
+ghost use Rattle.bit_pipe.specs.SourceState.{source_state, IsIn, Takes};
 ghost use Rattle.bit_pipe.specs.Windows.{first_of};
 
 use bit_pipe::{BitIn, OctetIn};
@@ -33,8 +33,8 @@ impl Cursor {
     // Returns a cursor at the bits that are next, with a window of them if there is one.
     #[inline(always)]
     pub fn open<I: OctetIn>(input: &BitIn<I>) -> Cursor
-        requires { IsIn (coming input.now) }
-        ensures holds { Holds I.source (coming input.now) result }
+        requires { IsIn (source_state input.now) }
+        ensures holds { Holds I.source (source_state input.now) result }
         ensures none { read_of result ≡ [] }
     {
         match input.window() {
@@ -50,14 +50,14 @@ impl Cursor {
     // Takes from the input what was read of the window, and lets the window go.
     #[inline(always)]
     pub fn close<I: OctetIn>(&mut self, input: &mut BitIn<I>)
-        requires is_in { IsIn (coming input.old) }
-        requires holds { Holds I.source (coming input.old) self.old }
-        ensures stays { Stays I.source (point (coming input.old) self.old) (point (coming input.new) self.new) }
-        ensures is_in { IsIn (coming input.new) }
-        ensures holds { Holds I.source (coming input.new) self.new }
+        requires is_in { IsIn (source_state input.old) }
+        requires holds { Holds I.source (source_state input.old) self.old }
+        ensures stays { Stays I.source (point (source_state input.old) self.old) (point (source_state input.new) self.new) }
+        ensures is_in { IsIn (source_state input.new) }
+        ensures holds { Holds I.source (source_state input.new) self.new }
         ensures none { read_of self.new ≡ [] }
         ensures closed { 56 < self.new.used }
-        ensures kept { read_of self.old ≡ [] → coming input.new ≡ coming input.old }
+        ensures kept { read_of self.old ≡ [] → source_state input.new ≡ source_state input.old }
     {
         if self.used > 0 && self.used <= HELD {
             input.take_window(self.window, self.used);
@@ -69,11 +69,11 @@ impl Cursor {
     #[inline(always)]
     pub fn need<I: OctetIn>(&mut self, input: &mut BitIn<I>, count: u8) -> bool
         requires count { count ≤ 56 }
-        requires is_in { IsIn (coming input.old) }
-        requires holds { Holds I.source (coming input.old) self.old }
-        ensures stays { Stays I.source (point (coming input.old) self.old) (point (coming input.new) self.new) }
-        ensures is_in { IsIn (coming input.new) }
-        ensures holds { Holds I.source (coming input.new) self.new }
+        requires is_in { IsIn (source_state input.old) }
+        requires holds { Holds I.source (source_state input.old) self.old }
+        ensures stays { Stays I.source (point (source_state input.old) self.old) (point (source_state input.new) self.new) }
+        ensures is_in { IsIn (source_state input.new) }
+        ensures holds { Holds I.source (source_state input.new) self.new }
         ensures has { IsTrue result ↔ has_left count self.new }
         ensures kept { has_left count self.old → self.new ≡ self.old }
     {

@@ -1,7 +1,7 @@
 // Stage 0 of a plane: the bits of the DC numbers.
 
 ghost use Rattle.std.specs.Prelude.{◌≡◌, ◌<◌, ◌+◌, ◌*◌, ◌/◌, ◌%◌, ◌&&◌, ℕ, ℤ, pos, List, [], length, nat_lt, true};
-ghost use Rattle.bit_pipe.specs.Coming.{coming, IsIn};
+ghost use Rattle.bit_pipe.specs.SourceState.{source_state, IsIn};
 ghost use Rattle.block_masks.specs.Slices.{IsColumn};
 ghost use Rattle.plane_defs.specs.Sets.{coded};
 ghost use Rattle.plane_defs.specs.PlaneScript.{nothing_yet, blocks_script};
@@ -46,17 +46,17 @@ fn take_bits<I: OctetIn>(
     reading: &mut Reading,
     cells: &mut [i32],
 ) -> Result<Part, TextFault>
-    requires reading { IsReading I.source (coming input.old) reading.old }
+    requires reading { IsReading I.source (source_state input.old) reading.old }
     requires whole { length cells.old % 64 ≡ 0 }
     requires low { plane < 27 }
     ensures bits { (numbers : List (List ℤ)) (marks : List ℤ) → length cells.old ≡ 64 * length numbers → ((r : ℕ) → r < length numbers →
         HasNoneBelow (plane + 1) (get_or (get_or numbers r []) 0 (pos 0))) →
         HaveRead plane cells.old marks numbers nothing_yet →
         HeldDcs I.source plane numbers (in_turn (dc_item true) 0 (length numbers) nothing_yet) result cells.new marks (point
-        (coming input.old) reading.old.cursor) (point (coming input.new) reading.new.cursor) }
+        (source_state input.old) reading.old.cursor) (point (source_state input.new) reading.new.cursor) }
     ensures keeps { KeepOthers cells.old cells.new }
-    ensures holds { Holds I.source (coming input.new) reading.new.cursor }
-    ensures is_in { IsIn (coming input.new) }
+    ensures holds { Holds I.source (source_state input.new) reading.new.cursor }
+    ensures is_in { IsIn (source_state input.new) }
 {
     for r in 0..cells.len() / 64 {
         let Some(bit) = reading.flag(input)? else {
@@ -82,16 +82,16 @@ pub(crate) fn take_dcs<I: OctetIn>(
     terms: &Terms,
     cells: &mut [i32],
 ) -> Result<Part, TextFault>
-    requires open { IsIn (coming input.old) }
+    requires open { IsIn (source_state input.old) }
     requires whole { length cells.old % 64 ≡ 0 }
     ensures stage { (depths : List ℕ) (numbers : List (List ℤ)) (marks : List ℤ) → length depths ≡ length numbers → length cells.old ≡ 64 * length numbers →
         AwaitDcs (terms.now.plan.now.plane + 1) terms.now.plan.now.q numbers →
         HaveRead terms.now.plan.now.plane cells.old marks numbers nothing_yet →
         TakesStage I.source terms.now.plan.now.plane numbers (blocks_script
-        (terms_of terms.now.plan.now terms.now.tables.now.words.book) depths numbers 0 nothing_yet) result cells.new marks (coming input.old)
-        (coming input.new) }
+        (terms_of terms.now.plan.now terms.now.tables.now.words.book) depths numbers 0 nothing_yet) result cells.new marks (source_state input.old)
+        (source_state input.new) }
     ensures keeps { KeepOthers cells.old cells.new }
-    ensures is_in { IsIn (coming input.new) }
+    ensures is_in { IsIn (source_state input.new) }
 {
     if !is_due(terms.plan) {
         return Ok(Part::Whole);

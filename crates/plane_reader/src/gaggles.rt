@@ -1,14 +1,15 @@
 // The reader of a stage of a gaggle, with a window that is held.
 
 ghost use Rattle.std.specs.Prelude.{◌≡◌, ◌≤◌, ◌<◌, ◌+◌, ◌*◌, ◌/◌, ◌%◌, ◌^◌, ℕ, ℤ, List, length};
-ghost use Rattle.bit_pipe.specs.Coming.{coming, IsIn};
+ghost use Rattle.bit_pipe.specs.SourceState.{source_state, IsIn};
 ghost use Rattle.block_masks.specs.Slices.{IsColumn};
 ghost use Rattle.plane_defs.specs.PlaneScript.{PlaneState};
 ghost use Rattle.plane_reader.specs.Takes.{AreIn};
 ghost use Rattle.plane_reader.specs.Held.{Holds, point};
 ghost use Rattle.plane_reader.specs.HeldTakes.{IsReading};
 ghost use Rattle.plane_reader.specs.Blocks.{terms_of, OnWhole};
-ghost use Rattle.plane_reader.specs.Gaggles.{AreDeep, AreAbove, HavePlane, HaveFamilies, KeepSlots, KeepStates, gaggle_at, gaggle_script, TakesBlocks, TakesGaggle};
+ghost use Rattle.plane_reader.specs.Gaggles.{AreDeep, AreAbove, HavePlane, HaveFamilies, KeepSlots, KeepStates, gaggle_at, gaggle_script, TakesBlocks};
+ghost use Rattle.plane_reader.specs.Gaggles.{TakesGaggle};
 ghost use Rattle.block_masks.specs.Gaggles.{AreOptions, options_at, sent_at};
 ghost use Rattle.plane_defs.specs.Marks.{depths_of};
 
@@ -42,7 +43,7 @@ fn take_blocks<I: OctetIn, const STAGE: u8>(
     cells: &mut [i32],
     marks: &mut [i32],
 ) -> Result<Part, TextFault>
-    requires reading { IsReading I.source (coming input.old) reading.old }
+    requires reading { IsReading I.source (source_state input.old) reading.old }
     requires some { 1 ≤ STAGE }
     requires stage { STAGE < 5 }
     requires whole { length cells.old ≡ 64 * length marks.old }
@@ -57,13 +58,13 @@ fn take_blocks<I: OctetIn, const STAGE: u8>(
         TakesBlocks I.source of.now.plan.now.plane (of.now.blocks.first.block / 16) numbers p (gaggle_script
         (terms_of of.now.plan.now reading.old.tables.now.words.book) STAGE depths numbers of.now.blocks.first.block of.now.blocks.count p) result
         reading.new.gaggle cells.new marks.new
-        (point (coming input.old) reading.old.cursor) (point (coming input.new) reading.new.cursor) }
+        (point (source_state input.old) reading.old.cursor) (point (source_state input.new) reading.new.cursor) }
     ensures states { KeepStates marks.old marks.new }
     ensures keeps { KeepSlots of.now.plan.now.plane cells.old cells.new }
     ensures tables { reading.new.tables ≡ reading.old.tables }
-    ensures reading { OnWhole result (IsReading I.source (coming input.new) reading.new) }
-    ensures holds { Holds I.source (coming input.new) reading.new.cursor }
-    ensures is_in { IsIn (coming input.new) }
+    ensures reading { OnWhole result (IsReading I.source (source_state input.new) reading.new) }
+    ensures holds { Holds I.source (source_state input.new) reading.new.cursor }
+    ensures is_in { IsIn (source_state input.new) }
 {
     let mut left = of.blocks.deep;
     while left != 0 {
@@ -101,7 +102,7 @@ pub(crate) fn take_gaggle<I: OctetIn, const STAGE: u8>(
     cells: &mut [i32],
     marks: &mut [i32],
 ) -> Result<Part, TextFault>
-    requires open { IsIn (coming input.old) }
+    requires open { IsIn (source_state input.old) }
     requires some { 1 ≤ STAGE }
     requires stage { STAGE < 5 }
     requires known { AreOptions (options_at marks.old (blocks.first.block / 16)) }
@@ -116,13 +117,13 @@ pub(crate) fn take_gaggle<I: OctetIn, const STAGE: u8>(
         AreIn (gaggle_at marks.old (blocks.first.block / 16)) (p.options (blocks.first.block / 16)) →
         TakesGaggle I.source terms.now.plan.now.plane (blocks.first.block / 16) numbers p (gaggle_script
         (terms_of terms.now.plan.now terms.now.tables.now.words.book) STAGE depths numbers blocks.first.block blocks.count p) result cells.new marks.new
-        (coming input.old) (coming input.new) }
+        (source_state input.old) (source_state input.new) }
     ensures keeps { KeepSlots terms.now.plan.now.plane cells.old cells.new }
     ensures options { OnWhole result (AreOptions (options_at marks.new (blocks.first.block / 16))) }
     ensures others { (g : ℕ) → (g ≡ blocks.first.block / 16 → ⊥) → (options_at marks.new g ≡ options_at marks.old g) ×
         (sent_at marks.new g ≡ sent_at marks.old g) }
     ensures depths { depths_of marks.new ≡ depths_of marks.old }
-    ensures is_in { IsIn (coming input.new) }
+    ensures is_in { IsIn (source_state input.new) }
 {
     let g = blocks.first.block / 16;
     let mut reading = Reading::open(input, terms.tables, load(marks, g));

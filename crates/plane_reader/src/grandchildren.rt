@@ -9,7 +9,7 @@ ghost use Rattle.plane_defs.specs.declared.sets.Set.TheVariants.{Grandchildren};
 ghost use Rattle.plane_defs.specs.Sets.{coded, significant, children_of};
 ghost use Rattle.plane_defs.specs.StepLaws.{IsAc};
 ghost use Rattle.block_masks.specs.Masks.{Shows};
-ghost use Rattle.bit_pipe.specs.Coming.{coming, IsIn};
+ghost use Rattle.bit_pipe.specs.SourceState.{source_state, IsIn};
 ghost use Rattle.item_defs.specs.Scripts.{in_turn};
 ghost use Rattle.plane_defs.specs.States.{State};
 ghost use Rattle.plane_defs.specs.StageScripts.{quads_script};
@@ -40,17 +40,17 @@ fn take_quads<I: OctetIn>(
     above: u64,
     set: Sixteen,
 ) -> Result<Option<()>, TextFault>
-    requires reading { IsReading I.source (coming input.old) reading.old }
+    requires reading { IsReading I.source (source_state input.old) reading.old }
     requires family { set.family < 3 }
     requires new { set.is_new ≡ true → MayBeNew above (coded plan.now.weights.shifts plan.now.plane) (Grandchildren set.family) }
     ensures quads { (block : List ℤ) (s : State) → IsState reading.old.gaggle reading.old.found s → IsAbove above block plan.now.plane →
         HeldState I.source (quads_script (terms_of plan.now reading.old.tables.now.words.book) block set.family set.is_new s) result reading.new.gaggle
         reading.new.found
-        (point (coming input.old) reading.old.cursor) (point (coming input.new) reading.new.cursor) }
+        (point (source_state input.old) reading.old.cursor) (point (source_state input.new) reading.new.cursor) }
     ensures tables { reading.new.tables ≡ reading.old.tables }
-    ensures reading { OnSome result (λ x. IsReading I.source (coming input.new) reading.new) }
-    ensures holds { Holds I.source (coming input.new) reading.new.cursor }
-    ensures is_in { IsIn (coming input.new) }
+    ensures reading { OnSome result (λ x. IsReading I.source (source_state input.new) reading.new) }
+    ensures holds { Holds I.source (source_state input.new) reading.new.cursor }
+    ensures is_in { IsIn (source_state input.new) }
 {
     let before = quads_of(above, set.family);
     let due = except(before, plan.live_quads[set.family as usize]);
@@ -83,17 +83,17 @@ fn take_sixteens<I: OctetIn>(
     above: u64,
     sets: Sixteens,
 ) -> Result<Option<()>, TextFault>
-    requires reading { IsReading I.source (coming input.old) reading.old }
+    requires reading { IsReading I.source (source_state input.old) reading.old }
     requires new { (i : ℕ) → i < 3 → bit sets.new i ≡ true → MayBeNew above (coded plan.now.weights.shifts plan.now.plane) (Grandchildren i) }
     ensures sixteens { (block : List ℤ) (s : State) (now new : ℕ → Bool) → IsState reading.old.gaggle reading.old.found s →
         IsAbove above block plan.now.plane → Shows sets.now now 0 3 → Shows sets.new new 0 3 →
         HeldState I.source (in_turn (sixteen_script (terms_of plan.now reading.old.tables.now.words.book) block now new) 0 3 s) result reading.new.gaggle
         reading.new.found
-        (point (coming input.old) reading.old.cursor) (point (coming input.new) reading.new.cursor) }
+        (point (source_state input.old) reading.old.cursor) (point (source_state input.new) reading.new.cursor) }
     ensures tables { reading.new.tables ≡ reading.old.tables }
-    ensures reading { OnSome result (λ x. IsReading I.source (coming input.new) reading.new) }
-    ensures holds { Holds I.source (coming input.new) reading.new.cursor }
-    ensures is_in { IsIn (coming input.new) }
+    ensures reading { OnSome result (λ x. IsReading I.source (source_state input.new) reading.new) }
+    ensures holds { Holds I.source (source_state input.new) reading.new.cursor }
+    ensures is_in { IsIn (source_state input.new) }
 {
     for i in 0..3 {
         if !has(sets.now, i) {
@@ -139,17 +139,17 @@ pub(crate) fn take_grandchildren<I: OctetIn>(
     reading: &mut Reading,
     seen: Seen,
 ) -> Result<Option<()>, TextFault>
-    requires reading { IsReading I.source (coming input.old) reading.old }
+    requires reading { IsReading I.source (source_state input.old) reading.old }
     ensures grandchildren { (block : List ℤ) (earlier s : State) → IsState reading.old.gaggle reading.old.found s → IsAbove seen.above block plan.now.plane →
         Shows seen.families earlier.families 0 3 →
         ((p : ℕ) → IsAc p → bit seen.now p ≡ (significant block (plan.now.plane + 1) p || earlier.bits p)) →
         HeldState I.source (grandchildren_from (terms_of plan.now reading.old.tables.now.words.book) block earlier s) result reading.new.gaggle
         reading.new.found
-        (point (coming input.old) reading.old.cursor) (point (coming input.new) reading.new.cursor) }
+        (point (source_state input.old) reading.old.cursor) (point (source_state input.new) reading.new.cursor) }
     ensures tables { reading.new.tables ≡ reading.old.tables }
-    ensures reading { OnSome result (λ x. IsReading I.source (coming input.new) reading.new) }
-    ensures holds { Holds I.source (coming input.new) reading.new.cursor }
-    ensures is_in { IsIn (coming input.new) }
+    ensures reading { OnSome result (λ x. IsReading I.source (source_state input.new) reading.new) }
+    ensures holds { Holds I.source (source_state input.new) reading.new.cursor }
+    ensures is_in { IsIn (source_state input.new) }
 {
     let before = Sets::of(seen.above);
     let live = except(before.grandchildren, plan.live.grandchildren);

@@ -4,7 +4,7 @@ ghost use Rattle.std.specs.Prelude.{◌≡◌, ◌≤◌, ◌<◌, ◌+◌, ◌*
 ghost use Rattle.std.specs.List.{list_any};
 ghost use Rattle.item_defs.specs.Bits.{bit};
 ghost use Rattle.plane_defs.specs.Spans.{span};
-ghost use Rattle.bit_pipe.specs.Coming.{coming, IsIn};
+ghost use Rattle.bit_pipe.specs.SourceState.{source_state, IsIn};
 ghost use Rattle.block_masks.specs.Masks.{Shows};
 ghost use Rattle.item_defs.specs.Scripts.{in_turn};
 ghost use Rattle.plane_defs.specs.States.{State};
@@ -50,7 +50,7 @@ pub(crate) fn take_groups<I: OctetIn>(
     due: u64,
     groups: Groups,
 ) -> Result<Option<()>, TextFault>
-    requires reading { IsReading I.source (coming input.old) reading.old }
+    requires reading { IsReading I.source (source_state input.old) reading.old }
     requires first { groups.first < 64 }
     requires count { groups.count ≤ 4 }
     requires within { groups.first + 4 * groups.count ≤ 64 }
@@ -60,11 +60,11 @@ pub(crate) fn take_groups<I: OctetIn>(
         Shows groups.now now 0 groups.count → Shows groups.wanted wanted 0 groups.count →
         HeldState I.source (in_turn (group_script reading.old.tables.now.words.book g groups.first now wanted) 0 groups.count s) result reading.new.gaggle
         reading.new.found
-        (point (coming input.old) reading.old.cursor) (point (coming input.new) reading.new.cursor) }
+        (point (source_state input.old) reading.old.cursor) (point (source_state input.new) reading.new.cursor) }
     ensures tables { reading.new.tables ≡ reading.old.tables }
-    ensures reading { OnSome result (λ x. IsReading I.source (coming input.new) reading.new) }
-    ensures holds { Holds I.source (coming input.new) reading.new.cursor }
-    ensures is_in { IsIn (coming input.new) }
+    ensures reading { OnSome result (λ x. IsReading I.source (source_state input.new) reading.new) }
+    ensures holds { Holds I.source (source_state input.new) reading.new.cursor }
+    ensures is_in { IsIn (source_state input.new) }
 {
     let sent = groups_with_bits(due, groups);
     let mut left = sent;

@@ -1,5 +1,8 @@
 //! This crate reads the bit planes of a segment (docs/formats.md, "Bit planes", "Words and codes" and "Stops, cut and fill").
 //!
+//! Layer: bits and the parts of a segment. It uses `base_122`, `item_defs`, `wave_defs`, `plane_defs`, `block_masks`, `bit_pipe` and
+//! `word_codes`. It is used by `segment_code` and `layer_tests`.
+//!
 //! `take_planes` goes over the planes, from the top down, with masks in the place of the numbers: `slicing` makes them before the first
 //! plane, and `joining` turns them into numbers after the last, block by block (`number_lanes`). `plane` goes over the stages and gaggles
 //! of a plane, and `dc_bits` reads stage 0. A stage of a gaggle is read from a window of the text that is held while it lasts: `gaggles`

@@ -34,7 +34,7 @@ pub struct PlaceTables {
     /// The tables of the words themselves.
     pub words: WordTables,
     entries: Option<Vec<[FirstPlaces; 256]>>,
-    ghost told: { ForSome entries (λ tables. AreTables words.book tables.items) },
+    ghost if_known: { ForSome entries (λ tables. AreTables words.book tables.items) },
 }
 
 // Returns the table of a mask of what is due and an option of words of that length.

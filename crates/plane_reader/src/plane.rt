@@ -1,7 +1,7 @@
 // The reader of a plane, stage by stage and gaggle by gaggle.
 
 ghost use Rattle.std.specs.Prelude.{◌≡◌, ◌≤◌, ◌<◌, ◌+◌, ◌-◌, ◌*◌, ◌%◌, ◌^◌, ℕ, ℤ, List, [], length, nat_lt, min};
-ghost use Rattle.bit_pipe.specs.Coming.{coming, IsIn};
+ghost use Rattle.bit_pipe.specs.SourceState.{source_state, IsIn};
 ghost use Rattle.block_masks.specs.Gaggles.{AreKnown};
 ghost use Rattle.block_masks.specs.Masks.{Shows};
 ghost use Rattle.block_masks.specs.Slices.{IsColumn, numbers_in};
@@ -67,7 +67,7 @@ fn take_gaggles<I: OctetIn, const STAGE: u8>(
     cells: &mut [i32],
     marks: &mut [i32],
 ) -> Result<Part, TextFault>
-    requires open { IsIn (coming input.old) }
+    requires open { IsIn (source_state input.old) }
     requires some { 1 ≤ STAGE }
     requires stage { STAGE < 5 }
     requires known { AreKnown marks.old }
@@ -75,11 +75,11 @@ fn take_gaggles<I: OctetIn, const STAGE: u8>(
     ensures stage { (numbers : List (List ℤ)) (p : PlaneState) → AreAbove terms.now.plan.now.plane cells.old numbers →
         HaveRead terms.now.plan.now.plane cells.old marks.old numbers p →
         TakesStage I.source terms.now.plan.now.plane numbers (blocks_script (terms_of terms.now.plan.now terms.now.tables.now.words.book)
-        (depths_of marks.old) numbers STAGE p) result cells.new marks.new (coming input.old) (coming input.new) }
+        (depths_of marks.old) numbers STAGE p) result cells.new marks.new (source_state input.old) (source_state input.new) }
     ensures keeps { KeepSlots terms.now.plan.now.plane cells.old cells.new }
     ensures known { OnWhole result (AreKnown marks.new) }
     ensures depths { depths_of marks.new ≡ depths_of marks.old }
-    ensures is_in { IsIn (coming input.new) }
+    ensures is_in { IsIn (source_state input.new) }
 {
     for g in 0..marks.len().div_ceil(GAGGLE) {
         let blocks = gaggle_of(cells, marks, g, terms.plan.plane);
@@ -98,7 +98,7 @@ fn take_stage<I: OctetIn>(
     cells: &mut [i32],
     marks: &mut [i32],
 ) -> Result<Part, TextFault>
-    requires open { IsIn (coming input.old) }
+    requires open { IsIn (source_state input.old) }
     requires some { 1 ≤ number }
     requires number { number < 5 }
     requires known { AreKnown marks.old }
@@ -106,11 +106,11 @@ fn take_stage<I: OctetIn>(
     ensures stage { (numbers : List (List ℤ)) (p : PlaneState) → AreAbove terms.now.plan.now.plane cells.old numbers →
         HaveRead terms.now.plan.now.plane cells.old marks.old numbers p →
         TakesStage I.source terms.now.plan.now.plane numbers (blocks_script (terms_of terms.now.plan.now terms.now.tables.now.words.book)
-        (depths_of marks.old) numbers number p) result cells.new marks.new (coming input.old) (coming input.new) }
+        (depths_of marks.old) numbers number p) result cells.new marks.new (source_state input.old) (source_state input.new) }
     ensures keeps { KeepSlots terms.now.plan.now.plane cells.old cells.new }
     ensures known { OnWhole result (AreKnown marks.new) }
     ensures depths { depths_of marks.new ≡ depths_of marks.old }
-    ensures is_in { IsIn (coming input.new) }
+    ensures is_in { IsIn (source_state input.new) }
 {
     match number {
         1 => take_gaggles::<I, 1>(input, terms, cells, marks),
@@ -128,17 +128,17 @@ fn take_stages<I: OctetIn>(
     cells: &mut [i32],
     marks: &mut [i32],
 ) -> Result<Part, TextFault>
-    requires open { IsIn (coming input.old) }
+    requires open { IsIn (source_state input.old) }
     requires last { last ≤ 4 }
     requires whole { length cells.old ≡ 64 * length marks.old }
     requires ready { AreReady (terms.now.plan.now.plane + 1) cells.old }
     requires dcs { AwaitDcs (terms.now.plan.now.plane + 1) terms.now.plan.now.q (blocks_in (numbers_in cells.old)) }
     ensures stages { TakesStages I.source terms.now.plan.now.plane (blocks_in (numbers_in cells.old))
         (plane_script (terms_of terms.now.plan.now terms.now.tables.now.words.book) (depths_of marks.old) (blocks_in (numbers_in
-        cells.old)) (last + 1)) result cells.new (coming input.old) (coming input.new) }
+        cells.old)) (last + 1)) result cells.new (source_state input.old) (source_state input.new) }
     ensures keeps { KeepPlanes terms.now.plan.now.plane cells.old cells.new }
     ensures depths { depths_of marks.new ≡ depths_of marks.old }
-    ensures is_in { IsIn (coming input.new) }
+    ensures is_in { IsIn (source_state input.new) }
 {
     clear(marks);
     let Part::Whole = take_dcs(input, terms, cells)? else {
@@ -160,20 +160,20 @@ pub(crate) fn take_plane<I: OctetIn>(
     cells: &mut [i32],
     marks: &mut [i32],
 ) -> Result<Part, TextFault>
-    requires open { IsIn (coming input.old) }
+    requires open { IsIn (source_state input.old) }
     requires last { last ≤ 4 }
     requires whole { length cells.old ≡ 64 * length marks.old }
     requires ready { AreReady (terms.now.plan.now.plane + 1) cells.old }
     requires dcs { AwaitDcs (terms.now.plan.now.plane + 1) terms.now.plan.now.q (blocks_in (numbers_in cells.old)) }
     ensures plane { ReadsAs I.source (around (blocks_with terms.now.plan.now.plane (blocks_in (numbers_in cells.old)))
         (plane_script (terms_of terms.now.plan.now terms.now.tables.now.words.book) (depths_of marks.old) (blocks_in (numbers_in cells.old)) (last + 1)))
-        (by_part result (blocks_in (numbers_in cells.new)) (blocks_in (numbers_in cells.new))) (coming input.old) (coming input.new) }
+        (by_part result (blocks_in (numbers_in cells.new)) (blocks_in (numbers_in cells.new))) (source_state input.old) (source_state input.new) }
     ensures ready { AreReady terms.now.plan.now.plane cells.new }
     ensures dcs { AwaitDcs terms.now.plan.now.plane terms.now.plan.now.q (blocks_in (numbers_in cells.new)) }
     ensures below { (planes : ℕ) → terms.now.plan.now.plane < planes → AreBelow planes cells.old → AreBelow planes cells.new }
     ensures depths { depths_of marks.new ≡ depths_of marks.old }
     ensures size { length cells.new ≡ length cells.old }
-    ensures is_in { IsIn (coming input.new) }
+    ensures is_in { IsIn (source_state input.new) }
 {
     let read = take_stages(input, terms, last, cells, marks);
     settle_above(cells, terms.plan.plane);

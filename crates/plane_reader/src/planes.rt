@@ -1,7 +1,7 @@
 // The reader of the planes of a segment, from the top down.
 
 ghost use Rattle.std.specs.Prelude.{◌≡◌, ◌≤◌, ◌<◌, ◌+◌, ◌*◌, ◌%◌, ℕ, length};
-ghost use Rattle.bit_pipe.specs.Coming.{coming, IsIn};
+ghost use Rattle.bit_pipe.specs.SourceState.{source_state, IsIn};
 ghost use Rattle.block_masks.specs.Slices.{numbers_in};
 ghost use Rattle.bit_pipe.specs.ScriptSources.{ReadsAs, by_part};
 ghost use Rattle.plane_defs.specs.Marks.{depths_of};
@@ -72,7 +72,7 @@ fn take_sent<I: OctetIn>(
     cells: &mut [i32],
     marks: &mut [i32],
 ) -> Result<Part, TextFault>
-    requires open { IsIn (coming input.old) }
+    requires open { IsIn (source_state input.old) }
     requires below { sent.now.below ≤ 27 }
     requires some { sent.now.stop < sent.now.below }
     requires last { sent.now.last ≤ 4 }
@@ -82,11 +82,11 @@ fn take_sent<I: OctetIn>(
     requires empty { AreBelow sent.now.below cells.old }
     ensures planes { ReadsAs I.source (planes_script tables.now.words.book sent.now.weights.shifts sent.now.q (depths_of marks.old)
         (stages_of sent.now) sent.now.below (blocks_in (numbers_in cells.old)))
-        (by_part result (blocks_in (numbers_in cells.new)) (blocks_in (numbers_in cells.new))) (coming input.old) (coming input.new) }
+        (by_part result (blocks_in (numbers_in cells.new)) (blocks_in (numbers_in cells.new))) (source_state input.old) (source_state input.new) }
     ensures empty { AreBelow sent.now.below cells.new }
     ensures depths { depths_of marks.new ≡ depths_of marks.old }
     ensures size { length cells.new ≡ length cells.old }
-    ensures is_in { IsIn (coming input.new) }
+    ensures is_in { IsIn (source_state input.new) }
 {
     for n in 0..sent.below - sent.stop {
         let plane = sent.below - 1 - n;
@@ -123,7 +123,7 @@ pub fn take_planes<I: OctetIn>(
     blocks: &mut [i32],
     marks: &mut [i32],
 ) -> Result<Part, TextFault>
-    requires open { IsIn (coming input.old) }
+    requires open { IsIn (source_state input.old) }
     requires below { sent.now.below ≤ 27 }
     requires last { sent.now.last ≤ 4 }
     requires whole { length blocks.old ≡ 64 * length marks.old }
@@ -132,10 +132,10 @@ pub fn take_planes<I: OctetIn>(
     ensures planes { (stages : ℕ → ℕ) → ((plane : ℕ) → stages plane ≡ stages_of sent.now plane) →
         ReadsAs I.source (planes_script tables.now.words.book sent.now.weights.shifts sent.now.q (depths_of marks.old) stages sent.now.below (blocks_in
         blocks.old))
-        (by_part result (blocks_in blocks.new) (blocks_in blocks.new)) (coming input.old) (coming input.new) }
+        (by_part result (blocks_in blocks.new) (blocks_in blocks.new)) (source_state input.old) (source_state input.new) }
     ensures depths { depths_of marks.new ≡ depths_of marks.old }
     ensures size { length blocks.new ≡ length blocks.old }
-    ensures is_in { IsIn (coming input.new) }
+    ensures is_in { IsIn (source_state input.new) }
 {
     if sent.stop >= sent.below {
         return Ok(Part::Whole);

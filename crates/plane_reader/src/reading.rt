@@ -2,7 +2,7 @@
 
 ghost use Rattle.std.specs.Prelude.{◌≡◌, ◌≤◌, ◌<◌, ◌+◌, ◌^◌, ◌&&◌, ℕ, Bool, true, false, [], map, filter, Some, Ok};
 ghost use Rattle.item_defs.specs.Scripts.{in_turn};
-ghost use Rattle.bit_pipe.specs.Coming.{coming, IsIn};
+ghost use Rattle.bit_pipe.specs.SourceState.{source_state, IsIn};
 ghost use Rattle.block_masks.specs.Masks.{Shows};
 ghost use Rattle.std.specs.List.{list_any};
 ghost use Rattle.item_defs.specs.Bits.{bit};
@@ -30,11 +30,11 @@ pub(crate) const HALF: u8 = 32;
 // if it is too short, has their bits.
 #[inline(always)]
 fn is_ready<I: OctetIn>(cursor: &mut Cursor, input: &mut BitIn<I>, table: u8) -> bool
-    requires is_in { IsIn (coming input.old) }
-    requires holds { Holds I.source (coming input.old) cursor.old }
-    ensures stays { Stays I.source (point (coming input.old) cursor.old) (point (coming input.new) cursor.new) }
-    ensures is_in { IsIn (coming input.new) }
-    ensures holds { Holds I.source (coming input.new) cursor.new }
+    requires is_in { IsIn (source_state input.old) }
+    requires holds { Holds I.source (source_state input.old) cursor.old }
+    ensures stays { Stays I.source (point (source_state input.old) cursor.old) (point (source_state input.new) cursor.new) }
+    ensures is_in { IsIn (source_state input.new) }
+    ensures holds { Holds I.source (source_state input.new) cursor.new }
     ensures known { result ≡ true → table ≡ 255 → ⊥ }
     ensures has { result ≡ true → has_left 12 cursor.new }
     ensures ready { (table ≡ 255 → ⊥) → has_left 12 cursor.old → result ≡ true }
@@ -64,9 +64,9 @@ impl<'a> Reading<'a> {
         tables: &'a PlaceTables,
         gaggle: Gaggle,
     ) -> Reading<'a>
-        requires open { IsIn (coming input.now) }
+        requires open { IsIn (source_state input.now) }
         requires known { AreOptions gaggle.options }
-        ensures reading { IsReading I.source (coming input.now) result }
+        ensures reading { IsReading I.source (source_state input.now) result }
         ensures tables { result.tables.now ≡ tables.now }
         ensures gaggle { result.gaggle ≡ gaggle }
         ensures none { read_of result.cursor ≡ [] }
@@ -82,12 +82,12 @@ impl<'a> Reading<'a> {
 
     // Takes from the input what was read of the window.
     pub fn close<I: OctetIn>(&mut self, input: &mut BitIn<I>)
-        requires is_in { IsIn (coming input.old) }
-        requires holds { Holds I.source (coming input.old) self.old.cursor }
-        ensures stays { Stays I.source (point (coming input.old) self.old.cursor) (point (coming input.new) self.new.cursor) }
-        ensures is_in { IsIn (coming input.new) }
+        requires is_in { IsIn (source_state input.old) }
+        requires holds { Holds I.source (source_state input.old) self.old.cursor }
+        ensures stays { Stays I.source (point (source_state input.old) self.old.cursor) (point (source_state input.new) self.new.cursor) }
+        ensures is_in { IsIn (source_state input.new) }
         ensures none { read_of self.new.cursor ≡ [] }
-        ensures kept { read_of self.old.cursor ≡ [] → coming input.new ≡ coming input.old }
+        ensures kept { read_of self.old.cursor ≡ [] → source_state input.new ≡ source_state input.old }
         ensures gaggle { self.new.gaggle ≡ self.old.gaggle }
     {
         self.cursor.close(input);
@@ -96,14 +96,14 @@ impl<'a> Reading<'a> {
     // Reads a raw bit without the window.
     #[inline(never)]
     fn flag_singly<I: OctetIn>(&mut self, input: &mut BitIn<I>) -> Result<Option<bool>, TextFault>
-        requires reading { IsReading I.source (coming input.old) self.old }
-        ensures flag { HeldFlag I.source result (point (coming input.old) self.old.cursor) (point (coming input.new) self.new.cursor) }
+        requires reading { IsReading I.source (source_state input.old) self.old }
+        ensures flag { HeldFlag I.source result (point (source_state input.old) self.old.cursor) (point (source_state input.new) self.new.cursor) }
         ensures gaggle { self.new.gaggle ≡ self.old.gaggle }
         ensures tables { self.new.tables ≡ self.old.tables }
         ensures found { self.new.found ≡ self.old.found }
-        ensures reading { OnSome result (λ x. IsReading I.source (coming input.new) self.new) }
-        ensures holds { Holds I.source (coming input.new) self.new.cursor }
-        ensures is_in { IsIn (coming input.new) }
+        ensures reading { OnSome result (λ x. IsReading I.source (source_state input.new) self.new) }
+        ensures holds { Holds I.source (source_state input.new) self.new.cursor }
+        ensures is_in { IsIn (source_state input.new) }
     {
         self.cursor.close(input);
         let Some(flag) = take_flag(input)? else {
@@ -116,14 +116,14 @@ impl<'a> Reading<'a> {
     // Reads a raw bit.
     #[inline(always)]
     pub fn flag<I: OctetIn>(&mut self, input: &mut BitIn<I>) -> Result<Option<bool>, TextFault>
-        requires reading { IsReading I.source (coming input.old) self.old }
-        ensures flag { HeldFlag I.source result (point (coming input.old) self.old.cursor) (point (coming input.new) self.new.cursor) }
+        requires reading { IsReading I.source (source_state input.old) self.old }
+        ensures flag { HeldFlag I.source result (point (source_state input.old) self.old.cursor) (point (source_state input.new) self.new.cursor) }
         ensures gaggle { self.new.gaggle ≡ self.old.gaggle }
         ensures tables { self.new.tables ≡ self.old.tables }
         ensures found { self.new.found ≡ self.old.found }
-        ensures reading { OnSome result (λ x. IsReading I.source (coming input.new) self.new) }
-        ensures holds { Holds I.source (coming input.new) self.new.cursor }
-        ensures is_in { IsIn (coming input.new) }
+        ensures reading { OnSome result (λ x. IsReading I.source (source_state input.new) self.new) }
+        ensures holds { Holds I.source (source_state input.new) self.new.cursor }
+        ensures is_in { IsIn (source_state input.new) }
     {
         if !self.cursor.need(input, 1) {
             return self.flag_singly(input);
@@ -140,16 +140,17 @@ impl<'a> Reading<'a> {
         input: &mut BitIn<I>,
         due: u64,
     ) -> Result<Option<u64>, TextFault>
-        requires reading { IsReading I.source (coming input.old) self.old }
+        requires reading { IsReading I.source (source_state input.old) self.old }
         requires due { due < 16 }
         ensures places { (s : State) (g : ℕ → Bool) (start count : ℕ) → AreIn self.old.gaggle s.options → count ≤ 4 → Shows due g start count →
-            HeldPlaces I.source self.old.tables.now.words.book due g start count s result self.new.gaggle (point (coming input.old) self.old.cursor) (point
-            (coming input.new) self.new.cursor) }
+            HeldPlaces I.source self.old.tables.now.words.book due g start count s result self.new.gaggle (point (source_state input.old) self.old.cursor)
+            (point
+            (source_state input.new) self.new.cursor) }
         ensures tables { self.new.tables ≡ self.old.tables }
         ensures found { self.new.found ≡ self.old.found }
-        ensures reading { OnSome result (λ x. IsReading I.source (coming input.new) self.new) }
-        ensures holds { Holds I.source (coming input.new) self.new.cursor }
-        ensures is_in { IsIn (coming input.new) }
+        ensures reading { OnSome result (λ x. IsReading I.source (source_state input.new) self.new) }
+        ensures holds { Holds I.source (source_state input.new) self.new.cursor }
+        ensures is_in { IsIn (source_state input.new) }
     {
         self.cursor.close(input);
         let read = take_due(input, &self.tables.words, &mut self.gaggle, due);
@@ -168,16 +169,17 @@ impl<'a> Reading<'a> {
         input: &mut BitIn<I>,
         due: u64,
     ) -> Result<Option<u64>, TextFault>
-        requires reading { IsReading I.source (coming input.old) self.old }
+        requires reading { IsReading I.source (source_state input.old) self.old }
         requires due { due < 16 }
         ensures places { (s : State) (g : ℕ → Bool) (start count : ℕ) → AreIn self.old.gaggle s.options → count ≤ 4 → Shows due g start count →
-            HeldPlaces I.source self.old.tables.now.words.book due g start count s result self.new.gaggle (point (coming input.old) self.old.cursor) (point
-            (coming input.new) self.new.cursor) }
+            HeldPlaces I.source self.old.tables.now.words.book due g start count s result self.new.gaggle (point (source_state input.old) self.old.cursor)
+            (point
+            (source_state input.new) self.new.cursor) }
         ensures tables { self.new.tables ≡ self.old.tables }
         ensures found { self.new.found ≡ self.old.found }
-        ensures reading { OnSome result (λ x. IsReading I.source (coming input.new) self.new) }
-        ensures holds { Holds I.source (coming input.new) self.new.cursor }
-        ensures is_in { IsIn (coming input.new) }
+        ensures reading { OnSome result (λ x. IsReading I.source (source_state input.new) self.new) }
+        ensures holds { Holds I.source (source_state input.new) self.new.cursor }
+        ensures is_in { IsIn (source_state input.new) }
     {
         let table = self.rows.table_of(due);
         if !is_ready(&mut self.cursor, input, table) {
@@ -196,18 +198,18 @@ impl<'a> Reading<'a> {
         due: u64,
         is_wanted: bool,
     ) -> Result<Option<u64>, TextFault>
-        requires reading { IsReading I.source (coming input.old) self.old }
+        requires reading { IsReading I.source (source_state input.old) self.old }
         requires due { due < 16 }
         requires some { is_wanted ≡ true → 0 < due }
         ensures places { (s : State) (g : ℕ → Bool) (start count : ℕ) → AreIn self.old.gaggle s.options → count ≤ 4 → Shows due g start count →
             HeldOnes I.source (due_script self.old.tables.now.words.book g (some_one_where is_wanted) (span start count) s) start count s result self.new.gaggle
-            (point (coming input.old) self.old.cursor) (point (coming input.new) self.new.cursor) }
+            (point (source_state input.old) self.old.cursor) (point (source_state input.new) self.new.cursor) }
         ensures among { OnSome result (AreAmong due) }
         ensures tables { self.new.tables ≡ self.old.tables }
         ensures found { self.new.found ≡ self.old.found }
-        ensures reading { OnSome result (λ x. IsReading I.source (coming input.new) self.new) }
-        ensures holds { Holds I.source (coming input.new) self.new.cursor }
-        ensures is_in { IsIn (coming input.new) }
+        ensures reading { OnSome result (λ x. IsReading I.source (source_state input.new) self.new) }
+        ensures holds { Holds I.source (source_state input.new) self.new.cursor }
+        ensures is_in { IsIn (source_state input.new) }
     {
         let Some(places) = self.places(input, due)? else {
             return Ok(None);
@@ -226,19 +228,19 @@ impl<'a> Reading<'a> {
         due: u64,
         wanted: u64,
     ) -> Result<Option<u64>, TextFault>
-        requires reading { IsReading I.source (coming input.old) self.old }
+        requires reading { IsReading I.source (source_state input.old) self.old }
         requires due { due < 16 }
         ensures places { (s : State) (g forced : ℕ → Bool) (start count : ℕ) → AreIn self.old.gaggle s.options → count ≤ 4 → Shows due g start count →
             Shows wanted (λ p. g p && forced p) start count →
             HeldOnes I.source (due_script self.old.tables.now.words.book g (ones_at (map forced (filter g (span start count))))
             (span start count) s) start count s result self.new.gaggle
-            (point (coming input.old) self.old.cursor) (point (coming input.new) self.new.cursor) }
+            (point (source_state input.old) self.old.cursor) (point (source_state input.new) self.new.cursor) }
         ensures among { OnSome result (AreAmong due) }
         ensures tables { self.new.tables ≡ self.old.tables }
         ensures found { self.new.found ≡ self.old.found }
-        ensures reading { OnSome result (λ x. IsReading I.source (coming input.new) self.new) }
-        ensures holds { Holds I.source (coming input.new) self.new.cursor }
-        ensures is_in { IsIn (coming input.new) }
+        ensures reading { OnSome result (λ x. IsReading I.source (source_state input.new) self.new) }
+        ensures holds { Holds I.source (source_state input.new) self.new.cursor }
+        ensures is_in { IsIn (source_state input.new) }
     {
         let Some(places) = self.places(input, due)? else {
             return Ok(None);
@@ -253,16 +255,16 @@ impl<'a> Reading<'a> {
     // window has 32 bits; returns whether it has. A table has what four positions get, so there is no branch.
     #[inline(always)]
     pub fn deal<I: OctetIn>(&mut self, input: &mut BitIn<I>, here: u64, start: u8) -> bool
-        requires reading { IsReading I.source (coming input.old) self.old }
+        requires reading { IsReading I.source (source_state input.old) self.old }
         requires start { start ≤ 32 }
         ensures dealt { result ≡ true → (s : State) (g : ℕ → Bool) → IsState self.old.gaggle self.old.found s → Shows here g start 32 →
             HeldState {X = Unit {0}} I.source (in_turn (marked_script g) start 32 s) (Ok (Some tt)) self.new.gaggle self.new.found (point
-            (coming input.old) self.old.cursor) (point (coming input.new) self.new.cursor) }
-        ensures stays { result ≡ false → Stays I.source (point (coming input.old) self.old.cursor) (point (coming input.new) self.new.cursor) }
+            (source_state input.old) self.old.cursor) (point (source_state input.new) self.new.cursor) }
+        ensures stays { result ≡ false → Stays I.source (point (source_state input.old) self.old.cursor) (point (source_state input.new) self.new.cursor) }
         ensures kept { result ≡ false → self.new.found ≡ self.old.found }
         ensures gaggle { self.new.gaggle ≡ self.old.gaggle }
         ensures tables { self.new.tables ≡ self.old.tables }
-        ensures reading { IsReading I.source (coming input.new) self.new }
+        ensures reading { IsReading I.source (source_state input.new) self.new }
     {
         if !self.cursor.need(input, HALF) {
             return false;
@@ -292,7 +294,7 @@ impl<'a> Reading<'a> {
         due: u64,
         group: Group,
     ) -> Result<Option<()>, TextFault>
-        requires reading { IsReading I.source (coming input.old) self.old }
+        requires reading { IsReading I.source (source_state input.old) self.old }
         requires start { group.start ≤ 60 }
         requires few { group.count ≤ 4 }
         requires due { due < 2 ^ group.count }
@@ -300,11 +302,11 @@ impl<'a> Reading<'a> {
         ensures types { (s : State) (g : ℕ → Bool) → IsState self.old.gaggle self.old.found s → Shows due g group.start group.count →
             HeldState I.source (types_script self.old.tables.now.words.book g group.is_wanted
             (span group.start group.count) s) result self.new.gaggle self.new.found
-            (point (coming input.old) self.old.cursor) (point (coming input.new) self.new.cursor) }
+            (point (source_state input.old) self.old.cursor) (point (source_state input.new) self.new.cursor) }
         ensures tables { self.new.tables ≡ self.old.tables }
-        ensures reading { OnSome result (λ x. IsReading I.source (coming input.new) self.new) }
-        ensures holds { Holds I.source (coming input.new) self.new.cursor }
-        ensures is_in { IsIn (coming input.new) }
+        ensures reading { OnSome result (λ x. IsReading I.source (source_state input.new) self.new) }
+        ensures holds { Holds I.source (source_state input.new) self.new.cursor }
+        ensures is_in { IsIn (source_state input.new) }
     {
         self.cursor.close(input);
         let read = take_types(
@@ -331,18 +333,18 @@ impl<'a> Reading<'a> {
         due: u64,
         group: Group,
     ) -> Result<Option<()>, TextFault>
-        requires reading { IsReading I.source (coming input.old) self.old }
+        requires reading { IsReading I.source (source_state input.old) self.old }
         requires start { group.start ≤ 60 }
         requires few { group.count ≤ 4 }
         requires some { group.is_wanted ≡ true → list_any (bit due) (span group.start group.count) ≡ true }
         ensures types { (s : State) (g : ℕ → Bool) → IsState self.old.gaggle self.old.found s → Marks due g group.start group.count →
             HeldState I.source (types_script self.old.tables.now.words.book g group.is_wanted
             (span group.start group.count) s) result self.new.gaggle self.new.found
-            (point (coming input.old) self.old.cursor) (point (coming input.new) self.new.cursor) }
+            (point (source_state input.old) self.old.cursor) (point (source_state input.new) self.new.cursor) }
         ensures tables { self.new.tables ≡ self.old.tables }
-        ensures reading { OnSome result (λ x. IsReading I.source (coming input.new) self.new) }
-        ensures holds { Holds I.source (coming input.new) self.new.cursor }
-        ensures is_in { IsIn (coming input.new) }
+        ensures reading { OnSome result (λ x. IsReading I.source (source_state input.new) self.new) }
+        ensures holds { Holds I.source (source_state input.new) self.new.cursor }
+        ensures is_in { IsIn (source_state input.new) }
     {
         let here = part(due, group.start, group.count);
         let table = self.rows.table_of(here);

@@ -1,7 +1,7 @@
 // The reader of the refinement bits of a block.
 
 ghost use Rattle.std.specs.Prelude.{◌≡◌, ◌<◌, ◌≤◌, ◌+◌, ◌^◌, ℕ, ℤ, Bool, List};
-ghost use Rattle.bit_pipe.specs.Coming.{coming, IsIn};
+ghost use Rattle.bit_pipe.specs.SourceState.{source_state, IsIn};
 ghost use Rattle.block_masks.specs.Masks.{Shows};
 ghost use Rattle.item_defs.specs.Scripts.{in_turn};
 ghost use Rattle.plane_defs.specs.States.{State};
@@ -23,16 +23,16 @@ fn take_bits<I: OctetIn>(
     here: u64,
     start: u8,
 ) -> Result<Option<()>, TextFault>
-    requires reading { IsReading I.source (coming input.old) reading.old }
+    requires reading { IsReading I.source (source_state input.old) reading.old }
     requires start { start ≤ 32 }
     requires few { here < 2 ^ 32 }
     ensures bits { (s : State) (g : ℕ → Bool) → IsState reading.old.gaggle reading.old.found s → Shows here g start 32 →
         HeldState I.source (in_turn (marked_script g) start 32 s) result reading.new.gaggle reading.new.found
-        (point (coming input.old) reading.old.cursor) (point (coming input.new) reading.new.cursor) }
+        (point (source_state input.old) reading.old.cursor) (point (source_state input.new) reading.new.cursor) }
     ensures tables { reading.new.tables ≡ reading.old.tables }
-    ensures reading { OnSome result (λ x. IsReading I.source (coming input.new) reading.new) }
-    ensures holds { Holds I.source (coming input.new) reading.new.cursor }
-    ensures is_in { IsIn (coming input.new) }
+    ensures reading { OnSome result (λ x. IsReading I.source (source_state input.new) reading.new) }
+    ensures holds { Holds I.source (source_state input.new) reading.new.cursor }
+    ensures is_in { IsIn (source_state input.new) }
 {
     let mut left = here;
     while left != 0 {
@@ -54,15 +54,15 @@ fn take_half<I: OctetIn>(
     positions: u64,
     start: u8,
 ) -> Result<Option<()>, TextFault>
-    requires reading { IsReading I.source (coming input.old) reading.old }
+    requires reading { IsReading I.source (source_state input.old) reading.old }
     requires start { start ≤ 32 }
     ensures bits { (s : State) (g : ℕ → Bool) → IsState reading.old.gaggle reading.old.found s → Shows positions g 0 64 →
         HeldState I.source (in_turn (marked_script g) start 32 s) result reading.new.gaggle reading.new.found
-        (point (coming input.old) reading.old.cursor) (point (coming input.new) reading.new.cursor) }
+        (point (source_state input.old) reading.old.cursor) (point (source_state input.new) reading.new.cursor) }
     ensures tables { reading.new.tables ≡ reading.old.tables }
-    ensures reading { OnSome result (λ x. IsReading I.source (coming input.new) reading.new) }
-    ensures holds { Holds I.source (coming input.new) reading.new.cursor }
-    ensures is_in { IsIn (coming input.new) }
+    ensures reading { OnSome result (λ x. IsReading I.source (source_state input.new) reading.new) }
+    ensures holds { Holds I.source (source_state input.new) reading.new.cursor }
+    ensures is_in { IsIn (source_state input.new) }
 {
     let here = part(positions, start, HALF);
     if here == 0 {
@@ -82,14 +82,14 @@ pub(crate) fn take_refinement<I: OctetIn>(
     reading: &mut Reading,
     above: u64,
 ) -> Result<Option<()>, TextFault>
-    requires reading { IsReading I.source (coming input.old) reading.old }
+    requires reading { IsReading I.source (source_state input.old) reading.old }
     ensures refinement { (block : List ℤ) (s : State) → IsState reading.old.gaggle reading.old.found s → IsAbove above block plan.now.plane →
         HeldState I.source (refinement_script (terms_of plan.now reading.old.tables.now.words.book) block s) result reading.new.gaggle reading.new.found
-        (point (coming input.old) reading.old.cursor) (point (coming input.new) reading.new.cursor) }
+        (point (source_state input.old) reading.old.cursor) (point (source_state input.new) reading.new.cursor) }
     ensures tables { reading.new.tables ≡ reading.old.tables }
-    ensures reading { OnSome result (λ x. IsReading I.source (coming input.new) reading.new) }
-    ensures holds { Holds I.source (coming input.new) reading.new.cursor }
-    ensures is_in { IsIn (coming input.new) }
+    ensures reading { OnSome result (λ x. IsReading I.source (source_state input.new) reading.new) }
+    ensures holds { Holds I.source (source_state input.new) reading.new.cursor }
+    ensures is_in { IsIn (source_state input.new) }
 {
     let refined = without(both(above, plan.coded), 0);
     let Some(()) = take_half(input, reading, refined, 0)? else {

@@ -1,7 +1,7 @@
 // The reader of the signs of some positions.
 
 ghost use Rattle.std.specs.Prelude.{◌≡◌, ◌<◌, ◌≤◌, ◌+◌, ◌^◌, ℕ, Bool};
-ghost use Rattle.bit_pipe.specs.Coming.{coming, IsIn};
+ghost use Rattle.bit_pipe.specs.SourceState.{source_state, IsIn};
 ghost use Rattle.plane_defs.specs.States.{State};
 ghost use Rattle.block_masks.specs.Masks.{Shows};
 ghost use Rattle.plane_reader.specs.Takes.{TakesSigns, positions};
@@ -20,14 +20,14 @@ fn take_signs_singly<I: OctetIn>(
     start: u8,
     count: u8,
 ) -> Result<Option<()>, TextFault>
-    requires open { IsIn (coming input.old) }
+    requires open { IsIn (source_state input.old) }
     requires start { start < 64 }
     requires within { start + count ≤ 64 }
     requires few { new < 2 ^ count }
     ensures signs { (s : State) → Shows found.old.minus s.minus 0 64 →
-        TakesSigns I.source (positions new start count) s result found.new.minus (coming input.old) (coming input.new) }
+        TakesSigns I.source (positions new start count) s result found.new.minus (source_state input.old) (source_state input.new) }
     ensures bits { found.new.bits ≡ found.old.bits }
-    ensures is_in { IsIn (coming input.new) }
+    ensures is_in { IsIn (source_state input.new) }
 {
     let mut left = new;
     while left != 0 {
@@ -50,15 +50,15 @@ pub(crate) fn take_signs<I: OctetIn>(
     start: u8,
     count: u8,
 ) -> Result<Option<()>, TextFault>
-    requires open { IsIn (coming input.old) }
+    requires open { IsIn (source_state input.old) }
     requires start { start ≤ 60 }
     requires within { start + count ≤ 64 }
     requires four { count ≤ 4 }
     requires few { new < 2 ^ count }
     ensures signs { (s : State) → Shows found.old.minus s.minus 0 64 →
-        TakesSigns I.source (positions new start count) s result found.new.minus (coming input.old) (coming input.new) }
+        TakesSigns I.source (positions new start count) s result found.new.minus (source_state input.old) (source_state input.new) }
     ensures bits { found.new.bits ≡ found.old.bits }
-    ensures is_in { IsIn (coming input.new) }
+    ensures is_in { IsIn (source_state input.new) }
 {
     if new == 0 {
         return Ok(Some(()));

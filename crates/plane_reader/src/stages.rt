@@ -2,7 +2,7 @@
 
 ghost use Rattle.std.specs.Prelude.{◌≡◌, ◌+◌, ◌%◌, ◌<◌, ◌≤◌, ◌||◌, ℕ, ℤ, List, length};
 ghost use Rattle.item_defs.specs.Bits.{bit};
-ghost use Rattle.bit_pipe.specs.Coming.{coming, IsIn};
+ghost use Rattle.bit_pipe.specs.SourceState.{source_state, IsIn};
 ghost use Rattle.plane_defs.specs.Sets.{significant};
 ghost use Rattle.plane_defs.specs.StepLaws.{IsAc};
 ghost use Rattle.plane_defs.specs.Marks.{depth_of as depth_in};
@@ -34,14 +34,14 @@ fn take_parents<I: OctetIn>(
     reading: &mut Reading,
     above: u64,
 ) -> Result<Option<()>, TextFault>
-    requires reading { IsReading I.source (coming input.old) reading.old }
+    requires reading { IsReading I.source (source_state input.old) reading.old }
     ensures parents { (block : List ℤ) (s : State) → IsState reading.old.gaggle reading.old.found s → IsAbove above block plan.now.plane →
         HeldState I.source (parents_script (terms_of plan.now reading.old.tables.now.words.book) block s) result reading.new.gaggle reading.new.found
-        (point (coming input.old) reading.old.cursor) (point (coming input.new) reading.new.cursor) }
+        (point (source_state input.old) reading.old.cursor) (point (source_state input.new) reading.new.cursor) }
     ensures tables { reading.new.tables ≡ reading.old.tables }
-    ensures reading { OnSome result (λ x. IsReading I.source (coming input.new) reading.new) }
-    ensures holds { Holds I.source (coming input.new) reading.new.cursor }
-    ensures is_in { IsIn (coming input.new) }
+    ensures reading { OnSome result (λ x. IsReading I.source (source_state input.new) reading.new) }
+    ensures holds { Holds I.source (source_state input.new) reading.new.cursor }
+    ensures is_in { IsIn (source_state input.new) }
 {
     let group = Group {
         start: 1,
@@ -59,16 +59,16 @@ fn take_numbers<I: OctetIn, const STAGE: u8>(
     reading: &mut Reading,
     seen: Seen,
 ) -> Result<Option<()>, TextFault>
-    requires reading { IsReading I.source (coming input.old) reading.old }
+    requires reading { IsReading I.source (source_state input.old) reading.old }
     ensures numbers { (block : List ℤ) (earlier s : State) → IsState reading.old.gaggle reading.old.found s → IsAbove seen.above block plan.now.plane →
         Shows seen.families earlier.families 0 3 →
         ((p : ℕ) → IsAc p → bit seen.now p ≡ (significant block (plan.now.plane + 1) p || earlier.bits p)) →
         HeldState I.source (part_from (terms_of plan.now reading.old.tables.now.words.book) STAGE block earlier s) result reading.new.gaggle reading.new.found
-        (point (coming input.old) reading.old.cursor) (point (coming input.new) reading.new.cursor) }
+        (point (source_state input.old) reading.old.cursor) (point (source_state input.new) reading.new.cursor) }
     ensures tables { reading.new.tables ≡ reading.old.tables }
-    ensures reading { OnSome result (λ x. IsReading I.source (coming input.new) reading.new) }
-    ensures holds { Holds I.source (coming input.new) reading.new.cursor }
-    ensures is_in { IsIn (coming input.new) }
+    ensures reading { OnSome result (λ x. IsReading I.source (source_state input.new) reading.new) }
+    ensures holds { Holds I.source (source_state input.new) reading.new.cursor }
+    ensures is_in { IsIn (source_state input.new) }
 {
     match STAGE {
         1 => take_parents(input, plan, reading, seen.above),
@@ -85,7 +85,7 @@ fn take_words<I: OctetIn, const STAGE: u8>(
     reading: &mut Reading,
     seen: Seen,
 ) -> Result<Option<u64>, TextFault>
-    requires reading { IsReading I.source (coming input.old) reading.old }
+    requires reading { IsReading I.source (source_state input.old) reading.old }
     requires bits { reading.old.found.bits ≡ 0 }
     requires minus { reading.old.found.minus ≡ 0 }
     requires few { seen.families < 8 }
@@ -93,13 +93,13 @@ fn take_words<I: OctetIn, const STAGE: u8>(
         Shows seen.families s.families 0 3 →
         ((p : ℕ) → IsAc p → bit seen.now p ≡ (significant block (plan.now.plane + 1) p || s.bits p)) →
         HeldStage I.source (stage_part (terms_of plan.now reading.old.tables.now.words.book) STAGE block s) s result reading.new.gaggle reading.new.found
-        (point (coming input.old) reading.old.cursor) (point (coming input.new) reading.new.cursor) }
+        (point (source_state input.old) reading.old.cursor) (point (source_state input.new) reading.new.cursor) }
     ensures small { OnSome result (λ families. families < 8) }
     ensures same { (STAGE ≡ 2 → ⊥) → OnSome result (λ families. families ≡ seen.families) }
     ensures tables { reading.new.tables ≡ reading.old.tables }
-    ensures reading { OnSome result (λ x. IsReading I.source (coming input.new) reading.new) }
-    ensures holds { Holds I.source (coming input.new) reading.new.cursor }
-    ensures is_in { IsIn (coming input.new) }
+    ensures reading { OnSome result (λ x. IsReading I.source (source_state input.new) reading.new) }
+    ensures holds { Holds I.source (source_state input.new) reading.new.cursor }
+    ensures is_in { IsIn (source_state input.new) }
 {
     if STAGE == 2 {
         return take_children(input, plan, reading, seen.above);
@@ -143,7 +143,7 @@ pub(crate) fn take_block<I: OctetIn, const STAGE: u8>(
     block: &mut Block,
     cells: &mut [i32],
 ) -> Result<Part, TextFault>
-    requires reading { IsReading I.source (coming input.old) reading.old }
+    requires reading { IsReading I.source (source_state input.old) reading.old }
     requires whole { length cells.old % 64 ≡ 0 }
     requires column { IsColumn cells.old block.old.column }
     ensures block { (numbers : List ℤ) (s : State) → AreIn reading.old.gaggle s.options → IsAbove (mask_in
@@ -151,15 +151,15 @@ pub(crate) fn take_block<I: OctetIn, const STAGE: u8>(
         HasRead plan.now.plane block.old.column.block cells.old numbers s → Shows (families_in block.old.mark) s.families 0 3 →
         TakesBlock I.source plan.now.plane block.old.column.block numbers (stage_part
         (terms_of plan.now reading.old.tables.now.words.book) STAGE numbers s) result reading.new.gaggle block.new.mark cells.new
-        (point (coming input.old) reading.old.cursor) (point (coming input.new) reading.new.cursor) }
+        (point (source_state input.old) reading.old.cursor) (point (source_state input.new) reading.new.cursor) }
     ensures keeps { KeepsMasks block.old.column.block plan.now.plane cells.old cells.new }
     ensures depth { depth_in block.new.mark ≡ depth_in block.old.mark }
     ensures options { options_in block.new.mark ≡ options_in block.old.mark }
     ensures sent { sent_in block.new.mark ≡ sent_in block.old.mark }
     ensures tables { reading.new.tables ≡ reading.old.tables }
-    ensures reading { OnWhole result (IsReading I.source (coming input.new) reading.new) }
-    ensures holds { Holds I.source (coming input.new) reading.new.cursor }
-    ensures is_in { IsIn (coming input.new) }
+    ensures reading { OnWhole result (IsReading I.source (source_state input.new) reading.new) }
+    ensures holds { Holds I.source (source_state input.new) reading.new.cursor }
+    ensures is_in { IsIn (source_state input.new) }
 {
     let above = mask_of(cells, block.column, ABOVE);
     let seen = Seen {

@@ -1,7 +1,7 @@
 // The reader of the types of numbers with their signs, one item after another.
 
 ghost use Rattle.std.specs.Prelude.{◌≡◌, ◌≤◌, ◌<◌, ◌+◌, ◌^◌, ℕ, Bool, true};
-ghost use Rattle.bit_pipe.specs.Coming.{coming, IsIn};
+ghost use Rattle.bit_pipe.specs.SourceState.{source_state, IsIn};
 ghost use Rattle.block_masks.specs.Gaggles.{AreOptions};
 ghost use Rattle.block_masks.specs.Masks.{Shows};
 ghost use Rattle.plane_defs.specs.Spans.{span};
@@ -34,17 +34,18 @@ pub(crate) fn take_types<I: OctetIn>(
     due: u64,
     group: Group,
 ) -> Result<Option<()>, TextFault>
-    requires open { IsIn (coming input.old) }
+    requires open { IsIn (source_state input.old) }
     requires known { AreOptions gaggle.old.options }
     requires start { group.start ≤ 60 }
     requires few { group.count ≤ 4 }
     requires due { due < 2 ^ group.count }
     requires some { group.is_wanted ≡ true → 0 < due }
     ensures types { (s : State) (g : ℕ → Bool) → IsState gaggle.old found.old s → Shows due g group.start group.count →
-        TakesState I.source (types_script tables.now.book g group.is_wanted (span group.start group.count) s) result gaggle.new found.new (coming input.old)
-        (coming input.new) }
+        TakesState I.source (types_script tables.now.book g group.is_wanted (span group.start group.count) s) result gaggle.new found.new
+        (source_state input.old)
+        (source_state input.new) }
     ensures options { AreOptions gaggle.new.options }
-    ensures is_in { IsIn (coming input.new) }
+    ensures is_in { IsIn (source_state input.new) }
 {
     let Some(new) = take_due(input, tables, gaggle, due)? else {
         return Ok(None);

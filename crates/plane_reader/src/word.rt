@@ -2,7 +2,7 @@
 
 ghost use Rattle.std.specs.Prelude.{◌≡◌, ◌≤◌, ◌<◌, ◌-◌, ◌^◌, ℕ, Bool, count_ones};
 ghost use Rattle.item_defs.specs.Items.{raw};
-ghost use Rattle.bit_pipe.specs.Coming.{coming, IsIn};
+ghost use Rattle.bit_pipe.specs.SourceState.{source_state, IsIn};
 ghost use Rattle.bit_pipe.specs.Answers.{IsBelow, TakesOne};
 ghost use Rattle.block_masks.specs.Gaggles.{AreOptions};
 ghost use Rattle.block_masks.specs.Masks.{Shows};
@@ -26,8 +26,8 @@ pub(crate) fn count_of(places: u64) -> u8
 // Returns a word of one bit.
 #[inline(always)]
 fn take_raw<I: OctetIn>(input: &mut BitIn<I>) -> Result<Option<u8>, TextFault>
-    requires open { IsIn (coming input.old) }
-    ensures { TakesOne I.source (IsBelow 2) raw result (coming input.old) (coming input.new) }
+    requires open { IsIn (source_state input.old) }
+    ensures { TakesOne I.source (IsBelow 2) raw result (source_state input.old) (source_state input.new) }
 {
     let Some(bit) = input.take_bits(1)? else {
         return Ok(None);
@@ -42,14 +42,14 @@ fn open<I: OctetIn>(
     gaggle: &mut Gaggle,
     length: u8,
 ) -> Result<Option<u8>, TextFault>
-    requires open { IsIn (coming input.old) }
+    requires open { IsIn (source_state input.old) }
     requires short { 2 ≤ length }
     requires long { length ≤ 4 }
     requires known { AreOptions gaggle.old.options }
-    ensures option { (s : State) → AreIn gaggle.old s.options → Opens I.source length s result gaggle.new (coming input.old) (coming input.new) }
+    ensures option { (s : State) → AreIn gaggle.old s.options → Opens I.source length s result gaggle.new (source_state input.old) (source_state input.new) }
     ensures fits { OnSome result (λ option. option < length) }
     ensures options { AreOptions gaggle.new.options }
-    ensures is_in { OnSome result (λ x. IsIn (coming input.new)) }
+    ensures is_in { OnSome result (λ x. IsIn (source_state input.new)) }
 {
     let place = length as usize - 2;
     if gaggle.sent[place] {
@@ -72,14 +72,14 @@ pub(crate) fn take_any<I: OctetIn>(
     gaggle: &mut Gaggle,
     count: u8,
 ) -> Result<Option<u8>, TextFault>
-    requires open { IsIn (coming input.old) }
+    requires open { IsIn (source_state input.old) }
     requires few { count ≤ 4 }
     requires known { AreOptions gaggle.old.options }
-    ensures word { (s : State) → AreIn gaggle.old s.options → TakesWord I.source tables.now.book count s result gaggle.new (coming input.old)
-        (coming input.new) }
+    ensures word { (s : State) → AreIn gaggle.old s.options → TakesWord I.source tables.now.book count s result gaggle.new (source_state input.old)
+        (source_state input.new) }
     ensures fits { OnSome result (λ value. value < 2 ^ count) }
     ensures options { AreOptions gaggle.new.options }
-    ensures is_in { OnSome result (λ x. IsIn (coming input.new)) }
+    ensures is_in { OnSome result (λ x. IsIn (source_state input.new)) }
 {
     if count == 0 {
         return Ok(Some(0));
@@ -95,9 +95,9 @@ pub(crate) fn take_any<I: OctetIn>(
 
 // Reads a raw bit.
 pub(crate) fn take_flag<I: OctetIn>(input: &mut BitIn<I>) -> Result<Option<bool>, TextFault>
-    requires open { IsIn (coming input.old) }
-    ensures flag { TakesFlag I.source result (coming input.old) (coming input.new) }
-    ensures is_in { IsIn (coming input.new) }
+    requires open { IsIn (source_state input.old) }
+    ensures flag { TakesFlag I.source result (source_state input.old) (source_state input.new) }
+    ensures is_in { IsIn (source_state input.new) }
 {
     Ok(input.take()?)
 }
@@ -109,14 +109,14 @@ pub(crate) fn take_due<I: OctetIn>(
     gaggle: &mut Gaggle,
     due: u64,
 ) -> Result<Option<u64>, TextFault>
-    requires open { IsIn (coming input.old) }
+    requires open { IsIn (source_state input.old) }
     requires due { due < 16 }
     requires known { AreOptions gaggle.old.options }
     ensures places { (s : State) (g : ℕ → Bool) (start count : ℕ) → AreIn gaggle.old s.options → count ≤ 4 → Shows due g start count →
-        TakesPlaces I.source tables.now.book due g start count s result gaggle.new (coming input.old) (coming input.new) }
+        TakesPlaces I.source tables.now.book due g start count s result gaggle.new (source_state input.old) (source_state input.new) }
     ensures small { (count : ℕ) → count ≤ 4 → due < 2 ^ count → OnSome result (λ places. places < 2 ^ count) }
     ensures options { AreOptions gaggle.new.options }
-    ensures is_in { IsIn (coming input.new) }
+    ensures is_in { IsIn (source_state input.new) }
 {
     let Some(word) = take_any(input, tables, gaggle, count_of(due))? else {
         return Ok(None);

@@ -1,5 +1,6 @@
 pub mod Stretches
 pub mod ReadCalls
-pub mod Told
+pub mod IfKnown
 pub mod Parts
 pub mod MemoryReads
+pub mod BothAsked

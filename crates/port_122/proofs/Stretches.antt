@@ -1,9 +1,11 @@
 -- Stretches of calls, one after another.
-use Rattle.std.proofs.Common.{◌≡◌, ◌≤◌, ◌+◌, ℕ, List, [], ◌∷◌, ◌++◌, length, refl, sym, ap, subst, arith, append_assoc, length-append, ◌-◌, take, drop, Option, None, Some, Result, Ok, Err, IsErr, take-add}
+use Rattle.std.proofs.Common.{◌≡◌, ◌≤◌, ◌+◌, ℕ, List, [], ◌∷◌, ◌++◌, length, refl, sym, ap, subst, arith, append_assoc, length-append, ◌-◌, take, drop}
+use Rattle.std.proofs.Common.{Option, None, Some, Result, Ok, Err, IsErr, take-add}
 use Rattle.std.specs.List.{AllByRecursion}
 use Rattle.std.proofs.lemmas.List.{append-nil, take_rest}
 use Rattle.std.proofs.lemmas.Bool.{false≢true}
-use Rattle.port_122.specs.Outside.{Outside, IsUsedUp, AtEnd, Grows, Loses, AsksOnly, CountedFrom, Exchange, NoRead, Written, WriteFailed, Noted, NoteFailed, WritesAll, NotesAll, Rose}
+use Rattle.port_122.specs.Outside.{Outside, IsUsedUp, AtEnd, Grows, Loses, AsksOnly, CountedFrom, Exchange, NoRead, Written, WriteFailed, Noted, NoteFailed}
+use Rattle.port_122.specs.Outside.{WritesAll, NotesAll, Rose}
 
 -- a reported list grows by nothing
 pub grows_start : {A : Type 0} (o : Option (List A)) → Grows o o []
@@ -77,13 +79,15 @@ asks_then (Some a) (Some b) (Some c) at ag bt bg t g Q R p q f x y = (
 )
 
 -- a weaker property of counts past those of a start
-pub counted_weaker : (t g : Option (List ℕ)) (Q R : ℕ → ℕ → Type 0) → ((i j : ℕ) → Q i j → R i j) → (entry : ℕ × ℕ) → CountedFrom t g Q entry → CountedFrom t g R entry
+pub counted_weaker : (t g : Option (List ℕ)) (Q R : ℕ → ℕ → Type 0) → ((i j : ℕ) → Q i j → R i j) → (entry : ℕ × ℕ) → CountedFrom t g Q entry →
+    CountedFrom t g R entry
 counted_weaker None g Q R f entry q = absurd q
 counted_weaker (Some t) None Q R f entry q = absurd q
 counted_weaker (Some t) (Some g) Q R f entry q = (q.0, q.1, q.2, q.3, f q.0 q.1 q.4)
 
 -- a weaker property at each read call
-pub asks_weaker : (a b : Option (List (ℕ × ℕ))) (t g : Option (List ℕ)) (Q R : ℕ → ℕ → Type 0) → ((i j : ℕ) → Q i j → R i j) → AsksOnly a b t g Q → AsksOnly a b t g R
+pub asks_weaker : (a b : Option (List (ℕ × ℕ))) (t g : Option (List ℕ)) (Q R : ℕ → ℕ → Type 0) → ((i j : ℕ) → Q i j → R i j) → AsksOnly a b t g Q →
+    AsksOnly a b t g R
 asks_weaker a None t g Q R f x = tt
 asks_weaker None (Some b) t g Q R f x = absurd x
 asks_weaker (Some a) (Some b) t g Q R f x = (x.0, x.1, each_weaker (CountedFrom t g Q) (CountedFrom t g R) x.0 (counted_weaker t g Q R f) x.2)

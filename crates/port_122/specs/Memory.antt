@@ -54,5 +54,5 @@ pub record Call {E : Type 0} (old new : MemoryPort) (could : ℕ) (result : Resu
   pub by_number : FailsByNumber old → IsErr result
   pub by_want : OnErr result (FailsByNumber old ⊎ IsTrue new.starved)
   pub starved_stays : IsTrue old.starved → IsTrue new.starved
-  pub starved_comes : IsTrue new.starved → IsTrue old.starved ⊎ (IsErr result × ¬ FailsByNumber old)
+  pub starved_arrives : IsTrue new.starved → IsTrue old.starved ⊎ (IsErr result × ¬ FailsByNumber old)
   pub moves : IfOk result (λ n. n ≡ min old.piece could)

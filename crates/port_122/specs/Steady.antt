@@ -21,6 +21,6 @@ outside_of s = record {
 }
 
 -- what is known of the octets that are kept in this room, after more of them
-abbrev pub told_after : ℕ → Option (List ℕ) → List ℕ → Option (List ℕ)
-told_after room None octets = None
-told_after room (Some kept) octets = if nat_le (length kept + length octets) room then Some (kept ++ octets) else None
+abbrev pub known_after : ℕ → Option (List ℕ) → List ℕ → Option (List ℕ)
+known_after room None octets = None
+known_after room (Some kept) octets = if nat_le (length kept + length octets) room then Some (kept ++ octets) else None

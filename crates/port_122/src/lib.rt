@@ -1,5 +1,8 @@
 //! This crate has the outside of the program: octets that are read, octets that are written and notes, with each
 //! fault counted. The rules are in docs/architecture.md, "The outside".
+//!
+//! Layer: settings and the outside. It is used by `raster_rows`, `code_book`, `space_packets`, `packet_assembly`, `picture_rows`,
+//! `strip_coder`, `segment_walk` and 15 more.
 #![tactic(auto)]
 
 mod answers;

@@ -1,5 +1,6 @@
 // A port over memory that never fails.
-ghost use Rattle.std.specs.Prelude.{◌≡◌, ◌≤◌, ◌+◌, ◌++◌, ◌-◌, [], length, min, vec_capacity, IfOk, Ok, Some, None, MatchResult, unwrap_or, nat_le, if◌then◌else◌};
+ghost use Rattle.std.specs.Prelude.{◌≡◌, ◌≤◌, ◌+◌, ◌++◌, ◌-◌, [], length, min, vec_capacity, IfOk, Ok, Some, None, MatchResult, unwrap_or, nat_le};
+ghost use Rattle.std.specs.Prelude.{if◌then◌else◌};
 ghost use Rattle.port_122.specs.Outside.{Outside, Read, ReadFailed, Written, WriteFailed, Noted, NoteFailed};
 
 use crate::port::{Failed, Port};
@@ -77,7 +78,7 @@ fn keep(kept: &mut Vec<u8>, room: usize, bytes: &[u8]) -> bool
 }
 
 impl Port for SteadyPort {
-    ghost use Rattle.port_122.specs.Steady.{outside_of, octets_left, told_after};
+    ghost use Rattle.port_122.specs.Steady.{outside_of, octets_left, known_after};
 
     ghost outside = { outside_of };
 
@@ -101,7 +102,7 @@ impl Port for SteadyPort {
             (λ n. Written (outside_of self.old) (outside_of self.new) bytes.now n)
             (λ _. WriteFailed (outside_of self.old) (outside_of self.new)) }
         ensures moves { result ≡ Ok (length bytes.now) }
-        ensures given { (outside_of self.new).given ≡ told_after self.old.room (outside_of self.old).given bytes.now }
+        ensures given { (outside_of self.new).given ≡ known_after self.old.room (outside_of self.old).given bytes.now }
         ensures noted { (outside_of self.new).noted ≡ (outside_of self.old).noted }
         ensures room { self.new.room ≡ self.old.room }
     {
@@ -116,7 +117,7 @@ impl Port for SteadyPort {
             (λ n. Noted (outside_of self.old) (outside_of self.new) bytes.now n)
             (λ _. NoteFailed (outside_of self.old) (outside_of self.new)) }
         ensures moves { result ≡ Ok (length bytes.now) }
-        ensures noted { (outside_of self.new).noted ≡ told_after self.old.room (outside_of self.old).noted bytes.now }
+        ensures noted { (outside_of self.new).noted ≡ known_after self.old.room (outside_of self.old).noted bytes.now }
         ensures given { (outside_of self.new).given ≡ (outside_of self.old).given }
         ensures room { self.new.room ≡ self.old.room }
     {

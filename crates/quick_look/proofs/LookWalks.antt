@@ -1,5 +1,6 @@
 -- What a walk with a row of a look gives.
-use Rattle.std.proofs.Common.{◌≡◌, ◌≤◌, ◌<◌, ◌+◌, ◌-◌, ◌*◌, ◌/◌, ℕ, List, ◌++◌, length, take, refl, sym, ap, subst, ◌∙◌, inl, inr, arith, [], if◌then◌else◌, min, Some, Result, Ok, Err, false}
+use Rattle.std.proofs.Common.{◌≡◌, ◌≤◌, ◌<◌, ◌+◌, ◌-◌, ◌*◌, ◌/◌, ℕ, List, ◌++◌, length, take, refl, sym, ap, subst, ◌∙◌, inl, inr, arith, [], if◌then◌else◌}
+use Rattle.std.proofs.Common.{min, Some, Result, Ok, Err, false}
 use Rattle.std.proofs.lemmas.List.{take-append-le, take_min}
 use Rattle.std.proofs.lemmas.Nat.{div-mul-add}
 use Rattle.port_122.specs.Outside.{Outside}
@@ -25,7 +26,7 @@ use Rattle.segment_walk.specs.declared.ending.DecodeFault.TheVariants.{ReadFault
 use Rattle.segment_walk.specs.Sinks.{Numbers, blocks_with}
 use Rattle.segment_walk.specs.Runs.{AsksPassed, PassedBy, PartBy, blocks_passed}
 use Rattle.segment_walk.specs.Walks.{IsWalked, WalkAnswers, Walks, run_of}
-use Rattle.segment_walk.proofs.Asking.{both_tell}
+use Rattle.segment_walk.proofs.Asking.{both_report}
 use Rattle.segment_walk.proofs.Showing.{numbers_same}
 use Rattle.segment_walk.proofs.Endings.{passed_open, passed_known, found_as}
 use Rattle.segment_walk.proofs.Staying.{known_or_not}
@@ -33,7 +34,7 @@ use Rattle.segment_walk.specs.declared.ending.DecodeDone.{DecodeDone}
 use Rattle.quick_look.specs.declared.row.LookRow.{LookRow}
 use Rattle.quick_look.specs.Look.{low_with, look_with, rows_with, look_rows, look_octets}
 use Rattle.quick_look.specs.LookSinks.{first_rows, look_sink}
-use Rattle.quick_look.specs.Looks.{PromptLook, FrontLook, IsLook, LookAnswers, LookAsks, Looks}
+use Rattle.quick_look.specs.Looks.{PromptLook, PrefixLook, IsLook, LookAnswers, LookAsks, Looks}
 
 -- ---- the numbers of the blocks
 
@@ -43,13 +44,15 @@ unfolding low_with
 shown_rows g received k = ap (λ numbers. rows_with g numbers k) (numbers_same g received)
 
 -- a prefix of the first rows is one of more of them
-front_within : (g : Geometry) (received : Numbers) (k n some : ℕ) → k ≤ n → (few : ℕ) × (take some (look_rows g received k) ≡ take few (look_rows g received n))
-front_within g received k n some le =
+prefix_within : (g : Geometry) (received : Numbers) (k n some : ℕ) → k ≤ n →
+    (few : ℕ) × (take some (look_rows g received k) ≡ take few (look_rows g received n))
+prefix_within g received k n some le =
     let here = look_rows g received k in
     let image = look_with g (number_at g received) in
     let more = rows_from g.depth (block_count g.width) image (0 + k) (n - k) in
     let all : k + (n - k) ≡ n = omega (arith, le) in
-    let begins : look_rows g received n ≡ here ++ more = ap (λ n. raster_octets g.depth n (block_count g.width) image) (sym all) ∙ rows_from-append g.depth (block_count g.width) image 0 k (n - k) in
+    let begins : look_rows g received n ≡ here ++ more = ap (λ n. raster_octets g.depth n (block_count g.width) image) (sym all) ∙ rows_from-append g.depth
+    (block_count g.width) image 0 k (n - k) in
     let few = min some (length here) in
     (few, sym (take_min some here) ∙ sym (take-append-le few here more (omega arith)) ∙ ap (take few) (sym begins))
 
@@ -99,34 +102,39 @@ prompt_by book apid taken given passed = record {
       (k, rows_within apid taken g there x.0 x.1, rows_settled apid taken g there _ x.0 x.2, x.3 ∙ shown_rows g received k);
 }
 
-front_by : (book : Book) (apid : ℕ) (taken given : List ℕ) → PartBy look_sink book apid taken given → FrontLook book apid taken given
-front_by book apid taken given part = record {
+prefix_by : (book : Book) (apid : ℕ) (taken given : List ℕ) → PartBy look_sink book apid taken given → PrefixLook book apid taken given
+prefix_by book apid taken given part = record {
   none = part.none;
   some = λ g received there are.
       let x = part.some g received there are in
       let k : ℕ = x.0 / block_count g.width in
-      let front = front_within g received k (block_rows g (begun_in apid taken)) x.2.some (rows_within apid taken g there x.0 x.1) in
-      (front.0, x.2.gave_is ∙ ap (take x.2.some) (shown_rows g received k) ∙ front.1);
+      let prefix = prefix_within g received k (block_rows g (begun_in apid taken)) x.2.some (rows_within apid taken g there x.0 x.1) in
+      (prefix.0, x.2.gave_is ∙ ap (take x.2.some) (shown_rows g received k) ∙ prefix.1);
 }
 
-asks_by : (wish : DecodeWish) (old : Outside) (took gave : List ℕ) (i j : ℕ) → AsksPassed look_sink (run_of wish old) took gave i j → LookAsks wish old took gave i j
-asks_by wish old took gave i j asks = (asks.0, asks.1, λ all told. prompt_by wish.book wish.apid (take i took) (take j gave) (asks.2 all told))
+asks_by : (wish : DecodeWish) (old : Outside) (took gave : List ℕ) (i j : ℕ) → AsksPassed look_sink (run_of wish old) took gave i j →
+    LookAsks wish old took gave i j
+asks_by wish old took gave i j asks = (asks.0, asks.1, λ all if_known. prompt_by wish.book wish.apid (take i took) (take j gave) (asks.2 all if_known))
 
 -- ---- the answers
 
-is_look : (wish : DecodeWish) (old new : Outside) (took gave : List ℕ) (walked : Walked LookRow) → IsWalked look_sink wish old new took gave walked → IsLook wish old new took gave walked.done
+is_look : (wish : DecodeWish) (old new : Outside) (took gave : List ℕ) (walked : Walked LookRow) → IsWalked look_sink wish old new took gave walked →
+    IsLook wish old new took gave walked.done
 is_look wish old new took gave walked x = record {
   found = found_as false [] x x.out (λ received follows. refl);
-  look = λ all told received are.
-      let t = x.told all told in
+  look = λ all if_known received are.
+      let t = x.if_known all if_known in
       let g = walked.done.geometry in
-      let same : t.0 ≡ received = λ i index. both_tell wish.book (kept_in wish.apid took) index (t.0 index) (received index) (t.1.at index) (are.at index) i in
+      let same : t.0 ≡ received = λ i index. both_report wish.book (kept_in wish.apid took) index (t.0 index) (received index) (t.1.at index) (are.at index)
+      i in
       let k : ℕ = blocks_passed g (end_of (kept_in wish.apid took)) / block_count g.width in
-      t.2.gave_is ∙ shown_rows g t.0 k ∙ ap (look_rows g t.0) (all_rows wish.apid took g x.geometry) ∙ ap (λ received. look_octets g received (begun_in wish.apid took)) same;
+      t.2.gave_is ∙ shown_rows g t.0 k ∙ ap (look_rows g t.0) (all_rows wish.apid took g x.geometry)
+      ∙ ap (λ received. look_octets g received (begun_in wish.apid took)) same;
 }
 
 -- what it took and gave, and when
-given_so : (wish : DecodeWish) (old new : Outside) (r : Result (Walked LookRow) DecodeFault) (result : Result DecodeDone DecodeFault) → (x : Walks look_sink wish old new r) → LookAnswers wish old new x.took x.gave result → Looks wish old new result
+given_so : (wish : DecodeWish) (old new : Outside) (r : Result (Walked LookRow) DecodeFault) (result : Result DecodeDone DecodeFault) →
+    (x : Walks look_sink wish old new r) → LookAnswers wish old new x.took x.gave result → Looks wish old new result
 given_so wish old new r result x answer = record {
   took = x.took;
   gave = x.gave;
@@ -143,13 +151,14 @@ looks wish old new walked x = given_so wish old new (Ok walked) (Ok walked.done)
 pub look_fails : (wish : DecodeWish) (old new : Outside) (fault : DecodeFault) → Walks look_sink wish old new (Err fault) → Looks wish old new (Err fault)
 look_fails wish old new fault x = given_so wish old new (Err fault) (Err fault) x (by fault x.answer)
   where
-    front : ((all : List ℕ) → old.rest ≡ Some all → PartBy look_sink wish.book wish.apid x.took x.gave) → (all : List ℕ) → old.rest ≡ Some all → FrontLook wish.book wish.apid x.took x.gave
-    front part all told = front_by wish.book wish.apid x.took x.gave (part all told)
+    prefix : ((all : List ℕ) → old.rest ≡ Some all → PartBy look_sink wish.book wish.apid x.took x.gave) → (all : List ℕ) → old.rest ≡ Some all →
+        PrefixLook wish.book wish.apid x.took x.gave
+    prefix part all if_known = prefix_by wish.book wish.apid x.took x.gave (part all if_known)
 
     by : (fault : DecodeFault) → WalkAnswers look_sink wish old new x.took x.gave (Err fault) → LookAnswers wish old new x.took x.gave (Err fault)
-    by ReadFault a = (a.0, front a.1)
-    by WriteFault a = (a.0, a.1, front a.2)
-    by LongInput a = (a.0, a.1, a.2, front a.3)
+    by ReadFault a = (a.0, prefix a.1)
+    by WriteFault a = (a.0, a.1, prefix a.2)
+    by LongInput a = (a.0, a.1, a.2, prefix a.3)
     by NoSegment a = a
-    by (TooManyPixels pixels) a = (a.0, front a.1)
+    by (TooManyPixels pixels) a = (a.0, prefix a.1)
     by Memory a = a

@@ -1,5 +1,6 @@
 -- A row of a look that takes a block.
-use Rattle.std.proofs.Common.{◌≡◌, ◌≤◌, ◌<◌, ◌+◌, ◌*◌, ◌/◌, ◌%◌, ℕ, zero, suc, ℤ, pos, List, [], ◌∷◌, ◌++◌, length, take, map, set, get_or, refl, sym, ap, subst, ◌∙◌, inl, inr, arith, Option, None, Result, Ok, Err, MatchResult, vec_len, append-nil, get_or-set_other}
+use Rattle.std.proofs.Common.{◌≡◌, ◌≤◌, ◌<◌, ◌+◌, ◌*◌, ◌/◌, ◌%◌, ℕ, zero, suc, ℤ, pos, List, [], ◌∷◌, ◌++◌, length, take, map, set, get_or, refl, sym, ap}
+use Rattle.std.proofs.Common.{subst, ◌∙◌, inl, inr, arith, Option, None, Result, Ok, Err, MatchResult, vec_len, append-nil, get_or-set_other}
 use Rattle.std.specs.List.{range_with_len}
 use Rattle.std.proofs.lemmas.Bool.{cases_lt}
 use Rattle.std.proofs.lemmas.Grind.{get_or-set_at}
@@ -17,7 +18,7 @@ use Rattle.raster_rows.proofs.MadeLaws.{raster_octets-more}
 use Rattle.segment_walk.specs.Sinks.{Blocks, Takes, Fails, EndsImage, numbers_in}
 use Rattle.quick_look.specs.declared.row.LookRow.{LookRow}
 use Rattle.quick_look.specs.Look.{low_with, look_with}
-use Rattle.quick_look.specs.LookSinks.{StandsAt, ShowsLook, first_rows, look_sink, low_of}
+use Rattle.quick_look.specs.LookSinks.{IsValidAt, ShowsLook, first_rows, look_sink, low_of}
 
 -- the value at the next block was set, and the next column is this one
 pub record HasSet (value : ℤ) (next : ℕ) (s t : LookRow) : Type 0 where
@@ -29,7 +30,8 @@ pub record HasSet (value : ℤ) (next : ℕ) (s t : LookRow) : Type 0 where
   pub values : t.values.items ≡ set s.values.items s.column value
   pub wide : vec_len t.values ≡ vec_len s.values
 
-module _ (s t : LookRow) (value : ℤ) (column : ℕ) (block : Option (List ℤ)) (gives : value ≡ low_of s.shift block) (g : Geometry) (n : ℕ) (stands : StandsAt s g n) (is_set : HasSet value column s t) where
+module _ (s t : LookRow) (value : ℤ) (column : ℕ) (block : Option (List ℤ)) (gives : value ≡ low_of s.shift block) (g : Geometry) (n : ℕ)
+    (valid : IsValidAt s g n) (is_set : HasSet value column s t) where
   abbrev c : ℕ
   c = block_count g.width
 
@@ -40,7 +42,7 @@ module _ (s t : LookRow) (value : ℤ) (column : ℕ) (block : Option (List ℤ)
   m = n % c
 
   some : 0 < c
-  some = let inside = stands.is_open.column in omega (arith, inside, stands.columns)
+  some = let inside = valid.is_open.column in omega (arith, inside, valid.columns)
 
   small : m < c
   small = mod_below n c some
@@ -48,18 +50,18 @@ module _ (s t : LookRow) (value : ℤ) (column : ℕ) (block : Option (List ℤ)
   at : r * c + m ≡ n
   at = div-add-mod' n c
 
-  stands_next : (k : ℕ) → k < c → column ≡ (n + 1) % c → column ≡ k → StandsAt t g (n + 1)
-  stands_next k few e is = record {
+  valid_next : (k : ℕ) → k < c → column ≡ (n + 1) % c → column ≡ k → IsValidAt t g (n + 1)
+  valid_next k few e is = record {
     is_open = record {
-      depth = subst IsDepth (sym is_set.depth) stands.is_open.depth;
-      shift = let low = stands.is_open.shift in omega (arith, low, is_set.shift);
-      column = omega (arith, is_set.column, is_set.columns, stands.columns, is, few);
-      wide = is_set.wide ∙ stands.is_open.wide ∙ sym is_set.columns;
+      depth = subst IsDepth (sym is_set.depth) valid.is_open.depth;
+      shift = let low = valid.is_open.shift in omega (arith, low, is_set.shift);
+      column = omega (arith, is_set.column, is_set.columns, valid.columns, is, few);
+      wide = is_set.wide ∙ valid.is_open.wide ∙ sym is_set.columns;
     };
-    depth = is_set.depth ∙ stands.depth;
-    signed = is_set.signed ∙ stands.signed;
-    shift = is_set.shift ∙ stands.shift;
-    columns = is_set.columns ∙ stands.columns;
+    depth = is_set.depth ∙ valid.depth;
+    signed = is_set.signed ∙ valid.signed;
+    shift = is_set.shift ∙ valid.shift;
+    columns = is_set.columns ∙ valid.columns;
     column = is_set.column ∙ e;
   }
 
@@ -70,32 +72,35 @@ module _ (s t : LookRow) (value : ℤ) (column : ℕ) (block : Option (List ℤ)
     -- its value is that of the look
     value_is : value ≡ low_with g numbers r m
     unfolding low_with
-    value_is = gives ∙ ap (λ k. low_of k block) stands.shift ∙ ap (low_of (get_or g.weights.shifts 9 0)) (sym is) ∙ ap (λ n. low_of (get_or g.weights.shifts 9 0) (blocks n)) (sym at)
+    value_is = gives ∙ ap (λ k. low_of k block) valid.shift ∙ ap (low_of (get_or g.weights.shifts 9 0)) (sym is)
+        ∙ ap (λ n. low_of (get_or g.weights.shifts 9 0) (blocks n)) (sym at)
 
     -- and those before it are unchanged
     values_are : (j : ℕ) → j < m + 1 → get_or t.values.items j (pos 0) ≡ low_with g numbers r j
     values_are j lt =
         let here : get_or t.values.items j (pos 0) ≡ get_or (set s.values.items s.column value) j (pos 0) = ap (λ xs. get_or xs j (pos 0)) is_set.values in
         here ∙ (elim (cases_lt j m) [
-          | inl less ↦ get_or-set_other s.values.items s.column j value (pos 0) (λ e. omega (arith, e, less, stands.column)) ∙ shows.values j less
+          | inl less ↦ get_or-set_other s.values.items s.column j value (pos 0) (λ e. omega (arith, e, less, valid.column)) ∙ shows.values j less
           | inr last ↦
               let same : j ≡ m = omega (arith, lt, last) in
-              let inside = stands.is_open.column in
-              let wide = stands.is_open.wide in
-              get_or-set_at s.values.items s.column j value (pos 0) (same ∙ sym stands.column) (omega (arith, inside, wide)) ∙ value_is ∙ ap (low_with g numbers r) (sym same)
+              let inside = valid.is_open.column in
+              let wide = valid.is_open.wide in
+              get_or-set_at s.values.items s.column j value (pos 0) (same ∙ sym valid.column) (omega (arith, inside, wide)) ∙ value_is
+              ∙ ap (low_with g numbers r) (sym same)
         ])
 
     -- a whole row
-    row_octets : m + 1 ≡ c → pixel_octets t.depth (map (clamped t.depth t.signed) (take t.columns t.values.items)) ≡ pixel_octets g.depth (row_pixels c (look_with g numbers r))
+    row_octets : m + 1 ≡ c → pixel_octets t.depth (map (clamped t.depth t.signed) (take t.columns t.values.items)) ≡ pixel_octets g.depth
+        (row_pixels c (look_with g numbers r))
     row_octets last =
         let xs : List ℤ = t.values.items in
         let f = low_with g numbers r in
-        let long : length xs ≡ c = sym t.values.ok.0 ∙ is_set.wide ∙ stands.is_open.wide ∙ stands.columns in
+        let long : length xs ≡ c = sym t.values.ok.0 ∙ is_set.wide ∙ valid.is_open.wide ∙ valid.columns in
         let table : xs ≡ map f (range_with_len 0 (length xs)) = table_of xs f (record { at = λ j lt. values_are j (omega (arith, lt, long, last)) }) in
         let first : take c xs ≡ map f (range_with_len 0 c) = ap (take c) table ∙ take-map-range_with_len f 0 (length xs) c (omega (arith, long)) in
-        ap (λ d. pixel_octets d (map (clamped d t.signed) (take t.columns xs))) (is_set.depth ∙ stands.depth)
-        ∙ ap (λ b. pixel_octets g.depth (map (clamped g.depth b) (take t.columns xs))) (is_set.signed ∙ stands.signed)
-        ∙ ap (λ n. pixel_octets g.depth (map (clamped g.depth g.signed) (take n xs))) (is_set.columns ∙ stands.columns)
+        ap (λ d. pixel_octets d (map (clamped d t.signed) (take t.columns xs))) (is_set.depth ∙ valid.depth)
+        ∙ ap (λ b. pixel_octets g.depth (map (clamped g.depth b) (take t.columns xs))) (is_set.signed ∙ valid.signed)
+        ∙ ap (λ n. pixel_octets g.depth (map (clamped g.depth g.signed) (take n xs))) (is_set.columns ∙ valid.columns)
         ∙ ap (λ ys. pixel_octets g.depth (map (clamped g.depth g.signed) ys)) first
         ∙ ap (pixel_octets g.depth) (both (clamped g.depth g.signed) f (range_with_len 0 c))
       where
@@ -119,12 +124,12 @@ module _ (s t : LookRow) (value : ℤ) (column : ℕ) (block : Option (List ℤ)
 
   pub value_taken : (a : Outside) → column ≡ s.column + 1 → s.column + 1 < s.columns → Takes look_sink g n block a a s t
   value_taken a goes lt =
-      let few : m + 1 < c = omega (arith, lt, stands.columns, stands.column) in
-      let there : column ≡ m + 1 = omega (arith, goes, stands.column) in
+      let few : m + 1 < c = omega (arith, lt, valid.columns, valid.column) in
+      let there : column ≡ m + 1 = omega (arith, goes, valid.column) in
       record {
         gave = [];
         out = since_start a NoRead;
-        stands = stands_next (m + 1) few (there ∙ sym (next_column few)) there;
+        valid = valid_next (m + 1) few (there ∙ sym (next_column few)) there;
         follows = λ blocks before shows is. record {
           gave_is = append-nil before ∙ shows.gave_is ∙ ap (first_rows g blocks) (sym (next_row few));
           values = λ j inside.
@@ -150,18 +155,18 @@ module _ (s t : LookRow) (value : ℤ) (column : ℕ) (block : Option (List ℤ)
       WritesAll result a b (pixel_octets t.depth (map (clamped t.depth t.signed) (take t.columns t.values.items))) →
       MatchResult result (λ _. Takes look_sink g n block a b s t) (λ _. Fails look_sink g n block a b s)
   row_taken (Ok x) a b none le out =
-      let last : m + 1 ≡ c = omega (arith, le, small, stands.columns, stands.column) in
+      let last : m + 1 ≡ c = omega (arith, le, small, valid.columns, valid.column) in
       record {
         gave = _;
         out = out;
-        stands = stands_next 0 some (none ∙ sym (whole_column last)) none;
+        valid = valid_next 0 some (none ∙ sym (whole_column last)) none;
         follows = λ blocks before shows is. record {
           gave_is = rows_then blocks before shows is last ∙ ap (first_rows g blocks) (sym (whole_row last));
           values = λ j inside. absurd (omega (arith, inside, whole_column last));
         };
       }
   row_taken (Err e) a b none le out =
-      let last : m + 1 ≡ c = omega (arith, le, small, stands.columns, stands.column) in
+      let last : m + 1 ≡ c = omega (arith, le, small, valid.columns, valid.column) in
       let octets : List ℕ = pixel_octets t.depth (map (clamped t.depth t.signed) (take t.columns t.values.items)) in
       let k = out.1.0 in
       record {
@@ -170,7 +175,8 @@ module _ (s t : LookRow) (value : ℤ) (column : ℕ) (block : Option (List ℤ)
         rose = out.0;
         part = λ blocks before shows is. record {
           some = length before + k;
-          gave_is = sym (take-append-add before octets k) ∙ ap (take (length before + k)) (rows_then blocks before shows is last ∙ ap (first_rows g blocks) (sym (whole_row last)));
+          gave_is = sym (take-append-add before octets k) ∙ ap (take (length before + k)) (rows_then blocks before shows is last ∙ ap (first_rows g blocks)
+              (sym (whole_row last)));
         };
       }
 
@@ -189,8 +195,16 @@ none_gives (suc (suc (suc (suc k)))) low = absurd (omega (arith, low))
 
 pub row_ends : (s : LookRow) (h : Geometry) → EndsImage look_sink h s s
 unfolding low_with
-row_ends s h g n stands ends = record {
-  stands = subst (λ k. StandsAt s k n) (sym ends.same)
-      (record { is_open = stands.is_open; depth = stands.depth; signed = stands.signed; shift = stands.shift; columns = stands.columns; column = stands.column });
+row_ends s h g n valid ends = record {
+  valid = subst (λ k. IsValidAt s k n) (sym ends.same)
+      (record {
+        is_open = valid.is_open;
+        depth = valid.depth;
+        signed = valid.signed;
+        shift = valid.shift;
+        columns = valid.columns;
+        column =
+            valid.column;
+      });
   follows = λ blocks gave shows. subst (λ k. ShowsLook s k blocks n gave) (sym ends.same) (record { gave_is = shows.gave_is; values = shows.values });
 }

@@ -22,8 +22,10 @@ low_image s rows x r c = clamped s.depth s.signed ((pyramid (padded x rows s.wid
 -- The look at all packets of an image has these values if the setting sends all of it, and a run that took exactly these packets and
 -- returned Ok gave the raster of these values.
 pub record LooksOfImages : Type 0 where
-  pub at : (s : Setting) (rows : ℕ) (x : ℕ → ℕ → ℤ) (received : Numbers) → IsImageFor s rows x → SendsAll s → ReceivedIn (holds_after s.book) s.apid (output s rows x) received →
+  pub at : (s : Setting) (rows : ℕ) (x : ℕ → ℕ → ℤ) (received : Numbers) → IsImageFor s rows x → SendsAll s →
+      ReceivedIn (holds_after s.book) s.apid (output s rows x) received →
       (r c : ℕ) → r < block_count rows → c < block_count s.width → look (image_geometry s rows) received r c ≡ low_image s rows x r c
   pub given : (wish : DecodeWish) (start new : Outside) (took gave all : List ℕ) (done : DecodeDone) (s : Setting) (rows : ℕ) (x : ℕ → ℕ → ℤ) →
-      IsLook wish start new took gave done → start.rest ≡ Some all → wish.apid ≡ s.apid → wish.book ≡ s.book → took ≡ output s rows x → IsImageFor s rows x → SendsAll s →
+      IsLook wish start new took gave done → start.rest ≡ Some all → wish.apid ≡ s.apid → wish.book ≡ s.book → took ≡ output s rows x →
+      IsImageFor s rows x → SendsAll s →
       gave ≡ raster_octets s.depth (block_count rows) (block_count s.width) (low_image s rows x)

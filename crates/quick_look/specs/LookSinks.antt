@@ -23,7 +23,7 @@ pub record IsOpen (s : LookRow) : Type 0 where
   pub wide : vec_len s.values ≡ s.columns
 
 -- it is that of a look of this geometry which has taken n blocks
-pub record StandsAt (s : LookRow) (g : Geometry) (n : ℕ) : Type 0 where
+pub record IsValidAt (s : LookRow) (g : Geometry) (n : ℕ) : Type 0 where
   pub is_open : IsOpen s
   pub depth : s.depth ≡ g.depth
   pub signed : s.signed ≡ g.signed
@@ -45,35 +45,36 @@ abbrev pub GivesLook : (g : Geometry) (blocks : Blocks) (n : ℕ) (gave : List �
 GivesLook g blocks n gave = gave ≡ first_rows g blocks (n / block_count g.width)
 
 -- a prefix of these rows
-pub record GivesLookFront (g : Geometry) (blocks : Blocks) (n : ℕ) (gave : List ℕ) : Type 0 where
+pub record GivesLookPrefix (g : Geometry) (blocks : Blocks) (n : ℕ) (gave : List ℕ) : Type 0 where
   pub some : ℕ
   pub gave_is : gave ≡ take some (first_rows g blocks (n / block_count g.width))
 
-pub front_given : (g : Geometry) (blocks : Blocks) (n : ℕ) (gave : List ℕ) → GivesLook g blocks n gave → GivesLookFront g blocks n gave
-front_given g blocks n gave given = record { some = length gave; gave_is = sym (ap (take (length gave)) (sym given) ∙ take-length gave) }
+pub prefix_given : (g : Geometry) (blocks : Blocks) (n : ℕ) (gave : List ℕ) → GivesLook g blocks n gave → GivesLookPrefix g blocks n gave
+prefix_given g blocks n gave given = record { some = length gave; gave_is = sym (ap (take (length gave)) (sym given) ∙ take-length gave) }
 
 -- the rows are the same whatever the height
-rows_ended : (g h : Geometry) (blocks : Blocks) (n : ℕ) → EndsAt g h n → first_rows g blocks (n / block_count g.width) ≡ first_rows h blocks (n / block_count h.width)
+rows_ended : (g h : Geometry) (blocks : Blocks) (n : ℕ) → EndsAt g h n → first_rows g blocks (n / block_count g.width)
+    ≡ first_rows h blocks (n / block_count h.width)
 unfolding low_with
 rows_ended g h blocks n ends = ap (λ (k : Geometry). first_rows k blocks (n / block_count k.width)) (sym ends.same)
 
 pub look_ended : (g h : Geometry) (blocks : Blocks) (n : ℕ) (gave : List ℕ) → EndsAt g h n → GivesLook g blocks n gave → GivesLook h blocks n gave
 look_ended g h blocks n gave ends given = given ∙ rows_ended g h blocks n ends
 
-pub front_ended : (g h : Geometry) (blocks : Blocks) (n : ℕ) (gave : List ℕ) → EndsAt g h n → GivesLookFront g blocks n gave → GivesLookFront h blocks n gave
-front_ended g h blocks n gave ends front = record { some = front.some; gave_is = front.gave_is ∙ ap (take front.some) (rows_ended g h blocks n ends) }
+pub prefix_ended : (g h : Geometry) (blocks : Blocks) (n : ℕ) (gave : List ℕ) → EndsAt g h n → GivesLookPrefix g blocks n gave → GivesLookPrefix h blocks n gave
+prefix_ended g h blocks n gave ends prefix = record { some = prefix.some; gave_is = prefix.gave_is ∙ ap (take prefix.some) (rows_ended g h blocks n ends) }
 
 abbrev pub look_sink : SinkOf LookRow
 look_sink = record {
-  Stands = StandsAt;
+  IsValid = IsValidAt;
   Follows = ShowsLook;
   Given = GivesLook;
-  Part = GivesLookFront;
-  given_of = λ s g blocks n gave stands shows. shows.gave_is;
-  part_of = front_given;
+  Part = GivesLookPrefix;
+  given_of = λ s g blocks n gave valid shows. shows.gave_is;
+  part_of = prefix_given;
   part_none = λ g blocks. record { some = 0; gave_is = refl };
   given_ended = look_ended;
-  part_ended = front_ended;
+  part_ended = prefix_ended;
 }
 
 -- ---- steps

@@ -14,7 +14,7 @@ use Rattle.segment_walk.specs.declared.ending.DecodeDone.{DecodeDone}
 use Rattle.segment_walk.specs.declared.ending.DecodeFault.{DecodeFault}
 use Rattle.segment_walk.specs.declared.ending.DecodeFault.TheVariants.{ReadFault, WriteFault, NoSegment, TooManyPixels, LongInput, Memory}
 use Rattle.segment_walk.specs.Answers.{PictureBy}
-use Rattle.segment_walk.specs.Runs.{Numbers, holds_after, HasFewKnown, settled_blocks}
+use Rattle.segment_walk.specs.Runs.{Numbers, holds_after, HasFewKnown, AsksUnanswered, settled_blocks}
 use Rattle.segment_walk.specs.Walks.{HasTooMany}
 use Rattle.quick_look.specs.Look.{look_rows, look_octets}
 
@@ -25,10 +25,11 @@ use Rattle.quick_look.specs.Look.{look_rows, look_octets}
 pub record PromptLook (book : Book) (apid : ℕ) (taken given : List ℕ) : Type 0 where
   pub none : geometry_in apid taken ≡ None → given ≡ []
   pub some : (g : Geometry) (received : Numbers) → geometry_in apid taken ≡ Some g → ReceivedIn (holds_after book) apid taken received →
-      (k : ℕ) × (k ≤ block_rows g (begun_in apid taken)) × (block_rows_before g (settled_blocks (state_after apid taken) received) ≤ k) × (given ≡ look_rows g received k)
+      (k : ℕ) × (k ≤ block_rows g (begun_in apid taken)) × (block_rows_before g (settled_blocks (state_after apid taken) received) ≤ k)
+      × (given ≡ look_rows g received k)
 
 -- a prefix of the look for the octets that were taken; nothing without a geometry
-pub record FrontLook (book : Book) (apid : ℕ) (taken given : List ℕ) : Type 0 where
+pub record PrefixLook (book : Book) (apid : ℕ) (taken given : List ℕ) : Type 0 where
   pub none : geometry_in apid taken ≡ None → given ≡ []
   pub some : (g : Geometry) (received : Numbers) → geometry_in apid taken ≡ Some g → ReceivedIn (holds_after book) apid taken received →
       (n : ℕ) × (given ≡ take n (look_octets g received (begun_in apid taken)))
@@ -40,27 +41,30 @@ pub record IsLook (wish : DecodeWish) (start new : Outside) (took gave : List �
       gave ≡ look_octets done.geometry received (begun_in wish.apid took)
 
 -- a prefix of the look for the octets that were taken, if the port reports what is left
-abbrev pub GivesFront : DecodeWish → Outside → (took gave : List ℕ) → Type 0
-GivesFront wish start took gave = (all : List ℕ) → start.rest ≡ Some all → FrontLook wish.book wish.apid took gave
+abbrev pub GivesPrefix : DecodeWish → Outside → (took gave : List ℕ) → Type 0
+GivesPrefix wish start took gave = (all : List ℕ) → start.rest ≡ Some all → PrefixLook wish.book wish.apid took gave
 
 -- Why the call ended so. The answers exclude each other by what was taken, the end and the counts, except for faults of the port.
 abbrev pub LookAnswers : DecodeWish → (old new : Outside) (took gave : List ℕ) → Result DecodeDone DecodeFault → Type 0
 LookAnswers wish old new took gave (Ok done) = IsLook wish old new took gave done
 LookAnswers wish old new took gave (Err NoSegment) = (geometry_in wish.apid took ≡ None) × IsReadOut wish.octets new took × (gave ≡ [])
-LookAnswers wish old new took gave (Err (TooManyPixels pixels)) = HasTooMany wish took gave pixels × GivesFront wish old took gave
-LookAnswers wish old new took gave (Err LongInput) = (length took ≡ wish.octets) × (has_bad_version (left_over took) ≡ false) × HasFewPixels wish.pixels wish.apid took × GivesFront wish old took gave
-LookAnswers wish old new took gave (Err ReadFault) = Rose old.read_faults new.read_faults × GivesFront wish old took gave
-LookAnswers wish old new took gave (Err WriteFault) = Rose old.write_faults new.write_faults × HasFewKnown wish.pixels wish.apid took × GivesFront wish old took gave
+LookAnswers wish old new took gave (Err (TooManyPixels pixels)) = HasTooMany wish took gave pixels × GivesPrefix wish old took gave
+LookAnswers wish old new took gave (Err LongInput) = (length took ≡ wish.octets) × (has_bad_version (left_over took) ≡ false)
+    × HasFewPixels wish.pixels wish.apid took × GivesPrefix wish old took gave
+LookAnswers wish old new took gave (Err ReadFault) = Rose old.read_faults new.read_faults × GivesPrefix wish old took gave
+LookAnswers wish old new took gave (Err WriteFault) = Rose old.write_faults new.write_faults × HasFewKnown wish.pixels wish.apid took
+    × GivesPrefix wish old took gave
 LookAnswers wish old new took gave (Err Memory) = gave ≡ []
 
--- A read call with i octets taken and j given, if the port reports what is left. If the octets report too many pixels, no more is read.
+-- A read call with i octets taken, which decide no answer, and j given, if the port reports what is left.
 abbrev pub LookAsks : DecodeWish → Outside → (took gave : List ℕ) → ℕ → ℕ → Type 0
 LookAsks wish start took gave i j =
-    (j ≤ length gave) × HasFewPixels wish.pixels wish.apid (take i took) × ((all : List ℕ) → start.rest ≡ Some all → PromptLook wish.book wish.apid (take i took) (take j gave))
+    (j ≤ length gave) × AsksUnanswered wish.apid wish.octets wish.pixels took i j × ((all : List ℕ) → start.rest ≡ Some all →
+    PromptLook wish.book wish.apid (take i took) (take j gave))
 
 -- One run over a port: what it took and gave, when, and why it ended so. However it ends, it takes at most the number of octets in the
--- wish. What is given at each read call is a prefix of the look for the octets that were taken by then, with at least the rows whose blocks
--- they settle.
+-- wish. At each read call the octets that were taken by then decide no answer, and what is given is a prefix of the look for them, with at
+-- least the rows whose blocks they settle.
 pub record Looks (wish : DecodeWish) (old new : Outside) (result : Result DecodeDone DecodeFault) : Type 0 where
   pub took : List ℕ
   pub gave : List ℕ

@@ -15,7 +15,8 @@ pub held_after : (p : Outside) (before after octets : List ℕ) → after ≡ be
 held_after p before after octets is = record { gave = []; out = since_start p NoRead; all = is }
 
 -- what waited is given, and octets wait
-pub held_alone : {p q : Outside} {before middle after octets : List ℕ} → Exchange p q [] before [] NoRead → middle ≡ [] → after ≡ middle ++ octets → Adds p q before after octets
+pub held_alone : {p q : Outside} {before middle after octets : List ℕ} → Exchange p q [] before [] NoRead → middle ≡ [] → after ≡ middle ++ octets →
+    Adds p q before after octets
 held_alone {before = before} {octets = octets} out none is = record {
   gave = before;
   out = out;
@@ -34,7 +35,8 @@ part_before {p = p} {q = q} {before = before} after octets (Err e) is out = reco
 }
 
 -- what waited is given, and then the octets, or a prefix of them
-pub given_alone : {T E : Type 0} {p q : Outside} {before : List ℕ} (s : Outside) (after octets : List ℕ) (r : Result T E) → Exchange p q [] before [] NoRead → after ≡ [] →
+pub given_alone : {T E : Type 0} {p q : Outside} {before : List ℕ} (s : Outside) (after octets : List ℕ) (r : Result T E) →
+    Exchange p q [] before [] NoRead → after ≡ [] →
     WritesAll r q s octets → AddsAll r p s before after octets
 given_alone {before = before} s after octets (Ok t) out none then = record {
   gave = before ++ octets;
@@ -50,5 +52,6 @@ given_alone {p = p} {before = before} s after octets (Err e) out none then = rec
 
 -- rows of one form have the same octets
 pub form_same : (old new : GatheredRows) (values : List ℤ) → IsAlike old new →
-    pixel_octets (depth_of new) (map (clamped (depth_of new) (is_signed new)) values) ≡ pixel_octets (depth_of old) (map (clamped (depth_of old) (is_signed old)) values)
+    pixel_octets (depth_of new) (map (clamped (depth_of new) (is_signed new)) values) ≡ pixel_octets (depth_of old)
+    (map (clamped (depth_of old) (is_signed old)) values)
 form_same old new values alike = grind (arith, nat_tests, map)

@@ -1,5 +1,6 @@
 -- The made image is in range, and its raster is made part by part.
-use Rattle.std.proofs.Common.{◌≡◌, ◌<◌, ◌+◌, ◌-◌, ◌*◌, ◌/◌, ◌%◌, ◌^◌, ◌∙◌, ℕ, ℤ, zero, suc, pos, ◌-ℤ◌, Bool, true, false, nat_lt, List, [], ◌∷◌, ◌++◌, map, refl, ap, arith, if◌then◌else◌}
+use Rattle.std.proofs.Common.{◌≡◌, ◌<◌, ◌+◌, ◌-◌, ◌*◌, ◌/◌, ◌%◌, ◌^◌, ◌∙◌, ℕ, ℤ, zero, suc, pos, ◌-ℤ◌, Bool, true, false, nat_lt, List, [], ◌∷◌, ◌++◌, map}
+use Rattle.std.proofs.Common.{refl, ap, arith, if◌then◌else◌}
 use Rattle.std.specs.List.{range_with_len}
 use Rattle.std.proofs.lemmas.Int.{ints}
 use Rattle.std.proofs.lemmas.Bool.Decides.{nat_tests}
@@ -62,7 +63,8 @@ range-append a (suc n) m =
 
 -- the octets of a row, part by part
 pub row_octets-append : (depth : ℕ) (pixel : ℕ → ℤ) (from n m : ℕ) →
-    pixel_octets depth (map pixel (range_with_len from (n + m))) ≡ pixel_octets depth (map pixel (range_with_len from n)) ++ pixel_octets depth (map pixel (range_with_len (from + n) m))
+    pixel_octets depth (map pixel (range_with_len from (n + m))) ≡ pixel_octets depth (map pixel (range_with_len from n))
+    ++ pixel_octets depth (map pixel (range_with_len (from + n) m))
 row_octets-append depth pixel from n m = grind (arith, nat_tests, map, range-append, map-append, flat_map-append)
 
 -- the octets of a raster, rows by rows

@@ -68,7 +68,8 @@ clamped_is depth signed value is = nearest_of (least_pixel depth signed) (greate
 
 -- the number that represents a pixel without a sign is the pixel itself
 pub plain_spelt : (depth : ℕ) (signed : Bool) (pixel : ℤ) → IsDepth depth → signed ≡ false → IsPixel depth signed pixel →
-    (pos 0 ≤ℤ pixel) × (pos (number_of depth pixel) ≡ pixel) × (number_of depth pixel < 2 * sign_weight depth) × (sign_weight depth ≤ 2 ^ 15) × (depth ≤ 8 → sign_weight depth ≡ 2 ^ 7)
+    (pos 0 ≤ℤ pixel) × (pos (number_of depth pixel) ≡ pixel) × (number_of depth pixel < 2 * sign_weight depth) × (sign_weight depth ≤ 2 ^ 15)
+    × (depth ≤ 8 → sign_weight depth ≡ 2 ^ 7)
 plain_spelt depth true pixel is plain here = cc
 plain_spelt depth false pixel is plain here =
     let spelt = pixel_spelt depth false pixel is here in

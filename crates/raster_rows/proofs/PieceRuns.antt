@@ -1,5 +1,6 @@
 -- Pixels that are put into a row, one after another.
-use Rattle.std.proofs.Common.{◌≡◌, ◌<◌, ◌+◌, ◌≢◌, below_more, get_or-set_same, get_or-set_other, ℕ, ℤ, pos, Bool, true, false, ◌&&◌, List, length, get_or, refl, subst, arith, ◌∙◌, set, length-set}
+use Rattle.std.proofs.Common.{◌≡◌, ◌<◌, ◌+◌, ◌≢◌, below_more, get_or-set_same, get_or-set_other, ℕ, ℤ, pos, Bool, true, false, ◌&&◌, List, length, get_or}
+use Rattle.std.proofs.Common.{refl, subst, arith, ◌∙◌, set, length-set}
 use Rattle.std.specs.Bool.{OnTrue}
 use Rattle.raster_rows.specs.Pixels.{IsPixel, pixel_at}
 use Rattle.raster_rows.specs.RowReads.{FirstInRange}
@@ -14,7 +15,8 @@ one_put depth signed octets column n value before mid p lt is here =
     record {
       in_range = below_more (λ k. IsPixel depth signed (pixel_at depth signed octets k)) n p.in_range (subst (λ v. IsPixel depth signed v) is here);
       put = below_more (λ k. get_or (set mid (column + n) value) (column + k) (pos 0) ≡ pixel_at depth signed octets k) n
-          (λ k le. let ne : column + k ≢ column + n = omega arith in get_or-set_other mid (column + n) (column + k) value (pos 0) ne ∙ p.put k le) (set_here ∙ is);
+          (λ k le. let ne : column + k ≢ column + n = omega arith in get_or-set_other mid (column + n) (column + k) value (pos 0) ne ∙ p.put k le)
+          (set_here ∙ is);
       below = λ k le. let ne : k ≢ column + n = omega arith in get_or-set_other mid (column + n) k value (pos 0) ne ∙ p.below k le;
       above = λ k le. let ne : k ≢ column + n = omega arith in get_or-set_other mid (column + n) k value (pos 0) ne ∙ p.above k (omega arith);
       same = length-set mid (column + n) value ∙ p.same;
@@ -28,7 +30,8 @@ both_held false b p q f = tt
 
 -- one more pixel that is tested
 pub one_tested : (depth : ℕ) (signed : Bool) (octets : List ℕ) (n : ℕ) (value : ℤ) (all holds : Bool) → value ≡ pixel_at depth signed octets n →
-    OnTrue all (FirstInRange depth signed octets n) → (holds ≡ true → IsPixel depth signed value) → OnTrue (all && holds) (FirstInRange depth signed octets (n + 1))
+    OnTrue all (FirstInRange depth signed octets n) → (holds ≡ true → IsPixel depth signed value) →
+    OnTrue (all && holds) (FirstInRange depth signed octets (n + 1))
 one_tested depth signed octets n value all holds is before here = both_held all holds before here (λ p q. record {
   each = below_more (λ k. IsPixel depth signed (pixel_at depth signed octets k)) n p.each (subst (λ v. IsPixel depth signed v) is q);
 })

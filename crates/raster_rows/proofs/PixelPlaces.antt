@@ -1,5 +1,6 @@
 -- Pixels at places of longer lists of octets.
-use Rattle.std.proofs.Common.{◌≡◌, ◌<◌, ◌≤◌, ◌+◌, ◌*◌, ◌/◌, ◌∙◌, ℕ, Bool, true, false, nat_le, List, ◌++◌, length, get_or, take, drop, sym, ap, arith, if◌then◌else◌, mul-le-mul_right}
+use Rattle.std.proofs.Common.{◌≡◌, ◌<◌, ◌≤◌, ◌+◌, ◌*◌, ◌/◌, ◌∙◌, ℕ, Bool, true, false, nat_le, List, ◌++◌, length, get_or, take, drop, sym, ap, arith}
+use Rattle.std.proofs.Common.{if◌then◌else◌, mul-le-mul_right}
 use Rattle.std.proofs.lemmas.List.{get_or_append_left, get_or-append-add, length-take-le, take-append-drop}
 use Rattle.std.proofs.lemmas.Nat.{div-mul-add, le-div}
 use Rattle.std.proofs.lemmas.Bool.Decides.{nat_tests}

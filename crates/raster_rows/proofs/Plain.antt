@@ -7,7 +7,8 @@ use Rattle.raster_rows.specs.Pixels.{IsDepth, IsPixel, greatest_pixel}
 use Rattle.raster_rows.specs.Pieces.{ArePlain}
 
 -- a value whose bits are at most the greatest pixel is one
-plain_value : (depth : ℕ) (value : ℤ) (bits most : ℕ) → IsDepth depth → pos most ≡ greatest_pixel depth false → SFits w64 value → of_z w64 value ≤ bits → bits ≤ most →
+plain_value : (depth : ℕ) (value : ℤ) (bits most : ℕ) → IsDepth depth → pos most ≡ greatest_pixel depth false → SFits w64 value → of_z w64 value ≤ bits →
+    bits ≤ most →
     IsPixel depth false value
 plain_value depth (pos n) bits most is most_is fits le few = record { low = omega (arith, ints); high = omega (arith, ints, most_is, le, few) }
 plain_value depth (negsuc n) bits most is most_is fits le few =
@@ -21,7 +22,8 @@ on_order a b false e f = tt
 
 -- all values are pixels if all their bits are at most the greatest one
 pub all_plain : (depth : ℕ) (signed : Bool) (values : List ℤ) (bits most : ℕ) → IsDepth depth → signed ≡ false → pos most ≡ greatest_pixel depth signed →
-    ((k : ℕ) → k < length values → SFits w64 (get_or values k (pos 0)) × (of_z w64 (get_or values k (pos 0)) ≤ bits)) → OnTrue (leb bits most) (ArePlain depth signed values)
+    ((k : ℕ) → k < length values → SFits w64 (get_or values k (pos 0)) × (of_z w64 (get_or values k (pos 0)) ≤ bits)) →
+    OnTrue (leb bits most) (ArePlain depth signed values)
 all_plain depth true values bits most is plain most_is each = absurd cc
 all_plain depth false values bits most is plain most_is each = on_order bits most (leb bits most) refl (λ few. record {
   plain = refl;

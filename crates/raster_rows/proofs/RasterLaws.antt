@@ -17,8 +17,10 @@ length-row_octets depth width pixel = grind (arith, nat_tests, length-pixel_octe
 
 -- each pixel of a row's octets
 pub pixel_at-row_octets : (depth : ℕ) (signed : Bool) (width : ℕ) (pixel : ℕ → ℤ) (column : ℕ) → IsDepth depth →
-    ((k : ℕ) → k < width → IsPixel depth signed (pixel k)) → column < width → pixel_at depth signed (pixel_octets depth (row_pixels width pixel)) column ≡ pixel column
-pixel_at-row_octets depth signed width pixel column is each lt = grind (arith, nat_tests, row_pixels, length-map-range_with_len, get_or, pos, get_or-map-range_with_len, pixel_at-pixel_octets)
+    ((k : ℕ) → k < width → IsPixel depth signed (pixel k)) → column < width → pixel_at depth signed (pixel_octets depth (row_pixels width pixel)) column
+    ≡ pixel column
+pixel_at-row_octets depth signed width pixel column is each lt =
+    grind (arith, nat_tests, row_pixels, length-map-range_with_len, get_or, pos, get_or-map-range_with_len, pixel_at-pixel_octets)
 
 -- the rows of an image from one on
 abbrev pub rows_from : ℕ → ℕ → (ℕ → ℕ → ℤ) → ℕ → ℕ → List ℕ
@@ -28,15 +30,16 @@ pixel_at-rows_from : (depth : ℕ) (signed : Bool) (width : ℕ) (image : ℕ �
     ((i j : ℕ) → i < from + rows → j < width → IsPixel depth signed (image i j)) → row < rows → column < width →
     pixel_at depth signed (rows_from depth width image from rows) (row * width + column) ≡ image (from + row) column
 pixel_at-rows_from depth signed width image zero from row column is each lt inside = absurd (omega (arith, lt))
-pixel_at-rows_from depth signed width image (suc rows) from zero column is each lt inside = grind (arith, nat_tests, row_pixels, length-row_octets, whole_before, rows_from, pixel_at-append_left, pixel_at-row_octets)
+pixel_at-rows_from depth signed width image (suc rows) from zero column is each lt inside =
+    grind (arith, nat_tests, row_pixels, length-row_octets, whole_before, rows_from, pixel_at-append_left, pixel_at-row_octets)
 pixel_at-rows_from depth signed width image (suc rows) from (suc row) column is each lt inside =
-    let front : List ℕ = pixel_octets depth (row_pixels width (image from)) in
-    let size : length front ≡ width * pixel_size depth = length-row_octets depth width (image from) in
+    let prefix : List ℕ = pixel_octets depth (row_pixels width (image from)) in
+    let size : length prefix ≡ width * pixel_size depth = length-row_octets depth width (image from) in
     let place : suc row * width + column ≡ width + (row * width + column) = omega arith in
     let next : from + 1 + row ≡ from + suc row = omega arith in
     let all : (i j : ℕ) → i < from + 1 + rows → j < width → IsPixel depth signed (image i j) = λ i j less within. each i j (omega (arith, less)) within in
-    ap (pixel_at depth signed (front ++ rows_from depth width image (from + 1) rows)) place ∙
-    pixel_at-append_right depth signed front (rows_from depth width image (from + 1) rows) width (row * width + column) size ∙
+    ap (pixel_at depth signed (prefix ++ rows_from depth width image (from + 1) rows)) place ∙
+    pixel_at-append_right depth signed prefix (rows_from depth width image (from + 1) rows) width (row * width + column) size ∙
     pixel_at-rows_from depth signed width image rows (from + 1) row column is all (omega (arith, lt)) inside ∙
     ap (λ i. image i column) next
 
@@ -52,8 +55,13 @@ raster_pixel-raster_octets depth signed rows width image row column is each lt i
 length-rows_from : (depth width : ℕ) (image : ℕ → ℕ → ℤ) (rows from : ℕ) → length (rows_from depth width image from rows) ≡ rows * (width * pixel_size depth)
 length-rows_from depth width image zero from = omega arith
 length-rows_from depth width image (suc rows) from =
-    let front : List ℕ = pixel_octets depth (row_pixels width (image from)) in
-    omega (arith, length-append front (rows_from depth width image (from + 1) rows), length-row_octets depth width (image from), length-rows_from depth width image rows (from + 1))
+    let prefix : List ℕ = pixel_octets depth (row_pixels width (image from)) in
+    omega (
+      arith,
+      length-append prefix (rows_from depth width image (from + 1) rows),
+      length-row_octets depth width (image from),
+      length-rows_from depth width image rows (from + 1),
+    )
 
 -- how many octets a raster has
 pub length-raster_octets : (depth rows width : ℕ) (image : ℕ → ℕ → ℤ) → length (raster_octets depth rows width image) ≡ rows * (width * pixel_size depth)

@@ -45,7 +45,8 @@ RowAnswers depth signed width row old new took before after (Err (BadPixel at co
     (at ≡ row) × (length took ≤ width * pixel_size depth) × IsFirstBad depth signed took column value × BeginsWith depth signed took column before after
 
 -- One row: the octets that were taken, what held at each read call, and why this was the answer.
-pub record RowRead {T : Type 0} (depth : ℕ) (signed : Bool) (width row : ℕ) (old new : Outside) (before after : List ℤ) (result : Result T RowFault) : Type 0 where
+pub record RowRead {T : Type 0} (depth : ℕ) (signed : Bool) (width row : ℕ) (old new : Outside) (before after : List ℤ) (result : Result T RowFault) : Type
+    0 where
   pub took : List ℕ
   pub since : Exchange old new took [] [] (InRow depth signed width took)
   pub answer : RowAnswers depth signed width row old new took before after result

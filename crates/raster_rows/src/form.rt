@@ -1,6 +1,7 @@
 // The octets of the pixels of a raster.
 ghost use Rattle.std.specs.Prelude.{◌++◌, take, ◌≡◌, ◌+◌, ◌*◌, ◌/◌, ◌^◌, ◌-◌, ◌≤◌, ◌≤ℤ◌, ◌<◌, ◌↔◌, pos, length, IsTrue, false};
-ghost use Rattle.raster_rows.specs.Pixels.{IsDepth, IsPixel, pixel_size, sign_weight, least_pixel, greatest_pixel, number_at, value_of, pixel_at, number_of, clamped, octets_of};
+ghost use Rattle.raster_rows.specs.Pixels.{IsDepth, IsPixel, pixel_size, sign_weight, least_pixel, greatest_pixel, number_at, value_of, pixel_at, number_of};
+ghost use Rattle.raster_rows.specs.Pixels.{clamped, octets_of};
 
 /// The greatest number of octets that a read asks for, and that a piece which is given has.
 pub(crate) const PIECE: usize = 4096;

@@ -47,7 +47,8 @@ impl GatheredRows {
         requires few { length pixels.now < 2 ^ 32 }
         requires room { self.old.held + length pixels.now * pixel_size (depth_of self.old) ≤ length self.old.octets }
         ensures alike { IsAlike self.old self.new }
-        ensures octets { waiting_of self.new ≡ waiting_of self.old ++ pixel_octets (depth_of self.old) (map (clamped (depth_of self.old) (is_signed self.old)) pixels.now) }
+        ensures octets { waiting_of self.new ≡ waiting_of self.old ++ pixel_octets (depth_of self.old)
+            (map (clamped (depth_of self.old) (is_signed self.old)) pixels.now) }
     {
         let count = spell_pixels(self.form, pixels, &mut self.octets[self.held..]);
         self.held += count;

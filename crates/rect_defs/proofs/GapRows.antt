@@ -1,5 +1,6 @@
 -- The runs of missing blocks that begin from a block on, one after another.
-use Rattle.std.proofs.Common.{◌≡◌, ◌⊎◌, inl, inr, ◌≤◌, ◌<◌, ◌+◌, ◌-◌, ◌*◌, ◌/◌, ◌%◌, ℕ, zero, suc, Bool, true, false, List, [], ◌∷◌, ◌++◌, map, sym, ap, subst, ◌∙◌, arith, append_assoc, cond, ◌==◌, ◌&&◌, ◌||◌, not, max, min, filter, mul-le-mul_right}
+use Rattle.std.proofs.Common.{◌≡◌, ◌⊎◌, inl, inr, ◌≤◌, ◌<◌, ◌+◌, ◌-◌, ◌*◌, ◌/◌, ◌%◌, ℕ, zero, suc, Bool, true, false, List, [], ◌∷◌, ◌++◌, map, sym, ap}
+use Rattle.std.proofs.Common.{subst, ◌∙◌, arith, append_assoc, cond, ◌==◌, ◌&&◌, ◌||◌, not, max, min, filter, mul-le-mul_right}
 use Rattle.std.specs.List.{range_with_len, prefix_len}
 use Rattle.std.proofs.lemmas.Bool.{cases_lt, false≢true, and_from}
 use Rattle.std.proofs.lemmas.Bool.Decides.{nat_tests}
@@ -106,13 +107,16 @@ module _ (rows width : ℕ) (lost : ℕ → Bool) (m : ℕ) (some : 0 < width) w
       let run = run_is r p q x in
       let last : p % c + run_length c lost p - 1 ≡ q - r * c = omega (arith, at.1, run, low, order) in
       let rect : rect_from rows width lost p ≡ reach_of rows width r (p - r * c) (q - r * c) =
-      ap (λ n. reach_of rows width n (p % c) (p % c + run_length c lost p - 1)) at.0 ∙ ap (λ n. reach_of rows width r n (p % c + run_length c lost p - 1)) at.1 ∙ ap (reach_of rows width r (p - r * c)) last in
+      ap (λ n. reach_of rows width n (p % c) (p % c + run_length c lost p - 1)) at.0 ∙ ap (λ n. reach_of rows width r n (p % c + run_length c lost p - 1))
+      at.1 ∙ ap (reach_of rows width r (p - r * c)) last in
       let inner : after (p + 1) ≡ after (p + 1 + (q - p)) =
       past (q - p) (p + 1) (omega (arith, order, within))
-      (λ block from to. inner_none r block (omega (arith, from, low)) (omega (arith, to, order, high)) (x.missing.at (block - 1) (omega (arith, from)) (omega (arith, to, from, order)))) in
+      (λ block from to. inner_none r block (omega (arith, from, low)) (omega (arith, to, order, high))
+      (x.missing.at (block - 1) (omega (arith, from)) (omega (arith, to, from, order)))) in
       first_one p (omega (arith, order, within)) x.begins_it
       ∙ ap (λ z. kept (z ∷ []) ++ after (p + 1)) rect
-      ∙ ap (λ zs. kept (reach_of rows width r (p - r * c) (q - r * c) ∷ []) ++ zs) (inner ∙ ap after (let e : p + 1 + (q - p) ≡ q + 1 = omega (arith, order) in e))
+      ∙ ap (λ zs. kept (reach_of rows width r (p - r * c) (q - r * c) ∷ []) ++ zs)
+      (inner ∙ ap after (let e : p + 1 + (q - p) ≡ q + 1 = omega (arith, order) in e))
 
   -- ---- a gap, from one of its block rows on
 
@@ -140,11 +144,13 @@ module _ (rows width : ℕ) (lost : ℕ → Bool) (m : ℕ) (some : 0 < width) w
   joined_one : (x : Rect) (ys : List Rect) (rest : List Rect) → kept (x ∷ []) ++ (kept ys ++ rest) ≡ kept (x ∷ ys) ++ rest
   joined_one x ys rest = sym (append_assoc (kept (x ∷ [])) (kept ys) rest) ∙ ap (λ zs. zs ++ rest) (sym (one_more (has_pixels rows width x) x (kept ys)))
 
-  part_here : (gap : Gap) (r p q : ℕ) → p ≡ max gap.first (r * c) → q ≡ min gap.last (r * c + c - 1) → after p ≡ kept (reach_of rows width r (p - r * c) (q - r * c) ∷ []) ++ after (q + 1) →
+  part_here : (gap : Gap) (r p q : ℕ) → p ≡ max gap.first (r * c) → q ≡ min gap.last (r * c + c - 1) →
+      after p ≡ kept (reach_of rows width r (p - r * c) (q - r * c) ∷ []) ++ after (q + 1) →
       after p ≡ kept (gap_rect rows width gap r ∷ []) ++ after (q + 1)
   part_here gap r p q first last e = grind (arith, nat_tests)
 
-  pub rows_of_gap : (gap : Gap) (k r p : ℕ) → IsGap gap → PartAt gap k r p → after p ≡ kept (map (gap_rect rows width gap) (range_with_len r (suc k))) ++ after (gap.last + 1)
+  pub rows_of_gap : (gap : Gap) (k r p : ℕ) → IsGap gap → PartAt gap k r p → after p ≡ kept (map (gap_rect rows width gap) (range_with_len r (suc k)))
+      ++ after (gap.last + 1)
   rows_of_gap gap zero r p is at =
       let low = at.low in
       let here : r ≡ gap.last / c = let last = at.last in omega (arith, last) in
@@ -185,7 +191,8 @@ module _ (rows width : ℕ) (lost : ℕ → Bool) (m : ℕ) (some : 0 < width) w
       let p' = (r + 1) * c in
       let there : lost p' ≡ true = is.missing.at p' (omega (arith, first, high)) (omega (arith, far)) in
       let over = next_row (r + 1) in
-      let column : (p' % c == 0) ≡ true = let e = (in_row c (r + 1) p' (omega arith) (omega (arith, over, some_c))).1 in let none : p' % c ≡ 0 = omega (arith, e) in grind (arith, nat_tests) in
+      let column : (p' % c == 0) ≡ true = let e = (in_row c (r + 1) p' (omega arith) (omega (arith, over, some_c))).1 in let none : p' % c ≡ 0 =
+      omega (arith, e) in grind (arith, nat_tests) in
       let rest = rows_of_gap gap k (r + 1) p' is record {
         low = omega arith;
         high = omega (arith, over, some_c);
@@ -199,14 +206,16 @@ module _ (rows width : ℕ) (lost : ℕ → Bool) (m : ℕ) (some : 0 < width) w
       ∙ joined_one (gap_rect rows width gap r) (map (gap_rect rows width gap) (range_with_len (r + 1) (suc k))) (after (gap.last + 1))
 
   -- the whole gap
-  pub gap_whole : (gap : Gap) → IsGap gap → gap.first ≤ gap.last → begins gap.first ≡ true → after gap.first ≡ kept (map (gap_rect rows width gap) (range_with_len (gap.first / c) (gap.last / c + 1 - gap.first / c))) ++ after (gap.last + 1)
+  pub gap_whole : (gap : Gap) → IsGap gap → gap.first ≤ gap.last → begins gap.first ≡ true →
+      after gap.first ≡ kept (map (gap_rect rows width gap) (range_with_len (gap.first / c) (gap.last / c + 1 - gap.first / c))) ++ after (gap.last + 1)
   gap_whole gap is order starts =
       let r = gap.first / c in
       let e = div-add-mod' gap.first c in
       let few = mod_below gap.first c wide in
       let next = next_row r in
       let rises : r ≤ gap.last / c = elim (cases_lt (gap.last / c) r) [
-        | inl less ↦ let up = last_high gap in let over : (gap.last / c + 1) * c ≤ r * c = mul-le-mul_right c (omega (arith, less)) in absurd (omega (arith, up, over, e, order))
+        | inl less ↦ let up = last_high gap in let over : (gap.last / c + 1) * c ≤ r * c =
+            mul-le-mul_right c (omega (arith, less)) in absurd (omega (arith, up, over, e, order))
         | inr le ↦ le
       ] in
       rows_of_gap gap (gap.last / c - r) r gap.first is record {
@@ -217,4 +226,5 @@ module _ (rows width : ℕ) (lost : ℕ → Bool) (m : ℕ) (some : 0 < width) w
         begins_it = starts;
         last = omega (arith, rises);
       }
-      ∙ ap (λ n. kept (map (gap_rect rows width gap) (range_with_len r n)) ++ after (gap.last + 1)) (let same : suc (gap.last / c - r) ≡ gap.last / c + 1 - r = omega (arith, rises) in same)
+      ∙ ap (λ n. kept (map (gap_rect rows width gap) (range_with_len r n)) ++ after (gap.last + 1))
+      (let same : suc (gap.last / c - r) ≡ gap.last / c + 1 - r = omega (arith, rises) in same)

@@ -3,6 +3,6 @@ pub mod Runs
 pub mod RectCovers
 pub mod RectReach
 pub mod SameLost
-mod Examples
+mod WorkedRects
 pub mod GapRows
 pub mod GapRects

@@ -1,5 +1,6 @@
 -- The rectangles have exactly the pixels that missing blocks reach.
-use Rattle.std.proofs.Common.{◌≡◌, ◌≤◌, ◌<◌, ◌+◌, ◌-◌, ◌*◌, ◌/◌, ◌%◌, ℕ, Bool, true, false, List, sym, ap, subst, ◌∙◌, refl, arith, ℤ, ◌==◌, ◌&&◌, ◌||◌, not, nat_le, nat_lt, min, Option, mul-le-mul_right}
+use Rattle.std.proofs.Common.{◌≡◌, ◌≤◌, ◌<◌, ◌+◌, ◌-◌, ◌*◌, ◌/◌, ◌%◌, ℕ, Bool, true, false, List, sym, ap, subst, ◌∙◌, refl, arith, ℤ, ◌==◌, ◌&&◌, ◌||◌}
+use Rattle.std.proofs.Common.{not, nat_le, nat_lt, min, Option, mul-le-mul_right}
 use Rattle.std.specs.List.{range_with_len, list_any}
 use Rattle.std.proofs.lemmas.Bool.{false≢true, and_from, leb-true, le-leb, lt-ltb}
 use Rattle.std.proofs.lemmas.Nat.{div-add-mod', mod_below, div_below}
@@ -41,7 +42,8 @@ is_in rows width r c d i j e =
     let y = leb-true j rect.last_column (and_second left right columns_are) in
     record { row_low = omega (arith, a); row_high = omega (arith, b); column_low = omega (arith, x); column_high = omega (arith, y) }
 
-put_in : (rows width r c d i j : ℕ) → i < rows → j < width → c ≤ d → IsIn r c d i j → (has_pixels rows width (reach_of rows width r c d) && has_pixel i j (reach_of rows width r c d)) ≡ true
+put_in : (rows width r c d i j : ℕ) → i < rows → j < width → c ≤ d → IsIn r c d i j →
+    (has_pixels rows width (reach_of rows width r c d) && has_pixel i j (reach_of rows width r c d)) ≡ true
 put_in rows width r c d i j inside across rising is = grind (arith, nat_tests, and_from, lt-ltb, le-leb)
 
 -- a column among c to d that reaches a pixel in it
@@ -101,9 +103,11 @@ module _ (rows width block_rows : ℕ) (lost : ℕ → Bool) (i j : ℕ) (inside
       let m = run_length columns lost b in
       let starts = and_first (begins_run columns lost b) (has_pixels rows width (rect b) && has_pixel i j (rect b)) h.passes in
       let e = and_first (lost b) ((b % columns == 0) || not (lost (b - 1))) starts in
-      let pixel = and_second (has_pixels rows width (rect b)) (has_pixel i j (rect b)) (and_second (begins_run columns lost b) (has_pixels rows width (rect b) && has_pixel i j (rect b)) h.passes) in
+      let pixel = and_second (has_pixels rows width (rect b)) (has_pixel i j (rect b))
+      (and_second (begins_run columns lost b) (has_pixels rows width (rect b) && has_pixel i j (rect b)) h.passes) in
       let few : c < columns = mod_below b columns some in
-      let one : 1 ≤ m = prefix_least lost b (columns - c) 1 (omega (arith, few)) (λ k low high. let same : k ≡ b = omega (arith, low, high) in ap lost same ∙ e) in
+      let one : 1 ≤ m = prefix_least lost b (columns - c) 1 (omega (arith, few)) (λ k low high. let same : k ≡ b =
+      omega (arith, low, high) in ap lost same ∙ e) in
       let most : m ≤ columns - c = prefix_most lost b (columns - c) in
       let is = is_in rows width r c (c + m - 1) i j pixel in
       let near = nearest c (c + m - 1) j (omega (arith, one)) is.column_low is.column_high in
@@ -173,11 +177,13 @@ module _ (g : Geometry) (received : ℕ → Option (List (List ℤ))) (n i j : �
       let row = and_first (reaches t i) (reaches s j) (and_second (is_lost g received b) (reaches t i && reaches s j) h.passes) in
       let whole : t * width_in + s ≡ b = div-add-mod' b width_in in
       let low : t < height_in = div_below b width_in height_in wide (omega (arith, h.most)) in
-      let missing : is_missing g received t ≡ true = any_hit (λ column. is_lost g received (t * width_in + column)) 0 width_in s (omega arith) (omega (arith, mod_below b width_in wide)) (ap (is_lost g received) whole ∙ e) in
+      let missing : is_missing g received t ≡ true = any_hit (λ column. is_lost g received (t * width_in + column)) 0 width_in s (omega arith)
+      (omega (arith, mod_below b width_in wide)) (ap (is_lost g received) whole ∙ e) in
       and_from (nat_lt i (height g n)) (list_any (λ r. reaches r i) (missing_rows g received n)) (lt-ltb i (height g n) inside)
       (ap (list_any (λ r. reaches r i)) (missing_below-is g received height_in)
       ∙ any_filter (λ r. reaches r i) (is_missing g received) (range_with_len 0 height_in)
-      ∙ any_hit (λ r. is_missing g received r && reaches r i) 0 height_in t (omega arith) (omega (arith, low)) (and_from (is_missing g received t) (reaches t i) missing row))
+      ∙ any_hit (λ r. is_missing g received r && reaches r i) 0 height_in t (omega arith) (omega (arith, low))
+      (and_from (is_missing g received t) (reaches t i) missing row))
 
   pub undamaged : is_covered (damage g received n) i ≡ false → has_some (rects g received n) i j ≡ false
   undamaged e = covers (height g n) g.width height_in (is_lost g received) i j inside across ∙ by (is_reached height_in width_in (is_lost g received) i j) refl

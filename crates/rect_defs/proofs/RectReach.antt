@@ -1,5 +1,6 @@
 -- No pixel outside the rectangles depends on what was lost.
-use Rattle.std.proofs.Common.{◌≡◌, ◌≤◌, ◌<◌, ◌+◌, ◌-◌, ◌*◌, ◌/◌, ◌%◌, ℕ, ℤ, Bool, true, false, List, inl, inr, refl, sym, ap, ◌∙◌, arith, ◌&&◌, ◌||◌, not, nat_le, Option, is_some, mul-le-mul_right}
+use Rattle.std.proofs.Common.{◌≡◌, ◌≤◌, ◌<◌, ◌+◌, ◌-◌, ◌*◌, ◌/◌, ◌%◌, ℕ, ℤ, Bool, true, false, List, inl, inr, refl, sym, ap, ◌∙◌, arith, ◌&&◌, ◌||◌, not}
+use Rattle.std.proofs.Common.{nat_le, Option, is_some, mul-le-mul_right}
 use Rattle.std.proofs.lemmas.Bool.{false≢true, or_parts, and_from, leb-true}
 use Rattle.std.proofs.lemmas.Bool.Decides.{nat_tests}
 use Rattle.std.proofs.lemmas.Nat.{div-mul-add, mod-mul-add}
@@ -52,7 +53,8 @@ are_tall g n range = elim range.rows [
       }
 ]
 
-module _ (g : Geometry) (received : ℕ → Option (List (List ℤ))) (n : ℕ) (p q : ℕ → ℕ → ℤ) (range : IsGeometryInRange g) (same : SameWhereReceived g received n p q) where
+module _ (g : Geometry) (received : ℕ → Option (List (List ℤ))) (n : ℕ) (p q : ℕ → ℕ → ℤ) (range : IsGeometryInRange g)
+    (same : SameWhereReceived g received n p q) where
   abbrev r : ℕ
   r = block_rows g n
 
@@ -79,11 +81,13 @@ module _ (g : Geometry) (received : ℕ → Option (List (List ℤ))) (n : ℕ) 
   same_received = record {
     block = λ t s tall few kept.
         let two = or_parts (is_lost g received (t * c + s)) (nat_le r t) kept in
-        same_block p q c g.weights.shifts t s (λ i small. same.at (t * c + s) i (low t s (below t two.1) few) small (not_lost (is_some (received ((t * c + s) / g.segment))) two.0));
+        same_block p q c g.weights.shifts t s (λ i small. same.at (t * c + s) i (low t s (below t two.1) few) small
+        (not_lost (is_some (received ((t * c + s) / g.segment))) two.0));
   }
 
   -- none of these blocks reaches a pixel that is in no rectangle
-  unreached : (i j t s : ℕ) → i < height g n → j < g.width → has_some (rects g received n) i j ≡ false → t < band_rows g n → s < c → free t s ≡ true → Reaches t i → Reaches s j → ⊥
+  unreached : (i j t s : ℕ) → i < height g n → j < g.width → has_some (rects g received n) i j ≡ false → t < band_rows g n → s < c → free t s ≡ true →
+      Reaches t i → Reaches s j → ⊥
   unreached i j t s inside across none tall few gone row column = by (is_lost g received (t * c + s)) (nat_le r t) refl refl gone
     where
       near : 8 * t ≤ i + 21
@@ -96,8 +100,10 @@ module _ (g : Geometry) (received : ℕ → Option (List (List ℤ))) (n : ℕ) 
           let b = t * c + s in
           let hits : (is_lost g received b && (reaches (b / c) i && reaches (b % c) j)) ≡ true =
           and_from (is_lost g received b) (reaches (b / c) i && reaches (b % c) j) is
-          (and_from (reaches (b / c) i) (reaches (b % c) j) (ap (λ n. reaches n i) (div-mul-add t c s few) ∙ row) (ap (λ n. reaches n j) (mod-mul-add t c s few) ∙ column)) in
-          let hit = any_hit (λ block. is_lost g received block && (reaches (block / c) i && reaches (block % c) j)) 0 (r * c) b (omega arith) (omega (arith, low t s (below t past) few)) hits in
+          (and_from (reaches (b / c) i) (reaches (b % c) j) (ap (λ n. reaches n i) (div-mul-add t c s few) ∙ row)
+          (ap (λ n. reaches n j) (mod-mul-add t c s few) ∙ column)) in
+          let hit = any_hit (λ block. is_lost g received block && (reaches (block / c) i && reaches (block % c) j)) 0 (r * c) b (omega arith)
+          (omega (arith, low t s (below t past) few)) hits in
           false≢true (sym none ∙ covers (height g n) g.width r (is_lost g received) i j inside across ∙ hit)
 
   pub stays : SameOutsideRects (height g n) g.width (rects g received n) (picture_with g p n) (picture_with g q n)
@@ -106,6 +112,7 @@ module _ (g : Geometry) (received : ℕ → Option (List (List ℤ))) (n : ℕ) 
         let tall = are_tall g n range in
         let wide = three-le-block_count g.width range.width.0 in
         simp picture_of-is (ap (clamped g.depth g.signed)
-        (blocks-reach (bands p) (bands q) free (band_rows g n) c i j tall.some (omega (arith, wide)) (omega (arith, inside, tall.rows)) (omega (arith, across)) same_received
+        (blocks-reach (bands p) (bands q) free (band_rows g n) c i j tall.some (omega (arith, wide)) (omega (arith, inside, tall.rows))
+        (omega (arith, across)) same_received
         (λ t s under few gone row column. unreached i j t s inside across none under few gone row column)));
   }

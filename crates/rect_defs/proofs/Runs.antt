@@ -40,7 +40,8 @@ module _ (columns : ℕ) (lost : ℕ → Bool) where
   }
 
   -- or at the beginning of the run of the block before it
-  further : (block column : ℕ) → block % columns ≡ suc column → (block - 1) % columns ≡ column → suc column ≤ block → lost block ≡ true → RunOf (block - 1) → RunOf block
+  further : (block column : ℕ) → block % columns ≡ suc column → (block - 1) % columns ≡ column → suc column ≤ block → lost block ≡ true →
+      RunOf (block - 1) → RunOf block
   further block column at before some e r = record {
     first = r.first;
     begins = r.begins;
@@ -71,8 +72,10 @@ module _ (columns : ℕ) (lost : ℕ → Bool) where
       by false f rest = here block e (or_not (block % columns == 0) (lost (block - 1)) f)
 
   -- it continues up to the block
-  pub run_long : (block : ℕ) → 0 < columns → (r : RunOf block) → SameRow columns block r.first (block % columns + r.first - block) → block < r.first + run_length columns lost r.first
+  pub run_long : (block : ℕ) → 0 < columns → (r : RunOf block) → SameRow columns block r.first (block % columns + r.first - block) →
+      block < r.first + run_length columns lost r.first
   run_long block some r same =
       let low : block % columns < columns = mod_below block columns some in
-      let m = prefix_least lost r.first (columns - r.first % columns) (block - r.first + 1) (omega (arith, same.column_is, low, r.most, r.least)) (λ k from to. r.going k from (omega (arith, to, r.most))) in
+      let m = prefix_least lost r.first (columns - r.first % columns) (block - r.first + 1) (omega (arith, same.column_is, low, r.most, r.least))
+      (λ k from to. r.going k from (omega (arith, to, r.most))) in
       omega (arith, m, r.most)

@@ -1,5 +1,6 @@
 -- Tests over lists of numbers.
-use Rattle.std.proofs.Common.{◌≡◌, ◌≤◌, ◌<◌, ◌+◌, ℕ, zero, suc, Bool, true, false, List, [], ◌∷◌, map, refl, sym, ap, ◌∙◌, inl, inr, arith, cond, ◌&&◌, ◌||◌, filter}
+use Rattle.std.proofs.Common.{◌≡◌, ◌≤◌, ◌<◌, ◌+◌, ℕ, zero, suc, Bool, true, false, List, [], ◌∷◌, map, refl, sym, ap, ◌∙◌, inl, inr, arith, cond, ◌&&◌}
+use Rattle.std.proofs.Common.{◌||◌, filter}
 use Rattle.std.specs.List.{range_with_len, list_any, prefix_len}
 use Rattle.std.proofs.lemmas.Bool.{cases_lt, false≢true, or_right, or_left}
 use Rattle.std.proofs.lemmas.List.FromFn.{length-range_with_len, get_or-range_with_len}
@@ -27,7 +28,8 @@ pub any_filter : {A : Type 0} (f p : A → Bool) (xs : List A) → list_any f (f
 any_filter f p [] = refl
 any_filter f p (x ∷ xs) = by (p x) (any_filter f p xs)
   where
-    by : (b : Bool) → list_any f (filter p xs) ≡ list_any (λ y. p y && f y) xs → list_any f (cond b (x ∷ filter p xs) (filter p xs)) ≡ ((b && f x) || list_any (λ y. p y && f y) xs)
+    by : (b : Bool) → list_any f (filter p xs) ≡ list_any (λ y. p y && f y) xs → list_any f (cond b (x ∷ filter p xs) (filter p xs))
+        ≡ ((b && f x) || list_any (λ y. p y && f y) xs)
     by true e = ap (λ b. f x || b) e
     by false e = e
 
@@ -42,7 +44,8 @@ pub any_some : (f : ℕ → Bool) (a n : ℕ) → list_any f (range_with_len a n
 any_some f a zero e = absurd (false≢true e)
 any_some f a (suc n) e = by (f a) refl (any_some f (a + 1) n) e
   where
-    by : (b : Bool) → f a ≡ b → (list_any f (range_with_len (a + 1) n) ≡ true → Hit f (a + 1) n) → (b || list_any f (range_with_len (a + 1) n)) ≡ true → Hit f a (suc n)
+    by : (b : Bool) → f a ≡ b → (list_any f (range_with_len (a + 1) n) ≡ true → Hit f (a + 1) n) → (b || list_any f (range_with_len (a + 1) n)) ≡ true →
+        Hit f a (suc n)
     by true t rest e = record { place = a; least = omega arith; most = omega arith; passes = t }
     by false t rest e =
         let h = rest e in
@@ -80,15 +83,18 @@ prefix_same p q a (suc n) same =
     ∙ ap (λ m. cond (q a) (1 + m) 0) (prefix_same p q (a + 1) n (λ k low high. same k (omega (arith, low)) (omega (arith, high))))
 
 -- tests that agree choose the same, and what agrees there makes the same of them
-pub chosen_same : {A : Type 0} (f g : ℕ → A) (p q : ℕ → Bool) (a n : ℕ) → ((k : ℕ) → a ≤ k → k < a + n → p k ≡ q k) → ((k : ℕ) → a ≤ k → k < a + n → f k ≡ g k) →
+pub chosen_same : {A : Type 0} (f g : ℕ → A) (p q : ℕ → Bool) (a n : ℕ) → ((k : ℕ) → a ≤ k → k < a + n → p k ≡ q k) →
+    ((k : ℕ) → a ≤ k → k < a + n → f k ≡ g k) →
     map f (filter p (range_with_len a n)) ≡ map g (filter q (range_with_len a n))
 chosen_same f g p q a zero tests made = refl
 chosen_same f g p q a (suc n) tests made =
     by (p a) (q a) (tests a (omega arith) (omega arith)) (made a (omega arith) (omega arith))
-    (chosen_same f g p q (a + 1) n (λ k low high. tests k (omega (arith, low)) (omega (arith, high))) (λ k low high. made k (omega (arith, low)) (omega (arith, high))))
+    (chosen_same f g p q (a + 1) n (λ k low high. tests k (omega (arith, low)) (omega (arith, high)))
+    (λ k low high. made k (omega (arith, low)) (omega (arith, high))))
   where
     by : (b c : Bool) → b ≡ c → f a ≡ g a → map f (filter p (range_with_len (a + 1) n)) ≡ map g (filter q (range_with_len (a + 1) n)) →
-        map f (cond b (a ∷ filter p (range_with_len (a + 1) n)) (filter p (range_with_len (a + 1) n))) ≡ map g (cond c (a ∷ filter q (range_with_len (a + 1) n)) (filter q (range_with_len (a + 1) n)))
+        map f (cond b (a ∷ filter p (range_with_len (a + 1) n)) (filter p (range_with_len (a + 1) n)))
+        ≡ map g (cond c (a ∷ filter q (range_with_len (a + 1) n)) (filter q (range_with_len (a + 1) n)))
     by true true e h rest = ap (λ z. z ∷ map f (filter p (range_with_len (a + 1) n))) h ∙ ap (λ zs. g a ∷ zs) rest
     by true false e h rest = absurd (false≢true (sym e))
     by false true e h rest = absurd (false≢true e)

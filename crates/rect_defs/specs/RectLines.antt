@@ -6,7 +6,8 @@ use Rattle.rect_defs.specs.declared.rect.Rect.{Rect}
 -- the line of a rectangle: its rows, then its columns
 abbrev pub rect_line : Rect → List ℕ
 rect_line rect =
-    decimal rect.first_row ++ codes "-" ++ decimal rect.last_row ++ codes " " ++ decimal rect.first_column ++ codes "-" ++ decimal rect.last_column ++ codes "\n"
+    decimal rect.first_row ++ codes "-" ++ decimal rect.last_row ++ codes " " ++ decimal rect.first_column ++ codes "-" ++ decimal rect.last_column
+    ++ codes "\n"
 
 -- the lines of all
 abbrev pub rect_lines : List Rect → List ℕ

@@ -1,6 +1,7 @@
 // The laws of rectangles.
 ghost use Rattle.rect_defs.specs.Gaps.{GapsGiveRects};
 ghost use Rattle.rect_defs.specs.RectLaws.{RectsAreReach, LossesStayInRects};
+ghost use Rattle.rect_defs.specs.Worked.{WorkedRects};
 
 /// The rectangles have exactly the pixels that missing blocks reach.
 pub const fn rects_are_reach()
@@ -15,4 +16,9 @@ pub const fn losses_stay_in_rects()
 /// The rectangles of the missing blocks are those of the parts of their gaps in block rows.
 pub const fn gaps_give_rects()
     ensures { GapsGiveRects }
+{}
+
+/// Rectangles of missing blocks that are worked out by hand are what the definition gives.
+pub const fn worked_rects()
+    ensures { WorkedRects }
 {}

@@ -1,5 +1,6 @@
 -- Octets that decide an answer decide it whatever follows, and fewer decide nothing.
-use Rattle.std.proofs.Common.{◌≡◌, ◌≢◌, ℕ, ◌+◌, ◌-◌, ◌*◌, ◌==◌, ◌<◌, ◌≤◌, if◌then◌else◌, nat_lt, Bool, true, false, List, [], ◌++◌, length, take, refl, sym, ap, ◌∙◌, arith, inl, inr, Option, Some, None, length-append, length-take, append_assoc, append-nil, take_all}
+use Rattle.std.proofs.Common.{◌≡◌, ◌≢◌, ℕ, ◌+◌, ◌-◌, ◌*◌, ◌==◌, ◌<◌, ◌≤◌, if◌then◌else◌, nat_lt, Bool, true, false, List, [], ◌++◌, length, take, refl, sym}
+use Rattle.std.proofs.Common.{ap, ◌∙◌, arith, inl, inr, Option, Some, None, length-append, length-take, append_assoc, append-nil, take_all}
 use Rattle.std.proofs.lemmas.Bool.{cases_lt}
 use Rattle.std.proofs.lemmas.Bool.Decides.{nat_tests}
 use Rattle.std.proofs.lemmas.List.{take-append-le}
@@ -14,8 +15,8 @@ use Rattle.item_defs.specs.Outcomes.{Outcome, whole, cut, refused}
 use Rattle.item_defs.specs.Scripts.{run}
 use Rattle.item_defs.specs.Following.{SaysWhat}
 use Rattle.bit_pipe.specs.ScriptSources.{Gets}
-use Rattle.text_defs.specs.Segments.{segment_script}
-use Rattle.text_defs.specs.TextLaws.{SegmentsAreRead}
+use Rattle.segment_defs.specs.Segments.{segment_script}
+use Rattle.segment_defs.specs.TextLaws.{SegmentsAreRead}
 use Rattle.segment_code.specs.TextAnswers.{TextAnswer, gives, Decided, if_enough, bits_within, whole_octets, answer_in}
 use Rattle.segment_code.specs.Laws.{TextsEndThere}
 use Rattle.segment_code.proofs.Deciding.{Blocks, there_is, some_limit, whole_answer, refused_answer, cut_answer, cut_at_limit}

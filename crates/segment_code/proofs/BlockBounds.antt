@@ -1,5 +1,6 @@
 -- The bounds of the numbers of blocks, and the depths within them.
-use Rattle.std.proofs.Common.{◌≡◌, ◌⊎◌, ℕ, ◌+◌, ◌-◌, ◌*◌, ◌%◌, ◌^◌, ◌<◌, ◌≤◌, List, [], ◌++◌, length, drop, get_or, refl, sym, ap, subst, ◌∙◌, arith, inl, inr, length-drop, length-take, take_all, ℤ, pos, negsuc, unsigned_abs}
+use Rattle.std.proofs.Common.{◌≡◌, ◌⊎◌, ℕ, ◌+◌, ◌-◌, ◌*◌, ◌%◌, ◌^◌, ◌<◌, ◌≤◌, List, [], ◌++◌, length, drop, get_or, refl, sym, ap, subst, ◌∙◌, arith, inl}
+use Rattle.std.proofs.Common.{inr, length-drop, length-take, take_all, ℤ, pos, negsuc, unsigned_abs}
 use Rattle.std.proofs.lemmas.Bool.{cases_lt}
 use Rattle.std.proofs.lemmas.List.{get_or-take, get_or-drop, get_or_default, get_or_append_left, get_or-append_right, length-append}
 use Rattle.std.proofs.lemmas.Bool.Decides.{nat_tests}
@@ -24,7 +25,8 @@ dc_within cells r bounded lt =
     small (negsuc a) (inl below) = let s = size_of-least a 27 (omega (arith, below)) in omega (arith, s)
     small z (inr least) = rw (least.1) (let s = size_of-least (2 ^ 27 - 1) 27 (omega arith) in omega (arith, s))
 
-ac_cell : (cells : List ℤ) (r j : ℕ) → AreBounded cells → 64 * r + 64 ≤ length cells → 1 ≤ j → j < 64 → size_of (unsigned_abs (get_or cells (64 * r + j) (pos 0))) ≤ 27
+ac_cell : (cells : List ℤ) (r j : ℕ) → AreBounded cells → 64 * r + 64 ≤ length cells → 1 ≤ j → j < 64 →
+    size_of (unsigned_abs (get_or cells (64 * r + j) (pos 0))) ≤ 27
 ac_cell cells r j bounded le low high = grind (arith, nat_tests, size_of-least)
 
 pub ac_within : (cells : List ℤ) (r : ℕ) → AreBounded cells → 64 * r + 64 ≤ length cells → block_depth (block_at cells r) ≤ 27
@@ -34,7 +36,8 @@ ac_within cells r bounded le = greatest-within (λ z. size_of (unsigned_abs z)) 
     each k d lt =
         let inside : 1 + k < 64 = omega (arith, length-drop 1 (block_at cells r), length-take 64 (drop (64 * r) cells)) in
         let past : get_or (drop 1 (block_at cells r)) k d ≡ get_or (block_at cells r) (1 + k) d = get_or-drop 1 (block_at cells r) k d in
-        let default : get_or (block_at cells r) (1 + k) d ≡ get_or (block_at cells r) (1 + k) (pos 0) = get_or_default (block_at cells r) (1 + k) d (pos 0) (omega (arith, lt, length-drop 1 (block_at cells r))) in
+        let default : get_or (block_at cells r) (1 + k) d ≡ get_or (block_at cells r) (1 + k) (pos 0) =
+        get_or_default (block_at cells r) (1 + k) d (pos 0) (omega (arith, lt, length-drop 1 (block_at cells r))) in
         let cell = past ∙ default ∙ cell_of cells r (1 + k) inside in
         subst (λ z. size_of (unsigned_abs z) ≤ 27) (sym cell) (ac_cell cells r (1 + k) bounded le (omega arith) inside)
 
@@ -56,7 +59,8 @@ pub bounded_push : (cells block : List ℤ) (n : ℕ) → length cells ≡ 64 * 
 bounded_push cells block n whole old new = record {
   at = λ i lt. elim (cases_lt i (length cells)) [
     | inl low ↦ rw get_or_append_left (old.at i low)
-    | inr high ↦ rw (get_or-append_right cells block (length cells) i (pos 0) refl high) (moved i high (new.at (i - length cells) (omega (arith, lt, high, length-append cells block))))
+    | inr high ↦ rw (get_or-append_right cells block (length cells) i (pos 0) refl high)
+        (moved i high (new.at (i - length cells) (omega (arith, lt, high, length-append cells block))))
   ];
 }
   where

@@ -1,5 +1,6 @@
 -- Lists of blocks, and one block more.
-use Rattle.std.proofs.Common.{◌≡◌, ℕ, ◌+◌, ◌*◌, ◌/◌, ◌<◌, ◌≤◌, List, [], ◌∷◌, ◌++◌, length, take, drop, map, sym, ap, ◌∙◌, arith, ℤ, length-drop, take_all, get_or}
+use Rattle.std.proofs.Common.{◌≡◌, ℕ, ◌+◌, ◌*◌, ◌/◌, ◌<◌, ◌≤◌, List, [], ◌∷◌, ◌++◌, length, take, drop, map, sym, ap, ◌∙◌, arith, ℤ, length-drop, take_all}
+use Rattle.std.proofs.Common.{get_or}
 use Rattle.std.specs.List.{range_with_len}
 use Rattle.std.proofs.Math.Seq.{drop-append_seam}
 use Rattle.std.proofs.lemmas.List.{ext_get_or, drop-append-le, take-append-le, length-append}
@@ -22,7 +23,8 @@ module _ (cells block : List ℤ) (n : ℕ) (whole : length cells ≡ 64 * n) (s
       ap (take 64) (drop-append-le (64 * r) cells block le) ∙ take-append-le 64 (drop (64 * r) cells) block long
 
   block_after : block_at (cells ++ block) n ≡ block
-  block_after = ap (λ k. take 64 (drop k (cells ++ block))) (sym whole) ∙ ap (take 64) (drop-append_seam cells block) ∙ take_all 64 block (omega (arith, sixty_four))
+  block_after = ap (λ k. take 64 (drop k (cells ++ block))) (sym whole) ∙ ap (take 64) (drop-append_seam cells block)
+      ∙ take_all 64 block (omega (arith, sixty_four))
 
   before : map (block_at (cells ++ block)) (range_with_len 0 n) ≡ map (block_at cells) (range_with_len 0 n)
   before =
@@ -31,7 +33,8 @@ module _ (cells block : List ℤ) (n : ℕ) (whole : length cells ≡ 64 * n) (s
       let long : length (map f (range_with_len 0 n)) ≡ n = length-map-range_with_len f 0 n in
       let each : (r : ℕ) → r < n → get_or (map f (range_with_len 0 n)) r [] ≡ get_or (map g (range_with_len 0 n)) r [] =
       λ r lt. get_or-map-range_with_len f 0 n r r [] lt (omega arith) ∙ block_before r lt ∙ sym (get_or-map-range_with_len g 0 n r r [] lt (omega arith)) in
-      ext_get_or [] (map f (range_with_len 0 n)) (map g (range_with_len 0 n)) (long ∙ sym (length-map-range_with_len g 0 n)) (λ r lt. each r (omega (arith, lt, long)))
+      ext_get_or [] (map f (range_with_len 0 n)) (map g (range_with_len 0 n)) (long ∙ sym (length-map-range_with_len g 0 n))
+      (λ r lt. each r (omega (arith, lt, long)))
 
   pub blocks_push : blocks_in (cells ++ block) ≡ blocks_in cells ++ block ∷ []
   unfolding blocks_in

@@ -1,6 +1,7 @@
 -- Blocks whose numbers are all 0 except the DCs, and the depths of their states.
 use Rattle.std.specs.Prelude.{replicate}
-use Rattle.std.proofs.Common.{◌≡◌, ℕ, zero, suc, ◌+◌, ◌*◌, ◌/◌, ◌<◌, ◌≤◌, ℤ, pos, List, [], ◌∷◌, length, drop, map, refl, sym, ap, ◌∙◌, arith, get_or, inl, inr, length-drop, length-take}
+use Rattle.std.proofs.Common.{◌≡◌, ℕ, zero, suc, ◌+◌, ◌*◌, ◌/◌, ◌<◌, ◌≤◌, ℤ, pos, List, [], ◌∷◌, length, drop, map, refl, sym, ap, ◌∙◌, arith, get_or, inl}
+use Rattle.std.proofs.Common.{inr, length-drop, length-take}
 use Rattle.std.specs.List.{range_with_len}
 use Rattle.std.proofs.lemmas.Bool.{cases_lt}
 use Rattle.std.proofs.lemmas.Bool.Decides.{nat_tests}
@@ -11,7 +12,7 @@ use Rattle.wave_defs.proofs.Equations.{blocks_in-is}
 use Rattle.plane_defs.specs.Marks.{depth_of, depths_of}
 use Rattle.plane_defs.proofs.SpanLists.{length-map-span, get_or-map-span}
 use Rattle.dc_depths.specs.Dcs.{SetsDcs}
-use Rattle.text_defs.specs.Segments.{dc_blocks}
+use Rattle.segment_defs.specs.Segments.{dc_blocks}
 use Rattle.segment_code.specs.Starts.{AreClear}
 
 -- ---- blocks

@@ -24,12 +24,14 @@ use Rattle.segment_code.proofs.TextBits.{text_short}
 block_depths_few : (blocks : List (List ℤ)) (A : ℕ) → A ≤ 27 → A ≡ depth_ac_of blocks → AreFew (depth_bits A) (block_depths blocks)
 block_depths_few blocks A le e i lt = omega (arith, depth_within blocks i, e, (depth_held A le).1)
 
-module _ (book : Book) (sound : is_book_sound book ≡ true) (h : SegmentHead) (cells : List ℤ) (ok : IsHead h) (ten : length h.image.weights.shifts ≡ 10) (count : length cells ≡ 64 * h.blocks) (dc : h.depth_dc ≡ depth_dc_of (blocks_in cells)) (ac : h.depth_ac ≡ depth_ac_of (blocks_in cells)) where
+module _ (book : Book) (sound : is_book_sound book ≡ true) (h : SegmentHead) (cells : List ℤ) (ok : IsHead h) (ten : length h.image.weights.shifts ≡ 10)
+    (count : length cells ≡ 64 * h.blocks) (dc : h.depth_dc ≡ depth_dc_of (blocks_in cells)) (ac : h.depth_ac ≡ depth_ac_of (blocks_in cells)) where
   coded_short : length (coded_bits book h (blocks_in cells)) < 2 ^ 34
   coded_short =
       let blocks = blocks_in cells in
       let all = length-blocks_in cells h.blocks count in
-      text_short h blocks (block_depths blocks) (chosen_options book h blocks) ok ten all (length-map blocks block_depth ∙ all) (blocks_fit blocks h.depth_dc h.depth_ac (dc_shift h) ok.depth_dc.0 dc)
+      text_short h blocks (block_depths blocks) (chosen_options book h blocks) ok ten all (length-map blocks block_depth ∙ all)
+      (blocks_fit blocks h.depth_dc h.depth_ac (dc_shift h) ok.depth_dc.0 dc)
       (block_depths_few blocks h.depth_ac ok.depth_ac ac) (words_are book sound h blocks) (numbers_are book h blocks ok)
 
   pub is_bounded : IsBounded h.image.word h.limit h.fill (length (coded_bits book h (blocks_in cells)))

@@ -1,12 +1,13 @@
 -- How many bits the numbers of a segment have at most.
-use Rattle.std.proofs.Common.{◌≡◌, ℕ, zero, suc, ◌+◌, ◌-◌, ◌*◌, ◌^◌, ◌<◌, ◌≤◌, ◌==◌, ◌||◌, Bool, true, false, if◌then◌else◌, List, [], ◌∷◌, ◌++◌, arith, ℤ, pow_mono}
+use Rattle.std.proofs.Common.{◌≡◌, ℕ, zero, suc, ◌+◌, ◌-◌, ◌*◌, ◌^◌, ◌<◌, ◌≤◌, ◌==◌, ◌||◌, Bool, true, false, if◌then◌else◌, List, [], ◌∷◌, ◌++◌, arith, ℤ}
+use Rattle.std.proofs.Common.{pow_mono}
 use Rattle.std.specs.Prelude.{min, slice_index, replicate, pos, neg_ℤ, ◌+ℤ◌, ◌*ℤ◌}
 use Rattle.std.proofs.lemmas.Bool.Decides.{nat_tests}
 use Rattle.number_defs.specs.Gaggles.{Kind, identifier_bits, uncoded, first_place, gaggle_count, uncoded_form, unary_form, rest_form}
 use Rattle.number_defs.specs.DcPart.{dc_q, dc_bits, dc_kind, dc_planes}
 use Rattle.number_defs.specs.Depths.{depth_kind}
 use Rattle.number_defs.proofs.DcBits.{few_bits}
-use Rattle.text_defs.proofs.SegmentItems.{depth_bits_few}
+use Rattle.segment_defs.proofs.SegmentItems.{depth_bits_few}
 use Rattle.item_defs.specs.Scripts.{done, ask, then_ask, in_turn, around, bit_form}
 use Rattle.number_defs.specs.NumberScript.{option_script, zeros_script, last_of, number_script, differences_script, lead_script, gaggle_script, numbers_script}
 use Rattle.number_defs.specs.DcScript.{with_dc, dc_bits_script, dcs_of_heights, high_script, dc_planes_script, dc_script}

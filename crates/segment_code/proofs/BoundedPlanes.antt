@@ -1,5 +1,7 @@
 -- How many bits the planes of a segment have at most.
-use Rattle.std.proofs.Common.{◌≡◌, ℕ, zero, suc, ◌+◌, ◌-◌, ◌*◌, ◌/◌, ◌^◌, ◌<◌, ◌≤◌, ◌==◌, ◌&&◌, ◌||◌, not, nat_lt, Bool, true, false, if◌then◌else◌, List, [], ◌∷◌, ◌++◌, length, map, filter, refl, sym, ap, ◌∙◌, subst, arith, ℤ, inl, inr, Option, Some, None, append_assoc, length-append, length-take-le, take-append-drop, pow_mono}
+use Rattle.std.proofs.Common.{◌≡◌, ℕ, zero, suc, ◌+◌, ◌-◌, ◌*◌, ◌/◌, ◌^◌, ◌<◌, ◌≤◌, ◌==◌, ◌&&◌, ◌||◌, not, nat_lt, Bool, true, false, if◌then◌else◌, List}
+use Rattle.std.proofs.Common.{[], ◌∷◌, ◌++◌, length, map, filter, refl, sym, ap, ◌∙◌, subst, arith, ℤ, inl, inr, Option, Some, None, append_assoc}
+use Rattle.std.proofs.Common.{length-append, length-take-le, take-append-drop, pow_mono}
 use Rattle.std.specs.Prelude.{take, drop}
 use Rattle.std.proofs.lemmas.Bool.{cases_lt}
 use Rattle.std.proofs.lemmas.Bool.Decides.{nat_tests}
@@ -20,8 +22,10 @@ use Rattle.plane_defs.proofs.Tables.{sound_table, code_len}
 use Rattle.item_defs.specs.Scripts.{done, in_turn, around}
 use Rattle.item_defs.proofs.FirstNumbers.{Begins, first_lacks, first_spelt}
 use Rattle.plane_defs.specs.States.{State, with_bits, with_minus, with_families, and_one}
-use Rattle.plane_defs.specs.WordScripts.{option_named, option_script, option_of, coded_script, word_script, ones, due_script, signs_script, types_script, group_script}
-use Rattle.plane_defs.specs.StageScripts.{Terms, above, is_due, bit_script, dc_bit_script, parents_script, flag_script, descendants_script, children_script, is_childless, quads_script, grandchildren_script, refinement_script, stage_script}
+use Rattle.plane_defs.specs.WordScripts.{option_named, option_script, option_of, coded_script, word_script, ones, due_script, signs_script, types_script}
+use Rattle.plane_defs.specs.WordScripts.{group_script}
+use Rattle.plane_defs.specs.StageScripts.{Terms, above, is_due, bit_script, dc_bit_script, parents_script, flag_script, descendants_script, children_script}
+use Rattle.plane_defs.specs.StageScripts.{is_childless, quads_script, grandchildren_script, refinement_script, stage_script}
 use Rattle.plane_defs.specs.PlaneScript.{PlaneState, nothing_yet, of_block, with_block, blocks_script, plane_script, blocks_with, planes_script}
 use Rattle.plane_defs.proofs.WordGoes.{HasOptions, Options, named_below, due_few, four_long}
 use Rattle.segment_code.proofs.BoundedScripts.{IsShort, short_fixed, Within, within_more, within_then, within_in_turn, within_around}

@@ -11,7 +11,7 @@ use Rattle.item_defs.specs.Completing.{Ends}
 use Rattle.number_defs.specs.DcScript.{dc_script}
 use Rattle.number_defs.specs.DepthScript.{depths_script}
 use Rattle.number_defs.proofs.DepthLaws.{depth_laws}
-use Rattle.text_defs.specs.Segments.{dc_blocks, dc_part_script, planes_part_script, segment_script}
+use Rattle.segment_defs.specs.Segments.{dc_blocks, dc_part_script, planes_part_script, segment_script}
 use Rattle.segment_code.proofs.BoundedScripts.{Within, within_more, within_then, within_around, within_beside, within_weaker, cut_few}
 use Rattle.segment_code.proofs.BoundedNumbers.{Any, number_most, dc_within, depths_within}
 use Rattle.segment_code.proofs.BoundedPlanes.{planes_within}

@@ -19,7 +19,7 @@ use Rattle.segment_defs.specs.Head.{IsHead}
 use Rattle.segment_defs.specs.Depths.{block_depths}
 use Rattle.segment_defs.specs.SegmentItems.{plane_at}
 use Rattle.segment_defs.specs.Coded.{choice_of, chosen_options}
-use Rattle.text_defs.specs.Spellable.{AreWordOptions, AreNumberOptions}
+use Rattle.segment_defs.specs.Spellable.{AreWordOptions, AreNumberOptions}
 
 -- ---- words
 

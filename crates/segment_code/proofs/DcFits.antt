@@ -36,25 +36,33 @@ pub signed_size_at : (cells : List ℤ) (n m : ℕ) → length cells ≡ 64 * n 
 unfolding blocks_in
 signed_size_at cells n m e lt =
     let count : length cells / 64 ≡ n = omega (arith, e) in
-    let inside : m < length (map (block_at cells) (range_with_len 0 (length cells / 64))) = omega (arith, length-map-range_with_len (block_at cells) 0 (length cells / 64), count) in
-    let block : get_or (map (block_at cells) (range_with_len 0 (length cells / 64))) m [] ≡ block_at cells m = get_or-map-range_with_len (block_at cells) 0 (length cells / 64) m m [] (omega (arith, count)) (omega arith) in
+    let inside : m < length (map (block_at cells) (range_with_len 0 (length cells / 64))) =
+    omega (arith, length-map-range_with_len (block_at cells) 0 (length cells / 64), count) in
+    let block : get_or (map (block_at cells) (range_with_len 0 (length cells / 64))) m [] ≡ block_at cells m =
+    get_or-map-range_with_len (block_at cells) 0 (length cells / 64) m m [] (omega (arith, count)) (omega arith) in
     let above = each_above (λ b. signed_size (dc_of b)) 0 (map (block_at cells) (range_with_len 0 (length cells / 64))) m [] inside in
     let here : dc_of (get_or (map (block_at cells) (range_with_len 0 (length cells / 64))) m []) ≡ cell_at 64 cells m = ap dc_of block ∙ dc_cell cells m in
     subst (λ z. signed_size z ≤ greatest (λ b. signed_size (dc_of b)) (map (block_at cells) (range_with_len 0 (length cells / 64)))) here above
 
-pub dcs_fit : (cells : List ℤ) (n D A s : ℕ) → 1 ≤ D → length cells ≡ 64 * n → D ≡ depth_dc_of (blocks_in cells) → AreInRange true (dc_bits D A s) (dc_q D A s) 64 cells
-dcs_fit cells n D A s some e d = sized_dcs_fit D A s cells some (λ m lt. range_of_size (cell_at 64 cells m) D (omega (arith, d, signed_size_at cells n m e (omega (arith, e)))))
+pub dcs_fit : (cells : List ℤ) (n D A s : ℕ) → 1 ≤ D → length cells ≡ 64 * n → D ≡ depth_dc_of (blocks_in cells) →
+    AreInRange true (dc_bits D A s) (dc_q D A s) 64 cells
+dcs_fit cells n D A s some e d = sized_dcs_fit D A s cells some
+    (λ m lt. range_of_size (cell_at 64 cells m) D (omega (arith, d, signed_size_at cells n m e (omega (arith, e)))))
 
 -- a list of the DC numbers has them one after another
 module _ (dcs cells : List ℤ) (long : 64 * length dcs ≡ length cells) (each : (r : ℕ) → get_or dcs r (pos 0) ≡ get_or cells (64 * r) (pos 0)) where
   pub held_dcs : dcs ≡ dcs_of (blocks_in cells)
   held_dcs =
       let count : length dcs ≡ div_ceil (length cells) 64 = omega (arith, long) in
-      fill_by_all (cell_at 64 cells) dcs (div_ceil (length cells) 64) (pos 0) count (λ r lt. let place : 64 * r ≡ r * 64 = omega arith in each r ∙ ap (λ i. get_or cells i (pos 0)) place)
+      fill_by_all (cell_at 64 cells) dcs (div_ceil (length cells) 64) (pos 0) count (λ r lt. let place : 64 * r ≡ r * 64 =
+      omega arith in each r ∙ ap (λ i. get_or cells i (pos 0)) place)
       ∙ sym (strided-is 64 cells) ∙ sym (dcs_strided cells (length dcs) (sym long))
 
   pub dcs_in_range : (signed : Bool) (N shift : ℕ) → AreInRange signed N shift 64 cells → AreInRange signed N shift 1 dcs
-  dcs_in_range signed N shift fit = record { at = λ m lt. subst (λ z. IsInRange signed N (int_shr z shift)) (sym (cell m)) (fit.at m (omega (arith, lt, long))) }
+  dcs_in_range signed N shift fit = record {
+    at = λ m lt. subst (λ z. IsInRange signed N (int_shr z shift)) (sym (cell m))
+        (fit.at m (omega (arith, lt, long)));
+  }
     where
       cell : (m : ℕ) → cell_at 1 dcs m ≡ cell_at 64 cells m
       cell m =

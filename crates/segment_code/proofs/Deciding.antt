@@ -1,5 +1,6 @@
 -- What octets decide, by what their bits are read as.
-use Rattle.std.proofs.Common.{◌≡◌, ◌≢◌, ℕ, ◌+◌, ◌-◌, ◌*◌, ◌==◌, ◌<◌, ◌≤◌, if◌then◌else◌, nat_lt, Bool, true, false, List, ◌++◌, length, take, refl, ap, ◌∙◌, arith, ℤ, Some, None, length-append, take_all}
+use Rattle.std.proofs.Common.{◌≡◌, ◌≢◌, ℕ, ◌+◌, ◌-◌, ◌*◌, ◌==◌, ◌<◌, ◌≤◌, if◌then◌else◌, nat_lt, Bool, true, false, List, ◌++◌, length, take, refl, ap, ◌∙◌}
+use Rattle.std.proofs.Common.{arith, ℤ, Some, None, length-append, take_all}
 use Rattle.std.specs.Int.{div_ceil}
 use Rattle.std.proofs.lemmas.Bool.Decides.{nat_tests}
 use Rattle.item_defs.specs.Bits.{bits_of_octets}
@@ -10,7 +11,7 @@ use Rattle.segment_defs.specs.declared.head.SegmentHead.{SegmentHead}
 use Rattle.item_defs.specs.Outcomes.{Outcome, whole, cut, refused}
 use Rattle.item_defs.specs.Scripts.{Script, run}
 use Rattle.bit_pipe.specs.ScriptSources.{Gets}
-use Rattle.text_defs.specs.Segments.{segment_script}
+use Rattle.segment_defs.specs.Segments.{segment_script}
 use Rattle.segment_code.specs.TextAnswers.{TextAnswer, gives, refuses, if_enough, bits_within, whole_octets, decided, answer_in}
 
 abbrev pub Blocks : Type 0

@@ -1,5 +1,6 @@
 -- What the octets that were taken of a text say of it.
-use Rattle.std.proofs.Common.{◌≡◌, ℕ, ◌==◌, ◌<◌, Bool, true, false, if◌then◌else◌, List, [], ◌∷◌, ◌++◌, length, refl, sym, ap, ◌∙◌, arith, Option, Some, None, Ok, Err, length-append, append_assoc}
+use Rattle.std.proofs.Common.{◌≡◌, ℕ, ◌==◌, ◌<◌, Bool, true, false, if◌then◌else◌, List, [], ◌∷◌, ◌++◌, length, refl, sym, ap, ◌∙◌, arith, Option, Some}
+use Rattle.std.proofs.Common.{None, Ok, Err, length-append, append_assoc}
 use Rattle.std.proofs.lemmas.Bool.Decides.{nat_tests}
 use Rattle.item_defs.specs.Items.{Refusal}
 use Rattle.base_122.specs.declared.book.Book.{Book}
@@ -7,10 +8,10 @@ use Rattle.bit_pipe.specs.declared.fault.Part.{Part}
 use Rattle.segment_defs.specs.declared.head.SegmentHead.{SegmentHead}
 use Rattle.segment_defs.specs.Head.{IsHead, head_length}
 use Rattle.item_defs.specs.Following.{SaysWhat}
-use Rattle.text_defs.specs.Outcomes.{at_item, short_segment, overlong}
-use Rattle.text_defs.specs.Segments.{segment_script}
-use Rattle.text_defs.specs.TextOutcome.{Answer, text_outcome}
-use Rattle.text_defs.specs.TextLaws.{SegmentsAreRead}
+use Rattle.segment_defs.specs.Outcomes.{at_item, short_segment, overlong}
+use Rattle.segment_defs.specs.Segments.{segment_script}
+use Rattle.segment_defs.specs.TextOutcome.{Answer, text_outcome}
+use Rattle.segment_defs.specs.TextLaws.{SegmentsAreRead}
 use Rattle.segment_code.specs.TextAnswers.{TextAnswer, gives, refuses, Decided, answer_in, Decides}
 use Rattle.segment_code.specs.Laws.{by_answer, with_end, EndsSay, TextsEndSo}
 use Rattle.segment_code.proofs.AnswerLaws.{goes_on}
@@ -51,11 +52,11 @@ module _ (book : Book) (head : SegmentHead) (fits : IsHead head) (says : SaysWha
     refused = λ octets more name d. outcome_is (octets ++ more) _ ((goes_on book head says (head_length head) octets _ d).1 more);
     short = λ octets d. outcome_is octets None d;
     overruns = λ octets more o. (
-        let d : Decided = record { answer = gives o.text.part o.text.blocks; octets = length o.front } in
-        let longer = (goes_on book head says (head_length head) o.front d o.text.is).1 (o.next ∷ more) in
-        let same : octets ++ more ≡ o.front ++ (o.next ∷ more) = ap (λ l. l ++ more) o.both ∙ append_assoc o.front (o.next ∷ []) more in
-        let off : (length o.front == length (octets ++ more)) ≡ false = differ (length o.front) (length (octets ++ more))
-        (omega (arith, ap length same, length-append o.front (o.next ∷ more))) in
+        let d : Decided = record { answer = gives o.text.part o.text.blocks; octets = length o.prefix } in
+        let longer = (goes_on book head says (head_length head) o.prefix d o.text.is).1 (o.next ∷ more) in
+        let same : octets ++ more ≡ o.prefix ++ (o.next ∷ more) = ap (λ l. l ++ more) o.both ∙ append_assoc o.prefix (o.next ∷ []) more in
+        let off : (length o.prefix == length (octets ++ more)) ≡ false = differ (length o.prefix) (length (octets ++ more))
+        (omega (arith, ap length same, length-append o.prefix (o.next ∷ more))) in
         outcome_is (octets ++ more) (Some d) (ap (answer_in book head (head_length head)) same ∙ longer) ∙ ap
         (λ b. if b then Ok o.text.blocks else Err overlong) off
         );

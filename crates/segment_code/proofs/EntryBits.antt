@@ -1,5 +1,6 @@
 -- How many bits the entries of a plane take at most.
-use Rattle.std.proofs.Common.{◌≡◌, ℕ, zero, suc, ◌+◌, ◌*◌, ◌<◌, ◌≤◌, Bool, true, false, cond, List, [], ◌∷◌, ◌++◌, length, get_or, refl, ap, arith, length-append, map, filter}
+use Rattle.std.proofs.Common.{◌≡◌, ℕ, zero, suc, ◌+◌, ◌*◌, ◌<◌, ◌≤◌, Bool, true, false, cond, List, [], ◌∷◌, ◌++◌, length, get_or, refl, ap, arith}
+use Rattle.std.proofs.Common.{length-append, map, filter}
 use Rattle.std.specs.List.{flat_map, list_any}
 use Rattle.std.proofs.lemmas.List.{length-map, get_or_past}
 use Rattle.std.proofs.lemmas.Bool.Decides.{nat_tests}
@@ -49,17 +50,26 @@ module _ (book : Book) (sound : is_book_sound book ≡ true) where
           let i = option_item n (option_of options n) in
           omega (arith, ap length (text-one i), length-bits_of (identifier_width n) (identifier_number n (option_of options n)), identifier_few n)
 
-  entry_few : (options : List ℕ) → AreOptionsOf options → (before : List Entry) (e : Entry) → IsEntry e → length (text (entry_items book options before e)) ≤ most_bits e
+  entry_few : (options : List ℕ) → AreOptionsOf options → (before : List Entry) (e : Entry) → IsEntry e →
+      length (text (entry_items book options before e)) ≤ most_bits e
   unfolding entry_items
   entry_few options known before e fit = grind (arith, nat_tests, text-one, length-bits_of, text-append, length-append, opening_few, word_few)
 
-  pub spelled_few : (options : List ℕ) → AreOptionsOf options → (before xs : List Entry) → Fit xs → length (text (spelled_after book options before xs)) ≤ most_of xs
+  pub spelled_few : (options : List ℕ) → AreOptionsOf options → (before xs : List Entry) → Fit xs →
+      length (text (spelled_after book options before xs)) ≤ most_of xs
   spelled_few options known before [] fit = omega arith
   spelled_few options known before (x ∷ xs) fit =
       let here = entry_few options known before x fit.0 in
       let rest = spelled_few options known (before ++ x ∷ []) xs fit.1 in
       let more = spelled_after book options (before ++ x ∷ []) xs in
-      omega (arith, here, rest, ap length (text-append (entry_items book options before x) more), length-append (text (entry_items book options before x)) (text more))
+      omega (
+        arith,
+        here,
+        rest,
+        ap length (text-append (entry_items book options before x) more),
+        length-append (text (entry_items book options before x))
+            (text more),
+      )
 
 -- ---- sums
 

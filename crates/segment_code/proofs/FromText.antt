@@ -46,7 +46,7 @@ module _ {I : Type 0} (k : SourceOf I) (book : Book) (head : SegmentHead) (size 
 
   pub fault_decoded : (fault : TextFault) → TakesFrom k book head size (Err fault) old mid now → DecodesItems k book head size (Err (of_text fault)) old mid now
   fault_decoded fault f =
-      subst (λ s. DecodesItems k book head size (Err (of_text fault)) old s now) f.stands
+      subst (λ s. DecodesItems k book head size (Err (of_text fault)) old s now) f.valid
       (decoded.fault_decoded k book head size old f.start f.stop f.begins now fault
       (subst (λ a. TakesText k book head a f.start f.stop now) (err_is fault f.answered f.stop.used f.answer) f.text))
 
@@ -57,12 +57,12 @@ module _ {I : Type 0} (k : SourceOf I) (book : Book) (head : SegmentHead) (size 
       let a = ok_is Whole used f.answered f.stop.used f.answer in
       decoded.whole_decoded k book head size old f.start f.stop f.begins fits now
       (subst (λ x. TakesText k book head x f.start f.stop now) a.0 f.text) r new
-      (subst (λ s. EndsWhole k head f.stop.used r s new) (sym f.stands) (subst (λ n. EndsWhole k head n r mid new) (sym a.1) q))
+      (subst (λ s. EndsWhole k head f.stop.used r s new) (sym f.valid) (subst (λ n. EndsWhole k head n r mid new) (sym a.1) q))
 
   pub cut_decoded : is_book_sound book ≡ true → IsHead head → size ≤ 20 → (used : ℕ) (r : Result Part SegmentFault) →
       TakesFrom k book head size (Ok (record { 0 = Ended; 1 = used })) old mid now → EndsCut head used r → DecodesItems k book head size r old mid now
   cut_decoded sound fits low used r f q =
       let a = ok_is Ended used f.answered f.stop.used f.answer in
-      subst (λ s. DecodesItems k book head size r old s now) f.stands
+      subst (λ s. DecodesItems k book head size r old s now) f.valid
       (decoded.cut_decoded k book head size old f.start f.stop f.begins sound fits low now
       (subst (λ x. TakesText k book head x f.start f.stop now) a.0 f.text) r (subst (λ n. EndsCut head n r) (sym a.1) q))

@@ -15,7 +15,8 @@ use Rattle.segment_code.proofs.DepthMarks.{kept_depths, depths_push, no_depths}
 use Rattle.segment_code.proofs.SegmentDepths.{most_ac}
 
 -- no blocks
-pub none_held : {A : Type 0} (segment : SegmentNumbers) (marks : Vec ℤ A) (room : GaggleRoom) → segment.most ≤ 2 ^ 20 → segment.numbers ≡ [] → marks.items ≡ [] → vec_len marks ≡ 0 → vec_capacity marks ≡ segment.most →
+pub none_held : {A : Type 0} (segment : SegmentNumbers) (marks : Vec ℤ A) (room : GaggleRoom) → segment.most ≤ 2 ^ 20 → segment.numbers ≡ [] →
+    marks.items ≡ [] → vec_len marks ≡ 0 → vec_capacity marks ≡ segment.most →
     vec_len room.kept ≡ 32 * (segment.most / 16) → AreHeld segment marks room
 none_held segment marks room few numbers items len capacity kept = record {
   few = few;
@@ -32,7 +33,8 @@ module _ {A : Type 0} {segment : SegmentNumbers} {marks : Vec ℤ A} {room : Gag
     as_long : length ws ≡ marks.len
     as_long = omega (arith, ap length same, length-depths_of ws, length-depths_of marks.items, marks.ok.0)
 
-    pub held_with : next.numbers ≡ segment.numbers → next.most ≡ segment.most → vec_len later.kept ≡ vec_len room.kept → AreHeld next (with_items marks ws) later
+    pub held_with : next.numbers ≡ segment.numbers → next.most ≡ segment.most → vec_len later.kept ≡ vec_len room.kept →
+        AreHeld next (with_items marks ws) later
     held_with numbers most kept = record {
       few = rw most held.few;
       whole = ap length numbers ∙ held.whole;
@@ -57,13 +59,15 @@ module _ {A : Type 0} {segment : SegmentNumbers} {marks : Vec ℤ A} {room : Gag
     held_plain = held_with segment ws room kept_same refl refl refl
 
   -- no blocks any more
-  pub held_none : (next : SegmentNumbers) (none : Vec ℤ A) → next.most ≡ segment.most → next.numbers ≡ [] → none.items ≡ [] → vec_len none ≡ 0 → vec_capacity none ≡ vec_capacity marks → AreHeld next none room
+  pub held_none : (next : SegmentNumbers) (none : Vec ℤ A) → next.most ≡ segment.most → next.numbers ≡ [] → none.items ≡ [] → vec_len none ≡ 0 →
+      vec_capacity none ≡ vec_capacity marks → AreHeld next none room
   held_none next none most numbers items len capacity =
       none_held next none room (rw most held.few) numbers items len (capacity ∙ held.marks_fit ∙ sym most) (held.kept ∙ ap (λ m. 32 * (m / 16)) (sym most))
 
   -- one block more
   pub held_more : (next : SegmentNumbers) (more : Vec ℤ A) (block : List ℤ) (depth : ℕ) → length block ≡ 64 → AreBounded block → depth ≡ block_depth block →
-      next.most ≡ segment.most → next.numbers ≡ segment.numbers ++ block → more.items ≡ marks.items ++ pos depth ∷ [] → vec_len more ≡ vec_len marks + 1 → vec_capacity more ≡ vec_capacity marks → AreHeld next more room
+      next.most ≡ segment.most → next.numbers ≡ segment.numbers ++ block → more.items ≡ marks.items ++ pos depth ∷ [] → vec_len more ≡ vec_len marks + 1 →
+      vec_capacity more ≡ vec_capacity marks → AreHeld next more room
   held_more next more block depth sixty_four bounded is most numbers items len capacity = record {
     few = rw most held.few;
     whole = omega (arith, ap length numbers, length-append segment.numbers block, held.whole, sixty_four, len);

@@ -1,5 +1,6 @@
 -- What the items that were read and the octets after them decide.
-use Rattle.std.proofs.Common.{◌≡◌, ◌≢◌, ◌⊎◌, ℕ, ◌+◌, ◌-◌, ◌*◌, ◌<◌, ◌≤◌, inl, inr, Bool, true, List, [], ◌++◌, length, sym, ap, ◌∙◌, subst, arith, ℤ, Result, Some, Ok, Err, length-append}
+use Rattle.std.proofs.Common.{◌≡◌, ◌≢◌, ◌⊎◌, ℕ, ◌+◌, ◌-◌, ◌*◌, ◌<◌, ◌≤◌, inl, inr, Bool, true, List, [], ◌++◌, length, sym, ap, ◌∙◌, subst, arith, ℤ}
+use Rattle.std.proofs.Common.{Result, Some, Ok, Err, length-append}
 use Rattle.std.specs.Int.{div_ceil}
 use Rattle.item_defs.specs.Bits.{bits_of_octets}
 use Rattle.item_defs.specs.Items.{Refusal, bad_option, bad_delta, bad_depth, false_flag}
@@ -8,8 +9,8 @@ use Rattle.base_122.specs.declared.book.Book.{Book}
 use Rattle.wave_defs.specs.Held.{blocks_in}
 use Rattle.plane_defs.specs.Codes.{is_book_sound}
 use Rattle.bit_pipe.specs.Bounds.{bound_of}
-use Rattle.bit_pipe.specs.Sources.{SourceOf, Comes, IsOver, Plainly, Fails}
-use Rattle.bit_pipe.specs.Coming.{Coming, BeginsIn, Takes, FailsSo}
+use Rattle.bit_pipe.specs.Sources.{SourceOf, Arrives, IsOver, Plainly, Fails}
+use Rattle.bit_pipe.specs.SourceState.{SourceState, BeginsIn, Takes, FailsSo}
 use Rattle.bit_pipe.specs.declared.fault.InFault.{InFault}
 use Rattle.bit_pipe.specs.declared.fault.InFault.TheVariants as inputs
 use Rattle.bit_pipe.specs.declared.fault.Part.{Part}
@@ -17,15 +18,16 @@ use Rattle.bit_pipe.specs.declared.fault.Part.TheVariants.{Whole, Ended}
 use Rattle.bit_pipe.specs.declared.fault.TextFault.{TextFault}
 use Rattle.bit_pipe.specs.declared.fault.TextFault.TheVariants as texts
 use Rattle.bit_pipe.proofs.Giving.{rose_since}
-use Rattle.bit_pipe.proofs.Taking.{comes_then}
+use Rattle.bit_pipe.proofs.Taking.{arrives_then}
 use Rattle.segment_defs.specs.declared.head.SegmentHead.{SegmentHead}
 use Rattle.segment_defs.specs.Head.{IsHead}
 use Rattle.bit_pipe.specs.ScriptSources.{got, ends, refuses as found_refusal, fails, by_fault, ReadsAs}
 use Rattle.item_defs.specs.Outcomes.{cut}
 use Rattle.item_defs.specs.Scripts.{run}
-use Rattle.text_defs.specs.Segments.{segment_script}
+use Rattle.segment_defs.specs.Segments.{segment_script}
 use Rattle.segment_code.specs.declared.fault.SegmentFault.{SegmentFault}
-use Rattle.segment_code.specs.declared.fault.SegmentFault.TheVariants.{BadOption, BadDelta, BadDepth, FalseFlag, ShortSegment, Overlong, BrokenSegment, ReadFault, LongInput}
+use Rattle.segment_code.specs.declared.fault.SegmentFault.TheVariants.{BadOption, BadDelta, BadDepth, FalseFlag, ShortSegment, Overlong, BrokenSegment}
+use Rattle.segment_code.specs.declared.fault.SegmentFault.TheVariants.{ReadFault, LongInput}
 use Rattle.segment_code.specs.Faults.{of_text}
 use Rattle.segment_code.specs.TextAnswers.{gives, refuses, if_enough, bits_within, whole_octets, answer_in, Decides, NeedsMore}
 use Rattle.segment_code.specs.TextEnds.{wanted_bits, EndsLength, Passes, EndsWhole, EndsCut}
@@ -34,7 +36,7 @@ use Rattle.segment_code.proofs.Deciding.{there_is, not_there, whole_answer, refu
 use Rattle.segment_code.proofs.TakenOctets.{none_left, counted, used_is, room_left, room_unlimited, bits_here, bits_then, bits_exact, wanted_is, wanted_within}
 use Rattle.segment_code.proofs.BoundedTexts.{cut_texts_short}
 
-module _ {I : Type 0} (k : SourceOf I) (book : Book) (head : SegmentHead) (size : ℕ) (old : I) (start stop : Coming I)
+module _ {I : Type 0} (k : SourceOf I) (book : Book) (head : SegmentHead) (size : ℕ) (old : I) (start stop : SourceState I)
     (begins : BeginsIn old (bound_of head.limit) size start) where
   -- ---- the octets that were taken, and those that were asked for after them
 
@@ -45,8 +47,8 @@ module _ {I : Type 0} (k : SourceOf I) (book : Book) (head : SegmentHead) (size 
     went_so : k.Went old stop.source
     went_so = subst (λ s. k.Went s stop.source) begins.source p.went
 
-    came_so : Comes (k.tail old) (k.tail stop.source) p.octets
-    came_so = subst (λ s. Comes (k.tail s) (k.tail stop.source) p.octets) begins.source p.came
+    came_so : Arrives (k.tail old) (k.tail stop.source) p.octets
+    came_so = subst (λ s. Arrives (k.tail s) (k.tail stop.source) p.octets) begins.source p.came
 
     here : (r : Result Part SegmentFault) (blocks : List ℤ) → EndsItems k book head size r p.octets old stop.source blocks →
         DecodesItems k book head size r old stop.source blocks
@@ -57,7 +59,7 @@ module _ {I : Type 0} (k : SourceOf I) (book : Book) (head : SegmentHead) (size 
     further r blocks count new q e = record {
       octets = p.octets ++ q.octets;
       small = octets_both p.octets q.octets p.small q.small;
-      came = comes_then (k.tail old) (k.tail stop.source) (k.tail new) p.octets q.octets came_so q.came;
+      came = arrives_then (k.tail old) (k.tail stop.source) (k.tail new) p.octets q.octets came_so q.came;
       faults = omega (arith, faults_grew, q.faults);
       went = k.went_both old stop.source new went_so q.went;
       ends = e;

@@ -6,13 +6,14 @@ use Rattle.wave_defs.specs.Held.{blocks_in}
 use Rattle.bit_pipe.specs.declared.fault.InFault.{InFault}
 use Rattle.bit_pipe.specs.declared.fault.InFault.TheVariants as inputs
 use Rattle.bit_pipe.specs.declared.fault.Part.{Part}
-use Rattle.bit_pipe.specs.Sources.{SourceOf, Comes, GivesOctet, Fails}
+use Rattle.bit_pipe.specs.Sources.{SourceOf, Arrives, GivesOctet, Fails}
 use Rattle.bit_pipe.proofs.Giving.{rose_since}
-use Rattle.bit_pipe.proofs.Taking.{comes_then}
+use Rattle.bit_pipe.proofs.Taking.{arrives_then}
 use Rattle.segment_defs.specs.declared.head.SegmentHead.{SegmentHead}
 use Rattle.segment_defs.specs.Head.{head_length}
 use Rattle.segment_code.specs.declared.fault.SegmentFault.{SegmentFault}
-use Rattle.segment_code.specs.declared.fault.SegmentFault.TheVariants.{BadOption, BadDelta, BadDepth, FalseFlag, ShortSegment, Overlong, BrokenSegment, ReadFault, LongInput}
+use Rattle.segment_code.specs.declared.fault.SegmentFault.TheVariants.{BadOption, BadDelta, BadDepth, FalseFlag, ShortSegment, Overlong, BrokenSegment}
+use Rattle.segment_code.specs.declared.fault.SegmentFault.TheVariants.{ReadFault, LongInput}
 use Rattle.segment_code.specs.Faults.{of_input}
 use Rattle.segment_code.specs.Decoded.{IsText, EndsSegment, DecodesSegment}
 use Rattle.segment_code.specs.DecodedItems.{EndsItems, DecodesItems}
@@ -38,12 +39,12 @@ module _ {I : Type 0} (k : SourceOf I) (book : Book) (head : SegmentHead) (old m
     text : IsText book head p.octets
     text = record { part = part; blocks = blocks_in blocks; is = p.ends }
 
-    none_more : {r : Result Part SegmentFault} → Comes (k.tail mid) (k.tail new) [] → k.faults mid ≤ k.faults new → k.Went mid new →
+    none_more : {r : Result Part SegmentFault} → Arrives (k.tail mid) (k.tail new) [] → k.faults mid ≤ k.faults new → k.Went mid new →
         EndsSegment k book head r p.octets old new blocks → DecodesSegment k book head r old new blocks
     none_more came faults went ends = record {
       octets = p.octets;
       small = p.small;
-      came = subst (Comes (k.tail old) (k.tail new)) (append-nil p.octets) (comes_then (k.tail old) (k.tail mid) (k.tail new) p.octets [] p.came came);
+      came = subst (Arrives (k.tail old) (k.tail new)) (append-nil p.octets) (arrives_then (k.tail old) (k.tail mid) (k.tail new) p.octets [] p.came came);
       faults = omega (arith, p.faults, faults);
       went = k.went_both old mid new p.went went;
       ends = ends;
@@ -64,8 +65,8 @@ module _ {I : Type 0} (k : SourceOf I) (book : Book) (head : SegmentHead) (old m
     over_joined octet q = record {
       octets = p.octets ++ octet ∷ [];
       small = octets_both p.octets (octet ∷ []) p.small (octet_alone octet q.ends.1);
-      came = comes_then (k.tail old) (k.tail mid) (k.tail new) p.octets (octet ∷ []) p.came q.ends.0;
+      came = arrives_then (k.tail old) (k.tail mid) (k.tail new) p.octets (octet ∷ []) p.came q.ends.0;
       faults = omega (arith, p.faults, q.faults);
       went = k.went_both old mid new p.went q.went;
-      ends = record { front = p.octets; next = octet; both = refl; text = text };
+      ends = record { prefix = p.octets; next = octet; both = refl; text = text };
     }

@@ -36,5 +36,6 @@ mod TextJoined
 mod PartsGiven
 mod SpelledDecide
 pub mod CodedChoices
-mod CodedFronts
+mod JoinedSizes
+mod CodedPrefixes
 mod CodedRead

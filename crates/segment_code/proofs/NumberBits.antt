@@ -1,5 +1,7 @@
 -- How many bits the numbers of a text have at most.
-use Rattle.std.proofs.Common.{◌≡◌, ℕ, zero, suc, ◌+◌, ◌-◌, ◌*◌, ◌/◌, ◌^◌, ◌<◌, ◌≤◌, List, [], ◌∷◌, ◌++◌, length, map, min, get_or, Bool, true, false, cond, eqb, refl, ap, arith, inl, inr, length-append, ℤ, slice_index, nat_le, nat_lt, ◌&&◌, pow_mono, All, mul-le-mul_right, div-le_self}
+use Rattle.std.proofs.Common.{◌≡◌, ℕ, zero, suc, ◌+◌, ◌-◌, ◌*◌, ◌/◌, ◌^◌, ◌<◌, ◌≤◌, List, [], ◌∷◌, ◌++◌, length, map, min, get_or, Bool, true, false, cond}
+use Rattle.std.proofs.Common.{eqb, refl, ap, arith, inl, inr, length-append, ℤ, slice_index, nat_le, nat_lt, ◌&&◌, pow_mono, All, mul-le-mul_right}
+use Rattle.std.proofs.Common.{div-le_self}
 use Rattle.std.specs.List.{list_all}
 use Rattle.std.proofs.lemmas.Bool.{cases_Bool}
 use Rattle.std.proofs.lemmas.Bool.Decides.{nat_tests}
@@ -9,7 +11,8 @@ use Rattle.item_defs.specs.Items.{Item, text, item_bits, raw, identifier}
 use Rattle.item_defs.proofs.Texts.{text-append, text-cons, text-one}
 use Rattle.item_defs.proofs.NumberBits.{length-bits_of}
 use Rattle.number_defs.specs.Ranges.{shifted_height}
-use Rattle.number_defs.specs.Gaggles.{Kind, reference, is_option, identifier_bits, value_at, places, first_place, value_items, lead_items, gaggle_items, items_before, number_items, gaggle_count}
+use Rattle.number_defs.specs.Gaggles.{Kind, reference, is_option, identifier_bits, value_at, places, first_place, value_items, lead_items, gaggle_items}
+use Rattle.number_defs.specs.Gaggles.{items_before, number_items, gaggle_count}
 use Rattle.number_defs.specs.Choice.{coded_bits}
 use Rattle.number_defs.specs.DcPart.{dc_q, dc_bits, dc_kind, dc_bit, high_items, planes_before, dc_planes, dc_items}
 use Rattle.number_defs.specs.Depths.{depth_bits, depth_kind, depth_items}
@@ -48,7 +51,8 @@ lead_few kind heights (suc g) le = omega arith
 
 module _ (kind : Kind) (heights : List ℕ) (few : kind.bits ≤ 10) (below : AreFew kind.bits heights) where
   value_below : (i : ℕ) → value_at kind.bits heights i < 2 ^ kind.bits
-  value_below i = mapped_below kind.bits (slice_index heights (i - 1)) (slice_index heights i) (few_anywhere kind.bits heights below (i - 1)) (few_anywhere kind.bits heights below i)
+  value_below i = mapped_below kind.bits (slice_index heights (i - 1)) (slice_index heights i) (few_anywhere kind.bits heights below (i - 1))
+      (few_anywhere kind.bits heights below i)
 
   gaggle_few : (option g : ℕ) → is_option kind.bits option ≡ true → length (text (gaggle_items kind heights option g)) ≤ 2 ^ 15
   unfolding gaggle_items
@@ -58,7 +62,8 @@ module _ (kind : Kind) (heights : List ℕ) (few : kind.bits ≤ 10) (below : Ar
       let ident : Item = identifier (identifier_bits kind.bits) (is_option kind.bits) option in
       let lead = lead_items kind heights g in
       let items = value_items kind heights option at in
-      let small : All (λ v. v < 2 ^ 10) values = All-map (λ v. v < 2 ^ 10) (value_at kind.bits heights) at (λ k d lt. omega (arith, value_below (get_or at k d), pow_mono {i = kind.bits} {j = 10} few)) in
+      let small : All (λ v. v < 2 ^ 10) values = All-map (λ v. v < 2 ^ 10) (value_at kind.bits heights) at
+      (λ k d lt. omega (arith, value_below (get_or at k d), pow_mono {i = kind.bits} {j = 10} few)) in
       let coded = counts_bits kind heights option at h value_below in
       let bound = coded_few kind.bits option values few (option_small kind.bits option h few) small in
       let parts = ap length (text-cons ident (lead ++ items)) in
@@ -78,7 +83,8 @@ module _ (kind : Kind) (heights : List ℕ) (few : kind.bits ≤ 10) (below : Ar
         values_count (length heights) g,
       )
 
-  pub gaggles_few : (options : ℕ → ℕ) (n : ℕ) → ((g : ℕ) → g < n → is_option kind.bits (options g) ≡ true) → length (text (items_before kind heights options n)) ≤ 2 ^ 15 * n
+  pub gaggles_few : (options : ℕ → ℕ) (n : ℕ) → ((g : ℕ) → g < n → is_option kind.bits (options g) ≡ true) →
+      length (text (items_before kind heights options n)) ≤ 2 ^ 15 * n
   unfolding items_before
   gaggles_few options zero known = omega arith
   gaggles_few options (suc g) known =
@@ -94,7 +100,13 @@ plane_bits b [] = refl
 plane_bits b (x ∷ xs) =
     let rest = plane_bits b xs in
     let first = dc_bit b x in
-    omega (arith, rest, ap length (text-cons first (map (dc_bit b) xs)), length-append (item_bits first) (text (map (dc_bit b) xs)), length-bits_of 1 first.said)
+    omega (
+      arith,
+      rest,
+      ap length (text-cons first (map (dc_bit b) xs)),
+      length-append (item_bits first) (text (map (dc_bit b) xs)),
+      length-bits_of 1 first.said,
+    )
 
 planes_few : (q : ℕ) (dcs : List ℤ) (n : ℕ) → length (text (planes_before q dcs n)) ≡ n * length dcs
 unfolding planes_before
@@ -124,7 +136,8 @@ high_few N q dcs options some few short below known = elim (cases_Bool (eqb N 1)
       rw more (omega (arith, all, short, count))
 ]
 
-pub dc_few : (D A s : ℕ) (dcs : List ℤ) (options : ℕ → ℕ) → D ≤ 28 → s ≤ 3 → length dcs < 2 ^ 20 → DcsFit D A s dcs → (2 ≤ dc_bits D A s → Known (dc_bits D A s) (length dcs) options) →
+pub dc_few : (D A s : ℕ) (dcs : List ℤ) (options : ℕ → ℕ) → D ≤ 28 → s ≤ 3 → length dcs < 2 ^ 20 → DcsFit D A s dcs →
+    (2 ≤ dc_bits D A s → Known (dc_bits D A s) (length dcs) options) →
     length (text (dc_items D A s dcs options)) ≤ 2 ^ 32
 unfolding dc_items
 dc_few D A s dcs options dc shift short fit known =
@@ -149,7 +162,8 @@ held_by d b e = (grind (arith, nat_tests), grind (arith, nat_tests))
 
 -- the bits of each depth hold the greatest one
 pub depth_held : (A : ℕ) → A ≤ 27 → (depth_bits A ≤ 10) × (A < 2 ^ depth_bits A)
-depth_held A le = held_by A (depth_bits A) (list_all-span-zero (λ d. nat_le (depth_bits d) 10 && nat_lt d (2 ^ depth_bits d)) 28 A depth_bits_hold (omega arith))
+depth_held A le = held_by A (depth_bits A) (list_all-span-zero (λ d. nat_le (depth_bits d) 10 && nat_lt d (2 ^ depth_bits d)) 28 A depth_bits_hold
+    (omega arith))
 
 raw_bits : (ds : List ℕ) → length (text (map raw ds)) ≡ length ds
 raw_bits [] = refl
@@ -157,12 +171,14 @@ raw_bits (d ∷ ds) =
     let rest = raw_bits ds in
     omega (arith, rest, ap length (text-cons (raw d) (map raw ds)), length-append (item_bits (raw d)) (text (map raw ds)), length-bits_of 1 d)
 
-pub depths_few : (A : ℕ) (ds : List ℕ) (options : ℕ → ℕ) → A ≤ 27 → length ds < 2 ^ 20 → AreFew (depth_bits A) ds → (2 ≤ A → Known (depth_bits A) (length ds) options) →
+pub depths_few : (A : ℕ) (ds : List ℕ) (options : ℕ → ℕ) → A ≤ 27 → length ds < 2 ^ 20 → AreFew (depth_bits A) ds →
+    (2 ≤ A → Known (depth_bits A) (length ds) options) →
     length (text (depth_items A ds options)) ≤ 2 ^ 31
 unfolding depth_items
 depths_few A ds options ac short few known = by_depth (eqb A 0) (eqb A 1) refl refl
   where
-    by_depth : (none one : Bool) → eqb A 0 ≡ none → eqb A 1 ≡ one → length (text (cond none [] (cond one (map raw ds) (number_items (depth_kind A) ds options)))) ≤ 2 ^ 31
+    by_depth : (none one : Bool) → eqb A 0 ≡ none → eqb A 1 ≡ one →
+        length (text (cond none [] (cond one (map raw ds) (number_items (depth_kind A) ds options)))) ≤ 2 ^ 31
     by_depth true one e f = omega arith
     by_depth false true e f = omega (arith, raw_bits ds, short)
     by_depth false false e f =

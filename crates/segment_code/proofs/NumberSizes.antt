@@ -1,5 +1,6 @@
 -- The sizes of a block's numbers, by its depths.
-use Rattle.std.proofs.Common.{◌≡◌, ◌<◌, ◌≤◌, ℕ, add-one, ◌+◌, ◌-◌, ◌*◌, ◌^◌, max, inl, inr, ap, ◌∙◌, subst, arith, ℤ, pos, negsuc, unsigned_abs, List, length, get_or, drop, get_or-drop, length-drop, pow_mono, pow_pos}
+use Rattle.std.proofs.Common.{◌≡◌, ◌<◌, ◌≤◌, ℕ, add-one, ◌+◌, ◌-◌, ◌*◌, ◌^◌, max, inl, inr, ap, ◌∙◌, subst, arith, ℤ, pos, negsuc, unsigned_abs, List}
+use Rattle.std.proofs.Common.{length, get_or, drop, get_or-drop, length-drop, pow_mono, pow_pos}
 use native.Mathlib.Nat.{pow-suc}
 use Rattle.std.proofs.lemmas.Bool.{cases_lt, cases_eq}
 use Rattle.std.proofs.lemmas.List.{get_or_past}
@@ -32,9 +33,11 @@ module _ (block : List ℤ) (whole : length block ≡ 64) where
   ac_below k D some le = elim (cases_lt k 64) [
     | inl low ↦
         let next : 1 + (k - 1) ≡ k = omega (arith, some) in
-        let cell : get_or (drop 1 block) (k - 1) (pos 0) ≡ get_or block k (pos 0) = get_or-drop 1 block (k - 1) (pos 0) ∙ ap (λ j. get_or block j (pos 0)) next in
+        let cell : get_or (drop 1 block) (k - 1) (pos 0) ≡ get_or block k (pos 0) =
+        get_or-drop 1 block (k - 1) (pos 0) ∙ ap (λ j. get_or block j (pos 0)) next in
         let inside : k - 1 < length (drop 1 block) = omega (arith, some, low, whole, length-drop 1 block) in
-        let in_block : size_of (unsigned_abs (get_or (drop 1 block) (k - 1) (pos 0))) ≤ block_depth block = each_above (λ z. size_of (unsigned_abs z)) 0 (drop 1 block) (k - 1) (pos 0) inside in
+        let in_block : size_of (unsigned_abs (get_or (drop 1 block) (k - 1) (pos 0))) ≤ block_depth block =
+        each_above (λ z. size_of (unsigned_abs z)) 0 (drop 1 block) (k - 1) (pos 0) inside in
         subst (λ z. unsigned_abs z < 2 ^ D) cell (size_below (unsigned_abs (get_or (drop 1 block) (k - 1) (pos 0))) D (omega (arith, in_block, le)))
     | inr past ↦ past_below k D past
   ]

@@ -10,9 +10,9 @@ use Rattle.segment_defs.specs.declared.head.SegmentHead.{SegmentHead}
 use Rattle.segment_defs.specs.Head.{IsHead, head_length}
 use Rattle.item_defs.specs.Outcomes.{Outcome, whole, cut, refused}
 use Rattle.item_defs.specs.Scripts.{run}
-use Rattle.text_defs.specs.Outcomes.{short_segment, bits_read}
-use Rattle.text_defs.specs.Segments.{segment_script}
-use Rattle.text_defs.specs.TextOutcome.{by_length, verdict}
+use Rattle.segment_defs.specs.Outcomes.{short_segment, bits_read}
+use Rattle.segment_defs.specs.Segments.{segment_script}
+use Rattle.segment_defs.specs.TextOutcome.{by_length, verdict}
 use Rattle.segment_code.specs.TextAnswers.{gives, if_enough, whole_octets, decided}
 use Rattle.segment_code.specs.Laws.{with_end, OutcomesAgree}
 use Rattle.segment_code.proofs.Deciding.{Blocks}

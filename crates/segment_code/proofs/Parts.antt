@@ -13,7 +13,8 @@ use Rattle.segment_code.specs.CodedParts.{coded_planes, coded_rest}
 
 module _ (book : Book) (h : SegmentHead) (blocks : List (List ℤ)) where
   -- DC part and rest
-  pub text_parts : text (segment_items h blocks (block_depths blocks) (chosen_options book h blocks)) ≡ text (dc_part book h blocks) ++ text (coded_rest book h blocks)
+  pub text_parts : text (segment_items h blocks (block_depths blocks) (chosen_options book h blocks)) ≡ text (dc_part book h blocks)
+      ++ text (coded_rest book h blocks)
   unfolding segment_items
   text_parts = grind (arith, nat_tests, append-nil, text-append)
 
@@ -22,5 +23,6 @@ module _ (book : Book) (h : SegmentHead) (blocks : List (List ℤ)) where
 
   -- block depths and planes
   pub rest_parts : h.stop.dc ≡ false →
-      text (coded_rest book h blocks) ≡ text (depth_items h.depth_ac (block_depths blocks) (chosen_options book h blocks).depths) ++ text (coded_planes book h blocks h.depth_ac)
+      text (coded_rest book h blocks) ≡ text (depth_items h.depth_ac (block_depths blocks) (chosen_options book h blocks).depths)
+      ++ text (coded_planes book h blocks h.depth_ac)
   rest_parts goes = grind (arith, nat_tests, text-append)

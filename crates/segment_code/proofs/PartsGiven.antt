@@ -8,9 +8,9 @@ use Rattle.segment_defs.specs.declared.head.SegmentHead.{SegmentHead}
 use Rattle.segment_defs.specs.Head.{IsHead}
 use Rattle.item_defs.specs.Outcomes.{Outcome, whole, cut, refused}
 use Rattle.item_defs.specs.Scripts.{run}
-use Rattle.text_defs.specs.Parts.{AreWeighted}
-use Rattle.text_defs.specs.Segments.{segment_script}
-use Rattle.text_defs.proofs.RunNumbers.{whole_weighted, cut_weighted}
+use Rattle.segment_defs.specs.Parts.{AreWeighted}
+use Rattle.segment_defs.specs.Segments.{segment_script}
+use Rattle.segment_defs.proofs.RunNumbers.{whole_weighted, cut_weighted}
 use Rattle.segment_code.specs.TextAnswers.{TextAnswer, gives, refuses, Decided, if_enough, bits_within, decided, answer_in}
 use Rattle.segment_code.specs.Parts.{TextsGiveParts}
 use Rattle.segment_code.proofs.Deciding.{Blocks}

@@ -1,5 +1,6 @@
 -- How many bits a plane of a segment takes at most.
-use Rattle.std.proofs.Common.{◌≡◌, ℕ, zero, suc, add-one, zero-add, ◌+◌, ◌*◌, ◌^◌, ◌<◌, ◌≤◌, Bool, true, cond, List, [], ◌∷◌, ◌++◌, length, get_or, ℤ, pos, ap, sym, ◌∙◌, arith, length-append, map, filter, nat_lt, ◌&&◌, flat_map, mul-le-mul_right}
+use Rattle.std.proofs.Common.{◌≡◌, ℕ, zero, suc, add-one, zero-add, ◌+◌, ◌*◌, ◌^◌, ◌<◌, ◌≤◌, Bool, true, cond, List, [], ◌∷◌, ◌++◌, length, get_or, ℤ, pos}
+use Rattle.std.proofs.Common.{ap, sym, ◌∙◌, arith, length-append, map, filter, nat_lt, ◌&&◌, flat_map, mul-le-mul_right}
 use Rattle.std.proofs.lemmas.Bool.Decides.{nat_tests}
 use Rattle.item_defs.specs.Bits.{bit}
 use Rattle.item_defs.specs.Items.{text}
@@ -15,7 +16,8 @@ use Rattle.plane_defs.specs.declared.entries.Entry.{Entry}
 use Rattle.plane_defs.specs.declared.entries.Entry.TheVariants.{Bit}
 use Rattle.plane_defs.specs.Spans.{span}
 use Rattle.plane_defs.specs.Sets.{magnitude, coded, set_significant, newly_significant, flag_due, refined, children_of, quad_of}
-use Rattle.plane_defs.specs.Entries.{twos_bit, negative, word, flags, typed, parents, children, children_types, quads, quads_types, all_quads, grandchildren, refinement, significant_families, block_entries, stage_number}
+use Rattle.plane_defs.specs.Entries.{twos_bit, negative, word, flags, typed, parents, children, children_types, quads, quads_types, all_quads}
+use Rattle.plane_defs.specs.Entries.{grandchildren, refinement, significant_families, block_entries, stage_number}
 use Rattle.plane_defs.specs.Planes.{Plane, gaggles, gaggle_size, of_block, of_gaggle, before_stage, gaggle_items, stage_items, plane_items}
 use Rattle.plane_defs.proofs.Fitting.{Fit, fit_each, fit_block}
 use Rattle.plane_defs.proofs.SpanLists.{length-map-filter, flat_map-span-suc}
@@ -62,7 +64,11 @@ module _ (block : List ℤ) (weights : List ℕ) (plane : ℕ) where
 
   refinement_most : most_of (refinement block weights plane) ≤ 63
   refinement_most =
-      omega (arith, bits_most (λ p. bit (magnitude block p) plane) (filter (refined block weights plane) (span 1 63)), chosen_few (refined block weights plane) 1 63)
+      omega (
+        arith,
+        bits_most (λ p. bit (magnitude block p) plane) (filter (refined block weights plane) (span 1 63)),
+        chosen_few (refined block weights plane) 1 63,
+      )
 
 abbrev stage_most : Stage → ℕ
 stage_most stages.DcBits = 1
@@ -74,12 +80,15 @@ stage_most stages.Refinement = 63
 where_sent : (b : Bool) (xs : List Entry) (m : ℕ) → most_of xs ≤ m → most_of (cond b xs []) ≤ m
 where_sent b xs m le = grind (arith, nat_tests)
 
-block_most : (stage : Stage) (block : List ℤ) (d : ℕ) (weights : List ℕ) (plane q : ℕ) → most_of (block_entries stage block d weights plane q) ≤ stage_most stage
+block_most : (stage : Stage) (block : List ℤ) (d : ℕ) (weights : List ℕ) (plane q : ℕ) → most_of (block_entries stage block d weights plane q) ≤ stage_most
+    stage
 unfolding block_entries
-block_most stages.DcBits block d weights plane q = where_sent (coded weights plane 0 && nat_lt plane q) (Bit (twos_bit (get_or block 0 (pos 0)) plane) ∷ []) 1 (omega arith)
+block_most stages.DcBits block d weights plane q = where_sent (coded weights plane 0 && nat_lt plane q) (Bit (twos_bit (get_or block 0 (pos 0)) plane) ∷ [])
+    1 (omega arith)
 block_most stages.Parents block d weights plane q = where_sent (nat_lt plane d) (parents block weights plane) 13 (typed_most block weights plane 1 3)
 block_most stages.Children block d weights plane q = where_sent (nat_lt plane d) (children block weights plane) 53 (children_most block weights plane)
-block_most stages.Grandchildren block d weights plane q = where_sent (nat_lt plane d) (grandchildren block weights plane) 208 (grandchildren_most block weights plane)
+block_most stages.Grandchildren block d weights plane q =
+    where_sent (nat_lt plane d) (grandchildren block weights plane) 208 (grandchildren_most block weights plane)
 block_most stages.Refinement block d weights plane q = where_sent (nat_lt plane d) (refinement block weights plane) 63 (refinement_most block weights plane)
 
 -- ---- a plane
@@ -92,14 +101,17 @@ stages_most (suc k) = stages_most k + stage_most (stage_number k)
 all_stages_most : (k : ℕ) → k ≤ 5 → stages_most k ≤ 338
 all_stages_most k le = grind (arith, nat_tests)
 
-module _ (book : Book) (sound : is_book_sound book ≡ true) (options : ℕ → List ℕ) (known : (g : ℕ) → AreOptionsOf (options g)) (p : Plane) (short : length p.depths < 2 ^ 20) where
+module _ (book : Book) (sound : is_book_sound book ≡ true) (options : ℕ → List ℕ) (known : (g : ℕ) → AreOptionsOf (options g)) (p : Plane)
+    (short : length p.depths < 2 ^ 20) where
   gaggle_few : (k g : ℕ) → length (text (gaggle_items book options p k g)) ≤ 16 * stage_most (stage_number k)
   gaggle_few k g =
       let stage = stage_number k in
       let places = span (16 * g) (gaggle_size p g) in
-      let fit : Fit (of_gaggle p stage g) = fit_each (of_block p stage) places (λ r. fit_block stage (get_or p.blocks r []) (get_or p.depths r 0) p.weights p.number p.q) in
+      let fit : Fit (of_gaggle p stage g) = fit_each (of_block p stage) places (λ r. fit_block stage (get_or p.blocks r []) (get_or p.depths r 0) p.weights
+      p.number p.q) in
       let spelled = spelled_few book sound (options g) (known g) (before_stage p k g) (of_gaggle p stage g) fit in
-      let sum = most_each (of_block p stage) (stage_most stage) places (λ r. block_most stage (get_or p.blocks r []) (get_or p.depths r 0) p.weights p.number p.q) in
+      let sum = most_each (of_block p stage) (stage_most stage) places (λ r. block_most stage (get_or p.blocks r []) (get_or p.depths r 0) p.weights
+      p.number p.q) in
       let count : length places ≤ 16 = omega (arith, length_span (16 * g) (gaggle_size p g)) in
       let most : length places * stage_most stage ≤ 16 * stage_most stage = mul-le-mul_right (stage_most stage) count in
       omega (arith, spelled, sum, most)
@@ -108,7 +120,8 @@ module _ (book : Book) (sound : is_book_sound book ≡ true) (options : ℕ → 
   stage_few k =
       let sum = text_each (gaggle_items book options p k) (16 * stage_most (stage_number k)) (span 0 (gaggles p)) (gaggle_few k) in
       let count : length (span 0 (gaggles p)) ≤ 65536 = omega (arith, short, length_span 0 (gaggles p)) in
-      let most : length (span 0 (gaggles p)) * (16 * stage_most (stage_number k)) ≤ 65536 * (16 * stage_most (stage_number k)) = mul-le-mul_right (16 * stage_most (stage_number k)) count in
+      let most : length (span 0 (gaggles p)) * (16 * stage_most (stage_number k)) ≤ 65536 * (16 * stage_most (stage_number k)) =
+      mul-le-mul_right (16 * stage_most (stage_number k)) count in
       omega (arith, sum, most)
 
   stages_few : (k : ℕ) → length (text (plane_items book options p k)) ≤ 2 ^ 20 * stages_most k
@@ -121,7 +134,14 @@ module _ (book : Book) (sound : is_book_sound book ≡ true) (options : ℕ → 
       let parts : plane_items book options p (suc k) ≡ first ++ stage_items book options p k =
       let f = stage_items book options p in
       ap (λ m. flat_map f (span 0 m)) (sym (add-one k)) ∙ flat_map-span-suc f 0 k ∙ ap (λ m. flat_map f (span 0 k) ++ f m) (zero-add k) in
-      omega (arith, rest, here, ap (λ l. length (text l)) parts, ap length (text-append first (stage_items book options p k)), length-append (text first) (text (stage_items book options p k)))
+      omega (
+        arith,
+        rest,
+        here,
+        ap (λ l. length (text l)) parts,
+        ap length (text-append first (stage_items book options p k)),
+        length-append (text first) (text (stage_items book options p k)),
+      )
 
   pub plane_few : (k : ℕ) → k ≤ 5 → length (text (plane_items book options p k)) ≤ 2 ^ 20 * 338
   plane_few k le = omega (arith, stages_few k, all_stages_most k le)

@@ -3,7 +3,7 @@ use Rattle.std.proofs.Common.{◌≡◌, ◌<◌, ◌≤◌, ℕ, zero, suc, ◌
 use Rattle.std.proofs.lemmas.Bool.Decides.{nat_tests}
 use Rattle.item_defs.specs.Items.{text}
 use Rattle.bit_pipe.specs.Sinks.{SinkOf}
-use Rattle.bit_pipe.specs.Standing.{Standing, IsOpen, Adds, Puts}
+use Rattle.bit_pipe.specs.SinkState.{SinkState, IsOpen, Adds, Puts}
 use Rattle.bit_pipe.specs.declared.fault.PutFault.{PutFault}
 use Rattle.bit_pipe.proofs.Putting.{adds_start, puts_whole}
 use Rattle.wave_defs.specs.Held.{blocks_in}
@@ -21,20 +21,21 @@ use Rattle.segment_defs.specs.SegmentItems.{q_of, plane_at, stages_sent, nth_pla
 use Rattle.segment_code.specs.CodedParts.{coded_plane, coded_planes}
 
 -- the plane that a call is given
-told_plane : (h : SegmentHead) (cells : List ℤ) (depths : List ℕ) (plan : PlanePlan) (n : ℕ) → depths ≡ block_depths (blocks_in cells) →
+known_plane : (h : SegmentHead) (cells : List ℤ) (depths : List ℕ) (plan : PlanePlan) (n : ℕ) → depths ≡ block_depths (blocks_in cells) →
     plan.plane ≡ nth_plane h n → plan.q ≡ q_of h → plan.weights ≡ h.image.weights →
     plane_of cells depths plan ≡ plane_at h (blocks_in cells) (block_depths (blocks_in cells)) (nth_plane h n)
-told_plane h cells depths plan n same number low weights = grind (arith, nat_tests)
+known_plane h cells depths plan n same number low weights = grind (arith, nat_tests)
 
-plane_sent : (book : Book) (p : Plane) (last stages : ℕ) → last + 1 ≡ stages → text (chosen_items book p last) ≡ text (plane_reading book (chosen book p) p stages)
+plane_sent : (book : Book) (p : Plane) (last stages : ℕ) → last + 1 ≡ stages →
+    text (chosen_items book p last) ≡ text (plane_reading book (chosen book p) p stages)
 plane_sent book p last stages e = ap (λ s. text (plane_items book (chosen book p) p s)) e ∙ sym (plane_text book (chosen book p) p stages)
 
-module _ {S : Type 0} {k : SinkOf S} {r : Result (Unit {0}) PutFault} {s t : Standing S} where
+module _ {S : Type 0} {k : SinkOf S} {r : Result (Unit {0}) PutFault} {s t : SinkState S} where
   pub plane_put : (book : Book) (h : SegmentHead) (cells : List ℤ) (depths : List ℕ) (plan : PlanePlan) (n : ℕ) → depths ≡ block_depths (blocks_in cells) →
       plan.plane ≡ nth_plane h n → plan.q ≡ q_of h → plan.weights ≡ h.image.weights → plan.last + 1 ≡ stages_sent h (nth_plane h n) →
       Puts k r s t (text (chosen_items book (plane_of cells depths plan) plan.last)) → Puts k r s t (text (coded_plane book h (blocks_in cells) n))
   plane_put book h cells depths plan n same number low weights last p =
-      let plane = told_plane h cells depths plan n same number low weights in
+      let plane = known_plane h cells depths plan n same number low weights in
       subst (λ bits. Puts k r s t bits) (
       ap (λ q. text (chosen_items book q plan.last)) plane
       ∙ plane_sent book (plane_at h (blocks_in cells) (block_depths (blocks_in cells)) (nth_plane h n)) plan.last (stages_sent h (nth_plane h n)) last
@@ -58,12 +59,14 @@ planes_ended book h blocks sent zero all within = let same : sent + 0 ≡ sent =
 planes_ended book h blocks sent (suc more) all within =
     let next : sent + suc more ≡ (sent + more) + 1 = omega arith in
     let nothing : coded_plane book h blocks (0 + (sent + more)) ≡ [] = none_sent book h blocks (0 + (sent + more)) (omega (arith, all, within)) in
-    ap (coded_planes book h blocks) next ∙ flat_map-span-suc (coded_plane book h blocks) 0 (sent + more) ∙ ap (λ l. coded_planes book h blocks (sent + more) ++ l) nothing
+    ap (coded_planes book h blocks) next ∙ flat_map-span-suc (coded_plane book h blocks) 0 (sent + more)
+    ∙ ap (λ l. coded_planes book h blocks (sent + more) ++ l) nothing
     ∙ append-nil (coded_planes book h blocks (sent + more)) ∙ planes_ended book h blocks sent more all (omega (arith, within))
 
-pub no_planes : {S : Type 0} (k : SinkOf S) (s : Standing S) (book : Book) (h : SegmentHead) (blocks : List (List ℤ)) → IsOpen s → h.depth_ac ≤ h.stop.plane →
+pub no_planes : {S : Type 0} (k : SinkOf S) (s : SinkState S) (book : Book) (h : SegmentHead) (blocks : List (List ℤ)) → IsOpen s → h.depth_ac ≤ h.stop.plane →
     Puts {T = Unit {0}} k (Ok tt) s s (text (coded_planes book h blocks h.depth_ac))
 no_planes k s book h blocks opened none =
     let nothing : coded_planes book h blocks h.depth_ac ≡ [] =
-    ap (coded_planes book h blocks) (sym (zero-add h.depth_ac)) ∙ planes_ended book h blocks 0 h.depth_ac (omega (arith, none)) (omega arith) ∙ flat_map-span-none (coded_plane book h blocks) 0 in
+    ap (coded_planes book h blocks) (sym (zero-add h.depth_ac)) ∙ planes_ended book h blocks 0 h.depth_ac (omega (arith, none)) (omega arith)
+    ∙ flat_map-span-none (coded_plane book h blocks) 0 in
     puts_whole (subst (λ l. Adds k s s (text l)) (sym nothing) (adds_start k s opened))

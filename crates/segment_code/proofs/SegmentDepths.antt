@@ -28,7 +28,8 @@ unfolding depths_of
 no_greatest marks = refl
 
 -- the greatest depth in one state more
-pub greatest_more : (marks : List ℤ) (i most depth : ℕ) → i < length marks → depth ≡ depth_of (get_or marks i (pos 0)) → most ≡ greatest (λ d. d) (depths_of (take i marks)) →
+pub greatest_more : (marks : List ℤ) (i most depth : ℕ) → i < length marks → depth ≡ depth_of (get_or marks i (pos 0)) →
+    most ≡ greatest (λ d. d) (depths_of (take i marks)) →
     max most depth ≡ greatest (λ d. d) (depths_of (take (i + 1) marks))
 unfolding depths_of
 greatest_more marks i most depth lt is same =

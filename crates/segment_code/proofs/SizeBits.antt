@@ -1,12 +1,12 @@
 -- Sizes by leading zeros, and the greatest of sizes.
-use Rattle.std.proofs.Common.{◌≡◌, ℕ, zero, suc, ◌+◌, ◌-◌, ◌*◌, ◌^◌, ◌<◌, ◌≤◌, List, [], ◌∷◌, ◌++◌, length, max, get_or, arith, ℤ, fold, bit_or, pow_mono, pow-suc}
+use Rattle.std.proofs.Common.{◌≡◌, ℕ, zero, suc, ◌+◌, ◌-◌, ◌*◌, ◌^◌, ◌<◌, ◌≤◌, List, [], ◌∷◌, ◌++◌, length, max, get_or, arith, ℤ, fold, pow_mono}
+use Rattle.std.proofs.Common.{pow-suc}
 use Rattle.std.proofs.lemmas.List.Sums.{fold-append}
-use Rattle.std.proofs.lemmas.Nat.{le_or_l, le_or_r, or_lt}
 use Rattle.std.proofs.lemmas.Bool.Decides.{nat_tests}
 use lib.Count.{count_leading_zeros, leading_length}
 use Rattle.segment_defs.specs.Size.{size_of, greatest}
 use Rattle.segment_defs.specs.Depths.{signed_size}
-use Rattle.segment_defs.proofs.Sizes.{size_is, size_of-unique, size_of-mono, size_of-least}
+use Rattle.segment_defs.proofs.Sizes.{size_of-unique}
 
 -- the first m powers of two are at most n
 powers_below : (m n : ℕ) → 2 ^ m ≤ 2 * n + 1 → (k : ℕ) → k < m → 2 ^ k ≤ n
@@ -22,22 +22,11 @@ size-leading_zeros n lt =
     let same : size_of n ≡ l.0 = size_of-unique n l.0 l.2 (powers_below l.0 n l.3) in
     omega (arith, same, l.1)
 
--- the size of two numbers joined is the greater of their sizes
-pub size-or : (a b : ℕ) → size_of (bit_or a b) ≡ max (size_of a) (size_of b)
-size-or a b =
-    let most = max (size_of a) (size_of b) in
-    let left : 2 ^ size_of a ≤ 2 ^ most = pow_mono {i = size_of a} {j = most} (omega arith) in
-    let right : 2 ^ size_of b ≤ 2 ^ most = pow_mono {i = size_of b} {j = most} (omega arith) in
-    let below : bit_or a b < 2 ^ most = or_lt most a b (omega (arith, left, (size_is a).holds)) (omega (arith, right, (size_is b).holds)) in
-    omega (arith, size_of-least (bit_or a b) most below, size_of-mono a (bit_or a b) (le_or_l a b), size_of-mono b (bit_or a b) (le_or_r a b))
-
-pub size-none : size_of 0 ≡ 0
-size-none = let least = size_of-least 0 0 (omega arith) in omega (arith, least)
-
 module _ {X : Type 0} (f : X → ℕ) where
   within_after : (m a : ℕ) (xs : List X) → a ≤ m → ((k : ℕ) (d : X) → k < length xs → f (get_or xs k d) ≤ m) → fold (λ most x. max most (f x)) a xs ≤ m
   within_after m a [] le h = le
-  within_after m a (x ∷ xs) le h = let here : f x ≤ m = h 0 x (omega arith) in within_after m (max a (f x)) xs (omega arith) (λ k d lt. h (suc k) d (omega arith))
+  within_after m a (x ∷ xs) le h = let here : f x ≤ m =
+      h 0 x (omega arith) in within_after m (max a (f x)) xs (omega arith) (λ k d lt. h (suc k) d (omega arith))
 
   -- the greatest is at most any bound of all
   pub greatest-within : (m : ℕ) (xs : List X) → ((k : ℕ) (d : X) → k < length xs → f (get_or xs k d) ≤ m) → greatest f xs ≤ m

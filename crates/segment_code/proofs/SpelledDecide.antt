@@ -5,11 +5,11 @@ use Rattle.item_defs.specs.Readings.{AreItems, item_at}
 use Rattle.segment_defs.specs.declared.head.SegmentHead.{SegmentHead}
 use Rattle.segment_defs.specs.Head.{IsHead}
 use Rattle.segment_defs.specs.SegmentItems.{Options, segment_items}
-use Rattle.text_defs.specs.Spellable.{IsSpellable, AreWordOptions}
+use Rattle.segment_defs.specs.Spellable.{IsSpellable, AreWordOptions}
 use Rattle.item_defs.specs.Following.{SaysWhat, Follows}
-use Rattle.text_defs.specs.Segments.{segment_script}
-use Rattle.text_defs.specs.TextLaws.{SegmentsAreRead}
-use Rattle.text_defs.proofs.SegmentWritten.{segment_follows, segment_exact, segment_asks}
+use Rattle.segment_defs.specs.Segments.{segment_script}
+use Rattle.segment_defs.specs.TextLaws.{SegmentsAreRead}
+use Rattle.segment_defs.proofs.SegmentWritten.{segment_follows, segment_exact, segment_asks}
 use Rattle.segment_code.specs.TextAnswers.{bits_within, answer_in}
 use Rattle.segment_code.specs.Spelled.{if_whole, SpelledDecide, SpelledTextsDecide}
 use Rattle.segment_code.proofs.Deciding.{Blocks, whole_answer, cut_answer}
@@ -33,14 +33,14 @@ module _ (says_all : SegmentsAreRead) (head : SegmentHead) (size : ℕ) (blocks 
   spelled_decide = record {
     whole = λ are more e. (let w = segment_follows head fits blocks depths options p known are in (w.0, followed are w.0 w.1 more e));
     exact = λ are no_stop more e. followed are blocks (segment_exact head fits blocks depths options p known are no_stop) more e;
-    cut = λ m more front follows. (
+    cut = λ m more prefix follows. (
         let ran = says.is_cut (bits_within head size octets) (record {
           items = take m items;
-          are = front.taken;
+          are = prefix.taken;
           some = more;
-          read = front.read;
+          read = prefix.read;
           form = (item_at items m).form;
-          asks = segment_asks head fits blocks depths options p known m follows.within front.taken;
+          asks = segment_asks head fits blocks depths options p known m follows.within prefix.taken;
           lacks = follows.lacks;
         }) in
         (ran.0, cut_answer options.book head size octets ran.0 ran.1)

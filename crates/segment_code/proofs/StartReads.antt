@@ -1,5 +1,6 @@
 -- The parts of a coded segment before its planes, read one after another.
-use Rattle.std.proofs.Common.{if◌then◌else◌, unsigned_abs, ◌++◌, ◌≡◌, ℕ, ◌+◌, ◌*◌, ◌<◌, ◌^◌, ℤ, pos, ◌-◌, ◌*ℤ◌, List, [], length, Bool, true, false, refl, sym, ap, ◌∙◌, arith, get_or, Option, Some, None, Result, Ok, Err}
+use Rattle.std.proofs.Common.{if◌then◌else◌, unsigned_abs, ◌++◌, ◌≡◌, ℕ, ◌+◌, ◌*◌, ◌<◌, ◌^◌, ℤ, pos, ◌-◌, ◌*ℤ◌, List, [], length, Bool, true, false, refl}
+use Rattle.std.proofs.Common.{sym, ap, ◌∙◌, arith, get_or, Option, Some, None, Result, Ok, Err}
 use Rattle.item_defs.specs.Items.{Form, Refusal, bad_option, bad_delta, bad_depth, false_flag}
 use Rattle.base_122.specs.declared.book.Book.{Book}
 use Rattle.wave_defs.specs.Held.{block_at, blocks_in}
@@ -8,7 +9,7 @@ use Rattle.bit_pipe.specs.declared.fault.Part.TheVariants.{Whole, Ended}
 use Rattle.bit_pipe.specs.declared.fault.TextFault.{TextFault}
 use Rattle.bit_pipe.specs.declared.fault.TextFault.TheVariants as texts
 use Rattle.bit_pipe.specs.Sources.{SourceOf}
-use Rattle.bit_pipe.specs.Coming.{Coming, IsIn}
+use Rattle.bit_pipe.specs.SourceState.{SourceState, IsIn}
 use Rattle.plane_defs.specs.Marks.{depths_of}
 use Rattle.segment_defs.specs.declared.head.SegmentHead.{SegmentHead}
 use Rattle.segment_defs.specs.Head.{IsHead}
@@ -29,7 +30,7 @@ use Rattle.number_defs.proofs.DcLaws.{dc_laws}
 use Rattle.dc_depths.specs.Dcs.{block_count, TakesDcs}
 use Rattle.dc_depths.specs.Depths.{TakesDepths}
 use Rattle.dc_depths.proofs.DcReads.{around_part}
-use Rattle.text_defs.specs.Segments.{dc_blocks, dc_part_script, planes_part_script, segment_script}
+use Rattle.segment_defs.specs.Segments.{dc_blocks, dc_part_script, planes_part_script, segment_script}
 use Rattle.segment_code.specs.Starts.{AreClear, low_bits, HasDc, TakesText, AwaitsPlanes}
 use Rattle.segment_code.proofs.BlocksHeld.{block_long, dc_there, ac_there, blocks_are, marks_are}
 
@@ -59,7 +60,7 @@ module _ {G H A : Type 0} (h : H) where
   in_beside : (s : Script G A) (bits : List Bool) (o : Outcome G A) → run s bits ≡ o → run (beside h s) bits ≡ outcome_beside o
   in_beside s bits o e = run_beside s bits ∙ ap outcome_beside e
 
-module _ {I H A : Type 0} {k : SourceOf I} (h : H) (s : Script A A) (given : A) {a b : Coming I} where
+module _ {I H A : Type 0} {k : SourceOf I} (h : H) (s : Script A A) (given : A) {a b : SourceState I} where
   refused_beside : (name : Refusal) → ReadsAs k s (refuses given name) a b → ReadsAs k (beside h s) (refuses h name) a b
   refused_beside name p = record {
     bits = p.bits;
@@ -95,7 +96,7 @@ module _ (book : Book) (head : SegmentHead) where
   after_dc blocks = if head.stop.dc then done blocks else then_ask (beside blocks (depths_script head.depth_ac head.blocks))
       (planes_part_script book head blocks)
 
-module _ {I : Type 0} {k : SourceOf I} (book : Book) (head : SegmentHead) {a b : Coming I} {before now : List ℤ} (long : length before ≡ 64 * head.blocks)
+module _ {I : Type 0} {k : SourceOf I} (book : Book) (head : SegmentHead) {a b : SourceState I} {before now : List ℤ} (long : length before ≡ 64 * head.blocks)
     (clear : AreClear before) where
   module _ {result : Result Part TextFault} (t : TakesDcs k (dc_script head.depth_dc head.depth_ac (dc_shift head)
       (block_count before)) result a b before now) where
@@ -120,12 +121,12 @@ module _ {I : Type 0} {k : SourceOf I} (book : Book) (head : SegmentHead) {a b :
         (rw e (read_done (blocks_in now) b h))
 
     module _ (e : head.stop.dc ≡ false) where
-      after_depths : (f : Found (List (List ℤ)) (List (List ℤ))) {d : Coming I} → ReadsAs k
+      after_depths : (f : Found (List (List ℤ)) (List (List ℤ))) {d : SourceState I} → ReadsAs k
           (then_ask (beside (blocks_in now) (depths book head)) (planes_part_script book head (blocks_in now))) f b d → ReadsAs k
           (segment_script book head) f a d
       after_depths f p = read_then (dc_part_script head) (after_dc book head) (blocks_in now) f (part_read t) (rw e p)
 
-      module _ {c : Coming I} {marks : List ℤ} (count : length marks ≡ head.blocks) where
+      module _ {c : SourceState I} {marks : List ℤ} (count : length marks ≡ head.blocks) where
         pub depths_fault : (fault : TextFault) → TakesDepths k head.depth_ac (Err fault) b c marks → TakesText k book head (Err fault) a c now
         depths_fault fault u = after_depths (by_fault fault (blocks_in now))
             (read_fault _ _ (blocks_in now) fault (beside_fault (blocks_in now) (depths book head) u.given fault (rw count at u.read)))

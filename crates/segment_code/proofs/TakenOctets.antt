@@ -1,5 +1,6 @@
 -- The octets of the bits that were taken of a text.
-use Rattle.std.proofs.Common.{◌≡◌, ◌≢◌, ℕ, ◌+◌, ◌*◌, ◌/◌, ◌%◌, ◌^◌, ◌≤◌, inl, inr, Bool, true, false, cond, List, [], ◌∷◌, ◌++◌, length, refl, sym, ap, ◌∙◌, arith, append_assoc, append-nil, length-append}
+use Rattle.std.proofs.Common.{◌≡◌, ◌≢◌, ℕ, ◌+◌, ◌*◌, ◌/◌, ◌%◌, ◌^◌, ◌≤◌, inl, inr, Bool, true, false, cond, List, [], ◌∷◌, ◌++◌, length, refl, sym, ap, ◌∙◌}
+use Rattle.std.proofs.Common.{arith, append_assoc, append-nil, length-append}
 use Rattle.std.specs.Int.{div_ceil}
 use Rattle.std.proofs.lemmas.Nat.{div-add-mod'}
 use Rattle.item_defs.specs.Bits.{bits_of_octets}
@@ -8,7 +9,7 @@ use Rattle.item_defs.proofs.OctetBits.{octets_append, length-bits_of_octets}
 use Rattle.item_defs.proofs.Rounding.{rounded_least}
 use Rattle.bit_pipe.specs.Bounds.{bound_of}
 use Rattle.bit_pipe.specs.Sources.{SourceOf}
-use Rattle.bit_pipe.specs.Coming.{Coming, BeginsIn, Takes}
+use Rattle.bit_pipe.specs.SourceState.{SourceState, BeginsIn, Takes}
 use Rattle.segment_defs.specs.declared.head.SegmentHead.{SegmentHead}
 use Rattle.segment_defs.specs.Head.{IsHead}
 use Rattle.segment_code.specs.TextAnswers.{bits_within, whole_octets}
@@ -27,7 +28,7 @@ rounded_in word limit used some whole le =
     let most = rounded_least (8 * word) used (limit / word) (omega (arith, some)) (omega (arith, all, le)) in
     omega (arith, most, all)
 
-module _ {I : Type 0} (k : SourceOf I) (head : SegmentHead) (size : ℕ) (old : I) (start stop : Coming I)
+module _ {I : Type 0} (k : SourceOf I) (head : SegmentHead) (size : ℕ) (old : I) (start stop : SourceState I)
     (begins : BeginsIn old (bound_of head.limit) size start)
     (bits : List Bool) (p : Takes k start stop bits) where
   all_bits : bits_of_octets p.octets ≡ bits ++ stop.pending

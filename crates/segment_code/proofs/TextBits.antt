@@ -13,7 +13,7 @@ use Rattle.segment_defs.specs.Depths.{dcs_of}
 use Rattle.segment_defs.specs.Head.{IsHead, head_bits}
 use Rattle.segment_defs.specs.SegmentItems.{Options, dc_shift, dc_part_items, nth_plane_items, planes_items, items_after_dc, segment_items}
 use Rattle.segment_head.proofs.WrittenHeads.{length-head_bits}
-use Rattle.text_defs.specs.Spellable.{AreWordOptions, AreNumberOptions}
+use Rattle.segment_defs.specs.Spellable.{AreWordOptions, AreNumberOptions}
 use Rattle.segment_defs.proofs.SentStages.{sent_most}
 use Rattle.segment_code.specs.ShortTexts.{TextsAreShort}
 use Rattle.segment_code.proofs.NumberBits.{dc_few, depths_few}
@@ -23,8 +23,10 @@ use Rattle.segment_code.proofs.PlaneBits.{plane_few}
 pub head_short : (last : Bool) → (if last then 20 else 19) ≤ 20
 head_short last = grind (arith, nat_tests)
 
-module _ (h : SegmentHead) (blocks : List (List ℤ)) (depths : List ℕ) (o : Options) (ok : IsHead h) (ten : length h.image.weights.shifts ≡ 10) (blocks_all : length blocks ≡ h.blocks)
-    (depths_all : length depths ≡ h.blocks) (fit : DcsFit h.depth_dc h.depth_ac (dc_shift h) (dcs_of blocks)) (few : AreFew (depth_bits h.depth_ac) depths) (words : AreWordOptions o) (known : AreNumberOptions h o) where
+module _ (h : SegmentHead) (blocks : List (List ℤ)) (depths : List ℕ) (o : Options) (ok : IsHead h) (ten : length h.image.weights.shifts ≡ 10)
+    (blocks_all : length blocks ≡ h.blocks)
+    (depths_all : length depths ≡ h.blocks) (fit : DcsFit h.depth_dc h.depth_ac (dc_shift h) (dcs_of blocks)) (few : AreFew (depth_bits h.depth_ac) depths)
+    (words : AreWordOptions o) (known : AreNumberOptions h o) where
   plane_short : (n : ℕ) → length (text (nth_plane_items h blocks depths o n)) ≤ 2 ^ 20 * 338
   plane_short n = grind (arith, nat_tests, plane_few, sent_most, plane_text)
 
@@ -35,7 +37,8 @@ module _ (h : SegmentHead) (blocks : List (List ℤ)) (depths : List ℕ) (o : O
   dcs_short = grind (arith, nat_tests, length-map, dc_few)
 
   depths_short : length (text (depth_items h.depth_ac depths o.depths)) ≤ 2 ^ 31
-  depths_short = depths_few h.depth_ac depths o.depths ok.depth_ac (omega (arith, depths_all, ok.blocks)) few (λ two g lt. known.depths two g (omega (arith, lt, depths_all)))
+  depths_short = depths_few h.depth_ac depths o.depths ok.depth_ac (omega (arith, depths_all, ok.blocks)) few
+      (λ two g lt. known.depths two g (omega (arith, lt, depths_all)))
 
   rest_short : length (text (items_after_dc h blocks depths o)) ≤ 2 ^ 31 + 27 * (2 ^ 20 * 338)
   rest_short = grind (arith, nat_tests, depths_short, planes_short, text-append, length-append)

@@ -13,12 +13,12 @@ use Rattle.segment_defs.proofs.WrittenFields.{octets_of-append}
 -- the first octets are those of the first bits
 pub take-octets_of : (n : ℕ) (bits : List Bool) → 8 * n ≤ length bits → take n (octets_of bits) ≡ octets_of (take (8 * n) bits)
 take-octets_of n bits le =
-    let front = take (8 * n) bits in
-    let long : length front ≡ 8 * n = length-take-le (8 * n) bits le in
-    let count : length (octets_of front) ≡ n = length-octets_of front ∙ omega (arith, long) in
+    let prefix = take (8 * n) bits in
+    let long : length prefix ≡ 8 * n = length-take-le (8 * n) bits le in
+    let count : length (octets_of prefix) ≡ n = length-octets_of prefix ∙ omega (arith, long) in
     ap (λ r. take n (octets_of r)) (sym (take-append-drop (8 * n) bits))
-    ∙ ap (take n) (octets_of-append n front (drop (8 * n) bits) long)
-    ∙ take_at (octets_of front) (octets_of (drop (8 * n) bits)) n count
+    ∙ ap (take n) (octets_of-append n prefix (drop (8 * n) bits) long)
+    ∙ take_at (octets_of prefix) (octets_of (drop (8 * n) bits)) n count
 
 -- ---- a limit of whole words
 
@@ -34,11 +34,13 @@ padded_within word limit used fill l le = grind (arith, nat_tests, rounded_least
 pub padded_least : (word limit used : ℕ) (fill : Bool) → 1 ≤ word → used ≤ padded_length word limit fill used
 padded_least word limit used fill some = grind (arith, nat_tests, rounded_bounds)
 
-pub length-padded : (word limit : ℕ) (fill : Bool) (bits : List Bool) → 1 ≤ word → length (padded word limit fill bits) ≡ padded_length word limit fill (length bits)
+pub length-padded : (word limit : ℕ) (fill : Bool) (bits : List Bool) → 1 ≤ word → length (padded word limit fill bits) ≡ padded_length word limit fill
+    (length bits)
 length-padded word limit fill bits some = grind (arith, nat_tests, length-append, length-copies, padded_least)
 
 -- all bits fit below the limit
-pub text_within : (word limit : ℕ) (fill : Bool) (bits : List Bool) → IsLimit word limit → length bits ≤ 8 * limit → octets_of (padded word limit fill bits) ≡ text_octets word limit fill bits
+pub text_within : (word limit : ℕ) (fill : Bool) (bits : List Bool) → IsLimit word limit → length bits ≤ 8 * limit → octets_of (padded word limit fill bits)
+    ≡ text_octets word limit fill bits
 unfolding text_octets
 text_within word limit fill bits l le = grind (arith, nat_tests, length-octets_of, length-padded, padded_within, take_all)
 
@@ -48,14 +50,17 @@ unfolding text_octets
 text_unlimited word bound bits = refl
 
 -- the bits reach the limit or exceed it
-pub text_cut : (word limit : ℕ) (fill : Bool) (bits : List Bool) → IsLimit word limit → 8 * limit ≤ length bits → octets_of (padded word limit fill (take (8 * limit) bits)) ≡ text_octets word limit fill bits
+pub text_cut : (word limit : ℕ) (fill : Bool) (bits : List Bool) → IsLimit word limit → 8 * limit ≤ length bits →
+    octets_of (padded word limit fill (take (8 * limit) bits)) ≡ text_octets word limit fill bits
 unfolding text_octets
 text_cut word limit fill bits l le =
     let there : (limit == 0) ≡ false = grind (arith, nat_tests, l.some) in
-    let front = take (8 * limit) bits in
-    let long : length front ≡ 8 * limit = length-take-le (8 * limit) bits le in
-    let none : padding word limit fill (length front) ≡ 0 = ap (padding word limit fill) long ∙ (let w = padded_within word limit (8 * limit) fill l (omega arith) in omega (arith, w)) in
-    let here : padded word limit fill front ≡ front = ap (λ n. front ++ copies n false) none ∙ ap (λ r. front ++ r) (copies_none false) ∙ append-nil front in
+    let prefix = take (8 * limit) bits in
+    let long : length prefix ≡ 8 * limit = length-take-le (8 * limit) bits le in
+    let none : padding word limit fill (length prefix) ≡ 0 =
+    ap (padding word limit fill) long ∙ (let w = padded_within word limit (8 * limit) fill l (omega arith) in omega (arith, w)) in
+    let here : padded word limit fill prefix ≡ prefix = ap (λ n. prefix ++ copies n false) none ∙ ap (λ r. prefix ++ r) (copies_none false)
+    ∙ append-nil prefix in
     let zeros = copies (padding word limit fill (length bits)) false in
     rw there (
     ap octets_of here

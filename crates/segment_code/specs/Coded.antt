@@ -6,10 +6,10 @@ use Rattle.segment_defs.specs.declared.head.SegmentHead.{SegmentHead}
 use Rattle.segment_defs.specs.Depths.{block_depths, depth_ac_of}
 use Rattle.segment_defs.specs.Head.{IsHead, head_length}
 use Rattle.segment_defs.specs.Coded.{coded_bits, coded}
-use Rattle.text_defs.specs.Spellable.{IsSpellable}
-use Rattle.text_defs.specs.TextLaws.{HasAllPlanes}
-use Rattle.text_defs.specs.TextOutcome.{Answer, text_outcome}
-use Rattle.text_defs.specs.Parts.{IsPart, stopped}
+use Rattle.segment_defs.specs.Spellable.{IsSpellable}
+use Rattle.segment_defs.specs.TextLaws.{HasAllPlanes}
+use Rattle.segment_defs.specs.TextOutcome.{Answer, text_outcome}
+use Rattle.segment_defs.specs.Parts.{IsPart, stopped}
 
 -- what the coded text of these blocks holds, after its head
 abbrev pub coded_outcome : Book → SegmentHead → List (List ℤ) → Answer

@@ -6,12 +6,13 @@ use Rattle.base_122.specs.declared.book.Book.{Book}
 use Rattle.wave_defs.specs.Held.{blocks_in}
 use Rattle.bit_pipe.specs.Sinks.{Rose}
 use Rattle.bit_pipe.specs.declared.fault.Part.{Part}
-use Rattle.bit_pipe.specs.Sources.{SourceOf, Comes, IsOver, Plainly, TooLong, InPieces}
+use Rattle.bit_pipe.specs.Sources.{SourceOf, Arrives, IsOver, Plainly, TooLong, InPieces}
 use Rattle.segment_defs.specs.declared.head.SegmentHead.{SegmentHead}
 use Rattle.segment_defs.specs.Head.{head_length}
 use Rattle.segment_code.specs.TextAnswers.{gives, refuses, Decides, NeedsMore}
 use Rattle.segment_code.specs.declared.fault.SegmentFault.{SegmentFault}
-use Rattle.segment_code.specs.declared.fault.SegmentFault.TheVariants.{BadOption, BadDelta, BadDepth, FalseFlag, ShortSegment, Overlong, BrokenSegment, ReadFault, LongInput}
+use Rattle.segment_code.specs.declared.fault.SegmentFault.TheVariants.{BadOption, BadDelta, BadDepth, FalseFlag, ShortSegment, Overlong, BrokenSegment}
+use Rattle.segment_code.specs.declared.fault.SegmentFault.TheVariants.{ReadFault, LongInput}
 
 -- exactly these octets are a text
 pub record IsText (book : Book) (head : SegmentHead) (octets : List ℕ) : Type 0 where
@@ -21,10 +22,10 @@ pub record IsText (book : Book) (head : SegmentHead) (octets : List ℕ) : Type 
 
 -- the octets are those of a text, and one more
 pub record Overruns (book : Book) (head : SegmentHead) (octets : List ℕ) : Type 0 where
-  pub front : List ℕ
+  pub prefix : List ℕ
   pub next : ℕ
-  pub both : octets ≡ front ++ next ∷ []
-  pub text : IsText book head front
+  pub both : octets ≡ prefix ++ next ∷ []
+  pub text : IsText book head prefix
 
 -- the octets decide nothing yet, or are a text whose end was asked for
 abbrev pub IsOpen : Book → SegmentHead → List ℕ → Type 0
@@ -48,7 +49,7 @@ pub record DecodesSegment {I : Type 0} (k : SourceOf I) (book : Book) (head : Se
     (blocks : List ℤ) : Type 0 where
   pub octets : List ℕ
   pub small : AreOctets octets
-  pub came : Comes (k.tail old) (k.tail new) octets
+  pub came : Arrives (k.tail old) (k.tail new) octets
   pub faults : k.faults old ≤ k.faults new
   pub went : k.Went old new
   pub ends : EndsSegment k book head result octets old new blocks

@@ -6,11 +6,12 @@ use Rattle.base_122.specs.declared.book.Book.{Book}
 use Rattle.wave_defs.specs.Held.{blocks_in}
 use Rattle.bit_pipe.specs.Sinks.{Rose}
 use Rattle.bit_pipe.specs.declared.fault.Part.{Part}
-use Rattle.bit_pipe.specs.Sources.{SourceOf, Comes, IsOver, Plainly, TooLong, InPieces}
+use Rattle.bit_pipe.specs.Sources.{SourceOf, Arrives, IsOver, Plainly, TooLong, InPieces}
 use Rattle.segment_defs.specs.declared.head.SegmentHead.{SegmentHead}
 use Rattle.segment_code.specs.TextAnswers.{gives, refuses, Decides, NeedsMore}
 use Rattle.segment_code.specs.declared.fault.SegmentFault.{SegmentFault}
-use Rattle.segment_code.specs.declared.fault.SegmentFault.TheVariants.{BadOption, BadDelta, BadDepth, FalseFlag, ShortSegment, Overlong, BrokenSegment, ReadFault, LongInput}
+use Rattle.segment_code.specs.declared.fault.SegmentFault.TheVariants.{BadOption, BadDelta, BadDepth, FalseFlag, ShortSegment, Overlong, BrokenSegment}
+use Rattle.segment_code.specs.declared.fault.SegmentFault.TheVariants.{ReadFault, LongInput}
 
 -- the answer that the octets decide; or the input ended, or failed, where more octets are needed
 abbrev pub EndsItems : {I : Type 0} → SourceOf I → Book → SegmentHead → (size : ℕ) → Result Part SegmentFault → List ℕ → I → I → List ℤ → Type 0
@@ -31,7 +32,7 @@ pub record DecodesItems {I : Type 0} (k : SourceOf I) (book : Book) (head : Segm
     (blocks : List ℤ) : Type 0 where
   pub octets : List ℕ
   pub small : AreOctets octets
-  pub came : Comes (k.tail old) (k.tail new) octets
+  pub came : Arrives (k.tail old) (k.tail new) octets
   pub faults : k.faults old ≤ k.faults new
   pub went : k.Went old new
   pub ends : EndsItems k book head size result octets old new blocks

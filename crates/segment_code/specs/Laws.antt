@@ -6,8 +6,8 @@ use Rattle.item_defs.specs.Items.{Refusal}
 use Rattle.bit_pipe.specs.declared.fault.Part.{Part}
 use Rattle.segment_defs.specs.declared.head.SegmentHead.{SegmentHead}
 use Rattle.segment_defs.specs.Head.{IsHead, head_length}
-use Rattle.text_defs.specs.Outcomes.{at_item, short_segment, overlong}
-use Rattle.text_defs.specs.TextOutcome.{Answer, text_outcome}
+use Rattle.segment_defs.specs.Outcomes.{at_item, short_segment, overlong}
+use Rattle.segment_defs.specs.TextOutcome.{Answer, text_outcome}
 use Rattle.segment_code.specs.TextAnswers.{TextAnswer, gives, refuses, Decided, answer_in, Decides, NeedsMore}
 use Rattle.segment_code.specs.Decoded.{Overruns}
 

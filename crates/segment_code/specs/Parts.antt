@@ -5,7 +5,7 @@ use Rattle.plane_defs.specs.Codes.{is_book_sound}
 use Rattle.bit_pipe.specs.declared.fault.Part.{Part}
 use Rattle.segment_defs.specs.declared.head.SegmentHead.{SegmentHead}
 use Rattle.segment_defs.specs.Head.{IsHead}
-use Rattle.text_defs.specs.Parts.{AreWeighted}
+use Rattle.segment_defs.specs.Parts.{AreWeighted}
 use Rattle.segment_code.specs.TextAnswers.{gives, answer_in}
 
 -- what a text gives, whole or cut, are blocks of multiples of their weights

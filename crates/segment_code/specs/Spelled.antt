@@ -6,9 +6,9 @@ use Rattle.bit_pipe.specs.declared.fault.Part.TheVariants.{Whole, Ended}
 use Rattle.segment_defs.specs.declared.head.SegmentHead.{SegmentHead}
 use Rattle.segment_defs.specs.Head.{IsHead}
 use Rattle.segment_defs.specs.SegmentItems.{Options, segment_items}
-use Rattle.text_defs.specs.Fronts.{Front, NothingFollows}
-use Rattle.text_defs.specs.Spellable.{IsSpellable, AreWordOptions}
-use Rattle.text_defs.specs.TextLaws.{HasAllPlanes}
+use Rattle.segment_defs.specs.Prefixes.{Prefix, NothingFollows}
+use Rattle.segment_defs.specs.Spellable.{IsSpellable, AreWordOptions}
+use Rattle.segment_defs.specs.TextLaws.{HasAllPlanes}
 use Rattle.segment_code.specs.TextAnswers.{gives, Decided, if_enough, bits_within, whole_octets, answer_in}
 
 -- the answer of a text whose items, of this number of bits, are all given, and of one that is cut within an item
@@ -28,7 +28,7 @@ pub record SpelledDecide (head : SegmentHead) (size : ℕ) (blocks : List (List 
   pub exact : AreItems (segment_items head blocks depths options) → HasAllPlanes head → (more : List Bool) →
       bits_within head size octets ≡ text (segment_items head blocks depths options) ++ more →
       answer_in options.book head size octets ≡ if_whole head size (length octets) (length (text (segment_items head blocks depths options))) blocks
-  pub cut : (m : ℕ) (more : List Bool) → Front (segment_items head blocks depths options) m (bits_within head size octets) more →
+  pub cut : (m : ℕ) (more : List Bool) → Prefix (segment_items head blocks depths options) m (bits_within head size octets) more →
       NothingFollows (segment_items head blocks depths options) m more →
       (w : List (List ℤ)) × (answer_in options.book head size octets ≡ if_cut head size (length octets) w)
 

@@ -5,7 +5,7 @@ use Rattle.bit_pipe.specs.declared.fault.Part.{Part}
 use Rattle.bit_pipe.specs.declared.fault.TextFault.{TextFault}
 use Rattle.bit_pipe.specs.Bounds.{bound_of}
 use Rattle.bit_pipe.specs.Sources.{SourceOf}
-use Rattle.bit_pipe.specs.Coming.{Coming, BeginsIn}
+use Rattle.bit_pipe.specs.SourceState.{SourceState, BeginsIn}
 use Rattle.segment_defs.specs.declared.head.SegmentHead.{SegmentHead}
 use Rattle.segment_code.specs.Starts.{TakesText}
 
@@ -17,10 +17,10 @@ with_used (Err fault) used = Err fault
 -- the items were read from an input that is after the head, of `size` octets
 pub record TakesFrom {I : Type 0} (k : SourceOf I) (book : Book) (head : SegmentHead) (size : ℕ) (result : Result (Part × ℕ) TextFault) (old new : I)
     (now : List ℤ) : Type 0 where
-  pub start : Coming I
+  pub start : SourceState I
   pub begins : BeginsIn old (bound_of head.limit) size start
-  pub stop : Coming I
-  pub stands : stop.source ≡ new
+  pub stop : SourceState I
+  pub valid : stop.source ≡ new
   pub answered : Result Part TextFault
   pub text : TakesText k book head answered start stop now
   pub answer : result ≡ with_used answered stop.used

@@ -3,7 +3,7 @@ use Rattle.std.specs.Prelude.{◌≡◌, ℕ, ℤ, List, ◌++◌, length, Resul
 use Rattle.item_defs.specs.Items.{text}
 use Rattle.base_122.specs.declared.book.Book.{Book}
 use Rattle.bit_pipe.specs.Sinks.{SinkOf, Rose}
-use Rattle.bit_pipe.specs.Standing.{Standing, Puts}
+use Rattle.bit_pipe.specs.SinkState.{SinkState, Puts}
 use Rattle.bit_pipe.specs.declared.fault.PutFault.{PutFault}
 use Rattle.segment_defs.specs.declared.head.SegmentHead.{SegmentHead}
 use Rattle.segment_defs.specs.Depths.{block_depths}
@@ -17,12 +17,13 @@ pub record GivesText {S : Type 0} (k : SinkOf S) (old new : S) (text : List ℕ)
 
 -- a call failed while a prefix of these octets was given
 pub record BreaksWithin {S : Type 0} (k : SinkOf S) (old new : S) (octets : List ℕ) : Type 0 where
-  pub front : List ℕ
+  pub prefix : List ℕ
   pub more : List ℕ
-  pub parts : octets ≡ front ++ more
-  pub broke : k.Broke old new front
+  pub parts : octets ≡ prefix ++ more
+  pub broke : k.Broke old new prefix
   pub rose : Rose (k.counts old).faults (k.counts new).faults
 
 -- the items of a segment's text were put, with the options that a writer chooses
-pub record EncodesItems {S T : Type 0} (k : SinkOf S) (book : Book) (head : SegmentHead) (blocks : List (List ℤ)) (result : Result T PutFault) (old new : Standing S) : Type 0 where
+pub record EncodesItems {S T : Type 0} (k : SinkOf S) (book : Book) (head : SegmentHead) (blocks : List (List ℤ)) (result : Result T PutFault)
+    (old new : SinkState S) : Type 0 where
   pub puts : Puts k result old new (text (segment_items head blocks (block_depths blocks) (chosen_options book head blocks)))

@@ -11,7 +11,7 @@ use Rattle.bit_pipe.specs.declared.fault.Part.TheVariants.{Whole, Ended}
 use Rattle.segment_defs.specs.declared.head.SegmentHead.{SegmentHead}
 use Rattle.item_defs.specs.Outcomes.{Outcome, whole, cut, refused}
 use Rattle.item_defs.specs.Scripts.{run}
-use Rattle.text_defs.specs.Segments.{segment_script}
+use Rattle.segment_defs.specs.Segments.{segment_script}
 
 -- the numbers of all blocks, given by all items or by those before the limit; or the name by which an item is refused
 pub data TextAnswer : Type 0 where

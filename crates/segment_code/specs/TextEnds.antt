@@ -6,7 +6,7 @@ use Rattle.item_defs.specs.Padding.{rounded}
 use Rattle.bit_pipe.specs.Sinks.{Rose}
 use Rattle.bit_pipe.specs.declared.fault.Part.{Part}
 use Rattle.bit_pipe.specs.declared.fault.Part.TheVariants.{Whole, Ended}
-use Rattle.bit_pipe.specs.Sources.{SourceOf, Comes, IsOver, Plainly, TooLong, InPieces}
+use Rattle.bit_pipe.specs.Sources.{SourceOf, Arrives, IsOver, Plainly, TooLong, InPieces}
 use Rattle.segment_defs.specs.declared.head.SegmentHead.{SegmentHead}
 use Rattle.segment_code.specs.declared.fault.SegmentFault.{SegmentFault}
 use Rattle.segment_code.specs.declared.fault.SegmentFault.TheVariants.{ShortSegment, BrokenSegment, ReadFault, LongInput}
@@ -28,7 +28,7 @@ EndsLength k count part (Err other) octets old new = ⊥
 pub record Passes {I : Type 0} (k : SourceOf I) (count : ℕ) (part : Part) (result : Result Part SegmentFault) (old new : I) : Type 0 where
   pub octets : List ℕ
   pub small : AreOctets octets
-  pub came : Comes (k.tail old) (k.tail new) octets
+  pub came : Arrives (k.tail old) (k.tail new) octets
   pub faults : k.faults old ≤ k.faults new
   pub went : k.Went old new
   pub ends : EndsLength k count part result octets old new

@@ -5,7 +5,7 @@ use Rattle.base_122.specs.Profile.{profile}
 use Rattle.bit_pipe.specs.declared.fault.Part.TheVariants.{Whole, Ended}
 use Rattle.segment_defs.specs.Head.{head_length}
 use Rattle.segment_defs.specs.Reading.{head_in}
-use Rattle.text_defs.specs.Worked.{sparse, last_head, inner_head}
+use Rattle.segment_defs.specs.Worked.{sparse, last_head, inner_head}
 use Rattle.segment_code.specs.TextAnswers.{TextAnswer, gives, refuses, Decided, answer_in}
 
 -- what these octets hold, the head included

@@ -1,10 +1,12 @@
 // The depths of a segment's blocks.
-ghost use Rattle.std.specs.Prelude.{◌≡◌, ◌≤◌, length, map, pos, unsigned_abs};
+ghost use Rattle.std.specs.Prelude.{◌≡◌, ◌≤◌, ◌<◌, ◌^◌, ℕ, length, map, pos, slice_index_or, unsigned_abs, FitsSigned};
+ghost use Rattle.std.specs.Int.{w32};
 ghost use Rattle.segment_defs.specs.Size.{size_of, greatest};
 ghost use Rattle.plane_defs.specs.Marks.{depths_of};
 ghost use Rattle.segment_defs.specs.Depths.{dc_of, block_depth, signed_size};
 
 use block_masks::depth_of;
+use std::simd::prelude::*;
 
 // Leaves only the depths in the states of blocks.
 pub(crate) fn reset_marks(marks: &mut [i32])
@@ -42,7 +44,8 @@ pub(crate) fn block_depth(block: &[i32]) -> u8
     requires { length block.now ≡ 64 }
     ensures { result ≡ block_depth block.now }
 {
-    greatest_size(&block[1..])
+    // All magnitudes joined have the greatest size.
+    size(joined_magnitudes(block))
 }
 
 // Returns the least depth that holds a block's DC.
@@ -53,16 +56,33 @@ pub(crate) fn dc_depth(block: &[i32]) -> u8
     signed_size(block[0])
 }
 
-// Returns the greatest size of a magnitude, in bits.
-fn greatest_size(numbers: &[i32]) -> u8
-    ensures { result ≡ greatest (λ z. size_of (unsigned_abs z)) numbers.now }
+// Reads a block for the proof, which then knows that each number fits its type. It compiles to no code.
+#[inline(always)]
+fn read(block: &[i32])
+    requires { length block.now ≡ 64 }
+    ensures { (k : ℕ) → k < 64 → FitsSigned w32 (slice_index_or block.now k (pos 0)) }
 {
-    // All magnitudes joined have the greatest size, and no comparison waits for the one before it.
-    let mut joined = 0u32;
-    for number in numbers {
-        joined |= number.unsigned_abs();
+    for k in 0..64 {
+        let _number = block[k];
     }
-    size(joined)
+}
+
+// Returns the magnitudes of a block's AC coefficients, joined bit by bit.
+#[inline(always)]
+fn joined_magnitudes(block: &[i32]) -> u32
+    requires { length block.now ≡ 64 }
+    ensures below { (m : ℕ) → ((k : ℕ) → 0 < k → k < 64 → unsigned_abs (slice_index_or block.now k (pos 0)) < 2 ^ m) → result < 2 ^ m }
+    ensures least { (k : ℕ) → 0 < k → k < 64 → unsigned_abs (slice_index_or block.now k (pos 0)) ≤ result }
+{
+    read(block);
+    let first = i32x16::from_slice(&block[1..]).abs();
+    let second = i32x16::from_slice(&block[17..]).abs();
+    let third = i32x16::from_slice(&block[33..]).abs();
+    // Number 48 is in the third and in the fourth lanes.
+    let fourth = i32x16::from_slice(&block[48..]).abs();
+    (first | second | third | fourth)
+        .reduce_or()
+        .cast_unsigned()
 }
 
 // Returns the least number of bits that holds a number in two's complement.

@@ -1,7 +1,7 @@
 // The writer of a segment's text.
 ghost use Rattle.std.specs.Prelude.{◌≡◌, ◌≤◌, ◌*◌, IsTrue, length, take, MatchResult};
 ghost use Rattle.item_defs.specs.Items.{text};
-ghost use Rattle.bit_pipe.specs.Standing.{stand, Adds, Breaks, Puts, IsReady, Writes};
+ghost use Rattle.bit_pipe.specs.SinkState.{sink_state, Adds, Breaks, Puts, IsReady, Writes};
 ghost use Rattle.wave_defs.specs.Held.{blocks_in};
 ghost use Rattle.plane_defs.specs.Codes.{is_book_sound};
 ghost use Rattle.segment_defs.specs.Depths.{depth_dc_of, depth_ac_of};
@@ -84,7 +84,8 @@ impl SegmentWriter {
         requires count { length blocks.old.numbers ≡ 64 * head.now.blocks }
         requires dc { head.now.depth_dc ≡ depth_dc_of (blocks_in blocks.old.numbers) }
         requires ac { head.now.depth_ac ≡ depth_ac_of (blocks_in blocks.old.numbers) }
-        ensures encodes { EncodesItems O.sink self.now.tables.book head.now (blocks_in blocks.old.numbers) result (stand O.sink out.old) (stand O.sink out.new) }
+        ensures encodes { EncodesItems O.sink self.now.tables.book head.now (blocks_in blocks.old.numbers) result (sink_state O.sink out.old)
+            (sink_state O.sink out.new) }
         ensures most { blocks.new.most ≡ blocks.old.most }
         ensures numbers { blocks.new.numbers ≡ blocks.old.numbers }
     {
@@ -127,13 +128,15 @@ fn put_fitting<O: OctetOut>(
 ) -> Result<(), Failed>
     requires fits { IsHead head.now }
     requires open { IsReady O.sink out.old }
-    requires room { 8 * head_length head.now ≤ (stand O.sink out.old).room }
+    requires room { 8 * head_length head.now ≤ (sink_state O.sink out.old).room }
     requires count { length blocks.old.numbers ≡ 64 * head.now.blocks }
     requires dc { head.now.depth_dc ≡ depth_dc_of (blocks_in blocks.old.numbers) }
     requires ac { head.now.depth_ac ≡ depth_ac_of (blocks_in blocks.old.numbers) }
     ensures puts { MatchResult result
-        (λ _. Adds O.sink (stand O.sink out.old) (stand O.sink out.new) (take (stand O.sink out.old).room (coded_bits tables.now.book head.now (blocks_in blocks.old.numbers))))
-        (λ _. Breaks O.sink (stand O.sink out.old) (stand O.sink out.new) (take (stand O.sink out.old).room (coded_bits tables.now.book head.now (blocks_in blocks.old.numbers)))) }
+        (λ _. Adds O.sink (sink_state O.sink out.old) (sink_state O.sink out.new)
+        (take (sink_state O.sink out.old).room (coded_bits tables.now.book head.now (blocks_in blocks.old.numbers))))
+        (λ _. Breaks O.sink (sink_state O.sink out.old) (sink_state O.sink out.new)
+        (take (sink_state O.sink out.old).room (coded_bits tables.now.book head.now (blocks_in blocks.old.numbers)))) }
     ensures ten { length head.now.image.weights.shifts ≡ 10 }
     ensures most { blocks.new.most ≡ blocks.old.most }
     ensures numbers { blocks.new.numbers ≡ blocks.old.numbers }
@@ -154,7 +157,7 @@ fn put_text<O: OctetOut>(
 ) -> Result<(), PutFault>
     requires fits { IsHead head.now }
     requires open { IsReady O.sink out.old }
-    requires room { 8 * head_length head.now ≤ (stand O.sink out.old).room }
+    requires room { 8 * head_length head.now ≤ (sink_state O.sink out.old).room }
     requires count { length blocks.old.numbers ≡ 64 * head.now.blocks }
     requires dc { head.now.depth_dc ≡ depth_dc_of (blocks_in blocks.old.numbers) }
     requires ac { head.now.depth_ac ≡ depth_ac_of (blocks_in blocks.old.numbers) }
@@ -184,7 +187,8 @@ fn put_items<O: OctetOut>(
     requires count { length blocks.old.numbers ≡ 64 * head.now.blocks }
     requires dc { head.now.depth_dc ≡ depth_dc_of (blocks_in blocks.old.numbers) }
     requires ac { head.now.depth_ac ≡ depth_ac_of (blocks_in blocks.old.numbers) }
-    ensures encodes { EncodesItems O.sink tables.now.book head.now (blocks_in blocks.old.numbers) result (stand O.sink out.old) (stand O.sink out.new) }
+    ensures encodes { EncodesItems O.sink tables.now.book head.now (blocks_in blocks.old.numbers) result (sink_state O.sink out.old)
+        (sink_state O.sink out.new) }
     ensures most { blocks.new.most ≡ blocks.old.most }
     ensures numbers { blocks.new.numbers ≡ blocks.old.numbers }
 {

@@ -6,7 +6,7 @@ ghost use Rattle.segment_code.specs.Spelled.{SpelledTextsDecide};
 ghost use Rattle.segment_code.specs.Worked.{WorkedAnswers};
 ghost use Rattle.segment_code.specs.ShortTexts.{TextsAreShort};
 
-use text_defs::{segments_are_read, texts_are_read};
+use segment_defs::{segments_are_read, texts_are_read};
 
 /// Octets of coded segments that are worked out by hand hold what they should.
 pub const fn worked_answers()

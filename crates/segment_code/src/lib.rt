@@ -1,6 +1,10 @@
 //! This crate writes and reads a whole segment: its depths and its text (docs/formats.md, "Segments and depths", "Stops, cut and
 //! fill" and "Reading a segment").
 //!
+//! Layer: bits and the parts of a segment. It uses `base_122`, `item_defs`, `number_defs`, `wave_defs`, `plane_defs`, `segment_defs`,
+//! `block_masks` and 6 more. It is used by `bare_text`, `strip_coder`, `segment_walk`, `encoder_rows`, `strip_decoder`, `quick_look`,
+//! `damage_rects` and 4 more.
+//!
 //! A segment's blocks are decoded from the octets after its header so (`read_text` of `crate_examples`):
 //!
 //! ```rust

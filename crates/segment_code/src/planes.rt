@@ -1,7 +1,7 @@
 // The writer of the bit planes of a segment.
 ghost use Rattle.std.specs.Prelude.{◌≡◌, ◌<◌, ◌≤◌, ◌+◌, ◌-◌};
 ghost use Rattle.item_defs.specs.Items.{text};
-ghost use Rattle.bit_pipe.specs.Standing.{IsReady, Writes};
+ghost use Rattle.bit_pipe.specs.SinkState.{IsReady, Writes};
 ghost use Rattle.wave_defs.specs.Held.{blocks_in};
 ghost use Rattle.block_masks.specs.SegmentNumbers.{AreAbove};
 ghost use Rattle.segment_defs.specs.Depths.{depth_ac_of};

@@ -1,6 +1,6 @@
 // The reader of the DC part and the block depths.
 ghost use Rattle.std.specs.Prelude.{◌≡◌, ◌*◌, length};
-ghost use Rattle.bit_pipe.specs.Coming.{coming, IsIn};
+ghost use Rattle.bit_pipe.specs.SourceState.{source_state, IsIn};
 ghost use Rattle.base_122.specs.declared.book.Book.{Book};
 ghost use Rattle.segment_defs.specs.Head.{IsHead};
 ghost use Rattle.segment_code.specs.Starts.{AreClear, TakesStart};
@@ -24,11 +24,11 @@ pub(crate) fn take_start<I: OctetIn>(
     marks: &mut [i32],
 ) -> Result<Option<Part>, TextFault>
     requires fits { IsHead head.now }
-    requires open { IsIn (coming input.old) }
+    requires open { IsIn (source_state input.old) }
     requires count { length blocks.old ≡ 64 * length marks.old }
     requires marks { length marks.old ≡ head.now.blocks }
     requires clear { AreClear blocks.old }
-    ensures { (book : Book) → TakesStart I.source book head.now result (coming input.old) (coming input.new) blocks.new marks.new }
+    ensures { (book : Book) → TakesStart I.source book head.now result (source_state input.old) (source_state input.new) blocks.new marks.new }
 {
     let plan = plan_of(head);
     let Part::Whole = take_dc(input, blocks, &plan)? else {

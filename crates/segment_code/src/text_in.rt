@@ -1,6 +1,6 @@
 // The reader of the items of a segment's text.
 ghost use Rattle.std.specs.Prelude.{◌≡◌, ◌*◌, length};
-ghost use Rattle.bit_pipe.specs.Coming.{coming, IsIn};
+ghost use Rattle.bit_pipe.specs.SourceState.{source_state, IsIn};
 ghost use Rattle.segment_defs.specs.Head.{IsHead};
 ghost use Rattle.segment_code.specs.Starts.{AreClear, TakesText};
 
@@ -19,11 +19,11 @@ pub(crate) fn take_text<I: OctetIn>(
     marks: &mut [i32],
 ) -> Result<Part, TextFault>
     requires fits { IsHead head.now }
-    requires open { IsIn (coming input.old) }
+    requires open { IsIn (source_state input.old) }
     requires count { length blocks.old ≡ 64 * length marks.old }
     requires marks { length marks.old ≡ head.now.blocks }
     requires clear { AreClear blocks.old }
-    ensures takes { TakesText I.source tables.now.words.book head.now result (coming input.old) (coming input.new) blocks.new }
+    ensures takes { TakesText I.source tables.now.words.book head.now result (source_state input.old) (source_state input.new) blocks.new }
     ensures sizes { (length blocks.new ≡ length blocks.old) × (length marks.new ≡ length marks.old) }
 {
     if let Some(part) = take_start(input, head, blocks, marks)? {

@@ -1,5 +1,6 @@
 -- The depths of blocks hold their numbers, and no lesser depths do.
-use Rattle.std.proofs.Common.{◌≡◌, ◌⊎◌, ℕ, zero, suc, ◌+◌, ◌-◌, ◌*◌, ◌^◌, ◌<◌, ◌≤◌, List, [], ◌∷◌, length, drop, max, get_or, true, refl, ap, ◌∙◌, arith, inl, inr, ℤ, pos, negsuc, fold, unsigned_abs, All, pow_mono}
+use Rattle.std.proofs.Common.{◌≡◌, ◌⊎◌, ℕ, zero, suc, ◌+◌, ◌-◌, ◌*◌, ◌^◌, ◌<◌, ◌≤◌, List, [], ◌∷◌, length, drop, max, get_or, true, refl, ap, ◌∙◌, arith}
+use Rattle.std.proofs.Common.{inl, inr, ℤ, pos, negsuc, fold, unsigned_abs, All, pow_mono}
 use Rattle.std.proofs.Math.Nat.{pow-suc, max-le}
 use Rattle.std.proofs.lemmas.Int.{ints}
 use Rattle.number_defs.specs.Ranges.{IsInRange}

@@ -24,7 +24,8 @@ unfolding head_read
 head_read-is octets = refl
 
 pub segment_items-is : (head : SegmentHead) (blocks : List (List ℤ)) (depths : List ℕ) (options : Options) →
-    segment_items head blocks depths options ≡ cond head.stop.dc (dc_part_items head blocks options) (dc_part_items head blocks options ++ items_after_dc head blocks depths options)
+    segment_items head blocks depths options ≡ cond head.stop.dc (dc_part_items head blocks options)
+    (dc_part_items head blocks options ++ items_after_dc head blocks depths options)
 unfolding segment_items
 segment_items-is head blocks depths options = refl
 
@@ -32,6 +33,7 @@ pub text_octets-is : (word limit : ℕ) (fill : Bool) (bits : List Bool) → tex
 unfolding text_octets
 text_octets-is word limit fill bits = refl
 
-pub coded-is : (book : Book) (head : SegmentHead) (blocks : List (List ℤ)) → coded book head blocks ≡ text_octets head.image.word head.limit head.fill (coded_bits book head blocks)
+pub coded-is : (book : Book) (head : SegmentHead) (blocks : List (List ℤ)) → coded book head blocks ≡ text_octets head.image.word head.limit head.fill
+    (coded_bits book head blocks)
 unfolding coded
 coded-is book head blocks = refl

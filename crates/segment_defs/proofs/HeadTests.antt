@@ -33,7 +33,8 @@ module _ (a b c d : List (Option HeadFault)) (fault : HeadFault) where
   refused_3 : first_refusal a ≡ None → first_refusal b ≡ None → first_refusal c ≡ Some fault → first_refusal (a ++ b ++ c ++ d) ≡ Some fault
   refused_3 p q e = refused_before (a ++ b ++ c) d fault (passed_then (a ++ b) c (Some fault) (passed_then a b None p q) e)
 
-last_of_4 : (a b c d : List (Option HeadFault)) (o : Option HeadFault) → first_refusal a ≡ None → first_refusal b ≡ None → first_refusal c ≡ None → first_refusal d ≡ o → first_refusal (a ++ b ++ c ++ d) ≡ o
+last_of_4 : (a b c d : List (Option HeadFault)) (o : Option HeadFault) → first_refusal a ≡ None → first_refusal b ≡ None → first_refusal c ≡ None →
+    first_refusal d ≡ o → first_refusal (a ++ b ++ c ++ d) ≡ o
 last_of_4 a b c d o p q r e = passed_then (a ++ b ++ c) d o (passed_then (a ++ b) c None (passed_then a b None p q) r) e
 
 -- ---- the tests of a head
@@ -49,25 +50,34 @@ module _ (octets : List ℕ) where
   pub refused_presence : (fault : HeadFault) → first_refusal (presence_tests octets) ≡ Some fault → Err fault ≡ head_read octets
   unfolding head_read
   refused_presence fault e =
-      sym (ap (λ o. answer o (head_in octets)) (refused_1 (presence_tests octets) (support_tests_of octets) (depth_tests_of octets) (value_tests (head_in octets)) fault e))
+      sym (ap (λ o. answer o (head_in octets)) (refused_1 (presence_tests octets) (support_tests_of octets) (depth_tests_of octets)
+      (value_tests (head_in octets)) fault e))
 
-  pub refused_support : (fault : HeadFault) → first_refusal (presence_tests octets) ≡ None → first_refusal (support_tests_of octets) ≡ Some fault → Err fault ≡ head_read octets
+  pub refused_support : (fault : HeadFault) → first_refusal (presence_tests octets) ≡ None → first_refusal (support_tests_of octets) ≡ Some fault →
+      Err fault ≡ head_read octets
   unfolding head_read
   refused_support fault p e =
-      sym (ap (λ o. answer o (head_in octets)) (refused_2 (presence_tests octets) (support_tests_of octets) (depth_tests_of octets) (value_tests (head_in octets)) fault p e))
+      sym (ap (λ o. answer o (head_in octets)) (refused_2 (presence_tests octets) (support_tests_of octets) (depth_tests_of octets)
+      (value_tests (head_in octets)) fault p e))
 
-  pub refused_depths : (fault : HeadFault) → first_refusal (presence_tests octets) ≡ None → first_refusal (support_tests_of octets) ≡ None → first_refusal (depth_tests_of octets) ≡ Some fault → Err fault ≡ head_read octets
+  pub refused_depths : (fault : HeadFault) → first_refusal (presence_tests octets) ≡ None → first_refusal (support_tests_of octets) ≡ None →
+      first_refusal (depth_tests_of octets) ≡ Some fault → Err fault ≡ head_read octets
   unfolding head_read
   refused_depths fault p q e =
-      sym (ap (λ o. answer o (head_in octets)) (refused_3 (presence_tests octets) (support_tests_of octets) (depth_tests_of octets) (value_tests (head_in octets)) fault p q e))
+      sym (ap (λ o. answer o (head_in octets)) (refused_3 (presence_tests octets) (support_tests_of octets) (depth_tests_of octets)
+      (value_tests (head_in octets)) fault p q e))
 
-  last_tests : (o : Option HeadFault) → first_refusal (presence_tests octets) ≡ None → first_refusal (support_tests_of octets) ≡ None → first_refusal (depth_tests_of octets) ≡ None → first_refusal (value_tests (head_in octets)) ≡ o →
+  last_tests : (o : Option HeadFault) → first_refusal (presence_tests octets) ≡ None → first_refusal (support_tests_of octets) ≡ None →
+      first_refusal (depth_tests_of octets) ≡ None → first_refusal (value_tests (head_in octets)) ≡ o →
       head_read octets ≡ answer o (head_in octets)
   unfolding head_read
-  last_tests o p q r e = ap (λ k. answer k (head_in octets)) (last_of_4 (presence_tests octets) (support_tests_of octets) (depth_tests_of octets) (value_tests (head_in octets)) o p q r e)
+  last_tests o p q r e = ap (λ k. answer k (head_in octets)) (last_of_4 (presence_tests octets) (support_tests_of octets) (depth_tests_of octets)
+      (value_tests (head_in octets)) o p q r e)
 
-  pub refused_values : (fault : HeadFault) → first_refusal (presence_tests octets) ≡ None → first_refusal (support_tests_of octets) ≡ None → first_refusal (depth_tests_of octets) ≡ None → first_refusal (value_tests (head_in octets)) ≡ Some fault → Err fault ≡ head_read octets
+  pub refused_values : (fault : HeadFault) → first_refusal (presence_tests octets) ≡ None → first_refusal (support_tests_of octets) ≡ None →
+      first_refusal (depth_tests_of octets) ≡ None → first_refusal (value_tests (head_in octets)) ≡ Some fault → Err fault ≡ head_read octets
   refused_values fault p q r e = sym (last_tests (Some fault) p q r e)
 
-  pub passed_all : first_refusal (presence_tests octets) ≡ None → first_refusal (support_tests_of octets) ≡ None → first_refusal (depth_tests_of octets) ≡ None → first_refusal (value_tests (head_in octets)) ≡ None → Ok (head_in octets) ≡ head_read octets
+  pub passed_all : first_refusal (presence_tests octets) ≡ None → first_refusal (support_tests_of octets) ≡ None → first_refusal (depth_tests_of octets)
+      ≡ None → first_refusal (value_tests (head_in octets)) ≡ None → Ok (head_in octets) ≡ head_read octets
   passed_all p q r e = sym (last_tests None p q r e)

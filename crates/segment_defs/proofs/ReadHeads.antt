@@ -1,5 +1,6 @@
 -- A head that was read can be written.
-use Rattle.std.proofs.Common.{◌≡◌, ℕ, ◌+◌, ◌*◌, ◌%◌, ◌^◌, ◌<◌, ◌≤◌, List, [], ◌∷◌, ◌++◌, length, take, drop, get_or, Bool, true, false, refl, subst, arith, inl, inr, length-take, ◌==◌, ◌⊎◌, ◌≢◌, if◌then◌else◌, not, nat_lt, ◌||◌, ◌&&◌, All, Option, None, Some, Ok, pow_mono}
+use Rattle.std.proofs.Common.{◌≡◌, ℕ, ◌+◌, ◌*◌, ◌%◌, ◌^◌, ◌<◌, ◌≤◌, List, [], ◌∷◌, ◌++◌, length, take, drop, get_or, Bool, true, false, refl, subst, arith}
+use Rattle.std.proofs.Common.{inl, inr, length-take, ◌==◌, ◌⊎◌, ◌≢◌, if◌then◌else◌, not, nat_lt, ◌||◌, ◌&&◌, All, Option, None, Some, Ok, pow_mono}
 use Rattle.std.specs.List.{range_with_len}
 use Rattle.std.proofs.lemmas.Bool.Decides.{nat_tests}
 use Rattle.std.proofs.lemmas.List.Elements.{All-map, All-from_recursion}
@@ -13,7 +14,8 @@ use Rattle.segment_defs.specs.declared.fault.HeadField.TheVariants as bad
 use Rattle.segment_defs.specs.declared.fault.HeadFault.{HeadFault}
 use Rattle.segment_defs.specs.declared.fault.HeadFault.TheVariants.{Unsupported, DepthTooLarge, BadValue}
 use Rattle.segment_defs.specs.Fields.{number_in, is_set}
-use Rattle.segment_defs.specs.Reading.{part_2, part_3, part_4, depth_of, word_of, custom_shifts, image_in, head_in, head_read, head_tests, answer, refused_where, first_refusal, is_bad_limit, presence_tests, support_tests, depth_tests, value_tests}
+use Rattle.segment_defs.specs.Reading.{part_2, part_3, part_4, depth_of, word_of, custom_shifts, image_in, head_in, head_read, head_tests, answer}
+use Rattle.segment_defs.specs.Reading.{refused_where, first_refusal, is_bad_limit, presence_tests, support_tests, depth_tests, value_tests}
 
 pub number_in-below : (o : List ℕ) (start width : ℕ) → number_in o start width < 2 ^ width
 unfolding number_in
@@ -31,7 +33,8 @@ both (Some fault ∷ xs) ys e = absurd cc
 
 -- six tests were passed, and four
 six_passed : (a b c d e f : Bool) (p q r s t u : HeadFault) →
-    first_refusal (refused_where a p ∷ refused_where b q ∷ refused_where c r ∷ refused_where d s ∷ refused_where e t ∷ refused_where f u ∷ []) ≡ None → (e ≡ false) × (f ≡ false)
+    first_refusal (refused_where a p ∷ refused_where b q ∷ refused_where c r ∷ refused_where d s ∷ refused_where e t ∷ refused_where f u ∷ []) ≡ None →
+    (e ≡ false) × (f ≡ false)
 six_passed true b c d e f p q r s t u h = absurd cc
 six_passed false true c d e f p q r s t u h = absurd cc
 six_passed false false true d e f p q r s t u h = absurd cc
@@ -41,7 +44,8 @@ six_passed false false false false false true p q r s t u h = absurd cc
 six_passed false false false false false false p q r s t u h = (refl, refl)
 
 four_passed : (a b c d : Bool) (p q r s : HeadFault) →
-    first_refusal (refused_where a p ∷ refused_where b q ∷ refused_where c r ∷ refused_where d s ∷ []) ≡ None → (a ≡ false) × (b ≡ false) × (c ≡ false) × (d ≡ false)
+    first_refusal (refused_where a p ∷ refused_where b q ∷ refused_where c r ∷ refused_where d s ∷ []) ≡ None →
+    (a ≡ false) × (b ≡ false) × (c ≡ false) × (d ≡ false)
 four_passed true b c d p q r s h = absurd cc
 four_passed false true c d p q r s h = absurd cc
 four_passed false false true d p q r s h = absurd cc
@@ -71,12 +75,15 @@ not_zero n e z = let f : (n == 0) ≡ true = rw z refl in absurd cc
 has_values : (o : List ℕ) → first_refusal (head_tests o) ≡ None → HasValues o
 unfolding support_tests depth_tests value_tests
 has_values o e =
-    let last = both (presence_tests o ++ support_tests (part_3 o) (part_4 o) ++ depth_tests (head_in o).depth_dc (head_in o).depth_ac) (value_tests (head_in o)) e in
+    let last = both (presence_tests o ++ support_tests (part_3 o) (part_4 o) ++ depth_tests (head_in o).depth_dc (head_in o).depth_ac)
+    (value_tests (head_in o)) e in
     let mid = both (presence_tests o ++ support_tests (part_3 o) (part_4 o)) (depth_tests (head_in o).depth_dc (head_in o).depth_ac) last.0 in
     let first = both (presence_tests o) (support_tests (part_3 o) (part_4 o)) mid.0 in
     let support =
-    six_passed (not (is_set (part_4 o) 0)) (is_set (part_4 o) 2) (is_set (part_4 o) 28) (number_in (part_4 o) 29 3 % 2 == 1) (number_in (part_4 o) 8 20 == 0) (number_in (part_3 o) 0 20 == 0)
-    (Unsupported odd.Float) (Unsupported odd.Extended) (Unsupported odd.Transpose) (Unsupported odd.WordLength) (Unsupported odd.Width) (Unsupported odd.Blocks) first.1
+    six_passed (not (is_set (part_4 o) 0)) (is_set (part_4 o) 2) (is_set (part_4 o) 28) (number_in (part_4 o) 29 3 % 2 == 1)
+    (number_in (part_4 o) 8 20 == 0) (number_in (part_3 o) 0 20 == 0)
+    (Unsupported odd.Float) (Unsupported odd.Extended) (Unsupported odd.Transpose) (Unsupported odd.WordLength) (Unsupported odd.Width)
+    (Unsupported odd.Blocks) first.1
     in
     let values =
     four_passed (number_in o 10 5 == 0) (nat_lt (number_in (part_4 o) 8 20) 17) (is_bad_limit (number_in (part_2 o) 0 27) (word_of (number_in (part_4 o) 29 3)))
@@ -125,8 +132,10 @@ depth_fits : (n : ℕ) → n < 16 → (1 ≤ depth_of n) × (depth_of n ≤ 16)
 depth_fits n lt = (grind (arith, nat_tests), grind (arith, nat_tests))
 
 shifts_fit : (custom : Bool) (o : List ℕ) → All (λ shift. shift ≤ 3) (if custom then custom_shifts o else usual_shifts)
-shifts_fit true o = All-map (λ shift. shift ≤ 3) (λ i. number_in o (33 + 2 * i) 2) (range_with_len 0 10) (λ k d lt. let b = number_in-below o (33 + 2 * get_or (range_with_len 0 10) k d) 2 in omega (arith, b))
-shifts_fit false o = All-from_recursion (λ shift. shift ≤ 3) usual_shifts (omega arith, (omega arith, (omega arith, (omega arith, (omega arith, (omega arith, (omega arith, (omega arith, (omega arith, (omega arith, tt))))))))))
+shifts_fit true o = All-map (λ shift. shift ≤ 3) (λ i. number_in o (33 + 2 * i) 2) (range_with_len 0 10) (λ k d lt. let b =
+    number_in-below o (33 + 2 * get_or (range_with_len 0 10) k d) 2 in omega (arith, b))
+shifts_fit false o = All-from_recursion (λ shift. shift ≤ 3) usual_shifts
+    (omega arith, (omega arith, (omega arith, (omega arith, (omega arith, (omega arith, (omega arith, (omega arith, (omega arith, (omega arith, tt))))))))))
 
 image_fits : (o : List ℕ) → nat_lt (number_in o 8 20) 17 ≡ false → IsImagePart (image_in o)
 image_fits o e =
@@ -152,7 +161,11 @@ head_fits o v =
       limit = limit_fits (number_in (part_2 o) 0 27) (word_of (number_in (part_4 o) 29 3)) limit_below v.limit;
       plane = either (is_set (part_2 o) 27) 0 (number_in (part_2 o) 28 5) 32 (omega arith) (number_in-below (part_2 o) 28 5);
       stage = either (is_set (part_2 o) 27) 3 (number_in (part_2 o) 33 2) 4 (omega arith) (number_in-below (part_2 o) 33 2);
-      stops_at_dc = λ e. (chosen_true (is_set (part_2 o) 27) 0 (number_in (part_2 o) 28 5) e, chosen_true (is_set (part_2 o) 27) 3 (number_in (part_2 o) 33 2) e);
+      stops_at_dc = λ e. (
+        chosen_true (is_set (part_2 o) 27) 0 (number_in (part_2 o) 28 5) e,
+        chosen_true (is_set (part_2 o) 27) 3
+            (number_in (part_2 o) 33 2) e,
+      );
       fill = fill_fits (is_set (part_2 o) 35) (number_in (part_2 o) 0 27) v.fill;
       blocks = (let b = v.blocks in omega (arith, b), number_in-below (part_3 o) 0 20);
       image = image_fits (part_4 o) v.width;

@@ -1,5 +1,6 @@
 -- The size of a number.
-use Rattle.std.proofs.Common.{◌≡◌, ◌⊎◌, ℕ, zero, suc, ◌+◌, ◌^◌, ◌<◌, ◌≤◌, Bool, true, false, length, take, sym, ap, ◌∙◌, inl, inr, arith, get_or, subst, min, add-one, nat_le, pow_mono}
+use Rattle.std.proofs.Common.{◌≡◌, ◌⊎◌, ℕ, zero, suc, ◌+◌, ◌^◌, ◌<◌, ◌≤◌, Bool, true, false, length, take, sym, ap, ◌∙◌, inl, inr, arith, get_or, subst}
+use Rattle.std.proofs.Common.{min, add-one, nat_le, pow_mono}
 use Rattle.std.proofs.lemmas.Bool.{cases_lt}
 use Rattle.std.specs.List.{count_by, range_with_len}
 use Rattle.std.proofs.lemmas.Bool.Decides.{nat_tests}
@@ -47,17 +48,20 @@ section_of_first p m n (suc i) le below above h =
     elim (cases_lt i m) [
       | inl lt ↦
           let e = count_by_more_yes p (range_with_len 0 n) i 0 room (ap p here ∙ below i lt) in
-          subst (λ k. count_by p (take k (range_with_len 0 n)) ≡ min k m) (add-one i) (let t : count_by p (take (i + 1) (range_with_len 0 n)) ≡ min (i + 1) m = omega (arith, e, before) in t)
+          subst (λ k. count_by p (take k (range_with_len 0 n)) ≡ min k m) (add-one i) (let t : count_by p (take (i + 1) (range_with_len 0 n)) ≡ min (i + 1)
+          m = omega (arith, e, before) in t)
       | inr ge ↦
           let e = count_by_more_no p (range_with_len 0 n) i 0 room (ap p here ∙ above i ge) in
-          subst (λ k. count_by p (take k (range_with_len 0 n)) ≡ min k m) (add-one i) (let t : count_by p (take (i + 1) (range_with_len 0 n)) ≡ min (i + 1) m = omega (arith, e, before) in t)
+          subst (λ k. count_by p (take k (range_with_len 0 n)) ≡ min k m) (add-one i) (let t : count_by p (take (i + 1) (range_with_len 0 n)) ≡ min (i + 1)
+          m = omega (arith, e, before) in t)
     ]
 
 -- a test that only holds of the numbers below m, counted over the first n numbers
 pub count_by-first : (p : ℕ → Bool) (m n : ℕ) → m ≤ n → ((k : ℕ) → k < m → p k ≡ true) → ((k : ℕ) → m ≤ k → p k ≡ false) →
     count_by p (range_with_len 0 n) ≡ m
 count_by-first p m n le below above =
-    let all : take n (range_with_len 0 n) ≡ range_with_len 0 n = subst (λ k. take k (range_with_len 0 n) ≡ range_with_len 0 n) (length-range_with_len 0 n) (take-length (range_with_len 0 n)) in
+    let all : take n (range_with_len 0 n) ≡ range_with_len 0 n = subst (λ k. take k (range_with_len 0 n) ≡ range_with_len 0 n) (length-range_with_len 0 n)
+    (take-length (range_with_len 0 n)) in
     let e = section_of_first p m n n le below above (omega arith) in
     omega (arith, e, ap (count_by p) all)
 

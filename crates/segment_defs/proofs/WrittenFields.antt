@@ -1,5 +1,6 @@
 -- Fields that are written one after another, and read by their places.
-use Rattle.std.proofs.Common.{◌≡◌, ℕ, zero, suc, ◌+◌, ◌*◌, ◌%◌, ◌^◌, ◌<◌, ◌≤◌, List, [], ◌∷◌, ◌++◌, length, take, drop, Bool, refl, sym, ap, ◌∙◌, arith, append_assoc, length-append, length-drop, flat_map, drop-drop, drop_at, take_at, take-append-drop, length-take-le}
+use Rattle.std.proofs.Common.{◌≡◌, ℕ, zero, suc, ◌+◌, ◌*◌, ◌%◌, ◌^◌, ◌<◌, ◌≤◌, List, [], ◌∷◌, ◌++◌, length, take, drop, Bool, refl, sym, ap, ◌∙◌, arith}
+use Rattle.std.proofs.Common.{append_assoc, length-append, length-drop, flat_map, drop-drop, drop_at, take_at, take-append-drop, length-take-le}
 use Rattle.std.proofs.lemmas.List.Concat.{flat_map-cons}
 use Rattle.item_defs.specs.Bits.{value_of, bits_of_octets, octets_of}
 use Rattle.item_defs.proofs.NumberBits.{length-bits_of, value_of-bits_of}
@@ -37,13 +38,18 @@ pub value_at_place : (fs : List Field) (i : ℕ) (more : List Bool) → i < leng
     value_of (take (field_at fs i).width (drop (start_of fs i) (bits_in fs ++ more))) ≡ (field_at fs i).value % 2 ^ (field_at fs i).width
 value_at_place [] i more lt = absurd (omega arith)
 value_at_place (f ∷ fs) zero more lt =
-    let front : bits_in (f ∷ fs) ++ more ≡ field_bits f ++ (bits_in fs ++ more) = ap (λ r. r ++ more) (flat_map-cons field_bits f fs) ∙ append_assoc (field_bits f) (bits_in fs) more in
-    ap (λ r. value_of (take f.width r)) front ∙ ap value_of (take_at (field_bits f) (bits_in fs ++ more) f.width (length-bits_of f.width f.value)) ∙ value_of-bits_of f.width f.value
+    let prefix : bits_in (f ∷ fs) ++ more ≡ field_bits f ++ (bits_in fs ++ more) = ap (λ r. r ++ more) (flat_map-cons field_bits f fs)
+    ∙ append_assoc (field_bits f) (bits_in fs) more in
+    ap (λ r. value_of (take f.width r)) prefix ∙ ap value_of (take_at (field_bits f) (bits_in fs ++ more) f.width (length-bits_of f.width f.value))
+    ∙ value_of-bits_of f.width f.value
 value_at_place (f ∷ fs) (suc i) more lt =
-    let front : bits_in (f ∷ fs) ++ more ≡ field_bits f ++ (bits_in fs ++ more) = ap (λ r. r ++ more) (flat_map-cons field_bits f fs) ∙ append_assoc (field_bits f) (bits_in fs) more in
+    let prefix : bits_in (f ∷ fs) ++ more ≡ field_bits f ++ (bits_in fs ++ more) = ap (λ r. r ++ more) (flat_map-cons field_bits f fs)
+    ∙ append_assoc (field_bits f) (bits_in fs) more in
     let past : drop (f.width + start_of fs i) (field_bits f ++ (bits_in fs ++ more)) ≡ drop (start_of fs i) (bits_in fs ++ more) =
-    sym (drop-drop (start_of fs i) f.width (field_bits f ++ (bits_in fs ++ more))) ∙ ap (drop (start_of fs i)) (drop_at (field_bits f) (bits_in fs ++ more) f.width (length-bits_of f.width f.value)) in
-    ap (λ r. value_of (take (field_at fs i).width (drop (f.width + start_of fs i) r))) front ∙ ap (λ r. value_of (take (field_at fs i).width r)) past ∙ value_at_place fs i more (omega arith)
+    sym (drop-drop (start_of fs i) f.width (field_bits f ++ (bits_in fs ++ more))) ∙ ap (drop (start_of fs i))
+    (drop_at (field_bits f) (bits_in fs ++ more) f.width (length-bits_of f.width f.value)) in
+    ap (λ r. value_of (take (field_at fs i).width (drop (f.width + start_of fs i) r))) prefix ∙ ap (λ r. value_of (take (field_at fs i).width r)) past
+    ∙ value_at_place fs i more (omega arith)
 
 -- ---- octets of consecutive bits
 
@@ -65,14 +71,17 @@ octets_of-append (suc n) xs ys e =
     ∙ ap (λ r. r ++ octets_of ys) (sym here)
 
 -- a number in octets that bits fill
-pub number_in-octets_of : (n : ℕ) (bits : List Bool) (start width : ℕ) → length bits ≡ 8 * n → number_in (octets_of bits) start width ≡ value_of (take width (drop start bits))
+pub number_in-octets_of : (n : ℕ) (bits : List Bool) (start width : ℕ) → length bits ≡ 8 * n → number_in (octets_of bits) start width
+    ≡ value_of (take width (drop start bits))
 unfolding number_in
 number_in-octets_of n bits start width e = ap (λ r. value_of (take width (drop start r))) (bits_of_octets-octets_of bits n e)
 
 -- a number in a prefix of octets
-pub number_in-front : (n : ℕ) (bits : List Bool) (after : List ℕ) (start width : ℕ) → length bits ≡ 8 * n → number_in (octets_of bits ++ after) start width ≡ value_of (take width (drop start (bits ++ bits_of_octets after)))
+pub number_in-prefix : (n : ℕ) (bits : List Bool) (after : List ℕ) (start width : ℕ) → length bits ≡ 8 * n → number_in (octets_of bits ++ after) start width
+    ≡ value_of (take width (drop start (bits ++ bits_of_octets after)))
 unfolding number_in
-number_in-front n bits after start width e = ap (λ r. value_of (take width (drop start r))) (octets_append (octets_of bits) after ∙ ap (λ r. r ++ bits_of_octets after) (bits_of_octets-octets_of bits n e))
+number_in-prefix n bits after start width e = ap (λ r. value_of (take width (drop start r)))
+    (octets_append (octets_of bits) after ∙ ap (λ r. r ++ bits_of_octets after) (bits_of_octets-octets_of bits n e))
 
 -- ---- four parts, one after another
 
@@ -111,7 +120,8 @@ module _ (b1 b2 b3 b4 more : List Bool) (n : ℕ) (e1 : length b1 ≡ 8 * n) (e2
 
   pub third_part : take 3 (drop 5 after) ≡ octets_of b3
   third_part =
-      ap (take 3) (drop_at (octets_of b2) (octets_of b3 ++ (octets_of b4 ++ octets_of more)) 5 (count b2 5 e2)) ∙ take_at (octets_of b3) (octets_of b4 ++ octets_of more) 3 (count b3 3 e3)
+      ap (take 3) (drop_at (octets_of b2) (octets_of b3 ++ (octets_of b4 ++ octets_of more)) 5 (count b2 5 e2)) ∙ take_at (octets_of b3)
+      (octets_of b4 ++ octets_of more) 3 (count b3 3 e3)
 
   pub fourth_part : take 8 (drop 8 after) ≡ octets_of b4
   fourth_part =

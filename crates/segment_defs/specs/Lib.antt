@@ -7,3 +7,11 @@ pub mod Text
 pub mod SegmentItems
 pub mod Coded
 pub mod Laws
+pub mod Prefixes
+pub mod Spellable
+pub mod Outcomes
+pub mod Segments
+pub mod Parts
+pub mod TextOutcome
+pub mod Worked
+pub mod TextLaws

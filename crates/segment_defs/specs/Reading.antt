@@ -1,6 +1,7 @@
 -- What octets say as a segment's head, and the tests that refuse them (CCSDS 122.0-B-2, section 4.2, for the fields; the
 -- tests, their order, the patterns of the code word length and the meaning of a limit of 0 are this project's own).
-use Rattle.std.specs.Prelude.{ℕ, ◌+◌, ◌*◌, ◌/◌, ◌%◌, ◌==◌, ◌&&◌, ◌||◌, Bool, not, nat_lt, if◌then◌else◌, List, [], ◌∷◌, ◌++◌, length, map, take, drop, Option, None, Some, Result, Ok, Err}
+use Rattle.std.specs.Prelude.{ℕ, ◌+◌, ◌*◌, ◌/◌, ◌%◌, ◌==◌, ◌&&◌, ◌||◌, Bool, not, nat_lt, if◌then◌else◌, List, [], ◌∷◌, ◌++◌, length, map, take, drop}
+use Rattle.std.specs.Prelude.{Option, None, Some, Result, Ok, Err}
 use Rattle.std.specs.List.{range_with_len}
 use Rattle.base_122.specs.Weights.{usual_shifts}
 use Rattle.base_122.specs.declared.setting.Stop.{Stop}

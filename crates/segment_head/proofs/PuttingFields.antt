@@ -1,10 +1,11 @@
 -- Fields put one after another.
-use Rattle.std.proofs.Common.{◌≡◌, ℕ, ◌≤◌, List, [], ◌∷◌, ◌++◌, length, map, Bool, refl, sym, ap, ◌∙◌, append_assoc, arith, true, false, bytes_eq, Result, Ok, Err, ◌≢◌, flat_map}
+use Rattle.std.proofs.Common.{◌≡◌, ℕ, ◌≤◌, List, [], ◌∷◌, ◌++◌, length, map, Bool, refl, sym, ap, ◌∙◌, append_assoc, arith, true, false, bytes_eq, Result}
+use Rattle.std.proofs.Common.{Ok, Err, ◌≢◌, flat_map}
 use Rattle.base_122.specs.Weights.{usual_shifts}
 use Rattle.std.proofs.lemmas.List.Concat.{flat_map-append, flat_map-cons}
 use Rattle.item_defs.specs.Items.{Item, item_bits, plain, text}
 use Rattle.bit_pipe.specs.Sinks.{SinkOf}
-use Rattle.bit_pipe.specs.Standing.{Standing, EndsPut, Puts}
+use Rattle.bit_pipe.specs.SinkState.{SinkState, EndsPut, Puts}
 use Rattle.bit_pipe.specs.declared.fault.PutFault.{PutFault}
 use Rattle.bit_pipe.specs.declared.fault.PutFault.TheVariants.{Stopped, WriteFault}
 use Rattle.bit_pipe.proofs.Putting.{puts_cut, puts_then}
@@ -24,29 +25,35 @@ item_of f = plain f.width f.value
 pub text_of_fields : {X : Type 0} (f : X → Field) (xs : List X) → text (map (λ x. item_of (f x)) xs) ≡ flat_map field_bits (map f xs)
 text_of_fields f [] = refl
 text_of_fields f (x ∷ xs) =
-    flat_map-cons item_bits (item_of (f x)) (map (λ y. item_of (f y)) xs) ∙ ap (λ r. field_bits (f x) ++ r) (text_of_fields f xs) ∙ sym (flat_map-cons field_bits (f x) (map f xs))
+    flat_map-cons item_bits (item_of (f x)) (map (λ y. item_of (f y)) xs) ∙ ap (λ r. field_bits (f x) ++ r) (text_of_fields f xs)
+    ∙ sym (flat_map-cons field_bits (f x) (map f xs))
 
 -- ---- puts one after another
 
-pub put_both : {S T U : Type 0} {k : SinkOf S} {x : U} {r : Result T PutFault} {a b c : Standing S} {xs ys whole : List Bool} → Puts k (Ok x) a b xs → Puts k r b c ys → xs ++ ys ≡ whole → Puts k r a c whole
+pub put_both : {S T U : Type 0} {k : SinkOf S} {x : U} {r : Result T PutFault} {a b c : SinkState S} {xs ys whole : List Bool} → Puts k (Ok x) a b xs →
+    Puts k r b c ys → xs ++ ys ≡ whole → Puts k r a c whole
 put_both p q e = rw (← e) (puts_then p.ends q)
 
-pub put_cut : {S T U : Type 0} {k : SinkOf S} {e : PutFault} {a b : Standing S} {xs : List Bool} (ys : List Bool) {whole : List Bool} → Puts {T = T} k (Err e) a b xs → xs ++ ys ≡ whole → Puts {T = U} k (Err e) a b whole
+pub put_cut : {S T U : Type 0} {k : SinkOf S} {e : PutFault} {a b : SinkState S} {xs : List Bool} (ys : List Bool) {whole : List Bool} →
+    Puts {T = T} k (Err e) a b xs → xs ++ ys ≡ whole → Puts {T = U} k (Err e) a b whole
 put_cut ys p e = rw (← e) (puts_cut ys p)
 
 -- the bits of two lists of fields
 pub bits_join : (fs gs all : List Field) → fs ++ gs ≡ all → flat_map field_bits fs ++ flat_map field_bits gs ≡ flat_map field_bits all
 bits_join fs gs all e = sym (flat_map-append field_bits fs gs) ∙ ap (flat_map field_bits) e
 
-pub part_1_fields : (carried : Carried) (h : SegmentHead) (fs : List Field) (pad five : Field) → fs ≡ parts.part_1a carried h → pad ≡ field 3 h.pad_rows → five ≡ reserved 5 → h.last ≡ true →
+pub part_1_fields : (carried : Carried) (h : SegmentHead) (fs : List Field) (pad five : Field) → fs ≡ parts.part_1a carried h → pad ≡ field 3 h.pad_rows →
+    five ≡ reserved 5 → h.last ≡ true →
     fs ++ (pad ∷ five ∷ []) ≡ parts.part_1 carried h
 part_1_fields carried h fs pad five e p q l = rw (e, p, q, l) refl
 
-pub custom_fields : (shifts : List ℕ) (first : Field) → bytes_eq shifts usual_shifts ≡ false → first ≡ flag true → (first ∷ []) ++ map (field 2) shifts ≡ weight_fields shifts
+pub custom_fields : (shifts : List ℕ) (first : Field) → bytes_eq shifts usual_shifts ≡ false → first ≡ flag true →
+    (first ∷ []) ++ map (field 2) shifts ≡ weight_fields shifts
 custom_fields shifts first other f = rw (f, other) refl
 
 -- the bits of Part 4, and of the whole head, part by part
-pub part_4_bits : (image : ImagePart) → flat_map field_bits (plain_fields image) ++ (flat_map field_bits (weight_fields image.weights.shifts) ++ flat_map field_bits (reserved 11 ∷ [])) ≡ flat_map field_bits (part_4 image)
+pub part_4_bits : (image : ImagePart) → flat_map field_bits (plain_fields image)
+    ++ (flat_map field_bits (weight_fields image.weights.shifts) ++ flat_map field_bits (reserved 11 ∷ [])) ≡ flat_map field_bits (part_4 image)
 part_4_bits image =
     let w = weight_fields image.weights.shifts in
     let r : List Field = reserved 11 ∷ [] in
@@ -70,7 +77,8 @@ pub head_bits_parts : (h : SegmentHead) → flat_map field_bits (first_parts h) 
 head_bits_parts h = simp (head_bits-is, head_bits-is) (sym (flat_map-append field_bits (first_parts h) (part_4 h.image)))
 
 -- bits for which there is room are never stopped
-pub never_stops : {S T : Type 0} {k : SinkOf S} {r : Result T PutFault} {a b : Standing S} {bits : List Bool} → length bits ≤ a.room → Puts k r a b bits → r ≢ Err Stopped
+pub never_stops : {S T : Type 0} {k : SinkOf S} {r : Result T PutFault} {a b : SinkState S} {bits : List Bool} → length bits ≤ a.room → Puts k r a b bits →
+    r ≢ Err Stopped
 never_stops {S} {T} {k} {r} {a} {b} {bits} le p = by_result r p.ends
   where
     by_result : (r : Result T PutFault) → EndsPut k r a b bits → r ≢ Err Stopped

@@ -1,5 +1,6 @@
 -- A head is read as it was written.
-use Rattle.std.proofs.Common.{◌≡◌, ℕ, ◌+◌, ◌*◌, ◌%◌, ◌<◌, ◌≤◌, List, [], ◌∷◌, ◌++◌, length, take, drop, map, Bool, true, false, refl, sym, ap, subst, ◌∙◌, arith, append_assoc, length-append, append-nil, ◌==◌, if◌then◌else◌, None, Ok, bytes_eq}
+use Rattle.std.proofs.Common.{◌≡◌, ℕ, ◌+◌, ◌*◌, ◌%◌, ◌<◌, ◌≤◌, List, [], ◌∷◌, ◌++◌, length, take, drop, map, Bool, true, false, refl, sym, ap, subst, ◌∙◌}
+use Rattle.std.proofs.Common.{arith, append_assoc, length-append, append-nil, ◌==◌, if◌then◌else◌, None, Ok, bytes_eq}
 use Rattle.std.proofs.lemmas.Bool.Decides.{nat_tests}
 use Rattle.std.proofs.lemmas.List.Concat.{flat_map-append}
 use Rattle.item_defs.specs.Bits.{octets_of, bits_of_octets, value_of}
@@ -7,11 +8,14 @@ use Rattle.base_122.specs.Weights.{usual_shifts}
 use Rattle.base_122.specs.declared.setting.Stop.{Stop}
 use Rattle.segment_defs.specs.declared.head.SegmentHead.{SegmentHead}
 use Rattle.segment_defs.specs.declared.head.ImagePart.{ImagePart}
-use Rattle.segment_defs.specs.Head.{Field, field, flag, reserved, field_bits, part_1a, part_1b, part_2, part_3, part_4, word_pattern, head_bits, head_length, IsHead}
+use Rattle.segment_defs.specs.Head.{Field, field, flag, reserved, field_bits, part_1a, part_1b, part_2, part_3, part_4, word_pattern, head_bits}
+use Rattle.segment_defs.specs.Head.{head_length, IsHead}
 use Rattle.segment_defs.specs.Fields.{number_in, is_set}
 use Rattle.segment_defs.specs.Reading as reading
-use Rattle.segment_defs.specs.Reading.{part_1_length, head_of, head_in, head_read, image_in, stop_in, refused_where, first_refusal, is_bad_limit, presence_tests, support_tests, depth_tests, value_tests}
-use Rattle.segment_defs.proofs.WrittenFields.{bits_in, width_of, length-bits_in, number_in-octets_of, number_in-front, parts_split, parts_length, after_first, second_part, third_part, fourth_part}
+use Rattle.segment_defs.specs.Reading.{part_1_length, head_of, head_in, head_read, image_in, stop_in, refused_where, first_refusal, is_bad_limit}
+use Rattle.segment_defs.specs.Reading.{presence_tests, support_tests, depth_tests, value_tests}
+use Rattle.segment_defs.proofs.WrittenFields.{bits_in, width_of, length-bits_in, number_in-octets_of, number_in-prefix, parts_split, parts_length}
+use Rattle.segment_defs.proofs.WrittenFields.{after_first, second_part, third_part, fourth_part}
 use Rattle.segment_head.proofs.WrittenParts.{Has, SaysFirst, SaysSecond, SaysThird, SaysFourth, says_first, says_second, says_third, says_fourth}
 use Rattle.segment_head.specs.Writing.{first_parts}
 use Rattle.segment_head.proofs.PuttingFields.{first_bits, head_bits_parts}
@@ -30,22 +34,27 @@ width_of-pairs [] = refl
 width_of-pairs (x ∷ xs) = let rest = width_of-pairs xs in omega (arith, rest)
 
 -- the weights with their flag take 21 bits
-weights_width : (usual : Bool) (shifts : List ℕ) → length shifts ≡ 10 → width_of (if usual then flag false ∷ reserved 20 ∷ [] else flag true ∷ map (field 2) shifts) ≡ 21
+weights_width : (usual : Bool) (shifts : List ℕ) → length shifts ≡ 10 →
+    width_of (if usual then flag false ∷ reserved 20 ∷ [] else flag true ∷ map (field 2) shifts) ≡ 21
 weights_width true shifts ten = refl
 weights_width false shifts ten = omega (arith, width_of-pairs shifts)
 
 pub length_1 : (h : SegmentHead) (last : Bool) → h.last ≡ last → length (bits_in (part_1a h ++ part_1b h)) ≡ 8 * (if last then 4 else 3)
-length_1 h true e = length-bits_in (part_1a h ++ part_1b h) ∙ subst (λ b. width_of (part_1a h ++ (if b then field 3 h.pad_rows ∷ reserved 5 ∷ [] else [])) ≡ 32) (sym e) refl
-length_1 h false e = length-bits_in (part_1a h ++ part_1b h) ∙ subst (λ b. width_of (part_1a h ++ (if b then field 3 h.pad_rows ∷ reserved 5 ∷ [] else [])) ≡ 24) (sym e) refl
+length_1 h true e = length-bits_in (part_1a h ++ part_1b h) ∙ subst (λ b. width_of (part_1a h ++ (if b then field 3 h.pad_rows ∷ reserved 5 ∷ [] else [])) ≡
+    32) (sym e) refl
+length_1 h false e = length-bits_in (part_1a h ++ part_1b h)
+    ∙ subst (λ b. width_of (part_1a h ++ (if b then field 3 h.pad_rows ∷ reserved 5 ∷ [] else [])) ≡ 24) (sym e) refl
 
 pub length_4 : (image : ImagePart) → length image.weights.shifts ≡ 10 → length (bits_in (part_4 image)) ≡ 8 * 8
 length_4 image ten =
     let weights = weights_width (bytes_eq image.weights.shifts usual_shifts) image.weights.shifts ten in
-    let split = width_of-append (if bytes_eq image.weights.shifts usual_shifts then flag false ∷ reserved 20 ∷ [] else flag true ∷ map (field 2) image.weights.shifts) (reserved 11 ∷ []) in
+    let split = width_of-append (if bytes_eq image.weights.shifts usual_shifts then flag false ∷ reserved 20 ∷ [] else flag true ∷ map (field 2)
+    image.weights.shifts) (reserved 11 ∷ []) in
     length-bits_in (part_4 image) ∙ omega (arith, weights, split)
 
 -- the head's bits, part by part, and those after it
-pub split_bits : (h : SegmentHead) (more : List Bool) → head_bits h ++ more ≡ bits_in (part_1a h ++ part_1b h) ++ (bits_in (part_2 h) ++ (bits_in (part_3 h) ++ (bits_in (part_4 h.image) ++ more)))
+pub split_bits : (h : SegmentHead) (more : List Bool) → head_bits h ++ more ≡ bits_in (part_1a h ++ part_1b h)
+    ++ (bits_in (part_2 h) ++ (bits_in (part_3 h) ++ (bits_in (part_4 h.image) ++ more)))
 split_bits h more =
     simp (head_bits-is, head_bits-is) (
     let one = part_1a h ++ part_1b h in
@@ -69,12 +78,16 @@ pub record SaysHead (h : SegmentHead) (o : List ℕ) : Type 0 where
   pub four : SaysFourth h.image (reading.part_4 o)
 
 pub has_whole : (n : ℕ) (fs : List Field) → length (bits_in fs) ≡ 8 * n → Has (octets_of (bits_in fs)) fs []
-has_whole n fs e = record { number = λ start width. number_in-octets_of n (bits_in fs) start width e ∙ ap (λ r. value_of (take width (drop start r))) (sym (append-nil (bits_in fs))) }
+has_whole n fs e = record {
+  number = λ start width. number_in-octets_of n (bits_in fs) start width e ∙ ap (λ r. value_of (take width (drop start r)))
+      (sym (append-nil (bits_in fs)));
+}
 
-pub has_front : (n : ℕ) (fs : List Field) (after : List ℕ) → length (bits_in fs) ≡ 8 * n → Has (octets_of (bits_in fs) ++ after) fs (bits_of_octets after)
-has_front n fs after e = record { number = λ start width. number_in-front n (bits_in fs) after start width e }
+pub has_prefix : (n : ℕ) (fs : List Field) (after : List ℕ) → length (bits_in fs) ≡ 8 * n → Has (octets_of (bits_in fs) ++ after) fs (bits_of_octets after)
+has_prefix n fs after e = record { number = λ start width. number_in-prefix n (bits_in fs) after start width e }
 
-pub says_head : (h : SegmentHead) (more : List Bool) → IsHead h → h.count < 256 → length h.image.weights.shifts ≡ 10 → SaysHead h (octets_of (head_bits h ++ more))
+pub says_head : (h : SegmentHead) (more : List Bool) → IsHead h → h.count < 256 → length h.image.weights.shifts ≡ 10 →
+    SaysHead h (octets_of (head_bits h ++ more))
 says_head h more ok small ten =
     let n = if h.last then 4 else 3 in
     let b1 = bits_in (part_1a h ++ part_1b h) in
@@ -88,7 +101,7 @@ says_head h more ok small ten =
     let after = octets_of b2 ++ (octets_of b3 ++ (octets_of b4 ++ octets_of more)) in
     let o = octets_of b1 ++ after in
     let same : octets_of (head_bits h ++ more) ≡ o = ap octets_of (split_bits h more) ∙ parts_split b1 b2 b3 b4 more n e1 e2 e3 e4 in
-    let first : SaysFirst h o = says_first h o (bits_of_octets after) ok small (has_front n (part_1a h ++ part_1b h) after e1) in
+    let first : SaysFirst h o = says_first h o (bits_of_octets after) ok small (has_prefix n (part_1a h ++ part_1b h) after e1) in
     let count : part_1_length o ≡ n = ap (λ b. if b then 4 else 3) first.last in
     let rest : drop (part_1_length o) o ≡ after = ap (λ k. drop k o) count ∙ after_first b1 b2 b3 b4 more n e1 e2 e3 e4 in
     let two : reading.part_2 o ≡ octets_of b2 = ap (take 5) rest ∙ second_part b1 b2 b3 b4 more n e1 e2 e3 e4 in
@@ -107,7 +120,8 @@ says_head h more ok small ten =
 even_pattern : (n word : ℕ) → n ≡ word_pattern word → (n % 2 == 1) ≡ false
 even_pattern n word e = let z : n % 2 ≡ 0 = omega (arith, e) in rw z refl
 
-support_passes : (h : SegmentHead) (third fourth : List ℕ) → IsHead h → SaysThird h third → SaysFourth h.image fourth → first_refusal (support_tests third fourth) ≡ None
+support_passes : (h : SegmentHead) (third fourth : List ℕ) → IsHead h → SaysThird h third → SaysFourth h.image fourth →
+    first_refusal (support_tests third fourth) ≡ None
 support_passes h third fourth ok says_3 says_4 =
     let word : (number_in fourth 29 3 % 2 == 1) ≡ false = even_pattern (number_in fourth 29 3) h.image.word says_4.pattern in
     let width : (number_in fourth 8 20 == 0) ≡ false = grind (arith, nat_tests, says_4.width, ok.image.width) in
@@ -116,8 +130,10 @@ support_passes h third fourth ok says_3 says_4 =
 
 -- ---- the head that is read
 
-same_head : (first last : Bool) (count depth_dc depth_ac pad_rows limit : ℕ) (stop : Stop) (fill : Bool) (blocks : ℕ) (best_dc best_ac : Bool) (image : ImagePart) (h : SegmentHead) →
-    first ≡ h.first → last ≡ h.last → count ≡ h.count → depth_dc ≡ h.depth_dc → depth_ac ≡ h.depth_ac → pad_rows ≡ h.pad_rows → limit ≡ h.limit → stop ≡ h.stop → fill ≡ h.fill → blocks ≡ h.blocks → best_dc ≡ h.best_dc → best_ac ≡ h.best_ac → image ≡ h.image →
+same_head : (first last : Bool) (count depth_dc depth_ac pad_rows limit : ℕ) (stop : Stop) (fill : Bool) (blocks : ℕ) (best_dc best_ac : Bool)
+    (image : ImagePart) (h : SegmentHead) →
+    first ≡ h.first → last ≡ h.last → count ≡ h.count → depth_dc ≡ h.depth_dc → depth_ac ≡ h.depth_ac → pad_rows ≡ h.pad_rows → limit ≡ h.limit →
+    stop ≡ h.stop → fill ≡ h.fill → blocks ≡ h.blocks → best_dc ≡ h.best_dc → best_ac ≡ h.best_ac → image ≡ h.image →
     record {
       first = first;
       last = last;
@@ -133,7 +149,8 @@ same_head : (first last : Bool) (count depth_dc depth_ac pad_rows limit : ℕ) (
       best_ac = best_ac;
       image = image;
     } ≡ h
-same_head first last count depth_dc depth_ac pad_rows limit stop fill blocks best_dc best_ac image h a b c d e f g i j k l m n = rw (a, b, c, d, e, f, g, i, j, k, l, m, n) refl
+same_head first last count depth_dc depth_ac pad_rows limit stop fill blocks best_dc best_ac image h a b c d e f g i j k l m n =
+    rw (a, b, c, d, e, f, g, i, j, k, l, m, n) refl
 
 head_said : (h : SegmentHead) (o : List ℕ) → SaysHead h o → head_in o ≡ h
 head_said h o says =
@@ -148,9 +165,11 @@ read_again h o ok says =
     let same = head_said h o says in
     let depths = rw (← same) at (depth_passes h ok) in
     let values = rw (← same) at (value_passes h ok) in
-    sym (passed_all o (none_absent o says.long says.one.has_2 says.one.has_3 says.one.has_4) (support_passes h (reading.part_3 o) (reading.part_4 o) ok says.three says.four) depths values) ∙ ap Ok same
+    sym (passed_all o (none_absent o says.long says.one.has_2 says.one.has_3 says.one.has_4)
+    (support_passes h (reading.part_3 o) (reading.part_4 o) ok says.three says.four) depths values) ∙ ap Ok same
 
-pub head_undoes : (h : SegmentHead) (more : List Bool) → IsHead h → h.count < 256 → length h.image.weights.shifts ≡ 10 → head_read (octets_of (head_bits h ++ more)) ≡ Ok h
+pub head_undoes : (h : SegmentHead) (more : List Bool) → IsHead h → h.count < 256 → length h.image.weights.shifts ≡ 10 →
+    head_read (octets_of (head_bits h ++ more)) ≡ Ok h
 head_undoes h more ok small ten = read_again h (octets_of (head_bits h ++ more)) ok (says_head h more ok small ten)
 
 -- a head has 19 or 20 octets, 8 of them those of Part 4
@@ -174,4 +193,10 @@ length-first_parts h =
     )
 
 pub length-head_bits : (h : SegmentHead) → length h.image.weights.shifts ≡ 10 → length (head_bits h) ≡ 8 * head_length h
-length-head_bits h ten = omega (arith, ap length (head_bits_parts h), length-append (bits_in (first_parts h)) (bits_in (part_4 h.image)), length-first_parts h, length_4 h.image ten)
+length-head_bits h ten = omega (
+  arith,
+  ap length (head_bits_parts h),
+  length-append (bits_in (first_parts h)) (bits_in (part_4 h.image)),
+  length-first_parts h,
+  length_4 h.image ten,
+)

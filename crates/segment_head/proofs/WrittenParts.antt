@@ -1,5 +1,6 @@
 -- What each part of a head that was written says.
-use Rattle.std.proofs.Common.{◌≡◌, ℕ, zero, suc, ◌+◌, ◌*◌, ◌%◌, ◌^◌, ◌<◌, ◌≤◌, List, [], ◌∷◌, ◌++◌, length, take, drop, map, get_or, Bool, true, false, refl, sym, ap, subst, ◌∙◌, arith, inl, inr, length-append, ◌==◌, if◌then◌else◌, bytes_eq}
+use Rattle.std.proofs.Common.{◌≡◌, ℕ, zero, suc, ◌+◌, ◌*◌, ◌%◌, ◌^◌, ◌<◌, ◌≤◌, List, [], ◌∷◌, ◌++◌, length, take, drop, map, get_or, Bool, true, false}
+use Rattle.std.proofs.Common.{refl, sym, ap, subst, ◌∙◌, arith, inl, inr, length-append, ◌==◌, if◌then◌else◌, bytes_eq}
 use Rattle.std.proofs.lemmas.List.{length-map}
 use Rattle.std.proofs.lemmas.List.FromFn.{fill_by_all}
 use Rattle.std.proofs.lemmas.Bool.Decides.{nat_tests}
@@ -39,7 +40,8 @@ pub record SaysFirst (h : SegmentHead) (o : List ℕ) : Type 0 where
   pub has_4 : is_set o 23 ≡ true
   pub pad_rows : (if is_set o 1 then number_in o 24 3 else 0) ≡ h.pad_rows
 
-pads : (h : SegmentHead) (o : List ℕ) (rest : List Bool) (last : Bool) → h.last ≡ last → h.pad_rows < 8 → (h.last ≡ false → h.pad_rows ≡ 0) → Has o (part_1a h ++ part_1b h) rest →
+pads : (h : SegmentHead) (o : List ℕ) (rest : List Bool) (last : Bool) → h.last ≡ last → h.pad_rows < 8 → (h.last ≡ false → h.pad_rows ≡ 0) →
+    Has o (part_1a h ++ part_1b h) rest →
     (if last then number_in o 24 3 else 0) ≡ h.pad_rows
 pads h o rest true e small none has =
     let with_pads : Has o (part_1a h ++ (field 3 h.pad_rows ∷ reserved 5 ∷ [])) rest =
@@ -72,7 +74,8 @@ says_first h o rest ok small has =
 
 -- ---- Part 2
 
-same_stop : (dc : Bool) (plane stage : ℕ) (stop : Stop) → dc ≡ stop.dc → plane ≡ stop.plane → stage ≡ stop.stage → record { dc = dc; plane = plane; stage = stage } ≡ stop
+same_stop : (dc : Bool) (plane stage : ℕ) (stop : Stop) → dc ≡ stop.dc → plane ≡ stop.plane → stage ≡ stop.stage →
+    record { dc = dc; plane = plane; stage = stage } ≡ stop
 same_stop dc plane stage stop p q r = rw (p, q, r) refl
 
 -- a stop at the DC numbers has plane 0 and stage 3
@@ -80,7 +83,8 @@ chosen : (dc : Bool) (n at_dc value : ℕ) → n ≡ value → (dc ≡ true → 
 chosen true n at_dc value e f = sym (f refl)
 chosen false n at_dc value e f = e
 
-stop_of : (o : List ℕ) (stop : Stop) → is_set o 27 ≡ stop.dc → number_in o 28 5 ≡ stop.plane → number_in o 33 2 ≡ stop.stage → (stop.dc ≡ true → (stop.plane ≡ 0) × (stop.stage ≡ 3)) → stop_in o ≡ stop
+stop_of : (o : List ℕ) (stop : Stop) → is_set o 27 ≡ stop.dc → number_in o 28 5 ≡ stop.plane → number_in o 33 2 ≡ stop.stage →
+    (stop.dc ≡ true → (stop.plane ≡ 0) × (stop.stage ≡ 3)) → stop_in o ≡ stop
 stop_of o stop dc plane stage at_dc =
     same_stop
     (is_set o 27)
@@ -151,25 +155,31 @@ field_at-pairs (x ∷ xs) more zero lt = refl
 field_at-pairs (x ∷ xs) more (suc k) lt = field_at-pairs xs more k (omega arith)
 
 -- the weight of this index, if the weights are not the usual ones
-each_weight : (o : List ℕ) (image : ImagePart) (rest : List Bool) → IsImagePart image → length image.weights.shifts ≡ 10 → Has o (fields_4 false image) rest → (k : ℕ) → k < 10 →
+each_weight : (o : List ℕ) (image : ImagePart) (rest : List Bool) → IsImagePart image → length image.weights.shifts ≡ 10 →
+    Has o (fields_4 false image) rest → (k : ℕ) → k < 10 →
     get_or image.weights.shifts k 0 ≡ number_in o (33 + 2 * k) 2
 each_weight o image rest ok ten has k lt =
     let xs : List ℕ = image.weights.shifts in
     let more : List Field = reserved 11 ∷ [] in
     let inside : k < length xs = omega (arith, ten) in
-    let n : number_in o (1 + (1 + (1 + (1 + (4 + (20 + (1 + (3 + (1 + start_of (map (field 2) xs ++ more) k))))))))) (field_at (map (field 2) xs ++ more) k).width
+    let n : number_in o (1 + (1 + (1 + (1 + (4 + (20 + (1 + (3 + (1 + start_of (map (field 2) xs ++ more) k)))))))))
+    (field_at (map (field 2) xs ++ more) k).width
     ≡ (field_at (map (field 2) xs ++ more) k).value % 2 ^ (field_at (map (field 2) xs ++ more) k).width =
-    number_at has (suc (suc (suc (suc (suc (suc (suc (suc (suc k))))))))) (omega (arith, length-append (map (field 2) xs) more, length-map xs (field 2), inside))
+    number_at has (suc (suc (suc (suc (suc (suc (suc (suc (suc k)))))))))
+    (omega (arith, length-append (map (field 2) xs) more, length-map xs (field 2), inside))
     in
-    let place : 1 + (1 + (1 + (1 + (4 + (20 + (1 + (3 + (1 + start_of (map (field 2) xs ++ more) k)))))))) ≡ 33 + 2 * k = omega (arith, start_of-pairs xs more k inside) in
+    let place : 1 + (1 + (1 + (1 + (4 + (20 + (1 + (3 + (1 + start_of (map (field 2) xs ++ more) k)))))))) ≡ 33 + 2 * k =
+    omega (arith, start_of-pairs xs more k inside) in
     let m : number_in o (33 + 2 * k) 2 ≡ get_or xs k 0 % 4 = rw (place, field_at-pairs xs more k inside) at n in
     let small : get_or xs k 0 ≤ 3 = ok.weights k 0 inside in
     omega (arith, m, small)
 
-custom_weights : (o : List ℕ) (image : ImagePart) (rest : List Bool) → IsImagePart image → length image.weights.shifts ≡ 10 → Has o (fields_4 false image) rest → custom_shifts o ≡ image.weights.shifts
+custom_weights : (o : List ℕ) (image : ImagePart) (rest : List Bool) → IsImagePart image → length image.weights.shifts ≡ 10 →
+    Has o (fields_4 false image) rest → custom_shifts o ≡ image.weights.shifts
 custom_weights o image rest ok ten has = sym (fill_by_all (λ k. number_in o (33 + 2 * k) 2) image.weights.shifts 10 0 ten (each_weight o image rest ok ten has))
 
-same_image : (signed : Bool) (depth width word : ℕ) (shifts : List ℕ) (image : ImagePart) → signed ≡ image.signed → depth ≡ image.depth → width ≡ image.width → word ≡ image.word → shifts ≡ image.weights.shifts →
+same_image : (signed : Bool) (depth width word : ℕ) (shifts : List ℕ) (image : ImagePart) → signed ≡ image.signed → depth ≡ image.depth →
+    width ≡ image.width → word ≡ image.word → shifts ≡ image.weights.shifts →
     record { signed = signed; depth = depth; width = width; word = word; weights = record { shifts = shifts } } ≡ image
 same_image signed depth width word shifts image p q r s t = rw (p, q, r, s, t) refl
 
@@ -181,7 +191,8 @@ pub record SaysFourth (image : ImagePart) (o : List ℕ) : Type 0 where
   pub width : number_in o 8 20 ≡ image.width
   pub says : image_in o ≡ image
 
-fourth : (usual : Bool) (o : List ℕ) (image : ImagePart) (rest : List Bool) → IsImagePart image → Has o (fields_4 usual image) rest → (if is_set o 32 then custom_shifts o else usual_shifts) ≡ image.weights.shifts → SaysFourth image o
+fourth : (usual : Bool) (o : List ℕ) (image : ImagePart) (rest : List Bool) → IsImagePart image → Has o (fields_4 usual image) rest →
+    (if is_set o 32 then custom_shifts o else usual_shifts) ≡ image.weights.shifts → SaysFourth image o
 fourth usual o image rest ok has weights =
     let n_depth : number_in o 4 4 ≡ image.depth % 16 % 16 = number_at has 4 (omega arith) in
     let n_width : number_in o 8 20 ≡ image.width % 1048576 = number_at has 5 (omega arith) in
@@ -196,7 +207,8 @@ fourth usual o image rest ok has weights =
       pattern = n_word ∙ omega (arith, ok.word);
       width = width;
       says =
-          same_image (is_set o 3) (depth_of (number_in o 4 4)) (number_in o 8 20) (word_of (number_in o 29 3)) (if is_set o 32 then custom_shifts o else usual_shifts) image
+          same_image (is_set o 3) (depth_of (number_in o 4 4)) (number_in o 8 20) (word_of (number_in o 29 3))
+          (if is_set o 32 then custom_shifts o else usual_shifts) image
           (flag_of (number_in o 3 1) image.signed (number_at has 3 (omega arith)))
           depth
           width
@@ -204,7 +216,8 @@ fourth usual o image rest ok has weights =
           weights;
     }
 
-by_weights : (usual : Bool) (o : List ℕ) (image : ImagePart) (rest : List Bool) → (usual ≡ true → image.weights.shifts ≡ usual_shifts) → IsImagePart image → length image.weights.shifts ≡ 10 → Has o (fields_4 usual image) rest →
+by_weights : (usual : Bool) (o : List ℕ) (image : ImagePart) (rest : List Bool) → (usual ≡ true → image.weights.shifts ≡ usual_shifts) → IsImagePart image →
+    length image.weights.shifts ≡ 10 → Has o (fields_4 usual image) rest →
     SaysFourth image o
 by_weights true o image rest same ok ten has =
     let plain : is_set o 32 ≡ false = flag_of (number_in o 32 1) false (number_at has 8 (omega arith)) in
@@ -213,6 +226,7 @@ by_weights false o image rest same ok ten has =
     let custom : is_set o 32 ≡ true = flag_of (number_in o 32 1) true (number_at has 8 (omega arith)) in
     fourth false o image rest ok has (rw custom (custom_weights o image rest ok ten has))
 
-pub says_fourth : (image : ImagePart) (o : List ℕ) (rest : List Bool) → IsImagePart image → length image.weights.shifts ≡ 10 → Has o (part_4 image) rest → SaysFourth image o
+pub says_fourth : (image : ImagePart) (o : List ℕ) (rest : List Bool) → IsImagePart image → length image.weights.shifts ≡ 10 → Has o (part_4 image) rest →
+    SaysFourth image o
 says_fourth image o rest ok ten has =
     by_weights (bytes_eq image.weights.shifts usual_shifts) o image rest ((bytes_eq-Decides image.weights.shifts usual_shifts).0) ok ten has

@@ -2,7 +2,8 @@
 ghost use Rattle.std.specs.Prelude.{◌≡◌, ◌≤◌, ◌+◌, length, OnOk, IfOk};
 ghost use Rattle.segment_defs.specs.Head.{IsHead};
 ghost use Rattle.segment_head.specs.Parts.{carried_in};
-ghost use Rattle.segment_defs.specs.Reading.{part_1_length, after_part_1, weights_in, stop_in, image_in, head_of, answer, first_refusal, presence_tests, support_tests, depth_tests, value_tests, head_read};
+ghost use Rattle.segment_defs.specs.Reading.{part_1_length, after_part_1, weights_in, stop_in, image_in, head_of, answer, first_refusal, presence_tests};
+ghost use Rattle.segment_defs.specs.Reading.{support_tests, depth_tests, value_tests, head_read};
 
 use crate::carried::Carried;
 use crate::places::{is_set, number_in};

@@ -3,7 +3,7 @@ ghost use Rattle.std.specs.Prelude.{◌≡◌, ◌≢◌, ◌≤◌, ◌*◌, ma
 ghost use Rattle.std.specs.List.{flat_map};
 ghost use Rattle.std.specs.Str.{bytes_eq};
 ghost use Rattle.base_122.specs.Weights.{usual_shifts};
-ghost use Rattle.bit_pipe.specs.Standing.{stand, Puts, IsReady, Writes};
+ghost use Rattle.bit_pipe.specs.SinkState.{sink_state, Puts, IsReady, Writes};
 ghost use Rattle.bit_pipe.specs.declared.fault.PutFault.TheVariants.{Stopped};
 ghost use Rattle.segment_defs.specs.Head.{field as field_of, flag as flag_of, reserved as reserved_of};
 ghost use Rattle.segment_defs.specs.Head.{IsHead, head_bits, head_length, field_bits, part_2, part_3, part_4, weight_fields};
@@ -21,7 +21,7 @@ use segment_defs::{ImagePart, SegmentHead};
 pub fn write_head<O: OctetOut>(out: &mut BitOut<O>, head: &SegmentHead) -> Result<(), PutFault>
     requires fits { IsHead head.now }
     requires open { IsReady O.sink out.old }
-    requires room { 8 * head_length head.now ≤ (stand O.sink out.old).room }
+    requires room { 8 * head_length head.now ≤ (sink_state O.sink out.old).room }
     ensures puts { Writes O.sink result out.old out.new (head_bits head.now) }
     ensures never_stops { result ≢ Err Stopped }
 {
@@ -92,7 +92,7 @@ pub fn put_part_3<O: OctetOut>(out: &mut BitOut<O>, head: &SegmentHead) -> Resul
 pub fn put_part_4<O: OctetOut>(out: &mut BitOut<O>, image: &ImagePart) -> Result<(), PutFault>
     requires word { 1 ≤ image.now.word }
     requires open { IsReady O.sink out.old }
-    requires room { 64 ≤ (stand O.sink out.old).room }
+    requires room { 64 ≤ (sink_state O.sink out.old).room }
     ensures puts { Writes O.sink result out.old out.new (flat_map field_bits (part_4 image.now)) }
     ensures never_stops { result ≢ Err Stopped }
 {

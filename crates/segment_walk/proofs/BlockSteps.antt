@@ -1,5 +1,6 @@
 -- Blocks that a walk passes, one after another.
-use Rattle.std.proofs.Common.{◌≡◌, ◌<◌, ◌≤◌, ◌+◌, ◌/◌, ◌==◌, ℕ, ℤ, zero, suc, Bool, true, false, List, ◌++◌, refl, sym, ap, ◌∙◌, arith, append_assoc, ◌||◌, ◌&&◌, not, is_some, filter, Option, None, Some, Result, IsErr, append-nil}
+use Rattle.std.proofs.Common.{◌≡◌, ◌<◌, ◌≤◌, ◌+◌, ◌/◌, ◌==◌, ℕ, ℤ, zero, suc, Bool, true, false, List, ◌++◌, refl, sym, ap, ◌∙◌, arith, append_assoc, ◌||◌}
+use Rattle.std.proofs.Common.{◌&&◌, not, is_some, filter, Option, None, Some, Result, IsErr, append-nil}
 use Rattle.std.specs.List.{range_with_len, list_any}
 use Rattle.std.proofs.lemmas.Bool.{false≢true}
 use Rattle.std.proofs.lemmas.Bool.Decides.{nat_tests}
@@ -12,7 +13,8 @@ use Rattle.base_122.specs.declared.geometry.Geometry.{Geometry}
 use Rattle.stream_defs.specs.Marks.{Marks, marked, most_block_rows}
 use Rattle.damage_rows.proofs.TableLaws.{any_none, filter_same}
 use Rattle.segment_walk.specs.Sinks.{Blocks, SinkOf, Takes, Fails}
-use Rattle.segment_walk.specs.Steps.{Walking, IsCurrent, HasRoom, Follows, AreNext, HasPassed, StopsEarly, PassesBlocks, HasAdvanced, passed_in, is_marked, is_lost, IsListed}
+use Rattle.segment_walk.specs.Steps.{Walking, IsCurrent, HasRoom, Follows, AreNext, HasPassed, StopsEarly, PassesBlocks, HasAdvanced, passed_in, is_marked}
+use Rattle.segment_walk.specs.Steps.{is_lost, IsListed}
 use Rattle.stream_defs.proofs.Equations.{and_missing-is}
 
 -- ---- marks
@@ -48,7 +50,8 @@ marks_past (Some xs) m row = m
 past_rows : (v : Option (List ℤ)) (m : Marks) (row : ℕ) → (marks_past v m row).rows ≡ m.rows
 past_rows v m row = grind (arith, nat_tests)
 
-past_marked : (v : Option (List ℤ)) (m : Marks) (r row : ℕ) → row < most_block_rows → is_marked (marks_past v m r).missing row ≡ (is_marked m.missing row || (not (is_some v) && (r == row)))
+past_marked : (v : Option (List ℤ)) (m : Marks) (r row : ℕ) → row < most_block_rows → is_marked (marks_past v m r).missing row
+    ≡ (is_marked m.missing row || (not (is_some v) && (r == row)))
 past_marked v m r row low = grind (arith, nat_tests, marked_row, or_none)
 
 past_listed : (v : Option (List ℤ)) (m : Marks) (r : ℕ) → IsListed m → IsListed (marks_past v m r)
@@ -67,12 +70,13 @@ any_more f a (suc n) =
     or_assoc false b c = refl
 
 -- one block more
-lost_more : (g : Geometry) (blocks : Blocks) (m row : ℕ) → is_lost g blocks (m + 1) row ≡ (is_lost g blocks m row || (not (is_some (blocks m)) && (m / block_count g.width == row)))
+lost_more : (g : Geometry) (blocks : Blocks) (m row : ℕ) →
+    is_lost g blocks (m + 1) row ≡ (is_lost g blocks m row || (not (is_some (blocks m)) && (m / block_count g.width == row)))
 lost_more g blocks m row = grind (arith, nat_tests, any_more)
 
 -- ---- one block
 
-module _ {S : Type 0} (k : SinkOf S) (v : Option (List ℤ)) (p z : Walking S) (t : S) (a b : Outside) (standing : IsCurrent k p) (room : HasRoom 1 p) where
+module _ {S : Type 0} (k : SinkOf S) (v : Option (List ℤ)) (p z : Walking S) (t : S) (a b : Outside) (current : IsCurrent k p) (room : HasRoom 1 p) where
   abbrev c : ℕ
   c = block_count p.geometry.width
 
@@ -83,7 +87,8 @@ module _ {S : Type 0} (k : SinkOf S) (v : Option (List ℤ)) (p z : Walking S) (
   next_is : (blocks : Blocks) → AreNext (λ i. v) 1 p blocks → blocks (passed_in p) ≡ v
   next_is blocks next = ap blocks (omega arith) ∙ next.at 0 (omega arith)
 
-  marked_past : (blocks : Blocks) (gave : List ℕ) → Follows k p blocks gave → AreNext (λ i. v) 1 p blocks → (row : ℕ) → row < most_block_rows → is_marked (marks_past v p.damage p.at.row).missing row ≡ is_lost p.geometry blocks (passed_in p + 1) row
+  marked_past : (blocks : Blocks) (gave : List ℕ) → Follows k p blocks gave → AreNext (λ i. v) 1 p blocks → (row : ℕ) → row < most_block_rows →
+      is_marked (marks_past v p.damage p.at.row).missing row ≡ is_lost p.geometry blocks (passed_in p + 1) row
   marked_past blocks gave f next row low = grind (arith, nat_tests, div-mul-add, past_marked, next_is, lost_more)
 
   -- it was passed
@@ -96,12 +101,13 @@ module _ {S : Type 0} (k : SinkOf S) (v : Option (List ℤ)) (p z : Walking S) (
 
 -- ---- more of them
 
-pub passes_failed : {S T E : Type 0} {a b : Outside} {p : Walking S} (k : SinkOf S) (r : Result T E) (values : ℕ → Option (List ℤ)) (n : ℕ) (z : Walking S) → IsErr r → StopsEarly k values n a b p → PassesBlocks k r values n a b p z
+pub passes_failed : {S T E : Type 0} {a b : Outside} {p : Walking S} (k : SinkOf S) (r : Result T E) (values : ℕ → Option (List ℤ)) (n : ℕ)
+    (z : Walking S) → IsErr r → StopsEarly k values n a b p → PassesBlocks k r values n a b p z
 passes_failed k r values n z is broken = grind (arith, nat_tests, false≢true)
 
 -- none was passed
 pub none_passed : {S : Type 0} (k : SinkOf S) (values : ℕ → Option (List ℤ)) (p : Walking S) (a : Outside) → IsCurrent k p → HasPassed k values 0 a a p p
-none_passed k values p a standing = grind (arith, nat_tests, since_start, append-nil)
+none_passed k values p a current = grind (arith, nat_tests, since_start, append-nil)
 
 module _ {S : Type 0} (k : SinkOf S) (values : ℕ → Option (List ℤ)) (i : ℕ) {a b : Outside} (p x : Walking S) (passed : HasPassed k values i a b p x) where
   first_ones : (n : ℕ) (blocks : Blocks) → i ≤ n → AreNext values n p blocks → AreNext values i p blocks
@@ -113,7 +119,7 @@ module _ {S : Type 0} (k : SinkOf S) (values : ℕ → Option (List ℤ)) (i : �
   -- one more was passed
   pub passed_then : {c : Outside} (z : Walking S) → HasPassed k (λ j. values i) 1 b c x z → HasPassed k values (i + 1) a c p z
   passed_then z one = record {
-    standing = one.standing;
+    current = one.current;
     geometry = one.geometry ∙ passed.geometry;
     count = omega (arith, one.count, passed.count);
     gave = passed.gave ++ one.gave;

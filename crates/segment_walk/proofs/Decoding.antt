@@ -1,5 +1,6 @@
 -- How a whole walk ends.
-use Rattle.std.proofs.Common.{◌≡◌, ◌≤◌, ◌<◌, ◌*◌, ◌/◌, ℕ, List, [], ◌∷◌, ◌++◌, refl, sym, ap, subst, ◌∙◌, inl, inr, arith, Option, None, Some, Ok, Err, mul-le-mul_right, append-nil}
+use Rattle.std.proofs.Common.{◌≡◌, ◌≤◌, ◌<◌, ◌*◌, ◌/◌, ℕ, List, [], ◌∷◌, ◌++◌, refl, sym, ap, subst, ◌∙◌, inl, inr, arith, Option, None, Some, Ok, Err}
+use Rattle.std.proofs.Common.{mul-le-mul_right, append-nil}
 use Rattle.std.proofs.lemmas.Bool.{false≢true}
 use Rattle.std.proofs.lemmas.Nat.{div-mul-add}
 use Rattle.std.proofs.lemmas.Bool.Decides.{nat_tests}
@@ -43,7 +44,8 @@ use Rattle.segment_walk.proofs.RunStarts.{HasFound, few_first, first_part, none_
 pub no_memory_first : {S : Type 0} (k : SinkOf S) (wish : DecodeWish) (now : Outside) → Walks k wish now now (Err Memory)
 no_memory_first k wish now = record { took = []; gave = []; since = since_start now _; within = omega arith; for_some = inl refl; answer = refl }
 
-module _ {S : Type 0} (k : SinkOf S) (wish : DecodeWish) (old new : Outside) (a b : Assembling) (unread : a ≡ unread_assembly wish.apid wish.octets) (found : FoundNone old new a b) where
+module _ {S : Type 0} (k : SinkOf S) (wish : DecodeWish) (old new : Outside) (a b : Assembling) (unread : a ≡ unread_assembly wish.apid wish.octets)
+    (found : FoundNone old new a b) where
   abbrev w : Run
   w = run_of wish old
 
@@ -55,9 +57,11 @@ module _ {S : Type 0} (k : SinkOf S) (wish : DecodeWish) (old new : Outside) (a 
 
   -- no packet was kept
   no_geometry : (after_all wish.apid fresh found.passed).geometry ≡ None
-  no_geometry = none_kept wish.apid found.passed (ap (λ (s : FateState). last_index s.last) (sym none_read_yet.state) ∙ found.stays ∙ ap (λ (a : Assembling). last_index a.state.last) unread)
+  no_geometry = none_kept wish.apid found.passed (ap (λ (s : FateState). last_index s.last) (sym none_read_yet.state) ∙ found.stays ∙
+      ap (λ (a : Assembling). last_index a.state.last) unread)
 
-pub first_none : {S : Type 0} (k : SinkOf S) (wish : DecodeWish) (old new : Outside) (a b : Assembling) → a ≡ unread_assembly wish.apid wish.octets → FindsSegment old new a b (Ok None) → Walks k wish old new (Err NoSegment)
+pub first_none : {S : Type 0} (k : SinkOf S) (wish : DecodeWish) (old new : Outside) (a b : Assembling) → a ≡ unread_assembly wish.apid wish.octets →
+    FindsSegment old new a b (Ok None) → Walks k wish old new (Err NoSegment)
 first_none k wish old new a b unread finds =
     let w = run_of wish old in
     let found = finds.ends.0 in
@@ -75,7 +79,8 @@ first_none k wish old new a b unread finds =
       );
     }
 
-pub first_fails : {S : Type 0} (k : SinkOf S) (wish : DecodeWish) (old new : Outside) (a b : Assembling) → a ≡ unread_assembly wish.apid wish.octets → (fault : DecodeFault) → FindsNext old new a b (Err fault) → Walks k wish old new (Err fault)
+pub first_fails : {S : Type 0} (k : SinkOf S) (wish : DecodeWish) (old new : Outside) (a b : Assembling) → a ≡ unread_assembly wish.apid wish.octets →
+    (fault : DecodeFault) → FindsNext old new a b (Err fault) → Walks k wish old new (Err fault)
 first_fails k wish old new a b unread ReadFault finds =
     let found = finds.ends.0 in
     record {
@@ -84,7 +89,7 @@ first_fails k wish old new a b unread ReadFault finds =
       since = first_asks k (run_of wish old) new a b found.passed unread found.passes;
       within = read_within (none_read_yet k wish old new a b unread found);
       for_some = inl refl;
-      answer = (finds.ends.1, λ all told. first_part k wish.book wish.apid found.passes.took);
+      answer = (finds.ends.1, λ all if_known. first_part k wish.book wish.apid found.passes.took);
     }
 first_fails k wish old new a b unread LongInput finds =
     let found = finds.ends.0 in
@@ -97,13 +102,19 @@ first_fails k wish old new a b unread LongInput finds =
       since = first_asks k (run_of wish old) new a b found.passed unread found.passes;
       within = read_within read;
       for_some = inl refl;
-      answer = (long_full read long, long_good read long, none_few wish.pixels wish.apid found.passes.took none, λ all told. first_part k wish.book wish.apid found.passes.took);
+      answer = (
+        long_full read long,
+        long_good read long,
+        none_few wish.pixels wish.apid found.passes.took none,
+        λ all if_known. first_part k wish.book wish.apid found.passes.took,
+      );
     }
 first_fails k wish old new a b unread other finds = absurd finds
 
 -- ---- the first segment
 
-module _ {S : Type 0} (k : SinkOf S) (wish : DecodeWish) (old new : Outside) (b : Assembling) (start : SegmentStart) (found : HasFound k (run_of wish old) new b start) where
+module _ {S : Type 0} (k : SinkOf S) (wish : DecodeWish) (old new : Outside) (b : Assembling) (start : SegmentStart)
+    (found : HasFound k (run_of wish old) new b start) where
   -- the image that its head reports
   reported : (image : Geometry) × (b.state.geometry ≡ Some image)
   reported =
@@ -122,11 +133,14 @@ module _ {S : Type 0} (k : SinkOf S) (wish : DecodeWish) (old new : Outside) (b 
       let b' = begun_by wish.apid begun.before begun.packet start begun.starts in
       grind (arith, nat_tests, after_all-append, fits_begun)
 
-  pub too_many : (image : Geometry) (pixels : ℕ) → b.state.geometry ≡ Some image → pixels ≡ pixels_reached image start → wish.pixels < pixels → Walks k wish old new (Err (TooManyPixels pixels))
+  pub too_many : (image : Geometry) (pixels : ℕ) → b.state.geometry ≡ Some image → pixels ≡ pixels_reached image start → wish.pixels < pixels →
+      Walks k wish old new (Err (TooManyPixels pixels))
   too_many image pixels geometry is lt =
       let begun = found.begun in
-      let there : (after_all wish.apid fresh (begun.before ++ begun.packet ∷ [])).geometry ≡ Some image = ap (λ xs. (after_all wish.apid fresh xs).geometry) (sym begun.passed_are) ∙ ap (λ (s : FateState). s.geometry) (sym found.read.state) ∙ geometry in
-      let reached : pixels ≡ image.width * rows_reached image (end_of (kept wish.apid fresh (begun.before ++ begun.packet ∷ []))) = is ∙ ap (λ n. image.width * rows_reached image n) (sym (end_begun wish.apid begun.before begun.packet start begun.starts)) in
+      let there : (after_all wish.apid fresh (begun.before ++ begun.packet ∷ [])).geometry ≡ Some image =
+      ap (λ xs. (after_all wish.apid fresh xs).geometry) (sym begun.passed_are) ∙ ap (λ (s : FateState). s.geometry) (sym found.read.state) ∙ geometry in
+      let reached : pixels ≡ image.width * rows_reached image (end_of (kept wish.apid fresh (begun.before ++ begun.packet ∷ []))) =
+      is ∙ ap (λ n. image.width * rows_reached image n) (sym (end_begun wish.apid begun.before begun.packet start begun.starts)) in
       record {
         took = found.took;
         gave = [];
@@ -139,7 +153,8 @@ module _ {S : Type 0} (k : SinkOf S) (wish : DecodeWish) (old new : Outside) (b 
               before = begun.before;
               packet = begun.packet;
               later = whole_packets (b.intake.pending ++ []);
-              packets_are = ap whole_packets (sym (append-nil found.took)) ∙ packets_then (run_of wish old) b found.took [] found.went found.read ∙ ap (λ xs. xs ++ whole_packets (b.intake.pending ++ [])) begun.passed_are;
+              packets_are = ap whole_packets (sym (append-nil found.took)) ∙ packets_then (run_of wish old) b found.took [] found.went found.read
+                  ∙ ap (λ xs. xs ++ whole_packets (b.intake.pending ++ [])) begun.passed_are;
               few = few_first k (run_of wish old) new b start found;
               image = image;
               geometry = there;
@@ -148,7 +163,7 @@ module _ {S : Type 0} (k : SinkOf S) (wish : DecodeWish) (old new : Outside) (b 
             };
             nothing = λ known. refl;
           },
-          λ all told. first_part k wish.book wish.apid found.took,
+          λ all if_known. first_part k wish.book wish.apid found.took,
         );
       }
 
@@ -162,14 +177,15 @@ rows_within m n c some le = grind (arith, nat_tests, mul-le-mul_right)
 
 -- a walk has passed no more block rows than an image has
 pub rows_few : {S : Type 0} (k : SinkOf S) (q : Walking S) → IsCurrent k q → q.at.row ≤ 32768
-rows_few k q standing = grind (arith, nat_tests, block_count-rows, rows_within)
+rows_few k q current = grind (arith, nat_tests, block_count-rows, rows_within)
 
 -- so its picture has no more rows
 pub written_few : (g : Geometry) (r : ℕ) → IsGeometryInRange g → r ≤ 32768 → height g r ≤ 262144
 written_few g r range few = grind (arith, nat_tests, is_open, is_not_open)
 
 -- the damage of what was passed
-module _ {S : Type 0} (k : SinkOf S) (w : Run) (now : Outside) (image : Geometry) (q : Walking S) (found : Option Framing) (whole : HasPassedAll k w now image q found) where
+module _ {S : Type 0} (k : SinkOf S) (w : Run) (now : Outside) (image : Geometry) (q : Walking S) (found : Option Framing)
+    (whole : HasPassedAll k w now image q found) where
   abbrev n : ℕ
   n = begun_in w.apid whole.took
 
@@ -193,14 +209,32 @@ module _ {S : Type 0} (k : SinkOf S) (w : Run) (now : Outside) (image : Geometry
   pub written_is : height image q.at.row ≡ height image n
   written_is = grind (arith, nat_tests, known_or_not, rows_passed, is_not_open)
 
-  pub damage_is : (received : Numbers) (gave : List ℕ) → Follows k q (blocks_with image received) gave → IsDamageOf image received n (ended_at q.damage (height image q.at.row))
+  pub damage_is : (received : Numbers) (gave : List ℕ) → Follows k q (blocks_with image received) gave →
+      IsDamageOf image received n (ended_at q.damage (height image q.at.row))
   damage_is received gave follows =
       let segment : q.geometry.segment ≡ image.segment = ap (λ (g : Geometry). g.segment) whole.placed_is in
-      let here : Follows k q (blocks_with q.geometry received) gave = subst (λ blocks. Follows k q blocks gave) (ap (λ m. blocks_by m received) (sym segment)) follows in
-      grind (arith, nat_tests, known_or_not, rows_passed, width, open_damage, rows_few, most_is, is_open, written_is, is_not_open, blocks_known, all_missing, placed_same)
+      let here : Follows k q (blocks_with q.geometry received) gave =
+      subst (λ blocks. Follows k q blocks gave) (ap (λ m. blocks_by m received) (sym segment)) follows in
+      grind (
+        arith,
+        nat_tests,
+        known_or_not,
+        rows_passed,
+        width,
+        open_damage,
+        rows_few,
+        most_is,
+        is_open,
+        written_is,
+        is_not_open,
+        blocks_known,
+        all_missing,
+        placed_same,
+      )
 
-pub walk_done : {S : Type 0} (k : SinkOf S) (wish : DecodeWish) (old new : Outside) (q : Walking S) (image : Geometry) (found told : Option Framing) → HasPassedAll k (run_of wish old) new image q found → told ≡ found → Walks k wish old new (Ok (walked_of image told q))
-walk_done k wish old new q image found told whole is =
+pub walk_done : {S : Type 0} (k : SinkOf S) (wish : DecodeWish) (old new : Outside) (q : Walking S) (image : Geometry) (found if_known : Option Framing) →
+    HasPassedAll k (run_of wish old) new image q found → if_known ≡ found → Walks k wish old new (Ok (walked_of image if_known q))
+walk_done k wish old new q image found if_known whole is =
     let w = run_of wish old in
     record {
       took = whole.took;
@@ -216,24 +250,58 @@ walk_done k wish old new q image found told whole is =
         out = whole.out;
         written = written_is k w new image q found whole;
         rows = refl;
-        stands = subst (λ n. k.Stands q.sink (placed image) n) whole.all (subst (λ g. k.Stands q.sink g (passed_in q)) whole.placed_is whole.standing.stands);
-        told = λ all there.
-            let t = whole.told all there in (
+        valid = subst (λ n. k.IsValid q.sink (placed image) n) whole.all (subst (λ g. k.IsValid q.sink g (passed_in q)) whole.placed_is whole.current.valid);
+        if_known = λ all there.
+            let t = whole.if_known all there in (
               t.0,
               t.1,
-              subst (λ n. k.Follows q.sink (placed image) (blocks_with image t.0) n whole.gave) whole.all (subst (λ g. k.Follows q.sink g (blocks_with image t.0) (passed_in q) whole.gave) whole.placed_is t.2.sink),
+              subst (λ n. k.Follows q.sink (placed image) (blocks_with image t.0) n whole.gave) whole.all
+                  (subst (λ g. k.Follows q.sink g (blocks_with image t.0) (passed_in q) whole.gave) whole.placed_is t.2.sink),
               damage_is k w new image q found whole t.0 whole.gave t.2,
             );
       };
     }
 
-module _ {S : Type 0} (k : SinkOf S) (wish : DecodeWish) (old mid new : Outside) (reads : old.read_faults ≤ mid.read_faults) (writes : old.write_faults ≤ mid.write_faults) where
+module _ {S : Type 0} (k : SinkOf S) (wish : DecodeWish) (old mid new : Outside) (reads : old.read_faults ≤ mid.read_faults)
+    (writes : old.write_faults ≤ mid.write_faults) where
   pub walk_fails : (fault : DecodeFault) → PassesAll mid new (Err fault) → BreaksRun k (run_of wish old) new fault → Walks k wish old new (Err fault)
-  walk_fails ReadFault ends broken = record { took = broken.took; gave = broken.gave; since = broken.since; within = broken.within; for_some = inr broken.for_some; answer = (rose_since reads ends, broken.part) }
-  walk_fails WriteFault ends failed = let broken = failed.broken in record { took = broken.took; gave = broken.gave; since = broken.since; within = broken.within; for_some = inr broken.for_some; answer = (rose_since writes ends, failed.small, broken.part) }
-  walk_fails LongInput ends long = let broken = long.broken in record { took = broken.took; gave = broken.gave; since = broken.since; within = broken.within; for_some = inr broken.for_some; answer = (long.full, long.good, long.small, broken.part) }
+  walk_fails ReadFault ends broken = record {
+    took = broken.took;
+    gave = broken.gave;
+    since = broken.since;
+    within = broken.within;
+    for_some =
+        inr broken.for_some;
+    answer = (rose_since reads ends, broken.part);
+  }
+  walk_fails WriteFault ends failed = let broken = failed.broken in record {
+    took = broken.took;
+    gave = broken.gave;
+    since = broken.since;
+    within =
+        broken.within;
+    for_some = inr broken.for_some;
+    answer = (rose_since writes ends, failed.small, broken.part);
+  }
+  walk_fails LongInput ends long = let broken = long.broken in record {
+    took = broken.took;
+    gave = broken.gave;
+    since = broken.since;
+    within =
+        broken.within;
+    for_some = inr broken.for_some;
+    answer = (long.full, long.good, long.small, broken.part);
+  }
   walk_fails (TooManyPixels pixels) ends many =
       let broken = many.broken in
-      record { took = broken.took; gave = broken.gave; since = broken.since; within = broken.within; for_some = inr broken.for_some; answer = (record { many = many.many; nothing = λ known. absurd (false≢true (sym known ∙ many.told_last)) }, broken.part) }
+      record {
+        took = broken.took;
+        gave = broken.gave;
+        since = broken.since;
+        within = broken.within;
+        for_some = inr broken.for_some;
+        answer =
+            (record { many = many.many; nothing = λ known. absurd (false≢true (sym known ∙ many.reported_last)) }, broken.part);
+      }
   walk_fails NoSegment ends broken = absurd ends
   walk_fails Memory ends broken = absurd ends

@@ -30,8 +30,10 @@ pub passed_known : (g : Geometry) (ended : ℕ) → (g.rows ≡ 0 → ⊥) → b
 passed_known g ended some = rw (is_not_open g.rows some) refl
 
 -- The answer of a walk is that of a decoder, if what is shown of the blocks is given; the octets may be known later to be read out.
-pub found_as : {S : Type 0} {k : SinkOf S} {wish : DecodeWish} {old mid new : Outside} {took gave : List ℕ} {walked : Walked S} (gives : Bool) (given : List ℕ) → IsWalked k wish old mid took gave walked → IsReadOut wish.octets new took →
-    ((received : Numbers) → k.Follows walked.sink (placed walked.done.geometry) (blocks_with walked.done.geometry received) (blocks_passed walked.done.geometry (end_of (kept_in wish.apid took))) gave →
+pub found_as : {S : Type 0} {k : SinkOf S} {wish : DecodeWish} {old mid new : Outside} {took gave : List ℕ} {walked : Walked S} (gives : Bool)
+    (given : List ℕ) → IsWalked k wish old mid took gave walked → IsReadOut wish.octets new took →
+    ((received : Numbers) → k.Follows walked.sink (placed walked.done.geometry) (blocks_with walked.done.geometry received)
+    (blocks_passed walked.done.geometry (end_of (kept_in wish.apid took))) gave →
     given ≡ octets_of gives walked.done.geometry received (begun_in wish.apid took)) → PictureBy gives wish old new took given walked.done
 found_as gives given x out shows = record {
   geometry = x.geometry;
@@ -41,11 +43,12 @@ found_as gives given x out shows = record {
   out = out;
   written = x.written;
   rows = x.rows;
-  told = λ all told. let t = x.told all told in (t.0, t.1, shows t.0 t.2, t.3);
+  if_known = λ all if_known. let t = x.if_known all if_known in (t.0, t.1, shows t.0 t.2, t.3);
 }
 
 -- nothing was given while it read, if the sink gives nothing
-pub silent_since : {S : Type 0} {k : SinkOf S} (wish : DecodeWish) (old new : Outside) (r : Result (Walked S) DecodeFault) → (x : Walks k wish old new r) → (IsPartOfSome k x.gave → x.gave ≡ []) → Exchange old new x.took [] [] (AsksSilent wish x.took)
+pub silent_since : {S : Type 0} {k : SinkOf S} (wish : DecodeWish) (old new : Outside) (r : Result (Walked S) DecodeFault) → (x : Walks k wish old new r) →
+    (IsPartOfSome k x.gave → x.gave ≡ []) → Exchange old new x.took [] [] (AsksSilent wish x.took)
 silent_since wish old new r x part =
     let none : x.gave ≡ [] = elim x.for_some [ inl none ↦ none | inr some ↦ part some ] in
     subst (λ zs. Exchange old new x.took zs [] (AsksSilent wish x.took)) none

@@ -1,5 +1,6 @@
 -- For each stream it is decided which segments are received.
-use Rattle.std.proofs.Common.{◌≡◌, ◌⊎◌, ℕ, ℤ, List, [], ◌∷◌, ◌++◌, length, drop, map, refl, sym, ap, subst, ◌∙◌, inl, inr, arith, length-append, Bool, true, false, Option, None, Some, Result, Ok, Err, MatchOption, slice_index_or, is_err, bytes_eq}
+use Rattle.std.proofs.Common.{◌≡◌, ◌⊎◌, ℕ, ℤ, List, [], ◌∷◌, ◌++◌, length, drop, map, refl, sym, ap, subst, ◌∙◌, inl, inr, arith, length-append, Bool, true}
+use Rattle.std.proofs.Common.{false, Option, None, Some, Result, Ok, Err, MatchOption, slice_index_or, is_err, bytes_eq}
 use Rattle.std.specs.List.{range_with_len}
 use Rattle.std.proofs.lemmas.Bool.{false≢true}
 use Rattle.std.proofs.lemmas.Slice.Eq.{bytes_eq-Decides}
@@ -8,7 +9,7 @@ use Rattle.segment_defs.specs.declared.head.SegmentHead.{SegmentHead}
 use Rattle.segment_defs.specs.declared.fault.HeadFault.{HeadFault}
 use Rattle.segment_defs.specs.Head.{head_length}
 use Rattle.segment_defs.specs.Reading.{head_read}
-use Rattle.text_defs.specs.TextOutcome.{Answer, text_outcome}
+use Rattle.segment_defs.specs.TextOutcome.{Answer, text_outcome}
 use Rattle.packet_defs.specs.Reading.{flags_in, text_in}
 use Rattle.stream_defs.specs.Fates.{closes, kept_in}
 use Rattle.stream_defs.specs.Received.{number_of_part, packets_at, IsComplete, text_of_parts, IsReceived, ReceivedIn}
@@ -22,35 +23,37 @@ abbrev last_in : List ℕ → List (List ℕ) → List ℕ
 last_in d [] = d
 last_in d (x ∷ xs) = last_in x xs
 
-abbrev front_in : List ℕ → List (List ℕ) → List (List ℕ)
-front_in x [] = []
-front_in x (y ∷ ys) = x ∷ front_in y ys
+abbrev prefix_in : List ℕ → List (List ℕ) → List (List ℕ)
+prefix_in x [] = []
+prefix_in x (y ∷ ys) = x ∷ prefix_in y ys
 
-parted : (x : List ℕ) (xs : List (List ℕ)) → x ∷ xs ≡ front_in x xs ++ last_in x xs ∷ []
+parted : (x : List ℕ) (xs : List (List ℕ)) → x ∷ xs ≡ prefix_in x xs ++ last_in x xs ∷ []
 parted x [] = refl
 parted x (y ∷ ys) = ap (λ zs. x ∷ zs) (parted y ys)
 
-last_is : (d : List ℕ) (front : List (List ℕ)) (closing : List ℕ) → last_in d (front ++ closing ∷ []) ≡ closing
+last_is : (d : List ℕ) (prefix : List (List ℕ)) (closing : List ℕ) → last_in d (prefix ++ closing ∷ []) ≡ closing
 last_is d [] closing = refl
-last_is d (x ∷ front) closing = last_is x front closing
+last_is d (x ∷ prefix) closing = last_is x prefix closing
 
 -- ---- whether they are complete
 
 decide_complete : (parts : List (List ℕ)) → IsComplete parts ⊎ (IsComplete parts → ⊥)
-decide_complete [] = inr (λ x. let long = ap length x.parts_are in absurd (omega (arith, long, length-append x.front (x.closing ∷ []))))
+decide_complete [] = inr (λ x. let long = ap length x.parts_are in absurd (omega (arith, long, length-append x.prefix (x.closing ∷ []))))
 decide_complete (x ∷ xs) = by (bytes_eq (map number_of_part (x ∷ xs)) (range_with_len 0 (length (x ∷ xs)))) (closes (flags_in (last_in x xs))) refl refl
   where
-    by : (a b : Bool) → bytes_eq (map number_of_part (x ∷ xs)) (range_with_len 0 (length (x ∷ xs))) ≡ a → closes (flags_in (last_in x xs)) ≡ b → IsComplete (x ∷ xs) ⊎ (IsComplete (x ∷ xs) → ⊥)
-    by true true e h = inl record { front = front_in x xs; closing = last_in x xs; parts_are = parted x xs; numbers = bytes_so _ _ e; closed = h }
+    by : (a b : Bool) → bytes_eq (map number_of_part (x ∷ xs)) (range_with_len 0 (length (x ∷ xs))) ≡ a → closes (flags_in (last_in x xs)) ≡ b →
+        IsComplete (x ∷ xs) ⊎ (IsComplete (x ∷ xs) → ⊥)
+    by true true e h = inl record { prefix = prefix_in x xs; closing = last_in x xs; parts_are = parted x xs; numbers = bytes_so _ _ e; closed = h }
     by false b e h = inr (λ c. absurd (false≢true (sym e ∙ (bytes_eq-Decides _ _).1 c.numbers)))
     by true false e h = inr (λ c.
-        let same : last_in x xs ≡ c.closing = ap (last_in []) c.parts_are ∙ last_is [] c.front c.closing in
+        let same : last_in x xs ≡ c.closing = ap (last_in []) c.parts_are ∙ last_is [] c.prefix c.closing in
         absurd (false≢true (sym h ∙ ap (λ p. closes (flags_in p)) same ∙ c.closed)))
 
 -- ---- whether a segment is received
 
 abbrev Decided : (book : Book) (packets : List (List ℕ)) (index : ℕ) → Type 0
-Decided book packets index = ((w : List (List ℤ)) × IsReceived (holds_after book) packets index w) ⊎ ((w : List (List ℤ)) → IsReceived (holds_after book) packets index w → ⊥)
+Decided book packets index = ((w : List (List ℤ)) × IsReceived (holds_after book) packets index w)
+    ⊎ ((w : List (List ℤ)) → IsReceived (holds_after book) packets index w → ⊥)
 
 decide_received : (book : Book) (packets : List (List ℕ)) (index : ℕ) → Decided book packets index
 decide_received book packets index = elim (decide_complete (packets_at index packets)) [
@@ -58,7 +61,8 @@ decide_received book packets index = elim (decide_complete (packets_at index pac
   | inl whole ↦ by_head whole (head_read (text_in (slice_index_or (packets_at index packets) 0 []))) refl
 ]
   where
-    by_head : IsComplete (packets_at index packets) → (r : Result SegmentHead HeadFault) → head_read (text_in (slice_index_or (packets_at index packets) 0 [])) ≡ r → Decided book packets index
+    by_head : IsComplete (packets_at index packets) → (r : Result SegmentHead HeadFault) →
+        head_read (text_in (slice_index_or (packets_at index packets) 0 [])) ≡ r → Decided book packets index
     by_head whole (Err fault) e = inr (λ w x. absurd (let both = sym e ∙ x.head_is in cc))
     by_head whole (Ok head) e = by_text (text_outcome book head (drop (head_length head) (text_of_parts (packets_at index packets)))) refl
       where
@@ -72,12 +76,16 @@ number_of : (book : Book) (packets : List (List ℕ)) (index : ℕ) → Decided 
 number_of book packets index (inl held) = Some held.0
 number_of book packets index (inr never) = None
 
-number_told : (book : Book) (packets : List (List ℕ)) (index : ℕ) (d : Decided book packets index) → MatchOption (number_of book packets index d) ((w : List (List ℤ)) → IsReceived (holds_after book) packets index w → ⊥) (IsReceived (holds_after book) packets index)
+number_known : (book : Book) (packets : List (List ℕ)) (index : ℕ) (d : Decided book packets index) →
+    MatchOption (number_of book packets index d) ((w : List (List ℤ)) → IsReceived (holds_after book) packets index w → ⊥)
+    (IsReceived (holds_after book) packets index)
 unfolding number_of
-number_told book packets index (inl held) = held.1
-number_told book packets index (inr never) = never
+number_known book packets index (inl held) = held.1
+number_known book packets index (inr never) = never
 
 pub some_received : (book : Book) (apid : ℕ) (taken : List ℕ) → (received : Numbers) × ReceivedIn (holds_after book) apid taken received
 some_received book apid taken =
-    let packets = kept_in apid taken in
-    ((λ index. number_of book packets index (decide_received book packets index)), record { at = λ index. number_told book packets index (decide_received book packets index) })
+    let packets = kept_in apid taken in (
+      (λ index. number_of book packets index (decide_received book packets index)),
+      record { at = λ index. number_known book packets index (decide_received book packets index) },
+    )

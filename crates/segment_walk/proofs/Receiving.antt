@@ -1,5 +1,6 @@
 -- Which segments are received, when a decoder has passed them.
-use Rattle.std.proofs.Common.{◌≡◌, ◌≤◌, ◌<◌, ℕ, ℤ, List, [], ◌∷◌, ◌++◌, length, drop, sym, ap, subst, ◌∙◌, inl, inr, arith, append_assoc, length-append, true, false, None, Some, Result, Ok, IsErr, is_err, MatchOption, slice_index_or}
+use Rattle.std.proofs.Common.{◌≡◌, ◌≤◌, ◌<◌, ℕ, ℤ, List, [], ◌∷◌, ◌++◌, length, drop, sym, ap, subst, ◌∙◌, inl, inr, arith, append_assoc, length-append}
+use Rattle.std.proofs.Common.{true, false, None, Some, Result, Ok, IsErr, is_err, MatchOption, slice_index_or}
 use Rattle.std.proofs.lemmas.Bool.{cases_lt, false≢true}
 use Rattle.std.proofs.lemmas.List.{drop-append-le}
 use Rattle.std.proofs.lemmas.Bool.Decides.{nat_tests}
@@ -7,7 +8,7 @@ use Rattle.bit_pipe.specs.Sources.{Plainly, InPieces, Tail}
 use Rattle.base_122.specs.declared.book.Book.{Book}
 use Rattle.segment_defs.specs.Head.{head_length}
 use Rattle.segment_defs.specs.Reading.{head_read}
-use Rattle.text_defs.specs.TextOutcome.{text_outcome}
+use Rattle.segment_defs.specs.TextOutcome.{text_outcome}
 use Rattle.packet_defs.specs.Reading.{text_in}
 use Rattle.stream_defs.specs.declared.fate.FateState.{FateState}
 use Rattle.stream_defs.specs.Fates.{fresh, after, after_all, kept, part_in}
@@ -16,11 +17,11 @@ use Rattle.stream_defs.proofs.ChosenLaws.{kept-append, after_all-append}
 use Rattle.stream_defs.proofs.KeptOrder.{at_other, at_both, shut, before_none}
 use Rattle.packet_assembly.specs.declared.note.SegmentStart.{SegmentStart}
 use Rattle.packet_assembly.specs.Assembling.{Assembling, last_index, is_closed}
-use Rattle.packet_assembly.specs.Tails.{stop_of, in_front, tail_from, text_tail}
-use Rattle.packet_assembly.specs.Wholes.{tail_past, TellsParts}
+use Rattle.packet_assembly.specs.Tails.{stop_of, before_it, tail_from, text_tail}
+use Rattle.packet_assembly.specs.Wholes.{tail_past, ReportsParts}
 use Rattle.packet_assembly.proofs.Begun.{begins_so}
 use Rattle.packet_assembly.proofs.Images.{begun_by}
-use Rattle.packet_assembly.proofs.TailParts.{tells_parts, in_pieces}
+use Rattle.packet_assembly.proofs.TailParts.{reports_parts, in_pieces}
 use Rattle.packet_assembly.proofs.TailSteps.{unheld_tail}
 use Rattle.packet_assembly.proofs.HeadLengths.{head_within}
 use Rattle.segment_walk.specs.Runs.{holds_after, Numbers, Knows, IsBegun, future}
@@ -37,27 +38,32 @@ pub no_value : {T E : Type 0} (r : Result T E) (x : T) → IsErr r → r ≡ Ok 
 no_value r x err e = false≢true (sym (ap is_err e) ∙ err)
 
 -- a segment is received with one list of numbers
-pub one_received : (book : Book) (packets : List (List ℕ)) (index : ℕ) (v w : List (List ℤ)) → IsReceived (holds_after book) packets index v → IsReceived (holds_after book) packets index w → v ≡ w
+pub one_received : (book : Book) (packets : List (List ℕ)) (index : ℕ) (v w : List (List ℤ)) → IsReceived (holds_after book) packets index v →
+    IsReceived (holds_after book) packets index w → v ≡ w
 one_received book packets index v w x y =
     let same : x.head ≡ y.head = one_value _ x.head y.head x.head_is y.head_is in
     let there = subst (λ head. holds_after book head (text_of_parts (packets_at index packets)) w) (sym same) y.accepted in
     one_value _ v w x.accepted there
 
 -- none of its packets is kept
-pub none_received : (book : Book) (packets : List (List ℕ)) (index : ℕ) (w : List (List ℤ)) → packets_at index packets ≡ [] → IsReceived (holds_after book) packets index w → ⊥
+pub none_received : (book : Book) (packets : List (List ℕ)) (index : ℕ) (w : List (List ℤ)) → packets_at index packets ≡ [] →
+    IsReceived (holds_after book) packets index w → ⊥
 none_received book packets index w none x = grind (arith, nat_tests, length-append)
 
 -- ---- a segment that is begun
 
-begun_index : (apid : ℕ) (passed : List (List ℕ)) (text : List ℕ) (start : SegmentStart) (bound : ℕ) → (b : IsBegun apid passed text start bound) → index_in b.packet ≡ start.ancillary.index
+begun_index : (apid : ℕ) (passed : List (List ℕ)) (text : List ℕ) (start : SegmentStart) (bound : ℕ) → (b : IsBegun apid passed text start bound) →
+    index_in b.packet ≡ start.ancillary.index
 begun_index apid passed text start bound b = (begun_by apid b.before b.packet start b.starts).index
 
 -- the packets in another form
-split_at : (apid : ℕ) (passed : List (List ℕ)) (text : List ℕ) (start : SegmentStart) (bound : ℕ) (next : List (List ℕ)) → (b : IsBegun apid passed text start bound) → passed ++ next ≡ b.before ++ b.packet ∷ next
+split_at : (apid : ℕ) (passed : List (List ℕ)) (text : List ℕ) (start : SegmentStart) (bound : ℕ) (next : List (List ℕ)) →
+    (b : IsBegun apid passed text start bound) → passed ++ next ≡ b.before ++ b.packet ∷ next
 split_at apid passed text start bound next b = ap (λ xs. xs ++ next) b.passed_are ∙ append_assoc b.before (b.packet ∷ []) next
 
 -- of a segment between the bound and this one none is kept, whatever follows
-pub between_none : (apid : ℕ) (passed : List (List ℕ)) (text : List ℕ) (start : SegmentStart) (bound index : ℕ) (next : List (List ℕ)) → IsBegun apid passed text start bound → bound ≤ index → index < start.ancillary.index →
+pub between_none : (apid : ℕ) (passed : List (List ℕ)) (text : List ℕ) (start : SegmentStart) (bound index : ℕ) (next : List (List ℕ)) →
+    IsBegun apid passed text start bound → bound ≤ index → index < start.ancillary.index →
     packets_at index (kept apid fresh (passed ++ next)) ≡ []
 between_none apid passed text start bound index next b low high =
     let s = after_all apid fresh b.before in
@@ -66,13 +72,15 @@ between_none apid passed text start bound index next b low high =
     ap (λ xs. packets_at index (kept apid fresh xs)) (split_at apid passed text start bound next b)
     ∙ ap (packets_at index) (kept-append apid fresh b.before (b.packet ∷ next))
     ∙ at_both index (kept apid fresh b.before) (kept apid s (b.packet ∷ next))
-    ∙ ap (λ xs. xs ++ packets_at index (kept apid s (b.packet ∷ next))) (before_none index apid fresh b.before (λ l is. let below = b.below l is in omega (arith, below, low)))
+    ∙ ap (λ xs. xs ++ packets_at index (kept apid s (b.packet ∷ next))) (before_none index apid fresh b.before (λ l is. let below =
+    b.below l is in omega (arith, below, low)))
     ∙ ap (packets_at index) (first.kept_are next)
     ∙ at_other index b.packet (kept apid (after apid s b.packet) next) (λ e. omega (arith, e, here, high))
     ∙ shut index apid (after apid s b.packet) next record { last = part_in b.packet; last_is = first.last; past = inl (omega (arith, here, high)) }
 
 -- so all segments before this one are known
-pub knows_to : (book : Book) (apid : ℕ) (passed later : List (List ℕ)) (text : List ℕ) (start : SegmentStart) (bound : ℕ) (sofar : Numbers) → IsBegun apid passed text start bound → ((index : ℕ) → bound ≤ index → sofar index ≡ None) →
+pub knows_to : (book : Book) (apid : ℕ) (passed later : List (List ℕ)) (text : List ℕ) (start : SegmentStart) (bound : ℕ) (sofar : Numbers) →
+    IsBegun apid passed text start bound → ((index : ℕ) → bound ≤ index → sofar index ≡ None) →
     Knows book apid passed later bound sofar → Knows book apid passed later start.ancillary.index sofar
 knows_to book apid passed later text start bound sofar b above knows = record {
   at = λ next more are index lt. elim (cases_lt index bound) [
@@ -88,7 +96,8 @@ knows_to book apid passed later text start bound sofar b above knows = record {
 
 -- ---- a segment that was gone through
 
-module _ (book : Book) (apid : ℕ) (passed : List (List ℕ)) (a : Assembling) (start : SegmentStart) (bound : ℕ) (b : IsBegun apid passed a.text start bound) (apid_is : a.apid ≡ apid) (state : a.state ≡ after_all apid fresh passed) (unheld : a.held ≡ None) where
+module _ (book : Book) (apid : ℕ) (passed : List (List ℕ)) (a : Assembling) (start : SegmentStart) (bound : ℕ) (b : IsBegun apid passed a.text start bound)
+    (apid_is : a.apid ≡ apid) (state : a.state ≡ after_all apid fresh passed) (unheld : a.held ≡ None) where
   abbrev index : ℕ
   index = start.ancillary.index
 
@@ -105,44 +114,50 @@ module _ (book : Book) (apid : ℕ) (passed : List (List ℕ)) (a : Assembling) 
   index_is = begun_index apid passed a.text start bound b
 
   -- what the packets report of its text if these packets follow
-  tells : (next : List (List ℕ)) → TellsParts apid b.before b.packet next InPieces (packets_at index (kept apid fresh (passed ++ next)))
-  tells next =
-      subst (λ n. TellsParts apid b.before b.packet next InPieces (packets_at n (kept apid fresh (passed ++ next)))) index_is
-      (subst (λ xs. TellsParts apid b.before b.packet next InPieces (packets_at (index_in b.packet) (kept apid fresh xs))) (sym (split_at apid passed a.text start bound next b))
-      (tells_parts apid b.before b.packet next InPieces in_pieces b.starts.first))
+  reports : (next : List (List ℕ)) → ReportsParts apid b.before b.packet next InPieces (packets_at index (kept apid fresh (passed ++ next)))
+  reports next =
+      subst (λ n. ReportsParts apid b.before b.packet next InPieces (packets_at n (kept apid fresh (passed ++ next)))) index_is
+      (subst (λ xs. ReportsParts apid b.before b.packet next InPieces (packets_at (index_in b.packet) (kept apid fresh xs)))
+      (sym (split_at apid passed a.text start bound next b))
+      (reports_parts apid b.before b.packet next InPieces in_pieces b.starts.first))
 
   -- the octets after the head
-  octets_after : (next : List (List ℕ)) → drop (head_length start.head) (text_of_parts (packets_at index (kept apid fresh (passed ++ next)))) ≡ a.text ++ (tail_past apid b.before b.packet next InPieces).octets
+  octets_after : (next : List (List ℕ)) → drop (head_length start.head) (text_of_parts (packets_at index (kept apid fresh (passed ++ next)))) ≡ a.text
+      ++ (tail_past apid b.before b.packet next InPieces).octets
   octets_after next =
-      ap (drop (head_length start.head)) (tells next).text
-      ∙ drop_front (head_length start.head) (text_in b.packet) (tail_past apid b.before b.packet next InPieces).octets (head_within (text_in b.packet) start.head b.starts.head_is)
+      ap (drop (head_length start.head)) (reports next).text
+      ∙ drop_prefix (head_length start.head) (text_in b.packet) (tail_past apid b.before b.packet next InPieces).octets
+      (head_within (text_in b.packet) start.head b.starts.head_is)
       ∙ ap (λ xs. xs ++ (tail_past apid b.before b.packet next InPieces).octets) (sym b.text_is)
     where
-      drop_front : (n : ℕ) (xs ys : List ℕ) → n ≤ length xs → drop n (xs ++ ys) ≡ drop n xs ++ ys
-      drop_front n xs ys le = drop-append-le n xs ys le
+      drop_prefix : (n : ℕ) (xs ys : List ℕ) → n ≤ length xs → drop n (xs ++ ys) ≡ drop n xs ++ ys
+      drop_prefix n xs ys le = drop-append-le n xs ys le
 
   head_there : (next : List (List ℕ)) → head_read (text_in (slice_index_or (packets_at index (kept apid fresh (passed ++ next))) 0 [])) ≡ Ok start.head
-  head_there next = ap (λ x. head_read (text_in x)) (tells next).first ∙ b.starts.head_is
+  head_there next = ap (λ x. head_read (text_in x)) (reports next).first ∙ b.starts.head_is
 
   -- what they report in all, if these octets are left
-  whole_tail : (rest : List ℕ) → text_tail a rest ≡ in_front a.text (tail_from apid there (future a rest) (stop_of a.intake rest))
+  whole_tail : (rest : List ℕ) → text_tail a rest ≡ before_it a.text (tail_from apid there (future a rest) (stop_of a.intake rest))
   whole_tail rest = grind (arith, nat_tests, unheld_tail, there_is)
 
   -- if the first of the next packets complete it, they carry all of it
   all_there : (rest : List ℕ) (next more : List (List ℕ)) → future a rest ≡ next ++ more → (tail_past apid b.before b.packet next InPieces).ends ≡ Plainly →
-      text_tail a rest ≡ in_front a.text (tail_past apid b.before b.packet next InPieces)
+      text_tail a rest ≡ before_it a.text (tail_past apid b.before b.packet next InPieces)
   all_there rest next more are plain = grind (arith, nat_tests, whole_tail, from_more, in_pieces)
 
   -- it was accepted, and the packets that were passed have closed it: so it is received, whatever follows
-  pub is_received : (rest : List ℕ) (went next : List (List ℕ)) (later : List (List ℕ)) (w : List (List ℤ)) → future a rest ≡ went ++ later → last_index (after_all apid there went).last ≡ Some index → is_closed (after_all apid there went).last ≡ true →
+  pub is_received : (rest : List ℕ) (went next : List (List ℕ)) (later : List (List ℕ)) (w : List (List ℤ)) → future a rest ≡ went ++ later →
+      last_index (after_all apid there went).last ≡ Some index → is_closed (after_all apid there went).last ≡ true →
       text_outcome book start.head (text_tail a rest).octets ≡ Ok w → IsReceived (holds_after book) (kept apid fresh (passed ++ (went ++ next))) index w
   is_received rest went next later w are last closed holds =
       let plain = from_closed apid index there went (part_in b.packet) last_is index_is last closed in
-      let on : tail_past apid b.before b.packet (went ++ next) InPieces ≡ tail_past apid b.before b.packet went InPieces = from_more apid there went next InPieces InPieces in_pieces plain in
+      let on : tail_past apid b.before b.packet (went ++ next) InPieces ≡ tail_past apid b.before b.packet went InPieces =
+      from_more apid there went next InPieces InPieces in_pieces plain in
       let all = all_there rest went later are plain in
-      let octets : drop (head_length start.head) (text_of_parts (packets_at index (kept apid fresh (passed ++ (went ++ next))))) ≡ (text_tail a rest).octets = grind (arith, nat_tests, octets_after) in
+      let octets : drop (head_length start.head) (text_of_parts (packets_at index (kept apid fresh (passed ++ (went ++ next)))))
+      ≡ (text_tail a rest).octets = grind (arith, nat_tests, octets_after) in
       record {
-        whole = (tells (went ++ next)).complete (ap (λ (t : Tail). t.ends) on ∙ plain);
+        whole = (reports (went ++ next)).complete (ap (λ (t : Tail). t.ends) on ∙ plain);
         head = start.head;
         head_is = head_there (went ++ next);
         accepted = ap (text_outcome book start.head) octets ∙ holds;
@@ -150,15 +165,18 @@ module _ (book : Book) (apid : ℕ) (passed : List (List ℕ)) (a : Assembling) 
 
   -- it was refused, or it breaks off: so it isn't received, however many of the next packets follow
   pub not_received : (rest : List ℕ) (next more : List (List ℕ)) (w : List (List ℤ)) → future a rest ≡ next ++ more →
-      ((text_tail a rest).ends ≡ Plainly → IsErr (text_outcome book start.head (text_tail a rest).octets)) → IsReceived (holds_after book) (kept apid fresh (passed ++ next)) index w → ⊥
+      ((text_tail a rest).ends ≡ Plainly → IsErr (text_outcome book start.head (text_tail a rest).octets)) →
+      IsReceived (holds_after book) (kept apid fresh (passed ++ next)) index w → ⊥
   not_received rest next more w are refused x =
-      let plain = (tells next).plain x.whole in
+      let plain = (reports next).plain x.whole in
       let all = all_there rest next more are plain in
       let same : x.head ≡ start.head = one_value _ x.head start.head x.head_is (head_there next) in
-      let octets : drop (head_length start.head) (text_of_parts (packets_at index (kept apid fresh (passed ++ next)))) ≡ (text_tail a rest).octets = grind (arith, nat_tests, octets_after) in
+      let octets : drop (head_length start.head) (text_of_parts (packets_at index (kept apid fresh (passed ++ next)))) ≡ (text_tail a rest).octets =
+      grind (arith, nat_tests, octets_after) in
       let holds = subst (λ head. holds_after book head (text_of_parts (packets_at index (kept apid fresh (passed ++ next)))) w) same x.accepted in
       no_value _ w (refused (ap (λ (t : Tail). t.ends) all ∙ plain)) (ap (text_outcome book start.head) (sym octets) ∙ holds)
 
   -- while its text is open it isn't received
-  pub open_received : (next : List (List ℕ)) (w : List (List ℤ)) → last_index (after_all apid there next).last ≡ Some index → is_closed (after_all apid there next).last ≡ false → IsReceived (holds_after book) (kept apid fresh (passed ++ next)) index w → ⊥
-  open_received next w last going x = grind (arith, nat_tests, tells, from_closes, last_is, index_is)
+  pub open_received : (next : List (List ℕ)) (w : List (List ℤ)) → last_index (after_all apid there next).last ≡ Some index →
+      is_closed (after_all apid there next).last ≡ false → IsReceived (holds_after book) (kept apid fresh (passed ++ next)) index w → ⊥
+  open_received next w last going x = grind (arith, nat_tests, reports, from_closes, last_is, index_is)

@@ -1,5 +1,6 @@
 -- A run that is at the end of its packets.
-use Rattle.std.proofs.Common.{◌≡◌, ◌≤◌, ◌<◌, ◌+◌, ◌-◌, ◌*◌, ◌/◌, ◌%◌, ◌==◌, ℕ, ℤ, zero, suc, Bool, true, false, List, [], refl, sym, ap, subst, ◌∙◌, inl, inr, arith, ◌&&◌, not, filter, Some, is_some, MatchOption, append-nil, mul-le-mul_right}
+use Rattle.std.proofs.Common.{◌≡◌, ◌≤◌, ◌<◌, ◌+◌, ◌-◌, ◌*◌, ◌/◌, ◌%◌, ◌==◌, ℕ, ℤ, zero, suc, Bool, true, false, List, [], refl, sym, ap, subst, ◌∙◌, inl}
+use Rattle.std.proofs.Common.{inr, arith, ◌&&◌, not, filter, Some, is_some, MatchOption, append-nil, mul-le-mul_right}
 use Rattle.std.specs.List.{range_with_len, list_any}
 use Rattle.std.proofs.lemmas.Bool.{cases_lt, false≢true, or_right, or_left, or_from, and_right, ne_eqb}
 use Rattle.std.proofs.lemmas.Bool.Decides.{nat_tests}
@@ -18,7 +19,7 @@ use Rattle.stream_defs.proofs.RangeLaws.{ranges_below}
 use Rattle.stream_defs.specs.Marks.{most_block_rows}
 use Rattle.stream_defs.proofs.KeptOrder.{before_none}
 use Rattle.stream_defs.proofs.Equations.{most_is, missing_below-is}
-use Rattle.damage_rows.proofs.TableLaws.{any_none, filter_front}
+use Rattle.damage_rows.proofs.TableLaws.{any_none, filter_prefix}
 use Rattle.packet_assembly.specs.Assembling.{Assembling, last_index}
 use Rattle.segment_walk.specs.Sinks.{Numbers, Blocks, SinkOf, blocks_with}
 use Rattle.segment_walk.specs.Steps.{Walking, IsCurrent, Follows, passed_in, total_in, is_marked, is_lost}
@@ -37,7 +38,8 @@ any_hit f a (suc n) i low high e = elim (cases_lt a i) [
 
 pub any_miss : (f : ℕ → Bool) (a n : ℕ) → ((i : ℕ) → a ≤ i → i < a + n → f i ≡ false) → list_any f (range_with_len a n) ≡ false
 any_miss f a zero none = refl
-any_miss f a (suc n) none = or_from (f a) (list_any f (range_with_len (a + 1) n)) (none a (omega arith) (omega arith)) (any_miss f (a + 1) n (λ i low high. none i (omega (arith, low)) (omega (arith, high))))
+any_miss f a (suc n) none = or_from (f a) (list_any f (range_with_len (a + 1) n)) (none a (omega arith) (omega arith))
+    (any_miss f (a + 1) n (λ i low high. none i (omega (arith, low)) (omega (arith, high))))
 
 pub any_at : (f : ℕ → Bool) (n i : ℕ) → list_any f (range_with_len 0 n) ≡ false → i < n → f i ≡ false
 any_at f n i none lt = by (f i) refl
@@ -78,7 +80,8 @@ module _ (g : Geometry) (blocks : Blocks) (row : ℕ) (wide : 0 < block_count g.
       any_miss (λ column. not (is_some (blocks (row * c + column)))) 0 c (λ column low high.
       let more : (row + 1) * c ≡ row * c + c = grind arith in
       let here = any_at (λ block. not (is_some (blocks block)) && (block / c == row)) m (row * c + column) none (omega (arith, le, more, high)) in
-      first_false (not (is_some (blocks (row * c + column)))) ((row * c + column) / c == row) here (equal_test ((row * c + column) / c) row (div-mul-add row c column (omega (arith, high)))))
+      first_false (not (is_some (blocks (row * c + column)))) ((row * c + column) / c == row) here
+      (equal_test ((row * c + column) / c) row (div-mul-add row c column (omega (arith, high)))))
     where
       first_false : (a b : Bool) → (a && b) ≡ false → b ≡ true → a ≡ false
       first_false true true e h = absurd (false≢true (sym e))
@@ -104,29 +107,34 @@ missing_is : (g : Geometry) (sofar : Numbers) (row : ℕ) (wide : 0 < block_coun
 missing_is g sofar row wide = grind (arith, nat_tests)
 
 -- the marks of the block rows that were passed whole
-pub row_missing : {S : Type 0} (k : SinkOf S) (p : Walking S) (sofar : Numbers) (gave : List ℕ) (row : ℕ) → IsCurrent k p → Follows k p (blocks_with p.geometry sofar) gave → row < most_block_rows → (row + 1) * block_count p.geometry.width ≤ passed_in p → is_marked p.damage.missing row ≡ is_missing p.geometry sofar row
-row_missing k p sofar gave row standing follows few le =
+pub row_missing : {S : Type 0} (k : SinkOf S) (p : Walking S) (sofar : Numbers) (gave : List ℕ) (row : ℕ) → IsCurrent k p →
+    Follows k p (blocks_with p.geometry sofar) gave → row < most_block_rows → (row + 1) * block_count p.geometry.width ≤ passed_in p →
+    is_marked p.damage.missing row ≡ is_missing p.geometry sofar row
+row_missing k p sofar gave row current follows few le =
     let g = p.geometry in
     grind (arith, nat_tests, lost_missing, missing_is)
 
 -- what is marked once all blocks were passed
-pub all_missing : {S : Type 0} (k : SinkOf S) (p : Walking S) (sofar : Numbers) (gave : List ℕ) → IsCurrent k p → Follows k p (blocks_with p.geometry sofar) gave → passed_in p ≡ total_in p → p.damage.missing ≡ whole_missing p.geometry sofar
-all_missing k p sofar gave standing follows all =
+pub all_missing : {S : Type 0} (k : SinkOf S) (p : Walking S) (sofar : Numbers) (gave : List ℕ) → IsCurrent k p →
+    Follows k p (blocks_with p.geometry sofar) gave → passed_in p ≡ total_in p → p.damage.missing ≡ whole_missing p.geometry sofar
+all_missing k p sofar gave current follows all =
     rw missing_below-is (
     let g = p.geometry in
     let blocks = blocks_with g sofar in
     let c = block_count g.width in
     let r = block_count g.rows in
-    let few = block_count-rows g.rows standing.height in
-    let column = standing.column in
+    let few = block_count-rows g.rows current.height in
+    let column = current.column in
     let wide : 0 < c = omega (arith, column) in
     let turned : c * r ≡ r * c = grind arith in
     follows.listed
-    ∙ filter_front (is_marked p.damage.missing) (is_missing g sofar) r most_block_rows (omega (arith, few, most_is))
-    (λ i lt. row_missing k p sofar gave i standing follows (omega (arith, lt, few, most_is)) (let next : (i + 1) * c ≤ r * c = mul-le-mul_right c (omega (arith, lt)) in omega (arith, next, turned, all)))
+    ∙ filter_prefix (is_marked p.damage.missing) (is_missing g sofar) r most_block_rows (omega (arith, few, most_is))
+    (λ i lt. row_missing k p sofar gave i current follows (omega (arith, lt, few, most_is)) (let next : (i + 1) * c ≤ r * c =
+    mul-le-mul_right c (omega (arith, lt)) in omega (arith, next, turned, all)))
     (λ i ge. elim (cases_lt i most_block_rows) [
       | inl low ↦ follows.marked i low ∙ ap (λ n. is_lost g blocks n i) all ∙ lost_past g blocks i wide r ge
-      | inr high ↦ ap (λ xs. is_marked xs i) follows.listed ∙ any_none (λ k. k == i) (is_marked p.damage.missing) most_block_rows 0 (λ k from below set. ne_eqb k i (λ e. omega (arith, e, below, high)))
+      | inr high ↦ ap (λ xs. is_marked xs i) follows.listed ∙ any_none (λ k. k == i) (is_marked p.damage.missing) most_block_rows 0
+          (λ k from below set. ne_eqb k i (λ e. omega (arith, e, below, high)))
     ])
     )
 
@@ -142,24 +150,27 @@ missing_there g sofar n row lt = rw missing_below-is (by (is_missing g sofar row
     by false e = grind (arith, nat_tests, any_none, false≢true, here)
 
 -- the damage of the rows that the whole block rows determine, while the height isn't known
-pub open_damage : {S : Type 0} (k : SinkOf S) (p : Walking S) (image : Geometry) (sofar : Numbers) (gave : List ℕ) (n : ℕ) → IsCurrent k p → p.geometry ≡ placed image → Follows k p (blocks_with p.geometry sofar) gave → n * block_count p.geometry.width ≤ passed_in p → n ≤ most_block_rows →
+pub open_damage : {S : Type 0} (k : SinkOf S) (p : Walking S) (image : Geometry) (sofar : Numbers) (gave : List ℕ) (n : ℕ) → IsCurrent k p →
+    p.geometry ≡ placed image → Follows k p (blocks_with p.geometry sofar) gave → n * block_count p.geometry.width ≤ passed_in p → n ≤ most_block_rows →
     ranges (8 * n - 21) p.damage.missing ≡ ranges (8 * n - 21) (missing_below image sofar n)
-open_damage k p image sofar gave n standing goes_by follows le few =
+open_damage k p image sofar gave n current goes_by follows le few =
     ranges_below (8 * n - 21) n p.damage.missing (missing_below image sofar n) (omega arith)
     (λ row lt.
     let c = block_count p.geometry.width in
     let next : (row + 1) * c ≤ n * c = mul-le-mul_right c (omega (arith, lt)) in
-    row_missing k p sofar gave row standing follows (omega (arith, lt, few)) (omega (arith, next, le))
+    row_missing k p sofar gave row current follows (omega (arith, lt, few)) (omega (arith, next, le))
     ∙ ap (λ (g : Geometry). is_missing g sofar row) goes_by ∙ sym (missing_there image sofar n row lt))
 
 -- if no packet is left, the segments that are received are those that are known
-pub all_received : (w : Run) (now : Outside) (a : Assembling) (index : ℕ) (took : List ℕ) → (known : HasKnown w now a (index + 1) took) → last_index a.state.last ≡ Some index → (rest : List ℕ) → now.rest ≡ Some rest → whole_packets took ≡ known.passed →
+pub all_received : (w : Run) (now : Outside) (a : Assembling) (index : ℕ) (took : List ℕ) → (known : HasKnown w now a (index + 1) took) →
+    last_index a.state.last ≡ Some index → (rest : List ℕ) → now.rest ≡ Some rest → whole_packets took ≡ known.passed →
     ReceivedIn (holds_after w.book) w.apid took known.sofar
-all_received w now a index took known last rest told whole = record {
+all_received w now a index took known last rest if_known whole = record {
   at = λ i. elim (cases_lt i (index + 1)) [
     | inl low ↦
-        let here = (known.knows rest told).at [] (future a rest) refl i low in
-        subst (λ xs. MatchOption (known.sofar i) ((v : List (List ℤ)) → IsReceived (holds_after w.book) (kept w.apid fresh xs) i v → ⊥) (IsReceived (holds_after w.book) (kept w.apid fresh xs) i)) (append-nil known.passed ∙ sym whole) here
+        let here = (known.knows rest if_known).at [] (future a rest) refl i low in
+        subst (λ xs. MatchOption (known.sofar i) ((v : List (List ℤ)) → IsReceived (holds_after w.book) (kept w.apid fresh xs) i v → ⊥)
+        (IsReceived (holds_after w.book) (kept w.apid fresh xs) i)) (append-nil known.passed ∙ sym whole) here
     | inr high ↦
         rw (known.above i high) (λ v x. none_received w.book (kept w.apid fresh (whole_packets took)) i v (none_at i high) x)
   ];

@@ -1,9 +1,9 @@
 -- A run begins.
-use Rattle.std.proofs.Common.{◌≡◌, ◌≤◌, ℕ, List, [], ◌∷◌, ◌++◌, refl, sym, ap, subst, ◌∙◌, inl, inr, arith, true, false, None, Some, Ok}
+use Rattle.std.proofs.Common.{◌≡◌, ◌≤◌, ℕ, List, [], ◌∷◌, ◌++◌, take, refl, sym, ap, subst, ◌∙◌, inl, inr, arith, true, false, None, Some, Ok}
 use Rattle.std.proofs.lemmas.Bool.{false≢true}
 use Rattle.std.proofs.lemmas.Bool.Decides.{nat_tests}
 use Rattle.port_122.specs.Outside.{Outside, Exchange}
-use Rattle.port_122.proofs.Stretches.{since_weaker}
+use Rattle.port_122.proofs.Stretches.{since_start, since_weaker}
 use Rattle.base_122.specs.Ranges.{IsGeometryInRange, IsWithin, rows_range}
 use Rattle.base_122.specs.declared.book.Book.{Book}
 use Rattle.base_122.specs.declared.geometry.Geometry.{Geometry}
@@ -15,15 +15,16 @@ use Rattle.damage_rows.proofs.TableLaws.{filter_none_from}
 use Rattle.packet_assembly.specs.declared.note.SegmentStart.{SegmentStart}
 use Rattle.packet_assembly.specs.Assembling.{Assembling, Passes, StaysAt, BeginsNone, last_index, state_with, unread_assembly}
 use Rattle.packet_assembly.specs.Segments.{WasFound, FindsSegment}
-use Rattle.packet_assembly.specs.Readings.{HasRead, SawEnd}
+use Rattle.packet_assembly.specs.Readings.{HasRead, SawEnd, AsksReadable}
 use Rattle.packet_assembly.proofs.Images.{index_none}
-use Rattle.packet_assembly.proofs.Readings.{none_read, read_on, end_on}
+use Rattle.packet_assembly.proofs.Readings.{none_read, read_on, readable_more, end_on}
 use Rattle.segment_walk.specs.Sinks.{SinkOf, blocks_with}
 use Rattle.segment_walk.specs.Steps.{Walking, IsCurrent, IsFresh, passed_in}
 use Rattle.segment_walk.specs.Segments.{pixels_reached}
 use Rattle.segment_walk.specs.Runs.{Run, AsksPassed, HasFew, PartBy, Shows, IsBegun, WalksIn}
 use Rattle.segment_walk.proofs.RunPasses.{few_begun}
 use Rattle.segment_walk.proofs.Receiving.{none_received, between_none}
+use Rattle.port_122.proofs.BothAsked.{since_both}
 
 -- ---- before the first segment
 
@@ -41,7 +42,8 @@ none_kept apid (x ∷ xs) none = elim (does apid fresh x) [
 ]
 
 -- an assembly that has read some of a stream's octets
-pub first_read : {P : FateState → Type 0} (w : Run) (new : Outside) (a b : Assembling) (went : List (List ℕ)) → a ≡ unread_assembly w.apid w.cap → (q : Passes P w.start new a b went) → HasRead w.apid w.cap b q.took went
+pub first_read : {P : FateState → Type 0} (w : Run) (new : Outside) (a b : Assembling) (went : List (List ℕ)) → a ≡ unread_assembly w.apid w.cap →
+    (q : Passes P w.start new a b went) → HasRead w.apid w.cap b q.took went
 first_read w new a b went unread q = read_on w.apid w.cap (subst (λ a. HasRead w.apid w.cap a [] []) (sym unread) (none_read w.apid w.cap)) q
 
 -- there is no geometry if the last place is unchanged
@@ -53,18 +55,31 @@ pub none_few : (pixels apid : ℕ) (octets : List ℕ) → geometry_in apid octe
 none_few pixels apid octets none g there = absurd (let both : None ≡ Some g = sym none ∙ there in cc)
 
 -- at each read call nothing is given, and there is no geometry
-pub first_asks : {S : Type 0} (k : SinkOf S) (w : Run) (new : Outside) (a b : Assembling) (went : List (List ℕ)) → a ≡ unread_assembly w.apid w.cap → (q : Passes (StaysAt a) w.start new a b went) →
+pub first_asks : {S : Type 0} (k : SinkOf S) (w : Run) (new : Outside) (a b : Assembling) (went : List (List ℕ)) → a ≡ unread_assembly w.apid w.cap →
+    (q : Passes (StaysAt a) w.start new a b went) →
     Exchange w.start new q.took [] [] (AsksPassed k w q.took [])
-first_asks k w new a b went unread q = grind (arith, nat_tests, since_weaker, none_yet, none_few)
+first_asks k w new a b went unread q =
+    let readable : Exchange w.start new q.took [] [] (AsksReadable w.cap q.took) =
+    readable_more w.apid w.cap (subst (λ a. HasRead w.apid w.cap a [] []) (sym unread) (none_read w.apid w.cap)) (since_start w.start _) q.readable in
+    since_weaker (since_both q.since readable) (λ i j le asks.
+    let none = none_yet w a (take i q.took) unread asks.0.0 in (
+      omega (arith, asks.0.1),
+      (asks.1, none_few w.pixels w.apid (take i q.took) none),
+      λ all if_known. record {
+        none = λ e. ap (λ n. take n []) asks.0.1;
+        some = λ g received there are. absurd (let both : None ≡ Some g = sym none ∙ there in cc);
+      },
+    ))
 
 -- no octets are a part of what is given
 pub first_part : {S : Type 0} (k : SinkOf S) (book : Book) (apid : ℕ) (took : List ℕ) → PartBy k book apid took []
 first_part k book apid took = record { none = λ e. refl; some = λ g received there are. (0, omega arith, k.part_none (placed g) (blocks_with g received)) }
 
 -- if the end was reached, nothing is left
-pub first_end : {P : FateState → Type 0} (w : Run) (new : Outside) (a b : Assembling) (went : List (List ℕ)) → a ≡ unread_assembly w.apid w.cap → Passes P w.start new a b went → SawEnd new b
+pub first_end : {P : FateState → Type 0} (w : Run) (new : Outside) (a b : Assembling) (went : List (List ℕ)) → a ≡ unread_assembly w.apid w.cap →
+    Passes P w.start new a b went → SawEnd new b
 first_end w new a b went unread q =
-    end_on q (λ rest told ended. absurd (let both : false ≡ true = sym (ap (λ (a : Assembling). a.intake.ended) unread) ∙ ended in false≢true both))
+    end_on q (λ rest if_known ended. absurd (let both : false ≡ true = sym (ap (λ (a : Assembling). a.intake.ended) unread) ∙ ended in false≢true both))
 
 -- ---- the first segment
 
@@ -77,20 +92,23 @@ pub record HasFound {S : Type 0} (k : SinkOf S) (w : Run) (new : Outside) (b : A
   pub none : (after_all w.apid fresh begun.before).geometry ≡ None
   pub at_end : SawEnd new b
 
-first_found : {S : Type 0} (k : SinkOf S) (w : Run) (new : Outside) (a b : Assembling) (start : SegmentStart) → a ≡ unread_assembly w.apid w.cap → WasFound w.start new a b start → HasFound k w new b start
+first_found : {S : Type 0} (k : SinkOf S) (w : Run) (new : Outside) (a b : Assembling) (start : SegmentStart) → a ≡ unread_assembly w.apid w.cap →
+    WasFound w.start new a b start → HasFound k w new b start
 first_found k w new a b start unread found =
-    let none : last_index (after_all w.apid fresh found.front).last ≡ None = index_none w.apid fresh found.front (subst (λ (a : Assembling). BeginsNone a.apid a.state found.front) unread found.none_before) in
+    let none : last_index (after_all w.apid fresh found.prefix).last ≡ None =
+    index_none w.apid fresh found.prefix (subst (λ (a : Assembling). BeginsNone a.apid a.state found.prefix) unread found.none_before) in
     record {
       took = found.passed.took;
-      went = found.front ++ found.packet ∷ [];
-      since = first_asks k w new a b (found.front ++ found.packet ∷ []) unread found.passed;
-      read = first_read w new a b (found.front ++ found.packet ∷ []) unread found.passed;
-      at_end = first_end w new a b (found.front ++ found.packet ∷ []) unread found.passed;
+      went = found.prefix ++ found.packet ∷ [];
+      since = first_asks k w new a b (found.prefix ++ found.packet ∷ []) unread found.passed;
+      read = first_read w new a b (found.prefix ++ found.packet ∷ []) unread found.passed;
+      at_end = first_end w new a b (found.prefix ++ found.packet ∷ []) unread found.passed;
       begun = grind (arith, nat_tests);
-      none = none_kept w.apid found.front none;
+      none = none_kept w.apid found.prefix none;
     }
 
-pub found_one : {S : Type 0} (k : SinkOf S) (w : Run) (new : Outside) (a b : Assembling) (start : SegmentStart) → a ≡ unread_assembly w.apid w.cap → FindsSegment w.start new a b (Ok (Some start)) → HasFound k w new b start
+pub found_one : {S : Type 0} (k : SinkOf S) (w : Run) (new : Outside) (a b : Assembling) (start : SegmentStart) → a ≡ unread_assembly w.apid w.cap →
+    FindsSegment w.start new a b (Ok (Some start)) → HasFound k w new b start
 found_one k w new a b start unread finds = elim finds.ends [
   | inl held ↦ absurd (let both : None ≡ Some start = sym (ap (λ (a : Assembling). a.held) unread) ∙ held.held in cc)
   | inr found ↦ first_found k w new a b start unread found
@@ -101,19 +119,21 @@ shows_nothing : {S : Type 0} (k : SinkOf S) (g : Geometry) (p : Walking S) → I
 shows_nothing k g p fresh_walk blocks of = grind (arith, nat_tests, filter_none_from)
 
 -- a walk that begins is one of its image
-pub first_stands : {S : Type 0} (k : SinkOf S) (g : Geometry) (p : Walking S) → IsGeometryInRange g → IsWithin rows_range g.rows → IsFresh k g p → IsCurrent k p
-first_stands k g p range height fresh_walk = grind (arith, nat_tests)
+pub first_valid : {S : Type 0} (k : SinkOf S) (g : Geometry) (p : Walking S) → IsGeometryInRange g → IsWithin rows_range g.rows → IsFresh k g p → IsCurrent k p
+first_valid k g p range height fresh_walk = grind (arith, nat_tests)
 
 -- before the first head no pixels were reported
-pub few_first : {S : Type 0} (k : SinkOf S) (w : Run) (new : Outside) (b : Assembling) (start : SegmentStart) → (found : HasFound k w new b start) → HasFew w.pixels w.apid found.begun.before
+pub few_first : {S : Type 0} (k : SinkOf S) (w : Run) (new : Outside) (b : Assembling) (start : SegmentStart) → (found : HasFound k w new b start) →
+    HasFew w.pixels w.apid found.begun.before
 few_first k w new b start found g there = absurd (let both : None ≡ Some g = sym found.none ∙ there in cc)
 
-pub first_comes : {S : Type 0} (k : SinkOf S) (w : Run) (new : Outside) (b : Assembling) (p : Walking S) (start : SegmentStart) (g image : Geometry) → HasFound k w new b start → IsFresh k g p → b.state.geometry ≡ Some image → pixels_reached image start ≤ w.pixels → WalksIn k w new b p start
-first_comes k w new b p start g image found fresh_walk geometry small =
+pub first_arrives : {S : Type 0} (k : SinkOf S) (w : Run) (new : Outside) (b : Assembling) (p : Walking S) (start : SegmentStart) (g image : Geometry) →
+    HasFound k w new b start → IsFresh k g p → b.state.geometry ≡ Some image → pixels_reached image start ≤ w.pixels → WalksIn k w new b p start
+first_arrives k w new b p start g image found fresh_walk geometry small =
     let none : passed_in p ≡ 0 = rw (fresh_walk.row, fresh_walk.column) (omega arith) in
     record {
       to = record {
-        come = record {
+        arrived = record {
           took = found.took;
           gave = [];
           since = found.since;
@@ -121,8 +141,9 @@ first_comes k w new b p start g image found fresh_walk geometry small =
             passed = found.went;
             sofar = λ index. None;
             read = found.read;
-            knows = λ rest told. record {
-              at = λ next more are index lt v x. none_received w.book (kept w.apid fresh (found.went ++ next)) index v (between_none w.apid found.went b.text start 0 index next found.begun (omega arith) lt) x;
+            knows = λ rest if_known. record {
+              at = λ next more are index lt v x. none_received w.book (kept w.apid fresh (found.went ++ next)) index v
+                  (between_none w.apid found.went b.text start 0 index next found.begun (omega arith) lt) x;
             };
             above = λ index le. refl;
             at_end = found.at_end;
@@ -135,5 +156,6 @@ first_comes k w new b p start g image found fresh_walk geometry small =
         few = few_first k w new b start found;
         lost = λ block low high. refl;
       };
-      small = few_begun w.pixels w.apid found.went b.text start 0 image found.begun (ap (λ (s : FateState). s.geometry) (sym found.read.state) ∙ geometry) small;
+      small = few_begun w.pixels w.apid found.went b.text start 0 image found.begun (ap (λ (s : FateState). s.geometry) (sym found.read.state) ∙ geometry)
+          small;
     }

@@ -1,5 +1,6 @@
 -- Which blocks the segments so far have.
-use Rattle.std.proofs.Common.{◌≡◌, ◌≤◌, ◌<◌, ◌+◌, ◌-◌, ◌*◌, ◌/◌, ◌%◌, ℕ, ℤ, pos, List, [], length, take, drop, get_or, sym, ap, ◌∙◌, arith, ◌++◌, Option, None, Some, option_map}
+use Rattle.std.proofs.Common.{◌≡◌, ◌≤◌, ◌<◌, ◌+◌, ◌-◌, ◌*◌, ◌/◌, ◌%◌, ℕ, ℤ, pos, List, [], length, take, drop, get_or, sym, ap, ◌∙◌, arith, ◌++◌, Option}
+use Rattle.std.proofs.Common.{None, Some, option_map}
 use Rattle.std.proofs.lemmas.List.{length-take-le, take-take, drop-take}
 use Rattle.std.proofs.lemmas.List.FromFn.{get_or-map-range_with_len}
 use Rattle.std.proofs.lemmas.Nat.{div-mul-add, mod-mul-add}
@@ -18,7 +19,8 @@ use Rattle.wave_defs.proofs.Equations.{blocks_in-is}
 -- ---- numbers of blocks
 
 -- the number of a block in the segment that has it
-pub number_in : (g : Geometry) (sofar : Numbers) (index k i : ℕ) (w : List (List ℤ)) → k < g.segment → sofar index ≡ Some w → number_at g sofar (index * g.segment + k) i ≡ get_or (get_or w k []) i (pos 0)
+pub number_in : (g : Geometry) (sofar : Numbers) (index k i : ℕ) (w : List (List ℤ)) → k < g.segment → sofar index ≡ Some w →
+    number_at g sofar (index * g.segment + k) i ≡ get_or (get_or w k []) i (pos 0)
 number_in g sofar index k i w lt some = rw number_at-is (grind (arith, nat_tests, pos, div-mul-add, mod-mul-add))
 
 -- the number of a block is that of its segment alone
@@ -43,29 +45,35 @@ pub block_in : (cells : List ℤ) (k : ℕ) → 64 * k + 64 ≤ length cells →
 block_in cells k le = rw blocks_in-is (get_or-map-range_with_len (block_at cells) 0 (length cells / 64) k k [] (omega (arith, le)) (omega arith))
 
 -- a block of the first ones
-pub front_block : (cells : List ℤ) (count k : ℕ) → k < count → block_at (take (64 * count) cells) k ≡ block_at cells k
-front_block cells count k lt =
+pub prefix_block : (cells : List ℤ) (count k : ℕ) → k < count → block_at (take (64 * count) cells) k ≡ block_at cells k
+prefix_block cells count k lt =
     let rest = 64 * (count - k) in
     let parts : 64 * count ≡ 64 * k + rest = omega (arith, lt) in
-    ap (λ n. take 64 (drop (64 * k) (take n cells))) parts ∙ ap (take 64) (drop-take (64 * k) rest cells) ∙ take-take 64 rest (drop (64 * k) cells) (omega (arith, lt))
+    ap (λ n. take 64 (drop (64 * k) (take n cells))) parts ∙ ap (take 64) (drop-take (64 * k) rest cells) ∙ take-take 64 rest (drop (64 * k) cells)
+    (omega (arith, lt))
 
 -- the blocks of a segment that holds these numbers
-pub block_held : (g : Geometry) (sofar : Numbers) (index n k : ℕ) (cells : List ℤ) → n ≤ g.segment → k < n → 64 * n ≤ length cells → sofar index ≡ Some (blocks_in (take (64 * n) cells)) → blocks_with g sofar (first_block g.segment index + k) ≡ Some (block_at cells k)
-block_held g sofar index n k cells few lt long some = grind (arith, nat_tests, length-take-le, div-mul-add, mod-mul-add, block_in, front_block)
+pub block_held : (g : Geometry) (sofar : Numbers) (index n k : ℕ) (cells : List ℤ) → n ≤ g.segment → k < n → 64 * n ≤ length cells →
+    sofar index ≡ Some (blocks_in (take (64 * n) cells)) → blocks_with g sofar (first_block g.segment index + k) ≡ Some (block_at cells k)
+block_held g sofar index n k cells few lt long some = grind (arith, nat_tests, length-take-le, div-mul-add, mod-mul-add, block_in, prefix_block)
 
 -- ---- the first blocks
 
-pub of_same : (g : Geometry) (n : ℕ) (a b : Numbers) (blocks : Blocks) → ((block : ℕ) → block < n → a (block / g.segment) ≡ b (block / g.segment)) → AreOf g a n blocks → AreOf g b n blocks
+pub of_same : (g : Geometry) (n : ℕ) (a b : Numbers) (blocks : Blocks) → ((block : ℕ) → block < n → a (block / g.segment) ≡ b (block / g.segment)) →
+    AreOf g a n blocks → AreOf g b n blocks
 of_same g n a b blocks same of = record { at = λ block lt. of.at block lt ∙ block_by g a b block (same block lt) }
 
 pub of_fewer : (g : Geometry) (m n : ℕ) (a : Numbers) (blocks : Blocks) → m ≤ n → AreOf g a n blocks → AreOf g a m blocks
 of_fewer g m n a blocks le of = record { at = λ block lt. of.at block (omega (arith, lt, le)) }
 
 -- for other segments, if those of the blocks so far are the same
-pub shows_same : {S : Type 0} (k : SinkOf S) (p : Walking S) (a b : Numbers) (gave : List ℕ) → ((block : ℕ) → block < passed_in p → a (block / p.geometry.segment) ≡ b (block / p.geometry.segment)) → Shows k p a gave → Shows k p b gave
+pub shows_same : {S : Type 0} (k : SinkOf S) (p : Walking S) (a b : Numbers) (gave : List ℕ) →
+    ((block : ℕ) → block < passed_in p → a (block / p.geometry.segment) ≡ b (block / p.geometry.segment)) → Shows k p a gave → Shows k p b gave
 shows_same k p a b gave same shows blocks of = shows blocks (of_same p.geometry (passed_in p) b a blocks (λ block lt. sym (same block lt)) of)
 
 -- after n more blocks
-pub shows_passed : {S : Type 0} {w x : Outside} (k : SinkOf S) (p q : Walking S) (values : ℕ → Option (List ℤ)) (n : ℕ) (sofar : Numbers) (gave : List ℕ) → Shows k p sofar gave →
-    ((i : ℕ) → i < n → blocks_with p.geometry sofar (passed_in p + i) ≡ values i) → (passed : HasPassed k values n w x p q) → Shows k q sofar (gave ++ passed.gave)
+pub shows_passed : {S : Type 0} {w x : Outside} (k : SinkOf S) (p q : Walking S) (values : ℕ → Option (List ℤ)) (n : ℕ) (sofar : Numbers) (gave : List ℕ) →
+    Shows k p sofar gave →
+    ((i : ℕ) → i < n → blocks_with p.geometry sofar (passed_in p + i) ≡ values i) → (passed : HasPassed k values n w x p q) →
+    Shows k q sofar (gave ++ passed.gave)
 shows_passed k p q values n sofar gave shows are passed blocks of = grind (arith, nat_tests, of_fewer)

@@ -1,5 +1,6 @@
 -- The blocks of an image's segments can be spelled.
-use Rattle.std.proofs.Common.{◌≡◌, ◌≤◌, ◌<◌, ◌+◌, ◌*◌, ◌/◌, ◌%◌, ◌^◌, ◌*ℤ◌, ℕ, ℤ, pos, negsuc, true, List, [], length, drop, map, get_or, refl, sym, ap, subst, ◌∙◌, inl, inr, arith, length-drop, ◌⊎◌, if◌then◌else◌, nat_le, nat_lt, unsigned_abs, All, pow_mono}
+use Rattle.std.proofs.Common.{◌≡◌, ◌≤◌, ◌<◌, ◌+◌, ◌*◌, ◌/◌, ◌%◌, ◌^◌, ◌*ℤ◌, ℕ, ℤ, pos, negsuc, true, List, [], length, drop, map, get_or, refl, sym, ap}
+use Rattle.std.proofs.Common.{subst, ◌∙◌, inl, inr, arith, length-drop, ◌⊎◌, if◌then◌else◌, nat_le, nat_lt, unsigned_abs, All, pow_mono}
 use Rattle.std.specs.Int.{int_shr}
 use Rattle.std.specs.List.{range_with_len, list_all}
 use Rattle.std.proofs.lemmas.Bool.{cases_lt}
@@ -31,7 +32,7 @@ use Rattle.segment_defs.specs.Head.{IsHead}
 use Rattle.segment_defs.specs.SegmentItems.{dc_shift}
 use Rattle.segment_defs.proofs.DepthLaws.{each_above, range_of_size, depths_law}
 use Rattle.segment_code.proofs.CodedChoices.{within_greatest}
-use Rattle.text_defs.specs.Spellable.{IsSpellable}
+use Rattle.segment_defs.specs.Spellable.{IsSpellable}
 use Rattle.base_122.proofs.ShiftLaws.{shift_low}
 use Rattle.stream_defs.proofs.Small.{pixel_small, within_small}
 use Rattle.stream_defs.specs.Output.{head_for, head_with, image_blocks, segment_of, segments_of}
@@ -43,7 +44,8 @@ use Rattle.wave_defs.proofs.Equations.{block-is}
 
 -- ---- a head that can be said
 
-pub head_said : (s : Setting) (index limit count depth_dc depth_ac : ℕ) → IsInRange s → CanBeSaid s limit → 1 ≤ count → count ≤ 1048575 → 1 ≤ depth_dc → depth_dc ≤ 28 → depth_ac ≤ 27 →
+pub head_said : (s : Setting) (index limit count depth_dc depth_ac : ℕ) → IsInRange s → CanBeSaid s limit → 1 ≤ count → count ≤ 1048575 → 1 ≤ depth_dc →
+    depth_dc ≤ 28 → depth_ac ≤ 27 →
     IsHead (head_with s index limit count depth_dc depth_ac)
 head_said s index limit count depth_dc depth_ac range said some most least_dc most_dc most_ac = grind (arith, nat_tests)
 
@@ -55,7 +57,8 @@ pub record IsSound (weights : List ℕ) (xs : List ℤ) : Type 0 where
   pub small : (i : ℕ) → magnitude xs i < 2 ^ 27
   pub multiple : IsMultiple xs weights
 
-module _ (p : Pyramid) (weights : List ℕ) (r c t k : ℕ) (within : PyramidWithin 409600 2560000 16000000 r c p) (row : t < r) (column : k < c) (shifts : All (λ shift. shift ≤ 3) weights) where
+module _ (p : Pyramid) (weights : List ℕ) (r c t k : ℕ) (within : PyramidWithin 409600 2560000 16000000 r c p) (row : t < r) (column : k < c)
+    (shifts : All (λ shift. shift ≤ 3) weights) where
   number_at : (i : ℕ) → i < 64 → get_or (block p weights t k) i (pos 0) ≡ coefficient p t k i *ℤ weight_at weights i
   number_at i lt = rw block-is (get_or-map-range_with_len (λ i. coefficient p t k i *ℤ weight_at weights i) 0 64 i i (pos 0) lt (omega arith))
 
@@ -76,7 +79,8 @@ module _ (p : Pyramid) (weights : List ℕ) (r c t k : ℕ) (within : PyramidWit
   sound_block = record {
     long = long;
     small = λ i. elim (cases_lt i 64) [
-      | inl lt ↦ subst (λ z. unsigned_abs z < 2 ^ 27) (sym (number_at i lt)) (within_small _ (coefficient-within r c t k i p weights row column lt (λ band. shift_low weights band shifts) within))
+      | inl lt ↦ subst (λ z. unsigned_abs z < 2 ^ 27) (sym (number_at i lt))
+          (within_small _ (coefficient-within r c t k i p weights row column lt (λ band. shift_low weights band shifts) within))
       | inr ge ↦ let none = none_past i ge in omega (arith, none)
     ];
     multiple = record { part = part_of_number; whole = λ i. whole_number i (cases_lt i 64) };
@@ -103,11 +107,13 @@ module _ (s : Setting) (x : ℕ → ℕ → ℤ) (range : IsInRange s) (height :
       let turned : c * r ≡ r * c = grind arith in
       let row : b / c < r = div_below b c r (omega (arith, wide)) (omega (arith, inside, turned)) in
       subst (IsSound s.weights.shifts) (sym (image_block s x b d inside))
-      (sound_block (pyramid (padded x s.rows s.width) r c) s.weights.shifts r c (b / c) (b % c) (pyramid-within (padded x s.rows s.width) r c (omega (arith, tall)) (omega (arith, wide)) image_small) row column range.weights)
+      (sound_block (pyramid (padded x s.rows s.width) r c) s.weights.shifts r c (b / c) (b % c)
+      (pyramid-within (padded x s.rows s.width) r c (omega (arith, tall)) (omega (arith, wide)) image_small) row column range.weights)
 
   -- those of a segment
   segment_sound : (index : ℕ) → All (IsSound s.weights.shifts) (segment_of s (image_blocks s x) index)
-  segment_sound index = All-take (IsSound s.weights.shifts) s.segment (drop (first_block s.segment index) (image_blocks s x)) (All-drop (IsSound s.weights.shifts) (first_block s.segment index) (image_blocks s x) all_sound)
+  segment_sound index = All-take (IsSound s.weights.shifts) s.segment (drop (first_block s.segment index) (image_blocks s x))
+      (All-drop (IsSound s.weights.shifts) (first_block s.segment index) (image_blocks s x) all_sound)
 
   pub length-segment : (index : ℕ) → length (segment_of s (image_blocks s x) index) ≡ segment_blocks (total_blocks s.width s.rows) s.segment index
   length-segment index = grind (arith, nat_tests, length-take, length-drop, length-image_blocks)
@@ -119,7 +125,12 @@ module _ (s : Setting) (x : ℕ → ℕ → ℤ) (range : IsInRange s) (height :
     blocks = segment_of s (image_blocks s x) index
 
     some_blocks : 1 ≤ length blocks
-    some_blocks = omega (arith, length-segment index, one-le-segment_blocks (total_blocks s.width s.rows) s.segment index (omega (arith, range.segment.0)) inside)
+    some_blocks = omega (
+      arith,
+      length-segment index,
+      one-le-segment_blocks (total_blocks s.width s.rows) s.segment index (omega (arith, range.segment.0))
+          inside,
+    )
 
     few_blocks : length blocks ≤ 1048575
     few_blocks = omega (arith, length-segment index, range.segment.1)
@@ -160,8 +171,10 @@ module _ (s : Setting) (x : ℕ → ℕ → ℤ) (range : IsInRange s) (height :
         let inside : i < length blocks = omega (arith, lt, length-map blocks dc_of) in
         let above = each_above (λ b. signed_size (dc_of b)) 0 blocks i [] inside in
         let here : get_or (map dc_of blocks) i (pos 0) ≡ dc_of (get_or blocks i []) = get_or-map dc_of blocks i [] (pos 0) inside in
-        subst (λ z. IsNumber true (dc_bits (depth_dc_of blocks) (depth_ac_of blocks) (dc_shift head)) (int_shr z (dc_q (depth_dc_of blocks) (depth_ac_of blocks) (dc_shift head)))) (sym here)
-        (dc_fits (depth_dc_of blocks) (depth_ac_of blocks) (dc_shift head) (dc_of (get_or blocks i [])) depth_dc_some (range_of_size (dc_of (get_or blocks i [])) (depth_dc_of blocks) above))
+        subst (λ z. IsNumber true (dc_bits (depth_dc_of blocks) (depth_ac_of blocks) (dc_shift head))
+        (int_shr z (dc_q (depth_dc_of blocks) (depth_ac_of blocks) (dc_shift head)))) (sym here)
+        (dc_fits (depth_dc_of blocks) (depth_ac_of blocks) (dc_shift head) (dc_of (get_or blocks i [])) depth_dc_some
+        (range_of_size (dc_of (get_or blocks i [])) (depth_dc_of blocks) above))
 
     no_block : (n : ℕ) → length blocks ≤ n → get_or blocks n [] ≡ []
     no_block n ge = get_or_past blocks n [] ge

@@ -8,7 +8,7 @@ use Rattle.segment_code.specs.ShortTexts.{TextsAreShort}
 use Rattle.segment_code.specs.Coded.{CodedTextsAreRead}
 use Rattle.stream_defs.specs.Chosen.{all_parts}
 use Rattle.stream_defs.specs.Fates.{fresh, kept}
-use Rattle.stream_defs.specs.Output.{head_for, image_blocks, segment_of, segment_text, segments_of, tells_last}
+use Rattle.stream_defs.specs.Output.{head_for, image_blocks, segment_of, segment_text, segments_of, reports_last}
 use Rattle.stream_defs.specs.Places.{AreCoded}
 use Rattle.stream_defs.specs.Received.{IsReceived, ReceivedIn}
 use Rattle.stream_defs.proofs.SublistLaws.{received_only, received_each}
@@ -24,8 +24,8 @@ module _ (short : TextsAreShort) (s : Setting) (rows : ℕ) (x : ℕ → ℕ →
   abbrev all : List (List ℤ)
   all = image_blocks t x
 
-  abbrev told : Bool
-  told = tells_last s
+  abbrev if_known : Bool
+  if_known = reports_last s
 
   coded : AreCoded t all
   coded = coded_for short s rows x are.image
@@ -44,7 +44,7 @@ module _ (short : TextsAreShort) (s : Setting) (rows : ℕ) (x : ℕ → ℕ →
     pub only_whole : (index : ℕ) (w : List (List ℤ)) → index < segments_of t → received index ≡ Some w →
         (parts index ≡ all_parts t all index) × holds_after s.book (head_for t all index) (segment_text t all index) w
     only_whole index w lt e =
-        received_only told t all coded parts are.choice (holds_after s.book) index w lt
+        received_only if_known t all coded parts are.choice (holds_after s.book) index w lt
         (subst (λ ps. IsReceived (holds_after s.book) (kept s.apid fresh ps) index w) (packets_are short s rows x parts are) (answered index (Some w) e))
 
     -- a segment with all its packets is received
@@ -56,13 +56,16 @@ module _ (short : TextsAreShort) (s : Setting) (rows : ℕ) (x : ℕ → ℕ →
         by None e =
             let blocks = segment_of t all index in
             let image = are.image in
-            let held = (read s.book image.sound (head_for t all index) blocks (head_fits t x (sized_range short s rows x image) image.height.0 pixels index lt) image.weights (spells t x (sized_range short s rows x image) image.height.0 pixels index lt) refl).part in
-            absurd (answered index None e held.0 (subst (λ ps. IsReceived (holds_after s.book) (kept s.apid fresh ps) index held.0) (sym (packets_are short s rows x parts are))
-            (received_each told t all coded parts are.choice (holds_after s.book) index held.0 lt whole held.1)))
+            let held = (read s.book image.sound (head_for t all index) blocks (head_fits t x (sized_range short s rows x image) image.height.0 pixels index
+            lt) image.weights (spells t x (sized_range short s rows x image) image.height.0 pixels index lt) refl).part in
+            absurd (answered index None e held.0 (subst (λ ps. IsReceived (holds_after s.book) (kept s.apid fresh ps) index held.0)
+            (sym (packets_are short s rows x parts are))
+            (received_each if_known t all coded parts are.choice (holds_after s.book) index held.0 lt whole held.1)))
 
     pub receives_those : CodedTextsAreRead → ReceivesThose s rows x parts received
     receives_those read = record { at = λ index lt. (λ some. from_some index (received index) lt refl some, each_whole read index lt) }
       where
-        from_some : (index : ℕ) (o : Option (List (List ℤ))) → index < segments_of t → received index ≡ o → is_some o ≡ true → parts index ≡ all_parts t all index
+        from_some : (index : ℕ) (o : Option (List (List ℤ))) → index < segments_of t → received index ≡ o → is_some o ≡ true →
+            parts index ≡ all_parts t all index
         from_some index None lt e some = absurd (false≢true some)
         from_some index (Some w) lt e some = (only_whole index w lt e).0

@@ -19,16 +19,19 @@ kept_same : (x : List ℕ) (a b : Tail) → ((kept_tail x a).ends ≡ Plainly) �
 kept_same x a b e same = grind (arith, nat_tests)
 
 -- a text that is closed stays so, whatever follows
-pub over_more : (apid : ℕ) (s : FateState) (xs ys : List (List ℕ)) (stop other : End) → (other ≡ Plainly → ⊥) → (tail_over apid s xs other).ends ≡ Plainly → tail_over apid s (xs ++ ys) stop ≡ tail_over apid s xs other
+pub over_more : (apid : ℕ) (s : FateState) (xs ys : List (List ℕ)) (stop other : End) → (other ≡ Plainly → ⊥) → (tail_over apid s xs other).ends ≡ Plainly →
+    tail_over apid s (xs ++ ys) stop ≡ tail_over apid s xs other
 over_more apid s [] ys stop other never e = absurd (never (sym (ap (λ (t : Tail). t.ends) (over_none apid s other)) ∙ e))
 over_more apid s (x ∷ xs) ys stop other never e = by (is_kept (fate apid s x)) refl (over_more apid (after apid s x) xs ys stop other never)
   where
-    by : (b : Bool) → is_kept (fate apid s x) ≡ b → ((tail_over apid (after apid s x) xs other).ends ≡ Plainly → tail_over apid (after apid s x) (xs ++ ys) stop ≡ tail_over apid (after apid s x) xs other) →
+    by : (b : Bool) → is_kept (fate apid s x) ≡ b → ((tail_over apid (after apid s x) xs other).ends ≡ Plainly →
+        tail_over apid (after apid s x) (xs ++ ys) stop ≡ tail_over apid (after apid s x) xs other) →
         tail_over apid s (x ∷ xs ++ ys) stop ≡ tail_over apid s (x ∷ xs) other
     by false lost more = grind (arith, nat_tests, over_lost)
     by true keeps more = grind (arith, nat_tests, over_kept, kept_same)
 
-pub from_more : (apid : ℕ) (s : FateState) (xs ys : List (List ℕ)) (stop other : End) → (other ≡ Plainly → ⊥) → (tail_from apid s xs other).ends ≡ Plainly → tail_from apid s (xs ++ ys) stop ≡ tail_from apid s xs other
+pub from_more : (apid : ℕ) (s : FateState) (xs ys : List (List ℕ)) (stop other : End) → (other ≡ Plainly → ⊥) → (tail_from apid s xs other).ends ≡ Plainly →
+    tail_from apid s (xs ++ ys) stop ≡ tail_from apid s xs other
 from_more apid s xs ys stop other never e = grind (arith, nat_tests, over_more)
 
 -- ---- states
@@ -47,7 +50,8 @@ reached_by : (apid n : ℕ) (s : FateState) (x : List ℕ) (l : LastPart) → s.
 reached_by apid n s x l is e b = record { last = part_in x; last_is = b.last; least = omega (arith, b.later l is, e) }
 
 -- a closed text stays closed while no other segment is begun
-closed_stays : (apid n : ℕ) (s : FateState) (xs : List (List ℕ)) (l : LastPart) → s.last ≡ Some l → l.index ≡ n → l.closed ≡ true → last_index (after_all apid s xs).last ≡ Some n → is_closed (after_all apid s xs).last ≡ true
+closed_stays : (apid n : ℕ) (s : FateState) (xs : List (List ℕ)) (l : LastPart) → s.last ≡ Some l → l.index ≡ n → l.closed ≡ true →
+    last_index (after_all apid s xs).last ≡ Some n → is_closed (after_all apid s xs).last ≡ true
 closed_stays apid n s [] l is e closed last = ap is_closed is ∙ closed
 closed_stays apid n s (x ∷ xs) l is e closed last = elim (does apid s x) [
   | inl lost ↦ closed_stays apid n (after apid s x) xs l (ap (λ (s : FateState). s.last) lost.same ∙ is) e closed last
@@ -60,45 +64,57 @@ closed_stays apid n s (x ∷ xs) l is e closed last = elim (does apid s x) [
 -- ---- closing
 
 -- if the text ends plainly, the packets have closed it
-pub over_closes : (apid n : ℕ) (s : FateState) (xs : List (List ℕ)) (l : LastPart) → s.last ≡ Some l → l.index ≡ n → (tail_over apid s xs InPieces).ends ≡ Plainly → last_index (after_all apid s xs).last ≡ Some n →
+pub over_closes : (apid n : ℕ) (s : FateState) (xs : List (List ℕ)) (l : LastPart) → s.last ≡ Some l → l.index ≡ n →
+    (tail_over apid s xs InPieces).ends ≡ Plainly → last_index (after_all apid s xs).last ≡ Some n →
     is_closed (after_all apid s xs).last ≡ true
 over_closes apid n s [] l is e plain last = absurd (in_pieces (sym (ap (λ (t : Tail). t.ends) (over_none apid s InPieces)) ∙ plain))
 over_closes apid n s (x ∷ xs) l is e plain last = elim (does apid s x) [
-  | inl lost ↦ over_closes apid n (after apid s x) xs l (ap (λ (s : FateState). s.last) lost.same ∙ is) e (sym (ap (λ (t : Tail). t.ends) (over_lost apid s x xs InPieces lost.lost)) ∙ plain) last
+  | inl lost ↦ over_closes apid n (after apid s x) xs l (ap (λ (s : FateState). s.last) lost.same ∙ is) e
+      (sym (ap (λ (t : Tail). t.ends) (over_lost apid s x xs InPieces lost.lost)) ∙ plain) last
   | inr here ↦ elim here [
     | inl b ↦ absurd (not_back apid n (after apid s x) xs (reached_by apid n s x l is e b) last)
-    | inr next ↦ by_flags next (closes (flags_in x)) refl (over_closes apid n (after apid s x) xs (part_in x) next.last (next.index ∙ ap (λ (l : LastPart). l.index) (same_Some _ _ (sym next.before_is ∙ is)) ∙ e))
+    | inr next ↦ by_flags next (closes (flags_in x)) refl
+        (over_closes apid n (after apid s x) xs (part_in x) next.last
+        (next.index ∙ ap (λ (l : LastPart). l.index) (same_Some _ _ (sym next.before_is ∙ is)) ∙ e))
   ]
 ]
   where
     by_flags : Follows apid s x → (b : Bool) → closes (flags_in x) ≡ b →
-        ((tail_over apid (after apid s x) xs InPieces).ends ≡ Plainly → last_index (after_all apid (after apid s x) xs).last ≡ Some n → is_closed (after_all apid (after apid s x) xs).last ≡ true) →
+        ((tail_over apid (after apid s x) xs InPieces).ends ≡ Plainly → last_index (after_all apid (after apid s x) xs).last ≡ Some n →
+        is_closed (after_all apid (after apid s x) xs).last ≡ true) →
         is_closed (after_all apid (after apid s x) xs).last ≡ true
-    by_flags next true f more = closed_stays apid n (after apid s x) xs (part_in x) next.last (next.index ∙ ap (λ (l : LastPart). l.index) (same_Some _ _ (sym next.before_is ∙ is)) ∙ e) f last
+    by_flags next true f more = closed_stays apid n (after apid s x) xs (part_in x) next.last
+        (next.index ∙ ap (λ (l : LastPart). l.index) (same_Some _ _ (sym next.before_is ∙ is)) ∙ e) f last
     by_flags next false f more = grind (arith, nat_tests, over_kept, more_test)
 
 -- and if they have closed it, it ends plainly
-pub over_closed : (apid n : ℕ) (s : FateState) (xs : List (List ℕ)) (l : LastPart) → s.last ≡ Some l → l.index ≡ n → l.closed ≡ false → last_index (after_all apid s xs).last ≡ Some n →
+pub over_closed : (apid n : ℕ) (s : FateState) (xs : List (List ℕ)) (l : LastPart) → s.last ≡ Some l → l.index ≡ n → l.closed ≡ false →
+    last_index (after_all apid s xs).last ≡ Some n →
     is_closed (after_all apid s xs).last ≡ true → (tail_over apid s xs InPieces).ends ≡ Plainly
 over_closed apid n s [] l is e going last closed = absurd (false≢true (sym going ∙ sym (ap is_closed is) ∙ closed))
 over_closed apid n s (x ∷ xs) l is e going last closed = elim (does apid s x) [
-  | inl lost ↦ ap (λ (t : Tail). t.ends) (over_lost apid s x xs InPieces lost.lost) ∙ over_closed apid n (after apid s x) xs l (ap (λ (s : FateState). s.last) lost.same ∙ is) e going last closed
+  | inl lost ↦ ap (λ (t : Tail). t.ends) (over_lost apid s x xs InPieces lost.lost) ∙ over_closed apid n (after apid s x) xs l
+      (ap (λ (s : FateState). s.last) lost.same ∙ is) e going last closed
   | inr here ↦ elim here [
     | inl b ↦ absurd (not_back apid n (after apid s x) xs (reached_by apid n s x l is e b) last)
     | inr next ↦ ap (λ (t : Tail). t.ends) (over_kept apid s x xs InPieces next.is_kept)
-        ∙ by_flags next (closes (flags_in x)) refl (over_closed apid n (after apid s x) xs (part_in x) next.last (next.index ∙ ap (λ (l : LastPart). l.index) (same_Some _ _ (sym next.before_is ∙ is)) ∙ e))
+        ∙ by_flags next (closes (flags_in x)) refl (over_closed apid n (after apid s x) xs (part_in x) next.last
+        (next.index ∙ ap (λ (l : LastPart). l.index) (same_Some _ _ (sym next.before_is ∙ is)) ∙ e))
   ]
 ]
   where
     by_flags : Follows apid s x → (b : Bool) → closes (flags_in x) ≡ b →
-        (closes (flags_in x) ≡ false → last_index (after_all apid (after apid s x) xs).last ≡ Some n → is_closed (after_all apid (after apid s x) xs).last ≡ true → (tail_over apid (after apid s x) xs InPieces).ends ≡ Plainly) →
+        (closes (flags_in x) ≡ false → last_index (after_all apid (after apid s x) xs).last ≡ Some n →
+        is_closed (after_all apid (after apid s x) xs).last ≡ true → (tail_over apid (after apid s x) xs InPieces).ends ≡ Plainly) →
         (kept_tail x (tail_over apid (after apid s x) xs InPieces)).ends ≡ Plainly
     by_flags next b f more = grind (arith, nat_tests, more_test)
 
-pub from_closes : (apid n : ℕ) (s : FateState) (xs : List (List ℕ)) (l : LastPart) → s.last ≡ Some l → l.index ≡ n → (tail_from apid s xs InPieces).ends ≡ Plainly → last_index (after_all apid s xs).last ≡ Some n →
+pub from_closes : (apid n : ℕ) (s : FateState) (xs : List (List ℕ)) (l : LastPart) → s.last ≡ Some l → l.index ≡ n →
+    (tail_from apid s xs InPieces).ends ≡ Plainly → last_index (after_all apid s xs).last ≡ Some n →
     is_closed (after_all apid s xs).last ≡ true
 from_closes apid n s xs l is e plain last = grind (arith, nat_tests, closed_stays, over_closes)
 
-pub from_closed : (apid n : ℕ) (s : FateState) (xs : List (List ℕ)) (l : LastPart) → s.last ≡ Some l → l.index ≡ n → last_index (after_all apid s xs).last ≡ Some n → is_closed (after_all apid s xs).last ≡ true →
+pub from_closed : (apid n : ℕ) (s : FateState) (xs : List (List ℕ)) (l : LastPart) → s.last ≡ Some l → l.index ≡ n → last_index (after_all apid s xs).last
+    ≡ Some n → is_closed (after_all apid s xs).last ≡ true →
     (tail_from apid s xs InPieces).ends ≡ Plainly
 from_closed apid n s xs l is e last closed = grind (arith, nat_tests, over_closed)

@@ -1,5 +1,7 @@
 -- All packets of an image: each of its segments is received.
-use Rattle.std.proofs.Common.{◌≡◌, ◌≤◌, ◌<◌, ◌+◌, ◌-◌, ◌*◌, ◌/◌, ℕ, zero, suc, ℤ, List, [], ◌∷◌, refl, ap, subst, ◌∙◌, inl, arith, sym, pos, drop, get_or, ◌%◌, Bool, true, false, cond, not, None, Some, is_some, filter, if◌then◌else◌, Option, mul-le-mul_right, get_or-drop, get_or-take}
+use Rattle.std.proofs.Common.{◌≡◌, ◌≤◌, ◌<◌, ◌+◌, ◌-◌, ◌*◌, ◌/◌, ℕ, zero, suc, ℤ, List, [], ◌∷◌, refl, ap, subst, ◌∙◌, inl, arith, sym, pos, drop, get_or}
+use Rattle.std.proofs.Common.{◌%◌, Bool, true, false, cond, not, None, Some, is_some, filter, if◌then◌else◌, Option, mul-le-mul_right, get_or-drop}
+use Rattle.std.proofs.Common.{get_or-take}
 use Rattle.std.specs.List.{range_with_len}
 use Rattle.std.proofs.lemmas.Nat.{le-div, div-add-mod', mod_below}
 use Rattle.std.proofs.lemmas.Bool.Decides.{nat_tests}
@@ -16,11 +18,11 @@ use Rattle.segment_code.specs.Coded.{CodedTextsAreRead}
 use Rattle.stream_defs.specs.Chosen.{IsChoice, chosen, all_parts}
 use Rattle.stream_defs.specs.Damage.{is_missing, whole_missing}
 use Rattle.stream_defs.specs.Fates.{geometry_in}
-use Rattle.stream_defs.specs.Output.{head_for, image_blocks, output, segment_text, segments_of, tells_last, segment_of, used_before}
+use Rattle.stream_defs.specs.Output.{head_for, image_blocks, output, segment_text, segments_of, reports_last, segment_of, used_before}
 use Rattle.stream_defs.specs.Places.{parts_of, AreCoded}
 use Rattle.stream_defs.specs.Received.{ReceivedIn}
 use Rattle.segment_walk.specs.Runs.{Numbers, holds_after}
-use Rattle.segment_walk.specs.Images.{some_output, BeginsOne, is_begun, AreSome, IsImageFor, ComesWhole, ArePixels, SendsAll}
+use Rattle.segment_walk.specs.Images.{some_output, BeginsOne, is_begun, AreSome, IsImageFor, ArrivesWhole, ArePixels, SendsAll}
 use Rattle.segment_walk.proofs.Receiving.{one_value}
 use Rattle.segment_walk.proofs.RunEnds.{any_miss}
 use Rattle.segment_walk.proofs.SublistPictures.{all_packets, choice_all, coded_for, geometry_there, reported_begun, segment_within, whole_choice, sized_range}
@@ -43,13 +45,16 @@ filter_miss p a (suc n) none =
     ∙ filter_miss p (a + 1) n (λ i low high. none i (omega (arith, low)) (omega (arith, high)))
 
 -- if each block is received, no block row is missing
-none_missing : (g : Geometry) (received : Numbers) → ((block : ℕ) → block < block_count g.rows * block_count g.width → is_some (received (block / g.segment)) ≡ true) → whole_missing g received ≡ []
+none_missing : (g : Geometry) (received : Numbers) →
+    ((block : ℕ) → block < block_count g.rows * block_count g.width → is_some (received (block / g.segment)) ≡ true) → whole_missing g received ≡ []
 none_missing g received all =
     let c = block_count g.width in
     missing_below-is g received (block_count g.rows) ∙ filter_miss (is_missing g received) 0 (block_count g.rows) (λ row low inside.
-    any_miss (λ column. not (is_some (received ((row * c + column) / g.segment)))) 0 c (λ column from within. ap not (all (row * c + column) (before row column (omega (arith, inside)) (omega (arith, within))))))
+    any_miss (λ column. not (is_some (received ((row * c + column) / g.segment)))) 0 c
+    (λ column from within. ap not (all (row * c + column) (before row column (omega (arith, inside)) (omega (arith, within))))))
   where
-    before : (row column : ℕ) → row < block_count g.rows → column < block_count g.width → row * block_count g.width + column < block_count g.rows * block_count g.width
+    before : (row column : ℕ) → row < block_count g.rows → column < block_count g.width →
+        row * block_count g.width + column < block_count g.rows * block_count g.width
     before row column inside within = grind (arith, nat_tests, mul-le-mul_right)
 
 -- ---- an image's packets
@@ -61,8 +66,8 @@ module _ (short : TextsAreShort) (s : Setting) (rows : ℕ) (x : ℕ → ℕ →
   abbrev all : List (List ℤ)
   all = image_blocks t x
 
-  abbrev told : Bool
-  told = tells_last s
+  abbrev if_known : Bool
+  if_known = reports_last s
 
   coded : AreCoded t all
   coded = coded_for short s rows x is
@@ -71,14 +76,14 @@ module _ (short : TextsAreShort) (s : Setting) (rows : ℕ) (x : ℕ → ℕ →
   choice = choice_all short s rows x is
 
   abbrev packets : List (List ℕ)
-  packets = chosen told t all (all_parts t all) (segments_of t)
+  packets = chosen if_known t all (all_parts t all) (segments_of t)
 
   all_are : output s rows x ≡ joined packets
-  all_are = ap joined (whole_choice told t all (segments_of t))
+  all_are = ap joined (whole_choice if_known t all (segments_of t))
 
   -- nothing is left over
   pub none_left : left_over (output s rows x) ≡ []
-  none_left = ap left_over all_are ∙ splits_left (joined_splits packets (all_packets told t all coded (all_parts t all) choice))
+  none_left = ap left_over all_are ∙ splits_left (joined_splits packets (all_packets if_known t all coded (all_parts t all) choice))
 
   pub framed : framing (output s rows x) ≡ None
   framed = ap (λ left. framing_at (place_after (output s rows x)) left) none_left ∙ framing_at-is [] (place_after (output s rows x))
@@ -105,8 +110,8 @@ module _ (short : TextsAreShort) (s : Setting) (rows : ℕ) (x : ℕ → ℕ →
   are : AreSome s rows x (all_parts t all)
   are = record { image = is; choice = choice }
 
-  pub geometry_told : geometry_in s.apid (output s rows x) ≡ Some (image_geometry s rows)
-  geometry_told = grind (arith, nat_tests, all_are, geometry_there, are, begins, reported_begun, last_begun)
+  pub geometry_reported : geometry_in s.apid (output s rows x) ≡ Some (image_geometry s rows)
+  geometry_reported = grind (arith, nat_tests, all_are, geometry_there, are, begins, reported_begun, last_begun)
 
   -- ---- what is received
 
@@ -123,9 +128,9 @@ module _ (short : TextsAreShort) (s : Setting) (rows : ℕ) (x : ℕ → ℕ →
     pub each_received : CodedTextsAreRead → (index : ℕ) → index < segments_of t → is_some (received index) ≡ true
     each_received read index lt = each_whole short s rows x (all_parts t all) are received of_all read index lt refl
 
-    pub comes_whole : CodedTextsAreRead → ComesWhole s rows x received
-    comes_whole read = record {
-      geometry = geometry_told;
+    pub arrives_whole : CodedTextsAreRead → ArrivesWhole s rows x received
+    arrives_whole read = record {
+      geometry = geometry_reported;
       missing = none_missing (image_geometry s rows) received (λ block lt.
           let turned : block_count rows * block_count s.width ≡ total_blocks s.width rows = grind arith in
           each_received read (block / s.segment) (segment_within short s rows x is block (omega (arith, lt, turned))));
@@ -152,8 +157,10 @@ module _ (short : TextsAreShort) (s : Setting) (rows : ℕ) (x : ℕ → ℕ →
               let plane : h.stop.plane ≡ 0 = ap (λ b. if b then 0 else s.stop.plane) sends.goes_on ∙ sends.plane in
               let stage : h.stop.stage ≡ 3 = ap (λ b. if b then 3 else s.stop.stage) sends.goes_on ∙ sends.stage in
               let uncut = share_none t index (used_before t all index) sends.total ∙ sends.limit in
-              let reads = read s.book is.sound h blocks (head_fits t x range is.height.0 pixels index lt) is.weights (spells t x range is.height.0 pixels index lt) refl in
-              e ∙ ap Some (one_value _ w blocks (held_by index w lt e) (reads.exact (inl uncut) (record { goes_on = sends.goes_on; plane = plane; stage = stage })))
+              let reads = read s.book is.sound h blocks (head_fits t x range is.height.0 pixels index lt) is.weights
+              (spells t x range is.height.0 pixels index lt) refl in
+              e ∙ ap Some (one_value _ w blocks (held_by index w lt e)
+              (reads.exact (inl uncut) (record { goes_on = sends.goes_on; plane = plane; stage = stage })))
 
       -- so each block is there with its numbers
       pub number_is : (b i : ℕ) → b < total_blocks s.width rows → number_at (image_geometry s rows) received b i ≡ get_or (get_or all b []) i (pos 0)
@@ -164,7 +171,8 @@ module _ (short : TextsAreShort) (s : Setting) (rows : ℕ) (x : ℕ → ℕ →
           let k = b % S in
           let small : k < S = mod_below b S (omega (arith, some)) in
           let at : index * S + k ≡ b = div-add-mod' b S in
-          let there : get_or (segment_of t all index) k [] ≡ get_or all b [] = get_or-take S (drop (first_block S index) all) k [] small ∙ get_or-drop (index * S) all k [] ∙ ap (λ n. get_or all n []) at in
+          let there : get_or (segment_of t all index) k [] ≡ get_or all b [] = get_or-take S (drop (first_block S index) all) k [] small
+          ∙ get_or-drop (index * S) all k [] ∙ ap (λ n. get_or all n []) at in
           ap (λ n. number_at (image_geometry s rows) received n i) (sym at)
           ∙ number_in (image_geometry s rows) received index k i (segment_of t all index) small (segment_is index (segment_within short s rows x is b lt))
           ∙ ap (λ xs. get_or xs i (pos 0)) there

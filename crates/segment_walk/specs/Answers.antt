@@ -1,5 +1,5 @@
 -- The answer of a walk, whatever its sink has given. This project's own.
-use Rattle.std.specs.Prelude.{◌≡◌, ℕ, List, [], take, Bool, true, false, Some}
+use Rattle.std.specs.Prelude.{◌≡◌, ℕ, List, [], Bool, true, false, Some}
 use Rattle.port_122.specs.Outside.{Outside}
 use Rattle.base_122.specs.Ranges.{IsGeometryInRange}
 use Rattle.base_122.specs.declared.geometry.Geometry.{Geometry}
@@ -10,7 +10,7 @@ use Rattle.stream_defs.specs.Fates.{geometry_in}
 use Rattle.stream_defs.specs.Picture.{picture_octets}
 use Rattle.stream_defs.specs.Received.{ReceivedIn}
 use Rattle.packet_assembly.specs.Readings.{IsReadOut}
-use Rattle.segment_walk.specs.Runs.{holds_after, Numbers}
+use Rattle.segment_walk.specs.Runs.{holds_after, Numbers, AsksUnanswered}
 use Rattle.segment_walk.specs.Walks.{IsDamageOf}
 use Rattle.segment_walk.specs.declared.ending.DecodeDone.{DecodeDone}
 
@@ -29,7 +29,7 @@ pub record PictureBy (gives : Bool) (wish : DecodeWish) (start new : Outside) (t
   pub out : IsReadOut wish.octets new took
   pub written : done.written ≡ height done.geometry (begun_in wish.apid took)
   pub rows : done.damage.rows ≡ done.written
-  pub told : (all : List ℕ) → start.rest ≡ Some all → (received : Numbers) × ReceivedIn (holds_after wish.book) wish.apid took received
+  pub if_known : (all : List ℕ) → start.rest ≡ Some all → (received : Numbers) × ReceivedIn (holds_after wish.book) wish.apid took received
       × (gave ≡ octets_of gives done.geometry received (begun_in wish.apid took)) × IsDamageOf done.geometry received (begun_in wish.apid took) done.damage
 
 abbrev pub IsPicture : (wish : DecodeWish) (start new : Outside) (took gave : List ℕ) (done : DecodeDone) → Type 0
@@ -37,6 +37,6 @@ IsPicture = PictureBy true
 
 -- ---- while packets are read
 
--- A read call with i octets taken, and none given. If the octets report too many pixels, no more is read.
+-- A read call with i octets taken, which decide no answer, and none given.
 abbrev pub AsksSilent : DecodeWish → (took : List ℕ) → ℕ → ℕ → Type 0
-AsksSilent wish took i j = (j ≡ 0) × HasFewPixels wish.pixels wish.apid (take i took)
+AsksSilent wish took i j = (j ≡ 0) × AsksUnanswered wish.apid wish.octets wish.pixels took i j

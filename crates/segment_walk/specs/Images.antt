@@ -1,5 +1,6 @@
 -- An image, some of its packets, and what is received of them. This project's own.
-use Rattle.std.specs.Prelude.{◌≡◌, ◌*◌, ◌/◌, ℕ, ℤ, List, [], ◌∷◌, ◌<◌, ◌-◌, length, zero, suc, Bool, true, false, if◌then◌else◌, None, Some, is_some, IsTrue, ◌&&◌, not, ◌↔◌}
+use Rattle.std.specs.Prelude.{◌≡◌, ◌*◌, ◌/◌, ℕ, ℤ, List, [], ◌∷◌, ◌<◌, ◌-◌, length, zero, suc, Bool, true, false, if◌then◌else◌, None, Some, is_some}
+use Rattle.std.specs.Prelude.{IsTrue, ◌&&◌, not, ◌↔◌}
 use Rattle.base_122.specs.Ranges.{IsInRange}
 use Rattle.base_122.specs.Setting.{image_geometry, sized, IsHeight}
 use Rattle.base_122.specs.Sizes.{block_count}
@@ -13,18 +14,19 @@ use Rattle.stream_defs.specs.Begun.{block_rows}
 use Rattle.stream_defs.specs.Chosen.{IsChoice, chosen, all_parts}
 use Rattle.stream_defs.specs.Damage.{whole_missing}
 use Rattle.stream_defs.specs.Fates.{geometry_in}
-use Rattle.stream_defs.specs.Output.{image_blocks, segments_of, output, tells_last}
+use Rattle.stream_defs.specs.Output.{image_blocks, segments_of, output, reports_last}
 use Rattle.stream_defs.specs.Picture.{number_at}
 use Rattle.segment_walk.specs.Runs.{Numbers}
 
 -- The blocks of received segments have the numbers that were received, and all other blocks have any numbers. If the height isn't known and
 -- the kept heads reach n block rows, the blocks of later block rows also have any numbers.
 pub record AreWith (g : Geometry) (received : Numbers) (numbers : ℕ → ℕ → ℤ) (n : ℕ) : Type 0 where
-  pub at : (block i : ℕ) → block < block_rows g n * block_count g.width → i < 64 → is_some (received (block / g.segment)) ≡ true → numbers block i ≡ number_at g received block i
+  pub at : (block i : ℕ) → block < block_rows g n * block_count g.width → i < 64 → is_some (received (block / g.segment)) ≡ true →
+      numbers block i ≡ number_at g received block i
 
 -- the octets of some packets, in order, of an image with this number of rows
 abbrev pub some_output : Setting → (rows : ℕ) → (ℕ → ℕ → ℤ) → (parts : ℕ → List ℕ) → List ℕ
-some_output s rows x parts = joined (chosen (tells_last s) (sized s rows) (image_blocks (sized s rows) x) parts (segments_of (sized s rows)))
+some_output s rows x parts = joined (chosen (reports_last s) (sized s rows) (image_blocks (sized s rows) x) parts (segments_of (sized s rows)))
 
 -- a packet among them begins a segment
 pub record BeginsOne (s : Setting) (rows : ℕ) (parts : ℕ → List ℕ) : Type 0 where
@@ -41,7 +43,7 @@ is_begun (suc k ∷ ks) = false
 
 -- the rows that these packets report: none if the height is reported last and the last segment isn't begun, else those of the image
 abbrev pub reported_rows : Setting → (rows : ℕ) → (parts : ℕ → List ℕ) → ℕ
-reported_rows s rows parts = if tells_last s && not (is_begun (parts (segments_of (sized s rows) - 1))) then 0 else rows
+reported_rows s rows parts = if reports_last s && not (is_begun (parts (segments_of (sized s rows) - 1))) then 0 else rows
 
 -- the geometry that they report, if one of them begins a segment
 abbrev pub reported : Setting → (rows : ℕ) → (parts : ℕ → List ℕ) → Geometry
@@ -78,7 +80,7 @@ pub record SendsAll (s : Setting) : Type 0 where
   pub total : s.total ≡ 0
 
 -- its packets report its size, each block row is received, and they can be read to their end
-pub record ComesWhole (s : Setting) (rows : ℕ) (x : ℕ → ℕ → ℤ) (received : Numbers) : Type 0 where
+pub record ArrivesWhole (s : Setting) (rows : ℕ) (x : ℕ → ℕ → ℤ) (received : Numbers) : Type 0 where
   pub geometry : geometry_in s.apid (output s rows x) ≡ Some (image_geometry s rows)
   pub missing : whole_missing (image_geometry s rows) received ≡ []
   pub framing_is : framing (output s rows x) ≡ None

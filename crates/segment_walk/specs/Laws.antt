@@ -6,6 +6,7 @@ use Rattle.segment_walk.specs.Runs.{Numbers, holds_after}
 
 -- The octets that were taken determine which segments are received with a book, and with which numbers: there is exactly one answer for
 -- each stream.
-pub record ReceivedIsTold : Type 0 where
-  pub one : (book : Book) (apid : ℕ) (taken : List ℕ) (a b : Numbers) → ReceivedIn (holds_after book) apid taken a → ReceivedIn (holds_after book) apid taken b → (index : ℕ) → a index ≡ b index
+pub record ReceivedIsKnown : Type 0 where
+  pub one : (book : Book) (apid : ℕ) (taken : List ℕ) (a b : Numbers) → ReceivedIn (holds_after book) apid taken a →
+      ReceivedIn (holds_after book) apid taken b → (index : ℕ) → a index ≡ b index
   pub some : (book : Book) (apid : ℕ) (taken : List ℕ) → (received : Numbers) × ReceivedIn (holds_after book) apid taken received

@@ -1,11 +1,12 @@
 -- The progress of a walk since it began: what it took, what it knows of the segments, and which blocks it has passed. This project's own.
-use Rattle.std.specs.Prelude.{◌≡◌, ◌≤◌, ◌<◌, ◌+◌, ◌*◌, ◌/◌, ◌==◌, ℕ, ℤ, Bool, if◌then◌else◌, List, [], ◌∷◌, ◌++◌, length, take, drop, Option, None, Some, Result, Ok, Err, true, false, MatchOption, MatchResult}
+use Rattle.std.specs.Prelude.{◌≡◌, ◌≤◌, ◌<◌, ◌+◌, ◌*◌, ◌/◌, ◌==◌, ℕ, ℤ, Bool, if◌then◌else◌, List, [], ◌∷◌, ◌++◌, length, take, drop, Option, None, Some}
+use Rattle.std.specs.Prelude.{Result, Ok, Err, true, false, MatchOption, MatchResult}
 use Rattle.port_122.specs.Outside.{Outside, Exchange}
 use Rattle.base_122.specs.Sizes.{first_block, segment_blocks}
 use Rattle.base_122.specs.declared.geometry.Geometry.{Geometry}
 use Rattle.base_122.specs.declared.book.Book.{Book}
 use Rattle.segment_defs.specs.Head.{head_length}
-use Rattle.text_defs.specs.TextOutcome.{text_outcome}
+use Rattle.segment_defs.specs.TextOutcome.{text_outcome}
 use Rattle.packet_defs.specs.Streams.{whole_packets, left_over, has_bad_version}
 use Rattle.stream_defs.specs.declared.fate.LastPart.{LastPart}
 use Rattle.stream_defs.specs.declared.fate.FateState.{FateState}
@@ -14,11 +15,11 @@ use Rattle.stream_defs.specs.Begun.{HasFewPixels, end_of, placed, rows_reached}
 use Rattle.stream_defs.specs.Fates.{fresh, after_all, kept, kept_in, state_after, geometry_in}
 use Rattle.stream_defs.specs.Received.{Acceptance, IsReceived, ReceivedIn}
 use Rattle.stream_defs.specs.Settled.{blocks_through}
-use Rattle.packet_assembly.specs.Segments.{StandsEnded}
+use Rattle.packet_assembly.specs.Segments.{IsValidEnded}
 use Rattle.packet_assembly.specs.declared.note.SegmentStart.{SegmentStart}
-use Rattle.packet_assembly.specs.Comings.{coming}
+use Rattle.packet_assembly.specs.Arriving.{arriving}
 use Rattle.packet_assembly.specs.Assembling.{Assembling, Starts, last_index, text_after}
-use Rattle.packet_assembly.specs.Readings.{HasRead, SawEnd}
+use Rattle.packet_assembly.specs.Readings.{HasRead, SawEnd, AsksReadable}
 use Rattle.segment_walk.specs.declared.ending.DecodeFault.{DecodeFault}
 use Rattle.segment_walk.specs.declared.ending.DecodeFault.TheVariants.{WriteFault, TooManyPixels, LongInput}
 use Rattle.segment_walk.specs.Sinks as sinks
@@ -54,7 +55,8 @@ blocks_passed g ended = if g.rows == 0 then ended else blocks_of g
 pub record PassedBy {S : Type 0} (k : SinkOf S) (book : Book) (apid : ℕ) (taken given : List ℕ) : Type 0 where
   pub none : geometry_in apid taken ≡ None → given ≡ []
   pub some : (g : Geometry) (received : Numbers) → geometry_in apid taken ≡ Some g → ReceivedIn (holds_after book) apid taken received →
-      (n : ℕ) × (n ≤ blocks_passed g (end_of (kept_in apid taken))) × (settled_blocks (state_after apid taken) received ≤ n) × k.Given (placed g) (blocks_with g received) n given
+      (n : ℕ) × (n ≤ blocks_passed g (end_of (kept_in apid taken))) × (settled_blocks (state_after apid taken) received ≤ n)
+      × k.Given (placed g) (blocks_with g received) n given
 
 -- a part of what the sink gives of the segments that are received in these octets; nothing without a geometry
 pub record PartBy {S : Type 0} (k : SinkOf S) (book : Book) (apid : ℕ) (taken given : List ℕ) : Type 0 where
@@ -81,11 +83,12 @@ pub record Run : Type 0 where
 
 -- the kept heads of these packets report at most this number of pixels
 abbrev pub HasFew : (pixels apid : ℕ) → (packets : List (List ℕ)) → Type 0
-HasFew pixels apid packets = (g : Geometry) → (after_all apid fresh packets).geometry ≡ Some g → g.width * rows_reached g (end_of (kept apid fresh packets)) ≤ pixels
+HasFew pixels apid packets = (g : Geometry) → (after_all apid fresh packets).geometry ≡ Some g →
+    g.width * rows_reached g (end_of (kept apid fresh packets)) ≤ pixels
 
 -- the same for the octets that were taken, if the height is reported from the first head on
 abbrev pub HasFewKnown : (pixels apid : ℕ) → List ℕ → Type 0
-HasFewKnown pixels apid taken = (state_after apid taken).told_last ≡ false → HasFewPixels pixels apid taken
+HasFewKnown pixels apid taken = (state_after apid taken).reported_last ≡ false → HasFewPixels pixels apid taken
 
 -- A packet among the octets that were taken is kept whose head is the first to report too many pixels: this number.
 pub record ReportsMany (most apid pixels : ℕ) (taken : List ℕ) : Type 0 where
@@ -100,18 +103,23 @@ pub record ReportsMany (most apid pixels : ℕ) (taken : List ℕ) : Type 0 wher
   pub many : most < pixels
 
 -- the head reports no height, or reports it last
-abbrev pub tells_last : {most apid pixels : ℕ} {taken : List ℕ} → ReportsMany most apid pixels taken → Bool
-tells_last {apid = apid} many = (after_all apid fresh (many.before ++ many.packet ∷ [])).told_last
+abbrev pub reports_last : {most apid pixels : ℕ} {taken : List ℕ} → ReportsMany most apid pixels taken → Bool
+reports_last {apid = apid} many = (after_all apid fresh (many.before ++ many.packet ∷ [])).reported_last
 
--- A read call with i octets taken and j given, if the port reports what is left. If the octets report an image of too many pixels, no more
--- is read.
+-- A read call with i of these octets taken: they decide no answer. They can be read on, are fewer than the cap allows, and their kept heads
+-- report at most this number of pixels.
+abbrev pub AsksUnanswered : (apid cap pixels : ℕ) → List ℕ → ℕ → ℕ → Type 0
+AsksUnanswered apid cap pixels took i j = AsksReadable cap took i j × HasFewPixels pixels apid (take i took)
+
+-- A read call with i octets taken and j given, if the port reports what is left.
 abbrev pub AsksPassed : {S : Type 0} → SinkOf S → Run → (took gave : List ℕ) → ℕ → ℕ → Type 0
 AsksPassed k w took gave i j =
-    (j ≤ length gave) × HasFewPixels w.pixels w.apid (take i took) × ((all : List ℕ) → w.start.rest ≡ Some all → PassedBy k w.book w.apid (take i took) (take j gave))
+    (j ≤ length gave) × AsksUnanswered w.apid w.cap w.pixels took i j × ((all : List ℕ) → w.start.rest ≡ Some all →
+    PassedBy k w.book w.apid (take i took) (take j gave))
 
 -- the whole packets that are left, if these octets are left
 abbrev pub future : Assembling → List ℕ → List (List ℕ)
-future a rest = whole_packets (coming a.intake rest)
+future a rest = whole_packets (arriving a.intake rest)
 
 -- The segments before a bound: each is received with these numbers, or it isn't, however many of the next packets follow.
 pub record Knows (book : Book) (apid : ℕ) (passed later : List (List ℕ)) (bound : ℕ) (sofar : Numbers) : Type 0 where
@@ -169,10 +177,10 @@ pub record IsNextBegun (w : Run) (passed : List (List ℕ)) (text : List ℕ) (s
 
 -- it is at a segment, all segments before it are known, and no head before reported too many pixels
 pub record WalksTo {S : Type 0} (k : SinkOf S) (w : Run) (now : Outside) (a : Assembling) (p : Walking S) (start : SegmentStart) : Type 0 where
-  pub come : HasWalkedTo k w now a p start.ancillary.index
-  pub begun : IsBegun w.apid come.known.passed a.text start start.ancillary.index
+  pub arrived : HasWalkedTo k w now a p start.ancillary.index
+  pub begun : IsBegun w.apid arrived.known.passed a.text start start.ancillary.index
   pub few : HasFew w.pixels w.apid begun.before
-  pub lost : (block : ℕ) → passed_in p ≤ block → block < start.ancillary.first → come.known.sofar (block / p.geometry.segment) ≡ None
+  pub lost : (block : ℕ) → passed_in p ≤ block → block < start.ancillary.first → arrived.known.sofar (block / p.geometry.segment) ≡ None
 
 -- and another segment was begun before
 pub record WalksAfter {S : Type 0} (k : SinkOf S) (w : Run) (now : Outside) (a : Assembling) (p : Walking S) (start : SegmentStart) : Type 0 where
@@ -183,15 +191,15 @@ pub record WalksAfter {S : Type 0} (k : SinkOf S) (w : Run) (now : Outside) (a :
 -- nor did its own head
 pub record WalksIn {S : Type 0} (k : SinkOf S) (w : Run) (now : Outside) (a : Assembling) (p : Walking S) (start : SegmentStart) : Type 0 where
   pub to : WalksTo k w now a p start
-  pub small : HasFew w.pixels w.apid to.come.known.passed
+  pub small : HasFew w.pixels w.apid to.arrived.known.passed
 
 -- it has passed a segment, which is the last one unless the next was begun
 pub record WalksPast {S : Type 0} (k : SinkOf S) (w : Run) (now : Outside) (a : Assembling) (p : Walking S) : Type 0 where
   pub index : ℕ
-  pub come : HasWalkedTo k w now a p (index + 1)
-  pub small : HasFew w.pixels w.apid come.known.passed
+  pub arrived : HasWalkedTo k w now a p (index + 1)
+  pub small : HasFew w.pixels w.apid arrived.known.passed
   pub last : a.held ≡ None → last_index a.state.last ≡ Some index
-  pub begun : (start : SegmentStart) → a.held ≡ Some start → IsNextBegun w come.known.passed a.text start (index + 1)
+  pub begun : (start : SegmentStart) → a.held ≡ Some start → IsNextBegun w arrived.known.passed a.text start (index + 1)
   pub reached : first_block p.geometry.segment index + segment_blocks (total_in p) p.geometry.segment index ≤ passed_in p
 
 -- A fault ended it: what it took, which is no more than the cap lets, and gave.
@@ -219,7 +227,7 @@ pub record HasLong {S : Type 0} (k : SinkOf S) (w : Run) (now : Outside) : Type 
 pub record HasMany {S : Type 0} (k : SinkOf S) (w : Run) (now : Outside) (pixels : ℕ) : Type 0 where
   pub broken : HasBroken k w now
   pub many : ReportsMany w.pixels w.apid pixels broken.took
-  pub told_last : tells_last many ≡ true
+  pub reported_last : reports_last many ≡ true
 
 abbrev pub BreaksRun : {S : Type 0} → SinkOf S → Run → Outside → DecodeFault → Type 0
 BreaksRun k w now WriteFault = HasFailedWrite k w now
@@ -237,18 +245,18 @@ RunsSegment k w now a p (Ok done) = WalksPast k w now a p
 RunsSegment k w now a p (Err fault) = BreaksRun k w now fault
 
 -- it is at the end of the packets
-pub record ComesToEnd {S : Type 0} (k : SinkOf S) (w : Run) (now : Outside) (a : Assembling) (p : Walking S) : Type 0 where
+pub record ArrivesToEnd {S : Type 0} (k : SinkOf S) (w : Run) (now : Outside) (a : Assembling) (p : Walking S) : Type 0 where
   pub index : ℕ
-  pub come : HasWalkedTo k w now a p (index + 1)
-  pub small : HasFew w.pixels w.apid come.known.passed
+  pub arrived : HasWalkedTo k w now a p (index + 1)
+  pub small : HasFew w.pixels w.apid arrived.known.passed
   pub last : last_index a.state.last ≡ Some index
   pub image : Geometry
   pub has : HasImage a image
   pub goes_by : p.geometry ≡ placed image
-  pub ended : StandsEnded a
+  pub ended : IsValidEnded a
   pub reached : first_block p.geometry.segment index + segment_blocks (total_in p) p.geometry.segment index ≤ passed_in p
 
 -- it advances to the end, or a fault ends it
 abbrev pub RunsAll : {S : Type 0} → SinkOf S → Run → Outside → Assembling → Walking S → Result (Unit {0}) DecodeFault → Type 0
-RunsAll k w now a p (Ok done) = ComesToEnd k w now a p
+RunsAll k w now a p (Ok done) = ArrivesToEnd k w now a p
 RunsAll k w now a p (Err fault) = BreaksRun k w now fault

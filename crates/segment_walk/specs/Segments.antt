@@ -1,5 +1,6 @@
 -- The effect of the steps from segment to segment. This project's own.
-use Rattle.std.specs.Prelude.{◌≡◌, ◌≤◌, ◌<◌, ◌+◌, ◌-◌, ◌*◌, ℕ, ℤ, List, [], take, min, Bool, true, false, Option, None, Some, Result, Ok, Err, IsOk, IsErr, MatchOption, MatchResult}
+use Rattle.std.specs.Prelude.{◌≡◌, ◌≤◌, ◌<◌, ◌+◌, ◌-◌, ◌*◌, ℕ, ℤ, List, [], take, min, Bool, true, false, Option, None, Some, Result, Ok, Err, IsOk, IsErr}
+use Rattle.std.specs.Prelude.{MatchOption, MatchResult}
 use Rattle.port_122.specs.Outside.{Outside, Rose, NoFewerFaults}
 use Rattle.base_122.specs.Sizes.{first_block}
 use Rattle.base_122.specs.Ranges.{IsGeometryInRange}
@@ -10,7 +11,7 @@ use Rattle.bit_pipe.specs.declared.fault.InFault.TheVariants as in_faults
 use Rattle.bit_pipe.specs.Sources.{Plainly}
 use Rattle.segment_defs.specs.declared.head.SegmentHead.{SegmentHead}
 use Rattle.segment_defs.specs.Head.{IsHead}
-use Rattle.text_defs.specs.TextOutcome.{text_outcome}
+use Rattle.segment_defs.specs.TextOutcome.{text_outcome}
 use Rattle.packet_assembly.specs.declared.note.SegmentStart.{SegmentStart}
 use Rattle.packet_assembly.specs.Assembling.{Assembling, last_index, is_closed}
 use Rattle.packet_assembly.specs.Segments as assembling
@@ -121,7 +122,7 @@ pub record HasEnded (old new : Outside) (a b : Assembling) : Type 0 where
 
 pub record HasNotEnded (old new : Outside) (a b : Assembling) : Type 0 where
   pub goes : assembling.Continues old new a b
-  pub told : (rest : List ℕ) → old.rest ≡ Some rest → (text_tail a rest).octets ≡ [] → (text_tail a rest).ends ≡ Plainly → ⊥
+  pub if_known : (rest : List ℕ) → old.rest ≡ Some rest → (text_tail a rest).octets ≡ [] → (text_tail a rest).ends ≡ Plainly → ⊥
 
 pub record HasFailed (old new : Outside) (a b : Assembling) : Type 0 where
   pub goes : assembling.Continues old new a b
@@ -144,12 +145,13 @@ pub record Accepts (book : Book) (old new : Outside) (a b : Assembling) (head : 
   pub closed : is_closed b.state.last ≡ true
   pub some : List ℕ
   pub holds : text_outcome book head some ≡ Ok (blocks_in (cells_of head cells))
-  pub told : (rest : List ℕ) → old.rest ≡ Some rest → ((text_tail a rest).ends ≡ Plainly) × (text_outcome book head (text_tail a rest).octets ≡ Ok (blocks_in (cells_of head cells)))
+  pub if_known : (rest : List ℕ) → old.rest ≡ Some rest →
+      ((text_tail a rest).ends ≡ Plainly) × (text_outcome book head (text_tail a rest).octets ≡ Ok (blocks_in (cells_of head cells)))
 
 -- It breaks off, or it is refused.
 pub record Refuses (book : Book) (old new : Outside) (a b : Assembling) (head : SegmentHead) : Type 0 where
   pub goes : assembling.Continues old new a b
-  pub told : (rest : List ℕ) → old.rest ≡ Some rest → (text_tail a rest).ends ≡ Plainly → IsErr (text_outcome book head (text_tail a rest).octets)
+  pub if_known : (rest : List ℕ) → old.rest ≡ Some rest → (text_tail a rest).ends ≡ Plainly → IsErr (text_outcome book head (text_tail a rest).octets)
 
 abbrev pub ReadsText : Book → (old new : Outside) (a b : Assembling) (head : SegmentHead) (cells : List ℤ) → Result Bool DecodeFault → Type 0
 ReadsText book old new a b head cells (Ok true) = Accepts book old new a b head cells
@@ -169,7 +171,7 @@ pub record IsShorter (old new : Geometry) : Type 0 where
 
 -- a segment was taken
 pub record HasTaken {S : Type 0} (k : SinkOf S) (p q : Outside) (a b : Assembling) (old new : Walking S) : Type 0 where
-  pub standing : IsCurrent k new
+  pub current : IsCurrent k new
   pub geometry : IsShorter old.geometry new.geometry
   pub between : IsBetween b new
   pub more : passed_in old < passed_in new
@@ -184,7 +186,7 @@ TakesSegment k p q a b old new (Err other) = ⊥
 
 -- the blocks before a segment were lost
 pub record HasReached {S : Type 0} (k : SinkOf S) (p q : Outside) (a : Assembling) (old new : Walking S) (start : SegmentStart) : Type 0 where
-  pub standing : IsCurrent k new
+  pub current : IsCurrent k new
   pub geometry : new.geometry ≡ old.geometry
   pub at : IsAt a new start
   pub there : passed_in new ≡ start.ancillary.first

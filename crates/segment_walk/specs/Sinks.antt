@@ -1,5 +1,6 @@
 -- The meaning of a sink of blocks, by those that it has taken. This project's own.
-use Rattle.std.specs.Prelude.{◌≡◌, ◌⊎◌, ◌≤◌, ◌<◌, ◌+◌, ◌/◌, ◌%◌, ℕ, ℤ, pos, List, [], ◌++◌, length, Option, None, Some, Result, MatchResult, slice_index_or, unwrap_or}
+use Rattle.std.specs.Prelude.{◌≡◌, ◌⊎◌, ◌≤◌, ◌<◌, ◌+◌, ◌/◌, ◌%◌, ℕ, ℤ, pos, List, [], ◌++◌, length, Option, None, Some, Result, MatchResult, slice_index_or}
+use Rattle.std.specs.Prelude.{unwrap_or}
 use Rattle.std.specs.Option.{option_map}
 use Rattle.port_122.specs.Outside.{Outside, Exchange, NoRead, Rose}
 use Rattle.base_122.specs.Ranges.{IsGeometryInRange, IsWithin, rows_range}
@@ -41,11 +42,11 @@ MayEnd before after n = (after ≡ before) ⊎ EndsAt before after n
 -- taken, whatever the sink's state; if the image ends after more blocks, it is the same. Part: these octets may be given if a
 -- fault ended it while the first n blocks were taken.
 pub record SinkOf (S : Type 0) : Type 1 where
-  pub Stands : S → Geometry → ℕ → Type 0
+  pub IsValid : S → Geometry → ℕ → Type 0
   pub Follows : S → Geometry → Blocks → ℕ → List ℕ → Type 0
   pub Given : Geometry → Blocks → ℕ → List ℕ → Type 0
   pub Part : Geometry → Blocks → ℕ → List ℕ → Type 0
-  pub given_of : (s : S) (g : Geometry) (blocks : Blocks) (n : ℕ) (gave : List ℕ) → Stands s g n → Follows s g blocks n gave → Given g blocks n gave
+  pub given_of : (s : S) (g : Geometry) (blocks : Blocks) (n : ℕ) (gave : List ℕ) → IsValid s g n → Follows s g blocks n gave → Given g blocks n gave
   pub part_of : (g : Geometry) (blocks : Blocks) (n : ℕ) (gave : List ℕ) → Given g blocks n gave → Part g blocks n gave
   pub part_none : (g : Geometry) (blocks : Blocks) → Part g blocks 0 []
   pub given_ended : (g h : Geometry) (blocks : Blocks) (n : ℕ) (gave : List ℕ) → EndsAt g h n → Given g blocks n gave → Given h blocks n gave
@@ -53,7 +54,7 @@ pub record SinkOf (S : Type 0) : Type 1 where
 
 -- no block was taken, of whatever image of this geometry
 pub record Begins {S : Type 0} (k : SinkOf S) (g : Geometry) (s : S) : Type 0 where
-  pub stands : k.Stands s g 0
+  pub valid : k.IsValid s g 0
   pub follows : (blocks : Blocks) → k.Follows s g blocks 0 []
 
 -- numbers that a block of this geometry can have
@@ -65,7 +66,7 @@ IsBlock g (Some numbers) = (length numbers ≡ 64) × AreWeighted numbers g.weig
 pub record IsNext {S : Type 0} (k : SinkOf S) (block : Option (List ℤ)) (s : S) : Type 0 where
   pub geometry : Geometry
   pub place : ℕ
-  pub stands : k.Stands s geometry place
+  pub valid : k.IsValid s geometry place
   pub within : place < blocks_of geometry
   pub fits : IsBlock geometry block
 
@@ -73,7 +74,7 @@ pub record IsNext {S : Type 0} (k : SinkOf S) (block : Option (List ℤ)) (s : S
 pub record Takes {S : Type 0} (k : SinkOf S) (g : Geometry) (n : ℕ) (block : Option (List ℤ)) (p q : Outside) (old new : S) : Type 0 where
   pub gave : List ℕ
   pub out : Exchange p q [] gave [] NoRead
-  pub stands : k.Stands new g (n + 1)
+  pub valid : k.IsValid new g (n + 1)
   pub follows : (blocks : Blocks) (before : List ℕ) → k.Follows old g blocks n before → blocks n ≡ block → k.Follows new g blocks (n + 1) (before ++ gave)
 
 -- a write failed meanwhile
@@ -85,7 +86,8 @@ pub record Fails {S : Type 0} (k : SinkOf S) (g : Geometry) (n : ℕ) (block : O
 
 -- the call for a block, whatever the state of the sink
 abbrev pub TakesBlock : {S T E : Type 0} → SinkOf S → Result T E → Option (List ℤ) → (p q : Outside) (old new : S) → Type 0
-TakesBlock k result block p q old new = (g : Geometry) (n : ℕ) → k.Stands old g n → n < blocks_of g → MatchResult result (λ _. Takes k g n block p q old new) (λ _. Fails k g n block p q old)
+TakesBlock k result block p q old new = (g : Geometry) (n : ℕ) → k.IsValid old g n → n < blocks_of g →
+    MatchResult result (λ _. Takes k g n block p q old new) (λ _. Fails k g n block p q old)
 
 -- ---- the height
 
@@ -93,13 +95,13 @@ TakesBlock k result block p q old new = (g : Geometry) (n : ℕ) → k.Stands ol
 pub record IsEndable {S : Type 0} (k : SinkOf S) (h : Geometry) (s : S) : Type 0 where
   pub geometry : Geometry
   pub place : ℕ
-  pub stands : k.Stands s geometry place
+  pub valid : k.IsValid s geometry place
   pub ends : EndsAt geometry h place
 
 -- the image has this geometry from now on
 pub record Ends {S : Type 0} (k : SinkOf S) (g h : Geometry) (n : ℕ) (old new : S) : Type 0 where
-  pub stands : k.Stands new h n
+  pub valid : k.IsValid new h n
   pub follows : (blocks : Blocks) (gave : List ℕ) → k.Follows old g blocks n gave → k.Follows new h blocks n gave
 
 abbrev pub EndsImage : {S : Type 0} → SinkOf S → (h : Geometry) (old new : S) → Type 0
-EndsImage k h old new = (g : Geometry) (n : ℕ) → k.Stands old g n → EndsAt g h n → Ends k g h n old new
+EndsImage k h old new = (g : Geometry) (n : ℕ) → k.IsValid old g n → EndsAt g h n → Ends k g h n old new

@@ -1,5 +1,6 @@
 -- The effect of the steps of a walk. This project's own.
-use Rattle.std.specs.Prelude.{◌≡◌, ◌≤◌, ◌<◌, ◌+◌, ◌*◌, ◌/◌, ◌==◌, ◌&&◌, ℕ, ℤ, List, [], ◌++◌, Bool, not, is_some, Option, None, Some, Result, MatchResult, filter}
+use Rattle.std.specs.Prelude.{◌≡◌, ◌≤◌, ◌<◌, ◌+◌, ◌*◌, ◌/◌, ◌==◌, ◌&&◌, ℕ, ℤ, List, [], ◌++◌, Bool, not, is_some, Option, None, Some, Result, MatchResult}
+use Rattle.std.specs.Prelude.{filter}
 use Rattle.std.specs.List.{list_any, range_with_len}
 use Rattle.port_122.specs.Outside.{Outside, Exchange, NoRead, Rose}
 use Rattle.base_122.specs.Sizes.{block_count}
@@ -40,7 +41,7 @@ pub record IsCurrent {S : Type 0} (k : SinkOf S) (p : Walking S) : Type 0 where
   pub column : p.at.column < block_count p.geometry.width
   pub few : passed_in p ≤ total_in p
   pub damage : p.damage.rows ≡ p.geometry.rows
-  pub stands : k.Stands p.sink p.geometry (passed_in p)
+  pub valid : k.IsValid p.sink p.geometry (passed_in p)
 
 -- no block was passed yet
 pub record IsFresh {S : Type 0} (k : SinkOf S) (g : Geometry) (p : Walking S) : Type 0 where
@@ -86,7 +87,7 @@ held cells i = Some (block_at cells i)
 
 -- the next n blocks were passed, which are such
 pub record HasPassed {S : Type 0} (k : SinkOf S) (values : ℕ → Option (List ℤ)) (n : ℕ) (p q : Outside) (old new : Walking S) : Type 0 where
-  pub standing : IsCurrent k new
+  pub current : IsCurrent k new
   pub geometry : new.geometry ≡ old.geometry
   pub count : passed_in new ≡ passed_in old + n
   pub gave : List ℕ
@@ -98,7 +99,8 @@ pub record StopsEarly {S : Type 0} (k : SinkOf S) (values : ℕ → Option (List
   pub gave : List ℕ
   pub out : Exchange p q [] gave [] NoRead
   pub rose : Rose p.write_faults q.write_faults
-  pub part : (blocks : Blocks) (before : List ℕ) → Follows k old blocks before → AreNext values n old blocks → (m : ℕ) × (m ≤ passed_in old + n) × k.Part old.geometry blocks m (before ++ gave)
+  pub part : (blocks : Blocks) (before : List ℕ) → Follows k old blocks before → AreNext values n old blocks →
+      (m : ℕ) × (m ≤ passed_in old + n) × k.Part old.geometry blocks m (before ++ gave)
 
 abbrev pub PassesBlocks : {S T E : Type 0} → SinkOf S → Result T E → (ℕ → Option (List ℤ)) → ℕ → (p q : Outside) (old new : Walking S) → Type 0
 PassesBlocks k result values n p q old new = MatchResult result (λ _. HasPassed k values n p q old new) (λ _. StopsEarly k values n p q old)
@@ -117,7 +119,7 @@ pub record HasAdvanced {S : Type 0} (old new : Walking S) : Type 0 where
 
 -- the image has this geometry from now on, and no block was passed
 pub record HasGeometry {S : Type 0} (k : SinkOf S) (g : Geometry) (old new : Walking S) : Type 0 where
-  pub standing : IsCurrent k new
+  pub current : IsCurrent k new
   pub geometry : new.geometry ≡ g
   pub count : passed_in new ≡ passed_in old
   pub follows : (blocks : Blocks) (gave : List ℕ) → Follows k old blocks gave → Follows k new blocks gave

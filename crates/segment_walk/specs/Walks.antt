@@ -12,7 +12,7 @@ use Rattle.stream_defs.specs.Received.{ReceivedIn}
 use Rattle.stream_defs.specs.Damage.{damage, ranges, whole_missing}
 use Rattle.stream_defs.specs.Marks.{Marks, ended_at}
 use Rattle.packet_assembly.specs.Assembling.{Assembling}
-use Rattle.packet_assembly.specs.Segments.{StandsEnded, StandsLong}
+use Rattle.packet_assembly.specs.Segments.{IsValidEnded, IsValidLong}
 use Rattle.packet_assembly.specs.Readings.{IsReadOut}
 use Rattle.segment_walk.specs.declared.engine.Walked.{Walked}
 use Rattle.segment_walk.specs.declared.ending.DecodeFault.{DecodeFault}
@@ -20,7 +20,7 @@ use Rattle.segment_walk.specs.declared.ending.DecodeFault.TheVariants.{ReadFault
 use Rattle.segment_walk.specs.Sinks.{SinkOf, Numbers, blocks_with}
 use Rattle.segment_walk.specs.Steps.{Walking, IsCurrent, Follows, passed_in, total_in}
 use Rattle.segment_walk.specs.Segments.{HasImage}
-use Rattle.segment_walk.specs.Runs.{holds_after, blocks_passed, HasFewKnown, ReportsMany, tells_last, AsksPassed, PartBy, IsPartOfSome, Run, BreaksRun}
+use Rattle.segment_walk.specs.Runs.{holds_after, blocks_passed, HasFewKnown, ReportsMany, reports_last, AsksPassed, PartBy, IsPartOfSome, Run, BreaksRun}
 
 -- ---- the steps
 
@@ -34,18 +34,18 @@ left_in known p = if known then total_in p - passed_in p else 0
 
 -- all segments were taken
 pub record TookAll {S : Type 0} (k : SinkOf S) (old new : Outside) (a b : Assembling) (p q : Walking S) : Type 0 where
-  pub standing : IsCurrent k q
+  pub current : IsCurrent k q
   pub image : Geometry
   pub has : HasImage b image
   pub goes_by : q.geometry ≡ placed image
-  pub ended : StandsEnded b
+  pub ended : IsValidEnded b
   pub faults : NoFewerFaults old new
 
 abbrev pub TakesAll : {S : Type 0} → SinkOf S → (old new : Outside) (a b : Assembling) (p q : Walking S) → Result (Unit {0}) DecodeFault → Type 0
 TakesAll k old new a b p q (Ok done) = TookAll k old new a b p q
 TakesAll k old new a b p q (Err ReadFault) = Rose old.read_faults new.read_faults
 TakesAll k old new a b p q (Err WriteFault) = Rose old.write_faults new.write_faults
-TakesAll k old new a b p q (Err LongInput) = StandsLong b
+TakesAll k old new a b p q (Err LongInput) = IsValidLong b
 TakesAll k old new a b p q (Err (TooManyPixels pixels)) = Unit {0}
 TakesAll k old new a b p q (Err other) = ⊥
 
@@ -74,10 +74,11 @@ pub record HasPassedAll {S : Type 0} (k : SinkOf S) (w : Run) (now : Outside) (i
   pub placed_is : p.geometry ≡ placed image
   pub framing_is : found ≡ framing took
   pub out : IsReadOut w.cap now took
-  pub standing : IsCurrent k p
+  pub current : IsCurrent k p
   pub all : passed_in p ≡ blocks_passed image (end_of (kept_in w.apid took))
   pub for_some : IsPartOfSome k gave
-  pub told : (every : List ℕ) → w.start.rest ≡ Some every → (received : Numbers) × ReceivedIn (holds_after w.book) w.apid took received × Follows k p (blocks_with image received) gave
+  pub if_known : (every : List ℕ) → w.start.rest ≡ Some every → (received : Numbers) × ReceivedIn (holds_after w.book) w.apid took received
+      × Follows k p (blocks_with image received) gave
 
 abbrev pub RunsWalk : {S : Type 0} → SinkOf S → Run → Outside → Assembling → Walking S → Result (Unit {0}) DecodeFault → Type 0
 RunsWalk k w now a p (Ok done) = (image : Geometry) → a.state.geometry ≡ Some image → HasPassedAll k w now image p a.framing
@@ -102,9 +103,10 @@ pub record IsWalked {S : Type 0} (k : SinkOf S) (wish : DecodeWish) (start new :
   pub out : IsReadOut wish.octets new took
   pub written : walked.done.written ≡ height walked.done.geometry (begun_in wish.apid took)
   pub rows : walked.done.damage.rows ≡ walked.done.written
-  pub stands : k.Stands walked.sink (placed walked.done.geometry) (blocks_passed walked.done.geometry (end_of (kept_in wish.apid took)))
-  pub told : (all : List ℕ) → start.rest ≡ Some all → (received : Numbers) × ReceivedIn (holds_after wish.book) wish.apid took received
-      × k.Follows walked.sink (placed walked.done.geometry) (blocks_with walked.done.geometry received) (blocks_passed walked.done.geometry (end_of (kept_in wish.apid took))) gave
+  pub valid : k.IsValid walked.sink (placed walked.done.geometry) (blocks_passed walked.done.geometry (end_of (kept_in wish.apid took)))
+  pub if_known : (all : List ℕ) → start.rest ≡ Some all → (received : Numbers) × ReceivedIn (holds_after wish.book) wish.apid took received
+      × k.Follows walked.sink (placed walked.done.geometry) (blocks_with walked.done.geometry received)
+      (blocks_passed walked.done.geometry (end_of (kept_in wish.apid took))) gave
       × IsDamageOf walked.done.geometry received (begun_in wish.apid took) walked.done.damage
 
 -- a part of what the sink gives for the octets that were taken, if the port reports what is left
@@ -115,16 +117,18 @@ GivesPart k wish start took gave = (all : List ℕ) → start.rest ≡ Some all 
 -- is given.
 pub record HasTooMany (wish : DecodeWish) (took gave : List ℕ) (pixels : ℕ) : Type 0 where
   pub many : ReportsMany wish.pixels wish.apid pixels took
-  pub nothing : tells_last many ≡ false → gave ≡ []
+  pub nothing : reports_last many ≡ false → gave ≡ []
 
 -- Why the walk ended so. The answers exclude each other by what was taken, the end and the counts, except for faults of the port.
 abbrev pub WalkAnswers : {S : Type 0} → SinkOf S → DecodeWish → (old new : Outside) (took gave : List ℕ) → Result (Walked S) DecodeFault → Type 0
 WalkAnswers k wish old new took gave (Ok walked) = IsWalked k wish old new took gave walked
 WalkAnswers k wish old new took gave (Err NoSegment) = (geometry_in wish.apid took ≡ None) × IsReadOut wish.octets new took × (gave ≡ [])
 WalkAnswers k wish old new took gave (Err (TooManyPixels pixels)) = HasTooMany wish took gave pixels × GivesPart k wish old took gave
-WalkAnswers k wish old new took gave (Err LongInput) = (length took ≡ wish.octets) × (has_bad_version (left_over took) ≡ false) × HasFewPixels wish.pixels wish.apid took × GivesPart k wish old took gave
+WalkAnswers k wish old new took gave (Err LongInput) = (length took ≡ wish.octets) × (has_bad_version (left_over took) ≡ false)
+    × HasFewPixels wish.pixels wish.apid took × GivesPart k wish old took gave
 WalkAnswers k wish old new took gave (Err ReadFault) = Rose old.read_faults new.read_faults × GivesPart k wish old took gave
-WalkAnswers k wish old new took gave (Err WriteFault) = Rose old.write_faults new.write_faults × HasFewKnown wish.pixels wish.apid took × GivesPart k wish old took gave
+WalkAnswers k wish old new took gave (Err WriteFault) = Rose old.write_faults new.write_faults × HasFewKnown wish.pixels wish.apid took
+    × GivesPart k wish old took gave
 WalkAnswers k wish old new took gave (Err Memory) = gave ≡ []
 
 -- the run that a wish asks for, if it begins here
@@ -132,8 +136,8 @@ abbrev pub run_of : DecodeWish → Outside → Run
 run_of wish start = record { apid = wish.apid; cap = wish.octets; pixels = wish.pixels; book = wish.book; start = start }
 
 -- One run over a port: what it took and gave, when, and why it ended so. However it ends, it takes at most the number of octets in the
--- wish. At each read call the sink has taken at least the blocks that are settled by the octets that were taken by then. Whatever the port
--- reports, what is given is nothing, or a part of what the sink gives of some blocks.
+-- wish. At each read call the octets that were taken by then decide no answer, and the sink has taken at least the blocks that they settle.
+-- Whatever the port reports, what is given is nothing, or a part of what the sink gives of some blocks.
 pub record Walks {S : Type 0} (k : SinkOf S) (wish : DecodeWish) (old new : Outside) (result : Result (Walked S) DecodeFault) : Type 0 where
   pub took : List ℕ
   pub gave : List ℕ

@@ -25,7 +25,7 @@ fn advance<S: BlockSink>(walk: &mut Walk<S>)
 
 // Passes the next block as missing, and marks its block row as missing.
 fn put_missing<S: BlockSink, X: Port>(walk: &mut Walk<S>, port: &mut X) -> Result<(), Failed>
-    requires standing { IsCurrent S.sink (walking walk.old) }
+    requires current { IsCurrent S.sink (walking walk.old) }
     requires room { HasRoom 1 (walking walk.old) }
     ensures { PassesBlocks S.sink result missing 1 (X.outside port.old) (X.outside port.new) (walking walk.old) (walking walk.new) }
 {
@@ -41,7 +41,7 @@ pub fn put_missing_blocks<S: BlockSink, X: Port>(
     port: &mut X,
     count: u64,
 ) -> Result<(), Failed>
-    requires standing { IsCurrent S.sink (walking walk.old) }
+    requires current { IsCurrent S.sink (walking walk.old) }
     requires room { HasRoom count (walking walk.old) }
     ensures { PassesBlocks S.sink result missing count (X.outside port.old) (X.outside port.new) (walking walk.old) (walking walk.new) }
 {
@@ -57,7 +57,7 @@ fn give_block<S: BlockSink, X: Port>(
     port: &mut X,
     numbers: &[i32],
 ) -> Result<(), Failed>
-    requires standing { IsCurrent S.sink (walking walk.old) }
+    requires current { IsCurrent S.sink (walking walk.old) }
     requires room { HasRoom 1 (walking walk.old) }
     requires fits { IsBlock walk.old.geometry (Some numbers.now) }
     ensures { PassesBlocks S.sink result (λ _. Some numbers.now) 1 (X.outside port.old) (X.outside port.new) (walking walk.old) (walking walk.new) }
@@ -74,7 +74,7 @@ pub fn put_blocks<S: BlockSink, X: Port>(
     blocks: &[i32],
     count: usize,
 ) -> Result<(), Failed>
-    requires standing { IsCurrent S.sink (walking walk.old) }
+    requires current { IsCurrent S.sink (walking walk.old) }
     requires room { HasRoom count (walking walk.old) }
     requires whole { 64 * count ≤ length blocks.now }
     requires parts { AreBlocks count walk.old.geometry blocks.now }

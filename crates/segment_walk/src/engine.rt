@@ -86,7 +86,7 @@ fn finish<S: BlockSink + Drop>(
     geometry: &Geometry,
     framing: Option<Framing>,
 ) -> Walked<S>
-    requires standing { IsCurrent S.sink (walking walk) }
+    requires current { IsCurrent S.sink (walking walk) }
     requires range { IsGeometryInRange geometry.now }
     ensures { result ≡ walked_of geometry.now framing (walking walk) }
 {
@@ -122,13 +122,15 @@ fn pass_all<S: BlockSink, X: Port>(
     room: &mut SegmentRoom,
     first: SegmentStart,
 ) -> Result<(), DecodeFault>
-    requires standing { IsCurrent S.sink (walking walk.old) }
+    requires current { IsCurrent S.sink (walking walk.old) }
     requires at { IsAt assembly.old (walking walk.old) first }
     requires room { IsRoom walk.old.geometry (vec_len room.old.blocks) (vec_len room.old.marks) }
     ensures passes { PassesAll (X.outside port.old) (X.outside port.new) result }
-    ensures standing { IfOk result (λ _. IsCurrent S.sink (walking walk.new)) }
+    ensures current { IfOk result (λ _. IsCurrent S.sink (walking walk.new)) }
     ensures image { IfOk result (λ _. is_some assembly.new.state.geometry ≡ true) }
-    ensures runs { (w : Run) → w.pixels ≡ room.old.pixels → w.book ≡ room.old.reader.tables.words.book → WalksIn S.sink w (X.outside port.old) assembly.old (walking walk.old) first → RunsWalk S.sink w (X.outside port.new) assembly.new (walking walk.new) result }
+    ensures runs { (w : Run) → w.pixels ≡ room.old.pixels → w.book ≡ room.old.reader.tables.words.book →
+        WalksIn S.sink w (X.outside port.old) assembly.old (walking walk.old) first → RunsWalk S.sink w (X.outside port.new) assembly.new (walking walk.new)
+        result }
 {
     match take_segments(walk, port, assembly, room, first) {
         Ok(()) => {}
@@ -158,11 +160,13 @@ fn take_segments<S: BlockSink, X: Port>(
     room: &mut SegmentRoom,
     first: SegmentStart,
 ) -> Result<(), DecodeFault>
-    requires standing { IsCurrent S.sink (walking walk.old) }
+    requires current { IsCurrent S.sink (walking walk.old) }
     requires at { IsAt assembly.old (walking walk.old) first }
     requires room { IsRoom walk.old.geometry (vec_len room.old.blocks) (vec_len room.old.marks) }
     ensures takes { TakesAll S.sink (X.outside port.old) (X.outside port.new) assembly.old assembly.new (walking walk.old) (walking walk.new) result }
-    ensures runs { (w : Run) → w.pixels ≡ room.old.pixels → w.book ≡ room.old.reader.tables.words.book → WalksIn S.sink w (X.outside port.old) assembly.old (walking walk.old) first → RunsAll S.sink w (X.outside port.new) assembly.new (walking walk.new) result }
+    ensures runs { (w : Run) → w.pixels ≡ room.old.pixels → w.book ≡ room.old.reader.tables.words.book →
+        WalksIn S.sink w (X.outside port.old) assembly.old (walking walk.old) first → RunsAll S.sink w (X.outside port.new) assembly.new (walking walk.new)
+        result }
 {
     let mut start = first;
     'segments: loop {
@@ -188,8 +192,9 @@ fn lose_rest<S: BlockSink, X: Port>(
     port: &mut X,
     known: bool,
 ) -> Result<(), Failed>
-    requires standing { IsCurrent S.sink (walking walk.old) }
-    ensures { PassesBlocks S.sink result missing (left_in known (walking walk.old)) (X.outside port.old) (X.outside port.new) (walking walk.old) (walking walk.new) }
+    requires current { IsCurrent S.sink (walking walk.old) }
+    ensures { PassesBlocks S.sink result missing (left_in known (walking walk.old)) (X.outside port.old) (X.outside port.new) (walking walk.old)
+        (walking walk.new) }
 {
     if !known {
         return Ok(());

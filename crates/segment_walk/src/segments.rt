@@ -9,7 +9,8 @@ ghost use Rattle.packet_assembly.specs.Assembling.{Assembling};
 ghost use Rattle.segment_walk.specs.Steps.{walking, IsCurrent, HasRoom, PassesBlocks, AreBlocks};
 ghost use Rattle.segment_walk.specs.Rooms.{IsRoom};
 ghost use Rattle.segment_walk.specs.Runs.{Run, WalksIn, RunsReach, RunsSegment};
-ghost use Rattle.segment_walk.specs.Segments.{FitsImage, FitsNext, IsAt, MayFollow, FollowsHead, MayFollowHeld, FollowsHeld, IsFound, FollowsFound, FindsNext, ReadsText, EndsText, ReachesSegment, TakesSegment, pixels_reached, segment_values};
+ghost use Rattle.segment_walk.specs.Segments.{FitsImage, FitsNext, IsAt, MayFollow, FollowsHead, MayFollowHeld, FollowsHeld, IsFound, FollowsFound};
+ghost use Rattle.segment_walk.specs.Segments.{FindsNext, ReadsText, EndsText, ReachesSegment, TakesSegment, pixels_reached, segment_values};
 
 use crate::blocks::{put_blocks, put_missing_blocks};
 use crate::ending::DecodeFault;
@@ -20,8 +21,8 @@ use bit_pipe::{InFault, OctetIn, Part};
 use packet_assembly::{Assembly, SegmentStart};
 use port_122::{Failed, Port};
 use segment_code::{SegmentFault, SegmentReader, texts_end_so};
+use segment_defs::texts_are_read;
 use segment_head::SegmentHead;
-use text_defs::texts_are_read;
 
 /// Advances to the next segment, or to the end of the stream.
 pub fn find_next<X: Port>(
@@ -81,7 +82,8 @@ fn read_text<X: Port>(
     ensures marks { vec_len room.new.marks ≡ vec_len room.old.marks }
     ensures pixels { room.new.pixels ≡ room.old.pixels }
     ensures reader { room.new.reader ≡ room.old.reader }
-    ensures reads { ReadsText room.old.reader.tables.words.book (X.outside port.old) (X.outside port.new) assembly.old assembly.new head.now room.new.blocks.items result }
+    ensures reads { ReadsText room.old.reader.tables.words.book (X.outside port.old) (X.outside port.new) assembly.old assembly.new head.now
+        room.new.blocks.items result }
 {
     texts_end_so();
     room.clear_blocks(64 * head.blocks as usize);
@@ -124,7 +126,7 @@ fn follow_head<S: BlockSink>(
     start: &SegmentStart,
     most: u64,
 ) -> Result<(), DecodeFault>
-    requires standing { IsCurrent S.sink (walking walk.old) }
+    requires current { IsCurrent S.sink (walking walk.old) }
     requires follows { MayFollow geometry.now (walking walk.old) start.now }
     ensures { FollowsHead S.sink most geometry.now start.now (walking walk.old) (walking walk.new) result }
 {
@@ -143,7 +145,7 @@ pub fn follow_found<S: BlockSink>(
     start: &SegmentStart,
     most: u64,
 ) -> Result<(), DecodeFault>
-    requires standing { IsCurrent S.sink (walking walk.old) }
+    requires current { IsCurrent S.sink (walking walk.old) }
     requires found { IsFound assembly.now (walking walk.old) start.now }
     ensures { FollowsFound S.sink most assembly.now start.now (walking walk.old) (walking walk.new) result }
 {
@@ -159,7 +161,7 @@ fn follow_held<S: BlockSink>(
     assembly: &Assembly,
     most: u64,
 ) -> Result<(), DecodeFault>
-    requires standing { IsCurrent S.sink (walking walk.old) }
+    requires current { IsCurrent S.sink (walking walk.old) }
     requires held { MayFollowHeld assembly.now (walking walk.old) }
     ensures { FollowsHeld S.sink most assembly.now (walking walk.old) (walking walk.new) result }
 {
@@ -180,11 +182,12 @@ fn pass_segment<S: BlockSink, X: Port>(
     count: u32,
     accepted: bool,
 ) -> Result<(), Failed>
-    requires standing { IsCurrent S.sink (walking walk.old) }
+    requires current { IsCurrent S.sink (walking walk.old) }
     requires room { HasRoom count (walking walk.old) }
     requires held { 64 * count ≤ length blocks.now }
     requires parts { accepted ≡ true → AreBlocks count walk.old.geometry blocks.now }
-    ensures { PassesBlocks S.sink result (segment_values accepted blocks.now) count (X.outside port.old) (X.outside port.new) (walking walk.old) (walking walk.new) }
+    ensures { PassesBlocks S.sink result (segment_values accepted blocks.now) count (X.outside port.old) (X.outside port.new) (walking walk.old)
+        (walking walk.new) }
 {
     if accepted {
         return put_blocks(walk, port, blocks, count as usize);
@@ -198,10 +201,12 @@ pub fn reach_segment<S: BlockSink, X: Port>(
     port: &mut X,
     start: &SegmentStart,
 ) -> Result<(), Failed>
-    requires standing { IsCurrent S.sink (walking walk.old) }
+    requires current { IsCurrent S.sink (walking walk.old) }
     requires next { FitsNext (walking walk.old) start.now }
-    ensures reaches { (a : Assembling) → IsAt a (walking walk.old) start.now → ReachesSegment S.sink (X.outside port.old) (X.outside port.new) a (walking walk.old) (walking walk.new) start.now result }
-    ensures runs { (w : Run) (a : Assembling) → IsAt a (walking walk.old) start.now → WalksIn S.sink w (X.outside port.old) a (walking walk.old) start.now → RunsReach S.sink w (X.outside port.new) a (walking walk.new) start.now result }
+    ensures reaches { (a : Assembling) → IsAt a (walking walk.old) start.now → ReachesSegment S.sink (X.outside port.old) (X.outside port.new) a
+        (walking walk.old) (walking walk.new) start.now result }
+    ensures runs { (w : Run) (a : Assembling) → IsAt a (walking walk.old) start.now → WalksIn S.sink w (X.outside port.old) a (walking walk.old) start.now →
+        RunsReach S.sink w (X.outside port.new) a (walking walk.new) start.now result }
 {
     let lost = u64::from(start.ancillary.first) - passed(walk);
     put_missing_blocks(walk, port, lost)
@@ -215,7 +220,7 @@ pub fn take_segment<S: BlockSink, X: Port>(
     room: &mut SegmentRoom,
     start: &SegmentStart,
 ) -> Result<(), DecodeFault>
-    requires standing { IsCurrent S.sink (walking walk.old) }
+    requires current { IsCurrent S.sink (walking walk.old) }
     requires at { IsAt assembly.old (walking walk.old) start.now }
     requires room { IsRoom walk.old.geometry (vec_len room.old.blocks) (vec_len room.old.marks) }
     ensures blocks { vec_len room.new.blocks ≡ vec_len room.old.blocks }
@@ -223,7 +228,9 @@ pub fn take_segment<S: BlockSink, X: Port>(
     ensures pixels { room.new.pixels ≡ room.old.pixels }
     ensures book { room.new.reader.tables.words.book ≡ room.old.reader.tables.words.book }
     ensures takes { TakesSegment S.sink (X.outside port.old) (X.outside port.new) assembly.old assembly.new (walking walk.old) (walking walk.new) result }
-    ensures runs { (w : Run) → w.pixels ≡ room.old.pixels → w.book ≡ room.old.reader.tables.words.book → WalksIn S.sink w (X.outside port.old) assembly.old (walking walk.old) start.now → RunsSegment S.sink w (X.outside port.new) assembly.new (walking walk.new) result }
+    ensures runs { (w : Run) → w.pixels ≡ room.old.pixels → w.book ≡ room.old.reader.tables.words.book →
+        WalksIn S.sink w (X.outside port.old) assembly.old (walking walk.old) start.now → RunsSegment S.sink w (X.outside port.new) assembly.new
+        (walking walk.new) result }
 {
     texts_are_read();
     let Ok(()) = reach_segment(walk, port, start) else {

@@ -66,7 +66,7 @@ pub fn passed<S: BlockSink>(walk: &Walk<S>) -> u64
 
 /// Sets the geometry of the image from now on, if its height became known.
 pub fn end_image<S: BlockSink>(walk: &mut Walk<S>, geometry: &Geometry)
-    requires standing { IsCurrent S.sink (walking walk.old) }
+    requires current { IsCurrent S.sink (walking walk.old) }
     requires ends { MayEnd walk.old.geometry geometry.now (passed_in (walking walk.old)) }
     ensures { HasGeometry S.sink geometry.now (walking walk.old) (walking walk.new) }
 {

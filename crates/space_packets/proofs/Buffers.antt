@@ -1,6 +1,7 @@
 -- The octets that wait in a buffer.
 use Rattle.std.proofs.lemmas.Bool.Decides.{nat_tests}
-use Rattle.std.proofs.Common.{◌≡◌, ◌≤◌, ◌<◌, ◌+◌, ◌*◌, ◌^◌, ℕ, List, [], ◌++◌, length, take, drop, ap, ◌∙◌, arith, length-take, nat_lt, nat_le, Bool, true, false, Result, Ok, is_ok, if◌then◌else◌, ltb-false, ltb-true, leb-true}
+use Rattle.std.proofs.Common.{◌≡◌, ◌≤◌, ◌<◌, ◌+◌, ◌*◌, ◌^◌, ℕ, List, [], ◌++◌, length, take, drop, ap, ◌∙◌, arith, length-take, nat_lt, nat_le, Bool, true}
+use Rattle.std.proofs.Common.{false, Result, Ok, is_ok, if◌then◌else◌, ltb-false, ltb-true, leb-true}
 use Rattle.std.specs.Bool.{OnTrue, OnFalse}
 use Rattle.std.proofs.lemmas.List.{drop_all, drop-append-le}
 use Rattle.space_packets.specs.declared.stage.PacketiserState.{PacketiserState}
@@ -24,7 +25,8 @@ pub given_count : (s : PacketiserState) (size pending : ℕ) → given_in s size
 given_count s size pending few = grind (arith, nat_tests)
 
 -- and further octets are counted
-pub given_more : (s : PacketiserState) (size pending count now : ℕ) → given_in s size pending < 2 ^ 32 → now ≡ pending + count → given_in s size now ≡ given_in s size pending + count
+pub given_more : (s : PacketiserState) (size pending count now : ℕ) → given_in s size pending < 2 ^ 32 → now ≡ pending + count →
+    given_in s size now ≡ given_in s size pending + count
 given_more s size pending count now few e = grind (arith, nat_tests)
 
 pub given_room : (s : PacketiserState) (size pending : ℕ) → given_in s size pending < 2 ^ 32 → room_of s size ≡ size
@@ -51,5 +53,6 @@ pub on_at_most : {P : Type 0} (a b : ℕ) → (a ≤ b → P) → OnTrue (nat_le
 on_at_most a b f = on_true (nat_le a b) (λ e. f (leb-true a b e))
 
 -- a vector that took other items
-pub extended : {T E : Type 0} (r : Result T E) (x : T) (items now other octets : List ℕ) → r ≡ Ok x → now ≡ (if is_ok r then items ++ other else items) → other ≡ octets → now ≡ items ++ octets
+pub extended : {T E : Type 0} (r : Result T E) (x : T) (items now other octets : List ℕ) → r ≡ Ok x → now ≡ (if is_ok r then items ++ other else items) →
+    other ≡ octets → now ≡ items ++ octets
 extended r x items now other octets ok e f = e ∙ ap (λ r. if is_ok r then items ++ other else items) ok ∙ ap (λ o. items ++ o) f

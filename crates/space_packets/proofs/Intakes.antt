@@ -1,5 +1,6 @@
 -- The effect of further octets, and of results, on a reader's state.
-use Rattle.std.proofs.Common.{◌≡◌, ◌≢◌, ◌≤◌, ◌<◌, ◌+◌, ◌-◌, ℕ, List, [], ◌++◌, length, take, drop, refl, sym, ap, subst, ◌∙◌, arith, append_assoc, add-zero, length-append, length-drop, Bool, true, false, ◌||◌, ◌==◌, Some, None, Result, Ok, Err, slice_range}
+use Rattle.std.proofs.Common.{◌≡◌, ◌≢◌, ◌≤◌, ◌<◌, ◌+◌, ◌-◌, ℕ, List, [], ◌++◌, length, take, drop, refl, sym, ap, subst, ◌∙◌, arith, append_assoc, add-zero}
+use Rattle.std.proofs.Common.{length-append, length-drop, Bool, true, false, ◌||◌, ◌==◌, Some, None, Result, Ok, Err, slice_range}
 use Rattle.std.proofs.lemmas.Bool.{false≢true, or_parts}
 use Rattle.std.proofs.lemmas.Bool.Decides.{nat_tests}
 use Rattle.std.proofs.lemmas.List.{append-nil, take-append-le, drop-append-le, drop-take, drop-drop, length-take-le, take-take, take_at, with_items_is}
@@ -34,21 +35,23 @@ fed_both v xs ys saw_end = grind (arith, nat_tests, same_intake, length, length-
 pub waits_more : (xs piece : List ℕ) (start end count k : ℕ) → start ≤ end → end ≤ length xs → count ≤ length piece →
     slice_range (put_mid end k xs piece) start (end + count) ≡ slice_range xs start end ++ take count piece
 waits_more xs piece start end count k order within few =
-    let front = take end xs in
+    let prefix = take end xs in
     let tail = piece ++ post_of end k xs in
-    let size : length front ≡ end = length-take-le end xs within in
+    let size : length prefix ≡ end = length-take-le end xs within in
     let parts : start + (end - start) ≡ end = omega arith in
-    let waits : drop start front ≡ slice_range xs start end = subst (λ n. drop start (take n xs) ≡ slice_range xs start end) parts (drop-take start (end - start) xs) in
-    let long : length (drop start front) ≡ end - start = length-drop start front ∙ ap (λ n. n - start) size in
-    let count_is : end + count - start ≡ length (drop start front) + count = omega (arith, long) in
-    ap (λ n. take n (drop start (front ++ tail))) count_is
-    ∙ ap (take (length (drop start front) + count)) (drop-append-le start front tail (omega (arith, size)))
-    ∙ take-append-add (drop start front) tail count
+    let waits : drop start prefix ≡ slice_range xs start end =
+    subst (λ n. drop start (take n xs) ≡ slice_range xs start end) parts (drop-take start (end - start) xs) in
+    let long : length (drop start prefix) ≡ end - start = length-drop start prefix ∙ ap (λ n. n - start) size in
+    let count_is : end + count - start ≡ length (drop start prefix) + count = omega (arith, long) in
+    ap (λ n. take n (drop start (prefix ++ tail))) count_is
+    ∙ ap (take (length (drop start prefix) + count)) (drop-append-le start prefix tail (omega (arith, size)))
+    ∙ take-append-add (drop start prefix) tail count
     ∙ ap (λ zs. zs ++ take count tail) waits
     ∙ ap (λ zs. slice_range xs start end ++ zs) (take-append-le count piece (post_of end k xs) few)
 
 -- octets that wait after they were moved within a buffer
-pub waits_moved : (v : Vec ℕ) (old moved xs : List ℕ) (start s held : ℕ) → old ≡ v.items → take held (drop s moved) ≡ take held (drop start old) → length moved ≡ length old →
+pub waits_moved : (v : Vec ℕ) (old moved xs : List ℕ) (start s held : ℕ) → old ≡ v.items → take held (drop s moved) ≡ take held (drop start old) →
+    length moved ≡ length old →
     xs ≡ (with_items v moved).items → take held (drop s xs) ≡ take held (drop start v.items)
 waits_moved v old moved xs start s held was same long is = grind (arith, nat_tests, with_items_is)
 
@@ -57,16 +60,19 @@ pub length-waits : (xs : List ℕ) (start end : ℕ) → start ≤ end → end �
 length-waits xs start end order within = length-take-le (end - start) (drop start xs) (omega (arith, length-drop start xs))
 
 -- a piece that was read after those that wait, which begin at s, and whether it was the end
-pub fed_piece : (v : Intake) (now xs piece : List ℕ) (s held count k : ℕ) (ended saw_end : Bool) → now ≡ put_mid (s + held) k xs piece → take held (drop s xs) ≡ v.pending → s + held ≤ length xs → count ≤ length piece →
+pub fed_piece : (v : Intake) (now xs piece : List ℕ) (s held count k : ℕ) (ended saw_end : Bool) → now ≡ put_mid (s + held) k xs piece →
+    take held (drop s xs) ≡ v.pending → s + held ≤ length xs → count ≤ length piece →
     ended ≡ (v.ended || saw_end) →
     record { cap = v.cap; taken = v.taken + count; pending = slice_range now s (s + held + count); text = []; ended = ended } ≡ fed v (take count piece) saw_end
 fed_piece v now xs piece s held count k ended saw_end is waits within few over = grind (arith, nat_tests, slice_range, same_intake, length-take-le, waits_more)
 
-pub fed_nothing : (v : Intake) (now xs piece : List ℕ) (s held k : ℕ) → now ≡ put_mid (s + held) k xs piece → take held (drop s xs) ≡ v.pending → s + held ≤ length xs →
+pub fed_nothing : (v : Intake) (now xs piece : List ℕ) (s held k : ℕ) → now ≡ put_mid (s + held) k xs piece → take held (drop s xs) ≡ v.pending →
+    s + held ≤ length xs →
     record { cap = v.cap; taken = v.taken; pending = slice_range now s (s + held); text = []; ended = v.ended } ≡ fed v [] false
 fed_nothing v now xs piece s held k is waits within =
     let n : s + held - s ≡ held = omega arith in
-    let more : slice_range (put_mid (s + held) k xs piece) s (s + held + 0) ≡ slice_range xs s (s + held) ++ [] = grind (arith, nat_tests, slice_range, waits_more) in
+    let more : slice_range (put_mid (s + held) k xs piece) s (s + held + 0) ≡ slice_range xs s (s + held) ++ [] =
+    grind (arith, nat_tests, slice_range, waits_more) in
     grind (arith, nat_tests, slice_range, add-zero, same_intake, or_false)
   where
     or_false : (b : Bool) → (b || false) ≡ b
@@ -121,7 +127,8 @@ pub passed_mine : (apid : ℕ) (v : Intake) (text : List ℕ) (after : List ℕ)
     after ≡ after_packet v.pending → text ≡ text_in (first_packet v.pending) → record v { pending = after; text = text } ≡ answered apid v
 passed_mine apid v text after whole mine rest is = grind (arith, nat_tests, same_intake, answered_packet)
 
-pub passed_other : (apid : ℕ) (v : Intake) (text after : List ℕ) (skip : Skip) → begins_packet v.pending ≡ true → skip_of apid (first_packet v.pending) ≡ Some skip →
+pub passed_other : (apid : ℕ) (v : Intake) (text after : List ℕ) (skip : Skip) → begins_packet v.pending ≡ true → skip_of apid (first_packet v.pending)
+    ≡ Some skip →
     after ≡ after_packet v.pending → text ≡ [] → record v { pending = after; text = text } ≡ answered apid v
 passed_other apid v text after skip whole other rest is = grind (arith, nat_tests, same_intake, answered_packet)
 
@@ -153,13 +160,14 @@ asks_now {v = v} more s unseen undecided = grind (arith, nat_tests, length, take
 
 -- if nothing is decided, the end wasn't reached
 still_open : {p now : Outside} {v w : Intake} → (s : TakenSoFar p now v w) → w.ended ≡ false → s.saw_end ≡ false
-still_open {v = v} s going = (or_parts v.ended s.saw_end (sym (ap (λ w. w.ended) s.stands) ∙ going)).1
+still_open {v = v} s going = (or_parts v.ended s.saw_end (sym (ap (λ w. w.ended) s.valid) ∙ going)).1
 
-pub taken_more : {p now new : Outside} {v w u : Intake} → TakenSoFar p now v w → is_decided w ≡ false → w.taken < w.cap → w.ended ≡ false → Fed now new w u → TakenSoFar p new v u
+pub taken_more : {p now new : Outside} {v w u : Intake} → TakenSoFar p now v w → is_decided w ≡ false → w.taken < w.cap → w.ended ≡ false →
+    Fed now new w u → TakenSoFar p new v u
 taken_more {p = p} {new = new} {v = v} {w = w} {u = u} s undecided below going f =
     let unseen : s.saw_end ≡ false = still_open s going in
     let more = take f.count f.piece in
-    let before : w ≡ fed v s.took false = rw unseen at s.stands in
+    let before : w ≡ fed v s.took false = rw unseen at s.valid in
     let size : length more ≡ f.count = length-take-le f.count f.piece f.read.within in
     record {
       took = s.took ++ more;
@@ -168,8 +176,16 @@ taken_more {p = p} {new = new} {v = v} {w = w} {u = u} s undecided below going f
       end_seen = λ none. f.read.at_end (is_none f.count none) f.some;
       within = omega (arith, length-append s.took more, size, f.within, ap (λ w. w.taken) before, ap (λ w. w.cap) before);
       at_once = λ decided. absurd (false≢true (sym undecided ∙ ap is_decided (before ∙ ap (λ zs. fed v zs false) (s.at_once decided)) ∙ decided));
-      end_below = λ none. let e = is_none f.count none in omega (arith, length-append s.took more, size, below, e, ap (λ w. w.taken) before, ap (λ w. w.cap) before);
-      stands = f.stands ∙ ap (λ w. fed w more (f.count == 0)) before ∙ fed_both v s.took more (f.count == 0);
+      end_below = λ none. let e = is_none f.count none in omega (
+        arith,
+        length-append s.took more,
+        size,
+        below,
+        e,
+        ap (λ w. w.taken) before,
+        ap (λ w. w.cap) before,
+      );
+      valid = f.valid ∙ ap (λ w. fed w more (f.count == 0)) before ∙ fed_both v s.took more (f.count == 0);
     }
   where
     is_none : (n : ℕ) → (n == 0) ≡ true → n ≡ 0
@@ -180,12 +196,13 @@ pub read_failed : {p now new : Outside} {v w u : Intake} (apid : ℕ) → TakenS
     u ≡ fed w [] false → ReadsPacket apid p new v u (Err ReadFault)
 read_failed {p = p} {new = new} {v = v} {w = w} {u = u} apid s undecided going f e =
     let unseen : s.saw_end ≡ false = still_open s going in
-    let before : w ≡ fed v s.took false = rw unseen at s.stands in
+    let before : w ≡ fed v s.took false = rw unseen at s.valid in
     let again : fed w [] false ≡ fed v s.took false = grind (arith, nat_tests, fed_both, append-nil) in
     record {
       took = s.took;
       saw_end = false;
-      since = subst (λ zs. Exchange p new s.took [] [] (AsksUndecided v zs)) (append-nil s.took) (since_unread (asked_more [] s) f (asks_now [] s unseen undecided));
+      since = subst (λ zs. Exchange p new s.took [] [] (AsksUndecided v zs)) (append-nil s.took)
+          (since_unread (asked_more [] s) f (asks_now [] s unseen undecided));
       end_seen = λ no. absurd (false≢true no);
       within = s.within;
       at_once = s.at_once;
@@ -199,9 +216,11 @@ unfolding verdict
 never_read_fault apid u e = grind (arith, nat_tests)
 
 -- what was decided is returned
-ends_with : (apid : ℕ) (p q : Outside) (u w : Intake) (result : Result PacketRead InFault) → verdict apid u ≡ Some result → w ≡ answered apid u → EndsPacket apid p q u w result
-ends_with apid p q u w result e stands = grind (arith, nat_tests, never_read_fault)
+ends_with : (apid : ℕ) (p q : Outside) (u w : Intake) (result : Result PacketRead InFault) → verdict apid u ≡ Some result → w ≡ answered apid u →
+    EndsPacket apid p q u w result
+ends_with apid p q u w result e valid = grind (arith, nat_tests, never_read_fault)
 
-pub taken_all : {p now : Outside} {v w u : Intake} (apid : ℕ) (result : Result PacketRead InFault) → TakenSoFar p now v w → verdict apid w ≡ Some result → u ≡ answered apid w →
+pub taken_all : {p now : Outside} {v w u : Intake} (apid : ℕ) (result : Result PacketRead InFault) → TakenSoFar p now v w → verdict apid w ≡ Some result →
+    u ≡ answered apid w →
     ReadsPacket apid p now v u result
-taken_all {p = p} {now = now} {v = v} {w = w} {u = u} apid result s e stands = grind (arith, nat_tests, ends_with)
+taken_all {p = p} {now = now} {v = v} {w = w} {u = u} apid result s e valid = grind (arith, nat_tests, ends_with)

@@ -1,5 +1,6 @@
 -- A text is continued by octets that its part has room for, or by one after a full part.
-use Rattle.std.proofs.Common.{rules, ◌≡◌, ◌≤◌, ◌+◌, ℕ, List, [], ◌∷◌, ◌++◌, length, take, refl, sym, ◌∙◌, subst, arith, add-zero, length-append, false, zero-mul, append-nil, drop_at, take_at}
+use Rattle.std.proofs.Common.{rules, ◌≡◌, ◌≤◌, ◌+◌, ℕ, List, [], ◌∷◌, ◌++◌, length, take, refl, sym, ◌∙◌, subst, arith, add-zero, length-append, false}
+use Rattle.std.proofs.Common.{zero-mul, append-nil, drop_at, take_at}
 use Rattle.std.proofs.lemmas.Bool.Decides.{nat_tests}
 use Rattle.port_122.specs.Outside.{Outside, Exchange, NoRead}
 use Rattle.port_122.proofs.Stretches.{since_start}
@@ -49,5 +50,6 @@ breaks_off_at {t = t} {p = p} {q = q} {v = v} {w = w} going octet full failed =
       some = failed.some;
       out = subst (λ packet. Exchange p q [] (take failed.some packet) [] NoRead) (sym (first_is t v octet full)) failed.out;
       rose = failed.rose;
-      stands = failed.stands ∙ sym (same_progress {v = broken t v (octet ∷ []) 0} {w = record v { stage = Broken; pending = [] }} refl refl refl (add-zero v.packets) (add-zero v.octets) refl);
+      valid = failed.valid ∙ sym (same_progress {v = broken t v (octet ∷ []) 0} {w = record v { stage = Broken; pending = [] }} refl refl refl
+          (add-zero v.packets) (add-zero v.octets) refl);
     }

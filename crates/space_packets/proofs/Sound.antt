@@ -1,6 +1,7 @@
 -- What holds of a packetiser's fields is preserved.
 use Rattle.std.proofs.lemmas.Bool.Decides.{nat_tests}
-use Rattle.std.proofs.Common.{◌≡◌, ◌≤◌, ◌<◌, ◌+◌, ◌-◌, ◌*◌, ◌^◌, ℕ, length, ap, sym, subst, arith, Bool, true, false, if◌then◌else◌, vec_capacity, mul-le-mul_left}
+use Rattle.std.proofs.Common.{◌≡◌, ◌≤◌, ◌<◌, ◌+◌, ◌-◌, ◌*◌, ◌^◌, ℕ, length, ap, sym, subst, arith, Bool, true, false, if◌then◌else◌, vec_capacity}
+use Rattle.std.proofs.Common.{mul-le-mul_left}
 use Rattle.std.specs.Bool.{OnFalse}
 use Rattle.std.specs.Global.{Vec}
 use Rattle.packet_defs.specs.Packets.{part_size}

@@ -1,5 +1,6 @@
 -- What a reader's results imply for the octets that decided them.
-use Rattle.std.proofs.Common.{◌≡◌, ◌≤◌, ◌+◌, ℕ, List, [], ◌∷◌, length, refl, sym, subst, arith, length-drop, Bool, true, false, Option, Some, None, Result, Ok, Err, ◌⊎◌, ◌==◌}
+use Rattle.std.proofs.Common.{◌≡◌, ◌≤◌, ◌+◌, ℕ, List, [], ◌∷◌, length, refl, sym, subst, arith, length-drop, Bool, true, false, Option, Some, None, Result}
+use Rattle.std.proofs.Common.{Ok, Err, ◌⊎◌, ◌==◌}
 use Rattle.std.proofs.lemmas.Bool.{false≢true}
 use Rattle.std.proofs.lemmas.Bool.Decides.{nat_tests}
 use Rattle.bit_pipe.specs.declared.fault.InFault.{InFault}
@@ -13,8 +14,8 @@ use Rattle.packet_defs.specs.declared.packet.Framing.{Framing}
 use Rattle.packet_defs.specs.declared.packet.Skip.{Skip}
 use Rattle.packet_defs.specs.Tests.{when, first_of}
 use Rattle.packet_defs.specs.Reading.{read_as, skip_of, head_in, ancillary_in}
-use Rattle.packet_defs.specs.Streams.{has_bad_version, told_length, begins_packet, first_packet, after_packet}
-use Rattle.packet_defs.proofs.Fronts.{begins_so, told_least}
+use Rattle.packet_defs.specs.Streams.{has_bad_version, reported_length, begins_packet, first_packet, after_packet}
+use Rattle.packet_defs.proofs.Prefixes.{begins_so, known_least}
 use Rattle.space_packets.specs.Intake.{Intake, end_read, verdict, answered}
 use Rattle.space_packets.specs.PacketReads.{EndsPacket}
 use Rattle.space_packets.proofs.Intakes.{no_begin}
@@ -25,9 +26,9 @@ use Rattle.packet_defs.proofs.Equations.{packet_read-is}
 abbrev first_answer : (a b c d : Bool) → Framing → PacketRead → Option Framing → Option (Result PacketRead InFault)
 first_answer a b c d f y o = first_of (when a (Ok (Fault f)) ∷ when b (Ok y) ∷ when c (Ok (end_read o)) ∷ when d (Err LongInput) ∷ [])
 
-mine_by : (a b c d : Bool) (f : Framing) (y : PacketRead) (o : Option Framing) (head : PacketHead) (tells : Ancillary) →
-    first_answer a b c d f y o ≡ Some (Ok (Mine head tells)) → (b ≡ true) × (y ≡ Mine head tells)
-mine_by a b c d f y o head tells e = grind (arith, nat_tests)
+mine_by : (a b c d : Bool) (f : Framing) (y : PacketRead) (o : Option Framing) (head : PacketHead) (reports : Ancillary) →
+    first_answer a b c d f y o ≡ Some (Ok (Mine head reports)) → (b ≡ true) × (y ≡ Mine head reports)
+mine_by a b c d f y o head reports e = grind (arith, nat_tests)
 
 skipped_by : (a b c d : Bool) (f : Framing) (y : PacketRead) (o : Option Framing) (skip : Skip) →
     first_answer a b c d f y o ≡ Some (Ok (Skipped skip)) → (b ≡ true) × (y ≡ Skipped skip)
@@ -35,12 +36,13 @@ skipped_by a b c d f y o skip e = grind (arith, nat_tests)
 
 -- the end, or why there is none, is no packet
 abbrev pub is_over : PacketRead → Bool
-is_over (Mine head tells) = false
+is_over (Mine head reports) = false
 is_over (Skipped skip) = false
 is_over Ended = true
 is_over (Fault fault) = true
 
-over_by : (a b c d : Bool) (f : Framing) (y : PacketRead) (o : Option Framing) (r : PacketRead) → is_over r ≡ true → is_over y ≡ false → (a ≡ true → b ≡ false) →
+over_by : (a b c d : Bool) (f : Framing) (y : PacketRead) (o : Option Framing) (r : PacketRead) → is_over r ≡ true → is_over y ≡ false →
+    (a ≡ true → b ≡ false) →
     first_answer a b c d f y o ≡ Some (Ok r) → (b ≡ false) × ((a ≡ true) ⊎ (c ≡ true))
 over_by a b c d f y o r over none bad e = grind (arith, nat_tests, false≢true)
 
@@ -52,27 +54,28 @@ pub record AtCap (u : Intake) (fault : InFault) : Type 0 where
   pub full : u.taken ≡ u.cap
   pub is : fault ≡ LongInput
 
-long_by : (u : Intake) (a b c d : Bool) (f : Framing) (y : PacketRead) (o : Option Framing) (fault : InFault) → has_bad_version u.pending ≡ a → begins_packet u.pending ≡ b → u.ended ≡ c → (u.taken == u.cap) ≡ d →
+long_by : (u : Intake) (a b c d : Bool) (f : Framing) (y : PacketRead) (o : Option Framing) (fault : InFault) → has_bad_version u.pending ≡ a →
+    begins_packet u.pending ≡ b → u.ended ≡ c → (u.taken == u.cap) ≡ d →
     first_answer a b c d f y o ≡ Some (Err fault) → AtCap u fault
 long_by u a b c d f y o fault ea eb ec ed e = grind (arith, nat_tests)
 
 -- ---- what was read
 
 -- a packet of the image waits first
-pub record MineAt (apid : ℕ) (u : Intake) (head : PacketHead) (tells : Ancillary) : Type 0 where
+pub record MineAt (apid : ℕ) (u : Intake) (head : PacketHead) (reports : Ancillary) : Type 0 where
   pub whole : begins_packet u.pending ≡ true
   pub mine : skip_of apid (first_packet u.pending) ≡ None
   pub head_is : head ≡ head_in (first_packet u.pending)
-  pub ancillary_is : tells ≡ ancillary_in (first_packet u.pending)
+  pub ancillary_is : reports ≡ ancillary_in (first_packet u.pending)
 
 -- another packet waits first
 pub record OtherAt (apid : ℕ) (u : Intake) (skip : Skip) : Type 0 where
   pub whole : begins_packet u.pending ≡ true
   pub other : skip_of apid (first_packet u.pending) ≡ Some skip
 
-as_mine : (o : Option Skip) (packet : List ℕ) (head : PacketHead) (tells : Ancillary) → read_as o packet ≡ Mine head tells →
-    (o ≡ None) × (head ≡ head_in packet) × (tells ≡ ancillary_in packet)
-as_mine o packet head tells e = grind (arith, nat_tests)
+as_mine : (o : Option Skip) (packet : List ℕ) (head : PacketHead) (reports : Ancillary) → read_as o packet ≡ Mine head reports →
+    (o ≡ None) × (head ≡ head_in packet) × (reports ≡ ancillary_in packet)
+as_mine o packet head reports e = grind (arith, nat_tests)
 
 as_skipped : (o : Option Skip) (packet : List ℕ) (skip : Skip) → read_as o packet ≡ Skipped skip → o ≡ Some skip
 as_skipped o packet skip e = grind (arith, nat_tests)
@@ -80,9 +83,9 @@ as_skipped o packet skip e = grind (arith, nat_tests)
 as_none : (o : Option Skip) (packet : List ℕ) → is_over (read_as o packet) ≡ false
 as_none o packet = grind (arith, nat_tests)
 
-pub mine_read : (apid : ℕ) (u : Intake) (head : PacketHead) (tells : Ancillary) → verdict apid u ≡ Some (Ok (Mine head tells)) → MineAt apid u head tells
+pub mine_read : (apid : ℕ) (u : Intake) (head : PacketHead) (reports : Ancillary) → verdict apid u ≡ Some (Ok (Mine head reports)) → MineAt apid u head reports
 unfolding verdict
-mine_read apid u head tells e = grind (arith, nat_tests, mine_by, as_mine, packet_read-is)
+mine_read apid u head reports e = grind (arith, nat_tests, mine_by, as_mine, packet_read-is)
 
 pub other_read : (apid : ℕ) (u : Intake) (skip : Skip) → verdict apid u ≡ Some (Ok (Skipped skip)) → OtherAt apid u skip
 unfolding verdict
@@ -126,4 +129,4 @@ ends_go apid p q u w (Err Broken) ends = here apid u w ends.1
 pub shorter_past : (u : Intake) → begins_packet u.pending ≡ true → length (after_packet u.pending) + 7 ≤ length u.pending
 shorter_past u whole =
     let fits = (begins_so u.pending whole).whole in
-    omega (arith, fits, told_least u.pending, length-drop (told_length u.pending) u.pending)
+    omega (arith, fits, known_least u.pending, length-drop (reported_length u.pending) u.pending)

@@ -1,5 +1,6 @@
 -- A whole text: the packets that are written are those of the text.
-use Rattle.std.proofs.Common.{◌≡◌, ◌≤◌, ◌<◌, ◌+◌, ◌*◌, ℕ, List, [], ◌∷◌, ◌++◌, length, drop, map, ◌∙◌, ap, arith, length-drop, Bool, true, false, ◌==◌, append-nil, take_all}
+use Rattle.std.proofs.Common.{◌≡◌, ◌≤◌, ◌<◌, ◌+◌, ◌*◌, ℕ, List, [], ◌∷◌, ◌++◌, length, drop, map, ◌∙◌, ap, arith, length-drop, Bool, true, false, ◌==◌}
+use Rattle.std.proofs.Common.{append-nil, take_all}
 use Rattle.std.specs.List.{range_with_len}
 use Rattle.std.proofs.Math.Nat.{add-mul-div_right}
 use Rattle.std.proofs.lemmas.Bool.Decides.{nat_tests}
@@ -40,7 +41,7 @@ whole_text v t text least first some =
     let count : part_count size (length text) ≡ n + 1 = parts_and_last size (length text) (omega arith) some in
     let f = λ (part : ℕ). part_packet t.apid t.ancillary v.packet v.packets (part_count size (length text)) part text in
     let g = full_packet t (begun v t) text in
-    let front : map f (range_with_len 0 n) ≡ map g (range_with_len 0 n) =
+    let prefix : map f (range_with_len 0 n) ≡ map g (range_with_len 0 n) =
     map_same f g 0 n (λ i low few. packet_is t v.packet v.packets (part_count size (length text)) i false text first
     (ap (λ k. i + 1 == k) count ∙ not_last i n (omega (arith, few)))) in
     let left : part_of size n text ≡ drop (n * size) text =
@@ -51,5 +52,5 @@ whole_text v t text least first some =
     ap (λ k. joined (map f (range_with_len 0 k))) count
     ∙ ap joined (map-range_with_len_more f 0 n n (omega arith))
     ∙ joined-append (map f (range_with_len 0 n)) (f n ∷ [])
-    ∙ ap (λ xs. joined xs ++ joined (f n ∷ [])) front
+    ∙ ap (λ xs. joined xs ++ joined (f n ∷ [])) prefix
     ∙ ap (λ xs. joined (map g (range_with_len 0 n)) ++ xs) (append-nil (f n) ∙ last))

@@ -1,5 +1,6 @@
 -- A whole text by its calls: begin, octets, and close, or a failure among them.
-use Rattle.std.proofs.Common.{◌≡◌, ◌≤◌, ◌<◌, ◌+◌, ◌-◌, ℕ, suc, List, [], ◌++◌, length, take, drop, map, refl, sym, ◌∙◌, ap, subst, arith, append_assoc, length-append, length-drop, zero-add, Result, Ok, Err, MatchResult, take-append-drop}
+use Rattle.std.proofs.Common.{◌≡◌, ◌≤◌, ◌<◌, ◌+◌, ◌-◌, ℕ, suc, List, [], ◌++◌, length, take, drop, map, refl, sym, ◌∙◌, ap, subst, arith, append_assoc}
+use Rattle.std.proofs.Common.{length-append, length-drop, zero-add, Result, Ok, Err, MatchResult, take-append-drop}
 use Rattle.std.specs.List.{range_with_len}
 use Rattle.std.proofs.Math.Seq.{take-append_seam}
 use Rattle.std.proofs.lemmas.Bool.Decides.{nat_tests}
@@ -10,7 +11,8 @@ use Rattle.packet_defs.proofs.Joins.{joined-append}
 use Rattle.space_packets.specs.declared.stage.PacketiserState.TheVariants.{Idle, Begun}
 use Rattle.space_packets.specs.declared.stage.Text.{Text}
 use Rattle.space_packets.specs.Parts.{text_at}
-use Rattle.space_packets.specs.Progress.{Progress, IsOpen, begun, full_count, full_packet, first_packets, first_octets, written, after, last_packet, past_packet, broken, stopped, ended}
+use Rattle.space_packets.specs.Progress.{Progress, IsOpen, begun, full_count, full_packet, first_packets, first_octets, written, after, last_packet}
+use Rattle.space_packets.specs.Progress.{past_packet, broken, stopped, ended}
 use Rattle.space_packets.specs.Writes.{Continues, StopsEarly, PacketOut, PacketFailed, WritesPacket, TextOut, TextCut}
 use Rattle.space_packets.specs.PartLists.{map_split}
 use Rattle.space_packets.specs.Going.{same_progress, octets_both, written_both}
@@ -21,7 +23,8 @@ pub begun_open : (v : Progress) (t : Text) → 64 ≤ v.packet → IsOpen t (beg
 begun_open v t least = record { stage = refl; packet = least; pending = omega arith }
 
 -- octets wait if a text isn't empty
-pub some_wait : {t : Text} {p q : Outside} (v : Progress) {w : Progress} (text : List ℕ) → 0 < length text → Continues t p q (begun v t) w text → 0 < length w.pending
+pub some_wait : {t : Text} {p q : Outside} (v : Progress) {w : Progress} (text : List ℕ) → 0 < length text → Continues t p q (begun v t) w text →
+    0 < length w.pending
 some_wait {t = t} v {w = w} text some first = grind (arith, nat_tests, length-drop)
 
 -- the state at the end
@@ -32,7 +35,8 @@ ended_is v t text least first some =
     let n = full_count b text in
     let count : v.packets + n + 1 ≡ v.packets + part_count (part_size v.packet) (length text) = grind (arith, nat_tests, length, parts_and_last) in
     same_progress refl refl refl count
-    (sym (octets_both v.octets (joined (text_packets t.apid t.ancillary v.packet v.packets text)) (written t b text) (last_packet (text_at t n) (after t b text)) (whole_text v t text least first some)))
+    (sym (octets_both v.octets (joined (text_packets t.apid t.ancillary v.packet v.packets text)) (written t b text)
+    (last_packet (text_at t n) (after t b text)) (whole_text v t text least first some)))
     refl
 
 -- begin, a text that isn't empty, close: its packets are written
@@ -44,31 +48,31 @@ text_out {t = t} {p = p} {q = q} {r = r} v {w = w} {u = u} text least first some
     let last : PacketOut q r (after t b text) u Idle (last_packet end (after t b text)) = grind (arith, nat_tests) in
     record {
       out = subst (λ gave. Exchange p r [] gave [] NoRead) (sym (whole_text v t text least first some)) (since_out sent.out last.out);
-      stands = last.stands ∙ ended_is v t text least first some;
+      valid = last.valid ∙ ended_is v t text least first some;
     }
 
 -- ---- a failure
 
 -- a prefix is at most as long as the whole
-front_length : (front rest whole : List ℕ) → whole ≡ front ++ rest → length front ≤ length whole
-front_length front rest whole e = omega (arith, ap length e, length-append front rest)
+prefix_length : (prefix rest whole : List ℕ) → whole ≡ prefix ++ rest → length prefix ≤ length whole
+prefix_length prefix rest whole e = omega (arith, ap length e, length-append prefix rest)
 
-front_is : (front rest whole : List ℕ) → whole ≡ front ++ rest → take (length front) whole ≡ front
-front_is front rest whole e = ap (take (length front)) e ∙ take-append_seam front rest
+prefix_is : (prefix rest whole : List ℕ) → whole ≡ prefix ++ rest → take (length prefix) whole ≡ prefix
+prefix_is prefix rest whole e = ap (take (length prefix)) e ∙ take-append_seam prefix rest
 
 -- a failure with a prefix written
-cut_at : {t : Text} {p q : Outside} {v w : Progress} (text front rest : List ℕ) →
-    joined (text_packets t.apid t.ancillary v.packet v.packets text) ≡ front ++ rest → Exchange p q [] front [] NoRead → Rose p.write_faults q.write_faults →
+cut_at : {t : Text} {p q : Outside} {v w : Progress} (text prefix rest : List ℕ) →
+    joined (text_packets t.apid t.ancillary v.packet v.packets text) ≡ prefix ++ rest → Exchange p q [] prefix [] NoRead → Rose p.write_faults q.write_faults →
     (u : Progress) → w ≡ stopped u → u.packet ≡ v.packet → TextCut t p q v w text
-cut_at {t = t} {p = p} {q = q} {v = v} {w = w} text front rest e out rose u stands same =
+cut_at {t = t} {p = p} {q = q} {v = v} {w = w} text prefix rest e out rose u valid same =
     let whole = joined (text_packets t.apid t.ancillary v.packet v.packets text) in
     record {
-      some = length front;
-      within = front_length front rest whole e;
-      out = subst (λ gave. Exchange p q [] gave [] NoRead) (sym (front_is front rest whole e)) out;
+      some = length prefix;
+      within = prefix_length prefix rest whole e;
+      out = subst (λ gave. Exchange p q [] gave [] NoRead) (sym (prefix_is prefix rest whole e)) out;
       rose = rose;
-      broken = ap (λ (w : Progress). w.stage) stands;
-      packet = ap (λ (w : Progress). w.packet) stands ∙ same;
+      broken = ap (λ (w : Progress). w.stage) valid;
+      packet = ap (λ (w : Progress). w.packet) valid ∙ same;
     }
 
 -- at its close
@@ -84,7 +88,7 @@ text_cut_at_close {t = t} {p = p} {q = q} {r = r} v {w = w} {u = u} text least f
     ∙ ap (λ xs. written t b text ++ xs) (sym (take-append-drop last.some packet))
     ∙ sym (append_assoc (written t b text) (take last.some packet) (drop last.some packet)) in
     cut_at text (written t b text ++ take last.some packet) (drop last.some packet) split (since_out sent.out last.out)
-    (rose_since sent.out.faults.writes last.rose) (after t b text) last.stands refl
+    (rose_since sent.out.faults.writes last.rose) (after t b text) last.valid refl
 
 -- one full packet among them
 one_of : (t : Text) (v : Progress) (octets : List ℕ) (k m : ℕ) → k < m →
@@ -105,25 +109,28 @@ regrouped : (a t d r w l : List ℕ) → ((a ++ ((t ++ d) ++ r)) ++ w) ++ l ≡ 
 regrouped a t d r w l = simp append_assoc
 
 -- among its octets
-pub text_cut : {t : Text} {p q : Outside} (v : Progress) {w : Progress} (octets more : List ℕ) → 64 ≤ v.packet → t.ancillary.part ≡ 0 → 0 < length (octets ++ more) →
+pub text_cut : {t : Text} {p q : Outside} (v : Progress) {w : Progress} (octets more : List ℕ) → 64 ≤ v.packet → t.ancillary.part ≡ 0 →
+    0 < length (octets ++ more) →
     StopsEarly t p q (begun v t) w octets → TextCut t p q v w (octets ++ more)
 text_cut {t = t} {p = p} {q = q} v {w = w} octets more least first some broke =
     let b = begun v t in
     let k = broke.count in
     let n = full_count b octets in
     let packet = full_packet t b octets k in
-    let front = first_octets t b octets k in
+    let prefix = first_octets t b octets k in
     let one = one_of t b octets k n broke.few in
     let next = written (text_at t n) (after t b octets) more in
     let text = octets ++ more in
     let last = last_packet (text_at t (full_count b text)) (after t b text) in
-    let split : joined (text_packets t.apid t.ancillary v.packet v.packets text) ≡ (front ++ take broke.some packet) ++ (((drop broke.some packet ++ one.0) ++ next) ++ last) =
+    let split : joined (text_packets t.apid t.ancillary v.packet v.packets text) ≡ (prefix ++ take broke.some packet)
+    ++ (((drop broke.some packet ++ one.0) ++ next) ++ last) =
     whole_text v t text least first some
     ∙ ap (λ xs. xs ++ last) (written_both (begun_open v t least) octets more)
     ∙ ap (λ xs. (xs ++ next) ++ last) one.1
-    ∙ ap (λ xs. ((front ++ (xs ++ one.0)) ++ next) ++ last) (sym (take-append-drop broke.some packet))
-    ∙ regrouped front (take broke.some packet) (drop broke.some packet) one.0 next last in
-    cut_at text (front ++ take broke.some packet) (((drop broke.some packet ++ one.0) ++ next) ++ last) split broke.out broke.rose (broken t b octets k) broke.stands refl
+    ∙ ap (λ xs. ((prefix ++ (xs ++ one.0)) ++ next) ++ last) (sym (take-append-drop broke.some packet))
+    ∙ regrouped prefix (take broke.some packet) (drop broke.some packet) one.0 next last in
+    cut_at text (prefix ++ take broke.some packet) (((drop broke.some packet ++ one.0) ++ next) ++ last) split broke.out broke.rose (broken t b octets k)
+    broke.valid refl
 
 -- close, with either result
 pub text_closed : {T E : Type 0} (r : Result T E) (v w u : Progress) (t : Text) (text : List ℕ) (p q s : Outside) →
@@ -131,6 +138,6 @@ pub text_closed : {T E : Type 0} (r : Result T E) (v w u : Progress) (t : Text) 
     ((x : Text) → w.stage ≡ Begun x → WritesPacket r q s w u Idle (last_packet x w)) →
     MatchResult r (λ _. TextOut t p s v u text) (λ _. TextCut t p s v u text)
 text_closed (Ok done) v w u t text p q s least first some sent closing =
-    text_out v text least first some sent (closing (text_at t (full_count (begun v t) text)) (ap (λ (w : Progress). w.stage) sent.stands))
+    text_out v text least first some sent (closing (text_at t (full_count (begun v t) text)) (ap (λ (w : Progress). w.stage) sent.valid))
 text_closed (Err failed) v w u t text p q s least first some sent closing =
-    text_cut_at_close v text least first some sent (closing (text_at t (full_count (begun v t) text)) (ap (λ (w : Progress). w.stage) sent.stands))
+    text_cut_at_close v text least first some sent (closing (text_at t (full_count (begun v t) text)) (ap (λ (w : Progress). w.stage) sent.valid))

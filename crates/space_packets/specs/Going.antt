@@ -1,5 +1,6 @@
 -- A text is continued by octets, and then by more.
-use Rattle.std.proofs.Common.{◌≡◌, ◌≤◌, ◌<◌, ◌+◌, ◌-◌, ◌*◌, ℕ, zero, suc, List, [], ◌++◌, length, take, drop, map, refl, sym, ◌∙◌, ap, arith, add-zero, add_assoc, append_assoc, length-append, length-drop}
+use Rattle.std.proofs.Common.{◌≡◌, ◌≤◌, ◌<◌, ◌+◌, ◌-◌, ◌*◌, ℕ, zero, suc, List, [], ◌++◌, length, take, drop, map, refl, sym, ◌∙◌, ap, arith, add-zero}
+use Rattle.std.proofs.Common.{add_assoc, append_assoc, length-append, length-drop}
 use Rattle.std.specs.Prelude.{false}
 use Rattle.std.specs.List.{range_with_len}
 use Rattle.std.proofs.Math.Nat.{zero-mul, mul-le-mul_right}
@@ -14,7 +15,8 @@ use Rattle.space_packets.specs.PartLists.{map_both}
 use Rattle.space_packets.specs.FullParts.{full_parts_below, full_parts_within, full_parts_left, full_parts_is, full_parts_none}
 
 -- two states are the same if their parts are
-pub same_progress : {v w : Progress} → v.packet ≡ w.packet → v.stage ≡ w.stage → v.texts ≡ w.texts → v.packets ≡ w.packets → v.octets ≡ w.octets → v.pending ≡ w.pending → v ≡ w
+pub same_progress : {v w : Progress} → v.packet ≡ w.packet → v.stage ≡ w.stage → v.texts ≡ w.texts → v.packets ≡ w.packets → v.octets ≡ w.octets →
+    v.pending ≡ w.pending → v ≡ w
 same_progress p s t k o q = λ i. record { packet = p i; stage = s i; texts = t i; packets = k i; octets = o i; pending = q i }
 
 -- ---- by nothing
@@ -62,7 +64,8 @@ full_parts_empty size some = full_parts_none size 0 (omega arith) some
 -- something is always left of some octets
 left_of_none : (size octets : ℕ) → octets ≤ full_parts size octets * size → octets ≡ 0
 left_of_none size zero none = refl
-left_of_none size (suc octets) none = absurd (let below : full_parts size (suc octets) * size < suc octets = full_parts_below size (suc octets) (omega arith) in omega arith)
+left_of_none size (suc octets) none = absurd (let below : full_parts size (suc octets) * size < suc octets =
+    full_parts_below size (suc octets) (omega arith) in omega arith)
 
 -- counts of full parts add up
 parts_both : (size octets more all rest : ℕ) → 0 < size → all ≡ octets + more → rest ≡ octets - full_parts size octets * size + more →

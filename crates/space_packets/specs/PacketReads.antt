@@ -38,11 +38,12 @@ pub record TakenSoFar (p now : Outside) (v w : Intake) : Type 0 where
   pub within : v.taken + length took ≤ v.cap
   pub at_once : is_decided (fed v [] false) ≡ true → took ≡ []
   pub end_below : saw_end ≡ true → v.taken + length took < v.cap
-  pub stands : w ≡ fed v took saw_end
+  pub valid : w ≡ fed v took saw_end
 
 -- the effect of a call that reads until it is decided what is next
 abbrev pub FillsUp : {T E : Type 0} → Result T E → (old new : Outside) → (v w : Intake) → Type 0
-FillsUp result old new v w = MatchResult result (λ _. TakenSoFar old new v w × (is_decided w ≡ true)) (λ _. (apid : ℕ) → ReadsPacket apid old new v w (Err ReadFault))
+FillsUp result old new v w = MatchResult result (λ _. TakenSoFar old new v w × (is_decided w ≡ true)) (λ _. (apid : ℕ) →
+    ReadsPacket apid old new v w (Err ReadFault))
 
 -- the effect of one read into a reader: it asks for 1 to 4,096 octets
 pub record Fed (old new : Outside) (v w : Intake) : Type 0 where
@@ -52,7 +53,7 @@ pub record Fed (old new : Outside) (v w : Intake) : Type 0 where
   pub few : length piece ≤ 4096
   pub read : Read old new piece count
   pub within : v.taken + count ≤ v.cap
-  pub stands : w ≡ fed v (take count piece) (count == 0)
+  pub valid : w ≡ fed v (take count piece) (count == 0)
 
 abbrev pub FeedsOnce : {T E : Type 0} → Result T E → (old new : Outside) → (v w : Intake) → Type 0
 FeedsOnce result old new v w = MatchResult result (λ _. Fed old new v w) (λ _. ReadFailed old new × (w ≡ fed v [] false))

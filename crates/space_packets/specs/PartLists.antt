@@ -32,8 +32,8 @@ map_shift f m a (suc n) =
 -- both: the first m, and those after them by another function
 pub map_both : {X : Type 0} (f g h : ℕ → X) (m n : ℕ) → ((i : ℕ) → i < m → f i ≡ g i) → ((i : ℕ) → f (m + i) ≡ h i) →
     map f (range_with_len 0 (m + n)) ≡ map g (range_with_len 0 m) ++ map h (range_with_len 0 n)
-map_both f g h m n front back =
-    let first : map f (range_with_len 0 m) ≡ map g (range_with_len 0 m) = map_same f g 0 m (λ i low high. front i (omega arith)) in
+map_both f g h m n prefix back =
+    let first : map f (range_with_len 0 m) ≡ map g (range_with_len 0 m) = map_same f g 0 m (λ i low high. prefix i (omega arith)) in
     let next : map f (range_with_len (0 + m) n) ≡ map h (range_with_len 0 n) =
     let start : 0 + m ≡ m + 0 = omega arith in
     ap (λ a. map f (range_with_len a n)) start ∙ map_shift f m 0 n ∙ map_same (λ i. f (m + i)) h 0 n (λ i low high. back i) in

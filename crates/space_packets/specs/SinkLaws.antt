@@ -16,14 +16,15 @@ gave_nothing outside s = record { packets = refl; port = refl; text = λ t going
 still_open : {X : Type 0} (outside : X → Outside) {s u : PacketSink X} {xs : List ℕ} → Gave outside s u xs → (t : Text) → IsOpen t s.packets.now →
     IsOpen (text_at t (full_count s.packets.now xs)) u.packets.now
 still_open outside {s = s} {u = u} {xs = xs} first t going =
-    subst (λ v. IsOpen (text_at t (full_count s.packets.now xs)) v) (sym (first.text t going).stands) (after_open going xs)
+    subst (λ v. IsOpen (text_at t (full_count s.packets.now xs)) v) (sym (first.text t going).valid) (after_open going xs)
 
 pub gave_both : {X : Type 0} (outside : X → Outside) (s t u : PacketSink X) (xs ys : List ℕ) →
     Gave outside s t xs → Gave outside t u ys → Gave outside s u (xs ++ ys)
 gave_both outside s t u xs ys first next = record {
   packets = next.packets ∙ first.packets;
   port = next.port ∙ first.port;
-  text = λ text going. goes_both xs ys going (first.text text going) (next.text (text_at text (full_count s.packets.now xs)) (still_open outside first text going));
+  text = λ text going. goes_both xs ys going (first.text text going)
+      (next.text (text_at text (full_count s.packets.now xs)) (still_open outside first text going));
 }
 
 pub broke_after : {X : Type 0} (outside : X → Outside) (s t u : PacketSink X) (xs ys : List ℕ) →
@@ -31,5 +32,6 @@ pub broke_after : {X : Type 0} (outside : X → Outside) (s t u : PacketSink X) 
 broke_after outside s t u xs ys first next = record {
   packets = next.packets ∙ first.packets;
   port = next.port ∙ first.port;
-  text = λ text going. breaks_after xs ys going (first.text text going) (next.text (text_at text (full_count s.packets.now xs)) (still_open outside first text going));
+  text = λ text going. breaks_after xs ys going (first.text text going)
+      (next.text (text_at text (full_count s.packets.now xs)) (still_open outside first text going));
 }

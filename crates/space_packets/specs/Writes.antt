@@ -10,7 +10,7 @@ use Rattle.space_packets.specs.Progress.{Progress, IsOpen, full_count, full_pack
 -- a text was continued by these octets, and its full packets are written
 pub record Continues (t : Text) (p q : Outside) (v w : Progress) (octets : List ℕ) : Type 0 where
   pub out : Exchange p q [] (written t v octets) [] NoRead
-  pub stands : w ≡ after t v octets
+  pub valid : w ≡ after t v octets
 
 -- A write failed while a text was continued by these octets: some of its full packets are written, and a prefix of the next.
 pub record StopsEarly (t : Text) (p q : Outside) (v w : Progress) (octets : List ℕ) : Type 0 where
@@ -19,7 +19,7 @@ pub record StopsEarly (t : Text) (p q : Outside) (v w : Progress) (octets : List
   pub some : ℕ
   pub out : Exchange p q [] (first_octets t v octets count ++ take some (full_packet t v octets count)) [] NoRead
   pub rose : Rose p.write_faults q.write_faults
-  pub stands : w ≡ broken t v octets count
+  pub valid : w ≡ broken t v octets count
 
 -- the effect of a call that gives an octet to the begun text
 pub record PutsOctet {T E : Type 0} (result : Result T E) (p q : Outside) (v w : Progress) (octet : ℕ) : Type 0 where
@@ -30,7 +30,7 @@ pub record PutsOctet {T E : Type 0} (result : Result T E) (p q : Outside) (v w :
 -- one packet is written
 pub record PacketOut (p q : Outside) (v w : Progress) (next : PacketiserState) (packet : List ℕ) : Type 0 where
   pub out : Exchange p q [] packet [] NoRead
-  pub stands : w ≡ past_packet v next packet
+  pub valid : w ≡ past_packet v next packet
 
 -- a write of one packet failed, and a prefix of its octets is written
 pub record PacketFailed (p q : Outside) (v w : Progress) (packet : List ℕ) : Type 0 where
@@ -38,7 +38,7 @@ pub record PacketFailed (p q : Outside) (v w : Progress) (packet : List ℕ) : T
   pub within : some ≤ length packet
   pub out : Exchange p q [] (take some packet) [] NoRead
   pub rose : Rose p.write_faults q.write_faults
-  pub stands : w ≡ stopped v
+  pub valid : w ≡ stopped v
 
 -- the effect of a call that writes one packet
 abbrev pub WritesPacket : {T E : Type 0} → Result T E → (p q : Outside) (v w : Progress) → PacketiserState → List ℕ → Type 0
@@ -49,7 +49,7 @@ WritesPacket result p q v w next packet = MatchResult result
 -- a whole text, from its begin to its end, was written as its packets
 pub record TextOut (t : Text) (p q : Outside) (v w : Progress) (text : List ℕ) : Type 0 where
   pub out : Exchange p q [] (joined (text_packets t.apid t.ancillary v.packet v.packets text)) [] NoRead
-  pub stands : w ≡ ended v t text
+  pub valid : w ≡ ended v t text
 
 -- a write failed while a text was written, and a prefix of its packets' octets is written
 pub record TextCut (t : Text) (p q : Outside) (v w : Progress) (text : List ℕ) : Type 0 where

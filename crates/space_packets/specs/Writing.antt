@@ -11,17 +11,17 @@ use Rattle.space_packets.specs.Going.{written_none, after_none, count_both, firs
 pub goes_nowhere : {t : Text} {v : Progress} → (p : Outside) → IsOpen t v → Continues t p p v v []
 goes_nowhere {t = t} {v = v} p going = record {
   out = subst (λ gave. Exchange p p [] gave [] NoRead) (sym (written_none going)) (since_start p NoRead);
-  stands = sym (after_none going);
+  valid = sym (after_none going);
 }
 
 pub goes_both : {t : Text} {p q r : Outside} {u v w : Progress} (xs ys : List ℕ) → IsOpen t u →
     Continues t p q u v xs → Continues (text_at t (full_count u xs)) q r v w ys → Continues t p r u w (xs ++ ys)
 goes_both {t = t} {p = p} {q = q} {r = r} {u = u} {v = v} {w = w} xs ys going first next =
     let s = text_at t (full_count u xs) in
-    let second : Continues s q r (after t u xs) w ys = subst (λ v. Continues s q r v w ys) first.stands next in
+    let second : Continues s q r (after t u xs) w ys = subst (λ v. Continues s q r v w ys) first.valid next in
     record {
       out = subst (λ gave. Exchange p r [] gave [] NoRead) (sym (written_both going xs ys)) (since_out first.out second.out);
-      stands = second.stands ∙ sym (after_both going xs ys);
+      valid = second.valid ∙ sym (after_both going xs ys);
     }
 
 pub breaks_after : {t : Text} {p q r : Outside} {u v w : Progress} (xs ys : List ℕ) → IsOpen t u →
@@ -29,11 +29,12 @@ pub breaks_after : {t : Text} {p q r : Outside} {u v w : Progress} (xs ys : List
 breaks_after {t = t} {p = p} {q = q} {r = r} {u = u} {v = v} {w = w} xs ys going first next =
     let s = text_at t (full_count u xs) in
     let m = full_count u xs in
-    let second : StopsEarly s q r (after t u xs) w ys = subst (λ v. StopsEarly s q r v w ys) first.stands next in
+    let second : StopsEarly s q r (after t u xs) w ys = subst (λ v. StopsEarly s q r v w ys) first.valid next in
     let k = second.count in
-    let out : written t u xs ++ (first_octets s (after t u xs) ys k ++ take second.some (full_packet s (after t u xs) ys k)) ≡ first_octets t u (xs ++ ys) (m + k) ++ take second.some (full_packet t u (xs ++ ys) (m + k)) =
+    let out : written t u xs ++ (first_octets s (after t u xs) ys k ++ take second.some (full_packet s (after t u xs) ys k)) ≡ first_octets t u (xs ++ ys)
+    (m + k) ++ take second.some (full_packet t u (xs ++ ys) (m + k)) =
     sym (append_assoc (written t u xs) (first_octets s (after t u xs) ys k) (take second.some (full_packet s (after t u xs) ys k)))
-    ∙ ap (λ front. front ++ take second.some (full_packet s (after t u xs) ys k)) (sym (first_both t u xs ys k))
+    ∙ ap (λ prefix. prefix ++ take second.some (full_packet s (after t u xs) ys k)) (sym (first_both t u xs ys k))
     ∙ ap (λ packet. first_octets t u (xs ++ ys) (m + k) ++ take second.some packet) (sym (packet_past t u xs ys k)) in
     record {
       count = m + k;
@@ -41,5 +42,5 @@ breaks_after {t = t} {p = p} {q = q} {r = r} {u = u} {v = v} {w = w} xs ys going
       some = second.some;
       out = subst (λ gave. Exchange p r [] gave [] NoRead) out (since_out first.out second.out);
       rose = rose_since first.out.faults.writes second.rose;
-      stands = second.stands ∙ sym (broken_both t u xs ys k);
+      valid = second.valid ∙ sym (broken_both t u xs ys k);
     }

@@ -23,10 +23,10 @@ pub const ANCILLARY: usize = 24;
 pub const HEADER: usize = PRIMARY + ANCILLARY;
 
 /// Returns the mark that begins the ancillary data, by whether the height of the image is reported last.
-pub fn mark_of(told_last: bool) -> u16
-    ensures { result ≡ mark_of told_last }
+pub fn mark_of(reported_last: bool) -> u16
+    ensures { result ≡ mark_of reported_last }
 {
-    if told_last { MARK_LAST } else { MARK }
+    if reported_last { MARK_LAST } else { MARK }
 }
 
 // Returns the sequence flags of a part: 01 for the first of more, 10 for the last of more, 11 for one that is alone.
@@ -43,7 +43,7 @@ fn write_ancillary(field: &mut [u8], ancillary: &Ancillary)
     requires { 24 ≤ length field.old }
     ensures { field.new ≡ ancillary_octets ancillary.now ++ drop 24 field.old }
 {
-    BigEndian::write_u16(field, mark_of(ancillary.told_last));
+    BigEndian::write_u16(field, mark_of(ancillary.reported_last));
     BigEndian::write_u16(&mut field[2..], ancillary.image);
     BigEndian::write_u32(&mut field[4..], ancillary.rows);
     BigEndian::write_u32(&mut field[8..], ancillary.segment);

@@ -3,7 +3,7 @@ ghost use Rattle.std.specs.Prelude.{◌≡◌, ◌≤◌, ◌<◌, ◌+◌, ◌-
 ghost use Rattle.std.specs.Bool.{OnFalse};
 
 use crate::header::HEADER;
-use crate::reading::{begins_packet, has_bad_version, mine_in, missing, skip_of, told_length};
+use crate::reading::{begins_packet, has_bad_version, mine_in, missing, reported_length, skip_of};
 use bit_pipe::InFault;
 use packet_defs::{Framing, PacketRead};
 use port_122::{Failed, Port};
@@ -113,7 +113,7 @@ impl PacketReader {
         ensures { result.now ≡ first_packet self.now.pending }
     {
         let pending = self.pending();
-        &pending[..told_length(pending)]
+        &pending[..reported_length(pending)]
     }
 
     /// Returns whether the octets that were taken hold the whole next packet. Then `next` returns it and reads nothing.
@@ -125,7 +125,7 @@ impl PacketReader {
 
     // Drops the text of the last packet.
     fn forget_text(&mut self)
-        ensures stands { self.new ≡ fed self.old [] false }
+        ensures valid { self.new ≡ fed self.old [] false }
         ensures capped { self.old.taken ≤ self.old.cap }
     {
         self.text_start = 0;
@@ -191,7 +191,7 @@ impl PacketReader {
         requires decided { is_decided self.old ≡ true }
         requires no_text { self.old.text ≡ [] }
         ensures answer { verdict apid self.old ≡ Some result }
-        ensures stands { self.new ≡ answered apid self.old }
+        ensures valid { self.new ≡ answered apid self.old }
     {
         let pending = self.pending();
         if has_bad_version(pending) {
@@ -218,9 +218,9 @@ impl PacketReader {
         requires whole { begins_packet self.old.pending ≡ true }
         requires no_text { self.old.text ≡ [] }
         ensures read { result ≡ packet_read apid (first_packet self.old.pending) }
-        ensures stands { self.new ≡ answered apid self.old }
+        ensures valid { self.new ≡ answered apid self.old }
     {
-        let length = told_length(self.pending());
+        let length = reported_length(self.pending());
         let packet = &self.pending()[..length];
         if let Some(skip) = skip_of(packet, apid) {
             self.start += length;
@@ -244,16 +244,16 @@ fn make_room(buffer: &mut [u8], start: usize, held: usize) -> usize
     if held > start {
         return start;
     }
-    copy_to_front(buffer, start, held);
+    copy_to_start(buffer, start, held);
     0
 }
 
 // Copies octets from a place on to the start, if the two don't overlap.
-fn copy_to_front(buffer: &mut [u8], start: usize, count: usize)
+fn copy_to_start(buffer: &mut [u8], start: usize, count: usize)
     requires apart { count ≤ start }
     requires within { start + count ≤ length buffer.old }
     ensures { take count buffer.new ≡ take count (drop start buffer.old) }
 {
-    let (front, back) = buffer.split_at_mut(start);
-    front[..count].copy_from_slice(&back[..count]);
+    let (prefix, back) = buffer.split_at_mut(start);
+    prefix[..count].copy_from_slice(&back[..count]);
 }

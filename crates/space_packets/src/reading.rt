@@ -1,7 +1,7 @@
 // Reads the fields of a packet.
 ghost use Rattle.std.specs.Prelude.{◌≡◌, ◌≤◌, ◌<◌, ◌-◌, length, false, IfNone};
 ghost use Rattle.packet_defs.specs.Reading.{head_in, ancillary_in, has_mark, skip_of};
-ghost use Rattle.packet_defs.specs.Streams.{has_bad_version, told_length, begins_packet, missing};
+ghost use Rattle.packet_defs.specs.Streams.{has_bad_version, reported_length, begins_packet, missing};
 ghost use Rattle.packet_defs.specs.declared.packet.PacketRead.TheVariants.{Mine};
 
 use crate::header::{ANCILLARY, PRIMARY, mark_of};
@@ -19,10 +19,10 @@ pub fn has_bad_version(octets: &[u8]) -> bool
 }
 
 /// Returns the number of octets of the packet with which these begin, by its header.
-#[tactic(auto, unfolding(packet_defs::specs::Streams::told_length))]
-pub fn told_length(octets: &[u8]) -> usize
+#[tactic(auto, unfolding(packet_defs::specs::Streams::reported_length))]
+pub fn reported_length(octets: &[u8]) -> usize
     requires { 6 ≤ length octets.now }
-    ensures value { result ≡ told_length octets.now }
+    ensures value { result ≡ reported_length octets.now }
     ensures most { result ≤ 65542 }
 {
     PRIMARY + BigEndian::read_u16(&octets[4..]) as usize + 1
@@ -35,7 +35,7 @@ pub fn begins_packet(octets: &[u8]) -> bool
     ensures value { result ≡ begins_packet octets.now }
     ensures short { result ≡ false → has_bad_version octets.now ≡ false → length octets.now < 65542 }
 {
-    !has_bad_version(octets) && octets.len() >= PRIMARY && told_length(octets) <= octets.len()
+    !has_bad_version(octets) && octets.len() >= PRIMARY && reported_length(octets) <= octets.len()
 }
 
 /// Returns the number of missing octets of a packet that begins with these and isn't whole.
@@ -45,13 +45,13 @@ pub fn missing(octets: &[u8]) -> u32
     if octets.len() < PRIMARY {
         return (PRIMARY - octets.len()) as u32;
     }
-    told_length(octets).saturating_sub(octets.len()) as u32
+    reported_length(octets).saturating_sub(octets.len()) as u32
 }
 
 /// Returns why a whole packet isn't one of an image with this APID.
-#[tactic(auto, unfolding(packet_defs::specs::Reading::skip_of, packet_defs::specs::Streams::told_length))]
+#[tactic(auto, unfolding(packet_defs::specs::Reading::skip_of, packet_defs::specs::Streams::reported_length))]
 pub fn skip_of(packet: &[u8], apid: u16) -> Option<Skip>
-    requires { length packet.now ≡ told_length packet.now }
+    requires { length packet.now ≡ reported_length packet.now }
     ensures value { result ≡ skip_of apid packet.now }
     ensures long { IfNone result (30 ≤ length packet.now) }
 {
@@ -118,7 +118,7 @@ fn ancillary_in(packet: &[u8]) -> Ancillary
     ensures { result ≡ ancillary_in packet.now }
 {
     Ancillary {
-        told_last: BigEndian::read_u16(&packet[6..]) == mark_of(true),
+        reported_last: BigEndian::read_u16(&packet[6..]) == mark_of(true),
         image: BigEndian::read_u16(&packet[8..]),
         rows: BigEndian::read_u32(&packet[10..]),
         segment: BigEndian::read_u32(&packet[14..]),

@@ -23,7 +23,8 @@ returns i lt =
     grind arith
 
 -- a band by its number
-pub band_there : (numbers : ℕ → ℕ → ℤ) (columns : ℕ) (weights : List ℕ) (band : ℕ) → band < 10 → band_of (pyramid_with numbers columns weights) band ≡ band_with numbers columns weights band
+pub band_there : (numbers : ℕ → ℕ → ℤ) (columns : ℕ) (weights : List ℕ) (band : ℕ) → band < 10 → band_of (pyramid_with numbers columns weights) band
+    ≡ band_with numbers columns weights band
 unfolding pyramid_with
 band_there numbers columns weights band lt = grind (arith, nat_tests, get_or-map-range_with_len)
 
@@ -41,11 +42,13 @@ coefficient_with numbers columns weights row column i lt =
     let place = place_of i in
     let is = place_of-is_place i lt in
     coefficient-is (pyramid_with numbers columns weights) row column i
-    ∙ ap (λ (f : ℕ → ℕ → ℤ). f (block_side place.band * row + place.row) (block_side place.band * column + place.column)) (band_there numbers columns weights place.band is.band)
+    ∙ ap (λ (f : ℕ → ℕ → ℤ). f (block_side place.band * row + place.row) (block_side place.band * column + place.column))
+    (band_there numbers columns weights place.band is.band)
     ∙ placed numbers columns weights place row column is
     ∙ ap (λ n. floor_div (numbers (row * columns + column) n) (2 ^ get_or weights place.band 0)) (returns i lt)
 
 -- blocks with the same numbers are the same in the bands
-pub same_block : (xs ys : ℕ → ℕ → ℤ) (columns : ℕ) (weights : List ℕ) (row column : ℕ) → ((i : ℕ) → i < 64 → xs (row * columns + column) i ≡ ys (row * columns + column) i) →
+pub same_block : (xs ys : ℕ → ℕ → ℤ) (columns : ℕ) (weights : List ℕ) (row column : ℕ) →
+    ((i : ℕ) → i < 64 → xs (row * columns + column) i ≡ ys (row * columns + column) i) →
     SameBlock (pyramid_with xs columns weights) (pyramid_with ys columns weights) row column
 same_block xs ys columns weights row column same = grind (arith, nat_tests, coefficient_with)

@@ -1,5 +1,6 @@
 -- The ranges of damaged rows cover exactly these, and have a row between them.
-use Rattle.std.proofs.Common.{◌≡◌, inl, inr, ◌≤◌, ◌<◌, ◌+◌, ◌-◌, ℕ, zero, suc, List, [], ◌∷◌, length, map, refl, sym, ap, subst, ◌∙◌, arith, Bool, true, false, ◌&&◌, ◌||◌, not, nat_le, nat_lt, filter, take_while}
+use Rattle.std.proofs.Common.{◌≡◌, inl, inr, ◌≤◌, ◌<◌, ◌+◌, ◌-◌, ℕ, zero, suc, List, [], ◌∷◌, length, map, refl, sym, ap, subst, ◌∙◌, arith, Bool, true}
+use Rattle.std.proofs.Common.{false, ◌&&◌, ◌||◌, not, nat_le, nat_lt, filter, take_while}
 use Rattle.std.specs.List.{range_with_len}
 use Rattle.std.proofs.lemmas.Bool.{cases_lt, or_left, and_left}
 use Rattle.std.proofs.lemmas.Bool.Decides.{nat_tests}
@@ -78,7 +79,8 @@ module _ (rows : ℕ) (missing : List ℕ) where
   past_a : (a n : ℕ) → is_damaged rows missing a ≡ false → some_ranges a (suc n) ≡ some_ranges (a + 1) n
   past_a a n e = step_past a n (and_left (is_damaged rows missing a) _ e)
 
-  from_a : (a n : ℕ) → is_damaged rows missing a ≡ false → Fresh (a + 1) n → (row : ℕ) → a ≤ row → is_covered (some_ranges a (suc n)) row ≡ is_damaged rows missing row
+  from_a : (a n : ℕ) → is_damaged rows missing a ≡ false → Fresh (a + 1) n → (row : ℕ) → a ≤ row → is_covered (some_ranges a (suc n)) row
+      ≡ is_damaged rows missing row
   from_a a n e f row le = grind (arith, nat_tests, past_a)
 
   fresh_past : (a n : ℕ) → is_damaged rows missing a ≡ false → Fresh (a + 1) n → Fresh a (suc n)

@@ -18,11 +18,13 @@ use Rattle.stream_defs.specs.Places.{packet_at}
 use Rattle.stream_defs.specs.Chosen.{chosen}
 use Rattle.stream_defs.specs.Settled.{is_settled, settled}
 
-pub picture_of-is : (g : Geometry) (numbers : ℕ → ℕ → ℤ) (r i j : ℕ) → picture_of g numbers r i j ≡ (let c = block_count g.width in clamped g.depth g.signed (rebuilt (pyramid_with numbers c g.weights.shifts) r c i j))
+pub picture_of-is : (g : Geometry) (numbers : ℕ → ℕ → ℤ) (r i j : ℕ) →
+    picture_of g numbers r i j ≡ (let c = block_count g.width in clamped g.depth g.signed (rebuilt (pyramid_with numbers c g.weights.shifts) r c i j))
 unfolding picture_of
 picture_of-is g numbers r i j = refl
 
-pub missing_below-is : (g : Geometry) (received : ℕ → Option (List (List ℤ))) (rows : ℕ) → missing_below g received rows ≡ filter (is_missing g received) (range_with_len 0 rows)
+pub missing_below-is : (g : Geometry) (received : ℕ → Option (List (List ℤ))) (rows : ℕ) → missing_below g received rows ≡ filter (is_missing g received)
+    (range_with_len 0 rows)
 unfolding missing_below
 missing_below-is g received rows = refl
 
@@ -30,7 +32,8 @@ pub most_is : most_block_rows ≡ 32768
 unfolding most_block_rows
 most_is = refl
 
-pub and_missing-is : (missing : List ℕ) (r : ℕ) → and_missing missing r ≡ (filter (λ i. list_any (λ k. k == i) missing || (i == r)) (range_with_len 0 most_block_rows))
+pub and_missing-is : (missing : List ℕ) (r : ℕ) → and_missing missing r
+    ≡ (filter (λ i. list_any (λ k. k == i) missing || (i == r)) (range_with_len 0 most_block_rows))
 unfolding and_missing
 and_missing-is missing r = refl
 
@@ -44,7 +47,8 @@ module _ (apid : ℕ) (s : FateState) where
   kept-none = refl
 
   pub kept-cons : (packet : List ℕ) (packets : List (List ℕ)) →
-      kept apid s (packet ∷ packets) ≡ (if is_kept (fate apid s packet) then packet ∷ kept apid (after apid s packet) packets else kept apid (after apid s packet) packets)
+      kept apid s (packet ∷ packets) ≡ (if is_kept (fate apid s packet) then packet ∷ kept apid (after apid s packet) packets else kept apid
+      (after apid s packet) packets)
   unfolding kept
   kept-cons packet packets = refl
 
@@ -52,14 +56,17 @@ pub ranges-is : (rows : ℕ) (missing : List ℕ) → ranges rows missing ≡ ma
 unfolding ranges
 ranges-is rows missing = refl
 
-pub chosen-is : (told_last : Bool) (s : Setting) (all : List (List ℤ)) (parts : ℕ → List ℕ) (n : ℕ) → chosen told_last s all parts n ≡ flat_map (λ index. map (packet_at told_last s all index) (parts index)) (range_with_len 0 n)
+pub chosen-is : (reported_last : Bool) (s : Setting) (all : List (List ℤ)) (parts : ℕ → List ℕ) (n : ℕ) →
+    chosen reported_last s all parts n ≡ flat_map (λ index. map (packet_at reported_last s all index) (parts index)) (range_with_len 0 n)
 unfolding chosen
-chosen-is told_last s all parts n = refl
+chosen-is reported_last s all parts n = refl
 
-pub number_at-is : (g : Geometry) (received : (ℕ → Option (List (List ℤ)))) (block i : ℕ) → number_at g received block i ≡ slice_index_or (slice_index_or (unwrap_or (received (block / g.segment)) []) (block % g.segment) []) i (pos 0)
+pub number_at-is : (g : Geometry) (received : (ℕ → Option (List (List ℤ)))) (block i : ℕ) →
+    number_at g received block i ≡ slice_index_or (slice_index_or (unwrap_or (received (block / g.segment)) []) (block % g.segment) []) i (pos 0)
 unfolding number_at
 number_at-is g received block i = refl
 
-pub settled-is : (told_last : Bool) (s : Setting) (k : ℕ) → settled told_last s k ≡ count_by (is_settled told_last s k) (range_with_len 0 (segments_of s))
+pub settled-is : (reported_last : Bool) (s : Setting) (k : ℕ) → settled reported_last s k ≡ count_by (is_settled reported_last s k)
+    (range_with_len 0 (segments_of s))
 unfolding settled
-settled-is told_last s k = refl
+settled-is reported_last s k = refl

@@ -1,5 +1,6 @@
 -- Images of one setting, of the same height or not, whose first rows agree: the packets of the segments that these settle are the same.
-use Rattle.std.proofs.Common.{◌≡◌, ◌⊎◌, inl, inr, ◌≤◌, ◌<◌, ◌+◌, ◌-◌, ◌*◌, ◌/◌, ◌%◌, ℕ, zero, suc, ℤ, List, [], ◌++◌, length, take, drop, refl, sym, ap, subst, ◌∙◌, arith, get_or, length-take, length-drop, true, false, ◌==◌, nat_lt, ext_get_or, get_or-take, get_or-drop}
+use Rattle.std.proofs.Common.{◌≡◌, ◌⊎◌, inl, inr, ◌≤◌, ◌<◌, ◌+◌, ◌-◌, ◌*◌, ◌/◌, ◌%◌, ℕ, zero, suc, ℤ, List, [], ◌++◌, length, take, drop, refl, sym, ap}
+use Rattle.std.proofs.Common.{subst, ◌∙◌, arith, get_or, length-take, length-drop, true, false, ◌==◌, nat_lt, ext_get_or, get_or-take, get_or-drop}
 use Rattle.std.proofs.lemmas.Bool.{cases_lt}
 use Rattle.std.proofs.lemmas.Bool.Decides.{nat_tests}
 use Rattle.std.proofs.Math.Nat.{lt-div-mul-add, mul-le-mul_right, mul-le-mul_left}
@@ -15,9 +16,10 @@ use Rattle.base_122.specs.declared.setting.Setting.{Setting}
 use Rattle.base_122.proofs.GeometryRanges.{in_range-sized}
 use Rattle.base_122.proofs.SizeBounds.{first_block-lt, three-le-block_count, total-le-segments}
 use Rattle.packet_defs.specs.Packets.{part_count, part_size, text_packets}
-use Rattle.stream_defs.specs.Output.{ancillary_of, head_of, image_blocks, packets_before, packets_of, segment_of, segment_packets, segment_text, segments_of, share, tells_last, used_before}
+use Rattle.stream_defs.specs.Output.{ancillary_of, head_of, image_blocks, packets_before, packets_of, segment_of, segment_packets, segment_text}
+use Rattle.stream_defs.specs.Output.{segments_of, share, reports_last, used_before}
 use Rattle.stream_defs.specs.Settled.{last_block_row, is_settled, settled}
-use Rattle.stream_defs.specs.SettledImages.{front_packets, settled_in}
+use Rattle.stream_defs.specs.SettledImages.{leading_packets, settled_in}
 use Rattle.stream_defs.proofs.SettledLaws.{settled_same, settled_first, count_many, count_most, rows_rise}
 use Rattle.stream_defs.proofs.ImageLaws.{blocks_agree, length-image_blocks, image_block, total_above}
 use Rattle.stream_defs.proofs.Outputs.{packets_of-none, packets_of-more, packets_before-none, packets_before-more}
@@ -48,7 +50,8 @@ module _ (s : Setting) (range : IsInRange s) (open_rows : s.rows ≡ 0) (k : ℕ
       let r = last_block_row (sized s rows) index in
       let high : c * (r + 4) ≤ total = mul-le-mul_left c (omega (arith, near, most)) in
       let part : c * (r + 4) ≡ (r + 1) * c + 3 * c = grind arith in
-      let up : index * S + segment_blocks total S index - 1 < r * c + c = lt-div-mul-add {a = index * S + segment_blocks total S index - 1} {b = c} (omega (arith, three_columns)) in
+      let up : index * S + segment_blocks total S index - 1 < r * c + c = lt-div-mul-add {a = index * S + segment_blocks total S index - 1} {b =
+      c} (omega (arith, three_columns)) in
       let next : (r + 1) * c ≡ r * c + c = grind arith in
       let whole : segment_blocks total S index ≡ S = omega (arith, up, next, high, part, first_block-lt total S index some_blocks lt, three_columns) in
       record {
@@ -67,7 +70,8 @@ module _ (s : Setting) (range : IsInRange s) (open_rows : s.rows ≡ 0) (k : ℕ
       let all : total ≤ segments_of (sized s rows) * S = total-le-segments total S some_blocks in
       elim (cases_lt (index + 1) (segments_of (sized s rows))) [
         | inl less ↦ less
-        | inr far ↦ let few : segments_of (sized s rows) * S ≤ (index + 1) * S = mul-le-mul_right S far in absurd (let whole = n.whole in omega (arith, whole, all, few))
+        | inr far ↦ let few : segments_of (sized s rows) * S ≤ (index + 1) * S =
+            mul-le-mul_right S far in absurd (let whole = n.whole in omega (arith, whole, all, few))
       ]
 
   near_settled : (rows index : ℕ) → IsNear s k rows index → is_settled true (sized s rows) k index ≡ true
@@ -95,7 +99,8 @@ module _ (s : Setting) (range : IsInRange s) (open_rows : s.rows ≡ 0) (k : ℕ
           | inl more ↦ absurd (let i = near_index lines (segments_of (sized s lines)) (there (segments_of (sized s lines)) more) in omega (arith, i))
           | inr fits ↦ fits
         ] in
-        count_many (is_settled true (sized s lines) k) (segments_of (sized s lines)) 0 m room (λ j low high. near_settled lines j (there j (omega (arith, high))))
+        count_many (is_settled true (sized s lines) k) (segments_of (sized s lines)) 0 m room
+        (λ j low high. near_settled lines j (there j (omega (arith, high))))
 
     -- ---- their blocks and texts
 
@@ -114,8 +119,10 @@ module _ (s : Setting) (range : IsInRange s) (open_rows : s.rows ≡ 0) (k : ℕ
           let column : b % c < c = omega (arith, three) in
           let in_a = total_above A (in_range-sized s rows range height) height.0 b (omega (arith, near, le)) in
           let in_b = total_above B (in_range-sized s lines range other) other.0 b (omega (arith, near, le')) in
-          let known : SameBlock (pyramid (padded x rows s.width) (block_count rows) c) (pyramid (padded y lines s.width) (block_count lines) c) (b / c) (b % c) =
-          images-known x y rows lines s.width k (block_count rows) (block_count lines) c (b / c) (b % c) le le' (omega (arith, width)) (omega arith) (omega arith) (omega (arith, three)) column near same in
+          let known : SameBlock (pyramid (padded x rows s.width) (block_count rows) c) (pyramid (padded y lines s.width) (block_count lines) c) (b / c)
+          (b % c) =
+          images-known x y rows lines s.width k (block_count rows) (block_count lines) c (b / c) (b % c) le le' (omega (arith, width)) (omega arith)
+          (omega arith) (omega (arith, three)) column near same in
           image_block A x b [] in_a ∙ block-same _ _ s.weights.shifts (b / c) (b % c) known ∙ sym (image_block B y b [] in_b)
 
       segment_same : (index : ℕ) → index < settled true A k → segment_of A (image_blocks A x) index ≡ segment_of B (image_blocks B y) index
@@ -130,10 +137,22 @@ module _ (s : Setting) (range : IsInRange s) (open_rows : s.rows ≡ 0) (k : ℕ
           let whole' = there.whole in
           let long = length-image_blocks A x in
           let long' = length-image_blocks B y in
-          ext_get_or [] (take S (drop first xs)) (take S (drop first ys)) (omega (arith, long, long', whole, whole', length-take S (drop first xs), length-take S (drop first ys), length-drop first xs, length-drop first ys))
+          ext_get_or [] (take S (drop first xs)) (take S (drop first ys))
+          (omega (
+            arith,
+            long,
+            long',
+            whole,
+            whole',
+            length-take S (drop first xs),
+            length-take S (drop first ys),
+            length-drop first xs,
+            length-drop first ys,
+          ))
           (λ i lt.
           let inside : i < S = omega (arith, lt, length-take S (drop first xs)) in
-          let row : (first + i) / block_count s.width ≤ (index * S + S - 1) / block_count s.width = rows_rise (first + i) (index * S + S - 1) (block_count s.width) (omega (arith, three_columns)) (omega (arith, inside)) in
+          let row : (first + i) / block_count s.width ≤ (index * S + S - 1) / block_count s.width =
+          rows_rise (first + i) (index * S + S - 1) (block_count s.width) (omega (arith, three_columns)) (omega (arith, inside)) in
           get_or-take S (drop first xs) i [] inside ∙ get_or-drop first xs i []
           ∙ block_same (first + i) (omega (arith, row, here.near))
           ∙ sym (get_or-take S (drop first ys) i [] inside ∙ get_or-drop first ys i []))
@@ -186,19 +205,21 @@ module _ (s : Setting) (rows lines k : ℕ) (range : IsInRange s) (height : IsHe
   heights : (s.rows ≡ 0) ⊎ SameHeight
   heights = grind (arith, nat_tests)
 
-  tells : s.rows ≡ 0 → tells_last s ≡ true
-  tells none = grind (arith, nat_tests)
+  reports : s.rows ≡ 0 → reports_last s ≡ true
+  reports none = grind (arith, nat_tests)
 
   pub settled_alike : settled_in s rows k ≡ settled_in s lines k
-  settled_alike = grind (arith, nat_tests, heights, no_fewer, tells)
+  settled_alike = grind (arith, nat_tests, heights, no_fewer, reports)
 
-  pub images_settle : (x y : ℕ → ℕ → ℤ) → SameWithin k s.width x y → front_packets s rows x (settled_in s rows k) ≡ front_packets s lines y (settled_in s lines k)
+  pub images_settle : (x y : ℕ → ℕ → ℤ) → SameWithin k s.width x y → leading_packets s rows x (settled_in s rows k) ≡ leading_packets s lines y
+      (settled_in s lines k)
   images_settle x y same = elim heights [
     | inl none ↦
         let packets = packets_same s range none k rows lines height other le le' x y same (settled true (sized s rows) k) (omega arith) in
-        subst (λ n. front_packets s rows x (settled_in s rows k) ≡ front_packets s lines y n) settled_alike (rw (tells none) packets)
+        subst (λ n. leading_packets s rows x (settled_in s rows k) ≡ leading_packets s lines y n) settled_alike (rw (reports none) packets)
     | inr one ↦
-        subst (λ n. front_packets s rows x (settled_in s rows k) ≡ front_packets s n y (settled_in s n k)) one
-        (settled_same (tells_last s) (sized s rows) (in_range-sized s rows range height) k (image_blocks (sized s rows) x) (image_blocks (sized s rows) y) (length-image_blocks (sized s rows) x)
+        subst (λ n. leading_packets s rows x (settled_in s rows k) ≡ leading_packets s n y (settled_in s n k)) one
+        (settled_same (reports_last s) (sized s rows) (in_range-sized s rows range height) k (image_blocks (sized s rows) x) (image_blocks (sized s rows) y)
+        (length-image_blocks (sized s rows) x)
         (blocks_agree (sized s rows) (in_range-sized s rows range height) height.0 k x y le same))
   ]

@@ -12,17 +12,26 @@ use Rattle.stream_defs.proofs.PlacedLaws.{is_open}
 
 -- ---- octets
 
-row_same : (a b : ℕ → ℤ) (width from : ℕ) → ((j : ℕ) → from ≤ j → j < from + width → a j ≡ b j) → map a (range_with_len from width) ≡ map b (range_with_len from width)
+row_same : (a b : ℕ → ℤ) (width from : ℕ) → ((j : ℕ) → from ≤ j → j < from + width → a j ≡ b j) →
+    map a (range_with_len from width) ≡ map b (range_with_len from width)
 row_same a b zero from same = refl
 row_same a b (suc n) from same = grind (arith, nat_tests, row_same a b n (from + 1) (λ j low high. same j (omega (arith, low)) (omega (arith, high))))
 
 rows_same : (depth width : ℕ) (a b : ℕ → ℕ → ℤ) (rows from : ℕ) → ((i j : ℕ) → from ≤ i → i < from + rows → j < width → a i j ≡ b i j) →
-    flat_map (λ row. pixel_octets depth (map (a row) (range_with_len 0 width))) (range_with_len from rows) ≡ flat_map (λ row. pixel_octets depth (map (b row) (range_with_len 0 width))) (range_with_len from rows)
+    flat_map (λ row. pixel_octets depth (map (a row) (range_with_len 0 width))) (range_with_len from rows)
+    ≡ flat_map (λ row. pixel_octets depth (map (b row) (range_with_len 0 width))) (range_with_len from rows)
 rows_same depth width a b zero from same = refl
-rows_same depth width a b (suc n) from same = grind (arith, nat_tests, row_same, rows_same depth width a b n (from + 1) (λ i j low high lt. same i j (omega (arith, low)) (omega (arith, high)) lt))
+rows_same depth width a b (suc n) from same = grind (
+  arith,
+  nat_tests,
+  row_same,
+  rows_same depth width a b n (from + 1)
+      (λ i j low high lt. same i j (omega (arith, low)) (omega (arith, high)) lt),
+)
 
 -- images whose first rows are the same have the same octets of them
-pub raster_same : (depth rows width : ℕ) (a b : ℕ → ℕ → ℤ) → ((i j : ℕ) → i < rows → j < width → a i j ≡ b i j) → raster_octets depth rows width a ≡ raster_octets depth rows width b
+pub raster_same : (depth rows width : ℕ) (a b : ℕ → ℕ → ℤ) → ((i j : ℕ) → i < rows → j < width → a i j ≡ b i j) →
+    raster_octets depth rows width a ≡ raster_octets depth rows width b
 raster_same depth rows width a b same = rows_same depth width a b rows 0 (λ i j low high lt. same i j (omega (arith, high)) lt)
 
 -- ---- any two heights
@@ -49,10 +58,11 @@ number_sized g rows received = refl
 band_open : (g : Geometry) (n : ℕ) → g.rows ≡ 0 → band_rows g n ≡ n + 3
 band_open g n e = rw (is_open g.rows e) refl
 
-module _ (g : Geometry) (numbers : ℕ → ℕ → ℤ) (untold : g.rows ≡ 0) (wide : 2 ≤ block_count g.width) (n k : ℕ) (low : k ≤ 8 * n - 21) where
+module _ (g : Geometry) (numbers : ℕ → ℕ → ℤ) (unknown : g.rows ≡ 0) (wide : 2 ≤ block_count g.width) (n k : ℕ) (low : k ≤ 8 * n - 21) where
   -- while the height isn't reported they are those of the tallest image
   pub placed_pixels : n ≤ block_count (placed_rows g) → (i j : ℕ) → i < k → j < g.width → whole_with (placed g) numbers i j ≡ picture_with g numbers n i j
   placed_pixels few i j row column = grind (arith, nat_tests, sized_same, heights_alike, band_open)
 
-  pub placed_octets : n ≤ block_count (placed_rows g) → raster_octets g.depth k g.width (whole_with (placed g) numbers) ≡ raster_octets g.depth k g.width (picture_with g numbers n)
+  pub placed_octets : n ≤ block_count (placed_rows g) → raster_octets g.depth k g.width (whole_with (placed g) numbers) ≡ raster_octets g.depth k g.width
+      (picture_with g numbers n)
   placed_octets few = raster_same g.depth k g.width (whole_with (placed g) numbers) (picture_with g numbers n) (placed_pixels few)

@@ -1,5 +1,6 @@
 -- The first rows of an image determine the packets of the segments that they settle.
-use Rattle.std.proofs.Common.{◌≡◌, ◌≤◌, ◌<◌, ◌+◌, ◌*◌, ◌/◌, ◌%◌, ℕ, zero, suc, ℤ, List, [], length, refl, sym, ◌∙◌, arith, get_or, Bool, true, false, ◌==◌, cond, div-lt_iff_lt-mul}
+use Rattle.std.proofs.Common.{◌≡◌, ◌≤◌, ◌<◌, ◌+◌, ◌*◌, ◌/◌, ◌%◌, ℕ, zero, suc, ℤ, List, [], length, refl, sym, ◌∙◌, arith, get_or, Bool, true, false, ◌==◌}
+use Rattle.std.proofs.Common.{cond, div-lt_iff_lt-mul}
 use Rattle.std.specs.List.{count_by, range_with_len}
 use Rattle.std.proofs.lemmas.Bool.Decides.{nat_tests}
 use Rattle.std.proofs.lemmas.List.{same_lists}
@@ -47,7 +48,8 @@ module _ (s : Setting) (range : IsInRange s) (tall : IsWithin rows_range s.rows)
   blocks_known k x y b le same near = grind (arith, nat_tests, some_columns, total_above, images-known, image_block, block-same)
 
   -- all of them
-  padded_whole : (x y : ℕ → ℕ → ℤ) → SameWithin s.rows s.width x y → SameWithin (8 * block_count s.rows) (8 * block_count s.width) (padded x s.rows s.width) (padded y s.rows s.width)
+  padded_whole : (x y : ℕ → ℕ → ℤ) → SameWithin s.rows s.width x y → SameWithin (8 * block_count s.rows) (8 * block_count s.width) (padded x s.rows s.width)
+      (padded y s.rows s.width)
   padded_whole x y same = grind (arith, nat_tests)
 
   pub blocks_whole : (x y : ℕ → ℕ → ℤ) → SameWithin s.rows s.width x y → image_blocks s x ≡ image_blocks s y
@@ -56,7 +58,8 @@ module _ (s : Setting) (range : IsInRange s) (tall : IsWithin rows_range s.rows)
       let c = block_count s.width in
       let three = some_columns in
       let tall = three-le-block_count s.rows tall.0 in
-      let pyramids = pyramid-same r c (padded x s.rows s.width) (padded y s.rows s.width) (omega (arith, tall)) (omega (arith, three)) (padded_whole x y same) in
+      let pyramids = pyramid-same r c (padded x s.rows s.width) (padded y s.rows s.width) (omega (arith, tall)) (omega (arith, three))
+      (padded_whole x y same) in
       same_lists (image_blocks s x) (image_blocks s y) (length-image_blocks s x ∙ sym (length-image_blocks s y))
       (λ b d hb.
       let lt : b < total_blocks s.width s.rows = omega (arith, hb, length-image_blocks s x) in
@@ -86,9 +89,9 @@ count_all p (suc n) a each =
     one : (b : Bool) → b ≡ true → cond b 1 0 ≤ 1 × 1 ≤ cond b 1 0
     one b e = grind (arith, nat_tests)
 
-pub settled_rises : (told_last : Bool) (s : Setting) (k l : ℕ) → k ≤ l → l ≤ s.rows → settled told_last s k ≤ settled told_last s l
+pub settled_rises : (reported_last : Bool) (s : Setting) (k l : ℕ) → k ≤ l → l ≤ s.rows → settled reported_last s k ≤ settled reported_last s l
 unfolding settled
-settled_rises told_last s k l le most = grind (arith, nat_tests, count_rises)
+settled_rises reported_last s k l le most = grind (arith, nat_tests, count_rises)
 
 pub settled_whole : (s : Setting) → settled false s s.rows ≡ segments_of s
 unfolding settled

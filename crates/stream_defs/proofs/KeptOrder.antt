@@ -1,5 +1,6 @@
 -- The packets that are kept are in order: of each segment they are its parts from 0 on, one after the other.
-use Rattle.std.proofs.Common.{◌≡◌, ◌⊎◌, inl, inr, ◌≤◌, ◌<◌, ◌+◌, ℕ, List, [], ◌∷◌, ◌++◌, refl, sym, ap, subst, ◌∙◌, arith, Bool, true, false, ◌==◌, ◌&&◌, ◌||◌, not, nat_le, nat_lt, if◌then◌else◌, Option, Some, None, unwrap_or, option_map}
+use Rattle.std.proofs.Common.{◌≡◌, ◌⊎◌, inl, inr, ◌≤◌, ◌<◌, ◌+◌, ℕ, List, [], ◌∷◌, ◌++◌, refl, sym, ap, subst, ◌∙◌, arith, Bool, true, false, ◌==◌, ◌&&◌}
+use Rattle.std.proofs.Common.{◌||◌, not, nat_le, nat_lt, if◌then◌else◌, Option, Some, None, unwrap_or, option_map}
 use Rattle.std.proofs.lemmas.Bool.{false≢true, eq-eqb, ne_eqb}
 use Rattle.std.proofs.lemmas.Bool.Decides.{nat_tests}
 use Rattle.stream_defs.proofs.ChosenLaws.{kept_none}
@@ -135,7 +136,8 @@ at_both index [] ys = refl
 at_both index (x ∷ xs) ys = by (index_in x == index) (at_both index xs ys)
   where
     by : (b : Bool) → packets_at index (xs ++ ys) ≡ packets_at index xs ++ packets_at index ys →
-        (if b then x ∷ packets_at index (xs ++ ys) else packets_at index (xs ++ ys)) ≡ (if b then x ∷ packets_at index xs else packets_at index xs) ++ packets_at index ys
+        (if b then x ∷ packets_at index (xs ++ ys) else packets_at index (xs ++ ys)) ≡ (if b then x ∷ packets_at index xs else packets_at index xs)
+        ++ packets_at index ys
     by true e = ap (λ zs. x ∷ zs) e
     by false e = e
 
@@ -180,7 +182,8 @@ abbrev pub IsElsewhere : (index : ℕ) → FateState → Type 0
 IsElsewhere index s = (l : LastPart) → s.last ≡ Some l → l.index ≡ index → ⊥
 
 -- the same after the part of another one
-after_other : (apid : ℕ) (s : FateState) (x : List ℕ) (index : ℕ) → (after apid s x).last ≡ Some (part_in x) → (index_in x ≡ index → ⊥) → IsElsewhere index (after apid s x)
+after_other : (apid : ℕ) (s : FateState) (x : List ℕ) (index : ℕ) → (after apid s x).last ≡ Some (part_in x) → (index_in x ≡ index → ⊥) →
+    IsElsewhere index (after apid s x)
 after_other apid s x index last other l is e = other (ap (λ (l : LastPart). l.index) (some_same (sym last ∙ is)) ∙ e)
 
 -- one of these packets begins the segment of this index
@@ -209,7 +212,8 @@ pub begun_or_none : (index apid : ℕ) (s : FateState) (packets : List (List ℕ
     IsBegunIn index apid s packets ⊎ (packets_at index (kept apid s packets) ≡ [])
 begun_or_none index apid s [] elsewhere = inr (ap (packets_at index) (kept_none apid s) ∙ at_none index)
 begun_or_none index apid s (x ∷ xs) elsewhere = elim (does apid s x) [
-  | inl lost ↦ on (ap (packets_at index) (lost.kept_are xs)) (begun_or_none index apid (after apid s x) xs (subst (IsElsewhere index) (sym lost.same) elsewhere))
+  | inl lost ↦ on (ap (packets_at index) (lost.kept_are xs))
+      (begun_or_none index apid (after apid s x) xs (subst (IsElsewhere index) (sym lost.same) elsewhere))
   | inr here ↦ elim here [
     | inl first ↦ elim (same_or_not (index_in x) index) [
       | inl same ↦ inl record { before = []; packet = x; later = xs; are = refl; is_kept = first.is_kept; part = first.part; index_is = same }
@@ -221,7 +225,8 @@ begun_or_none index apid s (x ∷ xs) elsewhere = elim (does apid s x) [
   ]
 ]
   where
-    first_of_rest : kept apid s (x ∷ xs) ≡ x ∷ kept apid (after apid s x) xs → (index_in x ≡ index → ⊥) → packets_at index (kept apid s (x ∷ xs)) ≡ packets_at index (kept apid (after apid s x) xs)
+    first_of_rest : kept apid s (x ∷ xs) ≡ x ∷ kept apid (after apid s x) xs → (index_in x ≡ index → ⊥) → packets_at index (kept apid s (x ∷ xs))
+        ≡ packets_at index (kept apid (after apid s x) xs)
     first_of_rest e other = ap (packets_at index) e ∙ at_other index x (kept apid (after apid s x) xs) other
 
     on : packets_at index (kept apid s (x ∷ xs)) ≡ packets_at index (kept apid (after apid s x) xs) →

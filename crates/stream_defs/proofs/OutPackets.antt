@@ -1,5 +1,6 @@
 -- The fields of a packet of an image, by its place.
-use Rattle.std.proofs.Common.{◌≡◌, ◌≤◌, ◌<◌, ◌+◌, ◌*◌, ◌^◌, ℕ, ℤ, List, length, drop, ap, ◌∙◌, arith, length-take, Bool, ◌==◌, if◌then◌else◌, div-mul-le_self, mul-le-mul_left, mul-le-mul_right}
+use Rattle.std.proofs.Common.{◌≡◌, ◌≤◌, ◌<◌, ◌+◌, ◌*◌, ◌^◌, ℕ, ℤ, List, length, drop, ap, ◌∙◌, arith, length-take, Bool, ◌==◌, if◌then◌else◌}
+use Rattle.std.proofs.Common.{div-mul-le_self, mul-le-mul_left, mul-le-mul_right}
 use Rattle.std.proofs.lemmas.Bool.Decides.{nat_tests}
 use Rattle.base_122.specs.Ranges.{IsWithin, rows_range}
 use Rattle.base_122.specs.Sizes.{total_blocks}
@@ -16,8 +17,8 @@ use Rattle.stream_defs.specs.Places.{parts_of, packet_at, AreCoded}
 use Rattle.stream_defs.specs.Fates.{begins, closes}
 
 -- what is written in the packet of a part
-abbrev pub written_at : (told_last : Bool) → Setting → (index part : ℕ) → Ancillary
-written_at told_last s index part = record (ancillary_of told_last s index) { part = part }
+abbrev pub written_at : (reported_last : Bool) → Setting → (index part : ℕ) → Ancillary
+written_at reported_last s index part = record (ancillary_of reported_last s index) { part = part }
 
 flags_say : (first last : Bool) → begins ((if first then 1 else 0) + (if last then 2 else 0)) ≡ first
 flags_say first last = grind (arith, nat_tests)
@@ -39,11 +40,11 @@ module _ (s : Setting) (all : List (List ℤ)) (coded : AreCoded s all) where
   pub block_before : (index : ℕ) → index < segments_of s → index * s.segment < total_blocks s.width s.rows
   block_before index lt = first_block-lt (total_blocks s.width s.rows) s.segment index some_blocks lt
 
-module _ (told_last : Bool) (s : Setting) (all : List (List ℤ)) (coded : AreCoded s all) where
-  rows_fit : (told : Bool) → IsWithin rows_range s.rows → (if told then 0 else s.rows) < 2 ^ 32
-  rows_fit told rows = grind (arith, nat_tests)
+module _ (reported_last : Bool) (s : Setting) (all : List (List ℤ)) (coded : AreCoded s all) where
+  rows_fit : (if_known : Bool) → IsWithin rows_range s.rows → (if if_known then 0 else s.rows) < 2 ^ 32
+  rows_fit if_known rows = grind (arith, nat_tests)
 
-  fits : (index part : ℕ) → index < segments_of s → part < parts_of s all index → IsAncillary (written_at told_last s index part)
+  fits : (index part : ℕ) → index < segments_of s → part < parts_of s all index → IsAncillary (written_at reported_last s index part)
   fits index part lt few =
       let r = coded.setting in
       let image = r.image in
@@ -56,7 +57,7 @@ module _ (told_last : Bool) (s : Setting) (all : List (List ℤ)) (coded : AreCo
       let parts = few_parts (part_size s.packet) (length (segment_text s all index)) (omega (arith, packet)) in
       record {
         image = omega (arith, image);
-        rows = rows_fit told_last rows;
+        rows = rows_fit reported_last rows;
         segment = omega (arith, segment);
         index = omega (arith, mul-le-mul_left {m = 1} {n = s.segment} index (omega (arith, segment)), before, most);
         first = omega (arith, before, most);
@@ -65,9 +66,10 @@ module _ (told_last : Bool) (s : Setting) (all : List (List ℤ)) (coded : AreCo
 
   -- the packet of a part is read as it was written
   pub part_reads : (index part : ℕ) → index < segments_of s → part < parts_of s all index →
-      ReadsBack s.apid (sequence_flags part (parts_of s all index)) (written_at told_last s index part) (part_of (part_size s.packet) part (segment_text s all index)) (packet_at told_last s all index part)
+      ReadsBack s.apid (sequence_flags part (parts_of s all index)) (written_at reported_last s index part)
+      (part_of (part_size s.packet) part (segment_text s all index)) (packet_at reported_last s all index part)
   part_reads index part lt few =
-      reads_back s.apid (sequence_flags part (parts_of s all index)) (packets_before s all index + part) (written_at told_last s index part)
+      reads_back s.apid (sequence_flags part (parts_of s all index)) (packets_before s all index + part) (written_at reported_last s index part)
       (part_of (part_size s.packet) part (segment_text s all index)) record {
         own = omega (arith, coded.setting.apid);
         few_flags = flags_few (part == 0) (part + 1 == parts_of s all index);
@@ -76,8 +78,10 @@ module _ (told_last : Bool) (s : Setting) (all : List (List ℤ)) (coded : AreCo
       }
 
   -- its flags say whether it is the first and whether it is the last
-  pub part_begins : (index part : ℕ) → index < segments_of s → part < parts_of s all index → begins (flags_in (packet_at told_last s all index part)) ≡ (part == 0)
+  pub part_begins : (index part : ℕ) → index < segments_of s → part < parts_of s all index → begins (flags_in (packet_at reported_last s all index part))
+      ≡ (part == 0)
   part_begins index part lt few = ap begins (part_reads index part lt few).flags_are ∙ flags_say (part == 0) (part + 1 == parts_of s all index)
 
-  pub part_closes : (index part : ℕ) → index < segments_of s → part < parts_of s all index → closes (flags_in (packet_at told_last s all index part)) ≡ (part + 1 == parts_of s all index)
+  pub part_closes : (index part : ℕ) → index < segments_of s → part < parts_of s all index → closes (flags_in (packet_at reported_last s all index part))
+      ≡ (part + 1 == parts_of s all index)
   part_closes index part lt few = ap closes (part_reads index part lt few).flags_are ∙ flags_close (part == 0) (part + 1 == parts_of s all index)

@@ -17,19 +17,21 @@ range_with_len-more a zero = let e : a + 0 ≡ a = omega arith in rw e refl
 range_with_len-more a (suc n) = grind (arith, nat_tests, range_with_len-more (a + 1) n)
 
 -- no segment
-pub packets_of-none : (told_last : Bool) (s : Setting) (all : List (List ℤ)) → packets_of told_last s all 0 ≡ []
+pub packets_of-none : (reported_last : Bool) (s : Setting) (all : List (List ℤ)) → packets_of reported_last s all 0 ≡ []
 unfolding packets_of
-packets_of-none told_last s all = refl
+packets_of-none reported_last s all = refl
 
 pub packets_before-none : (s : Setting) (all : List (List ℤ)) → packets_before s all 0 ≡ 0
 unfolding packets_before
 packets_before-none s all = refl
 
 -- one segment more
-pub packets_of-more : (told_last : Bool) (s : Setting) (all : List (List ℤ)) (n : ℕ) → packets_of told_last s all (n + 1) ≡ packets_of told_last s all n ++ segment_packets told_last s all n
+pub packets_of-more : (reported_last : Bool) (s : Setting) (all : List (List ℤ)) (n : ℕ) → packets_of reported_last s all (n + 1)
+    ≡ packets_of reported_last s all n
+    ++ segment_packets reported_last s all n
 unfolding packets_of
-packets_of-more told_last s all n =
-    let f = segment_packets told_last s all in
+packets_of-more reported_last s all n =
+    let f = segment_packets reported_last s all in
     ap (flat_map f) (range_with_len-more 0 n ∙ ap (λ k. range_with_len 0 n ++ k ∷ []) (let t : 0 + n ≡ n = omega arith in t))
     ∙ flat_map-append f (range_with_len 0 n) (n ∷ [])
     ∙ ap (λ r. flat_map f (range_with_len 0 n) ++ r) (append-nil (f n))
@@ -52,16 +54,16 @@ unfolding used_before
 used_before-more s all n = let e : n + 1 ≡ suc n = omega arith in ap (used_before s all) e
 
 -- a text has one packet for each part
-pub length-segment_packets : (told_last : Bool) (s : Setting) (all : List (List ℤ)) (n : ℕ) →
-    length (segment_packets told_last s all n) ≡ part_count (part_size s.packet) (length (segment_text s all n))
-length-segment_packets told_last s all n = simp text_packets-is (grind (arith, nat_tests, length-map, length-range_with_len))
+pub length-segment_packets : (reported_last : Bool) (s : Setting) (all : List (List ℤ)) (n : ℕ) →
+    length (segment_packets reported_last s all n) ≡ part_count (part_size s.packet) (length (segment_text s all n))
+length-segment_packets reported_last s all n = simp text_packets-is (grind (arith, nat_tests, length-map, length-range_with_len))
 
-pub length-packets_of : (told_last : Bool) (s : Setting) (all : List (List ℤ)) (n : ℕ) → length (packets_of told_last s all n) ≡ packets_before s all n
-length-packets_of told_last s all zero = ap length (packets_of-none told_last s all) ∙ sym (packets_before-none s all)
-length-packets_of told_last s all (suc n) =
-    let more = ap length (packets_of-more told_last s all n) ∙ length-append (packets_of told_last s all n) (segment_packets told_last s all n) in
-    let before = length-packets_of told_last s all n in
-    let here = length-segment_packets told_last s all n in
-    let t : length (packets_of told_last s all (n + 1)) ≡ packets_before s all (n + 1) = omega (arith, more, before, here, packets_before-more s all n) in
+pub length-packets_of : (reported_last : Bool) (s : Setting) (all : List (List ℤ)) (n : ℕ) → length (packets_of reported_last s all n) ≡ packets_before s all n
+length-packets_of reported_last s all zero = ap length (packets_of-none reported_last s all) ∙ sym (packets_before-none s all)
+length-packets_of reported_last s all (suc n) =
+    let more = ap length (packets_of-more reported_last s all n) ∙ length-append (packets_of reported_last s all n) (segment_packets reported_last s all n) in
+    let before = length-packets_of reported_last s all n in
+    let here = length-segment_packets reported_last s all n in
+    let t : length (packets_of reported_last s all (n + 1)) ≡ packets_before s all (n + 1) = omega (arith, more, before, here, packets_before-more s all n) in
     let e : n + 1 ≡ suc n = omega arith in
-    subst (λ k. length (packets_of told_last s all k) ≡ packets_before s all k) e t
+    subst (λ k. length (packets_of reported_last s all k) ≡ packets_before s all k) e t

@@ -30,7 +30,8 @@ placed_same g e = λ i. record g { rows = placed_known g e i }
 
 -- and their blocks
 pub blocks_open : (g : Geometry) → g.rows ≡ 0 → blocks_of (placed g) ≡ 32768 * block_count g.width
-blocks_open g e = ap (λ n. block_count g.width * block_count n) (placed_open g e) ∙ (let turned : block_count g.width * 32768 ≡ 32768 * block_count g.width = grind arith in turned)
+blocks_open g e = ap (λ n. block_count g.width * block_count n) (placed_open g e)
+    ∙ (let turned : block_count g.width * 32768 ≡ 32768 * block_count g.width = grind arith in turned)
 
 pub blocks_known : (g : Geometry) → (g.rows ≡ 0 → ⊥) → blocks_of (placed g) ≡ blocks_of g
 blocks_known g e = ap (λ n. block_count g.width * block_count n) (placed_known g e)
@@ -52,7 +53,7 @@ pub reached_known : (g : Geometry) (n : ℕ) → (g.rows ≡ 0 → ⊥) → rows
 reached_known g n some = rw (is_not_open g.rows some) refl
 
 reached_open : (g : Geometry) (n : ℕ) → g.rows ≡ 0 → rows_reached g n ≡ max rows_range.least (8 * div_ceil n (block_count g.width) - 7)
-reached_open g n untold = rw (is_open g.rows untold) refl
+reached_open g n unknown = rw (is_open g.rows unknown) refl
 
 -- more blocks reach at least the same rows
 pub reached_rises : (g : Geometry) (m n : ℕ) → 0 < block_count g.width → m ≤ n → rows_reached g m ≤ rows_reached g n
@@ -61,9 +62,11 @@ reached_rises g m n some le = by (g.rows == 0)
     rise : div_ceil m (block_count g.width) ≤ div_ceil n (block_count g.width)
     rise = ceil_rises m n (block_count g.width) some le
 
-    by : (b : Bool) → (if b then max rows_range.least (8 * div_ceil m (block_count g.width) - 7) else g.rows) ≤ (if b then max rows_range.least (8 * div_ceil n (block_count g.width) - 7) else g.rows)
+    by : (b : Bool) → (if b then max rows_range.least (8 * div_ceil m (block_count g.width) - 7) else g.rows) ≤
+        (if b then max rows_range.least (8 * div_ceil n (block_count g.width) - 7) else g.rows)
     by b = grind (arith, nat_tests, rise)
 
 -- blocks of an image reach no more rows than it has
-pub reached_few : (g : Geometry) (rows n : ℕ) → g.rows ≡ 0 → 0 < block_count g.width → IsWithin rows_range rows → n ≤ total_blocks g.width rows → rows_reached g n ≤ rows
-reached_few g rows n untold some within few = grind (arith, nat_tests, ceil_most, reached_open)
+pub reached_few : (g : Geometry) (rows n : ℕ) → g.rows ≡ 0 → 0 < block_count g.width → IsWithin rows_range rows → n ≤ total_blocks g.width rows →
+    rows_reached g n ≤ rows
+reached_few g rows n unknown some within few = grind (arith, nat_tests, ceil_most, reached_open)

@@ -1,5 +1,6 @@
 -- Damaged rows depend only on the missing block rows that can reach them.
-use Rattle.std.proofs.Common.{◌≡◌, ◌≤◌, ◌<◌, ◌+◌, ◌-◌, ◌*◌, ℕ, List, [], ◌∷◌, length, map, refl, arith, Bool, true, false, ◌==◌, ◌&&◌, ◌||◌, not, nat_lt, filter, take_while}
+use Rattle.std.proofs.Common.{◌≡◌, ◌≤◌, ◌<◌, ◌+◌, ◌-◌, ◌*◌, ℕ, List, [], ◌∷◌, length, map, refl, arith, Bool, true, false, ◌==◌, ◌&&◌, ◌||◌, not, nat_lt}
+use Rattle.std.proofs.Common.{filter, take_while}
 use Rattle.std.specs.List.{range_with_len, list_any}
 use Rattle.std.proofs.lemmas.Bool.{false≢true, eqb-true, or_left, or_right, ltb-true}
 use Rattle.std.proofs.lemmas.Bool.Decides.{nat_tests}
@@ -24,7 +25,8 @@ passes_some p [] r passes e = absurd (false≢true e)
 passes_some p (x ∷ xs) r passes e = grind (arith, nat_tests, or_left, eqb-true, or_right, passes_some p xs r passes)
 
 -- a test that only numbers below a bound pass is the same for lists with the same numbers below it
-any_below : (p : ℕ → Bool) (n : ℕ) (xs ys : List ℕ) → ((r : ℕ) → p r ≡ true → r < n) → ((r : ℕ) → r < n → is_among xs r ≡ is_among ys r) → list_any p xs ≡ list_any p ys
+any_below : (p : ℕ → Bool) (n : ℕ) (xs ys : List ℕ) → ((r : ℕ) → p r ≡ true → r < n) → ((r : ℕ) → r < n → is_among xs r ≡ is_among ys r) →
+    list_any p xs ≡ list_any p ys
 any_below p n xs ys low same = grind (arith, nat_tests, some_passes, passes_some, false≢true)
 
 -- ---- damaged rows
@@ -36,7 +38,8 @@ reaches_low n r row low e = grind (arith, nat_tests)
 row_low : (rows n row : ℕ) → rows ≤ 8 * n - 21 → nat_lt row rows ≡ true → row + 21 < 8 * n
 row_low rows n row most e = let lt : row < rows = ltb-true row rows e in omega (arith, lt, most)
 
-damaged_below : (rows n : ℕ) (xs ys : List ℕ) → rows ≤ 8 * n - 21 → ((r : ℕ) → r < n → is_among xs r ≡ is_among ys r) → (row : ℕ) → is_damaged rows xs row ≡ is_damaged rows ys row
+damaged_below : (rows n : ℕ) (xs ys : List ℕ) → rows ≤ 8 * n - 21 → ((r : ℕ) → r < n → is_among xs r ≡ is_among ys r) → (row : ℕ) →
+    is_damaged rows xs row ≡ is_damaged rows ys row
 damaged_below rows n xs ys most same row = by (nat_lt row rows) refl
   where
     by : (b : Bool) → nat_lt row rows ≡ b → (b && list_any (λ r. reaches r row) xs) ≡ (b && list_any (λ r. reaches r row) ys)

@@ -27,5 +27,6 @@ run_whole next (suc n) [] rising e = cc
 run_whole next (suc n) (k ∷ ks) rising e = by_test (k == next) refl e (λ r f. run_whole (next + 1) n ks r f)
   where
     by_test : (b : Bool) → (k == next) ≡ b → (if b then k ∷ run (next + 1) ks else []) ≡ next ∷ range_with_len (next + 1) n →
-        (IsRising (next + 1) (next + 1 + n) ks → run (next + 1) ks ≡ range_with_len (next + 1) n → ks ≡ range_with_len (next + 1) n) → k ∷ ks ≡ next ∷ range_with_len (next + 1) n
+        (IsRising (next + 1) (next + 1 + n) ks → run (next + 1) ks ≡ range_with_len (next + 1) n → ks ≡ range_with_len (next + 1) n) →
+        k ∷ ks ≡ next ∷ range_with_len (next + 1) n
     by_test b t f rest = grind (arith, nat_tests)

@@ -14,13 +14,13 @@ use Rattle.stream_defs.specs.Fates.{geometry_in, kept_in}
 -- ---- what the kept heads reach
 
 -- the first block after a segment whose head was read in a packet with these ancillary data
-abbrev pub end_told : Ancillary → Result SegmentHead HeadFault → ℕ
-end_told a (Ok head) = a.first + head.blocks
-end_told a (Err fault) = 0
+abbrev pub end_known : Ancillary → Result SegmentHead HeadFault → ℕ
+end_known a (Ok head) = a.first + head.blocks
+end_known a (Err fault) = 0
 
 -- the first block after the segment that a packet begins; 0 if it begins none
 abbrev pub end_in : List ℕ → ℕ
-end_in packet = if (ancillary_in packet).part == 0 then end_told (ancillary_in packet) (head_read (text_in packet)) else 0
+end_in packet = if (ancillary_in packet).part == 0 then end_known (ancillary_in packet) (head_read (text_in packet)) else 0
 
 -- the greatest of these
 unfoldable pub end_of : List (List ℕ) → ℕ

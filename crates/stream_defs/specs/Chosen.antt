@@ -15,8 +15,8 @@ pub record IsChoice (s : Setting) (all : List (List ℤ)) (parts : ℕ → List 
   pub each : (index : ℕ) → index < segments_of s → IsRising 0 (parts_of s all index) (parts index)
 
 -- their packets, of the first n segments
-unfoldable pub chosen : (told_last : Bool) → Setting → List (List ℤ) → (parts : ℕ → List ℕ) → (n : ℕ) → List (List ℕ)
-chosen told_last s all parts n = flat_map (λ index. map (packet_at told_last s all index) (parts index)) (range_with_len 0 n)
+unfoldable pub chosen : (reported_last : Bool) → Setting → List (List ℤ) → (parts : ℕ → List ℕ) → (n : ℕ) → List (List ℕ)
+chosen reported_last s all parts n = flat_map (λ index. map (packet_at reported_last s all index) (parts index)) (range_with_len 0 n)
 
 -- the longest prefix of consecutive numbers that begins with `next`
 abbrev pub run : (next : ℕ) → List ℕ → List ℕ

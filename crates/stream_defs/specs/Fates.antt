@@ -1,5 +1,6 @@
 -- The fate of each packet, and the state that it leaves for the next one's fate. This project's own.
-use Rattle.std.specs.Prelude.{ℕ, ◌+◌, ◌*◌, ◌%◌, ◌==◌, ◌&&◌, ◌||◌, Bool, true, false, not, nat_le, nat_lt, if◌then◌else◌, List, [], ◌∷◌, fold, Option, None, Some, Result, Ok, Err, unwrap_or}
+use Rattle.std.specs.Prelude.{ℕ, ◌+◌, ◌*◌, ◌%◌, ◌==◌, ◌&&◌, ◌||◌, Bool, true, false, not, nat_le, nat_lt, if◌then◌else◌, List, [], ◌∷◌, fold, Option, None}
+use Rattle.std.specs.Prelude.{Some, Result, Ok, Err, unwrap_or}
 use Rattle.std.specs.Option.{option_map}
 use Rattle.base_122.specs.Ranges.{is_within, rows_range, segment_range}
 use Rattle.base_122.specs.declared.geometry.Geometry.{Geometry}
@@ -18,29 +19,29 @@ use Rattle.stream_defs.specs.Agreement.{geometry_for, blocks_of, same_flag, head
 
 -- before the first packet
 abbrev pub fresh : FateState
-fresh = record { geometry = None; told_last = false; last = None }
+fresh = record { geometry = None; reported_last = false; last = None }
 
 -- ---- the tests, in their order
 
 -- the rows field of a packet has the rows of an image, or 0 if the height is reported last
-abbrev pub tells_rows : Ancillary → Bool
-tells_rows a = if a.told_last then a.rows == 0 else is_within rows_range a.rows
+abbrev pub reports_rows : Ancillary → Bool
+reports_rows a = if a.reported_last then a.rows == 0 else is_within rows_range a.rows
 
 -- a block after the last one, if the height is reported
 abbrev pub is_past : Geometry → Ancillary → Bool
 is_past g a = not (g.rows == 0) && nat_le (blocks_of g) a.first
 
 -- another image than that of the geometry, whose packets report its rows or leave them to be reported last
-abbrev pub differs : Option Geometry → (told_last : Bool) → Ancillary → Bool
-differs None told_last a = false
-differs (Some g) told_last a =
-    not (same_flag a.told_last told_last) || (not (a.image == g.image)
-    || (not (a.rows == (if told_last then 0 else g.rows)) || (not (a.segment == g.segment) || is_past g a)))
+abbrev pub differs : Option Geometry → (reported_last : Bool) → Ancillary → Bool
+differs None reported_last a = false
+differs (Some g) reported_last a =
+    not (same_flag a.reported_last reported_last) || (not (a.image == g.image)
+    || (not (a.rows == (if reported_last then 0 else g.rows)) || (not (a.segment == g.segment) || is_past g a)))
 
 abbrev pub is_foreign : FateState → Ancillary → Bool
 is_foreign s a =
-    not (tells_rows a) || (not (is_within segment_range a.segment) || (not (a.first == a.index * a.segment)
-    || differs s.geometry s.told_last a))
+    not (reports_rows a) || (not (is_within segment_range a.segment) || (not (a.first == a.index * a.segment)
+    || differs s.geometry s.reported_last a))
 
 -- a place that is at most the last one, index before part
 abbrev pub is_late : Option LastPart → Ancillary → Bool
@@ -64,8 +65,8 @@ is_out_of_place last flags a = if a.part == 0 then not (begins flags) else begin
 
 -- why a packet's head is refused, which only part 0 has
 abbrev pub refusal_in : Option Geometry → List ℕ → Option HeadFault
-refusal_in standing packet =
-    if (ancillary_in packet).part == 0 then head_refusal standing (ancillary_in packet) (head_read (text_in packet)) else None
+refusal_in current packet =
+    if (ancillary_in packet).part == 0 then head_refusal current (ancillary_in packet) (head_read (text_in packet)) else None
 
 -- the fate of a packet: the first of these, otherwise it is kept
 unfoldable pub fate : (apid : ℕ) → FateState → List ℕ → Fate
@@ -86,12 +87,12 @@ is_kept other = false
 
 -- the geometry after a head that was read in a kept packet with these ancillary data
 abbrev pub geometry_with : Option Geometry → Ancillary → Result SegmentHead HeadFault → Option Geometry
-geometry_with standing a (Ok head) = Some (geometry_past (geometry_for standing a head.image) a head)
-geometry_with standing a (Err fault) = standing
+geometry_with current a (Ok head) = Some (geometry_past (geometry_for current a head.image) a head)
+geometry_with current a (Err fault) = current
 
 abbrev pub geometry_after : Option Geometry → List ℕ → Option Geometry
-geometry_after standing packet =
-    if (ancillary_in packet).part == 0 then geometry_with standing (ancillary_in packet) (head_read (text_in packet)) else standing
+geometry_after current packet =
+    if (ancillary_in packet).part == 0 then geometry_with current (ancillary_in packet) (head_read (text_in packet)) else current
 
 abbrev pub part_in : List ℕ → LastPart
 part_in packet = record {
@@ -104,7 +105,7 @@ part_in packet = record {
 abbrev pub after_kept : FateState → List ℕ → FateState
 after_kept s packet = record {
   geometry = geometry_after s.geometry packet;
-  told_last = (ancillary_in packet).told_last;
+  reported_last = (ancillary_in packet).reported_last;
   last = Some (part_in packet);
 }
 

@@ -94,11 +94,11 @@ abbrev pub segment_text : Setting → List (List ℤ) → (index : ℕ) → List
 segment_text s all index = text_with s all index (used_before s all index)
 
 -- the ancillary data of a segment's packets, with part 0
-abbrev pub ancillary_of : (told_last : Bool) → Setting → (index : ℕ) → Ancillary
-ancillary_of told_last s index = record {
-  told_last = told_last;
+abbrev pub ancillary_of : (reported_last : Bool) → Setting → (index : ℕ) → Ancillary
+ancillary_of reported_last s index = record {
+  reported_last = reported_last;
   image = s.image;
-  rows = if told_last then 0 else s.rows;
+  rows = if reported_last then 0 else s.rows;
   segment = s.segment;
   index = index;
   first = first_block s.segment index;
@@ -111,22 +111,22 @@ packets_before s all index =
     sum_by (λ i. part_count (part_size s.packet) (length (segment_text s all i))) (range_with_len 0 index)
 
 -- the packets of one segment
-abbrev pub segment_packets : (told_last : Bool) → Setting → List (List ℤ) → (index : ℕ) → List (List ℕ)
-segment_packets told_last s all index =
-    text_packets s.apid (ancillary_of told_last s index) s.packet (packets_before s all index) (segment_text s all index)
+abbrev pub segment_packets : (reported_last : Bool) → Setting → List (List ℤ) → (index : ℕ) → List (List ℕ)
+segment_packets reported_last s all index =
+    text_packets s.apid (ancillary_of reported_last s index) s.packet (packets_before s all index) (segment_text s all index)
 
 -- the packets of the first n segments
-unfoldable pub packets_of : (told_last : Bool) → Setting → List (List ℤ) → (n : ℕ) → List (List ℕ)
-packets_of told_last s all n = flat_map (segment_packets told_last s all) (range_with_len 0 n)
+unfoldable pub packets_of : (reported_last : Bool) → Setting → List (List ℤ) → (n : ℕ) → List (List ℕ)
+packets_of reported_last s all n = flat_map (segment_packets reported_last s all) (range_with_len 0 n)
 
 -- all packets of an image
-abbrev pub image_packets : (told_last : Bool) → Setting → (ℕ → ℕ → ℤ) → List (List ℕ)
-image_packets told_last s x = packets_of told_last s (image_blocks s x) (segments_of s)
+abbrev pub image_packets : (reported_last : Bool) → Setting → (ℕ → ℕ → ℤ) → List (List ℕ)
+image_packets reported_last s x = packets_of reported_last s (image_blocks s x) (segments_of s)
 
 -- a setting with open rows has the height reported last
-abbrev pub tells_last : Setting → Bool
-tells_last s = s.rows == 0
+abbrev pub reports_last : Setting → Bool
+reports_last s = s.rows == 0
 
 -- the octets of all packets of an image with this number of rows
 abbrev pub output : Setting → (rows : ℕ) → (ℕ → ℕ → ℤ) → List ℕ
-output s rows x = joined (image_packets (tells_last s) (sized s rows) x)
+output s rows x = joined (image_packets (reports_last s) (sized s rows) x)

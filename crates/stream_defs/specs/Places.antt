@@ -13,9 +13,9 @@ abbrev pub parts_of : Setting → List (List ℤ) → (index : ℕ) → ℕ
 parts_of s all index = part_count (part_size s.packet) (length (segment_text s all index))
 
 -- the packet of one part
-abbrev pub packet_at : (told_last : Bool) → Setting → List (List ℤ) → (index part : ℕ) → List ℕ
-packet_at told_last s all index part =
-    part_packet s.apid (ancillary_of told_last s index) s.packet (packets_before s all index) (parts_of s all index) part (segment_text s all index)
+abbrev pub packet_at : (reported_last : Bool) → Setting → List (List ℤ) → (index part : ℕ) → List ℕ
+packet_at reported_last s all index part =
+    part_packet s.apid (ancillary_of reported_last s index) s.packet (packets_before s all index) (parts_of s all index) part (segment_text s all index)
 
 -- the last part after it was kept
 abbrev pub place_at : Setting → List (List ℤ) → (index part : ℕ) → LastPart

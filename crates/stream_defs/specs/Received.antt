@@ -18,9 +18,9 @@ packets_at index packets = filter (λ packet. index_in packet == index) packets
 
 -- parts from 0 to a closing one, one after the other
 pub record IsComplete (parts : List (List ℕ)) : Type 0 where
-  pub front : List (List ℕ)
+  pub prefix : List (List ℕ)
   pub closing : List ℕ
-  pub parts_are : parts ≡ front ++ closing ∷ []
+  pub parts_are : parts ≡ prefix ++ closing ∷ []
   pub numbers : map number_of_part parts ≡ range_with_len 0 (length parts)
   pub closed : closes (flags_in closing) ≡ true
 

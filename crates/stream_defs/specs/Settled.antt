@@ -1,5 +1,6 @@
 -- What the octets and rows so far determine of the output. This project's own.
-use Rattle.std.specs.Prelude.{◌≡◌, ◌<◌, ℕ, ◌+◌, ◌-◌, ◌*◌, ◌/◌, ◌==◌, ◌&&◌, ◌||◌, Bool, not, nat_lt, if◌then◌else◌, List, [], length, slice_index_or, ℤ, is_some, Option, None, Some}
+use Rattle.std.specs.Prelude.{◌≡◌, ◌<◌, ℕ, ◌+◌, ◌-◌, ◌*◌, ◌/◌, ◌==◌, ◌&&◌, ◌||◌, Bool, not, nat_lt, if◌then◌else◌, List, [], length, slice_index_or, ℤ}
+use Rattle.std.specs.Prelude.{is_some, Option, None, Some}
 use Rattle.std.specs.List.{count_by, range_with_len}
 use Rattle.base_122.specs.Sizes.{block_count, total_blocks, first_block, segment_blocks}
 use Rattle.base_122.specs.Ranges.{IsInRange}
@@ -18,12 +19,12 @@ last_block_row s index =
     (first_block s.segment index + segment_blocks (total_blocks s.width s.rows) s.segment index - 1) / block_count s.width
 
 -- the first k rows determine the segment's numbers: by their reach, or if they are known to be all
-abbrev pub is_settled : (told_last : Bool) → Setting → (k index : ℕ) → Bool
-is_settled told_last s k index = (not told_last && (k == s.rows)) || nat_lt (8 * last_block_row s index + 28) k
+abbrev pub is_settled : (reported_last : Bool) → Setting → (k index : ℕ) → Bool
+is_settled reported_last s k index = (not reported_last && (k == s.rows)) || nat_lt (8 * last_block_row s index + 28) k
 
 -- the number of settled segments, which are the first ones
-unfoldable pub settled : (told_last : Bool) → Setting → (k : ℕ) → ℕ
-settled told_last s k = count_by (is_settled told_last s k) (range_with_len 0 (segments_of s))
+unfoldable pub settled : (reported_last : Bool) → Setting → (k : ℕ) → ℕ
+settled reported_last s k = count_by (is_settled reported_last s k) (range_with_len 0 (segments_of s))
 
 -- ---- the decoder
 
@@ -66,5 +67,6 @@ pub record BlocksAgree (s : Setting) (k : ℕ) (xs ys : List (List ℤ)) : Type 
 
 -- then the packets of the settled segments are the same
 pub record SettledSame : Type 0 where
-  pub same : (told_last : Bool) (s : Setting) (k : ℕ) (xs ys : List (List ℤ)) → IsInRange s → length xs ≡ total_blocks s.width s.rows → BlocksAgree s k xs ys →
-      packets_of told_last s xs (settled told_last s k) ≡ packets_of told_last s ys (settled told_last s k)
+  pub same : (reported_last : Bool) (s : Setting) (k : ℕ) (xs ys : List (List ℤ)) → IsInRange s → length xs ≡ total_blocks s.width s.rows →
+      BlocksAgree s k xs ys →
+      packets_of reported_last s xs (settled reported_last s k) ≡ packets_of reported_last s ys (settled reported_last s k)

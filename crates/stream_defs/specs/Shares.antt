@@ -11,5 +11,6 @@ pub record CanBeSaid (s : Setting) (octets : ℕ) : Type 0 where
 
 -- A head can have each share as its limit, and with a total all texts together have at most the octets of the total.
 pub record SharesFit : Type 0 where
-  pub each : (s : Setting) (all : List (List ℤ)) (index : ℕ) → IsInRange s → IsWithin rows_range s.rows → index < segments_of s → CanBeSaid s (share s index (used_before s all index))
+  pub each : (s : Setting) (all : List (List ℤ)) (index : ℕ) → IsInRange s → IsWithin rows_range s.rows → index < segments_of s →
+      CanBeSaid s (share s index (used_before s all index))
   pub whole : (s : Setting) (all : List (List ℤ)) → IsInRange s → s.total ≢ 0 → used_before s all (segments_of s) ≤ s.total

@@ -34,6 +34,6 @@ pub struct FateState {
     /// The geometry that is known; its rows are 0 while the height isn't known.
     pub geometry: Option<Geometry>,
     /// Whether its packets leave the height to the last head.
-    pub told_last: bool,
+    pub reported_last: bool,
     pub last: Option<LastPart>,
 }

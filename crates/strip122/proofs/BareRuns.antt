@@ -1,8 +1,8 @@
 -- The effect of a run of `bare-encode` and `bare-decode` after its note, and what follows for each status.
 use Rattle.std.proofs.Common.{◌≡◌, ℕ, List, [], length, refl, sym, ◌∙◌, subst, arith, inl, inr, Some, Result, Ok, Err}
-use Rattle.port_122.specs.Outside.{Outside, Exchange, NoRead, GivenBy}
+use Rattle.port_122.specs.Outside.{Outside, Exchange, NoRead}
 use Rattle.port_122.proofs.Stretches.{at_end_later}
-use Rattle.port_122.proofs.Told.{end_told}
+use Rattle.port_122.proofs.IfKnown.{end_known}
 use Rattle.base_122.specs.declared.geometry.Geometry.{Geometry}
 use Rattle.base_122.specs.declared.setting.Setting.{Setting}
 use Rattle.base_122.specs.declared.wish.DecodeWish.{DecodeWish}
@@ -11,7 +11,8 @@ use Rattle.strip_coder.specs.declared.encode.EncodeFault.{EncodeFault}
 use Rattle.strip_coder.specs.declared.encode.EncodeFault.TheVariants.{ReadFault, WriteFault, Short, Long, BadPixel}
 use Rattle.strip_coder.specs.Answers.{TookRaster}
 use Rattle.bare_stream.specs.declared.fault.BareFault.{BareFault}
-use Rattle.bare_stream.specs.declared.fault.BareFault.TheVariants.{ReadFault as read_failed, WriteFault as write_failed, LongInput, Memory, TooManyPixels, Refused}
+use Rattle.bare_stream.specs.declared.fault.BareFault.TheVariants.{ReadFault as read_failed, WriteFault as write_failed, LongInput, Memory, TooManyPixels}
+use Rattle.bare_stream.specs.declared.fault.BareFault.TheVariants.{Refused}
 use Rattle.bare_stream.specs.Rasters.{texts_for}
 use Rattle.bare_stream.specs.Answers.{BareAnswers, EncodesBare as EncodesOver}
 use Rattle.bare_stream.specs.StreamRead.{answer_for}
@@ -19,7 +20,10 @@ use Rattle.bare_stream.specs.Decoded.{Answers, EndsSo, AsksBare, DecodesBare}
 use Rattle.bare_stream.specs.RoundTrip.{StreamsAreRead, BareRoundTrip}
 use Rattle.strip122.specs.Notes.{IsNoted, Notes, fault_status, fault_line, memory_line, bare_fault_status, bare_fault_line}
 use Rattle.strip122.specs.Ran.{CausedWithin}
-use Rattle.strip122.specs.BareStreams.{EncodesBare, EncodedBare, encodes_bare, bare_status, bare_line, BareCauses, DecodesStream, IsStreamOf, GivesPicture, BareRefuses, decodes_bare, GaveBare}
+use Rattle.strip122.specs.Encoding.{AsksRaster}
+use Rattle.strip122.specs.BareStreams.{EncodesBare, EncodedBare, encodes_bare, bare_status, bare_line, BareCauses, DecodesStream, IsStreamOf, GivesPicture}
+use Rattle.strip122.specs.BareStreams.{BareRefuses, decodes_bare, GaveBare}
+use Rattle.port_122.proofs.BothAsked.{since_both}
 use Rattle.strip122.proofs.NoteLines.{ran_on, nothing_noted}
 use Rattle.strip122.proofs.Behaviours.{AtStatus, Law}
 use Rattle.strip122.proofs.Encoded.{EncoderSays, IsEncoder, encoder_law}
@@ -27,7 +31,8 @@ use Rattle.strip122.proofs.Encoded.{EncoderSays, IsEncoder, encoder_law}
 -- ---- `bare-encode`
 
 -- a cause is also valid after a note
-bare_later : (s : Setting) (a b c : Outside) (took gave wrote : List ℕ) (r : Result EncodeDone EncodeFault) → Exchange b c [] [] wrote NoRead → BareAnswers s a b took gave r → BareAnswers s a c took gave r
+bare_later : (s : Setting) (a b c : Outside) (took gave wrote : List ℕ) (r : Result EncodeDone EncodeFault) → Exchange b c [] [] wrote NoRead →
+    BareAnswers s a b took gave r → BareAnswers s a c took gave r
 bare_later s a b c took gave wrote (Ok done) n k = (k.0, at_end_later n k.1, k.2, k.3)
 bare_later s a b c took gave wrote (Err (Short octets)) n k = (k.0, k.1, at_end_later n k.2, k.3, k.4)
 bare_later s a b c took gave wrote (Err Long) n k = k
@@ -39,8 +44,13 @@ bare_engine : (s : Setting) → IsEncoder s (BareAnswers s) (texts_for s) (Encod
 bare_engine s = record {
   say = say;
   later = bare_later s;
-  done = λ old new took gave done k since. record { took = took; since = subst (λ g. Exchange old new took g [] (GivenBy (texts_for s) took)) k.2 since; raster = k.0; ended = k.1 };
-  takes = λ old new input told w. (s.rows, subst (TookRaster s s.rows) (end_told input w.since told w.ended) w.raster);
+  done = λ old new took gave done k since. record {
+    took = took;
+    since = subst (λ g. Exchange old new took g [] (AsksRaster s (texts_for s) took)) k.2 since;
+    raster = k.0;
+    ended = k.1;
+  };
+  takes = λ old new input if_known w. (s.rows, subst (TookRaster s s.rows) (end_known input w.since if_known w.ended) w.raster);
 }
   where
     say : (old new : Outside) (took gave : List ℕ) (fault : EncodeFault) → BareAnswers s old new took gave (Err fault) → EncoderSays s old new took fault
@@ -52,7 +62,7 @@ bare_engine s = record {
 
 -- an image that was encoded
 pub bare_image_encoded : (s : Setting) (old new : Outside) (done : EncodeDone) → EncodesOver s old new (Ok done) → EncodedBare s old new
-bare_image_encoded s old new done run = (bare_engine s).done old new run.took run.gave done run.answer run.since
+bare_image_encoded s old new done run = (bare_engine s).done old new run.took run.gave done run.answer (since_both run.since run.asks)
 
 pub bare_encode_law : (s : Setting) → Law (encodes_bare s)
 bare_encode_law s = encoder_law s (BareAnswers s) (texts_for s) (EncodedBare s) (bare_engine s)
@@ -62,9 +72,11 @@ pub bare_lacks_memory : (s : Setting) (a b : Outside) → Notes a b memory_line 
 bare_lacks_memory s a b n = inl (record { wrote = n.0; since = n.1; status_is = refl; noted = n.2 })
 
 -- the encoder's run, and then its note
-pub bare_encode_failed : (s : Setting) (a b c : Outside) (fault : EncodeFault) (status : ℕ) → EncodesOver s a b (Err fault) → Notes b c (fault_line fault) → status ≡ fault_status fault → EncodesBare s a c status
+pub bare_encode_failed : (s : Setting) (a b c : Outside) (fault : EncodeFault) (status : ℕ) → EncodesOver s a b (Err fault) → Notes b c (fault_line fault) →
+    status ≡ fault_status fault → EncodesBare s a c status
 bare_encode_failed s a b c fault status run n is =
-    inr (ran_on a b c (Err fault) run.took run.gave n.0 status run.since (bare_later s a b c run.took run.gave n.0 (Err fault) n.1 run.answer) n.1 is n.2)
+    inr (ran_on a b c (Err fault) run.took run.gave n.0 status (since_both run.since run.asks)
+    (bare_later s a b c run.took run.gave n.0 (Err fault) n.1 run.answer) n.1 is n.2)
 
 -- ---- `bare-decode`: after the note
 
@@ -78,17 +90,20 @@ ends_later a b c wrote gave n (Err write_failed) k = omega (arith, k, n.faults.w
 ends_later a b c wrote gave n (Err Memory) k = k
 
 -- the decoder's run, and then its note
-pub bare_decode_failed : (wish : DecodeWish) (a b c : Outside) (fault : BareFault) (status : ℕ) → DecodesBare wish a b (Err fault) → Notes b c (bare_fault_line fault) → status ≡ bare_fault_status fault → DecodesStream wish a c status
+pub bare_decode_failed : (wish : DecodeWish) (a b c : Outside) (fault : BareFault) (status : ℕ) → DecodesBare wish a b (Err fault) →
+    Notes b c (bare_fault_line fault) → status ≡ bare_fault_status fault → DecodesStream wish a c status
 bare_decode_failed wish a b c fault status run n is =
     ran_on a b c (Err fault) run.took run.gave n.0 status run.since
     (record { within = run.within; cause = record { ends = ends_later a b c n.0 run.gave n.1 (Err fault) run.ends; answers = run.answers } }) n.1 is n.2
 
 -- ---- each status
 
-stream_ends : StreamsAreRead → (wish : DecodeWish) (old new : Outside) (status : ℕ) → DecodesStream wish old new status → AtStatus (decodes_bare wish) old new status
+stream_ends : StreamsAreRead → (wish : DecodeWish) (old new : Outside) (status : ℕ) → DecodesStream wish old new status →
+    AtStatus (decodes_bare wish) old new status
 stream_ends law wish old new status run = subst (AtStatus (decodes_bare wish) old new) (sym run.status_is) (by run.answer run.noted run.cause)
   where
-    refuses : (fault : BareFault) → bare_fault_status fault ≡ 3 → IsNoted old new run.wrote (bare_fault_line fault) → CausedWithin wish.octets (BareCauses wish) old new run.took run.gave (Err fault) → BareRefuses wish old new
+    refuses : (fault : BareFault) → bare_fault_status fault ≡ 3 → IsNoted old new run.wrote (bare_fault_line fault) →
+        CausedWithin wish.octets (BareCauses wish) old new run.took run.gave (Err fault) → BareRefuses wish old new
     refuses fault three noted k = record {
       fault = fault;
       took = run.took;
@@ -101,16 +116,17 @@ stream_ends law wish old new status run = subst (AtStatus (decodes_bare wish) ol
       noted = noted;
     }
 
-    by : (r : Result Geometry BareFault) → IsNoted old new run.wrote (bare_line r) → CausedWithin wish.octets (BareCauses wish) old new run.took run.gave r → AtStatus (decodes_bare wish) old new (bare_status r)
+    by : (r : Result Geometry BareFault) → IsNoted old new run.wrote (bare_line r) → CausedWithin wish.octets (BareCauses wish) old new run.took run.gave
+        r → AtStatus (decodes_bare wish) old new (bare_status r)
     by (Ok g) noted k = record {
       g = g;
       took = run.took;
       gave = run.gave;
       since = subst (λ w. Exchange old new run.took run.gave w (AsksBare wish old run.took run.gave)) (nothing_noted old new run.wrote [] refl noted) run.since;
       ended = k.cause.ends;
-      picture = λ input told.
-          let why = k.cause.answers input told in
-          let took : run.took ≡ input = end_told input run.since told k.cause.ends in
+      picture = λ input if_known.
+          let why = k.cause.answers input if_known in
+          let took : run.took ≡ input = end_known input run.since if_known k.cause.ends in
           let right : answer_for wish input ≡ Ok g = sym why.answer in
           subst (λ l. GivesPicture wish l run.gave g) (sym took) (record { stream = right; rows = why.rows ∙ law.rows wish input g right });
     }
@@ -149,7 +165,7 @@ bare_decode_law law wish = record {
   right = right_stream wish;
   wrong_whole = λ old new wrong w.
       let p = w.picture wrong.0 wrong.1 in
-      wrong.2 w.g (subst (λ octets. IsStreamOf wish octets w.g) (end_told wrong.0 w.since wrong.1 w.ended) p.stream);
+      wrong.2 w.g (subst (λ octets. IsStreamOf wish octets w.g) (end_known wrong.0 w.since wrong.1 w.ended) p.stream);
   wrong_part = λ old new wrong never. never;
 }
 
@@ -159,16 +175,26 @@ bare_decode_law law wish = record {
 pub gave_bare : BareRoundTrip → (wish : DecodeWish) (old new : Outside) (status : ℕ) → DecodesStream wish old new status → status ≡ 0 → GaveBare wish old new
 gave_bare trip wish old new status run zero = by run.answer (sym run.status_is ∙ zero) run.noted run.cause
   where
-    by : (r : Result Geometry BareFault) → bare_status r ≡ 0 → IsNoted old new run.wrote (bare_line r) → CausedWithin wish.octets (BareCauses wish) old new run.took run.gave r → GaveBare wish old new
+    by : (r : Result Geometry BareFault) → bare_status r ≡ 0 → IsNoted old new run.wrote (bare_line r) →
+        CausedWithin wish.octets (BareCauses wish) old new run.took run.gave r → GaveBare wish old new
     by (Ok g) none noted k =
-        let since = subst (λ w. Exchange old new run.took run.gave w (AsksBare wish old run.took run.gave)) (nothing_noted old new run.wrote [] refl noted) run.since in
-        let over : DecodesBare wish old new (Ok g) = record { took = run.took; gave = run.gave; since = since; within = k.within; ends = k.cause.ends; answers = k.cause.answers } in
+        let since = subst (λ w. Exchange old new run.took run.gave w (AsksBare wish old run.took run.gave)) (nothing_noted old new run.wrote [] refl noted)
+        run.since in
+        let over : DecodesBare wish old new (Ok g) = record {
+          took = run.took;
+          gave = run.gave;
+          since = since;
+          within = k.within;
+          ends =
+              k.cause.ends;
+          answers = k.cause.answers;
+        } in
         record {
           g = g;
           took = run.took;
           gave = run.gave;
           since = since;
-          back = λ input told s x book is same. trip.decoded wish old new g input s x over told same book is;
+          back = λ input if_known s x book is same. trip.decoded wish old new g input s x over if_known same book is;
         }
     by (Err (Refused index cause)) none noted k = absurd (omega (arith, none))
     by (Err (TooManyPixels pixels)) none noted k = absurd (omega (arith, none))

@@ -41,7 +41,8 @@ module _ (b : Behaviour) (law : Law b) (enough : (old new : Outside) → b.nothi
   pub memory_first_law : Law (memory_first b)
   memory_first_law = record { ends = memory_ends; right = law.right; wrong_whole = law.wrong_whole; wrong_part = law.wrong_part }
 
-pub completes : (b : Behaviour) (old new : Outside) (status : ℕ) → AtStatus b old new status → (b.refuses old new → ⊥) → IsSteady old new → Completes b old new status
+pub completes : (b : Behaviour) (old new : Outside) (status : ℕ) → AtStatus b old new status → (b.refuses old new → ⊥) → IsSteady old new →
+    Completes b old new status
 completes b old new zero at taken steady = inl (refl, at)
 completes b old new (suc zero) at taken steady = inr (inl (refl, at))
 completes b old new (suc (suc zero)) at taken steady = absurd at
@@ -51,7 +52,8 @@ completes b old new (suc (suc (suc (suc (suc zero))))) at taken steady = absurd 
 completes b old new (suc (suc (suc (suc (suc (suc zero)))))) at taken steady = inr (inr (refl, at))
 completes b old new (suc (suc (suc (suc (suc (suc (suc status))))))) at taken steady = absurd at
 
-pub refused : (b : Behaviour) (old new : Outside) (status : ℕ) → AtStatus b old new status → (b.whole old new → ⊥) → (b.part old new → ⊥) → IsSteady old new → (status ≡ 3) ⊎ (status ≡ 6)
+pub refused : (b : Behaviour) (old new : Outside) (status : ℕ) → AtStatus b old new status → (b.whole old new → ⊥) → (b.part old new → ⊥) →
+    IsSteady old new → (status ≡ 3) ⊎ (status ≡ 6)
 refused b old new zero at whole part steady = absurd (whole at)
 refused b old new (suc zero) at whole part steady = absurd (part at)
 refused b old new (suc (suc zero)) at whole part steady = absurd at

@@ -1,8 +1,9 @@
 -- The law of a command whose input begins with a code book.
-use Rattle.std.proofs.Common.{◌≡◌, ◌≤◌, ℕ, zero, suc, List, [], ◌∷◌, ◌++◌, length, refl, sym, ◌∙◌, ap, subst, arith, inl, inr, length-append, ◌⊎◌, Bool, true, false, Option, Some, None, Ok, Err}
+use Rattle.std.proofs.Common.{◌≡◌, ◌≤◌, ℕ, zero, suc, List, [], ◌∷◌, ◌++◌, length, refl, sym, ◌∙◌, ap, subst, arith, inl, inr, length-append, ◌⊎◌, Bool}
+use Rattle.std.proofs.Common.{true, false, Option, Some, None, Ok, Err}
 use Rattle.port_122.specs.Outside.{Outside, Loses}
 use Rattle.port_122.proofs.Stretches.{rose_since}
-use Rattle.port_122.proofs.Told.{end_told}
+use Rattle.port_122.proofs.IfKnown.{end_known}
 use Rattle.base_122.specs.declared.book.Book.{Book}
 use Rattle.base_122.specs.declared.wish.DecodeWish.{DecodeWish}
 use Rattle.code_book.specs.declared.fault.BookFault.{BookFault}
@@ -26,8 +27,8 @@ book_fault_fails (Incomplete table) none = omega (arith, none)
 
 -- what is left after octets that were taken
 left_over : (a b : Option (List ℕ)) (xs less : List ℕ) → a ≡ Some xs → Loses a b less → (rest : List ℕ) × (b ≡ Some rest) × (xs ≡ less ++ rest)
-left_over a None xs less told p = absurd (let at : Loses (Some xs) None less = rw told at p in at)
-left_over a (Some rest) xs less told p = let at : xs ≡ less ++ rest = rw told at p in (rest, refl, at)
+left_over a None xs less if_known p = absurd (let at : Loses (Some xs) None less = rw if_known at p in at)
+left_over a (Some rest) xs less if_known p = let at : xs ≡ less ++ rest = rw if_known at p in (rest, refl, at)
 
 -- two prefixes of the same length, and what follows them
 pub same_parts : (xs ys more less : List ℕ) → length xs ≡ length ys → xs ++ more ≡ ys ++ less → (xs ≡ ys) × (more ≡ less)
@@ -41,40 +42,48 @@ same_parts (x ∷ xs) (y ∷ ys) more less long e =
     (rw (here, rest.0) refl, rest.1)
 
 -- the book that was read is that of the octets at the beginning of the input, and what follows them is left
-read_parts : {old after : Outside} {book : Book} (octets rest : List ℕ) → ReadsBook old after (Ok book) → old.rest ≡ Some (octets ++ rest) → length octets ≡ 138 →
+read_parts : {old after : Outside} {book : Book} (octets rest : List ℕ) → ReadsBook old after (Ok book) → old.rest ≡ Some (octets ++ rest) →
+    length octets ≡ 138 →
     (Ok book ≡ book_read octets) × (after.rest ≡ Some rest)
-read_parts {old = old} {after = after} {book = book} octets rest read told long =
-    let left = left_over old.rest after.rest (octets ++ rest) read.took told read.since.rest in
+read_parts {old = old} {after = after} {book = book} octets rest read if_known long =
+    let left = left_over old.rest after.rest (octets ++ rest) read.took if_known read.since.rest in
     let same = same_parts read.took octets left.0 rest (read.answer.0 ∙ sym long) (sym left.2) in
     (subst (λ xs. Ok book ≡ book_read xs) same.0 read.answer.1, left.1 ∙ ap Some same.1)
 
 -- a book was read, so the input begins with its octets
 begins : {old after : Outside} {book : Book} (input : List ℕ) → ReadsBook old after (Ok book) → old.rest ≡ Some input →
     (octets rest : List ℕ) × (input ≡ octets ++ rest) × (length octets ≡ 138) × (book_read octets ≡ Ok book)
-begins {old = old} {after = after} input read told =
-    let left = left_over old.rest after.rest input read.took told read.since.rest in
+begins {old = old} {after = after} input read if_known =
+    let left = left_over old.rest after.rest input read.took if_known read.since.rest in
     (read.took, left.0, left.2, read.answer.0, sym read.answer.1)
 
-other : {old after : Outside} (octets rest : List ℕ) (book : Book) (fault : BookFault) {took : List ℕ} → (length took ≡ 138) × (Err fault ≡ book_read took) → (read : ReadsBook old after (Err fault)) →
+other : {old after : Outside} (octets rest : List ℕ) (book : Book) (fault : BookFault) {took : List ℕ} →
+    (length took ≡ 138) × (Err fault ≡ book_read took) → (read : ReadsBook old after (Err fault)) →
     took ≡ read.took → old.rest ≡ Some (octets ++ rest) → length octets ≡ 138 → book_read octets ≡ Ok book → ⊥
-other {old = old} {after = after} octets rest book fault {took = took} answer read is_took told long is =
-    let left = left_over old.rest after.rest (octets ++ rest) read.took told read.since.rest in
+other {old = old} {after = after} octets rest book fault {took = took} answer read is_took if_known long is =
+    let left = left_over old.rest after.rest (octets ++ rest) read.took if_known read.since.rest in
     let same = same_parts took octets left.0 rest (answer.0 ∙ sym long) (ap (λ xs. xs ++ left.0) is_took ∙ sym left.2) in
     let e : Err fault ≡ Ok book = answer.1 ∙ ap book_read same.0 ∙ is in
     absurd cc
 
 -- if the input begins with the octets of a book, no fault but that of a read is found
-not_refused : {old after : Outside} (octets rest : List ℕ) (book : Book) (fault : BookFault) → ReadsBook old after (Err fault) → old.rest ≡ Some (octets ++ rest) → length octets ≡ 138 →
+not_refused : {old after : Outside} (octets rest : List ℕ) (book : Book) (fault : BookFault) → ReadsBook old after (Err fault) →
+    old.rest ≡ Some (octets ++ rest) → length octets ≡ 138 →
     book_read octets ≡ Ok book → book_status fault ≡ 3 → ⊥
-not_refused {old = old} {after = after} octets rest book ReadFault read told long is three = omega (arith, three)
-not_refused {old = old} {after = after} octets rest book (Short n) read told long is three =
-    let all = end_told (octets ++ rest) read.since told read.answer.2 in
+not_refused {old = old} {after = after} octets rest book ReadFault read if_known long is three = omega (arith, three)
+not_refused {old = old} {after = after} octets rest book (Short n) read if_known long is three =
+    let all = end_known (octets ++ rest) read.since if_known read.answer.2 in
     omega (arith, ap length all, read.answer.0, read.answer.1, long, length-append octets rest)
-not_refused {old = old} {after = after} octets rest book BadMark read told long is three = other octets rest book BadMark read.answer read refl told long is
-not_refused {old = old} {after = after} octets rest book (BadLength t s) read told long is three = other octets rest book (BadLength t s) read.answer read refl told long is
-not_refused {old = old} {after = after} octets rest book (BadBits t s) read told long is three = other octets rest book (BadBits t s) read.answer read refl told long is
-not_refused {old = old} {after = after} octets rest book (Clash t a b) read told long is three = other octets rest book (Clash t a b) read.answer read refl told long is
-not_refused {old = old} {after = after} octets rest book (Incomplete t) read told long is three = other octets rest book (Incomplete t) read.answer read refl told long is
+not_refused {old = old} {after = after} octets rest book BadMark read if_known long is three =
+    other octets rest book BadMark read.answer read refl if_known long is
+not_refused {old = old} {after = after} octets rest book (BadLength t s) read if_known long is three =
+    other octets rest book (BadLength t s) read.answer read refl if_known long is
+not_refused {old = old} {after = after} octets rest book (BadBits t s) read if_known long is three =
+    other octets rest book (BadBits t s) read.answer read refl if_known long is
+not_refused {old = old} {after = after} octets rest book (Clash t a b) read if_known long is three =
+    other octets rest book (Clash t a b) read.answer read refl if_known long is
+not_refused {old = old} {after = after} octets rest book (Incomplete t) read if_known long is three =
+    other octets rest book (Incomplete t) read.answer read refl if_known long is
 
 -- ---- the law
 
@@ -88,7 +97,8 @@ module _ (b : Book → Behaviour) (each : (book : Book) → Law (b book)) where
   ended old new (Clash t x y) lacks = inl (record { fault = Clash t x y; lacks = lacks; input = refl })
   ended old new (Incomplete t) lacks = inl (record { fault = Incomplete t; lacks = lacks; input = refl })
 
-  later : (old new : Outside) (status : ℕ) (book : Book) (after : Outside) → ReadsBook old after (Ok book) → AtStatus (b book) after new status → AtStatus (with_book b) old new status
+  later : (old new : Outside) (status : ℕ) (book : Book) (after : Outside) → ReadsBook old after (Ok book) → AtStatus (b book) after new status →
+      AtStatus (with_book b) old new status
   later old new zero book after read at = record { book = book; after = after; read = read; holds = at }
   later old new (suc zero) book after read at = record { book = book; after = after; read = read; holds = at }
   later old new (suc (suc zero)) book after read at = at
@@ -103,20 +113,22 @@ module _ (b : Book → Behaviour) (each : (book : Book) → Law (b book)) where
   ends old new status (inr run) = later old new status run.book run.after run.read ((each run.book).ends run.after new status run.holds)
 
   -- the book that was read is that of the input, and what follows for the rest
-  at_rest : (P : Book → Outside → Type 0) (Q : Book → Outside → Outside → Type 0) (old new : Outside) → ((book : Book) (after : Outside) → P book after → Q book after new → ⊥) →
+  at_rest : (P : Book → Outside → Type 0) (Q : Book → Outside → Outside → Type 0) (old new : Outside) →
+      ((book : Book) (after : Outside) → P book after → Q book after new → ⊥) →
       BeginsWithBook P old → AfterBook Q old new → ⊥
   at_rest P Q old new never input run =
-      let parts = read_parts input.octets input.rest run.read input.told input.long in
+      let parts = read_parts input.octets input.rest run.read input.if_known input.long in
       let same : run.book ≡ input.book = let e : Ok run.book ≡ Ok input.book = parts.0 ∙ input.read in cc in
       never run.book run.after (subst (λ book. P book run.after) (sym same) (input.holds run.after parts.1)) run.holds
 
   not_begun : (Q : Book → Outside → Outside → Type 0) (old new : Outside) → BeginsWithNone old → AfterBook Q old new → ⊥
   not_begun Q old new input run =
-      let begun = begins input.input run.read input.told in
+      let begun = begins input.input run.read input.if_known in
       input.none begun.0 begun.1 run.book begun.2 begun.3 begun.4
 
   right : (old new : Outside) → (with_book b).right old → (with_book b).refuses old new → ⊥
-  right old new input (inl refused) = not_refused input.octets input.rest input.book refused.fault refused.lacks.read input.told input.long input.read refused.input
+  right old new input (inl refused) = not_refused input.octets input.rest input.book refused.fault refused.lacks.read input.if_known input.long input.read
+      refused.input
   right old new input (inr run) = at_rest (λ book. (b book).right) (λ book. (b book).refuses) old new (λ book after. (each book).right after new) input run
 
   wrong : (whole : Behaviour → Outside → Outside → Type 0) → ((book : Book) (after new : Outside) → (b book).wrong after → whole (b book) after new → ⊥) →
@@ -140,7 +152,13 @@ pub by_book_gives : (b : DecodeWish → Behaviour) (P : DecodeWish → Outside �
     ((wish : DecodeWish) (old new : Outside) → (b wish).performs old new status → P wish old new) →
     (has_book : Bool) (wish : DecodeWish) (old new : Outside) → (by_book has_book wish b).performs old new status → ByBook has_book wish P old new
 by_book_gives b P status done gives false wish old new run = gives wish old new run
-by_book_gives b P status done gives true wish old new (inr run) = record { book = run.book; after = run.after; read = run.read; holds = gives (record wish { book = run.book }) run.after new run.holds }
+by_book_gives b P status done gives true wish old new (inr run) = record {
+  book = run.book;
+  after = run.after;
+  read = run.read;
+  holds =
+      gives (record wish { book = run.book }) run.after new run.holds;
+}
 by_book_gives b P status done gives true wish old new (inl ended) = absurd (not_done ended.fault status ended.status_is done)
   where
     least : (fault : BookFault) → 3 ≤ book_status fault

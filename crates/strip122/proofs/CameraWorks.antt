@@ -49,7 +49,8 @@ pub are_settings : (s : Setting) (cameras : ℕ) → IsInRange s → IsWithin ro
 are_settings s cameras range height are = record {
   some = omega (arith, size, are.least);
   few = omega (arith, size, are.most);
-  in_range = λ camera lt. subst IsInRange (sym (setting_is s cameras camera (omega (arith, lt, size)))) (in_range_with s (s.apid + camera) range (omega (arith, lt, size, are.apids)));
+  in_range = λ camera lt. subst IsInRange (sym (setting_is s cameras camera (omega (arith, lt, size))))
+      (in_range_with s (s.apid + camera) range (omega (arith, lt, size, are.apids)));
   known = λ camera lt none. omega (arith, ap (λ (s : Setting). s.rows) (setting_is s cameras camera (omega (arith, lt, size))), none, height.0);
   apart = λ camera other lt below same.
       let one = ap (λ (s : Setting). s.apid) (setting_is s cameras camera (omega (arith, lt, below, size))) in
@@ -61,7 +62,8 @@ are_settings s cameras range height are = record {
     size = size_is s cameras
 
 -- and they have one book
-pub sound_cameras : (s : Setting) (cameras : ℕ) → is_book_sound s.book ≡ true → (camera : ℕ) → camera < length (camera_settings s cameras) → is_book_sound (setting_at (camera_settings s cameras) camera).book ≡ true
+pub sound_cameras : (s : Setting) (cameras : ℕ) → is_book_sound s.book ≡ true → (camera : ℕ) → camera < length (camera_settings s cameras) →
+    is_book_sound (setting_at (camera_settings s cameras) camera).book ≡ true
 sound_cameras s cameras sound camera lt =
     subst (λ (t : Setting). is_book_sound t.book ≡ true) (sym (setting_is s cameras camera (omega (arith, lt, size_is s cameras)))) sound
 

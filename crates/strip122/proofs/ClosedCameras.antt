@@ -1,5 +1,6 @@
 -- The rasters of several cameras, whose packets are decoded one camera after another.
-use Rattle.std.proofs.Common.{◌≡◌, ◌≢◌, ◌<◌, ◌≤◌, ◌+◌, ◌*◌, ◌∙◌, ℕ, zero, suc, List, [], ◌∷◌, ◌++◌, length, take, refl, sym, ap, subst, arith, inl, inr, true, IsTrue, None, length-append}
+use Rattle.std.proofs.Common.{◌≡◌, ◌≢◌, ◌<◌, ◌≤◌, ◌+◌, ◌*◌, ◌∙◌, ℕ, zero, suc, List, [], ◌∷◌, ◌++◌, length, take, refl, sym, ap, subst, arith, inl, inr}
+use Rattle.std.proofs.Common.{true, IsTrue, None, length-append}
 use Rattle.std.specs.List.{flat_map}
 use Rattle.std.proofs.lemmas.Bool.{cases_eq}
 use Rattle.std.proofs.lemmas.List.{take_all, take_more}
@@ -10,7 +11,7 @@ use Rattle.base_122.specs.Setting.{IsHeight}
 use Rattle.base_122.specs.declared.setting.Setting.{Setting}
 use Rattle.raster_rows.specs.RowReads.{FirstInRange}
 use Rattle.segment_code.specs.ShortTexts.{TextsAreShort}
-use Rattle.segment_walk.proofs.WholeImages.{geometry_told}
+use Rattle.segment_walk.proofs.WholeImages.{geometry_reported}
 use Rattle.stream_defs.specs.declared.fate.FateState.{FateState}
 use Rattle.stream_defs.specs.Fates.{geometry_in, kept_in}
 use Rattle.stream_defs.specs.KnownHeights.{KnownHeights}
@@ -34,7 +35,7 @@ use Rattle.strip122.specs.Muxing.{MuxedWhole, Muxes, camera_settings, muxes}
 use Rattle.strip122.proofs.Behaviours.{AtStatus}
 use Rattle.strip122.proofs.CameraWorks.{are_settings, setting_is, size_is, sound_cameras}
 use Rattle.strip122.proofs.Muxed.{mux_law}
-use Rattle.strip122.proofs.ClosedRasters.{Carries, comes_back, image_for}
+use Rattle.strip122.proofs.ClosedRasters.{Carries, is_returned, image_for}
 
 -- ---- a camera's raster
 
@@ -67,12 +68,14 @@ module _ (settings : List Setting) (camera : ℕ) where
         record {
           size = ap length raster ∙ length-append (raster_of camera records) r.row ∙ all ∙ ap (λ n. n * row_length s) (sym count);
           in_range = subst (λ n. AreInRange s (raster_of camera (records ++ r ∷ [])) (n * s.width)) (sym count)
-              (subst (λ octets. AreInRange s octets ((count_of camera records + 1) * s.width)) (sym raster) (subst (AreInRange s (raster_of camera records ++ r.row)) next more));
+              (subst (λ octets. AreInRange s octets ((count_of camera records + 1) * s.width)) (sym raster)
+              (subst (AreInRange s (raster_of camera records ++ r.row)) next more));
         }
     | inr other ↦
         let same = records_other records r camera other in
         record {
-          size = ap (λ (rs : List CameraRow). length (flat_map (λ (r : CameraRow). r.row) rs)) same ∙ h.size ∙ ap (λ (rs : List CameraRow). length rs * row_length s) (sym same);
+          size = ap (λ (rs : List CameraRow). length (flat_map (λ (r : CameraRow). r.row) rs)) same ∙ h.size
+              ∙ ap (λ (rs : List CameraRow). length rs * row_length s) (sym same);
           in_range = subst (λ (rs : List CameraRow). AreInRange s (flat_map (λ (r : CameraRow). r.row) rs) (length rs * s.width)) (sym same) h.in_range;
         }
   ]
@@ -107,7 +110,8 @@ module _ (settings : List Setting) (camera : ℕ) where
           }
 
       -- a reader for the camera's APID keeps its packets of all that is given
-      carried : PickingKeeps → TextsAreShort → KeepsCamera settings records camera → IsImageFor s s.rows (image_of s raster) → Carries s s.rows (image_of s raster) (mux_out settings records)
+      carried : PickingKeeps → TextsAreShort → KeepsCamera settings records camera → IsImageFor s s.rows (image_of s raster) →
+          Carries s s.rows (image_of s raster) (mux_out settings records)
       carried law short keeps image =
           let stream = mux_out settings records in
           let alone : picked stream s.apid None ≡ output s s.rows (image_of s raster) = keeps.whole (full.each camera lt) in
@@ -115,7 +119,8 @@ module _ (settings : List Setting) (camera : ℕ) where
           record {
             left = none_left settings records cameras accepted;
             kept = sym all.kept ∙ ap (kept_in s.apid) alone;
-            geometry = ap (λ (f : FateState). f.geometry) (sym all.state) ∙ ap (geometry_in s.apid) alone ∙ geometry_told short s s.rows (image_of s raster) image;
+            geometry = ap (λ (f : FateState). f.geometry) (sym all.state) ∙ ap (geometry_in s.apid) alone ∙ geometry_reported short s s.rows (image_of s raster)
+                image;
           }
 
 -- ---- all cameras
@@ -131,12 +136,15 @@ mux_closed law short heights trip settings cameras sound ten old new w = record 
       let raster = raster_of camera w.records in
       let took = took_raster settings camera w.records w.accepted cameras lt w.full in
       let image = image_for s s.rows raster (cameras.in_range camera lt) (sound camera lt) (ten camera lt) took in
-      comes_back heights trip s s.rows raster (mux_out settings w.records) image (carried settings camera w.records w.accepted cameras lt w.full law short (w.keeps camera lt) image) took all octets;
+      is_returned heights trip s s.rows raster (mux_out settings w.records) image (carried settings camera w.records w.accepted cameras lt w.full law short
+      (w.keeps camera lt) image) took all octets;
 }
 
 -- cameras of one setting, whose APIDs follow one another
-pub cameras_closed : PickingKeeps → TextsAreShort → KnownHeights → RoundTrip → (s : Setting) (cameras : ℕ) → IsInRange s → IsWithin rows_range s.rows → AreCameras s cameras →
-    is_book_sound s.book ≡ true → length s.weights.shifts ≡ 10 → (old new : Outside) (status : ℕ) → Muxes (camera_settings s cameras) old new status → status ≡ 0 →
+pub cameras_closed : PickingKeeps → TextsAreShort → KnownHeights → RoundTrip → (s : Setting) (cameras : ℕ) → IsInRange s → IsWithin rows_range s.rows →
+    AreCameras s cameras →
+    is_book_sound s.book ≡ true → length s.weights.shifts ≡ 10 → (old new : Outside) (status : ℕ) → Muxes (camera_settings s cameras) old new status →
+    status ≡ 0 →
     MuxClosed (camera_settings s cameras) old new
 cameras_closed law short heights trip s cameras range height are sound ten old new status run done =
     let settings = camera_settings s cameras in

@@ -29,11 +29,11 @@ use Rattle.segment_walk.specs.Answers.{IsPicture}
 use Rattle.segment_walk.specs.Images.{IsImageFor, SendsAll}
 use Rattle.segment_walk.specs.Runs.{Numbers, holds_after}
 use Rattle.segment_walk.specs.declared.ending.DecodeDone.{DecodeDone}
-use Rattle.segment_walk.proofs.WholeImages.{none_left, geometry_told}
+use Rattle.segment_walk.proofs.WholeImages.{none_left, geometry_reported}
 use Rattle.strip_decoder.specs.Answers.{Answers, Asks}
 use Rattle.strip_decoder.specs.RoundTrip.{RoundTrip}
 use Rattle.strip122.specs.Behaviours.{IsSteady, Completes}
-use Rattle.strip122.specs.Closed.{Admits, GivesRaster, ComesBack, EncodedClosed}
+use Rattle.strip122.specs.Closed.{Admits, GivesRaster, IsReturned, EncodedClosed}
 use Rattle.strip122.specs.Decoding.{Decodes, DecodedWhole, DecodedPart, DecodeCauses, HasPicture, reads_picture}
 use Rattle.strip122.specs.Encoding.{EncodedWhole}
 use Rattle.strip122.proofs.Behaviours.{completes}
@@ -55,16 +55,17 @@ pub record Carries (s : Setting) (rows : ℕ) (x : ℕ → ℕ → ℤ) (stream 
 
 -- the packets of the image are such a stream
 own_carried : TextsAreShort → (s : Setting) (rows : ℕ) (x : ℕ → ℕ → ℤ) → IsImageFor s rows x → Carries s rows x (output s rows x)
-own_carried short s rows x image = record { left = none_left short s rows x image; kept = refl; geometry = geometry_told short s rows x image }
+own_carried short s rows x image = record { left = none_left short s rows x image; kept = refl; geometry = geometry_reported short s rows x image }
 
-module _ (heights : KnownHeights) (trip : RoundTrip) (s : Setting) (rows : ℕ) (x : ℕ → ℕ → ℤ) (image : IsImageFor s rows x) (stream : List ℕ) (carries : Carries s rows x stream) where
+module _ (heights : KnownHeights) (trip : RoundTrip) (s : Setting) (rows : ℕ) (x : ℕ → ℕ → ℤ) (image : IsImageFor s rows x) (stream : List ℕ)
+    (carries : Carries s rows x stream) where
   abbrev size : Geometry
   size = image_geometry s rows
 
   some_rows : rows ≢ 0
   some_rows = within_not rows image.height.0
 
-  module _ (wish : DecodeWish) (old new : Outside) (admits : Admits wish s rows (length stream)) (told : old.rest ≡ Some stream) where
+  module _ (wish : DecodeWish) (old new : Outside) (admits : Admits wish s rows (length stream)) (if_known : old.rest ≡ Some stream) where
     geometry_there : geometry_in wish.apid stream ≡ Some size
     geometry_there = ap (λ apid. geometry_in apid stream) admits.apid ∙ carries.geometry
 
@@ -77,12 +78,19 @@ module _ (heights : KnownHeights) (trip : RoundTrip) (s : Setting) (rows : ℕ) 
         subst (λ n. g.width * n ≤ wish.pixels) (sym reached) (subst (λ w. w * rows ≤ wish.pixels) (sym width) admits.pixels)
 
     has : HasPicture wish old
-    has = record { packets = record { input = stream; told = told; ends = inl admits.octets }; geometry = size; geometry_is = geometry_there; few = few }
+    has = record {
+      packets = record { input = stream; if_known = if_known; ends = inl admits.octets };
+      geometry = size;
+      geometry_is = geometry_there;
+      few =
+          few;
+    }
 
     -- a picture that is given for it
-    module _ {took gave wrote : List ℕ} (done : DecodeDone) (since : Exchange old new took gave wrote (Asks wish old took gave)) (is : IsPicture wish old new took gave done) where
+    module _ {took gave wrote : List ℕ} (done : DecodeDone) (since : Exchange old new took gave wrote (Asks wish old took gave))
+        (is : IsPicture wish old new took gave done) where
       all_taken : took ≡ stream
-      all_taken = took_all wish.octets took stream old new since told carries.left is.out
+      all_taken = took_all wish.octets took stream old new since if_known carries.left is.out
 
       same_size : done.geometry ≡ size
       same_size =
@@ -94,18 +102,19 @@ module _ (heights : KnownHeights) (trip : RoundTrip) (s : Setting) (rows : ℕ) 
       height_known none = some_rows (sym (ap (λ (g : Geometry). g.rows) same_size) ∙ none)
 
       abbrev received : Numbers
-      received = (is.told stream told).0
+      received = (is.if_known stream if_known).0
 
       received_are : ReceivedIn (holds_after s.book) s.apid (output s rows x) received
       received_are =
           let kept : kept_in wish.apid took ≡ kept_in s.apid (output s rows x) =
           ap (kept_in wish.apid) all_taken ∙ ap (λ apid. kept_in apid stream) admits.apid ∙ carries.kept in
           subst (λ packets. AreReceived (holds_after s.book) packets received) kept
-          (subst (λ book. ReceivedIn (holds_after book) wish.apid took received) admits.book (is.told stream told).1)
+          (subst (λ book. ReceivedIn (holds_after book) wish.apid took received) admits.book (is.if_known stream if_known).1)
 
       none_missing : done.damage.missing ≡ []
       none_missing =
-          (is.told stream told).3.missing height_known ∙ ap (λ g. whole_missing g received) same_size ∙ (trip.whole s rows x received image received_are).missing
+          (is.if_known stream if_known).3.missing height_known ∙ ap (λ g. whole_missing g received) same_size
+          ∙ (trip.whole s rows x received image received_are).missing
 
       framed : done.framing ≡ None
       framed =
@@ -114,7 +123,7 @@ module _ (heights : KnownHeights) (trip : RoundTrip) (s : Setting) (rows : ℕ) 
       given_is : SendsAll s → gave ≡ raster_octets s.depth rows s.width x
       given_is all =
           let begun = begun_in wish.apid took in
-          (is.told stream told).2 ∙ ap (λ g. picture_octets g received begun) same_size ∙ heights.octets size received begun some_rows
+          (is.if_known stream if_known).2 ∙ ap (λ g. picture_octets g received begun) same_size ∙ heights.octets size received begun some_rows
           ∙ (trip.same s rows x received image all received_are).octets
 
     module _ (raster : List ℕ) (all : SendsAll s) (same : raster_octets s.depth rows s.width x ≡ raster) where
@@ -122,36 +131,49 @@ module _ (heights : KnownHeights) (trip : RoundTrip) (s : Setting) (rows : ℕ) 
       by_whole w =
           let took = all_taken w.done w.since w.cause.cause in
           let gave : w.gave ≡ raster = given_is w.done w.since w.cause.cause all ∙ same in
-          subst (λ g. Exchange old new stream g [] (Asks wish old stream g)) gave (subst (λ t. Exchange old new t w.gave [] (Asks wish old t w.gave)) took w.since)
+          subst (λ g. Exchange old new stream g [] (Asks wish old stream g)) gave (subst (λ t. Exchange old new t w.gave [] (Asks wish old t w.gave)) took
+          w.since)
 
       not_part : DecodedPart (DecodeCauses wish) (Asks wish) old new → ⊥
       not_part p =
-          p.lacks (none_damaged p.done.damage (none_missing p.done p.since p.cause.cause)) (height_known p.done p.since p.cause.cause) (framed p.done p.since p.cause.cause)
+          p.lacks (none_damaged p.done.damage (none_missing p.done p.since p.cause.cause)) (height_known p.done p.since p.cause.cause)
+          (framed p.done p.since p.cause.cause)
 
       ends : (status : ℕ) → Completes (reads_picture wish (Answers wish) (Asks wish)) old new status → GivesRaster wish raster stream old new status
       ends status (inl w) = inl (w.0, by_whole w.1)
       ends status (inr (inl p)) = absurd (not_part p.1)
       ends status (inr (inr n)) = inr n
 
-      comes : (status : ℕ) → IsSteady old new → Decodes wish old new status → GivesRaster wish raster stream old new status
-      comes status steady run =
+      arrives : (status : ℕ) → IsSteady old new → Decodes wish old new status → GivesRaster wish raster stream old new status
+      arrives status steady run =
           let law = picture_law wish (Answers wish) (Asks wish) (decode_says wish) in
           ends status (completes (reads_picture wish (Answers wish) (Asks wish)) old new status (law.ends old new status run) (law.right old new has) steady)
 
 -- the octets of a raster are decoded from a stream that carries its image
-pub comes_back : KnownHeights → RoundTrip → (s : Setting) (rows : ℕ) (raster stream : List ℕ) → IsImageFor s rows (image_of s raster) → Carries s rows (image_of s raster) stream →
-    TookRaster s rows raster → SendsAll s → All (λ octet. octet < 256) raster → ComesBack s rows raster stream
-comes_back heights trip s rows raster stream image carries whole all octets = record {
-  back = λ wish old new status admits told steady run.
-      comes heights trip s rows (image_of s raster) image stream carries wish old new admits told raster all (raster-again s.depth s.signed rows s.width raster octets whole.whole) status steady run;
+pub is_returned : KnownHeights → RoundTrip → (s : Setting) (rows : ℕ) (raster stream : List ℕ) → IsImageFor s rows (image_of s raster) →
+    Carries s rows (image_of s raster) stream →
+    TookRaster s rows raster → SendsAll s → All (λ octet. octet < 256) raster → IsReturned s rows raster stream
+is_returned heights trip s rows raster stream image carries whole all octets = record {
+  back = λ wish old new status admits if_known steady run.
+      arrives heights trip s rows (image_of s raster) image stream carries wish old new admits if_known raster all
+      (raster-again s.depth s.signed rows s.width raster octets whole.whole) status steady run;
 }
 
-pub image_for : (s : Setting) (rows : ℕ) (raster : List ℕ) → IsInRange s → IsTrue (is_book_sound s.book) → length s.weights.shifts ≡ 10 → TookRaster s rows raster → IsImageFor s rows (image_of s raster)
-image_for s rows raster range sound ten whole = record { range = range; sound = sound; height = whole.height; weights = ten; pixels = raster_pixels s rows raster range whole }
+pub image_for : (s : Setting) (rows : ℕ) (raster : List ℕ) → IsInRange s → IsTrue (is_book_sound s.book) → length s.weights.shifts ≡ 10 →
+    TookRaster s rows raster → IsImageFor s rows (image_of s raster)
+image_for s rows raster range sound ten whole = record {
+  range = range;
+  sound = sound;
+  height = whole.height;
+  weights = ten;
+  pixels =
+      raster_pixels s rows raster range whole;
+}
 
-pub encoded_closed : TextsAreShort → KnownHeights → RoundTrip → (s : Setting) (old new : Outside) → IsInRange s → IsTrue (is_book_sound s.book) → length s.weights.shifts ≡ 10 →
+pub encoded_closed : TextsAreShort → KnownHeights → RoundTrip → (s : Setting) (old new : Outside) → IsInRange s → IsTrue (is_book_sound s.book) →
+    length s.weights.shifts ≡ 10 →
     EncodedWhole s old new → EncodedClosed s old new
 encoded_closed short heights trip s old new range sound ten e =
     let x = image_of s e.took in
     let image = image_for s e.rows e.took range sound ten e.raster in
-    record { encoded = e; closed = comes_back heights trip s e.rows e.took (output s e.rows x) image (own_carried short s e.rows x image) e.raster }
+    record { encoded = e; closed = is_returned heights trip s e.rows e.took (output s e.rows x) image (own_carried short s e.rows x image) e.raster }

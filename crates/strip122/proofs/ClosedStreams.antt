@@ -1,7 +1,7 @@
 -- A raster whose bare stream is decoded.
 use Rattle.std.proofs.Common.{◌≡◌, ◌<◌, ◌∙◌, ℕ, ℤ, true, List, [], length, All, sym, ap, subst, inl, inr, Some, Result, Ok}
 use Rattle.port_122.specs.Outside.{Outside, Exchange}
-use Rattle.port_122.proofs.Told.{end_told}
+use Rattle.port_122.proofs.IfKnown.{end_known}
 use Rattle.base_122.specs.declared.geometry.Geometry.{Geometry}
 use Rattle.base_122.specs.declared.setting.Setting.{Setting}
 use Rattle.base_122.specs.declared.wish.DecodeWish.{DecodeWish}
@@ -26,11 +26,12 @@ use Rattle.strip122.proofs.BareRuns.{bare_decode_law}
 use Rattle.strip122.proofs.Behaviours.{completes}
 use Rattle.strip122.proofs.TrialsDone.{raster_pixels}
 
-module _ (streams : StreamsAreRead) (images : ImagesAreBareStreams) (trip : BareRoundTrip) (s : Setting) (raster : List ℕ) (image : IsBareImage s (image_of s raster)) where
+module _ (streams : StreamsAreRead) (images : ImagesAreBareStreams) (trip : BareRoundTrip) (s : Setting) (raster : List ℕ)
+    (image : IsBareImage s (image_of s raster)) where
   abbrev stream : List ℕ
   stream = bare s (image_of s raster)
 
-  module _ (wish : DecodeWish) (old new : Outside) (admits : AdmitsBare wish s (length stream)) (told : old.rest ≡ Some stream) where
+  module _ (wish : DecodeWish) (old new : Outside) (admits : AdmitsBare wish s (length stream)) (if_known : old.rest ≡ Some stream) where
     abbrev says : (w : List (List (List ℤ))) × SaysImage s (image_of s raster) w
     says = images.says s (image_of s raster) image
 
@@ -44,10 +45,11 @@ module _ (streams : StreamsAreRead) (images : ImagesAreBareStreams) (trip : Bare
     right = streams.answer wish stream (bare_geometry s) says.0 found caps
 
     has : (decodes_bare wish).right old
-    has = (stream, told, bare_geometry s, right)
+    has = (stream, if_known, bare_geometry s, right)
 
     -- the picture of a stream that was taken whole
-    shown : (all : SendsAll s) (gave : List ℕ) (g : Geometry) → GivesPicture wish stream gave g → gave ≡ all_rows (bare_geometry s) (image_segments s (image_of s raster))
+    shown : (all : SendsAll s) (gave : List ℕ) (g : Geometry) → GivesPicture wish stream gave g →
+        gave ≡ all_rows (bare_geometry s) (image_segments s (image_of s raster))
     shown all gave g picture =
         let same : g ≡ bare_geometry s = ok_one (answer_for wish stream) g (bare_geometry s) picture.stream right in
         picture.rows ∙ ap (λ h. all_rows h (reading wish stream).segments.blocks) same
@@ -59,28 +61,39 @@ module _ (streams : StreamsAreRead) (images : ImagesAreBareStreams) (trip : Bare
     module _ (all : SendsAll s) (octets : All (λ octet. octet < 256) raster) (whole : TookRaster s s.rows raster) where
       by_whole : DecodedBare wish old new → Exchange old new stream raster [] (AsksBare wish old stream raster)
       by_whole w =
-          let took : w.took ≡ stream = end_told stream w.since told w.ended in
-          let picture = subst (λ t. GivesPicture wish t w.gave w.g) took (w.picture stream told) in
-          let gave : w.gave ≡ raster = shown all w.gave w.g picture ∙ trip.picture s (image_of s raster) image ∙ raster-again s.depth s.signed s.rows s.width raster octets whole.whole in
-          subst (λ g. Exchange old new stream g [] (AsksBare wish old stream g)) gave (subst (λ t. Exchange old new t w.gave [] (AsksBare wish old t w.gave)) took w.since)
+          let took : w.took ≡ stream = end_known stream w.since if_known w.ended in
+          let picture = subst (λ t. GivesPicture wish t w.gave w.g) took (w.picture stream if_known) in
+          let gave : w.gave ≡ raster = shown all w.gave w.g picture ∙ trip.picture s (image_of s raster) image ∙ raster-again s.depth s.signed s.rows
+          s.width raster octets whole.whole in
+          subst (λ g. Exchange old new stream g [] (AsksBare wish old stream g)) gave
+          (subst (λ t. Exchange old new t w.gave [] (AsksBare wish old t w.gave)) took w.since)
 
       ends : (status : ℕ) → Completes (decodes_bare wish) old new status → GivesBareRaster wish raster stream old new status
       ends status (inl w) = inl (w.0, by_whole w.1)
       ends status (inr (inl p)) = absurd p.1
       ends status (inr (inr n)) = inr n
 
-      comes : (status : ℕ) → IsSteady old new → DecodesStream wish old new status → GivesBareRaster wish raster stream old new status
-      comes status steady run =
+      arrives : (status : ℕ) → IsSteady old new → DecodesStream wish old new status → GivesBareRaster wish raster stream old new status
+      arrives status steady run =
           let law = bare_decode_law streams wish in
           ends status (completes (decodes_bare wish) old new status (law.ends old new status run) (law.right old new has) steady)
 
-pub bare_closed : StreamsAreRead → ImagesAreBareStreams → BareRoundTrip → (s : Setting) (old new : Outside) → IsBare s → is_book_sound s.book ≡ true → length s.weights.shifts ≡ 10 →
+pub bare_closed : StreamsAreRead → ImagesAreBareStreams → BareRoundTrip → (s : Setting) (old new : Outside) → IsBare s → is_book_sound s.book ≡ true →
+    length s.weights.shifts ≡ 10 →
     EncodedBare s old new → BareClosed s old new
 bare_closed streams images trip s old new range sound ten e =
-    let image : IsBareImage s (image_of s e.took) = record { setting = range; sound = sound; weights = ten; pixels = raster_pixels s s.rows e.took range.in_range e.raster } in
+    let image : IsBareImage s (image_of s e.took) = record {
+      setting = range;
+      sound = sound;
+      weights = ten;
+      pixels =
+          raster_pixels s s.rows e.took range.in_range e.raster;
+    } in
     record {
       encoded = e;
       closed = λ all octets. record {
-        back = λ wish old new status admits told steady run. comes streams images trip s e.took image wish old new admits told all octets e.raster status steady run;
+        back = λ wish old new status admits if_known steady run. arrives streams images trip s e.took image wish old new admits if_known all octets e.raster
+            status
+            steady run;
       };
     }

@@ -1,5 +1,6 @@
 -- The effect of a run of `decode`, `damage`, `look` and `rects` after its note, and what follows for each status.
-use Rattle.std.proofs.Common.{◌≡◌, ◌≤◌, ◌<◌, ◌*◌, ℕ, List, [], ◌∷◌, length, refl, sym, ◌∙◌, ap, subst, arith, inl, inr, true, false, ◌≢◌, ◌⊎◌, ◌==◌, Bool, not, Option, None, Some, Result, Ok, Err, filter, All}
+use Rattle.std.proofs.Common.{◌≡◌, ◌≤◌, ◌<◌, ◌*◌, ℕ, List, [], ◌∷◌, length, refl, sym, ◌∙◌, ap, subst, arith, inl, inr, true, false, ◌≢◌, ◌⊎◌, ◌==◌, Bool}
+use Rattle.std.proofs.Common.{not, Option, None, Some, Result, Ok, Err, filter, All}
 use Rattle.std.specs.List.{range_with_len}
 use Rattle.std.proofs.lemmas.Bool.{false≢true, eq-eqb}
 use Rattle.std.proofs.lemmas.List.Elements.{All-filter, All-get_or, All-from_get_or}
@@ -32,7 +33,7 @@ use Rattle.segment_walk.proofs.Endings.{height_known}
 use Rattle.quick_look.specs.Looks.{LookAnswers, LookAsks, Looks}
 use Rattle.damage_rects.specs.Listing.{AreLines, GivesSome as GivesSomeLines, RectAnswers, ListsRects}
 use Rattle.strip122.specs.Notes.{IsNoted, Notes, decoder_fault_status, decoder_fault_line}
-use Rattle.strip122.specs.DamageNotes.{damaged, is_known, damage_line, done_status, done_line, TellsDone}
+use Rattle.strip122.specs.DamageNotes.{damaged, is_known, damage_line, done_status, done_line, ReportsDone}
 use Rattle.strip122.specs.Ran.{Asking, CausedWithin}
 use Rattle.strip122.specs.Decoding.{Causes, decode_line, decode_status, RunsDecoder, AsksFound, Decodes, FindsDamage, LooksAt, FindsRects, reads_picture}
 use Rattle.strip122.proofs.NoteLines.{ran_on, nothing_noted}
@@ -41,16 +42,16 @@ use Rattle.stream_defs.proofs.Equations.{missing_below-is}
 
 -- ---- after the note
 
-told_before : (b c : Option (List ℕ)) (rest : List ℕ) → Loses b c [] → c ≡ Some rest → b ≡ Some rest
-told_before None None rest l is = absurd cc
-told_before None (Some now) rest l is = absurd l
-told_before (Some before) None rest l is = absurd cc
-told_before (Some before) (Some now) rest l is = ap Some l ∙ is
+known_before : (b c : Option (List ℕ)) (rest : List ℕ) → Loses b c [] → c ≡ Some rest → b ≡ Some rest
+known_before None None rest l is = absurd cc
+known_before None (Some now) rest l is = absurd l
+known_before (Some before) None rest l is = absurd cc
+known_before (Some before) (Some now) rest l is = ap Some l ∙ is
 
 -- an input that was read to its end is so after a note too
 pub out_later : (cap : ℕ) (b c : Outside) (took wrote : List ℕ) → Exchange b c [] [] wrote NoRead → IsReadOut cap b took → IsReadOut cap c took
 out_later cap b c took wrote n (inl bad) = inl bad
-out_later cap b c took wrote n (inr ended) = inr (at_end_later n ended.0, λ rest told. ended.1 rest (told_before b.rest c.rest rest n.rest told))
+out_later cap b c took wrote n (inr ended) = inr (at_end_later n ended.0, λ rest if_known. ended.1 rest (known_before b.rest c.rest rest n.rest if_known))
 
 picture_later : (gives : Bool) (wish : DecodeWish) (a b c : Outside) (took gave wrote : List ℕ) (done : DecodeDone) → Exchange b c [] [] wrote NoRead →
     PictureBy gives wish a b took gave done → PictureBy gives wish a c took gave done
@@ -62,7 +63,7 @@ picture_later gives wish a b c took gave wrote done n p = record {
   out = out_later wish.octets b c took wrote n p.out;
   written = p.written;
   rows = p.rows;
-  told = p.told;
+  if_known = p.if_known;
 }
 
 -- a cause is also valid after a note
@@ -76,7 +77,8 @@ decode_later wish a b c took gave wrote (Err ReadFault) n k = (omega (arith, k.0
 decode_later wish a b c took gave wrote (Err WriteFault) n k = (omega (arith, k.0, n.faults.writes), k.1, k.2)
 decode_later wish a b c took gave wrote (Err Memory) n k = k
 
-part_later : (wish : DecodeWish) (a b c : Outside) (took gave wrote : List ℕ) → Exchange b c [] [] wrote NoRead → GivesSome wish a b took gave → GivesSome wish a c took gave
+part_later : (wish : DecodeWish) (a b c : Outside) (took gave wrote : List ℕ) → Exchange b c [] [] wrote NoRead → GivesSome wish a b took gave →
+    GivesSome wish a c took gave
 part_later wish a b c took gave wrote n (inl none) = inl none
 part_later wish a b c took gave wrote n (inr part) = inr record {
   done = part.done;
@@ -105,13 +107,22 @@ look_later wish a b c took gave wrote (Err ReadFault) n k = (omega (arith, k.0, 
 look_later wish a b c took gave wrote (Err WriteFault) n k = (omega (arith, k.0, n.faults.writes), k.1, k.2)
 look_later wish a b c took gave wrote (Err Memory) n k = k
 
-lines_later : (wish : DecodeWish) (a b c : Outside) (took lines wrote : List ℕ) (done : DecodeDone) → Exchange b c [] [] wrote NoRead → AreLines wish a b took lines done → AreLines wish a c took lines done
-lines_later wish a b c took lines wrote done n k = record { found = picture_later false wish a b c took [] wrote done n k.found; told = k.told }
+lines_later : (wish : DecodeWish) (a b c : Outside) (took lines wrote : List ℕ) (done : DecodeDone) → Exchange b c [] [] wrote NoRead →
+    AreLines wish a b took lines done → AreLines wish a c took lines done
+lines_later wish a b c took lines wrote done n k = record { found = picture_later false wish a b c took [] wrote done n k.found; if_known = k.if_known }
 
-prefix_later : (wish : DecodeWish) (a b c : Outside) (took gave wrote : List ℕ) → Exchange b c [] [] wrote NoRead → GivesSomeLines wish a b took gave → GivesSomeLines wish a c took gave
+prefix_later : (wish : DecodeWish) (a b c : Outside) (took gave wrote : List ℕ) → Exchange b c [] [] wrote NoRead → GivesSomeLines wish a b took gave →
+    GivesSomeLines wish a c took gave
 prefix_later wish a b c took gave wrote n (inl none) = inl none
 prefix_later wish a b c took gave wrote n (inr part) =
-    inr record { done = part.done; lines = part.lines; are = lines_later wish a b c took part.lines wrote part.done n part.are; some = part.some; gave_is = part.gave_is }
+    inr record {
+      done = part.done;
+      lines = part.lines;
+      are = lines_later wish a b c took part.lines wrote part.done n part.are;
+      some = part.some;
+      gave_is =
+          part.gave_is;
+    }
 
 rects_later : (wish : DecodeWish) (a b c : Outside) (took gave wrote : List ℕ) (r : Result DecodeDone DecodeFault) → Exchange b c [] [] wrote NoRead →
     RectAnswers wish a b took gave r → RectAnswers wish a c took gave r
@@ -125,29 +136,33 @@ rects_later wish a b c took gave wrote (Err Memory) n k = k
 
 -- ---- the text of the note
 
-pub tells_nothing : (ranges : List RowRange) (known : Bool) (framing : Option Framing) (a : Outside) → ranges ≡ [] → known ≡ true → framing ≡ None → TellsDone ranges known framing a a 0
-tells_nothing ranges known framing a unharmed told good = record {
+pub reports_nothing : (ranges : List RowRange) (known : Bool) (framing : Option Framing) (a : Outside) → ranges ≡ [] → known ≡ true → framing ≡ None →
+    ReportsDone ranges known framing a a 0
+reports_nothing ranges known framing a unharmed if_known good = record {
   wrote = [];
   since = since_start a NoRead;
-  status_is = rw (unharmed, told, good) refl;
-  noted = inl (rw (unharmed, told, good) refl);
+  status_is = rw (unharmed, if_known, good) refl;
+  noted = inl (rw (unharmed, if_known, good) refl);
 }
 
-lacking_status : (ranges : List RowRange) (known : Bool) (framing : Option Framing) → (ranges ≡ [] → known ≡ true → framing ≡ None → ⊥) → 1 ≡ done_status ranges known framing
+lacking_status : (ranges : List RowRange) (known : Bool) (framing : Option Framing) → (ranges ≡ [] → known ≡ true → framing ≡ None → ⊥) →
+    1 ≡ done_status ranges known framing
 lacking_status [] true None lacks = absurd (lacks refl refl refl)
 lacking_status [] true (Some f) lacks = refl
 lacking_status [] false framing lacks = refl
 lacking_status (r ∷ rs) known framing lacks = refl
 
-pub lacking_line : (ranges : List RowRange) (known : Bool) (framing : Option Framing) → (ranges ≡ [] → known ≡ true → framing ≡ None → ⊥) → done_line ranges known framing ≡ damage_line ranges known framing
+pub lacking_line : (ranges : List RowRange) (known : Bool) (framing : Option Framing) → (ranges ≡ [] → known ≡ true → framing ≡ None → ⊥) →
+    done_line ranges known framing ≡ damage_line ranges known framing
 lacking_line [] true None lacks = absurd (lacks refl refl refl)
 lacking_line [] true (Some f) lacks = refl
 lacking_line [] false framing lacks = refl
 lacking_line (r ∷ rs) known framing lacks = refl
 
-pub tells_damage : (ranges : List RowRange) (known : Bool) (framing : Option Framing) (a b : Outside) → (ranges ≡ [] → known ≡ true → framing ≡ None → ⊥) → Notes a b (damage_line ranges known framing) →
-    TellsDone ranges known framing a b 1
-tells_damage ranges known framing a b lacks n = record {
+pub reports_damage : (ranges : List RowRange) (known : Bool) (framing : Option Framing) (a b : Outside) → (ranges ≡ [] → known ≡ true → framing ≡ None → ⊥) →
+    Notes a b (damage_line ranges known framing) →
+    ReportsDone ranges known framing a b 1
+reports_damage ranges known framing a b lacks n = record {
   wrote = n.0;
   since = n.1;
   status_is = lacking_status ranges known framing lacks;
@@ -165,12 +180,15 @@ some_known g some = ap not (is_not_open g.rows some)
 -- ---- nothing is damaged only if nothing is missing
 
 rows_below : (n : ℕ) → All (λ k. k < n) (range_with_len 0 n)
-rows_below n = All-from_get_or (λ k. k < n) (range_with_len 0 n) 0 (λ i below. let size = length-range_with_len 0 n in let at = get_or-range_with_len 0 n i 0 (omega (arith, below, size)) in omega (arith, at, below, size))
+rows_below n = All-from_get_or (λ k. k < n) (range_with_len 0 n) 0 (λ i below. let size = length-range_with_len 0 n in let at =
+    get_or-range_with_len 0 n i 0 (omega (arith, below, size)) in omega (arith, at, below, size))
 
-none_listed : (rows : ℕ) (p : ℕ → Bool) (missing : List ℕ) → missing ≡ filter p (range_with_len 0 (block_count rows)) → ((row : ℕ) → is_damaged rows missing row ≡ false) → missing ≡ []
+none_listed : (rows : ℕ) (p : ℕ → Bool) (missing : List ℕ) → missing ≡ filter p (range_with_len 0 (block_count rows)) →
+    ((row : ℕ) → is_damaged rows missing row ≡ false) → missing ≡ []
 none_listed rows p [] is none = refl
 none_listed rows p (r ∷ rs) is none =
-    let all : All (λ k. k < block_count rows) (r ∷ rs) = subst (All (λ k. k < block_count rows)) (sym is) (All-filter p (λ k. k < block_count rows) _ (rows_below (block_count rows))) in
+    let all : All (λ k. k < block_count rows) (r ∷ rs) =
+    subst (All (λ k. k < block_count rows)) (sym is) (All-filter p (λ k. k < block_count rows) _ (rows_below (block_count rows))) in
     let low : r < block_count rows = All-get_or (λ k. k < block_count rows) (r ∷ rs) 0 0 (omega arith) all in
     let within : 8 * r < rows = omega (arith, low) in
     let same : (r == r) ≡ true = eq-eqb r r refl in
@@ -181,10 +199,11 @@ none_listed rows p (r ∷ rs) is none =
 undamaged : (m : Marks) → damaged m ≡ [] → (row : ℕ) → is_damaged m.rows m.missing row ≡ false
 undamaged m none row = sym ((whole_damage m.rows m.missing).0.each row) ∙ ap (λ rs. is_covered rs row) none
 
-missing_listed : (gives : Bool) (wish : DecodeWish) (a b : Outside) (took gave : List ℕ) (done : DecodeDone) → PictureBy gives wish a b took gave done → damaged done.damage ≡ [] → done.geometry.rows ≢ 0 →
+missing_listed : (gives : Bool) (wish : DecodeWish) (a b : Outside) (took gave : List ℕ) (done : DecodeDone) → PictureBy gives wish a b took gave done →
+    damaged done.damage ≡ [] → done.geometry.rows ≢ 0 →
     (all : List ℕ) → a.rest ≡ Some all → done.damage.missing ≡ []
-missing_listed gives wish a b took gave done p none known all told =
-    let t = p.told all told in
+missing_listed gives wish a b took gave done p none known all if_known =
+    let t = p.if_known all if_known in
     let rows : done.damage.rows ≡ done.geometry.rows = p.rows ∙ p.written ∙ height_known done.geometry (begun_in wish.apid took) known in
     none_listed done.damage.rows (is_missing_of done.geometry t.0) done.damage.missing
     (t.3.missing known ∙ missing_below-is _ _ _ ∙ ap (λ n. filter (is_missing_of done.geometry t.0) (range_with_len 0 (block_count n))) (sym rows))
@@ -209,7 +228,8 @@ Says wish old new took gave (Err ReadFault) = Rose old.read_faults new.read_faul
 Says wish old new took gave (Err WriteFault) = Rose old.write_faults new.write_faults
 Says wish old new took gave (Err Memory) = gave ≡ []
 
-saw : (gives : Bool) (wish : DecodeWish) (a b : Outside) (took gave : List ℕ) (done : DecodeDone) → PictureBy gives wish a b took gave done → SawImage wish a b took done
+saw : (gives : Bool) (wish : DecodeWish) (a b : Outside) (took gave : List ℕ) (done : DecodeDone) → PictureBy gives wish a b took gave done →
+    SawImage wish a b took done
 saw gives wish a b took gave done p = record { geometry = p.geometry; few = p.few; out = p.out; none_missing = missing_listed gives wish a b took gave done p }
 
 -- this follows from all answers of an engine
@@ -256,64 +276,78 @@ rects_say wish a b took gave (Err Memory) k = k
 
 -- all answers of an engine are also answers after a note
 abbrev pub AllLast : Causes → Type 0
-AllLast answers = (a b c : Outside) (took gave wrote : List ℕ) (r : Result DecodeDone DecodeFault) → Exchange b c [] [] wrote NoRead → answers a b took gave r → answers a c took gave r
+AllLast answers = (a b c : Outside) (took gave wrote : List ℕ) (r : Result DecodeDone DecodeFault) → Exchange b c [] [] wrote NoRead →
+    answers a b took gave r → answers a c took gave r
 
-module _ (wish : DecodeWish) (answers : Causes) (asks : Asking) (later : AllLast answers) (a b c : Outside) {took gave : List ℕ} (run : Exchange a b took gave [] (asks a took gave)) (within : length took ≤ wish.octets) (status : ℕ) where
-  done_noted : (done : DecodeDone) → answers a b took gave (Ok done) → TellsDone (damaged done.damage) (is_known done.geometry) done.framing b c status →
+module _ (wish : DecodeWish) (answers : Causes) (asks : Asking) (later : AllLast answers) (a b c : Outside) {took gave : List ℕ}
+    (run : Exchange a b took gave [] (asks a took gave)) (within : length took ≤ wish.octets) (status : ℕ) where
+  done_noted : (done : DecodeDone) → answers a b took gave (Ok done) → ReportsDone (damaged done.damage) (is_known done.geometry) done.framing b c status →
       RunsDecoder (CausedWithin wish.octets answers) asks a c status
-  done_noted done k n = ran_on a b c (Ok done) took gave n.wrote status run (record { within = within; cause = later a b c took gave n.wrote (Ok done) n.since k }) n.since n.status_is n.noted
+  done_noted done k n = ran_on a b c (Ok done) took gave n.wrote status run
+      (record { within = within; cause = later a b c took gave n.wrote (Ok done) n.since k }) n.since n.status_is n.noted
 
   fault_noted : (fault : DecodeFault) → answers a b took gave (Err fault) → Notes b c (decoder_fault_line fault) → status ≡ decoder_fault_status fault →
       RunsDecoder (CausedWithin wish.octets answers) asks a c status
-  fault_noted fault k n is = ran_on a b c (Err fault) took gave n.0 status run (record { within = within; cause = later a b c took gave n.0 (Err fault) n.1 k }) n.1 is n.2
+  fault_noted fault k n is = ran_on a b c (Err fault) took gave n.0 status run
+      (record { within = within; cause = later a b c took gave n.0 (Err fault) n.1 k }) n.1 is n.2
 
 pub decoded : (wish : DecodeWish) (a b c : Outside) (done : DecodeDone) (status : ℕ) → DecodesOver wish a b (Ok done) →
-    TellsDone (damaged done.damage) (is_known done.geometry) done.framing b c status → Decodes wish a c status
+    ReportsDone (damaged done.damage) (is_known done.geometry) done.framing b c status → Decodes wish a c status
 decoded wish a b c done status run n = done_noted wish (Answers wish) (Asks wish) (decode_later wish) a b c run.since run.within status done run.answer n
 
-pub decode_failed : (wish : DecodeWish) (a b c : Outside) (fault : DecodeFault) (status : ℕ) → DecodesOver wish a b (Err fault) → Notes b c (decoder_fault_line fault) →
+pub decode_failed : (wish : DecodeWish) (a b c : Outside) (fault : DecodeFault) (status : ℕ) → DecodesOver wish a b (Err fault) →
+    Notes b c (decoder_fault_line fault) →
     status ≡ decoder_fault_status fault → Decodes wish a c status
-decode_failed wish a b c fault status run n is = fault_noted wish (Answers wish) (Asks wish) (decode_later wish) a b c run.since run.within status fault run.answer n is
+decode_failed wish a b c fault status run n is = fault_noted wish (Answers wish) (Asks wish) (decode_later wish) a b c run.since run.within status fault
+    run.answer n is
 
 pub found : (wish : DecodeWish) (a b c : Outside) (done : DecodeDone) (status : ℕ) → Finds wish a b (Ok done) →
-    TellsDone (damaged done.damage) (is_known done.geometry) done.framing b c status → FindsDamage wish a c status
+    ReportsDone (damaged done.damage) (is_known done.geometry) done.framing b c status → FindsDamage wish a c status
 found wish a b c done status run n = done_noted wish (FindAnswers wish) (AsksFound wish) (find_later wish) a b c run.since run.within status done run.answer n
 
 pub find_failed : (wish : DecodeWish) (a b c : Outside) (fault : DecodeFault) (status : ℕ) → Finds wish a b (Err fault) → Notes b c (decoder_fault_line fault) →
     status ≡ decoder_fault_status fault → FindsDamage wish a c status
-find_failed wish a b c fault status run n is = fault_noted wish (FindAnswers wish) (AsksFound wish) (find_later wish) a b c run.since run.within status fault run.answer n is
+find_failed wish a b c fault status run n is = fault_noted wish (FindAnswers wish) (AsksFound wish) (find_later wish) a b c run.since run.within status
+    fault run.answer n is
 
 pub looked : (wish : DecodeWish) (a b c : Outside) (done : DecodeDone) (status : ℕ) → Looks wish a b (Ok done) →
-    TellsDone (damaged done.damage) (is_known done.geometry) done.framing b c status → LooksAt wish a c status
+    ReportsDone (damaged done.damage) (is_known done.geometry) done.framing b c status → LooksAt wish a c status
 looked wish a b c done status run n = done_noted wish (LookAnswers wish) (LookAsks wish) (look_later wish) a b c run.since run.within status done run.answer n
 
 pub look_failed : (wish : DecodeWish) (a b c : Outside) (fault : DecodeFault) (status : ℕ) → Looks wish a b (Err fault) → Notes b c (decoder_fault_line fault) →
     status ≡ decoder_fault_status fault → LooksAt wish a c status
-look_failed wish a b c fault status run n is = fault_noted wish (LookAnswers wish) (LookAsks wish) (look_later wish) a b c run.since run.within status fault run.answer n is
+look_failed wish a b c fault status run n is = fault_noted wish (LookAnswers wish) (LookAsks wish) (look_later wish) a b c run.since run.within status fault
+    run.answer n is
 
 pub listed_rects : (wish : DecodeWish) (a b c : Outside) (done : DecodeDone) (status : ℕ) → ListsRects wish a b (Ok done) →
-    TellsDone (damaged done.damage) (is_known done.geometry) done.framing b c status → FindsRects wish a c status
-listed_rects wish a b c done status run n = done_noted wish (RectAnswers wish) (AsksFound wish) (rects_later wish) a b c run.since run.within status done run.answer n
+    ReportsDone (damaged done.damage) (is_known done.geometry) done.framing b c status → FindsRects wish a c status
+listed_rects wish a b c done status run n = done_noted wish (RectAnswers wish) (AsksFound wish) (rects_later wish) a b c run.since run.within status done
+    run.answer n
 
-pub rects_failed : (wish : DecodeWish) (a b c : Outside) (fault : DecodeFault) (status : ℕ) → ListsRects wish a b (Err fault) → Notes b c (decoder_fault_line fault) →
+pub rects_failed : (wish : DecodeWish) (a b c : Outside) (fault : DecodeFault) (status : ℕ) → ListsRects wish a b (Err fault) →
+    Notes b c (decoder_fault_line fault) →
     status ≡ decoder_fault_status fault → FindsRects wish a c status
-rects_failed wish a b c fault status run n is = fault_noted wish (RectAnswers wish) (AsksFound wish) (rects_later wish) a b c run.since run.within status fault run.answer n is
+rects_failed wish a b c fault status run n is = fault_noted wish (RectAnswers wish) (AsksFound wish) (rects_later wish) a b c run.since run.within status
+    fault run.answer n is
 
 -- ---- each status
 
-pub undamaged_status : (ranges : List RowRange) (known : Bool) (framing : Option Framing) → done_status ranges known framing ≡ 0 → (ranges ≡ []) × (known ≡ true) × (framing ≡ None)
+pub undamaged_status : (ranges : List RowRange) (known : Bool) (framing : Option Framing) → done_status ranges known framing ≡ 0 →
+    (ranges ≡ []) × (known ≡ true) × (framing ≡ None)
 undamaged_status [] true None e = (refl, refl, refl)
 undamaged_status [] true (Some f) e = absurd (omega (arith, e))
 undamaged_status [] false framing e = absurd (omega (arith, e))
 undamaged_status (r ∷ rs) known framing e = absurd (omega (arith, e))
 
-pub damaged_status : (ranges : List RowRange) (known : Bool) (framing : Option Framing) → done_status ranges known framing ≡ 1 → ranges ≡ [] → known ≡ true → framing ≡ None → ⊥
-damaged_status [] true None e none told good = absurd (omega (arith, e))
-damaged_status [] true (Some f) e none told good = absurd cc
-damaged_status [] false framing e none told good = absurd cc
-damaged_status (r ∷ rs) known framing e none told good = absurd cc
+pub damaged_status : (ranges : List RowRange) (known : Bool) (framing : Option Framing) → done_status ranges known framing ≡ 1 → ranges ≡ [] →
+    known ≡ true → framing ≡ None → ⊥
+damaged_status [] true None e none if_known good = absurd (omega (arith, e))
+damaged_status [] true (Some f) e none if_known good = absurd cc
+damaged_status [] false framing e none if_known good = absurd cc
+damaged_status (r ∷ rs) known framing e none if_known good = absurd cc
 
-pub status_small : (ranges : List RowRange) (known : Bool) (framing : Option Framing) → (done_status ranges known framing ≡ 0) ⊎ (done_status ranges known framing ≡ 1)
+pub status_small : (ranges : List RowRange) (known : Bool) (framing : Option Framing) →
+    (done_status ranges known framing ≡ 0) ⊎ (done_status ranges known framing ≡ 1)
 status_small [] true None = inl refl
 status_small [] true (Some f) = inr refl
 status_small [] false framing = inr refl
@@ -327,15 +361,19 @@ fault_statuses ReadFault = omega arith
 fault_statuses WriteFault = omega arith
 fault_statuses Memory = omega arith
 
-pub whole_line : (ranges : List RowRange) (known : Bool) (framing : Option Framing) → ranges ≡ [] → known ≡ true → framing ≡ None → done_line ranges known framing ≡ []
-whole_line ranges known framing none told good = rw (none, told, good) refl
+pub whole_line : (ranges : List RowRange) (known : Bool) (framing : Option Framing) → ranges ≡ [] → known ≡ true → framing ≡ None →
+    done_line ranges known framing ≡ []
+whole_line ranges known framing none if_known good = rw (none, if_known, good) refl
 
 -- a run of an engine, and what follows for its status
 pub picture_ends : (wish : DecodeWish) (answers : Causes) (asks : Asking) → AllSay wish answers → (old new : Outside) (status : ℕ) →
     RunsDecoder (CausedWithin wish.octets answers) asks old new status → AtStatus (reads_picture wish answers asks) old new status
-picture_ends wish answers asks say old new status run = subst (AtStatus (reads_picture wish answers asks) old new) (sym run.status_is) (by run.answer run.noted run.cause)
+picture_ends wish answers asks say old new status run = subst (AtStatus (reads_picture wish answers asks) old new) (sym run.status_is)
+    (by run.answer run.noted run.cause)
   where
-    done_ends : (done : DecodeDone) → IsNoted old new run.wrote (done_line (damaged done.damage) (is_known done.geometry) done.framing) → CausedWithin wish.octets answers old new run.took run.gave (Ok done) → AtStatus (reads_picture wish answers asks) old new (done_status (damaged done.damage) (is_known done.geometry) done.framing)
+    done_ends : (done : DecodeDone) → IsNoted old new run.wrote (done_line (damaged done.damage) (is_known done.geometry) done.framing) →
+        CausedWithin wish.octets answers old new run.took run.gave (Ok done) →
+        AtStatus (reads_picture wish answers asks) old new (done_status (damaged done.damage) (is_known done.geometry) done.framing)
     done_ends done noted k = elim (status_small (damaged done.damage) (is_known done.geometry) done.framing) [
       | inl none ↦
           let fine = undamaged_status (damaged done.damage) (is_known done.geometry) done.framing none in
@@ -365,11 +403,13 @@ picture_ends wish answers asks say old new status run = subst (AtStatus (reads_p
           }
     ]
 
-    refuses : (fault : DecodeFault) → decoder_fault_status fault ≡ 3 → IsNoted old new run.wrote (decoder_fault_line fault) → CausedWithin wish.octets answers old new run.took run.gave (Err fault) → AtStatus (reads_picture wish answers asks) old new 3
+    refuses : (fault : DecodeFault) → decoder_fault_status fault ≡ 3 → IsNoted old new run.wrote (decoder_fault_line fault) →
+        CausedWithin wish.octets answers old new run.took run.gave (Err fault) → AtStatus (reads_picture wish answers asks) old new 3
     refuses fault three noted k =
         record { fault = fault; took = run.took; gave = run.gave; wrote = run.wrote; since = run.since; input = three; cause = k; noted = noted }
 
-    by : (r : Result DecodeDone DecodeFault) → IsNoted old new run.wrote (decode_line r) → CausedWithin wish.octets answers old new run.took run.gave r → AtStatus (reads_picture wish answers asks) old new (decode_status r)
+    by : (r : Result DecodeDone DecodeFault) → IsNoted old new run.wrote (decode_line r) → CausedWithin wish.octets answers old new run.took run.gave r →
+        AtStatus (reads_picture wish answers asks) old new (decode_status r)
     by (Ok done) noted k = done_ends done noted k
     by (Err NoSegment) noted k = refuses NoSegment refl noted k
     by (Err (TooManyPixels pixels)) noted k = refuses (TooManyPixels pixels) refl noted k
@@ -378,4 +418,9 @@ picture_ends wish answers asks say old new status run = subst (AtStatus (reads_p
     by (Err WriteFault) noted k = say old new run.took run.gave (Err WriteFault) k.cause
     by (Err Memory) noted k =
         let none = say old new run.took run.gave (Err Memory) k.cause in
-        record { took = run.took; wrote = run.wrote; since = subst (λ g. Exchange old new run.took g run.wrote (asks old run.took g)) none run.since; within = k.within }
+        record {
+          took = run.took;
+          wrote = run.wrote;
+          since = subst (λ g. Exchange old new run.took g run.wrote (asks old run.took g)) none run.since;
+          within = k.within;
+        }

@@ -23,7 +23,8 @@ low_status : (status : ℕ) → (status ≡ 0) ⊎ (status ≡ 1) → status ≤
 low_status status (inl none) = omega (arith, none)
 low_status status (inr some) = omega (arith, some)
 
-pub gave_picked : PickingKeeps → (wish : DecodeWish) (image : Option ℕ) (old new : Outside) (status : ℕ) → Reads (picker wish image) old new status → (status ≡ 0) ⊎ (status ≡ 1) →
+pub gave_picked : PickingKeeps → (wish : DecodeWish) (image : Option ℕ) (old new : Outside) (status : ℕ) → Reads (picker wish image) old new status →
+    (status ≡ 0) ⊎ (status ≡ 1) →
     GavePicked wish image old new
 gave_picked law wish image old new status (inl none) given = absurd (omega (arith, none.status_is, low_status status given))
 gave_picked law wish image old new status (inr run) given = by run.answer run.cause.cause run.status_is
@@ -31,7 +32,8 @@ gave_picked law wish image old new status (inr run) given = by run.answer run.ca
     alone : whole_packets (picked run.took wish.apid image) ≡ picked_of wish.apid image (whole_packets run.took)
     alone = (law.whole run.took wish.apid image).whole
 
-    by : (answer : Result ListDone ListFault) → WithMemory (picker wish image) old new run.took run.gave answer → status ≡ reader_status (picker wish image) answer → GavePicked wish image old new
+    by : (answer : Result ListDone ListFault) → WithMemory (picker wish image) old new run.took run.gave answer →
+        status ≡ reader_status (picker wish image) answer → GavePicked wish image old new
     by (Ok done) k is = record {
       took = run.took;
       gave = run.gave;
@@ -40,7 +42,9 @@ gave_picked law wish image old new status (inr run) given = by run.answer run.ca
       octets = k.octets;
       kept_are = ap (kept_in wish.apid) k.octets ∙ ap (kept wish.apid fresh) alone;
       state = ap (state_after wish.apid) k.octets ∙ ap (after_all wish.apid fresh) alone;
-      all_kept = λ none. ap (kept_in wish.apid) k.octets ∙ ap (λ image. kept_in wish.apid (picked run.took wish.apid image)) none ∙ (law.all run.took wish.apid).kept;
-      all_state = λ none. ap (state_after wish.apid) k.octets ∙ ap (λ image. state_after wish.apid (picked run.took wish.apid image)) none ∙ (law.all run.took wish.apid).state;
+      all_kept = λ none. ap (kept_in wish.apid) k.octets ∙ ap (λ image. kept_in wish.apid (picked run.took wish.apid image)) none
+          ∙ (law.all run.took wish.apid).kept;
+      all_state = λ none. ap (state_after wish.apid) k.octets ∙ ap (λ image. state_after wish.apid (picked run.took wish.apid image)) none
+          ∙ (law.all run.took wish.apid).state;
     }
     by (Err fault) k is = absurd (omega (arith, is, fault_statuses fault, low_status status given))

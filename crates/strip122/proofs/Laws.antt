@@ -38,7 +38,8 @@ law streams (Encode setting false) = encode_law setting
 law streams (Encode setting true) = encode_book_law setting
 law streams (Mux setting cameras) = mux_law (camera_settings setting cameras)
 law streams (Read reading wish false) = reads_law reading wish
-law streams (Read reading wish true) = with_book_law (λ book. reads reading (record wish { book = book })) (λ book. reads_law reading (record wish { book = book }))
+law streams (Read reading wish true) = with_book_law (λ book. reads reading (record wish { book = book }))
+    (λ book. reads_law reading (record wish { book = book }))
 law streams (Info apid octets) = let wish : InfoWish = record { apid = apid; octets = octets } in reader_law (informer wish) (info_reads wish)
 law streams (Pick wish image) = reader_law (picker wish image) (pick_reads wish image)
 law streams (BareEncode setting) = bare_encode_law setting
@@ -47,5 +48,6 @@ law streams (Make made) = make_law made
 law streams (Trial setting seed) = try_law setting seed
 
 -- what follows for this status
-pub ends_at : StreamsAreRead → (command : Command) (old new : Outside) (status n : ℕ) → (behaviour command).performs old new status → status ≡ n → AtStatus (behaviour command) old new n
+pub ends_at : StreamsAreRead → (command : Command) (old new : Outside) (status n : ℕ) → (behaviour command).performs old new status → status ≡ n →
+    AtStatus (behaviour command) old new n
 ends_at streams command old new status n run is = subst (AtStatus (behaviour command) old new) is ((law streams command).ends old new status run)

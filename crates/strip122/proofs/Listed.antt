@@ -1,9 +1,10 @@
 -- The effect of a run of `list`, `pick` and `info` after its note, and what follows for each status.
-use Rattle.std.proofs.Common.{◌≡◌, ◌≤◌, ℕ, List, [], ◌+◌, ◌++◌, length, refl, sym, ◌∙◌, subst, arith, ap, length-append, inl, inr, true, false, ◌⊎◌, Option, Result, Ok, Err}
+use Rattle.std.proofs.Common.{◌≡◌, ◌≤◌, ℕ, List, [], ◌+◌, ◌++◌, length, refl, sym, ◌∙◌, subst, arith, ap, length-append, inl, inr, true, false, ◌⊎◌, Option}
+use Rattle.std.proofs.Common.{Result, Ok, Err}
 use Rattle.port_122.specs.Outside.{Outside, Exchange, NoRead, Rose}
 use Rattle.base_122.specs.declared.wish.DecodeWish.{DecodeWish}
 use Rattle.packet_defs.specs.Streams.{whole_packets, left_over, has_bad_version}
-use Rattle.packet_assembly.specs.Readings.{IsReadOut}
+use Rattle.packet_assembly.specs.Readings.{IsReadOut, AsksReadable}
 use Rattle.packet_list.specs.declared.list.ListDone.{ListDone}
 use Rattle.packet_list.specs.declared.list.ListFault.{ListFault}
 use Rattle.packet_list.specs.declared.list.ListFault.TheVariants.{ReadFault, WriteFault, LongInput, Memory}
@@ -11,18 +12,21 @@ use Rattle.packet_list.specs.Answers.{Answers}
 use Rattle.camera_mux.specs.PickAnswers.{Answers as PickAnswers}
 use Rattle.image_info.specs.declared.info.InfoDone.{InfoDone}
 use Rattle.image_info.specs.declared.info.InfoFault.{InfoFault}
-use Rattle.image_info.specs.declared.info.InfoFault.TheVariants.{ReadFault as info_read_failed, WriteFault as info_write_failed, LongInput as info_long, TooManyImages, Memory as info_memory}
+use Rattle.image_info.specs.declared.info.InfoFault.TheVariants.{ReadFault as info_read_failed, WriteFault as info_write_failed, LongInput as info_long}
+use Rattle.image_info.specs.declared.info.InfoFault.TheVariants.{TooManyImages, Memory as info_memory}
 use Rattle.image_info.specs.declared.info.InfoWish.{InfoWish}
 use Rattle.image_info.specs.Answers.{Answers as InfoAnswers, image_count}
 use Rattle.image_info.specs.Images.{images as images_of}
-use Rattle.image_info.proofs.ImageLists.{images-front}
-use Rattle.segment_walk.proofs.Asking.{front_packets}
+use Rattle.image_info.proofs.ImageLists.{images-prefix}
+use Rattle.segment_walk.proofs.Asking.{leading_packets}
+use Rattle.port_122.proofs.BothAsked.{since_both}
 use Rattle.strip122.specs.Notes.{IsNoted, Notes, list_fault_status, list_fault_line, memory_line}
-use Rattle.strip122.specs.DamageNotes.{done_status, done_line, TellsDone}
-use Rattle.strip122.specs.Listing.{Reader, WithMemory, reader_status, reader_line, Reads, HasFew, HasTooMany, HasMany, reads_packets, lister, picker, informer, info_fault_of}
+use Rattle.strip122.specs.DamageNotes.{done_status, done_line, ReportsDone}
+use Rattle.strip122.specs.Listing.{Reader, WithMemory, reader_asks, reader_status, reader_line, Reads, HasFew, HasTooMany, HasMany, reads_packets, lister}
+use Rattle.strip122.specs.Listing.{picker, informer, info_fault_of}
 use Rattle.strip122.proofs.NoteLines.{ran_on, nothing_noted}
 use Rattle.strip122.proofs.Behaviours.{AtStatus, Law}
-use Rattle.strip122.proofs.ReadOut.{took_front, not_read_out}
+use Rattle.strip122.proofs.ReadOut.{took_prefix, not_read_out}
 use Rattle.strip122.proofs.PacketInputs.{not_full, all_read}
 use Rattle.strip122.proofs.Decoded.{out_later, undamaged_status, damaged_status, status_small, whole_line, lacking_line}
 
@@ -39,23 +43,33 @@ FaultSays cap Few old new took gave Memory = old ≡ new
 -- only on the whole packets, and holds for a prefix too.
 pub record IsReader {D F : Type 0} (r : Reader D F) : Type 0 where
   pub done : (old new : Outside) (took gave : List ℕ) (done : D) → r.causes old new took gave (Ok done) → IsReadOut r.cap new took × r.Few took
-  pub say : (old new : Outside) (took gave : List ℕ) (fault : F) → r.causes old new took gave (Err fault) → FaultSays r.cap r.Few old new took gave (r.fault_of fault)
-  pub later : (a b c : Outside) (took gave wrote : List ℕ) (answer : Result D F) → Exchange b c [] [] wrote NoRead → WithMemory r a b took gave answer → WithMemory r a c took gave answer
+  pub say : (old new : Outside) (took gave : List ℕ) (fault : F) → r.causes old new took gave (Err fault) →
+      FaultSays r.cap r.Few old new took gave (r.fault_of fault)
+  pub later : (a b c : Outside) (took gave wrote : List ℕ) (answer : Result D F) → Exchange b c [] [] wrote NoRead → WithMemory r a b took gave answer →
+      WithMemory r a c took gave answer
   pub fewer : (took more : List ℕ) → r.Few (took ++ more) → r.Few took
   pub same : (took other : List ℕ) → whole_packets took ≡ whole_packets other → r.Few took → r.Few other
 
 module _ {D F : Type 0} (r : Reader D F) (engine : IsReader r) where
   -- ---- after the note
 
-  module _ {a b c : Outside} {took gave : List ℕ} (run : Exchange a b took gave [] (r.asks a took gave)) (within : length took ≤ r.cap) (status : ℕ) where
-    pub told : (done : D) → r.causes a b took gave (Ok done) → TellsDone [] true (r.framing_of done) b c status → Reads r a c status
-    told done k n = inr (ran_on a b c (Ok done) took gave n.wrote status run (record { within = within; cause = engine.later a b c took gave n.wrote (Ok done) n.since k }) n.since n.status_is n.noted)
+  module _ {a b c : Outside} {took gave : List ℕ} (since : Exchange a b took gave [] (r.asks a took gave))
+      (readable : Exchange a b took gave [] (AsksReadable r.cap took)) (within : length took ≤ r.cap) (status : ℕ) where
+    pub if_known : (done : D) → r.causes a b took gave (Ok done) → ReportsDone [] true (r.framing_of done) b c status → Reads r a c status
+    if_known done k n =
+        let run : Exchange a b took gave [] (reader_asks r a took gave) = since_both since readable in
+        inr (ran_on a b c (Ok done) took gave n.wrote status run
+        (record { within = within; cause = engine.later a b c took gave n.wrote (Ok done) n.since k }) n.since n.status_is n.noted)
 
-    pub failed : (fault : F) → r.causes a b took gave (Err fault) → Notes b c (list_fault_line (r.fault_of fault)) → status ≡ list_fault_status (r.fault_of fault) → Reads r a c status
+    pub failed : (fault : F) → r.causes a b took gave (Err fault) → Notes b c (list_fault_line (r.fault_of fault)) →
+        status ≡ list_fault_status (r.fault_of fault) → Reads r a c status
     failed fault k n is = by (r.fault_of fault) refl
       where
         noted : (r.fault_of fault ≡ Memory → ⊥) → Reads r a c status
-        noted some = inr (ran_on a b c (Err fault) took gave n.0 status run (record { within = within; cause = engine.later a b c took gave n.0 (Err fault) n.1 (some, k) }) n.1 is n.2)
+        noted some =
+            let run : Exchange a b took gave [] (reader_asks r a took gave) = since_both since readable in
+            inr (ran_on a b c (Err fault) took gave n.0 status run
+            (record { within = within; cause = engine.later a b c took gave n.0 (Err fault) n.1 (some, k) }) n.1 is n.2)
 
         by : (kind : ListFault) → r.fault_of fault ≡ kind → Reads r a c status
         by LongInput e = noted (λ none. absurd cc)
@@ -76,7 +90,8 @@ module _ {D F : Type 0} (r : Reader D F) (engine : IsReader r) where
   reader_ends old new status (inl none) = subst (AtStatus (reads_packets r) old new) (sym none.status_is) (none.wrote, none.since)
   reader_ends old new status (inr run) = subst (AtStatus (reads_packets r) old new) (sym run.status_is) (by run.answer run.noted run.cause.cause)
     where
-      done_ends : (done : D) → IsNoted old new run.wrote (done_line [] true (r.framing_of done)) → r.causes old new run.took run.gave (Ok done) → AtStatus (reads_packets r) old new (done_status [] true (r.framing_of done))
+      done_ends : (done : D) → IsNoted old new run.wrote (done_line [] true (r.framing_of done)) → r.causes old new run.took run.gave (Ok done) →
+          AtStatus (reads_packets r) old new (done_status [] true (r.framing_of done))
       done_ends done noted k = elim (status_small [] true (r.framing_of done)) [
         | inl none ↦
             let good = (undamaged_status [] true (r.framing_of done) none).2 in
@@ -85,7 +100,7 @@ module _ {D F : Type 0} (r : Reader D F) (engine : IsReader r) where
               done = done;
               took = run.took;
               gave = run.gave;
-              since = subst (λ w. Exchange old new run.took run.gave w (r.asks old run.took run.gave)) silent run.since;
+              since = subst (λ w. Exchange old new run.took run.gave w (reader_asks r old run.took run.gave)) silent run.since;
               within = run.cause.within;
               cause = k;
               framing = good;
@@ -105,7 +120,8 @@ module _ {D F : Type 0} (r : Reader D F) (engine : IsReader r) where
             }
       ]
 
-      fault_ends : (fault : F) → IsNoted old new run.wrote (list_fault_line (r.fault_of fault)) → WithMemory r old new run.took run.gave (Err fault) → (kind : ListFault) → r.fault_of fault ≡ kind →
+      fault_ends : (fault : F) → IsNoted old new run.wrote (list_fault_line (r.fault_of fault)) → WithMemory r old new run.took run.gave (Err fault) →
+          (kind : ListFault) → r.fault_of fault ≡ kind →
           AtStatus (reads_packets r) old new (list_fault_status kind)
       fault_ends fault noted k LongInput e = record {
         fault = fault;
@@ -121,7 +137,8 @@ module _ {D F : Type 0} (r : Reader D F) (engine : IsReader r) where
       fault_ends fault noted k WriteFault e = subst (FaultSays r.cap r.Few old new run.took run.gave) e (engine.say old new run.took run.gave fault k.1)
       fault_ends fault noted k Memory e = absurd (k.0 e)
 
-      by : (answer : Result D F) → IsNoted old new run.wrote (reader_line r answer) → WithMemory r old new run.took run.gave answer → AtStatus (reads_packets r) old new (reader_status r answer)
+      by : (answer : Result D F) → IsNoted old new run.wrote (reader_line r answer) → WithMemory r old new run.took run.gave answer →
+          AtStatus (reads_packets r) old new (reader_status r answer)
       by (Ok done) noted k = done_ends done noted k
       by (Err fault) noted k = fault_ends fault noted k (r.fault_of fault) refl
 
@@ -130,14 +147,16 @@ module _ {D F : Type 0} (r : Reader D F) (engine : IsReader r) where
   few_packets old new has f = elim (subst (FaultSays r.cap r.Few old new f.took f.gave) f.long (engine.say old new f.took f.gave f.fault f.cause)) [
     | inl full ↦ not_full r.cap old new f.took f.since.rest has.packets full.0 full.1
     | inr many ↦
-        let front = took_front has.packets.input f.took old.rest new.rest has.packets.told f.since.rest in
-        many (engine.fewer f.took front.0 (subst r.Few front.1 has.few))
+        let prefix = took_prefix has.packets.input f.took old.rest new.rest has.packets.if_known f.since.rest in
+        many (engine.fewer f.took prefix.0 (subst r.Few prefix.1 has.few))
   ]
 
   -- and what was read to its end isn't too long
-  not_long : (old new : Outside) {took gave wrote : List ℕ} {Q : ℕ → ℕ → Type 0} → HasTooMany r.cap old ⊎ HasMany r.cap r.Few old → Exchange old new took gave wrote Q → length took ≤ r.cap → (done : D) →
+  not_long : (old new : Outside) {took gave wrote : List ℕ} {Q : ℕ → ℕ → Type 0} → HasTooMany r.cap old ⊎ HasMany r.cap r.Few old →
+      Exchange old new took gave wrote Q → length took ≤ r.cap → (done : D) →
       r.causes old new took gave (Ok done) → ⊥
-  not_long old new {took = took} {gave = gave} (inl has) since within done k = not_read_out r.cap took has.input old new since has.told within has.long has.good (engine.done old new took gave done k).0
+  not_long old new {took = took} {gave = gave} (inl has) since within done k =
+      not_read_out r.cap took has.input old new since has.if_known within has.long has.good (engine.done old new took gave done k).0
   not_long old new {took = took} {gave = gave} (inr has) since within done k =
       let read = engine.done old new took gave done k in
       has.many (engine.same took has.packets.input (sym (all_read r.cap old new since has.packets read.0)) read.1)
@@ -153,33 +172,63 @@ module _ {D F : Type 0} (r : Reader D F) (engine : IsReader r) where
 -- ---- each engine
 
 pub list_reads : (wish : DecodeWish) → IsReader (lister wish)
-list_reads wish = record { done = λ old new took gave done k. (k.out, tt); say = say; later = later; fewer = λ took more few. tt; same = λ took other is few. tt }
+list_reads wish = record {
+  done = λ old new took gave done k. (k.out, tt);
+  say = say;
+  later = later;
+  fewer = λ took more few. tt;
+  same =
+      λ took other is few. tt;
+}
   where
-    say : (old new : Outside) (took gave : List ℕ) (fault : ListFault) → Answers wish old new took gave (Err fault) → FaultSays wish.octets (lister wish).Few old new took gave fault
+    say : (old new : Outside) (took gave : List ℕ) (fault : ListFault) → Answers wish old new took gave (Err fault) →
+        FaultSays wish.octets (lister wish).Few old new took gave fault
     say old new took gave LongInput k = inl (k.0, k.1)
     say old new took gave ReadFault k = k.0
     say old new took gave WriteFault k = k.0
     say old new took gave Memory k = k.0
 
-    later : (a b c : Outside) (took gave wrote : List ℕ) (answer : Result ListDone ListFault) → Exchange b c [] [] wrote NoRead → WithMemory (lister wish) a b took gave answer → WithMemory (lister wish) a c took gave answer
-    later a b c took gave wrote (Ok done) n k = record { lines = k.lines; packets = k.packets; framing_is = k.framing_is; out = out_later wish.octets b c took wrote n k.out }
+    later : (a b c : Outside) (took gave wrote : List ℕ) (answer : Result ListDone ListFault) → Exchange b c [] [] wrote NoRead →
+        WithMemory (lister wish) a b took gave answer → WithMemory (lister wish) a c took gave answer
+    later a b c took gave wrote (Ok done) n k = record {
+      lines = k.lines;
+      packets = k.packets;
+      framing_is = k.framing_is;
+      out =
+          out_later wish.octets b c took wrote n k.out;
+    }
     later a b c took gave wrote (Err LongInput) n k = k
     later a b c took gave wrote (Err ReadFault) n k = (k.0, (omega (arith, k.1.0, n.faults.reads), k.1.1))
     later a b c took gave wrote (Err WriteFault) n k = (k.0, (omega (arith, k.1.0, n.faults.writes), k.1.1))
     later a b c took gave wrote (Err Memory) n k = absurd (k.0 refl)
 
 pub pick_reads : (wish : DecodeWish) (image : Option ℕ) → IsReader (picker wish image)
-pick_reads wish image = record { done = λ old new took gave done k. (k.out, tt); say = say; later = later; fewer = λ took more few. tt; same = λ took other is few. tt }
+pick_reads wish image = record {
+  done = λ old new took gave done k. (k.out, tt);
+  say = say;
+  later = later;
+  fewer = λ took more few. tt;
+  same =
+      λ took other is few. tt;
+}
   where
-    say : (old new : Outside) (took gave : List ℕ) (fault : ListFault) → PickAnswers wish image old new took gave (Err fault) → FaultSays wish.octets (picker wish image).Few old new took gave fault
+    say : (old new : Outside) (took gave : List ℕ) (fault : ListFault) → PickAnswers wish image old new took gave (Err fault) →
+        FaultSays wish.octets (picker wish image).Few old new took gave fault
     say old new took gave LongInput k = inl (k.0, k.1)
     say old new took gave ReadFault k = k.0
     say old new took gave WriteFault k = k.0
     say old new took gave Memory k = k.0
 
-    later : (a b c : Outside) (took gave wrote : List ℕ) (answer : Result ListDone ListFault) → Exchange b c [] [] wrote NoRead → WithMemory (picker wish image) a b took gave answer →
+    later : (a b c : Outside) (took gave wrote : List ℕ) (answer : Result ListDone ListFault) → Exchange b c [] [] wrote NoRead →
+        WithMemory (picker wish image) a b took gave answer →
         WithMemory (picker wish image) a c took gave answer
-    later a b c took gave wrote (Ok done) n k = record { octets = k.octets; packets = k.packets; framing_is = k.framing_is; out = out_later wish.octets b c took wrote n k.out }
+    later a b c took gave wrote (Ok done) n k = record {
+      octets = k.octets;
+      packets = k.packets;
+      framing_is = k.framing_is;
+      out =
+          out_later wish.octets b c took wrote n k.out;
+    }
     later a b c took gave wrote (Err LongInput) n k = k
     later a b c took gave wrote (Err ReadFault) n k = (k.0, (omega (arith, k.1.0, n.faults.reads), k.1.1))
     later a b c took gave wrote (Err WriteFault) n k = (k.0, (omega (arith, k.1.0, n.faults.writes), k.1.1))
@@ -188,8 +237,8 @@ pick_reads wish image = record { done = λ old new took gave done k. (k.out, tt)
 -- whole packets of more octets go on from those of fewer
 info_fewer : (wish : InfoWish) (took more : List ℕ) → (informer wish).Few (took ++ more) → (informer wish).Few took
 info_fewer wish took more few =
-    let parts = front_packets took more in
-    let images = images-front wish.apid (whole_packets took) parts.0 in
+    let parts = leading_packets took more in
+    let images = images-prefix wish.apid (whole_packets took) parts.0 in
     let all : image_count wish.apid (took ++ more) ≡ image_count wish.apid took + length images.0 =
     ap (λ packets. length (images_of wish.apid packets)) parts.1 ∙ ap length images.1 ∙ length-append (images_of wish.apid (whole_packets took)) images.0 in
     omega (arith, few, all)
@@ -203,17 +252,27 @@ info_reads wish = record {
   same = λ took other is few. omega (arith, few, ap (λ packets. length (images_of wish.apid packets)) is);
 }
   where
-    say : (old new : Outside) (took gave : List ℕ) (fault : InfoFault) → InfoAnswers wish old new took gave (Err fault) → FaultSays wish.octets (informer wish).Few old new took gave (info_fault_of fault)
+    say : (old new : Outside) (took gave : List ℕ) (fault : InfoFault) → InfoAnswers wish old new took gave (Err fault) →
+        FaultSays wish.octets (informer wish).Few old new took gave (info_fault_of fault)
     say old new took gave info_long k = inl (k.0, k.1)
     say old new took gave TooManyImages k = inr (λ few. omega (arith, few, k.0))
     say old new took gave info_read_failed k = k.0
     say old new took gave info_write_failed k = k.0
     say old new took gave info_memory k = k.0
 
-    later : (a b c : Outside) (took gave wrote : List ℕ) (answer : Result InfoDone InfoFault) → Exchange b c [] [] wrote NoRead → WithMemory (informer wish) a b took gave answer → WithMemory (informer wish) a c took gave answer
-    later a b c took gave wrote (Ok done) n k = record { lines = k.lines; images_are = k.images_are; few = k.few; framing_is = k.framing_is; out = out_later wish.octets b c took wrote n k.out }
+    later : (a b c : Outside) (took gave wrote : List ℕ) (answer : Result InfoDone InfoFault) → Exchange b c [] [] wrote NoRead →
+        WithMemory (informer wish) a b took gave answer → WithMemory (informer wish) a c took gave answer
+    later a b c took gave wrote (Ok done) n k = record {
+      lines = k.lines;
+      images_are = k.images_are;
+      few = k.few;
+      framing_is = k.framing_is;
+      out =
+          out_later wish.octets b c took wrote n k.out;
+    }
     later a b c took gave wrote (Err info_long) n k = k
     later a b c took gave wrote (Err TooManyImages) n k = k
     later a b c took gave wrote (Err info_read_failed) n k = (k.0, (omega (arith, k.1.0, n.faults.reads), k.1.1, k.1.2))
-    later a b c took gave wrote (Err info_write_failed) n k = (k.0, (omega (arith, k.1.0, n.faults.writes), k.1.1, out_later wish.octets b c took wrote n k.1.2, k.1.3))
+    later a b c took gave wrote (Err info_write_failed) n k =
+        (k.0, (omega (arith, k.1.0, n.faults.writes), k.1.1, out_later wish.octets b c took wrote n k.1.2, k.1.3))
     later a b c took gave wrote (Err info_memory) n k = absurd (k.0 refl)

@@ -36,7 +36,8 @@ parts_then made row done count =
 
 -- a row in three parts
 three_parts : (made : MadeImage) (row done count : ℕ) → done + count ≤ made.width →
-    made_part made row 0 made.width ≡ made_part made row 0 done ++ (made_part made row done count ++ made_part made row (done + count) (made.width - (done + count)))
+    made_part made row 0 made.width ≡ made_part made row 0 done
+    ++ (made_part made row done count ++ made_part made row (done + count) (made.width - (done + count)))
 three_parts made row done count le =
     let size : made.width ≡ done + (count + (made.width - (done + count))) = omega (arith, le) in
     ap (made_part made row 0) size ∙ parts_then made row done (count + (made.width - (done + count))) ∙
@@ -45,7 +46,8 @@ three_parts made row done count le =
 -- if a part of a row couldn't be given whole, a prefix of the row is given
 pub row_failed : {T E : Type 0} {a b c : Outside} (made : MadeImage) (row done count : ℕ) (r : Result T E) → done + count ≤ made.width →
     Exchange a b [] (made_part made row 0 done) [] NoRead →
-    Rose b.write_faults c.write_faults × ((n : ℕ) × (n ≤ length (made_part made row done count)) × Exchange b c [] (take n (made_part made row done count)) [] NoRead) →
+    Rose b.write_faults c.write_faults × ((n : ℕ) × (n ≤ length (made_part made row done count)) × Exchange b c [] (take n (made_part made row done count))
+    [] NoRead) →
     IsErr r → WritesAll r a c (made_part made row 0 made.width)
 row_failed {a = a} {c = c} made row done count r le p q is =
     subst (WritesAll r a c) (sym (three_parts made row done count le))
@@ -60,12 +62,14 @@ three_rows made row lt =
     let first : 0 + row ≡ row = omega arith in
     ap (λ n. raster_octets made.depth n made.width (made_value made)) size ∙
     rows_from-append made.depth made.width (made_value made) 0 row (suc (made.rows - (row + 1))) ∙
-    ap (λ i. raster_octets made.depth row made.width (made_value made) ++ rows_from made.depth made.width (made_value made) i (suc (made.rows - (row + 1)))) first
+    ap (λ i. raster_octets made.depth row made.width (made_value made) ++ rows_from made.depth made.width (made_value made) i (suc (made.rows - (row + 1))))
+    first
 
 -- if a row couldn't be given whole, a prefix of the raster is given
 pub raster_failed : {T E : Type 0} {a b c : Outside} (made : MadeImage) (row : ℕ) (r : Result T E) → row < made.rows →
     Exchange a b [] (raster_octets made.depth row made.width (made_value made)) [] NoRead →
-    Rose b.write_faults c.write_faults × ((n : ℕ) × (n ≤ length (made_part made row 0 made.width)) × Exchange b c [] (take n (made_part made row 0 made.width)) [] NoRead) →
+    Rose b.write_faults c.write_faults × ((n : ℕ) × (n ≤ length (made_part made row 0 made.width)) × Exchange b c []
+    (take n (made_part made row 0 made.width)) [] NoRead) →
     IsErr r → WritesAll r a c (made_raster made)
 raster_failed {a = a} {c = c} made row r lt p q is =
     subst (WritesAll r a c) (sym (three_rows made row lt))

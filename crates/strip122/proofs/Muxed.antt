@@ -1,9 +1,10 @@
 -- The effect of a run of `mux` after its note, and what follows for each status.
-use Rattle.std.proofs.Common.{◌≡◌, ◌<◌, ◌≤◌, ◌*◌, ℕ, ℤ, suc, Bool, List, [], ◌∷◌, ◌++◌, length, take, refl, sym, ◌∙◌, ap, subst, arith, append_assoc, length-append, inl, inr, Result, Ok, Err, append-nil}
+use Rattle.std.proofs.Common.{◌≡◌, ◌<◌, ◌≤◌, ◌*◌, ℕ, ℤ, suc, Bool, List, [], ◌∷◌, ◌++◌, length, take, refl, sym, ◌∙◌, ap, subst, arith, append_assoc}
+use Rattle.std.proofs.Common.{length-append, inl, inr, Result, Ok, Err, append-nil}
 use Rattle.strip122.proofs.BookRuns.{same_parts}
 use Rattle.port_122.specs.Outside.{Outside, Exchange, NoRead}
 use Rattle.port_122.proofs.Stretches.{since_note, at_end_later}
-use Rattle.port_122.proofs.Told.{end_told}
+use Rattle.port_122.proofs.IfKnown.{end_known}
 use Rattle.base_122.specs.declared.setting.Setting.{Setting}
 use Rattle.raster_rows.specs.Pixels.{pixel_size, whole_pixels}
 use Rattle.raster_rows.specs.RowReads.{FirstInRange, IsFirstBad}
@@ -12,21 +13,22 @@ use Rattle.strip_coder.specs.Rasters.{row_length}
 use Rattle.camera_mux.specs.declared.mux.MuxDone.{MuxDone}
 use Rattle.camera_mux.specs.declared.mux.MuxFault.{MuxFault}
 use Rattle.camera_mux.specs.declared.mux.MuxFault.TheVariants.{ReadFault, WriteFault, Short, Long, BadCamera, BadPixel}
-use Rattle.camera_mux.specs.Records.{CameraRow, setting_at, record_at, octets_of, CanFollow, AreAccepted, AreFull}
+use Rattle.camera_mux.specs.Records.{CameraRow, setting_at, record_at, octets_of, CanFollow, AreAccepted, AreFull, IsAwaited, IsPart}
 use Rattle.camera_mux.specs.MuxProgress.{AreSettings, AsksMux}
-use Rattle.camera_mux.specs.MuxAnswers.{Answers, IsAwaited, IsPart, HasBadPixel, Muxes as MuxesOver}
+use Rattle.camera_mux.specs.MuxAnswers.{Answers, HasBadPixel, Muxes as MuxesOver}
 use Rattle.camera_mux.specs.MuxLaws.{CamerasAreKept}
 use Rattle.strip122.specs.Notes.{IsNoted, Notes, mux_fault_status, mux_fault_line}
 use Rattle.strip122.specs.Muxing.{mux_status, mux_line, Muxes, MuxedWhole, MuxRefuses, AreRecords, muxes}
 use Rattle.strip122.proofs.NoteLines.{noted_since, nothing_noted}
 use Rattle.strip122.proofs.Behaviours.{AtStatus, Law}
 use Rattle.strip122.proofs.Inputs.{not_in_range}
-use Rattle.strip122.proofs.ReadOut.{took_front}
+use Rattle.strip122.proofs.ReadOut.{took_prefix}
 
 -- ---- after the note
 
 -- a cause is also valid after a note
-causes_later : (settings : List Setting) (a b c : Outside) (records : List CameraRow) (rest gave wrote : List ℕ) (r : Result MuxDone MuxFault) → Exchange b c [] [] wrote NoRead →
+causes_later : (settings : List Setting) (a b c : Outside) (records : List CameraRow) (rest gave wrote : List ℕ) (r : Result MuxDone MuxFault) →
+    Exchange b c [] [] wrote NoRead →
     Answers settings a b records rest gave r → Answers settings a c records rest gave r
 causes_later settings a b c records rest gave wrote (Ok done) n k = (k.0, k.1, at_end_later n k.2, k.3, k.4, k.5)
 causes_later settings a b c records rest gave wrote (Err ReadFault) n k = (omega (arith, k.0, n.faults.reads), k.1, k.2)
@@ -52,7 +54,8 @@ module _ (settings : List Setting) (kept : CamerasAreKept) (are : AreSettings se
     noted = inl refl;
   }
 
-  pub mux_failed : (c : Outside) (fault : MuxFault) (status : ℕ) → MuxesOver settings a b (Err fault) → Notes b c (mux_fault_line fault) → status ≡ mux_fault_status fault → Muxes settings a c status
+  pub mux_failed : (c : Outside) (fault : MuxFault) (status : ℕ) → MuxesOver settings a b (Err fault) → Notes b c (mux_fault_line fault) →
+      status ≡ mux_fault_status fault → Muxes settings a c status
   mux_failed c fault status run n is = inr record {
     answer = Err fault;
     records = run.records;
@@ -78,13 +81,13 @@ mux_fault_fails (BadPixel camera row column value) zero = omega (arith, zero)
 
 -- ---- records of the same octets
 
-shorter_front : (xs ys us vs : List ℕ) → length ys ≤ length xs → xs ++ us ≡ ys ++ vs → (ws : List ℕ) × (xs ≡ ys ++ ws)
-shorter_front xs [] us vs size e = (xs, refl)
-shorter_front [] (y ∷ ys) us vs size e = absurd (omega (arith, size))
-shorter_front (x ∷ xs) (y ∷ ys) us vs size e =
+shorter_prefix : (xs ys us vs : List ℕ) → length ys ≤ length xs → xs ++ us ≡ ys ++ vs → (ws : List ℕ) × (xs ≡ ys ++ ws)
+shorter_prefix xs [] us vs size e = (xs, refl)
+shorter_prefix [] (y ∷ ys) us vs size e = absurd (omega (arith, size))
+shorter_prefix (x ∷ xs) (y ∷ ys) us vs size e =
     let first : x ≡ y = cc in
     let more : xs ++ us ≡ ys ++ vs = cc in
-    let rest = shorter_front xs ys us vs (omega (arith, size)) more in
+    let rest = shorter_prefix xs ys us vs (omega (arith, size)) more in
     let same = rest.1 in
     (rest.0, cc)
 
@@ -92,63 +95,69 @@ shorter_front (x ∷ xs) (y ∷ ys) us vs size e =
 record FollowOn (settings : List Setting) (before records : List CameraRow) : Type 0 where
   each : (i : ℕ) → i < length records → CanFollow settings (before ++ take i records) (record_at records i)
 
-first_follows : (settings : List Setting) (before : List CameraRow) (r : CameraRow) (rs : List CameraRow) → FollowOn settings before (r ∷ rs) → CanFollow settings before r
+first_follows : (settings : List Setting) (before : List CameraRow) (r : CameraRow) (rs : List CameraRow) → FollowOn settings before (r ∷ rs) →
+    CanFollow settings before r
 first_follows settings before r rs all = subst (λ rows. CanFollow settings rows r) (append-nil before) (all.each 0 (omega arith))
 
-rest_follows : (settings : List Setting) (before : List CameraRow) (r : CameraRow) (rs : List CameraRow) → FollowOn settings before (r ∷ rs) → FollowOn settings (before ++ r ∷ []) rs
+rest_follows : (settings : List Setting) (before : List CameraRow) (r : CameraRow) (rs : List CameraRow) → FollowOn settings before (r ∷ rs) →
+    FollowOn settings (before ++ r ∷ []) rs
 rest_follows settings before r rs all = record {
-  each = λ i lt. subst (λ rows. CanFollow settings rows (record_at rs i)) (sym (append_assoc before (r ∷ []) (take i rs))) (all.each (suc i) (omega (arith, lt)));
+  each = λ i lt. subst (λ rows. CanFollow settings rows (record_at rs i)) (sym (append_assoc before (r ∷ []) (take i rs)))
+      (all.each (suc i) (omega (arith, lt)));
 }
 
 accepted_follow : (settings : List Setting) (records : List CameraRow) → AreAccepted settings records → FollowOn settings [] records
 accepted_follow settings records all = record { each = all.each }
 
 -- records that go on from others, with these octets
-record Continues (settings : List Setting) (before records front : List CameraRow) (octets : List ℕ) : Type 0 where
+record Continues (settings : List Setting) (before records prefix : List CameraRow) (octets : List ℕ) : Type 0 where
   next : List CameraRow
-  records_are : records ≡ front ++ next
+  records_are : records ≡ prefix ++ next
   octets_are : octets_of next ≡ octets
-  follow : FollowOn settings (before ++ front) next
+  follow : FollowOn settings (before ++ prefix) next
 
 -- Of two lists of records that can follow the same ones, one is a prefix of the other if its octets are.
-goes_on : (settings : List Setting) (before front records : List CameraRow) (octets : List ℕ) → FollowOn settings before front → FollowOn settings before records →
-    octets_of records ≡ octets_of front ++ octets → Continues settings before records front octets
+goes_on : (settings : List Setting) (before prefix records : List CameraRow) (octets : List ℕ) → FollowOn settings before prefix →
+    FollowOn settings before records →
+    octets_of records ≡ octets_of prefix ++ octets → Continues settings before records prefix octets
 goes_on settings before [] records octets one other e = record {
   next = records;
   records_are = refl;
   octets_are = e;
   follow = subst (λ rows. FollowOn settings rows records) (sym (append-nil before)) other;
 }
-goes_on settings before (a ∷ front) [] octets one other e = absurd (omega (arith, ap length e))
-goes_on settings before (a ∷ front) (r ∷ records) octets one other e =
-    let own = first_follows settings before a front one in
+goes_on settings before (a ∷ prefix) [] octets one other e = absurd (omega (arith, ap length e))
+goes_on settings before (a ∷ prefix) (r ∷ records) octets one other e =
+    let own = first_follows settings before a prefix one in
     let their = first_follows settings before r records other in
     let camera : r.camera ≡ a.camera = cc in
-    let rows : r.row ++ octets_of records ≡ (a.row ++ octets_of front) ++ octets = cc in
+    let rows : r.row ++ octets_of records ≡ (a.row ++ octets_of prefix) ++ octets = cc in
     let size : length r.row ≡ length a.row = their.whole ∙ ap (λ c. row_length (setting_at settings c)) camera ∙ sym own.whole in
-    let both = same_parts r.row a.row (octets_of records) (octets_of front ++ octets) size (rows ∙ append_assoc a.row (octets_of front) octets) in
+    let both = same_parts r.row a.row (octets_of records) (octets_of prefix ++ octets) size (rows ∙ append_assoc a.row (octets_of prefix) octets) in
     let make : ℕ → List ℕ → CameraRow = λ c row. record { camera = c; row = row } in
     let same : r ≡ a = ap (λ c. make c r.row) camera ∙ ap (make a.camera) both.0 in
-    let more = goes_on settings (before ++ a ∷ []) front records octets (rest_follows settings before a front one)
+    let more = goes_on settings (before ++ a ∷ []) prefix records octets (rest_follows settings before a prefix one)
     (subst (λ x. FollowOn settings (before ++ x ∷ []) records) same (rest_follows settings before r records other)) both.1 in
     record {
       next = more.next;
       records_are = ap (λ x. x ∷ records) same ∙ ap (λ xs. a ∷ xs) more.records_are;
       octets_are = more.octets_are;
-      follow = subst (λ rows. FollowOn settings rows more.next) (append_assoc before (a ∷ []) front) more.follow;
+      follow = subst (λ rows. FollowOn settings rows more.next) (append_assoc before (a ∷ []) prefix) more.follow;
     }
 
 -- ---- which records aren't refused
 
 -- a pixel out of range in the octets that begin a row is one of the row
-no_bad_pixel : (depth : ℕ) (signed : Bool) (width : ℕ) (row got ws : List ℕ) (column : ℕ) (value : ℤ) → row ≡ got ++ ws → length row ≡ width * pixel_size depth →
+no_bad_pixel : (depth : ℕ) (signed : Bool) (width : ℕ) (row got ws : List ℕ) (column : ℕ) (value : ℤ) → row ≡ got ++ ws →
+    length row ≡ width * pixel_size depth →
     FirstInRange depth signed row width → IsFirstBad depth signed got column value → ⊥
 no_bad_pixel depth signed width row got ws column value is size all bad =
     let whole : whole_pixels depth row ≡ width = whole_pixels-is depth row width 0 (omega (arith, size)) (size_some depth) in
     not_in_range depth signed got ws column value bad
     (subst (λ xs. FirstInRange depth signed xs (whole_pixels depth xs)) is (subst (FirstInRange depth signed row) (sym whole) all))
 
-module _ (settings : List Setting) (input : List ℕ) (all : AreRecords settings input) (records : List CameraRow) (accepted : AreAccepted settings records) (rest more : List ℕ)
+module _ (settings : List Setting) (input : List ℕ) (all : AreRecords settings input) (records : List CameraRow) (accepted : AreAccepted settings records)
+    (rest more : List ℕ)
     (parts : input ≡ (octets_of records ++ rest) ++ more) where
   after : Continues settings [] all.records records (rest ++ more)
   after = goes_on settings [] records all.records (rest ++ more) (accepted_follow settings records accepted) (accepted_follow settings all.records all.accepted)
@@ -193,7 +202,7 @@ module _ (settings : List Setting) (input : List ℕ) (all : AreRecords settings
           let same : r.camera ≡ camera = cc in
           let octets : r.row ++ octets_of rs ≡ b.got ++ more = cc in
           let size : length r.row ≡ row_length (setting_at settings camera) = own.whole ∙ ap (λ c. row_length (setting_at settings c)) same in
-          let parts = shorter_front r.row b.got (octets_of rs) more (omega (arith, size, b.within)) octets in
+          let parts = shorter_prefix r.row b.got (octets_of rs) more (omega (arith, size, b.within)) octets in
           let s = setting_at settings camera in
           no_bad_pixel s.depth s.signed s.width r.row b.got parts.0 column value parts.1 size
           (subst (λ c. FirstInRange (setting_at settings c).depth (setting_at settings c).signed r.row (setting_at settings c).width) same own.in_range) b.bad
@@ -204,16 +213,17 @@ right_records settings old new input r = by r.fault r.cause r.input
     took : List ℕ
     took = octets_of r.records ++ r.rest
 
-    front : (rest : List ℕ) × (input.0 ≡ took ++ rest)
-    front = took_front input.0 took old.rest new.rest input.1 r.since.rest
+    prefix : (rest : List ℕ) × (input.0 ≡ took ++ rest)
+    prefix = took_prefix input.0 took old.rest new.rest input.1 r.since.rest
 
     by : (fault : MuxFault) → Answers settings old new r.records r.rest r.gave (Err fault) → mux_fault_status fault ≡ 3 → ⊥
     by (Short octets) k three =
-        let all : took ≡ input.0 = end_told input.0 r.since input.1 k.2 in
+        let all : took ≡ input.0 = end_known input.0 r.since input.1 k.2 in
         not_short settings input.0 input.2 r.records r.accepted r.rest [] (sym all ∙ sym (append-nil took)) refl k.1 k.3
-    by Long k three = not_long settings input.0 input.2 r.records r.accepted r.rest front.0 front.1 k.0 k.1
-    by (BadCamera place camera) k three = not_bad_camera settings input.0 input.2 r.records r.accepted r.rest front.0 front.1 camera k.2 k.3
-    by (BadPixel camera row column value) k three = not_bad_pixel settings input.0 input.2 r.records r.accepted r.rest front.0 front.1 camera row column value k.0
+    by Long k three = not_long settings input.0 input.2 r.records r.accepted r.rest prefix.0 prefix.1 k.0 k.1
+    by (BadCamera place camera) k three = not_bad_camera settings input.0 input.2 r.records r.accepted r.rest prefix.0 prefix.1 camera k.2 k.3
+    by (BadPixel camera row column value) k three = not_bad_pixel settings input.0 input.2 r.records r.accepted r.rest prefix.0 prefix.1 camera row column
+        value k.0
     by ReadFault k three = omega (arith, three)
     by WriteFault k three = omega (arith, three)
 
@@ -223,7 +233,8 @@ mux_ends : (settings : List Setting) (old new : Outside) (status : ℕ) → Muxe
 mux_ends settings old new status (inl none) = subst (AtStatus (muxes settings) old new) (sym none.status_is) (none.wrote, none.since)
 mux_ends settings old new status (inr run) = subst (AtStatus (muxes settings) old new) (sym run.status_is) (by run.answer run.noted run.cause)
   where
-    refuses : (fault : MuxFault) → mux_fault_status fault ≡ 3 → IsNoted old new run.wrote (mux_fault_line fault) → Answers settings old new run.records run.rest run.gave (Err fault) → MuxRefuses settings old new
+    refuses : (fault : MuxFault) → mux_fault_status fault ≡ 3 → IsNoted old new run.wrote (mux_fault_line fault) →
+        Answers settings old new run.records run.rest run.gave (Err fault) → MuxRefuses settings old new
     refuses fault three noted k = record {
       fault = fault;
       records = run.records;
@@ -240,20 +251,23 @@ mux_ends settings old new status (inr run) = subst (AtStatus (muxes settings) ol
     whole : (done : MuxDone) → IsNoted old new run.wrote [] → Answers settings old new run.records run.rest run.gave (Ok done) → MuxedWhole settings old new
     whole done noted k =
         let silent = nothing_noted old new run.wrote [] refl noted in
-        let quiet : Exchange old new (octets_of run.records ++ run.rest) run.gave [] (AsksMux settings run.records) =
-        subst (λ w. Exchange old new (octets_of run.records ++ run.rest) run.gave w (AsksMux settings run.records)) silent run.since in
+        let quiet : Exchange old new (octets_of run.records ++ run.rest) run.gave []
+        (AsksMux settings run.records (octets_of run.records ++ run.rest)) =
+        subst (λ w. Exchange old new (octets_of run.records ++ run.rest) run.gave w (AsksMux settings run.records (octets_of run.records ++ run.rest)))
+        silent run.since in
         let all : octets_of run.records ++ run.rest ≡ octets_of run.records = ap (λ xs. octets_of run.records ++ xs) k.1 ∙ append-nil (octets_of run.records) in
         record {
           records = run.records;
           accepted = run.accepted;
           full = k.0;
-          since = subst (λ g. Exchange old new (octets_of run.records) g [] (AsksMux settings run.records)) k.3
-              (subst (λ t. Exchange old new t run.gave [] (AsksMux settings run.records)) all quiet);
+          since = subst (λ g. Exchange old new (octets_of run.records) g [] (AsksMux settings run.records (octets_of run.records))) k.3
+              (subst (λ t. Exchange old new t run.gave [] (AsksMux settings run.records t)) all quiet);
           keeps = run.keeps;
           ended = k.2;
         }
 
-    by : (r : Result MuxDone MuxFault) → IsNoted old new run.wrote (mux_line r) → Answers settings old new run.records run.rest run.gave r → AtStatus (muxes settings) old new (mux_status r)
+    by : (r : Result MuxDone MuxFault) → IsNoted old new run.wrote (mux_line r) → Answers settings old new run.records run.rest run.gave r →
+        AtStatus (muxes settings) old new (mux_status r)
     by (Ok done) noted k = whole done noted k
     by (Err (Short octets)) noted k = refuses (Short octets) refl noted k
     by (Err Long) noted k = refuses Long refl noted k
@@ -266,6 +280,12 @@ pub mux_law : (settings : List Setting) → Law (muxes settings)
 mux_law settings = record {
   ends = mux_ends settings;
   right = right_records settings;
-  wrong_whole = λ old new input w. input.2 (record { records = w.records; accepted = w.accepted; full = w.full; octets_are = sym (end_told input.0 w.since input.1 w.ended) });
+  wrong_whole = λ old new input w. input.2 (record {
+    records = w.records;
+    accepted = w.accepted;
+    full = w.full;
+    octets_are =
+        sym (end_known input.0 w.since input.1 w.ended);
+  });
   wrong_part = λ old new wrong never. never;
 }

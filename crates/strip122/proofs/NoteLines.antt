@@ -1,5 +1,6 @@
 -- Notes in parts.
-use Rattle.std.proofs.Common.{◌≡◌, ◌<◌, ◌≤◌, ◌+◌, ℕ, zero, suc, List, [], ◌∷◌, ◌++◌, length, refl, sym, ◌∙◌, ap, subst, arith, length-append, take, get_or, inl, inr, Result, Ok, Err, String, string_bytes}
+use Rattle.std.proofs.Common.{◌≡◌, ◌<◌, ◌≤◌, ◌+◌, ℕ, zero, suc, List, [], ◌∷◌, ◌++◌, length, refl, sym, ◌∙◌, ap, subst, arith, length-append, take, get_or}
+use Rattle.std.proofs.Common.{inl, inr, Result, Ok, Err, String, string_bytes}
 use Rattle.std.specs.declared.alloc.Global.{Global}
 use Rattle.std.proofs.lemmas.List.{take-append-le}
 use Rattle.std.proofs.Math.Seq.{take-append-add, take-nil}
@@ -57,8 +58,10 @@ word_is (w ∷ words) zero word lt is = ap string_bytes is
 word_is (w ∷ words) (suc place) word lt is = word_is words place word (omega arith) is
 
 -- a run of an engine, and then its note
-pub ran_on : {R : Type 0} {causes : Outside → Outside → List ℕ → List ℕ → R → Type 0} {asks : Outside → List ℕ → List ℕ → ℕ → ℕ → Type 0} {status_of : R → ℕ} {line_of : R → List ℕ} →
-    (a b c : Outside) (answer : R) (took gave wrote : List ℕ) (status : ℕ) → Exchange a b took gave [] (asks a took gave) → causes a c took gave answer → Exchange b c [] [] wrote NoRead →
+pub ran_on : {R : Type 0} {causes : Outside → Outside → List ℕ → List ℕ → R → Type 0} {asks : Outside → List ℕ → List ℕ → ℕ → ℕ → Type 0} {status_of : R →
+    ℕ} {line_of : R → List ℕ} →
+    (a b c : Outside) (answer : R) (took gave wrote : List ℕ) (status : ℕ) → Exchange a b took gave [] (asks a took gave) → causes a c took gave answer →
+    Exchange b c [] [] wrote NoRead →
     status ≡ status_of answer → IsNoted b c wrote (line_of answer) → Ran causes asks status_of line_of a c status
 ran_on a b c answer took gave wrote status run cause note is noted = record {
   answer = answer;

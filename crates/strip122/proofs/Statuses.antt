@@ -39,7 +39,8 @@ tried_cut s seed done a b c tried f n = inr (record { done = done; tried = tried
 -- ---- each status
 
 -- a run that only gives octets has status 0 or 5
-gives_ends : (octets : List ℕ) (b : Behaviour) (old new : Outside) (status : ℕ) → Gives octets old new status → (Exchange old new [] octets [] NoRead → b.whole old new) → AtStatus b old new status
+gives_ends : (octets : List ℕ) (b : Behaviour) (old new : Outside) (status : ℕ) → Gives octets old new status →
+    (Exchange old new [] octets [] NoRead → b.whole old new) → AtStatus b old new status
 gives_ends octets b old new status run given = elim run.ending [
   | inl whole ↦ subst (AtStatus b old new) (sym whole.status_is)
       (given (subst (λ w. Exchange old new [] octets w NoRead) whole.silent (subst (λ g. Exchange old new [] g run.wrote NoRead) whole.whole run.since)))

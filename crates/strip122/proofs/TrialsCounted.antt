@@ -28,25 +28,31 @@ counted-same p q (suc n) same =
     ∙ ap (λ b. count_by q (range_with_len 0 n) + cond b 1 0) (same n (omega arith)) ∙ sym (counted-more q n))
 
 -- of images that are the same in these rows and columns, the same places are equal
-pub places-same : (rows width : ℕ) (x y a b : ℕ → ℕ → ℤ) → 0 < width → ((i j : ℕ) → i < rows → j < width → x i j ≡ a i j) → ((i j : ℕ) → i < rows → j < width → y i j ≡ b i j) →
+pub places-same : (rows width : ℕ) (x y a b : ℕ → ℕ → ℤ) → 0 < width → ((i j : ℕ) → i < rows → j < width → x i j ≡ a i j) →
+    ((i j : ℕ) → i < rows → j < width → y i j ≡ b i j) →
     equal_places rows width x y ≡ equal_places rows width a b
 places-same rows width x y a b some first second =
-    counted-same (λ k. int_eq (x (k / width) (k % width)) (y (k / width) (k % width))) (λ k. int_eq (a (k / width) (k % width)) (b (k / width) (k % width))) (rows * width)
+    counted-same (λ k. int_eq (x (k / width) (k % width)) (y (k / width) (k % width))) (λ k. int_eq (a (k / width) (k % width)) (b (k / width) (k % width)))
+    (rows * width)
     (λ k lt.
     let row : k / width < rows = div_below k width rows some lt in
     let column : k % width < width = mod_below k width some in
-    ap (λ v. int_eq v (y (k / width) (k % width))) (first (k / width) (k % width) row column) ∙ ap (int_eq (a (k / width) (k % width))) (second (k / width) (k % width) row column))
+    ap (λ v. int_eq v (y (k / width) (k % width))) (first (k / width) (k % width) row column) ∙ ap (int_eq (a (k / width) (k % width)))
+    (second (k / width) (k % width) row column))
 
 -- a place by its row and its column
 place-at : (width place : ℕ) → place / width * width + place % width ≡ place
-place-at width place = let turned : width * (place / width) ≡ place / width * width = grind arith in ap (λ n. n + place % width) (sym turned) ∙ div-add-mod place width
+place-at width place = let turned : width * (place / width) ≡ place / width * width = grind arith in ap (λ n. n + place % width) (sym turned)
+    ∙ div-add-mod place width
 
 -- the equal places of two rasters before one
 abbrev pub equal_before : Setting → (xs ys : List ℕ) → ℕ → ℕ
-equal_before s xs ys n = count_by (λ place. int_eq (image_of s xs (place / s.width) (place % s.width)) (image_of s ys (place / s.width) (place % s.width))) (range_with_len 0 n)
+equal_before s xs ys n = count_by (λ place. int_eq (image_of s xs (place / s.width) (place % s.width)) (image_of s ys (place / s.width) (place % s.width)))
+    (range_with_len 0 n)
 
 -- and with that one
-pub equal-more : (s : Setting) (xs ys : List ℕ) (place before after : ℕ) (same : Bool) → same ≡ int_eq (pixel_at s.depth s.signed xs place) (pixel_at s.depth s.signed ys place) →
+pub equal-more : (s : Setting) (xs ys : List ℕ) (place before after : ℕ) (same : Bool) →
+    same ≡ int_eq (pixel_at s.depth s.signed xs place) (pixel_at s.depth s.signed ys place) →
     before ≡ equal_before s xs ys place → after ≡ before + cond same 1 0 → after ≡ equal_before s xs ys (place + 1)
 equal-more s xs ys place before after same is so step =
     let here : same ≡ int_eq (image_of s xs (place / s.width) (place % s.width)) (image_of s ys (place / s.width) (place % s.width)) =

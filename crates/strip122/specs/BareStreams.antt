@@ -1,6 +1,6 @@
 -- The effect of a run of `bare-encode` and `bare-decode`. This project's own.
 use Rattle.std.specs.Prelude.{◌≡◌, ◌≤◌, ℕ, ℤ, List, [], length, Some, Result, Ok, Err}
-use Rattle.port_122.specs.Outside.{Outside, GivenBy, Exchange, AtEnd}
+use Rattle.port_122.specs.Outside.{Outside, Exchange, AtEnd}
 use Rattle.base_122.specs.declared.geometry.Geometry.{Geometry}
 use Rattle.base_122.specs.declared.setting.Setting.{Setting}
 use Rattle.base_122.specs.declared.wish.DecodeWish.{DecodeWish}
@@ -13,23 +13,23 @@ use Rattle.bare_stream.specs.Images.{IsBareImage}
 use Rattle.bare_stream.specs.RoundTrip.{GivesImage}
 use Rattle.bare_stream.specs.Pictures.{all_rows}
 use Rattle.bare_stream.specs.StreamRead.{reading, answer_for}
-use Rattle.bare_stream.specs.Decoded.{Told, Answers, EndsSo, AsksBare}
+use Rattle.bare_stream.specs.Decoded.{IfKnown, Answers, EndsSo, AsksBare}
 use Rattle.bare_stream.specs.declared.fault.BareFault.{BareFault}
 use Rattle.strip122.specs.Notes.{IsNoted, bare_fault_status, bare_fault_line}
 use Rattle.strip122.specs.Ran.{Asking, Ran, CausedWithin}
 use Rattle.strip122.specs.Behaviours.{Behaviour, Never}
-use Rattle.strip122.specs.Encoding.{RunsEncoder, encoder}
+use Rattle.strip122.specs.Encoding.{AsksRaster, RunsEncoder, encoder}
 
 -- ---- `bare-encode`
 
 -- one run: at a read call the texts of the settled segments are given
 abbrev pub EncodesBare : Setting → (old new : Outside) (status : ℕ) → Type 0
-EncodesBare setting = RunsEncoder (BareAnswers setting) (texts_for setting)
+EncodesBare setting = RunsEncoder setting (BareAnswers setting) (texts_for setting)
 
 -- The whole raster was taken and the end read, and the bare stream of its image is given.
 pub record EncodedBare (setting : Setting) (old new : Outside) : Type 0 where
   pub took : List ℕ
-  pub since : Exchange old new took (bare setting (image_of setting took)) [] (GivenBy (texts_for setting) took)
+  pub since : Exchange old new took (bare setting (image_of setting took)) [] (AsksRaster setting (texts_for setting) took)
   pub raster : TookRaster setting setting.rows took
   pub ended : AtEnd new
 
@@ -50,7 +50,7 @@ bare_line (Err fault) = bare_fault_line fault
 -- The cause of an answer: how the run ended, and the answer of the function by which the stream is read.
 pub record BareCauses (wish : DecodeWish) (old new : Outside) (took gave : List ℕ) (answer : Result Geometry BareFault) : Type 0 where
   pub ends : EndsSo answer old new gave
-  pub answers : Told old (λ input. Answers wish input took gave answer)
+  pub answers : IfKnown old (λ input. Answers wish input took gave answer)
 
 -- one run: each read call that takes octets does so while those before decide nothing, and has given exactly the rows that they determine
 abbrev pub DecodesStream : DecodeWish → (old new : Outside) (status : ℕ) → Type 0
@@ -75,7 +75,7 @@ pub record DecodedBare (wish : DecodeWish) (old new : Outside) : Type 0 where
   pub gave : List ℕ
   pub since : Exchange old new took gave [] (AsksBare wish old took gave)
   pub ended : AtEnd new
-  pub picture : Told old (λ input. GivesPicture wish took gave g)
+  pub picture : IfKnown old (λ input. GivesPicture wish took gave g)
 
 -- The decoder refused its input: the cause and the note name the same fault.
 pub record BareRefuses (wish : DecodeWish) (old new : Outside) : Type 0 where
@@ -119,4 +119,4 @@ pub record GaveBare (wish : DecodeWish) (old new : Outside) : Type 0 where
   pub took : List ℕ
   pub gave : List ℕ
   pub since : Exchange old new took gave [] (AsksBare wish old took gave)
-  pub back : Told old (λ input. (s : Setting) (x : ℕ → ℕ → ℤ) → wish.book ≡ s.book → IsBareImage s x → took ≡ bare s x → GivesImage s x gave g)
+  pub back : IfKnown old (λ input. (s : Setting) (x : ℕ → ℕ → ℤ) → wish.book ≡ s.book → IsBareImage s x → took ≡ bare s x → GivesImage s x gave g)

@@ -66,7 +66,7 @@ pub record RefusesBook (old new : Outside) : Type 0 where
 pub record BeginsWithBook (P : Book → Outside → Type 0) (old : Outside) : Type 0 where
   pub octets : List ℕ
   pub rest : List ℕ
-  pub told : old.rest ≡ Some (octets ++ rest)
+  pub if_known : old.rest ≡ Some (octets ++ rest)
   pub long : length octets ≡ 138
   pub book : Book
   pub read : book_read octets ≡ Ok book
@@ -75,7 +75,7 @@ pub record BeginsWithBook (P : Book → Outside → Type 0) (old : Outside) : Ty
 -- it doesn't begin with the octets of a book
 pub record BeginsWithNone (old : Outside) : Type 0 where
   pub input : List ℕ
-  pub told : old.rest ≡ Some input
+  pub if_known : old.rest ≡ Some input
   pub none : (octets rest : List ℕ) (book : Book) → input ≡ octets ++ rest → length octets ≡ 138 → book_read octets ≡ Ok book → ⊥
 
 -- ---- the behaviour

@@ -34,7 +34,7 @@ GivesRaster wish raster packets old new status =
     ((status ≡ 0) × Exchange old new packets raster [] (Asks wish old packets raster)) ⊎ ((status ≡ 6) × DecoderLacksMemory wish (Asks wish) old new)
 
 -- Each run of `decode` that reads exactly these packets, with such a wish and without a failed call, gives the raster.
-pub record ComesBack (s : Setting) (rows : ℕ) (raster packets : List ℕ) : Type 0 where
+pub record IsReturned (s : Setting) (rows : ℕ) (raster packets : List ℕ) : Type 0 where
   pub back : (wish : DecodeWish) (old new : Outside) (status : ℕ) → Admits wish s rows (length packets) → old.rest ≡ Some packets → IsSteady old new →
       Decodes wish old new status → GivesRaster wish raster packets old new status
 
@@ -42,7 +42,7 @@ pub record ComesBack (s : Setting) (rows : ℕ) (raster packets : List ℕ) : Ty
 pub record EncodedClosed (s : Setting) (old new : Outside) : Type 0 where
   pub encoded : EncodedWhole s old new
   pub closed : SendsAll s → All (λ octet. octet < 256) encoded.took →
-      ComesBack s encoded.rows encoded.took (output s encoded.rows (image_of s encoded.took))
+      IsReturned s encoded.rows encoded.took (output s encoded.rows (image_of s encoded.took))
 
 -- the same for a setting whose book is the one that is read first, if the input has one
 abbrev pub ClosedBy : (has_book : Bool) → Setting → Outside → Outside → Type 0
@@ -55,7 +55,7 @@ ClosedBy true s = AfterBook (λ book. EncodedClosed (record s { book = book }))
 pub record MuxClosed (settings : List Setting) (old new : Outside) : Type 0 where
   pub muxed : MuxedWhole settings old new
   pub closed : (camera : ℕ) → camera < length settings → SendsAll (setting_at settings camera) → All (λ octet. octet < 256) (raster_of camera muxed.records) →
-      ComesBack (setting_at settings camera) (setting_at settings camera).rows (raster_of camera muxed.records) (mux_out settings muxed.records)
+      IsReturned (setting_at settings camera) (setting_at settings camera).rows (raster_of camera muxed.records) (mux_out settings muxed.records)
 
 -- ---- a bare stream
 
@@ -71,11 +71,11 @@ GivesBareRaster wish raster stream old new status =
     ((status ≡ 0) × Exchange old new stream raster [] (AsksBare wish old stream raster)) ⊎ ((status ≡ 6) × BareLacksMemory wish old new)
 
 -- each run of `bare-decode` that reads exactly this stream, with such a wish and without a failed call, gives the raster
-pub record BareComesBack (s : Setting) (raster stream : List ℕ) : Type 0 where
+pub record BareIsReturned (s : Setting) (raster stream : List ℕ) : Type 0 where
   pub back : (wish : DecodeWish) (old new : Outside) (status : ℕ) → AdmitsBare wish s (length stream) → old.rest ≡ Some stream → IsSteady old new →
       DecodesStream wish old new status → GivesBareRaster wish raster stream old new status
 
 -- The bare stream of a raster was given. If nothing of it is omitted, it gives exactly its octets again.
 pub record BareClosed (s : Setting) (old new : Outside) : Type 0 where
   pub encoded : EncodedBare s old new
-  pub closed : SendsAll s → All (λ octet. octet < 256) encoded.took → BareComesBack s encoded.took (bare s (image_of s encoded.took))
+  pub closed : SendsAll s → All (λ octet. octet < 256) encoded.took → BareIsReturned s encoded.took (bare s (image_of s encoded.took))

@@ -62,7 +62,7 @@ done_line [] false framing = damage_line [] false framing
 done_line (range ∷ ranges) known framing = damage_line (range ∷ ranges) known framing
 
 -- Of packets that were read, with this status, the note is given: nothing if nothing is wrong.
-pub record TellsDone (ranges : List RowRange) (known : Bool) (framing : Option Framing) (old new : Outside) (status : ℕ) : Type 0 where
+pub record ReportsDone (ranges : List RowRange) (known : Bool) (framing : Option Framing) (old new : Outside) (status : ℕ) : Type 0 where
   pub wrote : List ℕ
   pub since : Exchange old new [] [] wrote NoRead
   pub status_is : status ≡ done_status ranges known framing

@@ -122,17 +122,18 @@ pub record HasPicture (wish : DecodeWish) (old : Outside) : Type 0 where
   pub few : HasFewPixels wish.pixels wish.apid packets.input
 
 -- the octets report no image
-abbrev pub TellsNone : DecodeWish → List ℕ → Type 0
-TellsNone wish input = geometry_in wish.apid input ≡ None
+abbrev pub ReportsNone : DecodeWish → List ℕ → Type 0
+ReportsNone wish input = geometry_in wish.apid input ≡ None
 
 -- their kept headers report an image of too many pixels
-abbrev pub TellsMany : DecodeWish → List ℕ → Type 0
-TellsMany wish input = (g : Geometry) × (geometry_in wish.apid input ≡ Some g) × (wish.pixels < g.width * rows_reached g (end_of (kept_in wish.apid input)))
+abbrev pub IsManyReported : DecodeWish → List ℕ → Type 0
+IsManyReported wish input = (g : Geometry) × (geometry_in wish.apid input ≡ Some g)
+    × (wish.pixels < g.width * rows_reached g (end_of (kept_in wish.apid input)))
 
 -- It has packets, and reports no image, or one of too many pixels.
 pub record HasNoPicture (wish : DecodeWish) (old : Outside) : Type 0 where
   pub packets : HasPackets wish.octets old
-  pub no_picture : TellsNone wish packets.input ⊎ TellsMany wish packets.input
+  pub no_picture : ReportsNone wish packets.input ⊎ IsManyReported wish packets.input
 
 -- ---- the behaviour of each command
 

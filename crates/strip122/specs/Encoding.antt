@@ -6,7 +6,7 @@ use Rattle.stream_defs.specs.Output.{output}
 use Rattle.strip_coder.specs.declared.encode.EncodeDone.{EncodeDone}
 use Rattle.strip_coder.specs.declared.encode.EncodeFault.{EncodeFault}
 use Rattle.strip_coder.specs.Rasters.{image_of, given_for}
-use Rattle.strip_coder.specs.Answers.{Answers, TookRaster, coded_octets}
+use Rattle.strip_coder.specs.Answers.{Answers, AsksInRange, TookRaster, coded_octets}
 use Rattle.strip122.specs.Notes.{IsNoted, fault_status, fault_line}
 use Rattle.strip122.specs.Ran.{Ran, LacksMemory}
 use Rattle.strip122.specs.Behaviours.{Behaviour, Never, memory_first}
@@ -27,21 +27,21 @@ encode_line (Err fault) = fault_line fault
 abbrev pub EncoderCauses : Type 1
 EncoderCauses = Outside → Outside → List ℕ → List ℕ → Result EncodeDone EncodeFault → Type 0
 
--- what an encoder does at a read call: exactly this is given for the octets that were taken by then
-abbrev pub AsksGiven : (given : List ℕ → List ℕ) → Outside → List ℕ → List ℕ → ℕ → ℕ → Type 0
-AsksGiven given old took gave = GivenBy given took
+-- what an encoder does at a read call: exactly this is given for the octets that were taken by then, whose whole pixels are all in range
+abbrev pub AsksRaster : Setting → (given : List ℕ → List ℕ) → List ℕ → ℕ → ℕ → Type 0
+AsksRaster setting given took i j = GivenBy given took i j × AsksInRange setting took i j
 
 -- one run of an encoder that has its memory
-abbrev pub RunsRaster : EncoderCauses → (given : List ℕ → List ℕ) → (old new : Outside) (status : ℕ) → Type 0
-RunsRaster answers given = Ran answers (AsksGiven given) encode_status encode_line
+abbrev pub RunsRaster : Setting → EncoderCauses → (given : List ℕ → List ℕ) → (old new : Outside) (status : ℕ) → Type 0
+RunsRaster setting answers given = Ran answers (λ old took gave. AsksRaster setting given took) encode_status encode_line
 
 -- one run of a command that encodes
-abbrev pub RunsEncoder : EncoderCauses → (given : List ℕ → List ℕ) → (old new : Outside) (status : ℕ) → Type 0
-RunsEncoder answers given old new status = LacksMemory old new status ⊎ RunsRaster answers given old new status
+abbrev pub RunsEncoder : Setting → EncoderCauses → (given : List ℕ → List ℕ) → (old new : Outside) (status : ℕ) → Type 0
+RunsEncoder setting answers given old new status = LacksMemory old new status ⊎ RunsRaster setting answers given old new status
 
 -- one run of `encode`: at a read call the packets of the settled segments are given
 abbrev pub Encodes : Setting → (old new : Outside) (status : ℕ) → Type 0
-Encodes setting = RunsEncoder (Answers setting) (given_for setting)
+Encodes setting = RunsEncoder setting (Answers setting) (given_for setting)
 
 -- ---- what follows for one status
 
@@ -50,18 +50,18 @@ Encodes setting = RunsEncoder (Answers setting) (given_for setting)
 pub record EncodedWhole (setting : Setting) (old new : Outside) : Type 0 where
   pub took : List ℕ
   pub rows : ℕ
-  pub since : Exchange old new took (output setting rows (image_of setting took)) [] (GivenBy (given_for setting) took)
+  pub since : Exchange old new took (output setting rows (image_of setting took)) [] (AsksRaster setting (given_for setting) took)
   pub raster : TookRaster setting rows took
   pub total : setting.total ≢ 0 → coded_octets setting rows (image_of setting took) ≤ setting.total
   pub ended : AtEnd new
 
 -- The encoder refused its input: the cause and the note name the same fault.
-pub record EncoderRefuses (answers : EncoderCauses) (given : List ℕ → List ℕ) (old new : Outside) : Type 0 where
+pub record EncoderRefuses (setting : Setting) (answers : EncoderCauses) (given : List ℕ → List ℕ) (old new : Outside) : Type 0 where
   pub fault : EncodeFault
   pub took : List ℕ
   pub gave : List ℕ
   pub wrote : List ℕ
-  pub since : Exchange old new took gave wrote (GivenBy given took)
+  pub since : Exchange old new took gave wrote (AsksRaster setting given took)
   pub input : fault_status fault ≡ 3
   pub cause : answers old new took gave (Err fault)
   pub noted : IsNoted old new wrote (fault_line fault)
@@ -71,10 +71,10 @@ pub record EncoderRefuses (answers : EncoderCauses) (given : List ℕ → List �
 -- an encoder that has its memory takes a raster of all its rows with all values in range
 abbrev pub takes_raster : Setting → EncoderCauses → (given : List ℕ → List ℕ) → (whole : Outside → Outside → Type 0) → Behaviour
 takes_raster setting answers given whole = record {
-  performs = RunsRaster answers given;
+  performs = RunsRaster setting answers given;
   whole = whole;
   part = Never;
-  refuses = EncoderRefuses answers given;
+  refuses = EncoderRefuses setting answers given;
   nothing = Never;
   right = λ old. (input : List ℕ) × (old.rest ≡ Some input) × (rows : ℕ) × TookRaster setting rows input;
   wrong = λ old. (input : List ℕ) × (old.rest ≡ Some input) × ((rows : ℕ) → TookRaster setting rows input → ⊥);

@@ -4,6 +4,7 @@ use Rattle.port_122.specs.Outside.{Outside, Exchange}
 use Rattle.base_122.specs.declared.wish.DecodeWish.{DecodeWish}
 use Rattle.packet_defs.specs.declared.packet.Framing.{Framing}
 use Rattle.packet_defs.specs.Streams.{left_over, has_bad_version}
+use Rattle.packet_assembly.specs.Readings.{AsksReadable}
 use Rattle.packet_list.specs.declared.list.ListDone.{ListDone}
 use Rattle.packet_list.specs.declared.list.ListFault.{ListFault}
 use Rattle.packet_list.specs.declared.list.ListFault.TheVariants.{ReadFault, WriteFault, LongInput, Memory}
@@ -13,7 +14,8 @@ use Rattle.camera_mux.specs.PickAnswers.{Answers as PickAnswers}
 use Rattle.camera_mux.specs.PickProgress.{AsksPicked}
 use Rattle.image_info.specs.declared.info.InfoDone.{InfoDone}
 use Rattle.image_info.specs.declared.info.InfoFault.{InfoFault}
-use Rattle.image_info.specs.declared.info.InfoFault.TheVariants.{ReadFault as info_read_failed, WriteFault as info_write_failed, LongInput as info_long, TooManyImages, Memory as info_memory}
+use Rattle.image_info.specs.declared.info.InfoFault.TheVariants.{ReadFault as info_read_failed, WriteFault as info_write_failed, LongInput as info_long}
+use Rattle.image_info.specs.declared.info.InfoFault.TheVariants.{TooManyImages, Memory as info_memory}
 use Rattle.image_info.specs.declared.info.InfoWish.{InfoWish}
 use Rattle.image_info.specs.Answers.{Answers as InfoAnswers, AsksFew, image_count}
 use Rattle.image_info.specs.Images.{most_images}
@@ -48,11 +50,16 @@ abbrev pub WithMemory : {D F : Type 0} → (r : Reader D F) → Outside → Outs
 WithMemory r old new took gave (Ok done) = r.causes old new took gave (Ok done)
 WithMemory r old new took gave (Err fault) = (r.fault_of fault ≡ Memory → ⊥) × r.causes old new took gave (Err fault)
 
+-- what it does at a read call, and that the octets that were taken by then can be read on, and are fewer than the cap allows
+abbrev pub reader_asks : {D F : Type 0} → Reader D F → Asking
+reader_asks r old took gave i j = r.asks old took gave i j × AsksReadable r.cap took i j
+
 -- ---- the whole effect of a run
 
 -- one run of a command with such an engine
 abbrev pub Reads : {D F : Type 0} → Reader D F → (old new : Outside) (status : ℕ) → Type 0
-Reads r old new status = LacksMemory old new status ⊎ Ran (CausedWithin r.cap (WithMemory r)) r.asks (reader_status r) (reader_line r) old new status
+Reads r old new status =
+    LacksMemory old new status ⊎ Ran (CausedWithin r.cap (WithMemory r)) (reader_asks r) (reader_status r) (reader_line r) old new status
 
 -- ---- what follows for one status
 
@@ -61,7 +68,7 @@ pub record ReadWhole {D F : Type 0} (r : Reader D F) (old new : Outside) : Type 
   pub done : D
   pub took : List ℕ
   pub gave : List ℕ
-  pub since : Exchange old new took gave [] (r.asks old took gave)
+  pub since : Exchange old new took gave [] (reader_asks r old took gave)
   pub within : length took ≤ r.cap
   pub cause : r.causes old new took gave (Ok done)
   pub framing : r.framing_of done ≡ None
@@ -72,7 +79,7 @@ pub record ReadPart {D F : Type 0} (r : Reader D F) (old new : Outside) : Type 0
   pub took : List ℕ
   pub gave : List ℕ
   pub wrote : List ℕ
-  pub since : Exchange old new took gave wrote (r.asks old took gave)
+  pub since : Exchange old new took gave wrote (reader_asks r old took gave)
   pub within : length took ≤ r.cap
   pub cause : r.causes old new took gave (Ok done)
   pub lacks : r.framing_of done ≡ None → ⊥
@@ -85,7 +92,7 @@ pub record ReadRefuses {D F : Type 0} (r : Reader D F) (old new : Outside) : Typ
   pub took : List ℕ
   pub gave : List ℕ
   pub wrote : List ℕ
-  pub since : Exchange old new took gave wrote (r.asks old took gave)
+  pub since : Exchange old new took gave wrote (reader_asks r old took gave)
   pub cause : r.causes old new took gave (Err fault)
   pub noted : IsNoted old new wrote (list_fault_line LongInput)
 
@@ -94,13 +101,13 @@ pub record ReadRefuses {D F : Type 0} (r : Reader D F) (old new : Outside) : Typ
 -- Its end, or what can't be read on, is within the octets that may be taken.
 pub record HasPackets (cap : ℕ) (old : Outside) : Type 0 where
   pub input : List ℕ
-  pub told : old.rest ≡ Some input
+  pub if_known : old.rest ≡ Some input
   pub ends : (length input < cap) ⊎ (has_bad_version (left_over (take cap input)) ≡ true)
 
 -- It has at least the number of octets that may be taken, and these can be read on.
 pub record HasTooMany (cap : ℕ) (old : Outside) : Type 0 where
   pub input : List ℕ
-  pub told : old.rest ≡ Some input
+  pub if_known : old.rest ≡ Some input
   pub long : cap ≤ length input
   pub good : has_bad_version (left_over (take cap input)) ≡ false
 

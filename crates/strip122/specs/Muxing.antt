@@ -38,7 +38,7 @@ pub record MuxesRecords (settings : List Setting) (old new : Outside) (status : 
   pub gave : List ℕ
   pub wrote : List ℕ
   pub accepted : AreAccepted settings records
-  pub since : Exchange old new (octets_of records ++ rest) gave wrote (AsksMux settings records)
+  pub since : Exchange old new (octets_of records ++ rest) gave wrote (AsksMux settings records (octets_of records ++ rest))
   pub cause : Answers settings old new records rest gave answer
   pub keeps : (camera : ℕ) → camera < length settings → KeepsCamera settings records camera
   pub status_is : status ≡ mux_status answer
@@ -56,7 +56,7 @@ pub record MuxedWhole (settings : List Setting) (old new : Outside) : Type 0 whe
   pub records : List CameraRow
   pub accepted : AreAccepted settings records
   pub full : AreFull settings records
-  pub since : Exchange old new (octets_of records) (mux_out settings records) [] (AsksMux settings records)
+  pub since : Exchange old new (octets_of records) (mux_out settings records) [] (AsksMux settings records (octets_of records))
   pub keeps : (camera : ℕ) → camera < length settings → KeepsCamera settings records camera
   pub ended : AtEnd new
 
@@ -68,7 +68,7 @@ pub record MuxRefuses (settings : List Setting) (old new : Outside) : Type 0 whe
   pub gave : List ℕ
   pub wrote : List ℕ
   pub accepted : AreAccepted settings records
-  pub since : Exchange old new (octets_of records ++ rest) gave wrote (AsksMux settings records)
+  pub since : Exchange old new (octets_of records ++ rest) gave wrote (AsksMux settings records (octets_of records ++ rest))
   pub input : mux_fault_status fault ≡ 3
   pub cause : Answers settings old new records rest gave (Err fault)
   pub noted : IsNoted old new wrote (mux_fault_line fault)

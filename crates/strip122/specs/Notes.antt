@@ -3,17 +3,23 @@ use Rattle.std.specs.Prelude.{◌≡◌, ◌⊎◌, ◌≤◌, ℕ, zero, suc, L
 use Rattle.std.specs.Fmt.{signed_decimal}
 use Rattle.port_122.specs.Outside.{Outside, Exchange, NoRead, Rose}
 use Rattle.base_122.specs.declared.field.Field.{Field}
-use Rattle.base_122.specs.declared.field.Field.TheVariants.{Width, Rows, Depth, Segment, Limit, Fill, Word, Stop, Weights, Apid, Image, Packet, Pixels, Octets, Total, Cameras}
+use Rattle.base_122.specs.declared.field.Field.TheVariants.{Width, Rows, Depth, Segment, Limit, Fill, Word, Stop, Weights, Apid, Image, Packet, Pixels}
+use Rattle.base_122.specs.declared.field.Field.TheVariants.{Octets, Total, Cameras}
 use Rattle.strip_coder.specs.declared.encode.EncodeFault.{EncodeFault}
 use Rattle.strip_coder.specs.declared.encode.EncodeFault.TheVariants.{ReadFault, WriteFault, Short, Long, BadPixel}
 use Rattle.camera_mux.specs.declared.mux.MuxFault.{MuxFault}
-use Rattle.camera_mux.specs.declared.mux.MuxFault.TheVariants.{ReadFault as mux_read_failed, WriteFault as mux_write_failed, Short as mux_short, Long as mux_long, BadCamera, BadPixel as bad_camera_pixel}
+use Rattle.camera_mux.specs.declared.mux.MuxFault.TheVariants.{ReadFault as mux_read_failed, WriteFault as mux_write_failed, Short as mux_short}
+use Rattle.camera_mux.specs.declared.mux.MuxFault.TheVariants.{Long as mux_long, BadCamera, BadPixel as bad_camera_pixel}
 use Rattle.segment_walk.specs.declared.ending.DecodeFault.{DecodeFault}
-use Rattle.segment_walk.specs.declared.ending.DecodeFault.TheVariants.{ReadFault as read_failed, WriteFault as write_failed, NoSegment, TooManyPixels, LongInput, Memory}
+use Rattle.segment_walk.specs.declared.ending.DecodeFault.TheVariants.{ReadFault as read_failed, WriteFault as write_failed, NoSegment, TooManyPixels}
+use Rattle.segment_walk.specs.declared.ending.DecodeFault.TheVariants.{LongInput, Memory}
 use Rattle.bare_stream.specs.declared.fault.BareFault.{BareFault}
-use Rattle.bare_stream.specs.declared.fault.BareFault.TheVariants.{ReadFault as bare_read_failed, WriteFault as bare_write_failed, TooManyPixels as bare_many_pixels, LongInput as bare_long, Refused, Memory as bare_memory}
+use Rattle.bare_stream.specs.declared.fault.BareFault.TheVariants.{ReadFault as bare_read_failed, WriteFault as bare_write_failed}
+use Rattle.bare_stream.specs.declared.fault.BareFault.TheVariants.{TooManyPixels as bare_many_pixels, LongInput as bare_long, Refused}
+use Rattle.bare_stream.specs.declared.fault.BareFault.TheVariants.{Memory as bare_memory}
 use Rattle.packet_list.specs.declared.list.ListFault.{ListFault}
-use Rattle.packet_list.specs.declared.list.ListFault.TheVariants.{ReadFault as list_read_failed, WriteFault as list_write_failed, LongInput as list_long, Memory as list_memory}
+use Rattle.packet_list.specs.declared.list.ListFault.TheVariants.{ReadFault as list_read_failed, WriteFault as list_write_failed, LongInput as list_long}
+use Rattle.packet_list.specs.declared.list.ListFault.TheVariants.{Memory as list_memory}
 use Rattle.command_words.specs.declared.command.WordFault.{WordFault}
 use Rattle.command_words.specs.declared.command.WordFault.TheVariants.{MissingCommand, BadWord, MissingKey, OutOfRange}
 
@@ -90,7 +96,8 @@ mux_fault_line (mux_short octets) = short_line octets
 mux_fault_line mux_long = codes "strip122: input long\n"
 mux_fault_line (BadCamera place camera) = codes "strip122: bad camera " ++ decimal camera ++ codes " at record " ++ decimal place ++ codes "\n"
 mux_fault_line (bad_camera_pixel camera row column value) =
-    codes "strip122: bad pixel " ++ signed_decimal value ++ codes " of camera " ++ decimal camera ++ codes " at row " ++ decimal row ++ codes " column " ++ decimal column ++ codes "\n"
+    codes "strip122: bad pixel " ++ signed_decimal value ++ codes " of camera " ++ decimal camera ++ codes " at row " ++ decimal row ++ codes " column "
+    ++ decimal column ++ codes "\n"
 mux_fault_line mux_read_failed = codes "strip122: read fault\n"
 mux_fault_line mux_write_failed = codes "strip122: write fault\n"
 

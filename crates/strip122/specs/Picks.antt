@@ -5,7 +5,7 @@ use Rattle.base_122.specs.declared.wish.DecodeWish.{DecodeWish}
 use Rattle.packet_defs.specs.Streams.{whole_packets}
 use Rattle.stream_defs.specs.Fates.{fresh, kept, after_all, kept_in, state_after}
 use Rattle.camera_defs.specs.Picked.{picked, picked_of}
-use Rattle.camera_mux.specs.PickProgress.{AsksPicked}
+use Rattle.strip122.specs.Listing.{picker, reader_asks}
 
 -- Packets were picked. A reader for the APID keeps the same packets of them, and has the same state after them, as of those packets of the
 -- stream that are of the image; without an image, as of the whole stream.
@@ -13,7 +13,7 @@ pub record GavePicked (wish : DecodeWish) (image : Option ℕ) (old new : Outsid
   pub took : List ℕ
   pub gave : List ℕ
   pub wrote : List ℕ
-  pub since : Exchange old new took gave wrote (AsksPicked wish.apid image took gave)
+  pub since : Exchange old new took gave wrote (reader_asks (picker wish image) old took gave)
   pub octets : gave ≡ picked took wish.apid image
   pub kept_are : kept_in wish.apid gave ≡ kept wish.apid fresh (picked_of wish.apid image (whole_packets took))
   pub state : state_after wish.apid gave ≡ after_all wish.apid fresh (picked_of wish.apid image (whole_packets took))

@@ -44,15 +44,19 @@ pub record GavePicture (wish : DecodeWish) (old new : Outside) (status : ℕ) : 
   pub since : Exchange old new took gave wrote (Asks wish old took gave)
   pub own : (all : List ℕ) → old.rest ≡ Some all → GivesOwn wish took gave done
   pub contained : (all : List ℕ) → old.rest ≡ Some all → GivesContained wish took gave done
-  pub alike : (all : List ℕ) → old.rest ≡ Some all → (s : Setting) (rows : ℕ) (x : ℕ → ℕ → ℤ) (parts : ℕ → List ℕ) → wish.apid ≡ s.apid → wish.book ≡ s.book → took ≡ some_output s rows x parts →
+  pub alike : (all : List ℕ) → old.rest ≡ Some all → (s : Setting) (rows : ℕ) (x : ℕ → ℕ → ℤ) (parts : ℕ → List ℕ) → wish.apid ≡ s.apid →
+      wish.book ≡ s.book → took ≡ some_output s rows x parts →
       AreSome s rows x parts → BeginsOne s rows parts → GivesAlike s rows x parts gave done
   pub in_rects : (all : List ℕ) → old.rest ≡ Some all → GivesInRects wish took gave done
-  pub alike_in_rects : (all : List ℕ) → old.rest ≡ Some all → (s : Setting) (rows : ℕ) (x : ℕ → ℕ → ℤ) (parts : ℕ → List ℕ) → wish.apid ≡ s.apid → wish.book ≡ s.book → took ≡ some_output s rows x parts →
+  pub alike_in_rects : (all : List ℕ) → old.rest ≡ Some all → (s : Setting) (rows : ℕ) (x : ℕ → ℕ → ℤ) (parts : ℕ → List ℕ) → wish.apid ≡ s.apid →
+      wish.book ≡ s.book → took ≡ some_output s rows x parts →
       AreSome s rows x parts → BeginsOne s rows parts → GivesAlikeInRects s rows x parts gave done
-  pub back : (all : List ℕ) → old.rest ≡ Some all → (s : Setting) (rows : ℕ) (x : ℕ → ℕ → ℤ) → wish.apid ≡ s.apid → wish.book ≡ s.book → took ≡ output s rows x → IsImageFor s rows x →
+  pub back : (all : List ℕ) → old.rest ≡ Some all → (s : Setting) (rows : ℕ) (x : ℕ → ℕ → ℤ) → wish.apid ≡ s.apid → wish.book ≡ s.book →
+      took ≡ output s rows x → IsImageFor s rows x →
       (status ≡ 0) × GivesBack s rows x gave done
 
--- A look was given. If all packets of an image were taken that was sent whole, with the book of the wish, its values are the coefficients of LL3 of the image, each
+-- A look was given. If all packets of an image were taken that was sent whole, with the book of the wish, its values are the coefficients
+-- of LL3 of the image, each
 -- clamped to the range of a pixel.
 pub record GaveLook (wish : DecodeWish) (old new : Outside) : Type 0 where
   pub done : DecodeDone
@@ -61,5 +65,6 @@ pub record GaveLook (wish : DecodeWish) (old new : Outside) : Type 0 where
   pub wrote : List ℕ
   pub since : Exchange old new took gave wrote (LookAsks wish old took gave)
   pub look : IsLook wish old new took gave done
-  pub of_image : (all : List ℕ) → old.rest ≡ Some all → (s : Setting) (rows : ℕ) (x : ℕ → ℕ → ℤ) → wish.apid ≡ s.apid → wish.book ≡ s.book → took ≡ output s rows x → IsImageFor s rows x → SendsAll s →
+  pub of_image : (all : List ℕ) → old.rest ≡ Some all → (s : Setting) (rows : ℕ) (x : ℕ → ℕ → ℤ) → wish.apid ≡ s.apid → wish.book ≡ s.book →
+      took ≡ output s rows x → IsImageFor s rows x → SendsAll s →
       gave ≡ raster_octets s.depth (block_count rows) (block_count s.width) (low_image s rows x)

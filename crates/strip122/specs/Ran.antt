@@ -20,7 +20,8 @@ pub record Ran {R : Type 0} (causes : Outside → Outside → List ℕ → List 
   pub noted : IsNoted old new wrote (line_of answer)
 
 -- An answer and its cause, for which at most `most` octets were taken.
-pub record CausedWithin {R : Type 0} (most : ℕ) (causes : Outside → Outside → List ℕ → List ℕ → R → Type 0) (old new : Outside) (took gave : List ℕ) (answer : R) : Type 0 where
+pub record CausedWithin {R : Type 0} (most : ℕ) (causes : Outside → Outside → List ℕ → List ℕ → R → Type 0) (old new : Outside) (took gave : List ℕ)
+    (answer : R) : Type 0 where
   pub within : length took ≤ most
   pub cause : causes old new took gave answer
 

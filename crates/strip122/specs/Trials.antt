@@ -7,7 +7,7 @@ use Rattle.base_122.specs.Setting.{geometry_of}
 use Rattle.base_122.specs.declared.setting.Setting.{Setting}
 use Rattle.base_122.specs.declared.wish.DecodeWish.{DecodeWish}
 use Rattle.raster_rows.specs.declared.made.MadeImage.{MadeImage}
-use Rattle.stream_defs.specs.Output.{image_packets, output, segments_of, tells_last}
+use Rattle.stream_defs.specs.Output.{image_packets, output, segments_of, reports_last}
 use Rattle.stream_defs.specs.Picture.{whole_picture}
 use Rattle.stream_defs.specs.Received.{ReceivedIn}
 use Rattle.strip_coder.specs.Rasters.{row_length}
@@ -26,7 +26,8 @@ raster_length s = s.rows * row_length s
 
 -- the places of the first rows and columns at which two images have the same pixel
 abbrev pub equal_places : (rows width : ℕ) → (x y : ℕ → ℕ → ℤ) → ℕ
-equal_places rows width x y = count_by (λ place. int_eq (x (place / width) (place % width)) (y (place / width) (place % width))) (range_with_len 0 (rows * width))
+equal_places rows width x y = count_by (λ place. int_eq (x (place / width) (place % width)) (y (place / width) (place % width)))
+    (range_with_len 0 (rows * width))
 
 -- the wish of a decoder: an image with at most the pixels of a setting, in fewer than 2 ^ 40 octets, with its book
 abbrev pub wish_for : Setting → DecodeWish
@@ -46,12 +47,13 @@ pub record AreEqualIn (s : Setting) (x : ℕ → ℕ → ℤ) (packets : List �
 -- What was encoded of an image, and the number of its pixels that are the same in the picture of its packets.
 pub record IsTried (s : Setting) (x : ℕ → ℕ → ℤ) (done : TrialDone) : Type 0 where
   pub segments : done.segments ≡ segments_of s
-  pub packets : done.packets ≡ length (image_packets (tells_last s) s x)
+  pub packets : done.packets ≡ length (image_packets (reports_last s) s x)
   pub octets : done.octets ≡ length (output s s.rows x)
   pub equal : AreEqualIn s x (output s s.rows x) done.equal
 
 -- the line of a trial
 abbrev pub trial_line : Setting → TrialDone → List ℕ
 trial_line s done =
-    codes "segments " ++ decimal done.segments ++ codes " packets " ++ decimal done.packets ++ codes " octets " ++ decimal done.octets ++ codes " equal " ++ decimal done.equal
+    codes "segments " ++ decimal done.segments ++ codes " packets " ++ decimal done.packets ++ codes " octets " ++ decimal done.octets ++ codes " equal "
+    ++ decimal done.equal
     ++ codes " of " ++ decimal (s.width * s.rows) ++ codes "\n"

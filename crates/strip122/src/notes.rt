@@ -2,7 +2,8 @@
 ghost use Rattle.std.specs.Prelude.{◌≡◌, ◌<◌, ◌++◌, length, codes, decimal};
 ghost use Rattle.std.specs.Fmt.{signed_decimal};
 ghost use Rattle.command_words.specs.Words.{texts, IsPlaced};
-ghost use Rattle.strip122.specs.Notes.{Notes, word_at, field_text, word_line, short_line, fault_line, mux_fault_line, decoder_fault_line, bare_fault_line, list_fault_line};
+ghost use Rattle.strip122.specs.Notes.{Notes, word_at, field_text, word_line, short_line, fault_line, mux_fault_line, decoder_fault_line, bare_fault_line};
+ghost use Rattle.strip122.specs.Notes.{list_fault_line};
 
 use arrayvec::ArrayString;
 use bare_stream::BareFault;
@@ -99,7 +100,8 @@ fn short_line(octets: u64) -> NoteLine
 }
 
 fn bad_pixel_line(row: u32, column: u32, value: i32) -> NoteLine
-    ensures { result.bytes ≡ codes "strip122: bad pixel " ++ signed_decimal value ++ codes " at row " ++ decimal row ++ codes " column " ++ decimal column ++ codes "\n" }
+    ensures { result.bytes ≡ codes "strip122: bad pixel " ++ signed_decimal value ++ codes " at row " ++ decimal row ++ codes " column " ++ decimal
+        column ++ codes "\n" }
 {
     let mut line = ArrayString::new();
     line.push_str("strip122: bad pixel ");
@@ -140,7 +142,8 @@ fn bad_camera_line(camera: u8, place: u64) -> NoteLine
 }
 
 fn camera_pixel_line(camera: u8, row: u32, column: u32, value: i32) -> NoteLine
-    ensures { result.bytes ≡ codes "strip122: bad pixel " ++ signed_decimal value ++ codes " of camera " ++ decimal camera ++ codes " at row " ++ decimal row ++ codes " column " ++ decimal column ++ codes "\n" }
+    ensures { result.bytes ≡ codes "strip122: bad pixel " ++ signed_decimal value ++ codes " of camera " ++ decimal camera ++ codes " at row " ++ decimal
+        row ++ codes " column " ++ decimal column ++ codes "\n" }
 {
     let mut line = ArrayString::new();
     line.push_str("strip122: bad pixel ");

@@ -2,7 +2,7 @@
 ghost use Rattle.std.specs.Prelude.{◌≡◌, [], true, IsTrue};
 ghost use Rattle.plane_defs.specs.Codes.{is_book_sound};
 ghost use Rattle.strip122.specs.Notes.{decoder_fault_status, list_fault_status};
-ghost use Rattle.strip122.specs.DamageNotes.{damaged, is_known, TellsDone};
+ghost use Rattle.strip122.specs.DamageNotes.{damaged, is_known, ReportsDone};
 ghost use Rattle.strip122.specs.Decoding.{Decodes, FindsDamage, FindsRects, LooksAt, reads};
 ghost use Rattle.strip122.specs.Listing.{Reads, info_fault_of, informer, lister, picker};
 
@@ -44,9 +44,9 @@ fn list_fault_status(fault: ListFault) -> u8
 
 // Returns 0 if no row is damaged, the height is known and the packets could be read to their end; otherwise it notes what is wrong. The
 // damage is that of the rows that were written.
-fn tell_done<X: Port>(port: &mut X, done: &DecodeDone) -> u8
+fn report_done<X: Port>(port: &mut X, done: &DecodeDone) -> u8
     requires { done.now.damage.rows ≡ done.now.written }
-    ensures { TellsDone (damaged done.now.damage) (is_known done.now.geometry) done.now.framing (X.outside port.old) (X.outside port.new) result }
+    ensures { ReportsDone (damaged done.now.damage) (is_known done.now.geometry) done.now.framing (X.outside port.old) (X.outside port.new) result }
 {
     let known = done.geometry.rows != 0;
     let _written = done.written;
@@ -58,8 +58,8 @@ fn tell_done<X: Port>(port: &mut X, done: &DecodeDone) -> u8
 }
 
 // Returns 0 if the packets could be read to their end; otherwise it notes why not.
-fn tell_framing<X: Port>(port: &mut X, framing: Option<Framing>) -> u8
-    ensures { TellsDone [] true framing (X.outside port.old) (X.outside port.new) result }
+fn report_framing<X: Port>(port: &mut X, framing: Option<Framing>) -> u8
+    ensures { ReportsDone [] true framing (X.outside port.old) (X.outside port.new) result }
 {
     if framing.is_none() {
         return 0;
@@ -74,7 +74,7 @@ fn decode<X: Port>(alloc: Global, wish: &DecodeWish, port: &mut X) -> u8
     ensures { Decodes wish.now (X.outside port.old) (X.outside port.new) result }
 {
     match decode_packets(alloc, port, wish) {
-        Ok(done) => tell_done(port, &done),
+        Ok(done) => report_done(port, &done),
         Err(fault) => {
             note_decoder_fault(port, fault);
             decoder_fault_status(fault)
@@ -89,7 +89,7 @@ fn damage<X: Port>(alloc: Global, wish: &DecodeWish, port: &mut X) -> u8
     ensures { FindsDamage wish.now (X.outside port.old) (X.outside port.new) result }
 {
     match find_damage(alloc, port, wish) {
-        Ok(done) => tell_done(port, &done),
+        Ok(done) => report_done(port, &done),
         Err(fault) => {
             note_decoder_fault(port, fault);
             decoder_fault_status(fault)
@@ -104,7 +104,7 @@ fn look<X: Port>(alloc: Global, wish: &DecodeWish, port: &mut X) -> u8
     ensures { LooksAt wish.now (X.outside port.old) (X.outside port.new) result }
 {
     match look_packets(alloc, port, wish) {
-        Ok(done) => tell_done(port, &done),
+        Ok(done) => report_done(port, &done),
         Err(fault) => {
             note_decoder_fault(port, fault);
             decoder_fault_status(fault)
@@ -119,7 +119,7 @@ fn rects<X: Port>(alloc: Global, wish: &DecodeWish, port: &mut X) -> u8
     ensures { FindsRects wish.now (X.outside port.old) (X.outside port.new) result }
 {
     match list_rects(alloc, port, wish) {
-        Ok(done) => tell_done(port, &done),
+        Ok(done) => report_done(port, &done),
         Err(fault) => {
             note_decoder_fault(port, fault);
             decoder_fault_status(fault)
@@ -132,7 +132,7 @@ fn list<X: Port>(alloc: Global, wish: &DecodeWish, port: &mut X) -> u8
     ensures { Reads (lister wish.now) (X.outside port.old) (X.outside port.new) result }
 {
     match list_packets(alloc, port, wish) {
-        Ok(done) => tell_framing(port, done.framing),
+        Ok(done) => report_framing(port, done.framing),
         Err(fault) => {
             note_list_fault(port, fault);
             list_fault_status(fault)
@@ -146,7 +146,7 @@ pub fn pick<X: Port>(alloc: Global, wish: &DecodeWish, image: Option<u16>, port:
     ensures { Reads (picker wish.now image) (X.outside port.old) (X.outside port.new) result }
 {
     match pick_packets(alloc, port, wish, image) {
-        Ok(done) => tell_framing(port, done.framing),
+        Ok(done) => report_framing(port, done.framing),
         Err(fault) => {
             note_list_fault(port, fault);
             list_fault_status(fault)
@@ -160,7 +160,7 @@ pub fn info<X: Port>(alloc: Global, apid: Option<u16>, octets: u64, port: &mut X
     ensures { Reads (informer (record { apid = apid; octets = octets })) (X.outside port.old) (X.outside port.new) result }
 {
     match list_images(alloc, port, &InfoWish { apid, octets }) {
-        Ok(done) => tell_framing(port, done.framing),
+        Ok(done) => report_framing(port, done.framing),
         Err(fault) => {
             let known = list_fault_of(fault);
             note_list_fault(port, known);

@@ -90,7 +90,8 @@ fn perform<X: Port>(alloc: Global, command: &Command, port: &mut X) -> u8
         ClosedBy has_book setting (X.outside port.old) (X.outside port.new) }
     ensures mux_closed { (setting : Setting) (cameras : ℕ) → command.now ≡ Command.Mux setting cameras → result ≡ 0 →
         MuxClosed (camera_settings setting cameras) (X.outside port.old) (X.outside port.new) }
-    ensures bare_closed { (setting : Setting) → command.now ≡ Command.BareEncode setting → result ≡ 0 → BareClosed setting (X.outside port.old) (X.outside port.new) }
+    ensures bare_closed { (setting : Setting) → command.now ≡ Command.BareEncode setting → result ≡ 0 →
+        BareClosed setting (X.outside port.old) (X.outside port.new) }
 {
     match command {
         Command::Encode(setting, false) => encode(alloc, setting, port),
@@ -137,7 +138,8 @@ pub fn run<X: Port>(alloc: Global, words: &[String], port: &mut X) -> u8
 
     // No pixel of a picture outside the damaged rows, or outside the damaged rectangles, depends on what was lost, packets of other APIDs
     // change nothing, and all packets of an image give it whole. If the input has a book, the wish has it, and this holds of the rest.
-    ensures picture { (wish : DecodeWish) (has_book : Bool) → Says (texts words.now) (Ok (Command.Read Reading.Decode wish has_book)) → (result ≡ 0) ⊎ (result ≡ 1) →
+    ensures picture { (wish : DecodeWish) (has_book : Bool) → Says (texts words.now) (Ok (Command.Read Reading.Decode wish has_book)) →
+        (result ≡ 0) ⊎ (result ≡ 1) →
         ByBook has_book wish (λ wish old new. GavePicture wish old new result) (X.outside port.old) (X.outside port.new) }
 
     // A look at all packets of an image has the coefficients of its lowest subband.

@@ -7,8 +7,8 @@ use Rattle.stream_defs.specs.Fates.{fresh, after_all, geometry_in}
 use Rattle.stream_defs.proofs.ChosenLaws.{after_all-append}
 use Rattle.packet_assembly.proofs.Images.{geometry_known}
 use Rattle.packet_assembly.proofs.ReachedRows.{geometry_more}
-use Rattle.segment_walk.proofs.Asking.{front_packets}
-use Rattle.strip122_c.specs.WholeDecoding.{IsFirstHead, TellsFirst}
+use Rattle.segment_walk.proofs.Asking.{leading_packets}
+use Rattle.strip122_c.specs.WholeDecoding.{IsFirstHead, ReportsFirst}
 
 abbrev geometry_after : (apid : ℕ) → List (List ℕ) → Option Geometry
 geometry_after apid packets = (after_all apid fresh packets).geometry
@@ -20,18 +20,21 @@ not_lost apid before later g some none =
     let both : Some more.0 ≡ None = sym more.1 ∙ ap (λ (s : FateState). s.geometry) (sym (after_all-append apid fresh before later)) ∙ none in cc
 
 -- after these packets it is one
-first_two : (apid : ℕ) (pre p q ls ms : List (List ℕ)) (x y : List ℕ) (g h : Geometry) → p ++ x ∷ ls ≡ q ++ y ∷ ms → geometry_after apid (pre ++ p) ≡ None → geometry_after apid (pre ++ q) ≡ None →
+first_two : (apid : ℕ) (pre p q ls ms : List (List ℕ)) (x y : List ℕ) (g h : Geometry) → p ++ x ∷ ls ≡ q ++ y ∷ ms → geometry_after apid (pre ++ p) ≡ None →
+    geometry_after apid (pre ++ q) ≡ None →
     geometry_after apid ((pre ++ p) ++ x ∷ []) ≡ Some g → geometry_after apid ((pre ++ q) ++ y ∷ []) ≡ Some h → g ≡ h
 first_two apid pre [] [] ls ms x y g h same no_p no_q yes_p yes_q =
     let heads : x ≡ y = cc in
     let both : Some g ≡ Some h = sym yes_p ∙ ap (λ z. geometry_after apid ((pre ++ []) ++ z ∷ [])) heads ∙ yes_q in cc
 first_two apid pre [] (b ∷ q) ls ms x y g h same no_p no_q yes_p yes_q =
     let heads : x ≡ b = cc in
-    let parts : ((pre ++ []) ++ x ∷ []) ++ q ≡ pre ++ b ∷ q = ap (λ zs. (zs ++ x ∷ []) ++ q) (append-nil pre) ∙ append_assoc pre (x ∷ []) q ∙ ap (λ z. pre ++ z ∷ q) heads in
+    let parts : ((pre ++ []) ++ x ∷ []) ++ q ≡ pre ++ b ∷ q = ap (λ zs. (zs ++ x ∷ []) ++ q) (append-nil pre) ∙ append_assoc pre (x ∷ []) q
+    ∙ ap (λ z. pre ++ z ∷ q) heads in
     absurd (not_lost apid ((pre ++ []) ++ x ∷ []) q g yes_p (ap (geometry_after apid) parts ∙ no_q))
 first_two apid pre (a ∷ p) [] ls ms x y g h same no_p no_q yes_p yes_q =
     let heads : y ≡ a = cc in
-    let parts : ((pre ++ []) ++ y ∷ []) ++ p ≡ pre ++ a ∷ p = ap (λ zs. (zs ++ y ∷ []) ++ p) (append-nil pre) ∙ append_assoc pre (y ∷ []) p ∙ ap (λ z. pre ++ z ∷ p) heads in
+    let parts : ((pre ++ []) ++ y ∷ []) ++ p ≡ pre ++ a ∷ p = ap (λ zs. (zs ++ y ∷ []) ++ p) (append-nil pre) ∙ append_assoc pre (y ∷ []) p
+    ∙ ap (λ z. pre ++ z ∷ p) heads in
     absurd (not_lost apid ((pre ++ []) ++ y ∷ []) p h yes_q (ap (geometry_after apid) parts ∙ no_p))
 first_two apid pre (a ∷ p) (b ∷ q) ls ms x y g h same no_p no_q yes_p yes_q =
     let heads : a ≡ b = cc in
@@ -45,7 +48,8 @@ first_two apid pre (a ∷ p) (b ∷ q) ls ms x y g h same no_p no_q yes_p yes_q 
 pub first_one : (apid : ℕ) (packets : List (List ℕ)) (g h : Geometry) → IsFirstHead apid packets g → IsFirstHead apid packets h → g ≡ h
 first_one apid packets g h a b =
     first_two apid [] a.before b.before a.later b.later a.packet b.packet g h
-    (sym (append_assoc a.before (a.packet ∷ []) a.later) ∙ sym a.packets_are ∙ b.packets_are ∙ append_assoc b.before (b.packet ∷ []) b.later) a.none b.none a.geometry b.geometry
+    (sym (append_assoc a.before (a.packet ∷ []) a.later) ∙ sym a.packets_are ∙ b.packets_are ∙ append_assoc b.before (b.packet ∷ []) b.later) a.none b.none
+    a.geometry b.geometry
 
 -- and stays it
 pub first_more : {apid : ℕ} {packets : List (List ℕ)} {g : Geometry} (more : List (List ℕ)) → IsFirstHead apid packets g → IsFirstHead apid (packets ++ more) g
@@ -60,17 +64,18 @@ first_more more first = record {
 
 -- there is a geometry then
 pub some_first : (apid : ℕ) (packets : List (List ℕ)) (g : Geometry) → IsFirstHead apid packets g → geometry_after apid packets ≡ None → ⊥
-some_first apid packets g first none = not_lost apid (first.before ++ first.packet ∷ []) first.later g first.geometry (ap (geometry_after apid) (sym first.packets_are) ∙ none)
+some_first apid packets g first none = not_lost apid (first.before ++ first.packet ∷ []) first.later g first.geometry
+    (ap (geometry_after apid) (sym first.packets_are) ∙ none)
 
 -- if it has the height, it is that of all
-pub known_first : (apid : ℕ) (octets : List ℕ) (g : Geometry) → TellsFirst apid octets g → geometry_in apid octets ≡ Some g
-known_first apid octets g tells =
-    let first = tells.0 in
+pub known_first : (apid : ℕ) (octets : List ℕ) (g : Geometry) → ReportsFirst apid octets g → geometry_in apid octets ≡ Some g
+known_first apid octets g reports =
+    let first = reports.0 in
     let before = first.before ++ first.packet ∷ [] in
     ap (geometry_after apid) first.packets_are ∙ ap (λ (s : FateState). s.geometry) (after_all-append apid fresh before first.later)
-    ∙ geometry_known apid before first.later g first.geometry tells.1
+    ∙ geometry_known apid before first.later g first.geometry reports.1
 
-pub tells_more : (apid : ℕ) (octets more : List ℕ) (g : Geometry) → TellsFirst apid octets g → TellsFirst apid (octets ++ more) g
-tells_more apid octets more g tells =
-    let beyond = front_packets octets more in
-    (subst (λ packets. IsFirstHead apid packets g) (sym beyond.1) (first_more beyond.0 tells.0), tells.1)
+pub reports_more : (apid : ℕ) (octets more : List ℕ) (g : Geometry) → ReportsFirst apid octets g → ReportsFirst apid (octets ++ more) g
+reports_more apid octets more g reports =
+    let beyond = leading_packets octets more in
+    (subst (λ packets. IsFirstHead apid packets g) (sym beyond.1) (first_more beyond.0 reports.0), reports.1)

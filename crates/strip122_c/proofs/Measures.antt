@@ -1,5 +1,6 @@
 -- The size of an image, from the headers of its packets.
-use Rattle.std.proofs.Common.{◌≡◌, ◌≢◌, ◌⊎◌, ◌≤◌, ◌<◌, ◌+◌, ◌-◌, ◌*◌, ◌/◌, ◌^◌, ◌∙◌, ℕ, List, [], ◌∷◌, ◌++◌, length, length-append, append_assoc, append-nil, refl, sym, ap, subst, inl, inr, arith, true, false, Option, Some, None, Result, Ok, Err, mul-le-mul_right}
+use Rattle.std.proofs.Common.{◌≡◌, ◌≢◌, ◌⊎◌, ◌≤◌, ◌<◌, ◌+◌, ◌-◌, ◌*◌, ◌/◌, ◌^◌, ◌∙◌, ℕ, List, [], ◌∷◌, ◌++◌, length, length-append, append_assoc}
+use Rattle.std.proofs.Common.{append-nil, refl, sym, ap, subst, inl, inr, arith, true, false, Option, Some, None, Result, Ok, Err, mul-le-mul_right}
 use Rattle.std.proofs.lemmas.Bool.{false≢true}
 use Rattle.std.proofs.lemmas.Nat.{div_below}
 use Rattle.bit_pipe.specs.declared.fault.InFault.TheVariants as in_faults
@@ -22,7 +23,7 @@ use Rattle.packet_assembly.specs.declared.note.SegmentStart.{SegmentStart}
 use Rattle.packet_assembly.specs.Assembling.{Assembling, BeginsNone, Passes, StaysAt, Starts, unread_assembly}
 use Rattle.packet_assembly.specs.Passing.{whole_after}
 use Rattle.packet_assembly.specs.Readings.{HasRead, SawEnd}
-use Rattle.packet_assembly.specs.Segments.{FindsSegment, FoundNone, StandsEnded, StandsLong, WasFound}
+use Rattle.packet_assembly.specs.Segments.{FindsSegment, FoundNone, IsValidEnded, IsValidLong, WasFound}
 use Rattle.packet_assembly.proofs.Images.{begun_by, end_begun, end_few, end_none, geometry_known, geometry_none}
 use Rattle.packet_assembly.proofs.PacketSteps.{octets_left}
 use Rattle.packet_assembly.proofs.Readings.{ended_out, ended_packets, end_on, long_full, long_good, long_packets, none_read, read_on, read_within}
@@ -44,7 +45,7 @@ pub record HasHeads (wish : DecodeWish) (packets : List ℕ) (now : Outside) (a 
   pub took : List ℕ
   pub passed : List (List ℕ)
   pub rest : List ℕ
-  pub told : now.rest ≡ Some rest
+  pub if_known : now.rest ≡ Some rest
   pub are : packets ≡ took ++ rest
   pub read : HasRead wish.apid wish.octets a took passed
   pub at_end : SawEnd now a
@@ -63,32 +64,35 @@ pub record HasHead (wish : DecodeWish) (packets : List ℕ) (now : Outside) (a :
 none_some : (g : Geometry) → None ≡ Some g → ⊥
 none_some g both = cc
 
-abbrev no_heads : (wish : DecodeWish) (packets : List ℕ) (now : Outside) → now.rest ≡ Some packets → HasHeads wish packets now (unread_assembly wish.apid wish.octets)
-no_heads wish packets now told = record {
+abbrev no_heads : (wish : DecodeWish) (packets : List ℕ) (now : Outside) → now.rest ≡ Some packets →
+    HasHeads wish packets now (unread_assembly wish.apid wish.octets)
+no_heads wish packets now if_known = record {
   took = [];
   passed = [];
   rest = packets;
-  told = told;
+  if_known = if_known;
   are = refl;
   read = none_read wish.apid wish.octets;
-  at_end = λ rest told ended. absurd (false≢true ended);
+  at_end = λ rest if_known ended. absurd (false≢true ended);
   unheld = refl;
   few = λ g there. absurd (none_some g there);
 }
 
-pub unread_heads : (wish : DecodeWish) (packets : List ℕ) (now : Outside) (a : Assembling) → a ≡ unread_assembly wish.apid wish.octets → now.rest ≡ Some packets → HasHeads wish packets now a
-unread_heads wish packets now a unread told = subst (HasHeads wish packets now) (sym unread) (no_heads wish packets now told)
+pub unread_heads : (wish : DecodeWish) (packets : List ℕ) (now : Outside) (a : Assembling) → a ≡ unread_assembly wish.apid wish.octets →
+    now.rest ≡ Some packets → HasHeads wish packets now a
+unread_heads wish packets now a unread if_known = subst (HasHeads wish packets now) (sym unread) (no_heads wish packets now if_known)
 
 -- more packets were read
-abbrev heads_on : {P : FateState → Type 0} {wish : DecodeWish} {packets : List ℕ} {old new : Outside} {a b : Assembling} {went : List (List ℕ)} → (h : HasHeads wish packets old a) → (q : Passes P old new a b went) →
+abbrev heads_on : {P : FateState → Type 0} {wish : DecodeWish} {packets : List ℕ} {old new : Outside} {a b : Assembling} {went : List (List ℕ)} →
+    (h : HasHeads wish packets old a) → (q : Passes P old new a b went) →
     b.held ≡ None → HasFew wish.pixels wish.apid (h.passed ++ went) → HasHeads wish packets new b
 heads_on {wish = wish} {old = old} {new = new} {went = went} h q unheld few =
-    let left = left_after old.rest new.rest q.took h.rest q.since.rest h.told in
+    let left = left_after old.rest new.rest q.took h.rest q.since.rest h.if_known in
     record {
       took = h.took ++ q.took;
       passed = h.passed ++ went;
       rest = left.rest;
-      told = left.told;
+      if_known = left.if_known;
       are = h.are ∙ ap (λ xs. h.took ++ xs) left.are ∙ sym (append_assoc h.took q.took left.rest);
       read = read_on wish.apid wish.octets h.read q;
       at_end = end_on q h.at_end;
@@ -98,10 +102,12 @@ heads_on {wish = wish} {old = old} {new = new} {went = went} h q unheld few =
 
 -- ---- packets that begin no segment
 
-few_none : (pixels apid : ℕ) (before went : List (List ℕ)) → HasFew pixels apid before → BeginsNone apid (after_all apid fresh before) went → HasFew pixels apid (before ++ went)
+few_none : (pixels apid : ℕ) (before went : List (List ℕ)) → HasFew pixels apid before → BeginsNone apid (after_all apid fresh before) went →
+    HasFew pixels apid (before ++ went)
 few_none pixels apid before went few none g there =
     let geometry : (after_all apid fresh before).geometry ≡ Some g =
-    sym (geometry_none apid (after_all apid fresh before) went none) ∙ ap (λ (s : FateState). s.geometry) (sym (after_all-append apid fresh before went)) ∙ there in
+    sym (geometry_none apid (after_all apid fresh before) went none) ∙ ap (λ (s : FateState). s.geometry) (sym (after_all-append apid fresh before went))
+    ∙ there in
     subst (λ n. g.width * rows_reached g n ≤ pixels) (sym (end_none apid before went none)) (few g geometry)
 
 module _ {wish : DecodeWish} {packets : List ℕ} {old : Outside} {a : Assembling} (h : HasHeads wish packets old a) where
@@ -116,20 +122,21 @@ module _ {wish : DecodeWish} {packets : List ℕ} {old : Outside} {a : Assemblin
     heads_none = heads_on h found.passes found.none_after (few_none wish.pixels wish.apid h.passed found.passed h.few none)
 
     -- to their end
-    abbrev none_ended : StandsEnded b → IsReadToEnd wish.octets packets
+    abbrev none_ended : IsValidEnded b → IsReadToEnd wish.octets packets
     none_ended ended =
         let on = heads_none in
-        ended_to_end wish.octets on.took packets on.rest new on.told on.are (read_within on.read) (ended_out on.read new ended on.at_end)
+        ended_to_end wish.octets on.took packets on.rest new on.if_known on.are (read_within on.read) (ended_out on.read new ended on.at_end)
 
     -- which then are all
-    none_packets : StandsEnded b → whole_packets packets ≡ h.passed ++ found.passed
+    none_packets : IsValidEnded b → whole_packets packets ≡ h.passed ++ found.passed
     none_packets ended =
         let on = heads_none in
-        let same : whole_packets on.took ≡ whole_packets packets = ended_whole wish.octets on.took packets on.rest new on.told on.are (ended_out on.read new ended on.at_end) in
+        let same : whole_packets on.took ≡ whole_packets packets =
+        ended_whole wish.octets on.took packets on.rest new on.if_known on.are (ended_out on.read new ended on.at_end) in
         sym same ∙ ended_packets on.read ended
 
     -- too long
-    none_long : StandsLong b → ((g : Geometry) → IsFirstHead wish.apid (h.passed ++ found.passed) g → g.rows ≢ 0 → ⊥) → HasLong wish packets
+    none_long : IsValidLong b → ((g : Geometry) → IsFirstHead wish.apid (h.passed ++ found.passed) g → g.rows ≢ 0 → ⊥) → HasLong wish packets
     none_long long not_known =
         let on = heads_none in
         record {
@@ -139,55 +146,62 @@ module _ {wish : DecodeWish} {packets : List ℕ} {old : Outside} {a : Assemblin
           long = long_full on.read long;
           readable = long_good on.read long;
           few = subst (HasFew wish.pixels wish.apid) (sym (long_packets on.read long)) on.few;
-          open_first = λ g tells. not_known g (subst (λ packets. IsFirstHead wish.apid packets g) (long_packets on.read long) tells.0) tells.1;
+          open_first = λ g reports. not_known g (subst (λ packets. IsFirstHead wish.apid packets g) (long_packets on.read long) reports.0) reports.1;
         }
 
 -- the height isn't known from the first header
-pub long_heads : {wish : DecodeWish} {packets : List ℕ} {old : Outside} {a : Assembling} (new : Outside) (b : Assembling) (m : Measured) → (h : HasHead wish packets old a m) → h.first.rows ≡ 0 → FindsSegment old new a b (Err in_faults.LongInput) → HasLong wish packets
-long_heads {wish = wish} new b m h untold finds =
+pub long_heads : {wish : DecodeWish} {packets : List ℕ} {old : Outside} {a : Assembling} (new : Outside) (b : Assembling) (m : Measured) →
+    (h : HasHead wish packets old a m) → h.first.rows ≡ 0 → FindsSegment old new a b (Err in_faults.LongInput) → HasLong wish packets
+long_heads {wish = wish} new b m h unknown finds =
     let found = finds.ends.0 in
     none_long h.heads new b found finds.ends.1
     (λ g first known.
     let same : h.first ≡ g = first_one wish.apid (h.heads.passed ++ found.passed) h.first g (first_more found.passed h.is_first) first in
-    known (ap (λ (g : Geometry). g.rows) (sym same) ∙ untold))
+    known (ap (λ (g : Geometry). g.rows) (sym same) ∙ unknown))
 
 -- there is no header
-pub long_start : {wish : DecodeWish} {packets : List ℕ} {old : Outside} {a : Assembling} (new : Outside) (b : Assembling) → a ≡ unread_assembly wish.apid wish.octets → old.rest ≡ Some packets → FindsSegment old new a b (Err in_faults.LongInput) → HasLong wish packets
-long_start {wish = wish} {packets = packets} {old = old} new b unread told finds = by (subst (λ a. FoundNone old new a b) unread finds.ends.0)
+pub long_start : {wish : DecodeWish} {packets : List ℕ} {old : Outside} {a : Assembling} (new : Outside) (b : Assembling) →
+    a ≡ unread_assembly wish.apid wish.octets → old.rest ≡ Some packets → FindsSegment old new a b (Err in_faults.LongInput) → HasLong wish packets
+long_start {wish = wish} {packets = packets} {old = old} new b unread if_known finds = by (subst (λ a. FoundNone old new a b) unread finds.ends.0)
   where
     by : FoundNone old new (unread_assembly wish.apid wish.octets) b → HasLong wish packets
     by found =
-        let h = no_heads wish packets old told in
+        let h = no_heads wish packets old if_known in
         none_long h new b found finds.ends.1
         (λ g first known. some_first wish.apid found.passed g first (geometry_none wish.apid fresh found.passed (none h new b found)))
 
 -- no packet begins a segment
-pub no_segment : {wish : DecodeWish} {packets : List ℕ} {old : Outside} {a : Assembling} (new : Outside) (b : Assembling) → a ≡ unread_assembly wish.apid wish.octets → old.rest ≡ Some packets → FindsSegment old new a b (Ok None) → HasNoSegment wish packets
-no_segment {wish = wish} {packets = packets} {old = old} new b unread told finds = by (subst (λ a. FoundNone old new a b) unread finds.ends.0)
+pub no_segment : {wish : DecodeWish} {packets : List ℕ} {old : Outside} {a : Assembling} (new : Outside) (b : Assembling) →
+    a ≡ unread_assembly wish.apid wish.octets → old.rest ≡ Some packets → FindsSegment old new a b (Ok None) → HasNoSegment wish packets
+no_segment {wish = wish} {packets = packets} {old = old} new b unread if_known finds = by (subst (λ a. FoundNone old new a b) unread finds.ends.0)
   where
     by : FoundNone old new (unread_assembly wish.apid wish.octets) b → HasNoSegment wish packets
     by found =
-        let h = no_heads wish packets old told in
+        let h = no_heads wish packets old if_known in
         record {
-          none = ap (λ all. (after_all wish.apid fresh all).geometry) (none_packets h new b found finds.ends.1) ∙ geometry_none wish.apid fresh found.passed (none h new b found);
+          none = ap (λ all. (after_all wish.apid fresh all).geometry) (none_packets h new b found finds.ends.1) ∙ geometry_none wish.apid fresh found.passed
+              (none h new b found);
           to_end = none_ended h new b found finds.ends.1;
         }
 
 -- ---- a segment that begins
 
-module _ {wish : DecodeWish} {packets : List ℕ} {old new : Outside} {a b : Assembling} {start : SegmentStart} (h : HasHeads wish packets old a) (found : WasFound old new a b start) where
+module _ {wish : DecodeWish} {packets : List ℕ} {old new : Outside} {a b : Assembling} {start : SegmentStart} (h : HasHeads wish packets old a)
+    (found : WasFound old new a b start) where
   abbrev before : List (List ℕ)
-  before = h.passed ++ found.front
+  before = h.passed ++ found.prefix
 
-  abbrev parts : h.passed ++ (found.front ++ found.packet ∷ []) ≡ before ++ found.packet ∷ []
-  parts = sym (append_assoc h.passed found.front (found.packet ∷ []))
+  abbrev parts : h.passed ++ (found.prefix ++ found.packet ∷ []) ≡ before ++ found.packet ∷ []
+  parts = sym (append_assoc h.passed found.prefix (found.packet ∷ []))
 
-  state_before : after_all a.apid a.state found.front ≡ after_all wish.apid fresh before
+  state_before : after_all a.apid a.state found.prefix ≡ after_all wish.apid fresh before
   state_before =
-      ap (λ n. after_all n a.state found.front) h.read.apid ∙ ap (λ s. after_all wish.apid s found.front) h.read.state ∙ sym (after_all-append wish.apid fresh h.passed found.front)
+      ap (λ n. after_all n a.state found.prefix) h.read.apid ∙ ap (λ s. after_all wish.apid s found.prefix) h.read.state
+      ∙ sym (after_all-append wish.apid fresh h.passed found.prefix)
 
   starts : Starts wish.apid (after_all wish.apid fresh before) found.packet start
-  starts = subst (λ s. Starts wish.apid s found.packet start) state_before (subst (λ n. Starts n (after_all a.apid a.state found.front) found.packet start) h.read.apid found.starts)
+  starts = subst (λ s. Starts wish.apid s found.packet start) state_before (subst (λ n. Starts n (after_all a.apid a.state found.prefix) found.packet start)
+      h.read.apid found.starts)
 
   ended_is : end_of (kept wish.apid fresh (before ++ found.packet ∷ [])) ≡ end_after start
   ended_is = end_begun wish.apid before found.packet start starts
@@ -196,22 +210,25 @@ module _ {wish : DecodeWish} {packets : List ℕ} {old new : Outside} {a b : Ass
   state_is = (read_on wish.apid wish.octets h.read found.passed).state ∙ ap (after_all wish.apid fresh) parts
 
   geometry_there : (g : Geometry) → b.state.geometry ≡ Some g → (after_all wish.apid fresh (before ++ found.packet ∷ [])).geometry ≡ Some g
-  geometry_there g told = ap (λ (s : FateState). s.geometry) (sym state_is) ∙ told
+  geometry_there g if_known = ap (λ (s : FateState). s.geometry) (sym state_is) ∙ if_known
 
   few_before : HasFew wish.pixels wish.apid before
-  few_before = few_none wish.pixels wish.apid h.passed found.front h.few (begins_none h found.front found.none_before)
+  few_before = few_none wish.pixels wish.apid h.passed found.prefix h.few (begins_none h found.prefix found.none_before)
 
-  few_there : (g : Geometry) → b.state.geometry ≡ Some g → g.width * rows_reached g (end_after start) ≤ wish.pixels → HasFew wish.pixels wish.apid (before ++ found.packet ∷ [])
-  few_there g told few k there =
-      let same : g ≡ k = (let both : Some g ≡ Some k = sym (geometry_there g told) ∙ there in cc) in
+  few_there : (g : Geometry) → b.state.geometry ≡ Some g → g.width * rows_reached g (end_after start) ≤ wish.pixels →
+      HasFew wish.pixels wish.apid (before ++ found.packet ∷ [])
+  few_there g if_known few k there =
+      let same : g ≡ k = (let both : Some g ≡ Some k = sym (geometry_there g if_known) ∙ there in cc) in
       subst (λ (k : Geometry). k.width * rows_reached k (end_of (kept wish.apid fresh (before ++ found.packet ∷ []))) ≤ wish.pixels) same
       (subst (λ n. g.width * rows_reached g n ≤ wish.pixels) (sym ended_is) few)
 
-  abbrev head_there : (m : Measured) (first : Geometry) → b.state.geometry ≡ Some m.geometry → IsGeometryInRange m.geometry → m.ended ≡ end_after start → m.geometry.width * rows_reached m.geometry m.ended ≤ wish.pixels →
+  abbrev head_there : (m : Measured) (first : Geometry) → b.state.geometry ≡ Some m.geometry → IsGeometryInRange m.geometry → m.ended ≡ end_after start →
+      m.geometry.width * rows_reached m.geometry m.ended ≤ wish.pixels →
       IsFirstHead wish.apid (before ++ found.packet ∷ []) first → HasHead wish packets new b m
-  head_there m first told range ended few is_first = record {
-    heads = heads_on h found.passed found.none_after (subst (HasFew wish.pixels wish.apid) (sym parts) (few_there m.geometry told (subst (λ n. m.geometry.width * rows_reached m.geometry n ≤ wish.pixels) ended few)));
-    geometry = told;
+  head_there m first if_known range ended few is_first = record {
+    heads = heads_on h found.passed found.none_after (subst (HasFew wish.pixels wish.apid) (sym parts)
+        (few_there m.geometry if_known (subst (λ n. m.geometry.width * rows_reached m.geometry n ≤ wish.pixels) ended few)));
+    geometry = if_known;
     range = range;
     ended = ended ∙ sym ended_is ∙ ap (λ all. end_of (kept wish.apid fresh all)) (sym parts);
     first = first;
@@ -219,16 +236,25 @@ module _ {wish : DecodeWish} {packets : List ℕ} {old new : Outside} {a b : Ass
   }
 
   -- it is the first, or it isn't
-  first_there : (g : Geometry) → b.state.geometry ≡ Some g → (after_all wish.apid fresh before).geometry ≡ None → IsFirstHead wish.apid (before ++ found.packet ∷ []) g
-  first_there g told none = record { before = before; packet = found.packet; later = []; packets_are = sym (append-nil (before ++ found.packet ∷ [])); none = none; geometry = geometry_there g told }
+  first_there : (g : Geometry) → b.state.geometry ≡ Some g → (after_all wish.apid fresh before).geometry ≡ None →
+      IsFirstHead wish.apid (before ++ found.packet ∷ []) g
+  first_there g if_known none = record {
+    before = before;
+    packet = found.packet;
+    later = [];
+    packets_are = sym (append-nil (before ++ found.packet ∷ []));
+    none = none;
+    geometry = geometry_there g if_known;
+  }
 
   later_there : (g : Geometry) → IsFirstHead wish.apid h.passed g → IsFirstHead wish.apid (before ++ found.packet ∷ []) g
-  later_there g first = subst (λ all. IsFirstHead wish.apid all g) parts (first_more (found.front ++ found.packet ∷ []) first)
+  later_there g first = subst (λ all. IsFirstHead wish.apid all g) parts (first_more (found.prefix ++ found.packet ∷ []) first)
 
-  many_there : (pixels : ℕ) (g : Geometry) → b.state.geometry ≡ Some g → pixels ≡ g.width * rows_reached g (end_after start) → wish.pixels < pixels → HasTooMany wish packets pixels
-  many_there pixels g told is many =
+  many_there : (pixels : ℕ) (g : Geometry) → b.state.geometry ≡ Some g → pixels ≡ g.width * rows_reached g (end_after start) → wish.pixels < pixels →
+      HasTooMany wish packets pixels
+  many_there pixels g if_known is many =
       let read = read_on wish.apid wish.octets h.read found.passed in
-      let left = left_after old.rest new.rest found.passed.took h.rest found.passed.since.rest h.told in
+      let left = left_after old.rest new.rest found.passed.took h.rest found.passed.since.rest h.if_known in
       record {
         took = h.took ++ found.passed.took;
         rest = left.rest;
@@ -238,10 +264,11 @@ module _ {wish : DecodeWish} {packets : List ℕ} {old new : Outside} {a b : Ass
           before = before;
           packet = found.packet;
           later = whole_packets b.intake.pending;
-          packets_are = ap whole_packets read.octets_are ∙ whole_after (h.passed ++ (found.front ++ found.packet ∷ [])) b.intake.pending read.packets_are ∙ ap (λ xs. xs ++ whole_packets b.intake.pending) parts;
+          packets_are = ap whole_packets read.octets_are ∙ whole_after (h.passed ++ (found.prefix ++ found.packet ∷ [])) b.intake.pending read.packets_are
+              ∙ ap (λ xs. xs ++ whole_packets b.intake.pending) parts;
           few = few_before;
           image = g;
-          geometry = geometry_there g told;
+          geometry = geometry_there g if_known;
           pixels_are = is ∙ ap (λ n. g.width * rows_reached g n) (sym ended_is);
           many = many;
         };
@@ -254,11 +281,12 @@ module _ {wish : DecodeWish} {packets : List ℕ} {old new : Outside} {a b : Ass
       let both : None ≡ Some begun.image = sym none ∙ there in cc
 
 -- the octets that are left for an assembly are fewer
-less_there : {old new : Outside} {a b : Assembling} {start : SegmentStart} → a.intake.taken ≤ a.intake.cap → (found : WasFound old new a b start) → octets_left b.intake < octets_left a.intake
+less_there : {old new : Outside} {a b : Assembling} {start : SegmentStart} → a.intake.taken ≤ a.intake.cap → (found : WasFound old new a b start) →
+    octets_left b.intake < octets_left a.intake
 less_there {a = a} {b = b} capped found =
     let q = found.passed in
-    let went = found.front ++ found.packet ∷ [] in
-    let some : 1 ≤ length (joined went) = (let few = few_packets went q.packets_are in omega (arith, few, length-append found.front (found.packet ∷ []))) in
+    let went = found.prefix ++ found.packet ∷ [] in
+    let some : 1 ≤ length (joined went) = (let few = few_packets went q.packets_are in omega (arith, few, length-append found.prefix (found.packet ∷ []))) in
     let sizes : length a.intake.pending + length q.took ≡ length (joined went) + length b.intake.pending =
     sym (length-append a.intake.pending q.took) ∙ ap length q.octets_are ∙ length-append (joined went) b.intake.pending in
     let within = q.capped capped in
@@ -268,7 +296,8 @@ less_there {a = a} {b = b} capped found =
 
 -- ---- the steps
 
-not_held : {wish : DecodeWish} {packets : List ℕ} {old : Outside} {a : Assembling} {start : SegmentStart} → HasHeads wish packets old a → a.held ≡ Some start → ⊥
+not_held : {wish : DecodeWish} {packets : List ℕ} {old : Outside} {a : Assembling} {start : SegmentStart} → HasHeads wish packets old a →
+    a.held ≡ Some start → ⊥
 not_held {start = start} h held = let both : None ≡ Some start = sym h.unheld ∙ held in cc
 
 -- the header that was read last, and the first one that was kept
@@ -276,27 +305,36 @@ pub record HasHeadFrom (wish : DecodeWish) (packets : List ℕ) (now : Outside) 
   pub head : HasHead wish packets now a m
   pub first_is : head.first ≡ first
 
-pub next_found : {wish : DecodeWish} {packets : List ℕ} {old new : Outside} {a b : Assembling} (before m : Measured) (first : Geometry) → HasHeadFrom wish packets old a before first → FoundHead wish.pixels old new a b m → HasHeadFrom wish packets new b m first
+pub next_found : {wish : DecodeWish} {packets : List ℕ} {old new : Outside} {a b : Assembling} (before m : Measured) (first : Geometry) →
+    HasHeadFrom wish packets old a before first → FoundHead wish.pixels old new a b m → HasHeadFrom wish packets new b m first
 next_found last m first h f = elim f.finds.ends [
   | inl held ↦ absurd (not_held h.head.heads held.held)
-  | inr found ↦ record { head = head_there h.head.heads found m h.head.first f.geometry f.range f.ended f.few (later_there h.head.heads found h.head.first h.head.is_first); first_is = h.first_is }
+  | inr found ↦ record {
+    head = head_there h.head.heads found m h.head.first f.geometry f.range f.ended f.few
+        (later_there h.head.heads found h.head.first h.head.is_first);
+    first_is = h.first_is;
+  }
 ]
 
-pub first_found : {wish : DecodeWish} {packets : List ℕ} {old new : Outside} {a b : Assembling} (m : Measured) → a ≡ unread_assembly wish.apid wish.octets → old.rest ≡ Some packets → FoundHead wish.pixels old new a b m → HasHeadFrom wish packets new b m m.geometry
-first_found {wish = wish} {packets = packets} {old = old} {new = new} {a = a} {b = b} m unread told f = by (subst (λ a. FoundHead wish.pixels old new a b m) unread f)
+pub first_found : {wish : DecodeWish} {packets : List ℕ} {old new : Outside} {a b : Assembling} (m : Measured) → a ≡ unread_assembly wish.apid wish.octets →
+    old.rest ≡ Some packets → FoundHead wish.pixels old new a b m → HasHeadFrom wish packets new b m m.geometry
+first_found {wish = wish} {packets = packets} {old = old} {new = new} {a = a} {b = b} m unread if_known f =
+    by (subst (λ a. FoundHead wish.pixels old new a b m) unread f)
   where
     by : FoundHead wish.pixels old new (unread_assembly wish.apid wish.octets) b m → HasHeadFrom wish packets new b m m.geometry
     by f = elim f.finds.ends [
-      | inl held ↦ absurd (not_held (no_heads wish packets old told) held.held)
+      | inl held ↦ absurd (not_held (no_heads wish packets old if_known) held.held)
       | inr found ↦
-          let h = no_heads wish packets old told in
+          let h = no_heads wish packets old if_known in
           record {
-            head = head_there h found m m.geometry f.geometry f.range f.ended f.few (first_there h found m.geometry f.geometry (geometry_none wish.apid fresh found.front found.none_before));
+            head = head_there h found m m.geometry f.geometry f.range f.ended f.few
+                (first_there h found m.geometry f.geometry (geometry_none wish.apid fresh found.prefix found.none_before));
             first_is = refl;
           }
     ]
 
-pub many_found : {wish : DecodeWish} {packets : List ℕ} {old new : Outside} {a b : Assembling} (pixels : ℕ) → HasHeads wish packets old a → FoundMany wish.pixels old new a b pixels → HasTooMany wish packets pixels
+pub many_found : {wish : DecodeWish} {packets : List ℕ} {old new : Outside} {a b : Assembling} (pixels : ℕ) → HasHeads wish packets old a →
+    FoundMany wish.pixels old new a b pixels → HasTooMany wish packets pixels
 many_found pixels h f = elim f.finds.ends [
   | inl held ↦ absurd (not_held h held.held)
   | inr found ↦ many_there h found pixels f.image f.geometry f.reached f.many
@@ -308,7 +346,8 @@ nothing_found h f = elim f.finds.ends [
   | inr found ↦ never_none h found f.none
 ]
 
-pub less_found : {wish : DecodeWish} {packets : List ℕ} {old new : Outside} {a b : Assembling} {m : Measured} → HasHeads wish packets old a → FoundHead wish.pixels old new a b m → octets_left b.intake < octets_left a.intake
+pub less_found : {wish : DecodeWish} {packets : List ℕ} {old new : Outside} {a b : Assembling} {m : Measured} → HasHeads wish packets old a →
+    FoundHead wish.pixels old new a b m → octets_left b.intake < octets_left a.intake
 less_found h f = elim f.finds.ends [
   | inl held ↦ absurd (not_held h held.held)
   | inr found ↦ less_there h.read.capped found
@@ -317,12 +356,13 @@ less_found h f = elim f.finds.ends [
 -- ---- the size
 
 -- at most the block rows of the tallest image
-begun_few : (apid : ℕ) (passed : List (List ℕ)) (g : Geometry) → IsGeometryInRange g → (after_all apid fresh passed).geometry ≡ Some g → end_of (kept apid fresh passed) / block_count g.width ≤ 32768
-begun_few apid passed g range told =
+begun_few : (apid : ℕ) (passed : List (List ℕ)) (g : Geometry) → IsGeometryInRange g → (after_all apid fresh passed).geometry ≡ Some g →
+    end_of (kept apid fresh passed) / block_count g.width ≤ 32768
+begun_few apid passed g range if_known =
     let c = block_count g.width in
     let n = end_of (kept apid fresh passed) in
     let some = three-le-block_count g.width range.width.0 in
-    let few = end_few apid passed g told in
+    let few = end_few apid passed g if_known in
     let tall : block_count (placed_rows g) ≤ 32768 = tall_rows range.rows in
     let most : block_count (placed_rows g) * c ≤ 32768 * c = mul-le-mul_right c tall in
     let turned : blocks_of (placed g) ≡ block_count (placed_rows g) * c = grind arith in
@@ -339,26 +379,32 @@ begun_few apid passed g range told =
 measurable : {wish : DecodeWish} {packets : List ℕ} {now : Outside} {a : Assembling} (m : Measured) → HasHead wish packets now a m → IsMeasurable m
 measurable {wish = wish} m h = record {
   range = h.range;
-  few = subst (λ n. n / block_count m.geometry.width ≤ 32768) (sym h.ended) (begun_few wish.apid h.heads.passed m.geometry h.range (ap (λ (s : FateState). s.geometry) (sym h.heads.read.state) ∙ h.geometry));
+  few = subst (λ n. n / block_count m.geometry.width ≤ 32768) (sym h.ended)
+      (begun_few wish.apid h.heads.passed m.geometry h.range (ap (λ (s : FateState). s.geometry) (sym h.heads.read.state) ∙ h.geometry));
 }
 
 -- The first header reports the height, which doesn't change.
-pub known_size : {wish : DecodeWish} {packets : List ℕ} {now : Outside} {a : Assembling} (m : Measured) → HasHeadFrom wish packets now a m m.geometry → m.geometry.rows ≢ 0 → HasSize wish packets m
+pub known_size : {wish : DecodeWish} {packets : List ℕ} {now : Outside} {a : Assembling} (m : Measured) → HasHeadFrom wish packets now a m m.geometry →
+    m.geometry.rows ≢ 0 → HasSize wish packets m
 known_size {wish = wish} {packets = packets} {a = a} m from some =
     let g = m.geometry in
     let h = from.head in
     let on = h.heads in
     let is_first : IsFirstHead wish.apid on.passed g = subst (IsFirstHead wish.apid on.passed) from.first_is h.is_first in
-    let taken : whole_packets on.took ≡ on.passed ++ whole_packets a.intake.pending = ap whole_packets on.read.octets_are ∙ whole_after on.passed a.intake.pending on.read.packets_are in
+    let taken : whole_packets on.took ≡ on.passed ++ whole_packets a.intake.pending =
+    ap whole_packets on.read.octets_are ∙ whole_after on.passed a.intake.pending on.read.packets_are in
     let here : (after_all wish.apid fresh on.passed).geometry ≡ Some g = ap (λ (s : FateState). s.geometry) (sym on.read.state) ∙ h.geometry in
     let later : (octets : List ℕ) → geometry_in wish.apid (on.took ++ octets) ≡ Some g =
     λ octets.
     let all : whole_packets (on.took ++ octets) ≡ on.passed ++ whole_packets (a.intake.pending ++ octets) =
-    ap (λ xs. whole_packets (xs ++ octets)) on.read.octets_are ∙ ap whole_packets (append_assoc (joined on.passed) a.intake.pending octets) ∙ whole_after on.passed (a.intake.pending ++ octets) on.read.packets_are in
-    ap (λ all. (after_all wish.apid fresh all).geometry) all ∙ ap (λ (s : FateState). s.geometry) (after_all-append wish.apid fresh on.passed (whole_packets (a.intake.pending ++ octets)))
+    ap (λ xs. whole_packets (xs ++ octets)) on.read.octets_are ∙ ap whole_packets (append_assoc (joined on.passed) a.intake.pending octets)
+    ∙ whole_after on.passed (a.intake.pending ++ octets) on.read.packets_are in
+    ap (λ all. (after_all wish.apid fresh all).geometry) all ∙ ap (λ (s : FateState). s.geometry)
+    (after_all-append wish.apid fresh on.passed (whole_packets (a.intake.pending ++ octets)))
     ∙ geometry_known wish.apid on.passed (whole_packets (a.intake.pending ++ octets)) g here some in
     let first : geometry_in wish.apid on.took ≡ Some g = ap (geometry_in wish.apid) (sym (append-nil on.took)) ∙ later [] in
-    let pixels : g.width * g.rows ≤ wish.pixels = subst (λ n. g.width * n ≤ wish.pixels) (reached_known g (end_of (kept wish.apid fresh on.passed)) some) (on.few g here) in
+    let pixels : g.width * g.rows ≤ wish.pixels = subst (λ n. g.width * n ≤ wish.pixels) (reached_known g (end_of (kept wish.apid fresh on.passed)) some)
+    (on.few g here) in
     record {
       took = on.took;
       rest = on.rest;
@@ -369,13 +415,14 @@ known_size {wish = wish} {packets = packets} {a = a} m from some =
           subst (λ (k : Geometry). k.width * rows_reached k (end_of (kept_in wish.apid on.took)) ≤ wish.pixels) same
           (subst (λ n. g.width * n ≤ wish.pixels) (sym (reached_known g (end_of (kept_in wish.apid on.took)) some)) pixels);
       known = inl (subst (λ all. IsFirstHead wish.apid all g) (sym taken) (first_more (whole_packets a.intake.pending) is_first), some);
-      tells = record { geometry = ap (geometry_in wish.apid) on.are ∙ later on.rest; range = h.range };
+      reports = record { geometry = ap (geometry_in wish.apid) on.are ∙ later on.rest; range = h.range };
       begun = λ none. absurd (some none);
       measurable = measurable m h;
     }
 
 -- All headers were read.
-pub all_size : {wish : DecodeWish} {packets : List ℕ} {old : Outside} {a : Assembling} (new : Outside) (b : Assembling) (m : Measured) → HasHead wish packets old a m → FindsSegment old new a b (Ok None) → HasSize wish packets m
+pub all_size : {wish : DecodeWish} {packets : List ℕ} {old : Outside} {a : Assembling} (new : Outside) (b : Assembling) (m : Measured) →
+    HasHead wish packets old a m → FindsSegment old new a b (Ok None) → HasSize wish packets m
 all_size {wish = wish} {packets = packets} {old = old} {a = a} new b m h finds =
     let g = m.geometry in
     let before = h.heads in
@@ -398,25 +445,27 @@ all_size {wish = wish} {packets = packets} {old = old} {a = a} new b m h finds =
       within = read_within on.read;
       few = subst (HasFew wish.pixels wish.apid) (sym (ended_packets on.read ended)) on.few;
       known = inr record { to_end = to_end; few = subst (HasFew wish.pixels wish.apid) (sym all) on.few };
-      tells = record { geometry = there; range = h.range };
-      begun = λ untold. ap (λ n. n / block_count g.width) same ∙ sym (begun_is wish.apid packets g there);
+      reports = record { geometry = there; range = h.range };
+      begun = λ unknown. ap (λ n. n / block_count g.width) same ∙ sym (begun_is wish.apid packets g there);
       measurable = measurable m h;
     }
 
 -- ---- refusals
 
-pub start_refused : (wish : DecodeWish) (packets : List ℕ) (old new : Outside) (a b : Assembling) (refusal : DecodeRefusal) → a ≡ unread_assembly wish.apid wish.octets → old.rest ≡ Some packets → FindsHead wish.pixels old new a b (Err refusal) →
+pub start_refused : (wish : DecodeWish) (packets : List ℕ) (old new : Outside) (a b : Assembling) (refusal : DecodeRefusal) →
+    a ≡ unread_assembly wish.apid wish.octets → old.rest ≡ Some packets → FindsHead wish.pixels old new a b (Err refusal) →
     IsMeasured wish packets (Err refusal)
-start_refused wish packets old new a b NoSegment unread told finds = absurd (nothing_found (unread_heads wish packets old a unread told) finds)
-start_refused wish packets old new a b (SmallRoom g rows octets) unread told finds = absurd finds
-start_refused wish packets old new a b (TooManyPixels pixels) unread told finds = many_found pixels (unread_heads wish packets old a unread told) finds
-start_refused wish packets old new a b LongInput unread told finds = long_start new b unread told finds
-start_refused wish packets old new a b Memory unread told finds = absurd finds
+start_refused wish packets old new a b NoSegment unread if_known finds = absurd (nothing_found (unread_heads wish packets old a unread if_known) finds)
+start_refused wish packets old new a b (SmallRoom g rows octets) unread if_known finds = absurd finds
+start_refused wish packets old new a b (TooManyPixels pixels) unread if_known finds = many_found pixels (unread_heads wish packets old a unread if_known) finds
+start_refused wish packets old new a b LongInput unread if_known finds = long_start new b unread if_known finds
+start_refused wish packets old new a b Memory unread if_known finds = absurd finds
 
-pub next_refused : {wish : DecodeWish} {packets : List ℕ} {old : Outside} {a : Assembling} (new : Outside) (b : Assembling) (m : Measured) (first : Geometry) (refusal : DecodeRefusal) → HasHeadFrom wish packets old a m first → first.rows ≡ 0 →
+pub next_refused : {wish : DecodeWish} {packets : List ℕ} {old : Outside} {a : Assembling} (new : Outside) (b : Assembling) (m : Measured)
+    (first : Geometry) (refusal : DecodeRefusal) → HasHeadFrom wish packets old a m first → first.rows ≡ 0 →
     FindsHead wish.pixels old new a b (Err refusal) → IsMeasured wish packets (Err refusal)
-next_refused new b m first NoSegment h untold finds = absurd (nothing_found h.head.heads finds)
-next_refused new b m first (SmallRoom g rows octets) h untold finds = absurd finds
-next_refused new b m first (TooManyPixels pixels) h untold finds = many_found pixels h.head.heads finds
-next_refused new b m first LongInput h untold finds = long_heads new b m h.head (ap (λ (g : Geometry). g.rows) h.first_is ∙ untold) finds
-next_refused new b m first Memory h untold finds = absurd finds
+next_refused new b m first NoSegment h unknown finds = absurd (nothing_found h.head.heads finds)
+next_refused new b m first (SmallRoom g rows octets) h unknown finds = absurd finds
+next_refused new b m first (TooManyPixels pixels) h unknown finds = many_found pixels h.head.heads finds
+next_refused new b m first LongInput h unknown finds = long_heads new b m h.head (ap (λ (g : Geometry). g.rows) h.first_is ∙ unknown) finds
+next_refused new b m first Memory h unknown finds = absurd finds

@@ -16,10 +16,10 @@ use Rattle.rect_defs.proofs.SameLost.{rects_same}
 use Rattle.segment_walk.specs.declared.ending.DecodeDone.{DecodeDone}
 use Rattle.segment_walk.specs.declared.ending.DecodeFault.TheVariants as faults
 use Rattle.segment_walk.specs.Answers.{PictureBy}
-use Rattle.segment_walk.specs.Laws.{ReceivedIsTold}
+use Rattle.segment_walk.specs.Laws.{ReceivedIsKnown}
 use Rattle.segment_walk.specs.Runs.{Numbers, ReportsMany, holds_after}
 use Rattle.segment_walk.specs.Walks.{IsDamageOf}
-use Rattle.strip122_c.specs.Products.{octets_of}
+use Rattle.strip122_c.specs.Products.{product_octets}
 use Rattle.strip122_c.specs.Runs.{RunsAs}
 use Rattle.strip122_c.specs.declared.product.Product.{Product}
 use Rattle.strip122_c.specs.declared.product.Product.TheVariants.{Picture, Look, Rects}
@@ -34,7 +34,7 @@ Anything i j = Unit {0}
 abbrev pub MakesOf : Product → DecodeWish → (took gave : List ℕ) → DecodeDone → Type 0
 MakesOf product wish took gave done =
     (received : Numbers) × ReceivedIn (holds_after wish.book) wish.apid took received
-    × (gave ≡ octets_of product done.geometry received (begun_in wish.apid took)) × IsDamageOf done.geometry received (begun_in wish.apid took) done.damage
+    × (gave ≡ product_octets product done.geometry received (begun_in wish.apid took)) × IsDamageOf done.geometry received (begun_in wish.apid took) done.damage
 
 pub record Ran (product : Product) (wish : DecodeWish) (old new : Outside) (done : DecodeDone) : Type 0 where
   pub took : List ℕ
@@ -51,7 +51,8 @@ pub record Ran (product : Product) (wish : DecodeWish) (old new : Outside) (done
   pub made : (all : List ℕ) → old.rest ≡ Some all → MakesOf product wish took gave done
 
 ran_with : (gives : Bool) (product : Product) (wish : DecodeWish) (old new : Outside) (took gave shown : List ℕ) (done : DecodeDone) {Q : ℕ → ℕ → Type 0} →
-    Exchange old new took gave [] Q → length took ≤ wish.octets → PictureBy gives wish old new took shown done → ((all : List ℕ) → old.rest ≡ Some all → MakesOf product wish took gave done) → Ran product wish old new done
+    Exchange old new took gave [] Q → length took ≤ wish.octets → PictureBy gives wish old new took shown done →
+    ((all : List ℕ) → old.rest ≡ Some all → MakesOf product wish took gave done) → Ran product wish old new done
 ran_with gives product wish old new took gave shown done since within found made = record {
   took = took;
   gave = gave;
@@ -68,25 +69,27 @@ ran_with gives product wish old new took gave shown done since within found made
 }
 
 -- the lines of rectangles are those of the segments whose damage is reported
-pub rects_told : (g : Geometry) (n : ℕ) (a b : Numbers) → IsGeometryInRange g → ((index : ℕ) → a index ≡ b index) → rects g a n ≡ rects g b n
-rects_told g n a b range same =
+pub rects_known : (g : Geometry) (n : ℕ) (a b : Numbers) → IsGeometryInRange g → ((index : ℕ) → a index ≡ b index) → rects g a n ≡ rects g b n
+rects_known g n a b range same =
     let least = range.width.0 in
-    rects_same (height g n) g.width (block_rows g n) (is_lost g a) (is_lost g b) (omega (arith, least)) (λ block lt. ap (λ o. not (is_some o)) (same (block / g.segment)))
+    rects_same (height g n) g.width (block_rows g n) (is_lost g a) (is_lost g b) (omega (arith, least))
+    (λ block lt. ap (λ o. not (is_some o)) (same (block / g.segment)))
 
-pub ran : (product : Product) (wish : DecodeWish) (old new : Outside) (done : DecodeDone) → ReceivedIsTold → RunsAs product wish old new (Ok done) → Ran product wish old new done
-ran Picture wish old new done told run = ran_with _ Picture wish old new run.took run.gave run.gave done run.since run.within run.answer run.answer.told
-ran Look wish old new done told run =
+pub ran : (product : Product) (wish : DecodeWish) (old new : Outside) (done : DecodeDone) → ReceivedIsKnown → RunsAs product wish old new (Ok done) →
+    Ran product wish old new done
+ran Picture wish old new done if_known run = ran_with _ Picture wish old new run.took run.gave run.gave done run.since run.within run.answer run.answer.if_known
+ran Look wish old new done if_known run =
     ran_with _ Look wish old new run.took run.gave [] done run.since run.within run.answer.found
-    (λ all there. let found = run.answer.found.told all there in (found.0, found.1, run.answer.look all there found.0 found.1, found.3))
-ran Rects wish old new done told run =
+    (λ all there. let found = run.answer.found.if_known all there in (found.0, found.1, run.answer.look all there found.0 found.1, found.3))
+ran Rects wish old new done if_known run =
     ran_with _ Rects wish old new run.took run.gave [] done run.since run.within run.answer.found
     (λ all there.
-    let found = run.answer.found.told all there in
-    let lines = run.answer.told all there in
-    let same = told.one wish.book wish.apid run.took lines.0 found.0 lines.1 found.1 in (
+    let found = run.answer.found.if_known all there in
+    let lines = run.answer.if_known all there in
+    let same = if_known.one wish.book wish.apid run.took lines.0 found.0 lines.1 found.1 in (
       found.0,
       found.1,
-      lines.2 ∙ ap rect_lines (rects_told done.geometry (begun_in wish.apid run.took) lines.0 found.0 run.answer.found.range same),
+      lines.2 ∙ ap rect_lines (rects_known done.geometry (begun_in wish.apid run.took) lines.0 found.0 run.answer.found.range same),
       found.3,
     ))
 
@@ -114,7 +117,8 @@ pub record TookLong (wish : DecodeWish) (old new : Outside) : Type 0 where
   pub readable : has_bad_version (left_over all.took) ≡ false
   pub few : HasFewPixels wish.pixels wish.apid all.took
 
-abbrev took_with : (wish : DecodeWish) (old new : Outside) (took gave : List ℕ) {Q : ℕ → ℕ → Type 0} → Exchange old new took gave [] Q → length took ≤ wish.octets → Took wish old new
+abbrev took_with : (wish : DecodeWish) (old new : Outside) (took gave : List ℕ) {Q : ℕ → ℕ → Type 0} → Exchange old new took gave [] Q →
+    length took ≤ wish.octets → Took wish old new
 took_with wish old new took gave since within = record { took = took; gave = gave; since = since_weaker since (λ i j le x. tt); within = within }
 
 pub took_nothing : (product : Product) (wish : DecodeWish) (old new : Outside) → RunsAs product wish old new (Err faults.NoSegment) → TookNothing wish old new
@@ -122,12 +126,31 @@ took_nothing Picture wish old new run = record { all = took_with wish old new ru
 took_nothing Look wish old new run = record { all = took_with wish old new run.took run.gave run.since run.within; none = run.answer.0; out = run.answer.1 }
 took_nothing Rects wish old new run = record { all = took_with wish old new run.took run.gave run.since run.within; none = run.answer.0; out = run.answer.1 }
 
-pub took_many : (product : Product) (wish : DecodeWish) (old new : Outside) (pixels : ℕ) → RunsAs product wish old new (Err (faults.TooManyPixels pixels)) → TookMany wish old new pixels
+pub took_many : (product : Product) (wish : DecodeWish) (old new : Outside) (pixels : ℕ) → RunsAs product wish old new (Err (faults.TooManyPixels pixels)) →
+    TookMany wish old new pixels
 took_many Picture wish old new pixels run = record { all = took_with wish old new run.took run.gave run.since run.within; many = run.answer.0.many }
 took_many Look wish old new pixels run = record { all = took_with wish old new run.took run.gave run.since run.within; many = run.answer.0.many }
 took_many Rects wish old new pixels run = record { all = took_with wish old new run.took run.gave run.since run.within; many = run.answer.0.many }
 
 pub took_long : (product : Product) (wish : DecodeWish) (old new : Outside) → RunsAs product wish old new (Err faults.LongInput) → TookLong wish old new
-took_long Picture wish old new run = record { all = took_with wish old new run.took run.gave run.since run.within; long = run.answer.0; readable = run.answer.1; few = run.answer.2 }
-took_long Look wish old new run = record { all = took_with wish old new run.took run.gave run.since run.within; long = run.answer.0; readable = run.answer.1; few = run.answer.2 }
-took_long Rects wish old new run = record { all = took_with wish old new run.took run.gave run.since run.within; long = run.answer.0; readable = run.answer.1; few = run.answer.2 }
+took_long Picture wish old new run = record {
+  all = took_with wish old new run.took run.gave run.since run.within;
+  long = run.answer.0;
+  readable =
+      run.answer.1;
+  few = run.answer.2;
+}
+took_long Look wish old new run = record {
+  all = took_with wish old new run.took run.gave run.since run.within;
+  long = run.answer.0;
+  readable =
+      run.answer.1;
+  few = run.answer.2;
+}
+took_long Rects wish old new run = record {
+  all = took_with wish old new run.took run.gave run.since run.within;
+  long = run.answer.0;
+  readable =
+      run.answer.1;
+  few = run.answer.2;
+}

@@ -1,5 +1,6 @@
 -- Items that are put into places, one after another.
-use Rattle.std.proofs.Common.{◌≡◌, ◌≤◌, ◌<◌, List, [], ◌∷◌, ◌++◌, length, take, drop, refl, ap, arith, inl, inr, length-append, length-drop, nat_lt, if◌then◌else◌, slice_set, true, false, length-take}
+use Rattle.std.proofs.Common.{◌≡◌, ◌≤◌, ◌<◌, List, [], ◌∷◌, ◌++◌, length, take, drop, refl, ap, arith, inl, inr, length-append, length-drop, nat_lt}
+use Rattle.std.proofs.Common.{if◌then◌else◌, slice_set, true, false, length-take}
 use Rattle.std.proofs.lemmas.Bool.{cases_lt, lt-ltb, le-ltb}
 use Rattle.strip122_c.specs.Ranges.{put_over}
 
@@ -31,9 +32,11 @@ pub put_more : {A : Type 0} (xs : List A) (x : A) (ps : List A) →
     put_over (xs ++ x ∷ []) ps ≡ (if nat_lt (length xs) (length (put_over xs ps)) then slice_set (put_over xs ps) (length xs) x else put_over xs ps)
 put_more xs x ps = elim (cases_lt (length xs) (length ps)) [
   | inl lt ↦
-      let test : nat_lt (length xs) (length (put_over xs ps)) ≡ true = lt-ltb (length xs) (length (put_over xs ps)) (omega (arith, lt, length-put_over xs ps)) in
+      let test : nat_lt (length xs) (length (put_over xs ps)) ≡ true =
+      lt-ltb (length xs) (length (put_over xs ps)) (omega (arith, lt, length-put_over xs ps)) in
       rw test (put_before xs x ps lt)
   | inr le ↦
-      let test : nat_lt (length xs) (length (put_over xs ps)) ≡ false = le-ltb (length xs) (length (put_over xs ps)) (omega (arith, le, length-put_over xs ps)) in
+      let test : nat_lt (length xs) (length (put_over xs ps)) ≡ false =
+      le-ltb (length xs) (length (put_over xs ps)) (omega (arith, le, length-put_over xs ps)) in
       rw test (put_beyond xs x ps le)
 ]

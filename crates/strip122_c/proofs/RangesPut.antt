@@ -1,8 +1,9 @@
 -- The ranges of damaged rows that are put into places so far.
-use Rattle.std.proofs.Common.{◌≡◌, ◌≤◌, ◌+◌, ◌∙◌, ℕ, List, [], ◌∷◌, ◌++◌, length, map, refl, sym, ap, arith, length-append, None, Some, nat_lt, if◌then◌else◌, slice_set, append-nil}
+use Rattle.std.proofs.Common.{◌≡◌, ◌≤◌, ◌+◌, ◌∙◌, ℕ, List, [], ◌∷◌, ◌++◌, length, map, refl, sym, ap, arith, length-append, None, Some, nat_lt}
+use Rattle.std.proofs.Common.{if◌then◌else◌, slice_set, append-nil}
 use Rattle.stream_defs.specs.declared.range.RowRange.{RowRange}
 use Rattle.stream_defs.specs.Marks.{Marks, next_range}
-use Rattle.damage_rows.proofs.RangeWalk.{Walk, walk_start, stands_next, walk_on, walk_ends}
+use Rattle.damage_rows.proofs.RangeWalk.{Walk, walk_start, valid_next, walk_on, walk_ends}
 use Rattle.strip122_c.specs.declared.ranges.Strip122Range.{Strip122Range}
 use Rattle.strip122_c.specs.Ranges.{range_of, ranges_in, put_over}
 use Rattle.strip122_c.proofs.Puts.{put_none, put_more}
@@ -29,10 +30,11 @@ length-ranges [] = omega arith
 length-ranges (r ∷ rs) = omega (arith, length-ranges rs)
 
 -- one more
-pub more_put : (m : Marks) (old now new : List Strip122Range) (count from : ℕ) (range : RowRange) → ArePut m old now count from → Some range ≡ next_range m from →
+pub more_put : (m : Marks) (old now new : List Strip122Range) (count from : ℕ) (range : RowRange) → ArePut m old now count from →
+    Some range ≡ next_range m from →
     new ≡ (if nat_lt count (length now) then slice_set now count (range_of range) else now) → ArePut m old new (count + 1) (range.last + 1)
 more_put m old now new count from range put found sets =
-    let next = stands_next m from put.walk range found in
+    let next = valid_next m from put.walk range found in
     let before = put.walk.before in
     let there = map range_of before in
     let index : count ≡ length there = put.counted ∙ sym (length-ranges before) in
@@ -56,7 +58,8 @@ pub record AllPut (m : Marks) (old now : List Strip122Range) (count : ℕ) : Typ
 pub all_put : (m : Marks) (old now : List Strip122Range) (count from : ℕ) → ArePut m old now count from → None ≡ next_range m from → AllPut m old now count
 all_put m old now count from put found =
     let walk = put.walk in
-    let all : ranges_in m ≡ map range_of walk.before = ap (map range_of) (walk.parts ∙ ap (λ rs. walk.before ++ rs) (walk_ends m from walk found) ∙ append-nil walk.before) in
+    let all : ranges_in m ≡ map range_of walk.before =
+    ap (map range_of) (walk.parts ∙ ap (λ rs. walk.before ++ rs) (walk_ends m from walk found) ∙ append-nil walk.before) in
     record {
       places = put.places ∙ ap (λ rs. put_over rs old) (sym all);
       counted = put.counted ∙ sym (length-ranges walk.before) ∙ ap length (sym all);

@@ -12,7 +12,7 @@ use Rattle.strip_decoder.proofs.RasterAgain.{raster-again}
 use Rattle.strip122_c.specs.declared.decode.Made.{Made}
 use Rattle.strip122_c.specs.declared.decode.DecodeRefusal.{DecodeRefusal}
 use Rattle.strip122_c.specs.declared.decode.DecodeRefusal.TheVariants.{NoSegment, SmallRoom, TooManyPixels, LongInput, Memory}
-use Rattle.strip122_c.specs.ComingBack.{AreOctets, BringsRaster}
+use Rattle.strip122_c.specs.Returned.{AreOctets, BringsRaster}
 use Rattle.strip122_c.specs.WholeEncoding.{HasPackets}
 use Rattle.strip122_c.specs.WholeDecoding.{BringsBack}
 
@@ -24,13 +24,17 @@ raster-same depth signed rows width raster are size =
 
 -- ---- there and back
 
-packets_are : (s : Setting) (raster old new : List ℕ) (done : EncodeDone) → HasPackets s raster old new done → take done.octets new ≡ output s s.rows (image_of s raster)
+packets_are : (s : Setting) (raster old new : List ℕ) (done : EncodeDone) → HasPackets s raster old new done →
+    take done.octets new ≡ output s s.rows (image_of s raster)
 packets_are s raster old new done has =
-    ap (take done.octets) has.room ∙ ap (λ n. take n (output s s.rows (image_of s raster) ++ drop done.octets old)) has.done_for.octets ∙ take-append_seam (output s s.rows (image_of s raster)) (drop done.octets old)
+    ap (take done.octets) has.room ∙ ap (λ n. take n (output s s.rows (image_of s raster) ++ drop done.octets old)) has.done_for.octets
+    ∙ take-append_seam (output s s.rows (image_of s raster)) (drop done.octets old)
 
-pub comes_back : (s : Setting) (wish : DecodeWish) (raster old new room : List ℕ) (done : EncodeDone) (result : Result Made DecodeRefusal) → wish.apid ≡ s.apid → wish.book ≡ s.book →
-    AreOctets raster → HasPackets s raster old new done → BringsBack wish (take done.octets new) room result → BringsRaster wish s raster (take done.octets new) room result
-comes_back s wish raster old new room done (Ok made) mine own are has back =
+pub is_returned : (s : Setting) (wish : DecodeWish) (raster old new room : List ℕ) (done : EncodeDone) (result : Result Made DecodeRefusal) →
+    wish.apid ≡ s.apid → wish.book ≡ s.book →
+    AreOctets raster → HasPackets s raster old new done → BringsBack wish (take done.octets new) room result →
+    BringsRaster wish s raster (take done.octets new) room result
+is_returned s wish raster old new room done (Ok made) mine own are has back =
     let brings = back s s.rows (image_of s raster) mine own (packets_are s raster old new done has) has.image in
     let gives = brings.1 in
     let size : length raster ≡ made.octets = has.took.whole ∙ sym brings.0 in (
@@ -39,10 +43,13 @@ comes_back s wish raster old new room done (Ok made) mine own are has back =
       gives.framing_is,
       λ all. ap (λ n. take n room) size ∙ gives.same all ∙ raster-same s.depth s.signed s.rows s.width raster are has.took.whole,
     )
-comes_back s wish raster old new room done (Err NoSegment) mine own are has back = back s s.rows (image_of s raster) mine own (packets_are s raster old new done has) has.image
-comes_back s wish raster old new room done (Err (SmallRoom g rows octets)) mine own are has back = back s s.rows (image_of s raster) mine own (packets_are s raster old new done has) has.image
-comes_back s wish raster old new room done (Err (TooManyPixels pixels)) mine own are has back = back s s.rows (image_of s raster) mine own (packets_are s raster old new done has) has.image
-comes_back s wish raster old new room done (Err LongInput) mine own are has back =
+is_returned s wish raster old new room done (Err NoSegment) mine own are has back =
+    back s s.rows (image_of s raster) mine own (packets_are s raster old new done has) has.image
+is_returned s wish raster old new room done (Err (SmallRoom g rows octets)) mine own are has back =
+    back s s.rows (image_of s raster) mine own (packets_are s raster old new done has) has.image
+is_returned s wish raster old new room done (Err (TooManyPixels pixels)) mine own are has back =
+    back s s.rows (image_of s raster) mine own (packets_are s raster old new done has) has.image
+is_returned s wish raster old new room done (Err LongInput) mine own are has back =
     let packets = packets_are s raster old new done has in
     subst (λ octets. wish.octets ≤ length octets) (sym packets) (back s s.rows (image_of s raster) mine own packets has.image)
-comes_back s wish raster old new room done (Err Memory) mine own are has back = tt
+is_returned s wish raster old new room done (Err Memory) mine own are has back = tt

@@ -1,7 +1,7 @@
 -- A decoder that read to the end, or to what can't be read on, has read all packets of the stream.
 use Rattle.std.proofs.Common.{◌≡◌, ◌∙◌, ℕ, true, List, ◌++◌, length, refl, sym, ap, subst, inl, inr, Some}
 use Rattle.port_122.specs.Outside.{Outside, Exchange}
-use Rattle.port_122.proofs.Told.{end_told}
+use Rattle.port_122.proofs.IfKnown.{end_known}
 use Rattle.packet_defs.specs.Packets.{joined}
 use Rattle.packet_defs.specs.Streams.{has_bad_version, left_over, place_after, whole_packets, framing_at, framing}
 use Rattle.packet_defs.specs.declared.packet.Framing.TheVariants.{BadVersion}
@@ -25,12 +25,14 @@ reads_bad took more bad =
     let left : has_bad_version (left_over (took ++ more)) ≡ true = ap has_bad_version (left_stays took more bad) ∙ bad_later took more bad in
     record {
       whole = whole;
-      framing_is = framing_bad (place_after took) (left_over took) bad ∙ ap (λ n. Some (BadVersion n)) place ∙ sym (framing_bad (place_after (took ++ more)) (left_over (took ++ more)) left);
+      framing_is = framing_bad (place_after took) (left_over took) bad ∙ ap (λ n. Some (BadVersion n)) place
+          ∙ sym (framing_bad (place_after (took ++ more)) (left_over (took ++ more)) left);
     }
 
-pub reads_all : {g w : List ℕ} {Q : ℕ → ℕ → Type 0} (cap : ℕ) (took packets : List ℕ) (old new : Outside) → Exchange old new took g w Q → old.rest ≡ Some packets → IsReadOut cap new took → ReadsAll took packets
-reads_all cap took packets old new since told (inl bad) =
-    let left = left_after old.rest new.rest took packets since.rest told in
+pub reads_all : {g w : List ℕ} {Q : ℕ → ℕ → Type 0} (cap : ℕ) (took packets : List ℕ) (old new : Outside) → Exchange old new took g w Q →
+    old.rest ≡ Some packets → IsReadOut cap new took → ReadsAll took packets
+reads_all cap took packets old new since if_known (inl bad) =
+    let left = left_after old.rest new.rest took packets since.rest if_known in
     subst (ReadsAll took) (sym left.are) (reads_bad took left.rest bad)
-reads_all cap took packets old new since told (inr ended) =
-    subst (ReadsAll took) (end_told packets since told ended.0) (record { whole = refl; framing_is = refl })
+reads_all cap took packets old new since if_known (inr ended) =
+    subst (ReadsAll took) (end_known packets since if_known ended.0) (record { whole = refl; framing_is = refl })

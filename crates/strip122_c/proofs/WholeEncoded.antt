@@ -1,9 +1,10 @@
 -- The result of a run of the encoder over the whole raster.
-use Rattle.std.proofs.Common.{◌≡◌, ◌≤◌, ◌<◌, ◌+◌, ◌*◌, ◌∙◌, ℕ, ℤ, Bool, List, [], ◌++◌, length, take, refl, sym, ap, subst, arith, inl, inr, length-append, IsTrue, Option, Some, None, Result, Ok, Err, div-mul-le_self, mul-le-mul_right}
+use Rattle.std.proofs.Common.{◌≡◌, ◌≤◌, ◌<◌, ◌+◌, ◌*◌, ◌∙◌, ℕ, ℤ, Bool, List, [], ◌++◌, length, take, refl, sym, ap, subst, arith, inl, inr, length-append}
+use Rattle.std.proofs.Common.{IsTrue, Option, Some, None, Result, Ok, Err, div-mul-le_self, mul-le-mul_right}
 use Rattle.std.proofs.lemmas.Bool.{cases_lt}
 use Rattle.std.proofs.lemmas.List.{take-append-le, length-take-le}
 use Rattle.port_122.specs.Outside.{Outside}
-use Rattle.port_122.proofs.Told.{end_told, given_told}
+use Rattle.port_122.proofs.IfKnown.{end_known, given_known}
 use Rattle.base_122.specs.Ranges.{IsInRange, refusal}
 use Rattle.base_122.specs.declared.field.Field.{Field}
 use Rattle.base_122.specs.declared.field.OutOfRange.{OutOfRange}
@@ -30,15 +31,17 @@ use Rattle.segment_walk.proofs.TextReads.{left_after}
 -- the field that a check names
 pub field_named : (o : Option Field) (out : OutOfRange) → refusal o ≡ Err out → o ≡ Some out.field
 field_named None out e = absurd cc
-field_named (Some field) out e = let same : Err (record { field = field }) ≡ Err out = e in ap Some (ap (λ (out : OutOfRange). out.field) (let within : record { field = field } ≡ out = cc in within))
+field_named (Some field) out e = let same : Err (record { field = field }) ≡ Err out =
+    e in ap Some (ap (λ (out : OutOfRange). out.field) (let within : record { field = field } ≡ out = cc in within))
 
 -- ---- the raster
 
-short_raster : (s : Setting) (raster : List ℕ) (old new : Outside) (octets : ℕ) → IsAdmitted s → old.rest ≡ Some raster → EncodesImage s old new (Err (faults.Short octets)) →
+short_raster : (s : Setting) (raster : List ℕ) (old new : Outside) (octets : ℕ) → IsAdmitted s → old.rest ≡ Some raster →
+    EncodesImage s old new (Err (faults.Short octets)) →
     (length raster < raster_length s) × AllInRange s raster
 short_raster s raster old new octets admits rest run =
     let answer = run.answer in
-    let took : run.took ≡ raster = end_told raster run.since rest answer.2 in
+    let took : run.took ≡ raster = end_known raster run.since rest answer.2 in
     (subst (λ octets. length octets < raster_length s) took (own_lacks s (length run.took) admits answer.1), subst (AllInRange s) took answer.3)
 
 long_raster : (s : Setting) (raster : List ℕ) (old new : Outside) → IsAdmitted s → old.rest ≡ Some raster → EncodesImage s old new (Err faults.Long) →
@@ -46,10 +49,11 @@ long_raster : (s : Setting) (raster : List ℕ) (old new : Outside) → IsAdmitt
 long_raster s raster old new admits rest run =
     let answer = run.answer in
     let most = own_most s admits in
-    let front = left_after old.rest new.rest run.took raster run.since.rest rest in
+    let prefix = left_after old.rest new.rest run.took raster run.since.rest rest in
     let same : take (raster_length s) raster ≡ take (most_length s) run.took =
-    ap (take (raster_length s)) front.are ∙ take-append-le (raster_length s) run.took front.rest (omega (arith, answer.0, most)) ∙ ap (λ n. take n run.took) (sym most) in
-    let longer : raster_length s < length raster = omega (arith, ap length front.are, length-append run.took front.rest, answer.0, most) in (
+    ap (take (raster_length s)) prefix.are ∙ take-append-le (raster_length s) run.took prefix.rest (omega (arith, answer.0, most)) ∙ ap (λ n. take n run.took)
+    (sym most) in
+    let longer : raster_length s < length raster = omega (arith, ap length prefix.are, length-append run.took prefix.rest, answer.0, most) in (
       longer,
       record {
         height = own_height s admits;
@@ -66,7 +70,8 @@ whole_octets depth octets place whole =
     omega (arith, whole_before (pixel_size depth) place (whole_pixels depth octets) whole, div-mul-le_self (length octets) (pixel_size depth))
 
 -- the first value out of range of some octets is that of more octets
-bad_on : (depth : ℕ) (signed : Bool) (took rest : List ℕ) (place : ℕ) (value : ℤ) → IsFirstBad depth signed took place value → IsFirstBad depth signed (took ++ rest) place value
+bad_on : (depth : ℕ) (signed : Bool) (took rest : List ℕ) (place : ℕ) (value : ℤ) → IsFirstBad depth signed took place value →
+    IsFirstBad depth signed (took ++ rest) place value
 bad_on depth signed took rest place value bad =
     let whole = whole_octets depth took place bad.whole in
     let same : (k : ℕ) → k < place + 1 → pixel_at depth signed (took ++ rest) k ≡ pixel_at depth signed took k =
@@ -95,15 +100,15 @@ bad_pixel : (s : Setting) (raster : List ℕ) (old new : Outside) (row column : 
     EncodesImage s old new (Err (faults.BadPixel row column value)) → HasBadPixel s raster row column value
 bad_pixel s raster old new row column value admits rest run =
     let answer = run.answer in
-    let front = left_after old.rest new.rest run.took raster run.since.rest rest in
+    let prefix = left_after old.rest new.rest run.took raster run.since.rest rest in
     let bad = answer.1 in
     let place = row * s.width + column in
     let whole = whole_octets s.depth run.took place bad.first.whole in
     record {
       admitted = admits;
       inside = in_rows s.rows s.width (pixel_size s.depth) row column (size_some s.depth) (omega (arith, whole, answer.0, own_most s admits));
-      bad = subst (λ octets. FirstBad s octets row column value) (sym front.are)
-          (record { in_row = bad.in_row; first = bad_on s.depth s.signed run.took front.rest place value bad.first });
+      bad = subst (λ octets. FirstBad s octets row column value) (sym prefix.are)
+          (record { in_row = bad.in_row; first = bad_on s.depth s.signed run.took prefix.rest place value bad.first });
     }
 
 -- ---- the image
@@ -129,22 +134,24 @@ pub record HasEncoded (s : Setting) (raster : List ℕ) (new : Outside) (done : 
   pub done_for : DoneFor s s.rows (image_of s raster) done
   pub gave : (packets : List ℕ) → new.given ≡ Some packets → packets ≡ output s s.rows (image_of s raster)
 
-pub has_encoded : (s : Setting) (raster : List ℕ) (old new : Outside) (done : EncodeDone) → IsAdmitted s → IsTrue (is_book_sound s.book) → length s.weights.shifts ≡ 10 → old.rest ≡ Some raster → old.given ≡ Some [] →
+pub has_encoded : (s : Setting) (raster : List ℕ) (old new : Outside) (done : EncodeDone) → IsAdmitted s → IsTrue (is_book_sound s.book) →
+    length s.weights.shifts ≡ 10 → old.rest ≡ Some raster → old.given ≡ Some [] →
     EncodesImage s old new (Ok done) → HasEncoded s raster new done
 has_encoded s raster old new done admits sound ten rest none run =
     let answer = run.answer in
-    let took : run.took ≡ raster = end_told raster run.since rest answer.2 in
+    let took : run.took ≡ raster = end_known raster run.since rest answer.2 in
     let rows : answer.0 ≡ s.rows = only_height s answer.0 admits answer.1.height in
     let whole : TookRaster s s.rows raster = subst (λ rows. TookRaster s rows raster) rows (subst (TookRaster s answer.0) took answer.1) in
     record {
       took = whole;
       image = record { range = admits.range; height = (admits.height, inr refl); weights = ten; sound = sound; pixels = raster_pixels s raster whole };
       done_for = subst (λ rows. DoneFor s rows (image_of s raster) done) rows (subst (λ octets. DoneFor s answer.0 (image_of s octets) done) took answer.4);
-      gave = λ packets gives. given_told [] packets run.since none gives ∙ answer.3 ∙ ap (λ octets. output s answer.0 (image_of s octets)) took
+      gave = λ packets gives. given_known [] packets run.since none gives ∙ answer.3 ∙ ap (λ octets. output s answer.0 (image_of s octets)) took
           ∙ ap (λ rows. output s rows (image_of s raster)) rows;
     }
 
-pub refused : (s : Setting) (raster room : List ℕ) (old new : Outside) (refusal : EncodeRefusal) → IsAdmitted s → old.rest ≡ Some raster → HasRun s old new (Err refusal) → Encodes s raster room room (Err refusal)
+pub refused : (s : Setting) (raster room : List ℕ) (old new : Outside) (refusal : EncodeRefusal) → IsAdmitted s → old.rest ≡ Some raster →
+    HasRun s old new (Err refusal) → Encodes s raster room room (Err refusal)
 refused s raster room old new (Refused field) admits rest run = absurd run
 refused s raster room old new Short admits rest run = let short = short_raster s raster old new run.0 admits rest run.1 in (refl, (admits, short.0, short.1))
 refused s raster room old new Long admits rest run = let long = long_raster s raster old new admits rest run in (refl, (admits, long.0, long.1))
@@ -158,7 +165,8 @@ none_named : (s : Setting) (field : Field) → IsAdmitted s → first_refused s 
 none_named s field admits named = let none = none_refused s admits in let both : None ≡ Some field = sym none ∙ named in cc
 
 -- a raster that is whole and in range isn't refused
-pub accepts : (s : Setting) (raster old new : List ℕ) (result : Result EncodeDone EncodeRefusal) → Encodes s raster old new result → IsInRange s → TookRaster s s.rows raster → Accepts result
+pub accepts : (s : Setting) (raster old new : List ℕ) (result : Result EncodeDone EncodeRefusal) → Encodes s raster old new result → IsInRange s →
+    TookRaster s s.rows raster → Accepts result
 accepts s raster old new (Ok done) encodes range took = tt
 accepts s raster old new (Err (Refused field)) encodes range took = absurd (none_named s field (record { range = range; height = took.height.0 }) encodes.1)
 accepts s raster old new (Err Short) encodes range took = absurd (omega (arith, encodes.1.1, took.whole))

@@ -1,7 +1,7 @@
 -- The result of a list of the images of all packets.
 use Rattle.std.proofs.Common.{◌≡◌, ◌≤◌, ◌∙◌, ℕ, List, [], ◌++◌, length, refl, sym, ap, subst, Some, Result, Ok, Err}
 use Rattle.port_122.specs.Outside.{Outside}
-use Rattle.port_122.proofs.Told.{given_told}
+use Rattle.port_122.proofs.IfKnown.{given_known}
 use Rattle.packet_defs.specs.Streams.{framing}
 use Rattle.image_info.specs.declared.info.InfoDone.{InfoDone}
 use Rattle.image_info.specs.declared.info.InfoWish.{InfoWish}
@@ -21,7 +21,8 @@ pub record HasInfo (wish : InfoWish) (packets lines : List ℕ) (done : InfoDone
   pub images_are : done.images ≡ image_count wish.apid packets
   pub framing_is : done.framing ≡ framing packets
 
-pub has_info : (wish : InfoWish) (packets given : List ℕ) (old new : Outside) (done : InfoDone) → old.rest ≡ Some packets → old.given ≡ Some [] → new.given ≡ Some given →
+pub has_info : (wish : InfoWish) (packets given : List ℕ) (old new : Outside) (done : InfoDone) → old.rest ≡ Some packets → old.given ≡ Some [] →
+    new.given ≡ Some given →
     Informs wish old new (Ok done) → HasInfo wish packets given done
 has_info wish packets given old new done rest none gives run =
     let is = run.answer in
@@ -29,7 +30,7 @@ has_info wish packets given old new done rest none gives run =
     let count : image_count wish.apid run.took ≡ image_count wish.apid packets = ap (λ all. length (images wish.apid all)) same.whole in
     record {
       are = record {
-        are = given_told [] given run.since none gives ∙ is.lines ∙ ap (λ all. lines_of (entries wish.apid all)) same.whole;
+        are = given_known [] given run.since none gives ∙ is.lines ∙ ap (λ all. lines_of (entries wish.apid all)) same.whole;
         few = subst (λ n. n ≤ most_images) (is.images_are ∙ count) is.few;
         to_end = read_to_end wish.octets run.took packets old new run.since rest run.within is.out;
       };
@@ -37,7 +38,8 @@ has_info wish packets given old new done rest none gives run =
       framing_is = is.framing_is ∙ same.framing_is;
     }
 
-pub refused : (wish : InfoWish) (packets room : List ℕ) (old new : Outside) (refusal : InfoRefusal) → old.rest ≡ Some packets → HasRun wish old new (Err refusal) → Lists wish packets room room (Err refusal)
+pub refused : (wish : InfoWish) (packets room : List ℕ) (old new : Outside) (refusal : InfoRefusal) → old.rest ≡ Some packets →
+    HasRun wish old new (Err refusal) → Lists wish packets room room (Err refusal)
 refused wish packets room old new (SmallRoom octets) rest run = absurd run
 refused wish packets room old new LongInput rest run =
     let left = left_after old.rest new.rest run.took packets run.since.rest rest in (

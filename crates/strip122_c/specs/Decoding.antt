@@ -95,19 +95,23 @@ pub record Reports (ended : Result Made DecodeRefusal) (places ranges : List Str
 
 -- Packets were read with a wish into a room that was `old`, or refused, and it is reported how that ended. If the product is the picture,
 -- the packets of an image give the image.
-pub record ReportsDecoding (product : Product) (wish : DecodeWish) (packets old new : List ℕ) (places ranges : List Strip122Range) (report : Strip122Decoded) (answer : ℕ) : Type 0 where
+pub record ReportsDecoding (product : Product) (wish : DecodeWish) (packets old new : List ℕ) (places ranges : List Strip122Range)
+    (report : Strip122Decoded) (answer : ℕ) : Type 0 where
   pub ended : Result Made DecodeRefusal
   pub makes : Makes product wish packets old new ended
   pub back : product ≡ Picture → BringsBack wish packets new ended
   pub reports : Reports ended places ranges report answer
 
 -- Packets were read with the wish that a structure gives. A structure that gives none leaves the room and the places unchanged.
-abbrev pub DecodesFor : Product → Result DecodeWish SettingRefusal → (packets old new : List ℕ) → (places ranges : List Strip122Range) → Strip122Decoded → (answer : ℕ) → Type 0
+abbrev pub DecodesFor : Product → Result DecodeWish SettingRefusal → (packets old new : List ℕ) → (places ranges : List Strip122Range) → Strip122Decoded →
+    (answer : ℕ) → Type 0
 DecodesFor product (Ok wish) packets old new places ranges report answer = ReportsDecoding product wish packets old new places ranges report answer
-DecodesFor product (Err refusal) packets old new places ranges report answer = (new ≡ old) × (ranges ≡ places) × (report ≡ nothing) × (answer ≡ refusal_answer refusal)
+DecodesFor product (Err refusal) packets old new places ranges report answer =
+    (new ≡ old) × (ranges ≡ places) × (report ≡ nothing) × (answer ≡ refusal_answer refusal)
 
 -- If the report's first field is not its size, the room, the places and the report are as they were.
-pub record DecodesInto (product : Product) (c : Strip122Wish) (packets old new : List ℕ) (places ranges : List Strip122Range) (before report : Strip122Decoded) (answer : ℕ) : Type 0 where
+pub record DecodesInto (product : Product) (c : Strip122Wish) (packets old new : List ℕ) (places ranges : List Strip122Range)
+    (before report : Strip122Decoded) (answer : ℕ) : Type 0 where
   pub wrong : before.size ≢ decoded_size → (new ≡ old) × (ranges ≡ places) × (report ≡ before) × (answer ≡ 13)
   pub done : before.size ≡ decoded_size → DecodesFor product (wish_in c) packets old new places ranges report answer
 

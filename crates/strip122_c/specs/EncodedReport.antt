@@ -1,7 +1,8 @@
 -- A report of nothing, and the numbers of fields. This project's own.
 use Rattle.std.specs.Prelude.{ℕ, pos}
 use Rattle.base_122.specs.declared.field.Field.{Field}
-use Rattle.base_122.specs.declared.field.Field.TheVariants.{Width, Rows, Depth, Segment, Limit, Fill, Word, Stop, Weights, Apid, Image, Packet, Pixels, Octets, Total, Cameras}
+use Rattle.base_122.specs.declared.field.Field.TheVariants.{Width, Rows, Depth, Segment, Limit, Fill, Word, Stop, Weights, Apid, Image, Packet, Pixels}
+use Rattle.base_122.specs.declared.field.Field.TheVariants.{Octets, Total, Cameras}
 use Rattle.strip122_c.specs.declared.encoded.Strip122Encoded.{Strip122Encoded}
 
 -- the fields from 1 on, in the order of `Field`; a setting as C has it has none of `Pixels`, `Octets` and `Cameras`

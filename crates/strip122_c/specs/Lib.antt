@@ -5,7 +5,7 @@ pub mod Runs
 pub mod WholeDecoding
 pub mod Measuring
 pub mod WholeListing
-pub mod ComingBack
+pub mod Returned
 pub mod Excluding
 pub mod Settings
 pub mod Wishes

@@ -14,7 +14,10 @@ use Rattle.stream_defs.specs.Begun.{HasFewPixels, begun_in, rows_reached}
 use Rattle.strip122_c.specs.declared.decode.DecodeRefusal.{DecodeRefusal}
 use Rattle.strip122_c.specs.declared.decode.DecodeRefusal.TheVariants.{NoSegment, SmallRoom, TooManyPixels, LongInput, Memory}
 use Rattle.strip122_c.specs.declared.measure.Measured.{Measured}
-use Rattle.strip122_c.specs.WholeDecoding.{HasGeometry, HasNoSegment, HasTooMany, IsAllRead, TellsFirst}
+use Rattle.strip122_c.specs.declared.product.Product.{Product}
+use Rattle.strip122_c.specs.declared.product.Product.TheVariants.{Rects}
+use Rattle.strip122_c.specs.Products.{product_length}
+use Rattle.strip122_c.specs.WholeDecoding.{HasGeometry, HasNoSegment, HasTooMany, IsAllRead, ReportsFirst}
 
 -- ---- a step
 
@@ -70,8 +73,8 @@ pub record HasSize (wish : DecodeWish) (packets : List ℕ) (m : Measured) : Typ
   pub are : packets ≡ took ++ rest
   pub within : length took ≤ wish.octets
   pub few : HasFewPixels wish.pixels wish.apid took
-  pub known : TellsFirst wish.apid took m.geometry ⊎ IsAllRead wish packets
-  pub tells : HasGeometry wish.apid packets m.geometry
+  pub known : ReportsFirst wish.apid took m.geometry ⊎ IsAllRead wish packets
+  pub reports : HasGeometry wish.apid packets m.geometry
   pub begun : m.geometry.rows ≡ 0 → m.ended / block_count m.geometry.width ≡ begun_in wish.apid packets
   pub measurable : IsMeasurable m
 
@@ -84,7 +87,7 @@ pub record HasLong (wish : DecodeWish) (packets : List ℕ) : Type 0 where
   pub long : length took ≡ wish.octets
   pub readable : has_bad_version (left_over took) ≡ false
   pub few : HasFewPixels wish.pixels wish.apid took
-  pub open_first : (g : Geometry) → TellsFirst wish.apid took g → ⊥
+  pub open_first : (g : Geometry) → ReportsFirst wish.apid took g → ⊥
 
 -- the size, or the cause of a refusal that doesn't depend on it
 abbrev pub IsMeasured : DecodeWish → (packets : List ℕ) → Result Measured DecodeRefusal → Type 0
@@ -98,3 +101,11 @@ IsMeasured wish packets (Err (SmallRoom g rows octets)) = ⊥
 -- the same for the packets that a port has
 abbrev pub FindsSize : DecodeWish → Outside → Result Measured DecodeRefusal → Type 0
 FindsSize wish old result = (packets : List ℕ) → old.rest ≡ Some packets → IsMeasured wish packets result
+
+-- ---- the octets that are kept beside the room
+
+-- none for lists, whose length is not known before, and otherwise the whole raster of the size that the headers report
+abbrev pub IsKept : Product → DecodeWish → (packets : List ℕ) → (kept : Option ℕ) → Type 0
+IsKept Rects wish packets kept = kept ≡ None
+IsKept product wish packets kept =
+    (m : Measured) × HasSize wish packets m × (kept ≡ Some (product_length product m.geometry (m.ended / block_count m.geometry.width)))

@@ -13,13 +13,13 @@ use Rattle.strip122_c.specs.declared.product.Product.{Product}
 use Rattle.strip122_c.specs.declared.product.Product.TheVariants.{Picture, Look, Rects}
 
 -- the octets that are made of received segments, if the kept heads reach n block rows
-abbrev pub octets_of : Product → Geometry → Numbers → (n : ℕ) → List ℕ
-octets_of Picture g received n = picture_octets g received n
-octets_of Look g received n = look_octets g received n
-octets_of Rects g received n = rect_lines (rects g received n)
+abbrev pub product_octets : Product → Geometry → Numbers → (n : ℕ) → List ℕ
+product_octets Picture g received n = picture_octets g received n
+product_octets Look g received n = look_octets g received n
+product_octets Rects g received n = rect_lines (rects g received n)
 
 -- the number of octets of a raster, which a picture and a look are
-abbrev pub raster_length : Product → Geometry → (n : ℕ) → ℕ
-raster_length Picture g n = height g n * (g.width * pixel_size g.depth)
-raster_length Look g n = block_rows g n * (block_count g.width * pixel_size g.depth)
-raster_length Rects g n = 0
+abbrev pub product_length : Product → Geometry → (n : ℕ) → ℕ
+product_length Picture g n = height g n * (g.width * pixel_size g.depth)
+product_length Look g n = block_rows g n * (block_count g.width * pixel_size g.depth)
+product_length Rects g n = 0

@@ -45,7 +45,14 @@ row_answer (Err (rows.BadPixel column value)) = 5
 
 -- the report on the end of an image, by the progress before it
 abbrev pub end_report : Progress → Result Ended EndRefusal → Strip122Encoded
-end_report p (Ok ended) = record nothing { octets = ended.octets; all = ended.done.octets; packets = ended.done.packets; segments = ended.done.segments; rows = p.rows }
+end_report p (Ok ended) = record nothing {
+  octets = ended.octets;
+  all = ended.done.octets;
+  packets = ended.done.packets;
+  segments =
+      ended.done.segments;
+  rows = p.rows;
+}
 end_report p (Err ends.Unfinished) = progress_report p
 end_report p (Err (ends.SmallRoom octets)) = record (progress_report p) { octets = octets }
 

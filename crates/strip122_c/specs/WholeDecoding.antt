@@ -16,7 +16,7 @@ use Rattle.segment_walk.specs.Images.{IsImageFor}
 use Rattle.segment_walk.specs.Runs.{Numbers, ReportsMany, holds_after}
 use Rattle.segment_walk.specs.Walks.{IsDamageOf}
 use Rattle.strip_decoder.specs.RoundTrip.{GivesBack}
-use Rattle.strip122_c.specs.Products.{octets_of, raster_length}
+use Rattle.strip122_c.specs.Products.{product_octets, product_length}
 use Rattle.strip122_c.specs.declared.decode.DecodeRefusal.{DecodeRefusal}
 use Rattle.strip122_c.specs.declared.decode.DecodeRefusal.TheVariants.{NoSegment, SmallRoom, TooManyPixels, LongInput, Memory}
 use Rattle.strip122_c.specs.declared.decode.Made.{Made}
@@ -42,7 +42,7 @@ pub record IsReadToEnd (cap : ℕ) (packets : List ℕ) : Type 0 where
 -- be read on, and the damage of the picture. It has all rows of the image, or if no header reports the height those that the block rows
 -- determine which the kept headers reach.
 pub record IsMade (product : Product) (wish : DecodeWish) (packets octets : List ℕ) (done : DecodeDone) : Type 0 where
-  pub tells : HasGeometry wish.apid packets done.geometry
+  pub reports : HasGeometry wish.apid packets done.geometry
   pub few : HasFewPixels wish.pixels wish.apid packets
   pub to_end : IsReadToEnd wish.octets packets
   pub framing_is : done.framing ≡ framing packets
@@ -51,7 +51,7 @@ pub record IsMade (product : Product) (wish : DecodeWish) (packets octets : List
   pub rows : done.damage.rows ≡ done.written
   pub received : Numbers
   pub received_are : ReceivedIn (holds_after wish.book) wish.apid packets received
-  pub octets_are : octets ≡ octets_of product done.geometry received (begun_in wish.apid packets)
+  pub octets_are : octets ≡ product_octets product done.geometry received (begun_in wish.apid packets)
   pub damage : IsDamageOf done.geometry received (begun_in wish.apid packets) done.damage
 
 -- the room begins with them, and the rest of the room is unchanged
@@ -74,8 +74,8 @@ pub record IsFirstHead (apid : ℕ) (packets : List (List ℕ)) (g : Geometry) :
   pub geometry : (after_all apid fresh (before ++ packet ∷ [])).geometry ≡ Some g
 
 -- and the height with it
-abbrev pub TellsFirst : (apid : ℕ) → List ℕ → Geometry → Type 0
-TellsFirst apid octets g = IsFirstHead apid (whole_packets octets) g × (g.rows ≢ 0)
+abbrev pub ReportsFirst : (apid : ℕ) → List ℕ → Geometry → Type 0
+ReportsFirst apid octets g = IsFirstHead apid (whole_packets octets) g × (g.rows ≢ 0)
 
 -- all packets are read, and they don't report too many pixels
 pub record IsAllRead (wish : DecodeWish) (packets : List ℕ) : Type 0 where
@@ -84,7 +84,7 @@ pub record IsAllRead (wish : DecodeWish) (packets : List ℕ) : Type 0 where
 
 -- The size of what is made is known: it is a raster, and the first header reports the height, or all packets are read.
 abbrev pub IsKnownBy : Product → DecodeWish → (took packets : List ℕ) → Geometry → Type 0
-IsKnownBy product wish took packets g = ((product ≢ Rects) × TellsFirst wish.apid took g) ⊎ IsAllRead wish packets
+IsKnownBy product wish took packets g = ((product ≢ Rects) × ReportsFirst wish.apid took g) ⊎ IsAllRead wish packets
 
 -- The room has fewer octets than are made, which have this number, of a picture of this geometry and this number of rows. The packets are
 -- read up to where the number is known, and don't report too many pixels there.
@@ -95,12 +95,12 @@ pub record HasSmallRoom (product : Product) (wish : DecodeWish) (packets : List 
   pub within : length took ≤ wish.octets
   pub few : HasFewPixels wish.pixels wish.apid took
   pub known : IsKnownBy product wish took packets g
-  pub tells : HasGeometry wish.apid packets g
+  pub reports : HasGeometry wish.apid packets g
   pub written : rows ≡ height g (begun_in wish.apid packets)
   pub most : rows ≤ rows_range.most
   pub received : Numbers
   pub received_are : ReceivedIn (holds_after wish.book) wish.apid packets received
-  pub octets_are : octets ≡ length (octets_of product g received (begun_in wish.apid packets))
+  pub octets_are : octets ≡ length (product_octets product g received (begun_in wish.apid packets))
   pub small : room < octets
 
 -- no packet that is kept begins a segment
@@ -118,7 +118,7 @@ pub record HasTooMany (wish : DecodeWish) (packets : List ℕ) (pixels : ℕ) : 
 
 -- the first header of these octets doesn't report a raster that doesn't fit the room
 abbrev pub FitsRoom : Product → DecodeWish → List ℕ → (room : ℕ) → Type 0
-FitsRoom product wish octets room = (g : Geometry) → product ≢ Rects → TellsFirst wish.apid octets g → raster_length product g 0 ≤ room
+FitsRoom product wish octets room = (g : Geometry) → product ≢ Rects → ReportsFirst wish.apid octets g → product_length product g 0 ≤ room
 
 -- There are at least as many octets as are read. Up to there they can be read on, don't report too many pixels, and don't begin with a
 -- raster that doesn't fit the room.
@@ -159,4 +159,5 @@ BringsImage wish s rows x new (Err NoSegment) = ⊥
 -- the same for each image that was written with the wish's code book
 abbrev pub BringsBack : DecodeWish → (packets new : List ℕ) → Result Made DecodeRefusal → Type 0
 BringsBack wish packets new result =
-    (s : Setting) (rows : ℕ) (x : ℕ → ℕ → ℤ) → wish.apid ≡ s.apid → wish.book ≡ s.book → packets ≡ output s rows x → IsImageFor s rows x → BringsImage wish s rows x new result
+    (s : Setting) (rows : ℕ) (x : ℕ → ℕ → ℤ) → wish.apid ≡ s.apid → wish.book ≡ s.book → packets ≡ output s rows x → IsImageFor s rows x →
+    BringsImage wish s rows x new result

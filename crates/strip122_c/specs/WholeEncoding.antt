@@ -61,7 +61,8 @@ IsRefused s raster room (OutOfRange field) = first_refused s ≡ Some field
 IsRefused s raster room Short = IsAdmitted s × (length raster < raster_length s) × AllInRange s raster
 IsRefused s raster room Long = IsAdmitted s × (raster_length s < length raster) × TookRaster s s.rows (take (raster_length s) raster)
 IsRefused s raster room (BadPixel row column value) = HasBadPixel s raster row column value
-IsRefused s raster room (SmallRoom octets) = IsAdmitted s × TookRaster s s.rows raster × (octets ≡ length (output s s.rows (image_of s raster))) × (room < octets)
+IsRefused s raster room (SmallRoom octets) = IsAdmitted s × TookRaster s s.rows raster × (octets ≡ length (output s s.rows (image_of s raster)))
+    × (room < octets)
 IsRefused s raster room Memory = ⊤
 
 -- The result and its cause. A refusal leaves the room unchanged.

@@ -1,18 +1,19 @@
 // Makes a picture, a look or the lines of rectangles of packets.
-ghost use Rattle.std.specs.Prelude.{◌≡◌, ◌≢◌, IsTrue, MatchResult};
+ghost use Rattle.std.specs.Prelude.{◌≡◌, ◌≢◌, IfOk, IsTrue, MatchResult};
 ghost use Rattle.plane_defs.specs.Codes.{is_book_sound};
 ghost use Rattle.strip122_c.specs.Lent.{outside_of};
 ghost use Rattle.strip122_c.specs.declared.product.Product.TheVariants.{Picture, Look, Rects};
+ghost use Rattle.strip122_c.specs.Measuring.{IsKept};
 ghost use Rattle.strip122_c.specs.Runs.{HasRun, RunsAs};
 ghost use Rattle.strip122_c.specs.WholeDecoding.{FitsRoom, IsRefused, Makes, BringsBack};
 
-use crate::measure::{measure, raster_length, rows_of};
+use crate::measure::{measure, product_length, rows_of};
 use crate::port::LentPort;
 use crate::product::Product;
 use base_122::{DecodeWish, Geometry};
 use damage_rects::list_rects;
 use quick_look::look_packets;
-use segment_walk::received_is_told;
+use segment_walk::received_is_known;
 use std::alloc::Global;
 use stream_defs::heights_are_known;
 use strip_decoder::{DecodeDone, DecodeFault, decode_packets, round_trip};
@@ -65,7 +66,7 @@ pub fn make_whole(
     ensures back { product ≡ Picture → BringsBack wish.now packets.now room.new result }
 {
     round_trip();
-    received_is_told();
+    received_is_known();
     heights_are_known();
     put_product(alloc, product, wish, packets, room)
 }
@@ -81,7 +82,7 @@ fn put_product(
     requires book { IsTrue (is_book_sound wish.now.book) }
     ensures { Makes product wish.now packets.now room.old room.new result }
 {
-    received_is_told();
+    received_is_known();
     let kept = match octets_kept(alloc, product, wish, packets, room.len()) {
         Ok(kept) => kept,
         Err(refusal) => return Err(refusal),
@@ -109,8 +110,8 @@ fn put_product(
     Ok(Made { done, octets })
 }
 
-// Returns the number of octets for which memory is needed in addition to the room, or none if it is not known before. Refuses a picture or a
-// look that doesn't fit the room.
+// Returns the number of octets for which memory is needed in addition to the room: those of the raster of a picture or a look, and no number
+// for lists, whose length is not known before. Refuses a picture or a look that doesn't fit the room.
 fn octets_kept(
     alloc: Global,
     product: Product,
@@ -118,7 +119,8 @@ fn octets_kept(
     packets: &[u8],
     room: usize,
 ) -> Result<Option<usize>, DecodeRefusal>
-    ensures { MatchResult result (λ _. FitsRoom product wish.now packets.now room) (IsRefused product wish.now packets.now room) }
+    ensures fits { MatchResult result (λ _. FitsRoom product wish.now packets.now room) (IsRefused product wish.now packets.now room) }
+    ensures kept { IfOk result (IsKept product wish.now packets.now) }
 {
     match product {
         Product::Rects => Ok(None),
@@ -135,14 +137,15 @@ fn raster_kept(
     room: usize,
 ) -> Result<Option<usize>, DecodeRefusal>
     requires raster { product ≢ Rects }
-    ensures { MatchResult result (λ _. FitsRoom product wish.now packets.now room) (IsRefused product wish.now packets.now room) }
+    ensures fits { MatchResult result (λ _. FitsRoom product wish.now packets.now room) (IsRefused product wish.now packets.now room) }
+    ensures kept { IfOk result (IsKept product wish.now packets.now) }
 {
-    received_is_told();
+    received_is_known();
     let measured = match measure(alloc, wish, packets) {
         Ok(measured) => measured,
         Err(refusal) => return Err(refusal),
     };
-    let length = raster_length(product, &measured);
+    let length = product_length(product, &measured);
     if length > room {
         return Err(DecodeRefusal::SmallRoom {
             geometry: measured.geometry,

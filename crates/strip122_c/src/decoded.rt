@@ -82,7 +82,8 @@ pub(crate) fn report_of(ended: &Result<Made, DecodeRefusal>, ranges: u64) -> Str
 
 // Returns the report on what was made.
 fn made_report(made: &Made, ranges: u64) -> Strip122Decoded
-    ensures { result ≡ record (framing_report (geometry_report made.now.done.geometry made.now.done.written made.now.octets) made.now.done.framing) { ranges = ranges } }
+    ensures { result ≡ record (framing_report (geometry_report made.now.done.geometry made.now.done.written made.now.octets) made.now.done.framing)
+        { ranges = ranges } }
 {
     let done = &made.done;
     let mut report = geometry_report(&done.geometry, done.written, made.octets);

@@ -1,5 +1,8 @@
 //! The coder for C: the encoder row by row, in memory that a caller lends from call to call, and whole images, a raster to its packets and
 //! back (docs/c.md; c/strip122.h has its declarations for C).
+//!
+//! Layer: the program and the library for C. It uses `base_122`, `port_122`, `raster_rows`, `plane_defs`, `packet_defs`, `stream_defs`,
+//! `rect_defs` and 11 more.
 #![tactic(auto)]
 
 mod decode;
@@ -45,7 +48,7 @@ pub use decoded::Strip122Decoded;
 pub use encoded::Strip122Encoded;
 pub use encoder::Strip122Encoder;
 use info::list_into;
-pub use laws::{causes_exclude, rasters_come_back};
+pub use laws::{causes_exclude, rasters_are_returned};
 pub use listed::Strip122Listed;
 use product::Product;
 pub use ranges::Strip122Range;

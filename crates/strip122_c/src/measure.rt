@@ -7,7 +7,7 @@ ghost use Rattle.stream_defs.specs.Begun.{height, block_rows, rows_reached};
 ghost use Rattle.strip122_c.specs.Lent.{outside_of};
 ghost use Rattle.strip122_c.specs.declared.product.Product.TheVariants.{Rects};
 ghost use Rattle.strip122_c.specs.Measuring.{FindsHead, FindsSize, IsMeasured, IsMeasurable};
-ghost use Rattle.strip122_c.specs.Products.{raster_length};
+ghost use Rattle.strip122_c.specs.Products.{product_length};
 ghost use Rattle.packet_assembly.specs.Assembling.{unread_assembly};
 
 use crate::decode::DecodeRefusal;
@@ -89,7 +89,7 @@ fn next_head(
         return Err(DecodeRefusal::NoSegment);
     };
     let ended = u64::from(start.ancillary.first) + u64::from(start.head.blocks);
-    let pixels = pixels_reached(&geometry, ended);
+    let pixels = least_pixels(&geometry, ended);
     if pixels > most {
         return Err(DecodeRefusal::TooManyPixels { pixels });
     }
@@ -97,7 +97,7 @@ fn next_head(
 }
 
 // Returns the least number of pixels of an image that has the blocks before this one, or that of the image if its height is known.
-fn pixels_reached(geometry: &Geometry, ended: u64) -> u64
+fn least_pixels(geometry: &Geometry, ended: u64) -> u64
     requires range { IsGeometryInRange geometry.now }
     requires few { ended ≤ 2 ^ 33 }
     ensures { result ≡ geometry.now.width * rows_reached geometry.now ended }
@@ -144,15 +144,15 @@ fn block_rows_of(measured: &Measured) -> u32
 }
 
 /// Returns the number of octets of a picture or a look.
-pub(crate) fn raster_length(product: Product, measured: &Measured) -> usize
+pub(crate) fn product_length(product: Product, measured: &Measured) -> usize
     requires raster { product ≢ Rects }
     requires measurable { IsMeasurable measured.now }
-    ensures { result ≡ raster_length product measured.now.geometry (measured.now.ended / block_count measured.now.geometry.width) }
+    ensures { result ≡ product_length product measured.now.geometry (measured.now.ended / block_count measured.now.geometry.width) }
 {
     let width = measured.geometry.width;
     match product {
-        Product::Picture => octets_of(&measured.geometry, rows_of(measured), width),
-        Product::Look => octets_of(
+        Product::Picture => raster_size(&measured.geometry, rows_of(measured), width),
+        Product::Look => raster_size(
             &measured.geometry,
             block_rows_of(measured),
             width.div_ceil(8),
@@ -162,7 +162,7 @@ pub(crate) fn raster_length(product: Product, measured: &Measured) -> usize
 }
 
 // Returns the number of octets of a raster of this size (docs/formats.md, "Raster and made image").
-fn octets_of(geometry: &Geometry, rows: u32, width: u32) -> usize
+fn raster_size(geometry: &Geometry, rows: u32, width: u32) -> usize
     requires rows { rows ≤ rows_range.most }
     requires width { width ≤ 1048575 }
     ensures { result ≡ rows * (width * pixel_size geometry.now.depth) }

@@ -1,5 +1,6 @@
 -- The end of a run: the rest of the packets, and the end of the input.
-use Rattle.std.proofs.Common.{◌≡◌, ◌≢◌, ◌≤◌, ◌+◌, ◌*◌, inl, inr, ℕ, ◌-◌, ◌<◌, ℤ, true, false, List, [], ◌∷◌, ◌++◌, length, take, refl, sym, ap, ◌∙◌, subst, arith, length-append, Ok, Err, append-nil}
+use Rattle.std.proofs.Common.{◌≡◌, ◌≢◌, ◌≤◌, ◌+◌, ◌*◌, inl, inr, ℕ, ◌-◌, ◌<◌, ℤ, true, false, List, [], ◌∷◌, ◌++◌, length, take, refl, sym, ap, ◌∙◌, subst}
+use Rattle.std.proofs.Common.{arith, length-append, Ok, Err, append-nil}
 use Rattle.std.proofs.lemmas.Bool.{cases_lt}
 use Rattle.std.proofs.Math.Seq.{take-append_seam}
 use Rattle.std.proofs.lemmas.Bool.Decides.{nat_tests}
@@ -15,7 +16,7 @@ use Rattle.base_122.proofs.GeometryRanges.{in_range-sized}
 use Rattle.packet_defs.specs.Packets.{joined}
 use Rattle.raster_rows.specs.Ends.{SawEnd}
 use Rattle.stream_defs.specs.Output.{output, segments_of}
-use Rattle.stream_defs.specs.SettledImages.{front_packets}
+use Rattle.stream_defs.specs.SettledImages.{leading_packets}
 use Rattle.stream_defs.proofs.HeightLaws.{images_settle, settled_alike}
 use Rattle.stream_defs.proofs.ImageLaws.{blocks_whole}
 use Rattle.strip_coder.specs.declared.encode.EncodeDone.{EncodeDone}
@@ -25,48 +26,49 @@ use Rattle.strip_coder.specs.Plans.{tallest}
 use Rattle.strip_coder.specs.Rasters.{row_length, most_length, image_of, given_for}
 use Rattle.strip_coder.specs.Answers.{AllInRange, AsksInRange, TookRaster, TookRows, DoneFor, EncodesImage}
 use Rattle.strip_coder.specs.Steps.{RowIs, EndsImage, EndBreaks}
-use Rattle.strip_coder.specs.RowsIn.{HasCome, HasAll, LastStands}
+use Rattle.strip_coder.specs.RowsIn.{HasArrived, HasAll, LastIsValid}
 use Rattle.strip_coder.proofs.PlanLaws.{tall_height, tall_most, tall_or_open, known_tallest, known_height}
 use Rattle.strip_coder.proofs.RowsGiven.{given_all}
 use Rattle.strip_coder.proofs.RowsTakenLaws.{all_whole}
 use Rattle.strip_coder.proofs.RangeAsks.{end_asked}
-use Rattle.strip_coder.proofs.FrontsGiven.{broken_front, known_front, broke_off}
+use Rattle.strip_coder.proofs.PrefixesGiven.{broken_prefix, known_prefix, broke_off}
 
 module _ (s : Setting) (range : IsInRange s) (p q : Outside) (w : Work) (all : HasAll s p q w) where
-  come : HasCome s w.at.rows p q w
-  come = all.come
+  arrived : HasArrived s w.at.rows p q w
+  arrived = all.arrived
 
   some : 0 < w.at.rows
   some = let rows = all.height.0.0 in omega (arith, rows)
 
-  last : LastStands s w.at.rows come.took w.row.items
-  last = come.last some
+  last : LastIsValid s w.at.rows arrived.took w.row.items
+  last = arrived.last some
 
-  raster : TookRaster s w.at.rows come.took
-  raster = record { height = all.height; whole = come.whole; in_range = all_whole s w.at.rows come.took come.whole come.in_range }
+  raster : TookRaster s w.at.rows arrived.took
+  raster = record { height = all.height; whole = arrived.whole; in_range = all_whole s w.at.rows arrived.took arrived.whole arrived.in_range }
 
-  itself : SameWithin w.at.rows s.width (image_of s come.took) (image_of s come.took)
+  itself : SameWithin w.at.rows s.width (image_of s arrived.took) (image_of s arrived.took)
   itself = record { at = λ i j hi hj. refl }
 
   -- the row is the last row of each image with these rows
-  row_is : (y : ℕ → ℕ → ℤ) → SameWithin w.at.rows s.width (image_of s come.took) y → RowIs s y (w.at.rows - 1) w
+  row_is : (y : ℕ → ℕ → ℤ) → SameWithin w.at.rows s.width (image_of s arrived.took) y → RowIs s y (w.at.rows - 1) w
   row_is y same = record { at = λ j lt. last.same.at j lt ∙ same.at (w.at.rows - 1) j (omega (arith, some)) lt }
 
   most : w.at.rows ≤ tallest s
   most = tall_most s w.at.rows range all.height
 
   -- what is given is that of the image of exactly these rows
-  gave_is : joined (front_packets s (tallest s) (image_of s come.took) w.at.index) ≡ joined (front_packets s w.at.rows (image_of s come.took) w.at.index)
-  gave_is = grind (arith, nat_tests, tall_or_open, come, images_settle, tall_height, most, itself, settled_alike)
+  gave_is : joined (leading_packets s (tallest s) (image_of s arrived.took) w.at.index)
+      ≡ joined (leading_packets s w.at.rows (image_of s arrived.took) w.at.index)
+  gave_is = grind (arith, nat_tests, tall_or_open, arrived, images_settle, tall_height, most, itself, settled_alike)
 
-  so_far : Exchange p q come.took (joined (front_packets s w.at.rows (image_of s come.took) w.at.index)) [] (GivenBy (given_for s) come.took)
-  so_far = subst (λ g. Exchange p q come.took g [] (GivenBy (given_for s) come.took)) gave_is come.since
+  so_far : Exchange p q arrived.took (joined (leading_packets s w.at.rows (image_of s arrived.took) w.at.index)) [] (GivenBy (given_for s) arrived.took)
+  so_far = subst (λ g. Exchange p q arrived.took g [] (GivenBy (given_for s) arrived.took)) gave_is arrived.since
 
-  so_far_asks : Exchange p q come.took (joined (front_packets s w.at.rows (image_of s come.took) w.at.index)) [] (AsksInRange s come.took)
-  so_far_asks = subst (λ g. Exchange p q come.took g [] (AsksInRange s come.took)) gave_is come.asks
+  so_far_asks : Exchange p q arrived.took (joined (leading_packets s w.at.rows (image_of s arrived.took) w.at.index)) [] (AsksInRange s arrived.took)
+  so_far_asks = subst (λ g. Exchange p q arrived.took g [] (AsksInRange s arrived.took)) gave_is arrived.asks
 
-  rows_taken : TookRows s come.took w.at.rows
-  rows_taken = record { whole = come.whole; most = most; in_range = raster.in_range }
+  rows_taken : TookRows s arrived.took w.at.rows
+  rows_taken = record { whole = arrived.whole; most = most; in_range = raster.in_range }
 
   -- ---- a write of the rest failed
 
@@ -76,27 +78,30 @@ module _ (s : Setting) (range : IsInRange s) (p q : Outside) (w : Work) (all : H
       same_rows = known_height s w.at.rows known all.height
 
       few : w.at.index ≤ segments_of (sized s w.at.rows)
-      few = subst (λ n. w.at.index ≤ segments_of (sized s n)) (known_tallest s known ∙ same_rows) come.stands.taken.running.gathered.index
+      few = subst (λ n. w.at.index ≤ segments_of (sized s n)) (known_tallest s known ∙ same_rows) arrived.valid.taken.running.gathered.index
 
       -- what is given is that of each image with these rows
-      gave_same : (rows : ℕ) (y : ℕ → ℕ → ℤ) → IsHeight s rows → w.at.rows ≤ rows → SameWithin w.at.rows s.width (image_of s come.took) y →
-          joined (front_packets s w.at.rows (image_of s come.took) w.at.index) ≡ joined (front_packets s rows y w.at.index)
-      gave_same rows y other le same = grind (arith, nat_tests, come, same_rows, known_height, blocks_whole, in_range-sized)
+      gave_same : (rows : ℕ) (y : ℕ → ℕ → ℤ) → IsHeight s rows → w.at.rows ≤ rows → SameWithin w.at.rows s.width (image_of s arrived.took) y →
+          joined (leading_packets s w.at.rows (image_of s arrived.took) w.at.index) ≡ joined (leading_packets s rows y w.at.index)
+      gave_same rows y other le same = grind (arith, nat_tests, arrived, same_rows, known_height, blocks_whole, in_range-sized)
 
       known_breaks : EncodesImage s p r (Err WriteFault)
       known_breaks =
-          broke_off s come.took (joined (front_packets s w.at.rows (image_of s come.took) w.at.index)) w.at.rows w.at.index so_far so_far_asks rows_taken breaks.rose
-          (known_front s (image_of s come.took) w.at.rows w.at.index (total_blocks s.width w.at.rows) known same_rows few (λ y h. breaks.breaks y (come.stands.follows y h) (row_is y h)))
+          broke_off s arrived.took (joined (leading_packets s w.at.rows (image_of s arrived.took) w.at.index)) w.at.rows w.at.index so_far so_far_asks
+          rows_taken
+          breaks.rose
+          (known_prefix s (image_of s arrived.took) w.at.rows w.at.index (total_blocks s.width w.at.rows) known same_rows few
+          (λ y h. breaks.breaks y (arrived.valid.follows y h) (row_is y h)))
           gave_same
 
     open_breaks : s.rows ≡ 0 → EncodesImage s p r (Err WriteFault)
     open_breaks left_open =
-        let x = image_of s come.took in
-        let broke = breaks.breaks x (come.stands.follows x itself) (row_is x itself) in
-        let front = broken_front s w.at.rows {p = q} {q = r} x w.at.index (total_blocks s.width w.at.rows) broke in
+        let x = image_of s arrived.took in
+        let broke = breaks.breaks x (arrived.valid.follows x itself) (row_is x itself) in
+        let prefix = broken_prefix s w.at.rows {p = q} {q = r} x w.at.index (total_blocks s.width w.at.rows) broke in
         record {
-          took = come.took;
-          gave = joined (front_packets s w.at.rows x w.at.index) ++ broke.gave;
+          took = arrived.took;
+          gave = joined (leading_packets s w.at.rows x w.at.index) ++ broke.gave;
           since = since_out so_far broke.out;
           asks = since_out so_far_asks broke.out;
           answer = (
@@ -108,8 +113,8 @@ module _ (s : Setting) (range : IsInRange s) (p q : Outside) (w : Work) (all : H
                 left_open = left_open;
                 at_end = used_up_later q.rest r.rest broke.out.rest (all.ended left_open);
                 height = all.height;
-                some = front.0;
-                front = front.1;
+                some = prefix.0;
+                prefix = prefix.1;
               },
             ),
           );
@@ -121,26 +126,26 @@ module _ (s : Setting) (range : IsInRange s) (p q : Outside) (w : Work) (all : H
   -- ---- the rest was given
 
   module _ (r : Outside) (new : Work) (done : EncodeDone) (ends : EndsImage s w.at.rows q r w new done) where
-    all_given : Exchange p r come.took (output s w.at.rows (image_of s come.took)) [] (GivenBy (given_for s) come.took)
+    all_given : Exchange p r arrived.took (output s w.at.rows (image_of s arrived.took)) [] (GivenBy (given_for s) arrived.took)
     all_given =
-        let goes = ends.goes (image_of s come.took) (come.stands.follows (image_of s come.took) itself) (row_is (image_of s come.took) itself) in
-        subst (λ g. Exchange p r come.took g [] (GivenBy (given_for s) come.took)) goes.then_are (since_out so_far goes.out)
+        let goes = ends.goes (image_of s arrived.took) (arrived.valid.follows (image_of s arrived.took) itself) (row_is (image_of s arrived.took) itself) in
+        subst (λ g. Exchange p r arrived.took g [] (GivenBy (given_for s) arrived.took)) goes.then_are (since_out so_far goes.out)
 
-    all_asks : Exchange p r come.took (output s w.at.rows (image_of s come.took)) [] (AsksInRange s come.took)
+    all_asks : Exchange p r arrived.took (output s w.at.rows (image_of s arrived.took)) [] (AsksInRange s arrived.took)
     all_asks =
-        let goes = ends.goes (image_of s come.took) (come.stands.follows (image_of s come.took) itself) (row_is (image_of s come.took) itself) in
-        subst (λ g. Exchange p r come.took g [] (AsksInRange s come.took)) goes.then_are (since_out so_far_asks goes.out)
+        let goes = ends.goes (image_of s arrived.took) (arrived.valid.follows (image_of s arrived.took) itself) (row_is (image_of s arrived.took) itself) in
+        subst (λ g. Exchange p r arrived.took g [] (AsksInRange s arrived.took)) goes.then_are (since_out so_far_asks goes.out)
 
-    done_is : DoneFor s w.at.rows (image_of s come.took) done
-    done_is = ends.done (image_of s come.took) (come.stands.follows (image_of s come.took) itself) (row_is (image_of s come.took) itself)
+    done_is : DoneFor s w.at.rows (image_of s arrived.took) done
+    done_is = ends.done (image_of s arrived.took) (arrived.valid.follows (image_of s arrived.took) itself) (row_is (image_of s arrived.took) itself)
 
     -- the input ended before
     pub run_ended : s.rows ≡ 0 → EncodesImage s p r (Ok done)
     run_ended left_open =
-        let goes = ends.goes (image_of s come.took) (come.stands.follows (image_of s come.took) itself) (row_is (image_of s come.took) itself) in
+        let goes = ends.goes (image_of s arrived.took) (arrived.valid.follows (image_of s arrived.took) itself) (row_is (image_of s arrived.took) itself) in
         record {
-          took = come.took;
-          gave = output s w.at.rows (image_of s come.took);
+          took = arrived.took;
+          gave = output s w.at.rows (image_of s arrived.took);
           since = all_given;
           asks = all_asks;
           answer = (w.at.rows, raster, used_up_later q.rest r.rest goes.out.rest (all.ended left_open), refl, done_is);
@@ -150,61 +155,65 @@ module _ (s : Setting) (range : IsInRange s) (p q : Outside) (w : Work) (all : H
       tall : tallest s ≡ w.at.rows
       tall = known_tallest s known ∙ known_height s w.at.rows known all.height
 
-      longest : length come.took ≡ most_length s
-      longest = come.whole ∙ ap (λ n. n * row_length s) (sym tall)
+      longest : length arrived.took ≡ most_length s
+      longest = arrived.whole ∙ ap (λ n. n * row_length s) (sym tall)
 
-      all_so : (more : List ℕ) → given_for s (come.took ++ more) ≡ output s w.at.rows (image_of s come.took)
-      all_so more = grind (arith, nat_tests, known_height, given_all, come)
+      all_so : (more : List ℕ) → given_for s (arrived.took ++ more) ≡ output s w.at.rows (image_of s arrived.took)
+      all_so more = grind (arith, nat_tests, known_height, given_all, arrived)
 
       -- the end is read
       asked_end : {d : Outside} {more : List ℕ} → Exchange r d more [] [] AtStart →
-          Exchange p d (come.took ++ more) (output s w.at.rows (image_of s come.took)) [] (GivenBy (given_for s) (come.took ++ more))
+          Exchange p d (arrived.took ++ more) (output s w.at.rows (image_of s arrived.took)) [] (GivenBy (given_for s) (arrived.took ++ more))
       asked_end {more = more} read =
           since_prompt (given_for s) all_given read
           (λ i j most h.
           let e = all_so (take i more) in
           omega (arith, h.1, ap length e))
 
-      same_took : come.took ++ [] ≡ come.took
-      same_took = append-nil come.took
+      same_took : arrived.took ++ [] ≡ arrived.took
+      same_took = append-nil arrived.took
 
-      none_asks : {d : Outside} → Exchange r d [] [] [] AtStart → Exchange p d come.took (output s w.at.rows (image_of s come.took)) [] (AsksInRange s come.took)
+      none_asks : {d : Outside} → Exchange r d [] [] [] AtStart → Exchange p d arrived.took (output s w.at.rows (image_of s arrived.took)) []
+          (AsksInRange s arrived.took)
       none_asks {d = d} read =
-          subst (λ t. Exchange p d t (output s w.at.rows (image_of s come.took)) [] (AsksInRange s t)) same_took (end_asked s come.took raster.in_range all_asks read)
+          subst (λ t. Exchange p d t (output s w.at.rows (image_of s arrived.took)) [] (AsksInRange s t)) same_took
+          (end_asked s arrived.took raster.in_range all_asks read)
 
       pub run_done : {d : Outside} → SawEnd r d true → EncodesImage s p d (Ok done)
       run_done {d = d} end = record {
-        took = come.took;
-        gave = output s w.at.rows (image_of s come.took);
-        since = subst (λ t. Exchange p d t (output s w.at.rows (image_of s come.took)) [] (GivenBy (given_for s) t)) same_took (asked_end end.0);
+        took = arrived.took;
+        gave = output s w.at.rows (image_of s arrived.took);
+        since = subst (λ t. Exchange p d t (output s w.at.rows (image_of s arrived.took)) [] (GivenBy (given_for s) t)) same_took (asked_end end.0);
         asks = none_asks end.0;
         answer = (w.at.rows, raster, end.1, refl, done_is);
       }
 
       pub run_long : {d : Outside} → SawEnd r d false → EncodesImage s p d (Err Long)
       run_long end =
-          let front : take (most_length s) (come.took ++ end.0 ∷ []) ≡ come.took = subst (λ n. take n (come.took ++ end.0 ∷ []) ≡ come.took) longest (take-append_seam come.took (end.0 ∷ [])) in
+          let prefix : take (most_length s) (arrived.took ++ end.0 ∷ []) ≡ arrived.took =
+          subst (λ n. take n (arrived.took ++ end.0 ∷ []) ≡ arrived.took) longest (take-append_seam arrived.took (end.0 ∷ [])) in
           record {
-            took = come.took ++ end.0 ∷ [];
-            gave = output s w.at.rows (image_of s come.took);
+            took = arrived.took ++ end.0 ∷ [];
+            gave = output s w.at.rows (image_of s arrived.took);
             since = asked_end end.1;
-            asks = end_asked s come.took raster.in_range all_asks end.1;
+            asks = end_asked s arrived.took raster.in_range all_asks end.1;
             answer = (
-              length-append come.took (end.0 ∷ []) ∙ ap (λ n. n + 1) longest,
-              subst (AllInRange s) (sym front) raster.in_range,
+              length-append arrived.took (end.0 ∷ []) ∙ ap (λ n. n + 1) longest,
+              subst (AllInRange s) (sym prefix) raster.in_range,
               sym (all_so (end.0 ∷ [])),
-              λ k. ap (λ n. output s n (image_of s come.took)) (sym (known_height s w.at.rows known all.height)) ∙ ap (λ t. output s s.rows (image_of s t)) (sym front),
+              λ k. ap (λ n. output s n (image_of s arrived.took)) (sym (known_height s w.at.rows known all.height)) ∙ ap (λ t. output s s.rows (image_of s t))
+                  (sym prefix),
             );
           }
 
       pub run_unread : {d : Outside} → ReadFailed r d → EncodesImage s p d (Err ReadFault)
       run_unread {d = d} failed =
-          let stands : given_for s come.took ≡ output s w.at.rows (image_of s come.took) =
-          subst (λ t. given_for s t ≡ output s w.at.rows (image_of s come.took)) same_took (all_so []) in
+          let valid : given_for s arrived.took ≡ output s w.at.rows (image_of s arrived.took) =
+          subst (λ t. given_for s t ≡ output s w.at.rows (image_of s arrived.took)) same_took (all_so []) in
           record {
-            took = come.took;
-            gave = output s w.at.rows (image_of s come.took);
-            since = subst (λ t. Exchange p d t (output s w.at.rows (image_of s come.took)) [] (GivenBy (given_for s) t)) same_took (asked_end failed.since);
+            took = arrived.took;
+            gave = output s w.at.rows (image_of s arrived.took);
+            since = subst (λ t. Exchange p d t (output s w.at.rows (image_of s arrived.took)) [] (GivenBy (given_for s) t)) same_took (asked_end failed.since);
             asks = none_asks failed.since;
-            answer = (rose_since all_given.faults.reads failed.rose, (let m = longest in omega (arith, m)), raster.in_range, sym stands);
+            answer = (rose_since all_given.faults.reads failed.rose, (let m = longest in omega (arith, m)), raster.in_range, sym valid);
           }

@@ -12,12 +12,13 @@ use Rattle.strip_coder.specs.declared.plan.Plan.{Plan}
 use Rattle.packet_defs.specs.Packets.{joined}
 use Rattle.raster_rows.specs.Padding.{IsPadded}
 use Rattle.wave_strip.specs.Strip.{rows_of, answered_of}
-use Rattle.stream_defs.specs.Output.{image_blocks, packets_of, segments_of, tells_last}
+use Rattle.stream_defs.specs.Output.{image_blocks, packets_of, segments_of, reports_last}
 use Rattle.strip_coder.specs.declared.encode.EncodeDone.{EncodeDone}
 use Rattle.strip_coder.specs.declared.work.Work.{Work}
 use Rattle.strip_coder.specs.SegmentsOut.{progress_at}
 use Rattle.strip_coder.specs.Works.{IsRunning, HasTaken, FollowsImage, FollowsRows}
-use Rattle.strip_coder.specs.Steps.{Continues, StopsEarly, IsEnding, HasFinished, HasFinishedOn, HasNoMore, HasNotFinished, AllOut, RowIs, LastRowIs, HasPushedOn, HasNotPushedOn, EndBreaks, EndsImage}
+use Rattle.strip_coder.specs.Steps.{Continues, StopsEarly, IsEnding, HasFinished, HasFinishedOn, HasNoMore, HasNotFinished, AllOut, RowIs, LastRowIs}
+use Rattle.strip_coder.specs.Steps.{HasPushedOn, HasNotPushedOn, EndBreaks, EndsImage}
 use Rattle.strip_coder.proofs.PlanLaws.{tall_or_open}
 use Rattle.strip_coder.proofs.OtherHeights.{open_running, open_follows}
 use Rattle.strip_coder.proofs.DoneCounts.{counted}
@@ -30,7 +31,12 @@ none_finished {p = p} s w ending = record {
   ending = ending;
   faults = omega arith;
   follows = λ x f. f;
-  goes = λ x f. record { gave = []; out = since_start p NoRead; then_are = append-nil (joined (packets_of (tells_last s.setting) (whole s) (image_blocks (whole s) x) w.at.index)) };
+  goes = λ x f. record {
+    gave = [];
+    out = since_start p NoRead;
+    then_are =
+        append-nil (joined (packets_of (reports_last s.setting) (whole s) (image_blocks (whole s) x) w.at.index));
+  };
 }
 
 pub then_finished : {p q r : Outside} (s : Plan) (old mid new : Work) → HasFinishedOn s p q old mid → HasFinished s q r mid new → HasFinishedOn s p r old new
@@ -51,21 +57,25 @@ all_out {p = p} {q = q} s old mid new range so_far none =
     record {
       made = none.made;
       faults = (let a = so_far.faults in let e = ap (λ (o : Outside). o.write_faults) none.still in omega (arith, a, e));
-      stands = λ x f. none.packets ∙ (so_far.follows x f).holds.packets ∙ ap (progress_at s (image_blocks (whole s) x)) index;
-      goes = λ x f. subst (λ (o : Outside). Continues s (image_blocks (whole s) x) old.at.index (segments_of (whole s)) p o) (sym none.still) (subst (λ n. Continues s (image_blocks (whole s) x) old.at.index n p q) index (so_far.goes x f));
+      valid = λ x f. none.packets ∙ (so_far.follows x f).holds.packets ∙ ap (progress_at s (image_blocks (whole s) x)) index;
+      goes = λ x f. subst (λ (o : Outside). Continues s (image_blocks (whole s) x) old.at.index (segments_of (whole s)) p o) (sym none.still)
+          (subst (λ n. Continues s (image_blocks (whole s) x) old.at.index n p q) index (so_far.goes x f));
     }
 
-pub then_unfinished : {T E : Type 0} (p q r : Outside) (result : Result T E) (s : Plan) (old mid new : Work) → IsErr result → HasFinishedOn s p q old mid → HasNotFinished s q r mid new →
+pub then_unfinished : {T E : Type 0} (p q r : Outside) (result : Result T E) (s : Plan) (old mid new : Work) → IsErr result → HasFinishedOn s p q old mid →
+    HasNotFinished s q r mid new →
     MatchResult result (λ _. AllOut s p r old new) (λ _. HasNotFinished s p r old new)
 then_unfinished p q r (Ok x) s old mid new h so_far here = absurd cc
 then_unfinished p q r (Err x) s old mid new h so_far here = record {
   made = here.made;
   rose = rose_since so_far.faults here.rose;
-  breaks = λ x f. breaks_then s (image_blocks (whole s) x) old.at.index mid.at.index (total_blocks s.setting.width s.rows) (so_far.goes x f) (here.breaks x (so_far.follows x f));
+  breaks = λ x f. breaks_then s (image_blocks (whole s) x) old.at.index mid.at.index (total_blocks s.setting.width s.rows) (so_far.goes x f)
+      (here.breaks x (so_far.follows x f));
 }
 
 -- once the padding rows of the image were pushed, the other block rows follow at the end
-pub all_pushed : {p q : Outside} (s : Plan) (old new : Work) → rows_of old.strip ≡ s.rows → HasPushedOn s (padded_size s.rows - s.rows) p q old new → IsEnding s new
+pub all_pushed : {p q : Outside} (s : Plan) (old new : Work) → rows_of old.strip ≡ s.rows → HasPushedOn s (padded_size s.rows - s.rows) p q old new →
+    IsEnding s new
 all_pushed s old new rows pushed =
     let more = pushed.strip_rows in
     let answered = pushed.running.answered in
@@ -86,13 +96,15 @@ all_running t rows w range height taken = elim (tall_or_open t rows range height
   | inr other ↦ open_running t range other.0 rows height other.1 w taken
 ]
 
-pub all_follows : (t : Setting) (rows : ℕ) (w : Work) → IsInRange t → IsHeight t rows → HasTaken (plan_of t (tallest t)) rows w → (x : ℕ → ℕ → ℤ) → FollowsRows t x w → FollowsImage (plan_of t rows) x w
+pub all_follows : (t : Setting) (rows : ℕ) (w : Work) → IsInRange t → IsHeight t rows → HasTaken (plan_of t (tallest t)) rows w → (x : ℕ → ℕ → ℤ) →
+    FollowsRows t x w → FollowsImage (plan_of t rows) x w
 all_follows t rows w range height taken x f = elim (tall_or_open t rows range height) [
   | inl tall ↦ subst (λ n. FollowsImage (plan_of t n) x w) (sym tall) f.tall
   | inr other ↦ open_follows t range other.0 rows height other.1 w taken x f
 ]
 
-module _ (t : Setting) (rows : ℕ) (range : IsPlan (plan_of t rows)) (old mid : Work) (only : OnlyRow old mid) (pad : IsPadded t.width old.row.items mid.row.items) (long : length mid.row.items ≡ padded_size t.width)
+module _ (t : Setting) (rows : ℕ) (range : IsPlan (plan_of t rows)) (old mid : Work) (only : OnlyRow old mid)
+    (pad : IsPadded t.width old.row.items mid.row.items) (long : length mid.row.items ≡ padded_size t.width)
     (image : (x : ℕ → ℕ → ℤ) → FollowsRows t x old → FollowsImage (plan_of t rows) x old) where
   abbrev s : Plan
   s = plan_of t rows
@@ -113,9 +125,10 @@ module _ (t : Setting) (rows : ℕ) (range : IsPlan (plan_of t rows)) (old mid :
     faults = (let a = pushed.faults in let b = out.faults in omega (arith, a, b));
     goes = λ x f row.
         subst (λ i. Continues s (image_blocks (whole s) x) i (segments_of (whole s)) p r) same_index
-        (goes_then s (image_blocks (whole s) x) mid.at.index after.at.index (segments_of (whole s)) (pushed.goes x (follows x f) (last_is x row)) (out.goes x (pushed.follows x (follows x f) (last_is x row))));
+        (goes_then s (image_blocks (whole s) x) mid.at.index after.at.index (segments_of (whole s)) (pushed.goes x (follows x f) (last_is x row))
+        (out.goes x (pushed.follows x (follows x f) (last_is x row))));
     done = λ x f row.
-        counted s range (image_blocks (whole s) x) x new.packets done refl (out.stands x (pushed.follows x (follows x f) (last_is x row))) is;
+        counted s range (image_blocks (whole s) x) x new.packets done refl (out.valid x (pushed.follows x (follows x f) (last_is x row))) is;
   }
 
   pub tail_breaks : {p q : Outside} (new : Work) → HasNotPushedOn s p q mid new → EndBreaks t rows p q old new
@@ -126,11 +139,13 @@ module _ (t : Setting) (rows : ℕ) (range : IsPlan (plan_of t rows)) (old mid :
         subst (λ i. StopsEarly s (image_blocks (whole s) x) i (total_blocks t.width rows) p q) same_index (broken.breaks x (follows x f) (last_is x row));
   }
 
-  pub finish_breaks : {p q r : Outside} (n : ℕ) (after new : Work) → HasPushedOn s n p q mid after → HasNotFinished s q r after new → EndBreaks t rows p r old new
+  pub finish_breaks : {p q r : Outside} (n : ℕ) (after new : Work) → HasPushedOn s n p q mid after → HasNotFinished s q r after new →
+      EndBreaks t rows p r old new
   finish_breaks {p = p} {q = q} {r = r} n after new pushed broken = record {
     made = broken.made;
     rose = rose_since pushed.faults broken.rose;
     breaks = λ x f row.
         subst (λ i. StopsEarly s (image_blocks (whole s) x) i (total_blocks t.width rows) p r) same_index
-        (breaks_then s (image_blocks (whole s) x) mid.at.index after.at.index (total_blocks t.width rows) (pushed.goes x (follows x f) (last_is x row)) (broken.breaks x (pushed.follows x (follows x f) (last_is x row))));
+        (breaks_then s (image_blocks (whole s) x) mid.at.index after.at.index (total_blocks t.width rows) (pushed.goes x (follows x f) (last_is x row))
+        (broken.breaks x (pushed.follows x (follows x f) (last_is x row))));
   }

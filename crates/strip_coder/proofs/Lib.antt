@@ -18,9 +18,9 @@ mod ImageEnds
 pub mod SettledCounts
 mod OtherHeights
 pub mod RowsGiven
-pub mod FrontsGiven
+pub mod PrefixesGiven
 pub mod RowsTakenLaws
 pub mod RangeAsks
-pub mod RowComes
+pub mod RowArrives
 mod TallEnds
 mod EncodeRuns

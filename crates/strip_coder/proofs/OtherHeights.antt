@@ -1,5 +1,6 @@
 -- What a work gathered for the tallest image is also that of an image of fewer rows, if its height is reported last.
-use Rattle.std.proofs.Common.{◌≡◌, inl, inr, ℕ, ◌+◌, ◌*◌, ◌/◌, ◌<◌, ◌≤◌, ℤ, List, length, refl, sym, ap, ◌∙◌, subst, arith, true, div-lt_iff_lt-mul, mul-le-mul_right, mul-le-mul_left}
+use Rattle.std.proofs.Common.{◌≡◌, inl, inr, ℕ, ◌+◌, ◌*◌, ◌/◌, ◌<◌, ◌≤◌, ℤ, List, length, refl, sym, ap, ◌∙◌, subst, arith, true, div-lt_iff_lt-mul}
+use Rattle.std.proofs.Common.{mul-le-mul_right, mul-le-mul_left}
 use Rattle.std.proofs.lemmas.Bool.{cases_lt}
 use Rattle.std.proofs.lemmas.Bool.Decides.{nat_tests}
 use Rattle.base_122.specs.Ranges.{IsInRange}
@@ -11,7 +12,7 @@ use Rattle.packet_defs.specs.Packets.{joined}
 use Rattle.wave_defs.specs.Held.{SameWithin}
 use Rattle.wave_strip.specs.Strip.{rows_of}
 use Rattle.wave_strip.specs.Counts.{settled as block_rows_in}
-use Rattle.stream_defs.specs.Output.{image_blocks, packets_before, packets_of, segments_of, tells_last}
+use Rattle.stream_defs.specs.Output.{image_blocks, packets_before, packets_of, segments_of, reports_last}
 use Rattle.stream_defs.specs.Settled.{settled}
 use Rattle.stream_defs.proofs.HeightLaws.{block_same, before_same, packets_same}
 use Rattle.strip_coder.specs.declared.work.Work.{Work}
@@ -23,7 +24,8 @@ use Rattle.strip_coder.proofs.PlanLaws.{tall_height, tall_plan, open_last}
 use Rattle.strip_coder.proofs.SegmentRuns.{same_progress}
 use Rattle.strip_coder.proofs.SettledCounts.{place}
 
-module _ (s : Setting) (range : IsInRange s) (left_open : s.rows ≡ 0) (rows : ℕ) (height : IsHeight s rows) (less : rows < tallest s) (w : Work) (taken : HasTaken (plan_of s (tallest s)) rows w) where
+module _ (s : Setting) (range : IsInRange s) (left_open : s.rows ≡ 0) (rows : ℕ) (height : IsHeight s rows) (less : rows < tallest s) (w : Work)
+    (taken : HasTaken (plan_of s (tallest s)) rows w) where
   abbrev tall : Plan
   tall = plan_of s (tallest s)
 
@@ -46,10 +48,12 @@ module _ (s : Setting) (range : IsInRange s) (left_open : s.rows ≡ 0) (rows : 
   index_below : w.at.index < segments_of (whole here)
   index_below =
       let segment = range.segment in
-      let all : total_blocks s.width rows ≤ segments_of (whole here) * s.segment = total-le-segments (total_blocks s.width rows) s.segment (omega (arith, segment)) in
+      let all : total_blocks s.width rows ≤ segments_of (whole here) * s.segment =
+      total-le-segments (total_blocks s.width rows) s.segment (omega (arith, segment)) in
       elim (cases_lt w.at.index (segments_of (whole here))) [
         | inl lt ↦ lt
-        | inr far ↦ let many : segments_of (whole here) * s.segment ≤ w.at.index * s.segment = mul-le-mul_right s.segment far in absurd (omega (arith, few, all, many))
+        | inr far ↦ let many : segments_of (whole here) * s.segment ≤ w.at.index * s.segment =
+            mul-le-mul_right s.segment far in absurd (omega (arith, few, all, many))
       ]
 
   part : w.at.filled < s.segment
@@ -94,15 +98,20 @@ module _ (s : Setting) (range : IsInRange s) (left_open : s.rows ≡ 0) (rows : 
     le : rows ≤ tallest s
     le = omega (arith, less)
 
-    octets_same : length (joined (packets_of (tells_last s) (sized s (tallest s)) tall_blocks w.at.index)) ≡ length (joined (packets_of (tells_last s) (sized s rows) these_blocks w.at.index))
+    octets_same : length (joined (packets_of (reports_last s) (sized s (tallest s)) tall_blocks w.at.index))
+        ≡ length (joined (packets_of (reports_last s) (sized s rows) these_blocks w.at.index))
     octets_same =
-        subst (λ b. length (joined (packets_of b (sized s (tallest s)) tall_blocks w.at.index)) ≡ length (joined (packets_of b (sized s rows) these_blocks w.at.index))) (sym (open_last s left_open))
-        (ap (λ ps. length (joined ps)) (packets_same s range left_open rows (tallest s) rows (tall_height s range) height le (omega arith) x x itself w.at.index few_settled))
+        subst (λ b. length (joined (packets_of b (sized s (tallest s)) tall_blocks w.at.index)) ≡ length
+        (joined (packets_of b (sized s rows) these_blocks w.at.index))) (sym (open_last s left_open))
+        (ap (λ ps. length (joined ps)) (packets_same s range left_open rows (tallest s) rows (tall_height s range) height le (omega arith) x x itself
+        w.at.index few_settled))
 
     packets_here : progress_at tall tall_blocks w.at.index ≡ progress_at here these_blocks w.at.index
     packets_here =
-        same_progress s.packet w.at.index w.at.index (packets_before (sized s (tallest s)) tall_blocks w.at.index) (packets_before (sized s rows) these_blocks w.at.index)
-        (length (joined (packets_of (tells_last s) (sized s (tallest s)) tall_blocks w.at.index))) (length (joined (packets_of (tells_last s) (sized s rows) these_blocks w.at.index))) refl
+        same_progress s.packet w.at.index w.at.index (packets_before (sized s (tallest s)) tall_blocks w.at.index)
+        (packets_before (sized s rows) these_blocks w.at.index)
+        (length (joined (packets_of (reports_last s) (sized s (tallest s)) tall_blocks w.at.index)))
+        (length (joined (packets_of (reports_last s) (sized s rows) these_blocks w.at.index))) refl
         (before_same s range left_open rows (tallest s) rows (tall_height s range) height le (omega arith) x x itself w.at.index few_settled) octets_same
 
     near : (i : ℕ) → i < w.at.filled → 8 * ((w.at.index * s.segment + i) / block_count s.width) + 28 < rows
@@ -112,7 +121,8 @@ module _ (s : Setting) (range : IsInRange s) (left_open : s.rows ≡ 0) (rows : 
     holds_here holds = record {
       blocks = λ i lt.
           holds.blocks i lt
-          ∙ block_same s range left_open rows (tallest s) rows (tall_height s range) height le (omega arith) x x itself (w.at.index * s.segment + i) (near i lt);
+          ∙ block_same s range left_open rows (tallest s) rows (tall_height s range) height le (omega arith) x x itself (w.at.index * s.segment + i)
+          (near i lt);
       packets = holds.packets ∙ packets_here;
       used = λ some. absurd (some no_total);
     }

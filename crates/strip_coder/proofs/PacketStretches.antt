@@ -7,14 +7,14 @@ use Rattle.strip_coder.specs.Plans.{IsPlan, whole}
 use Rattle.base_122.specs.Sizes.{total_blocks}
 use Rattle.base_122.proofs.SizeBounds.{first_block-lt}
 use Rattle.packet_defs.specs.Packets.{joined}
-use Rattle.stream_defs.specs.Output.{packets_of, tells_last}
+use Rattle.stream_defs.specs.Output.{packets_of, reports_last}
 use Rattle.strip_coder.specs.Steps.{Continues, StopsEarly}
 
 pub goes_then : {p q r : Outside} (s : Plan) (all : List (List ℤ)) (a b c : ℕ) → Continues s all a b p q → Continues s all b c q r → Continues s all a c p r
 goes_then s all a b c x y = record {
   gave = x.gave ++ y.gave;
   out = since_out x.out y.out;
-  then_are = sym (append_assoc (joined (packets_of (tells_last s.setting) (whole s) all a)) x.gave y.gave) ∙ ap (λ xs. xs ++ y.gave) x.then_are ∙ y.then_are;
+  then_are = sym (append_assoc (joined (packets_of (reports_last s.setting) (whole s) all a)) x.gave y.gave) ∙ ap (λ xs. xs ++ y.gave) x.then_are ∙ y.then_are;
 }
 
 pub breaks_then : {p q r : Outside} (s : Plan) (all : List (List ℤ)) (a b n : ℕ) → Continues s all a b p q → StopsEarly s all b n q r → StopsEarly s all a n p r
@@ -25,7 +25,7 @@ breaks_then s all a b n x y = record {
   inside = y.inside;
   there = y.there;
   some = y.some;
-  front = sym (append_assoc (joined (packets_of (tells_last s.setting) (whole s) all a)) x.gave y.gave) ∙ ap (λ xs. xs ++ y.gave) x.then_are ∙ y.front;
+  prefix = sym (append_assoc (joined (packets_of (reports_last s.setting) (whole s) all a)) x.gave y.gave) ∙ ap (λ xs. xs ++ y.gave) x.then_are ∙ y.prefix;
 }
 
 -- of more blocks that were gathered
@@ -37,11 +37,12 @@ breaks_more s all a n m le x = record {
   inside = x.inside;
   there = let there = x.there in omega (arith, there, le);
   some = x.some;
-  front = x.front;
+  prefix = x.prefix;
 }
 
 -- all segments have at most the blocks of the image
-pub breaks_whole : {p q : Outside} (s : Plan) (all : List (List ℤ)) (a n : ℕ) → IsPlan s → StopsEarly s all a n p q → StopsEarly s all a (total_blocks s.setting.width s.rows) p q
+pub breaks_whole : {p q : Outside} (s : Plan) (all : List (List ℤ)) (a n : ℕ) → IsPlan s → StopsEarly s all a n p q →
+    StopsEarly s all a (total_blocks s.setting.width s.rows) p q
 breaks_whole s all a n range x = record {
   gave = x.gave;
   out = x.out;
@@ -52,5 +53,5 @@ breaks_whole s all a n range x = record {
       let before = first_block-lt (total_blocks s.setting.width s.rows) s.setting.segment x.index (omega (arith, segment)) x.inside in
       omega (arith, before);
   some = x.some;
-  front = x.front;
+  prefix = x.prefix;
 }

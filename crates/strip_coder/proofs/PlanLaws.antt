@@ -5,7 +5,7 @@ use Rattle.std.proofs.lemmas.Bool.Decides.{nat_tests}
 use Rattle.base_122.specs.Ranges.{IsInRange}
 use Rattle.base_122.specs.Setting.{IsHeight}
 use Rattle.base_122.specs.declared.setting.Setting.{Setting}
-use Rattle.stream_defs.specs.Output.{tells_last}
+use Rattle.stream_defs.specs.Output.{reports_last}
 use Rattle.strip_coder.specs.Plans.{IsPlan, plan_of, tallest}
 
 pub tall_height : (s : Setting) → IsInRange s → IsHeight s (tallest s)
@@ -23,7 +23,7 @@ tall_most s rows range height = grind (arith, nat_tests)
 
 -- ---- rows that aren't reported last
 
-pub known_first : (s : Setting) → s.rows ≢ 0 → tells_last s ≡ false
+pub known_first : (s : Setting) → s.rows ≢ 0 → reports_last s ≡ false
 known_first s some = grind (arith, nat_tests)
 
 pub known_tallest : (s : Setting) → s.rows ≢ 0 → tallest s ≡ s.rows
@@ -34,7 +34,7 @@ known_height s rows some height = elim height.1 [ inl none ↦ absurd (some none
 
 -- ---- rows that are reported last
 
-pub open_last : (s : Setting) → s.rows ≡ 0 → tells_last s ≡ true
+pub open_last : (s : Setting) → s.rows ≡ 0 → reports_last s ≡ true
 open_last s none = grind (arith, nat_tests)
 
 -- an image is the tallest one, or its height is reported last

@@ -12,12 +12,14 @@ use Rattle.strip_coder.specs.Answers.{AllInRange, AsksInRange}
 use Rattle.strip_coder.proofs.RowsTakenLaws.{all_in_range-more}
 
 -- the read calls so far, if more is taken
-asked_before : {p q : Outside} {gave : List ℕ} (s : Setting) (took more : List ℕ) → Exchange p q took gave [] (AsksInRange s took) → Exchange p q took gave [] (AsksInRange s (took ++ more))
+asked_before : {p q : Outside} {gave : List ℕ} (s : Setting) (took more : List ℕ) → Exchange p q took gave [] (AsksInRange s took) →
+    Exchange p q took gave [] (AsksInRange s (took ++ more))
 asked_before s took more before = since_weaker before (λ i j le r. subst (AllInRange s) (sym (take-append-le i took more le)) r)
 
 -- octets of the row after the first r rows were taken
 pub row_asked : {p q m : Outside} {gave : List ℕ} (s : Setting) (r : ℕ) (took got : List ℕ) → length took ≡ r * row_length s → AreInRange s took (r * s.width) →
-    Exchange p q took gave [] (AsksInRange s took) → Exchange q m got [] [] (InRow s.depth s.signed s.width got) → Exchange p m (took ++ got) gave [] (AsksInRange s (took ++ got))
+    Exchange p q took gave [] (AsksInRange s took) → Exchange q m got [] [] (InRow s.depth s.signed s.width got) →
+    Exchange p m (took ++ got) gave [] (AsksInRange s (took ++ got))
 row_asked s r took got whole in_range before read = since_in (asked_before s took got before) read
     (λ i j le asks. subst (AllInRange s) (sym (take-append-add took got i)) (all_in_range-more s r took (take i got) whole in_range asks.2))
 

@@ -22,11 +22,13 @@ use Rattle.strip_coder.specs.Steps.{NextAre}
 use Rattle.wave_defs.proofs.Equations.{coefficient-is}
 
 -- a number of a block as the definition has it
-coefficient_is : (p : Pyramid) (row column i : ℕ) → coefficient p row column i ≡ band_of p (place_in column i).band (block_side (place_in column i).band * row + (place_in column i).row) (place_in column i).column
+coefficient_is : (p : Pyramid) (row column i : ℕ) → coefficient p row column i ≡ band_of p (place_in column i).band
+    (block_side (place_in column i).band * row + (place_in column i).row) (place_in column i).column
 coefficient_is p row column i = rw coefficient-is refl
 
 -- what is gathered from the block row in the strip
-shown_block : (image : ℕ → ℕ → ℤ) (strip : StripWave) (weights : List ℕ) (r row column : ℕ) → ShowsBlockRow image r strip → answered_of strip ≡ row + 1 → column < columns_of strip →
+shown_block : (image : ℕ → ℕ → ℤ) (strip : StripWave) (weights : List ℕ) (r row column : ℕ) → ShowsBlockRow image r strip → answered_of strip ≡ row + 1 →
+    column < columns_of strip →
     gathered (number_in strip) weights column ≡ block (pyramid image r (columns_of strip)) weights row column
 shown_block image strip weights r row column shows answered inside =
     let p = pyramid image r (columns_of strip) in
@@ -45,7 +47,8 @@ shown_block image strip weights r row column shows answered inside =
 quotient : (c r j : ℕ) → j < c → ((c * r + j) / c ≡ r) × ((c * r + j) % c ≡ j)
 quotient c r j lt = grind (arith, nat_tests, div-mul-add, mod-mul-add)
 
-pub next_are : (s : Plan) (x : ℕ → ℕ → ℤ) (w : Work) (row : ℕ) → IsPlan s → columns_of w.strip ≡ block_count s.setting.width → answered_of w.strip ≡ row + 1 → row < block_count s.rows →
+pub next_are : (s : Plan) (x : ℕ → ℕ → ℤ) (w : Work) (row : ℕ) → IsPlan s → columns_of w.strip ≡ block_count s.setting.width →
+    answered_of w.strip ≡ row + 1 → row < block_count s.rows →
     gathered_in s w.at ≡ block_count s.setting.width * row → ShowsBlockRow (padded x s.rows s.setting.width) (block_count s.rows) w.strip →
     NextAre s w (block_count s.setting.width) (gathered (number_in w.strip) s.setting.weights.shifts) (image_blocks (whole s) x)
 next_are s x w row range columns answered lt count shows =

@@ -1,5 +1,6 @@
 -- A row that was pushed into a work's strip.
-use Rattle.std.proofs.Common.{◌≡◌, ◌≢◌, ℕ, ◌+◌, ◌-◌, ◌*◌, ◌/◌, ◌<◌, ◌≤◌, ℤ, List, [], sym, ap, ◌∙◌, subst, arith, vec_len, Option, Some, None, Result, Ok, Err, true, false, MatchOption, is_some, append-nil}
+use Rattle.std.proofs.Common.{◌≡◌, ◌≢◌, ℕ, ◌+◌, ◌-◌, ◌*◌, ◌/◌, ◌<◌, ◌≤◌, ℤ, List, [], sym, ap, ◌∙◌, subst, arith, vec_len, Option, Some, None, Result, Ok}
+use Rattle.std.proofs.Common.{Err, true, false, MatchOption, is_some, append-nil}
 use Rattle.port_122.specs.Outside.{Outside, NoRead}
 use Rattle.port_122.proofs.Stretches.{since_start}
 use Rattle.segment_code.specs.declared.encode.SegmentWriter.{SegmentWriter}
@@ -13,9 +14,9 @@ use Rattle.wave_defs.specs.Held.{Agrees, signal}
 use Rattle.wave_defs.specs.Pyramid.{padded}
 use Rattle.block_families.specs.Places.{gathered}
 use Rattle.wave_strip.specs.declared.strip.StripWave.{StripWave}
-use Rattle.wave_strip.specs.Strip.{rows_of, answered_of, columns_of, has_ended, is_standing, number_in, Follows, ShowsBlockRow}
+use Rattle.wave_strip.specs.Strip.{rows_of, answered_of, columns_of, has_ended, is_current, number_in, Follows, ShowsBlockRow}
 use Rattle.wave_strip.specs.Counts.{settled}
-use Rattle.stream_defs.specs.Output.{image_blocks, packets_of, tells_last}
+use Rattle.stream_defs.specs.Output.{image_blocks, packets_of, reports_last}
 use Rattle.strip_coder.specs.declared.work.Work.{Work}
 use Rattle.strip_coder.specs.Works.{IsMadeFor, HasGathered, IsRunning, HoldsBlocks, StripFollows, gathered_in}
 use Rattle.strip_coder.specs.Steps.{NextAre, NextRowIs, HasGone, HasBroken, Gathers, Continues, StopsEarly, HasPushed, HasNotPushed, Pushes}
@@ -28,8 +29,9 @@ pub record StripPushed (old new : StripWave) (row : List ℤ) : Type 0 where
   pub rows : rows_of new ≡ rows_of old + 1
   pub running : has_ended new ≡ false
   pub answered : answered_of new ≡ settled (rows_of new)
-  pub follows : (image : ℕ → ℕ → ℤ) (r : ℕ) → 3 ≤ r → rows_of old < 8 * r → Follows image r old → Agrees (8 * columns_of old) (signal row) (image (rows_of old)) → Follows image r new
-  pub shows : (image : ℕ → ℕ → ℤ) (r : ℕ) → is_standing new ≡ true → 3 ≤ r → rows_of new ≤ 8 * r → Follows image r new → ShowsBlockRow image r new
+  pub follows : (image : ℕ → ℕ → ℤ) (r : ℕ) → 3 ≤ r → rows_of old < 8 * r → Follows image r old →
+      Agrees (8 * columns_of old) (signal row) (image (rows_of old)) → Follows image r new
+  pub shows : (image : ℕ → ℕ → ℤ) (r : ℕ) → is_current new ≡ true → 3 ≤ r → rows_of new ≤ 8 * r → Follows image r new → ShowsBlockRow image r new
 
 -- only the strip of a work was changed
 pub record OnlyStrip (old mid : Work) : Type 0 where
@@ -51,18 +53,21 @@ only_holds s old mid only all holds = record {
 pub record Came (strip : StripWave) : Type 0 where
   pub block_row : ℕ
   pub rows : rows_of strip ≡ 8 * block_row + 29
-  pub stands : is_standing strip ≡ true
+  pub valid : is_current strip ≡ true
 
-pub it_came : (o : Option ℕ) (strip : StripWave) (answered : ℕ) → is_some o ≡ true → MatchOption o ((r : ℕ) → rows_of strip ≢ 8 * r + 29) (λ r. rows_of strip ≡ 8 * r + 29) →
-    MatchOption o (is_standing strip ≡ false) (λ r. (is_standing strip ≡ true) × (answered ≡ r + 1)) → Came strip
-it_came (Some r) strip answered e rows stands = record { block_row = r; rows = rows; stands = stands.0 }
-it_came None strip answered e rows stands = absurd cc
+pub it_came : (o : Option ℕ) (strip : StripWave) (answered : ℕ) → is_some o ≡ true →
+    MatchOption o ((r : ℕ) → rows_of strip ≢ 8 * r + 29) (λ r. rows_of strip ≡ 8 * r + 29) →
+    MatchOption o (is_current strip ≡ false) (λ r. (is_current strip ≡ true) × (answered ≡ r + 1)) → Came strip
+it_came (Some r) strip answered e rows valid = record { block_row = r; rows = rows; valid = valid.0 }
+it_came None strip answered e rows valid = absurd cc
 
-pub none_came : (o : Option ℕ) (rows : ℕ) → is_some o ≡ false → MatchOption o ((r : ℕ) → rows ≢ 8 * r + 29) (λ r. rows ≡ 8 * r + 29) → (r : ℕ) → rows ≢ 8 * r + 29
+pub none_came : (o : Option ℕ) (rows : ℕ) → is_some o ≡ false → MatchOption o ((r : ℕ) → rows ≢ 8 * r + 29) (λ r. rows ≡ 8 * r + 29) → (r : ℕ) →
+    rows ≢ 8 * r + 29
 none_came (Some r) rows e h = absurd cc
 none_came None rows e h = h
 
-module _ (s : Plan) (range : IsPlan s) (old mid : Work) (running : IsRunning s old) (few : rows_of old.strip < padded_size s.rows) (only : OnlyStrip old mid) (pushed : StripPushed old.strip mid.strip old.row.items) where
+module _ (s : Plan) (range : IsPlan s) (old mid : Work) (running : IsRunning s old) (few : rows_of old.strip < padded_size s.rows)
+    (only : OnlyStrip old mid) (pushed : StripPushed old.strip mid.strip old.row.items) where
   tall : 3 ≤ block_count s.rows
   tall = three-le-block_count s.rows range.height.0.0
 
@@ -96,7 +101,8 @@ module _ (s : Plan) (range : IsPlan s) (old mid : Work) (running : IsRunning s o
   }
 
   -- the strip follows images of any height
-  mid_strip : (x : ℕ → ℕ → ℤ) (rows : ℕ) → IsWithin rows_range rows → rows_of old.strip < padded_size rows → StripFollows (plan_of s.setting rows) x old → NextRowIs (plan_of s.setting rows) x old →
+  mid_strip : (x : ℕ → ℕ → ℤ) (rows : ℕ) → IsWithin rows_range rows → rows_of old.strip < padded_size rows → StripFollows (plan_of s.setting rows) x old →
+      NextRowIs (plan_of s.setting rows) x old →
       StripFollows (plan_of s.setting rows) x mid
   mid_strip x rows high below follows next =
       let columns : 8 * columns_of old.strip ≡ padded_size s.setting.width = (let made = running.gathered.made.strip in omega (arith, made)) in
@@ -114,7 +120,8 @@ module _ (s : Plan) (range : IsPlan s) (old mid : Work) (running : IsRunning s o
   pushed_none {p = p} none =
       let rows = pushed.rows in
       let same : settled (rows_of mid.strip) ≡ settled (rows_of old.strip) = (let apart = none ((rows_of old.strip - 28) / 8) in omega (arith, apart, rows)) in
-      let count : gathered_in s mid.at ≡ block_count s.setting.width * settled (rows_of mid.strip) = ap (gathered_in s) only.at ∙ running.count ∙ ap (λ n. block_count s.setting.width * n) (sym same) in
+      let count : gathered_in s mid.at ≡ block_count s.setting.width * settled (rows_of mid.strip) =
+      ap (gathered_in s) only.at ∙ running.count ∙ ap (λ n. block_count s.setting.width * n) (sym same) in
       record {
         running = record { gathered = mid_gathered; count = count; answered = pushed.answered; running = pushed.running };
         strip_rows = rows;
@@ -126,7 +133,8 @@ module _ (s : Plan) (range : IsPlan s) (old mid : Work) (running : IsRunning s o
         goes = λ x follows next. record {
           gave = [];
           out = since_start p NoRead;
-          then_are = append-nil (joined (packets_of (tells_last s.setting) (whole s) (image_blocks (whole s) x) old.at.index)) ∙ ap (λ n. joined (packets_of (tells_last s.setting) (whole s) (image_blocks (whole s) x) n)) (sym same_index);
+          then_are = append-nil (joined (packets_of (reports_last s.setting) (whole s) (image_blocks (whole s) x) old.at.index))
+              ∙ ap (λ n. joined (packets_of (reports_last s.setting) (whole s) (image_blocks (whole s) x) n)) (sym same_index);
         };
       }
 
@@ -137,16 +145,18 @@ module _ (s : Plan) (range : IsPlan s) (old mid : Work) (running : IsRunning s o
     settled_now : settled (rows_of mid.strip) ≡ came.block_row + 1
     settled_now = let e = came.rows in omega (arith, e)
 
-    next_blocks : (x : ℕ → ℕ → ℤ) → StripFollows s x mid → NextAre s mid (block_count s.setting.width) (gathered (number_in mid.strip) s.setting.weights.shifts) (image_blocks (whole s) x)
+    next_blocks : (x : ℕ → ℕ → ℤ) → StripFollows s x mid →
+        NextAre s mid (block_count s.setting.width) (gathered (number_in mid.strip) s.setting.weights.shifts) (image_blocks (whole s) x)
     next_blocks x follows =
         let rows = pushed.rows in
         let e = came.rows in
         let last : rows_of mid.strip ≤ 8 * block_count s.rows = omega (arith, rows, few) in
         next_are s x mid came.block_row range mid_made.strip (pushed.answered ∙ settled_now) (omega (arith, e, last))
         (ap (gathered_in s) only.at ∙ running.count ∙ ap (λ n. block_count s.setting.width * n) settled_before)
-        (pushed.shows (padded x s.rows s.setting.width) (block_count s.rows) came.stands tall last follows)
+        (pushed.shows (padded x s.rows s.setting.width) (block_count s.rows) came.valid tall last follows)
 
-    pushed_gone : {p q : Outside} (new : Work) → HasGone s (gathered (number_in mid.strip) s.setting.weights.shifts) (block_count s.setting.width) p q mid new → HasPushed s p q old new
+    pushed_gone : {p q : Outside} (new : Work) → HasGone s (gathered (number_in mid.strip) s.setting.weights.shifts) (block_count s.setting.width) p q mid
+        new → HasPushed s p q old new
     pushed_gone {p = p} {q = q} new gone =
         let strip = gone.stays.strip in
         let c = block_count s.setting.width in
@@ -178,7 +188,8 @@ module _ (s : Plan) (range : IsPlan s) (old mid : Work) (running : IsRunning s o
               (gone.goes (image_blocks (whole s) x) (next_blocks x (mid_follows x follows.strip next)) (mid_holds (image_blocks (whole s) x) follows.holds));
         }
 
-    pushed_broken : {p q : Outside} (new : Work) → HasBroken s (gathered (number_in mid.strip) s.setting.weights.shifts) (block_count s.setting.width) p q mid new → HasNotPushed s p q old new
+    pushed_broken : {p q : Outside} (new : Work) → HasBroken s (gathered (number_in mid.strip) s.setting.weights.shifts) (block_count s.setting.width) p q
+        mid new → HasNotPushed s p q old new
     pushed_broken {p = p} {q = q} new broken = record {
       made = broken.made;
       rose = broken.rose;
@@ -187,11 +198,13 @@ module _ (s : Plan) (range : IsPlan s) (old mid : Work) (running : IsRunning s o
           let more : c * (came.block_row + 1) ≡ c * came.block_row + c = grind arith in
           let before : gathered_in s mid.at ≡ c * came.block_row = ap (gathered_in s) only.at ∙ running.count ∙ ap (λ n. c * n) settled_before in
           let now : c * settled (rows_of old.strip + 1) ≡ c * (came.block_row + 1) = ap (λ n. c * n) (ap settled (sym pushed.rows) ∙ settled_now) in
-          breaks_more s (image_blocks (whole s) x) old.at.index (gathered_in s mid.at + c) (c * settled (rows_of old.strip + 1)) (omega (arith, before, more, now))
+          breaks_more s (image_blocks (whole s) x) old.at.index (gathered_in s mid.at + c) (c * settled (rows_of old.strip + 1))
+          (omega (arith, before, more, now))
           (subst (λ n. StopsEarly s (image_blocks (whole s) x) n (gathered_in s mid.at + c) p q) same_index
           (broken.breaks (image_blocks (whole s) x) (next_blocks x (mid_follows x follows.strip next)) (mid_holds (image_blocks (whole s) x) follows.holds)));
     }
 
-    pub pushed_some : {T E : Type 0} (p q : Outside) (r : Result T E) (new : Work) → Gathers r s (gathered (number_in mid.strip) s.setting.weights.shifts) (block_count s.setting.width) p q mid new → Pushes r s p q old new
+    pub pushed_some : {T E : Type 0} (p q : Outside) (r : Result T E) (new : Work) → Gathers r s (gathered (number_in mid.strip) s.setting.weights.shifts)
+        (block_count s.setting.width) p q mid new → Pushes r s p q old new
     pushed_some p q (Ok x) new gone = pushed_gone new gone
     pushed_some p q (Err x) new broken = pushed_broken new broken

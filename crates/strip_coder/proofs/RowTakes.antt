@@ -33,7 +33,8 @@ module _ (s : Plan) (range : IsPlan s) (row after : List ℤ) (pad : IsPadded s.
   padded_small values = record {
     at = λ j lt.
         let width = range.in_range.width.0 in
-        subst (IsWithin (2 ^ 16)) (sym (padded_at j lt)) (pixel_small s.setting.depth s.setting.signed _ range.in_range.depth.0 range.in_range.depth.1 (values.each (min j (s.setting.width - 1)) (omega (arith, width))));
+        subst (IsWithin (2 ^ 16)) (sym (padded_at j lt)) (pixel_small s.setting.depth s.setting.signed _ range.in_range.depth.0 range.in_range.depth.1
+        (values.each (min j (s.setting.width - 1)) (omega (arith, width))));
   }
 
   pub padded_kept : Agrees s.setting.width (signal after) (signal row)
@@ -43,7 +44,8 @@ module _ (s : Plan) (range : IsPlan s) (row after : List ℤ) (pad : IsPadded s.
         padded_at j (omega (arith, lt)) ∙ ap (signal row) e;
   }
 
-  pub padded_next : (x : ℕ → ℕ → ℤ) (k : ℕ) → k < s.rows → Agrees s.setting.width (signal row) (x k) → Agrees (padded_size s.setting.width) (signal after) (padded x s.rows s.setting.width k)
+  pub padded_next : (x : ℕ → ℕ → ℤ) (k : ℕ) → k < s.rows → Agrees s.setting.width (signal row) (x k) →
+      Agrees (padded_size s.setting.width) (signal after) (padded x s.rows s.setting.width k)
   padded_next x k few is = record {
     at = λ j lt.
         let width = range.in_range.width.0 in
@@ -77,7 +79,12 @@ pub record OnlyCount (mid new : Work) : Type 0 where
   pub used : new.at.used ≡ mid.at.used
 
 row_holds : (s : Plan) (all : List (List ℤ)) (old mid : Work) → OnlyRow old mid → HoldsBlocks s all old → HoldsBlocks s all mid
-row_holds s all old mid only holds = record { blocks = rw (only.at, only.blocks) holds.blocks; packets = rw (only.at, only.packets) holds.packets; used = rw only.at holds.used }
+row_holds s all old mid only holds = record {
+  blocks = rw (only.at, only.blocks) holds.blocks;
+  packets = rw (only.at, only.packets) holds.packets;
+  used =
+      rw only.at holds.used;
+}
 
 pub row_follows : (s : Plan) (x : ℕ → ℕ → ℤ) (old mid : Work) → OnlyRow old mid → FollowsImage s x old → FollowsImage s x mid
 row_follows s x old mid only f = record {
@@ -88,13 +95,19 @@ row_follows s x old mid only f = record {
 pub row_follows_any : (s : Setting) (x : ℕ → ℕ → ℤ) (old mid : Work) → OnlyRow old mid → FollowsRows s x old → FollowsRows s x mid
 row_follows_any s x old mid only f = record {
   tall = row_follows (plan_of s (tallest s)) x old mid only f.tall;
-  any = λ rows height le. subst (λ t. Follows (padded x rows s.width) (block_count rows) t) (sym only.strip) (f.any rows height (subst (λ t. rows_of t ≤ rows) only.strip le));
+  any = λ rows height le. subst (λ t. Follows (padded x rows s.width) (block_count rows) t) (sym only.strip)
+      (f.any rows height (subst (λ t. rows_of t ≤ rows) only.strip le));
 }
 
 count_follows : (s : Plan) (x : ℕ → ℕ → ℤ) (mid new : Work) → OnlyCount mid new → FollowsImage s x mid → FollowsImage s x new
 count_follows s x mid new only f = record {
   strip = subst (λ t. Follows (padded x s.rows s.setting.width) (block_count s.rows) t) (sym only.strip) f.strip;
-  holds = record { blocks = rw (only.filled, only.index, only.blocks) f.holds.blocks; packets = rw (only.index, only.packets) f.holds.packets; used = rw (only.used, only.index) f.holds.used };
+  holds = record {
+    blocks = rw (only.filled, only.index, only.blocks) f.holds.blocks;
+    packets = rw (only.index, only.packets) f.holds.packets;
+    used =
+        rw (only.used, only.index) f.holds.used;
+  };
 }
 
 count_running : (s : Plan) (mid new : Work) → OnlyCount mid new → IsRunning s mid → IsRunning s new
@@ -155,7 +168,8 @@ row_running s old mid only run =
 
 -- ---- the next row of each image
 
-module _ (s : Setting) (range : IsInRange s) (old mid : Work) (taken : HasTaken (plan_of s (tallest s)) old.at.rows old) (few : old.at.rows < tallest s) (only : OnlyRow old mid)
+module _ (s : Setting) (range : IsInRange s) (old mid : Work) (taken : HasTaken (plan_of s (tallest s)) old.at.rows old) (few : old.at.rows < tallest s)
+    (only : OnlyRow old mid)
     (pad : IsPadded s.width old.row.items mid.row.items) (long : length mid.row.items ≡ padded_size s.width) where
   before : rows_of mid.strip ≡ old.at.rows
   before = ap rows_of only.strip ∙ taken.strip_rows
@@ -171,7 +185,8 @@ module _ (s : Setting) (range : IsInRange s) (old mid : Work) (taken : HasTaken 
   index : mid.at.index ≡ old.at.index
   index = ap (λ a. a.index) only.at
 
-  pub row_taken : {p q : Outside} (after new : Work) → HasPushed (plan_of s (tallest s)) p q mid after → OnlyCount after new → TakesRow s old.at.rows p q old new
+  pub row_taken : {p q : Outside} (after new : Work) → HasPushed (plan_of s (tallest s)) p q mid after → OnlyCount after new →
+      TakesRow s old.at.rows p q old new
   row_taken {p = p} {q = q} after new pushed count =
       let k = old.at.rows in
       let strip_rows : rows_of new.strip ≡ k + 1 = ap rows_of count.strip ∙ pushed.strip_rows ∙ ap (λ n. n + 1) before in
@@ -183,17 +198,20 @@ module _ (s : Setting) (range : IsInRange s) (old mid : Work) (taken : HasTaken 
           strip_rows = strip_rows;
           index = λ more. index_settled (plan_of s (tallest s)) (tall_plan s range) (k + 1) new running strip_rows (omega (arith, few)) more;
         };
-        row = subst (λ v. Agrees s.width (signal v.items) (signal old.row.items)) (sym (count.row ∙ pushed.row)) (padded_kept (plan_of s (tallest s)) (tall_plan s range) old.row.items mid.row.items pad long);
+        row = subst (λ v. Agrees s.width (signal v.items) (signal old.row.items)) (sym (count.row ∙ pushed.row))
+            (padded_kept (plan_of s (tallest s)) (tall_plan s range) old.row.items mid.row.items pad long);
         faults = pushed.faults;
         follows = λ x f is. record {
-          tall = count_follows (plan_of s (tallest s)) x after new count (pushed.follows x (row_follows (plan_of s (tallest s)) x old mid only f.tall) (next_tall x is));
+          tall = count_follows (plan_of s (tallest s)) x after new count (pushed.follows x (row_follows (plan_of s (tallest s)) x old mid only f.tall)
+              (next_tall x is));
           any = λ rows height le.
               let now = strip_rows in
               let then = before in
               let was = taken.strip_rows in
               let below : k < rows = omega (arith, now, le) in
               subst (λ t. Follows (padded x rows s.width) (block_count rows) t) (sym count.strip)
-              (pushed.strip x rows height.0 (omega (arith, below, then)) (subst (λ t. Follows (padded x rows s.width) (block_count rows) t) (sym only.strip) (f.any rows height (omega (arith, below, was))))
+              (pushed.strip x rows height.0 (omega (arith, below, then)) (subst (λ t. Follows (padded x rows s.width) (block_count rows) t) (sym only.strip)
+              (f.any rows height (omega (arith, below, was))))
               (next rows height below x is));
         };
         goes = λ x f is.

@@ -17,7 +17,8 @@ row_pixels s r took whole = whole ∙ sym (mul_assoc r s.width (pixel_size s.dep
 pub all_whole : (s : Setting) (r : ℕ) (took : List ℕ) → length took ≡ r * row_length s → AreInRange s took (r * s.width) → AllInRange s took
 all_whole s r took whole here =
     let some = size_some s.depth in
-    let count : whole_pixels s.depth took ≡ r * s.width = ap (λ n. n / pixel_size s.depth) (row_pixels s r took whole) ∙ mul-div_left (r * s.width) {n = pixel_size s.depth} some in
+    let count : whole_pixels s.depth took ≡ r * s.width = ap (λ n. n / pixel_size s.depth) (row_pixels s r took whole) ∙ mul-div_left (r * s.width) {n =
+    pixel_size s.depth} some in
     subst (AreInRange s took) (sym count) here
 
 -- this number of further pixels is in range

@@ -1,5 +1,6 @@
 -- One segment of an image is written from the work that gathered it.
-use Rattle.std.proofs.Common.{◌≡◌, ◌≢◌, ℕ, ◌+◌, ◌-◌, ◌*◌, ◌/◌, ◌^◌, ◌<◌, ◌≤◌, ℤ, List, [], ◌++◌, length, take, drop, sym, ap, ◌∙◌, subst, arith, get_or, min, inl, inr, vec_len, length-append, length-take, length-drop}
+use Rattle.std.proofs.Common.{◌≡◌, ◌≢◌, ℕ, ◌+◌, ◌-◌, ◌*◌, ◌/◌, ◌^◌, ◌<◌, ◌≤◌, ℤ, List, [], ◌++◌, length, take, drop, sym, ap, ◌∙◌, subst, arith, get_or}
+use Rattle.std.proofs.Common.{min, inl, inr, vec_len, length-append, length-take, length-drop}
 use Rattle.std.proofs.lemmas.Bool.Decides.{nat_tests}
 use Rattle.std.proofs.lemmas.List.{same_lists, get_or_default, get_or-take, get_or-drop}
 use Rattle.std.proofs.lemmas.List.FromFn.{get_or-map-range_with_len}
@@ -15,7 +16,7 @@ use Rattle.base_122.proofs.GeometryRanges.{in_range-sized}
 use Rattle.base_122.proofs.SizeBounds.{first_block-lt, one-le-segment_blocks}
 use Rattle.packet_defs.specs.Packets.{joined}
 use Rattle.wave_defs.specs.Held.{block_at, blocks_in}
-use Rattle.stream_defs.specs.Output.{packets_of, segment_packets, segment_text, segments_of, share, tells_last, used_before}
+use Rattle.stream_defs.specs.Output.{packets_of, segment_packets, segment_text, segments_of, share, reports_last, used_before}
 use Rattle.stream_defs.proofs.Outputs.{packets_before-more, used_before-more}
 use Rattle.stream_defs.proofs.ShareLaws.{left_next, segment_within, share_none}
 use Rattle.space_packets.specs.Progress.{Progress}
@@ -37,18 +38,20 @@ block_of cells i d lt = rw blocks_in-is (get_or-map-range_with_len (block_at cel
 
 pub segment_is : (cells : List ℤ) (all : List (List ℤ)) (n first S total : ℕ) → length all ≡ total → n ≡ min S (total - first) → length cells ≡ 64 * n →
     ((i : ℕ) → i < n → block_at cells i ≡ get_or all (first + i) []) → blocks_in cells ≡ take S (drop first all)
-segment_is cells all n first S total whole e long each = grind (arith, nat_tests, length-blocks_in, length-take, length-drop, same_lists, block_of, get_or-take, get_or-drop, get_or_default)
+segment_is cells all n first S total whole e long each =
+    grind (arith, nat_tests, length-blocks_in, length-take, length-drop, same_lists, block_of, get_or-take, get_or-drop, get_or_default)
 
 -- ---- its packets
 
-progress_more : {a b : Outside} (s : Plan) (all : List (List ℤ)) (n : ℕ) (w : Progress) → TextOut (text_of s n) a b (progress_at s all n) w (segment_text (whole s) all n) → w ≡ progress_at s all (n + 1)
+progress_more : {a b : Outside} (s : Plan) (all : List (List ℤ)) (n : ℕ) (w : Progress) →
+    TextOut (text_of s n) a b (progress_at s all n) w (segment_text (whole s) all n) → w ≡ progress_at s all (n + 1)
 progress_more s all n w at = grind (arith, nat_tests, same_progress, packets_before-more, octets-more, length-append)
 
 -- a prefix of the packets of one segment, after those of the segments before it, is a prefix of all up to it
-front_is : (s : Plan) (all : List (List ℤ)) (n some : ℕ) →
-    joined (packets_of (tells_last s.setting) (whole s) all n) ++ take some (joined (segment_packets (tells_last s.setting) (whole s) all n))
-    ≡ take (length (joined (packets_of (tells_last s.setting) (whole s) all n)) + some) (joined (packets_of (tells_last s.setting) (whole s) all (n + 1)))
-front_is s all n some = grind (arith, nat_tests, octets-more, take-append-add)
+prefix_is : (s : Plan) (all : List (List ℤ)) (n some : ℕ) →
+    joined (packets_of (reports_last s.setting) (whole s) all n) ++ take some (joined (segment_packets (reports_last s.setting) (whole s) all n))
+    ≡ take (length (joined (packets_of (reports_last s.setting) (whole s) all n)) + some) (joined (packets_of (reports_last s.setting) (whole s) all (n + 1)))
+prefix_is s all n some = grind (arith, nat_tests, octets-more, take-append-add)
 
 -- ---- shares
 
@@ -69,14 +72,14 @@ counted a n m c total most is le = omega arith
 most_filled : (s : Plan) (index : ℕ) → IsPlan s → segment_blocks (total_blocks s.setting.width s.rows) s.setting.segment index ≤ most_blocks s.setting
 most_filled s index range = grind (arith, nat_tests)
 
--- so there is room for one more while the present segment isn't full
-pub room_left : (s : Plan) (w : Work) → IsPlan s → HasGathered s w → w.at.index < segments_of (whole s) → length w.blocks.numbers < 64 * w.blocks.most
-room_left s w range has lt =
+-- so there is room for what the present segment can still take
+pub room_left : (s : Plan) (w : Work) (n : ℕ) → IsPlan s → HasGathered s w →
+    w.at.filled + n ≤ segment_blocks (total_blocks s.setting.width s.rows) s.setting.segment w.at.index → length w.blocks.numbers + 64 * n ≤ 64 * w.blocks.most
+room_left s w n range has fit =
     let most = most_filled s w.at.index range in
     let room = has.made.blocks in
-    let part = has.present lt in
     let held = has.held in
-    omega (arith, most, room, part, held)
+    omega (arith, most, room, fit, held)
 
 pub some_filled : (s : Plan) (old : Work) → IsPlan s → IsFull s old → 64 ≤ length old.blocks.numbers
 some_filled s old range full =
@@ -93,7 +96,8 @@ few_filled s old range full =
     let held = full.held in
     omega (arith, f, segment, held)
 
-pub text_is : (s : Plan) (old : Work) → IsPlan s → IsFull s old → (all : List (List ℤ)) → length all ≡ total_blocks s.setting.width s.rows → HoldsBlocks s all old →
+pub text_is : (s : Plan) (old : Work) → IsPlan s → IsFull s old → (all : List (List ℤ)) → length all ≡ total_blocks s.setting.width s.rows →
+    HoldsBlocks s all old →
     text_for s old.at.index old.at.used (blocks_in old.blocks.numbers) ≡ segment_text (whole s) all old.at.index
 text_is s old range full all long holds = grind (arith, nat_tests, segment_is, share_same)
 
@@ -133,17 +137,20 @@ module _ (s : Plan) (old new : Work) (range : IsPlan s) (full : IsFull s old) (s
   total_most : s.setting.total ≢ 0 → s.setting.total ≤ 2 ^ 40
   total_most some = elim range.in_range.total [ inl none ↦ absurd (some none) | inr has ↦ let within = has.within in omega (arith, within) ]
 
-  used_now : (octets : ℕ) → octets ≡ length (present_text s old) → new.at.used ≡ min (old.at.used + octets) (2 ^ 64 - 1) → s.setting.total ≢ 0 → new.at.used ≡ old.at.used + length (present_text s old)
+  used_now : (octets : ℕ) → octets ≡ length (present_text s old) → new.at.used ≡ min (old.at.used + octets) (2 ^ 64 - 1) → s.setting.total ≢ 0 →
+      new.at.used ≡ old.at.used + length (present_text s old)
   used_now octets e counts some = grind (arith, nat_tests, counted, total_most, left_now)
 
   sent_of : {a b : Outside} (w : Progress) (all : List (List ℤ)) → length all ≡ total_blocks s.setting.width s.rows → HoldsBlocks s all old →
-      TextOut (text_of s old.at.index) a b old.packets w (present_text s old) → TextOut (text_of s old.at.index) a b (progress_at s all old.at.index) w (segment_text (whole s) all old.at.index)
+      TextOut (text_of s old.at.index) a b old.packets w (present_text s old) → TextOut (text_of s old.at.index) a b (progress_at s all old.at.index) w
+      (segment_text (whole s) all old.at.index)
   sent_of {a = a} {b = b} w all long holds sent =
       subst (λ v. TextOut (text_of s old.at.index) a b v w (segment_text (whole s) all old.at.index)) holds.packets
       (subst (λ t. TextOut (text_of s old.at.index) a b old.packets w t) (text_is s old range full all long holds) sent)
 
   pub present_out : {a b : Outside} (octets : ℕ) → new.blocks.numbers ≡ [] → new.at.rows ≡ old.at.rows → new.at.filled ≡ 0 → new.at.index ≡ old.at.index + 1 →
-      new.at.used ≡ min (old.at.used + octets) (2 ^ 64 - 1) → TextOut (text_of s old.at.index) a b old.packets new.packets (present_text s old) × (octets ≡ length (present_text s old)) →
+      new.at.used ≡ min (old.at.used + octets) (2 ^ 64 - 1) → TextOut (text_of s old.at.index) a b old.packets new.packets (present_text s old)
+      × (octets ≡ length (present_text s old)) →
       PresentOut s a b old new
   present_out {a = a} {b = b} octets cleared rows filled index counts written =
       let sent = written.0 in
@@ -152,10 +159,11 @@ module _ (s : Plan) (old new : Work) (range : IsPlan s) (full : IsFull s old) (s
       record {
         stays = record { strip = same.strip; row = same.row; rows = rows };
         gathered = record {
-          made = still_made s.setting old new full.made same (ap (λ (v : Progress). v.packet) sent.stands);
+          made = still_made s.setting old new full.made same (ap (λ (v : Progress). v.packet) sent.valid);
           share = record {
             left = λ some. let used = used_now octets written.1 counts some in let left = left_now some in
-                subst (λ n. new.at.used + 36 * (segments_of (whole s) - n) ≤ s.setting.total) (sym index) (subst (λ n. n + 36 * (segments_of (whole s) - (old.at.index + 1)) ≤ s.setting.total) (sym used) left);
+                subst (λ n. new.at.used + 36 * (segments_of (whole s) - n) ≤ s.setting.total) (sym index)
+                (subst (λ n. n + 36 * (segments_of (whole s) - (old.at.index + 1)) ≤ s.setting.total) (sym used) left);
           };
           index = omega (arith, index, next);
           present = λ lt.
@@ -163,8 +171,8 @@ module _ (s : Plan) (old new : Work) (range : IsPlan s) (full : IsFull s old) (s
               omega (arith, some, filled);
           none = λ e. filled;
           held = (let none : length new.blocks.numbers ≡ 0 = ap length cleared in omega (arith, none, filled));
-          idle = ap (λ (v : Progress). v.stage) sent.stands;
-          texts = ap (λ (v : Progress). v.texts) sent.stands ∙ ap (λ n. n + 1) full.texts ∙ sym index;
+          idle = ap (λ (v : Progress). v.stage) sent.valid;
+          texts = ap (λ (v : Progress). v.texts) sent.valid ∙ ap (λ n. n + 1) full.texts ∙ sym index;
         };
         index = index;
         filled = filled;
@@ -180,9 +188,9 @@ module _ (s : Plan) (old new : Work) (range : IsPlan s) (full : IsFull s old) (s
               ∙ ap (used_before (whole s) all) (sym index);
         };
         goes = λ all long holds. record {
-          gave = joined (segment_packets (tells_last s.setting) (whole s) all old.at.index);
+          gave = joined (segment_packets (reports_last s.setting) (whole s) all old.at.index);
           out = (sent_of new.packets all long holds sent).out;
-          then_are = sym (octets-more s all old.at.index) ∙ ap (λ n. joined (packets_of (tells_last s.setting) (whole s) all n)) (sym index);
+          then_are = sym (octets-more s all old.at.index) ∙ ap (λ n. joined (packets_of (reports_last s.setting) (whole s) all n)) (sym index);
         };
       }
 
@@ -195,7 +203,7 @@ module _ (s : Plan) (old new : Work) (range : IsPlan s) (full : IsFull s old) (s
         subst (λ v. TextCut (text_of s old.at.index) a b v new.packets (segment_text (whole s) all old.at.index)) holds.packets
         (subst (λ t. TextCut (text_of s old.at.index) a b old.packets new.packets t) (text_is s old range full all long holds) cut) in
         record {
-          gave = take at.some (joined (segment_packets (tells_last s.setting) (whole s) all old.at.index));
+          gave = take at.some (joined (segment_packets (reports_last s.setting) (whole s) all old.at.index));
           out = at.out;
           index = old.at.index;
           inside = full.index;
@@ -204,7 +212,7 @@ module _ (s : Plan) (old new : Work) (range : IsPlan s) (full : IsFull s old) (s
               let before = first_block-lt (total_blocks s.setting.width s.rows) s.setting.segment old.at.index (omega (arith, segment)) full.index in
               let filled = full.full in
               omega (arith, before, filled);
-          some = length (joined (packets_of (tells_last s.setting) (whole s) all old.at.index)) + at.some;
-          front = front_is s all old.at.index at.some;
+          some = length (joined (packets_of (reports_last s.setting) (whole s) all old.at.index)) + at.some;
+          prefix = prefix_is s all old.at.index at.some;
         };
   }

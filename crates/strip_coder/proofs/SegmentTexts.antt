@@ -1,5 +1,6 @@
 -- The text of one segment of an image.
-use Rattle.std.proofs.Common.{◌≡◌, ◌≢◌, ℕ, ◌+◌, ◌-◌, ◌/◌, ◌<◌, ◌≤◌, ◌==◌, ℤ, Bool, false, if◌then◌else◌, List, length, refl, sym, ap, subst, arith, inl, inr, length-append, length-take, le-div_iff_mul-le, mul-le-mul_right}
+use Rattle.std.proofs.Common.{◌≡◌, ◌≢◌, ℕ, ◌+◌, ◌-◌, ◌/◌, ◌<◌, ◌≤◌, ◌==◌, ℤ, Bool, false, if◌then◌else◌, List, length, refl, sym, ap, subst, arith, inl}
+use Rattle.std.proofs.Common.{inr, length-append, length-take, le-div_iff_mul-le, mul-le-mul_right}
 use Rattle.std.proofs.lemmas.Bool.{cases_lt}
 use Rattle.std.proofs.lemmas.Bool.Decides.{nat_tests}
 use Rattle.std.proofs.lemmas.List.FromFn.{length-map-range_with_len}
@@ -74,15 +75,18 @@ cut_some limit octets some = grind (arith, nat_tests, length-take)
 
 -- nor is a text that has one
 pub coded_some : (book : Book) (h : SegmentHead) (blocks : List (List ℤ)) → 1 ≤ h.image.word → 0 < length (coded book h blocks)
-coded_some book h blocks word = rw (coded-is, text_octets-is) (grind (arith, nat_tests, head_some, length-append, mul-le-mul_right, length-copies, cut_some, length-octets_of, le-div_iff_mul-le))
+coded_some book h blocks word = rw (coded-is, text_octets-is)
+    (grind (arith, nat_tests, head_some, length-append, mul-le-mul_right, length-copies, cut_some, length-octets_of, le-div_iff_mul-le))
 
 -- the head is the segment's own if its depths are those of the blocks
 pub text_same : (s : Plan) (index used count depth_dc depth_ac : ℕ) (segment : List (List ℤ)) → count ≡ length segment →
-    depth_dc ≡ depth_dc_of segment → depth_ac ≡ depth_ac_of segment → coded s.setting.book (head_with (whole s) index (share (whole s) index used) count depth_dc depth_ac) segment ≡ text_for s index used segment
+    depth_dc ≡ depth_dc_of segment → depth_ac ≡ depth_ac_of segment →
+    coded s.setting.book (head_with (whole s) index (share (whole s) index used) count depth_dc depth_ac) segment ≡ text_for s index used segment
 text_same s index used count depth_dc depth_ac segment e f g = rw (e, f, g) refl
 
 -- a head can have the share of what is left as its limit
-pub share_said : (s : Plan) (at : ImageAt) → IsPlan s → KeepsShare (whole s) at → at.index < segments_of (whole s) → CanBeSaid (whole s) (share (whole s) at.index at.used)
+pub share_said : (s : Plan) (at : ImageAt) → IsPlan s → KeepsShare (whole s) at → at.index < segments_of (whole s) →
+    CanBeSaid (whole s) (share (whole s) at.index at.used)
 share_said s at range keeps lt = elim (cases_lt 0 s.setting.total) [
   | inl some ↦
       let bound : s.setting.total ≢ 0 = λ none. omega (arith, none, some) in

@@ -9,7 +9,7 @@ use Rattle.wave_strip.specs.Counts.{settled}
 use Rattle.packet_defs.specs.Packets.{joined}
 use Rattle.wave_defs.specs.Held.{signal}
 use Rattle.wave_strip.specs.Strip.{rows_of}
-use Rattle.stream_defs.specs.Output.{image_blocks, packets_of, tells_last}
+use Rattle.stream_defs.specs.Output.{image_blocks, packets_of, reports_last}
 use Rattle.strip_coder.specs.declared.work.Work.{Work}
 use Rattle.strip_coder.specs.Works.{IsRunning}
 use Rattle.strip_coder.specs.Steps.{HasPushed, HasNotPushed, NextRowIs, LastRowIs, HasPushedOn, PushesOn}
@@ -22,11 +22,17 @@ none_pushed {p = p} s w running = record {
   row = refl;
   faults = omega arith;
   follows = λ x f is. f;
-  goes = λ x f is. record { gave = []; out = since_start p NoRead; then_are = append-nil (joined (packets_of (tells_last s.setting) (whole s) (image_blocks (whole s) x) w.at.index)) };
+  goes = λ x f is. record {
+    gave = [];
+    out = since_start p NoRead;
+    then_are =
+        append-nil (joined (packets_of (reports_last s.setting) (whole s) (image_blocks (whole s) x) w.at.index));
+  };
 }
 
 -- below the last row the padded image repeats it
-next_is : {p q : Outside} (s : Plan) (n : ℕ) (old mid : Work) (x : ℕ → ℕ → ℤ) → rows_of old.strip ≡ s.rows → HasPushedOn s n p q old mid → LastRowIs s x old → NextRowIs s x mid
+next_is : {p q : Outside} (s : Plan) (n : ℕ) (old mid : Work) (x : ℕ → ℕ → ℤ) → rows_of old.strip ≡ s.rows → HasPushedOn s n p q old mid →
+    LastRowIs s x old → NextRowIs s x mid
 next_is s n old mid x rows so_far is = record {
   at = λ j lt.
       let more = so_far.strip_rows in
@@ -34,7 +40,8 @@ next_is s n old mid x rows so_far is = record {
       ap (λ v. signal v.items j) so_far.row ∙ is.at j lt ∙ ap (λ k. x k (min j (s.setting.width - 1))) e;
 }
 
-pub then_pushed : {p q r : Outside} (s : Plan) (n : ℕ) (old mid new : Work) → rows_of old.strip ≡ s.rows → HasPushedOn s n p q old mid → HasPushed s q r mid new → HasPushedOn s (n + 1) p r old new
+pub then_pushed : {p q r : Outside} (s : Plan) (n : ℕ) (old mid new : Work) → rows_of old.strip ≡ s.rows → HasPushedOn s n p q old mid →
+    HasPushed s q r mid new → HasPushedOn s (n + 1) p r old new
 then_pushed {p = p} {q = q} s n old mid new rows so_far here =
     let a = so_far.strip_rows in
     let b = here.strip_rows in
@@ -46,10 +53,12 @@ then_pushed {p = p} {q = q} s n old mid new rows so_far here =
       row = here.row ∙ so_far.row;
       faults = omega (arith, f, g);
       follows = λ x f is. here.follows x (so_far.follows x f is) (next_is {p = p} {q = q} s n old mid x rows so_far is);
-      goes = λ x f is. goes_then s (image_blocks (whole s) x) old.at.index mid.at.index new.at.index (so_far.goes x f is) (here.goes x (so_far.follows x f is) (next_is {p = p} {q = q} s n old mid x rows so_far is));
+      goes = λ x f is. goes_then s (image_blocks (whole s) x) old.at.index mid.at.index new.at.index (so_far.goes x f is)
+          (here.goes x (so_far.follows x f is) (next_is {p = p} {q = q} s n old mid x rows so_far is));
     }
 
-pub then_unpushed : {T E : Type 0} (p q r : Outside) (result : Result T E) (s : Plan) (n all : ℕ) (old mid new : Work) → IsPlan s → IsErr result → rows_of old.strip ≡ s.rows →
+pub then_unpushed : {T E : Type 0} (p q r : Outside) (result : Result T E) (s : Plan) (n all : ℕ) (old mid new : Work) → IsPlan s → IsErr result →
+    rows_of old.strip ≡ s.rows →
     HasPushedOn s n p q old mid → HasNotPushed s q r mid new → PushesOn result s all p r old new
 then_unpushed p q r (Ok x) s n all old mid new range h rows so_far here = absurd cc
 then_unpushed p q r (Err x) s n all old mid new range h rows so_far here = record {

@@ -12,7 +12,7 @@ use Rattle.packet_defs.specs.Packets.{joined}
 use Rattle.wave_strip.specs.Strip.{IsAtStart, rows_of}
 use Rattle.wave_strip.specs.Counts.{settled}
 use Rattle.space_packets.specs.Progress.{Progress, fresh}
-use Rattle.stream_defs.specs.Output.{image_blocks, packets_before, packets_of, segments_of, tells_last, used_before}
+use Rattle.stream_defs.specs.Output.{image_blocks, packets_before, packets_of, segments_of, reports_last, used_before}
 use Rattle.stream_defs.proofs.Outputs.{packets_of-none, packets_before-none, used_before-none}
 use Rattle.strip_coder.specs.declared.work.Work.{Work}
 use Rattle.strip_coder.specs.declared.work.ImageAt.{ImageAt}
@@ -28,7 +28,9 @@ most_within s = grind (arith, nat_tests)
 
 -- no segment was written
 pub fresh_progress : (s : Plan) (all : List (List ℤ)) → fresh s.setting.packet ≡ progress_at s all 0
-fresh_progress s all = same_progress s.setting.packet 0 0 0 (packets_before (whole s) all 0) 0 (length (joined (packets_of (tells_last s.setting) (whole s) all 0))) refl (sym (packets_before-none (whole s) all)) (sym (ap (λ ps. length (joined ps)) (packets_of-none (tells_last s.setting) (whole s) all)))
+fresh_progress s all = same_progress s.setting.packet 0 0 0 (packets_before (whole s) all 0) 0
+    (length (joined (packets_of (reports_last s.setting) (whole s) all 0))) refl (sym (packets_before-none (whole s) all))
+    (sym (ap (λ ps. length (joined ps)) (packets_of-none (reports_last s.setting) (whole s) all)))
 
 -- so all of a bound on the coded segments is left
 all_left : (used index n total : ℕ) → used ≡ 0 → index ≡ 0 → 36 * n ≤ total → used + 36 * (n - index) ≤ total
@@ -91,7 +93,8 @@ starts s w range made start packets cleared at =
           holds = record {
             blocks = λ i lt. absurd (omega (arith, lt, filled));
             packets = packets ∙ fresh_progress t (image_blocks (whole t) x) ∙ ap (progress_at t (image_blocks (whole t) x)) (sym index);
-            used = λ some. ap (λ (a : ImageAt). a.used) at ∙ sym (used_before-none (whole t) (image_blocks (whole t) x)) ∙ ap (used_before (whole t) (image_blocks (whole t) x)) (sym index);
+            used = λ some. ap (λ (a : ImageAt). a.used) at ∙ sym (used_before-none (whole t) (image_blocks (whole t) x))
+                ∙ ap (used_before (whole t) (image_blocks (whole t) x)) (sym index);
           };
         };
         any = λ rows height le. start.follows _ _;

@@ -6,7 +6,7 @@ use Rattle.base_122.specs.declared.setting.Setting.{Setting}
 use Rattle.wave_defs.specs.Held.{SameWithin}
 use Rattle.raster_rows.specs.Pixels.{whole_pixels}
 use Rattle.raster_rows.specs.RowReads.{IsFirstBad}
-use Rattle.stream_defs.specs.Output.{output, image_blocks, image_packets, segments_of, tells_last, used_before}
+use Rattle.stream_defs.specs.Output.{output, image_blocks, image_packets, segments_of, reports_last, used_before}
 use Rattle.strip_coder.specs.declared.encode.EncodeDone.{EncodeDone}
 use Rattle.strip_coder.specs.declared.encode.EncodeFault.{EncodeFault}
 use Rattle.strip_coder.specs.declared.encode.EncodeFault.TheVariants.{ReadFault, WriteFault, Short, Long, BadPixel}
@@ -39,7 +39,7 @@ coded_octets s rows x = used_before (sized s rows) (image_blocks (sized s rows) 
 -- what was done for an image; its coded segments have at most the octets of a total
 pub record DoneFor (s : Setting) (rows : ℕ) (x : ℕ → ℕ → ℤ) (done : EncodeDone) : Type 0 where
   pub segments : done.segments ≡ segments_of (sized s rows)
-  pub packets : done.packets ≡ length (image_packets (tells_last s) (sized s rows) x)
+  pub packets : done.packets ≡ length (image_packets (reports_last s) (sized s rows) x)
   pub octets : done.octets ≡ length (output s rows x)
   pub total : s.total ≢ 0 → coded_octets s rows x ≤ s.total
 
@@ -50,16 +50,16 @@ pub record TookRows (s : Setting) (taken : List ℕ) (k : ℕ) : Type 0 where
   pub in_range : AllInRange s taken
 
 -- these octets are a prefix of all packets of each image that begins with the first k rows of the raster
-pub record IsFrontOfEach (s : Setting) (taken : List ℕ) (k : ℕ) (gave : List ℕ) : Type 0 where
+pub record IsPrefixOfEach (s : Setting) (taken : List ℕ) (k : ℕ) (gave : List ℕ) : Type 0 where
   pub each : (rows : ℕ) (x : ℕ → ℕ → ℤ) → IsHeight s rows → k ≤ rows → SameWithin k s.width (image_of s taken) x → (n : ℕ) × (gave ≡ take n (output s rows x))
 
 -- or, if the rows were open and the end was read, of the image of exactly these rows
-pub record IsFrontOfWhole (s : Setting) (new : Outside) (taken : List ℕ) (k : ℕ) (gave : List ℕ) : Type 0 where
+pub record IsPrefixOfWhole (s : Setting) (new : Outside) (taken : List ℕ) (k : ℕ) (gave : List ℕ) : Type 0 where
   pub left_open : s.rows ≡ 0
   pub at_end : AtEnd new
   pub height : IsHeight s k
   pub some : ℕ
-  pub front : gave ≡ take some (output s k (image_of s taken))
+  pub prefix : gave ≡ take some (output s k (image_of s taken))
 
 -- Why the call ended so. The answers exclude each other by what was taken, the end and the counts, so each is given exactly if its case
 -- holds, except for faults of the port. The row of a bad pixel is the number of whole rows in range before it.
@@ -76,7 +76,7 @@ Answers s old new took gave (Err (BadPixel row column value)) =
 Answers s old new took gave (Err ReadFault) =
     Rose old.read_faults new.read_faults × (length took ≤ most_length s) × AllInRange s took × (gave ≡ given_for s took)
 Answers s old new took gave (Err WriteFault) =
-    Rose old.write_faults new.write_faults × ((k : ℕ) × TookRows s took k × (IsFrontOfEach s took k gave ⊎ IsFrontOfWhole s new took k gave))
+    Rose old.write_faults new.write_faults × ((k : ℕ) × TookRows s took k × (IsPrefixOfEach s took k gave ⊎ IsPrefixOfWhole s new took k gave))
 
 -- One run over a port: what it took and gave, when, and why it ended so. At each read call the packets of the segments that were
 -- settled by then are given, and nothing else, and all whole pixels taken by then are in range.

@@ -18,8 +18,8 @@ abbrev pub tallest : Setting → ℕ
 tallest s = if s.rows == 0 then rows_range.most else s.rows
 
 -- it isn't known that the first k rows of an image are all
-abbrev pub MoreMayCome : Plan → (k : ℕ) → Type 0
-MoreMayCome p k = (k < p.rows) ⊎ (p.setting.rows ≡ 0)
+abbrev pub MoreMayArrive : Plan → (k : ℕ) → Type 0
+MoreMayArrive p k = (k < p.rows) ⊎ (p.setting.rows ≡ 0)
 
 -- the setting is in range, and an image of it may have this height
 pub record IsPlan (p : Plan) : Type 0 where

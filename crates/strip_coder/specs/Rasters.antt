@@ -5,7 +5,7 @@ use Rattle.base_122.specs.declared.setting.Setting.{Setting}
 use Rattle.packet_defs.specs.Packets.{joined}
 use Rattle.raster_rows.specs.Pixels.{pixel_size, raster_pixel}
 use Rattle.raster_rows.specs.RowReads.{FirstInRange}
-use Rattle.stream_defs.specs.SettledImages.{front_packets, settled_in}
+use Rattle.stream_defs.specs.SettledImages.{leading_packets, settled_in}
 use Rattle.strip_coder.specs.Plans.{tallest}
 
 -- octets of a row, and of the longest raster of a setting
@@ -31,7 +31,7 @@ AreInRange s octets n = FirstInRange s.depth s.signed octets n
 
 -- the packets of the segments that the first k rows of a raster settle, whatever rows follow
 unfoldable pub settled_octets : Setting → (taken : List ℕ) → (k : ℕ) → List ℕ
-settled_octets s taken k = joined (front_packets s (tallest s) (image_of s taken) (settled_in s (tallest s) k))
+settled_octets s taken k = joined (leading_packets s (tallest s) (image_of s taken) (settled_in s (tallest s) k))
 
 -- the whole rows of a raster that these octets begin with
 abbrev pub whole_rows : Setting → List ℕ → ℕ

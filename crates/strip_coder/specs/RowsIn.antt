@@ -8,7 +8,7 @@ use Rattle.base_122.specs.declared.setting.Setting.{Setting}
 use Rattle.packet_defs.specs.Packets.{joined}
 use Rattle.raster_rows.specs.declared.reading.RowFault.{RowFault}
 use Rattle.raster_rows.specs.declared.reading.RowFault.TheVariants as row_faults
-use Rattle.stream_defs.specs.SettledImages.{front_packets}
+use Rattle.stream_defs.specs.SettledImages.{leading_packets}
 use Rattle.strip_coder.specs.Plans.{tallest}
 use Rattle.strip_coder.specs.declared.encode.EncodeFault.{EncodeFault}
 use Rattle.strip_coder.specs.declared.encode.EncodeFault.TheVariants.{ReadFault, Short, BadPixel}
@@ -36,28 +36,28 @@ ShortOf (row_faults.Short octets) size = octets < size
 ShortOf fault size = Unit {0}
 
 -- the row is the last of the first k rows of a raster
-pub record LastStands (s : Setting) (k : ℕ) (taken : List ℕ) (row : List ℤ) : Type 0 where
+pub record LastIsValid (s : Setting) (k : ℕ) (taken : List ℕ) (row : List ℤ) : Type 0 where
   pub in_range : IsRowInRange s row
   pub same : Agrees s.width (signal row) (image_of s taken (k - 1))
 
 -- Since a start exactly the first k rows of a raster were taken, each value in range. The work represents them, and the packets of the
 -- segments before the present one are given.
-pub record HasCome (s : Setting) (k : ℕ) (p q : Outside) (w : Work) : Type 0 where
+pub record HasArrived (s : Setting) (k : ℕ) (p q : Outside) (w : Work) : Type 0 where
   pub took : List ℕ
   pub whole : length took ≡ k * row_length s
   pub in_range : AreInRange s took (k * s.width)
-  pub stands : Represents s k (image_of s took) w
-  pub last : 0 < k → LastStands s k took w.row.items
-  pub since : Exchange p q took (joined (front_packets s (tallest s) (image_of s took) w.at.index)) [] (GivenBy (given_for s) took)
-  pub asks : Exchange p q took (joined (front_packets s (tallest s) (image_of s took) w.at.index)) [] (AsksInRange s took)
+  pub valid : Represents s k (image_of s took) w
+  pub last : 0 < k → LastIsValid s k took w.row.items
+  pub since : Exchange p q took (joined (leading_packets s (tallest s) (image_of s took) w.at.index)) [] (GivenBy (given_for s) took)
+  pub asks : Exchange p q took (joined (leading_packets s (tallest s) (image_of s took) w.at.index)) [] (AsksInRange s took)
 
 -- All rows of a raster were taken. If their number is reported last, the input has ended.
 pub record HasAll (s : Setting) (p q : Outside) (w : Work) : Type 0 where
   pub height : IsHeight s w.at.rows
-  pub come : HasCome s w.at.rows p q w
+  pub arrived : HasArrived s w.at.rows p q w
   pub ended : s.rows ≡ 0 → AtEnd q
 
 -- after k rows one more was taken, or these are all, and their number is reported last
 abbrev pub TookOneMore : Bool → Setting → ℕ → Outside → Outside → Work → Type 0
-TookOneMore true s k p q w = HasCome s (k + 1) p q w
+TookOneMore true s k p q w = HasArrived s (k + 1) p q w
 TookOneMore false s k p q w = (s.rows ≡ 0) × HasAll s p q w

@@ -1,5 +1,6 @@
 -- The effect of the steps of the encoder.
-use Rattle.std.specs.Prelude.{◌≡◌, ◌<◌, ◌≤◌, ◌+◌, ◌-◌, ◌*◌, ◌^◌, ℕ, ℤ, List, [], ◌++◌, length, take, Result, Ok, Err, MatchResult, slice_index_or, Bool, true, false}
+use Rattle.std.specs.Prelude.{◌≡◌, ◌<◌, ◌≤◌, ◌+◌, ◌-◌, ◌*◌, ◌^◌, ℕ, ℤ, List, [], ◌++◌, length, take, Result, Ok, Err, MatchResult, slice_index_or, Bool}
+use Rattle.std.specs.Prelude.{true, false}
 use Rattle.port_122.specs.Outside.{Outside, Exchange, NoRead, Rose}
 use Rattle.base_122.specs.Sizes.{block_count, padded_size, total_blocks, first_block, segment_blocks}
 use Rattle.base_122.specs.Ranges.{IsWithin, rows_range}
@@ -14,7 +15,7 @@ use Rattle.wave_defs.specs.Within.{AllWithin}
 use Rattle.wave_strip.specs.Strip.{rows_of, answered_of}
 use Rattle.wave_strip.specs.Counts.{settled}
 use Rattle.raster_rows.specs.Pixels.{IsPixel}
-use Rattle.stream_defs.specs.Output.{image_blocks, packets_of, segments_of, tells_last}
+use Rattle.stream_defs.specs.Output.{image_blocks, packets_of, segments_of, reports_last}
 use Rattle.strip_coder.specs.declared.work.Work.{Work}
 use Rattle.strip_coder.specs.Works.{IsMadeFor, HasGathered, IsRunning, HasTaken, HoldsBlocks, StripFollows, FollowsImage, FollowsRows, gathered_in}
 use Rattle.strip_coder.specs.declared.encode.EncodeDone.{EncodeDone}
@@ -26,6 +27,12 @@ pub record PutsBlock (place : ℕ) (old new numbers : List ℤ) : Type 0 where
   pub before : (i : ℕ) → i < place → block_at new i ≡ block_at old i
   pub here : block_at new place ≡ numbers
   pub long : length new ≡ 64 * (place + 1)
+
+-- n blocks were added from a place on, and those before it are unchanged
+pub record PutsBlocks (place n : ℕ) (old new : List ℤ) (numbers : ℕ → List ℤ) : Type 0 where
+  pub before : (i : ℕ) → i < place → block_at new i ≡ block_at old i
+  pub here : (k : ℕ) → k < n → block_at new (place + k) ≡ numbers k
+  pub long : length new ≡ 64 * (place + n)
 
 -- the strip, the row and the rows taken are as before
 pub record Stays (old new : Work) : Type 0 where
@@ -41,7 +48,7 @@ HasRoom s n w = gathered_in s w.at + n ≤ total_blocks s.setting.width s.rows
 pub record Continues (s : Plan) (all : List (List ℤ)) (from to : ℕ) (p q : Outside) : Type 0 where
   pub gave : List ℕ
   pub out : Exchange p q [] gave [] NoRead
-  pub then_are : joined (packets_of (tells_last s.setting) (whole s) all from) ++ gave ≡ joined (packets_of (tells_last s.setting) (whole s) all to)
+  pub then_are : joined (packets_of (reports_last s.setting) (whole s) all from) ++ gave ≡ joined (packets_of (reports_last s.setting) (whole s) all to)
 
 -- A write failed in the packets of one segment, with those of the segments before an index written: a prefix of them is written. This
 -- number of blocks of the image were gathered, those of that segment among them.
@@ -52,7 +59,8 @@ pub record StopsEarly (s : Plan) (all : List (List ℤ)) (from gathered : ℕ) (
   pub inside : index < segments_of (whole s)
   pub there : first_block s.setting.segment index + segment_blocks (total_blocks s.setting.width s.rows) s.setting.segment index ≤ gathered
   pub some : ℕ
-  pub front : joined (packets_of (tells_last s.setting) (whole s) all from) ++ gave ≡ take some (joined (packets_of (tells_last s.setting) (whole s) all (index + 1)))
+  pub prefix : joined (packets_of (reports_last s.setting) (whole s) all from) ++ gave
+      ≡ take some (joined (packets_of (reports_last s.setting) (whole s) all (index + 1)))
 
 -- these blocks are those of an image, and the next n of them after those gathered are these
 pub record NextAre (s : Plan) (w : Work) (n : ℕ) (numbers : ℕ → List ℤ) (all : List (List ℤ)) : Type 0 where
@@ -79,6 +87,12 @@ Gathers result s numbers n p q old new = MatchResult result
     (λ _. HasGone s numbers n p q old new)
     (λ _. HasBroken s numbers n p q old new)
 
+-- some of the next blocks were gathered, at least one and at most this number
+abbrev pub GathersSome : {E : Type 0} → Result ℕ E → Plan → (ℕ → List ℤ) → ℕ → Outside → Outside → Work → Work → Type 0
+GathersSome result s numbers most p q old new = MatchResult result
+    (λ n. (1 ≤ n) × (n ≤ most) × HasGone s numbers n p q old new)
+    (λ _. HasBroken s numbers most p q old new)
+
 -- the present segment was written, and none of the next is there yet
 pub record PresentOut (s : Plan) (p q : Outside) (old new : Work) : Type 0 where
   pub stays : Stays old new
@@ -92,7 +106,8 @@ pub record PresentOut (s : Plan) (p q : Outside) (old new : Work) : Type 0 where
 pub record PresentCut (s : Plan) (p q : Outside) (old new : Work) : Type 0 where
   pub made : IsMadeFor s.setting new
   pub rose : Rose p.write_faults q.write_faults
-  pub breaks : (all : List (List ℤ)) → length all ≡ total_blocks s.setting.width s.rows → HoldsBlocks s all old → StopsEarly s all old.at.index (gathered_in s old.at) p q
+  pub breaks : (all : List (List ℤ)) → length all ≡ total_blocks s.setting.width s.rows → HoldsBlocks s all old →
+      StopsEarly s all old.at.index (gathered_in s old.at) p q
 
 abbrev pub WritesPresent : {T E : Type 0} → Result T E → Plan → Outside → Outside → Work → Work → Type 0
 WritesPresent result s p q old new = MatchResult result (λ _. PresentOut s p q old new) (λ _. PresentCut s p q old new)
@@ -115,7 +130,8 @@ pub record HasPushed (s : Plan) (p q : Outside) (old new : Work) : Type 0 where
   pub rows : new.at.rows ≡ old.at.rows
   pub faults : p.write_faults ≤ q.write_faults
   pub follows : (x : ℕ → ℕ → ℤ) → FollowsImage s x old → NextRowIs s x old → FollowsImage s x new
-  pub strip : (x : ℕ → ℕ → ℤ) (rows : ℕ) → IsWithin rows_range rows → rows_of old.strip < rows → StripFollows (plan_of s.setting rows) x old → NextRowIs (plan_of s.setting rows) x old →
+  pub strip : (x : ℕ → ℕ → ℤ) (rows : ℕ) → IsWithin rows_range rows → rows_of old.strip < rows → StripFollows (plan_of s.setting rows) x old →
+      NextRowIs (plan_of s.setting rows) x old →
       StripFollows (plan_of s.setting rows) x new
   pub goes : (x : ℕ → ℕ → ℤ) → FollowsImage s x old → NextRowIs s x old → Continues s (image_blocks (whole s) x) old.at.index new.at.index p q
 
@@ -123,7 +139,8 @@ pub record HasPushed (s : Plan) (p q : Outside) (old new : Work) : Type 0 where
 pub record HasNotPushed (s : Plan) (p q : Outside) (old new : Work) : Type 0 where
   pub made : IsMadeFor s.setting new
   pub rose : Rose p.write_faults q.write_faults
-  pub breaks : (x : ℕ → ℕ → ℤ) → FollowsImage s x old → NextRowIs s x old → StopsEarly s (image_blocks (whole s) x) old.at.index (block_count s.setting.width * settled (rows_of old.strip + 1)) p q
+  pub breaks : (x : ℕ → ℕ → ℤ) → FollowsImage s x old → NextRowIs s x old →
+      StopsEarly s (image_blocks (whole s) x) old.at.index (block_count s.setting.width * settled (rows_of old.strip + 1)) p q
 
 abbrev pub Pushes : {T E : Type 0} → Result T E → Plan → Outside → Outside → Work → Work → Type 0
 Pushes result s p q old new = MatchResult result (λ _. HasPushed s p q old new) (λ _. HasNotPushed s p q old new)
@@ -154,7 +171,8 @@ pub record TakesRow (s : Setting) (k : ℕ) (p q : Outside) (old new : Work) : T
 pub record BreaksAt (s : Setting) (k : ℕ) (p q : Outside) (old new : Work) : Type 0 where
   pub made : IsMadeFor s new
   pub rose : Rose p.write_faults q.write_faults
-  pub breaks : (x : ℕ → ℕ → ℤ) → FollowsRows s x old → RowIs s x k old → StopsEarly (plan_of s (tallest s)) (tall_blocks s x) old.at.index (block_count s.width * settled (k + 1)) p q
+  pub breaks : (x : ℕ → ℕ → ℤ) → FollowsRows s x old → RowIs s x k old → StopsEarly (plan_of s (tallest s)) (tall_blocks s x) old.at.index
+      (block_count s.width * settled (k + 1)) p q
 
 -- all packets of an image with this number of rows are written
 pub record EndsImage (s : Setting) (rows : ℕ) (p q : Outside) (old new : Work) (result : EncodeDone) : Type 0 where
@@ -190,7 +208,8 @@ pub record HasPushedOn (s : Plan) (n : ℕ) (p q : Outside) (old new : Work) : T
 pub record HasNotPushedOn (s : Plan) (p q : Outside) (old new : Work) : Type 0 where
   pub made : IsMadeFor s.setting new
   pub rose : Rose p.write_faults q.write_faults
-  pub breaks : (x : ℕ → ℕ → ℤ) → FollowsImage s x old → LastRowIs s x old → StopsEarly s (image_blocks (whole s) x) old.at.index (total_blocks s.setting.width s.rows) p q
+  pub breaks : (x : ℕ → ℕ → ℤ) → FollowsImage s x old → LastRowIs s x old →
+      StopsEarly s (image_blocks (whole s) x) old.at.index (total_blocks s.setting.width s.rows) p q
 
 abbrev pub PushesOn : {T E : Type 0} → Result T E → Plan → ℕ → Outside → Outside → Work → Work → Type 0
 PushesOn result s n p q old new = MatchResult result (λ _. HasPushedOn s n p q old new) (λ _. HasNotPushedOn s p q old new)
@@ -240,5 +259,5 @@ pub record HasFinishedOn (s : Plan) (p q : Outside) (old new : Work) : Type 0 wh
 pub record AllOut (s : Plan) (p q : Outside) (old new : Work) : Type 0 where
   pub made : IsMadeFor s.setting new
   pub faults : p.write_faults ≤ q.write_faults
-  pub stands : (x : ℕ → ℕ → ℤ) → FollowsImage s x old → new.packets ≡ progress_at s (image_blocks (whole s) x) (segments_of (whole s))
+  pub valid : (x : ℕ → ℕ → ℤ) → FollowsImage s x old → new.packets ≡ progress_at s (image_blocks (whole s) x) (segments_of (whole s))
   pub goes : (x : ℕ → ℕ → ℤ) → FollowsImage s x old → Continues s (image_blocks (whole s) x) old.at.index (segments_of (whole s)) p q

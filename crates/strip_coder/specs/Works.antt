@@ -10,12 +10,12 @@ use Rattle.wave_strip.specs.Counts.{settled}
 use Rattle.wave_strip.specs.Samples.{samples_of as strip_samples}
 use Rattle.segment_code.specs.HeldBlocks.{samples_for}
 use Rattle.space_packets.specs.declared.stage.PacketiserState.TheVariants.{Idle}
-use Rattle.stream_defs.specs.Output.{image_blocks, segments_of, used_before, tells_last}
+use Rattle.stream_defs.specs.Output.{image_blocks, segments_of, used_before, reports_last}
 use Rattle.stream_defs.specs.Settled.{settled as settled_segments}
 use Rattle.strip_coder.specs.declared.work.Work.{Work}
 use Rattle.strip_coder.specs.declared.work.ImageAt.{ImageAt}
 use Rattle.base_122.specs.Setting.{IsHeight}
-use Rattle.strip_coder.specs.Plans.{MoreMayCome, plan_of, tallest, whole}
+use Rattle.strip_coder.specs.Plans.{MoreMayArrive, plan_of, tallest, whole}
 use Rattle.strip_coder.specs.SegmentsOut.{progress_at}
 
 -- the blocks that a segment has at most
@@ -78,7 +78,7 @@ pub record HasTaken (s : Plan) (k : ℕ) (w : Work) : Type 0 where
   pub running : IsRunning s w
   pub rows : w.at.rows ≡ k
   pub strip_rows : rows_of w.strip ≡ k
-  pub index : MoreMayCome s k → w.at.index ≡ settled_segments (tells_last s.setting) (whole s) k
+  pub index : MoreMayArrive s k → w.at.index ≡ settled_segments (reports_last s.setting) (whole s) k
 
 -- ---- and for which images
 

@@ -6,7 +6,8 @@ ghost use Rattle.strip_coder.specs.Plans.{IsPlan, plan_of, whole, tallest};
 ghost use Rattle.base_122.specs.Sizes.{padded_size};
 ghost use Rattle.wave_strip.specs.Strip.{rows_of};
 ghost use Rattle.strip_coder.specs.Works.{IsMadeFor, IsRunning, HasTaken, RepresentsNone};
-ghost use Rattle.strip_coder.specs.Steps.{IsRowSmall, IsRowInRange, Pushes, PushesOn, IsEnding, Finishes, AllOut, HasNotFinished, TakesRow, BreaksAt, EndsImage, EndBreaks};
+ghost use Rattle.strip_coder.specs.Steps.{IsRowSmall, IsRowInRange, Pushes, PushesOn, IsEnding, Finishes, AllOut, HasNotFinished, TakesRow, BreaksAt};
+ghost use Rattle.strip_coder.specs.Steps.{EndsImage, EndBreaks};
 ghost use Rattle.stream_defs.specs.Output.{segments_of};
 
 use crate::encode::EncodeDone;

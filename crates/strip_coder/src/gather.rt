@@ -1,35 +1,67 @@
 // Gathers the blocks of a block row into segments, which are written as they become full.
-ghost use Rattle.std.specs.Prelude.{◌≡◌, ◌<◌, ◌*◌, ℕ, All, length, true};
+ghost use Rattle.std.specs.Prelude.{◌≡◌, ◌<◌, ◌≤◌, ◌+◌, ◌*◌, ℕ, All, length, true};
 ghost use Rattle.strip_coder.specs.Plans.{IsPlan, whole};
 ghost use Rattle.base_122.specs.Sizes.{block_count};
 ghost use Rattle.base_122.specs.Weights.{IsShift};
 ghost use Rattle.block_families.specs.Places.{gathered};
-ghost use Rattle.wave_strip.specs.Strip.{columns_of, is_standing, number_in};
+ghost use Rattle.wave_strip.specs.Strip.{columns_of, is_current, number_in};
 ghost use Rattle.stream_defs.specs.Output.{segments_of};
 ghost use Rattle.strip_coder.specs.Works.{HasGathered, IsFull};
-ghost use Rattle.strip_coder.specs.Steps.{PutsBlock, Gathers, HasRoom, WritesPresent};
+ghost use Rattle.strip_coder.specs.Steps.{PutsBlock, PutsBlocks, Gathers, GathersSome, HasRoom, WritesPresent};
 
 use crate::plan::Plan;
 use crate::segments::write_segment;
 use crate::work::Work;
 use base_122::Weights;
-use block_families::gather;
+use block_families::{gather, gather_run};
 use port_122::{Failed, Port};
 use segment_code::SegmentBlocks;
 use wave_strip::StripWave;
 
+// The greatest number of blocks that are gathered together: their numbers are in the nearest cache until they are masks.
+const RUN: u32 = 16;
+
+// The numbers of these blocks.
+const RUN_NUMBERS: usize = 1024;
+
 /// Adds the block of this column of the block row that is in the strip to the blocks of a segment (docs/formats.md, "Blocks").
 pub fn gather_block(strip: &StripWave, weights: &Weights, column: u32, blocks: &mut SegmentBlocks)
-    requires stands { is_standing strip.now ≡ true }
+    requires valid { is_current strip.now ≡ true }
     requires column { column < columns_of strip.now }
     requires weights { All IsShift weights.now.shifts }
     requires room { length blocks.old.numbers < 64 * blocks.old.most }
-    ensures puts { (place : ℕ) → length blocks.old.numbers ≡ 64 * place → PutsBlock place blocks.old.numbers blocks.new.numbers (gathered (number_in strip.now) weights.now.shifts column) }
+    ensures puts { (place : ℕ) → length blocks.old.numbers ≡ 64 * place →
+        PutsBlock place blocks.old.numbers blocks.new.numbers (gathered (number_in strip.now) weights.now.shifts column) }
     ensures most { blocks.new.most ≡ blocks.old.most }
 {
     let mut block = [0; 64];
     gather(strip, column, weights, &mut block);
     blocks.push(&block);
+}
+
+// Adds some blocks of the block row that is in the strip, from this column on, to the blocks of a segment, as `gather_block` adds one.
+fn gather_blocks(
+    strip: &StripWave,
+    weights: &Weights,
+    column: u32,
+    count: u32,
+    blocks: &mut SegmentBlocks,
+)
+    requires valid { is_current strip.now ≡ true }
+    requires columns { column + count ≤ columns_of strip.now }
+    requires few { count ≤ 16 }
+    requires weights { All IsShift weights.now.shifts }
+    requires room { length blocks.old.numbers + 64 * count ≤ 64 * blocks.old.most }
+    ensures puts { (place : ℕ) → length blocks.old.numbers ≡ 64 * place →
+        PutsBlocks place count blocks.old.numbers blocks.new.numbers (λ k. gathered (number_in strip.now) weights.now.shifts (column + k)) }
+    ensures most { blocks.new.most ≡ blocks.old.most }
+{
+    let mut room = [0; RUN_NUMBERS];
+    let numbers = &mut room[..64 * count as usize];
+    gather_run(strip, column, weights, numbers);
+    for k in 0..count as usize {
+        blocks.push(&numbers[64 * k..64 * k + 64]);
+    }
 }
 
 // Writes the present segment, which is full, and advances to the next.
@@ -56,44 +88,57 @@ fn write_present<X: Port>(port: &mut X, plan: &Plan, work: &mut Work) -> Result<
     Ok(())
 }
 
-// Gathers the block of this column of the block row in the strip, and writes the present segment if that makes it full.
-fn gather_column<X: Port>(
+// Gathers the next blocks of the block row in the strip, from this column on, and writes the present segment if they make it full. Returns
+// how many they are: at least one and at most `most`.
+fn gather_next<X: Port>(
     port: &mut X,
     plan: &Plan,
     work: &mut Work,
     column: u32,
-) -> Result<(), Failed>
+    most: u32,
+) -> Result<u32, Failed>
     requires in_range { IsPlan plan.now }
     requires gathered { HasGathered plan.now work.old }
     requires more { work.old.at.index < segments_of (whole plan.now) }
-    requires stands { is_standing work.old.strip ≡ true }
-    requires column { column < block_count plan.now.setting.width }
-    ensures { Gathers result plan.now (λ _. gathered (number_in work.old.strip) plan.now.setting.weights.shifts column) 1 (X.outside port.old) (X.outside port.new) work.old work.new }
+    requires valid { is_current work.old.strip ≡ true }
+    requires some { 1 ≤ most }
+    requires columns { column + most ≤ block_count plan.now.setting.width }
+    ensures { GathersSome result plan.now (λ k. gathered (number_in work.old.strip) plan.now.setting.weights.shifts (column + k)) most
+        (X.outside port.old) (X.outside port.new) work.old work.new }
 {
-    gather_block(&work.strip, &plan.setting.weights, column, &mut work.blocks);
-    work.at.filled += 1;
-    if work.at.filled
-        < plan
-            .setting
-            .geometry_for(plan.rows)
-            .blocks_of(work.at.index)
-    {
-        return Ok(());
+    let size = plan
+        .setting
+        .geometry_for(plan.rows)
+        .blocks_of(work.at.index);
+    let count = most.min(size - work.at.filled).min(RUN);
+    gather_blocks(
+        &work.strip,
+        &plan.setting.weights,
+        column,
+        count,
+        &mut work.blocks,
+    );
+    work.at.filled += count;
+    if work.at.filled < size {
+        return Ok(count);
     }
-    write_present(port, plan, work)
+    write_present(port, plan, work)?;
+    Ok(count)
 }
 
-/// Gathers the block row in the strip, block by block, and writes each segment that becomes full.
+/// Gathers the block row in the strip, some blocks at a time, and writes each segment that becomes full.
 pub fn gather_row<X: Port>(port: &mut X, plan: &Plan, work: &mut Work) -> Result<(), Failed>
     requires in_range { IsPlan plan.now }
     requires gathered { HasGathered plan.now work.old }
     requires room { HasRoom plan.now (block_count plan.now.setting.width) work.old }
-    requires stands { is_standing work.old.strip ≡ true }
-    ensures { Gathers result plan.now (gathered (number_in work.old.strip) plan.now.setting.weights.shifts) (block_count plan.now.setting.width) (X.outside port.old) (X.outside port.new) work.old work.new }
+    requires valid { is_current work.old.strip ≡ true }
+    ensures { Gathers result plan.now (gathered (number_in work.old.strip) plan.now.setting.weights.shifts) (block_count plan.now.setting.width)
+        (X.outside port.old) (X.outside port.new) work.old work.new }
 {
     let columns = plan.setting.geometry_for(plan.rows).padded_width() / 8;
-    for column in 0..columns {
-        gather_column(port, plan, work, column)?;
+    let mut column = 0;
+    while column < columns {
+        column += gather_next(port, plan, work, column, columns - column)?;
     }
     Ok(())
 }

@@ -6,7 +6,7 @@ ghost use Rattle.strip_coder.specs.Rasters.{row_length};
 ghost use Rattle.strip_coder.specs.Answers.{EncodesImage};
 ghost use Rattle.strip_coder.specs.Plans.{plan_of, tallest};
 ghost use Rattle.strip_coder.specs.Works.{IsMadeFor, HasTaken, RepresentsNone};
-ghost use Rattle.strip_coder.specs.RowsIn.{fault_after, ends_here, ShortOf, HasCome, HasAll, TookOneMore};
+ghost use Rattle.strip_coder.specs.RowsIn.{fault_after, ends_here, ShortOf, HasArrived, HasAll, TookOneMore};
 
 use crate::encode::{EncodeDone, EncodeFault};
 use crate::engine::{image_end, row_in, start_image};
@@ -91,7 +91,7 @@ fn take_row<X: Port>(port: &mut X, setting: &Setting, work: &mut Work) -> Result
     requires taken { HasTaken (plan_of setting.now (tallest setting.now)) work.old.at.rows work.old }
     requires few { work.old.at.rows < tallest setting.now }
     ensures made { IsMadeFor setting.now work.new }
-    ensures row { (start : Outside) → HasCome setting.now work.old.at.rows start (X.outside port.old) work.old → MatchResult result
+    ensures row { (start : Outside) → HasArrived setting.now work.old.at.rows start (X.outside port.old) work.old → MatchResult result
         (λ more. TookOneMore more setting.now work.old.at.rows start (X.outside port.new) work.new)
         (λ fault. EncodesImage setting.now start (X.outside port.new) (Err fault)) }
 {

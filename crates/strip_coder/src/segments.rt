@@ -7,7 +7,7 @@ ghost use Rattle.strip_coder.specs.SegmentsOut.{text_of, text_for};
 ghost use Rattle.base_122.specs.Sizes.{padded_size};
 ghost use Rattle.strip_coder.specs.Plans.{IsPlan, whole};
 ghost use Rattle.strip_coder.specs.Works.{KeepsShare};
-ghost use Rattle.stream_defs.specs.Output.{ancillary_of, head_with, image_part, segments_of, share, tells_last, written_stop};
+ghost use Rattle.stream_defs.specs.Output.{ancillary_of, head_with, image_part, segments_of, share, reports_last, written_stop};
 
 use crate::plan::Plan;
 use crate::work::ImageAt;
@@ -36,9 +36,11 @@ pub fn write_segment<X: Port>(
     requires idle { packets.old.stage ≡ Idle }
     requires texts { packets.old.texts < 2 ^ 28 }
     ensures text { MatchResult result
-        (λ octets. TextOut (text_of plan.now at.now.index) (X.outside port.old) (X.outside port.new) packets.old packets.new (text_for plan.now at.now.index at.now.used (blocks_in blocks.old.numbers))
+        (λ octets. TextOut (text_of plan.now at.now.index) (X.outside port.old) (X.outside port.new) packets.old packets.new
+        (text_for plan.now at.now.index at.now.used (blocks_in blocks.old.numbers))
         × (octets ≡ length (text_for plan.now at.now.index at.now.used (blocks_in blocks.old.numbers))))
-        (λ _. TextCut (text_of plan.now at.now.index) (X.outside port.old) (X.outside port.new) packets.old packets.new (text_for plan.now at.now.index at.now.used (blocks_in blocks.old.numbers))) }
+        (λ _. TextCut (text_of plan.now at.now.index) (X.outside port.old) (X.outside port.new) packets.old packets.new
+        (text_for plan.now at.now.index at.now.used (blocks_in blocks.old.numbers))) }
     ensures most { blocks.new.most ≡ blocks.old.most }
 {
     let (depth_dc, depth_ac) = blocks.depths();
@@ -155,11 +157,11 @@ pub fn make_head(
 fn ancillary(plan: &Plan, index: u32) -> Ancillary
     requires in_range { IsPlan plan.now }
     requires index { index < segments_of (whole plan.now) }
-    ensures { result ≡ ancillary_of (tells_last plan.now.setting) (whole plan.now) index }
+    ensures { result ≡ ancillary_of (reports_last plan.now.setting) (whole plan.now) index }
 {
     let setting = &plan.setting;
     Ancillary {
-        told_last: setting.rows == 0,
+        reported_last: setting.rows == 0,
         image: setting.image,
         rows: setting.rows,
         segment: setting.segment,

@@ -1,5 +1,6 @@
 -- No pixel outside the damaged rows depends on what was lost.
-use Rattle.std.proofs.Common.{◌≡◌, ◌<◌, ◌+◌, ◌*◌, ◌/◌, ◌^◌, ℕ, ℤ, get_or, refl, sym, ap, subst, ◌∙◌, inl, inr, arith, Bool, true, false, not, nat_lt, is_some, mul-le-mul_right}
+use Rattle.std.proofs.Common.{◌≡◌, ◌<◌, ◌+◌, ◌*◌, ◌/◌, ◌^◌, ℕ, ℤ, get_or, refl, sym, ap, subst, ◌∙◌, inl, inr, arith, Bool, true, false, not, nat_lt}
+use Rattle.std.proofs.Common.{is_some, mul-le-mul_right}
 use Rattle.std.specs.List.{list_any}
 use Rattle.std.proofs.lemmas.Bool.{false≢true, not-false, and_from}
 use Rattle.std.proofs.lemmas.Bool.Decides.{nat_tests}
@@ -18,7 +19,7 @@ use Rattle.stream_defs.specs.Picture.{number_at, picture, picture_octets, pictur
 use Rattle.stream_defs.proofs.OpenContaining.{contained_open, any_chosen}
 use Rattle.stream_defs.proofs.PlacedLaws.{is_open, is_not_open, within_not}
 use Rattle.stream_defs.proofs.DamageLaws.{whole_damage as damage_whole}
-use Rattle.picture_rows.specs.Fronts.{bands_of}
+use Rattle.picture_rows.specs.Prefixes.{bands_of}
 use Rattle.segment_walk.specs.Runs.{Numbers}
 use Rattle.segment_walk.specs.Images.{AreWith}
 use Rattle.strip_decoder.specs.Containment.{SameOutside}
@@ -30,7 +31,8 @@ use Rattle.stream_defs.proofs.Equations.{missing_below-is}
 known_rows : (g : Geometry) → IsWithin rows_range g.rows → (n : ℕ) → block_rows g n ≡ block_count g.rows
 known_rows g height n = rw (is_not_open g.rows (within_not g.rows height)) refl
 
-module _ (g : Geometry) (received : Numbers) (numbers : ℕ → ℕ → ℤ) (n : ℕ) (range : IsGeometryInRange g) (height : IsWithin rows_range g.rows) (are : AreWith g received numbers n) where
+module _ (g : Geometry) (received : Numbers) (numbers : ℕ → ℕ → ℤ) (n : ℕ) (range : IsGeometryInRange g) (height : IsWithin rows_range g.rows)
+    (are : AreWith g received numbers n) where
   abbrev r : ℕ
   r = block_count g.rows
 
@@ -42,7 +44,8 @@ module _ (g : Geometry) (received : Numbers) (numbers : ℕ → ℕ → ℤ) (n 
 
   -- a block of a block row that isn't missing is in a received segment
   kept_there : (t k : ℕ) → missing t ≡ false → k < c → is_some (received ((t * c + k) / g.segment)) ≡ true
-  kept_there t k kept lt = not-false (is_some (received ((t * c + k) / g.segment))) (any_at (λ column. not (is_some (received ((t * c + column) / g.segment)))) c k kept lt)
+  kept_there t k kept lt = not-false (is_some (received ((t * c + k) / g.segment)))
+      (any_at (λ column. not (is_some (received ((t * c + column) / g.segment)))) c k kept lt)
 
   -- it is before the last one
   block_low : (t k : ℕ) → t < r → k < c → t * c + k < block_rows g n * c
@@ -62,7 +65,8 @@ module _ (g : Geometry) (received : Numbers) (numbers : ℕ → ℕ → ℤ) (n 
   unreached i t inside uncovered low lost reached =
       let rows : nat_lt i g.rows ≡ true = grind (arith, nat_tests) in
       let undamaged : is_damaged g.rows (whole_missing g received) i ≡ false = sym ((damage_whole g.rows (whole_missing g received)).0.each i) ∙ uncovered in
-      let some : list_any (λ t. reaches t i) (whole_missing g received) ≡ true = rw missing_below-is (any_chosen (λ t. reaches t i) missing r 0 t (omega arith) (omega (arith, low)) lost reached) in
+      let some : list_any (λ t. reaches t i) (whole_missing g received) ≡ true =
+      rw missing_below-is (any_chosen (λ t. reaches t i) missing r 0 t (omega arith) (omega (arith, low)) lost reached) in
       absurd (false≢true (sym undamaged ∙ and_from (nat_lt i g.rows) (list_any (λ t. reaches t i) (whole_missing g received)) rows some))
 
   pub known_contained : SameOutside g.rows g.width (whole_damage g received) (whole_with g numbers) (whole_picture g received)
@@ -71,9 +75,11 @@ module _ (g : Geometry) (received : Numbers) (numbers : ℕ → ℕ → ℤ) (n 
     at = λ i j inside across uncovered.
         let tall = three-le-block_count g.rows height.0 in
         let wide = three-le-block_count g.width range.width.0 in
-        let same : SameReceived (λ t s. missing t) r c (bands_of g numbers) (bands_of g (number_at g received)) = record { block = λ t s low lt kept. block_same t s low lt kept } in
+        let same : SameReceived (λ t s. missing t) r c (bands_of g numbers) (bands_of g (number_at g received)) =
+        record { block = λ t s low lt kept. block_same t s low lt kept } in
         ap (clamped g.depth g.signed)
-        (rows-reach (bands_of g numbers) (bands_of g (number_at g received)) missing r c i j (omega (arith, tall)) (omega (arith, wide)) (omega (arith, inside)) (omega (arith, across)) same
+        (rows-reach (bands_of g numbers) (bands_of g (number_at g received)) missing r c i j (omega (arith, tall)) (omega (arith, wide))
+        (omega (arith, inside)) (omega (arith, across)) same
         (λ t low lost reached. unreached i t inside uncovered low lost reached));
   }
 
@@ -95,13 +101,15 @@ contained g received numbers n range are = elim range.rows [
       let bands : band_rows g n ≡ block_count g.rows = rw (is_not_open g.rows some) refl in
       subst (λ r. SameOutside (height g n) g.width (damage g received n) (picture_of g numbers r) (picture_of g (number_at g received) r)) (sym bands)
       (subst (λ rs. SameOutside (height g n) g.width rs (whole_with g numbers) (whole_picture g received)) (sym (known_damage g received n some))
-      (subst (λ m. SameOutside m g.width (whole_damage g received) (whole_with g numbers) (whole_picture g received)) (sym rows) (known_contained g received numbers n range within are)))
+      (subst (λ m. SameOutside m g.width (whole_damage g received) (whole_with g numbers) (whole_picture g received)) (sym rows)
+      (known_contained g received numbers n range within are)))
   | inl none ↦
       let least = three-le-block_count g.width range.width.0 in
       let rows : block_rows g n ≡ n = rw (is_open g.rows none) refl in
       record {
         at = λ i j inside across uncovered.
             contained_open g received numbers n none (omega (arith, least))
-            record { at = λ block k lt small there. are.at block k (omega (arith, lt, ap (λ m. m * block_count g.width) rows)) small there } i j inside across uncovered;
+            record { at = λ block k lt small there. are.at block k (omega (arith, lt, ap (λ m. m * block_count g.width) rows)) small there } i j inside
+            across uncovered;
       }
 ]

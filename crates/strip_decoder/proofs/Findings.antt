@@ -17,7 +17,14 @@ use Rattle.segment_walk.proofs.Endings.{found_as, silent_since}
 
 -- a fault ended it
 pub find_fails : (wish : DecodeWish) (old new : Outside) (fault : DecodeFault) → Walks no_picture wish old new (Err fault) → Finds wish old new (Err fault)
-find_fails wish old new fault x = record { took = x.took; gave = []; since = silent_since wish old new (Err fault) x (λ some. some.part); within = x.within; answer = by fault x.answer }
+find_fails wish old new fault x = record {
+  took = x.took;
+  gave = [];
+  since = silent_since wish old new (Err fault) x (λ some. some.part);
+  within =
+      x.within;
+  answer = by fault x.answer;
+}
   where
     by : (fault : DecodeFault) → WalkAnswers no_picture wish old new x.took x.gave (Err fault) → FindAnswers wish old new x.took [] (Err fault)
     by ReadFault a = (a.0, refl)
@@ -28,7 +35,8 @@ find_fails wish old new fault x = record { took = x.took; gave = []; since = sil
     by Memory a = refl
 
 -- all lines were given
-pub find_done : {T E : Type 0} (wish : DecodeWish) (old mid new : Outside) (walked : Walked NoPicture) (r : Result T E) → IsOk r → Walks no_picture wish old mid (Ok walked) → WritesAll r mid new (damage_lines walked.done.damage) → Finds wish old new (Ok walked.done)
+pub find_done : {T E : Type 0} (wish : DecodeWish) (old mid new : Outside) (walked : Walked NoPicture) (r : Result T E) → IsOk r →
+    Walks no_picture wish old mid (Ok walked) → WritesAll r mid new (damage_lines walked.done.damage) → Finds wish old new (Ok walked.done)
 find_done wish old mid new walked (Err e) is x out = absurd (false≢true is)
 find_done wish old mid new walked (Ok y) is x out = record {
   took = x.took;
@@ -39,7 +47,8 @@ find_done wish old mid new walked (Ok y) is x out = record {
 }
 
 -- or some of them
-pub find_cut : {T E : Type 0} (wish : DecodeWish) (old mid new : Outside) (walked : Walked NoPicture) (r : Result T E) → IsErr r → Walks no_picture wish old mid (Ok walked) → WritesAll r mid new (damage_lines walked.done.damage) → Finds wish old new (Err WriteFault)
+pub find_cut : {T E : Type 0} (wish : DecodeWish) (old mid new : Outside) (walked : Walked NoPicture) (r : Result T E) → IsErr r →
+    Walks no_picture wish old mid (Ok walked) → WritesAll r mid new (damage_lines walked.done.damage) → Finds wish old new (Err WriteFault)
 find_cut wish old mid new walked (Ok y) is x out = absurd (false≢true is)
 find_cut wish old mid new walked (Err e) is x out =
     let n = out.1.0 in
@@ -52,6 +61,12 @@ find_cut wish old mid new walked (Err e) is x out =
       answer = (
         rose_since x.since.faults.writes out.0,
         λ known. x.answer.few,
-        inr record { done = walked.done; found = found_as false [] x.answer (out_later wish.octets mid new x.took since x.answer.out) (λ received follows. refl); some = n; lines = refl },
+        inr record {
+          done = walked.done;
+          found = found_as false [] x.answer (out_later wish.octets mid new x.took since x.answer.out)
+              (λ received follows. refl);
+          some = n;
+          lines = refl;
+        },
       );
     }

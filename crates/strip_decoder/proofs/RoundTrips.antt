@@ -22,10 +22,10 @@ use Rattle.segment_walk.specs.declared.ending.DecodeDone.{DecodeDone}
 use Rattle.segment_walk.specs.Answers.{IsPicture}
 use Rattle.segment_walk.specs.Images.{IsImageFor, SendsAll}
 use Rattle.segment_walk.specs.Runs.{Numbers, holds_after}
-use Rattle.strip_decoder.specs.RoundTrip.{ComesSame, GivesBack}
+use Rattle.strip_decoder.specs.RoundTrip.{ArrivesSame, GivesBack}
 use Rattle.picture_rows.proofs.SameImages as images
 use Rattle.segment_walk.proofs.SublistPictures.{sized_range}
-use Rattle.segment_walk.proofs.WholeImages.{comes_whole, geometry_told, number_is}
+use Rattle.segment_walk.proofs.WholeImages.{arrives_whole, geometry_reported, number_is}
 
 module _ (short : TextsAreShort) (read : CodedTextsAreRead) (s : Setting) (rows : ℕ) (x : ℕ → ℕ → ℤ) (is : IsImageFor s rows x) (received : Numbers)
     (received_is : ReceivedIn (holds_after s.book) s.apid (output s rows x) received) (sends : SendsAll s) where
@@ -33,30 +33,37 @@ module _ (short : TextsAreShort) (read : CodedTextsAreRead) (s : Setting) (rows 
   g = image_geometry s rows
 
   pixel_same : (i j : ℕ) → i < rows → j < s.width → whole_picture g received i j ≡ x i j
-  pixel_same = images.pixel_same (sized s rows) x (sized_range short s rows x is) is.height.0 is.pixels.at (number_at g received) (number_is short s rows x is received received_is read sends)
+  pixel_same = images.pixel_same (sized s rows) x (sized_range short s rows x is) is.height.0 is.pixels.at (number_at g received)
+      (number_is short s rows x is received received_is read sends)
 
-  pub comes_same : ComesSame s rows x received
-  comes_same = record { at = pixel_same; octets = raster_same s.depth rows s.width (whole_picture g received) x pixel_same }
+  pub arrives_same : ArrivesSame s rows x received
+  arrives_same = record { at = pixel_same; octets = raster_same s.depth rows s.width (whole_picture g received) x pixel_same }
 
 -- ---- what a decoder gives
 
-pub decoded_back : TextsAreShort → CodedTextsAreRead → (wish : DecodeWish) (start new : Outside) (took gave every : List ℕ) (done : DecodeDone) (s : Setting) (rows : ℕ) (x : ℕ → ℕ → ℤ) →
-    IsPicture wish start new took gave done → start.rest ≡ Some every → wish.apid ≡ s.apid → wish.book ≡ s.book → took ≡ output s rows x → IsImageFor s rows x → GivesBack s rows x gave done
-decoded_back short read wish start new took gave every done s rows x found told apid book took_is is =
-    let t = found.told every told in
+pub decoded_back : TextsAreShort → CodedTextsAreRead → (wish : DecodeWish) (start new : Outside) (took gave every : List ℕ) (done : DecodeDone)
+    (s : Setting) (rows : ℕ) (x : ℕ → ℕ → ℤ) →
+    IsPicture wish start new took gave done → start.rest ≡ Some every → wish.apid ≡ s.apid → wish.book ≡ s.book → took ≡ output s rows x →
+    IsImageFor s rows x → GivesBack s rows x gave done
+decoded_back short read wish start new took gave every done s rows x found if_known apid book took_is is =
+    let t = found.if_known every if_known in
     let received = t.0 in
     let n : ℕ = begun_in wish.apid took in
-    let there : geometry_in s.apid (output s rows x) ≡ Some done.geometry = subst (λ octets. geometry_in s.apid octets ≡ Some done.geometry) took_is (subst (λ n. geometry_in n took ≡ Some done.geometry) apid found.geometry) in
-    let size : done.geometry ≡ image_geometry s rows = same_Some _ _ (sym there ∙ geometry_told short s rows x is) in
+    let there : geometry_in s.apid (output s rows x) ≡ Some done.geometry = subst (λ octets. geometry_in s.apid octets ≡ Some done.geometry) took_is
+    (subst (λ n. geometry_in n took ≡ Some done.geometry) apid found.geometry) in
+    let size : done.geometry ≡ image_geometry s rows = same_Some _ _ (sym there ∙ geometry_reported short s rows x is) in
     let high : done.geometry.rows ≡ rows = ap (λ (g : Geometry). g.rows) size in
     let some : done.geometry.rows ≡ 0 → ⊥ = λ none. within_not rows is.height.0 (sym high ∙ none) in
     let all_rows : height done.geometry n ≡ done.geometry.rows = rw (is_not_open done.geometry.rows some) refl in
-    let mine : ReceivedIn (holds_after s.book) s.apid (output s rows x) received = subst (λ octets. ReceivedIn (holds_after s.book) s.apid octets received) took_is (subst (λ n. ReceivedIn (holds_after s.book) n took received) apid (subst (λ b. ReceivedIn (holds_after b) wish.apid took received) book t.1)) in
-    let whole = comes_whole short s rows x is received mine read in
+    let mine : ReceivedIn (holds_after s.book) s.apid (output s rows x) received =
+    subst (λ octets. ReceivedIn (holds_after s.book) s.apid octets received) took_is (subst (λ n. ReceivedIn (holds_after s.book) n took received) apid
+    (subst (λ b. ReceivedIn (holds_after b) wish.apid took received) book t.1)) in
+    let whole = arrives_whole short s rows x is received mine read in
     record {
       geometry = size;
       written = found.written ∙ all_rows ∙ high;
       missing = t.3.missing some ∙ ap (λ g. whole_missing g received) size ∙ whole.missing;
       framing_is = found.framing_is ∙ ap framing took_is ∙ whole.framing_is;
-      same = λ sends. t.2 ∙ known_octets done.geometry received n some ∙ ap (λ g. whole_octets g received) size ∙ (comes_same short read s rows x is received mine sends).octets;
+      same = λ sends. t.2 ∙ known_octets done.geometry received n some ∙ ap (λ g. whole_octets g received) size
+          ∙ (arrives_same short read s rows x is received mine sends).octets;
     }

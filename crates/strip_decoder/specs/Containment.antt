@@ -35,14 +35,15 @@ pub record LossesContained : Type 0 where
       begun_in s.apid (some_output s rows x parts) ≤ block_count rows
   pub those : (s : Setting) (rows : ℕ) (x : ℕ → ℕ → ℤ) (parts : ℕ → List ℕ) (received : Numbers) → AreSome s rows x parts →
       ReceivedIn (holds_after s.book) s.apid (some_output s rows x parts) received → ReceivesThose s rows x parts received
-  pub sublists : (s : Setting) (rows : ℕ) (x : ℕ → ℕ → ℤ) (parts : ℕ → List ℕ) (received whole : Numbers) (n : ℕ) → AreSome s rows x parts → n ≤ block_count rows →
+  pub sublists : (s : Setting) (rows : ℕ) (x : ℕ → ℕ → ℤ) (parts : ℕ → List ℕ) (received whole : Numbers) (n : ℕ) → AreSome s rows x parts →
+      n ≤ block_count rows →
       ReceivedIn (holds_after s.book) s.apid (some_output s rows x parts) received → ReceivedIn (holds_after s.book) s.apid (output s rows x) whole →
       SameOutside (height (reported s rows parts) n) s.width (damage (reported s rows parts) received n)
       (picture (reported s rows parts) received n) (whole_picture (image_geometry s rows) whole)
 
 -- the ranges of rows that a decoder's answer reports as damaged
-abbrev pub told_damage : DecodeDone → List RowRange
-told_damage done = ranges done.damage.rows done.damage.missing
+abbrev pub known_damage : DecodeDone → List RowRange
+known_damage done = ranges done.damage.rows done.damage.missing
 
 -- What is given is the picture of these segments, and whatever numbers the blocks of others have, no pixel outside the damage changes.
 pub record GivesContained (wish : DecodeWish) (took gave : List ℕ) (done : DecodeDone) : Type 0 where
@@ -50,7 +51,8 @@ pub record GivesContained (wish : DecodeWish) (took gave : List ℕ) (done : Dec
   pub received_is : ReceivedIn (holds_after wish.book) wish.apid took received
   pub gave_is : gave ≡ picture_octets done.geometry received (begun_in wish.apid took)
   pub whatever : (numbers : ℕ → ℕ → ℤ) → AreWith done.geometry received numbers (begun_in wish.apid took) →
-      SameOutside done.written done.geometry.width (told_damage done) (picture_with done.geometry numbers (begun_in wish.apid took)) (picture done.geometry received (begun_in wish.apid took))
+      SameOutside done.written done.geometry.width (known_damage done) (picture_with done.geometry numbers (begun_in wish.apid took))
+      (picture done.geometry received (begun_in wish.apid took))
 
 -- What is given is the picture of some packets of an image, and each pixel outside the damage is that of the picture for all of them.
 pub record GivesAlike (s : Setting) (rows : ℕ) (x : ℕ → ℕ → ℤ) (parts : ℕ → List ℕ) (gave : List ℕ) (done : DecodeDone) : Type 0 where
@@ -60,12 +62,15 @@ pub record GivesAlike (s : Setting) (rows : ℕ) (x : ℕ → ℕ → ℤ) (part
   pub those : ReceivesThose s rows x parts received
   pub gave_is : gave ≡ picture_octets done.geometry received (begun_in s.apid (some_output s rows x parts))
   pub same : (whole : Numbers) → ReceivedIn (holds_after s.book) s.apid (output s rows x) whole →
-      SameOutside done.written s.width (told_damage done) (picture done.geometry received (begun_in s.apid (some_output s rows x parts)))
+      SameOutside done.written s.width (known_damage done) (picture done.geometry received (begun_in s.apid (some_output s rows x parts)))
       (whole_picture (image_geometry s rows) whole)
 
 -- The same holds if a decoder gave a whole picture, and if it took some packets of an image, of which one begins a segment.
 pub record DecodedContained : Type 0 where
-  pub decoded : (wish : DecodeWish) (start new : Outside) (took gave all : List ℕ) (done : DecodeDone) → IsPicture wish start new took gave done → start.rest ≡ Some all → GivesContained wish took gave done
-  pub sublists : (wish : DecodeWish) (start new : Outside) (took gave all : List ℕ) (done : DecodeDone) (s : Setting) (rows : ℕ) (x : ℕ → ℕ → ℤ) (parts : ℕ → List ℕ) →
-      IsPicture wish start new took gave done → start.rest ≡ Some all → wish.apid ≡ s.apid → wish.book ≡ s.book → took ≡ some_output s rows x parts → AreSome s rows x parts → BeginsOne s rows parts →
+  pub decoded : (wish : DecodeWish) (start new : Outside) (took gave all : List ℕ) (done : DecodeDone) → IsPicture wish start new took gave done →
+      start.rest ≡ Some all → GivesContained wish took gave done
+  pub sublists : (wish : DecodeWish) (start new : Outside) (took gave all : List ℕ) (done : DecodeDone) (s : Setting) (rows : ℕ) (x : ℕ → ℕ → ℤ)
+      (parts : ℕ → List ℕ) →
+      IsPicture wish start new took gave done → start.rest ≡ Some all → wish.apid ≡ s.apid → wish.book ≡ s.book → took ≡ some_output s rows x parts →
+      AreSome s rows x parts → BeginsOne s rows parts →
       GivesAlike s rows x parts gave done

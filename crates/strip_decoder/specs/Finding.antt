@@ -36,13 +36,15 @@ FindAnswers wish old new took gave (Ok done) = IsDamage wish old new took gave d
 FindAnswers wish old new took gave (Err NoSegment) = (geometry_in wish.apid took ≡ None) × IsReadOut wish.octets new took × (gave ≡ [])
 FindAnswers wish old new took gave (Err (TooManyPixels pixels)) =
     HasTooMany wish took gave pixels × (gave ≡ [])
-FindAnswers wish old new took gave (Err LongInput) = (length took ≡ wish.octets) × (has_bad_version (left_over took) ≡ false) × HasFewPixels wish.pixels wish.apid took × (gave ≡ [])
+FindAnswers wish old new took gave (Err LongInput) = (length took ≡ wish.octets) × (has_bad_version (left_over took) ≡ false)
+    × HasFewPixels wish.pixels wish.apid took × (gave ≡ [])
 FindAnswers wish old new took gave (Err ReadFault) = Rose old.read_faults new.read_faults × (gave ≡ [])
-FindAnswers wish old new took gave (Err WriteFault) = Rose old.write_faults new.write_faults × HasFewKnown wish.pixels wish.apid took × GivesSome wish old new took gave
+FindAnswers wish old new took gave (Err WriteFault) = Rose old.write_faults new.write_faults × HasFewKnown wish.pixels wish.apid took
+    × GivesSome wish old new took gave
 FindAnswers wish old new took gave (Err Memory) = gave ≡ []
 
 -- One run over a port: what it took and gave, when, and why it ended so. However it ends, it takes at most the number of octets in the
--- wish. At each read call nothing is given.
+-- wish. At each read call the octets that were taken by then decide no answer, and nothing is given.
 pub record Finds (wish : DecodeWish) (old new : Outside) (result : Result DecodeDone DecodeFault) : Type 0 where
   pub took : List ℕ
   pub gave : List ℕ

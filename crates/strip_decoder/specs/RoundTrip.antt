@@ -10,11 +10,11 @@ use Rattle.stream_defs.specs.Picture.{whole_picture, whole_octets}
 use Rattle.stream_defs.specs.Received.{ReceivedIn}
 use Rattle.segment_walk.specs.declared.ending.DecodeDone.{DecodeDone}
 use Rattle.segment_walk.specs.Answers.{IsPicture}
-use Rattle.segment_walk.specs.Images.{IsImageFor, ComesWhole, SendsAll}
+use Rattle.segment_walk.specs.Images.{IsImageFor, ArrivesWhole, SendsAll}
 use Rattle.segment_walk.specs.Runs.{Numbers, holds_after}
 
 -- the picture of these segments is the image
-pub record ComesSame (s : Setting) (rows : ℕ) (x : ℕ → ℕ → ℤ) (received : Numbers) : Type 0 where
+pub record ArrivesSame (s : Setting) (rows : ℕ) (x : ℕ → ℕ → ℤ) (received : Numbers) : Type 0 where
   pub at : (i j : ℕ) → i < rows → j < s.width → whole_picture (image_geometry s rows) received i j ≡ x i j
   pub octets : whole_octets (image_geometry s rows) received ≡ raster_octets s.depth rows s.width x
 
@@ -30,8 +30,11 @@ pub record GivesBack (s : Setting) (rows : ℕ) (x : ℕ → ℕ → ℤ) (gave 
 -- All packets of an image, in order, give it whole, whether they report its height first or last, and if nothing was omitted they give
 -- exactly its pixels. The same holds if a decoder took them and gave a whole picture.
 pub record RoundTrip : Type 0 where
-  pub whole : (s : Setting) (rows : ℕ) (x : ℕ → ℕ → ℤ) (received : Numbers) → IsImageFor s rows x → ReceivedIn (holds_after s.book) s.apid (output s rows x) received → ComesWhole s rows x received
-  pub same : (s : Setting) (rows : ℕ) (x : ℕ → ℕ → ℤ) (received : Numbers) → IsImageFor s rows x → SendsAll s → ReceivedIn (holds_after s.book) s.apid (output s rows x) received →
-      ComesSame s rows x received
+  pub whole : (s : Setting) (rows : ℕ) (x : ℕ → ℕ → ℤ) (received : Numbers) → IsImageFor s rows x →
+      ReceivedIn (holds_after s.book) s.apid (output s rows x) received → ArrivesWhole s rows x received
+  pub same : (s : Setting) (rows : ℕ) (x : ℕ → ℕ → ℤ) (received : Numbers) → IsImageFor s rows x → SendsAll s →
+      ReceivedIn (holds_after s.book) s.apid (output s rows x) received →
+      ArrivesSame s rows x received
   pub decoded : (wish : DecodeWish) (start new : Outside) (took gave all : List ℕ) (done : DecodeDone) (s : Setting) (rows : ℕ) (x : ℕ → ℕ → ℤ) →
-      IsPicture wish start new took gave done → start.rest ≡ Some all → wish.apid ≡ s.apid → wish.book ≡ s.book → took ≡ output s rows x → IsImageFor s rows x → GivesBack s rows x gave done
+      IsPicture wish start new took gave done → start.rest ≡ Some all → wish.apid ≡ s.apid → wish.book ≡ s.book → took ≡ output s rows x →
+      IsImageFor s rows x → GivesBack s rows x gave done

@@ -1,5 +1,6 @@
 -- The numbers of a block, by block and position.
-use Rattle.std.proofs.Common.{◌≡◌, ℕ, zero, suc, Bool, true, ◌+◌, ◌*◌, ◌/◌, ◌%◌, ◌^◌, ◌<◌, ◌≤◌, ℤ, pos, ◌*ℤ◌, List, length, get_or, map, refl, ap, ◌∙◌, arith, nat_lt, ◌&&◌, slice_index}
+use Rattle.std.proofs.Common.{◌≡◌, ℕ, zero, suc, Bool, true, ◌+◌, ◌*◌, ◌/◌, ◌%◌, ◌^◌, ◌<◌, ◌≤◌, ℤ, pos, ◌*ℤ◌, List, length, get_or, map, refl, ap, ◌∙◌}
+use Rattle.std.proofs.Common.{arith, nat_lt, ◌&&◌, slice_index}
 use Rattle.std.specs.List.{range_with_len, list_all}
 use Rattle.std.proofs.lemmas.Bool.Decides.{nat_tests}
 use Rattle.std.proofs.lemmas.List.{same_lists, get_or_default}
@@ -55,11 +56,6 @@ place_holds : (p : Place) → is_place p ≡ true → IsPlace p
 unfolding is_place
 place_holds p e = record { band = grind (arith, nat_tests); row = grind (arith, nat_tests); column = grind (arith, nat_tests) }
 
--- the first number of a block is of the band LL3
-pub place_of-first : (place_of 0).band ≡ 9
-unfolding place_of
-place_of-first = refl
-
 pub place_of-is_place : (i : ℕ) → i < 64 → IsPlace (place_of i)
 place_of-is_place i h = place_holds (place_of i) (passes (λ i. is_place (place_of i)) 64 i all_places h)
 
@@ -73,7 +69,8 @@ weighted-within (suc (suc (suc zero))) b z h k = record { above = omega (arith, 
 weighted-within (suc (suc (suc (suc w)))) b z h k = absurd (omega arith)
 
 -- a band by its number, if the bound of the last level is right for all
-pub band_of-within : (a b m r c : ℕ) (p : Pyramid) → a ≤ m → b ≤ m → PyramidWithin a b m r c p → (band : ℕ) → band < 10 → EachWithin m (block_side band * r) (block_side band * c) (band_of p band)
+pub band_of-within : (a b m r c : ℕ) (p : Pyramid) → a ≤ m → b ≤ m → PyramidWithin a b m r c p → (band : ℕ) → band < 10 →
+    EachWithin m (block_side band * r) (block_side band * c) (band_of p band)
 band_of-within a b m r c p ha hb w zero h = EachWithin-more _ m _ _ _ _ _ (omega arith) (omega arith) (omega arith) w.hh1
 band_of-within a b m r c p ha hb w (suc zero) h = EachWithin-more _ m _ _ _ _ _ (omega arith) (omega arith) (omega arith) w.hl1
 band_of-within a b m r c p ha hb w (suc (suc zero)) h = EachWithin-more _ m _ _ _ _ _ (omega arith) (omega arith) (omega arith) w.lh1
@@ -81,12 +78,16 @@ band_of-within a b m r c p ha hb w (suc (suc (suc zero))) h = EachWithin-more _ 
 band_of-within a b m r c p ha hb w (suc (suc (suc (suc zero)))) h = EachWithin-more _ m _ _ _ _ _ (omega arith) (omega arith) (omega arith) w.hl2
 band_of-within a b m r c p ha hb w (suc (suc (suc (suc (suc zero))))) h = EachWithin-more _ m _ _ _ _ _ (omega arith) (omega arith) (omega arith) w.lh2
 band_of-within a b m r c p ha hb w (suc (suc (suc (suc (suc (suc zero)))))) h = EachWithin-more _ m _ _ _ _ _ (omega arith) (omega arith) (omega arith) w.hh3
-band_of-within a b m r c p ha hb w (suc (suc (suc (suc (suc (suc (suc zero))))))) h = EachWithin-more _ m _ _ _ _ _ (omega arith) (omega arith) (omega arith) w.hl3
-band_of-within a b m r c p ha hb w (suc (suc (suc (suc (suc (suc (suc (suc zero)))))))) h = EachWithin-more _ m _ _ _ _ _ (omega arith) (omega arith) (omega arith) w.lh3
-band_of-within a b m r c p ha hb w (suc (suc (suc (suc (suc (suc (suc (suc (suc zero))))))))) h = EachWithin-more _ m _ _ _ _ _ (omega arith) (omega arith) (omega arith) w.ll3
+band_of-within a b m r c p ha hb w (suc (suc (suc (suc (suc (suc (suc zero))))))) h =
+    EachWithin-more _ m _ _ _ _ _ (omega arith) (omega arith) (omega arith) w.hl3
+band_of-within a b m r c p ha hb w (suc (suc (suc (suc (suc (suc (suc (suc zero)))))))) h =
+    EachWithin-more _ m _ _ _ _ _ (omega arith) (omega arith) (omega arith) w.lh3
+band_of-within a b m r c p ha hb w (suc (suc (suc (suc (suc (suc (suc (suc (suc zero))))))))) h =
+    EachWithin-more _ m _ _ _ _ _ (omega arith) (omega arith) (omega arith) w.ll3
 band_of-within a b m r c p ha hb w (suc (suc (suc (suc (suc (suc (suc (suc (suc (suc band)))))))))) h = absurd (omega arith)
 
-pub coefficient-within : (r c i j k : ℕ) (p : Pyramid) (weights : List ℕ) → i < r → j < c → k < 64 → ((band : ℕ) → slice_index weights band ≤ 3) → PyramidWithin 409600 2560000 16000000 r c p → IsWithin 128000000 (coefficient p i j k *ℤ weight_at weights k)
+pub coefficient-within : (r c i j k : ℕ) (p : Pyramid) (weights : List ℕ) → i < r → j < c → k < 64 → ((band : ℕ) → slice_index weights band ≤ 3) →
+    PyramidWithin 409600 2560000 16000000 r c p → IsWithin 128000000 (coefficient p i j k *ℤ weight_at weights k)
 unfolding coefficient
 coefficient-within r c i j k p weights hi hj hk small w =
     let place = place_of k in

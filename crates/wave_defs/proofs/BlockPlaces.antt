@@ -1,5 +1,6 @@
 -- Each place of a block has a position among its 64 numbers, so blocks that are the same have the same numbers in each band.
-use Rattle.std.proofs.Common.{◌≡◌, ℕ, zero, suc, Bool, true, ◌+◌, ◌*◌, ◌/◌, ◌%◌, ◌<◌, ◌≤◌, ◌==◌, if◌then◌else◌, refl, sym, ap, ◌∙◌, arith, List, nat_lt, ◌&&◌, ◌||◌, not}
+use Rattle.std.proofs.Common.{◌≡◌, ℕ, zero, suc, Bool, true, ◌+◌, ◌*◌, ◌/◌, ◌%◌, ◌<◌, ◌≤◌, ◌==◌, if◌then◌else◌, refl, sym, ap, ◌∙◌, arith, List, nat_lt}
+use Rattle.std.proofs.Common.{◌&&◌, ◌||◌, not}
 use Rattle.std.specs.List.{range_with_len, list_all}
 use Rattle.std.proofs.lemmas.Bool.Decides.{nat_tests}
 use Rattle.wave_defs.specs.Pyramid.{Pyramid, band_of}
@@ -27,7 +28,8 @@ is_found : (band row column : ℕ) → Bool
 is_found band row column =
     let i = position_of band row column in
     let place = place_of i in
-    not (nat_lt row (block_side band) && nat_lt column (block_side band)) || (nat_lt i 64 && (place.band == band) && (place.row == row) && (place.column == column))
+    not (nat_lt row (block_side band) && nat_lt column (block_side band))
+    || (nat_lt i 64 && (place.band == band) && (place.row == row) && (place.column == column))
 
 all_found : list_all (λ n. is_found (n / 16) (n / 4 % 4) (n % 4)) (range_with_len 0 160) ≡ true
 unfolding place_of is_found
@@ -54,10 +56,15 @@ found band row column is =
     let eb : at.band ≡ band = grind (arith, nat_tests) in
     let er : at.row ≡ row = grind (arith, nat_tests) in
     let ec : at.column ≡ column = grind (arith, nat_tests) in
-    record { within = grind (arith, nat_tests); is = ap (λ (v : ℕ). record at { band = v }) eb ∙ ap (λ (v : ℕ). record at { band = band; row = v }) er ∙ ap (λ (v : ℕ). record { band = band; row = row; column = v }) ec }
+    record {
+      within = grind (arith, nat_tests);
+      is = ap (λ (v : ℕ). record at { band = v }) eb ∙ ap (λ (v : ℕ). record at { band = band; row = v }) er ∙
+          ap (λ (v : ℕ). record { band = band; row = row; column = v }) ec;
+    }
 
 -- the number at a place of block (t, s)
-pub band-same : (p q : Pyramid) (t s k l b y x : ℕ) → SameBlock p q t s → IsPlace (record { band = b; row = y; column = x }) → k ≡ block_side b * t + y → l ≡ block_side b * s + x → band_of p b k l ≡ band_of q b k l
+pub band-same : (p q : Pyramid) (t s k l b y x : ℕ) → SameBlock p q t s → IsPlace (record { band = b; row = y; column = x }) → k ≡ block_side b * t + y →
+    l ≡ block_side b * s + x → band_of p b k l ≡ band_of q b k l
 unfolding coefficient
 band-same p q t s k l b y x same is ek el =
     let f = found b y x is in
@@ -73,21 +80,25 @@ band-same p q t s k l b y x same is ek el =
 pub first-same : (p q : Pyramid) (b k l : ℕ) → b < 3 → SameBlock p q (k / 4) (l / 4) → band_of p b k l ≡ band_of q b k l
 first-same p q b k l hb same =
     let side : block_side b ≡ 4 = grind (arith, nat_tests) in
-    band-same p q (k / 4) (l / 4) k l b (k % 4) (l % 4) same (record { band = omega arith; row = rw side (omega arith); column = rw side (omega arith) }) (rw side (omega arith)) (rw side (omega arith))
+    band-same p q (k / 4) (l / 4) k l b (k % 4) (l % 4) same (record { band = omega arith; row = rw side (omega arith); column = rw side (omega arith) })
+    (rw side (omega arith)) (rw side (omega arith))
 
 pub second-same : (p q : Pyramid) (b k l : ℕ) → 3 ≤ b → b < 6 → SameBlock p q (k / 2) (l / 2) → band_of p b k l ≡ band_of q b k l
 second-same p q b k l lb hb same =
     let side : block_side b ≡ 2 = grind (arith, nat_tests) in
-    band-same p q (k / 2) (l / 2) k l b (k % 2) (l % 2) same (record { band = omega arith; row = rw side (omega arith); column = rw side (omega arith) }) (rw side (omega arith)) (rw side (omega arith))
+    band-same p q (k / 2) (l / 2) k l b (k % 2) (l % 2) same (record { band = omega arith; row = rw side (omega arith); column = rw side (omega arith) })
+    (rw side (omega arith)) (rw side (omega arith))
 
 pub third-same : (p q : Pyramid) (b k l : ℕ) → 6 ≤ b → b < 10 → SameBlock p q k l → band_of p b k l ≡ band_of q b k l
 third-same p q b k l lb hb same =
     let side : block_side b ≡ 1 = grind (arith, nat_tests) in
-    band-same p q k l k l b 0 0 same (record { band = omega arith; row = rw side (omega arith); column = rw side (omega arith) }) (rw side (omega arith)) (rw side (omega arith))
+    band-same p q k l k l b 0 0 same (record { band = omega arith; row = rw side (omega arith); column = rw side (omega arith) }) (rw side (omega arith))
+    (rw side (omega arith))
 
 -- ---- the reverse: bands that are the same have the same blocks
 
-pub band_of-same : (p q : Pyramid) (r c : ℕ) → SamePyramid r c p q → (band : ℕ) → band < 10 → SameWithin (block_side band * r) (block_side band * c) (band_of p band) (band_of q band)
+pub band_of-same : (p q : Pyramid) (r c : ℕ) → SamePyramid r c p q → (band : ℕ) → band < 10 →
+    SameWithin (block_side band * r) (block_side band * c) (band_of p band) (band_of q band)
 band_of-same p q r c s zero h = s.hh1
 band_of-same p q r c s (suc zero) h = s.hl1
 band_of-same p q r c s (suc (suc zero)) h = s.lh1
@@ -118,5 +129,6 @@ pub block-same : (p q : Pyramid) (weights : List ℕ) (t s : ℕ) → SameBlock 
 block-same p q weights t s same = grind (arith, nat_tests, same_lists, length-block, get_or-block)
 
 -- each place of a block is that of a position
-pub position-there : (band row column : ℕ) → IsPlace (record { band = band; row = row; column = column }) → (i : ℕ) × (i < 64) × (place_of i ≡ record { band = band; row = row; column = column })
+pub position-there : (band row column : ℕ) → IsPlace (record { band = band; row = row; column = column }) →
+    (i : ℕ) × (i < 64) × (place_of i ≡ record { band = band; row = row; column = column })
 position-there band row column is = let f = found band row column is in (position_of band row column, f.within, f.is)

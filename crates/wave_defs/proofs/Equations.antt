@@ -9,11 +9,14 @@ use Rattle.wave_defs.specs.Line.{low_of, high_of, merged, predicted, correction,
 use Rattle.wave_defs.specs.Lifted.{less_predicted, less_correction, plus_predicted, plus_correction, columns_even, columns_odd}
 use Rattle.wave_defs.specs.Rolling.{open_high, open_low}
 
-pub place_of-is : (i : ℕ) → place_of i ≡ if i == 0 then record { band = 9; row = 0; column = 0 } else (if nat_lt i 4 then record { band = family_band 3 (i - 1); row = 0; column = 0 } else (if nat_lt i 16 then child_place ((i - 4) / 4) (i % 4) else grandchild_place ((i - 16) / 16) (i % 16 / 4) (i % 4)))
+pub place_of-is : (i : ℕ) → place_of i ≡ if i == 0 then record { band = 9; row = 0; column = 0 } else
+    (if nat_lt i 4 then record { band = family_band 3 (i - 1); row = 0; column = 0 } else
+    (if nat_lt i 16 then child_place ((i - 4) / 4) (i % 4) else grandchild_place ((i - 16) / 16) (i % 16 / 4) (i % 4)))
 unfolding place_of
 place_of-is i = refl
 
-pub coefficient-is : (p : Pyramid) (r s i : ℕ) → coefficient p r s i ≡ let place = place_of i in let side = block_side place.band in band_of p place.band (side * r + place.row) (side * s + place.column)
+pub coefficient-is : (p : Pyramid) (r s i : ℕ) → coefficient p r s i ≡ let place = place_of i in let side =
+    block_side place.band in band_of p place.band (side * r + place.row) (side * s + place.column)
 unfolding coefficient
 coefficient-is p r s i = refl
 
@@ -29,7 +32,13 @@ pub columns_merged-is : (c d : ℕ → ℕ → ℤ) (n i j : ℕ) → columns_me
 unfolding columns_merged
 columns_merged-is c d n i j = refl
 
-pub level-is : (a : ℕ → ℕ → ℤ) (n m : ℕ) → level a n m ≡ record { ll = columns_low (rows_low a m) n; hl = columns_low (rows_high a m) n; lh = columns_high (rows_low a m) n; hh = columns_high (rows_high a m) n }
+pub level-is : (a : ℕ → ℕ → ℤ) (n m : ℕ) → level a n m ≡ record {
+  ll = columns_low (rows_low a m) n;
+  hl = columns_low (rows_high a m) n;
+  lh =
+      columns_high (rows_low a m) n;
+  hh = columns_high (rows_high a m) n;
+}
 unfolding level
 level-is a n m = refl
 
@@ -105,7 +114,8 @@ pub rebuilt-is : (p : Pyramid) (r c : ℕ) → rebuilt p r c ≡ joined (first_o
 unfolding rebuilt
 rebuilt-is p r c = refl
 
-pub open_high-is : (a : ℕ → ℕ → ℤ) (j c : ℕ) → open_high a j c ≡ a (2 * j + 1) c -ℤ predicted (a (2 * even_before j) c) (a (2 * j) c) (a (2 * (j + 1)) c) (a (2 * (j + 2)) c)
+pub open_high-is : (a : ℕ → ℕ → ℤ) (j c : ℕ) → open_high a j c ≡ a (2 * j + 1) c -ℤ predicted (a (2 * even_before j) c) (a (2 * j) c) (a (2 * (j + 1)) c)
+    (a (2 * (j + 2)) c)
 unfolding open_high
 open_high-is a j c = refl
 

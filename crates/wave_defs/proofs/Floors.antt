@@ -14,7 +14,8 @@ floor_4 (negsuc a) = (omega (arith, ints), omega (arith, ints))
 
 -- ---- bounds on the values: two passes of the line multiply a bound by at most 5 / 2 each
 
-pub predicted-within : (m : ℕ) (a b c d : ℤ) → 2 ≤ m → IsWithin (2 * m) a → IsWithin (2 * m) b → IsWithin (2 * m) c → IsWithin (2 * m) d → IsWithin (3 * m) (predicted a b c d)
+pub predicted-within : (m : ℕ) (a b c d : ℤ) → 2 ≤ m → IsWithin (2 * m) a → IsWithin (2 * m) b → IsWithin (2 * m) c → IsWithin (2 * m) d →
+    IsWithin (3 * m) (predicted a b c d)
 unfolding predicted
 predicted-within m a b c d two ha hb hc hd =
     let f = floor_16 (pos 9 *ℤ (b +ℤ c) -ℤ (a +ℤ d) +ℤ pos 8) in
@@ -30,7 +31,8 @@ pub high_of-within : (m n j : ℕ) (x : ℕ → ℤ) → 2 ≤ m → 2 ≤ n →
 unfolding high_of prediction
 high_of-within m n j x two even h w =
     let at = λ (k : ℕ) (l : k < n). w.at (2 * k) (omega arith) in
-    let p = predicted-within m _ _ _ _ two (at (even_before j) (omega arith)) (at j h) (at (even_within n (j + 1)) (omega arith)) (at (even_within n (j + 2)) (omega arith)) in
+    let p = predicted-within m _ _ _ _ two (at (even_before j) (omega arith)) (at j h) (at (even_within n (j + 1)) (omega arith))
+    (at (even_within n (j + 2)) (omega arith)) in
     let o = w.at (2 * j + 1) (omega arith) in
     record { above = omega (arith, ints); below = omega (arith, ints) }
 
@@ -64,7 +66,8 @@ even_of-half_more m n j c d one h wc wd =
     let f = floor_4 (pos 2 -ℤ (d (j - 1) +ℤ d j)) in
     record { above = omega (arith, ints); below = omega (arith, ints) }
 
-pub predicted-double : (m : ℕ) (a b c d : ℤ) → 9 ≤ m → IsWithin (half_more m) a → IsWithin (half_more m) b → IsWithin (half_more m) c → IsWithin (half_more m) d → IsWithin (2 * m) (predicted a b c d)
+pub predicted-double : (m : ℕ) (a b c d : ℤ) → 9 ≤ m → IsWithin (half_more m) a → IsWithin (half_more m) b → IsWithin (half_more m) c →
+    IsWithin (half_more m) d → IsWithin (2 * m) (predicted a b c d)
 unfolding predicted
 predicted-double m a b c d nine ha hb hc hd =
     let f = floor_16 (pos 9 *ℤ (b +ℤ c) -ℤ (a +ℤ d) +ℤ pos 8) in
@@ -75,5 +78,6 @@ unfolding odd_of prediction
 odd_of-thrice m n j c d nine long h wc wd =
     let o = wd.at j h in
     let at = λ (k : ℕ) (l : k < n). even_of-half_more m n k c d (omega arith) l wc wd in
-    let p = predicted-double m _ _ _ _ nine (at (even_before j) (omega arith)) (at j h) (at (even_within n (j + 1)) (omega arith)) (at (even_within n (j + 2)) (omega arith)) in
+    let p = predicted-double m _ _ _ _ nine (at (even_before j) (omega arith)) (at j h) (at (even_within n (j + 1)) (omega arith))
+    (at (even_within n (j + 2)) (omega arith)) in
     record { above = omega (arith, ints); below = omega (arith, ints) }

@@ -27,14 +27,16 @@ pub part_above : (a w p : ℕ) (xs ys : List ℤ) (d : ℤ) → length ys ≡ w 
 part_above a w p xs ys d h q l = grind (arith, places)
 
 -- the row at i is written as a part of the slice
-pub SameWithin-put_row : (w i : ℕ) (xs ys : List ℤ) (f : ℕ → ℕ → ℤ) → i * w + w ≤ length xs → length ys ≡ w → SameWithin i w (grid w xs) f → Agrees w (signal ys) (f i) → SameWithin (i + 1) w (grid w (put_mid (i * w) w xs ys)) f
+pub SameWithin-put_row : (w i : ℕ) (xs ys : List ℤ) (f : ℕ → ℕ → ℤ) → i * w + w ≤ length xs → length ys ≡ w → SameWithin i w (grid w xs) f →
+    Agrees w (signal ys) (f i) → SameWithin (i + 1) w (grid w (put_mid (i * w) w xs ys)) f
 SameWithin-put_row w i xs ys f room long above here = record {
   at = λ k j hk hj.
       let before = λ (h : k < i).
       let ends = row_ends i k w h in
       part_below (i * w) w (k * w + j) xs ys (pos 0) (omega arith) (omega arith) ∙ above.at k j h hj in
       let same = λ (e : k ≡ i).
-      ap (λ (r : ℕ). grid w (put_mid (i * w) w xs ys) r j) e ∙ part_at (i * w) w j xs ys (pos 0) (omega arith) (omega arith) ∙ here.at j hj ∙ ap (λ (r : ℕ). f r j) (sym e) in
+      ap (λ (r : ℕ). grid w (put_mid (i * w) w xs ys) r j) e ∙ part_at (i * w) w j xs ys (pos 0) (omega arith) (omega arith) ∙ here.at j hj
+      ∙ ap (λ (r : ℕ). f r j) (sym e) in
       ⊎_elim before (λ (l : i ≤ k). same (omega arith)) (cases_lt k i);
 }
 
@@ -43,25 +45,30 @@ pub row_kept : (w i k j : ℕ) (xs ys : List ℤ) → i * w + w ≤ length xs �
 row_kept w i k j xs ys room long ne hj = grind (arith, nat_tests, row_ends, part_below, part_above)
 
 -- the same as the code leaves it after a write to `s[i * w..i * w + w]`; m is the difference of the two bounds
-pub SameWithin-write_row : (w i m : ℕ) (xs ys : List ℤ) (f : ℕ → ℕ → ℤ) → m ≡ w → i * w + w ≤ length xs → length ys ≡ w → SameWithin i w (grid w xs) f → Agrees w (signal ys) (f i) → SameWithin (i + 1) w (grid w (put_mid (i * w) m xs ys)) f
+pub SameWithin-write_row : (w i m : ℕ) (xs ys : List ℤ) (f : ℕ → ℕ → ℤ) → m ≡ w → i * w + w ≤ length xs → length ys ≡ w → SameWithin i w (grid w xs) f →
+    Agrees w (signal ys) (f i) → SameWithin (i + 1) w (grid w (put_mid (i * w) m xs ys)) f
 SameWithin-write_row w i m xs ys f e room long above here =
     subst (λ (k : ℕ). SameWithin (i + 1) w (grid w (put_mid (i * w) k xs ys)) f) (sym e) (SameWithin-put_row w i xs ys f room long above here)
 
 -- The rows of places p, to which a loop writes one after the other; m is the difference of the two bounds of the part.
-pub SameWithin-put_at : (p : ℕ → ℕ) (w i m : ℕ) (xs ys : List ℤ) (f : ℕ → ℕ → ℤ) → m ≡ w → p i * w + w ≤ length xs → length ys ≡ w → ((k : ℕ) → k < i → p k ≢ p i) → SameWithin i w (λ k j. grid w xs (p k) j) f → Agrees w (signal ys) (f i) → SameWithin (i + 1) w (λ k j. grid w (put_mid (p i * w) m xs ys) (p k) j) f
+pub SameWithin-put_at : (p : ℕ → ℕ) (w i m : ℕ) (xs ys : List ℤ) (f : ℕ → ℕ → ℤ) → m ≡ w → p i * w + w ≤ length xs → length ys ≡ w →
+    ((k : ℕ) → k < i → p k ≢ p i) → SameWithin i w (λ k j. grid w xs (p k) j) f → Agrees w (signal ys) (f i) →
+    SameWithin (i + 1) w (λ k j. grid w (put_mid (p i * w) m xs ys) (p k) j) f
 SameWithin-put_at p w i m xs ys f e room long apart above here =
     let zs = put_mid (p i * w) w xs ys in
     let t : SameWithin (i + 1) w (λ k j. grid w zs (p k) j) f = record {
       at = λ k j hk hj.
           let before = λ (h : k < i). row_kept w (p i) (p k) j xs ys room long (apart k h) hj ∙ above.at k j h hj in
           let same = λ (q : k ≡ i).
-          ap (λ (r : ℕ). grid w zs (p r) j) q ∙ part_at (p i * w) w j xs ys (pos 0) (omega arith) (omega arith) ∙ here.at j hj ∙ ap (λ (r : ℕ). f r j) (sym q) in
+          ap (λ (r : ℕ). grid w zs (p r) j) q ∙ part_at (p i * w) w j xs ys (pos 0) (omega arith) (omega arith) ∙ here.at j hj ∙ ap (λ (r : ℕ). f r j)
+          (sym q) in
           ⊎_elim before (λ (l : i ≤ k). same (omega arith)) (cases_lt k i);
     } in
     subst (λ (k : ℕ). SameWithin (i + 1) w (λ r j. grid w (put_mid (p i * w) k xs ys) (p r) j) f) (sym e) t
 
 -- a write to the row of another place
-pub SameWithin-put_off : (p : ℕ → ℕ) (q w n m : ℕ) (xs ys : List ℤ) (f : ℕ → ℕ → ℤ) → m ≡ w → q * w + w ≤ length xs → length ys ≡ w → ((k : ℕ) → k < n → p k ≢ q) → SameWithin n w (λ k j. grid w xs (p k) j) f → SameWithin n w (λ k j. grid w (put_mid (q * w) m xs ys) (p k) j) f
+pub SameWithin-put_off : (p : ℕ → ℕ) (q w n m : ℕ) (xs ys : List ℤ) (f : ℕ → ℕ → ℤ) → m ≡ w → q * w + w ≤ length xs → length ys ≡ w →
+    ((k : ℕ) → k < n → p k ≢ q) → SameWithin n w (λ k j. grid w xs (p k) j) f → SameWithin n w (λ k j. grid w (put_mid (q * w) m xs ys) (p k) j) f
 SameWithin-put_off p q w n m xs ys f e room long apart same =
     let t : SameWithin n w (λ k j. grid w (put_mid (q * w) w xs ys) (p k) j) f = record {
       at = λ k j hk hj. row_kept w q (p k) j xs ys room long (apart k hk) hj ∙ same.at k j hk hj;

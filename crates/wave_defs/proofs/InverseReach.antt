@@ -21,7 +21,8 @@ pub record SameHeight (r r' i : ℕ) : Type 0 where
 
 mirror-at : (n n' i : ℕ) → SameEnds n n' i → i ≡ 2 * (i / 2) + 1 → SameMirror n n' (i / 2)
 mirror-at n n' i ends odd =
-    ⊎_elim (λ (e : n ≡ n'). SameMirror-same n n' (i / 2) e) (λ (f : (i + 3 < 2 * n) × (i + 3 < 2 * n')). SameMirror-far n n' (i / 2) (omega arith) (omega arith)) ends.or_far
+    ⊎_elim (λ (e : n ≡ n'). SameMirror-same n n' (i / 2) e) (λ (f : (i + 3 < 2 * n) × (i + 3 < 2 * n')). SameMirror-far n n' (i / 2) (omega arith)
+    (omega arith)) ends.or_far
 
 -- the end of a level of w low rows for each block row
 ends-at : (w r r' i k : ℕ) → SameHeight r r' i → (i + 21 < 8 * r → k + 3 < 2 * (w * r)) → (i + 21 < 8 * r' → k + 3 < 2 * (w * r')) → SameEnds (w * r) (w * r') k
@@ -29,9 +30,11 @@ ends-at w r r' i k height here there = record {
   or_far = ⊎_elim (λ (e : r ≡ r'). inl (ap (λ (n : ℕ). w * n) e)) (λ (f : (i + 21 < 8 * r) × (i + 21 < 8 * r')). inr (here f.0, there f.1)) height.or_far;
 }
 
-module _ (p q : Pyramid) (r r' c i j : ℕ) (hr : 2 ≤ r) (hc : 2 ≤ c) (height : SameHeight r r' i) (same : (t s : ℕ) → t < r → s < c → Reaches t i → Reaches s j → SameBlock p q t s) where
+module _ (p q : Pyramid) (r r' c i j : ℕ) (hr : 2 ≤ r) (hc : 2 ≤ c) (height : SameHeight r r' i) (same : (t s : ℕ) → t < r → s < c → Reaches t i →
+    Reaches s j → SameBlock p q t s) where
   -- the low rows of the second level
-  third-reach : (k l : ℕ) → k < 2 * r → l < 2 * c → 4 * k ≤ i + 9 → i ≤ 4 * k + 9 → 4 * l ≤ j + 9 → j ≤ 4 * l + 9 → joined (third_of p) r c k l ≡ joined (third_of q) r' c k l
+  third-reach : (k l : ℕ) → k < 2 * r → l < 2 * c → 4 * k ≤ i + 9 → i ≤ 4 * k + 9 → 4 * l ≤ j + 9 → j ≤ 4 * l + 9 →
+      joined (third_of p) r c k l ≡ joined (third_of q) r' c k l
   unfolding third_of
   third-reach k l hk hl a b d e =
       let at = λ (t s : ℕ) (ht : t < r) (hs : s < c) (g : 2 * t ≤ k + 3) (h : k ≤ 2 * t + 5) (x : 2 * s ≤ l + 3) (y : l ≤ 2 * s + 5).
@@ -46,13 +49,15 @@ module _ (p q : Pyramid) (r r' c i j : ℕ) (hr : 2 ≤ r) (hc : 2 ≤ c) (heigh
       (record { at = λ t s ht hs g h x y. third-same p q 6 t s (omega arith) (omega arith) (at t s ht hs g h x y) })
 
   -- the low rows of the first level
-  second-reach : (k l : ℕ) → k < 4 * r → l < 4 * c → 2 * k ≤ i + 3 → i ≤ 2 * k + 3 → 2 * l ≤ j + 3 → j ≤ 2 * l + 3 → joined (second_of p r c) (2 * r) (2 * c) k l ≡ joined (second_of q r' c) (2 * r') (2 * c) k l
+  second-reach : (k l : ℕ) → k < 4 * r → l < 4 * c → 2 * k ≤ i + 3 → i ≤ 2 * k + 3 → 2 * l ≤ j + 3 → j ≤ 2 * l + 3 →
+      joined (second_of p r c) (2 * r) (2 * c) k l ≡ joined (second_of q r' c) (2 * r') (2 * c) k l
   unfolding second_of
   second-reach k l hk hl a b d e =
       let at = λ (t s : ℕ) (ht : t < 2 * r) (hs : s < 2 * c) (g : 2 * t ≤ k + 3) (h : k ≤ 2 * t + 5) (x : 2 * s ≤ l + 3) (y : l ≤ 2 * s + 5).
       same (t / 2) (s / 2) (omega arith) (omega arith) (reached (t / 2) i (omega arith) (omega arith)) (reached (s / 2) j (omega arith) (omega arith)) in
       let ends = ends-at 2 r r' i k height (λ f. omega arith) (λ f. omega arith) in
-      joined-reach (2 * r) (2 * r') (2 * c) k l (second_of p r c) (second_of q r' c) (omega arith) (omega arith) (omega arith) (omega arith) (mirror-at (2 * r) (2 * r') k ends)
+      joined-reach (2 * r) (2 * r') (2 * c) k l (second_of p r c) (second_of q r' c) (omega arith) (omega arith) (omega arith) (omega arith)
+      (mirror-at (2 * r) (2 * r') k ends)
       (record { at = λ t s ht hs g h x y. third-reach t s ht hs (omega arith) (omega arith) (omega arith) (omega arith) })
       (record { at = λ t s ht hs g h x y. second-same p q 4 t s (omega arith) (omega arith) (at t s ht hs g h x y) })
       (record { at = λ t s ht hs g h x y. second-same p q 5 t s (omega arith) (omega arith) (at t s ht hs g h x y) })
@@ -64,7 +69,8 @@ module _ (p q : Pyramid) (r r' c i j : ℕ) (hr : 2 ≤ r) (hc : 2 ≤ c) (heigh
       let at = λ (t s : ℕ) (ht : t < 4 * r) (hs : s < 4 * c) (g : 2 * t ≤ i + 3) (h : i ≤ 2 * t + 5) (x : 2 * s ≤ j + 3) (y : j ≤ 2 * s + 5).
       same (t / 4) (s / 4) (omega arith) (omega arith) (reached (t / 4) i (omega arith) (omega arith)) (reached (s / 4) j (omega arith) (omega arith)) in
       let ends = ends-at 4 r r' i i height (λ f. omega arith) (λ f. omega arith) in
-      joined-reach (4 * r) (4 * r') (4 * c) i j (first_of p r c) (first_of q r' c) (omega arith) (omega arith) (omega arith) (omega arith) (mirror-at (4 * r) (4 * r') i ends)
+      joined-reach (4 * r) (4 * r') (4 * c) i j (first_of p r c) (first_of q r' c) (omega arith) (omega arith) (omega arith) (omega arith)
+      (mirror-at (4 * r) (4 * r') i ends)
       (record { at = λ t s ht hs g h x y. second-reach t s ht hs g h x y })
       (record { at = λ t s ht hs g h x y. first-same p q 1 t s (omega arith) (at t s ht hs g h x y) })
       (record { at = λ t s ht hs g h x y. first-same p q 2 t s (omega arith) (at t s ht hs g h x y) })

@@ -11,7 +11,9 @@ pub record SameNearLow (n m i j : ℕ) (a b : ℕ → ℕ → ℤ) : Type 0 wher
 pub record SameNearHigh (n m i j : ℕ) (a b : ℕ → ℕ → ℤ) : Type 0 where
   pub at : (k l : ℕ) → k < n → l < m → 2 * k ≤ i + 3 → i ≤ 2 * k + 5 → 2 * l ≤ j + 3 → j ≤ 2 * l + 5 → a k l ≡ b k l
 
-pub joined-reach : (n n' m i j : ℕ) (p q : Quarters) → 2 ≤ n → 2 ≤ m → i < 2 * n → j < 2 * m → (i ≡ 2 * (i / 2) + 1 → SameMirror n n' (i / 2)) → SameNearLow n m i j p.ll q.ll → SameNearHigh n m i j p.hl q.hl → SameNearHigh n m i j p.lh q.lh → SameNearHigh n m i j p.hh q.hh → joined p n m i j ≡ joined q n' m i j
+pub joined-reach : (n n' m i j : ℕ) (p q : Quarters) → 2 ≤ n → 2 ≤ m → i < 2 * n → j < 2 * m → (i ≡ 2 * (i / 2) + 1 → SameMirror n n' (i / 2)) →
+    SameNearLow n m i j p.ll q.ll → SameNearHigh n m i j p.hl q.hl → SameNearHigh n m i j p.lh q.lh → SameNearHigh n m i j p.hh q.hh →
+    joined p n m i j ≡ joined q n' m i j
 unfolding joined rows_merged columns_merged
 joined-reach n n' m i j p q hn hm hi hj mirror ll hl lh hh =
     let low : SameLow m j (columns_merged p.ll p.lh n i) (columns_merged q.ll q.lh n' i) = record {

@@ -44,7 +44,8 @@ level-same n m x y hn hm s =
     }
 
 -- the inverse
-pub rows_merged-same : (r n : ℕ) (c c' d d' : ℕ → ℕ → ℤ) → 2 ≤ n → SameWithin r n c c' → SameWithin r n d d' → SameWithin r (2 * n) (rows_merged c d n) (rows_merged c' d' n)
+pub rows_merged-same : (r n : ℕ) (c c' d d' : ℕ → ℕ → ℤ) → 2 ≤ n → SameWithin r n c c' → SameWithin r n d d' →
+    SameWithin r (2 * n) (rows_merged c d n) (rows_merged c' d' n)
 unfolding rows_merged
 rows_merged-same r n c c' d d' two s t = record {
   at = λ i j hi hj.
@@ -52,11 +53,13 @@ rows_merged-same r n c c' d d' two s t = record {
       m.at j hj;
 }
 
-pub columns_merged-same : (n w : ℕ) (c c' d d' : ℕ → ℕ → ℤ) → 2 ≤ n → SameWithin n w c c' → SameWithin n w d d' → SameWithin (2 * n) w (columns_merged c d n) (columns_merged c' d' n)
+pub columns_merged-same : (n w : ℕ) (c c' d d' : ℕ → ℕ → ℤ) → 2 ≤ n → SameWithin n w c c' → SameWithin n w d d' →
+    SameWithin (2 * n) w (columns_merged c d n) (columns_merged c' d' n)
 unfolding columns_merged
 columns_merged-same n w c c' d d' two s t = record {
   at = λ i j hi hj.
-      let m = merged-same n (λ r. c r j) (λ r. c' r j) (λ r. d r j) (λ r. d' r j) two (record { at = λ k h. s.at k j h hj }) (record { at = λ k h. t.at k j h hj }) in
+      let m = merged-same n (λ r. c r j) (λ r. c' r j) (λ r. d r j) (λ r. d' r j) two (record { at = λ k h. s.at k j h hj })
+      (record { at = λ k h. t.at k j h hj }) in
       m.at i hi;
 }
 

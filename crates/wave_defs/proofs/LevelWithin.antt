@@ -58,8 +58,10 @@ pub level-within : (k n m : ℕ) (a : ℕ → ℕ → ℤ) → 1 ≤ k → 2 ≤
 unfolding level
 level-within k n m a one hn hm b =
     let start = EachWithin-more (4 * k) (2 * (2 * k)) _ (2 * n) _ (2 * m) a (omega arith) (omega arith) (omega arith) b in
-    let low = EachWithin-more _ (2 * (5 * k)) _ (2 * n) _ m _ (omega arith) (omega arith) (omega arith) (rows_low-within (2 * k) m (2 * n) a (omega arith) hm start) in
-    let high = EachWithin-more _ (2 * (5 * k)) _ (2 * n) _ m _ (omega arith) (omega arith) (omega arith) (rows_high-within (2 * k) m (2 * n) a (omega arith) hm start) in
+    let low = EachWithin-more _ (2 * (5 * k)) _ (2 * n) _ m _ (omega arith) (omega arith) (omega arith)
+    (rows_low-within (2 * k) m (2 * n) a (omega arith) hm start) in
+    let high = EachWithin-more _ (2 * (5 * k)) _ (2 * n) _ m _ (omega arith) (omega arith) (omega arith)
+    (rows_high-within (2 * k) m (2 * n) a (omega arith) hm start) in
     record {
       ll = EachWithin-more _ (25 * k) _ n _ m _ (omega arith) (omega arith) (omega arith) (columns_low-within (5 * k) n m _ (omega arith) hn low);
       hl = EachWithin-more _ (25 * k) _ n _ m _ (omega arith) (omega arith) (omega arith) (columns_low-within (5 * k) n m _ (omega arith) hn high);
@@ -78,7 +80,8 @@ merged-within m n c d nine long wc wd = record {
       elim (i % 2 == 0) as (λ v. IsWithin (3 * m) (if v then even_of c d (i / 2) else odd_of c d n (i / 2))) [ true ↦ even | false ↦ odd ];
 }
 
-pub rows_merged-within : (m r n : ℕ) (c d : ℕ → ℕ → ℤ) → 9 ≤ m → 2 ≤ n → EachWithin m r n c → EachWithin m r n d → EachWithin (3 * m) r (2 * n) (rows_merged c d n)
+pub rows_merged-within : (m r n : ℕ) (c d : ℕ → ℕ → ℤ) → 9 ≤ m → 2 ≤ n → EachWithin m r n c → EachWithin m r n d →
+    EachWithin (3 * m) r (2 * n) (rows_merged c d n)
 unfolding rows_merged
 rows_merged-within m r n c d nine long wc wd = record {
   at = λ i j hi hj.
@@ -86,7 +89,8 @@ rows_merged-within m r n c d nine long wc wd = record {
       w.at j hj;
 }
 
-pub columns_merged-within : (m n w : ℕ) (c d : ℕ → ℕ → ℤ) → 9 ≤ m → 2 ≤ n → EachWithin m n w c → EachWithin m n w d → EachWithin (3 * m) (2 * n) w (columns_merged c d n)
+pub columns_merged-within : (m n w : ℕ) (c d : ℕ → ℕ → ℤ) → 9 ≤ m → 2 ≤ n → EachWithin m n w c → EachWithin m n w d →
+    EachWithin (3 * m) (2 * n) w (columns_merged c d n)
 unfolding columns_merged
 columns_merged-within m n w c d nine long wc wd = record {
   at = λ i j hi hj.
@@ -99,4 +103,5 @@ unfolding joined
 joined-within m n w q nine hn hw b =
     let low = columns_merged-within m n w q.ll q.lh nine hn b.ll b.lh in
     let high = columns_merged-within m n w q.hl q.hh nine hn b.hl b.hh in
-    EachWithin-more _ (9 * m) _ (2 * n) _ (2 * w) _ (omega arith) (omega arith) (omega arith) (rows_merged-within (3 * m) (2 * n) w _ _ (omega arith) hw low high)
+    EachWithin-more _ (9 * m) _ (2 * n) _ (2 * w) _ (omega arith) (omega arith) (omega arith)
+    (rows_merged-within (3 * m) (2 * n) w _ _ (omega arith) hw low high)

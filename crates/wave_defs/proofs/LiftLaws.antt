@@ -12,7 +12,9 @@ Agrees-trans n x y z a b = record { at = λ k h. a.at k h ∙ b.at k h }
 pub Agrees-row_of : (k w i : ℕ) (f g : ℕ → ℕ → ℤ) → i < k → SameWithin k w f g → Agrees w (f i) (g i)
 Agrees-row_of k w i f g h s = record { at = λ j l. s.at i j h l }
 
-pub Agrees-columns_high : (a : ℕ → ℕ → ℤ) (w m n i p q s : ℕ) (y o e0 e1 e2 e3 : ℕ → ℤ) → m ≡ w → p ≡ even_before i → q ≡ even_within n (i + 1) → s ≡ even_within n (i + 2) → Agrees m y (less_predicted o e0 e1 e2 e3) → Agrees w o (a (2 * i + 1)) → Agrees w e0 (a (2 * p)) → Agrees w e1 (a (2 * i)) → Agrees w e2 (a (2 * q)) → Agrees w e3 (a (2 * s)) → Agrees w y (columns_high a n i)
+pub Agrees-columns_high : (a : ℕ → ℕ → ℤ) (w m n i p q s : ℕ) (y o e0 e1 e2 e3 : ℕ → ℤ) → m ≡ w → p ≡ even_before i → q ≡ even_within n (i + 1) →
+    s ≡ even_within n (i + 2) → Agrees m y (less_predicted o e0 e1 e2 e3) → Agrees w o (a (2 * i + 1)) → Agrees w e0 (a (2 * p)) → Agrees w e1 (a (2 * i)) →
+    Agrees w e2 (a (2 * q)) → Agrees w e3 (a (2 * s)) → Agrees w y (columns_high a n i)
 unfolding less_predicted columns_high high_of prediction
 Agrees-columns_high a w m n i p q s y o e0 e1 e2 e3 em ep eq es f ho h0 h1 h2 h3 = record {
   at = λ j h.
@@ -25,7 +27,8 @@ Agrees-columns_high a w m n i p q s y o e0 e1 e2 e3 em ep eq es f ho h0 h1 h2 h3
       cc;
 }
 
-pub Agrees-columns_low : (a : ℕ → ℕ → ℤ) (w m n i p : ℕ) (y e b c : ℕ → ℤ) → m ≡ w → p ≡ i - 1 → Agrees m y (less_correction e b c) → Agrees w e (a (2 * i)) → Agrees w b (columns_high a n p) → Agrees w c (columns_high a n i) → Agrees w y (columns_low a n i)
+pub Agrees-columns_low : (a : ℕ → ℕ → ℤ) (w m n i p : ℕ) (y e b c : ℕ → ℤ) → m ≡ w → p ≡ i - 1 → Agrees m y (less_correction e b c) →
+    Agrees w e (a (2 * i)) → Agrees w b (columns_high a n p) → Agrees w c (columns_high a n i) → Agrees w y (columns_low a n i)
 unfolding less_correction columns_low columns_high low_of
 Agrees-columns_low a w m n i p y e b c em ep f he hb hc = record {
   at = λ j h.
@@ -38,7 +41,8 @@ Agrees-columns_low a w m n i p y e b c em ep f he hb hc = record {
 
 -- ---- the inverse: y is a row that the code computed, c and d are the low and high images
 
-pub Agrees-columns_even : (c d : ℕ → ℕ → ℤ) (w m i p : ℕ) (y l b a : ℕ → ℤ) → m ≡ w → p ≡ i - 1 → Agrees m y (plus_correction l b a) → Agrees w l (c i) → Agrees w b (d p) → Agrees w a (d i) → Agrees w y (columns_even c d i)
+pub Agrees-columns_even : (c d : ℕ → ℕ → ℤ) (w m i p : ℕ) (y l b a : ℕ → ℤ) → m ≡ w → p ≡ i - 1 → Agrees m y (plus_correction l b a) → Agrees w l (c i) →
+    Agrees w b (d p) → Agrees w a (d i) → Agrees w y (columns_even c d i)
 unfolding plus_correction columns_even even_of
 Agrees-columns_even c d w m i p y l b a em ep f hl hb ha = record {
   at = λ j h.
@@ -49,7 +53,9 @@ Agrees-columns_even c d w m i p y l b a em ep f hl hb ha = record {
       cc;
 }
 
-pub Agrees-columns_odd : (e d : ℕ → ℕ → ℤ) (w m n i p q s : ℕ) (y o e0 e1 e2 e3 : ℕ → ℤ) → m ≡ w → p ≡ even_before i → q ≡ even_within n (i + 1) → s ≡ even_within n (i + 2) → Agrees m y (plus_predicted o e0 e1 e2 e3) → Agrees w o (d i) → Agrees w e0 (e p) → Agrees w e1 (e i) → Agrees w e2 (e q) → Agrees w e3 (e s) → Agrees w y (columns_odd e d n i)
+pub Agrees-columns_odd : (e d : ℕ → ℕ → ℤ) (w m n i p q s : ℕ) (y o e0 e1 e2 e3 : ℕ → ℤ) → m ≡ w → p ≡ even_before i → q ≡ even_within n (i + 1) →
+    s ≡ even_within n (i + 2) → Agrees m y (plus_predicted o e0 e1 e2 e3) → Agrees w o (d i) → Agrees w e0 (e p) → Agrees w e1 (e i) → Agrees w e2 (e q) →
+    Agrees w e3 (e s) → Agrees w y (columns_odd e d n i)
 unfolding plus_predicted columns_odd prediction
 Agrees-columns_odd e d w m n i p q s y o e0 e1 e2 e3 em ep eq es f ho h0 h1 h2 h3 = record {
   at = λ j h.
@@ -63,7 +69,8 @@ Agrees-columns_odd e d w m n i p q s y o e0 e1 e2 e3 em ep eq es f ho h0 h1 h2 h
 }
 
 -- the even and the odd rows make the image
-pub SameWithin-columns_merged : (a c d : ℕ → ℕ → ℤ) (n w : ℕ) → 2 ≤ n → SameWithin n w (λ k j. a (2 * k) j) (columns_even c d) → SameWithin n w (λ k j. a (2 * k + 1) j) (columns_odd (λ k j. a (2 * k) j) d n) → SameWithin (2 * n) w a (columns_merged c d n)
+pub SameWithin-columns_merged : (a c d : ℕ → ℕ → ℤ) (n w : ℕ) → 2 ≤ n → SameWithin n w (λ k j. a (2 * k) j) (columns_even c d) →
+    SameWithin n w (λ k j. a (2 * k + 1) j) (columns_odd (λ k j. a (2 * k) j) d n) → SameWithin (2 * n) w a (columns_merged c d n)
 unfolding columns_even columns_odd columns_merged odd_of
 SameWithin-columns_merged a c d n w two even odd = record {
   at = λ i j hi hj.

@@ -39,14 +39,17 @@ unfolding low_of even_of
 low_of-merged c d n j = grind (arith, nat_tests, even_of-merged, high_of-merged, taken_off)
 
 -- a line by its even and its odd samples
-pub Agrees-merged : (x c d : ℕ → ℤ) (n : ℕ) → Agrees n (λ k. x (2 * k)) (even_of c d) → Agrees n (λ k. x (2 * k + 1)) (odd_of c d n) → Agrees (2 * n) x (merged c d n)
+pub Agrees-merged : (x c d : ℕ → ℤ) (n : ℕ) → Agrees n (λ k. x (2 * k)) (even_of c d) → Agrees n (λ k. x (2 * k + 1)) (odd_of c d n) →
+    Agrees (2 * n) x (merged c d n)
 unfolding merged
 Agrees-merged x c d n even odd = record {
   at = λ i h.
       let e = even.at (i / 2) (omega arith) in
       let o = odd.at (i / 2) (omega arith) in
-      let at_even = λ (z : i % 2 ≡ 0). let at : i ≡ 2 * (i / 2) = omega arith in let p = ap x at in let t : x i ≡ merged c d n i = grind (arith, nat_tests) in t in
-      let at_odd = λ (z : i % 2 ≡ 0 → ⊥). let at : i ≡ 2 * (i / 2) + 1 = omega arith in let p = ap x at in let t : x i ≡ merged c d n i = grind (arith, nat_tests) in t in
+      let at_even = λ (z : i % 2 ≡ 0). let at : i ≡ 2 * (i / 2) = omega arith in let p = ap x at in let t : x i ≡ merged c d n i =
+      grind (arith, nat_tests) in t in
+      let at_odd = λ (z : i % 2 ≡ 0 → ⊥). let at : i ≡ 2 * (i / 2) + 1 = omega arith in let p = ap x at in let t : x i ≡ merged c d n i =
+      grind (arith, nat_tests) in t in
       ⊎_elim at_even at_odd (cases_eq (i % 2) 0);
 }
 
@@ -102,5 +105,6 @@ merged-same n c c' d d' two a b = record {
   at = λ i h.
       let even = even_of-same n (i / 2) c c' d d' (omega arith) a b in
       let odd = odd_of-same n (i / 2) c c' d d' two (omega arith) a b in
-      elim (i % 2 == 0) as (λ v. (if v then even_of c d (i / 2) else odd_of c d n (i / 2)) ≡ (if v then even_of c' d' (i / 2) else odd_of c' d' n (i / 2))) [ true ↦ even | false ↦ odd ];
+      elim (i % 2 == 0) as (λ v. (if v then even_of c d (i / 2) else odd_of c d n (i / 2)) ≡ (if v then even_of c' d' (i / 2) else odd_of c' d' n (i / 2)))
+      [ true ↦ even | false ↦ odd ];
 }

@@ -25,10 +25,12 @@ even_of-reach : (n i u : ℕ) (c c' d d' : ℕ → ℤ) → u < n → 2 * u ≤ 
 unfolding even_of
 even_of-reach n i u c c' d d' hu below above low high = grind (arith, nat_tests)
 
-odd_of-reach : (n n' k : ℕ) (c c' d d' : ℕ → ℤ) → 2 ≤ n → k < n → SameMirror n n' k → SameLow n (2 * k + 1) c c' → SameHigh n (2 * k + 1) d d' → odd_of c d n k ≡ odd_of c' d' n' k
+odd_of-reach : (n n' k : ℕ) (c c' d d' : ℕ → ℤ) → 2 ≤ n → k < n → SameMirror n n' k → SameLow n (2 * k + 1) c c' → SameHigh n (2 * k + 1) d d' →
+    odd_of c d n k ≡ odd_of c' d' n' k
 unfolding odd_of prediction
 odd_of-reach n n' k c c' d d' two h mirror low high = grind (arith, nat_tests, even_of-reach)
 
-pub merged-reach : (n n' i : ℕ) (c c' d d' : ℕ → ℤ) → 2 ≤ n → i < 2 * n → (i ≡ 2 * (i / 2) + 1 → SameMirror n n' (i / 2)) → SameLow n i c c' → SameHigh n i d d' → merged c d n i ≡ merged c' d' n' i
+pub merged-reach : (n n' i : ℕ) (c c' d d' : ℕ → ℤ) → 2 ≤ n → i < 2 * n → (i ≡ 2 * (i / 2) + 1 → SameMirror n n' (i / 2)) → SameLow n i c c' →
+    SameHigh n i d d' → merged c d n i ≡ merged c' d' n' i
 unfolding merged
 merged-reach n n' i c c' d d' two h mirror low high = grind (arith, nat_tests, even_of-reach, odd_of-reach)

@@ -25,6 +25,7 @@ at_left x y n j long h m = grind (arith, nat_tests, mirrored_before)
 at_right : (x y : ℕ → ℤ) (n k : ℕ) → 3 ≤ n → k ≤ n + 1 → IsMirrored n x y → y (2 * k + 2) ≡ x (2 * even_within n k)
 at_right x y n k long h m = grind (arith, nat_tests, mirrored_within, mirrored_after)
 
-pub high_of-mirrored : (x y : ℕ → ℤ) (n j : ℕ) → 3 ≤ n → j < n → IsMirrored n x y → high_of x n j ≡ x (2 * j + 1) -ℤ predicted (y (2 * j)) (y (2 * j + 2)) (y (2 * j + 4)) (y (2 * j + 6))
+pub high_of-mirrored : (x y : ℕ → ℤ) (n j : ℕ) → 3 ≤ n → j < n → IsMirrored n x y → high_of x n j ≡ x (2 * j + 1) -ℤ predicted (y (2 * j)) (y (2 * j + 2))
+    (y (2 * j + 4)) (y (2 * j + 6))
 unfolding high_of prediction
 high_of-mirrored x y n j long h m = grind (arith, nat_tests, at_left, at_right)

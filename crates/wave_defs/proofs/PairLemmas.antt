@@ -14,7 +14,8 @@ use Rattle.wave_defs.proofs.Equations.{correction-is, less_predicted-is, open_hi
 -- the high row j from the odd row at 0 and the even rows at f, 1, 2 and 3
 pub Agrees-open_high : (a : ℕ → ℕ → ℤ) (w j f : ℕ) (evens odds : List (List ℤ)) (y : ℕ → ℤ) → length evens ≡ 4 → length odds ≡ 2
     → f < 4 → j + 3 + f ≡ even_before j + 4
-    → Agrees w y (less_predicted (signal (get_or odds 0 [])) (signal (get_or evens f [])) (signal (get_or evens 1 [])) (signal (get_or evens 2 [])) (signal (get_or evens 3 [])))
+    → Agrees w y (less_predicted (signal (get_or odds 0 [])) (signal (get_or evens f [])) (signal (get_or evens 1 [])) (signal (get_or evens 2 []))
+    (signal (get_or evens 3 [])))
     → AreNewest (even_rows a) w (j + 3) evens → AreNewest (odd_rows a) w (j + 2) odds → Agrees w y (open_high a j)
 Agrees-open_high a w j f evens odds y four two hf ef lifted e o =
     let r0 = newest_at (even_rows a) w (j + 3) f (even_before j) evens e (omega arith) (omega arith) in
@@ -35,7 +36,8 @@ Agrees-open_high a w j f evens odds y four two hf ef lifted e o =
 
 -- and its bound
 pub less_predicted-within : (m w f : ℕ) (evens odds : List (List ℤ)) (y : ℕ → ℤ) → length evens ≡ 4 → length odds ≡ 2 → f < 4 → 2 ≤ m
-    → Agrees w y (less_predicted (signal (get_or odds 0 [])) (signal (get_or evens f [])) (signal (get_or evens 1 [])) (signal (get_or evens 2 [])) (signal (get_or evens 3 [])))
+    → Agrees w y (less_predicted (signal (get_or odds 0 [])) (signal (get_or evens f [])) (signal (get_or evens 1 [])) (signal (get_or evens 2 []))
+    (signal (get_or evens 3 [])))
     → RowsWithin (2 * m) w evens → RowsWithin (2 * m) w odds → AllWithin (5 * m) w y
 less_predicted-within m w f evens odds y four two hf hm lifted e o = record {
   at = λ k h.

@@ -15,7 +15,8 @@ pub Agrees-part : (w i : ℕ) (ys xs : List ℤ) → ys ≡ slice_range xs (i * 
 Agrees-part w i ys xs e = rw e (Agrees-row w i (i * w + w) xs refl)
 
 -- a high row that was computed and is read again
-pub AllWithin-high : (m n w v k i : ℕ) (a g : ℕ → ℕ → ℤ) (b : ℕ → ℤ) → 2 ≤ m → 2 ≤ n → i < n → n ≤ k → v ≡ w → EachWithin (2 * m) (2 * n) w a → SameWithin k w g (columns_high a n) → Agrees w b (g i) → AllWithin (8 * m) v b
+pub AllWithin-high : (m n w v k i : ℕ) (a g : ℕ → ℕ → ℤ) (b : ℕ → ℤ) → 2 ≤ m → 2 ≤ n → i < n → n ≤ k → v ≡ w → EachWithin (2 * m) (2 * n) w a →
+    SameWithin k w g (columns_high a n) → Agrees w b (g i) → AllWithin (8 * m) v b
 AllWithin-high m n w v k i a g b two long hi all ev bounded same row = record {
   at = λ j h.
       let x = high_of-within m n i (λ r. a r j) two long hi (record { at = λ r hr. bounded.at r j hr (omega arith) }) in
@@ -35,7 +36,8 @@ AllWithin-whole b r w n ys xs e same each = record {
 }
 
 -- a row of the inverse along rows
-pub Agrees-rows_merged : (n m i : ℕ) (c d : ℕ → ℕ → ℤ) (l h y : ℕ → ℤ) → m ≡ n → 2 ≤ n → Agrees (2 * m) y (merged l h m) → Agrees n l (c i) → Agrees n h (d i) → Agrees (2 * n) y (rows_merged c d n i)
+pub Agrees-rows_merged : (n m i : ℕ) (c d : ℕ → ℕ → ℤ) (l h y : ℕ → ℤ) → m ≡ n → 2 ≤ n → Agrees (2 * m) y (merged l h m) → Agrees n l (c i) →
+    Agrees n h (d i) → Agrees (2 * n) y (rows_merged c d n i)
 unfolding rows_merged
 Agrees-rows_merged n m i c d l h y e two made low high =
     let made' = subst (λ (k : ℕ). Agrees (2 * k) y (merged l h k)) e made in

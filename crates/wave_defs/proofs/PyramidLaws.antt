@@ -24,7 +24,8 @@ pyramid-rebuilt p r c = grind (arith, nat_tests, level-joined)
 
 -- ---- magnitudes
 
-pub pyramid-within : (a : ℕ → ℕ → ℤ) (r c : ℕ) → 2 ≤ r → 2 ≤ c → EachWithin (2 ^ 16) (8 * r) (8 * c) a → PyramidWithin 409600 2560000 16000000 r c (pyramid a r c)
+pub pyramid-within : (a : ℕ → ℕ → ℤ) (r c : ℕ) → 2 ≤ r → 2 ≤ c → EachWithin (2 ^ 16) (8 * r) (8 * c) a →
+    PyramidWithin 409600 2560000 16000000 r c (pyramid a r c)
 unfolding pyramid pyramid_of
 pyramid-within a r c hr hc b =
     let start = EachWithin-more _ (4 * 16384) _ (2 * (4 * r)) _ (2 * (4 * c)) a (omega arith) (omega arith) (omega arith) b in
@@ -51,10 +52,12 @@ pub third_of-within : (m : ℕ) (p : Pyramid) (r c : ℕ) → PyramidWithin m m 
 unfolding third_of
 third_of-within m p r c b = record { ll = b.ll3; hl = b.hl3; lh = b.lh3; hh = b.hh3 }
 
-pub second_of-within : (m : ℕ) (p : Pyramid) (r c : ℕ) → 9 ≤ m → 2 ≤ r → 2 ≤ c → PyramidWithin m m m r c p → QuartersWithin (9 * m) (2 * r) (2 * c) (second_of p r c)
+pub second_of-within : (m : ℕ) (p : Pyramid) (r c : ℕ) → 9 ≤ m → 2 ≤ r → 2 ≤ c → PyramidWithin m m m r c p →
+    QuartersWithin (9 * m) (2 * r) (2 * c) (second_of p r c)
 unfolding second_of
 second_of-within m p r c nine hr hc b =
-    let more = λ (x : ℕ → ℕ → ℤ) (h : EachWithin m (2 * r) (2 * c) x). EachWithin-more m (9 * m) _ (2 * r) _ (2 * c) x (omega arith) (omega arith) (omega arith) h in
+    let more = λ (x : ℕ → ℕ → ℤ) (h : EachWithin m (2 * r) (2 * c) x). EachWithin-more m (9 * m) _ (2 * r) _ (2 * c) x (omega arith) (omega arith)
+    (omega arith) h in
     record {
       ll = joined-within m r c (third_of p) nine hr hc (third_of-within m p r c b);
       hl = more p.hl2 b.hl2;
@@ -62,10 +65,12 @@ second_of-within m p r c nine hr hc b =
       hh = more p.hh2 b.hh2;
     }
 
-pub first_of-within : (m : ℕ) (p : Pyramid) (r c : ℕ) → 9 ≤ m → 2 ≤ r → 2 ≤ c → PyramidWithin m m m r c p → QuartersWithin (81 * m) (4 * r) (4 * c) (first_of p r c)
+pub first_of-within : (m : ℕ) (p : Pyramid) (r c : ℕ) → 9 ≤ m → 2 ≤ r → 2 ≤ c → PyramidWithin m m m r c p →
+    QuartersWithin (81 * m) (4 * r) (4 * c) (first_of p r c)
 unfolding first_of
 first_of-within m p r c nine hr hc b =
-    let more = λ (x : ℕ → ℕ → ℤ) (h : EachWithin m (4 * r) (4 * c) x). EachWithin-more m (81 * m) _ (4 * r) _ (4 * c) x (omega arith) (omega arith) (omega arith) h in
+    let more = λ (x : ℕ → ℕ → ℤ) (h : EachWithin m (4 * r) (4 * c) x). EachWithin-more m (81 * m) _ (4 * r) _ (4 * c) x (omega arith) (omega arith)
+    (omega arith) h in
     let low = joined-within (9 * m) (2 * r) (2 * c) (second_of p r c) (omega arith) (omega arith) (omega arith) (second_of-within m p r c nine hr hc b) in
     record {
       ll = EachWithin-more _ (81 * m) _ (4 * r) _ (4 * c) _ (omega arith) (omega arith) (omega arith) low;
@@ -74,7 +79,8 @@ first_of-within m p r c nine hr hc b =
       hh = more p.hh1 b.hh1;
     }
 
-pub rebuilt-within : (m : ℕ) (p : Pyramid) (r c : ℕ) → 9 ≤ m → 2 ≤ r → 2 ≤ c → PyramidWithin m m m r c p → EachWithin (3 ^ 6 * m) (8 * r) (8 * c) (rebuilt p r c)
+pub rebuilt-within : (m : ℕ) (p : Pyramid) (r c : ℕ) → 9 ≤ m → 2 ≤ r → 2 ≤ c → PyramidWithin m m m r c p →
+    EachWithin (3 ^ 6 * m) (8 * r) (8 * c) (rebuilt p r c)
 unfolding rebuilt
 rebuilt-within m p r c nine hr hc b =
     let image = joined-within (81 * m) (4 * r) (4 * c) (first_of p r c) (omega arith) (omega arith) (omega arith) (first_of-within m p r c nine hr hc b) in

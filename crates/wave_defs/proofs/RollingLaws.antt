@@ -48,7 +48,8 @@ unfolding rows_high
 beside-high a m i c = parted-high (a i) m c (m + c) refl
 
 -- a line that agrees with another does so in parts, and the bound of a pass holds
-pub parted-each : (m : ℕ) (x : ℕ → ℤ) (P : ℕ → ℤ → Type 0) → ((c : ℕ) → c < m → P c (low_of x m c)) → ((c : ℕ) → c < m → P (m + c) (high_of x m c)) → (d : ℕ) → d < 2 * m → P d (parted x m d)
+pub parted-each : (m : ℕ) (x : ℕ → ℤ) (P : ℕ → ℤ → Type 0) → ((c : ℕ) → c < m → P c (low_of x m c)) → ((c : ℕ) → c < m → P (m + c) (high_of x m c)) →
+    (d : ℕ) → d < 2 * m → P d (parted x m d)
 parted-each m x P low high d h =
     ⊎_elim
     (λ (l : d < m). subst (P d) (sym (parted-low x m d l)) (low d l))

@@ -34,22 +34,26 @@ plane_shows b band p e =
     get_or_from_slice_get (map image_of b.planes.items) band (image_of p) zeros (slice_get-map image_of b.planes.items band ∙ ap (option_map image_of) e)
 
 -- a place of a block row is in its band
-place_row : (b : Bands) (row : ℕ) (p : Place) → IsBlockRow b row → places.IsWithin (b.width / 8) p → block_side p.band * row + p.row < block_side p.band * (b.rows / 8)
+place_row : (b : Bands) (row : ℕ) (p : Place) → IsBlockRow b row → places.IsWithin (b.width / 8) p →
+    block_side p.band * row + p.row < block_side p.band * (b.rows / 8)
 place_row b row p is in_row = grind (arith, nat_tests, rows)
 
-pub number_is : (b : Bands) (row : ℕ) (p : Place) (plane : Plane) → IsBlockRow b row → places.IsWithin (b.width / 8) p → slice_get b.planes.items p.band ≡ Some plane →
+pub number_is : (b : Bands) (row : ℕ) (p : Place) (plane : Plane) → IsBlockRow b row → places.IsWithin (b.width / 8) p →
+    slice_get b.planes.items p.band ≡ Some plane →
     image_of plane (block_side p.band * row + p.row) p.column ≡ number_in b row p
 number_is b row p plane is in_row e =
     sym (pyramid_band b p.band (block_side p.band * row + p.row) p.column in_row.band
     ∙ ap (λ (f : ℕ → ℕ → ℤ). f (block_side p.band * row + p.row) p.column) (plane_shows b p.band plane e))
 
-pub cell_within : (b : Bands) (row : ℕ) (p : Place) (plane : Plane) → IsBlockRow b row → places.IsWithin (b.width / 8) p → slice_get b.planes.items p.band ≡ Some plane →
+pub cell_within : (b : Bands) (row : ℕ) (p : Place) (plane : Plane) → IsBlockRow b row → places.IsWithin (b.width / 8) p →
+    slice_get b.planes.items p.band ≡ Some plane →
     (block_side p.band * row + p.row) * plane.width + p.column < vec_len plane.cells
 cell_within b row p plane is in_row e =
     let size = is.whole.sizes p.band plane e in
     let inside = place_row b row p is in_row in
     let column : p.column < plane.width = omega (arith, size.columns_are, in_row.column) in
-    let full : vec_len plane.cells ≡ (block_side p.band * (b.rows / 8)) * plane.width = size.full ∙ ap (λ w. (block_side p.band * (b.rows / 8)) * w) (sym size.columns_are) in
+    let full : vec_len plane.cells ≡ (block_side p.band * (b.rows / 8)) * plane.width =
+    size.full ∙ ap (λ w. (block_side p.band * (b.rows / 8)) * w) (sym size.columns_are) in
     rw full (in_rows (block_side p.band * row + p.row) (block_side p.band * (b.rows / 8)) plane.width p.column inside column)
   where
     in_rows : (i r w j : ℕ) → i < r → j < w → i * w + j < r * w

@@ -37,19 +37,28 @@ pub record Four (n m : ℕ) (q : Quarters) (ll hl lh hh : Plane) : Type 0 where
   pub down : Shows n m q.lh lh
   pub both : Shows n m q.hh hh
 
-pub four_sized : (n m rows width : ℕ) (q : Quarters) (ll hl lh hh : Plane) → rows ≡ 2 * n → width ≡ 2 * m → Four n m q ll hl lh hh → (rows ≡ 2 * ll.rows) × (width ≡ 2 * ll.width)
+pub four_sized : (n m rows width : ℕ) (q : Quarters) (ll hl lh hh : Plane) → rows ≡ 2 * n → width ≡ 2 * m → Four n m q ll hl lh hh →
+    (rows ≡ 2 * ll.rows) × (width ≡ 2 * ll.width)
 four_sized n m rows width q ll hl lh hh hn hm f = grind (arith, nat_tests)
 
-pub four_within : (b n m : ℕ) (q : Quarters) (ll hl lh hh : Plane) → b ≤ 2 ^ 34 → Four n m q ll hl lh hh → QuartersWithin b n m q → QuartersWithin (2 ^ 34) ll.rows ll.width (quarters_in ll hl lh hh)
+pub four_within : (b n m : ℕ) (q : Quarters) (ll hl lh hh : Plane) → b ≤ 2 ^ 34 → Four n m q ll hl lh hh → QuartersWithin b n m q →
+    QuartersWithin (2 ^ 34) ll.rows ll.width (quarters_in ll hl lh hh)
 four_within b n m q ll hl lh hh le f within =
     let er = f.low.size.rows_are in
     let ew = f.low.size.columns_are in
     let bounded = λ (x : ℕ → ℕ → ℤ) (p : Plane) (s : Shows n m x p) (h : EachWithin b n m x).
     EachWithin-more b (2 ^ 34) n ll.rows m ll.width (image_of p) le (omega arith) (omega arith) (EachWithin-same b n m (image_of p) x s.cells h) in
-    record { ll = bounded q.ll ll f.low within.ll; hl = bounded q.hl hl f.across within.hl; lh = bounded q.lh lh f.down within.lh; hh = bounded q.hh hh f.both within.hh }
+    record {
+      ll = bounded q.ll ll f.low within.ll;
+      hl = bounded q.hl hl f.across within.hl;
+      lh = bounded q.lh lh f.down within.lh;
+      hh =
+          bounded q.hh hh f.both within.hh;
+    }
 
 -- the joined image of four planes
-pub four_joined : (n m : ℕ) (q : Quarters) (ll hl lh hh p : Plane) → 2 ≤ n → 2 ≤ m → Four n m q ll hl lh hh → Shows (2 * ll.rows) (2 * ll.width) (joined (quarters_in ll hl lh hh) ll.rows ll.width) p → Shows (2 * n) (2 * m) (joined q n m) p
+pub four_joined : (n m : ℕ) (q : Quarters) (ll hl lh hh p : Plane) → 2 ≤ n → 2 ≤ m → Four n m q ll hl lh hh →
+    Shows (2 * ll.rows) (2 * ll.width) (joined (quarters_in ll hl lh hh) ll.rows ll.width) p → Shows (2 * n) (2 * m) (joined q n m) p
 four_joined n m q ll hl lh hh p hn hm f made =
     let c = subst (λ (k : ℕ). Shows (2 * k) (2 * ll.width) (joined (quarters_in ll hl lh hh) k ll.width) p) f.low.size.rows_are made in
     let d = subst (λ (k : ℕ). Shows (2 * n) (2 * k) (joined (quarters_in ll hl lh hh) n k) p) f.low.size.columns_are c in
@@ -58,10 +67,13 @@ four_joined n m q ll hl lh hh p hn hm f made =
 
 -- ---- the three levels of bands, P their pyramid
 
-pub third_shown : (r c : ℕ) (P : Pyramid) (ll hl lh hh : Plane) → Shows r c P.ll3 ll → Shows r c P.hl3 hl → Shows r c P.lh3 lh → Shows r c P.hh3 hh → Four r c (third_of P) ll hl lh hh
+pub third_shown : (r c : ℕ) (P : Pyramid) (ll hl lh hh : Plane) → Shows r c P.ll3 ll → Shows r c P.hl3 hl → Shows r c P.lh3 lh → Shows r c P.hh3 hh →
+    Four r c (third_of P) ll hl lh hh
 third_shown r c P ll hl lh hh a b d e = rw third_of-is (record { low = a; across = b; down = d; both = e })
 
-pub second_shown : (r c : ℕ) (P : Pyramid) (x y z t ll hl lh hh : Plane) → 2 ≤ r → 2 ≤ c → Four r c (third_of P) x y z t → Shows (2 * x.rows) (2 * x.width) (joined (quarters_in x y z t) x.rows x.width) ll → Shows (2 * r) (2 * c) P.hl2 hl → Shows (2 * r) (2 * c) P.lh2 lh → Shows (2 * r) (2 * c) P.hh2 hh → Four (2 * r) (2 * c) (second_of P r c) ll hl lh hh
+pub second_shown : (r c : ℕ) (P : Pyramid) (x y z t ll hl lh hh : Plane) → 2 ≤ r → 2 ≤ c → Four r c (third_of P) x y z t →
+    Shows (2 * x.rows) (2 * x.width) (joined (quarters_in x y z t) x.rows x.width) ll → Shows (2 * r) (2 * c) P.hl2 hl → Shows (2 * r) (2 * c) P.lh2 lh →
+    Shows (2 * r) (2 * c) P.hh2 hh → Four (2 * r) (2 * c) (second_of P r c) ll hl lh hh
 second_shown r c P x y z t ll hl lh hh hr hc f made b d e = rw second_of-is (record {
   low = four_joined r c (third_of P) x y z t ll hr hc f made;
   across = b;
@@ -69,15 +81,20 @@ second_shown r c P x y z t ll hl lh hh hr hc f made b d e = rw second_of-is (rec
   both = e;
 })
 
-pub first_shown : (r c : ℕ) (P : Pyramid) (x y z t ll hl lh hh : Plane) → 2 ≤ r → 2 ≤ c → Four (2 * r) (2 * c) (second_of P r c) x y z t → Shows (2 * x.rows) (2 * x.width) (joined (quarters_in x y z t) x.rows x.width) ll → Shows (4 * r) (4 * c) P.hl1 hl → Shows (4 * r) (4 * c) P.lh1 lh → Shows (4 * r) (4 * c) P.hh1 hh → Four (4 * r) (4 * c) (first_of P r c) ll hl lh hh
+pub first_shown : (r c : ℕ) (P : Pyramid) (x y z t ll hl lh hh : Plane) → 2 ≤ r → 2 ≤ c → Four (2 * r) (2 * c) (second_of P r c) x y z t →
+    Shows (2 * x.rows) (2 * x.width) (joined (quarters_in x y z t) x.rows x.width) ll → Shows (4 * r) (4 * c) P.hl1 hl → Shows (4 * r) (4 * c) P.lh1 lh →
+    Shows (4 * r) (4 * c) P.hh1 hh → Four (4 * r) (4 * c) (first_of P r c) ll hl lh hh
 first_shown r c P x y z t ll hl lh hh hr hc f made b d e = rw first_of-is (record {
-  low = resized _ _ (4 * r) (4 * c) _ ll (omega arith) (omega arith) (four_joined (2 * r) (2 * c) (second_of P r c) x y z t ll (omega arith) (omega arith) f made);
+  low = resized _ _ (4 * r) (4 * c) _ ll (omega arith) (omega arith) (four_joined (2 * r) (2 * c) (second_of P r c) x y z t ll (omega arith) (omega arith) f
+      made);
   across = b;
   down = d;
   both = e;
 })
 
-pub rebuilt_shown : (r c rows width : ℕ) (P : Pyramid) (x y z t p : Plane) → rows ≡ 8 * r → width ≡ 8 * c → 2 ≤ r → 2 ≤ c → Four (4 * r) (4 * c) (first_of P r c) x y z t → Shows (2 * x.rows) (2 * x.width) (joined (quarters_in x y z t) x.rows x.width) p → Shows rows width (rebuilt P r c) p
+pub rebuilt_shown : (r c rows width : ℕ) (P : Pyramid) (x y z t p : Plane) → rows ≡ 8 * r → width ≡ 8 * c → 2 ≤ r → 2 ≤ c →
+    Four (4 * r) (4 * c) (first_of P r c) x y z t → Shows (2 * x.rows) (2 * x.width) (joined (quarters_in x y z t) x.rows x.width) p →
+    Shows rows width (rebuilt P r c) p
 rebuilt_shown r c rows width P x y z t p er ec hr hc f made =
     rw rebuilt-is (
     resized _ _ rows width _ p (omega arith) (omega arith) (four_joined (4 * r) (4 * c) (first_of P r c) x y z t p (omega arith) (omega arith) f made)

@@ -26,13 +26,25 @@ shown_widened r w a s p shown copy =
     let d = subst (λ (k : ℕ). Shows r k (samples_of s) p) shown.columns_are c in
     record { size = d.size; cells = SameWithin-trans r w _ _ _ d.cells shown.cells }
 
-pub shown_columns : (r n w : ℕ) (a : ℕ → ℕ → ℤ) (s : Samples) (h : Samples × Samples) → r ≡ 2 * n → 2 ≤ n → ShowsSamples r w a s → ShowsHalves (s.rows / 2) s.width (columns_low (samples_of s) (s.rows / 2)) (columns_high (samples_of s) (s.rows / 2)) h → ShowsHalves n w (columns_low a n) (columns_high a n) h
+pub shown_columns : (r n w : ℕ) (a : ℕ → ℕ → ℤ) (s : Samples) (h : Samples × Samples) → r ≡ 2 * n → 2 ≤ n → ShowsSamples r w a s →
+    ShowsHalves (s.rows / 2) s.width (columns_low (samples_of s) (s.rows / 2)) (columns_high (samples_of s) (s.rows / 2)) h →
+    ShowsHalves n w (columns_low a n) (columns_high a n) h
 shown_columns r n w a s h er two shown halves =
     let half : s.rows / 2 ≡ n = omega (arith, shown.rows_are) in
     let c = subst (λ (k : ℕ). ShowsHalves k s.width (columns_low (samples_of s) k) (columns_high (samples_of s) k) h) half halves in
     let d = subst (λ (k : ℕ). ShowsHalves n k (columns_low (samples_of s) n) (columns_high (samples_of s) n) h) shown.columns_are c in
     let same = subst (λ (k : ℕ). SameWithin k w (samples_of s) a) er shown.cells in
     record {
-      low = record { rows_are = d.low.rows_are; columns_are = d.low.columns_are; cells = SameWithin-trans n w _ _ _ d.low.cells (columns_low-same n w (samples_of s) a two same) };
-      high = record { rows_are = d.high.rows_are; columns_are = d.high.columns_are; cells = SameWithin-trans n w _ _ _ d.high.cells (columns_high-same n w (samples_of s) a two same) };
+      low = record {
+        rows_are = d.low.rows_are;
+        columns_are = d.low.columns_are;
+        cells =
+            SameWithin-trans n w _ _ _ d.low.cells (columns_low-same n w (samples_of s) a two same);
+      };
+      high = record {
+        rows_are = d.high.rows_are;
+        columns_are = d.high.columns_are;
+        cells =
+            SameWithin-trans n w _ _ _ d.high.cells (columns_high-same n w (samples_of s) a two same);
+      };
     }

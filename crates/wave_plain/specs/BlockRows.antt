@@ -14,5 +14,5 @@ number_in b row p = band_of (pyramid_in b) p.band (block_side p.band * row + p.r
 pub record IsBlockRow (b : Bands) (row : ℕ) : Type 0 where
   pub whole : IsWhole (b.rows / 8) (b.width / 8) b
   pub small : PyramidWithin 409600 2560000 16000000 (b.rows / 8) (b.width / 8) (pyramid_in b)
-  pub stands : row < b.rows / 8
+  pub valid : row < b.rows / 8
   pub few : b.rows / 8 ≤ 2 ^ 15

@@ -63,7 +63,7 @@ impl<'a> BandSource for BlockRow<'a> {
 
     ghost columns = { λ b. b.bands.now.width / 8 };
 
-    ghost stands = { λ _. true };
+    ghost valid = { λ _. true };
 
     ghost number = { λ b. number_in b.bands.now b.row };
 

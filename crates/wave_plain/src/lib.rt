@@ -1,4 +1,6 @@
 //! This crate has the wavelet transform of three levels over whole arrays, and its inverse.
+//!
+//! Layer: transform and blocks. It uses `base_122`, `wave_defs`, `lift_rows` and `block_families`. It is used by `wave_tests`.
 #![tactic(auto)]
 
 ghost use Rattle.std.specs.Prelude.{◌≡◌, ℕ, ◌+◌, ◌*◌, ◌-◌, ◌/◌, ◌^◌, ◌<◌, ◌≤◌, IfOk, vec_len};

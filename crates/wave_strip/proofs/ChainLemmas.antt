@@ -10,7 +10,9 @@ use Rattle.wave_strip.specs.Kept.{AreSmall}
 use Rattle.wave_strip.proofs.KeptLemmas.{RowsWithin-more}
 
 -- low row k of the upper level, of 2 * n pairs of rows of 2 * m samples: its first half is row k of the level below
-passed_row_here : (x : ℕ → ℕ → ℤ) (n m h k w : ℕ) (row : List ℤ) → m ≡ 2 * h → 2 ≤ h → 2 ≤ n → k < 2 * n → w ≡ 2 * m → Agrees w (signal row) (open_low (mirrored (beside x m) (2 * n)) k) → Agrees (2 * h) (parted (signal (take m row)) h) (mirrored (beside (level x (2 * n) m).ll h) n k)
+passed_row_here : (x : ℕ → ℕ → ℤ) (n m h k w : ℕ) (row : List ℤ) → m ≡ 2 * h → 2 ≤ h → 2 ≤ n → k < 2 * n → w ≡ 2 * m →
+    Agrees w (signal row) (open_low (mirrored (beside x m) (2 * n)) k) →
+    Agrees (2 * h) (parted (signal (take m row)) h) (mirrored (beside (level x (2 * n) m).ll h) n k)
 passed_row_here x n m h k w row em hh hn hk ew low =
     let ll = (level x (2 * n) m).ll in
     let line : Agrees (2 * h) (signal (take m row)) (ll k) = record {
@@ -23,9 +25,11 @@ passed_row_here x n m h k w row em hh hn hk ew low =
     subst (λ (y : ℕ → ℤ). Agrees (2 * h) (parted (signal (take m row)) h) y) (sym (mirrored-inside (beside ll h) n k hk)) (parted-same h _ _ hh line)
 
 -- the same if the sizes are known by other names
-pub passed_row : (x : ℕ → ℕ → ℤ) (p n m h k w m' h' : ℕ) (row : List ℤ) → m ≡ 2 * h → 2 ≤ h → 2 ≤ n → p ≡ 2 * n → k < p → w ≡ 2 * m → m' ≡ m → h' ≡ h → Agrees w (signal row) (open_low (mirrored (beside x m) p) k) → Agrees (2 * h') (parted (signal (take m' row)) h') (mirrored (beside (level x p m).ll h) n k)
+pub passed_row : (x : ℕ → ℕ → ℤ) (p n m h k w m' h' : ℕ) (row : List ℤ) → m ≡ 2 * h → 2 ≤ h → 2 ≤ n → p ≡ 2 * n → k < p → w ≡ 2 * m → m' ≡ m → h' ≡ h →
+    Agrees w (signal row) (open_low (mirrored (beside x m) p) k) → Agrees (2 * h') (parted (signal (take m' row)) h') (mirrored (beside (level x p m).ll h) n k)
 passed_row x p n m h k w m' h' row em hh hn ep hk ew em' eh' low =
-    let here = passed_row_here x n m h k w row em hh hn (omega arith) ew (subst (λ (q : ℕ). Agrees w (signal row) (open_low (mirrored (beside x m) q) k)) ep low) in
+    let here = passed_row_here x n m h k w row em hh hn (omega arith) ew (subst (λ (q : ℕ). Agrees w (signal row) (open_low (mirrored (beside x m) q) k)) ep
+    low) in
     let a = subst (λ (q : ℕ). Agrees (2 * h) (parted (signal (take q row)) h) (mirrored (beside (level x (2 * n) m).ll h) n k)) (sym em') here in
     let b = subst (λ (q : ℕ). Agrees (2 * q) (parted (signal (take m' row)) q) (mirrored (beside (level x (2 * n) m).ll h) n k)) (sym eh') a in
     subst (λ (q : ℕ). Agrees (2 * h') (parted (signal (take m' row)) h') (mirrored (beside (level x q m).ll h) n k)) (sym ep) b

@@ -4,7 +4,8 @@ use Rattle.wave_strip.specs.Kept.{pairs_in}
 use Rattle.wave_strip.specs.Counts.{AreCounts, AreRunning, HaveEnded, AreReached, settled}
 
 -- a row arrives
-module _ (rows answered a b c a' b' c' now : ℕ) (e s : Bool) (run : AreRunning rows answered a b c) (few : rows < 262144) (off : e ≡ false) (ea : a' ≡ a + 1) (eb : b' ≡ pairs_in a') (ec : c' ≡ pairs_in (pairs_in a')) (en : now ≡ settled (rows + 1)) where
+module _ (rows answered a b c a' b' c' now : ℕ) (e s : Bool) (run : AreRunning rows answered a b c) (few : rows < 262144) (off : e ≡ false)
+    (ea : a' ≡ a + 1) (eb : b' ≡ pairs_in a') (ec : c' ≡ pairs_in (pairs_in a')) (en : now ≡ settled (rows + 1)) where
   pub no_block_row : s ≡ false → now ≤ answered → AreCounts (rows + 1) answered e s a' b' c'
   no_block_row es le =
       let a_is = run.first in
@@ -37,7 +38,16 @@ reached_running rows answered a b c run one just =
     let ea = run.first in
     let eb = run.second in
     let ec = run.third in
-    record { some = one; first = omega arith; first_kept = omega arith; second = omega arith; second_kept = omega arith; third = omega arith; third_kept = omega arith }
+    record {
+      some = one;
+      first = omega arith;
+      first_kept = omega arith;
+      second = omega arith;
+      second_kept = omega arith;
+      third = omega arith;
+      third_kept =
+          omega arith;
+    }
 
 reached_ended : (rows answered a b c : ℕ) → HaveEnded rows answered a b c → 1 ≤ answered → settled rows < answered → AreReached answered a b c
 reached_ended rows answered a b c end one next =
@@ -46,7 +56,16 @@ reached_ended rows answered a b c end one next =
     let ec = end.third in
     let whole = end.whole in
     let to = end.to in
-    record { some = one; first = omega arith; first_kept = omega arith; second = omega arith; second_kept = omega arith; third = omega arith; third_kept = omega arith }
+    record {
+      some = one;
+      first = omega arith;
+      first_kept = omega arith;
+      second = omega arith;
+      second_kept = omega arith;
+      third = omega arith;
+      third_kept =
+          omega arith;
+    }
 
 pub reached : (rows answered a b c : ℕ) (e s : Bool) → s ≡ true → AreCounts rows answered e s a b c → AreReached answered a b c
 reached rows answered a b c false s es k = reached_running rows answered a b c (k.running refl) (k.some es) (k.just es refl)

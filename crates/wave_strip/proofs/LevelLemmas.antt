@@ -10,7 +10,8 @@ use Rattle.wave_defs.proofs.LevelWithin.{IsWithin-more}
 use Rattle.wave_strip.proofs.KeptLemmas.{written_whole}
 
 -- the low and the high samples, one after the other
-pub Agrees-parted : (m k : ℕ) (x : ℕ → ℤ) (low high : List ℤ) → k ≡ m → length low ≡ k → Agrees k (signal low) (low_of x k) → Agrees k (signal high) (high_of x k) → Agrees (2 * m) (signal (low ++ high)) (parted x m)
+pub Agrees-parted : (m k : ℕ) (x : ℕ → ℤ) (low high : List ℤ) → k ≡ m → length low ≡ k → Agrees k (signal low) (low_of x k) →
+    Agrees k (signal high) (high_of x k) → Agrees (2 * m) (signal (low ++ high)) (parted x m)
 Agrees-parted m k x low high e long al ah =
     let bl = subst (λ (i : ℕ). Agrees i (signal low) (low_of x i)) e al in
     let bh = subst (λ (i : ℕ). Agrees i (signal high) (high_of x i)) e ah in
@@ -21,7 +22,8 @@ Agrees-parted m k x low high e long al ah =
     }
 
 -- bounds on the samples of a row that is split in parts
-pub part_within : (k c half w n : ℕ) (x : ℕ → ℤ) (out old : List ℤ) → 2 ≤ k → 2 ≤ half → 5 * k ≤ c → w ≡ 2 * half → length out ≡ n → length old ≡ n → AllWithin (2 * k) (2 * half) x → Agrees (2 * half) (signal out) (parted x half) → AllWithin c w (signal (take n (out ++ drop (length out) old)))
+pub part_within : (k c half w n : ℕ) (x : ℕ → ℤ) (out old : List ℤ) → 2 ≤ k → 2 ≤ half → 5 * k ≤ c → w ≡ 2 * half → length out ≡ n → length old ≡ n →
+    AllWithin (2 * k) (2 * half) x → Agrees (2 * half) (signal out) (parted x half) → AllWithin c w (signal (take n (out ++ drop (length out) old)))
 part_within k c half w n x out old hk hh hc ew lo ln b a =
     let within = parted-within k half x hk hh b in
     rw (written_whole n out old lo ln) (record { at = λ d h. rw (a.at d (omega arith)) (IsWithin-more (5 * k) c _ hc (within.at d (omega arith))) })

@@ -18,7 +18,8 @@ none_within bound = record { above = omega (arith, ints); below = omega (arith, 
 wider : (a b : ℕ) (z : ℤ) → a ≤ b → IsWithin a z → IsWithin b z
 wider a b z le h = record { above = omega (arith, ints, h.above); below = omega (arith, ints, h.below) }
 
-kept_within : (bound w kept made j column : ℕ) (rows : List (List ℤ)) → RowsWithin bound w rows → column < w → IsWithin bound (kept_sample rows kept made j column)
+kept_within : (bound w kept made j column : ℕ) (rows : List (List ℤ)) → RowsWithin bound w rows → column < w →
+    IsWithin bound (kept_sample rows kept made j column)
 kept_within bound w kept made j column rows small inside =
     let t = j + kept - made in
     elim (cases_lt t (length rows)) [
@@ -37,16 +38,26 @@ high_within m j column c small inside = kept_within (5 * m) c.width c.kept _ j c
 -- the number at a place of a band
 band_small : (s : StripWave) (band row i : ℕ) → band < 10 → i < block_side band * s.third.half →
     IsWithin 16000000 (number_in s (record { band = band; row = row; column = i }))
-band_small s zero row i h lt = wider 409600 16000000 _ (omega arith) (high_within 81920 _ _ s.first.columns s.levels.first_small (omega (arith, lt, s.levels.halves, s.levels.quarters, s.first.wide)))
-band_small s (suc zero) row i h lt = wider 409600 16000000 _ (omega arith) (low_within 81920 _ _ s.first.columns s.levels.first_small (omega (arith, lt, s.levels.halves, s.levels.quarters, s.first.wide)))
-band_small s (suc (suc zero)) row i h lt = wider 409600 16000000 _ (omega arith) (high_within 81920 _ _ s.first.columns s.levels.first_small (omega (arith, lt, s.levels.halves, s.levels.quarters, s.first.wide)))
-band_small s (suc (suc (suc zero))) row i h lt = wider 2560000 16000000 _ (omega arith) (high_within 512000 _ _ s.second.columns s.levels.second_small (omega (arith, lt, s.levels.quarters, s.second.wide)))
-band_small s (suc (suc (suc (suc zero)))) row i h lt = wider 2560000 16000000 _ (omega arith) (low_within 512000 _ _ s.second.columns s.levels.second_small (omega (arith, lt, s.levels.quarters, s.second.wide)))
-band_small s (suc (suc (suc (suc (suc zero))))) row i h lt = wider 2560000 16000000 _ (omega arith) (high_within 512000 _ _ s.second.columns s.levels.second_small (omega (arith, lt, s.levels.quarters, s.second.wide)))
-band_small s (suc (suc (suc (suc (suc (suc zero)))))) row i h lt = high_within 3200000 _ _ s.third.columns s.levels.third_small (omega (arith, lt, s.third.wide))
-band_small s (suc (suc (suc (suc (suc (suc (suc zero))))))) row i h lt = low_within 3200000 _ _ s.third.columns s.levels.third_small (omega (arith, lt, s.third.wide))
-band_small s (suc (suc (suc (suc (suc (suc (suc (suc zero)))))))) row i h lt = high_within 3200000 _ _ s.third.columns s.levels.third_small (omega (arith, lt, s.third.wide))
-band_small s (suc (suc (suc (suc (suc (suc (suc (suc (suc zero))))))))) row i h lt = low_within 3200000 _ _ s.third.columns s.levels.third_small (omega (arith, lt, s.third.wide))
+band_small s zero row i h lt = wider 409600 16000000 _ (omega arith)
+    (high_within 81920 _ _ s.first.columns s.levels.first_small (omega (arith, lt, s.levels.halves, s.levels.quarters, s.first.wide)))
+band_small s (suc zero) row i h lt = wider 409600 16000000 _ (omega arith)
+    (low_within 81920 _ _ s.first.columns s.levels.first_small (omega (arith, lt, s.levels.halves, s.levels.quarters, s.first.wide)))
+band_small s (suc (suc zero)) row i h lt = wider 409600 16000000 _ (omega arith)
+    (high_within 81920 _ _ s.first.columns s.levels.first_small (omega (arith, lt, s.levels.halves, s.levels.quarters, s.first.wide)))
+band_small s (suc (suc (suc zero))) row i h lt = wider 2560000 16000000 _ (omega arith)
+    (high_within 512000 _ _ s.second.columns s.levels.second_small (omega (arith, lt, s.levels.quarters, s.second.wide)))
+band_small s (suc (suc (suc (suc zero)))) row i h lt =
+    wider 2560000 16000000 _ (omega arith) (low_within 512000 _ _ s.second.columns s.levels.second_small (omega (arith, lt, s.levels.quarters, s.second.wide)))
+band_small s (suc (suc (suc (suc (suc zero))))) row i h lt =
+    wider 2560000 16000000 _ (omega arith) (high_within 512000 _ _ s.second.columns s.levels.second_small (omega (arith, lt, s.levels.quarters, s.second.wide)))
+band_small s (suc (suc (suc (suc (suc (suc zero)))))) row i h lt =
+    high_within 3200000 _ _ s.third.columns s.levels.third_small (omega (arith, lt, s.third.wide))
+band_small s (suc (suc (suc (suc (suc (suc (suc zero))))))) row i h lt =
+    low_within 3200000 _ _ s.third.columns s.levels.third_small (omega (arith, lt, s.third.wide))
+band_small s (suc (suc (suc (suc (suc (suc (suc (suc zero)))))))) row i h lt =
+    high_within 3200000 _ _ s.third.columns s.levels.third_small (omega (arith, lt, s.third.wide))
+band_small s (suc (suc (suc (suc (suc (suc (suc (suc (suc zero))))))))) row i h lt =
+    low_within 3200000 _ _ s.third.columns s.levels.third_small (omega (arith, lt, s.third.wide))
 band_small s (suc (suc (suc (suc (suc (suc (suc (suc (suc (suc band)))))))))) row i h lt = absurd (omega arith)
 
 -- the numbers of the available block row

@@ -25,13 +25,13 @@ pub record HaveEnded (rows answered a b c : ℕ) : Type 0 where
 
 -- The available block row is the one answered last: before the end it is complete with the last row, and
 -- after the end it is one of those that the end completes.
-pub record AreCounts (rows answered : ℕ) (ended standing : Bool) (a b c : ℕ) : Type 0 where
+pub record AreCounts (rows answered : ℕ) (ended current : Bool) (a b c : ℕ) : Type 0 where
   pub most : rows ≤ 262144
   pub running : ended ≡ false → AreRunning rows answered a b c
   pub after : ended ≡ true → HaveEnded rows answered a b c
-  pub some : standing ≡ true → 1 ≤ answered
-  pub just : standing ≡ true → ended ≡ false → rows ≡ 8 * answered + 21
-  pub next : standing ≡ true → ended ≡ true → settled rows < answered
+  pub some : current ≡ true → 1 ≤ answered
+  pub just : current ≡ true → ended ≡ false → rows ≡ 8 * answered + 21
+  pub next : current ≡ true → ended ≡ true → settled rows < answered
 
 -- each level has all rows of the block row that was answered last, and keeps them
 pub record AreReached (answered a b c : ℕ) : Type 0 where

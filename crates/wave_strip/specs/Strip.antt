@@ -20,8 +20,8 @@ columns_of s = s.third.half
 abbrev pub has_ended : StripWave → Bool
 has_ended s = s.ended
 
-abbrev pub is_standing : StripWave → Bool
-is_standing s = s.standing
+abbrev pub is_current : StripWave → Bool
+is_current s = s.current
 
 -- the strip is as after the first rows of this image of r block rows
 abbrev pub Follows : (ℕ → ℕ → ℤ) → ℕ → StripWave → Type 0
@@ -32,7 +32,7 @@ pub record IsAtStart (s : StripWave) : Type 0 where
   pub rows : s.rows ≡ 0
   pub answered : s.answered ≡ 0
   pub running : s.ended ≡ false
-  pub none : s.standing ≡ false
+  pub none : s.current ≡ false
   pub follows : (image : ℕ → ℕ → ℤ) (r : ℕ) → Follows image r s
 
 -- the bands whose newest rows the levels keep: a row has its low half first

@@ -18,7 +18,7 @@ pub struct Columns {
     pub odds: RowRing<i32>,
     pub lows: RowRing<i32>,
     pub highs: RowRing<i32>,
-    ghost stand: { AreRings width kept evens odds lows highs },
+    ghost sink_state: { AreRings width kept evens odds lows highs },
 }
 
 /// Makes pair j, after even row j + 2 was taken. `row` is room, and room is returned.
@@ -31,9 +31,9 @@ fn lift_pair(
     j: usize,
     row: Vec<i32>,
 ) -> Vec<i32>
-    requires stand { AreRings (vec_len row) kept evens.now odds.now lows.old highs.old }
+    requires sink_state { AreRings (vec_len row) kept evens.now odds.now lows.old highs.old }
     requires small { AreSmall (2 ^ 23) (vec_len row) evens.now odds.now lows.old highs.old }
-    ensures stand { AreRings (vec_len row) kept evens.now odds.now lows.new highs.new }
+    ensures sink_state { AreRings (vec_len row) kept evens.now odds.now lows.new highs.new }
     ensures wide { vec_len result ≡ vec_len row }
     ensures follows { (a : ℕ → ℕ → ℤ)
         → HoldPairs a (vec_len row) (j + 3) (j + 2) j evens.now odds.now lows.old highs.old

@@ -18,12 +18,12 @@ pub struct StripWave {
     rows: u32,
     ended: bool,
     answered: u32,
-    standing: bool,
+    current: bool,
     first: Level,
     second: Level,
     third: Level,
     ghost levels: { AreLevels first second third },
-    ghost counts: { AreCounts rows answered ended standing first.columns.taken second.columns.taken third.columns.taken },
+    ghost counts: { AreCounts rows answered ended current first.columns.taken second.columns.taken third.columns.taken },
 }
 
 /// Returns how many block rows are complete after this number of rows.
@@ -39,7 +39,7 @@ impl StripWave {
     ghost use Rattle.std.specs.Prelude.{◌≡◌, ℕ, ◌+◌, ◌*◌, ◌-◌, ◌/◌, ◌%◌, ◌^◌, ◌<◌, ◌≤◌, ◌≢◌, ℤ, length, IsTrue, IfOk, MatchOption, true, false};
     ghost use Rattle.wave_defs.specs.Within.{AllWithin};
     ghost use Rattle.wave_defs.specs.Held.{Agrees, signal};
-    ghost use Rattle.wave_strip.specs.Strip.{rows_of, answered_of, columns_of, has_ended, is_standing, Follows, IsAtStart, ShowsBlockRow};
+    ghost use Rattle.wave_strip.specs.Strip.{rows_of, answered_of, columns_of, has_ended, is_current, Follows, IsAtStart, ShowsBlockRow};
 
     /// Returns the transform of images of rows of `width` samples, at the start of an image. The width is a
     /// multiple of 8 from 24 to 2^20. The only error is a lack of memory.
@@ -58,7 +58,7 @@ impl StripWave {
             rows: 0,
             ended: false,
             answered: 0,
-            standing: false,
+            current: false,
             first,
             second,
             third,
@@ -84,12 +84,12 @@ impl StripWave {
         self.rows = 0;
         self.ended = false;
         self.answered = 0;
-        self.standing = false;
+        self.current = false;
     }
 
     // Returns the available block row.
     fn block(&self) -> usize
-        requires { is_standing self.now ≡ true }
+        requires { is_current self.now ≡ true }
         ensures value { result ≡ answered_of self.now - 1 }
         ensures reached { AreReached (answered_of self.now) self.now.first.columns.taken self.now.second.columns.taken self.now.third.columns.taken }
         ensures few { (self.now.first.columns.taken < 2 ^ 32) × (self.now.second.columns.taken < 2 ^ 32) × (self.now.third.columns.taken < 2 ^ 32) }
@@ -108,18 +108,18 @@ impl StripWave {
         ensures running { has_ended self.new ≡ false }
         ensures answer { MatchOption result ((r : ℕ) → rows_of self.new ≢ 8 * r + 29) (λ r. rows_of self.new ≡ 8 * r + 29) }
         ensures answered { answered_of self.new ≡ settled (rows_of self.new) }
-        ensures standing { MatchOption result (is_standing self.new ≡ false) (λ r. (is_standing self.new ≡ true) × (answered_of self.new ≡ r + 1)) }
+        ensures current { MatchOption result (is_current self.new ≡ false) (λ r. (is_current self.new ≡ true) × (answered_of self.new ≡ r + 1)) }
         ensures follows { (image : ℕ → ℕ → ℤ) (r : ℕ) → 3 ≤ r → rows_of self.old < 8 * r → Follows image r self.old
             → Agrees (8 * columns_of self.old) (signal row.now) (image (rows_of self.old)) → Follows image r self.new }
-        ensures shows { (image : ℕ → ℕ → ℤ) (r : ℕ) → is_standing self.new ≡ true → 3 ≤ r → rows_of self.new ≤ 8 * r
+        ensures shows { (image : ℕ → ℕ → ℤ) (r : ℕ) → is_current self.new ≡ true → 3 ≤ r → rows_of self.new ≤ 8 * r
             → Follows image r self.new → ShowsBlockRow image r self.new }
     {
         self.first.take(row);
         hand_down(&self.first, &mut self.second, &mut self.third);
         self.rows += 1;
         let now = settled_in(self.rows);
-        self.standing = self.answered < now;
-        if !self.standing {
+        self.current = self.answered < now;
+        if !self.current {
             return None;
         }
         self.answered = now;
@@ -135,19 +135,19 @@ impl StripWave {
         ensures ended { has_ended self.new ≡ true }
         ensures answer { MatchOption result (rows_of self.old / 8 ≤ answered_of self.old)
             (λ r. (r ≡ answered_of self.old) × (r < rows_of self.old / 8)) }
-        ensures standing { MatchOption result ((is_standing self.new ≡ false) × (answered_of self.new ≡ answered_of self.old))
-            (λ r. (is_standing self.new ≡ true) × (answered_of self.new ≡ r + 1)) }
+        ensures current { MatchOption result ((is_current self.new ≡ false) × (answered_of self.new ≡ answered_of self.old))
+            (λ r. (is_current self.new ≡ true) × (answered_of self.new ≡ r + 1)) }
         ensures follows { (image : ℕ → ℕ → ℤ) (r : ℕ) → rows_of self.old ≡ 8 * r → Follows image r self.old
             → Follows image r self.new }
-        ensures shows { (image : ℕ → ℕ → ℤ) (r : ℕ) → is_standing self.new ≡ true → rows_of self.new ≡ 8 * r
+        ensures shows { (image : ℕ → ℕ → ℤ) (r : ℕ) → is_current self.new ≡ true → rows_of self.new ≡ 8 * r
             → Follows image r self.new → ShowsBlockRow image r self.new }
     {
         if !self.ended {
             end_levels(&mut self.first, &mut self.second, &mut self.third);
             self.ended = true;
         }
-        self.standing = self.answered < self.rows / 8;
-        if !self.standing {
+        self.current = self.answered < self.rows / 8;
+        if !self.current {
             return None;
         }
         self.answered += 1;
@@ -156,11 +156,11 @@ impl StripWave {
 }
 
 impl BandSource for StripWave {
-    ghost use Rattle.wave_strip.specs.Strip.{columns_of, is_standing, number_in};
+    ghost use Rattle.wave_strip.specs.Strip.{columns_of, is_current, number_in};
 
     ghost columns = { λ s. columns_of s };
 
-    ghost stands = { λ s. is_standing s };
+    ghost valid = { λ s. is_current s };
 
     ghost number = { λ s p. number_in s p };
 

@@ -12,6 +12,6 @@ block_row b r c row few whole small lt =
     record {
       whole = rw (rows, columns) whole;
       small = rw (rows, columns) small;
-      stands = omega (arith, rows);
+      valid = omega (arith, rows);
       few = omega (arith, rows);
     }

@@ -47,7 +47,7 @@ fn put_block(strip: &mut StripInverse, column: u32, numbers: &[i32])
     requires whole { length numbers.now ≡ 64 }
     requires inside { column < columns_of strip.old }
     requires few { column < 2 ^ 17 }
-    requires stands { taken_of strip.old < height_of strip.old }
+    requires valid { taken_of strip.old < height_of strip.old }
     ensures { Keeps strip.old strip.new }
 {
     for position in 0..64u8 {
@@ -62,7 +62,7 @@ fn put_block(strip: &mut StripInverse, column: u32, numbers: &[i32])
 fn put_block_row(strip: &mut StripInverse, sent: &Sent, row: u32)
     requires columns { columns_of strip.old ≡ sent.now.columns }
     requires row { row < 2 ^ 15 }
-    requires stands { taken_of strip.old < height_of strip.old }
+    requires valid { taken_of strip.old < height_of strip.old }
     ensures { Keeps strip.old strip.new }
 {
     if sent.lost == Some(row) {

@@ -1,6 +1,9 @@
 //! Answers cases on the transform: lines and kernels, rings of rows, places of blocks, whole arrays, and images row by row in both
 //! directions. A line of standard input has a subject with named numbers, a colon and data; it is written to standard output with
 //! the answer after it. A line that is empty or begins with `#` is written as it is.
+//!
+//! Layer: tests and examples, no part of the program. It uses `base_122`, `raster_rows`, `wave_defs`, `lift_lanes`, `lift_rows`,
+//! `block_families`, `line_rings` and 3 more.
 #![tactic(auto)]
 
 mod arrays;

@@ -19,7 +19,7 @@ impl BandSource for Named {
 
     ghost columns = { λ s. 2 };
 
-    ghost stands = { λ s. true };
+    ghost valid = { λ s. true };
 
     ghost number = { λ s p. slice_index_or s.cells (40 * p.band + 8 * p.row + p.column) (pos 0) };
 

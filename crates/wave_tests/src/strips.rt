@@ -1,7 +1,7 @@
 // Images whose rows are pushed one after another, and the numbers of their block rows.
 ghost use Rattle.std.specs.Prelude.{◌≡◌, ◌<◌, ◌≤◌, ◌*◌, ◌/◌, ◌^◌, ℕ, IfOk, IsTrue, false, true};
 ghost use Rattle.std.specs.Result.{OnOk};
-ghost use Rattle.wave_strip.specs.Strip.{columns_of, has_ended, is_standing, rows_of};
+ghost use Rattle.wave_strip.specs.Strip.{columns_of, has_ended, is_current, rows_of};
 
 use crate::case::{Case, Refusal};
 use crate::pictures::{Picture, picture_in};
@@ -26,7 +26,7 @@ fn add_block<B: BandSource>(
     column: u32,
     numbers: &mut Vec<i32>,
 ) -> Result<(), AllocError>
-    requires stands { IsTrue (B.stands bands.now) }
+    requires valid { IsTrue (B.valid bands.now) }
     requires inside { column < B.columns bands.now }
     requires few { column < 2 ^ 17 }
 {
@@ -42,7 +42,7 @@ fn add_blocks<B: BandSource>(
     count: u32,
     numbers: &mut Vec<i32>,
 ) -> Result<(), AllocError>
-    requires stands { IsTrue (B.stands bands.now) }
+    requires valid { IsTrue (B.valid bands.now) }
     requires inside { count ≤ B.columns bands.now }
     requires few { count ≤ 2 ^ 17 }
 {
@@ -55,7 +55,7 @@ fn add_blocks<B: BandSource>(
 impl Pushed {
     // Adds a block row that is ready.
     fn add(&mut self, strip: &StripWave, row: u32, taken: u32) -> Result<(), AllocError>
-        requires stands { is_standing strip.now ≡ true }
+        requires valid { is_current strip.now ≡ true }
         requires inside { self.old.columns ≤ columns_of strip.now }
         requires few { self.old.columns ≤ 2 ^ 17 }
         ensures { self.new.columns ≡ self.old.columns }

@@ -3,7 +3,7 @@ use Rattle.std.proofs.Common.{◌≡◌, ◌<◌, ◌^◌, ℕ, refl, sym, subst
 use Rattle.item_defs.specs.Bits.{bits_of}
 use Rattle.item_defs.specs.Items.{bad_option}
 use Rattle.bit_pipe.specs.Sources.{SourceOf}
-use Rattle.bit_pipe.specs.Coming.{Coming, Takes}
+use Rattle.bit_pipe.specs.SourceState.{SourceState, Takes}
 use Rattle.bit_pipe.specs.Reading.{stopped}
 use Rattle.item_defs.specs.Readings.{whole, refused}
 use Rattle.bit_pipe.specs.Answers.{IsBelow, TakesOne}
@@ -16,7 +16,7 @@ if_none : (b : Bool) → b ≡ false → cond (not b) (Some bad_option) None ≡
 if_none b e = rw e refl
 
 -- the identifier of an option was read
-pub names_one : {I : Type 0} {k : SourceOf I} (length number option : ℕ) {a b : Coming I} → option < length → identifier_number length option ≡ number →
+pub names_one : {I : Type 0} {k : SourceOf I} (length number option : ℕ) {a b : SourceState I} → option < length → identifier_number length option ≡ number →
     Takes k a b (bits_of (identifier_width length) number) → TakesOne k (IsBelow length) (option_item length) (Ok (Some option)) a b
 names_one {I} {k} length number option {a} {b} known e p = record {
   value = option;
@@ -27,7 +27,8 @@ names_one {I} {k} length number option {a} {b} known e p = record {
 }
 
 -- a number that has no option was read; one of the options would have been next
-pub names_none : {I : Type 0} {k : SourceOf I} (length number : ℕ) {a b : Coming I} → 0 < length → number < 2 ^ identifier_width length → names_option length number ≡ false →
+pub names_none : {I : Type 0} {k : SourceOf I} (length number : ℕ) {a b : SourceState I} → 0 < length → number < 2 ^ identifier_width length →
+    names_option length number ≡ false →
     Takes k a b (bits_of (identifier_width length) number) → TakesOne k (IsBelow length) (option_item length) (Err BadOption) a b
 names_none length number some fits none p = record {
   value = 0;

@@ -3,4 +3,4 @@ mod CodedItems
 mod Identifiers
 pub mod CodeSearch
 mod Words
-mod WordFronts
+mod WordPrefixes

@@ -1,1 +1,1 @@
-pub mod WordFronts
+pub mod WordPrefixes

@@ -1,4 +1,7 @@
 //! This crate codes words of up to four bits, and chooses the codes' tables.
+//!
+//! Layer: bits and the parts of a segment. It uses `base_122`, `item_defs`, `plane_defs` and `bit_pipe`. It is used by `plane_coder`,
+//! `plane_reader`, `layer_tests` and `crate_examples`.
 #![tactic(auto)]
 
 mod book;

@@ -2,7 +2,7 @@
 
 ghost use Rattle.std.specs.Prelude.{◌≡◌, ◌+◌, ◌≤◌, ◌<◌, ◌^◌, IsTrue};
 ghost use Rattle.item_defs.specs.Items.{item_bits};
-ghost use Rattle.bit_pipe.specs.Standing.{Puts, IsReady, Writes};
+ghost use Rattle.bit_pipe.specs.SinkState.{Puts, IsReady, Writes};
 ghost use Rattle.plane_defs.specs.Codes.{is_book_sound, symbol, code_at, code_bits, word_item, option_item};
 
 use crate::choice::table_at;

@@ -1,7 +1,7 @@
 // The reader of words and options.
 
 ghost use Rattle.std.specs.Prelude.{◌≡◌, ◌≤◌, ◌<◌, ◌+◌, ◌^◌, IsTrue, MatchOption, false, count_ones};
-ghost use Rattle.bit_pipe.specs.Coming.{coming, IsIn};
+ghost use Rattle.bit_pipe.specs.SourceState.{source_state, IsIn};
 ghost use Rattle.bit_pipe.specs.Answers.{IsBelow, TakesOne};
 ghost use Rattle.bit_pipe.specs.Windows.{first_of};
 ghost use Rattle.item_defs.specs.Items.{item_bits};
@@ -45,10 +45,10 @@ fn option_named(length: u8, number: u32) -> Option<u8>
 ///
 /// `BadOption` at identifier 10 of length 3; the faults of the input.
 pub fn take_option<I: OctetIn>(input: &mut BitIn<I>, length: u8) -> Result<Option<u8>, TextFault>
-    requires open { IsIn (coming input.old) }
+    requires open { IsIn (source_state input.old) }
     requires short { 2 ≤ length }
     requires long { length ≤ 4 }
-    ensures { TakesOne I.source (IsBelow length) (option_item length) result (coming input.old) (coming input.new) }
+    ensures { TakesOne I.source (IsBelow length) (option_item length) result (source_state input.old) (source_state input.new) }
 {
     let Some(number) = input.take_bits(identifier_bits(length))? else {
         return Ok(None);
@@ -75,13 +75,13 @@ pub fn take_word_by<I: OctetIn>(
     option: u8,
     length: u8,
 ) -> Result<Option<u8>, TextFault>
-    requires open { IsIn (coming input.old) }
+    requires open { IsIn (source_state input.old) }
     requires short { 2 ≤ length }
     requires long { length ≤ 4 }
     requires known { option < length }
-    ensures { TakesOne I.source (IsBelow (2 ^ length)) (word_item tables.now.book length option) result (coming input.old) (coming input.new) }
+    ensures { TakesOne I.source (IsBelow (2 ^ length)) (word_item tables.now.book length option) result (source_state input.old) (source_state input.new) }
 {
-    input.take_front(&tables.rows[row_at(length, option)])
+    input.take_prefix(&tables.rows[row_at(length, option)])
 }
 
 /// The word that is first in a window: its bits, the highest first, the number of bits of its code, and this number with that of the
@@ -110,10 +110,10 @@ pub fn first_word(tables: &WordTables, option: u8, length: u8, window: u64) -> F
 {
     let row = row_at(length, option);
     let octet = (window >> 56) as usize;
-    let front = tables.rows[row][octet];
+    let prefix = tables.rows[row][octet];
     FirstWord {
-        number: front.number,
-        len: front.len,
+        number: prefix.number,
+        len: prefix.len,
         signed_len: tables.signed_lens[row][octet],
     }
 }
@@ -129,12 +129,12 @@ pub fn take_word<I: OctetIn>(
     option: u8,
     length: u8,
 ) -> Result<Option<u8>, TextFault>
-    requires open { IsIn (coming input.old) }
+    requires open { IsIn (source_state input.old) }
     requires sound { IsTrue (is_book_sound book.now) }
     requires short { 2 ≤ length }
     requires long { length ≤ 4 }
     requires known { option < length }
-    ensures { TakesOne I.source (IsBelow (2 ^ length)) (word_item book.now length option) result (coming input.old) (coming input.new) }
+    ensures { TakesOne I.source (IsBelow (2 ^ length)) (word_item book.now length option) result (source_state input.old) (source_state input.new) }
 {
     take_word_by(input, &WordTables::new(book), option, length)
 }

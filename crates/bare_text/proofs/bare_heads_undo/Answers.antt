@@ -5,6 +5,7 @@ use Rattle.bare_text.proofs.bare_heads_undo.Goals as goal
 
 pub returns : goal.returns
 returns c = record {
-  read = λ before h fits small ten. in_whole (in_force before) (bare_head before h) h (read_after h fits small ten before) (whole_after h fits small ten before);
+  read = λ before h fits small ten. in_whole (in_force before) (bare_head before h) h (read_after h fits small ten before)
+      (whole_after h fits small ten before);
   force = λ before h fits small ten. force_after h fits small ten before;
 }

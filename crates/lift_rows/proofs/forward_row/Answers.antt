@@ -19,15 +19,18 @@ lift_low-requires-clause-bounded c =
 pub lift_low-requires-clause-bounded_high : goal.lift_low-requires-clause-bounded_high
 lift_low-requires-clause-bounded_high c =
     let n = length c.args.low.now in
-    let high : Agrees n (signal c.lift_high.new.odd) (high_of (signal c.args.row.now) n) = high_half-is n _ _ n _ _ _ _ (omega arith) (omega arith) (omega arith) refl c.split.ensures.even c.split.ensures.odd c.lift_high.ensures in
+    let high : Agrees n (signal c.lift_high.new.odd) (high_of (signal c.args.row.now) n) =
+    high_half-is n _ _ n _ _ _ _ (omega arith) (omega arith) (omega arith) refl c.split.ensures.even c.split.ensures.odd c.lift_high.ensures in
     high-within n _ n _ _ (omega arith) (omega arith) refl c.requires.bounded high
 
 pub returns-clause-low : goal.returns-clause-low
 returns-clause-low c =
     let n = length c.args.low.now in
-    let high : Agrees n (signal c.lift_high.new.odd) (high_of (signal c.args.row.now) n) = high_half-is n _ _ n _ _ _ _ (omega arith) (omega arith) (omega arith) refl c.split.ensures.even c.split.ensures.odd c.lift_high.ensures in
+    let high : Agrees n (signal c.lift_high.new.odd) (high_of (signal c.args.row.now) n) =
+    high_half-is n _ _ n _ _ _ _ (omega arith) (omega arith) (omega arith) refl c.split.ensures.even c.split.ensures.odd c.lift_high.ensures in
     low_half-is n _ _ _ _ _ _ _ (omega arith) (omega arith) (omega arith) c.split.ensures.even high c.lift_low.ensures
 
 pub returns-clause-high : goal.returns-clause-high
 returns-clause-high c =
-    high_half-is (length c.args.low.now) _ _ _ _ _ _ _ (omega arith) (omega arith) (omega arith) (omega arith) c.split.ensures.even c.split.ensures.odd c.lift_high.ensures
+    high_half-is (length c.args.low.now) _ _ _ _ _ _ _ (omega arith) (omega arith) (omega arith) (omega arith) c.split.ensures.even c.split.ensures.odd
+    c.lift_high.ensures

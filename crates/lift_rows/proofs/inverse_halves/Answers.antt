@@ -13,11 +13,13 @@ lift_odd-requires-clause-bounded_even c =
 
 pub lift_odd-requires-clause-fits : goal.lift_odd-requires-clause-fits
 lift_odd-requires-clause-fits c =
-    rw c.requires.same (AllWithin-same (2 ^ 31 - 1) _ _ _ (odd_half-is _ (signal c.args.low.now) (signal c.args.high.now) _ (omega arith) c.lift_even.ensures) c.requires.fits)
+    rw c.requires.same (AllWithin-same (2 ^ 31 - 1) _ _ _ (odd_half-is _ (signal c.args.low.now) (signal c.args.high.now) _ (omega arith)
+    c.lift_even.ensures) c.requires.fits)
 
 pub lift_odd-requires-clause-small : goal.lift_odd-requires-clause-small
 lift_odd-requires-clause-small c =
-    rw c.requires.same (on_true_both c.args.small (λ low high. AllWithin-same _ _ _ _ c.lift_even.ensures (even_of-small _ _ _ low high)) c.requires.small_low c.requires.small_high)
+    rw c.requires.same (on_true_both c.args.small (λ low high. AllWithin-same _ _ _ _ c.lift_even.ensures (even_of-small _ _ _ low high))
+    c.requires.small_low c.requires.small_high)
 
 pub returns-clause-odd : goal.returns-clause-odd
 returns-clause-odd c =

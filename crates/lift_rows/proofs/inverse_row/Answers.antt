@@ -6,14 +6,14 @@ use Rattle.lift_rows.proofs.inverse_row.Goals as goal
 pub pairs-init : goal.pairs-init
 pairs-init c = as_many _ _ _ _ _ _ _ (omega arith) (omega arith) c.put_odd.ensures
 
-pub put_pair-requires-clause-stands : goal.put_pair-requires-clause-stands
-put_pair-requires-clause-stands c = c.pairs.invariant
+pub put_pair-requires-clause-valid : goal.put_pair-requires-clause-valid
+put_pair-requires-clause-valid c = c.pairs.invariant
 
 pub pairs-preserved : goal.pairs-preserved
 pairs-preserved c = as_many _ _ _ _ _ _ _ (omega arith) (omega arith) c.put_pair.ensures
 
-pub put_odd-requires-2-clause-stands : goal.put_odd-requires-2-clause-stands
-put_odd-requires-2-clause-stands c = as_many _ _ _ _ _ _ _ (omega arith) (omega arith) c.pairs.invariant
+pub put_odd-requires-2-clause-valid : goal.put_odd-requires-2-clause-valid
+put_odd-requires-2-clause-valid c = as_many _ _ _ _ _ _ _ (omega arith) (omega arith) c.pairs.invariant
 
 pub returns : goal.returns
 returns c =

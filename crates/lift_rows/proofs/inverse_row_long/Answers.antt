@@ -3,8 +3,8 @@ use Rattle.wave_defs.proofs.LineLaws.{Agrees-merged}
 use Rattle.lift_rows.proofs.Values.{as_many}
 use Rattle.lift_rows.proofs.inverse_row_long.Goals as goal
 
-pub put_even_widened-requires-clause-stands : goal.put_even_widened-requires-clause-stands
-put_even_widened-requires-clause-stands c = c.evens.invariant
+pub put_even_widened-requires-clause-valid : goal.put_even_widened-requires-clause-valid
+put_even_widened-requires-clause-valid c = c.evens.invariant
 
 pub evens-preserved : goal.evens-preserved
 evens-preserved c = c.put_even_widened.ensures
@@ -12,8 +12,8 @@ evens-preserved c = c.put_even_widened.ensures
 pub odds-init : goal.odds-init
 odds-init c = as_many _ _ _ _ _ _ _ (omega arith) (omega arith) c.evens.invariant
 
-pub put_odd_widened-requires-clause-stands : goal.put_odd_widened-requires-clause-stands
-put_odd_widened-requires-clause-stands c = as_many _ _ _ _ _ _ _ (omega arith) (omega arith) c.odds.invariant
+pub put_odd_widened-requires-clause-valid : goal.put_odd_widened-requires-clause-valid
+put_odd_widened-requires-clause-valid c = as_many _ _ _ _ _ _ _ (omega arith) (omega arith) c.odds.invariant
 
 pub odds-preserved : goal.odds-preserved
 odds-preserved c = c.put_odd_widened.ensures

@@ -1,9 +1,9 @@
 use Rattle.std.proofs.Common.{length}
-use Rattle.lift_rows.specs.Back.{Stands}
+use Rattle.lift_rows.specs.Back.{IsValid}
 use Rattle.lift_rows.proofs.inverse_row_long.Given as goal
 
 abbrev pub invariant-evens : goal.invariant-evens
-invariant-evens l = Stands l.j 0 l.low l.high l.row
+invariant-evens l = IsValid l.j 0 l.low l.high l.row
 
 abbrev pub invariant-odds : goal.invariant-odds
-invariant-odds l = Stands (length l.low) l.j l.low l.high l.row
+invariant-odds l = IsValid (length l.low) l.j l.low l.high l.row

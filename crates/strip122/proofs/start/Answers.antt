@@ -4,4 +4,5 @@ use Rattle.strip122.proofs.start.Goals as goal
 
 pub returns-in-None : goal.returns-in-None
 returns-in-None g c =
-    runs_rest (texts c.args.arguments.now) _ _ _ _ _ (rest_texts c.args.arguments.now) c.in-None.ensures.answer c.from-in-None.ensures c.run-in-None.ensures.runs
+    runs_rest (texts c.args.arguments.now) _ _ _ _ _ (rest_texts c.args.arguments.now) c.in-None.ensures.answer c.from-in-None.ensures
+    c.run-in-None.ensures.runs

@@ -1,4 +1,5 @@
--- `strip122_encoder_free` meets its contract: the value at the pointer is lent for a lifetime that is made for the call of `free`, and lies there again once it is over.
+-- `strip122_encoder_free` meets its contract: the value at the pointer is lent for a lifetime that is made for the call of `free`, and lies
+-- there again once it is over.
 use Rattle.std.proofs.Common.{[], ◌∷◌, refl, ap, MutBor}
 use Rattle.std.proofs.raw_atomic.Walks.{proved}
 use base.Fraction.{full_share}
@@ -6,7 +7,8 @@ use base.Logic.{id⊢}
 use base.Fml.{Lft, flft}
 use mir.Val.{vunit, vptr}
 use prog.Wp.{WpFn}
-use types.Kit.{Item, ‵, raw, ◌⊛◌, some, later, prop, ◌$◌, ◌∵◌, !, qed, done, move, keep, drop, use1, use2, split, join, fsplit, fjoin, feq_i, feq_l, pick, await, regoal, suffices, group}
+use types.Kit.{Item, ‵, raw, ◌⊛◌, some, later, prop, ◌$◌, ◌∵◌, !, qed, done, move, keep, drop, use1, use2, split, join, fsplit, fjoin, feq_i, feq_l, pick}
+use types.Kit.{await, regoal, suffices, group}
 use types.Run.{enter, addr, of_opd, unit_lit, no_more, and_then, returns, stop}
 use types.ByLocal.{alloc_all, pass_all, free_all, look_at, get, through, sets, lands_as}
 use contract.Monad.{fact}
@@ -47,7 +49,8 @@ strip122_encoder_free_spec 𝓤 𝓛 𝓜 𝓡 wired =
     let y : Ptr → W.Ghost = λ p. ((κs, qs, bounds, (p, a.1), (rawptr_vals p, vss)), x) in
     let G = triple_of 𝓛 g.signature (g.spec 𝓛 𝓜.mem 𝓡.returns) in
     let toks : Item 𝓤 = raw (alive 𝓛 f.signature κs qs) in
-    qed 𝓛 ((toks ⊛ (‵ (RawPtr.own_val a.0 (rawptr_vals a.0)) ⊛ ‵ (owns (but_first (types_at f.signature.params κs)) a.1 vss))) ∷ ‵ (lies_at T full_share a.0 x) ∷ []) ∵
+    qed 𝓛 ((toks ⊛ (‵ (RawPtr.own_val a.0 (rawptr_vals a.0)) ⊛ ‵ (owns (but_first (types_at f.signature.params κs)) a.1 vss))) ∷ ‵
+    (lies_at T full_share a.0 x) ∷ []) ∵
     split ! $ move ! (1 ∷ []) $ split ! $ drop ! $ move ! (2 ∷ []) $
     -- [the value at the pointer; what the other parameters own; the tokens]
     in_a_block ! a.0 (λ p. lies_at T full_share p x) (id⊢ 𝓤 _) (λ b o e.
@@ -62,7 +65,8 @@ strip122_encoder_free_spec 𝓤 𝓛 𝓜 𝓡 wired =
     move ! (0 ∷ 3 ∷ []) $ join ! $ move ! (2 ∷ 3 ∷ []) $ join ! $ join ! $ nothing ! $ move ! (1 ∷ 0 ∷ []) $ use2 𝓛 (raw (G.pre z)) (id⊢ 𝓤 _) $
     calls_at ! (framed 𝓤 𝓛.H 𝓜 𝓣) G (met 𝓤 𝓛 𝓜 𝓡 (code.calls-strip122_c::encoder::free 𝓡.env wired)) z
     (and_then ! (get ! refl) (no_more !)) (λ v.
-    use1 𝓛 (later (some (λ (n : Unit {0}). ((‵ (flft κ full_share) ⊛ toks) ⊛ ‵ (unit.own_val n (v ∷ []))) ⊛ some (λ (ws : Lasts g.ended z.0.0 z.0.3). ‵ (lasts g.ended z.0.0 z.0.3 ws) ⊛ raw (fact 𝓤 (Closes ws.0)))))) (id⊢ 𝓤 _) $
+    use1 𝓛 (later (some (λ (n : Unit {0}). ((‵ (flft κ full_share) ⊛ toks) ⊛ ‵ (unit.own_val n (v ∷ []))) ⊛ some
+    (λ (ws : Lasts g.ended z.0.0 z.0.3). ‵ (lasts g.ended z.0.0 z.0.3 ws) ⊛ raw (fact 𝓤 (Closes ws.0)))))) (id⊢ 𝓤 _) $
     await ! tt $ pick ! (λ n. split ! $ split ! $ split ! $ move ! (3 ∷ []) $ pick ! (λ ws. split ! $ move ! (1 ∷ []) $ heard ! _ (λ closes. fsplit ! $
     -- [the loan's last value; what is said of the other parameters; the loan's token; the tokens; the result; what the lender keeps]
     move ! (2 ∷ 5 ∷ 0 ∷ []) $ lies T b o ! tt ws.0 $

@@ -7,7 +7,8 @@ use base.Fml.{Lft, ftrue, flft}
 use mir.Syntax.{named}
 use mir.Val.{vptr}
 use prog.Wp.{WpFn}
-use types.Kit.{Item, ‵, raw, ◌⊛◌, some, later, prop, ◌$◌, ◌∵◌, !, qed, done, move, keep, drop, use0, use1, use2, split, join, fsplit, fjoin, pick, await, regoal, suffices, group}
+use types.Kit.{Item, ‵, raw, ◌⊛◌, some, later, prop, ◌$◌, ◌∵◌, !, qed, done, move, keep, drop, use0, use1, use2, split, join, fsplit, fjoin, pick, await}
+use types.Kit.{regoal, suffices, group}
 use types.Run.{enter, addr, of_opd, assigns, init, no_more, and_then, returns, stop}
 use types.ByLocal.{alloc_all, pass_all, free_all, look_at, get, through, sets, lands_as}
 use contract.Monad.{fact, fact_i}
@@ -70,8 +71,10 @@ strip122_encoder_new_spec 𝓤 𝓛 𝓜 𝓡 wired =
     enter ! _ _ _ _ _ $ alloc_all ! (λ l. pass_all ! refl ((tt, tt), (((heap.the_row_laws.lawful 𝓛).typed a.1.0 _ are.1.0).0, ((tt, tt), ((tt, tt), tt)))) $
     nothing ! $ nothing ! $ join ! $ nothing ! $ move ! (1 ∷ 0 ∷ []) $ use2 𝓛 (raw (G₀.pre z₀)) (id⊢ 𝓤 _) $
     calls_at ! (framed 𝓤 𝓛.H 𝓜 𝓣) G₀ (met₀ 𝓤 𝓛 𝓜 𝓡 (code.calls-strip122_c::encoder::empty 𝓡.env wired)) z₀ (no_more !) (λ u.
-    use1 𝓛 (later (some (λ (x : Strip122Encoder). (‵ ftrue ⊛ ‵ (T.own_val x (u ∷ []))) ⊛ some (λ (ws : Lasts g₀.ended tt tt). ‵ (lasts g₀.ended tt tt ws) ⊛ raw (fact 𝓤 (Closes x)))))) (id⊢ 𝓤 _) $
-    await ! tt $ pick ! (λ x. split ! $ split ! $ drop ! $ move ! (1 ∷ []) $ pick ! (λ _. split ! $ drop ! $ heard ! _ (λ closes. peeks ! T (Is T) (shows 𝓛 T) x (u ∷ []) (λ is₀.
+    use1 𝓛 (later (some (λ (x : Strip122Encoder). (‵ ftrue ⊛ ‵ (T.own_val x (u ∷ []))) ⊛ some
+    (λ (ws : Lasts g₀.ended tt tt). ‵ (lasts g₀.ended tt tt ws) ⊛ raw (fact 𝓤 (Closes x)))))) (id⊢ 𝓤 _) $
+    await ! tt $ pick ! (λ x. split ! $ split ! $ drop ! $ move ! (1 ∷ []) $ pick !
+    (λ _. split ! $ drop ! $ heard ! _ (λ closes. peeks ! T (Is T) (shows 𝓛 T) x (u ∷ []) (λ is₀.
     let good = ((slot.the_row_laws.lawful 𝓛).typed x _ is₀).0 in
     lands_as ! refl refl good $
     -- [what the empty slot owns; the room; what the other parameters own; the tokens]
@@ -84,10 +87,13 @@ strip122_encoder_new_spec 𝓤 𝓛 𝓜 𝓡 wired =
     let κ : Lft = α ∷ [] in
     let r : MutBor Strip122Encoder = record { ref_ptr = (b, o); ghost_name = γ; now = x } in
     let z : G.Ghost = (((κ, κs), (full_share, qs), bounds, (r, a.1), (vptr b o ∷ [], vss)), tt) in
-    move ! (0 ∷ 3 ∷ []) $ join ! $ move ! (2 ∷ 3 ∷ []) $ join ! $ join ! $ use0 𝓛 (raw (fact 𝓤 (Closes x))) (fact_i 𝓤 (Closes x) (emp 𝓤) closes) $ move ! (1 ∷ 0 ∷ []) $ use2 𝓛 (raw (G.pre z)) (id⊢ 𝓤 _) $
+    move ! (0 ∷ 3 ∷ []) $ join ! $ move ! (2 ∷ 3 ∷ []) $ join ! $ join ! $ use0 𝓛 (raw (fact 𝓤 (Closes x))) (fact_i 𝓤 (Closes x) (emp 𝓤) closes) $ move !
+    (1 ∷ 0 ∷ []) $ use2 𝓛 (raw (G.pre z)) (id⊢ 𝓤 _) $
     calls_at ! (framed 𝓤 𝓛.H 𝓜 𝓣) G (met 𝓤 𝓛 𝓜 𝓡 (code.calls-strip122_c::encoder::new 𝓡.env wired)) z
     (and_then ! (get ! refl) (and_then ! (get ! refl) (and_then ! (get ! refl) (and_then ! (get ! refl) (no_more !))))) (λ v.
-    use1 𝓛 (later (some (λ (n : ℕ). ((‵ (flft κ full_share) ⊛ toks) ⊛ ‵ (u32.own_val n (v ∷ []))) ⊛ some (λ (ws : Lasts g.ended z.0.0 z.0.3). ‵ (lasts g.ended z.0.0 z.0.3 ws) ⊛ raw (fact 𝓤 (MakesInto a.1.1.0.now ws.0 a.1.1.1.0.now ws.1.1.1.0 n)))))) (id⊢ 𝓤 _) $
+    use1 𝓛 (later (some (λ (n : ℕ). ((‵ (flft κ full_share) ⊛ toks) ⊛ ‵ (u32.own_val n (v ∷ []))) ⊛ some
+    (λ (ws : Lasts g.ended z.0.0 z.0.3). ‵ (lasts g.ended z.0.0 z.0.3 ws) ⊛ raw (fact 𝓤 (MakesInto a.1.1.0.now ws.0 a.1.1.1.0.now ws.1.1.1.0 n))))))
+    (id⊢ 𝓤 _) $
     await ! tt $ pick ! (λ n. split ! $ split ! $ split ! $ move ! (3 ∷ []) $ pick ! (λ ws. split ! $ move ! (1 ∷ []) $ heard ! _ (λ makes. fsplit ! $
     -- [the loan's last value; what is said of the other parameters; the loan's token; the tokens; the result; what the lender keeps]
     move ! (2 ∷ 5 ∷ 0 ∷ []) $ lies T b o ! tt ws.0 $

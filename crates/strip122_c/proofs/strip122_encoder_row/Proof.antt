@@ -1,4 +1,5 @@
--- `strip122_encoder_row` meets its contract: the value at the pointer is lent for a lifetime that is made for the call of `row`, and lies there again once it is over.
+-- `strip122_encoder_row` meets its contract: the value at the pointer is lent for a lifetime that is made for the call of `row`, and lies
+-- there again once it is over.
 use Rattle.std.proofs.Common.{ℕ, [], ◌∷◌, refl, w32, MutBor}
 use Rattle.std.proofs.raw_atomic.Walks.{proved}
 use base.Fraction.{full_share}
@@ -7,7 +8,8 @@ use base.Fml.{Lft, flft}
 use mir.Syntax.{named}
 use mir.Val.{vptr}
 use prog.Wp.{WpFn}
-use types.Kit.{Item, ‵, raw, ◌⊛◌, some, later, prop, ◌$◌, ◌∵◌, !, qed, done, move, keep, drop, use0, use1, use2, split, join, fsplit, fjoin, pick, await, regoal, suffices, group}
+use types.Kit.{Item, ‵, raw, ◌⊛◌, some, later, prop, ◌$◌, ◌∵◌, !, qed, done, move, keep, drop, use0, use1, use2, split, join, fsplit, fjoin, pick, await}
+use types.Kit.{regoal, suffices, group}
 use types.Run.{enter, addr, from, fld, hop, no_more, and_then, returns, stop}
 use types.Part.{agg, sub, whole}
 use types.ByLocal.{alloc_all, pass_all, free_all, look_at, look_in_at, get, get_in, through, sets, lands_as}
@@ -54,25 +56,36 @@ strip122_encoder_row_spec 𝓤 𝓛 𝓜 𝓡 wired =
     let y : Ptr → W.Ghost = λ p. ((κs, qs, bounds, (p, a.1), (rawptr_vals p, vss)), x) in
     let G = triple_of 𝓛 g.signature (g.spec 𝓛 𝓜.mem 𝓡.returns) in
     let toks : Item 𝓤 = raw (alive 𝓛 f.signature κs qs) in
-    qed 𝓛 ((toks ⊛ (‵ (RawPtr.own_val a.0 (rawptr_vals a.0)) ⊛ ‵ (owns (but_first (types_at f.signature.params κs)) a.1 vss))) ∷ (‵ (lies_at T full_share a.0 x) ⊛ raw (fact 𝓤 (IsReady x))) ∷ []) ∵
+    qed 𝓛 ((toks ⊛ (‵ (RawPtr.own_val a.0 (rawptr_vals a.0)) ⊛ ‵ (owns (but_first (types_at f.signature.params κs)) a.1 vss))) ∷
+    (‵ (lies_at T full_share a.0 x) ⊛ raw (fact 𝓤 (IsReady x))) ∷ []) ∵
     move ! (1 ∷ []) $ split ! $ move ! (1 ∷ []) $ heard ! _ (λ is_ready. move ! (1 ∷ []) $ split ! $ move ! (1 ∷ []) $ split ! $ drop ! $ move ! (2 ∷ []) $
     -- [the value at the pointer; what the other parameters own; the tokens]
     in_a_block ! a.0 (λ p. lies_at T full_share p x) (id⊢ 𝓤 _) (λ b o e.
     regoal ! (λ p. prop (WpFn 𝓤 𝓛.H 𝓣.C 𝓣.Λ code.function (flat (types_at f.signature.params κs) (y p).0.4) (W.post (y p)))) e refl $
-    enter ! _ _ _ _ _ $ alloc_all ! (λ l. pass_all ! refl ((tt, tt), (((shr_slice_Lawful 𝓛 (named 0) κs.0 u8).typed a.1.0 _ are.1.0).0, (((mut_slice_Lawful 𝓛 (named 1) κs.1.0 u8).typed a.1.1.0 _ are.1.1.0).0, ((tt, tt), tt)))) $
+    enter ! _ _ _ _ _ $ alloc_all ! (λ l. pass_all ! refl (
+      (tt, tt),
+      (
+        ((shr_slice_Lawful 𝓛 (named 0) κs.0 u8).typed a.1.0 _ are.1.0).0,
+        (((mut_slice_Lawful 𝓛 (named 1) κs.1.0 u8).typed a.1.1.0 _ are.1.1.0).0, ((tt, tt), tt)),
+      ),
+    ) $
     sets ! (addr ! (through ! refl (stop !))) refl (tt, tt) $
     sets ! (addr ! (from ! (fld ! refl (hop ! (look_in_at ! 3 (sub ! 0 refl (whole !))) (stop !))))) refl (tt, tt) $
-    sets ! (agg ! (and_then ! (get ! refl) (and_then ! (get_in ! (fld ! refl (stop !)) (sub ! 1 refl (whole !))) (no_more !)))) refl ((mut_slice_Lawful 𝓛 (named 1) κs.1.0 u8).typed a.1.1.0 _ are.1.1.0).0 $
+    sets ! (agg ! (and_then ! (get ! refl) (and_then ! (get_in ! (fld ! refl (stop !)) (sub ! 1 refl (whole !))) (no_more !)))) refl
+    ((mut_slice_Lawful 𝓛 (named 1) κs.1.0 u8).typed a.1.1.0 _ are.1.1.0).0 $
     sets ! (addr ! (through ! refl (stop !))) refl (tt, tt) $
     lends T b o ! tt x (λ α γ.
     -- [the loan; what the lender keeps; the loan's token; what the other parameters own; the tokens]
     let κ : Lft = α ∷ [] in
     let r : MutBor Strip122Encoder = record { ref_ptr = (b, o); ghost_name = γ; now = x } in
     let z : G.Ghost = (((κ, κs), (full_share, qs), bounds, (r, a.1), (vptr b o ∷ [], vss)), tt) in
-    move ! (0 ∷ 3 ∷ []) $ join ! $ move ! (2 ∷ 3 ∷ []) $ join ! $ join ! $ use0 𝓛 (raw (fact 𝓤 (IsReady x))) (fact_i 𝓤 (IsReady x) (emp 𝓤) is_ready) $ move ! (1 ∷ 0 ∷ []) $ use2 𝓛 (raw (G.pre z)) (id⊢ 𝓤 _) $
+    move ! (0 ∷ 3 ∷ []) $ join ! $ move ! (2 ∷ 3 ∷ []) $ join ! $ join ! $ use0 𝓛 (raw (fact 𝓤 (IsReady x))) (fact_i 𝓤 (IsReady x) (emp 𝓤) is_ready) $ move
+    ! (1 ∷ 0 ∷ []) $ use2 𝓛 (raw (G.pre z)) (id⊢ 𝓤 _) $
     calls_at ! (framed 𝓤 𝓛.H 𝓜 𝓣) G (met 𝓤 𝓛 𝓜 𝓡 (code.calls-strip122_c::encoder::row 𝓡.env wired)) z
     (and_then ! (get ! refl) (and_then ! (get ! refl) (and_then ! (get ! refl) (and_then ! (get ! refl) (no_more !))))) (λ v.
-    use1 𝓛 (later (some (λ (n : ℕ). ((‵ (flft κ full_share) ⊛ toks) ⊛ ‵ (u32.own_val n (v ∷ []))) ⊛ some (λ (ws : Lasts g.ended z.0.0 z.0.3). ‵ (lasts g.ended z.0.0 z.0.3 ws) ⊛ raw (fact 𝓤 (TakesInto a.1.0.now x ws.0 a.1.1.0.now ws.1.1.0 a.1.1.1.0.now ws.1.1.1.0 n)))))) (id⊢ 𝓤 _) $
+    use1 𝓛 (later (some (λ (n : ℕ). ((‵ (flft κ full_share) ⊛ toks) ⊛ ‵ (u32.own_val n (v ∷ []))) ⊛ some
+    (λ (ws : Lasts g.ended z.0.0 z.0.3). ‵ (lasts g.ended z.0.0 z.0.3 ws) ⊛ raw
+    (fact 𝓤 (TakesInto a.1.0.now x ws.0 a.1.1.0.now ws.1.1.0 a.1.1.1.0.now ws.1.1.1.0 n)))))) (id⊢ 𝓤 _) $
     await ! tt $ pick ! (λ n. split ! $ split ! $ split ! $ move ! (3 ∷ []) $ pick ! (λ ws. split ! $ move ! (1 ∷ []) $ heard ! _ (λ takes. fsplit ! $
     -- [the loan's last value; what is said of the other parameters; the loan's token; the tokens; the result; what the lender keeps]
     move ! (2 ∷ 5 ∷ 0 ∷ []) $ lies T b o ! tt ws.0 $

@@ -26,8 +26,10 @@ level-requires-3-clause-bounded c =
     let low = (level a (4 * r) (4 * s)).ll in
     let start : EachWithin (2 ^ 16) (8 * r) (8 * s) a = EachWithin-more _ _ _ _ _ _ a (omega arith) (omega arith) (omega arith) c.requires.bounded in
     let one = first_shown _ _ r s a _ _ c.requires.rows.0 c.requires.width.0 (omega arith) (omega arith) c.in_ok-whole.ensures c.in_ok-first.ensures in
-    let two = next_shown (2 * r) (2 * s) low _ _ (omega arith) (omega arith) (as_double _ _ _ _ _ _ (omega arith) (omega arith) one.ll) c.in_ok-second.ensures in
-    shown_within 2560000 _ _ _ _ _ (omega arith) two.ll (second_within r s low (omega arith) (omega arith) (first_within r s a (omega arith) (omega arith) start))
+    let two = next_shown (2 * r) (2 * s) low _ _ (omega arith) (omega arith) (as_double _ _ _ _ _ _ (omega arith) (omega arith) one.ll)
+    c.in_ok-second.ensures in
+    shown_within 2560000 _ _ _ _ _ (omega arith) two.ll
+    (second_within r s low (omega arith) (omega arith) (first_within r s a (omega arith) (omega arith) start))
 
 pub returns : goal.returns
 unfolding pyramid pyramid_of
@@ -39,10 +41,12 @@ returns c =
     let lowest = (level low (2 * r) (2 * s)).ll in
     let start : EachWithin (2 ^ 16) (8 * r) (8 * s) a = EachWithin-more _ _ _ _ _ _ a (omega arith) (omega arith) (omega arith) c.requires.bounded in
     let one = first_shown _ _ r s a _ _ c.requires.rows.0 c.requires.width.0 (omega arith) (omega arith) c.in_ok-whole.ensures c.in_ok-first.ensures in
-    let two = next_shown (2 * r) (2 * s) low _ _ (omega arith) (omega arith) (as_double _ _ _ _ _ _ (omega arith) (omega arith) one.ll) c.in_ok-second.ensures in
+    let two = next_shown (2 * r) (2 * s) low _ _ (omega arith) (omega arith) (as_double _ _ _ _ _ _ (omega arith) (omega arith) one.ll)
+    c.in_ok-second.ensures in
     let three = next_shown r s lowest _ _ (omega arith) (omega arith) two.ll c.in_ok-third.ensures in
     let last = shown_widened _ _ _ _ _ three.ll c.in_ok-ll.ensures in
-    let shown = bands_shown r s (pyramid a r s) _ _ _ _ _ _ _ _ _ _ _ c.requires.rows.0 c.requires.width.0 c.in_ok-planes.ensures.items c.in_ok-planes.ensures.len one.hh one.hl one.lh two.hh two.hl two.lh three.hh three.hl three.lh last in
+    let shown = bands_shown r s (pyramid a r s) _ _ _ _ _ _ _ _ _ _ _ c.requires.rows.0 c.requires.width.0 c.in_ok-planes.ensures.items
+    c.in_ok-planes.ensures.len one.hh one.hl one.lh two.hh two.hl two.lh three.hh three.hl three.lh last in
     record {
       bands = shown;
       small = PyramidWithin-same _ _ _ r s _ _ shown.bands (pyramid-within a r s (omega arith) (omega arith) start);

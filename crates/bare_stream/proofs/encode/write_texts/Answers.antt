@@ -3,8 +3,8 @@ use Rattle.std.proofs.lemmas.Result.{err_from_is_err_and}
 use Rattle.base_122.specs.Sizes.{block_count, total_blocks, segment_blocks}
 use Rattle.stream_defs.specs.Output.{segments_of}
 use Rattle.bare_stream.specs.Works.{present_size}
-use Rattle.bare_stream.specs.RowsIn.{HasCome}
-use Rattle.bare_stream.proofs.Comes.{none_come}
+use Rattle.bare_stream.specs.RowsIn.{HasArrived}
+use Rattle.bare_stream.proofs.Arrives.{none_arrived}
 use Rattle.bare_stream.proofs.Runs.{text_out, text_cut, all_texts}
 use Rattle.bare_stream.proofs.encode.write_texts.Goals as goal
 
@@ -15,7 +15,7 @@ loop-init g c =
     let size = rw c.geometry_for-geometry.ensures at c.padded_width-column.ensures in
     let e : block_count s.width ≡ c.padded_width-column.result / 8 = omega (arith, size) in
     record {
-      come = subst (λ n. HasCome s n None p p c.args.work.now) e (none_come s p c.args.work.now c.requires.start);
+      arrived = subst (λ n. HasArrived s n None p p c.args.work.now) e (none_arrived s p c.args.work.now c.requires.start);
       index = c.requires.start.index;
       none = c.requires.start.filled;
       fits = tt;
@@ -24,7 +24,7 @@ loop-init g c =
 pub returns-in_err-column-clause-texts : goal.returns-in_err-column-clause-texts
 returns-in_err-column-clause-texts g c =
     let p = err_from_is_err_and c.from_residual.result c.from_residual.ensures.1 in
-    rw (p.1, p.2) (c.in_err-column.ensures.rows (g.X.Port.outside c.args.port.now) c.loop.before c.loop.invariant.come)
+    rw (p.1, p.2) (c.in_err-column.ensures.rows (g.X.Port.outside c.args.port.now) c.loop.before c.loop.invariant.arrived)
 
 pub returns-in_default-clause-texts : goal.returns-in_default-clause-texts
 returns-in_default-clause-texts g c =
@@ -37,7 +37,7 @@ returns-in_default-clause-texts g c =
     let lt : w.at.index < segments_of s = omega (arith, index, count, c.loop-test.true) in
     let full : w.at.filled ≡ present_size s w = brought.filled ∙ sym (ap (λ n. segment_blocks (total_blocks s.width s.rows) s.segment n) brought.same.index) in
     text_cut s c.requires.bare c.in_ok-column.column c.loop.before (g.X.Port.outside c.args.port.now) (g.X.Port.outside c.fill_segment.new.port) w
-    (c.in_ok-column.ensures.rows (g.X.Port.outside c.args.port.now) c.loop.before i.come) lt full c.write_present.new.work c.in_default.ensures
+    (c.in_ok-column.ensures.rows (g.X.Port.outside c.args.port.now) c.loop.before i.arrived) lt full c.write_present.new.work c.in_default.ensures
 
 pub loop-preserved : goal.loop-preserved
 loop-preserved g c =
@@ -51,8 +51,8 @@ loop-preserved g c =
     let full : w.at.filled ≡ present_size s w = brought.filled ∙ sym (ap (λ n. segment_blocks (total_blocks s.width s.rows) s.segment n) brought.same.index) in
     let out = c.in-Ok.ensures in
     record {
-      come = text_out s c.requires.bare c.in_ok-column.column c.loop.before (g.X.Port.outside c.args.port.now) (g.X.Port.outside c.fill_segment.new.port) w
-          (c.in_ok-column.ensures.rows (g.X.Port.outside c.args.port.now) c.loop.before i.come) lt full c.write_present.new.work c.in-Ok.head out;
+      arrived = text_out s c.requires.bare c.in_ok-column.column c.loop.before (g.X.Port.outside c.args.port.now) (g.X.Port.outside c.fill_segment.new.port) w
+          (c.in_ok-column.ensures.rows (g.X.Port.outside c.args.port.now) c.loop.before i.arrived) lt full c.write_present.new.work c.in-Ok.head out;
       index = out.index ∙ ap (λ n. n + 1) index;
       none = out.filled;
       fits = out.out.fits;
@@ -65,4 +65,4 @@ returns-clause-texts g c =
     let count = rw c.geometry_for-geometry.ensures at c.segments-end.ensures in
     let index = i.index in
     let last : c.loop.work.at.index ≡ segments_of s = omega (arith, index, count, c.loop-test.false, c.loop.auto.counter-end) in
-    all_texts s c.requires.bare c.loop.column c.loop.before (g.X.Port.outside c.args.port.now) (g.X.Port.outside c.loop.port) c.loop.work i.come last
+    all_texts s c.requires.bare c.loop.column c.loop.before (g.X.Port.outside c.args.port.now) (g.X.Port.outside c.loop.port) c.loop.work i.arrived last

@@ -13,7 +13,8 @@ pub end_at-requires-clause-more : goal.end_at-requires-clause-more
 end_at-requires-clause-more g c = rw c.height_with-height.ensures (last_more c.args.walk.now c.args.read.now c.requires.sound c.requires.next c.requires.last)
 
 pub put_blocks-requires-clause-room : goal.put_blocks-requires-clause-room
-put_blocks-requires-clause-room g c = last_room c.args.walk.now c.args.read.now c.requires.sound c.requires.next c.requires.last (picture_state c.end_at.new.self) (rw c.height_with-height.ensures at c.end_at.ensures)
+put_blocks-requires-clause-room g c = last_room c.args.walk.now c.args.read.now c.requires.sound c.requires.next c.requires.last
+    (picture_state c.end_at.new.self) (rw c.height_with-height.ensures at c.end_at.ensures)
 
 pub put_blocks-requires-clause-whole : goal.put_blocks-requires-clause-whole
 put_blocks-requires-clause-whole g c = rw c.deref.ensures.value (last_long c.args.walk.now c.args.read.now c.requires.sound c.requires.next c.requires.last)
@@ -21,18 +22,23 @@ put_blocks-requires-clause-whole g c = rw c.deref.ensures.value (last_long c.arg
 pub put_blocks-requires-clause-parts : goal.put_blocks-requires-clause-parts
 put_blocks-requires-clause-parts g c =
     rw c.deref.ensures.value
-    (last_weights c.args.walk.now c.args.read.now c.requires.sound c.requires.next c.requires.last (picture_state c.end_at.new.self) (rw c.height_with-height.ensures at c.end_at.ensures) c.args.walk.now.room.blocks.items c.requires.parts)
+    (last_weights c.args.walk.now c.args.read.now c.requires.sound c.requires.next c.requires.last (picture_state c.end_at.new.self)
+    (rw c.height_with-height.ensures at c.end_at.ensures) c.args.walk.now.room.blocks.items c.requires.parts)
 
 pub returns-in_default-clause-run : goal.returns-in_default-clause-run
-returns-in_default-clause-run g c = λ wish start r front text before at head is.
-    last_broken c.args.walk.now c.args.read.now c.requires.sound c.requires.next c.requires.last (picture_state c.end_at.new.self) (rw c.height_with-height.ensures at c.end_at.ensures)
-    g.X.Port.outside wish start r front text before c.args.input.now (record c.args.input.now { port = record c.args.input.now.port { now = c.put_blocks.new.port } }) at head is refl refl refl
+returns-in_default-clause-run g c = λ wish start r prefix text before at head is.
+    last_broken c.args.walk.now c.args.read.now c.requires.sound c.requires.next c.requires.last (picture_state c.end_at.new.self)
+    (rw c.height_with-height.ensures at c.end_at.ensures)
+    g.X.Port.outside wish start r prefix text before c.args.input.now
+    (record c.args.input.now { port = record c.args.input.now.port { now = c.put_blocks.new.port } }) at head is refl refl refl
     (rw c.deref.ensures.value at c.in_default.ensures)
 
 pub overflow_add-walk : goal.overflow_add-walk
-overflow_add-walk g c = let few = last_index c.args.walk.now c.args.read.now c.requires.sound c.requires.next c.requires.last c.requires.fits in omega (arith, few)
+overflow_add-walk g c = let few = last_index c.args.walk.now c.args.read.now c.requires.sound c.requires.next c.requires.last c.requires.fits in omega
+    (arith, few)
 
 pub returns-clause-run : goal.returns-clause-run
-returns-clause-run g c = λ wish start r front text before at head is.
-    has_ended c.args.walk.now c.args.read.now c.requires.sound c.requires.next c.requires.last (picture_state c.end_at.new.self) (rw c.height_with-height.ensures at c.end_at.ensures)
-    g.X.Port.outside wish start r front text before c.args.input.now _ at head is refl refl refl _ (rw c.deref.ensures.value at c.in-Ok.ensures) refl refl
+returns-clause-run g c = λ wish start r prefix text before at head is.
+    has_ended c.args.walk.now c.args.read.now c.requires.sound c.requires.next c.requires.last (picture_state c.end_at.new.self)
+    (rw c.height_with-height.ensures at c.end_at.ensures)
+    g.X.Port.outside wish start r prefix text before c.args.input.now _ at head is refl refl refl _ (rw c.deref.ensures.value at c.in-Ok.ensures) refl refl

@@ -3,7 +3,8 @@ use Rattle.bare_stream.proofs.Presents.{some_numbers, few_numbers, index_few, pr
 use Rattle.bare_stream.proofs.segment.write_present.Goals as goal
 
 pub write_segment-requires-clause-some : goal.write_segment-requires-clause-some
-write_segment-requires-clause-some g c = some_numbers c.args.setting.now c.requires.bare c.args.column c.args.work.now c.requires.at c.requires.index c.requires.full
+write_segment-requires-clause-some g c = some_numbers c.args.setting.now c.requires.bare c.args.column c.args.work.now c.requires.at c.requires.index
+    c.requires.full
 
 pub write_segment-requires-clause-most : goal.write_segment-requires-clause-most
 write_segment-requires-clause-most g c = few_numbers c.args.setting.now c.requires.bare c.args.column c.args.work.now c.requires.at c.requires.index
@@ -14,7 +15,8 @@ returns-in_default g c =
     (record { strip = refl; row = refl; blocks = c.in_default.ensures.most; writer = refl; room = refl }) refl c.args.before c.in_default.ensures.text
 
 pub overflow_add-work : goal.overflow_add-work
-overflow_add-work g c = let few = index_few c.args.setting.now c.requires.bare c.args.column c.args.work.now c.requires.at c.requires.index in omega (arith, few)
+overflow_add-work g c = let few = index_few c.args.setting.now c.requires.bare c.args.column c.args.work.now c.requires.at c.requires.index in omega
+    (arith, few)
 
 pub overflow_add-work-2 : goal.overflow_add-work-2
 overflow_add-work-2 g c =

@@ -3,7 +3,7 @@ use Rattle.port_122.specs.Outside.{Outside}
 use Rattle.segment_defs.specs.declared.head.SegmentHead.{SegmentHead}
 use Rattle.bare_stream.specs.Works.{IsAt}
 use Rattle.bare_stream.specs.Steps.{SamePlace}
-use Rattle.bare_stream.specs.RowsIn.{HasCome}
+use Rattle.bare_stream.specs.RowsIn.{HasArrived}
 use Rattle.bare_stream.proofs.source.fill_segment.Given as goal
 
 abbrev pub invariant-loop : goal.invariant-loop
@@ -11,6 +11,6 @@ invariant-loop g l = record {
   at : IsAt l.setting l.next l.work;
   same : SamePlace l.initial.work l.work;
   filled : l.work.at.filled ≡ l.counter;
-  come : (start : Outside) (before : Option SegmentHead) → HasCome l.setting l.column before start (g.X.Port.outside l.initial.port) l.initial.work →
-      HasCome l.setting l.next before start (g.X.Port.outside l.port) l.work;
+  arrived : (start : Outside) (before : Option SegmentHead) → HasArrived l.setting l.column before start (g.X.Port.outside l.initial.port) l.initial.work →
+      HasArrived l.setting l.next before start (g.X.Port.outside l.port) l.work;
 }

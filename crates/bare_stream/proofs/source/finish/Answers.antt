@@ -8,6 +8,16 @@ returns c =
     let e = c.finish_row.ensures in
     let rows = c.requires.rows in
     let more = c.requires.more in
-    row_ended c.args.setting.now c.requires.bare w _ (record { row = refl; blocks = refl; packets = refl; writer = refl; room = refl; filled = refl; index = refl; used = refl })
+    row_ended c.args.setting.now c.requires.bare w _ (record {
+      row = refl;
+      blocks = refl;
+      packets = refl;
+      writer = refl;
+      room = refl;
+      filled = refl;
+      index =
+          refl;
+      used = refl;
+    })
     c.requires.at rows more e.ended refl
-    (it_finished c.finish_row.result w.strip c.finish_row.new.self (omega (arith, rows, more)) e.columns e.rows e.answer e.standing e.follows e.shows)
+    (it_finished c.finish_row.result w.strip c.finish_row.new.self (omega (arith, rows, more)) e.columns e.rows e.answer e.current e.follows e.shows)

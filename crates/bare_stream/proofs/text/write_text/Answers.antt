@@ -12,10 +12,12 @@ pub returns-in_default-flush-clause-text : goal.returns-in_default-flush-clause-
 returns-in_default-flush-clause-text g c =
     let e = c.new-sink.ensures in
     cut_to g.X.Port.outside _ c.flush.new.self.port.now (search rules)
-    (text_unflushed g.X.Port.outside c.new-sink.result c.encode_text.new.out c.args.port.now _ e.port e.none c.in-Ok.octets c.in-Ok.ensures.text c.flush.new.self c.in_default-flush.ensures)
+    (text_unflushed g.X.Port.outside c.new-sink.result c.encode_text.new.out c.args.port.now _ e.port e.none c.in-Ok.octets c.in-Ok.ensures.text
+    c.flush.new.self c.in_default-flush.ensures)
 
 pub returns-clause-text : goal.returns-clause-text
 returns-clause-text g c =
     let e = c.new-sink.ensures in
     out_to g.X.Port.outside _ c.flush.new.self.port.now (search rules)
-    (text_flushed g.X.Port.outside c.new-sink.result c.encode_text.new.out c.args.port.now _ e.port e.none c.in-Ok.octets c.in-Ok.ensures.text c.flush.new.self e.given c.in-Ok-flush.ensures)
+    (text_flushed g.X.Port.outside c.new-sink.result c.encode_text.new.out c.args.port.now _ e.port e.none c.in-Ok.octets c.in-Ok.ensures.text
+    c.flush.new.self e.given c.in-Ok-flush.ensures)

@@ -13,10 +13,11 @@ pub returns-in_err-take_text-clause-run : goal.returns-in_err-take_text-clause-r
 returns-in_err-take_text-clause-run g c = λ wish start x.
     let p = err_from_is_err_and c.from_residual.result c.from_residual.ensures.1 in
     let i = c.loop-walk.invariant.reading wish start x in
-    rw (p.1, p.2) (c.in_err-take_text.ensures.run wish start i.r i.front i.before i.at i.head)
+    rw (p.1, p.2) (c.in_err-take_text.ensures.run wish start i.r i.prefix i.before i.at i.head)
 
 pub give_last-requires-clause-sound : goal.give_last-requires-clause-sound
-give_last-requires-clause-sound g c = text_sound c.loop-walk.walk c.take_text.new.walk c.in_ok-take_text.ensures.walk c.in_ok-take_text.ensures.room c.loop-walk.invariant.sound
+give_last-requires-clause-sound g c = text_sound c.loop-walk.walk c.take_text.new.walk c.in_ok-take_text.ensures.walk c.in_ok-take_text.ensures.room
+    c.loop-walk.invariant.sound
 
 pub give_last-requires-clause-next : goal.give_last-requires-clause-next
 give_last-requires-clause-next g c = text_next c.loop-walk.walk c.take_text.new.walk c.in_ok-take_text.ensures.walk c.loop-walk.read c.loop-walk.invariant.next
@@ -27,12 +28,13 @@ give_last-requires-clause-fits g c = text_fits c.loop-walk.walk c.take_text.new.
 pub returns-then-read-clause-run : goal.returns-then-read-clause-run
 returns-then-read-clause-run g c = λ wish start x.
     let i = c.loop-walk.invariant.reading wish start x in
-    let t = c.in_ok-take_text.ensures.run wish start i.r i.front i.before i.at i.head in
-    let head = text_head c.loop-walk.walk c.take_text.new.walk c.in_ok-take_text.ensures.walk wish start i.r i.before i.front c.loop-walk.read i.head in
-    c.give_last.ensures.run wish start i.r i.front t.0 i.before t.1 head t.2
+    let t = c.in_ok-take_text.ensures.run wish start i.r i.prefix i.before i.at i.head in
+    let head = text_head c.loop-walk.walk c.take_text.new.walk c.in_ok-take_text.ensures.walk wish start i.r i.before i.prefix c.loop-walk.read i.head in
+    c.give_last.ensures.run wish start i.r i.prefix t.0 i.before t.1 head t.2
 
 pub give_next-requires-clause-sound : goal.give_next-requires-clause-sound
-give_next-requires-clause-sound g c = text_sound c.loop-walk.walk c.take_text.new.walk c.in_ok-take_text.ensures.walk c.in_ok-take_text.ensures.room c.loop-walk.invariant.sound
+give_next-requires-clause-sound g c = text_sound c.loop-walk.walk c.take_text.new.walk c.in_ok-take_text.ensures.walk c.in_ok-take_text.ensures.room
+    c.loop-walk.invariant.sound
 
 pub give_next-requires-clause-next : goal.give_next-requires-clause-next
 give_next-requires-clause-next g c = text_next c.loop-walk.walk c.take_text.new.walk c.in_ok-take_text.ensures.walk c.loop-walk.read c.loop-walk.invariant.next
@@ -41,22 +43,23 @@ pub returns-in_err-give_next-clause-run : goal.returns-in_err-give_next-clause-r
 returns-in_err-give_next-clause-run g c = λ wish start x.
     let p = err_from_is_err_and c.from_residual-in_err-give_next.result c.from_residual-in_err-give_next.ensures.1 in
     let i = c.loop-walk.invariant.reading wish start x in
-    let t = c.in_ok-take_text.ensures.run wish start i.r i.front i.before i.at i.head in
-    let head = text_head c.loop-walk.walk c.take_text.new.walk c.in_ok-take_text.ensures.walk wish start i.r i.before i.front c.loop-walk.read i.head in
-    rw (p.1, p.2) (c.in_err-give_next.ensures.run wish start i.r i.front t.0 i.before t.1 head t.2)
+    let t = c.in_ok-take_text.ensures.run wish start i.r i.prefix i.before i.at i.head in
+    let head = text_head c.loop-walk.walk c.take_text.new.walk c.in_ok-take_text.ensures.walk wish start i.r i.before i.prefix c.loop-walk.read i.head in
+    rw (p.1, p.2) (c.in_err-give_next.ensures.run wish start i.r i.prefix t.0 i.before t.1 head t.2)
 
 pub returns-in_err-read-clause-run : goal.returns-in_err-read-clause-run
 returns-in_err-read-clause-run g c = λ wish start x.
     let p = err_from_is_err_and c.from_residual-in_err-read.result c.from_residual-in_err-read.ensures.1 in
     let i = c.loop-walk.invariant.reading wish start x in
-    let t = c.in_ok-take_text.ensures.run wish start i.r i.front i.before i.at i.head in
-    let head = text_head c.loop-walk.walk c.take_text.new.walk c.in_ok-take_text.ensures.walk wish start i.r i.before i.front c.loop-walk.read i.head in
-    let n = c.in_ok-give_next.ensures.run wish start i.r i.front t.0 i.before t.1 head t.2 in
+    let t = c.in_ok-take_text.ensures.run wish start i.r i.prefix i.before i.at i.head in
+    let head = text_head c.loop-walk.walk c.take_text.new.walk c.in_ok-take_text.ensures.walk wish start i.r i.before i.prefix c.loop-walk.read i.head in
+    let n = c.in_ok-give_next.ensures.run wish start i.r i.prefix t.0 i.before t.1 head t.2 in
     rw (p.1, p.2) (c.in_err-read.ensures.run wish start n.0 n.1 n.2)
 
 pub loop-walk-smaller : goal.loop-walk-smaller
 loop-walk-smaller g c =
-    less_left c.loop-walk.walk c.take_text.new.walk c.give_next.new.walk c.next_head.new.walk c.in_ok-take_text.ensures.walk c.in_ok-give_next.ensures.walk.1 c.in_ok-give_next.ensures.walk.2 c.in_ok-read.ensures.walk
+    less_left c.loop-walk.walk c.take_text.new.walk c.give_next.new.walk c.next_head.new.walk c.in_ok-take_text.ensures.walk
+    c.in_ok-give_next.ensures.walk.1 c.in_ok-give_next.ensures.walk.2 c.in_ok-read.ensures.walk
     c.loop-walk.invariant.sound
 
 pub loop-walk-preserved : goal.loop-walk-preserved
@@ -71,12 +74,13 @@ loop-walk-preserved g c =
       next = c.in_ok-read.ensures.next;
       port = c.in_ok-read.ensures.port ∙ c.in_ok-give_next.ensures.port ∙ c.in_ok-take_text.ensures.port ∙ i.port;
       first = λ none. absurd (omega (arith, none, index));
-      fits = λ lt. still_fits c.loop-walk.walk c.take_text.new.walk c.give_next.new.walk c.next_head.new.walk text given.1 given.2 same c.loop-walk.read i.first i.fits c.if-read.false;
+      fits = λ lt. still_fits c.loop-walk.walk c.take_text.new.walk c.give_next.new.walk c.next_head.new.walk text given.1 given.2 same c.loop-walk.read
+          i.first i.fits c.if-read.false;
       reading = λ wish start x.
           let now = i.reading wish start x in
-          let t = c.in_ok-take_text.ensures.run wish start now.r now.front now.before now.at now.head in
-          let head = text_head c.loop-walk.walk c.take_text.new.walk text wish start now.r now.before now.front c.loop-walk.read now.head in
-          let n = c.in_ok-give_next.ensures.run wish start now.r now.front t.0 now.before t.1 head t.2 in
+          let t = c.in_ok-take_text.ensures.run wish start now.r now.prefix now.before now.at now.head in
+          let head = text_head c.loop-walk.walk c.take_text.new.walk text wish start now.r now.before now.prefix c.loop-walk.read now.head in
+          let n = c.in_ok-give_next.ensures.run wish start now.r now.prefix t.0 now.before t.1 head t.2 in
           let h = c.in_ok-read.ensures.run wish start n.0 n.1 n.2 in
-          record { r = n.0; front = h.0; before = c.give_next.new.walk.parts; at = h.1; head = h.2 };
+          record { r = n.0; prefix = h.0; before = c.give_next.new.walk.parts; at = h.1; head = h.2 };
     }

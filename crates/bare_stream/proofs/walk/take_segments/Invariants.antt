@@ -12,7 +12,8 @@ invariant-loop-walk g l = record {
   port : l.input.port.ghost_name ≡ l.initial.input.port.ghost_name;
   first : l.walk.index ≡ 0 → l.read.head ≡ l.walk.first;
   fits : 0 < l.walk.index → l.walk.first.last ≡ false;
-  reading : (wish : DecodeWish) (start : Outside) → IsReading g.X.Port.outside wish start l.initial.input l.initial.walk l.initial.read → IsReading g.X.Port.outside wish start l.input l.walk l.read;
+  reading : (wish : DecodeWish) (start : Outside) → IsReading g.X.Port.outside wish start l.initial.input l.initial.walk l.initial.read →
+      IsReading g.X.Port.outside wish start l.input l.walk l.read;
 }
 
 abbrev pub decreases-loop-walk : goal.decreases-loop-walk

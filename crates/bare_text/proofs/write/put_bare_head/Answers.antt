@@ -17,13 +17,22 @@ returns-in_err-put_second g c =
 pub returns-in_err-put_third : goal.returns-in_err-put_third
 returns-in_err-put_third g c =
     let e = err_from_is_err_and c.from_residual-in_err-put_third.result c.from_residual-in_err-put_third.ensures.1 in
-    rw (e.1, e.2, ← c.carried_after-carried.ensures) (puts_then c.in_ok-put_part_1.ensures.ends (puts_then c.in_ok-put_second.ensures.ends (puts_cut _ c.in_err-put_third.ensures)))
+    rw (e.1, e.2, ← c.carried_after-carried.ensures) (puts_then c.in_ok-put_part_1.ensures.ends
+    (puts_then c.in_ok-put_second.ensures.ends (puts_cut _ c.in_err-put_third.ensures)))
 
 pub put_fourth-requires-clause-room : goal.put_fourth-requires-clause-room
 put_fourth-requires-clause-room g c =
     let carried = c.carried_after-carried.result in
-    omega (arith, leave_room carried c.args.head.now carried.part_2 carried.part_3, c.in_ok-put_part_1.ensures.ends.room, c.in_ok-put_second.ensures.ends.room, c.in_ok-put_third.ensures.ends.room, c.requires.room)
+    omega (
+      arith,
+      leave_room carried c.args.head.now carried.part_2 carried.part_3,
+      c.in_ok-put_part_1.ensures.ends.room,
+      c.in_ok-put_second.ensures.ends.room,
+      c.in_ok-put_third.ensures.ends.room,
+      c.requires.room,
+    )
 
 pub returns : goal.returns
 returns g c =
-    rw (← c.carried_after-carried.ensures) (puts_then c.in_ok-put_part_1.ensures.ends (puts_then c.in_ok-put_second.ensures.ends (puts_then c.in_ok-put_third.ensures.ends c.put_fourth.ensures)))
+    rw (← c.carried_after-carried.ensures) (puts_then c.in_ok-put_part_1.ensures.ends
+    (puts_then c.in_ok-put_second.ensures.ends (puts_then c.in_ok-put_third.ensures.ends c.put_fourth.ensures)))

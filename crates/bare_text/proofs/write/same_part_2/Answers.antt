@@ -8,5 +8,7 @@ returns c =
     let a = c.args.one.now in
     let b = c.args.other.now in
     let stop = stops_decide c.eq.result a.stop b.stop
-    (Decides-at c.eq.result _ c.eq.ensures (Decides-and _ _ (booleans_Decides a.stop.dc b.stop.dc) (Decides-and _ _ (unsigned_Decides a.stop.plane b.stop.plane) (unsigned_Decides a.stop.stage b.stop.stage)))) in
-    same_second a b c.requires.one c.requires.other _ (Decides-and _ _ (Decides-and _ _ (unsigned_Decides a.limit b.limit) stop) (booleans_Decides a.fill b.fill))
+    (Decides-at c.eq.result _ c.eq.ensures (Decides-and _ _ (booleans_Decides a.stop.dc b.stop.dc)
+    (Decides-and _ _ (unsigned_Decides a.stop.plane b.stop.plane) (unsigned_Decides a.stop.stage b.stop.stage)))) in
+    same_second a b c.requires.one c.requires.other _ (Decides-and _ _ (Decides-and _ _ (unsigned_Decides a.limit b.limit) stop)
+    (booleans_Decides a.fill b.fill))

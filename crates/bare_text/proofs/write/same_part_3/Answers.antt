@@ -7,4 +7,5 @@ pub returns : goal.returns
 returns c =
     let a = c.args.one.now in
     let b = c.args.other.now in
-    same_third a b c.requires.one c.requires.other _ (Decides-and _ _ (Decides-and _ _ (unsigned_Decides a.blocks b.blocks) (booleans_Decides a.best_dc b.best_dc)) (booleans_Decides a.best_ac b.best_ac))
+    same_third a b c.requires.one c.requires.other _ (Decides-and _ _
+    (Decides-and _ _ (unsigned_Decides a.blocks b.blocks) (booleans_Decides a.best_dc b.best_dc)) (booleans_Decides a.best_ac b.best_ac))

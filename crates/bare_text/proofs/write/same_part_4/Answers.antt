@@ -11,4 +11,5 @@ returns c =
     let ten = c.same_weights.ensures.ten in
     let weights = Decides-at c.same_weights.result _ c.same_weights.ensures.same (bytes_eq-Decides a.weights.shifts b.weights.shifts) in
     same_fourth a b c.requires.one c.requires.other ten.0 ten.1 _
-    (Decides-and _ _ (Decides-and _ _ (Decides-and _ _ (Decides-and _ _ (booleans_Decides a.signed b.signed) (unsigned_Decides a.depth b.depth)) (unsigned_Decides a.width b.width)) (unsigned_Decides a.word b.word)) weights)
+    (Decides-and _ _ (Decides-and _ _ (Decides-and _ _ (Decides-and _ _ (booleans_Decides a.signed b.signed) (unsigned_Decides a.depth b.depth))
+    (unsigned_Decides a.width b.width)) (unsigned_Decides a.word b.word)) weights)

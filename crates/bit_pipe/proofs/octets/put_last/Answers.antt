@@ -8,7 +8,8 @@ returns-then-filled-eq0 g c = last_none g.O.OctetOut.sink _ c.args.filled c.args
 
 pub returns-in_err-put : goal.returns-in_err-put
 returns-in_err-put g c =
-    puts_broke c.from_residual.result c.from_residual.ensures.0 (last_broke g.O.OctetOut.sink c.args.filled c.args.pending _ (omega arith) c.requires.filled c.requires.fits refl c.in_err-put.ensures)
+    puts_broke c.from_residual.result c.from_residual.ensures.0 (last_broke g.O.OctetOut.sink c.args.filled c.args.pending _ (omega arith) c.requires.filled
+    c.requires.fits refl c.in_err-put.ensures)
 
 pub returns : goal.returns
 returns g c = last_gave g.O.OctetOut.sink c.args.filled c.args.pending _ (omega arith) c.requires.filled c.requires.fits refl c.in_ok-put.ensures

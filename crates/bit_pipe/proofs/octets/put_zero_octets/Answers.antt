@@ -13,4 +13,5 @@ pub loop-preserved : goal.loop-preserved
 loop-preserved g c = zeros_more g.O.OctetOut.sink c.loop.counter c.loop.invariant c.in_ok-put.ensures
 
 pub returns-in_err-put : goal.returns-in_err-put
-returns-in_err-put g c = puts_broke c.from_residual.result c.from_residual.ensures.0 (zeros_broke g.O.OctetOut.sink c.loop.counter c.args.count (omega arith) c.loop.invariant c.in_err-put.ensures)
+returns-in_err-put g c = puts_broke c.from_residual.result c.from_residual.ensures.0
+    (zeros_broke g.O.OctetOut.sink c.loop.counter c.args.count (omega arith) c.loop.invariant c.in_err-put.ensures)

@@ -1,12 +1,17 @@
-use Rattle.std.proofs.Common.{arith, pos, ◌∙◌}
-use Rattle.std.proofs.lemmas.List.{length-replicate}
-use Rattle.block_families.specs.Gathering.{weighted_at}
-use Rattle.block_families.proofs.Filling.{fills_on, fills_all}
+use Rattle.std.proofs.Common.{◌≡◌, ◌+◌, ◌<◌, ◌/◌, ℤ, List, length, sym, ap, ◌∙◌, arith}
+use Rattle.std.proofs.lemmas.List.{take_all}
+use Rattle.wave_defs.specs.Held.{block_at}
+use Rattle.block_families.specs.Places.{gathered}
 use Rattle.block_families.proofs.gathering.gather.Goals as goal
+
+first_block : (xs : List ℤ) → length xs ≡ 64 → block_at xs 0 ≡ xs
+first_block xs whole = take_all 64 xs (omega (arith, whole))
 
 pub returns : goal.returns
 returns g c =
-    let value = weighted_at (g.B.BandSource.number c.args.bands.now) c.args.weights.now.shifts c.args.column in
-    let lower = fills_on value 0 4 12 4 16 _ _ _ (omega arith) (omega arith) c.gather_tops.ensures c.gather_children.ensures in
-    let whole = fills_on value 0 16 48 16 64 _ _ _ (omega arith) (omega arith) lower c.gather_grandchildren.ensures in
-    c.copy_from_slice.ensures.after ∙ fills_all value 64 _ _ (length-replicate 64 (pos 0)) whole
+    let new = c.gather_run.new.into in
+    let whole : length new ≡ 64 = omega (arith, c.requires.whole) in
+    let one : 0 < length c.args.into.now / 64 = omega (arith, c.requires.whole) in
+    let here : c.args.column + 0 ≡ c.args.column = omega arith in
+    sym (first_block new whole) ∙ c.gather_run.ensures 0 one
+    ∙ ap (gathered (g.B.BandSource.number c.args.bands.now) c.args.weights.now.shifts) here

@@ -1,29 +1,41 @@
-use Rattle.std.proofs.Common.{rules, ◌≡◌, ◌+◌, ◌^◌, pos, ◌*ℤ◌, get_or, to_z, of_z, w32, ◌∙◌, arith}
+use Rattle.std.proofs.Common.{◌≡◌, ◌<◌, ◌≤◌, ◌∙◌, ap, ℕ, ◌+◌, ◌/◌, ◌^◌, pos, ◌*ℤ◌, length, get_or, arith}
 use Rattle.base_122.specs.Weights.{band_place}
-use Rattle.block_families.specs.Gathering.{weighted_at}
-use Rattle.block_families.proofs.Filling.{fills_on, fills_one}
+use Rattle.block_families.specs.Gathering.{run_at}
+use Rattle.block_families.proofs.Filling.{each_on, each_as}
 use Rattle.block_families.proofs.Passing.{shift_small}
 use Rattle.block_families.proofs.Squares.{top_at}
 use Rattle.block_families.proofs.gathering.gather_tops.Goals as goal
 
-pub times-requires-clause-shift : goal.times-requires-clause-shift
-times-requires-clause-shift g c = rw c.shift.ensures (shift_small c.args.weights.now.shifts (band_place c.top_band-band.result) c.requires.ready.shifts)
+pub put_tops-requires-clause-shift : goal.put_tops-requires-clause-shift
+put_tops-requires-clause-shift g c =
+    rw c.shift-shift.ensures (shift_small c.args.weights.now.shifts (band_place c.top_band-band.result) c.requires.ready.shifts)
 
-pub times-requires-clause-fits : goal.times-requires-clause-fits
-times-requires-clause-fits g c =
+pub put_tops-requires-clause-fits : goal.put_tops-requires-clause-fits
+put_tops-requires-clause-fits g c k few =
     let ready = c.requires.ready in
     let i = c.loop-position.position in
-    let value = top_at (g.B.BandSource.number c.args.bands.now) c.args.weights.now.shifts (g.B.BandSource.columns c.args.bands.now) c.args.column i (band_place c.top_band-band.result) c.shift.result c.row.result.now c.loop-position-test.true ready.inside c.top_band-band.ensures c.shift.ensures c.row.ensures.numbers in
-    let read : to_z w32 (of_z w32 (get_or c.row.result.now c.args.column (pos 0))) ≡ get_or c.row.result.now c.args.column (pos 0) = search rules in
-    rw (read, value) (ready.fits i (omega (arith, c.loop-position-test.true)))
+    let value = top_at (g.B.BandSource.number c.args.bands.now) c.args.weights.now.shifts (g.B.BandSource.columns c.args.bands.now) (c.args.column + k) i
+    (band_place c.top_band-band.result) c.shift-shift.result c.row-row.result.now c.loop-position-test.true (omega (
+      arith,
+      ready.inside,
+      few,
+      c.loop-position.invariant.whole,
+    )) c.top_band-band.ensures c.shift-shift.ensures c.row-row.ensures.numbers in
+    rw value (ready.fits k i (omega (arith, few, c.loop-position.invariant.whole)) (omega (arith, c.loop-position-test.true)))
 
 pub loop-position-preserved : goal.loop-position-preserved
 loop-position-preserved g c =
     let ready = c.requires.ready in
     let i = c.loop-position.position in
-    let value = weighted_at (g.B.BandSource.number c.args.bands.now) c.args.weights.now.shifts c.args.column in
-    let number : to_z w32 (of_z w32 c.times.result) ≡ get_or c.row.result.now c.args.column (pos 0) *ℤ pos (2 ^ c.shift.result) = search rules in
-    let same = number ∙ top_at (g.B.BandSource.number c.args.bands.now) c.args.weights.now.shifts (g.B.BandSource.columns c.args.bands.now) c.args.column i (band_place c.top_band-band.result) c.shift.result c.row.result.now c.loop-position-test.true ready.inside c.top_band-band.ensures c.shift.ensures c.row.ensures.numbers in
-    let whole = c.loop-position.invariant.whole in
-    fills_on value 0 i 1 i (i + 1) _ c.loop-position.into _ (omega arith) (omega arith) c.loop-position.invariant
-    (fills_one value i _ c.loop-position.into (omega (arith, whole, c.requires.whole, c.loop-position-test.true)) same)
+    let n = length c.args.into.now / 64 in
+    let so_far = c.loop-position.invariant in
+    let same : length c.loop-position.into / 64 ≡ n = ap (λ m. m / 64) so_far.whole in
+    let value = run_at (g.B.BandSource.number c.args.bands.now) c.args.weights.now.shifts c.args.column in
+    let there = λ (k j : ℕ) (few : k < length c.loop-position.into / 64) (h : i ≤ j) (l : j < i + 1).
+    let here : i ≡ j = omega (arith, h, l) in
+    top_at (g.B.BandSource.number c.args.bands.now) c.args.weights.now.shifts (g.B.BandSource.columns c.args.bands.now) (c.args.column + k) i
+    (band_place c.top_band-band.result) c.shift-shift.result c.row-row.result.now c.loop-position-test.true (omega (arith, ready.inside, few, same))
+    c.top_band-band.ensures c.shift-shift.ensures c.row-row.ensures.numbers ∙ ap (value k) here in
+    each_on value 0 i 1 i (i + 1) n _ _ c.loop-position.into _ (omega arith) (omega arith) (omega (arith, c.loop-position-test.true)) same so_far
+    (each_as value (λ k j. get_or c.row-row.result.now (c.args.column + k) (pos 0) *ℤ pos (2 ^ c.shift-shift.result)) i 1 _ c.loop-position.into _
+    c.put_tops.ensures there)

@@ -8,5 +8,6 @@ returns-then-square-lt3 c = λ k h. children_square (band_place c.band_of.result
 
 pub returns : goal.returns
 returns c = λ k h.
-    grandchildren_square (band_place c.band_of-2.result) c.args.square c.from.result c.from-2.result c.args.column k c.band_of-2.ensures (omega (arith, c.if-square-lt3.false)) c.requires.square
+    grandchildren_square (band_place c.band_of-2.result) c.args.square c.from.result c.from-2.result c.args.column k c.band_of-2.ensures
+    (omega (arith, c.if-square-lt3.false)) c.requires.square
     c.from.ensures c.from-2.ensures h

@@ -9,8 +9,9 @@ loop-square-preserved g c =
     let put = c.put_square.ensures in
     record {
       columns = put.columns ∙ invariant.columns;
-      stands = put.stands ∙ invariant.stands;
+      valid = put.valid ∙ invariant.valid;
       keeps = g.met.B.BandSink.keeps_on _ _ _ invariant.keeps put.keeps;
-      puts = puts_on c.args.weights.now.shifts c.args.column c.args.from.now 4 (4 * i) 4 (4 + 4 * i) (4 * (i + 1)) _ _ _ (omega arith) (omega arith) (omega (arith, c.loop-square-test.true))
+      puts = puts_on c.args.weights.now.shifts c.args.column c.args.from.now 4 (4 * i) 4 (4 + 4 * i) (4 * (i + 1)) _ _ _ (omega arith) (omega arith)
+          (omega (arith, c.loop-square-test.true))
           invariant.puts put.scattered;
     }

@@ -9,8 +9,9 @@ loop-family-preserved g c =
     let put = c.put_family.ensures in
     record {
       columns = put.columns ∙ invariant.columns;
-      stands = put.stands ∙ invariant.stands;
+      valid = put.valid ∙ invariant.valid;
       keeps = g.met.B.BandSink.keeps_on _ _ _ invariant.keeps put.keeps;
-      puts = puts_on c.args.weights.now.shifts c.args.column c.args.from.now 16 (16 * i) 16 (16 + 16 * i) (16 * (i + 1)) _ _ _ (omega arith) (omega arith) (omega (arith, c.loop-family-test.true))
+      puts = puts_on c.args.weights.now.shifts c.args.column c.args.from.now 16 (16 * i) 16 (16 + 16 * i) (16 * (i + 1)) _ _ _ (omega arith) (omega arith)
+          (omega (arith, c.loop-family-test.true))
           invariant.puts put.scattered;
     }

@@ -5,7 +5,7 @@ use Rattle.block_families.proofs.scattering.scatter_grandchildren.Given as goal
 abbrev pub invariant-loop-family : goal.invariant-loop-family
 invariant-loop-family g l = record {
   columns : g.B.BandSink.columns l.bands ≡ g.B.BandSink.columns l.initial.bands;
-  stands : g.B.BandSink.stands l.bands ≡ g.B.BandSink.stands l.initial.bands;
+  valid : g.B.BandSink.valid l.bands ≡ g.B.BandSink.valid l.initial.bands;
   keeps : g.B.BandSink.keeps l.initial.bands l.bands;
   puts : PutsBack l.weights.shifts l.column l.from 16 (16 * l.family) (g.B.BandSink.number l.initial.bands) (g.B.BandSink.number l.bands);
 }

@@ -23,10 +23,13 @@ set-requires-clause-small g c =
     let below : i < 64 = omega (arith, c.loop-position-test.true) in
     let fits : FitsSigned w64 c.unweighted-number.result = search rules in
     let read : FitsSigned w32 (get_or c.args.from.now i (pos 0)) = search rules in
-    let number : c.unweighted-number.result ≡ floor_div (get_or c.args.from.now i (pos 0)) (2 ^ c.shift.result) = simp to_z-of_z at c.unweighted-number.ensures in
-    let part = part_of c.args.from.now c.args.weights.now.shifts i c.shift.result c.unweighted-number.result c.requires.ready.parts below c.requires.ready.shifts
+    let number : c.unweighted-number.result ≡ floor_div (get_or c.args.from.now i (pos 0)) (2 ^ c.shift.result) =
+    simp to_z-of_z at c.unweighted-number.ensures in
+    let part = part_of c.args.from.now c.args.weights.now.shifts i c.shift.result c.unweighted-number.result c.requires.ready.parts below
+    c.requires.ready.shifts
     (c.shift.ensures ∙ ap (slice_index c.args.weights.now.shifts) c.top_band-band.ensures) number in
-    rw (to_z-of_z w64 c.unweighted-number.result fits) (part_small c.args.from.now c.args.weights.now.shifts i c.unweighted-number.result c.requires.ready.parts below part)
+    rw (to_z-of_z w64 c.unweighted-number.result fits) (part_small c.args.from.now c.args.weights.now.shifts i c.unweighted-number.result
+    c.requires.ready.parts below part)
 
 pub loop-position-preserved : goal.loop-position-preserved
 loop-position-preserved g c =
@@ -36,14 +39,17 @@ loop-position-preserved g c =
     let below : i < 64 = omega (arith, c.loop-position-test.true) in
     let fits : FitsSigned w64 c.unweighted-number.result = search rules in
     let read : FitsSigned w32 (get_or c.args.from.now i (pos 0)) = search rules in
-    let number : c.unweighted-number.result ≡ floor_div (get_or c.args.from.now i (pos 0)) (2 ^ c.shift.result) = simp to_z-of_z at c.unweighted-number.ensures in
-    let part = part_of c.args.from.now c.args.weights.now.shifts i c.shift.result c.unweighted-number.result c.requires.ready.parts below c.requires.ready.shifts
+    let number : c.unweighted-number.result ≡ floor_div (get_or c.args.from.now i (pos 0)) (2 ^ c.shift.result) =
+    simp to_z-of_z at c.unweighted-number.ensures in
+    let part = part_of c.args.from.now c.args.weights.now.shifts i c.shift.result c.unweighted-number.result c.requires.ready.parts below
+    c.requires.ready.shifts
     (c.shift.ensures ∙ ap (slice_index c.args.weights.now.shifts) c.top_band-band.ensures) number in
     record {
       columns = set.columns ∙ invariant.columns;
-      stands = set.stands ∙ invariant.stands;
+      valid = set.valid ∙ invariant.valid;
       keeps = g.met.B.BandSink.keeps_on _ _ _ invariant.keeps set.keeps;
-      puts = puts_on c.args.weights.now.shifts c.args.column c.args.from.now 0 i 1 i (i + 1) _ _ _ (omega arith) (omega arith) (omega (arith, c.loop-position-test.true)) invariant.puts
+      puts = puts_on c.args.weights.now.shifts c.args.column c.args.from.now 0 i 1 i (i + 1) _ _ _ (omega arith) (omega arith)
+          (omega (arith, c.loop-position-test.true)) invariant.puts
           (puts_one c.args.weights.now.shifts c.args.column c.args.from.now i _ c.unweighted-number.result _ _
           (top_is (band_place c.top_band-band.result) c.args.column i c.loop-position-test.true c.top_band-band.ensures)
           (part_whole c.args.from.now c.args.weights.now.shifts i c.unweighted-number.result c.requires.ready.parts below part)

@@ -20,6 +20,6 @@ returns c =
     let f = coded c.args.plan.now.weights.shifts c.args.plan.now.plane in
     let two : c.args.count + c.args.count ≡ 2 * c.args.count = omega arith in
     let three : 2 * c.args.count + c.args.count ≡ 3 * c.args.count = omega arith in
-    let pair = c.joined.ensures.told f c.args.start c.args.count c.coded_in_band-first.ensures c.coded_in_band-second.ensures in
-    let all = c.joined-2.ensures.told f c.args.start c.args.count (subst (Shows c.joined.result f c.args.start) two pair) c.coded_in_band-third.ensures in
+    let pair = c.joined.ensures.if_known f c.args.start c.args.count c.coded_in_band-first.ensures c.coded_in_band-second.ensures in
+    let all = c.joined-2.ensures.if_known f c.args.start c.args.count (subst (Shows c.joined.result f c.args.start) two pair) c.coded_in_band-third.ensures in
     subst (Shows c.joined-2.result f c.args.start) three all

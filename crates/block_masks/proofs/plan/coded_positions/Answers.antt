@@ -17,6 +17,6 @@ joined-requires-3-clause-low c = c.joined-2.ensures.within 12 c.coded_in_level-c
 pub returns : goal.returns
 returns c =
     let f = coded c.args.plan.now.weights.shifts c.args.plan.now.plane in
-    let parents = c.joined.ensures.told f 0 3 c.coded_in_band-dc.ensures c.coded_in_level-parents.ensures in
-    let children = c.joined-2.ensures.told f 0 12 parents c.coded_in_level-children.ensures in
-    c.joined-3.ensures.told f 0 48 children c.coded_in_level-grandchildren.ensures
+    let parents = c.joined.ensures.if_known f 0 3 c.coded_in_band-dc.ensures c.coded_in_level-parents.ensures in
+    let children = c.joined-2.ensures.if_known f 0 12 parents c.coded_in_level-children.ensures in
+    c.joined-3.ensures.if_known f 0 48 children c.coded_in_level-grandchildren.ensures

@@ -5,7 +5,8 @@ use Rattle.block_masks.proofs.segment_masks.fill_to.Goals as goal
 pub returns-clause-items : goal.returns-clause-items
 returns-clause-items c =
     let i = c.loop-words.invariant in
-    let all : vec_len c.loop-words.words - vec_len c.args.words.now ≡ c.args.len - vec_len c.args.words.now = omega (arith, i.within, c.loop-words-test.false, c.len.ensures) in
+    let all : vec_len c.loop-words.words - vec_len c.args.words.now ≡ c.args.len - vec_len c.args.words.now =
+    omega (arith, i.within, c.loop-words-test.false, c.len.ensures) in
     i.items ∙ ap (λ n. c.args.words.now.items ++ replicate n 0) all
 
 pub loop-words-preserved : goal.loop-words-preserved

@@ -28,8 +28,9 @@ loop-i-preserved c start puts =
           let known = within_slots at.step at.slots (2 + plane) at.block _ c.requires.long w.if-slot-at.true c.requires.within in
           let within : at.step * (2 + plane) + at.block < length start = omega (arith, known, so_far.long, c.loop-i.auto.words) in
           let now = subst (λ n. PutsPlanes n at.step at.block c.args.block.now start c.loop-i.words) here so_far in
-          let put = set c.loop-i.words (at.step * (2 + plane) + at.block) (get_or c.eight_planes-masks.result c.loop-i.i 0) in
-          rw w.words-is (subst (λ n. PutsPlanes n at.step at.block c.args.block.now start put) next (plane_put within c.requires.within now (c.eight_planes-masks.ensures c.loop-i.i c.loop-i-test.true)))
+          let put = set c.loop-i.words (at.step * (2 + plane) + at.block) (get_or c.high_planes-masks.result c.loop-i.i 0) in
+          rw w.words-is (subst (λ n. PutsPlanes n at.step at.block c.args.block.now start put) next
+          (plane_put within c.requires.within now (c.high_planes-masks.ensures c.loop-i.i c.loop-i-test.true (omega arith))))
       | else-slot-at w ↦
           let next : min plane (at.slots - 2) ≡ min (c.args.from + (c.loop-i.i + 1)) (at.slots - 2) = omega (arith, w.if-slot-at.false) in
           rw w.words-is (subst (λ n. PutsPlanes n at.step at.block c.args.block.now start c.loop-i.words) next so_far)
@@ -38,4 +39,5 @@ loop-i-preserved c start puts =
 pub returns : goal.returns
 returns c start puts =
     let all : c.loop-i.i ≡ 8 = omega (arith, c.loop-i-test.false, c.loop-i.auto.i-end) in
-    subst (λ n. PutsPlanes (min (c.args.from + n) (c.args.at.slots - 2)) c.args.at.step c.args.at.block c.args.block.now start c.loop-i.words) all (c.loop-i.invariant start puts)
+    subst (λ n. PutsPlanes (min (c.args.from + n) (c.args.at.slots - 2)) c.args.at.step c.args.at.block c.args.block.now start c.loop-i.words) all
+    (c.loop-i.invariant start puts)

@@ -10,7 +10,7 @@ at f s t e is = sym (is ∙ ap (λ n. list_any f (span n 4)) e)
 
 pub returns : goal.returns
 returns c f shown = record {
-  shown = c.four.ensures.told (λ (j : ℕ). list_any f (members (Quad c.args.i j)))
+  shown = c.four.ensures.if_known (λ (j : ℕ). list_any f (members (Quad c.args.i j)))
       (at f _ _ (omega arith) (c.is_any_of.ensures f shown)) (at f _ _ (omega arith) (c.is_any_of-2.ensures f shown))
       (at f _ _ (omega arith) (c.is_any_of-3.ensures f shown)) (at f _ _ (omega arith) (c.is_any_of-4.ensures f shown));
 }

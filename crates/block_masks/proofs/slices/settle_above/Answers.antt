@@ -33,15 +33,18 @@ loop-k-preserved c =
       settled = subst (λ n. Settles c.args.plane n c.args.cells.now c.put_mask.new.cells) next
           (more_settled c.requires.low within i.settled (subst (λ n. PutsMask n 29 c.either-above.result cells c.put_mask.new.cells) same c.put_mask.ensures)
           (subst (λ m. m < 2 ^ 64) above c.mask_of.type_inv) (subst (λ m. m < 2 ^ 64) plane c.mask_of-in-loop-k.type_inv)
-          (λ f g start count fs gs. c.either-above.ensures f g start count (subst (λ m. Shows m f start count) (sym above) fs) (subst (λ m. Shows m g start count) (sym plane) gs)));
+          (λ f g start count fs gs. c.either-above.ensures f g start count (subst (λ m. Shows m f start count) (sym above) fs)
+          (subst (λ m. Shows m g start count) (sym plane) gs)));
     }
 
 pub loop-g-preserved : goal.loop-g-preserved
 loop-g-preserved c =
-    let last : 16 * c.loop-g.g + c.loop-k.k ≡ min (16 * (c.loop-g.g + 1)) (length c.args.cells.now / 64) = omega (arith, c.loop-k-test.false, c.loop-k.auto.k-end, c.min-k-end.ensures, c.of-first.ensures.block) in
+    let last : 16 * c.loop-g.g + c.loop-k.k ≡ min (16 * (c.loop-g.g + 1)) (length c.args.cells.now / 64) =
+    omega (arith, c.loop-k-test.false, c.loop-k.auto.k-end, c.min-k-end.ensures, c.of-first.ensures.block) in
     subst (λ n. Settles c.args.plane n c.args.cells.now c.loop-k.cells) last c.loop-k.invariant.settled
 
 pub returns : goal.returns
 returns c =
-    let last : min (16 * c.loop-g.g) (length c.args.cells.now / 64) ≡ length c.args.cells.now / 64 = omega (arith, c.loop-g-test.false, c.loop-g.auto.g-end, c.div_ceil-g-end.ensures) in
+    let last : min (16 * c.loop-g.g) (length c.args.cells.now / 64) ≡ length c.args.cells.now / 64 =
+    omega (arith, c.loop-g-test.false, c.loop-g.auto.g-end, c.div_ceil-g-end.ensures) in
     subst (λ n. Settles c.args.plane n c.args.cells.now c.loop-g.cells) last c.loop-g.invariant

@@ -11,4 +11,5 @@ pub returns-clause-others : goal.returns-clause-others
 returns-clause-others c = λ k lt ne. ap (λ x. x == 1) (bit_at_clear_other w64 c.args.mask c.args.position c.requires.position k lt ne)
 
 pub returns-clause-fewer : goal.returns-clause-fewer
-returns-clause-fewer c = λ here. fewer_left c.args.mask _ c.args.position here (ap (λ x. x == 1) (bit_at_clear_same w64 c.args.mask c.args.position c.requires.position))
+returns-clause-fewer c = λ here. fewer_left c.args.mask _ c.args.position here
+    (ap (λ x. x == 1) (bit_at_clear_same w64 c.args.mask c.args.position c.requires.position))

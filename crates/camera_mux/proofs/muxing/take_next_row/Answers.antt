@@ -9,8 +9,9 @@ returns-clause-row g c = λ raster whole ready.
     let s = c.args.setting.now in
     let w = c.make_ready.new.work in
     let rows = c.make_ready.ensures.taken.rows in
-    let stands = c.make_ready.ensures.stands raster ready in
+    let valid = c.make_ready.ensures.valid raster ready in
     let p = g.X.Port.outside c.args.port.now in
     let q = g.X.Port.outside c.take_camera_row.new.port in
-    subst (λ n. MatchResult c.take_camera_row.result (λ done. GivesRow s n raster p q c.take_camera_row.new.work done) (λ fault. FailsAtRow s n raster c.args.place p q fault)) rows
-    (c.take_camera_row.ensures.row raster (whole ∙ ap (λ n. n * row_length s) (sym rows)) (subst (λ n. Represents s n (image_of s raster) w) (sym rows) stands))
+    subst (λ n. MatchResult c.take_camera_row.result (λ done. GivesRow s n raster p q c.take_camera_row.new.work done)
+    (λ fault. FailsAtRow s n raster c.args.place p q fault)) rows
+    (c.take_camera_row.ensures.row raster (whole ∙ ap (λ n. n * row_length s) (sym rows)) (subst (λ n. Represents s n (image_of s raster) w) (sym rows) valid))

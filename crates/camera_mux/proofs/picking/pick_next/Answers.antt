@@ -1,7 +1,7 @@
 use Rattle.std.proofs.lemmas.Bool.Decides.{nat_tests}
 use Rattle.std.proofs.Common.{arith, ◌≡◌, sym, ◌∙◌, true}
 use Rattle.packet_defs.specs.Streams.{begins_packet}
-use Rattle.packet_defs.proofs.Fronts.{begins_so, first_is_packet}
+use Rattle.packet_defs.proofs.Prefixes.{begins_so, first_is_packet}
 use Rattle.packet_assembly.proofs.PacketSteps.{over_so, long_so}
 use Rattle.camera_mux.proofs.picking.pick_next.Goals as goal
 

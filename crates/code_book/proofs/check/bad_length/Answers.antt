@@ -10,13 +10,15 @@ loop-symbol-init c = let e : c.args.count ≡ c.args.count - 0 = omega arith in 
 pub returns-then-not-has_length : goal.returns-then-not-has_length
 returns-then-not-has_length c =
     let codes = c.args.codes.now in
-    sym (found (λ s. not (has_length (entry codes s))) (bad_length codes c.args.count) c.loop-symbol.symbol c.args.count c.loop-symbol.invariant c.loop-symbol-test.true
+    sym (found (λ s. not (has_length (entry codes s))) (bad_length codes c.args.count) c.loop-symbol.symbol c.args.count c.loop-symbol.invariant
+    c.loop-symbol-test.true
     (ap not (sym c.has_length.ensures ∙ c.if-not-has_length.true)))
 
 pub loop-symbol-preserved : goal.loop-symbol-preserved
 loop-symbol-preserved c =
     let codes = c.args.codes.now in
-    past (λ s. not (has_length (entry codes s))) (bad_length codes c.args.count) c.loop-symbol.symbol c.args.count c.loop-symbol.invariant c.loop-symbol-test.true
+    past (λ s. not (has_length (entry codes s))) (bad_length codes c.args.count) c.loop-symbol.symbol c.args.count c.loop-symbol.invariant
+    c.loop-symbol-test.true
     (ap not (sym c.has_length.ensures ∙ c.if-not-has_length.false))
 
 pub returns : goal.returns

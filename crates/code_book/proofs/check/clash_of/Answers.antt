@@ -16,17 +16,20 @@ clashes-requires-clause-b c = c.requires.codes.each c.loop-second.second c.loop-
 pub returns-then-clashes : goal.returns-then-clashes
 returns-then-clashes c =
     let codes = c.args.codes.now in
-    sym (found (λ s. clashes (entry codes c.args.first) (entry codes s)) (clash_of codes c.args.count c.args.first) c.loop-second.second c.args.count c.loop-second.invariant c.loop-second-test.true
+    sym (found (λ s. clashes (entry codes c.args.first) (entry codes s)) (clash_of codes c.args.count c.args.first) c.loop-second.second c.args.count
+    c.loop-second.invariant c.loop-second-test.true
     (sym c.clashes.ensures ∙ c.if-clashes.true))
 
 pub loop-second-preserved : goal.loop-second-preserved
 loop-second-preserved c =
     let codes = c.args.codes.now in
-    past (λ s. clashes (entry codes c.args.first) (entry codes s)) (clash_of codes c.args.count c.args.first) c.loop-second.second c.args.count c.loop-second.invariant c.loop-second-test.true
+    past (λ s. clashes (entry codes c.args.first) (entry codes s)) (clash_of codes c.args.count c.args.first) c.loop-second.second c.args.count
+    c.loop-second.invariant c.loop-second-test.true
     (sym c.clashes.ensures ∙ c.if-clashes.false)
 
 pub returns : goal.returns
 returns c =
     let codes = c.args.codes.now in
-    sym (nowhere (λ s. clashes (entry codes c.args.first) (entry codes s)) (clash_of codes c.args.count c.args.first) c.loop-second.second c.args.count c.loop-second.invariant
+    sym (nowhere (λ s. clashes (entry codes c.args.first) (entry codes s)) (clash_of codes c.args.count c.args.first) c.loop-second.second c.args.count
+    c.loop-second.invariant
     (omega (arith, c.loop-second-test.false)))

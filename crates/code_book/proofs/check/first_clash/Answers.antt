@@ -8,11 +8,14 @@ loop-first-init c = let e : c.args.count ≡ c.args.count - 0 = omega arith in a
 
 pub returns-in-Some : goal.returns-in-Some
 returns-in-Some c =
-    sym (clash_found c.args.table c.args.codes.now c.args.count _ c.loop-first.first c.args.count c.in-Some.second c.loop-first.invariant c.loop-first-test.true (sym c.clash_of.ensures ∙ c.in-Some.is))
+    sym (clash_found c.args.table c.args.codes.now c.args.count _ c.loop-first.first c.args.count c.in-Some.second c.loop-first.invariant
+    c.loop-first-test.true (sym c.clash_of.ensures ∙ c.in-Some.is))
 
 pub loop-first-preserved : goal.loop-first-preserved
 loop-first-preserved c =
-    clash_past c.args.table c.args.codes.now c.args.count _ c.loop-first.first c.args.count c.loop-first.invariant c.loop-first-test.true (sym c.clash_of.ensures ∙ c.in_default.is)
+    clash_past c.args.table c.args.codes.now c.args.count _ c.loop-first.first c.args.count c.loop-first.invariant c.loop-first-test.true
+    (sym c.clash_of.ensures ∙ c.in_default.is)
 
 pub returns : goal.returns
-returns c = sym (clash_nowhere c.args.table c.args.codes.now c.args.count _ c.loop-first.first c.args.count c.loop-first.invariant (omega (arith, c.loop-first-test.false)))
+returns c = sym (clash_nowhere c.args.table c.args.codes.now c.args.count _ c.loop-first.first c.args.count c.loop-first.invariant
+    (omega (arith, c.loop-first-test.false)))

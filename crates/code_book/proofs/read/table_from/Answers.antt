@@ -9,7 +9,10 @@ loop-symbol-init c = refl
 
 pub loop-symbol-preserved : goal.loop-symbol-preserved
 loop-symbol-preserved c =
-    ap (λ codes. slice_set codes c.loop-symbol.symbol record { bits = slice_index_or c.args.octets.now (c.args.start + 2 * c.loop-symbol.symbol + 1) 0; len = slice_index_or c.args.octets.now (c.args.start + 2 * c.loop-symbol.symbol) 0 }) c.loop-symbol.invariant ∙
+    ap (λ codes. slice_set codes c.loop-symbol.symbol record {
+      bits = slice_index_or c.args.octets.now (c.args.start + 2 * c.loop-symbol.symbol + 1) 0;
+      len = slice_index_or c.args.octets.now (c.args.start + 2 * c.loop-symbol.symbol) 0;
+    }) c.loop-symbol.invariant ∙
     table_next c.args.octets.now c.args.start c.loop-symbol.symbol (omega (arith, c.loop-symbol-test.true, c.requires.few))
 
 pub returns : goal.returns

@@ -23,7 +23,8 @@ returns-in-Ok-clause-only c said says =
     let first = first_word c.args.words.now c.first-item.result c.in-len1-up.len_at_least c.first-item.is in
     let named = ap command_named (sym c.as_str.ensures.value) ∙ c.in-Some.ensures in
     says_one (texts c.args.words.now) said _ says
-    (says_rest (texts c.args.words.now) _ (string_bytes c.first-item.result) (c.in-Some.task, c.in-Some.keys.now) (Ok (finds_of c.in-Ok.given)) first named c.in-Ok.ensures)
+    (says_rest (texts c.args.words.now) _ (string_bytes c.first-item.result) (c.in-Some.task, c.in-Some.keys.now) (Ok (finds_of c.in-Ok.given)) first named
+    c.in-Ok.ensures)
     ∙ sym c.make_command.ensures
 
 pub returns-in-Ok-clause-range : goal.returns-in-Ok-clause-range
@@ -38,18 +39,21 @@ returns-in-Ok-clause-place c =
     let named = ap command_named (sym c.as_str.ensures.value) ∙ c.in-Some.ensures in
     subst (λ made. IfErr made (IsPlaced (length c.args.words.now))) (sym c.make_command.ensures)
     (words_placed c.args.words.now _
-    (says_rest (texts c.args.words.now) _ (string_bytes c.first-item.result) (c.in-Some.task, c.in-Some.keys.now) (Ok (finds_of c.in-Ok.given)) first named c.in-Ok.ensures))
+    (says_rest (texts c.args.words.now) _ (string_bytes c.first-item.result) (c.in-Some.task, c.in-Some.keys.now) (Ok (finds_of c.in-Ok.given)) first named
+    c.in-Ok.ensures))
 
 pub returns-in-Err-clause-only : goal.returns-in-Err-clause-only
 returns-in-Err-clause-only c said says =
     let first = first_word c.args.words.now c.first-item.result c.in-len1-up.len_at_least c.first-item.is in
     let named = ap command_named (sym c.as_str.ensures.value) ∙ c.in-Some.ensures in
     says_one (texts c.args.words.now) said _ says
-    (says_rest (texts c.args.words.now) _ (string_bytes c.first-item.result) (c.in-Some.task, c.in-Some.keys.now) (Err c.in-Err.fault) first named c.in-Err.ensures)
+    (says_rest (texts c.args.words.now) _ (string_bytes c.first-item.result) (c.in-Some.task, c.in-Some.keys.now) (Err c.in-Err.fault) first named
+    c.in-Err.ensures)
 
 pub returns-in-Err-clause-place : goal.returns-in-Err-clause-place
 returns-in-Err-clause-place c =
     let first = first_word c.args.words.now c.first-item.result c.in-len1-up.len_at_least c.first-item.is in
     let named = ap command_named (sym c.as_str.ensures.value) ∙ c.in-Some.ensures in
     words_placed c.args.words.now (Err c.in-Err.fault)
-    (says_rest (texts c.args.words.now) _ (string_bytes c.first-item.result) (c.in-Some.task, c.in-Some.keys.now) (Err c.in-Err.fault) first named c.in-Err.ensures)
+    (says_rest (texts c.args.words.now) _ (string_bytes c.first-item.result) (c.in-Some.task, c.in-Some.keys.now) (Err c.in-Err.fault) first named
+    c.in-Err.ensures)

@@ -5,7 +5,8 @@ use Rattle.crate_examples.proofs.rows.encode_frame.Goals as goal
 
 pub loop-row-init : goal.loop-row-init
 loop-row-init g c = record {
-  given = none_given c.args.setting.now _ (g.X.Port.outside c.args.port.now) c.start_image.new.work c.requires.in_range c.requires.known c.start_image.ensures.start;
+  given = none_given c.args.setting.now _ (g.X.Port.outside c.args.port.now) c.start_image.new.work c.requires.in_range c.requires.known
+      c.start_image.ensures.start;
   rows = c.start_image.ensures.start.taken.rows;
 }
 

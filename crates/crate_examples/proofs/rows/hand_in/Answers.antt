@@ -6,7 +6,8 @@ use Rattle.crate_examples.proofs.rows.hand_in.Goals as goal
 
 pub row_in-requires-clause-values : goal.row_in-requires-clause-values
 row_in-requires-clause-values g c =
-    row_in_range c.args.setting.now c.requires.octets c.args.row.now c.requires.row c.args.work.now.row _ (c.put_row.auto.row ∙ c.deref_mut.ensures.len) c.put_row.ensures.row c.put_row.ensures.in_range
+    row_in_range c.args.setting.now c.requires.octets c.args.row.now c.requires.row c.args.work.now.row _ (c.put_row.auto.row ∙ c.deref_mut.ensures.len)
+    c.put_row.ensures.row c.put_row.ensures.in_range
 
 pub returns-clause-made : goal.returns-clause-made
 returns-clause-made g c = row_made c.args.setting.now _ _ _ c.row_in.new.work c.row_in.result c.row_in.ensures
@@ -24,7 +25,11 @@ returns-clause-given g c image start given is =
     let tall = given.follows.tall in
     let holds = tall.holds in
     let follows : FollowsRows s image _ =
-    record { tall = record { strip = tall.strip; holds = record { blocks = holds.blocks; packets = holds.packets; used = holds.used } }; any = given.follows.any } in
+    record {
+      tall = record { strip = tall.strip; holds = record { blocks = holds.blocks; packets = holds.packets; used = holds.used } };
+      any =
+          given.follows.any;
+    } in
     row_given s image start _ _ _ c.row_in.new.work (some_rows s.rows c.args.work.now.at.rows c.requires.few) follows given.since
     (record { at = λ k lt. shows.at k lt ∙ is.at k lt }) c.row_in.result in_range c.row_in.ensures
 

@@ -5,7 +5,8 @@ use Rattle.damage_rects.proofs.Keeping.{ends_none, ends_one}
 use Rattle.damage_rects.proofs.gaps.end_gap.Goals as goal
 
 pub returns-in_default-clause-ended : goal.returns-in_default-clause-ended
-returns-in_default-clause-ended c lost kept here refused = ends_none lost c.args.gaps.now.ended.items c.args.gaps.now.open_from c.args.gaps.now.passed c.in_default.is here (kept refused)
+returns-in_default-clause-ended c lost kept here refused = ends_none lost c.args.gaps.now.ended.items c.args.gaps.now.open_from c.args.gaps.now.passed
+    c.in_default.is here (kept refused)
 
 pub returns-else-is_err-clause-ended : goal.returns-else-is_err-clause-ended
 returns-else-is_err-clause-ended c lost kept here refused =

@@ -16,7 +16,8 @@ line size gap r = rect_lines (filter (has_pixels size.rows size.width) (gap_rect
 
 pub loop-block_row-init : goal.loop-block_row-init
 loop-block_row-init g c =
-    let none : c.args.gap.now.first / c.columns_of-columns.result - c.args.gap.now.first / block_count c.args.size.now.width ≡ 0 = rw c.columns_of-columns.ensures (omega arith) in
+    let none : c.args.gap.now.first / c.columns_of-columns.result - c.args.gap.now.first / block_count c.args.size.now.width ≡ 0 =
+    rw c.columns_of-columns.ensures (omega arith) in
     rw none (given_none (line c.args.size.now c.args.gap.now) (gap_rows c.args.size.now.width c.args.gap.now) (g.X.Port.outside c.args.port.now))
 
 pub give_part-requires-clause-first : goal.give_part-requires-clause-first
@@ -33,8 +34,10 @@ returns-in_err-give_part g c =
     let low : gap.first / block_count width ≤ row = rw (sym c.columns_of-columns.ensures) c.loop-block_row.auto.block_row in
     let high : row ≤ gap.last / block_count width = rw (sym c.columns_of-columns.ensures) (omega arith) in
     let at = row_at width gap row low high in
-    subst (WritesAll c.from_residual.result (g.X.Port.outside c.args.port.now) (g.X.Port.outside c.give_part.new.port)) (lines_each (has_pixels c.args.size.now.rows width) (gap_rect c.args.size.now.rows width gap) (gap_rows width gap))
-    (given_part (line c.args.size.now gap) (gap_rows width gap) c.from_residual.result (g.X.Port.outside c.args.port.now) (g.X.Port.outside c.loop-block_row.port) (g.X.Port.outside c.give_part.new.port)
+    subst (WritesAll c.from_residual.result (g.X.Port.outside c.args.port.now) (g.X.Port.outside c.give_part.new.port))
+    (lines_each (has_pixels c.args.size.now.rows width) (gap_rect c.args.size.now.rows width gap) (gap_rows width gap))
+    (given_part (line c.args.size.now gap) (gap_rows width gap) c.from_residual.result (g.X.Port.outside c.args.port.now)
+    (g.X.Port.outside c.loop-block_row.port) (g.X.Port.outside c.give_part.new.port)
     (row - gap.first / block_count width) row c.from_residual.ensures.0 at.0 at.1 c.loop-block_row.invariant c.in_err-give_part.ensures)
 
 pub loop-block_row-preserved : goal.loop-block_row-preserved
@@ -46,8 +49,10 @@ loop-block_row-preserved g c =
     let high : row ≤ gap.last / block_count width = rw (sym c.columns_of-columns.ensures) (omega arith) in
     let at = row_at width gap row low high in
     let next : row - gap.first / block_count width + 1 ≡ row + 1 - gap.first / block_count width = omega (arith, low) in
-    subst (λ i. Exchange (g.X.Port.outside c.args.port.now) (g.X.Port.outside c.give_part.new.port) [] (flat_map (line c.args.size.now gap) (take i (gap_rows width gap))) [] NoRead) next
-    (given_more (line c.args.size.now gap) (gap_rows width gap) (g.X.Port.outside c.args.port.now) (g.X.Port.outside c.loop-block_row.port) (g.X.Port.outside c.give_part.new.port)
+    subst (λ i. Exchange (g.X.Port.outside c.args.port.now) (g.X.Port.outside c.give_part.new.port) []
+    (flat_map (line c.args.size.now gap) (take i (gap_rows width gap))) [] NoRead) next
+    (given_more (line c.args.size.now gap) (gap_rows width gap) (g.X.Port.outside c.args.port.now) (g.X.Port.outside c.loop-block_row.port)
+    (g.X.Port.outside c.give_part.new.port)
     (row - gap.first / block_count width) row at.0 at.1 c.loop-block_row.invariant c.in_ok-give_part.ensures)
 
 pub returns : goal.returns
@@ -56,5 +61,7 @@ returns g c =
     let gap = c.args.gap.now in
     let row = c.loop-block_row.block_row in
     let end : gap.last / block_count width + 1 ≤ row = rw (sym c.columns_of-columns.ensures) (omega arith) in
-    subst (λ octets. Exchange (g.X.Port.outside c.args.port.now) (g.X.Port.outside c.loop-block_row.port) [] octets [] NoRead) (lines_each (has_pixels c.args.size.now.rows width) (gap_rect c.args.size.now.rows width gap) (gap_rows width gap))
-    (given_all (line c.args.size.now gap) (gap_rows width gap) (g.X.Port.outside c.args.port.now) (g.X.Port.outside c.loop-block_row.port) (row - gap.first / block_count width) (rows_end width gap row end) c.loop-block_row.invariant)
+    subst (λ octets. Exchange (g.X.Port.outside c.args.port.now) (g.X.Port.outside c.loop-block_row.port) [] octets [] NoRead)
+    (lines_each (has_pixels c.args.size.now.rows width) (gap_rect c.args.size.now.rows width gap) (gap_rows width gap))
+    (given_all (line c.args.size.now gap) (gap_rows width gap) (g.X.Port.outside c.args.port.now) (g.X.Port.outside c.loop-block_row.port)
+    (row - gap.first / block_count width) (rows_end width gap row end) c.loop-block_row.invariant)

@@ -9,4 +9,5 @@ use Rattle.damage_rects.proofs.lines.give_gap.Given as goal
 abbrev pub invariant-loop-block_row : goal.invariant-loop-block_row
 invariant-loop-block_row g l =
     Exchange (g.X.Port.outside l.initial.port) (g.X.Port.outside l.port) []
-    (flat_map (λ r. rect_lines (filter (has_pixels l.size.rows l.size.width) (gap_rect l.size.rows l.size.width l.gap r ∷ []))) (take (l.block_row - l.gap.first / block_count l.size.width) (gap_rows l.size.width l.gap))) [] NoRead
+    (flat_map (λ r. rect_lines (filter (has_pixels l.size.rows l.size.width) (gap_rect l.size.rows l.size.width l.gap r ∷ [])))
+    (take (l.block_row - l.gap.first / block_count l.size.width) (gap_rows l.size.width l.gap))) [] NoRead

@@ -11,7 +11,8 @@ returns-in_err-put_high g c =
     let plan = c.args.plan.now in
     let dcs = c.args.dcs.now in
     let p = err_from_is_err_and c.from_residual.result c.from_residual.ensures.1 in
-    rw (p.1, p.2) (high_cut plan.depth_dc plan.depth_ac plan.shift dcs (dc_choices (choice_of c.args.select) plan.depth_dc plan.depth_ac plan.shift dcs) c.in_err-put_high.ensures)
+    rw (p.1, p.2) (high_cut plan.depth_dc plan.depth_ac plan.shift dcs (dc_choices (choice_of c.args.select) plan.depth_dc plan.depth_ac plan.shift dcs)
+    c.in_err-put_high.ensures)
 
 pub returns : goal.returns
 returns g c = grind (arith, common_steps, dc_then)

@@ -39,7 +39,8 @@ returns-in_err-put_plane g c =
     let test : c.max-last.result < plane = c.loop-plane-test.true in
     let p = err_from_is_err_and c.from_residual.result c.from_residual.ensures.1 in
     let last = c.max-last.ensures in
-    rw (p.1, p.2) (plane_ended q c.args.dcs.now (dc_planes plan.depth_dc plan.depth_ac plan.shift) (q - plane) (plane - 1) (omega (arith, last)) (omega arith) i.so_far c.in_err-put_plane.ensures)
+    rw (p.1, p.2) (plane_ended q c.args.dcs.now (dc_planes plan.depth_dc plan.depth_ac plan.shift) (q - plane) (plane - 1) (omega (arith, last))
+    (omega arith) i.so_far c.in_err-put_plane.ensures)
 
 pub returns : goal.returns
 returns g c = grind (arith, common_steps, planes_all)

@@ -16,7 +16,8 @@ loop-plane-init g c =
       within = omega (arith, c.q-plane.ensures);
       is_in = c.requires.open;
       grew = planes_grew_start q _ c.args.blocks.now c.q-plane.ensures;
-      so_far = λ dcs first s. planes_start q (dc_planes c.args.plan.now.depth_dc c.args.plan.now.depth_ac c.args.plan.now.shift) _ _ dcs _ first c.args.blocks.now c.q-plane.ensures s;
+      so_far = λ dcs first s. planes_start q (dc_planes c.args.plan.now.depth_dc c.args.plan.now.depth_ac c.args.plan.now.shift) _ _ dcs _ first
+          c.args.blocks.now c.q-plane.ensures s;
     }
 
 pub take_bits-requires-clause-room : goal.take_bits-requires-clause-room
@@ -65,7 +66,8 @@ returns-in_err-take_bits g c = λ dcs first s.
     let t = rw weight at c.in_err-take_bits.ensures in
     let p = err_from_is_err_and c.from_residual.result c.from_residual.ensures.1 in
     let before = i.so_far dcs first s in
-    rw (p.1, p.2) (planes_fault q n (div_ceil (length first) 64) plane dcs before (plane - 1) (omega arith) within more _ (t.takes before.given first before.cells))
+    rw (p.1, p.2) (planes_fault q n (div_ceil (length first) 64) plane dcs before (plane - 1) (omega arith) within more _
+    (t.takes before.given first before.cells))
 
 pub returns-in_default : goal.returns-in_default
 returns-in_default g c = λ dcs first s.

@@ -33,7 +33,8 @@ returns-then-bits-eq1-clause-takes g c =
     let q = dc_q plan.depth_dc plan.depth_ac plan.shift in
     let one : N ≡ 1 = sym c.bits-bits.ensures.is ∙ c.if-bits-eq1.true in
     let small = q_small plan.depth_dc plan.depth_ac plan.shift c.requires.dc c.requires.shift in
-    raw_high N q one (rw (weight q c.q.result c.power.result small c.power.ensures c.q.ensures) at (c.take_bits.ensures.takes (λ r. pos 0) c.args.blocks.now c.clear.ensures))
+    raw_high N q one (rw (weight q c.q.result c.power.result small c.power.ensures c.q.ensures) at
+    (c.take_bits.ensures.takes (λ r. pos 0) c.args.blocks.now c.clear.ensures))
 
 pub returns-then-bits-eq1-clause-room : goal.returns-then-bits-eq1-clause-room
 returns-then-bits-eq1-clause-room g c =
@@ -41,7 +42,8 @@ returns-then-bits-eq1-clause-room g c =
     let q = dc_q plan.depth_dc plan.depth_ac plan.shift in
     let small = q_small plan.depth_dc plan.depth_ac plan.shift c.requires.dc c.requires.shift in
     let t = c.take_bits.ensures.takes (λ r. pos 0) c.args.blocks.now c.clear.ensures in
-    raw_room (2 ^ q) (pow_mono small) c.clear.ensures t.cells.size (rw (weight q c.q.result c.power.result small c.power.ensures c.q.ensures, size_of (2 ^ q)) at c.take_bits.ensures.grows)
+    raw_room (2 ^ q) (pow_mono small) c.clear.ensures t.cells.size
+    (rw (weight q c.q.result c.power.result small c.power.ensures c.q.ensures, size_of (2 ^ q)) at c.take_bits.ensures.grows)
 
 pub returns-in_err-part-clause-takes : goal.returns-in_err-part-clause-takes
 returns-in_err-part-clause-takes g c =

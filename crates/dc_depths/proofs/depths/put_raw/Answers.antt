@@ -18,7 +18,8 @@ loop-mark-preserved g c =
     let at = c.loop-mark.mark-index in
     let lt : at < length marks = omega arith in
     let within : at < length (depths_of marks) = omega (arith, length-map marks nat_abs) in
-    let e = depth_bit (get_or marks at (pos 0)) (c.requires.depths.low at lt) (c.requires.depths.high at lt) ∙ ap (bits_of 1) (sym (get_or-map nat_abs marks at (pos 0) 0 lt)) in
+    let e = depth_bit (get_or marks at (pos 0)) (c.requires.depths.low at lt) (c.requires.depths.high at lt)
+    ∙ ap (bits_of 1) (sym (get_or-map nat_abs marks at (pos 0) 0 lt)) in
     let i = c.loop-mark.invariant in
     let p = (rw e at c.in_ok-put.ensures).ends in
     record { is_open = open_later i.is_open p; so_far = each_put_more raw (depths_of marks) at 0 within i.so_far p }
@@ -29,9 +30,11 @@ returns-in_err-put g c =
     let at = c.loop-mark.mark-index in
     let lt : at < length marks = omega arith in
     let within : at < length (depths_of marks) = omega (arith, length-map marks nat_abs) in
-    let e = depth_bit (get_or marks at (pos 0)) (c.requires.depths.low at lt) (c.requires.depths.high at lt) ∙ ap (bits_of 1) (sym (get_or-map nat_abs marks at (pos 0) 0 lt)) in
+    let e = depth_bit (get_or marks at (pos 0)) (c.requires.depths.low at lt) (c.requires.depths.high at lt)
+    ∙ ap (bits_of 1) (sym (get_or-map nat_abs marks at (pos 0) 0 lt)) in
     let p = err_from_is_err_and c.from_residual.result c.from_residual.ensures.1 in
     rw (p.1, p.2) (each_put_ended raw (depths_of marks) at 0 within c.loop-mark.invariant.so_far (rw e at c.in_err-put.ensures))
 
 pub returns : goal.returns
-returns g c = each_put_whole raw (depths_of c.args.marks.now) c.loop-mark.mark-index (omega (arith, length-map c.args.marks.now nat_abs)) c.loop-mark.invariant.so_far
+returns g c = each_put_whole raw (depths_of c.args.marks.now) c.loop-mark.mark-index (omega (arith, length-map c.args.marks.now nat_abs))
+    c.loop-mark.invariant.so_far

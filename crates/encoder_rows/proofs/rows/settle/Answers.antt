@@ -15,7 +15,8 @@ unreachable-requires c =
     let new = c.row_in.new.port in
     let index = reached_is s c.requires.usable.in_range k w (omega (arith, few)) c.requires.taken in
     let breaks = subst (λ o. BreaksAt s k o (packets_outside new) w c.row_in.new.work) c.clear.ensures c.in_default.ensures in
-    row_never_breaks s c.requires.usable k few w refl index c.requires.next size new.size new.faults new.kept.items c.row_in.new.work c.requires.room c.row_in.new.port.full breaks
+    row_never_breaks s c.requires.usable k few w refl index c.requires.next size new.size new.faults new.kept.items c.row_in.new.work c.requires.room
+    c.row_in.new.port.full breaks
 
 pub returns-clause-fits : goal.returns-clause-fits
 returns-clause-fits c =

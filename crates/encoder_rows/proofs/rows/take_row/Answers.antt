@@ -11,7 +11,17 @@ settle-requires-clause-taken c =
     let w = c.args.work.now in
     let k = w.at.rows in
     let run = c.requires.running in
-    taken_only (plan_of s (tallest s)) k w _ (record { row = ap vec_len c.swap.ensures.x_after ∙ c.read_octets.ensures.row ∙ sym run.rows.stands.taken.running.gathered.made.row; strip = refl; blocks = refl; packets = refl; writer = refl; room = refl; at = refl }) run.rows.stands.taken
+    taken_only (plan_of s (tallest s)) k w _ (record {
+      row =
+          ap vec_len c.swap.ensures.x_after ∙ c.read_octets.ensures.row ∙ sym run.rows.valid.taken.running.gathered.made.row;
+      strip = refl;
+      blocks =
+          refl;
+      packets = refl;
+      writer = refl;
+      room = refl;
+      at = refl;
+    }) run.rows.valid.taken
 
 pub settle-requires-clause-values : goal.settle-requires-clause-values
 settle-requires-clause-values c =
@@ -27,7 +37,16 @@ settle-requires-clause-next c =
     let run = c.requires.running in
     let reads = c.in_default.ensures.reads in
     next_is s c.requires.usable k c.requires.few run.taken run.given c.args.octets.now w _ run.rows
-    (record { row = ap vec_len c.swap.ensures.x_after ∙ c.read_octets.ensures.row ∙ sym run.rows.stands.taken.running.gathered.made.row; strip = refl; blocks = refl; packets = refl; writer = refl; room = refl; at = refl })
+    (record {
+      row = ap vec_len c.swap.ensures.x_after ∙ c.read_octets.ensures.row ∙ sym run.rows.valid.taken.running.gathered.made.row;
+      strip =
+          refl;
+      blocks = refl;
+      packets = refl;
+      writer = refl;
+      room = refl;
+      at = refl;
+    })
     c.requires.whole reads.0 (subst (λ v. ShowsRow s c.args.octets.now v.items) (sym c.swap.ensures.x_after) reads.1) refl
 
 pub returns-clause-takes : goal.returns-clause-takes
@@ -43,6 +62,16 @@ returns-clause-takes c =
       c.settle.ensures.row.taken.rows,
       λ taken given has.
           row_given s c.requires.usable k c.requires.few taken given c.args.octets.now w _ has
-          (record { row = ap vec_len c.swap.ensures.x_after ∙ c.read_octets.ensures.row ∙ sym run.rows.stands.taken.running.gathered.made.row; strip = refl; blocks = refl; packets = refl; writer = refl; room = refl; at = refl })
-          c.requires.whole reads.0 (subst (λ v. ShowsRow s c.args.octets.now v.items) (sym c.swap.ensures.x_after) reads.1) c.args.packets.now.size new.size new.faults new.kept.items c.settle.new.work c.settle.ensures.row,
+          (record {
+            row = ap vec_len c.swap.ensures.x_after ∙ c.read_octets.ensures.row ∙ sym run.rows.valid.taken.running.gathered.made.row;
+            strip =
+                refl;
+            blocks = refl;
+            packets = refl;
+            writer = refl;
+            room = refl;
+            at = refl;
+          })
+          c.requires.whole reads.0 (subst (λ v. ShowsRow s c.args.octets.now v.items) (sym c.swap.ensures.x_after) reads.1) c.args.packets.now.size new.size
+          new.faults new.kept.items c.settle.new.work c.settle.ensures.row,
     )

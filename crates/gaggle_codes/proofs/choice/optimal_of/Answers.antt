@@ -14,9 +14,11 @@ loop-k-preserved c =
     let k = c.loop-k.k in
     elim c.if-needed-fewest.branch [
       | then-needed-fewest w ↦
-          rw (w.best-is, w.fewest-is) (best_changes N values k c.loop-k.best c.loop-k.fewest c.split_bits-needed.result c.requires.low c.requires.high (omega arith) c.split_bits-needed.ensures w.if-needed-fewest.true c.loop-k.invariant)
+          rw (w.best-is, w.fewest-is) (best_changes N values k c.loop-k.best c.loop-k.fewest c.split_bits-needed.result c.requires.low c.requires.high
+          (omega arith) c.split_bits-needed.ensures w.if-needed-fewest.true c.loop-k.invariant)
       | else-needed-fewest w ↦
-          rw (w.best-is, w.fewest-is) (best_stays N values k c.loop-k.best c.loop-k.fewest c.split_bits-needed.result c.requires.low c.requires.high (omega arith) c.split_bits-needed.ensures w.if-needed-fewest.false c.loop-k.invariant)
+          rw (w.best-is, w.fewest-is) (best_stays N values k c.loop-k.best c.loop-k.fewest c.split_bits-needed.result c.requires.low c.requires.high
+          (omega arith) c.split_bits-needed.ensures w.if-needed-fewest.false c.loop-k.invariant)
     ]
 
 pub returns : goal.returns

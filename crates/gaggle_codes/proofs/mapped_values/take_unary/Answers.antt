@@ -19,4 +19,5 @@ returns-then-zeros-limit-clause-read g c =
 
 pub returns-clause-read : goal.returns-clause-read
 returns-clause-read g c =
-    let p = rw c.in-Some.is at c.in_ok-zeros.ensures in unary_got c.args.bits c.args.k _ (grind (arith, common_steps)) c.in-Some.zeros (λ e. omega (arith, e)) p.ends
+    let p = rw c.in-Some.is at c.in_ok-zeros.ensures in unary_got c.args.bits c.args.k _ (grind (arith, common_steps)) c.in-Some.zeros
+    (λ e. omega (arith, e)) p.ends

@@ -8,20 +8,24 @@ use Rattle.gaggle_codes.proofs.mapped_values.take_whole.Goals as goal
 pub returns-in_err-value-clause-read : goal.returns-in_err-value-clause-read
 returns-in_err-value-clause-read g c = λ too_great prior bound last.
     let p = err_from_is_err_and c.from_residual.result c.from_residual.ensures.1 in
-    rw (p.1, p.2) (whole_fault (kind_of c.args.range too_great) c.args.option c.loop-zeros.before c.args.zeros.now _ _ _ _ (c.loop-zeros.invariant.left too_great prior bound last)
+    rw (p.1, p.2) (whole_fault (kind_of c.args.range too_great) c.args.option c.loop-zeros.before c.args.zeros.now _ _ _ _
+    (c.loop-zeros.invariant.left too_great prior bound last)
     (length c.args.zeros.now - (c.loop-zeros.zeros-index + 1)) (omega arith) _ c.in_err-value.ensures.read)
 
 pub returns-in_default-clause-read : goal.returns-in_default-clause-read
 returns-in_default-clause-read g c = λ too_great prior bound last.
-    whole_ended (kind_of c.args.range too_great) c.args.option c.loop-zeros.before c.args.zeros.now _ _ _ _ (c.loop-zeros.invariant.left too_great prior bound last)
+    whole_ended (kind_of c.args.range too_great) c.args.option c.loop-zeros.before c.args.zeros.now _ _ _ _
+    (c.loop-zeros.invariant.left too_great prior bound last)
     (length c.args.zeros.now - (c.loop-zeros.zeros-index + 1)) (omega arith) (rw c.in_default.is at c.in_ok-value.ensures.read)
 
 pub returns-in_err-before-clause-read : goal.returns-in_err-before-clause-read
 returns-in_err-before-clause-read g c = λ too_great prior bound last.
     let p = err_from_is_err_and c.from_residual-in_err-before.result c.from_residual-in_err-before.ensures.1 in
     rw (p.1, p.2, c.in_err-before.ensures.is, c.in_err-before.ensures.numbers)
-    (whole_deep (kind_of c.args.range too_great) c.args.option c.loop-zeros.before c.args.zeros.now _ _ _ _ (c.loop-zeros.invariant.left too_great prior bound last)
-    (length c.args.zeros.now - (c.loop-zeros.zeros-index + 1)) (omega arith) (c.loop-zeros.invariant.last prior last) (λ t. c.requires.plain t c.loop-zeros.zeros-index) c.in-Some.value
+    (whole_deep (kind_of c.args.range too_great) c.args.option c.loop-zeros.before c.args.zeros.now _ _ _ _
+    (c.loop-zeros.invariant.left too_great prior bound last)
+    (length c.args.zeros.now - (c.loop-zeros.zeros-index + 1)) (omega arith) (c.loop-zeros.invariant.last prior last)
+    (λ t. c.requires.plain t c.loop-zeros.zeros-index) c.in-Some.value
     (bound_high bound c.in_err-before.ensures.few c.in_err-before.ensures.bound)
     (rw c.in-Some.is at c.in_ok-value.ensures.read))
 
@@ -38,12 +42,15 @@ loop-zeros-preserved g c =
       count = ap length more ∙ length-append now (c.in_ok-before.before ∷ []) ∙ omega (arith, i.count);
       within = λ before. rw more (within_more now c.in_ok-before.before few c.in_ok-before.ensures.bound (i.within before));
       last = λ prior start. rw (more, ← append_assoc prior now (c.in_ok-before.before ∷ [])) (last_more (prior ++ now) c.in_ok-before.before);
-      left = λ too_great prior bound start. whole_more (kind_of c.args.range too_great) c.args.option c.loop-zeros.before c.args.zeros.now _ _ _ _ (i.left too_great prior bound start)
-          (length c.args.zeros.now - (c.loop-zeros.zeros-index + 1)) (omega arith) (i.last prior start) (λ t. c.requires.plain t c.loop-zeros.zeros-index) c.in-Some.value
+      left = λ too_great prior bound start. whole_more (kind_of c.args.range too_great) c.args.option c.loop-zeros.before c.args.zeros.now _ _ _ _
+          (i.left too_great prior bound start)
+          (length c.args.zeros.now - (c.loop-zeros.zeros-index + 1)) (omega arith) (i.last prior start) (λ t. c.requires.plain t c.loop-zeros.zeros-index)
+          c.in-Some.value
           _ c.in_ok-before.before _ (omega arith) c.in_ok-before.ensures.is (bound_low bound few c.in_ok-before.ensures.bound)
           (ap (λ l. prior ++ l) more ∙ sym (append_assoc prior now (c.in_ok-before.before ∷ []))) read;
     }
 
 pub returns-clause-read : goal.returns-clause-read
 returns-clause-read g c = λ too_great prior bound last.
-    whole_all (kind_of c.args.range too_great) c.args.option c.loop-zeros.before c.args.zeros.now _ _ _ _ (c.loop-zeros.invariant.left too_great prior bound last) (omega arith) c.loop-zeros.invariant.is_in
+    whole_all (kind_of c.args.range too_great) c.args.option c.loop-zeros.before c.args.zeros.now _ _ _ _
+    (c.loop-zeros.invariant.left too_great prior bound last) (omega arith) c.loop-zeros.invariant.is_in

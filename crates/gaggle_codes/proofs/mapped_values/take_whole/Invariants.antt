@@ -1,5 +1,5 @@
 use Rattle.std.proofs.Common.{◌≡◌, ◌<◌, ◌+◌, ◌-◌, ◌^◌, ◌++◌, ℕ, Bool, List, length}
-use Rattle.bit_pipe.specs.Coming.{coming, IsIn}
+use Rattle.bit_pipe.specs.SourceState.{source_state, IsIn}
 use Rattle.item_defs.specs.Scripts.{in_turn}
 use Rattle.bit_pipe.proofs.ScriptReading.{Leaves}
 use Rattle.number_defs.specs.NumberScript.{last_of}
@@ -9,12 +9,13 @@ use Rattle.gaggle_codes.proofs.mapped_values.take_whole.Given as goal
 
 abbrev pub invariant-loop-zeros : goal.invariant-loop-zeros
 invariant-loop-zeros g l = record {
-  is_in : IsIn (coming l.input);
+  is_in : IsIn (source_state l.input);
   small : l.before < 2 ^ l.range.bits;
   count : length (heights_in l.numbers) ≡ length (heights_in l.initial.numbers) + l.zeros-index;
   within : AreWithin l.range.bits l.most (heights_in l.initial.numbers) → AreWithin l.range.bits l.most (heights_in l.numbers);
   last : (prior : List ℕ) → last_of (prior ++ heights_in l.initial.numbers) ≡ l.before-2 → last_of (prior ++ heights_in l.numbers) ≡ l.before;
   left : (too_great : ℕ → Bool) (prior : List ℕ) → IsBound l.most l.range.bits too_great → last_of (prior ++ heights_in l.initial.numbers) ≡ l.before-2 →
       Leaves g.I.OctetIn.source (in_turn (each (kind_of l.range too_great) l.option l.zeros) 0 (length l.zeros) (prior ++ heights_in l.initial.numbers))
-      (in_turn (each (kind_of l.range too_great) l.option l.zeros) l.zeros-index (length l.zeros - l.zeros-index) (prior ++ heights_in l.numbers)) (coming l.initial.input) (coming l.input);
+      (in_turn (each (kind_of l.range too_great) l.option l.zeros) l.zeros-index (length l.zeros - l.zeros-index) (prior ++ heights_in l.numbers))
+      (source_state l.initial.input) (source_state l.input);
 }

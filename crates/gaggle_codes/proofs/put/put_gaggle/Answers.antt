@@ -26,8 +26,10 @@ returns-in_err-put_identifier g c =
     let s = c.args.numbers.now in
     let N = s.range.bits in
     let hs = heights_of s in
-    let values : c.map_values.new.into ≡ gaggle_values N hs c.args.gaggle = c.map_values.ensures.values ∙ gaggle_slice N hs c.args.gaggle _ _ (omega arith) (rw length-take (omega arith)) in
-    let name : c.choose-option.result ≡ name_of N (choices (choice_of c.args.select) N hs c.args.gaggle) = c.choose-option.ensures ∙ ap (λ v. name_of N (choice_of c.args.select N v)) values in
+    let values : c.map_values.new.into ≡ gaggle_values N hs c.args.gaggle = c.map_values.ensures.values ∙ gaggle_slice N hs c.args.gaggle _ _ (omega arith)
+    (rw length-take (omega arith)) in
+    let name : c.choose-option.result ≡ name_of N (choices (choice_of c.args.select) N hs c.args.gaggle) =
+    c.choose-option.ensures ∙ ap (λ v. name_of N (choice_of c.args.select N v)) values in
     let p = err_from_is_err_and c.from_residual.result c.from_residual.ensures.1 in
     rw (p.1, p.2, ← name) (identifier_cut s.range.signed N hs c.choose-option.result c.args.gaggle c.in_err-put_identifier.ensures)
 
@@ -36,8 +38,10 @@ returns-in_err-put_lead g c =
     let s = c.args.numbers.now in
     let N = s.range.bits in
     let hs = heights_of s in
-    let values : c.map_values.new.into ≡ gaggle_values N hs c.args.gaggle = c.map_values.ensures.values ∙ gaggle_slice N hs c.args.gaggle _ _ (omega arith) (rw length-take (omega arith)) in
-    let name : c.choose-option.result ≡ name_of N (choices (choice_of c.args.select) N hs c.args.gaggle) = c.choose-option.ensures ∙ ap (λ v. name_of N (choice_of c.args.select N v)) values in
+    let values : c.map_values.new.into ≡ gaggle_values N hs c.args.gaggle = c.map_values.ensures.values ∙ gaggle_slice N hs c.args.gaggle _ _ (omega arith)
+    (rw length-take (omega arith)) in
+    let name : c.choose-option.result ≡ name_of N (choices (choice_of c.args.select) N hs c.args.gaggle) =
+    c.choose-option.ensures ∙ ap (λ v. name_of N (choice_of c.args.select N v)) values in
     let p = err_from_is_err_and c.from_residual-in_err-put_lead.result c.from_residual-in_err-put_lead.ensures.1 in
     rw (p.1, p.2, ← name) (lead_cut s.range.signed N hs c.choose-option.result c.args.gaggle c.in_ok-put_identifier.ensures.ends c.in_err-put_lead.ensures)
 

@@ -26,9 +26,11 @@ returns-in_err-put_gaggle g c = λ too_great.
     let names = chosen_names c.args.select range.bits hs in
     let p = err_from_is_err_and c.from_residual.result c.from_residual.ensures.1 in
     let few = heights_few range c.args.shift c.args.stride c.args.cells.now c.requires.stride c.requires.in_range in
-    let text = before_text (kind_of range too_great) hs few c.requires.low c.requires.high (choices (choice_of c.args.select) range.bits hs) (λ h. choice_is c.args.select range.bits (gaggle_values range.bits hs h) c.requires.low) (gaggle_count (length hs)) in
+    let text = before_text (kind_of range too_great) hs few c.requires.low c.requires.high (choices (choice_of c.args.select) range.bits hs)
+    (λ h. choice_is c.args.select range.bits (gaggle_values range.bits hs h) c.requires.low) (gaggle_count (length hs)) in
     let more : c.loop-gaggle.gaggle < gaggle_count (length hs) = omega (arith, c.len.ensures, c.div_ceil-gaggle-end.ensures, ceil16 (length hs)) in
-    rw (p.1, p.2, text) (gaggle_ended range.signed range.bits hs names (gaggle_count (length hs)) c.loop-gaggle.gaggle more c.loop-gaggle.invariant.so_far c.in_err-put_gaggle.ensures)
+    rw (p.1, p.2, text) (gaggle_ended range.signed range.bits hs names (gaggle_count (length hs)) c.loop-gaggle.gaggle more c.loop-gaggle.invariant.so_far
+    c.in_err-put_gaggle.ensures)
 
 pub returns : goal.returns
 returns g c = grind (arith, common_steps, heights_few, before_text, choice_is, ceil16, gaggles_all)

@@ -32,12 +32,15 @@ returns-in_err-result g c = λ too_great bound.
     let size_is : c.min-size.result ≡ min (count - 16 * c.loop-gaggle.gaggle) 16 = omega arith in
     let p = err_from_is_err_and c.from_residual.result c.from_residual.ensures.1 in
     let s = c.loop-gaggle.invariant.so_far too_great bound in
-    let long = so_long kind c.args.range c.args.most c.args.shift c.args.stride count c.loop-gaggle.gaggle c.loop-gaggle.before c.min-size.result lt size_is s in
-    let size = so_size kind c.args.range c.args.most c.args.shift c.args.stride count c.loop-gaggle.gaggle c.loop-gaggle.before c.min-size.result lt size_is s in
+    let long = so_long kind c.args.range c.args.most c.args.shift c.args.stride count c.loop-gaggle.gaggle c.loop-gaggle.before c.min-size.result lt size_is
+    s in
+    let size = so_size kind c.args.range c.args.most c.args.shift c.args.stride count c.loop-gaggle.gaggle c.loop-gaggle.before c.min-size.result lt size_is
+    s in
     let count_is = c.div_ceil-count.ensures ∙ ap (λ n. div_ceil n c.args.stride) c.clear.ensures.size in
     rw (p.1, p.2) (takes_numbers kind c.args.range c.args.most c.args.shift c.args.stride count _ (s.given ++ c.as_slice-heights.result.now) count_is tt
     (within_both s.given c.as_slice-heights.result.now s.within (rw c.as_slice-heights.ensures c.in_err-result.ensures.within))
-    (rw c.as_slice-heights.ensures (so_fault kind c.args.range c.args.most c.args.shift c.args.stride count c.loop-gaggle.gaggle c.loop-gaggle.before c.min-size.result lt size_is s _ _ (c.in_err-result.ensures.read too_great count s.given bound size long s.last)))
+    (rw c.as_slice-heights.ensures (so_fault kind c.args.range c.args.most c.args.shift c.args.stride count c.loop-gaggle.gaggle c.loop-gaggle.before
+    c.min-size.result lt size_is s _ _ (c.in_err-result.ensures.read too_great count s.given bound size long s.last)))
     (c.set_numbers.ensures s.given c.args.cells.now long s.held))
 
 pub returns-in_default : goal.returns-in_default
@@ -47,13 +50,16 @@ returns-in_default g c = λ too_great bound.
     let lt : c.loop-gaggle.gaggle < (count + 15) / 16 = omega arith in
     let size_is : c.min-size.result ≡ min (count - 16 * c.loop-gaggle.gaggle) 16 = omega arith in
     let s = c.loop-gaggle.invariant.so_far too_great bound in
-    let long = so_long kind c.args.range c.args.most c.args.shift c.args.stride count c.loop-gaggle.gaggle c.loop-gaggle.before c.min-size.result lt size_is s in
-    let size = so_size kind c.args.range c.args.most c.args.shift c.args.stride count c.loop-gaggle.gaggle c.loop-gaggle.before c.min-size.result lt size_is s in
+    let long = so_long kind c.args.range c.args.most c.args.shift c.args.stride count c.loop-gaggle.gaggle c.loop-gaggle.before c.min-size.result lt size_is
+    s in
+    let size = so_size kind c.args.range c.args.most c.args.shift c.args.stride count c.loop-gaggle.gaggle c.loop-gaggle.before c.min-size.result lt size_is
+    s in
     let count_is = c.div_ceil-count.ensures ∙ ap (λ n. div_ceil n c.args.stride) c.clear.ensures.size in
     takes_numbers kind c.args.range c.args.most c.args.shift c.args.stride count _ (s.given ++ c.as_slice-heights.result.now) count_is
     (omega (arith, length-append s.given c.as_slice-heights.result.now, long))
     (within_both s.given c.as_slice-heights.result.now s.within (rw c.as_slice-heights.ensures c.in_ok-result.ensures.within))
-    (rw c.as_slice-heights.ensures (so_cut kind c.args.range c.args.most c.args.shift c.args.stride count c.loop-gaggle.gaggle c.loop-gaggle.before c.min-size.result lt size_is s _ (rw c.in_default.is at (c.in_ok-result.ensures.read too_great count s.given bound size long s.last))))
+    (rw c.as_slice-heights.ensures (so_cut kind c.args.range c.args.most c.args.shift c.args.stride count c.loop-gaggle.gaggle c.loop-gaggle.before
+    c.min-size.result lt size_is s _ (rw c.in_default.is at (c.in_ok-result.ensures.read too_great count s.given bound size long s.last))))
     (c.set_numbers.ensures s.given c.args.cells.now long s.held)
 
 pub loop-gaggle-preserved : goal.loop-gaggle-preserved
@@ -68,18 +74,24 @@ loop-gaggle-preserved g c =
     let more = λ (too_great : ℕ → Bool) (bound : IsBound c.args.most c.args.range.bits too_great).
     let kind = kind_of c.args.range too_great in
     let s = c.loop-gaggle.invariant.so_far too_great bound in
-    let long = so_long kind c.args.range c.args.most c.args.shift c.args.stride count c.loop-gaggle.gaggle c.loop-gaggle.before c.min-size.result lt size_is s in
-    let size = so_size kind c.args.range c.args.most c.args.shift c.args.stride count c.loop-gaggle.gaggle c.loop-gaggle.before c.min-size.result lt size_is s in
+    let long = so_long kind c.args.range c.args.most c.args.shift c.args.stride count c.loop-gaggle.gaggle c.loop-gaggle.before c.min-size.result lt size_is
+    s in
+    let size = so_size kind c.args.range c.args.most c.args.shift c.args.stride count c.loop-gaggle.gaggle c.loop-gaggle.before c.min-size.result lt size_is
+    s in
     let read = rw c.in-Whole.is at (c.in_ok-result.ensures.read too_great count s.given bound size long s.last) in
-    so_more kind c.args.range c.args.most c.args.shift c.args.stride count c.loop-gaggle.gaggle c.loop-gaggle.before c.min-size.result lt size_is s (s.given ++ heights) heights c.last_of-before.result _ refl
+    so_more kind c.args.range c.args.most c.args.shift c.args.stride count c.loop-gaggle.gaggle c.loop-gaggle.before c.min-size.result lt size_is s
+    (s.given ++ heights) heights c.last_of-before.result _ refl
     (omega (arith, ap length same, adds)) few c.last_of-before.ensures (c.set_numbers.ensures s.given c.args.cells.now long s.held) (rw same read) in
     let exact : IsBound c.args.most c.args.range.bits (λ h. nat_lt c.args.most h) = record { at = λ h lt. refl } in
     let s = c.loop-gaggle.invariant.so_far (λ h. nat_lt c.args.most h) exact in
     let kind = kind_of c.args.range (λ h. nat_lt c.args.most h) in
-    let long = so_long kind c.args.range c.args.most c.args.shift c.args.stride count c.loop-gaggle.gaggle c.loop-gaggle.before c.min-size.result lt size_is s in
-    let size = so_size kind c.args.range c.args.most c.args.shift c.args.stride count c.loop-gaggle.gaggle c.loop-gaggle.before c.min-size.result lt size_is s in
+    let long = so_long kind c.args.range c.args.most c.args.shift c.args.stride count c.loop-gaggle.gaggle c.loop-gaggle.before c.min-size.result lt size_is
+    s in
+    let size = so_size kind c.args.range c.args.most c.args.shift c.args.stride count c.loop-gaggle.gaggle c.loop-gaggle.before c.min-size.result lt size_is
+    s in
     record {
-      is_in = in_read c.loop-gaggle.invariant.is_in (rw c.in-Whole.is at (c.in_ok-result.ensures.read (λ h. nat_lt c.args.most h) count s.given exact size long s.last));
+      is_in = in_read c.loop-gaggle.invariant.is_in (rw c.in-Whole.is at (c.in_ok-result.ensures.read (λ h. nat_lt c.args.most h) count s.given exact size
+          long s.last));
       small = rw c.last_of-before.ensures (few.few _);
       so_far = more;
     }
@@ -91,4 +103,5 @@ returns g c = λ too_great bound.
     let s = c.loop-gaggle.invariant.so_far too_great bound in
     let end : c.loop-gaggle.gaggle ≡ (c.div_ceil-count.result + 15) / 16 = omega arith in
     takes_numbers kind c.args.range c.args.most c.args.shift c.args.stride c.div_ceil-count.result _ s.given count_is (omega (arith, s.long, end)) s.within
-    (so_all kind c.args.range c.args.most c.args.shift c.args.stride c.div_ceil-count.result c.loop-gaggle.gaggle c.loop-gaggle.before c.loop-gaggle.invariant.is_in end s) s.held
+    (so_all kind c.args.range c.args.most c.args.shift c.args.stride c.div_ceil-count.result c.loop-gaggle.gaggle c.loop-gaggle.before
+    c.loop-gaggle.invariant.is_in end s) s.held

@@ -32,10 +32,12 @@ returns-in_default-2-clause-read g c = λ too_great all bound size.
 
 pub take_differences-requires-clause-open : goal.take_differences-requires-clause-open
 take_differences-requires-clause-open g c =
-    in_read (in_read c.requires.open (rw c.in-Some.is at (c.in_ok-option.ensures.read []))) (rw c.in-Some-2.is at (c.in_ok-before.ensures.read (λ h. nat_lt c.args.most h) (record { at = λ h lt. refl })))
+    in_read (in_read c.requires.open (rw c.in-Some.is at (c.in_ok-option.ensures.read [])))
+    (rw c.in-Some-2.is at (c.in_ok-before.ensures.read (λ h. nat_lt c.args.most h) (record { at = λ h lt. refl })))
 
 pub returns-clause-read : goal.returns-clause-read
 returns-clause-read g c = λ too_great all bound size.
     let now = rw c.in-Some-2.is at c.in_ok-before.ensures.adds in
-    first_read (kind_of c.args.range too_great) all c.args.size c.in-Some.option (rw c.in-Some.is at (c.in_ok-option.ensures.read [])) (c.in-Some-2.before ∷ []) _ size
+    first_read (kind_of c.args.range too_great) all c.args.size c.in-Some.option (rw c.in-Some.is at (c.in_ok-option.ensures.read []))
+    (c.in-Some-2.before ∷ []) _ size
     (rw (c.in-Some-2.is, now) at (c.in_ok-before.ensures.read too_great bound)) (rw now at (c.take_differences.ensures.read too_great [] bound (rw now refl)))

@@ -13,8 +13,10 @@ returns-in_default-clause-read g c = λ given. option_ended given c.args.bits _ 
 
 pub returns-then-not-names_option-clause-read : goal.returns-then-not-names_option-clause-read
 returns-then-not-names_option-clause-read g c = λ given.
-    option_none given c.args.bits _ c.option_bits.ensures.is c.in-Some.number (sym c.names_option.ensures ∙ c.if-not-names_option.true) (rw c.in-Some.is at c.in_ok-number.ensures).ends
+    option_none given c.args.bits _ c.option_bits.ensures.is c.in-Some.number (sym c.names_option.ensures ∙ c.if-not-names_option.true)
+    (rw c.in-Some.is at c.in_ok-number.ensures).ends
 
 pub returns-clause-read : goal.returns-clause-read
 returns-clause-read g c = λ given.
-    option_got given c.args.bits _ c.option_bits.ensures.is c.in-Some.number c.requires.open (sym c.names_option.ensures ∙ c.if-not-names_option.false) (rw c.in-Some.is at c.in_ok-number.ensures).ends
+    option_got given c.args.bits _ c.option_bits.ensures.is c.in-Some.number c.requires.open (sym c.names_option.ensures ∙ c.if-not-names_option.false)
+    (rw c.in-Some.is at c.in_ok-number.ensures).ends

@@ -12,7 +12,8 @@ returns-in_err-option-clause-read g c = λ too_great all h prior bound size last
 
 pub returns-in_default-clause-read : goal.returns-in_default-clause-read
 returns-in_default-clause-read g c = λ too_great all h prior bound size last.
-    rw (c.requires.none, append-nil prior) (gaggle_cut (kind_of c.args.range too_great) all (suc h) prior (rw c.in_default.is at (c.in_ok-option.ensures.read prior)))
+    rw (c.requires.none, append-nil prior) (gaggle_cut (kind_of c.args.range too_great) all (suc h) prior
+    (rw c.in_default.is at (c.in_ok-option.ensures.read prior)))
 
 pub take_differences-requires-clause-open : goal.take_differences-requires-clause-open
 take_differences-requires-clause-open g c = in_read c.requires.open (rw c.in-Some.is at (c.in_ok-option.ensures.read c.args.numbers.now.heights))

@@ -18,14 +18,19 @@ pub returns-then-height-most-clause-read : goal.returns-then-height-most-clause-
 returns-then-height-most-clause-read g c = λ too_great bound.
     let p = rw c.in-Some.is at c.in_ok-number.ensures in
     let w : 1 * 2 ^ c.args.range.bits % 65536 ≡ 2 ^ c.args.range.bits = omega (arith, pow_mono c.requires.high) in
-    let few : (c.in-Some.number + c.negatives.result) % (1 * 2 ^ c.args.range.bits % 65536) < 2 ^ c.args.range.bits = rw w (mod-lt (c.in-Some.number + c.negatives.result) (pow_pos c.args.range.bits)) in
-    rw c.requires.none (reference_great (kind_of c.args.range too_great) c.in-Some.number ((c.in-Some.number + c.negatives.result) % (1 * 2 ^ c.args.range.bits % 65536)) (rw (w, c.negatives.ensures.is) refl) p.ends (bound_high bound few c.if-height-most.true))
+    let few : (c.in-Some.number + c.negatives.result) % (1 * 2 ^ c.args.range.bits % 65536) < 2 ^ c.args.range.bits =
+    rw w (mod-lt (c.in-Some.number + c.negatives.result) (pow_pos c.args.range.bits)) in
+    rw c.requires.none (reference_great (kind_of c.args.range too_great) c.in-Some.number
+    ((c.in-Some.number + c.negatives.result) % (1 * 2 ^ c.args.range.bits % 65536)) (rw (w, c.negatives.ensures.is) refl) p.ends
+    (bound_high bound few c.if-height-most.true))
 
 pub returns-clause-read : goal.returns-clause-read
 returns-clause-read g c = λ too_great bound.
     let p = rw c.in-Some.is at c.in_ok-number.ensures in
     let w : 1 * 2 ^ c.args.range.bits % 65536 ≡ 2 ^ c.args.range.bits = omega (arith, pow_mono c.requires.high) in
-    let few : (c.in-Some.number + c.negatives.result) % (1 * 2 ^ c.args.range.bits % 65536) < 2 ^ c.args.range.bits = rw w (mod-lt (c.in-Some.number + c.negatives.result) (pow_pos c.args.range.bits)) in
+    let few : (c.in-Some.number + c.negatives.result) % (1 * 2 ^ c.args.range.bits % 65536) < 2 ^ c.args.range.bits =
+    rw w (mod-lt (c.in-Some.number + c.negatives.result) (pow_pos c.args.range.bits)) in
     let height = (c.in-Some.number + c.negatives.result) % (1 * 2 ^ c.args.range.bits % 65536) in
-    reference_got (kind_of c.args.range too_great) c.in-Some.number height (rw (w, c.negatives.ensures.is) refl) p.ends _ c.requires.open (bound_low bound few (omega arith))
+    reference_got (kind_of c.args.range too_great) c.in-Some.number height (rw (w, c.negatives.ensures.is) refl) p.ends _ c.requires.open
+    (bound_low bound few (omega arith))
     (c.push.ensures ∙ ap (λ l. l ++ height ∷ []) c.requires.none)

@@ -11,7 +11,9 @@ returns-in_err-put_unary_parts g c =
     rw (p.1, p.2) (split_ended c.args.bits c.args.option c.args.values.now c.if-option-eq-UNCODED.false c.in_err-put_unary_parts.ensures)
 
 pub returns-then-option-eq0 : goal.returns-then-option-eq0
-returns-then-option-eq0 g c = rw (bits_whole c.args.bits c.args.option c.args.values.now c.if-option-eq-UNCODED.false c.if-option-eq0.true) c.in_ok-put_unary_parts.ensures
+returns-then-option-eq0 g c = rw (bits_whole c.args.bits c.args.option c.args.values.now c.if-option-eq-UNCODED.false c.if-option-eq0.true)
+    c.in_ok-put_unary_parts.ensures
 
 pub returns : goal.returns
-returns g c = split_then c.args.bits c.args.option c.args.values.now c.if-option-eq-UNCODED.false c.if-option-eq0.false c.in_ok-put_unary_parts.ensures.ends c.put_rests.ensures
+returns g c = split_then c.args.bits c.args.option c.args.values.now c.if-option-eq-UNCODED.false c.if-option-eq0.false c.in_ok-put_unary_parts.ensures.ends
+    c.put_rests.ensures

@@ -19,7 +19,8 @@ pub returns-in_err-put_bits : goal.returns-in_err-put_bits
 returns-in_err-put_bits g c =
     let p = err_from_is_err_and c.from_residual.result c.from_residual.ensures.1 in
     let e : (1 * 2 ^ c.args.k) % 65536 ≡ 2 ^ c.args.k = one_shl c.args.k 16 (omega (arith, c.requires.k)) in
-    rw (p.1, p.2) (each_ended (rest_bits c.args.k) c.args.values.now c.loop-value.value-index 0 (omega arith) c.loop-value.invariant.so_far (rw e at c.in_err-put_bits.ensures))
+    rw (p.1, p.2) (each_ended (rest_bits c.args.k) c.args.values.now c.loop-value.value-index 0 (omega arith) c.loop-value.invariant.so_far
+    (rw e at c.in_err-put_bits.ensures))
 
 pub returns : goal.returns
 returns g c = each_whole (rest_bits c.args.k) c.args.values.now c.loop-value.value-index (omega arith) c.loop-value.invariant.so_far

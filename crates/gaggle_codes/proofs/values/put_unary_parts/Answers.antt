@@ -17,7 +17,8 @@ loop-value-preserved g c =
 pub returns-in_err-put_unary : goal.returns-in_err-put_unary
 returns-in_err-put_unary g c =
     let p = err_from_is_err_and c.from_residual.result c.from_residual.ensures.1 in
-    rw (p.1, p.2) (each_ended (unary_bits c.args.k) c.args.values.now c.loop-value.value-index 0 (omega arith) c.loop-value.invariant.so_far c.in_err-put_unary.ensures)
+    rw (p.1, p.2) (each_ended (unary_bits c.args.k) c.args.values.now c.loop-value.value-index 0 (omega arith) c.loop-value.invariant.so_far
+    c.in_err-put_unary.ensures)
 
 pub returns : goal.returns
 returns g c = each_whole (unary_bits c.args.k) c.args.values.now c.loop-value.value-index (omega arith) c.loop-value.invariant.so_far

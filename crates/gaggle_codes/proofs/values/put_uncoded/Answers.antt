@@ -15,7 +15,8 @@ loop-value-preserved g c = grind (arith, common_steps, open_later, each_more)
 pub returns-in_err-put_bits : goal.returns-in_err-put_bits
 returns-in_err-put_bits g c =
     let p = err_from_is_err_and c.from_residual.result c.from_residual.ensures.1 in
-    rw (p.1, p.2) (each_ended (bits_of c.args.bits) c.args.values.now c.loop-value.value-index 0 (omega arith) c.loop-value.invariant.so_far c.in_err-put_bits.ensures)
+    rw (p.1, p.2) (each_ended (bits_of c.args.bits) c.args.values.now c.loop-value.value-index 0 (omega arith) c.loop-value.invariant.so_far
+    c.in_err-put_bits.ensures)
 
 pub returns : goal.returns
 returns g c = each_whole (bits_of c.args.bits) c.args.values.now c.loop-value.value-index (omega arith) c.loop-value.invariant.so_far

@@ -4,7 +4,8 @@ use Rattle.image_info.proofs.Endings.{all_informed, write_failed, info_failed}
 use Rattle.image_info.proofs.engine.list_images.Goals as goal
 
 pub packets-init : goal.packets-init
-packets-init g c = none_tabled c.args.wish.now (g.X.Port.outside c.args.port.now) c.in-Ok.reader c.in-Ok-new.table.entries.items c.in-Ok.ensures c.in-Ok-new.ensures
+packets-init g c = none_tabled c.args.wish.now (g.X.Port.outside c.args.port.now) c.in-Ok.reader c.in-Ok-new.table.entries.items c.in-Ok.ensures
+    c.in-Ok-new.ensures
 
 pub take_next-requires : goal.take_next-requires
 take_next-requires g c = can_take (omega arith) c.packets.invariant
@@ -31,4 +32,5 @@ returns-in-Ok-Over g c =
 
 pub returns-in-Err : goal.returns-in-Err
 returns-in-Err g c =
-    info_failed (g.X.Port.outside c.take_next.new.port) c.take_next.new.reader c.take_next.new.table.entries.items c.in-Err.fault c.packets.invariant c.in-Err.ensures.next
+    info_failed (g.X.Port.outside c.take_next.new.port) c.take_next.new.reader c.take_next.new.table.entries.items c.in-Err.fault c.packets.invariant
+    c.in-Err.ensures.next

@@ -10,5 +10,6 @@ loop-r-preserved c =
     let part : (64 * r + 64) - 64 * r ≡ 64 = omega arith in
     record {
       most = c.push.ensures.most ∙ c.loop-r.invariant.most;
-      numbers = c.push.ensures.numbers ∙ ap (λ l. l ++ take ((64 * r + 64) - 64 * r) (drop (64 * r) numbers)) c.loop-r.invariant.numbers ∙ ap (λ n. take (64 * r) numbers ++ take n (drop (64 * r) numbers)) part ∙ sym (take-add (64 * r) 64 numbers) ∙ ap (λ n. take n numbers) next;
+      numbers = c.push.ensures.numbers ∙ ap (λ l. l ++ take ((64 * r + 64) - 64 * r) (drop (64 * r) numbers)) c.loop-r.invariant.numbers
+          ∙ ap (λ n. take (64 * r) numbers ++ take n (drop (64 * r) numbers)) part ∙ sym (take-add (64 * r) 64 numbers) ∙ ap (λ n. take n numbers) next;
     }

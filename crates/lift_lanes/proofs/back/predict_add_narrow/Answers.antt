@@ -13,7 +13,8 @@ use Rattle.lift_lanes.proofs.back.predict_add_narrow.Goals as goal
 
 pub odd_lanes_narrow-lanes-requires-clause-bounded : goal.odd_lanes_narrow-lanes-requires-clause-bounded
 odd_lanes_narrow-lanes-requires-clause-bounded c =
-    AllWithin-left w32 8 (2 ^ 30) (8 * c.lanes.k) (length c.args.odd.now) c.lanes.odd c.args.odd.now (omega arith) (omega arith) (omega arith) c.lanes.invariant.left c.requires.bounded
+    AllWithin-left w32 8 (2 ^ 30) (8 * c.lanes.k) (length c.args.odd.now) c.lanes.odd c.args.odd.now (omega arith) (omega arith) (omega arith)
+    c.lanes.invariant.left c.requires.bounded
 
 pub odd_lanes_narrow-lanes-requires-clause-bounded_a : goal.odd_lanes_narrow-lanes-requires-clause-bounded_a
 odd_lanes_narrow-lanes-requires-clause-bounded_a c =
@@ -42,14 +43,18 @@ lanes-preserved c =
     let same = λ (r : ℕ) (h : r < 8).
     let e = c.lanes.invariant.left (i + r) (omega arith) in
     let within = subst (IsWithin (2 ^ 30)) (sym e) (c.requires.bounded.at (i + r) (omega arith)) in
-    plus_predicted-same r (i + r) _ _ _ _ _ (signal c.args.odd.now) (signal c.args.a.now) (signal c.args.b.now) (signal c.args.c.now) (signal c.args.d.now) (load w32 8 (2 ^ 30) i r c.lanes.odd h (omega arith) (omega arith) within ∙ e)
+    plus_predicted-same r (i + r) _ _ _ _ _ (signal c.args.odd.now) (signal c.args.a.now) (signal c.args.b.now) (signal c.args.c.now) (signal c.args.d.now)
+    (load w32 8 (2 ^ 30) i r c.lanes.odd h (omega arith) (omega arith) within ∙ e)
     (load w32 8 (7 * 2 ^ 26) i r c.args.a.now h (omega arith) (omega arith) (c.requires.bounded_a.at (i + r) (omega arith)))
     (load w32 8 (7 * 2 ^ 26) i r c.args.b.now h (omega arith) (omega arith) (c.requires.bounded_b.at (i + r) (omega arith)))
     (load w32 8 (7 * 2 ^ 26) i r c.args.c.now h (omega arith) (omega arith) (c.requires.bounded_c.at (i + r) (omega arith)))
     (load w32 8 (7 * 2 ^ 26) i r c.args.d.now h (omega arith) (omega arith) (c.requires.bounded_d.at (i + r) (omega arith))) in
     let small = λ (r : ℕ) (h : r < 8).
-    plus_predicted-narrow (i + r) (signal c.args.odd.now) (signal c.args.a.now) (signal c.args.b.now) (signal c.args.c.now) (signal c.args.d.now) (c.requires.bounded.at (i + r) (omega arith)) (c.requires.bounded_a.at (i + r) (omega arith)) (c.requires.bounded_b.at (i + r) (omega arith)) (c.requires.bounded_c.at (i + r) (omega arith)) (c.requires.bounded_d.at (i + r) (omega arith)) in
-    let stored = store w32 8 (2 ^ 31 - 1) i n c.lanes.odd c.odd_lanes_narrow-lanes.result f c.lanes.auto.odd room many (omega arith) small (λ r h. c.odd_lanes_narrow-lanes.ensures.value.at r h ∙ same r h) c.lanes.invariant.done in
+    plus_predicted-narrow (i + r) (signal c.args.odd.now) (signal c.args.a.now) (signal c.args.b.now) (signal c.args.c.now) (signal c.args.d.now)
+    (c.requires.bounded.at (i + r) (omega arith)) (c.requires.bounded_a.at (i + r) (omega arith)) (c.requires.bounded_b.at (i + r) (omega arith))
+    (c.requires.bounded_c.at (i + r) (omega arith)) (c.requires.bounded_d.at (i + r) (omega arith)) in
+    let stored = store w32 8 (2 ^ 31 - 1) i n c.lanes.odd c.odd_lanes_narrow-lanes.result f c.lanes.auto.odd room many (omega arith) small
+    (λ r h. c.odd_lanes_narrow-lanes.ensures.value.at r h ∙ same r h) c.lanes.invariant.done in
     record {
       done = record { at = λ p h. stored.at p (omega arith) };
       left = λ p h. get_or-put_chunk_above i c.lanes.odd _ p (pos 0) (omega arith) ∙ c.lanes.invariant.left p (omega arith);
@@ -60,8 +65,11 @@ odd_sample_narrow-requires c =
     let j = c.rest.j in
     let h : j < length c.args.odd.now = omega arith in
     let e = c.rest.invariant.left j (omega arith) in
-    let small = rw plus_predicted-is at (plus_predicted-narrow j (signal c.args.odd.now) (signal c.args.a.now) (signal c.args.b.now) (signal c.args.c.now) (signal c.args.d.now) (c.requires.bounded.at j h) (c.requires.bounded_a.at j h) (c.requires.bounded_b.at j h) (c.requires.bounded_c.at j h) (c.requires.bounded_d.at j h)) in
-    let ko : to_z w32 (of_z w32 (signal c.rest.odd j)) ≡ signal c.args.odd.now j = ap (λ (v : ℤ). to_z w32 (of_z w32 v)) e ∙ kept w32 (2 ^ 30) _ (omega arith) (c.requires.bounded.at j h) in
+    let small = rw plus_predicted-is at (plus_predicted-narrow j (signal c.args.odd.now) (signal c.args.a.now) (signal c.args.b.now) (signal c.args.c.now)
+    (signal c.args.d.now) (c.requires.bounded.at j h) (c.requires.bounded_a.at j h) (c.requires.bounded_b.at j h) (c.requires.bounded_c.at j h)
+    (c.requires.bounded_d.at j h)) in
+    let ko : to_z w32 (of_z w32 (signal c.rest.odd j)) ≡ signal c.args.odd.now j =
+    ap (λ (v : ℤ). to_z w32 (of_z w32 v)) e ∙ kept w32 (2 ^ 30) _ (omega arith) (c.requires.bounded.at j h) in
     let ka = kept w32 (7 * 2 ^ 26) (signal c.args.a.now j) (omega arith) (c.requires.bounded_a.at j h) in
     let kb = kept w32 (7 * 2 ^ 26) (signal c.args.b.now j) (omega arith) (c.requires.bounded_b.at j h) in
     let kc = kept w32 (7 * 2 ^ 26) (signal c.args.c.now j) (omega arith) (c.requires.bounded_c.at j h) in

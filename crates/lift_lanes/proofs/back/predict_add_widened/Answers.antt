@@ -12,7 +12,8 @@ odd_sample_narrow-requires c =
     let h : j < length c.args.odd.now = omega arith in
     let e = c.loop-j.invariant.left j (omega arith) in
     let small = rw plus_predicted-is at (c.requires.fits.at j h) in
-    let ko : to_z w32 (of_z w32 (signal c.loop-j.odd j)) ≡ signal c.args.odd.now j = ap (λ (v : ℤ). to_z w32 (of_z w32 v)) e ∙ kept w32 (2 ^ 31 - 1) _ (omega arith) (c.requires.bounded.at j h) in
+    let ko : to_z w32 (of_z w32 (signal c.loop-j.odd j)) ≡ signal c.args.odd.now j =
+    ap (λ (v : ℤ). to_z w32 (of_z w32 v)) e ∙ kept w32 (2 ^ 31 - 1) _ (omega arith) (c.requires.bounded.at j h) in
     let ka = kept w32 (2 ^ 31 - 1) (signal c.args.a.now j) (omega arith) (c.requires.bounded_a.at j h) in
     let kb = kept w32 (2 ^ 31 - 1) (signal c.args.b.now j) (omega arith) (c.requires.bounded_b.at j h) in
     let kc = kept w32 (2 ^ 31 - 1) (signal c.args.c.now j) (omega arith) (c.requires.bounded_c.at j h) in

@@ -18,9 +18,11 @@ returns c =
     let b = Lane-of w32 8 k h c.args.b c.requires.many.2 (omega (arith, ints)) in
     let e = Lane-of w32 8 k h c.args.c c.requires.many.3 (omega (arith, ints)) in
     let d = Lane-of w32 8 k h c.args.d c.requires.many.4 (omega (arith, ints)) in
-    let near = mul_32 8 k h _ _ _ _ (Lane-splat w32 8 k h (pos 9) (omega (arith, ints))) (add_32 8 k h _ _ _ _ b e (omega (arith, ints))) (omega (arith, ints)) in
+    let near = mul_32 8 k h _ _ _ _ (Lane-splat w32 8 k h (pos 9) (omega (arith, ints))) (add_32 8 k h _ _ _ _ b e (omega (arith, ints)))
+    (omega (arith, ints)) in
     let far = add_32 8 k h _ _ _ _ a d (omega (arith, ints)) in
-    let sum = add_32 8 k h _ _ _ _ (sub_32 8 k h _ _ _ _ near far (omega (arith, ints))) (Lane-splat w32 8 k h (pos 8) (omega (arith, ints))) (omega (arith, ints)) in
+    let sum = add_32 8 k h _ _ _ _ (sub_32 8 k h _ _ _ _ near far (omega (arith, ints))) (Lane-splat w32 8 k h (pos 8) (omega (arith, ints)))
+    (omega (arith, ints)) in
     let small = rw predicted-is at (predicted-within (2 ^ 25) _ _ _ _ (omega arith) ra rb rc rd) in
     sub_32 8 k h _ _ _ _ o (Lane-shr w32 8 k h 4 16 _ _ _ refl refl sum (Lane-splat w32 8 k h (pos 4) (omega (arith, ints)))) (omega (arith, ints)) in
     record {

@@ -20,7 +20,8 @@ returns c =
     let d = Lane-of w64 4 k h c.args.d c.requires.many.4 (omega (arith, ints)) in
     let near = mul_64 k h _ _ _ _ (Lane-splat w64 4 k h (pos 9) (omega (arith, ints))) (add_64 k h _ _ _ _ b e (omega (arith, ints))) (omega (arith, ints)) in
     let far = add_64 k h _ _ _ _ a d (omega (arith, ints)) in
-    let sum = add_64 k h _ _ _ _ (sub_64 k h _ _ _ _ near far (omega (arith, ints))) (Lane-splat w64 4 k h (pos 8) (omega (arith, ints))) (omega (arith, ints)) in
+    let sum = add_64 k h _ _ _ _ (sub_64 k h _ _ _ _ near far (omega (arith, ints))) (Lane-splat w64 4 k h (pos 8) (omega (arith, ints)))
+    (omega (arith, ints)) in
     let small = rw predicted-is at (predicted-within (2 ^ 39) _ _ _ _ (omega arith) ra rb rc rd) in
     add_64 k h _ _ _ _ o (Lane-shr w64 4 k h 4 16 _ _ _ refl refl sum (Lane-splat w64 4 k h (pos 4) (omega (arith, ints)))) (omega (arith, ints)) in
     record {

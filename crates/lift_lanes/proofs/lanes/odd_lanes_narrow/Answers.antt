@@ -22,7 +22,8 @@ returns c =
     let d = Lane-of w32 8 k h c.args.d c.requires.many.4 (omega (arith, ints)) in
     let near = add_32 8 k h _ _ _ _ b e (omega (arith, ints)) in
     let far = add_32 8 k h _ _ _ _ a d (omega (arith, ints)) in
-    let sum = add_32 8 k h _ _ _ _ (sub_32 8 k h _ _ _ _ near far (omega (arith, ints))) (Lane-splat w32 8 k h (pos 8) (omega (arith, ints))) (omega (arith, ints)) in
+    let sum = add_32 8 k h _ _ _ _ (sub_32 8 k h _ _ _ _ near far (omega (arith, ints))) (Lane-splat w32 8 k h (pos 8) (omega (arith, ints)))
+    (omega (arith, ints)) in
     let eighth = Lane-shr w32 8 k h 3 8 _ _ _ refl refl sum (Lane-splat w32 8 k h (pos 3) (omega (arith, ints))) in
     let few = eighth-within (7 * 2 ^ 26) _ _ _ _ (omega arith) ra rb rc rd in
     let both = add_32 8 k h _ _ _ _ near eighth (omega (arith, ints)) in
@@ -31,5 +32,8 @@ returns c =
     add_32 8 k h _ _ _ _ o (Lane-shr w32 8 k h 1 2 _ _ _ refl refl both (Lane-splat w32 8 k h (pos 1) (omega (arith, ints)))) (rw same (omega (arith, ints))) in
     record {
       long = Lane-long w32 8 0 (omega arith) _ _ (lane 0 (omega arith));
-      value = record { at = λ k h. rw plus_predicted-is (Lane-value w32 8 k h _ _ (lane k h) ∙ ap (λ (z : ℤ). signal c.args.high k +ℤ z) (in_two_steps (signal c.args.a k) (signal c.args.b k) (signal c.args.c k) (signal c.args.d k))) };
+      value = record {
+        at = λ k h. rw plus_predicted-is (Lane-value w32 8 k h _ _ (lane k h) ∙ ap (λ (z : ℤ). signal c.args.high k +ℤ z)
+            (in_two_steps (signal c.args.a k) (signal c.args.b k) (signal c.args.c k) (signal c.args.d k)));
+      };
     }

@@ -12,7 +12,8 @@ use Rattle.lift_lanes.proofs.narrow.predict_sub.Goals as goal
 
 pub high_lanes-lanes-requires-clause-bounded : goal.high_lanes-lanes-requires-clause-bounded
 high_lanes-lanes-requires-clause-bounded c =
-    AllWithin-left w32 8 (2 ^ 26) (8 * c.lanes.k) (length c.args.odd.now) c.lanes.odd c.args.odd.now (omega arith) (omega arith) (omega arith) c.lanes.invariant.left c.requires.bounded
+    AllWithin-left w32 8 (2 ^ 26) (8 * c.lanes.k) (length c.args.odd.now) c.lanes.odd c.args.odd.now (omega arith) (omega arith) (omega arith)
+    c.lanes.invariant.left c.requires.bounded
 
 pub high_lanes-lanes-requires-clause-bounded_a : goal.high_lanes-lanes-requires-clause-bounded_a
 high_lanes-lanes-requires-clause-bounded_a c =
@@ -41,14 +42,18 @@ lanes-preserved c =
     let same = λ (r : ℕ) (h : r < 8).
     let e = c.lanes.invariant.left (i + r) (omega arith) in
     let within = subst (IsWithin (2 ^ 26)) (sym e) (c.requires.bounded.at (i + r) (omega arith)) in
-    less_predicted-same r (i + r) _ _ _ _ _ (signal c.args.odd.now) (signal c.args.a.now) (signal c.args.b.now) (signal c.args.c.now) (signal c.args.d.now) (load w32 8 (2 ^ 26) i r c.lanes.odd h (omega arith) (omega arith) within ∙ e)
+    less_predicted-same r (i + r) _ _ _ _ _ (signal c.args.odd.now) (signal c.args.a.now) (signal c.args.b.now) (signal c.args.c.now) (signal c.args.d.now)
+    (load w32 8 (2 ^ 26) i r c.lanes.odd h (omega arith) (omega arith) within ∙ e)
     (load w32 8 (2 ^ 26) i r c.args.a.now h (omega arith) (omega arith) (c.requires.bounded_a.at (i + r) (omega arith)))
     (load w32 8 (2 ^ 26) i r c.args.b.now h (omega arith) (omega arith) (c.requires.bounded_b.at (i + r) (omega arith)))
     (load w32 8 (2 ^ 26) i r c.args.c.now h (omega arith) (omega arith) (c.requires.bounded_c.at (i + r) (omega arith)))
     (load w32 8 (2 ^ 26) i r c.args.d.now h (omega arith) (omega arith) (c.requires.bounded_d.at (i + r) (omega arith))) in
     let small = λ (r : ℕ) (h : r < 8).
-    less_predicted-within (2 ^ 25) (i + r) (signal c.args.odd.now) (signal c.args.a.now) (signal c.args.b.now) (signal c.args.c.now) (signal c.args.d.now) (omega arith) (c.requires.bounded.at (i + r) (omega arith)) (c.requires.bounded_a.at (i + r) (omega arith)) (c.requires.bounded_b.at (i + r) (omega arith)) (c.requires.bounded_c.at (i + r) (omega arith)) (c.requires.bounded_d.at (i + r) (omega arith)) in
-    let stored = store w32 8 (5 * 2 ^ 25) i n c.lanes.odd c.high_lanes-lanes.result f c.lanes.auto.odd room many (omega arith) small (λ r h. c.high_lanes-lanes.ensures.value.at r h ∙ same r h) c.lanes.invariant.done in
+    less_predicted-within (2 ^ 25) (i + r) (signal c.args.odd.now) (signal c.args.a.now) (signal c.args.b.now) (signal c.args.c.now) (signal c.args.d.now)
+    (omega arith) (c.requires.bounded.at (i + r) (omega arith)) (c.requires.bounded_a.at (i + r) (omega arith))
+    (c.requires.bounded_b.at (i + r) (omega arith)) (c.requires.bounded_c.at (i + r) (omega arith)) (c.requires.bounded_d.at (i + r) (omega arith)) in
+    let stored = store w32 8 (5 * 2 ^ 25) i n c.lanes.odd c.high_lanes-lanes.result f c.lanes.auto.odd room many (omega arith) small
+    (λ r h. c.high_lanes-lanes.ensures.value.at r h ∙ same r h) c.lanes.invariant.done in
     record {
       done = record { at = λ p h. stored.at p (omega arith) };
       left = λ p h. get_or-put_chunk_above i c.lanes.odd _ p (pos 0) (omega arith) ∙ c.lanes.invariant.left p (omega arith);

@@ -12,7 +12,8 @@ use Rattle.lift_lanes.proofs.narrow.update_sub.Goals as goal
 
 pub low_lanes-lanes-requires-clause-bounded : goal.low_lanes-lanes-requires-clause-bounded
 low_lanes-lanes-requires-clause-bounded c =
-    AllWithin-left w32 8 (2 ^ 26) (8 * c.lanes.k) (length c.args.even.now) c.lanes.even c.args.even.now (omega arith) (omega arith) (omega arith) c.lanes.invariant.left c.requires.bounded
+    AllWithin-left w32 8 (2 ^ 26) (8 * c.lanes.k) (length c.args.even.now) c.lanes.even c.args.even.now (omega arith) (omega arith) (omega arith)
+    c.lanes.invariant.left c.requires.bounded
 
 pub low_lanes-lanes-requires-clause-bounded_before : goal.low_lanes-lanes-requires-clause-bounded_before
 low_lanes-lanes-requires-clause-bounded_before c =
@@ -33,12 +34,16 @@ lanes-preserved c =
     let same = λ (r : ℕ) (h : r < 8).
     let e = c.lanes.invariant.left (i + r) (omega arith) in
     let within = subst (IsWithin (2 ^ 26)) (sym e) (c.requires.bounded.at (i + r) (omega arith)) in
-    less_correction-same r (i + r) _ _ _ (signal c.args.even.now) (signal c.args.before.now) (signal c.args.after.now) (load w32 8 (2 ^ 26) i r c.lanes.even h (omega arith) (omega arith) within ∙ e)
+    less_correction-same r (i + r) _ _ _ (signal c.args.even.now) (signal c.args.before.now) (signal c.args.after.now)
+    (load w32 8 (2 ^ 26) i r c.lanes.even h (omega arith) (omega arith) within ∙ e)
     (load w32 8 (2 ^ 26) i r c.args.before.now h (omega arith) (omega arith) (c.requires.bounded_before.at (i + r) (omega arith)))
     (load w32 8 (2 ^ 26) i r c.args.after.now h (omega arith) (omega arith) (c.requires.bounded_after.at (i + r) (omega arith))) in
     let small = λ (r : ℕ) (h : r < 8).
-    less_correction-within (2 ^ 26) (i + r) (signal c.args.even.now) (signal c.args.before.now) (signal c.args.after.now) (omega arith) (c.requires.bounded.at (i + r) (omega arith)) (c.requires.bounded_before.at (i + r) (omega arith)) (c.requires.bounded_after.at (i + r) (omega arith)) in
-    let stored = store w32 8 (2 * 2 ^ 26) i n c.lanes.even c.low_lanes-lanes.result f c.lanes.auto.even room many (omega arith) small (λ r h. c.low_lanes-lanes.ensures.value.at r h ∙ same r h) c.lanes.invariant.done in
+    less_correction-within (2 ^ 26) (i + r) (signal c.args.even.now) (signal c.args.before.now) (signal c.args.after.now) (omega arith)
+    (c.requires.bounded.at (i + r) (omega arith)) (c.requires.bounded_before.at (i + r) (omega arith))
+    (c.requires.bounded_after.at (i + r) (omega arith)) in
+    let stored = store w32 8 (2 * 2 ^ 26) i n c.lanes.even c.low_lanes-lanes.result f c.lanes.auto.even room many (omega arith) small
+    (λ r h. c.low_lanes-lanes.ensures.value.at r h ∙ same r h) c.lanes.invariant.done in
     record {
       done = record { at = λ p h. stored.at p (omega arith) };
       left = λ p h. get_or-put_chunk_above i c.lanes.even _ p (pos 0) (omega arith) ∙ c.lanes.invariant.left p (omega arith);

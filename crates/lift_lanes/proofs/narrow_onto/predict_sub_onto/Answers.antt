@@ -37,14 +37,18 @@ lanes-preserved c =
     let long = length-passed w32 c.high_lanes-lanes.result in
     let room : i + 8 ≤ n = omega arith in
     let same = λ (r : ℕ) (h : r < 8).
-    less_predicted-same r (i + r) _ _ _ _ _ (signal c.args.odd.now) (signal c.args.a.now) (signal c.args.b.now) (signal c.args.c.now) (signal c.args.d.now) (load w32 8 (2 ^ 26) i r c.args.odd.now h (omega arith) (omega arith) (c.requires.bounded.at (i + r) (omega arith)))
+    less_predicted-same r (i + r) _ _ _ _ _ (signal c.args.odd.now) (signal c.args.a.now) (signal c.args.b.now) (signal c.args.c.now) (signal c.args.d.now)
+    (load w32 8 (2 ^ 26) i r c.args.odd.now h (omega arith) (omega arith) (c.requires.bounded.at (i + r) (omega arith)))
     (load w32 8 (2 ^ 26) i r c.args.a.now h (omega arith) (omega arith) (c.requires.bounded_a.at (i + r) (omega arith)))
     (load w32 8 (2 ^ 26) i r c.args.b.now h (omega arith) (omega arith) (c.requires.bounded_b.at (i + r) (omega arith)))
     (load w32 8 (2 ^ 26) i r c.args.c.now h (omega arith) (omega arith) (c.requires.bounded_c.at (i + r) (omega arith)))
     (load w32 8 (2 ^ 26) i r c.args.d.now h (omega arith) (omega arith) (c.requires.bounded_d.at (i + r) (omega arith))) in
     let small = λ (r : ℕ) (h : r < 8).
-    less_predicted-within (2 ^ 25) (i + r) (signal c.args.odd.now) (signal c.args.a.now) (signal c.args.b.now) (signal c.args.c.now) (signal c.args.d.now) (omega arith) (c.requires.bounded.at (i + r) (omega arith)) (c.requires.bounded_a.at (i + r) (omega arith)) (c.requires.bounded_b.at (i + r) (omega arith)) (c.requires.bounded_c.at (i + r) (omega arith)) (c.requires.bounded_d.at (i + r) (omega arith)) in
-    let stored = store w32 8 (5 * 2 ^ 25) i n c.lanes.high c.high_lanes-lanes.result f c.lanes.auto.high room many (omega arith) small (λ r h. c.high_lanes-lanes.ensures.value.at r h ∙ same r h) c.lanes.invariant in
+    less_predicted-within (2 ^ 25) (i + r) (signal c.args.odd.now) (signal c.args.a.now) (signal c.args.b.now) (signal c.args.c.now) (signal c.args.d.now)
+    (omega arith) (c.requires.bounded.at (i + r) (omega arith)) (c.requires.bounded_a.at (i + r) (omega arith))
+    (c.requires.bounded_b.at (i + r) (omega arith)) (c.requires.bounded_c.at (i + r) (omega arith)) (c.requires.bounded_d.at (i + r) (omega arith)) in
+    let stored = store w32 8 (5 * 2 ^ 25) i n c.lanes.high c.high_lanes-lanes.result f c.lanes.auto.high room many (omega arith) small
+    (λ r h. c.high_lanes-lanes.ensures.value.at r h ∙ same r h) c.lanes.invariant in
     record { at = λ p h. stored.at p (omega arith) }
 
 pub rest-preserved : goal.rest-preserved

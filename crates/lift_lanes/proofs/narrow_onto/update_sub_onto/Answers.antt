@@ -29,12 +29,16 @@ lanes-preserved c =
     let long = length-passed w32 c.low_lanes-lanes.result in
     let room : i + 8 ≤ n = omega arith in
     let same = λ (r : ℕ) (h : r < 8).
-    less_correction-same r (i + r) _ _ _ (signal c.args.even.now) (signal c.args.before.now) (signal c.args.after.now) (load w32 8 (2 ^ 26) i r c.args.even.now h (omega arith) (omega arith) (c.requires.bounded.at (i + r) (omega arith)))
+    less_correction-same r (i + r) _ _ _ (signal c.args.even.now) (signal c.args.before.now) (signal c.args.after.now)
+    (load w32 8 (2 ^ 26) i r c.args.even.now h (omega arith) (omega arith) (c.requires.bounded.at (i + r) (omega arith)))
     (load w32 8 (2 ^ 26) i r c.args.before.now h (omega arith) (omega arith) (c.requires.bounded_before.at (i + r) (omega arith)))
     (load w32 8 (2 ^ 26) i r c.args.after.now h (omega arith) (omega arith) (c.requires.bounded_after.at (i + r) (omega arith))) in
     let small = λ (r : ℕ) (h : r < 8).
-    less_correction-within (2 ^ 26) (i + r) (signal c.args.even.now) (signal c.args.before.now) (signal c.args.after.now) (omega arith) (c.requires.bounded.at (i + r) (omega arith)) (c.requires.bounded_before.at (i + r) (omega arith)) (c.requires.bounded_after.at (i + r) (omega arith)) in
-    let stored = store w32 8 (2 * 2 ^ 26) i n c.lanes.low c.low_lanes-lanes.result f c.lanes.auto.low room many (omega arith) small (λ r h. c.low_lanes-lanes.ensures.value.at r h ∙ same r h) c.lanes.invariant in
+    less_correction-within (2 ^ 26) (i + r) (signal c.args.even.now) (signal c.args.before.now) (signal c.args.after.now) (omega arith)
+    (c.requires.bounded.at (i + r) (omega arith)) (c.requires.bounded_before.at (i + r) (omega arith))
+    (c.requires.bounded_after.at (i + r) (omega arith)) in
+    let stored = store w32 8 (2 * 2 ^ 26) i n c.lanes.low c.low_lanes-lanes.result f c.lanes.auto.low room many (omega arith) small
+    (λ r h. c.low_lanes-lanes.ensures.value.at r h ∙ same r h) c.lanes.invariant in
     record { at = λ p h. stored.at p (omega arith) }
 
 pub rest-preserved : goal.rest-preserved

@@ -9,5 +9,6 @@ returns c =
     let d = c.ranges.c in
     let e = c.ranges.d in
     let value = simp to_z-of_z at c.predict.ensures.value in
-    let computed : to_z w32 (of_z w32 (to_z w32 (of_z w32 c.args.odd) -ℤ to_z w32 (of_z w32 c.predict.result))) ≡ (c.args.odd -ℤ c.predict.result) = omega (arith, ints) in
+    let computed : to_z w32 (of_z w32 (to_z w32 (of_z w32 c.args.odd) -ℤ to_z w32 (of_z w32 c.predict.result))) ≡ (c.args.odd -ℤ c.predict.result) =
+    omega (arith, ints) in
     cc

@@ -12,7 +12,8 @@ use Rattle.lift_lanes.proofs.wide.predict_add.Goals as goal
 
 pub odd_lanes-lanes-requires-clause-bounded : goal.odd_lanes-lanes-requires-clause-bounded
 odd_lanes-lanes-requires-clause-bounded c =
-    AllWithin-left w64 4 (2 ^ 40) (4 * c.lanes.k) (length c.args.odd.now) c.lanes.odd c.args.odd.now (omega arith) (omega arith) (omega arith) c.lanes.invariant.left c.requires.bounded
+    AllWithin-left w64 4 (2 ^ 40) (4 * c.lanes.k) (length c.args.odd.now) c.lanes.odd c.args.odd.now (omega arith) (omega arith) (omega arith)
+    c.lanes.invariant.left c.requires.bounded
 
 pub odd_lanes-lanes-requires-clause-bounded_a : goal.odd_lanes-lanes-requires-clause-bounded_a
 odd_lanes-lanes-requires-clause-bounded_a c =
@@ -41,14 +42,18 @@ lanes-preserved c =
     let same = λ (r : ℕ) (h : r < 4).
     let e = c.lanes.invariant.left (i + r) (omega arith) in
     let within = subst (IsWithin (2 ^ 40)) (sym e) (c.requires.bounded.at (i + r) (omega arith)) in
-    plus_predicted-same r (i + r) _ _ _ _ _ (signal c.args.odd.now) (signal c.args.a.now) (signal c.args.b.now) (signal c.args.c.now) (signal c.args.d.now) (load w64 4 (2 ^ 40) i r c.lanes.odd h (omega arith) (omega arith) within ∙ e)
+    plus_predicted-same r (i + r) _ _ _ _ _ (signal c.args.odd.now) (signal c.args.a.now) (signal c.args.b.now) (signal c.args.c.now) (signal c.args.d.now)
+    (load w64 4 (2 ^ 40) i r c.lanes.odd h (omega arith) (omega arith) within ∙ e)
     (load w64 4 (2 ^ 40) i r c.args.a.now h (omega arith) (omega arith) (c.requires.bounded_a.at (i + r) (omega arith)))
     (load w64 4 (2 ^ 40) i r c.args.b.now h (omega arith) (omega arith) (c.requires.bounded_b.at (i + r) (omega arith)))
     (load w64 4 (2 ^ 40) i r c.args.c.now h (omega arith) (omega arith) (c.requires.bounded_c.at (i + r) (omega arith)))
     (load w64 4 (2 ^ 40) i r c.args.d.now h (omega arith) (omega arith) (c.requires.bounded_d.at (i + r) (omega arith))) in
     let small = λ (r : ℕ) (h : r < 4).
-    plus_predicted-within (2 ^ 39) (i + r) (signal c.args.odd.now) (signal c.args.a.now) (signal c.args.b.now) (signal c.args.c.now) (signal c.args.d.now) (omega arith) (c.requires.bounded.at (i + r) (omega arith)) (c.requires.bounded_a.at (i + r) (omega arith)) (c.requires.bounded_b.at (i + r) (omega arith)) (c.requires.bounded_c.at (i + r) (omega arith)) (c.requires.bounded_d.at (i + r) (omega arith)) in
-    let stored = store w64 4 (5 * 2 ^ 39) i n c.lanes.odd c.odd_lanes-lanes.result f c.lanes.auto.odd room many (omega arith) small (λ r h. c.odd_lanes-lanes.ensures.value.at r h ∙ same r h) c.lanes.invariant.done in
+    plus_predicted-within (2 ^ 39) (i + r) (signal c.args.odd.now) (signal c.args.a.now) (signal c.args.b.now) (signal c.args.c.now) (signal c.args.d.now)
+    (omega arith) (c.requires.bounded.at (i + r) (omega arith)) (c.requires.bounded_a.at (i + r) (omega arith))
+    (c.requires.bounded_b.at (i + r) (omega arith)) (c.requires.bounded_c.at (i + r) (omega arith)) (c.requires.bounded_d.at (i + r) (omega arith)) in
+    let stored = store w64 4 (5 * 2 ^ 39) i n c.lanes.odd c.odd_lanes-lanes.result f c.lanes.auto.odd room many (omega arith) small
+    (λ r h. c.odd_lanes-lanes.ensures.value.at r h ∙ same r h) c.lanes.invariant.done in
     record {
       done = record { at = λ p h. stored.at p (omega arith) };
       left = λ p h. get_or-put_chunk_above i c.lanes.odd _ p (pos 0) (omega arith) ∙ c.lanes.invariant.left p (omega arith);

@@ -11,6 +11,6 @@ returns c =
     let result = to_z-of_z w64 c.even_sample.result (record { sfits = c.even_sample.type_inv }) in
     let is = (even_is _ _ _ c.args.j _ _ c.requires.inside (omega arith) h.low_bounded h.high_bounded c.even_sample.ensures).1 in
     record {
-      even = Agrees-set_at (λ k. 2 * k) _ _ _ _ (omega arith) (λ k l. omega arith) c.requires.stands.even (result ∙ is);
-      odd = Agrees-set_off (λ k. 2 * k + 1) _ _ 0 _ _ (λ k l. omega arith) c.requires.stands.odd;
+      even = Agrees-set_at (λ k. 2 * k) _ _ _ _ (omega arith) (λ k l. omega arith) c.requires.valid.even (result ∙ is);
+      odd = Agrees-set_off (λ k. 2 * k + 1) _ _ 0 _ _ (λ k l. omega arith) c.requires.valid.odd;
     }

@@ -17,5 +17,6 @@ loop-j-preserved c =
     let long = length-set c.loop-j.row (2 * j) e in
     record {
       even = Agrees-set_off (λ k. 2 * k) (set c.loop-j.row (2 * j) e) (2 * j + 1) (j + 1) o (signal c.args.even.now) (λ k l. omega arith) even;
-      odd = Agrees-set_at (λ k. 2 * k + 1) (set c.loop-j.row (2 * j) e) j o (signal c.args.odd.now) (omega (arith, long)) (λ k l. omega arith) odd (grind (arith, to_z-of_z));
+      odd = Agrees-set_at (λ k. 2 * k + 1) (set c.loop-j.row (2 * j) e) j o (signal c.args.odd.now) (omega (arith, long)) (λ k l. omega arith) odd
+          (grind (arith, to_z-of_z));
     }

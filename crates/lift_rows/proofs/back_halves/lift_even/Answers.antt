@@ -23,12 +23,14 @@ update_add_narrow-requires-clause-bounded c =
 pub update_add_narrow-requires-clause-bounded_before : goal.update_add_narrow-requires-clause-bounded_before
 update_add_narrow-requires-clause-bounded_before c =
     let n = length c.args.even.now in
-    AllWithin-between (3 * 2 ^ 27) n 0 (n - 1) _ c.args.high.now (omega arith) (omega (arith, length-between c.args.even.now 1 n (omega arith))) c.requires.bounded_high
+    AllWithin-between (3 * 2 ^ 27) n 0 (n - 1) _ c.args.high.now (omega arith) (omega (arith, length-between c.args.even.now 1 n (omega arith)))
+    c.requires.bounded_high
 
 pub update_add_narrow-requires-clause-bounded_after : goal.update_add_narrow-requires-clause-bounded_after
 update_add_narrow-requires-clause-bounded_after c =
     let n = length c.args.even.now in
-    AllWithin-between (3 * 2 ^ 27) n 1 n _ c.args.high.now (omega arith) (omega (arith, length-between c.args.even.now 1 n (omega arith))) c.requires.bounded_high
+    AllWithin-between (3 * 2 ^ 27) n 1 n _ c.args.high.now (omega arith) (omega (arith, length-between c.args.even.now 1 n (omega arith)))
+    c.requires.bounded_high
 
 pub returns : goal.returns
 returns c =

@@ -36,13 +36,15 @@ odd_sample_narrow-last-requires c =
 pub lift_inner-requires-clause-bounded : goal.lift_inner-requires-clause-bounded
 lift_inner-requires-clause-bounded c =
     let n = length c.args.odd.now in
-    AllWithin-between (2 ^ 30) n 1 (n - 2) _ c.args.odd.now (omega arith) (omega (arith, length-between c.args.odd.now 1 (n - 2) (omega arith))) c.requires.bounded
+    AllWithin-between (2 ^ 30) n 1 (n - 2) _ c.args.odd.now (omega arith) (omega (arith, length-between c.args.odd.now 1 (n - 2) (omega arith)))
+    c.requires.bounded
 
 pub lift_inner-requires-clause-fits : goal.lift_inner-requires-clause-fits
 lift_inner-requires-clause-fits c =
     let n = length c.args.odd.now in
     let long = length-between c.args.odd.now 1 (n - 2) (omega arith) in
-    inner_fits (2 ^ 31 - 1) n (signal c.args.odd.now) (signal c.args.even.now) c.requires.long c.requires.fits _ _ (omega (arith, long)) (λ i h. get_or-between c.args.odd.now 1 (n - 2) i (pos 0) (omega (arith, long)))
+    inner_fits (2 ^ 31 - 1) n (signal c.args.odd.now) (signal c.args.even.now) c.requires.long c.requires.fits _ _ (omega (arith, long))
+    (λ i h. get_or-between c.args.odd.now 1 (n - 2) i (pos 0) (omega (arith, long)))
 
 pub returns : goal.returns
 returns c =

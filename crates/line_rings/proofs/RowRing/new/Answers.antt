@@ -8,7 +8,8 @@ loop-preserved g c =
     let less : c.loop.counter < c.loop.ring.capacity = omega arith in
     rw c.push_back.ensures.items (record {
       room = room;
-      filled = map-keep_last (λ v. v.items) c.loop.counter c.loop.ring.capacity c.loop.ring.items c.in_ok-row.row _ c.loop.invariant.filled c.in_ok-row.ensures less;
+      filled = map-keep_last (λ v. v.items) c.loop.counter c.loop.ring.capacity c.loop.ring.items c.in_ok-row.row _ c.loop.invariant.filled
+          c.in_ok-row.ensures less;
     })
 
 pub invariant_of-result : goal.invariant_of-result

@@ -15,6 +15,8 @@ loop-i-preserved c =
     let h : i < length rows = omega arith in
     record {
       long = length-set s.items i c.fill.new.self ∙ c.loop-i.invariant.long;
-      wide = ap (map length) turned ∙ lengths-set rows i c.fill.new.self.items h (ap length filled ∙ grind (arith, common_steps, get_or-map, length-replicate)) ∙ c.loop-i.invariant.wide;
-      zero = λ j k l. ap (λ (xs : List (List ℤ)). get_or (get_or xs j []) k (pos 0)) turned ∙ zeros-set rows i _ c.fill.new.self.items h filled c.loop-i.invariant.zero j k l;
+      wide = ap (map length) turned ∙ lengths-set rows i c.fill.new.self.items h
+          (ap length filled ∙ grind (arith, common_steps, get_or-map, length-replicate)) ∙ c.loop-i.invariant.wide;
+      zero = λ j k l. ap (λ (xs : List (List ℤ)). get_or (get_or xs j []) k (pos 0)) turned ∙ zeros-set rows i _ c.fill.new.self.items h filled
+          c.loop-i.invariant.zero j k l;
     }

@@ -17,4 +17,5 @@ pub returns-in-Ok-false : goal.returns-in-Ok-false
 returns-in-Ok-false g c = all_listed c.framing.result c.packets.invariant (rw c.in-Ok-false.field-0-test at c.in-Ok-false.ensures) c.framing.ensures.found
 
 pub returns-in-Err : goal.returns-in-Err
-returns-in-Err g c = lists_failed (g.X.Port.outside c.list_next.new.port) c.list_next.new.assembly c.list_next.new.lines.bytes c.in-Err.fault c.packets.invariant c.in-Err.ensures
+returns-in-Err g c = lists_failed (g.X.Port.outside c.list_next.new.port) c.list_next.new.assembly c.list_next.new.lines.bytes c.in-Err.fault
+    c.packets.invariant c.in-Err.ensures

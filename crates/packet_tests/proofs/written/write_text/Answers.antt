@@ -27,7 +27,8 @@ loop-octet-preserved g c =
     let text = c.args.text.now in
     record {
       gave = subst (λ xs. Gave g.X.Port.outside c.sink-sink.result c.put.new.self xs) (sym (take_more text i 0 c.loop-octet-test.true))
-          (gave_both g.X.Port.outside c.sink-sink.result c.loop-octet.sink c.put.new.self (take i text) (get_or text i 0 ∷ []) c.loop-octet.invariant.gave c.in-Ok.ensures.gave);
+          (gave_both g.X.Port.outside c.sink-sink.result c.loop-octet.sink c.put.new.self (take i text) (get_or text i 0 ∷ []) c.loop-octet.invariant.gave
+          c.in-Ok.ensures.gave);
       given = c.in-Ok.ensures.given ∙ ap (λ n. n + 1) c.loop-octet.invariant.given;
     }
 
@@ -51,7 +52,8 @@ close-requires-clause-some g c =
     let begins = c.sink-sink.ensures.same_packets ∙ c.begin.ensures.begun in
     let text = c.args.text.now in
     let gave = rw (take_all c.loop-octet.octet-index text c.loop-octet-test.false) at c.loop-octet.invariant.gave in
-    let sent = sink_goes_on g.X.Port.outside c.sink-sink.result c.loop-octet.sink c.args.packets.now _ c.args.port.now text begins c.sink-sink.ensures.same_port c.requires.packet gave in
+    let sent = sink_goes_on g.X.Port.outside c.sink-sink.result c.loop-octet.sink c.args.packets.now _ c.args.port.now text begins
+    c.sink-sink.ensures.same_port c.requires.packet gave in
     let waits : 0 < length c.loop-octet.sink.packets.now.pending = some_wait c.args.packets.now text c.requires.some sent in
     grind (arith, waits)
 
@@ -62,8 +64,10 @@ returns-in_default g c =
     let text = c.args.text.now in
     let put = take i text ++ get_or text i 0 ∷ [] in
     let whole = rejoined text i c.loop-octet-test.true in
-    let broke = broke_after g.X.Port.outside c.sink-sink.result c.loop-octet.sink c.put.new.self (take i text) (get_or text i 0 ∷ []) c.loop-octet.invariant.gave c.in_default.ensures.broke in
-    let off = sink_breaks_off g.X.Port.outside c.sink-sink.result c.put.new.self c.args.packets.now _ c.args.port.now put begins c.sink-sink.ensures.same_port c.requires.packet broke in
+    let broke = broke_after g.X.Port.outside c.sink-sink.result c.loop-octet.sink c.put.new.self (take i text) (get_or text i 0 ∷ [])
+    c.loop-octet.invariant.gave c.in_default.ensures.broke in
+    let off = sink_breaks_off g.X.Port.outside c.sink-sink.result c.put.new.self c.args.packets.now _ c.args.port.now put begins
+    c.sink-sink.ensures.same_port c.requires.packet broke in
     let cut = rw whole at (text_cut c.args.packets.now put (drop (i + 1) text) c.requires.packet refl (rw whole c.requires.some) off) in
     cut_to g.X.Port.outside _ c.put.new.self.port.now _ c.put.new.self.packets.now (search rules) (search rules) cut
 
@@ -72,6 +76,8 @@ returns g c =
     let begins = c.sink-sink.ensures.same_packets ∙ c.begin.ensures.begun in
     let text = c.args.text.now in
     let gave = rw (take_all c.loop-octet.octet-index text c.loop-octet-test.false) at c.loop-octet.invariant.gave in
-    let sent = sink_goes_on g.X.Port.outside c.sink-sink.result c.loop-octet.sink c.args.packets.now _ c.args.port.now text begins c.sink-sink.ensures.same_port c.requires.packet gave in
-    text_closed c.close.result c.args.packets.now _ c.close.new.self _ text (g.X.Port.outside c.args.port.now) _ (g.X.Port.outside c.close.new.port) c.requires.packet refl c.requires.some
+    let sent = sink_goes_on g.X.Port.outside c.sink-sink.result c.loop-octet.sink c.args.packets.now _ c.args.port.now text begins
+    c.sink-sink.ensures.same_port c.requires.packet gave in
+    text_closed c.close.result c.args.packets.now _ c.close.new.self _ text (g.X.Port.outside c.args.port.now) _ (g.X.Port.outside c.close.new.port)
+    c.requires.packet refl c.requires.some
     (sent_to g.X.Port.outside _ c.loop-octet.sink.port.now _ c.loop-octet.sink.packets.now (search rules) (search rules) sent) c.close.ensures

@@ -4,4 +4,5 @@ use Rattle.picture_rows.proofs.blocks.put_missing.Goals as goal
 
 pub returns : goal.returns
 returns g c =
-    block_loses c.pass_block.result (picture_state c.args.picture.now) (picture_state c.pass_block.new.picture) (g.X.Port.outside c.args.port.now) (g.X.Port.outside c.pass_block.new.port) c.requires.standing c.pass_block.ensures
+    block_loses c.pass_block.result (picture_state c.args.picture.now) (picture_state c.pass_block.new.picture) (g.X.Port.outside c.args.port.now)
+    (g.X.Port.outside c.pass_block.new.port) c.requires.current c.pass_block.ensures

@@ -8,12 +8,14 @@ use Rattle.picture_rows.proofs.rows.give_rows.Goals as goal
 
 pub loop-init : goal.loop-init
 loop-init g c = record {
-  gathered = gathered_nothing (g.X.Port.outside c.args.port.now) (picture_state c.args.picture.now) (waiting_of c.new-rows.result) c.requires.sized c.new-rows.ensures.none;
+  gathered = gathered_nothing (g.X.Port.outside c.args.port.now) (picture_state c.args.picture.now) (waiting_of c.new-rows.result) c.requires.sized
+      c.new-rows.ensures.none;
   form = record { depth = c.new-rows.ensures.depth; signed = c.new-rows.ensures.signed; width = c.new-rows.ensures.width };
 }
 
 pub returns-in_err-give_row : goal.returns-in_err-give_row
-returns-in_err-give_row g c = rows_failed _ c.from_residual.result c.from_residual.ensures.0 (gathered_broken c.loop.invariant.gathered c.in_err-give_row.ensures.row)
+returns-in_err-give_row g c = rows_failed _ c.from_residual.result c.from_residual.ensures.0
+    (gathered_broken c.loop.invariant.gathered c.in_err-give_row.ensures.row)
 
 pub loop-smaller : goal.loop-smaller
 loop-smaller g c = row_less (rw c.if-branch.true at c.in_ok-give_row.ensures.row)

@@ -6,7 +6,8 @@ use Rattle.picture_rows.proofs.rows.give_rows.Given as goal
 
 abbrev pub invariant-loop : goal.invariant-loop
 invariant-loop g l = record {
-  gathered : HasGatheredSome (g.X.Port.outside l.initial.port) (g.X.Port.outside l.port) (waiting_of l.rows) (picture_state l.initial.picture) (picture_state l.picture);
+  gathered : HasGatheredSome (g.X.Port.outside l.initial.port) (g.X.Port.outside l.port) (waiting_of l.rows) (picture_state l.initial.picture)
+      (picture_state l.picture);
   form : IsFor l.initial.picture.geometry l.rows;
 }
 

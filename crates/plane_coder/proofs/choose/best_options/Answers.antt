@@ -1,11 +1,13 @@
-use Rattle.plane_coder.proofs.Choosing.{sum_of_counts}
+use Rattle.std.proofs.Common.{◌∷◌, []}
+use Rattle.plane_coder.proofs.Choosing.{best_of_two, best_of_three, best_of_four}
 use Rattle.plane_coder.proofs.choose.best_options.Goals as goal
 
-pub best_option-requires-clause-few : goal.best_option-requires-clause-few
-best_option-requires-clause-few c = rw c.counts_of.ensures (sum_of_counts c.args.tally.now 2 c.requires)
-
-pub best_option-requires-2-clause-few : goal.best_option-requires-2-clause-few
-best_option-requires-2-clause-few c = rw c.counts_of-2.ensures (sum_of_counts c.args.tally.now 3 c.requires)
-
-pub best_option-requires-3-clause-few : goal.best_option-requires-3-clause-few
-best_option-requires-3-clause-few c = rw c.counts_of-3.ensures (sum_of_counts c.args.tally.now 4 c.requires)
+pub returns-clause-best : goal.returns-clause-best
+returns-clause-best c book entries costs =
+    let a = c.least.ensures in
+    let b = c.least-2.ensures in
+    let d = c.least-3.ensures in
+    let two = best_of_two book c.args.costs entries costs c.least.result a.known a.fewest a.least in
+    let three = best_of_three book c.args.costs entries costs c.least-2.result b.known b.fewest b.least in
+    let four = best_of_four book c.args.costs entries costs c.least-3.result d.known d.fewest d.least in
+    λ i. two i ∷ three i ∷ four i ∷ []

@@ -32,7 +32,9 @@ loop-g-preserved c =
     record {
       chosen = one_chosen book p _ _ _ g _ i.chosen options c.choose_options-options.ensures.known c.store.ensures;
       room = i.room;
-      kept = subst (KeepFirst book (chosen book p) p (g + 1)) (sym put) (more_kept i.kept others (λ full. subst (λ o. Keeps book o p g (free_at now g)) options (kept.keeps p (subst (λ l. 32 * g + 32 ≤ length l) (sym c.deref_mut.ensures.value) full) (fresh_agrees p g) words)));
+      kept = subst (KeepFirst book (chosen book p) p (g + 1)) (sym put)
+          (more_kept i.kept others (λ full. subst (λ o. Keeps book o p g (free_at now g)) options
+          (kept.keeps p (subst (λ l. 32 * g + 32 ≤ length l) (sym c.deref_mut.ensures.value) full) (fresh_agrees p g) words)));
     }
 
 pub returns : goal.returns

@@ -18,8 +18,9 @@ unfolding set_significant
 add_quads-requires c = record {
   family = c.loop-i-test.true;
   enclosing =
-      let told : c.has.result ≡ set_significant (block_in c.args.plane_masks.now) c.args.plane_masks.now.plan.now.plane (Grandchildren (0 + c.loop-i.i)) = c.has.ensures _ 0 3 c.requires.sets.grandchildren c.loop-i-test.true in
-      told ∙ ap (λ n. set_significant (block_in c.args.plane_masks.now) c.args.plane_masks.now.plan.now.plane (Grandchildren n)) (zero-add c.loop-i.i);
+      let if_known : c.has.result ≡ set_significant (block_in c.args.plane_masks.now) c.args.plane_masks.now.plan.now.plane (Grandchildren (0 + c.loop-i.i)) =
+      c.has.ensures _ 0 3 c.requires.sets.grandchildren c.loop-i-test.true in
+      if_known ∙ ap (λ n. set_significant (block_in c.args.plane_masks.now) c.args.plane_masks.now.plan.now.plane (Grandchildren n)) (zero-add c.loop-i.i);
   room = omega (arith, c.loop-i.invariant.lists.more, c.loop-i-test.true, c.requires.room);
 }
 
@@ -31,10 +32,10 @@ loop-i-preserved c =
     let block = block_in s in
     let weights = s.plan.now.weights.shifts in
     let plane = s.plan.now.plane in
-    let told : c.has.result ≡ set_significant block plane (Grandchildren (0 + i)) = c.has.ensures _ 0 3 c.requires.sets.grandchildren c.loop-i-test.true in
+    let if_known : c.has.result ≡ set_significant block plane (Grandchildren (0 + i)) = c.has.ensures _ 0 3 c.requires.sets.grandchildren c.loop-i-test.true in
     record {
       lists = lists_more (of_family block weights plane) 0 i 5 c.loop-i.invariant.lists
-          (subst (λ l. Lists c.loop-i.words c.add_quads.new.words l 5) (of_family_is block weights plane c.has.result i told) c.add_quads.ensures);
+          (subst (λ l. Lists c.loop-i.words c.add_quads.new.words l 5) (of_family_is block weights plane c.has.result i if_known) c.add_quads.ensures);
     }
 
 pub returns : goal.returns

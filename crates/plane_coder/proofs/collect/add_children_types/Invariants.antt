@@ -7,5 +7,6 @@ use Rattle.plane_coder.proofs.collect.add_children_types.Given as goal
 
 abbrev pub invariant-loop-i : goal.invariant-loop-i
 invariant-loop-i l = record {
-  lists : Lists l.initial.words l.words (flat_map (of_children (block_in l.plane_masks) l.plane_masks.plan.now.weights.shifts l.plane_masks.plan.now.plane) (span 0 l.i)) (1 * l.i);
+  lists : Lists l.initial.words l.words (flat_map (of_children (block_in l.plane_masks) l.plane_masks.plan.now.weights.shifts l.plane_masks.plan.now.plane)
+      (span 0 l.i)) (1 * l.i);
 }

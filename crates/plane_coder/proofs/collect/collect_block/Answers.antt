@@ -21,11 +21,15 @@ returns-then-depth-view g c =
     let d = c.depth_of-depth.result in
     let block = block_at numbers c.args.r in
     let w = plan.weights.shifts in
-    let there = λ (s : Stage). stage_there s numbers c.args.marks.now w plan.plane plan.q c.args.r d c.requires.whole (omega (arith, c.requires.block, c.requires.whole)) depth in
+    let there = λ (s : Stage). stage_there s numbers c.args.marks.now w plan.plane plan.q c.args.r d c.requires.whole
+    (omega (arith, c.requires.block, c.requires.whole)) depth in
     record {
-      parents = lists_nothing c.args.words.now.parents _ 1 (sym (shallow stages.Parents block w plan.plane plan.q d (λ e. absurd cc) c.if-depth-view.true) ∙ there stages.Parents);
-      children = lists_nothing c.args.words.now.children _ 5 (sym (shallow stages.Children block w plan.plane plan.q d (λ e. absurd cc) c.if-depth-view.true) ∙ there stages.Children);
-      grandchildren = lists_nothing c.args.words.now.grandchildren _ 16 (sym (shallow stages.Grandchildren block w plan.plane plan.q d (λ e. absurd cc) c.if-depth-view.true) ∙ there stages.Grandchildren);
+      parents = lists_nothing c.args.words.now.parents _ 1 (sym (shallow stages.Parents block w plan.plane plan.q d (λ e. absurd cc) c.if-depth-view.true) ∙
+          there stages.Parents);
+      children = lists_nothing c.args.words.now.children _ 5
+          (sym (shallow stages.Children block w plan.plane plan.q d (λ e. absurd cc) c.if-depth-view.true) ∙ there stages.Children);
+      grandchildren = lists_nothing c.args.words.now.grandchildren _ 16
+          (sym (shallow stages.Grandchildren block w plan.plane plan.q d (λ e. absurd cc) c.if-depth-view.true) ∙ there stages.Grandchildren);
     }
 
 pub returns : goal.returns
@@ -36,7 +40,9 @@ returns g c =
     let plan = c.args.view.now.plan.now in
     let made = c.plane_masks.result.plan.now in
     let d = c.depth_of-depth.result in
-    let there = λ (s : Stage). stage_there s numbers c.args.marks.now plan.weights.shifts plan.plane plan.q c.args.r d c.requires.whole (omega (arith, c.requires.block, c.requires.whole)) depth in
+    let there = λ (s : Stage). stage_there s numbers c.args.marks.now plan.weights.shifts plan.plane plan.q c.args.r d c.requires.whole
+    (omega (arith, c.requires.block, c.requires.whole)) depth in
     collects_same (λ s.
     ap (λ b. block_entries s b d made.weights.shifts made.plane made.q) c.plane_masks.ensures.block
-    ∙ ap (λ (p : CodedPlane). block_entries s (block_at numbers c.args.r) d p.weights.shifts p.plane p.q) c.plane_masks.ensures.plan ∙ there s) c.add_block.ensures
+    ∙ ap (λ (p : CodedPlane). block_entries s (block_at numbers c.args.r) d p.weights.shifts p.plane p.q) c.plane_masks.ensures.plan ∙ there s)
+    c.add_block.ensures

@@ -7,7 +7,8 @@ use Rattle.plane_coder.proofs.Collecting.{none_found, more_found, all_found}
 use Rattle.plane_coder.proofs.collect.collect_gaggle.Goals as goal
 
 pub loop-place-init : goal.loop-place-init
-loop-place-init g c = none_found (plane_in c.args.view.now (depths_of c.args.marks.now)) g.row.WANTED (16 * c.args.g) _ c.clear.ensures c.clear-2.ensures c.clear-3.ensures
+loop-place-init g c = none_found (plane_in c.args.view.now (depths_of c.args.marks.now)) g.row.WANTED (16 * c.args.g) _ c.clear.ensures c.clear-2.ensures
+    c.clear-3.ensures
 
 pub loop-place-preserved : goal.loop-place-preserved
 loop-place-preserved g c =

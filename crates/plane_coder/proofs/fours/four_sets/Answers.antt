@@ -7,4 +7,5 @@ use Rattle.plane_coder.proofs.fours.four_sets.Goals as goal
 pub returns : goal.returns
 returns c f p =
     let at = c.args.at in
-    c.joined.ensures.told (λ j. list_any f (span (at + 4 * j) 4)) 0 2 (c.two_sets.ensures.told f p) (shows_later c.two_sets-2.result at f (c.two_sets-2.ensures.told f p))
+    c.joined.ensures.if_known (λ j. list_any f (span (at + 4 * j) 4)) 0 2 (c.two_sets.ensures.if_known f p)
+    (shows_later c.two_sets-2.result at f (c.two_sets-2.ensures.if_known f p))

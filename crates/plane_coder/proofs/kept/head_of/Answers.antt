@@ -14,4 +14,5 @@ returns c masks is =
     let small = c.requires.flags in
     subst (λ l. HasOctets masks l flags) (three_of ends 0 three)
     (subst (HasOctets masks _) (three_of flags 0 threes)
-    (octets_are masks (get_or ends 0 0) (get_or ends 1 0) (get_or ends 2 0) (get_or flags 0 0) (get_or flags 1 0) (get_or flags 2 0) (low 0) (low 1) (low 2) (small 0) (small 1) (small 2) (is ∙ omega arith)))
+    (octets_are masks (get_or ends 0 0) (get_or ends 1 0) (get_or ends 2 0) (get_or flags 0 0) (get_or flags 1 0) (get_or flags 2 0) (low 0) (low 1) (low 2)
+    (small 0) (small 1) (small 2) (is ∙ omega arith)))

@@ -28,13 +28,16 @@ returns-clause-keeps c p g agree has =
     let options3 = two.ensures.keeps.leaves.options ∙ options2 in
     record {
       at = three_stages (λ n. octet_in m4 n ≤ 32 → KeepsStage book options p g n m4)
-          (λ room. stage_kept p g 1 one.ensures.keeps agree1 (has.parents refl) m4 options options1 one.ensures.silent (omega (arith, room, octets.ends 0 (omega arith)))
+          (λ room. stage_kept p g 1 one.ensures.keeps agree1 (has.parents refl) m4 options options1 one.ensures.silent
+          (omega (arith, room, octets.ends 0 (omega arith)))
           (λ k low lt. later k (omega (arith, low)) ∙ last.ensures.before k (omega (arith, lt, two.ensures.order)) ∙ two.ensures.before k lt)
           octets.first (octets.ends 0 (omega arith)) (ap flags_in (octets.flags 0 (omega arith)) ∙ c.octet_of.ensures.flags))
-          (λ room. stage_kept p g 2 two.ensures.keeps agree2 (has.children refl) m4 options options2 two.ensures.silent (omega (arith, room, octets.ends 1 (omega arith)))
+          (λ room. stage_kept p g 2 two.ensures.keeps agree2 (has.children refl) m4 options options2 two.ensures.silent
+          (omega (arith, room, octets.ends 1 (omega arith)))
           (λ k low lt. later k (omega (arith, low, one.ensures.order)) ∙ last.ensures.before k lt)
           (octets.ends 0 (omega arith)) (octets.ends 1 (omega arith)) (ap flags_in (octets.flags 1 (omega arith)) ∙ c.octet_of-2.ensures.flags))
-          (λ room. stage_kept p g 3 last.ensures.keeps agree3 (has.grandchildren refl) m4 options options3 last.ensures.silent (omega (arith, room, octets.ends 2 (omega arith)))
+          (λ room. stage_kept p g 3 last.ensures.keeps agree3 (has.grandchildren refl) m4 options options3 last.ensures.silent
+          (omega (arith, room, octets.ends 2 (omega arith)))
           (λ k low lt. later k (omega (arith, low, one.ensures.order, two.ensures.order)))
           (octets.ends 1 (omega arith)) (octets.ends 2 (omega arith)) (ap flags_in (octets.flags 2 (omega arith)) ∙ c.octet_of-3.ensures.flags));
     }

@@ -10,7 +10,8 @@ returns-clause-keeps c =
     elim c.if-used-lt-FREE.branch [
       | then-used-lt-FREE w ↦ rw w.free-is (record {
         used = omega (arith, c.min.ensures);
-        here = λ room. ap bits_in (get_or-set_same old used c.seal-mask.result 0 (omega (arith, c.requires.whole, w.if-used-lt-FREE.true))) ∙ c.seal-mask.ensures.bits;
+        here = λ room. ap bits_in (get_or-set_same old used c.seal-mask.result 0 (omega (arith, c.requires.whole, w.if-used-lt-FREE.true)))
+            ∙ c.seal-mask.ensures.bits;
         before = λ k lt. get_or-set_other old used k c.seal-mask.result 0 (λ e. omega (arith, e, lt));
       })
       | else-used-lt-FREE w ↦ rw w.free-is (record {

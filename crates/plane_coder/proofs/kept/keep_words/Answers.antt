@@ -28,7 +28,8 @@ loop-i-preserved g c =
     let start = c.args.free.now in
     let f = entries_at c.args.words.now.list in
     let i = c.loop-i.i in
-    let now : SoKept book gaggle c.args.used start c.if-not-has_room.free c.if-not-has_room.end c.if-not-has_room.pending (flat_map f (span 0 i)) = elim c.if-not-has_room.branch [
+    let now : SoKept book gaggle c.args.used start c.if-not-has_room.free c.if-not-has_room.end c.if-not-has_room.pending (flat_map f (span 0 i)) =
+    elim c.if-not-has_room.branch [
       | then-not-has_room w ↦
           let kept = w.keep_bits-end.ensures in
           rw (w.free-is, w.pending-is, w.end-is) (so_next c.loop-i.invariant kept.keeps kept.whole kept.gaggle kept.silent)
@@ -36,7 +37,8 @@ loop-i-preserved g c =
     ] in
     let here : i ≡ 0 + i = omega arith in
     let next = subst (λ l. Appends book c.if-not-has_room.pending c.typed.new.self l 12) (c.at.ensures.typed ∙ ap f here) c.typed.ensures in
-    subst (SoKept book gaggle c.args.used start c.if-not-has_room.free c.if-not-has_room.end c.typed.new.self) (sym (flat_map-span-suc f 0 i)) (so_more 12 now next)
+    subst (SoKept book gaggle c.args.used start c.if-not-has_room.free c.if-not-has_room.end c.typed.new.self) (sym (flat_map-span-suc f 0 i))
+    (so_more 12 now next)
 
 pub returns : goal.returns
 returns g c =
@@ -45,6 +47,7 @@ returns g c =
     let f = entries_at c.args.words.now.list in
     let kept = c.keep_bits.ensures in
     let all : c.loop-i.i ≡ c.args.words.now.count = omega (arith, c.count-i-end.ensures, c.loop-i-test.false, c.loop-i.auto.i-end) in
-    let so = subst (λ n. SoKept book gaggle c.args.used c.args.free.now c.keep_bits.new.free c.keep_bits.result c.keep_bits.new.pending (flat_map f (span 0 n))) all
+    let so = subst (λ n. SoKept book gaggle c.args.used c.args.free.now c.keep_bits.new.free c.keep_bits.result c.keep_bits.new.pending
+    (flat_map f (span 0 n))) all
     (so_next c.loop-i.invariant kept.keeps kept.whole kept.gaggle kept.silent) in
     record { keeps = so.keeps; before = so.before; order = so.order; few = so.few; whole = kept.whole; silent = kept.silent }

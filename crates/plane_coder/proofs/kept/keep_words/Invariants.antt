@@ -5,4 +5,5 @@ use Rattle.plane_coder.proofs.KeptBits.{SoKept}
 use Rattle.plane_coder.proofs.kept.keep_words.Given as goal
 
 abbrev pub invariant-loop-i : goal.invariant-loop-i
-invariant-loop-i g l = SoKept l.option_codes.tables.now.book l.initial.pending.gaggle l.used l.initial.free l.free l.end l.pending (flat_map (entries_at l.words.list) (span 0 l.i))
+invariant-loop-i g l = SoKept l.option_codes.tables.now.book l.initial.pending.gaggle l.used l.initial.free l.free l.end l.pending
+    (flat_map (entries_at l.words.list) (span 0 l.i))

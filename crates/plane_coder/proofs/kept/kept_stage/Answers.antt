@@ -21,5 +21,6 @@ returns g c =
       from = c.octet_at.ensures ∙ ap (λ l. octet_in l (n - 1)) free;
       to = c.octet_at-to.ensures ∙ ap (λ l. octet_in l n) free;
       room = omega (arith, c.if-to-gt-FREE.false);
-      sent = (λ i. c.has.ensures (bit flags) 0 64 shown (omega arith) i ∷ c.has-2.ensures (bit flags) 0 64 shown (omega arith) i ∷ c.has-3.ensures (bit flags) 0 64 shown (omega arith) i ∷ []) ∙ ap flags_in octet;
+      sent = (λ i. c.has.ensures (bit flags) 0 64 shown (omega arith) i ∷ c.has-2.ensures (bit flags) 0 64 shown (omega arith) i ∷ c.has-3.ensures
+          (bit flags) 0 64 shown (omega arith) i ∷ []) ∙ ap flags_in octet;
     }

@@ -6,5 +6,5 @@ pub returns-clause-flags : goal.returns-clause-flags
 returns-clause-flags c =
     let sent = c.args.sent in
     let three : length sent ≡ 3 = search rules in
-    let told = c.three.ensures.told (λ k. get_or sent k false) refl refl refl in
-    (λ i. told.at 0 (omega arith) i ∷ told.at 1 (omega arith) i ∷ told.at 2 (omega arith) i ∷ []) ∙ three_of sent false three
+    let if_known = c.three.ensures.if_known (λ k. get_or sent k false) refl refl refl in
+    (λ i. if_known.at 0 (omega arith) i ∷ if_known.at 1 (omega arith) i ∷ if_known.at 2 (omega arith) i ∷ []) ∙ three_of sent false three

@@ -1,6 +1,6 @@
 use Rattle.std.proofs.Common.{◌≡◌, ◌+◌, ap, sym, ◌∙◌, subst}
 use Rattle.item_defs.specs.Items.{text}
-use Rattle.bit_pipe.specs.Standing.{stand, Puts}
+use Rattle.bit_pipe.specs.SinkState.{sink_state, Puts}
 use Rattle.plane_defs.specs.Planes.{Plane, chosen}
 use Rattle.plane_defs.specs.Marks.{depths_of}
 use Rattle.block_masks.specs.SegmentNumbers.{AreAbove}
@@ -24,7 +24,8 @@ put_stages-result-requires-clause-kept g c =
     let numbers = c.args.segment.now.numbers in
     let same = ap (λ d. plane_at numbers d c.new-coded.result) c.choose_all.ensures.chosen.depths in
     let p = plane_at numbers (depths_of c.args.marks.now) c.new-coded.result in
-    subst (λ (q : Plane). AreKept book (chosen book q) q c.deref.result.now) (sym same) (subst (AreKept book (chosen book p) p) (sym c.deref.ensures.value) c.choose_all.ensures.kept)
+    subst (λ (q : Plane). AreKept book (chosen book q) q c.deref.result.now) (sym same)
+    (subst (AreKept book (chosen book p) p) (sym c.deref.ensures.value) c.choose_all.ensures.kept)
 
 pub returns-clause-puts : goal.returns-clause-puts
 returns-clause-puts g c =
@@ -34,5 +35,6 @@ returns-clause-puts g c =
     let k = g.O.OctetOut.sink in
     let same = ap (λ e. plane_at n e c.new-coded.result) c.choose_all.ensures.chosen.depths in
     let coded : plane_at n d c.new-coded.result ≡ plane_of n d plan = cc in
-    subst (λ (q : Plane). Puts {T = Unit {0}} k c.put_stages-result.result (stand k c.args.out.now) (stand k c.put_stages-result.new.out) (text (chosen_items c.args.source.now.tables.now.book q plan.last)))
+    subst (λ (q : Plane). Puts {T = Unit {0}} k c.put_stages-result.result (sink_state k c.args.out.now) (sink_state k c.put_stages-result.new.out)
+    (text (chosen_items c.args.source.now.tables.now.book q plan.last)))
     (same ∙ coded) c.put_stages-result.ensures.puts

@@ -49,4 +49,5 @@ pub returns : goal.returns
 returns c book =
     let s = c.args.plane_masks.now in
     let all : c.loop-k.k ≡ c.args.to = omega (arith, c.loop-k-test.false, c.loop-k.auto.k-end, c.requires.order) in
-    subst (λ n. Appends book c.args.pending.now c.loop-k.pending (refining (block_in s) s.plan.now.weights.shifts s.plan.now.plane (4 * c.args.from) (4 * (n - c.args.from))) (4 * (n - c.args.from))) all (c.loop-k.invariant.says book)
+    subst (λ n. Appends book c.args.pending.now c.loop-k.pending (refining (block_in s) s.plan.now.weights.shifts s.plan.now.plane (4 * c.args.from)
+    (4 * (n - c.args.from))) (4 * (n - c.args.from))) all (c.loop-k.invariant.says book)

@@ -1,7 +1,7 @@
 use Rattle.std.proofs.Common.{◌∙◌, sym, subst, arith, Ok, Err}
 use Rattle.std.proofs.lemmas.Result.{err_from_is_err_and}
 use Rattle.std.proofs.lemmas.Grind.{common_steps}
-use Rattle.bit_pipe.specs.Standing.{stand}
+use Rattle.bit_pipe.specs.SinkState.{sink_state}
 use Rattle.base_122.specs.Profile.{profile}
 use Rattle.plane_defs.specs.Sets.{refined}
 use Rattle.plane_coder.specs.Refining.{refining}
@@ -20,9 +20,10 @@ returns-then-not-is_any_of g c =
     let weights = s.plan.now.weights.shifts in
     let plane = s.plan.now.plane in
     let k = g.O.OctetOut.sink in
-    let told = sym c.if-not-is_any_of.true ∙ c.is_any_of.ensures (refined block weights plane) c.refined-refined.ensures in
+    let if_known = sym c.if-not-is_any_of.true ∙ c.is_any_of.ensures (refined block weights plane) c.refined-refined.ensures in
     record {
-      spells = λ book. subst (λ l. Spells k book c.args.pending.now.gaggle c.args.pending.now.gaggle (Ok tt) (stand k c.args.out.now) (stand k c.args.out.now) l) (refining_nothing block weights plane 1 63 told) (spells_none c.args.pending.now.gaggle _ c.requires.«open»);
+      spells = λ book. subst (λ l. Spells k book c.args.pending.now.gaggle c.args.pending.now.gaggle (Ok tt) (sink_state k c.args.out.now)
+          (sink_state k c.args.out.now) l) (refining_nothing block weights plane 1 63 if_known) (spells_none c.args.pending.now.gaggle _ c.requires.«open»);
       silent = c.requires.silent;
     }
 
@@ -73,7 +74,8 @@ returns-in_err-put g c =
           let says = subst (λ l. Appends book c.args.pending.now c.push_refinement-2.new.pending l 32) (refining_parts block weights plane 1 3 12 16)
           (appends_both 16 16 (appends_both 4 12 raws (c.push_refinement.ensures book)) (c.push_refinement-2.ensures book)) in
           let first = spells_said 32 c.requires.«open» c.requires.silent says c.in_err-put.ensures.puts c.in_err-put.ensures.gaggle in
-          rw (p.1, p.2) (subst (λ l. Spells k book c.args.pending.now.gaggle c.put.new.self.gaggle (Err c.in_err-put.field-0.0) (stand k c.args.out.now) (stand k c.put.new.out) l) (refining_both block weights plane 1 31 32) (spells_cut (refining block weights plane 32 32) first));
+          rw (p.1, p.2) (subst (λ l. Spells k book c.args.pending.now.gaggle c.put.new.self.gaggle (Err c.in_err-put.field-0.0) (sink_state k c.args.out.now)
+          (sink_state k c.put.new.out) l) (refining_both block weights plane 1 31 32) (spells_cut (refining block weights plane 32 32) first));
       silent = c.in_err-put.ensures.silent;
     }
 
@@ -90,8 +92,11 @@ returns g c =
           let says = subst (λ l. Appends book c.args.pending.now c.push_refinement-2.new.pending l 32) (refining_parts block weights plane 1 3 12 16)
           (appends_both 16 16 (appends_both 4 12 raws (c.push_refinement.ensures book)) (c.push_refinement-2.ensures book)) in
           let first = spells_said 32 c.requires.«open» c.requires.silent says c.in_ok-put.ensures.puts c.in_ok-put.ensures.gaggle in
-          let rest = subst (λ l. Appends book c.put.new.self c.push_refinement-4.new.pending l 32) (refining_both block weights plane 32 16 16) (appends_both 16 16 (c.push_refinement-3.ensures book) (c.push_refinement-4.ensures book)) in
+          let rest = subst (λ l. Appends book c.put.new.self c.push_refinement-4.new.pending l 32) (refining_both block weights plane 32 16 16)
+          (appends_both 16 16 (c.push_refinement-3.ensures book) (c.push_refinement-4.ensures book)) in
           let second = spells_said 32 first.is_open c.in_ok-put.ensures.silent rest c.put-2.ensures.puts c.put-2.ensures.gaggle in
-          subst (λ l. Spells k book c.args.pending.now.gaggle c.put-2.new.self.gaggle c.put-2.result (stand k c.args.out.now) (stand k c.put-2.new.out) l) (refining_both block weights plane 1 31 32) (spells_both first second);
+          subst (λ l. Spells k book c.args.pending.now.gaggle c.put-2.new.self.gaggle c.put-2.result (sink_state k c.args.out.now)
+          (sink_state k c.put-2.new.out) l)
+          (refining_both block weights plane 1 31 32) (spells_both first second);
       silent = c.put-2.ensures.silent;
     }

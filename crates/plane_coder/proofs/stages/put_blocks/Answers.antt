@@ -1,6 +1,6 @@
 use Rattle.std.proofs.Common.{◌≡◌, ◌*◌, ◌<◌, refl, subst, arith, Ok, flat_map}
 use Rattle.std.proofs.lemmas.Result.{err_from_is_err_and}
-use Rattle.bit_pipe.specs.Standing.{stand}
+use Rattle.bit_pipe.specs.SinkState.{sink_state}
 use Rattle.plane_defs.specs.Entries.{stage_number}
 use Rattle.plane_defs.specs.Spans.{span}
 use Rattle.plane_defs.specs.Planes.{of_block, gaggle_size}
@@ -31,15 +31,18 @@ pub returns-in_err-put_block_at : goal.returns-in_err-put_block_at
 returns-in_err-put_block_at g c =
     let p = err_from_is_err_and c.from_residual.result c.from_residual.ensures.1 in
     let plane = plane_in c.args.view.now (depths_of c.args.marks.now) in
-    let below : c.loop-place.place < gaggle_size plane c.args.g = omega (arith, c.min-place-end.ensures, c.loop-place-test.true, length-depths_of c.args.marks.now) in
+    let below : c.loop-place.place < gaggle_size plane c.args.g =
+    omega (arith, c.min-place-end.ensures, c.loop-place-test.true, length-depths_of c.args.marks.now) in
     let f = of_block plane (stage_number g.row.STAGE) in
     rw (p.1, p.2)
-    (spelled_ended f (16 * c.args.g) c.loop-place.place (gaggle_size plane c.args.g) _ below refl c.loop-place.invariant.so_far c.in_err-put_block_at.ensures.spells)
+    (spelled_ended f (16 * c.args.g) c.loop-place.place (gaggle_size plane c.args.g) _ below refl c.loop-place.invariant.so_far
+    c.in_err-put_block_at.ensures.spells)
 
 pub returns : goal.returns
 returns g c =
     let plane = plane_in c.args.view.now (depths_of c.args.marks.now) in
     let all : c.loop-place.place ≡ gaggle_size plane c.args.g =
     omega (arith, c.min-place-end.ensures, c.loop-place-test.false, c.loop-place.auto.place-end, length-depths_of c.args.marks.now) in
-    subst (λ n. Spells g.O.OctetOut.sink c.args.view.now.tables.now.book c.args.pending.now.gaggle c.loop-place.pending.gaggle (Ok tt) (stand g.O.OctetOut.sink c.args.out.now) (stand g.O.OctetOut.sink c.loop-place.out)
+    subst (λ n. Spells g.O.OctetOut.sink c.args.view.now.tables.now.book c.args.pending.now.gaggle c.loop-place.pending.gaggle (Ok tt)
+    (sink_state g.O.OctetOut.sink c.args.out.now) (sink_state g.O.OctetOut.sink c.loop-place.out)
     (flat_map (of_block plane (stage_number g.row.STAGE)) (span (16 * c.args.g) n))) all c.loop-place.invariant.so_far

@@ -1,5 +1,5 @@
 use Rattle.std.proofs.Common.{◌≤◌, ◌+◌, ap, ◌∙◌, sym, subst, arith, length}
-use Rattle.bit_pipe.specs.Standing.{stand, Puts}
+use Rattle.bit_pipe.specs.SinkState.{sink_state, Puts}
 use Rattle.block_masks.specs.declared.gaggle.Gaggle.{Gaggle}
 use Rattle.block_masks.specs.Gaggles.{Agrees}
 use Rattle.plane_defs.specs.Marks.{depths_of}
@@ -32,8 +32,8 @@ returns g c =
     let bits = (λ i. bits_between (at.free i) (at.from i) (at.to i)) ∙ kept.bits in
     let sent = ap (λ (h : Gaggle). h.sent) c.new.ensures.gaggle ∙ at.sent in
     record {
-      puts = λ agrees. subst (Puts {T = Unit {0}} k c.put_kept.result (stand k c.args.out.now) (stand k c.put_kept.new.out)) bits c.put_kept.ensures;
+      puts = λ agrees. subst (Puts {T = Unit {0}} k c.put_kept.result (sink_state k c.args.out.now) (sink_state k c.put_kept.new.out)) bits c.put_kept.ensures;
       agrees = λ agrees. on_ok c.put_kept.result (subst (λ f. Agrees f (before_stage p (number + 1) c.args.g)) (sym sent) kept.flags);
-      is_open = puts_open c.put_kept.result (stand k c.args.out.now) (stand k c.put_kept.new.out) _ c.requires.«open» c.put_kept.ensures;
+      is_open = puts_open c.put_kept.result (sink_state k c.args.out.now) (sink_state k c.put_kept.new.out) _ c.requires.«open» c.put_kept.ensures;
       options = ap (λ (h : Gaggle). h.options) c.new.ensures.gaggle;
     }

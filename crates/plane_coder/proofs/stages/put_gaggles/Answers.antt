@@ -1,5 +1,6 @@
 use Rattle.std.proofs.Common.{◌≡◌, ◌<◌, ap, ◌∙◌, sym, subst, arith}
 use Rattle.block_masks.specs.declared.gaggle.Gaggle.{Gaggle}
+use Rattle.std.proofs.lemmas.Bool.{OnTrue_at}
 use Rattle.std.proofs.lemmas.Result.{err_from_is_err_and}
 use Rattle.std.proofs.lemmas.Grind.{common_steps}
 use Rattle.plane_defs.specs.Planes.{gaggles, gaggle_items, before_stage}
@@ -16,7 +17,17 @@ use Rattle.plane_coder.proofs.Quiet.{quiet_puts, quiet_agree}
 use Rattle.plane_coder.proofs.stages.put_gaggles.Goals as goal
 
 pub returns-then-is_quiet : goal.returns-then-is_quiet
-returns-then-is_quiet g c = grind (arith, common_steps, quiet_puts, quiet_agree, same_marks)
+returns-then-is_quiet g c =
+    let view = c.args.view.now in
+    let m0 = c.args.marks.now in
+    let p = plane_in view (depths_of m0) in
+    let quiet = OnTrue_at c.if-is_quiet.true c.is_quiet.ensures in
+    record {
+      puts = quiet_puts p quiet.1 view.tables.now.book (options_at m0) g.row.STAGE _ quiet.0 c.requires.open;
+      is_open = c.requires.open;
+      agree = quiet_agree p quiet.1 m0 g.row.STAGE quiet.0 c.requires.agree;
+      kept = same_marks m0;
+    }
 
 pub loop-g-init : goal.loop-g-init
 loop-g-init g c = grind (arith, common_steps, none_put, same_marks, none_agree)
@@ -25,7 +36,8 @@ pub put_gaggle-requires-clause-kept : goal.put_gaggle-requires-clause-kept
 put_gaggle-requires-clause-kept g c full =
     let view = c.args.view.now in
     let m1 = c.loop-g.marks in
-    let below : c.loop-g.g < gaggles (plane_in view (depths_of m1)) = omega (arith, c.div_ceil-g-end.ensures, c.loop-g-test.true, length-depths_of m1, c.loop-g.invariant.same.whole) in
+    let below : c.loop-g.g < gaggles (plane_in view (depths_of m1)) =
+    omega (arith, c.div_ceil-g-end.ensures, c.loop-g-test.true, length-depths_of m1, c.loop-g.invariant.same.whole) in
     let options = ap (λ (h : Gaggle). h.options) c.new-pending.ensures.gaggle ∙ c.load.ensures.options in
     subst (λ o. Keeps view.tables.now.book o (plane_in view (depths_of m1)) c.loop-g.g (free_at view.kept.now c.loop-g.g)) (sym options)
     ((kept_moved view view.tables.now.book c.args.marks.now m1 c.loop-g.invariant.same c.requires.bits).at c.loop-g.g below full)
@@ -41,7 +53,8 @@ loop-g-preserved g c =
     let below : n < gaggles p = omega (arith, c.div_ceil-g-end.ensures, c.loop-g-test.true, length-depths_of m0) in
     let gaggle = c.new-pending.ensures.gaggle in
     let options = ap (λ (h : Gaggle). h.options) gaggle ∙ c.load.ensures.options ∙ i.same.options n in
-    let agrees = subst (λ f. Agrees f (before_stage p g.row.STAGE n)) (sym (ap (λ (h : Gaggle). h.sent) gaggle ∙ c.load.ensures.sent)) (i.agree.todo n (omega arith) below) in
+    let agrees = subst (λ f. Agrees f (before_stage p g.row.STAGE n)) (sym (ap (λ (h : Gaggle). h.sent) gaggle ∙ c.load.ensures.sent))
+    (i.agree.todo n (omega arith) below) in
     let s = stage_in_plane view i.same.depths c.in_ok-put_gaggle.ensures in
     let put = stage_has_items (options_at m0) options agrees s in
     record {
@@ -63,7 +76,8 @@ returns-in_err-put_gaggle g c =
     let below : n < gaggles p = omega (arith, c.div_ceil-g-end.ensures, c.loop-g-test.true, length-depths_of m0) in
     let gaggle = c.new-pending.ensures.gaggle in
     let options = ap (λ (h : Gaggle). h.options) gaggle ∙ c.load.ensures.options ∙ i.same.options n in
-    let agrees = subst (λ f. Agrees f (before_stage p g.row.STAGE n)) (sym (ap (λ (h : Gaggle). h.sent) gaggle ∙ c.load.ensures.sent)) (i.agree.todo n (omega arith) below) in
+    let agrees = subst (λ f. Agrees f (before_stage p g.row.STAGE n)) (sym (ap (λ (h : Gaggle). h.sent) gaggle ∙ c.load.ensures.sent))
+    (i.agree.todo n (omega arith) below) in
     let s = stage_in_plane view i.same.depths c.in_err-put_gaggle.ensures in
     let put = stage_has_items (options_at m0) options agrees s in
     rw (e.1, e.2) (record {

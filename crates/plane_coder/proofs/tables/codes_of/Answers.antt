@@ -12,7 +12,8 @@ pub loop-word-preserved : goal.loop-word-preserved
 loop-word-preserved c =
     let i = c.loop-word.invariant in
     let e = c.code_of_word.ensures in
-    let within : c.loop-word.word < length c.loop-word.codes = omega (arith, i.whole, word_within c.args.length c.loop-word.word c.requires.long c.loop-word-test.true) in
+    let within : c.loop-word.word < length c.loop-word.codes =
+    omega (arith, i.whole, word_within c.args.length c.loop-word.word c.requires.long c.loop-word-test.true) in
     record {
       whole = length-set c.loop-word.codes _ _ ∙ i.whole;
       so_far = below_more _ _

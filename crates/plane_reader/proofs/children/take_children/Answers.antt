@@ -12,7 +12,8 @@ use Rattle.plane_reader.proofs.TypeReads.{on}
 use Rattle.plane_reader.proofs.BlockReads.{due_marks}
 use Rattle.plane_reader.proofs.DueSets.{both_are, is_false, some_bit, new_family, new_children, any_marked, among_is}
 use Rattle.plane_reader.proofs.SetMarks.{was_set, live_set}
-use Rattle.plane_reader.proofs.ChildReads.{due_shown, families_shown, wanted_shown, families_now, no_flag, flag_cut, no_families, families_cut, no_types, types_cut, all_read}
+use Rattle.plane_reader.proofs.ChildReads.{due_shown, families_shown, wanted_shown, families_now, no_flag, flag_cut, no_families, families_cut, no_types}
+use Rattle.plane_reader.proofs.ChildReads.{types_cut, all_read}
 use Rattle.plane_reader.proofs.children.take_children.Goals as goal
 
 pub returns-in_err-all-clause-children : goal.returns-in_err-all-clause-children
@@ -52,7 +53,7 @@ some_places-requires-clause-some g c = λ wanted.
     let f = new_family (bit c.args.above) (coded plan.weights.shifts plan.plane) (sym plan.live_shown.descendants ∙ x.live two.0 was) (sym sets.descendants ∙
     was) in
     let z : 0 + f.0 ≡ f.0 = omega arith in
-    let shown = (c.masked-due.ensures.told _ 0 3 (c.except.ensures.told _ _ 0 3 sets.families plan.live_shown.families)).at f.0 f.1 in
+    let shown = (c.masked-due.ensures.if_known _ 0 3 (c.except.ensures.if_known _ _ 0 3 sets.families plan.live_shown.families)).at f.0 f.1 in
     some_bit c.masked-due.result f.0 (shown ∙ ap (λ i. (not (list_any (bit c.args.above) (members (Family i))) && list_any
     (coded plan.weights.shifts plan.plane) (members (Family i))) && c.in-Some.all) z ∙ (λ i. (not (f.2 i) && f.3 i) && two.0 i))
 
@@ -66,8 +67,8 @@ returns-in_err-new-clause-children g c = λ block s is marked.
     let lives = plan.live_shown.descendants ∙ live_set t block c.args.above marked Descendants in
     let x = rw c.in-Some.is at c.in_ok-all.ensures in
     let flag = rw (was, lives) at (x.flag.read s) in
-    let due = due_shown t block c.args.above marked c.in-Some.all (c.masked-due.ensures.told _ 0 3
-    (c.except.ensures.told _ _ 0 3 sets.families plan.live_shown.families)) in
+    let due = due_shown t block c.args.above marked c.in-Some.all (c.masked-due.ensures.if_known _ 0 3
+    (c.except.ensures.if_known _ _ 0 3 sets.families plan.live_shown.families)) in
     let w = c.in_err-new.ensures in
     let p = rw (x.tables, c.is_new-is_wanted.ensures, was) at (w.places s (λ i. is_due t block (Family i) c.in-Some.all) 0 3 (rw x.gaggle is.options)
     (omega arith) due) in
@@ -82,8 +83,8 @@ returns-in_default-2-clause-children g c = λ block s is marked.
     let lives = plan.live_shown.descendants ∙ live_set t block c.args.above marked Descendants in
     let x = rw c.in-Some.is at c.in_ok-all.ensures in
     let flag = rw (was, lives) at (x.flag.read s) in
-    let due = due_shown t block c.args.above marked c.in-Some.all (c.masked-due.ensures.told _ 0 3
-    (c.except.ensures.told _ _ 0 3 sets.families plan.live_shown.families)) in
+    let due = due_shown t block c.args.above marked c.in-Some.all (c.masked-due.ensures.if_known _ 0 3
+    (c.except.ensures.if_known _ _ 0 3 sets.families plan.live_shown.families)) in
     let w = rw c.in_default-2.is at c.in_ok-new.ensures in
     let p = rw (x.tables, c.is_new-is_wanted.ensures, was) at (w.places s (λ i. is_due t block (Family i) c.in-Some.all) 0 3 (rw x.gaggle is.options)
     (omega arith) due) in
@@ -117,15 +118,15 @@ take_groups-requires-clause-some g c = λ j lt on.
     let le = c.masked-due.ensures.within in
     let new = (rw c.in-Some-2.is at c.in_ok-new.ensures).among 3 (omega arith) (omega (arith, few, le)) in
     let z : 0 + j ≡ j = omega arith in
-    let wanted = (c.except-2.ensures.told _ (bit c.in-Some-2.new) 0 3 plan.live_shown.grandchildren (shows_own c.in-Some-2.new 3 new.small)).at j lt in
+    let wanted = (c.except-2.ensures.if_known _ (bit c.in-Some-2.new) 0 3 plan.live_shown.grandchildren (shows_own c.in-Some-2.new 3 new.small)).at j lt in
     let two = both_are (not (list_any can (members (Grandchildren j)))) (bit c.in-Some-2.new j) (ap (λ i. not (list_any can (members
     (Grandchildren i))) && bit c.in-Some-2.new i) (sym z) ∙ sym wanted ∙ on) in
-    let due = (c.masked-due.ensures.told _ 0 3 (c.except.ensures.told _ _ 0 3 sets.families plan.live_shown.families)).at j lt in
+    let due = (c.masked-due.ensures.if_known _ 0 3 (c.except.ensures.if_known _ _ 0 3 sets.families plan.live_shown.families)).at j lt in
     let is = both_are (not (list_any (bit c.args.above) (members (Family j))) && list_any can (members (Family j))) c.in-Some.all
     (ap (λ i. (not (list_any (bit c.args.above) (members (Family i))) && list_any can (members (Family i))) && c.in-Some.all) (sym z) ∙ sym due ∙
     among_is _ new j lt two.1) in
     let three = both_are (not (list_any (bit c.args.above) (members (Family j)))) (list_any can (members (Family j))) is.0 in
-    any_marked (4 + 4 * j) 4 (c.except-types.ensures.told (bit c.args.above) can 0 64 above plan.shown) (omega (arith, lt))
+    any_marked (4 + 4 * j) 4 (c.except-types.ensures.if_known (bit c.args.above) can 0 64 above plan.shown) (omega (arith, lt))
     (new_children (bit c.args.above) can j three.1 (is_false (list_any (bit c.args.above) (members (Family j))) three.0) (is_false (list_any can (members
     (Grandchildren j))) two.0))
 
@@ -139,14 +140,14 @@ returns-in_err-take_groups-clause-children g c = λ block s is marked.
     let lives = plan.live_shown.descendants ∙ live_set t block c.args.above marked Descendants in
     let x = rw c.in-Some.is at c.in_ok-all.ensures in
     let flag = rw (was, lives) at (x.flag.read s) in
-    let due = due_shown t block c.args.above marked c.in-Some.all (c.masked-due.ensures.told _ 0 3
-    (c.except.ensures.told _ _ 0 3 sets.families plan.live_shown.families)) in
+    let due = due_shown t block c.args.above marked c.in-Some.all (c.masked-due.ensures.if_known _ 0 3
+    (c.except.ensures.if_known _ _ 0 3 sets.families plan.live_shown.families)) in
     let w = rw c.in-Some-2.is at c.in_ok-new.ensures in
     let p = rw (x.tables, c.is_new-is_wanted.ensures, was) at (w.places s (λ i. is_due t block (Family i) c.in-Some.all) 0 3 (rw x.gaggle is.options)
     (omega arith) due) in
     let now = families_shown t block c.args.above marked p.ones (c.either-families.ensures _ _ 0 3 sets.families p.shown) in
-    let wanted = wanted_shown t block c.args.above marked p.ones (c.except-2.ensures.told _ _ 0 3 plan.live_shown.grandchildren p.shown) in
-    let marks = due_marks plan.plane plan.weights.shifts block c.except-types.ensures.told c.ranges.above.fits plan.shown marked 4 12 (omega arith)
+    let wanted = wanted_shown t block c.args.above marked p.ones (c.except-2.ensures.if_known _ _ 0 3 plan.live_shown.grandchildren p.shown) in
+    let marks = due_marks plan.plane plan.weights.shifts block c.except-types.ensures.if_known c.ranges.above.fits plan.shown marked 4 12 (omega arith)
     (omega arith) in
     let q = rw (w.tables, x.tables) at (c.in_err-take_groups.ensures.groups (with_options s p.options) (type_due block t.weights t.plane)
     (families_now t block s p.ones) (λ i. p.ones i && not (live t.weights t.plane (Grandchildren i))) (rw (
@@ -164,14 +165,14 @@ returns-in_default-3-clause-children g c = λ block s is marked.
     let lives = plan.live_shown.descendants ∙ live_set t block c.args.above marked Descendants in
     let x = rw c.in-Some.is at c.in_ok-all.ensures in
     let flag = rw (was, lives) at (x.flag.read s) in
-    let due = due_shown t block c.args.above marked c.in-Some.all (c.masked-due.ensures.told _ 0 3
-    (c.except.ensures.told _ _ 0 3 sets.families plan.live_shown.families)) in
+    let due = due_shown t block c.args.above marked c.in-Some.all (c.masked-due.ensures.if_known _ 0 3
+    (c.except.ensures.if_known _ _ 0 3 sets.families plan.live_shown.families)) in
     let w = rw c.in-Some-2.is at c.in_ok-new.ensures in
     let p = rw (x.tables, c.is_new-is_wanted.ensures, was) at (w.places s (λ i. is_due t block (Family i) c.in-Some.all) 0 3 (rw x.gaggle is.options)
     (omega arith) due) in
     let now = families_shown t block c.args.above marked p.ones (c.either-families.ensures _ _ 0 3 sets.families p.shown) in
-    let wanted = wanted_shown t block c.args.above marked p.ones (c.except-2.ensures.told _ _ 0 3 plan.live_shown.grandchildren p.shown) in
-    let marks = due_marks plan.plane plan.weights.shifts block c.except-types.ensures.told c.ranges.above.fits plan.shown marked 4 12 (omega arith)
+    let wanted = wanted_shown t block c.args.above marked p.ones (c.except-2.ensures.if_known _ _ 0 3 plan.live_shown.grandchildren p.shown) in
+    let marks = due_marks plan.plane plan.weights.shifts block c.except-types.ensures.if_known c.ranges.above.fits plan.shown marked 4 12 (omega arith)
     (omega arith) in
     let y = rw c.in_default-3.is at c.in_ok-take_groups.ensures in
     let q = rw (w.tables, x.tables) at (y.groups (with_options s p.options) (type_due block t.weights t.plane) (families_now t block s p.ones)
@@ -187,14 +188,14 @@ returns-clause-children g c = λ block s is marked.
     let lives = plan.live_shown.descendants ∙ live_set t block c.args.above marked Descendants in
     let x = rw c.in-Some.is at c.in_ok-all.ensures in
     let flag = rw (was, lives) at (x.flag.read s) in
-    let due = due_shown t block c.args.above marked c.in-Some.all (c.masked-due.ensures.told _ 0 3
-    (c.except.ensures.told _ _ 0 3 sets.families plan.live_shown.families)) in
+    let due = due_shown t block c.args.above marked c.in-Some.all (c.masked-due.ensures.if_known _ 0 3
+    (c.except.ensures.if_known _ _ 0 3 sets.families plan.live_shown.families)) in
     let w = rw c.in-Some-2.is at c.in_ok-new.ensures in
     let p = rw (x.tables, c.is_new-is_wanted.ensures, was) at (w.places s (λ i. is_due t block (Family i) c.in-Some.all) 0 3 (rw x.gaggle is.options)
     (omega arith) due) in
     let now = families_shown t block c.args.above marked p.ones (c.either-families.ensures _ _ 0 3 sets.families p.shown) in
-    let wanted = wanted_shown t block c.args.above marked p.ones (c.except-2.ensures.told _ _ 0 3 plan.live_shown.grandchildren p.shown) in
-    let marks = due_marks plan.plane plan.weights.shifts block c.except-types.ensures.told c.ranges.above.fits plan.shown marked 4 12 (omega arith)
+    let wanted = wanted_shown t block c.args.above marked p.ones (c.except-2.ensures.if_known _ _ 0 3 plan.live_shown.grandchildren p.shown) in
+    let marks = due_marks plan.plane plan.weights.shifts block c.except-types.ensures.if_known c.ranges.above.fits plan.shown marked 4 12 (omega arith)
     (omega arith) in
     let y = rw c.in-Some-3.is at c.in_ok-take_groups.ensures in
     let q = rw (w.tables, x.tables) at (y.groups (with_options s p.options) (type_due block t.weights t.plane) (families_now t block s p.ones)

@@ -1,6 +1,7 @@
 use Rattle.std.proofs.Common.{◌≡◌, suc, ◌<◌, ◌+◌, ◌-◌, ◌*◌, length, refl, arith}
 use Rattle.std.proofs.lemmas.Result.{err_from_is_err_and}
-use Rattle.plane_reader.proofs.DcReads.{others_kept, others_more, dcs_start, dcs_done, dcs_cut, dcs_fault, dcs_more, dc_unchanged, dc_changed, dc_before, dc_same}
+use Rattle.plane_reader.proofs.DcReads.{others_kept, others_more, dcs_start, dcs_done, dcs_cut, dcs_fault, dcs_more, dc_unchanged, dc_changed, dc_before}
+use Rattle.plane_reader.proofs.DcReads.{dc_same}
 use Rattle.plane_reader.proofs.dc_bits.take_bits.Goals as goal
 use Rattle.plane_reader.proofs.dc_bits.take_bits.Goals.{then-bit, else-bit}
 

@@ -27,7 +27,7 @@ loop-k-preserved c =
     let f : ℕ → Bool = λ r. nat_lt c.args.plane (get_or (depths_of marks) r 0) in
     let e : nat_lt c.args.plane c.depth_of.result ≡ f at = ap (nat_lt c.args.plane) (rw same at c.depth_of.ensures.value ∙ ap depth_of own ∙
     sym (depth_there marks at)) in
-    c.joined-deep.ensures.told f c.args.first 1 c.loop-k.invariant (one_shows at e (c.one.ensures.told at))
+    c.joined-deep.ensures.if_known f c.args.first 1 c.loop-k.invariant (one_shows at e (c.one.ensures.if_known at))
 
 pub returns : goal.returns
 returns c =

@@ -5,7 +5,8 @@ use Rattle.plane_reader.specs.Blocks.{terms_of}
 use Rattle.item_defs.specs.Bits.{bit}
 use Rattle.plane_reader.proofs.SignReads.{bit_inside}
 use Rattle.plane_reader.proofs.HeldGroups.{zero_bit}
-use Rattle.plane_reader.proofs.GaggleReads.{deep_start, deep_to, deep_after, next_is_left, blocks_done, slots_kept, slots_more, above_after, states_kept, states_set, block_whole, block_cut, block_fault}
+use Rattle.plane_reader.proofs.GaggleReads.{deep_start, deep_to, deep_after, next_is_left, blocks_done, slots_kept, slots_more, above_after, states_kept}
+use Rattle.plane_reader.proofs.GaggleReads.{states_set, block_whole, block_cut, block_fault}
 use Rattle.plane_reader.proofs.gaggles.take_blocks.Goals as goal
 
 pub loop-left-init : goal.loop-left-init

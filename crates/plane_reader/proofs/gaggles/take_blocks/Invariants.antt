@@ -1,5 +1,5 @@
 use Rattle.std.proofs.Common.{◌≡◌, ℕ, ◌<◌, ◌^◌, ◌/◌, List, ℤ}
-use Rattle.bit_pipe.specs.Coming.{coming}
+use Rattle.bit_pipe.specs.SourceState.{source_state}
 use Rattle.plane_defs.specs.PlaneScript.{PlaneState}
 use Rattle.plane_reader.specs.Takes.{AreIn}
 use Rattle.plane_reader.specs.Held.{point}
@@ -11,7 +11,7 @@ use Rattle.plane_reader.proofs.gaggles.take_blocks.Given as goal
 
 abbrev pub invariant-loop-left : goal.invariant-loop-left
 invariant-loop-left g l = record {
-  reading : IsReading g.I.OctetIn.source (coming l.input) l.reading;
+  reading : IsReading g.I.OctetIn.source (source_state l.input) l.reading;
   tables : l.reading.tables ≡ l.fn.reading.tables;
   keeps : KeepSlots l.of.plan.now.plane l.initial.cells l.cells;
   states : KeepStates l.initial.marks l.marks;
@@ -23,7 +23,8 @@ invariant-loop-left g l = record {
       (l.of.blocks.first.block / 16)
       l.of.blocks.first.block l.of.blocks.count p (gaggle_script (terms_of l.of.plan.now l.fn.reading.tables.now.words.book) g.row.STAGE depths numbers
       l.of.blocks.first.block l.of.blocks.count p)
-      l.of.blocks.deep l.left l.reading.gaggle l.cells l.marks (point (coming l.fn.input) l.fn.reading.cursor) (point (coming l.input) l.reading.cursor);
+      l.of.blocks.deep l.left l.reading.gaggle l.cells l.marks (point (source_state l.fn.input) l.fn.reading.cursor)
+      (point (source_state l.input) l.reading.cursor);
 }
 
 abbrev pub decreases-loop-left : goal.decreases-loop-left

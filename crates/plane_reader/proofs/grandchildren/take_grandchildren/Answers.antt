@@ -25,10 +25,10 @@ returns-in_err-new-clause-grandchildren g c = λ block earlier s is marked famil
     let plan = c.args.plan.now in
     let t = terms_of plan c.args.reading.now.tables.now.words.book in
     let before = c.of-before.ensures (bit c.args.seen.above) (shows_own c.args.seen.above 64 (search rules)) in
-    let due = sixteens_due t block c.args.seen.above marked earlier (c.both-due.ensures.told _ _ 0 3
-    (c.except-live.ensures.told _ _ 0 3 before.grandchildren plan.live_shown.grandchildren) families) in
-    let forced = c.both-forced.ensures.told _ _ 0 3 (c.except.ensures.told _ _ 0 3 before.families families) c.without_child.ensures in
-    let wanted = forced_shown t block c.args.seen.above marked earlier c.args.seen.now seen (c.both.ensures.told _ _ 0 3 due forced) in
+    let due = sixteens_due t block c.args.seen.above marked earlier (c.both-due.ensures.if_known _ _ 0 3
+    (c.except-live.ensures.if_known _ _ 0 3 before.grandchildren plan.live_shown.grandchildren) families) in
+    let forced = c.both-forced.ensures.if_known _ _ 0 3 (c.except.ensures.if_known _ _ 0 3 before.families families) c.without_child.ensures in
+    let wanted = forced_shown t block c.args.seen.above marked earlier c.args.seen.now seen (c.both.ensures.if_known _ _ 0 3 due forced) in
     let w = c.in_err-new.ensures in
     rw (e.1, e.2, w.found) (word_fault (sixteens_word t block earlier s) (sixteens_rest t block) 0 3 s is _ (w.places s (λ i. is_due t block (Grandchildren i)
     (earlier.families i)) (is_childless t block earlier) 0 3 is.options (omega arith) due wanted))
@@ -38,10 +38,10 @@ returns-in_default-clause-grandchildren g c = λ block earlier s is marked famil
     let plan = c.args.plan.now in
     let t = terms_of plan c.args.reading.now.tables.now.words.book in
     let before = c.of-before.ensures (bit c.args.seen.above) (shows_own c.args.seen.above 64 (search rules)) in
-    let due = sixteens_due t block c.args.seen.above marked earlier (c.both-due.ensures.told _ _ 0 3
-    (c.except-live.ensures.told _ _ 0 3 before.grandchildren plan.live_shown.grandchildren) families) in
-    let forced = c.both-forced.ensures.told _ _ 0 3 (c.except.ensures.told _ _ 0 3 before.families families) c.without_child.ensures in
-    let wanted = forced_shown t block c.args.seen.above marked earlier c.args.seen.now seen (c.both.ensures.told _ _ 0 3 due forced) in
+    let due = sixteens_due t block c.args.seen.above marked earlier (c.both-due.ensures.if_known _ _ 0 3
+    (c.except-live.ensures.if_known _ _ 0 3 before.grandchildren plan.live_shown.grandchildren) families) in
+    let forced = c.both-forced.ensures.if_known _ _ 0 3 (c.except.ensures.if_known _ _ 0 3 before.families families) c.without_child.ensures in
+    let wanted = forced_shown t block c.args.seen.above marked earlier c.args.seen.now seen (c.both.ensures.if_known _ _ 0 3 due forced) in
     let w = rw c.in_default.is at c.in_ok-new.ensures in
     rw w.found (word_cut (sixteens_word t block earlier s) (sixteens_rest t block) 0 3 s is (w.places s (λ i. is_due t block (Grandchildren i)
     (earlier.families i)) (is_childless t block earlier) 0 3 is.options (omega arith) due wanted))
@@ -56,9 +56,9 @@ take_sixteens-requires-clause-new g c = λ i lt on.
     let within = c.both-due.ensures.within in
     let new = (rw c.in-Some.is at c.in_ok-new.ensures).among 3 (omega arith) (omega (arith, within, live_few)) in
     let z : 0 + i ≡ i = omega arith in
-    let live = c.except-live.ensures.told _ _ 0 3 before.grandchildren plan.live_shown.grandchildren in
+    let live = c.except-live.ensures.if_known _ _ 0 3 before.grandchildren plan.live_shown.grandchildren in
     let few = live.small in
-    let due = (c.both-due.ensures.told (bit c.except-live.result) (bit c.args.seen.families) 0 64 (shows_own c.except-live.result 64 (search rules))
+    let due = (c.both-due.ensures.if_known (bit c.except-live.result) (bit c.args.seen.families) 0 64 (shows_own c.except-live.result 64 (search rules))
     (shows_own c.args.seen.families 64 (search rules))).at i (omega (arith, lt)) in
     let two = both_are (bit c.except-live.result i) (bit c.args.seen.families i) (ap (λ n. bit c.except-live.result n && bit c.args.seen.families n) (sym z) ∙
     sym due ∙ among_is _ new i lt on) in
@@ -71,10 +71,10 @@ returns-clause-grandchildren g c = λ block earlier s is marked families seen.
     let plan = c.args.plan.now in
     let t = terms_of plan c.args.reading.now.tables.now.words.book in
     let before = c.of-before.ensures (bit c.args.seen.above) (shows_own c.args.seen.above 64 (search rules)) in
-    let due = sixteens_due t block c.args.seen.above marked earlier (c.both-due.ensures.told _ _ 0 3
-    (c.except-live.ensures.told _ _ 0 3 before.grandchildren plan.live_shown.grandchildren) families) in
-    let forced = c.both-forced.ensures.told _ _ 0 3 (c.except.ensures.told _ _ 0 3 before.families families) c.without_child.ensures in
-    let wanted = forced_shown t block c.args.seen.above marked earlier c.args.seen.now seen (c.both.ensures.told _ _ 0 3 due forced) in
+    let due = sixteens_due t block c.args.seen.above marked earlier (c.both-due.ensures.if_known _ _ 0 3
+    (c.except-live.ensures.if_known _ _ 0 3 before.grandchildren plan.live_shown.grandchildren) families) in
+    let forced = c.both-forced.ensures.if_known _ _ 0 3 (c.except.ensures.if_known _ _ 0 3 before.families families) c.without_child.ensures in
+    let wanted = forced_shown t block c.args.seen.above marked earlier c.args.seen.now seen (c.both.ensures.if_known _ _ 0 3 due forced) in
     let w = rw c.in-Some.is at c.in_ok-new.ensures in
     let p = w.places s (λ i. is_due t block (Grandchildren i) (earlier.families i)) (is_childless t block earlier) 0 3 is.options (omega arith) due wanted in
     let now = sixteens_now t block c.args.seen.above marked earlier p.ones (c.either.ensures _ _ 0 3 before.grandchildren p.shown) in

@@ -1,5 +1,5 @@
 use Rattle.std.proofs.Common.{◌≡◌, ℕ, ◌-◌, Bool, List, ℤ}
-use Rattle.bit_pipe.specs.Coming.{coming}
+use Rattle.bit_pipe.specs.SourceState.{source_state}
 use Rattle.block_masks.specs.Masks.{Shows}
 use Rattle.item_defs.specs.Scripts.{in_turn}
 use Rattle.plane_defs.specs.States.{State}
@@ -13,11 +13,11 @@ use Rattle.plane_reader.proofs.grandchildren.take_sixteens.Given as goal
 
 abbrev pub invariant-loop-i : goal.invariant-loop-i
 invariant-loop-i g l = record {
-  reading : IsReading g.I.OctetIn.source (coming l.input) l.reading;
+  reading : IsReading g.I.OctetIn.source (source_state l.input) l.reading;
   tables : l.reading.tables ≡ l.fn.reading.tables;
   left : (block : List ℤ) (s : State) (now new : ℕ → Bool) → IsState l.fn.reading.gaggle l.fn.reading.found s → IsAbove l.above block l.plan.plane →
       Shows l.sets.now now 0 3 → Shows l.sets.new new 0 3 →
       TurnsLeft g.I.OctetIn.source (in_turn (sixteen_script (terms_of l.plan l.fn.reading.tables.now.words.book) block now new) 0 3 s) (sixteen_script
       (terms_of l.plan l.fn.reading.tables.now.words.book) block now new) l.i (3 - l.i) l.reading.gaggle l.reading.found
-      (point (coming l.fn.input) l.fn.reading.cursor) (point (coming l.input) l.reading.cursor);
+      (point (source_state l.fn.input) l.fn.reading.cursor) (point (source_state l.input) l.reading.cursor);
 }

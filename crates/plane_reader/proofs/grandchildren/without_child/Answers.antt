@@ -9,5 +9,6 @@ use Rattle.plane_reader.proofs.grandchildren.without_child.Goals as goal
 pub returns : goal.returns
 returns c =
     let shown = shows_own c.args.mask 64 (search rules) in
-    c.three.ensures.told (λ i. not (list_any (bit c.args.mask) (span (children_of i) 4))) (ap not (sym (c.is_any_of.ensures (bit c.args.mask) shown))) (ap not
+    c.three.ensures.if_known (λ i. not (list_any (bit c.args.mask) (span (children_of i) 4))) (ap not (sym (c.is_any_of.ensures (bit c.args.mask) shown)))
+    (ap not
     (sym (c.is_any_of-2.ensures (bit c.args.mask) shown))) (ap not (sym (c.is_any_of-3.ensures (bit c.args.mask) shown)))

@@ -1,4 +1,5 @@
-use Rattle.std.proofs.Common.{◌≡◌, ◌≤◌, ◌<◌, ◌*◌, ◌/◌, ◌%◌, ◌^◌, ◌∙◌, ap, sym, subst, inl, inr, arith, count_ones, get_or, get_or-set_same, get_or-set_other, length-set, pow_mono, set}
+use Rattle.std.proofs.Common.{◌≡◌, ◌≤◌, ◌<◌, ◌*◌, ◌/◌, ◌%◌, ◌^◌, ◌∙◌, ap, sym, subst, inl, inr, arith, count_ones, get_or, get_or-set_same}
+use Rattle.std.proofs.Common.{get_or-set_other, length-set, pow_mono, set}
 use Rattle.std.proofs.lemmas.Bool.{cases_lt}
 use Rattle.item_defs.specs.Items.{item_bits}
 use Rattle.bit_pipe.specs.Windows.{first_of}

@@ -7,7 +7,8 @@ use Rattle.plane_defs.specs.Marks.{depths_of}
 use Rattle.plane_reader.specs.Blocks.{terms_of}
 use Rattle.plane_reader.specs.Gaggles.{AreDeep}
 use Rattle.plane_reader.proofs.GaggleReads.{slots_kept, slots_then, above_after}
-use Rattle.plane_reader.proofs.StageReads.{gaggles_start, at_gaggle, gaggles_more, gaggles_cut, gaggles_fault, stage_cut, stage_fault, stage_done, known_after, OthersStay}
+use Rattle.plane_reader.proofs.StageReads.{gaggles_start, at_gaggle, gaggles_more, gaggles_cut, gaggles_fault, stage_cut, stage_fault, stage_done}
+use Rattle.plane_reader.proofs.StageReads.{known_after, OthersStay}
 use Rattle.plane_reader.proofs.plane.take_gaggles.Goals as goal
 
 pub loop-g-init : goal.loop-g-init

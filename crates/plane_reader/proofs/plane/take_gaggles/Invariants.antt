@@ -1,5 +1,5 @@
 use Rattle.std.proofs.Common.{◌≡◌, ◌-◌, ◌*◌, ℤ, List, length}
-use Rattle.bit_pipe.specs.Coming.{coming, IsIn}
+use Rattle.bit_pipe.specs.SourceState.{source_state, IsIn}
 use Rattle.block_masks.specs.Gaggles.{AreKnown}
 use Rattle.plane_defs.specs.Marks.{depths_of}
 use Rattle.plane_defs.specs.PlaneScript.{PlaneState, blocks_script}
@@ -10,7 +10,7 @@ use Rattle.plane_reader.proofs.plane.take_gaggles.Given as goal
 
 abbrev pub invariant-loop-g : goal.invariant-loop-g
 invariant-loop-g g l = record {
-  is_in : IsIn (coming l.input);
+  is_in : IsIn (source_state l.input);
   known : AreKnown l.marks;
   keeps : KeepSlots l.terms.plan.now.plane l.initial.cells l.cells;
   depths : depths_of l.marks ≡ depths_of l.initial.marks;
@@ -19,5 +19,5 @@ invariant-loop-g g l = record {
       GagglesLeft g.I.OctetIn.source l.terms.plan.now.plane (16 * l.g) (length l.initial.marks - 16 * l.g) numbers (blocks_script
       (terms_of l.terms.plan.now l.terms.tables.now.words.book) (depths_of l.initial.marks) numbers g.row.STAGE p)
       (block_script (terms_of l.terms.plan.now l.terms.tables.now.words.book) g.row.STAGE (depths_of l.initial.marks) numbers) l.cells l.marks
-      (coming l.initial.input) (coming l.input);
+      (source_state l.initial.input) (source_state l.input);
 }

@@ -1,7 +1,7 @@
 use Rattle.std.proofs.Common.{◌≡◌, ◌+◌, ◌-◌, ◌%◌, ◌∙◌, suc, length, subst, arith, Ok, Err}
 use Rattle.std.proofs.lemmas.Result.{err_from_is_err_and}
 use Rattle.bit_pipe.specs.declared.fault.Part.TheVariants.{Whole, Ended}
-use Rattle.bit_pipe.specs.Coming.{coming}
+use Rattle.bit_pipe.specs.SourceState.{source_state}
 use Rattle.block_masks.proofs.Marking.{length-depths_of}
 use Rattle.block_masks.specs.Slices.{numbers_in}
 use Rattle.plane_defs.specs.Marks.{depths_of}
@@ -80,7 +80,7 @@ loop-number-preserved g c =
     let l = i.left in
     let s = x.stage numbers l.state (above_planes numbers plan.low i.keeps (above_now plan.plane cells plan.low even c.requires.ready)) l.have in
     let here = subst (λ d. TakesStage g.I.OctetIn.source plan.plane numbers (blocks_script t d numbers n l.state)
-    (Ok Whole) c.take_stage.new.cells c.take_stage.new.marks (coming c.loop-number.input) (coming c.take_stage.new.input)) i.depths s in
+    (Ok Whole) c.take_stage.new.cells c.take_stage.new.marks (source_state c.loop-number.input) (source_state c.take_stage.new.input)) i.depths s in
     record {
       is_in = x.is_in;
       known = x.known;
@@ -105,8 +105,8 @@ returns-in_err-take_stage-clause-stages g c =
     let l = i.left in
     let s = x.stage numbers l.state (above_planes numbers plan.low i.keeps (above_now plan.plane cells plan.low even c.requires.ready)) l.have in
     let here = subst (λ d. TakesStage g.I.OctetIn.source plan.plane numbers (blocks_script t d numbers n l.state)
-    (Err c.in_err-take_stage.field-0.0) c.take_stage.new.cells c.take_stage.new.marks (coming c.loop-number.input)
-    (coming c.take_stage.new.input)) i.depths s in
+    (Err c.in_err-take_stage.field-0.0) c.take_stage.new.cells c.take_stage.new.marks (source_state c.loop-number.input)
+    (source_state c.take_stage.new.input)) i.depths s in
     rw (e.1, e.2) (stages_fault t depths more l _ here)
 
 pub returns-in_default-2-clause-stages : goal.returns-in_default-2-clause-stages
@@ -124,7 +124,7 @@ returns-in_default-2-clause-stages g c =
     let l = i.left in
     let s = x.stage numbers l.state (above_planes numbers plan.low i.keeps (above_now plan.plane cells plan.low even c.requires.ready)) l.have in
     let here = subst (λ d. TakesStage g.I.OctetIn.source plan.plane numbers (blocks_script t d numbers n l.state)
-    (Ok Ended) c.take_stage.new.cells c.take_stage.new.marks (coming c.loop-number.input) (coming c.take_stage.new.input)) i.depths s in
+    (Ok Ended) c.take_stage.new.cells c.take_stage.new.marks (source_state c.loop-number.input) (source_state c.take_stage.new.input)) i.depths s in
     stages_cut t depths more l here
 
 pub returns-clause-stages : goal.returns-clause-stages

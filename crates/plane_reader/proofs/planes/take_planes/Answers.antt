@@ -1,5 +1,5 @@
 use Rattle.std.proofs.Common.{◌≡◌, ◌∙◌, sym, subst, arith}
-use Rattle.bit_pipe.specs.Coming.{coming}
+use Rattle.bit_pipe.specs.SourceState.{source_state}
 use Rattle.bit_pipe.specs.ScriptSources.{ReadsAs, by_part}
 use Rattle.bit_pipe.proofs.ScriptReading.{leaves_all}
 use Rattle.block_masks.specs.Slices.{numbers_in}
@@ -18,7 +18,7 @@ returns-then-sent-clause-planes g c = λ stages same.
     let all = planes_script c.args.tables.now.words.book s.weights.shifts s.q (depths_of c.args.marks.now) stages s.below (blocks_in blocks) in
     planes_done c.args.tables.now.words.book s.weights.shifts s.q (depths_of c.args.marks.now) stages c.requires.open (λ p lt. same p ∙
     below_stop s p (omega (arith, lt, c.if-sent.true)))
-    (blocks_whole blocks (omega (arith, c.requires.whole))) (leaves_all all (coming c.args.input.now))
+    (blocks_whole blocks (omega (arith, c.requires.whole))) (leaves_all all (source_state c.args.input.now))
 
 pub take_sent-read-requires-clause-dcs : goal.take_sent-read-requires-clause-dcs
 take_sent-read-requires-clause-dcs g c = subst (λ b. AwaitDcs c.args.sent.now.below c.args.sent.now.q (blocks_in
@@ -28,8 +28,8 @@ pub returns-clause-planes : goal.returns-clause-planes
 returns-clause-planes g c = λ stages same.
     let s = c.args.sent.now in
     let k = g.I.OctetIn.source in
-    let old = coming c.args.input.now in
-    let new = coming c.take_sent-read.new.input in
+    let old = source_state c.args.input.now in
+    let new = source_state c.take_sent-read.new.input in
     let book = c.args.tables.now.words.book in
     let depths = depths_of c.args.marks.now in
     let result = c.take_sent-read.result in

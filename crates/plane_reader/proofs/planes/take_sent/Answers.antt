@@ -1,6 +1,6 @@
 use Rattle.std.proofs.Common.{◌≡◌, ◌+◌, ◌-◌, ◌%◌, ◌∙◌, suc, length, refl, subst, arith}
 use Rattle.std.proofs.lemmas.Result.{err_from_is_err_and}
-use Rattle.bit_pipe.specs.Coming.{coming}
+use Rattle.bit_pipe.specs.SourceState.{source_state}
 use Rattle.block_masks.proofs.SliceNumbers.{length-numbers_in}
 use Rattle.block_masks.specs.Slices.{numbers_in}
 use Rattle.bit_pipe.specs.ScriptSources.{got, ends, by_fault}
@@ -28,7 +28,8 @@ loop-n-init g c =
       depths = refl;
       size = refl;
       left = subst (λ n. Leaves g.I.OctetIn.source all (planes_script c.args.tables.now.words.book s.weights.shifts s.q (depths_of c.args.marks.now)
-          (stages_of s) n (blocks_in (numbers_in cells))) (coming c.args.input.now) (coming c.args.input.now)) same (leaves_all all (coming c.args.input.now));
+          (stages_of s) n (blocks_in (numbers_in cells))) (source_state c.args.input.now) (source_state c.args.input.now)) same
+          (leaves_all all (source_state c.args.input.now));
     }
 
 pub take_plane-requires-clause-ready : goal.take_plane-requires-clause-ready
@@ -68,8 +69,8 @@ loop-n-preserved g c =
       depths = x.depths ∙ i.depths;
       size = x.size ∙ i.size;
       left = subst (λ m. Leaves g.I.OctetIn.source (planes_script book s.weights.shifts s.q depths (stages_of s) s.below (blocks_in (numbers_in
-          c.args.cells.now))) (planes_script book s.weights.shifts s.q depths (stages_of s) m now) (coming c.args.input.now)
-          (coming c.take_plane.new.input)) after left;
+          c.args.cells.now))) (planes_script book s.weights.shifts s.q depths (stages_of s) m now) (source_state c.args.input.now)
+          (source_state c.take_plane.new.input)) after left;
     }
 
 pub returns-in_err-take_plane-clause-planes : goal.returns-in_err-take_plane-clause-planes

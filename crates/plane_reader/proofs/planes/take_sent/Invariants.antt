@@ -1,5 +1,5 @@
 use Rattle.std.proofs.Common.{◌≡◌, ◌-◌, length}
-use Rattle.bit_pipe.specs.Coming.{coming, IsIn}
+use Rattle.bit_pipe.specs.SourceState.{source_state, IsIn}
 use Rattle.block_masks.specs.Slices.{numbers_in}
 use Rattle.bit_pipe.proofs.ScriptReading.{Leaves}
 use Rattle.plane_defs.specs.Marks.{depths_of}
@@ -12,7 +12,7 @@ use Rattle.plane_reader.proofs.planes.take_sent.Given as goal
 
 abbrev pub invariant-loop-n : goal.invariant-loop-n
 invariant-loop-n g l = record {
-  is_in : IsIn (coming l.input);
+  is_in : IsIn (source_state l.input);
   ready : AreReady (l.sent.below - l.n) l.cells;
   dcs : AwaitDcs (l.sent.below - l.n) l.sent.q (blocks_in (numbers_in l.cells));
   below : AreBelow l.sent.below l.cells;
@@ -21,5 +21,5 @@ invariant-loop-n g l = record {
   left : Leaves g.I.OctetIn.source (planes_script l.tables.words.book l.sent.weights.shifts l.sent.q (depths_of l.fn.marks) (stages_of l.sent) l.sent.below
       (blocks_in (numbers_in l.fn.cells)))
       (planes_script l.tables.words.book l.sent.weights.shifts l.sent.q (depths_of l.fn.marks) (stages_of l.sent) (l.sent.below - l.n) (blocks_in (numbers_in
-      l.cells))) (coming l.fn.input) (coming l.input);
+      l.cells))) (source_state l.fn.input) (source_state l.input);
 }

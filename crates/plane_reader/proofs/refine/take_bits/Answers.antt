@@ -87,7 +87,7 @@ loop-left-preserved g c =
             arith,
             inside,
             c.requires.start,
-          )) (rw x.found m.is.bits) (c.one.ensures.told (c.args.start + j))) in
+          )) (rw x.found m.is.bits) (c.one.ensures.if_known (c.args.start + j))) in
           let read = bit_read f (c.args.start + m.n) here m.state m.is b x.is_in (rw place at bits) (c.add_bits.ensures.minus ∙
           ap (λ z. z.minus) x.found) x.flag in
           group_read m j at.1 inside (omega arith) first.none_before rest.result rest.ensures.gone rest.ensures.others (rw x.gaggle read);

@@ -6,18 +6,18 @@ use Rattle.plane_reader.proofs.refine.take_half.Goals as goal
 
 pub returns-then-here-eq0-clause-bits : goal.returns-then-here-eq0-clause-bits
 returns-then-here-eq0-clause-bits g c = λ s f is shown.
-    half_none f c.args.start s is c.if-here-eq0.true (from_zero c.args.start (c.part-here.ensures.told f 0 64 shown (omega (
+    half_none f c.args.start s is c.if-here-eq0.true (from_zero c.args.start (c.part-here.ensures.if_known f 0 64 shown (omega (
       arith,
       c.requires.start,
     )))) c.requires.reading.is_in
 
 pub returns-then-deal-clause-bits : goal.returns-then-deal-clause-bits
 returns-then-deal-clause-bits g c = λ s f is shown.
-    c.deal.ensures.dealt c.if-deal.true s f is (from_zero c.args.start (c.part-here.ensures.told f 0 64 shown (omega (arith, c.requires.start))))
+    c.deal.ensures.dealt c.if-deal.true s f is (from_zero c.args.start (c.part-here.ensures.if_known f 0 64 shown (omega (arith, c.requires.start))))
 
 pub returns-clause-bits : goal.returns-clause-bits
 returns-clause-bits g c = λ s f is shown.
     let no = c.if-deal.false in
     held_later _ _ (c.deal.ensures.stays no)
-    (c.take_bits.ensures.bits s f (rw (c.deal.ensures.gaggle, c.deal.ensures.kept no) is) (from_zero c.args.start (c.part-here.ensures.told f 0 64 shown
+    (c.take_bits.ensures.bits s f (rw (c.deal.ensures.gaggle, c.deal.ensures.kept no) is) (from_zero c.args.start (c.part-here.ensures.if_known f 0 64 shown
     (omega (arith, c.requires.start)))))

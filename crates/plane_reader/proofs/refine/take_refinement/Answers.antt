@@ -15,7 +15,7 @@ returns-in_err-take_half-clause-refinement g c = λ block s is marked.
     let t = terms_of plan c.args.reading.now.tables.now.words.book in
     let mask = c.without-refined.result in
     let item = marked_script (bit mask) in
-    let shown = c.both.ensures.told _ _ 0 64 (shows_own c.args.above 64 c.ranges.above.fits) plan.shown in
+    let shown = c.both.ensures.if_known _ _ 0 64 (shows_own c.args.above 64 c.ranges.above.fits) plan.shown in
     let marks = refined_marks mask c.args.above plan.plane plan.weights.shifts block shown marked c.without-refined.ensures.others in
     let own = shows_own mask 64 (search rules) in
     rw (p.1, p.2, sym (refinement_is t block (bit mask) c.without-refined.ensures.gone marks s)) (half_fault (in_turn item 0 32 s) (in_turn item 32 32) _
@@ -28,7 +28,7 @@ returns-in_default-clause-refinement g c = λ block s is marked.
     let t = terms_of plan c.args.reading.now.tables.now.words.book in
     let mask = c.without-refined.result in
     let item = marked_script (bit mask) in
-    let shown = c.both.ensures.told _ _ 0 64 (shows_own c.args.above 64 c.ranges.above.fits) plan.shown in
+    let shown = c.both.ensures.if_known _ _ 0 64 (shows_own c.args.above 64 c.ranges.above.fits) plan.shown in
     let marks = refined_marks mask c.args.above plan.plane plan.weights.shifts block shown marked c.without-refined.ensures.others in
     let own = shows_own mask 64 (search rules) in
     rw (sym (refinement_is t block (bit mask) c.without-refined.ensures.gone marks s)) (half_cut (in_turn item 0 32 s) (in_turn item 32 32) (x.bits s
@@ -41,7 +41,7 @@ returns-clause-refinement g c = λ block s is marked.
     let t = terms_of plan c.args.reading.now.tables.now.words.book in
     let mask = c.without-refined.result in
     let item = marked_script (bit mask) in
-    let shown = c.both.ensures.told _ _ 0 64 (shows_own c.args.above 64 c.ranges.above.fits) plan.shown in
+    let shown = c.both.ensures.if_known _ _ 0 64 (shows_own c.args.above 64 c.ranges.above.fits) plan.shown in
     let marks = refined_marks mask c.args.above plan.plane plan.weights.shifts block shown marked c.without-refined.ensures.others in
     let own = shows_own mask 64 (search rules) in
     let q = x.bits s (bit mask) is own in

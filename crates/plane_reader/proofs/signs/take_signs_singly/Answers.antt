@@ -61,7 +61,7 @@ loop-left-preserved g c =
           record {
             minus = _;
             shown = sign_shown c.add_minus.new.self.minus s.minus (c.args.start + k) c.in-Some.minus (c.add_minus.ensures.minus s.minus
-                (λ q. c.in-Some.minus) 1 (omega (arith, lt, c.requires.within)) s.shown (c.one.ensures.told (c.args.start + k)));
+                (λ q. c.in-Some.minus) 1 (omega (arith, lt, c.requires.within)) s.shown (c.one.ensures.if_known (c.args.start + k)));
             left = signs_more _ _ (with_minus t s.minus) s.left _ _ e c.in-Some.minus ((rw c.in-Some.is at c.in_ok-minus.ensures).flag.read
                 (with_minus t s.minus));
           };

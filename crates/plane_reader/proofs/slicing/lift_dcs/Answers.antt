@@ -7,7 +7,7 @@ pub loop-b-init : goal.loop-b-init
 loop-b-init c = record {
   long = refl;
   size = refl;
-  told = λ q lt. absurd (omega (arith, lt));
+  if_known = λ q lt. absurd (omega (arith, lt));
   gone = λ q lt. absurd (omega (arith, lt));
   later = λ i le. refl;
   others = λ i other. refl;
@@ -23,7 +23,7 @@ loop-b-preserved c =
     (lifts_more (omega (arith, c.loop-b-test.true)) (omega (arith, c.loop-b-test.true, c.requires.few)) c.loop-b.invariant)
 
 pub returns-clause-dcs : goal.returns-clause-dcs
-returns-clause-dcs c = λ b lt. c.loop-b.invariant.told b (omega (arith, lt, c.loop-b-test.false, c.loop-b.auto.b-end))
+returns-clause-dcs c = λ b lt. c.loop-b.invariant.if_known b (omega (arith, lt, c.loop-b-test.false, c.loop-b.auto.b-end))
 
 pub returns-clause-gone : goal.returns-clause-gone
 returns-clause-gone c = λ b lt. c.loop-b.invariant.gone b (omega (arith, lt, c.loop-b-test.false, c.loop-b.auto.b-end))

@@ -8,7 +8,7 @@ use Rattle.plane_reader.proofs.slicing.put_dcs.Goals as goal
 pub loop-b-init : goal.loop-b-init
 loop-b-init c = record {
   long = refl;
-  told = λ q lt. absurd (omega (arith, lt));
+  if_known = λ q lt. absurd (omega (arith, lt));
   others = λ q s there few other. empty_mask c.args.part.now q s c.requires.empty;
 }
 
@@ -23,7 +23,7 @@ loop-b-preserved c =
     has_more (omega (arith, c.loop-b-test.true)) c.loop-b.invariant put (ap (cast_signed w32) same ∙ to_z-of_z w32 dc fits)
 
 pub returns-clause-dcs : goal.returns-clause-dcs
-returns-clause-dcs c = λ b lt. c.loop-b.invariant.told b (omega (arith, lt, c.requires.whole, c.loop-b-test.false, c.loop-b.auto.b-end))
+returns-clause-dcs c = λ b lt. c.loop-b.invariant.if_known b (omega (arith, lt, c.requires.whole, c.loop-b-test.false, c.loop-b.auto.b-end))
 
 pub returns-clause-others : goal.returns-clause-others
 returns-clause-others c = λ b s lt few other. c.loop-b.invariant.others b s (omega (arith, lt, c.loop-b.invariant.long)) few other

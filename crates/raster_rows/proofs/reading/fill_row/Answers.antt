@@ -26,9 +26,11 @@ returns g c = row_done c.args.row _ c.loop-column.invariant c.loop-column-test.f
 -- the piece that was read
 piece_of : {depth width column held count left : ℕ} {signed : Bool} {old now new : Outside} {before mid : List ℤ} {buffer piece : List ℕ} (k : ℕ) →
     RowSoFar depth signed width old now before mid buffer column held → column < width → Read now new piece count →
-    left ≡ (width - column) * pixel_size depth → length piece ≡ min (left - held) (length buffer - held) → length (put_mid held k buffer piece) ≡ length buffer →
+    left ≡ (width - column) * pixel_size depth → length piece ≡ min (left - held) (length buffer - held) → length (put_mid held k buffer piece)
+    ≡ length buffer →
     PieceRead depth signed width old now new before mid buffer piece (put_mid held k buffer piece) column held count
-piece_of {depth = depth} {width = width} {column = column} {held = held} {count = count} {left = left} {buffer = buffer} {piece = piece} k p lt q left_is long same = grind (arith, common_steps, buffer_more, left_within)
+piece_of {depth = depth} {width = width} {column = column} {held = held} {count = count} {left = left} {buffer = buffer} {piece = piece} k p lt q left_is
+    long same = grind (arith, common_steps, buffer_more, left_within)
 
 pub returns-in-Err : goal.returns-in-Err
 returns-in-Err g c =

@@ -14,7 +14,8 @@ loop-mark-preserved c =
     let fits : SFits w32 mark = search rules in
     let depth : c.depth_of.result ≡ depth_of mark = c.depth_of.ensures.value ∙ ap depth_of (to_z-of_z w32 mark fits) in
     let written : to_z w32 (of_z w32 c.from.result) ≡ pos c.depth_of.result =
-    ap (λ z. to_z w32 (of_z w32 z)) c.from.ensures ∙ to_z-of_z w32 (pos c.depth_of.result) (fits_signed_from_abs w32 (pos c.depth_of.result) (omega (arith, c.depth_of.ensures.within))) in
+    ap (λ z. to_z w32 (of_z w32 z)) c.from.ensures ∙ to_z-of_z w32 (pos c.depth_of.result)
+    (fits_signed_from_abs w32 (pos c.depth_of.result) (omega (arith, c.depth_of.ensures.within))) in
     ap (set marks i) written ∙ depth_more c.args.marks.now marks i c.depth_of.result c.loop-mark-test.true depth c.loop-mark.invariant
 
 pub returns : goal.returns

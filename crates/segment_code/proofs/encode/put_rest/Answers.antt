@@ -15,7 +15,8 @@ returns-then-head-clause-puts g c = grind (arith, common_steps, rest_none, puts_
 
 pub put_depths-requires-clause-depths : goal.put_depths-requires-clause-depths
 put_depths-requires-clause-depths g c =
-    let plain = rw c.blocks-2.view_is at (plain_marks c.blocks-2.invariant c.deref_mut.result.now c.reset_marks.new.marks c.deref_mut.ensures.value c.reset_marks.ensures) in
+    let plain = rw c.blocks-2.view_is at (plain_marks c.blocks-2.invariant c.deref_mut.result.now c.reset_marks.new.marks c.deref_mut.ensures.value
+    c.reset_marks.ensures) in
     rw (c.deref.ensures.value ∙ plain) (are_depths (blocks_in c.args.blocks.now.numbers) c.args.head.now.depth_ac c.requires.ac)
 
 pub invariant_of-blocks : goal.invariant_of-blocks
@@ -29,15 +30,18 @@ returns-in_err-put_depths-clause-puts g c =
     let h = c.args.head.now in
     let blocks = blocks_in c.args.blocks.now.numbers in
     let e = err_from_is_err_and c.from_residual.result c.from_residual.ensures.1 in
-    let plain = rw c.blocks-2.view_is at (plain_marks c.blocks-2.invariant c.deref_mut.result.now c.reset_marks.new.marks c.deref_mut.ensures.value c.reset_marks.ensures) in
+    let plain = rw c.blocks-2.view_is at (plain_marks c.blocks-2.invariant c.deref_mut.result.now c.reset_marks.new.marks c.deref_mut.ensures.value
+    c.reset_marks.ensures) in
     let same = depths_put c.args.tables.now.book h blocks c.deref.result.now _ (c.deref.ensures.value ∙ plain) c.select_of.ensures in
-    rw (e.1, e.2) (rw (rest_parts c.args.tables.now.book h blocks c.if-head.false) (puts_cut (text (coded_planes c.args.tables.now.book h blocks h.depth_ac)) (rw same at c.in_err-put_depths.ensures)))
+    rw (e.1, e.2) (rw (rest_parts c.args.tables.now.book h blocks c.if-head.false)
+    (puts_cut (text (coded_planes c.args.tables.now.book h blocks h.depth_ac)) (rw same at c.in_err-put_depths.ensures)))
 
 pub returns-clause-puts : goal.returns-clause-puts
 returns-clause-puts g c =
     let h = c.args.head.now in
     let blocks = blocks_in c.args.blocks.now.numbers in
-    let plain = rw c.blocks-2.view_is at (plain_marks c.blocks-2.invariant c.deref_mut.result.now c.reset_marks.new.marks c.deref_mut.ensures.value c.reset_marks.ensures) in
+    let plain = rw c.blocks-2.view_is at (plain_marks c.blocks-2.invariant c.deref_mut.result.now c.reset_marks.new.marks c.deref_mut.ensures.value
+    c.reset_marks.ensures) in
     let same = depths_put c.args.tables.now.book h blocks c.deref.result.now _ (c.deref.ensures.value ∙ plain) c.select_of.ensures in
     let planes = rw c.blocks-2.view_is at c.put_planes.ensures.puts in
     rw (rest_parts c.args.tables.now.book h blocks c.if-head.false) (puts_then (rw same at c.in_ok-put_depths.ensures.ends) planes)

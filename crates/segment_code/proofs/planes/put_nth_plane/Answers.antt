@@ -14,7 +14,8 @@ put_plane-requires-clause-above g c =
 pub invariant_of-blocks : goal.invariant_of-blocks
 invariant_of-blocks g c =
     let p = c.put_plane.ensures in
-    held_with c.blocks-2.invariant c.put_plane.new.segment c.put_plane.new.marks c.put_plane.new.room (p.depths ∙ ap depths_of c.deref_mut.ensures.value) p.numbers p.most p.room
+    held_with c.blocks-2.invariant c.put_plane.new.segment c.put_plane.new.marks c.put_plane.new.room (p.depths ∙ ap depths_of c.deref_mut.ensures.value)
+    p.numbers p.most p.room
 
 pub returns-clause-puts : goal.returns-clause-puts
 returns-clause-puts g c =
@@ -26,7 +27,8 @@ returns-clause-puts g c =
     let last : c.plane_plan-plan.result.last + 1 ≡ stages_sent h (nth_plane h c.args.n) = omega (arith, c.plane_plan-plan.ensures.last, sent, some) in
     rw (← c.blocks-2.view_is)
     (plane_put c.args.tables.now.book h c.blocks-2.inside.masks.numbers (depths_of c.deref_mut.result.now) c.plane_plan-plan.result c.args.n
-    (ap depths_of c.deref_mut.ensures.value ∙ c.blocks-2.invariant.depths) plane c.plane_plan-plan.ensures.q c.plane_plan-plan.ensures.weights last c.put_plane.ensures.puts)
+    (ap depths_of c.deref_mut.ensures.value ∙ c.blocks-2.invariant.depths) plane c.plane_plan-plan.ensures.q c.plane_plan-plan.ensures.weights last
+    c.put_plane.ensures.puts)
 
 pub returns-clause-above : goal.returns-clause-above
 returns-clause-above g c =

@@ -13,13 +13,19 @@ pub loop-field-preserved : goal.loop-field-preserved
 loop-field-preserved g c =
     let i = c.loop-field.invariant in
     let p = c.in_ok-put_bits.ensures.ends in
-    record { is_open = open_later i.is_open p; so_far = each_put_more (λ f. item_of (said f)) c.args.fields.now c.loop-field.field-index c.field-item.result (omega arith) i.so_far (rw c.field-item.is at p) }
+    record {
+      is_open = open_later i.is_open p;
+      so_far = each_put_more (λ f. item_of (said f)) c.args.fields.now c.loop-field.field-index c.field-item.result
+          (omega arith) i.so_far (rw c.field-item.is at p);
+    }
 
 pub returns-in_err-put_bits : goal.returns-in_err-put_bits
 returns-in_err-put_bits g c =
     let p = err_from_is_err_and c.from_residual.result c.from_residual.ensures.1 in
     rw (p.1, p.2, ← text_of_fields said c.args.fields.now)
-    (each_put_ended (λ f. item_of (said f)) c.args.fields.now c.loop-field.field-index c.field-item.result (omega arith) c.loop-field.invariant.so_far (rw c.field-item.is at c.in_err-put_bits.ensures))
+    (each_put_ended (λ f. item_of (said f)) c.args.fields.now c.loop-field.field-index c.field-item.result (omega arith) c.loop-field.invariant.so_far
+    (rw c.field-item.is at c.in_err-put_bits.ensures))
 
 pub returns : goal.returns
-returns g c = rw (← text_of_fields said c.args.fields.now) (each_put_whole (λ f. item_of (said f)) c.args.fields.now c.loop-field.field-index (omega arith) c.loop-field.invariant.so_far)
+returns g c = rw (← text_of_fields said c.args.fields.now) (each_put_whole (λ f. item_of (said f)) c.args.fields.now c.loop-field.field-index (omega arith)
+    c.loop-field.invariant.so_far)

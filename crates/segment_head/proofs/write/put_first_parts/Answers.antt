@@ -13,7 +13,8 @@ pub returns-in_err-put_part_2 : goal.returns-in_err-put_part_2
 returns-in_err-put_part_2 g c =
     let p = err_from_is_err_and c.from_residual-in_err-put_part_2.result c.from_residual-in_err-put_part_2.ensures.1 in
     rw (p.1, p.2)
-    (put_both (rw c.all.ensures at c.in_ok-put_part_1.ensures) (put_cut (flat_map field_bits (part_3 c.args.head.now)) c.in_err-put_part_2.ensures refl) (first_bits c.args.head.now))
+    (put_both (rw c.all.ensures at c.in_ok-put_part_1.ensures) (put_cut (flat_map field_bits (part_3 c.args.head.now)) c.in_err-put_part_2.ensures refl)
+    (first_bits c.args.head.now))
 
 pub returns : goal.returns
 returns g c =

@@ -21,7 +21,8 @@ returns-in_err-put_weights-clause-puts g c =
     let image = c.args.image.now in
     let rest = flat_map field_bits (weight_fields image.weights.shifts) ++ flat_map field_bits (reserved 11 ∷ []) in
     rw (p.1, p.2)
-    (puts_ended (flat_map field_bits (reserved 11 ∷ [])) c.in_ok-put_fields.ensures.ends c.in_err-put_weights.ensures.puts (ap (λ fs. flat_map field_bits fs ++ rest) c.plain_fields.ensures ∙ part_4_bits image))
+    (puts_ended (flat_map field_bits (reserved 11 ∷ [])) c.in_ok-put_fields.ensures.ends c.in_err-put_weights.ensures.puts
+    (ap (λ fs. flat_map field_bits fs ++ rest) c.plain_fields.ensures ∙ part_4_bits image))
 
 pub returns-clause-puts : goal.returns-clause-puts
 returns-clause-puts g c =

@@ -12,11 +12,13 @@ returns-in_err-put_fields-clause-puts g c =
     rw (p.1, p.2)
     (
     put_cut (flat_map field_bits (map (field 2) shifts)) c.in_err-put_fields.ensures
-    (bits_join (said c.flag-2.result ∷ []) (map (field 2) shifts) (weight_fields shifts) (custom_fields shifts (said c.flag-2.result) (sym c.if-are_usual.ensures.usual) c.flag-2.ensures))
+    (bits_join (said c.flag-2.result ∷ []) (map (field 2) shifts) (weight_fields shifts)
+    (custom_fields shifts (said c.flag-2.result) (sym c.if-are_usual.ensures.usual) c.flag-2.ensures))
     )
 
 pub returns-clause-puts : goal.returns-clause-puts
 returns-clause-puts g c =
     let shifts = c.args.weights.now.shifts in
     put_both c.in_ok-put_fields.ensures c.put_shifts.ensures
-    (bits_join (said c.flag-2.result ∷ []) (map (field 2) shifts) (weight_fields shifts) (custom_fields shifts (said c.flag-2.result) (sym c.if-are_usual.ensures.usual) c.flag-2.ensures))
+    (bits_join (said c.flag-2.result ∷ []) (map (field 2) shifts) (weight_fields shifts)
+    (custom_fields shifts (said c.flag-2.result) (sym c.if-are_usual.ensures.usual) c.flag-2.ensures))

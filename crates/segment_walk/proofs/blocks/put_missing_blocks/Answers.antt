@@ -5,19 +5,22 @@ use Rattle.segment_walk.proofs.BlockSteps.{none_passed, passed_then, failed_then
 use Rattle.segment_walk.proofs.blocks.put_missing_blocks.Goals as goal
 
 pub loop-init : goal.loop-init
-loop-init g c = none_passed g.S.BlockSink.sink missing (walking c.args.walk.now) (g.X.Port.outside c.args.port.now) c.requires.standing
+loop-init g c = none_passed g.S.BlockSink.sink missing (walking c.args.walk.now) (g.X.Port.outside c.args.port.now) c.requires.current
 
-pub put_missing-requires-clause-standing : goal.put_missing-requires-clause-standing
-put_missing-requires-clause-standing g c = c.loop.invariant.standing
+pub put_missing-requires-clause-current : goal.put_missing-requires-clause-current
+put_missing-requires-clause-current g c = c.loop.invariant.current
 
 pub put_missing-requires-clause-room : goal.put_missing-requires-clause-room
-put_missing-requires-clause-room g c = let total = ap blocks_of c.loop.invariant.geometry in omega (arith, total, c.loop.invariant.count, c.loop-test.true, c.requires.room)
+put_missing-requires-clause-room g c = let total =
+    ap blocks_of c.loop.invariant.geometry in omega (arith, total, c.loop.invariant.count, c.loop-test.true, c.requires.room)
 
 pub returns-in_err-put_missing : goal.returns-in_err-put_missing
 returns-in_err-put_missing g c =
     passes_failed g.S.BlockSink.sink c.from_residual.result missing c.args.count _ c.from_residual.ensures.0
-    (failed_then g.S.BlockSink.sink missing c.loop.counter (walking c.args.walk.now) (walking c.loop.walk) c.loop.invariant {c = g.X.Port.outside c.put_missing.new.port} c.args.count c.loop-test.true c.in_err-put_missing.ensures)
+    (failed_then g.S.BlockSink.sink missing c.loop.counter (walking c.args.walk.now) (walking c.loop.walk) c.loop.invariant {c =
+    g.X.Port.outside c.put_missing.new.port} c.args.count c.loop-test.true c.in_err-put_missing.ensures)
 
 pub loop-preserved : goal.loop-preserved
 loop-preserved g c =
-    passed_then g.S.BlockSink.sink missing c.loop.counter (walking c.args.walk.now) (walking c.loop.walk) c.loop.invariant {c = g.X.Port.outside c.put_missing.new.port} (walking c.put_missing.new.walk) c.in_ok-put_missing.ensures
+    passed_then g.S.BlockSink.sink missing c.loop.counter (walking c.args.walk.now) (walking c.loop.walk) c.loop.invariant {c =
+    g.X.Port.outside c.put_missing.new.port} (walking c.put_missing.new.walk) c.in_ok-put_missing.ensures

@@ -9,4 +9,4 @@ returns-then-not-known g c =
     let k = g.S.BlockSink.sink in
     let p = walking c.args.walk.now in
     let now = g.X.Port.outside c.args.port.now in
-    subst (λ b. HasPassed k missing (left_in b p) now now p p) (sym c.if-not-known.true) (none_passed k missing p now c.requires.standing)
+    subst (λ b. HasPassed k missing (left_in b p) now now p p) (sym c.if-not-known.true) (none_passed k missing p now c.requires.current)

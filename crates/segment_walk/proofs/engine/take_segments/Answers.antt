@@ -9,45 +9,65 @@ use Rattle.segment_walk.proofs.SegmentTakes.{all_takes, faults_then, fewer_left,
 use Rattle.segment_walk.proofs.engine.take_segments.Goals as goal
 
 pub segments-init : goal.segments-init
-segments-init g c = record { standing = c.requires.standing; at = c.requires.at; room = c.requires.room; pixels = refl; book = refl; faults = record { reads = omega arith; writes = omega arith; notes = omega arith }; run = λ w pixels book to. to }
+segments-init g c = record {
+  current = c.requires.current;
+  at = c.requires.at;
+  room = c.requires.room;
+  pixels = refl;
+  book = refl;
+  faults =
+      record { reads = omega arith; writes = omega arith; notes = omega arith };
+  run = λ w pixels book to. to;
+}
 
 pub returns-in-Err-clause-runs : goal.returns-in-Err-clause-runs
-returns-in-Err-clause-runs g c w pixels book to = c.in-Err.ensures.runs w (pixels ∙ sym c.segments.invariant.pixels) (book ∙ sym c.segments.invariant.book) (c.segments.invariant.run w pixels book to)
+returns-in-Err-clause-runs g c w pixels book to = c.in-Err.ensures.runs w (pixels ∙ sym c.segments.invariant.pixels) (book ∙ sym c.segments.invariant.book)
+    (c.segments.invariant.run w pixels book to)
 
 pub returns-in-Ok-None-clause-takes : goal.returns-in-Ok-None-clause-takes
 returns-in-Ok-None-clause-takes g c =
     let taken = c.in-Ok.ensures.takes in
     let finds = rw c.in-Ok-None.field-0-is at c.in-Ok-None.ensures in
-    all_takes g.S.BlockSink.sink (g.X.Port.outside c.args.port.now) (g.X.Port.outside c.take_segment.new.port) (g.X.Port.outside c.find_next.new.port) c.args.assembly.now c.take_segment.new.assembly c.find_next.new.assembly (walking c.args.walk.now) (walking c.take_segment.new.walk)
-    taken.standing taken.between finds (faults_then c.segments.invariant.faults (faults_then taken.faults (finds_faults c.take_segment.new.assembly c.find_next.new.assembly _ c.in-Ok-None.ensures)))
+    all_takes g.S.BlockSink.sink (g.X.Port.outside c.args.port.now) (g.X.Port.outside c.take_segment.new.port) (g.X.Port.outside c.find_next.new.port)
+    c.args.assembly.now c.take_segment.new.assembly c.find_next.new.assembly (walking c.args.walk.now) (walking c.take_segment.new.walk)
+    taken.current taken.between finds (faults_then c.segments.invariant.faults
+    (faults_then taken.faults (finds_faults c.take_segment.new.assembly c.find_next.new.assembly _ c.in-Ok-None.ensures)))
 
 pub returns-in-Ok-None-clause-runs : goal.returns-in-Ok-None-clause-runs
 returns-in-Ok-None-clause-runs g c w pixels book to =
     let taken = c.in-Ok.ensures.takes in
     let finds = rw c.in-Ok-None.field-0-is at c.in-Ok-None.ensures in
-    run_ends g.S.BlockSink.sink w (g.X.Port.outside c.take_segment.new.port) (g.X.Port.outside c.find_next.new.port) c.take_segment.new.assembly c.find_next.new.assembly (walking c.take_segment.new.walk) taken.standing taken.between
-    (c.in-Ok.ensures.runs w (pixels ∙ sym c.segments.invariant.pixels) (book ∙ sym c.segments.invariant.book) (c.segments.invariant.run w pixels book to)) finds.ends.0 finds.ends.1
+    run_ends g.S.BlockSink.sink w (g.X.Port.outside c.take_segment.new.port) (g.X.Port.outside c.find_next.new.port) c.take_segment.new.assembly
+    c.find_next.new.assembly (walking c.take_segment.new.walk) taken.current taken.between
+    (c.in-Ok.ensures.runs w (pixels ∙ sym c.segments.invariant.pixels) (book ∙ sym c.segments.invariant.book) (c.segments.invariant.run w pixels book to))
+    finds.ends.0 finds.ends.1
 
 pub returns-in-Err-find_next-clause-runs : goal.returns-in-Err-find_next-clause-runs
 returns-in-Err-find_next-clause-runs g c w pixels book to =
     let taken = c.in-Ok.ensures.takes in
-    find_breaks g.S.BlockSink.sink w (g.X.Port.outside c.take_segment.new.port) (g.X.Port.outside c.find_next.new.port) c.take_segment.new.assembly c.find_next.new.assembly (walking c.take_segment.new.walk) taken.standing taken.between
-    (c.in-Ok.ensures.runs w (pixels ∙ sym c.segments.invariant.pixels) (book ∙ sym c.segments.invariant.book) (c.segments.invariant.run w pixels book to)) c.in-Err-find_next.fault c.in-Err-find_next.ensures
+    find_breaks g.S.BlockSink.sink w (g.X.Port.outside c.take_segment.new.port) (g.X.Port.outside c.find_next.new.port) c.take_segment.new.assembly
+    c.find_next.new.assembly (walking c.take_segment.new.walk) taken.current taken.between
+    (c.in-Ok.ensures.runs w (pixels ∙ sym c.segments.invariant.pixels) (book ∙ sym c.segments.invariant.book) (c.segments.invariant.run w pixels book to))
+    c.in-Err-find_next.fault c.in-Err-find_next.ensures
 
-pub follow_found-requires-clause-standing : goal.follow_found-requires-clause-standing
-follow_found-requires-clause-standing g c = c.in-Ok.ensures.takes.standing
+pub follow_found-requires-clause-current : goal.follow_found-requires-clause-current
+follow_found-requires-clause-current g c = c.in-Ok.ensures.takes.current
 
 pub follow_found-requires-clause-found : goal.follow_found-requires-clause-found
 follow_found-requires-clause-found g c =
-    found_at c.take_segment.new.assembly c.find_next.new.assembly (walking c.take_segment.new.walk) c.in-Ok-Some.next c.in-Ok.ensures.takes.between (rw c.in-Ok-Some.field-0-is at c.in-Ok-Some.ensures)
+    found_at c.take_segment.new.assembly c.find_next.new.assembly (walking c.take_segment.new.walk) c.in-Ok-Some.next c.in-Ok.ensures.takes.between
+    (rw c.in-Ok-Some.field-0-is at c.in-Ok-Some.ensures)
 
 pub segments-smaller : goal.segments-smaller
 segments-smaller g c =
     let k = g.S.BlockSink.sink in
     let taken = c.in-Ok.ensures.takes in
-    let found = found_at c.take_segment.new.assembly c.find_next.new.assembly (walking c.take_segment.new.walk) c.in-Ok-Some.next taken.between (rw c.in-Ok-Some.field-0-is at c.in-Ok-Some.ensures) in
-    let follows = found_follows k c.take_segment.new.room.pixels c.find_next.new.assembly (walking c.take_segment.new.walk) (walking c.follow_found.new.walk) c.in-Ok-Some.next found c.in-Ok-follow_found.ensures in
-    fewer_left k (walking c.segments.walk) (walking c.take_segment.new.walk) (walking c.follow_found.new.walk) (more_taken k (walking c.segments.walk) (walking c.take_segment.new.walk) taken) follows
+    let found = found_at c.take_segment.new.assembly c.find_next.new.assembly (walking c.take_segment.new.walk) c.in-Ok-Some.next taken.between
+    (rw c.in-Ok-Some.field-0-is at c.in-Ok-Some.ensures) in
+    let follows = found_follows k c.take_segment.new.room.pixels c.find_next.new.assembly (walking c.take_segment.new.walk)
+    (walking c.follow_found.new.walk) c.in-Ok-Some.next found c.in-Ok-follow_found.ensures in
+    fewer_left k (walking c.segments.walk) (walking c.take_segment.new.walk) (walking c.follow_found.new.walk)
+    (more_taken k (walking c.segments.walk) (walking c.take_segment.new.walk) taken) follows
 
 pub segments-preserved : goal.segments-preserved
 segments-preserved g c =
@@ -55,28 +75,37 @@ segments-preserved g c =
     let taken = c.in-Ok.ensures.takes in
     let finds = rw c.in-Ok-Some.field-0-is at c.in-Ok-Some.ensures in
     let found = found_at c.take_segment.new.assembly c.find_next.new.assembly (walking c.take_segment.new.walk) c.in-Ok-Some.next taken.between finds in
-    let follows = found_follows k c.take_segment.new.room.pixels c.find_next.new.assembly (walking c.take_segment.new.walk) (walking c.follow_found.new.walk) c.in-Ok-Some.next found c.in-Ok-follow_found.ensures in
+    let follows = found_follows k c.take_segment.new.room.pixels c.find_next.new.assembly (walking c.take_segment.new.walk)
+    (walking c.follow_found.new.walk) c.in-Ok-Some.next found c.in-Ok-follow_found.ensures in
     let pixels = c.in-Ok.ensures.pixels ∙ c.segments.invariant.pixels in
     record {
-      standing = follows.standing;
+      current = follows.current;
       at = follows.at;
       room = room_shorter c.segments.invariant.room (shorter_then taken.geometry follows.shorter) c.in-Ok.ensures.blocks c.in-Ok.ensures.marks;
       pixels = pixels;
       book = c.in-Ok.ensures.book ∙ c.segments.invariant.book;
-      faults = faults_then c.segments.invariant.faults (faults_then taken.faults (finds_faults c.take_segment.new.assembly c.find_next.new.assembly _ c.in-Ok-Some.ensures));
+      faults = faults_then c.segments.invariant.faults (faults_then taken.faults
+          (finds_faults c.take_segment.new.assembly c.find_next.new.assembly _ c.in-Ok-Some.ensures));
       run = λ w same book to.
-          found_in k w (g.X.Port.outside c.find_next.new.port) c.find_next.new.assembly (walking c.take_segment.new.walk) (walking c.follow_found.new.walk) c.in-Ok-Some.next found
-          (found_run k w (g.X.Port.outside c.take_segment.new.port) (g.X.Port.outside c.find_next.new.port) c.take_segment.new.assembly c.find_next.new.assembly (walking c.take_segment.new.walk) c.in-Ok-Some.next taken.standing taken.between
-          (c.in-Ok.ensures.runs w (same ∙ sym c.segments.invariant.pixels) (book ∙ sym c.segments.invariant.book) (c.segments.invariant.run w same book to)) finds found)
-          (subst (λ n. FollowsFound k n c.find_next.new.assembly c.in-Ok-Some.next (walking c.take_segment.new.walk) (walking c.follow_found.new.walk) is_done) (pixels ∙ sym same) c.in-Ok-follow_found.ensures);
+          found_in k w (g.X.Port.outside c.find_next.new.port) c.find_next.new.assembly (walking c.take_segment.new.walk) (walking c.follow_found.new.walk)
+          c.in-Ok-Some.next found
+          (found_run k w (g.X.Port.outside c.take_segment.new.port) (g.X.Port.outside c.find_next.new.port) c.take_segment.new.assembly
+          c.find_next.new.assembly (walking c.take_segment.new.walk) c.in-Ok-Some.next taken.current taken.between
+          (c.in-Ok.ensures.runs w (same ∙ sym c.segments.invariant.pixels) (book ∙ sym c.segments.invariant.book) (c.segments.invariant.run w same book to))
+          finds found)
+          (subst (λ n. FollowsFound k n c.find_next.new.assembly c.in-Ok-Some.next (walking c.take_segment.new.walk) (walking c.follow_found.new.walk)
+          is_done) (pixels ∙ sym same) c.in-Ok-follow_found.ensures);
     }
 
 pub returns-in-Err-follow_found-clause-takes : goal.returns-in-Err-follow_found-clause-takes
 returns-in-Err-follow_found-clause-takes g c =
     let k = g.S.BlockSink.sink in
     let taken = c.in-Ok.ensures.takes in
-    let found = found_at c.take_segment.new.assembly c.find_next.new.assembly (walking c.take_segment.new.walk) c.in-Ok-Some.next taken.between (rw c.in-Ok-Some.field-0-is at c.in-Ok-Some.ensures) in
-    found_takes k c.take_segment.new.room.pixels (g.X.Port.outside c.args.port.now) (g.X.Port.outside c.find_next.new.port) c.args.assembly.now c.find_next.new.assembly (walking c.args.walk.now) (walking c.take_segment.new.walk) (walking c.follow_found.new.walk) c.in-Ok-Some.next c.in-Err-follow_found.fault found c.in-Err-follow_found.ensures
+    let found = found_at c.take_segment.new.assembly c.find_next.new.assembly (walking c.take_segment.new.walk) c.in-Ok-Some.next taken.between
+    (rw c.in-Ok-Some.field-0-is at c.in-Ok-Some.ensures) in
+    found_takes k c.take_segment.new.room.pixels (g.X.Port.outside c.args.port.now) (g.X.Port.outside c.find_next.new.port) c.args.assembly.now
+    c.find_next.new.assembly (walking c.args.walk.now) (walking c.take_segment.new.walk) (walking c.follow_found.new.walk) c.in-Ok-Some.next
+    c.in-Err-follow_found.fault found c.in-Err-follow_found.ensures
 
 pub returns-in-Err-follow_found-clause-runs : goal.returns-in-Err-follow_found-clause-runs
 returns-in-Err-follow_found-clause-runs g c w same book to =
@@ -85,7 +114,11 @@ returns-in-Err-follow_found-clause-runs g c w same book to =
     let finds = rw c.in-Ok-Some.field-0-is at c.in-Ok-Some.ensures in
     let found = found_at c.take_segment.new.assembly c.find_next.new.assembly (walking c.take_segment.new.walk) c.in-Ok-Some.next taken.between finds in
     let pixels = c.in-Ok.ensures.pixels ∙ c.segments.invariant.pixels in
-    found_breaks k w (g.X.Port.outside c.find_next.new.port) c.find_next.new.assembly (walking c.take_segment.new.walk) (walking c.follow_found.new.walk) c.in-Ok-Some.next taken.standing found
-    (found_run k w (g.X.Port.outside c.take_segment.new.port) (g.X.Port.outside c.find_next.new.port) c.take_segment.new.assembly c.find_next.new.assembly (walking c.take_segment.new.walk) c.in-Ok-Some.next taken.standing taken.between
-    (c.in-Ok.ensures.runs w (same ∙ sym c.segments.invariant.pixels) (book ∙ sym c.segments.invariant.book) (c.segments.invariant.run w same book to)) finds found)
-    c.in-Err-follow_found.fault (subst (λ n. FollowsFound k n c.find_next.new.assembly c.in-Ok-Some.next (walking c.take_segment.new.walk) (walking c.follow_found.new.walk) (failed c.in-Err-follow_found.fault)) (pixels ∙ sym same) c.in-Err-follow_found.ensures)
+    found_breaks k w (g.X.Port.outside c.find_next.new.port) c.find_next.new.assembly (walking c.take_segment.new.walk) (walking c.follow_found.new.walk)
+    c.in-Ok-Some.next taken.current found
+    (found_run k w (g.X.Port.outside c.take_segment.new.port) (g.X.Port.outside c.find_next.new.port) c.take_segment.new.assembly c.find_next.new.assembly
+    (walking c.take_segment.new.walk) c.in-Ok-Some.next taken.current taken.between
+    (c.in-Ok.ensures.runs w (same ∙ sym c.segments.invariant.pixels) (book ∙ sym c.segments.invariant.book) (c.segments.invariant.run w same book to)) finds
+    found)
+    c.in-Err-follow_found.fault (subst (λ n. FollowsFound k n c.find_next.new.assembly c.in-Ok-Some.next (walking c.take_segment.new.walk)
+    (walking c.follow_found.new.walk) (failed c.in-Err-follow_found.fault)) (pixels ∙ sym same) c.in-Err-follow_found.ensures)

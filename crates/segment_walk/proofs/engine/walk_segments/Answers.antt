@@ -6,7 +6,7 @@ use Rattle.segment_walk.specs.Steps.{walking, IsFresh}
 use Rattle.segment_walk.specs.Walks.{Walks, run_of}
 use Rattle.segment_walk.proofs.Staying.{placed_range, placed_within}
 use Rattle.segment_walk.proofs.Between.{found_first, finds_faults}
-use Rattle.segment_walk.proofs.RunStarts.{found_one, first_stands, first_comes}
+use Rattle.segment_walk.proofs.RunStarts.{found_one, first_valid, first_arrives}
 use Rattle.segment_walk.proofs.SegmentTakes.{room_shorter, shorter_same}
 use Rattle.segment_walk.proofs.Decoding.{no_memory_first, first_fails, first_fits, first_none, never_none, too_many, no_memory, walk_done, walk_fails}
 use Rattle.segment_walk.proofs.engine.walk_segments.Goals as goal
@@ -16,60 +16,72 @@ returns-in_default g c = no_memory_first g.S.BlockSink.sink c.args.wish.now (g.X
 
 pub returns-in-Ok-None : goal.returns-in-Ok-None
 returns-in-Ok-None g c =
-    first_none g.S.BlockSink.sink c.args.wish.now (g.X.Port.outside c.args.port.now) (g.X.Port.outside c.find_next.new.port) c.in-Ok.assembly c.find_next.new.assembly c.in-Ok.ensures (rw c.in-Ok-None.field-0-is at c.in-Ok-None.ensures)
+    first_none g.S.BlockSink.sink c.args.wish.now (g.X.Port.outside c.args.port.now) (g.X.Port.outside c.find_next.new.port) c.in-Ok.assembly
+    c.find_next.new.assembly c.in-Ok.ensures (rw c.in-Ok-None.field-0-is at c.in-Ok-None.ensures)
 
 pub returns-in-Err : goal.returns-in-Err
 returns-in-Err g c =
-    first_fails g.S.BlockSink.sink c.args.wish.now (g.X.Port.outside c.args.port.now) (g.X.Port.outside c.find_next.new.port) c.in-Ok.assembly c.find_next.new.assembly c.in-Ok.ensures c.in-Err.fault c.in-Err.ensures
+    first_fails g.S.BlockSink.sink c.args.wish.now (g.X.Port.outside c.args.port.now) (g.X.Port.outside c.find_next.new.port) c.in-Ok.assembly
+    c.find_next.new.assembly c.in-Ok.ensures c.in-Err.fault c.in-Err.ensures
 
 pub returns-in_default-geometry : goal.returns-in_default-geometry
 returns-in_default-geometry g c =
     let k = g.S.BlockSink.sink in
     let w = run_of c.args.wish.now (g.X.Port.outside c.args.port.now) in
-    let found = found_one k w (g.X.Port.outside c.find_next.new.port) c.in-Ok.assembly c.find_next.new.assembly c.in-Ok-Some.start c.in-Ok.ensures (rw c.in-Ok-Some.field-0-is at c.in-Ok-Some.ensures) in
-    absurd (never_none k c.args.wish.now (g.X.Port.outside c.args.port.now) (g.X.Port.outside c.find_next.new.port) c.find_next.new.assembly c.in-Ok-Some.start found (sym c.geometry.ensures.standing ∙ c.in_default-geometry.is))
+    let found = found_one k w (g.X.Port.outside c.find_next.new.port) c.in-Ok.assembly c.find_next.new.assembly c.in-Ok-Some.start c.in-Ok.ensures
+    (rw c.in-Ok-Some.field-0-is at c.in-Ok-Some.ensures) in
+    absurd (never_none k c.args.wish.now (g.X.Port.outside c.args.port.now) (g.X.Port.outside c.find_next.new.port) c.find_next.new.assembly
+    c.in-Ok-Some.start found (sym c.geometry.ensures.current ∙ c.in_default-geometry.is))
 
 pub returns-then-pixels-wish : goal.returns-then-pixels-wish
 returns-then-pixels-wish g c =
     let k = g.S.BlockSink.sink in
     let w = run_of c.args.wish.now (g.X.Port.outside c.args.port.now) in
-    let found = found_one k w (g.X.Port.outside c.find_next.new.port) c.in-Ok.assembly c.find_next.new.assembly c.in-Ok-Some.start c.in-Ok.ensures (rw c.in-Ok-Some.field-0-is at c.in-Ok-Some.ensures) in
-    too_many k c.args.wish.now (g.X.Port.outside c.args.port.now) (g.X.Port.outside c.find_next.new.port) c.find_next.new.assembly c.in-Ok-Some.start found c.in-Some.geometry _ (sym c.in-Some.ensures.standing)
+    let found = found_one k w (g.X.Port.outside c.find_next.new.port) c.in-Ok.assembly c.find_next.new.assembly c.in-Ok-Some.start c.in-Ok.ensures
+    (rw c.in-Ok-Some.field-0-is at c.in-Ok-Some.ensures) in
+    too_many k c.args.wish.now (g.X.Port.outside c.args.port.now) (g.X.Port.outside c.find_next.new.port) c.find_next.new.assembly c.in-Ok-Some.start found
+    c.in-Some.geometry _ (sym c.in-Some.ensures.current)
     c.pixels_reached-pixels.ensures c.if-pixels-wish.true
 
 pub pixels_reached-pixels-requires-clause-fits : goal.pixels_reached-pixels-requires-clause-fits
 pixels_reached-pixels-requires-clause-fits g c =
     let k = g.S.BlockSink.sink in
     let w = run_of c.args.wish.now (g.X.Port.outside c.args.port.now) in
-    let found = found_one k w (g.X.Port.outside c.find_next.new.port) c.in-Ok.assembly c.find_next.new.assembly c.in-Ok-Some.start c.in-Ok.ensures (rw c.in-Ok-Some.field-0-is at c.in-Ok-Some.ensures) in
-    first_fits k c.args.wish.now (g.X.Port.outside c.args.port.now) (g.X.Port.outside c.find_next.new.port) c.find_next.new.assembly c.in-Ok-Some.start found c.in-Some.geometry (sym c.in-Some.ensures.standing)
+    let found = found_one k w (g.X.Port.outside c.find_next.new.port) c.in-Ok.assembly c.find_next.new.assembly c.in-Ok-Some.start c.in-Ok.ensures
+    (rw c.in-Ok-Some.field-0-is at c.in-Ok-Some.ensures) in
+    first_fits k c.args.wish.now (g.X.Port.outside c.args.port.now) (g.X.Port.outside c.find_next.new.port) c.find_next.new.assembly c.in-Ok-Some.start
+    found c.in-Some.geometry (sym c.in-Some.ensures.current)
 
 pub returns-in_default-new : goal.returns-in_default-new
 returns-in_default-new g c =
     let k = g.S.BlockSink.sink in
     let w = run_of c.args.wish.now (g.X.Port.outside c.args.port.now) in
-    let found = found_one k w (g.X.Port.outside c.find_next.new.port) c.in-Ok.assembly c.find_next.new.assembly c.in-Ok-Some.start c.in-Ok.ensures (rw c.in-Ok-Some.field-0-is at c.in-Ok-Some.ensures) in
+    let found = found_one k w (g.X.Port.outside c.find_next.new.port) c.in-Ok.assembly c.find_next.new.assembly c.in-Ok-Some.start c.in-Ok.ensures
+    (rw c.in-Ok-Some.field-0-is at c.in-Ok-Some.ensures) in
     no_memory k c.args.wish.now (g.X.Port.outside c.args.port.now) (g.X.Port.outside c.find_next.new.port) c.find_next.new.assembly c.in-Ok-Some.start found
 
 pub returns-in_default-begin_walk : goal.returns-in_default-begin_walk
 returns-in_default-begin_walk g c =
     let k = g.S.BlockSink.sink in
     let w = run_of c.args.wish.now (g.X.Port.outside c.args.port.now) in
-    let found = found_one k w (g.X.Port.outside c.find_next.new.port) c.in-Ok.assembly c.find_next.new.assembly c.in-Ok-Some.start c.in-Ok.ensures (rw c.in-Ok-Some.field-0-is at c.in-Ok-Some.ensures) in
+    let found = found_one k w (g.X.Port.outside c.find_next.new.port) c.in-Ok.assembly c.find_next.new.assembly c.in-Ok-Some.start c.in-Ok.ensures
+    (rw c.in-Ok-Some.field-0-is at c.in-Ok-Some.ensures) in
     no_memory k c.args.wish.now (g.X.Port.outside c.args.port.now) (g.X.Port.outside c.find_next.new.port) c.find_next.new.assembly c.in-Ok-Some.start found
 
 pub begin_walk-requires-clause-range : goal.begin_walk-requires-clause-range
 begin_walk-requires-clause-range g c = subst IsGeometryInRange (sym c.placed-tallest.ensures) (placed_range c.in-Some.geometry c.in-Some.ensures.in_range)
 
-pub pass_all-requires-clause-standing : goal.pass_all-requires-clause-standing
-pass_all-requires-clause-standing g c =
-    first_stands g.S.BlockSink.sink (placed c.in-Some.geometry) (walking c.in-Ok-begin_walk.walk) (placed_range c.in-Some.geometry c.in-Some.ensures.in_range) (placed_within c.in-Some.geometry c.in-Some.ensures.in_range)
+pub pass_all-requires-clause-current : goal.pass_all-requires-clause-current
+pass_all-requires-clause-current g c =
+    first_valid g.S.BlockSink.sink (placed c.in-Some.geometry) (walking c.in-Ok-begin_walk.walk)
+    (placed_range c.in-Some.geometry c.in-Some.ensures.in_range) (placed_within c.in-Some.geometry c.in-Some.ensures.in_range)
     (subst (λ h. IsFresh g.S.BlockSink.sink h (walking c.in-Ok-begin_walk.walk)) c.placed-tallest.ensures c.in-Ok-begin_walk.ensures)
 
 pub pass_all-requires-clause-at : goal.pass_all-requires-clause-at
 pass_all-requires-clause-at g c =
-    found_first g.S.BlockSink.sink c.args.wish.now.apid c.args.wish.now.octets c.in-Ok.assembly c.find_next.new.assembly (walking c.in-Ok-begin_walk.walk) c.in-Ok-Some.start c.in-Some.geometry c.in-Ok.ensures
-    (rw c.in-Ok-Some.field-0-is at c.in-Ok-Some.ensures) (sym c.in-Some.ensures.standing) c.in-Some.ensures.in_range
+    found_first g.S.BlockSink.sink c.args.wish.now.apid c.args.wish.now.octets c.in-Ok.assembly c.find_next.new.assembly (walking c.in-Ok-begin_walk.walk)
+    c.in-Ok-Some.start c.in-Some.geometry c.in-Ok.ensures
+    (rw c.in-Ok-Some.field-0-is at c.in-Ok-Some.ensures) (sym c.in-Some.ensures.current) c.in-Some.ensures.in_range
     (subst (λ h. IsFresh g.S.BlockSink.sink h (walking c.in-Ok-begin_walk.walk)) c.placed-tallest.ensures c.in-Ok-begin_walk.ensures)
 
 pub pass_all-requires-clause-room : goal.pass_all-requires-clause-room
@@ -77,26 +89,35 @@ pass_all-requires-clause-room g c = room_shorter c.in-Ok-new.ensures.room (short
 
 pub returns-in_default-geometry-2 : goal.returns-in_default-geometry-2
 returns-in_default-geometry-2 g c =
-    absurd (let no : false ≡ true = ap is_some (sym c.in_default-geometry-2.is ∙ c.geometry-2.ensures.standing) ∙ c.in-Ok-pass_all.ensures.image in false≢true no)
+    absurd (let no : false ≡ true = ap is_some (sym c.in_default-geometry-2.is ∙ c.geometry-2.ensures.current) ∙ c.in-Ok-pass_all.ensures.image in
+    false≢true no)
 
 pub returns-in-Err-pass_all : goal.returns-in-Err-pass_all
 returns-in-Err-pass_all g c =
     let k = g.S.BlockSink.sink in
     let w = run_of c.args.wish.now (g.X.Port.outside c.args.port.now) in
-    let found = found_one k w (g.X.Port.outside c.find_next.new.port) c.in-Ok.assembly c.find_next.new.assembly c.in-Ok-Some.start c.in-Ok.ensures (rw c.in-Ok-Some.field-0-is at c.in-Ok-Some.ensures) in
+    let found = found_one k w (g.X.Port.outside c.find_next.new.port) c.in-Ok.assembly c.find_next.new.assembly c.in-Ok-Some.start c.in-Ok.ensures
+    (rw c.in-Ok-Some.field-0-is at c.in-Ok-Some.ensures) in
     let few = rw c.pixels_reached-pixels.ensures at c.if-pixels-wish.false in
-    let comes = first_comes k w (g.X.Port.outside c.find_next.new.port) c.find_next.new.assembly (walking c.in-Ok-begin_walk.walk) c.in-Ok-Some.start _ c.in-Some.geometry found c.in-Ok-begin_walk.ensures (sym c.in-Some.ensures.standing) few in
+    let arrives = first_arrives k w (g.X.Port.outside c.find_next.new.port) c.find_next.new.assembly (walking c.in-Ok-begin_walk.walk) c.in-Ok-Some.start _
+    c.in-Some.geometry found c.in-Ok-begin_walk.ensures (sym c.in-Some.ensures.current) few in
     let faults = finds_faults c.in-Ok.assembly c.find_next.new.assembly _ c.in-Ok-Some.ensures in
-    walk_fails k c.args.wish.now (g.X.Port.outside c.args.port.now) (g.X.Port.outside c.find_next.new.port) (g.X.Port.outside c.pass_all.new.port) faults.reads faults.writes
-    c.in-Err-pass_all.fault c.in-Err-pass_all.ensures.passes (c.in-Err-pass_all.ensures.runs w (sym c.in-Ok-new.ensures.pixels) (sym c.in-Ok-new.ensures.book) comes)
+    walk_fails k c.args.wish.now (g.X.Port.outside c.args.port.now) (g.X.Port.outside c.find_next.new.port) (g.X.Port.outside c.pass_all.new.port)
+    faults.reads faults.writes
+    c.in-Err-pass_all.fault c.in-Err-pass_all.ensures.passes (c.in-Err-pass_all.ensures.runs w (sym c.in-Ok-new.ensures.pixels)
+    (sym c.in-Ok-new.ensures.book) arrives)
 
 pub returns : goal.returns
 returns g c =
     let k = g.S.BlockSink.sink in
     let w = run_of c.args.wish.now (g.X.Port.outside c.args.port.now) in
-    let found = found_one k w (g.X.Port.outside c.find_next.new.port) c.in-Ok.assembly c.find_next.new.assembly c.in-Ok-Some.start c.in-Ok.ensures (rw c.in-Ok-Some.field-0-is at c.in-Ok-Some.ensures) in
+    let found = found_one k w (g.X.Port.outside c.find_next.new.port) c.in-Ok.assembly c.find_next.new.assembly c.in-Ok-Some.start c.in-Ok.ensures
+    (rw c.in-Ok-Some.field-0-is at c.in-Ok-Some.ensures) in
     let few = rw c.pixels_reached-pixels.ensures at c.if-pixels-wish.false in
-    let comes = first_comes k w (g.X.Port.outside c.find_next.new.port) c.find_next.new.assembly (walking c.in-Ok-begin_walk.walk) c.in-Ok-Some.start _ c.in-Some.geometry found c.in-Ok-begin_walk.ensures (sym c.in-Some.ensures.standing) few in
+    let arrives = first_arrives k w (g.X.Port.outside c.find_next.new.port) c.find_next.new.assembly (walking c.in-Ok-begin_walk.walk) c.in-Ok-Some.start _
+    c.in-Some.geometry found c.in-Ok-begin_walk.ensures (sym c.in-Some.ensures.current) few in
     subst (λ walked. Walks k c.args.wish.now (g.X.Port.outside c.args.port.now) (g.X.Port.outside c.pass_all.new.port) (Ok walked)) (sym c.finish.ensures)
-    (walk_done k c.args.wish.now (g.X.Port.outside c.args.port.now) (g.X.Port.outside c.pass_all.new.port) (walking c.pass_all.new.walk) c.in-Some-geometry.geometry c.pass_all.new.assembly.framing c.framing.result
-    (c.in-Ok-pass_all.ensures.runs w (sym c.in-Ok-new.ensures.pixels) (sym c.in-Ok-new.ensures.book) comes c.in-Some-geometry.geometry (sym c.geometry-2.ensures.standing ∙ c.in-Some-geometry.is)) c.framing.ensures.found)
+    (walk_done k c.args.wish.now (g.X.Port.outside c.args.port.now) (g.X.Port.outside c.pass_all.new.port) (walking c.pass_all.new.walk)
+    c.in-Some-geometry.geometry c.pass_all.new.assembly.framing c.framing.result
+    (c.in-Ok-pass_all.ensures.runs w (sym c.in-Ok-new.ensures.pixels) (sym c.in-Ok-new.ensures.book) arrives c.in-Some-geometry.geometry
+    (sym c.geometry-2.ensures.current ∙ c.in-Some-geometry.is)) c.framing.ensures.found)

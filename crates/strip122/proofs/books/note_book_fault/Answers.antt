@@ -4,10 +4,13 @@ use Rattle.strip122.proofs.NoteLines.{notes_as}
 use Rattle.strip122.proofs.books.note_book_fault.Goals as goal
 
 pub returns-in-Clash : goal.returns-in-Clash
-returns-in-Clash g c = notes_as (book_line c.args.fault) c.note_line-in-Clash.ensures (rw (c.in-Clash.is, c.as_str-in-Clash.ensures.value, c.clash_line.ensures) (search rules))
+returns-in-Clash g c = notes_as (book_line c.args.fault) c.note_line-in-Clash.ensures
+    (rw (c.in-Clash.is, c.as_str-in-Clash.ensures.value, c.clash_line.ensures) (search rules))
 
 pub returns-in-BadLength : goal.returns-in-BadLength
-returns-in-BadLength g c = notes_as (book_line c.args.fault) c.note_line-in-BadLength.ensures (rw (c.in-BadLength.is, c.as_str-in-BadLength.ensures.value, c.code_line.ensures) (search rules))
+returns-in-BadLength g c = notes_as (book_line c.args.fault) c.note_line-in-BadLength.ensures
+    (rw (c.in-BadLength.is, c.as_str-in-BadLength.ensures.value, c.code_line.ensures) (search rules))
 
 pub returns-in-BadBits : goal.returns-in-BadBits
-returns-in-BadBits g c = notes_as (book_line c.args.fault) c.note_line-in-BadBits.ensures (rw (c.in-BadBits.is, c.as_str-in-BadBits.ensures.value, c.code_line-in-BadBits.ensures) (search rules))
+returns-in-BadBits g c = notes_as (book_line c.args.fault) c.note_line-in-BadBits.ensures
+    (rw (c.in-BadBits.is, c.as_str-in-BadBits.ensures.value, c.code_line-in-BadBits.ensures) (search rules))

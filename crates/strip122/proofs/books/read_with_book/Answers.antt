@@ -6,4 +6,9 @@ returns-in-Ok g c = inr (record { book = c.in-Ok.book; after = _; read = c.in-Ok
 
 pub returns-in-Err : goal.returns-in-Err
 returns-in-Err g c =
-    inl (record { fault = c.in-Err.fault; lacks = record { after = _; read = c.in-Err.ensures.reads; noted = c.note_book_fault.ensures }; status_is = c.book_status.ensures })
+    inl (record {
+      fault = c.in-Err.fault;
+      lacks = record { after = _; read = c.in-Err.ensures.reads; noted = c.note_book_fault.ensures };
+      status_is =
+          c.book_status.ensures;
+    })

@@ -13,4 +13,5 @@ returns-in-MissingKey g c =
 
 pub returns-in-OutOfRange : goal.returns-in-OutOfRange
 returns-in-OutOfRange g c =
-    notes_as (word_line (texts c.args.words.now) c.args.fault) c.note_parts-in-OutOfRange.ensures (rw (c.in-OutOfRange.is, c.field_name-in-OutOfRange.ensures) refl)
+    notes_as (word_line (texts c.args.words.now) c.args.fault) c.note_parts-in-OutOfRange.ensures
+    (rw (c.in-OutOfRange.is, c.field_name-in-OutOfRange.ensures) refl)

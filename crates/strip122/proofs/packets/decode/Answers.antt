@@ -2,7 +2,8 @@ use Rattle.strip122.proofs.Decoded.{decoded, decode_failed}
 use Rattle.strip122.proofs.packets.decode.Goals as goal
 
 pub returns-in-Ok : goal.returns-in-Ok
-returns-in-Ok g c = decoded c.args.wish.now _ _ _ c.in-Ok.done c.tell_done.result c.in-Ok.ensures c.tell_done.ensures
+returns-in-Ok g c = decoded c.args.wish.now _ _ _ c.in-Ok.done c.report_done.result c.in-Ok.ensures c.report_done.ensures
 
 pub returns-in-Err : goal.returns-in-Err
-returns-in-Err g c = decode_failed c.args.wish.now _ _ _ c.in-Err.fault c.decoder_fault_status.result c.in-Err.ensures c.note_decoder_fault.ensures c.decoder_fault_status.ensures
+returns-in-Err g c = decode_failed c.args.wish.now _ _ _ c.in-Err.fault c.decoder_fault_status.result c.in-Err.ensures c.note_decoder_fault.ensures
+    c.decoder_fault_status.ensures

@@ -2,18 +2,19 @@ use Rattle.std.proofs.Common.{◌∙◌, ap, subst}
 use Rattle.image_info.specs.declared.info.InfoWish.{InfoWish}
 use Rattle.strip122.specs.Notes.{Notes, list_fault_status, list_fault_line}
 use Rattle.strip122.specs.Listing.{informer}
-use Rattle.strip122.proofs.Listed.{told, failed, info_reads}
+use Rattle.strip122.proofs.Listed.{if_known, failed, info_reads}
 use Rattle.strip122.proofs.packets.info.Goals as goal
 
 pub returns-in-Ok : goal.returns-in-Ok
 returns-in-Ok g c =
     let run = c.in-Ok.ensures in
     let wish : InfoWish = record { apid = c.args.apid; octets = c.args.octets } in
-    told (informer wish) (info_reads wish) run.since run.within c.tell_framing.result c.in-Ok.done run.answer c.tell_framing.ensures
+    if_known (informer wish) (info_reads wish) run.since run.readable run.within c.report_framing.result c.in-Ok.done run.answer c.report_framing.ensures
 
 pub returns-in-Err : goal.returns-in-Err
 returns-in-Err g c =
     let run = c.in-Err.ensures in
     let wish : InfoWish = record { apid = c.args.apid; octets = c.args.octets } in
-    failed (informer wish) (info_reads wish) run.since run.within c.list_fault_status.result c.in-Err.fault run.answer
-    (subst (λ fault. Notes (g.X.Port.outside c.list_images.new.port) (g.X.Port.outside c.note_list_fault.new.port) (list_fault_line fault)) c.list_fault_of-known.ensures c.note_list_fault.ensures) (c.list_fault_status.ensures ∙ ap list_fault_status c.list_fault_of-known.ensures)
+    failed (informer wish) (info_reads wish) run.since run.readable run.within c.list_fault_status.result c.in-Err.fault run.answer
+    (subst (λ fault. Notes (g.X.Port.outside c.list_images.new.port) (g.X.Port.outside c.note_list_fault.new.port) (list_fault_line fault))
+    c.list_fault_of-known.ensures c.note_list_fault.ensures) (c.list_fault_status.ensures ∙ ap list_fault_status c.list_fault_of-known.ensures)

@@ -37,7 +37,8 @@ returns-in-Encode-default-true-clause-closed g c setting has_book is done =
     let same : setting ≡ c.in-Encode-default-true.setting = cc in
     let booked : has_book ≡ true = cc in
     subst (λ b. ClosedBy b setting (g.X.Port.outside c.args.port.now) (g.X.Port.outside c.encode_with_book.new.port)) (sym booked)
-    (subst (λ s. ClosedBy true s (g.X.Port.outside c.args.port.now) (g.X.Port.outside c.encode_with_book.new.port)) (sym same) (c.encode_with_book.ensures.closed done))
+    (subst (λ s. ClosedBy true s (g.X.Port.outside c.args.port.now) (g.X.Port.outside c.encode_with_book.new.port)) (sym same)
+    (c.encode_with_book.ensures.closed done))
 
 pub returns-in-Encode-default-false-clause-closed : goal.returns-in-Encode-default-false-clause-closed
 returns-in-Encode-default-false-clause-closed g c setting has_book is done =
@@ -54,7 +55,8 @@ returns-in-Mux-clause-mux_closed g c setting cameras is done =
     let same : setting ≡ c.in-Mux.setting = cc in
     let count : cameras ≡ c.in-Mux.cameras = cc in
     subst (λ n. MuxClosed (camera_settings setting n) (g.X.Port.outside c.args.port.now) (g.X.Port.outside c.mux.new.port)) (sym count)
-    (subst (λ s. MuxClosed (camera_settings s c.in-Mux.cameras) (g.X.Port.outside c.args.port.now) (g.X.Port.outside c.mux.new.port)) (sym same) (c.mux.ensures.closed done))
+    (subst (λ s. MuxClosed (camera_settings s c.in-Mux.cameras) (g.X.Port.outside c.args.port.now) (g.X.Port.outside c.mux.new.port)) (sym same)
+    (c.mux.ensures.closed done))
 
 pub returns-in-BareEncode-clause-bare_closed : goal.returns-in-BareEncode-clause-bare_closed
 returns-in-BareEncode-clause-bare_closed g c setting is done =

@@ -14,8 +14,12 @@ use Rattle.strip122.proofs.Laws.{law, ends_at}
 use Rattle.strip122.proofs.top.run.Goals as goal
 
 pub returns-in-Ok-clause-done : goal.returns-in-Ok-clause-done
-returns-in-Ok-clause-done g c zero =
-    (c.in-Ok.command, subst (Says (texts c.args.words.now)) c.in-Ok.is c.read_words.ensures.says, ends_at c.bare_streams_are_read.ensures c.in-Ok.command _ _ c.perform.result 0 c.perform.ensures.performs zero)
+returns-in-Ok-clause-done g c zero = (
+  c.in-Ok.command,
+  subst (Says (texts c.args.words.now)) c.in-Ok.is c.read_words.ensures.says,
+  ends_at c.bare_streams_are_read.ensures c.in-Ok.command _
+      _ c.perform.result 0 c.perform.ensures.performs zero,
+)
 
 pub returns-in-Ok-clause-refused : goal.returns-in-Ok-clause-refused
 returns-in-Ok-clause-refused g c = (
@@ -24,12 +28,20 @@ returns-in-Ok-clause-refused g c = (
 )
 
 pub returns-in-Ok-clause-part : goal.returns-in-Ok-clause-part
-returns-in-Ok-clause-part g c one =
-    (c.in-Ok.command, subst (Says (texts c.args.words.now)) c.in-Ok.is c.read_words.ensures.says, ends_at c.bare_streams_are_read.ensures c.in-Ok.command _ _ c.perform.result 1 c.perform.ensures.performs one)
+returns-in-Ok-clause-part g c one = (
+  c.in-Ok.command,
+  subst (Says (texts c.args.words.now)) c.in-Ok.is c.read_words.ensures.says,
+  ends_at c.bare_streams_are_read.ensures c.in-Ok.command _
+      _ c.perform.result 1 c.perform.ensures.performs one,
+)
 
 pub returns-in-Ok-clause-input_refused : goal.returns-in-Ok-clause-input_refused
-returns-in-Ok-clause-input_refused g c three =
-    (c.in-Ok.command, subst (Says (texts c.args.words.now)) c.in-Ok.is c.read_words.ensures.says, ends_at c.bare_streams_are_read.ensures c.in-Ok.command _ _ c.perform.result 3 c.perform.ensures.performs three)
+returns-in-Ok-clause-input_refused g c three = (
+  c.in-Ok.command,
+  subst (Says (texts c.args.words.now)) c.in-Ok.is c.read_words.ensures.says,
+  ends_at c.bare_streams_are_read.ensures c.in-Ok.command _
+      _ c.perform.result 3 c.perform.ensures.performs three,
+)
 
 pub returns-in-Ok-clause-read_fault : goal.returns-in-Ok-clause-read_fault
 returns-in-Ok-clause-read_fault g c four = ends_at c.bare_streams_are_read.ensures c.in-Ok.command _ _ c.perform.result 4 c.perform.ensures.performs four
@@ -38,15 +50,20 @@ pub returns-in-Ok-clause-write_fault : goal.returns-in-Ok-clause-write_fault
 returns-in-Ok-clause-write_fault g c five = ends_at c.bare_streams_are_read.ensures c.in-Ok.command _ _ c.perform.result 5 c.perform.ensures.performs five
 
 pub returns-in-Ok-clause-no_memory : goal.returns-in-Ok-clause-no_memory
-returns-in-Ok-clause-no_memory g c six =
-    (c.in-Ok.command, subst (Says (texts c.args.words.now)) c.in-Ok.is c.read_words.ensures.says, ends_at c.bare_streams_are_read.ensures c.in-Ok.command _ _ c.perform.result 6 c.perform.ensures.performs six)
+returns-in-Ok-clause-no_memory g c six = (
+  c.in-Ok.command,
+  subst (Says (texts c.args.words.now)) c.in-Ok.is c.read_words.ensures.says,
+  ends_at c.bare_streams_are_read.ensures c.in-Ok.command _
+      _ c.perform.result 6 c.perform.ensures.performs six,
+)
 
 pub returns-in-Ok-clause-complete : goal.returns-in-Ok-clause-complete
 returns-in-Ok-clause-complete g c command says input steady =
     let same : command ≡ c.in-Ok.command = let e = c.read_words.ensures.only (Ok command) says in let f = c.in-Ok.is in cc in
     completes (behaviour command) _ _ c.perform.result
     ((law c.bare_streams_are_read.ensures command).ends _ _ c.perform.result
-    (subst (λ k. (behaviour k).performs (g.X.Port.outside c.args.port.now) (g.X.Port.outside c.perform.new.port) c.perform.result) (sym same) c.perform.ensures.performs))
+    (subst (λ k. (behaviour k).performs (g.X.Port.outside c.args.port.now) (g.X.Port.outside c.perform.new.port) c.perform.result) (sym same)
+    c.perform.ensures.performs))
     ((law c.bare_streams_are_read.ensures command).right _ _ input) steady
 
 pub returns-in-Ok-clause-wrong_input : goal.returns-in-Ok-clause-wrong_input
@@ -54,7 +71,8 @@ returns-in-Ok-clause-wrong_input g c command says input steady =
     let same : command ≡ c.in-Ok.command = let e = c.read_words.ensures.only (Ok command) says in let f = c.in-Ok.is in cc in
     refused (behaviour command) _ _ c.perform.result
     ((law c.bare_streams_are_read.ensures command).ends _ _ c.perform.result
-    (subst (λ k. (behaviour k).performs (g.X.Port.outside c.args.port.now) (g.X.Port.outside c.perform.new.port) c.perform.result) (sym same) c.perform.ensures.performs))
+    (subst (λ k. (behaviour k).performs (g.X.Port.outside c.args.port.now) (g.X.Port.outside c.perform.new.port) c.perform.result) (sym same)
+    c.perform.ensures.performs))
     ((law c.bare_streams_are_read.ensures command).wrong_whole _ _ input) ((law c.bare_streams_are_read.ensures command).wrong_part _ _ input) steady
 
 pub returns-in-Err-clause-complete : goal.returns-in-Err-clause-complete
@@ -67,11 +85,14 @@ returns-in-Err-clause-wrong_input g c command says input steady =
 
 pub returns-in-Ok-clause-picture : goal.returns-in-Ok-clause-picture
 returns-in-Ok-clause-picture g c wish has_book says given =
-    let same : Read Decode wish has_book ≡ c.in-Ok.command = let e = c.read_words.ensures.only (Ok (Read Decode wish has_book)) says in let f = c.in-Ok.is in cc in
+    let same : Read Decode wish has_book ≡ c.in-Ok.command = let e = c.read_words.ensures.only (Ok (Read Decode wish has_book)) says in let f =
+    c.in-Ok.is in cc in
     by_book_gives (reads Decode) (λ wish old new. GavePicture wish old new c.perform.result) c.perform.result given
-    (λ wish old new run. gave_picture c.picking_keeps.ensures c.decoding_stays_in_rects.ensures c.decoding_contains.ensures c.round_trip.ensures wish old new c.perform.result run given)
+    (λ wish old new run. gave_picture c.picking_keeps.ensures c.decoding_stays_in_rects.ensures c.decoding_contains.ensures c.round_trip.ensures wish old
+    new c.perform.result run given)
     has_book wish _ _
-    (subst (λ k. (behaviour k).performs (g.X.Port.outside c.args.port.now) (g.X.Port.outside c.perform.new.port) c.perform.result) (sym same) c.perform.ensures.performs)
+    (subst (λ k. (behaviour k).performs (g.X.Port.outside c.args.port.now) (g.X.Port.outside c.perform.new.port) c.perform.result) (sym same)
+    c.perform.ensures.performs)
 
 pub returns-in-Err-clause-picture : goal.returns-in-Err-clause-picture
 returns-in-Err-clause-picture g c wish has_book says given =
@@ -80,8 +101,10 @@ returns-in-Err-clause-picture g c wish has_book says given =
 pub returns-in-Ok-clause-look : goal.returns-in-Ok-clause-look
 returns-in-Ok-clause-look g c wish has_book says given =
     let same : Read Look wish has_book ≡ c.in-Ok.command = let e = c.read_words.ensures.only (Ok (Read Look wish has_book)) says in let f = c.in-Ok.is in cc in
-    by_book_gives (reads Look) GaveLook c.perform.result given (λ wish old new run. gave_look c.looks_are_of_images.ensures wish old new c.perform.result run given) has_book wish _ _
-    (subst (λ k. (behaviour k).performs (g.X.Port.outside c.args.port.now) (g.X.Port.outside c.perform.new.port) c.perform.result) (sym same) c.perform.ensures.performs)
+    by_book_gives (reads Look) GaveLook c.perform.result given (λ wish old new run. gave_look c.looks_are_of_images.ensures wish old new c.perform.result
+    run given) has_book wish _ _
+    (subst (λ k. (behaviour k).performs (g.X.Port.outside c.args.port.now) (g.X.Port.outside c.perform.new.port) c.perform.result) (sym same)
+    c.perform.ensures.performs)
 
 pub returns-in-Err-clause-look : goal.returns-in-Err-clause-look
 returns-in-Err-clause-look g c wish has_book says given =
@@ -91,7 +114,8 @@ pub returns-in-Ok-clause-bare_picture : goal.returns-in-Ok-clause-bare_picture
 returns-in-Ok-clause-bare_picture g c wish says zero =
     let same : BareDecode wish ≡ c.in-Ok.command = let e = c.read_words.ensures.only (Ok (BareDecode wish)) says in let f = c.in-Ok.is in cc in
     gave_bare c.bare_round_trip.ensures wish _ _ c.perform.result
-    (subst (λ k. (behaviour k).performs (g.X.Port.outside c.args.port.now) (g.X.Port.outside c.perform.new.port) c.perform.result) (sym same) c.perform.ensures.performs) zero
+    (subst (λ k. (behaviour k).performs (g.X.Port.outside c.args.port.now) (g.X.Port.outside c.perform.new.port) c.perform.result) (sym same)
+    c.perform.ensures.performs) zero
 
 pub returns-in-Err-clause-bare_picture : goal.returns-in-Err-clause-bare_picture
 returns-in-Err-clause-bare_picture g c wish says zero =
@@ -117,7 +141,8 @@ pub returns-in-Ok-clause-picks : goal.returns-in-Ok-clause-picks
 returns-in-Ok-clause-picks g c wish image says given =
     let same : Pick wish image ≡ c.in-Ok.command = let e = c.read_words.ensures.only (Ok (Pick wish image)) says in let f = c.in-Ok.is in cc in
     gave_picked c.picking_keeps.ensures wish image _ _ c.perform.result
-    (subst (λ k. (behaviour k).performs (g.X.Port.outside c.args.port.now) (g.X.Port.outside c.perform.new.port) c.perform.result) (sym same) c.perform.ensures.performs) given
+    (subst (λ k. (behaviour k).performs (g.X.Port.outside c.args.port.now) (g.X.Port.outside c.perform.new.port) c.perform.result) (sym same)
+    c.perform.ensures.performs) given
 
 pub returns-in-Err-clause-picks : goal.returns-in-Err-clause-picks
 returns-in-Err-clause-picks g c wish image says given =

@@ -11,6 +11,7 @@ loop-place-preserved c =
       | else-is_same w ↦ w.equal-is ∙ omega arith ∙ ap (λ b. before + cond b 1 0) (sym w.if-is_same.false)
     ] in
     record {
-      counted = equal-more c.args.setting.now c.args.made.now c.args.given.now c.loop-place.place before c.if-is_same.equal c.is_same.result c.is_same.ensures c.loop-place.invariant.counted step;
+      counted = equal-more c.args.setting.now c.args.made.now c.args.given.now c.loop-place.place before c.if-is_same.equal c.is_same.result
+          c.is_same.ensures c.loop-place.invariant.counted step;
       most = search rules;
     }

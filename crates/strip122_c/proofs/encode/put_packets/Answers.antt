@@ -15,7 +15,8 @@ pub returns : goal.returns
 returns c =
     let admits : IsAdmitted c.args.setting.now = search rules in
     let copied : c.copy_from_slice.new.self ≡ c.in-Some.packets.now = search rules in
-    let has = has_encoded c.args.setting.now c.args.raster.now (outside_of c.in-Ok.port) (outside_of c.encode.new.port) c.in-Ok-encode.done admits c.requires.book c.ten_weights.ensures
+    let has = has_encoded c.args.setting.now c.args.raster.now (outside_of c.in-Ok.port) (outside_of c.encode.new.port) c.in-Ok-encode.done admits
+    c.requires.book c.ten_weights.ensures
     (ap (λ (o : Outside). o.rest) c.in-Ok.ensures.outside) (ap (λ (o : Outside). o.given) c.in-Ok.ensures.outside) c.in-Ok-encode.ensures in
     record {
       took = has.took;

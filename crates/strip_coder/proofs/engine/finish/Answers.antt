@@ -11,14 +11,17 @@ finish_one-requires-clause-ending g c = c.loop.invariant.ending
 
 pub returns-in_err-finish_one : goal.returns-in_err-finish_one
 returns-in_err-finish_one g c =
-    then_unfinished (g.X.Port.outside c.args.port.now) (g.X.Port.outside c.loop.port) (g.X.Port.outside c.finish_one.new.port) c.from_residual.result c.args.plan.now c.args.work.now c.loop.work c.finish_one.new.work
+    then_unfinished (g.X.Port.outside c.args.port.now) (g.X.Port.outside c.loop.port) (g.X.Port.outside c.finish_one.new.port) c.from_residual.result
+    c.args.plan.now c.args.work.now c.loop.work c.finish_one.new.work
     c.from_residual.ensures.0 c.loop.invariant c.in_err-finish_one.ensures
 
 pub loop-smaller : goal.loop-smaller
 loop-smaller g c = grind (arith, common_steps)
 
 pub loop-preserved : goal.loop-preserved
-loop-preserved g c = then_finished c.args.plan.now c.args.work.now c.loop.work c.finish_one.new.work c.loop.invariant (rw c.if-branch.true at c.in_ok-finish_one.ensures)
+loop-preserved g c = then_finished c.args.plan.now c.args.work.now c.loop.work c.finish_one.new.work c.loop.invariant
+    (rw c.if-branch.true at c.in_ok-finish_one.ensures)
 
 pub returns : goal.returns
-returns g c = all_out c.args.plan.now c.args.work.now c.loop.work c.finish_one.new.work c.requires.in_range c.loop.invariant (rw c.if-branch.false at c.in_ok-finish_one.ensures)
+returns g c = all_out c.args.plan.now c.args.work.now c.loop.work c.finish_one.new.work c.requires.in_range c.loop.invariant
+    (rw c.if-branch.false at c.in_ok-finish_one.ensures)

@@ -11,7 +11,16 @@ push_tail-requires-clause-in_range g c = rw c.new-plan.ensures (record { in_rang
 
 pub push_tail-requires-clause-running : goal.push_tail-requires-clause-running
 push_tail-requires-clause-running g c =
-    rw c.new-plan.ensures (row_running _ c.args.work.now _ (record { row = refl; strip = refl; blocks = refl; packets = refl; writer = refl; room = refl; at = refl }) (all_running c.args.setting.now c.args.work.now.at.rows c.args.work.now c.requires.in_range c.requires.height c.requires.taken))
+    rw c.new-plan.ensures (row_running _ c.args.work.now _ (record {
+      row = refl;
+      strip = refl;
+      blocks = refl;
+      packets = refl;
+      writer = refl;
+      room =
+          refl;
+      at = refl;
+    }) (all_running c.args.setting.now c.args.work.now.at.rows c.args.work.now c.requires.in_range c.requires.height c.requires.taken))
 
 pub push_tail-requires-clause-rows : goal.push_tail-requires-clause-rows
 push_tail-requires-clause-rows g c = rw c.new-plan.ensures c.requires.taken.strip_rows
@@ -43,7 +52,8 @@ returns-in_default g c =
     let s = c.args.setting.now in
     let w = c.args.work.now in
     let long = c.pad_row.auto.row ∙ c.deref_mut.ensures.len in
-    tail_breaks s w.at.rows (record { in_range = c.requires.in_range; height = c.requires.height }) w _ (record { row = refl; strip = refl; blocks = refl; packets = refl; writer = refl; room = refl; at = refl })
+    tail_breaks s w.at.rows (record { in_range = c.requires.in_range; height = c.requires.height }) w _
+    (record { row = refl; strip = refl; blocks = refl; packets = refl; writer = refl; room = refl; at = refl })
     (pads s.width w.row _ c.pad_row.new.row c.deref_mut.ensures.value long c.pad_row.ensures)
     (long_as w.row c.pad_row.new.row (padded_size s.width) long c.requires.taken.running.gathered.made.row)
     (all_follows s w.at.rows w c.requires.in_range c.requires.height c.requires.taken) c.push_tail.new.work (rw c.new-plan.ensures at c.in_default.ensures)
@@ -53,17 +63,20 @@ returns-in_default-finish g c =
     let s = c.args.setting.now in
     let w = c.args.work.now in
     let long = c.pad_row.auto.row ∙ c.deref_mut.ensures.len in
-    finish_breaks s w.at.rows (record { in_range = c.requires.in_range; height = c.requires.height }) w _ (record { row = refl; strip = refl; blocks = refl; packets = refl; writer = refl; room = refl; at = refl })
+    finish_breaks s w.at.rows (record { in_range = c.requires.in_range; height = c.requires.height }) w _
+    (record { row = refl; strip = refl; blocks = refl; packets = refl; writer = refl; room = refl; at = refl })
     (pads s.width w.row _ c.pad_row.new.row c.deref_mut.ensures.value long c.pad_row.ensures)
     (long_as w.row c.pad_row.new.row (padded_size s.width) long c.requires.taken.running.gathered.made.row)
-    (all_follows s w.at.rows w c.requires.in_range c.requires.height c.requires.taken) _ c.push_tail.new.work c.finish.new.work (rw c.new-plan.ensures at c.in-Ok.ensures) (rw c.new-plan.ensures at c.in_default-finish.ensures)
+    (all_follows s w.at.rows w c.requires.in_range c.requires.height c.requires.taken) _ c.push_tail.new.work c.finish.new.work
+    (rw c.new-plan.ensures at c.in-Ok.ensures) (rw c.new-plan.ensures at c.in_default-finish.ensures)
 
 pub returns : goal.returns
 returns g c =
     let s = c.args.setting.now in
     let w = c.args.work.now in
     let long = c.pad_row.auto.row ∙ c.deref_mut.ensures.len in
-    image_ends s w.at.rows (record { in_range = c.requires.in_range; height = c.requires.height }) w _ (record { row = refl; strip = refl; blocks = refl; packets = refl; writer = refl; room = refl; at = refl })
+    image_ends s w.at.rows (record { in_range = c.requires.in_range; height = c.requires.height }) w _
+    (record { row = refl; strip = refl; blocks = refl; packets = refl; writer = refl; room = refl; at = refl })
     (pads s.width w.row _ c.pad_row.new.row c.deref_mut.ensures.value long c.pad_row.ensures)
     (long_as w.row c.pad_row.new.row (padded_size s.width) long c.requires.taken.running.gathered.made.row)
     (all_follows s w.at.rows w c.requires.in_range c.requires.height c.requires.taken) _ c.push_tail.new.work c.finish.new.work c.done_so_far.result

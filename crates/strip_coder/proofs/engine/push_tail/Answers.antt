@@ -19,11 +19,13 @@ push-requires-clause-small g c = grind (arith, common_steps)
 pub returns-in_err-push : goal.returns-in_err-push
 returns-in_err-push g c =
     let s = c.args.plan.now in
-    then_unpushed (g.X.Port.outside c.args.port.now) (g.X.Port.outside c.loop.port) (g.X.Port.outside c.push.new.port) c.from_residual.result s c.loop.counter (padded_size s.rows - s.rows)
+    then_unpushed (g.X.Port.outside c.args.port.now) (g.X.Port.outside c.loop.port) (g.X.Port.outside c.push.new.port) c.from_residual.result s
+    c.loop.counter (padded_size s.rows - s.rows)
     c.args.work.now c.loop.work c.push.new.work c.requires.in_range c.from_residual.ensures.0 c.requires.rows c.loop.invariant c.in_err-push.ensures
 
 pub loop-preserved : goal.loop-preserved
-loop-preserved g c = then_pushed c.args.plan.now c.loop.counter c.args.work.now c.loop.work c.push.new.work c.requires.rows c.loop.invariant c.in_ok-push.ensures
+loop-preserved g c = then_pushed c.args.plan.now c.loop.counter c.args.work.now c.loop.work c.push.new.work c.requires.rows c.loop.invariant
+    c.in_ok-push.ensures
 
 pub returns : goal.returns
 returns g c = grind (arith, common_steps)

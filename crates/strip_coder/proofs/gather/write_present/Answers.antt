@@ -19,7 +19,14 @@ pub returns-in_default : goal.returns-in_default
 returns-in_default g c =
     let s = c.args.plan.now in
     let w = c.args.work.now in
-    present_cut s w _ c.requires.in_range c.requires.full (record { strip = refl; row = refl; blocks = c.in_default.ensures.most; writer = refl; room = refl }) c.in_default.ensures.text
+    present_cut s w _ c.requires.in_range c.requires.full (record {
+      strip = refl;
+      row = refl;
+      blocks = c.in_default.ensures.most;
+      writer = refl;
+      room =
+          refl;
+    }) c.in_default.ensures.text
 
 pub overflow_add-work : goal.overflow_add-work
 overflow_add-work g c =
@@ -30,4 +37,11 @@ pub returns : goal.returns
 returns g c =
     let s = c.args.plan.now in
     let w = c.args.work.now in
-    present_out s w _ c.requires.in_range c.requires.full (record { strip = refl; row = refl; blocks = c.clear.ensures.most ∙ c.in-Ok.ensures.most; writer = refl; room = refl }) c.in-Ok.octets c.clear.ensures.numbers refl refl refl c.saturating_add-work.ensures c.in-Ok.ensures.text
+    present_out s w _ c.requires.in_range c.requires.full (record {
+      strip = refl;
+      row = refl;
+      blocks = c.clear.ensures.most ∙ c.in-Ok.ensures.most;
+      writer =
+          refl;
+      room = refl;
+    }) c.in-Ok.octets c.clear.ensures.numbers refl refl refl c.saturating_add-work.ensures c.in-Ok.ensures.text

@@ -9,7 +9,7 @@ use Rattle.wave_defs.specs.Held.{blocks_in}
 use Rattle.segment_defs.specs.Depths.{depth_dc_of, depth_ac_of}
 use Rattle.segment_defs.specs.Coded.{coded}
 use Rattle.packet_defs.specs.declared.ancillary.Ancillary.{Ancillary}
-use Rattle.stream_defs.specs.Output.{ancillary_of, head_with, share, tells_last}
+use Rattle.stream_defs.specs.Output.{ancillary_of, head_with, share, reports_last}
 use Rattle.stream_defs.specs.Shares.{CanBeSaid}
 use Rattle.space_packets.specs.declared.stage.Text.{Text}
 use Rattle.space_packets.specs.declared.stage.PacketiserState.{PacketiserState}
@@ -32,10 +32,10 @@ cut_to : {X : Type 0} (outside : X → Outside) (x y : X) (w u : Progress) {t : 
     TextCut t p (outside y) v u text → TextCut t p (outside x) v w text
 cut_to outside x y w u {t = t} {p = p} {v = v} {text = text} e f cut = grind (arith, common_steps)
 
-begun_stands : (stage : PacketiserState) (t : Text) → stage ≡ Begun t → IsBegun stage
-begun_stands stage t e = subst IsBegun (sym e) tt
+begun_valid : (stage : PacketiserState) (t : Text) → stage ≡ Begun t → IsBegun stage
+begun_valid stage t e = subst IsBegun (sym e) tt
 
-begun_with : (s : Plan) (index : ℕ) (v : Progress) (a : Ancillary) → a ≡ ancillary_of (tells_last s.setting) (whole s) index →
+begun_with : (s : Plan) (index : ℕ) (v : Progress) (a : Ancillary) → a ≡ ancillary_of (reports_last s.setting) (whole s) index →
     begun v (record { apid = s.setting.apid; ancillary = a }) ≡ begun v (text_of s index)
 begun_with s index v a e = ap (λ a. begun v (record { apid = s.setting.apid; ancillary = a })) e
 
@@ -43,7 +43,8 @@ begun_to : (a b : PacketiserState) → a ≡ b → IsBegun b → IsBegun a
 begun_to a b e begun = subst IsBegun (sym e) begun
 
 -- the text of the head that was made
-made : (book : Book) (s : Plan) → book ≡ s.setting.book → (index used limit count depth_dc depth_ac : ℕ) (head : SegmentHead) (cells : List ℤ) → head ≡ head_with (whole s) index limit count depth_dc depth_ac →
+made : (book : Book) (s : Plan) → book ≡ s.setting.book → (index used limit count depth_dc depth_ac : ℕ) (head : SegmentHead) (cells : List ℤ) →
+    head ≡ head_with (whole s) index limit count depth_dc depth_ac →
     limit ≡ share (whole s) index used → length cells ≡ 64 * count → depth_dc ≡ depth_dc_of (blocks_in cells) → depth_ac ≡ depth_ac_of (blocks_in cells) →
     coded book head (blocks_in cells) ≡ text_for s index used (blocks_in cells)
 made book s own index used limit count depth_dc depth_ac head cells e l f dc ac = grind (arith, common_steps, text_same, length-blocks_in)
@@ -58,9 +59,11 @@ encode-requires-clause-fits g c =
     let s = c.args.plan.now in
     let depths = c.depths-depth_dc in
     let long = c.len.ensures in
-    let said = subst (CanBeSaid (whole s)) (sym {b = share (whole s) c.args.at.now.index c.args.at.now.used} c.share-limit.ensures) (share_said s c.args.at.now c.requires.in_range c.requires.share c.requires.index) in
+    let said = subst (CanBeSaid (whole s)) (sym {b = share (whole s) c.args.at.now.index c.args.at.now.used} c.share-limit.ensures)
+    (share_said s c.args.at.now c.requires.in_range c.requires.share c.requires.index) in
     rw c.make_head-head.ensures
-    (head_is s c.args.at.now.index c.share-limit.result _ depths.result.0 depths.result.1 c.requires.in_range said (omega (arith, c.requires.some, long)) (omega (arith, c.requires.most, long))
+    (head_is s c.args.at.now.index c.share-limit.result _ depths.result.0 depths.result.1 c.requires.in_range said (omega (arith, c.requires.some, long))
+    (omega (arith, c.requires.most, long))
     depths.ensures.least_dc depths.ensures.most_dc depths.ensures.most_ac)
 
 pub returns-in_default : goal.returns-in_default
@@ -68,39 +71,54 @@ returns-in_default g c =
     let s = c.args.plan.now in
     let cells = c.args.blocks.now.numbers in
     let least : 64 ≤ c.args.packets.now.packet = omega (arith, c.requires.packet, c.requires.in_range.in_range.packet) in
-    let begins = c.sink-sink.ensures.same_packets ∙ c.begin.ensures.begun ∙ begun_with s c.args.at.now.index c.args.packets.now c.ancillary.result c.ancillary.ensures in
+    let begins = c.sink-sink.ensures.same_packets ∙ c.begin.ensures.begun ∙ begun_with s c.args.at.now.index c.args.packets.now c.ancillary.result
+    c.ancillary.ensures in
     let broken = c.in_default.ensures.text in
     let depths = c.depths-depth_dc in
     let long : length cells ≡ 64 * c.len.result = sym c.len.ensures in
-    let same = made c.args.writer.now.tables.book s c.requires.book c.args.at.now.index c.args.at.now.used c.share-limit.result _ depths.result.0 depths.result.1 c.make_head-head.result cells c.make_head-head.ensures c.share-limit.ensures long depths.ensures.dc depths.ensures.ac in
-    let off = sink_breaks_off g.X.Port.outside c.sink-sink.result c.encode.new.out c.args.packets.now (text_of s c.args.at.now.index) c.args.port.now broken.front begins c.sink-sink.ensures.same_port least broken.broke in
-    let whole : broken.front ++ broken.more ≡ text_for s c.args.at.now.index c.args.at.now.used (blocks_in cells) = sym broken.parts ∙ same in
-    let some : 0 < length (broken.front ++ broken.more) = subst (λ xs. 0 < length xs) (sym whole) (some_text s c.args.at.now.index c.args.at.now.used cells c.requires.in_range) in
-    let cut = rw whole at (text_cut c.args.packets.now broken.front broken.more least refl some off) in
-    record { text = cut_to g.X.Port.outside _ c.encode.new.out.port.now _ c.encode.new.out.packets.now (search rules) (search rules) cut; most = c.in_default.ensures.most }
+    let same = made c.args.writer.now.tables.book s c.requires.book c.args.at.now.index c.args.at.now.used c.share-limit.result _ depths.result.0
+    depths.result.1 c.make_head-head.result cells c.make_head-head.ensures c.share-limit.ensures long depths.ensures.dc depths.ensures.ac in
+    let off = sink_breaks_off g.X.Port.outside c.sink-sink.result c.encode.new.out c.args.packets.now (text_of s c.args.at.now.index) c.args.port.now
+    broken.prefix begins c.sink-sink.ensures.same_port least broken.broke in
+    let whole : broken.prefix ++ broken.more ≡ text_for s c.args.at.now.index c.args.at.now.used (blocks_in cells) = sym broken.parts ∙ same in
+    let some : 0 < length (broken.prefix ++ broken.more) =
+    subst (λ xs. 0 < length xs) (sym whole) (some_text s c.args.at.now.index c.args.at.now.used cells c.requires.in_range) in
+    let cut = rw whole at (text_cut c.args.packets.now broken.prefix broken.more least refl some off) in
+    record {
+      text = cut_to g.X.Port.outside _ c.encode.new.out.port.now _ c.encode.new.out.packets.now (search rules) (search rules) cut;
+      most =
+          c.in_default.ensures.most;
+    }
 
 pub close-requires-clause-begun : goal.close-requires-clause-begun
 close-requires-clause-begun g c =
     let s = c.args.plan.now in
     let least : 64 ≤ c.args.packets.now.packet = omega (arith, c.requires.packet, c.requires.in_range.in_range.packet) in
-    let begins = c.sink-sink.ensures.same_packets ∙ c.begin.ensures.begun ∙ begun_with s c.args.at.now.index c.args.packets.now c.ancillary.result c.ancillary.ensures in
+    let begins = c.sink-sink.ensures.same_packets ∙ c.begin.ensures.begun ∙ begun_with s c.args.at.now.index c.args.packets.now c.ancillary.result
+    c.ancillary.ensures in
     let given = c.in-Ok.ensures.text in
-    let sent = sink_goes_on g.X.Port.outside c.sink-sink.result c.encode.new.out c.args.packets.now (text_of s c.args.at.now.index) c.args.port.now _ begins c.sink-sink.ensures.same_port least given.gave in
-    begun_to _ c.encode.new.out.packets.now.stage (search rules) (begun_stands _ _ (ap (λ (w : Progress). w.stage) sent.stands))
+    let sent = sink_goes_on g.X.Port.outside c.sink-sink.result c.encode.new.out c.args.packets.now (text_of s c.args.at.now.index) c.args.port.now _ begins
+    c.sink-sink.ensures.same_port least given.gave in
+    begun_to _ c.encode.new.out.packets.now.stage (search rules) (begun_valid _ _ (ap (λ (w : Progress). w.stage) sent.valid))
 
 pub close-requires-clause-some : goal.close-requires-clause-some
 close-requires-clause-some g c =
     let s = c.args.plan.now in
     let cells = c.args.blocks.now.numbers in
     let least : 64 ≤ c.args.packets.now.packet = omega (arith, c.requires.packet, c.requires.in_range.in_range.packet) in
-    let begins = c.sink-sink.ensures.same_packets ∙ c.begin.ensures.begun ∙ begun_with s c.args.at.now.index c.args.packets.now c.ancillary.result c.ancillary.ensures in
+    let begins = c.sink-sink.ensures.same_packets ∙ c.begin.ensures.begun ∙ begun_with s c.args.at.now.index c.args.packets.now c.ancillary.result
+    c.ancillary.ensures in
     let given = c.in-Ok.ensures.text in
     let depths = c.depths-depth_dc in
     let long : length cells ≡ 64 * c.len.result = sym c.len.ensures in
-    let same = made c.args.writer.now.tables.book s c.requires.book c.args.at.now.index c.args.at.now.used c.share-limit.result _ depths.result.0 depths.result.1 c.make_head-head.result cells c.make_head-head.ensures c.share-limit.ensures long depths.ensures.dc depths.ensures.ac in
+    let same = made c.args.writer.now.tables.book s c.requires.book c.args.at.now.index c.args.at.now.used c.share-limit.result _ depths.result.0
+    depths.result.1 c.make_head-head.result cells c.make_head-head.ensures c.share-limit.ensures long depths.ensures.dc depths.ensures.ac in
     let gave = rw same at given.gave in
-    let sent = sink_goes_on g.X.Port.outside c.sink-sink.result c.encode.new.out c.args.packets.now (text_of s c.args.at.now.index) c.args.port.now _ begins c.sink-sink.ensures.same_port least gave in
-    let waits : 0 < length c.encode.new.out.packets.now.pending = some_wait c.args.packets.now (text_for s c.args.at.now.index c.args.at.now.used (blocks_in cells)) (some_text s c.args.at.now.index c.args.at.now.used cells c.requires.in_range) sent in
+    let sent = sink_goes_on g.X.Port.outside c.sink-sink.result c.encode.new.out c.args.packets.now (text_of s c.args.at.now.index) c.args.port.now _ begins
+    c.sink-sink.ensures.same_port least gave in
+    let waits : 0 < length c.encode.new.out.packets.now.pending =
+    some_wait c.args.packets.now (text_for s c.args.at.now.index c.args.at.now.used (blocks_in cells))
+    (some_text s c.args.at.now.index c.args.at.now.used cells c.requires.in_range) sent in
     grind (arith, waits)
 
 pub returns-in_default-close : goal.returns-in_default-close
@@ -114,12 +132,15 @@ returns-in_default-close g c =
     let given = c.in-Ok.ensures.text in
     let depths = c.depths-depth_dc in
     let long : length cells ≡ 64 * c.len.result = sym c.len.ensures in
-    let same = made c.args.writer.now.tables.book s c.requires.book index used c.share-limit.result _ depths.result.0 depths.result.1 c.make_head-head.result cells c.make_head-head.ensures c.share-limit.ensures long depths.ensures.dc depths.ensures.ac in
+    let same = made c.args.writer.now.tables.book s c.requires.book index used c.share-limit.result _ depths.result.0 depths.result.1
+    c.make_head-head.result cells c.make_head-head.ensures c.share-limit.ensures long depths.ensures.dc depths.ensures.ac in
     let gave = rw same at given.gave in
-    let sent = sink_goes_on g.X.Port.outside c.sink-sink.result c.encode.new.out c.args.packets.now (text_of s index) c.args.port.now _ begins c.sink-sink.ensures.same_port least gave in
+    let sent = sink_goes_on g.X.Port.outside c.sink-sink.result c.encode.new.out c.args.packets.now (text_of s index) c.args.port.now _ begins
+    c.sink-sink.ensures.same_port least gave in
     record {
       text =
-          text_closed {T = Unit {0}} {E = Unit {0}} (Err tt) c.args.packets.now _ c.close.new.self (text_of s index) (text_for s index used (blocks_in cells)) (g.X.Port.outside c.args.port.now) _ (g.X.Port.outside c.close.new.port) least refl
+          text_closed {T = Unit {0}} {E = Unit {0}} (Err tt) c.args.packets.now _ c.close.new.self (text_of s index)
+          (text_for s index used (blocks_in cells)) (g.X.Port.outside c.args.port.now) _ (g.X.Port.outside c.close.new.port) least refl
           (some_text s index used cells c.requires.in_range)
           (sent_to g.X.Port.outside _ c.encode.new.out.port.now _ c.encode.new.out.packets.now (search rules) (search rules) sent) c.in_default-close.ensures;
       most = c.in-Ok.ensures.most;
@@ -136,12 +157,15 @@ returns g c =
     let given = c.in-Ok.ensures.text in
     let depths = c.depths-depth_dc in
     let long : length cells ≡ 64 * c.len.result = sym c.len.ensures in
-    let same = made c.args.writer.now.tables.book s c.requires.book index used c.share-limit.result _ depths.result.0 depths.result.1 c.make_head-head.result cells c.make_head-head.ensures c.share-limit.ensures long depths.ensures.dc depths.ensures.ac in
+    let same = made c.args.writer.now.tables.book s c.requires.book index used c.share-limit.result _ depths.result.0 depths.result.1
+    c.make_head-head.result cells c.make_head-head.ensures c.share-limit.ensures long depths.ensures.dc depths.ensures.ac in
     let gave = rw same at given.gave in
-    let sent = sink_goes_on g.X.Port.outside c.sink-sink.result c.encode.new.out c.args.packets.now (text_of s index) c.args.port.now _ begins c.sink-sink.ensures.same_port least gave in
+    let sent = sink_goes_on g.X.Port.outside c.sink-sink.result c.encode.new.out c.args.packets.now (text_of s index) c.args.port.now _ begins
+    c.sink-sink.ensures.same_port least gave in
     record {
       text = (
-        text_closed {T = Unit {0}} {E = Unit {0}} (Ok tt) c.args.packets.now _ c.close.new.self (text_of s index) (text_for s index used (blocks_in cells)) (g.X.Port.outside c.args.port.now) _ (g.X.Port.outside c.close.new.port) least refl
+        text_closed {T = Unit {0}} {E = Unit {0}} (Ok tt) c.args.packets.now _ c.close.new.self (text_of s index) (text_for s index used (blocks_in cells))
+            (g.X.Port.outside c.args.port.now) _ (g.X.Port.outside c.close.new.port) least refl
             (some_text s index used cells c.requires.in_range)
             (sent_to g.X.Port.outside _ c.encode.new.out.port.now _ c.encode.new.out.packets.now (search rules) (search rules) sent) c.in-Ok-close.ensures,
         given.count ∙ ap length same,

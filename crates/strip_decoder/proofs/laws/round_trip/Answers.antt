@@ -1,5 +1,5 @@
-use Rattle.strip_decoder.proofs.RoundTrips.{comes_same, decoded_back}
-use Rattle.segment_walk.proofs.WholeImages.{comes_whole}
+use Rattle.strip_decoder.proofs.RoundTrips.{arrives_same, decoded_back}
+use Rattle.segment_walk.proofs.WholeImages.{arrives_whole}
 use Rattle.strip_decoder.proofs.laws.round_trip.Goals as goal
 
 pub returns : goal.returns
@@ -7,7 +7,8 @@ returns c =
     let short = c.texts_are_short.ensures in
     let read = c.coded_texts_are_read.ensures in
     record {
-      whole = λ s rows x received is received_is. comes_whole short s rows x is received received_is read;
-      same = λ s rows x received is sends received_is. comes_same short read s rows x is received received_is sends;
-      decoded = λ wish start new took gave every done s rows x found told apid book took_is is. decoded_back short read wish start new took gave every done s rows x found told apid book took_is is;
+      whole = λ s rows x received is received_is. arrives_whole short s rows x is received received_is read;
+      same = λ s rows x received is sends received_is. arrives_same short read s rows x is received received_is sends;
+      decoded = λ wish start new took gave every done s rows x found if_known apid book took_is is. decoded_back short read wish start new took gave every done
+          s rows x found if_known apid book took_is is;
     }

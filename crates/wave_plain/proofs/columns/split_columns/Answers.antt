@@ -10,7 +10,8 @@ highs-preserved c =
     let i = c.highs.i in
     let room : i * w + w ≤ c.args.n * w = row_ends c.args.n i w (omega arith) in
     SameWithin-write_row w i _ _ _ _ (omega arith) (omega arith) (omega arith) c.highs.invariant
-    (Agrees-columns_high _ w _ _ i _ _ _ _ _ _ _ _ _ c.row_of-odd.ensures.whole c.mirrored_before.ensures c.mirrored_after.ensures.value c.mirrored_after-in-highs.ensures.value c.high_row.ensures
+    (Agrees-columns_high _ w _ _ i _ _ _ _ _ _ _ _ _ c.row_of-odd.ensures.whole c.mirrored_before.ensures c.mirrored_after.ensures.value
+    c.mirrored_after-in-highs.ensures.value c.high_row.ensures
     (Agrees-part w _ _ _ c.row_of-odd.ensures.row)
     (Agrees-part w _ _ _ c.row_of-before.ensures.row)
     (Agrees-part w _ _ _ c.row_of-here.ensures.row)
@@ -19,12 +20,14 @@ highs-preserved c =
 
 pub low_row-requires-clause-bounded_before : goal.low_row-requires-clause-bounded_before
 low_row-requires-clause-bounded_before c =
-    AllWithin-high (2 ^ 23) _ c.args.w _ _ c.saturating_sub.result _ _ _ (omega arith) (omega arith) (omega arith) (omega arith) c.row_of-even.ensures.whole c.requires.bounded c.highs.invariant
+    AllWithin-high (2 ^ 23) _ c.args.w _ _ c.saturating_sub.result _ _ _ (omega arith) (omega arith) (omega arith) (omega arith) c.row_of-even.ensures.whole
+    c.requires.bounded c.highs.invariant
     (Agrees-part c.args.w _ _ _ c.row_of-before-in-lows.ensures.row)
 
 pub low_row-requires-clause-bounded_after : goal.low_row-requires-clause-bounded_after
 low_row-requires-clause-bounded_after c =
-    AllWithin-high (2 ^ 23) _ c.args.w _ _ c.lows.i _ _ _ (omega arith) (omega arith) (omega arith) (omega arith) c.row_of-even.ensures.whole c.requires.bounded c.highs.invariant
+    AllWithin-high (2 ^ 23) _ c.args.w _ _ c.lows.i _ _ _ (omega arith) (omega arith) (omega arith) (omega arith) c.row_of-even.ensures.whole
+    c.requires.bounded c.highs.invariant
     (Agrees-part c.args.w _ _ _ c.row_of-after-in-lows.ensures.row)
 
 pub lows-preserved : goal.lows-preserved

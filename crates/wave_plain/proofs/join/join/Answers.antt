@@ -9,14 +9,16 @@ pub join_rows-requires-clause-low_bounded : goal.join_rows-requires-clause-low_b
 join_rows-requires-clause-low_bounded c =
     let low = c.in_ok-low.ensures in
     let b = c.requires.bounded in
-    shown_plane_within (3 * 2 ^ 34) (2 ^ 38) _ _ _ _ _ _ (omega arith) low.size.rows_are low.size.columns_are low (columns_merged-within (2 ^ 34) _ _ _ _ (omega arith) (omega arith) b.ll b.lh)
+    shown_plane_within (3 * 2 ^ 34) (2 ^ 38) _ _ _ _ _ _ (omega arith) low.size.rows_are low.size.columns_are low
+    (columns_merged-within (2 ^ 34) _ _ _ _ (omega arith) (omega arith) b.ll b.lh)
 
 pub join_rows-requires-clause-high_bounded : goal.join_rows-requires-clause-high_bounded
 join_rows-requires-clause-high_bounded c =
     let low = c.in_ok-low.ensures in
     let b = c.requires.bounded in
     let high = columns_shown_at _ _ _ _ _ _ _ c.requires.hl_size.rows_are c.requires.hl_size.columns_are c.in_ok-high.ensures in
-    shown_plane_within (3 * 2 ^ 34) (2 ^ 38) _ _ _ _ _ _ (omega arith) low.size.rows_are low.size.columns_are high (columns_merged-within (2 ^ 34) _ _ _ _ (omega arith) (omega arith) b.hl b.hh)
+    shown_plane_within (3 * 2 ^ 34) (2 ^ 38) _ _ _ _ _ _ (omega arith) low.size.rows_are low.size.columns_are high
+    (columns_merged-within (2 ^ 34) _ _ _ _ (omega arith) (omega arith) b.hl b.hh)
 
 pub returns : goal.returns
 returns c =

@@ -16,4 +16,5 @@ loop-i-preserved c =
     let i = c.loop-i.i in
     let room : i * (2 * n) + 2 * n ≤ c.args.rows * (2 * n) = row_ends c.args.rows i (2 * n) (omega arith) in
     SameWithin-write_row (2 * n) i _ _ _ _ (omega arith) (omega arith) (omega arith) c.loop-i.invariant
-    (Agrees-rows_merged n _ i _ _ _ _ _ c.row_of-low_row.ensures.whole (omega arith) c.inverse_row.ensures (Agrees-part n i _ _ c.row_of-low_row.ensures.row) (Agrees-part n i _ _ c.row_of-high_row.ensures.row))
+    (Agrees-rows_merged n _ i _ _ _ _ _ c.row_of-low_row.ensures.whole (omega arith) c.inverse_row.ensures
+    (Agrees-part n i _ _ c.row_of-low_row.ensures.row) (Agrees-part n i _ _ c.row_of-high_row.ensures.row))

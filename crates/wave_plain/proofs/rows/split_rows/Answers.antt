@@ -15,6 +15,8 @@ loop-i-preserved c =
     let low_long : length c.forward_row.new.low ≡ n = omega arith in
     let high_long : length c.forward_row.new.high ≡ n = omega arith in
     record {
-      low = SameWithin-write_row n i _ _ _ _ (omega arith) (omega arith) low_long c.loop-i.invariant.low (Agrees-low _ n _ _ _ low_long (omega arith) c.forward_row.ensures.low row);
-      high = SameWithin-write_row n i _ _ _ _ (omega arith) (omega arith) high_long c.loop-i.invariant.high (Agrees-high _ n _ _ _ low_long (omega arith) c.forward_row.ensures.high row);
+      low = SameWithin-write_row n i _ _ _ _ (omega arith) (omega arith) low_long c.loop-i.invariant.low
+          (Agrees-low _ n _ _ _ low_long (omega arith) c.forward_row.ensures.low row);
+      high = SameWithin-write_row n i _ _ _ _ (omega arith) (omega arith) high_long c.loop-i.invariant.high
+          (Agrees-high _ n _ _ _ low_long (omega arith) c.forward_row.ensures.high row);
     }

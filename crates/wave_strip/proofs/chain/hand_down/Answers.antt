@@ -10,7 +10,8 @@ pass_on-requires-clause-small c = AreSmall-more 512000 (2 ^ 23) _ _ _ _ _ (omega
 
 pub pass_on-requires-then-pass_on-clause-small_upper : goal.pass_on-requires-then-pass_on-clause-small_upper
 pass_on-requires-then-pass_on-clause-small_upper c =
-    AreSmall-more 512000 838860 _ _ _ _ _ (omega arith) (c.pass_on.ensures.small 16384 102400 (omega arith) (omega arith) c.requires.small_first c.requires.small_second)
+    AreSmall-more 512000 838860 _ _ _ _ _ (omega arith) (c.pass_on.ensures.small 16384 102400 (omega arith) (omega arith) c.requires.small_first
+    c.requires.small_second)
 
 pub pass_on-requires-then-pass_on-clause-small : goal.pass_on-requires-then-pass_on-clause-small
 pass_on-requires-then-pass_on-clause-small c = AreSmall-more 3200000 (2 ^ 23) _ _ _ _ _ (omega arith) c.requires.small_third

@@ -7,7 +7,8 @@ pub take-requires-clause-small_row : goal.take-requires-clause-small_row
 take-requires-clause-small_row c =
     let u = c.args.upper.now in
     let wide = u.wide in
-    passed_within (5 * 838860) (2 ^ 22) u.half c.args.lower.now.half u.columns.width c.newest_low-low.result.now (omega arith) (omega arith) (omega arith) (c.newest_low-low.ensures.small 838860 c.requires.small_upper)
+    passed_within (5 * 838860) (2 ^ 22) u.half c.args.lower.now.half u.columns.width c.newest_low-low.result.now (omega arith) (omega arith) (omega arith)
+    (c.newest_low-low.ensures.small 838860 c.requires.small_upper)
 
 pub returns-clause-follows : goal.returns-clause-follows
 returns-clause-follows c = grind (arith, common_steps, passed_row)

@@ -10,7 +10,8 @@ returns-clause-value c = λ a e o.
     let lifted = simp (c.at.ensures, c.at-2.ensures, c.at-3.ensures, c.at-4.ensures, c.at-5.ensures) at c.predict_sub_onto.ensures in
     let long = c.requires.odds.wide 0 (omega arith) in
     let inside : c.if-j-eq0.before < 4 = elim c.if-j-eq0.branch [ then-j-eq0 w ↦ omega arith | else-j-eq0 w ↦ omega arith ] in
-    let place : c.args.j + 3 + c.if-j-eq0.before ≡ even_before c.args.j + 4 = elim c.if-j-eq0.branch [ then-j-eq0 w ↦ omega arith | else-j-eq0 w ↦ omega arith ] in
+    let place : c.args.j + 3 + c.if-j-eq0.before ≡ even_before c.args.j + 4 =
+    elim c.if-j-eq0.branch [ then-j-eq0 w ↦ omega arith | else-j-eq0 w ↦ omega arith ] in
     Agrees-open_high a _ c.args.j c.if-j-eq0.before c.args.evens.now c.args.odds.now _ c.requires.evens.count_is c.requires.odds.count_is inside place
     (record { at = λ k h. lifted.at k (omega arith) }) e o
 

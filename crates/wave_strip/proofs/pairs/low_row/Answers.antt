@@ -10,8 +10,10 @@ returns-clause-value c = λ a e d.
     let long = c.requires.evens.wide 1 (omega arith) in
     let two = c.requires.two in
     let inside : c.if-j-eq0.before < c.args.kept = elim c.if-j-eq0.branch [ then-j-eq0 w ↦ omega arith | else-j-eq0 w ↦ omega arith ] in
-    let place : c.args.j + 1 + c.if-j-eq0.before ≡ (c.args.j - 1) + c.args.kept = elim c.if-j-eq0.branch [ then-j-eq0 w ↦ omega arith | else-j-eq0 w ↦ omega arith ] in
-    Agrees-open_low a _ c.args.kept c.args.j c.if-j-eq0.before c.args.evens.now c.args.highs.now _ c.requires.evens.count_is c.requires.highs.count_is two inside place
+    let place : c.args.j + 1 + c.if-j-eq0.before ≡ (c.args.j - 1) + c.args.kept =
+    elim c.if-j-eq0.branch [ then-j-eq0 w ↦ omega arith | else-j-eq0 w ↦ omega arith ] in
+    Agrees-open_low a _ c.args.kept c.args.j c.if-j-eq0.before c.args.evens.now c.args.highs.now _ c.requires.evens.count_is c.requires.highs.count_is two
+    inside place
     (record { at = λ k h. lifted.at k (omega arith) }) e d
 
 pub returns-clause-small : goal.returns-clause-small

@@ -10,7 +10,8 @@ use Rattle.word_codes.proofs.put.put_word.Goals as goal
 pub put_bits-requires-2-clause-count : goal.put_bits-requires-2-clause-count
 put_bits-requires-2-clause-count g c =
     let coded : c.args.option + 1 < c.args.length = omega (arith, c.requires.known) in
-    let short = code_len c.args.book.now c.args.length c.args.option (symbol c.args.length c.args.word) c.requires.sound c.requires.short c.requires.long coded c.code_of-code.ensures.within in
+    let short = code_len c.args.book.now c.args.length c.args.option (symbol c.args.length c.args.word) c.requires.sound c.requires.short c.requires.long
+    coded c.code_of-code.ensures.within in
     let eight : c.code_of-code.result.len ≤ 8 = rw c.code_of-code.ensures.code short in omega arith
 
 pub returns : goal.returns

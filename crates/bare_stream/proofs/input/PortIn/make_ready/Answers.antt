@@ -6,7 +6,9 @@ pub returns-then-self-clause-ready : goal.returns-then-self-clause-ready
 returns-then-self-clause-ready g c = inl (refl, c.if-self.true)
 
 pub returns-clause-ready : goal.returns-clause-ready
-returns-clause-ready g c = filled_ready g.X.Port.outside c.args.self.now c.fill.new.self (none_waits c.args.self.now c.if-self.false) c.fill.result c.fill.ensures.fills
+returns-clause-ready g c = filled_ready g.X.Port.outside c.args.self.now c.fill.new.self (none_waits c.args.self.now c.if-self.false) c.fill.result
+    c.fill.ensures.fills
 
 pub returns-clause-waits : goal.returns-clause-waits
-returns-clause-waits g c e = filled_waits g.X.Port.outside c.args.self.now c.fill.new.self (none_waits c.args.self.now c.if-self.false) c.fill.result e c.fill.ensures.fills
+returns-clause-waits g c e = filled_waits g.X.Port.outside c.args.self.now c.fill.new.self (none_waits c.args.self.now c.if-self.false) c.fill.result e
+    c.fill.ensures.fills

@@ -7,6 +7,13 @@ returns-in_default g c =
     let f = c.in_default.ensures in
     let octets = c.args.self.now.piece.items in
     record {
-      broke = record { port = f.port; wrote = take f.some octets; more = drop f.some octets ++ c.args.octet ∷ []; out = f.out; waits = parted octets f.some (c.args.octet ∷ []) };
+      broke = record {
+        port = f.port;
+        wrote = take f.some octets;
+        more = drop f.some octets ++ c.args.octet ∷ [];
+        out = f.out;
+        waits =
+            parted octets f.some (c.args.octet ∷ []);
+      };
       rose = f.rose;
     }

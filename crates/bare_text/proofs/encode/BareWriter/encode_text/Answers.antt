@@ -3,14 +3,17 @@ use Rattle.std.proofs.lemmas.Result.{err_from_is_err_and}
 use Rattle.wave_defs.specs.Held.{blocks_in}
 use Rattle.segment_code.proofs.Encoding.{put_broke, closed_fitting, fitting_fits}
 use Rattle.bare_text.specs.Writing.{bare_bits}
-use Rattle.bare_text.proofs.Texts.{bare_bounded, told}
+use Rattle.bare_text.proofs.Texts.{bare_bounded, if_known}
 use Rattle.bare_text.proofs.encode.BareWriter.encode_text.Goals as goal
 
 pub end-requires-clause-padded : goal.end-requires-clause-padded
 end-requires-clause-padded g c =
     let h = c.args.head.now in
-    let b = bare_bounded c.args.self.now.items.now.tables.book c.args.self.now.items.now.tables.sound c.args.self.now.before h c.args.blocks.now.numbers c.requires.fits c.limit_of.ensures.ten c.requires.count c.requires.dc c.requires.ac in
-    fitting_fits g.O.OctetOut.sink c.args.out.now _ _ h.image.word h.limit h.fill (bare_bits c.args.self.now.items.now.tables.book c.args.self.now.before h (blocks_in c.args.blocks.now.numbers)) (rw c.limit_of.ensures.limit at c.new-bits.ensures.begins) c.new-bits.ensures.is_open c.requires.none b c.in_ok-put_fitting.ensures.puts
+    let b = bare_bounded c.args.self.now.items.now.tables.book c.args.self.now.items.now.tables.sound c.args.self.now.before h c.args.blocks.now.numbers
+    c.requires.fits c.limit_of.ensures.ten c.requires.count c.requires.dc c.requires.ac in
+    fitting_fits g.O.OctetOut.sink c.args.out.now _ _ h.image.word h.limit h.fill (bare_bits c.args.self.now.items.now.tables.book c.args.self.now.before h
+    (blocks_in c.args.blocks.now.numbers)) (rw c.limit_of.ensures.limit at c.new-bits.ensures.begins) c.new-bits.ensures.is_open c.requires.none b
+    c.in_ok-put_fitting.ensures.puts
 
 pub returns-in_err-put_fitting-clause-text : goal.returns-in_err-put_fitting-clause-text
 returns-in_err-put_fitting-clause-text g c =
@@ -19,15 +22,23 @@ returns-in_err-put_fitting-clause-text g c =
     let same = c.new-bits.ensures.same in
     let h = c.args.head.now in
     let bits = bare_bits c.args.self.now.items.now.tables.book c.args.self.now.before h (blocks_in c.args.blocks.now.numbers) in
-    let b = bare_bounded c.args.self.now.items.now.tables.book c.args.self.now.items.now.tables.sound c.args.self.now.before h c.args.blocks.now.numbers c.requires.fits c.limit_of.ensures.ten c.requires.count c.requires.dc c.requires.ac in
-    let broke = put_broke g.O.OctetOut.sink c.args.out.now _ _ h.image.word h.limit h.fill bits (rw c.limit_of.ensures.limit at c.new-bits.ensures.begins) c.new-bits.ensures.is_open c.requires.none b c.in_err-put_fitting.ensures.puts in
-    told g.O.OctetOut.sink c.args.out.now c.from_residual.result c.args.self.now.items.now.tables.book c.args.self.now.before h (blocks_in c.args.blocks.now.numbers) c.put_fitting.new.out.out.now _ (search rules) (rw p.1 broke)
+    let b = bare_bounded c.args.self.now.items.now.tables.book c.args.self.now.items.now.tables.sound c.args.self.now.before h c.args.blocks.now.numbers
+    c.requires.fits c.limit_of.ensures.ten c.requires.count c.requires.dc c.requires.ac in
+    let broke = put_broke g.O.OctetOut.sink c.args.out.now _ _ h.image.word h.limit h.fill bits (rw c.limit_of.ensures.limit at c.new-bits.ensures.begins)
+    c.new-bits.ensures.is_open c.requires.none b c.in_err-put_fitting.ensures.puts in
+    if_known g.O.OctetOut.sink c.args.out.now c.from_residual.result c.args.self.now.items.now.tables.book c.args.self.now.before h
+    (blocks_in c.args.blocks.now.numbers) c.put_fitting.new.out.out.now _ (search rules) (rw p.1 broke)
 
 pub returns-clause-text : goal.returns-clause-text
 returns-clause-text g c =
     let h = c.args.head.now in
     let name = c.in_ok-put_fitting.ensures.puts.name in
     let same = c.new-bits.ensures.same in
-    let b = bare_bounded c.args.self.now.items.now.tables.book c.args.self.now.items.now.tables.sound c.args.self.now.before h c.args.blocks.now.numbers c.requires.fits c.limit_of.ensures.ten c.requires.count c.requires.dc c.requires.ac in
-    let all = closed_fitting g.O.OctetOut.sink c.args.out.now _ _ h.image.word h.limit h.fill (bare_bits c.args.self.now.items.now.tables.book c.args.self.now.before h (blocks_in c.args.blocks.now.numbers)) (rw c.limit_of.ensures.limit at c.new-bits.ensures.begins) c.new-bits.ensures.is_open c.requires.none c.end.result b c.in_ok-put_fitting.ensures.puts c.end.ensures in
-    told g.O.OctetOut.sink c.args.out.now c.end.result c.args.self.now.items.now.tables.book c.args.self.now.before h (blocks_in c.args.blocks.now.numbers) c.end.new.self.0 _ (search rules) all
+    let b = bare_bounded c.args.self.now.items.now.tables.book c.args.self.now.items.now.tables.sound c.args.self.now.before h c.args.blocks.now.numbers
+    c.requires.fits c.limit_of.ensures.ten c.requires.count c.requires.dc c.requires.ac in
+    let all = closed_fitting g.O.OctetOut.sink c.args.out.now _ _ h.image.word h.limit h.fill
+    (bare_bits c.args.self.now.items.now.tables.book c.args.self.now.before h (blocks_in c.args.blocks.now.numbers))
+    (rw c.limit_of.ensures.limit at c.new-bits.ensures.begins) c.new-bits.ensures.is_open c.requires.none c.end.result b
+    c.in_ok-put_fitting.ensures.puts c.end.ensures in
+    if_known g.O.OctetOut.sink c.args.out.now c.end.result c.args.self.now.items.now.tables.book c.args.self.now.before h (blocks_in c.args.blocks.now.numbers)
+    c.end.new.self.0 _ (search rules) all

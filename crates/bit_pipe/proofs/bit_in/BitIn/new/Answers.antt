@@ -11,4 +11,8 @@ returns-clause-begins g c =
 pub returns-clause-is_in : goal.returns-clause-is_in
 returns-clause-is_in g c =
     let e = c.octets_within-bound.ensures in
-    record { bound = omega (arith, e, c.requires.bound, bounded c.octets_within-bound.result c.args.limit e c.requires.limit); pending = omega (arith, length-bits_of 0 0) }
+    record {
+      bound = omega (arith, e, c.requires.bound, bounded c.octets_within-bound.result c.args.limit e c.requires.limit);
+      pending =
+          omega (arith, length-bits_of 0 0);
+    }

@@ -22,7 +22,8 @@ loop-taken-preserved g c =
     let h = rw c.in-Some.is at c.in_ok-piece.ensures in
     let p = h.ends in
     let piece = c.in-Some.piece in
-    let code = code_number c.loop-taken.value c.loop-taken.taken piece.value c.from.result piece.count c.from.ensures i.small p.fits (omega (arith, p.within)) in
+    let code = code_number c.loop-taken.value c.loop-taken.taken piece.value c.from.result piece.count c.from.ensures i.small p.fits
+    (omega (arith, p.within)) in
     record {
       within = omega (arith, p.within);
       is_in = in_later i.is_in p.taken;
@@ -35,13 +36,19 @@ returns-in_err-piece g c =
     let p = err_from_is_err_and c.from_residual.result c.from_residual.ensures.1 in
     let i = c.loop-taken.invariant in
     let h = c.in_err-piece.ensures in
-    rw (p.1, p.2) (record { ends = within_at_fault (fixed c.args.count) _ (lacks_bits c.args.count (bits_of c.loop-taken.taken c.loop-taken.value) (rw length-bits_of c.loop-taken-test.true)) i.so_far h.ends })
+    rw (p.1, p.2) (record {
+      ends = within_at_fault (fixed c.args.count) _ (lacks_bits c.args.count (bits_of c.loop-taken.taken c.loop-taken.value)
+          (rw length-bits_of c.loop-taken-test.true)) i.so_far h.ends;
+    })
 
 pub returns-in_default : goal.returns-in_default
 returns-in_default g c =
     let i = c.loop-taken.invariant in
     let h = rw c.in_default.is at c.in_ok-piece.ensures in
-    record { ends = within_at_end (fixed c.args.count) (lacks_bits c.args.count (bits_of c.loop-taken.taken c.loop-taken.value) (rw length-bits_of c.loop-taken-test.true)) i.so_far h.ends }
+    record {
+      ends = within_at_end (fixed c.args.count) (lacks_bits c.args.count (bits_of c.loop-taken.taken c.loop-taken.value)
+          (rw length-bits_of c.loop-taken-test.true)) i.so_far h.ends;
+    }
 
 pub returns : goal.returns
 returns g c =

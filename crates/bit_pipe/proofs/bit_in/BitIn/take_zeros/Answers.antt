@@ -24,7 +24,10 @@ returns-in_err-bit g c =
     let p = err_from_is_err_and c.from_residual.result c.from_residual.ensures.1 in
     let i = c.loop-zeros.invariant in
     let h = c.in_err-bit.ensures in
-    rw (p.1, p.2) (record { ends = within_at_fault (zeros_to c.args.limit) _ (lacks_zeros c.loop-zeros.zeros c.args.limit c.loop-zeros-test.true) i.so_far h.ends })
+    rw (p.1, p.2) (record {
+      ends = within_at_fault (zeros_to c.args.limit) _ (lacks_zeros c.loop-zeros.zeros c.args.limit c.loop-zeros-test.true) i.so_far
+          h.ends;
+    })
 
 pub returns-in_default : goal.returns-in_default
 returns-in_default g c =

@@ -11,4 +11,5 @@ returns-clause-begins g c =
 pub returns-clause-is_open : goal.returns-clause-is_open
 returns-clause-is_open g c =
     let e = c.octets_within-bound.ensures in
-    opens g.O.OctetOut.sink c.args.out.now 0 0 c.octets_within-bound.result _ c.args.out.ghost_name (omega (arith, e, c.requires.before, c.requires.bound)) (bounded c.octets_within-bound.result c.args.limit e c.requires.limit) (omega arith)
+    opens g.O.OctetOut.sink c.args.out.now 0 0 c.octets_within-bound.result _ c.args.out.ghost_name (omega (arith, e, c.requires.before, c.requires.bound))
+    (bounded c.octets_within-bound.result c.args.limit e c.requires.limit) (omega arith)

@@ -1,6 +1,6 @@
 use Rattle.std.proofs.Common.{◌∙◌, ap, arith, subst}
 use Rattle.item_defs.specs.Bits.{bits_of}
-use Rattle.bit_pipe.specs.Standing.{stand, Puts}
+use Rattle.bit_pipe.specs.SinkState.{sink_state, Puts}
 use Rattle.bit_pipe.proofs.Putting.{puts_none}
 use Rattle.bit_pipe.proofs.BitSteps.{bit_put}
 use Rattle.bit_pipe.proofs.bit_out.BitOut.put.Goals as goal
@@ -12,4 +12,4 @@ pub returns : goal.returns
 returns g c =
     let k = g.O.OctetOut.sink in
     let same = ap (bits_of 1) c.from.ensures ∙ bit_put c.args.bit in
-    subst (λ r. Puts k c.put_fitting.result (stand k c.args.self.now) (stand k c.put_fitting.new.self) r) same c.put_fitting.ensures
+    subst (λ r. Puts k c.put_fitting.result (sink_state k c.args.self.now) (sink_state k c.put_fitting.new.self) r) same c.put_fitting.ensures

@@ -14,15 +14,21 @@ returns-in_err-put_word g c =
     let b = c.args.self.now in
     let rest = b.filled + c.args.count - 64 in
     let p = err_from_is_err_and c.from_residual.result c.from_residual.ensures.1 in
-    let all : take b.room (bits_of c.args.count c.args.value) ≡ bits_of c.args.count c.args.value = take_all b.room (bits_of c.args.count c.args.value) (omega (arith, length-bits_of c.args.count c.args.value, c.requires.room)) in
+    let all : take b.room (bits_of c.args.count c.args.value) ≡ bits_of c.args.count c.args.value =
+    take_all b.room (bits_of c.args.count c.args.value) (omega (arith, length-bits_of c.args.count c.args.value, c.requires.room)) in
     rw (p.1, p.2) (record {
-      ends = rw all (breaks_in_word g.O.OctetOut.sink b.out.now b.filled b.pending b.bound b.room b.out.ghost_name c.args.count c.args.value _ (code_low c.args.value c.args.count c.requires.count) rest _
-          (code_word b.filled b.pending c.args.count c.args.value b.fits b.within c.requires.count c.requires.full) c.requires.full (omega arith) (omega (arith, b.within)) _ refl refl c.in_err-put_word.ensures);
+      ends = rw all (breaks_in_word g.O.OctetOut.sink b.out.now b.filled b.pending b.bound b.room b.out.ghost_name c.args.count c.args.value _
+          (code_low c.args.value c.args.count c.requires.count) rest _
+          (code_word b.filled b.pending c.args.count c.args.value b.fits b.within c.requires.count c.requires.full) c.requires.full (omega arith)
+          (omega (arith, b.within)) _ refl refl c.in_err-put_word.ensures);
     })
 
 pub returns : goal.returns
 returns g c =
     let b = c.args.self.now in
     let rest = b.filled + c.args.count - 64 in
-    puts_whole (adds_word g.O.OctetOut.sink b.out.now b.filled b.pending b.bound b.room b.out.ghost_name c.args.count c.args.value _ (code_low c.args.value c.args.count c.requires.count) rest _ _ _
-    (code_word b.filled b.pending c.args.count c.args.value b.fits b.within c.requires.count c.requires.full) (code_low _ rest (omega (arith, b.within, c.requires.count))) c.from.ensures c.requires.full (omega arith) (omega (arith, b.within)) c.requires.room (omega (arith, b.within, c.requires.count)) c.in_ok-put_word.ensures)
+    puts_whole (adds_word g.O.OctetOut.sink b.out.now b.filled b.pending b.bound b.room b.out.ghost_name c.args.count c.args.value _
+    (code_low c.args.value c.args.count c.requires.count) rest _ _ _
+    (code_word b.filled b.pending c.args.count c.args.value b.fits b.within c.requires.count c.requires.full)
+    (code_low _ rest (omega (arith, b.within, c.requires.count))) c.from.ensures c.requires.full (omega arith) (omega (arith, b.within)) c.requires.room
+    (omega (arith, b.within, c.requires.count)) c.in_ok-put_word.ensures)

@@ -19,7 +19,9 @@ loop-left-preserved c =
 pub returns-in_err-take : goal.returns-in_err-take
 returns-in_err-take c =
     let i = c.loop-left.invariant in
-    puts_broke c.from_residual.result c.from_residual.ensures.0 (number_all_broke slice_sink c.args.word (number_broke slice_sink 64 c.loop-left.left c.args.word (omega (arith, i.last)) i.within i.last i.so_far c.in_err-take.ensures))
+    puts_broke c.from_residual.result c.from_residual.ensures.0
+    (number_all_broke slice_sink c.args.word (number_broke slice_sink 64 c.loop-left.left c.args.word (omega (arith, i.last)) i.within i.last i.so_far
+    c.in_err-take.ensures))
 
 pub returns : goal.returns
 returns c = let i = c.loop-left.invariant in number_all slice_sink c.loop-left.left c.args.word (omega arith) i.so_far

@@ -11,7 +11,8 @@ returns c =
       octets = to_be_bytes w64 c.args.word;
       small = are_octets 8 c.args.word;
       spell = sym (octets_bits 8 c.args.word);
-      gave = fills_word s.into.ghost_name _ s.len s.faults _ c.args.word s.into.now _ refl (c.copy_from_slice.ensures.after ∙ c.to_be_bytes.ensures) (omega arith) (omega arith);
+      gave = fills_word s.into.ghost_name _ s.len s.faults _ c.args.word s.into.now _ refl (c.copy_from_slice.ensures.after ∙ c.to_be_bytes.ensures)
+          (omega arith) (omega arith);
       given = omega (arith, length-bits_of 64 c.args.word);
       faults = omega arith;
     }

@@ -22,5 +22,7 @@ returns c =
     let a = c.self.inside in
     let known = has_block a.words.items a.step a.dcs.items c.args.r (rw (← c.self.view_is) at c.requires.block) in
     let within : a.step * 1 + c.args.r < length a.words.items =
-    (let there = word_within c.self.invariant.0 1 c.args.r (omega (arith, c.self.invariant.0.least)) (omega (arith, known, a.dcs.ok.0)) in omega (arith, there, a.words.ok.0)) in
-    word_read a.words.items a.step 1 c.args.r c.index.result.now c.index.ensures within ∙ rw (← c.self.view_is) (sym (above_get a.words.items a.step (length a.dcs.items) c.args.r known))
+    (let there = word_within c.self.invariant.0 1 c.args.r (omega (arith, c.self.invariant.0.least)) (omega (arith, known, a.dcs.ok.0)) in omega
+    (arith, there, a.words.ok.0)) in
+    word_read a.words.items a.step 1 c.args.r c.index.result.now c.index.ensures within ∙ rw (← c.self.view_is)
+    (sym (above_get a.words.items a.step (length a.dcs.items) c.args.r known))

@@ -3,7 +3,7 @@ use Rattle.std.proofs.lemmas.List.{get_or_read}
 use Rattle.block_masks.specs.SegmentNumbers.{numbers_at}
 use Rattle.block_masks.proofs.SegmentRoom.{word_within, blocks_fit}
 use Rattle.block_masks.proofs.SegmentKeeping.{masks_kept}
-use Rattle.block_masks.proofs.SegmentBeginning.{none_begun, more_begun, top_shown, reach_told, begun_keeps, begun_numbers, begun_above}
+use Rattle.block_masks.proofs.SegmentBeginning.{none_begun, more_begun, top_shown, reach_known, begun_keeps, begun_numbers, begun_above}
 use Rattle.block_masks.proofs.segment_masks.SegmentMasks.begin.Goals as goal
 
 pub loop-r-init : goal.loop-r-init
@@ -20,7 +20,8 @@ loop-r-init c = record {
 pub index_mut-requires : goal.index_mut-requires
 index_mut-requires c =
     let i = c.loop-r.invariant in
-    rw (i.step, i.long) (word_within c.self.invariant.0 1 c.loop-r.r (omega (arith, c.self.invariant.0.least)) (omega (arith, c.loop-r-test.true, c.len-r-end.ensures)))
+    rw (i.step, i.long) (word_within c.self.invariant.0 1 c.loop-r.r (omega (arith, c.self.invariant.0.least))
+    (omega (arith, c.loop-r-test.true, c.len-r-end.ensures)))
 
 pub loop-r-preserved : goal.loop-r-preserved
 loop-r-preserved c =
@@ -30,9 +31,10 @@ loop-r-preserved c =
     let known : r < length a.dcs.items = omega (arith, c.loop-r-test.true, c.len-r-end.ensures, a.dcs.ok.0) in
     let low : r < a.step = omega (arith, known, a.dcs.ok.0, blocks_fit c.self.invariant.0) in
     let within : a.step * 1 + r < length a.words.items =
-    (let there = word_within c.self.invariant.0 1 r (omega (arith, c.self.invariant.0.least)) (omega (arith, known, a.dcs.ok.0)) in omega (arith, there, a.words.ok.0)) in
+    (let there = word_within c.self.invariant.0 1 r (omega (arith, c.self.invariant.0.least)) (omega (arith, known, a.dcs.ok.0)) in omega
+    (arith, there, a.words.ok.0)) in
     let read = get_or_read a.dcs.items r c.index.result.now known (rw i.dcs at c.index.ensures) (pos 0) in
-    let told = reach_told a.dcs.items r (c.self.invariant.1.small r) c.unsigned_abs.ensures.value read in
+    let if_known = reach_known a.dcs.items r (c.self.invariant.1.small r) c.unsigned_abs.ensures.value read in
     record {
       most = i.most;
       step = i.step;
@@ -40,7 +42,8 @@ loop-r-preserved c =
       dcs = i.dcs;
       room = i.room;
       long = i.long;
-      begins = rw i.step (more_begun low within i.begins (top_shown a.words.items a.step a.dcs.items r known told (c.one.ensures.told 0) c.one.ensures.within));
+      begins = rw i.step (more_begun low within i.begins (top_shown a.words.items a.step a.dcs.items r known if_known (c.one.ensures.if_known 0)
+          c.one.ensures.within));
     }
 
 pub invariant_of-self : goal.invariant_of-self

@@ -27,10 +27,12 @@ returns-then-slot-self c =
     let a = c.self.inside in
     let known = has_block a.words.items a.step a.dcs.items c.args.r (rw (← c.self.view_is) at c.requires.block) in
     let within : a.step * (2 + c.args.plane) + c.args.r < length a.words.items =
-    (let there = word_within c.self.invariant.0 (2 + c.args.plane) c.args.r c.if-slot-self.true (omega (arith, known, a.dcs.ok.0)) in omega (arith, there, a.words.ok.0)) in
+    (let there = word_within c.self.invariant.0 (2 + c.args.plane) c.args.r c.if-slot-self.true (omega (arith, known, a.dcs.ok.0)) in omega
+    (arith, there, a.words.ok.0)) in
     rw (← c.self.view_is)
     (subst (λ m. Shows m (λ k. bit (magnitude (block_at (numbers_at a.words.items a.step a.dcs.items) c.args.r) k) c.args.plane) 0 64)
-    (sym (word_read a.words.items a.step (2 + c.args.plane) c.args.r c.index.result.now c.index.ensures within)) (bits_shown c.self.invariant.1 c.args.r c.args.plane known c.requires.plane))
+    (sym (word_read a.words.items a.step (2 + c.args.plane) c.args.r c.index.result.now c.index.ensures within))
+    (bits_shown c.self.invariant.1 c.args.r c.args.plane known c.requires.plane))
 
 pub returns-else-slot-self : goal.returns-else-slot-self
 returns-else-slot-self c =
@@ -39,4 +41,5 @@ returns-else-slot-self c =
     let long : length a.words.items ≡ a.step * a.slots = omega (arith, c.self.invariant.0.long, a.words.ok.0) in
     rw (← c.self.view_is)
     (subst (λ m. Shows m (λ k. bit (magnitude (block_at (numbers_at a.words.items a.step a.dcs.items) c.args.r) k) c.args.plane) 0 64)
-    (word_past a.words.items a.step a.slots (2 + c.args.plane) c.args.r long c.if-slot-self.false) (bits_shown c.self.invariant.1 c.args.r c.args.plane known c.requires.plane))
+    (word_past a.words.items a.step a.slots (2 + c.args.plane) c.args.r long c.if-slot-self.false)
+    (bits_shown c.self.invariant.1 c.args.r c.args.plane known c.requires.plane))

@@ -7,4 +7,5 @@ use Rattle.block_masks.proofs.segment_masks.SegmentMasks.clear.Goals as goal
 pub returns-clause-numbers : goal.returns-clause-numbers
 returns-clause-numbers c =
     let a = c.self.inside in
-    nil_from_length (numbers_at a.words.items a.step c.clear.new.self.items) (omega (arith, length-numbers_at a.words.items a.step c.clear.new.self.items, ap length c.clear.ensures.items))
+    nil_from_length (numbers_at a.words.items a.step c.clear.new.self.items)
+    (omega (arith, length-numbers_at a.words.items a.step c.clear.new.self.items, ap length c.clear.ensures.items))

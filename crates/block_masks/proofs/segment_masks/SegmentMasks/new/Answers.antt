@@ -10,7 +10,8 @@ pub invariant_of-result : goal.invariant_of-result
 invariant_of-result c =
     let words = c.in_ok-words.ensures in
     let dcs = c.in_ok-dcs.ensures in
-    let none : AreWords c.in_ok-words.words.items = λ i. rw (get_or_past c.in_ok-words.words.items i 0 (omega (arith, ap length words.items))) (omega arith) in (
+    let none : AreWords c.in_ok-words.words.items = λ i. rw (get_or_past c.in_ok-words.words.items i 0 (omega (arith, ap length words.items)))
+    (omega arith) in (
       record {
         few = c.requires;
         apart = c.step_for-step.ensures;

@@ -9,7 +9,8 @@ pub returns-in-Err-take_row-clause-open : goal.returns-in-Err-take_row-clause-op
 returns-in-Err-take_row-clause-open c =
     let e = c.args.self.now in
     let admits = c.in_default.ensures in
-    let refused = value_refuses ℕ e c.args.octets.now (length c.args.room.now) c.take_row.new.work c.take_row.new.packets.kept.items c.in-Err-take_row.refusal admits.0 admits.1 admits.2 c.in-Err-take_row.ensures.takes in
+    let refused = value_refuses ℕ e c.args.octets.now (length c.args.room.now) c.take_row.new.work c.take_row.new.packets.kept.items
+    c.in-Err-take_row.refusal admits.0 admits.1 admits.2 c.in-Err-take_row.ensures.takes in
     refused_open e _ c.requires.open refl refused.0 c.take_row.ensures.row c.take_row.ensures.room
 
 pub returns-clause-open : goal.returns-clause-open

@@ -10,4 +10,7 @@ returns c =
     let room : count ≤ length s.octets.now - s.at = search rules in
     let copied : c.copy_from_slice.new.self ≡ take count (drop s.at s.octets.now) = grind (arith, common_steps) in
     let ends : count ≡ 0 → 0 < length (drop count c.args.into.now) → length s.octets.now ≤ s.at = λ z some. grind (arith, common_steps, z, some) in
-    record { octets = memory_read s.octets.now c.copy_from_slice.new.self (drop count c.args.into.now) None None None None s.at count 0 0 0 s.within room copied ends tt tt }
+    record {
+      octets = memory_read s.octets.now c.copy_from_slice.new.self (drop count c.args.into.now) None None None None s.at count 0 0 0 s.within room
+          copied ends tt tt;
+    }

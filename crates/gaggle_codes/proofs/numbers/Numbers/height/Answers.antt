@@ -27,7 +27,8 @@ overflow_cast-result c =
     let h = s.in_range.at c.args.place (place_within (length s.cells.now) s.stride c.args.place s.strided (omega (arith, n))) in
     let most : 2 ^ s.range.bits ≤ 1024 = pow_mono s.high in
     let below = height_below s.range.signed s.range.bits _ h in
-    rw (height_sum s.range.signed s.range.bits s.shift c.negatives.result z c.from.result fits h s.high c.from.ensures c.negatives.ensures.is) (tt, omega (arith, below, most))
+    rw (height_sum s.range.signed s.range.bits s.shift c.negatives.result z c.from.result fits h s.high c.from.ensures c.negatives.ensures.is)
+    (tt, omega (arith, below, most))
 
 pub returns : goal.returns
 returns c = grind (arith, common_steps, made_length, place_within, height_sum, made_at, height_below)

@@ -26,7 +26,8 @@ loop-place-smaller c =
     let next : c.from-place-in-loop-place.result ≡ get_or s.earlier.items c.loop-place.place 0 =
     c.from-place-in-loop-place.ensures ∙ c.index-in-loop-place-2.ensures ∙ get_or_default_zero s.earlier.items c.loop-place.place _ linked in
     left_less (length s.entries.items) c.loop-place.place c.from-place-in-loop-place.result inside few
-    (subst (λ n. (n < c.loop-place.place) ⊎ (n ≡ 65535)) (sym next) (earlier_less s.entries.items s.last.items s.earlier.items c.loop-place.place s.chained inside))
+    (subst (λ n. (n < c.loop-place.place) ⊎ (n ≡ 65535)) (sym next) (earlier_less s.entries.items s.last.items s.earlier.items c.loop-place.place s.chained
+    inside))
 
 pub loop-place-preserved : goal.loop-place-preserved
 loop-place-preserved c =

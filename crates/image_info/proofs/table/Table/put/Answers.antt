@@ -17,9 +17,12 @@ invariant_of-self-in_default-clause-chained c =
     let all = more_chained t last earlier entry buckets size s.chained in
     let count : c.len-in_default.result ≡ length t = omega (arith, c.len-in_default.ensures, s.entries.ok) in
     let bucket : c.bucket_of-bucket.result ≡ bucket_of entry.id = c.bucket_of-bucket.ensures in
-    let linked : c.push_reserved.new.self.items ≡ earlier ++ get_or last (bucket_of entry.id) 0 ∷ [] = c.push_reserved.ensures.items ∙ ap (λ v. earlier ++ v ∷ [])
-    (c.index.ensures ∙ get_or_default_zero last c.bucket_of-bucket.result _ (omega (arith, bucket, bucket_low entry.id, buckets)) ∙ ap (λ b. get_or last b 0) bucket) in
-    subst (λ table. AreChained table (slice_set last c.bucket_of-bucket.result c.len-in_default.result) c.push_reserved.new.self.items) (sym c.push_reserved-in_default.ensures.items)
+    let linked : c.push_reserved.new.self.items ≡ earlier ++ get_or last (bucket_of entry.id) 0 ∷ [] =
+    c.push_reserved.ensures.items ∙ ap (λ v. earlier ++ v ∷ [])
+    (c.index.ensures ∙ get_or_default_zero last c.bucket_of-bucket.result _ (omega (arith, bucket, bucket_low entry.id, buckets)) ∙
+    ap (λ b. get_or last b 0) bucket) in
+    subst (λ table. AreChained table (slice_set last c.bucket_of-bucket.result c.len-in_default.result) c.push_reserved.new.self.items)
+    (sym c.push_reserved-in_default.ensures.items)
     (subst (AreChained (t ++ entry ∷ []) (slice_set last c.bucket_of-bucket.result c.len-in_default.result)) (sym linked)
     (subst (λ b. AreChained (t ++ entry ∷ []) (slice_set last b c.len-in_default.result) (earlier ++ get_or last (bucket_of entry.id) 0 ∷ [])) (sym bucket)
     (subst (λ n. AreChained (t ++ entry ∷ []) (slice_set last (bucket_of entry.id) n) (earlier ++ get_or last (bucket_of entry.id) 0 ∷ [])) (sym count) all)))

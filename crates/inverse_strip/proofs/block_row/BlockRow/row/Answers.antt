@@ -13,4 +13,5 @@ pub returns-clause-value : goal.returns-clause-value
 returns-clause-value c = λ j h.
     let s = c.args.self.now in
     ap (λ x. signal x j) c.at.ensures ∙ ap (λ (n : ℕ). signal (get_or s.rows (n + c.args.row) []) j) c.rows_before.ensures
-    ∙ sym (number-at s.columns s.rows (record { band = c.args.band; row = c.args.row; column = j }) (record { band = c.requires.band; row = c.requires.row; column = h }))
+    ∙ sym (number-at s.columns s.rows (record { band = c.args.band; row = c.args.row; column = j })
+    (record { band = c.requires.band; row = c.requires.row; column = h }))

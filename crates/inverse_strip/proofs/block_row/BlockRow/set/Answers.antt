@@ -22,13 +22,15 @@ invariant_of-self-clause-whole c =
     let is : IsPlaceIn s.columns p = record { band = c.requires.band; row = c.requires.row; column = c.requires.column } in
     let k = row_place c.args.band c.args.row in
     let v = to_z w32 (of_z w32 (to_z w64 (of_z w64 c.args.value))) in
-    let same : v ≡ c.args.value = ap (λ (z : ℤ). to_z w32 (of_z w32 z)) (to_z-of_z w64 c.args.value c.ranges.value) ∙ kept w32 (2 ^ 27) c.args.value (omega arith) c.requires.small in
+    let same : v ≡ c.args.value = ap (λ (z : ℤ). to_z w32 (of_z w32 z)) (to_z-of_z w64 c.args.value c.ranges.value) ∙ kept w32 (2 ^ 27) c.args.value
+    (omega arith) c.requires.small in
     let there = row-there s.columns c.args.band c.args.row s.rows s.whole c.requires.band c.requires.row in
     let made = c.set.ensures ∙ ap (λ (n : ℕ). set s.rows (n + c.args.row) (set (get_or s.rows (n + c.args.row) []) c.args.column v)) c.rows_before.ensures in
     let row = get_or s.rows k [] in
     subst (AreBandRows s.columns) (sym made)
     (AreBandRows-set s.columns k s.rows (set row c.args.column v) s.whole there (length-set row c.args.column v)
-    (AllWithin-set (2 ^ 27) c.args.column row v (column-in s.columns s.rows p v is s.whole) (s.whole.small k there) (subst (IsWithin (2 ^ 27)) (sym same) c.requires.small)))
+    (AllWithin-set (2 ^ 27) c.args.column row v (column-in s.columns s.rows p v is s.whole) (s.whole.small k there)
+    (subst (IsWithin (2 ^ 27)) (sym same) c.requires.small)))
 
 pub returns-clause-value : goal.returns-clause-value
 returns-clause-value c =
@@ -36,7 +38,8 @@ returns-clause-value c =
     let p : Place = record { band = c.args.band; row = c.args.row; column = c.args.column } in
     let is : IsPlaceIn s.columns p = record { band = c.requires.band; row = c.requires.row; column = c.requires.column } in
     let v = to_z w32 (of_z w32 (to_z w64 (of_z w64 c.args.value))) in
-    let same : v ≡ c.args.value = ap (λ (z : ℤ). to_z w32 (of_z w32 z)) (to_z-of_z w64 c.args.value c.ranges.value) ∙ kept w32 (2 ^ 27) c.args.value (omega arith) c.requires.small in
+    let same : v ≡ c.args.value = ap (λ (z : ℤ). to_z w32 (of_z w32 z)) (to_z-of_z w64 c.args.value c.ranges.value) ∙ kept w32 (2 ^ 27) c.args.value
+    (omega arith) c.requires.small in
     let made = c.set.ensures ∙ ap (λ (n : ℕ). set s.rows (n + c.args.row) (set (get_or s.rows (n + c.args.row) []) c.args.column v)) c.rows_before.ensures in
     ap (λ (xs : List (List ℤ)). number_in s.columns xs p) made ∙ number-set s.columns s.rows p v is s.whole ∙ same
 

@@ -17,8 +17,12 @@ returns-clause-values c =
     let q1 : Place = record { band = c.args.band; row = c.args.row; column = c.args.column + 1 } in
     let q2 : Place = record { band = c.args.band; row = c.args.row + 1; column = c.args.column } in
     let q3 : Place = record { band = c.args.band; row = c.args.row + 1; column = c.args.column + 1 } in
-    let fit : (k : ℕ) → k < 4 → to_z w64 (of_z w64 (get_or values k (pos 0))) ≡ get_or values k (pos 0) = λ k lt. kept w64 (2 ^ 27) (get_or values k (pos 0)) (omega arith) (c.requires.small k lt) in
-    sets_square (number_in s0.columns s0.rows) (number_in s1.columns s1.rows) (number_in s2.columns s2.rows) (number_in s3.columns s3.rows) (number_in s4.columns s4.rows) p p q1 q2 q3 values
-    (corner p p 0 refl (omega arith) (omega arith)) (corner p q1 1 refl (omega arith) (omega arith)) (corner p q2 2 refl (omega arith) (omega arith)) (corner p q3 3 refl (omega arith) (omega arith))
-    (c.set.ensures.value ∙ fit 0 (omega arith)) (c.set-2.ensures.value ∙ fit 1 (omega arith)) (c.set-3.ensures.value ∙ fit 2 (omega arith)) (c.set-4.ensures.value ∙ fit 3 (omega arith))
+    let fit : (k : ℕ) → k < 4 → to_z w64 (of_z w64 (get_or values k (pos 0))) ≡ get_or values k (pos 0) =
+    λ k lt. kept w64 (2 ^ 27) (get_or values k (pos 0)) (omega arith) (c.requires.small k lt) in
+    sets_square (number_in s0.columns s0.rows) (number_in s1.columns s1.rows) (number_in s2.columns s2.rows) (number_in s3.columns s3.rows)
+    (number_in s4.columns s4.rows) p p q1 q2 q3 values
+    (corner p p 0 refl (omega arith) (omega arith)) (corner p q1 1 refl (omega arith) (omega arith)) (corner p q2 2 refl (omega arith) (omega arith))
+    (corner p q3 3 refl (omega arith) (omega arith))
+    (c.set.ensures.value ∙ fit 0 (omega arith)) (c.set-2.ensures.value ∙ fit 1 (omega arith)) (c.set-3.ensures.value ∙ fit 2 (omega arith))
+    (c.set-4.ensures.value ∙ fit 3 (omega arith))
     c.set.ensures.others c.set-2.ensures.others c.set-3.ensures.others c.set-4.ensures.others

@@ -7,7 +7,7 @@ pub invariant_of-result : goal.invariant_of-result
 invariant_of-result c =
     let w = c.args.width in
     record {
-      stand = record { evens = AreRows-zeros 4 w _ c.in_ok-evens.ensures; highs = AreRows-zeros 3 w _ c.in_ok-highs.ensures };
+      sink_state = record { evens = AreRows-zeros 4 w _ c.in_ok-evens.ensures; highs = AreRows-zeros 3 w _ c.in_ok-highs.ensures };
       narrow = RowsWithin-zeros (2 ^ 27) 3 w _ c.in_ok-highs.ensures;
       within = ArePairsWithin-none (375 * 2 ^ 22) w _ _;
       small_within = λ e. ArePairsWithin-none (2 ^ 27) w _ _;

@@ -9,7 +9,7 @@ returns-then-i-eq0 c = λ low high hold.
     let s = c.args.self.now in
     let k = c.args.i / 2 in
     let even : c.args.i ≡ 2 * k = omega arith in
-    let four = s.stand.evens.count_is in
+    let four = s.sink_state.evens.count_is in
     let row = newest_at (columns_even low high) s.width s.taken (k + 4 - s.taken) k s.evens hold.evens (omega arith) (omega arith) in
     columns_merged-even low high s.taken c.args.i s.width _ even (rw (c.copy_from_slice.ensures.after, c.at.ensures) row)
 

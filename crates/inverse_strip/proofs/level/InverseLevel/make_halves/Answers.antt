@@ -22,5 +22,6 @@ returns-clause-right_within c =
     let whole = written_whole s.right_row.len c.row-2.new.into s.right_row.items (omega arith) (omega arith) in
     let inside = HasRow-inside s.left.taken s.given c.args.height c.requires.row in
     let three = c.requires.row.three in
-    let row = row-within (2 ^ 27) r.width r.taken s.given r.evens r.highs (signal c.row-2.new.into) (omega arith) (omega arith) c.row-2.ensures (r.small_within s.right_small) in
+    let row = row-within (2 ^ 27) r.width r.taken s.given r.evens r.highs (signal c.row-2.new.into) (omega arith) (omega arith) c.row-2.ensures
+    (r.small_within s.right_small) in
     rw whole (subst (λ (v : ℕ). AllWithin (column_bound (2 ^ 27)) v (signal c.row-2.new.into)) s.same_width row)

@@ -16,8 +16,12 @@ returns-clause-value c = λ q n follow more end.
     let same = ap (λ (l : Columns). l.width) c.make_halves.ensures.left in
     let long = c.deref_mut.ensures.len in
     let wide : length left ≡ w = omega arith in
-    let made = subst (λ (v : ℕ). Agrees (2 * v) (signal c.inverse_row_widened.new.row) (merged (signal left) (signal right) v)) wide c.inverse_row_widened.ensures in
-    let here : Agrees w (signal left) (columns_merged q.ll q.lh s.left.taken s.given) = rw c.deref_mut.ensures.value (c.make_halves.ensures.left_row q follow) in
-    let there : Agrees w (signal right) (columns_merged q.hl q.hh s.left.taken s.given) = rw c.deref_mut-2.ensures.value (c.make_halves.ensures.right_row q follow) in
+    let made = subst (λ (v : ℕ). Agrees (2 * v) (signal c.inverse_row_widened.new.row) (merged (signal left) (signal right) v)) wide
+    c.inverse_row_widened.ensures in
+    let here : Agrees w (signal left) (columns_merged q.ll q.lh s.left.taken s.given) =
+    rw c.deref_mut.ensures.value (c.make_halves.ensures.left_row q follow) in
+    let there : Agrees w (signal right) (columns_merged q.hl q.hh s.left.taken s.given) =
+    rw c.deref_mut-2.ensures.value (c.make_halves.ensures.right_row q follow) in
     let two : 2 ≤ w = omega (arith, s.wide) in
-    joined-height q s.left.taken n c.args.height w s.given _ two c.requires.row more end (joined-row q s.left.taken w s.given (signal left) (signal right) _ two here there made)
+    joined-height q s.left.taken n c.args.height w s.given _ two c.requires.row more end
+    (joined-row q s.left.taken w s.given (signal left) (signal right) _ two here there made)

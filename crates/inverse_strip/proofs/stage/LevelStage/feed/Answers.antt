@@ -11,17 +11,17 @@ use Rattle.inverse_strip.proofs.stage.LevelStage.feed.Goals as goal
 pub push-requires-clause-small_hl : goal.push-requires-clause-small_hl
 push-requires-clause-small_hl c =
     let s = c.args.self.now in
-    waiting-small (2 ^ 27) (2 ^ 27) s.level.left.width s.kept _ s.hl _ s.hl_stands c.at.ensures (omega arith) (omega arith) s.hl_small
+    waiting-small (2 ^ 27) (2 ^ 27) s.level.left.width s.kept _ s.hl _ s.hl_valid c.at.ensures (omega arith) (omega arith) s.hl_small
 
 pub push-requires-clause-small_lh : goal.push-requires-clause-small_lh
 push-requires-clause-small_lh c =
     let s = c.args.self.now in
-    waiting-small (2 ^ 27) (2 ^ 27) s.level.left.width s.kept _ s.lh _ s.lh_stands c.at-2.ensures (omega arith) (omega arith) s.lh_small
+    waiting-small (2 ^ 27) (2 ^ 27) s.level.left.width s.kept _ s.lh _ s.lh_valid c.at-2.ensures (omega arith) (omega arith) s.lh_small
 
 pub push-requires-clause-small_hh : goal.push-requires-clause-small_hh
 push-requires-clause-small_hh c =
     let s = c.args.self.now in
-    waiting-small (2 ^ 27) (2 ^ 27) s.level.left.width s.kept _ s.hh _ s.hh_stands c.at-3.ensures (omega arith) (omega arith) s.hh_small
+    waiting-small (2 ^ 27) (2 ^ 27) s.level.left.width s.kept _ s.hh _ s.hh_valid c.at-3.ensures (omega arith) (omega arith) s.hh_small
 
 pub returns-clause-follows : goal.returns-clause-follows
 returns-clause-follows c = λ b q n below more end same follow.
@@ -32,9 +32,9 @@ returns-clause-follows c = λ b q n below more end same follow.
     let whole = written_whole s.level.left_row.len row s.level.left_row.items (omega arith) (omega arith) in
     let made = c.next_row.ensures.value b n below more end in
     let ll = low-at q b n w c.args.before.now.left.width c.args.before.now.given k row _ c.requires.wide c.requires.next same whole made in
-    let hl = waiting-at q.hl w s.kept s.came k s.hl _ s.hl_stands c.at.ensures (omega arith) s.waits follow.hl in
-    let lh = waiting-at q.lh w s.kept s.came k s.lh _ s.lh_stands c.at-2.ensures (omega arith) s.waits follow.lh in
-    let hh = waiting-at q.hh w s.kept s.came k s.hh _ s.hh_stands c.at-3.ensures (omega arith) s.waits follow.hh in
+    let hl = waiting-at q.hl w s.kept s.came k s.hl _ s.hl_valid c.at.ensures (omega arith) s.waits follow.hl in
+    let lh = waiting-at q.lh w s.kept s.came k s.lh _ s.lh_valid c.at-2.ensures (omega arith) s.waits follow.lh in
+    let hh = waiting-at q.hh w s.kept s.came k s.hh _ s.hh_valid c.at-3.ensures (omega arith) s.waits follow.hh in
     let width = sym c.push.ensures.width in
     record {
       level = c.push.ensures.follows q (record { left = follow.level.left; right = follow.level.right }) ll hl lh hh;

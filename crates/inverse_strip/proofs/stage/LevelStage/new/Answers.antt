@@ -9,9 +9,9 @@ invariant_of-result c =
     let wide = c.in_ok-level.ensures.width in
     record {
       some = search rules;
-      hl_stands = rw wide (AreRows-zeros n w _ c.in_ok-hl.ensures);
-      lh_stands = rw wide (AreRows-zeros n w _ c.in_ok-lh.ensures);
-      hh_stands = rw wide (AreRows-zeros n w _ c.in_ok-hh.ensures);
+      hl_valid = rw wide (AreRows-zeros n w _ c.in_ok-hl.ensures);
+      lh_valid = rw wide (AreRows-zeros n w _ c.in_ok-lh.ensures);
+      hh_valid = rw wide (AreRows-zeros n w _ c.in_ok-hh.ensures);
       hl_small = rw wide (RowsWithin-zeros (2 ^ 27) n w _ c.in_ok-hl.ensures);
       lh_small = rw wide (RowsWithin-zeros (2 ^ 27) n w _ c.in_ok-lh.ensures);
       hh_small = rw wide (RowsWithin-zeros (2 ^ 27) n w _ c.in_ok-hh.ensures);

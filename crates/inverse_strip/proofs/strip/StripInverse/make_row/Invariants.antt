@@ -11,7 +11,8 @@ invariant-loop-self l = record {
   taken : l.self.third.left.taken ≡ l.initial.self.third.left.taken;
   given : l.self.first.level.given ≡ l.initial.self.first.level.given;
   next : l.self.next ≡ l.initial.self.next;
-  follows : (p : Pyramid) (r : ℕ) → IsCompletion l.initial.self.third.left.taken l.initial.self.height r → FollowStrip p r l.initial.self → FollowStrip p r l.self;
+  follows : (p : Pyramid) (r : ℕ) → IsCompletion l.initial.self.third.left.taken l.initial.self.height r → FollowStrip p r l.initial.self →
+      FollowStrip p r l.self;
 }
 
 -- the number of rows that the third and the second level can still give

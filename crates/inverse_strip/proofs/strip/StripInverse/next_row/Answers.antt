@@ -31,7 +31,8 @@ returns c =
         after_borrow = tt;
         wide = omega arith;
         value = λ p r completion follow.
-            let row = subst (λ (b : Bool). OnTrue b (Agrees (8 * w) (signal new.row.items) (rebuilt p r w k))) made (c.make_row.ensures.value p r completion follow) in
+            let row = subst (λ (b : Bool). OnTrue b (Agrees (8 * w) (signal new.row.items) (rebuilt p r w k))) made
+            (c.make_row.ensures.value p r completion follow) in
             rw c.deref.ensures.value row;
       },
     )

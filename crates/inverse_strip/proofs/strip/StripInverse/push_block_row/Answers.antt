@@ -5,7 +5,7 @@ use Rattle.wave_defs.specs.Blocks.{block_side}
 use Rattle.wave_defs.proofs.Equations.{third_of-is, second_of-is, first_of-is}
 use Rattle.inverse_strip.specs.Stage.{FollowStage}
 use Rattle.inverse_strip.specs.Cells.{HasBlockRow}
-use Rattle.inverse_strip.proofs.StripLemmas.{row-comes, block_row-at, block_row-moved}
+use Rattle.inverse_strip.proofs.StripLemmas.{row-arrives, block_row-at, block_row-moved}
 use Rattle.inverse_strip.proofs.strip.StripInverse.push_block_row.Goals as goal
 
 pub returns-clause-follows : goal.returns-clause-follows
@@ -27,24 +27,25 @@ returns-clause-follows c = λ p r follow next.
     let has2 : HasBlockRow (first_of p r w).lh 2 (block_side 2 * t) columns cells = rw first_of-is (next.band 2 (omega arith)) in
     let has0 : HasBlockRow (first_of p r w).hh 0 (block_side 0 * t) columns cells = rw first_of-is (next.band 0 (omega arith)) in
     let here = λ (f : ℕ → ℕ → ℤ) (x : List ℤ) (a : Agrees columns (signal x) (f t)). subst (λ (v : ℕ). Agrees v (signal x) (f t)) wide a in
-    let ll = here (third_of p).ll _ (row-comes (third_of p).ll 9 t columns cells c.row.result.now refl has9 c.row.ensures.value) in
-    let hl = here (third_of p).hl _ (row-comes (third_of p).hl 7 t columns cells c.row-2.result.now refl has7 c.row-2.ensures.value) in
-    let lh = here (third_of p).lh _ (row-comes (third_of p).lh 8 t columns cells c.row-3.result.now refl has8 c.row-3.ensures.value) in
-    let hh = here (third_of p).hh _ (row-comes (third_of p).hh 6 t columns cells c.row-4.result.now refl has6 c.row-4.ensures.value) in
-    let mid = c.come_rows.new.bands in
+    let ll = here (third_of p).ll _ (row-arrives (third_of p).ll 9 t columns cells c.row.result.now refl has9 c.row.ensures.value) in
+    let hl = here (third_of p).hl _ (row-arrives (third_of p).hl 7 t columns cells c.row-2.result.now refl has7 c.row-2.ensures.value) in
+    let lh = here (third_of p).lh _ (row-arrives (third_of p).lh 8 t columns cells c.row-3.result.now refl has8 c.row-3.ensures.value) in
+    let hh = here (third_of p).hh _ (row-arrives (third_of p).hh 6 t columns cells c.row-4.result.now refl has6 c.row-4.ensures.value) in
+    let mid = c.take_rows.new.bands in
     let there = λ (f : ℕ → ℕ → ℤ) (b : ℕ) (hb : b < 3) (has : HasBlockRow f b (4 * t) columns cells).
-    block_row-moved f b s.first.came columns mid.columns cells mid.rows hb c.come_rows.ensures.columns c.come_rows.ensures.others (block_row-at f b (4 * t) s.first.came columns cells s.first_came has) in
-    let second = c.come_rows.ensures.follows (second_of p r w) follow.second
+    block_row-moved f b s.first.came columns mid.columns cells mid.rows hb c.take_rows.ensures.columns c.take_rows.ensures.others
+    (block_row-at f b (4 * t) s.first.came columns cells s.first_came has) in
+    let second = c.take_rows.ensures.follows (second_of p r w) follow.second
     (block_row-at (second_of p r w).hl 4 (2 * t) s.second.came columns cells s.second_came has4)
     (block_row-at (second_of p r w).lh 5 (2 * t) s.second.came columns cells s.second_came has5)
     (block_row-at (second_of p r w).hh 3 (2 * t) s.second.came columns cells s.second_came has3) in
-    let first = c.come_rows-2.ensures.follows (first_of p r w) follow.first
+    let first = c.take_rows-2.ensures.follows (first_of p r w) follow.first
     (there (first_of p r w).hl 1 (omega arith) has1)
     (there (first_of p r w).lh 2 (omega arith) has2)
     (there (first_of p r w).hh 0 (omega arith) has0) in
     let width = sym c.push_bands.ensures.width in
     record {
       third = c.push_bands.ensures.follows (third_of p) follow.third ll hl lh hh;
-      second = subst (λ (v : ℕ). FollowStage (second_of p r v) c.come_rows.new.self) width second;
-      first = subst (λ (v : ℕ). FollowStage (first_of p r v) c.come_rows-2.new.self) width first;
+      second = subst (λ (v : ℕ). FollowStage (second_of p r v) c.take_rows.new.self) width second;
+      first = subst (λ (v : ℕ). FollowStage (first_of p r v) c.take_rows-2.new.self) width first;
     }

@@ -7,5 +7,6 @@ pub returns-clause-values : goal.returns-clause-values
 returns-clause-values c =
     let s = c.args.self.now.next in
     let t = c.set_square.new.self in
-    subst (λ (b : ℕ). SetsSquare (number_in s.columns s.rows) (number_in t.columns t.rows) (record { band = b; row = c.args.place.row; column = c.args.place.column }) c.args.values)
+    subst (λ (b : ℕ). SetsSquare (number_in s.columns s.rows) (number_in t.columns t.rows)
+    (record { band = b; row = c.args.place.row; column = c.args.place.column }) c.args.values)
     c.number_of.ensures c.set_square.ensures.values

@@ -8,7 +8,8 @@ use Rattle.inverse_strip.proofs.PairLemmas.{ArePairsWithin-more}
 use Rattle.inverse_strip.proofs.strip.StripInverse.step.Goals as goal
 
 pub feed-requires-then-has_row-2-clause-within : goal.feed-requires-then-has_row-2-clause-within
-feed-requires-then-has_row-2-clause-within c = let s = c.args.self.now.third.left in ArePairsWithin-more (2 ^ 27) (21 * 2 ^ 25) s.width s.taken s.evens s.highs (omega arith) c.args.self.now.third_within
+feed-requires-then-has_row-2-clause-within c = let s = c.args.self.now.third.left in ArePairsWithin-more (2 ^ 27) (21 * 2 ^ 25) s.width s.taken s.evens
+    s.highs (omega arith) c.args.self.now.third_within
 
 pub invariant_of-self-then-has_row-clause-second_within : goal.invariant_of-self-then-has_row-clause-second_within
 invariant_of-self-then-has_row-clause-second_within c = c.feed.ensures.before_within (21 * 2 ^ 25) c.args.self.now.second_within
@@ -18,7 +19,8 @@ invariant_of-self-then-has_row-clause-counts c =
     let s = c.args.self.now in
     let row = c.has_row.ensures.0 c.if-has_row.true in
     let third = subst (λ (k : ℕ). HasRow k s.second.level.given (2 * s.height)) s.second_taken row in
-    rw (c.feed.ensures.before_given, c.feed.ensures.given) (Counts-second s.third.left.taken s.third.given s.second.level.given s.first.level.given s.height s.counts third)
+    rw (c.feed.ensures.before_given, c.feed.ensures.given) (Counts-second s.third.left.taken s.third.given s.second.level.given s.first.level.given s.height
+    s.counts third)
 
 pub returns-then-has_row-clause-follows : goal.returns-then-has_row-clause-follows
 returns-then-has_row-clause-follows c = λ p r completion follow.
@@ -40,7 +42,8 @@ returns-then-has_row-clause-follows c = λ p r completion follow.
         lh = subst (λ (v : ℕ). AreNewest q.lh v s.second.came s.second.lh) width follow.second.lh;
         hh = subst (λ (v : ℕ). AreNewest q.hh v s.second.came s.second.hh) width follow.second.hh;
       };
-      first = c.feed.ensures.follows q (first_of p r w) (2 * r) follow.second.level (omega arith) end (first-low p r w s.second.level.left.width s.second_wide) follow.first;
+      first = c.feed.ensures.follows q (first_of p r w) (2 * r) follow.second.level (omega arith) end
+          (first-low p r w s.second.level.left.width s.second_wide) follow.first;
     }
 
 pub returns-then-has_row-2-clause-follows : goal.returns-then-has_row-2-clause-follows

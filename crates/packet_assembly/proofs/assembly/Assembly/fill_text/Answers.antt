@@ -6,7 +6,8 @@ use Rattle.packet_assembly.proofs.assembly.Assembly.fill_text.Goals as goal
 
 pub returns-then-is_some : goal.returns-then-is_some
 returns-then-is_some g c =
-    filled_held (g.X.Port.outside c.args.port.now) c.args.self.now (sym (ap (λ (a : Assembling). is_some a.held) c.self.view_is) ∙ sym c.is_some.ensures ∙ c.if-is_some.true)
+    filled_held (g.X.Port.outside c.args.port.now) c.args.self.now (sym (ap (λ (a : Assembling). is_some a.held) c.self.view_is) ∙ sym c.is_some.ensures ∙
+    c.if-is_some.true)
 
 pub loop-self-init : goal.loop-self-init
 loop-self-init g c =

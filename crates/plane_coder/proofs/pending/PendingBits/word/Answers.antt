@@ -4,7 +4,12 @@ use Rattle.plane_coder.proofs.Appending.{appends_word, load_pushed}
 use Rattle.plane_coder.proofs.pending.PendingBits.word.Goals as goal
 
 pub push-requires : goal.push-requires
-push-requires c = record { few = c.code-code.ensures.few; room = omega (arith, c.requires.room, c.open_first.ensures.load, c.code-code.ensures.few); fits = c.code-code.ensures.fits }
+push-requires c = record {
+  few = c.code-code.ensures.few;
+  room = omega (arith, c.requires.room, c.open_first.ensures.load, c.code-code.ensures.few);
+  fits =
+      c.code-code.ensures.fits;
+}
 
 pub returns : goal.returns
 returns c = grind (arith, common_steps, appends_word, load_pushed)

@@ -25,12 +25,16 @@ returns c =
     let sets = c.sets.ensures in
     let above = c.of.ensures (significant block (plane + 1)) s.above_shown in
     let live_sets = s.plan.now.live_shown in
-    let before = shows_same {g = λ (i : ℕ). set_significant block (plane + 1) Descendants} (λ i. above.descendants) (c.one.ensures.told 0) in
-    let some = shows_same {g = λ (i : ℕ). live weights plane Descendants} (λ i. live_sets.descendants) (c.one-2.ensures.told 0) in
-    let now = shows_same {g = λ (i : ℕ). set_significant block plane Descendants} (λ i. sets.descendants) (c.one-3.ensures.told 0) in
-    let new = c.except-new.ensures.told (λ (i : ℕ). set_significant block (plane + 1) Descendants) (λ (i : ℕ). live weights plane Descendants) 0 1 before some in
-    let due = shows_same {g = λ (i : ℕ). flag_due block weights plane Descendants} (λ i. and_true (not (set_significant block (plane + 1) Descendants) && live weights plane Descendants)) new in
+    let before = shows_same {g = λ (i : ℕ). set_significant block (plane + 1) Descendants} (λ i. above.descendants) (c.one.ensures.if_known 0) in
+    let some = shows_same {g = λ (i : ℕ). live weights plane Descendants} (λ i. live_sets.descendants) (c.one-2.ensures.if_known 0) in
+    let now = shows_same {g = λ (i : ℕ). set_significant block plane Descendants} (λ i. sets.descendants) (c.one-3.ensures.if_known 0) in
+    let new = c.except-new.ensures.if_known (λ (i : ℕ). set_significant block (plane + 1) Descendants) (λ (i : ℕ). live weights plane Descendants) 0 1 before
+    some in
+    let due = shows_same {g = λ (i : ℕ). flag_due block weights plane Descendants}
+    (λ i. and_true (not (set_significant block (plane + 1) Descendants) && live weights plane Descendants)) new in
     record {
-      flag = flags_raw block weights plane (λ (i : ℕ). Descendants) _ 1 (omega arith) (c.pick.ensures.picked (λ (i : ℕ). set_significant block plane Descendants) (λ (i : ℕ). flag_due block weights plane Descendants) 0 1 (omega arith) due now);
+      flag = flags_raw block weights plane (λ (i : ℕ). Descendants) _ 1 (omega arith)
+          (c.pick.ensures.picked (λ (i : ℕ). set_significant block plane Descendants) (λ (i : ℕ). flag_due block weights plane Descendants) 0 1
+          (omega arith) due now);
       packed = is_packed _ c.pick.ensures.within c.pick.ensures.fits;
     }

@@ -25,10 +25,13 @@ returns c =
     let sets = c.sets-sets.ensures in
     let above = c.of.ensures (significant block (plane + 1)) s.above_shown in
     let live_sets = s.plan.now.live_shown in
-    let new = c.except-new.ensures.told (λ (i : ℕ). set_significant block (plane + 1) (Family i)) (λ (i : ℕ). live weights plane (Family i)) 0 3 above.families live_sets.families in
+    let new = c.except-new.ensures.if_known (λ (i : ℕ). set_significant block (plane + 1) (Family i)) (λ (i : ℕ). live weights plane (Family i)) 0 3
+    above.families live_sets.families in
     let fresh = λ (i : ℕ). not (set_significant block (plane + 1) (Family i)) && live weights plane (Family i) in
-    let due = shows_same {g = λ (i : ℕ). flag_due block weights plane (Family i)} (λ i. ap (λ b. fresh i && b) sets.descendants) (c.masked.ensures.told fresh 0 3 new) in
+    let due = shows_same {g = λ (i : ℕ). flag_due block weights plane (Family i)} (λ i. ap (λ b. fresh i && b) sets.descendants)
+    (c.masked.ensures.if_known fresh 0 3 new) in
     record {
-      flags = flags_word block weights plane Family _ 3 (omega arith) (c.pick.ensures.picked (λ (i : ℕ). set_significant block plane (Family i)) (λ (i : ℕ). flag_due block weights plane (Family i)) 0 3 (omega arith) due sets.families);
+      flags = flags_word block weights plane Family _ 3 (omega arith) (c.pick.ensures.picked (λ (i : ℕ). set_significant block plane (Family i))
+          (λ (i : ℕ). flag_due block weights plane (Family i)) 0 3 (omega arith) due sets.families);
       packed = is_packed _ c.pick.ensures.within c.pick.ensures.fits;
     }

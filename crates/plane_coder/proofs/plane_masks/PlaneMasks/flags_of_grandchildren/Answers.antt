@@ -24,10 +24,13 @@ returns c =
     let sets = c.sets-sets.ensures in
     let above = c.of.ensures (significant block (plane + 1)) s.above_shown in
     let live_sets = s.plan.now.live_shown in
-    let new = c.except-new.ensures.told (λ (i : ℕ). set_significant block (plane + 1) (Grandchildren i)) (λ (i : ℕ). live weights plane (Grandchildren i)) 0 3 above.grandchildren live_sets.grandchildren in
+    let new = c.except-new.ensures.if_known (λ (i : ℕ). set_significant block (plane + 1) (Grandchildren i)) (λ (i : ℕ). live weights plane (Grandchildren i)) 0
+    3 above.grandchildren live_sets.grandchildren in
     let fresh = λ (i : ℕ). not (set_significant block (plane + 1) (Grandchildren i)) && live weights plane (Grandchildren i) in
-    let due = c.both.ensures.told fresh (λ (i : ℕ). set_significant block plane (Family i)) 0 3 new sets.families in
+    let due = c.both.ensures.if_known fresh (λ (i : ℕ). set_significant block plane (Family i)) 0 3 new sets.families in
     record {
-      flags = flags_word block weights plane Grandchildren _ 3 (omega arith) (c.pick.ensures.picked (λ (i : ℕ). set_significant block plane (Grandchildren i)) (λ (i : ℕ). flag_due block weights plane (Grandchildren i)) 0 3 (omega arith) due sets.grandchildren);
+      flags = flags_word block weights plane Grandchildren _ 3 (omega arith)
+          (c.pick.ensures.picked (λ (i : ℕ). set_significant block plane (Grandchildren i)) (λ (i : ℕ). flag_due block weights plane (Grandchildren i)) 0 3
+          (omega arith) due sets.grandchildren);
       packed = is_packed _ c.pick.ensures.within c.pick.ensures.fits;
     }

@@ -26,10 +26,13 @@ returns c =
     let i = c.args.i in
     let above = c.four_sets-before.ensures (significant block (plane + 1)) s.above_shown in
     let live_quads = s.plan.now.quads_shown c.args.i c.requires.family in
-    let new = c.except-new.ensures.told (λ (j : ℕ). set_significant block (plane + 1) (Quad i j)) (λ (j : ℕ). live weights plane (Quad i j)) 0 4 above live_quads.shown in
+    let new = c.except-new.ensures.if_known (λ (j : ℕ). set_significant block (plane + 1) (Quad i j)) (λ (j : ℕ). live weights plane (Quad i j)) 0 4 above
+    live_quads.shown in
     let fresh = λ (j : ℕ). not (set_significant block (plane + 1) (Quad i j)) && live weights plane (Quad i j) in
-    let due = shows_same {g = λ (j : ℕ). flag_due block weights plane (Quad i j)} (λ j. and_true (fresh j) ∙ ap (λ b. fresh j && b) (sym c.requires.enclosing)) new in
+    let due = shows_same {g = λ (j : ℕ). flag_due block weights plane (Quad i j)}
+    (λ j. and_true (fresh j) ∙ ap (λ b. fresh j && b) (sym c.requires.enclosing)) new in
     record {
-      flags = flags_word block weights plane (Quad i) _ 4 (omega arith) (c.pick.ensures.picked (λ (j : ℕ). set_significant block plane (Quad i j)) (λ (j : ℕ). flag_due block weights plane (Quad i j)) 0 4 (omega arith) due c.quads.ensures.shown);
+      flags = flags_word block weights plane (Quad i) _ 4 (omega arith) (c.pick.ensures.picked (λ (j : ℕ). set_significant block plane (Quad i j))
+          (λ (j : ℕ). flag_due block weights plane (Quad i j)) 0 4 (omega arith) due c.quads.ensures.shown);
       packed = is_packed _ c.pick.ensures.within c.pick.ensures.fits;
     }

@@ -13,9 +13,10 @@ invariant_of-result c =
     let plane = c.args.plan.now.plane in
     let v = c.requires.view in
     record {
-      reached_shown = shows_same (reached_is block plane) (c.either.ensures (significant block (plane + 1)) (λ p. bit (magnitude block p) plane) 0 64 v.above v.bits);
+      reached_shown = shows_same (reached_is block plane) (c.either.ensures (significant block (plane + 1)) (λ p. bit (magnitude block p) plane) 0 64
+          v.above v.bits);
       above_shown = v.above;
-      due_shown = c.except.ensures.told (significant block (plane + 1)) (coded c.args.plan.now.weights.shifts plane) 0 64 v.above c.args.plan.now.shown;
+      due_shown = c.except.ensures.if_known (significant block (plane + 1)) (coded c.args.plan.now.weights.shifts plane) 0 64 v.above c.args.plan.now.shown;
       bits_shown = v.bits;
       negative_shown = v.negative;
     }

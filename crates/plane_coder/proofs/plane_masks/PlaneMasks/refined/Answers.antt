@@ -7,4 +7,5 @@ pub returns : goal.returns
 unfolding refined
 returns c =
     let s = c.args.self.now in
-    c.both.ensures.told (significant (block_in s) (s.plan.now.plane + 1)) (coded s.plan.now.weights.shifts s.plan.now.plane) 0 64 s.above_shown s.plan.now.shown
+    c.both.ensures.if_known (significant (block_in s) (s.plan.now.plane + 1)) (coded s.plan.now.weights.shifts s.plan.now.plane) 0 64 s.above_shown
+    s.plan.now.shown

@@ -22,7 +22,7 @@ returns c =
     record {
       bits = refining_is block weights plane _ c.args.at c.args.count c.requires.few
           (c.pick.ensures.picked f (refined block weights plane) c.args.at c.args.count c.requires.few
-          (from_zero c.args.at (c.part.ensures.told (refined block weights plane) 0 64 c.requires.refined c.requires.within))
-          (from_zero c.args.at (c.part-2.ensures.told f 0 64 s.bits_shown c.requires.within)));
+          (from_zero c.args.at (c.part.ensures.if_known (refined block weights plane) 0 64 c.requires.refined c.requires.within))
+          (from_zero c.args.at (c.part-2.ensures.if_known f 0 64 s.bits_shown c.requires.within)));
       packed = is_packed _ c.pick.ensures.within c.pick.ensures.fits;
     }

@@ -33,11 +33,14 @@ returns c =
     let reached = significant block plane in
     let due = type_due block weights plane in
     let sign = λ (q : ℕ). negative (get_or block q (pos 0)) in
-    let due_and_reached = c.both-new.ensures.told due reached 0 64 s.due_shown s.reached_shown in
+    let due_and_reached = c.both-new.ensures.if_known due reached 0 64 s.due_shown s.reached_shown in
     record {
       typed = typed_is block weights plane _ at count few
-          (c.new.ensures.word ∙ c.pick-word.ensures.picked reached due at count few (from_zero at (c.part.ensures.told due 0 64 s.due_shown within)) (from_zero at (c.part-2.ensures.told reached 0 64 s.reached_shown within)))
-          (c.new.ensures.signs ∙ c.pick-signs.ensures.picked sign (λ p. due p && reached p) at count few (from_zero at (c.part-3.ensures.told (λ p. due p && reached p) 0 64 due_and_reached within)) (from_zero at (c.part-4.ensures.told sign 0 64 s.negative_shown within)));
+          (c.new.ensures.word ∙ c.pick-word.ensures.picked reached due at count few (from_zero at (c.part.ensures.if_known due 0 64 s.due_shown within))
+          (from_zero at (c.part-2.ensures.if_known reached 0 64 s.reached_shown within)))
+          (c.new.ensures.signs ∙ c.pick-signs.ensures.picked sign (λ p. due p && reached p) at count few
+          (from_zero at (c.part-3.ensures.if_known (λ p. due p && reached p) 0 64 due_and_reached within))
+          (from_zero at (c.part-4.ensures.if_known sign 0 64 s.negative_shown within)));
       packed = record {
         word = subst IsPacked (sym c.new.ensures.word) (is_packed _ c.pick-word.ensures.within c.pick-word.ensures.fits);
         signs = subst IsPacked (sym c.new.ensures.signs) (is_packed _ c.pick-signs.ensures.within c.pick-signs.ensures.fits);

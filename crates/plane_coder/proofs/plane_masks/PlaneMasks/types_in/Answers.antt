@@ -16,7 +16,8 @@ returns c g among =
     let one = significant block plane in
     let type = type_due block s.plan.now.weights.shifts plane in
     let minus = λ (q : ℕ). negative (get_or block q (pos 0)) in
-    let due = c.both-due.ensures.told type g at count (from_zero at (c.part.ensures.told type 0 64 s.due_shown within)) among in
-    let ones = c.both-ones.ensures.told (λ p. type p && g p) one at count due (from_zero at (c.part-2.ensures.told one 0 64 s.reached_shown within)) in
-    let less = c.both-minus.ensures.told (λ p. (type p && g p) && one p) minus at count ones (from_zero at (c.part-3.ensures.told minus 0 64 s.negative_shown within)) in
-    record { plain = c.except.ensures.told (λ p. ((type p && g p) && one p) && minus p) (λ p. type p && g p) at count less due; ones = ones }
+    let due = c.both-due.ensures.if_known type g at count (from_zero at (c.part.ensures.if_known type 0 64 s.due_shown within)) among in
+    let ones = c.both-ones.ensures.if_known (λ p. type p && g p) one at count due (from_zero at (c.part-2.ensures.if_known one 0 64 s.reached_shown within)) in
+    let less = c.both-minus.ensures.if_known (λ p. (type p && g p) && one p) minus at count ones
+    (from_zero at (c.part-3.ensures.if_known minus 0 64 s.negative_shown within)) in
+    record { plain = c.except.ensures.if_known (λ p. ((type p && g p) && one p) && minus p) (λ p. type p && g p) at count less due; ones = ones }

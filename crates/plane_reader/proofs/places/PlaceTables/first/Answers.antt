@@ -5,7 +5,7 @@ use Rattle.plane_reader.proofs.places.PlaceTables.first.Goals as goal
 
 pub returns : goal.returns
 returns c = λ due option few fits e.
-    let t = c.args.self.now.told c.in-Some.entries c.in-Some.is in
+    let t = c.args.self.now.if_known c.in-Some.entries c.in-Some.is in
     let tables = c.in-Some.entries.items in
     let row = c.index.result.now in
     let within : c.args.table < length tables = omega (arith, t.all, c.requires.table) in

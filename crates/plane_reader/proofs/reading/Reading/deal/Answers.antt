@@ -44,7 +44,7 @@ loop-k-preserved g c =
       dealt = λ s f is shown.
           let start = c.args.start in
           let room : start + 32 ≤ 64 = omega (arith, c.requires.start) in
-          let here = c.part-due.ensures.told f start 32 shown (omega (arith, lt)) in
+          let here = c.part-due.ensures.if_known f start 32 shown (omega (arith, lt)) in
           let d = dealt_four f start s window (i.dealt s f is shown) lt room i.low (omega arith) i.rest here few (omega arith) c.spread_first-places.ensures
           (λ a b whole some. c.either-bits.ensures a _ 0 64 whole (c.placed.ensures b 4 (omega (arith, room, lt)) some)) in
           rw width d;

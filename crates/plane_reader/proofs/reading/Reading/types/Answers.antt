@@ -29,14 +29,14 @@ pub types_singly-requires-clause-some : goal.types_singly-requires-clause-some
 types_singly-requires-clause-some g c = λ wanted.
     let group = c.args.group in
     let within : group.start + group.count ≤ 64 = omega (arith, c.requires.start, c.requires.few) in
-    let own = from_zero group.start (c.part-here.ensures.told _ 0 64 (shows_own c.args.due 64 (search rules)) within) in
+    let own = from_zero group.start (c.part-here.ensures.if_known _ 0 64 (shows_own c.args.due 64 (search rules)) within) in
     some_here (search rules) own (c.requires.some wanted)
 
 pub returns-then-not-is_ready-clause-types : goal.returns-then-not-is_ready-clause-types
 returns-then-not-is_ready-clause-types g c = λ s f is marks.
     let group = c.args.group in
     let within : group.start + group.count ≤ 64 = omega (arith, c.requires.start, c.requires.few) in
-    let own = from_zero group.start (c.part-here.ensures.told _ 0 64 (shows_own c.args.due 64 (search rules)) within) in
+    let own = from_zero group.start (c.part-here.ensures.if_known _ 0 64 (shows_own c.args.due 64 (search rules)) within) in
     held_later _ _ c.is_ready.ensures.stays (c.types_singly.ensures.types s f is (part_marks c.args.due f marks own))
 
 pub first-first-requires : goal.first-first-requires
@@ -88,7 +88,7 @@ returns-then-first-eq0-clause-types g c = λ s f is_state marks.
     let is : IsFirst reading.tables.now.words.book here row.option c.is_ready.new.cursor.rest c.first-first.result =
     c.first-first.ensures here row.option small row.fits row.at in
     let within : group.start + group.count ≤ 64 = omega (arith, c.requires.start, c.requires.few) in
-    let own = from_zero group.start (c.part-here.ensures.told _ 0 64 (shows_own c.args.due 64 (search rules)) within) in
+    let own = from_zero group.start (c.part-here.ensures.if_known _ 0 64 (shows_own c.args.due 64 (search rules)) within) in
     let shows = part_marks c.args.due f marks own in
     let book = reading.tables.now.words.book in
     let sound = reading.tables.now.words.sound in
@@ -202,7 +202,7 @@ returns-clause-types g c = λ s f is_state marks.
     let is : IsFirst reading.tables.now.words.book here row.option c.is_ready.new.cursor.rest c.first-first.result =
     c.first-first.ensures here row.option small row.fits row.at in
     let within : group.start + group.count ≤ 64 = omega (arith, c.requires.start, c.requires.few) in
-    let own = from_zero group.start (c.part-here.ensures.told _ 0 64 (shows_own c.args.due 64 (search rules)) within) in
+    let own = from_zero group.start (c.part-here.ensures.if_known _ 0 64 (shows_own c.args.due 64 (search rules)) within) in
     let shows = part_marks c.args.due f marks own in
     let book = reading.tables.now.words.book in
     let sound = reading.tables.now.words.sound in

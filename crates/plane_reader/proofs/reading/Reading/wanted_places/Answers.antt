@@ -26,7 +26,7 @@ returns-then-is_any-clause-places g c = λ s f forced start count are few shown 
     let t = rw c.in-Some.is at c.in_ok-places.ensures in
     let p = t.places s f start count are few shown in
     let check = ones_at (map forced (filter f (span start count))) in
-    let masks = c.except.ensures.told _ _ start count (here_shown forced f start count c.args.due p.word c.in-Some.places few shown p.are) wanted in
+    let masks = c.except.ensures.if_known _ _ start count (here_shown forced f start count c.args.due p.word c.in-Some.places few shown p.are) wanted in
     let test = c.is_any.ensures _ start count masks in
     ones_false c.args.self.now.tables.now.words.book check f start count s (none_wanted forced f start count) p
     (lacking_is forced f start count c.args.due p.word c.in-Some.places few shown p.are ∙ sym test ∙ c.if-is_any.true)
@@ -36,7 +36,7 @@ returns-clause-places g c = λ s f forced start count are few shown wanted.
     let t = rw c.in-Some.is at c.in_ok-places.ensures in
     let p = t.places s f start count are few shown in
     let check = ones_at (map forced (filter f (span start count))) in
-    let masks = c.except.ensures.told _ _ start count (here_shown forced f start count c.args.due p.word c.in-Some.places few shown p.are) wanted in
+    let masks = c.except.ensures.if_known _ _ start count (here_shown forced f start count c.args.due p.word c.in-Some.places few shown p.are) wanted in
     let test = c.is_any.ensures _ start count masks in
     ones_given c.args.self.now.tables.now.words.book check f start count s (none_wanted forced f start count) p
     (lacking_is forced f start count c.args.due p.word c.in-Some.places few shown p.are ∙ sym test ∙ c.if-is_any.false)

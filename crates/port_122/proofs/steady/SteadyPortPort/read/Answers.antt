@@ -11,4 +11,5 @@ returns-clause-octets c =
     let room : count ≤ length s.input.items - s.at = search rules in
     let copied : c.copy_from_slice.new.self ≡ take count (drop s.at s.input.items) = grind (arith, common_steps) in
     let ends : count ≡ 0 → 0 < length (drop count c.args.into.now) → length s.input.items ≤ s.at = λ z some. grind (arith, common_steps, z, some) in
-    memory_read s.input.items c.copy_from_slice.new.self (drop count c.args.into.now) (outside_of s).given (outside_of s).noted None None s.at count 0 0 0 s.within room copied ends tt tt
+    memory_read s.input.items c.copy_from_slice.new.self (drop count c.args.into.now) (outside_of s).given (outside_of s).noted None None s.at count 0 0 0
+    s.within room copied ends tt tt

@@ -13,7 +13,8 @@ dc_is c =
     c.greatest_dc_depth.ensures ∙ dc_depth_is cells c.dcs.result.now (held_dcs c.dcs.result.now cells c.dcs.ensures.long c.dcs.ensures.dcs)
 
 ac_is : (c : After-greatest_depth) → c.greatest_depth.result ≡ depth_ac_of (blocks_in c.self.inside.masks.numbers)
-ac_is c = c.greatest_depth.ensures ∙ ac_depth_is (blocks_in c.self.inside.masks.numbers) (depths_of c.deref.result.now) (ap depths_of c.deref.ensures.value ∙ c.self.invariant.depths)
+ac_is c = c.greatest_depth.ensures ∙ ac_depth_is (blocks_in c.self.inside.masks.numbers) (depths_of c.deref.result.now)
+    (ap depths_of c.deref.ensures.value ∙ c.self.invariant.depths)
 
 pub returns-clause-dc : goal.returns-clause-dc
 returns-clause-dc c = rw (← c.self.view_is) (dc_is c)
@@ -27,7 +28,17 @@ returns-clause-least_dc c =
     omega (arith, dc_is c, least_dc c.self.inside.masks.numbers (vec_len c.self.inside.marks) c.self.invariant.whole some)
 
 pub returns-clause-most_dc : goal.returns-clause-most_dc
-returns-clause-most_dc c = omega (arith, dc_is c, most_dc c.self.inside.masks.numbers (vec_len c.self.inside.marks) c.self.invariant.whole c.self.invariant.bounded)
+returns-clause-most_dc c = omega (
+  arith,
+  dc_is c,
+  most_dc c.self.inside.masks.numbers (vec_len c.self.inside.marks) c.self.invariant.whole
+      c.self.invariant.bounded,
+)
 
 pub returns-clause-most_ac : goal.returns-clause-most_ac
-returns-clause-most_ac c = omega (arith, ac_is c, most_ac c.self.inside.masks.numbers (vec_len c.self.inside.marks) c.self.invariant.whole c.self.invariant.bounded)
+returns-clause-most_ac c = omega (
+  arith,
+  ac_is c,
+  most_ac c.self.inside.masks.numbers (vec_len c.self.inside.marks) c.self.invariant.whole
+      c.self.invariant.bounded,
+)

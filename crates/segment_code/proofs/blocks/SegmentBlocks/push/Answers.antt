@@ -8,7 +8,14 @@ use Rattle.segment_code.proofs.blocks.SegmentBlocks.push.Goals as goal
 pub push-requires-clause-depth : goal.push-requires-clause-depth
 push-requires-clause-depth c =
     let block = c.args.block.now in
-    omega (arith, c.max.ensures, c.block_depth-depth.ensures, c.dc_depth.ensures, ac_fits_27 block c.requires.whole c.requires.bounded, dc_fits_28 block c.requires.whole c.requires.bounded)
+    omega (
+      arith,
+      c.max.ensures,
+      c.block_depth-depth.ensures,
+      c.dc_depth.ensures,
+      ac_fits_27 block c.requires.whole c.requires.bounded,
+      dc_fits_28 block c.requires.whole c.requires.bounded,
+    )
 
 pub push-requires-clause-small : goal.push-requires-clause-small
 push-requires-clause-small c k =
@@ -24,5 +31,6 @@ invariant_of-self c =
     let low : depth ≤ 27 = omega (arith, c.block_depth-depth.ensures, ac_fits_27 block c.requires.whole c.requires.bounded) in
     let mark = to_z-of_z w32 (pos depth) (fits_signed_from_abs w32 (pos depth) (omega (arith, low))) in
     let items = rw c.from.ensures at c.push_reserved.ensures.items in
-    held_more c.self.invariant c.push.new.self c.push_reserved.new.self block depth c.requires.whole c.requires.bounded c.block_depth-depth.ensures c.push.ensures.most c.push.ensures.numbers
+    held_more c.self.invariant c.push.new.self c.push_reserved.new.self block depth c.requires.whole c.requires.bounded c.block_depth-depth.ensures
+    c.push.ensures.most c.push.ensures.numbers
     (items ∙ ap (λ n. c.self.inside.marks.items ++ n ∷ []) mark) c.push_reserved.ensures.len c.push_reserved.ensures.capacity

@@ -1,6 +1,6 @@
 use Rattle.std.proofs.Common.{Err, Ok, rules, refl, ap}
 use Rattle.std.proofs.lemmas.Result.{err_from_is_err_and}
-use Rattle.bit_pipe.specs.Coming.{coming}
+use Rattle.bit_pipe.specs.SourceState.{source_state}
 use Rattle.segment_code.specs.TakenText.{with_used}
 use Rattle.segment_code.proofs.decode.SegmentReader.take_from.Goals as goal
 
@@ -10,10 +10,10 @@ returns-in_err-part-clause-takes g c =
     let name = c.in_err-part.ensures.takes.taken.name in
     let same = c.new-bits.ensures.same in
     rw (p.1, p.2) (record {
-      start = coming c.new-bits.result;
+      start = source_state c.new-bits.result;
       begins = rw (c.from.ensures, c.from-2.ensures) at c.new-bits.ensures.begins;
-      stop = coming c.take_text.new.input;
-      stands = search rules;
+      stop = source_state c.take_text.new.input;
+      valid = search rules;
       answered = Err _;
       text = c.in_err-part.ensures.takes;
       answer = refl;
@@ -24,10 +24,10 @@ returns-clause-takes g c =
     let name = c.in_ok-part.ensures.takes.taken.name in
     let same = c.new-bits.ensures.same in
     record {
-      start = coming c.new-bits.result;
+      start = source_state c.new-bits.result;
       begins = rw (c.from.ensures, c.from-2.ensures) at c.new-bits.ensures.begins;
-      stop = coming c.take_text.new.input;
-      stands = search rules;
+      stop = source_state c.take_text.new.input;
+      valid = search rules;
       answered = Ok c.in_ok-part.part;
       text = c.in_ok-part.ensures.takes;
       answer = ap (with_used (Ok c.in_ok-part.part)) c.used.ensures;

@@ -3,8 +3,8 @@ use Rattle.std.proofs.lemmas.Grind.{common_steps}
 use Rattle.space_packets.proofs.Intakes.{no_begin, verdict_ended, verdict_cut, answered_none}
 use Rattle.space_packets.proofs.packet_reader.PacketReader.answer.Goals as goal
 
-pub returns-then-has_bad_version-clause-stands : goal.returns-then-has_bad_version-clause-stands
-returns-then-has_bad_version-clause-stands c = grind (arith, common_steps, answered_none, no_begin)
+pub returns-then-has_bad_version-clause-valid : goal.returns-then-has_bad_version-clause-valid
+returns-then-has_bad_version-clause-valid c = grind (arith, common_steps, answered_none, no_begin)
 
 pub returns-then-is_empty-clause-answer : goal.returns-then-is_empty-clause-answer
 returns-then-is_empty-clause-answer c = grind (arith, common_steps, verdict_ended)

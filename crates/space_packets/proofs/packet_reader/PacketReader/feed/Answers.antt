@@ -37,7 +37,8 @@ returns-then-count-eq0 g c =
       few = few;
       read = c.in-Ok.ensures;
       within = search rules;
-      stands = rw (← c.self.view_is) (fed_piece (intake c.self.inside) _ xs c.read.new.into s held c.in-Ok.count most true (c.in-Ok.count == 0) is waits within c.in-Ok.ensures.within (or_true c.self.inside.ended c.in-Ok.count c.if-count-eq0.true));
+      valid = rw (← c.self.view_is) (fed_piece (intake c.self.inside) _ xs c.read.new.into s held c.in-Ok.count most true (c.in-Ok.count == 0) is waits
+          within c.in-Ok.ensures.within (or_true c.self.inside.ended c.in-Ok.count c.if-count-eq0.true));
     }
 
 pub returns-else-count-eq0 : goal.returns-else-count-eq0
@@ -67,5 +68,6 @@ returns-else-count-eq0 g c =
       few = few;
       read = c.in-Ok.ensures;
       within = search rules;
-      stands = rw (← c.self.view_is) (fed_piece (intake c.self.inside) _ xs c.read.new.into s held c.in-Ok.count most c.self.inside.ended (c.in-Ok.count == 0) is waits within c.in-Ok.ensures.within (or_none c.self.inside.ended c.in-Ok.count c.if-count-eq0.false));
+      valid = rw (← c.self.view_is) (fed_piece (intake c.self.inside) _ xs c.read.new.into s held c.in-Ok.count most c.self.inside.ended
+          (c.in-Ok.count == 0) is waits within c.in-Ok.ensures.within (or_none c.self.inside.ended c.in-Ok.count c.if-count-eq0.false));
     }

@@ -17,7 +17,9 @@ invariant_of-self c =
     let fits = rw (← c.self.view_is, waiting) at c.requires.fits in
     let long : length c.push_reserved.new.self.items ≡ length items + 1 =
     ap length c.push_reserved.ensures.items ∙ length-append items (c.args.octet ∷ []) in
-    sound_more c.self.inside c.push_reserved.new.self 1 c.self.invariant (omega arith) (omega (arith, room, waiting)) (omega (arith, fits)) long (omega (arith, c.push_reserved.ensures.capacity))
+    sound_more c.self.inside c.push_reserved.new.self 1 c.self.invariant (omega arith) (omega (arith, room, waiting)) (omega (arith, fits)) long
+    (omega (arith, c.push_reserved.ensures.capacity))
 
 pub returns : goal.returns
-returns c = rw (← c.self.view_is) (same_progress refl refl refl refl refl (more_wait c.self.inside.buffer.items c.push_reserved.new.self.items (c.args.octet ∷ []) c.self.invariant.header c.push_reserved.ensures.items))
+returns c = rw (← c.self.view_is) (same_progress refl refl refl refl refl (more_wait c.self.inside.buffer.items c.push_reserved.new.self.items
+    (c.args.octet ∷ []) c.self.invariant.header c.push_reserved.ensures.items))

@@ -6,4 +6,5 @@ pub returns : goal.returns
 returns c =
     let waiting = length-drop 30 c.self.inside.buffer.items in
     let counted = c.self.inside.buffer.ok.0 in
-    rw (← c.self.view_is) (on_at_most (c.len.result + 8) (6 + c.self.inside.packet) (λ few. omega (arith, few, waiting, counted, c.len.ensures, c.self.invariant.least, c.self.invariant.header)))
+    rw (← c.self.view_is) (on_at_most (c.len.result + 8) (6 + c.self.inside.packet)
+    (λ few. omega (arith, few, waiting, counted, c.len.ensures, c.self.invariant.least, c.self.invariant.header)))

@@ -8,5 +8,11 @@ returns-clause-is_open c =
     rw (← c.self.view_is) record {
       stage = c.in-Begun.is;
       packet = c.self.invariant.least;
-      pending = omega (arith, length-drop 30 c.self.inside.buffer.items, c.self.invariant.pending, room_least c.self.inside.stage (part_size c.self.inside.packet));
+      pending = omega (
+        arith,
+        length-drop 30 c.self.inside.buffer.items,
+        c.self.invariant.pending,
+        room_least c.self.inside.stage
+            (part_size c.self.inside.packet),
+      );
     }

@@ -13,7 +13,7 @@ returns-in_default g c =
       within = failed.1.1;
       out = failed.1.2;
       rose = failed.0;
-      stands = same_progress refl refl refl refl refl (header_alone c.send-sent.new.buffer.items c.truncate.new.self.items c.truncate.ensures.items);
+      valid = same_progress refl refl refl refl refl (header_alone c.send-sent.new.buffer.items c.truncate.new.self.items c.truncate.ensures.items);
     }
 
 pub invariant_of-self-2 : goal.invariant_of-self-2
@@ -33,5 +33,6 @@ returns g c =
     omega (arith, c.len-octets.ensures, c.send-sent.new.buffer.ok.0, ap length c.in-Ok.ensures.packet) in
     rw (← c.self.view_is) record {
       out = c.in-Ok.ensures.out;
-      stands = same_progress refl c.after_part-self-inside.ensures refl refl (ap (λ n. c.self.inside.octets + n) octets) (header_alone c.send-sent.new.buffer.items c.truncate.new.self.items c.truncate.ensures.items);
+      valid = same_progress refl c.after_part-self-inside.ensures refl refl (ap (λ n. c.self.inside.octets + n) octets)
+          (header_alone c.send-sent.new.buffer.items c.truncate.new.self.items c.truncate.ensures.items);
     }

@@ -14,7 +14,8 @@ returns g c =
     let octets = to_be_bytes w64 c.args.word in
     let eight : length octets ≡ 8 = length-octets 8 c.args.word in
     let room : length v.pending + length octets ≤ part_size v.packet = omega (arith, eight, c.if-not-has_room_for_word.ensures) in
-    let given = given_more v.stage (part_size v.packet) (length v.pending) 8 (length (v.pending ++ octets)) (omega (arith, c.requires)) (length-append v.pending octets ∙ omega (arith, eight)) in
+    let given = given_more v.stage (part_size v.packet) (length v.pending) 8 (length (v.pending ++ octets)) (omega (arith, c.requires))
+    (length-append v.pending octets ∙ omega (arith, eight)) in
     record {
       octets = octets;
       small = are_octets 8 c.args.word;

@@ -13,7 +13,18 @@ pub invariant_of-result : goal.invariant_of-result
 invariant_of-result c =
     let width = rw c.geometry_for-geometry.ensures at c.padded_width-width.ensures in
     let few : most_blocks c.args.setting.now ≤ c.args.setting.now.segment = most_within c.args.setting.now in
-    record { within = omega (arith, width, few, c.in_ok-strip.ensures.columns, c.in_ok-row.ensures.len, c.in_ok-blocks.ensures.most, c.most_blocks-count.ensures, c.need.ensures) }
+    record {
+      within = omega (
+        arith,
+        width,
+        few,
+        c.in_ok-strip.ensures.columns,
+        c.in_ok-row.ensures.len,
+        c.in_ok-blocks.ensures.most,
+        c.most_blocks-count.ensures,
+        c.need.ensures,
+      );
+    }
 
 pub returns-clause-start : goal.returns-clause-start
 returns-clause-start c =

@@ -10,13 +10,15 @@ pub halve_columns-requires-clause-bounded : goal.halve_columns-requires-clause-b
 halve_columns-requires-clause-bounded c =
     let s = c.args.self.now in
     let bounded : EachWithin (2 * (2 * 10 ^ 6)) s.rows (2 * (s.width / 2)) (samples_of s) = rw (← c.requires.even) c.requires.bounded in
-    shown_within (5 * (2 * 10 ^ 6)) _ _ _ _ _ (omega arith) c.in_ok-low.ensures.low (rows_low-within (2 * 10 ^ 6) (s.width / 2) s.rows (samples_of s) (omega arith) (omega arith) bounded)
+    shown_within (5 * (2 * 10 ^ 6)) _ _ _ _ _ (omega arith) c.in_ok-low.ensures.low (rows_low-within (2 * 10 ^ 6) (s.width / 2) s.rows (samples_of s)
+    (omega arith) (omega arith) bounded)
 
 pub halve_columns-requires-2-clause-bounded : goal.halve_columns-requires-2-clause-bounded
 halve_columns-requires-2-clause-bounded c =
     let s = c.args.self.now in
     let bounded : EachWithin (2 * (2 * 10 ^ 6)) s.rows (2 * (s.width / 2)) (samples_of s) = rw (← c.requires.even) c.requires.bounded in
-    shown_within (5 * (2 * 10 ^ 6)) _ _ _ _ _ (omega arith) c.in_ok-low.ensures.high (rows_high-within (2 * 10 ^ 6) (s.width / 2) s.rows (samples_of s) (omega arith) (omega arith) bounded)
+    shown_within (5 * (2 * 10 ^ 6)) _ _ _ _ _ (omega arith) c.in_ok-low.ensures.high (rows_high-within (2 * 10 ^ 6) (s.width / 2) s.rows (samples_of s)
+    (omega arith) (omega arith) bounded)
 
 pub returns : goal.returns
 returns c =

@@ -41,7 +41,8 @@ invariant_of-self c =
         second_small = c.hand_down.ensures.small_second;
         third_small = c.hand_down.ensures.small_third;
       };
-      counts = no_block_row s.rows s.answered _ _ _ _ _ _ _ s.ended _ run c.requires.few c.requires.running c.take.ensures.taken c.hand_down.ensures.second_taken c.hand_down.ensures.third_taken c.settled_in-now.ensures c.if-not-self.true still;
+      counts = no_block_row s.rows s.answered _ _ _ _ _ _ _ s.ended _ run c.requires.few c.requires.running c.take.ensures.taken
+          c.hand_down.ensures.second_taken c.hand_down.ensures.third_taken c.settled_in-now.ensures c.if-not-self.true still;
     }
 
 pub invariant_of-self-2 : goal.invariant_of-self-2
@@ -65,7 +66,8 @@ invariant_of-self-2 c =
         second_small = c.hand_down.ensures.small_second;
         third_small = c.hand_down.ensures.small_third;
       };
-      counts = block_row s.rows s.answered _ _ _ _ _ _ _ s.ended _ run c.requires.few c.requires.running c.take.ensures.taken c.hand_down.ensures.second_taken c.hand_down.ensures.third_taken c.settled_in-now.ensures c.if-not-self.false more;
+      counts = block_row s.rows s.answered _ _ _ _ _ _ _ s.ended _ run c.requires.few c.requires.running c.take.ensures.taken
+          c.hand_down.ensures.second_taken c.hand_down.ensures.third_taken c.settled_in-now.ensures c.if-not-self.false more;
     }
 
 pub returns-then-not-self-clause-follows : goal.returns-then-not-self-clause-follows
@@ -76,11 +78,14 @@ returns-then-not-self-clause-follows c = λ image r three few f row.
     let halves = s.levels.halves in
     let quarters = s.levels.quarters in
     let run = s.counts.running c.requires.running in
-    let here = Agrees-beside image (4 * r) (4 * m) s.rows s.first.half (signal c.args.row.now) (omega arith) (omega arith) (omega arith) (record { at = λ k h. row.at k (omega arith) }) in
-    let there = subst (λ (k : ℕ). Agrees (2 * s.first.half) (parted (signal c.args.row.now) s.first.half) (mirrored (beside image (4 * m)) (4 * r) k)) (sym run.first) here in
+    let here = Agrees-beside image (4 * r) (4 * m) s.rows s.first.half (signal c.args.row.now) (omega arith) (omega arith) (omega arith)
+    (record { at = λ k h. row.at k (omega arith) }) in
+    let there = subst (λ (k : ℕ). Agrees (2 * s.first.half) (parted (signal c.args.row.now) s.first.half) (mirrored (beside image (4 * m)) (4 * r) k))
+    (sym run.first) here in
     let first = c.take.ensures.follows (mirrored (beside image (4 * m)) (4 * r)) f.first there in
     let down = c.hand_down.ensures.follows image r m (omega arith) refl (omega arith) (record { first = first; second = f.second; third = f.third }) in
-    subst (λ (k : ℕ). FollowLevels image r k c.take.new.self.columns c.hand_down.new.second.columns c.hand_down.new.third.columns) (sym c.hand_down.ensures.quarters) down
+    subst (λ (k : ℕ). FollowLevels image r k c.take.new.self.columns c.hand_down.new.second.columns c.hand_down.new.third.columns)
+    (sym c.hand_down.ensures.quarters) down
 
 pub returns-clause-follows : goal.returns-clause-follows
 returns-clause-follows c = λ image r three few f row.
@@ -90,11 +95,14 @@ returns-clause-follows c = λ image r three few f row.
     let halves = s.levels.halves in
     let quarters = s.levels.quarters in
     let run = s.counts.running c.requires.running in
-    let here = Agrees-beside image (4 * r) (4 * m) s.rows s.first.half (signal c.args.row.now) (omega arith) (omega arith) (omega arith) (record { at = λ k h. row.at k (omega arith) }) in
-    let there = subst (λ (k : ℕ). Agrees (2 * s.first.half) (parted (signal c.args.row.now) s.first.half) (mirrored (beside image (4 * m)) (4 * r) k)) (sym run.first) here in
+    let here = Agrees-beside image (4 * r) (4 * m) s.rows s.first.half (signal c.args.row.now) (omega arith) (omega arith) (omega arith)
+    (record { at = λ k h. row.at k (omega arith) }) in
+    let there = subst (λ (k : ℕ). Agrees (2 * s.first.half) (parted (signal c.args.row.now) s.first.half) (mirrored (beside image (4 * m)) (4 * r) k))
+    (sym run.first) here in
     let first = c.take.ensures.follows (mirrored (beside image (4 * m)) (4 * r)) f.first there in
     let down = c.hand_down.ensures.follows image r m (omega arith) refl (omega arith) (record { first = first; second = f.second; third = f.third }) in
-    subst (λ (k : ℕ). FollowLevels image r k c.take.new.self.columns c.hand_down.new.second.columns c.hand_down.new.third.columns) (sym c.hand_down.ensures.quarters) down
+    subst (λ (k : ℕ). FollowLevels image r k c.take.new.self.columns c.hand_down.new.second.columns c.hand_down.new.third.columns)
+    (sym c.hand_down.ensures.quarters) down
 
 pub returns-clause-shows : goal.returns-clause-shows
-returns-clause-shows c = λ image r stands three most f. shows image r _ stands three most f
+returns-clause-shows c = λ image r valid three most f. shows image r _ valid three most f

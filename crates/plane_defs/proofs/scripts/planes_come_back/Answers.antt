@@ -1,5 +1,0 @@
-use Rattle.plane_defs.proofs.PlanesBack.{planes_are_back}
-use Rattle.plane_defs.proofs.scripts.planes_come_back.Goals as goal
-
-pub returns : goal.returns
-returns c = planes_are_back

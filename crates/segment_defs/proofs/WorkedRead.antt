@@ -1,0 +1,26 @@
+-- The worked texts, by computing.
+use Rattle.std.proofs.Common.{refl}
+use Rattle.base_122.specs.Profile.{profile}
+use Rattle.item_defs.specs.Bits.{bits_of, value_of, bits_of_octets}
+use Rattle.wave_defs.specs.Blocks.{place_of}
+use Rattle.number_defs.specs.Mapping.{unmapped}
+use Rattle.plane_defs.specs.Spans.{span}
+use Rattle.plane_defs.specs.Sets.{significant, coded, set_significant, live, type_due, refined}
+use Rattle.plane_defs.specs.Codes.{symbol}
+use Rattle.plane_defs.specs.Reading.{word_of}
+use Rattle.segment_defs.specs.Fields.{number_in}
+use Rattle.segment_defs.specs.Worked.{WorkedTexts}
+
+pub worked : WorkedTexts
+unfolding profile span significant coded set_significant live type_due refined symbol word_of bits_of value_of bits_of_octets place_of
+    unmapped number_in lib.Count.ones
+worked = record {
+  all = refl;
+  false = refl;
+  no_option = refl;
+  planes = refl;
+  short = refl;
+  long = refl;
+  cut_in_plane = refl;
+  cut_below_limit = refl;
+}

@@ -1,0 +1,24 @@
+// What some coded segments hold, and the laws of their script.
+ghost use Rattle.segment_defs.specs.TextLaws.{SegmentsAreRead, TextsAreRead, TextsHaveOutcomes};
+ghost use Rattle.segment_defs.specs.Worked.{WorkedTexts};
+
+/// Coded segments that are worked out by hand hold what they should.
+pub const fn worked_texts()
+    ensures { WorkedTexts }
+{}
+
+/// What bits of a coded segment are read as is what its items say, and a reading that is cut can be completed.
+pub const fn segments_are_read()
+    ensures { SegmentsAreRead }
+{}
+
+/// A text is read as values exactly if it holds some, and is refused by a name exactly if it has this name. Whichever values are read
+/// in it, the answer has the same part of them: all, if the text has no stop and no item is cut.
+pub const fn texts_are_read()
+    ensures { TextsAreRead }
+{}
+
+/// Each text holds some values or is refused, by one name.
+pub const fn texts_have_outcomes()
+    ensures { TextsHaveOutcomes }
+{}
