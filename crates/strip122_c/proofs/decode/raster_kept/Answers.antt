@@ -11,7 +11,8 @@ returns-then-length-room-clause-fits c =
     c.rows_of.ensures c.product_length-length.ensures c.if-length-room.true
 
 pub returns-clause-fits : goal.returns-clause-fits
-returns-clause-fits c = fitting_raster c.args.product c.args.wish.now c.args.packets.now c.args.room c.product_length-length.result c.in-Ok.measured c.in-Ok.ensures
+returns-clause-fits c = fitting_raster c.args.product c.args.wish.now c.args.packets.now c.args.room c.product_length-length.result c.in-Ok.measured
+    c.in-Ok.ensures
     c.product_length-length.ensures c.if-length-room.false
 
 pub returns-clause-kept : goal.returns-clause-kept
