@@ -19,8 +19,8 @@ size_t strip122_arena_most(void);
 /* For the heads of the blocks, and for all that is small. */
 #define STRIP122_ARENA_MORE 8192u
 
-/* For what is read ahead, 131,084 octets, and the tables of the words in a text, 49,152 octets. */
-#define STRIP122_ARENA_READER 180236u
+/* For what is read ahead, 131,084 octets, the tables of the words in a text, 52,448 octets, and that of missing block rows, 4,096 octets. */
+#define STRIP122_ARENA_READER 187628u
 
 /* The blocks of a segment, in an image of this size. */
 static inline uint64_t strip122_segment_blocks(uint32_t width, uint32_t rows, uint32_t segment) {

@@ -1,5 +1,5 @@
 /* Measures the stack that the library takes: stack < raster of 512 x 512 pixels of one octet. Each call runs in a thread whose stack is
-   painted before (tools/try_c.sh). It prints a line for each call. */
+   painted before (tools/try_c.sh). It prints a line for each call, and fails if a call takes more than 65,536 octets. */
 #include "strip122.h"
 
 #include <pthread.h>
@@ -10,6 +10,7 @@
 #define SIDE 512u
 #define PAINT 0xA5
 #define STACK (4u << 20)
+#define MOST 65536u
 
 static uint8_t raster[SIDE * SIDE], packets[16 * SIDE * SIDE], picture[SIDE * SIDE], stack[STACK];
 static size_t octets;
@@ -61,8 +62,8 @@ static void *info(void *setting) {
     return strip122_info(&wish, packets, octets, picture, sizeof picture, &report) == STRIP122_DONE ? NULL : setting;
 }
 
-/* Runs a call on the painted stack, and prints how much of it was written. */
-static void measure(const char *name, void *(*call)(void *), strip122_setting *setting) {
+/* Runs a call on the painted stack, and prints how much of it was written. Returns whether that is at most what a call may take. */
+static int measure(const char *name, void *(*call)(void *), strip122_setting *setting) {
     pthread_attr_t attributes;
     pthread_t thread;
     void *failed = setting;
@@ -77,6 +78,11 @@ static void measure(const char *name, void *(*call)(void *), strip122_setting *s
         clean++;
     }
     printf("stack: %s, segments of %u blocks: %zu octets\n", name, (unsigned)setting->segment, sizeof stack - clean);
+    if (sizeof stack - clean > MOST) {
+        fprintf(stderr, "%s takes more than %u octets of stack\n", name, MOST);
+        return 0;
+    }
+    return 1;
 }
 
 int main(void) {
@@ -85,13 +91,14 @@ int main(void) {
         return 2;
     }
     strip122_setting setting = strip122_usual(SIDE, SIDE);
+    int few = 1;
     for (setting.segment = 64; setting.segment <= 1024; setting.segment *= 4) {
-        measure("rows", rows, &setting);
-        measure("encode", encode, &setting);
-        measure("decode", decode, &setting);
-        measure("look", look, &setting);
-        measure("rects", rects, &setting);
-        measure("info", info, &setting);
+        few &= measure("rows", rows, &setting);
+        few &= measure("encode", encode, &setting);
+        few &= measure("decode", decode, &setting);
+        few &= measure("look", look, &setting);
+        few &= measure("rects", rects, &setting);
+        few &= measure("info", info, &setting);
     }
-    return 0;
+    return few ? 0 : 1;
 }

@@ -374,6 +374,8 @@ class Tries:
         """A pixel or an octet too many: the program and the library refuse alike, before there is a room and with one."""
         pixels = self.heap.decode(apid, packets, 0, 0).report
         pixels = pixels.width * pixels.written - 1
+        if pixels < 0:
+            return  # no packet begins a segment, so no header reports a size
         for words, wish, answer, note in (
             ([f"pixels={pixels}"], strip122.usual_wish(apid, pixels=pixels), strip122.TOO_MANY_PIXELS, "too many pixels, {pixels}"),
             ([f"octets={len(packets)}"], strip122.usual_wish(apid, octets=len(packets)), strip122.LONG_INPUT, "input too long"),
@@ -389,10 +391,10 @@ class Tries:
         self.count("caps alike")
 
 
-# octets of the table of 4,096 images, as c/arena.h has them
-INFO_TABLE = 4096 * 88
+# octets of the table of 4,096 images, and of its buckets
+INFO_TABLE = 4096 * (88 + 2 + 2)
 # What is read ahead, and the tables of words.
-READER = 131084 + 49152
+READER = 131084 + 52448 + 4096
 
 
 def lost(random, packets):

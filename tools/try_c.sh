@@ -1,7 +1,8 @@
 #!/bin/sh
 # Builds the library for C, links it, and compares its answers with those of the program: the header by itself, an example in C with fixed
 # memory, one that encodes row by row and one that reads packets, these also under valgrind if it is there, one in Rust if rustc is there,
-# and random settings, row by row and whole, by Python's ctypes. It prints how much of a painted stack each call has written.
+# and random settings, row by row and whole, by Python's ctypes. It prints how much of a painted stack each call has written, and fails if that
+# is more than 65,536 octets.
 #
 #   tools/try_c.sh [SETTINGS] [SEED]
 #

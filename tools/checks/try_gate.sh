@@ -1,5 +1,5 @@
 #!/bin/sh
-# Checks tools/clauses.py, tools/edits.py, tools/checks/layers.py and tools/checks/lines.py on a small repository: what they print, and their status, after each change of its files.
+# Checks tools/clauses.py, tools/edits.py, and layers.py, lines.py and parameters.py of tools/checks on a small repository: what they print, and their status, after each change of its files.
 . "$(dirname "$0")/../common.sh"
 need python3
 make_folder
@@ -37,6 +37,10 @@ layers() {
 
 lines() {
     python3 "$top/tools/checks/lines.py" "$kept"
+}
+
+parameters() {
+    python3 "$top/tools/checks/parameters.py" "$kept"
 }
 
 whole() {
@@ -156,6 +160,12 @@ printf -- '-- %158d\n' 1 >"$kept/crates/two/src/long.antt"
 expect 1 'long.antt:1: 161 characters' lines
 seq 800 >"$kept/crates/two/src/long.antt"
 expect 1 'long.antt: 800 lines' lines
+printf 'fn five<T: Fn(u8) -> u8>(&self, a: (u8, u8), b: [u8; 2], c: fn(u8, u8) -> u8, d: T) {}\n' >"$source"
+expect 0 '1 functions, 0 with more than 5 parameters' parameters
+printf 'fn six(\n    a: u8,\n    b: u8,\n    c: u8,\n    d: u8,\n    e: u8,\n    f: u8,\n) {}\n' >>"$source"
+expect 1 'pair.rt:2: six has 6 parameters' parameters
+sed -i 's/^fn six/pub extern "C" fn six/' "$source"
+expect 0 '2 functions, 0 with more than 5 parameters' parameters
 
 echo "$count runs of the gate's tools, $([ $wrong = 0 ] && echo all as expected || echo some WRONG)"
 exit $wrong

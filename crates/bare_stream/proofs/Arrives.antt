@@ -169,12 +169,12 @@ module _ (s : Setting) (bare : IsBare s) (before : Option SegmentHead) (p q : Ou
       let same = texts_within (take i got) short in
       omega (arith, r.1, ap length same))
 
-  part_asks : {m : Outside} (got : List ℕ) → Exchange q m got [] [] (InRow s.depth s.signed s.width got) →
-      Exchange p m (arrived.took ++ got) arrived.gave [] (AsksInRange s (arrived.took ++ got))
-  part_asks got read = row_asked s k arrived.took got whole in_range_so_far arrived.asks read
-
   row_below : k * row_length s + row_length s ≤ most_length s
   row_below = grind (arith, nat_tests, tall, mul-le-mul_right)
+
+  part_asks : {m : Outside} (got : List ℕ) → Exchange q m got [] [] (InRow s.depth s.signed s.width got) →
+      Exchange p m (arrived.took ++ got) arrived.gave [] (AsksInRange s (arrived.took ++ got))
+  part_asks got read = row_asked s k arrived.took got whole row_below in_range_so_far arrived.asks read
 
   -- the row wasn't read to its end
   pub row_lacks : {T : Type 0} {m : Outside} (row : ℕ) (a b : List ℤ) (fault : RowFault) → row ≡ k →

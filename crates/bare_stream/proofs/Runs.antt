@@ -187,6 +187,9 @@ module _ (s : Setting) (is_bare : IsBare s) (p q : Outside) (w : Work) (all : Al
   took_longest : length all.took ≡ most_length s
   took_longest = longest s is_bare all.took all.raster.whole
 
+  within : length all.took ≤ most_length s
+  within = let whole = took_longest in omega (arith, whole)
+
   asked_end : {d : Outside} {more : List ℕ} → Exchange q d more [] [] AtStart → Exchange p d (all.took ++ more) (bare s (image_of s all.took)) []
       (GivenBy (texts_for s) (all.took ++ more))
   asked_end {more = more} read = since_prompt (texts_for s) all.since read (λ i j most h. let e = given_all (take i more) in omega (arith, h.1, ap length e))
@@ -196,7 +199,7 @@ module _ (s : Setting) (is_bare : IsBare s) (p q : Outside) (w : Work) (all : Al
 
   none_asks : {d : Outside} → Exchange q d [] [] [] AtStart → Exchange p d all.took (bare s (image_of s all.took)) [] (AsksInRange s all.took)
   none_asks {d = d} read = subst (λ t. Exchange p d t (bare s (image_of s all.took)) [] (AsksInRange s t)) same_took
-      (end_asked s all.took all.raster.in_range all.asks read)
+      (end_asked s all.took within all.raster.in_range all.asks read)
 
   pub run_done : {d : Outside} (done : EncodeDone) → done.segments ≡ segments_of s → done.packets ≡ 0 → done.octets ≡ w.at.used → SawEnd q d true →
       EncodesBare s p d (Ok done)
@@ -216,7 +219,7 @@ module _ (s : Setting) (is_bare : IsBare s) (p q : Outside) (w : Work) (all : Al
         took = all.took ++ end.0 ∷ [];
         gave = bare s (image_of s all.took);
         since = asked_end end.1;
-        asks = end_asked s all.took all.raster.in_range all.asks end.1;
+        asks = end_asked s all.took within all.raster.in_range all.asks end.1;
         answer = (
           length-append all.took (end.0 ∷ []) ∙ ap (λ n. n + 1) took_longest,
           subst (AllInRange s) (sym prefix) all.raster.in_range,
@@ -233,7 +236,7 @@ module _ (s : Setting) (is_bare : IsBare s) (p q : Outside) (w : Work) (all : Al
     asks = none_asks failed.since;
     answer = (
       rose_since all.since.faults.reads failed.rose,
-      (let m = took_longest in omega (arith, m)),
+      within,
       all.raster.in_range,
       sym (subst (λ t. texts_for s t ≡ bare s (image_of s all.took)) same_took (given_all [])),
     );

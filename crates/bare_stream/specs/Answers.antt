@@ -40,7 +40,7 @@ BareAnswers s old new took gave (Err WriteFault) =
     Rose old.write_faults new.write_faults × ((k : ℕ) × TookRows s took k × IsPrefixOfEach s took k gave)
 
 -- One run over a port: what it took and gave, when, and why it ended so. At each read call the texts of the segments that were settled by
--- then are given, and nothing else, and all whole pixels taken by then are in range.
+-- then are given, and nothing else. At most the octets of the raster are taken by then, and all whole pixels of them are in range.
 pub record EncodesBare (s : Setting) (old new : Outside) (result : Result EncodeDone EncodeFault) : Type 0 where
   pub took : List ℕ
   pub gave : List ℕ

@@ -26,7 +26,7 @@ rows_of s = rows_from s.first s
 abbrev pub read_by : DecodeWish → List ℕ → Read
 read_by wish octets = stream_in wish.book wish.pixels octets
 
--- these octets decide no answer, and exactly these rows are determined by their segments
+-- these octets do not decide the answer, and exactly these rows are determined by their segments
 pub record IsOpen (wish : DecodeWish) (octets given : List ℕ) : Type 0 where
   pub at_end : Result Geometry BareFault
   pub needs : (read_by wish octets).ending ≡ needs_more at_end
@@ -38,8 +38,8 @@ pub record TakesNone (wish : DecodeWish) (took gave : List ℕ) (i j : ℕ) : Ty
   pub some : ℕ
   pub rows : take j gave ≡ rows_of (read_by wish (take some took)).segments
 
--- Each read call that takes octets does so while those before decide no answer, and are fewer than may be taken. Before it exactly the rows
--- are given that the segments so far determine.
+-- Each read call that takes octets does so while those before do not decide the answer, and are fewer than may be taken. Before it exactly
+-- the rows are given that the segments so far determine.
 abbrev pub AsksBare : DecodeWish → (old : Outside) → (took gave : List ℕ) → ℕ → ℕ → Type 0
 AsksBare wish old took gave i j = (i < wish.octets) × IfKnown old (λ input. IsOpen wish (take i took) (take j gave) ⊎ TakesNone wish took gave i j)
 
@@ -51,8 +51,8 @@ pub record AnswersBy (wish : DecodeWish) (input took gave : List ℕ) (result : 
   pub decided : octets_for wish input ≤ length took
   pub rows : gave ≡ rows_of (reading wish input).segments
 
--- After a read fault exactly those rows are given that the octets so far determine, which decide no answer; after a write fault a prefix of
--- those that some of them determine.
+-- After a read fault the octets so far do not decide the answer, and exactly the rows are given that they determine; after a write fault a
+-- prefix of the rows that some of them determine.
 abbrev pub Answers : DecodeWish → (input took gave : List ℕ) → Result Geometry BareFault → Type 0
 Answers wish input took gave (Err ReadFault) = IsOpen wish took gave
 Answers wish input took gave (Err WriteFault) = (some : ℕ) × (n : ℕ) × (gave ≡ take n (rows_of (read_by wish (take some took)).segments))

@@ -22,7 +22,7 @@ use Rattle.bare_stream.specs.Reads.{HasLaws, SegmentsRead, Reaches, HasRead, Sho
 
 -- the book with which a walk reads items
 abbrev pub book_in : Walk → Book
-book_in w = w.room.reader.reader.tables.words.book
+book_in w = w.room.reader.reader.tables.value.words.book
 
 -- what a walk holds has the sizes of its stream: the next segment is in the tallest image
 pub record IsSound (w : Walk) : Type 0 where

@@ -17,8 +17,9 @@ use strip_coder::{EncodeDone, EncodeFault, ImageAt, Work};
 
 /// Takes an image's raster and writes its bare stream, each text as soon as the rows so far settle its segment (docs/formats.md, "Raster
 /// and made image" and "Bare texts"). It reads a row only after all texts that the whole rows before settle are written, and reads the end
-/// of the input after all texts are written. It makes no read call after a pixel out of range. The texts have the codes of the setting's
-/// book. It takes no memory. The work was made for an equal setting, and can be used again after any return. In the result, `packets` is 0.
+/// of the input after all texts are written. It makes no read call after a pixel out of range or an octet past the raster. The texts have
+/// the codes of the setting's book. It takes no memory. The work was made for an equal setting, and can be used again after any return. In
+/// the result, `packets` is 0.
 ///
 /// # Errors
 ///

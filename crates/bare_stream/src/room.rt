@@ -32,7 +32,7 @@ impl Room {
         requires count { count ≤ 1048575 }
         requires book { IsTrue (is_book_sound book.now) }
         ensures room { IfOk result (λ room. IsRoom count (vec_len room.blocks) (vec_len room.marks)) }
-        ensures book { IfOk result (λ room. room.reader.reader.tables.words.book ≡ book.now) }
+        ensures book { IfOk result (λ room. room.reader.reader.tables.value.words.book ≡ book.now) }
     {
         let count = count as usize;
         let blocks = vec![in alloc; 0; 64 * count]?;
@@ -74,7 +74,7 @@ pub fn read_items<X: Port>(
     requires size { read.now.size ≤ 20 }
     requires blocks { 64 * read.now.head.blocks ≤ length blocks.old }
     requires marks { read.now.head.blocks ≤ length marks.old }
-    ensures items { DecodesItems (source_of X.outside) reader.now.reader.tables.words.book read.now.head read.now.size result input.old input.new
+    ensures items { DecodesItems (source_of X.outside) reader.now.reader.tables.value.words.book read.now.head read.now.size result input.old input.new
         (take (64 * read.now.head.blocks) blocks.new) }
     ensures sizes { (length blocks.new ≡ length blocks.old) × (length marks.new ≡ length marks.old) }
 {

@@ -39,15 +39,14 @@ fn write_segment<X: Port>(
         (X.outside port.new) }
     ensures most { blocks.new.most ≡ blocks.old.most }
 {
-    let (depth_dc, depth_ac) = blocks.depths();
+    let depths = blocks.depths();
     let plan = Plan::new(setting, setting.rows);
     let head = make_head(
         &plan,
         place.index,
         setting.limit,
         blocks.len() as u32,
-        depth_dc,
-        depth_ac,
+        depths,
     );
     let Ok(octets) = write_text(port, &place.writer, &head, blocks) else {
         return Err(Failed);

@@ -30,7 +30,7 @@ impl BareReader {
     /// sound. The only error is a lack of memory.
     pub fn new(alloc: Global, book: &Book) -> Result<BareReader, AllocError>
         requires sound { IsTrue (is_book_sound book.now) }
-        ensures book { IfOk result (λ reader. reader.reader.tables.words.book ≡ book.now) }
+        ensures book { IfOk result (λ reader. reader.reader.tables.value.words.book ≡ book.now) }
     {
         let reader = SegmentReader::new(alloc, book)?;
         Ok(BareReader { reader })
@@ -65,7 +65,7 @@ impl BareHead {
         requires size { self.now.size ≤ 20 }
         requires count { length blocks.old ≡ 64 * length marks.old }
         requires marks { length marks.old ≡ self.now.head.blocks }
-        ensures decodes { DecodesItems I.source reader.now.reader.tables.words.book self.now.head self.now.size result input.old input.new blocks.new }
+        ensures decodes { DecodesItems I.source reader.now.reader.tables.value.words.book self.now.head self.now.size result input.old input.new blocks.new }
         ensures sizes { (length blocks.new ≡ length blocks.old) × (length marks.new ≡ length marks.old) }
     {
         reader

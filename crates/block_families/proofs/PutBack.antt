@@ -9,14 +9,14 @@ use Rattle.wave_defs.specs.Line.{floor_div}
 use Rattle.block_families.specs.Places.{place_in, IsWithin, AreWeighted, Scatters}
 use Rattle.block_families.specs.Scattering.{in_square, SetsSquare, PutsBack}
 use Rattle.block_families.proofs.Dividing.{divided}
-use Rattle.block_families.proofs.Passing.{shift_small}
+use Rattle.base_122.proofs.ShiftLaws.{shift_low}
 use Rattle.block_families.proofs.Placing.{one_place, place_within}
 
 -- the number at a position without its weight
 pub part_of : (numbers : List ℤ) (weights : List ℕ) (i s : ℕ) (z : ℤ) (p : AreWeighted numbers weights) → i < 64 → All IsShift weights →
     s ≡ slice_index weights (place_of i).band →
     z ≡ floor_div (get_or numbers i (pos 0)) (2 ^ s) → z ≡ p.part i
-part_of numbers weights i s z p below shifts es e = grind (arith, nat_tests, slice_index, get_or, pos, divided, shift_small)
+part_of numbers weights i s z p below shifts es e = grind (arith, nat_tests, slice_index, get_or, pos, divided, shift_low)
 
 pub part_small : (numbers : List ℤ) (weights : List ℕ) (i : ℕ) (z : ℤ) (p : AreWeighted numbers weights) → i < 64 → z ≡ p.part i → unsigned_abs z ≤ 2 ^ 27
 part_small numbers weights i z p below e = rw e (p.small i below)

@@ -20,22 +20,31 @@ fn times(number: i32, shift: u8) -> i32
     number * (1 << shift)
 }
 
+// Where a square is in two rows, the weight of its band, and where its numbers go.
+#[derive(Clone, Copy)]
+struct SquarePlace {
+    start: usize,
+    shift: u8,
+    at: usize,
+}
+
 // Puts the four numbers of a square of two rows and two columns, each times its weight.
-fn put_square(upper: &[i32], lower: &[i32], start: usize, shift: u8, at: usize, into: &mut [i32])
-    requires upper { start + 2 ≤ length upper.now }
-    requires lower { start + 2 ≤ length lower.now }
-    requires shift { shift ≤ 3 }
-    requires room { at + 4 ≤ length into.old }
-    requires fits { (k : ℕ) → k < 4 → unsigned_abs (square upper.now lower.now start k *ℤ pos (2 ^ shift)) < 2 ^ 31 }
-    ensures { Fills (λ i. square upper.now lower.now start (i - at) *ℤ pos (2 ^ shift)) at 4 into.old into.new }
+fn put_square(upper: &[i32], lower: &[i32], place: SquarePlace, into: &mut [i32])
+    requires upper { place.start + 2 ≤ length upper.now }
+    requires lower { place.start + 2 ≤ length lower.now }
+    requires shift { place.shift ≤ 3 }
+    requires room { place.at + 4 ≤ length into.old }
+    requires fits { (k : ℕ) → k < 4 → unsigned_abs (square upper.now lower.now place.start k *ℤ pos (2 ^ place.shift)) < 2 ^ 31 }
+    ensures { Fills (λ i. square upper.now lower.now place.start (i - place.at) *ℤ pos (2 ^ place.shift)) place.at 4 into.old into.new }
 {
+    let SquarePlace { start, shift, at } = place;
     into[at] = times(upper[start], shift);
     into[at + 1] = times(upper[start + 1], shift);
     into[at + 2] = times(lower[start], shift);
     into[at + 3] = times(lower[start + 1], shift);
 }
 
-// Where the squares of some blocks are in two rows, and where they go in a block.
+// Where the squares of some blocks are in two rows, the weight of their band, and where their numbers go in a block.
 #[derive(Clone, Copy)]
 struct Squares {
     start: usize,
@@ -57,15 +66,12 @@ fn put_squares(upper: &[i32], lower: &[i32], squares: Squares, into: &mut [i32])
         (length into.old / 64) into.old into.new }
 {
     for k in 0..into.len() / 64 {
-        let start = squares.start + squares.step * k;
-        put_square(
-            upper,
-            lower,
-            start,
-            squares.shift,
-            64 * k + squares.at,
-            into,
-        );
+        let place = SquarePlace {
+            start: squares.start + squares.step * k,
+            shift: squares.shift,
+            at: 64 * k + squares.at,
+        };
+        put_square(upper, lower, place, into);
     }
 }
 

@@ -35,23 +35,23 @@ in_group first w s b t c low high other = elim (cases_lt s t) [
   ]
 ]
 
-within_group : (count r slot : ℕ) → r < count → slot < 32 → place count r slot + 1 < 15360 * (r / 240) + 15360
+within_group : (count r slot : ℕ) → r < count → slot < 32 → place count r slot + 1 < 4096 * (r / 64) + 4096
 within_group count r slot within few =
-    let most : width count r * slot ≤ 240 * 31 = grind arith in
-    omega (arith, most, mod_below r 240 (omega arith))
+    let most : width count r * slot ≤ 64 * 31 = grind arith in
+    omega (arith, most, mod_below r 64 (omega arith))
 
-low_place : (count r : ℕ) → r < count → r % 240 < width count r
-low_place count r within = omega (arith, div-add-mod' r 240, mod_below r 240 (omega arith))
+low_place : (count r : ℕ) → r < count → r % 64 < width count r
+low_place count r within = omega (arith, div-add-mod' r 64, mod_below r 64 (omega arith))
 
 pub places_apart : (count q s r t : ℕ) → q < count → r < count → s < 32 → t < 32 → (s ≡ t → q ≡ r → ⊥) → Apart (place count q s) (place count r t)
-places_apart count q s r t in_q in_r few_s few_t other = elim (cases_eq (q / 240) (r / 240)) [
+places_apart count q s r t in_q in_r few_s few_t other = elim (cases_eq (q / 64) (r / 64)) [
   | inl same ↦
-      let w : width count r ≡ width count q = ap (λ g. min 240 (count - 240 * g)) (sym same) in
-      let low : r % 240 < width count q = subst (λ k. r % 240 < k) w (low_place count r in_r) in
-      let apart = in_group (15360 * (q / 240)) (width count q) s (q % 240) t (r % 240) (low_place count q in_q) low
-      (λ e f. other e (omega (arith, same, f, div-add-mod' q 240, div-add-mod' r 240))) in
-      subst (λ g. Apart (place count q s) (15360 * g + 2 * (min 240 (count - 240 * g) * t + r % 240))) same apart
-  | inr differ ↦ elim (cases_lt (q / 240) (r / 240)) [
+      let w : width count r ≡ width count q = ap (λ g. min 64 (count - 64 * g)) (sym same) in
+      let low : r % 64 < width count q = subst (λ k. r % 64 < k) w (low_place count r in_r) in
+      let apart = in_group (4096 * (q / 64)) (width count q) s (q % 64) t (r % 64) (low_place count q in_q) low
+      (λ e f. other e (omega (arith, same, f, div-add-mod' q 64, div-add-mod' r 64))) in
+      subst (λ g. Apart (place count q s) (4096 * g + 2 * (min 64 (count - 64 * g) * t + r % 64))) same apart
+  | inr differ ↦ elim (cases_lt (q / 64) (r / 64)) [
     | inl lt ↦ inl (omega (arith, lt, within_group count q s in_q few_s))
     | inr ge ↦ inr (omega (arith, ge, differ, within_group count r t in_r few_t))
   ]

@@ -1,4 +1,4 @@
--- The numbers of a segment as masks, in the place of the numbers. A group is 240 blocks, and the last one has those that are left.
+-- The numbers of a segment as masks, in the place of the numbers. A group is 64 blocks, and the last one has those that are left.
 -- It has 32 slots, one after another, and a slot has a mask of 64 bits for each block of the group: slots 0 to 26 say which numbers
 -- have the bit of weight 2^slot in their magnitude, slot 28 which are negative, slot 29 which are significant above the plane that
 -- is coded next, and slot 30 has the DC itself. No number depends on slots 27 and 31. (This project's own.)
@@ -22,11 +22,11 @@ dc_slot = 30
 
 -- the number of blocks in the group of block r, of `count` blocks
 abbrev pub width : (count r : ℕ) → ℕ
-width count r = min 240 (count - 240 * (r / 240))
+width count r = min 64 (count - 64 * (r / 64))
 
 -- the place of a mask's low half; its high half is in the next place
 abbrev pub place : (count r slot : ℕ) → ℕ
-place count r slot = 15360 * (r / 240) + 2 * (width count r * slot + r % 240)
+place count r slot = 4096 * (r / 64) + 2 * (width count r * slot + r % 64)
 
 -- a column has the places of the masks of its block
 pub record IsColumn (cells : List ℤ) (column : Column) : Type 0 where

@@ -29,5 +29,5 @@ pub use picks::{pick, spread, spread_first};
 pub use plan::{CodedPlane, PlanePlan};
 pub use segment_masks::SegmentMasks;
 pub use sets::{Sets, fours_of, is_any_of, quads_of};
-pub use slices::{ABOVE, Column, DC, GROUP, MINUS, mask_of, put_mask, settle_above};
+pub use slices::{ABOVE, Column, DC, GROUP, MINUS, RAW, mask_of, put_mask, settle_above};
 pub use walk::{first_in, without};

@@ -5,6 +5,9 @@ ghost use Rattle.block_masks.specs.Slices.{place, mask_in, IsColumn, PutsMask, S
 
 use crate::mask_sets::either;
 
+/// The slot of the masks that say which positions have their bit of the plane that is read as a raw bit.
+pub const RAW: u8 = 27;
+
 /// The slot of the masks that say which numbers are negative.
 pub const MINUS: u8 = 28;
 
@@ -14,9 +17,9 @@ pub const ABOVE: u8 = 29;
 /// The slot that has the DC of each block.
 pub const DC: u8 = 30;
 
-/// The number of blocks of a group, whose masks of a slot are side by side. Slots are then 30 lines of a cache apart, so that the
-/// masks of a block are in different sets of it, and the masks of a slot are half a page.
-pub const GROUP: usize = 240;
+/// The number of blocks of a group, whose masks of a slot are side by side. The masks of a group are then four pages: they fit a small
+/// cache beside a copy of them, and those of a slot are eight lines of it.
+pub const GROUP: usize = 64;
 
 /// Where the masks of a block are in the place of its numbers.
 #[derive(Clone, Copy)]

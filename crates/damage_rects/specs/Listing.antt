@@ -48,7 +48,7 @@ RectAnswers wish old new took gave (Err WriteFault) = Rose old.write_faults new.
 RectAnswers wish old new took gave (Err Memory) = gave ≡ []
 
 -- One run over a port: what it took and gave, when, and why it ended so. However it ends, it takes at most the number of octets in the
--- wish. At each read call the octets that were taken by then decide no answer, and nothing is given.
+-- wish. At each read call the octets that were taken by then do not decide the answer, and nothing is given.
 pub record ListsRects (wish : DecodeWish) (old new : Outside) (result : Result DecodeDone DecodeFault) : Type 0 where
   pub took : List ℕ
   pub gave : List ℕ

@@ -1,7 +1,8 @@
 // Missing block rows, and the ranges of rows that they damage.
-ghost use Rattle.std.specs.Prelude.{◌≡◌, ◌≤◌, ◌<◌, ◌-◌, ◌+◌, true};
+ghost use Rattle.std.specs.Prelude.{◌≡◌, ◌≤◌, ◌<◌, ◌-◌, ◌+◌, true, IfOk};
 ghost use Rattle.base_122.specs.Sizes.{block_count};
 
+use std::alloc::{AllocError, Global};
 use std::marker::Model;
 use stream_defs::RowRange;
 
@@ -13,11 +14,11 @@ const BLOCK_ROWS: u32 = 32_768;
 
 /// The missing block rows of an image, and the ranges of rows that they damage (docs/formats.md, "Picture and damage").
 ///
-/// It is a table of fixed size: one bit for each block row that an image has at most, 32,768. No call takes memory.
+/// It is a table of one bit for each block row that an image has at most, 32,768, in memory that `new` takes. No other call takes memory.
 #[derive(Drop)]
 pub struct Damage {
     rows: u32,
-    words: [u64; WORDS],
+    words: Vec<u64>,
 }
 
 impl Model for Damage {
@@ -37,16 +38,14 @@ impl Damage {
     ghost use Rattle.stream_defs.specs.Damage.{is_damaged, begins_range, run_length};
     ghost use Rattle.damage_rows.specs.Table.{is_missing};
 
-    /// Returns the table of an image of `rows` rows, 17 to 262,144, of which no block row is missing.
-    pub fn new(rows: u32) -> Damage
+    /// Returns the table of an image of `rows` rows, 17 to 262,144, of which no block row is missing. The only error is a lack of memory.
+    pub fn new(alloc: Global, rows: u32) -> Result<Damage, AllocError>
         requires least { 17 ≤ rows }
         requires most { rows ≤ 262144 }
-        ensures { result ≡ unmarked rows }
+        ensures { IfOk result (λ damage. damage ≡ unmarked rows) }
     {
-        Damage {
-            rows,
-            words: [0; WORDS],
-        }
+        let words = vec![in alloc; 0; WORDS]?;
+        Ok(Damage { rows, words })
     }
 
     /// Marks a block row of the image as missing; it may have been missing before.

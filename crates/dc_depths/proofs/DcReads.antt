@@ -1,8 +1,8 @@
 -- The DC part, as it is read.
 use Rattle.std.specs.Prelude.{◌==◌}
-use Rattle.std.proofs.Common.{◌≡◌, ℕ, zero, suc, ◌+◌, ◌-◌, ◌*◌, ◌^◌, ◌<◌, ◌≤◌, ℤ, pos, ◌+ℤ◌, ◌*ℤ◌, neg_ℤ, List, length, Bool, true, false, cond, refl, sym}
+use Rattle.std.proofs.Common.{◌≡◌, ℕ, zero, suc, ◌+◌, ◌-◌, ◌*◌, ◌^◌, ◌<◌, ◌≤◌, ℤ, pos, ◌+ℤ◌, ◌*ℤ◌, neg_ℤ, List, [], ◌++◌, length, Bool, true, false, refl, sym}
 use Rattle.std.proofs.Common.{ap, ◌∙◌, arith, inl, inr, length-set, unsigned_abs, Some, None, Ok, Err, set, Result, nat_lt, get_or, mul-le-mul_right}
-use Rattle.std.proofs.Common.{pow-add, pow_mono}
+use Rattle.std.proofs.Common.{cond, pow-add, pow_mono}
 use Rattle.std.proofs.lemmas.Int.{ints, unsigned_abs-mul}
 use Rattle.std.proofs.lemmas.Bool.{cases_eq}
 use Rattle.std.proofs.lemmas.Bool.Decides.{nat_tests}
@@ -22,25 +22,35 @@ use Rattle.number_defs.specs.Cells.{cell_at}
 use Rattle.number_defs.specs.DcPart.{dc_q, dc_bits, dc_planes, dc_kind}
 use Rattle.number_defs.proofs.Heights.{negatives_fit}
 use Rattle.item_defs.specs.Scripts.{Script, done, ask, in_turn, around, bit_form}
-use Rattle.bit_pipe.specs.ScriptSources.{got, ends, refuses, fails, ReadsAs, by_fault, by_part}
+use Rattle.item_defs.proofs.ScriptYields.{yields_any, whole_read}
+use Rattle.bit_pipe.specs.ScriptSources.{got, ends, refuses, fails, Says, ReadsAs, by_fault, by_part}
 use Rattle.bit_pipe.proofs.ScriptReading.{read_done, read_then, read_cut, read_fault, ask_got, ask_ended, ask_failed, Leaves, leaves_all, read_in}
 use Rattle.number_defs.specs.NumberScript.{numbers_script}
-use Rattle.number_defs.specs.DcScript.{with_dc, dc_bits_script, dcs_of_heights, high_script, dc_planes_script, dc_script}
-use Rattle.gaggle_codes.specs.Cells.{TakesNumbers, by_numbers}
+use Rattle.number_defs.specs.DcScript.{with_dc, dc_script}
+use Rattle.number_defs.specs.DcLows.{DcGiven, no_dcs, with_dc_given, dc_bits_given, dcs_given, high_given, dc_planes_given, dc_given}
+use Rattle.number_defs.specs.ScriptLaws.{AreCounted, AreLow}
+use Rattle.number_defs.proofs.NumberLaws.{number_laws}
+use Rattle.number_defs.proofs.DcsGiven.{dcs_are_given}
+use Rattle.gaggle_codes.specs.Cells.{TakesNumbers, by_numbers, IsCounted}
 use Rattle.dc_depths.specs.Dcs.{block_count, SetsDcs, TakesDcs, HasRoom, GrowsBy}
+use Rattle.dc_depths.specs.declared.reach.DcReach.{DcReach}
+use Rattle.dc_depths.specs.Reach.{AreGivenTo, all_to, by_reach, IsAllTo, IsReached, ReachesDcs}
 use Rattle.dc_depths.proofs.DcCells.{dcs_set}
+use Rattle.dc_depths.proofs.Lows.{reach_at, one_low, high_lows, next_plane}
 
 -- ---- a bit of each
 
 -- the bit of a block
-abbrev pub bit_of : ℤ → ℕ → (ℕ → ℤ) → Script (ℕ → ℤ) (ℕ → ℤ)
-bit_of weight r dcs = ask dcs bit_form (λ b. done (with_dc dcs r (dcs r +ℤ (pos b *ℤ weight))))
+abbrev pub bit_of : ℤ → (plane : ℕ) → ℕ → DcGiven → Script DcGiven DcGiven
+bit_of weight plane r g = ask g bit_form (λ b. done (with_dc_given g r (g.dcs r +ℤ (pos b *ℤ weight)) plane))
 
 -- the bits of the first blocks were read
-pub record BitsSoFar {I : Type 0} (k : SourceOf I) (weight : ℤ) (count i : ℕ) (dcs : ℕ → ℤ) (old new : SourceState I) (first now : List ℤ) : Type 0 where
-  pub given : ℕ → ℤ
-  pub left : Leaves k (dc_bits_script weight count dcs) (in_turn (bit_of weight) i (count - i) given) old new
-  pub cells : SetsDcs given first now
+pub record BitsSoFar {I : Type 0} (k : SourceOf I) (weight : ℤ) (q plane count i : ℕ) (before : DcGiven) (old new : SourceState I) (first now : List ℤ) :
+    Type 0 where
+  pub given : DcGiven
+  pub left : Leaves k (dc_bits_given weight plane count before) (in_turn (bit_of weight plane) i (count - i) given) old new
+  pub cells : SetsDcs given.dcs first now
+  pub lows : AreGivenTo q count (reach_at plane i) given.lows
 
 here_there : (dcs : ℕ → ℤ) (i : ℕ) (z : ℤ) → with_dc dcs i z i ≡ z
 here_there dcs i z = let t : (i == i) ≡ true = grind (arith, nat_tests) in rw t refl
@@ -48,49 +58,68 @@ here_there dcs i z = let t : (i == i) ≡ true = grind (arith, nat_tests) in rw 
 not_there : (dcs : ℕ → ℤ) (i : ℕ) (z : ℤ) (r : ℕ) → (r ≡ i → ⊥) → with_dc dcs i z r ≡ dcs r
 not_there dcs i z r ne = let t : (r == i) ≡ false = grind (arith, nat_tests) in rw t refl
 
-module _ {I : Type 0} {k : SourceOf I} (weight : ℤ) (count : ℕ) (dcs : ℕ → ℤ) where
-  pub bits_start : (a : SourceState I) (first now : List ℤ) → SetsDcs dcs first now → BitsSoFar k weight count 0 dcs a a first now
-  bits_start a first now s = let e : count - 0 ≡ count =
-      omega arith in record { given = dcs; left = rw e (leaves_all (dc_bits_script weight count dcs) a); cells = s }
+module _ {I : Type 0} {k : SourceOf I} (weight : ℤ) (q plane : ℕ) (before : DcGiven) {first : List ℤ} where
+  pub bits_start : (a : SourceState I) (now : List ℤ) → SetsDcs before.dcs first now → AreGivenTo q (block_count first) (all_to plane 0) before.lows →
+      BitsSoFar k weight q plane (block_count first) 0 before a a first now
+  bits_start a now s lows =
+      let e : block_count first - 0 ≡ block_count first = omega arith in
+      record { given = before; left = rw e (leaves_all (dc_bits_given weight plane (block_count first) before) a); cells = s; lows = lows }
 
-  module _ (i : ℕ) (lt : i < count) {a b : SourceState I} {first now : List ℤ} (s : BitsSoFar k weight count i dcs a b first now) where
-    left_is : count - i ≡ suc (count - suc i)
+  module _ (i : ℕ) (lt : i < block_count first) {a b : SourceState I} {now : List ℤ}
+      (s : BitsSoFar k weight q plane (block_count first) i before a b first now) where
+    left_is : block_count first - i ≡ suc (block_count first - suc i)
     left_is = omega (arith, lt)
 
-    abbrev next : ℕ → Script (ℕ → ℤ) (ℕ → ℤ)
-    next n = in_turn (bit_of weight) (suc i) (count - suc i) (with_dc s.given i (s.given i +ℤ (pos n *ℤ weight)))
+    abbrev dc_with : ℕ → ℤ
+    dc_with n = s.given.dcs i +ℤ (pos n *ℤ weight)
 
-    pub bits_ended : {c : SourceState I} → EndsItem k (fixed 1) (Ok None) b c → TakesDcs k (dc_bits_script weight count dcs) (Ok Ended) a c first now
-    bits_ended {c} p = record { given = s.given; read = s.left.then (ends s.given) c (rw left_is (ask_ended s.given bit_form next p)); cells = s.cells }
+    abbrev next : ℕ → Script DcGiven DcGiven
+    next n = in_turn (bit_of weight plane) (suc i) (block_count first - suc i) (with_dc_given s.given i (dc_with n) plane)
 
-    pub bits_failed : {c : SourceState I} (e : InFault) → EndsItem k (fixed 1) (Err e) b c → TakesDcs k (dc_bits_script weight count dcs) (Err (of_input e)) a c
-        first now
+    pub bits_ended : {c : SourceState I} (n : ℕ) → n ≡ i → EndsItem k (fixed 1) (Ok None) b c →
+        ReachesDcs k (dc_bits_given weight plane (block_count first) before) q plane (Ok (Ended, reach_at plane n)) a c first now
+    bits_ended {c} n is p = record {
+      given = s.given;
+      read = s.left.then (ends s.given) c (rw left_is (ask_ended s.given bit_form next p));
+      cells = s.cells;
+      reached = (rw is s.lows, tt);
+    }
+
+    pub bits_failed : {c : SourceState I} (e : InFault) → EndsItem k (fixed 1) (Err e) b c →
+        ReachesDcs k (dc_bits_given weight plane (block_count first) before) q plane (Err (of_input e)) a c first now
     bits_failed {c} e p = record {
       given = s.given;
-      read =
-          s.left.then (by_fault (of_input e) s.given) c (rw left_is (ask_failed s.given bit_form next e p));
+      read = s.left.then (by_fault (of_input e) s.given) c (rw left_is (ask_failed s.given bit_form next e p));
       cells = s.cells;
+      reached = tt;
     }
 
     pub bits_more : {c : SourceState I} (j n : ℕ) (z : ℤ) → j ≡ suc i → i * 64 < length first → z ≡ pos n *ℤ weight → EndsItem k (fixed 1) (Ok (Some n)) b c →
-        BitsSoFar k weight count j dcs a c first (set now (i * 64) (cell_at 64 now i +ℤ z))
+        BitsSoFar k weight q plane (block_count first) j before a c first (set now (i * 64) (cell_at 64 now i +ℤ z))
     bits_more {c} j n z h within e p = rw h (record {
-      given = with_dc s.given i (s.given i +ℤ (pos n *ℤ weight));
-      left = record { then = λ f last q. s.left.then f last (rw left_is (ask_got s.given bit_form next n f tt p refl q)) };
-      cells = dcs_set s.given (with_dc s.given i (s.given i +ℤ (pos n *ℤ weight))) i (cell_at 64 now i +ℤ z) within
-          (here_there s.given i (s.given i +ℤ (pos n *ℤ weight)) ∙ ap (λ x. x +ℤ (pos n *ℤ weight)) (sym (s.cells.dcs i within)) ∙
-          ap (λ x. cell_at 64 now i +ℤ x) (sym e))
-          (λ r ne. not_there s.given i (s.given i +ℤ (pos n *ℤ weight)) r ne) s.cells;
+      given = with_dc_given s.given i (dc_with n) plane;
+      left = record { then = λ f last r. s.left.then f last (rw left_is (ask_got s.given bit_form next n f tt p refl r)) };
+      cells = dcs_set s.given.dcs (with_dc s.given.dcs i (dc_with n)) i (cell_at 64 now i +ℤ z) within
+          (here_there s.given.dcs i (dc_with n) ∙ ap (λ x. x +ℤ (pos n *ℤ weight)) (sym (s.cells.dcs i within)) ∙ ap (λ x. cell_at 64 now i +ℤ x) (sym e))
+          (λ r ne. not_there s.given.dcs i (dc_with n) r ne) s.cells;
+      lows = one_low q plane (block_count first) i s.given (dc_with n) s.lows;
     })
 
-  pub bits_all : (i : ℕ) {a b : SourceState I} {first now : List ℤ} → i ≡ count → IsIn b → BitsSoFar k weight count i dcs a b first now →
-      TakesDcs k (dc_bits_script weight count dcs) (Ok Whole) a b first now
-  bits_all i {b = b} e h s = let none : count - i ≡ 0 =
-      omega (arith, e) in record { given = s.given; read = s.left.then (got s.given) b (rw none (read_done s.given b h)); cells = s.cells }
+  pub bits_all : (i n : ℕ) {a b : SourceState I} {now : List ℤ} → i ≡ block_count first → n ≡ i → IsIn b →
+      BitsSoFar k weight q plane (block_count first) i before a b first now →
+      ReachesDcs k (dc_bits_given weight plane (block_count first) before) q plane (Ok (Whole, reach_at plane n)) a b first now
+  bits_all i n {b = b} e is h s =
+      let none : block_count first - i ≡ 0 = omega (arith, e) in
+      record {
+        given = s.given;
+        read = s.left.then (got s.given) b (rw none (read_done s.given b h));
+        cells = s.cells;
+        reached = (rw is s.lows, ap (reach_at plane) (is ∙ e));
+      }
 
 -- the bits of a plane
-abbrev pub plane_of : (q count i : ℕ) → (ℕ → ℤ) → Script (ℕ → ℤ) (ℕ → ℤ)
-plane_of q count i = dc_bits_script (pos (2 ^ (q - suc i))) count
+abbrev pub plane_of : (q count i : ℕ) → DcGiven → Script DcGiven DcGiven
+plane_of q count i = dc_bits_given (pos (2 ^ (q - suc i))) (q - suc i) count
 
 -- ---- how much DCs grow
 
@@ -134,8 +163,9 @@ module _ (w : ℤ) (i n : ℕ) (z : ℤ) {old now : List ℤ} (within : i * 64 <
 -- ---- the numbers
 
 module _ {I : Type 0} {k : SourceOf I} (N q : ℕ) {a b : SourceState I} {before now : List ℤ} where
-  pub raw_high : {result : Result Part TextFault} → N ≡ 1 → TakesDcs k (dc_bits_script (neg_ℤ (pos (2 ^ q))) (block_count before) (λ r. pos 0)) result a b
-      before now → TakesDcs k (high_script N q (block_count before)) result a b before now
+  pub raw_high : {result : Result (Part × DcReach) TextFault} → N ≡ 1 →
+      ReachesDcs k (dc_bits_given (neg_ℤ (pos (2 ^ q))) q (block_count before) no_dcs) q q result a b before now →
+      ReachesDcs k (high_given N q (block_count before)) q q result a b before now
   raw_high {result} one t = let e : (N == 1) ≡ true = grind (arith, nat_tests) in rw e t
 
 abbrev pub part_of : Result (Part × ℕ) TextFault → Result Part TextFault
@@ -145,6 +175,14 @@ part_of (Err fault) = Err fault
 pub numbers_part : (r : Result (Part × ℕ) TextFault) (given : List ℕ) → by_numbers r given ≡ by_part (part_of r) given given
 numbers_part (Ok p) given = refl
 numbers_part (Err fault) given = refl
+
+abbrev pub without_reach : Result (Part × DcReach) TextFault → Result Part TextFault
+without_reach (Ok p) = Ok p.0
+without_reach (Err fault) = Err fault
+
+reach_part : (r : Result (Part × DcReach) TextFault) (given : DcGiven) → by_reach r given ≡ by_part (without_reach r) given given
+reach_part (Ok p) given = refl
+reach_part (Err fault) given = refl
 
 module _ {I S T : Type 0} {k : SourceOf I} (put : S → T) (s : Script S S) (given : S) {a b : SourceState I} where
   pub around_part : (result : Result Part TextFault) → ReadsAs k s (by_part result given given) a b →
@@ -159,16 +197,47 @@ module _ {I S T : Type 0} {k : SourceOf I} (put : S → T) (s : Script S S) (giv
   around_part (Err texts.LongInput) p = read_in put s (fails given inputs.LongInput) p
   around_part (Err texts.Broken) p = read_in put s (fails given inputs.Broken) p
 
+-- how far numbers are given that were taken
+abbrev pub at_q : (q : ℕ) → Result (Part × ℕ) TextFault → Result (Part × DcReach) TextFault
+at_q q (Ok p) = Ok (p.0, reach_at q p.1)
+at_q q (Err fault) = Err fault
+
+reach_same : (q : ℕ) (r : Result (Part × ℕ) TextFault) (given : DcGiven) → by_reach (at_q q r) given ≡ by_part (part_of r) given given
+reach_same q (Ok p) given = refl
+reach_same q (Err fault) given = refl
+
+-- all of them are there if they are read whole
+whole_count : (N count : ℕ) (bits : List Bool) (heights : List ℕ) → Says (numbers_script (dc_kind N) count) bits (got heights) → length heights ≡ count
+whole_count N count bits heights says =
+    let s = numbers_script (dc_kind N) count in
+    let Q = λ (hs : List ℕ). AreCounted (2 ^ N) count hs × AreLow (dc_kind N) hs in
+    (whole_read (λ g. Unit {0}) Q s (yields_any Q s (number_laws.ends (dc_kind N) count)) (bits ++ []) [] heights (says [])).0.long
+
 module _ {I : Type 0} {k : SourceOf I} (N q most : ℕ) (two : 2 ≤ N) {r : Result (Part × ℕ) TextFault} {a b : SourceState I} {before now : List ℤ}
     (t : TakesNumbers k (dc_kind N) (record { signed = true; bits = N }) most q 64 r a b before now) where
-  pub coded_high : TakesDcs k (high_script N q (block_count before)) (part_of r) a b before now
+  reached_high : (r : Result (Part × ℕ) TextFault) → IsCounted r (length t.given) →
+      ReadsAs k (numbers_script (dc_kind N) (block_count before)) (by_numbers r t.given) a b →
+      IsReached q q (block_count before) (at_q q r) (dcs_given N q t.given)
+  reached_high (Ok p) counted read = (
+    rw counted (high_lows N q (block_count before) t.given),
+    all p.0 read,
+  )
+    where
+      all : (part : Part) → ReadsAs k (numbers_script (dc_kind N) (block_count before)) (by_part (Ok part) t.given t.given) a b →
+          IsAllTo q (block_count before) part (reach_at q p.1)
+      all Whole read = ap (reach_at q) (counted ∙ whole_count N (block_count before) read.bits t.given read.says)
+      all Ended read = tt
+  reached_high (Err fault) counted read = tt
+
+  pub coded_high : ReachesDcs k (high_given N q (block_count before)) q q (at_q q r) a b before now
   coded_high =
       let e : (N == 1) ≡ false = grind (arith, nat_tests) in
       record {
-        given = dcs_of_heights N q t.given;
-        read = rw e (around_part (dcs_of_heights N q) (numbers_script (dc_kind N) (block_count before)) t.given (part_of r)
+        given = dcs_given N q t.given;
+        read = rw (e, reach_same q r (dcs_given N q t.given)) (around_part (dcs_given N q) (numbers_script (dc_kind N) (block_count before)) t.given (part_of r)
             (rw (numbers_part r t.given) at t.read));
         cells = record { size = t.cells.size; dcs = t.cells.numbers; others = t.cells.others };
+        reached = reached_high r t.counted t.read;
       }
 
   number_abs : (h : ℕ) → h < 2 ^ N → unsigned_abs (number_at true N h) ≤ 2 ^ N
@@ -203,26 +272,36 @@ raw_room {mid = mid} w le s long grows = record {
 -- ---- the planes
 
 -- the planes from q - 1 down to this one were read
-pub record PlanesSoFar {I : Type 0} (k : SourceOf I) (q n count plane : ℕ) (dcs : ℕ → ℤ) (old new : SourceState I) (first now : List ℤ) : Type 0 where
-  pub given : ℕ → ℤ
-  pub left : Leaves k (dc_planes_script q count n dcs) (in_turn (plane_of q count) (q - plane) (n - (q - plane)) given) old new
-  pub cells : SetsDcs given first now
+pub record PlanesSoFar {I : Type 0} (k : SourceOf I) (q n count plane : ℕ) (before : DcGiven) (old new : SourceState I) (first now : List ℤ) : Type 0 where
+  pub given : DcGiven
+  pub left : Leaves k (dc_planes_given q count n before) (in_turn (plane_of q count) (q - plane) (n - (q - plane)) given) old new
+  pub cells : SetsDcs given.dcs first now
+  pub lows : AreGivenTo q count (all_to plane count) given.lows
 
-module _ {I : Type 0} {k : SourceOf I} (q n count plane : ℕ) (dcs : ℕ → ℤ) where
-  pub planes_start : (a : SourceState I) (first now : List ℤ) → plane ≡ q → SetsDcs dcs first now → PlanesSoFar k q n count plane dcs a a first now
-  planes_start a first now e s =
+module _ {I : Type 0} {k : SourceOf I} (q n plane : ℕ) (before : DcGiven) {first : List ℤ} where
+  pub planes_start : (a : SourceState I) (now : List ℤ) → plane ≡ q → SetsDcs before.dcs first now →
+      AreGivenTo q (block_count first) (all_to q (block_count first)) before.lows → PlanesSoFar k q n (block_count first) plane before a a first now
+  planes_start a now e s lows =
       let none : q - plane ≡ 0 = omega (arith, e) in
       let all : n - 0 ≡ n = omega arith in
-      record { given = dcs; left = rw (none, all) (leaves_all (dc_planes_script q count n dcs) a); cells = s }
+      record { given = before; left = rw (none, all) (leaves_all (dc_planes_given q (block_count first) n before) a); cells = s; lows = rw e lows }
 
-  module _ {a b : SourceState I} {first now : List ℤ} (s : PlanesSoFar k q n count plane dcs a b first now) where
-    pub planes_all : IsIn b → n ≤ q - plane → TakesDcs k (dc_planes_script q count n dcs) (Ok Whole) a b first now
-    planes_all h all = let none : n - (q - plane) ≡ 0 =
-        omega (arith, all) in record { given = s.given; read = s.left.then (got s.given) b (rw none (read_done s.given b h)); cells = s.cells }
+  module _ {a b : SourceState I} {now : List ℤ} (s : PlanesSoFar k q n (block_count first) plane before a b first now) where
+    pub planes_all : (count : ℕ) → count ≡ block_count first → IsIn b → plane ≤ q → n ≡ q - plane →
+        ReachesDcs k (dc_planes_given q (block_count first) n before) q (q - n) (Ok (Whole, reach_at plane count)) a b first now
+    planes_all count is h within all =
+        let none : n - (q - plane) ≡ 0 = omega (arith, all) in
+        let last : q - n ≡ plane = omega (arith, all, within) in
+        record {
+          given = s.given;
+          read = s.left.then (got s.given) b (rw none (read_done s.given b h));
+          cells = s.cells;
+          reached = rw (is, last) (s.lows, refl);
+        }
 
     module _ (p : ℕ) (is : plane ≡ p + 1) (within : plane ≤ q) (more : q - plane < n) where
-      abbrev after : (ℕ → ℤ) → Script (ℕ → ℤ) (ℕ → ℤ)
-      after = in_turn (plane_of q count) (suc (q - plane)) (n - suc (q - plane))
+      abbrev after : DcGiven → Script DcGiven DcGiven
+      after = in_turn (plane_of q (block_count first)) (suc (q - plane)) (n - suc (q - plane))
 
       planes_left : n - (q - plane) ≡ suc (n - suc (q - plane))
       planes_left = omega (arith, more)
@@ -230,26 +309,31 @@ module _ {I : Type 0} {k : SourceOf I} (q n count plane : ℕ) (dcs : ℕ → �
       weight_is : q - suc (q - plane) ≡ p
       weight_is = omega (arith, is, within)
 
+      pub before_plane : AreGivenTo q (block_count first) (all_to p 0) s.given.lows
+      before_plane = next_plane q plane p (block_count first) s.given.lows is within s.lows
+
       module _ {c : SourceState I} {later : List ℤ} where
-        pub planes_fault : (fault : TextFault) → TakesDcs k (dc_bits_script (pos (2 ^ p)) count s.given) (Err fault) b c first later →
-            TakesDcs k (dc_planes_script q count n dcs) (Err fault) a c first later
+        pub planes_fault : (fault : TextFault) → ReachesDcs k (dc_bits_given (pos (2 ^ p)) p (block_count first) s.given) q p (Err fault) b c first later →
+            ReachesDcs k (dc_planes_given q (block_count first) n before) q (q - n) (Err fault) a c first later
         planes_fault fault t = record {
           given = t.given;
-          read =
-              s.left.then (by_fault fault t.given) c (rw planes_left (read_fault _ after t.given fault (rw weight_is t.read)));
+          read = s.left.then (by_fault fault t.given) c (rw planes_left (read_fault _ after t.given fault (rw weight_is t.read)));
           cells = t.cells;
+          reached = tt;
         }
 
-        pub planes_cut : TakesDcs k (dc_bits_script (pos (2 ^ p)) count s.given) (Ok Ended) b c first later →
-            TakesDcs k (dc_planes_script q count n dcs) (Ok Ended) a c first later
-        planes_cut t = record {
+        pub planes_cut : (reach : DcReach) → ReachesDcs k (dc_bits_given (pos (2 ^ p)) p (block_count first) s.given) q p (Ok (Ended, reach)) b c first later →
+            ReachesDcs k (dc_planes_given q (block_count first) n before) q (q - n) (Ok (Ended, reach)) a c first later
+        planes_cut reach t = record {
           given = t.given;
           read = s.left.then (ends t.given) c (rw planes_left (read_cut _ after t.given (rw weight_is t.read)));
           cells = t.cells;
+          reached = (t.reached.0, tt);
         }
 
-        pub planes_more : TakesDcs k (dc_bits_script (pos (2 ^ p)) count s.given) (Ok Whole) b c first later → PlanesSoFar k q n count p dcs a c first later
-        planes_more t =
+        pub planes_more : (reach : DcReach) → ReachesDcs k (dc_bits_given (pos (2 ^ p)) p (block_count first) s.given) q p (Ok (Whole, reach)) b c first later →
+            PlanesSoFar k q n (block_count first) p before a c first later
+        planes_more reach t =
             let next : q - p ≡ suc (q - plane) = omega (arith, is, within) in
             record {
               given = t.given;
@@ -258,6 +342,7 @@ module _ {I : Type 0} {k : SourceOf I} (q n count plane : ℕ) (dcs : ℕ → �
                     λ f last r. s.left.then f last (rw planes_left (read_then _ after t.given f (rw weight_is t.read) r));
               });
               cells = t.cells;
+              lows = rw t.reached.1 at t.reached.0;
             }
 
 -- ---- how much DCs grow over planes
@@ -284,30 +369,67 @@ module _ (q plane p : ℕ) (is : plane ≡ p + 1) {old now : List ℤ} (s : Plan
   pub planes_grew : {later : List ℤ} → length later ≡ length now → GrowsBy (2 ^ p) now later → PlanesGrew q p old later
   planes_grew long grows = record { size = long ∙ s.size; at = λ r lt. omega (arith, s.at r lt, grows.at r (omega (arith, lt, s.size)), double) }
 
+-- after any planes there is room for more
+pub planes_roomy : (q plane : ℕ) {old now : List ℤ} → PlanesGrew q plane old now → q ≤ 27 → HasRoom 1073741824 old → HasRoom 536870912 now
+planes_roomy q plane {old} s few room = record {
+  at = λ r within.
+      let place : r * 64 < length old = omega (arith, within, s.size) in
+      let most : 2 ^ q ≤ 2 ^ 27 = pow_mono few in
+      omega (arith, s.at r place, room.at r place, most);
+}
+
+pub less_room : {blocks : List ℤ} → HasRoom 1073741824 blocks → HasRoom 536870912 blocks
+less_room room = record { at = λ r within. omega (arith, room.at r within) }
+
 -- ---- the whole DC part
 
-module _ (depth_dc depth_ac shift : ℕ) (before : List ℤ) where
-  abbrev high : Script (ℕ → ℤ) (ℕ → ℤ)
-  high = high_script (dc_bits depth_dc depth_ac shift) (dc_q depth_dc depth_ac shift) (block_count before)
+module _ (depth_dc depth_ac shift : ℕ) where
+  abbrev q_of : ℕ
+  q_of = dc_q depth_dc depth_ac shift
 
-  abbrev planes : (ℕ → ℤ) → Script (ℕ → ℤ) (ℕ → ℤ)
-  planes = dc_planes_script (dc_q depth_dc depth_ac shift) (block_count before) (dc_planes depth_dc depth_ac shift)
+  abbrev last_of : ℕ
+  last_of = q_of - dc_planes depth_dc depth_ac shift
 
-module _ {I : Type 0} {k : SourceOf I} (depth_dc depth_ac shift : ℕ) {a b : SourceState I} {before mid : List ℤ} where
-  pub dc_fault : (fault : TextFault) → TakesDcs k (high depth_dc depth_ac shift before) (Err fault) a b before mid →
-      TakesDcs k (dc_script depth_dc depth_ac shift (block_count before)) (Err fault) a b before mid
-  dc_fault fault t = record { given = t.given; read = read_fault _ (planes depth_dc depth_ac shift before) t.given fault t.read; cells = t.cells }
+  abbrev high : (before : List ℤ) → Script DcGiven DcGiven
+  high before = high_given (dc_bits depth_dc depth_ac shift) q_of (block_count before)
 
-  pub dc_cut : TakesDcs k (high depth_dc depth_ac shift before) (Ok Ended) a b before mid →
-      TakesDcs k (dc_script depth_dc depth_ac shift (block_count before)) (Ok Ended) a b before mid
-  dc_cut t = record { given = t.given; read = read_cut _ (planes depth_dc depth_ac shift before) t.given t.read; cells = t.cells }
+  abbrev planes : (before : List ℤ) → DcGiven → Script DcGiven DcGiven
+  planes before = dc_planes_given q_of (block_count before) (dc_planes depth_dc depth_ac shift)
 
-  pub dc_then : {result : Result Part TextFault} {c : SourceState I} {now : List ℤ} (t : TakesDcs k (high depth_dc depth_ac shift before) (Ok Whole) a b before
-      mid) → TakesDcs k (planes depth_dc depth_ac shift before t.given) result b c before now →
-      TakesDcs k (dc_script depth_dc depth_ac shift (block_count before)) result a c before now
-  dc_then {result} t u = record {
-    given = u.given;
-    read = read_then _ (planes depth_dc depth_ac shift before) t.given (by_part result u.given u.given)
-        t.read u.read;
-    cells = u.cells;
-  }
+  abbrev whole : (before : List ℤ) → Script DcGiven DcGiven
+  whole before = dc_given depth_dc depth_ac shift (block_count before)
+
+  module _ {I : Type 0} {k : SourceOf I} {a b : SourceState I} {before mid : List ℤ} where
+    pub dc_fault : (fault : TextFault) → ReachesDcs k (high before) q_of q_of (Err fault) a b before mid →
+        ReachesDcs k (whole before) q_of last_of (Err fault) a b before mid
+    dc_fault fault t = record { given = t.given; read = read_fault _ (planes before) t.given fault t.read; cells = t.cells; reached = tt }
+
+    pub dc_cut : (reach : DcReach) → ReachesDcs k (high before) q_of q_of (Ok (Ended, reach)) a b before mid →
+        ReachesDcs k (whole before) q_of last_of (Ok (Ended, reach)) a b before mid
+    dc_cut reach t = record { given = t.given; read = read_cut _ (planes before) t.given t.read; cells = t.cells; reached = (t.reached.0, tt) }
+
+    module _ (reach : DcReach) (t : ReachesDcs k (high before) q_of q_of (Ok (Whole, reach)) a b before mid) where
+      -- all numbers are given, and no bit of a plane
+      pub dc_high : AreGivenTo q_of (block_count before) (all_to q_of (block_count before)) t.given.lows
+      dc_high = rw t.reached.1 at t.reached.0
+
+      pub dc_then : {result : Result (Part × DcReach) TextFault} {c : SourceState I} {now : List ℤ} →
+          ReachesDcs k (planes before t.given) q_of last_of result b c before now → ReachesDcs k (whole before) q_of last_of result a c before now
+      dc_then {result} u = record {
+        given = u.given;
+        read = read_then _ (planes before) t.given (by_reach result u.given) t.read u.read;
+        cells = u.cells;
+        reached = u.reached;
+      }
+
+    -- without what is given of each number
+    pub dc_alone : (result : Result (Part × DcReach) TextFault) → ReachesDcs k (whole before) q_of last_of result a b before mid →
+        TakesDcs k (dc_script depth_dc depth_ac shift (block_count before)) (without_reach result) a b before mid
+    dc_alone result t = record {
+      given = t.given.dcs;
+      read =
+          let read : ReadsAs k (around (λ g. g.dcs) (whole before)) (by_part (without_reach result) t.given.dcs t.given.dcs) a b =
+          around_part (λ g. g.dcs) (whole before) t.given (without_reach result) (rw (reach_part result t.given) at t.read) in
+          rw (dcs_are_given depth_dc depth_ac shift (block_count before)) at read;
+      cells = t.cells;
+    }

@@ -3,5 +3,6 @@ mod Planes
 mod DepthCells
 mod Parts
 pub mod DcCells
+mod Lows
 pub mod DcReads
 pub mod DepthReads

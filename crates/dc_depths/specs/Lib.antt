@@ -1,3 +1,4 @@
 pub mod Marks
 pub mod Dcs
+pub mod Reach
 pub mod Depths

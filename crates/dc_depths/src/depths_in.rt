@@ -5,7 +5,7 @@ ghost use Rattle.number_defs.specs.Depths.{depth_bits};
 ghost use Rattle.dc_depths.specs.Depths.{TakesDepths};
 
 use bit_pipe::{BitIn, OctetIn, Part, TextFault};
-use gaggle_codes::{NumberRange, take_bounded};
+use gaggle_codes::{BoundedRange, NumberRange, take_bounded};
 
 // Returns the number of bits of each depth, if the greatest is at least 2.
 fn depth_bits_of(depth_ac: u8) -> u8
@@ -76,7 +76,11 @@ pub fn take_depths<I: OctetIn>(
                 signed: false,
                 bits: depth_bits_of(depth_ac),
             };
-            let (part, _) = take_bounded(input, marks, 1, 0, range, u16::from(depth_ac))?;
+            let bounded = BoundedRange {
+                range,
+                most: u16::from(depth_ac),
+            };
+            let (part, _) = take_bounded(input, marks, 1, 0, bounded)?;
             Ok(part)
         }
     }

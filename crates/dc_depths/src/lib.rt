@@ -9,9 +9,11 @@ mod dc_in;
 mod depths;
 mod depths_in;
 mod plan;
+mod reach;
 
 pub use dc::put_dc;
-pub use dc_in::take_dc;
+pub use dc_in::{take_dc, take_dc_reach};
 pub use depths::put_depths;
 pub use depths_in::take_depths;
 pub use plan::DcPlan;
+pub use reach::DcReach;

@@ -1,5 +1,5 @@
 -- The heights that a reader of numbers finds. (This project's own.)
-use Rattle.std.specs.Prelude.{◌≡◌, ◌<◌, ◌≤◌, ℕ, ◌+◌, ◌^◌, Bool, false, nat_lt, List, [], ◌∷◌, length, take, slice_index, Option, Some, None, Result, Ok, Err}
+use Rattle.std.specs.Prelude.{◌≡◌, ◌<◌, ◌≤◌, ℕ, ◌+◌, ◌^◌, Bool, false, nat_lt, List, [], ◌∷◌, length, take, slice_index, Result, Ok, Err}
 use Rattle.number_defs.specs.Gaggles.{Kind}
 use Rattle.gaggle_codes.specs.declared.range.NumberRange.{NumberRange}
 use Rattle.gaggle_codes.specs.declared.gaggle_heights.GaggleHeights.{GaggleHeights}
@@ -12,6 +12,10 @@ use Rattle.bit_pipe.specs.ScriptSources.{Found, by_part}
 abbrev pub heights_in : GaggleHeights → List ℕ
 heights_in g = take g.len g.heights
 
+-- the last number that was taken, by its height
+abbrev pub last_in : GaggleHeights → ℕ
+last_in g = g.last
+
 -- what a call found that adds to what is given
 abbrev pub by_given : {A : Type 0} → Result Part TextFault → A → Found A A
 by_given result given = by_part result given given
@@ -23,10 +27,10 @@ Adds (Ok Ended) count old new = length new ≤ length old + count
 Adds (Err fault) count old new = length new ≤ length old + count
 
 -- the first number of all was added, if it was read
-abbrev pub IsFirst : Result (Option ℕ) TextFault → List ℕ → Type 0
-IsFirst (Ok (Some h)) heights = heights ≡ h ∷ []
-IsFirst (Ok None) heights = heights ≡ []
-IsFirst (Err fault) heights = heights ≡ []
+abbrev pub IsFirst : Result Part TextFault → GaggleHeights → Type 0
+IsFirst (Ok Whole) g = heights_in g ≡ last_in g ∷ []
+IsFirst (Ok Ended) g = heights_in g ≡ []
+IsFirst (Err fault) g = heights_in g ≡ []
 
 -- these are heights of N bits, and none is above `most`
 pub record AreWithin (N most : ℕ) (heights : List ℕ) : Type 0 where

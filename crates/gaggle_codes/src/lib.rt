@@ -19,5 +19,5 @@ mod values;
 
 pub use choice::choose;
 pub use put::put_values;
-pub use range::NumberRange;
+pub use range::{BoundedRange, NumberRange};
 pub use take::{take_bounded, take_values};

@@ -8,11 +8,11 @@ ghost use Rattle.number_defs.specs.Gaggles.{uncoded, is_option};
 ghost use Rattle.item_defs.specs.Scripts.{in_turn};
 ghost use Rattle.bit_pipe.specs.ScriptSources.{ReadsAs, by_item, by_part};
 ghost use Rattle.number_defs.specs.NumberScript.{zeros_form, zeros_script, value_form, number_script, last_of};
-ghost use Rattle.gaggle_codes.specs.Given.{heights_in, by_given, Adds, AreWithin, IsBound, kind_of};
+ghost use Rattle.gaggle_codes.specs.Given.{heights_in, last_in, by_given, Adds, AreWithin, IsBound, kind_of};
 ghost use Rattle.gaggle_codes.specs.Items.{EndsForm, free_kind};
 
 use crate::gaggle_heights::GaggleHeights;
-use crate::range::NumberRange;
+use crate::range::BoundedRange;
 use crate::unmapping::unmapped_of;
 use crate::values::option_bits;
 use bit_pipe::{BitIn, OctetIn, Part, TextFault};
@@ -73,29 +73,24 @@ fn take_value<I: OctetIn>(
 }
 
 // Adds the number of a mapped value, unless it is too great.
-fn follow(
-    numbers: &mut GaggleHeights,
-    bits: u8,
-    most: u16,
-    before: u16,
-    value: u16,
-) -> Result<u16, TextFault>
+fn follow(numbers: &mut GaggleHeights, bounded: BoundedRange, value: u16) -> Result<(), TextFault>
     requires room { length (heights_in numbers.old) < 16 }
-    requires bits { bits ≤ 10 }
-    requires before { before < 2 ^ bits }
-    requires value { value < 2 ^ bits }
-    ensures is { MatchResult result (λ height. height ≡ unmapped bits before value) (λ fault. fault ≡ BadDepth) }
-    ensures few { unmapped bits before value < 2 ^ bits }
-    ensures bound { MatchResult result (λ height. height ≤ most) (λ fault. most < unmapped bits before value) }
-    ensures numbers { MatchResult result (λ height. heights_in numbers.new ≡ heights_in numbers.old ++ height ∷ [])
+    requires bits { bounded.range.bits ≤ 10 }
+    requires before { last_in numbers.old < 2 ^ bounded.range.bits }
+    requires value { value < 2 ^ bounded.range.bits }
+    ensures is { MatchResult result (λ _. last_in numbers.new ≡ unmapped bounded.range.bits (last_in numbers.old) value) (λ fault. fault ≡ BadDepth) }
+    ensures few { unmapped bounded.range.bits (last_in numbers.old) value < 2 ^ bounded.range.bits }
+    ensures bound { MatchResult result (λ _. last_in numbers.new ≤ bounded.most)
+        (λ fault. bounded.most < unmapped bounded.range.bits (last_in numbers.old) value) }
+    ensures numbers { MatchResult result (λ _. heights_in numbers.new ≡ heights_in numbers.old ++ last_in numbers.new ∷ [])
         (λ fault. heights_in numbers.new ≡ heights_in numbers.old) }
 {
-    let height = unmapped_of(bits, before, value);
-    if height > most {
+    let height = unmapped_of(bounded.range.bits, numbers.last(), value);
+    if height > bounded.most {
         return Err(TextFault::BadDepth);
     }
     numbers.push(height);
-    Ok(height)
+    Ok(())
 }
 
 // Takes all unary parts of a gaggle, and returns the numbers of their zeros.
@@ -124,33 +119,30 @@ pub(crate) fn take_unary_parts<I: OctetIn>(
 // Takes the items that make mapped values whole, one after another, and adds their numbers.
 pub(crate) fn take_whole<I: OctetIn>(
     input: &mut BitIn<I>,
-    range: NumberRange,
-    most: u16,
+    bounded: BoundedRange,
     option: u8,
-    before: u16,
     zeros: &[u16],
     numbers: &mut GaggleHeights,
 ) -> Result<Part, TextFault>
     requires open { IsIn (source_state input.old) }
-    requires bits { range.bits ≤ 10 }
-    requires option { is_option range.bits option ≡ true }
-    requires before { before < 2 ^ range.bits }
-    requires zeros { (j : ℕ) → slice_index zeros.now j < 2 ^ (range.bits - option) }
-    requires plain { ((option == 0) || (option == uncoded range.bits)) ≡ true → (j : ℕ) → slice_index zeros.now j ≡ 0 }
+    requires bits { bounded.range.bits ≤ 10 }
+    requires option { is_option bounded.range.bits option ≡ true }
+    requires before { last_in numbers.old < 2 ^ bounded.range.bits }
+    requires zeros { (j : ℕ) → slice_index zeros.now j < 2 ^ (bounded.range.bits - option) }
+    requires plain { ((option == 0) || (option == uncoded bounded.range.bits)) ≡ true → (j : ℕ) → slice_index zeros.now j ≡ 0 }
     requires room { length (heights_in numbers.old) + length zeros.now ≤ 16 }
-    ensures read { (too_great : ℕ → Bool) (prior : List ℕ) → IsBound most range.bits too_great →
-        last_of (prior ++ heights_in numbers.old) ≡ before →
-        ReadsAs I.source (in_turn (λ j. number_script (kind_of range too_great) option (slice_index zeros.now j)) 0 (length zeros.now)
+    ensures read { (too_great : ℕ → Bool) (prior : List ℕ) → IsBound bounded.most bounded.range.bits too_great →
+        last_of (prior ++ heights_in numbers.old) ≡ last_in numbers.old →
+        ReadsAs I.source (in_turn (λ j. number_script (kind_of bounded.range too_great) option (slice_index zeros.now j)) 0 (length zeros.now)
         (prior ++ heights_in numbers.old)) (by_given result (prior ++ heights_in numbers.new)) (source_state input.old) (source_state input.new) }
     ensures adds { Adds result (length zeros.now) (heights_in numbers.old) (heights_in numbers.new) }
-    ensures within { AreWithin range.bits most (heights_in numbers.old) → AreWithin range.bits most (heights_in numbers.new) }
+    ensures within { AreWithin bounded.range.bits bounded.most (heights_in numbers.old) → AreWithin bounded.range.bits bounded.most (heights_in numbers.new) }
 {
-    let mut before = before;
     for zeros in zeros {
-        let Some(value) = take_value(input, range.bits, option, *zeros)? else {
+        let Some(value) = take_value(input, bounded.range.bits, option, *zeros)? else {
             return Ok(Part::Ended);
         };
-        before = follow(numbers, range.bits, most, before, value)?;
+        follow(numbers, bounded, value)?;
     }
     Ok(Part::Whole)
 }

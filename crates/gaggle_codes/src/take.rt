@@ -6,25 +6,17 @@ ghost use Rattle.gaggle_codes.specs.Given.{IsBound, kind_of, any_of};
 ghost use Rattle.gaggle_codes.specs.Cells.{TakesNumbers};
 
 use crate::gaggle_heights::{GAGGLE, GaggleHeights};
-use crate::range::NumberRange;
-use crate::strided_cells::{clear, set_numbers};
+use crate::range::{BoundedRange, NumberRange};
+use crate::strided_cells::{StridedCells, clear, set_numbers};
 use crate::take_gaggle::take_gaggle;
 use bit_pipe::{BitIn, OctetIn, Part, TextFault};
 
-// Returns the last of a gaggle's numbers.
-fn last_of(heights: &[u16]) -> u16
-    requires { 0 < length heights.now }
-    ensures { result ≡ slice_index heights.now (length heights.now - 1) }
-{
-    heights[heights.len() - 1]
-}
-
-/// Takes numbers of a range by their differences, and refuses those that are higher above the least than `most`
+/// Takes numbers of a range by their differences, and refuses those that are too great for the bound
 /// (docs/formats.md, "Numbers by differences"). The numbers times 2^shift are put into every `stride`-th cell, as
 /// far as they are given; further ones are 0, and all other cells stay. Returns whether all items were in the text,
 /// and the number of numbers that are given.
 ///
-/// `stride` is at least 1, `range.bits` and `shift` are at most 28 together, and there are fewer than 2^20 numbers.
+/// `stride` is at least 1, the bits of the range and `shift` are at most 28 together, and there are fewer than 2^20 numbers.
 ///
 /// # Errors
 ///
@@ -35,33 +27,38 @@ pub fn take_bounded<I: OctetIn>(
     cells: &mut [i32],
     stride: usize,
     shift: u8,
-    range: NumberRange,
-    most: u16,
+    bounded: BoundedRange,
 ) -> Result<(Part, u32), TextFault>
     requires open { IsIn (source_state input.old) }
     requires stride { 1 ≤ stride }
-    requires low { 2 ≤ range.bits }
-    requires high { range.bits ≤ 10 }
-    requires both { range.bits + shift ≤ 28 }
+    requires low { 2 ≤ bounded.range.bits }
+    requires high { bounded.range.bits ≤ 10 }
+    requires both { bounded.range.bits + shift ≤ 28 }
     requires few { div_ceil (length cells.old) stride < 2 ^ 20 }
-    ensures { (too_great : ℕ → Bool) → IsBound most range.bits too_great →
-        TakesNumbers I.source (kind_of range too_great) range most shift stride result (source_state input.old) (source_state input.new) cells.old cells.new }
+    ensures { (too_great : ℕ → Bool) → IsBound bounded.most bounded.range.bits too_great →
+        TakesNumbers I.source (kind_of bounded.range too_great) bounded.range bounded.most shift stride result (source_state input.old)
+        (source_state input.new) cells.old cells.new }
 {
-    clear(cells, stride, shift, range);
+    let strided = StridedCells {
+        stride,
+        shift,
+        range: bounded.range,
+    };
+    clear(cells, strided);
     let count = cells.len().div_ceil(stride);
     let mut before = 0;
     for gaggle in 0..count.div_ceil(GAGGLE) {
         let from = GAGGLE * gaggle;
         let size = (count - from).min(GAGGLE);
-        let mut numbers = GaggleHeights::new();
-        let result = take_gaggle(input, range, most, gaggle, before, size, &mut numbers);
+        let mut numbers = GaggleHeights::new(before);
+        let result = take_gaggle(input, bounded, gaggle, size, &mut numbers);
         let heights = numbers.as_slice();
-        set_numbers(cells, stride, shift, range, from, heights);
+        set_numbers(cells, strided, from, heights);
         let given = (from + heights.len()) as u32;
         let Part::Whole = result? else {
             return Ok((Part::Ended, given));
         };
-        before = last_of(heights);
+        before = numbers.last();
     }
     Ok((Part::Whole, count as u32))
 }
@@ -93,5 +90,9 @@ pub fn take_values<I: OctetIn>(
         cells.old cells.new }
 {
     let greatest = (1 << range.bits) - 1;
-    take_bounded(input, cells, stride, shift, range, greatest)
+    let bounded = BoundedRange {
+        range,
+        most: greatest,
+    };
+    take_bounded(input, cells, stride, shift, bounded)
 }

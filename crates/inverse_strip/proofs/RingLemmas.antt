@@ -1,6 +1,5 @@
 -- The rings of a level's columns that take a pair, and the row that they give.
-use Rattle.std.proofs.Common.{◌≡◌, ℕ, ◌+◌, ◌*◌, ◌/◌, ℤ, List, [], ◌∷◌, ◌++◌, length, take, drop, ap, ◌∙◌, sym, subst, arith}
-use Rattle.std.proofs.lemmas.List.{take-append-le, take_all}
+use Rattle.std.proofs.Common.{◌≡◌, ℕ, ◌+◌, ◌*◌, ◌/◌, ℤ, List, [], ◌∷◌, ◌++◌, length, drop, ap, ◌∙◌, sym, subst, arith}
 use Rattle.wave_defs.specs.Lifted.{columns_even, columns_odd}
 use Rattle.wave_defs.specs.Level.{columns_merged}
 use Rattle.wave_defs.specs.Held.{Agrees, signal}
@@ -9,11 +8,6 @@ use Rattle.wave_defs.proofs.LineLaws.{even_of-merged, odd_of-merged}
 use Rattle.wave_defs.proofs.RingLaws.{AreRows-turn, AreNewest-turn}
 use Rattle.wave_defs.proofs.Equations.{columns_even-is, columns_odd-is, columns_merged-is, odd_of-is, prediction-is}
 use Rattle.inverse_strip.specs.Kept.{AreRings, HoldPairs}
-
--- what a `Vec` holds after its whole slice was lent and was returned as out
-pub written_whole : (n : ℕ) (out old : List ℤ) → length out ≡ n → length old ≡ n → take n (out ++ drop (length out) old) ≡ out
-written_whole n out old lo ln =
-    take-append-le n out (drop (length out) old) (omega arith) ∙ take_all n out (omega arith)
 
 module _ (w : ℕ) (evens highs : List (List ℤ)) (row high : List ℤ) (s : AreRings w evens highs) (lr : length row ≡ w) (lh : length high ≡ w) where
   pub AreRings-turn : AreRings w (drop 1 evens ++ row ∷ []) (drop 1 highs ++ high ∷ [])

@@ -9,7 +9,8 @@ ghost use Rattle.wave_defs.specs.Rings.{AreRows, RowsWithin, AreNewest};
 ghost use Rattle.inverse_strip.specs.Kept.{AreRings, ArePairsWithin};
 
 use lift_rows::{
-    mirrored_after, mirrored_before, predict_add_narrow, predict_add_widened, update_add_narrow,
+    EvenRows, mirrored_after, mirrored_before, predict_add_narrow, predict_add_widened,
+    update_add_narrow,
 };
 use line_rings::RowRing;
 use std::alloc::{AllocError, Global};
@@ -35,29 +36,43 @@ fn even_row(highs: &RowRing<i32>, j: usize, high: &[i32], row: &mut [i32])
 }
 
 /// Adds to a high row what the even rows round it predict. What it makes fits 32 bits, and if `small` the sums do too.
-fn predict(row: &mut [i32], a: &[i32], b: &[i32], c: &[i32], d: &[i32], small: bool)
-    requires long_a { length a.now ≡ length row.old }
-    requires long_b { length b.now ≡ length row.old }
-    requires long_c { length c.now ≡ length row.old }
-    requires long_d { length d.now ≡ length row.old }
+fn predict(row: &mut [i32], evens: EvenRows<i32>, small: bool)
+    requires long_a { length evens.second_before.now ≡ length row.old }
+    requires long_b { length evens.before.now ≡ length row.old }
+    requires long_c { length evens.after.now ≡ length row.old }
+    requires long_d { length evens.second_after.now ≡ length row.old }
     requires bounded { AllWithin (2 ^ 27) (length row.old) (signal row.old) }
-    requires bounded_a { AllWithin (2 ^ 31 - 1) (length row.old) (signal a.now) }
-    requires bounded_b { AllWithin (2 ^ 31 - 1) (length row.old) (signal b.now) }
-    requires bounded_c { AllWithin (2 ^ 31 - 1) (length row.old) (signal c.now) }
-    requires bounded_d { AllWithin (2 ^ 31 - 1) (length row.old) (signal d.now) }
+    requires bounded_a { AllWithin (2 ^ 31 - 1) (length row.old) (signal evens.second_before.now) }
+    requires bounded_b { AllWithin (2 ^ 31 - 1) (length row.old) (signal evens.before.now) }
+    requires bounded_c { AllWithin (2 ^ 31 - 1) (length row.old) (signal evens.after.now) }
+    requires bounded_d { AllWithin (2 ^ 31 - 1) (length row.old) (signal evens.second_after.now) }
     requires fits { AllWithin (2 ^ 31 - 1) (length row.old)
-        (plus_predicted (signal row.old) (signal a.now) (signal b.now) (signal c.now) (signal d.now)) }
-    requires small_a { OnTrue small (AllWithin (7 * 2 ^ 26) (length row.old) (signal a.now)) }
-    requires small_b { OnTrue small (AllWithin (7 * 2 ^ 26) (length row.old) (signal b.now)) }
-    requires small_c { OnTrue small (AllWithin (7 * 2 ^ 26) (length row.old) (signal c.now)) }
-    requires small_d { OnTrue small (AllWithin (7 * 2 ^ 26) (length row.old) (signal d.now)) }
+        (plus_predicted (signal row.old) (signal evens.second_before.now) (signal evens.before.now) (signal evens.after.now)
+        (signal evens.second_after.now)) }
+    requires small_a { OnTrue small (AllWithin (7 * 2 ^ 26) (length row.old) (signal evens.second_before.now)) }
+    requires small_b { OnTrue small (AllWithin (7 * 2 ^ 26) (length row.old) (signal evens.before.now)) }
+    requires small_c { OnTrue small (AllWithin (7 * 2 ^ 26) (length row.old) (signal evens.after.now)) }
+    requires small_d { OnTrue small (AllWithin (7 * 2 ^ 26) (length row.old) (signal evens.second_after.now)) }
     ensures { Agrees (length row.old) (signal row.new)
-        (plus_predicted (signal row.old) (signal a.now) (signal b.now) (signal c.now) (signal d.now)) }
+        (plus_predicted (signal row.old) (signal evens.entry.second_before.now) (signal evens.entry.before.now)
+        (signal evens.entry.after.now) (signal evens.entry.second_after.now)) }
 {
     if small {
-        predict_add_narrow(row, a, b, c, d);
+        predict_add_narrow(
+            row,
+            evens.second_before,
+            evens.before,
+            evens.after,
+            evens.second_after,
+        );
     } else {
-        predict_add_widened(row, a, b, c, d);
+        predict_add_widened(
+            row,
+            evens.second_before,
+            evens.before,
+            evens.after,
+            evens.second_after,
+        );
     }
 }
 
@@ -142,14 +157,13 @@ impl Columns {
     {
         let n = self.taken;
         into.copy_from_slice(self.highs.at(k + 3 - n));
-        predict(
-            into,
-            self.evens.at(mirrored_before(k) + 4 - n),
-            self.evens.at(k + 4 - n),
-            self.evens.at(mirrored_after(n, k + 1) + 4 - n),
-            self.evens.at(mirrored_after(n, k + 2) + 4 - n),
-            self.small,
-        );
+        let around = EvenRows {
+            second_before: self.evens.at(mirrored_before(k) + 4 - n),
+            before: self.evens.at(k + 4 - n),
+            after: self.evens.at(mirrored_after(n, k + 1) + 4 - n),
+            second_after: self.evens.at(mirrored_after(n, k + 2) + 4 - n),
+        };
+        predict(into, around, self.small);
     }
 
     /// Makes row i of the columns that end after the pairs that were taken. It is one of the newest.

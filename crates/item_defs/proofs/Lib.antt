@@ -14,3 +14,6 @@ pub mod Writing
 pub mod TwosComplement
 pub mod ScriptStarts
 pub mod ScriptGives
+pub mod ScriptAround
+pub mod ScriptYields
+pub mod Room

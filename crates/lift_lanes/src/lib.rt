@@ -6,6 +6,7 @@
 
 mod back;
 mod back_samples;
+mod even_rows;
 mod lanes;
 mod narrow;
 mod narrow_onto;
@@ -15,6 +16,7 @@ mod wide_samples;
 
 pub use back::{predict_add_narrow, predict_add_widened, update_add_narrow};
 pub use back_samples::{even_sample_narrow, odd_sample_narrow};
+pub use even_rows::EvenRows;
 pub use narrow::{predict_sub, update_sub};
 pub use narrow_onto::{predict_sub_onto, update_sub_onto};
 pub use samples::{high_sample, low_sample};

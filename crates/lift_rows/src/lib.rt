@@ -17,7 +17,7 @@ mod back_widened;
 mod halves;
 
 pub use lift_lanes::{
-    predict_add, predict_add_narrow, predict_add_widened, predict_sub, predict_sub_onto,
+    EvenRows, predict_add, predict_add_narrow, predict_add_widened, predict_sub, predict_sub_onto,
     update_add, update_add_narrow, update_sub, update_sub_onto,
 };
 

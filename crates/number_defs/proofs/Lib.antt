@@ -23,3 +23,8 @@ pub mod DcNumbers
 pub mod DcLaws
 pub mod DcCuts
 mod WorkedRead
+mod WorkedLowsRead
+pub mod DcsGiven
+pub mod NumberYields
+pub mod DcRoom
+pub mod DcDown

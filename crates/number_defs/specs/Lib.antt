@@ -10,6 +10,9 @@ pub mod Given
 pub mod NumberScript
 pub mod DcScript
 pub mod DepthScript
+pub mod DcLows
 pub mod Worked
+pub mod WorkedLows
+pub mod LowLaws
 pub mod ScriptLaws
 pub mod Cuts

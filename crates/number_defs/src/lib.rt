@@ -10,7 +10,9 @@ mod scripts;
 
 ghost use Rattle.number_defs.specs.Laws.{MappingUndoes, HeightsUndo, CountsBits, DcBitsAreFew};
 
-pub use scripts::{dc_part_is_read, depths_are_read, numbers_are_read, worked_texts};
+pub use scripts::{
+    dc_part_is_read, dcs_are_given, depths_are_read, numbers_are_read, worked_lows, worked_texts,
+};
 
 /// After each number, mapped values and numbers undo each other.
 pub const fn mapping_undoes()

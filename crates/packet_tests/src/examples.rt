@@ -50,6 +50,25 @@ pub fn second() -> [u8; 51] {
     packet
 }
 
+// A stream, and how it is read: in pieces of at most this size, up to the cap, and with calls of these numbers that fail.
+#[derive(Clone, Copy)]
+pub struct Stream<'a> {
+    pub parts: &'a [&'a [u8]],
+    pub fail: &'a [u64],
+    pub piece: usize,
+    pub cap: u64,
+}
+
+// Returns a stream of these octets, of which no read fails.
+pub fn whole<'a>(parts: &'a [&'a [u8]], piece: usize, cap: u64) -> Stream<'a> {
+    Stream {
+        parts,
+        fail: &[],
+        piece,
+        cap,
+    }
+}
+
 // Returns a port with these octets, which moves at most `piece` of them at a time, and whose calls of these numbers fail.
 pub fn port_of(
     alloc: Global,

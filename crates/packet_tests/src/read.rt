@@ -1,5 +1,5 @@
 // Streams read packet by packet.
-use crate::examples::{BLACK, FIRST_SEGMENT, port_of};
+use crate::examples::{BLACK, FIRST_SEGMENT, Stream, port_of, whole};
 use bit_pipe::InFault;
 use port_122::MemoryPort;
 use space_packets::{Framing, PacketHead, PacketRead, PacketReader};
@@ -61,28 +61,26 @@ fn ends(
     );
 }
 
-// Reads these octets up to the result that ends the reading, with pieces of this size and calls of these numbers that fail.
+// Reads a stream up to the result that ends the reading.
 fn expect(
     rt: &(impl Abort + AllocGlobal),
-    parts: &[&[u8]],
-    fail: &[u64],
-    piece: usize,
-    cap: u64,
+    stream: Stream,
     answers: Answers,
     end: Result<PacketRead, InFault>,
 ) -> Result<(), Fail> {
-    assert!(rt; piece > 0);
-    let mut port = port_of(rt.alloc(), parts, fail, piece)?;
-    let mut reader = PacketReader::new(rt.alloc(), cap)?;
-    compare(rt, &mut reader, &mut port, piece, answers);
-    ends(rt, &mut reader, &mut port, cap, end);
+    assert!(rt; stream.piece > 0);
+    let mut port = port_of(rt.alloc(), stream.parts, stream.fail, stream.piece)?;
+    let mut reader = PacketReader::new(rt.alloc(), stream.cap)?;
+    compare(rt, &mut reader, &mut port, stream.piece, answers);
+    ends(rt, &mut reader, &mut port, stream.cap, end);
     Ok(())
 }
 
 #[test]
 fn framing_faults_end_the_reading(rt: HostRuntime) -> Result<(), Fail> {
     let answers = [(100, Ok(MINE))];
-    expect(&rt, &[&BLACK], &[], 9, 53, &answers, Ok(PacketRead::Ended))?;
+    let black = whole(&[&BLACK], 9, 53);
+    expect(&rt, black, &answers, Ok(PacketRead::Ended))?;
     let cases: [(&[u8], Framing); 5] = [
         (&[0xff], Framing::BadVersion { octet: 52 }),
         (&[0x20, 0, 0], Framing::BadVersion { octet: 52 }),
@@ -95,7 +93,7 @@ fn framing_faults_end_the_reading(rt: HostRuntime) -> Result<(), Fail> {
     ];
     for (second, fault) in cases {
         let end = Ok(PacketRead::Fault(fault));
-        expect(&rt, &[&BLACK, second], &[], 9, 1000, &answers, end)?;
+        expect(&rt, whole(&[&BLACK, second], 9, 1000), &answers, end)?;
     }
     Ok(())
 }
@@ -104,12 +102,17 @@ fn framing_faults_end_the_reading(rt: HostRuntime) -> Result<(), Fail> {
 fn cap_is_long_input_but_for_a_bad_version(rt: HostRuntime) -> Result<(), Fail> {
     let long = Err(InFault::LongInput);
     for cap in [1, 30, 51] {
-        expect(&rt, &[&BLACK], &[], 20, cap, &[], long)?;
+        expect(&rt, whole(&[&BLACK], 20, cap), &[], long)?;
     }
     let answers = [(100, Ok(MINE))];
-    expect(&rt, &[&BLACK], &[], 20, 52, &answers, long)?;
+    expect(&rt, whole(&[&BLACK], 20, 52), &answers, long)?;
     let fault = Ok(PacketRead::Fault(Framing::BadVersion { octet: 52 }));
-    expect(&rt, &[&BLACK, &[0xff, 0, 0]], &[], 20, 53, &answers, fault)
+    expect(
+        &rt,
+        whole(&[&BLACK, &[0xff, 0, 0]], 20, 53),
+        &answers,
+        fault,
+    )
 }
 
 #[test]
@@ -117,5 +120,11 @@ fn failed_read_is_tried_again(rt: HostRuntime) -> Result<(), Fail> {
     let fault = Err(InFault::ReadFault);
     let answers = [(100, fault), (100, fault), (100, Ok(MINE))];
     let end = Ok(PacketRead::Ended);
-    expect(&rt, &[&BLACK], &[0, 2], 30, 1000, &answers, end)
+    let stream = Stream {
+        parts: &[&BLACK],
+        fail: &[0, 2],
+        piece: 30,
+        cap: 1000,
+    };
+    expect(&rt, stream, &answers, end)
 }

@@ -1,5 +1,5 @@
 // Texts of segments, octet by octet.
-use crate::examples::{FIRST, changed, port_of, second};
+use crate::examples::{FIRST, Stream, changed, port_of, second, whole};
 use bit_pipe::{InFault, OctetIn};
 use packet_assembly::{Assembly, Framing, SegmentStart};
 use port_122::MemoryPort;
@@ -46,17 +46,11 @@ fn asked(assembly: &mut Assembly, port: &mut MemoryPort, step: Step) -> Step {
     }
 }
 
-// Takes these steps over a stream, with pieces of this size and calls of these numbers that fail.
-fn expect(
-    rt: &(impl Abort + AllocGlobal),
-    parts: &[&[u8]],
-    fail: &[u64],
-    piece: usize,
-    cap: u64,
-    steps: &[Step],
-) -> Result<(), Fail> {
-    assert!(rt; piece > 0);
-    let mut port = port_of(rt.alloc(), parts, fail, piece)?;
+// Takes these steps over a stream.
+fn expect(rt: &(impl Abort + AllocGlobal), stream: Stream, steps: &[Step]) -> Result<(), Fail> {
+    assert!(rt; stream.piece > 0);
+    let cap = stream.cap;
+    let mut port = port_of(rt.alloc(), stream.parts, stream.fail, stream.piece)?;
     let mut packets = Assembly::new(rt.alloc(), 100, cap)?;
     for (number, step) in steps.iter().enumerate() {
         let answered = asked(&mut packets, &mut port, *step);
@@ -78,7 +72,7 @@ fn a_text_arrives_octet_by_octet(rt: HostRuntime) -> Result<(), Fail> {
         Step::Octet(Ok(Some(0x77))),
         NONE_FOUND,
     ];
-    expect(&rt, &[&FIRST, &second()], &[], 7, 1000, &steps)
+    expect(&rt, whole(&[&FIRST, &second()], 7, 1000), &steps)
 }
 
 #[test]
@@ -94,7 +88,7 @@ fn another_segment_breaks_a_text(rt: HostRuntime) -> Result<(), Fail> {
         SECOND_FOUND,
         Step::Octet(Ok(Some(0x77))),
     ];
-    expect(&rt, &[&broken, &second()], &[], 64, 1000, &steps)
+    expect(&rt, whole(&[&broken, &second()], 64, 1000), &steps)
 }
 
 #[test]
@@ -115,7 +109,7 @@ fn a_later_part_goes_on(rt: HostRuntime) -> Result<(), Fail> {
     steps[25] = NONE_FOUND;
     steps[26] = Step::Framing(Some(Framing::BadVersion { octet: 154 }));
     let parts: [&[u8]; 4] = [&head, &changed(0, 0x18), &last, &[0xff]];
-    expect(&rt, &parts, &[], 64, 1000, &steps)
+    expect(&rt, whole(&parts, 64, 1000), &steps)
 }
 
 #[test]
@@ -130,7 +124,7 @@ fn the_end_and_the_cap_break_a_text(rt: HostRuntime) -> Result<(), Fail> {
             Step::Octet(Err(fault)),
             Step::Octet(Err(fault)),
         ];
-        expect(&rt, &[&broken], &[], 64, cap, &steps)?;
+        expect(&rt, whole(&[&broken], 64, cap), &steps)?;
     }
     Ok(())
 }
@@ -140,5 +134,11 @@ fn a_failed_read_is_read_again(rt: HostRuntime) -> Result<(), Fail> {
     let fault = Step::Segment(Err(InFault::ReadFault));
     let octet = Step::Octet(Ok(Some(0x5a)));
     let steps = [fault, FIRST_FOUND, octet, fault, NONE_FOUND];
-    expect(&rt, &[&FIRST], &[1, 3], 40, 1000, &steps)
+    let stream = Stream {
+        parts: &[&FIRST],
+        fail: &[1, 3],
+        piece: 40,
+        cap: 1000,
+    };
+    expect(&rt, stream, &steps)
 }

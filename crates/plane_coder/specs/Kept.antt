@@ -1,5 +1,5 @@
 -- The bits that the words of a gaggle send in stages 1 to 3, in its 32 masks. (This project's own.)
-use Rattle.std.specs.Prelude.{◌≡◌, ◌<◌, ◌≤◌, ℕ, ◌+◌, ◌-◌, ◌*◌, ◌/◌, ◌%◌, ◌^◌, Bool, List, [], ◌∷◌, length, take, drop}
+use Rattle.std.specs.Prelude.{◌≡◌, ◌⊎◌, ◌<◌, ◌≤◌, ℕ, ◌+◌, ◌-◌, ◌*◌, ◌/◌, ◌%◌, ◌^◌, Bool, List, [], ◌∷◌, length, take, drop}
 use Rattle.std.specs.List.{flat_map}
 use Rattle.std.specs.Int.Count.{count_leading_zeros}
 use lib.ListN.{get_or}
@@ -81,3 +81,7 @@ pub record IsStageOf (kept : List ℕ) (number g : ℕ) (stage : KeptStage) : Ty
   pub to : stage.to ≡ octet_in (free_at kept g) number
   pub room : stage.to ≤ 32
   pub sent : stage.sent ≡ flags_in (octet_in (free_at kept g) (3 + number))
+
+-- they are not kept: there is no gaggle g, or its bits up to the end of the stage need more than 32 masks
+abbrev pub IsNotKept : List ℕ → (number g : ℕ) → Type 0
+IsNotKept kept number g = (length kept / 32 ≤ g) ⊎ (32 < octet_in (free_at kept g) number)

@@ -1,12 +1,12 @@
 // The bits that the words of a gaggle send in stages 1 to 3, in 32 masks.
 
-ghost use Rattle.std.specs.Prelude.{◌≡◌, ◌+◌, ◌-◌, ◌*◌, ◌/◌, ◌%◌, ◌<◌, ◌≤◌, ◌^◌, ℕ, List, OnOk, IfSome, length, set, slice_index_or};
+ghost use Rattle.std.specs.Prelude.{◌≡◌, ◌+◌, ◌-◌, ◌*◌, ◌/◌, ◌%◌, ◌<◌, ◌≤◌, ◌^◌, ℕ, List, OnOk, MatchOption, length, set, slice_index_or};
 ghost use Rattle.bit_pipe.specs.SinkState.{sink_state, IsReady, IsOpen, Writes};
 ghost use Rattle.plane_defs.specs.Planes.{Plane, of_gaggle, before_stage};
 ghost use Rattle.block_masks.specs.Gaggles.{Agrees, AreOptions};
 ghost use Rattle.plane_coder.specs.Collected.{HasWords};
 ghost use Rattle.plane_coder.specs.Listed.{listed};
-ghost use Rattle.plane_coder.specs.Kept.{width_in, bits_between, octet_in, flags_in, HasOctets, Keeps, IsStageOf};
+ghost use Rattle.plane_coder.specs.Kept.{width_in, bits_between, octet_in, flags_in, HasOctets, Keeps, IsNotKept, IsStageOf};
 ghost use Rattle.plane_coder.specs.Left.{KeepsBits, KeepsNext};
 ghost use Rattle.base_122.specs.declared.book.Book.{Book as BookValue};
 
@@ -144,12 +144,12 @@ fn octet_at(mask: u64, n: u8) -> u64
     (mask >> (8 * n)) % 0x100
 }
 
-// Returns where the bits of the stage of this number of gaggle g are, if they are kept.
+// Returns where the bits of the stage of this number of gaggle g are, exactly if they are kept.
 #[inline(always)]
 pub(crate) fn kept_stage<const STAGE: u8>(kept: &[u64], g: usize) -> Option<KeptStage<'_>>
     requires first { 0 < STAGE }
     requires last { STAGE < 4 }
-    ensures { IfSome result (IsStageOf kept.now STAGE g) }
+    ensures { MatchOption result (IsNotKept kept.now STAGE g) (IsStageOf kept.now STAGE g) }
 {
     if kept.len() / FREE <= g {
         return None;

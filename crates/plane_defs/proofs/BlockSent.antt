@@ -26,7 +26,7 @@ use Rattle.item_defs.specs.Scripts.{Script, done, bit_form}
 use Rattle.item_defs.specs.Writing.{Writes}
 use Rattle.item_defs.proofs.Writing.{writes_none, writes_ask}
 use Rattle.plane_defs.specs.Written.{AreChosen}
-use Rattle.plane_defs.specs.States.{State, with_bits, and_one}
+use Rattle.plane_defs.specs.States.{State, with_bits, with_raw, and_one}
 use Rattle.plane_defs.specs.StageScripts.{Terms, bit_script, dc_bit_script, parents_script, children_script, grandchildren_script, refinement_script}
 use Rattle.plane_defs.specs.StageScripts.{stage_script}
 use Rattle.plane_defs.proofs.WordsWritten.{knows_same}
@@ -43,12 +43,12 @@ false_unless a x h1 h2 = grind (arith, nat_tests)
 
 -- a raw bit of a position
 pub bit_sent : (book : Book) (o : List ℕ) (p : ℕ) (x : Bool) (P : List Entry → State → Type 0) (before : List Entry) (s : State) →
-    P (before ++ Bit x ∷ []) (with_bits s (and_one (λ q. false) p x)) → Sends book o (bit_script p s) before (step free (Bit x) ∷ []) P
+    P (before ++ Bit x ∷ []) (with_raw (with_bits s (and_one (λ q. false) p x)) p) → Sends book o (bit_script p s) before (step free (Bit x) ∷ []) P
 bit_sent book o p x P before s r =
     subst (λ l. Writes (bit_script p s) (l ++ []) (P (before ++ Bit x ∷ []))) (sym (bit_reading book o before free x))
-    (writes_ask (P (before ++ Bit x ∷ [])) s bit_form (λ n. done (with_bits s (and_one (λ q. false) p (n == 1)))) (raw (digit x)) [] refl
-    (writes_none (P (before ++ Bit x ∷ [])) (with_bits s (and_one (λ q. false) p (digit x == 1)))
-    (subst (λ y. P (before ++ Bit x ∷ []) (with_bits s (and_one (λ q. false) p y))) (sym (digit_is x)) r)))
+    (writes_ask (P (before ++ Bit x ∷ [])) s bit_form (λ n. done (with_raw (with_bits s (and_one (λ q. false) p (n == 1))) p)) (raw (digit x)) [] refl
+    (writes_none (P (before ++ Bit x ∷ [])) (with_raw (with_bits s (and_one (λ q. false) p (digit x == 1))) p)
+    (subst (λ y. P (before ++ Bit x ∷ []) (with_raw (with_bits s (and_one (λ q. false) p y)) p)) (sym (digit_is x)) r)))
 
 module _ (o : List ℕ) (chosen : AreChosen o) (t : Terms) (block v : List ℤ) (same : SameAc block v (t.plane + 1)) (whole : IsMultiple v t.weights) where
   abbrev W : List ℕ

@@ -57,3 +57,10 @@ pub mod CutPlanes
 pub mod CutEnds
 pub mod CutNumbers
 mod WorkedRead
+mod WorkedLowsRead
+pub mod NumbersGiven
+pub mod StageYields
+pub mod PlaneYields
+pub mod LowsRoom
+pub mod StageFull
+pub mod LowsFull

@@ -20,7 +20,7 @@ plane_goes t is_sound depths blocks stages =
     (goes_of (λ u. (true ≡ true → AllOptions u) × AllFair t depths blocks u) (plane_script t depths blocks stages)
     (plane_may true t is_sound depths blocks stages))
 
-long_with : (plane : ℕ) (blocks : List (List ℤ)) (s : PlaneState) → length (blocks_with plane blocks s) ≡ length blocks
+pub long_with : (plane : ℕ) (blocks : List (List ℤ)) (s : PlaneState) → length (blocks_with plane blocks s) ≡ length blocks
 long_with plane blocks s = length-map-span (λ r. block_with plane (get_or blocks r []) (s.blocks r)) (length blocks)
 
 pub planes_go : (book : Book) → is_book_sound book ≡ true → (weights : List ℕ) (q : ℕ) (depths : List ℕ) (stages : ℕ → ℕ) (below : ℕ) (blocks : List (List ℤ)) →

@@ -14,7 +14,11 @@ pub mod States
 pub mod WordScripts
 pub mod StageScripts
 pub mod PlaneScript
+pub mod Lows
+pub mod Restored
 pub mod Worked
+pub mod WorkedLows
+pub mod LowLaws
 pub mod ScriptLaws
 pub mod Written
 pub mod Back

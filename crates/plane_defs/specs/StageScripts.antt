@@ -9,7 +9,7 @@ use Rattle.plane_defs.specs.Spans.{span}
 use Rattle.plane_defs.specs.Sets.{significant, coded, set_significant, live, type_due, refined, children_of, quad_of}
 use Rattle.plane_defs.specs.Steps.{ones_at, some_one_where}
 use Rattle.item_defs.specs.Scripts.{Script, done, then_ask, in_turn, ask_bit}
-use Rattle.plane_defs.specs.States.{State, with_bits, with_families, and_one}
+use Rattle.plane_defs.specs.States.{State, with_bits, with_raw, with_families, and_one}
 use Rattle.plane_defs.specs.WordScripts.{due_script, types_script, group_script}
 
 -- the book of codes, the shifts of the bands, the plane, and the low bits of the DC numbers that the DC part left out
@@ -27,9 +27,9 @@ above t block set = set_significant block (t.plane + 1) set
 abbrev pub is_due : Terms → List ℤ → Set → (enclosing : Bool) → Bool
 is_due t block set enclosing = enclosing && (not (above t block set) && live t.weights t.plane set)
 
--- position p has this bit of the plane
+-- position p has this bit of the plane, a raw bit
 abbrev pub bit_script : ℕ → State → Script State State
-bit_script p s = ask_bit s (λ b. done (with_bits s (and_one (λ q. false) p b)))
+bit_script p s = ask_bit s (λ b. done (with_raw (with_bits s (and_one (λ q. false) p b)) p))
 
 -- ---- stage 0: bit b of the DC, if b is at least the shift of LL3 and below q
 

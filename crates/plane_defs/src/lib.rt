@@ -13,6 +13,8 @@ mod stages;
 
 pub use entries::{Bits, Entry};
 pub use laws::words_read_once;
-pub use scripts::{planes_are_read, planes_are_returned, planes_go, types_are_read, worked_texts};
+pub use scripts::{
+    planes_are_read, planes_are_returned, planes_go, types_are_read, worked_lows, worked_texts,
+};
 pub use sets::Set;
 pub use stages::Stage;

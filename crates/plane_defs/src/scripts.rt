@@ -1,8 +1,10 @@
 // What some texts are read as, and the laws of the scripts.
 ghost use Rattle.plane_defs.specs.ScriptLaws.{PlanesGo};
+ghost use Rattle.plane_defs.specs.LowLaws.{NumbersAreGiven, RestoredByPosition};
 ghost use Rattle.plane_defs.specs.Written.{TypesWritten, PlanesWritten};
 ghost use Rattle.plane_defs.specs.Back.{PlanesBack};
 ghost use Rattle.plane_defs.specs.Worked.{WorkedTexts};
+ghost use Rattle.plane_defs.specs.WorkedLows.{WorkedLows};
 
 /// Texts that are worked out by hand are read so.
 pub const fn worked_texts()
@@ -28,4 +30,19 @@ pub const fn planes_are_read()
 /// If all stages of all planes are read with possible answers, the items are those that the blocks at the end write.
 pub const fn planes_are_returned()
     ensures { PlanesBack }
+{}
+
+/// Texts of planes that are cut, and are worked out by hand, are restored so.
+pub const fn worked_lows()
+    ensures { WorkedLows }
+{}
+
+/// The numbers of the script with what is given of each are those of the script without.
+pub const fn numbers_are_given()
+    ensures { NumbersAreGiven }
+{}
+
+/// Restored numbers are there by block and position.
+pub const fn restored_by_position()
+    ensures { RestoredByPosition }
 {}

@@ -1,6 +1,7 @@
 -- Blocks, as a stage reads them.
 use Rattle.std.proofs.Common.{◌≡◌, ℕ, ◌+◌, ◌*◌, ◌<◌, ◌≤◌, ◌^◌, ◌==◌, ◌&&◌, ◌||◌, not, List, ◌++◌, Bool, true, false, length, refl, sym, ap, subst, ◌∙◌}
 use Rattle.std.proofs.Common.{arith, Option, Some, None, Result, Ok, Err, ℤ, pos, get_or, pow_pos, if◌then◌else◌}
+use Rattle.std.proofs.Math.Bool.{or-false}
 use Rattle.std.proofs.lemmas.Nat.Bits.{bit_at_above}
 use Rattle.item_defs.specs.Bits.{bit}
 use Rattle.plane_defs.specs.Sets.{significant, coded, type_due}
@@ -27,7 +28,7 @@ use Rattle.plane_reader.specs.Takes.{AreIn, IsState, Marks, OnSome}
 use Rattle.plane_reader.specs.Held.{Point, ReadsFrom}
 use Rattle.plane_reader.specs.HeldTakes.{HeldState, HeldFamilies}
 use Rattle.plane_reader.specs.Grandchildren.{grandchildren_from}
-use Rattle.plane_reader.specs.Blocks.{IsAbove, Applies, HasRead, HeldStage, TakesBlock, part_from, stage_part}
+use Rattle.plane_reader.specs.Blocks.{raw_slot, IsAbove, AddsRaw, Applies, HasRead, HeldStage, TakesBlock, part_from, stage_part}
 use Rattle.plane_reader.proofs.Frames.{as_read, as_before, beside, mapped, blank, beside_blank, parents_frame, grandchildren_frame, refinement_frame}
 use Rattle.plane_reader.proofs.Frames.{children_frame, around_is}
 
@@ -89,18 +90,48 @@ either_at {a} {b} {r} if_known la lb p lt =
     let z : 0 + p ≡ p = omega arith in
     (if_known (bit a) (bit b) 0 64 (shows_own a 64 la) (shows_own b 64 lb)).at p lt ∙ ap (λ q. bit a q || bit b q) z
 
-pub masks_put : {r plane bits minus : ℕ} {found : Found} {old mid new : List ℤ} → plane < 27 → PutsMask r minus_slot minus old mid →
-    PutsMask r plane bits mid new → 64 * r < length old →
-    ((p : ℕ) → p < 64 → bit bits p ≡ (bit (mask_in old r plane) p || bit found.bits p)) → ((p : ℕ) → p < 64 → bit minus p ≡ (bit (mask_in
-    old r minus_slot) p || bit found.minus p)) → Applies plane r found old new
-masks_put {r} {plane} {old = old} {mid} {new} low first second within bits minus = record {
+-- the mask of raw bits, if there are some
+pub raw_put : {r raw all : ℕ} {old new : List ℤ} → PutsMask r raw_slot all old new → ((p : ℕ) → p < 64 → bit all p ≡ (bit (mask_in old r raw_slot) p || bit raw
+    p)) → AddsRaw r raw old new
+raw_put {old = old} {new} put bits = record {
+  long = put.long;
+  bits = λ p lt. ap (λ m. bit m p) put.here ∙ bits p lt;
+  slots = put.other_slots;
+  others = put.other_blocks;
+}
+
+pub raw_none : {r raw : ℕ} (cells : List ℤ) → raw ≡ 0 → AddsRaw r raw cells cells
+raw_none {r} {raw} cells none = record {
+  long = refl;
+  bits = λ p lt. sym (ap (λ m. bit (mask_in cells r raw_slot) p || bit m p) none ∙ ap (λ b. bit (mask_in cells r raw_slot) p || b) (zero_at p) ∙ or-false
+      (bit (mask_in cells r raw_slot) p));
+  slots = λ slot lt apart. refl;
+  others = λ q slot inside lt apart. refl;
+}
+  where
+    zero_at : (p : ℕ) → bit 0 p ≡ false
+    zero_at p = ap (λ x. x == 1) (bit_at_above 0 0 p (omega arith) (omega arith))
+
+pub masks_put : {r plane bits minus : ℕ} {found : Found} {old given mid new : List ℤ} → plane < 27 → AddsRaw r found.raw old given →
+    PutsMask r minus_slot minus given mid → PutsMask r plane bits mid new → 64 * r < length old →
+    ((p : ℕ) → p < 64 → bit bits p ≡ (bit (mask_in given r plane) p || bit found.bits p)) → ((p : ℕ) → p < 64 → bit minus p ≡ (bit (mask_in
+    given r minus_slot) p || bit found.minus p)) → Applies plane r found old new
+masks_put {r} {plane} {found = found} {old = old} {given} {mid} {new} low raw first second within bits minus = record {
   keeps = record {
-    long = second.long ∙ first.long;
-    slots = λ slot lt apart not_minus. second.other_slots slot lt apart ∙ first.other_slots slot lt not_minus;
-    others = λ q slot inside lt apart. second.other_blocks q slot (omega (arith, inside, first.long)) lt apart ∙ first.other_blocks q slot inside lt apart;
+    long = second.long ∙ first.long ∙ raw.long;
+    slots = λ slot lt apart not_minus not_raw. second.other_slots slot lt apart ∙ first.other_slots slot lt not_minus ∙ raw.slots slot lt not_raw;
+    others = λ q slot inside lt apart. second.other_blocks q slot (omega (arith, inside, first.long, raw.long)) lt apart ∙ first.other_blocks q slot
+        (omega (arith, inside, raw.long)) lt apart ∙ raw.others q slot inside lt apart;
   };
-  bits = λ p lt. ap (λ m. bit m p) second.here ∙ bits p lt;
-  minus = λ p lt. ap (λ m. bit m p) (second.other_slots minus_slot (omega arith) (λ e. omega (arith, e, low)) ∙ first.here) ∙ minus p lt;
+  bits = λ p lt. ap (λ m. bit m p) second.here ∙ bits p lt ∙ ap (λ m. bit m p || bit found.bits p) (raw.slots plane (omega (arith, low)) (λ e. omega (
+    arith,
+    e,
+    low,
+  )));
+  minus = λ p lt. ap (λ m. bit m p) (second.other_slots minus_slot (omega arith) (λ e. omega (arith, e, low)) ∙ first.here) ∙ minus p lt ∙
+      ap (λ m. bit m p || bit found.minus p) (raw.slots minus_slot (omega arith) (λ e. omega (arith, e)));
+  raw = λ p lt. ap (λ m. bit m p) (second.other_slots raw_slot (omega arith) (λ e. omega (arith, e, low)) ∙ first.other_slots raw_slot (omega arith)
+      (λ e. omega (arith, e))) ∙ raw.bits p lt;
 }
 
 -- what is significant before a stage
@@ -132,54 +163,57 @@ nothing_shown f none = record { at = λ k lt. zero_bit k ∙ sym (none (0 + k));
     zero_bit k = ap (λ x. x == 1) (bit_at_above 0 0 k (omega arith) (omega arith))
 
 abbrev pub nothing_found : Found
-nothing_found = record { bits = 0; minus = 0 }
+nothing_found = record { bits = 0; minus = 0; raw = 0 }
 
 -- nothing was found yet
-pub blank_found : {g : Gaggle} {f : Found} (s : State) → f.bits ≡ 0 → f.minus ≡ 0 → AreIn g s.options → IsState g f (blank s)
-blank_found s none no_minus are = record {
+pub blank_found : {g : Gaggle} {f : Found} (s : State) → f.bits ≡ 0 → f.minus ≡ 0 → f.raw ≡ 0 → AreIn g s.options → IsState g f (blank s)
+blank_found s none no_minus no_raw are = record {
   options = are;
   bits = subst (λ m. Shows m (λ p. false) 0 64) (sym none) (nothing_shown (λ p. false) (λ p. refl));
   minus = subst (λ m. Shows m (λ p. false) 0 64) (sym no_minus) (nothing_shown (λ p. false) (λ p. refl));
+  raw = subst (λ m. Shows m (λ p. false) 0 64) (sym no_raw) (nothing_shown (λ p. false) (λ p. refl));
 }
 
 -- ---- a stage beside what was read before
 
 module _ (part : State → Script State State) (s : State) (families : (ℕ → Bool) → ℕ → Bool) (same : families s.families ≡ s.families)
-    (frame : (u : State) → part (beside s.bits s.minus families u) ≡ mapped (beside s.bits s.minus families) (beside s.bits s.minus families) (part u)) where
-  part_beside : around (beside s.bits s.minus families) (part (blank s)) ≡ part s
-  part_beside = sym (frame (blank s) ∙ around_is (beside s.bits s.minus families) (part (blank s))) ∙ ap part (beside_blank s families same)
+    (frame : (u : State) → part (beside s.bits s.raw s.minus families u) ≡ mapped (beside s.bits s.raw s.minus families) (beside s.bits s.raw s.minus
+    families) (part u)) where
+  part_beside : around (beside s.bits s.raw s.minus families) (part (blank s)) ≡ part s
+  part_beside = sym (frame (blank s) ∙ around_is (beside s.bits s.raw s.minus families) (part (blank s))) ∙ ap part (beside_blank s families same)
 
   module _ {I : Type 0} {k : SourceOf I} {g : Gaggle} {f : Found} {x y : Point I} (now : State) (is : IsState g f now) where
     pub stage_held : (result : Result (Option ℕ) TextFault) → OnSome result (λ m. Shows m (families now.families) 0 3) →
         ReadsFrom k (part (blank s)) (by_done result now now) x y → HeldStage k (part s) s result g f x y
     stage_held result shown read =
-        let end = beside s.bits s.minus families now in
+        let end = beside s.bits s.raw s.minus families now in
         record {
           now = end;
           options = is.options;
           bits = λ p lt. let z : 0 + p ≡ p = omega arith in ap (λ b. s.bits p || b) (sym (is.bits.at p lt ∙ ap now.bits z));
           minus = λ p lt. let z : 0 + p ≡ p = omega arith in ap (λ b. s.minus p || b) (sym (is.minus.at p lt ∙ ap now.minus z));
+          raw = λ p lt. let z : 0 + p ≡ p = omega arith in ap (λ b. s.raw p || b) (sym (is.raw.at p lt ∙ ap now.raw z));
           families = shown;
-          read = subst (λ z. ReadsFrom k z (by_done result end end) x y) part_beside (reads_around (beside s.bits s.minus families) (part
+          read = subst (λ z. ReadsFrom k z (by_done result end end) x y) part_beside (reads_around (beside s.bits s.raw s.minus families) (part
               (blank s)) result now read);
         }
 
 -- stages 1, 3 and 4
-part_frame : (t : Terms) (stage : ℕ) (block : List ℤ) (earlier : State) (bits minus : ℕ → Bool) (families : (ℕ → Bool) → ℕ → Bool) (u : State) →
-    part_from t stage block earlier (beside bits minus families u) ≡ mapped (beside bits minus families) (beside bits minus families)
+part_frame : (t : Terms) (stage : ℕ) (block : List ℤ) (earlier : State) (bits raw minus : ℕ → Bool) (families : (ℕ → Bool) → ℕ → Bool) (u : State) →
+    part_from t stage block earlier (beside bits raw minus families u) ≡ mapped (beside bits raw minus families) (beside bits raw minus families)
     (part_from t stage block earlier u)
-part_frame t stage block earlier bits minus families u = by_stage (stage == 1) (stage == 3)
+part_frame t stage block earlier bits raw minus families u = by_stage (stage == 1) (stage == 3)
   where
     put : State → State
-    put = beside bits minus families
+    put = beside bits raw minus families
 
-    by_stage : (one three : Bool) → (if one then parents_script t block (beside bits minus families u) else if three then grandchildren_from t block earlier
-        (beside bits minus families u) else refinement_script t block (beside bits minus families u)) ≡
-        mapped (beside bits minus families) (beside bits minus families)
+    by_stage : (one three : Bool) → (if one then parents_script t block (beside bits raw minus families u) else if three then grandchildren_from t block earlier
+        (beside bits raw minus families u) else refinement_script t block (beside bits raw minus families u)) ≡
+        mapped (beside bits raw minus families) (beside bits raw minus families)
         (if one then parents_script t block u else if three then grandchildren_from t block earlier u else refinement_script t block u)
-    by_stage true three = parents_frame bits minus families t block u
-    by_stage false true = grandchildren_frame bits minus families t block earlier u
-    by_stage false false = refinement_frame bits minus families t block u
+    by_stage true three = parents_frame bits raw minus families t block u
+    by_stage false true = grandchildren_frame bits raw minus families t block earlier u
+    by_stage false false = refinement_frame bits raw minus families t block u
 
 abbrev numbers_part : Terms → (stage : ℕ) → List ℤ → State → State → Script State State
 numbers_part t stage block s u = part_from t stage block s u
@@ -194,7 +228,7 @@ module _ {I : Type 0} {k : SourceOf I} (t : Terms) (stage : ℕ) (block : List �
       (by_done result h h) x y) →
       stage == 2 ≡ false → HeldState k (numbers_part t stage block s (blank s)) o g f x y → HeldStage k (stage_part t stage block s) s result g f x y
   numbers_stage o result shown turn other h =
-      held_part other result (stage_held (numbers_part t stage block s) s (as_before s.families) refl (part_frame t stage block s s.bits s.minus
+      held_part other result (stage_held (numbers_part t stage block s) s (as_before s.families) refl (part_frame t stage block s s.bits s.raw s.minus
       (as_before s.families)) h.now h.is result shown (turn h.now h.read))
 
   pub numbers_fault : (fault : TextFault) → stage == 2 ≡ false → HeldState {X = Unit {0}} k (numbers_part t stage block s (blank s)) (Err fault) g f x y →
@@ -214,7 +248,8 @@ module _ {I : Type 0} {k : SourceOf I} (t : Terms) (stage : ℕ) (block : List �
       HeldStage k (stage_part t stage block s) s result g f x y
   children_read result two h =
       subst (λ b. HeldStage k (if b then children_script t block s else part_from t stage block s s) s result g f x y) (sym two)
-      (stage_held (children_script t block) s as_read refl (children_frame s.bits s.minus as_read (λ F. refl) t block) h.now h.is result h.families h.read)
+      (stage_held (children_script t block) s as_read refl (children_frame s.bits s.raw s.minus as_read (λ F. refl) t block) h.now h.is result h.families
+      h.read)
 
 -- ---- what was found is put beside what was read before
 
@@ -229,6 +264,7 @@ module _ {I : Type 0} {k : SourceOf I} {script : Script State State} {plane r : 
     bits = λ p ac. applies.bits p ac.1 ∙ ap (λ b. b || bit found.bits p) (has.bits p ac) ∙ sym (h.bits p ac.1);
     minus = λ p ac. applies.minus p ac.1 ∙ ap (λ b. b || bit found.minus p) (has.minus p ac) ∙ or_assoc (negative (get_or block p (pos 0))) (s.minus p)
         (bit found.minus p) ∙ ap (λ b. negative (get_or block p (pos 0)) || b) (sym (h.minus p ac.1));
+    raw = λ p lt. applies.raw p lt ∙ ap (λ b. b || bit found.raw p) (has.raw p lt) ∙ sym (h.raw p lt);
   }
 
   pub block_fault : (fault : TextFault) {mark : ℤ} → HeldStage k script s (Err fault) g found x y → TakesBlock k plane r block script (Err fault) g mark new x y

@@ -13,7 +13,7 @@ place_within count r slot within few =
     let most : width count r * slot ≤ width count r * 31 = grind arith in
     omega (arith, most)
 
-module _ (a b : List ℤ) (groups : length a % 15360 ≡ 0) where
+module _ (a b : List ℤ) (groups : length a % 4096 ≡ 0) where
   from_left : (i : ℕ) → i + 1 < length a → mask_from (a ++ b) i ≡ mask_from a i
   from_left i lt = rw (get_or_append_left a b (pos 0) i (omega (arith, lt)), get_or_append_left a b (pos 0) (i + 1) lt) refl
 
@@ -25,12 +25,12 @@ module _ (a b : List ℤ) (groups : length a % 15360 ≡ 0) where
   place_left : (r s : ℕ) → 64 * r < length a → place (length (a ++ b) / 64) r s ≡ place (length a / 64) r s
   place_left r s known =
       let w : width (length (a ++ b) / 64) r ≡ width (length a / 64) r = omega (arith, groups, known, length-append a b) in
-      ap (λ n. 15360 * (r / 240) + 2 * (n * s + r % 240)) w
+      ap (λ n. 4096 * (r / 64) + 2 * (n * s + r % 64)) w
 
   place_right : (r s : ℕ) → place (length (a ++ b) / 64) (length a / 64 + r) s ≡ length a + place (length b / 64) r s
   place_right r s =
-      let g : (length a / 64 + r) / 240 ≡ length a / 15360 + r / 240 = omega (arith, groups) in
-      let m : (length a / 64 + r) % 240 ≡ r % 240 = omega (arith, groups) in
+      let g : (length a / 64 + r) / 64 ≡ length a / 4096 + r / 64 = omega (arith, groups) in
+      let m : (length a / 64 + r) % 64 ≡ r % 64 = omega (arith, groups) in
       let w : width (length (a ++ b) / 64) (length a / 64 + r) ≡ width (length b / 64) r = omega (arith, groups, length-append a b, g) in
       rw (w, g, m) (omega (arith, groups))
 
@@ -83,20 +83,20 @@ module _ (a b : List ℤ) (groups : length a % 15360 ≡ 0) where
 
 -- ---- a group that is put back
 
-pub put_long : (g n e : ℕ) (now part : List ℤ) → e ≡ 15360 * g + n → e ≤ length now → length part ≡ n → length (put_mid (15360 * g) n now part) ≡ length now
+pub put_long : (g n e : ℕ) (now part : List ℤ) → e ≡ 4096 * g + n → e ≤ length now → length part ≡ n → length (put_mid (4096 * g) n now part) ≡ length now
 put_long g n e now part ends within size =
     omega (
       arith,
       ends,
       within,
       size,
-      length-append (take (15360 * g) now) (part ++ drop n (drop (15360 * g) now)),
-      length-append part (drop n (drop (15360 * g) now)),
-      length-take-le (15360 * g) now (omega (arith, ends, within)),
-      length-drop n (drop (15360 * g) now),
-      length-drop (15360 * g) now,
+      length-append (take (4096 * g) now) (part ++ drop n (drop (4096 * g) now)),
+      length-append part (drop n (drop (4096 * g) now)),
+      length-take-le (4096 * g) now (omega (arith, ends, within)),
+      length-drop n (drop (4096 * g) now),
+      length-drop (4096 * g) now,
     )
 
-pub drop_then : (g n e : ℕ) (old now : List ℤ) → e ≡ 15360 * g + n → drop (15360 * g) now ≡ drop (15360 * g) old → drop e now ≡ drop e old
-drop_then g n e old now ends rest = ap (λ k. drop k now) ends ∙ sym (drop-drop n (15360 * g) now) ∙ ap (drop n) rest ∙ drop-drop n (15360 * g) old ∙
+pub drop_then : (g n e : ℕ) (old now : List ℤ) → e ≡ 4096 * g + n → drop (4096 * g) now ≡ drop (4096 * g) old → drop e now ≡ drop e old
+drop_then g n e old now ends rest = ap (λ k. drop k now) ends ∙ sym (drop-drop n (4096 * g) now) ∙ ap (drop n) rest ∙ drop-drop n (4096 * g) old ∙
     ap (λ k. drop k old) (sym ends)

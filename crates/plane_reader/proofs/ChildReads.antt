@@ -144,7 +144,7 @@ module _ (t : Terms) (block : List ℤ) (s : State) where
               let last : Script State State = done end in
               record {
                 now = end;
-                is = record { options = q.is.options; bits = q.is.bits; minus = q.is.minus };
+                is = record { options = q.is.options; bits = q.is.bits; minus = q.is.minus; raw = q.is.raw };
                 families = shown;
                 read = reads_then (descendants_script t block s) after_flag all (got end) flag
                     (reads_then (family_part all) after_families given (got end) p.read (reads_then (types_part p.ones then_state) (last_part p.ones) q.now

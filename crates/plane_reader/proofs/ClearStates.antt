@@ -3,13 +3,15 @@ use Rattle.std.proofs.Common.{◌≡◌, ℕ, zero, suc, ◌+◌, ◌-◌, ◌*�
 use Rattle.std.proofs.Common.{refl, ap, sym, ◌∙◌, subst, arith, get_or-set_same, get_or-set_other, Some, None}
 use Rattle.std.proofs.Math.ListN.{get_or-eq_default}
 use Rattle.std.proofs.Math.Seq.{map-set_same}
-use Rattle.std.proofs.lemmas.Bool.{cases_lt}
+use Rattle.std.proofs.lemmas.Bool.{cases_lt, cases_eq}
 use Rattle.plane_defs.specs.Marks.{depth_of, depths_of}
 use Rattle.block_masks.specs.Gaggles.{AreOptions, AreKnown, options_in, sent_in, families_in}
 use Rattle.block_masks.specs.Masks.{Shows}
 use Rattle.plane_defs.specs.PlaneScript.{nothing_yet}
 use Rattle.plane_reader.specs.Gaggles.{HaveFamilies, HaveOptions, gaggle_at}
-use Rattle.plane_reader.specs.Planes.{Clears}
+use Rattle.block_masks.specs.Slices.{mask_in, PutsMask}
+use Rattle.plane_reader.specs.Blocks.{raw_slot}
+use Rattle.plane_reader.specs.Planes.{Clears, ClearsRaw}
 use Rattle.plane_reader.proofs.HeldGroups.{zero_bit}
 
 pub record IsClear (mark : ℤ) : Type 0 where
@@ -92,3 +94,33 @@ one_shows {f = f} start e shows = record {
 
 pub none_shown : (f : ℕ → Bool) (start : ℕ) → Shows 0 f start 0
 none_shown f start = record { at = λ k lt. absurd (omega (arith, lt)); small = omega arith }
+
+-- ---- masks of raw bits
+
+-- the first n blocks have none
+pub record RawClear (n : ℕ) (old new : List ℤ) : Type 0 where
+  pub long : length new ≡ length old
+  pub none : (r : ℕ) → r < n → 64 * r < length old → mask_in new r raw_slot ≡ 0
+  pub slots : (r slot : ℕ) → 64 * r < length old → slot < 32 → (slot ≡ raw_slot → ⊥) → mask_in new r slot ≡ mask_in old r slot
+
+pub raw_clear_start : (cells : List ℤ) → RawClear 0 cells cells
+raw_clear_start cells = record { long = refl; none = λ r lt there. absurd (omega (arith, lt)); slots = λ r slot lt few apart. refl }
+
+pub raw_clear_more : {n : ℕ} {old mid new : List ℤ} → RawClear n old mid → PutsMask n raw_slot 0 mid new → RawClear (n + 1) old new
+raw_clear_more {n} {old} {mid} {new} p put =
+    let there : (r : ℕ) → 64 * r < length old → 64 * r < length mid = λ r lt. subst (λ m. 64 * r < m) (sym p.long) lt in
+    record {
+      long = put.long ∙ p.long;
+      none = λ r lt inside. elim (cases_eq r n) [
+        | inl e ↦ subst (λ m. mask_in new m raw_slot ≡ 0) (sym e) put.here
+        | inr other ↦ put.other_blocks r raw_slot (there r inside) (omega arith) other ∙ p.none r (omega (arith, lt, other)) inside
+      ];
+      slots = λ r slot lt few apart. elim (cases_eq r n) [
+        | inl e ↦ subst (λ m. mask_in new m slot ≡ mask_in old m slot) (sym e) (put.other_slots slot few apart ∙ p.slots n slot (subst (λ m. 64 * m < length
+            old) e lt) few apart)
+        | inr other ↦ put.other_blocks r slot (there r lt) few other ∙ p.slots r slot lt few apart
+      ];
+    }
+
+pub raw_clear_all : {n : ℕ} {old new : List ℤ} → RawClear n old new → length old ≤ 64 * n → ClearsRaw old new
+raw_clear_all p all = record { long = p.long; none = λ r lt. p.none r (omega (arith, lt, all)) lt; slots = p.slots }

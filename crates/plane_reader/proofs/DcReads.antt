@@ -1,12 +1,12 @@
 -- The bits of the DC numbers, as stage 0 reads them.
 use Rattle.std.proofs.Common.{◌≡◌, ℕ, zero, suc, ◌+◌, ◌*◌, ◌%◌, ◌^◌, ◌<◌, ◌≤◌, ◌==◌, ◌&&◌, ◌||◌, min, nat_lt, Bool, true, false, if◌then◌else◌, List, []}
-use Rattle.std.proofs.Common.{length, refl, ap, sym, ◌∙◌, subst, arith, ℤ, pos, ◌+ℤ◌, inl, inr, Option, Some, None, Result, Ok, Err, get_or, of_z, w32}
+use Rattle.std.proofs.Common.{length, refl, ap, sym, ◌∙◌, subst, arith, ℤ, pos, ◌+ℤ◌, Option, Some, None, Result, Ok, Err, get_or, of_z, w32}
 use Rattle.std.specs.Int.{cast_signed}
 use mir.Val.{SFits}
 use Rattle.std.proofs.Math.Bool.{or-false}
-use Rattle.std.proofs.lemmas.Bool.{cases_eq}
 use Rattle.std.proofs.lemmas.Bool.Decides.{nat_tests}
 use Rattle.std.proofs.lemmas.Int.{ints, of_z-to_z}
+use Rattle.std.proofs.lemmas.Nat.Bits.{bit_at_above}
 use Rattle.item_defs.specs.Bits.{bit}
 use Rattle.plane_defs.specs.Sets.{coded}
 use Rattle.block_masks.specs.Slices.{mask_in, minus_slot, dc_slot, PutsMask}
@@ -18,16 +18,17 @@ use Rattle.bit_pipe.specs.SourceState.{SourceState, IsIn}
 use Rattle.item_defs.specs.Scripts.{Script, done, ask_bit, then_ask, in_turn}
 use Rattle.bit_pipe.specs.ScriptSources.{got, ends, by_fault, ReadsAs}
 use Rattle.bit_pipe.proofs.ScriptReading.{read_done}
-use Rattle.plane_defs.specs.States.{State, with_bits, and_one}
+use Rattle.plane_defs.specs.States.{State}
 use Rattle.plane_defs.specs.StageScripts.{Terms, bit_script}
 use Rattle.plane_defs.specs.PlaneScript.{PlaneState, nothing_yet, of_block, with_block, bit_of_plane, blocks_script}
 use Rattle.plane_reader.specs.Above.{HasNoneBelow, AwaitDcs}
 use Rattle.plane_reader.specs.Held.{Point, Stays, ReadsFrom, LeadsTo}
 use Rattle.plane_reader.specs.HeldTakes.{HeldFlag}
-use Rattle.plane_reader.specs.Blocks.{HasRead}
+use Rattle.plane_reader.specs.Blocks.{raw_slot, HasRead}
 use Rattle.plane_reader.specs.Gaggles.{dc_in, HaveRead, TakesStage}
-use Rattle.plane_reader.specs.Planes.{AddsDc, KeepOthers, dc_item, HeldDcs}
+use Rattle.plane_reader.specs.Planes.{AddsDc, GivesDc, KeepOthers, dc_item, HeldDcs}
 use Rattle.plane_reader.proofs.HeldReads.{leads_start, leads_then, leads_got, reads_then, reads_later, reads_done, reads_cut, reads_fault, reads_closed}
+use Rattle.plane_reader.proofs.SignReads.{with_bit}
 use Rattle.plane_reader.proofs.BlockReads.{reads_around}
 use Rattle.plane_reader.proofs.DcSums.{dc_added}
 use Rattle.plane_reader.proofs.PlaneStates.{has_put, dcs_put, families_put, options_put, read_same}
@@ -52,39 +53,47 @@ dc_adds {plane} {r} {mask} {old} {new} low put is = record {
 }
 
 pub others_kept : (cells : List ℤ) → KeepOthers cells cells
-others_kept cells = record { long = refl; slots = λ r slot lt low apart. refl }
+others_kept cells = record { long = refl; slots = λ r slot lt low apart no_raw. refl }
 
-pub others_more : {plane r : ℕ} {old mid new : List ℤ} → KeepOthers old mid → AddsDc plane r mid new → KeepOthers old new
-others_more {r = r} {old} {mid} {new} p adds = record {
-  long = adds.long ∙ p.long;
-  slots = λ q slot lt low apart. (elim (cases_eq q r) [
-    | inl e ↦ subst (λ n. mask_in new n slot ≡ mask_in mid n slot) (sym e) (adds.slots slot low apart)
-    | inr other ↦ adds.others q slot (subst (λ n. 64 * q < n) (sym p.long) lt) low other
-  ]) ∙ p.slots q slot lt low apart;
+pub others_then : {old mid new : List ℤ} → KeepOthers old mid → KeepOthers mid new → KeepOthers old new
+others_then p q = record {
+  long = q.long ∙ p.long;
+  slots = λ r slot lt low apart no_raw. q.slots r slot (subst (λ n. 64 * r < n) (sym p.long) lt) low apart no_raw ∙ p.slots r slot lt low apart no_raw;
 }
+
+-- only the DC's bit is in the mask
+first_only : (p : ℕ) → bit 1 p ≡ (p == 0)
+first_only zero = refl
+first_only (suc p) =
+    let apart : (suc p == 0) ≡ false = grind (arith, nat_tests) in
+    ap (λ x. x == 1) (bit_at_above 1 1 (suc p) (omega arith) (omega arith)) ∙ sym apart
 
 -- ---- one block more
 
 abbrev pub read_bit : State → Bool → State
-read_bit s b = with_bits s (and_one (λ q. false) 0 b)
+read_bit s b = with_bit 0 s b
 
 plus_none : (z : ℤ) → z +ℤ pos 0 ≡ z
 plus_none z = omega (arith, ints)
 
-has_bit : {plane r : ℕ} {cells block : List ℤ} {s : State} (b : Bool) → HasRead plane r cells block s → HasRead plane r cells block (read_bit s b)
-has_bit {s = s} b has = record {
-  bits = λ q ac.
-      let low : 1 ≤ q = ac.0 in
-      let apart : (q == 0) ≡ false = grind (arith, nat_tests) in
-      has.bits q ac ∙ sym (ap (λ y. s.bits q || (false || (y && b))) apart ∙ or-false (s.bits q));
-  minus = has.minus;
+pub has_others : {plane r : ℕ} {old new : List ℤ} {block : List ℤ} {s : State} → plane < 27 → KeepOthers old new → 64 * r < length old →
+    mask_in new r raw_slot ≡ mask_in old r raw_slot → HasRead plane r old block s → HasRead plane r new block s
+has_others {plane} {r} low keeps inside same has = record {
+  bits = λ q ac. ap (λ m. bit m q) (keeps.slots r plane inside (omega (arith, low)) (λ e. omega (arith, e, low)) (λ e. omega (arith, e, low))) ∙ has.bits q ac;
+  minus = λ q ac. ap (λ m. bit m q) (keeps.slots r minus_slot inside (omega arith) (λ e. omega (arith, e)) (λ e. omega (arith, e))) ∙ has.minus q ac;
+  raw = λ q lt. ap (λ m. bit m q) same ∙ has.raw q lt;
 }
 
-pub has_others : {plane r : ℕ} {old new : List ℤ} {block : List ℤ} {s : State} → plane < 27 → KeepOthers old new → 64 * r < length old →
-    HasRead plane r old block s → HasRead plane r new block s
-has_others {plane} {r} low keeps inside has = record {
-  bits = λ q ac. ap (λ m. bit m q) (keeps.slots r plane inside (omega (arith, low)) (λ e. omega (arith, e, low))) ∙ has.bits q ac;
-  minus = λ q ac. ap (λ m. bit m q) (keeps.slots r minus_slot inside (omega arith) (λ e. omega (arith, e))) ∙ has.minus q ac;
+has_bit : {plane r : ℕ} {old new block : List ℤ} {s : State} (b : Bool) → plane < 27 → KeepOthers old new → 64 * r < length old →
+    mask_in new r raw_slot ≡ 1 → ((q : ℕ) → s.raw q ≡ false) → HasRead plane r old block s → HasRead plane r new block (read_bit s b)
+has_bit {plane} {r} {s = s} b low keeps inside given none has = record {
+  bits = λ q ac.
+      let some : 1 ≤ q = ac.0 in
+      let apart : (q == 0) ≡ false = grind (arith, nat_tests) in
+      ap (λ m. bit m q) (keeps.slots r plane inside (omega (arith, low)) (λ e. omega (arith, e, low)) (λ e. omega (arith, e, low))) ∙ has.bits q ac ∙
+      sym (ap (λ y. s.bits q || (false || (y && b))) apart ∙ or-false (s.bits q));
+  minus = λ q ac. ap (λ m. bit m q) (keeps.slots r minus_slot inside (omega arith) (λ e. omega (arith, e)) (λ e. omega (arith, e))) ∙ has.minus q ac;
+  raw = λ q lt. ap (λ m. bit m q) given ∙ first_only q ∙ sym (ap (λ y. y || (q == 0)) (none q));
 }
 
 -- the bits of the blocks before the j-th were read, and m more are left
@@ -92,6 +101,7 @@ pub record DcsLeft {I : Type 0} (k : SourceOf I) (plane j m : ℕ) (numbers : Li
     (cells : List ℤ) (old now : Point I) : Type 0 where
   pub state : PlaneState
   pub later : (r : ℕ) → j ≤ r → (state.blocks r).bits 0 ≡ false
+  pub none : (r q : ℕ) → j ≤ r → (state.blocks r).raw q ≡ false
   pub have : HaveRead plane cells marks numbers state
   pub left : LeadsTo k all (in_turn (dc_item true) j m state) old now
 
@@ -101,6 +111,7 @@ module _ {I : Type 0} {k : SourceOf I} {plane : ℕ} {numbers : List (List ℤ)}
   dcs_start {x = x} count n e i have = record {
     state = nothing_yet;
     later = λ r le. refl;
+    none = λ r q le. refl;
     have = have;
     left = subst (λ m. LeadsTo k (in_turn (dc_item true) 0 count nothing_yet) (in_turn (dc_item true) 0 m nothing_yet) x x) (sym e) (leads_start (in_turn
         (dc_item true) 0 count nothing_yet) i);
@@ -175,14 +186,12 @@ module _ {I : Type 0} {k : SourceOf I} {plane : ℕ} {numbers : List (List ℤ)}
         }
 
     -- the bit is b, and the DC has it
-    module _ (low : plane < 27) {cells' : List ℤ} (b : Bool) (keeps : KeepOthers cells cells') (dc : dc_in cells' j ≡ dc_in
-        cells j +ℤ pos (if b then 2 ^ plane else 0))
-        (others : (r : ℕ) → 64 * r < length cells → (r ≡ j → ⊥) → dc_in cells' r ≡ dc_in cells r) where
+    module _ (low : plane < 27) {cells' : List ℤ} (b : Bool) (gives : GivesDc plane j b cells cells') (free : HasNoneBelow (plane + 1) (dc_in cells j)) where
       end : PlaneState
       end = with_block l.state j (read_bit (of_block l.state j) b)
 
       there : (r : ℕ) → 64 * r < length cells' → 64 * r < length cells
-      there r lt = subst (λ n. 64 * r < n) keeps.long lt
+      there r lt = subst (λ n. 64 * r < n) gives.keeps.long lt
 
       number : ℤ
       number = get_or (get_or numbers j []) 0 (pos 0)
@@ -192,16 +201,16 @@ module _ {I : Type 0} {k : SourceOf I} {plane : ℕ} {numbers : List (List ℤ)}
       dc_now =
           let none = l.later j (omega arith) in
           let before : dc_in cells j ≡ number = l.have.dcs j inside ∙ ap (λ y. number +ℤ pos (if y then 2 ^ plane else 0)) none ∙ plus_none number in
-          dc ∙ ap (λ z. z +ℤ pos (if b then 2 ^ plane else 0)) before ∙ sym (ap (λ y. number +ℤ pos (if y || (false ||
+          gives.dc free ∙ ap (λ z. z +ℤ pos (if b then 2 ^ plane else 0)) before ∙ sym (ap (λ y. number +ℤ pos (if y || (false ||
           (true && b)) then 2 ^ plane else 0)) none)
 
       have_end : HaveRead plane cells' marks numbers end
       unfolding end number
       have_end = record {
-        has = has_put l.state j (read_bit (of_block l.state j) b) numbers (has_bit b (let was = l.have.has j inside in let u =
-            has_others low keeps inside was in record { bits = u.bits; minus = u.minus })) (λ i apart lt. has_others low keeps (there i lt) (l.have.has i
-            (there i lt)));
-        dcs = dcs_put l.state j (read_bit (of_block l.state j) b) plane cells' numbers dc_now (λ i apart lt. others i (there i lt) apart ∙
+        has = has_put l.state j (read_bit (of_block l.state j) b) numbers (has_bit b low gives.keeps inside gives.given (λ q. l.none j q (omega arith))
+            (let was = l.have.has j inside in record { bits = was.bits; minus = was.minus; raw = was.raw })) (λ i apart lt. has_others low gives.keeps
+            (there i lt) (gives.others i (there i lt) apart) (l.have.has i (there i lt)));
+        dcs = dcs_put l.state j (read_bit (of_block l.state j) b) plane cells' numbers dc_now (λ i apart lt. gives.other_dcs i (there i lt) apart ∙
             l.have.dcs i (there i lt));
         families = families_put l.state j (read_bit (of_block l.state j) b) marks refl l.have.families;
         options = options_put l.state j (read_bit (of_block l.state j) b) marks refl l.have.options;
@@ -221,19 +230,13 @@ module _ {I : Type 0} {k : SourceOf I} {plane : ℕ} {numbers : List (List ℤ)}
             later = λ r le.
                 let off : (r == j) ≡ false = grind (arith, nat_tests) in
                 ap (λ t. (if t then read_bit u b else l.state.blocks r).bits 0) off ∙ l.later r (omega (arith, le));
+            none = λ r q le.
+                let off : (r == j) ≡ false = grind (arith, nat_tests) in
+                ap (λ t. (if t then read_bit u b else l.state.blocks r).raw q) off ∙ l.none r q (omega (arith, le));
             have = have_end;
             left = subst (λ a. LeadsTo k all (in_turn (dc_item true) a m end) x z) next (leads_then all (then_ask here rest) (rest end) left_is
                 (leads_got here rest end put));
           }
-
--- ---- a DC with its bit or without
-
-pub dc_unchanged : (cells : List ℤ) (plane j : ℕ) (b : Bool) → b ≡ false → dc_in cells j ≡ dc_in cells j +ℤ pos (if b then 2 ^ plane else 0)
-dc_unchanged cells plane j b off = sym (ap (λ y. dc_in cells j +ℤ pos (if y then 2 ^ plane else 0)) off ∙ plus_none (dc_in cells j))
-
-pub dc_changed : {plane j : ℕ} {old new : List ℤ} (b : Bool) → b ≡ true → AddsDc plane j old new → HasNoneBelow (plane + 1) (dc_in old j) → dc_in
-    new j ≡ dc_in old j +ℤ pos (if b then 2 ^ plane else 0)
-dc_changed {plane} {j} {old} b on adds cleared = adds.dc cleared ∙ sym (ap (λ y. dc_in old j +ℤ pos (if y then 2 ^ plane else 0)) on)
 
 -- before its bit the DC is the number's
 pub dc_before : {I : Type 0} {k : SourceOf I} {plane j m : ℕ} {numbers : List
@@ -245,9 +248,6 @@ dc_before {plane = plane} {j} {numbers = numbers} {cells = cells} inside l h =
     let same : dc_in cells j ≡ number = l.have.dcs j inside ∙ ap (λ y. number +ℤ pos (if y then 2 ^ plane else 0)) (l.later j (omega arith)) ∙
     plus_none number in
     subst (HasNoneBelow (plane + 1)) (sym same) h
-
-pub dc_same : {plane j : ℕ} {old new : List ℤ} → AddsDc plane j old new → (r : ℕ) → 64 * r < length old → (r ≡ j → ⊥) → dc_in new r ≡ dc_in old r
-dc_same adds r lt apart = ap (λ m. cast_signed w32 (m % 2 ^ 32)) (adds.others r dc_slot lt (omega arith) apart)
 
 -- ---- the stage
 

@@ -18,7 +18,7 @@ use Rattle.bit_pipe.specs.Windows.{first_of}
 use Rattle.item_defs.specs.Scripts.{done, in_turn, run}
 use Rattle.bit_pipe.specs.ScriptSources.{Gets, GoesOn}
 use Rattle.bit_pipe.proofs.ScriptReading.{gets_goes_on, goes_on_then}
-use Rattle.plane_defs.specs.States.{State, with_bits, and_one}
+use Rattle.plane_defs.specs.States.{State}
 use Rattle.plane_defs.specs.StageScripts.{bit_script}
 use Rattle.plane_reader.specs.declared.found.Found.{Found}
 use Rattle.plane_reader.specs.Takes.{AreIn, IsState}
@@ -26,37 +26,30 @@ use Rattle.plane_reader.specs.Held.{Point, Moves, Stays}
 use Rattle.plane_reader.specs.HeldTakes.{HeldState, marked_script}
 use Rattle.plane_reader.proofs.HeldReads.{moves_then, reads_gets}
 use Rattle.plane_reader.proofs.PlaceReads.{due_count}
-use Rattle.plane_reader.proofs.SignReads.{bit_read, same_bits}
+use Rattle.plane_reader.proofs.SignReads.{bit_read, with_bit, same_bits}
 use Rattle.plane_reader.proofs.HeldTypes.{signs_word}
 use Rattle.plane_reader.proofs.WindowParts.{window_parts}
 
--- a state with these bits too
-pub record Grown (s t : State) (new : ℕ → Bool) : Type 0 where
+-- a state with these bits and raw bits too
+pub record Grown (s t : State) (new given : ℕ → Bool) : Type 0 where
   pub options : t.options ≡ s.options
   pub bits : (q : ℕ) → t.bits q ≡ (s.bits q || new q)
+  pub raw : (q : ℕ) → t.raw q ≡ (s.raw q || given q)
   pub minus : t.minus ≡ s.minus
-
-grown_is : {h : Gaggle} {f f' : Found} {s t : State} {new : ℕ → Bool} → IsState h f s → Grown s t new → Shows f'.bits (λ q. s.bits q || new q) 0 64 →
-    f'.minus ≡ f.minus → IsState h f' t
-grown_is {h} {f} {f'} {s} {t} is grown shown same = record {
-  options = subst (AreIn h) (sym grown.options) is.options;
-  bits = shows_same (λ q. sym (grown.bits q)) shown;
-  minus = subst (λ m. Shows f'.minus m 0 64) (sym grown.minus) (subst (λ m. Shows m s.minus 0 64) (sym same) is.minus);
-}
 
 module _ (g f : ℕ → Bool) where
   -- one position
   record Read (p : ℕ) (s : State) : Type 0 where
     to : State
-    grown : Grown s to (λ q. (q == p) && (g q && f q))
+    grown : Grown s to (λ q. (q == p) && (g q && f q)) (λ q. (q == p) && g q)
     gets : Gets (marked_script g p s) (cond (g p) (f p ∷ []) []) to
 
   read_one : (p : ℕ) (s : State) → Read p s
   read_one p s = by_mark (g p) refl
     where
-      got_bit : (b : Bool) → Gets (bit_script p s) (b ∷ []) (with_bits s (and_one (λ q. false) p b))
-      got_bit true more = bit_read s (λ n. done (with_bits s (and_one (λ q. false) p (n == 1)))) true more
-      got_bit false more = bit_read s (λ n. done (with_bits s (and_one (λ q. false) p (n == 1)))) false more
+      got_bit : (b : Bool) → Gets (bit_script p s) (b ∷ []) (with_bit p s b)
+      got_bit true more = bit_read s (λ n. done (with_bit p s (n == 1))) true more
+      got_bit false more = bit_read s (λ n. done (with_bit p s (n == 1))) false more
 
       here : g p ≡ true → (q : ℕ) → (t : Bool) → (q == p) ≡ t → (t && f p) ≡ (t && (g q && f q))
       here on q true e = let same : q ≡ p = grind (arith, nat_tests) in rw (same, on) refl
@@ -66,22 +59,40 @@ module _ (g f : ℕ → Bool) where
       away off q true e = let same : q ≡ p = grind (arith, nat_tests) in rw (same, off) refl
       away off q false e = refl
 
+      given : g p ≡ true → (q : ℕ) → (t : Bool) → (q == p) ≡ t → t ≡ (t && g q)
+      given on q true e = let same : q ≡ p = grind (arith, nat_tests) in rw (same, on) refl
+      given on q false e = refl
+
+      not_given : g p ≡ false → (q : ℕ) → (t : Bool) → (q == p) ≡ t → false ≡ (t && g q)
+      not_given off q true e = let same : q ≡ p = grind (arith, nat_tests) in rw (same, off) refl
+      not_given off q false e = refl
+
       by_mark : (b : Bool) → g p ≡ b → Read p s
       by_mark true e = record {
-        to = with_bits s (and_one (λ q. false) p (f p));
-        grown = record { options = refl; bits = λ q. ap (λ b. s.bits q || b) (here e q (q == p) refl); minus = refl };
+        to = with_bit p s (f p);
+        grown = record {
+          options = refl;
+          bits = λ q. ap (λ b. s.bits q || b) (here e q (q == p) refl);
+          raw = λ q. ap (λ b. s.raw q || b) (given e q (q == p) refl);
+          minus = refl;
+        };
         gets = λ more. (λ i. run (if e i then bit_script p s else done s) (cond (e i) (f p ∷ []) [] ++ more)) ∙ got_bit (f p) more;
       }
       by_mark false e = record {
         to = s;
-        grown = record { options = refl; bits = λ q. sym (or-false (s.bits q)) ∙ ap (λ b. s.bits q || b) (away e q (q == p) refl); minus = refl };
+        grown = record {
+          options = refl;
+          bits = λ q. sym (or-false (s.bits q)) ∙ ap (λ b. s.bits q || b) (away e q (q == p) refl);
+          raw = λ q. sym (or-false (s.raw q)) ∙ ap (λ b. s.raw q || b) (not_given e q (q == p) refl);
+          minus = refl;
+        };
         gets = λ more. (λ i. run (if e i then bit_script p s else done s) (cond (e i) (f p ∷ []) [] ++ more));
       }
 
   -- the positions from a on, n of them
   pub record ReadTo (a n : ℕ) (s : State) : Type 0 where
     pub to : State
-    pub grown : Grown s to (λ q. inside a n q && (g q && f q))
+    pub grown : Grown s to (λ q. inside a n q && (g q && f q)) (λ q. inside a n q && g q)
     pub goes : (m : ℕ) → GoesOn (in_turn (marked_script g) a (n + m) s) (map f (filter g (span a n))) (in_turn (marked_script g) (a + n) m to)
 
   none_inside : (a q : ℕ) → false ≡ inside a 0 q
@@ -106,7 +117,12 @@ module _ (g f : ℕ → Bool) where
   pub read_to : (a n : ℕ) (s : State) → ReadTo a n s
   read_to a zero s = record {
     to = s;
-    grown = record { options = refl; bits = λ q. sym (or-false (s.bits q)) ∙ ap (λ b. s.bits q || (b && (g q && f q))) (none_inside a q); minus = refl };
+    grown = record {
+      options = refl;
+      bits = λ q. sym (or-false (s.bits q)) ∙ ap (λ b. s.bits q || (b && (g q && f q))) (none_inside a q);
+      raw = λ q. sym (or-false (s.raw q)) ∙ ap (λ b. s.raw q || (b && g q)) (none_inside a q);
+      minus = refl;
+    };
     goes = λ m more.
         let start : a ≡ a + 0 = omega arith in
         let count : 0 + m ≡ m = omega arith in
@@ -123,6 +139,8 @@ module _ (g f : ℕ → Bool) where
           options = y.grown.options ∙ x.grown.options;
           bits = λ q. y.grown.bits q ∙ ap (λ b. b || ((q == a + n) && (g q && f q))) (x.grown.bits q) ∙ or_assoc (s.bits q) (inside a n q && (g q && f q))
               ((q == a + n) && (g q && f q)) ∙ ap (λ b. s.bits q || b) (one_more a n q (g q && f q));
+          raw = λ q. y.grown.raw q ∙ ap (λ b. b || ((q == a + n) && g q)) (x.grown.raw q) ∙ or_assoc (s.raw q) (inside a n q && g q)
+              ((q == a + n) && g q) ∙ ap (λ b. s.raw q || b) (one_more a n q (g q));
           minus = y.grown.minus ∙ x.grown.minus;
         };
         goes = λ m.
@@ -180,17 +198,37 @@ module _ (g : ℕ → Bool) (a due : ℕ) (shown : Shows due g a 4) (rest places
 
 -- ---- a half, four positions at a time
 
+both_or : (a b c x : Bool) → (a || b) ≡ c → ((a && x) || (b && x)) ≡ (c && x)
+both_or true true c x e = or_self x ∙ ap (λ y. y && x) e
+  where
+    or_self : (x : Bool) → (x || x) ≡ x
+    or_self true = refl
+    or_self false = refl
+both_or true false c x e = or-false x ∙ ap (λ y. y && x) e
+both_or false b c x e = ap (λ y. y && x) e
+
+four_more : (start k q : ℕ) (x : Bool) → ((inside start (4 * k) q && x) || (inside (start + 4 * k) 4 q && x)) ≡ (inside start (4 * (k + 1)) q && x)
+four_more start k q x =
+    let more : (inside start (4 * k) q || inside (start + 4 * k) 4 q) ≡ inside start (4 * (k + 1)) q = grind (arith, nat_tests) in
+    both_or (inside start (4 * k) q) (inside (start + 4 * k) 4 q) (inside start (4 * (k + 1)) q) x more
+
 -- the first k fours were read from a window
 pub record DealtTo (g : ℕ → Bool) (start k : ℕ) (s : State) (h : Gaggle) (bits minus : ℕ) (count window : ℕ) : Type 0 where
   pub to : State
-  pub is : IsState h (record { bits = bits; minus = minus }) to
+  pub known : AreIn h to.options
+  pub shown : Shows bits to.bits 0 64
+  pub signs : Shows minus to.minus 0 64
+  pub given : (q : ℕ) → to.raw q ≡ (s.raw q || (inside start (4 * k) q && g q))
   pub goes : GoesOn (in_turn (marked_script g) start 32 s) (first_of count window) (in_turn (marked_script g) (start + 4 * k) (32 - 4 * k) to)
 
 module _ (g : ℕ → Bool) (start : ℕ) (s : State) {h : Gaggle} (window : ℕ) where
   pub dealt_none : {f : Found} → IsState h f s → DealtTo g start 0 s h f.bits f.minus 0 window
   dealt_none is = record {
     to = s;
-    is = record { options = is.options; bits = is.bits; minus = is.minus };
+    known = is.options;
+    shown = is.bits;
+    signs = is.minus;
+    given = λ q. sym (or-false (s.raw q)) ∙ ap (λ b. s.raw q || (b && g q)) (none_inside g g start q);
     goes = λ more.
         let a : start ≡ start + 4 * 0 = omega arith in
         ap (λ l. run (in_turn (marked_script g) start 32 s) (l ++ more)) (bits_none (window / 2 ^ 64)) ∙ ap (λ b. run (in_turn
@@ -221,27 +259,34 @@ module _ (g : ℕ → Bool) (start : ℕ) (s : State) {h : Gaggle} (window : ℕ
       ))) in
       record {
         to = r.to;
-        is = grown_is d.is r.grown (added d.to.bits (λ q. g q && here g a due shown rest places fits few spread q) d.is.bits
-            (places_shown g a due shown rest places fits few spread)) refl;
+        known = subst (AreIn h) (sym r.grown.options) d.known;
+        shown = shows_same (λ q. sym (r.grown.bits q)) (added d.to.bits (λ q. g q && here g a due shown rest places fits few spread q) d.shown
+            (places_shown g a due shown rest places fits few spread));
+        signs = subst (λ m. Shows minus m 0 64) (sym r.grown.minus) d.signs;
+        given = λ q. r.grown.raw q ∙ ap (λ b. b || (inside a 4 q && g q)) (d.given q) ∙ or_assoc g g (s.raw q) (inside start (4 * k) q && g q)
+            (inside a 4 q && g q) ∙ ap (λ b. s.raw q || b) (four_more start k q (g q));
         goes = subst (λ b. GoesOn (in_turn (marked_script g) start 32 s) (first_of (count + count_ones due) window) (in_turn (marked_script g) b (32 - 4 *
             (k + 1)) r.to)) next
             (subst (λ l. GoesOn (in_turn (marked_script g) start 32 s) l (in_turn (marked_script g) (a + 4) (32 - 4 * (k + 1)) r.to)) parts both);
       }
 
-  pub dealt_all : {I : Type 0} {k : SourceOf I} {n bits minus count : ℕ} (d : DealtTo g start n s h bits minus count window) → 8 ≤ n → {x m y : Point I} →
+  pub dealt_all : {I : Type 0} {k : SourceOf I} {n bits minus count : ℕ} (d : DealtTo g start n s h bits minus count window) → 8 ≤ n → n ≤ 8 →
+      {x m y : Point I} →
       Stays k x m → Moves k m y (first_of count window) → {f : Found} → f.bits ≡ bits → f.minus ≡ minus →
+      Shows f.raw (λ q. s.raw q || (inside start 32 q && g q)) 0 64 →
       HeldState {X = Unit {0}} k (in_turn (marked_script g) start 32 s) (Ok (Some tt)) h f x y
-  dealt_all {n = n} {count = count} d all stays moves {f} same_bits_of same_minus =
+  dealt_all {n = n} {count = count} d all most stays moves {f} same_bits_of same_minus raw_shown =
+      let whole : 4 * n ≡ 32 = omega (arith, all, most) in
       let none : 32 - 4 * n ≡ 0 = omega (arith, all) in
       let gets : Gets (in_turn (marked_script g) start 32 s) (first_of count window) d.to = subst (λ c. GoesOn (in_turn (marked_script g) start 32 s)
       (first_of count window) (in_turn (marked_script g) (start + 4 * n) c d.to)) none d.goes in
       record {
         now = d.to;
         is = record {
-          options = d.is.options;
-          bits = subst (λ b. Shows b d.to.bits 0 64) (sym same_bits_of) d.is.bits;
-          minus =
-              subst (λ b. Shows b d.to.minus 0 64) (sym same_minus) d.is.minus;
+          options = d.known;
+          bits = subst (λ b. Shows b d.to.bits 0 64) (sym same_bits_of) d.shown;
+          minus = subst (λ b. Shows b d.to.minus 0 64) (sym same_minus) d.signs;
+          raw = shows_same (λ q. sym (d.given q ∙ ap (λ c. s.raw q || (inside start c q && g q)) whole)) raw_shown;
         };
         read = reads_gets (in_turn (marked_script g) start 32 s) d.to gets (moves_then stays moves);
       }

@@ -9,7 +9,7 @@ use Rattle.plane_defs.specs.Spans.{span}
 use Rattle.plane_defs.specs.Sets.{live, type_due, refined, quad_of}
 use Rattle.plane_defs.specs.Steps.{Check, some_one_where, ones_at}
 use Rattle.item_defs.specs.Scripts.{Script, done, ask, ask_bit, bit_form, then_ask, around, in_turn}
-use Rattle.plane_defs.specs.States.{State, with_bits, with_minus, with_families, and_one}
+use Rattle.plane_defs.specs.States.{State, with_bits, with_raw, with_minus, with_families, and_one}
 use Rattle.plane_defs.specs.WordScripts.{raw_form, option_script, coded_script, word_script, ones, due_script, signs_script, types_script, group_script}
 use Rattle.plane_defs.specs.StageScripts.{Terms, above, is_due, bit_script, parents_script, descendants_script, children_script, is_childless, quads_script}
 use Rattle.plane_defs.specs.StageScripts.{refinement_script}
@@ -48,10 +48,16 @@ as_read families = families
 abbrev pub as_before : (ℕ → Bool) → (ℕ → Bool) → ℕ → Bool
 as_before before families = before
 
-module _ (bits minus : ℕ → Bool) (families : (ℕ → Bool) → ℕ → Bool) where
-  -- these bits and signs were read before
+module _ (bits raw minus : ℕ → Bool) (families : (ℕ → Bool) → ℕ → Bool) where
+  -- these bits, raw bits and signs were read before
   abbrev pub beside : State → State
-  beside t = record { options = t.options; bits = λ p. bits p || t.bits p; minus = λ p. minus p || t.minus p; families = families t.families }
+  beside t = record {
+    options = t.options;
+    bits = λ p. bits p || t.bits p;
+    raw = λ p. raw p || t.raw p;
+    minus = λ p. minus p || t.minus p;
+    families = families t.families;
+  }
 
   abbrev besides : State × ℕ → State × ℕ
   besides w = (beside w.0, w.1)
@@ -63,15 +69,27 @@ module _ (bits minus : ℕ → Bool) (families : (ℕ → Bool) → ℕ → Bool
   bits_beside t new = λ i. record {
     options = t.options;
     bits = λ p. or_assoc (bits p) (t.bits p) (new p) i;
+    raw = λ p. raw p || t.raw p;
     minus = λ p. minus p || t.minus p;
     families =
         families t.families;
+  }
+
+  bit_beside : (t : State) (p : ℕ) (b : Bool) → with_raw (with_bits (beside t) (and_one (λ q. false) p b)) p ≡ beside (with_raw (with_bits t (and_one
+      (λ q. false) p b)) p)
+  bit_beside t p b = λ i. record {
+    options = t.options;
+    bits = λ q. or_assoc (bits q) (t.bits q) (and_one (λ q. false) p b q) i;
+    raw = λ q. or_assoc (raw q) (t.raw q) (q == p) i;
+    minus = λ q. minus q || t.minus q;
+    families = families t.families;
   }
 
   sign_beside : (t : State) (p : ℕ) (b : Bool) → with_minus (beside t) (and_one (beside t).minus p b) ≡ beside (with_minus t (and_one t.minus p b))
   sign_beside t p b = λ i. record {
     options = t.options;
     bits = λ q. bits q || t.bits q;
+    raw = λ q. raw q || t.raw q;
     minus = λ q. or_assoc (minus q) (t.minus q) ((q == p) && b) i;
     families = families t.families;
   }
@@ -160,7 +178,7 @@ module _ (bits minus : ℕ → Bool) (families : (ℕ → Bool) → ℕ → Bool
 
   bit_frame : (p : ℕ) (t : State) → bit_script p (beside t) ≡ mapped beside beside (bit_script p t)
   unfolding mapped
-  bit_frame p t = λ i. ask (beside t) bit_form (λ n. done (bits_beside t (and_one (λ q. false) p (n == 1)) i))
+  bit_frame p t = λ i. ask (beside t) bit_form (λ n. done (bit_beside t p (n == 1) i))
 
   pub refinement_frame : (t : Terms) (block : List ℤ) (s : State) → refinement_script t block (beside s) ≡ mapped beside beside (refinement_script t block s)
   refinement_frame t block s =
@@ -188,6 +206,7 @@ module _ (bits minus : ℕ → Bool) (families : (ℕ → Bool) → ℕ → Bool
           (λ i. done (record {
             options = u.options;
             bits = λ p. bits p || u.bits p;
+            raw = λ p. raw p || u.raw p;
             minus = λ p. minus p || u.minus p;
             families =
                 sym (same (families_now t block s r.1)) i;
@@ -210,7 +229,13 @@ module _ (bits minus : ℕ → Bool) (families : (ℕ → Bool) → ℕ → Bool
 
 -- a state of which nothing is read yet
 abbrev pub blank : State → State
-blank s = record { options = s.options; bits = λ p. false; minus = λ p. false; families = s.families }
+blank s = record { options = s.options; bits = λ p. false; raw = λ p. false; minus = λ p. false; families = s.families }
 
-pub beside_blank : (s : State) (families : (ℕ → Bool) → ℕ → Bool) → families s.families ≡ s.families → beside s.bits s.minus families (blank s) ≡ s
-beside_blank s families same = λ i. record { options = s.options; bits = λ p. or-false (s.bits p) i; minus = λ p. or-false (s.minus p) i; families = same i }
+pub beside_blank : (s : State) (families : (ℕ → Bool) → ℕ → Bool) → families s.families ≡ s.families → beside s.bits s.raw s.minus families (blank s) ≡ s
+beside_blank s families same = λ i. record {
+  options = s.options;
+  bits = λ p. or-false (s.bits p) i;
+  raw = λ p. or-false (s.raw p) i;
+  minus = λ p. or-false (s.minus p) i;
+  families = same i;
+}

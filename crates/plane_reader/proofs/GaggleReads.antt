@@ -22,7 +22,7 @@ use Rattle.plane_defs.specs.StageScripts.{Terms, dc_bit_script, parents_script, 
 use Rattle.plane_defs.specs.PlaneScript.{PlaneState, of_block, with_block}
 use Rattle.plane_reader.specs.Takes.{AreIn}
 use Rattle.plane_reader.specs.Held.{Point, ReadsFrom, LeadsTo}
-use Rattle.plane_reader.specs.Blocks.{IsAbove, KeepsMasks, HasRead, TakesBlock, OnWhole, stage_part}
+use Rattle.plane_reader.specs.Blocks.{raw_slot, IsAbove, KeepsMasks, HasRead, TakesBlock, OnWhole, stage_part}
 use Rattle.plane_reader.specs.Gaggles.{AreAbove, HavePlane, HaveFamilies, KeepSlots, KeepStates, block_script, gaggle_script, TakesBlocks}
 use Rattle.plane_reader.proofs.HeldReads.{leads_start, leads_then, leads_got, reads_later, reads_done, reads_cut, reads_fault}
 use Rattle.plane_reader.proofs.BlockReads.{reads_around}
@@ -33,6 +33,7 @@ pub has_kept : {plane r q : ℕ} {old new : List ℤ} {block : List ℤ} {s : St
 has_kept {plane} {q = q} low keeps inside apart has = record {
   bits = λ p ac. ap (λ m. bit m p) (keeps.others q plane inside (omega (arith, low)) apart) ∙ has.bits p ac;
   minus = λ p ac. ap (λ m. bit m p) (keeps.others q minus_slot inside (omega arith) apart) ∙ has.minus p ac;
+  raw = λ p lt. ap (λ m. bit m p) (keeps.others q raw_slot inside (omega arith) apart) ∙ has.raw p lt;
 }
 
 -- one block more
@@ -52,19 +53,20 @@ have_with {plane} {r} {old} {new} numbers p b low keeps have has q inside = elim
 -- ---- masks of other slots
 
 pub slots_kept : {plane : ℕ} (cells : List ℤ) → KeepSlots plane cells cells
-slots_kept cells = record { long = refl; slots = λ r slot lt low apart no_sign. refl }
+slots_kept cells = record { long = refl; slots = λ r slot lt low apart no_sign no_raw. refl }
 
 pub slots_then : {plane : ℕ} {old mid new : List ℤ} → KeepSlots plane old mid → KeepSlots plane mid new → KeepSlots plane old new
 slots_then {old = old} p q = record {
   long = q.long ∙ p.long;
-  slots = λ r slot lt low apart no_sign. q.slots r slot (subst (λ n. 64 * r < n) (sym p.long) lt) low apart no_sign ∙ p.slots r slot lt low apart no_sign;
+  slots = λ r slot lt low apart no_sign no_raw. q.slots r slot (subst (λ n. 64 * r < n) (sym p.long) lt) low apart no_sign no_raw ∙
+      p.slots r slot lt low apart no_sign no_raw;
 }
 
 pub slots_more : {plane r : ℕ} {old mid new : List ℤ} → KeepSlots plane old mid → KeepsMasks r plane mid new → KeepSlots plane old new
 slots_more {plane} {r} {mid = mid} {new} p keeps = slots_then p (record {
   long = keeps.long;
-  slots = λ q slot lt low apart no_sign. elim (cases_eq q r) [
-    | inl e ↦ subst (λ n. mask_in new n slot ≡ mask_in mid n slot) (sym e) (keeps.slots slot low apart no_sign)
+  slots = λ q slot lt low apart no_sign no_raw. elim (cases_eq q r) [
+    | inl e ↦ subst (λ n. mask_in new n slot ≡ mask_in mid n slot) (sym e) (keeps.slots slot low apart no_sign no_raw)
     | inr other ↦ keeps.others q slot lt low other
   ];
 })
@@ -73,7 +75,7 @@ pub above_after : {plane : ℕ} {old new : List ℤ} (numbers : List (List ℤ))
     AreAbove plane new numbers
 above_after {plane} {old} numbers low keeps are r inside =
     let there : 64 * r < length old = subst (λ n. 64 * r < n) keeps.long inside in
-    let same = keeps.slots r above_slot there (omega arith) (λ f. omega (arith, f, low)) (λ f. omega (arith, f)) in
+    let same = keeps.slots r above_slot there (omega arith) (λ f. omega (arith, f, low)) (λ f. omega (arith, f)) (λ f. omega (arith, f)) in
     subst (λ m. IsAbove m (get_or numbers r []) plane) (sym same) (are r there)
 
 -- ---- states
@@ -269,14 +271,14 @@ module _ {I : Type 0} {k : SourceOf I} (t : Terms) (stage : ℕ) (depths : List 
           (get_or depths (first + n) 0) (get_or numbers (first + n) []) b stage some shallow) in
           let keeps : KeepsMasks (first + n) plane cells cells = record {
             long = refl;
-            slots = λ slot lt apart not_minus. refl;
+            slots = λ slot lt apart not_minus not_raw. refl;
             others =
                 λ a slot lt low apart. refl;
           } in
           let was = l.has (first + n) inside in
           let read : ReadsFrom k (done q) (got q) y y = reads_done (done q) q (leads_start (done q) i) in
           blocks_more same b (subst (λ r. ReadsFrom k r (got q) y y) (sym none) read) block_options (have_with numbers l.state b low keeps l.has
-          (record { bits = was.bits; minus = was.minus })) (families_same marks (first + n) l.state l.families)
+          (record { bits = was.bits; minus = was.minus; raw = was.raw })) (families_same marks (first + n) l.state l.families)
 
       -- a block whose stage was read
       module _ (most : stage < 5) (deep : nat_lt t.plane (get_or depths
@@ -297,8 +299,8 @@ module _ {I : Type 0} {k : SourceOf I} (t : Terms) (stage : ℕ) (depths : List 
             let was = l.has (first + n) inside in
             there block (of_block l.state (first + n)) block_options (above (first + n) inside) (record {
               bits = was.bits;
-              minus =
-                  was.minus;
+              minus = was.minus;
+              raw = was.raw;
             }) (l.families (first + n) in_marks)
 
         deep_script : block_script t stage depths numbers (first + n) l.state ≡ around (with_block l.state (first + n)) (stage_part t stage block

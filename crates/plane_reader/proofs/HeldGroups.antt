@@ -37,7 +37,7 @@ abbrev same_state : State → State
 same_state s = with_bits s (λ p. false)
 
 same_is : {h : Gaggle} {f : Found} {s : State} → IsState h f s → IsState h f (same_state s)
-same_is {s = s} is = record { options = is.options; bits = shows_same (λ p. sym (or-false (s.bits p))) is.bits; minus = is.minus }
+same_is {s = s} is = record { options = is.options; bits = shows_same (λ p. sym (or-false (s.bits p))) is.bits; minus = is.minus; raw = is.raw }
 
 nothing_read : (book : Book) (g : ℕ → Bool) (start n : ℕ) → ((k : ℕ) → k < n → g (start + k) ≡ false) → (s : State) →
     Gets (types_script book g false (span start n) s) [] (same_state s)

@@ -10,7 +10,7 @@ use Rattle.bit_pipe.specs.declared.fault.TextFault.TheVariants as texts
 use Rattle.bit_pipe.specs.Sources.{SourceOf}
 use Rattle.bit_pipe.specs.SourceState.{SourceState, IsIn, Takes, IsEnd, FailsSo}
 use Rattle.bit_pipe.specs.Windows.{IsWindow, first_of}
-use Rattle.bit_pipe.proofs.Taking.{takes_start, takes_then, fails_so_later, in_later}
+use Rattle.bit_pipe.proofs.Taking.{takes_start, takes_then, fails_so_later}
 use Rattle.item_defs.specs.Outcomes.{Outcome, cut, refused}
 use Rattle.item_defs.specs.Scripts.{Script, done, then_ask, proceed, run}
 use Rattle.bit_pipe.specs.ScriptSources.{Found, got, ends, refuses, fails, Stops, ReadsAs, Gets, by_fault}

@@ -305,15 +305,16 @@ module _ (book : Book) (sound : is_book_sound book ≡ true) (g : ℕ → Bool) 
         grouped true b c = refl
         grouped false b c = refl
 
-    pub types_is : (room : start + count ≤ 64) (m n o : Found) → IsState h m s → n.minus ≡ m.minus →
+    pub types_is : (room : start + count ≤ 64) (m n o : Found) → IsState h m s → n.minus ≡ m.minus → o.raw ≡ m.raw →
         ((f g' : ℕ → Bool) (c : ℕ) → start + c ≤ 64 → Shows m.bits f 0 64 → Shows first.places g' start c → Shows n.bits (λ p. f p ||
         (inside start c p && g' p)) 0 64) → o.bits ≡ n.bits →
         ((f g' : ℕ → Bool) (c : ℕ) → start + c ≤ 64 → Shows n.minus f 0 64 → Shows minus g' start c → Shows o.minus (λ p. f p ||
         (inside start c p && g' p)) 0 64) → IsState h o types_end
-    types_is room m n o is no_minus bits no_bits added = record {
+    types_is room m n o is no_minus no_raw bits no_bits added = record {
       options = is.options;
       bits = subst (λ z. Shows z (λ x. s.bits x || new x) 0 64) (sym no_bits) (shows_same (λ x. ap (λ b. s.bits x || b) (first_ones.within
           x)) (bits s.bits new count room is.bits first_ones.shown));
       minus = shows_same (λ q. sym (signed_is q)) (added s.minus (λ q. new q && is_minus q) count room (subst (λ z. Shows z s.minus 0 64)
           (sym no_minus) is.minus) minus_shown);
+      raw = subst (λ z. Shows z s.raw 0 64) (sym no_raw) is.raw;
     }

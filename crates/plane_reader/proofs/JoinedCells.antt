@@ -66,18 +66,18 @@ pub record JoinedTo (e : ℕ) (old now : List ℤ) : Type 0 where
   pub prefix : take e now ≡ numbers_in (take e old)
   pub rest : drop e now ≡ drop e old
 
-pub joined_more : (g n e : ℕ) {old now part : List ℤ} → e ≡ 15360 * g + n → e ≤ length old → length part ≡ n → JoinedTo (15360 * g) old now →
-    part ≡ numbers_in (take n (drop (15360 * g) now)) → JoinedTo e old (put_mid (15360 * g) n now part)
+pub joined_more : (g n e : ℕ) {old now part : List ℤ} → e ≡ 4096 * g + n → e ≤ length old → length part ≡ n → JoinedTo (4096 * g) old now →
+    part ≡ numbers_in (take n (drop (4096 * g) now)) → JoinedTo e old (put_mid (4096 * g) n now part)
 joined_more g n e {old} {now} {part} ends within size s if_known =
-    let inside : 15360 * g ≤ length now = omega (arith, ends, within, s.long) in
-    let groups : length (take (15360 * g) old) % 15360 ≡ 0 = omega (arith, length-take-le (15360 * g) old (omega (arith, ends, within))) in
+    let inside : 4096 * g ≤ length now = omega (arith, ends, within, s.long) in
+    let groups : length (take (4096 * g) old) % 4096 ≡ 0 = omega (arith, length-take-le (4096 * g) old (omega (arith, ends, within))) in
     record {
       long = put_long g n e now part ends (omega (arith, within, s.long)) size ∙ s.long;
-      prefix = take-put_mid (15360 * g) n now part e (omega (arith, ends, size)) inside ∙ ap (λ l. l ++ part) s.prefix ∙ ap (λ l. numbers_in
-          (take (15360 * g) old) ++ l) (if_known ∙ ap (λ l. numbers_in (take n l)) s.rest) ∙
-          sym (numbers_append (take (15360 * g) old) (take n (drop (15360 * g) old)) groups) ∙ ap numbers_in (sym (take-add (15360 * g) n old) ∙
+      prefix = take-put_mid (4096 * g) n now part e (omega (arith, ends, size)) inside ∙ ap (λ l. l ++ part) s.prefix ∙ ap (λ l. numbers_in
+          (take (4096 * g) old) ++ l) (if_known ∙ ap (λ l. numbers_in (take n l)) s.rest) ∙
+          sym (numbers_append (take (4096 * g) old) (take n (drop (4096 * g) old)) groups) ∙ ap numbers_in (sym (take-add (4096 * g) n old) ∙
           ap (λ k. take k old) (sym ends));
-      rest = drop-put_mid (15360 * g) n now part e (omega (arith, ends)) inside size ∙ drop_then g n e old now ends s.rest;
+      rest = drop-put_mid (4096 * g) n now part e (omega (arith, ends)) inside size ∙ drop_then g n e old now ends s.rest;
     }
 
 pub joined_none : (cells : List ℤ) (e : ℕ) → e ≡ 0 → JoinedTo e cells cells
@@ -88,13 +88,13 @@ pub joined_all : {e : ℕ} {old now : List ℤ} → length old ≤ e → JoinedT
 joined_all {e} {old} {now} all s = sym (take_all e now (omega (arith, all, s.long))) ∙ s.prefix ∙ ap numbers_in (take_all e old all)
 
 -- the masks of a group are those of the segment
-pub part_below : (planes g n : ℕ) (old now : List ℤ) → 15360 * g + n ≤ length old → n ≡ min 15360 (length old - 15360 * g) →
-    drop (15360 * g) now ≡ drop (15360 * g) old → AreBelow planes old → AreBelow planes (take n (drop (15360 * g) now))
+pub part_below : (planes g n : ℕ) (old now : List ℤ) → 4096 * g + n ≤ length old → n ≡ min 4096 (length old - 4096 * g) →
+    drop (4096 * g) now ≡ drop (4096 * g) old → AreBelow planes old → AreBelow planes (take n (drop (4096 * g) now))
 part_below planes g n old now within width same below r slot lt le few =
-    let d = 15360 * g in
+    let d = 4096 * g in
     let rest = drop d old in
     let prefix : length (take d old) ≡ d = length-take-le d old (omega (arith, within)) in
-    let groups : length (take d old) % 15360 ≡ 0 = omega (arith, prefix) in
+    let groups : length (take d old) % 4096 ≡ 0 = omega (arith, prefix) in
     let size : length (take n rest) ≡ n = length-take-le n rest (omega (arith, within, length-drop d old)) in
     let here : 64 * r < n = subst (λ l. 64 * r < l) (ap (λ l. length (take n l)) same ∙ size) lt in
     let long : length rest ≡ length old - d = length-drop d old in
@@ -103,12 +103,12 @@ part_below planes g n old now within width same below r slot lt le few =
     l (length (take d old) / 64 + r) slot) (take-append-drop d old) in
     ap (λ l. mask_in (take n l) r slot) same ∙ first ∙ second ∙ below (length (take d old) / 64 + r) slot (omega (arith, prefix, here, within)) le few
   where
-    part_mask : (n : ℕ) (rest : List ℤ) (r slot : ℕ) → n ≡ min 15360 (length old - 15360 * g) → length rest ≡ length old - 15360 * g → 64 * r < n →
+    part_mask : (n : ℕ) (rest : List ℤ) (r slot : ℕ) → n ≡ min 4096 (length old - 4096 * g) → length rest ≡ length old - 4096 * g → 64 * r < n →
         slot < 32 → mask_in (take n rest) r slot ≡ mask_in rest r slot
     part_mask n rest r slot width long here few = elim (cases_lt n (length rest)) [
       | inl some ↦
           let size : length (take n rest) ≡ n = length-take-le n rest (omega (arith, some)) in
-          let whole : length (take n rest) % 15360 ≡ 0 = omega (arith, size, width, long, some) in
+          let whole : length (take n rest) % 4096 ≡ 0 = omega (arith, size, width, long, some) in
           sym (mask_left (take n rest) (drop n rest) whole r slot (omega (arith, size, here)) few) ∙ ap (λ l. mask_in l r slot) (take-append-drop n rest)
       | inr all ↦ ap (λ l. mask_in l r slot) (take_all n rest all)
     ]

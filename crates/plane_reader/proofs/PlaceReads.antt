@@ -30,7 +30,7 @@ use Rattle.plane_reader.proofs.SignReads.{has, has_append}
 
 -- some state of a gaggle
 abbrev pub any_state : Gaggle → State
-any_state g = record { options = option_in g; bits = λ p. false; minus = λ p. false; families = λ i. false }
+any_state g = record { options = option_in g; bits = λ p. false; raw = λ p. false; minus = λ p. false; families = λ i. false }
 
 -- ---- positions of a list
 

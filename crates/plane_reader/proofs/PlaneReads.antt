@@ -1,6 +1,7 @@
 -- The numbers that a plane gives, and the masks for the next one.
 use Rattle.std.proofs.Common.{◌≡◌, ℕ, zero, suc, ◌+◌, ◌-◌, ◌*◌, ◌/◌, ◌%◌, ◌^◌, ◌<◌, ◌≤◌, ◌==◌, ◌||◌, not, min, nat_le, Bool, true, false, if◌then◌else◌}
-use Rattle.std.proofs.Common.{List, [], length, refl, ap, sym, ◌∙◌, subst, arith, ℤ, pos, negsuc, neg_ℤ, ◌+ℤ◌, unsigned_abs, inl, inr, ◌⊎◌, Option, Some}
+use Rattle.std.proofs.Common.{List, [], length, refl, ap, sym, ◌∙◌, subst, arith, ℤ, pos, negsuc, neg_ℤ, ◌+ℤ◌, unsigned_abs, inl, inr, ◌⊎◌, Option, Some, w32}
+use Rattle.std.specs.Int.{cast_signed}
 use Rattle.std.proofs.Common.{None, Result, Ok, Err, get_or, pow_pos, pow-add}
 use Rattle.std.specs.Prelude.{◌-ℤ◌}
 use Rattle.std.proofs.Math.Bool.{or-false}
@@ -18,7 +19,7 @@ use Rattle.plane_defs.specs.Sets.{magnitude, significant}
 use Rattle.plane_defs.specs.Entries.{negative}
 use Rattle.plane_defs.specs.StepLaws.{IsAc}
 use Rattle.plane_defs.proofs.SpanLists.{length-map-span, get_or-map-span}
-use Rattle.block_masks.specs.Slices.{mask_in, minus_slot, above_slot, number_in, numbers_in, Settles}
+use Rattle.block_masks.specs.Slices.{mask_in, minus_slot, above_slot, dc_slot, number_in, numbers_in, Settles}
 use Rattle.block_masks.specs.MaskedNumbers.{size_in}
 use Rattle.block_masks.proofs.SliceNumbers.{ac_number, dc_number, length-numbers_in, same_number, same_numbers, block_number, length-block}
 use Rattle.block_masks.proofs.MaskedNumbers.{signed, size_bit, bits_below-same}
@@ -35,9 +36,11 @@ use Rattle.plane_defs.specs.StageScripts.{Terms}
 use Rattle.plane_defs.specs.PlaneScript.{PlaneState, nothing_yet, bit_of_plane, number_with, block_with, blocks_with, plane_script}
 use Rattle.plane_reader.specs.Above.{AreReady, HasNoneBelow, AwaitDcs}
 use Rattle.plane_reader.specs.Joined.{AreBelow}
+use Rattle.plane_reader.specs.Blocks.{raw_slot}
 use Rattle.plane_reader.specs.Gaggles.{AreAbove, dc_in, HavePlane, HaveDcs, HaveRead, KeepSlots}
-use Rattle.plane_reader.specs.Planes.{KeepOthers, KeepPlanes, TakesStages, Clears}
+use Rattle.plane_reader.specs.Planes.{KeepOthers, KeepPlanes, TakesStages, Clears, ClearsRaw}
 use Rattle.plane_reader.proofs.ClearStates.{families_clear, options_clear}
+use Rattle.plane_reader.proofs.HeldGroups.{zero_bit}
 use Rattle.plane_reader.proofs.CellNumbers.{below_zero, block_size, size_given, size_kept}
 use Rattle.plane_reader.proofs.DcSums.{pow_more}
 use Rattle.plane_reader.proofs.ScriptKeeps.{said_kept}
@@ -96,21 +99,40 @@ module _ (plane : ℕ) (cells : List ℤ) (low : plane < 27) (whole : length cel
       ap negative (block_number cells r p whole lt ac.1 ∙ ac_number cells r p ac.0) ∙ below_zero (bit (mask_in cells r minus_slot) p) (size_in (mask_in
       cells r) p) (ready.signed r p lt ac)
 
-  pub has_nothing : HavePlane plane cells (blocks_in (numbers_in cells)) nothing_yet
-  has_nothing r lt = record {
-    bits = λ p ac. ready.empty r plane p lt (omega arith) low ac;
-    minus = λ p ac. sym (ap (λ b. negative (get_or b p (pos 0)) || false) (at_block r lt) ∙ ap (λ b. b || false) (sign_is r p lt ac) ∙ or-false (bit (mask_in
-        cells r minus_slot) p));
-  }
+  old_minus : (r : ℕ) → 64 * r < length cells → (p : ℕ) → IsAc p → bit (mask_in cells r minus_slot) p ≡ (negative (get_or (get_or (blocks_in (numbers_in
+      cells)) r []) p (pos 0)) || false)
+  old_minus r lt p ac =
+      sym (ap (λ b. negative (get_or b p (pos 0)) || false) (at_block r lt) ∙ ap (λ b. b || false) (sign_is r p lt ac) ∙ or-false (bit (mask_in
+      cells r minus_slot) p))
 
-  pub dcs_nothing : HaveDcs plane cells (blocks_in (numbers_in cells)) nothing_yet
-  dcs_nothing r lt =
+  old_dcs : (r : ℕ) → 64 * r < length cells → dc_in cells r ≡ get_or (get_or (blocks_in (numbers_in cells)) r []) 0 (pos 0) +ℤ pos 0
+  old_dcs r lt =
       let number = get_or (get_or (blocks_in (numbers_in cells)) r []) 0 (pos 0) in
       let same : number ≡ dc_in cells r = ap (λ b. get_or b 0 (pos 0)) (at_block r lt) ∙ block_number cells r 0 whole lt (omega arith) ∙ dc_number cells r in
       sym same ∙ sym (plus_none number)
     where
       plus_none : (z : ℤ) → z +ℤ pos 0 ≡ z
       plus_none z = omega (arith, ints)
+
+  -- the masks of raw bits are cleared
+  module _ {mid : List ℤ} (cleared : ClearsRaw cells mid) where
+    at_first : (r : ℕ) → 64 * r < length mid → 64 * r < length cells
+    at_first r lt = subst (λ n. 64 * r < n) cleared.long lt
+
+    pub has_nothing : HavePlane plane mid (blocks_in (numbers_in cells)) nothing_yet
+    has_nothing r there =
+        let lt = at_first r there in
+        record {
+          bits = λ p ac. ap (λ m. bit m p) (cleared.slots r plane lt (omega (arith, low)) (λ e. omega (arith, e, low))) ∙ ready.empty r plane p lt (omega
+              arith) low ac;
+          minus = λ p ac. ap (λ m. bit m p) (cleared.slots r minus_slot lt (omega arith) (λ e. omega (arith, e))) ∙ old_minus r lt p ac;
+          raw = λ p few. ap (λ m. bit m p) (cleared.none r lt) ∙ zero_bit p;
+        }
+
+    pub dcs_nothing : HaveDcs plane mid (blocks_in (numbers_in cells)) nothing_yet
+    dcs_nothing r there =
+        let lt = at_first r there in
+        ap (λ m. cast_signed w32 (m % 2 ^ 32)) (cleared.slots r dc_slot lt (omega arith) (λ e. omega (arith, e))) ∙ old_dcs r lt
 
   pub above_now : AreAbove plane cells (blocks_in (numbers_in cells))
   above_now r lt p ac = ready.above r p lt ac ∙ sym (ap (λ b. significant b (plane + 1) p) (at_block r lt))
@@ -128,7 +150,8 @@ module _ (plane : ℕ) (cells : List ℤ) (low : plane < 27) (whole : length cel
     whole_still = omega (arith, whole, keeps.long)
 
     others : (r k : ℕ) → 64 * r < length cells → (p : ℕ) → p < 27 → (p ≡ plane → ⊥) → bit (mask_in new r p) k ≡ bit (mask_in cells r p) k
-    others r k lt p few apart = ap (λ m. bit m k) (keeps.slots r p lt (omega (arith, few)) apart (λ e. omega (arith, e, few)) (λ e. omega (arith, e, few)))
+    others r k lt p few apart = ap (λ m. bit m k) (keeps.slots r p lt (omega (arith, few)) apart (λ e. omega (arith, e, few)) (λ e. omega (arith, e, few))
+        (λ e. omega (arith, e, few)))
 
     weight : Bool → ℕ
     weight b = if b then 2 ^ plane else 0
@@ -254,7 +277,8 @@ module _ (plane : ℕ) (cells : List ℤ) (low : plane < 27) (whole : length cel
             let here = before r known in
             let block = block_at (numbers_in new) r in
             let old_above : bit (mask_in new r above_slot) p ≡ significant block (plane + 1) p =
-            ap (λ m. bit m p) (keeps.slots r above_slot here (omega arith) (λ e. omega (arith, e, low)) (λ e. omega (arith, e)) (λ e. omega (arith, e))) ∙
+            ap (λ m. bit m p) (keeps.slots r above_slot here (omega arith) (λ e. omega (arith, e, low)) (λ e. omega (arith, e)) (λ e. omega (arith, e))
+            (λ e. omega (arith, e))) ∙
             ready.above r p here ac ∙ sym (reach_now r p here ac) in
             let has_bit : bit (mask_in new r plane) p ≡ bit (magnitude block p) plane = sym (ap (λ n. bit n plane) (block_size new r p whole_still known ac) ∙
             size_bit (mask_in new r) p plane low) in
@@ -339,23 +363,49 @@ plane_read {k = k} {plane} {numbers} script result {x = x} {y} s same =
     subst (λ v. ReadsAs k (around (blocks_with plane numbers) script) (by_part result v v) x y) same (part_around
     (blocks_with plane numbers) script result s.now s.read)
 
+-- what is significant above the plane below doesn't count in it
+pub stages_settled : {I : Type 0} {k : SourceOf I} {plane : ℕ} {numbers : List (List ℤ)} {script : Script PlaneState PlaneState}
+    {result : Result Part TextFault} {cells last : List ℤ} {x y : SourceState I} → plane < 27 → TakesStages k plane numbers script result cells x y →
+    Settles plane (length cells / 64) cells last → TakesStages k plane numbers script result last x y
+stages_settled {plane = plane} {cells = cells} {last} low s settles =
+    let there : (r : ℕ) → 64 * r < length last → 64 * r < length cells = λ r lt. subst (λ n. 64 * r < n) settles.long lt in
+    let same : (r slot : ℕ) → 64 * r < length last → slot < 32 → (slot ≡ above_slot → ⊥) → mask_in last r slot ≡ mask_in cells r slot =
+    λ r slot lt few apart. settles.other_slots r slot (there r lt) few apart in
+    record {
+      now = s.now;
+      has = λ r lt.
+          let has = s.has r (there r lt) in
+          record {
+            bits = λ p ac. ap (λ m. bit m p) (same r plane lt (omega (arith, low)) (λ e. omega (arith, e, low))) ∙ has.bits p ac;
+            minus = λ p ac. ap (λ m. bit m p) (same r minus_slot lt (omega arith) (λ e. omega (arith, e))) ∙ has.minus p ac;
+            raw = λ p few. ap (λ m. bit m p) (same r raw_slot lt (omega arith) (λ e. omega (arith, e))) ∙ has.raw p few;
+          };
+      dcs = λ r lt. ap (λ m. cast_signed w32 (m % 2 ^ 32)) (same r dc_slot lt (omega arith) (λ e. omega (arith, e))) ∙ s.dcs r (there r lt);
+      read = s.read;
+    }
+
 -- ---- masks that stay
 
-pub planes_others : {plane : ℕ} {old new : List ℤ} → KeepOthers old new → KeepPlanes plane old new
-planes_others keeps = record { long = keeps.long; slots = λ r slot lt few apart no_sign no_dc. keeps.slots r slot lt few no_dc }
+pub planes_others : {plane : ℕ} {old mid new : List ℤ} → ClearsRaw old mid → KeepOthers mid new → KeepPlanes plane old new
+planes_others clears keeps = record {
+  long = keeps.long ∙ clears.long;
+  slots = λ r slot lt few apart no_sign no_dc no_raw. keeps.slots r slot (subst (λ n. 64 * r < n) (sym clears.long) lt) few no_dc no_raw ∙
+      clears.slots r slot lt few no_raw;
+}
 
 pub planes_slots : {plane : ℕ} {old mid new : List ℤ} → KeepPlanes plane old mid → KeepSlots plane mid new → KeepPlanes plane old new
 planes_slots p q = record {
   long = q.long ∙ p.long;
-  slots = λ r slot lt few apart no_sign no_dc. q.slots r slot (subst (λ n. 64 * r < n) (sym p.long) lt) few apart no_sign ∙
-      p.slots r slot lt few apart no_sign no_dc;
+  slots = λ r slot lt few apart no_sign no_dc no_raw. q.slots r slot (subst (λ n. 64 * r < n) (sym p.long) lt) few apart no_sign no_raw ∙
+      p.slots r slot lt few apart no_sign no_dc no_raw;
 }
 
 pub above_planes : {plane : ℕ} {old new : List ℤ} (numbers : List (List ℤ)) → plane < 27 → KeepPlanes plane old new → AreAbove plane old numbers →
     AreAbove plane new numbers
 above_planes {plane} {old} {new} numbers low keeps above r lt p ac =
     let there : 64 * r < length old = subst (λ n. 64 * r < n) keeps.long lt in
-    ap (λ m. bit m p) (keeps.slots r above_slot there (omega arith) (λ e. omega (arith, e, low)) (λ e. omega (arith, e)) (λ e. omega (arith, e))) ∙
+    ap (λ m. bit m p) (keeps.slots r above_slot there (omega arith) (λ e. omega (arith, e, low)) (λ e. omega (arith, e)) (λ e. omega (arith, e))
+    (λ e. omega (arith, e))) ∙
     above r there p ac
 
 -- ---- a plane begins
@@ -364,10 +414,10 @@ pub count_blocks : (cells : List ℤ) → length (blocks_in (numbers_in cells)) 
 count_blocks cells = length-blocks (numbers_in cells) ∙ ap (λ n. n / 64) (length-numbers_in cells)
 
 pub begins : (plane : ℕ) (cells : List ℤ) → plane < 27 → length cells % 64 ≡ 0 → AreReady (plane + 1) cells → {old new : List ℤ} → Clears old new →
-    HaveRead plane cells new (blocks_in (numbers_in cells)) nothing_yet
-begins plane cells low whole ready clears = record {
-  has = has_nothing plane cells low whole ready;
-  dcs = dcs_nothing plane cells low whole ready;
+    {mid : List ℤ} → ClearsRaw cells mid → HaveRead plane mid new (blocks_in (numbers_in cells)) nothing_yet
+begins plane cells low whole ready clears cleared = record {
+  has = has_nothing plane cells low whole ready cleared;
+  dcs = dcs_nothing plane cells low whole ready cleared;
   families = families_clear clears;
   options = options_clear clears;
 }
@@ -383,5 +433,5 @@ below_next {old = old} {new} low over keeps settles below r slot lt le few =
       e,
       over,
       le,
-    )) (λ e. omega (arith, e, few)) (λ e. omega (arith, e, few)) ∙
+    )) (λ e. omega (arith, e, few)) (λ e. omega (arith, e, few)) (λ e. omega (arith, e, few)) ∙
     below r slot first le few

@@ -57,7 +57,7 @@ pub read_same : {plane : ℕ} {cells marks : List ℤ} {numbers : List (List ℤ
 read_same {plane} {cells} {marks} {numbers} p r inside have =
     let was = have.has r inside in
     record {
-      has = has_put p r (of_block p r) numbers (record { bits = was.bits; minus = was.minus }) (λ i apart. have.has i);
+      has = has_put p r (of_block p r) numbers (record { bits = was.bits; minus = was.minus; raw = was.raw }) (λ i apart. have.has i);
       dcs = dcs_put p r (of_block p r) plane cells numbers (have.dcs r inside) (λ i apart. have.dcs i);
       families = families_put p r (of_block p r) marks refl have.families;
       options = options_put p r (of_block p r) marks refl have.options;

@@ -1,6 +1,6 @@
 -- The bits of the positions of a mask, as they are read from a window that is held.
-use Rattle.std.proofs.Common.{◌≡◌, ℕ, zero, suc, ◌+◌, ◌-◌, ◌<◌, ◌≤◌, ◌&&◌, if◌then◌else◌, Bool, true, false, List, [], ℤ, refl, ap, sym, ◌∙◌, subst, arith}
-use Rattle.std.proofs.Common.{Option, Some, None, Result, Ok, Err}
+use Rattle.std.proofs.Common.{◌≡◌, ℕ, zero, suc, ◌+◌, ◌-◌, ◌<◌, ◌≤◌, ◌==◌, ◌&&◌, ◌||◌, if◌then◌else◌, Bool, true, false, List, []}
+use Rattle.std.proofs.Common.{ℤ, refl, ap, sym, ◌∙◌, subst, arith, Option, Some, None, Result, Ok, Err}
 use Rattle.item_defs.specs.Bits.{bit}
 use Rattle.plane_defs.specs.Sets.{coded, refined}
 use Rattle.plane_defs.proofs.Equations.{refined-is}
@@ -12,7 +12,7 @@ use Rattle.bit_pipe.specs.SourceState.{IsIn}
 use Rattle.item_defs.specs.Scripts.{Script, done, ask_bit, then_ask, in_turn, run}
 use Rattle.bit_pipe.specs.ScriptSources.{got, by_done, Gets}
 use Rattle.item_defs.proofs.ScriptLaws.{turns_split}
-use Rattle.plane_defs.specs.States.{State, with_bits, and_one}
+use Rattle.plane_defs.specs.States.{State, and_one}
 use Rattle.plane_defs.specs.StageScripts.{Terms, bit_script, refinement_script}
 use Rattle.plane_reader.specs.declared.found.Found.{Found}
 use Rattle.plane_reader.specs.Takes.{IsState}
@@ -20,6 +20,7 @@ use Rattle.plane_reader.specs.Held.{Point, ReadsFrom}
 use Rattle.plane_reader.specs.HeldTakes.{HeldState, HeldFlag, marked_script}
 use Rattle.plane_reader.specs.Blocks.{IsAbove}
 use Rattle.plane_reader.proofs.HeldGroups.{zero_bit}
+use Rattle.plane_reader.proofs.SignReads.{with_bit}
 use Rattle.plane_reader.proofs.HeldReads.{leads_start, reads_then, reads_done, reads_cut, reads_fault}
 
 -- a position that is not in the mask
@@ -29,11 +30,11 @@ unmarked g p off s is = (s, is, λ more. ap (λ b. run (if b then bit_script p s
 
 -- what follows the bit of a position
 abbrev after_bit : ℕ → State → Bool → Script State State
-after_bit p s b = done (with_bits s (and_one (λ q. false) p b))
+after_bit p s b = done (with_bit p s b)
 
 bit_given : {h : Gaggle} {f f' : Found} (p : ℕ) (s : State) (b : Bool) → IsState h f s → Shows f'.bits (and_one s.bits p b) 0 64 → f'.minus ≡ f.minus →
-    IsState h f' (with_bits s (and_one (λ q. false) p b))
-bit_given p s b is shown same = record { options = is.options; bits = shown; minus = subst (λ m. Shows m s.minus 0 64) (sym same) is.minus }
+    Shows f'.raw (λ q. s.raw q || (q == p)) 0 64 → IsState h f' (with_bit p s b)
+bit_given p s b is shown same raw = record { options = is.options; bits = shown; minus = subst (λ m. Shows m s.minus 0 64) (sym same) is.minus; raw = raw }
 
 -- a position that is in it
 module _ {I : Type 0} {k : SourceOf I} (g : ℕ → Bool) (p : ℕ) (on : g p ≡ true) (s : State) {h : Gaggle} {f : Found} (is : IsState h f s) {x y : Point I} where
@@ -47,13 +48,13 @@ module _ {I : Type 0} {k : SourceOf I} (g : ℕ → Bool) (p : ℕ) (on : g p �
   pub bit_cut : HeldFlag k (Ok None) x y → HeldState {X = Unit {0}} k (marked_script g p s) (Ok None) h f x y
   bit_cut q = held (Ok None) (record { now = s; is = is; read = reads_cut (ask_bit s (λ b. done b)) (after_bit p s) s (q.read s) })
 
-  pub bit_read : {f' : Found} (b : Bool) → IsIn y.input → Shows f'.bits (and_one s.bits p b) 0 64 → f'.minus ≡ f.minus → HeldFlag k (Ok (Some b)) x y →
-      HeldState {X = Unit {0}} k (marked_script g p s) (Ok (Some tt)) h f' x y
-  bit_read {f'} b i shown same q =
-      let end = with_bits s (and_one (λ q. false) p b) in
+  pub bit_read : {f' : Found} (b : Bool) → IsIn y.input → Shows f'.bits (and_one s.bits p b) 0 64 → f'.minus ≡ f.minus →
+      Shows f'.raw (λ q. s.raw q || (q == p)) 0 64 → HeldFlag k (Ok (Some b)) x y → HeldState {X = Unit {0}} k (marked_script g p s) (Ok (Some tt)) h f' x y
+  bit_read {f'} b i shown same raw q =
+      let end = with_bit p s b in
       held (Ok (Some tt)) (record {
         now = end;
-        is = bit_given p s b is shown same;
+        is = bit_given p s b is shown same raw;
         read = reads_then (ask_bit s (λ b. done b)) (after_bit p s) b (got end)
             (q.read s) (reads_done (after_bit p s b) end (leads_start (after_bit p s b) i));
       })

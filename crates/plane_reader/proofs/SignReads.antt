@@ -25,7 +25,7 @@ use Rattle.item_defs.specs.Outcomes.{cut}
 use Rattle.item_defs.specs.Scripts.{Script, done, ask, ask_bit, bit_form, then_ask, answered, run}
 use Rattle.bit_pipe.specs.ScriptSources.{got, ends, ReadsAs, Gets, by_fault}
 use Rattle.bit_pipe.proofs.ScriptReading.{read_done, read_then, read_cut, read_fault, Leaves}
-use Rattle.plane_defs.specs.States.{State, with_minus, and_one}
+use Rattle.plane_defs.specs.States.{State, with_bits, with_raw, with_minus, and_one}
 use Rattle.plane_defs.specs.WordScripts.{signs_script}
 use Rattle.plane_reader.specs.Takes.{positions, TakesFlag, TakesSigns}
 
@@ -80,6 +80,13 @@ sign_shown mask minus p b shown = shows_same (λ q. ap (λ t. minus q || (t && b
     at : (q : ℕ) → inside p 1 q ≡ (q == p)
     at q = grind (arith, nat_tests)
 
+-- one raw bit more in a mask
+pub raw_shown : (mask : ℕ) (raw : ℕ → Bool) (p : ℕ) → Shows mask (λ q. raw q || (inside p 1 q && true)) 0 64 → Shows mask (λ q. raw q || (q == p)) 0 64
+raw_shown mask raw p shown = shows_same (λ q. ap (λ b. raw q || b) (and-true (q == p))) (sign_shown mask raw p true shown)
+
+pub one_shown : (p : ℕ) → Shows 1 (λ q. true) p 1
+one_shown p = record { at = λ k lt. (let e : k ≡ 0 = omega (arith, lt) in ap (bit 1) e); small = omega arith }
+
 -- the first position, and the others
 module _ (left rest start k : ℕ) (here : bit left k ≡ true) (before : (j : ℕ) → j < k → bit left j ≡ false) (gone : bit rest k ≡ false) (others : (j : ℕ) →
     j < 64 → (j ≡ k → ⊥) → bit rest j ≡ bit left j) where
@@ -120,6 +127,10 @@ module _ {G A : Type 0} (g : G) (next : ℕ → Script G A) where
 
   pub bit_cut : run raw_bit [] ≡ cut g
   bit_cut = refl
+
+-- a state with the raw bit b of position p
+abbrev pub with_bit : ℕ → State → Bool → State
+with_bit p s b = with_raw (with_bits s (and_one (λ q. false) p b)) p
 
 module _ (s : State) where
   abbrev flag : Script State Bool

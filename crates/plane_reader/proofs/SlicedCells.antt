@@ -25,13 +25,13 @@ use Rattle.plane_reader.proofs.CellGroups.{mask_left, mask_right, numbers_append
 
 pub record Lifts (b : ℕ) (old now dcs : List ℤ) : Type 0 where
   pub long : length now ≡ length old
-  pub size : length dcs ≡ 240
+  pub size : length dcs ≡ 64
   pub if_known : (q : ℕ) → q < b → get_or dcs q (pos 0) ≡ get_or old (64 * q) (pos 0)
   pub gone : (q : ℕ) → q < b → get_or now (64 * q) (pos 0) ≡ pos 0
   pub later : (i : ℕ) → 64 * b ≤ i → get_or now i (pos 0) ≡ get_or old i (pos 0)
   pub others : (i : ℕ) → (i % 64 ≡ 0 → ⊥) → get_or now i (pos 0) ≡ get_or old i (pos 0)
 
-pub lifts_more : {b : ℕ} {old now dcs : List ℤ} → 64 * b < length old → b < 240 → Lifts b old now dcs →
+pub lifts_more : {b : ℕ} {old now dcs : List ℤ} → 64 * b < length old → b < 64 → Lifts b old now dcs →
     Lifts (b + 1) old (set now (64 * b) (pos 0)) (set dcs b (get_or now (64 * b) (pos 0)))
 lifts_more {b} {old} {now} {dcs} within low l = record {
   long = length-set now (64 * b) (pos 0) ∙ l.long;
@@ -136,7 +136,7 @@ pub record SlicedTo (e : ℕ) (old now : List ℤ) : Type 0 where
   pub only : HasOnlyDcs (take e now)
   pub rest : drop e now ≡ drop e old
 
-only_both : (a b : List ℤ) → length a % 15360 ≡ 0 → HasOnlyDcs a → HasOnlyDcs b → HasOnlyDcs (a ++ b)
+only_both : (a b : List ℤ) → length a % 4096 ≡ 0 → HasOnlyDcs a → HasOnlyDcs b → HasOnlyDcs (a ++ b)
 only_both a b groups p q = record {
   others = λ r s known few other. elim (cases_lt (64 * r) (length a)) [
     | inl low ↦ mask_left a b groups r s low few ∙ p.others r s low few other
@@ -152,23 +152,23 @@ only_both a b groups p q = record {
   ];
 }
 
-pub sliced_more : (g n e : ℕ) {old now part : List ℤ} → e ≡ 15360 * g + n → e ≤ length old → length part ≡ n → SlicedTo (15360 * g) old now → numbers_in
-    part ≡ take n (drop (15360 * g) now) → HasOnlyDcs part → SlicedTo e old (put_mid (15360 * g) n now part)
+pub sliced_more : (g n e : ℕ) {old now part : List ℤ} → e ≡ 4096 * g + n → e ≤ length old → length part ≡ n → SlicedTo (4096 * g) old now → numbers_in
+    part ≡ take n (drop (4096 * g) now) → HasOnlyDcs part → SlicedTo e old (put_mid (4096 * g) n now part)
 sliced_more g n e {old} {now} {part} ends within size s if_known only =
-    let inside : 15360 * g ≤ length now = omega (arith, ends, within, s.long) in
-    let groups : length (take (15360 * g) now) % 15360 ≡ 0 = omega (arith, length-take-le (15360 * g) now inside) in
-    let here : take e (put_mid (15360 * g) n now part) ≡ take (15360 * g) now ++ part = take-put_mid (15360 * g) n now part e (omega (
+    let inside : 4096 * g ≤ length now = omega (arith, ends, within, s.long) in
+    let groups : length (take (4096 * g) now) % 4096 ≡ 0 = omega (arith, length-take-le (4096 * g) now inside) in
+    let here : take e (put_mid (4096 * g) n now part) ≡ take (4096 * g) now ++ part = take-put_mid (4096 * g) n now part e (omega (
       arith,
       ends,
       size,
     )) inside in
     record {
       long = put_long g n e now part ends (omega (arith, within, s.long)) size ∙ s.long;
-      prefix = ap numbers_in here ∙ numbers_append (take (15360 * g) now) part groups ∙ ap (λ l. l ++ numbers_in part) s.prefix ∙
-          ap (λ l. take (15360 * g) old ++ l) (if_known ∙ ap (take n) s.rest) ∙
-          sym (take-add (15360 * g) n old) ∙ ap (λ k. take k old) (sym ends);
-      only = subst HasOnlyDcs (sym here) (only_both (take (15360 * g) now) part groups s.only only);
-      rest = drop-put_mid (15360 * g) n now part e (omega (arith, ends)) inside size ∙ drop_then g n e old now ends s.rest;
+      prefix = ap numbers_in here ∙ numbers_append (take (4096 * g) now) part groups ∙ ap (λ l. l ++ numbers_in part) s.prefix ∙
+          ap (λ l. take (4096 * g) old ++ l) (if_known ∙ ap (take n) s.rest) ∙
+          sym (take-add (4096 * g) n old) ∙ ap (λ k. take k old) (sym ends);
+      only = subst HasOnlyDcs (sym here) (only_both (take (4096 * g) now) part groups s.only only);
+      rest = drop-put_mid (4096 * g) n now part e (omega (arith, ends)) inside size ∙ drop_then g n e old now ends s.rest;
     }
 
 -- ---- ready for a plane
@@ -207,11 +207,11 @@ flat_acs blocks whole no_acs i apart = elim (cases_lt i (length blocks)) [
 
 -- those of a group
 pub part_acs : (blocks : List ℤ) (g n : ℕ) → ((i : ℕ) → (i % 64 ≡ 0 → ⊥) → get_or blocks i (pos 0) ≡ pos 0) → (i : ℕ) → (i % 64 ≡ 0 → ⊥) →
-    get_or (take n (drop (15360 * g) blocks)) i (pos 0) ≡ pos 0
+    get_or (take n (drop (4096 * g) blocks)) i (pos 0) ≡ pos 0
 part_acs blocks g n no_acs i apart = elim (cases_lt i n) [
-  | inl lt ↦ get_or-take n (drop (15360 * g) blocks) i (pos 0) lt ∙ get_or-drop (15360 * g) blocks i (pos 0) ∙
-      no_acs (15360 * g + i) (λ e. apart (omega (arith, e)))
-  | inr past ↦ get_or_past (take n (drop (15360 * g) blocks)) i (pos 0) (omega (arith, past, length-take n (drop (15360 * g) blocks)))
+  | inl lt ↦ get_or-take n (drop (4096 * g) blocks) i (pos 0) lt ∙ get_or-drop (4096 * g) blocks i (pos 0) ∙
+      no_acs (4096 * g + i) (λ e. apart (omega (arith, e)))
+  | inr past ↦ get_or_past (take n (drop (4096 * g) blocks)) i (pos 0) (omega (arith, past, length-take n (drop (4096 * g) blocks)))
 ]
 
 pub sliced_none : (blocks : List ℤ) (e : ℕ) → e ≡ 0 → SlicedTo e blocks blocks

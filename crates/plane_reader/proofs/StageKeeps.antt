@@ -14,7 +14,7 @@ use Rattle.plane_defs.specs.Steps.{Check, ones_at, some_one_where}
 use Rattle.plane_defs.proofs.Above.{all_span}
 use Rattle.plane_defs.proofs.Alike.{all_filter}
 use Rattle.item_defs.specs.Scripts.{Script, done, in_turn, around}
-use Rattle.plane_defs.specs.States.{State, with_options, with_bits, with_minus, with_families, and_one}
+use Rattle.plane_defs.specs.States.{State, with_options, with_bits, with_raw, with_minus, with_families, and_one}
 use Rattle.plane_defs.specs.WordScripts.{option_script, word_script, coded_script, raw_form, ones, due_script, signs_script, types_script, group_script}
 use Rattle.plane_defs.specs.StageScripts.{Terms, above, is_due, bit_script, dc_bit_script, parents_script, descendants_script, children_script}
 use Rattle.plane_defs.specs.StageScripts.{is_childless, quads_script, grandchildren_script, refinement_script, stage_script}
@@ -27,6 +27,7 @@ pub record IsStable (P : State → Type 0) : Type 0 where
   pub options : (s : State) (o : ℕ → Option ℕ) → P s → P (with_options s o)
   pub families : (s : State) (f : ℕ → Bool) → P s → P (with_families s f)
   pub bits : (s : State) (new : ℕ → Bool) → new 0 ≡ false → P s → P (with_bits s new)
+  pub raw : (s : State) (p : ℕ) → P s → P (with_raw s p)
   pub sign : (s : State) (p : ℕ) (b : Bool) → s.bits p ≡ true → P s → P (with_minus s (and_one s.minus p b))
 
 -- ---- two of them
@@ -36,6 +37,7 @@ dc_stable x = record {
   options = λ s o k. k;
   families = λ s f k. k;
   bits = λ s new none k. ap (λ b. s.bits 0 || b) none ∙ or-false (s.bits 0) ∙ k;
+  raw = λ s p k. k;
   sign = λ s p b has k. k;
 }
 
@@ -56,6 +58,7 @@ signed_stable = record {
   options = λ s o k. k;
   families = λ s f k. k;
   bits = λ s new none k q m. ap (λ b. b || new q) (k q m);
+  raw = λ s p k. k;
   sign = λ s p b has k q m. elim (either (s.minus q) ((q == p) && b) m) [
     | inl e ↦ k q e
     | inr e ↦
@@ -143,8 +146,11 @@ module _ (P : State → Type 0) (c : IsStable P) where
 
   bit_keeps : (p : ℕ) (s : State) → 1 ≤ p → P s → Keeps P P (bit_script p s)
   bit_keeps p s le k =
-      let apart : (0 == p) ≡ false = grind (arith, nat_tests) in
-      (k, λ n. c.bits s (and_one (λ q. false) p (n == 1)) (ap (λ x. false || (x && (n == 1))) apart) k)
+      let apart : (0 == p) ≡ false = grind (arith, nat_tests) in (
+        k,
+        λ n. c.raw (with_bits s (and_one (λ q. false) p (n == 1))) p (c.bits s (and_one (λ q. false) p (n == 1)) (ap (λ x. false || (x && (n == 1))) apart)
+            k),
+      )
 
   -- ---- stages 1 to 4
 

@@ -68,7 +68,10 @@ dcs_kept t depths numbers stage plane some low p now result {old} {new} keeps re
     let kept = said_kept (All P) (blocks_script t depths numbers stage p) (later_keeps P (λ i. dc_stable ((p.blocks i).bits 0)) t depths numbers stage some p
     (λ i. refl)) read.bits now result read.says r in
     let there : 64 * r < length old = subst (λ n. 64 * r < n) keeps.long inside in
-    ap (λ m. cast_signed w32 (m % 2 ^ 32)) (keeps.slots r dc_slot there (omega arith) (λ e. omega (arith, e, low)) (λ e. omega (arith, e))) ∙ have r there ∙
+    ap (λ m. cast_signed w32 (m % 2 ^ 32)) (keeps.slots r dc_slot there (omega arith) (λ e. omega (arith, e, low)) (λ e. omega (arith, e)) (λ e. omega (
+      arith,
+      e,
+    ))) ∙ have r there ∙
     sym (ap (λ y. get_or (get_or numbers r []) 0 (pos 0) +ℤ pos (if y then 2 ^ plane else 0)) kept)
 
 module _ {I : Type 0} {k : SourceOf I} (t : Terms) (stage : ℕ) (depths : List ℕ) (numbers : List (List ℤ)) (plane : ℕ) where

@@ -78,7 +78,7 @@ free_if_empty true g start count due few shown some e =
 
 -- the same masks with other options
 pub on : {h h' : Gaggle} {m : Found} {s : State} {options : ℕ → Option ℕ} → IsState h m s → AreIn h' options → IsState h' m (with_options s options)
-on is known = record { options = known; bits = is.bits; minus = is.minus }
+on is known = record { options = known; bits = is.bits; minus = is.minus; raw = is.raw }
 
 module _ {I : Type 0} {k : SourceOf I} (book : Book) (wanted : Bool) (g : ℕ → Bool) (start count due : ℕ) (few : count ≤ 4) (shown : Shows due g start count)
     (some : wanted ≡ true → 0 < due) (s : State) {h : Gaggle} {m : Found} (is : IsState h m s) where
@@ -113,12 +113,12 @@ module _ {I : Type 0} {k : SourceOf I} (book : Book) (wanted : Bool) (g : ℕ �
     pub types_false : (wanted && (places == 0)) ≡ true → TakesState {X = Unit {0}} k (types_script book g wanted (span start count) s) (Err FalseFlag) h' m a b
     types_false e = record { now = after; is = on is p.known; read = read_fault _ _ after FalseFlag (places_read true e) }
 
-    pub types_read : {o q : Found} {c : SourceState I} {result : Result (Option (Unit {0})) TextFault} → (wanted && (places == 0)) ≡ false →
+    pub types_read : (o : Found) {q : Found} {c : SourceState I} {result : Result (Option (Unit {0})) TextFault} → (wanted && (places == 0)) ≡ false →
         ((f g' : ℕ → Bool) (n : ℕ) → start + n ≤ 64 → Shows m.bits f 0 64 → Shows places g' start n → Shows o.bits (λ p. f p ||
-        (inside start n p && g' p)) 0 64) → start + count ≤ 64 → o.minus ≡ m.minus →
+        (inside start n p && g' p)) 0 64) → start + count ≤ 64 → o.minus ≡ m.minus → q.raw ≡ m.raw →
         TakesSigns k (positions places start count) (with_bits after p.ones) result q.minus b c → q.bits ≡ o.bits →
         TakesState k (types_script book g wanted (span start count) s) result h' q a c
-    types_read {o} {q} {c} {result} e bits room no_minus signs no_bits =
+    types_read o {q} {c} {result} e bits room no_minus no_raw signs no_bits =
         let here = mask_positions p.are.shown in
         record {
           now = with_minus (with_bits after p.ones) signs.minus;
@@ -127,6 +127,7 @@ module _ {I : Type 0} {k : SourceOf I} (book : Book) (wanted : Bool) (g : ℕ �
             bits = subst (λ z. Shows z (λ x. s.bits x || p.ones x) 0 64) (sym no_bits) (shows_same (λ x. ap (λ t. s.bits x || t) (p.are.within
                 x)) (bits s.bits p.ones count room is.bits p.are.shown));
             minus = signs.shown;
+            raw = subst (λ z. Shows z s.raw 0 64) (sym no_raw) is.raw;
           };
           read =
               let r : State × (ℕ → Bool) = (after, p.ones) in

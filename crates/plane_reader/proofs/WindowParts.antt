@@ -1,12 +1,10 @@
 -- Parts of a window.
-use Rattle.std.proofs.Common.{◌≡◌, ℕ, ◌+◌, ◌-◌, ◌*◌, ◌/◌, ◌%◌, ◌^◌, ◌≤◌, ◌++◌, length, take, drop, refl, sym, ap, ◌∙◌, mul_assoc, arith, count_ones}
-use Rattle.std.proofs.Math.Seq.{drop-append_seam}
+use Rattle.std.proofs.Common.{◌≡◌, ℕ, ◌+◌, ◌-◌, ◌*◌, ◌/◌, ◌%◌, ◌^◌, ◌≤◌, ◌++◌, take, sym, ap, ◌∙◌, mul_assoc, arith, count_ones}
 use Rattle.std.proofs.lemmas.Nat.{mul-mod_first, pow-add, pow_pos, shr-shr, shr_high, ones_le_self}
 use Rattle.std.proofs.lemmas.Bool.Decides.{nat_tests}
-use Rattle.item_defs.specs.Bits.{bits_of, value_of}
-use Rattle.item_defs.proofs.NumberBits.{bits_of-mod, bits_of-split, take-bits_of, length-bits_of}
+use Rattle.item_defs.specs.Bits.{bits_of}
+use Rattle.item_defs.proofs.NumberBits.{bits_of-mod, bits_of-split, take-bits_of}
 use Rattle.bit_pipe.specs.Windows.{first_of}
-use Rattle.plane_reader.proofs.WindowWords.{word_value}
 
 pub no_ones : (n : ℕ) → n ≡ 0 → count_ones n ≡ 0
 no_ones n e = let least = ones_le_self n in omega (arith, least, e)

@@ -31,22 +31,35 @@ terms_of plan book = record { book = book; weights = plan.weights.shifts; plane 
 abbrev pub IsAbove : ℕ → List ℤ → ℕ → Type 0
 IsAbove mask block plane = (p : ℕ) → IsAc p → bit mask p ≡ significant block (plane + 1) p
 
--- of block r only the masks of the plane and of signs changed
-pub record KeepsMasks (r plane : ℕ) (old new : List ℤ) : Type 0 where
+-- the slot of the masks that say which positions have their bit of the plane that is read as a raw bit
+abbrev pub raw_slot : ℕ
+raw_slot = 27
+
+-- block r has these raw bits too, and all other masks stay
+pub record AddsRaw (r raw : ℕ) (old new : List ℤ) : Type 0 where
   pub long : length new ≡ length old
-  pub slots : (slot : ℕ) → slot < 32 → (slot ≡ plane → ⊥) → (slot ≡ minus_slot → ⊥) → mask_in new r slot ≡ mask_in old r slot
+  pub bits : (p : ℕ) → p < 64 → bit (mask_in new r raw_slot) p ≡ (bit (mask_in old r raw_slot) p || bit raw p)
+  pub slots : (slot : ℕ) → slot < 32 → (slot ≡ raw_slot → ⊥) → mask_in new r slot ≡ mask_in old r slot
   pub others : (q slot : ℕ) → 64 * q < length old → slot < 32 → (q ≡ r → ⊥) → mask_in new q slot ≡ mask_in old q slot
 
--- the bits and signs that were found are added
+-- of block r only the masks of the plane, of signs and of raw bits changed
+pub record KeepsMasks (r plane : ℕ) (old new : List ℤ) : Type 0 where
+  pub long : length new ≡ length old
+  pub slots : (slot : ℕ) → slot < 32 → (slot ≡ plane → ⊥) → (slot ≡ minus_slot → ⊥) → (slot ≡ raw_slot → ⊥) → mask_in new r slot ≡ mask_in old r slot
+  pub others : (q slot : ℕ) → 64 * q < length old → slot < 32 → (q ≡ r → ⊥) → mask_in new q slot ≡ mask_in old q slot
+
+-- the bits, raw bits and signs that were found are added
 pub record Applies (plane r : ℕ) (found : Found) (old new : List ℤ) : Type 0 where
   pub keeps : KeepsMasks r plane old new
   pub bits : (p : ℕ) → p < 64 → bit (mask_in new r plane) p ≡ (bit (mask_in old r plane) p || bit found.bits p)
   pub minus : (p : ℕ) → p < 64 → bit (mask_in new r minus_slot) p ≡ (bit (mask_in old r minus_slot) p || bit found.minus p)
+  pub raw : (p : ℕ) → p < 64 → bit (mask_in new r raw_slot) p ≡ (bit (mask_in old r raw_slot) p || bit found.raw p)
 
 -- the masks of block r have what was read of it in the plane, and the signs that it had before
 pub record HasRead (plane r : ℕ) (cells : List ℤ) (block : List ℤ) (s : State) : Type 0 where
   pub bits : (p : ℕ) → IsAc p → bit (mask_in cells r plane) p ≡ s.bits p
   pub minus : (p : ℕ) → IsAc p → bit (mask_in cells r minus_slot) p ≡ (negative (get_or block p (pos 0)) || s.minus p)
+  pub raw : (p : ℕ) → p < 64 → bit (mask_in cells r raw_slot) p ≡ s.raw p
 
 -- this holds if all was read
 abbrev pub OnWhole : Result Part TextFault → Type 0 → Type 0
@@ -63,7 +76,7 @@ part_from t stage block earlier s =
 abbrev pub stage_part : Terms → (stage : ℕ) → List ℤ → State → Script State State
 stage_part t stage block s = if stage == 2 then children_script t block s else part_from t stage block s s
 
--- a stage was read of a block whose state before it is s: the masks that were found have the bits and signs of the stage alone, and another
+-- a stage was read of a block whose state before it is s: the masks that were found have the bits, raw bits and signs of the stage alone, and another
 -- has the families that are significant then
 pub record HeldStage {I : Type 0} (k : SourceOf I) (script : Script State State) (s : State) (result : Result (Option ℕ) TextFault) (g : Gaggle) (f : Found)
     (old new : Point I) : Type 0 where
@@ -71,6 +84,7 @@ pub record HeldStage {I : Type 0} (k : SourceOf I) (script : Script State State)
   pub options : AreIn g now.options
   pub bits : (p : ℕ) → p < 64 → now.bits p ≡ (s.bits p || bit f.bits p)
   pub minus : (p : ℕ) → p < 64 → now.minus p ≡ (s.minus p || bit f.minus p)
+  pub raw : (p : ℕ) → p < 64 → now.raw p ≡ (s.raw p || bit f.raw p)
   pub families : OnSome result (λ m. Shows m now.families 0 3)
   pub read : ReadsFrom k script (by_done result now now) old new
 

@@ -18,7 +18,7 @@ use Rattle.plane_defs.specs.PlaneScript.{PlaneState, of_block, with_block, bit_o
 use Rattle.plane_reader.specs.declared.gaggles.Blocks.{Blocks}
 use Rattle.plane_reader.specs.Takes.{AreIn}
 use Rattle.plane_reader.specs.Held.{Point, ReadsFrom}
-use Rattle.plane_reader.specs.Blocks.{IsAbove, HasRead, OnWhole}
+use Rattle.plane_reader.specs.Blocks.{raw_slot, IsAbove, HasRead, OnWhole}
 
 -- the deep blocks are those of a depth above the plane
 abbrev pub AreDeep : (plane : ℕ) → List ℕ → Blocks → Type 0
@@ -41,10 +41,11 @@ abbrev pub HaveDcs : (plane : ℕ) → (cells : List ℤ) → List (List ℤ) �
 HaveDcs plane cells numbers p = (r : ℕ) → 64 * r < length cells → dc_in cells r ≡ get_or (get_or numbers r []) 0 (pos 0) +ℤ pos (bit_of_plane plane
     (p.blocks r) 0)
 
--- only masks of the plane and of signs changed
+-- only masks of the plane, of signs and of raw bits changed
 pub record KeepSlots (plane : ℕ) (old new : List ℤ) : Type 0 where
   pub long : length new ≡ length old
-  pub slots : (r slot : ℕ) → 64 * r < length old → slot < 32 → (slot ≡ plane → ⊥) → (slot ≡ minus_slot → ⊥) → mask_in new r slot ≡ mask_in old r slot
+  pub slots : (r slot : ℕ) → 64 * r < length old → slot < 32 → (slot ≡ plane → ⊥) → (slot ≡ minus_slot → ⊥) → (slot ≡ raw_slot → ⊥) → mask_in
+      new r slot ≡ mask_in old r slot
 
 -- the states have the families of all blocks that are significant in the plane
 abbrev pub HaveFamilies : (marks : List ℤ) → PlaneState → Type 0

@@ -13,6 +13,7 @@ use Rattle.block_masks.specs.Slices.{dc_slot, minus_slot, mask_in}
 use Rattle.plane_defs.specs.StageScripts.{bit_script}
 use Rattle.plane_defs.specs.PlaneScript.{PlaneState, of_block, with_block}
 use Rattle.plane_reader.specs.Above.{HasNoneBelow}
+use Rattle.plane_reader.specs.Blocks.{raw_slot}
 use Rattle.plane_reader.specs.Held.{Point, ReadsFrom}
 use Rattle.plane_reader.specs.Gaggles.{dc_in, HavePlane, HaveDcs, HaveFamilies, HaveOptions}
 use Rattle.plane_reader.specs.declared.planes.SentPlanes.{SentPlanes}
@@ -24,10 +25,18 @@ pub record AddsDc (plane r : ℕ) (old new : List ℤ) : Type 0 where
   pub slots : (slot : ℕ) → slot < 32 → (slot ≡ dc_slot → ⊥) → mask_in new r slot ≡ mask_in old r slot
   pub others : (q slot : ℕ) → 64 * q < length old → slot < 32 → (q ≡ r → ⊥) → mask_in new q slot ≡ mask_in old q slot
 
--- only DCs changed
+-- only DCs and masks of raw bits changed
 pub record KeepOthers (old new : List ℤ) : Type 0 where
   pub long : length new ≡ length old
-  pub slots : (r slot : ℕ) → 64 * r < length old → slot < 32 → (slot ≡ dc_slot → ⊥) → mask_in new r slot ≡ mask_in old r slot
+  pub slots : (r slot : ℕ) → 64 * r < length old → slot < 32 → (slot ≡ dc_slot → ⊥) → (slot ≡ raw_slot → ⊥) → mask_in new r slot ≡ mask_in old r slot
+
+-- the plane's bit of block r's DC was given: the DC has it, and it is the block's only raw bit
+pub record GivesDc (plane r : ℕ) (is_one : Bool) (old new : List ℤ) : Type 0 where
+  pub keeps : KeepOthers old new
+  pub dc : HasNoneBelow (plane + 1) (dc_in old r) → dc_in new r ≡ dc_in old r +ℤ pos (if is_one then 2 ^ plane else 0)
+  pub other_dcs : (q : ℕ) → 64 * q < length old → (q ≡ r → ⊥) → dc_in new q ≡ dc_in old q
+  pub given : mask_in new r raw_slot ≡ 1
+  pub others : (q : ℕ) → 64 * q < length old → (q ≡ r → ⊥) → mask_in new q raw_slot ≡ mask_in old q raw_slot
 
 -- the bit of a block's DC, if it is due
 abbrev pub dc_item : (is_due : Bool) → ℕ → PlaneState → Script PlaneState PlaneState
@@ -54,11 +63,17 @@ pub record Clears (old new : List ℤ) : Type 0 where
   pub sent : (r : ℕ) → sent_in (get_or new r (pos 0)) ≡ false ∷ false ∷ false ∷ []
   pub families : (r : ℕ) → families_in (get_or new r (pos 0)) ≡ 0
 
--- only masks of the plane and of signs changed, and DCs
+-- no position has a raw bit, and all other masks stay
+pub record ClearsRaw (old new : List ℤ) : Type 0 where
+  pub long : length new ≡ length old
+  pub none : (r : ℕ) → 64 * r < length old → mask_in new r raw_slot ≡ 0
+  pub slots : (r slot : ℕ) → 64 * r < length old → slot < 32 → (slot ≡ raw_slot → ⊥) → mask_in new r slot ≡ mask_in old r slot
+
+-- only masks of the plane, of signs and of raw bits changed, and DCs
 pub record KeepPlanes (plane : ℕ) (old new : List ℤ) : Type 0 where
   pub long : length new ≡ length old
-  pub slots : (r slot : ℕ) → 64 * r < length old → slot < 32 → (slot ≡ plane → ⊥) → (slot ≡ minus_slot → ⊥) → (slot ≡ dc_slot → ⊥) → mask_in
-      new r slot ≡ mask_in old r slot
+  pub slots : (r slot : ℕ) → 64 * r < length old → slot < 32 → (slot ≡ plane → ⊥) → (slot ≡ minus_slot → ⊥) → (slot ≡ dc_slot → ⊥) →
+      (slot ≡ raw_slot → ⊥) → mask_in new r slot ≡ mask_in old r slot
 
 -- stages of a plane were read, and the masks have what was read: exactly the bits that decide were taken
 pub record TakesStages {I : Type 0} (k : SourceOf I) (plane : ℕ) (numbers : List (List ℤ)) (script : Script PlaneState PlaneState)

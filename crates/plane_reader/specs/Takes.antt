@@ -32,6 +32,7 @@ pub record IsState (g : Gaggle) (f : Found) (s : State) : Type 0 where
   pub options : AreIn g s.options
   pub bits : Shows f.bits s.bits 0 64
   pub minus : Shows f.minus s.minus 0 64
+  pub raw : Shows f.raw s.raw 0 64
 
 -- a mask of some positions
 abbrev pub Marks : ℕ → (ℕ → Bool) → (start count : ℕ) → Type 0

@@ -61,6 +61,7 @@ pub(crate) fn take_children<I: OctetIn>(
         (point (source_state input.old) reading.old.cursor) (point (source_state input.new) reading.new.cursor) }
     ensures small { OnSome result (λ families. families < 8) }
     ensures tables { reading.new.tables ≡ reading.old.tables }
+    ensures raw { reading.new.found.raw ≡ reading.old.found.raw }
     ensures reading { OnSome result (λ x. IsReading I.source (source_state input.new) reading.new) }
     ensures holds { Holds I.source (source_state input.new) reading.new.cursor }
     ensures is_in { IsIn (source_state input.new) }

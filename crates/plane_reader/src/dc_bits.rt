@@ -10,14 +10,14 @@ ghost use Rattle.plane_reader.specs.Held.{Holds, point};
 ghost use Rattle.plane_reader.specs.HeldTakes.{IsReading};
 ghost use Rattle.plane_reader.specs.Blocks.{terms_of};
 ghost use Rattle.plane_reader.specs.Gaggles.{HaveRead, TakesStage};
-ghost use Rattle.plane_reader.specs.Planes.{AddsDc, KeepOthers, HeldDcs, dc_item};
+ghost use Rattle.plane_reader.specs.Planes.{AddsDc, GivesDc, KeepOthers, HeldDcs, dc_item};
 ghost use Rattle.item_defs.specs.Scripts.{in_turn};
 ghost use lib.ListN.{get_or};
 
 use crate::gaggles::Terms;
 use crate::reading::Reading;
 use bit_pipe::{BitIn, OctetIn, Part, TextFault};
-use block_masks::{CodedPlane, Column, DC, Gaggle, has, mask_of, put_mask};
+use block_masks::{CodedPlane, Column, DC, Gaggle, RAW, has, mask_of, put_mask};
 
 // Returns whether the plane's bit of the DC was not in the DC part and can be other than 0.
 #[inline]
@@ -37,6 +37,20 @@ fn add_dc(plane: u8, cells: &mut [i32], column: Column)
 {
     let dc = (mask_of(cells, column, DC) % 0x1_0000_0000) as u32;
     put_mask(cells, column, DC, u64::from(dc.wrapping_add(1 << plane)));
+}
+
+// Puts the plane's bit of a block's DC, a raw bit.
+#[inline(always)]
+fn give_dc(is_one: bool, plane: u8, cells: &mut [i32], column: Column)
+    requires whole { length cells.old % 64 ≡ 0 }
+    requires column { IsColumn cells.old column }
+    requires low { plane < 27 }
+    ensures { GivesDc plane column.block is_one cells.old cells.new }
+{
+    put_mask(cells, column, RAW, 1);
+    if is_one {
+        add_dc(plane, cells, column);
+    }
 }
 
 // Reads the plane's bit of each block's DC.
@@ -62,10 +76,8 @@ fn take_bits<I: OctetIn>(
         let Some(bit) = reading.flag(input)? else {
             return Ok(Part::Ended);
         };
-        if bit {
-            let column = Column::of(cells, r);
-            add_dc(plane, cells, column);
-        }
+        let column = Column::of(cells, r);
+        give_dc(bit, plane, cells, column);
     }
     Ok(Part::Whole)
 }

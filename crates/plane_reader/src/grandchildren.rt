@@ -48,6 +48,7 @@ fn take_quads<I: OctetIn>(
         reading.new.found
         (point (source_state input.old) reading.old.cursor) (point (source_state input.new) reading.new.cursor) }
     ensures tables { reading.new.tables ≡ reading.old.tables }
+    ensures raw { reading.new.found.raw ≡ reading.old.found.raw }
     ensures reading { OnSome result (λ x. IsReading I.source (source_state input.new) reading.new) }
     ensures holds { Holds I.source (source_state input.new) reading.new.cursor }
     ensures is_in { IsIn (source_state input.new) }
@@ -91,6 +92,7 @@ fn take_sixteens<I: OctetIn>(
         reading.new.found
         (point (source_state input.old) reading.old.cursor) (point (source_state input.new) reading.new.cursor) }
     ensures tables { reading.new.tables ≡ reading.old.tables }
+    ensures raw { reading.new.found.raw ≡ reading.old.found.raw }
     ensures reading { OnSome result (λ x. IsReading I.source (source_state input.new) reading.new) }
     ensures holds { Holds I.source (source_state input.new) reading.new.cursor }
     ensures is_in { IsIn (source_state input.new) }
@@ -147,6 +149,7 @@ pub(crate) fn take_grandchildren<I: OctetIn>(
         reading.new.found
         (point (source_state input.old) reading.old.cursor) (point (source_state input.new) reading.new.cursor) }
     ensures tables { reading.new.tables ≡ reading.old.tables }
+    ensures raw { reading.new.found.raw ≡ reading.old.found.raw }
     ensures reading { OnSome result (λ x. IsReading I.source (source_state input.new) reading.new) }
     ensures holds { Holds I.source (source_state input.new) reading.new.cursor }
     ensures is_in { IsIn (source_state input.new) }

@@ -62,6 +62,7 @@ pub(crate) fn take_groups<I: OctetIn>(
         reading.new.found
         (point (source_state input.old) reading.old.cursor) (point (source_state input.new) reading.new.cursor) }
     ensures tables { reading.new.tables ≡ reading.old.tables }
+    ensures raw { reading.new.found.raw ≡ reading.old.found.raw }
     ensures reading { OnSome result (λ x. IsReading I.source (source_state input.new) reading.new) }
     ensures holds { Holds I.source (source_state input.new) reading.new.cursor }
     ensures is_in { IsIn (source_state input.new) }

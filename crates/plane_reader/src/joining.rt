@@ -1,6 +1,6 @@
 // Turns the masks of a segment into the numbers that they represent.
 
-ghost use Rattle.std.specs.Prelude.{◌≡◌, ◌≤◌, ◌<◌, ◌*◌, ◌%◌, min, ℕ, length, pos};
+ghost use Rattle.std.specs.Prelude.{◌≡◌, ◌≤◌, ◌<◌, ◌*◌, ◌%◌, ℕ, length, pos};
 ghost use lib.ListN.{get_or};
 ghost use Rattle.wave_defs.specs.Held.{block_at};
 ghost use Rattle.block_masks.specs.Slices.{numbers_in, IsColumn};
@@ -26,18 +26,16 @@ fn join_group(part: &mut [i32], planes: u8, room: &mut [i32])
     }
 }
 
-// Turns masks into numbers with room for `ROOM` numbers. Each room has a stack frame of its own, since a segment of fewer blocks would
-// fill it with nothing.
+// Turns masks into the 64 numbers of each block that they represent, in their place. Only the first planes have bits. It has a stack frame of
+// its own, which is there only while groups are joined.
 #[inline(never)]
-fn join_with_room<const ROOM: usize>(cells: &mut [i32], planes: u8)
+pub(crate) fn join_numbers(cells: &mut [i32], planes: u8)
     requires few { planes ≤ 27 }
     requires below { AreBelow planes cells.old }
-    requires small { ROOM ≤ 15360 }
-    requires room { min 15360 (length cells.old) ≤ ROOM }
     requires whole { length cells.old % 64 ≡ 0 }
     ensures { cells.new ≡ numbers_in cells.old }
 {
-    let mut room = [0; ROOM];
+    let mut room = [0; NUMBERS];
     let len = cells.len();
     for g in 0..len.div_ceil(NUMBERS) {
         let start = NUMBERS * g;
@@ -46,19 +44,5 @@ fn join_with_room<const ROOM: usize>(cells: &mut [i32], planes: u8)
             planes,
             &mut room,
         );
-    }
-}
-
-// Turns masks into the 64 numbers of each block that they represent, in their place. Only the first planes have bits.
-pub(crate) fn join_numbers(cells: &mut [i32], planes: u8)
-    requires few { planes ≤ 27 }
-    requires below { AreBelow planes cells.old }
-    requires whole { length cells.old % 64 ≡ 0 }
-    ensures { cells.new ≡ numbers_in cells.old }
-{
-    if cells.len() <= 4096 {
-        join_with_room::<4096>(cells, planes);
-    } else {
-        join_with_room::<15360>(cells, planes);
     }
 }

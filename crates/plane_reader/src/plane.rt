@@ -13,7 +13,7 @@ ghost use Rattle.plane_reader.specs.Above.{AreReady, AwaitDcs};
 ghost use Rattle.plane_reader.specs.Blocks.{terms_of, OnWhole};
 ghost use Rattle.plane_reader.specs.Gaggles.{AreDeep, AreAbove, HaveRead, KeepSlots, TakesStage};
 ghost use Rattle.plane_reader.specs.Joined.{AreBelow};
-ghost use Rattle.plane_reader.specs.Planes.{Clears, KeepPlanes, TakesStages};
+ghost use Rattle.plane_reader.specs.Planes.{Clears, ClearsRaw, KeepPlanes, TakesStages};
 ghost use Rattle.wave_defs.specs.Held.{blocks_in};
 ghost use lib.ListN.{get_or};
 
@@ -21,7 +21,7 @@ use crate::dc_bits::take_dcs;
 use crate::deep::deep_blocks;
 use crate::gaggles::{Blocks, Terms, take_gaggle};
 use bit_pipe::{BitIn, OctetIn, Part, TextFault};
-use block_masks::{Column, Gaggle, depth_of, mark_of, settle_above};
+use block_masks::{Column, Gaggle, RAW, depth_of, mark_of, put_mask, settle_above};
 
 // The number of blocks of a gaggle.
 const GAGGLE: usize = 16;
@@ -36,6 +36,17 @@ fn clear(marks: &mut [i32])
     };
     for place in 0..marks.len() {
         marks[place] = mark_of(depth_of(marks[place]), none);
+    }
+}
+
+// Clears the masks of raw bits.
+fn clear_raw(cells: &mut [i32])
+    requires whole { length cells.old % 64 ≡ 0 }
+    ensures { ClearsRaw cells.old cells.new }
+{
+    for r in 0..cells.len() / 64 {
+        let column = Column::of(cells, r);
+        put_mask(cells, column, RAW, 0);
     }
 }
 
@@ -141,6 +152,7 @@ fn take_stages<I: OctetIn>(
     ensures is_in { IsIn (source_state input.new) }
 {
     clear(marks);
+    clear_raw(cells);
     let Part::Whole = take_dcs(input, terms, cells)? else {
         return Ok(Part::Ended);
     };
@@ -168,6 +180,9 @@ pub(crate) fn take_plane<I: OctetIn>(
     ensures plane { ReadsAs I.source (around (blocks_with terms.now.plan.now.plane (blocks_in (numbers_in cells.old)))
         (plane_script (terms_of terms.now.plan.now terms.now.tables.now.words.book) (depths_of marks.old) (blocks_in (numbers_in cells.old)) (last + 1)))
         (by_part result (blocks_in (numbers_in cells.new)) (blocks_in (numbers_in cells.new))) (source_state input.old) (source_state input.new) }
+    ensures stages { TakesStages I.source terms.now.plan.now.plane (blocks_in (numbers_in cells.old))
+        (plane_script (terms_of terms.now.plan.now terms.now.tables.now.words.book) (depths_of marks.old) (blocks_in (numbers_in
+        cells.old)) (last + 1)) result cells.new (source_state input.old) (source_state input.new) }
     ensures ready { AreReady terms.now.plan.now.plane cells.new }
     ensures dcs { AwaitDcs terms.now.plan.now.plane terms.now.plan.now.q (blocks_in (numbers_in cells.new)) }
     ensures below { (planes : ℕ) → terms.now.plan.now.plane < planes → AreBelow planes cells.old → AreBelow planes cells.new }

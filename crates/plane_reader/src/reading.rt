@@ -257,6 +257,7 @@ impl<'a> Reading<'a> {
     pub fn deal<I: OctetIn>(&mut self, input: &mut BitIn<I>, here: u64, start: u8) -> bool
         requires reading { IsReading I.source (source_state input.old) self.old }
         requires start { start ≤ 32 }
+        requires few { here < 2 ^ 32 }
         ensures dealt { result ≡ true → (s : State) (g : ℕ → Bool) → IsState self.old.gaggle self.old.found s → Shows here g start 32 →
             HeldState {X = Unit {0}} I.source (in_turn (marked_script g) start 32 s) (Ok (Some tt)) self.new.gaggle self.new.found (point
             (source_state input.old) self.old.cursor) (point (source_state input.new) self.new.cursor) }
@@ -282,6 +283,7 @@ impl<'a> Reading<'a> {
             count += width;
         }
         self.found.bits = bits;
+        self.found.add_raw(here, start);
         self.cursor.pass(count);
         true
     }
@@ -304,6 +306,7 @@ impl<'a> Reading<'a> {
             (span group.start group.count) s) result self.new.gaggle self.new.found
             (point (source_state input.old) self.old.cursor) (point (source_state input.new) self.new.cursor) }
         ensures tables { self.new.tables ≡ self.old.tables }
+        ensures raw { self.new.found.raw ≡ self.old.found.raw }
         ensures reading { OnSome result (λ x. IsReading I.source (source_state input.new) self.new) }
         ensures holds { Holds I.source (source_state input.new) self.new.cursor }
         ensures is_in { IsIn (source_state input.new) }
@@ -342,6 +345,7 @@ impl<'a> Reading<'a> {
             (span group.start group.count) s) result self.new.gaggle self.new.found
             (point (source_state input.old) self.old.cursor) (point (source_state input.new) self.new.cursor) }
         ensures tables { self.new.tables ≡ self.old.tables }
+        ensures raw { self.new.found.raw ≡ self.old.found.raw }
         ensures reading { OnSome result (λ x. IsReading I.source (source_state input.new) self.new) }
         ensures holds { Holds I.source (source_state input.new) self.new.cursor }
         ensures is_in { IsIn (source_state input.new) }

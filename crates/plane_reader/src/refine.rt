@@ -41,6 +41,7 @@ fn take_bits<I: OctetIn>(
             return Ok(None);
         };
         reading.found.add_bits(one(bit), start + j);
+        reading.found.add_raw(1, start + j);
         left = without(left, j);
     }
     Ok(Some(()))

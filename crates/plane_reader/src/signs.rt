@@ -27,6 +27,7 @@ fn take_signs_singly<I: OctetIn>(
     ensures signs { (s : State) → Shows found.old.minus s.minus 0 64 →
         TakesSigns I.source (positions new start count) s result found.new.minus (source_state input.old) (source_state input.new) }
     ensures bits { found.new.bits ≡ found.old.bits }
+    ensures raw { found.new.raw ≡ found.old.raw }
     ensures is_in { IsIn (source_state input.new) }
 {
     let mut left = new;
@@ -58,6 +59,7 @@ pub(crate) fn take_signs<I: OctetIn>(
     ensures signs { (s : State) → Shows found.old.minus s.minus 0 64 →
         TakesSigns I.source (positions new start count) s result found.new.minus (source_state input.old) (source_state input.new) }
     ensures bits { found.new.bits ≡ found.old.bits }
+    ensures raw { found.new.raw ≡ found.old.raw }
     ensures is_in { IsIn (source_state input.new) }
 {
     if new == 0 {

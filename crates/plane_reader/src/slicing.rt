@@ -17,7 +17,7 @@ pub(crate) const NUMBERS: usize = BLOCK * GROUP;
 
 // Takes the DC numbers out of a group, and leaves 0 in their place.
 fn lift_dcs(part: &mut [i32]) -> [i32; GROUP]
-    requires few { length part.old ≤ 15360 }
+    requires few { length part.old ≤ 4096 }
     ensures dcs { (b : ℕ) → 64 * b + 63 < length part.old → get_or result b (pos 0) ≡ get_or part.old (64 * b) (pos 0) }
     ensures gone { (b : ℕ) → 64 * b + 63 < length part.old → get_or part.new (64 * b) (pos 0) ≡ pos 0 }
     ensures others { (i : ℕ) → (i % 64 ≡ 0 → ⊥) → get_or part.new i (pos 0) ≡ get_or part.old i (pos 0) }
@@ -34,7 +34,7 @@ fn lift_dcs(part: &mut [i32]) -> [i32; GROUP]
 // Puts the DC numbers of a group into its masks, which are all empty.
 fn put_dcs(part: &mut [i32], dcs: &[i32; GROUP])
     requires whole { length part.old % 64 ≡ 0 }
-    requires few { length part.old ≤ 15360 }
+    requires few { length part.old ≤ 4096 }
     requires empty { (i : ℕ) → get_or part.old i (pos 0) ≡ pos 0 }
     ensures dcs { (b : ℕ) → 64 * b < length part.old → cast_signed w32 (mask_in part.new b dc_slot % 2 ^ 32) ≡ get_or dcs.now b (pos 0) }
     ensures others { (b s : ℕ) → 64 * b < length part.old → s < 32 → (s ≡ dc_slot → ⊥) → mask_in part.new b s ≡ 0 }
@@ -49,7 +49,7 @@ fn put_dcs(part: &mut [i32], dcs: &[i32; GROUP])
 // Turns the numbers of a group into masks.
 fn slice_group(part: &mut [i32])
     requires whole { length part.old % 64 ≡ 0 }
-    requires few { length part.old ≤ 15360 }
+    requires few { length part.old ≤ 4096 }
     requires no_acs { (i : ℕ) → (i % 64 ≡ 0 → ⊥) → get_or part.old i (pos 0) ≡ pos 0 }
     ensures numbers { numbers_in part.new ≡ part.old }
     ensures only { HasOnlyDcs part.new }

@@ -39,6 +39,7 @@ fn take_parents<I: OctetIn>(
         HeldState I.source (parents_script (terms_of plan.now reading.old.tables.now.words.book) block s) result reading.new.gaggle reading.new.found
         (point (source_state input.old) reading.old.cursor) (point (source_state input.new) reading.new.cursor) }
     ensures tables { reading.new.tables ≡ reading.old.tables }
+    ensures raw { reading.new.found.raw ≡ reading.old.found.raw }
     ensures reading { OnSome result (λ x. IsReading I.source (source_state input.new) reading.new) }
     ensures holds { Holds I.source (source_state input.new) reading.new.cursor }
     ensures is_in { IsIn (source_state input.new) }
@@ -60,12 +61,16 @@ fn take_numbers<I: OctetIn, const STAGE: u8>(
     seen: Seen,
 ) -> Result<Option<()>, TextFault>
     requires reading { IsReading I.source (source_state input.old) reading.old }
+    requires some { 1 ≤ STAGE }
+    requires stage { STAGE < 5 }
+    requires other { STAGE ≡ 2 → ⊥ }
     ensures numbers { (block : List ℤ) (earlier s : State) → IsState reading.old.gaggle reading.old.found s → IsAbove seen.above block plan.now.plane →
         Shows seen.families earlier.families 0 3 →
         ((p : ℕ) → IsAc p → bit seen.now p ≡ (significant block (plan.now.plane + 1) p || earlier.bits p)) →
         HeldState I.source (part_from (terms_of plan.now reading.old.tables.now.words.book) STAGE block earlier s) result reading.new.gaggle reading.new.found
         (point (source_state input.old) reading.old.cursor) (point (source_state input.new) reading.new.cursor) }
     ensures tables { reading.new.tables ≡ reading.old.tables }
+    ensures raw { (STAGE ≡ 4 → ⊥) → reading.new.found.raw ≡ reading.old.found.raw }
     ensures reading { OnSome result (λ x. IsReading I.source (source_state input.new) reading.new) }
     ensures holds { Holds I.source (source_state input.new) reading.new.cursor }
     ensures is_in { IsIn (source_state input.new) }
@@ -86,8 +91,11 @@ fn take_words<I: OctetIn, const STAGE: u8>(
     seen: Seen,
 ) -> Result<Option<u64>, TextFault>
     requires reading { IsReading I.source (source_state input.old) reading.old }
+    requires some { 1 ≤ STAGE }
+    requires stage { STAGE < 5 }
     requires bits { reading.old.found.bits ≡ 0 }
     requires minus { reading.old.found.minus ≡ 0 }
+    requires raw { reading.old.found.raw ≡ 0 }
     requires few { seen.families < 8 }
     ensures words { (block : List ℤ) (s : State) → AreIn reading.old.gaggle s.options → IsAbove seen.above block plan.now.plane →
         Shows seen.families s.families 0 3 →
@@ -97,6 +105,7 @@ fn take_words<I: OctetIn, const STAGE: u8>(
     ensures small { OnSome result (λ families. families < 8) }
     ensures same { (STAGE ≡ 2 → ⊥) → OnSome result (λ families. families ≡ seen.families) }
     ensures tables { reading.new.tables ≡ reading.old.tables }
+    ensures raw { (STAGE ≡ 4 → ⊥) → reading.new.found.raw ≡ reading.old.found.raw }
     ensures reading { OnSome result (λ x. IsReading I.source (source_state input.new) reading.new) }
     ensures holds { Holds I.source (source_state input.new) reading.new.cursor }
     ensures is_in { IsIn (source_state input.new) }
@@ -144,6 +153,8 @@ pub(crate) fn take_block<I: OctetIn, const STAGE: u8>(
     cells: &mut [i32],
 ) -> Result<Part, TextFault>
     requires reading { IsReading I.source (source_state input.old) reading.old }
+    requires some { 1 ≤ STAGE }
+    requires stage { STAGE < 5 }
     requires whole { length cells.old % 64 ≡ 0 }
     requires column { IsColumn cells.old block.old.column }
     ensures block { (numbers : List ℤ) (s : State) → AreIn reading.old.gaggle s.options → IsAbove (mask_in
@@ -169,7 +180,7 @@ pub(crate) fn take_block<I: OctetIn, const STAGE: u8>(
     };
     reading.found = Found::NOTHING;
     let read = take_words::<I, STAGE>(input, plan, reading, seen);
-    apply(reading.found, plan.plane, cells, block.column);
+    apply::<STAGE>(reading.found, plan.plane, cells, block.column);
     let Some(families) = read? else {
         return Ok(Part::Ended);
     };

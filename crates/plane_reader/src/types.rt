@@ -44,6 +44,7 @@ pub(crate) fn take_types<I: OctetIn>(
         TakesState I.source (types_script tables.now.book g group.is_wanted (span group.start group.count) s) result gaggle.new found.new
         (source_state input.old)
         (source_state input.new) }
+    ensures raw { found.new.raw ≡ found.old.raw }
     ensures options { AreOptions gaggle.new.options }
     ensures is_in { IsIn (source_state input.new) }
 {

@@ -56,15 +56,15 @@ LookAnswers wish old new took gave (Err WriteFault) = Rose old.write_faults new.
     × GivesPrefix wish old took gave
 LookAnswers wish old new took gave (Err Memory) = gave ≡ []
 
--- A read call with i octets taken, which decide no answer, and j given, if the port reports what is left.
+-- A read call with i octets taken, which do not decide the answer, and j given, if the port reports what is left.
 abbrev pub LookAsks : DecodeWish → Outside → (took gave : List ℕ) → ℕ → ℕ → Type 0
 LookAsks wish start took gave i j =
     (j ≤ length gave) × AsksUnanswered wish.apid wish.octets wish.pixels took i j × ((all : List ℕ) → start.rest ≡ Some all →
     PromptLook wish.book wish.apid (take i took) (take j gave))
 
 -- One run over a port: what it took and gave, when, and why it ended so. However it ends, it takes at most the number of octets in the
--- wish. At each read call the octets that were taken by then decide no answer, and what is given is a prefix of the look for them, with at
--- least the rows whose blocks they settle.
+-- wish. At each read call the octets that were taken by then do not decide the answer, and what is given is a prefix of the look for them,
+-- with at least the rows whose blocks they settle.
 pub record Looks (wish : DecodeWish) (old new : Outside) (result : Result DecodeDone DecodeFault) : Type 0 where
   pub took : List ℕ
   pub gave : List ℕ

@@ -38,9 +38,21 @@ pub fn read_row<X: Port>(
     requires room { setting.now.width ≤ length into.old }
     ensures { RowRead setting.now.depth setting.now.signed setting.now.width row (X.outside port.old) (X.outside port.new) into.old into.new result }
 {
-    let form = PixelForm::new(setting.depth, setting.signed);
+    let row = ReadRow {
+        number: row,
+        width: setting.width as usize,
+        form: PixelForm::new(setting.depth, setting.signed),
+    };
     let mut buffer = [0; PIECE];
-    fill_row(port, form, setting.width as usize, row, into, &mut buffer)
+    fill_row(port, row, into, &mut buffer)
+}
+
+// A row that is read: its number, the number of its pixels, and their form.
+#[derive(Clone, Copy)]
+struct ReadRow {
+    number: u32,
+    width: usize,
+    form: PixelForm,
 }
 
 // A value out of range, and its place.
@@ -53,21 +65,20 @@ struct OutOfRange {
 // Reads a row in pieces of at most the buffer's length, and tests the pixels of each piece before it continues.
 fn fill_row<X: Port>(
     port: &mut X,
-    form: PixelForm,
-    width: usize,
-    row: u32,
+    row: ReadRow,
     into: &mut [i32],
     buffer: &mut [u8],
 ) -> Result<(), RowFault>
-    requires narrow { width < 2 ^ 32 }
-    requires room { width ≤ length into.old }
+    requires narrow { row.width < 2 ^ 32 }
+    requires room { row.width ≤ length into.old }
     requires buffer { 2 ≤ length buffer.old }
-    ensures { RowRead form.depth form.signed width row (X.outside port.old) (X.outside port.new) into.old into.new result }
+    ensures { RowRead row.form.depth row.form.signed row.width row.number (X.outside port.old) (X.outside port.new) into.old into.new result }
 {
+    let form = row.form;
     let mut column = 0;
     let mut held = 0;
-    while column < width {
-        let left = form.octets(width - column) - held;
+    while column < row.width {
+        let left = form.octets(row.width - column) - held;
         let end = held + left.min(buffer.len() - held);
         let Ok(count) = port.read(&mut buffer[held..end]) else {
             return Err(RowFault::ReadFault);
@@ -81,7 +92,7 @@ fn fill_row<X: Port>(
         let whole = form.pixels(held + count);
         if let Err(bad) = take_pixels(form, buffer, whole, into, column) {
             return Err(RowFault::BadPixel {
-                row,
+                row: row.number,
                 column: (column + bad.place) as u32,
                 value: bad.value,
             });

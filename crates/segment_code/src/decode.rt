@@ -24,22 +24,94 @@ fn clear(blocks: &mut [i32])
     blocks.fill(0);
 }
 
+// What the items of a text are read with: the head, the number of octets that it has, and the codes of the words.
+#[derive(Clone, Copy)]
+struct TextTerms<'a> {
+    head: &'a SegmentHead,
+    size: u8,
+    tables: &'a PlaceTables,
+}
+
+// Reads the items of a text, up to the limit; returns also the number of bits of head and items.
+fn take_from<I: OctetIn>(
+    input: &mut I,
+    terms: &TextTerms,
+    blocks: &mut [i32],
+    marks: &mut [i32],
+) -> Result<(Part, u64), TextFault>
+    requires fits { IsHead terms.now.head.now }
+    requires size { terms.now.size ≤ 20 }
+    requires count { length blocks.old ≡ 64 * length marks.old }
+    requires marks { length marks.old ≡ terms.now.head.now.blocks }
+    requires clear { AreClear blocks.old }
+    ensures takes { TakesFrom I.source terms.now.tables.now.words.book terms.now.head.now terms.now.size result input.old input.new blocks.new }
+    ensures sizes { (length blocks.new ≡ length blocks.old) × (length marks.new ≡ length marks.old) }
+{
+    let mut bits = BitIn::new(input, u64::from(terms.head.limit), u64::from(terms.size));
+    let part = take_text(&mut bits, terms.head, terms.tables, blocks, marks)?;
+    Ok((part, bits.used()))
+}
+
+// Reads the items of a text, with their padding and fill, into blocks whose numbers are all 0.
+fn items_into_clear<I: OctetIn>(
+    input: &mut I,
+    terms: &TextTerms,
+    blocks: &mut [i32],
+    marks: &mut [i32],
+) -> Result<Part, SegmentFault>
+    requires fits { IsHead terms.now.head.now }
+    requires size { terms.now.size ≤ 20 }
+    requires count { length blocks.old ≡ 64 * length marks.old }
+    requires marks { length marks.old ≡ terms.now.head.now.blocks }
+    requires clear { AreClear blocks.old }
+    ensures decodes { DecodesItems I.source terms.now.tables.now.words.book terms.now.head.now terms.now.size result input.old input.new blocks.new }
+    ensures sizes { (length blocks.new ≡ length blocks.old) × (length marks.new ≡ length marks.old) }
+{
+    let (part, used) = take_from(input, terms, blocks, marks)?;
+    end_text(input, terms.head, part, used)
+}
+
+// Reads a segment's text by these tables into blocks whose numbers are all 0.
+fn text_into_clear<I: OctetIn>(
+    input: &mut I,
+    head: &SegmentHead,
+    tables: &PlaceTables,
+    blocks: &mut [i32],
+    marks: &mut [i32],
+) -> Result<Part, SegmentFault>
+    requires fits { IsHead head.now }
+    requires count { length blocks.old ≡ 64 * length marks.old }
+    requires marks { length marks.old ≡ head.now.blocks }
+    requires clear { AreClear blocks.old }
+    ensures decodes { DecodesSegment I.source tables.now.words.book head.now result input.old input.new blocks.new }
+    ensures sizes { (length blocks.new ≡ length blocks.old) × (length marks.new ≡ length marks.old) }
+{
+    let terms = TextTerms {
+        head,
+        size: head.octets(),
+        tables,
+    };
+    let part = items_into_clear(input, &terms, blocks, marks)?;
+    end_input(input, part)
+}
+
 /// A reader of the texts of segments, with tables of their words that are made once.
 #[derive(Drop)]
 pub struct SegmentReader {
-    /// The tables of the words, as the reader's book has their codes.
-    pub tables: PlaceTables,
+    /// The tables of the words, as the reader's book has their codes. They are in memory that the reader took.
+    pub tables: Box<PlaceTables>,
 }
 
 impl SegmentReader {
-    /// Returns a reader of the segments that were written with this book, with 48 kB of tables in memory that it takes. The book is sound.
+    /// Returns a reader of the segments that were written with this book, with 52 kB of tables in memory that it takes. The book is sound.
     /// The only error is a lack of memory.
+    #[inline(never)]
     pub fn new(alloc: Global, book: &Book) -> Result<SegmentReader, AllocError>
         requires sound { IsTrue (is_book_sound book.now) }
-        ensures book { IfOk result (λ reader. reader.tables.words.book ≡ book.now) }
+        ensures book { IfOk result (λ reader. reader.tables.value.words.book ≡ book.now) }
     {
         Ok(SegmentReader {
-            tables: PlaceTables::new(alloc, book)?,
+            tables: Box::new(alloc, PlaceTables::new(alloc, book)?)?,
         })
     }
 
@@ -61,7 +133,7 @@ impl SegmentReader {
         requires fits { IsHead head.now }
         requires count { length blocks.old ≡ 64 * length marks.old }
         requires marks { length marks.old ≡ head.now.blocks }
-        ensures decodes { DecodesSegment I.source self.now.tables.words.book head.now result input.old input.new blocks.new }
+        ensures decodes { DecodesSegment I.source self.now.tables.value.words.book head.now result input.old input.new blocks.new }
         ensures sizes { (length blocks.new ≡ length blocks.old) × (length marks.new ≡ length marks.old) }
     {
         clear(blocks);
@@ -84,11 +156,10 @@ impl SegmentReader {
         requires count { length blocks.old ≡ 64 * length marks.old }
         requires marks { length marks.old ≡ head.now.blocks }
         requires clear { AreClear blocks.old }
-        ensures decodes { DecodesSegment I.source self.now.tables.words.book head.now result input.old input.new blocks.new }
+        ensures decodes { DecodesSegment I.source self.now.tables.value.words.book head.now result input.old input.new blocks.new }
         ensures sizes { (length blocks.new ≡ length blocks.old) × (length marks.new ≡ length marks.old) }
     {
-        let part = self.items_into_clear(input, head, head.octets(), blocks, marks)?;
-        end_input(input, part)
+        text_into_clear(input, head, self.tables.as_ref(), blocks, marks)
     }
 
     /// Reads the items of a segment's text, with their padding and fill, from the octets after its head into 64 numbers for
@@ -111,54 +182,16 @@ impl SegmentReader {
         requires size { size ≤ 20 }
         requires count { length blocks.old ≡ 64 * length marks.old }
         requires marks { length marks.old ≡ head.now.blocks }
-        ensures decodes { DecodesItems I.source self.now.tables.words.book head.now size result input.old input.new blocks.new }
+        ensures decodes { DecodesItems I.source self.now.tables.value.words.book head.now size result input.old input.new blocks.new }
         ensures sizes { (length blocks.new ≡ length blocks.old) × (length marks.new ≡ length marks.old) }
     {
         clear(blocks);
-        self.items_into_clear(input, head, size, blocks, marks)
-    }
-
-    // The same as `decode_items`, for blocks whose numbers are all 0.
-    fn items_into_clear<I: OctetIn>(
-        &self,
-        input: &mut I,
-        head: &SegmentHead,
-        size: u8,
-        blocks: &mut [i32],
-        marks: &mut [i32],
-    ) -> Result<Part, SegmentFault>
-        requires fits { IsHead head.now }
-        requires size { size ≤ 20 }
-        requires count { length blocks.old ≡ 64 * length marks.old }
-        requires marks { length marks.old ≡ head.now.blocks }
-        requires clear { AreClear blocks.old }
-        ensures decodes { DecodesItems I.source self.now.tables.words.book head.now size result input.old input.new blocks.new }
-        ensures sizes { (length blocks.new ≡ length blocks.old) × (length marks.new ≡ length marks.old) }
-    {
-        let (part, used) = self.take_from(input, head, size, blocks, marks)?;
-        end_text(input, head, part, used)
-    }
-
-    // Reads the items of a text, up to the limit, after a head of `size` octets; returns also the number of bits of head and items.
-    fn take_from<I: OctetIn>(
-        &self,
-        input: &mut I,
-        head: &SegmentHead,
-        size: u8,
-        blocks: &mut [i32],
-        marks: &mut [i32],
-    ) -> Result<(Part, u64), TextFault>
-        requires fits { IsHead head.now }
-        requires size { size ≤ 20 }
-        requires count { length blocks.old ≡ 64 * length marks.old }
-        requires marks { length marks.old ≡ head.now.blocks }
-        requires clear { AreClear blocks.old }
-        ensures takes { TakesFrom I.source self.now.tables.words.book head.now size result input.old input.new blocks.new }
-        ensures sizes { (length blocks.new ≡ length blocks.old) × (length marks.new ≡ length marks.old) }
-    {
-        let mut bits = BitIn::new(input, u64::from(head.limit), u64::from(size));
-        let part = take_text(&mut bits, head, &self.tables, blocks, marks)?;
-        Ok((part, bits.used()))
+        let terms = TextTerms {
+            head,
+            size,
+            tables: self.tables.as_ref(),
+        };
+        items_into_clear(input, &terms, blocks, marks)
     }
 }
 
@@ -181,8 +214,7 @@ pub fn decode_segment<I: OctetIn>(
     ensures decodes { DecodesSegment I.source book.now head.now result input.old input.new blocks.new }
     ensures sizes { (length blocks.new ≡ length blocks.old) × (length marks.new ≡ length marks.old) }
 {
-    let reader = SegmentReader {
-        tables: PlaceTables::of_words(book),
-    };
-    reader.decode(input, head, blocks, marks)
+    let tables = PlaceTables::of_words(book);
+    clear(blocks);
+    text_into_clear(input, head, &tables, blocks, marks)
 }

@@ -27,6 +27,7 @@ use Rattle.segment_defs.specs.declared.head.SegmentHead.{SegmentHead}
 use Rattle.segment_defs.specs.Head.{IsHead}
 use Rattle.segment_defs.specs.Depths.{dc_of, dcs_of}
 use Rattle.segment_defs.specs.SegmentItems.{Options, dc_shift, q_of, stages_sent, plane_at, dc_part_items, nth_plane_items, planes_items, segment_items}
+use Rattle.segment_defs.proofs.SentStages.{all_sent}
 use Rattle.segment_defs.proofs.Equations.{segment_items-is}
 use Rattle.segment_defs.specs.Spellable.{IsSpellable, AreWordOptions}
 use Rattle.item_defs.specs.Scripts.{Script, done, then_ask, beside}
@@ -275,14 +276,7 @@ module _ (head : SegmentHead) (is_head : IsHead head) (blocks : List (List ℤ))
       (subst (λ x. Follows (then_ask (dc_part_script head) (Rest x)) (D ++ (E ++ P)) blocks) (sym all.goes_on)
       (follows_then (Rest false) (dc_part_script head) D (E ++ P) first blocks dc_follows
       (follows_then (planes_part_script options.book head first) (beside first (depths_script head.depth_ac head.blocks)) E P depths blocks depths_follow
-      (subst (Follows (planes_part_script options.book head first depths) P) (they_are w parts.1 (λ b low. all_stages b)) w.follows))))
-    where
-      all_stages : (b : ℕ) → stages_sent head b ≡ 5
-      all_stages b = (λ t. if nat_lt (all.plane t) b then 5 else if b == all.plane t then all.stage t + 2 else 0) ∙ by b
-        where
-          by : (b : ℕ) → (if nat_lt 0 b then 5 else if b == 0 then 3 + 2 else 0) ≡ 5
-          by zero = refl
-          by (suc b) = let e : nat_lt 0 (suc b) ≡ true = grind (arith, nat_tests) in ap (λ (x : Bool). if x then 5 else if suc b == 0 then 3 + 2 else 0) e
+      (subst (Follows (planes_part_script options.book head first depths) P) (they_are w parts.1 (λ b low. all_sent head all b)) w.follows))))
 
   -- each is asked for after those before it, if none of them is refused
   pub segment_asks : AsksAll S (segment_items head blocks depths options)

@@ -30,7 +30,7 @@ use Rattle.segment_defs.specs.Parts.{AreDeep, IsPart, IsWeighted, AreWeighted}
 use Rattle.segment_defs.proofs.SegmentWritten.{first_shift}
 
 -- a multiple of a weight
-weighted : (s most : ℕ) (z : ℤ) → most ≤ 2 ^ 27 → IsTimes s most z → IsWeighted s z
+pub weighted : (s most : ℕ) (z : ℤ) → most ≤ 2 ^ 27 → IsTimes s most z → IsWeighted s z
 weighted s most z few t =
     let e = whole_part z s t.part t.is in
     let size = whole_size z s (int_shr z s, e) in
@@ -40,7 +40,8 @@ weighted s most z few t =
     less k y some e small = let f : 1 * y ≤ k * y = mul-le-mul_right y some in omega (arith, f, e, small, few)
 
 -- a number of N bits above q bits has at most 28 bits
-high_few : (depth_dc depth_ac shift : ℕ) → 1 ≤ depth_dc → depth_dc ≤ 28 → shift ≤ 3 → dc_bits depth_dc depth_ac shift - 1 + dc_q depth_dc depth_ac shift ≤ 27
+pub high_few : (depth_dc depth_ac shift : ℕ) → 1 ≤ depth_dc → depth_dc ≤ 28 → shift ≤ 3 →
+    dc_bits depth_dc depth_ac shift - 1 + dc_q depth_dc depth_ac shift ≤ 27
 high_few depth_dc depth_ac shift low high few = grind (arith, nat_tests)
 
 module _ (head : SegmentHead) (is_head : IsHead head) (values : List (List ℤ)) (depths : List ℕ) (p : IsSpellable head values depths) where

@@ -17,6 +17,7 @@ use Rattle.item_defs.specs.Scripts.{Script, run}
 use Rattle.item_defs.specs.Following.{Follows, SaysWhat}
 use Rattle.item_defs.proofs.ScriptGives.{cut_after}
 use Rattle.segment_defs.specs.Parts.{HasDcs, AreDeep, HasPlanes, IsPart, stopped, AreWeighted}
+use Rattle.item_defs.specs.Outcomes.{whole}
 use Rattle.segment_defs.specs.Segments.{segment_script}
 use Rattle.segment_defs.specs.TextOutcome.{Answer, by_length, expected, verdict, text_outcome}
 use Rattle.segment_defs.specs.TextLaws.{HasAllPlanes, TextsAreRead}
@@ -96,16 +97,22 @@ module _ (head : SegmentHead) (is_head : IsHead head) (rest : List ℕ) (blocks 
   all = r.prefix.taken
 
   -- all items are given
-  whole_read : m ≡ length items →
-      (w : Blocks) × (text_outcome options.book head rest ≡ by_length (length_of head rest) (expected_length head items) w) × IsPart head blocks w
-  whole_read e =
+  pub whole_run : m ≡ length items → (w : Blocks) × (run S bits ≡ whole w more) × IsPart head blocks w
+  whole_run e =
       let same = take_all items m e in
       let are : AreItems items = subst AreItems same all in
       let w = segment_part head is_head blocks depths options r.spellable r.known are in
       let read : bits ≡ text items ++ more = r.prefix.read ∙ ap (λ l. text l ++ more) same in
-      let ran = says.is_whole bits more w.0 (record { items = items; are = are; read = read; follows = w.1 }) in
+      (w.0, says.is_whole bits more w.0 (record { items = items; are = are; read = read; follows = w.1 }), w.2)
+
+  whole_read : m ≡ length items →
+      (w : Blocks) × (text_outcome options.book head rest ≡ by_length (length_of head rest) (expected_length head items) w) × IsPart head blocks w
+  whole_read e =
+      let same = take_all items m e in
+      let w = whole_run e in
+      let read : bits ≡ text items ++ more = r.prefix.read ∙ ap (λ l. text l ++ more) same in
       let used : length bits - length more ≡ length (text items) = (let a = ap length read in let b = length-append (text items) more in omega (arith, a, b)) in
-      (w.0, ap (verdict head rest) ran ∙ ap (λ n. by_length (length_of head rest) (expected head n) w.0) used, w.2)
+      (w.0, ap (verdict head rest) w.1 ∙ ap (λ n. by_length (length_of head rest) (expected head n) w.0) used, w.2)
 
   -- all items of a text, which lead to these blocks
   exact_read : (v : Blocks) → m ≡ length items → (AreItems items → Follows S items v) → length_of head rest ≡ expected_length head items →

@@ -13,5 +13,8 @@ pub mod Outcomes
 pub mod Segments
 pub mod Parts
 pub mod TextOutcome
+pub mod Given
 pub mod Worked
+pub mod WorkedGiven
+pub mod GivenLaws
 pub mod TextLaws

@@ -14,7 +14,7 @@ abbrev pub Answer : Type 0
 Answer = Result (List (List ℤ)) SegmentRefusal
 
 -- a text of this number of octets is refused if it is shorter than wanted, or longer
-abbrev pub by_length : (octets wanted : ℕ) → List (List ℤ) → Answer
+abbrev pub by_length : {X : Type 0} → (octets wanted : ℕ) → X → Result X SegmentRefusal
 by_length octets wanted w = if nat_lt octets wanted then Err short_segment else if nat_lt wanted octets then Err overlong else Ok w
 
 -- the expected length, if all items are given in this number of bits: the limit with fill, otherwise the octets up to the last item,
@@ -23,7 +23,7 @@ abbrev pub expected : SegmentHead → (used : ℕ) → ℕ
 expected head used = if head.fill then head.limit else rounded (8 * head.image.word) (8 * head_length head + used) / 8
 
 -- if an item is not given, the text has to end at the limit
-abbrev pub verdict : SegmentHead → (rest : List ℕ) → Outcome (List (List ℤ)) (List (List ℤ)) → Answer
+abbrev pub verdict : {X : Type 0} → SegmentHead → (rest : List ℕ) → Outcome X X → Result X SegmentRefusal
 verdict head rest (refused w name left) = Err (at_item name)
 verdict head rest (whole w left) = by_length (length_of head rest) (expected head (length (bits_read head rest) - length left)) w
 verdict head rest (cut w) = if head.limit == 0 then Err short_segment else by_length (length_of head rest) head.limit w

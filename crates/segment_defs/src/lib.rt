@@ -13,7 +13,10 @@ mod texts;
 
 pub use fault::{HeadFault, HeadField, Odd};
 pub use head::{ImagePart, SegmentHead};
-pub use texts::{segments_are_read, texts_are_read, texts_have_outcomes, worked_texts};
+pub use texts::{
+    segments_are_read, texts_are_given, texts_are_read, texts_are_restored, texts_have_outcomes,
+    worked_given, worked_texts,
+};
 
 /// The size of a number is the least number of bits that hold it.
 pub const fn size_is_least()

@@ -1,10 +1,17 @@
 // What some coded segments hold, and the laws of their script.
+ghost use Rattle.segment_defs.specs.GivenLaws.{TextsAreGiven, TextsAreRestored};
 ghost use Rattle.segment_defs.specs.TextLaws.{SegmentsAreRead, TextsAreRead, TextsHaveOutcomes};
 ghost use Rattle.segment_defs.specs.Worked.{WorkedTexts};
+ghost use Rattle.segment_defs.specs.WorkedGiven.{WorkedGiven};
 
 /// Coded segments that are worked out by hand hold what they should.
 pub const fn worked_texts()
     ensures { WorkedTexts }
+{}
+
+/// Coded segments that are cut, and are worked out by hand, are restored so.
+pub const fn worked_given()
+    ensures { WorkedGiven }
 {}
 
 /// What bits of a coded segment are read as is what its items say, and a reading that is cut can be completed.
@@ -21,4 +28,15 @@ pub const fn texts_are_read()
 /// Each text holds some values or is refused, by one name.
 pub const fn texts_have_outcomes()
     ensures { TextsHaveOutcomes }
+{}
+
+/// The numbers of a text with what is given of each are those of the text without.
+pub const fn texts_are_given()
+    ensures { TextsAreGiven }
+{}
+
+/// Restored numbers are multiples of their weights, in the range of the numbers. If all items of a text without a stop are given, they
+/// are the numbers.
+pub const fn texts_are_restored()
+    ensures { TextsAreRestored }
 {}

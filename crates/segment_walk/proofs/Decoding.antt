@@ -30,10 +30,10 @@ use Rattle.segment_walk.specs.declared.ending.DecodeFault.{DecodeFault}
 use Rattle.segment_walk.specs.declared.ending.DecodeFault.TheVariants.{ReadFault, WriteFault, NoSegment, TooManyPixels, LongInput, Memory}
 use Rattle.segment_walk.specs.Sinks.{Numbers, SinkOf, blocks_with}
 use Rattle.segment_walk.specs.Steps.{Walking, IsCurrent, Follows, passed_in}
-use Rattle.segment_walk.specs.Segments.{FitsImage, FindsNext, pixels_reached}
+use Rattle.segment_walk.specs.Segments.{FindsNext, pixels_reached}
 use Rattle.segment_walk.specs.Runs.{Run, BreaksRun}
 use Rattle.segment_walk.specs.Walks.{HasPassedAll, IsDamageOf, PassesAll, Walks, run_of, walked_of}
-use Rattle.segment_walk.proofs.Staying.{known_or_not, fits_begun}
+use Rattle.segment_walk.proofs.Staying.{known_or_not}
 use Rattle.segment_walk.proofs.Asking.{blocks_by, packets_then}
 use Rattle.segment_walk.proofs.RunEnds.{all_missing, open_damage}
 use Rattle.segment_walk.proofs.RunStarts.{HasFound, few_first, first_part, none_few, first_read, first_asks, first_end, none_kept}
@@ -125,13 +125,6 @@ module _ {S : Type 0} (k : SinkOf S) (wish : DecodeWish) (old new : Outside) (b 
   -- there is a geometry then
   pub never_none : b.state.geometry ≡ None → ⊥
   never_none none = let there = reported.1 in absurd (let both = sym none ∙ there in cc)
-
-  -- its segment is one of the image
-  pub first_fits : (image : Geometry) → b.state.geometry ≡ Some image → FitsImage (placed image) start
-  first_fits image geometry =
-      let begun = found.begun in
-      let b' = begun_by wish.apid begun.before begun.packet start begun.starts in
-      grind (arith, nat_tests, after_all-append, fits_begun)
 
   pub too_many : (image : Geometry) (pixels : ℕ) → b.state.geometry ≡ Some image → pixels ≡ pixels_reached image start → wish.pixels < pixels →
       Walks k wish old new (Err (TooManyPixels pixels))

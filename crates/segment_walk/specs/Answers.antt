@@ -37,6 +37,6 @@ IsPicture = PictureBy true
 
 -- ---- while packets are read
 
--- A read call with i octets taken, which decide no answer, and none given.
+-- A read call with i octets taken, which do not decide the answer, and none given.
 abbrev pub AsksSilent : DecodeWish → (took : List ℕ) → ℕ → ℕ → Type 0
 AsksSilent wish took i j = (j ≡ 0) × AsksUnanswered wish.apid wish.octets wish.pixels took i j

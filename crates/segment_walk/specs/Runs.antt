@@ -106,8 +106,8 @@ pub record ReportsMany (most apid pixels : ℕ) (taken : List ℕ) : Type 0 wher
 abbrev pub reports_last : {most apid pixels : ℕ} {taken : List ℕ} → ReportsMany most apid pixels taken → Bool
 reports_last {apid = apid} many = (after_all apid fresh (many.before ++ many.packet ∷ [])).reported_last
 
--- A read call with i of these octets taken: they decide no answer. They can be read on, are fewer than the cap allows, and their kept heads
--- report at most this number of pixels.
+-- A read call with i of these octets taken, which do not decide the answer: they can be read on, are fewer than the cap allows, and their
+-- kept heads report at most this number of pixels.
 abbrev pub AsksUnanswered : (apid cap pixels : ℕ) → List ℕ → ℕ → ℕ → Type 0
 AsksUnanswered apid cap pixels took i j = AsksReadable cap took i j × HasFewPixels pixels apid (take i took)
 

@@ -136,8 +136,8 @@ abbrev pub run_of : DecodeWish → Outside → Run
 run_of wish start = record { apid = wish.apid; cap = wish.octets; pixels = wish.pixels; book = wish.book; start = start }
 
 -- One run over a port: what it took and gave, when, and why it ended so. However it ends, it takes at most the number of octets in the
--- wish. At each read call the octets that were taken by then decide no answer, and the sink has taken at least the blocks that they settle.
--- Whatever the port reports, what is given is nothing, or a part of what the sink gives of some blocks.
+-- wish. At each read call the octets that were taken by then do not decide the answer, and the sink has taken at least the blocks that they
+-- settle. Whatever the port reports, what is given is nothing, or a part of what the sink gives of some blocks.
 pub record Walks {S : Type 0} (k : SinkOf S) (wish : DecodeWish) (old new : Outside) (result : Result (Walked S) DecodeFault) : Type 0 where
   pub took : List ℕ
   pub gave : List ℕ

@@ -128,7 +128,7 @@ fn pass_all<S: BlockSink, X: Port>(
     ensures passes { PassesAll (X.outside port.old) (X.outside port.new) result }
     ensures current { IfOk result (λ _. IsCurrent S.sink (walking walk.new)) }
     ensures image { IfOk result (λ _. is_some assembly.new.state.geometry ≡ true) }
-    ensures runs { (w : Run) → w.pixels ≡ room.old.pixels → w.book ≡ room.old.reader.tables.words.book →
+    ensures runs { (w : Run) → w.pixels ≡ room.old.pixels → w.book ≡ room.old.reader.tables.value.words.book →
         WalksIn S.sink w (X.outside port.old) assembly.old (walking walk.old) first → RunsWalk S.sink w (X.outside port.new) assembly.new (walking walk.new)
         result }
 {
@@ -164,7 +164,7 @@ fn take_segments<S: BlockSink, X: Port>(
     requires at { IsAt assembly.old (walking walk.old) first }
     requires room { IsRoom walk.old.geometry (vec_len room.old.blocks) (vec_len room.old.marks) }
     ensures takes { TakesAll S.sink (X.outside port.old) (X.outside port.new) assembly.old assembly.new (walking walk.old) (walking walk.new) result }
-    ensures runs { (w : Run) → w.pixels ≡ room.old.pixels → w.book ≡ room.old.reader.tables.words.book →
+    ensures runs { (w : Run) → w.pixels ≡ room.old.pixels → w.book ≡ room.old.reader.tables.value.words.book →
         WalksIn S.sink w (X.outside port.old) assembly.old (walking walk.old) first → RunsAll S.sink w (X.outside port.new) assembly.new (walking walk.new)
         result }
 {

@@ -20,4 +20,5 @@ mod walk;
 pub use ending::{DecodeDone, DecodeFault};
 pub use engine::{Walked, walk_segments};
 pub use laws::received_is_known;
+pub use segments::least_pixels;
 pub use sink::BlockSink;

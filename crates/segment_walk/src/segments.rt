@@ -1,15 +1,15 @@
 // Takes the segments of an image, one after another.
-ghost use Rattle.std.specs.Prelude.{◌≡◌, ◌≤◌, ◌*◌, true, length, take, vec_len};
+ghost use Rattle.std.specs.Prelude.{◌≡◌, ◌≤◌, ◌*◌, ◌^◌, true, length, take, vec_len};
 ghost use Rattle.base_122.specs.Ranges.{IsGeometryInRange};
 ghost use Rattle.segment_defs.specs.Head.{IsHead};
 ghost use Rattle.segment_code.specs.Decoded.{DecodesSegment};
 ghost use Rattle.segment_code.specs.Starts.{AreClear};
-ghost use Rattle.stream_defs.specs.Begun.{placed};
+ghost use Rattle.stream_defs.specs.Begun.{rows_reached};
 ghost use Rattle.packet_assembly.specs.Assembling.{Assembling};
 ghost use Rattle.segment_walk.specs.Steps.{walking, IsCurrent, HasRoom, PassesBlocks, AreBlocks};
 ghost use Rattle.segment_walk.specs.Rooms.{IsRoom};
 ghost use Rattle.segment_walk.specs.Runs.{Run, WalksIn, RunsReach, RunsSegment};
-ghost use Rattle.segment_walk.specs.Segments.{FitsImage, FitsNext, IsAt, MayFollow, FollowsHead, MayFollowHeld, FollowsHeld, IsFound, FollowsFound};
+ghost use Rattle.segment_walk.specs.Segments.{FitsNext, IsAt, MayFollow, FollowsHead, MayFollowHeld, FollowsHeld, IsFound, FollowsFound};
 ghost use Rattle.segment_walk.specs.Segments.{FindsNext, ReadsText, EndsText, ReachesSegment, TakesSegment, pixels_reached, segment_values};
 
 use crate::blocks::{put_blocks, put_missing_blocks};
@@ -61,7 +61,7 @@ fn decode_first<I: OctetIn>(
     requires blocks { 64 * head.now.blocks ≤ length blocks.old }
     requires marks { head.now.blocks ≤ length marks.old }
     requires clear { AreClear (take (64 * head.now.blocks) blocks.old) }
-    ensures decodes { DecodesSegment I.source reader.now.tables.words.book head.now result text.old text.new (take (64 * head.now.blocks) blocks.new) }
+    ensures decodes { DecodesSegment I.source reader.now.tables.value.words.book head.now result text.old text.new (take (64 * head.now.blocks) blocks.new) }
     ensures sizes { (length blocks.new ≡ length blocks.old) × (length marks.new ≡ length marks.old) }
 {
     let count = head.blocks as usize;
@@ -82,7 +82,7 @@ fn read_text<X: Port>(
     ensures marks { vec_len room.new.marks ≡ vec_len room.old.marks }
     ensures pixels { room.new.pixels ≡ room.old.pixels }
     ensures reader { room.new.reader ≡ room.old.reader }
-    ensures reads { ReadsText room.old.reader.tables.words.book (X.outside port.old) (X.outside port.new) assembly.old assembly.new head.now
+    ensures reads { ReadsText room.old.reader.tables.value.words.book (X.outside port.old) (X.outside port.new) assembly.old assembly.new head.now
         room.new.blocks.items result }
 {
     texts_end_so();
@@ -104,19 +104,30 @@ fn read_text<X: Port>(
     }
 }
 
-/// Returns the least number of pixels of an image in which this segment is, or that of the image if its height is known.
-pub fn pixels_reached(geometry: &Geometry, start: &SegmentStart) -> u64
+/// Returns the least number of pixels of an image that has the blocks before this one, or that of the image if its height is known.
+pub fn least_pixels(geometry: &Geometry, ended: u64) -> u64
     requires range { IsGeometryInRange geometry.now }
-    requires fits { FitsImage (placed geometry.now) start.now }
-    ensures { result ≡ pixels_reached geometry.now start.now }
+    requires few { ended ≤ 2 ^ 33 }
+    ensures { result ≡ geometry.now.width * rows_reached geometry.now ended }
 {
     let width = u64::from(geometry.width);
     if geometry.rows != 0 {
         return width * u64::from(geometry.rows);
     }
-    let ended = u64::from(start.ancillary.first) + u64::from(start.head.blocks);
-    let block_rows = ended.div_ceil(u64::from(geometry.padded_width() / 8));
-    width * FieldRange::ROWS.least.max(8 * block_rows - 7)
+    let block_rows = ended.div_ceil(u64::from(geometry.width.div_ceil(8)));
+    let reached = (8 * block_rows).saturating_sub(7);
+    width * FieldRange::ROWS.least.max(reached)
+}
+
+/// Returns the least number of pixels of an image in which this segment is, or that of the image if its height is known.
+pub fn pixels_reached(geometry: &Geometry, start: &SegmentStart) -> u64
+    requires { IsGeometryInRange geometry.now }
+    ensures { result ≡ pixels_reached geometry.now start.now }
+{
+    least_pixels(
+        geometry,
+        u64::from(start.ancillary.first) + u64::from(start.head.blocks),
+    )
 }
 
 // Takes the geometry of an image in which this segment was begun, unless that has too many pixels.
@@ -226,9 +237,9 @@ pub fn take_segment<S: BlockSink, X: Port>(
     ensures blocks { vec_len room.new.blocks ≡ vec_len room.old.blocks }
     ensures marks { vec_len room.new.marks ≡ vec_len room.old.marks }
     ensures pixels { room.new.pixels ≡ room.old.pixels }
-    ensures book { room.new.reader.tables.words.book ≡ room.old.reader.tables.words.book }
+    ensures book { room.new.reader.tables.value.words.book ≡ room.old.reader.tables.value.words.book }
     ensures takes { TakesSegment S.sink (X.outside port.old) (X.outside port.new) assembly.old assembly.new (walking walk.old) (walking walk.new) result }
-    ensures runs { (w : Run) → w.pixels ≡ room.old.pixels → w.book ≡ room.old.reader.tables.words.book →
+    ensures runs { (w : Run) → w.pixels ≡ room.old.pixels → w.book ≡ room.old.reader.tables.value.words.book →
         WalksIn S.sink w (X.outside port.old) assembly.old (walking walk.old) start.now → RunsSegment S.sink w (X.outside port.new) assembly.new
         (walking walk.new) result }
 {

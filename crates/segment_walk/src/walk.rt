@@ -40,17 +40,18 @@ pub fn placed(geometry: &Geometry) -> Geometry
     Geometry { rows, ..*geometry }
 }
 
-/// Returns a walk at the first block. It fails only if there is no memory for the sink.
+/// Returns a walk at the first block. It fails only if there is too little memory for the sink and the table of missing block rows.
 pub fn begin_walk<S: BlockSink>(alloc: Global, geometry: &Geometry) -> Result<Walk<S>, AllocError>
     requires range { IsGeometryInRange geometry.now }
     requires height { IsWithin rows_range geometry.now.rows }
     ensures { IfOk result (λ p. IsFresh S.sink geometry.now (walking p)) }
 {
+    let damage = Damage::new(alloc, geometry.rows)?;
     let sink = S::begin(alloc, geometry)?;
     Ok(Walk {
         geometry: *geometry,
         at: BlockAt { row: 0, column: 0 },
-        damage: Damage::new(geometry.rows),
+        damage,
         sink,
     })
 }
@@ -109,7 +110,7 @@ impl SegmentRoom {
         requires book { IsTrue (is_book_sound wish.now.book) }
         ensures room { IfOk result (λ room. IsRoom geometry.now (vec_len room.blocks) (vec_len room.marks)) }
         ensures pixels { IfOk result (λ room. room.pixels ≡ wish.now.pixels) }
-        ensures book { IfOk result (λ room. room.reader.tables.words.book ≡ wish.now.book) }
+        ensures book { IfOk result (λ room. room.reader.tables.value.words.book ≡ wish.now.book) }
     {
         let count = geometry.blocks_of(0) as usize;
         let blocks = vec![in alloc; 0; 64 * count]?;

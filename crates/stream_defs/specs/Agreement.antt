@@ -58,7 +58,7 @@ ends_where_reported g a head = same_flag head.last (a.first + head.blocks == blo
 abbrev pub pads_as_reported : Geometry → SegmentHead → Bool
 pads_as_reported g head = not head.last || (head.pad_rows == padded_size g.rows - g.rows)
 
--- ---- where the height is told last
+-- ---- if the height is reported last
 
 -- the blocks are those of a whole segment, or fewer in the last one
 abbrev pub may_have_blocks : Geometry → SegmentHead → Bool

@@ -52,7 +52,8 @@ pub record BareCauses (wish : DecodeWish) (old new : Outside) (took gave : List 
   pub ends : EndsSo answer old new gave
   pub answers : IfKnown old (λ input. Answers wish input took gave answer)
 
--- one run: each read call that takes octets does so while those before decide nothing, and has given exactly the rows that they determine
+-- one run: each read call that takes octets does so while those before do not decide the answer, and has given exactly the rows that they
+-- determine
 abbrev pub DecodesStream : DecodeWish → (old new : Outside) (status : ℕ) → Type 0
 DecodesStream wish = Ran (CausedWithin wish.octets (BareCauses wish)) (AsksBare wish) bare_status bare_line
 

@@ -27,7 +27,8 @@ encode_line (Err fault) = fault_line fault
 abbrev pub EncoderCauses : Type 1
 EncoderCauses = Outside → Outside → List ℕ → List ℕ → Result EncodeDone EncodeFault → Type 0
 
--- what an encoder does at a read call: exactly this is given for the octets that were taken by then, whose whole pixels are all in range
+-- what an encoder does at a read call: exactly this is given for the octets that were taken by then, which are at most those of the longest
+-- raster, and whose whole pixels are all in range
 abbrev pub AsksRaster : Setting → (given : List ℕ → List ℕ) → List ℕ → ℕ → ℕ → Type 0
 AsksRaster setting given took i j = GivenBy given took i j × AsksInRange setting took i j
 

@@ -13,9 +13,10 @@ ghost use Rattle.packet_assembly.specs.Assembling.{unread_assembly};
 use crate::decode::DecodeRefusal;
 use crate::port::LentPort;
 use crate::product::Product;
-use base_122::{DecodeWish, FieldRange, Geometry};
+use base_122::{DecodeWish, Geometry};
 use bit_pipe::InFault;
 use packet_assembly::{Assembly, SegmentStart};
+use segment_walk::least_pixels;
 use std::alloc::Global;
 
 /// What the headers of an image's packets report of its size.
@@ -94,23 +95,6 @@ fn next_head(
         return Err(DecodeRefusal::TooManyPixels { pixels });
     }
     Ok(Some(Measured { geometry, ended }))
-}
-
-// Returns the least number of pixels of an image that has the blocks before this one, or that of the image if its height is known.
-fn least_pixels(geometry: &Geometry, ended: u64) -> u64
-    requires range { IsGeometryInRange geometry.now }
-    requires few { ended ≤ 2 ^ 33 }
-    ensures { result ≡ geometry.now.width * rows_reached geometry.now ended }
-{
-    let width = u64::from(geometry.width);
-    if geometry.rows != 0 {
-        return width * u64::from(geometry.rows);
-    }
-    let block_rows = ended.div_ceil(u64::from(geometry.width.div_ceil(8)));
-    width
-        * FieldRange::ROWS
-            .least
-            .max((8 * block_rows).saturating_sub(7))
 }
 
 // Returns the number of whole block rows before a block.

@@ -46,8 +46,8 @@ fn encode(
 }
 
 // Expects this answer for a flat raster, and a report with the fields that apply to it.
-fn expect(rt: &impl Abort, alloc: Global, depth: u8, raster: &[u8], room: &mut [u8], answer: u32) {
-    let (got, report) = encode(alloc, &setting(17, depth), raster, room);
+fn expect(rt: &(impl Abort + AllocGlobal), depth: u8, raster: &[u8], room: &mut [u8], answer: u32) {
+    let (got, report) = encode(rt.alloc(), &setting(17, depth), raster, room);
     assert_eq!(rt; got, answer);
     assert_eq!(rt; report.octets > 3, answer == 0 || answer == 7);
     assert_eq!(rt; report.field, if answer == 2 { 3 } else { 0 });
@@ -59,12 +59,12 @@ fn rasters(rt: HostRuntime) {
     let alloc = rt.alloc();
     let raster = [77; 409];
     let mut room = [0; 1000];
-    expect(&rt, alloc, 8, &raster[..408], &mut room, 0);
-    expect(&rt, alloc, 17, &raster[..408], &mut room, 2);
-    expect(&rt, alloc, 8, &raster[..407], &mut room, 3);
-    expect(&rt, alloc, 8, &raster, &mut room, 4);
-    expect(&rt, alloc, 6, &raster[..408], &mut room, 5);
-    expect(&rt, alloc, 8, &raster[..408], &mut room[..3], 7);
+    expect(&rt, 8, &raster[..408], &mut room, 0);
+    expect(&rt, 17, &raster[..408], &mut room, 2);
+    expect(&rt, 8, &raster[..407], &mut room, 3);
+    expect(&rt, 8, &raster, &mut room, 4);
+    expect(&rt, 6, &raster[..408], &mut room, 5);
+    expect(&rt, 8, &raster[..408], &mut room[..3], 7);
     // Rows that are left open are refused by their number in the order of fields.
     let (answer, report) = encode(alloc, &setting(0, 8), &[], &mut room);
     assert_eq!(rt; (answer, report.field), (2, 2));

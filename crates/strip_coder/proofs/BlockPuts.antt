@@ -12,7 +12,7 @@ use Rattle.wave_defs.specs.Held.{block_at}
 use Rattle.wave_defs.proofs.BlockLaws.{weighted-within}
 use Rattle.block_families.specs.Places.{place_in, gathered}
 use Rattle.block_families.proofs.Placing.{place_within}
-use Rattle.block_families.proofs.Passing.{shift_small}
+use Rattle.base_122.proofs.ShiftLaws.{shift_low}
 use Rattle.wave_strip.specs.declared.strip.StripWave.{StripWave}
 use Rattle.wave_strip.specs.Strip.{columns_of, number_in}
 use Rattle.wave_strip.proofs.NumberBounds.{number_small}
@@ -24,7 +24,7 @@ use Rattle.stream_defs.proofs.Small.{within_small}
 pub weighted_small : (strip : StripWave) (weights : List ℕ) (column i : ℕ) → All IsShift weights → column < columns_of strip → i < 64 →
     unsigned_abs (number_in strip (place_in column i) *ℤ weight_at weights i) < 2 ^ 27
 weighted_small strip weights column i shifts inside lt =
-    within_small _ (weighted-within (get_or weights (place_of i).band 0) 16000000 _ (shift_small weights (place_of i).band shifts)
+    within_small _ (weighted-within (get_or weights (place_of i).band 0) 16000000 _ (shift_low weights (place_of i).band shifts)
     (number_small strip (place_in column i) (place_within (columns_of strip) column i inside lt)))
 
 pub length-gathered : (number : Place → ℤ) (weights : List ℕ) (column : ℕ) → length (gathered number weights column) ≡ 64

@@ -158,6 +158,9 @@ module _ (s : Setting) (range : IsInRange s) (p q : Outside) (w : Work) (all : H
       longest : length arrived.took ≡ most_length s
       longest = arrived.whole ∙ ap (λ n. n * row_length s) (sym tall)
 
+      within : length arrived.took ≤ most_length s
+      within = let whole = longest in omega (arith, whole)
+
       all_so : (more : List ℕ) → given_for s (arrived.took ++ more) ≡ output s w.at.rows (image_of s arrived.took)
       all_so more = grind (arith, nat_tests, known_height, given_all, arrived)
 
@@ -177,7 +180,7 @@ module _ (s : Setting) (range : IsInRange s) (p q : Outside) (w : Work) (all : H
           (AsksInRange s arrived.took)
       none_asks {d = d} read =
           subst (λ t. Exchange p d t (output s w.at.rows (image_of s arrived.took)) [] (AsksInRange s t)) same_took
-          (end_asked s arrived.took raster.in_range all_asks read)
+          (end_asked s arrived.took within raster.in_range all_asks read)
 
       pub run_done : {d : Outside} → SawEnd r d true → EncodesImage s p d (Ok done)
       run_done {d = d} end = record {
@@ -196,7 +199,7 @@ module _ (s : Setting) (range : IsInRange s) (p q : Outside) (w : Work) (all : H
             took = arrived.took ++ end.0 ∷ [];
             gave = output s w.at.rows (image_of s arrived.took);
             since = asked_end end.1;
-            asks = end_asked s arrived.took raster.in_range all_asks end.1;
+            asks = end_asked s arrived.took within raster.in_range all_asks end.1;
             answer = (
               length-append arrived.took (end.0 ∷ []) ∙ ap (λ n. n + 1) longest,
               subst (AllInRange s) (sym prefix) raster.in_range,
@@ -215,5 +218,5 @@ module _ (s : Setting) (range : IsInRange s) (p q : Outside) (w : Work) (all : H
             gave = output s w.at.rows (image_of s arrived.took);
             since = subst (λ t. Exchange p d t (output s w.at.rows (image_of s arrived.took)) [] (GivenBy (given_for s) t)) same_took (asked_end failed.since);
             asks = none_asks failed.since;
-            answer = (rose_since all_given.faults.reads failed.rose, (let m = longest in omega (arith, m)), raster.in_range, sym valid);
+            answer = (rose_since all_given.faults.reads failed.rose, within, raster.in_range, sym valid);
           }

@@ -140,12 +140,12 @@ module _ (s : Setting) (range : IsInRange s) (k : ℕ) (p q : Outside) (old : Wo
       let same = given_within s k arrived.took (take i got) range le arrived.whole short in
       omega (arith, r.1, ap length same))
 
-  part_asks : {m : Outside} (got : List ℕ) → Exchange q m got [] [] (InRow s.depth s.signed s.width got) →
-      Exchange p m (arrived.took ++ got) (settled_octets s arrived.took k) [] (AsksInRange s (arrived.took ++ got))
-  part_asks got read = row_asked s k arrived.took got arrived.whole arrived.in_range so_far_asks read
-
   row_below : k * row_length s + row_length s ≤ most_length s
   row_below = grind (arith, nat_tests, mul-le-mul_right)
+
+  part_asks : {m : Outside} (got : List ℕ) → Exchange q m got [] [] (InRow s.depth s.signed s.width got) →
+      Exchange p m (arrived.took ++ got) (settled_octets s arrived.took k) [] (AsksInRange s (arrived.took ++ got))
+  part_asks got read = row_asked s k arrived.took got arrived.whole row_below arrived.in_range so_far_asks read
 
   -- the row wasn't read to its end
   pub row_lacks : {T : Type 0} {m : Outside} (before after : List ℤ) (fault : RowFault) → RowRead {T = T} s.depth s.signed s.width k q m before after

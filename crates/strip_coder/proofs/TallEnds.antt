@@ -1,5 +1,5 @@
 -- The tallest raster of a setting whose rows are reported last: the end has to follow.
-use Rattle.std.proofs.Common.{◌≡◌, ◌+◌, inr, ℕ, List, [], ◌∷◌, ◌++◌, length, take, sym, ap, ◌∙◌, subst, arith, length-append, true, false, Err, append-nil}
+use Rattle.std.proofs.Common.{◌≡◌, ◌≤◌, ◌+◌, inr, ℕ, List, [], ◌∷◌, ◌++◌, length, take, sym, ap, ◌∙◌, subst, arith, length-append, true, false, Err, append-nil}
 use Rattle.std.proofs.Math.Seq.{take-append_seam}
 use Rattle.port_122.specs.Outside.{Outside, Exchange, AtStart, GivenBy, ReadFailed}
 use Rattle.port_122.proofs.Stretches.{rose_since}
@@ -56,6 +56,9 @@ module _ (s : Setting) (range : IsInRange s) (p q : Outside) (w : Work) (arrived
     in_range : AllInRange s arrived.took
     in_range = all_whole s (tallest s) arrived.took arrived.whole arrived.in_range
 
+    longest : length arrived.took ≤ most_length s
+    longest = let whole = arrived.whole in omega (arith, whole)
+
     asked_none : {d : Outside} → Exchange q d [] [] [] AtStart → Exchange p d arrived.took (settled_octets s arrived.took (tallest s)) []
         (GivenBy (given_for s) arrived.took)
     asked_none {d = d} read = subst (λ t. Exchange p d t (settled_octets s arrived.took (tallest s)) [] (GivenBy (given_for s) t)) same_took (asked_end read)
@@ -64,7 +67,7 @@ module _ (s : Setting) (range : IsInRange s) (p q : Outside) (w : Work) (arrived
         (AsksInRange s arrived.took)
     none_asks {d = d} read =
         subst (λ t. Exchange p d t (settled_octets s arrived.took (tallest s)) [] (AsksInRange s t)) same_took
-        (end_asked s arrived.took in_range so_far_asks read)
+        (end_asked s arrived.took longest in_range so_far_asks read)
 
     pub tall_ended : {d : Outside} → SawEnd q d true → HasAll s p d w
     tall_ended {d = d} end = record {
@@ -89,7 +92,7 @@ module _ (s : Setting) (range : IsInRange s) (p q : Outside) (w : Work) (arrived
           took = arrived.took ++ end.0 ∷ [];
           gave = settled_octets s arrived.took (tallest s);
           since = asked_end end.1;
-          asks = end_asked s arrived.took in_range so_far_asks end.1;
+          asks = end_asked s arrived.took longest in_range so_far_asks end.1;
           answer = (
             length-append arrived.took (end.0 ∷ []) ∙ ap (λ n. n + 1) arrived.whole,
             subst (AllInRange s) (sym prefix) in_range,
@@ -106,7 +109,7 @@ module _ (s : Setting) (range : IsInRange s) (p q : Outside) (w : Work) (arrived
       asks = none_asks failed.since;
       answer = (
         rose_since so_far.faults.reads failed.rose,
-        (let m = arrived.whole in omega (arith, m)),
+        longest,
         in_range,
         sym (ap (given_for s) (sym same_took) ∙ given_whole s arrived.took [] range arrived.whole),
       );

@@ -17,9 +17,9 @@ use Rattle.strip_coder.specs.Plans.{tallest}
 abbrev pub AllInRange : Setting → List ℕ → Type 0
 AllInRange s taken = AreInRange s taken (whole_pixels s.depth taken)
 
--- a read call with i of these octets taken, all whole pixels of which are in range
+-- a read call with i of these octets taken: at most those of the longest raster, and all whole pixels of them are in range
 abbrev pub AsksInRange : Setting → List ℕ → ℕ → ℕ → Type 0
-AsksInRange s took i j = AllInRange s (take i took)
+AsksInRange s took i j = (i ≤ most_length s) × AllInRange s (take i took)
 
 -- the first value out of range is the one at this row and column
 pub record FirstBad (s : Setting) (taken : List ℕ) (row column : ℕ) (value : ℤ) : Type 0 where
@@ -79,7 +79,8 @@ Answers s old new took gave (Err WriteFault) =
     Rose old.write_faults new.write_faults × ((k : ℕ) × TookRows s took k × (IsPrefixOfEach s took k gave ⊎ IsPrefixOfWhole s new took k gave))
 
 -- One run over a port: what it took and gave, when, and why it ended so. At each read call the packets of the segments that were
--- settled by then are given, and nothing else, and all whole pixels taken by then are in range.
+-- settled by then are given, and nothing else. At most the octets of the longest raster are taken by then, and all whole pixels of them
+-- are in range.
 pub record EncodesImage (s : Setting) (old new : Outside) (result : Result EncodeDone EncodeFault) : Type 0 where
   pub took : List ℕ
   pub gave : List ℕ

@@ -10,7 +10,7 @@ ghost use Rattle.strip_coder.specs.Works.{HasGathered, IsFull};
 ghost use Rattle.strip_coder.specs.Steps.{PutsBlock, PutsBlocks, Gathers, GathersSome, HasRoom, WritesPresent};
 
 use crate::plan::Plan;
-use crate::segments::write_segment;
+use crate::segments::{Present, write_segment};
 use crate::work::Work;
 use base_122::Weights;
 use block_families::{gather, gather_run};
@@ -70,10 +70,10 @@ fn write_present<X: Port>(port: &mut X, plan: &Plan, work: &mut Work) -> Result<
     requires full { IsFull plan.now work.old }
     ensures { WritesPresent result plan.now (X.outside port.old) (X.outside port.new) work.old work.new }
 {
+    let present = Present { plan, at: &work.at };
     let Ok(octets) = write_segment(
         port,
-        plan,
-        &work.at,
+        &present,
         &mut work.blocks,
         &mut work.packets,
         &work.writer,

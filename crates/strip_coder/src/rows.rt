@@ -18,7 +18,7 @@ use raster_rows::{RowFault, at_end, read_row};
 
 /// Takes an image's raster and writes the packets of its segments, each segment as soon as the rows so far settle it
 /// (docs/formats.md, "Raster and made image" and "Packets"; docs/architecture.md, "The encoder"). It reads a row only after all
-/// packets that the whole rows before settle are written.
+/// packets that the whole rows before settle are written. It makes no read call after a pixel out of range or an octet past the raster.
 ///
 /// A setting with rows has a raster of that number, and the end of the input is read after all packets are written. If the setting
 /// leaves the rows open, the raster has the whole rows before the end of the input, 17 to 262,144, and the packets of the segments

@@ -17,43 +17,43 @@ use segment_code::{SegmentBlocks, SegmentWriter};
 use segment_head::{ImagePart, SegmentHead};
 use space_packets::{Ancillary, Packetiser};
 
+/// The present segment of an image: the plan of the image, and its progress.
+#[derive(Clone, Copy)]
+pub struct Present<'a> {
+    pub plan: &'a Plan,
+    pub at: &'a ImageAt,
+}
+
 /// Writes the packets of the present segment, and returns the octets of its text, which has the codes of the book of the setting.
 pub fn write_segment<X: Port>(
     port: &mut X,
-    plan: &Plan,
-    at: &ImageAt,
+    present: &Present,
     blocks: &mut SegmentBlocks,
     packets: &mut Packetiser,
     writer: &SegmentWriter,
 ) -> Result<u64, Failed>
-    requires in_range { IsPlan plan.now }
-    requires book { writer.now.tables.book ≡ plan.now.setting.book }
-    requires index { at.now.index < segments_of (whole plan.now) }
-    requires share { KeepsShare (whole plan.now) at.now }
+    requires in_range { IsPlan present.now.plan.now }
+    requires book { writer.now.tables.book ≡ present.now.plan.now.setting.book }
+    requires index { present.now.at.now.index < segments_of (whole present.now.plan.now) }
+    requires share { KeepsShare (whole present.now.plan.now) present.now.at.now }
     requires some { 64 ≤ length blocks.old.numbers }
     requires most { length blocks.old.numbers ≤ 64 * 1048575 }
-    requires packet { packets.old.packet ≡ plan.now.setting.packet }
+    requires packet { packets.old.packet ≡ present.now.plan.now.setting.packet }
     requires idle { packets.old.stage ≡ Idle }
     requires texts { packets.old.texts < 2 ^ 28 }
     ensures text { MatchResult result
-        (λ octets. TextOut (text_of plan.now at.now.index) (X.outside port.old) (X.outside port.new) packets.old packets.new
-        (text_for plan.now at.now.index at.now.used (blocks_in blocks.old.numbers))
-        × (octets ≡ length (text_for plan.now at.now.index at.now.used (blocks_in blocks.old.numbers))))
-        (λ _. TextCut (text_of plan.now at.now.index) (X.outside port.old) (X.outside port.new) packets.old packets.new
-        (text_for plan.now at.now.index at.now.used (blocks_in blocks.old.numbers))) }
+        (λ octets. TextOut (text_of present.now.plan.now present.now.at.now.index) (X.outside port.old) (X.outside port.new) packets.old packets.new
+        (text_for present.now.plan.now present.now.at.now.index present.now.at.now.used (blocks_in blocks.old.numbers))
+        × (octets ≡ length (text_for present.now.plan.now present.now.at.now.index present.now.at.now.used (blocks_in blocks.old.numbers))))
+        (λ _. TextCut (text_of present.now.plan.now present.now.at.now.index) (X.outside port.old) (X.outside port.new) packets.old packets.new
+        (text_for present.now.plan.now present.now.at.now.index present.now.at.now.used (blocks_in blocks.old.numbers))) }
     ensures most { blocks.new.most ≡ blocks.old.most }
 {
-    let (depth_dc, depth_ac) = blocks.depths();
-    let limit = share(plan, at);
-    let head = make_head(
-        plan,
-        at.index,
-        limit,
-        blocks.len() as u32,
-        depth_dc,
-        depth_ac,
-    );
-    packets.begin(plan.setting.apid, ancillary(plan, at.index));
+    let depths = blocks.depths();
+    let limit = share(present.plan, present.at);
+    let index = present.at.index;
+    let head = make_head(present.plan, index, limit, blocks.len() as u32, depths);
+    packets.begin(present.plan.setting.apid, ancillary(present.plan, index));
     let mut sink = packets.sink(port);
     let Ok(octets) = writer.encode(&mut sink, &head, blocks) else {
         return Err(Failed);
@@ -119,23 +119,17 @@ fn written_stop(stop: Stop) -> Stop
     }
 }
 
-/// Returns the head of the segment of this index, with this limit and this number of blocks of these depths (docs/formats.md, "The
-/// head").
-pub fn make_head(
-    plan: &Plan,
-    index: u32,
-    limit: u32,
-    count: u32,
-    depth_dc: u8,
-    depth_ac: u8,
-) -> SegmentHead
+/// Returns the head of the segment of this index, with this limit and this number of blocks, which have these depths of DC and AC numbers
+/// (docs/formats.md, "The head").
+pub fn make_head(plan: &Plan, index: u32, limit: u32, count: u32, depths: (u8, u8)) -> SegmentHead
     requires in_range { IsPlan plan.now }
     requires index { index < segments_of (whole plan.now) }
-    ensures { result ≡ head_with (whole plan.now) index limit count depth_dc depth_ac }
+    ensures { result ≡ head_with (whole plan.now) index limit count depths.0 depths.1 }
 {
     let setting = &plan.setting;
     let last = index + 1 == setting.geometry_for(plan.rows).segments();
     let best = setting.select == Select::Optimal;
+    let (depth_dc, depth_ac) = depths;
     SegmentHead {
         first: index == 0,
         last,

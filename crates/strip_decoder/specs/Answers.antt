@@ -51,15 +51,15 @@ Answers wish old new took gave (Err WriteFault) = Rose old.write_faults new.writ
     × GivesPrefix wish old took gave
 Answers wish old new took gave (Err Memory) = gave ≡ []
 
--- A read call with i octets taken, which decide no answer, and j given, if the port reports what is left.
+-- A read call with i octets taken, which do not decide the answer, and j given, if the port reports what is left.
 abbrev pub Asks : DecodeWish → Outside → (took gave : List ℕ) → ℕ → ℕ → Type 0
 Asks wish start took gave i j =
     (j ≤ length gave) × AsksUnanswered wish.apid wish.octets wish.pixels took i j × ((all : List ℕ) → start.rest ≡ Some all →
     PromptBy wish.book wish.apid (take i took) (take j gave))
 
 -- One run over a port: what it took and gave, when, and why it ended so. However it ends, it takes at most the number of octets in the
--- wish. At each read call the octets that were taken by then decide no answer, and what is given is a prefix of the picture for them, with
--- at least the rows that may be given.
+-- wish. At each read call the octets that were taken by then do not decide the answer, and what is given is a prefix of the picture for
+-- them, with at least the rows that may be given.
 pub record Decodes (wish : DecodeWish) (old new : Outside) (result : Result DecodeDone DecodeFault) : Type 0 where
   pub took : List ℕ
   pub gave : List ℕ

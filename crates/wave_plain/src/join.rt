@@ -5,7 +5,8 @@ ghost use Rattle.wave_defs.specs.Level.{joined, columns_merged, rows_merged};
 ghost use Rattle.wave_defs.specs.Within.{EachWithin, QuartersWithin};
 ghost use Rattle.wave_plain.specs.Images.{image_of, quarters_in, zeros, HasSize, Shows};
 
-use crate::{Plane, columns, rows};
+use crate::columns::{self, Halves};
+use crate::{Plane, rows};
 use std::alloc::{AllocError, Global};
 
 /// Returns a plane of zeros.
@@ -27,18 +28,15 @@ fn join_columns(alloc: Global, rows: u32, low: &Plane, high: &Plane) -> Result<P
     ensures { IfOk result
         (Shows (2 * low.now.rows) low.now.width (columns_merged (image_of low.now) (image_of high.now) low.now.rows)) }
 {
-    let width = low.width as usize;
-    let half = low.rows as usize;
+    let halves = Halves {
+        low: &low.cells,
+        high: &high.cells,
+        width: low.width as usize,
+        count: low.rows as usize,
+    };
     let mut plane = zero_plane(alloc, low.width, rows)?;
-    let mut row = vec![in alloc; 0; width]?;
-    columns::join_columns(
-        &low.cells,
-        &high.cells,
-        width,
-        half,
-        &mut row,
-        &mut plane.cells,
-    );
+    let mut row = vec![in alloc; 0; halves.width]?;
+    columns::join_columns(halves, &mut row, &mut plane.cells);
     Ok(plane)
 }
 
@@ -64,28 +62,29 @@ fn join_rows(alloc: Global, width: u32, low: &Plane, high: &Plane) -> Result<Pla
     Ok(plane)
 }
 
-/// Returns the image of this width and these rows that has these four bands of one level.
-pub fn join(
-    alloc: Global,
-    width: u32,
-    rows: u32,
-    ll: &Plane,
-    hl: &Plane,
-    lh: &Plane,
-    hh: &Plane,
-) -> Result<Plane, AllocError>
-    requires ll_size { HasSize ll.now.rows ll.now.width ll.now }
-    requires hl_size { HasSize ll.now.rows ll.now.width hl.now }
-    requires lh_size { HasSize ll.now.rows ll.now.width lh.now }
-    requires hh_size { HasSize ll.now.rows ll.now.width hh.now }
-    requires long { (3 ≤ ll.now.rows) × (3 ≤ ll.now.width) }
-    requires halves { (rows ≡ 2 * ll.now.rows) × (width ≡ 2 * ll.now.width) }
-    requires bounded { QuartersWithin (2 ^ 34) ll.now.rows ll.now.width
-        (quarters_in ll.now hl.now lh.now hh.now) }
-    ensures { IfOk result (Shows (2 * ll.now.rows) (2 * ll.now.width)
-        (joined (quarters_in ll.now hl.now lh.now hh.now) ll.now.rows ll.now.width)) }
+/// The four bands of one level.
+#[derive(Clone, Copy)]
+pub struct LevelBands<'a> {
+    pub ll: &'a Plane,
+    pub hl: &'a Plane,
+    pub lh: &'a Plane,
+    pub hh: &'a Plane,
+}
+
+/// Returns the image of this width and these rows that has these bands.
+pub fn join(alloc: Global, width: u32, rows: u32, bands: LevelBands) -> Result<Plane, AllocError>
+    requires ll_size { HasSize bands.ll.now.rows bands.ll.now.width bands.ll.now }
+    requires hl_size { HasSize bands.ll.now.rows bands.ll.now.width bands.hl.now }
+    requires lh_size { HasSize bands.ll.now.rows bands.ll.now.width bands.lh.now }
+    requires hh_size { HasSize bands.ll.now.rows bands.ll.now.width bands.hh.now }
+    requires long { (3 ≤ bands.ll.now.rows) × (3 ≤ bands.ll.now.width) }
+    requires halves { (rows ≡ 2 * bands.ll.now.rows) × (width ≡ 2 * bands.ll.now.width) }
+    requires bounded { QuartersWithin (2 ^ 34) bands.ll.now.rows bands.ll.now.width
+        (quarters_in bands.ll.now bands.hl.now bands.lh.now bands.hh.now) }
+    ensures { IfOk result (Shows (2 * bands.entry.ll.now.rows) (2 * bands.entry.ll.now.width)
+        (joined (quarters_in bands.entry.ll.now bands.entry.hl.now bands.entry.lh.now bands.entry.hh.now) bands.entry.ll.now.rows bands.entry.ll.now.width)) }
 {
-    let low = join_columns(alloc, rows, ll, lh)?;
-    let high = join_columns(alloc, rows, hl, hh)?;
+    let low = join_columns(alloc, rows, bands.ll, bands.lh)?;
+    let high = join_columns(alloc, rows, bands.hl, bands.hh)?;
     join_rows(alloc, width, &low, &high)
 }

@@ -18,7 +18,7 @@ mod rows;
 mod samples;
 
 pub use block_row::BlockRow;
-use join::join;
+use join::{LevelBands, join};
 use samples::Samples;
 use std::alloc::{AllocError, Global};
 
@@ -92,33 +92,27 @@ pub fn inverse3(alloc: Global, bands: &Bands) -> Result<Plane, AllocError>
     ensures { IfOk result (Shows bands.now.rows bands.now.width
         (rebuilt (pyramid_in bands.now) (bands.now.rows / 8) (bands.now.width / 8))) }
 {
-    let second = join(
-        alloc,
-        bands.width / 4,
-        bands.rows / 4,
-        plane_of(bands, 9),
-        plane_of(bands, 7),
-        plane_of(bands, 8),
-        plane_of(bands, 6),
-    )?;
-    let first = join(
-        alloc,
-        bands.width / 2,
-        bands.rows / 2,
-        &second,
-        plane_of(bands, 4),
-        plane_of(bands, 5),
-        plane_of(bands, 3),
-    )?;
-    join(
-        alloc,
-        bands.width,
-        bands.rows,
-        &first,
-        plane_of(bands, 1),
-        plane_of(bands, 2),
-        plane_of(bands, 0),
-    )
+    let third_bands = LevelBands {
+        ll: plane_of(bands, 9),
+        hl: plane_of(bands, 7),
+        lh: plane_of(bands, 8),
+        hh: plane_of(bands, 6),
+    };
+    let second = join(alloc, bands.width / 4, bands.rows / 4, third_bands)?;
+    let second_bands = LevelBands {
+        ll: &second,
+        hl: plane_of(bands, 4),
+        lh: plane_of(bands, 5),
+        hh: plane_of(bands, 3),
+    };
+    let first = join(alloc, bands.width / 2, bands.rows / 2, second_bands)?;
+    let first_bands = LevelBands {
+        ll: &first,
+        hl: plane_of(bands, 1),
+        lh: plane_of(bands, 2),
+        hh: plane_of(bands, 0),
+    };
+    join(alloc, bands.width, bands.rows, first_bands)
 }
 
 /// The inverse of the bands of an image is the image, and the bands of the inverse are the bands

@@ -1,7 +1,5 @@
 -- Rings that take a row.
-use Rattle.std.proofs.Common.{◌≡◌, ℕ, ◌+◌, ◌*◌, ◌≤◌, ℤ, List, [], ◌∷◌, ◌++◌, length, take, drop, subst, arith}
-use Rattle.std.proofs.lemmas.List.{take-append-le, take_all}
-use Rattle.std.proofs.lemmas.Bool.Decides.{nat_tests}
+use Rattle.std.proofs.Common.{◌≡◌, ℕ, ◌+◌, ◌*◌, ◌≤◌, ℤ, List, [], ◌∷◌, ◌++◌, length, drop, subst, arith}
 use Rattle.wave_defs.specs.Within.{AllWithin}
 use Rattle.wave_defs.specs.Held.{Agrees, signal}
 use Rattle.wave_defs.specs.Rolling.{open_high, open_low}
@@ -9,10 +7,6 @@ use Rattle.wave_defs.specs.Rings.{RowsWithin, even_rows, odd_rows}
 use Rattle.wave_defs.proofs.LevelWithin.{IsWithin-more}
 use Rattle.wave_defs.proofs.RingLaws.{AreRows-turn, RowsWithin-turn, AreNewest-turn}
 use Rattle.wave_strip.specs.Kept.{AreRings, HoldPairs, AreSmall}
-
--- what a `Vec` holds after its whole slice was lent and was returned as out
-pub written_whole : (n : ℕ) (out old : List ℤ) → length out ≡ n → length old ≡ n → take n (out ++ drop (length out) old) ≡ out
-written_whole n out old lo ln = grind (arith, nat_tests, take-append-le, take_all)
 
 -- a row that becomes the newest of the even or of the odd rows
 module _ (w kept : ℕ) (es os ls hs : List (List ℤ)) (row : List ℤ) (s : AreRings w kept es os ls hs) where

@@ -1,13 +1,13 @@
 -- The rows that a level takes.
 use Rattle.std.proofs.Common.{◌≡◌, ℕ, ◌+◌, ◌*◌, ◌≤◌, ℤ, pos, List, ◌++◌, length, take, drop, sym, ap, ◌∙◌, subst, arith}
 use Rattle.std.proofs.lemmas.List.{get_or_append_left, get_or-append-add}
+use Rattle.std.proofs.Math.Seq.{take_at}
 use Rattle.wave_defs.specs.Line.{low_of, high_of}
 use Rattle.wave_defs.specs.Within.{AllWithin}
 use Rattle.wave_defs.specs.Held.{Agrees, signal}
 use Rattle.wave_defs.specs.Rolling.{parted}
 use Rattle.wave_defs.proofs.RollingLaws.{parted-each, parted-within}
 use Rattle.wave_defs.proofs.LevelWithin.{IsWithin-more}
-use Rattle.wave_strip.proofs.KeptLemmas.{written_whole}
 
 -- the low and the high samples, one after the other
 pub Agrees-parted : (m k : ℕ) (x : ℕ → ℤ) (low high : List ℤ) → k ≡ m → length low ≡ k → Agrees k (signal low) (low_of x k) →
@@ -26,4 +26,4 @@ pub part_within : (k c half w n : ℕ) (x : ℕ → ℤ) (out old : List ℤ) �
     AllWithin (2 * k) (2 * half) x → Agrees (2 * half) (signal out) (parted x half) → AllWithin c w (signal (take n (out ++ drop (length out) old)))
 part_within k c half w n x out old hk hh hc ew lo ln b a =
     let within = parted-within k half x hk hh b in
-    rw (written_whole n out old lo ln) (record { at = λ d h. rw (a.at d (omega arith)) (IsWithin-more (5 * k) c _ hc (within.at d (omega arith))) })
+    rw (take_at out (drop (length out) old) n lo) (record { at = λ d h. rw (a.at d (omega arith)) (IsWithin-more (5 * k) c _ hc (within.at d (omega arith))) })

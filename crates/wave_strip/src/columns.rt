@@ -1,7 +1,7 @@
 //! The columns of one level, row by row.
 
 ghost use Rattle.std.specs.Prelude.{◌≡◌, ℕ, ◌+◌, ◌*◌, ◌-◌, ◌^◌, ◌<◌, ◌≤◌, ℤ, vec_len};
-ghost use Rattle.wave_strip.specs.Kept.{AreRings, HoldPairs, AreSmall, pairs_in};
+ghost use Rattle.wave_strip.specs.Kept.{AreRings, pairs_in};
 
 use crate::pairs::{high_row, low_row};
 use line_rings::RowRing;
@@ -21,34 +21,6 @@ pub struct Columns {
     ghost sink_state: { AreRings width kept evens odds lows highs },
 }
 
-/// Makes pair j, after even row j + 2 was taken. `row` is room, and room is returned.
-fn lift_pair(
-    evens: &RowRing<i32>,
-    odds: &RowRing<i32>,
-    lows: &mut RowRing<i32>,
-    highs: &mut RowRing<i32>,
-    kept: usize,
-    j: usize,
-    row: Vec<i32>,
-) -> Vec<i32>
-    requires sink_state { AreRings (vec_len row) kept evens.now odds.now lows.old highs.old }
-    requires small { AreSmall (2 ^ 23) (vec_len row) evens.now odds.now lows.old highs.old }
-    ensures sink_state { AreRings (vec_len row) kept evens.now odds.now lows.new highs.new }
-    ensures wide { vec_len result ≡ vec_len row }
-    ensures follows { (a : ℕ → ℕ → ℤ)
-        → HoldPairs a (vec_len row) (j + 3) (j + 2) j evens.now odds.now lows.old highs.old
-        → HoldPairs a (vec_len row) (j + 3) (j + 2) (j + 1) evens.now odds.now lows.new highs.new }
-    ensures small { (m : ℕ) → 2 ≤ m
-        → AreSmall m (vec_len row) evens.now odds.now lows.old highs.old
-        → AreSmall m (vec_len row) evens.now odds.now lows.new highs.new }
-{
-    let mut high = row;
-    high_row(evens, odds, j, &mut high);
-    let mut low = highs.turn(high);
-    low_row(evens, highs, kept, j, &mut low);
-    lows.turn(low)
-}
-
 /// Returns how many pairs this number of rows gives.
 fn pairs_of(taken: usize) -> usize
     requires { taken < 2 ^ 32 }
@@ -63,6 +35,7 @@ impl Columns {
     ghost use Rattle.wave_defs.specs.Held.{Agrees, signal};
     ghost use Rattle.wave_defs.specs.Rolling.{open_low, mirrored};
     ghost use Rattle.wave_strip.specs.Samples.{column_samples};
+    ghost use Rattle.wave_strip.specs.Kept.{HoldPairs};
     ghost use Rattle.wave_strip.specs.Columns.{Follow, IsSmall, low_sample, high_sample};
 
     /// Returns columns of rows of zeros, at the start of an image. The only error is a lack of memory.
@@ -108,15 +81,27 @@ impl Columns {
         if self.taken < 5 {
             return room;
         }
-        lift_pair(
-            &self.evens,
-            &self.odds,
-            &mut self.lows,
-            &mut self.highs,
-            self.kept,
-            (self.taken - 5) / 2,
-            room,
-        )
+        self.lift_pair((self.taken - 5) / 2, room)
+    }
+
+    // Makes pair j, after even row j + 2 was taken. `row` is room, and room is returned.
+    fn lift_pair(&mut self, j: usize, row: Vec<i32>) -> Vec<i32>
+        requires wide { vec_len row ≡ self.old.width }
+        requires small { IsSmall (2 ^ 23) self.old }
+        ensures width { self.new.width ≡ self.old.width }
+        ensures kept { self.new.kept ≡ self.old.kept }
+        ensures taken { self.new.taken ≡ self.old.taken }
+        ensures wide { vec_len result ≡ self.old.width }
+        ensures follows { (a : ℕ → ℕ → ℤ)
+            → HoldPairs a self.old.width (j + 3) (j + 2) j self.old.evens self.old.odds self.old.lows self.old.highs
+            → HoldPairs a self.old.width (j + 3) (j + 2) (j + 1) self.new.evens self.new.odds self.new.lows self.new.highs }
+        ensures small { (m : ℕ) → 2 ≤ m → IsSmall m self.old → IsSmall m self.new }
+    {
+        let mut high = row;
+        high_row(&self.evens, &self.odds, j, &mut high);
+        let mut low = self.highs.turn(high);
+        low_row(&self.evens, &self.highs, self.kept, j, &mut low);
+        self.lows.turn(low)
     }
 
     /// Returns the row whose mirror is the next one after the last: the last even row, the last odd row

@@ -6,7 +6,7 @@ ghost use Rattle.wave_defs.specs.Held.{Agrees, signal};
 ghost use Rattle.wave_defs.specs.Rolling.{open_high, open_low};
 ghost use Rattle.wave_defs.specs.Rings.{AreRows, RowsWithin, AreNewest, even_rows, odd_rows};
 
-use lift_rows::{predict_sub_onto, update_sub_onto};
+use lift_rows::{EvenRows, predict_sub_onto, update_sub_onto};
 use line_rings::RowRing;
 
 /// Computes high row j, if even row j + 2 and odd row j + 1 are the newest (docs/formats.md, "A line"). The
@@ -24,14 +24,13 @@ pub fn high_row(evens: &RowRing<i32>, odds: &RowRing<i32>, j: usize, into: &mut 
         → AllWithin (5 * m) (length into.old) (signal into.new) }
 {
     let before = if j == 0 { 2 } else { 0 };
-    predict_sub_onto(
-        into,
-        odds.at(0),
-        evens.at(before),
-        evens.at(1),
-        evens.at(2),
-        evens.at(3),
-    );
+    let around = EvenRows {
+        second_before: evens.at(before),
+        before: evens.at(1),
+        after: evens.at(2),
+        second_after: evens.at(3),
+    };
+    predict_sub_onto(into, odds.at(0), around);
 }
 
 /// Computes low row j, if high row j is the newest of `kept` (docs/formats.md, "A line"). The first high row

@@ -1,3 +1,2 @@
 pub mod BlockRows
-pub mod Small
 pub mod Widened

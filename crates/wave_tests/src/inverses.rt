@@ -5,13 +5,13 @@ ghost use Rattle.inverse_strip.specs.Kept.{IsIdle};
 ghost use Rattle.inverse_strip.specs.Strip.{Keeps, columns_of, height_of, next_of, taken_of};
 
 use crate::case::{Case, Refusal, number, signed};
-use crate::pictures::{Frame, Picture, frame_in, picture_in};
-use crate::shown::{Rows, joined, word_of};
+use crate::pictures::{Frame, Picture, picture_in};
+use crate::shown::{Counts, Rows, word_of};
 use crate::strips::push_all;
 use block_families::{BandSink, place_of};
 use inverse_strip::StripInverse;
 use std::alloc::{AllocError, Global};
-use std::mem;
+use std::{fmt, mem};
 
 // The numbers of blocks in raster order, with this number in a block row, and the block row that is lost.
 #[derive(Clone, Copy)]
@@ -22,13 +22,12 @@ struct Sent<'a> {
     ghost few: { columns ≤ 2 ^ 8 },
 }
 
-// The rows that were made, and how many were there after each block row.
+// The rows that were made, of this width, and how many were there after each block row.
 #[derive(Drop)]
 struct Made {
-    alloc: Global,
     width: u32,
     rows: Vec<i64>,
-    given: String,
+    given: Vec<usize>,
 }
 
 // Returns a number that the inverse accepts, and 0 in place of others.
@@ -93,7 +92,7 @@ impl Made {
     // Adds how many rows there are.
     fn count(&mut self) -> Result<(), AllocError> {
         let rows = self.rows.len() / self.width.max(1) as usize;
-        self.given = joined(self.alloc, &self.given, " ", rows)?;
+        self.given.push(rows)?;
         Ok(())
     }
 
@@ -176,98 +175,147 @@ fn make_open(
     pushed
 }
 
+// Makes the rows of an image whose height is known from the start, or after some block rows.
+fn make_rows(
+    alloc: Global,
+    frame: Frame,
+    sent: &Sent,
+    known: Option<u32>,
+    made: &mut Made,
+) -> Result<(), Refusal>
+    requires { 8 * sent.now.columns ≡ frame.width }
+{
+    let Some(known) = known else {
+        return Ok(make_known(alloc, frame, sent, made)?);
+    };
+    if known >= frame.rows / 8 {
+        return Err(Refusal::Words);
+    }
+    Ok(make_open(alloc, frame, sent, known, made)?)
+}
+
 // Returns the rows that the numbers of blocks give, with one block row `lost`, and the height `known` after some block rows.
 fn make(case: &Case, frame: Frame, numbers: &[i32]) -> Result<Made, Refusal> {
     let sent = Sent {
         numbers,
         columns: frame.width / 8,
-        lost: case.optional("lost")?,
+        lost: case.optional("lost"),
     };
     let mut made = Made {
-        alloc: case.alloc,
         width: frame.width,
         rows: Vec::new(case.alloc),
-        given: String::new(case.alloc),
+        given: Vec::new(case.alloc),
     };
-    match case.optional("known")? {
-        None => make_known(case.alloc, frame, &sent, &mut made)?,
-        Some(known) if known < frame.rows / 8 => {
-            make_open(case.alloc, frame, &sent, known, &mut made)?
-        }
-        Some(_) => return Err(Refusal::Words),
-    }
+    make_rows(case.alloc, frame, &sent, case.optional("known"), &mut made)?;
     Ok(made)
 }
 
+// Adds blocks of zeros, and returns where they begin.
+fn add_zeros(blocks: &mut Vec<i32>, count: u32) -> Result<usize, AllocError> {
+    let first = blocks.len();
+    for _ in 0..64 * count.min(4096) {
+        blocks.push(0)?;
+    }
+    Ok(first)
+}
+
+// Sets the number at a position of each block from a place on.
+fn set_each(blocks: &mut Vec<i32>, first: usize, position: u32, number: i32) {
+    for place in first..blocks.len() {
+        if place % 64 == position as usize {
+            blocks[place] = number;
+        }
+    }
+}
+
 // Returns the numbers of the blocks of the data: `N*` begins N blocks of zeros, and `POSITION=NUMBER` sets a number in each of these.
-fn blocks_in(alloc: Global, words: &[&str]) -> Result<Vec<i32>, Refusal> {
-    let mut blocks = Vec::new(alloc);
+fn blocks_in(case: &Case) -> Result<Vec<i32>, Refusal> {
+    let mut blocks = Vec::new(case.alloc);
     let mut first = 0;
-    for word in words.iter() {
-        if let Some(count) = word.strip_suffix('*') {
-            first = blocks.len();
-            let count = number(count, 1, 4096)? as usize;
-            blocks.resize(first + 64 * count, 0)?;
-        } else if let Some((position, value)) = word.split_once('=') {
-            let position = number(position, 0, 63)? as usize;
-            let value = signed(value, 1 << 27)?;
-            for place in first..blocks.len() {
-                if place % 64 == position {
-                    blocks[place] = value;
-                }
-            }
+    for word in case.data.split_whitespace() {
+        let (position, value) = word.split_once('=').unwrap_or((word, ""));
+        if value.is_empty() {
+            first = add_zeros(&mut blocks, number(position.trim_end_matches('*')))?;
         } else {
-            return Err(Refusal::Words);
+            set_each(&mut blocks, first, number(position), signed(value));
         }
     }
     Ok(blocks)
 }
 
 // Blocks: their rows.
-pub(crate) fn rows(case: &Case) -> Result<String, Refusal> {
-    let frame = frame_in(case)?;
-    let numbers = blocks_in(case.alloc, case.data)?;
+fn rows(case: &Case) -> Result<String, Refusal> {
+    let frame = picture_in(case).frame()?;
+    let numbers = blocks_in(case)?;
     let made = make(case, frame, &numbers)?;
     let rows = Rows {
         numbers: &made.rows,
         width: frame.width as usize,
     };
-    let given = &made.given;
+    let given = Counts(&made.given);
     Ok(format!(in case.alloc; "{given};{rows}")?)
 }
 
-// Returns whether rows are those of an image, from one row to another.
-fn are_same(picture: &Picture, rows: &[i64], from: u32, to: u32) -> bool
-    requires from { from ≤ 2 ^ 11 }
-    requires to { to ≤ 2 ^ 11 }
-{
-    let width = picture.frame.width;
-    for place in from * width..to * width {
-        let pixel = picture.pixel(place / width, place % width);
-        if rows.get(place as usize) != Some(&i64::from(pixel)) {
-            return false;
+// Returns whether rows are those of an image of this width, from one row to another.
+fn are_same(picture: &Picture, made: &Made, from: u32, to: u32) -> bool {
+    for row in from..to {
+        for column in 0..made.width {
+            let place = (row as usize)
+                .wrapping_mul(made.width as usize)
+                .wrapping_add(column as usize);
+            if made.rows.get(place) != Some(&i64::from(picture.pixel(row, column))) {
+                return false;
+            }
         }
     }
     true
 }
 
-// An image: after each block row how many rows there are, and whether they are those of the image, or, if the data have ranges of rows
-// as `FROM-TO`, whether these are.
-pub(crate) fn rows_back(case: &Case) -> Result<String, Refusal> {
-    let picture = picture_in(case)?;
-    let pushed = push_all(case.alloc, &picture)?;
-    let made = make(case, picture.frame, &pushed.numbers)?;
-    let rows = picture.frame.rows;
-    if case.data.is_empty() {
-        let found = word_of(are_same(&picture, &made.rows, 0, rows));
-        return Ok(joined(case.alloc, &made.given, "; ", found)?);
+// After each block row how many rows there are, and whether they are those of an image, or, if there are ranges of rows as `FROM-TO`,
+// whether these are.
+#[derive(Clone, Copy)]
+struct Compared<'a> {
+    picture: &'a Picture,
+    made: &'a Made,
+    rows: u32,
+    ranges: &'a str,
+}
+
+impl fmt::Display for Compared<'_> {
+    fn fmt<W: fmt::Write>(&self, f: &mut fmt::Formatter<W>) -> fmt::Result {
+        write!(f, "{}", Counts(&self.made.given))?;
+        if self.ranges.is_empty() {
+            let found = word_of(are_same(self.picture, self.made, 0, self.rows));
+            return write!(f, "; {found}");
+        }
+        for word in self.ranges.split_whitespace() {
+            let (from, to) = word.split_once('-').unwrap_or(("", ""));
+            let (from, to) = (number(from), number(to));
+            let found = word_of(are_same(self.picture, self.made, from, to));
+            write!(f, "; {found}")?;
+        }
+        Ok(())
     }
-    let mut shown = made.given;
-    for word in case.data.iter() {
-        let (from, to) = word.split_once('-').unwrap_or(("", ""));
-        let (from, to) = (number(from, 0, rows)?, number(to, 0, rows)?);
-        let found = word_of(are_same(&picture, &made.rows, from, to));
-        shown = joined(case.alloc, &shown, "; ", found)?;
+}
+
+// An image: the rows that its blocks give.
+fn rows_back(case: &Case) -> Result<String, Refusal> {
+    let picture = picture_in(case);
+    let frame = picture.frame()?;
+    let pushed = push_all(case.alloc, &picture, frame)?;
+    let made = make(case, frame, &pushed.numbers)?;
+    let compared = Compared {
+        picture: &picture,
+        made: &made,
+        rows: frame.rows,
+        ranges: case.data.trim(),
+    };
+    Ok(format!(in case.alloc; "{compared}")?)
+}
+
+pub(crate) fn answer(case: &Case) -> Result<String, Refusal> {
+    if case.subject() == "strip-rows" {
+        return rows(case);
     }
-    Ok(shown)
+    rows_back(case)
 }

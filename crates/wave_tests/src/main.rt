@@ -10,8 +10,8 @@ mod arrays;
 mod case;
 mod inverses;
 mod kernels;
-mod lanes;
 mod lines;
+mod lists;
 mod pictures;
 mod places;
 mod rings;
@@ -23,37 +23,30 @@ use std::alloc::Global;
 use std::io;
 use std::process::ExitCode;
 
+// Returns the answer to a case on images.
+fn image_answer(case: &Case) -> Result<String, Refusal> {
+    match case.subject() {
+        "pixels" => pictures::pixels(case),
+        "bands" | "bands-back" => arrays::answer(case),
+        "blocks" | "strip" => strips::answer(case),
+        "strip-rows" | "strip-back" => inverses::answer(case),
+        _ => Err(Refusal::Words),
+    }
+}
+
 // Returns the answer to a case.
 fn answer(case: &Case) -> Result<String, Refusal> {
-    match case.subject() {
-        "split" => lines::split(case),
-        "join" => lines::join(case),
-        "join-narrow" => lines::join_narrow(case),
-        "join-widened" => lines::join_widened(case),
-        "mirrored-before" => lines::before(case),
-        "mirrored-after" => lines::after(case),
-        "predict-sub" => kernels::less_predicted(case),
-        "update-sub" => kernels::less_correction(case),
-        "predict-sub-onto" => kernels::less_predicted_onto(case),
-        "update-sub-onto" => kernels::less_correction_onto(case),
-        "predict-add" => kernels::plus_predicted(case),
-        "update-add" => kernels::plus_correction(case),
-        "predict-add-narrow" => kernels::plus_predicted_narrow(case),
-        "predict-add-widened" => kernels::plus_predicted_widened(case),
-        "update-add-narrow" => kernels::plus_correction_narrow(case),
-        "forward-lanes" => lanes::forward(case),
-        "inverse-lanes" => lanes::inverse(case),
-        "rings" => rings::turns(case),
-        "place" => places::place(case),
-        "gather" => places::gather_named(case),
-        "pixels" => pictures::pixels(case),
-        "bands" => arrays::bands(case),
-        "bands-back" => arrays::bands_back(case),
-        "blocks" => strips::blocks(case),
-        "strip" => strips::compare(case),
-        "strip-rows" => inverses::rows(case),
-        "strip-back" => inverses::rows_back(case),
-        _ => Err(Refusal::Words),
+    let subject = case.subject();
+    if subject.starts_with("predict") || subject.starts_with("update") {
+        return kernels::answer(case);
+    }
+    if subject == "split" || subject.starts_with("join") || subject.starts_with("mirrored") {
+        return lines::answer(case);
+    }
+    match subject {
+        "rings" => rings::answer(case),
+        "place" | "gather" => places::answer(case),
+        _ => image_answer(case),
     }
 }
 
@@ -63,14 +56,7 @@ fn answered(alloc: Global, line: &str) -> Result<String, Refusal> {
         return Ok(line.to_string(alloc)?);
     }
     let (words, data) = line.split_once(':').unwrap_or((line, ""));
-    let words = words.split_whitespace().collect::<Vec<&str>>(alloc)?;
-    let data = data.split_whitespace().collect::<Vec<&str>>(alloc)?;
-    let case = Case {
-        alloc,
-        words: words.as_slice(),
-        data: data.as_slice(),
-    };
-    let answer = answer(&case)?;
+    let answer = answer(&Case { alloc, words, data })?;
     Ok(format!(in alloc; "{line} => {answer}")?)
 }
 

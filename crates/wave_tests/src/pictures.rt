@@ -1,17 +1,17 @@
 // Images by formulas, padded.
-ghost use Rattle.std.specs.Prelude.{◌≡◌, ◌≤◌, ◌*◌, ◌/◌, ◌^◌, IfOk, vec_len};
+ghost use Rattle.std.specs.Prelude.{◌≡◌, ◌≤◌, ◌*◌, ◌/◌, ◌^◌, IfOk, IfSome, length, vec_len};
 ghost use Rattle.wave_defs.specs.Within.{AllWithin, EachWithin, IsWithin};
 ghost use Rattle.wave_defs.specs.Held.{signal};
 ghost use Rattle.wave_plain.specs.Images.{HasSize, image_of};
-ghost use Rattle.raster_rows.specs.Pixels.{IsDepth};
 
-use crate::case::{Case, Refusal};
-use crate::shown::List;
+use crate::case::{Case, Refusal, number};
+use crate::lists::{are_wide_within, part};
+use crate::shown::shown_list;
 use raster_rows::{MadeImage, made_pixel};
 use std::alloc::{AllocError, Global};
 use wave_plain::Plane;
 
-// The size of a padded image: multiples of 8.
+// The size of an image: of all of it, with its padding.
 #[derive(Clone, Copy)]
 pub(crate) struct Frame {
     pub width: u32,
@@ -24,55 +24,21 @@ pub(crate) struct Frame {
     ghost rows_short: { rows ≤ 2 ^ 11 },
 }
 
-// A value in some places and 0 in all others: in those of one row, of one column, or of every second column of a row.
+// An image before it is padded: the made image of a depth, or, if the depth is 0, a value in some places and 0 in all others. These are
+// all places, those of one row, of one column, or every second one of these.
 #[derive(Clone, Copy)]
-struct Spot {
+pub(crate) struct Picture {
+    made: MadeImage,
     value: i32,
     row: Option<u32>,
     column: Option<u32>,
     board: bool,
-    ghost small: { IsWithin (2 ^ 16) value },
 }
 
-// The made image.
-#[derive(Clone, Copy)]
-struct Made {
-    image: MadeImage,
-    ghost depth: { IsDepth image.depth },
-}
-
-#[derive(Clone, Copy)]
-enum Paint {
-    Spot(Spot),
-    Made(Made),
-}
-
-// An image and its size before it is padded.
-#[derive(Clone, Copy)]
-pub(crate) struct Picture {
-    pub frame: Frame,
-    width: u32,
-    rows: u32,
-    paint: Paint,
-}
-
-// Returns a side with its padding.
-fn padded(side: u32) -> u32
-    requires some { 17 ≤ side }
-    requires most { side ≤ 2 ^ 11 }
-    ensures whole { result ≡ 8 * (result / 8) }
-    ensures wide { 24 ≤ result }
-    ensures short { result ≤ 2 ^ 11 }
-{
-    (side + 7) / 8 * 8
-}
-
-impl Spot {
-    fn pixel(&self, row: u32, column: u32) -> i32
-        ensures { IsWithin (2 ^ 16) result }
-    {
-        let in_row = self.row.is_none_or(|only| only == row);
-        let in_column = self.column.is_none_or(|only| only == column);
+impl Picture {
+    fn spot(&self, row: u32, column: u32) -> i32 {
+        let in_row = self.row.is_none() || self.row == Some(row);
+        let in_column = self.column.is_none() || self.column == Some(column);
         let in_turn = !self.board || (row ^ column) % 2 == 1;
         if in_row && in_column && in_turn {
             self.value
@@ -80,117 +46,112 @@ impl Spot {
             0
         }
     }
-}
 
-impl Made {
-    fn pixel(&self, row: u32, column: u32) -> i32
-        ensures { IsWithin (2 ^ 16) result }
-    {
-        made_pixel(&self.image, row, column)
-    }
-}
-
-impl Picture {
     // Returns the pixel of the padded image.
-    pub fn pixel(&self, row: u32, column: u32) -> i32
-        ensures { IsWithin (2 ^ 16) result }
-    {
-        let row = row.min(self.rows.saturating_sub(1));
-        let column = column.min(self.width.saturating_sub(1));
-        match &self.paint {
-            Paint::Spot(spot) => spot.pixel(row, column),
-            Paint::Made(made) => made.pixel(row, column),
+    pub fn pixel(&self, row: u32, column: u32) -> i32 {
+        let row = row.min(self.made.rows.saturating_sub(1));
+        let column = column.min(self.made.width.saturating_sub(1));
+        if self.made.depth == 0 || self.made.depth > 16 {
+            return self.spot(row, column);
         }
+        made_pixel(&self.made, row, column)
     }
 
-    // Returns a row of the padded image.
-    pub fn row(&self, alloc: Global, row: u32) -> Result<Vec<i32>, AllocError>
-        ensures len { IfOk result (λ v. vec_len v ≡ self.now.frame.width) }
-        ensures small { IfOk result (λ v. AllWithin (2 ^ 16) self.now.frame.width (signal v.items)) }
-    {
-        let mut pixels = Vec::new(alloc);
-        for column in 0..self.frame.width {
-            pixels.push(self.pixel(row, column))?;
+    // Returns the size of the padded image.
+    pub fn frame(&self) -> Result<Frame, Refusal> {
+        let (width, rows) = (self.made.width, self.made.rows);
+        if width < 17 || width > 2048 || rows < 17 || rows > 2048 {
+            return Err(Refusal::Words);
         }
-        Ok(pixels)
-    }
-
-    // Returns the number at a place of the padded image, whose rows follow each other.
-    fn cell(&self, place: u32) -> i64
-        ensures { IsWithin (2 ^ 16) result }
-    {
-        i64::from(self.pixel(place / self.frame.width, place % self.frame.width))
-    }
-
-    // Returns the padded image.
-    pub fn plane(&self, alloc: Global) -> Result<Plane, AllocError>
-        ensures size { IfOk result (HasSize self.now.frame.rows self.now.frame.width) }
-        ensures small { IfOk result (λ p. EachWithin (2 ^ 16) self.now.frame.rows self.now.frame.width (image_of p)) }
-    {
-        let mut cells = Vec::new(alloc);
-        for place in 0..self.frame.rows * self.frame.width {
-            cells.push(self.cell(place))?;
-        }
-        Ok(Plane {
-            width: self.frame.width,
-            rows: self.frame.rows,
-            cells,
+        Ok(Frame {
+            width: (width + 7) / 8 * 8,
+            rows: (rows + 7) / 8 * 8,
         })
     }
 }
 
-// Returns the size of a case with its padding.
-pub(crate) fn frame_in(case: &Case) -> Result<Frame, Refusal> {
-    Ok(Frame {
-        width: padded(case.named("width", 17, 2048)?),
-        rows: padded(case.named("rows", 17, 2048)?),
-    })
-}
-
-fn made_in(case: &Case, width: u32, rows: u32) -> Result<Made, Refusal> {
-    Ok(Made {
-        image: MadeImage {
-            width,
-            rows,
-            depth: case.named("depth", 1, 16)? as u8,
-            signed: case.has("signed"),
-            seed: case.named("seed", 0, u32::MAX)?,
-        },
-    })
-}
-
-fn spot_in(case: &Case) -> Result<Spot, Refusal> {
-    Ok(Spot {
-        value: case.signed_after("value", 1 << 16)?,
-        row: case.optional("row")?,
-        column: case.optional("column")?,
-        board: case.has("board"),
-    })
-}
-
 // Returns the image of a case: `value` with or without `row`, `column` or `board`, or the made image of a `depth` and a `seed`.
-pub(crate) fn picture_in(case: &Case) -> Result<Picture, Refusal> {
-    let frame = frame_in(case)?;
-    let width = case.named("width", 17, 2048)?;
-    let rows = case.named("rows", 17, 2048)?;
-    let paint = if case.has("seed") {
-        Paint::Made(made_in(case, width, rows)?)
-    } else {
-        Paint::Spot(spot_in(case)?)
-    };
-    Ok(Picture {
-        frame,
-        width,
-        rows,
-        paint,
+pub(crate) fn picture_in(case: &Case) -> Picture {
+    Picture {
+        made: MadeImage {
+            width: case.named("width"),
+            rows: case.named("rows"),
+            depth: case.optional("depth").unwrap_or(0).min(255) as u8,
+            signed: case.has("signed"),
+            seed: case.named("seed"),
+        },
+        value: case.signed_after("value"),
+        row: case.optional("row"),
+        column: case.optional("column"),
+        board: case.has("board"),
+    }
+}
+
+// Returns a row of an image of this width.
+fn row_of(alloc: Global, picture: &Picture, row: u32, width: u32) -> Result<Vec<i32>, AllocError> {
+    let mut pixels = Vec::new(alloc);
+    for column in 0..width {
+        pixels.push(picture.pixel(row, column))?;
+    }
+    Ok(pixels)
+}
+
+// Returns the pixels of an image, whose rows follow each other.
+pub(crate) fn pixels_of(
+    alloc: Global,
+    picture: &Picture,
+    frame: Frame,
+) -> Result<Vec<i32>, AllocError> {
+    let mut pixels = Vec::new(alloc);
+    for row in 0..frame.rows {
+        for column in 0..frame.width {
+            pixels.push(picture.pixel(row, column))?;
+        }
+    }
+    Ok(pixels)
+}
+
+// Returns a row of such pixels, if it is small.
+pub(crate) fn row_in(pixels: &[i32], frame: Frame, row: u32) -> Option<&[i32]>
+    ensures len { IfSome result (λ pixels. length pixels.now ≡ frame.width) }
+    ensures small { IfSome result (λ pixels. AllWithin (2 ^ 16) frame.width (signal pixels.now)) }
+{
+    part(pixels, row as usize, frame.width as usize, 1 << 16)
+}
+
+// Returns the numbers of an image, whose rows follow each other.
+fn cells_of(alloc: Global, picture: &Picture, frame: Frame) -> Result<Vec<i64>, AllocError> {
+    let mut cells = Vec::new(alloc);
+    for row in 0..frame.rows {
+        for column in 0..frame.width {
+            cells.push(i64::from(picture.pixel(row, column)))?;
+        }
+    }
+    Ok(cells)
+}
+
+// Returns the padded image, if its numbers are small.
+pub(crate) fn plane_of(alloc: Global, picture: &Picture, frame: Frame) -> Result<Plane, Refusal>
+    ensures size { IfOk result (HasSize frame.rows frame.width) }
+    ensures small { IfOk result (λ p. EachWithin (2 ^ 16) frame.rows frame.width (image_of p)) }
+{
+    let cells = cells_of(alloc, picture, frame)?;
+    if cells.len() != frame.rows as usize * frame.width as usize
+        || !are_wide_within(&cells, 1 << 16)
+    {
+        return Err(Refusal::Words);
+    }
+    Ok(Plane {
+        width: frame.width,
+        rows: frame.rows,
+        cells,
     })
 }
 
 // An image and the number of a row as data: the pixels of that row.
 pub(crate) fn pixels(case: &Case) -> Result<String, Refusal> {
-    let picture = picture_in(case)?;
-    let row = crate::case::number(case.datum(0)?, 0, 4095)?;
-    let pixels = picture.row(case.alloc, row)?;
-    let pixels = List(&pixels);
-    Ok(format!(in case.alloc; "{pixels}")?)
+    let picture = picture_in(case);
+    let frame = picture.frame()?;
+    let pixels = row_of(case.alloc, &picture, number(case.datum(0)), frame.width)?;
+    shown_list(case.alloc, Some(pixels.as_slice()))
 }

@@ -1,10 +1,10 @@
 // Places of the numbers of a block, and blocks that are gathered from bands whose numbers are their places.
-ghost use Rattle.std.specs.Prelude.{◌≡◌, ◌≤◌, ◌+◌, ◌*◌, ℕ, pos, true, slice_index_or, unsigned_abs};
+ghost use Rattle.std.specs.Prelude.{◌≡◌, ◌<◌, ◌≤◌, ◌+◌, ◌*◌, ℕ, pos, true, slice_index_or, unsigned_abs};
 ghost use Rattle.base_122.specs.Weights.{band_place};
 ghost use Rattle.wave_defs.specs.Blocks.{block_side};
 
 use crate::case::{Case, Refusal};
-use crate::shown::List;
+use crate::shown::shown_list;
 use base_122::{Band, Weights};
 use block_families::{BandRows, BandSource, Place, gather, place_of};
 
@@ -57,19 +57,31 @@ fn each_named() -> Named
 }
 
 // The place of the number at a `position` of the block in a `column`.
-pub(crate) fn place(case: &Case) -> Result<String, Refusal> {
-    let position = case.named("position", 0, 63)? as u8;
-    let column = case.named("column", 0, (1 << 17) - 1)?;
-    let place = place_of(position, column);
+fn place(case: &Case) -> Result<String, Refusal> {
+    let (position, column) = (case.named("position"), case.named("column"));
+    if position >= 64 || column >= 1 << 17 {
+        return Err(Refusal::Words);
+    }
+    let place = place_of(position as u8, column);
     let (band, row, column) = (place.band, place.row, place.column);
     Ok(format!(in case.alloc; "{band:?} {row} {column}")?)
 }
 
-// The block in a `column` of bands whose numbers are 40 times that of their band, 8 times that of their row and that of their column.
-pub(crate) fn gather_named(case: &Case) -> Result<String, Refusal> {
-    let column = case.named("column", 0, 1)?;
+// Gathers the block in a column of the named bands.
+fn gather_named(column: u32) -> [i32; 64]
+    requires { column < 2 }
+{
     let mut block = [0; 64];
     gather(&each_named(), column, &Weights::usual(), &mut block);
-    let block = List(&block);
-    Ok(format!(in case.alloc; "{block}")?)
+    block
+}
+
+// A `position`: its place. Or the block in a `column` of bands whose numbers are 40 times that of their band, 8 times that of their row
+// and that of their column.
+pub(crate) fn answer(case: &Case) -> Result<String, Refusal> {
+    if case.subject() == "place" {
+        return place(case);
+    }
+    let block = gather_named(case.named("column").min(1));
+    shown_list(case.alloc, Some(&block[..]))
 }

@@ -1,21 +1,7 @@
 // How lists, rows and blocks are written.
-ghost use Rattle.std.specs.Prelude.{◌≡◌, ◌≤◌, ◌<◌, ◌*◌, ◌+◌, length};
-
-use std::alloc::{AllocError, Global};
+use crate::case::Refusal;
+use std::alloc::Global;
 use std::fmt;
-
-// Returns a text with a word after it, and a gap between them if the text has any.
-pub(crate) fn joined<T: fmt::Display + Drop>(
-    alloc: Global,
-    text: &str,
-    gap: &str,
-    word: T,
-) -> Result<String, AllocError> {
-    if text.is_empty() {
-        return Ok(format!(in alloc; "{word}")?);
-    }
-    Ok(format!(in alloc; "{text}{gap}{word}")?)
-}
 
 // Returns whether what was compared is the same, in a word.
 pub(crate) fn word_of(is_same: bool) -> &'static str {
@@ -38,130 +24,139 @@ impl<T: fmt::Display> fmt::Display for List<'_, T> {
     }
 }
 
-// Rows of this width, as runs of rows that are the same: how many there are, and in brackets the runs of numbers that are the same.
+// Numbers with blanks between them.
+#[derive(Clone, Copy)]
+pub(crate) struct Counts<'a>(pub &'a [usize]);
+
+impl fmt::Display for Counts<'_> {
+    fn fmt<W: fmt::Write>(&self, f: &mut fmt::Formatter<W>) -> fmt::Result {
+        let mut gap = "";
+        for count in self.0.iter() {
+            write!(f, "{gap}{count}")?;
+            gap = " ";
+        }
+        Ok(())
+    }
+}
+
+// Returns a list as it is written, if there is one.
+pub(crate) fn shown_list<T: fmt::Display>(
+    alloc: Global,
+    list: Option<&[T]>,
+) -> Result<String, Refusal> {
+    match list {
+        Some(list) => Ok(format!(in alloc; "{}", List(list))?),
+        None => Err(Refusal::Words),
+    }
+}
+
+// Numbers that are the same: how many there are, if there are more than one, and the number.
+#[derive(Clone, Copy)]
+struct Repeated {
+    count: usize,
+    number: i64,
+}
+
+impl fmt::Display for Repeated {
+    fn fmt<W: fmt::Write>(&self, f: &mut fmt::Formatter<W>) -> fmt::Result {
+        if self.count > 1 {
+            write!(f, "{}*", self.count)?;
+        }
+        write!(f, "{}", self.number)
+    }
+}
+
+// Rows that are the same: how many there are, and in brackets the runs of numbers that are the same.
+#[derive(Clone, Copy)]
+struct SameRows<'a> {
+    count: usize,
+    row: &'a [i64],
+}
+
+impl fmt::Display for SameRows<'_> {
+    fn fmt<W: fmt::Write>(&self, f: &mut fmt::Formatter<W>) -> fmt::Result {
+        let Some(first) = self.row.first() else {
+            return Ok(());
+        };
+        write!(f, " {}*[", self.count)?;
+        let mut run = Repeated {
+            count: 0,
+            number: *first,
+        };
+        for number in self.row.iter() {
+            if *number != run.number {
+                write!(f, "{run} ")?;
+                run = Repeated {
+                    count: 0,
+                    number: *number,
+                };
+            }
+            run.count = run.count.wrapping_add(1);
+        }
+        write!(f, "{run}]")
+    }
+}
+
+// Rows of this width, as runs of rows that are the same.
 #[derive(Clone, Copy)]
 pub(crate) struct Rows<'a> {
     pub numbers: &'a [i64],
     pub width: usize,
 }
 
-// Returns how many numbers the first of these is there, one after the other.
-fn run_of(numbers: &[i64]) -> usize
-    requires { 1 ≤ length numbers.now }
-    ensures some { 1 ≤ result }
-    ensures within { result ≤ length numbers.now }
-{
-    for place in 1..numbers.len() {
-        if numbers[place] != numbers[0] {
-            return place;
-        }
-    }
-    numbers.len()
-}
-
-// Returns what is left of rows after those that are as the first one.
-fn after_same(numbers: &[i64], width: usize) -> &[i64]
-    requires { width ≤ length numbers.now }
-    ensures { length result.now ≤ length numbers.now }
-{
-    let mut rest = numbers;
-    for _ in 0..numbers.len() {
-        match rest.get(..width) {
-            Some(row) if row == &numbers[..width] => {}
-            _ => break,
-        }
-        let Some(others) = rest.get(width..) else {
-            break;
-        };
-        rest = others;
-    }
-    rest
-}
-
-// A row, as runs of numbers that are the same.
-#[derive(Clone, Copy)]
-struct Row<'a>(pub &'a [i64]);
-
-impl fmt::Display for Row<'_> {
-    fn fmt<W: fmt::Write>(&self, f: &mut fmt::Formatter<W>) -> fmt::Result {
-        let mut rest = self.0;
-        for _ in 0..self.0.len() {
-            if rest.is_empty() {
-                break;
-            }
-            let (number, run) = (rest[0], run_of(rest));
-            if rest.len() < self.0.len() {
-                write!(f, " ")?;
-            }
-            if run > 1 {
-                write!(f, "{run}*")?;
-            }
-            write!(f, "{number}")?;
-            let Some(others) = rest.get(run..) else {
-                break;
-            };
-            rest = others;
-        }
-        Ok(())
-    }
-}
-
 impl fmt::Display for Rows<'_> {
     fn fmt<W: fmt::Write>(&self, f: &mut fmt::Formatter<W>) -> fmt::Result {
-        let mut rest = self.numbers;
-        for _ in 0..self.numbers.len() {
-            if self.width == 0 || rest.len() < self.width {
-                break;
+        let mut run = SameRows { count: 0, row: &[] };
+        for row in self.numbers.chunks_exact(self.width.max(1)) {
+            if row != run.row {
+                write!(f, "{run}")?;
+                run = SameRows { count: 0, row };
             }
-            let others = after_same(rest, self.width);
-            let run = (rest.len() - others.len()) / self.width;
-            let row = Row(&rest[..self.width]);
-            write!(f, " {run}*[{row}]")?;
-            rest = others;
+            run.count = run.count.wrapping_add(1);
+        }
+        write!(f, "{run}")
+    }
+}
+
+// Blocks that are the same, 64 numbers: how many there are, and the numbers other than 0 with their positions.
+#[derive(Clone, Copy)]
+struct Run<'a> {
+    count: usize,
+    numbers: &'a [i32],
+}
+
+impl fmt::Display for Run<'_> {
+    fn fmt<W: fmt::Write>(&self, f: &mut fmt::Formatter<W>) -> fmt::Result {
+        if self.count == 0 {
+            return Ok(());
+        }
+        write!(f, " {}*", self.count)?;
+        for (position, number) in self.numbers.iter().enumerate() {
+            if *number != 0 {
+                write!(f, " {position}={number}")?;
+            }
         }
         Ok(())
     }
 }
 
-// The numbers of blocks: for each run of blocks that are the same how many there are, and the numbers other than 0 with their positions.
+// The numbers of blocks, as runs of blocks that are the same.
 #[derive(Clone, Copy)]
 pub(crate) struct Blocks<'a>(pub &'a [i32]);
 
-// Returns how many numbers the first blocks have that are the same.
-fn same_blocks(numbers: &[i32]) -> usize
-    requires { 64 ≤ length numbers.now }
-    ensures some { 64 ≤ result }
-    ensures within { result ≤ length numbers.now }
-{
-    for block in 1..numbers.len() / 64 {
-        if numbers[64 * block..64 * block + 64] != numbers[..64] {
-            return 64 * block;
-        }
-    }
-    numbers.len() / 64 * 64
-}
-
 impl fmt::Display for Blocks<'_> {
     fn fmt<W: fmt::Write>(&self, f: &mut fmt::Formatter<W>) -> fmt::Result {
-        let mut numbers = self.0;
-        for _ in 0..self.0.len() / 64 {
-            if numbers.len() < 64 {
-                break;
+        let mut run = Run {
+            count: 0,
+            numbers: &[],
+        };
+        for numbers in self.0.chunks_exact(64) {
+            if numbers != run.numbers {
+                write!(f, "{run}")?;
+                run = Run { count: 0, numbers };
             }
-            let run = same_blocks(numbers);
-            let count = run / 64;
-            write!(f, " {count}*")?;
-            for position in 0..64 {
-                let number = numbers[position];
-                if number != 0 {
-                    write!(f, " {position}={number}")?;
-                }
-            }
-            let Some(rest) = numbers.get(run..) else {
-                break;
-            };
-            numbers = rest;
+            run.count = run.count.wrapping_add(1);
         }
-        Ok(())
+        write!(f, "{run}")
     }
 }

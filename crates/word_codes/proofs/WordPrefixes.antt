@@ -1,20 +1,24 @@
 -- The codes of an option, by the octets that begin with them.
 use Rattle.std.proofs.Common.{◌≡◌, ℕ, zero, suc, ◌+◌, ◌-◌, ◌*◌, ◌/◌, ◌%◌, ◌^◌, ◌<◌, ◌≤◌, Bool, true, List, [], ◌∷◌, ◌++◌, length, take, get_or, refl, sym}
 use Rattle.std.proofs.Common.{ap, ◌∙◌, arith, append_assoc, length-append, inl, inr, subst, take_at, mul-le-mul_right}
-use Rattle.std.proofs.lemmas.Bool.{cases_lt}
+use Rattle.std.proofs.Common.{Option, Result}
 use Rattle.std.proofs.lemmas.Nat.{shr_split, shr_high, mod_below, pow_pos, shr_below, one_shl, pow-add}
 use Rattle.item_defs.specs.Bits.{bits_of}
-use Rattle.item_defs.specs.Items.{fixed, coded, spelling, item_bits}
+use Rattle.item_defs.specs.Items.{coded, spelling, item_bits, plain}
 use Rattle.item_defs.specs.Readings.{Lacks}
 use Rattle.item_defs.proofs.NumberBits.{length-bits_of, bits_of-split, same_number}
 use Rattle.bit_pipe.specs.declared.prefix.Prefix.{Prefix}
+use Rattle.bit_pipe.specs.Answers.{IsBelow, TakesOne}
+use Rattle.bit_pipe.specs.Sources.{SourceOf}
+use Rattle.bit_pipe.specs.SourceState.{SourceState}
+use Rattle.bit_pipe.specs.declared.fault.TextFault.{TextFault}
 use Rattle.bit_pipe.specs.Prefixes.{prefix_at, first_bits, Reports}
 use Rattle.base_122.specs.declared.book.Code.{Code}
 use Rattle.base_122.specs.declared.book.Book.{Book}
 use Rattle.plane_defs.specs.Codes.{symbol, table, table_place, is_book_sound, code_at, code_bits, codes_of, word_item}
 use Rattle.plane_defs.proofs.Tables.{sound_table}
 use Rattle.plane_defs.proofs.ReadOnce.{begins, code_there, words}
-use Rattle.word_codes.specs.WordPrefixes.{Begins, PrefixOf, ArePrefixes, ArePlain, row_place}
+use Rattle.word_codes.specs.WordPrefixes.{Begins, PrefixOf, ArePrefixes, IsFirst}
 use Rattle.word_codes.specs.declared.tables.WordTables.{WordTables}
 use Rattle.word_codes.proofs.CodeSearch.{past_prefix, code_length, said_below, below_said}
 use Rattle.word_codes.proofs.Words.{is_plain, is_coded}
@@ -164,39 +168,33 @@ module _ (book : Book) (n option : ℕ) (sound : is_book_sound book ≡ true) (l
 
 -- ---- words that are sent as they are
 
-pub reports_plain : (book : Book) (n option : ℕ) → option + 1 ≡ n → n ≤ 4 → (prefixes : List Prefix) → ArePlain n prefixes →
-    Reports (2 ^ n) (word_item book n option) prefixes
-reports_plain book n option e high prefixes all = record {
-  shape = fixed n;
-  same = λ w. rw (is_plain n option e) refl;
-  known = λ octet small. rw (all octet small) (below octet small);
-  said = λ octet small. rw (is_plain n option e) (rw (all octet small) (below octet small));
-  few = λ octet small. rw (all octet small) (omega arith);
-  first = λ octet small. rw (is_plain n option e) (rw (all octet small) refl);
-  lacks = λ octet count small less m more said eq.
-      let len : (prefix_at prefixes octet).len ≡ n = ap (λ f. f.len) (all octet small) in
-      absurd (omega (arith, less, len, ap length eq, length-append (bits_of n m) more, length-bits_of n m, length-bits_of count (octet / 2 ^ (8 - count))));
+pub first_plain : (book : Book) (n option octet : ℕ) → n ≤ 4 → (1 ≤ n → option + 1 ≡ n) → octet < 256 →
+    IsFirst book n option octet (record { number = octet / 2 ^ (8 - n); len = n })
+first_plain book n option octet high last small = record {
+  known = shr_below octet n (8 - n) (let whole : n + (8 - n) ≡ 8 = omega arith in rw whole small);
+  few = omega arith;
+  none = λ e. e;
+  first = λ some. rw (is_plain n option (last some)) refl;
 }
-  where
-    below : (octet : ℕ) → octet < 256 → octet / 2 ^ (8 - n) < 2 ^ n
-    below octet small =
-        let whole : n + (8 - n) ≡ 8 = omega arith in
-        shr_below octet n (8 - n) (rw whole small)
+
+pub takes_plain : {I : Type 0} {k : SourceOf I} (book : Book) (n option : ℕ) {result : Result (Option ℕ) TextFault} {a b : SourceState I} → option + 1 ≡ n →
+    TakesOne k (IsBelow (2 ^ n)) (plain n) result a b → TakesOne k (IsBelow (2 ^ n)) (word_item book n option) result a b
+takes_plain book n option e t = record { value = t.value; known = t.known; ending = t.ending; read = rw (is_plain n option e) t.read; answer = t.answer }
 
 -- ---- all options
 
 abbrev Row : Book → ℕ → ℕ → List Prefix → Type 0
 Row book n option row = ArePrefixes book n option row
 
-module _ (book : Book) (z y a b c d e f g h i : List Prefix) where
+module _ (book : Book) (a c d f g h : List Prefix) where
   abbrev rows : List (List Prefix)
-  rows = z ∷ y ∷ a ∷ b ∷ c ∷ d ∷ e ∷ f ∷ g ∷ h ∷ i ∷ []
+  rows = a ∷ c ∷ d ∷ f ∷ g ∷ h ∷ []
 
   pub all_known : Row book 2 0 a → Row book 3 0 c → Row book 3 1 d → Row book 4 0 f → Row book 4 1 g → Row book 4 2 h → (n option : ℕ) → 2 ≤ n → n ≤ 4 →
-      option + 1 < n → Row book n option (get_or rows (row_place n option) [])
+      option + 1 < n → Row book n option (get_or rows (table_place n option) [])
   all_known ta tc td tf tg th = each
     where
-      each : (n option : ℕ) → 2 ≤ n → n ≤ 4 → option + 1 < n → Row book n option (get_or rows (row_place n option) [])
+      each : (n option : ℕ) → 2 ≤ n → n ≤ 4 → option + 1 < n → Row book n option (get_or rows (table_place n option) [])
       each zero option low high lt = absurd (omega arith)
       each (suc zero) option low high lt = absurd (omega arith)
       each (suc (suc zero)) zero low high lt = ta
@@ -210,51 +208,18 @@ module _ (book : Book) (z y a b c d e f g h i : List Prefix) where
       each (suc (suc (suc (suc zero)))) (suc (suc (suc option))) low high lt = absurd (omega arith)
       each (suc (suc (suc (suc (suc n))))) option low high lt = absurd (omega arith)
 
-  pub all_plain : ArePlain 0 z → ArePlain 1 y → ArePlain 2 b → ArePlain 3 e → ArePlain 4 i → (n : ℕ) → n ≤ 4 → ArePlain n (get_or rows (row_place n (n - 1)) [])
-  all_plain tz ty tb te ti = each
-    where
-      each : (n : ℕ) → n ≤ 4 → ArePlain n (get_or rows (row_place n (n - 1)) [])
-      each zero high = tz
-      each (suc zero) high = ty
-      each (suc (suc zero)) high = tb
-      each (suc (suc (suc zero))) high = te
-      each (suc (suc (suc (suc zero)))) high = ti
-      each (suc (suc (suc (suc (suc n))))) high = absurd (omega arith)
-
 -- the table of an option has its words
-pub row_reports : (t : WordTables) (n option : ℕ) → 1 ≤ n → n ≤ 4 → option < n →
-    Reports (2 ^ n) (word_item t.book n option) (get_or t.rows (row_place n option) [])
-row_reports t n option low high known = elim (cases_lt (option + 1) n) [
-  | inl coded_one ↦ reports_words t.book n option t.sound (omega (arith, coded_one)) high coded_one _
-      (t.if_known n option (omega (arith, coded_one)) high coded_one)
-  | inr most ↦
-      let last : option + 1 ≡ n = omega (arith, most, known) in
-      let there : n - 1 ≡ option = omega (arith, last) in
-      reports_plain t.book n option last high _ (subst (λ o. ArePlain n (get_or t.rows (row_place n o) [])) there (t.plain n high))
-]
+pub row_reports : (t : WordTables) (n option : ℕ) → 2 ≤ n → n ≤ 4 → option + 1 < n →
+    Reports (2 ^ n) (word_item t.book n option) (get_or t.rows (table_place n option) [])
+row_reports t n option low high coded_one = reports_words t.book n option t.sound low high coded_one _ (t.if_known n option low high coded_one)
 
--- what is first in an octet, of words of at most four bits
-pub record IsFirst (book : Book) (n option octet : ℕ) (prefix : Prefix) : Type 0 where
-  pub known : prefix.number < 2 ^ n
-  pub few : prefix.len ≤ 8
-  pub none : n ≡ 0 → prefix.len ≡ 0
-  pub first : 1 ≤ n → item_bits (word_item book n option prefix.number) ≡ first_bits prefix.len octet
-
-first_at : (t : WordTables) (n option octet : ℕ) → n ≤ 4 → (n ≡ 0 → option ≡ 0) → (1 ≤ n → option < n) → octet < 256 →
-    IsFirst t.book n option octet (prefix_at (get_or t.rows (row_place n option) []) octet)
-first_at t zero option octet high none known small =
-    let plain : prefix_at (get_or t.rows (row_place 0 0) []) octet ≡ record { number = octet / 2 ^ 8; len = 0 } = t.plain 0 high octet small in
-    rw (none refl, plain) (record { known = omega (arith, small); few = omega arith; none = λ e. refl; first = λ some. absurd (omega (arith, some)) })
-first_at t (suc m) option octet high none known small =
-    let reports = row_reports t (suc m) option (omega arith) high (known (omega arith)) in
+pub first_coded : (t : WordTables) (n option octet : ℕ) → 2 ≤ n → n ≤ 4 → option + 1 < n → octet < 256 →
+    IsFirst t.book n option octet (prefix_at (get_or t.rows (table_place n option) []) octet)
+first_coded t n option octet low high coded_one small =
+    let reports = row_reports t n option low high coded_one in
     record {
       known = reports.known octet small;
       few = reports.few octet small;
-      none = λ e. absurd (omega (arith, e));
-      first =
-          λ some. reports.first octet small;
+      none = λ e. absurd (omega (arith, e, low));
+      first = λ some. reports.first octet small;
     }
-
-pub row_first : (t : WordTables) (n option row window : ℕ) → row ≡ row_place n option → n ≤ 4 → (n ≡ 0 → option ≡ 0) → (1 ≤ n → option < n) →
-    window < 2 ^ 64 → IsFirst t.book n option (window / 2 ^ 56) (prefix_at (get_or t.rows row []) (window / 2 ^ 56))
-row_first t n option row window e high none known fits = rw e (first_at t n option (window / 2 ^ 56) high none known (omega (arith, fits)))

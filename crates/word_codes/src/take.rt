@@ -4,12 +4,13 @@ ghost use Rattle.std.specs.Prelude.{◌≡◌, ◌≤◌, ◌<◌, ◌+◌, ◌^
 ghost use Rattle.bit_pipe.specs.SourceState.{source_state, IsIn};
 ghost use Rattle.bit_pipe.specs.Answers.{IsBelow, TakesOne};
 ghost use Rattle.bit_pipe.specs.Windows.{first_of};
-ghost use Rattle.item_defs.specs.Items.{item_bits};
+ghost use Rattle.item_defs.specs.Items.{item_bits, plain};
+ghost use Rattle.word_codes.specs.WordPrefixes.{IsFirst};
 ghost use Rattle.plane_defs.specs.Codes.{is_book_sound, word_item, identifier_width, identifier_number, names_option, option_item};
 
-use crate::tables::{WordTables, row_at};
+use crate::tables::WordTables;
 use base_122::Book;
-use bit_pipe::{BitIn, OctetIn, TextFault};
+use bit_pipe::{BitIn, OctetIn, Prefix, TextFault};
 
 // Returns the number of bits of an identifier.
 fn identifier_bits(length: u8) -> u8
@@ -59,6 +60,19 @@ pub fn take_option<I: OctetIn>(input: &mut BitIn<I>, length: u8) -> Result<Optio
     }
 }
 
+// Reads a word that is sent as it is.
+#[inline(always)]
+fn take_plain<I: OctetIn>(input: &mut BitIn<I>, length: u8) -> Result<Option<u8>, TextFault>
+    requires open { IsIn (source_state input.old) }
+    requires long { length ≤ 4 }
+    ensures { TakesOne I.source (IsBelow (2 ^ length)) (plain length) result (source_state input.old) (source_state input.new) }
+{
+    let Some(word) = input.take_bits(length)? else {
+        return Ok(None);
+    };
+    Ok(Some(word as u8))
+}
+
 /// Reads the code of a word of 2 to 4 bits by an option of its length, and returns the word, highest bit first
 /// (docs/formats.md, "Words and codes"). No bits are refused. Returns none if the input or the bound ends
 /// before the code is whole.
@@ -81,7 +95,10 @@ pub fn take_word_by<I: OctetIn>(
     requires known { option < length }
     ensures { TakesOne I.source (IsBelow (2 ^ length)) (word_item tables.now.book length option) result (source_state input.old) (source_state input.new) }
 {
-    input.take_prefix(&tables.rows[row_at(length, option)])
+    if option + 1 == length {
+        return take_plain(input, length);
+    }
+    input.take_prefix(tables.row(length, option))
 }
 
 /// The word that is first in a window: its bits, the highest first, the number of bits of its code, and this number with that of the
@@ -91,6 +108,24 @@ pub struct FirstWord {
     pub number: u8,
     pub len: u8,
     pub signed_len: u8,
+}
+
+// Returns the word of at most 4 bits whose code is first in an octet.
+#[inline(always)]
+fn first_prefix(tables: &WordTables, option: u8, length: u8, octet: usize) -> Prefix
+    requires long { length ≤ 4 }
+    requires none { length ≡ 0 → option ≡ 0 }
+    requires known { 1 ≤ length → option < length }
+    requires octet { octet < 256 }
+    ensures { IsFirst tables.now.book length option octet result }
+{
+    if option + 1 < length {
+        return tables.row(length, option)[octet];
+    }
+    Prefix {
+        number: (octet >> (8 - length)) as u8,
+        len: length,
+    }
 }
 
 /// Returns the word of at most 4 bits whose code is first in a window of the next bits, the first highest (docs/formats.md, "Words and
@@ -108,13 +143,11 @@ pub fn first_word(tables: &WordTables, option: u8, length: u8, window: u64) -> F
     ensures first { 1 ≤ length → item_bits (word_item tables.now.book length option result.number) ≡ first_of result.len window }
     ensures signed_len { result.signed_len ≡ result.len + count_ones result.number }
 {
-    let row = row_at(length, option);
-    let octet = (window >> 56) as usize;
-    let prefix = tables.rows[row][octet];
+    let prefix = first_prefix(tables, option, length, (window >> 56) as usize);
     FirstWord {
         number: prefix.number,
         len: prefix.len,
-        signed_len: tables.signed_lens[row][octet],
+        signed_len: prefix.len + prefix.number.count_ones() as u8,
     }
 }
 

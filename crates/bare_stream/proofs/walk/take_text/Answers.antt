@@ -18,7 +18,7 @@ returns-in-Ok-clause-parts g c =
     let same : length new ≡ vec_len c.args.walk.now.room.blocks = search rules in
     let long : 64 * read.head.blocks ≤ length new = omega (arith, same, c.requires.blocks) in
     subst (λ l. AreParts l read.head.blocks read.head.image.weights.shifts) (sym (with_items_is c.args.walk.now.room.blocks new same))
-    (items_weighted c.texts_give_parts.ensures (book_in c.args.walk.now) c.args.walk.now.room.reader.reader.tables.words.sound read.head read.size
+    (items_weighted c.texts_give_parts.ensures (book_in c.args.walk.now) c.args.walk.now.room.reader.reader.tables.value.words.sound read.head read.size
     c.in-Ok.ensures.items.octets new c.in-Ok.field-0 c.requires.next.fits c.in-Ok.ensures.items.ends long)
 
 pub returns-in-Ok-clause-run : goal.returns-in-Ok-clause-run

@@ -2,13 +2,13 @@ use Rattle.std.proofs.Common.{◌≡◌, ◌<◌, ◌≤◌, ◌∙◌, ap, ℕ,
 use Rattle.base_122.specs.Weights.{band_place}
 use Rattle.block_families.specs.Gathering.{run_at}
 use Rattle.block_families.proofs.Filling.{each_on, each_as}
-use Rattle.block_families.proofs.Passing.{shift_small}
+use Rattle.base_122.proofs.ShiftLaws.{shift_low}
 use Rattle.block_families.proofs.Squares.{top_at}
 use Rattle.block_families.proofs.gathering.gather_tops.Goals as goal
 
 pub put_tops-requires-clause-shift : goal.put_tops-requires-clause-shift
 put_tops-requires-clause-shift g c =
-    rw c.shift-shift.ensures (shift_small c.args.weights.now.shifts (band_place c.top_band-band.result) c.requires.ready.shifts)
+    rw c.shift-shift.ensures (shift_low c.args.weights.now.shifts (band_place c.top_band-band.result) c.requires.ready.shifts)
 
 pub put_tops-requires-clause-fits : goal.put_tops-requires-clause-fits
 put_tops-requires-clause-fits g c k few =

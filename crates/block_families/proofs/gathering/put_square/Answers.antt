@@ -4,5 +4,6 @@ use Rattle.block_families.proofs.gathering.put_square.Goals as goal
 
 pub returns : goal.returns
 returns c =
-    square_put c.args.upper.now c.args.lower.now c.args.start c.args.shift c.args.at c.args.into.now _ _ _ _ c.requires.room (search rules) (search rules)
+    square_put c.args.upper.now c.args.lower.now c.args.place.start c.args.place.shift c.args.place.at c.args.into.now _ _ _ _ c.requires.room (search
+    rules) (search rules)
     (search rules) (search rules)

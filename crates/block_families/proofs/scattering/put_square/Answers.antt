@@ -2,13 +2,13 @@ use Rattle.std.proofs.Common.{◌≡◌, ℕ, ◌+◌, ◌*◌, ◌<◌, pos, �
 use Rattle.base_122.specs.Weights.{band_place}
 use Rattle.wave_defs.specs.Blocks.{Place, weight_at}
 use Rattle.block_families.specs.Places.{named}
-use Rattle.block_families.proofs.Passing.{shift_small}
+use Rattle.base_122.proofs.ShiftLaws.{shift_low}
 use Rattle.block_families.proofs.PutBack.{part_of, part_small, part_whole, square_rows, square_inside, puts_square}
 use Rattle.block_families.proofs.scattering.put_square.Goals as goal
 
 pub unweighted_square-numbers-requires-clause-shift : goal.unweighted_square-numbers-requires-clause-shift
 unweighted_square-numbers-requires-clause-shift g c =
-    rw c.shift-shift.ensures (shift_small c.args.weights.now.shifts (band_place c.square_of-place.result.band) c.requires.ready.shifts)
+    rw c.shift-shift.ensures (shift_low c.args.weights.now.shifts (band_place c.square_of-place.result.band) c.requires.ready.shifts)
 
 pub set_square-requires-clause-rows : goal.set_square-requires-clause-rows
 set_square-requires-clause-rows g c =

@@ -2,14 +2,14 @@ use Rattle.std.proofs.Common.{rules, ◌≡◌, ◌+◌, ◌^◌, ◌<◌, ap, �
 use Rattle.std.proofs.lemmas.Int.{to_z-of_z}
 use Rattle.base_122.specs.Weights.{band_place}
 use Rattle.wave_defs.specs.Line.{floor_div}
-use Rattle.block_families.proofs.Passing.{shift_small}
+use Rattle.base_122.proofs.ShiftLaws.{shift_low}
 use Rattle.block_families.proofs.Placing.{place_within}
 use Rattle.block_families.proofs.PutBack.{part_of, part_small, part_whole, puts_on, puts_one}
 use Rattle.block_families.proofs.Squares.{top_is}
 use Rattle.block_families.proofs.scattering.scatter_tops.Goals as goal
 
 pub unweighted-number-requires : goal.unweighted-number-requires
-unweighted-number-requires g c = rw c.shift.ensures (shift_small c.args.weights.now.shifts (band_place c.top_band-band.result) c.requires.ready.shifts)
+unweighted-number-requires g c = rw c.shift.ensures (shift_low c.args.weights.now.shifts (band_place c.top_band-band.result) c.requires.ready.shifts)
 
 pub set-requires-clause-within : goal.set-requires-clause-within
 set-requires-clause-within g c =

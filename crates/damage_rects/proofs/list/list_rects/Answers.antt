@@ -29,8 +29,8 @@ returns-in-Ok-give_rects g c =
     c.in-Ok.walked c.deref.result.now c.give_rects.result
     (ap is_ok c.in-Ok-give_rects.is) c.in-Ok.ensures (subst (AllGaps c.in-Ok.walked) (sym c.deref.ensures.value) c.in-Some.ensures) c.give_rects.ensures
 
-pub returns : goal.returns
-returns g c =
+pub returns-in-Err-give_rects : goal.returns-in-Err-give_rects
+returns-in-Err-give_rects g c =
     list_cut c.args.wish.now (g.X.Port.outside c.args.port.now) (g.X.Port.outside c.walk_segments.new.port) (g.X.Port.outside c.give_rects.new.port)
     c.in-Ok.walked c.deref.result.now c.give_rects.result
     (ap is_err c.in-Err-give_rects.is) c.in-Ok.ensures (subst (AllGaps c.in-Ok.walked) (sym c.deref.ensures.value) c.in-Some.ensures) c.give_rects.ensures

@@ -32,19 +32,22 @@ pub lanes-preserved : goal.lanes-preserved
 lanes-preserved c =
     let n = length c.args.high.now in
     let i = 8 * c.lanes.k in
-    let f = less_predicted (signal c.args.odd.now) (signal c.args.a.now) (signal c.args.b.now) (signal c.args.c.now) (signal c.args.d.now) in
+    let f = less_predicted (signal c.args.odd.now) (signal c.args.evens.second_before.now) (signal c.args.evens.before.now) (signal c.args.evens.after.now)
+    (signal c.args.evens.second_after.now) in
     let many = c.high_lanes-lanes.ensures.long in
     let long = length-passed w32 c.high_lanes-lanes.result in
     let room : i + 8 ≤ n = omega arith in
     let same = λ (r : ℕ) (h : r < 8).
-    less_predicted-same r (i + r) _ _ _ _ _ (signal c.args.odd.now) (signal c.args.a.now) (signal c.args.b.now) (signal c.args.c.now) (signal c.args.d.now)
+    less_predicted-same r (i + r) _ _ _ _ _ (signal c.args.odd.now) (signal c.args.evens.second_before.now) (signal c.args.evens.before.now) (signal
+    c.args.evens.after.now) (signal c.args.evens.second_after.now)
     (load w32 8 (2 ^ 26) i r c.args.odd.now h (omega arith) (omega arith) (c.requires.bounded.at (i + r) (omega arith)))
-    (load w32 8 (2 ^ 26) i r c.args.a.now h (omega arith) (omega arith) (c.requires.bounded_a.at (i + r) (omega arith)))
-    (load w32 8 (2 ^ 26) i r c.args.b.now h (omega arith) (omega arith) (c.requires.bounded_b.at (i + r) (omega arith)))
-    (load w32 8 (2 ^ 26) i r c.args.c.now h (omega arith) (omega arith) (c.requires.bounded_c.at (i + r) (omega arith)))
-    (load w32 8 (2 ^ 26) i r c.args.d.now h (omega arith) (omega arith) (c.requires.bounded_d.at (i + r) (omega arith))) in
+    (load w32 8 (2 ^ 26) i r c.args.evens.second_before.now h (omega arith) (omega arith) (c.requires.bounded_a.at (i + r) (omega arith)))
+    (load w32 8 (2 ^ 26) i r c.args.evens.before.now h (omega arith) (omega arith) (c.requires.bounded_b.at (i + r) (omega arith)))
+    (load w32 8 (2 ^ 26) i r c.args.evens.after.now h (omega arith) (omega arith) (c.requires.bounded_c.at (i + r) (omega arith)))
+    (load w32 8 (2 ^ 26) i r c.args.evens.second_after.now h (omega arith) (omega arith) (c.requires.bounded_d.at (i + r) (omega arith))) in
     let small = λ (r : ℕ) (h : r < 8).
-    less_predicted-within (2 ^ 25) (i + r) (signal c.args.odd.now) (signal c.args.a.now) (signal c.args.b.now) (signal c.args.c.now) (signal c.args.d.now)
+    less_predicted-within (2 ^ 25) (i + r) (signal c.args.odd.now) (signal c.args.evens.second_before.now) (signal c.args.evens.before.now) (signal
+    c.args.evens.after.now) (signal c.args.evens.second_after.now)
     (omega arith) (c.requires.bounded.at (i + r) (omega arith)) (c.requires.bounded_a.at (i + r) (omega arith))
     (c.requires.bounded_b.at (i + r) (omega arith)) (c.requires.bounded_c.at (i + r) (omega arith)) (c.requires.bounded_d.at (i + r) (omega arith)) in
     let stored = store w32 8 (5 * 2 ^ 25) i n c.lanes.high c.high_lanes-lanes.result f c.lanes.auto.high room many (omega arith) small

@@ -1,9 +1,7 @@
-use Rattle.std.proofs.Common.{◌≡◌, suc, ◌<◌, ◌+◌, ◌-◌, ◌*◌, length, refl, arith}
+use Rattle.std.proofs.Common.{◌≡◌, suc, ◌<◌, ◌+◌, ◌-◌, ◌*◌, length, arith}
 use Rattle.std.proofs.lemmas.Result.{err_from_is_err_and}
-use Rattle.plane_reader.proofs.DcReads.{others_kept, others_more, dcs_start, dcs_done, dcs_cut, dcs_fault, dcs_more, dc_unchanged, dc_changed, dc_before}
-use Rattle.plane_reader.proofs.DcReads.{dc_same}
+use Rattle.plane_reader.proofs.DcReads.{others_kept, others_then, dcs_start, dcs_done, dcs_cut, dcs_fault, dcs_more, dc_before}
 use Rattle.plane_reader.proofs.dc_bits.take_bits.Goals as goal
-use Rattle.plane_reader.proofs.dc_bits.take_bits.Goals.{then-bit, else-bit}
 
 pub loop-r-init : goal.loop-r-init
 loop-r-init g c = record {
@@ -36,29 +34,16 @@ loop-r-preserved g c =
     let i = c.loop-r.invariant in
     let r = c.loop-r.r in
     let inside : 64 * r < length c.loop-r.cells = omega (arith, c.loop-r-test.true, i.keeps.long) in
-    elim c.if-bit.branch [
-      | then-bit w ↦
-          let adds = rw w.of-column.ensures.block at w.add_dc.ensures in
-          rw w.cells-is (record {
-            reading = x.reading;
-            keeps = others_more i.keeps adds;
-            left = λ numbers marks whole cleared have.
-                let more : length numbers - r ≡ suc (length numbers - (r + 1)) = omega (arith, whole, inside, i.keeps.long) in
-                let l = i.left numbers marks whole cleared have in
-                let before = dc_before inside l (cleared r (omega (arith, whole, inside, i.keeps.long))) in
-                dcs_more more inside l c.requires.low c.in-Some.bit (others_more (others_kept c.loop-r.cells) adds)
-                (dc_changed c.in-Some.bit w.if-bit.true adds before) (dc_same adds) x.is_in x.flag;
-          })
-      | else-bit w ↦
-          rw w.cells-is (record {
-            reading = x.reading;
-            keeps = i.keeps;
-            left = λ numbers marks whole cleared have.
-                let more : length numbers - r ≡ suc (length numbers - (r + 1)) = omega (arith, whole, inside, i.keeps.long) in
-                dcs_more more inside (i.left numbers marks whole cleared have) c.requires.low c.in-Some.bit (others_kept c.loop-r.cells)
-                (dc_unchanged c.loop-r.cells c.args.plane r c.in-Some.bit w.if-bit.false) (λ q lt apart. refl) x.is_in x.flag;
-          })
-    ]
+    let gives = rw c.of-column.ensures.block at c.give_dc.ensures in
+    record {
+      reading = x.reading;
+      keeps = others_then i.keeps gives.keeps;
+      left = λ numbers marks whole cleared have.
+          let more : length numbers - r ≡ suc (length numbers - (r + 1)) = omega (arith, whole, inside, i.keeps.long) in
+          let l = i.left numbers marks whole cleared have in
+          let before = dc_before inside l (cleared r (omega (arith, whole, inside, i.keeps.long))) in
+          dcs_more more inside l c.requires.low c.in-Some.bit gives before x.is_in x.flag;
+    }
 
 pub returns-clause-bits : goal.returns-clause-bits
 returns-clause-bits g c = λ numbers marks whole cleared have.

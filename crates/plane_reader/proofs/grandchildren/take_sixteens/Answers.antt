@@ -11,6 +11,7 @@ pub loop-i-init : goal.loop-i-init
 loop-i-init g c = record {
   reading = c.requires.reading;
   tables = refl;
+  raw = refl;
   left = λ block s now new is marked now_shown new_shown. turns_start (sixteen_script
       (terms_of c.args.plan.now c.args.reading.now.tables.now.words.book) block now new) 3 s c.requires.reading.is_in is;
 }
@@ -35,6 +36,7 @@ loop-i-preserved-then-not-has g c =
     record {
       reading = i.reading;
       tables = i.tables;
+      raw = i.raw;
       left = λ block s now new is marked now_shown new_shown.
           let l = i.left block s now new is marked now_shown new_shown in
           let t = terms_of c.args.plan.now c.args.reading.now.tables.now.words.book in
@@ -75,6 +77,7 @@ loop-i-preserved g c =
     record {
       reading = h.reading;
       tables = h.tables ∙ i.tables;
+      raw = h.raw ∙ i.raw;
       left = λ block s now new is marked now_shown new_shown.
           let l = i.left block s now new is marked now_shown new_shown in
           let t = terms_of c.args.plan.now c.args.reading.now.tables.now.words.book in

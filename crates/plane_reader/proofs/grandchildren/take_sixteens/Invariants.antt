@@ -15,6 +15,7 @@ abbrev pub invariant-loop-i : goal.invariant-loop-i
 invariant-loop-i g l = record {
   reading : IsReading g.I.OctetIn.source (source_state l.input) l.reading;
   tables : l.reading.tables ≡ l.fn.reading.tables;
+  raw : l.reading.found.raw ≡ l.fn.reading.found.raw;
   left : (block : List ℤ) (s : State) (now new : ℕ → Bool) → IsState l.fn.reading.gaggle l.fn.reading.found s → IsAbove l.above block l.plan.plane →
       Shows l.sets.now now 0 3 → Shows l.sets.new new 0 3 →
       TurnsLeft g.I.OctetIn.source (in_turn (sixteen_script (terms_of l.plan l.fn.reading.tables.now.words.book) block now new) 0 3 s) (sixteen_script

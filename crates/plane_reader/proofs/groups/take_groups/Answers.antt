@@ -11,6 +11,7 @@ pub loop-left-init : goal.loop-left-init
 loop-left-init g c = record {
   reading = c.requires.reading;
   tables = refl;
+  raw = refl;
   small = c.groups_with_bits-sent.ensures.few;
   passed = λ s f now wanted is marks now_shown wanted_shown. groups_start
       (group_script c.args.reading.now.tables.now.words.book f c.args.groups.first now wanted) c.args.groups.count _ s c.requires.reading.is_in is;
@@ -78,6 +79,7 @@ loop-left-preserved g c =
     record {
       reading = t.reading;
       tables = t.tables ∙ i.tables;
+      raw = t.raw ∙ i.raw;
       small = omega (arith, i.small, rest.ensures.fewer first.here);
       passed = λ s f now wanted is marks now_shown wanted_shown.
           let covers = c.groups_with_bits-sent.ensures.covers now wanted now_shown wanted_shown in

@@ -14,6 +14,7 @@ abbrev pub invariant-loop-left : goal.invariant-loop-left
 invariant-loop-left g l = record {
   reading : IsReading g.I.OctetIn.source (source_state l.input) l.reading;
   tables : l.reading.tables ≡ l.fn.reading.tables;
+  raw : l.reading.found.raw ≡ l.fn.reading.found.raw;
   small : l.left < 2 ^ l.groups.count;
   passed : (s : State) (f now wanted : ℕ → Bool) → IsState l.fn.reading.gaggle l.fn.reading.found s → Marks l.due f l.groups.first (4 * l.groups.count) →
       Shows l.groups.now now 0 l.groups.count → Shows l.groups.wanted wanted 0 l.groups.count →

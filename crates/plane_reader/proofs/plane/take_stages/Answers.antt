@@ -27,7 +27,8 @@ returns-in_err-take_dcs-clause-stages g c =
       arith,
       count_blocks cells,
       c.requires.whole,
-    )) c.requires.dcs (begins plan.plane cells plan.low even c.requires.ready c.clear.ensures) in
+      c.clear_raw.ensures.long,
+    )) c.requires.dcs (begins plan.plane cells plan.low even c.requires.ready c.clear.ensures c.clear_raw.ensures) in
     let more : c.args.last + 1 ≡ suc c.args.last = omega arith in
     rw (e.1, e.2) (first_fault (terms_of plan c.args.terms.now.tables.now.words.book) depths more _ s)
 
@@ -40,8 +41,8 @@ returns-in_default-clause-stages g c =
     let numbers = blocks_in (numbers_in cells) in
     let even : length cells % 64 ≡ 0 = omega (arith, c.requires.whole) in
     let long : length depths ≡ length numbers = omega (arith, length-depths_of c.args.marks.now, count_blocks cells, c.requires.whole) in
-    let s = x.stage depths numbers c.clear.new.marks long (omega (arith, count_blocks cells, c.requires.whole)) c.requires.dcs
-    (begins plan.plane cells plan.low even c.requires.ready c.clear.ensures) in
+    let s = x.stage depths numbers c.clear.new.marks long (omega (arith, count_blocks cells, c.requires.whole, c.clear_raw.ensures.long)) c.requires.dcs
+    (begins plan.plane cells plan.low even c.requires.ready c.clear.ensures c.clear_raw.ensures) in
     let more : c.args.last + 1 ≡ suc c.args.last = omega arith in
     first_cut (terms_of plan c.args.terms.now.tables.now.words.book) depths more s
 
@@ -54,13 +55,13 @@ loop-number-init g c =
     let numbers = blocks_in (numbers_in cells) in
     let even : length cells % 64 ≡ 0 = omega (arith, c.requires.whole) in
     let long : length depths ≡ length numbers = omega (arith, length-depths_of c.args.marks.now, count_blocks cells, c.requires.whole) in
-    let s = x.stage depths numbers c.clear.new.marks long (omega (arith, count_blocks cells, c.requires.whole)) c.requires.dcs
-    (begins plan.plane cells plan.low even c.requires.ready c.clear.ensures) in
+    let s = x.stage depths numbers c.clear.new.marks long (omega (arith, count_blocks cells, c.requires.whole, c.clear_raw.ensures.long)) c.requires.dcs
+    (begins plan.plane cells plan.low even c.requires.ready c.clear.ensures c.clear_raw.ensures) in
     let more : c.args.last + 1 ≡ suc (c.args.last + 1 - 1) = omega arith in
     record {
       is_in = x.is_in;
       known = known_clear c.clear.ensures;
-      keeps = planes_others x.keeps;
+      keeps = planes_others c.clear_raw.ensures x.keeps;
       depths = c.clear.ensures.depths;
       left = stages_start (terms_of plan c.args.terms.now.tables.now.words.book) depths more s;
     }

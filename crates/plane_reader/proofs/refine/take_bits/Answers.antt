@@ -1,9 +1,11 @@
 use Rattle.std.proofs.Common.{◌≡◌, ◌+◌, ◌∙◌, true, arith, ap, sym, refl}
 use Rattle.std.proofs.lemmas.Result.{err_from_is_err_and}
 use Rattle.item_defs.specs.Bits.{bit}
+use Rattle.block_masks.specs.Masks.{Shows}
+use Rattle.plane_defs.specs.States.{and_one}
 use Rattle.plane_reader.specs.HeldTakes.{marked_script}
 use Rattle.plane_reader.proofs.FoundMasks.{room_one}
-use Rattle.plane_reader.proofs.SignReads.{bit_inside, sign_shown}
+use Rattle.plane_reader.proofs.SignReads.{bit_inside, sign_shown, raw_shown, one_shown}
 use Rattle.plane_reader.proofs.HeldGroups.{groups_start, groups_done, reach, group_fault, group_cut, group_read, zero_bit}
 use Rattle.plane_reader.proofs.RefineReads.{unmarked, bit_fault, bit_cut, bit_read, turns_here}
 use Rattle.plane_reader.proofs.refine.take_bits.Goals as goal
@@ -63,6 +65,16 @@ add_bits-requires-clause-room g c =
     let inside = bit_inside c.loop-left.left 32 c.first_in-j.result c.loop-left.invariant.small c.first_in-j.ensures.here in
     room_one c.one.result (c.args.start + c.first_in-j.result) (omega (arith, inside, c.requires.start)) c.one.ensures.within
 
+pub add_raw-requires-clause-start : goal.add_raw-requires-clause-start
+add_raw-requires-clause-start g c =
+    let inside = bit_inside c.loop-left.left 32 c.first_in-j.result c.loop-left.invariant.small c.first_in-j.ensures.here in
+    omega (arith, inside, c.requires.start)
+
+pub add_raw-requires-clause-room : goal.add_raw-requires-clause-room
+add_raw-requires-clause-room g c =
+    let inside = bit_inside c.loop-left.left 32 c.first_in-j.result c.loop-left.invariant.small c.first_in-j.ensures.here in
+    room_one 1 (c.args.start + c.first_in-j.result) (omega (arith, inside, c.requires.start)) (omega arith)
+
 pub loop-left-preserved : goal.loop-left-preserved
 loop-left-preserved g c =
     let x = rw c.in-Some.is at c.in_ok-bit.ensures in
@@ -88,8 +100,15 @@ loop-left-preserved g c =
             inside,
             c.requires.start,
           )) (rw x.found m.is.bits) (c.one.ensures.if_known (c.args.start + j))) in
-          let read = bit_read f (c.args.start + m.n) here m.state m.is b x.is_in (rw place at bits) (c.add_bits.ensures.minus ∙
-          ap (λ z. z.minus) x.found) x.flag in
+          let bits_now : Shows c.add_raw.new.self.bits (and_one m.state.bits (c.args.start + j) b) 0 64 = rw c.add_raw.ensures.bits bits in
+          let was : Shows c.add_bits.new.self.raw m.state.raw 0 64 = rw (c.add_bits.ensures.raw, x.found) m.is.raw in
+          let raw = raw_shown c.add_raw.new.self.raw m.state.raw (c.args.start + j) (c.add_raw.ensures.raw m.state.raw (λ q. true) 1 (omega (
+            arith,
+            inside,
+            c.requires.start,
+          )) was (one_shown (c.args.start + j))) in
+          let read = bit_read f (c.args.start + m.n) here m.state m.is b x.is_in (rw place at bits_now) (c.add_raw.ensures.minus ∙
+          c.add_bits.ensures.minus ∙ ap (λ z. z.minus) x.found) (rw place at raw) x.flag in
           group_read m j at.1 inside (omega arith) first.none_before rest.result rest.ensures.gone rest.ensures.others (rw x.gaggle read);
     }
 

@@ -54,6 +54,7 @@ loop-left-preserved g c =
       is_in = (rw c.in-Some.is at c.in_ok-minus.ensures).is_in;
       small = omega (arith, i.small, rest.ensures.fewer first.here);
       bits = c.add_minus.ensures.bits ∙ i.bits;
+      raw = c.add_minus.ensures.raw ∙ i.raw;
       so_far = λ t shown.
           let s = i.so_far t shown in
           let e = first_position c.loop-left.left rest.result c.args.start k first.here first.none_before rest.ensures.gone rest.ensures.others c.args.count

@@ -12,6 +12,7 @@ invariant-loop-left g l = record {
   is_in : IsIn (source_state l.input);
   small : l.left < 2 ^ l.count;
   bits : l.found.bits ≡ l.initial.found.bits;
+  raw : l.found.raw ≡ l.initial.found.raw;
   so_far : (s : State) → Shows l.initial.found.minus s.minus 0 64 → SignsLeft g.I.OctetIn.source (signs_script (positions l.new l.start l.count) s)
       (positions l.left l.start l.count) s l.found.minus (source_state l.initial.input) (source_state l.input);
 }

@@ -8,20 +8,20 @@ loop-g-init c = sliced_none c.args.blocks.now _ (omega arith)
 
 pub slice_group-requires-clause-no_acs : goal.slice_group-requires-clause-no_acs
 slice_group-requires-clause-no_acs c =
-    let start : min (15360 * c.loop-g.g) (length c.args.blocks.now) ≡ 15360 * c.loop-g.g = omega (arith, c.loop-g-test.true, c.div_ceil-g-end.ensures) in
+    let start : min (4096 * c.loop-g.g) (length c.args.blocks.now) ≡ 4096 * c.loop-g.g = omega (arith, c.loop-g-test.true, c.div_ceil-g-end.ensures) in
     let s = rw start at c.loop-g.invariant in
-    rw s.rest (part_acs c.args.blocks.now c.loop-g.g (c.min.result - 15360 * c.loop-g.g) (flat_acs c.args.blocks.now c.requires.whole c.requires.no_acs))
+    rw s.rest (part_acs c.args.blocks.now c.loop-g.g (c.min.result - 4096 * c.loop-g.g) (flat_acs c.args.blocks.now c.requires.whole c.requires.no_acs))
 
 pub loop-g-preserved : goal.loop-g-preserved
 loop-g-preserved c =
     let blocks = c.args.blocks.now in
     let g = c.loop-g.g in
-    let inside : 15360 * g + 1 ≤ length blocks = omega (arith, c.loop-g-test.true, c.div_ceil-g-end.ensures) in
-    let start : min (15360 * g) (length blocks) ≡ 15360 * g = omega (arith, inside) in
+    let inside : 4096 * g + 1 ≤ length blocks = omega (arith, c.loop-g-test.true, c.div_ceil-g-end.ensures) in
+    let start : min (4096 * g) (length blocks) ≡ 4096 * g = omega (arith, inside) in
     let s = rw start at c.loop-g.invariant in
-    let next : c.min.result ≡ min (15360 * (g + 1)) (length blocks) = omega (arith, c.min.ensures) in
-    subst (λ e. SlicedTo e blocks (put_mid (15360 * g) (c.min.result - 15360 * g) c.loop-g.blocks c.slice_group.new.part)) next
-    (sliced_more g (c.min.result - 15360 * g) c.min.result (omega (arith, c.min.ensures, inside)) (omega (arith, c.min.ensures)) (omega (
+    let next : c.min.result ≡ min (4096 * (g + 1)) (length blocks) = omega (arith, c.min.ensures) in
+    subst (λ e. SlicedTo e blocks (put_mid (4096 * g) (c.min.result - 4096 * g) c.loop-g.blocks c.slice_group.new.part)) next
+    (sliced_more g (c.min.result - 4096 * g) c.min.result (omega (arith, c.min.ensures, inside)) (omega (arith, c.min.ensures)) (omega (
       arith,
       c.slice_group.auto.part,
       c.min.ensures,

@@ -1,4 +1,4 @@
-use Rattle.std.proofs.Common.{◌≡◌, ◌≤◌, ◌+◌, ◌&&◌, ◌==◌, false, true, arith}
+use Rattle.std.proofs.Common.{◌≡◌, ◌≤◌, ◌+◌, ◌&&◌, ◌==◌, ◌∙◌, false, true, arith}
 use Rattle.std.proofs.lemmas.Bool.Decides.{nat_tests}
 use Rattle.std.proofs.lemmas.Result.{err_from_is_err_and}
 use Rattle.block_masks.proofs.Viewing.{nibble_small}
@@ -49,6 +49,6 @@ returns-clause-types g c = λ s f is shown.
       | else-group-via-then-group+else-new-eq0 w ↦ not_zero group.is_wanted c.in-Some.new w.if-new-eq0.false
       | else-group-via-else-group w ↦ not_wanted group.is_wanted (c.in-Some.new == 0) w.if-group.false
     ] in
-    types_read c.args.tables.now.book group.is_wanted f group.start group.count c.args.due c.requires.few shown c.requires.some s is d e
-    c.add_bits.ensures.bits within c.add_bits.ensures.minus
+    types_read c.args.tables.now.book group.is_wanted f group.start group.count c.args.due c.requires.few shown c.requires.some s is d c.add_bits.new.self e
+    c.add_bits.ensures.bits within c.add_bits.ensures.minus (c.take_signs.ensures.raw ∙ c.add_bits.ensures.raw)
     (c.take_signs.ensures.signs _ (rw c.add_bits.ensures.minus is.minus)) c.take_signs.ensures.bits

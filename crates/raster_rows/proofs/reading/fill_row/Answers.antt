@@ -10,18 +10,19 @@ use Rattle.raster_rows.proofs.RowSteps.{PieceRead, row_done, row_bad, row_next, 
 use Rattle.raster_rows.proofs.reading.fill_row.Goals as goal
 
 pub loop-column-init : goal.loop-column-init
-loop-column-init g c = row_start c.args.form.depth c.args.form.signed c.args.width (g.X.Port.outside c.args.port.now) c.args.into.now c.args.buffer.now
+loop-column-init g c =
+    row_start c.args.row.form.depth c.args.row.form.signed c.args.row.width (g.X.Port.outside c.args.port.now) c.args.into.now c.args.buffer.now
 
 pub returns-in_default : goal.returns-in_default
-returns-in_default g c = row_unread c.args.row c.loop-column.invariant c.loop-column-test.true c.in_default.ensures
+returns-in_default g c = row_unread c.args.row.number c.loop-column.invariant c.loop-column-test.true c.in_default.ensures
 
 pub returns-then-count-eq0 : goal.returns-then-count-eq0
 returns-then-count-eq0 g c =
     let none : Read _ _ c.read.new.into 0 = rw (c.if-count-eq0.true) at c.in-Ok.ensures in
-    row_short c.args.row _ c.loop-column.invariant c.loop-column-test.true none (search rules) (search rules)
+    row_short c.args.row.number _ c.loop-column.invariant c.loop-column-test.true none (search rules) (search rules)
 
 pub returns : goal.returns
-returns g c = row_done c.args.row _ c.loop-column.invariant c.loop-column-test.false
+returns g c = row_done c.args.row.number _ c.loop-column.invariant c.loop-column-test.false
 
 -- the piece that was read
 piece_of : {depth width column held count left : ℕ} {signed : Bool} {old now new : Outside} {before mid : List ℤ} {buffer piece : List ℕ} (k : ℕ) →
@@ -36,7 +37,7 @@ pub returns-in-Err : goal.returns-in-Err
 returns-in-Err g c =
     let h = c.read.auto.into in
     let fits : SFits w32 c.in-Err.bad.value = search rules in
-    row_bad c.args.row (to_z w32 (of_z w32 c.in-Err.bad.value))
+    row_bad c.args.row.number (to_z w32 (of_z w32 c.in-Err.bad.value))
     (piece_of _ c.loop-column.invariant c.loop-column-test.true c.in-Ok.ensures c.octets.ensures (search rules) (search rules))
     c.pixels-whole.ensures c.in-Err.ensures (to_z-of_z w32 c.in-Err.bad.value fits)
 

@@ -12,9 +12,9 @@ invariant-segments g l = record {
   at : IsAt l.assembly (walking l.walk) l.start;
   room : IsRoom l.walk.geometry (vec_len l.room.blocks) (vec_len l.room.marks);
   pixels : l.room.pixels ≡ l.initial.room.pixels;
-  book : l.room.reader.tables.words.book ≡ l.initial.room.reader.tables.words.book;
+  book : l.room.reader.tables.value.words.book ≡ l.initial.room.reader.tables.value.words.book;
   faults : NoFewerFaults (g.X.Port.outside l.initial.port) (g.X.Port.outside l.port);
-  run : (w : Run) → w.pixels ≡ l.initial.room.pixels → w.book ≡ l.initial.room.reader.tables.words.book →
+  run : (w : Run) → w.pixels ≡ l.initial.room.pixels → w.book ≡ l.initial.room.reader.tables.value.words.book →
       WalksIn g.S.BlockSink.sink w (g.X.Port.outside l.initial.port) l.initial.assembly (walking l.initial.walk) l.initial.start →
       WalksIn g.S.BlockSink.sink w (g.X.Port.outside l.port) l.assembly (walking l.walk) l.start;
 }

@@ -8,7 +8,7 @@ use Rattle.segment_walk.proofs.Staying.{placed_range, placed_within}
 use Rattle.segment_walk.proofs.Between.{found_first, finds_faults}
 use Rattle.segment_walk.proofs.RunStarts.{found_one, first_valid, first_arrives}
 use Rattle.segment_walk.proofs.SegmentTakes.{room_shorter, shorter_same}
-use Rattle.segment_walk.proofs.Decoding.{no_memory_first, first_fails, first_fits, first_none, never_none, too_many, no_memory, walk_done, walk_fails}
+use Rattle.segment_walk.proofs.Decoding.{no_memory_first, first_fails, first_none, never_none, too_many, no_memory, walk_done, walk_fails}
 use Rattle.segment_walk.proofs.engine.walk_segments.Goals as goal
 
 pub returns-in_default : goal.returns-in_default
@@ -42,15 +42,6 @@ returns-then-pixels-wish g c =
     too_many k c.args.wish.now (g.X.Port.outside c.args.port.now) (g.X.Port.outside c.find_next.new.port) c.find_next.new.assembly c.in-Ok-Some.start found
     c.in-Some.geometry _ (sym c.in-Some.ensures.current)
     c.pixels_reached-pixels.ensures c.if-pixels-wish.true
-
-pub pixels_reached-pixels-requires-clause-fits : goal.pixels_reached-pixels-requires-clause-fits
-pixels_reached-pixels-requires-clause-fits g c =
-    let k = g.S.BlockSink.sink in
-    let w = run_of c.args.wish.now (g.X.Port.outside c.args.port.now) in
-    let found = found_one k w (g.X.Port.outside c.find_next.new.port) c.in-Ok.assembly c.find_next.new.assembly c.in-Ok-Some.start c.in-Ok.ensures
-    (rw c.in-Ok-Some.field-0-is at c.in-Ok-Some.ensures) in
-    first_fits k c.args.wish.now (g.X.Port.outside c.args.port.now) (g.X.Port.outside c.find_next.new.port) c.find_next.new.assembly c.in-Ok-Some.start
-    found c.in-Some.geometry (sym c.in-Some.ensures.current)
 
 pub returns-in_default-new : goal.returns-in_default-new
 returns-in_default-new g c =

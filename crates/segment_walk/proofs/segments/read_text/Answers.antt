@@ -13,12 +13,12 @@ returns-in_default-clause-reads g c =
     let new = c.decode_first-read.new.blocks in
     let long : length new ≡ vec_len old = search rules in
     let cells : take n new ++ drop n new ≡ (with_items old new).items = take-append-drop n new ∙ sym (with_items_is old new long) in
-    subst (λ xs. ReadsText c.args.room.now.reader.tables.words.book (g.X.Port.outside c.args.port.now) (g.X.Port.outside c.end_text.new.port)
+    subst (λ xs. ReadsText c.args.room.now.reader.tables.value.words.book (g.X.Port.outside c.args.port.now) (g.X.Port.outside c.end_text.new.port)
     c.args.assembly.now c.end_text.new.assembly head xs c.end_text.result) cells
-    (text_read g.X.Port.outside c.args.room.now.reader.tables.words.book c.text-text.result c.decode_first-read.new.text head c.in_default.field-0
+    (text_read g.X.Port.outside c.args.room.now.reader.tables.value.words.book c.text-text.result c.decode_first-read.new.text head c.in_default.field-0
     (take n new) (drop n new)
     (length-take-le _ _ (omega (arith, long, c.clear_blocks.ensures.blocks, c.requires.blocks)))
-    (c.texts_end_so.ensures _ c.args.room.now.reader.tables.words.sound head c.requires.head)
+    (c.texts_end_so.ensures _ c.args.room.now.reader.tables.value.words.sound head c.requires.head)
     (rw c.clear_blocks.ensures.reader at c.in_default.ensures.decodes) (g.X.Port.outside c.end_text.new.port) c.end_text.new.assembly
     c.args.port.now _ c.args.assembly.now _ c.end_text.result c.text-text.ensures.port_now c.text-text.ensures.now (search rules) (search rules)
     c.end_text.ensures)
@@ -26,7 +26,7 @@ returns-in_default-clause-reads g c =
 pub returns-in_default-fault-clause-reads : goal.returns-in_default-fault-clause-reads
 returns-in_default-fault-clause-reads g c =
     let head = c.args.head.now in
-    text_refused g.X.Port.outside c.args.room.now.reader.tables.words.book c.text-text.result c.decode_first-read.new.text head _ c.in-Err.fault
-    (c.texts_end_so.ensures _ c.args.room.now.reader.tables.words.sound head c.requires.head) c.in_default-fault.not-ReadFault
+    text_refused g.X.Port.outside c.args.room.now.reader.tables.value.words.book c.text-text.result c.decode_first-read.new.text head _ c.in-Err.fault
+    (c.texts_end_so.ensures _ c.args.room.now.reader.tables.value.words.sound head c.requires.head) c.in_default-fault.not-ReadFault
     (rw c.clear_blocks.ensures.reader at c.in-Err.ensures.decodes)
     c.args.port.now _ c.args.assembly.now _ c.text-text.ensures.port_now c.text-text.ensures.now (search rules) (search rules)

@@ -24,7 +24,7 @@ returns-in_default-clause-runs g c w pixels book to = c.in_default.ensures.runs 
 pub returns-in-Err-clause-takes : goal.returns-in-Err-clause-takes
 returns-in-Err-clause-takes g c =
     let at = c.in-Ok.ensures.reaches c.args.assembly.now c.requires.at in
-    read_takes g.S.BlockSink.sink c.args.room.now.reader.tables.words.book (g.X.Port.outside c.args.port.now) (g.X.Port.outside c.reach_segment.new.port)
+    read_takes g.S.BlockSink.sink c.args.room.now.reader.tables.value.words.book (g.X.Port.outside c.args.port.now) (g.X.Port.outside c.reach_segment.new.port)
     (g.X.Port.outside c.read_text.new.port) c.args.assembly.now c.read_text.new.assembly (walking c.args.walk.now) (walking c.reach_segment.new.walk)
     c.args.start.now.head c.read_text.new.room.blocks.items c.in-Err.fault at.faults c.in-Err.ensures.reads
 
@@ -44,7 +44,7 @@ pub follow_held-requires-clause-held : goal.follow_held-requires-clause-held
 follow_held-requires-clause-held g c =
     let at = c.in-Ok.ensures.reaches c.args.assembly.now c.requires.at in
     may_follow c.args.assembly.now c.read_text.new.assembly (walking c.reach_segment.new.walk) c.args.start.now at.at
-    (text_goes c.args.room.now.reader.tables.words.book (g.X.Port.outside c.reach_segment.new.port) (g.X.Port.outside c.read_text.new.port)
+    (text_goes c.args.room.now.reader.tables.value.words.book (g.X.Port.outside c.reach_segment.new.port) (g.X.Port.outside c.read_text.new.port)
     c.args.assembly.now c.read_text.new.assembly c.args.start.now.head c.read_text.new.room.blocks.items c.in-Ok-read_text.accepted
     c.in-Ok-read_text.ensures.reads)
     (segment_low (walking c.reach_segment.new.walk) c.args.start.now at.at.next.fits at.there)
@@ -56,7 +56,7 @@ returns-in-Err-follow_held-clause-takes g c =
     (g.X.Port.outside c.reach_segment.new.port) c.args.assembly.now c.read_text.new.assembly (walking c.args.walk.now)
     (walking c.reach_segment.new.walk) (walking c.follow_held.new.walk)
     c.args.start.now c.in-Err-follow_held.fault at.at at.there
-    (text_goes c.args.room.now.reader.tables.words.book (g.X.Port.outside c.reach_segment.new.port) (g.X.Port.outside c.read_text.new.port)
+    (text_goes c.args.room.now.reader.tables.value.words.book (g.X.Port.outside c.reach_segment.new.port) (g.X.Port.outside c.read_text.new.port)
     c.args.assembly.now c.read_text.new.assembly c.args.start.now.head c.read_text.new.room.blocks.items c.in-Ok-read_text.accepted
     c.in-Ok-read_text.ensures.reads)
     c.in-Err-follow_held.ensures
@@ -81,7 +81,7 @@ pass_segment-requires-clause-current g c =
     let at = c.in-Ok.ensures.reaches c.args.assembly.now c.requires.at in
     (has_followed g.S.BlockSink.sink c.read_text.new.room.pixels c.args.assembly.now c.read_text.new.assembly (walking c.reach_segment.new.walk)
     (walking c.follow_held.new.walk) c.args.start.now at.at at.current at.there
-    (text_goes c.args.room.now.reader.tables.words.book (g.X.Port.outside c.reach_segment.new.port) (g.X.Port.outside c.read_text.new.port)
+    (text_goes c.args.room.now.reader.tables.value.words.book (g.X.Port.outside c.reach_segment.new.port) (g.X.Port.outside c.read_text.new.port)
     c.args.assembly.now c.read_text.new.assembly c.args.start.now.head c.read_text.new.room.blocks.items c.in-Ok-read_text.accepted
     c.in-Ok-read_text.ensures.reads) c.in-Ok-follow_held.ensures).current
 
@@ -90,7 +90,7 @@ pass_segment-requires-clause-room g c =
     let at = c.in-Ok.ensures.reaches c.args.assembly.now c.requires.at in
     let followed = has_followed g.S.BlockSink.sink c.read_text.new.room.pixels c.args.assembly.now c.read_text.new.assembly
     (walking c.reach_segment.new.walk) (walking c.follow_held.new.walk) c.args.start.now at.at at.current at.there
-    (text_goes c.args.room.now.reader.tables.words.book (g.X.Port.outside c.reach_segment.new.port) (g.X.Port.outside c.read_text.new.port)
+    (text_goes c.args.room.now.reader.tables.value.words.book (g.X.Port.outside c.reach_segment.new.port) (g.X.Port.outside c.read_text.new.port)
     c.args.assembly.now c.read_text.new.assembly c.args.start.now.head c.read_text.new.room.blocks.items c.in-Ok-read_text.accepted
     c.in-Ok-read_text.ensures.reads) c.in-Ok-follow_held.ensures in
     omega (arith, followed.count, at.there, followed.fits.blocks, followed.fits.within)
@@ -104,21 +104,21 @@ pass_segment-requires-clause-parts g c e =
     let at = c.in-Ok.ensures.reaches c.args.assembly.now c.requires.at in
     let followed = has_followed g.S.BlockSink.sink c.read_text.new.room.pixels c.args.assembly.now c.read_text.new.assembly
     (walking c.reach_segment.new.walk) q start at.at at.current at.there
-    (text_goes c.args.room.now.reader.tables.words.book w1 w2 c.args.assembly.now c.read_text.new.assembly start.head c.read_text.new.room.blocks.items
+    (text_goes c.args.room.now.reader.tables.value.words.book w1 w2 c.args.assembly.now c.read_text.new.assembly start.head c.read_text.new.room.blocks.items
     c.in-Ok-read_text.accepted c.in-Ok-read_text.ensures.reads) c.in-Ok-follow_held.ensures in
     let long : length c.read_text.new.room.blocks.items ≡ vec_len c.args.room.now.blocks =
     sym c.read_text.new.room.blocks.ok.0 ∙ c.in-Ok-read_text.ensures.blocks in
     let cells : c.deref.result.now ≡ c.read_text.new.room.blocks.items = c.deref.ensures.value in
     let room = (blocks_fit c.args.walk.now.geometry start _ _ c.requires.room c.requires.at.next.fits).0 in
     subst (AreBlocks start.head.blocks q.geometry) (sym cells)
-    (accepted_blocks c.texts_are_read.ensures c.args.room.now.reader.tables.words.book c.args.room.now.reader.tables.words.sound q.geometry start
+    (accepted_blocks c.texts_are_read.ensures c.args.room.now.reader.tables.value.words.book c.args.room.now.reader.tables.value.words.sound q.geometry start
     c.read_text.new.room.blocks.items w1 w2 c.args.assembly.now c.read_text.new.assembly c.in-Ok-read_text.accepted followed.fits
     (omega (arith, long, room)) c.in-Ok-read_text.ensures.reads e)
 
 pub returns-in_default-pass_segment-clause-takes : goal.returns-in_default-pass_segment-clause-takes
 returns-in_default-pass_segment-clause-takes g c =
     let at = c.in-Ok.ensures.reaches c.args.assembly.now c.requires.at in
-    let goes = text_goes c.args.room.now.reader.tables.words.book (g.X.Port.outside c.reach_segment.new.port) (g.X.Port.outside c.read_text.new.port)
+    let goes = text_goes c.args.room.now.reader.tables.value.words.book (g.X.Port.outside c.reach_segment.new.port) (g.X.Port.outside c.read_text.new.port)
     c.args.assembly.now c.read_text.new.assembly c.args.start.now.head c.read_text.new.room.blocks.items c.in-Ok-read_text.accepted
     c.in-Ok-read_text.ensures.reads in
     write_later g.S.BlockSink.sink c.pass_segment.result (g.X.Port.outside c.args.port.now) (g.X.Port.outside c.reach_segment.new.port)
@@ -137,7 +137,7 @@ returns-in_default-pass_segment-clause-runs g c w pixels book to =
     let follows = subst (λ n. FollowsHeld k n c.read_text.new.assembly p q is_done) (c.in-Ok-read_text.ensures.pixels ∙ sym pixels)
     c.in-Ok-follow_held.ensures in
     let followed = has_followed k w.pixels c.args.assembly.now c.read_text.new.assembly p q start at.at at.current at.there
-    (text_goes c.args.room.now.reader.tables.words.book w1 w2 c.args.assembly.now c.read_text.new.assembly start.head c.read_text.new.room.blocks.items
+    (text_goes c.args.room.now.reader.tables.value.words.book w1 w2 c.args.assembly.now c.read_text.new.assembly start.head c.read_text.new.room.blocks.items
     c.in-Ok-read_text.accepted c.in-Ok-read_text.ensures.reads) follows in
     let long : length c.read_text.new.room.blocks.items ≡ vec_len c.args.room.now.blocks =
     sym c.read_text.new.room.blocks.ok.0 ∙ c.in-Ok-read_text.ensures.blocks in
@@ -161,9 +161,9 @@ returns-clause-takes g c =
     let w2 = g.X.Port.outside c.read_text.new.port in
     let at = c.in-Ok.ensures.reaches c.args.assembly.now c.requires.at in
     let followed = has_followed k c.read_text.new.room.pixels c.args.assembly.now c.read_text.new.assembly p q start at.at at.current at.there
-    (text_goes c.args.room.now.reader.tables.words.book w1 w2 c.args.assembly.now c.read_text.new.assembly start.head c.read_text.new.room.blocks.items
+    (text_goes c.args.room.now.reader.tables.value.words.book w1 w2 c.args.assembly.now c.read_text.new.assembly start.head c.read_text.new.room.blocks.items
     c.in-Ok-read_text.accepted c.in-Ok-read_text.ensures.reads) c.in-Ok-follow_held.ensures in
-    segment_taken k c.args.room.now.reader.tables.words.book c.read_text.new.room.pixels c.pass_segment.result (g.X.Port.outside c.args.port.now) w1 w2
+    segment_taken k c.args.room.now.reader.tables.value.words.book c.read_text.new.room.pixels c.pass_segment.result (g.X.Port.outside c.args.port.now) w1 w2
     (g.X.Port.outside c.pass_segment.new.port) c.args.assembly.now c.read_text.new.assembly start (walking c.args.walk.now) p q
     (walking c.pass_segment.new.walk)
     c.read_text.new.room.blocks.items c.in-Ok-read_text.accepted _ (ap is_ok c.in-Ok-pass_segment.is) c.requires.at at c.in-Ok-read_text.ensures.reads
@@ -181,7 +181,7 @@ returns-clause-runs g c w pixels book to =
     let follows = subst (λ n. FollowsHeld k n c.read_text.new.assembly p q is_done) (c.in-Ok-read_text.ensures.pixels ∙ sym pixels)
     c.in-Ok-follow_held.ensures in
     let followed = has_followed k w.pixels c.args.assembly.now c.read_text.new.assembly p q start at.at at.current at.there
-    (text_goes c.args.room.now.reader.tables.words.book w1 w2 c.args.assembly.now c.read_text.new.assembly start.head c.read_text.new.room.blocks.items
+    (text_goes c.args.room.now.reader.tables.value.words.book w1 w2 c.args.assembly.now c.read_text.new.assembly start.head c.read_text.new.room.blocks.items
     c.in-Ok-read_text.accepted c.in-Ok-read_text.ensures.reads) follows in
     let long : length c.read_text.new.room.blocks.items ≡ vec_len c.args.room.now.blocks =
     sym c.read_text.new.room.blocks.ok.0 ∙ c.in-Ok-read_text.ensures.blocks in

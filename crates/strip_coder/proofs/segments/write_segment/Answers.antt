@@ -56,33 +56,35 @@ some_text s index used cells range = grind (arith, common_steps, coded_some)
 -- it can be written
 pub encode-requires-clause-fits : goal.encode-requires-clause-fits
 encode-requires-clause-fits g c =
-    let s = c.args.plan.now in
-    let depths = c.depths-depth_dc in
+    let s = c.args.present.now.plan.now in
+    let image = c.args.present.now.at.now in
+    let depths = c.depths-depths in
     let long = c.len.ensures in
-    let said = subst (CanBeSaid (whole s)) (sym {b = share (whole s) c.args.at.now.index c.args.at.now.used} c.share-limit.ensures)
-    (share_said s c.args.at.now c.requires.in_range c.requires.share c.requires.index) in
+    let said = subst (CanBeSaid (whole s)) (sym {b = share (whole s) image.index image.used} c.share-limit.ensures)
+    (share_said s image c.requires.in_range c.requires.share c.requires.index) in
     rw c.make_head-head.ensures
-    (head_is s c.args.at.now.index c.share-limit.result _ depths.result.0 depths.result.1 c.requires.in_range said (omega (arith, c.requires.some, long))
+    (head_is s image.index c.share-limit.result _ depths.result.0 depths.result.1 c.requires.in_range said (omega (arith, c.requires.some, long))
     (omega (arith, c.requires.most, long))
     depths.ensures.least_dc depths.ensures.most_dc depths.ensures.most_ac)
 
 pub returns-in_default : goal.returns-in_default
 returns-in_default g c =
-    let s = c.args.plan.now in
+    let s = c.args.present.now.plan.now in
+    let image = c.args.present.now.at.now in
     let cells = c.args.blocks.now.numbers in
     let least : 64 ≤ c.args.packets.now.packet = omega (arith, c.requires.packet, c.requires.in_range.in_range.packet) in
-    let begins = c.sink-sink.ensures.same_packets ∙ c.begin.ensures.begun ∙ begun_with s c.args.at.now.index c.args.packets.now c.ancillary.result
+    let begins = c.sink-sink.ensures.same_packets ∙ c.begin.ensures.begun ∙ begun_with s image.index c.args.packets.now c.ancillary.result
     c.ancillary.ensures in
     let broken = c.in_default.ensures.text in
-    let depths = c.depths-depth_dc in
+    let depths = c.depths-depths in
     let long : length cells ≡ 64 * c.len.result = sym c.len.ensures in
-    let same = made c.args.writer.now.tables.book s c.requires.book c.args.at.now.index c.args.at.now.used c.share-limit.result _ depths.result.0
+    let same = made c.args.writer.now.tables.book s c.requires.book image.index image.used c.share-limit.result _ depths.result.0
     depths.result.1 c.make_head-head.result cells c.make_head-head.ensures c.share-limit.ensures long depths.ensures.dc depths.ensures.ac in
-    let off = sink_breaks_off g.X.Port.outside c.sink-sink.result c.encode.new.out c.args.packets.now (text_of s c.args.at.now.index) c.args.port.now
+    let off = sink_breaks_off g.X.Port.outside c.sink-sink.result c.encode.new.out c.args.packets.now (text_of s image.index) c.args.port.now
     broken.prefix begins c.sink-sink.ensures.same_port least broken.broke in
-    let whole : broken.prefix ++ broken.more ≡ text_for s c.args.at.now.index c.args.at.now.used (blocks_in cells) = sym broken.parts ∙ same in
+    let whole : broken.prefix ++ broken.more ≡ text_for s image.index image.used (blocks_in cells) = sym broken.parts ∙ same in
     let some : 0 < length (broken.prefix ++ broken.more) =
-    subst (λ xs. 0 < length xs) (sym whole) (some_text s c.args.at.now.index c.args.at.now.used cells c.requires.in_range) in
+    subst (λ xs. 0 < length xs) (sym whole) (some_text s image.index image.used cells c.requires.in_range) in
     let cut = rw whole at (text_cut c.args.packets.now broken.prefix broken.more least refl some off) in
     record {
       text = cut_to g.X.Port.outside _ c.encode.new.out.port.now _ c.encode.new.out.packets.now (search rules) (search rules) cut;
@@ -92,45 +94,48 @@ returns-in_default g c =
 
 pub close-requires-clause-begun : goal.close-requires-clause-begun
 close-requires-clause-begun g c =
-    let s = c.args.plan.now in
+    let s = c.args.present.now.plan.now in
+    let image = c.args.present.now.at.now in
     let least : 64 ≤ c.args.packets.now.packet = omega (arith, c.requires.packet, c.requires.in_range.in_range.packet) in
-    let begins = c.sink-sink.ensures.same_packets ∙ c.begin.ensures.begun ∙ begun_with s c.args.at.now.index c.args.packets.now c.ancillary.result
+    let begins = c.sink-sink.ensures.same_packets ∙ c.begin.ensures.begun ∙ begun_with s image.index c.args.packets.now c.ancillary.result
     c.ancillary.ensures in
     let given = c.in-Ok.ensures.text in
-    let sent = sink_goes_on g.X.Port.outside c.sink-sink.result c.encode.new.out c.args.packets.now (text_of s c.args.at.now.index) c.args.port.now _ begins
+    let sent = sink_goes_on g.X.Port.outside c.sink-sink.result c.encode.new.out c.args.packets.now (text_of s image.index) c.args.port.now _ begins
     c.sink-sink.ensures.same_port least given.gave in
     begun_to _ c.encode.new.out.packets.now.stage (search rules) (begun_valid _ _ (ap (λ (w : Progress). w.stage) sent.valid))
 
 pub close-requires-clause-some : goal.close-requires-clause-some
 close-requires-clause-some g c =
-    let s = c.args.plan.now in
+    let s = c.args.present.now.plan.now in
+    let image = c.args.present.now.at.now in
     let cells = c.args.blocks.now.numbers in
     let least : 64 ≤ c.args.packets.now.packet = omega (arith, c.requires.packet, c.requires.in_range.in_range.packet) in
-    let begins = c.sink-sink.ensures.same_packets ∙ c.begin.ensures.begun ∙ begun_with s c.args.at.now.index c.args.packets.now c.ancillary.result
+    let begins = c.sink-sink.ensures.same_packets ∙ c.begin.ensures.begun ∙ begun_with s image.index c.args.packets.now c.ancillary.result
     c.ancillary.ensures in
     let given = c.in-Ok.ensures.text in
-    let depths = c.depths-depth_dc in
+    let depths = c.depths-depths in
     let long : length cells ≡ 64 * c.len.result = sym c.len.ensures in
-    let same = made c.args.writer.now.tables.book s c.requires.book c.args.at.now.index c.args.at.now.used c.share-limit.result _ depths.result.0
+    let same = made c.args.writer.now.tables.book s c.requires.book image.index image.used c.share-limit.result _ depths.result.0
     depths.result.1 c.make_head-head.result cells c.make_head-head.ensures c.share-limit.ensures long depths.ensures.dc depths.ensures.ac in
     let gave = rw same at given.gave in
-    let sent = sink_goes_on g.X.Port.outside c.sink-sink.result c.encode.new.out c.args.packets.now (text_of s c.args.at.now.index) c.args.port.now _ begins
+    let sent = sink_goes_on g.X.Port.outside c.sink-sink.result c.encode.new.out c.args.packets.now (text_of s image.index) c.args.port.now _ begins
     c.sink-sink.ensures.same_port least gave in
     let waits : 0 < length c.encode.new.out.packets.now.pending =
-    some_wait c.args.packets.now (text_for s c.args.at.now.index c.args.at.now.used (blocks_in cells))
-    (some_text s c.args.at.now.index c.args.at.now.used cells c.requires.in_range) sent in
+    some_wait c.args.packets.now (text_for s image.index image.used (blocks_in cells))
+    (some_text s image.index image.used cells c.requires.in_range) sent in
     grind (arith, waits)
 
 pub returns-in_default-close : goal.returns-in_default-close
 returns-in_default-close g c =
-    let s = c.args.plan.now in
+    let s = c.args.present.now.plan.now in
+    let image = c.args.present.now.at.now in
     let cells = c.args.blocks.now.numbers in
-    let index = c.args.at.now.index in
-    let used = c.args.at.now.used in
+    let index = image.index in
+    let used = image.used in
     let least : 64 ≤ c.args.packets.now.packet = omega (arith, c.requires.packet, c.requires.in_range.in_range.packet) in
     let begins = c.sink-sink.ensures.same_packets ∙ c.begin.ensures.begun ∙ begun_with s index c.args.packets.now c.ancillary.result c.ancillary.ensures in
     let given = c.in-Ok.ensures.text in
-    let depths = c.depths-depth_dc in
+    let depths = c.depths-depths in
     let long : length cells ≡ 64 * c.len.result = sym c.len.ensures in
     let same = made c.args.writer.now.tables.book s c.requires.book index used c.share-limit.result _ depths.result.0 depths.result.1
     c.make_head-head.result cells c.make_head-head.ensures c.share-limit.ensures long depths.ensures.dc depths.ensures.ac in
@@ -148,14 +153,15 @@ returns-in_default-close g c =
 
 pub returns : goal.returns
 returns g c =
-    let s = c.args.plan.now in
+    let s = c.args.present.now.plan.now in
+    let image = c.args.present.now.at.now in
     let cells = c.args.blocks.now.numbers in
-    let index = c.args.at.now.index in
-    let used = c.args.at.now.used in
+    let index = image.index in
+    let used = image.used in
     let least : 64 ≤ c.args.packets.now.packet = omega (arith, c.requires.packet, c.requires.in_range.in_range.packet) in
     let begins = c.sink-sink.ensures.same_packets ∙ c.begin.ensures.begun ∙ begun_with s index c.args.packets.now c.ancillary.result c.ancillary.ensures in
     let given = c.in-Ok.ensures.text in
-    let depths = c.depths-depth_dc in
+    let depths = c.depths-depths in
     let long : length cells ≡ 64 * c.len.result = sym c.len.ensures in
     let same = made c.args.writer.now.tables.book s c.requires.book index used c.share-limit.result _ depths.result.0 depths.result.1
     c.make_head-head.result cells c.make_head-head.ensures c.share-limit.ensures long depths.ensures.dc depths.ensures.ac in

@@ -19,19 +19,19 @@ odd_row-requires-clause-bounded_d c = grind (arith, common_steps)
 
 pub loop-i-preserved : goal.loop-i-preserved
 loop-i-preserved c =
-    let w = c.args.w in
-    let n = c.args.n in
+    let w = c.args.halves.width in
+    let n = c.args.halves.count in
     let i = c.loop-i.i in
     let room : (2 * i + 1) * w + w ≤ 2 * n * w = row_ends (2 * n) (2 * i + 1) w (omega arith) in
     let kept = λ (k : ℕ) (h : k < n). Agrees-row_of n w k _ _ h c.loop-i.invariant.even in
     let made =
-    Agrees-columns_odd _ _ w _ n i _ _ _ _ _ _ _ _ _ c.row_of-odd.ensures.whole c.mirrored_before.ensures c.mirrored_after.ensures.value
+    Agrees-columns_odd _ _ w _ n i _ _ _ _ _ _ _ _ _ c.row_of-in-loop-i-4.ensures.whole c.mirrored_before.ensures c.mirrored_after.ensures.value
     c.mirrored_after-in-loop-i.ensures.value c.odd_row.ensures
-    (Agrees-part w _ _ _ c.row_of-odd.ensures.row)
-    (Agrees-trans _ _ _ _ (Agrees-part w _ _ _ c.row_of-before.ensures.row) (kept c.mirrored_before.result (omega arith)))
-    (Agrees-trans _ _ _ _ (Agrees-part w _ _ _ c.row_of-here.ensures.row) (kept i (omega arith)))
-    (Agrees-trans _ _ _ _ (Agrees-part w _ _ _ c.row_of-after.ensures.row) (kept c.mirrored_after.result (omega arith)))
-    (Agrees-trans _ _ _ _ (Agrees-part w _ _ _ c.row_of-second.ensures.row) (kept c.mirrored_after-in-loop-i.result (omega arith))) in
+    (Agrees-part w _ _ _ c.row_of-in-loop-i-4.ensures.row)
+    (Agrees-trans _ _ _ _ (Agrees-part w _ _ _ c.row_of.ensures.row) (kept c.mirrored_before.result (omega arith)))
+    (Agrees-trans _ _ _ _ (Agrees-part w _ _ _ c.row_of-in-loop-i.ensures.row) (kept i (omega arith)))
+    (Agrees-trans _ _ _ _ (Agrees-part w _ _ _ c.row_of-in-loop-i-2.ensures.row) (kept c.mirrored_after.result (omega arith)))
+    (Agrees-trans _ _ _ _ (Agrees-part w _ _ _ c.row_of-in-loop-i-3.ensures.row) (kept c.mirrored_after-in-loop-i.result (omega arith))) in
     record {
       even = SameWithin-put_off (λ k. 2 * k) (2 * i + 1) w n _ _ _ _ (omega arith) (omega arith) (omega arith) (λ k h. omega arith) c.loop-i.invariant.even;
       odd = SameWithin-put_at (λ k. 2 * k + 1) w i _ _ _ _ (omega arith) (omega arith) (omega arith) (λ k h. omega arith) c.loop-i.invariant.odd

@@ -2,7 +2,7 @@ use Rattle.std.proofs.Common.{rules, ℕ, zero, suc, ◌+◌, ◌*◌, ◌<◌, 
 use Rattle.std.proofs.lemmas.Int.{unsigned_abs-mul}
 use Rattle.base_122.specs.Weights.{usual_shifts}
 use Rattle.wave_defs.specs.Blocks.{place_of}
-use Rattle.block_families.proofs.Passing.{shift_small}
+use Rattle.base_122.proofs.ShiftLaws.{shift_low}
 use Rattle.wave_tests.proofs.places.gather_named.Goals as goal
 
 product_small : (a : ℤ) (b : ℕ) → unsigned_abs a ≤ 400 → b ≤ 8 → unsigned_abs (a *ℤ pos b) < 2 ^ 31
@@ -12,6 +12,6 @@ product_small a b ha hb =
 
 pub gather-requires-clause-fits : goal.gather-requires-clause-fits
 gather-requires-clause-fits c = λ i h.
-    let small : slice_index c.usual.result.shifts (place_of i).band ≤ 3 = rw c.usual.ensures (shift_small usual_shifts (place_of i).band (search rules)) in
+    let small : slice_index c.usual.result.shifts (place_of i).band ≤ 3 = rw c.usual.ensures (shift_low usual_shifts (place_of i).band (search rules)) in
     let weight : 2 ^ slice_index c.usual.result.shifts (place_of i).band ≤ 2 ^ 3 = pow_mono small in
     product_small _ (2 ^ slice_index c.usual.result.shifts (place_of i).band) (c.each_named.ensures _) (omega arith)

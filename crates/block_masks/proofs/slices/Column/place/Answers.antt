@@ -6,5 +6,5 @@ use Rattle.block_masks.proofs.slices.Column.place.Goals as goal
 pub returns-clause-place : goal.returns-clause-place
 returns-clause-place c =
     let r = c.args.self.block in
-    place_in c.args.self.first c.args.self.step (15360 * (r / 240)) (width (length c.args.cells.now / 64) r) (r % 240) c.args.slot c.requires.column.first
+    place_in c.args.self.first c.args.self.step (4096 * (r / 64)) (width (length c.args.cells.now / 64) r) (r % 64) c.args.slot c.requires.column.first
     c.requires.column.step

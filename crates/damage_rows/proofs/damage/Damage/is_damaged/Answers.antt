@@ -14,7 +14,7 @@ returns-then-is_missing c =
 
 pub returns : goal.returns
 returns c =
-    let listed : (r : ℕ) → is_missing c.args.self.now.missing r ≡ true → r < 32768 = rw (← c.self.view_is) (missing_low c.self.inside.words) in
+    let listed : (r : ℕ) → is_missing c.args.self.now.missing r ≡ true → r < 32768 = rw (← c.self.view_is) (missing_low c.self.inside.words.items) in
     let none : (r : ℕ) → r < 32768 → 8 * r ≤ c.args.row + 21 → c.args.row ≤ 8 * r + 29 → is_missing c.args.self.now.missing r ≡ false =
     λ r small low high. c.loop-block_row.invariant r (omega arith) high in
     sym (undamaged_by c.args.self.now.rows c.args.self.now.missing c.args.row listed none)

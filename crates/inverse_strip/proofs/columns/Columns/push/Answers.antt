@@ -1,9 +1,10 @@
-use Rattle.std.proofs.Common.{◌≡◌, ℕ, ◌*◌, ◌^◌, length, arith}
+use Rattle.std.proofs.Common.{◌≡◌, ℕ, ◌*◌, ◌^◌, length, arith, drop}
+use Rattle.std.proofs.Math.Seq.{take_at}
 use Rattle.wave_defs.specs.Within.{AllWithin}
 use Rattle.wave_defs.specs.Held.{signal}
 use Rattle.wave_defs.proofs.RingLaws.{RowsWithin-turn}
 use Rattle.inverse_strip.specs.Kept.{ArePairsWithin}
-use Rattle.inverse_strip.proofs.RingLemmas.{written_whole, AreRings-turn, HoldPairs-pushed}
+use Rattle.inverse_strip.proofs.RingLemmas.{AreRings-turn, HoldPairs-pushed}
 use Rattle.inverse_strip.proofs.PairLemmas.{ArePairsWithin-turn, both_true}
 use Rattle.inverse_strip.proofs.columns.Columns.push.Goals as goal
 
@@ -13,7 +14,7 @@ returns-clause-follows c =
     let row = c.args.row.now in
     let out = c.even_row.new.row in
     let wide : length out ≡ s.width = omega arith in
-    let whole = written_whole row.len out row.items (omega arith) (omega arith) in
+    let whole = take_at out (drop (length out) row.items) row.len (omega arith) in
     let held = HoldPairs-pushed s.width _ s.taken s.evens s.highs _ _ row.items _ out _ c.args.high.now s.sink_state (omega arith) wide c.requires.wide_high
     c.deref_mut.ensures.value whole c.turn_swap.ensures.rows c.turn_copy.ensures c.even_row.ensures in
     held
@@ -24,7 +25,7 @@ returns-clause-within c = λ m some within_low.
     let row = c.args.row.now in
     let out = c.even_row.new.row in
     let wide : length out ≡ s.width = omega arith in
-    let whole = written_whole row.len out row.items (omega arith) (omega arith) in
+    let whole = take_at out (drop (length out) row.items) row.len (omega arith) in
     let held = HoldPairs-pushed s.width _ s.taken s.evens s.highs _ _ row.items _ out _ c.args.high.now s.sink_state (omega arith) wide c.requires.wide_high
     c.deref_mut.ensures.value whole c.turn_swap.ensures.rows c.turn_copy.ensures c.even_row.ensures in
     ArePairsWithin-turn m s.width s.taken s.evens s.highs _ _ (signal row.items) (signal c.args.high.now) held some within_low c.requires.small_high
@@ -35,7 +36,7 @@ invariant_of-self c =
     let row = c.args.row.now in
     let out = c.even_row.new.row in
     let wide : length out ≡ s.width = omega arith in
-    let whole = written_whole row.len out row.items (omega arith) (omega arith) in
+    let whole = take_at out (drop (length out) row.items) row.len (omega arith) in
     let held = HoldPairs-pushed s.width _ s.taken s.evens s.highs _ _ row.items _ out _ c.args.high.now s.sink_state (omega arith) wide c.requires.wide_high
     c.deref_mut.ensures.value whole c.turn_swap.ensures.rows c.turn_copy.ensures c.even_row.ensures in
     let three = s.sink_state.highs.count_is in

@@ -1,8 +1,8 @@
-use Rattle.std.proofs.Common.{◌≡◌, ℕ, ◌*◌, ◌^◌, sym, subst, arith}
+use Rattle.std.proofs.Common.{◌≡◌, ℕ, ◌*◌, ◌^◌, sym, subst, arith, drop, length}
+use Rattle.std.proofs.Math.Seq.{take_at}
 use Rattle.wave_defs.specs.Within.{AllWithin}
 use Rattle.wave_defs.specs.Held.{signal}
 use Rattle.wave_defs.specs.Rings.{AreNewest}
-use Rattle.inverse_strip.proofs.RingLemmas.{written_whole}
 use Rattle.inverse_strip.specs.Kept.{level_bound}
 use Rattle.lift_rows.proofs.Fits.{AllWithin-more}
 use Rattle.inverse_strip.proofs.StageLemmas.{waiting-at, waiting-small, low-at}
@@ -29,7 +29,7 @@ returns-clause-follows c = λ b q n below more end same follow.
     let w = s.level.left.width in
     let k = s.level.left.taken in
     let row = c.next_row.new.into in
-    let whole = written_whole s.level.left_row.len row s.level.left_row.items (omega arith) (omega arith) in
+    let whole = take_at row (drop (length row) s.level.left_row.items) s.level.left_row.len (omega arith) in
     let made = c.next_row.ensures.value b n below more end in
     let ll = low-at q b n w c.args.before.now.left.width c.args.before.now.given k row _ c.requires.wide c.requires.next same whole made in
     let hl = waiting-at q.hl w s.kept s.came k s.hl _ s.hl_valid c.at.ensures (omega arith) s.waits follow.hl in
@@ -48,7 +48,7 @@ push-requires-clause-small_ll c =
     let s = c.args.self.now in
     let w = s.level.left.width in
     let row = c.next_row.new.into in
-    let whole = written_whole s.level.left_row.len row s.level.left_row.items (omega arith) (omega arith) in
+    let whole = take_at row (drop (length row) s.level.left_row.items) s.level.left_row.len (omega arith) in
     let wide : 2 * c.args.before.now.left.width ≡ w = omega arith in
     let within = subst (λ (v : ℕ). AllWithin (level_bound (21 * 2 ^ 25)) v (signal row)) wide (c.next_row.ensures.row_within (21 * 2 ^ 25) c.requires.within) in
     rw whole (AllWithin-more _ (375 * 2 ^ 22) w _ (omega arith) within)
@@ -58,7 +58,7 @@ returns-clause-within c = λ m k below le small.
     let s = c.args.self.now in
     let w = s.level.left.width in
     let row = c.next_row.new.into in
-    let whole = written_whole s.level.left_row.len row s.level.left_row.items (omega arith) (omega arith) in
+    let whole = take_at row (drop (length row) s.level.left_row.items) s.level.left_row.len (omega arith) in
     let wide : 2 * c.args.before.now.left.width ≡ w = omega arith in
     let within = subst (λ (v : ℕ). AllWithin (level_bound m) v (signal row)) wide (c.next_row.ensures.row_within m below) in
     c.push.ensures.within k small (rw whole (AllWithin-more (level_bound m) k w (signal row) le within))

@@ -1,8 +1,8 @@
-use Rattle.std.proofs.Common.{◌≡◌, ℕ, ◌*◌, subst, arith}
+use Rattle.std.proofs.Common.{◌≡◌, ℕ, ◌*◌, subst, arith, drop, length}
+use Rattle.std.proofs.Math.Seq.{take_at}
 use Rattle.wave_defs.specs.Pyramid.{first_of, rebuilt}
 use Rattle.wave_defs.specs.Held.{Agrees, signal}
 use Rattle.inverse_strip.specs.Kept.{HasRow}
-use Rattle.inverse_strip.proofs.RingLemmas.{written_whole}
 use Rattle.inverse_strip.proofs.StripLemmas.{Counts-first, made-row}
 use Rattle.inverse_strip.proofs.strip.StripInverse.make_row.Goals as goal
 
@@ -34,7 +34,7 @@ returns-clause-value c = λ p r completion follow.
     let whole = completion.whole all in
     let t : 4 * r ≡ 4 * s.height = omega arith in t in
     let out = c.next_row.new.into in
-    let whole = written_whole s.row.len out s.row.items (omega arith) (omega arith) in
+    let whole = take_at out (drop (length out) s.row.items) s.row.len (omega arith) in
     let made = c.next_row.ensures.value (first_of p r w) (4 * r) f.first (omega arith) end in
     let row = made-row p r w s.first.level.left.width s.first.level.given c.args.self.now.first.level.given _ s.first_wide i.given made in
     rw whole (subst (λ (v : ℕ). Agrees (8 * v) (signal out) (rebuilt p r v c.args.self.now.first.level.given)) i.width row)

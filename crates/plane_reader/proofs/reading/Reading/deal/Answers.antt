@@ -1,5 +1,5 @@
-use Rattle.std.proofs.Common.{◌≤◌, ◌+◌, ◌*◌, arith, refl}
-use Rattle.plane_reader.proofs.FoundMasks.{room_four}
+use Rattle.std.proofs.Common.{◌≤◌, ◌+◌, ◌*◌, arith}
+use Rattle.plane_reader.proofs.FoundMasks.{room_four, room_half}
 use Rattle.plane_reader.proofs.WindowWords.{few_ones}
 use Rattle.plane_reader.proofs.WindowParts.{moved_on}
 use Rattle.plane_reader.proofs.HeldReads.{moves_passed, holds_passed}
@@ -50,6 +50,9 @@ loop-k-preserved g c =
           rw width d;
     }
 
+pub add_raw-requires-clause-room : goal.add_raw-requires-clause-room
+add_raw-requires-clause-room g c = room_half c.args.here c.args.start c.requires.start c.requires.few
+
 pub pass-requires-clause-count : goal.pass-requires-clause-count
 pass-requires-clause-count g c = omega (arith, c.loop-k.invariant.low, c.loop-k.auto.k-end)
 
@@ -60,13 +63,17 @@ pub returns-clause-dealt : goal.returns-clause-dealt
 returns-clause-dealt g c = λ yes s f is shown.
     let i = c.loop-k.invariant in
     let left = c.need.ensures.has.0 c.if-not-need.false in
-    dealt_all f c.args.start s c.need.new.self.rest (i.dealt s f is shown) (omega (arith, c.loop-k-test.false)) c.need.ensures.stays
+    dealt_all f c.args.start s c.need.new.self.rest (i.dealt s f is shown) (omega (arith, c.loop-k-test.false)) (omega (
+      arith,
+      c.loop-k.auto.k-end,
+    )) c.need.ensures.stays
     (moves_passed {c = c.need.new.self} {d = c.pass.new.self} c.need.ensures.holds c.loop-k.count (omega (
       arith,
       i.low,
       c.loop-k.auto.k-end,
       left,
-    )) c.pass.ensures.used c.pass.ensures.window c.pass.ensures.rest c.need.ensures.is_in) refl refl
+    )) c.pass.ensures.used c.pass.ensures.window c.pass.ensures.rest c.need.ensures.is_in) c.add_raw.ensures.bits c.add_raw.ensures.minus
+    (c.add_raw.ensures.raw s.raw f 32 (omega (arith, c.requires.start)) is.raw shown)
 
 pub returns-clause-reading : goal.returns-clause-reading
 returns-clause-reading g c =

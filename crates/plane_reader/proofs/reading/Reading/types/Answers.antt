@@ -223,6 +223,7 @@ returns-clause-types g c = λ s f is_state marks.
     held_types book f group.is_wanted group.start group.count s
     (types_is book sound f group.start group.count c.requires.few s is_state.options here small shows row cursor.rest is (signs_word tail
     (count_ones first.places) (omega arith) few) spread within reading.found c.add_bits.new.self c.add_minus.new.self is_state c.add_bits.ensures.minus
+    (c.add_minus.ensures.raw ∙ c.add_bits.ensures.raw)
     (subst (λ n. (h g' : ℕ → Bool) (m : ℕ) → group.start + m ≤ 64 → Shows reading.found.bits h 0 64 → Shows n g' group.start m →
     Shows c.add_bits.new.self.bits (λ p. h p || (inside group.start m p && g' p)) 0 64) same c.add_bits.ensures.bits) c.add_minus.ensures.bits
     c.add_minus.ensures.minus)
