@@ -13,6 +13,7 @@ from pathlib import Path
 
 SIDE = 2048  # the side of the usual picture
 PIXELS = 1 << 20  # a smaller picture runs several times for one figure
+AEC = "aec (libaec)"
 
 # The lengths of the codes of the six tables of a book.
 LENGTHS = [
@@ -158,11 +159,40 @@ class Line:
         return back == raster or (not self.is_ours and raster in (back[-len(raster) :], back[: len(raster)]))
 
     def row(self) -> str:
-        spans = " | ".join(f"{min(times):.1f} to {max(times):.1f}" for times in self.times)
         length = self.packed.stat().st_size
         bits = 8 * length / (self.size[0] * self.size[1])
         same = "yes" if self.is_same else "NO"
-        return f"| {self.name} | {self.size[0]} x {self.size[1]} | {self.depth} | {spans} | {length:,} | {bits:.2f} | {same} |"
+        return f"| {self.name} | {self.size[0]} x {self.size[1]} | {self.depth} | {spans(self.times)} | {length:,} | {bits:.2f} | {same} |"
+
+
+def spans(times: tuple[list[float], list[float]]) -> str:
+    """The least and the greatest time to encode and to decode."""
+    return " | ".join(f"{min(each):.1f} to {max(each):.1f}" for each in times)
+
+
+@dataclass
+class Together:
+    """Pictures of one depth that are one line of the table: their time over all their pixels."""
+
+    name: str
+    lines: list[Line]
+
+    @property
+    def times(self) -> tuple[list[float], list[float]]:
+        """The nanoseconds a pixel of each round, to encode and to decode."""
+        counts = [line.size[0] * line.size[1] for line in self.lines]
+        encode, decode = (
+            [sum(time * count for time, count in zip(each, counts)) / sum(counts) for each in zip(*(line.times[way] for line in self.lines))]
+            for way in (0, 1)
+        )
+        return encode, decode
+
+    def row(self) -> str:
+        pixels = sum(line.size[0] * line.size[1] for line in self.lines)
+        length = sum(line.packed.stat().st_size for line in self.lines)
+        same = "yes" if all(line.is_same for line in self.lines) else "NO"
+        size = f"{len(self.lines)} pictures"
+        return f"| {self.name} | {size} | {self.lines[0].depth} | {spans(self.times)} | {length:,} | {8 * length / pixels:.2f} | {same} |"
 
 
 def photograph_book() -> bytes:
@@ -178,6 +208,7 @@ class Bench:
     def __init__(self, program: str, folder: Path):
         self.program, self.folder = program, folder
         self.lines: list[Line] = []
+        self.real: list[Together] = []
 
     def keep(self, name: str, octets: bytes) -> Path:
         path = self.folder / name
@@ -204,7 +235,7 @@ class Bench:
         aec = f"aec -n {max(8, depth)}{' -m' if depth > 8 else ''} -j 32 -r 64"
         lone = "--num_threads=0"
         known = [
-            ("aec (libaec)", "aec", "raw", f"{aec} {raster} PACKED", f"{aec} -d PACKED BACK"),
+            (AEC, "aec", "raw", f"{aec} {raster} PACKED", f"{aec} -d PACKED BACK"),
             ("opj_compress (OpenJPEG)", "j2k", "pgm", f"opj_compress -i {pgm} -o PACKED", "opj_decompress -i PACKED -o BACK"),
             ("cjxl -e 1 (libjxl)", "jxl", "pgm", f"cjxl -d 0 -e 1 {lone} {pgm} PACKED", f"djxl {lone} PACKED BACK"),
         ]
@@ -244,8 +275,27 @@ class Bench:
                     self.ours("drawn, segment=65536", (side, side), 8, path, "segment=65536")
         self.ours("noise", square, 8, self.keep("noise", raster(noise(SIDE), 8)))
         self.ours("flat", square, 8, self.keep("flat", raster(flat(SIDE), 8)))
-        for depth in (8, 12):
+        for depth in (8, 12, 16):
             self.others(square, depth, rasters[depth])
+
+    def add_real(self) -> bool:
+        """Adds real pictures, the program's beside those of libaec, if they and libaec are installed; returns whether they are."""
+        if shutil.which("aec") is None:
+            return False
+        try:
+            pictures = real_pictures()
+        except (ImportError, OSError):
+            return False
+        ours, theirs = Bench(self.program, self.folder / "real"), Bench(self.program, self.folder / "aec")
+        ours.folder.mkdir()
+        theirs.folder.mkdir()
+        for name, size, octets in pictures:
+            path = ours.keep(f"{name}.raster", octets)
+            ours.ours(name, size, 8, path)
+            theirs.others(size, 8, path)
+        theirs.lines = [line for line in theirs.lines if line.name == AEC]
+        self.real = [Together("real pictures", ours.lines), Together(f"real pictures, {AEC}", theirs.lines)]
+        return True
 
     def rows(self, rounds: int) -> str:
         """Measures the library row by row beside whole images, and returns the row of a table, or why there is none."""
@@ -267,6 +317,16 @@ class Bench:
         path = self.keep(f"{len(self.lines)}.raster", octets)
         self.ours(os.path.basename(name), size, depth, path)
         self.others(size, depth, path)
+
+
+# ---- real pictures
+
+
+def real_pictures() -> list[tuple[str, tuple[int, int], bytes]]:
+    """The twelve pictures of tools/pictures.py, which needs Pillow and python3-skimage: names, sizes and rasters of 8 bits of grey."""
+    import pictures
+
+    return [(path.stem, *pictures.read_gray(path)) for path in pictures.usual_pictures()]
 
 
 # ---- a picture that is handed in
@@ -315,17 +375,20 @@ def main() -> None:
         bench.add_all(given.most)
         for name in given.pictures:
             bench.add_file(name)
+        if not bench.add_real():
+            print("Real pictures are not measured: Debian's python3-skimage, Pillow or libaec-tools is missing.")
         print(f"Least to greatest of {given.rounds} rounds, user and system nanoseconds a pixel. {machine()}.", flush=True)
         for _ in range(given.rounds):
-            for line in bench.lines:
+            for line in [*bench.lines, *(line for group in bench.real for line in group.lines)]:
                 line.measure()
         print("\n| what | size | depth | encode | decode | octets | bits a pixel | the same |")
         print("|---|---|---|---|---|---|---|---|")
-        for line in bench.lines:
+        for line in [*bench.lines, *bench.real]:
             print(line.row())
         print(f"\n{bench.rows(given.rounds)}")
         print(f"\nAt the end: {machine()}.")
-        sys.exit(0 if all(line.is_same for line in bench.lines) else "what is decoded isn't what was encoded")
+        measured = [*bench.lines, *(line for group in bench.real for line in group.lines)]
+        sys.exit(0 if all(line.is_same for line in measured) else "what is decoded isn't what was encoded")
 
 
 if __name__ == "__main__":

@@ -9,6 +9,7 @@ from dataclasses import dataclass
 
 from PIL import Image
 
+DATA = pathlib.Path("/usr/lib/python3/dist-packages/skimage/data")
 NAMES = "astronaut brick camera cell chelsea coffee coins grass gravel hubble_deep_field moon retina".split()
 
 
@@ -73,18 +74,28 @@ def read_gray(path: pathlib.Path) -> tuple[tuple[int, int], bytes]:
         return gray.size, gray.tobytes()
 
 
+def usual_pictures() -> list[pathlib.Path]:
+    """The twelve pictures of Debian's python3-skimage; an OSError if one isn't there."""
+    paths = []
+    for name in NAMES:
+        found = sorted(DATA.glob(f"{name}.[pj][np]g"))
+        if not found:
+            raise FileNotFoundError(f"{DATA}: {name} is missing (Debian: apt-get install python3-skimage)")
+        paths.append(found[0])
+    return paths
+
+
 def main() -> int:
     parser = argparse.ArgumentParser(prog="tools/pictures.sh")
     parser.add_argument("--side", type=int, default=4096, help="the side of the picture of `make` for the memory, 4096 if it isn't given")
     parser.add_argument("program", help=argparse.SUPPRESS)
     parser.add_argument("pictures", nargs="*", help="the twelve of Debian's python3-skimage if none is given")
     given = parser.parse_intermixed_args()
-    data = pathlib.Path("/usr/lib/python3/dist-packages/skimage/data")
-    paths = [pathlib.Path(name) for name in given.pictures] or [next(data.glob(f"{name}.[pj][np]g")) for name in NAMES]
     known = [coder for coder in coders(given.program) if coder.is_there()]
     octets, pixels = dict.fromkeys([coder.name for coder in known], 0), 0
     rows = {}
     try:
+        paths = [pathlib.Path(name) for name in given.pictures] or usual_pictures()
         with tempfile.TemporaryDirectory(prefix="strip122-pictures-") as name:
             for path in paths:
                 size, raster = read_gray(path)
