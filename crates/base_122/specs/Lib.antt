@@ -3,3 +3,4 @@ pub mod Profile
 pub mod Weights
 pub mod Ranges
 pub mod Setting
+pub mod Restored

@@ -56,4 +56,4 @@ usual_setting width rows = record {
 
 -- the usual wish of a decoder
 abbrev pub usual_wish : DecodeWish
-usual_wish = record { apid = 100; pixels = 2 ^ 32; octets = 2 ^ 40; book = profile }
+usual_wish = record { apid = 100; pixels = 2 ^ 32; octets = 2 ^ 40; book = profile; restore = false }

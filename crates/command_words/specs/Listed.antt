@@ -11,7 +11,7 @@ use Rattle.command_words.specs.declared.tables.Task.TheVariants.{Encode, Mux, Re
 use Rattle.command_words.specs.declared.tables.Reading.TheVariants.{Decode, Damage, Look, Rects, List as ListPackets}
 use Rattle.command_words.specs.declared.tables.Key.{Key}
 use Rattle.command_words.specs.declared.tables.Key.TheVariants.{Width, Rows, Depth, Signed, Segment, Limit, Fill, Word, Stop, Weights, Select, Apid, Image}
-use Rattle.command_words.specs.declared.tables.Key.TheVariants.{Packet, Pixels, Octets, Total, Cameras, Book, Seed}
+use Rattle.command_words.specs.declared.tables.Key.TheVariants.{Packet, Pixels, Octets, Total, Cameras, Book, Seed, Restore}
 use Rattle.command_words.specs.declared.tables.Range.{Range}
 use Rattle.command_words.specs.declared.tables.Range.TheVariants.{All as any_value, Number as number_range, Cap as cap_range, Rows as image_rows}
 use Rattle.command_words.specs.declared.tables.Range.TheVariants.{Limit as limit_range, Total as total_range, Fill as fill_range, Stop as stop_range}
@@ -41,6 +41,7 @@ key_text Total = codes "total"
 key_text Cameras = codes "cameras"
 key_text Book = codes "book"
 key_text Seed = codes "seed"
+key_text Restore = codes "restore"
 
 -- the default of a key, which only the commands that don't need it have
 abbrev pub default_of : Key → Value
@@ -64,6 +65,7 @@ default_of Total = Cap 0
 default_of Cameras = Number 1
 default_of Book = Flag false
 default_of Seed = Number 0
+default_of Restore = Flag false
 
 -- a command that has one of these keys needs it
 abbrev pub is_required : Key → Bool
@@ -93,6 +95,7 @@ range_of Total = total_range
 range_of Cameras = cameras_range
 range_of Book = any_value
 range_of Seed = any_value
+range_of Restore = any_value
 
 -- the field that a note names for a key
 abbrev pub named_field : Key → Option Field
@@ -116,11 +119,12 @@ named_field Total = Some field.Total
 named_field Cameras = Some field.Cameras
 named_field Book = None
 named_field Seed = None
+named_field Restore = None
 
 -- all keys, in the order in which their ranges are tested
 abbrev pub all_keys : List Key
 all_keys = Width ∷ Rows ∷ Depth ∷ Signed ∷ Segment ∷ Limit ∷ Fill ∷ Word ∷ Stop ∷ Weights ∷ Select ∷ Apid ∷ Image ∷ Packet ∷ Pixels ∷ Octets ∷ Total
-    ∷ Cameras ∷ Book ∷ Seed ∷ []
+    ∷ Cameras ∷ Book ∷ Seed ∷ Restore ∷ []
 
 -- the commands: for each its name, what it does, and its keys in the order in which a missing one is named
 abbrev pub commands : List (List ℕ × Task × List Key)
@@ -131,15 +135,15 @@ commands = (
       Book ∷ [],
 ) ∷
     (codes "mux", Mux, Width ∷ Rows ∷ Depth ∷ Signed ∷ Segment ∷ Limit ∷ Fill ∷ Word ∷ Stop ∷ Weights ∷ Select ∷ Apid ∷ Image ∷ Packet ∷ Total ∷ Cameras ∷ []) ∷
-    (codes "decode", Read Decode, Apid ∷ Pixels ∷ Octets ∷ Book ∷ []) ∷
+    (codes "decode", Read Decode, Apid ∷ Pixels ∷ Octets ∷ Restore ∷ Book ∷ []) ∷
     (codes "damage", Read Damage, Apid ∷ Pixels ∷ Octets ∷ Book ∷ []) ∷
     (codes "rects", Read Rects, Apid ∷ Pixels ∷ Octets ∷ []) ∷
-    (codes "look", Read Look, Apid ∷ Pixels ∷ Octets ∷ []) ∷
+    (codes "look", Read Look, Apid ∷ Pixels ∷ Octets ∷ Restore ∷ []) ∷
     (codes "list", Read ListPackets, Apid ∷ Octets ∷ []) ∷
     (codes "info", Info, Apid ∷ Octets ∷ []) ∷
     (codes "pick", Pick, Apid ∷ Image ∷ Octets ∷ []) ∷
     (codes "bare-encode", BareEncode, Width ∷ Rows ∷ Depth ∷ Signed ∷ Segment ∷ Limit ∷ Fill ∷ Word ∷ Stop ∷ Weights ∷ Select ∷ []) ∷
-    (codes "bare-decode", BareDecode, Pixels ∷ Octets ∷ []) ∷
+    (codes "bare-decode", BareDecode, Pixels ∷ Octets ∷ Restore ∷ []) ∷
     (codes "make", Make, Width ∷ Rows ∷ Depth ∷ Signed ∷ Seed ∷ []) ∷ (
       codes "trial",
       Trial,

@@ -14,7 +14,7 @@ use Rattle.command_words.specs.declared.command.Command.{Command}
 use Rattle.command_words.specs.declared.command.Command.TheVariants.{Encode, Mux, Read, Info, Pick, BareEncode, BareDecode, Make, Trial}
 use Rattle.command_words.specs.declared.tables.Key.{Key}
 use Rattle.command_words.specs.declared.tables.Key.TheVariants.{Width, Rows, Depth, Signed, Segment, Limit, Fill, Word, Stop, Weights, Select, Apid, Image}
-use Rattle.command_words.specs.declared.tables.Key.TheVariants.{Packet, Pixels, Octets, Total, Cameras, Book, Seed}
+use Rattle.command_words.specs.declared.tables.Key.TheVariants.{Packet, Pixels, Octets, Total, Cameras, Book, Seed, Restore}
 use Rattle.command_words.specs.declared.tables.KeyRow.{KeyRow}
 use Rattle.command_words.specs.declared.values.Value.{Value}
 use Rattle.command_words.specs.declared.tables.Range.TheVariants.{All as any_value}
@@ -45,6 +45,7 @@ key_place Total = 16
 key_place Cameras = 17
 key_place Book = 18
 key_place Seed = 19
+key_place Restore = 20
 
 -- a key's row
 abbrev pub row_of : Key → KeyRow
@@ -112,7 +113,13 @@ setting_of finds = record {
 
 -- the wish for a decoder, with the book of the profile
 abbrev pub wish_of : Finds → DecodeWish
-wish_of finds = record { apid = number_at finds Apid; pixels = cap_of (value_at finds Pixels); octets = cap_of (value_at finds Octets); book = profile }
+wish_of finds = record {
+  apid = number_at finds Apid;
+  pixels = cap_of (value_at finds Pixels);
+  octets = cap_of (value_at finds Octets);
+  book = profile;
+  restore = flag_of (value_at finds Restore);
+}
 
 -- the made image of the values
 abbrev pub made_image_of : Finds → MadeImage

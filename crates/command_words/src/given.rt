@@ -266,6 +266,7 @@ impl Given {
             pixels: self.cap(Key::Pixels),
             octets: self.cap(Key::Octets),
             book: Book::profile(),
+            restore: self.flag(Key::Restore),
         }
     }
 

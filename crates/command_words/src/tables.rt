@@ -58,6 +58,7 @@ pub enum Key {
     Cameras,
     Book,
     Seed,
+    Restore,
 }
 
 /// The form in which the value of a key is written.
@@ -105,7 +106,7 @@ pub struct KeyRow {
 }
 
 /// The number of keys.
-pub const COUNT: usize = 20;
+pub const COUNT: usize = 21;
 
 /// All keys in the order in which their ranges are tested, which is that of `Field`.
 pub const ALL: [Key; COUNT] = [
@@ -129,6 +130,7 @@ pub const ALL: [Key; COUNT] = [
     Key::Cameras,
     Key::Book,
     Key::Seed,
+    Key::Restore,
 ];
 
 // The usual weights.
@@ -191,6 +193,8 @@ const KEYS: [KeyEntry; COUNT] = [
         "1 if the input begins with a code book of 138 octets" },
     key_row! { "seed": Value::Number(0), None, Range::All,
         "number of the made image of this size" },
+    key_row! { "restore": Value::Flag(false), None, Range::All,
+        "1 to move coefficients that are given in part inside their intervals" },
 ];
 
 // A group of keys: its title and the keys.
@@ -203,7 +207,7 @@ pub const GROUPS: [(&str, &[Key]); 4] = [
     key_group! { "what\n": Width Rows Depth Signed Seed },
     key_group! { "how much to keep\n": Limit Total Fill Stop Weights Select },
     key_group! { "segments and packets\n": Segment Word Book Apid Cameras Image Packet },
-    key_group! { "reading\n": Pixels Octets },
+    key_group! { "reading\n": Pixels Octets Restore },
 ];
 
 // The groups have as many keys as there are.
@@ -236,7 +240,7 @@ pub const COMMANDS: [CommandRow; 13] = [
         Width Rows Depth Signed Segment Limit Fill Word Stop Weights Select Apid Image Packet Total Cameras },
     command_row! { "decode": Task::Read(Reading::Decode), "packets in, raster out, each row as soon as it is determined",
         "strip122 decode < packets > raster",
-        Apid Pixels Octets Book },
+        Apid Pixels Octets Restore Book },
     command_row! { "damage": Task::Read(Reading::Damage), "packets in, one line FIRST-LAST out for each range of damaged rows",
         "strip122 damage < packets > ranges",
         Apid Pixels Octets Book },
@@ -245,7 +249,7 @@ pub const COMMANDS: [CommandRow; 13] = [
         Apid Pixels Octets },
     command_row! { "look": Task::Read(Reading::Look), "packets in, a small picture out, with one value for each block",
         "strip122 look < packets > picture",
-        Apid Pixels Octets },
+        Apid Pixels Octets Restore },
     command_row! { "list": Task::Read(Reading::List), "packets in, one line out for each: its number and its fate",
         "strip122 list < packets > fates",
         Apid Octets },
@@ -260,7 +264,7 @@ pub const COMMANDS: [CommandRow; 13] = [
         Width Rows Depth Signed Segment Limit Fill Word Stop Weights Select },
     command_row! { "bare-decode": Task::BareDecode, "a bare stream in, raster out, each row as soon as it is determined",
         "strip122 bare-decode < stream > raster",
-        Pixels Octets },
+        Pixels Octets Restore },
     command_row! { "make": Task::Make, "a made raster out; it reads no input",
         "strip122 make width=640 rows=480 seed=7 > raster",
         Width Rows Depth Signed Seed },
