@@ -16,7 +16,8 @@ use Rattle.plane_defs.specs.StepLaws.{IsAc}
 use Rattle.plane_defs.specs.StageScripts.{Terms}
 use Rattle.plane_defs.specs.PlaneScript.{PlaneState, plane_script}
 use Rattle.plane_defs.specs.Lows.{Given, given_with, planes_given}
-use Rattle.plane_defs.specs.Restored.{restored_dc, restored_ac, restored_at, restored}
+use Rattle.base_122.specs.Restored.{restored_dc}
+use Rattle.plane_defs.specs.Restored.{restored_ac, restored_at, restored}
 use Rattle.plane_defs.proofs.NumbersGiven.{restored_by_position}
 use Rattle.plane_defs.proofs.LowsRoom.{magnitude_with, at_block}
 use Rattle.plane_defs.proofs.PlaneGoes.{long_with}
@@ -118,9 +119,10 @@ module _ (book : Book) (weights : List ℕ) (q : ℕ) (depths : List ℕ) where
   coded_low : (b p : ℕ) → coded weights b p ≡ true → shift weights p ≤ b
   coded_low b p e = let f : nat_le (shift weights p) b ≡ true = sym (coded_is weights b p) ∙ e in grind (arith, nat_tests)
 
-  step : (b : ℕ) (g : Given) → HaveAll weights q depths (suc b) g → (u : PlaneState) → All (IsAfter (terms b) depths g.numbers 5) u →
+  -- the plane below
+  pub have_all_next : (b : ℕ) (g : Given) → HaveAll weights q depths (suc b) g → (u : PlaneState) → All (IsAfter (terms b) depths g.numbers 5) u →
       HaveAll weights q depths b (given_with b g u)
-  step b g h u k = record {
+  have_all_next b g h u k = record {
     long = long_with b g.numbers u ∙ h.long;
     dc = λ r lt. dc_step (shift weights 0) q b (g.lows r 0) ((u.blocks r).bits 0) ((u.blocks r).raw 0)
         (λ e. let w = (k r lt).due e in (
@@ -161,7 +163,7 @@ module _ (book : Book) (weights : List ℕ) (q : ℕ) (depths : List ℕ) where
       yields_then (λ k. Unit {0}) (HaveAll weights q depths b) (HaveAll weights q depths 0) (around (given_with b g) script)
       (planes_given book weights q depths stages b)
       (yields_around (All (λ r s. Unit {0})) (All (IsAfter (terms b) depths g.numbers 5)) (λ k. Unit {0}) (HaveAll weights q depths b) (given_with b g)
-      (λ u k. tt) (step b g h) script
+      (λ u k. tt) (have_all_next b g h) script
       (subst (λ n. Yields (All (λ r s. Unit {0})) (All (IsAfter (terms b) depths g.numbers 5)) (plane_script (terms b) depths g.numbers n)) (sym five)
       (plane_after (terms b) depths g.numbers)))
       (λ k full. planes_full stages b (λ c lt. all c (omega (arith, lt))) k full)

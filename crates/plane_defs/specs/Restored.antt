@@ -1,16 +1,12 @@
 -- Numbers that are moved into the interval that their given bits determine. (docs/formats.md, "Stops, cut and fill"; this project's own.)
-use Rattle.std.specs.Prelude.{ℕ, zero, suc, ◌+◌, ◌-◌, ◌*◌, ◌/◌, ◌^◌, ◌==◌, if◌then◌else◌, List, [], length, map, Option, Some, None, ℤ, pos, negsuc, ◌+ℤ◌}
+use Rattle.std.specs.Prelude.{ℕ, zero, suc, ◌+◌, ◌-◌, ◌*◌, ◌/◌, ◌^◌, ◌==◌, if◌then◌else◌, Bool, List, [], length, map, Option, Some, None, ℤ, pos, negsuc}
 use lib.ListN.{get_or}
+use Rattle.base_122.specs.Restored.{restored_dc}
 use Rattle.plane_defs.specs.Spans.{span}
 use Rattle.plane_defs.specs.Sets.{shift}
 use Rattle.plane_defs.specs.Lows.{Given}
 
 -- A number is a multiple of 2 ^ shift, and its bits are given down to plane `low`: the u = low - shift bits below are not.
-
--- a DC number is between itself and 2 ^ low more: half of that is added
-abbrev pub restored_dc : (shift : ℕ) → Option ℕ → ℤ → ℤ
-restored_dc shift None dc = dc
-restored_dc shift (Some low) dc = dc +ℤ pos (2 ^ shift * (2 ^ (low - shift) / 2))
 
 -- three eighths of 2 ^ u, in steps of 2 ^ shift
 abbrev pub ac_rest : (shift low : ℕ) → ℕ
@@ -31,3 +27,7 @@ restored_block weights lows block = map (λ p. restored_at weights p (lows p) (g
 
 abbrev pub restored : (weights : List ℕ) → Given → List (List ℤ)
 restored weights g = map (λ r. restored_block weights (g.lows r) (get_or g.numbers r [])) (span 0 (length g.numbers))
+
+-- the numbers that are given, restored or as they are
+abbrev pub numbers_for : (restore : Bool) → (weights : List ℕ) → Given → List (List ℤ)
+numbers_for restore weights g = if restore then restored weights g else g.numbers

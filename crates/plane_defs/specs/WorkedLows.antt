@@ -5,7 +5,8 @@ use Rattle.plane_defs.specs.Spans.{span}
 use Rattle.item_defs.specs.Outcomes.{Outcome, whole, cut}
 use Rattle.item_defs.specs.Scripts.{run, around}
 use Rattle.plane_defs.specs.Lows.{Given, planes_given}
-use Rattle.plane_defs.specs.Restored.{restored_dc, restored_ac, restored}
+use Rattle.base_122.specs.Restored.{restored_dc}
+use Rattle.plane_defs.specs.Restored.{restored_ac, restored}
 use Rattle.plane_defs.specs.Worked.{bits_in}
 
 -- the DC numbers of blocks, as the DC part gives them: down to plane q

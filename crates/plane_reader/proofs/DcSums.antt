@@ -15,7 +15,7 @@ pow_more plane = let e : plane + 1 ≡ suc plane = omega arith in let p = pow-su
 room_above : (a k m : ℕ) → a * k < a * m → a * k + a ≤ a * m
 room_above a k m lt = grind (arith, nat_tests, mul-le-mul_left)
 
-fits_still : (z : ℤ) (plane : ℕ) → SFits w32 z → plane < 27 → HasNoneBelow (plane + 1) z → FitsSigned w32 (z +ℤ pos (2 ^ plane))
+pub fits_still : (z : ℤ) (plane : ℕ) → SFits w32 z → plane < 27 → HasNoneBelow (plane + 1) z → FitsSigned w32 (z +ℤ pos (2 ^ plane))
 fits_still (pos n) plane fits low cleared =
     let all : (plane + 1) + (30 - plane) ≡ 31 = omega arith in
     let parts : 2 ^ (plane + 1) * 2 ^ (30 - plane) ≡ 2147483648 = sym (pow-add 2 (plane + 1) (30 - plane)) ∙ ap (λ k. 2 ^ k) all in
@@ -35,6 +35,14 @@ fits_still (negsuc n) plane fits low cleared =
   where
     both : (n h : ℕ) → n < 2147483648 → h ≤ 67108864 → FitsSigned w32 (negsuc n +ℤ pos h)
     both n h small most = omega (arith, ints)
+
+-- the sum as it is computed
+pub sum_is : (z : ℤ) (plane : ℕ) → SFits w32 z → plane < 27 → to_z w32 (of_z w32 z) +ℤ to_z w32 (1 * 2 ^ plane % 4294967296) ≡ z +ℤ pos (2 ^ plane)
+sum_is z plane fits low =
+    let le : plane ≤ 26 = omega arith in
+    let most : 2 ^ plane ≤ 2 ^ 26 = pow_mono le in
+    let same : 1 * 2 ^ plane % 4294967296 ≡ 2 ^ plane = omega (arith, most) in
+    (λ i. to_z-of_z w32 z fits i +ℤ (ap (to_z w32) same ∙ to_z_pos w32 (2 ^ plane) (omega (arith, most))) i)
 
 -- the sum with the bit is within the type
 pub dc_added : (z : ℤ) (plane : ℕ) → SFits w32 z → plane < 27 → HasNoneBelow (plane + 1) z → to_z w32

@@ -42,4 +42,8 @@ pub mod StageReads
 pub mod PlaneReads
 pub mod PlanesReads
 mod PartLanes
+pub mod RestBits
+pub mod RestoredBlocks
+pub mod LowsRead
+pub mod HalvedBlocks
 mod NumbersJoined

@@ -38,7 +38,7 @@ use Rattle.plane_reader.specs.Above.{AreReady, HasNoneBelow, AwaitDcs}
 use Rattle.plane_reader.specs.Joined.{AreBelow}
 use Rattle.plane_reader.specs.Blocks.{raw_slot}
 use Rattle.plane_reader.specs.Gaggles.{AreAbove, dc_in, HavePlane, HaveDcs, HaveRead, KeepSlots}
-use Rattle.plane_reader.specs.Planes.{KeepOthers, KeepPlanes, TakesStages, Clears, ClearsRaw}
+use Rattle.plane_reader.specs.Planes.{KeepOthers, KeepPlanes, TakesStages, TakesPlane, Clears, ClearsRaw}
 use Rattle.plane_reader.proofs.ClearStates.{families_clear, options_clear}
 use Rattle.plane_reader.proofs.HeldGroups.{zero_bit}
 use Rattle.plane_reader.proofs.CellNumbers.{below_zero, block_size, size_given, size_kept}
@@ -350,38 +350,35 @@ pub signs_read : {I : Type 0} {k : SourceOf I} (t : Terms) (depths : List ℕ) (
 signs_read t depths numbers stages now result read = said_kept (All (λ r. IsSigned)) (plane_script t depths numbers stages)
     (plane_signed t depths numbers stages) read.bits now result read.says
 
-part_around : {I S T : Type 0} {k : SourceOf I} (put : S → T) (r : Script S S) (result : Result Part TextFault) (s : S) {x y : SourceState I} →
+pub part_around : {I S T : Type 0} {k : SourceOf I} (put : S → T) (r : Script S S) (result : Result Part TextFault) (s : S) {x y : SourceState I} →
     ReadsAs k r (by_part result s s) x y → ReadsAs k (around put r) (by_part result (put s) (put s)) x y
 part_around put r (Ok Whole) s q = let all : Result (Option (Unit {0})) TextFault = Ok (Some tt) in around_read put r all s q
 part_around put r (Ok Ended) s q = let none : Result (Option (Unit {0})) TextFault = Ok None in around_read put r none s q
 part_around put r (Err fault) s q = let failed : Result (Option (Unit {0})) TextFault = Err fault in around_read put r failed s q
 
-pub plane_read : {I : Type 0} {k : SourceOf I} {plane : ℕ} {numbers w : List (List ℤ)} (script : Script PlaneState PlaneState)
-    (result : Result Part TextFault) {cells : List ℤ} {x y : SourceState I} (s : TakesStages k plane numbers script result cells x y) →
-    blocks_with plane numbers s.now ≡ w → ReadsAs k (around (blocks_with plane numbers) script) (by_part result w w) x y
-plane_read {k = k} {plane} {numbers} script result {x = x} {y} s same =
-    subst (λ v. ReadsAs k (around (blocks_with plane numbers) script) (by_part result v v) x y) same (part_around
-    (blocks_with plane numbers) script result s.now s.read)
-
 -- what is significant above the plane below doesn't count in it
-pub stages_settled : {I : Type 0} {k : SourceOf I} {plane : ℕ} {numbers : List (List ℤ)} {script : Script PlaneState PlaneState}
-    {result : Result Part TextFault} {cells last : List ℤ} {x y : SourceState I} → plane < 27 → TakesStages k plane numbers script result cells x y →
-    Settles plane (length cells / 64) cells last → TakesStages k plane numbers script result last x y
-stages_settled {plane = plane} {cells = cells} {last} low s settles =
+pub plane_settled : {I : Type 0} {k : SourceOf I} {plane : ℕ} {numbers : List (List ℤ)} {script : Script PlaneState PlaneState}
+    {result : Result Part TextFault} {cells last : List ℤ} {x y : SourceState I} → plane < 27 → (s : TakesStages k plane numbers script result cells x y) →
+    blocks_with plane numbers s.now ≡ blocks_in (numbers_in last) → Settles plane (length cells / 64) cells last →
+    TakesPlane k plane numbers script result last x y
+plane_settled {plane = plane} {cells = cells} {last} low s same_numbers settles =
     let there : (r : ℕ) → 64 * r < length last → 64 * r < length cells = λ r lt. subst (λ n. 64 * r < n) settles.long lt in
     let same : (r slot : ℕ) → 64 * r < length last → slot < 32 → (slot ≡ above_slot → ⊥) → mask_in last r slot ≡ mask_in cells r slot =
     λ r slot lt few apart. settles.other_slots r slot (there r lt) few apart in
     record {
-      now = s.now;
-      has = λ r lt.
-          let has = s.has r (there r lt) in
-          record {
-            bits = λ p ac. ap (λ m. bit m p) (same r plane lt (omega (arith, low)) (λ e. omega (arith, e, low))) ∙ has.bits p ac;
-            minus = λ p ac. ap (λ m. bit m p) (same r minus_slot lt (omega arith) (λ e. omega (arith, e))) ∙ has.minus p ac;
-            raw = λ p few. ap (λ m. bit m p) (same r raw_slot lt (omega arith) (λ e. omega (arith, e))) ∙ has.raw p few;
-          };
-      dcs = λ r lt. ap (λ m. cast_signed w32 (m % 2 ^ 32)) (same r dc_slot lt (omega arith) (λ e. omega (arith, e))) ∙ s.dcs r (there r lt);
-      read = s.read;
+      stages = record {
+        now = s.now;
+        has = λ r lt.
+            let has = s.has r (there r lt) in
+            record {
+              bits = λ p ac. ap (λ m. bit m p) (same r plane lt (omega (arith, low)) (λ e. omega (arith, e, low))) ∙ has.bits p ac;
+              minus = λ p ac. ap (λ m. bit m p) (same r minus_slot lt (omega arith) (λ e. omega (arith, e))) ∙ has.minus p ac;
+              raw = λ p few. ap (λ m. bit m p) (same r raw_slot lt (omega arith) (λ e. omega (arith, e))) ∙ has.raw p few;
+            };
+        dcs = λ r lt. ap (λ m. cast_signed w32 (m % 2 ^ 32)) (same r dc_slot lt (omega arith) (λ e. omega (arith, e))) ∙ s.dcs r (there r lt);
+        read = s.read;
+      };
+      numbers_now = same_numbers;
     }
 
 -- ---- masks that stay

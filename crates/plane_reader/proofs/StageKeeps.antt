@@ -27,7 +27,7 @@ pub record IsStable (P : State → Type 0) : Type 0 where
   pub options : (s : State) (o : ℕ → Option ℕ) → P s → P (with_options s o)
   pub families : (s : State) (f : ℕ → Bool) → P s → P (with_families s f)
   pub bits : (s : State) (new : ℕ → Bool) → new 0 ≡ false → P s → P (with_bits s new)
-  pub raw : (s : State) (p : ℕ) → P s → P (with_raw s p)
+  pub raw : (s : State) (p : ℕ) → 1 ≤ p → P s → P (with_raw s p)
   pub sign : (s : State) (p : ℕ) (b : Bool) → s.bits p ≡ true → P s → P (with_minus s (and_one s.minus p b))
 
 -- ---- two of them
@@ -37,13 +37,30 @@ dc_stable x = record {
   options = λ s o k. k;
   families = λ s f k. k;
   bits = λ s new none k. ap (λ b. s.bits 0 || b) none ∙ or-false (s.bits 0) ∙ k;
-  raw = λ s p k. k;
+  raw = λ s p le k. k;
   sign = λ s p b has k. k;
 }
 
 -- only numbers with the plane's bit got signs
 abbrev pub IsSigned : State → Type 0
 IsSigned s = (q : ℕ) → s.minus q ≡ true → s.bits q ≡ true
+
+-- the bit of the DC is a raw bit, if it is 1, and is given only if it is due
+pub record IsGiven (wanted : Bool) (s : State) : Type 0 where
+  pub raw : s.bits 0 ≡ true → s.raw 0 ≡ true
+  pub due : s.raw 0 ≡ true → wanted ≡ true
+
+pub given_stable : (wanted : Bool) → IsStable (IsGiven wanted)
+given_stable wanted = record {
+  options = λ s o k. record { raw = k.raw; due = k.due };
+  families = λ s f k. record { raw = k.raw; due = k.due };
+  bits = λ s new none k. record { raw = λ e. k.raw (sym (ap (λ b. s.bits 0 || b) none ∙ or-false (s.bits 0)) ∙ e); due = k.due };
+  raw = λ s p le k.
+      let apart : (0 == p) ≡ false = grind (arith, nat_tests) in
+      let same : (s.raw 0 || (0 == p)) ≡ s.raw 0 = ap (λ b. s.raw 0 || b) apart ∙ or-false (s.raw 0) in
+      record { raw = λ e. same ∙ k.raw e; due = λ e. k.due (sym same ∙ e) };
+  sign = λ s p b has k. record { raw = k.raw; due = k.due };
+}
 
 either : (a b : Bool) → (a || b) ≡ true → (a ≡ true) ⊎ (b ≡ true)
 either true b e = inl refl
@@ -58,7 +75,7 @@ signed_stable = record {
   options = λ s o k. k;
   families = λ s f k. k;
   bits = λ s new none k q m. ap (λ b. b || new q) (k q m);
-  raw = λ s p k. k;
+  raw = λ s p le k. k;
   sign = λ s p b has k q m. elim (either (s.minus q) ((q == p) && b) m) [
     | inl e ↦ k q e
     | inr e ↦
@@ -148,7 +165,7 @@ module _ (P : State → Type 0) (c : IsStable P) where
   bit_keeps p s le k =
       let apart : (0 == p) ≡ false = grind (arith, nat_tests) in (
         k,
-        λ n. c.raw (with_bits s (and_one (λ q. false) p (n == 1))) p (c.bits s (and_one (λ q. false) p (n == 1)) (ap (λ x. false || (x && (n == 1))) apart)
+        λ n. c.raw (with_bits s (and_one (λ q. false) p (n == 1))) p le (c.bits s (and_one (λ q. false) p (n == 1)) (ap (λ x. false || (x && (n == 1))) apart)
             k),
       )
 
@@ -260,6 +277,32 @@ module _ (t : Terms) (depths : List ℕ) (numbers : List (List ℤ)) where
       keeps_turn (All (λ r. IsSigned)) (blocks_script t depths numbers) 0
       (λ stage p low h. blocks_keep (λ r. IsSigned) (λ r. signed_stable) t depths numbers stage (λ r depth block s k. stage_signed stage depth block s k) p h)
       stages 0 _ (omega arith) (λ r q e. absurd (no e))
+    where
+      no : false ≡ true → ⊥
+      no e = grind (arith, nat_tests)
+
+-- ---- the DC's bit in a plane
+
+module _ (t : Terms) (depths : List ℕ) (numbers : List (List ℤ)) where
+  abbrev pub is_dc_due : Bool
+  is_dc_due = coded t.weights t.plane 0 && nat_lt t.plane t.q
+
+  dc_given : (b : Bool) (s : State) → is_dc_due ≡ b → IsGiven is_dc_due s → Keeps (IsGiven is_dc_due) (IsGiven is_dc_due)
+      (if b then bit_script 0 s else done s)
+  dc_given true s e k = (k, λ n. record { raw = λ f. or_right (s.raw 0) true refl; due = λ f. e })
+  dc_given false s e k = k
+
+  stage_given : (stage depth : ℕ) (block : List ℤ) (s : State) → IsGiven is_dc_due s → Keeps (IsGiven is_dc_due) (IsGiven is_dc_due)
+      (stage_script t stage depth block s)
+  stage_given zero depth block s k = dc_given (coded t.weights t.plane 0 && nat_lt t.plane t.q) s refl k
+  stage_given (suc n) depth block s k = stage_keeps (IsGiven is_dc_due) (given_stable is_dc_due) t block (suc n) depth (omega arith) s k
+
+  pub plane_given : (stages : ℕ) → Keeps (All (λ r. IsGiven is_dc_due)) (All (λ r. IsGiven is_dc_due)) (plane_script t depths numbers stages)
+  plane_given stages =
+      keeps_turn (All (λ r. IsGiven is_dc_due)) (blocks_script t depths numbers) 0
+      (λ stage p low h. blocks_keep (λ r. IsGiven is_dc_due) (λ r. given_stable is_dc_due) t depths numbers stage
+      (λ r depth block s k. stage_given stage depth block s k) p h)
+      stages 0 _ (omega arith) (λ r. record { raw = λ e. absurd (no e); due = λ e. absurd (no e) })
     where
       no : false ≡ true → ⊥
       no e = grind (arith, nat_tests)

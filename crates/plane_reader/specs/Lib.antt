@@ -10,3 +10,4 @@ pub mod Above
 pub mod Joined
 pub mod Lanes
 pub mod Planes
+pub mod Restoring

@@ -9,9 +9,10 @@ use Rattle.bit_pipe.specs.Sources.{SourceOf}
 use Rattle.item_defs.specs.Scripts.{Script, done, around}
 use Rattle.bit_pipe.specs.SourceState.{SourceState}
 use Rattle.bit_pipe.specs.ScriptSources.{ReadsAs, by_part}
-use Rattle.block_masks.specs.Slices.{dc_slot, minus_slot, mask_in}
+use Rattle.wave_defs.specs.Held.{blocks_in}
+use Rattle.block_masks.specs.Slices.{dc_slot, minus_slot, mask_in, numbers_in}
 use Rattle.plane_defs.specs.StageScripts.{bit_script}
-use Rattle.plane_defs.specs.PlaneScript.{PlaneState, of_block, with_block}
+use Rattle.plane_defs.specs.PlaneScript.{PlaneState, of_block, with_block, blocks_with}
 use Rattle.plane_reader.specs.Above.{HasNoneBelow}
 use Rattle.plane_reader.specs.Blocks.{raw_slot}
 use Rattle.plane_reader.specs.Held.{Point, ReadsFrom}
@@ -82,3 +83,9 @@ pub record TakesStages {I : Type 0} (k : SourceOf I) (plane : ℕ) (numbers : Li
   pub has : HavePlane plane cells numbers now
   pub dcs : HaveDcs plane cells numbers now
   pub read : ReadsAs k script (by_part result now now) old new
+
+-- and the masks represent the numbers with what was read
+pub record TakesPlane {I : Type 0} (k : SourceOf I) (plane : ℕ) (numbers : List (List ℤ)) (script : Script PlaneState PlaneState)
+    (result : Result Part TextFault) (cells : List ℤ) (old new : SourceState I) : Type 0 where
+  pub stages : TakesStages k plane numbers script result cells old new
+  pub numbers_now : blocks_with plane numbers stages.now ≡ blocks_in (numbers_in cells)

@@ -29,7 +29,7 @@ fn is_due(plan: &CodedPlane) -> bool
 
 // Adds the plane's bit to the DC of a block.
 #[inline(always)]
-fn add_dc(plane: u8, cells: &mut [i32], column: Column)
+pub(crate) fn add_dc(plane: u8, cells: &mut [i32], column: Column)
     requires whole { length cells.old % 64 ≡ 0 }
     requires column { IsColumn cells.old column }
     requires low { plane < 27 }

@@ -4,9 +4,9 @@
 //! `word_codes`. It is used by `segment_code` and `layer_tests`.
 //!
 //! `take_planes` goes over the planes, from the top down, with masks in the place of the numbers: `slicing` makes them before the first
-//! plane, and `joining` turns them into numbers after the last, block by block (`number_lanes`). `plane` goes over the stages and gaggles
-//! of a plane, and `dc_bits` reads stage 0. A stage of a gaggle is read from a window of the text that is held while it lasts: `gaggles`
-//! goes over its blocks that are deep enough (`deep`).
+//! plane, and `joining` turns them into numbers after the last, block by block (`number_lanes`). Before that `restoring` moves the numbers
+//! into their intervals, if it is asked to. `plane` goes over the stages and gaggles of a plane, and `dc_bits` reads stage 0. A stage of a
+//! gaggle is read from a window of the text that is held while it lasts: `gaggles` goes over its blocks that are deep enough (`deep`).
 //!
 //! A `Cursor` holds the window: the input is behind by the bits that were read of it, until the cursor is closed. `PlaceTables` have the
 //! word that is first in an octet for each mask of what is due. A `Reading` reads flags, words, types and signs by them, and deals out the
@@ -31,6 +31,7 @@ mod plane;
 mod planes;
 mod reading;
 mod refine;
+mod restoring;
 mod signs;
 mod slicing;
 mod stages;

@@ -13,7 +13,7 @@ ghost use Rattle.plane_reader.specs.Above.{AreReady, AwaitDcs};
 ghost use Rattle.plane_reader.specs.Blocks.{terms_of, OnWhole};
 ghost use Rattle.plane_reader.specs.Gaggles.{AreDeep, AreAbove, HaveRead, KeepSlots, TakesStage};
 ghost use Rattle.plane_reader.specs.Joined.{AreBelow};
-ghost use Rattle.plane_reader.specs.Planes.{Clears, ClearsRaw, KeepPlanes, TakesStages};
+ghost use Rattle.plane_reader.specs.Planes.{Clears, ClearsRaw, KeepPlanes, TakesStages, TakesPlane};
 ghost use Rattle.wave_defs.specs.Held.{blocks_in};
 ghost use lib.ListN.{get_or};
 
@@ -44,9 +44,13 @@ fn clear_raw(cells: &mut [i32])
     requires whole { length cells.old % 64 ≡ 0 }
     ensures { ClearsRaw cells.old cells.new }
 {
-    for r in 0..cells.len() / 64 {
-        let column = Column::of(cells, r);
-        put_mask(cells, column, RAW, 0);
+    let count = cells.len() / 64;
+    for g in 0..count.div_ceil(GAGGLE) {
+        let first = Column::of(cells, GAGGLE * g);
+        for k in 0..(count - first.block).min(GAGGLE) {
+            let column = first.further(cells, k);
+            put_mask(cells, column, RAW, 0);
+        }
     }
 }
 
@@ -177,10 +181,7 @@ pub(crate) fn take_plane<I: OctetIn>(
     requires whole { length cells.old ≡ 64 * length marks.old }
     requires ready { AreReady (terms.now.plan.now.plane + 1) cells.old }
     requires dcs { AwaitDcs (terms.now.plan.now.plane + 1) terms.now.plan.now.q (blocks_in (numbers_in cells.old)) }
-    ensures plane { ReadsAs I.source (around (blocks_with terms.now.plan.now.plane (blocks_in (numbers_in cells.old)))
-        (plane_script (terms_of terms.now.plan.now terms.now.tables.now.words.book) (depths_of marks.old) (blocks_in (numbers_in cells.old)) (last + 1)))
-        (by_part result (blocks_in (numbers_in cells.new)) (blocks_in (numbers_in cells.new))) (source_state input.old) (source_state input.new) }
-    ensures stages { TakesStages I.source terms.now.plan.now.plane (blocks_in (numbers_in cells.old))
+    ensures plane { TakesPlane I.source terms.now.plan.now.plane (blocks_in (numbers_in cells.old))
         (plane_script (terms_of terms.now.plan.now terms.now.tables.now.words.book) (depths_of marks.old) (blocks_in (numbers_in
         cells.old)) (last + 1)) result cells.new (source_state input.old) (source_state input.new) }
     ensures ready { AreReady terms.now.plan.now.plane cells.new }

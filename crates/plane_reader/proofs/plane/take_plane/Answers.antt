@@ -2,9 +2,8 @@ use Rattle.std.proofs.Common.{◌≡◌, ◌+◌, ◌%◌, ◌∙◌, length, sy
 use Rattle.wave_defs.specs.Held.{blocks_in}
 use Rattle.block_masks.specs.Slices.{numbers_in}
 use Rattle.plane_defs.specs.Marks.{depths_of}
-use Rattle.plane_defs.specs.PlaneScript.{plane_script}
 use Rattle.plane_reader.specs.Blocks.{terms_of}
-use Rattle.plane_reader.proofs.PlaneReads.{blocks_now, settled_numbers, ready_next, await_next, below_next, signs_read, plane_read, stages_settled}
+use Rattle.plane_reader.proofs.PlaneReads.{blocks_now, settled_numbers, ready_next, await_next, below_next, signs_read, plane_settled}
 use Rattle.plane_reader.proofs.plane.take_plane.Goals as goal
 
 pub returns-clause-plane : goal.returns-clause-plane
@@ -23,10 +22,7 @@ returns-clause-plane g c =
     let signs = signs_read t depths numbers (c.args.last + 1) s.now result s.read in
     let settled = settled_numbers plan.plane cells plan.low even c.requires.ready mid x.keeps s.now s.has signs c.settle_above.new.cells
     c.settle_above.ensures in
-    plane_read (plane_script t depths numbers (c.args.last + 1)) result s (same ∙ ap blocks_in (sym settled))
-
-pub returns-clause-stages : goal.returns-clause-stages
-returns-clause-stages g c = stages_settled c.args.terms.now.plan.now.low c.take_stages-read.ensures.stages c.settle_above.ensures
+    plane_settled plan.low s (same ∙ ap blocks_in (sym settled)) c.settle_above.ensures
 
 pub returns-clause-below : goal.returns-clause-below
 returns-clause-below g c = λ planes over below. below_next c.args.terms.now.plan.now.low over c.take_stages-read.ensures.keeps c.settle_above.ensures below
