@@ -25,24 +25,38 @@ dcs_set {old} {new} dc next i z lt here there s = record {
   others = λ j none. get_or-set_other new (i * 64) j z (pos 0) (none i) ∙ s.others j none;
 }
 
--- ---- the first DCs are 0
+-- other DCs are set in their place
+pub dcs_then : {first old new : List ℤ} (dc next last : ℕ → ℤ) → SetsDcs dc first old → SetsDcs next old new →
+    ((r : ℕ) → r * 64 < length first → next r ≡ last r) → SetsDcs last first new
+dcs_then dc next last s t same = record {
+  size = t.size ∙ s.size;
+  dcs = λ r lt. t.dcs r (omega (arith, lt, s.size)) ∙ same r lt;
+  others = λ i none. t.others i none ∙ s.others i none;
+}
 
-abbrev pub cleared : ℕ → List ℤ → ℕ → ℤ
-cleared i cells r = cond (nat_lt r i) (pos 0) (cell_at 64 cells r)
+-- ---- the first DCs are set
 
-pub clear_start : (cells : List ℤ) → SetsDcs (cleared 0 cells) cells cells
-clear_start cells = dcs_as (cell_at 64 cells) (cleared 0 cells) (λ r lt. let t : nat_lt r 0 ≡ false = grind (arith, nat_tests) in rw t refl) (dcs_same cells)
+abbrev pub set_below : (next : ℕ → ℤ) → ℕ → List ℤ → ℕ → ℤ
+set_below next i cells r = cond (nat_lt r i) (next r) (cell_at 64 cells r)
 
-pub clear_more : {old new : List ℤ} (i : ℕ) → i * 64 < length old → SetsDcs (cleared i old) old new →
-    SetsDcs (cleared (i + 1) old) old (set new (i * 64) (pos 0))
-clear_more {old} i lt s = dcs_set (cleared i old) (cleared (i + 1) old) i (pos 0) lt here there s
+-- the next one is as it was
+pub not_set : (next : ℕ → ℤ) (i : ℕ) (cells : List ℤ) → set_below next i cells i ≡ cell_at 64 cells i
+not_set next i cells = let t : nat_lt i i ≡ false = grind (arith, nat_tests) in rw t refl
+
+pub set_none : (next : ℕ → ℤ) (cells : List ℤ) → SetsDcs (set_below next 0 cells) cells cells
+set_none next cells = dcs_as (cell_at 64 cells) (set_below next 0 cells)
+    (λ r lt. let t : nat_lt r 0 ≡ false = grind (arith, nat_tests) in rw t refl) (dcs_same cells)
+
+pub set_more : {old new : List ℤ} (next : ℕ → ℤ) (i : ℕ) (z : ℤ) → i * 64 < length old → next i ≡ z → SetsDcs (set_below next i old) old new →
+    SetsDcs (set_below next (i + 1) old) old (set new (i * 64) z)
+set_more {old} next i z lt is s = dcs_set (set_below next i old) (set_below next (i + 1) old) i z lt here there s
   where
-    here : cleared (i + 1) old i ≡ pos 0
-    here = (let t : nat_lt i (i + 1) ≡ true = grind (arith, nat_tests) in rw t refl)
+    here : set_below next (i + 1) old i ≡ z
+    here = (let t : nat_lt i (i + 1) ≡ true = grind (arith, nat_tests) in rw t is)
 
-    there : (r : ℕ) → (r ≡ i → ⊥) → cleared (i + 1) old r ≡ cleared i old r
-    there r ne = grind (arith, nat_tests)
+    there : (r : ℕ) → (r ≡ i → ⊥) → set_below next (i + 1) old r ≡ set_below next i old r
+    there r ne = let t : nat_lt r (i + 1) ≡ nat_lt r i = grind (arith, nat_tests) in rw t refl
 
-pub clear_all : {old new : List ℤ} (i : ℕ) → div_ceil (length old) 64 ≤ i → SetsDcs (cleared i old) old new → SetsDcs (λ r. pos 0) old new
-clear_all {old} i le s = dcs_as (cleared i old) (λ r. pos 0) (λ r lt. let less : r < i = omega (arith, lt, le) in let t : nat_lt r i ≡ true =
+pub set_all : {old new : List ℤ} (next : ℕ → ℤ) (i : ℕ) → div_ceil (length old) 64 ≤ i → SetsDcs (set_below next i old) old new → SetsDcs next old new
+set_all {old} next i le s = dcs_as (set_below next i old) next (λ r lt. let less : r < i = omega (arith, lt, le) in let t : nat_lt r i ≡ true =
     grind (arith, nat_tests) in rw t refl) s

@@ -180,7 +180,7 @@ abbrev pub without_reach : Result (Part × DcReach) TextFault → Result Part Te
 without_reach (Ok p) = Ok p.0
 without_reach (Err fault) = Err fault
 
-reach_part : (r : Result (Part × DcReach) TextFault) (given : DcGiven) → by_reach r given ≡ by_part (without_reach r) given given
+pub reach_part : (r : Result (Part × DcReach) TextFault) (given : DcGiven) → by_reach r given ≡ by_part (without_reach r) given given
 reach_part (Ok p) given = refl
 reach_part (Err fault) given = refl
 

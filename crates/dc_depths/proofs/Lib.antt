@@ -4,5 +4,6 @@ mod DepthCells
 mod Parts
 pub mod DcCells
 mod Lows
+mod Restored
 pub mod DcReads
 pub mod DepthReads

@@ -13,7 +13,7 @@ use bit_pipe::{BitIn, OctetIn, Part, TextFault};
 use gaggle_codes::{NumberRange, take_values};
 
 // The number of numbers of a block; its DC is the first.
-const BLOCK: usize = 64;
+pub(crate) const BLOCK: usize = 64;
 
 // Sets each DC to 0.
 fn clear(blocks: &mut [i32])
@@ -25,7 +25,7 @@ fn clear(blocks: &mut [i32])
 }
 
 // Returns a power of two.
-fn power(shift: u8) -> i32
+pub(crate) fn power(shift: u8) -> i32
     requires { shift ≤ 27 }
     ensures { result ≡ pos (2 ^ shift) }
 {

@@ -10,6 +10,7 @@ mod depths;
 mod depths_in;
 mod plan;
 mod reach;
+mod restore;
 
 pub use dc::put_dc;
 pub use dc_in::{take_dc, take_dc_reach};
@@ -17,3 +18,4 @@ pub use depths::put_depths;
 pub use depths_in::take_depths;
 pub use plan::DcPlan;
 pub use reach::DcReach;
+pub use restore::restore_dcs;
