@@ -8,14 +8,13 @@ use Rattle.std.proofs.Math.Seq.{take-append-add}
 use Rattle.item_defs.specs.Bits.{bits_of_octets}
 use Rattle.item_defs.specs.Items.{Refusal, text, spelling}
 use Rattle.item_defs.proofs.OctetBits.{octets_append, length-bits_of_octets}
-use Rattle.base_122.specs.declared.book.Book.{Book}
 use Rattle.bit_pipe.specs.declared.fault.Part.TheVariants.{Whole, Ended}
 use Rattle.segment_defs.specs.declared.head.SegmentHead.{SegmentHead}
+use Rattle.segment_defs.specs.TextWish.{TextWish, segment_read}
 use Rattle.item_defs.specs.Outcomes.{Outcome, whole, cut, refused}
 use Rattle.item_defs.specs.Scripts.{run}
 use Rattle.item_defs.specs.Following.{SaysWhat}
 use Rattle.bit_pipe.specs.ScriptSources.{Gets}
-use Rattle.segment_defs.specs.Segments.{segment_script}
 use Rattle.segment_defs.specs.TextLaws.{SegmentsAreRead}
 use Rattle.segment_code.specs.TextAnswers.{TextAnswer, gives, Decided, if_enough, bits_within, whole_octets, answer_in}
 use Rattle.segment_code.specs.Laws.{TextsEndThere}
@@ -79,9 +78,9 @@ few_bits head size rest = by (head.limit == 0)
 
 -- ---- what is read of a prefix
 
-module _ (book : Book) (head : SegmentHead) (says : SaysWhat (segment_script book head)) where
-  prefix_read : (bits left : List Bool) (w : Blocks) → run (segment_script book head) bits ≡ whole w left →
-      (xs : List Bool) × (bits ≡ xs ++ left) × Gets (segment_script book head) xs w
+module _ (wish : TextWish) (head : SegmentHead) (says : SaysWhat (segment_read wish head)) where
+  prefix_read : (bits left : List Bool) (w : Blocks) → run (segment_read wish head) bits ≡ whole w left →
+      (xs : List Bool) × (bits ≡ xs ++ left) × Gets (segment_read wish head) xs w
   prefix_read bits left w e =
       let r = says.whole_is bits left w e in (
         text r.items,
@@ -89,8 +88,8 @@ module _ (book : Book) (head : SegmentHead) (says : SaysWhat (segment_script boo
         λ more. says.is_whole (text r.items ++ more) more w (record { items = r.items; are = r.are; read = refl; follows = r.follows }),
       )
 
-  prefix_refused : (bits left : List Bool) (g : Blocks) (name : Refusal) → run (segment_script book head) bits ≡ refused g name left →
-      (xs : List Bool) × (bits ≡ xs ++ left) × ((more : List Bool) → (h : Blocks) × (run (segment_script book head) (xs ++ more) ≡ refused h name more))
+  prefix_refused : (bits left : List Bool) (g : Blocks) (name : Refusal) → run (segment_read wish head) bits ≡ refused g name left →
+      (xs : List Bool) × (bits ≡ xs ++ left) × ((more : List Bool) → (h : Blocks) × (run (segment_read wish head) (xs ++ more) ≡ refused h name more))
   prefix_refused bits left g name e =
       let r = says.refused_is bits left g name e in (
         text r.items ++ spelling r.form.shape r.said,
@@ -107,66 +106,67 @@ module _ (book : Book) (head : SegmentHead) (says : SaysWhat (segment_script boo
         }),
       )
 
-  module _ (size : ℕ) (rest : List ℕ) (d : Decided) (is : answer_in book head size rest ≡ Some d) where
+  module _ (size : ℕ) (rest : List ℕ) (d : Decided) (is : answer_in wish head size rest ≡ Some d) where
     abbrev bits : List Bool
     bits = bits_within head size rest
 
     -- the octets are there, and more octets do not change the answer
-    pub goes_on : (d.octets ≤ length rest) × ((more : List ℕ) → answer_in book head size (rest ++ more) ≡ Some d)
-    goes_on = by (run (segment_script book head) bits) refl
+    pub goes_on : (d.octets ≤ length rest) × ((more : List ℕ) → answer_in wish head size (rest ++ more) ≡ Some d)
+    goes_on = by (run (segment_read wish head) bits) refl
       where
-        by : (o : Outcome Blocks Blocks) → run (segment_script book head) (bits_within head size rest) ≡ o →
-            (d.octets ≤ length rest) × ((more : List ℕ) → answer_in book head size (rest ++ more) ≡ Some d)
+        by : (o : Outcome Blocks Blocks) → run (segment_read wish head) (bits_within head size rest) ≡ o →
+            (d.octets ≤ length rest) × ((more : List ℕ) → answer_in wish head size (rest ++ more) ≡ Some d)
         by (whole w left) e =
             let p = prefix_read (bits_within head size rest) left w e in
             let octets : ℕ = whole_octets head (8 * size + length p.0) - size in
-            let here = sym (whole_answer book head size rest p.0 left w p.1 p.2) ∙ is in
+            let here = sym (whole_answer wish head size rest p.0 left w p.1 (p.2 left)) ∙ is in
             let there = enough_is (length rest) octets (gives Whole w) d here in (
               omega (arith, there.0, ap (λ x. x.octets) there.1),
               λ more.
                   let m = bits_more head size rest more in
-                  whole_answer book head size (rest ++ more) p.0 (left ++ m.0) w (m.1 ∙ ap (λ l. l ++ m.0) p.1 ∙ append_assoc p.0 left m.0) p.2 ∙
+                  whole_answer wish head size (rest ++ more) p.0 (left ++ m.0) w (m.1 ∙ ap (λ l. l ++ m.0) p.1 ∙ append_assoc p.0 left m.0)
+                  (p.2 (left ++ m.0)) ∙
                   enough_more (length rest) (length (rest ++ more)) octets (gives Whole w) d (omega (arith, length-append rest more)) here,
             )
         by (refused g name left) e =
             let p = prefix_refused (bits_within head size rest) left g name e in
             let x = p.2 left in
-            let same = some_is _ d (sym (refused_answer book head size rest p.0 left x.0 name p.1 x.1) ∙ is) in (
+            let same = some_is _ d (sym (refused_answer wish head size rest p.0 left x.0 name p.1 x.1) ∙ is) in (
               omega (arith, ap (λ y. y.octets) same, few_bits head size rest, ap length p.1, length-append p.0 left),
               λ more.
                   let m = bits_more head size rest more in
                   let y = p.2 (left ++ m.0) in
-                  refused_answer book head size (rest ++ more) p.0 (left ++ m.0) y.0 name (m.1 ∙ ap (λ l. l ++ m.0) p.1 ∙ append_assoc p.0 left m.0) y.1 ∙
+                  refused_answer wish head size (rest ++ more) p.0 (left ++ m.0) y.0 name (m.1 ∙ ap (λ l. l ++ m.0) p.1 ∙ append_assoc p.0 left m.0) y.1 ∙
                   ap Some same,
             )
-        by (cut g) e = by_limit (head.limit == 0) refl (sym (cut_answer book head size rest g e) ∙ is)
+        by (cut g) e = by_limit (head.limit == 0) refl (sym (cut_answer wish head size rest g e) ∙ is)
           where
             by_limit : (b : Bool) → (head.limit == 0) ≡ b → (if b then None else if_enough (length rest) (head.limit - size) (gives Ended g)) ≡ Some d →
-                (d.octets ≤ length rest) × ((more : List ℕ) → answer_in book head size (rest ++ more) ≡ Some d)
+                (d.octets ≤ length rest) × ((more : List ℕ) → answer_in wish head size (rest ++ more) ≡ Some d)
             by_limit true z f = absurd (clash d f)
             by_limit false z f =
                 let some : head.limit ≢ 0 = grind (arith, nat_tests) in
                 let there = enough_is (length rest) (head.limit - size) (gives Ended g) d f in (
                   omega (arith, there.0, ap (λ x. x.octets) there.1),
                   λ more.
-                      cut_at_limit book head size (rest ++ more) g (ap (run (segment_script book head)) (bits_same head size rest more some there.0) ∙ e) some
+                      cut_at_limit wish head size (rest ++ more) g (ap (run (segment_read wish head)) (bits_same head size rest more some there.0) ∙ e) some
                       (omega (arith, there.0, length-append rest more)) ∙ ap Some (sym there.1),
                 )
 
 pub texts_end_there : SegmentsAreRead → TextsEndThere
-texts_end_there read book sound head size fits low = record {
-  enough = λ rest d e. (goes_on book head says size rest d e).0;
-  stays = λ rest more d e. (goes_on book head says size rest d e).1 more;
-  least = λ rest more d e lt. by rest more d e lt (answer_in book head size rest) refl;
+texts_end_there read wish sound head size fits low = record {
+  enough = λ rest d e. (goes_on wish head says size rest d e).0;
+  stays = λ rest more d e. (goes_on wish head says size rest d e).1 more;
+  least = λ rest more d e lt. by rest more d e lt (answer_in wish head size rest) refl;
 }
   where
-    says : SaysWhat (segment_script book head)
-    says = (read book head sound).says
+    says : SaysWhat (segment_read wish head)
+    says = (read wish head sound).says
 
-    by : (rest more : List ℕ) (d : Decided) → answer_in book head size (rest ++ more) ≡ Some d → length rest < d.octets →
-        (o : Option Decided) → answer_in book head size rest ≡ o → answer_in book head size rest ≡ None
+    by : (rest more : List ℕ) (d : Decided) → answer_in wish head size (rest ++ more) ≡ Some d → length rest < d.octets →
+        (o : Option Decided) → answer_in wish head size rest ≡ o → answer_in wish head size rest ≡ None
     by rest more d e lt None f = f
     by rest more d e lt (Some c) f =
-        let p = goes_on book head says size rest c f in
+        let p = goes_on wish head says size rest c f in
         let same = some_is c d (sym (p.1 more) ∙ e) in
         absurd (omega (arith, p.0, ap (λ x. x.octets) same, lt))

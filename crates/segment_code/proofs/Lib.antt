@@ -17,6 +17,7 @@ mod DepthMarks
 mod SegmentDepths
 mod Holding
 mod BlocksHeld
+mod DcsRestored
 mod StartReads
 mod EndOctets
 mod Deciding
@@ -39,3 +40,4 @@ pub mod CodedChoices
 mod JoinedSizes
 mod CodedPrefixes
 mod CodedRead
+mod WishedRuns

@@ -11,8 +11,8 @@ use Rattle.segment_defs.specs.Head.{IsHead, head_length}
 use Rattle.item_defs.specs.Outcomes.{Outcome, whole, cut, refused}
 use Rattle.item_defs.specs.Scripts.{run}
 use Rattle.segment_defs.specs.Outcomes.{short_segment, bits_read}
-use Rattle.segment_defs.specs.Segments.{segment_script}
 use Rattle.segment_defs.specs.TextOutcome.{by_length, verdict}
+use Rattle.segment_defs.specs.TextWish.{segment_read}
 use Rattle.segment_code.specs.TextAnswers.{gives, if_enough, whole_octets, decided}
 use Rattle.segment_code.specs.Laws.{with_end, OutcomesAgree}
 use Rattle.segment_code.proofs.Deciding.{Blocks}
@@ -61,7 +61,7 @@ head_within head fits used = by head.fill refl
         omega (arith, least)
 
 pub outcomes_agree : OutcomesAgree
-outcomes_agree book head rest fits = by (run (segment_script book head) (bits_read head rest))
+outcomes_agree wish head rest fits = by (run (segment_read wish head) (bits_read head rest))
   where
     size : ℕ
     size = head_length head

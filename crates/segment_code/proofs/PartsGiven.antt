@@ -1,16 +1,15 @@
 -- The numbers that a text gives are multiples of their weights, and small.
 use Rattle.std.proofs.Common.{◌≡◌, ℕ, ◌-◌, ◌==◌, nat_lt, Bool, true, false, if◌then◌else◌, List, length, refl, ap, subst, Option, Some, None}
-use Rattle.base_122.specs.declared.book.Book.{Book}
 use Rattle.bit_pipe.specs.declared.fault.Part.{Part}
 use Rattle.bit_pipe.specs.declared.fault.Part.TheVariants.{Whole, Ended}
 use Rattle.plane_defs.specs.Codes.{is_book_sound}
 use Rattle.segment_defs.specs.declared.head.SegmentHead.{SegmentHead}
+use Rattle.segment_defs.specs.TextWish.{TextWish, segment_read}
 use Rattle.segment_defs.specs.Head.{IsHead}
 use Rattle.item_defs.specs.Outcomes.{Outcome, whole, cut, refused}
 use Rattle.item_defs.specs.Scripts.{run}
 use Rattle.segment_defs.specs.Parts.{AreWeighted}
-use Rattle.segment_defs.specs.Segments.{segment_script}
-use Rattle.segment_defs.proofs.RunNumbers.{whole_weighted, cut_weighted}
+use Rattle.segment_defs.proofs.WishReads.{whole_weighted, cut_weighted}
 use Rattle.segment_code.specs.TextAnswers.{TextAnswer, gives, refuses, Decided, if_enough, bits_within, decided, answer_in}
 use Rattle.segment_code.specs.Parts.{TextsGiveParts}
 use Rattle.segment_code.proofs.Deciding.{Blocks}
@@ -18,10 +17,10 @@ use Rattle.segment_code.proofs.Deciding.{Blocks}
 abbrev found : ℕ → Part → Blocks → Option Decided
 found n p v = Some (record { answer = gives p v; octets = n })
 
-module _ (book : Book) (sound : is_book_sound book ≡ true) (head : SegmentHead) (fits : IsHead head) where
-  given_parts : (size : ℕ) (rest : List ℕ) (part : Part) (w : Blocks) (octets : ℕ) → answer_in book head size rest ≡ Some
+module _ (wish : TextWish) (sound : is_book_sound wish.book ≡ true) (head : SegmentHead) (fits : IsHead head) where
+  given_parts : (size : ℕ) (rest : List ℕ) (part : Part) (w : Blocks) (octets : ℕ) → answer_in wish head size rest ≡ Some
       (record { answer = gives part w; octets = octets }) → AreWeighted head w
-  given_parts size rest part w octets e = by (run (segment_script book head) (bits_within head size rest)) refl e
+  given_parts size rest part w octets e = by (run (segment_read wish head) (bits_within head size rest)) refl e
     where
       some_is : (c d : Decided) → Some c ≡ Some d → c ≡ d
       some_is c d e = cc
@@ -38,11 +37,11 @@ module _ (book : Book) (sound : is_book_sound book ≡ true) (head : SegmentHead
       enough there n p v true e = absurd cc
       enough there n p v false e = blocks_same p part v w (same (gives p v) (gives part w) n octets e)
 
-      by : (o : Outcome Blocks Blocks) → run (segment_script book head) (bits_within head size rest) ≡ o →
+      by : (o : Outcome Blocks Blocks) → run (segment_read wish head) (bits_within head size rest) ≡ o →
           decided head size (length rest) (bits_within head size rest) o ≡ Some (record { answer = gives part w; octets = octets }) → AreWeighted head w
       by (whole v left) ran e =
           subst (AreWeighted head) (enough (length rest) _ Whole v (nat_lt (length rest) _) e)
-          (whole_weighted book sound head fits (bits_within head size rest) left v ran)
+          (whole_weighted wish sound head fits (bits_within head size rest) left v ran)
       by (cut v) ran e = by_limit (head.limit == 0) e
         where
           by_limit : (b : Bool) → (if b then None else if_enough (length rest) (head.limit - size) (gives Ended v)) ≡ Some
@@ -50,8 +49,8 @@ module _ (book : Book) (sound : is_book_sound book ≡ true) (head : SegmentHead
           by_limit true e = absurd cc
           by_limit false e =
               subst (AreWeighted head) (enough (length rest) (head.limit - size) Ended v (nat_lt (length rest) (head.limit - size)) e)
-              (cut_weighted book sound head fits (bits_within head size rest) v ran)
+              (cut_weighted wish sound head fits (bits_within head size rest) v ran)
       by (refused v name left) ran e = absurd (let f = same (refuses name) (gives part w) _ octets e in cc)
 
 pub texts_give_parts : TextsGiveParts
-texts_give_parts book sound head size rest part w octets fits e = given_parts book sound head fits size rest part w octets e
+texts_give_parts wish sound head size rest part w octets fits e = given_parts wish sound head fits size rest part w octets e

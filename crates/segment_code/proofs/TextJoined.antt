@@ -1,5 +1,5 @@
 -- A segment's text up to its planes, and its planes.
-use Rattle.std.proofs.Common.{◌≡◌, ℕ, ◌+◌, ◌-◌, ◌*◌, ◌/◌, ◌^◌, ◌<◌, ◌≤◌, min, List, [], length, ap, ◌∙◌, arith, ℤ, pos, get_or}
+use Rattle.std.proofs.Common.{◌≡◌, ℕ, ◌+◌, ◌-◌, ◌*◌, ◌/◌, ◌^◌, ◌<◌, ◌≤◌, min, List, [], length, ap, ◌∙◌, arith, ℤ, pos, get_or, Result, Ok, Err}
 use Rattle.std.specs.Int.RustNames.{unsigned_abs}
 use Rattle.std.proofs.lemmas.List.FromFn.{length-map-range_with_len, get_or-map-range_with_len}
 use Rattle.std.proofs.Common.{pow-add}
@@ -7,8 +7,16 @@ use Rattle.wave_defs.specs.Held.{block_at, blocks_in}
 use Rattle.wave_defs.proofs.Equations.{blocks_in-is}
 use Rattle.segment_defs.specs.declared.head.SegmentHead.{SegmentHead}
 use Rattle.segment_defs.specs.SegmentItems.{q_of}
-use Rattle.segment_code.specs.Starts.{low_bits, HasDc}
+use Rattle.segment_code.specs.Starts.{low_bits, HasDc, AwaitsPlanes, TakesText}
+use Rattle.segment_defs.specs.TextWish.{TextWish, segment_read}
+use Rattle.bit_pipe.specs.ScriptSources.{by_part, ReadsAs}
+use Rattle.bit_pipe.specs.Sources.{SourceOf}
+use Rattle.bit_pipe.specs.SourceState.{SourceState}
+use Rattle.bit_pipe.specs.declared.fault.Part.{Part}
+use Rattle.bit_pipe.specs.declared.fault.TextFault.{TextFault}
+use Rattle.plane_reader.specs.declared.planes.SentPlanes.{SentPlanes}
 use Rattle.plane_reader.specs.Above.{AwaitDcs, HasNoAcs}
+use Rattle.plane_reader.specs.Restoring.{AwaitLows}
 
 module _ (head : SegmentHead) (blocks : List ℤ) (whole : length blocks ≡ 64 * head.blocks) (dcs : (r : ℕ) → r < head.blocks →
     HasDc head (block_at blocks r)) where
@@ -38,3 +46,19 @@ module _ (head : SegmentHead) (blocks : List ℤ) (whole : length blocks ≡ 64 
         whole = ap (λ b. unsigned_abs (get_or b 0 (pos 0))) (block_is r inside) ∙
             lower (min head.depth_ac (q_of head)) _ (low_bits head) has.part low has.dc;
       }
+
+-- what is given before the planes is what their reader awaits
+pub await_lows : {I : Type 0} (k : SourceOf I) (wish : TextWish) (head : SegmentHead) (blocks : List ℤ) → length blocks ≡ 64 * head.blocks →
+    (marks : List ℤ) (sent : SentPlanes) → sent.weights ≡ head.image.weights → sent.q ≡ q_of head → sent.below ≡ head.depth_ac →
+    {old new : SourceState I} (start : AwaitsPlanes k wish head old new blocks marks) → AwaitLows sent start.given
+await_lows k wish head blocks whole marks sent weights q below start = record {
+  dcs = λ r lt. rw (weights, q, below) (start.dc_lows r (omega (arith, lt, ap length start.numbers, count_is head blocks whole start.dcs)));
+  acs = λ r p lt ac. start.ac_lows r p ac;
+}
+
+-- what was read up to the end, by the result of the call that read it
+pub text_taken : {I : Type 0} (k : SourceOf I) (wish : TextWish) (head : SegmentHead) (result : Result Part TextFault) (blocks : List ℤ)
+    {old new : SourceState I} → ReadsAs k (segment_read wish head) (by_part result (blocks_in blocks) (blocks_in blocks)) old new →
+    TakesText k wish head result old new blocks
+text_taken k wish head (Ok part) blocks read = read
+text_taken k wish head (Err fault) blocks read = (blocks_in blocks, read)

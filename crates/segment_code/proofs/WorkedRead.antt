@@ -9,11 +9,12 @@ use Rattle.plane_defs.specs.Sets.{significant, coded, set_significant, live, typ
 use Rattle.plane_defs.specs.Codes.{symbol}
 use Rattle.plane_defs.specs.Reading.{word_of}
 use Rattle.segment_defs.specs.Fields.{number_in}
+use Rattle.segment_defs.specs.TextWish.{segment_read}
 use Rattle.segment_code.specs.Worked.{WorkedAnswers}
 
 pub worked : WorkedAnswers
 unfolding profile span significant coded set_significant live type_due refined symbol word_of bits_of value_of bits_of_octets place_of
-    unmapped number_in lib.Count.ones
+    unmapped number_in segment_read lib.Count.ones
 worked = record {
   all = refl;
   more = refl;

@@ -15,3 +15,4 @@ pub mod Laws
 pub mod Parts
 pub mod Spelled
 pub mod Coded
+pub mod Readers

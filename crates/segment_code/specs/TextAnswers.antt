@@ -5,13 +5,12 @@ use Rattle.std.specs.Int.{div_ceil}
 use Rattle.item_defs.specs.Bits.{bits_of_octets}
 use Rattle.item_defs.specs.Items.{Refusal}
 use Rattle.item_defs.specs.Padding.{rounded}
-use Rattle.base_122.specs.declared.book.Book.{Book}
 use Rattle.bit_pipe.specs.declared.fault.Part.{Part}
 use Rattle.bit_pipe.specs.declared.fault.Part.TheVariants.{Whole, Ended}
 use Rattle.segment_defs.specs.declared.head.SegmentHead.{SegmentHead}
+use Rattle.segment_defs.specs.TextWish.{TextWish, segment_read}
 use Rattle.item_defs.specs.Outcomes.{Outcome, whole, cut, refused}
 use Rattle.item_defs.specs.Scripts.{run}
-use Rattle.segment_defs.specs.Segments.{segment_script}
 
 -- the numbers of all blocks, given by all items or by those before the limit; or the name by which an item is refused
 pub data TextAnswer : Type 0 where
@@ -43,15 +42,15 @@ decided head size octets bits (cut w) = if head.limit == 0 then None else if_eno
 decided head size octets bits (refused w name left) = Some (record { answer = refuses name; octets = div_ceil (length bits - length left) 8 })
 
 -- what the octets after a head of `size` octets hold, if they are enough to decide it
-abbrev pub answer_in : Book → SegmentHead → (size : ℕ) → (rest : List ℕ) → Option Decided
-answer_in book head size rest =
+abbrev pub answer_in : TextWish → SegmentHead → (size : ℕ) → (rest : List ℕ) → Option Decided
+answer_in wish head size rest =
     let bits = bits_within head size rest in
-    decided head size (length rest) bits (run (segment_script book head) bits)
+    decided head size (length rest) bits (run (segment_read wish head) bits)
 
 -- exactly these octets are needed for this answer
-abbrev pub Decides : Book → SegmentHead → (size : ℕ) → (octets : List ℕ) → TextAnswer → Type 0
-Decides book head size octets answer = answer_in book head size octets ≡ Some (record { answer = answer; octets = length octets })
+abbrev pub Decides : TextWish → SegmentHead → (size : ℕ) → (octets : List ℕ) → TextAnswer → Type 0
+Decides wish head size octets answer = answer_in wish head size octets ≡ Some (record { answer = answer; octets = length octets })
 
 -- more octets are needed
-abbrev pub NeedsMore : Book → SegmentHead → (size : ℕ) → (octets : List ℕ) → Type 0
-NeedsMore book head size octets = answer_in book head size octets ≡ None
+abbrev pub NeedsMore : TextWish → SegmentHead → (size : ℕ) → (octets : List ℕ) → Type 0
+NeedsMore wish head size octets = answer_in wish head size octets ≡ None

@@ -4,13 +4,14 @@ use Rattle.item_defs.specs.Items.{false_flag, bad_option}
 use Rattle.base_122.specs.Profile.{profile}
 use Rattle.bit_pipe.specs.declared.fault.Part.TheVariants.{Whole, Ended}
 use Rattle.segment_defs.specs.Head.{head_length}
+use Rattle.segment_defs.specs.TextWish.{unrestored}
 use Rattle.segment_defs.specs.Reading.{head_in}
 use Rattle.segment_defs.specs.Worked.{sparse, last_head, inner_head}
 use Rattle.segment_code.specs.TextAnswers.{TextAnswer, gives, refuses, Decided, answer_in}
 
 -- what these octets hold, the head included
 abbrev pub held : List ℕ → Option Decided
-held octets = answer_in profile (head_in octets) (head_length (head_in octets)) (drop (head_length (head_in octets)) octets)
+held octets = answer_in (unrestored profile) (head_in octets) (head_length (head_in octets)) (drop (head_length (head_in octets)) octets)
 
 -- this answer, decided by this number of octets after the head
 abbrev pub after : (octets : ℕ) → TextAnswer → Option Decided

@@ -44,12 +44,13 @@ pub(crate) fn select_of(best: bool) -> Select
     }
 }
 
-// Returns the planes that are sent.
-pub(crate) fn sent_planes(head: &SegmentHead) -> SentPlanes
+// Returns the planes that are sent, and whether the numbers are restored.
+pub(crate) fn sent_planes(head: &SegmentHead, restore: bool) -> SentPlanes
     requires fits { IsHead head.now }
     ensures weights { result.weights ≡ head.now.image.weights }
     ensures q { result.q ≡ q_of head.now }
     ensures below { result.below ≡ head.now.depth_ac }
+    ensures restore { result.restore ≡ restore }
     ensures last { result.last ≤ 4 }
     ensures stages { (plane : ℕ) → stages_sent head.now plane ≡ stages_of result plane }
 {
@@ -59,5 +60,6 @@ pub(crate) fn sent_planes(head: &SegmentHead) -> SentPlanes
         below: head.depth_ac,
         stop: head.stop.plane,
         last: head.stop.stage + 1,
+        restore,
     }
 }

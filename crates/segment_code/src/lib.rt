@@ -51,6 +51,6 @@ pub use decode::{SegmentReader, decode_segment};
 pub use encode::{SegmentWriter, encode_segment};
 pub use fault::SegmentFault;
 pub use laws::{
-    coded_texts_are_read, outcomes_agree, spelled_texts_decide, texts_are_short, texts_end_so,
-    texts_end_there, texts_give_parts, worked_answers,
+    answers_agree, coded_texts_are_read, outcomes_agree, spelled_texts_decide, texts_are_short,
+    texts_end_so, texts_end_there, texts_give_parts, worked_answers,
 };

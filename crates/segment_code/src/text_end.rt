@@ -1,9 +1,9 @@
 // The end of a text whose items were read.
 ghost use Rattle.std.specs.Prelude.{◌≡◌, ◌≤◌, ◌*◌, ℕ, ℤ, List, true, Ok};
-ghost use Rattle.base_122.specs.declared.book.Book.{Book as BookValue};
 ghost use Rattle.bit_pipe.specs.Bounds.{bound_of};
 ghost use Rattle.plane_defs.specs.Codes.{is_book_sound};
 ghost use Rattle.segment_defs.specs.Head.{IsHead, head_length};
+ghost use Rattle.segment_defs.specs.TextWish.{TextWish};
 ghost use Rattle.segment_defs.specs.declared.head.SegmentHead.{SegmentHead as HeadValue};
 ghost use Rattle.segment_code.specs.TakenText.{TakesFrom};
 ghost use Rattle.segment_code.specs.DecodedItems.{DecodesItems};
@@ -28,9 +28,9 @@ pub(crate) fn end_text<I: OctetIn>(
 ) -> Result<Part, SegmentFault>
     requires fits { IsHead head.now }
     requires bound { used ≤ 8 * bound_of head.now.limit }
-    ensures { (book : BookValue) (size : ℕ) (before : I) (blocks : List ℤ) → is_book_sound book ≡ true → size ≤ 20 →
-        TakesFrom I.source book head.now size (Ok (record { 0 = part; 1 = used })) before input.old blocks →
-        DecodesItems I.source book head.now size result before input.new blocks }
+    ensures { (wish : TextWish) (size : ℕ) (before : I) (blocks : List ℤ) → is_book_sound wish.book ≡ true → size ≤ 20 →
+        TakesFrom I.source wish head.now size (Ok (record { 0 = part; 1 = used })) before input.old blocks →
+        DecodesItems I.source wish head.now size result before input.new blocks }
 {
     match part {
         Part::Whole => end_whole(input, head, used),
@@ -44,9 +44,9 @@ pub(crate) fn end_text<I: OctetIn>(
 ///
 /// `Overlong` if an octet follows the text, and how the input ended.
 pub(crate) fn end_input<I: OctetIn>(input: &mut I, part: Part) -> Result<Part, SegmentFault>
-    ensures { (book : BookValue) (head : HeadValue) (before : I) (blocks : List ℤ) →
-        DecodesItems I.source book head (head_length head) (Ok part) before input.old blocks →
-        DecodesSegment I.source book head result before input.new blocks }
+    ensures { (wish : TextWish) (head : HeadValue) (before : I) (blocks : List ℤ) →
+        DecodesItems I.source wish head (head_length head) (Ok part) before input.old blocks →
+        DecodesSegment I.source wish head result before input.new blocks }
 {
     let None = input.take()? else {
         return Err(SegmentFault::Overlong);

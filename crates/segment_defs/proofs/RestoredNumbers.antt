@@ -8,7 +8,8 @@ use Rattle.std.proofs.lemmas.Bool.{cases_lt}
 use Rattle.std.proofs.lemmas.Int.{ints}
 use Rattle.std.proofs.lemmas.Nat.{pow-add}
 use Rattle.item_defs.proofs.Room.{Room}
-use Rattle.plane_defs.specs.Restored.{restored_dc, ac_rest, restored_ac}
+use Rattle.base_122.specs.Restored.{restored_dc}
+use Rattle.plane_defs.specs.Restored.{ac_rest, restored_ac}
 use Rattle.plane_defs.proofs.NumbersLeft.{whole_size}
 use Rattle.plane_defs.proofs.LowsRoom.{AcRoom}
 use Rattle.segment_defs.specs.Parts.{IsWeighted}

@@ -13,7 +13,7 @@ use Rattle.item_defs.specs.Following.{Follows, SaysWhat}
 use Rattle.item_defs.proofs.ScriptGives.{GivesAfter, cut_after}
 use Rattle.segment_defs.specs.Parts.{HasDcs, AreDeep, HasPlanes, IsPart, AreWeighted}
 use Rattle.segment_defs.specs.Segments.{segment_script}
-use Rattle.segment_defs.proofs.SegmentGoes.{segments_are_read}
+use Rattle.segment_defs.proofs.SegmentGoes.{script_is_read}
 use Rattle.segment_defs.proofs.SegmentParts.{there_part, segment_gives, segment_part}
 use Rattle.segment_defs.proofs.TextBack.{shorter, completed_back, asked_back, followed_back, of_asked, of_followed}
 use Rattle.segment_defs.proofs.TextNumbers.{part_weighted}
@@ -29,7 +29,7 @@ one_cut v w e = cc
 
 module _ (book : Book) (sound : is_book_sound book ≡ true) (head : SegmentHead) (is_head : IsHead head) where
   says : SaysWhat (segment_script book head)
-  says = (segments_are_read book head sound).says
+  says = (script_is_read book head sound).says
 
   pub whole_weighted : (bits left : List Bool) (v : Blocks) → run (segment_script book head) bits ≡ whole v left → AreWeighted head v
   whole_weighted bits left v ran =

@@ -18,7 +18,8 @@ use Rattle.plane_defs.specs.Sets.{magnitude, shift}
 use Rattle.plane_defs.specs.Codes.{is_book_sound}
 use Rattle.plane_defs.specs.Back.{dc_in}
 use Rattle.plane_defs.specs.Lows.{Given}
-use Rattle.plane_defs.specs.Restored.{restored_dc, restored_ac, restored_at, restored}
+use Rattle.base_122.specs.Restored.{restored_dc}
+use Rattle.plane_defs.specs.Restored.{restored_ac, restored_at, restored}
 use Rattle.plane_defs.proofs.NumbersGiven.{restored_by_position}
 use Rattle.plane_defs.proofs.LowsRoom.{AcRoom, HaveRoom, have_less, planes_room}
 use Rattle.segment_defs.specs.declared.head.SegmentHead.{SegmentHead}

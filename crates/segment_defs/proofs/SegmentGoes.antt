@@ -8,7 +8,7 @@ use Rattle.plane_defs.specs.Codes.{is_book_sound}
 use Rattle.plane_defs.proofs.SpanLists.{length-map-span}
 use Rattle.segment_defs.specs.declared.head.SegmentHead.{SegmentHead}
 use Rattle.segment_defs.specs.SegmentItems.{dc_shift, q_of, stages_sent}
-use Rattle.item_defs.specs.Scripts.{done, then_ask, beside}
+use Rattle.item_defs.specs.Scripts.{Script, done, then_ask, beside}
 use Rattle.item_defs.specs.Completing.{Goes}
 use Rattle.item_defs.proofs.Completing.{goes_then, goes_around, goes_beside, goes_weaker, sound_of_goes, completes, are_possible}
 use Rattle.number_defs.specs.DcScript.{dc_script}
@@ -18,7 +18,7 @@ use Rattle.number_defs.proofs.DcLaws.{dc_laws}
 use Rattle.number_defs.proofs.DepthLaws.{depth_laws}
 use Rattle.plane_defs.proofs.PlaneGoes.{planes_go}
 use Rattle.item_defs.proofs.ScriptLaws.{scripts_say}
-use Rattle.segment_defs.specs.TextLaws.{HasBlocks, SegmentsAreRead}
+use Rattle.segment_defs.specs.TextLaws.{HasBlocks, SegmentLaws}
 use Rattle.segment_defs.specs.Segments.{dc_blocks, dc_part_script, planes_part_script, segment_script}
 
 module _ (book : Book) (is_sound : is_book_sound book ≡ true) (head : SegmentHead) where
@@ -47,11 +47,13 @@ module _ (book : Book) (is_sound : is_book_sound book ≡ true) (head : SegmentH
   segment_goes : Goes (segment_script book head) Long
   segment_goes = goes_then Long Long (dc_part_script head) _ dc_goes (λ blocks p. rest_goes blocks p head.stop.dc)
 
-pub segments_are_read : SegmentsAreRead
-segments_are_read book head is_sound =
-    let goes = segment_goes book is_sound head in
-    record {
-      says = scripts_say (List (List ℤ)) (List (List ℤ)) (segment_script book head) (sound_of_goes (HasBlocks head) (segment_script book head) goes);
-      goes = goes;
-      completes = λ items form are asks. completes (HasBlocks head) (segment_script book head) goes items form (are_possible items are) asks;
-    }
+-- a script whose questions have possible answers
+pub laws_of : (head : SegmentHead) (s : Script (List (List ℤ)) (List (List ℤ))) → Goes s (HasBlocks head) → SegmentLaws s head
+laws_of head s goes = record {
+  says = scripts_say (List (List ℤ)) (List (List ℤ)) s (sound_of_goes (HasBlocks head) s goes);
+  goes = goes;
+  completes = λ items form are asks. completes (HasBlocks head) s goes items form (are_possible items are) asks;
+}
+
+pub script_is_read : (book : Book) (head : SegmentHead) → is_book_sound book ≡ true → SegmentLaws (segment_script book head) head
+script_is_read book head is_sound = laws_of head (segment_script book head) (segment_goes book is_sound head)

@@ -25,7 +25,7 @@ use Rattle.item_defs.proofs.ScriptStarts.{starts_asks, starts_on}
 use Rattle.segment_defs.specs.TextLaws.{HasBlocks}
 use Rattle.segment_defs.specs.Segments.{segment_script}
 use Rattle.segment_defs.specs.TextOutcome.{Answer, by_length, expected, verdict, text_outcome}
-use Rattle.segment_defs.proofs.SegmentGoes.{segments_are_read}
+use Rattle.segment_defs.proofs.SegmentGoes.{script_is_read}
 use Rattle.segment_defs.proofs.SegmentWritten.{segment_follows, segment_asks}
 use Rattle.segment_defs.proofs.SegmentBack.{whole_script, Spelled, whole_starts, whole_goes, spelled_back}
 
@@ -331,15 +331,15 @@ module _ (book : Book) (sound : is_book_sound book ≡ true) (head : SegmentHead
       where
         by : (o : Outcome Blocks Blocks) → run S bits ≡ o → (answer : Answer) → verdict head rest (run S bits) ≡ answer → Either_way answer
         by (whole x left) ran answer e =
-            whole_back answer x left ((segments_are_read book head sound).says.whole_is bits left x ran) (ap (verdict head rest) (sym ran) ∙ e)
-        by (cut g) ran answer e = cut_back answer g ((segments_are_read book head sound).says.cut_is bits g ran) (ap (verdict head rest) (sym ran) ∙ e)
+            whole_back answer x left ((script_is_read book head sound).says.whole_is bits left x ran) (ap (verdict head rest) (sym ran) ∙ e)
+        by (cut g) ran answer e = cut_back answer g ((script_is_read book head sound).says.cut_is bits g ran) (ap (verdict head rest) (sym ran) ∙ e)
         by (refused g name left) ran (Ok v) e = absurd (not_both v (at_item name) (sym (ap (verdict head rest) (sym ran) ∙ e)))
           where
             not_both : (v : Blocks) (name : SegmentRefusal) → ◌≡◌ {A = Answer} (Ok v) (Err name) → ⊥
             not_both v name e = cc
         by (refused g name left) ran (Err other) e =
             subst (Refused book head rest) (same (at_item name) other (ap (verdict head rest) (sym ran) ∙ e))
-            (refused_back name left ((segments_are_read book head sound).says.refused_is bits left g name ran))
+            (refused_back name left ((script_is_read book head sound).says.refused_is bits left g name ran))
           where
             same : (a b : SegmentRefusal) → ◌≡◌ {A = Answer} (Err a) (Err b) → a ≡ b
             same a b e = cc

@@ -15,7 +15,7 @@ use Rattle.segment_defs.specs.Outcomes.{short_segment, overlong, length_of, bits
 use Rattle.segment_defs.specs.Segments.{dc_blocks, dc_part_script, planes_part_script, segment_script}
 use Rattle.segment_defs.specs.TextOutcome.{Answer, by_length, expected, verdict, text_outcome}
 use Rattle.segment_defs.specs.Given.{dc_blocks_given, dc_part_given, planes_part_given, segment_given, text_given}
-use Rattle.segment_defs.specs.GivenLaws.{numbers_in, TextsAreGiven}
+use Rattle.segment_defs.specs.GivenLaws.{with_numbers, TextsAreGiven}
 
 abbrev pub Blocks : Type 0
 Blocks = List (List ℤ)
@@ -60,30 +60,31 @@ module _ (book : Book) (head : SegmentHead) where
   numbers_run bits o ran =
       ap (λ s. run s bits) (sym script_same) ∙ run_around numbers (segment_given book head) bits ∙ ap (put_outcome numbers) ran
 
-  module _ (rest : List ℕ) where
-    length_same : (octets wanted : ℕ) (g : Given) → by_length octets wanted g.numbers ≡ numbers_in (by_length octets wanted g)
-    length_same octets wanted g = by (nat_lt octets wanted) (nat_lt wanted octets)
-      where
-        by : (x y : Bool) → ◌≡◌ {A = Answer} (if x then Err short_segment else if y then Err overlong else Ok g.numbers)
-            (numbers_in (if x then Err short_segment else if y then Err overlong else Ok g))
-        by true y = refl
-        by false true = refl
-        by false false = refl
+-- an answer, by what was given
+module _ (put : Given → Blocks) (head : SegmentHead) (rest : List ℕ) where
+  length_put : (octets wanted : ℕ) (g : Given) → by_length octets wanted (put g) ≡ with_numbers put (by_length octets wanted g)
+  length_put octets wanted g = by (nat_lt octets wanted) (nat_lt wanted octets)
+    where
+      by : (x y : Bool) → ◌≡◌ {A = Answer} (if x then Err short_segment else if y then Err overlong else Ok (put g))
+          (with_numbers put (if x then Err short_segment else if y then Err overlong else Ok g))
+      by true y = refl
+      by false true = refl
+      by false false = refl
 
-    verdict_same : (o : Outcome Given Given) → verdict head rest (put_outcome numbers o) ≡ numbers_in (verdict head rest o)
-    verdict_same (whole g left) = length_same (length_of head rest) (expected head (length (bits_read head rest) - length left)) g
-    verdict_same (cut g) = by (head.limit == 0)
-      where
-        by : (x : Bool) → ◌≡◌ {A = Answer} (if x then Err short_segment else by_length (length_of head rest) head.limit g.numbers)
-            (numbers_in (if x then Err short_segment else by_length (length_of head rest) head.limit g))
-        by true = refl
-        by false = length_same (length_of head rest) head.limit g
-    verdict_same (refused g name left) = refl
+  pub verdict_put : (o : Outcome Given Given) → verdict head rest (put_outcome put o) ≡ with_numbers put (verdict head rest o)
+  verdict_put (whole g left) = length_put (length_of head rest) (expected head (length (bits_read head rest) - length left)) g
+  verdict_put (cut g) = by (head.limit == 0)
+    where
+      by : (x : Bool) → ◌≡◌ {A = Answer} (if x then Err short_segment else by_length (length_of head rest) head.limit (put g))
+          (with_numbers put (if x then Err short_segment else by_length (length_of head rest) head.limit g))
+      by true = refl
+      by false = length_put (length_of head rest) head.limit g
+  verdict_put (refused g name left) = refl
 
-    pub text_same : text_outcome book head rest ≡ numbers_in (text_given book head rest)
-    text_same =
-        ap (verdict head rest) (numbers_run (bits_read head rest) (run (segment_given book head) (bits_read head rest)) refl) ∙
-        verdict_same (run (segment_given book head) (bits_read head rest))
+pub text_same : (book : Book) (head : SegmentHead) (rest : List ℕ) → text_outcome book head rest ≡ with_numbers numbers (text_given book head rest)
+text_same book head rest =
+    ap (verdict head rest) (numbers_run book head (bits_read head rest) (run (segment_given book head) (bits_read head rest)) refl) ∙
+    verdict_put numbers head rest (run (segment_given book head) (bits_read head rest))
 
 pub texts_are_given : TextsAreGiven
 texts_are_given = record { script = script_same; text = text_same }

@@ -21,7 +21,7 @@ use Rattle.item_defs.specs.Outcomes.{whole}
 use Rattle.segment_defs.specs.Segments.{segment_script}
 use Rattle.segment_defs.specs.TextOutcome.{Answer, by_length, expected, verdict, text_outcome}
 use Rattle.segment_defs.specs.TextLaws.{HasAllPlanes, TextsAreRead}
-use Rattle.segment_defs.proofs.SegmentGoes.{segments_are_read}
+use Rattle.segment_defs.proofs.SegmentGoes.{script_is_read}
 use Rattle.segment_defs.proofs.SegmentWritten.{segment_exact, segment_asks}
 use Rattle.segment_defs.proofs.SegmentParts.{there_part, segment_gives, segment_part, segment_whole}
 use Rattle.segment_defs.proofs.TextNumbers.{part_weighted}
@@ -91,7 +91,7 @@ module _ (head : SegmentHead) (is_head : IsHead head) (rest : List ℕ) (blocks 
   bits = bits_read head rest
 
   says : SaysWhat S
-  says = (segments_are_read options.book head r.known.sound).says
+  says = (script_is_read options.book head r.known.sound).says
 
   abbrev all : AreItems (take m items)
   all = r.prefix.taken

@@ -15,8 +15,8 @@ use Rattle.segment_defs.specs.Segments.{segment_script}
 use Rattle.segment_defs.specs.TextOutcome.{Answer, by_length, expected, verdict}
 use Rattle.segment_defs.specs.TextLaws.{HasAllPlanes}
 use Rattle.segment_defs.specs.Given.{segment_given, text_given}
-use Rattle.segment_defs.specs.GivenLaws.{numbers_in, TextsAreRestored}
-use Rattle.segment_defs.proofs.TextGiven.{Blocks, text_same, numbers_run}
+use Rattle.segment_defs.specs.GivenLaws.{with_numbers, TextsAreRestored}
+use Rattle.segment_defs.proofs.TextGiven.{Blocks, numbers, text_same, numbers_run}
 use Rattle.segment_defs.proofs.TextReads.{texts_are_read, whole_run}
 use Rattle.segment_defs.proofs.RunRestored.{whole_restored, cut_restored}
 use Rattle.segment_defs.proofs.RunFull.{whole_same}
@@ -44,12 +44,12 @@ not_refused : (name : SegmentRefusal) (w : Given) → ◌≡◌ {A = Answered} (
 not_refused name w e = cc
 
 -- the numbers of an answer
-numbers_are : (a : Answered) (v : Blocks) → numbers_in a ≡ Ok v → (g : Given) × (a ≡ Ok g) × (g.numbers ≡ v)
-numbers_are (Ok g) v e = (g, refl, same e)
+pub numbers_are : (put : Given → Blocks) (a : Answered) (v : Blocks) → with_numbers put a ≡ Ok v → (g : Given) × (a ≡ Ok g) × (put g ≡ v)
+numbers_are put (Ok g) v e = (g, refl, same e)
   where
-    same : ◌≡◌ {A = Answer} (Ok g.numbers) (Ok v) → g.numbers ≡ v
+    same : ◌≡◌ {A = Answer} (Ok (put g)) (Ok v) → put g ≡ v
     same e = cc
-numbers_are (Err name) v e = absurd (none e)
+numbers_are put (Err name) v e = absurd (none e)
   where
     none : ◌≡◌ {A = Answer} (Err name) (Ok v) → ⊥
     none e = cc
@@ -75,7 +75,7 @@ module _ (book : Book) (sound : is_book_sound book ≡ true) (head : SegmentHead
   weighted (refused x name left) ran g e = absurd (not_refused (at_item name) g e)
 
   numbers_weighted : (g : Given) → text_given book head rest ≡ Ok g → AreWeighted head g.numbers
-  numbers_weighted g e = (texts_are_read book sound head rest is_head).numbers g.numbers (text_same book head rest ∙ ap numbers_in e)
+  numbers_weighted g e = (texts_are_read book sound head rest is_head).numbers g.numbers (text_same book head rest ∙ ap (with_numbers numbers) e)
 
   module _ (h : Holds book head rest) (all : HasAllPlanes head) (count : h.count ≡ length (segment_items head h.blocks h.depths h.options)) where
     -- the reading is not cut
@@ -96,7 +96,7 @@ module _ (book : Book) (sound : is_book_sound book ≡ true) (head : SegmentHead
     exact : (g : Given) × (text_given book head rest ≡ Ok g) × (restored W g ≡ h.blocks)
     exact =
         let e = (texts_are_read book sound head rest is_head).exact h all count in
-        let w = numbers_are (text_given book head rest) h.blocks (sym (text_same book head rest) ∙ e) in
+        let w = numbers_are numbers (text_given book head rest) h.blocks (sym (text_same book head rest) ∙ e) in
         (w.0, w.1, same_numbers (run (segment_given book head) bits) refl w.0 w.1 w.1 ∙ w.2)
 
 pub texts_are_restored : TextsAreRestored

@@ -1,5 +1,5 @@
 -- The laws of what a segment's text gives.
-use Rattle.std.specs.Prelude.{◌≡◌, ℕ, true, List, length, Result, Ok, Err}
+use Rattle.std.specs.Prelude.{◌≡◌, ℕ, true, List, length, Result, Ok, Err, ℤ}
 use Rattle.base_122.specs.declared.book.Book.{Book}
 use Rattle.segment_defs.specs.declared.head.SegmentHead.{SegmentHead}
 use Rattle.item_defs.specs.Scripts.{around}
@@ -15,15 +15,15 @@ use Rattle.segment_defs.specs.TextOutcome.{Answer, text_outcome}
 use Rattle.segment_defs.specs.TextLaws.{HasAllPlanes}
 use Rattle.segment_defs.specs.Given.{segment_given, text_given}
 
--- the numbers, or the name of a refusal
-abbrev pub numbers_in : Result Given SegmentRefusal → Answer
-numbers_in (Ok g) = Ok g.numbers
-numbers_in (Err name) = Err name
+-- these numbers of what is given, or the name of a refusal
+abbrev pub with_numbers : (Given → List (List ℤ)) → Result Given SegmentRefusal → Answer
+with_numbers numbers (Ok g) = Ok (numbers g)
+with_numbers numbers (Err name) = Err name
 
 -- the script, and the text, with what is given of each number give the numbers of those without
 pub record TextsAreGiven : Type 0 where
   pub script : (book : Book) (head : SegmentHead) → around (λ g. g.numbers) (segment_given book head) ≡ segment_script book head
-  pub text : (book : Book) (head : SegmentHead) (rest : List ℕ) → text_outcome book head rest ≡ numbers_in (text_given book head rest)
+  pub text : (book : Book) (head : SegmentHead) (rest : List ℕ) → text_outcome book head rest ≡ with_numbers (λ g. g.numbers) (text_given book head rest)
 
 pub record TextRestores (book : Book) (head : SegmentHead) (rest : List ℕ) : Type 0 where
   -- restored numbers are multiples of their weights, in the range of the numbers

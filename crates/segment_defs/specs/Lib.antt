@@ -14,7 +14,9 @@ pub mod Segments
 pub mod Parts
 pub mod TextOutcome
 pub mod Given
+pub mod TextWish
 pub mod Worked
 pub mod WorkedGiven
 pub mod GivenLaws
 pub mod TextLaws
+pub mod TextWishLaws

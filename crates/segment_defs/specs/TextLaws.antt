@@ -5,12 +5,13 @@ use Rattle.item_defs.specs.Readings.{AreItems}
 use Rattle.base_122.specs.declared.book.Book.{Book}
 use Rattle.plane_defs.specs.Codes.{is_book_sound}
 use Rattle.segment_defs.specs.declared.head.SegmentHead.{SegmentHead}
+use Rattle.item_defs.specs.Scripts.{Script}
 use Rattle.item_defs.specs.Following.{SaysWhat, Asks}
 use Rattle.item_defs.specs.Completing.{Goes, Completed}
 use Rattle.segment_defs.specs.Head.{IsHead}
 use Rattle.segment_defs.specs.SegmentItems.{segment_items}
 use Rattle.segment_defs.specs.Outcomes.{SegmentRefusal, Holds, Refused}
-use Rattle.segment_defs.specs.Segments.{segment_script}
+use Rattle.segment_defs.specs.TextWish.{TextWish, segment_read}
 use Rattle.segment_defs.specs.Parts.{HasDcs, HasPlanes, IsPart, stopped, AreWeighted}
 use Rattle.segment_defs.specs.TextOutcome.{text_outcome}
 
@@ -18,17 +19,17 @@ use Rattle.segment_defs.specs.TextOutcome.{text_outcome}
 abbrev pub HasBlocks : SegmentHead → List (List ℤ) → Type 0
 HasBlocks head w = length w ≡ head.blocks
 
-pub record SegmentLaws (book : Book) (head : SegmentHead) : Type 0 where
+-- the laws of a script that reads the text of a segment
+pub record SegmentLaws (script : Script (List (List ℤ)) (List (List ℤ))) (head : SegmentHead) : Type 0 where
   -- what bits are read as is what items say
-  pub says : SaysWhat (segment_script book head)
+  pub says : SaysWhat script
   -- each question is sound and has a possible answer
-  pub goes : Goes (segment_script book head) (HasBlocks head)
+  pub goes : Goes script (HasBlocks head)
   -- so a reading that is cut can be completed
-  pub completes : (items : List Item) (form : Form) → AreItems items → Asks (segment_script book head) items form →
-      Completed (segment_script book head) (HasBlocks head) items
+  pub completes : (items : List Item) (form : Form) → AreItems items → Asks script items form → Completed script (HasBlocks head) items
 
 abbrev pub SegmentsAreRead : Type 0
-SegmentsAreRead = (book : Book) (head : SegmentHead) → is_book_sound book ≡ true → SegmentLaws book head
+SegmentsAreRead = (wish : TextWish) (head : SegmentHead) → is_book_sound wish.book ≡ true → SegmentLaws (segment_read wish head) head
 
 -- the stop is after the last stage of the last bit plane
 pub record HasAllPlanes (head : SegmentHead) : Type 0 where

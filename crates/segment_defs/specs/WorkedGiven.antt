@@ -1,27 +1,23 @@
 -- What some coded segments that are cut or stopped are restored to, worked out by hand.
-use Rattle.std.specs.Prelude.{◌≡◌, ℕ, ◌++◌, drop, List, [], ◌∷◌, replicate, codes, ℤ, pos, negsuc, Result, Ok, Err}
+use Rattle.std.specs.Prelude.{◌≡◌, ℕ, ◌++◌, drop, List, [], ◌∷◌, replicate, codes, ℤ, pos, negsuc, Ok}
 use Rattle.base_122.specs.Profile.{profile}
 use Rattle.item_defs.specs.Outcomes.{Outcome, cut}
 use Rattle.item_defs.specs.Scripts.{run, around}
 use Rattle.number_defs.specs.DcLows.{dc_given}
 use Rattle.number_defs.specs.Worked.{bits_in}
-use Rattle.plane_defs.specs.Lows.{Given}
 use Rattle.plane_defs.specs.Restored.{restored}
-use Rattle.segment_defs.specs.declared.head.SegmentHead.{SegmentHead}
 use Rattle.segment_defs.specs.Head.{head_length}
 use Rattle.segment_defs.specs.Reading.{head_in}
-use Rattle.segment_defs.specs.Outcomes.{SegmentRefusal}
 use Rattle.segment_defs.specs.TextOutcome.{Answer}
 use Rattle.segment_defs.specs.Given.{dc_blocks_given, text_given}
+use Rattle.segment_defs.specs.GivenLaws.{with_numbers}
 use Rattle.segment_defs.specs.Worked.{sparse, last_head, inner_head}
-
-abbrev pub restored_answer : SegmentHead → Result Given SegmentRefusal → Answer
-restored_answer head (Ok g) = Ok (restored head.image.weights.shifts g)
-restored_answer head (Err name) = Err name
 
 -- what these octets are restored to, the head included
 abbrev pub restored_text : List ℕ → Answer
-restored_text octets = restored_answer (head_in octets) (text_given profile (head_in octets) (drop (head_length (head_in octets)) octets))
+restored_text octets =
+    let head = head_in octets in
+    with_numbers (restored head.image.weights.shifts) (text_given profile head (drop (head_length head) octets))
 
 -- the DC part of two blocks
 abbrev pub two_dcs : (depth_dc depth_ac : ℕ) → List ℕ → Outcome (List (List ℤ)) (List (List ℤ))

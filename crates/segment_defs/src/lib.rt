@@ -2,7 +2,7 @@
 //! which it is refused (docs/formats.md, "Reading a segment"). A text is read as values exactly if it holds some.
 //!
 //! Layer: definitions and their laws, no code. It uses `base_122`, `item_defs`, `number_defs`, `wave_defs` and `plane_defs`. It is used by
-//! `stream_defs`, `segment_head`, `segment_code`, `bare_text`, `packet_assembly`, `strip_coder`, `segment_walk` and 5 more.
+//! `stream_defs`, `segment_head`, `segment_code`, `bare_text`, `packet_assembly`, `strip_coder`, `segment_walk` and 10 more.
 #![tactic(auto)]
 
 ghost use Rattle.segment_defs.specs.Laws.{SizeIsLeast, DepthsAreLeast, StopsAtDc};
@@ -15,7 +15,7 @@ pub use fault::{HeadFault, HeadField, Odd};
 pub use head::{ImagePart, SegmentHead};
 pub use texts::{
     segments_are_read, texts_are_given, texts_are_read, texts_are_restored, texts_have_outcomes,
-    worked_given, worked_texts,
+    texts_read_as_wished, wishes_agree, worked_given, worked_texts,
 };
 
 /// The size of a number is the least number of bits that hold it.

@@ -1,6 +1,7 @@
 // What some coded segments hold, and the laws of their script.
 ghost use Rattle.segment_defs.specs.GivenLaws.{TextsAreGiven, TextsAreRestored};
 ghost use Rattle.segment_defs.specs.TextLaws.{SegmentsAreRead, TextsAreRead, TextsHaveOutcomes};
+ghost use Rattle.segment_defs.specs.TextWishLaws.{WishesAgree, TextsReadAsWished};
 ghost use Rattle.segment_defs.specs.Worked.{WorkedTexts};
 ghost use Rattle.segment_defs.specs.WorkedGiven.{WorkedGiven};
 
@@ -14,7 +15,7 @@ pub const fn worked_given()
     ensures { WorkedGiven }
 {}
 
-/// What bits of a coded segment are read as is what its items say, and a reading that is cut can be completed.
+/// What bits of a coded segment are read as, restored or as it is, is what its items say, and a reading that is cut can be completed.
 pub const fn segments_are_read()
     ensures { SegmentsAreRead }
 {}
@@ -39,4 +40,15 @@ pub const fn texts_are_given()
 /// are the numbers.
 pub const fn texts_are_restored()
     ensures { TextsAreRestored }
+{}
+
+/// Whether a text is accepted, and the name by which it is refused otherwise, does not depend on whether its numbers are restored.
+pub const fn wishes_agree()
+    ensures { WishesAgree }
+{}
+
+/// The numbers of a text, restored or as they are, are multiples of their weights. If all items of a text without a stop are given, they
+/// are its values.
+pub const fn texts_read_as_wished()
+    ensures { TextsReadAsWished }
 {}

@@ -7,7 +7,7 @@ use Rattle.segment_code.proofs.decode.take_from.Goals as goal
 pub returns-in_err-part-clause-takes : goal.returns-in_err-part-clause-takes
 returns-in_err-part-clause-takes g c =
     let p = err_from_is_err_and c.from_residual.result c.from_residual.ensures.1 in
-    let name = c.in_err-part.ensures.takes.taken.name in
+    let name = c.in_err-part.ensures.takes.1.taken.name in
     let same = c.new-bits.ensures.same in
     rw (p.1, p.2) (record {
       start = source_state c.new-bits.result;

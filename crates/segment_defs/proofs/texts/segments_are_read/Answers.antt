@@ -1,4 +1,4 @@
-use Rattle.segment_defs.proofs.SegmentGoes.{segments_are_read}
+use Rattle.segment_defs.proofs.WishReads.{segments_are_read}
 use Rattle.segment_defs.proofs.texts.segments_are_read.Goals as goal
 
 pub returns : goal.returns
