@@ -9,7 +9,6 @@ use Rattle.std.proofs.lemmas.Bool.Decides.{nat_tests}
 use Rattle.port_122.specs.Outside.{Outside, Exchange, NoRead}
 use Rattle.port_122.proofs.Stretches.{since_then, since_out, since_weaker}
 use Rattle.base_122.specs.Sizes.{first_block}
-use Rattle.base_122.specs.declared.book.Book.{Book}
 use Rattle.base_122.specs.declared.geometry.Geometry.{Geometry}
 use Rattle.packet_defs.specs.Packets.{joined}
 use Rattle.packet_defs.specs.Streams.{whole_packets, left_over}
@@ -29,6 +28,7 @@ use Rattle.packet_assembly.specs.Passing.{whole_after}
 use Rattle.packet_assembly.specs.Readings.{HasRead, AsksReadable}
 use Rattle.packet_assembly.proofs.Readings.{readable_more}
 use Rattle.packet_assembly.proofs.Images.{end_more, end_same, geometry_known, geometry_same, through_open, reported_last_open}
+use Rattle.segment_defs.specs.TextWish.{TextWish}
 use Rattle.segment_walk.specs.Sinks.{Numbers, Blocks, SinkOf, MayEnd, blocks_with}
 use Rattle.segment_walk.specs.Steps.{Walking, IsCurrent, passed_in, total_in}
 use Rattle.segment_walk.specs.Runs.{Run, holds_after, PassedBy, AsksPassed, HasFew, PartBy, Knows, AreOf, Shows, blocks_passed, settled_blocks, future}
@@ -86,13 +86,13 @@ future_part {a = a} {b = b} {went = went} q rest octets more if_known parts =
 
 -- ---- a run goes on
 
-pub knows_on : (book : Book) (apid : ℕ) (passed went later : List (List ℕ)) (bound : ℕ) (sofar : Numbers) →
-    Knows book apid passed (went ++ later) bound sofar → Knows book apid (passed ++ went) later bound sofar
-knows_on book apid passed went later bound sofar knows = record {
+pub knows_on : (texts : TextWish) (apid : ℕ) (passed went later : List (List ℕ)) (bound : ℕ) (sofar : Numbers) →
+    Knows texts apid passed (went ++ later) bound sofar → Knows texts apid (passed ++ went) later bound sofar
+knows_on texts apid passed went later bound sofar knows = record {
   at = λ next more are index lt.
       let here = knows.at (went ++ next) more (ap (λ xs. went ++ xs) are ∙ sym (append_assoc went next more)) index lt in
-      subst (λ xs. MatchOption (sofar index) ((numbers : List (List ℤ)) → IsReceived (holds_after book) (kept apid fresh xs) index numbers → ⊥)
-      (IsReceived (holds_after book) (kept apid fresh xs) index)) (sym (append_assoc passed went next)) here;
+      subst (λ xs. MatchOption (sofar index) ((numbers : List (List ℤ)) → IsReceived (holds_after texts) (kept apid fresh xs) index numbers → ⊥)
+      (IsReceived (holds_after texts) (kept apid fresh xs) index)) (sym (append_assoc passed went next)) here;
 }
 
 asks_more : {S : Type 0} (k : SinkOf S) (w : Run) (took t gave g : List ℕ) (i j : ℕ) → i ≤ length took → AsksPassed k w took gave i j →
@@ -109,7 +109,7 @@ wrote_on k w took gave g since out =
 
 -- the condition on these octets, if the port reports what is left
 abbrev pub IsRight : {S : Type 0} → SinkOf S → Run → (taken given : List ℕ) → Type 0
-IsRight k w taken given = HasFewPixels w.pixels w.apid taken × ((all : List ℕ) → w.start.rest ≡ Some all → PassedBy k w.book w.apid taken given)
+IsRight k w taken given = HasFewPixels w.pixels w.apid taken × ((all : List ℕ) → w.start.rest ≡ Some all → PassedBy k w.texts w.apid taken given)
 
 -- a read call at which what was given is right
 abbrev AsksRight : {S : Type 0} → SinkOf S → Run → (took gave : List ℕ) → ℕ → ℕ → Type 0
@@ -171,10 +171,10 @@ few_known pixels apid passed next g geometry few known h there =
 -- ---- the segments that are received
 
 -- two results for the same segment agree
-pub both_report : (book : Book) (packets : List (List ℕ)) (index : ℕ) (r s : Option (List (List ℤ))) →
-    MatchOption r ((w : List (List ℤ)) → IsReceived (holds_after book) packets index w → ⊥) (IsReceived (holds_after book) packets index) →
-    MatchOption s ((w : List (List ℤ)) → IsReceived (holds_after book) packets index w → ⊥) (IsReceived (holds_after book) packets index) → r ≡ s
-both_report book packets index r s x y = grind (arith, nat_tests, one_received)
+pub both_report : (texts : TextWish) (packets : List (List ℕ)) (index : ℕ) (r s : Option (List (List ℤ))) →
+    MatchOption r ((w : List (List ℤ)) → IsReceived (holds_after texts) packets index w → ⊥) (IsReceived (holds_after texts) packets index) →
+    MatchOption s ((w : List (List ℤ)) → IsReceived (holds_after texts) packets index w → ⊥) (IsReceived (holds_after texts) packets index) → r ≡ s
+both_report texts packets index r s x y = grind (arith, nat_tests, one_received)
 
 -- the first blocks are those of the segments that are received
 pub of_received : (g : Geometry) (sofar received : Numbers) (n bound : ℕ) → 0 < g.segment → n ≤ first_block g.segment bound →
@@ -200,7 +200,7 @@ module _ {S : Type 0} (k : SinkOf S) (w : Run) (a : Assembling) (p : Walking S) 
     (sofar : Numbers) (read : HasRead w.apid w.cap a took passed)
     (current : IsCurrent k p) (few : passed_in p ≤ first_block p.geometry.segment bound) (begun : passed_in p ≤ end_of (kept w.apid fresh passed))
     (later beyond : List (List ℕ)) (parts : later ≡ whole_packets (a.intake.pending ++ octets) ++ beyond)
-    (knows : Knows w.book w.apid passed later bound sofar) where
+    (knows : Knows w.texts w.apid passed later bound sofar) where
   abbrev next : List (List ℕ)
   next = whole_packets (a.intake.pending ++ octets)
 
@@ -214,20 +214,20 @@ module _ {S : Type 0} (k : SinkOf S) (w : Run) (a : Assembling) (p : Walking S) 
   reach_more : (n : ℕ) → n ≤ end_of (kept w.apid fresh passed) → n ≤ end_of (kept_in w.apid (took ++ octets))
   reach_more n le = let more = end_more w.apid passed next in omega (arith, le, more, ap end_of kept_are)
 
-  pub known_same : (received : Numbers) → ReceivedIn (holds_after w.book) w.apid (took ++ octets) received → (index : ℕ) → index < bound →
+  pub known_same : (received : Numbers) → ReceivedIn (holds_after w.texts) w.apid (took ++ octets) received → (index : ℕ) → index < bound →
       received index ≡ sofar index
   known_same received are index lt =
-      both_report w.book (kept w.apid fresh (passed ++ next)) index (received index) (sofar index)
-      (subst (λ packets. MatchOption (received index) ((v : List (List ℤ)) → IsReceived (holds_after w.book) packets index v → ⊥)
-      (IsReceived (holds_after w.book) packets index)) kept_are (are.at index))
+      both_report w.texts (kept w.apid fresh (passed ++ next)) index (received index) (sofar index)
+      (subst (λ packets. MatchOption (received index) ((v : List (List ℤ)) → IsReceived (holds_after w.texts) packets index v → ⊥)
+      (IsReceived (holds_after w.texts) packets index)) kept_are (are.at index))
       (knows.at next beyond parts index lt)
 
   -- the first blocks are those of the segments that are received
   pub first_received : (n : ℕ) → n ≤ first_block p.geometry.segment bound → (received : Numbers) →
-      ReceivedIn (holds_after w.book) w.apid (took ++ octets) received → AreOf p.geometry sofar n (blocks_with p.geometry received)
+      ReceivedIn (holds_after w.texts) w.apid (took ++ octets) received → AreOf p.geometry sofar n (blocks_with p.geometry received)
   first_received n le received are = of_received p.geometry sofar received n bound (omega (arith, current.range.segment.0)) le (known_same received are)
 
-  pub given_then : Shows k p sofar gave → (received : Numbers) → ReceivedIn (holds_after w.book) w.apid (took ++ octets) received →
+  pub given_then : Shows k p sofar gave → (received : Numbers) → ReceivedIn (holds_after w.texts) w.apid (took ++ octets) received →
       k.Given p.geometry (blocks_with p.geometry received) (passed_in p) gave
   given_then shows received are =
       let blocks = blocks_with p.geometry received in
@@ -236,8 +236,8 @@ module _ {S : Type 0} (k : SinkOf S) (w : Run) (a : Assembling) (p : Walking S) 
   -- a part of what the sink gives of the first n blocks
   pub part_at : (given : List ℕ) (n : ℕ) → (stays : StaysIn (state_with a octets) p.geometry n) → n ≤ total_in p →
       (stays.image.rows ≡ 0 → n ≤ end_of (kept w.apid fresh passed)) →
-      ((received : Numbers) → ReceivedIn (holds_after w.book) w.apid (took ++ octets) received →
-      (m : ℕ) × (m ≤ n) × k.Part p.geometry (blocks_with p.geometry received) m given) → PartBy k w.book w.apid (took ++ octets) given
+      ((received : Numbers) → ReceivedIn (holds_after w.texts) w.apid (took ++ octets) received →
+      (m : ℕ) × (m ≤ n) × k.Part p.geometry (blocks_with p.geometry received) m given) → PartBy k w.texts w.apid (took ++ octets) given
   part_at given n stays most reached parted = record {
     none = λ none. absurd (let both : None ≡ Some stays.image = sym none ∙ ap (λ (s : FateState). s.geometry) state_is ∙ stays.geometry in cc);
     some = λ g received if_known are.
@@ -257,16 +257,16 @@ module _ {S : Type 0} (k : SinkOf S) (w : Run) (a : Assembling) (p : Walking S) 
         );
   }
 
-  pub is_part : StaysIn (state_with a octets) p.geometry (passed_in p) → Shows k p sofar gave → PartBy k w.book w.apid (took ++ octets) gave
+  pub is_part : StaysIn (state_with a octets) p.geometry (passed_in p) → Shows k p sofar gave → PartBy k w.texts w.apid (took ++ octets) gave
   is_part stays shows = part_at gave (passed_in p) stays current.few (λ none. begun)
       (λ received are. (passed_in p, omega arith, k.part_of p.geometry (blocks_with p.geometry received) (passed_in p) gave (given_then shows received are)))
 
   -- and it is at least what is given after the settled blocks
   pub is_prompt : (image : Geometry) → (state_with a octets).geometry ≡ Some image → p.geometry ≡ placed image → Shows k p sofar gave →
       ((index : ℕ) → bound ≤ index → sofar index ≡ None) →
-      ((index : ℕ) (v : List (List ℤ)) → bound ≤ index → IsReceived (holds_after w.book) (kept w.apid fresh (passed ++ next)) index v → ⊥) →
+      ((index : ℕ) (v : List (List ℤ)) → bound ≤ index → IsReceived (holds_after w.texts) (kept w.apid fresh (passed ++ next)) index v → ⊥) →
       (l : LastPart) → (state_with a octets).last ≡ Some l → blocks_through p.geometry sofar l.index ≤ passed_in p →
-      PassedBy k w.book w.apid (took ++ octets) gave
+      PassedBy k w.texts w.apid (took ++ octets) gave
   is_prompt image geometry goes_by shows above beyond_none l last_is reached = record {
     none = λ none. absurd (let both : None ≡ Some image = sym none ∙ ap (λ (s : FateState). s.geometry) state_is ∙ geometry in cc);
     some = λ g received if_known are.
@@ -288,5 +288,5 @@ module _ {S : Type 0} (k : SinkOf S) (w : Run) (a : Assembling) (p : Walking S) 
         ));
   }
     where
-      all_same : (received : Numbers) → ReceivedIn (holds_after w.book) w.apid (took ++ octets) received → (index : ℕ) → received index ≡ sofar index
+      all_same : (received : Numbers) → ReceivedIn (holds_after w.texts) w.apid (took ++ octets) received → (index : ℕ) → received index ≡ sofar index
       all_same received are index = grind (arith, nat_tests, known_same, kept_are, both_report)

@@ -26,6 +26,7 @@ use Rattle.packet_assembly.specs.Segments.{FindsSegment, FoundNone}
 use Rattle.packet_assembly.specs.Readings.{HasRead}
 use Rattle.packet_assembly.proofs.Images.{begun_by, end_begun}
 use Rattle.packet_assembly.proofs.Readings.{read_within, ended_packets, ended_out, long_packets, long_full, long_good}
+use Rattle.segment_defs.specs.TextWish.{text_wish}
 use Rattle.segment_walk.specs.declared.ending.DecodeFault.{DecodeFault}
 use Rattle.segment_walk.specs.declared.ending.DecodeFault.TheVariants.{ReadFault, WriteFault, NoSegment, TooManyPixels, LongInput, Memory}
 use Rattle.segment_walk.specs.Sinks.{Numbers, SinkOf, blocks_with}
@@ -89,7 +90,7 @@ first_fails k wish old new a b unread ReadFault finds =
       since = first_asks k (run_of wish old) new a b found.passed unread found.passes;
       within = read_within (none_read_yet k wish old new a b unread found);
       for_some = inl refl;
-      answer = (finds.ends.1, λ all if_known. first_part k wish.book wish.apid found.passes.took);
+      answer = (finds.ends.1, λ all if_known. first_part k (text_wish wish) wish.apid found.passes.took);
     }
 first_fails k wish old new a b unread LongInput finds =
     let found = finds.ends.0 in
@@ -106,7 +107,7 @@ first_fails k wish old new a b unread LongInput finds =
         long_full read long,
         long_good read long,
         none_few wish.pixels wish.apid found.passes.took none,
-        λ all if_known. first_part k wish.book wish.apid found.passes.took,
+        λ all if_known. first_part k (text_wish wish) wish.apid found.passes.took,
       );
     }
 first_fails k wish old new a b unread other finds = absurd finds
@@ -156,7 +157,7 @@ module _ {S : Type 0} (k : SinkOf S) (wish : DecodeWish) (old new : Outside) (b 
             };
             nothing = λ known. refl;
           },
-          λ all if_known. first_part k wish.book wish.apid found.took,
+          λ all if_known. first_part k (text_wish wish) wish.apid found.took,
         );
       }
 

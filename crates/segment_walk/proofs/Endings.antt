@@ -1,5 +1,5 @@
 -- The answer of a walk, by its end.
-use Rattle.std.proofs.Common.{◌≡◌, ◌*◌, ℕ, List, [], refl, ap, inl, inr, arith, ◌-◌, length, subst, Bool, Result}
+use Rattle.std.proofs.Common.{◌≡◌, ◌*◌, ℕ, List, [], refl, ap, inl, inr, arith, ◌-◌, length, subst, Bool, Result, false}
 use Rattle.port_122.proofs.Stretches.{since_weaker}
 use Rattle.port_122.specs.Outside.{Outside, Exchange}
 use Rattle.base_122.specs.declared.geometry.Geometry.{Geometry}
@@ -29,13 +29,19 @@ passed_open g ended none = rw (is_open g.rows none) refl
 pub passed_known : (g : Geometry) (ended : ℕ) → (g.rows ≡ 0 → ⊥) → blocks_passed g ended ≡ blocks_of g
 passed_known g ended some = rw (is_not_open g.rows some) refl
 
--- The answer of a walk is that of a decoder, if what is shown of the blocks is given; the octets may be known later to be read out.
-pub found_as : {S : Type 0} {k : SinkOf S} {wish : DecodeWish} {old mid new : Outside} {took gave : List ℕ} {walked : Walked S} (gives : Bool)
-    (given : List ℕ) → IsWalked k wish old mid took gave walked → IsReadOut wish.octets new took →
+-- the same wish, for numbers as they are
+abbrev pub as_they_are : DecodeWish → DecodeWish
+as_they_are wish = record wish { restore = false }
+
+-- The answer of a walk, which may restore numbers or not, is that of a decoder, if what is shown of the blocks is given; the octets may be
+-- known later to be read out.
+pub found_as : {S : Type 0} {k : SinkOf S} {old mid new : Outside} {took gave : List ℕ} {walked : Walked S} (gives : Bool) (wish : DecodeWish)
+    (restore : Bool) (given : List ℕ) → IsWalked k (record wish { restore = restore }) old mid took gave walked → IsReadOut wish.octets new took →
     ((received : Numbers) → k.Follows walked.sink (placed walked.done.geometry) (blocks_with walked.done.geometry received)
     (blocks_passed walked.done.geometry (end_of (kept_in wish.apid took))) gave →
-    given ≡ octets_of gives walked.done.geometry received (begun_in wish.apid took)) → PictureBy gives wish old new took given walked.done
-found_as gives given x out shows = record {
+    given ≡ octets_of gives walked.done.geometry received (begun_in wish.apid took)) →
+    PictureBy gives (record { book = wish.book; restore = restore }) wish old new took given walked.done
+found_as gives wish restore given x out shows = record {
   geometry = x.geometry;
   range = x.range;
   few = x.few;

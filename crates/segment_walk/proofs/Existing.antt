@@ -4,12 +4,12 @@ use Rattle.std.proofs.Common.{false, Option, None, Some, Result, Ok, Err, MatchO
 use Rattle.std.specs.List.{range_with_len}
 use Rattle.std.proofs.lemmas.Bool.{false≢true}
 use Rattle.std.proofs.lemmas.Slice.Eq.{bytes_eq-Decides}
-use Rattle.base_122.specs.declared.book.Book.{Book}
+use Rattle.segment_defs.specs.TextWish.{TextWish, text_read}
 use Rattle.segment_defs.specs.declared.head.SegmentHead.{SegmentHead}
 use Rattle.segment_defs.specs.declared.fault.HeadFault.{HeadFault}
 use Rattle.segment_defs.specs.Head.{head_length}
 use Rattle.segment_defs.specs.Reading.{head_read}
-use Rattle.segment_defs.specs.TextOutcome.{Answer, text_outcome}
+use Rattle.segment_defs.specs.TextOutcome.{Answer}
 use Rattle.packet_defs.specs.Reading.{flags_in, text_in}
 use Rattle.stream_defs.specs.Fates.{closes, kept_in}
 use Rattle.stream_defs.specs.Received.{number_of_part, packets_at, IsComplete, text_of_parts, IsReceived, ReceivedIn}
@@ -51,41 +51,41 @@ decide_complete (x ∷ xs) = by (bytes_eq (map number_of_part (x ∷ xs)) (range
 
 -- ---- whether a segment is received
 
-abbrev Decided : (book : Book) (packets : List (List ℕ)) (index : ℕ) → Type 0
-Decided book packets index = ((w : List (List ℤ)) × IsReceived (holds_after book) packets index w)
-    ⊎ ((w : List (List ℤ)) → IsReceived (holds_after book) packets index w → ⊥)
+abbrev Decided : (texts : TextWish) (packets : List (List ℕ)) (index : ℕ) → Type 0
+Decided texts packets index = ((w : List (List ℤ)) × IsReceived (holds_after texts) packets index w)
+    ⊎ ((w : List (List ℤ)) → IsReceived (holds_after texts) packets index w → ⊥)
 
-decide_received : (book : Book) (packets : List (List ℕ)) (index : ℕ) → Decided book packets index
-decide_received book packets index = elim (decide_complete (packets_at index packets)) [
+decide_received : (texts : TextWish) (packets : List (List ℕ)) (index : ℕ) → Decided texts packets index
+decide_received texts packets index = elim (decide_complete (packets_at index packets)) [
   | inr never ↦ inr (λ w x. never x.whole)
   | inl whole ↦ by_head whole (head_read (text_in (slice_index_or (packets_at index packets) 0 []))) refl
 ]
   where
     by_head : IsComplete (packets_at index packets) → (r : Result SegmentHead HeadFault) →
-        head_read (text_in (slice_index_or (packets_at index packets) 0 [])) ≡ r → Decided book packets index
+        head_read (text_in (slice_index_or (packets_at index packets) 0 [])) ≡ r → Decided texts packets index
     by_head whole (Err fault) e = inr (λ w x. absurd (let both = sym e ∙ x.head_is in cc))
-    by_head whole (Ok head) e = by_text (text_outcome book head (drop (head_length head) (text_of_parts (packets_at index packets)))) refl
+    by_head whole (Ok head) e = by_text (text_read texts head (drop (head_length head) (text_of_parts (packets_at index packets)))) refl
       where
-        by_text : (o : Answer) → text_outcome book head (drop (head_length head) (text_of_parts (packets_at index packets))) ≡ o → Decided book packets index
+        by_text : (o : Answer) → text_read texts head (drop (head_length head) (text_of_parts (packets_at index packets))) ≡ o → Decided texts packets index
         by_text (Ok w) held = inl (w, record { whole = whole; head = head; head_is = e; accepted = held })
         by_text (Err name) refused = inr (λ w x.
-            let there = subst (λ h. holds_after book h (text_of_parts (packets_at index packets)) w) (one_value _ x.head head x.head_is e) x.accepted in
+            let there = subst (λ h. holds_after texts h (text_of_parts (packets_at index packets)) w) (one_value _ x.head head x.head_is e) x.accepted in
             no_value _ w (ap is_err refused) there)
 
-number_of : (book : Book) (packets : List (List ℕ)) (index : ℕ) → Decided book packets index → Option (List (List ℤ))
-number_of book packets index (inl held) = Some held.0
-number_of book packets index (inr never) = None
+number_of : (texts : TextWish) (packets : List (List ℕ)) (index : ℕ) → Decided texts packets index → Option (List (List ℤ))
+number_of texts packets index (inl held) = Some held.0
+number_of texts packets index (inr never) = None
 
-number_known : (book : Book) (packets : List (List ℕ)) (index : ℕ) (d : Decided book packets index) →
-    MatchOption (number_of book packets index d) ((w : List (List ℤ)) → IsReceived (holds_after book) packets index w → ⊥)
-    (IsReceived (holds_after book) packets index)
+number_known : (texts : TextWish) (packets : List (List ℕ)) (index : ℕ) (d : Decided texts packets index) →
+    MatchOption (number_of texts packets index d) ((w : List (List ℤ)) → IsReceived (holds_after texts) packets index w → ⊥)
+    (IsReceived (holds_after texts) packets index)
 unfolding number_of
-number_known book packets index (inl held) = held.1
-number_known book packets index (inr never) = never
+number_known texts packets index (inl held) = held.1
+number_known texts packets index (inr never) = never
 
-pub some_received : (book : Book) (apid : ℕ) (taken : List ℕ) → (received : Numbers) × ReceivedIn (holds_after book) apid taken received
-some_received book apid taken =
+pub some_received : (texts : TextWish) (apid : ℕ) (taken : List ℕ) → (received : Numbers) × ReceivedIn (holds_after texts) apid taken received
+some_received texts apid taken =
     let packets = kept_in apid taken in (
-      (λ index. number_of book packets index (decide_received book packets index)),
-      record { at = λ index. number_known book packets index (decide_received book packets index) },
+      (λ index. number_of texts packets index (decide_received texts packets index)),
+      record { at = λ index. number_known texts packets index (decide_received texts packets index) },
     )

@@ -21,3 +21,4 @@ pub mod SpelledImages
 pub mod CodedImages
 pub mod SublistSegments
 pub mod WholeImages
+mod Alike

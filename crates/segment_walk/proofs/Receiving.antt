@@ -5,10 +5,9 @@ use Rattle.std.proofs.lemmas.Bool.{cases_lt, false≢true}
 use Rattle.std.proofs.lemmas.List.{drop-append-le}
 use Rattle.std.proofs.lemmas.Bool.Decides.{nat_tests}
 use Rattle.bit_pipe.specs.Sources.{Plainly, InPieces, Tail}
-use Rattle.base_122.specs.declared.book.Book.{Book}
+use Rattle.segment_defs.specs.TextWish.{TextWish, text_read}
 use Rattle.segment_defs.specs.Head.{head_length}
 use Rattle.segment_defs.specs.Reading.{head_read}
-use Rattle.segment_defs.specs.TextOutcome.{text_outcome}
 use Rattle.packet_defs.specs.Reading.{text_in}
 use Rattle.stream_defs.specs.declared.fate.FateState.{FateState}
 use Rattle.stream_defs.specs.Fates.{fresh, after, after_all, kept, part_in}
@@ -38,17 +37,17 @@ pub no_value : {T E : Type 0} (r : Result T E) (x : T) → IsErr r → r ≡ Ok 
 no_value r x err e = false≢true (sym (ap is_err e) ∙ err)
 
 -- a segment is received with one list of numbers
-pub one_received : (book : Book) (packets : List (List ℕ)) (index : ℕ) (v w : List (List ℤ)) → IsReceived (holds_after book) packets index v →
-    IsReceived (holds_after book) packets index w → v ≡ w
-one_received book packets index v w x y =
+pub one_received : (texts : TextWish) (packets : List (List ℕ)) (index : ℕ) (v w : List (List ℤ)) → IsReceived (holds_after texts) packets index v →
+    IsReceived (holds_after texts) packets index w → v ≡ w
+one_received texts packets index v w x y =
     let same : x.head ≡ y.head = one_value _ x.head y.head x.head_is y.head_is in
-    let there = subst (λ head. holds_after book head (text_of_parts (packets_at index packets)) w) (sym same) y.accepted in
+    let there = subst (λ head. holds_after texts head (text_of_parts (packets_at index packets)) w) (sym same) y.accepted in
     one_value _ v w x.accepted there
 
 -- none of its packets is kept
-pub none_received : (book : Book) (packets : List (List ℕ)) (index : ℕ) (w : List (List ℤ)) → packets_at index packets ≡ [] →
-    IsReceived (holds_after book) packets index w → ⊥
-none_received book packets index w none x = grind (arith, nat_tests, length-append)
+pub none_received : (texts : TextWish) (packets : List (List ℕ)) (index : ℕ) (w : List (List ℤ)) → packets_at index packets ≡ [] →
+    IsReceived (holds_after texts) packets index w → ⊥
+none_received texts packets index w none x = grind (arith, nat_tests, length-append)
 
 -- ---- a segment that is begun
 
@@ -79,10 +78,10 @@ between_none apid passed text start bound index next b low high =
     ∙ shut index apid (after apid s b.packet) next record { last = part_in b.packet; last_is = first.last; past = inl (omega (arith, here, high)) }
 
 -- so all segments before this one are known
-pub knows_to : (book : Book) (apid : ℕ) (passed later : List (List ℕ)) (text : List ℕ) (start : SegmentStart) (bound : ℕ) (sofar : Numbers) →
+pub knows_to : (texts : TextWish) (apid : ℕ) (passed later : List (List ℕ)) (text : List ℕ) (start : SegmentStart) (bound : ℕ) (sofar : Numbers) →
     IsBegun apid passed text start bound → ((index : ℕ) → bound ≤ index → sofar index ≡ None) →
-    Knows book apid passed later bound sofar → Knows book apid passed later start.ancillary.index sofar
-knows_to book apid passed later text start bound sofar b above knows = record {
+    Knows texts apid passed later bound sofar → Knows texts apid passed later start.ancillary.index sofar
+knows_to texts apid passed later text start bound sofar b above knows = record {
   at = λ next more are index lt. elim (cases_lt index bound) [
     | inl low ↦ knows.at next more are index low
     | inr high ↦ none_at next index (above index high) (between_none apid passed text start bound index next b high lt)
@@ -90,13 +89,13 @@ knows_to book apid passed later text start bound sofar b above knows = record {
 }
   where
     none_at : (next : List (List ℕ)) (index : ℕ) → sofar index ≡ None → packets_at index (kept apid fresh (passed ++ next)) ≡ [] → MatchOption (sofar index)
-        ((numbers : List (List ℤ)) → IsReceived (holds_after book) (kept apid fresh (passed ++ next)) index numbers → ⊥)
-        (IsReceived (holds_after book) (kept apid fresh (passed ++ next)) index)
-    none_at next index none empty = rw none (λ w x. none_received book (kept apid fresh (passed ++ next)) index w empty x)
+        ((numbers : List (List ℤ)) → IsReceived (holds_after texts) (kept apid fresh (passed ++ next)) index numbers → ⊥)
+        (IsReceived (holds_after texts) (kept apid fresh (passed ++ next)) index)
+    none_at next index none empty = rw none (λ w x. none_received texts (kept apid fresh (passed ++ next)) index w empty x)
 
 -- ---- a segment that was gone through
 
-module _ (book : Book) (apid : ℕ) (passed : List (List ℕ)) (a : Assembling) (start : SegmentStart) (bound : ℕ) (b : IsBegun apid passed a.text start bound)
+module _ (texts : TextWish) (apid : ℕ) (passed : List (List ℕ)) (a : Assembling) (start : SegmentStart) (bound : ℕ) (b : IsBegun apid passed a.text start bound)
     (apid_is : a.apid ≡ apid) (state : a.state ≡ after_all apid fresh passed) (unheld : a.held ≡ None) where
   abbrev index : ℕ
   index = start.ancillary.index
@@ -148,7 +147,7 @@ module _ (book : Book) (apid : ℕ) (passed : List (List ℕ)) (a : Assembling) 
   -- it was accepted, and the packets that were passed have closed it: so it is received, whatever follows
   pub is_received : (rest : List ℕ) (went next : List (List ℕ)) (later : List (List ℕ)) (w : List (List ℤ)) → future a rest ≡ went ++ later →
       last_index (after_all apid there went).last ≡ Some index → is_closed (after_all apid there went).last ≡ true →
-      text_outcome book start.head (text_tail a rest).octets ≡ Ok w → IsReceived (holds_after book) (kept apid fresh (passed ++ (went ++ next))) index w
+      text_read texts start.head (text_tail a rest).octets ≡ Ok w → IsReceived (holds_after texts) (kept apid fresh (passed ++ (went ++ next))) index w
   is_received rest went next later w are last closed holds =
       let plain = from_closed apid index there went (part_in b.packet) last_is index_is last closed in
       let on : tail_past apid b.before b.packet (went ++ next) InPieces ≡ tail_past apid b.before b.packet went InPieces =
@@ -160,23 +159,23 @@ module _ (book : Book) (apid : ℕ) (passed : List (List ℕ)) (a : Assembling) 
         whole = (reports (went ++ next)).complete (ap (λ (t : Tail). t.ends) on ∙ plain);
         head = start.head;
         head_is = head_there (went ++ next);
-        accepted = ap (text_outcome book start.head) octets ∙ holds;
+        accepted = ap (text_read texts start.head) octets ∙ holds;
       }
 
   -- it was refused, or it breaks off: so it isn't received, however many of the next packets follow
   pub not_received : (rest : List ℕ) (next more : List (List ℕ)) (w : List (List ℤ)) → future a rest ≡ next ++ more →
-      ((text_tail a rest).ends ≡ Plainly → IsErr (text_outcome book start.head (text_tail a rest).octets)) →
-      IsReceived (holds_after book) (kept apid fresh (passed ++ next)) index w → ⊥
+      ((text_tail a rest).ends ≡ Plainly → IsErr (text_read texts start.head (text_tail a rest).octets)) →
+      IsReceived (holds_after texts) (kept apid fresh (passed ++ next)) index w → ⊥
   not_received rest next more w are refused x =
       let plain = (reports next).plain x.whole in
       let all = all_there rest next more are plain in
       let same : x.head ≡ start.head = one_value _ x.head start.head x.head_is (head_there next) in
       let octets : drop (head_length start.head) (text_of_parts (packets_at index (kept apid fresh (passed ++ next)))) ≡ (text_tail a rest).octets =
       grind (arith, nat_tests, octets_after) in
-      let holds = subst (λ head. holds_after book head (text_of_parts (packets_at index (kept apid fresh (passed ++ next)))) w) same x.accepted in
-      no_value _ w (refused (ap (λ (t : Tail). t.ends) all ∙ plain)) (ap (text_outcome book start.head) (sym octets) ∙ holds)
+      let holds = subst (λ head. holds_after texts head (text_of_parts (packets_at index (kept apid fresh (passed ++ next)))) w) same x.accepted in
+      no_value _ w (refused (ap (λ (t : Tail). t.ends) all ∙ plain)) (ap (text_read texts start.head) (sym octets) ∙ holds)
 
   -- while its text is open it isn't received
   pub open_received : (next : List (List ℕ)) (w : List (List ℤ)) → last_index (after_all apid there next).last ≡ Some index →
-      is_closed (after_all apid there next).last ≡ false → IsReceived (holds_after book) (kept apid fresh (passed ++ next)) index w → ⊥
+      is_closed (after_all apid there next).last ≡ false → IsReceived (holds_after texts) (kept apid fresh (passed ++ next)) index w → ⊥
   open_received next w last going x = grind (arith, nat_tests, reports, from_closes, last_is, index_is)

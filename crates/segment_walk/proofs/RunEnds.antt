@@ -164,15 +164,15 @@ open_damage k p image sofar gave n current goes_by follows le few =
 -- if no packet is left, the segments that are received are those that are known
 pub all_received : (w : Run) (now : Outside) (a : Assembling) (index : ℕ) (took : List ℕ) → (known : HasKnown w now a (index + 1) took) →
     last_index a.state.last ≡ Some index → (rest : List ℕ) → now.rest ≡ Some rest → whole_packets took ≡ known.passed →
-    ReceivedIn (holds_after w.book) w.apid took known.sofar
+    ReceivedIn (holds_after w.texts) w.apid took known.sofar
 all_received w now a index took known last rest if_known whole = record {
   at = λ i. elim (cases_lt i (index + 1)) [
     | inl low ↦
         let here = (known.knows rest if_known).at [] (future a rest) refl i low in
-        subst (λ xs. MatchOption (known.sofar i) ((v : List (List ℤ)) → IsReceived (holds_after w.book) (kept w.apid fresh xs) i v → ⊥)
-        (IsReceived (holds_after w.book) (kept w.apid fresh xs) i)) (append-nil known.passed ∙ sym whole) here
+        subst (λ xs. MatchOption (known.sofar i) ((v : List (List ℤ)) → IsReceived (holds_after w.texts) (kept w.apid fresh xs) i v → ⊥)
+        (IsReceived (holds_after w.texts) (kept w.apid fresh xs) i)) (append-nil known.passed ∙ sym whole) here
     | inr high ↦
-        rw (known.above i high) (λ v x. none_received w.book (kept w.apid fresh (whole_packets took)) i v (none_at i high) x)
+        rw (known.above i high) (λ v x. none_received w.texts (kept w.apid fresh (whole_packets took)) i v (none_at i high) x)
   ];
 }
   where

@@ -46,8 +46,8 @@ known_on w now new a b bound took went known q = record {
   sofar = known.sofar;
   read = read_on w.apid w.cap known.read q;
   knows = λ rest if_known.
-      knows_on w.book w.apid known.passed went (future b rest) bound known.sofar
-      (subst (λ xs. Knows w.book w.apid known.passed xs bound known.sofar) (future_past q rest if_known)
+      knows_on w.texts w.apid known.passed went (future b rest) bound known.sofar
+      (subst (λ xs. Knows w.texts w.apid known.passed xs bound known.sofar) (future_past q rest if_known)
       (known.knows (q.took ++ rest) (before_loses now.rest new.rest q.took rest q.since.rest if_known)));
   above = known.above;
   at_end = end_on q known.at_end;
@@ -81,7 +81,7 @@ pub right_at : {S : Type 0} {P : FateState → Type 0} (k : SinkOf S) (w : Run) 
     (octets more : List ℕ) → q.took ≡ octets ++ more → last_index (state_with a octets).last ≡ Some index →
     blocks_through p.geometry arrived.known.sofar index ≤ passed_in p →
     ((i : ℕ) (v : List (List ℤ)) → bound ≤ i → i ≤ index →
-    IsReceived (holds_after w.book) (kept w.apid fresh (arrived.known.passed ++ whole_packets (a.intake.pending ++ octets))) i v → ⊥) →
+    IsReceived (holds_after w.texts) (kept w.apid fresh (arrived.known.passed ++ whole_packets (a.intake.pending ++ octets))) i v → ⊥) →
     IsRight k w (arrived.took ++ octets) arrived.gave
 right_at k w now new a b p bound index went arrived q current image geometry goes_by small here octets more parts last reached open_ones =
     let known = arrived.known in
@@ -104,7 +104,7 @@ right_at k w now new a b p bound index went arrived q current image geometry goe
           (future a first.rest) part.0
           later (known.knows first.rest first.if_known) image stays goes_by arrived.shows known.above
           (λ i v le x. elim (cases_lt index i) [
-            | inl past ↦ none_received w.book (kept w.apid fresh (known.passed ++ next)) i v
+            | inl past ↦ none_received w.texts (kept w.apid fresh (known.passed ++ next)) i v
                 (before_none i w.apid fresh (known.passed ++ next) (λ k is. let e =
                 last_of (state_with a octets).last index k last (sym (ap (λ (s : FateState). s.last) state) ∙ is) in omega (arith, e, past))) x
             | inr near ↦ open_ones i v le near x
@@ -134,7 +134,7 @@ to_segment k w now a p start index current arrived after reached found =
             passed = known.passed;
             sofar = known.sofar;
             read = known.read;
-            knows = λ rest if_known. knows_to w.book w.apid known.passed (future a rest) a.text start (index + 1) known.sofar begun known.above
+            knows = λ rest if_known. knows_to w.texts w.apid known.passed (future a rest) a.text start (index + 1) known.sofar begun known.above
                 (known.knows rest if_known);
             above = λ i le. known.above i (omega (arith, le, begun.later));
             at_end = known.at_end;

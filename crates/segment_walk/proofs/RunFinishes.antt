@@ -194,7 +194,7 @@ module _ {S : Type 0} (k : SinkOf S) (w : Run) (now new : Outside) (a : Assembli
   small_took : HasFewPixels w.pixels w.apid end.arrived.took
   small_took = subst (HasFew w.pixels w.apid) (sym whole) end.small
 
-  known_in : (every : List ℕ) → w.start.rest ≡ Some every → ReceivedIn (holds_after w.book) w.apid end.arrived.took known
+  known_in : (every : List ℕ) → w.start.rest ≡ Some every → ReceivedIn (holds_after w.texts) w.apid end.arrived.took known
   known_in every if_known =
       let rest = left_after w.start.rest now.rest end.arrived.took every end.arrived.since.rest if_known in
       all_received w now a end.index end.arrived.took end.arrived.known end.last rest.rest rest.if_known whole
@@ -244,7 +244,7 @@ module _ {S : Type 0} (k : SinkOf S) (w : Run) (now new : Outside) (a : Assembli
         none = λ none. absurd (let both : None ≡ Some image = sym none ∙ geometry_reported in cc);
         some = λ g received there are.
             let same : image ≡ g = (let both : Some image ≡ Some g = sym geometry_reported ∙ there in cc) in
-            let each : (index : ℕ) → received index ≡ known index = λ index. both_report w.book (kept_in w.apid end.arrived.took) index (received index)
+            let each : (index : ℕ) → received index ≡ known index = λ index. both_report w.texts (kept_in w.apid end.arrived.took) index (received index)
             (known index) (are.at index) ((known_in every if_known).at index) in
             let blocks = blocks_with p.geometry received in
             let of : (block : ℕ) → blocks block ≡ blocks_with p.geometry known block =

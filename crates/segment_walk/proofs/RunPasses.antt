@@ -56,7 +56,7 @@ module _ {S : Type 0} (k : SinkOf S) (w : Run) (now : Outside) (a : Assembling) 
         let known = arrived.known in
         let left = left_after w.start.rest now.rest arrived.took all arrived.since.rest if_known in
         let hand = at_hand a left.rest in
-        subst (λ zs. PartBy k w.book w.apid zs arrived.gave) (append-nil arrived.took)
+        subst (λ zs. PartBy k w.texts w.apid zs arrived.gave) (append-nil arrived.took)
         (is_part k w a p arrived.took arrived.gave [] known.passed bound known.sofar known.read current arrived.few arrived.begun (future a left.rest)
         hand.0 hand.1
         (known.knows left.rest left.if_known)
@@ -104,7 +104,7 @@ module _ {S : Type 0} (k : SinkOf S) (w : Run) (now : Outside) (a : Assembling) 
             let knows = known.knows left.rest left.if_known in
             let stays = stays_with w a arrived.took [] known.passed known.read p.geometry (passed_in p + n)
             (stays_here a.state p.geometry image (passed_in p + n) index geometry range (sym goes_by) last here) in
-            subst (λ zs. PartBy k w.book w.apid zs (arrived.gave ++ broken.gave)) (append-nil arrived.took)
+            subst (λ zs. PartBy k w.texts w.apid zs (arrived.gave ++ broken.gave)) (append-nil arrived.took)
             (part_at k w a p arrived.took arrived.gave [] known.passed bound known.sofar known.read current arrived.few arrived.begun (future a left.rest)
             hand.0
             hand.1 knows (arrived.gave ++ broken.gave) (passed_in p + n) stays most (λ none. reach)
@@ -361,7 +361,7 @@ failed fault = Err fault
 module _ {S : Type 0} (k : SinkOf S) (w : Run) (w1 w2 : Outside) (a b : Assembling) (p : Walking S) (start : SegmentStart) (to : WalksIn k w w1 a p start)
     (at : IsAt a p start) (current : IsCurrent k p) (there : passed_in p ≡ start.ancillary.first) where
   module _ (q : Walking S) (followed : HasFollowed k w.pixels b p q start) (accepted : Bool) (cells : List ℤ) (long : 64 * start.head.blocks ≤ length cells)
-      (reads : ReadsText w.book w1 w2 a b start.head cells (Ok accepted)) where
+      (reads : ReadsText w.texts w1 w2 a b start.head cells (Ok accepted)) where
     after_q : AfterText k w w2 b q start.ancillary.index (value_of accepted start.head cells) (start.ancillary.first + start.head.blocks)
     after_q = after_followed k w w2 b p q start start.ancillary.index (value_of accepted start.head cells) (start.ancillary.first + start.head.blocks)
         followed (text_known k w w1 w2 a b p start to current at there accepted cells reads)
@@ -393,17 +393,17 @@ module _ {S : Type 0} (k : SinkOf S) (w : Run) (w1 w2 : Outside) (a b : Assembli
   text_broken failed =
       arrived_broken k w w2 b p start.ancillary.index (went_arrived k w w1 w2 a b p start to current at there failed.goes) current (stays_past failed.goes)
 
-  pub text_breaks : (fault : DecodeFault) (cells : List ℤ) → ReadsText w.book w1 w2 a b start.head cells (Err fault) → BreaksRun k w w2 fault
+  pub text_breaks : (fault : DecodeFault) (cells : List ℤ) → ReadsText w.texts w1 w2 a b start.head cells (Err fault) → BreaksRun k w w2 fault
   text_breaks ReadFault cells failed = text_broken failed
   text_breaks other cells failed = absurd failed
 
   -- the head of the next segment reports too many pixels
-  pub held_breaks : (q : Walking S) (accepted : Bool) (cells : List ℤ) → (reads : ReadsText w.book w1 w2 a b start.head cells (Ok accepted)) →
+  pub held_breaks : (q : Walking S) (accepted : Bool) (cells : List ℤ) → (reads : ReadsText w.texts w1 w2 a b start.head cells (Ok accepted)) →
       (fault : DecodeFault) → FollowsHeld k w.pixels b p q (Err fault) → BreaksRun k w w2 fault
   held_breaks q accepted cells reads fault follows = by b.held refl follows
     where
       goes : Continues w1 w2 a b
-      goes = text_goes w.book w1 w2 a b start.head cells accepted reads
+      goes = text_goes w.texts w1 w2 a b start.head cells accepted reads
 
       after : AfterText k w w2 b p start.ancillary.index (value_of accepted start.head cells) (start.ancillary.first + start.head.blocks)
       after = text_known k w w1 w2 a b p start to current at there accepted cells reads

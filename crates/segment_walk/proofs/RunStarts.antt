@@ -5,7 +5,6 @@ use Rattle.std.proofs.lemmas.Bool.Decides.{nat_tests}
 use Rattle.port_122.specs.Outside.{Outside, Exchange}
 use Rattle.port_122.proofs.Stretches.{since_start, since_weaker}
 use Rattle.base_122.specs.Ranges.{IsGeometryInRange, IsWithin, rows_range}
-use Rattle.base_122.specs.declared.book.Book.{Book}
 use Rattle.base_122.specs.declared.geometry.Geometry.{Geometry}
 use Rattle.stream_defs.specs.declared.fate.FateState.{FateState}
 use Rattle.stream_defs.specs.Fates.{fresh, after, after_all, kept, geometry_in, part_in}
@@ -18,6 +17,7 @@ use Rattle.packet_assembly.specs.Segments.{WasFound, FindsSegment}
 use Rattle.packet_assembly.specs.Readings.{HasRead, SawEnd, AsksReadable}
 use Rattle.packet_assembly.proofs.Images.{index_none}
 use Rattle.packet_assembly.proofs.Readings.{none_read, read_on, readable_more, end_on}
+use Rattle.segment_defs.specs.TextWish.{TextWish}
 use Rattle.segment_walk.specs.Sinks.{SinkOf, blocks_with}
 use Rattle.segment_walk.specs.Steps.{Walking, IsCurrent, IsFresh, passed_in}
 use Rattle.segment_walk.specs.Segments.{pixels_reached}
@@ -72,8 +72,8 @@ first_asks k w new a b went unread q =
     ))
 
 -- no octets are a part of what is given
-pub first_part : {S : Type 0} (k : SinkOf S) (book : Book) (apid : ℕ) (took : List ℕ) → PartBy k book apid took []
-first_part k book apid took = record { none = λ e. refl; some = λ g received there are. (0, omega arith, k.part_none (placed g) (blocks_with g received)) }
+pub first_part : {S : Type 0} (k : SinkOf S) (texts : TextWish) (apid : ℕ) (took : List ℕ) → PartBy k texts apid took []
+first_part k texts apid took = record { none = λ e. refl; some = λ g received there are. (0, omega arith, k.part_none (placed g) (blocks_with g received)) }
 
 -- if the end was reached, nothing is left
 pub first_end : {P : FateState → Type 0} (w : Run) (new : Outside) (a b : Assembling) (went : List (List ℕ)) → a ≡ unread_assembly w.apid w.cap →
@@ -142,7 +142,7 @@ first_arrives k w new b p start g image found fresh_walk geometry small =
             sofar = λ index. None;
             read = found.read;
             knows = λ rest if_known. record {
-              at = λ next more are index lt v x. none_received w.book (kept w.apid fresh (found.went ++ next)) index v
+              at = λ next more are index lt v x. none_received w.texts (kept w.apid fresh (found.went ++ next)) index v
                   (between_none w.apid found.went b.text start 0 index next found.begun (omega arith) lt) x;
             };
             above = λ index le. refl;

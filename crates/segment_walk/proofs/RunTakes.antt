@@ -6,8 +6,8 @@ use Rattle.std.proofs.lemmas.Bool.Decides.{nat_tests}
 use Rattle.std.proofs.lemmas.Nat.{div_below}
 use Rattle.port_122.specs.Outside.{Outside}
 use Rattle.wave_defs.specs.Held.{blocks_in}
+use Rattle.segment_defs.specs.TextWish.{text_read}
 use Rattle.segment_defs.specs.declared.head.SegmentHead.{SegmentHead}
-use Rattle.segment_defs.specs.TextOutcome.{text_outcome}
 use Rattle.packet_defs.specs.Streams.{whole_packets}
 use Rattle.stream_defs.specs.declared.fate.FateState.{FateState}
 use Rattle.stream_defs.specs.Fates.{fresh, after_all, kept}
@@ -72,12 +72,12 @@ module _ {S : Type 0} (k : SinkOf S) (w : Run) (now new : Outside) (a b : Assemb
   passed = arrived.known.passed
 
   abbrev before : FateState
-  before = there w.book w.apid passed a start index begun arrived.known.read.apid arrived.known.read.state unheld
+  before = there w.texts w.apid passed a start index begun arrived.known.read.apid arrived.known.read.state unheld
 
   -- the state after some packets of the text
   state_there : (packets : List (List ℕ)) → after_all w.apid before packets ≡ after_all a.apid a.state packets
   state_there packets =
-      let there_now = there_is w.book w.apid passed a start index begun arrived.known.read.apid arrived.known.read.state unheld in
+      let there_now = there_is w.texts w.apid passed a start index begun arrived.known.read.apid arrived.known.read.state unheld in
       ap (λ s. after_all w.apid s packets) (sym there_now) ∙ ap (λ n. after_all n a.state packets) (sym arrived.known.read.apid)
 
   -- at each read call the segment is open, so it isn't received
@@ -90,10 +90,10 @@ module _ {S : Type 0} (k : SinkOf S) (w : Run) (now new : Outside) (a b : Assemb
       (λ i v le near x.
       let same : i ≡ index = omega (arith, le, near) in
       let state = state_there (whole_packets (a.intake.pending ++ octets)) in
-      open_received w.book w.apid passed a start index begun arrived.known.read.apid arrived.known.read.state unheld
+      open_received w.texts w.apid passed a start index begun arrived.known.read.apid arrived.known.read.state unheld
       (whole_packets (a.intake.pending ++ octets)) v
       (ap (λ (s : FateState). last_index s.last) state ∙ stays.same ∙ last) (ap (λ (s : FateState). is_closed s.last) state ∙ stays.unclosed)
-      (subst (λ i. IsReceived (holds_after w.book) (kept w.apid fresh (passed ++ whole_packets (a.intake.pending ++ octets))) i v) same x))
+      (subst (λ i. IsReceived (holds_after w.texts) (kept w.apid fresh (passed ++ whole_packets (a.intake.pending ++ octets))) i v) same x))
 
   unfoldable pub went_arrived : HasWalkedTo k w new b p index
   went_arrived = read_arrived k w now new a b p index goes.passed arrived goes.passes right
@@ -101,8 +101,8 @@ module _ {S : Type 0} (k : SinkOf S) (w : Run) (now new : Outside) (a b : Assemb
   -- it is decided whether the segment is received, with these numbers or none
   abbrev Decides : Option (List (List ℤ)) → Type 0
   Decides value = (rest : List ℕ) → new.rest ≡ Some rest → (next more : List (List ℕ)) → future b rest ≡ next ++ more → MatchOption value
-      ((v : List (List ℤ)) → IsReceived (holds_after w.book) (kept w.apid fresh ((passed ++ goes.passed) ++ next)) index v → ⊥)
-      (IsReceived (holds_after w.book) (kept w.apid fresh ((passed ++ goes.passed) ++ next)) index)
+      ((v : List (List ℤ)) → IsReceived (holds_after w.texts) (kept w.apid fresh ((passed ++ goes.passed) ++ next)) index v → ⊥)
+      (IsReceived (holds_after w.texts) (kept w.apid fresh ((passed ++ goes.passed) ++ next)) index)
 
   abbrev before_rest : List ℕ → List ℕ
   before_rest rest = goes.passes.took ++ rest
@@ -112,26 +112,26 @@ module _ {S : Type 0} (k : SinkOf S) (w : Run) (now new : Outside) (a b : Assemb
 
   -- it is received
   decides_some : (v : List (List ℤ)) → b.held ≡ None → is_closed b.state.last ≡ true →
-      ((rest : List ℕ) → now.rest ≡ Some rest → text_outcome w.book start.head (text_tail a rest).octets ≡ Ok v) → Decides (Some v)
+      ((rest : List ℕ) → now.rest ≡ Some rest → text_read w.texts start.head (text_tail a rest).octets ≡ Ok v) → Decides (Some v)
   decides_some v open_now closed holds rest if_known next more are =
       let state : after_all w.apid before goes.passed ≡ b.state = state_there goes.passed ∙ sym goes.passes.state in
       let stays = (goes.still open_now).1 ∙ last in
-      subst (λ xs. IsReceived (holds_after w.book) (kept w.apid fresh xs) index v) (sym (append_assoc passed goes.passed next))
-      (is_received w.book w.apid passed a start index begun arrived.known.read.apid arrived.known.read.state unheld (before_rest rest) goes.passed next
+      subst (λ xs. IsReceived (holds_after w.texts) (kept w.apid fresh xs) index v) (sym (append_assoc passed goes.passed next))
+      (is_received w.texts w.apid passed a start index begun arrived.known.read.apid arrived.known.read.state unheld (before_rest rest) goes.passed next
       (future b rest) v (future_past goes.passes rest if_known)
       (ap (λ (s : FateState). last_index s.last) state ∙ stays) (ap (λ (s : FateState). is_closed s.last) state ∙ closed)
       (holds (before_rest rest) (known_before rest if_known)))
 
   -- it isn't
   decides_none : ((rest : List ℕ) → now.rest ≡ Some rest → (text_tail a rest).ends ≡ Plainly →
-      IsErr (text_outcome w.book start.head (text_tail a rest).octets)) → Decides None
+      IsErr (text_read w.texts start.head (text_tail a rest).octets)) → Decides None
   decides_none refused rest if_known next more are v x =
       let all : future a (before_rest rest) ≡ (goes.passed ++ next) ++ more = future_past goes.passes rest if_known ∙ ap (λ xs. goes.passed ++ xs) are
       ∙ sym (append_assoc goes.passed next more) in
-      not_received w.book w.apid passed a start index begun arrived.known.read.apid arrived.known.read.state unheld (before_rest rest) (goes.passed ++ next)
+      not_received w.texts w.apid passed a start index begun arrived.known.read.apid arrived.known.read.state unheld (before_rest rest) (goes.passed ++ next)
       more
       v all (refused (before_rest rest) (known_before rest if_known))
-      (subst (λ xs. IsReceived (holds_after w.book) (kept w.apid fresh xs) index v) (append_assoc passed goes.passed next) x)
+      (subst (λ xs. IsReceived (holds_after w.texts) (kept w.apid fresh xs) index v) (append_assoc passed goes.passed next) x)
 
   segment_there : (value : Option (List (List ℤ))) → with_segment index value arrived.known.sofar index ≡ value
   segment_there value = let e : (index == index) ≡ true = grind (arith, nat_tests) in rw e refl
@@ -156,10 +156,10 @@ module _ {S : Type 0} (k : SinkOf S) (w : Run) (now new : Outside) (a b : Assemb
           | inr high ↦
               let same : index ≡ i = omega (arith, lt, high) in
               subst (λ i. MatchOption (with_segment index value arrived.known.sofar i) ((v : List (List ℤ)) →
-              IsReceived (holds_after w.book) (kept w.apid fresh ((passed ++ goes.passed) ++ next)) i v → ⊥)
-              (IsReceived (holds_after w.book) (kept w.apid fresh ((passed ++ goes.passed) ++ next)) i)) same
-              (subst (λ o. MatchOption o ((v : List (List ℤ)) → IsReceived (holds_after w.book) (kept w.apid fresh ((passed ++ goes.passed) ++ next)) index
-              v → ⊥) (IsReceived (holds_after w.book) (kept w.apid fresh ((passed ++ goes.passed) ++ next)) index))
+              IsReceived (holds_after w.texts) (kept w.apid fresh ((passed ++ goes.passed) ++ next)) i v → ⊥)
+              (IsReceived (holds_after w.texts) (kept w.apid fresh ((passed ++ goes.passed) ++ next)) i)) same
+              (subst (λ o. MatchOption o ((v : List (List ℤ)) → IsReceived (holds_after w.texts) (kept w.apid fresh ((passed ++ goes.passed) ++ next)) index
+              v → ⊥) (IsReceived (holds_after w.texts) (kept w.apid fresh ((passed ++ goes.passed) ++ next)) index))
               (sym (segment_there value)) (decides rest if_known next more are))
         ];
       };
@@ -224,7 +224,7 @@ reached_text k w now new a b p start to value after =
 -- its text was read
 pub text_known : {S : Type 0} (k : SinkOf S) (w : Run) (now new : Outside) (a b : Assembling) (p : Walking S) (start : SegmentStart) →
     WalksIn k w now a p start → IsCurrent k p → IsAt a p start → passed_in p ≡ start.ancillary.first →
-    (accepted : Bool) (cells : List ℤ) → ReadsText w.book now new a b start.head cells (Ok accepted) →
+    (accepted : Bool) (cells : List ℤ) → ReadsText w.texts now new a b start.head cells (Ok accepted) →
     AfterText k w new b p start.ancillary.index (value_of accepted start.head cells) (start.ancillary.first + start.head.blocks)
 text_known k w now new a b p start to current at reached true cells reads =
     let v = blocks_in (cells_of start.head cells) in

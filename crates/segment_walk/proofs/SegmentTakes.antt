@@ -7,18 +7,17 @@ use Rattle.std.proofs.lemmas.Bool.Decides.{nat_tests}
 use Rattle.port_122.specs.Outside.{Outside, NoFewerFaults, Rose}
 use Rattle.port_122.proofs.Stretches.{rose_since}
 use Rattle.base_122.specs.Sizes.{first_block}
-use Rattle.base_122.specs.declared.book.Book.{Book}
 use Rattle.base_122.specs.declared.geometry.Geometry.{Geometry}
 use Rattle.wave_defs.specs.Line.{floor_div}
 use Rattle.wave_defs.specs.Blocks.{place_of, weight_at}
 use Rattle.wave_defs.specs.Held.{block_at, blocks_in}
 use Rattle.plane_defs.specs.Sets.{shift}
+use Rattle.segment_defs.specs.TextWish.{TextWish, text_read}
 use Rattle.segment_defs.specs.declared.head.SegmentHead.{SegmentHead}
 use Rattle.segment_defs.specs.Head.{IsHead}
 use Rattle.plane_defs.specs.Codes.{is_book_sound}
 use Rattle.segment_defs.specs.Parts.{IsWeighted}
-use Rattle.segment_defs.specs.TextLaws.{TextsAreRead}
-use Rattle.segment_defs.specs.TextOutcome.{text_outcome}
+use Rattle.segment_defs.specs.TextWishLaws.{TextsReadAsWished}
 use Rattle.base_122.proofs.ShiftLaws.{shift_low}
 use Rattle.block_families.specs.Places.{AreWeighted}
 use Rattle.packet_assembly.specs.declared.note.SegmentStart.{SegmentStart}
@@ -40,17 +39,18 @@ use Rattle.segment_walk.proofs.Between.{fewer_blocks, fits_ended, image_on, held
 -- ---- the numbers that were read
 
 -- the numbers of a block that a text holds are parts of their weights
-weighted : TextsAreRead → (book : Book) (head : SegmentHead) (octets : List ℕ) (cells : List ℤ) (k : ℕ) → is_book_sound book ≡ true → IsHead head →
-    text_outcome book head octets ≡ Ok (blocks_in (cells_of head cells)) → 64 * head.blocks ≤ length cells → k < head.blocks →
+weighted : TextsReadAsWished → (texts : TextWish) (head : SegmentHead) (octets : List ℕ) (cells : List ℤ) (k : ℕ) →
+    is_book_sound texts.book ≡ true → IsHead head →
+    text_read texts head octets ≡ Ok (blocks_in (cells_of head cells)) → 64 * head.blocks ≤ length cells → k < head.blocks →
     AreWeighted (block_at cells k) head.image.weights.shifts
-weighted read book head octets cells k sound ok holds long lt =
+weighted read texts head octets cells k sound ok holds long lt =
     let weights = head.image.weights.shifts in
     let prefix = cells_of head cells in
     let size : length prefix ≡ 64 * head.blocks = length-take-le (64 * head.blocks) cells long in
     let number = λ (i : ℕ). get_or (block_at cells k) i (pos 0) in
     let part : (i : ℕ) → i < 64 → IsWeighted (shift weights i) (number i) = λ i small.
     subst (IsWeighted (shift weights i)) (ap (λ b. get_or b i (pos 0)) (block_in prefix k (omega (arith, size, lt)) ∙ prefix_block cells head.blocks k lt))
-    (((read book sound head octets ok).numbers (blocks_in prefix) holds).each k i lt small) in
+    (((read texts sound head octets ok).numbers (blocks_in prefix) holds).each k i lt small) in
     let quotient : (i : ℕ) → (small : i < 64) → (part i small).part ≡ floor_div (number i) (2 ^ get_or weights (place_of i).band 0) = λ i small.
     let k = get_or weights (place_of i).band 0 in
     sym (divided (part i small).part k (shift_low weights (place_of i).band ok.image.weights)) ∙ ap (λ z. floor_div z (2 ^ k)) (sym (part i small).is) in
@@ -61,28 +61,28 @@ weighted read book head octets cells k sound ok holds long lt =
     }
 
 -- so they are blocks of the image
-pub accepted_blocks : TextsAreRead → (book : Book) → is_book_sound book ≡ true → (g : Geometry) (start : SegmentStart) (cells : List ℤ) (old new : Outside)
-    (a b : Assembling) (accepted : Bool) → FitsImage g start → 64 * start.head.blocks ≤ length cells →
-    ReadsText book old new a b start.head cells (Ok accepted) → accepted ≡ true → AreBlocks start.head.blocks g cells
-accepted_blocks read book sound g start cells old new a b true fits long reads e = record {
+pub accepted_blocks : TextsReadAsWished → (texts : TextWish) → is_book_sound texts.book ≡ true → (g : Geometry) (start : SegmentStart) (cells : List ℤ)
+    (old new : Outside) (a b : Assembling) (accepted : Bool) → FitsImage g start → 64 * start.head.blocks ≤ length cells →
+    ReadsText texts old new a b start.head cells (Ok accepted) → accepted ≡ true → AreBlocks start.head.blocks g cells
+accepted_blocks read texts sound g start cells old new a b true fits long reads e = record {
   at = λ k lt. (
     block_whole cells k (omega (arith, long, lt)),
     subst (AreWeighted (block_at cells k)) fits.weights
-        (weighted read book start.head reads.some cells k sound fits.head reads.holds long lt),
+        (weighted read texts start.head reads.some cells k sound fits.head reads.holds long lt),
   );
 }
   where
     block_whole : (cells : List ℤ) (k : ℕ) → 64 * k + 64 ≤ length cells → length (block_at cells k) ≡ 64
     block_whole cells k le = length-take-le 64 (drop (64 * k) cells) (let size = length-drop (64 * k) cells in omega (arith, size, le))
-accepted_blocks read book sound g start cells old new a b false fits long reads e = absurd cc
+accepted_blocks read texts sound g start cells old new a b false fits long reads e = absurd cc
 
 -- ---- the blocks that were passed
 
 -- the text was read, accepted or not
-pub text_goes : (book : Book) (old new : Outside) (a b : Assembling) (head : SegmentHead) (cells : List ℤ) (accepted : Bool) →
-    ReadsText book old new a b head cells (Ok accepted) → Continues old new a b
-text_goes book old new a b head cells true reads = reads.goes
-text_goes book old new a b head cells false reads = reads.goes
+pub text_goes : (texts : TextWish) (old new : Outside) (a b : Assembling) (head : SegmentHead) (cells : List ℤ) (accepted : Bool) →
+    ReadsText texts old new a b head cells (Ok accepted) → Continues old new a b
+text_goes texts old new a b head cells true reads = reads.goes
+text_goes texts old new a b head cells false reads = reads.goes
 
 pub faults_then : {p q r : Outside} → NoFewerFaults p q → NoFewerFaults q r → NoFewerFaults p r
 faults_then a b = record { reads = omega (arith, a.reads, b.reads); writes = omega (arith, a.writes, b.writes); notes = omega (arith, a.notes, b.notes) }
@@ -161,9 +161,9 @@ has_followed k pixels a b p q start at current there goes follows = by b.held re
         }
 
 -- a read failed in its text
-pub read_takes : {S : Type 0} (k : SinkOf S) (book : Book) (w0 w1 w2 : Outside) (a b : Assembling) (p0 p : Walking S) (head : SegmentHead) (cells : List ℤ)
-    (fault : DecodeFault) → NoFewerFaults w0 w1 → ReadsText book w1 w2 a b head cells (Err fault) → TakesSegment k w0 w2 a b p0 p (Err fault)
-read_takes k book w0 w1 w2 a b p0 p head cells other faults failed = grind (arith, nat_tests, rose_since)
+pub read_takes : {S : Type 0} (k : SinkOf S) (texts : TextWish) (w0 w1 w2 : Outside) (a b : Assembling) (p0 p : Walking S) (head : SegmentHead) (cells : List ℤ)
+    (fault : DecodeFault) → NoFewerFaults w0 w1 → ReadsText texts w1 w2 a b head cells (Err fault) → TakesSegment k w0 w2 a b p0 p (Err fault)
+read_takes k texts w0 w1 w2 a b p0 p head cells other faults failed = grind (arith, nat_tests, rose_since)
 
 -- the head of the next segment reports too many pixels
 head_takes : {S : Type 0} (k : SinkOf S) (pixels : ℕ) (w0 w2 : Outside) (a b : Assembling) (p0 p q : Walking S) (image : Geometry) (next : SegmentStart)
@@ -200,13 +200,13 @@ shorter_then {g = g} {h = h} {i = i} a b = record { same = b.same ∙ (λ j. rec
 pub shorter_same : {g h : Geometry} → h ≡ g → IsShorter g h
 shorter_same {g = g} {h = h} same = subst (IsShorter g) (sym same) record { same = refl; fewer = omega arith }
 
-pub segment_taken : {S T E : Type 0} (k : SinkOf S) (book : Book) (pixels : ℕ) (r : Result T E) (w0 w1 w2 w3 : Outside) (a b : Assembling)
+pub segment_taken : {S T E : Type 0} (k : SinkOf S) (texts : TextWish) (pixels : ℕ) (r : Result T E) (w0 w1 w2 w3 : Outside) (a b : Assembling)
     (start : SegmentStart) (p0 p1 p2 p3 : Walking S) (cells : List ℤ) (accepted : Bool) (values : ℕ → Option (List ℤ)) → IsOk r → IsAt a p0 start →
-    HasReached k w0 w1 a p0 p1 start → ReadsText book w1 w2 a b start.head cells (Ok accepted) → HasFollowed k pixels b p1 p2 start →
+    HasReached k w0 w1 a p0 p1 start → ReadsText texts w1 w2 a b start.head cells (Ok accepted) → HasFollowed k pixels b p1 p2 start →
     PassesBlocks k r values start.head.blocks w2 w3 p2 p3 → HasTaken k w0 w3 a b p0 p3
-segment_taken k book pixels (Err e) w0 w1 w2 w3 a b start p0 p1 p2 p3 cells accepted values is at before reads followed past = absurd (false≢true is)
-segment_taken k book pixels (Ok x) w0 w1 w2 w3 a b start p0 p1 p2 p3 cells accepted values is at before reads followed past =
-    let goes = text_goes book w1 w2 a b start.head cells accepted reads in
+segment_taken k texts pixels (Err e) w0 w1 w2 w3 a b start p0 p1 p2 p3 cells accepted values is at before reads followed past = absurd (false≢true is)
+segment_taken k texts pixels (Ok x) w0 w1 w2 w3 a b start p0 p1 p2 p3 cells accepted values is at before reads followed past =
+    let goes = text_goes texts w1 w2 a b start.head cells accepted reads in
     let fits = followed.fits in
     let end : passed_in p3 ≡ start.ancillary.first + start.head.blocks = omega (arith, past.count, followed.count, before.there) in
     let some = fits.head.blocks.0 in

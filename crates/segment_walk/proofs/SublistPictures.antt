@@ -19,6 +19,7 @@ use Rattle.packet_defs.specs.Packets.{joined}
 use Rattle.packet_defs.specs.Reading.{text_in}
 use Rattle.packet_defs.specs.Streams.{IsPacket, whole_packets}
 use Rattle.packet_defs.proofs.Splits.{splits_whole, joined_splits}
+use Rattle.segment_defs.specs.TextWish.{TextWish}
 use Rattle.segment_code.specs.ShortTexts.{TextsAreShort}
 use Rattle.stream_defs.specs.Begun.{band_rows, begun, begun_in, block_rows, end_in, end_of, end_known, height}
 use Rattle.stream_defs.specs.Chosen.{IsRising, IsChoice, chosen, all_parts, run}
@@ -182,22 +183,22 @@ module _ (short : TextsAreShort) (s : Setting) (rows : ℕ) (x : ℕ → ℕ →
       subst (λ packets. end_of (kept s.apid fresh packets) ≤ total_blocks s.width rows) (sym packets_are) (ends_within if_known u all coded parts are.choice) in
       grind (arith, nat_tests, geometry_there, three-le-block_count, div_below)
 
-  module _ (received whole : Numbers) (some_are : ReceivedIn (holds_after s.book) s.apid (some_output s rows x parts) received)
-      (all_are : ReceivedIn (holds_after s.book) s.apid (output s rows x) whole) where
+  module _ (texts : TextWish) (received whole : Numbers) (some_are : ReceivedIn (holds_after texts) s.apid (some_output s rows x parts) received)
+      (all_are : ReceivedIn (holds_after texts) s.apid (output s rows x) whole) where
     -- a segment that is received of some is received of all, with the same numbers
     same_by : (index : ℕ) (o : Option (List (List ℤ))) → index < segments_of u → received index ≡ o → is_some o ≡ true → whole index ≡ received index
     same_by index None lt is some = absurd (false≢true some)
     same_by index (Some w) lt is some =
         let here : MatchOption (Some w) ((v : List (List ℤ)) →
-        IsReceived (holds_after s.book) (kept s.apid fresh (whole_packets (some_output s rows x parts))) index v → ⊥)
-        (IsReceived (holds_after s.book) (kept s.apid fresh (whole_packets (some_output s rows x parts))) index) = grind (arith, nat_tests) in
-        let mine : IsReceived (holds_after s.book) (kept s.apid fresh (chosen if_known u all parts (segments_of u))) index w =
+        IsReceived (holds_after texts) (kept s.apid fresh (whole_packets (some_output s rows x parts))) index v → ⊥)
+        (IsReceived (holds_after texts) (kept s.apid fresh (whole_packets (some_output s rows x parts))) index) = grind (arith, nat_tests) in
+        let mine : IsReceived (holds_after texts) (kept s.apid fresh (chosen if_known u all parts (segments_of u))) index w =
         grind (arith, nat_tests, packets_are) in
-        let held = (received_only if_known u all coded parts are.choice (holds_after s.book) index w lt mine).1 in
-        let there : IsReceived (holds_after s.book) (kept s.apid fresh (whole_packets (output s rows x))) index w =
-        subst (λ packets. IsReceived (holds_after s.book) (kept s.apid fresh packets) index w) (sym (output_whole short s rows x are.image))
-        (received_each if_known u all coded (all_parts u all) (choice_all short s rows x are.image) (holds_after s.book) index w lt refl held) in
-        both_report s.book (kept s.apid fresh (whole_packets (output s rows x))) index (whole index) (Some w) (all_are.at index) there ∙ sym is
+        let held = (received_only if_known u all coded parts are.choice (holds_after texts) index w lt mine).1 in
+        let there : IsReceived (holds_after texts) (kept s.apid fresh (whole_packets (output s rows x))) index w =
+        subst (λ packets. IsReceived (holds_after texts) (kept s.apid fresh packets) index w) (sym (output_whole short s rows x are.image))
+        (received_each if_known u all coded (all_parts u all) (choice_all short s rows x are.image) (holds_after texts) index w lt refl held) in
+        both_report texts (kept s.apid fresh (whole_packets (output s rows x))) index (whole index) (Some w) (all_are.at index) there ∙ sym is
 
     -- with the numbers of all packets in the lost blocks
     pub with_all : (r n : ℕ) → block_rows (image_geometry s r) n ≤ block_count rows →

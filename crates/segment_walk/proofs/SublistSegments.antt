@@ -10,10 +10,10 @@ use Rattle.stream_defs.specs.Chosen.{all_parts}
 use Rattle.stream_defs.specs.Fates.{fresh, kept}
 use Rattle.stream_defs.specs.Output.{head_for, image_blocks, segment_of, segment_text, segments_of, reports_last}
 use Rattle.stream_defs.specs.Places.{AreCoded}
-use Rattle.stream_defs.specs.Received.{IsReceived, ReceivedIn}
+use Rattle.stream_defs.specs.Received.{Acceptance, IsReceived, ReceivedIn}
 use Rattle.stream_defs.proofs.SublistLaws.{received_only, received_each}
 use Rattle.segment_walk.specs.Runs.{Numbers, holds_after}
-use Rattle.segment_walk.specs.Images.{some_output, ArePixels, AreSome, ReceivesThose}
+use Rattle.segment_walk.specs.Images.{texts_for, some_output, ArePixels, AreSome, ReceivesThose}
 use Rattle.segment_walk.proofs.SpelledImages.{head_fits, spells}
 use Rattle.segment_walk.proofs.SublistPictures.{coded_for, packets_are, sized_range}
 
@@ -33,19 +33,23 @@ module _ (short : TextsAreShort) (s : Setting) (rows : ℕ) (x : ℕ → ℕ →
   pixels : ArePixels t rows x
   pixels = record { at = are.image.pixels.at }
 
-  abbrev Here : (index : ℕ) → List (List ℤ) → Type 0
-  Here index w = IsReceived (holds_after s.book) (kept s.apid fresh (whole_packets (some_output s rows x parts))) index w
+  module _ (restore : Bool) (received : Numbers)
+      (received_is : ReceivedIn (holds_after (texts_for s restore)) s.apid (some_output s rows x parts) received) where
+    abbrev Holds : Acceptance
+    Holds = holds_after (texts_for s restore)
 
-  module _ (received : Numbers) (received_is : ReceivedIn (holds_after s.book) s.apid (some_output s rows x parts) received) where
+    abbrev Here : (index : ℕ) → List (List ℤ) → Type 0
+    Here index w = IsReceived Holds (kept s.apid fresh (whole_packets (some_output s rows x parts))) index w
+
     answered : (index : ℕ) (o : Option (List (List ℤ))) → received index ≡ o → MatchOption o ((v : List (List ℤ)) → Here index v → ⊥) (Here index)
     answered index o e = subst (λ o. MatchOption o ((v : List (List ℤ)) → Here index v → ⊥) (Here index)) e (received_is.at index)
 
     -- a received segment has all its packets, and is what they carry
     pub only_whole : (index : ℕ) (w : List (List ℤ)) → index < segments_of t → received index ≡ Some w →
-        (parts index ≡ all_parts t all index) × holds_after s.book (head_for t all index) (segment_text t all index) w
+        (parts index ≡ all_parts t all index) × holds_after (texts_for s restore) (head_for t all index) (segment_text t all index) w
     only_whole index w lt e =
-        received_only if_known t all coded parts are.choice (holds_after s.book) index w lt
-        (subst (λ ps. IsReceived (holds_after s.book) (kept s.apid fresh ps) index w) (packets_are short s rows x parts are) (answered index (Some w) e))
+        received_only if_known t all coded parts are.choice Holds index w lt
+        (subst (λ ps. IsReceived Holds (kept s.apid fresh ps) index w) (packets_are short s rows x parts are) (answered index (Some w) e))
 
     -- a segment with all its packets is received
     pub each_whole : CodedTextsAreRead → (index : ℕ) → index < segments_of t → parts index ≡ all_parts t all index → is_some (received index) ≡ true
@@ -56,11 +60,12 @@ module _ (short : TextsAreShort) (s : Setting) (rows : ℕ) (x : ℕ → ℕ →
         by None e =
             let blocks = segment_of t all index in
             let image = are.image in
-            let held = (read s.book image.sound (head_for t all index) blocks (head_fits t x (sized_range short s rows x image) image.height.0 pixels index
-            lt) image.weights (spells t x (sized_range short s rows x image) image.height.0 pixels index lt) refl).part in
-            absurd (answered index None e held.0 (subst (λ ps. IsReceived (holds_after s.book) (kept s.apid fresh ps) index held.0)
+            let held = (read (texts_for s restore) image.sound (head_for t all index) blocks
+            (head_fits t x (sized_range short s rows x image) image.height.0 pixels index lt) image.weights
+            (spells t x (sized_range short s rows x image) image.height.0 pixels index lt) refl).given in
+            absurd (answered index None e held.0 (subst (λ ps. IsReceived Holds (kept s.apid fresh ps) index held.0)
             (sym (packets_are short s rows x parts are))
-            (received_each if_known t all coded parts are.choice (holds_after s.book) index held.0 lt whole held.1)))
+            (received_each if_known t all coded parts are.choice Holds index held.0 lt whole held.1)))
 
     pub receives_those : CodedTextsAreRead → ReceivesThose s rows x parts received
     receives_those read = record { at = λ index lt. (λ some. from_some index (received index) lt refl some, each_whole read index lt) }

@@ -5,13 +5,12 @@ use Rattle.std.proofs.lemmas.List.{append-nil, take-append-le}
 use Rattle.std.proofs.lemmas.Bool.Decides.{nat_tests}
 use Rattle.port_122.specs.Outside.{Outside, Loses}
 use Rattle.port_122.proofs.Stretches.{rose_since}
-use Rattle.base_122.specs.declared.book.Book.{Book}
 use Rattle.wave_defs.specs.Held.{blocks_in}
 use Rattle.bit_pipe.specs.declared.fault.Part.{Part}
 use Rattle.bit_pipe.specs.Sources.{End, Plainly, TooLong, InPieces, Arrives, IsOver}
+use Rattle.segment_defs.specs.TextWish.{TextWish, text_read}
 use Rattle.segment_defs.specs.declared.head.SegmentHead.{SegmentHead}
 use Rattle.segment_defs.specs.Outcomes.{SegmentRefusal}
-use Rattle.segment_defs.specs.TextOutcome.{text_outcome}
 use Rattle.segment_code.specs.Decoded.{DecodesSegment}
 use Rattle.segment_code.specs.Laws.{EndsSay}
 use Rattle.segment_code.specs.declared.fault.SegmentFault.{SegmentFault}
@@ -54,7 +53,7 @@ take_all : (xs : List ℤ) → take (length xs) xs ≡ xs
 take_all [] = refl
 take_all (x ∷ xs) = ap (λ zs. x ∷ zs) (take_all xs)
 
-module _ {X : Type 0} (outside : X → Outside) (book : Book) (s t : SegmentText X) where
+module _ {X : Type 0} (outside : X → Outside) (texts : TextWish) (s t : SegmentText X) where
   abbrev old : Outside
   old = outside s.port.now
 
@@ -69,8 +68,8 @@ module _ {X : Type 0} (outside : X → Outside) (book : Book) (s t : SegmentText
 
   -- ---- a text that holds something
 
-  module _ (head : SegmentHead) (part : Part) (cells more : List ℤ) (long : length cells ≡ 64 * head.blocks) (say : EndsSay book head)
-      (d : DecodesSegment (segment_source outside) book head (Ok part) s t cells) (new : Outside) (b : Assembling) where
+  module _ (head : SegmentHead) (part : Part) (cells more : List ℤ) (long : length cells ≡ 64 * head.blocks) (say : EndsSay texts head)
+      (d : DecodesSegment (segment_source outside) texts head (Ok part) s t cells) (new : Outside) (b : Assembling) where
     goes : Continues old now s.assembly.now t.assembly.now
     goes = d.went.goes
 
@@ -88,18 +87,18 @@ module _ {X : Type 0} (outside : X → Outside) (book : Book) (s t : SegmentText
         × ((text_tail t.assembly.now before).ends ≡ Plainly)
     none_left before if_known = over_by t.assembly.now now.rest before Plainly if_known d.ends.1
 
-    outcome : text_outcome book head d.octets ≡ Ok (blocks_in (cells_of head (cells ++ more)))
+    outcome : text_read texts head d.octets ≡ Ok (blocks_in (cells_of head (cells ++ more)))
     outcome = say.given d.octets part (blocks_in cells) d.ends.0 ∙ ap (λ xs. Ok (blocks_in xs)) cells_are
 
     ends_by : (result : Result Bool DecodeFault) → EndsText now new t.assembly.now b result →
-        ReadsText book old new s.assembly.now b head (cells ++ more) result
+        ReadsText texts old new s.assembly.now b head (cells ++ more) result
     ends_by (Ok true) e = record {
       goes = goes_both goes e.goes;
       unheld = e.unheld;
       closed = e.closed;
       some = d.octets;
       holds = outcome;
-      if_known = λ before if_known. let all = whole before if_known in (all.0, ap (text_outcome book head) all.1 ∙ outcome);
+      if_known = λ before if_known. let all = whole before if_known in (all.0, ap (text_read texts head) all.1 ∙ outcome);
     }
     ends_by (Ok false) e = record {
       goes = goes_both goes e.goes;
@@ -111,49 +110,49 @@ module _ {X : Type 0} (outside : X → Outside) (book : Book) (s t : SegmentText
     ends_by (Err ReadFault) e = record { goes = goes_both goes e.goes; rose = rose_since goes.passes.since.faults.reads e.rose }
     ends_by (Err other) e = absurd e
 
-    pub text_read : (p x : X) (a y : Assembling) (result : Result Bool DecodeFault) → s.port.now ≡ p → s.assembly.now ≡ a → x ≡ t.port.now →
+    pub text_accepted : (p x : X) (a y : Assembling) (result : Result Bool DecodeFault) → s.port.now ≡ p → s.assembly.now ≡ a → x ≡ t.port.now →
         y ≡ t.assembly.now → EndsText (outside x) new y b result →
-        ReadsText book (outside p) new a b head (cells ++ more) result
-    text_read p x a y result begins from e f ends = grind (arith, nat_tests, ends_by)
+        ReadsText texts (outside p) new a b head (cells ++ more) result
+    text_accepted p x a y result begins from e f ends = grind (arith, nat_tests, ends_by)
 
   -- ---- a text that is refused
 
-  module _ (head : SegmentHead) (cells : List ℤ) (fault : SegmentFault) (d : DecodesSegment (segment_source outside) book head (Err fault) s t cells) where
+  module _ (head : SegmentHead) (cells : List ℤ) (fault : SegmentFault) (d : DecodesSegment (segment_source outside) texts head (Err fault) s t cells) where
     abbrev HasRefusal : List ℕ → Type 0
-    HasRefusal before = IsErr (text_outcome book head (text_tail s.assembly.now before).octets)
+    HasRefusal before = IsErr (text_read texts head (text_tail s.assembly.now before).octets)
 
     -- by its first octets
-    by_name : (name : SegmentRefusal) → ((more : List ℕ) → text_outcome book head (d.octets ++ more) ≡ Err name) → (before : List ℕ) →
+    by_name : (name : SegmentRefusal) → ((more : List ℕ) → text_read texts head (d.octets ++ more) ≡ Err name) → (before : List ℕ) →
         old.rest ≡ Some before → HasRefusal before
     by_name name refused before if_known =
         let x = arrived d.octets before d.went.goes d.came if_known in
-        ap is_err (ap (text_outcome book head) x.octets_are ∙ refused (text_tail t.assembly.now x.rest).octets)
+        ap is_err (ap (text_read texts head) x.octets_are ∙ refused (text_tail t.assembly.now x.rest).octets)
 
     -- as it is too short
-    by_end : IsOver ((segment_source outside).tail t) Plainly → (name : SegmentRefusal) → text_outcome book head d.octets ≡ Err name → (before : List ℕ) →
+    by_end : IsOver ((segment_source outside).tail t) Plainly → (name : SegmentRefusal) → text_read texts head d.octets ≡ Err name → (before : List ℕ) →
         old.rest ≡ Some before → HasRefusal before
     by_end over name refused before if_known =
         let x = arrived d.octets before d.went.goes d.came if_known in
         let none = over_by t.assembly.now now.rest x.rest Plainly x.if_known over in
         let whole : (text_tail s.assembly.now before).octets ≡ d.octets = x.octets_are ∙ ap (λ zs. d.octets ++ zs) none.0 ∙ append-nil d.octets in
-        ap is_err (ap (text_outcome book head) whole ∙ refused)
+        ap is_err (ap (text_read texts head) whole ∙ refused)
 
     -- as it ends otherwise
     by_break : (ends : End) → (ends ≡ Plainly → ⊥) → IsOver ((segment_source outside).tail t) ends → (before : List ℕ) → old.rest ≡ Some before →
         (text_tail s.assembly.now before).ends ≡ Plainly → ⊥
     by_break ends other over before if_known plain = grind (arith, nat_tests, arrived, goes, over_by)
 
-  pub text_refused : (head : SegmentHead) (cells : List ℤ) (fault : SegmentFault) → EndsSay book head → (fault ≡ faults.ReadFault → ⊥) →
-      DecodesSegment (segment_source outside) book head (Err fault) s t cells →
-      (p x : X) (a y : Assembling) → s.port.now ≡ p → s.assembly.now ≡ a → x ≡ t.port.now → y ≡ t.assembly.now → Refuses book (outside p) (outside x) a y head
+  pub text_refused : (head : SegmentHead) (cells : List ℤ) (fault : SegmentFault) → EndsSay texts head → (fault ≡ faults.ReadFault → ⊥) →
+      DecodesSegment (segment_source outside) texts head (Err fault) s t cells →
+      (p x : X) (a y : Assembling) → s.port.now ≡ p → s.assembly.now ≡ a → x ≡ t.port.now → y ≡ t.assembly.now → Refuses texts (outside p) (outside x) a y head
   text_refused head cells fault say other d p x a y begins from e f =
-      subst (λ p. Refuses book (outside p) (outside x) a y head) begins (subst (λ a. Refuses book old (outside x) a y head) from
-      (subst (λ x. Refuses book old (outside x) s.assembly.now y head) (sym e)
-      (subst (λ y. Refuses book old now s.assembly.now y head) (sym f) record { goes = d.went.goes; if_known = by fault other d })))
+      subst (λ p. Refuses texts (outside p) (outside x) a y head) begins (subst (λ a. Refuses texts old (outside x) a y head) from
+      (subst (λ x. Refuses texts old (outside x) s.assembly.now y head) (sym e)
+      (subst (λ y. Refuses texts old now s.assembly.now y head) (sym f) record { goes = d.went.goes; if_known = by fault other d })))
     where
-      by : (fault : SegmentFault) → (fault ≡ faults.ReadFault → ⊥) → DecodesSegment (segment_source outside) book head (Err fault) s t cells →
+      by : (fault : SegmentFault) → (fault ≡ faults.ReadFault → ⊥) → DecodesSegment (segment_source outside) texts head (Err fault) s t cells →
           (before : List ℕ) → old.rest ≡ Some before → (text_tail s.assembly.now before).ends ≡ Plainly →
-          IsErr (text_outcome book head (text_tail s.assembly.now before).octets)
+          IsErr (text_read texts head (text_tail s.assembly.now before).octets)
       by faults.BadOption other d before if_known plain = by_name head cells faults.BadOption d _ (λ more. say.refused d.octets more _ d.ends) before if_known
       by faults.BadDelta other d before if_known plain = by_name head cells faults.BadDelta d _ (λ more. say.refused d.octets more _ d.ends) before if_known
       by faults.BadDepth other d before if_known plain = by_name head cells faults.BadDepth d _ (λ more. say.refused d.octets more _ d.ends) before if_known

@@ -22,7 +22,7 @@ use Rattle.stream_defs.specs.Output.{head_for, image_blocks, output, segment_tex
 use Rattle.stream_defs.specs.Places.{parts_of, AreCoded}
 use Rattle.stream_defs.specs.Received.{ReceivedIn}
 use Rattle.segment_walk.specs.Runs.{Numbers, holds_after}
-use Rattle.segment_walk.specs.Images.{some_output, BeginsOne, is_begun, AreSome, IsImageFor, ArrivesWhole, ArePixels, SendsAll}
+use Rattle.segment_walk.specs.Images.{texts_for, some_output, BeginsOne, is_begun, AreSome, IsImageFor, ArrivesWhole, ArePixels, SendsAll}
 use Rattle.segment_walk.proofs.Receiving.{one_value}
 use Rattle.segment_walk.proofs.RunEnds.{any_miss}
 use Rattle.segment_walk.proofs.SublistPictures.{all_packets, choice_all, coded_for, geometry_there, reported_begun, segment_within, whole_choice, sized_range}
@@ -115,18 +115,19 @@ module _ (short : TextsAreShort) (s : Setting) (rows : ℕ) (x : ℕ → ℕ →
 
   -- ---- what is received
 
-  module _ (received : Numbers) (received_is : ReceivedIn (holds_after s.book) s.apid (output s rows x) received) where
-    of_all : ReceivedIn (holds_after s.book) s.apid (some_output s rows x (all_parts t all)) received
-    of_all = subst (λ octets. ReceivedIn (holds_after s.book) s.apid octets received) all_are received_is
+  module _ (restore : Bool) (received : Numbers)
+      (received_is : ReceivedIn (holds_after (texts_for s restore)) s.apid (output s rows x) received) where
+    of_all : ReceivedIn (holds_after (texts_for s restore)) s.apid (some_output s rows x (all_parts t all)) received
+    of_all = subst (λ octets. ReceivedIn (holds_after (texts_for s restore)) s.apid octets received) all_are received_is
 
     -- a segment that is received is the one that its packets carry
     pub held_by : (index : ℕ) (w : List (List ℤ)) → index < segments_of t → received index ≡ Some w →
-        holds_after s.book (head_for t all index) (segment_text t all index) w
-    held_by index w lt e = (only_whole short s rows x (all_parts t all) are received of_all index w lt e).1
+        holds_after (texts_for s restore) (head_for t all index) (segment_text t all index) w
+    held_by index w lt e = (only_whole short s rows x (all_parts t all) are restore received of_all index w lt e).1
 
     -- and each is received
     pub each_received : CodedTextsAreRead → (index : ℕ) → index < segments_of t → is_some (received index) ≡ true
-    each_received read index lt = each_whole short s rows x (all_parts t all) are received of_all read index lt refl
+    each_received read index lt = each_whole short s rows x (all_parts t all) are restore received of_all read index lt refl
 
     pub arrives_whole : CodedTextsAreRead → ArrivesWhole s rows x received
     arrives_whole read = record {
@@ -157,7 +158,7 @@ module _ (short : TextsAreShort) (s : Setting) (rows : ℕ) (x : ℕ → ℕ →
               let plane : h.stop.plane ≡ 0 = ap (λ b. if b then 0 else s.stop.plane) sends.goes_on ∙ sends.plane in
               let stage : h.stop.stage ≡ 3 = ap (λ b. if b then 3 else s.stop.stage) sends.goes_on ∙ sends.stage in
               let uncut = share_none t index (used_before t all index) sends.total ∙ sends.limit in
-              let reads = read s.book is.sound h blocks (head_fits t x range is.height.0 pixels index lt) is.weights
+              let reads = read (texts_for s restore) is.sound h blocks (head_fits t x range is.height.0 pixels index lt) is.weights
               (spells t x range is.height.0 pixels index lt) refl in
               e ∙ ap Some (one_value _ w blocks (held_by index w lt e)
               (reads.exact (inl uncut) (record { goes_on = sends.goes_on; plane = plane; stage = stage })))

@@ -10,6 +10,7 @@ use Rattle.stream_defs.specs.Fates.{geometry_in}
 use Rattle.stream_defs.specs.Picture.{picture_octets}
 use Rattle.stream_defs.specs.Received.{ReceivedIn}
 use Rattle.packet_assembly.specs.Readings.{IsReadOut}
+use Rattle.segment_defs.specs.TextWish.{TextWish, text_wish}
 use Rattle.segment_walk.specs.Runs.{holds_after, Numbers, AsksUnanswered}
 use Rattle.segment_walk.specs.Walks.{IsDamageOf}
 use Rattle.segment_walk.specs.declared.ending.DecodeDone.{DecodeDone}
@@ -21,7 +22,7 @@ octets_of false g received n = []
 
 -- What is given is the picture of the segments that are received in the octets that were taken, if it is asked for. Its damage is
 -- that of the missing block rows, and the octets were read to the end, or can't be read on for this reason.
-pub record PictureBy (gives : Bool) (wish : DecodeWish) (start new : Outside) (took gave : List ℕ) (done : DecodeDone) : Type 0 where
+pub record PictureBy (gives : Bool) (texts : TextWish) (wish : DecodeWish) (start new : Outside) (took gave : List ℕ) (done : DecodeDone) : Type 0 where
   pub geometry : geometry_in wish.apid took ≡ Some done.geometry
   pub range : IsGeometryInRange done.geometry
   pub few : HasFewPixels wish.pixels wish.apid took
@@ -29,11 +30,11 @@ pub record PictureBy (gives : Bool) (wish : DecodeWish) (start new : Outside) (t
   pub out : IsReadOut wish.octets new took
   pub written : done.written ≡ height done.geometry (begun_in wish.apid took)
   pub rows : done.damage.rows ≡ done.written
-  pub if_known : (all : List ℕ) → start.rest ≡ Some all → (received : Numbers) × ReceivedIn (holds_after wish.book) wish.apid took received
+  pub if_known : (all : List ℕ) → start.rest ≡ Some all → (received : Numbers) × ReceivedIn (holds_after texts) wish.apid took received
       × (gave ≡ octets_of gives done.geometry received (begun_in wish.apid took)) × IsDamageOf done.geometry received (begun_in wish.apid took) done.damage
 
 abbrev pub IsPicture : (wish : DecodeWish) (start new : Outside) (took gave : List ℕ) (done : DecodeDone) → Type 0
-IsPicture = PictureBy true
+IsPicture wish = PictureBy true (text_wish wish) wish
 
 -- ---- while packets are read
 

@@ -10,6 +10,7 @@ use Rattle.packet_defs.specs.Packets.{joined}
 use Rattle.packet_defs.specs.Streams.{framing}
 use Rattle.plane_defs.specs.Codes.{is_book_sound}
 use Rattle.raster_rows.specs.Pixels.{IsPixel}
+use Rattle.segment_defs.specs.TextWish.{TextWish}
 use Rattle.stream_defs.specs.Begun.{block_rows}
 use Rattle.stream_defs.specs.Chosen.{IsChoice, chosen, all_parts}
 use Rattle.stream_defs.specs.Damage.{whole_missing}
@@ -23,6 +24,10 @@ use Rattle.segment_walk.specs.Runs.{Numbers}
 pub record AreWith (g : Geometry) (received : Numbers) (numbers : ℕ → ℕ → ℤ) (n : ℕ) : Type 0 where
   pub at : (block i : ℕ) → block < block_rows g n * block_count g.width → i < 64 → is_some (received (block / g.segment)) ≡ true →
       numbers block i ≡ number_at g received block i
+
+-- how texts with this setting's book are read
+abbrev pub texts_for : Setting → (restore : Bool) → TextWish
+texts_for s restore = record { book = s.book; restore = restore }
 
 -- the octets of some packets, in order, of an image with this number of rows
 abbrev pub some_output : Setting → (rows : ℕ) → (ℕ → ℕ → ℤ) → (parts : ℕ → List ℕ) → List ℕ

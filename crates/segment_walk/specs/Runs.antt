@@ -4,9 +4,8 @@ use Rattle.std.specs.Prelude.{Result, Ok, Err, true, false, MatchOption, MatchRe
 use Rattle.port_122.specs.Outside.{Outside, Exchange}
 use Rattle.base_122.specs.Sizes.{first_block, segment_blocks}
 use Rattle.base_122.specs.declared.geometry.Geometry.{Geometry}
-use Rattle.base_122.specs.declared.book.Book.{Book}
+use Rattle.segment_defs.specs.TextWish.{TextWish, text_read}
 use Rattle.segment_defs.specs.Head.{head_length}
-use Rattle.segment_defs.specs.TextOutcome.{text_outcome}
 use Rattle.packet_defs.specs.Streams.{whole_packets, left_over, has_bad_version}
 use Rattle.stream_defs.specs.declared.fate.LastPart.{LastPart}
 use Rattle.stream_defs.specs.declared.fate.FateState.{FateState}
@@ -29,9 +28,9 @@ use Rattle.segment_walk.specs.Segments.{HasImage}
 
 -- ---- what is claimed
 
--- a text holds the numbers that its octets after the head are read as, with the codes of this book
-abbrev pub holds_after : Book → Acceptance
-holds_after book head text numbers = text_outcome book head (drop (head_length head) text) ≡ Ok numbers
+-- a text holds the numbers that its octets after the head are read as, with the codes of a book, and restored if that is wished
+abbrev pub holds_after : TextWish → Acceptance
+holds_after texts head text numbers = text_read texts head (drop (head_length head) text) ≡ Ok numbers
 
 abbrev pub Numbers : Type 0
 Numbers = sinks.Numbers
@@ -52,16 +51,16 @@ blocks_passed g ended = if g.rows == 0 then ended else blocks_of g
 
 -- What is given once these octets are taken: nothing without a geometry, otherwise what the sink gives after the first blocks of the
 -- segments that are received, at least after those that are settled.
-pub record PassedBy {S : Type 0} (k : SinkOf S) (book : Book) (apid : ℕ) (taken given : List ℕ) : Type 0 where
+pub record PassedBy {S : Type 0} (k : SinkOf S) (texts : TextWish) (apid : ℕ) (taken given : List ℕ) : Type 0 where
   pub none : geometry_in apid taken ≡ None → given ≡ []
-  pub some : (g : Geometry) (received : Numbers) → geometry_in apid taken ≡ Some g → ReceivedIn (holds_after book) apid taken received →
+  pub some : (g : Geometry) (received : Numbers) → geometry_in apid taken ≡ Some g → ReceivedIn (holds_after texts) apid taken received →
       (n : ℕ) × (n ≤ blocks_passed g (end_of (kept_in apid taken))) × (settled_blocks (state_after apid taken) received ≤ n)
       × k.Given (placed g) (blocks_with g received) n given
 
 -- a part of what the sink gives of the segments that are received in these octets; nothing without a geometry
-pub record PartBy {S : Type 0} (k : SinkOf S) (book : Book) (apid : ℕ) (taken given : List ℕ) : Type 0 where
+pub record PartBy {S : Type 0} (k : SinkOf S) (texts : TextWish) (apid : ℕ) (taken given : List ℕ) : Type 0 where
   pub none : geometry_in apid taken ≡ None → given ≡ []
-  pub some : (g : Geometry) (received : Numbers) → geometry_in apid taken ≡ Some g → ReceivedIn (holds_after book) apid taken received →
+  pub some : (g : Geometry) (received : Numbers) → geometry_in apid taken ≡ Some g → ReceivedIn (holds_after texts) apid taken received →
       (n : ℕ) × (n ≤ blocks_passed g (end_of (kept_in apid taken))) × k.Part (placed g) (blocks_with g received) n given
 
 -- Whatever the port reports, it is a part of what the sink gives of some blocks.
@@ -73,12 +72,12 @@ pub record IsPartOfSome {S : Type 0} (k : SinkOf S) (given : List ℕ) : Type 0 
 
 -- ---- a run
 
--- for which packets, the greatest numbers of octets and of pixels, the book by which segments are read, and the outside at its beginning
+-- for which packets, the greatest numbers of octets and of pixels, how segments are read, and the outside at its beginning
 pub record Run : Type 0 where
   pub apid : ℕ
   pub cap : ℕ
   pub pixels : ℕ
-  pub book : Book
+  pub texts : TextWish
   pub start : Outside
 
 -- the kept heads of these packets report at most this number of pixels
@@ -115,17 +114,17 @@ AsksUnanswered apid cap pixels took i j = AsksReadable cap took i j × HasFewPix
 abbrev pub AsksPassed : {S : Type 0} → SinkOf S → Run → (took gave : List ℕ) → ℕ → ℕ → Type 0
 AsksPassed k w took gave i j =
     (j ≤ length gave) × AsksUnanswered w.apid w.cap w.pixels took i j × ((all : List ℕ) → w.start.rest ≡ Some all →
-    PassedBy k w.book w.apid (take i took) (take j gave))
+    PassedBy k w.texts w.apid (take i took) (take j gave))
 
 -- the whole packets that are left, if these octets are left
 abbrev pub future : Assembling → List ℕ → List (List ℕ)
 future a rest = whole_packets (arriving a.intake rest)
 
 -- The segments before a bound: each is received with these numbers, or it isn't, however many of the next packets follow.
-pub record Knows (book : Book) (apid : ℕ) (passed later : List (List ℕ)) (bound : ℕ) (sofar : Numbers) : Type 0 where
+pub record Knows (texts : TextWish) (apid : ℕ) (passed later : List (List ℕ)) (bound : ℕ) (sofar : Numbers) : Type 0 where
   pub at : (next more : List (List ℕ)) → later ≡ next ++ more → (index : ℕ) → index < bound → MatchOption (sofar index)
-      ((numbers : List (List ℤ)) → IsReceived (holds_after book) (kept apid fresh (passed ++ next)) index numbers → ⊥)
-      (IsReceived (holds_after book) (kept apid fresh (passed ++ next)) index)
+      ((numbers : List (List ℤ)) → IsReceived (holds_after texts) (kept apid fresh (passed ++ next)) index numbers → ⊥)
+      (IsReceived (holds_after texts) (kept apid fresh (passed ++ next)) index)
 
 -- the first n blocks are those of these segments
 pub record AreOf (g : Geometry) (sofar : Numbers) (n : ℕ) (blocks : Blocks) : Type 0 where
@@ -144,7 +143,7 @@ pub record HasKnown (w : Run) (now : Outside) (a : Assembling) (bound : ℕ) (to
   pub passed : List (List ℕ)
   pub sofar : Numbers
   pub read : HasRead w.apid w.cap a took passed
-  pub knows : (rest : List ℕ) → now.rest ≡ Some rest → Knows w.book w.apid passed (future a rest) bound sofar
+  pub knows : (rest : List ℕ) → now.rest ≡ Some rest → Knows w.texts w.apid passed (future a rest) bound sofar
   pub above : (index : ℕ) → bound ≤ index → sofar index ≡ None
   pub at_end : SawEnd now a
 
@@ -208,7 +207,7 @@ pub record HasBroken {S : Type 0} (k : SinkOf S) (w : Run) (now : Outside) : Typ
   pub gave : List ℕ
   pub since : Exchange w.start now took gave [] (AsksPassed k w took gave)
   pub within : length took ≤ w.cap
-  pub part : (all : List ℕ) → w.start.rest ≡ Some all → PartBy k w.book w.apid took gave
+  pub part : (all : List ℕ) → w.start.rest ≡ Some all → PartBy k w.texts w.apid took gave
   pub for_some : IsPartOfSome k gave
 
 -- a write failed

@@ -5,13 +5,12 @@ use Rattle.port_122.specs.Outside.{Outside, Rose, NoFewerFaults}
 use Rattle.base_122.specs.Sizes.{first_block}
 use Rattle.base_122.specs.Ranges.{IsGeometryInRange}
 use Rattle.base_122.specs.declared.geometry.Geometry.{Geometry}
-use Rattle.base_122.specs.declared.book.Book.{Book}
 use Rattle.wave_defs.specs.Held.{blocks_in}
 use Rattle.bit_pipe.specs.declared.fault.InFault.TheVariants as in_faults
 use Rattle.bit_pipe.specs.Sources.{Plainly}
+use Rattle.segment_defs.specs.TextWish.{TextWish, text_read}
 use Rattle.segment_defs.specs.declared.head.SegmentHead.{SegmentHead}
 use Rattle.segment_defs.specs.Head.{IsHead}
-use Rattle.segment_defs.specs.TextOutcome.{text_outcome}
 use Rattle.packet_assembly.specs.declared.note.SegmentStart.{SegmentStart}
 use Rattle.packet_assembly.specs.Assembling.{Assembling, last_index, is_closed}
 use Rattle.packet_assembly.specs.Segments as assembling
@@ -138,26 +137,26 @@ EndsText old new a b (Err other) = ⊥
 abbrev pub cells_of : SegmentHead → List ℤ → List ℤ
 cells_of head cells = take (64 * head.blocks) cells
 
--- A segment's text was read whole, as these blocks with the codes of this book; its closing part was passed.
-pub record Accepts (book : Book) (old new : Outside) (a b : Assembling) (head : SegmentHead) (cells : List ℤ) : Type 0 where
+-- A segment's text was read whole, as these blocks; its closing part was passed.
+pub record Accepts (texts : TextWish) (old new : Outside) (a b : Assembling) (head : SegmentHead) (cells : List ℤ) : Type 0 where
   pub goes : assembling.Continues old new a b
   pub unheld : b.held ≡ None
   pub closed : is_closed b.state.last ≡ true
   pub some : List ℕ
-  pub holds : text_outcome book head some ≡ Ok (blocks_in (cells_of head cells))
+  pub holds : text_read texts head some ≡ Ok (blocks_in (cells_of head cells))
   pub if_known : (rest : List ℕ) → old.rest ≡ Some rest →
-      ((text_tail a rest).ends ≡ Plainly) × (text_outcome book head (text_tail a rest).octets ≡ Ok (blocks_in (cells_of head cells)))
+      ((text_tail a rest).ends ≡ Plainly) × (text_read texts head (text_tail a rest).octets ≡ Ok (blocks_in (cells_of head cells)))
 
 -- It breaks off, or it is refused.
-pub record Refuses (book : Book) (old new : Outside) (a b : Assembling) (head : SegmentHead) : Type 0 where
+pub record Refuses (texts : TextWish) (old new : Outside) (a b : Assembling) (head : SegmentHead) : Type 0 where
   pub goes : assembling.Continues old new a b
-  pub if_known : (rest : List ℕ) → old.rest ≡ Some rest → (text_tail a rest).ends ≡ Plainly → IsErr (text_outcome book head (text_tail a rest).octets)
+  pub if_known : (rest : List ℕ) → old.rest ≡ Some rest → (text_tail a rest).ends ≡ Plainly → IsErr (text_read texts head (text_tail a rest).octets)
 
-abbrev pub ReadsText : Book → (old new : Outside) (a b : Assembling) (head : SegmentHead) (cells : List ℤ) → Result Bool DecodeFault → Type 0
-ReadsText book old new a b head cells (Ok true) = Accepts book old new a b head cells
-ReadsText book old new a b head cells (Ok false) = Refuses book old new a b head
-ReadsText book old new a b head cells (Err ReadFault) = HasFailed old new a b
-ReadsText book old new a b head cells (Err other) = ⊥
+abbrev pub ReadsText : TextWish → (old new : Outside) (a b : Assembling) (head : SegmentHead) (cells : List ℤ) → Result Bool DecodeFault → Type 0
+ReadsText texts old new a b head cells (Ok true) = Accepts texts old new a b head cells
+ReadsText texts old new a b head cells (Ok false) = Refuses texts old new a b head
+ReadsText texts old new a b head cells (Err ReadFault) = HasFailed old new a b
+ReadsText texts old new a b head cells (Err other) = ⊥
 
 -- the n blocks of a segment were passed: put if it was accepted, otherwise lost
 abbrev pub segment_values : Bool → List ℤ → ℕ → Option (List ℤ)

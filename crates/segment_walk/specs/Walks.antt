@@ -14,6 +14,7 @@ use Rattle.stream_defs.specs.Marks.{Marks, ended_at}
 use Rattle.packet_assembly.specs.Assembling.{Assembling}
 use Rattle.packet_assembly.specs.Segments.{IsValidEnded, IsValidLong}
 use Rattle.packet_assembly.specs.Readings.{IsReadOut}
+use Rattle.segment_defs.specs.TextWish.{text_wish}
 use Rattle.segment_walk.specs.declared.engine.Walked.{Walked}
 use Rattle.segment_walk.specs.declared.ending.DecodeFault.{DecodeFault}
 use Rattle.segment_walk.specs.declared.ending.DecodeFault.TheVariants.{ReadFault, WriteFault, NoSegment, TooManyPixels, LongInput, Memory}
@@ -77,7 +78,7 @@ pub record HasPassedAll {S : Type 0} (k : SinkOf S) (w : Run) (now : Outside) (i
   pub current : IsCurrent k p
   pub all : passed_in p ≡ blocks_passed image (end_of (kept_in w.apid took))
   pub for_some : IsPartOfSome k gave
-  pub if_known : (every : List ℕ) → w.start.rest ≡ Some every → (received : Numbers) × ReceivedIn (holds_after w.book) w.apid took received
+  pub if_known : (every : List ℕ) → w.start.rest ≡ Some every → (received : Numbers) × ReceivedIn (holds_after w.texts) w.apid took received
       × Follows k p (blocks_with image received) gave
 
 abbrev pub RunsWalk : {S : Type 0} → SinkOf S → Run → Outside → Assembling → Walking S → Result (Unit {0}) DecodeFault → Type 0
@@ -104,14 +105,14 @@ pub record IsWalked {S : Type 0} (k : SinkOf S) (wish : DecodeWish) (start new :
   pub written : walked.done.written ≡ height walked.done.geometry (begun_in wish.apid took)
   pub rows : walked.done.damage.rows ≡ walked.done.written
   pub valid : k.IsValid walked.sink (placed walked.done.geometry) (blocks_passed walked.done.geometry (end_of (kept_in wish.apid took)))
-  pub if_known : (all : List ℕ) → start.rest ≡ Some all → (received : Numbers) × ReceivedIn (holds_after wish.book) wish.apid took received
+  pub if_known : (all : List ℕ) → start.rest ≡ Some all → (received : Numbers) × ReceivedIn (holds_after (text_wish wish)) wish.apid took received
       × k.Follows walked.sink (placed walked.done.geometry) (blocks_with walked.done.geometry received)
       (blocks_passed walked.done.geometry (end_of (kept_in wish.apid took))) gave
       × IsDamageOf walked.done.geometry received (begun_in wish.apid took) walked.done.damage
 
 -- a part of what the sink gives for the octets that were taken, if the port reports what is left
 abbrev pub GivesPart : {S : Type 0} → SinkOf S → DecodeWish → Outside → (took gave : List ℕ) → Type 0
-GivesPart k wish start took gave = (all : List ℕ) → start.rest ≡ Some all → PartBy k wish.book wish.apid took gave
+GivesPart k wish start took gave = (all : List ℕ) → start.rest ≡ Some all → PartBy k (text_wish wish) wish.apid took gave
 
 -- The first head that reports too many pixels reports this number, and if the packets report the height from the first head on, nothing
 -- is given.
@@ -133,7 +134,7 @@ WalkAnswers k wish old new took gave (Err Memory) = gave ≡ []
 
 -- the run that a wish asks for, if it begins here
 abbrev pub run_of : DecodeWish → Outside → Run
-run_of wish start = record { apid = wish.apid; cap = wish.octets; pixels = wish.pixels; book = wish.book; start = start }
+run_of wish start = record { apid = wish.apid; cap = wish.octets; pixels = wish.pixels; texts = text_wish wish; start = start }
 
 -- One run over a port: what it took and gave, when, and why it ended so. However it ends, it takes at most the number of octets in the
 -- wish. At each read call the octets that were taken by then do not decide the answer, and the sink has taken at least the blocks that they

@@ -2,6 +2,7 @@
 ghost use Rattle.std.specs.Prelude.{◌≡◌, ◌≤◌, true, is_some, IfOk, IsTrue, vec_len};
 ghost use Rattle.base_122.specs.Ranges.{IsGeometryInRange};
 ghost use Rattle.plane_defs.specs.Codes.{is_book_sound};
+ghost use Rattle.segment_code.specs.Readers.{wish_of};
 ghost use Rattle.stream_defs.specs.Begun.{height};
 ghost use Rattle.segment_walk.specs.Steps.{walking, IsCurrent, PassesBlocks, missing};
 ghost use Rattle.segment_walk.specs.Rooms.{IsRoom};
@@ -34,7 +35,7 @@ pub struct Walked<S> {
 /// blocks of the tallest image; once a header reports it, the sink ends there.
 ///
 /// Segments are read with the wish's code book, which must be sound. With another book than the encoder's, segments are refused or give
-/// other blocks.
+/// other blocks. Their numbers are restored if that is wished; the same segments are received if it isn't.
 ///
 /// # Errors
 ///
@@ -128,7 +129,7 @@ fn pass_all<S: BlockSink, X: Port>(
     ensures passes { PassesAll (X.outside port.old) (X.outside port.new) result }
     ensures current { IfOk result (λ _. IsCurrent S.sink (walking walk.new)) }
     ensures image { IfOk result (λ _. is_some assembly.new.state.geometry ≡ true) }
-    ensures runs { (w : Run) → w.pixels ≡ room.old.pixels → w.book ≡ room.old.reader.tables.value.words.book →
+    ensures runs { (w : Run) → w.pixels ≡ room.old.pixels → w.texts ≡ wish_of room.old.reader →
         WalksIn S.sink w (X.outside port.old) assembly.old (walking walk.old) first → RunsWalk S.sink w (X.outside port.new) assembly.new (walking walk.new)
         result }
 {
@@ -164,7 +165,7 @@ fn take_segments<S: BlockSink, X: Port>(
     requires at { IsAt assembly.old (walking walk.old) first }
     requires room { IsRoom walk.old.geometry (vec_len room.old.blocks) (vec_len room.old.marks) }
     ensures takes { TakesAll S.sink (X.outside port.old) (X.outside port.new) assembly.old assembly.new (walking walk.old) (walking walk.new) result }
-    ensures runs { (w : Run) → w.pixels ≡ room.old.pixels → w.book ≡ room.old.reader.tables.value.words.book →
+    ensures runs { (w : Run) → w.pixels ≡ room.old.pixels → w.texts ≡ wish_of room.old.reader →
         WalksIn S.sink w (X.outside port.old) assembly.old (walking walk.old) first → RunsAll S.sink w (X.outside port.new) assembly.new (walking walk.new)
         result }
 {

@@ -3,6 +3,7 @@ ghost use Rattle.std.specs.Prelude.{◌≡◌, ◌≤◌, ◌*◌, ◌^◌, true
 ghost use Rattle.base_122.specs.Ranges.{IsGeometryInRange};
 ghost use Rattle.segment_defs.specs.Head.{IsHead};
 ghost use Rattle.segment_code.specs.Decoded.{DecodesSegment};
+ghost use Rattle.segment_code.specs.Readers.{wish_of};
 ghost use Rattle.segment_code.specs.Starts.{AreClear};
 ghost use Rattle.stream_defs.specs.Begun.{rows_reached};
 ghost use Rattle.packet_assembly.specs.Assembling.{Assembling};
@@ -21,7 +22,7 @@ use bit_pipe::{InFault, OctetIn, Part};
 use packet_assembly::{Assembly, SegmentStart};
 use port_122::{Failed, Port};
 use segment_code::{SegmentFault, SegmentReader, texts_end_so};
-use segment_defs::texts_are_read;
+use segment_defs::texts_read_as_wished;
 use segment_head::SegmentHead;
 
 /// Advances to the next segment, or to the end of the stream.
@@ -61,14 +62,14 @@ fn decode_first<I: OctetIn>(
     requires blocks { 64 * head.now.blocks ≤ length blocks.old }
     requires marks { head.now.blocks ≤ length marks.old }
     requires clear { AreClear (take (64 * head.now.blocks) blocks.old) }
-    ensures decodes { DecodesSegment I.source reader.now.tables.value.words.book head.now result text.old text.new (take (64 * head.now.blocks) blocks.new) }
+    ensures decodes { DecodesSegment I.source (wish_of reader.now) head.now result text.old text.new (take (64 * head.now.blocks) blocks.new) }
     ensures sizes { (length blocks.new ≡ length blocks.old) × (length marks.new ≡ length marks.old) }
 {
     let count = head.blocks as usize;
     reader.decode_into_clear(text, head, &mut blocks[..64 * count], &mut marks[..count])
 }
 
-// Reads the text of a segment with the room's code book into its first blocks. Returns false if it is refused or breaks off.
+// Reads the text of a segment with the room's reader into its first blocks. Returns false if it is refused or breaks off.
 fn read_text<X: Port>(
     port: &mut X,
     assembly: &mut Assembly,
@@ -82,7 +83,7 @@ fn read_text<X: Port>(
     ensures marks { vec_len room.new.marks ≡ vec_len room.old.marks }
     ensures pixels { room.new.pixels ≡ room.old.pixels }
     ensures reader { room.new.reader ≡ room.old.reader }
-    ensures reads { ReadsText room.old.reader.tables.value.words.book (X.outside port.old) (X.outside port.new) assembly.old assembly.new head.now
+    ensures reads { ReadsText (wish_of room.old.reader) (X.outside port.old) (X.outside port.new) assembly.old assembly.new head.now
         room.new.blocks.items result }
 {
     texts_end_so();
@@ -237,13 +238,13 @@ pub fn take_segment<S: BlockSink, X: Port>(
     ensures blocks { vec_len room.new.blocks ≡ vec_len room.old.blocks }
     ensures marks { vec_len room.new.marks ≡ vec_len room.old.marks }
     ensures pixels { room.new.pixels ≡ room.old.pixels }
-    ensures book { room.new.reader.tables.value.words.book ≡ room.old.reader.tables.value.words.book }
+    ensures texts { wish_of room.new.reader ≡ wish_of room.old.reader }
     ensures takes { TakesSegment S.sink (X.outside port.old) (X.outside port.new) assembly.old assembly.new (walking walk.old) (walking walk.new) result }
-    ensures runs { (w : Run) → w.pixels ≡ room.old.pixels → w.book ≡ room.old.reader.tables.value.words.book →
+    ensures runs { (w : Run) → w.pixels ≡ room.old.pixels → w.texts ≡ wish_of room.old.reader →
         WalksIn S.sink w (X.outside port.old) assembly.old (walking walk.old) start.now → RunsSegment S.sink w (X.outside port.new) assembly.new
         (walking walk.new) result }
 {
-    texts_are_read();
+    texts_read_as_wished();
     let Ok(()) = reach_segment(walk, port, start) else {
         return Err(DecodeFault::WriteFault);
     };

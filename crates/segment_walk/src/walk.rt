@@ -96,10 +96,13 @@ impl SegmentRoom {
     ghost use Rattle.std.specs.Prelude.{◌≡◌, ◌≤◌, ◌+◌, ◌*◌, false, take, IfOk, IsTrue, vec_len};
     ghost use Rattle.base_122.specs.Ranges.{IsGeometryInRange, IsWithin, rows_range};
     ghost use Rattle.plane_defs.specs.Codes.{is_book_sound};
+    ghost use Rattle.segment_defs.specs.TextWish.{text_wish};
+    ghost use Rattle.segment_code.specs.Readers.{wish_of};
     ghost use Rattle.segment_code.specs.Starts.{AreClear};
     ghost use Rattle.segment_walk.specs.Rooms.{IsRoom};
 
-    /// Takes the memory for the segments of an image, which are read with the wish's code book. It fails only if there is too little memory.
+    /// Takes the memory for the segments of an image, which are read with the wish's code book, and restored if that is wished. It fails only
+    /// if there is too little memory.
     pub fn new(
         alloc: Global,
         geometry: &Geometry,
@@ -110,12 +113,12 @@ impl SegmentRoom {
         requires book { IsTrue (is_book_sound wish.now.book) }
         ensures room { IfOk result (λ room. IsRoom geometry.now (vec_len room.blocks) (vec_len room.marks)) }
         ensures pixels { IfOk result (λ room. room.pixels ≡ wish.now.pixels) }
-        ensures book { IfOk result (λ room. room.reader.tables.value.words.book ≡ wish.now.book) }
+        ensures texts { IfOk result (λ room. wish_of room.reader ≡ text_wish wish.now) }
     {
         let count = geometry.blocks_of(0) as usize;
         let blocks = vec![in alloc; 0; 64 * count]?;
         let marks = vec![in alloc; 0; count]?;
-        let reader = SegmentReader::new(alloc, &wish.book)?;
+        let reader = SegmentReader::new(alloc, &wish.book, wish.restore)?;
         Ok(SegmentRoom {
             reader,
             blocks,

@@ -14,15 +14,15 @@ segments-init g c = record {
   at = c.requires.at;
   room = c.requires.room;
   pixels = refl;
-  book = refl;
+  texts = refl;
   faults =
       record { reads = omega arith; writes = omega arith; notes = omega arith };
-  run = λ w pixels book to. to;
+  run = λ w pixels texts to. to;
 }
 
 pub returns-in-Err-clause-runs : goal.returns-in-Err-clause-runs
-returns-in-Err-clause-runs g c w pixels book to = c.in-Err.ensures.runs w (pixels ∙ sym c.segments.invariant.pixels) (book ∙ sym c.segments.invariant.book)
-    (c.segments.invariant.run w pixels book to)
+returns-in-Err-clause-runs g c w pixels texts to = c.in-Err.ensures.runs w (pixels ∙ sym c.segments.invariant.pixels) (texts ∙ sym c.segments.invariant.texts)
+    (c.segments.invariant.run w pixels texts to)
 
 pub returns-in-Ok-None-clause-takes : goal.returns-in-Ok-None-clause-takes
 returns-in-Ok-None-clause-takes g c =
@@ -34,20 +34,20 @@ returns-in-Ok-None-clause-takes g c =
     (faults_then taken.faults (finds_faults c.take_segment.new.assembly c.find_next.new.assembly _ c.in-Ok-None.ensures)))
 
 pub returns-in-Ok-None-clause-runs : goal.returns-in-Ok-None-clause-runs
-returns-in-Ok-None-clause-runs g c w pixels book to =
+returns-in-Ok-None-clause-runs g c w pixels texts to =
     let taken = c.in-Ok.ensures.takes in
     let finds = rw c.in-Ok-None.field-0-is at c.in-Ok-None.ensures in
     run_ends g.S.BlockSink.sink w (g.X.Port.outside c.take_segment.new.port) (g.X.Port.outside c.find_next.new.port) c.take_segment.new.assembly
     c.find_next.new.assembly (walking c.take_segment.new.walk) taken.current taken.between
-    (c.in-Ok.ensures.runs w (pixels ∙ sym c.segments.invariant.pixels) (book ∙ sym c.segments.invariant.book) (c.segments.invariant.run w pixels book to))
+    (c.in-Ok.ensures.runs w (pixels ∙ sym c.segments.invariant.pixels) (texts ∙ sym c.segments.invariant.texts) (c.segments.invariant.run w pixels texts to))
     finds.ends.0 finds.ends.1
 
 pub returns-in-Err-find_next-clause-runs : goal.returns-in-Err-find_next-clause-runs
-returns-in-Err-find_next-clause-runs g c w pixels book to =
+returns-in-Err-find_next-clause-runs g c w pixels texts to =
     let taken = c.in-Ok.ensures.takes in
     find_breaks g.S.BlockSink.sink w (g.X.Port.outside c.take_segment.new.port) (g.X.Port.outside c.find_next.new.port) c.take_segment.new.assembly
     c.find_next.new.assembly (walking c.take_segment.new.walk) taken.current taken.between
-    (c.in-Ok.ensures.runs w (pixels ∙ sym c.segments.invariant.pixels) (book ∙ sym c.segments.invariant.book) (c.segments.invariant.run w pixels book to))
+    (c.in-Ok.ensures.runs w (pixels ∙ sym c.segments.invariant.pixels) (texts ∙ sym c.segments.invariant.texts) (c.segments.invariant.run w pixels texts to))
     c.in-Err-find_next.fault c.in-Err-find_next.ensures
 
 pub follow_found-requires-clause-current : goal.follow_found-requires-clause-current
@@ -83,15 +83,15 @@ segments-preserved g c =
       at = follows.at;
       room = room_shorter c.segments.invariant.room (shorter_then taken.geometry follows.shorter) c.in-Ok.ensures.blocks c.in-Ok.ensures.marks;
       pixels = pixels;
-      book = c.in-Ok.ensures.book ∙ c.segments.invariant.book;
+      texts = c.in-Ok.ensures.texts ∙ c.segments.invariant.texts;
       faults = faults_then c.segments.invariant.faults (faults_then taken.faults
           (finds_faults c.take_segment.new.assembly c.find_next.new.assembly _ c.in-Ok-Some.ensures));
-      run = λ w same book to.
+      run = λ w same texts to.
           found_in k w (g.X.Port.outside c.find_next.new.port) c.find_next.new.assembly (walking c.take_segment.new.walk) (walking c.follow_found.new.walk)
           c.in-Ok-Some.next found
           (found_run k w (g.X.Port.outside c.take_segment.new.port) (g.X.Port.outside c.find_next.new.port) c.take_segment.new.assembly
           c.find_next.new.assembly (walking c.take_segment.new.walk) c.in-Ok-Some.next taken.current taken.between
-          (c.in-Ok.ensures.runs w (same ∙ sym c.segments.invariant.pixels) (book ∙ sym c.segments.invariant.book) (c.segments.invariant.run w same book to))
+          (c.in-Ok.ensures.runs w (same ∙ sym c.segments.invariant.pixels) (texts ∙ sym c.segments.invariant.texts) (c.segments.invariant.run w same texts to))
           finds found)
           (subst (λ n. FollowsFound k n c.find_next.new.assembly c.in-Ok-Some.next (walking c.take_segment.new.walk) (walking c.follow_found.new.walk)
           is_done) (pixels ∙ sym same) c.in-Ok-follow_found.ensures);
@@ -108,7 +108,7 @@ returns-in-Err-follow_found-clause-takes g c =
     c.in-Err-follow_found.fault found c.in-Err-follow_found.ensures
 
 pub returns-in-Err-follow_found-clause-runs : goal.returns-in-Err-follow_found-clause-runs
-returns-in-Err-follow_found-clause-runs g c w same book to =
+returns-in-Err-follow_found-clause-runs g c w same texts to =
     let k = g.S.BlockSink.sink in
     let taken = c.in-Ok.ensures.takes in
     let finds = rw c.in-Ok-Some.field-0-is at c.in-Ok-Some.ensures in
@@ -118,7 +118,7 @@ returns-in-Err-follow_found-clause-runs g c w same book to =
     c.in-Ok-Some.next taken.current found
     (found_run k w (g.X.Port.outside c.take_segment.new.port) (g.X.Port.outside c.find_next.new.port) c.take_segment.new.assembly c.find_next.new.assembly
     (walking c.take_segment.new.walk) c.in-Ok-Some.next taken.current taken.between
-    (c.in-Ok.ensures.runs w (same ∙ sym c.segments.invariant.pixels) (book ∙ sym c.segments.invariant.book) (c.segments.invariant.run w same book to)) finds
+    (c.in-Ok.ensures.runs w (same ∙ sym c.segments.invariant.pixels) (texts ∙ sym c.segments.invariant.texts) (c.segments.invariant.run w same texts to)) finds
     found)
     c.in-Err-follow_found.fault (subst (λ n. FollowsFound k n c.find_next.new.assembly c.in-Ok-Some.next (walking c.take_segment.new.walk)
     (walking c.follow_found.new.walk) (failed c.in-Err-follow_found.fault)) (pixels ∙ sym same) c.in-Err-follow_found.ensures)

@@ -1,5 +1,6 @@
 use Rattle.std.proofs.Common.{◌≡◌, ◌-◌, vec_len}
 use Rattle.port_122.specs.Outside.{NoFewerFaults}
+use Rattle.segment_code.specs.Readers.{wish_of}
 use Rattle.segment_walk.specs.Steps.{walking, IsCurrent, passed_in, total_in}
 use Rattle.segment_walk.specs.Rooms.{IsRoom}
 use Rattle.segment_walk.specs.Segments.{IsAt}
@@ -12,9 +13,9 @@ invariant-segments g l = record {
   at : IsAt l.assembly (walking l.walk) l.start;
   room : IsRoom l.walk.geometry (vec_len l.room.blocks) (vec_len l.room.marks);
   pixels : l.room.pixels ≡ l.initial.room.pixels;
-  book : l.room.reader.tables.value.words.book ≡ l.initial.room.reader.tables.value.words.book;
+  texts : wish_of l.room.reader ≡ wish_of l.initial.room.reader;
   faults : NoFewerFaults (g.X.Port.outside l.initial.port) (g.X.Port.outside l.port);
-  run : (w : Run) → w.pixels ≡ l.initial.room.pixels → w.book ≡ l.initial.room.reader.tables.value.words.book →
+  run : (w : Run) → w.pixels ≡ l.initial.room.pixels → w.texts ≡ wish_of l.initial.room.reader →
       WalksIn g.S.BlockSink.sink w (g.X.Port.outside l.initial.port) l.initial.assembly (walking l.initial.walk) l.initial.start →
       WalksIn g.S.BlockSink.sink w (g.X.Port.outside l.port) l.assembly (walking l.walk) l.start;
 }

@@ -96,7 +96,7 @@ returns-in-Err-pass_all g c =
     walk_fails k c.args.wish.now (g.X.Port.outside c.args.port.now) (g.X.Port.outside c.find_next.new.port) (g.X.Port.outside c.pass_all.new.port)
     faults.reads faults.writes
     c.in-Err-pass_all.fault c.in-Err-pass_all.ensures.passes (c.in-Err-pass_all.ensures.runs w (sym c.in-Ok-new.ensures.pixels)
-    (sym c.in-Ok-new.ensures.book) arrives)
+    (sym c.in-Ok-new.ensures.texts) arrives)
 
 pub returns : goal.returns
 returns g c =
@@ -110,5 +110,5 @@ returns g c =
     subst (λ walked. Walks k c.args.wish.now (g.X.Port.outside c.args.port.now) (g.X.Port.outside c.pass_all.new.port) (Ok walked)) (sym c.finish.ensures)
     (walk_done k c.args.wish.now (g.X.Port.outside c.args.port.now) (g.X.Port.outside c.pass_all.new.port) (walking c.pass_all.new.walk)
     c.in-Some-geometry.geometry c.pass_all.new.assembly.framing c.framing.result
-    (c.in-Ok-pass_all.ensures.runs w (sym c.in-Ok-new.ensures.pixels) (sym c.in-Ok-new.ensures.book) arrives c.in-Some-geometry.geometry
+    (c.in-Ok-pass_all.ensures.runs w (sym c.in-Ok-new.ensures.pixels) (sym c.in-Ok-new.ensures.texts) arrives c.in-Some-geometry.geometry
     (sym c.geometry-2.ensures.current ∙ c.in-Some-geometry.is)) c.framing.ensures.found)
