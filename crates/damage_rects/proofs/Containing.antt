@@ -6,6 +6,7 @@ use Rattle.base_122.specs.Setting.{image_geometry}
 use Rattle.base_122.specs.declared.geometry.Geometry.{Geometry}
 use Rattle.base_122.specs.declared.setting.Setting.{Setting}
 use Rattle.base_122.specs.declared.wish.DecodeWish.{DecodeWish}
+use Rattle.segment_defs.specs.TextWish.{TextWish}
 use Rattle.segment_code.specs.ShortTexts.{TextsAreShort}
 use Rattle.stream_defs.specs.Begun.{begun_in, height}
 use Rattle.stream_defs.specs.Fates.{geometry_in}
@@ -16,7 +17,7 @@ use Rattle.rect_defs.specs.RectLaws.{SameOutsideRects}
 use Rattle.segment_walk.specs.declared.ending.DecodeDone.{DecodeDone}
 use Rattle.segment_walk.specs.Answers.{IsPicture}
 use Rattle.segment_walk.specs.Runs.{holds_after}
-use Rattle.segment_walk.specs.Images.{some_output, BeginsOne, reported, AreSome}
+use Rattle.segment_walk.specs.Images.{texts_for, some_output, BeginsOne, reported, AreSome}
 use Rattle.segment_walk.proofs.SublistPictures.{begun_few, geometry_there}
 use Rattle.damage_rects.specs.Containment.{GivesInRects, GivesAlikeInRects}
 use Rattle.damage_rects.proofs.SomePackets.{in_rects, sublist_in_rects}
@@ -39,7 +40,7 @@ decoded_in_rects wish start new took gave every done is if_known =
 pub decoded_alike : TextsAreShort → (wish : DecodeWish) (start new : Outside) (took gave every : List ℕ) (done : DecodeDone) (s : Setting) (rows : ℕ)
     (x : ℕ → ℕ → ℤ) (parts : ℕ → List ℕ) →
     IsPicture wish start new took gave done → start.rest ≡ Some every → wish.apid ≡ s.apid → wish.book ≡ s.book → took ≡ some_output s rows x parts →
-    AreSome s rows x parts → BeginsOne s rows parts → GivesAlikeInRects s rows x parts gave done
+    AreSome s rows x parts → BeginsOne s rows parts → GivesAlikeInRects wish.restore s rows x parts gave done
 decoded_alike short wish start new took gave every done s rows x parts is if_known apid book took_is are begins =
     let t = is.if_known every if_known in
     let received = t.0 in
@@ -49,8 +50,10 @@ decoded_alike short wish start new took gave every done s rows x parts is if_kno
     let there : geometry_in s.apid octets ≡ Some done.geometry = subst (λ octets. geometry_in s.apid octets ≡ Some done.geometry) took_is
     (subst (λ n. geometry_in n took ≡ Some done.geometry) apid is.geometry) in
     let same : done.geometry ≡ reported s rows parts = same_Some _ _ (sym there ∙ geometry_there short s rows x parts are begins) in
-    let mine : ReceivedIn (holds_after s.book) s.apid octets received = subst (λ octets. ReceivedIn (holds_after s.book) s.apid octets received) took_is
-    (subst (λ n. ReceivedIn (holds_after s.book) n took received) apid (subst (λ b. ReceivedIn (holds_after b) wish.apid took received) book t.1)) in
+    let texts : TextWish = texts_for s wish.restore in
+    let mine : ReceivedIn (holds_after texts) s.apid octets received = subst (λ octets. ReceivedIn (holds_after texts) s.apid octets received) took_is
+    (subst (λ n. ReceivedIn (holds_after texts) n took received) apid
+    (subst (λ b. ReceivedIn (holds_after (record { book = b; restore = wish.restore })) wish.apid took received) book t.1)) in
     let written : done.written ≡ height done.geometry n = is.written ∙ ap (height done.geometry) begun_same in
     record {
       geometry = same;
@@ -61,5 +64,5 @@ decoded_alike short wish start new took gave every done s rows x parts is if_kno
           let whole_is = whole_picture (image_geometry s rows) whole in
           subst (λ (lines : ℕ). SameOutsideRects lines s.width (rects done.geometry received n) (picture done.geometry received n) whole_is) (sym written)
           (subst (λ (g : Geometry). SameOutsideRects (height g n) s.width (rects g received n) (picture g received n) whole_is) (sym same)
-          (sublist_in_rects short s rows x parts are received whole mine all_are n (begun_few short s rows x parts are begins)));
+          (sublist_in_rects short s rows x parts are wish.restore received whole mine all_are n (begun_few short s rows x parts are begins)));
     }

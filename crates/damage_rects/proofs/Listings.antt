@@ -27,7 +27,7 @@ use Rattle.segment_walk.specs.declared.ending.DecodeFault.TheVariants.{ReadFault
 use Rattle.segment_walk.specs.Runs.{Numbers, blocks_passed}
 use Rattle.segment_walk.specs.Sinks.{blocks_with}
 use Rattle.segment_walk.specs.Walks.{IsWalked, WalkAnswers, Walks}
-use Rattle.segment_walk.proofs.Endings.{found_as, silent_since, height_open, height_known, passed_open, passed_known}
+use Rattle.segment_walk.proofs.Endings.{as_they_are, found_as, silent_since, height_open, height_known, passed_open, passed_known}
 use Rattle.damage_rects.specs.declared.gaps.Gaps.{Gaps}
 use Rattle.damage_rects.specs.GapSinks.{HasKept, HasOpen, gap_sink, lost_in}
 use Rattle.damage_rects.specs.Listing.{AreLines, ListsRects, RectAnswers}
@@ -156,17 +156,18 @@ module _ (wish : DecodeWish) (old mid : Outside) (took gave : List ℕ) (walked 
 -- ---- the answers
 
 -- a fault ended it
-pub list_fails : (wish : DecodeWish) (old new : Outside) (fault : DecodeFault) → Walks gap_sink wish old new (Err fault) → ListsRects wish old new (Err fault)
+pub list_fails : (wish : DecodeWish) (old new : Outside) (fault : DecodeFault) → Walks gap_sink (as_they_are wish) old new (Err fault) →
+    ListsRects wish old new (Err fault)
 list_fails wish old new fault x = record {
   took = x.took;
   gave = [];
-  since = silent_since wish old new (Err fault) x (λ some. some.part);
+  since = silent_since (as_they_are wish) old new (Err fault) x (λ some. some.part);
   within =
       x.within;
   answer = by fault x.answer;
 }
   where
-    by : (fault : DecodeFault) → WalkAnswers gap_sink wish old new x.took x.gave (Err fault) → RectAnswers wish old new x.took [] (Err fault)
+    by : (fault : DecodeFault) → WalkAnswers gap_sink (as_they_are wish) old new x.took x.gave (Err fault) → RectAnswers wish old new x.took [] (Err fault)
     by ReadFault a = (a.0, refl)
     by WriteFault a = (a.0, a.1, inl refl)
     by NoSegment a = (a.0, a.1, refl)
@@ -175,12 +176,12 @@ list_fails wish old new fault x = record {
     by Memory a = refl
 
 -- memory for the gaps was refused
-pub list_refused : (wish : DecodeWish) (old new : Outside) (walked : Walked Gaps) → Walks gap_sink wish old new (Ok walked) →
+pub list_refused : (wish : DecodeWish) (old new : Outside) (walked : Walked Gaps) → Walks gap_sink (as_they_are wish) old new (Ok walked) →
     ListsRects wish old new (Err Memory)
 list_refused wish old new walked x = record {
   took = x.took;
   gave = [];
-  since = silent_since wish old new (Ok walked) x (λ some. some.part);
+  since = silent_since (as_they_are wish) old new (Ok walked) x (λ some. some.part);
   within =
       x.within;
   answer = refl;
@@ -195,29 +196,31 @@ lines_of walked gaps = rect_lines (flat_map (gap_rects walked.done.written walke
 
 -- what was found remains true after the lines
 found_later : {g : List ℕ} (wish : DecodeWish) (old mid new : Outside) (took gave : List ℕ) (walked : Walked Gaps) (gaps : List Gap) →
-    IsWalked gap_sink wish old mid took gave walked → AllGaps walked gaps → Exchange mid new [] g [] NoRead →
+    IsWalked gap_sink (as_they_are wish) old mid took gave walked → AllGaps walked gaps → Exchange mid new [] g [] NoRead →
     AreLines wish old new took (lines_of walked gaps) walked.done
 found_later wish old mid new took gave walked gaps found are out = record {
-  found = found_as false [] found (out_later wish.octets mid new took out found.out) (λ received follows. refl);
+  found = found_as false wish false [] found (out_later wish.octets mid new took out found.out) (λ received follows. refl);
   if_known = λ all if_known. let t = found.if_known all if_known in
-      (t.0, t.1, ap rect_lines (rects_are wish old mid took gave walked found t.0 gaps are t.2.kept));
+      (t.0, t.1, ap rect_lines (rects_are (as_they_are wish) old mid took gave walked found t.0 gaps are t.2.kept));
 }
 
 -- all lines were given
 pub list_done : {T E : Type 0} (wish : DecodeWish) (old mid new : Outside) (walked : Walked Gaps) (gaps : List Gap) (r : Result T E) → IsOk r →
-    Walks gap_sink wish old mid (Ok walked) → AllGaps walked gaps → WritesAll r mid new (lines_of walked gaps) → ListsRects wish old new (Ok walked.done)
+    Walks gap_sink (as_they_are wish) old mid (Ok walked) → AllGaps walked gaps → WritesAll r mid new (lines_of walked gaps) →
+    ListsRects wish old new (Ok walked.done)
 list_done wish old mid new walked gaps (Err e) is x are out = absurd (false≢true is)
 list_done wish old mid new walked gaps (Ok y) is x are out = record {
   took = x.took;
   gave = lines_of walked gaps;
-  since = since_out (silent_since wish old mid (Ok walked) x (λ some. some.part)) out;
+  since = since_out (silent_since (as_they_are wish) old mid (Ok walked) x (λ some. some.part)) out;
   within = x.within;
   answer = found_later wish old mid new x.took x.gave walked gaps x.answer are out;
 }
 
 -- or some of them
 pub list_cut : {T E : Type 0} (wish : DecodeWish) (old mid new : Outside) (walked : Walked Gaps) (gaps : List Gap) (r : Result T E) → IsErr r →
-    Walks gap_sink wish old mid (Ok walked) → AllGaps walked gaps → WritesAll r mid new (lines_of walked gaps) → ListsRects wish old new (Err WriteFault)
+    Walks gap_sink (as_they_are wish) old mid (Ok walked) → AllGaps walked gaps → WritesAll r mid new (lines_of walked gaps) →
+    ListsRects wish old new (Err WriteFault)
 list_cut wish old mid new walked gaps (Ok y) is x are out = absurd (false≢true is)
 list_cut wish old mid new walked gaps (Err e) is x are out =
     let n = out.1.0 in
@@ -225,7 +228,7 @@ list_cut wish old mid new walked gaps (Err e) is x are out =
     record {
       took = x.took;
       gave = take n (lines_of walked gaps);
-      since = since_out (silent_since wish old mid (Ok walked) x (λ some. some.part)) since;
+      since = since_out (silent_since (as_they_are wish) old mid (Ok walked) x (λ some. some.part)) since;
       within = x.within;
       answer = (
         rose_since x.since.faults.writes out.0,

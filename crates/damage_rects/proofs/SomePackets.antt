@@ -1,5 +1,5 @@
 -- Some packets of an image, and all of them, give pictures that are the same outside the rectangles.
-use Rattle.std.proofs.Common.{◌≡◌, ◌⊎◌, ◌≤◌, ℕ, ℤ, List, sym, ◌∙◌}
+use Rattle.std.proofs.Common.{◌≡◌, ◌⊎◌, ◌≤◌, ℕ, ℤ, Bool, List, sym, ◌∙◌}
 use Rattle.base_122.specs.Ranges.{IsGeometryInRange}
 use Rattle.base_122.specs.Setting.{image_geometry}
 use Rattle.base_122.specs.Sizes.{block_count}
@@ -14,7 +14,7 @@ use Rattle.rect_defs.specs.Rects.{rects}
 use Rattle.rect_defs.specs.RectLaws.{SameOutsideRects}
 use Rattle.rect_defs.proofs.RectReach.{stays}
 use Rattle.segment_walk.specs.Runs.{Numbers, holds_after}
-use Rattle.segment_walk.specs.Images.{AreWith, AreSome, reported, reported_rows, some_output}
+use Rattle.segment_walk.specs.Images.{texts_for, AreWith, AreSome, reported, reported_rows, some_output}
 use Rattle.segment_walk.proofs.SublistPictures.{all_shows, few_blocks, geometry_range, reported_is, with_all}
 
 -- whatever numbers the missing blocks have
@@ -23,8 +23,9 @@ pub in_rects : (g : Geometry) (received : Numbers) (numbers : ℕ → ℕ → �
 in_rects g received numbers n range are = stays g received n numbers (number_at g received) range (record { at = are.at })
 
 module _ (short : TextsAreShort) (s : Setting) (rows : ℕ) (x : ℕ → ℕ → ℤ) (parts : ℕ → List ℕ) (are : AreSome s rows x parts) where
-  module _ (received whole : Numbers) (some_are : ReceivedIn (holds_after s.book) s.apid (some_output s rows x parts) received)
-      (all_are : ReceivedIn (holds_after s.book) s.apid (output s rows x) whole) where
+  module _ (restore : Bool) (received whole : Numbers)
+      (some_are : ReceivedIn (holds_after (texts_for s restore)) s.apid (some_output s rows x parts) received)
+      (all_are : ReceivedIn (holds_after (texts_for s restore)) s.apid (output s rows x) whole) where
     -- whether the height is reported or not
     module _ (r n : ℕ) (is : (r ≡ rows) ⊎ ((s.rows ≡ 0) × (r ≡ 0))) (few : n ≤ block_count rows) where
       abbrev g : Geometry
@@ -32,12 +33,13 @@ module _ (short : TextsAreShort) (s : Setting) (rows : ℕ) (x : ℕ → ℕ →
 
       same_at : SameOutsideRects (height g n) s.width (rects g received n) (picture g received n) (whole_picture (image_geometry s rows) whole)
       same_at =
-          let range = geometry_range short s rows x parts are received whole some_are all_are r n is few in
-          let blocks = few_blocks short s rows x parts are received whole some_are all_are r n is few in
-          let there = in_rects g received (number_at g whole) n range (with_all short s rows x parts are received whole some_are all_are r n blocks) in
+          let range = geometry_range short s rows x parts are (texts_for s restore) received whole some_are all_are r n is few in
+          let blocks = few_blocks short s rows x parts are (texts_for s restore) received whole some_are all_are r n is few in
+          let there = in_rects g received (number_at g whole) n range
+          (with_all short s rows x parts are (texts_for s restore) received whole some_are all_are r n blocks) in
           record {
-            at = λ i j inside across none. sym (there.at i j inside across none) ∙ all_shows short s rows x parts are received whole some_are all_are
-                r n is few i j inside across;
+            at = λ i j inside across none. sym (there.at i j inside across none) ∙
+                all_shows short s rows x parts are (texts_for s restore) received whole some_are all_are r n is few i j inside across;
           }
 
     pub sublist_in_rects : (n : ℕ) → n ≤ block_count rows →

@@ -2,6 +2,7 @@
 use Rattle.std.specs.Prelude.{◌≡◌, ◌⊎◌, ◌≤◌, ℕ, List, [], length, take, false, None, Some, Result, Ok, Err}
 use Rattle.port_122.specs.Outside.{Outside, Exchange, Rose}
 use Rattle.base_122.specs.declared.wish.DecodeWish.{DecodeWish}
+use Rattle.segment_defs.specs.TextWish.{unrestored}
 use Rattle.packet_defs.specs.Streams.{left_over, has_bad_version}
 use Rattle.stream_defs.specs.Begun.{HasFewPixels, begun_in}
 use Rattle.stream_defs.specs.Fates.{geometry_in}
@@ -18,8 +19,8 @@ use Rattle.segment_walk.specs.Walks.{HasTooMany}
 
 -- For the octets that were taken the answer is a decoder's, and these are the lines of the rectangles that the missing blocks reach.
 pub record AreLines (wish : DecodeWish) (start new : Outside) (took lines : List ℕ) (done : DecodeDone) : Type 0 where
-  pub found : PictureBy false wish start new took [] done
-  pub if_known : (all : List ℕ) → start.rest ≡ Some all → (received : Numbers) × ReceivedIn (holds_after wish.book) wish.apid took received
+  pub found : PictureBy false (unrestored wish.book) wish start new took [] done
+  pub if_known : (all : List ℕ) → start.rest ≡ Some all → (received : Numbers) × ReceivedIn (holds_after (unrestored wish.book)) wish.apid took received
       × (lines ≡ rect_lines (rects done.geometry received (begun_in wish.apid took)))
 
 -- a prefix of the lines, for the octets that were taken to their end

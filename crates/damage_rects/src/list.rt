@@ -12,7 +12,8 @@ use std::alloc::Global;
 
 /// Takes the packets of an APID as `decode_packets` does and returns what it returns. It gives no row: after all is read, it gives a line
 /// `27-77 0-63` for each rectangle that missing blocks reach, rows first, then columns (docs/formats.md, "Picture and damage"). Segments
-/// are read with the wish's code book, which must be sound, as `decode_packets` reads them.
+/// are read with the wish's code book, which must be sound, as `decode_packets` reads them. The answer does not depend on whether numbers
+/// are to be restored.
 ///
 /// # Errors
 ///
@@ -27,7 +28,12 @@ pub fn list_rects<X: Port>(
     requires book { IsTrue (is_book_sound wish.now.book) }
     ensures { ListsRects wish.now (X.outside port.old) (X.outside port.new) result }
 {
-    let walked = match walk_segments::<Gaps, X>(alloc, port, wish) {
+    // Restored numbers would change no rectangle.
+    let wish = DecodeWish {
+        restore: false,
+        ..*wish
+    };
+    let walked = match walk_segments::<Gaps, X>(alloc, port, &wish) {
         Ok(walked) => walked,
         Err(fault) => return Err(fault),
     };

@@ -1,5 +1,5 @@
 -- A look at all packets of an image is its lowest band.
-use Rattle.std.proofs.Common.{◌≡◌, ◌<◌, ℕ, ℤ, List, refl, sym, ap, subst, ◌∙◌, arith, Some}
+use Rattle.std.proofs.Common.{◌≡◌, ◌<◌, ℕ, ℤ, Bool, List, refl, sym, ap, subst, ◌∙◌, arith, Some}
 use Rattle.std.proofs.lemmas.Option.{same_Some}
 use Rattle.port_122.specs.Outside.{Outside}
 use Rattle.base_122.specs.Setting.{image_geometry, sized}
@@ -8,6 +8,7 @@ use Rattle.base_122.specs.declared.geometry.Geometry.{Geometry}
 use Rattle.base_122.specs.declared.setting.Setting.{Setting}
 use Rattle.base_122.specs.declared.wish.DecodeWish.{DecodeWish}
 use Rattle.raster_rows.specs.Pixels.{clamped, raster_octets}
+use Rattle.segment_defs.specs.TextWish.{TextWish}
 use Rattle.segment_code.specs.ShortTexts.{TextsAreShort}
 use Rattle.segment_code.specs.Coded.{CodedTextsAreRead}
 use Rattle.stream_defs.specs.Begun.{begun_in, block_rows}
@@ -19,7 +20,7 @@ use Rattle.stream_defs.proofs.HeightPictures.{raster_same}
 use Rattle.stream_defs.proofs.PlacedLaws.{is_not_open, within_not}
 use Rattle.wave_defs.specs.Pyramid.{Pyramid, padded, pyramid}
 use Rattle.segment_walk.specs.declared.ending.DecodeDone.{DecodeDone}
-use Rattle.segment_walk.specs.Images.{IsImageFor, SendsAll}
+use Rattle.segment_walk.specs.Images.{texts_for, IsImageFor, SendsAll}
 use Rattle.segment_walk.specs.Runs.{Numbers, holds_after}
 use Rattle.picture_rows.proofs.SameImages.{block_same}
 use Rattle.segment_walk.proofs.SublistPictures.{sized_range}
@@ -29,8 +30,8 @@ use Rattle.quick_look.specs.Looks.{IsLook}
 use Rattle.quick_look.specs.LookLaws.{low_image}
 use Rattle.quick_look.proofs.LowBands.{first_is, low_is}
 
-module _ (short : TextsAreShort) (read : CodedTextsAreRead) (s : Setting) (rows : ℕ) (x : ℕ → ℕ → ℤ) (is : IsImageFor s rows x) (received : Numbers)
-    (received_is : ReceivedIn (holds_after s.book) s.apid (output s rows x) received) (sends : SendsAll s) where
+module _ (short : TextsAreShort) (read : CodedTextsAreRead) (s : Setting) (rows : ℕ) (x : ℕ → ℕ → ℤ) (is : IsImageFor s rows x) (restore : Bool)
+    (received : Numbers) (received_is : ReceivedIn (holds_after (texts_for s restore)) s.apid (output s rows x) received) (sends : SendsAll s) where
   abbrev g : Geometry
   g = image_geometry s rows
 
@@ -50,7 +51,7 @@ module _ (short : TextsAreShort) (read : CodedTextsAreRead) (s : Setting) (rows 
   look_is t k row column =
       let low = pyramid_with (number_at g received) c weights in
       let same = block_same (sized s rows) x (sized_range short s rows x is) is.height.0 is.pixels.at (number_at g received)
-      (number_is short s rows x is received received_is read sends) t k row column in
+      (number_is short s rows x is restore received received_is read sends) t k row column in
       let there : low.ll3 t k ≡ bands.ll3 t k = sym (first_is low t k) ∙ same.at 0 (omega arith) ∙ first_is bands t k in
       ap (clamped s.depth s.signed) (low_is g (number_at g received) t k ∙ there)
 
@@ -70,10 +71,11 @@ given_back short read wish start new took gave every done s rows x found if_know
     let size : done.geometry ≡ image_geometry s rows = same_Some _ _ (sym there ∙ geometry_reported short s rows x is) in
     let some : rows ≡ 0 → ⊥ = within_not rows is.height.0 in
     let all_rows : block_rows (image_geometry s rows) n ≡ block_count rows = rw (is_not_open rows some) refl in
-    let mine : ReceivedIn (holds_after s.book) s.apid (output s rows x) received =
-    subst (λ octets. ReceivedIn (holds_after s.book) s.apid octets received) took_is (subst (λ n. ReceivedIn (holds_after s.book) n took received) apid
-    (subst (λ b. ReceivedIn (holds_after b) wish.apid took received) book t.1)) in
+    let texts : TextWish = texts_for s wish.restore in
+    let mine : ReceivedIn (holds_after texts) s.apid (output s rows x) received =
+    subst (λ octets. ReceivedIn (holds_after texts) s.apid octets received) took_is (subst (λ n. ReceivedIn (holds_after texts) n took received) apid
+    (subst (λ b. ReceivedIn (holds_after (record { book = b; restore = wish.restore })) wish.apid took received) book t.1)) in
     found.look every if_known received t.1 ∙ ap (λ g. look_octets g received n) size
     ∙ ap (λ k. raster_octets s.depth k (block_count s.width) (look (image_geometry s rows) received)) all_rows
     ∙ raster_same s.depth (block_count rows) (block_count s.width) (look (image_geometry s rows) received) (low_image s rows x)
-    (look_is short read s rows x is received mine sends)
+    (look_is short read s rows x is wish.restore received mine sends)

@@ -6,7 +6,6 @@ use Rattle.std.proofs.lemmas.Nat.{div-mul-add}
 use Rattle.port_122.specs.Outside.{Outside}
 use Rattle.port_122.proofs.Stretches.{since_weaker}
 use Rattle.base_122.specs.Sizes.{block_count}
-use Rattle.base_122.specs.declared.book.Book.{Book}
 use Rattle.base_122.specs.declared.geometry.Geometry.{Geometry}
 use Rattle.base_122.specs.declared.wish.DecodeWish.{DecodeWish}
 use Rattle.base_122.proofs.SizeBounds.{three-le-block_count}
@@ -20,6 +19,7 @@ use Rattle.stream_defs.specs.Picture.{number_at}
 use Rattle.stream_defs.proofs.PlacedLaws.{is_open, is_not_open}
 use Rattle.stream_defs.proofs.SettledLaws.{rows_rise}
 use Rattle.packet_assembly.proofs.Images.{image_wide}
+use Rattle.segment_defs.specs.TextWish.{TextWish, text_wish}
 use Rattle.segment_walk.specs.declared.engine.Walked.{Walked}
 use Rattle.segment_walk.specs.declared.ending.DecodeFault.{DecodeFault}
 use Rattle.segment_walk.specs.declared.ending.DecodeFault.TheVariants.{ReadFault, WriteFault, NoSegment, TooManyPixels, LongInput, Memory}
@@ -93,8 +93,8 @@ module _ (apid : ℕ) (taken : List ℕ) (g : Geometry) (geometry : geometry_in 
 
 -- ---- what is given
 
-prompt_by : (book : Book) (apid : ℕ) (taken given : List ℕ) → PassedBy look_sink book apid taken given → PromptLook book apid taken given
-prompt_by book apid taken given passed = record {
+prompt_by : (texts : TextWish) (apid : ℕ) (taken given : List ℕ) → PassedBy look_sink texts apid taken given → PromptLook texts apid taken given
+prompt_by texts apid taken given passed = record {
   none = passed.none;
   some = λ g received there are.
       let x = passed.some g received there are in
@@ -102,8 +102,8 @@ prompt_by book apid taken given passed = record {
       (k, rows_within apid taken g there x.0 x.1, rows_settled apid taken g there _ x.0 x.2, x.3 ∙ shown_rows g received k);
 }
 
-prefix_by : (book : Book) (apid : ℕ) (taken given : List ℕ) → PartBy look_sink book apid taken given → PrefixLook book apid taken given
-prefix_by book apid taken given part = record {
+prefix_by : (texts : TextWish) (apid : ℕ) (taken given : List ℕ) → PartBy look_sink texts apid taken given → PrefixLook texts apid taken given
+prefix_by texts apid taken given part = record {
   none = part.none;
   some = λ g received there are.
       let x = part.some g received there are in
@@ -114,18 +114,19 @@ prefix_by book apid taken given part = record {
 
 asks_by : (wish : DecodeWish) (old : Outside) (took gave : List ℕ) (i j : ℕ) → AsksPassed look_sink (run_of wish old) took gave i j →
     LookAsks wish old took gave i j
-asks_by wish old took gave i j asks = (asks.0, asks.1, λ all if_known. prompt_by wish.book wish.apid (take i took) (take j gave) (asks.2 all if_known))
+asks_by wish old took gave i j asks = (asks.0, asks.1, λ all if_known. prompt_by (text_wish wish) wish.apid (take i took) (take j gave) (asks.2 all if_known))
 
 -- ---- the answers
 
 is_look : (wish : DecodeWish) (old new : Outside) (took gave : List ℕ) (walked : Walked LookRow) → IsWalked look_sink wish old new took gave walked →
     IsLook wish old new took gave walked.done
 is_look wish old new took gave walked x = record {
-  found = found_as false [] x x.out (λ received follows. refl);
+  found = found_as false wish wish.restore [] x x.out (λ received follows. refl);
   look = λ all if_known received are.
       let t = x.if_known all if_known in
       let g = walked.done.geometry in
-      let same : t.0 ≡ received = λ i index. both_report wish.book (kept_in wish.apid took) index (t.0 index) (received index) (t.1.at index) (are.at index)
+      let same : t.0 ≡ received = λ i index.
+      both_report (text_wish wish) (kept_in wish.apid took) index (t.0 index) (received index) (t.1.at index) (are.at index)
       i in
       let k : ℕ = blocks_passed g (end_of (kept_in wish.apid took)) / block_count g.width in
       t.2.gave_is ∙ shown_rows g t.0 k ∙ ap (look_rows g t.0) (all_rows wish.apid took g x.geometry)
@@ -151,9 +152,9 @@ looks wish old new walked x = given_so wish old new (Ok walked) (Ok walked.done)
 pub look_fails : (wish : DecodeWish) (old new : Outside) (fault : DecodeFault) → Walks look_sink wish old new (Err fault) → Looks wish old new (Err fault)
 look_fails wish old new fault x = given_so wish old new (Err fault) (Err fault) x (by fault x.answer)
   where
-    prefix : ((all : List ℕ) → old.rest ≡ Some all → PartBy look_sink wish.book wish.apid x.took x.gave) → (all : List ℕ) → old.rest ≡ Some all →
-        PrefixLook wish.book wish.apid x.took x.gave
-    prefix part all if_known = prefix_by wish.book wish.apid x.took x.gave (part all if_known)
+    prefix : ((all : List ℕ) → old.rest ≡ Some all → PartBy look_sink (text_wish wish) wish.apid x.took x.gave) → (all : List ℕ) → old.rest ≡ Some all →
+        PrefixLook (text_wish wish) wish.apid x.took x.gave
+    prefix part all if_known = prefix_by (text_wish wish) wish.apid x.took x.gave (part all if_known)
 
     by : (fault : DecodeFault) → WalkAnswers look_sink wish old new x.took x.gave (Err fault) → LookAnswers wish old new x.took x.gave (Err fault)
     by ReadFault a = (a.0, prefix a.1)

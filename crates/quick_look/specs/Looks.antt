@@ -1,9 +1,9 @@
 -- How a look ends, by what it took and gave. This project's own.
 use Rattle.std.specs.Prelude.{◌≡◌, ◌≤◌, ℕ, List, [], length, take, false, None, Some, Result, Ok, Err}
 use Rattle.port_122.specs.Outside.{Outside, Exchange, Rose}
-use Rattle.base_122.specs.declared.book.Book.{Book}
 use Rattle.base_122.specs.declared.geometry.Geometry.{Geometry}
 use Rattle.base_122.specs.declared.wish.DecodeWish.{DecodeWish}
+use Rattle.segment_defs.specs.TextWish.{TextWish, text_wish}
 use Rattle.packet_defs.specs.Streams.{left_over, has_bad_version}
 use Rattle.stream_defs.specs.Begun.{HasFewPixels, begun_in, block_rows}
 use Rattle.stream_defs.specs.Fates.{geometry_in, state_after}
@@ -22,27 +22,27 @@ use Rattle.quick_look.specs.Look.{look_rows, look_octets}
 
 -- What is given once these octets are taken: nothing without a geometry, otherwise the first rows of the look at the segments that are
 -- received, at least one for each whole block row among the blocks that these octets settle.
-pub record PromptLook (book : Book) (apid : ℕ) (taken given : List ℕ) : Type 0 where
+pub record PromptLook (texts : TextWish) (apid : ℕ) (taken given : List ℕ) : Type 0 where
   pub none : geometry_in apid taken ≡ None → given ≡ []
-  pub some : (g : Geometry) (received : Numbers) → geometry_in apid taken ≡ Some g → ReceivedIn (holds_after book) apid taken received →
+  pub some : (g : Geometry) (received : Numbers) → geometry_in apid taken ≡ Some g → ReceivedIn (holds_after texts) apid taken received →
       (k : ℕ) × (k ≤ block_rows g (begun_in apid taken)) × (block_rows_before g (settled_blocks (state_after apid taken) received) ≤ k)
       × (given ≡ look_rows g received k)
 
 -- a prefix of the look for the octets that were taken; nothing without a geometry
-pub record PrefixLook (book : Book) (apid : ℕ) (taken given : List ℕ) : Type 0 where
+pub record PrefixLook (texts : TextWish) (apid : ℕ) (taken given : List ℕ) : Type 0 where
   pub none : geometry_in apid taken ≡ None → given ≡ []
-  pub some : (g : Geometry) (received : Numbers) → geometry_in apid taken ≡ Some g → ReceivedIn (holds_after book) apid taken received →
+  pub some : (g : Geometry) (received : Numbers) → geometry_in apid taken ≡ Some g → ReceivedIn (holds_after texts) apid taken received →
       (n : ℕ) × (given ≡ take n (look_octets g received (begun_in apid taken)))
 
 -- For the octets that were taken the answer is a decoder's, and what is given is the whole look at the segments that are received in them.
 pub record IsLook (wish : DecodeWish) (start new : Outside) (took gave : List ℕ) (done : DecodeDone) : Type 0 where
-  pub found : PictureBy false wish start new took [] done
-  pub look : (all : List ℕ) → start.rest ≡ Some all → (received : Numbers) → ReceivedIn (holds_after wish.book) wish.apid took received →
+  pub found : PictureBy false (text_wish wish) wish start new took [] done
+  pub look : (all : List ℕ) → start.rest ≡ Some all → (received : Numbers) → ReceivedIn (holds_after (text_wish wish)) wish.apid took received →
       gave ≡ look_octets done.geometry received (begun_in wish.apid took)
 
 -- a prefix of the look for the octets that were taken, if the port reports what is left
 abbrev pub GivesPrefix : DecodeWish → Outside → (took gave : List ℕ) → Type 0
-GivesPrefix wish start took gave = (all : List ℕ) → start.rest ≡ Some all → PrefixLook wish.book wish.apid took gave
+GivesPrefix wish start took gave = (all : List ℕ) → start.rest ≡ Some all → PrefixLook (text_wish wish) wish.apid took gave
 
 -- Why the call ended so. The answers exclude each other by what was taken, the end and the counts, except for faults of the port.
 abbrev pub LookAnswers : DecodeWish → (old new : Outside) (took gave : List ℕ) → Result DecodeDone DecodeFault → Type 0
@@ -60,7 +60,7 @@ LookAnswers wish old new took gave (Err Memory) = gave ≡ []
 abbrev pub LookAsks : DecodeWish → Outside → (took gave : List ℕ) → ℕ → ℕ → Type 0
 LookAsks wish start took gave i j =
     (j ≤ length gave) × AsksUnanswered wish.apid wish.octets wish.pixels took i j × ((all : List ℕ) → start.rest ≡ Some all →
-    PromptLook wish.book wish.apid (take i took) (take j gave))
+    PromptLook (text_wish wish) wish.apid (take i took) (take j gave))
 
 -- One run over a port: what it took and gave, when, and why it ended so. However it ends, it takes at most the number of octets in the
 -- wish. At each read call the octets that were taken by then do not decide the answer, and what is given is a prefix of the look for them,

@@ -10,7 +10,7 @@ pub const fn look_is_low()
 {}
 
 /// The look at all packets of an image, without a stop, a limit and a total, has the coefficients of LL3 of that image, each clamped, if
-/// segments are read with the setting's code book and this is sound.
+/// segments are read with the setting's code book and this is sound, whether numbers are restored or not.
 pub const fn looks_are_of_images()
     ensures { LooksOfImages }
 {

@@ -13,8 +13,8 @@ use std::alloc::Global;
 /// (docs/formats.md, "Packets", "Fates" and "Raster and made image"). The look is a raster with a row for each block row and a value for
 /// each block, P/8 in a row: the coefficient of LL3 of that block, or 0 if the block is missing, clamped to the range of a pixel. Each row
 /// is given as soon as the packets so far settle its blocks. If no header reports the height, the look has the block rows that the kept
-/// headers reach. Segments are read with the wish's code book, which must be sound, as `decode_packets` reads them. The memory is the blocks
-/// of one segment with a state each, and one row of the look.
+/// headers reach. Segments are read with the wish's code book, which must be sound, and their numbers are restored if that is wished, as
+/// `decode_packets` reads them. The memory is the blocks of one segment with a state each, and one row of the look.
 ///
 /// # Errors
 ///

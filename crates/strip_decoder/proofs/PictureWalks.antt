@@ -6,7 +6,6 @@ use Rattle.std.proofs.lemmas.Nat.{div_below, div-mul-add}
 use Rattle.port_122.specs.Outside.{Outside}
 use Rattle.port_122.proofs.Stretches.{since_weaker}
 use Rattle.base_122.specs.Sizes.{block_count}
-use Rattle.base_122.specs.declared.book.Book.{Book}
 use Rattle.base_122.specs.declared.geometry.Geometry.{Geometry}
 use Rattle.base_122.specs.declared.wish.DecodeWish.{DecodeWish}
 use Rattle.base_122.proofs.SizeBounds.{three-le-block_count}
@@ -29,6 +28,7 @@ use Rattle.picture_rows.specs.Prefixes.{rows_of}
 use Rattle.picture_rows.specs.Pictures.{picture_state, IsFresh}
 use Rattle.picture_rows.specs.Steps.{HasEnded, HasNextNumbers, PassesBlock}
 use Rattle.picture_rows.proofs.RowsOut.{prefix_within, no_rows, rows_through-most, rows_through-rises}
+use Rattle.segment_defs.specs.TextWish.{TextWish, text_wish}
 use Rattle.segment_walk.specs.declared.engine.Walked.{Walked}
 use Rattle.segment_walk.specs.declared.ending.DecodeFault.{DecodeFault}
 use Rattle.segment_walk.specs.declared.ending.DecodeFault.TheVariants.{ReadFault, WriteFault, NoSegment, TooManyPixels, LongInput, Memory}
@@ -239,8 +239,8 @@ module _ (apid : ℕ) (taken : List ℕ) (g : Geometry) (geometry : geometry_in 
           by true e through = omega (arith, none)
           by false e through = omega (arith, through, le)
 
-prompt_by : (book : Book) (apid : ℕ) (taken given : List ℕ) → PassedBy picture_sink book apid taken given → PromptBy book apid taken given
-prompt_by book apid taken given passed = record {
+prompt_by : (texts : TextWish) (apid : ℕ) (taken given : List ℕ) → PassedBy picture_sink texts apid taken given → PromptBy texts apid taken given
+prompt_by texts apid taken given passed = record {
   none = passed.none;
   some = λ g received there are.
       let x = passed.some g received there are in
@@ -253,8 +253,8 @@ prompt_by book apid taken given passed = record {
       );
 }
 
-pub prefix_by : (book : Book) (apid : ℕ) (taken given : List ℕ) → PartBy picture_sink book apid taken given → PrefixBy book apid taken given
-prefix_by book apid taken given part = record {
+pub prefix_by : (texts : TextWish) (apid : ℕ) (taken given : List ℕ) → PartBy picture_sink texts apid taken given → PrefixBy texts apid taken given
+prefix_by texts apid taken given part = record {
   none = part.none;
   some = λ g received there are.
       let x = part.some g received there are in
@@ -271,7 +271,7 @@ prefix_by book apid taken given part = record {
 
 asks_by : (wish : DecodeWish) (old : Outside) (took gave : List ℕ) (i j : ℕ) → AsksPassed picture_sink (run_of wish old) took gave i j →
     Asks wish old took gave i j
-asks_by wish old took gave i j asks = (asks.0, asks.1, λ all if_known. prompt_by wish.book wish.apid (take i took) (take j gave) (asks.2 all if_known))
+asks_by wish old took gave i j asks = (asks.0, asks.1, λ all if_known. prompt_by (text_wish wish) wish.apid (take i took) (take j gave) (asks.2 all if_known))
 
 -- ---- the answers
 
@@ -286,7 +286,7 @@ whole_rows apid taken g received gave there given =
 
 is_picture : (wish : DecodeWish) (old new : Outside) (took gave : List ℕ) (walked : Walked PictureSink) →
     IsWalked picture_sink wish old new took gave walked → IsPicture wish old new took gave walked.done
-is_picture wish old new took gave walked x = found_as true gave x x.out (λ received follows.
+is_picture wish old new took gave walked x = found_as true wish wish.restore gave x x.out (λ received follows.
     let g = walked.done.geometry in
     let n : ℕ = blocks_passed g (end_of (kept_in wish.apid took)) in
     whole_rows wish.apid took g received gave x.geometry (rows_given walked.sink.picture (placed g) (blocks_with g received) n gave x.valid follows))
@@ -312,9 +312,9 @@ pub decode_fails : (wish : DecodeWish) (old new : Outside) (fault : DecodeFault)
     Decodes wish old new (Err fault)
 decode_fails wish old new fault x = given_so wish old new (Err fault) (Err fault) x (by fault x.answer)
   where
-    prefix : ((all : List ℕ) → old.rest ≡ Some all → PartBy picture_sink wish.book wish.apid x.took x.gave) → (all : List ℕ) → old.rest ≡ Some all →
-        PrefixBy wish.book wish.apid x.took x.gave
-    prefix part all if_known = prefix_by wish.book wish.apid x.took x.gave (part all if_known)
+    prefix : ((all : List ℕ) → old.rest ≡ Some all → PartBy picture_sink (text_wish wish) wish.apid x.took x.gave) → (all : List ℕ) → old.rest ≡ Some all →
+        PrefixBy (text_wish wish) wish.apid x.took x.gave
+    prefix part all if_known = prefix_by (text_wish wish) wish.apid x.took x.gave (part all if_known)
 
     by : (fault : DecodeFault) → WalkAnswers picture_sink wish old new x.took x.gave (Err fault) → Answers wish old new x.took x.gave (Err fault)
     by ReadFault a = (a.0, prefix a.1)

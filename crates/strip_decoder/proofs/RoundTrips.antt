@@ -1,5 +1,5 @@
 -- The picture that is decoded from all packets of an image is the image.
-use Rattle.std.proofs.Common.{◌≡◌, ◌<◌, ℕ, ℤ, List, refl, sym, ap, subst, ◌∙◌, Some}
+use Rattle.std.proofs.Common.{◌≡◌, ◌<◌, ℕ, ℤ, Bool, List, refl, sym, ap, subst, ◌∙◌, Some}
 use Rattle.std.proofs.lemmas.Option.{same_Some}
 use Rattle.port_122.specs.Outside.{Outside}
 use Rattle.base_122.specs.Setting.{image_geometry, sized}
@@ -7,6 +7,7 @@ use Rattle.base_122.specs.declared.geometry.Geometry.{Geometry}
 use Rattle.base_122.specs.declared.setting.Setting.{Setting}
 use Rattle.base_122.specs.declared.wish.DecodeWish.{DecodeWish}
 use Rattle.packet_defs.specs.Streams.{framing}
+use Rattle.segment_defs.specs.TextWish.{TextWish}
 use Rattle.segment_code.specs.ShortTexts.{TextsAreShort}
 use Rattle.segment_code.specs.Coded.{CodedTextsAreRead}
 use Rattle.stream_defs.specs.Damage.{whole_missing}
@@ -20,21 +21,21 @@ use Rattle.stream_defs.specs.Received.{ReceivedIn}
 use Rattle.stream_defs.proofs.HeightPictures.{raster_same}
 use Rattle.segment_walk.specs.declared.ending.DecodeDone.{DecodeDone}
 use Rattle.segment_walk.specs.Answers.{IsPicture}
-use Rattle.segment_walk.specs.Images.{IsImageFor, SendsAll}
+use Rattle.segment_walk.specs.Images.{texts_for, IsImageFor, SendsAll}
 use Rattle.segment_walk.specs.Runs.{Numbers, holds_after}
 use Rattle.strip_decoder.specs.RoundTrip.{ArrivesSame, GivesBack}
 use Rattle.picture_rows.proofs.SameImages as images
 use Rattle.segment_walk.proofs.SublistPictures.{sized_range}
 use Rattle.segment_walk.proofs.WholeImages.{arrives_whole, geometry_reported, number_is}
 
-module _ (short : TextsAreShort) (read : CodedTextsAreRead) (s : Setting) (rows : ℕ) (x : ℕ → ℕ → ℤ) (is : IsImageFor s rows x) (received : Numbers)
-    (received_is : ReceivedIn (holds_after s.book) s.apid (output s rows x) received) (sends : SendsAll s) where
+module _ (short : TextsAreShort) (read : CodedTextsAreRead) (s : Setting) (rows : ℕ) (x : ℕ → ℕ → ℤ) (is : IsImageFor s rows x) (restore : Bool)
+    (received : Numbers) (received_is : ReceivedIn (holds_after (texts_for s restore)) s.apid (output s rows x) received) (sends : SendsAll s) where
   abbrev g : Geometry
   g = image_geometry s rows
 
   pixel_same : (i j : ℕ) → i < rows → j < s.width → whole_picture g received i j ≡ x i j
   pixel_same = images.pixel_same (sized s rows) x (sized_range short s rows x is) is.height.0 is.pixels.at (number_at g received)
-      (number_is short s rows x is received received_is read sends)
+      (number_is short s rows x is restore received received_is read sends)
 
   pub arrives_same : ArrivesSame s rows x received
   arrives_same = record { at = pixel_same; octets = raster_same s.depth rows s.width (whole_picture g received) x pixel_same }
@@ -55,15 +56,16 @@ decoded_back short read wish start new took gave every done s rows x found if_kn
     let high : done.geometry.rows ≡ rows = ap (λ (g : Geometry). g.rows) size in
     let some : done.geometry.rows ≡ 0 → ⊥ = λ none. within_not rows is.height.0 (sym high ∙ none) in
     let all_rows : height done.geometry n ≡ done.geometry.rows = rw (is_not_open done.geometry.rows some) refl in
-    let mine : ReceivedIn (holds_after s.book) s.apid (output s rows x) received =
-    subst (λ octets. ReceivedIn (holds_after s.book) s.apid octets received) took_is (subst (λ n. ReceivedIn (holds_after s.book) n took received) apid
-    (subst (λ b. ReceivedIn (holds_after b) wish.apid took received) book t.1)) in
-    let whole = arrives_whole short s rows x is received mine read in
+    let texts : TextWish = texts_for s wish.restore in
+    let mine : ReceivedIn (holds_after texts) s.apid (output s rows x) received =
+    subst (λ octets. ReceivedIn (holds_after texts) s.apid octets received) took_is (subst (λ n. ReceivedIn (holds_after texts) n took received) apid
+    (subst (λ b. ReceivedIn (holds_after (record { book = b; restore = wish.restore })) wish.apid took received) book t.1)) in
+    let whole = arrives_whole short s rows x is wish.restore received mine read in
     record {
       geometry = size;
       written = found.written ∙ all_rows ∙ high;
       missing = t.3.missing some ∙ ap (λ g. whole_missing g received) size ∙ whole.missing;
       framing_is = found.framing_is ∙ ap framing took_is ∙ whole.framing_is;
       same = λ sends. t.2 ∙ known_octets done.geometry received n some ∙ ap (λ g. whole_octets g received) size
-          ∙ (arrives_same short read s rows x is received mine sends).octets;
+          ∙ (arrives_same short read s rows x is wish.restore received mine sends).octets;
     }

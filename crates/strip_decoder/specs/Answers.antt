@@ -1,9 +1,9 @@
 -- How a decoder ends, by what it took and gave. This project's own.
 use Rattle.std.specs.Prelude.{◌≡◌, ◌≤◌, ℕ, List, [], length, take, false, None, Some, Result, Ok, Err}
 use Rattle.port_122.specs.Outside.{Outside, Exchange, Rose}
-use Rattle.base_122.specs.declared.book.Book.{Book}
 use Rattle.base_122.specs.declared.geometry.Geometry.{Geometry}
 use Rattle.base_122.specs.declared.wish.DecodeWish.{DecodeWish}
+use Rattle.segment_defs.specs.TextWish.{TextWish, text_wish}
 use Rattle.packet_defs.specs.Streams.{left_over, has_bad_version}
 use Rattle.stream_defs.specs.Begun.{HasFewPixels, begun_in, height}
 use Rattle.stream_defs.specs.Fates.{geometry_in, state_after}
@@ -22,22 +22,22 @@ use Rattle.segment_walk.specs.Answers.{IsPicture}
 
 -- What is given once these octets are taken: nothing without a geometry, else the first rows of the picture of the segments that
 -- are received, at least those that may be given.
-pub record PromptBy (book : Book) (apid : ℕ) (taken given : List ℕ) : Type 0 where
+pub record PromptBy (texts : TextWish) (apid : ℕ) (taken given : List ℕ) : Type 0 where
   pub none : geometry_in apid taken ≡ None → given ≡ []
-  pub some : (g : Geometry) (received : Numbers) → geometry_in apid taken ≡ Some g → ReceivedIn (holds_after book) apid taken received →
+  pub some : (g : Geometry) (received : Numbers) → geometry_in apid taken ≡ Some g → ReceivedIn (holds_after texts) apid taken received →
       (n : ℕ) × (n ≤ height g (begun_in apid taken)) × (ready (state_after apid taken) received ≤ n) × (given ≡ first_rows g received (begun_in apid taken) n)
 
 -- a prefix of the picture for the octets that were taken; nothing without a geometry
-pub record PrefixBy (book : Book) (apid : ℕ) (taken given : List ℕ) : Type 0 where
+pub record PrefixBy (texts : TextWish) (apid : ℕ) (taken given : List ℕ) : Type 0 where
   pub none : geometry_in apid taken ≡ None → given ≡ []
-  pub some : (g : Geometry) (received : Numbers) → geometry_in apid taken ≡ Some g → ReceivedIn (holds_after book) apid taken received →
+  pub some : (g : Geometry) (received : Numbers) → geometry_in apid taken ≡ Some g → ReceivedIn (holds_after texts) apid taken received →
       (n : ℕ) × (given ≡ take n (picture_octets g received (begun_in apid taken)))
 
 -- ---- the decoder
 
 -- a prefix of the picture for the octets that were taken, if the port reports what is left
 abbrev pub GivesPrefix : DecodeWish → Outside → (took gave : List ℕ) → Type 0
-GivesPrefix wish start took gave = (all : List ℕ) → start.rest ≡ Some all → PrefixBy wish.book wish.apid took gave
+GivesPrefix wish start took gave = (all : List ℕ) → start.rest ≡ Some all → PrefixBy (text_wish wish) wish.apid took gave
 
 -- Why the call ended so. The answers exclude each other by what was taken, the end and the counts, except for faults of the port.
 abbrev pub Answers : DecodeWish → (old new : Outside) (took gave : List ℕ) → Result DecodeDone DecodeFault → Type 0
@@ -55,7 +55,7 @@ Answers wish old new took gave (Err Memory) = gave ≡ []
 abbrev pub Asks : DecodeWish → Outside → (took gave : List ℕ) → ℕ → ℕ → Type 0
 Asks wish start took gave i j =
     (j ≤ length gave) × AsksUnanswered wish.apid wish.octets wish.pixels took i j × ((all : List ℕ) → start.rest ≡ Some all →
-    PromptBy wish.book wish.apid (take i took) (take j gave))
+    PromptBy (text_wish wish) wish.apid (take i took) (take j gave))
 
 -- One run over a port: what it took and gave, when, and why it ended so. However it ends, it takes at most the number of octets in the
 -- wish. At each read call the octets that were taken by then do not decide the answer, and what is given is a prefix of the picture for

@@ -1,5 +1,5 @@
 -- Losses are contained: no pixel outside the damaged rows depends on what was lost. This project's own.
-use Rattle.std.specs.Prelude.{◌≡◌, ◌≤◌, ◌<◌, ℕ, ℤ, false, List, Some}
+use Rattle.std.specs.Prelude.{◌≡◌, ◌≤◌, ◌<◌, ℕ, ℤ, Bool, false, List, Some}
 use Rattle.port_122.specs.Outside.{Outside}
 use Rattle.base_122.specs.Ranges.{IsGeometryInRange}
 use Rattle.base_122.specs.Setting.{image_geometry}
@@ -7,6 +7,7 @@ use Rattle.base_122.specs.Sizes.{block_count}
 use Rattle.base_122.specs.declared.geometry.Geometry.{Geometry}
 use Rattle.base_122.specs.declared.setting.Setting.{Setting}
 use Rattle.base_122.specs.declared.wish.DecodeWish.{DecodeWish}
+use Rattle.segment_defs.specs.TextWish.{text_wish}
 use Rattle.stream_defs.specs.declared.range.RowRange.{RowRange}
 use Rattle.stream_defs.specs.Begun.{begun_in, height}
 use Rattle.stream_defs.specs.Damage.{damage, is_covered, ranges}
@@ -17,7 +18,7 @@ use Rattle.stream_defs.specs.Received.{ReceivedIn}
 use Rattle.segment_walk.specs.declared.ending.DecodeDone.{DecodeDone}
 use Rattle.segment_walk.specs.Answers.{IsPicture}
 use Rattle.segment_walk.specs.Runs.{Numbers, holds_after}
-use Rattle.segment_walk.specs.Images.{AreWith, AreSome, BeginsOne, ReceivesThose, reported, some_output}
+use Rattle.segment_walk.specs.Images.{AreWith, AreSome, BeginsOne, ReceivesThose, reported, some_output, texts_for}
 
 -- Two images with this number of rows and columns have the same pixels in each row that is in none of these ranges.
 pub record SameOutside (rows width : ℕ) (ranges : List RowRange) (a b : ℕ → ℕ → ℤ) : Type 0 where
@@ -33,11 +34,11 @@ pub record LossesContained : Type 0 where
       geometry_in s.apid (some_output s rows x parts) ≡ Some (reported s rows parts)
   pub begun : (s : Setting) (rows : ℕ) (x : ℕ → ℕ → ℤ) (parts : ℕ → List ℕ) → AreSome s rows x parts → BeginsOne s rows parts →
       begun_in s.apid (some_output s rows x parts) ≤ block_count rows
-  pub those : (s : Setting) (rows : ℕ) (x : ℕ → ℕ → ℤ) (parts : ℕ → List ℕ) (received : Numbers) → AreSome s rows x parts →
-      ReceivedIn (holds_after s.book) s.apid (some_output s rows x parts) received → ReceivesThose s rows x parts received
-  pub sublists : (s : Setting) (rows : ℕ) (x : ℕ → ℕ → ℤ) (parts : ℕ → List ℕ) (received whole : Numbers) (n : ℕ) → AreSome s rows x parts →
-      n ≤ block_count rows →
-      ReceivedIn (holds_after s.book) s.apid (some_output s rows x parts) received → ReceivedIn (holds_after s.book) s.apid (output s rows x) whole →
+  pub those : (s : Setting) (rows : ℕ) (x : ℕ → ℕ → ℤ) (parts : ℕ → List ℕ) (restore : Bool) (received : Numbers) → AreSome s rows x parts →
+      ReceivedIn (holds_after (texts_for s restore)) s.apid (some_output s rows x parts) received → ReceivesThose s rows x parts received
+  pub sublists : (s : Setting) (rows : ℕ) (x : ℕ → ℕ → ℤ) (parts : ℕ → List ℕ) (restore : Bool) (received whole : Numbers) (n : ℕ) →
+      AreSome s rows x parts → n ≤ block_count rows → ReceivedIn (holds_after (texts_for s restore)) s.apid (some_output s rows x parts) received →
+      ReceivedIn (holds_after (texts_for s restore)) s.apid (output s rows x) whole →
       SameOutside (height (reported s rows parts) n) s.width (damage (reported s rows parts) received n)
       (picture (reported s rows parts) received n) (whole_picture (image_geometry s rows) whole)
 
@@ -48,20 +49,21 @@ known_damage done = ranges done.damage.rows done.damage.missing
 -- What is given is the picture of these segments, and whatever numbers the blocks of others have, no pixel outside the damage changes.
 pub record GivesContained (wish : DecodeWish) (took gave : List ℕ) (done : DecodeDone) : Type 0 where
   pub received : Numbers
-  pub received_is : ReceivedIn (holds_after wish.book) wish.apid took received
+  pub received_is : ReceivedIn (holds_after (text_wish wish)) wish.apid took received
   pub gave_is : gave ≡ picture_octets done.geometry received (begun_in wish.apid took)
   pub whatever : (numbers : ℕ → ℕ → ℤ) → AreWith done.geometry received numbers (begun_in wish.apid took) →
       SameOutside done.written done.geometry.width (known_damage done) (picture_with done.geometry numbers (begun_in wish.apid took))
       (picture done.geometry received (begun_in wish.apid took))
 
--- What is given is the picture of some packets of an image, and each pixel outside the damage is that of the picture for all of them.
-pub record GivesAlike (s : Setting) (rows : ℕ) (x : ℕ → ℕ → ℤ) (parts : ℕ → List ℕ) (gave : List ℕ) (done : DecodeDone) : Type 0 where
+-- What is given is the picture of some packets of an image, and each pixel outside the damage is that of the picture for all of them, of
+-- which the numbers are restored as well if these are.
+pub record GivesAlike (restore : Bool) (s : Setting) (rows : ℕ) (x : ℕ → ℕ → ℤ) (parts : ℕ → List ℕ) (gave : List ℕ) (done : DecodeDone) : Type 0 where
   pub geometry : done.geometry ≡ reported s rows parts
   pub received : Numbers
-  pub received_is : ReceivedIn (holds_after s.book) s.apid (some_output s rows x parts) received
+  pub received_is : ReceivedIn (holds_after (texts_for s restore)) s.apid (some_output s rows x parts) received
   pub those : ReceivesThose s rows x parts received
   pub gave_is : gave ≡ picture_octets done.geometry received (begun_in s.apid (some_output s rows x parts))
-  pub same : (whole : Numbers) → ReceivedIn (holds_after s.book) s.apid (output s rows x) whole →
+  pub same : (whole : Numbers) → ReceivedIn (holds_after (texts_for s restore)) s.apid (output s rows x) whole →
       SameOutside done.written s.width (known_damage done) (picture done.geometry received (begun_in s.apid (some_output s rows x parts)))
       (whole_picture (image_geometry s rows) whole)
 
@@ -73,4 +75,4 @@ pub record DecodedContained : Type 0 where
       (parts : ℕ → List ℕ) →
       IsPicture wish start new took gave done → start.rest ≡ Some all → wish.apid ≡ s.apid → wish.book ≡ s.book → took ≡ some_output s rows x parts →
       AreSome s rows x parts → BeginsOne s rows parts →
-      GivesAlike s rows x parts gave done
+      GivesAlike wish.restore s rows x parts gave done

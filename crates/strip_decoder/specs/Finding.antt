@@ -2,6 +2,7 @@
 use Rattle.std.specs.Prelude.{◌≡◌, ◌⊎◌, ◌≤◌, ℕ, List, [], length, take, false, None, Result, Ok, Err}
 use Rattle.port_122.specs.Outside.{Outside, Exchange, Rose}
 use Rattle.base_122.specs.declared.wish.DecodeWish.{DecodeWish}
+use Rattle.segment_defs.specs.TextWish.{unrestored}
 use Rattle.packet_defs.specs.Streams.{left_over, has_bad_version}
 use Rattle.stream_defs.specs.Begun.{HasFewPixels}
 use Rattle.stream_defs.specs.Fates.{geometry_in}
@@ -16,13 +17,13 @@ use Rattle.strip_decoder.specs.Lines.{damage_lines}
 
 -- For the octets that were taken the answer is a decoder's, and what is given is the lines of the damage.
 pub record IsDamage (wish : DecodeWish) (start new : Outside) (took gave : List ℕ) (done : DecodeDone) : Type 0 where
-  pub found : PictureBy false wish start new took [] done
+  pub found : PictureBy false (unrestored wish.book) wish start new took [] done
   pub lines : gave ≡ damage_lines done.damage
 
 -- a part of the lines of the damage, for the octets that were taken to their end
 pub record IsPart (wish : DecodeWish) (start new : Outside) (took gave : List ℕ) : Type 0 where
   pub done : DecodeDone
-  pub found : PictureBy false wish start new took [] done
+  pub found : PictureBy false (unrestored wish.book) wish start new took [] done
   pub some : ℕ
   pub lines : gave ≡ take some (damage_lines done.damage)
 

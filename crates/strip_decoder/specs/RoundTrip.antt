@@ -1,5 +1,5 @@
 -- The round trip: what is given if all packets of an image are decoded. This project's own.
-use Rattle.std.specs.Prelude.{◌≡◌, ◌<◌, ℕ, ℤ, List, [], None, Some}
+use Rattle.std.specs.Prelude.{◌≡◌, ◌<◌, ℕ, ℤ, Bool, List, [], None, Some}
 use Rattle.port_122.specs.Outside.{Outside}
 use Rattle.base_122.specs.Setting.{image_geometry}
 use Rattle.base_122.specs.declared.setting.Setting.{Setting}
@@ -10,7 +10,7 @@ use Rattle.stream_defs.specs.Picture.{whole_picture, whole_octets}
 use Rattle.stream_defs.specs.Received.{ReceivedIn}
 use Rattle.segment_walk.specs.declared.ending.DecodeDone.{DecodeDone}
 use Rattle.segment_walk.specs.Answers.{IsPicture}
-use Rattle.segment_walk.specs.Images.{IsImageFor, ArrivesWhole, SendsAll}
+use Rattle.segment_walk.specs.Images.{texts_for, IsImageFor, ArrivesWhole, SendsAll}
 use Rattle.segment_walk.specs.Runs.{Numbers, holds_after}
 
 -- the picture of these segments is the image
@@ -28,12 +28,12 @@ pub record GivesBack (s : Setting) (rows : ℕ) (x : ℕ → ℕ → ℤ) (gave 
   pub same : SendsAll s → gave ≡ raster_octets s.depth rows s.width x
 
 -- All packets of an image, in order, give it whole, whether they report its height first or last, and if nothing was omitted they give
--- exactly its pixels. The same holds if a decoder took them and gave a whole picture.
+-- exactly its pixels, whether numbers are restored or not. The same holds if a decoder took them and gave a whole picture.
 pub record RoundTrip : Type 0 where
-  pub whole : (s : Setting) (rows : ℕ) (x : ℕ → ℕ → ℤ) (received : Numbers) → IsImageFor s rows x →
-      ReceivedIn (holds_after s.book) s.apid (output s rows x) received → ArrivesWhole s rows x received
-  pub same : (s : Setting) (rows : ℕ) (x : ℕ → ℕ → ℤ) (received : Numbers) → IsImageFor s rows x → SendsAll s →
-      ReceivedIn (holds_after s.book) s.apid (output s rows x) received →
+  pub whole : (s : Setting) (rows : ℕ) (x : ℕ → ℕ → ℤ) (restore : Bool) (received : Numbers) → IsImageFor s rows x →
+      ReceivedIn (holds_after (texts_for s restore)) s.apid (output s rows x) received → ArrivesWhole s rows x received
+  pub same : (s : Setting) (rows : ℕ) (x : ℕ → ℕ → ℤ) (restore : Bool) (received : Numbers) → IsImageFor s rows x → SendsAll s →
+      ReceivedIn (holds_after (texts_for s restore)) s.apid (output s rows x) received →
       ArrivesSame s rows x received
   pub decoded : (wish : DecodeWish) (start new : Outside) (took gave all : List ℕ) (done : DecodeDone) (s : Setting) (rows : ℕ) (x : ℕ → ℕ → ℤ) →
       IsPicture wish start new took gave done → start.rest ≡ Some all → wish.apid ≡ s.apid → wish.book ≡ s.book → took ≡ output s rows x →

@@ -15,7 +15,8 @@ use std::alloc::Global;
 /// If no header reports the height, the rows are written that the block rows so far determine, whatever follows.
 ///
 /// Segments are read with the wish's code book, which must be sound. The packets do not carry it: with another book than the encoder's,
-/// segments are refused or give another picture.
+/// segments are refused or give another picture. If it is wished, the numbers that a segment gives in part are restored (docs/formats.md,
+/// "Restored numbers").
 ///
 /// # Errors
 ///

@@ -39,8 +39,9 @@ impl BlockSink for NoPicture {
 }
 
 /// Takes the packets of an APID as `decode_packets` does and returns what it returns. It gives no row: after all is read, it gives a line
-/// `first-last` for each range of damaged rows (docs/formats.md, "Picture and damage"). The wish's code book must be sound. After
-/// `WriteFault` a prefix of the lines is given, and nothing after the other faults.
+/// `first-last` for each range of damaged rows (docs/formats.md, "Picture and damage"). The wish's code book must be sound. The
+/// answer does not depend on whether numbers are to be restored. After `WriteFault` a prefix of the lines is given, and nothing after the
+/// other faults.
 pub fn find_damage<X: Port>(
     alloc: Global,
     port: &mut X,
@@ -49,7 +50,12 @@ pub fn find_damage<X: Port>(
     requires book { IsTrue (is_book_sound wish.now.book) }
     ensures { Finds wish.now (X.outside port.old) (X.outside port.new) result }
 {
-    let done = match walk_segments::<NoPicture, X>(alloc, port, wish) {
+    // Restored numbers would change no damage.
+    let wish = DecodeWish {
+        restore: false,
+        ..*wish
+    };
+    let done = match walk_segments::<NoPicture, X>(alloc, port, &wish) {
         Ok(walked) => walked.done,
         Err(fault) => return Err(fault),
     };

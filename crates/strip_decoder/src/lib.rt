@@ -1,8 +1,8 @@
 //! The picture of the segments that the packets of a stream carry, row by row and in the memory of a strip, and the lines of the rows that
 //! losses damage. Both are a walk of `segment_walk`.
 //!
-//! Layer: packets and pictures. It uses `base_122`, `port_122`, `raster_rows`, `wave_defs`, `plane_defs`, `packet_defs`, `stream_defs` and
-//! 5 more. It is used by `strip122`, `strip122_c` and `crate_examples`.
+//! Layer: packets and pictures. It uses `base_122`, `port_122`, `raster_rows`, `wave_defs`, `plane_defs`, `segment_defs`, `packet_defs` and
+//! 6 more. It is used by `strip122`, `strip122_c` and `crate_examples`.
 //!
 //! Packets in memory are decoded so (`a_packet_gives_its_picture` of `crate_examples`):
 //!

@@ -5,8 +5,8 @@ use Rattle.damage_rects.proofs.laws.decoding_stays_in_rects.Goals as goal
 pub returns : goal.returns
 returns c = record {
   whatever = in_rects;
-  sublists = λ s rows x parts received whole n are few received_is whole_is. sublist_in_rects c.texts_are_short.ensures s rows x parts are received whole
-      received_is whole_is n few;
+  sublists = λ s rows x parts restore received whole n are few received_is whole_is.
+      sublist_in_rects c.texts_are_short.ensures s rows x parts are restore received whole received_is whole_is n few;
   decoded = decoded_in_rects;
   some_decoded = decoded_alike c.texts_are_short.ensures;
 }

@@ -1,4 +1,5 @@
 use Rattle.std.proofs.Common.{ap, subst, sym, is_ok, is_err}
+use Rattle.segment_walk.proofs.Endings.{as_they_are}
 use Rattle.damage_rects.proofs.Listings.{AllGaps, all_within, has_open, is_size, list_fails, list_refused, list_done, list_cut}
 use Rattle.damage_rects.proofs.list.list_rects.Goals as goal
 
@@ -6,21 +7,21 @@ pub returns-in-Err : goal.returns-in-Err
 returns-in-Err g c = list_fails c.args.wish.now (g.X.Port.outside c.args.port.now) (g.X.Port.outside c.walk_segments.new.port) c.in-Err.fault c.in-Err.ensures
 
 pub into_gaps-requires : goal.into_gaps-requires
-into_gaps-requires g c = has_open c.args.wish.now (g.X.Port.outside c.args.port.now) (g.X.Port.outside c.walk_segments.new.port) c.in-Ok.ensures.took
-    c.in-Ok.ensures.gave c.in-Ok.walked c.in-Ok.ensures.answer
+into_gaps-requires g c = has_open (as_they_are c.args.wish.now) (g.X.Port.outside c.args.port.now) (g.X.Port.outside c.walk_segments.new.port)
+    c.in-Ok.ensures.took c.in-Ok.ensures.gave c.in-Ok.walked c.in-Ok.ensures.answer
 
 pub returns-in_default : goal.returns-in_default
 returns-in_default g c = list_refused c.args.wish.now (g.X.Port.outside c.args.port.now) (g.X.Port.outside c.walk_segments.new.port) c.in-Ok.walked
     c.in-Ok.ensures
 
 pub give_rects-requires-clause-size : goal.give_rects-requires-clause-size
-give_rects-requires-clause-size g c = is_size c.args.wish.now (g.X.Port.outside c.args.port.now) (g.X.Port.outside c.walk_segments.new.port)
+give_rects-requires-clause-size g c = is_size (as_they_are c.args.wish.now) (g.X.Port.outside c.args.port.now) (g.X.Port.outside c.walk_segments.new.port)
     c.in-Ok.ensures.took c.in-Ok.ensures.gave c.in-Ok.walked c.in-Ok.ensures.answer
 
 pub give_rects-requires-clause-within : goal.give_rects-requires-clause-within
 give_rects-requires-clause-within g c =
-    all_within c.args.wish.now (g.X.Port.outside c.args.port.now) (g.X.Port.outside c.walk_segments.new.port) c.in-Ok.ensures.took c.in-Ok.ensures.gave
-    c.in-Ok.walked c.in-Ok.ensures.answer
+    all_within (as_they_are c.args.wish.now) (g.X.Port.outside c.args.port.now) (g.X.Port.outside c.walk_segments.new.port) c.in-Ok.ensures.took
+    c.in-Ok.ensures.gave c.in-Ok.walked c.in-Ok.ensures.answer
     c.deref.result.now (subst (AllGaps c.in-Ok.walked) (sym c.deref.ensures.value) c.in-Some.ensures)
 
 pub returns-in-Ok-give_rects : goal.returns-in-Ok-give_rects
