@@ -1,6 +1,6 @@
 -- A decoder that ends, at an octet that decides the answer or where no octet follows.
-use Rattle.std.proofs.Common.{◌≡◌, ◌≤◌, ◌<◌, ◌+◌, ◌-◌, ℕ, ℤ, true, false, nat_lt, if◌then◌else◌, List, [], ◌++◌, length, take, refl, sym, ap, subst, ◌∙◌}
-use Rattle.std.proofs.Common.{arith, append_assoc, length-append, Option, None, Some, Result, Ok, Err}
+use Rattle.std.proofs.Common.{◌≡◌, ◌≤◌, ◌<◌, ◌+◌, ℕ, true, false, nat_lt, if◌then◌else◌, List, [], ◌++◌, length, take, refl, sym, ap, subst, ◌∙◌}
+use Rattle.std.proofs.Common.{arith, append_assoc, length-append, Option, None, Some, Result, Err}
 use Rattle.std.specs.List.{concat}
 use Rattle.std.proofs.lemmas.List.{append-nil, take_all}
 use Rattle.std.proofs.lemmas.Bool.Decides.{nat_tests}
@@ -8,7 +8,7 @@ use Rattle.std.proofs.Math.Seq.{take-append-add}
 use Rattle.port_122.specs.Outside.{Outside, Loses, IsUsedUp}
 use Rattle.base_122.specs.declared.geometry.Geometry.{Geometry}
 use Rattle.base_122.specs.declared.wish.DecodeWish.{DecodeWish}
-use Rattle.bit_pipe.specs.declared.fault.InFault.{InFault}
+use Rattle.segment_defs.specs.TextWish.{text_wish}
 use Rattle.bit_pipe.specs.declared.fault.InFault.TheVariants as in_faults
 use Rattle.bit_pipe.specs.Sources.{Fails, IsOver, Plainly, TooLong, InPieces}
 use Rattle.bare_text.specs.declared.parts.PartsInForce.{PartsInForce}
@@ -17,7 +17,7 @@ use Rattle.bare_stream.specs.declared.fault.BareFault.TheVariants.{ReadFault, Lo
 use Rattle.bare_stream.specs.declared.input.PortIn.{PortIn}
 use Rattle.bare_stream.specs.Input.{waiting, tail_of}
 use Rattle.bare_stream.specs.Inputs.{source_of}
-use Rattle.bare_stream.specs.StreamRead.{Ending, needs_more, stops, Segments, Next, ends, next_in, Read, reading, answer_by, octets_by, answer_for, octets_for}
+use Rattle.bare_stream.specs.StreamRead.{Ending, needs_more, stops, Segments, Next, ends, next_in, reading, answer_by, octets_by}
 use Rattle.bare_stream.specs.Decoded.{IfKnown, AnswersBy, Answers, EndsSo, DecodesBare, read_by, rows_of}
 use Rattle.bare_stream.specs.Reads.{HasLaws, SegmentsRead, HasRead, InForceAfter, segments_of, size_of}
 use Rattle.bare_stream.proofs.InputEnds.{ends_plain, ends_long, not_broken, failed_is, failed_waits}
@@ -44,12 +44,12 @@ module _ (wish : DecodeWish) (laws : HasLaws wish) {X : Type 0} (outside : X →
   s = segments_of r before
 
   abbrev next : Next
-  next = next_in wish.book wish.pixels s part
+  next = next_in (text_wish wish) wish.pixels s part
 
   pub beyond_known : IfKnown start (λ input. (beyond : List ℕ) × (now.rest ≡ Some beyond) × (input ≡ read.took ++ beyond))
   beyond_known input if_known = left_known start.rest now.rest input read.took if_known read.since.rest
 
-  ended_at : IfKnown start (λ input. (n : ℕ) → n < length part → Opens (next_in wish.book wish.pixels s (take n part))) →
+  ended_at : IfKnown start (λ input. (n : ℕ) → n < length part → Opens (next_in (text_wish wish) wish.pixels s (take n part))) →
       (result : Result Geometry BareFault) → EndsSo result start now read.gave →
       IfKnown start (λ input. Answers wish input read.took read.gave result) → DecodesBare wish start now result
   ended_at opens result finish answers = record {
@@ -81,9 +81,10 @@ module _ (wish : DecodeWish) (laws : HasLaws wish) {X : Type 0} (outside : X →
   -- ---- the last of the octets that were given decides a fault
 
   module _ (fault : BareFault) (n : ℕ) (stop : IfKnown start (λ input. next ≡ ends (stops fault n))) (last : n ≡ size_of r + length part) where
-    stops_opens : IfKnown start (λ input. (m : ℕ) → m < length part → Opens (next_in wish.book wish.pixels s (take m part)))
+    stops_opens : IfKnown start (λ input. (m : ℕ) → m < length part → Opens (next_in (text_wish wish) wish.pixels s (take m part)))
     stops_opens input if_known m lt =
-        fewer_open laws.heads laws.texts wish.book laws.sound wish.pixels s part m (let e = ap (needed s) (stop input if_known) in omega (arith, lt, e, last))
+        fewer_open laws.heads laws.texts (text_wish wish) laws.sound wish.pixels s part m (let e = ap (needed s) (stop input if_known) in omega
+        (arith, lt, e, last))
 
     stops_reading : IfKnown start (λ input. reading wish input ≡ record { segments = s; ending = stops fault n })
     stops_reading input if_known =
@@ -93,8 +94,8 @@ module _ (wish : DecodeWish) (laws : HasLaws wish) {X : Type 0} (outside : X →
         within_is input b.0 b.2 ∙ ap (λ l. l ++ take t.left b.0) read.octets ∙ append_assoc (concat r.texts) (part ++ waiting t) (take t.left b.0)
         ∙ ap (λ l. concat r.texts ++ l) (append_assoc part (waiting t) (take t.left b.0)) in
         ap (read_by wish) all ∙ reaches input if_known (part ++ more)
-        ∙ read_ends laws.heads laws.texts wish.book laws.sound wish.pixels s (part ++ more) (stops fault n)
-        (stop_stays laws.heads laws.texts wish.book laws.sound wish.pixels s part more fault n (stop input if_known))
+        ∙ read_ends laws.heads laws.texts (text_wish wish) laws.sound wish.pixels s (part ++ more) (stops fault n)
+        (stop_stays laws.heads laws.texts (text_wish wish) laws.sound wish.pixels s part more fault n (stop input if_known))
 
     few : n ≤ length read.took
     few = (
@@ -113,8 +114,8 @@ module _ (wish : DecodeWish) (laws : HasLaws wish) {X : Type 0} (outside : X →
   -- ---- more octets are needed
 
   module _ (opened : IfKnown start (λ input. Opens next)) where
-    more_opens : IfKnown start (λ input. (m : ℕ) → m < length part → Opens (next_in wish.book wish.pixels s (take m part)))
-    more_opens input if_known m lt = open_before laws.heads laws.texts wish.book laws.sound wish.pixels s part m (opened input if_known)
+    more_opens : IfKnown start (λ input. (m : ℕ) → m < length part → Opens (next_in (text_wish wish) wish.pixels s (take m part)))
+    more_opens input if_known m lt = open_before laws.heads laws.texts (text_wish wish) laws.sound wish.pixels s part m (opened input if_known)
 
     took_is : waiting t ≡ [] → read.took ≡ concat r.texts ++ part
     took_is none = read.octets ∙ ap (λ l. concat r.texts ++ (part ++ l)) none ∙ ap (λ l. concat r.texts ++ l) (append-nil part)
@@ -122,7 +123,7 @@ module _ (wish : DecodeWish) (laws : HasLaws wish) {X : Type 0} (outside : X →
     open_reading : (input : List ℕ) (at_end : Result Geometry BareFault) →
         IfKnown start (λ all. next ≡ ends (needs_more at_end) → take wish.octets input ≡ concat r.texts ++ part →
         reading wish input ≡ record { segments = s; ending = needs_more at_end })
-    open_reading input at_end all if_known e within = ap (read_by wish) within ∙ reaches all if_known part ∙ read_ends laws.heads laws.texts wish.book
+    open_reading input at_end all if_known e within = ap (read_by wish) within ∙ reaches all if_known part ∙ read_ends laws.heads laws.texts (text_wish wish)
         laws.sound
         wish.pixels s part (needs_more at_end) e
 

@@ -1,9 +1,10 @@
 -- The first head is read, or a decoder ends at it.
-use Rattle.std.proofs.Common.{◌≡◌, ◌+◌, ◌*◌, ℕ, Bool, true, false, List, [], ◌++◌, length, refl, sym, ap, ◌∙◌, subst, arith, None, Some, Ok, Err}
+use Rattle.std.proofs.Common.{◌≡◌, ◌+◌, ◌*◌, ℕ, Bool, true, false, List, [], refl, sym, ap, ◌∙◌, subst, arith, None, Ok, Err}
 use Rattle.port_122.specs.Outside.{Outside}
 use Rattle.port_122.proofs.Stretches.{since_start}
 use Rattle.base_122.specs.Sizes.{block_count}
 use Rattle.base_122.specs.declared.wish.DecodeWish.{DecodeWish}
+use Rattle.segment_defs.specs.TextWish.{text_wish}
 use Rattle.picture_rows.specs.Pictures.{picture_state, IsFresh}
 use Rattle.picture_rows.proofs.RowsOut.{no_rows}
 use Rattle.segment_defs.specs.Reading.{head_in}
@@ -22,7 +23,7 @@ use Rattle.bare_stream.specs.Inputs.{source_of}
 use Rattle.bare_stream.specs.Pictures.{shape_with}
 use Rattle.bare_stream.specs.Decoded.{IfKnown, DecodesBare}
 use Rattle.bare_stream.specs.Reads.{HasLaws, SegmentsRead, AsksIn, HasRead, InForceAfter, segments_of}
-use Rattle.bare_stream.specs.Walks.{IsReading, book_in}
+use Rattle.bare_stream.specs.Walks.{IsReading, wish_in}
 use Rattle.bare_stream.proofs.ReadsOn.{read_on, read_on-gave, gave_known}
 use Rattle.bare_stream.proofs.Settles.{no_open_rows, asks_all}
 use Rattle.bare_stream.proofs.NextHeads.{head_faulted, check_faulted}
@@ -99,7 +100,7 @@ module _ {X : Type 0} (outside : X → Outside) (wish : DecodeWish) (laws : HasL
       took = now_read.took;
       gave = now_read.gave;
       since = asks_all wish laws outside start r none_in_force prefix t now_read (reaches read.head)
-          (λ input if_known n lt. head_opens laws.heads wish.book wish.pixels (segments_of r none_in_force) refl prefix (Ok read.head)
+          (λ input if_known n lt. head_opens laws.heads (text_wish wish) wish.pixels (segments_of r none_in_force) refl prefix (Ok read.head)
           (first_known input if_known).0
           n lt);
       within = (let left = now_read.left in omega (arith, left));
@@ -107,9 +108,9 @@ module _ {X : Type 0} (outside : X → Outside) (wish : DecodeWish) (laws : HasL
       answers = λ input if_known. tt;
     }
 
-    pub first_reading : (w : Walk) → w.first ≡ read.head → w.parts ≡ after → w.index ≡ 0 → w.pixels ≡ wish.pixels → book_in w ≡ wish.book →
+    pub first_reading : (w : Walk) → w.first ≡ read.head → w.parts ≡ after → w.index ≡ 0 → w.pixels ≡ wish.pixels → wish_in w ≡ text_wish wish →
         IsFresh (shape_with read.head 262144) (picture_state w.picture) → IsReading outside wish start t w read
-    first_reading w first parts index pixels book new = record {
+    first_reading w first parts index pixels wished new = record {
       r = r;
       prefix = prefix;
       before = none_in_force;
@@ -120,7 +121,7 @@ module _ {X : Type 0} (outside : X → Outside) (wish : DecodeWish) (laws : HasL
         first = sym first;
         index = index;
         pixels = pixels;
-        book = book;
+        wished = wished;
         shows = record {
           current = new.current;
           geometry = new.geometry;

@@ -1,5 +1,6 @@
 -- The octets that are written for an image are a bare stream.
-use Rattle.std.proofs.Common.{◌≡◌, ◌≤◌, ◌<◌, ◌+◌, ◌*◌, ◌%◌, ◌==◌, ◌⊎◌, ℕ, zero, suc, ℤ, List, [], ◌∷◌, ◌++◌, length, map, true, false, if◌then◌else◌, refl}
+use Rattle.std.proofs.Common.{◌≡◌, ◌≤◌, ◌<◌, ◌+◌, ◌*◌, ◌%◌, ◌==◌, ◌⊎◌, ℕ, zero, suc, ℤ, List, [], ◌∷◌, ◌++◌, length, map, Bool}
+use Rattle.std.proofs.Common.{true, false, if◌then◌else◌, refl}
 use Rattle.std.proofs.Common.{sym, ap, subst, ◌∙◌, inl, inr, arith, append_assoc, length-append, Option, None, Some, Ok, unwrap_or}
 use Rattle.std.specs.List.{range_with_len, flat_map}
 use Rattle.std.proofs.lemmas.Bool.{cases_lt}
@@ -12,10 +13,11 @@ use Rattle.base_122.specs.declared.setting.Setting.{Setting}
 use Rattle.base_122.proofs.SizeBounds.{total-le-segments, nine-le-total_blocks}
 use Rattle.segment_defs.specs.declared.head.SegmentHead.{SegmentHead}
 use Rattle.segment_defs.specs.Head.{IsHead}
+use Rattle.segment_defs.specs.TextWish.{TextWish}
 use Rattle.segment_code.specs.Laws.{TextsEndThere}
 use Rattle.stream_defs.specs.Output.{head_for, image_blocks, segment_of, segments_of}
 use Rattle.stream_defs.proofs.ShareLaws.{share_none}
-use Rattle.segment_walk.specs.Images.{SendsAll}
+use Rattle.segment_walk.specs.Images.{SendsAll, texts_for as bare_wish}
 use Rattle.segment_walk.proofs.SpelledImages.{head_fits, spells, length-segment}
 use Rattle.bare_text.specs.declared.parts.PartsInForce.{PartsInForce}
 use Rattle.bare_text.specs.InForce.{none_in_force, parts_after}
@@ -51,7 +53,10 @@ first_here head zero = refl
 first_here head (suc index) = refl
 
 module _ (hold : BareTextsHold) (undo : BareHeadsUndo) (heads : BareHeadsEndThere) (texts : TextsEndThere) (s : Setting) (x : ℕ → ℕ → ℤ)
-    (is : IsBareImage s x) where
+    (restore : Bool) (is : IsBareImage s x) where
+  abbrev wish : TextWish
+  wish = bare_wish s restore
+
   abbrev all : List (List ℤ)
   all = image_blocks s x
 
@@ -78,8 +83,8 @@ module _ (hold : BareTextsHold) (undo : BareHeadsUndo) (heads : BareHeadsEndTher
   fits : (index : ℕ) → index < n → IsHead (head index)
   fits index lt = head_fits s x is.setting.in_range rows is.pixels index lt
 
-  held : (index : ℕ) → index < n → HoldsText s.book (head_before s all index) (head index) (segment_of s all index)
-  held index lt = hold s.book is.sound (head_before s all index) (head index) (segment_of s all index) (fits index lt) is.weights
+  held : (index : ℕ) → index < n → HoldsText wish (head_before s all index) (head index) (segment_of s all index)
+  held index lt = hold wish is.sound (head_before s all index) (head index) (segment_of s all index) (fits index lt) is.weights
       (spells s x is.setting.in_range rows is.pixels index lt) refl
 
   count_small : (index : ℕ) → index % 256 < 256
@@ -93,7 +98,7 @@ module _ (hold : BareTextsHold) (undo : BareHeadsUndo) (heads : BareHeadsEndTher
   abbrev blocks : ℕ → List (List ℤ)
   blocks index = blocks_by index (cases_lt index n)
 
-  text_by : (index : ℕ) (at : (index < n) ⊎ (n ≤ index)) → index < n → IsSegmentText s all index (blocks_by index at)
+  text_by : (index : ℕ) (at : (index < n) ⊎ (n ≤ index)) → index < n → IsSegmentText s restore all index (blocks_by index at)
   unfolding blocks_by
   text_by index (inl lt) inside = record {
     part = (held index lt).part;
@@ -103,7 +108,7 @@ module _ (hold : BareTextsHold) (undo : BareHeadsUndo) (heads : BareHeadsEndTher
   }
   text_by index (inr ge) inside = absurd (omega (arith, ge, inside))
 
-  text_is : (index : ℕ) → index < n → IsSegmentText s all index (blocks index)
+  text_is : (index : ℕ) → index < n → IsSegmentText s restore all index (blocks index)
   text_is index lt = text_by index (cases_lt index n) lt
 
   exact_by : SendsAll s → (index : ℕ) (at : (index < n) ⊎ (n ≤ index)) → index < n → blocks_by index at ≡ segment_of s all index
@@ -142,7 +147,7 @@ module _ (hold : BareTextsHold) (undo : BareHeadsUndo) (heads : BareHeadsEndTher
   moved P index p = subst (λ k. P (unwrap_or (first_before (head 0) index) (head index)) k) (sym (count_is index))
       (subst (λ h. P h index) (sym (first_here head index)) p)
 
-  next_is : (index : ℕ) (more : List ℕ) → index < n → next_in s.book pixels (those index) (text index ++ more) ≡ next_text_is (head index)
+  next_is : (index : ℕ) (more : List ℕ) → index < n → next_in wish pixels (those index) (text index ++ more) ≡ next_text_is (head index)
       (length (text index)) (blocks index)
   next_is index more lt =
       let t = text_is index lt in
@@ -151,11 +156,11 @@ module _ (hold : BareTextsHold) (undo : BareHeadsUndo) (heads : BareHeadsEndTher
       let agrees = moved (λ h k. AgreesWith h k (head index)) index (agree index lt) in
       let few = moved (λ h k. pixels_at h k (head index) ≤ pixels) index
       (few_pixels s x is.setting.in_range rows (length-segment s x is.setting.in_range rows is.pixels) index lt) in
-      let here : next_in s.book pixels (those index) (text index) ≡ next_text_is (head index) (length (text index)) (blocks index) =
-      ap (next_in s.book pixels (those index)) t.octets
-      ∙ next_text heads s.book pixels (those index) refl prefix (head index) decides agrees few t.rest t.part (blocks index) t.decides
+      let here : next_in wish pixels (those index) (text index) ≡ next_text_is (head index) (length (text index)) (blocks index) =
+      ap (next_in wish pixels (those index)) t.octets
+      ∙ next_text heads wish pixels (those index) refl prefix (head index) decides agrees few t.rest t.part (blocks index) t.decides
       ∙ ap (λ k. next_text_is (head index) k (blocks index)) (sym (length-append prefix t.rest) ∙ sym (ap length t.octets)) in
-      text_stays heads texts s.book is.sound pixels (those index) (text index) more (head index) (length (text index)) (blocks index) here
+      text_stays heads texts wish is.sound pixels (those index) (text index) more (head index) (length (text index)) (blocks index) here
 
   -- one segment more
   parts_are : (index : ℕ) (more : List ℕ) → index < n → parts_after (force index) (text index ++ more) ≡ force (index + 1)
@@ -197,62 +202,63 @@ module _ (hold : BareTextsHold) (undo : BareHeadsUndo) (heads : BareHeadsEndTher
   read_whole = record { segments = all_of_them; ending = needs_more (Ok g) }
 
   -- from a segment on
-  read_from : (index more : ℕ) → index + suc more ≡ n → read_on s.book pixels (those index) (texts_of index (suc more)) ≡ read_whole
+  read_from : (index more : ℕ) → index + suc more ≡ n → read_on wish pixels (those index) (texts_of index (suc more)) ≡ read_whole
   read_from index zero e =
       let lt : index < n = omega (arith, e) in
       let last : index + 1 ≡ n = omega (arith, e) in
       let flag : (index + 1 == n) ≡ true = grind (arith, nat_tests) in
       let geometry = geometry_is s x is.setting.in_range rows (length-segment s x is.setting.in_range rows is.pixels) index last in
       let ended = ap (λ b. if b then Some (geometry_at (head 0) index (head index)) else None) flag ∙ ap (λ h. Some h) (sym geometry) in
-      read_text heads texts s.book is.sound pixels (those index) (text index ++ []) (head index) (length (text index)) (blocks index) (next_is index [] lt)
-      ∙ ap (read_on s.book pixels (with_text (those index) (head index) (length (text index)) (blocks index) (text index ++ [])))
+      read_text heads texts wish is.sound pixels (those index) (text index ++ []) (head index) (length (text index)) (blocks index) (next_is index [] lt)
+      ∙ ap (read_on wish pixels (with_text (those index) (head index) (length (text index)) (blocks index) (text index ++ [])))
       (drop_at (text index) [] (length (text index)) refl)
-      ∙ ap (λ z. read_on s.book pixels z []) (with_one index [] (Some g) lt ended ∙ ap (λ k. made (first_before (head 0) k) (force k) (blocks_of k) (Some g)
+      ∙ ap (λ z. read_on wish pixels z []) (with_one index [] (Some g) lt ended ∙ ap (λ k. made (first_before (head 0) k) (force k) (blocks_of k) (Some g)
       (length (first_texts s all k))) last)
-      ∙ read_ends heads texts s.book is.sound pixels all_of_them [] (needs_more (Ok g)) refl
+      ∙ read_ends heads texts wish is.sound pixels all_of_them [] (needs_more (Ok g)) refl
   read_from index (suc more) e =
       let lt : index < n = omega (arith, e) in
       let flag : (index + 1 == n) ≡ false = grind (arith, nat_tests, e) in
       let ended = ap (λ b. if b then Some (geometry_at (head 0) index (head index)) else None) flag in
       let rest = texts_of (index + 1) (suc more) in
-      read_text heads texts s.book is.sound pixels (those index) (text index ++ rest) (head index) (length (text index)) (blocks index) (next_is index rest lt)
-      ∙ ap (read_on s.book pixels (with_text (those index) (head index) (length (text index)) (blocks index) (text index ++ rest)))
+      read_text heads texts wish is.sound pixels (those index) (text index ++ rest) (head index) (length (text index)) (blocks index) (next_is index rest lt)
+      ∙ ap (read_on wish pixels (with_text (those index) (head index) (length (text index)) (blocks index) (text index ++ rest)))
       (drop_at (text index) rest (length (text index)) refl)
-      ∙ ap (λ z. read_on s.book pixels z rest) (with_one index rest None lt ended)
+      ∙ ap (λ z. read_on wish pixels z rest) (with_one index rest None lt ended)
       ∙ read_from (index + 1) more (omega (arith, e))
 
   those_none : those 0 ≡ none_read
   those_none = ap (λ l. made None none_in_force [] None (length l)) (first_texts-none s all)
 
-  stream_is : (m : ℕ) → n ≡ m → stream_in s.book pixels (bare s x) ≡ read_whole
+  stream_is : (m : ℕ) → n ≡ m → stream_in wish pixels (bare s x) ≡ read_whole
   unfolding first_texts
   stream_is zero e = let some = some_segments in absurd (omega (arith, e, some))
   stream_is (suc more) e =
-      ap (λ k. read_on s.book pixels none_read (texts_of 0 k)) e ∙ ap (λ z. read_on s.book pixels z (texts_of 0 (suc more))) (sym those_none)
+      ap (λ k. read_on wish pixels none_read (texts_of 0 k)) e ∙ ap (λ z. read_on wish pixels z (texts_of 0 (suc more))) (sym those_none)
       ∙ read_from 0 more (let all_are : 0 + suc more ≡ n = omega (arith, e) in all_are)
 
   abbrev w : List (List (List ℤ))
   w = blocks_of n
 
-  says_image : SaysImage s x w
+  says_image : SaysImage s x restore w
   says_image = record {
     stream = (let all = stream_is n refl in record { whole = ap (λ z. z.ending) all; blocks = ap (λ z. z.segments.blocks) all });
     count = length-map-range_with_len blocks 0 n;
-    texts = λ index lt. subst (IsSegmentText s all index) (sym (get_or-map-range_with_len blocks 0 n index index [] lt (omega arith))) (text_is index lt);
+    texts = λ index lt. subst (IsSegmentText s restore all index) (sym (get_or-map-range_with_len blocks 0 n index index [] lt (omega arith)))
+        (text_is index lt);
     exact = λ sends. map_alike blocks (segment_of s all) 0 n (λ index low lt. exact_by sends index (cases_lt index n) (omega (arith, lt)));
   }
 
-  pub blocks_there : (v : List (List (List ℤ))) × SaysImage s x v
+  pub blocks_there : (v : List (List (List ℤ))) × SaysImage s x restore v
   blocks_there = (w, says_image)
 
 -- ---- the stream reports nothing else
 
 pub images_are_streams : BareTextsHold → BareHeadsUndo → BareHeadsEndThere → TextsEndThere → BareStreamsEndThere → ImagesAreBareStreams
 images_are_streams hold undo heads texts ends = record {
-  says = λ s x is. blocks_there hold undo heads texts s x is;
-  only = λ s x g w is other.
-      let mine = blocks_there hold undo heads texts s x is in (
-        ends.geometry s.book (bare s x) g (bare_geometry s) w mine.0 other mine.1.stream,
-        subst (SaysImage s x) (sym (ends.blocks s.book (bare s x) g (bare_geometry s) w mine.0 other mine.1.stream)) mine.1,
+  says = λ s x restore is. blocks_there hold undo heads texts s x restore is;
+  only = λ s x restore g w is other.
+      let mine = blocks_there hold undo heads texts s x restore is in (
+        ends.geometry (bare_wish s restore) (bare s x) g (bare_geometry s) w mine.0 other mine.1.stream,
+        subst (SaysImage s x restore) (sym (ends.blocks (bare_wish s restore) (bare s x) g (bare_geometry s) w mine.0 other mine.1.stream)) mine.1,
       );
 }

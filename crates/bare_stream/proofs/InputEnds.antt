@@ -1,5 +1,5 @@
 -- How an input ends.
-use Rattle.std.proofs.Common.{◌≡◌, ◌≤◌, ◌<◌, ◌+◌, ◌-◌, ◌^◌, min, ℕ, List, [], ◌∷◌, ◌++◌, length, take, drop, refl, ap, arith, nat_lt, Bool, true, false}
+use Rattle.std.proofs.Common.{◌≡◌, ◌≤◌, ◌<◌, ◌^◌, ℕ, List, [], ◌∷◌, ◌++◌, length, take, refl, ap, arith, nat_lt, Bool, true, false}
 use Rattle.std.proofs.Common.{if◌then◌else◌, Option, None, Some, length-take}
 use Rattle.std.proofs.lemmas.Bool.Decides.{nat_tests}
 use Rattle.port_122.specs.Outside.{IsUsedUp}

@@ -1,8 +1,8 @@
 -- The numbers that a text gives after a head of any size are multiples of their weights, and small.
-use Rattle.std.proofs.Common.{◌≡◌, ℕ, ◌*◌, ◌^◌, ◌<◌, ◌≤◌, true, List, [], length, take, ap, sym, subst, ◌∙◌, ℤ, pos, get_or, ◌*ℤ◌, unsigned_abs}
+use Rattle.std.proofs.Common.{◌≡◌, ℕ, ◌*◌, ◌^◌, ◌<◌, ◌≤◌, true, List, length, take, ap, sym, subst, ◌∙◌, ℤ, pos, get_or, ◌*ℤ◌, unsigned_abs}
 use Rattle.plane_defs.specs.Sets.{shift}
 use Rattle.plane_defs.specs.Codes.{is_book_sound}
-use Rattle.base_122.specs.declared.book.Book.{Book}
+use Rattle.segment_defs.specs.TextWish.{TextWish}
 use Rattle.wave_defs.specs.Blocks.{place_of}
 use Rattle.segment_defs.specs.declared.head.SegmentHead.{SegmentHead}
 use Rattle.segment_defs.specs.Head.{IsHead}
@@ -34,10 +34,10 @@ weighted head cells k ok all long lt =
       small = λ i small. subst (λ z. unsigned_abs z ≤ 2 ^ 27) (quotient i small) (is_part i small).small;
     }
 
-pub items_weighted : TextsGiveParts → (book : Book) → is_book_sound book ≡ true →
+pub items_weighted : TextsGiveParts → (wish : TextWish) → is_book_sound wish.book ≡ true →
     (head : SegmentHead) (size : ℕ) (rest : List ℕ) (cells : List ℤ) (part : Part) → IsHead head →
-    Decides book head size rest (gives part (blocks_in (take (64 * head.blocks) cells))) → 64 * head.blocks ≤ length cells →
+    Decides wish head size rest (gives part (blocks_in (take (64 * head.blocks) cells))) → 64 * head.blocks ≤ length cells →
     AreParts cells head.blocks head.image.weights.shifts
-items_weighted given book sound head size rest cells part ok decides long =
-    let all = given book sound head size rest part (blocks_in (take (64 * head.blocks) cells)) (length rest) ok decides in
+items_weighted given wish sound head size rest cells part ok decides long =
+    let all = given wish sound head size rest part (blocks_in (take (64 * head.blocks) cells)) (length rest) ok decides in
     record { at = λ k lt. weighted head cells k ok all long lt }

@@ -8,6 +8,7 @@ use Rattle.base_122.specs.Ranges.{IsWithin, rows_range}
 use Rattle.base_122.specs.Sizes.{block_count, first_block, total_blocks}
 use Rattle.base_122.specs.declared.geometry.Geometry.{Geometry}
 use Rattle.base_122.specs.declared.wish.DecodeWish.{DecodeWish}
+use Rattle.segment_defs.specs.TextWish.{text_wish}
 use Rattle.raster_rows.specs.Pixels.{raster_octets}
 use Rattle.wave_defs.specs.Held.{blocks_in}
 use Rattle.segment_defs.specs.declared.head.SegmentHead.{SegmentHead}
@@ -153,7 +154,7 @@ module _ (w : Walk) (read : BareHead) (sound : IsSound w) (next : IsNext w read)
       reaches : InForceAfter wish start r before
       reaches input if_known = (head input if_known).reaches
 
-      next_known : IfKnown start (λ input. next_in wish.book wish.pixels (segments_of r before) text ≡ next_is read.head (length text) held)
+      next_known : IfKnown start (λ input. next_in (text_wish wish) wish.pixels (segments_of r before) text ≡ next_is read.head (length text) held)
       next_known input if_known = (is_next input if_known).next
 
       same_index : w.index ≡ length r.blocks

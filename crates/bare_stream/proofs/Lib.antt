@@ -30,6 +30,7 @@ mod StreamEnd
 mod FirstHead
 mod WholeReads
 mod StreamLaws
+mod WishReads
 mod WorkedStreams
 mod SegmentCounts
 mod ImageHeads

@@ -9,6 +9,7 @@ use Rattle.port_122.proofs.Stretches.{rose_since}
 use Rattle.base_122.specs.Sizes.{block_count, first_block, total_blocks}
 use Rattle.base_122.specs.declared.geometry.Geometry.{Geometry}
 use Rattle.base_122.specs.declared.wish.DecodeWish.{DecodeWish}
+use Rattle.segment_defs.specs.TextWish.{text_wish}
 use Rattle.wave_defs.specs.Held.{blocks_in}
 use Rattle.segment_defs.specs.declared.head.SegmentHead.{SegmentHead}
 use Rattle.stream_defs.specs.Picture.{number_at}
@@ -27,7 +28,7 @@ use Rattle.bare_stream.specs.Pictures.{geometry_at, open_geometry, segments_in, 
 use Rattle.bare_stream.specs.StreamRead.{text as next_is, next_in}
 use Rattle.bare_stream.specs.Decoded.{IfKnown, DecodesBare}
 use Rattle.bare_stream.specs.Reads.{HasLaws, SegmentsRead, HasRead, InForceAfter, ShowsRead, AreNumbersOf, rows_read, segments_of, size_of}
-use Rattle.bare_stream.specs.Walks.{IsSound, IsNext, IsAt, IsHeadOf, IsNextText, book_in}
+use Rattle.bare_stream.specs.Walks.{IsSound, IsNext, IsAt, IsHeadOf, IsNextText, wish_in}
 use Rattle.bare_stream.proofs.Agrees.{Continues, goes_on, same_weights}
 use Rattle.bare_stream.proofs.NextHeads.{first_is}
 use Rattle.bare_stream.proofs.RowsShown.{rows_open}
@@ -41,7 +42,7 @@ use Rattle.bare_stream.proofs.WholeGiven.{whole_read, whole_read-gave, whole_sho
 module _ (wish : DecodeWish) (laws : HasLaws wish) {X : Type 0} (outside : X → Outside) (start : Outside) (r : SegmentsRead) (before after : PartsInForce)
     (head : SegmentHead) (text more : List ℕ) (w : List (List ℤ)) (t u : PortIn X)
     (read : HasRead outside wish start r text t) (reaches : InForceAfter wish start r before)
-    (next : IfKnown start (λ input. next_in wish.book wish.pixels (segments_of r before) text ≡ next_is head (length text) w))
+    (next : IfKnown start (λ input. next_in (text_wish wish) wish.pixels (segments_of r before) text ≡ next_is head (length text) w))
     (waits : waiting u ≡ waiting t) (left : u.left ≡ t.left) (failed : u.failed ≡ t.failed)
     (out : Exchange (outside t.port.now) (outside u.port.now) [] more [] NoRead)
     (rose : Rose (outside t.port.now).write_faults (outside u.port.now).write_faults) (ended : Option Geometry)
@@ -151,7 +152,7 @@ module _ (w : Walk) (read : BareHead) (sound : IsSound w) (next : IsNext w read)
     reaches : InForceAfter wish start r before
     reaches input if_known = (head input if_known).reaches
 
-    next_known : IfKnown start (λ input. next_in wish.book wish.pixels (segments_of r before) text ≡ next_is read.head (length text) held)
+    next_known : IfKnown start (λ input. next_in (text_wish wish) wish.pixels (segments_of r before) text ≡ next_is read.head (length text) held)
     next_known input if_known = (is_next input if_known).next
 
     pub force_next : InForceAfter wish start more w.parts
@@ -174,9 +175,9 @@ module _ (w : Walk) (read : BareHead) (sound : IsSound w) (next : IsNext w read)
     some = rw at.first sound.first.blocks.0
 
     pub next_at : (z : Walk) → HasPutBlocks cells read.head.blocks (outside t.port.now) (outside u.port.now) (picture_state w.picture)
-        (picture_state z.picture) → z.first ≡ w.first → z.index ≡ w.index + 1 → z.pixels ≡ w.pixels → book_in z ≡ book_in w →
+        (picture_state z.picture) → z.first ≡ w.first → z.index ≡ w.index + 1 → z.pixels ≡ w.pixels → wish_in z ≡ wish_in w →
         IsAt outside wish start more [] u z
-    next_at z put first index pixels book =
+    next_at z put first index pixels wished =
         let put' = subst (λ n. HasPutBlocks cells n (outside t.port.now) (outside u.port.now) (picture_state w.picture) (picture_state z.picture)) size_is
         put in
         let is : held ≡ blocks_in (take (64 * r.first.blocks) cells) = ap (λ n. blocks_in (take (64 * n) cells)) size_is in
@@ -188,7 +189,7 @@ module _ (w : Walk) (read : BareHead) (sound : IsSound w) (next : IsNext w read)
           first = at.first ∙ sym first;
           index = index ∙ ap (λ n. n + 1) at.index ∙ sym (length-append r.texts (text ∷ []));
           pixels = pixels ∙ at.pixels;
-          book = book ∙ at.book;
+          wished = wished ∙ at.wished;
           shows = subst (λ l. ShowsRead (shape_with r.first 262144) more l (picture_state z.picture))
               (sym (whole_read-gave wish at.laws outside start r before read.head text held cells t u at.read reaches next_known w z at.shows waits left
               failed put' wide some long is room_is))

@@ -1,8 +1,9 @@
 -- The head of the next segment is read, or a decoder ends at it.
-use Rattle.std.proofs.Common.{◌≡◌, ◌≤◌, ◌<◌, ◌+◌, ℕ, List, [], ◌∷◌, ◌++◌, length, refl, sym, ap, ◌∙◌, subst, arith, inl, inr, Option, None, Some, Result}
+use Rattle.std.proofs.Common.{◌≡◌, ◌<◌, ◌+◌, ℕ, List, [], ◌∷◌, length, refl, sym, ap, ◌∙◌, subst, arith, inl, inr, None, Some, Result}
 use Rattle.std.proofs.Common.{Ok, Err, unwrap_or, append-nil}
 use Rattle.port_122.specs.Outside.{Outside}
 use Rattle.base_122.specs.declared.wish.DecodeWish.{DecodeWish}
+use Rattle.segment_defs.specs.TextWish.{text_wish}
 use Rattle.segment_defs.specs.declared.head.SegmentHead.{SegmentHead}
 use Rattle.segment_defs.specs.declared.fault.HeadFault.{HeadFault}
 use Rattle.segment_defs.specs.declared.fault.HeadFault.TheVariants.{HeadShort}
@@ -12,19 +13,17 @@ use Rattle.bare_text.specs.declared.read.BareHead.{BareHead}
 use Rattle.bare_text.specs.declared.read.BareHeadFault.{BareHeadFault}
 use Rattle.bare_text.specs.declared.read.BareHeadFault.TheVariants as head_faults
 use Rattle.bare_text.specs.Agreement.{agreement_tests}
-use Rattle.bare_text.specs.InForce.{parts_after}
 use Rattle.bare_text.specs.Taken.{DecidesHead, NeedsHead, EndsHead, ReadsHead}
 use Rattle.bare_stream.specs.declared.input.PortIn.{PortIn}
 use Rattle.bare_stream.specs.declared.fault.BareCause.TheVariants.{Head}
 use Rattle.bare_stream.specs.declared.fault.BareFault.{BareFault}
 use Rattle.bare_stream.specs.declared.fault.BareFault.TheVariants.{ReadFault, LongInput, TooManyPixels, Refused}
-use Rattle.bare_stream.specs.Input.{waiting}
 use Rattle.bare_stream.specs.Inputs.{source_of}
 use Rattle.bare_stream.specs.Pictures.{pixels_at, shape_with}
 use Rattle.bare_stream.specs.StreamRead.{needs_more, stops, Segments, ends, next_in}
-use Rattle.bare_stream.specs.Decoded.{IfKnown, AnswersBy, Answers, DecodesBare}
+use Rattle.bare_stream.specs.Decoded.{IfKnown, DecodesBare}
 use Rattle.bare_stream.specs.Heads.{AgreesWith, TakesHead, ChecksHead}
-use Rattle.bare_stream.specs.Reads.{HasLaws, SegmentsRead, HasRead, InForceAfter, ShowsRead, Reaches, first_of, segments_of, size_of}
+use Rattle.bare_stream.specs.Reads.{HasLaws, SegmentsRead, HasRead, InForceAfter, ShowsRead, first_of, segments_of, size_of}
 use Rattle.picture_rows.specs.Pictures.{picture_state}
 use Rattle.bare_stream.specs.Walks.{IsAt, IsHeadOf}
 use Rattle.bare_stream.specs.declared.walk.Walk.{Walk}
@@ -60,19 +59,20 @@ module _ {X : Type 0} (outside : X → Outside) (wish : DecodeWish) (laws : HasL
     is_gave = gave_known outside wish start r [] s t at x.went x.octets x.came
 
     -- more octets are needed
-    short_is : NeedsHead before x.octets → IfKnown start (λ input. next_in wish.book wish.pixels segments prefix ≡ ends
+    short_is : NeedsHead before x.octets → IfKnown start (λ input. next_in (text_wish wish) wish.pixels segments prefix ≡ ends
         (needs_more (Err (Refused index (Head (HeadShort (length prefix)))))))
     short_is needs input if_known =
-        next_short laws.heads wish.book wish.pixels segments going prefix (subst (NeedsHead before) (is_gave input if_known) needs)
+        next_short laws.heads (text_wish wish) wish.pixels segments going prefix (subst (NeedsHead before) (is_gave input if_known) needs)
         ∙ ap (λ n. ends (needs_more (Err (Refused n (Head (HeadShort (length prefix))))))) index_is
 
-    opens : NeedsHead before x.octets → IfKnown start (λ input. Opens (next_in wish.book wish.pixels segments prefix))
+    opens : NeedsHead before x.octets → IfKnown start (λ input. Opens (next_in (text_wish wish) wish.pixels segments prefix))
     opens needs input if_known = (_, short_is needs input if_known)
 
     refused_is : (fault : HeadFault) → DecidesHead before (Err fault) x.octets →
-        IfKnown start (λ input. next_in wish.book wish.pixels segments prefix ≡ ends (stops (Refused index (Head fault)) (size_of r + length prefix)))
+        IfKnown start (λ input. next_in (text_wish wish) wish.pixels segments prefix ≡ ends (stops (Refused index (Head fault)) (size_of r + length prefix)))
     refused_is fault decides input if_known =
-        next_refused laws.heads wish.book wish.pixels segments going prefix fault (subst (DecidesHead before (Err fault)) (is_gave input if_known) decides)
+        next_refused laws.heads (text_wish wish) wish.pixels segments going prefix fault (subst (DecidesHead before (Err fault))
+        (is_gave input if_known) decides)
         ∙ ap (λ n. ends (stops (Refused n (Head fault)) (size_of r + length prefix))) index_is
 
     by_refusal : (fault : HeadFault) → DecidesHead before (Err fault) x.octets → DecodesBare wish start (outside t.port.now) (Err (Refused index (Head fault)))
@@ -127,16 +127,16 @@ module _ {X : Type 0} (outside : X → Outside) (wish : DecodeWish) (laws : HasL
       let so = moved (λ h n. AgreesWith h n head × (pixels ≡ pixels_at h n head) × (wish.pixels < pixels)) x in
       ended_by wish laws outside start r before prefix t read reaches (TooManyPixels pixels) (size_of r + length prefix)
       (λ input if_known.
-      ap (next_in wish.book wish.pixels those) (sym (append-nil prefix))
-      ∙ next_many laws.heads wish.book wish.pixels those going prefix head (decides input if_known) so.0 [] (subst (λ n. wish.pixels < n) so.1 so.2)
+      ap (next_in (text_wish wish) wish.pixels those) (sym (append-nil prefix))
+      ∙ next_many laws.heads (text_wish wish) wish.pixels those going prefix head (decides input if_known) so.0 [] (subst (λ n. wish.pixels < n) so.1 so.2)
       ∙ ap (λ n. ends (stops (TooManyPixels n) (size_of r + length prefix))) (sym so.1))
       refl tt (λ input a. a)
   check_faulted (Refused i (Head fault)) x =
       let so = moved (λ h n. first_refusal (agreement_tests h n head) ≡ Some fault) x.1 in
       ended_by wish laws outside start r before prefix t read reaches (Refused i (Head fault)) (size_of r + length prefix)
       (λ input if_known.
-      ap (next_in wish.book wish.pixels those) (sym (append-nil prefix))
-      ∙ next_disagrees laws.heads wish.book wish.pixels those going prefix head (decides input if_known) [] fault so
+      ap (next_in (text_wish wish) wish.pixels those) (sym (append-nil prefix))
+      ∙ next_disagrees laws.heads (text_wish wish) wish.pixels those going prefix head (decides input if_known) [] fault so
       ∙ ap (λ n. ends (stops (Refused n (Head fault)) (size_of r + length prefix))) (sym same_index ∙ sym x.0))
       refl tt (λ input a. a)
   check_faulted other x = absurd x
@@ -160,7 +160,7 @@ module _ {X : Type 0} (outside : X → Outside) (wish : DecodeWish) (start : Out
     first = at.first;
     index = at.index;
     pixels = at.pixels;
-    book = at.book;
+    wished = at.wished;
     shows = subst (λ l. ShowsRead (shape_with r.first 262144) r l (picture_state w.picture))
         (sym (read_on-gave outside wish start r [] s t at.read reads.went)) at.shows;
   })

@@ -1,9 +1,9 @@
 -- What octets after some segments begin with stays so, if more octets follow.
 use Rattle.std.proofs.Common.{◌≡◌, ◌⊎◌, ◌≤◌, ◌<◌, ◌+◌, ◌-◌, ℕ, ℤ, true, false, Bool, nat_lt, if◌then◌else◌, inl, inr, List, [], ◌∷◌, ◌++◌, length, take}
-use Rattle.std.proofs.Common.{drop, refl, sym, ap, ◌∙◌, subst, arith, length-append, Option, None, Some, Result, Ok, Err, unwrap_or, length-take-le}
+use Rattle.std.proofs.Common.{drop, refl, sym, ap, ◌∙◌, subst, arith, Option, None, Some, Result, Ok, Err, unwrap_or, length-take-le}
 use Rattle.std.proofs.Common.{length-drop}
 use Rattle.std.proofs.lemmas.List.{drop-append-le, take-append-drop}
-use Rattle.base_122.specs.declared.book.Book.{Book}
+use Rattle.segment_defs.specs.TextWish.{TextWish}
 use Rattle.base_122.specs.declared.geometry.Geometry.{Geometry}
 use Rattle.plane_defs.specs.Codes.{is_book_sound}
 use Rattle.segment_defs.specs.Head.{IsHead}
@@ -21,7 +21,7 @@ use Rattle.bare_stream.specs.declared.fault.BareFault.{BareFault}
 use Rattle.bare_stream.specs.declared.fault.BareFault.TheVariants.{Refused}
 use Rattle.bare_stream.specs.Pictures.{pixels_at}
 use Rattle.bare_stream.specs.StreamRead.{Ending, needs_more, stops, Segments, Next, text, ends, too_many, by_answer, items_next, by_pixels, by_agreement}
-use Rattle.bare_stream.specs.StreamRead.{checked, by_head, head_next, end_next, next_by, next_in}
+use Rattle.bare_stream.specs.StreamRead.{by_head, head_next, end_next, next_by, next_in}
 
 -- more octets are needed
 abbrev pub Opens : Next → Type 0
@@ -100,55 +100,55 @@ module _ (s : Segments) where
       by true = omega (arith, le)
       by false = few
 
-module _ (heads : BareHeadsEndThere) (texts : TextsEndThere) (book : Book) (sound : is_book_sound book ≡ true) (pixels : ℕ) (s : Segments) where
+module _ (heads : BareHeadsEndThere) (texts : TextsEndThere) (wish : TextWish) (sound : is_book_sound wish.book ≡ true) (pixels : ℕ) (s : Segments) where
   module _ (octets : List ℕ) (size : ℕ) (le : size ≤ length octets) (head : SegmentHead) (fits : IsHead head) (most : size ≤ 20) where
-    there : EndsThere book head size
-    there = texts book sound head size fits most
+    there : EndsThere wish head size
+    there = texts wish sound head size fits most
 
-    answer_few : (d : Decided) → answer_in book head size (drop size octets) ≡ Some d → size + d.octets ≤ length octets
+    answer_few : (d : Decided) → answer_in wish head size (drop size octets) ≡ Some d → size + d.octets ≤ length octets
     answer_few d e = (let few = there.enough (drop size octets) d e in let long = length-drop size octets in omega (arith, few, long, le))
 
-    answer_stays : (more : List ℕ) (d : Decided) → answer_in book head size (drop size octets) ≡ Some d →
-        answer_in book head size (drop size (octets ++ more)) ≡ Some d
-    answer_stays more d e = ap (answer_in book head size) (drop-append-le size octets more le) ∙ there.stays (drop size octets) more d e
+    answer_stays : (more : List ℕ) (d : Decided) → answer_in wish head size (drop size octets) ≡ Some d →
+        answer_in wish head size (drop size (octets ++ more)) ≡ Some d
+    answer_stays more d e = ap (answer_in wish head size) (drop-append-le size octets more le) ∙ there.stays (drop size octets) more d e
 
   -- ---- after a head
 
   result_stays : (octets more : List ℕ) (size : ℕ) (result : Result SegmentHead HeadFault) → size ≤ length octets → size ≤ 20 →
       ((head : SegmentHead) → result ≡ Ok head → IsHead head) →
-      Stays (by_head book pixels s octets size result) (by_head book pixels s (octets ++ more) size result)
+      Stays (by_head wish pixels s octets size result) (by_head wish pixels s (octets ++ more) size result)
   result_stays octets more size (Err fault) le most fits = inr refl
   result_stays octets more size (Ok head) le most fits =
       let first = unwrap_or s.first head in
       let index = length s.blocks in
       agreement_stays s size (first_refusal (agreement_tests first index head)) _ _
       (pixels_stay s pixels (pixels_at first index head) size _ _
-      (items_stay s head size (answer_in book head size (drop size octets)) (answer_in book head size (drop size (octets ++ more)))
+      (items_stay s head size (answer_in wish head size (drop size octets)) (answer_in wish head size (drop size (octets ++ more)))
       (answer_stays octets size le head (fits head refl) most more)))
 
   result_few : (octets : List ℕ) (size : ℕ) (result : Result SegmentHead HeadFault) → size ≤ length octets → size ≤ 20 →
       ((head : SegmentHead) → result ≡ Ok head → IsHead head) →
-      needed s (by_head book pixels s octets size result) ≤ length octets
+      needed s (by_head wish pixels s octets size result) ≤ length octets
   result_few octets size (Err fault) le most fits = omega (arith, le)
   result_few octets size (Ok head) le most fits =
       let first = unwrap_or s.first head in
       let index = length s.blocks in
       agreement_few s size (length octets) (first_refusal (agreement_tests first index head)) _ le
       (pixels_few s pixels (pixels_at first index head) size (length octets) _ le
-      (items_few s head size (length octets) (answer_in book head size (drop size octets)) le (answer_few octets size le head (fits head refl) most)))
+      (items_few s head size (length octets) (answer_in wish head size (drop size octets)) le (answer_few octets size le head (fits head refl) most)))
 
-  result_long : (octets : List ℕ) (size : ℕ) (result : Result SegmentHead HeadFault) → 3 ≤ size → IsLong (by_head book pixels s octets size result)
+  result_long : (octets : List ℕ) (size : ℕ) (result : Result SegmentHead HeadFault) → 3 ≤ size → IsLong (by_head wish pixels s octets size result)
   result_long octets size (Err fault) le = tt
   result_long octets size (Ok head) le =
       let first = unwrap_or s.first head in
       let index = length s.blocks in
       agreement_long s size (first_refusal (agreement_tests first index head)) _
-      (pixels_long s pixels (pixels_at first index head) size _ (items_long s head size (answer_in book head size (drop size octets)) le))
+      (pixels_long s pixels (pixels_at first index head) size _ (items_long s head size (answer_in wish head size (drop size octets)) le))
 
   -- ---- what is next
 
   head_long : (octets : List ℕ) (o : Option HeadDecided) → ((d : HeadDecided) → o ≡ Some d → HeadEndsThere s.before octets d) →
-      IsLong (head_next book pixels s octets o)
+      IsLong (head_next wish pixels s octets o)
   head_long octets None there = tt
   head_long octets (Some d) there = result_long octets d.octets d.result (there d refl).least
 
@@ -156,27 +156,27 @@ module _ (heads : BareHeadsEndThere) (texts : TextsEndThere) (book : Book) (soun
   end_long g [] = tt
   end_long g (octet ∷ octets) = tt
 
-  next_long : (octets : List ℕ) → IsLong (next_in book pixels s octets)
+  next_long : (octets : List ℕ) → IsLong (next_in wish pixels s octets)
   next_long octets = by s.ended
     where
-      by : (ended : Option Geometry) → IsLong (next_by book pixels s octets ended)
+      by : (ended : Option Geometry) → IsLong (next_by wish pixels s octets ended)
       by None = head_long octets (bare_head_in s.before octets) (heads s.before octets)
       by (Some g) = end_long g octets
 
-  pub text_least : (octets : List ℕ) (head : SegmentHead) (n : ℕ) (w : List (List ℤ)) → next_in book pixels s octets ≡ text head n w → 3 ≤ n
+  pub text_least : (octets : List ℕ) (head : SegmentHead) (n : ℕ) (w : List (List ℤ)) → next_in wish pixels s octets ≡ text head n w → 3 ≤ n
   text_least octets head n w e = subst IsLong e (next_long octets)
 
   head_stays : (octets more : List ℕ) (o p : Option HeadDecided) → ((d : HeadDecided) → o ≡ Some d → HeadEndsThere s.before octets d) →
       ((d : HeadDecided) → o ≡ Some d → p ≡ Some d) →
-      Stays (head_next book pixels s octets o) (head_next book pixels s (octets ++ more) p)
+      Stays (head_next wish pixels s octets o) (head_next wish pixels s (octets ++ more) p)
   head_stays octets more None p there f = inl (_, refl)
   head_stays octets more (Some d) p there f =
       let h = there d refl in
-      subst (λ q. Stays (by_head book pixels s octets d.octets d.result) (head_next book pixels s (octets ++ more) q)) (sym (f d refl))
+      subst (λ q. Stays (by_head wish pixels s octets d.octets d.result) (head_next wish pixels s (octets ++ more) q)) (sym (f d refl))
       (result_stays octets more d.octets d.result h.enough h.most h.fits)
 
   head_few : (octets : List ℕ) (o : Option HeadDecided) → ((d : HeadDecided) → o ≡ Some d → HeadEndsThere s.before octets d) →
-      needed s (head_next book pixels s octets o) ≤ length octets
+      needed s (head_next wish pixels s octets o) ≤ length octets
   head_few octets None there = omega arith
   head_few octets (Some d) there = (let h = there d refl in result_few octets d.octets d.result h.enough h.most h.fits)
 
@@ -188,27 +188,27 @@ module _ (heads : BareHeadsEndThere) (texts : TextsEndThere) (book : Book) (soun
   end_few g [] = omega arith
   end_few g (octet ∷ octets) = omega arith
 
-  pub next_stays : (octets more : List ℕ) → Stays (next_in book pixels s octets) (next_in book pixels s (octets ++ more))
+  pub next_stays : (octets more : List ℕ) → Stays (next_in wish pixels s octets) (next_in wish pixels s (octets ++ more))
   next_stays octets more = by s.ended
     where
-      by : (ended : Option Geometry) → Stays (next_by book pixels s octets ended) (next_by book pixels s (octets ++ more) ended)
+      by : (ended : Option Geometry) → Stays (next_by wish pixels s octets ended) (next_by wish pixels s (octets ++ more) ended)
       by None =
           head_stays octets more (bare_head_in s.before octets) (bare_head_in s.before (octets ++ more)) (heads s.before octets)
           (λ d e. (heads s.before octets d e).stays more)
       by (Some g) = end_stays g octets more
 
-  pub next_few : (octets : List ℕ) → needed s (next_in book pixels s octets) ≤ length octets
+  pub next_few : (octets : List ℕ) → needed s (next_in wish pixels s octets) ≤ length octets
   next_few octets = by s.ended
     where
-      by : (ended : Option Geometry) → needed s (next_by book pixels s octets ended) ≤ length octets
+      by : (ended : Option Geometry) → needed s (next_by wish pixels s octets ended) ≤ length octets
       by None = head_few octets (bare_head_in s.before octets) (heads s.before octets)
       by (Some g) = end_few g octets
 
-  pub text_most : (octets : List ℕ) (head : SegmentHead) (n : ℕ) (w : List (List ℤ)) → next_in book pixels s octets ≡ text head n w → n ≤ length octets
+  pub text_most : (octets : List ℕ) (head : SegmentHead) (n : ℕ) (w : List (List ℤ)) → next_in wish pixels s octets ≡ text head n w → n ≤ length octets
   text_most octets head n w e = (let few = next_few octets in let same = ap (needed s) e in omega (arith, few, same))
 
   -- a text puts the same parts in force, if more octets follow
-  pub force_stays : (octets more : List ℕ) (head : SegmentHead) (n : ℕ) (w : List (List ℤ)) → next_in book pixels s octets ≡ text head n w →
+  pub force_stays : (octets more : List ℕ) (head : SegmentHead) (n : ℕ) (w : List (List ℤ)) → next_in wish pixels s octets ≡ text head n w →
       parts_after s.before (octets ++ more) ≡ parts_after s.before octets
   force_stays octets more head n w e = by s.ended e
     where
@@ -216,13 +216,13 @@ module _ (heads : BareHeadsEndThere) (texts : TextsEndThere) (book : Book) (soun
       not_text ending e = cc
 
       by_result : (d : HeadDecided) (result : Result SegmentHead HeadFault) → HeadEndsThere s.before octets d → d.result ≡ result →
-          by_head book pixels s octets d.octets result ≡ text head n w →
+          by_head wish pixels s octets d.octets result ≡ text head n w →
           parts_after s.before (octets ++ more) ≡ parts_after s.before octets
       by_result d (Err fault) there so e = absurd (not_text _ e)
       by_result d (Ok h) there so e = there.force h so more
 
       by_decided : (o : Option HeadDecided) → ((d : HeadDecided) → o ≡ Some d → HeadEndsThere s.before octets d) →
-          head_next book pixels s octets o ≡ text head n w → parts_after s.before (octets ++ more) ≡ parts_after s.before octets
+          head_next wish pixels s octets o ≡ text head n w → parts_after s.before (octets ++ more) ≡ parts_after s.before octets
       by_decided None there e = absurd (not_text _ e)
       by_decided (Some d) there e = by_result d d.result (there d refl) refl e
 
@@ -230,14 +230,14 @@ module _ (heads : BareHeadsEndThere) (texts : TextsEndThere) (book : Book) (soun
       at_end g [] e = not_text _ e
       at_end g (x ∷ l) e = not_text _ e
 
-      by : (ended : Option Geometry) → next_by book pixels s octets ended ≡ text head n w → parts_after s.before (octets ++ more) ≡ parts_after s.before octets
+      by : (ended : Option Geometry) → next_by wish pixels s octets ended ≡ text head n w → parts_after s.before (octets ++ more) ≡ parts_after s.before octets
       by None e = by_decided (bare_head_in s.before octets) (heads s.before octets) e
       by (Some g) e = absurd (at_end g octets e)
 
   -- ---- fewer octets
 
   -- fewer octets than it needs are not enough
-  pub fewer_open : (octets : List ℕ) (n : ℕ) → n < needed s (next_in book pixels s octets) → Opens (next_in book pixels s (take n octets))
+  pub fewer_open : (octets : List ℕ) (n : ℕ) → n < needed s (next_in wish pixels s octets) → Opens (next_in wish pixels s (take n octets))
   fewer_open octets n lt =
       let parts = take-append-drop n octets in
       let all = next_few octets in
@@ -246,34 +246,34 @@ module _ (heads : BareHeadsEndThere) (texts : TextsEndThere) (book : Book) (soun
         | inr same ↦
             let few = next_few (take n octets) in
             let long = length-take-le n octets (omega (arith, lt, all)) in
-            let here = ap (needed s) (same ∙ ap (next_in book pixels s) parts) in
+            let here = ap (needed s) (same ∙ ap (next_in wish pixels s) parts) in
             absurd (omega (arith, few, long, here, lt))
       ]
 
   -- if more are needed, they are with fewer octets too
-  pub open_before : (octets : List ℕ) (n : ℕ) → Opens (next_in book pixels s octets) → Opens (next_in book pixels s (take n octets))
+  pub open_before : (octets : List ℕ) (n : ℕ) → Opens (next_in wish pixels s octets) → Opens (next_in wish pixels s (take n octets))
   open_before octets n opened =
       let parts = take-append-drop n octets in
       elim (next_stays (take n octets) (drop n octets)) [
         | inl before ↦ before
-        | inr same ↦ (opened.0, same ∙ ap (next_in book pixels s) parts ∙ opened.1)
+        | inr same ↦ (opened.0, same ∙ ap (next_in wish pixels s) parts ∙ opened.1)
       ]
 
   -- no octet decides nothing
-  pub none_opens : Opens (next_in book pixels s [])
+  pub none_opens : Opens (next_in wish pixels s [])
   none_opens = by s.ended
     where
-      by_head : (o : Option HeadDecided) → ((d : HeadDecided) → o ≡ Some d → HeadEndsThere s.before [] d) → Opens (head_next book pixels s [] o)
+      by_head : (o : Option HeadDecided) → ((d : HeadDecided) → o ≡ Some d → HeadEndsThere s.before [] d) → Opens (head_next wish pixels s [] o)
       by_head None there = (_, refl)
       by_head (Some d) there = (let h = there d refl in let least = h.least in let enough = h.enough in absurd (omega (arith, least, enough)))
 
-      by : (ended : Option Geometry) → Opens (next_by book pixels s [] ended)
+      by : (ended : Option Geometry) → Opens (next_by wish pixels s [] ended)
       by None = by_head (bare_head_in s.before []) (heads s.before [])
       by (Some g) = (Ok g, refl)
 
   -- what is not open stays
-  pub text_stays : (octets more : List ℕ) (head : SegmentHead) (n : ℕ) (w : List (List ℤ)) → next_in book pixels s octets ≡ text head n w →
-      next_in book pixels s (octets ++ more) ≡ text head n w
+  pub text_stays : (octets more : List ℕ) (head : SegmentHead) (n : ℕ) (w : List (List ℤ)) → next_in wish pixels s octets ≡ text head n w →
+      next_in wish pixels s (octets ++ more) ≡ text head n w
   text_stays octets more head n w e = elim (next_stays octets more) [
     | inl opened ↦ absurd (not_open head n w opened.0 (sym e ∙ opened.1))
     | inr same ↦ sym same ∙ e
@@ -282,8 +282,8 @@ module _ (heads : BareHeadsEndThere) (texts : TextsEndThere) (book : Book) (soun
       not_open : (head : SegmentHead) (n : ℕ) (w : List (List ℤ)) (r : Result Geometry BareFault) → text head n w ≡ ends (needs_more r) → ⊥
       not_open head n w r e = cc
 
-  pub stop_stays : (octets more : List ℕ) (fault : BareFault) (n : ℕ) → next_in book pixels s octets ≡ ends (stops fault n) →
-      next_in book pixels s (octets ++ more) ≡ ends (stops fault n)
+  pub stop_stays : (octets more : List ℕ) (fault : BareFault) (n : ℕ) → next_in wish pixels s octets ≡ ends (stops fault n) →
+      next_in wish pixels s (octets ++ more) ≡ ends (stops fault n)
   stop_stays octets more fault n e = elim (next_stays octets more) [
     | inl opened ↦ absurd (not_open fault n opened.0 (sym e ∙ opened.1))
     | inr same ↦ sym same ∙ e

@@ -1,6 +1,6 @@
 -- Octets of the next segment are read.
-use Rattle.std.proofs.Common.{◌≡◌, ◌⊎◌, ◌≤◌, ◌<◌, ◌+◌, ℕ, inl, inr, true, Bool, List, [], ◌++◌, length, take, refl, sym, ap, subst, ◌∙◌, arith}
-use Rattle.std.proofs.Common.{append_assoc, length-append, Option, None, Some}
+use Rattle.std.proofs.Common.{◌≡◌, ◌≤◌, ◌+◌, ℕ, inl, inr, true, Bool, List, [], ◌++◌, length, take, refl, sym, ap, subst, ◌∙◌, arith}
+use Rattle.std.proofs.Common.{append_assoc, length-append, Option}
 use Rattle.std.specs.List.{concat}
 use Rattle.std.proofs.lemmas.List.{append-nil, take-append-le}
 use Rattle.port_122.specs.Outside.{Outside, Loses}
@@ -9,7 +9,7 @@ use Rattle.port_122.proofs.ReadCalls.{since_in}
 use Rattle.base_122.specs.declared.wish.DecodeWish.{DecodeWish}
 use Rattle.bit_pipe.specs.Sources.{Arrives}
 use Rattle.bare_stream.specs.declared.input.PortIn.{PortIn}
-use Rattle.bare_stream.specs.Input.{Went, AsksWithin, IsLast, waiting, tail_of}
+use Rattle.bare_stream.specs.Input.{Went, AsksWithin, waiting, tail_of}
 use Rattle.bare_stream.specs.InputLaws.{still_known, still_last}
 use Rattle.bare_stream.specs.Decoded.{IfKnown, IsOpen, TakesNone}
 use Rattle.bare_stream.specs.Reads.{SegmentsRead, HasRead, AskedBefore, AskedNow, AsksIn, size_of}

@@ -1,11 +1,12 @@
 -- One more segment is read.
-use Rattle.std.proofs.Common.{◌≡◌, ◌≤◌, ◌<◌, ◌+◌, ℕ, ℤ, List, [], ◌∷◌, ◌++◌, length, take, drop, refl, sym, ap, ◌∙◌, subst, arith, append_assoc}
-use Rattle.std.proofs.Common.{length-append, Bool, if◌then◌else◌, Option, None, Some, unwrap_or}
+use Rattle.std.proofs.Common.{◌≡◌, ◌<◌, ◌+◌, ℕ, ℤ, List, [], ◌∷◌, ◌++◌, length, take, refl, sym, ap, ◌∙◌, arith, append_assoc}
+use Rattle.std.proofs.Common.{length-append, if◌then◌else◌, Option, None, Some, unwrap_or}
 use Rattle.std.specs.List.{concat}
 use Rattle.std.proofs.lemmas.List.{append-nil, length_push, drop_at}
 use Rattle.port_122.specs.Outside.{Outside, Exchange, NoRead}
 use Rattle.base_122.specs.declared.geometry.Geometry.{Geometry}
 use Rattle.base_122.specs.declared.wish.DecodeWish.{DecodeWish}
+use Rattle.segment_defs.specs.TextWish.{text_wish}
 use Rattle.segment_defs.specs.declared.head.SegmentHead.{SegmentHead}
 use Rattle.bare_text.specs.declared.parts.PartsInForce.{PartsInForce}
 use Rattle.bare_text.specs.InForce.{parts_after}
@@ -17,7 +18,7 @@ use Rattle.bare_stream.specs.Decoded.{IfKnown, read_by}
 use Rattle.bare_stream.specs.Reads.{HasLaws, SegmentsRead, HasRead, Reaches, InForceAfter, first_of, rows_read, segments_of, size_of}
 use Rattle.bare_stream.proofs.NextReads.{Opens, fewer_open, text_stays, needed}
 use Rattle.bare_stream.proofs.ReadLaws.{read_text}
-use Rattle.bare_stream.proofs.Settles.{asks_given, asks_more}
+use Rattle.bare_stream.proofs.Settles.{asks_more}
 
 pub concat_more : (texts : List (List ℕ)) (t : List ℕ) → concat (texts ++ t ∷ []) ≡ concat texts ++ t
 concat_more [] t = append-nil t
@@ -38,7 +39,7 @@ made first before blocks ended octets = record { first = first; before = before;
 
 module _ (wish : DecodeWish) (laws : HasLaws wish) (r : SegmentsRead) (before after : PartsInForce) (head : SegmentHead) (text : List ℕ) (w : List (List ℤ))
     (ended : Option Geometry) (reaches : Reaches wish r before)
-    (next : next_in wish.book wish.pixels (segments_of r before) text ≡ next_is head (length text) w) (force : (more : List ℕ) →
+    (next : next_in (text_wish wish) wish.pixels (segments_of r before) text ≡ next_is head (length text) w) (force : (more : List ℕ) →
     parts_after before (text ++ more) ≡ after)
     (first : unwrap_or (first_of r.first r.texts) head ≡ r.first) (ends : (if head.last then Some (geometry_at r.first (length r.blocks) head) else None) ≡
     ended) where
@@ -63,24 +64,24 @@ module _ (wish : DecodeWish) (laws : HasLaws wish) (r : SegmentsRead) (before af
 
   pub reaches_more : Reaches wish r' after
   reaches_more more =
-      let there = text_stays laws.heads laws.texts wish.book laws.sound wish.pixels s text more head (length text) w next in
+      let there = text_stays laws.heads laws.texts (text_wish wish) laws.sound wish.pixels s text more head (length text) w next in
       ap (read_by wish) (ap (λ l. l ++ more) (concat_more r.texts text) ∙ append_assoc (concat r.texts) text more)
       ∙ reaches (text ++ more)
-      ∙ read_text laws.heads laws.texts wish.book laws.sound wish.pixels s (text ++ more) head (length text) w there
-      ∙ ap (λ l. read_on wish.book wish.pixels (with_text s head (length text) w (text ++ more)) l) (drop_at text more (length text) refl)
-      ∙ ap (λ x. read_on wish.book wish.pixels x more) (same_segments more)
+      ∙ read_text laws.heads laws.texts (text_wish wish) laws.sound wish.pixels s (text ++ more) head (length text) w there
+      ∙ ap (λ l. read_on (text_wish wish) wish.pixels (with_text s head (length text) w (text ++ more)) l) (drop_at text more (length text) refl)
+      ∙ ap (λ x. read_on (text_wish wish) wish.pixels x more) (same_segments more)
 
 -- ---- one more text
 
 module _ (wish : DecodeWish) (laws : HasLaws wish) {X : Type 0} (outside : X → Outside) (start : Outside) (r : SegmentsRead) (before : PartsInForce)
     (head : SegmentHead) (text more : List ℕ) (w : List (List ℤ)) (t u : PortIn X)
     (read : HasRead outside wish start r text t) (reaches : InForceAfter wish start r before)
-    (next : IfKnown start (λ input. next_in wish.book wish.pixels (segments_of r before) text ≡ next_is head (length text) w))
+    (next : IfKnown start (λ input. next_in (text_wish wish) wish.pixels (segments_of r before) text ≡ next_is head (length text) w))
     (waits : waiting u ≡ waiting t) (left : u.left ≡ t.left) (failed : u.failed ≡ t.failed)
     (out : Exchange (outside t.port.now) (outside u.port.now) [] more [] NoRead) where
-  pub text_opens : IfKnown start (λ input. (n : ℕ) → n < length text → Opens (next_in wish.book wish.pixels (segments_of r before) (take n text)))
+  pub text_opens : IfKnown start (λ input. (n : ℕ) → n < length text → Opens (next_in (text_wish wish) wish.pixels (segments_of r before) (take n text)))
   text_opens input if_known n lt =
-      fewer_open laws.heads laws.texts wish.book laws.sound wish.pixels (segments_of r before) text n (let e =
+      fewer_open laws.heads laws.texts (text_wish wish) laws.sound wish.pixels (segments_of r before) text n (let e =
       ap (needed (segments_of r before)) (next input if_known) in omega (arith, lt, e))
 
   pub octets_all : (ended : Option Geometry) → read.took ≡ concat (with_more r text w ended).texts ++ ([] ++ waiting u)

@@ -1,25 +1,23 @@
 -- The read calls for octets that were read: they decide nothing before the last of them.
-use Rattle.std.proofs.Common.{◌≡◌, ◌⊎◌, ◌≤◌, ◌<◌, ◌+◌, ◌-◌, ◌*◌, ℕ, ℤ, inl, inr, true, Bool, List, [], ◌∷◌, ◌++◌, length, take, refl, sym, ap, subst, ◌∙◌}
-use Rattle.std.proofs.Common.{arith, length-append, Option, None, Some, Result, Ok, Err}
+use Rattle.std.proofs.Common.{◌≡◌, ◌≤◌, ◌<◌, ◌+◌, ◌-◌, ℕ, ℤ, inl, inr, Bool, List, [], ◌∷◌, ◌++◌, length, take, refl, sym, ap, subst, ◌∙◌}
+use Rattle.std.proofs.Common.{arith, length-append, Option, None}
 use Rattle.std.specs.List.{concat}
 use Rattle.std.proofs.lemmas.List.{append-nil, nil_from_length, take-append-le, take_at}
 use Rattle.std.proofs.lemmas.Bool.Decides.{nat_tests}
 use Rattle.std.proofs.Math.Nat.{zero-div}
 use Rattle.std.proofs.Math.Seq.{take-append-add}
-use Rattle.port_122.specs.Outside.{Outside, Exchange, NoRead, Loses}
+use Rattle.port_122.specs.Outside.{Outside, Exchange, NoRead}
 use Rattle.port_122.proofs.Stretches.{since_out, since_weaker}
-use Rattle.base_122.specs.declared.geometry.Geometry.{Geometry}
 use Rattle.base_122.specs.declared.wish.DecodeWish.{DecodeWish}
+use Rattle.segment_defs.specs.TextWish.{text_wish}
 use Rattle.segment_defs.specs.declared.head.SegmentHead.{SegmentHead}
 use Rattle.bare_text.specs.declared.parts.PartsInForce.{PartsInForce}
-use Rattle.bare_stream.specs.declared.fault.BareFault.{BareFault}
 use Rattle.bare_stream.specs.declared.input.PortIn.{PortIn}
 use Rattle.bare_stream.specs.Input.{waiting}
-use Rattle.bare_stream.specs.InputLaws.{still_last}
 use Rattle.bare_stream.specs.Pictures.{open_rows}
-use Rattle.bare_stream.specs.StreamRead.{Ending, needs_more, Segments, Next, ends, next_in}
-use Rattle.bare_stream.specs.Decoded.{IfKnown, IsOpen, TakesNone, AsksBare, read_by, rows_of}
-use Rattle.bare_stream.specs.Reads.{HasLaws, SegmentsRead, HasRead, AskedBefore, AskedNow, AsksIn, Reaches, InForceAfter, first_of, rows_read, segments_of}
+use Rattle.bare_stream.specs.StreamRead.{needs_more, Segments, next_in}
+use Rattle.bare_stream.specs.Decoded.{IfKnown, IsOpen, AsksBare, read_by, rows_of}
+use Rattle.bare_stream.specs.Reads.{HasLaws, SegmentsRead, HasRead, AskedBefore, AskedNow, AsksIn, Reaches, InForceAfter, rows_read, segments_of}
 use Rattle.bare_stream.specs.Reads.{size_of}
 use Rattle.bare_stream.proofs.NextReads.{Opens, none_opens}
 use Rattle.bare_stream.proofs.ReadLaws.{read_ends}
@@ -62,10 +60,11 @@ module _ (wish : DecodeWish) (laws : HasLaws wish) (r : SegmentsRead) (before : 
   s = segments_of r before
 
   -- the octets of the segments and these, if more are needed
-  pub open_with : (part octets rows : List ℕ) → Opens (next_in wish.book wish.pixels s part) → octets ≡ concat r.texts ++ part → rows ≡ rows_read r →
+  pub open_with : (part octets rows : List ℕ) → Opens (next_in (text_wish wish) wish.pixels s part) → octets ≡ concat r.texts ++ part → rows ≡ rows_read r →
       IsOpen wish octets rows
   open_with part octets rows opened e given =
-      let all = ap (read_by wish) e ∙ reaches part ∙ read_ends laws.heads laws.texts wish.book laws.sound wish.pixels s part (needs_more opened.0) opened.1 in
+      let all = ap (read_by wish) e ∙ reaches part ∙ read_ends laws.heads laws.texts (text_wish wish) laws.sound wish.pixels s part
+      (needs_more opened.0) opened.1 in
       record {
         at_end = opened.0;
         needs = ap (λ x. x.ending) all;
@@ -73,12 +72,12 @@ module _ (wish : DecodeWish) (laws : HasLaws wish) (r : SegmentsRead) (before : 
       }
 
   pub open_none : (octets rows : List ℕ) → octets ≡ concat r.texts → rows ≡ rows_read r → IsOpen wish octets rows
-  open_none octets rows e given = open_with [] octets rows (none_opens laws.heads laws.texts wish.book laws.sound wish.pixels s)
+  open_none octets rows e given = open_with [] octets rows (none_opens laws.heads laws.texts (text_wish wish) laws.sound wish.pixels s)
       (e ∙ sym (append-nil (concat r.texts))) given
 
 module _ (wish : DecodeWish) (laws : HasLaws wish) {X : Type 0} (outside : X → Outside) (start : Outside) (r : SegmentsRead) (before : PartsInForce)
     (part : List ℕ) (t : PortIn X) (read : HasRead outside wish start r part t) (reaches : InForceAfter wish start r before)
-    (opens : IfKnown start (λ input. (n : ℕ) → n < length part → Opens (next_in wish.book wish.pixels (segments_of r before) (take n part)))) where
+    (opens : IfKnown start (λ input. (n : ℕ) → n < length part → Opens (next_in (text_wish wish) wish.pixels (segments_of r before) (take n part)))) where
   abbrev failed : Bool
   failed = t.failed
 

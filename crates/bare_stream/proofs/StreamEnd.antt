@@ -1,11 +1,11 @@
 -- After all segments the end of the input is read, or what follows instead of it.
-use Rattle.std.proofs.Common.{◌≡◌, ◌+◌, ℕ, List, [], ◌∷◌, ◌++◌, length, refl, sym, ap, ◌∙◌, subst, arith, inl, inr, Option, None, Some, Result, Ok, Err}
+use Rattle.std.proofs.Common.{◌≡◌, ◌+◌, ℕ, List, [], ◌∷◌, length, refl, sym, ap, ◌∙◌, subst, inl, inr, Option, None, Some, Ok, Err}
 use Rattle.port_122.specs.Outside.{Outside, IsUsedUp}
 use Rattle.base_122.specs.declared.geometry.Geometry.{Geometry}
 use Rattle.base_122.specs.declared.wish.DecodeWish.{DecodeWish}
+use Rattle.segment_defs.specs.TextWish.{text_wish}
 use Rattle.bit_pipe.specs.declared.fault.InFault.TheVariants as in_faults
 use Rattle.bit_pipe.specs.Sources.{Arrives, IsOver, Plainly, GivesOctet}
-use Rattle.bare_text.specs.declared.parts.PartsInForce.{PartsInForce}
 use Rattle.bare_stream.specs.declared.fault.BareCause.TheVariants.{Trailing}
 use Rattle.bare_stream.specs.declared.fault.BareFault.{BareFault}
 use Rattle.bare_stream.specs.declared.fault.BareFault.TheVariants.{ReadFault, LongInput, Refused}
@@ -15,7 +15,7 @@ use Rattle.bare_stream.specs.Heads.{ExpectsEnd}
 use Rattle.bare_stream.specs.Input.{Went, waiting, tail_of, tail_with}
 use Rattle.bare_stream.specs.Inputs.{source_of}
 use Rattle.bare_stream.specs.Pictures.{geometry_at}
-use Rattle.bare_stream.specs.StreamRead.{needs_more, stops, Segments, Next, ends, next_by, next_in}
+use Rattle.bare_stream.specs.StreamRead.{needs_more, stops, Segments, ends, next_by, next_in}
 use Rattle.bare_stream.specs.Decoded.{IfKnown, DecodesBare}
 use Rattle.bare_stream.specs.Reads.{SegmentsRead, HasRead, segments_of, size_of}
 use Rattle.bare_stream.specs.Walks.{HasEnded}
@@ -40,16 +40,17 @@ module _ {X : Type 0} (outside : X → Outside) (wish : DecodeWish) (start : Out
   abbrev read : HasRead outside wish start r went.gave t
   read = read_on outside wish start r [] s t ended.read went
 
-  next_is : (octets : List ℕ) → next_in wish.book wish.pixels all octets ≡ next_by wish.book wish.pixels all octets (Some ended.g)
-  next_is octets = ap (next_by wish.book wish.pixels all octets) ended.ended
+  next_is : (octets : List ℕ) → next_in (text_wish wish) wish.pixels all octets ≡ next_by (text_wish wish) wish.pixels all octets (Some ended.g)
+  next_is octets = ap (next_by (text_wish wish) wish.pixels all octets) ended.ended
 
   -- no octet followed
   none_gave : Arrives (tail_of outside s) (tail_of outside t) [] →
-      IfKnown start (λ input. next_in wish.book wish.pixels all went.gave ≡ ends (needs_more (Ok ended.g)))
-  none_gave came input if_known = ap (next_in wish.book wish.pixels all) (sym (gave_known outside wish start r [] s t ended.read went [] came input if_known))
+      IfKnown start (λ input. next_in (text_wish wish) wish.pixels all went.gave ≡ ends (needs_more (Ok ended.g)))
+  none_gave came input if_known = ap (next_in (text_wish wish) wish.pixels all) (sym
+      (gave_known outside wish start r [] s t ended.read went [] came input if_known))
       ∙ next_is []
 
-  opens : Arrives (tail_of outside s) (tail_of outside t) [] → IfKnown start (λ input. Opens (next_in wish.book wish.pixels all went.gave))
+  opens : Arrives (tail_of outside s) (tail_of outside t) [] → IfKnown start (λ input. Opens (next_in (text_wish wish) wish.pixels all went.gave))
   opens came input if_known = (Ok ended.g, none_gave came input if_known)
 
   pub ends_there : GivesOctet (source_of outside) (Ok None) s t → DecodesBare wish start (outside t.port.now) (Ok ended.g)
@@ -68,10 +69,10 @@ module _ {X : Type 0} (outside : X → Outside) (wish : DecodeWish) (start : Out
 
   -- an octet followed
   one_gave : (octet : ℕ) → Arrives (tail_of outside s) (tail_of outside t) (octet ∷ []) →
-      IfKnown start (λ input. next_in wish.book wish.pixels all went.gave ≡ ends (stops (Refused w.index Trailing) (size_of r + length went.gave)))
+      IfKnown start (λ input. next_in (text_wish wish) wish.pixels all went.gave ≡ ends (stops (Refused w.index Trailing) (size_of r + length went.gave)))
   one_gave octet came input if_known =
       let gave = gave_known outside wish start r [] s t ended.read went (octet ∷ []) came input if_known in
-      ap (next_in wish.book wish.pixels all) (sym gave) ∙ next_is (octet ∷ [])
+      ap (next_in (text_wish wish) wish.pixels all) (sym gave) ∙ next_is (octet ∷ [])
       ∙ ap (λ n. ends (stops (Refused n Trailing) (size_of r + 1))) (sym ended.index)
       ∙ ap (λ l. ends (stops (Refused w.index Trailing) (size_of r + length l))) gave
 

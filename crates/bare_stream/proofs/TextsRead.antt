@@ -1,8 +1,9 @@
 -- The text of the next segment is read, or a decoder ends in it.
-use Rattle.std.proofs.Common.{◌≡◌, ◌≤◌, ◌+◌, ℕ, ℤ, List, [], ◌++◌, length, refl, sym, ap, ◌∙◌, subst, arith, append_assoc, length-append, None, Some}
+use Rattle.std.proofs.Common.{◌≡◌, ◌≤◌, ◌+◌, ℕ, ℤ, List, [], ◌++◌, length, refl, sym, ap, ◌∙◌, subst, arith, append_assoc, length-append}
 use Rattle.std.proofs.Common.{unwrap_or, Result, Ok, Err}
 use Rattle.port_122.specs.Outside.{Outside}
 use Rattle.base_122.specs.declared.wish.DecodeWish.{DecodeWish}
+use Rattle.segment_defs.specs.TextWish.{text_wish}
 use Rattle.item_defs.specs.Items.{Refusal, bad_option, bad_delta, bad_depth, false_flag}
 use Rattle.wave_defs.specs.Held.{blocks_in}
 use Rattle.bit_pipe.specs.declared.fault.Part.{Part}
@@ -16,18 +17,16 @@ use Rattle.bare_text.specs.declared.read.BareHead.{BareHead}
 use Rattle.bare_text.specs.InForce.{parts_after}
 use Rattle.bare_stream.specs.declared.input.PortIn.{PortIn}
 use Rattle.bare_stream.specs.declared.walk.Walk.{Walk}
-use Rattle.bare_stream.specs.declared.fault.BareCause.{BareCause}
-use Rattle.bare_stream.specs.declared.fault.BareCause.TheVariants.{BadOption, BadDelta, BadDepth, FalseFlag, Short}
+use Rattle.bare_stream.specs.declared.fault.BareCause.TheVariants.{Short}
 use Rattle.bare_stream.specs.declared.fault.BareFault.{BareFault}
-use Rattle.bare_stream.specs.declared.fault.BareFault.TheVariants.{ReadFault, LongInput, Refused}
-use Rattle.bare_stream.specs.Input.{waiting}
+use Rattle.bare_stream.specs.declared.fault.BareFault.TheVariants.{Refused}
 use Rattle.bare_stream.specs.Inputs.{source_of}
 use Rattle.bare_stream.specs.Pictures.{pixels_at, shape_with}
 use Rattle.bare_stream.specs.StreamRead.{needs_more, stops, Segments, text, ends, cause_of, next_in}
 use Rattle.bare_stream.specs.Decoded.{IfKnown, DecodesBare}
 use Rattle.bare_stream.specs.Heads.{AgreesWith, FaultOf}
-use Rattle.bare_stream.specs.Reads.{SegmentsRead, HasRead, InForceAfter, ShowsRead, first_of, segments_of, size_of}
-use Rattle.bare_stream.specs.Walks.{IsAt, IsNext, IsHeadOf, IsNextText, book_in}
+use Rattle.bare_stream.specs.Reads.{SegmentsRead, HasRead, InForceAfter, ShowsRead, segments_of, size_of}
+use Rattle.bare_stream.specs.Walks.{IsAt, IsNext, IsHeadOf, wish_in}
 use Rattle.picture_rows.specs.Pictures.{picture_state}
 use Rattle.bare_stream.proofs.ReadsOn.{read_on, read_on-gave, gave_known}
 use Rattle.bare_stream.proofs.NextHeads.{first_is}
@@ -67,7 +66,8 @@ module _ {X : Type 0} (outside : X → Outside) (wish : DecodeWish) (start : Out
 
   -- ---- the octets after the head
 
-  module _ {result : Result Part SegmentFault} {cells : List ℤ} (x : DecodesItems (source_of outside) wish.book read.head read.size result s t cells) where
+  module _ {result : Result Part SegmentFault} {cells : List ℤ} (x : DecodesItems (source_of outside)
+      (text_wish wish) read.head read.size result s t cells) where
     abbrev gave : List ℕ
     gave = x.went.gave
 
@@ -87,28 +87,28 @@ module _ {X : Type 0} (outside : X → Outside) (wish : DecodeWish) (start : Out
     size_all : size_of r + (length prefix + length gave) ≡ size_of r + length all
     size_all = omega (arith, length-append prefix gave)
 
-    item_is : (name : Refusal) → Decides wish.book read.head read.size x.octets (refuses name) →
-        IfKnown start (λ input. next_in wish.book wish.pixels segments all ≡ ends (stops (Refused w.index (cause_of name)) (size_of r + length all)))
+    item_is : (name : Refusal) → Decides (text_wish wish) read.head read.size x.octets (refuses name) →
+        IfKnown start (λ input. next_in (text_wish wish) wish.pixels segments all ≡ ends (stops (Refused w.index (cause_of name)) (size_of r + length all)))
     item_is name decides input if_known =
         let h = head input if_known in
-        next_item at.laws.heads wish.book wish.pixels segments at.going prefix read.head h.head (agrees h.starts) (few h.starts) gave name
-        (moved (λ n l. Decides wish.book read.head n l (refuses name)) decides input if_known)
+        next_item at.laws.heads (text_wish wish) wish.pixels segments at.going prefix read.head h.head (agrees h.starts) (few h.starts) gave name
+        (moved (λ n l. Decides (text_wish wish) read.head n l (refuses name)) decides input if_known)
         ∙ ap (λ n. ends (stops (Refused n (cause_of name)) (size_of r + (length prefix + length gave)))) (sym same_index)
         ∙ ap (λ n. ends (stops (Refused w.index (cause_of name)) n)) size_all
 
-    cut_is : NeedsMore wish.book read.head read.size x.octets →
-        IfKnown start (λ input. next_in wish.book wish.pixels segments all ≡ ends (needs_more (Err (Refused w.index Short))))
+    cut_is : NeedsMore (text_wish wish) read.head read.size x.octets →
+        IfKnown start (λ input. next_in (text_wish wish) wish.pixels segments all ≡ ends (needs_more (Err (Refused w.index Short))))
     cut_is needs input if_known =
         let h = head input if_known in
-        next_cut at.laws.heads wish.book wish.pixels segments at.going prefix read.head h.head (agrees h.starts) (few h.starts) gave
-        (moved (λ n l. NeedsMore wish.book read.head n l) needs input if_known)
+        next_cut at.laws.heads (text_wish wish) wish.pixels segments at.going prefix read.head h.head (agrees h.starts) (few h.starts) gave
+        (moved (λ n l. NeedsMore (text_wish wish) read.head n l) needs input if_known)
         ∙ ap (λ n. ends (needs_more (Err (Refused n Short)))) (sym same_index)
 
-    opens : NeedsMore wish.book read.head read.size x.octets → IfKnown start (λ input. Opens (next_in wish.book wish.pixels segments all))
+    opens : NeedsMore (text_wish wish) read.head read.size x.octets → IfKnown start (λ input. Opens (next_in (text_wish wish) wish.pixels segments all))
     opens needs input if_known = (_, cut_is needs input if_known)
 
     -- an item is refused
-    refused_by : (name : Refusal) → Decides wish.book read.head read.size x.octets (refuses name) →
+    refused_by : (name : Refusal) → Decides (text_wish wish) read.head read.size x.octets (refuses name) →
         DecodesBare wish start (outside t.port.now) (Err (Refused w.index (cause_of name)))
     refused_by name decides =
         ended_by wish at.laws outside start r before all t now_read reaches (Refused w.index (cause_of name)) (size_of r + length all)
@@ -118,7 +118,8 @@ module _ {X : Type 0} (outside : X → Outside) (wish : DecodeWish) (start : Out
   Ended fault = DecodesBare wish start (outside t.port.now) (Err fault)
 
   -- the items were not read
-  pub items_faulted : (cells : List ℤ) (f : SegmentFault) (fault : BareFault) → DecodesItems (source_of outside) wish.book read.head read.size (no_error f)
+  pub items_faulted : (cells : List ℤ) (f : SegmentFault) (fault : BareFault) →
+      DecodesItems (source_of outside) (text_wish wish) read.head read.size (no_error f)
       s t cells → FaultOf w.index f fault → Ended fault
   items_faulted cells faults.BadOption fault x e = subst Ended (sym e) (refused_by x bad_option x.ends)
   items_faulted cells faults.BadDelta fault x e = subst Ended (sym e) (refused_by x bad_delta x.ends)
@@ -137,28 +138,29 @@ module _ {X : Type 0} (outside : X → Outside) (wish : DecodeWish) (start : Out
 
   -- ---- the text is read
 
-  module _ (cells : List ℤ) (part : Part) (x : DecodesItems (source_of outside) wish.book read.head read.size (Ok part) s t cells) where
-    pub text_at : (v : Walk) → v.first ≡ w.first → v.index ≡ w.index → v.pixels ≡ w.pixels → book_in v ≡ book_in w → v.picture ≡ w.picture →
+  module _ (cells : List ℤ) (part : Part) (x : DecodesItems (source_of outside) (text_wish wish) read.head read.size (Ok part) s t cells) where
+    pub text_at : (v : Walk) → v.first ≡ w.first → v.index ≡ w.index → v.pixels ≡ w.pixels → wish_in v ≡ wish_in w → v.picture ≡ w.picture →
         IsAt outside wish start r (prefix ++ x.went.gave) t v
-    text_at v first index pixels book picture = record {
+    text_at v first index pixels wished picture = record {
       laws = at.laws;
       read = read_on outside wish start r prefix s t at.read x.went;
       going = at.going;
       first = at.first ∙ sym first;
       index = index ∙ at.index;
       pixels = pixels ∙ at.pixels;
-      book = book ∙ at.book;
+      wished = wished ∙ at.wished;
       shows = subst (λ p. ShowsRead (shape_with r.first 262144) r (read_on outside wish start r prefix s t at.read x.went).gave (picture_state p)) (sym picture)
           (subst (λ l. ShowsRead (shape_with r.first 262144) r l (picture_state w.picture))
           (sym (read_on-gave outside wish start r prefix s t at.read x.went)) at.shows);
     }
 
-    pub text_is : IfKnown start (λ input. next_in wish.book wish.pixels segments (prefix ++ x.went.gave) ≡ text read.head (length (prefix ++ x.went.gave))
+    pub text_is : IfKnown start (λ input. next_in (text_wish wish) wish.pixels segments (prefix ++ x.went.gave) ≡ text read.head (length
+        (prefix ++ x.went.gave))
         (blocks_in cells))
     text_is input if_known =
         let h = head input if_known in
-        let decides = moved x (λ n l. Decides wish.book read.head n l (gives part (blocks_in cells))) x.ends input if_known in
-        next_text at.laws.heads wish.book wish.pixels segments at.going prefix read.head h.head (agrees h.starts) (few h.starts) x.went.gave part
+        let decides = moved x (λ n l. Decides (text_wish wish) read.head n l (gives part (blocks_in cells))) x.ends input if_known in
+        next_text at.laws.heads (text_wish wish) wish.pixels segments at.going prefix read.head h.head (agrees h.starts) (few h.starts) x.went.gave part
         (blocks_in cells) decides
         ∙ ap (λ n. text read.head n (blocks_in cells)) (sym (length-append prefix x.went.gave))
 

@@ -3,6 +3,7 @@ use Rattle.std.proofs.Common.{◌≡◌, ◌≤◌, ◌<◌, ◌+◌, ◌*◌, �
 use Rattle.port_122.specs.Outside.{Outside}
 use Rattle.base_122.specs.Sizes.{first_block, total_blocks}
 use Rattle.base_122.specs.declared.wish.DecodeWish.{DecodeWish}
+use Rattle.segment_defs.specs.TextWish.{text_wish}
 use Rattle.segment_defs.specs.declared.head.SegmentHead.{SegmentHead}
 use Rattle.bare_text.specs.declared.parts.PartsInForce.{PartsInForce}
 use Rattle.wave_defs.specs.Held.{blocks_in}
@@ -23,7 +24,7 @@ use Rattle.bare_stream.proofs.RowsShown.{rows_open}
 module _ (wish : DecodeWish) (laws : HasLaws wish) {X : Type 0} (outside : X → Outside) (start : Outside) (r : SegmentsRead) (before : PartsInForce)
     (head : SegmentHead) (text : List ℕ) (w : List (List ℤ)) (cells : List ℤ) (t u : PortIn X)
     (read : HasRead outside wish start r text t) (reaches : InForceAfter wish start r before)
-    (next : IfKnown start (λ input. next_in wish.book wish.pixels (segments_of r before) text ≡ next_is head (length text) w))
+    (next : IfKnown start (λ input. next_in (text_wish wish) wish.pixels (segments_of r before) text ≡ next_is head (length text) w))
     (v z : Walk) (shows : ShowsRead (shape_with r.first 262144) r read.gave (picture_state v.picture)) (waits : waiting u ≡ waiting t)
     (left : u.left ≡ t.left) (failed : u.failed ≡ t.failed)
     (put : HasPutBlocks cells r.first.blocks (outside t.port.now) (outside u.port.now) (picture_state v.picture) (picture_state z.picture))

@@ -1,9 +1,9 @@
 -- Octets that are read whole, as a bare stream.
-use Rattle.std.proofs.Common.{◌≡◌, ◌⊎◌, ◌≤◌, ◌<◌, ◌+◌, max, ℕ, zero, suc, ℤ, true, false, Bool, nat_lt, if◌then◌else◌, inl, inr, List, [], ◌∷◌, ◌++◌}
+use Rattle.std.proofs.Common.{◌≡◌, ◌⊎◌, ◌≤◌, ◌<◌, ◌+◌, max, ℕ, zero, suc, ℤ, true, false, Bool, nat_lt, if◌then◌else◌, inl, inr, List, [], ◌∷◌}
 use Rattle.std.proofs.Common.{length, take, drop, refl, sym, ap, ◌∙◌, subst, arith, Option, None, Some, Result, Ok, Err, unwrap_or}
 use Rattle.std.proofs.lemmas.Bool.Decides.{nat_tests}
 use Rattle.std.proofs.lemmas.List.{take_all}
-use Rattle.base_122.specs.declared.book.Book.{Book}
+use Rattle.segment_defs.specs.TextWish.{TextWish, text_wish}
 use Rattle.base_122.specs.declared.geometry.Geometry.{Geometry}
 use Rattle.base_122.specs.declared.wish.DecodeWish.{DecodeWish}
 use Rattle.segment_defs.specs.declared.head.SegmentHead.{SegmentHead}
@@ -47,16 +47,16 @@ pixels_not pixels found s size a not = by (nat_lt pixels found)
     by true = tt
     by false = not
 
-module _ (book : Book) (pixels : ℕ) where
-  result_not : (s : Segments) (octets : List ℕ) (size : ℕ) (result : Result SegmentHead HeadFault) → NotOk (by_head book pixels s octets size result)
+module _ (wish : TextWish) (pixels : ℕ) where
+  result_not : (s : Segments) (octets : List ℕ) (size : ℕ) (result : Result SegmentHead HeadFault) → NotOk (by_head wish pixels s octets size result)
   result_not s octets size (Err fault) = tt
   result_not s octets size (Ok head) =
       let first = unwrap_or s.first head in
       let index = length s.blocks in
       agreement_not s size (first_refusal (agreement_tests first index head)) _
-      (pixels_not pixels (pixels_at first index head) s size _ (items_not s head size (answer_in book head size (drop size octets))))
+      (pixels_not pixels (pixels_at first index head) s size _ (items_not s head size (answer_in wish head size (drop size octets))))
 
-  head_not : (s : Segments) (octets : List ℕ) (o : Option HeadDecided) → NotOk (head_next book pixels s octets o)
+  head_not : (s : Segments) (octets : List ℕ) (o : Option HeadDecided) → NotOk (head_next wish pixels s octets o)
   head_not s octets None = tt
   head_not s octets (Some d) = result_not s octets d.octets d.result
 
@@ -65,7 +65,7 @@ module _ (book : Book) (pixels : ℕ) where
     pub ended : s.ended ≡ Some g
     pub none : octets ≡ []
 
-  pub next_ok : (s : Segments) (octets : List ℕ) (g : Geometry) → next_in book pixels s octets ≡ ends (needs_more (Ok g)) → AtLast s octets g
+  pub next_ok : (s : Segments) (octets : List ℕ) (g : Geometry) → next_in wish pixels s octets ≡ ends (needs_more (Ok g)) → AtLast s octets g
   next_ok s octets g e = by s.ended refl e
     where
       same_ok : (a b : Geometry) → ends (needs_more (Ok a)) ≡ ends (needs_more (Ok b)) → a ≡ b
@@ -75,7 +75,7 @@ module _ (book : Book) (pixels : ℕ) where
       at_end h [] e = (same_ok h g e, refl)
       at_end h (x ∷ l) e = absurd cc
 
-      by : (ended : Option Geometry) → s.ended ≡ ended → next_by book pixels s octets ended ≡ ends (needs_more (Ok g)) → AtLast s octets g
+      by : (ended : Option Geometry) → s.ended ≡ ended → next_by wish pixels s octets ended ≡ ends (needs_more (Ok g)) → AtLast s octets g
       by None so e = absurd (subst NotOk e (head_not s octets (bare_head_in s.before octets)))
       by (Some h) so e = (let l = at_end h octets e in record { ended = so ∙ ap (λ k. Some k) l.0; none = l.1 })
 
@@ -90,18 +90,18 @@ module _ (book : Book) (pixels : ℕ) where
   abbrev IsSound : Segments → Type 0
   IsSound s = (s.ended ≡ None) ⊎ ((first : SegmentHead) × (s.first ≡ Some first))
 
-  whole_after : (n : ℕ) (s : Segments) (octets : List ℕ) (g : Geometry) → IsSound s → (read_after n book pixels s octets).ending ≡ needs_more (Ok g) →
-      IsWhole (read_after n book pixels s octets) g
+  whole_after : (n : ℕ) (s : Segments) (octets : List ℕ) (g : Geometry) → IsSound s → (read_after n wish pixels s octets).ending ≡ needs_more (Ok g) →
+      IsWhole (read_after n wish pixels s octets) g
   unfolding read_after
   whole_after zero s octets g sound e = absurd (wrong e)
     where
       wrong : {a : BareFault} → needs_more (Err a) ≡ needs_more (Ok g) → ⊥
       wrong e = cc
-  whole_after (suc n) s octets g sound e = by (λ z l a b. whole_after n z l g a b) (next_in book pixels s octets) refl e
+  whole_after (suc n) s octets g sound e = by (λ z l a b. whole_after n z l g a b) (next_in wish pixels s octets) refl e
     where
-      by : ((z : Segments) (l : List ℕ) → IsSound z → (read_after n book pixels z l).ending ≡ needs_more (Ok g) →
-          IsWhole (read_after n book pixels z l) g) → (next : Next) → next_in book pixels s octets ≡ next →
-          (continued (read_after n book pixels) s octets next).ending ≡ needs_more (Ok g) → IsWhole (continued (read_after n book pixels) s octets next) g
+      by : ((z : Segments) (l : List ℕ) → IsSound z → (read_after n wish pixels z l).ending ≡ needs_more (Ok g) →
+          IsWhole (read_after n wish pixels z l) g) → (next : Next) → next_in wish pixels s octets ≡ next →
+          (continued (read_after n wish pixels) s octets next).ending ≡ needs_more (Ok g) → IsWhole (continued (read_after n wish pixels) s octets next) g
       by again (text head k w) so e = again (with_text s head k w octets) (drop k octets) (inr (unwrap_or s.first head, refl)) e
       by again (ends ending) so e =
           let last = next_ok s octets g (so ∙ ap (λ x. ends x) e) in
@@ -111,23 +111,23 @@ module _ (book : Book) (pixels : ℕ) where
           ]
 
 -- all rows of the picture are determined
-pub whole_rows : (book : Book) (pixels : ℕ) (octets : List ℕ) (g : Geometry) → (stream_in book pixels octets).ending ≡ needs_more (Ok g) →
-    rows_of (stream_in book pixels octets).segments ≡ all_rows g (stream_in book pixels octets).segments.blocks
-whole_rows book pixels octets g e =
-    let w = whole_after book pixels (suc (length octets)) none_read octets g (inl refl) e in
-    by (stream_in book pixels octets) w
+pub whole_rows : (wish : TextWish) (pixels : ℕ) (octets : List ℕ) (g : Geometry) → (stream_in wish pixels octets).ending ≡ needs_more (Ok g) →
+    rows_of (stream_in wish pixels octets).segments ≡ all_rows g (stream_in wish pixels octets).segments.blocks
+whole_rows wish pixels octets g e =
+    let w = whole_after wish pixels (suc (length octets)) none_read octets g (inl refl) e in
+    by (stream_in wish pixels octets) w
   where
-    by : (x : Read) → IsWhole book pixels x g → rows_of x.segments ≡ all_rows g x.segments.blocks
+    by : (x : Read) → IsWhole wish pixels x g → rows_of x.segments ≡ all_rows g x.segments.blocks
     by x w = rw (w.first_is, w.ended) refl
 
 -- and the last segment was read
-pub whole_ended : (book : Book) (pixels : ℕ) (octets : List ℕ) (g : Geometry) → (stream_in book pixels octets).ending ≡ needs_more (Ok g) →
-    (stream_in book pixels octets).segments.ended ≡ Some g
-whole_ended book pixels octets g e = (whole_after book pixels (suc (length octets)) none_read octets g (inl refl) e).ended
+pub whole_ended : (wish : TextWish) (pixels : ℕ) (octets : List ℕ) (g : Geometry) → (stream_in wish pixels octets).ending ≡ needs_more (Ok g) →
+    (stream_in wish pixels octets).segments.ended ≡ Some g
+whole_ended wish pixels octets g e = (whole_after wish pixels (suc (length octets)) none_read octets g (inl refl) e).ended
 
 -- ---- more pixels may be allowed
 
-module _ (book : Book) (p q : ℕ) (le : p ≤ q) where
+module _ (wish : TextWish) (p q : ℕ) (le : p ≤ q) where
   found_few : (found : ℕ) (s : Segments) (size : ℕ) (a b : Next) (head : SegmentHead) (k : ℕ) (w : List (List ℤ)) →
       (a ≡ text head k w → b ≡ text head k w) → by_pixels p found s size a ≡ text head k w → by_pixels q found s size b ≡ text head k w
   found_few found s size a b head k w same e = by (nat_lt p found) refl e
@@ -148,7 +148,7 @@ module _ (book : Book) (p q : ℕ) (le : p ≤ q) where
   agrees_few s size (Some fault) a b head k w same e = e
 
   result_few : (s : Segments) (octets : List ℕ) (size : ℕ) (result : Result SegmentHead HeadFault) (head : SegmentHead) (k : ℕ) (w : List (List ℤ)) →
-      by_head book p s octets size result ≡ text head k w → by_head book q s octets size result ≡ text head k w
+      by_head wish p s octets size result ≡ text head k w → by_head wish q s octets size result ≡ text head k w
   result_few s octets size (Err fault) head k w e = e
   result_few s octets size (Ok h) head k w e =
       let first = unwrap_or s.first h in
@@ -156,48 +156,48 @@ module _ (book : Book) (p q : ℕ) (le : p ≤ q) where
       agrees_few s size (first_refusal (agreement_tests first index h)) _ _ head k w (found_few (pixels_at first index h) s size _ _ head k w (λ f. f)) e
 
   head_few : (s : Segments) (octets : List ℕ) (o : Option HeadDecided) (head : SegmentHead) (k : ℕ) (w : List (List ℤ)) →
-      head_next book p s octets o ≡ text head k w → head_next book q s octets o ≡ text head k w
+      head_next wish p s octets o ≡ text head k w → head_next wish q s octets o ≡ text head k w
   head_few s octets None head k w e = e
   head_few s octets (Some d) head k w e = result_few s octets d.octets d.result head k w e
 
-  next_few : (s : Segments) (octets : List ℕ) (head : SegmentHead) (k : ℕ) (w : List (List ℤ)) → next_in book p s octets ≡ text head k w →
-      next_in book q s octets ≡ text head k w
+  next_few : (s : Segments) (octets : List ℕ) (head : SegmentHead) (k : ℕ) (w : List (List ℤ)) → next_in wish p s octets ≡ text head k w →
+      next_in wish q s octets ≡ text head k w
   next_few s octets head k w e = by s.ended e
     where
-      by : (ended : Option Geometry) → next_by book p s octets ended ≡ text head k w → next_by book q s octets ended ≡ text head k w
+      by : (ended : Option Geometry) → next_by wish p s octets ended ≡ text head k w → next_by wish q s octets ended ≡ text head k w
       by None e = head_few s octets (bare_head_in s.before octets) head k w e
       by (Some g) e = e
 
-  end_few : (s : Segments) (octets : List ℕ) (g : Geometry) → next_in book p s octets ≡ ends (needs_more (Ok g)) →
-      next_in book q s octets ≡ ends (needs_more (Ok g))
+  end_few : (s : Segments) (octets : List ℕ) (g : Geometry) → next_in wish p s octets ≡ ends (needs_more (Ok g)) →
+      next_in wish q s octets ≡ ends (needs_more (Ok g))
   end_few s octets g e =
-      let last = next_ok book p s octets g e in
-      ap (next_by book q s octets) last.ended ∙ sym (ap (next_by book p s octets) last.ended) ∙ e
+      let last = next_ok wish p s octets g e in
+      ap (next_by wish q s octets) last.ended ∙ sym (ap (next_by wish p s octets) last.ended) ∙ e
 
-  same_after : (n : ℕ) (s : Segments) (octets : List ℕ) (g : Geometry) → (read_after n book p s octets).ending ≡ needs_more (Ok g) →
-      read_after n book q s octets ≡ read_after n book p s octets
+  same_after : (n : ℕ) (s : Segments) (octets : List ℕ) (g : Geometry) → (read_after n wish p s octets).ending ≡ needs_more (Ok g) →
+      read_after n wish q s octets ≡ read_after n wish p s octets
   unfolding read_after
   same_after zero s octets g e = refl
-  same_after (suc n) s octets g e = by (λ z l a. same_after n z l g a) (next_in book p s octets) refl e
+  same_after (suc n) s octets g e = by (λ z l a. same_after n z l g a) (next_in wish p s octets) refl e
     where
-      by : ((z : Segments) (l : List ℕ) → (read_after n book p z l).ending ≡ needs_more (Ok g) → read_after n book q z l ≡ read_after n book p z l) →
-          (next : Next) → next_in book p s octets ≡ next → (continued (read_after n book p) s octets next).ending ≡ needs_more (Ok g) →
-          continued (read_after n book q) s octets (next_in book q s octets) ≡ continued (read_after n book p) s octets next
+      by : ((z : Segments) (l : List ℕ) → (read_after n wish p z l).ending ≡ needs_more (Ok g) → read_after n wish q z l ≡ read_after n wish p z l) →
+          (next : Next) → next_in wish p s octets ≡ next → (continued (read_after n wish p) s octets next).ending ≡ needs_more (Ok g) →
+          continued (read_after n wish q) s octets (next_in wish q s octets) ≡ continued (read_after n wish p) s octets next
       by again (text head k w) so e =
-          ap (continued (read_after n book q) s octets) (next_few s octets head k w so) ∙ again (with_text s head k w octets) (drop k octets) e
+          ap (continued (read_after n wish q) s octets) (next_few s octets head k w so) ∙ again (with_text s head k w octets) (drop k octets) e
       by again (ends ending) so e =
           let here = end_few s octets g (so ∙ ap (λ x. ends x) e) in
-          ap (continued (read_after n book q) s octets) (here ∙ ap (λ x. ends x) (sym e))
+          ap (continued (read_after n wish q) s octets) (here ∙ ap (λ x. ends x) (sym e))
 
   -- a stream that is read whole is read so, if more pixels are allowed
-  pub more_pixels : (octets : List ℕ) (g : Geometry) → (stream_in book p octets).ending ≡ needs_more (Ok g) → stream_in book q octets ≡ stream_in book p octets
+  pub more_pixels : (octets : List ℕ) (g : Geometry) → (stream_in wish p octets).ending ≡ needs_more (Ok g) → stream_in wish q octets ≡ stream_in wish p octets
   more_pixels octets g e = same_after (suc (length octets)) none_read octets g e
 
 -- so it is read in one way
-pub same_whole : (book : Book) (p q : ℕ) (octets : List ℕ) (g h : Geometry) → (stream_in book p octets).ending ≡ needs_more (Ok g) →
-    (stream_in book q octets).ending ≡ needs_more (Ok h) → stream_in book p octets ≡ stream_in book q octets
-same_whole book p q octets g h e f =
-    sym (more_pixels book p (max p q) (omega arith) octets g e) ∙ more_pixels book q (max p q) (omega arith) octets h f
+pub same_whole : (wish : TextWish) (p q : ℕ) (octets : List ℕ) (g h : Geometry) → (stream_in wish p octets).ending ≡ needs_more (Ok g) →
+    (stream_in wish q octets).ending ≡ needs_more (Ok h) → stream_in wish p octets ≡ stream_in wish q octets
+same_whole wish p q octets g h e f =
+    sym (more_pixels wish p (max p q) (omega arith) octets g e) ∙ more_pixels wish q (max p q) (omega arith) octets h f
 
 pub one_geometry : (x y : Read) (g h : Geometry) → x ≡ y → x.ending ≡ needs_more (Ok g) → y.ending ≡ needs_more (Ok h) → g ≡ h
 one_geometry x y g h same e f = by g h (sym e ∙ ap (λ z. z.ending) same ∙ f)
@@ -225,8 +225,8 @@ module _ (wish : DecodeWish) (input : List ℕ) (g : Geometry) (right : Ok g ≡
   within = (let low = (ended_right wish input g (reading wish input).ending right).1 in take_all wish.octets input (let lt : length input < wish.octets =
       grind (arith, nat_tests) in omega (arith, lt)))
 
-  pub whole_input : (stream_in wish.book wish.pixels input).ending ≡ needs_more (Ok g)
-  whole_input = ap (λ l. (stream_in wish.book wish.pixels l).ending) (sym within) ∙ (ended_right wish input g (reading wish input).ending right).0
+  pub whole_input : (stream_in (text_wish wish) wish.pixels input).ending ≡ needs_more (Ok g)
+  whole_input = ap (λ l. (stream_in (text_wish wish) wish.pixels l).ending) (sym within) ∙ (ended_right wish input g (reading wish input).ending right).0
 
   pub rows_input : rows_of (reading wish input).segments ≡ all_rows g (reading wish input).segments.blocks
-  rows_input = whole_rows wish.book wish.pixels (take wish.octets input) g (ended_right wish input g (reading wish input).ending right).0
+  rows_input = whole_rows (text_wish wish) wish.pixels (take wish.octets input) g (ended_right wish input g (reading wish input).ending right).0

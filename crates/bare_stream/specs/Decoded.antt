@@ -4,6 +4,7 @@ use Rattle.std.specs.Prelude.{◌≡◌, ◌≤◌, ◌<◌, ◌⊎◌, ℕ, Lis
 use Rattle.port_122.specs.Outside.{Outside, Exchange, AtEnd, Rose}
 use Rattle.base_122.specs.declared.geometry.Geometry.{Geometry}
 use Rattle.base_122.specs.declared.wish.DecodeWish.{DecodeWish}
+use Rattle.segment_defs.specs.TextWish.{text_wish}
 use Rattle.segment_defs.specs.declared.head.SegmentHead.{SegmentHead}
 use Rattle.bare_stream.specs.declared.fault.BareFault.{BareFault}
 use Rattle.bare_stream.specs.declared.fault.BareFault.TheVariants.{ReadFault, WriteFault, Memory}
@@ -22,9 +23,9 @@ rows_from (Some first) s = rows_with first s.ended s.blocks
 abbrev pub rows_of : Segments → List ℕ
 rows_of s = rows_from s.first s
 
--- what these octets are read as, with the book and the cap on pixels of this wish
+-- what these octets are read as, with the book, the numbers and the cap on pixels of this wish
 abbrev pub read_by : DecodeWish → List ℕ → Read
-read_by wish octets = stream_in wish.book wish.pixels octets
+read_by wish octets = stream_in (text_wish wish) wish.pixels octets
 
 -- these octets do not decide the answer, and exactly these rows are determined by their segments
 pub record IsOpen (wish : DecodeWish) (octets given : List ℕ) : Type 0 where

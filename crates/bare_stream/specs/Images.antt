@@ -1,5 +1,5 @@
 -- What the bare stream of an image reports, and what a decoder gives for it. (This project's own.)
-use Rattle.std.specs.Prelude.{◌≡◌, ◌<◌, ℕ, ℤ, min, List, [], ◌++◌, length, map, slice_index_or, IsTrue}
+use Rattle.std.specs.Prelude.{◌≡◌, ◌<◌, ℕ, ℤ, Bool, min, List, [], ◌++◌, length, map, slice_index_or, IsTrue}
 use Rattle.std.specs.List.{range_with_len}
 use Rattle.base_122.specs.Setting.{geometry_of}
 use Rattle.base_122.specs.Sizes.{total_blocks}
@@ -8,7 +8,7 @@ use Rattle.base_122.specs.declared.setting.Setting.{Setting}
 use Rattle.plane_defs.specs.Codes.{is_book_sound}
 use Rattle.stream_defs.specs.Output.{head_for, image_blocks, segment_of, segments_of}
 use Rattle.segment_code.specs.TextAnswers.{gives, Decides}
-use Rattle.segment_walk.specs.Images.{ArePixels, SendsAll}
+use Rattle.segment_walk.specs.Images.{ArePixels, SendsAll, texts_for as bare_wish}
 use Rattle.bit_pipe.specs.declared.fault.Part.{Part}
 use Rattle.bare_text.specs.Laws.{bare_head}
 use Rattle.bare_stream.specs.Bare.{bare, head_before, segment_octets}
@@ -31,21 +31,23 @@ abbrev pub image_segments : Setting → (ℕ → ℕ → ℤ) → List (List (Li
 image_segments s x = map (segment_of s (image_blocks s x)) (range_with_len 0 (segments_of s))
 
 -- the text of the segment of this index is its head and the octets that decide these blocks, after a reader has read the head before
-pub record IsSegmentText (s : Setting) (all : List (List ℤ)) (index : ℕ) (blocks : List (List ℤ)) : Type 0 where
+pub record IsSegmentText (s : Setting) (restore : Bool) (all : List (List ℤ)) (index : ℕ) (blocks : List (List ℤ)) : Type 0 where
   pub part : Part
   pub rest : List ℕ
   pub octets : segment_octets s all index ≡ bare_head (head_before s all index) (head_for s all index) ++ rest
-  pub decides : Decides s.book (head_for s all index) (length (bare_head (head_before s all index) (head_for s all index))) rest (gives part blocks)
+  pub decides : Decides (bare_wish s restore) (head_for s all index) (length (bare_head (head_before s all index) (head_for s all index))) rest
+      (gives part blocks)
 
--- The stream of an image reports its geometry and holds these blocks, text by text. If nothing is missing, they are those of the image.
-pub record SaysImage (s : Setting) (x : ℕ → ℕ → ℤ) (w : List (List (List ℤ))) : Type 0 where
-  pub stream : BareStream s.book (bare s x) (bare_geometry s) w
+-- The stream of an image reports its geometry and holds these blocks, restored or as they are, text by text. If nothing is missing, they
+-- are those of the image.
+pub record SaysImage (s : Setting) (x : ℕ → ℕ → ℤ) (restore : Bool) (w : List (List (List ℤ))) : Type 0 where
+  pub stream : BareStream (bare_wish s restore) (bare s x) (bare_geometry s) w
   pub count : length w ≡ segments_of s
-  pub texts : (index : ℕ) → index < segments_of s → IsSegmentText s (image_blocks s x) index (slice_index_or w index [])
+  pub texts : (index : ℕ) → index < segments_of s → IsSegmentText s restore (image_blocks s x) index (slice_index_or w index [])
   pub exact : SendsAll s → w ≡ image_segments s x
 
 -- The octets that are written for an image are a bare stream, which reports this and nothing else.
 pub record ImagesAreBareStreams : Type 0 where
-  pub says : (s : Setting) (x : ℕ → ℕ → ℤ) → IsBareImage s x → (w : List (List (List ℤ))) × SaysImage s x w
-  pub only : (s : Setting) (x : ℕ → ℕ → ℤ) (g : Geometry) (w : List (List (List ℤ))) → IsBareImage s x → BareStream s.book (bare s x) g w →
-      (g ≡ bare_geometry s) × SaysImage s x w
+  pub says : (s : Setting) (x : ℕ → ℕ → ℤ) (restore : Bool) → IsBareImage s x → (w : List (List (List ℤ))) × SaysImage s x restore w
+  pub only : (s : Setting) (x : ℕ → ℕ → ℤ) (restore : Bool) (g : Geometry) (w : List (List (List ℤ))) → IsBareImage s x →
+      BareStream (bare_wish s restore) (bare s x) g w → (g ≡ bare_geometry s) × SaysImage s x restore w

@@ -1,5 +1,5 @@
 -- Octets that are taken from a port can be continued. These laws are here since the meaning of a source needs them.
-use Rattle.std.proofs.Common.{ℕ, ◌≡◌, ◌⊎◌, ◌≤◌, ◌<◌, ◌+◌, true, inl, inr, List, [], ◌∷◌, ◌++◌, length, refl, sym, ap, subst, ◌∙◌, arith, append_assoc}
+use Rattle.std.proofs.Common.{ℕ, ◌≡◌, ◌⊎◌, ◌≤◌, ◌+◌, true, inl, inr, List, [], ◌∷◌, ◌++◌, length, refl, sym, ap, ◌∙◌, arith, append_assoc}
 use Rattle.std.proofs.Common.{length-append, Bool, Option, None, Some}
 use Rattle.std.proofs.lemmas.List.{append-nil}
 use Rattle.port_122.specs.Outside.{Outside, Loses, Rose}

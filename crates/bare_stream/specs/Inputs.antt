@@ -1,5 +1,5 @@
 -- A port as a source of octets. (This project's own.)
-use Rattle.std.specs.Prelude.{◌≡◌, ◌⊎◌, ◌<◌, [], Bool, true, false, Option, None, Result, Ok, Err}
+use Rattle.std.specs.Prelude.{◌≡◌, ◌⊎◌, ◌<◌, [], Bool, true, false, None, Result, Ok, Err}
 use Rattle.bit_pipe.specs.Sources.{SourceOf, GivesOctet}
 use Rattle.bit_pipe.specs.declared.fault.InFault.{InFault}
 use Rattle.port_122.specs.Outside.{Outside}

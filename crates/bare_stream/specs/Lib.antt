@@ -11,6 +11,7 @@ pub mod Pictures
 pub mod StreamRead
 pub mod WorkedStreams
 pub mod BareStream
+pub mod WishLaws
 pub mod Images
 pub mod Laws
 pub mod Pieces

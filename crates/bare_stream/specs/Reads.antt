@@ -5,6 +5,7 @@ use Rattle.port_122.specs.Outside.{Outside, Exchange, Rose}
 use Rattle.base_122.specs.Sizes.{first_block}
 use Rattle.base_122.specs.declared.geometry.Geometry.{Geometry}
 use Rattle.base_122.specs.declared.wish.DecodeWish.{DecodeWish}
+use Rattle.segment_defs.specs.TextWish.{text_wish}
 use Rattle.plane_defs.specs.Codes.{is_book_sound}
 use Rattle.segment_defs.specs.declared.head.SegmentHead.{SegmentHead}
 use Rattle.segment_code.specs.Laws.{TextsEndThere}
@@ -52,7 +53,7 @@ segments_of r before = record { first = first_of r.first r.texts; before = befor
 
 -- whatever follows these octets, they are read as these segments, and the reading continues after them
 abbrev pub Reaches : DecodeWish → SegmentsRead → PartsInForce → Type 0
-Reaches wish r before = (more : List ℕ) → read_by wish (concat r.texts ++ more) ≡ read_on wish.book wish.pixels (segments_of r before) more
+Reaches wish r before = (more : List ℕ) → read_by wish (concat r.texts ++ more) ≡ read_on (text_wish wish) wish.pixels (segments_of r before) more
 
 -- it is so, if the port reports what is left
 abbrev pub InForceAfter : DecodeWish → (start : Outside) → SegmentsRead → PartsInForce → Type 0

@@ -4,6 +4,7 @@ use Rattle.port_122.specs.Outside.{Outside}
 use Rattle.base_122.specs.declared.geometry.Geometry.{Geometry}
 use Rattle.base_122.specs.declared.setting.Setting.{Setting}
 use Rattle.base_122.specs.declared.wish.DecodeWish.{DecodeWish}
+use Rattle.segment_defs.specs.TextWish.{text_wish}
 use Rattle.raster_rows.specs.Pixels.{raster_octets}
 use Rattle.segment_walk.specs.Images.{SendsAll}
 use Rattle.bare_stream.specs.declared.fault.BareFault.{BareFault}
@@ -30,19 +31,19 @@ ReadsWhole g w gave (Err WriteFault) = Unit {0}
 ReadsWhole g w gave (Err Memory) = Unit {0}
 ReadsWhole g w gave (Err other) = ⊥
 
--- A bare stream within the caps, with the codes of the book that is wished, has its geometry as the answer. So it is read whole: it isn't
+-- A bare stream within the caps, read with the book and as the numbers that are wished, has its geometry as the answer. So it is read whole: it isn't
 -- refused.
 pub record StreamsAreRead : Type 0 where
-  pub answer : (wish : DecodeWish) (octets : List ℕ) (g : Geometry) (w : List (List (List ℤ))) → BareStream wish.book octets g w →
+  pub answer : (wish : DecodeWish) (octets : List ℕ) (g : Geometry) (w : List (List (List ℤ))) → BareStream (text_wish wish) octets g w →
       IsWithinCaps wish octets g → answer_for wish octets ≡ Ok g
-  pub blocks : (wish : DecodeWish) (octets : List ℕ) (g : Geometry) (w : List (List (List ℤ))) → BareStream wish.book octets g w →
+  pub blocks : (wish : DecodeWish) (octets : List ℕ) (g : Geometry) (w : List (List (List ℤ))) → BareStream (text_wish wish) octets g w →
       IsWithinCaps wish octets g → (reading wish octets).segments.blocks ≡ w
   -- whichever stream is read whole, its segments determine all rows of its picture
   pub rows : (wish : DecodeWish) (input : List ℕ) (g : Geometry) → answer_for wish input ≡ Ok g → rows_of (reading wish input).segments
       ≡ all_rows g (reading wish input).segments.blocks
   pub read : (wish : DecodeWish) (old new : Outside) (result : Result Geometry BareFault) (octets : List ℕ) (g : Geometry) (w : List (List (List ℤ)))
       (run : DecodesBare wish old new result) →
-      BareStream wish.book octets g w → old.rest ≡ Some octets → IsWithinCaps wish octets g → ReadsWhole g w run.gave result
+      BareStream (text_wish wish) octets g w → old.rest ≡ Some octets → IsWithinCaps wish octets g → ReadsWhole g w run.gave result
 
 -- ---- that of an image
 
@@ -59,9 +60,9 @@ AnswersImage s x gave (Err WriteFault) = Unit {0}
 AnswersImage s x gave (Err Memory) = Unit {0}
 AnswersImage s x gave (Err other) = ⊥
 
--- The picture of an image's segments is the image. So a decoder with the book of an image that took the octets that are written for the
--- image, and nothing else, gives its raster, if nothing is missing from them; and if an input is these octets, within the caps, this holds
--- unless the port or the memory fails.
+-- The picture of an image's segments is the image. So a decoder with the book of an image, which may restore numbers, and which took the
+-- octets that are written for the image, and nothing else, gives its raster, if nothing is missing from them; and if an input is these
+-- octets, within the caps, this holds unless the port or the memory fails.
 pub record BareRoundTrip : Type 0 where
   pub picture : (s : Setting) (x : ℕ → ℕ → ℤ) → IsBareImage s x → all_rows (bare_geometry s) (image_segments s x) ≡ raster_octets s.depth s.rows s.width x
   pub decoded : (wish : DecodeWish) (old new : Outside) (g : Geometry) (left : List ℕ) (s : Setting) (x : ℕ → ℕ → ℤ) (run : DecodesBare wish old new (Ok g)) →

@@ -1,5 +1,5 @@
 -- The effect of the steps of the encoder. (This project's own.)
-use Rattle.std.specs.Prelude.{◌≡◌, ◌≤◌, ◌+◌, ◌*◌, ◌^◌, ℕ, ℤ, List, [], length, take, Bool, false, if◌then◌else◌, Result, MatchResult, Option}
+use Rattle.std.specs.Prelude.{◌≡◌, ◌≤◌, ◌+◌, ◌^◌, ℕ, ℤ, List, [], length, take, Bool, false, if◌then◌else◌, Result, MatchResult, Option}
 use Rattle.port_122.specs.Outside.{Outside, Exchange, NoRead, Rose}
 use Rattle.base_122.specs.Sizes.{block_count}
 use Rattle.base_122.specs.declared.setting.Setting.{Setting}

@@ -3,7 +3,7 @@
 use Rattle.std.specs.Prelude.{ℕ, zero, suc, ◌+◌, nat_lt, if◌then◌else◌, ℤ, List, [], ◌∷◌, ◌++◌, length, take, drop, unwrap_or, Option, None, Some, Result}
 use Rattle.std.specs.Prelude.{Ok, Err}
 use Rattle.item_defs.specs.Items.{Refusal, bad_option, bad_delta, bad_depth, false_flag}
-use Rattle.base_122.specs.declared.book.Book.{Book}
+use Rattle.segment_defs.specs.TextWish.{TextWish, text_wish}
 use Rattle.base_122.specs.declared.geometry.Geometry.{Geometry}
 use Rattle.base_122.specs.declared.wish.DecodeWish.{DecodeWish}
 use Rattle.segment_defs.specs.declared.head.SegmentHead.{SegmentHead}
@@ -82,13 +82,13 @@ checked pixels s head size later =
     let first = unwrap_or s.first head in
     by_agreement s size (first_refusal (agreement_tests first (length s.blocks) head)) (by_pixels pixels (pixels_at first (length s.blocks) head) s size later)
 
-abbrev pub by_head : Book → (pixels : ℕ) → Segments → List ℕ → (size : ℕ) → Result SegmentHead HeadFault → Next
-by_head book pixels s octets size (Ok head) = checked pixels s head size (items_next s head size (answer_in book head size (drop size octets)))
-by_head book pixels s octets size (Err fault) = refused s size (Head fault)
+abbrev pub by_head : TextWish → (pixels : ℕ) → Segments → List ℕ → (size : ℕ) → Result SegmentHead HeadFault → Next
+by_head wish pixels s octets size (Ok head) = checked pixels s head size (items_next s head size (answer_in wish head size (drop size octets)))
+by_head wish pixels s octets size (Err fault) = refused s size (Head fault)
 
-abbrev pub head_next : Book → (pixels : ℕ) → Segments → List ℕ → Option HeadDecided → Next
-head_next book pixels s octets None = refused_at_end s (Head (HeadShort (length octets)))
-head_next book pixels s octets (Some d) = by_head book pixels s octets d.octets d.result
+abbrev pub head_next : TextWish → (pixels : ℕ) → Segments → List ℕ → Option HeadDecided → Next
+head_next wish pixels s octets None = refused_at_end s (Head (HeadShort (length octets)))
+head_next wish pixels s octets (Some d) = by_head wish pixels s octets d.octets d.result
 
 -- after the last segment only the end may follow
 abbrev pub end_next : Segments → Geometry → List ℕ → Next
@@ -96,12 +96,12 @@ end_next s g [] = ends (needs_more (Ok g))
 end_next s g (octet ∷ more) = refused s 1 Trailing
 
 -- what these octets after the segments begin with: the tests in their order
-abbrev pub next_by : Book → (pixels : ℕ) → Segments → List ℕ → (ended : Option Geometry) → Next
-next_by book pixels s octets None = head_next book pixels s octets (bare_head_in s.before octets)
-next_by book pixels s octets (Some g) = end_next s g octets
+abbrev pub next_by : TextWish → (pixels : ℕ) → Segments → List ℕ → (ended : Option Geometry) → Next
+next_by wish pixels s octets None = head_next wish pixels s octets (bare_head_in s.before octets)
+next_by wish pixels s octets (Some g) = end_next s g octets
 
-abbrev pub next_in : Book → (pixels : ℕ) → Segments → List ℕ → Next
-next_in book pixels s octets = next_by book pixels s octets s.ended
+abbrev pub next_in : TextWish → (pixels : ℕ) → Segments → List ℕ → Next
+next_in wish pixels s octets = next_by wish pixels s octets s.ended
 
 -- ---- all segments
 
@@ -127,26 +127,26 @@ continued read s octets (text head n w) = read (with_text s head n w octets) (dr
 continued read s octets (ends ending) = record { segments = s; ending = ending }
 
 -- the reading after some segments, if there are at most `most` texts
-unfoldable pub read_after : (most : ℕ) → Book → (pixels : ℕ) → Segments → List ℕ → Read
-read_after zero book pixels s octets = record { segments = s; ending = needs_more (Err (Refused (length s.blocks) Short)) }
-read_after (suc most) book pixels s octets = continued (read_after most book pixels) s octets (next_in book pixels s octets)
+unfoldable pub read_after : (most : ℕ) → TextWish → (pixels : ℕ) → Segments → List ℕ → Read
+read_after zero wish pixels s octets = record { segments = s; ending = needs_more (Err (Refused (length s.blocks) Short)) }
+read_after (suc most) wish pixels s octets = continued (read_after most wish pixels) s octets (next_in wish pixels s octets)
 
 -- each text has octets, so there are no more texts than octets
-abbrev pub read_on : Book → (pixels : ℕ) → Segments → List ℕ → Read
-read_on book pixels s octets = read_after (suc (length octets)) book pixels s octets
+abbrev pub read_on : TextWish → (pixels : ℕ) → Segments → List ℕ → Read
+read_on wish pixels s octets = read_after (suc (length octets)) wish pixels s octets
 
 abbrev pub none_read : Segments
 none_read = record { first = None; before = none_in_force; blocks = []; ended = None; octets = 0 }
 
--- the reading of octets with this book, of an image of at most this number of pixels
-abbrev pub stream_in : Book → (pixels : ℕ) → List ℕ → Read
-stream_in book pixels octets = read_on book pixels none_read octets
+-- the reading of octets as it is wished, of an image of at most this number of pixels
+abbrev pub stream_in : TextWish → (pixels : ℕ) → List ℕ → Read
+stream_in wish pixels octets = read_on wish pixels none_read octets
 
 -- ---- the answer
 
 -- the reading of the octets of an input that may be taken
 abbrev pub reading : DecodeWish → (input : List ℕ) → Read
-reading wish input = stream_in wish.book wish.pixels (take wish.octets input)
+reading wish input = stream_in (text_wish wish) wish.pixels (take wish.octets input)
 
 -- if more octets are needed, the input ends, or is longer than is allowed
 abbrev pub answer_by : DecodeWish → (input : List ℕ) → Ending → Result Geometry BareFault

@@ -2,10 +2,11 @@
 use Rattle.std.specs.Prelude.{◌≡◌, ◌≤◌, ◌<◌, ◌*◌, ℕ, List, [], ◌++◌, length, take, vec_len, None, Some, Ok}
 use Rattle.port_122.specs.Outside.{Outside}
 use Rattle.base_122.specs.Sizes.{first_block, total_blocks}
-use Rattle.base_122.specs.declared.book.Book.{Book}
 use Rattle.base_122.specs.declared.geometry.Geometry.{Geometry}
 use Rattle.base_122.specs.declared.wish.DecodeWish.{DecodeWish}
+use Rattle.segment_defs.specs.TextWish.{TextWish, text_wish}
 use Rattle.segment_defs.specs.Head.{IsHead}
+use Rattle.segment_code.specs.Readers.{wish_of}
 use Rattle.bare_text.specs.declared.parts.PartsInForce.{PartsInForce}
 use Rattle.bare_text.specs.declared.read.BareHead.{BareHead}
 use Rattle.bare_text.specs.InForce.{parts_after}
@@ -20,9 +21,9 @@ use Rattle.bare_stream.specs.Decoded.{IfKnown}
 use Rattle.bare_stream.specs.Heads.{AgreesWith, IsRoom}
 use Rattle.bare_stream.specs.Reads.{HasLaws, SegmentsRead, Reaches, HasRead, ShowsRead, segments_of}
 
--- the book with which a walk reads items
-abbrev pub book_in : Walk → Book
-book_in w = w.room.reader.reader.tables.value.words.book
+-- how a walk reads texts
+abbrev pub wish_in : Walk → TextWish
+wish_in w = wish_of w.room.reader.reader
 
 -- what a walk holds has the sizes of its stream: the next segment is in the tallest image
 pub record IsSound (w : Walk) : Type 0 where
@@ -52,7 +53,7 @@ pub record IsAt {X : Type 0} (outside : X → Outside) (wish : DecodeWish) (star
   pub first : r.first ≡ w.first
   pub index : w.index ≡ length r.texts
   pub pixels : w.pixels ≡ wish.pixels
-  pub book : book_in w ≡ wish.book
+  pub wished : wish_in w ≡ text_wish wish
   pub shows : ShowsRead (shape_with r.first 262144) r read.gave (picture_state w.picture)
 
 -- the next head was read from these octets: if it is the first one, it is the first head
@@ -73,7 +74,7 @@ pub record IsReading {X : Type 0} (outside : X → Outside) (wish : DecodeWish) 
 
 -- the octets are the text of the next segment with this head, whose blocks the walk holds
 pub record IsNextText (wish : DecodeWish) (r : SegmentsRead) (before : PartsInForce) (w : Walk) (octets : List ℕ) (read : BareHead) : Type 0 where
-  pub next : next_in wish.book wish.pixels (segments_of r before) octets ≡ text read.head (length octets)
+  pub next : next_in (text_wish wish) wish.pixels (segments_of r before) octets ≡ text read.head (length octets)
       (blocks_in (take (64 * read.head.blocks) w.room.blocks.items))
   pub force : (more : List ℕ) → parts_after before (octets ++ more) ≡ w.parts
 

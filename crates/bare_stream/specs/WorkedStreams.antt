@@ -11,7 +11,7 @@ use Rattle.bare_stream.specs.StreamRead.{answer_for, octets_for, reading}
 
 -- the profile's book, and these caps
 abbrev pub wish_of : (pixels octets : ℕ) → DecodeWish
-wish_of pixels octets = record { apid = 0; pixels = pixels; octets = octets; book = profile }
+wish_of pixels octets = record { apid = 0; pixels = pixels; octets = octets; book = profile; restore = false }
 
 -- the bare stream of a black image of 17 by 17 pixels of 8 bits, one segment of nine blocks: the text after the headers of its packet in
 -- docs/formats.md, "Packets"

@@ -16,8 +16,9 @@ use std::alloc::Global;
 
 /// Takes a bare stream and gives the picture of its segments, each row as soon as the segments so far determine it (docs/formats.md,
 /// "Bare texts" and "Picture and damage"). It reads to the end, at most the octets that are wished, and no more once a segment is refused
-/// or a head reports too many pixels. Items have the codes of the wish's book, which is sound. Returns the geometry of the image, in
-/// which `image` is 0. It takes memory only after the first head. The field `apid` of the wish isn't used.
+/// or a head reports too many pixels. Items have the codes of the wish's book, which is sound. The numbers of the picture are
+/// restored if that is wished (docs/formats.md, "Restored numbers"). Returns the geometry of the image, in which `image` is 0. It takes
+/// memory only after the first head. The field `apid` of the wish isn't used.
 ///
 /// # Errors
 ///

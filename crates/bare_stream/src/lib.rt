@@ -9,6 +9,7 @@ ghost use Rattle.bare_stream.specs.BareStream.{BareStreamsEndThere, BareStreamsS
 ghost use Rattle.bare_stream.specs.Images.{ImagesAreBareStreams};
 ghost use Rattle.bare_stream.specs.Laws.{LastRowSettlesTexts};
 ghost use Rattle.bare_stream.specs.RoundTrip.{BareRoundTrip, StreamsAreRead};
+ghost use Rattle.bare_stream.specs.WishLaws.{BareWishesAgree};
 ghost use Rattle.bare_stream.specs.WorkedStreams.{WorkedStreams};
 
 mod blocks;
@@ -29,7 +30,7 @@ use bare_text::{bare_heads_end_there, bare_heads_undo, bare_texts_hold};
 pub use decode::decode_bare;
 pub use encode::encode_bare;
 pub use fault::{BareCause, BareFault};
-use segment_code::texts_end_there;
+use segment_code::{answers_agree, texts_end_there};
 
 /// Octets that are worked out by hand are read as they should be.
 pub const fn worked_streams()
@@ -52,13 +53,21 @@ pub const fn bare_streams_end_there()
     texts_end_there();
 }
 
+/// Which octets are segments of a bare stream, where it is refused and why, and which octets decide that, does not depend on whether its
+/// numbers are restored.
+pub const fn bare_wishes_agree()
+    ensures { BareWishesAgree }
+{
+    answers_agree();
+}
+
 /// Once the last row of a raster is taken, all texts of its image are given.
 pub const fn last_row_settles_texts()
     ensures { LastRowSettlesTexts }
 {}
 
 /// The octets that are written for an image are a bare stream: it reports the image's size, and holds the image's blocks if nothing is
-/// missing from the stream.
+/// missing from the stream, whether its numbers are restored or not.
 pub const fn images_are_bare_streams()
     ensures { ImagesAreBareStreams }
 {
@@ -74,7 +83,8 @@ pub const fn bare_streams_are_read()
     ensures { StreamsAreRead }
 {}
 
-/// The bare stream of an image gives the image back: a decoder that takes it gives the raster, if nothing is missing from the stream.
+/// The bare stream of an image gives the image back: a decoder that takes it gives the raster, if nothing is missing from the stream,
+/// whether it restores numbers or not.
 pub const fn bare_round_trip()
     ensures { BareRoundTrip }
 {

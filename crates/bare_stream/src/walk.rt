@@ -3,6 +3,7 @@ ghost use Rattle.std.specs.Prelude.{◌≡◌, ◌≤◌, ◌<◌, ◌*◌, vec_
 ghost use Rattle.port_122.specs.Outside.{Outside};
 ghost use Rattle.base_122.specs.declared.wish.DecodeWish.{DecodeWish};
 ghost use Rattle.segment_defs.specs.Head.{IsHead};
+ghost use Rattle.segment_defs.specs.TextWish.{text_wish};
 ghost use Rattle.plane_defs.specs.Codes.{is_book_sound};
 ghost use Rattle.bare_text.specs.declared.parts.PartsInForce.{PartsInForce};
 ghost use Rattle.bare_stream.specs.Decoded.{DecodesBare, IfKnown};
@@ -11,7 +12,7 @@ ghost use Rattle.bare_stream.specs.Inputs.{source_of};
 ghost use Rattle.bare_stream.specs.Pictures.{geometry_at, shape_with};
 ghost use Rattle.bare_stream.specs.Reads.{SegmentsRead, InForceAfter};
 ghost use Rattle.picture_rows.specs.Pictures.{picture_state, IsFresh};
-ghost use Rattle.bare_stream.specs.Walks.{book_in, IsSound, IsNext, IsAt, IsHeadOf, IsNextText, IsReading, HasEnded};
+ghost use Rattle.bare_stream.specs.Walks.{wish_in, IsSound, IsNext, IsAt, IsHeadOf, IsNextText, IsReading, HasEnded};
 ghost use Rattle.bare_stream.specs.Blocks.{AreParts};
 
 use crate::fault::{BareCause, BareFault};
@@ -41,8 +42,8 @@ pub struct Walk {
 }
 
 impl Walk {
-    /// Takes the memory for a stream with this first head, which agrees with itself, and for the book and the pixels of this wish. The
-    /// only error is a lack of memory.
+    /// Takes the memory for a stream with this first head, which agrees with itself, and for the book, the numbers and the pixels that are
+    /// wished. The only error is a lack of memory.
     pub fn new(
         alloc: Global,
         first: &SegmentHead,
@@ -53,10 +54,10 @@ impl Walk {
         requires book { IsTrue (is_book_sound wish.now.book) }
         ensures sound { IfOk result (λ w. IsSound w) }
         ensures begins { IfOk result (λ w. (w.first ≡ first.now) × (w.parts ≡ parts) × (w.index ≡ 0) × (w.pixels ≡ wish.now.pixels) ×
-            (book_in w ≡ wish.now.book)) }
+            (wish_in w ≡ text_wish wish.now)) }
         ensures fresh { IfOk result (λ w. IsFresh (shape_with first.now 262144) (picture_state w.picture)) }
     {
-        let room = Room::new(alloc, first.blocks, &wish.book)?;
+        let room = Room::new(alloc, first.blocks, wish)?;
         let rows = FieldRange::ROWS.most as u32;
         let segment = FieldRange::SEGMENT.least as u32;
         let geometry = Geometry {

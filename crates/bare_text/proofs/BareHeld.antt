@@ -1,5 +1,5 @@
 -- A bare text is its head and what decides its items.
-use Rattle.std.proofs.Common.{◌≡◌, ℕ, ◌+◌, ◌*◌, ◌≤◌, ◌<◌, List, ◌++◌, length, get_or, Bool, true, false, if◌then◌else◌, refl, sym, ap, ◌∙◌, subst, arith}
+use Rattle.std.proofs.Common.{◌≡◌, ℕ, ◌+◌, ◌*◌, ◌≤◌, ◌<◌, List, ◌++◌, length, get_or, Bool, true, false, if◌then◌else◌, refl, sym, ◌∙◌, subst, arith}
 use Rattle.std.proofs.Common.{length-append, flat_map}
 use Rattle.item_defs.proofs.OctetBits.{length-octets_of}
 use Rattle.segment_defs.specs.declared.head.SegmentHead.{SegmentHead}
@@ -59,14 +59,14 @@ size_most last a b d = omega (
 
 pub bare_texts_hold : SpelledTextsDecide → BareTextsHold
 unfolding bare_text
-bare_texts_hold spelled book sound before h blocks fits ten spellable deep =
+bare_texts_hold spelled wish sound before h blocks fits ten spellable deep =
     let c = carried_after before h in
-    let options = chosen_options book h blocks in
+    let options = chosen_options wish.book h blocks in
     let long = bits_long c h ten in
     let low = λ (r : ℕ) (lt : r < length (block_depths blocks)). low_is r lt in
-    let words = words_are book sound h blocks in
-    let are = segment_are_items h blocks (block_depths blocks) options fits spellable words (numbers_are book h blocks fits) low in
-    let held = text_held spelled h blocks (block_depths blocks) options fits spellable words are (bare_head_bits c h) (size_with c h) long
+    let words = words_are wish.book sound h blocks in
+    let are = segment_are_items h blocks (block_depths blocks) options fits spellable words (numbers_are wish.book h blocks fits) low in
+    let held = text_held spelled wish.restore h blocks (block_depths blocks) options fits spellable words are (bare_head_bits c h) (size_with c h) long
     (size_most h.last c.part_2 c.part_3 c.part_4) in
     let size : size_with c h ≡ length (bare_head before h) = sym (length-octets_of (bare_head_bits c h) ∙ omega (arith, long)) in
     record {
@@ -74,7 +74,7 @@ bare_texts_hold spelled book sound before h blocks fits ten spellable deep =
       w = held.w;
       part = held.part;
       octets = held.parts;
-      decides = subst (λ n. Decides book h n held.rest (gives held.part held.w)) size held.decides;
+      decides = subst (λ n. Decides wish h n held.rest (gives held.part held.w)) size held.decides;
       exact = held.exact;
     }
   where

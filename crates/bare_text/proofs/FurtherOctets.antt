@@ -11,7 +11,7 @@ use Rattle.segment_defs.specs.Reading.{part_1_length, first_refusal, head_read}
 use Rattle.segment_defs.proofs.ReadHeads.{read_fits}
 use Rattle.bare_text.specs.declared.parts.PartsInForce.{PartsInForce}
 use Rattle.bare_text.specs.InForce.{bare_length, second_in, third_in, fourth_in, part_or, rest_after, parts_after, completed, completed_with, whole_part_1}
-use Rattle.bare_text.specs.Reading.{carry_tests, bare_head_read, head_octets, HeadDecided, bare_head_in}
+use Rattle.bare_text.specs.Reading.{carry_tests, bare_head_read, head_octets, bare_head_in}
 use Rattle.bare_text.specs.Taken.{DecidesHead}
 use Rattle.bare_text.specs.Laws.{HeadEndsThere, BareHeadsEndThere}
 use Rattle.bare_text.proofs.HeadTests.{flag_alike, length_alike, carry_alike, read_start, read_carry, read_last, in_short, in_there, octets_whole}

@@ -1,5 +1,5 @@
 -- A text decides its items, whatever head is before them.
-use Rattle.std.proofs.Common.{◌≡◌, ◌≢◌, ℕ, ℤ, ◌+◌, ◌-◌, ◌*◌, ◌/◌, ◌<◌, ◌≤◌, inl, inr, Bool, true, false, cond, nat_lt, List, [], ◌++◌, length, take, refl}
+use Rattle.std.proofs.Common.{◌≡◌, ◌≢◌, ℕ, ℤ, ◌+◌, ◌-◌, ◌*◌, ◌/◌, ◌<◌, ◌≤◌, inl, inr, Bool, true, false, cond, List, [], ◌++◌, length, take, refl}
 use Rattle.std.proofs.Common.{sym, ap, ◌∙◌, subst, arith, append_assoc, length-append, append-nil, length-take-le, Option, None, Some, ◌==◌}
 use Rattle.std.proofs.lemmas.Bool.{cases_lt, cases_Bool}
 use Rattle.std.proofs.lemmas.Bool.Decides.{nat_tests}
@@ -22,17 +22,17 @@ use Rattle.segment_defs.specs.Prefixes.{Prefix}
 use Rattle.segment_defs.specs.Spellable.{IsSpellable, AreWordOptions}
 use Rattle.segment_defs.specs.TextLaws.{HasAllPlanes}
 use Rattle.segment_defs.proofs.Cuts.{cut_prefix}
-use Rattle.segment_code.proofs.TextOctets.{IsLimit, padded_within, padded_least, length-padded, text_within, text_unlimited, text_cut}
+use Rattle.segment_code.proofs.TextOctets.{IsLimit, padded_within, length-padded, text_within, text_unlimited, text_cut}
 use Rattle.segment_code.specs.TextAnswers.{TextAnswer, gives, refuses, Decided, if_enough, whole_octets, bits_within, answer_in, Decides}
-use Rattle.segment_code.specs.Spelled.{SpelledDecide, SpelledTextsDecide}
+use Rattle.segment_code.specs.Spelled.{SpelledDecide, SpelledTextsDecide, wish_for}
 
 -- a text is these octets of a head and what decides its items
-pub record HeldAfter (h : SegmentHead) (blocks : List (List ℤ)) (options : Options) (head octets : List ℕ) (size : ℕ) : Type 0 where
+pub record HeldAfter (restore : Bool) (h : SegmentHead) (blocks : List (List ℤ)) (options : Options) (head octets : List ℕ) (size : ℕ) : Type 0 where
   pub rest : List ℕ
   pub w : List (List ℤ)
   pub part : Part
   pub parts : octets ≡ head ++ rest
-  pub decides : Decides options.book h size rest (gives part w)
+  pub decides : Decides (wish_for options restore) h size rest (gives part w)
   pub exact : h.limit ≡ 0 → HasAllPlanes h → w ≡ blocks
 
 -- an answer that is decided by all octets that are there
@@ -56,7 +56,7 @@ one_given o part n v w e f = sym (ap blocks_in e) ∙ ap blocks_in f
 eight_parts : (word limit used : ℕ) (fill : Bool) → padded_length word limit fill used ≡ 8 * (padded_length word limit fill used / 8)
 eight_parts word limit used fill = grind (arith, nat_tests)
 
-module _ (spelled : SpelledTextsDecide) (h : SegmentHead) (blocks : List (List ℤ)) (depths : List ℕ) (options : Options) (fits : IsHead h)
+module _ (spelled : SpelledTextsDecide) (restore : Bool) (h : SegmentHead) (blocks : List (List ℤ)) (depths : List ℕ) (options : Options) (fits : IsHead h)
     (spellable : IsSpellable h blocks depths)
     (words : AreWordOptions options) (are : AreItems (segment_items h blocks depths options)) (prefix : List Bool) (size : ℕ)
     (eight : length prefix ≡ 8 * size) (few : size ≤ 20) where
@@ -76,8 +76,8 @@ module _ (spelled : SpelledTextsDecide) (h : SegmentHead) (blocks : List (List �
   all = padded_length h.image.word h.limit h.fill (length bits)
 
   -- what octets after the head decide
-  decide : (rest : List ℕ) → SpelledDecide h size blocks depths options rest
-  decide rest = spelled h size blocks depths options rest fits spellable words
+  decide : (rest : List ℕ) → SpelledDecide restore h size blocks depths options rest
+  decide rest = spelled restore h size blocks depths options rest fits spellable words
 
   used : length bits ≡ 8 * size + length (text items)
   used = omega (arith, length-append prefix (text items), eight)
@@ -132,7 +132,7 @@ module _ (spelled : SpelledTextsDecide) (h : SegmentHead) (blocks : List (List �
 
   all_held : text_octets h.image.word h.limit h.fill bits ≡ octets_of (padded h.image.word h.limit h.fill bits) → (h.fill ≡ true → all ≤ 8 * h.limit) →
       (h.limit ≢ 0 → all ≤ 8 * h.limit) →
-      HeldAfter h blocks options (octets_of prefix) (text_octets h.image.word h.limit h.fill bits) size
+      HeldAfter restore h blocks options (octets_of prefix) (text_octets h.image.word h.limit h.fill bits) size
   all_held e filled within =
       let rest = octets_of after in
       let d = decide rest in
@@ -145,11 +145,11 @@ module _ (spelled : SpelledTextsDecide) (h : SegmentHead) (blocks : List (List �
         part = Whole;
         parts = e ∙ parts_are;
         decides = w.1 ∙ there w.0;
-        exact = λ none no_stop. one_given (answer_in options.book h size rest) Whole (length rest) w.0 blocks (w.1 ∙ there w.0)
+        exact = λ none no_stop. one_given (answer_in (wish_for options restore) h size rest) Whole (length rest) w.0 blocks (w.1 ∙ there w.0)
             (d.exact are no_stop zeros read ∙ there blocks);
       }
 
-  unlimited : h.limit ≡ 0 → HeldAfter h blocks options (octets_of prefix) (text_octets h.image.word h.limit h.fill bits) size
+  unlimited : h.limit ≡ 0 → HeldAfter restore h blocks options (octets_of prefix) (text_octets h.image.word h.limit h.fill bits) size
   unlimited none =
       let plain : h.fill ≡ false = elim (cases_Bool h.fill) [ inl filled ↦ absurd (fits.fill filled none) | inr plain ↦ plain ] in
       let same : text_octets h.image.word h.limit h.fill bits ≡ octets_of (padded h.image.word h.limit h.fill bits) = by_values h.limit h.fill none plain in
@@ -162,7 +162,7 @@ module _ (spelled : SpelledTextsDecide) (h : SegmentHead) (blocks : List (List �
   -- ---- a limit
 
   module _ (l : IsLimit h.image.word h.limit) (room : 32 ≤ h.limit) where
-    fitting : length bits ≤ 8 * h.limit → HeldAfter h blocks options (octets_of prefix) (text_octets h.image.word h.limit h.fill bits) size
+    fitting : length bits ≤ 8 * h.limit → HeldAfter restore h blocks options (octets_of prefix) (text_octets h.image.word h.limit h.fill bits) size
     fitting le =
         let within = padded_within h.image.word h.limit (length bits) h.fill l le in
         all_held (sym (text_within h.image.word h.limit h.fill bits l le)) (λ filled. within) (λ some. within)
@@ -184,7 +184,7 @@ module _ (spelled : SpelledTextsDecide) (h : SegmentHead) (blocks : List (List �
         sym (text_cut h.image.word h.limit h.fill bits l (omega (arith, lt))) ∙ ap octets_of (plain ∙ some) ∙ octets_of-append size prefix
         (take (8 * left) (text items)) eight
 
-    cut_held : 8 * h.limit < length bits → HeldAfter h blocks options (octets_of prefix) (text_octets h.image.word h.limit h.fill bits) size
+    cut_held : 8 * h.limit < length bits → HeldAfter restore h blocks options (octets_of prefix) (text_octets h.image.word h.limit h.fill bits) size
     cut_held lt =
         let cut : 8 * left < length (text items) = omega (arith, lt, used, few, room) in
         let first = take (8 * left) (text items) in
@@ -207,10 +207,10 @@ module _ (spelled : SpelledTextsDecide) (h : SegmentHead) (blocks : List (List �
           exact = λ none no_stop. absurd (omega (arith, none, room));
         }
 
-    limited : HeldAfter h blocks options (octets_of prefix) (text_octets h.image.word h.limit h.fill bits) size
+    limited : HeldAfter restore h blocks options (octets_of prefix) (text_octets h.image.word h.limit h.fill bits) size
     limited = elim (cases_lt (8 * h.limit) (length bits)) [ inl lt ↦ cut_held lt | inr ge ↦ fitting ge ]
 
-  pub text_held : HeldAfter h blocks options (octets_of prefix) (text_octets h.image.word h.limit h.fill bits) size
+  pub text_held : HeldAfter restore h blocks options (octets_of prefix) (text_octets h.image.word h.limit h.fill bits) size
   text_held = elim fits.limit [
     | inl none ↦ unlimited none
     | inr some ↦ limited (record { octets = fits.image.word.0; some = omega (arith, some.0); whole = some.2 }) some.0

@@ -1,7 +1,6 @@
 -- The laws of heads with absent parts.
 use Rattle.std.specs.Prelude.{◌≡◌, ◌<◌, ◌≤◌, ℕ, ℤ, List, ◌++◌, length, IsTrue, Option, None, Some, Ok}
 use Rattle.item_defs.specs.Bits.{octets_of}
-use Rattle.base_122.specs.declared.book.Book.{Book}
 use Rattle.plane_defs.specs.Codes.{is_book_sound}
 use Rattle.segment_defs.specs.declared.head.SegmentHead.{SegmentHead}
 use Rattle.segment_defs.specs.Depths.{block_depths, depth_ac_of}
@@ -9,6 +8,7 @@ use Rattle.segment_defs.specs.Head.{IsHead, part_2, part_3, part_4}
 use Rattle.bit_pipe.specs.declared.fault.Part.{Part}
 use Rattle.segment_defs.specs.Spellable.{IsSpellable}
 use Rattle.segment_defs.specs.TextLaws.{HasAllPlanes}
+use Rattle.segment_defs.specs.TextWish.{TextWish}
 use Rattle.segment_code.specs.TextAnswers.{gives, Decides}
 use Rattle.segment_head.specs.Parts.{all_carried}
 use Rattle.bare_text.specs.declared.parts.PartsInForce.{PartsInForce}
@@ -46,17 +46,17 @@ pub record HeadEndsThere (before : PartsInForce) (octets : List ℕ) (d : HeadDe
 abbrev pub BareHeadsEndThere : Type 0
 BareHeadsEndThere = (before : PartsInForce) (octets : List ℕ) (d : HeadDecided) → bare_head_in before octets ≡ Some d → HeadEndsThere before octets d
 
--- The text after the head before is its head and exactly the octets that decide its blocks, with the codes of this book; with neither a
--- stop nor a limit these are the blocks that were coded.
-pub record HoldsText (book : Book) (before : Option SegmentHead) (h : SegmentHead) (blocks : List (List ℤ)) : Type 0 where
+-- The text after the head before is its head and exactly the octets that decide its blocks, read with the codes of this book, restored or
+-- as they are; with neither a stop nor a limit these are the blocks that were coded.
+pub record HoldsText (wish : TextWish) (before : Option SegmentHead) (h : SegmentHead) (blocks : List (List ℤ)) : Type 0 where
   pub rest : List ℕ
   pub w : List (List ℤ)
   pub part : Part
-  pub octets : bare_text book before h blocks ≡ bare_head before h ++ rest
-  pub decides : Decides book h (length (bare_head before h)) rest (gives part w)
+  pub octets : bare_text wish.book before h blocks ≡ bare_head before h ++ rest
+  pub decides : Decides wish h (length (bare_head before h)) rest (gives part w)
   pub exact : h.limit ≡ 0 → HasAllPlanes h → w ≡ blocks
 
 abbrev pub BareTextsHold : Type 0
-BareTextsHold = (book : Book) → IsTrue (is_book_sound book) → (before : Option SegmentHead) (h : SegmentHead) (blocks : List (List ℤ)) → IsHead h →
+BareTextsHold = (wish : TextWish) → IsTrue (is_book_sound wish.book) → (before : Option SegmentHead) (h : SegmentHead) (blocks : List (List ℤ)) → IsHead h →
     length h.image.weights.shifts ≡ 10 →
-    IsSpellable h blocks (block_depths blocks) → h.depth_ac ≡ depth_ac_of blocks → HoldsText book before h blocks
+    IsSpellable h blocks (block_depths blocks) → h.depth_ac ≡ depth_ac_of blocks → HoldsText wish before h blocks

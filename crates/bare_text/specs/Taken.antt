@@ -1,5 +1,5 @@
 -- The effect of a call that reads a head with absent parts from an input. (This project's own.)
-use Rattle.std.specs.Prelude.{◌≡◌, ◌≤◌, ℕ, List, length, Option, Some, None, Result, Ok, Err}
+use Rattle.std.specs.Prelude.{◌≡◌, ◌≤◌, ℕ, List, length, Some, None, Result, Ok, Err}
 use Rattle.item_defs.specs.Bits.{AreOctets}
 use Rattle.bit_pipe.specs.Sources.{SourceOf, Arrives, IsOver, Plainly, Fails}
 use Rattle.segment_defs.specs.declared.head.SegmentHead.{SegmentHead}

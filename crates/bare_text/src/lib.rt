@@ -32,8 +32,8 @@ pub const fn bare_heads_end_there()
     ensures { BareHeadsEndThere }
 {}
 
-/// What was encoded can be decoded: a text is its head and the octets that decide its blocks, the coded ones if there is neither a stop nor
-/// a limit.
+/// What was encoded can be decoded, with restored numbers or without: a text is its head and the octets that decide its blocks, the coded
+/// ones if there is neither a stop nor a limit.
 pub const fn bare_texts_hold()
     ensures { BareTextsHold }
 {

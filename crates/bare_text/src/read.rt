@@ -18,21 +18,22 @@ use std::alloc::{AllocError, Global};
 /// Reads the items of bare texts, by tables of their words that are made once.
 #[derive(Drop)]
 pub struct BareReader {
-    /// The reader of these items, whose tables have the book.
+    /// The reader of these items, whose tables have the book, and by which numbers are restored, or are as they are.
     pub reader: SegmentReader,
 }
 
 impl BareReader {
     ghost use Rattle.std.specs.Prelude.{IsTrue, IfOk};
     ghost use Rattle.plane_defs.specs.Codes.{is_book_sound};
+    ghost use Rattle.segment_code.specs.Readers.{wish_of};
 
-    /// Returns a reader of the items of bare texts that were written with this book, with tables in memory that it takes. The book is
-    /// sound. The only error is a lack of memory.
-    pub fn new(alloc: Global, book: &Book) -> Result<BareReader, AllocError>
+    /// Returns a reader of the items of bare texts that were written with this book, with tables in memory that it takes. It restores
+    /// numbers if that is asked (docs/formats.md, "Restored numbers"). The book is sound. The only error is a lack of memory.
+    pub fn new(alloc: Global, book: &Book, restore: bool) -> Result<BareReader, AllocError>
         requires sound { IsTrue (is_book_sound book.now) }
-        ensures book { IfOk result (λ reader. reader.reader.tables.value.words.book ≡ book.now) }
+        ensures wish { IfOk result (λ reader. wish_of reader.reader ≡ record { book = book.now; restore = restore }) }
     {
-        let reader = SegmentReader::new(alloc, book)?;
+        let reader = SegmentReader::new(alloc, book, restore)?;
         Ok(BareReader { reader })
     }
 }
@@ -47,6 +48,7 @@ pub struct BareHead {
 impl BareHead {
     ghost use Rattle.std.specs.Prelude.{◌*◌};
     ghost use Rattle.segment_code.specs.DecodedItems.{DecodesItems};
+    ghost use Rattle.segment_code.specs.Readers.{wish_of};
 
     /// Reads the items of the text after this head, with their padding and fill, and no octet more (docs/formats.md, "Bare texts"). Blocks,
     /// `marks` and the result are those of `SegmentReader::decode_items`.
@@ -65,7 +67,7 @@ impl BareHead {
         requires size { self.now.size ≤ 20 }
         requires count { length blocks.old ≡ 64 * length marks.old }
         requires marks { length marks.old ≡ self.now.head.blocks }
-        ensures decodes { DecodesItems I.source reader.now.reader.tables.value.words.book self.now.head self.now.size result input.old input.new blocks.new }
+        ensures decodes { DecodesItems I.source (wish_of reader.now.reader) self.now.head self.now.size result input.old input.new blocks.new }
         ensures sizes { (length blocks.new ≡ length blocks.old) × (length marks.new ≡ length marks.old) }
     {
         reader
