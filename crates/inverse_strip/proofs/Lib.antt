@@ -8,5 +8,6 @@ pub mod SampleLemmas
 pub mod NextLemmas
 pub mod SquareLemmas
 mod ZeroRows
+mod ZeroPairs
 mod Bounds
 mod PairLemmas

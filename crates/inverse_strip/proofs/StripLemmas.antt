@@ -1,13 +1,14 @@
 -- Three levels, one after another.
-use Rattle.std.proofs.Common.{◌≡◌, ℕ, ◌+◌, ◌*◌, ◌<◌, ℤ, List, [], get_or, refl, ap, sym, ◌∙◌, subst, ⊎_elim, arith}
+use Rattle.std.proofs.Common.{◌≡◌, ℕ, ◌+◌, ◌*◌, ◌<◌, ℤ, pos, List, [], get_or, refl, ap, sym, ◌∙◌, subst, ⊎_elim, arith}
 use Rattle.wave_defs.specs.Level.{joined}
 use Rattle.wave_defs.specs.Pyramid.{Pyramid, rebuilt, first_of, second_of, third_of}
-use Rattle.wave_defs.specs.Blocks.{block_side}
+use Rattle.wave_defs.specs.Blocks.{Place, block_side}
 use Rattle.wave_defs.specs.Held.{Agrees, signal}
 use Rattle.std.proofs.lemmas.Bool.Decides.{nat_tests}
 use Rattle.inverse_strip.specs.Cells.{HasBlockRow, first_row, row_place, number_in}
 use Rattle.inverse_strip.proofs.CellLemmas.{number-same}
 use Rattle.inverse_strip.specs.Kept.{Counts, HasRow}
+use Rattle.inverse_strip.specs.Zeros.{zeros}
 use Rattle.wave_defs.proofs.Equations.{second_of-is, first_of-is, rebuilt-is}
 
 -- the low band of a level is what the level before it makes
@@ -88,3 +89,12 @@ block_row-moved f band n columns m xs ys hb em same has = subst (λ (k : ℕ). H
       ∙ number-same columns xs ys (record { band = band; row = y; column = j })
       (λ is. ap (λ (x : List ℤ). signal x j) (sym (same (row_place band y) (grind (arith, nat_tests)))));
 })
+
+-- ---- a block row of zeros
+
+-- its rows of a band
+pub row-lost : (f : ℕ → ℕ → ℤ) (band first columns w n y : ℕ) (cells : List (List ℤ)) → HasBlockRow f band first columns cells →
+    ((q : Place) → number_in columns cells q ≡ pos 0) → w ≡ block_side band * columns → n ≡ first + y → y < block_side band → Agrees w zeros (f n)
+row-lost f band first columns w n y cells has none ew en hy = record {
+  at = λ j h. sym (ap (λ (k : ℕ). f k j) en ∙ has.at y j hy (omega (arith, h, ew)) ∙ none (record { band = band; row = y; column = j }));
+}

@@ -6,3 +6,4 @@ pub mod Cells
 pub mod Strip
 pub mod Samples
 pub mod Lending
+pub mod Zeros

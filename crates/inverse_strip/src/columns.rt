@@ -8,6 +8,7 @@ ghost use Rattle.wave_defs.specs.Held.{Agrees, signal};
 ghost use Rattle.wave_defs.specs.Rings.{AreRows, RowsWithin, AreNewest};
 ghost use Rattle.inverse_strip.specs.Kept.{AreRings, ArePairsWithin};
 
+use crate::zeros::are_zero;
 use lift_rows::{
     EvenRows, mirrored_after, mirrored_before, predict_add_narrow, predict_add_widened,
     update_add_narrow,
@@ -98,6 +99,7 @@ impl Columns {
     ghost use Rattle.wave_defs.specs.Within.{AllWithin};
     ghost use Rattle.wave_defs.specs.Held.{Agrees, signal};
     ghost use Rattle.inverse_strip.specs.Columns.{Follow, IsSmall};
+    ghost use Rattle.inverse_strip.specs.Zeros.{zeros, AreZeroColumns};
 
     /// Returns columns of which no pair was taken.
     pub fn new(alloc: Global, width: usize) -> Result<Columns, AllocError>
@@ -143,6 +145,30 @@ impl Columns {
         self.highs.turn_copy(high);
         self.taken += 1;
         self.small &= small;
+    }
+
+    /// Takes the next pair, of two rows of zeros. All numbers that are kept are 0, and so are they afterwards.
+    pub fn pass(&mut self)
+        requires few { self.old.taken < 2 ^ 32 - 1 }
+        requires zero { AreZeroColumns self.old }
+        ensures width { self.new.width ≡ self.old.width }
+        ensures taken { self.new.taken ≡ self.old.taken + 1 }
+        ensures small { self.new.small ≡ self.old.small }
+        ensures zero { AreZeroColumns self.new }
+        ensures follows { (c d : ℕ → ℕ → ℤ) → Follow c d self.old
+            → Agrees self.old.width zeros (c self.old.taken)
+            → Agrees self.old.width zeros (d self.old.taken)
+            → Follow c d self.new }
+        ensures within { (m : ℕ) → IsSmall m self.old → IsSmall m self.new }
+    {
+        self.taken += 1;
+    }
+
+    /// Returns whether all numbers that are kept are 0.
+    pub fn are_zero(&self) -> bool
+        ensures { result ≡ true → AreZeroColumns self.now }
+    {
+        are_zero(&self.evens, 4) && are_zero(&self.highs, 3)
     }
 
     // Makes odd row k of the columns that end after the pairs that were taken. It is one of the newest.

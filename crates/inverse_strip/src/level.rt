@@ -35,6 +35,7 @@ impl InverseLevel {
     ghost use Rattle.inverse_strip.specs.Kept.{HasRow, IsDrained, column_bound, level_bound};
     ghost use Rattle.inverse_strip.specs.Columns.{IsSmall};
     ghost use Rattle.inverse_strip.specs.Level.{FollowLevel};
+    ghost use Rattle.inverse_strip.specs.Zeros.{zeros, IsZeroLevel};
 
     /// Returns a level of which no row was taken. The bands have rows of `width` samples.
     pub fn new(alloc: Global, width: usize) -> Result<InverseLevel, AllocError>
@@ -117,6 +118,35 @@ impl InverseLevel {
         self.push(hl, lh, hh);
     }
 
+    /// Takes the next row of each band, which are rows of zeros. All numbers that are kept are 0, and so are they afterwards. No row is
+    /// left to give.
+    pub fn pass(&mut self)
+        requires few { self.old.left.taken < 2 ^ 32 - 1 }
+        requires drained { IsDrained self.old.left.taken self.old.given }
+        requires zero { IsZeroLevel self.old }
+        ensures width { self.new.left.width ≡ self.old.left.width }
+        ensures taken { self.new.left.taken ≡ self.old.left.taken + 1 }
+        ensures given { self.new.given ≡ self.old.given }
+        ensures zero { IsZeroLevel self.new }
+        ensures follows { (q : Quarters) → FollowLevel q self.old
+            → Agrees self.old.left.width zeros (q.ll self.old.left.taken)
+            → Agrees self.old.left.width zeros (q.hl self.old.left.taken)
+            → Agrees self.old.left.width zeros (q.lh self.old.left.taken)
+            → Agrees self.old.left.width zeros (q.hh self.old.left.taken)
+            → FollowLevel q self.new }
+        ensures within { (m : ℕ) → IsSmall m self.old.left → IsSmall m self.new.left }
+    {
+        self.left.pass();
+        self.right.pass();
+    }
+
+    /// Returns whether all numbers that are kept are 0.
+    pub fn is_zero(&self) -> bool
+        ensures { result ≡ true → IsZeroLevel self.now }
+    {
+        self.left.are_zero() && self.right.are_zero()
+    }
+
     /// Returns whether the next row can be given, if the bands have `height` rows in all.
     pub fn has_row(&self, height: usize) -> bool
         requires { self.now.left.taken < 2 ^ 32 }
@@ -149,6 +179,24 @@ impl InverseLevel {
         self.given += 1;
         self.left.row(i, &mut self.left_row);
         self.right.row(i, &mut self.right_row);
+    }
+
+    /// Passes the next row, which is a row of zeros since all numbers that are kept are 0, if the bands have `height` rows in all.
+    pub fn skip_row(&mut self, height: usize)
+        requires few { self.old.left.taken < 2 ^ 32 }
+        requires row { HasRow self.old.left.taken self.old.given height }
+        requires zero { IsZeroLevel self.old }
+        ensures width { self.new.left.width ≡ self.old.left.width }
+        ensures taken { self.new.left.taken ≡ self.old.left.taken }
+        ensures given { self.new.given ≡ self.old.given + 1 }
+        ensures zero { IsZeroLevel self.new }
+        ensures follows { (q : Quarters) → FollowLevel q self.old → FollowLevel q self.new }
+        ensures within { (m : ℕ) → IsSmall m self.old.left → IsSmall m self.new.left }
+        ensures value { (q : Quarters) (n : ℕ) → FollowLevel q self.old → self.old.left.taken ≤ n
+            → (self.old.left.taken ≡ height → n ≡ height)
+            → Agrees (2 * self.old.left.width) zeros (joined q n self.old.left.width self.old.given) }
+    {
+        self.given += 1;
     }
 
     /// Gives the next row, if the bands have `height` rows in all. It fits 32 bits.

@@ -12,5 +12,6 @@ mod sink;
 mod small;
 mod stage;
 mod strip;
+mod zeros;
 
 pub use strip::StripInverse;

@@ -5,6 +5,7 @@ ghost use Rattle.wave_defs.specs.Rings.{AreRows, RowsWithin};
 
 use crate::block_row::BlockRow;
 use crate::level::InverseLevel;
+use crate::zeros::are_zero;
 use line_rings::RowRing;
 use std::alloc::{AllocError, Global};
 
@@ -28,7 +29,7 @@ pub struct LevelStage {
 }
 
 impl LevelStage {
-    ghost use Rattle.std.specs.Prelude.{◌≡◌, ◌≢◌, ℕ, ◌+◌, ◌*◌, ◌-◌, ◌/◌, ◌^◌, ◌<◌, ◌≤◌, ℤ, [], length, vec_len, IfOk, slice_index_or};
+    ghost use Rattle.std.specs.Prelude.{◌≡◌, ◌≢◌, ℕ, ◌+◌, ◌*◌, ◌-◌, ◌/◌, ◌^◌, ◌<◌, ◌≤◌, ℤ, [], length, vec_len, IfOk, slice_index_or, true};
     ghost use Rattle.wave_defs.specs.Level.{Quarters, joined};
     ghost use Rattle.wave_defs.specs.Within.{AllWithin};
     ghost use Rattle.wave_defs.specs.Held.{Agrees, signal};
@@ -36,6 +37,7 @@ impl LevelStage {
     ghost use Rattle.inverse_strip.specs.Columns.{IsSmall};
     ghost use Rattle.inverse_strip.specs.Level.{FollowLevel};
     ghost use Rattle.inverse_strip.specs.Stage.{FollowStage};
+    ghost use Rattle.inverse_strip.specs.Zeros.{zeros, IsZeroRow, IsZeroLevel, IsZeroStage};
     ghost use Rattle.wave_defs.specs.Blocks.{block_side};
     ghost use Rattle.inverse_strip.specs.Cells.{HasBlockRow, first_row, row_place};
 
@@ -118,8 +120,37 @@ impl LevelStage {
         }
     }
 
-    /// Takes the next row from the level before, whose bands have `height` rows in all.
-    pub fn feed(&mut self, before: &mut InverseLevel, height: usize)
+    /// Takes `side` rows of each of its high bands, which are rows of zeros. All numbers that are kept are 0, and so are they afterwards.
+    pub fn pass_rows(&mut self, side: usize)
+        requires zero { IsZeroStage self.old }
+        requires room { self.old.came + side ≤ self.old.level.left.taken + self.old.kept }
+        requires few { self.old.came + side < 2 ^ 32 }
+        ensures level { self.new.level ≡ self.old.level }
+        ensures kept { self.new.kept ≡ self.old.kept }
+        ensures came { self.new.came ≡ self.old.came + side }
+        ensures zero { IsZeroStage self.new }
+        ensures follows { (q : Quarters) → FollowStage q self.old
+            → ((y : ℕ) → y < side → Agrees self.old.level.left.width zeros (q.hl (self.old.came + y)))
+            → ((y : ℕ) → y < side → Agrees self.old.level.left.width zeros (q.lh (self.old.came + y)))
+            → ((y : ℕ) → y < side → Agrees self.old.level.left.width zeros (q.hh (self.old.came + y)))
+            → FollowStage q self.new }
+    {
+        self.came += side;
+    }
+
+    /// Returns whether all numbers that are kept are 0.
+    pub fn is_zero(&self) -> bool
+        ensures { result ≡ true → IsZeroStage self.now }
+    {
+        are_zero(&self.hl, self.kept)
+            && are_zero(&self.lh, self.kept)
+            && are_zero(&self.hh, self.kept)
+            && self.level.is_zero()
+    }
+
+    /// Takes the next row from the level before, whose bands have `height` rows in all. If `zero`, all numbers that both keep are 0, and so
+    /// are they afterwards.
+    pub fn feed(&mut self, before: &mut InverseLevel, height: usize, zero: bool)
         requires wide { self.old.level.left.width ≡ 2 * before.old.left.width }
         requires few { before.old.left.taken < 2 ^ 32 }
         requires few_here { self.old.level.left.taken < 2 ^ 32 - 1 }
@@ -130,6 +161,8 @@ impl LevelStage {
         requires few_kept { self.old.kept < 2 ^ 32 }
         requires drained { IsDrained self.old.level.left.taken self.old.level.given }
         requires within { IsSmall (21 * 2 ^ 25) before.old.left }
+        requires zero { zero ≡ true → IsZeroLevel before.old × IsZeroStage self.old }
+        ensures zero { zero ≡ true → IsZeroLevel before.new × IsZeroStage self.new }
         ensures width { self.new.level.left.width ≡ self.old.level.left.width }
         ensures taken { self.new.level.left.taken ≡ self.old.level.left.taken + 1 }
         ensures given { self.new.level.given ≡ self.old.level.given }
@@ -147,16 +180,24 @@ impl LevelStage {
         ensures within { (m k : ℕ) → IsSmall m before.old.left → level_bound m ≤ k
             → IsSmall k self.old.level.left → IsSmall k self.new.level.left }
     {
+        if zero {
+            before.skip_row(height);
+            self.level.pass();
+            return;
+        }
         before.next_row(height, &mut self.level.left_row);
         let i = self.level.left.taken + self.kept - self.came;
         self.level.push(self.hl.at(i), self.lh.at(i), self.hh.at(i));
     }
 
-    /// Gives the level's next row in 64 bits, if the bands have `height` rows in all.
-    pub fn next_row(&mut self, height: usize, into: &mut [i64])
+    /// Gives the level's next row in 64 bits, if the bands have `height` rows in all. If `zero`, all numbers that are kept are 0 and so are
+    /// those of the earlier row.
+    pub fn next_row(&mut self, height: usize, into: &mut [i64], zero: bool)
         requires wide { length into.old ≡ 2 * self.old.level.left.width }
         requires few { self.old.level.left.taken < 2 ^ 32 }
         requires row { HasRow self.old.level.left.taken self.old.level.given height }
+        requires zero { zero ≡ true → IsZeroStage self.old × IsZeroRow into.old }
+        ensures zero { zero ≡ true → IsZeroStage self.new × IsZeroRow into.new }
         ensures width { self.new.level.left.width ≡ self.old.level.left.width }
         ensures taken { self.new.level.left.taken ≡ self.old.level.left.taken }
         ensures given { self.new.level.given ≡ self.old.level.given + 1 }
@@ -168,6 +209,10 @@ impl LevelStage {
             → Agrees (2 * self.old.level.left.width) (signal into.new)
             (joined q n self.old.level.left.width self.old.level.given) }
     {
+        if zero {
+            self.level.skip_row(height);
+            return;
+        }
         self.level.next_row_widened(height, into);
     }
 }

@@ -1,9 +1,10 @@
 //! The three levels, one after another.
 
-ghost use Rattle.std.specs.Prelude.{◌≡◌, ℕ, ◌+◌, ◌*◌, ◌-◌, ◌^◌, ◌<◌, ◌≤◌, ℤ, length, vec_len};
+ghost use Rattle.std.specs.Prelude.{◌≡◌, ℕ, ◌+◌, ◌*◌, ◌-◌, ◌^◌, ◌<◌, ◌≤◌, ℤ, length, vec_len, true};
 ghost use Rattle.base_122.specs.Weights.{band_place};
 ghost use Rattle.inverse_strip.specs.Kept.{Counts};
 ghost use Rattle.inverse_strip.specs.Columns.{IsSmall};
+ghost use Rattle.inverse_strip.specs.Zeros.{IsQuiet};
 
 use crate::block_row::BlockRow;
 use crate::level::InverseLevel;
@@ -13,7 +14,7 @@ use block_families::Place;
 use std::alloc::{AllocError, Global};
 
 /// The rolling inverse of an image of `height` block rows: three levels, the last row that was made,
-/// and the block row that is set next.
+/// and the block row that is set next. If `quiet`, all numbers that these have are 0, except those of the block row that is set next.
 #[derive(Drop)]
 pub struct StripInverse {
     height: usize,
@@ -22,6 +23,7 @@ pub struct StripInverse {
     first: LevelStage,
     row: Vec<i64>,
     next: BlockRow,
+    quiet: bool,
     ghost high: { 3 ≤ height },
     ghost short: { height ≤ 2 ^ 15 },
     ghost few: { third.left.width ≤ 2 ^ 17 },
@@ -38,6 +40,7 @@ pub struct StripInverse {
     ghost counts: { Counts third.left.taken third.given second.level.given first.level.given height },
     ghost third_within: { IsSmall (2 ^ 27) third.left },
     ghost second_within: { IsSmall (21 * 2 ^ 25) second.level.left },
+    ghost all_zero: { quiet ≡ true → IsQuiet third second first row.items },
 }
 
 // Returns the number of a band.
@@ -49,7 +52,7 @@ fn number_of(band: Band) -> usize
 }
 
 impl StripInverse {
-    ghost use Rattle.std.specs.Prelude.{◌≡◌, ℕ, ◌+◌, ◌*◌, ◌-◌, ◌^◌, ◌<◌, ◌≤◌, ℤ, pos, ◌/◌, length, vec_len, IfOk};
+    ghost use Rattle.std.specs.Prelude.{◌≡◌, ℕ, ◌+◌, ◌*◌, ◌-◌, ◌^◌, ◌<◌, ◌≤◌, ℤ, pos, ◌/◌, length, vec_len, IfOk, true};
     ghost use Rattle.std.specs.Bool.{OnTrue, OnFalse};
     ghost use Rattle.wave_defs.specs.Pyramid.{Pyramid, rebuilt};
     ghost use Rattle.wave_defs.specs.Held.{Agrees, signal};
@@ -64,6 +67,7 @@ impl StripInverse {
     ghost use Rattle.block_families.specs.Places.{named, IsWithin as IsPlaceIn};
     ghost use Rattle.std.specs.Borrow.{sem};
     ghost use Rattle.inverse_strip.specs.Lending.{MovesAfter};
+    ghost use Rattle.inverse_strip.specs.Zeros.{IsZeroLevel, IsZeroStage};
 
     /// Moves one row from a level to the next one, if one can be moved; returns whether it did. The first level has none left.
     fn step(&mut self) -> bool
@@ -86,11 +90,12 @@ impl StripInverse {
             → FollowStrip p r self.old → FollowStrip p r self.new }
     {
         if self.second.level.has_row(2 * self.height) {
-            self.first.feed(&mut self.second.level, 2 * self.height);
+            self.first
+                .feed(&mut self.second.level, 2 * self.height, self.quiet);
             return true;
         }
         if self.third.has_row(self.height) {
-            self.second.feed(&mut self.third, self.height);
+            self.second.feed(&mut self.third, self.height, self.quiet);
             return true;
         }
         false
@@ -124,7 +129,8 @@ impl StripInverse {
                 return false;
             }
         }
-        self.first.next_row(4 * self.height, &mut self.row);
+        self.first
+            .next_row(4 * self.height, &mut self.row, self.quiet);
         true
     }
 
@@ -140,6 +146,7 @@ impl StripInverse {
         ensures follows { (p : Pyramid) (r : ℕ) → FollowStrip p r self.old
             → IsNext p (taken_of self.old) self.old → FollowStrip p r self.new }
     {
+        self.quiet = false;
         self.third.push_bands(
             self.next.row(9, 0),
             self.next.row(7, 0),
@@ -149,6 +156,41 @@ impl StripInverse {
         self.second.take_rows(&mut self.next, 3, 2);
         self.first.take_rows(&mut self.next, 0, 4);
         self.next.clear();
+    }
+
+    // Returns whether all numbers that the levels keep are 0. After a block row with other numbers the oldest rows are the last ones to
+    // be 0, and the first level's the last of all: so most often the first number that is read decides it.
+    fn is_zero(&self) -> bool
+        ensures { result ≡ true → IsZeroLevel self.now.third × IsZeroStage self.now.second × IsZeroStage self.now.first }
+    {
+        self.first.is_zero() && self.second.is_zero() && self.third.is_zero()
+    }
+
+    /// Takes the block row that was set, as `push_block_row` does. If it is `lost`, all its numbers are 0: from the block row on before
+    /// which all numbers were 0 that the levels keep, nothing is computed until a block row isn't lost.
+    pub fn push_row(&mut self, lost: bool)
+        requires fewer { taken_of self.old < height_of self.old }
+        requires idle { IsIdle (taken_of self.old) (next_of self.old) (height_of self.old) }
+        requires lost { lost ≡ true → (q : NumberedPlace) → numbers_of self.old q ≡ pos 0 }
+        ensures height { height_of self.new ≡ height_of self.old }
+        ensures width { columns_of self.new ≡ columns_of self.old }
+        ensures taken { taken_of self.new ≡ taken_of self.old + 1 }
+        ensures given { next_of self.new ≡ next_of self.old }
+        ensures zero { (q : NumberedPlace) → numbers_of self.new q ≡ pos 0 }
+        ensures follows { (p : Pyramid) (r : ℕ) → FollowStrip p r self.old
+            → IsNext p (taken_of self.old) self.old → FollowStrip p r self.new }
+    {
+        if lost && self.quiet {
+            self.third.pass();
+            self.second.pass_rows(2);
+            self.first.pass_rows(4);
+            return;
+        }
+        self.push_block_row();
+        if lost && self.is_zero() {
+            self.row.fill(0);
+            self.quiet = true;
+        }
     }
 
     /// Returns the inverse of which no block row was taken, and in which all numbers of the block row that is
@@ -181,6 +223,7 @@ impl StripInverse {
             first,
             row,
             next,
+            quiet: false,
         })
     }
 

@@ -1,7 +1,5 @@
 -- The numbers of a block in the bands of consecutive blocks.
-use Rattle.std.proofs.Common.{◌≡◌, ◌≤◌, ◌^◌, ◌*ℤ◌, ℕ, ℤ, pos, List, length, get_or, sym, ap, ◌∙◌, inl, inr, arith, All}
-use Rattle.std.proofs.lemmas.Bool.{cases_lt}
-use Rattle.std.proofs.lemmas.List.{get_or_past}
+use Rattle.std.proofs.Common.{◌≡◌, ◌^◌, ◌*ℤ◌, ℕ, ℤ, pos, List, get_or, sym, ap, ◌∙◌, arith, All}
 use Rattle.base_122.specs.Weights.{IsShift}
 use Rattle.base_122.proofs.ShiftLaws.{shift_low}
 use Rattle.wave_defs.specs.Line.{floor_div}

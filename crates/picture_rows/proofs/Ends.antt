@@ -1,16 +1,14 @@
 -- A picture whose height is reported after some of its blocks.
-use Rattle.std.proofs.Common.{◌≡◌, ◌<◌, ◌≤◌, ◌+◌, ◌*◌, ◌/◌, ℕ, refl, sym, ap, ◌∙◌, inl, inr, arith, mul-le-mul_left}
+use Rattle.std.proofs.Common.{◌≡◌, ◌<◌, ◌≤◌, ◌*◌, ◌/◌, ℕ, refl, sym, ◌∙◌, inl, inr, arith, mul-le-mul_left}
 use Rattle.std.proofs.lemmas.Bool.{cases_lt}
 use Rattle.base_122.specs.Sizes.{block_count, padded_size, total_blocks}
 use Rattle.base_122.specs.Ranges.{IsWithin, rows_range}
-use Rattle.base_122.specs.declared.geometry.Geometry.{Geometry}
 use Rattle.wave_defs.specs.Pyramid.{Pyramid}
 use Rattle.wave_defs.specs.Blocks.{Place}
 use Rattle.inverse_strip.specs.declared.strip.StripInverse.{StripInverse}
 use Rattle.inverse_strip.specs.Kept.{IsCompletion}
 use Rattle.inverse_strip.specs.Strip.{columns_of, height_of, taken_of, next_of, numbers_of, FollowStrip}
-use Rattle.picture_rows.specs.declared.picture.PictureAt.{PictureAt}
-use Rattle.picture_rows.specs.Pictures.{PictureState, IsSized, IsCurrent, passed_in, total_in}
+use Rattle.picture_rows.specs.Pictures.{PictureState, IsSized, IsCurrent, passed_in}
 use Rattle.picture_rows.specs.Steps.{HasEnded}
 use Rattle.picture_rows.proofs.Heights.{rows_of_shorter}
 

@@ -24,7 +24,8 @@ fn pass_block<X: Port>(port: &mut X, picture: &mut Picture) -> Result<(), Failed
     }
     picture.at.column = 0;
     picture.at.row += 1;
-    picture.strip.push_block_row();
+    picture.strip.push_row(picture.lost);
+    picture.lost = true;
     give_rows(port, picture)
 }
 
@@ -51,6 +52,7 @@ pub fn put_block<X: Port>(
     ensures { PassesBlock result (HasNextNumbers numbers.now (picture_state picture.old)) (X.outside port.old) (X.outside port.new)
         (picture_state picture.old) (picture_state picture.new) }
 {
+    picture.lost = false;
     scatter(
         &mut picture.strip,
         picture.at.column,

@@ -1,7 +1,8 @@
 // The state of a picture.
-ghost use Rattle.std.specs.Prelude.{◌*◌, ◌≤◌};
+ghost use Rattle.std.specs.Prelude.{◌≡◌, ◌*◌, ◌≤◌, pos, true};
 ghost use Rattle.base_122.specs.Sizes.{padded_size};
-ghost use Rattle.inverse_strip.specs.Strip.{columns_of};
+ghost use Rattle.inverse_strip.specs.Strip.{columns_of, numbers_of};
+ghost use Rattle.wave_defs.specs.Blocks.{Place};
 
 use base_122::Geometry;
 use inverse_strip::StripInverse;
@@ -15,13 +16,16 @@ pub struct PictureAt {
     pub next: u32,
 }
 
-/// The inverse transform, and the progress of the picture. It holds at most 80 rows of the padded picture.
+/// The inverse transform, and the progress of the picture. It holds at most 80 rows of the padded picture. If `lost`, all blocks so far of the
+/// block row that is set next are missing.
 #[derive(Drop)]
 pub struct Picture {
     pub geometry: Geometry,
     pub at: PictureAt,
     pub strip: StripInverse,
+    pub lost: bool,
     ghost within: { 80 * (8 * columns_of strip) ≤ 80 * padded_size geometry.width },
+    ghost none: { lost ≡ true → (q : Place) → numbers_of strip q ≡ pos 0 },
 }
 
 impl Picture {
@@ -47,6 +51,7 @@ impl Picture {
                 next: 0,
             },
             strip,
+            lost: true,
         })
     }
 

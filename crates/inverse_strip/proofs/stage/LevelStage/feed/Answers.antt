@@ -1,11 +1,13 @@
-use Rattle.std.proofs.Common.{◌≡◌, ℕ, ◌*◌, ◌^◌, sym, subst, arith, drop, length}
+use Rattle.std.proofs.Common.{◌≡◌, ℕ, ◌+◌, ◌-◌, ◌*◌, ◌^◌, ℤ, List, [], refl, sym, subst, arith, drop, length}
 use Rattle.std.proofs.Math.Seq.{take_at}
 use Rattle.wave_defs.specs.Within.{AllWithin}
 use Rattle.wave_defs.specs.Held.{signal}
-use Rattle.wave_defs.specs.Rings.{AreNewest}
+use Rattle.wave_defs.specs.Rings.{AreRows, AreNewest}
 use Rattle.inverse_strip.specs.Kept.{level_bound}
+use Rattle.inverse_strip.specs.Zeros.{AreZeroRows}
 use Rattle.lift_rows.proofs.Fits.{AllWithin-more}
 use Rattle.inverse_strip.proofs.StageLemmas.{waiting-at, waiting-small, low-at}
+use Rattle.inverse_strip.proofs.ZeroPairs.{newest-zero}
 use Rattle.inverse_strip.proofs.stage.LevelStage.feed.Goals as goal
 
 pub push-requires-clause-small_hl : goal.push-requires-clause-small_hl
@@ -62,3 +64,34 @@ returns-clause-within c = λ m k below le small.
     let wide : 2 * c.args.before.now.left.width ≡ w = omega arith in
     let within = subst (λ (v : ℕ). AllWithin (level_bound m) v (signal row)) wide (c.next_row.ensures.row_within m below) in
     c.push.ensures.within k small (rw whole (AllWithin-more (level_bound m) k w (signal row) le within))
+
+pub returns-then-zero-clause-zero : goal.returns-then-zero-clause-zero
+returns-then-zero-clause-zero c = λ e.
+    let zero = (c.requires.zero e).1 in (
+      c.skip_row.ensures.zero,
+      record { level = c.pass.ensures.zero; hl = zero.hl; lh = zero.lh; hh = zero.hh },
+    )
+
+pub returns-then-zero-clause-follows : goal.returns-then-zero-clause-follows
+returns-then-zero-clause-follows c = λ b q n below more end same follow.
+    let s = c.args.self.now in
+    let w = s.level.left.width in
+    let v = c.args.before.now.left.width in
+    let k = s.level.left.taken in
+    let zero = (c.requires.zero c.if-zero.true).1 in
+    let made = c.skip_row.ensures.value b n below more end in
+    let ll = low-at q b n w v c.args.before.now.given k [] [] c.requires.wide c.requires.next same refl made in
+    let waiting = λ (f : ℕ → ℕ → ℤ) (rows : List (List ℤ)) (is : AreRows s.kept w rows) (none : AreZeroRows rows) (newest : AreNewest f w s.came rows).
+    let count = is.count_is in
+    newest-zero f w s.came (k + s.kept - s.came) k rows none newest (omega arith) (omega arith) in
+    let width = sym c.pass.ensures.width in
+    record {
+      level = c.pass.ensures.follows q (record { left = follow.level.left; right = follow.level.right }) ll (waiting q.hl s.hl s.hl_valid zero.hl follow.hl)
+          (waiting q.lh s.lh s.lh_valid zero.lh follow.lh) (waiting q.hh s.hh s.hh_valid zero.hh follow.hh);
+      hl = subst (λ (v : ℕ). AreNewest q.hl v s.came s.hl) width follow.hl;
+      lh = subst (λ (v : ℕ). AreNewest q.lh v s.came s.lh) width follow.lh;
+      hh = subst (λ (v : ℕ). AreNewest q.hh v s.came s.hh) width follow.hh;
+    }
+
+pub returns-then-zero-clause-within : goal.returns-then-zero-clause-within
+returns-then-zero-clause-within c = λ m k below le small. c.pass.ensures.within k small

@@ -38,3 +38,12 @@ returns-clause-value c = λ p r completion follow.
     let made = c.next_row.ensures.value (first_of p r w) (4 * r) f.first (omega arith) end in
     let row = made-row p r w s.first.level.left.width s.first.level.given c.args.self.now.first.level.given _ s.first_wide i.given made in
     rw whole (subst (λ (v : ℕ). Agrees (8 * v) (signal out) (rebuilt p r v c.args.self.now.first.level.given)) i.width row)
+
+pub invariant_of-self-clause-all_zero : goal.invariant_of-self-clause-all_zero
+invariant_of-self-clause-all_zero c = λ e.
+    let s = c.loop-self.self in
+    let quiet = s.all_zero e in
+    let out = c.next_row.new.into in
+    let whole = take_at out (drop (length out) s.row.items) s.row.len (omega arith) in
+    let zero = c.next_row.ensures.zero e in
+    record { third = quiet.third; second = quiet.second; first = zero.0; row = rw whole zero.1 }
