@@ -23,7 +23,7 @@ use Rattle.block_masks.specs.Gaggles.{Agrees}
 use Rattle.plane_coder.specs.Spells.{Spells}
 use Rattle.plane_coder.specs.declared.pending.PendingBits.{PendingBits}
 use Rattle.plane_coder.specs.Picked.{word_of}
-use Rattle.plane_coder.specs.Coding.{word_bits, option_for, unopened}
+use Rattle.plane_coder.specs.Coding.{word_bits, option_for, unopened, closed_in}
 use Rattle.plane_coder.specs.Appends.{Appends, Opens, identified, said, load}
 use Rattle.block_masks.proofs.Agreeing.{agrees_other, agrees_again, agrees_first}
 use Rattle.plane_coder.proofs.Spelling.{on_ok, puts_open, raw_text, short_text, again_text, first_text}
@@ -171,6 +171,10 @@ opens_any n a high none = opens_already n a high (ap (λ m. m / 2 ^ n % 2) none 
     nothing (suc (suc (suc zero))) le = refl
     nothing (suc (suc (suc (suc zero)))) le = refl
     nothing (suc (suc (suc (suc (suc n))))) le = absurd (omega arith)
+
+-- none is due where the same words were sent
+pub still_open : (a b : PendingBits) → b.gaggle ≡ a.gaggle → a.closed ≡ 0 → b.closed ≡ 0
+still_open a b same none = b.closed_known ∙ ap (λ (g : Gaggle). closed_in g.sent) same ∙ sym a.closed_known ∙ none
 
 -- an identifier is due
 fourths : (a b c : Bool) → mask_of a b c % 4 ≡ 0

@@ -38,7 +38,7 @@ fn keep_bits(free: &mut [u64], used: usize, pending: &mut PendingBits) -> usize
 }
 
 // Puts the bits of the words of a list into the next masks of a gaggle, of which `used` have bits: one more than there are if some bits
-// had no room. Returns how many then have bits.
+// had no room. Returns how many then have bits. Most words come after the identifiers of all lengths: they have a loop that tests for none.
 #[inline(always)]
 fn keep_words<const MOST: usize>(
     free: &mut [u64],
@@ -59,11 +59,22 @@ fn keep_words<const MOST: usize>(
     ensures silent { pending.new.count ≡ 0 }
 {
     let mut end = used;
+    let mut first = words.count();
     for i in 0..words.count() {
+        if pending.are_open() {
+            first = i;
+            break;
+        }
         if !pending.has_room() {
             end = keep_bits(free, end, pending);
         }
         pending.typed(option_codes, words.at(i));
+    }
+    for j in first..words.count() {
+        if !pending.has_room() {
+            end = keep_bits(free, end, pending);
+        }
+        pending.typed_open(option_codes, words.at(j));
     }
     keep_bits(free, end, pending)
 }

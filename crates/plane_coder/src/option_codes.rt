@@ -59,12 +59,15 @@ impl<'a> OptionCodes<'a> {
         }
     }
 
-    // Returns the code of a picked word.
+    // Returns the code of a picked word. Each part is read by itself, so that neither has to be shifted out of both.
     #[inline(always)]
     pub fn code(&self, word: u8) -> Code
         requires { IsPacked word }
         ensures { IsCodeOf self.now.tables.now.book (word / 16) (option_for self.now.options (word / 16)) (word % 16) result }
     {
-        self.codes[word as usize]
+        Code {
+            bits: self.codes[word as usize].bits,
+            len: self.codes[word as usize].len,
+        }
     }
 }

@@ -1,6 +1,6 @@
 // The bits of a gaggle that are not put yet.
 
-ghost use Rattle.std.specs.Prelude.{◌≡◌, ◌+◌, ◌-◌, ◌/◌, ◌%◌, ◌≤◌, ◌<◌, ◌^◌, ◌++◌, [], ◌∷◌, ℕ, false, true, slice_index_or, slice_set};
+ghost use Rattle.std.specs.Prelude.{◌≡◌, ◌+◌, ◌-◌, ◌/◌, ◌%◌, ◌≤◌, ◌<◌, ◌^◌, ◌++◌, ◌==◌, [], ◌∷◌, ℕ, false, true, slice_index_or, slice_set};
 ghost use Rattle.std.specs.Bool.{OnTrue};
 ghost use Rattle.item_defs.specs.Bits.{bits_of};
 ghost use Rattle.item_defs.specs.Items.{item_bits};
@@ -9,7 +9,7 @@ ghost use Rattle.base_122.specs.declared.book.Book.{Book as BookValue};
 ghost use Rattle.plane_defs.specs.Spelled.{option_of};
 ghost use Rattle.block_masks.specs.Gaggles.{AreOptions};
 ghost use Rattle.plane_coder.specs.Picked.{IsPacked, ArePacked, word_of, raws_of, entries_of};
-ghost use Rattle.plane_coder.specs.Coding.{unopened, closed_in};
+ghost use Rattle.plane_coder.specs.Coding.{unopened, closed_in, word_bits, option_for};
 ghost use Rattle.bit_pipe.specs.SinkState.{Writes, IsReady};
 
 use crate::option_codes::OptionCodes;
@@ -128,6 +128,20 @@ impl PendingBits {
         *self = self.opened(length);
     }
 
+    // Adds the code of a word.
+    #[inline(always)]
+    fn coded(&mut self, option_codes: &OptionCodes, word: u8)
+        requires packed { IsPacked word }
+        requires room { load self.old + 8 ≤ 63 }
+        ensures said { said self.new ≡ said self.old ++ word_bits option_codes.now.tables.now.book (word / 16)
+            (option_for option_codes.now.options (word / 16)) (word % 16) }
+        ensures gaggle { self.new.gaggle ≡ self.old.gaggle }
+        ensures load { load self.new ≤ load self.old + 8 }
+    {
+        let code = option_codes.code(word);
+        self.push(code.bits, code.len);
+    }
+
     // Adds a word.
     #[inline(always)]
     pub fn word(&mut self, option_codes: &OptionCodes, word: u8)
@@ -137,8 +151,7 @@ impl PendingBits {
         ensures { Appends option_codes.now.tables.now.book self.old self.new (word_of word ∷ []) 8 }
     {
         self.open_first(word / 16);
-        let code = option_codes.code(word);
-        self.push(code.bits, code.len);
+        self.coded(option_codes, word);
     }
 
     // Adds raw bits.
@@ -146,7 +159,8 @@ impl PendingBits {
     pub fn raws(&mut self, raws: u8)
         requires packed { IsPacked raws }
         requires room { load self.old + 4 ≤ 63 }
-        ensures { (book : BookValue) → Appends book self.old self.new (raws_of raws) 4 }
+        ensures raws { (book : BookValue) → Appends book self.old self.new (raws_of raws) 4 }
+        ensures gaggle { self.new.gaggle ≡ self.old.gaggle }
     {
         self.push(raws % 16, raws / 16);
     }
@@ -163,6 +177,28 @@ impl PendingBits {
         let signs = typed.signs();
         self.word(option_codes, word);
         self.raws(signs);
+    }
+
+    // Returns whether no identifier is due before any word.
+    #[inline(always)]
+    pub fn are_open(&self) -> bool
+        ensures { result ≡ (self.now.closed == 0) }
+    {
+        self.closed == 0
+    }
+
+    // Adds a word of types and the signs after it, if no identifier is due before any word.
+    #[inline(always)]
+    pub fn typed_open(&mut self, option_codes: &OptionCodes, typed: Typed)
+        requires none { self.old.closed ≡ 0 }
+        requires packed { ArePacked typed }
+        requires same { option_codes.now.options ≡ self.old.gaggle.options }
+        requires room { load self.old + 12 ≤ 63 }
+        ensures appends { Appends option_codes.now.tables.now.book self.old self.new (entries_of typed) 12 }
+        ensures none { self.new.closed ≡ 0 }
+    {
+        self.coded(option_codes, typed.word());
+        self.raws(typed.signs());
     }
 
     // Returns whether there is room for a word and the bits after it.

@@ -36,7 +36,7 @@ push_refinement-requires g c = record {
   start = omega arith;
   within = omega arith;
   shown = c.refined-refined.ensures;
-  room = omega (arith, silent_load c.args.pending.now c.requires.silent, (c.raws.ensures profile).load);
+  room = omega (arith, silent_load c.args.pending.now c.requires.silent, (c.raws.ensures.raws profile).load);
 }
 
 pub push_refinement-requires-2 : goal.push_refinement-requires-2
@@ -45,7 +45,7 @@ push_refinement-requires-2 g c = record {
   start = omega arith;
   within = omega arith;
   shown = c.refined-refined.ensures;
-  room = omega (arith, silent_load c.args.pending.now c.requires.silent, (c.raws.ensures profile).load, (c.push_refinement.ensures profile).load);
+  room = omega (arith, silent_load c.args.pending.now c.requires.silent, (c.raws.ensures.raws profile).load, (c.push_refinement.ensures profile).load);
 }
 
 pub push_refinement-requires-3 : goal.push_refinement-requires-3
@@ -70,7 +70,7 @@ returns-in_err-put g c =
     let p = err_from_is_err_and c.from_residual.result c.from_residual.ensures.1 in
     record {
       spells = λ book.
-          let raws = subst (λ l. Appends book c.args.pending.now c.raws.new.self l 4) c.refinement.ensures.bits (c.raws.ensures book) in
+          let raws = subst (λ l. Appends book c.args.pending.now c.raws.new.self l 4) c.refinement.ensures.bits (c.raws.ensures.raws book) in
           let says = subst (λ l. Appends book c.args.pending.now c.push_refinement-2.new.pending l 32) (refining_parts block weights plane 1 3 12 16)
           (appends_both 16 16 (appends_both 4 12 raws (c.push_refinement.ensures book)) (c.push_refinement-2.ensures book)) in
           let first = spells_said 32 c.requires.«open» c.requires.silent says c.in_err-put.ensures.puts c.in_err-put.ensures.gaggle in
@@ -88,7 +88,7 @@ returns g c =
     let k = g.O.OctetOut.sink in
     record {
       spells = λ book.
-          let raws = subst (λ l. Appends book c.args.pending.now c.raws.new.self l 4) c.refinement.ensures.bits (c.raws.ensures book) in
+          let raws = subst (λ l. Appends book c.args.pending.now c.raws.new.self l 4) c.refinement.ensures.bits (c.raws.ensures.raws book) in
           let says = subst (λ l. Appends book c.args.pending.now c.push_refinement-2.new.pending l 32) (refining_parts block weights plane 1 3 12 16)
           (appends_both 16 16 (appends_both 4 12 raws (c.push_refinement.ensures book)) (c.push_refinement-2.ensures book)) in
           let first = spells_said 32 c.requires.«open» c.requires.silent says c.in_ok-put.ensures.puts c.in_ok-put.ensures.gaggle in

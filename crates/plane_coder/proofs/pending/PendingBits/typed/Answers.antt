@@ -14,4 +14,4 @@ pub returns : goal.returns
 returns c =
     let book = c.args.option_codes.now.tables.now.book in
     appends_both 8 4 (subst (λ n. Appends book c.args.self.now c.word.new.self (word_of n ∷ []) 8) c.word-word.ensures c.word.ensures)
-    (subst (λ n. Appends book c.word.new.self c.raws.new.self (raws_of n) 4) c.signs-signs.ensures (c.raws.ensures book))
+    (subst (λ n. Appends book c.word.new.self c.raws.new.self (raws_of n) 4) c.signs-signs.ensures (c.raws.ensures.raws book))
