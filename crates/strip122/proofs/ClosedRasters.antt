@@ -26,7 +26,7 @@ use Rattle.stream_defs.proofs.PlacedLaws.{within_not}
 use Rattle.strip_coder.specs.Answers.{TookRaster}
 use Rattle.strip_coder.specs.Rasters.{image_of}
 use Rattle.segment_walk.specs.Answers.{IsPicture}
-use Rattle.segment_walk.specs.Images.{IsImageFor, SendsAll}
+use Rattle.segment_walk.specs.Images.{texts_for, IsImageFor, SendsAll}
 use Rattle.segment_walk.specs.Runs.{Numbers, holds_after}
 use Rattle.segment_walk.specs.declared.ending.DecodeDone.{DecodeDone}
 use Rattle.segment_walk.proofs.WholeImages.{none_left, geometry_reported}
@@ -104,17 +104,18 @@ module _ (heights : KnownHeights) (trip : RoundTrip) (s : Setting) (rows : ℕ) 
       abbrev received : Numbers
       received = (is.if_known stream if_known).0
 
-      received_are : ReceivedIn (holds_after s.book) s.apid (output s rows x) received
+      received_are : ReceivedIn (holds_after (texts_for s wish.restore)) s.apid (output s rows x) received
       received_are =
           let kept : kept_in wish.apid took ≡ kept_in s.apid (output s rows x) =
           ap (kept_in wish.apid) all_taken ∙ ap (λ apid. kept_in apid stream) admits.apid ∙ carries.kept in
-          subst (λ packets. AreReceived (holds_after s.book) packets received) kept
-          (subst (λ book. ReceivedIn (holds_after book) wish.apid took received) admits.book (is.if_known stream if_known).1)
+          subst (λ packets. AreReceived (holds_after (texts_for s wish.restore)) packets received) kept
+          (subst (λ book. ReceivedIn (holds_after (record { book = book; restore = wish.restore })) wish.apid took received) admits.book
+          (is.if_known stream if_known).1)
 
       none_missing : done.damage.missing ≡ []
       none_missing =
           (is.if_known stream if_known).3.missing height_known ∙ ap (λ g. whole_missing g received) same_size
-          ∙ (trip.whole s rows x received image received_are).missing
+          ∙ (trip.whole s rows x wish.restore received image received_are).missing
 
       framed : done.framing ≡ None
       framed =
@@ -124,7 +125,7 @@ module _ (heights : KnownHeights) (trip : RoundTrip) (s : Setting) (rows : ℕ) 
       given_is all =
           let begun = begun_in wish.apid took in
           (is.if_known stream if_known).2 ∙ ap (λ g. picture_octets g received begun) same_size ∙ heights.octets size received begun some_rows
-          ∙ (trip.same s rows x received image all received_are).octets
+          ∙ (trip.same s rows x wish.restore received image all received_are).octets
 
     module _ (raster : List ℕ) (all : SendsAll s) (same : raster_octets s.depth rows s.width x ≡ raster) where
       by_whole : DecodedWhole (DecodeCauses wish) (Asks wish) old new → Exchange old new stream raster [] (Asks wish old stream raster)

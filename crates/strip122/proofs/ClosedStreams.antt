@@ -8,6 +8,7 @@ use Rattle.base_122.specs.declared.wish.DecodeWish.{DecodeWish}
 use Rattle.strip_decoder.proofs.RasterAgain.{raster-again}
 use Rattle.strip_coder.specs.Answers.{TookRaster}
 use Rattle.strip_coder.specs.Rasters.{image_of}
+use Rattle.segment_defs.specs.TextWish.{text_wish}
 use Rattle.segment_walk.specs.Images.{SendsAll}
 use Rattle.bare_stream.specs.Bare.{bare}
 use Rattle.bare_stream.specs.BareStream.{BareStream}
@@ -32,11 +33,12 @@ module _ (streams : StreamsAreRead) (images : ImagesAreBareStreams) (trip : Bare
   stream = bare s (image_of s raster)
 
   module _ (wish : DecodeWish) (old new : Outside) (admits : AdmitsBare wish s (length stream)) (if_known : old.rest ≡ Some stream) where
-    abbrev says : (w : List (List (List ℤ))) × SaysImage s (image_of s raster) w
-    says = images.says s (image_of s raster) image
+    abbrev says : (w : List (List (List ℤ))) × SaysImage s (image_of s raster) wish.restore w
+    says = images.says s (image_of s raster) wish.restore image
 
-    found : BareStream wish.book stream (bare_geometry s) says.0
-    found = subst (λ book. BareStream book stream (bare_geometry s) says.0) (sym admits.book) says.1.stream
+    found : BareStream (text_wish wish) stream (bare_geometry s) says.0
+    found = subst (λ book. BareStream (record { book = book; restore = wish.restore }) stream (bare_geometry s) says.0) (sym admits.book)
+        says.1.stream
 
     caps : IsWithinCaps wish stream (bare_geometry s)
     caps = record { few = admits.pixels; short = admits.octets }

@@ -21,6 +21,7 @@ use Rattle.stream_defs.proofs.DamageLaws.{whole_damage}
 use Rattle.stream_defs.proofs.PlacedLaws.{is_open, is_not_open}
 use Rattle.damage_rows.specs.Table.{is_missing}
 use Rattle.damage_rows.proofs.RangeLaws.{damaged_by}
+use Rattle.segment_defs.specs.TextWish.{TextWish}
 use Rattle.segment_walk.specs.declared.ending.DecodeDone.{DecodeDone}
 use Rattle.segment_walk.specs.declared.ending.DecodeFault.{DecodeFault}
 use Rattle.segment_walk.specs.declared.ending.DecodeFault.TheVariants.{ReadFault, WriteFault, NoSegment, TooManyPixels, LongInput, Memory}
@@ -53,8 +54,9 @@ pub out_later : (cap : ℕ) (b c : Outside) (took wrote : List ℕ) → Exchange
 out_later cap b c took wrote n (inl bad) = inl bad
 out_later cap b c took wrote n (inr ended) = inr (at_end_later n ended.0, λ rest if_known. ended.1 rest (known_before b.rest c.rest rest n.rest if_known))
 
-picture_later : (gives : Bool) (wish : DecodeWish) (a b c : Outside) (took gave wrote : List ℕ) (done : DecodeDone) → Exchange b c [] [] wrote NoRead →
-    PictureBy gives wish a b took gave done → PictureBy gives wish a c took gave done
+picture_later : (gives : Bool) {texts : TextWish} (wish : DecodeWish) (a b c : Outside) (took gave wrote : List ℕ) (done : DecodeDone) →
+    Exchange b c [] [] wrote NoRead →
+    PictureBy gives texts wish a b took gave done → PictureBy gives texts wish a c took gave done
 picture_later gives wish a b c took gave wrote done n p = record {
   geometry = p.geometry;
   range = p.range;
@@ -199,7 +201,8 @@ none_listed rows p (r ∷ rs) is none =
 undamaged : (m : Marks) → damaged m ≡ [] → (row : ℕ) → is_damaged m.rows m.missing row ≡ false
 undamaged m none row = sym ((whole_damage m.rows m.missing).0.each row) ∙ ap (λ rs. is_covered rs row) none
 
-missing_listed : (gives : Bool) (wish : DecodeWish) (a b : Outside) (took gave : List ℕ) (done : DecodeDone) → PictureBy gives wish a b took gave done →
+missing_listed : (gives : Bool) {texts : TextWish} (wish : DecodeWish) (a b : Outside) (took gave : List ℕ) (done : DecodeDone) →
+    PictureBy gives texts wish a b took gave done →
     damaged done.damage ≡ [] → done.geometry.rows ≢ 0 →
     (all : List ℕ) → a.rest ≡ Some all → done.damage.missing ≡ []
 missing_listed gives wish a b took gave done p none known all if_known =
@@ -228,7 +231,8 @@ Says wish old new took gave (Err ReadFault) = Rose old.read_faults new.read_faul
 Says wish old new took gave (Err WriteFault) = Rose old.write_faults new.write_faults
 Says wish old new took gave (Err Memory) = gave ≡ []
 
-saw : (gives : Bool) (wish : DecodeWish) (a b : Outside) (took gave : List ℕ) (done : DecodeDone) → PictureBy gives wish a b took gave done →
+saw : (gives : Bool) {texts : TextWish} (wish : DecodeWish) (a b : Outside) (took gave : List ℕ) (done : DecodeDone) →
+    PictureBy gives texts wish a b took gave done →
     SawImage wish a b took done
 saw gives wish a b took gave done p = record { geometry = p.geometry; few = p.few; out = p.out; none_missing = missing_listed gives wish a b took gave done p }
 

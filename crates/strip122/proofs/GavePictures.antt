@@ -20,10 +20,12 @@ use Rattle.stream_defs.specs.Picture.{picture_octets}
 use Rattle.stream_defs.specs.Received.{AreReceived}
 use Rattle.stream_defs.proofs.DamageLaws.{whole_damage}
 use Rattle.stream_defs.proofs.PlacedLaws.{within_not}
+use Rattle.segment_defs.specs.TextWish.{text_wish}
 use Rattle.segment_walk.specs.declared.ending.DecodeDone.{DecodeDone}
 use Rattle.segment_walk.specs.declared.ending.DecodeFault.{DecodeFault}
 use Rattle.strip_decoder.specs.Answers.{Answers}
 use Rattle.segment_walk.specs.Answers.{IsPicture}
+use Rattle.segment_walk.specs.Laws.{ReceivedIsKnown}
 use Rattle.segment_walk.specs.Runs.{holds_after}
 use Rattle.segment_walk.specs.Walks.{IsDamageOf}
 use Rattle.camera_defs.specs.Picked.{picked}
@@ -84,7 +86,7 @@ gives_own law wish old new took gave all done p if_known =
     record {
       geometry = geometry ∙ p.geometry;
       received = t.0;
-      received_is = subst (λ packets. AreReceived (holds_after wish.book) packets t.0) (sym keeps.kept) t.1;
+      received_is = subst (λ packets. AreReceived (holds_after (text_wish wish)) packets t.0) (sym keeps.kept) t.1;
       gave_is = t.2 ∙ ap (picture_octets done.geometry t.0) begun;
       damage = subst (λ n. IsDamageOf done.geometry t.0 n done.damage) begun t.3;
     }
@@ -93,9 +95,9 @@ low_status : (status : ℕ) → (status ≡ 0) ⊎ (status ≡ 1) → status ≤
 low_status status (inl none) = omega (arith, none)
 low_status status (inr some) = omega (arith, some)
 
-pub gave_picture : PickingKeeps → LossesStay → DecodedContained → RoundTrip → (wish : DecodeWish) (old new : Outside) (status : ℕ) →
+pub gave_picture : PickingKeeps → ReceivedIsKnown → LossesStay → DecodedContained → RoundTrip → (wish : DecodeWish) (old new : Outside) (status : ℕ) →
     Decodes wish old new status → (status ≡ 0) ⊎ (status ≡ 1) → GavePicture wish old new status
-gave_picture law stays contains trip wish old new status run picture = by run.answer run.cause.cause run.status_is
+gave_picture law known stays contains trip wish old new status run picture = by run.answer run.cause.cause run.status_is
   where
     back : (done : DecodeDone) → Answers wish old new run.took run.gave (Ok done) → status ≡ decode_status (Ok done) → (all : List ℕ) →
         old.rest ≡ Some all → (s : Setting) (rows : ℕ) (x : ℕ → ℕ → ℤ) →
@@ -116,6 +118,9 @@ gave_picture law stays contains trip wish old new status run picture = by run.an
       wrote = run.wrote;
       since = run.since;
       own = λ all if_known. gives_own law wish old new run.took run.gave all done k if_known;
+      damage = λ all if_known received received_is.
+          let t = k.if_known all if_known in
+          known.damage (text_wish wish) wish.apid run.took t.0 received done.geometry (begun_in wish.apid run.took) done.damage t.1 received_is t.3;
       contained = λ all if_known. contains.decoded wish old new run.took run.gave all done k if_known;
       alike = λ all if_known s rows x parts apid book took are begins. contains.sublists wish old new run.took run.gave all done s rows x parts k if_known
           apid book

@@ -34,6 +34,7 @@ use Rattle.stream_defs.proofs.PlacedLaws.{within_not}
 use Rattle.strip_coder.specs.declared.encode.EncodeDone.{EncodeDone}
 use Rattle.strip_coder.specs.Answers.{EncodesImage, DoneFor, TookRaster}
 use Rattle.strip_coder.specs.Rasters.{image_of}
+use Rattle.segment_defs.specs.TextWish.{unrestored}
 use Rattle.segment_walk.specs.Images.{ArePixels, IsImageFor}
 use Rattle.segment_walk.specs.Runs.{Numbers, holds_after}
 use Rattle.segment_walk.proofs.WholeImages.{none_left, geometry_reported}
@@ -122,7 +123,7 @@ some_geometry e = cc
 -- what a decoder gives for all packets of an image
 pub record HasPicture (s : Setting) (packets given : List ℕ) : Type 0 where
   pub received : Numbers
-  pub received_are : ReceivedIn (holds_after s.book) s.apid packets received
+  pub received_are : ReceivedIn (holds_after (unrestored s.book)) s.apid packets received
   pub gave : given ≡ whole_octets (geometry_of s) received
 
 pub has_picture : (s : Setting) (raster packets given fail : List ℕ) (piece : ℕ) (port : MemoryPort) (new : Outside) → TextsAreShort → KnownHeights →
@@ -151,7 +152,7 @@ has_picture s raster packets given fail piece port new short known range height 
     let begun = begun_in s.apid run.took in
     record {
       received = if_known.0;
-      received_are = subst (λ octets. ReceivedIn (holds_after s.book) s.apid octets if_known.0) took if_known.1;
+      received_are = subst (λ octets. ReceivedIn (holds_after (unrestored s.book)) s.apid octets if_known.0) took if_known.1;
       gave = given_known [] given run.since none gives ∙ if_known.2 ∙ ap (λ g. picture_octets g if_known.0 begun) same ∙ known.octets (geometry_of s)
           if_known.0 begun
           (within_not s.rows height);
@@ -201,7 +202,7 @@ tried_same s x y done range height same tried =
       octets = tried.octets ∙ ap length packets;
       equal = record {
         received = tried.equal.received;
-        received_are = subst (λ octets. ReceivedIn (holds_after s.book) s.apid octets tried.equal.received) packets tried.equal.received_are;
+        received_are = subst (λ octets. ReceivedIn (holds_after (unrestored s.book)) s.apid octets tried.equal.received) packets tried.equal.received_are;
         equal_is = tried.equal.equal_is ∙ places-same s.rows s.width x shows y shows (omega (arith, width)) same (λ i j row column. refl);
       };
     }

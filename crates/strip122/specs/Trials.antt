@@ -1,5 +1,5 @@
 -- The result of a trial of a setting. This project's own.
-use Rattle.std.specs.Prelude.{◌≡◌, ◌*◌, ◌/◌, ◌%◌, ◌^◌, ◌++◌, ℕ, ℤ, List, length, count_by, decimal, codes, Ok}
+use Rattle.std.specs.Prelude.{◌≡◌, ◌*◌, ◌/◌, ◌%◌, ◌^◌, ◌++◌, ℕ, ℤ, false, List, length, count_by, decimal, codes, Ok}
 use Rattle.std.specs.Ordering.{int_eq}
 use Rattle.std.specs.List.{range_with_len}
 use Rattle.port_122.specs.Outside.{Outside}
@@ -7,6 +7,7 @@ use Rattle.base_122.specs.Setting.{geometry_of}
 use Rattle.base_122.specs.declared.setting.Setting.{Setting}
 use Rattle.base_122.specs.declared.wish.DecodeWish.{DecodeWish}
 use Rattle.raster_rows.specs.declared.made.MadeImage.{MadeImage}
+use Rattle.segment_defs.specs.TextWish.{unrestored}
 use Rattle.stream_defs.specs.Output.{image_packets, output, segments_of, reports_last}
 use Rattle.stream_defs.specs.Picture.{whole_picture}
 use Rattle.stream_defs.specs.Received.{ReceivedIn}
@@ -31,7 +32,7 @@ equal_places rows width x y = count_by (λ place. int_eq (x (place / width) (pla
 
 -- the wish of a decoder: an image with at most the pixels of a setting, in fewer than 2 ^ 40 octets, with its book
 abbrev pub wish_for : Setting → DecodeWish
-wish_for s = record { apid = s.apid; pixels = s.width * s.rows; octets = 2 ^ 40; book = s.book }
+wish_for s = record { apid = s.apid; pixels = s.width * s.rows; octets = 2 ^ 40; book = s.book; restore = false }
 
 -- a decoder has given a picture for this wish
 pub record HasDecoded (s : Setting) (old new : Outside) : Type 0 where
@@ -41,7 +42,7 @@ pub record HasDecoded (s : Setting) (old new : Outside) : Type 0 where
 -- this number of pixels of an image are the same in the picture of these packets
 pub record AreEqualIn (s : Setting) (x : ℕ → ℕ → ℤ) (packets : List ℕ) (equal : ℕ) : Type 0 where
   pub received : Numbers
-  pub received_are : ReceivedIn (holds_after s.book) s.apid packets received
+  pub received_are : ReceivedIn (holds_after (unrestored s.book)) s.apid packets received
   pub equal_is : equal ≡ equal_places s.rows s.width x (whole_picture (geometry_of s) received)
 
 -- What was encoded of an image, and the number of its pixels that are the same in the picture of its packets.

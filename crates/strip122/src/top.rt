@@ -35,6 +35,7 @@ use damage_rects::decoding_stays_in_rects;
 use port_122::Port;
 use quick_look::looks_are_of_images;
 use raster_rows::MadeImage;
+use segment_walk::received_is_known;
 use std::alloc::Global;
 use strip_decoder::{decoding_contains, round_trip};
 
@@ -137,7 +138,8 @@ pub fn run<X: Port>(alloc: Global, words: &[String], port: &mut X) -> u8
         IsSteady (X.outside port.old) (X.outside port.new) → (result ≡ 3) ⊎ (result ≡ 6) }
 
     // No pixel of a picture outside the damaged rows, or outside the damaged rectangles, depends on what was lost, packets of other APIDs
-    // change nothing, and all packets of an image give it whole. If the input has a book, the wish has it, and this holds of the rest.
+    // change nothing, all packets of an image give it whole, and restored numbers change no damage. If the input has a book, the wish has it,
+    // and this holds of the rest.
     ensures picture { (wish : DecodeWish) (has_book : Bool) → Says (texts words.now) (Ok (Command.Read Reading.Decode wish has_book)) →
         (result ≡ 0) ⊎ (result ≡ 1) →
         ByBook has_book wish (λ wish old new. GavePicture wish old new result) (X.outside port.old) (X.outside port.new) }
@@ -165,6 +167,7 @@ pub fn run<X: Port>(alloc: Global, words: &[String], port: &mut X) -> u8
         GaveBare wish (X.outside port.old) (X.outside port.new) }
 {
     picking_keeps();
+    received_is_known();
     decoding_stays_in_rects();
     looks_are_of_images();
     decoding_contains();

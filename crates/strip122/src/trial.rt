@@ -152,6 +152,7 @@ fn decode(alloc: Global, setting: &Setting, port: &mut MemoryPort) -> Result<(),
         pixels: u64::from(setting.width) * u64::from(setting.rows),
         octets: 1 << 40,
         book: setting.book,
+        restore: false,
     };
     match decode_packets(alloc, port, &wish) {
         Ok(_) => Ok(()),

@@ -88,8 +88,8 @@ returns-in-Ok-clause-picture g c wish has_book says given =
     let same : Read Decode wish has_book ≡ c.in-Ok.command = let e = c.read_words.ensures.only (Ok (Read Decode wish has_book)) says in let f =
     c.in-Ok.is in cc in
     by_book_gives (reads Decode) (λ wish old new. GavePicture wish old new c.perform.result) c.perform.result given
-    (λ wish old new run. gave_picture c.picking_keeps.ensures c.decoding_stays_in_rects.ensures c.decoding_contains.ensures c.round_trip.ensures wish old
-    new c.perform.result run given)
+    (λ wish old new run. gave_picture c.picking_keeps.ensures c.received_is_known.ensures c.decoding_stays_in_rects.ensures
+    c.decoding_contains.ensures c.round_trip.ensures wish old new c.perform.result run given)
     has_book wish _ _
     (subst (λ k. (behaviour k).performs (g.X.Port.outside c.args.port.now) (g.X.Port.outside c.perform.new.port) c.perform.result) (sym same)
     c.perform.ensures.performs)
