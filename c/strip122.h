@@ -103,6 +103,7 @@ typedef struct strip122_wish {
     uint8_t book[138]; /* the octets of a code book (docs/formats.md, "Words and codes") */
     uint64_t pixels;   /* greatest number of pixels of a picture */
     uint64_t octets;   /* at which reading ends */
+    uint8_t restore;   /* decode, look: coefficients that are given in part are moved inside their intervals; 0: they stay as they are given */
 } strip122_wish;
 
 #define STRIP122_EACH_APID 65535u
@@ -220,9 +221,9 @@ static inline strip122_setting strip122_usual(uint32_t width, uint32_t rows) {
     return s;
 }
 
-/* The usual parameters: APID 100, pictures of at most 2^32 pixels, at most 2^40 octets, and the code book of the profile. */
+/* The usual parameters: APID 100, pictures of at most 2^32 pixels, at most 2^40 octets, the code book of the profile, and nothing restored. */
 static inline strip122_wish strip122_usual_wish(void) {
-    strip122_wish w = {sizeof(strip122_wish), 100, 0, {0}, (uint64_t)1 << 32, (uint64_t)1 << 40};
+    strip122_wish w = {sizeof(strip122_wish), 100, 0, {0}, (uint64_t)1 << 32, (uint64_t)1 << 40, 0};
     return w;
 }
 

@@ -4,12 +4,12 @@ from __future__ import annotations
 
 from concurrent.futures import ThreadPoolExecutor
 from functools import cached_property
-from typing import List, Optional
+from typing import Any, List, Mapping, Optional
 
 import numpy as np
 from numpy.typing import NDArray
 
-from .coding import MOST_PIXELS, Decoded, Rect, look_of
+from .coding import MOST_PIXELS, USUAL, Decoded, Reading, Rect, look_of
 from .errors import BadInput
 from .images import SortedImage
 from .keys import checked
@@ -28,10 +28,10 @@ class Image:
     at least, and `copies`, `mended` and `differing` what was dropped, moved to its place, and had copies that differ.
     """
 
-    def __init__(self, them: Pass, image: SortedImage, pixels: int = MOST_PIXELS):
+    def __init__(self, them: Pass, image: SortedImage, reading: Reading = USUAL):
         if image.format is None:
             raise BadInput(f"{them.source.title}: {image.name}: no packet has a segment header, so nothing can be decoded")
-        self._pass, self._image, self._pixels = them, image, pixels
+        self._pass, self._image, self._reading = them, image, reading
         self.name = image.name
         self.apid, self.image = image.key.apid, image.key.image
         self.width, self.depth, self.signed = image.format.pixels
@@ -53,9 +53,10 @@ class Image:
     def decoded(self) -> Decoded:
         """The picture, and what of it can't be trusted. Raises BadInput, with the names of the file and the image."""
         try:
-            stream = stream_of(self._pass, self._image, self._pixels)
+            stream = stream_of(self._pass, self._image, self._reading.pixels)
             with ThreadPoolExecutor(1) as thread:
-                return decoded_stream(self._image, stream, self._pixels, early_rects(self._image, stream, self._pixels, thread))
+                early = early_rects(self._image, stream, self._reading.pixels, thread)
+                return decoded_stream(self._image, stream, self._reading, early)
         except BadInput as fault:
             raise BadInput(f"{self._pass.source.title}: {fault}") from fault
 
@@ -70,7 +71,7 @@ class Image:
     def look(self) -> Array:
         """Returns a value for each block of 8 x 8 pixels: shape (rows / 8, width / 8), both rounded up, and the picture's type."""
         assert self._image.format
-        return look_of(self.stream, self.apid, self._image.format.pixels, self._pixels, shared_library())
+        return look_of(self.stream, self.apid, self._image.format.pixels, self._reading, shared_library())
 
     @property
     def damage(self) -> List[range]:
@@ -84,17 +85,19 @@ class Image:
 
 
 def open(  # noqa: A001 - the name that users expect, as of PIL.Image.open
-    path: Given, apid: Optional[int] = None, image: Optional[int] = None, *, pixels: int = MOST_PIXELS
+    path: Given, apid: Optional[int] = None, image: Optional[int] = None, *, pixels: int = MOST_PIXELS, restore: bool = False
 ) -> Image:
     """Returns the image in a file, or in octets.
 
     Packets may be in disorder, come twice, or have junk between them. `apid` (0 to 2046) and `image` (0 to 65535) choose
-    one of several images; `pixels` bounds the pixels of a picture.
+    one of several images; `pixels` bounds the pixels of a picture. With `restore` coefficients that a stop or a limit
+    gives in part are moved inside their intervals.
 
     Raises ReadFault if the file can't be read; BadInput if it has no packet of this coder, none of this APID and image,
     or several images that fit; BadKey if a value is out of range.
     """
-    checked({"apid": apid, "image": image, "pixels": pixels}, ["apid", "image", "pixels"])
+    keys = {"apid": apid, "image": image, "pixels": pixels, "restore": restore}
+    reading = reading_of(checked(keys, list(keys)))
     them = sort(path)
     fitting = [it for it in them.images if apid in (None, it.key.apid) and image in (None, it.key.image)]
     if len(fitting) != 1:
@@ -103,24 +106,33 @@ def open(  # noqa: A001 - the name that users expect, as of PIL.Image.open
         what = f"{len(fitting)} images fit" if fitting else "no image fits"
         them.source.close()
         raise BadInput(f"{them.source.title}: {what}; name apid and image of one of: {names}{more}")
-    return Image(them, fitting[0], pixels)
+    return Image(them, fitting[0], reading)
 
 
-def images(path: Given, *, pixels: int = MOST_PIXELS) -> List[Image]:
+def reading_of(keys: Mapping[str, Any]) -> Reading:
+    """Returns how packets are read by checked keys."""
+    return Reading(keys.get("pixels", MOST_PIXELS), restore=keys.get("restore", False))
+
+
+def images(path: Given, *, pixels: int = MOST_PIXELS, restore: bool = False) -> List[Image]:
     """Returns all images in a file or in octets that have a segment header, in the order of their APIDs and numbers.
 
-    Raises ReadFault, and BadInput if there is no packet of this coder.
+    `pixels` and `restore` are as for `open`. Raises ReadFault, BadKey, and BadInput if there is no packet of this coder.
     """
+    keys = {"pixels": pixels, "restore": restore}
+    reading = reading_of(checked(keys, list(keys)))
     them = sort(path)
-    return [Image(them, it, pixels) for it in them.images if it.format]
+    return [Image(them, it, reading) for it in them.images if it.format]
 
 
-def decode_file(path: Given, apid: Optional[int] = None, image: Optional[int] = None, *, pixels: int = MOST_PIXELS) -> Decoded:
+def decode_file(
+    path: Given, apid: Optional[int] = None, image: Optional[int] = None, *, pixels: int = MOST_PIXELS, restore: bool = False
+) -> Decoded:
     """Returns the picture of the image in a file, and what of it can't be trusted, as a value that can be sent to other machines.
 
     Takes and raises what `open` does.
     """
-    found = open(path, apid, image, pixels=pixels)
+    found = open(path, apid, image, pixels=pixels, restore=restore)
     try:
         return found.decoded
     finally:

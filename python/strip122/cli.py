@@ -11,7 +11,7 @@ from typing import Any, Callable, List, NoReturn, Optional, Sequence
 
 from . import __version__
 from .books import book, lengths_in
-from .coding import MOST_PIXELS, encode
+from .coding import MOST_PIXELS, Reading, encode
 from .errors import BadInput, BadKey, Status, Strip122Error, WriteFault
 from .files import make_folder, reason, store
 from .keys import BOOK_SIZE, ENCODE, KEYS, from_words
@@ -75,7 +75,8 @@ def wish_of(words: Words, **others: Any) -> Wish:
     if not 0 <= words.pixels <= KEYS["pixels"].most:
         raise BadKey(f"--pixels: {words.pixels} is not {KEYS['pixels'].about}")
     kinds = tuple(kinds_of(words.kinds))
-    return Wish(Path(words.into), kinds, words.full, jobs=words.jobs, pixels=words.pixels, **others)
+    reading = Reading(words.pixels, restore=words.restore)
+    return Wish(Path(words.into), kinds, words.full, jobs=words.jobs, reading=reading, **others)
 
 
 def decoded_files(words: Words, wish: Wish, finish: Callable[[Pass, List[Record]], None]) -> Status:
@@ -145,6 +146,7 @@ def add_outputs(it: argparse.ArgumentParser) -> None:
     it.add_argument("--jobs", type=int, default=processors(), metavar="N", help="images at a time, by default one a processor")
     pixels = f"the most pixels of a picture, by default {MOST_PIXELS}"
     it.add_argument("--pixels", type=int, default=MOST_PIXELS, metavar="N", help=pixels)
+    it.add_argument("--restore", action="store_true", help="move coefficients that are given in part inside their intervals")
 
 
 def parser() -> Parser:

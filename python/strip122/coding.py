@@ -21,6 +21,29 @@ FAULTS = {1: "bad version at octet {}", 2: "packet cut, {} octets missing"}  # w
 MOST_PIXELS = 1 << 28  # pixels of a picture that is decoded, if the caller allows no other number
 
 
+@dataclass(frozen=True)
+class Reading:
+    """How packets are read: the most pixels of a picture, the code book, if it is not that of the profile, and whether coefficients
+    that are given in part are moved inside their intervals.
+    """
+
+    pixels: int = MOST_PIXELS
+    book: Optional[bytes] = None
+    restore: bool = False
+
+    def words(self) -> List[str]:
+        """The arguments of `decode`, and of `look` if there is no book. The octets of a book are before the input."""
+        words = [f"pixels={self.pixels}"]
+        return words + ["restore=1"] * self.restore + ["book=1"] * (self.book is not None)
+
+    def wish(self, apid: int) -> c.Wish:
+        """The parameters of the library."""
+        return c.usual_wish(apid, self.pixels, book=self.book or b"", restore=self.restore)
+
+
+USUAL = Reading()
+
+
 class Rect(NamedTuple):
     """A rectangle of pixels that can't be trusted; its last row and column are among them."""
 
@@ -153,16 +176,19 @@ def decode(
     apid: Optional[int] = None,
     pixels: int = MOST_PIXELS,
     book: Optional[bytes] = None,
+    restore: bool = False,
     engine: Optional[str] = None,
 ) -> Decoded:
     """Returns the picture of packets, which are read strictly, one after another and in their order.
 
     `apid` is by default that of the first packet of this coder. `pixels` bounds the pixels of the picture. `book` is the
-    code book with which the packets were written; with one, `rects` are whole rows. `engine` is as for `encode`.
+    code book with which the packets were written; with one, `rects` are whole rows. With `restore` coefficients that a
+    stop or a limit gives in part are moved inside their intervals. `engine` is as for `encode`.
 
     Raises BadInput if no packet begins a segment or the picture has more pixels; BadKey; MissingPackage; NoMemory.
     """
-    checked({"apid": apid, "pixels": pixels, "book": book}, ["apid", "pixels", "book"])
+    keys = checked({"apid": apid, "pixels": pixels, "book": book, "restore": restore}, ["apid", "pixels", "book", "restore"])
+    reading = Reading(keys.get("pixels", MOST_PIXELS), keys.get("book"), keys.get("restore", False))
     with Source([packets]) as source:
         headers = headers_in(source)
     if apid is None:
@@ -171,15 +197,14 @@ def decode(
         apid = int(headers.apid[0])
     lib = library_for(engine)
     form = None if lib else form_in(headers, packets, apid)
-    return decoded_as(packets, apid, form, pixels, book, lib)
+    return decoded_as(packets, apid, form, reading, lib)
 
 
 def decoded_as(
     packets: Octets,
     apid: int,
     form: Optional[Pixels],
-    pixels: int,
-    book: Optional[bytes] = None,
+    reading: Reading = USUAL,
     lib: Optional[c.Library] = None,
     early: EarlyRects = None,
 ) -> Decoded:
@@ -187,19 +212,18 @@ def decoded_as(
 
     `early` gives its rectangles of damage, if they are asked for while the picture is decoded.
     """
-    decoded = decoded_by_library(lib, packets, apid, pixels, book) if lib else decoded_by_program(packets, apid, form, pixels, book)
+    decoded = decoded_by_library(lib, packets, apid, reading) if lib else decoded_by_program(packets, apid, form, reading)
     if not decoded.damage:
         return decoded
-    if book is not None:  # `rects` of the program takes no book
+    if reading.book is not None:  # `rects` of the program takes no book
         rects = [Rect(it.start, it.stop - 1, 0, decoded.array.shape[1] - 1) for it in decoded.damage]
     else:
-        rects = early.result() if early else rects_of(packets, apid, pixels, lib)
+        rects = early.result() if early else rects_of(packets, apid, reading.pixels, lib)
     return replace(decoded, rects=rects)
 
 
-def decoded_by_program(packets: Octets, apid: int, form: Optional[Pixels], pixels: int, book: Optional[bytes]) -> Decoded:
-    words = [f"apid={apid}", f"pixels={pixels}", *(["book=1"] if book else [])]
-    ran = run(["decode", *words], book + bytes(packets) if book else packets)
+def decoded_by_program(packets: Octets, apid: int, form: Optional[Pixels], reading: Reading) -> Decoded:
+    ran = run(["decode", f"apid={apid}", *reading.words()], reading.book + bytes(packets) if reading.book else packets)
     if form is None:
         raise BadInput("no segment")
     note = read_note(ran.note)
@@ -239,8 +263,8 @@ def given(got: c.Picture) -> bytes:
     return got.room
 
 
-def decoded_by_library(lib: c.Library, packets: Octets, apid: int, pixels: int, book: Optional[bytes]) -> Decoded:
-    got = lib.decode_whole(apid, bytes(packets), pixels, book or b"")
+def decoded_by_library(lib: c.Library, packets: Octets, apid: int, reading: Reading) -> Decoded:
+    got = lib.whole(lib.decode_with, reading.wish(apid), bytes(packets))
     picture, report = given(got), got.report
     form = Pixels(report.width, report.depth, bool(report.is_signed))
     damage = [range(first, last + 1) for first, last in got.ranges]
@@ -259,10 +283,10 @@ def rects_of(packets: Octets, apid: int, pixels: int = MOST_PIXELS, lib: Optiona
     return [Rect(*rows, *columns) for rows, columns in zip(numbers[::2], numbers[1::2])]
 
 
-def look_of(packets: Octets, apid: int, form: Pixels, pixels: int = MOST_PIXELS, lib: Optional[c.Library] = None) -> Array:
+def look_of(packets: Octets, apid: int, form: Pixels, reading: Reading = USUAL, lib: Optional[c.Library] = None) -> Array:
     """Returns the quick look by `look` of the library or of the program: a value for each block of 8 x 8 pixels."""
     if lib:
-        output = given(lib.whole(lib.look, c.usual_wish(apid, pixels), bytes(packets)))
+        output = given(lib.whole(lib.look, reading.wish(apid), bytes(packets)))
     else:
-        output = run(["look", f"apid={apid}", f"pixels={pixels}"], packets).output
+        output = run(["look", f"apid={apid}", *reading.words()], packets).output
     return array_of(output, Pixels(-(-form.width // 8), form.depth, form.signed))

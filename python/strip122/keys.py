@@ -40,8 +40,10 @@ KEYS: Dict[str, Key] = {
     "total": Key("0, or at least 36 for each segment, up to 1099511627776, without a limit", 36, MOST, 0),
     "book": Key("bytes, a code book of 138 octets"),
     "pixels": Key("0 to 1099511627776", 0, MOST),
+    "restore": Key("False or True"),
 }
-ENCODE = [it for it in KEYS if it != "pixels"]
+ENCODE = [it for it in KEYS if it not in ("pixels", "restore")]
+FLAGS = ("signed", "fill", "restore")
 
 
 def checked(given: Mapping[str, Any], names: Sequence[str]) -> Dict[str, Any]:
@@ -72,7 +74,7 @@ def refused(name: str, value: Any) -> BadKey:
 def value_of(name: str, value: Any) -> Any:
     """Returns the value of a key. Raises BadKey if it has another type or is out of range."""
     key = KEYS[name]
-    if name in ("signed", "fill"):
+    if name in FLAGS:
         if not isinstance(value, (bool, np.bool_)) and (not is_whole_number(value) or value not in (0, 1)):
             raise refused(name, value)
         return bool(value)
@@ -112,7 +114,7 @@ def from_words(words: Sequence[str]) -> Dict[str, Any]:
             raise BadKey(f"bad word: {word}")
         if name == "book":
             raise BadKey("book: is given by --book FILE")
-        is_number = name in KEYS and (KEYS[name].most >= 0 or name in ("signed", "fill")) and value.isdecimal()
+        is_number = name in KEYS and (KEYS[name].most >= 0 or name in FLAGS) and value.isdecimal()
         keys[name] = int(value) if is_number else value
     return checked(keys, ENCODE)
 

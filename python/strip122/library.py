@@ -61,6 +61,7 @@ class Wish(ctypes.Structure):
         + fields(ctypes.c_uint8, "has_book")
         + [("book", ctypes.c_uint8 * 138)]
         + fields(ctypes.c_uint64, "pixels octets")
+        + fields(ctypes.c_uint8, "restore")
     )
 
 
@@ -114,13 +115,13 @@ def usual(width: int, rows: int, weights: Sequence[int] = USUAL_WEIGHTS, book: b
     return Setting(**octets, **{name: int(value) for name, value in named.items()})
 
 
-def usual_wish(apid: int = 100, pixels: int = 1 << 32, octets: int = 1 << 40, book: bytes = b"") -> Wish:
+def usual_wish(apid: int = 100, pixels: int = 1 << 32, octets: int = 1 << 40, book: bytes = b"", restore: bool = False) -> Wish:
     """Returns parameters of the decoder, with a code book of 138 octets or that of the profile. Raises ValueError if the book has another
     size.
     """
     if len(book) not in (0, 138):
         raise ValueError(f"book: has {len(book)} octets, not 138")
-    return Wish(ctypes.sizeof(Wish), apid, len(book) > 0, (ctypes.c_uint8 * 138)(*book), pixels, octets)
+    return Wish(ctypes.sizeof(Wish), apid, len(book) > 0, (ctypes.c_uint8 * 138)(*book), pixels, octets, restore)
 
 
 class Packets(NamedTuple):
@@ -261,13 +262,6 @@ class Library:
         """Encodes a raster, with a room that is found."""
         got = self.encode(setting, raster, 2 * len(raster) + (1 << 16))
         return self.encode(setting, raster, got.report.octets) if got.answer == SMALL_ROOM else got
-
-    def decode_whole(self, apid: int, packets: bytes, most: int, book: bytes = b"") -> Picture:
-        """Decodes packets, with a room that is found, if the picture has at most this number of pixels.
-
-        Otherwise the answer is TOO_MANY_PIXELS, and the report has the number of pixels.
-        """
-        return self.whole(self.decode_with, usual_wish(apid, most, book=book), packets)
 
     def whole(self, call: Call, wish: Wish, packets: bytes) -> Picture:
         """Reads packets by `decode_with`, `look` or `rects`, with a room that is found."""

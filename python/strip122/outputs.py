@@ -13,7 +13,7 @@ from typing import Any, Dict, Iterator, List, Optional, Tuple
 
 from tqdm import tqdm
 
-from .coding import MOST_PIXELS, Decoded, EarlyRects, decoded_as, look_of, rects_of
+from .coding import USUAL, Decoded, EarlyRects, Reading, decoded_as, look_of, rects_of
 from .errors import BadInput, Status
 from .files import make_folder, store
 from .images import SortedImage
@@ -29,7 +29,7 @@ EarlyLook = Optional["Future[Array]"]
 
 @dataclass(frozen=True)
 class Wish:
-    """Which files are written into a folder: the kinds of arrays and pictures, and what else."""
+    """Which files are written into a folder: the kinds of arrays and pictures, and what else; and how packets are read."""
 
     folder: Path
     kinds: Tuple[str, ...] = ("npy", "png")
@@ -37,7 +37,7 @@ class Wish:
     has_look: bool = True
     has_small: bool = False  # a small picture, for the report
     has_packets: bool = False
-    pixels: int = MOST_PIXELS
+    reading: Reading = USUAL
     jobs: int = 1
 
 
@@ -61,15 +61,15 @@ def early_look(image: SortedImage, stream: bytes, wish: Wish, thread: Executor) 
     """Asks in a thread for the look, if it is wished."""
     if not wish.has_look or not image.format:
         return None
-    return thread.submit(look_of, stream, image.key.apid, image.format.pixels, wish.pixels, shared_library())
+    return thread.submit(look_of, stream, image.key.apid, image.format.pixels, wish.reading, shared_library())
 
 
-def decoded_stream(image: SortedImage, stream: bytes, pixels: int, early: EarlyRects) -> Decoded:
+def decoded_stream(image: SortedImage, stream: bytes, reading: Reading, early: EarlyRects) -> Decoded:
     """Returns the picture of the packets of an image. Raises BadInput with the name of the image."""
     assert image.format
     form, lib = image.format.pixels, shared_library()
     try:
-        return decoded_as(stream, image.key.apid, form, pixels, lib=lib, early=early)
+        return decoded_as(stream, image.key.apid, form, reading, lib, early)
     except BadInput as fault:
         raise BadInput(f"{image.name}: {fault}") from fault
 
@@ -82,11 +82,11 @@ def write_image(them: Pass, number: int, wish: Wish) -> Record:
     image = them.images[number]
     record: Record = {**record_of(image), "status": int(Status.DONE), "error": None, "files": {}}
     try:
-        stream = stream_of(them, image, wish.pixels)
+        stream = stream_of(them, image, wish.reading.pixels)
         with ThreadPoolExecutor(1) as thread:  # it asks for the rectangles, and then for the look
-            early = early_rects(image, stream, wish.pixels, thread)
+            early = early_rects(image, stream, wish.reading.pixels, thread)
             look = early_look(image, stream, wish, thread)
-            decoded = decoded_stream(image, stream, wish.pixels, early)
+            decoded = decoded_stream(image, stream, wish.reading, early)
             write_pictures(record, decoded, wish)
             if look:
                 store_png(named(record, wish.folder, "look", "look.png"), plain_picture(look.result(), decoded.depth))

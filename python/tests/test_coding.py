@@ -10,7 +10,7 @@ import pytest
 import strip122
 import wire
 from strip122 import BadInput, BadKey, Decoded, Rect, library
-from strip122.coding import library_for, look_of, mask_of
+from strip122.coding import Reading, library_for, look_of, mask_of
 from strip122.keys import from_words
 from strip122.program import call
 from strip122.rasters import Pixels, array_of, raster_of
@@ -128,6 +128,35 @@ def test_total_and_book(engine: str, chance: random.Random) -> None:
     ):
         with pytest.raises(BadInput, match="^book "):
             refused()
+
+
+def squared_error(decoded: Decoded, array: Any) -> float:
+    """The mean squared difference of the pixels."""
+    return float(((decoded.array.astype(float) - array) ** 2).mean())
+
+
+@pytest.mark.parametrize("keys", [{"stop": "5.3"}, {"limit": 60}, {"stop": "dc"}])
+def test_restored(engine: str, chance: random.Random, keys: Dict[str, Any]) -> None:
+    """Restored coefficients bring a smooth picture closer, and change neither the damage nor a picture that was sent whole."""
+    slope = np.add.outer(40 * np.arange(40), 20 * np.arange(50))
+    array = (slope + noise(chance, 40, 50, 6, 0)).astype("uint16")
+    packets = strip122.encode(array, depth=12, segment=16, engine=engine, **keys)
+    plain, restored = (strip122.decode(packets, restore=it, engine=engine) for it in (False, True))
+    assert squared_error(restored, array) < squared_error(plain, array)
+    assert restored.is_whole
+    lost = b"".join(wire.packets_of(packets)[1:])
+    assert strip122.decode(lost, restore=True, engine=engine).rects == strip122.decode(lost, engine=engine).rects != []
+    whole = strip122.encode(array, depth=12, engine=engine)
+    assert (strip122.decode(whole, restore=True, engine=engine).array == array).all()
+
+
+def test_restored_look(engine: str, chance: random.Random) -> None:
+    """A look has restored coefficients of the lowest subband too."""
+    array = noise(chance, 40, 50, 12, 0)
+    packets = strip122.encode(array, depth=12, stop="dc", engine=engine)
+    form, lib = Pixels(50, 12, False), library_for(engine)
+    plain, restored = (look_of(packets, 100, form, Reading(restore=it), lib) for it in (False, True))
+    assert (restored >= plain).all() and (restored > plain).any()
 
 
 def test_engine_without_program(shared_library: str, chance: random.Random, monkeypatch: pytest.MonkeyPatch) -> None:

@@ -79,6 +79,20 @@ def test_out(command: Command, files: Path, images: wire.Streams, jobs: int) -> 
     assert [it["arrival"] for it in record["images"]] == list(range(6))
 
 
+def test_restored_pictures(command: Command, files: Path, images: wire.Streams) -> None:
+    """`--restore` gives the restored picture and look, which `open` has too."""
+    packets = wire.encoded(images.rasters[100, 0], width=64, rows=128, depth=12, stop="dc")
+    (files / "coarse").write_bytes(packets)
+    wanted, look = (wire.run(word, packets, restore=1)[1] for word in ("decode", "look"))
+    for words, is_wanted in (([], False), (["--restore"], True)):
+        assert command("out", "coarse", "--into", "out", "--as", "npy", *words)[0] == 0
+        array = np.load(files / "out/apid-100-image-0.npy")
+        assert (array.astype(">u2").tobytes() == wanted) == is_wanted
+    image = strip122.open(files / "coarse", restore=True)
+    assert image.array().astype(">u2").tobytes() == wanted and image.look().astype(">u2").tobytes() == look
+    assert (strip122.decode_file(files / "coarse", restore=True).array == strip122.images(files / "coarse", restore=True)[0].array()).all()
+
+
 def test_full_pictures(command: Command, files: Path, images: wire.Streams) -> None:
     assert command("out", "first", "second", "--into", "out", "--as", "png", "--full")[0] == 0
     raster = np.frombuffer(images.rasters[100, 0], ">u2").reshape(128, 64)

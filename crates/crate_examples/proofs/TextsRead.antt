@@ -8,6 +8,7 @@ use Rattle.item_defs.specs.Items.{bad_option, bad_delta, bad_depth, false_flag}
 use Rattle.base_122.specs.Profile.{profile}
 use Rattle.wave_defs.specs.Held.{blocks_in}
 use Rattle.segment_defs.specs.declared.head.SegmentHead.{SegmentHead}
+use Rattle.segment_defs.specs.TextWish.{unrestored}
 use Rattle.segment_defs.specs.Outcomes.{at_item, short_segment, overlong}
 use Rattle.segment_code.specs.declared.fault.SegmentFault.{SegmentFault}
 use Rattle.segment_code.specs.declared.fault.SegmentFault.TheVariants.{BadOption, BadDelta, BadDepth, FalseFlag, ShortSegment, Overlong, BrokenSegment}
@@ -24,9 +25,10 @@ rest_is text octets from place is at = is ∙ take_rest text from ∙ ap (λ n. 
 all_came : {octets left rest : List ℕ} → rest ≡ octets ++ left → left ≡ [] → octets ≡ rest
 all_came {octets = octets} came none = sym (append-nil octets) ∙ ap (λ l. octets ++ l) (sym none) ∙ sym came
 
-module _ (head : SegmentHead) (says : EndsSay profile head) where
+module _ (head : SegmentHead) (says : EndsSay (unrestored profile) head) where
   pub read_all : (rest : List ℕ) (result : Result Part SegmentFault) (old new : SliceIn) (blocks : List ℤ) → octets_left old ≡ rest →
-      DecodesSegment slice_source profile head result old new blocks → MatchResult result (λ part. HoldsBlocks head rest blocks part) (RefusedFor head rest)
+      DecodesSegment slice_source (unrestored profile) head result old new blocks →
+      MatchResult result (λ part. HoldsBlocks head rest blocks part) (RefusedFor head rest)
   read_all rest (Ok part) old new blocks is d =
       subst (λ o. HoldsBlocks head o blocks part) (all_came (sym is ∙ d.came.0) d.ends.1.0) (says.given d.octets part (blocks_in blocks) d.ends.0, d.ends.0)
   read_all rest (Err BadOption) old new blocks is d =

@@ -8,7 +8,7 @@ use Rattle.segment_defs.specs.declared.head.SegmentHead.{SegmentHead}
 use Rattle.segment_defs.specs.Head.{head_length}
 use Rattle.segment_defs.specs.Reading.{head_read}
 use Rattle.segment_defs.specs.Outcomes.{SegmentRefusal, at_item, short_segment, overlong}
-use Rattle.segment_defs.specs.TextOutcome.{text_outcome}
+use Rattle.segment_defs.specs.TextWish.{unrestored, text_read}
 use Rattle.segment_code.specs.TextAnswers.{gives, Decides}
 use Rattle.segment_code.specs.declared.fault.SegmentFault.{SegmentFault}
 use Rattle.segment_code.specs.declared.fault.SegmentFault.TheVariants.{BadOption, BadDelta, BadDepth, FalseFlag, ShortSegment, Overlong, BrokenSegment}
@@ -20,11 +20,12 @@ use Rattle.crate_examples.specs.declared.texts.NotRead.TheVariants.{BadHead, Bad
 -- octets after a head hold these blocks, all items of them or those before the limit, and all the octets are needed for it
 abbrev pub HoldsBlocks : SegmentHead → List ℕ → (blocks : List ℤ) → Part → Type 0
 HoldsBlocks head rest blocks part =
-    (text_outcome profile head rest ≡ Ok (blocks_in blocks)) × Decides profile head (head_length head) rest (gives part (blocks_in blocks))
+    (text_read (unrestored profile) head rest ≡ Ok (blocks_in blocks))
+    × Decides (unrestored profile) head (head_length head) rest (gives part (blocks_in blocks))
 
 -- octets after a head are refused by this name
 abbrev pub IsNamed : SegmentHead → List ℕ → SegmentRefusal → Type 0
-IsNamed head rest name = text_outcome profile head rest ≡ Err name
+IsNamed head rest name = text_read (unrestored profile) head rest ≡ Err name
 
 -- the same by the name of a fault; there is no other fault if the octets are in memory
 abbrev pub RefusedFor : SegmentHead → List ℕ → SegmentFault → Type 0

@@ -53,6 +53,7 @@ fn known_of(case: &Case) -> Result<Known, Refusal> {
             below,
             stop: case.named("stop", 0, 27)? as u8,
             last: case.named("last", 0, 4)? as u8,
+            restore: false,
         },
         depth: case.named("depth", 0, 27)? as u8,
         dc,

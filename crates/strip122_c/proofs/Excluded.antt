@@ -18,7 +18,8 @@ use Rattle.segment_walk.specs.Runs.{Numbers, ReportsMany, holds_after}
 use Rattle.segment_walk.proofs.Asking.{leading_packets}
 use Rattle.rect_defs.specs.RectLines.{rect_lines}
 use Rattle.strip122_c.specs.Excluding.{kind_of}
-use Rattle.strip122_c.specs.Products.{product_octets, product_length}
+use Rattle.strip122_c.specs.Products.{product_octets, product_length, product_texts}
+use Rattle.segment_defs.specs.TextWish.{unrestored}
 use Rattle.strip122_c.specs.WholeDecoding.{HasGeometry, HasLongInput, HasMade, HasNoSegment, HasSmallRoom, HasTooMany, IsReadToEnd, Makes, ReportsFirst}
 use Rattle.strip122_c.specs.declared.decode.DecodeRefusal.{DecodeRefusal}
 use Rattle.strip122_c.specs.declared.decode.DecodeRefusal.TheVariants.{NoSegment, SmallRoom, TooManyPixels, LongInput, Memory}
@@ -103,14 +104,15 @@ one_geometry {g = g} {h = h} a b = let both : Some g ≡ Some h = sym a.geometry
 
 -- the octets of the same segments
 one_length : ReceivedIsKnown → (product : Product) (wish : DecodeWish) (packets : List ℕ) (g : Geometry) (a b : Numbers) → HasGeometry wish.apid packets g →
-    ReceivedIn (holds_after wish.book) wish.apid packets a → ReceivedIn (holds_after wish.book) wish.apid packets b →
+    ReceivedIn (holds_after (product_texts product wish)) wish.apid packets a → ReceivedIn (holds_after (product_texts product wish)) wish.apid packets b →
     length (product_octets product g a (begun_in wish.apid packets)) ≡ length (product_octets product g b (begun_in wish.apid packets))
 one_length laws Picture wish packets g a b reports of_a of_b = raster_octets Picture g a (begun_in wish.apid packets) (λ e. absurd cc)
     ∙ sym (raster_octets Picture g b (begun_in wish.apid packets) (λ e. absurd cc))
 one_length laws Look wish packets g a b reports of_a of_b = raster_octets Look g a (begun_in wish.apid packets) (λ e. absurd cc)
     ∙ sym (raster_octets Look g b (begun_in wish.apid packets) (λ e. absurd cc))
 one_length laws Rects wish packets g a b reports of_a of_b =
-    ap (λ rects. length (rect_lines rects)) (rects_known g (begun_in wish.apid packets) a b reports.range (laws.one wish.book wish.apid packets a b of_a of_b))
+    let same = laws.one (unrestored wish.book) wish.apid packets a b of_a of_b in
+    ap (λ rects. length (rect_lines rects)) (rects_known g (begun_in wish.apid packets) a b reports.range same)
 
 -- ---- two causes
 

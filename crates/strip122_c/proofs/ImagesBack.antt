@@ -1,6 +1,6 @@
 -- The round trip of an image.
 use Rattle.std.proofs.Common.{◌≡◌, ◌≢◌, ◌≤◌, ◌<◌, ◌*◌, ◌∙◌, ℕ, ℤ, List, [], ◌∷◌, ◌++◌, length, length-append, append_assoc, take, drop, refl, sym, ap}
-use Rattle.std.proofs.Common.{subst, arith, Some, None, Result, Ok, Err, mul-le-mul_right}
+use Rattle.std.proofs.Common.{subst, arith, false, Some, None, Result, Ok, Err, mul-le-mul_right}
 use Rattle.std.proofs.Math.Seq.{take-append_seam}
 use Rattle.base_122.specs.Setting.{image_geometry}
 use Rattle.base_122.specs.declared.geometry.Geometry.{Geometry}
@@ -18,7 +18,7 @@ use Rattle.stream_defs.specs.Received.{ReceivedIn}
 use Rattle.stream_defs.proofs.ChosenLaws.{after_all-append}
 use Rattle.stream_defs.proofs.PlacedLaws.{reached_known}
 use Rattle.packet_assembly.proofs.ReachedRows.{geometry_more, reached_more}
-use Rattle.segment_walk.specs.Images.{IsImageFor}
+use Rattle.segment_walk.specs.Images.{texts_for, IsImageFor}
 use Rattle.segment_walk.specs.Laws.{ReceivedIsKnown}
 use Rattle.segment_walk.specs.Runs.{ReportsMany, holds_after}
 use Rattle.segment_walk.proofs.Asking.{leading_packets}
@@ -67,8 +67,8 @@ module _ (trip : RoundTrip) (if_known : ReceivedIsKnown) (known : KnownHeights) 
   -- all packets of an image report its geometry
   reports_image : geometry_in s.apid (output s rows x) ≡ Some whole_image
   reports_image =
-      let some = if_known.some s.book s.apid (output s rows x) in
-      (trip.whole s rows x some.0 image some.1).geometry
+      let some = if_known.some (texts_for s false) s.apid (output s rows x) in
+      (trip.whole s rows x false some.0 image some.1).geometry
 
   of_image : (apid : ℕ) (packets : List ℕ) → apid ≡ s.apid → packets ≡ output s rows x → geometry_in apid packets ≡ Some whole_image
   of_image apid packets mine are = ap (λ n. geometry_in n packets) mine ∙ ap (geometry_in s.apid) are ∙ reports_image
@@ -86,11 +86,12 @@ module _ (trip : RoundTrip) (if_known : ReceivedIsKnown) (known : KnownHeights) 
   brings_image wish packets old new (Ok made) has mine own are =
       let is = has.are in
       let g = made.done.geometry in
-      let got : ReceivedIn (holds_after s.book) s.apid (output s rows x) is.received =
-      subst (λ octets. ReceivedIn (holds_after s.book) s.apid octets is.received) are
-      (subst (λ n. ReceivedIn (holds_after s.book) n packets is.received) mine (subst (λ b. ReceivedIn (holds_after b) wish.apid packets is.received) own
-      is.received_are)) in
-      let whole = trip.whole s rows x is.received image got in
+      let texts = texts_for s wish.restore in
+      let got : ReceivedIn (holds_after texts) s.apid (output s rows x) is.received =
+      subst (λ octets. ReceivedIn (holds_after texts) s.apid octets is.received) are
+      (subst (λ n. ReceivedIn (holds_after texts) n packets is.received) mine
+      (subst (λ book. ReceivedIn (holds_after (record { book = book; restore = wish.restore })) wish.apid packets is.received) own is.received_are)) in
+      let whole = trip.whole s rows x wish.restore is.received image got in
       let geometry : g ≡ whole_image = some_geometry (sym is.reports.geometry ∙ of_image wish.apid packets mine are) in
       let some = some_rows g geometry in
       let n = begun_in wish.apid packets in
@@ -107,7 +108,7 @@ module _ (trip : RoundTrip) (if_known : ReceivedIsKnown) (known : KnownHeights) 
           missing = is.damage.missing some ∙ ap (λ g. whole_missing g is.received) geometry ∙ whole.missing;
           framing_is = is.framing_is ∙ ap framing are ∙ whole.framing_is;
           same = λ all. prefix ∙ is.octets_are ∙ known.octets g is.received n some ∙ ap (λ g. whole_octets g is.received) geometry
-              ∙ (trip.same s rows x is.received image all got).octets;
+              ∙ (trip.same s rows x wish.restore is.received image all got).octets;
         },
       )
   brings_image wish packets old new (Err NoSegment) refused mine own are =

@@ -13,13 +13,14 @@ use Rattle.packet_assembly.specs.Readings.{IsReadOut}
 use Rattle.rect_defs.specs.RectLines.{rect_lines}
 use Rattle.rect_defs.specs.Rects.{is_lost, rects}
 use Rattle.rect_defs.proofs.SameLost.{rects_same}
+use Rattle.segment_defs.specs.TextWish.{TextWish, unrestored}
 use Rattle.segment_walk.specs.declared.ending.DecodeDone.{DecodeDone}
 use Rattle.segment_walk.specs.declared.ending.DecodeFault.TheVariants as faults
 use Rattle.segment_walk.specs.Answers.{PictureBy}
 use Rattle.segment_walk.specs.Laws.{ReceivedIsKnown}
 use Rattle.segment_walk.specs.Runs.{Numbers, ReportsMany, holds_after}
 use Rattle.segment_walk.specs.Walks.{IsDamageOf}
-use Rattle.strip122_c.specs.Products.{product_octets}
+use Rattle.strip122_c.specs.Products.{product_octets, product_texts}
 use Rattle.strip122_c.specs.Runs.{RunsAs}
 use Rattle.strip122_c.specs.declared.product.Product.{Product}
 use Rattle.strip122_c.specs.declared.product.Product.TheVariants.{Picture, Look, Rects}
@@ -33,7 +34,7 @@ Anything i j = Unit {0}
 -- it has made the octets of the segments that are received in the octets that were taken
 abbrev pub MakesOf : Product → DecodeWish → (took gave : List ℕ) → DecodeDone → Type 0
 MakesOf product wish took gave done =
-    (received : Numbers) × ReceivedIn (holds_after wish.book) wish.apid took received
+    (received : Numbers) × ReceivedIn (holds_after (product_texts product wish)) wish.apid took received
     × (gave ≡ product_octets product done.geometry received (begun_in wish.apid took)) × IsDamageOf done.geometry received (begun_in wish.apid took) done.damage
 
 pub record Ran (product : Product) (wish : DecodeWish) (old new : Outside) (done : DecodeDone) : Type 0 where
@@ -50,10 +51,11 @@ pub record Ran (product : Product) (wish : DecodeWish) (old new : Outside) (done
   pub rows : done.damage.rows ≡ done.written
   pub made : (all : List ℕ) → old.rest ≡ Some all → MakesOf product wish took gave done
 
-ran_with : (gives : Bool) (product : Product) (wish : DecodeWish) (old new : Outside) (took gave shown : List ℕ) (done : DecodeDone) {Q : ℕ → ℕ → Type 0} →
-    Exchange old new took gave [] Q → length took ≤ wish.octets → PictureBy gives wish old new took shown done →
+ran_with : (gives : Bool) (texts : TextWish) (product : Product) (wish : DecodeWish) (old new : Outside) (took gave shown : List ℕ)
+    (done : DecodeDone) {Q : ℕ → ℕ → Type 0} →
+    Exchange old new took gave [] Q → length took ≤ wish.octets → PictureBy gives texts wish old new took shown done →
     ((all : List ℕ) → old.rest ≡ Some all → MakesOf product wish took gave done) → Ran product wish old new done
-ran_with gives product wish old new took gave shown done since within found made = record {
+ran_with gives texts product wish old new took gave shown done since within found made = record {
   took = took;
   gave = gave;
   since = since_weaker since (λ i j le x. tt);
@@ -77,16 +79,17 @@ rects_known g n a b range same =
 
 pub ran : (product : Product) (wish : DecodeWish) (old new : Outside) (done : DecodeDone) → ReceivedIsKnown → RunsAs product wish old new (Ok done) →
     Ran product wish old new done
-ran Picture wish old new done if_known run = ran_with _ Picture wish old new run.took run.gave run.gave done run.since run.within run.answer run.answer.if_known
+ran Picture wish old new done if_known run =
+    ran_with _ _ Picture wish old new run.took run.gave run.gave done run.since run.within run.answer run.answer.if_known
 ran Look wish old new done if_known run =
-    ran_with _ Look wish old new run.took run.gave [] done run.since run.within run.answer.found
+    ran_with _ _ Look wish old new run.took run.gave [] done run.since run.within run.answer.found
     (λ all there. let found = run.answer.found.if_known all there in (found.0, found.1, run.answer.look all there found.0 found.1, found.3))
 ran Rects wish old new done if_known run =
-    ran_with _ Rects wish old new run.took run.gave [] done run.since run.within run.answer.found
+    ran_with _ _ Rects wish old new run.took run.gave [] done run.since run.within run.answer.found
     (λ all there.
     let found = run.answer.found.if_known all there in
     let lines = run.answer.if_known all there in
-    let same = if_known.one wish.book wish.apid run.took lines.0 found.0 lines.1 found.1 in (
+    let same = if_known.one (unrestored wish.book) wish.apid run.took lines.0 found.0 lines.1 found.1 in (
       found.0,
       found.1,
       lines.2 ∙ ap rect_lines (rects_known done.geometry (begun_in wish.apid run.took) lines.0 found.0 run.answer.found.range same),

@@ -22,7 +22,7 @@ use Rattle.segment_walk.specs.Walks.{IsDamageOf}
 use Rattle.segment_walk.proofs.Endings.{height_known}
 use Rattle.segment_walk.proofs.TextReads.{left_after}
 use Rattle.packet_assembly.specs.Readings.{IsReadOut}
-use Rattle.strip122_c.specs.Products.{product_octets, product_length}
+use Rattle.strip122_c.specs.Products.{product_octets, product_length, product_texts}
 use Rattle.strip122_c.specs.Runs.{HasRun, RunsAs}
 use Rattle.strip122_c.specs.Measuring.{HasLong, HasSize, IsKept, IsMeasured}
 use Rattle.strip122_c.specs.WholeDecoding.{FitsRoom, HasSmallRoom, IsMade, IsReadToEnd, IsRefused, Makes, ReportsFirst}
@@ -89,7 +89,7 @@ is_made product wish packets given old new done laws rest none gives run =
       most = subst (λ n. n ≤ rows_range.most) (sym written) (written_few wish.apid packets done.geometry is.range reports);
       rows = is.rows;
       received = made.0;
-      received_are = subst (λ all. AreReceived (holds_after wish.book) (kept wish.apid fresh all) made.0) same.whole made.1;
+      received_are = subst (λ all. AreReceived (holds_after (product_texts product wish)) (kept wish.apid fresh all) made.0) same.whole made.1;
       octets_are = given_known [] given is.since none gives ∙ made.2 ∙ ap (product_octets product done.geometry made.0) begun;
       damage = subst (λ n. IsDamageOf done.geometry made.0 n done.damage) begun made.3;
     }
@@ -192,7 +192,7 @@ pub small_raster : (product : Product) (wish : DecodeWish) (packets : List ℕ) 
     rows ≡ height m.geometry (m.ended / block_count m.geometry.width) → octets ≡ product_length product m.geometry (m.ended / block_count m.geometry.width) →
     room < octets → HasSmallRoom product wish packets room m.geometry rows octets
 small_raster product wish packets room rows octets m laws raster has rows_are octets_are small =
-    let some = laws.some wish.book wish.apid packets in
+    let some = laws.some (product_texts product wish) wish.apid packets in
     let n = begun_in wish.apid packets in
     let written = rows_are ∙ begun_height wish packets m has in
     record {

@@ -2,7 +2,9 @@
 use Rattle.std.specs.Prelude.{ℕ, ◌*◌, List}
 use Rattle.base_122.specs.Sizes.{block_count}
 use Rattle.base_122.specs.declared.geometry.Geometry.{Geometry}
+use Rattle.base_122.specs.declared.wish.DecodeWish.{DecodeWish}
 use Rattle.raster_rows.specs.Pixels.{pixel_size}
+use Rattle.segment_defs.specs.TextWish.{TextWish, text_wish, unrestored}
 use Rattle.stream_defs.specs.Begun.{block_rows, height}
 use Rattle.stream_defs.specs.Picture.{picture_octets}
 use Rattle.segment_walk.specs.Runs.{Numbers}
@@ -23,3 +25,9 @@ abbrev pub product_length : Product → Geometry → (n : ℕ) → ℕ
 product_length Picture g n = height g n * (g.width * pixel_size g.depth)
 product_length Look g n = block_rows g n * (block_count g.width * pixel_size g.depth)
 product_length Rects g n = 0
+
+-- how coded segments are read for it: restored numbers would change no rectangle
+abbrev pub product_texts : Product → DecodeWish → TextWish
+product_texts Picture wish = text_wish wish
+product_texts Look wish = text_wish wish
+product_texts Rects wish = unrestored wish.book

@@ -16,7 +16,7 @@ use Rattle.segment_walk.specs.Images.{IsImageFor}
 use Rattle.segment_walk.specs.Runs.{Numbers, ReportsMany, holds_after}
 use Rattle.segment_walk.specs.Walks.{IsDamageOf}
 use Rattle.strip_decoder.specs.RoundTrip.{GivesBack}
-use Rattle.strip122_c.specs.Products.{product_octets, product_length}
+use Rattle.strip122_c.specs.Products.{product_octets, product_length, product_texts}
 use Rattle.strip122_c.specs.declared.decode.DecodeRefusal.{DecodeRefusal}
 use Rattle.strip122_c.specs.declared.decode.DecodeRefusal.TheVariants.{NoSegment, SmallRoom, TooManyPixels, LongInput, Memory}
 use Rattle.strip122_c.specs.declared.decode.Made.{Made}
@@ -38,9 +38,9 @@ pub record IsReadToEnd (cap : ℕ) (packets : List ℕ) : Type 0 where
 
 -- ---- what is made
 
--- The octets that are made of the segments that are received in the packets with the wish's code book, up to the packets' end or what can't
--- be read on, and the damage of the picture. It has all rows of the image, or if no header reports the height those that the block rows
--- determine which the kept headers reach.
+-- The octets that are made of the segments that are received in the packets, up to the packets' end or what can't be read on, and the damage
+-- of the picture. Segments are read with the wish's code book, and restored if it says so. The picture has all rows of the image, or if no
+-- header reports the height those that the block rows determine which the kept headers reach.
 pub record IsMade (product : Product) (wish : DecodeWish) (packets octets : List ℕ) (done : DecodeDone) : Type 0 where
   pub reports : HasGeometry wish.apid packets done.geometry
   pub few : HasFewPixels wish.pixels wish.apid packets
@@ -50,7 +50,7 @@ pub record IsMade (product : Product) (wish : DecodeWish) (packets octets : List
   pub most : done.written ≤ rows_range.most
   pub rows : done.damage.rows ≡ done.written
   pub received : Numbers
-  pub received_are : ReceivedIn (holds_after wish.book) wish.apid packets received
+  pub received_are : ReceivedIn (holds_after (product_texts product wish)) wish.apid packets received
   pub octets_are : octets ≡ product_octets product done.geometry received (begun_in wish.apid packets)
   pub damage : IsDamageOf done.geometry received (begun_in wish.apid packets) done.damage
 
@@ -99,7 +99,7 @@ pub record HasSmallRoom (product : Product) (wish : DecodeWish) (packets : List 
   pub written : rows ≡ height g (begun_in wish.apid packets)
   pub most : rows ≤ rows_range.most
   pub received : Numbers
-  pub received_are : ReceivedIn (holds_after wish.book) wish.apid packets received
+  pub received_are : ReceivedIn (holds_after (product_texts product wish)) wish.apid packets received
   pub octets_are : octets ≡ length (product_octets product g received (begun_in wish.apid packets))
   pub small : room < octets
 

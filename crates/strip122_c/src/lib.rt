@@ -1,8 +1,8 @@
 //! The coder for C: the encoder row by row, in memory that a caller lends from call to call, and whole images, a raster to its packets and
 //! back (docs/c.md; c/strip122.h has its declarations for C).
 //!
-//! Layer: the program and the library for C. It uses `base_122`, `port_122`, `raster_rows`, `plane_defs`, `packet_defs`, `stream_defs`,
-//! `rect_defs` and 11 more.
+//! Layer: the program and the library for C. It uses `base_122`, `port_122`, `raster_rows`, `plane_defs`, `segment_defs`, `packet_defs`,
+//! `stream_defs` and 12 more.
 #![tactic(auto)]
 
 mod decode;

@@ -184,12 +184,13 @@ fn decode(
 // Returns the usual wish.
 fn wish() -> Strip122Wish {
     Strip122Wish {
-        size: 168,
+        size: 176,
         apid: 100,
         has_book: 0,
         book: [0; 138],
         pixels: 1 << 32,
         octets: 1 << 40,
+        restore: 0,
     }
 }
 

@@ -23,12 +23,14 @@ pub struct Strip122Wish {
     pub pixels: u64,
     /// The number of octets at which reading ends.
     pub octets: u64,
+    /// Whether coefficients that are given in part are moved inside their intervals (docs/formats.md, "Restored numbers"); 0 is no.
+    pub restore: u8,
 }
 
 // The size of a wish.
-const SIZE: u32 = 168;
+const SIZE: u32 = 176;
 
-const _: () = prove!(size_of::<Strip122Wish>() == 168);
+const _: () = prove!(size_of::<Strip122Wish>() == 176);
 
 /// Returns the parameters of a decoder. The book is sound.
 pub(crate) fn read_wish(wish: &Strip122Wish) -> Result<DecodeWish, SettingRefusal>
@@ -44,6 +46,7 @@ pub(crate) fn read_wish(wish: &Strip122Wish) -> Result<DecodeWish, SettingRefusa
             pixels: wish.pixels,
             octets: wish.octets,
             book,
+            restore: wish.restore != 0,
         }),
         Err(_) => Err(SettingRefusal::BadBook),
     }

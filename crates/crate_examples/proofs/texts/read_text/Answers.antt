@@ -4,6 +4,7 @@ use Rattle.packet_assembly.proofs.HeadLengths.{head_within}
 use Rattle.base_122.specs.Profile.{profile}
 use Rattle.plane_defs.proofs.ProfileSound.{profile_sound}
 use Rattle.segment_defs.specs.Head.{head_length}
+use Rattle.segment_defs.specs.TextWish.{unrestored}
 use Rattle.crate_examples.specs.Texts.{HoldsBlocks}
 use Rattle.crate_examples.proofs.TextsRead.{rest_is, read_all}
 use Rattle.crate_examples.proofs.texts.read_text.Goals as goal
@@ -18,7 +19,7 @@ pub returns-in-Ok-decode_segment : goal.returns-in-Ok-decode_segment
 returns-in-Ok-decode_segment c =
     let head = c.in-Ok.head in
     let decoded = c.in-Ok-decode_segment in
-    let says = c.texts_end_so.ensures profile profile_sound head c.in-Ok.ensures.fits in
+    let says = c.texts_end_so.ensures (unrestored profile) profile_sound head c.in-Ok.ensures.fits in
     let rest = rest_is c.args.text.now _ c.from.result (head_length head) c.new.ensures (c.from.ensures ∙ c.octets.ensures) in
     let same = with_items_is c.in-Ok-vec.numbers c.decode_segment.new.blocks (decoded.ensures.sizes.0 ∙ c.deref_mut.ensures.len) in
     let read = read_all head says _ (Ok decoded.part) _ _ _ rest (rw c.profile_book.ensures.profile at decoded.ensures.decodes) in
@@ -28,7 +29,7 @@ pub returns-in-Err-decode_segment : goal.returns-in-Err-decode_segment
 returns-in-Err-decode_segment c =
     let head = c.in-Ok.head in
     let decoded = c.in-Err-decode_segment in
-    let says = c.texts_end_so.ensures profile profile_sound head c.in-Ok.ensures.fits in
+    let says = c.texts_end_so.ensures (unrestored profile) profile_sound head c.in-Ok.ensures.fits in
     let rest = rest_is c.args.text.now _ c.from.result (head_length head) c.new.ensures (c.from.ensures ∙ c.octets.ensures) in
     let read = read_all head says _ (Err decoded.fault) _ _ _ rest (rw c.profile_book.ensures.profile at decoded.ensures.decodes) in
     (head, record { head_is = sym c.in-Ok.ensures.value; refused = read })
