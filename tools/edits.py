@@ -21,12 +21,12 @@ def edits(top: Path) -> Iterator[tuple[str, Path]]:
         yield path.parent.name, path
 
 
-def fault_of(edit: Path, crate: Path) -> str | None:
-    """Returns why an edit of the crate in that folder can't be applied, or None if it can."""
-    if edit.suffix != ".edit":
-        return "the name of an edit ends in .edit"
+def edited(edit: Path, crate: Path) -> tuple[dict[Path, str], str | None]:
+    """Returns the texts of the files that an edit of the crate in that folder changes, and why it can't be applied, or None if it can."""
     file, old, pairs = None, None, 0
     texts: dict[Path, str] = {}
+    if edit.suffix != ".edit":
+        return texts, "the name of an edit ends in .edit"
     for line in edit.read_text(encoding="utf-8").splitlines():
         word, _, text = line.partition(":")
         text = text.removeprefix(" ")
@@ -34,26 +34,26 @@ def fault_of(edit: Path, crate: Path) -> str | None:
             case "file":
                 file = crate / text
                 if not file.is_file():
-                    return f"{crate.name} has no file {text}"
+                    return texts, f"{crate.name} has no file {text}"
                 texts.setdefault(file, file.read_text(encoding="utf-8"))
             case "old" if file:
                 if (count := texts[file].count(text)) != 1:
-                    return f"'{text.strip()}' is in {file.relative_to(crate)} {count} times, and not once"
+                    return texts, f"'{text.strip()}' is in {file.relative_to(crate)} {count} times, and not once"
                 old = text
             case "new" if file and old:
                 if text == old:
-                    return f"'{text.strip()}' stays as it is"
+                    return texts, f"'{text.strip()}' stays as it is"
                 texts[file] = texts[file].replace(old, text)
                 old, pairs = None, pairs + 1
             case _:
-                return f"a line that is out of place: {line}"
-    return None if pairs and old is None else "an 'old:' line without its 'new:' line, or no pair at all"
+                return texts, f"a line that is out of place: {line}"
+    return texts, None if pairs and old is None else "an 'old:' line without its 'new:' line, or no pair at all"
 
 
 def main(words: list[str]) -> int:
     top = Path(words[0]) if words else TOP
     found = list(edits(top))
-    faults = [(path, fault) for crate, path in found if (fault := fault_of(path, top / "crates" / crate))]
+    faults = [(path, fault) for crate, path in found if (fault := edited(path, top / "crates" / crate)[1])]
     for path, fault in faults:
         print(f"edits.py: {path.relative_to(top)}: {fault}", file=sys.stderr)
     print(f"{len(found)} edits, of which {len(found) - len(faults)} can be applied")

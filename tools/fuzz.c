@@ -123,6 +123,7 @@ static strip122_wish wish_of(input *in) {
     wish.apid = (uint16_t)take(in, 2);
     wish.pixels = flags & 1 ? take(in, 2) : 1u << 20;
     wish.octets = flags & 2 ? take(in, 2) : wish.octets;
+    wish.restore = flags >> 2 & 1;
     return wish;
 }
 

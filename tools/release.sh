@@ -63,6 +63,7 @@ int main(void) {
 END
     cc -Iinclude use.c -Llib -lstrip122 -Wl,-rpath,"$PWD/lib" -o use_shared && ./use_shared || wrong "a program with the shared library"
     cc -Iinclude use.c lib/libstrip122.a -o use_static && ./use_static || wrong "a program with the static library"
+    CC=cc STRIP122_C=$PWD/lib/libstrip122.a "$top/tools/checks/try_c_tests.sh" || wrong "the tests of the library for C"
 fi
 echo "dist/$name.tar.gz: $(wc -c <"$top/dist/$name.tar.gz") octets, of commit $commit, proved by $kit"
 cat "$top/dist/$name.tar.gz.sha256"

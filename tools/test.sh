@@ -30,11 +30,6 @@
 . "$(dirname "$0")/common.sh"
 need python3
 
-# Whether the program is there, and no file of the crates is newer.
-is_built() {
-    [ -x "$1" ] && [ -z "$(find "$top/crates" -name out -prune -o -type f -newer "$1" -print | head -n 1)" ]
-}
-
 program=${STRIP122:-$top/crates/strip122/out/strip122}
 if [ -n "$STRIP122" ] || is_built "$program"; then
     exec python3 "$top/tools/cases.py" "$program" "$top/cases" "$@"

@@ -287,6 +287,7 @@ class Tries:
         self.count("decoded alike, whole" if wanted == 0 else "decoded alike, damaged")
         self.caps(chosen["apid"], packets, need)
         self.readings(chosen["apid"], packets, ranges, size)
+        self.restored(chosen["apid"], packets)
 
     def readings(self, apid, packets, ranges, size):
         """The look and the rectangles, as the commands give them."""
@@ -307,6 +308,15 @@ class Tries:
             assert (got.answer, got.room) == (wanted, ran.stdout), ("arena", command, got.answer)
             self.exact_memory(lambda: fixed(wish, packets, need, 0), (wanted, ran.stdout))
             self.count(f"{command}: alike")
+
+    def restored(self, apid, packets):
+        """The picture and the look of restored coefficients, as the commands give them."""
+        wish = strip122.usual_wish(apid, restore=True)
+        for command, call in (("decode", self.heap.decode_with), ("look", self.heap.look)):
+            ran = run(command, [f"apid={apid}", "restore=1"], packets)
+            got = self.heap.whole(call, wish, packets)
+            assert (got.answer, got.room) == (wanted_answer(ran), ran.stdout), (command, got.answer, ran)
+            self.count(f"{command}, restored: alike")
 
     def info(self, apid, packets):
         """The list of images of an APID, and of each, as the command gives it."""

@@ -1,8 +1,8 @@
 #!/bin/sh
-# Builds the library for C, links it, and compares its answers with those of the program: the header by itself, an example in C with fixed
-# memory, one that encodes row by row and one that reads packets, these also under valgrind if it is there, one in Rust if rustc is there,
-# and random settings, row by row and whole, by Python's ctypes. It prints how much of a painted stack each call has written, and fails if that
-# is more than 65,536 octets.
+# Builds the library for C, links it, runs its tests (tools/checks/c_tests.c), and compares its answers with those of the program: the header
+# by itself, an example in C with fixed memory, one that encodes row by row and one that reads packets, these also under valgrind if it is
+# there, one in Rust if rustc is there, and random settings, row by row and whole, by Python's ctypes. It prints how much of a painted stack
+# each call has written, and fails if that is more than 65,536 octets.
 #
 #   tools/try_c.sh [SETTINGS] [SEED]
 #
@@ -11,22 +11,14 @@
 settings=${1:-300}
 seed=${2:-1}
 
-compilers=
-for compiler in ${CC:-gcc clang}; do
-    if command -v "$compiler" >/dev/null; then
-        compilers="$compilers $compiler"
-    fi
-done
-if [ -z "$compilers" ]; then
-    echo "skipped: there is no C compiler"
-    exit 0
-fi
+find_compilers
 need python3
 find_program
 if [ -z "$STRIP122_C" ]; then
     (cd "$top/crates/strip122_c" && rt lib) >&2 </dev/null || exit
 fi
 library=${STRIP122_C:-$top/crates/strip122_c/out/libstrip122_c.a}
+STRIP122_C=$library "$top/tools/checks/try_c_tests.sh" || exit
 make_folder
 
 # NAME PACKETS COMMAND ..: an example gives the packets that the program gives, and a picture that it makes of them is the raster.
@@ -80,11 +72,9 @@ for compiler in $compilers; do
     reads "example_ground_$compiler" "$kept/example_ground_$compiler"
 done
 
-compiler=${compilers# }
-compiler=${compiler%% *}
 if command -v valgrind >/dev/null; then
-    example valgrind_rows "$kept/rows.packets" valgrind -q --error-exitcode=9 "$kept/example_rows_$compiler" 200 100 8
-    reads valgrind_ground valgrind -q --leak-check=full --error-exitcode=9 "$kept/example_ground_$compiler"
+    example valgrind_rows "$kept/rows.packets" valgrind -q --error-exitcode=9 "$kept/example_rows_$first_compiler" 200 100 8
+    reads valgrind_ground valgrind -q --leak-check=full --error-exitcode=9 "$kept/example_ground_$first_compiler"
 else
     echo "no valgrind: it is skipped"
 fi
@@ -96,12 +86,12 @@ for compiler_of_cpp in ${CXX:-g++ clang++}; do
     fi
 done
 
-"$compiler" $strict -fPIC -c -o "$kept/heap.o" "$top/c/heap.c" &&
-    "$compiler" $strict -fPIC -c -o "$kept/arena.o" "$top/c/arena.c" &&
-    "$compiler" $strict -D_POSIX_C_SOURCE=200809L -o "$kept/stack" "$top/tools/stack.c" "$kept/heap.o" "$library" -lpthread &&
+"$first_compiler" $strict -fPIC -c -o "$kept/heap.o" "$top/c/heap.c" &&
+    "$first_compiler" $strict -fPIC -c -o "$kept/arena.o" "$top/c/arena.c" &&
+    "$first_compiler" $strict -D_POSIX_C_SOURCE=200809L -o "$kept/stack" "$top/tools/stack.c" "$kept/heap.o" "$library" -lpthread &&
     "$program" make width=512 rows=512 seed=3 >"$kept/square" && "$kept/stack" <"$kept/square" || exit
 for memory in heap arena; do
-    "$compiler" -shared -o "$kept/lib_$memory.so" "$kept/$memory.o" -Wl,--whole-archive "$library" -Wl,--no-whole-archive || exit
+    "$first_compiler" -shared -o "$kept/lib_$memory.so" "$kept/$memory.o" -Wl,--whole-archive "$library" -Wl,--no-whole-archive || exit
 done
 
 if command -v rustc >/dev/null && rustc --version >/dev/null 2>&1; then

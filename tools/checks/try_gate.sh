@@ -1,5 +1,6 @@
 #!/bin/sh
-# Checks tools/clauses.py, tools/edits.py, and layers.py, lines.py and parameters.py of tools/checks on a small repository: what they print, and their status, after each change of its files.
+# Checks clauses.py, edits.py and try_edits.py of tools, and layers.py, lines.py and parameters.py of tools/checks on a small repository: what
+# they print, and their status, after each change of its files. `rt` is a script here, which proves nothing.
 . "$(dirname "$0")/../common.sh"
 need python3
 make_folder
@@ -29,6 +30,10 @@ clauses() {
 
 edits() {
     python3 "$top/tools/edits.py" "$kept"
+}
+
+tries() {
+    PATH="$kept/bin:$PATH" PYTHONPATH="$top/tools" python3 -B "$top/tools/try_edits.py" "$kept" two
 }
 
 layers() {
@@ -128,6 +133,42 @@ printf 'file: src/pair.rt\nold: first + more\nnew: first + more\n' >"$edit"
 expect 1 'stays as it is' edits
 mv "$edit" "$kept/crates/two/must-fail/again.edit"
 expect 1 'crates/two/must-fail/again.edit' edits
+
+# Each sum of a number and one more is refused, a sum of three can't be read, and a difference has no verdict.
+mkdir -p "$kept/bin"
+cat >"$kept/bin/rt" <<'END'
+#!/bin/sh
+if grep -q 'more + 1' src/pair.rt; then
+    printf 'fn two::pair::Pair::half: no proof: it calls one\nfn two::pair::Pair::sum: not proved\nlogic=not-proved\n'
+elif grep -q 'more + more' src/pair.rt; then
+    printf './src/pair.rt:20:9: error: `more` is not in scope\nfn two::pair::Pair::sum: not proved\nlogic=not-proved\n'
+elif grep -q 'first - more' src/pair.rt; then
+    echo 'rt: killed'
+else
+    echo 'logic=proved functions=2'
+fi
+END
+chmod +x "$kept/bin/rt"
+echo two: >"$kept/crates.txt"
+echo 'Handles allowed: none.' >"$kept/HANDLES"
+rm "$kept/crates/two/must-fail/again.edit"
+# NEW: an edit whose new text this is
+edit_to() {
+    printf 'file: src/pair.rt\nold: self.first + more\nnew: %s\n' "$1" >"$edit"
+}
+whole
+expect 0 'two/adds_one_more.edit: refused: two::pair::Pair::sum' tries
+expect 0 '1 edits refused, 0 not' tries
+expect 0 '        self.first + more' cat "$source"
+edit_to 'more + self.first'
+expect 1 'NOT REFUSED: the crate is still proved' tries
+edit_to 'self.first + more + more'
+expect 1 'BAD EDIT: ./src/pair.rt:20:9: error' tries
+edit_to 'self.first - more'
+expect 1 'NOT TRIED: rt: killed' tries
+edit_to 'self.first'
+sed -i 's/self.first + more/self.first - more/' "$source"
+expect 1 'two: NOT PROVED, so its edits (1) are not tried' tries
 
 # two crates, of which the second uses the first
 crates() {
