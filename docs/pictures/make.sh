@@ -42,12 +42,12 @@ encode() {
     "$program" encode width=$side rows=$side "$@" <"$kept/raster"
 }
 
-# NAME KEY=VALUE ..: a picture that was encoded so, and decoded.
+# NAME RESTORE KEY=VALUE ..: a picture that was encoded so, and decoded with restore=RESTORE.
 picture() {
-    name=$1
-    shift
-    encode "$@" >"$kept/packets" && "$program" decode <"$kept/packets" | pgm | pnmtopng -compression 9 >"$name.png"
-    echo "$name.png: $* $(wc -c <"$kept/packets") octets of packets"
+    name=$1 restore=$2
+    shift 2
+    encode "$@" >"$kept/packets" && "$program" decode "restore=$restore" <"$kept/packets" | pgm | pnmtopng -compression 9 >"$name.png"
+    echo "$name.png: restore=$restore $* $(wc -c <"$kept/packets") octets of packets"
 }
 
 # The packets without those whose numbers are given.
@@ -81,7 +81,7 @@ END {
 
 awk -v side=$side "$drawing" | pnmtopnm >"$kept/drawn.pgm" || exit
 tail -c $((side * side)) "$kept/drawn.pgm" >"$kept/raster"
-picture picture
+picture picture 0
 encode packet=65536 >"$kept/packets"
 without 3 >"$kept/received"
 "$program" decode <"$kept/received" 2>"$kept/note" | pgm >"$kept/lost.pgm"
@@ -94,10 +94,11 @@ without 8 21 32 45 >"$kept/received"
 "$program" rects <"$kept/received" 2>/dev/null >"$kept/rects"
 awk -v side=$side "$edges" "$kept/rects" "$kept/lost.pgm" | pnmtopnm | pnmtopng -compression 9 >rects.png
 echo "rects.png: segment=16 packet=65536, without packets 8, 21, 32 and 45; $(cat "$kept/note")"
-picture stop_dc stop=dc
-picture stop_6.3 stop=6.3
-picture stop_3.3 stop=3.3
-picture limit limit=200
+picture stop_dc 0 stop=dc
+picture stop_6.3 0 stop=6.3
+picture restored_6.3 1 stop=6.3
+picture stop_3.3 0 stop=3.3
+picture limit 0 limit=200
 
 photograph=/usr/lib/python3/dist-packages/skimage/data/astronaut.png
 if [ -f "$photograph" ]; then
