@@ -1,5 +1,5 @@
 -- The effect of a run of `bare-encode` and `bare-decode` after its note, and what follows for each status.
-use Rattle.std.proofs.Common.{◌≡◌, ℕ, List, [], length, refl, sym, ◌∙◌, subst, arith, inl, inr, Some, Result, Ok, Err}
+use Rattle.std.proofs.Common.{◌≡◌, ℕ, List, [], refl, sym, ◌∙◌, subst, arith, inl, inr, Result, Ok, Err}
 use Rattle.port_122.specs.Outside.{Outside, Exchange, NoRead}
 use Rattle.port_122.proofs.Stretches.{at_end_later}
 use Rattle.port_122.proofs.IfKnown.{end_known}

@@ -16,7 +16,7 @@ use Rattle.bare_stream.specs.StreamRead.{reading, answer_for}
 use Rattle.bare_stream.specs.Decoded.{IfKnown, Answers, EndsSo, AsksBare}
 use Rattle.bare_stream.specs.declared.fault.BareFault.{BareFault}
 use Rattle.strip122.specs.Notes.{IsNoted, bare_fault_status, bare_fault_line}
-use Rattle.strip122.specs.Ran.{Asking, Ran, CausedWithin}
+use Rattle.strip122.specs.Ran.{Ran, CausedWithin}
 use Rattle.strip122.specs.Behaviours.{Behaviour, Never}
 use Rattle.strip122.specs.Encoding.{AsksRaster, RunsEncoder, encoder}
 
