@@ -1,9 +1,10 @@
 #!/bin/sh
 # Builds the library for C (crates/strip122_c/out/libstrip122_c.a) in a clone in which `rt ci` has run and nothing else. The compiler proves
 # the crate strip122_c for it, over the libraries that `rt ci` has left. `rt lib` would prove all crates below it as well, since it doesn't
-# begin with these libraries.
+# begin with these libraries. Without a C compiler, which the tests of the library need, nothing is built.
 . "$(dirname "$0")/../common.sh"
 need rt
+find_compilers
 kit=$(dirname "$(dirname "$(realpath "$(command -v rt)")")")
 crate=strip122_c
 
