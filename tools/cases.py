@@ -21,9 +21,8 @@ import runs
 from runs import BIG, SECONDS, Call, Counter, Left
 
 PIECES = (1, 7, BIG)  # input of more octets than the greatest has is given in that alone
-RESULTS = {"stdin", "stdin.hex", "stdout", "stdout.hex", "stderr", "status", "streams", "taken"}
-COUNTS = {"asked", "calls", "faults"}
-FILES = {"args", "big", "endless", "runs", "why"} | RESULTS | COUNTS
+COUNTS = {"asked", "calls", "faults"}  # files of further runs, of which each call is counted
+FILES = COUNTS | {"args", "big", "endless", "runs", "stdin", "stdin.hex", "stdout", "stdout.hex", "stderr", "status", "streams", "taken", "why"}
 STREAMS = {
     ("stdin", "folder"),
     ("stdout", "full"),
@@ -234,15 +233,15 @@ def streams_of(file: Path) -> tuple[tuple[str, str], ...]:
 
 def runs_of(file: Path) -> tuple[Run, ...]:
     """The runs in the lines of a file: an argument is a line, and a line `|`, with the places that go on, begins another run."""
-    runs = [Run(())]
+    found = [Run(())]
     for line in lines_of(file):
-        last = runs[-1]
+        last = found[-1]
         if not re.fullmatch(rb"\|( \d*:\d*)*", line):
-            runs[-1] = replace(last, args=(*last.args, line))
+            found[-1] = replace(last, args=(*last.args, line))
             continue
         ends = [[int(it) if it else None for it in word.split(b":")] for word in line.split()[1:]]
-        runs.append(Run((), tuple(slice(*it) for it in ends)))
-    return tuple(runs)
+        found.append(Run((), tuple(slice(*it) for it in ends)))
+    return tuple(found)
 
 
 RUN = re.compile(rb"(?P<args>.*?) *-> (?P<status>\d)(?: (?P<note>.+))?")
