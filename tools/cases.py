@@ -6,23 +6,23 @@ Each case that isn't passed has a line that says what differs. The last line is 
 
 from __future__ import annotations
 
-import contextlib
 import json
 import os
 import re
 import subprocess
 import sys
 import tempfile
-import threading
 from collections.abc import Iterator
 from concurrent.futures import ThreadPoolExecutor
 from dataclasses import dataclass, replace
 from pathlib import Path
 
-PIECES = (1, 7, 65_536)
-BIG = 65_536  # input of more octets is given in the greatest pieces alone
-SECONDS = 100  # a run that takes longer has failed
-FILES = {"args", "big", "runs", "stdin", "stdin.hex", "stdout", "stdout.hex", "stderr", "status", "streams", "taken", "why"}
+import runs
+from runs import BIG, SECONDS, Call, Counter, Left
+
+PIECES = (1, 7, BIG)  # input of more octets than the greatest has is given in that alone
+COUNTS = {"asked", "calls", "faults"}  # files of further runs, of which each call is counted
+FILES = COUNTS | {"args", "big", "endless", "runs", "stdin", "stdin.hex", "stdout", "stdout.hex", "stderr", "status", "streams", "taken", "why"}
 STREAMS = {
     ("stdin", "folder"),
     ("stdout", "full"),
@@ -164,6 +164,19 @@ class Run:
 
 
 @dataclass(frozen=True)
+class Counted:
+    """How the calls of a run are counted: in pieces of one size, and the call of a number fails or, in turn, each.
+
+    `asked` has what is given as a read call begins: from TAKEN octets taken on, GIVEN octets.
+    """
+
+    piece: int
+    failing: int = -1
+    in_turn: bool = False
+    asked: tuple[tuple[int, int], ...] = ()
+
+
+@dataclass(frozen=True)
 class Case:
     """What is run on which input, and all that the last run must leave. The runs before it must end with status 0 and no note."""
 
@@ -175,6 +188,12 @@ class Case:
     status: int
     taken: int | None = None
     streams: tuple[tuple[str, str], ...] = ()
+    endless: bool = False
+    counted: Counted | None = None
+
+    def is_long(self) -> bool:
+        """Whether it takes hundreds of runs."""
+        return self.counted is not None and self.counted.in_turn and self.counted.piece == PIECES[0]
 
 
 def lines_of(file: Path) -> list[bytes]:
@@ -214,28 +233,34 @@ def streams_of(file: Path) -> tuple[tuple[str, str], ...]:
 
 def runs_of(file: Path) -> tuple[Run, ...]:
     """The runs in the lines of a file: an argument is a line, and a line `|`, with the places that go on, begins another run."""
-    runs = [Run(())]
+    found = [Run(())]
     for line in lines_of(file):
-        last = runs[-1]
+        last = found[-1]
         if not re.fullmatch(rb"\|( \d*:\d*)*", line):
-            runs[-1] = replace(last, args=(*last.args, line))
+            found[-1] = replace(last, args=(*last.args, line))
             continue
         ends = [[int(it) if it else None for it in word.split(b":")] for word in line.split()[1:]]
-        runs.append(Run((), tuple(slice(*it) for it in ends)))
-    return tuple(runs)
+        found.append(Run((), tuple(slice(*it) for it in ends)))
+    return tuple(found)
 
 
 RUN = re.compile(rb"(?P<args>.*?) *-> (?P<status>\d)(?: (?P<note>.+))?")
 
 
-def table_of(file: Path, base: Case) -> Iterator[Case]:
-    """The runs of a table on one input: ARGUMENTS -> STATUS NOTE. One whose status isn't 0 gives nothing."""
+def rows_of(file: Path, form: re.Pattern[bytes], name: str) -> Iterator[tuple[int, re.Match[bytes]]]:
+    """The lines of a table, each with its number. Empty ones and comments are omitted."""
     for number, line in enumerate(lines_of(file), 1):
         if not line.strip() or line.startswith(b"#"):
             continue
-        found = RUN.fullmatch(line)
+        found = form.fullmatch(line)
         if not found:
-            raise BadCase(f"{file}, line {number}: not ARGUMENTS -> STATUS NOTE")
+            raise BadCase(f"{file}, line {number}: not {name}")
+        yield number, found
+
+
+def table_of(file: Path, base: Case) -> Iterator[Case]:
+    """The runs of a table on one input: ARGUMENTS -> STATUS NOTE. One whose status isn't 0 gives nothing."""
+    for number, found in rows_of(file, RUN, "ARGUMENTS -> STATUS NOTE"):
         status = int(found["status"])
         words = tuple(found["args"].split(b" ")) if found["args"] else ()
         yield replace(
@@ -249,8 +274,63 @@ def table_of(file: Path, base: Case) -> Iterator[Case]:
         )
 
 
+CALL = re.compile(rb"(?P<number>\d+)(?: (?P<piece>\d+))? *-> (?P<status>\d) (?P<count>\d+)(?: (?P<note>.+))?")
+ASKED = re.compile(rb"(?P<taken>\d+) *-> (?P<given>\d+)")
+
+
+def note_of(text: bytes | None) -> bytes | None:
+    """A note in a table: a line, or in quotes without the end of the line; none if the quotes aren't closed."""
+    if not text or not text.startswith(b'"'):
+        return text + b"\n" if text else b""
+    try:
+        return str(json.loads(text)).encode()
+    except json.JSONDecodeError:
+        return None
+
+
+def calls_of(file: Path, base: Case) -> Iterator[Case]:
+    """The runs of a case in which one call fails: NUMBER PIECE -> STATUS OCTETS NOTE."""
+    for number, found in rows_of(file, CALL, "NUMBER PIECE -> STATUS OCTETS NOTE"):
+        piece, count, note = int(found["piece"] or BIG), int(found["count"]), note_of(found["note"])
+        if not piece:
+            raise BadCase(f"{file}, line {number}: a piece of no octets")
+        if count > len(base.stdout):
+            raise BadCase(f"{file}, line {number}: more octets than the run gives")
+        if note is None:
+            raise BadCase(f"{file}, line {number}: no note is {found['note'].decode(errors='replace')}")
+        yield replace(
+            base,
+            name=f"{base.name}, calls, line {number}",
+            status=int(found["status"]),
+            stdout=base.stdout[:count],
+            stderr=note,
+            counted=Counted(piece, failing=int(found["number"])),
+        )
+
+
+def asked_of(file: Path) -> tuple[tuple[int, int], ...]:
+    """The lines TAKEN -> GIVEN of a file. Each has more octets taken than the one before it."""
+    steps = [(int(it["taken"]), int(it["given"])) for _, it in rows_of(file, ASKED, "TAKEN -> GIVEN")]
+    if not steps or any(first[0] >= next[0] for first, next in zip(steps, steps[1:])):
+        raise BadCase(f"{file}: no lines, or not in order")
+    return tuple(steps)
+
+
+def counted_of(folder: Path, files: set[str], case: Case) -> Iterator[Case]:
+    """The further runs of a case, of which each call is counted."""
+    base = replace(case, taken=None)
+    if "calls" in files:
+        yield from calls_of(folder / "calls", base)
+    for piece in PIECES:
+        if "asked" in files:
+            counted = Counted(piece, asked=asked_of(folder / "asked"))
+            yield replace(base, name=f"{base.name}, asked, in pieces of {piece}", counted=counted)
+        if "faults" in files:
+            yield replace(base, name=f"{base.name}, faults, in pieces of {piece}", counted=Counted(piece, in_turn=True))
+
+
 def cases_of(folder: Path, octets: Octets) -> Iterator[Case]:
-    """The cases in a folder: one, or those of its table."""
+    """The cases in a folder: one and those of its calls, or those of its table."""
     files = {file.name for file in folder.iterdir()}
     if files - FILES:
         raise BadCase(f"{folder}: no file of a case is {min(files - FILES)}")
@@ -258,6 +338,9 @@ def cases_of(folder: Path, octets: Octets) -> Iterator[Case]:
         raise BadCase(f"{folder}: needs why, and either args or runs")
     if not (folder / "why").read_text(encoding="utf-8").strip():
         raise BadCase(f"{folder / 'why'}: empty")
+    for name in sorted(files & {"big", "endless", "faults"}):
+        if (folder / name).read_bytes():
+            raise BadCase(f"{folder / name}: not empty")
     status = number_of(folder / "status") if "status" in files else 0
     case = Case(
         name=folder.name,
@@ -268,100 +351,21 @@ def cases_of(folder: Path, octets: Octets) -> Iterator[Case]:
         status=status,
         taken=number_of(folder / "taken") if "taken" in files else 0 if status == 2 else None,
         streams=streams_of(folder / "streams") if "streams" in files else (),
+        endless="endless" in files,
     )
+    if len(files & {"endless", "streams"}) > 1 or (files & {"endless", "streams"} and files & (COUNTS | {"taken"})):
+        raise BadCase(f"{folder}: with endless or streams there is no other way to run it")
     if "args" in files:
-        yield replace(case, runs=runs_of(folder / "args"))
-    elif files & {"status", "stderr", "streams"}:
-        raise BadCase(f"{folder}: runs has the statuses and the notes")
+        case = replace(case, runs=runs_of(folder / "args"))
+        yield case
+        yield from counted_of(folder, files, case)
+    elif files & (COUNTS | {"endless", "status", "stderr", "streams"}):
+        raise BadCase(f"{folder}: runs has the statuses and the notes, and no other way to run it")
     else:
         yield from table_of(folder / "runs", case)
 
 
-# Runs.
-
-
-@dataclass(frozen=True)
-class Left:
-    """What a run left."""
-
-    status: int
-    stdout: bytes
-    stderr: bytes
-    taken: int | None = None
-
-
-def feed(write_end: int, octets: bytes, piece: int) -> None:
-    """Writes octets into a pipe in pieces, until the program no longer reads, and closes it."""
-    with contextlib.suppress(BrokenPipeError):
-        for at in range(0, len(octets), piece):
-            part = octets[at : at + piece]
-            while part:
-                part = part[os.write(write_end, part) :]
-    os.close(write_end)
-
-
-@contextlib.contextmanager
-def piped(octets: bytes, piece: int) -> Iterator[int]:
-    """The end of a pipe from which the octets are read in pieces. Those of one octet are read one by one."""
-    read_end, write_end = os.pipe2(os.O_CLOEXEC | (os.O_DIRECT if piece == 1 else 0))
-    feeder = threading.Thread(target=feed, args=(write_end, octets, piece))
-    feeder.start()
-    try:
-        yield read_end
-    finally:
-        os.close(read_end)
-        feeder.join()
-
-
-def ended(program: str, args: tuple[bytes, ...], stdin: int, others: dict[str, int] | None = None) -> Left:
-    """Runs the program to its end, with a file for each of the output and the notes, or another stream in its place."""
-    others = others or {}
-    with tempfile.TemporaryFile() as out, tempfile.TemporaryFile() as err:
-        status = subprocess.run(
-            [os.fsencode(program), *args],
-            stdin=stdin,
-            stdout=others.get("stdout", out.fileno()),
-            stderr=others.get("stderr", err.fileno()),
-            timeout=SECONDS,
-            check=False,
-        ).returncode
-        out.seek(0)
-        err.seek(0)
-        return Left(status, out.read(), err.read())
-
-
-def in_pieces(program: str, args: tuple[bytes, ...], octets: bytes, piece: int) -> Left:
-    with piped(octets, piece) as stdin:
-        return ended(program, args, stdin)
-
-
-def from_file(program: str, args: tuple[bytes, ...], octets: bytes) -> Left:
-    """Runs the program on a file, whose place says how many octets it took."""
-    with tempfile.TemporaryFile() as stdin:
-        stdin.write(octets)
-        stdin.seek(0)
-        left = ended(program, args, stdin.fileno())
-        return replace(left, taken=os.lseek(stdin.fileno(), 0, os.SEEK_CUR))
-
-
-def with_streams(program: str, case: Case) -> Left:
-    """Runs the program with streams that fail: a folder, a full device, or a pipe that has no reader."""
-    with contextlib.ExitStack() as stack:
-        others: dict[str, int] = {}
-        stdin = stack.enter_context(piped(case.stdin, BIG))
-        for name, kind in case.streams:
-            if kind == "folder":
-                stdin = os.open("/", os.O_RDONLY)
-                stack.callback(os.close, stdin)
-            elif kind == "full":
-                others[name] = os.open("/dev/full", os.O_WRONLY)
-                stack.callback(os.close, others[name])
-            else:
-                read_end, others[name] = os.pipe2(os.O_CLOEXEC)
-                os.close(read_end)
-                stack.callback(os.close, others[name])
-        left = ended(program, case.runs[0].args, stdin, others)
-    return left
+# What a case shows.
 
 
 def first_difference(found: bytes, wanted: bytes) -> str:
@@ -386,31 +390,97 @@ def lefts(program: str, case: Case, octets: bytes) -> Iterator[tuple[str, Left]]
     """What the last run of a case leaves, in each of the ways in which it is run."""
     args = case.runs[-1].args
     if case.streams:
-        yield "with these streams", with_streams(program, case)
+        yield "with these streams", runs.with_streams(program, args, octets, case.streams)
         return
     for piece in PIECES if len(octets) <= BIG else PIECES[-1:]:
-        yield f"in pieces of {piece}", in_pieces(program, args, octets, piece)
+        yield f"in pieces of {piece}", runs.in_pieces(program, args, octets, piece, case.endless)
     if case.taken is not None:
-        yield "from a file", from_file(program, args, octets)
+        yield "from a file", runs.from_file(program, args, octets)
 
 
-def faults(program: str, case: Case) -> list[str]:
+def not_asked(calls: list[Call], counted: Counted) -> Iterator[str]:
+    """What was given as a read call began that isn't what the lines of `asked` say. In the least pieces each line has such a call."""
+    steps = counted.asked
+    met = set()
+    for call in calls:
+        line = max((it for it in steps if it[0] <= call.taken), default=(0, 0))
+        if steps and call.kind == "read":
+            met.add(line)
+            if call.given != line[1]:
+                yield f"{call.given} octets in place of {line[1]} were given as {call.taken} octets were taken"
+                return
+    if counted.piece == PIECES[0]:
+        yield from (f"no read call after {it[0]} octets" for it in steps if it not in met)
+
+
+def not_failed(left: Left, call: Call, case: Case) -> Iterator[str]:
+    """What a run left in which this call failed that it shouldn't. A failed note changes neither the status nor the output."""
+    status, note = {"read": (4, b"strip122: read fault\n"), "write": (5, b"strip122: write fault\n")}.get(call.kind, (case.status, None))
+    if left.status != status:
+        yield f"status {left.status} in place of {status}"
+    if not case.stdout.startswith(left.stdout) or (note is None and left.stdout != case.stdout):
+        yield f"standard output: {first_difference(left.stdout, case.stdout)}"
+    if left.stderr != note and (note is not None or not case.stderr.startswith(left.stderr)):
+        yield f"standard error {left.stderr!r}"
+
+
+def counted_faults(program: str, case: Case, counted: Counted, octets: bytes, library: str) -> Iterator[str]:
+    """What the last run of a case shows that isn't as it should be, if its calls are counted. If each fails in turn, it ends with the first."""
+    counter, args = Counter(library, counted.piece), case.runs[-1].args
+    whole, calls = counter.run(program, args, octets, counted.failing)
+    yield from differences(whole, case)
+    yield from not_asked(calls, counted)
+    if not calls:
+        yield "the program makes no call of the C library's read and write"
+    if not counted.in_turn or list(differences(whole, case)):
+        return
+    for number, call in enumerate(calls):
+        left, made = counter.run(program, args, octets, number)
+        found = list(not_failed(left, call, case))
+        if made[: number + 1] != calls[: number + 1]:
+            found.append("the calls before it are others")
+        if found:
+            yield f"call {number}, a {call.kind}: {'; '.join(found)}"
+            return
+
+
+def faults(program: str, case: Case, library: str) -> list[str]:
     """What a case shows that isn't as it should be."""
     octets = case.stdin
     for run in case.runs[:-1]:
-        left = in_pieces(program, run.args, run.part(octets), BIG)
+        left = runs.in_pieces(program, run.args, run.part(octets), BIG)
         if left.status or left.stderr:
             return [f"{b' '.join(run.args).decode(errors='replace')} has status {left.status}, {left.stderr!r}"]
         octets = left.stdout
     octets = case.runs[-1].part(octets)
+    if case.counted:
+        return list(counted_faults(program, case, case.counted, octets, library))
     return [f"{name}: {it}" for name, left in lefts(program, case, octets) for it in differences(left, case)]
 
 
-def tried(program: str, case: Case) -> list[str]:
+def tried(program: str, case: Case, library: str) -> list[str]:
     try:
-        return faults(program, case)
+        return faults(program, case, library)
     except subprocess.TimeoutExpired:
         return [f"no end within {SECONDS} seconds"]
+
+
+def report(program: str, cases: list[Case]) -> tuple[int, int]:
+    """Runs cases, prints what they show that isn't as it should be, and returns how many passed and failed."""
+    passed = failed = 0
+    with tempfile.TemporaryDirectory() as folder, ThreadPoolExecutor(os.cpu_count()) as pool:
+        library = runs.call_library(folder) if any(it.counted for it in cases) else None
+        ready = [it for it in cases if library or not it.counted]
+        for case, found in zip(ready, pool.map(lambda case: tried(program, case, library or ""), ready)):
+            for it in found:
+                print(f"{case.name}: {it}")
+            if found:
+                failed += 1
+            else:
+                passed += 1
+    if len(ready) < len(cases):
+        print(f"skipped: {len(cases) - len(ready)} runs whose calls are counted, since there is no C compiler")
+    return passed, failed
 
 
 def main() -> int:
@@ -423,29 +493,24 @@ def main() -> int:
     top = Path(folder)
     octets = Octets(top / "octets")
     cases: list[Case] = []
-    passed = failed = 0
-    omitted = 0
+    bad = omitted = 0
     for name in names or sorted(it.name for it in top.iterdir() if it.is_dir() and it.name != "octets"):
         if small and (top / name / "big").is_file():
             omitted += 1
             continue
         try:
-            cases += cases_of(top / name, octets)
+            found = list(cases_of(top / name, octets))
+            ready = [it for it in found if not (small and it.is_long())]
+            omitted += len(found) - len(ready)
+            cases += ready
         except (BadCase, OSError) as error:
             print(f"{name}: {error}")
-            failed += 1
-    with ThreadPoolExecutor(os.cpu_count()) as pool:
-        for case, found in zip(cases, pool.map(lambda case: tried(program, case), cases)):
-            for it in found:
-                print(f"{case.name}: {it}")
-            if found:
-                failed += 1
-            else:
-                passed += 1
+            bad += 1
+    passed, failed = report(program, cases)
     if omitted:
-        print(f"omitted: {omitted} big cases, which take minutes on an unproved program")
-    print(f"{passed} passed, {failed} failed")
-    return 1 if failed else 0
+        print(f"omitted: {omitted} big cases and runs, which take minutes on an unproved program")
+    print(f"{passed} passed, {failed + bad} failed")
+    return 1 if failed + bad else 0
 
 
 if __name__ == "__main__":

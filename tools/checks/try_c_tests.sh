@@ -2,8 +2,8 @@
 # Tests the library for C by its calls: links c_tests.c with it, by each C compiler that is there, and runs it, once under valgrind too if that
 # is installed. A run ends with `N passed, M failed`.
 #
-# The library is the one that STRIP122_C names, or else the one that `rt lib` in crates/strip122_c or tools/build.sh has built, if no file of
-# the crates is newer. If there is none, nothing is tested: a build is a proof of the crate.
+# The library is the one that STRIP122_C names, or else the one that `rt lib` in crates/strip122_c, tools/checks/build_c.sh or tools/build.sh
+# has built, if no file of the crates is newer. If there is none, nothing is tested: a build is a proof of the crate.
 . "$(dirname "$0")/../common.sh"
 find_compilers
 library=$STRIP122_C

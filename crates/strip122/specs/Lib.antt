@@ -15,4 +15,3 @@ pub mod Picks
 pub mod Trials
 pub mod Run
 pub mod Answers
-pub mod Endless

@@ -19,8 +19,6 @@ mod encoders;
 mod make;
 mod notes;
 mod packets;
-#[cfg(test)]
-mod run_tests;
 mod top;
 mod trial;
 

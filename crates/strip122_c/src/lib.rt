@@ -21,11 +21,7 @@ mod reading;
 mod rooms;
 mod row_reports;
 mod setting;
-#[cfg(test)]
-mod tests;
 mod whole;
-#[cfg(test)]
-mod whole_tests;
 mod wish;
 
 ghost use Rattle.std.specs.Prelude.{◌≡◌};
