@@ -5,7 +5,7 @@ mod WholeHeads
 mod HeadTaken
 mod SameParts
 mod HeadLengths
-mod Texts
+pub mod Texts
 mod FirstPart
 mod WrittenBare
 mod HeldTexts
