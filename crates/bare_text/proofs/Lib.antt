@@ -5,6 +5,7 @@ mod WholeHeads
 mod HeadTaken
 mod SameParts
 mod HeadLengths
+pub mod Agreements
 pub mod Texts
 mod FirstPart
 mod WrittenBare
