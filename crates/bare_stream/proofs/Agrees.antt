@@ -1,41 +1,17 @@
 -- What holds of a head that agrees with the first one.
-use Rattle.std.proofs.Common.{◌≡◌, ◌≤◌, ◌<◌, ◌+◌, ◌*◌, ◌%◌, ◌==◌, ℕ, List, ◌∷◌, refl, sym, ap, ◌∙◌, arith, Bool, true, false, not, nat_le, nat_lt, ◌&&◌}
-use Rattle.std.proofs.Common.{◌||◌, if◌then◌else◌, Option, None, bytes_eq, ◌^◌, mul-le-mul}
+use Rattle.std.proofs.Common.{◌≡◌, ◌≤◌, ◌<◌, ◌+◌, ◌*◌, ◌%◌, ◌==◌, ℕ, refl, sym, ap, ◌∙◌, arith, Bool, true, false, nat_le, nat_lt, ◌&&◌}
+use Rattle.std.proofs.Common.{◌||◌, if◌then◌else◌, bytes_eq, ◌^◌, mul-le-mul}
 use Rattle.std.proofs.lemmas.Bool.Decides.{nat_tests}
 use Rattle.base_122.specs.Ranges.{is_within, rows_range}
 use Rattle.segment_defs.specs.declared.head.SegmentHead.{SegmentHead}
 use Rattle.segment_defs.specs.declared.head.ImagePart.{ImagePart}
-use Rattle.segment_defs.specs.declared.fault.HeadFault.{HeadFault}
-use Rattle.segment_defs.specs.Reading.{refused_where, first_refusal}
-use Rattle.bare_text.specs.Agreement.{columns, blocks_before, first_agrees, blocks_agree, last_agrees, count_agrees, image_agrees, height_at, agreement_tests}
+use Rattle.bare_text.specs.Agreement.{columns, blocks_before, image_agrees, height_at}
+use Rattle.bare_text.proofs.Agreements.{agrees}
 use Rattle.std.proofs.lemmas.Slice.Eq.{bytes_eq-Decides}
 use mathlib.Core.Bool.{beq}
 use Rattle.std.proofs.lemmas.Bool.{and_parts, leb-true, ltb-true, and_from, eqb-true}
 use Rattle.bare_stream.specs.Heads.{AgreesWith}
 use Rattle.bare_stream.specs.Pictures.{pixels_at}
-
-passes : (b : Bool) (fault : HeadFault) (tests : List (Option HeadFault)) → first_refusal (refused_where (not b) fault ∷ tests) ≡ None →
-    (b ≡ true) × (first_refusal tests ≡ None)
-passes true fault tests e = (refl, e)
-passes false fault tests e = absurd cc
-
--- each test passes
-pub record Agrees (first : SegmentHead) (index : ℕ) (head : SegmentHead) : Type 0 where
-  pub flag : first_agrees index head ≡ true
-  pub blocks : blocks_agree first head ≡ true
-  pub last : last_agrees first index head ≡ true
-  pub count : count_agrees index head ≡ true
-  pub image : image_agrees head.image first.image ≡ true
-
-pub agrees : (first : SegmentHead) (index : ℕ) (head : SegmentHead) → AgreesWith first index head → Agrees first index head
-unfolding agreement_tests
-agrees first index head e =
-    let a = passes (first_agrees index head) _ _ e in
-    let b = passes (blocks_agree first head) _ _ a.1 in
-    let c = passes (last_agrees first index head) _ _ b.1 in
-    let d = passes (count_agrees index head) _ _ c.1 in
-    let f = passes (image_agrees head.image first.image) _ _ d.1 in
-    record { flag = a.0; blocks = b.0; last = c.0; count = d.0; image = f.0 }
 
 -- the weights are those of the first head
 pub same_weights : (first : SegmentHead) (index : ℕ) (head : SegmentHead) → AgreesWith first index head → head.image.weights.shifts ≡ first.image.weights.shifts
@@ -128,17 +104,3 @@ same_number n = grind (arith, nat_tests)
 
 pub same_image : (image : ImagePart) → image_agrees image image ≡ true
 same_image a = grind (arith, nat_tests, and_from, same_flag, same_number, bytes_eq-Decides)
-
-passed : (b : Bool) (fault : HeadFault) (tests : List (Option HeadFault)) → b ≡ true → first_refusal tests ≡ None →
-    first_refusal (refused_where (not b) fault ∷ tests) ≡ None
-passed b fault tests e f = grind (arith, nat_tests)
-
--- a head agrees if each test passes
-pub all_agree : (first : SegmentHead) (index : ℕ) (head : SegmentHead) → Agrees first index head → AgreesWith first index head
-unfolding agreement_tests
-all_agree first index head a =
-    passed (first_agrees index head) _ _ a.flag
-    (passed (blocks_agree first head) _ _ a.blocks
-    (passed (last_agrees first index head) _ _ a.last
-    (passed (count_agrees index head) _ _ a.count
-    (passed (image_agrees head.image first.image) _ _ a.image refl))))

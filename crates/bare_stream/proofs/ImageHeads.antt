@@ -17,7 +17,8 @@ use Rattle.bare_text.specs.Agreement.{blocks_before, blocks_agree, last_agrees, 
 use Rattle.bare_stream.specs.Heads.{AgreesWith}
 use Rattle.bare_stream.specs.Pictures.{geometry_at, open_geometry, pixels_at}
 use Rattle.bare_stream.specs.Images.{bare_geometry}
-use Rattle.bare_stream.proofs.Agrees.{all_agree, pixels_last, same_flag, same_number, same_image}
+use Rattle.bare_text.proofs.Agreements.{all_agree}
+use Rattle.bare_stream.proofs.Agrees.{pixels_last, same_flag, same_number, same_image}
 use Rattle.bare_stream.proofs.SegmentCounts.{whole_before, room_before, few_last, all_blocks, least_first, least_is}
 
 module _ (s : Setting) (x : ℕ → ℕ → ℤ) (range : IsInRange s) (height : IsWithin rows_range s.rows)

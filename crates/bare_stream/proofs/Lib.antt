@@ -1,9 +1,8 @@
 pub mod TextLists
 mod SinkSteps
 mod Counts
-mod Pushes
-mod Puts
 mod Presents
+mod SettledTexts
 mod Arrives
 mod Runs
 mod InputSteps

@@ -1,33 +1,29 @@
--- The present segment of a work, which is full and was written.
-use Rattle.std.proofs.Common.{◌≡◌, ℕ, ◌+◌, ◌*◌, ◌^◌, ◌<◌, ◌≤◌, ℤ, List, [], sym, ap, ◌∙◌, subst, arith, length, Option}
+-- The present segment of a work, which is full, and its text.
+use Rattle.std.proofs.Common.{◌≡◌, ℕ, zero, suc, ◌+◌, ◌*◌, ◌<◌, ℤ, List, [], ◌++◌, sym, refl, ap, ◌∙◌, arith, length, length-append}
+use Rattle.std.proofs.Common.{Some, drop, length-take, length-drop}
 use Rattle.std.proofs.lemmas.Bool.Decides.{nat_tests}
 use Rattle.port_122.specs.Outside.{Outside}
-use Rattle.base_122.specs.Sizes.{block_count, total_blocks, first_block}
+use Rattle.base_122.specs.Sizes.{total_blocks}
 use Rattle.base_122.specs.declared.setting.Setting.{Setting}
-use Rattle.base_122.proofs.SizeBounds.{one-le-segment_blocks}
-use Rattle.wave_defs.specs.Held.{signal, blocks_in}
-use Rattle.wave_defs.specs.Pyramid.{padded}
-use Rattle.wave_strip.specs.Strip.{rows_of, answered_of, is_current, Follows}
+use Rattle.base_122.proofs.SizeBounds.{first_block-lt}
+use Rattle.wave_defs.specs.Held.{blocks_in}
 use Rattle.segment_defs.specs.declared.head.SegmentHead.{SegmentHead}
 use Rattle.segment_defs.specs.Depths.{depth_dc_of, depth_ac_of}
-use Rattle.stream_defs.specs.Output.{head_for, head_with, image_blocks, segment_of, segments_of}
-use Rattle.stream_defs.proofs.ImageLaws.{length-image_blocks}
+use Rattle.stream_defs.specs.Output.{head_for, head_with, segment_of, segments_of, share, used_before}
 use Rattle.stream_defs.proofs.ShareLaws.{share_none}
+use Rattle.strip_coder.specs.declared.plan.Plan.{Plan}
 use Rattle.strip_coder.specs.declared.work.Work.{Work}
-use Rattle.strip_coder.specs.Works.{IsMadeFor, most_blocks}
-use Rattle.strip_coder.proofs.SegmentSteps.{Rewritten, still_made, segment_is}
+use Rattle.strip_coder.specs.Plans.{Job, IsPlan, job_of, whole}
+use Rattle.strip_coder.specs.Works.{IsFull, HoldsBlocks}
+use Rattle.strip_coder.specs.Steps.{PresentOut, PresentCut}
+use Rattle.strip_coder.proofs.SegmentSteps.{Rewritten, still_made, segment_is, present_out, present_cut}
 use Rattle.strip_coder.proofs.SegmentTexts.{length-blocks_in}
-use Rattle.strip_coder.proofs.SegmentCounts.{segments_few}
-use Rattle.bare_text.specs.Writing.{bare_text}
-use Rattle.bare_stream.specs.Rasters.{IsBare}
-use Rattle.bare_stream.specs.Works.{IsAt, FollowsTo, plan, present_size}
-use Rattle.bare_stream.specs.Steps.{SegmentOut, TextCut, PresentOut, PresentCut, head_now, present_blocks}
-use Rattle.bare_stream.proofs.Counts.{is_plan, some_blocks, first_below}
-use Rattle.bare_stream.proofs.Puts.{same_rows}
-
--- without a total each segment has the limit of the setting
-pub head_is_now : (s : Setting) (all : List (List ℤ)) (index : ℕ) → IsBare s → head_now s index (segment_of s all index) ≡ head_for s all index
-head_is_now s all index bare = grind (arith, nat_tests, share_none)
+use Rattle.bare_text.specs.Writing.{bare_text, carried_after}
+use Rattle.bare_text.proofs.Texts.{text_carried}
+use Rattle.bare_stream.specs.Bare.{first_texts, head_before, segment_octets}
+use Rattle.bare_stream.specs.Steps.{TextOut, TextCut, head_now, parts_before, text_now}
+use Rattle.bare_stream.specs.Works.{texts}
+use Rattle.bare_stream.proofs.TextLists.{first_texts-more}
 
 -- a head with the counts of these blocks is that of their segment
 pub head_made : (s : Setting) (index count dc ac : ℕ) (head : SegmentHead) (cells : List ℤ) → head ≡ head_with s index s.limit count dc ac →
@@ -40,78 +36,94 @@ head_made s index count dc ac head cells is long dc_is ac_is =
     ∙ ap (λ d. head_with s index s.limit (length (blocks_in cells)) d ac) dc_is
     ∙ ap (λ d. head_with s index s.limit (length (blocks_in cells)) (depth_dc_of (blocks_in cells)) d) ac_is
 
-module _ (s : Setting) (bare : IsBare s) (column : ℕ) (w : Work) (at : IsAt s column w) (lt : w.at.index < segments_of s) where
-  pub few_present : present_size s w ≤ most_blocks s
-  few_present = grind (arith, nat_tests)
+-- ---- the text of a segment of an image, if there is no bound on all texts
 
-  pub few_numbers : length w.blocks.numbers ≤ 64 * 1048575
-  few_numbers = let filled = at.filled in let held = at.held in let segment = bare.in_range.segment in omega (arith, filled, held, segment)
+module _ (s : Setting) (no_total : s.total ≡ 0) where
+  -- each segment has the limit of the setting
+  pub head_is_now : (all : List (List ℤ)) (index : ℕ) → head_now s index (segment_of s all index) ≡ head_for s all index
+  head_is_now all index = grind (arith, nat_tests, share_none)
 
-  pub index_few : w.at.index < 2 ^ 28
-  index_few = segments_few (plan s) w.at.index (is_plan s bare) lt
+  -- the parts in force are those of the limit and of the number of blocks
+  same_parts : (index limit count dc ac dc' ac' : ℕ) (head : SegmentHead) → limit ≡ s.limit → count ≡ s.segment →
+      carried_after (Some (head_with s index s.limit s.segment dc ac)) head ≡ carried_after (Some (head_with s index limit count dc' ac')) head
+  same_parts index limit count dc ac dc' ac' head e f = rw (e, f) refl
 
-  module _ (full : w.at.filled ≡ present_size s w) where
-    pub some_numbers : 64 ≤ length w.blocks.numbers
-    some_numbers = let some = one-le-segment_blocks (total_blocks s.width s.rows) s.segment w.at.index (some_blocks s bare) lt in let held =
-        at.held in omega (arith, some, held, full)
+  module _ (some : 0 < s.segment) (all : List (List ℤ)) (long : length all ≡ total_blocks s.width s.rows) where
+    same_carried : (index dc ac : ℕ) (head : SegmentHead) → index < segments_of s →
+        carried_after (parts_before s index dc ac) head ≡ carried_after (head_before s all index) head
+    same_carried zero dc ac head lt = refl
+    same_carried (suc index) dc ac head lt =
+        let segment = segment_of s all index in
+        let next = first_block-lt (total_blocks s.width s.rows) s.segment (suc index) some lt in
+        let turned : suc index * s.segment ≡ index * s.segment + s.segment = omega arith in
+        let count : length segment ≡ s.segment = omega
+        (arith, long, next, turned, length-take s.segment (drop (index * s.segment) all), length-drop (index * s.segment) all) in
+        same_parts index (share s index (used_before s all index)) (length segment) dc ac (depth_dc_of segment) (depth_ac_of segment) head
+        (share_none s index (used_before s all index) no_total) count
 
-    -- they are the blocks of the segment of each image that the work follows
-    pub segment_held : (x : ℕ → ℕ → ℤ) → FollowsTo s x column w → present_blocks w ≡ segment_of s (image_blocks s x) w.at.index
-    segment_held x follows = let held = at.held in grind (arith, nat_tests, segment_is, length-image_blocks)
+    pub text_is : (index : ℕ) → index < segments_of s → text_now s index (segment_of s all index) ≡ segment_octets s all index
+    text_is index lt =
+        let segment = segment_of s all index in
+        let before = parts_before s index (depth_dc_of segment) (depth_ac_of segment) in
+        ap (λ h. bare_text s.book before h segment) (head_is_now all index)
+        ∙ text_carried s.book before (head_before s all index) (head_for s all index) segment
+        (same_carried index (depth_dc_of segment) (depth_ac_of segment) (head_for s all index) lt)
 
--- ---- a work after its text was written
+-- ---- a work before and after its text was written
 
-module _ (s : Setting) (bare : IsBare s) (column : ℕ) (old new : Work) (at : IsAt s column old) (lt : old.at.index < segments_of s)
-    (full : old.at.filled ≡ present_size s old) (same : Rewritten old new)
+module _ (plan : Plan) (old new : Work) (range : IsPlan (job_of texts plan)) (full : IsFull (job_of texts plan) old) (same : Rewritten old new)
     (packets : new.packets ≡ old.packets) where
-  pub now_made : IsMadeFor s new
-  now_made = still_made s old new at.made same (ap (λ v. v.packet) packets)
+  abbrev s : Job
+  s = job_of texts plan
 
-  pub present_cut : {p q : Outside} (before : Option SegmentHead) →
-      TextCut p q (bare_text s.book before (head_now s old.at.index (present_blocks old)) (present_blocks old)) → PresentCut s before p q old new
-  present_cut before cut = record { made = now_made; cut = cut }
+  abbrev segment : List (List ℤ)
+  segment = blocks_in old.blocks.numbers
 
-  module _ (rows : new.at.rows ≡ old.at.rows) (filled : new.at.filled ≡ 0) (empty : new.blocks.numbers ≡ []) (index : new.at.index ≡ old.at.index + 1)
-      (octets : ℕ) (few : octets ≤ 2 ^ 32) (used : new.at.used ≡ old.at.used + octets) where
-    next_at : IsAt s column new
-    next_at =
-        let before = first_below s bare old column at lt in
-        let count = at.count in
-        record {
-          made = now_made;
-          rows = same_rows s old new same.strip rows at.rows;
-          columns = at.columns;
-          valid = λ inside. ap is_current same.strip ∙ at.valid inside;
-          count =
-              let next : first_block s.segment new.at.index ≡ first_block s.segment old.at.index + s.segment =
-              ap (λ n. n * s.segment) index ∙ (let t : (old.at.index + 1) * s.segment ≡ old.at.index * s.segment + s.segment = omega arith in t) in
-              let answered : block_count s.width * answered_of new.strip ≡ block_count s.width * answered_of old.strip =
-              ap (λ t. block_count s.width * answered_of t) same.strip in
-              omega (arith, next, answered, count, filled, full, before);
-          index = omega (arith, index, lt);
-          filled = omega (arith, filled);
-          held = ap length empty ∙ sym (ap (λ n. 64 * n) filled);
-          row = λ all. rw same.row (at.row (subst (λ t. s.rows ≤ rows_of t) same.strip all));
-          used = (let most = at.used in rw index (omega (arith, used, most, few)));
-        }
+  some_blocks : 0 < s.setting.segment
+  some_blocks = let segment = range.in_range.segment in omega (arith, segment)
 
-    pub present_out : {p q : Outside} (before : Option SegmentHead) (head : SegmentHead) →
-        SegmentOut s old.at.index before (present_blocks old) p q head octets → PresentOut s column before p q old new head
-    present_out before head out = record {
-      at = next_at;
-      index = index;
-      filled = filled;
-      rows = rows;
-      octets = octets;
-      used = used;
-      out = out;
-      follows = λ x follows. record {
-        strip = subst (λ t. Follows (padded x s.rows s.width) (block_count s.rows) t) (sym same.strip) follows.strip;
-        present = record { at = λ i less. absurd (omega (arith, less, filled)) };
-        shows = record { at = λ j low inside. rw same.strip (follows.shows.at j low inside) };
-        row = λ all. record {
-          at = λ j less. ap (λ v. signal v.items j) same.row ∙ (follows.row (subst (λ t. s.rows ≤ rows_of t) same.strip all)).at j less
-              ∙ ap (λ t. padded x s.rows s.width (rows_of t) j) (sym same.strip);
-        };
-      };
-    }
+  -- its text is that of its segment in each image
+  present_is : (all : List (List ℤ)) → length all ≡ total_blocks s.setting.width s.rows → HoldsBlocks s all old →
+      text_now (whole s) old.at.index segment ≡ segment_octets (whole s) all old.at.index
+  present_is all long holds =
+      let blocks : segment ≡ segment_of (whole s) all old.at.index = grind (arith, nat_tests, segment_is) in
+      ap (text_now (whole s) old.at.index) blocks ∙ text_is (whole s) full.ready.0 some_blocks all long old.at.index full.index
+
+  pub texts_cut : {p q : Outside} → TextCut p q (text_now (whole s) old.at.index segment) → PresentCut s p q old new
+  texts_cut {p = p} {q = q} cut =
+      present_cut s old new range full (still_made s.setting old new full.made same (ap (λ v. v.packet) packets)) cut.rose
+      (λ all long holds. record {
+        some = cut.some;
+        octets = text_now (whole s) old.at.index segment;
+        out = cut.out;
+        more = first_texts-more (whole s) all old.at.index ∙ ap (λ t. first_texts (whole s) all old.at.index ++ t) (sym (present_is all long holds));
+      })
+
+  pub texts_out : {p q : Outside} (octets : ℕ) → new.blocks.numbers ≡ [] → new.at.rows ≡ old.at.rows → new.at.filled ≡ 0 → new.at.index ≡ old.at.index + 1 →
+      new.at.used ≡ old.at.used + octets → TextOut p q (text_now (whole s) old.at.index segment) octets → PresentOut s p q old new
+  texts_out {p = p} {q = q} octets cleared rows filled index used out =
+      present_out s old new range full (record {
+        same = same;
+        packet = ap (λ v. v.packet) packets;
+        cleared = cleared;
+        rows = rows;
+        filled = filled;
+        index = index;
+        share = record { left = λ some. absurd (some full.ready.0) };
+        ready = (full.ready.0, (let most = full.ready.1 in let few = out.few in omega (arith, index, used, most, few)));
+      }) out.out.faults.writes (λ all long holds.
+      let text = text_now (whole s) old.at.index segment in
+      let more : first_texts (whole s) all (old.at.index + 1) ≡ first_texts (whole s) all old.at.index ++ text =
+      first_texts-more (whole s) all old.at.index ∙ ap (λ t. first_texts (whole s) all old.at.index ++ t) (sym (present_is all long holds)) in
+      record {
+        given =
+            let so_far = holds.given in
+            let count = out.count in
+            let size : length (first_texts (whole s) all new.at.index) ≡ length (first_texts (whole s) all old.at.index) + length text =
+            ap (λ n. length (first_texts (whole s) all n)) index ∙ ap length more ∙ length-append (first_texts (whole s) all old.at.index) text in
+            omega (arith, used, so_far, count, size);
+        used = λ some. absurd (some full.ready.0);
+        gave = text;
+        out = out.out;
+        more = more;
+      })

@@ -1,19 +1,19 @@
 // Encodes a raster as a bare stream.
-ghost use Rattle.std.specs.Prelude.{◌≡◌, ◌≢◌, MatchResult};
+ghost use Rattle.std.specs.Prelude.{◌≡◌, ◌≢◌, ◌<◌, ◌+◌, MatchResult};
+ghost use Rattle.port_122.specs.Outside.{Outside};
 ghost use Rattle.base_122.specs.Ranges.{IsInRange};
-ghost use Rattle.strip_coder.specs.Works.{IsMadeFor};
+ghost use Rattle.wave_strip.specs.Strip.{rows_of};
+ghost use Rattle.strip_coder.specs.Works.{IsFresh, IsMadeFor, IsRunning};
 ghost use Rattle.bare_stream.specs.Rasters.{IsBare};
 ghost use Rattle.bare_stream.specs.Answers.{EncodesBare};
-ghost use Rattle.bare_stream.specs.Steps.{StartsAt};
-ghost use Rattle.bare_stream.specs.RowsIn.{AllTexts};
+ghost use Rattle.bare_stream.specs.RowsIn.{AllTexts, HasArrived};
+ghost use Rattle.bare_stream.specs.Works.{job};
 
-use crate::segment::write_present;
-use crate::source::fill_segment;
+use crate::segment::AsTexts;
 use base_122::Setting;
 use port_122::Port;
-use raster_rows::at_end;
-use segment_head::SegmentHead;
-use strip_coder::{EncodeDone, EncodeFault, ImageAt, Work};
+use raster_rows::{at_end, pad_row, read_row};
+use strip_coder::{EncodeDone, EncodeFault, Plan, Work, push, row_fault, start_image, write_rest};
 
 /// Takes an image's raster and writes its bare stream, each text as soon as the rows so far settle its segment (docs/formats.md, "Raster
 /// and made image" and "Bare texts"). It reads a row only after all texts that the whole rows before settle are written, and reads the end
@@ -41,7 +41,7 @@ pub fn encode_bare<X: Port>(
     ensures made { IsMadeFor setting.now work.new }
     ensures encodes { EncodesBare setting.now (X.outside port.old) (X.outside port.new) result }
 {
-    start(setting, work);
+    start_image(setting, work);
     write_texts(port, setting, work)?;
     match at_end(port) {
         Ok(true) => Ok(EncodeDone {
@@ -54,41 +54,49 @@ pub fn encode_bare<X: Port>(
     }
 }
 
-// Puts a work at the start of an image.
-fn start(setting: &Setting, work: &mut Work)
+// Takes the next row of a raster, and writes the texts of the segments that it settles.
+fn take_row<X: Port>(
+    port: &mut X,
+    setting: &Setting,
+    row: u32,
+    work: &mut Work,
+) -> Result<(), EncodeFault>
     requires bare { IsBare setting.now }
-    requires made { IsMadeFor setting.now work.old }
-    ensures { StartsAt setting.now work.new }
+    requires running { IsRunning (job setting.now) work.old }
+    requires rows { rows_of work.old.strip ≡ row }
+    requires few { row < setting.now.rows }
+    ensures made { IsMadeFor setting.now work.new }
+    ensures row { (start : Outside) → HasArrived setting.now row start (X.outside port.old) work.old → MatchResult result
+        (λ _. HasArrived setting.now (row + 1) start (X.outside port.new) work.new)
+        (λ fault. EncodesBare setting.now start (X.outside port.new) (Err fault)) }
 {
-    let _rows = setting.rows;
-    work.strip.reset();
-    work.blocks.clear();
-    work.at = ImageAt {
-        rows: 0,
-        filled: 0,
-        index: 0,
-        used: 0,
+    if let Err(fault) = read_row(port, setting, row, &mut work.row) {
+        return Err(row_fault(setting, row, fault));
+    }
+    pad_row(setting.width, &mut work.row);
+    let plan = Plan::new(setting, setting.rows);
+    let Ok(()) = push::<AsTexts, X>(port, &plan, work) else {
+        return Err(EncodeFault::WriteFault);
     };
+    Ok(())
 }
 
 // Takes all rows of a raster, and writes all texts of its image.
 fn write_texts<X: Port>(port: &mut X, setting: &Setting, work: &mut Work) -> Result<(), EncodeFault>
     requires bare { IsBare setting.now }
-    requires start { StartsAt setting.now work.old }
+    requires made { IsMadeFor setting.now work.old }
+    requires start { IsFresh setting.now work.old }
     ensures made { IsMadeFor setting.now work.new }
     ensures texts { MatchResult result
         (λ _. AllTexts setting.now (X.outside port.old) (X.outside port.new) work.new)
         (λ fault. EncodesBare setting.now (X.outside port.old) (X.outside port.new) (Err fault)) }
 {
-    let geometry = setting.geometry_for(setting.rows);
-    let mut column = geometry.padded_width() / 8;
-    let mut before: Option<SegmentHead> = None;
-    for _ in 0..geometry.segments() {
-        column = fill_segment(port, setting, work, column)?;
-        let Ok(head) = write_present(port, setting, work, column, before) else {
-            return Err(EncodeFault::WriteFault);
-        };
-        before = Some(head);
+    for row in 0..setting.rows {
+        take_row(port, setting, row, work)?;
     }
+    let plan = Plan::new(setting, setting.rows);
+    let Ok(()) = write_rest::<AsTexts, X>(port, &plan, work) else {
+        return Err(EncodeFault::WriteFault);
+    };
     Ok(())
 }

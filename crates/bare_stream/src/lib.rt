@@ -1,7 +1,7 @@
 //! This crate encodes and decodes bare streams: the texts of an image's segments, one after another without packets (docs/formats.md,
 //! "Bare texts").
 //!
-//! Layer: packets and pictures. It uses `base_122`, `port_122`, `raster_rows`, `item_defs`, `number_defs`, `wave_defs`, `plane_defs` and 12
+//! Layer: packets and pictures. It uses `base_122`, `port_122`, `raster_rows`, `item_defs`, `number_defs`, `wave_defs`, `plane_defs` and 11
 //! more. It is used by `strip122` and `bare_tests`.
 #![tactic(auto)]
 
@@ -22,7 +22,6 @@ mod input;
 mod room;
 mod segment;
 mod sink;
-mod source;
 mod text;
 mod walk;
 

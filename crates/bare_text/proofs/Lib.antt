@@ -5,7 +5,8 @@ mod WholeHeads
 mod HeadTaken
 mod SameParts
 mod HeadLengths
-mod Texts
+pub mod Agreements
+pub mod Texts
 mod FirstPart
 mod WrittenBare
 mod HeldTexts

@@ -1,5 +1,5 @@
 -- A text with a short head that was put into a sink, and ended.
-use Rattle.std.proofs.Common.{◌≡◌, ℕ, ℤ, ◌*◌, ◌≤◌, List, ◌++◌, length, Bool, true, false, inl, inr, subst, arith, length-append, IsTrue, Option, Result, Ok}
+use Rattle.std.proofs.Common.{◌≡◌, ℕ, ℤ, ◌*◌, ◌≤◌, List, ◌++◌, length, Bool, true, false, inl, inr, subst, arith, length-append, IsTrue, Option, Result, Ok, ap}
 use Rattle.std.proofs.Common.{Err, MatchResult, flat_map}
 use Rattle.item_defs.specs.Items.{text}
 use Rattle.bit_pipe.specs.Sinks.{SinkOf}
@@ -68,3 +68,11 @@ if_known k out (Ok n) book before h blocks u v e m =
     subst (λ x. GivesText k out x (text_octets h.image.word h.limit h.fill (bare_bits book before h blocks)) n) e m
 if_known k out (Err x) book before h blocks u v e m = subst (λ y. BreaksWithin k out y
     (text_octets h.image.word h.limit h.fill (bare_bits book before h blocks))) e m
+
+-- of the head before, the text depends on the parts that are carried
+pub text_carried : (book : Book) (a b : Option SegmentHead) (h : SegmentHead) (blocks : List (List ℤ)) → carried_after a h ≡ carried_after b h →
+    bare_text book a h blocks ≡ bare_text book b h blocks
+unfolding bare_text
+text_carried book a b h blocks e =
+    let items = text (segment_items h blocks (block_depths blocks) (chosen_options book h blocks)) in
+    ap (λ c. text_octets h.image.word h.limit h.fill (bare_head_bits c h ++ items)) e

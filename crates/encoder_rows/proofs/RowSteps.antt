@@ -15,11 +15,10 @@ use Rattle.raster_rows.specs.RowReads.{FirstInRange}
 use Rattle.raster_rows.proofs.PixelPlaces.{pixel_at-append_right, size_some}
 use Rattle.stream_defs.specs.SettledImages.{leading_packets, settled_in}
 use Rattle.stream_defs.proofs.HeightLaws.{images_settle}
-use Rattle.strip_coder.specs.Plans.{MoreMayArrive, plan_of, tallest}
+use Rattle.strip_coder.specs.Plans.{Job, MoreMayArrive, plan_of, tallest}
 use Rattle.strip_coder.specs.Rasters.{row_length, image_of, AreInRange, given_for}
 use Rattle.strip_coder.specs.Steps.{BreaksAt, IsRowInRange, RowIs, TakesRow}
 use Rattle.strip_coder.specs.Works.{FollowsRows, HasTaken}
-use Rattle.strip_coder.specs.declared.plan.Plan.{Plan}
 use Rattle.strip_coder.specs.declared.work.Work.{Work}
 use Rattle.strip_coder.proofs.PlanLaws.{tall_height}
 use Rattle.strip_coder.proofs.RowTakes.{OnlyRow, row_follows_any, row_running}
@@ -36,7 +35,7 @@ pub shown_values : (s : Setting) (octets : List ℕ) (row : List ℤ) → FirstI
 shown_values s octets row in_range shows = record { each = λ column lt. subst (IsPixel s.depth s.signed) (sym (shows.at column lt)) (in_range.each column lt) }
 
 -- only the row was exchanged
-pub taken_only : (p : Plan) (k : ℕ) (old mid : Work) → OnlyRow old mid → HasTaken p k old → HasTaken p k mid
+pub taken_only : (p : Job) (k : ℕ) (old mid : Work) → OnlyRow old mid → HasTaken p k old → HasTaken p k mid
 taken_only p k old mid only t = record {
   running = row_running p old mid only t.running;
   rows = ap (λ a. a.rows) only.at ∙ t.rows;

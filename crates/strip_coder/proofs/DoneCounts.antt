@@ -1,7 +1,6 @@
 -- The counts of an encoder.
 use Rattle.std.proofs.Common.{◌≡◌, ℕ, ℤ, List, length, sym, ap, ◌∙◌, flat_map}
-use Rattle.strip_coder.specs.declared.plan.Plan.{Plan}
-use Rattle.strip_coder.specs.Plans.{IsPlan, whole}
+use Rattle.strip_coder.specs.Plans.{Job, IsPlan, whole}
 use Rattle.stream_defs.specs.Output.{image_blocks, packets_of, segments_of, reports_last}
 use Rattle.base_122.proofs.GeometryRanges.{in_range-sized}
 use Rattle.stream_defs.proofs.ShareLaws.{total_kept}
@@ -12,7 +11,7 @@ use Rattle.strip_coder.specs.Answers.{DoneFor}
 use Rattle.strip_coder.specs.SegmentsOut.{progress_at}
 
 -- what was counted
-pub counted : (s : Plan) → IsPlan s → (all : List (List ℤ)) (x : ℕ → ℕ → ℤ) (packets : Progress) (e : EncodeDone) → all ≡ image_blocks (whole s) x →
+pub counted : (s : Job) → IsPlan s → (all : List (List ℤ)) (x : ℕ → ℕ → ℤ) (packets : Progress) (e : EncodeDone) → all ≡ image_blocks (whole s) x →
     packets ≡ progress_at s all (segments_of (whole s)) →
     e ≡ record { segments = segments_of (whole s); packets = packets.packets; octets = packets.octets } → DoneFor s.setting s.rows x e
 counted s plan all x packets e same valid is = record {

@@ -5,44 +5,18 @@ use Rattle.std.proofs.lemmas.Bool.{cases_lt}
 use Rattle.std.proofs.lemmas.Bool.Decides.{nat_tests}
 use Rattle.port_122.specs.Outside.{Outside, NoRead}
 use Rattle.port_122.proofs.Stretches.{since_start, rose_since}
-use Rattle.strip_coder.specs.Plans.{IsPlan, whole}
+use Rattle.strip_coder.specs.Plans.{Job, IsPlan, whole}
 use Rattle.base_122.specs.Sizes.{total_blocks, first_block, segment_blocks}
-use Rattle.strip_coder.specs.declared.plan.Plan.{Plan}
 use Rattle.base_122.proofs.SizeBounds.{first_block-lt, total-le-segments}
-use Rattle.packet_defs.specs.Packets.{joined}
 use Rattle.wave_defs.specs.Held.{block_at}
-use Rattle.stream_defs.specs.Output.{packets_of, segments_of, reports_last, used_before}
+use Rattle.stream_defs.specs.Output.{segments_of, used_before}
 use Rattle.space_packets.specs.Progress.{Progress}
 use Rattle.strip_coder.specs.declared.work.Work.{Work}
 use Rattle.strip_coder.specs.declared.work.ImageAt.{ImageAt}
-use Rattle.strip_coder.specs.SegmentsOut.{progress_at}
 use Rattle.strip_coder.specs.Works.{IsMadeFor, KeepsShare, HasGathered, IsFull, HoldsBlocks, gathered_in}
-use Rattle.strip_coder.specs.Steps.{PutsBlock, PutsBlocks, Continues, StopsEarly, NextAre, HasGone, HasBroken, Gathers, GathersSome, PresentOut, PresentCut}
+use Rattle.strip_coder.specs.Steps.{octets_at, PutsBlocks, Continues, StopsEarly, NextAre, HasGone, HasBroken, Gathers, GathersSome, PresentOut, PresentCut}
 use Rattle.strip_coder.proofs.PacketStretches.{goes_then, breaks_then, breaks_more}
 use Rattle.strip_coder.proofs.SegmentSteps.{Rewritten, still_made, share_kept}
-
--- one block more is in a work
-pub record HasPut (old mid : Work) (numbers : List ℤ) : Type 0 where
-  pub same : Rewritten old mid
-  pub packets : mid.packets ≡ old.packets
-  pub rows : mid.at.rows ≡ old.at.rows
-  pub filled : mid.at.filled ≡ old.at.filled + 1
-  pub index : mid.at.index ≡ old.at.index
-  pub used : mid.at.used ≡ old.at.used
-  pub puts : PutsBlock old.at.filled old.blocks.numbers mid.blocks.numbers numbers
-
-pub put_in : (old mid : Work) (numbers : List ℤ) → Rewritten old mid → mid.packets ≡ old.packets →
-    mid.at ≡ record { rows = old.at.rows; filled = old.at.filled + 1; index = old.at.index; used = old.at.used } →
-    PutsBlock old.at.filled old.blocks.numbers mid.blocks.numbers numbers → HasPut old mid numbers
-put_in old mid numbers same packets at puts = record {
-  same = same;
-  packets = packets;
-  rows = ap (λ (a : ImageAt). a.rows) at;
-  filled = ap (λ (a : ImageAt). a.filled) at;
-  index = ap (λ (a : ImageAt). a.index) at;
-  used = ap (λ (a : ImageAt). a.used) at;
-  puts = puts;
-}
 
 -- n blocks more are in a work
 pub record HasPutSome (old mid : Work) (n : ℕ) (numbers : ℕ → List ℤ) : Type 0 where
@@ -67,7 +41,7 @@ put_some old mid n numbers same packets at puts = record {
   puts = puts;
 }
 
-module _ (s : Plan) (range : IsPlan s) where
+module _ (s : Job) (range : IsPlan s) where
   some_blocks : 0 < s.setting.segment
   some_blocks = let segment = range.in_range.segment in omega (arith, segment)
 
@@ -97,7 +71,7 @@ module _ (s : Plan) (range : IsPlan s) where
               let place : gathered_in s old.at + k ≡ first_block s.setting.segment old.at.index + i = omega (arith, place_is old lt, e) in
               ap (block_at mid.blocks.numbers) e ∙ put.puts.here k low ∙ sym (next.next k low) ∙ ap (λ m. get_or all m []) place ∙ sym there
         ];
-    packets = put.packets ∙ holds.packets ∙ ap (progress_at s all) (sym put.index);
+    given = rw (put.packets, put.index, put.used) holds.given;
     used = λ some. put.used ∙ holds.used some ∙ ap (used_before (whole s) all) (sym put.index);
   }
 
@@ -128,8 +102,7 @@ module _ (s : Plan) (range : IsPlan s) where
           present = λ h. subst (λ n. mid.at.filled < segment_blocks (total_blocks s.setting.width s.rows) s.setting.segment n) (sym index) part;
           none = λ e. absurd (omega (arith, e, index, lt));
           held = put_held old mid n numbers put;
-          idle = ap (λ (v : Progress). v.stage) put.packets ∙ has.idle;
-          texts = ap (λ (v : Progress). v.texts) put.packets ∙ has.texts ∙ sym index;
+          ready = rw (put.packets, put.index, put.used) has.ready;
         };
         count = omega (arith, first, filled);
         faults = omega arith;
@@ -137,8 +110,7 @@ module _ (s : Plan) (range : IsPlan s) where
         goes = λ all next holds. record {
           gave = [];
           out = since_start p NoRead;
-          then_are = append-nil (joined (packets_of (reports_last s.setting) (whole s) all old.at.index))
-              ∙ ap (λ n. joined (packets_of (reports_last s.setting) (whole s) all n)) (sym index);
+          then_are = append-nil (octets_at s all old.at.index) ∙ ap (octets_at s all) (sym index);
         };
       }
 
@@ -154,8 +126,7 @@ module _ (s : Plan) (range : IsPlan s) where
         index = omega (arith, index, lt);
         full = omega (arith, first, whole_one);
         held = put_held old mid n numbers put;
-        idle = ap (λ (v : Progress). v.stage) put.packets ∙ has.idle;
-        texts = ap (λ (v : Progress). v.texts) put.packets ∙ has.texts ∙ sym index;
+        ready = rw (put.packets, put.index, put.used) has.ready;
       }
 
   -- and was written
@@ -205,7 +176,7 @@ module _ (s : Plan) (range : IsPlan s) where
 
 -- ---- one after another
 
-pub none_gone : {p : Outside} (s : Plan) (w : Work) (numbers : ℕ → List ℤ) → HasGathered s w → HasGone s numbers 0 p p w w
+pub none_gone : {p : Outside} (s : Job) (w : Work) (numbers : ℕ → List ℤ) → HasGathered s w → HasGone s numbers 0 p p w w
 none_gone {p = p} s w numbers has = record {
   stays = record { strip = refl; row = refl; rows = refl };
   gathered = has;
@@ -215,15 +186,14 @@ none_gone {p = p} s w numbers has = record {
   goes = λ all next holds. record {
     gave = [];
     out = since_start p NoRead;
-    then_are =
-        append-nil (joined (packets_of (reports_last s.setting) (whole s) all w.at.index));
+    then_are = append-nil (octets_at s all w.at.index);
   };
 }
 
-next_prefix : (s : Plan) (old : Work) (numbers : ℕ → List ℤ) (n j : ℕ) (all : List (List ℤ)) → j ≤ n → NextAre s old n numbers all → NextAre s old j numbers all
+next_prefix : (s : Job) (old : Work) (numbers : ℕ → List ℤ) (n j : ℕ) (all : List (List ℤ)) → j ≤ n → NextAre s old n numbers all → NextAre s old j numbers all
 next_prefix s old numbers n j all le next = record { whole = next.whole; next = λ i lt. next.next i (omega (arith, lt, le)) }
 
-next_some : (s : Plan) (old mid : Work) (numbers : ℕ → List ℤ) (n j m : ℕ) (all : List (List ℤ)) → j + m ≤ n → gathered_in s mid.at ≡ gathered_in s old.at + j →
+next_some : (s : Job) (old mid : Work) (numbers : ℕ → List ℤ) (n j m : ℕ) (all : List (List ℤ)) → j + m ≤ n → gathered_in s mid.at ≡ gathered_in s old.at + j →
     NextAre s old n numbers all → NextAre s mid m (λ k. numbers (j + k)) all
 next_some s old mid numbers n j m all le count next = record {
   whole = next.whole;
@@ -232,7 +202,7 @@ next_some s old mid numbers n j m all le count next = record {
       ap (λ k. get_or all k []) place ∙ next.next (j + i) (omega (arith, le, few));
 }
 
-pub then_gone : {p q r : Outside} (s : Plan) (old mid new : Work) (numbers : ℕ → List ℤ) (j m : ℕ) → HasGone s numbers j p q old mid →
+pub then_gone : {p q r : Outside} (s : Job) (old mid new : Work) (numbers : ℕ → List ℤ) (j m : ℕ) → HasGone s numbers j p q old mid →
     HasGone s (λ k. numbers (j + k)) m q r mid new →
     HasGone s numbers (j + m) p r old new
 then_gone {p = p} {r = r} s old mid new numbers j m before here =
@@ -252,7 +222,7 @@ then_gone {p = p} {r = r} s old mid new numbers j m before here =
           (here.goes all (next_some s old mid numbers (j + m) j m all (omega arith) count next) (before.holds all prefix holds));
     }
 
-pub then_broken : {p q r : Outside} (s : Plan) (old mid new : Work) (numbers : ℕ → List ℤ) (n j m : ℕ) → j + m ≤ n → HasGone s numbers j p q old mid →
+pub then_broken : {p q r : Outside} (s : Job) (old mid new : Work) (numbers : ℕ → List ℤ) (n j m : ℕ) → j + m ≤ n → HasGone s numbers j p q old mid →
     HasBroken s (λ k. numbers (j + k)) m q r mid new →
     HasBroken s numbers n p r old new
 then_broken {p = p} {r = r} s old mid new numbers n j m fit before here = record {
@@ -268,7 +238,7 @@ then_broken {p = p} {r = r} s old mid new numbers n j m fit before here = record
 }
 
 -- a break among the first blocks is one among more
-broken_more : {p q : Outside} (s : Plan) (old new : Work) (numbers : ℕ → List ℤ) (n most : ℕ) → n ≤ most → HasBroken s numbers n p q old new →
+broken_more : {p q : Outside} (s : Job) (old new : Work) (numbers : ℕ → List ℤ) (n most : ℕ) → n ≤ most → HasBroken s numbers n p q old new →
     HasBroken s numbers most p q old new
 broken_more s old new numbers n most le b = record {
   made = b.made;
@@ -278,12 +248,12 @@ broken_more s old new numbers n most le b = record {
       (b.breaks all (next_prefix s old numbers most n all le next) holds);
 }
 
-pub failed_some : {E : Type 0} (p q : Outside) (r : Result ℕ E) (s : Plan) (numbers : ℕ → List ℤ) (n most : ℕ) (old new : Work) → IsErr r → n ≤ most →
+pub failed_some : {E : Type 0} (p q : Outside) (r : Result ℕ E) (s : Job) (numbers : ℕ → List ℤ) (n most : ℕ) (old new : Work) → IsErr r → n ≤ most →
     HasBroken s numbers n p q old new → GathersSome r s numbers most p q old new
 failed_some p q (Ok x) s numbers n most old new h le b = absurd cc
 failed_some p q (Err x) s numbers n most old new h le b = broken_more s old new numbers n most le b
 
-pub failed_gathers : {T E : Type 0} (p q : Outside) (r : Result T E) (s : Plan) (numbers : ℕ → List ℤ) (n : ℕ) (old new : Work) → IsErr r →
+pub failed_gathers : {T E : Type 0} (p q : Outside) (r : Result T E) (s : Job) (numbers : ℕ → List ℤ) (n : ℕ) (old new : Work) → IsErr r →
     HasBroken s numbers n p q old new → Gathers r s numbers n p q old new
 failed_gathers p q (Ok x) s numbers n old new h b = absurd cc
 failed_gathers p q (Err x) s numbers n old new h b = b

@@ -3,22 +3,19 @@ use Rattle.std.proofs.Common.{◌≡◌, ℕ, ◌-◌, ◌*◌, ℤ, [], length,
 use Rattle.std.proofs.lemmas.Bool.Decides.{nat_tests}
 use Rattle.port_122.specs.Outside.{Outside, NoRead}
 use Rattle.port_122.proofs.Stretches.{since_start, rose_since}
-use Rattle.strip_coder.specs.Plans.{IsPlan, plan_of, tallest, whole}
+use Rattle.strip_coder.specs.Plans.{Job, IsPlan, plan_of, tallest, whole}
 use Rattle.base_122.specs.Ranges.{IsInRange}
 use Rattle.base_122.specs.Setting.{IsHeight}
 use Rattle.base_122.specs.Sizes.{block_count, padded_size, total_blocks}
 use Rattle.base_122.specs.declared.setting.Setting.{Setting}
-use Rattle.strip_coder.specs.declared.plan.Plan.{Plan}
-use Rattle.packet_defs.specs.Packets.{joined}
 use Rattle.raster_rows.specs.Padding.{IsPadded}
 use Rattle.wave_strip.specs.Strip.{rows_of, answered_of}
-use Rattle.stream_defs.specs.Output.{image_blocks, packets_of, segments_of, reports_last}
+use Rattle.stream_defs.specs.Output.{image_blocks, segments_of}
 use Rattle.strip_coder.specs.declared.encode.EncodeDone.{EncodeDone}
 use Rattle.strip_coder.specs.declared.work.Work.{Work}
-use Rattle.strip_coder.specs.SegmentsOut.{progress_at}
 use Rattle.strip_coder.specs.Works.{IsRunning, HasTaken, FollowsImage, FollowsRows}
-use Rattle.strip_coder.specs.Steps.{Continues, StopsEarly, IsEnding, HasFinished, HasFinishedOn, HasNoMore, HasNotFinished, AllOut, RowIs, LastRowIs}
-use Rattle.strip_coder.specs.Steps.{HasPushedOn, HasNotPushedOn, EndBreaks, EndsImage}
+use Rattle.strip_coder.specs.Steps.{octets_at, Continues, StopsEarly, IsEnding, HasFinished, HasFinishedOn, HasNoMore, HasNotFinished, AllOut, RowIs, LastRowIs}
+use Rattle.strip_coder.specs.Steps.{HasPushedOn, HasNotPushedOn, HasEnded, EndBreaks, EndsImage}
 use Rattle.strip_coder.proofs.PlanLaws.{tall_or_open}
 use Rattle.strip_coder.proofs.OtherHeights.{open_running, open_follows}
 use Rattle.strip_coder.proofs.DoneCounts.{counted}
@@ -26,7 +23,7 @@ use Rattle.strip_coder.proofs.GatherSteps.{place_is}
 use Rattle.strip_coder.proofs.RowTakes.{OnlyRow, padded_next, row_follows}
 use Rattle.strip_coder.proofs.PacketStretches.{goes_then, breaks_then}
 
-pub none_finished : {p : Outside} (s : Plan) (w : Work) → IsEnding s w → HasFinishedOn s p p w w
+pub none_finished : {p : Outside} (s : Job) (w : Work) → IsEnding s w → HasFinishedOn s p p w w
 none_finished {p = p} s w ending = record {
   ending = ending;
   faults = omega arith;
@@ -34,12 +31,11 @@ none_finished {p = p} s w ending = record {
   goes = λ x f. record {
     gave = [];
     out = since_start p NoRead;
-    then_are =
-        append-nil (joined (packets_of (reports_last s.setting) (whole s) (image_blocks (whole s) x) w.at.index));
+    then_are = append-nil (octets_at s (image_blocks (whole s) x) w.at.index);
   };
 }
 
-pub then_finished : {p q r : Outside} (s : Plan) (old mid new : Work) → HasFinishedOn s p q old mid → HasFinished s q r mid new → HasFinishedOn s p r old new
+pub then_finished : {p q r : Outside} (s : Job) (old mid new : Work) → HasFinishedOn s p q old mid → HasFinished s q r mid new → HasFinishedOn s p r old new
 then_finished s old mid new so_far here = record {
   ending = here.ending;
   faults = (let a = so_far.faults in let b = here.faults in omega (arith, a, b));
@@ -48,21 +44,21 @@ then_finished s old mid new so_far here = record {
 }
 
 -- if all blocks were gathered, all segments were written
-all_segments : (s : Plan) (w : Work) → IsPlan s → IsEnding s w → answered_of w.strip ≡ block_count s.rows → w.at.index ≡ segments_of (whole s)
+all_segments : (s : Job) (w : Work) → IsPlan s → IsEnding s w → answered_of w.strip ≡ block_count s.rows → w.at.index ≡ segments_of (whole s)
 all_segments s w range ending all = grind (arith, nat_tests, place_is)
 
-pub all_out : {p q r : Outside} (s : Plan) (old mid new : Work) → IsPlan s → HasFinishedOn s p q old mid → HasNoMore s q r mid new → AllOut s p r old new
+pub all_out : {p q r : Outside} (s : Job) (old mid new : Work) → IsPlan s → HasFinishedOn s p q old mid → HasNoMore s q r mid new → AllOut s p r old new
 all_out {p = p} {q = q} s old mid new range so_far none =
     let index = all_segments s mid range so_far.ending none.all in
     record {
       made = none.made;
       faults = (let a = so_far.faults in let e = ap (λ (o : Outside). o.write_faults) none.still in omega (arith, a, e));
-      valid = λ x f. none.packets ∙ (so_far.follows x f).holds.packets ∙ ap (progress_at s (image_blocks (whole s) x)) index;
+      valid = λ x f. rw (none.packets, none.at, sym index) (so_far.follows x f).holds.given;
       goes = λ x f. subst (λ (o : Outside). Continues s (image_blocks (whole s) x) old.at.index (segments_of (whole s)) p o) (sym none.still)
           (subst (λ n. Continues s (image_blocks (whole s) x) old.at.index n p q) index (so_far.goes x f));
     }
 
-pub then_unfinished : {T E : Type 0} (p q r : Outside) (result : Result T E) (s : Plan) (old mid new : Work) → IsErr result → HasFinishedOn s p q old mid →
+pub then_unfinished : {T E : Type 0} (p q r : Outside) (result : Result T E) (s : Job) (old mid new : Work) → IsErr result → HasFinishedOn s p q old mid →
     HasNotFinished s q r mid new →
     MatchResult result (λ _. AllOut s p r old new) (λ _. HasNotFinished s p r old new)
 then_unfinished p q r (Ok x) s old mid new h so_far here = absurd cc
@@ -74,7 +70,7 @@ then_unfinished p q r (Err x) s old mid new h so_far here = record {
 }
 
 -- once the padding rows of the image were pushed, the other block rows follow at the end
-pub all_pushed : {p q : Outside} (s : Plan) (old new : Work) → rows_of old.strip ≡ s.rows → HasPushedOn s (padded_size s.rows - s.rows) p q old new →
+pub all_pushed : {p q : Outside} (s : Job) (old new : Work) → rows_of old.strip ≡ s.rows → HasPushedOn s (padded_size s.rows - s.rows) p q old new →
     IsEnding s new
 all_pushed s old new rows pushed =
     let more = pushed.strip_rows in
@@ -86,6 +82,24 @@ all_pushed s old new rows pushed =
       rows = whole;
       most = omega (arith, answered, whole);
     }
+
+module _ {p q r : Outside} (s : Job) (n : ℕ) (old mid new : Work) (pushed : HasPushedOn s n p q old mid) where
+  pub rest_given : AllOut s q r mid new → HasEnded s p r old new
+  rest_given out = record {
+    made = out.made;
+    faults = (let a = pushed.faults in let b = out.faults in omega (arith, a, b));
+    given = λ x f is. out.valid x (pushed.follows x f is);
+    goes = λ x f is. goes_then s (image_blocks (whole s) x) old.at.index mid.at.index (segments_of (whole s)) (pushed.goes x f is)
+        (out.goes x (pushed.follows x f is));
+  }
+
+  pub rest_broken : HasNotFinished s q r mid new → HasNotPushedOn s p r old new
+  rest_broken broken = record {
+    made = broken.made;
+    rose = rose_since pushed.faults broken.rose;
+    breaks = λ x f is. breaks_then s (image_blocks (whole s) x) old.at.index mid.at.index (total_blocks s.setting.width s.rows) (pushed.goes x f is)
+        (broken.breaks x (pushed.follows x f is));
+  }
 
 -- ---- the end as a whole
 
@@ -106,7 +120,7 @@ all_follows t rows w range height taken x f = elim (tall_or_open t rows range he
 module _ (t : Setting) (rows : ℕ) (range : IsPlan (plan_of t rows)) (old mid : Work) (only : OnlyRow old mid)
     (pad : IsPadded t.width old.row.items mid.row.items) (long : length mid.row.items ≡ padded_size t.width)
     (image : (x : ℕ → ℕ → ℤ) → FollowsRows t x old → FollowsImage (plan_of t rows) x old) where
-  abbrev s : Plan
+  abbrev s : Job
   s = plan_of t rows
 
   last_is : (x : ℕ → ℕ → ℤ) → RowIs t x (rows - 1) old → LastRowIs s x mid
@@ -118,34 +132,20 @@ module _ (t : Setting) (rows : ℕ) (range : IsPlan (plan_of t rows)) (old mid :
   follows : (x : ℕ → ℕ → ℤ) → FollowsRows t x old → FollowsImage s x mid
   follows x f = row_follows s x old mid only (image x f)
 
-  pub image_ends : {p q r : Outside} (n : ℕ) (after new : Work) (done : EncodeDone) → HasPushedOn s n p q mid after → AllOut s q r after new →
-      done ≡ record { segments = segments_of (whole s); packets = new.packets.packets; octets = new.packets.octets } → EndsImage t rows p r old new done
-  image_ends {p = p} {q = q} {r = r} n after new done pushed out is = record {
+  pub image_ends : {p q : Outside} (new : Work) (done : EncodeDone) → HasEnded s p q mid new →
+      done ≡ record { segments = segments_of (whole s); packets = new.packets.packets; octets = new.packets.octets } → EndsImage t rows p q old new done
+  image_ends {p = p} {q = q} new done out is = record {
     made = out.made;
-    faults = (let a = pushed.faults in let b = out.faults in omega (arith, a, b));
+    faults = out.faults;
     goes = λ x f row.
-        subst (λ i. Continues s (image_blocks (whole s) x) i (segments_of (whole s)) p r) same_index
-        (goes_then s (image_blocks (whole s) x) mid.at.index after.at.index (segments_of (whole s)) (pushed.goes x (follows x f) (last_is x row))
-        (out.goes x (pushed.follows x (follows x f) (last_is x row))));
-    done = λ x f row.
-        counted s range (image_blocks (whole s) x) x new.packets done refl (out.valid x (pushed.follows x (follows x f) (last_is x row))) is;
+        subst (λ i. Continues s (image_blocks (whole s) x) i (segments_of (whole s)) p q) same_index (out.goes x (follows x f) (last_is x row));
+    done = λ x f row. counted s range (image_blocks (whole s) x) x new.packets done refl (out.given x (follows x f) (last_is x row)) is;
   }
 
-  pub tail_breaks : {p q : Outside} (new : Work) → HasNotPushedOn s p q mid new → EndBreaks t rows p q old new
-  tail_breaks {p = p} {q = q} new broken = record {
+  pub image_breaks : {p q : Outside} (new : Work) → HasNotPushedOn s p q mid new → EndBreaks t rows p q old new
+  image_breaks {p = p} {q = q} new broken = record {
     made = broken.made;
     rose = broken.rose;
     breaks = λ x f row.
         subst (λ i. StopsEarly s (image_blocks (whole s) x) i (total_blocks t.width rows) p q) same_index (broken.breaks x (follows x f) (last_is x row));
-  }
-
-  pub finish_breaks : {p q r : Outside} (n : ℕ) (after new : Work) → HasPushedOn s n p q mid after → HasNotFinished s q r after new →
-      EndBreaks t rows p r old new
-  finish_breaks {p = p} {q = q} {r = r} n after new pushed broken = record {
-    made = broken.made;
-    rose = rose_since pushed.faults broken.rose;
-    breaks = λ x f row.
-        subst (λ i. StopsEarly s (image_blocks (whole s) x) i (total_blocks t.width rows) p r) same_index
-        (breaks_then s (image_blocks (whole s) x) mid.at.index after.at.index (total_blocks t.width rows) (pushed.goes x (follows x f) (last_is x row))
-        (broken.breaks x (pushed.follows x (follows x f) (last_is x row))));
   }

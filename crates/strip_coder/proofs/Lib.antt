@@ -4,17 +4,17 @@ pub mod SegmentTexts
 pub mod SegmentCounts
 pub mod SegmentSteps
 mod PacketStretches
-mod WorkStarts
+pub mod WorkStarts
 mod BlockPuts
 pub mod GatherSteps
 pub mod RowGathers
 pub mod RowPushes
 pub mod PaddedRows
 pub mod RowTakes
-mod TailPushes
+pub mod TailPushes
 pub mod RowFinishes
 mod DoneCounts
-mod ImageEnds
+pub mod ImageEnds
 pub mod SettledCounts
 mod OtherHeights
 pub mod RowsGiven

@@ -16,8 +16,7 @@ use Rattle.stream_defs.specs.Output.{image_blocks, packets_before, packets_of, s
 use Rattle.stream_defs.specs.Settled.{settled}
 use Rattle.stream_defs.proofs.HeightLaws.{block_same, before_same, packets_same}
 use Rattle.strip_coder.specs.declared.work.Work.{Work}
-use Rattle.strip_coder.specs.declared.plan.Plan.{Plan}
-use Rattle.strip_coder.specs.Plans.{plan_of, tallest, whole}
+use Rattle.strip_coder.specs.Plans.{Job, plan_of, tallest, whole}
 use Rattle.strip_coder.specs.SegmentsOut.{progress_at}
 use Rattle.strip_coder.specs.Works.{IsRunning, HasTaken, HoldsBlocks, FollowsImage, FollowsRows, gathered_in}
 use Rattle.strip_coder.proofs.PlanLaws.{tall_height, tall_plan, open_last}
@@ -26,10 +25,10 @@ use Rattle.strip_coder.proofs.SettledCounts.{place}
 
 module _ (s : Setting) (range : IsInRange s) (left_open : s.rows ≡ 0) (rows : ℕ) (height : IsHeight s rows) (less : rows < tallest s) (w : Work)
     (taken : HasTaken (plan_of s (tallest s)) rows w) where
-  abbrev tall : Plan
+  abbrev tall : Job
   tall = plan_of s (tallest s)
 
-  abbrev here : Plan
+  abbrev here : Job
   here = plan_of s rows
 
   no_total : s.total ≡ 0
@@ -71,8 +70,7 @@ module _ (s : Setting) (range : IsInRange s) (left_open : s.rows ≡ 0) (rows : 
       present = λ lt. (let p = part in let f = few in omega (arith, p, f));
       none = λ e. absurd (let lt = index_below in omega (arith, lt, e));
       held = has.held;
-      idle = has.idle;
-      texts = has.texts;
+      ready = has.ready;
     };
     count = gathered_here;
     answered = taken.running.answered;
@@ -123,7 +121,7 @@ module _ (s : Setting) (range : IsInRange s) (left_open : s.rows ≡ 0) (rows : 
           holds.blocks i lt
           ∙ block_same s range left_open rows (tallest s) rows (tall_height s range) height le (omega arith) x x itself (w.at.index * s.segment + i)
           (near i lt);
-      packets = holds.packets ∙ packets_here;
+      given = holds.given ∙ packets_here;
       used = λ some. absurd (some no_total);
     }
 

@@ -18,8 +18,7 @@ use Rattle.stream_defs.specs.Settled.{last_block_row, is_settled, settled}
 use Rattle.stream_defs.specs.SettledImages.{leading_packets, settled_in}
 use Rattle.stream_defs.proofs.SettledLaws.{count_many, count_most}
 use Rattle.stream_defs.proofs.HeightLaws.{packets_same, settled_alike}
-use Rattle.strip_coder.specs.declared.plan.Plan.{Plan}
-use Rattle.strip_coder.specs.Plans.{plan_of, tallest}
+use Rattle.strip_coder.specs.Plans.{Job, plan_of, tallest}
 use Rattle.strip_coder.specs.declared.encode.EncodeFault.TheVariants.{WriteFault}
 use Rattle.std.proofs.lemmas.Bool.Decides.{nat_tests}
 use Rattle.strip_coder.specs.Rasters.{image_of, given_for}
@@ -61,7 +60,7 @@ take_prefix some xs rest =
 -- ---- images of one height
 
 module _ (s : Setting) (rows : ℕ) where
-  abbrev here : Plan
+  abbrev here : Job
   here = plan_of s rows
 
   -- the packets of the first segments are a prefix of all
@@ -93,7 +92,7 @@ module _ (s : Setting) (rows : ℕ) where
 
 -- the segments up to one whose blocks the first k rows determine are settled by these
 module _ (s : Setting) (range : IsInRange s) (k index : ℕ) where
-  abbrev tall : Plan
+  abbrev tall : Job
   tall = plan_of s (tallest s)
 
   abbrev all_blocks : ℕ

@@ -3,9 +3,8 @@ use Rattle.std.proofs.Common.{◌≡◌, ℕ, ◌+◌, ◌*◌, ◌/◌, ◌<◌
 use Rattle.std.proofs.Common.{MatchOption, is_some, IsErr, mul-le-mul_left}
 use Rattle.std.proofs.lemmas.Bool.Decides.{nat_tests}
 use Rattle.port_122.specs.Outside.{Outside}
-use Rattle.strip_coder.specs.Plans.{IsPlan, whole}
+use Rattle.strip_coder.specs.Plans.{Job, IsPlan, whole}
 use Rattle.base_122.specs.Sizes.{block_count, total_blocks}
-use Rattle.strip_coder.specs.declared.plan.Plan.{Plan}
 use Rattle.wave_defs.specs.Pyramid.{padded}
 use Rattle.block_families.specs.Places.{gathered}
 use Rattle.wave_strip.specs.declared.strip.StripWave.{StripWave}
@@ -45,11 +44,11 @@ row_finished (Some r) old new e columns rows answer current follows shows = reco
 row_finished None old new e columns rows answer current follows shows = absurd cc
 
 -- there is room for it
-pub has_room : (s : Plan) (old : Work) (strip : StripWave) → IsEnding s old → StripFinished old.strip strip →
+pub has_room : (s : Job) (old : Work) (strip : StripWave) → IsEnding s old → StripFinished old.strip strip →
     gathered_in s old.at + block_count s.setting.width ≤ total_blocks s.setting.width s.rows
 has_room s old strip ending finished = grind (arith, nat_tests, mul-le-mul_left)
 
-module _ (s : Plan) (range : IsPlan s) (old mid : Work) (ending : IsEnding s old) (only : OnlyStrip old mid) (finished : StripFinished old.strip mid.strip)
+module _ (s : Job) (range : IsPlan s) (old mid : Work) (ending : IsEnding s old) (only : OnlyStrip old mid) (finished : StripFinished old.strip mid.strip)
   where
     all_rows : rows_of old.strip ≡ 8 * block_count s.rows
     all_rows = let rows = ending.rows in omega (arith, rows)

@@ -4,9 +4,8 @@ use Rattle.std.proofs.lemmas.List.{same_lists}
 use Rattle.std.proofs.lemmas.List.FromFn.{get_or-map-range_with_len, length-map-range_with_len}
 use Rattle.std.proofs.lemmas.Nat.{div-mul-add, mod-mul-add}
 use Rattle.std.proofs.lemmas.Bool.Decides.{nat_tests}
-use Rattle.strip_coder.specs.Plans.{IsPlan, whole}
+use Rattle.strip_coder.specs.Plans.{Job, IsPlan, whole}
 use Rattle.base_122.specs.Sizes.{block_count, total_blocks}
-use Rattle.strip_coder.specs.declared.plan.Plan.{Plan}
 use Rattle.wave_defs.specs.Pyramid.{Pyramid, padded, pyramid, band_of}
 use Rattle.wave_defs.specs.Blocks.{block, coefficient, block_side, weight_at}
 use Rattle.wave_defs.proofs.BlockLaws.{length-block, get_or-block}
@@ -47,7 +46,7 @@ shown_block image strip weights r row column shows answered inside =
 quotient : (c r j : ℕ) → j < c → ((c * r + j) / c ≡ r) × ((c * r + j) % c ≡ j)
 quotient c r j lt = grind (arith, nat_tests, div-mul-add, mod-mul-add)
 
-pub next_are : (s : Plan) (x : ℕ → ℕ → ℤ) (w : Work) (row : ℕ) → IsPlan s → columns_of w.strip ≡ block_count s.setting.width →
+pub next_are : (s : Job) (x : ℕ → ℕ → ℤ) (w : Work) (row : ℕ) → IsPlan s → columns_of w.strip ≡ block_count s.setting.width →
     answered_of w.strip ≡ row + 1 → row < block_count s.rows →
     gathered_in s w.at ≡ block_count s.setting.width * row → ShowsBlockRow (padded x s.rows s.setting.width) (block_count s.rows) w.strip →
     NextAre s w (block_count s.setting.width) (gathered (number_in w.strip) s.setting.weights.shifts) (image_blocks (whole s) x)

@@ -4,22 +4,20 @@ use Rattle.std.proofs.Common.{Err, true, false, MatchOption, is_some, append-nil
 use Rattle.port_122.specs.Outside.{Outside, NoRead}
 use Rattle.port_122.proofs.Stretches.{since_start}
 use Rattle.segment_code.specs.declared.encode.SegmentWriter.{SegmentWriter}
-use Rattle.strip_coder.specs.Plans.{IsPlan, plan_of, whole}
+use Rattle.strip_coder.specs.Plans.{Job, IsPlan, plan_of, whole}
 use Rattle.base_122.specs.Ranges.{IsWithin, rows_range}
 use Rattle.base_122.specs.Sizes.{block_count, padded_size}
-use Rattle.strip_coder.specs.declared.plan.Plan.{Plan}
 use Rattle.base_122.proofs.SizeBounds.{three-le-block_count}
-use Rattle.packet_defs.specs.Packets.{joined}
 use Rattle.wave_defs.specs.Held.{Agrees, signal}
 use Rattle.wave_defs.specs.Pyramid.{padded}
 use Rattle.block_families.specs.Places.{gathered}
 use Rattle.wave_strip.specs.declared.strip.StripWave.{StripWave}
 use Rattle.wave_strip.specs.Strip.{rows_of, answered_of, columns_of, has_ended, is_current, number_in, Follows, ShowsBlockRow}
 use Rattle.wave_strip.specs.Counts.{settled}
-use Rattle.stream_defs.specs.Output.{image_blocks, packets_of, reports_last}
+use Rattle.stream_defs.specs.Output.{image_blocks}
 use Rattle.strip_coder.specs.declared.work.Work.{Work}
 use Rattle.strip_coder.specs.Works.{IsMadeFor, HasGathered, IsRunning, HoldsBlocks, StripFollows, gathered_in}
-use Rattle.strip_coder.specs.Steps.{NextAre, NextRowIs, HasGone, HasBroken, Gathers, Continues, StopsEarly, HasPushed, HasNotPushed, Pushes}
+use Rattle.strip_coder.specs.Steps.{octets_at, NextAre, NextRowIs, HasGone, HasBroken, Gathers, Continues, StopsEarly, HasPushed, HasNotPushed, Pushes}
 use Rattle.strip_coder.proofs.RowGathers.{next_are}
 use Rattle.strip_coder.proofs.PacketStretches.{breaks_more}
 
@@ -42,10 +40,10 @@ pub record OnlyStrip (old mid : Work) : Type 0 where
   pub room : mid.room ≡ old.room
   pub at : mid.at ≡ old.at
 
-pub only_holds : (s : Plan) (old mid : Work) → OnlyStrip old mid → (all : List (List ℤ)) → HoldsBlocks s all old → HoldsBlocks s all mid
+pub only_holds : (s : Job) (old mid : Work) → OnlyStrip old mid → (all : List (List ℤ)) → HoldsBlocks s all old → HoldsBlocks s all mid
 only_holds s old mid only all holds = record {
   blocks = rw (only.at, only.blocks) holds.blocks;
-  packets = rw (only.at, only.packets) holds.packets;
+  given = rw (only.at, only.packets) holds.given;
   used = rw only.at holds.used;
 }
 
@@ -66,7 +64,7 @@ pub none_came : (o : Option ℕ) (rows : ℕ) → is_some o ≡ false → MatchO
 none_came (Some r) rows e h = absurd cc
 none_came None rows e h = h
 
-module _ (s : Plan) (range : IsPlan s) (old mid : Work) (running : IsRunning s old) (few : rows_of old.strip < padded_size s.rows)
+module _ (s : Job) (range : IsPlan s) (old mid : Work) (running : IsRunning s old) (few : rows_of old.strip < padded_size s.rows)
     (only : OnlyStrip old mid) (pushed : StripPushed old.strip mid.strip old.row.items) where
   tall : 3 ≤ block_count s.rows
   tall = three-le-block_count s.rows range.height.0.0
@@ -89,16 +87,11 @@ module _ (s : Plan) (range : IsPlan s) (old mid : Work) (running : IsRunning s o
     present = rw only.at has.present;
     none = rw only.at has.none;
     held = rw (only.at, only.blocks) has.held;
-    idle = ap (λ v. v.stage) only.packets ∙ has.idle;
-    texts = ap (λ v. v.texts) only.packets ∙ has.texts ∙ sym (ap (λ a. a.index) only.at);
+    ready = rw (only.at, only.packets) has.ready;
   }
 
   mid_holds : (all : List (List ℤ)) → HoldsBlocks s all old → HoldsBlocks s all mid
-  mid_holds all holds = record {
-    blocks = rw (only.at, only.blocks) holds.blocks;
-    packets = rw (only.at, only.packets) holds.packets;
-    used = rw only.at holds.used;
-  }
+  mid_holds all holds = only_holds s old mid only all holds
 
   -- the strip follows images of any height
   mid_strip : (x : ℕ → ℕ → ℤ) (rows : ℕ) → IsWithin rows_range rows → rows_of old.strip < padded_size rows → StripFollows (plan_of s.setting rows) x old →
@@ -133,8 +126,7 @@ module _ (s : Plan) (range : IsPlan s) (old mid : Work) (running : IsRunning s o
         goes = λ x follows next. record {
           gave = [];
           out = since_start p NoRead;
-          then_are = append-nil (joined (packets_of (reports_last s.setting) (whole s) (image_blocks (whole s) x) old.at.index))
-              ∙ ap (λ n. joined (packets_of (reports_last s.setting) (whole s) (image_blocks (whole s) x) n)) (sym same_index);
+          then_are = append-nil (octets_at s (image_blocks (whole s) x) old.at.index) ∙ ap (octets_at s (image_blocks (whole s) x)) (sym same_index);
         };
       }
 

@@ -2,12 +2,11 @@
 use Rattle.std.proofs.Common.{◌≡◌, ℕ, ◌+◌, ◌-◌, ◌*◌, ◌^◌, ◌<◌, ◌≤◌, ℤ, List, length, sym, ap, ◌∙◌, subst, arith, vec_len, min}
 use Rattle.port_122.specs.Outside.{Outside}
 use Rattle.segment_code.specs.declared.encode.SegmentWriter.{SegmentWriter}
-use Rattle.strip_coder.specs.Plans.{IsPlan, plan_of, tallest, whole}
+use Rattle.strip_coder.specs.Plans.{Job, IsPlan, plan_of, tallest, whole}
 use Rattle.base_122.specs.Ranges.{IsInRange}
 use Rattle.base_122.specs.Setting.{IsHeight}
 use Rattle.base_122.specs.declared.setting.Setting.{Setting}
 use Rattle.base_122.specs.Sizes.{block_count, padded_size}
-use Rattle.strip_coder.specs.declared.plan.Plan.{Plan}
 use Rattle.wave_defs.specs.Held.{Agrees, signal}
 use Rattle.wave_defs.specs.Within.{IsWithin, AllWithin}
 use Rattle.wave_defs.specs.Pyramid.{padded}
@@ -25,7 +24,7 @@ use Rattle.strip_coder.proofs.SettledCounts.{index_settled}
 
 -- ---- the padded row
 
-module _ (s : Plan) (range : IsPlan s) (row after : List ℤ) (pad : IsPadded s.setting.width row after) (long : length after ≡ padded_size s.setting.width) where
+module _ (s : Job) (range : IsPlan s) (row after : List ℤ) (pad : IsPadded s.setting.width row after) (long : length after ≡ padded_size s.setting.width) where
   padded_at : (j : ℕ) → j < padded_size s.setting.width → signal after j ≡ signal row (min j (s.setting.width - 1))
   padded_at j lt = pad.each j (omega (arith, lt, long))
 
@@ -78,15 +77,15 @@ pub record OnlyCount (mid new : Work) : Type 0 where
   pub index : new.at.index ≡ mid.at.index
   pub used : new.at.used ≡ mid.at.used
 
-row_holds : (s : Plan) (all : List (List ℤ)) (old mid : Work) → OnlyRow old mid → HoldsBlocks s all old → HoldsBlocks s all mid
+row_holds : (s : Job) (all : List (List ℤ)) (old mid : Work) → OnlyRow old mid → HoldsBlocks s all old → HoldsBlocks s all mid
 row_holds s all old mid only holds = record {
   blocks = rw (only.at, only.blocks) holds.blocks;
-  packets = rw (only.at, only.packets) holds.packets;
+  given = rw (only.at, only.packets) holds.given;
   used =
       rw only.at holds.used;
 }
 
-pub row_follows : (s : Plan) (x : ℕ → ℕ → ℤ) (old mid : Work) → OnlyRow old mid → FollowsImage s x old → FollowsImage s x mid
+pub row_follows : (s : Job) (x : ℕ → ℕ → ℤ) (old mid : Work) → OnlyRow old mid → FollowsImage s x old → FollowsImage s x mid
 row_follows s x old mid only f = record {
   strip = subst (λ t. Follows (padded x s.rows s.setting.width) (block_count s.rows) t) (sym only.strip) f.strip;
   holds = row_holds s (image_blocks (whole s) x) old mid only f.holds;
@@ -99,18 +98,18 @@ row_follows_any s x old mid only f = record {
       (f.any rows height (subst (λ t. rows_of t ≤ rows) only.strip le));
 }
 
-count_follows : (s : Plan) (x : ℕ → ℕ → ℤ) (mid new : Work) → OnlyCount mid new → FollowsImage s x mid → FollowsImage s x new
+count_follows : (s : Job) (x : ℕ → ℕ → ℤ) (mid new : Work) → OnlyCount mid new → FollowsImage s x mid → FollowsImage s x new
 count_follows s x mid new only f = record {
   strip = subst (λ t. Follows (padded x s.rows s.setting.width) (block_count s.rows) t) (sym only.strip) f.strip;
   holds = record {
     blocks = rw (only.filled, only.index, only.blocks) f.holds.blocks;
-    packets = rw (only.index, only.packets) f.holds.packets;
+    given = rw (only.index, only.used, only.packets) f.holds.given;
     used =
         rw (only.used, only.index) f.holds.used;
   };
 }
 
-count_running : (s : Plan) (mid new : Work) → OnlyCount mid new → IsRunning s mid → IsRunning s new
+count_running : (s : Job) (mid new : Work) → OnlyCount mid new → IsRunning s mid → IsRunning s new
 count_running s mid new only run =
     let has = run.gathered in
     let made = has.made in
@@ -131,15 +130,14 @@ count_running s mid new only run =
         present = rw (index, filled) has.present;
         none = rw (index, filled) has.none;
         held = rw (only.filled, only.blocks) has.held;
-        idle = ap (λ v. v.stage) only.packets ∙ has.idle;
-        texts = ap (λ v. v.texts) only.packets ∙ has.texts ∙ sym index;
+        ready = rw (only.index, only.used, only.packets) has.ready;
       };
       count = rw (index, filled, only.strip) run.count;
       answered = rw only.strip run.answered;
       running = ap has_ended only.strip ∙ run.running;
     }
 
-pub row_running : (s : Plan) (old mid : Work) → OnlyRow old mid → IsRunning s old → IsRunning s mid
+pub row_running : (s : Job) (old mid : Work) → OnlyRow old mid → IsRunning s old → IsRunning s mid
 row_running s old mid only run =
     let has = run.gathered in
     let made = has.made in
@@ -158,8 +156,7 @@ row_running s old mid only run =
         present = rw only.at has.present;
         none = rw only.at has.none;
         held = rw (only.at, only.blocks) has.held;
-        idle = ap (λ v. v.stage) only.packets ∙ has.idle;
-        texts = rw (only.at, only.packets) has.texts;
+        ready = rw (only.at, only.packets) has.ready;
       };
       count = rw (only.at, only.strip) run.count;
       answered = rw only.strip run.answered;

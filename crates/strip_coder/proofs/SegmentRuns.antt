@@ -1,7 +1,6 @@
 -- The packets of an image, segment after segment.
 use Rattle.std.proofs.Common.{◌≡◌, ℕ, zero, suc, ◌+◌, ℤ, List, [], ◌++◌, sym, ap, ◌∙◌, arith, append_assoc, append-nil}
-use Rattle.strip_coder.specs.declared.plan.Plan.{Plan}
-use Rattle.strip_coder.specs.Plans.{whole}
+use Rattle.strip_coder.specs.Plans.{Job, whole}
 use Rattle.packet_defs.specs.Packets.{joined}
 use Rattle.stream_defs.specs.Output.{packets_of, segment_packets, reports_last}
 use Rattle.packet_defs.proofs.Joins.{joined-append}
@@ -16,13 +15,13 @@ pub same_progress : (packet texts texts' packets packets' octets octets' : ℕ) 
 same_progress packet texts texts' packets packets' octets octets' e f g = cc
 
 -- the octets of one segment more
-pub octets-more : (s : Plan) (all : List (List ℤ)) (n : ℕ) → joined (packets_of (reports_last s.setting) (whole s) all (n + 1))
+pub octets-more : (s : Job) (all : List (List ℤ)) (n : ℕ) → joined (packets_of (reports_last s.setting) (whole s) all (n + 1))
     ≡ joined (packets_of (reports_last s.setting) (whole s) all n) ++ joined (segment_packets (reports_last s.setting) (whole s) all n)
 octets-more s all n = ap joined (packets_of-more (reports_last s.setting) (whole s) all n) ∙ joined-append (packets_of (reports_last s.setting) (whole s) all n)
     (segment_packets (reports_last s.setting) (whole s) all n)
 
 -- the octets of the first segments are a prefix of those of more
-pub prefix_of : (s : Plan) (all : List (List ℤ)) (n more : ℕ) →
+pub prefix_of : (s : Job) (all : List (List ℤ)) (n more : ℕ) →
     (rest : List ℕ) × (joined (packets_of (reports_last s.setting) (whole s) all (n + more)) ≡ joined
     (packets_of (reports_last s.setting) (whole s) all n) ++ rest)
 prefix_of s all n zero = (

@@ -5,18 +5,18 @@ use Rattle.std.proofs.lemmas.Bool.Decides.{nat_tests}
 use Rattle.std.proofs.lemmas.List.{same_lists, get_or_default, get_or-take, get_or-drop}
 use Rattle.std.proofs.lemmas.List.FromFn.{get_or-map-range_with_len}
 use Rattle.std.proofs.Math.Seq.{take-append-add}
-use Rattle.port_122.specs.Outside.{Outside}
+use Rattle.port_122.specs.Outside.{Outside, Exchange, NoRead, Rose}
 use Rattle.segment_code.specs.declared.encode.SegmentWriter.{SegmentWriter}
-use Rattle.strip_coder.specs.Plans.{IsPlan, whole}
-use Rattle.base_122.specs.Sizes.{segment_blocks, total_blocks}
 use Rattle.strip_coder.specs.declared.plan.Plan.{Plan}
+use Rattle.strip_coder.specs.Plans.{Job, IsPlan, packed, whole}
+use Rattle.base_122.specs.Sizes.{segment_blocks, total_blocks}
 use Rattle.base_122.specs.Ranges.{IsInRange}
 use Rattle.base_122.specs.declared.setting.Setting.{Setting}
 use Rattle.base_122.proofs.GeometryRanges.{in_range-sized}
 use Rattle.base_122.proofs.SizeBounds.{first_block-lt, one-le-segment_blocks}
 use Rattle.packet_defs.specs.Packets.{joined}
 use Rattle.wave_defs.specs.Held.{block_at, blocks_in}
-use Rattle.stream_defs.specs.Output.{packets_of, segment_packets, segment_text, segments_of, share, reports_last, used_before}
+use Rattle.stream_defs.specs.Output.{segment_packets, segment_text, segments_of, share, reports_last, used_before}
 use Rattle.stream_defs.proofs.Outputs.{packets_before-more, used_before-more}
 use Rattle.stream_defs.proofs.ShareLaws.{left_next, segment_within, share_none}
 use Rattle.space_packets.specs.Progress.{Progress}
@@ -26,7 +26,7 @@ use Rattle.strip_coder.specs.declared.work.Work.{Work}
 use Rattle.strip_coder.specs.SegmentsOut.{text_of, text_for, progress_at}
 use Rattle.strip_coder.specs.declared.work.ImageAt.{ImageAt}
 use Rattle.strip_coder.specs.Works.{IsMadeFor, KeepsShare, HasGathered, IsFull, HoldsBlocks, most_blocks}
-use Rattle.strip_coder.specs.Steps.{PresentOut, PresentCut}
+use Rattle.strip_coder.specs.Steps.{octets_at, PresentOut, PresentCut}
 use Rattle.strip_coder.proofs.SegmentRuns.{same_progress, octets-more}
 use Rattle.strip_coder.proofs.SegmentTexts.{length-blocks_in}
 use Rattle.wave_defs.proofs.Equations.{blocks_in-is}
@@ -43,15 +43,9 @@ segment_is cells all n first S total whole e long each =
 
 -- ---- its packets
 
-progress_more : {a b : Outside} (s : Plan) (all : List (List ℤ)) (n : ℕ) (w : Progress) →
+progress_more : {a b : Outside} (s : Job) (all : List (List ℤ)) (n : ℕ) (w : Progress) →
     TextOut (text_of s n) a b (progress_at s all n) w (segment_text (whole s) all n) → w ≡ progress_at s all (n + 1)
 progress_more s all n w at = grind (arith, nat_tests, same_progress, packets_before-more, octets-more, length-append)
-
--- a prefix of the packets of one segment, after those of the segments before it, is a prefix of all up to it
-prefix_is : (s : Plan) (all : List (List ℤ)) (n some : ℕ) →
-    joined (packets_of (reports_last s.setting) (whole s) all n) ++ take some (joined (segment_packets (reports_last s.setting) (whole s) all n))
-    ≡ take (length (joined (packets_of (reports_last s.setting) (whole s) all n)) + some) (joined (packets_of (reports_last s.setting) (whole s) all (n + 1)))
-prefix_is s all n some = grind (arith, nat_tests, octets-more, take-append-add)
 
 -- ---- shares
 
@@ -69,11 +63,11 @@ counted a n m c total most is le = omega arith
 -- ---- the present segment of a work
 
 -- a segment has at most the blocks that there is room for
-most_filled : (s : Plan) (index : ℕ) → IsPlan s → segment_blocks (total_blocks s.setting.width s.rows) s.setting.segment index ≤ most_blocks s.setting
+most_filled : (s : Job) (index : ℕ) → IsPlan s → segment_blocks (total_blocks s.setting.width s.rows) s.setting.segment index ≤ most_blocks s.setting
 most_filled s index range = grind (arith, nat_tests)
 
 -- so there is room for what the present segment can still take
-pub room_left : (s : Plan) (w : Work) (n : ℕ) → IsPlan s → HasGathered s w →
+pub room_left : (s : Job) (w : Work) (n : ℕ) → IsPlan s → HasGathered s w →
     w.at.filled + n ≤ segment_blocks (total_blocks s.setting.width s.rows) s.setting.segment w.at.index → length w.blocks.numbers + 64 * n ≤ 64 * w.blocks.most
 room_left s w n range has fit =
     let most = most_filled s w.at.index range in
@@ -81,7 +75,7 @@ room_left s w n range has fit =
     let held = has.held in
     omega (arith, most, room, fit, held)
 
-pub some_filled : (s : Plan) (old : Work) → IsPlan s → IsFull s old → 64 ≤ length old.blocks.numbers
+pub some_filled : (s : Job) (old : Work) → IsPlan s → IsFull s old → 64 ≤ length old.blocks.numbers
 some_filled s old range full =
     let segment = range.in_range.segment in
     let some = one-le-segment_blocks (total_blocks s.setting.width s.rows) s.setting.segment old.at.index (omega (arith, segment)) full.index in
@@ -89,14 +83,14 @@ some_filled s old range full =
     let held = full.held in
     omega (arith, some, filled, held)
 
-pub few_filled : (s : Plan) (old : Work) → IsPlan s → IsFull s old → length old.blocks.numbers ≤ 64 * 1048575
+pub few_filled : (s : Job) (old : Work) → IsPlan s → IsFull s old → length old.blocks.numbers ≤ 64 * 1048575
 few_filled s old range full =
     let f = full.full in
     let segment = range.in_range.segment in
     let held = full.held in
     omega (arith, f, segment, held)
 
-pub text_is : (s : Plan) (old : Work) → IsPlan s → IsFull s old → (all : List (List ℤ)) → length all ≡ total_blocks s.setting.width s.rows →
+pub text_is : (s : Job) (old : Work) → IsPlan s → IsFull s old → (all : List (List ℤ)) → length all ≡ total_blocks s.setting.width s.rows →
     HoldsBlocks s all old →
     text_for s old.at.index old.at.used (blocks_in old.blocks.numbers) ≡ segment_text (whole s) all old.at.index
 text_is s old range full all long holds = grind (arith, nat_tests, segment_is, share_same)
@@ -123,10 +117,101 @@ still_made s old new made same packet = record {
 abbrev present_blocks : Work → List (List ℤ)
 present_blocks w = blocks_in w.blocks.numbers
 
-abbrev present_text : Plan → Work → List ℕ
+abbrev present_text : Job → Work → List ℕ
 present_text s w = text_for s w.at.index w.at.used (present_blocks w)
 
-module _ (s : Plan) (old new : Work) (range : IsPlan s) (full : IsFull s old) (same : Rewritten old new) where
+-- ---- a segment that was given, or a part of it
+
+-- the segment after the first ones of these blocks
+pub record GivesMore (s : Job) (all : List (List ℤ)) (p q : Outside) (old new : Work) : Type 0 where
+  pub given : s.form.holds s.setting s.rows all new.packets new.at.index new.at.used
+  pub used : s.setting.total ≢ 0 → new.at.used ≡ used_before (whole s) all new.at.index
+  pub gave : List ℕ
+  pub out : Exchange p q [] gave [] NoRead
+  pub more : octets_at s all (old.at.index + 1) ≡ octets_at s all old.at.index ++ gave
+
+-- a prefix of it
+pub record CutsMore (s : Job) (all : List (List ℤ)) (p q : Outside) (old : Work) : Type 0 where
+  pub some : ℕ
+  pub octets : List ℕ
+  pub out : Exchange p q [] (take some octets) [] NoRead
+  pub more : octets_at s all (old.at.index + 1) ≡ octets_at s all old.at.index ++ octets
+
+-- the work after it
+pub record IsNextOf (s : Job) (old new : Work) : Type 0 where
+  pub same : Rewritten old new
+  pub packet : new.packets.packet ≡ old.packets.packet
+  pub cleared : new.blocks.numbers ≡ []
+  pub rows : new.at.rows ≡ old.at.rows
+  pub filled : new.at.filled ≡ 0
+  pub index : new.at.index ≡ old.at.index + 1
+  pub share : KeepsShare (whole s) new.at
+  pub ready : s.form.ready s.setting new.packets new.at.index new.at.used
+
+module _ (s : Job) (old new : Work) (range : IsPlan s) (full : IsFull s old) where
+  pub present_out : {p q : Outside} → IsNextOf s old new → p.write_faults ≤ q.write_faults →
+      ((all : List (List ℤ)) → length all ≡ total_blocks s.setting.width s.rows → HoldsBlocks s all old → GivesMore s all p q old new) →
+      PresentOut s p q old new
+  present_out here faults gives =
+      let segment = range.in_range.segment in
+      let next = full.index in
+      let index = here.index in
+      let filled = here.filled in
+      record {
+        stays = record { strip = here.same.strip; row = here.same.row; rows = here.rows };
+        gathered = record {
+          made = still_made s.setting old new full.made here.same here.packet;
+          share = here.share;
+          index = omega (arith, index, next);
+          present = λ lt.
+              let some = one-le-segment_blocks (total_blocks s.setting.width s.rows) s.setting.segment new.at.index (omega (arith, segment)) lt in
+              omega (arith, some, filled);
+          none = λ e. filled;
+          held = (let none : length new.blocks.numbers ≡ 0 = ap length here.cleared in omega (arith, none, filled));
+          ready = here.ready;
+        };
+        index = index;
+        filled = filled;
+        faults = faults;
+        holds = λ all long holds. let gave = gives all long holds in record {
+          blocks = λ i lt. absurd (omega (arith, lt, filled));
+          given = gave.given;
+          used = gave.used;
+        };
+        goes = λ all long holds. let gave = gives all long holds in record {
+          gave = gave.gave;
+          out = gave.out;
+          then_are = sym gave.more ∙ ap (octets_at s all) (sym index);
+        };
+      }
+
+  pub present_cut : {p q : Outside} → IsMadeFor s.setting new → Rose p.write_faults q.write_faults →
+      ((all : List (List ℤ)) → length all ≡ total_blocks s.setting.width s.rows → HoldsBlocks s all old → CutsMore s all p q old) → PresentCut s p q old new
+  present_cut made rose cuts = record {
+    made = made;
+    rose = rose;
+    breaks = λ all long holds. let cut = cuts all long holds in record {
+      gave = take cut.some cut.octets;
+      out = cut.out;
+      index = old.at.index;
+      inside = full.index;
+      there =
+          let segment = range.in_range.segment in
+          let before = first_block-lt (total_blocks s.setting.width s.rows) s.setting.segment old.at.index (omega (arith, segment)) full.index in
+          let filled = full.full in
+          omega (arith, before, filled);
+      some = length (octets_at s all old.at.index) + cut.some;
+      prefix = sym (ap (take (length (octets_at s all old.at.index) + cut.some)) cut.more
+          ∙ take-append-add (octets_at s all old.at.index) cut.octets cut.some);
+    };
+  }
+
+-- ---- its packets
+
+module _ (plan : Plan) (old new : Work) (range : IsPlan (packed plan)) (full : IsFull (packed plan) old) (same : Rewritten old new) where
+  abbrev s : Job
+  s = packed plan
+
   sized_range : IsInRange (whole s)
   sized_range = in_range-sized s.setting s.rows range.in_range range.height
 
@@ -145,74 +230,52 @@ module _ (s : Plan) (old new : Work) (range : IsPlan s) (full : IsFull s old) (s
       TextOut (text_of s old.at.index) a b old.packets w (present_text s old) → TextOut (text_of s old.at.index) a b (progress_at s all old.at.index) w
       (segment_text (whole s) all old.at.index)
   sent_of {a = a} {b = b} w all long holds sent =
-      subst (λ v. TextOut (text_of s old.at.index) a b v w (segment_text (whole s) all old.at.index)) holds.packets
+      subst (λ v. TextOut (text_of s old.at.index) a b v w (segment_text (whole s) all old.at.index)) holds.given
       (subst (λ t. TextOut (text_of s old.at.index) a b old.packets w t) (text_is s old range full all long holds) sent)
 
-  pub present_out : {a b : Outside} (octets : ℕ) → new.blocks.numbers ≡ [] → new.at.rows ≡ old.at.rows → new.at.filled ≡ 0 → new.at.index ≡ old.at.index + 1 →
+  pub packets_out : {a b : Outside} (octets : ℕ) → new.blocks.numbers ≡ [] → new.at.rows ≡ old.at.rows → new.at.filled ≡ 0 → new.at.index ≡ old.at.index + 1 →
       new.at.used ≡ min (old.at.used + octets) (2 ^ 64 - 1) → TextOut (text_of s old.at.index) a b old.packets new.packets (present_text s old)
       × (octets ≡ length (present_text s old)) →
       PresentOut s a b old new
-  present_out {a = a} {b = b} octets cleared rows filled index counts written =
+  packets_out {a = a} {b = b} octets cleared rows filled index counts written =
       let sent = written.0 in
-      let segment = range.in_range.segment in
-      let next = full.index in
-      record {
-        stays = record { strip = same.strip; row = same.row; rows = rows };
-        gathered = record {
-          made = still_made s.setting old new full.made same (ap (λ (v : Progress). v.packet) sent.valid);
-          share = record {
-            left = λ some. let used = used_now octets written.1 counts some in let left = left_now some in
-                subst (λ n. new.at.used + 36 * (segments_of (whole s) - n) ≤ s.setting.total) (sym index)
-                (subst (λ n. n + 36 * (segments_of (whole s) - (old.at.index + 1)) ≤ s.setting.total) (sym used) left);
-          };
-          index = omega (arith, index, next);
-          present = λ lt.
-              let some = one-le-segment_blocks (total_blocks s.setting.width s.rows) s.setting.segment new.at.index (omega (arith, segment)) lt in
-              omega (arith, some, filled);
-          none = λ e. filled;
-          held = (let none : length new.blocks.numbers ≡ 0 = ap length cleared in omega (arith, none, filled));
-          idle = ap (λ (v : Progress). v.stage) sent.valid;
-          texts = ap (λ (v : Progress). v.texts) sent.valid ∙ ap (λ n. n + 1) full.texts ∙ sym index;
-        };
-        index = index;
+      present_out s old new range full (record {
+        same = same;
+        packet = ap (λ (v : Progress). v.packet) sent.valid;
+        cleared = cleared;
+        rows = rows;
         filled = filled;
-        faults = sent.out.faults.writes;
-        holds = λ all long holds. record {
-          blocks = λ i lt. absurd (omega (arith, lt, filled));
-          packets = progress_more s all old.at.index new.packets (sent_of new.packets all long holds sent) ∙ ap (progress_at s all) (sym index);
-          used = λ some.
-              used_now octets written.1 counts some
-              ∙ ap (λ n. n + length (present_text s old)) (holds.used some)
-              ∙ ap (λ t. used_before (whole s) all old.at.index + length t) (text_is s old range full all long holds)
-              ∙ sym (used_before-more (whole s) all old.at.index)
-              ∙ ap (used_before (whole s) all) (sym index);
+        index = index;
+        share = record {
+          left = λ some. let used = used_now octets written.1 counts some in let left = left_now some in
+              subst (λ n. new.at.used + 36 * (segments_of (whole s) - n) ≤ s.setting.total) (sym index)
+              (subst (λ n. n + 36 * (segments_of (whole s) - (old.at.index + 1)) ≤ s.setting.total) (sym used) left);
         };
-        goes = λ all long holds. record {
-          gave = joined (segment_packets (reports_last s.setting) (whole s) all old.at.index);
-          out = (sent_of new.packets all long holds sent).out;
-          then_are = sym (octets-more s all old.at.index) ∙ ap (λ n. joined (packets_of (reports_last s.setting) (whole s) all n)) (sym index);
-        };
-      }
+        ready = (
+          ap (λ (v : Progress). v.stage) sent.valid,
+          ap (λ (v : Progress). v.texts) sent.valid ∙ ap (λ n. n + 1) full.ready.1 ∙ sym index,
+        );
+      }) sent.out.faults.writes (λ all long holds. record {
+        given = progress_more s all old.at.index new.packets (sent_of new.packets all long holds sent) ∙ ap (progress_at s all) (sym index);
+        used = λ some.
+            used_now octets written.1 counts some
+            ∙ ap (λ n. n + length (present_text s old)) (holds.used some)
+            ∙ ap (λ t. used_before (whole s) all old.at.index + length t) (text_is s old range full all long holds)
+            ∙ sym (used_before-more (whole s) all old.at.index)
+            ∙ ap (used_before (whole s) all) (sym index);
+        gave = joined (segment_packets (reports_last s.setting) (whole s) all old.at.index);
+        out = (sent_of new.packets all long holds sent).out;
+        more = octets-more s all old.at.index;
+      })
 
-  pub present_cut : {a b : Outside} → TextCut (text_of s old.at.index) a b old.packets new.packets (present_text s old) → PresentCut s a b old new
-  present_cut {a = a} {b = b} cut = record {
-    made = still_made s.setting old new full.made same cut.packet;
-    rose = cut.rose;
-    breaks = λ all long holds.
-        let at : TextCut (text_of s old.at.index) a b (progress_at s all old.at.index) new.packets (segment_text (whole s) all old.at.index) =
-        subst (λ v. TextCut (text_of s old.at.index) a b v new.packets (segment_text (whole s) all old.at.index)) holds.packets
-        (subst (λ t. TextCut (text_of s old.at.index) a b old.packets new.packets t) (text_is s old range full all long holds) cut) in
-        record {
-          gave = take at.some (joined (segment_packets (reports_last s.setting) (whole s) all old.at.index));
-          out = at.out;
-          index = old.at.index;
-          inside = full.index;
-          there =
-              let segment = range.in_range.segment in
-              let before = first_block-lt (total_blocks s.setting.width s.rows) s.setting.segment old.at.index (omega (arith, segment)) full.index in
-              let filled = full.full in
-              omega (arith, before, filled);
-          some = length (joined (packets_of (reports_last s.setting) (whole s) all old.at.index)) + at.some;
-          prefix = prefix_is s all old.at.index at.some;
-        };
-  }
+  pub packets_cut : {a b : Outside} → TextCut (text_of s old.at.index) a b old.packets new.packets (present_text s old) → PresentCut s a b old new
+  packets_cut {a = a} {b = b} cut = present_cut s old new range full (still_made s.setting old new full.made same cut.packet) cut.rose (λ all long holds.
+      let at : TextCut (text_of s old.at.index) a b (progress_at s all old.at.index) new.packets (segment_text (whole s) all old.at.index) =
+      subst (λ v. TextCut (text_of s old.at.index) a b v new.packets (segment_text (whole s) all old.at.index)) holds.given
+      (subst (λ t. TextCut (text_of s old.at.index) a b old.packets new.packets t) (text_is s old range full all long holds) cut) in
+      record {
+        some = at.some;
+        octets = joined (segment_packets (reports_last s.setting) (whole s) all old.at.index);
+        out = at.out;
+        more = octets-more s all old.at.index;
+      })

@@ -7,8 +7,7 @@ use Rattle.std.proofs.lemmas.List.FromFn.{length-map-range_with_len}
 use Rattle.base_122.specs.Sizes.{padded_size}
 use Rattle.base_122.proofs.GeometryRanges.{in_range-sized}
 use Rattle.base_122.specs.declared.book.Book.{Book}
-use Rattle.strip_coder.specs.Plans.{IsPlan, whole}
-use Rattle.strip_coder.specs.declared.plan.Plan.{Plan}
+use Rattle.strip_coder.specs.Plans.{Job, IsPlan, whole}
 use Rattle.item_defs.proofs.BitLists.{length-copies}
 use Rattle.item_defs.proofs.OctetBits.{length-octets_of}
 use Rattle.segment_defs.specs.declared.head.SegmentHead.{SegmentHead}
@@ -31,7 +30,7 @@ pub length-blocks_in : (cells : List ℤ) → length (blocks_in cells) ≡ lengt
 length-blocks_in cells = rw blocks_in-is (length-map-range_with_len (block_at cells) 0 (length cells / 64))
 
 -- a head of a setting in range can be written
-pub head_is : (s : Plan) (index limit count depth_dc depth_ac : ℕ) → IsPlan s → CanBeSaid (whole s) limit → 1 ≤ count → count ≤ 1048575 →
+pub head_is : (s : Job) (index limit count depth_dc depth_ac : ℕ) → IsPlan s → CanBeSaid (whole s) limit → 1 ≤ count → count ≤ 1048575 →
     1 ≤ depth_dc → depth_dc ≤ 28 → depth_ac ≤ 27 → IsHead (head_with (whole s) index limit count depth_dc depth_ac)
 head_is s index limit count depth_dc depth_ac range said some most least_dc most_dc most_ac = record {
   depth_dc = (least_dc, most_dc);
@@ -79,13 +78,13 @@ coded_some book h blocks word = rw (coded-is, text_octets-is)
     (grind (arith, nat_tests, head_some, length-append, mul-le-mul_right, length-copies, cut_some, length-octets_of, le-div_iff_mul-le))
 
 -- the head is the segment's own if its depths are those of the blocks
-pub text_same : (s : Plan) (index used count depth_dc depth_ac : ℕ) (segment : List (List ℤ)) → count ≡ length segment →
+pub text_same : (s : Job) (index used count depth_dc depth_ac : ℕ) (segment : List (List ℤ)) → count ≡ length segment →
     depth_dc ≡ depth_dc_of segment → depth_ac ≡ depth_ac_of segment →
     coded s.setting.book (head_with (whole s) index (share (whole s) index used) count depth_dc depth_ac) segment ≡ text_for s index used segment
 text_same s index used count depth_dc depth_ac segment e f g = rw (e, f, g) refl
 
 -- a head can have the share of what is left as its limit
-pub share_said : (s : Plan) (at : ImageAt) → IsPlan s → KeepsShare (whole s) at → at.index < segments_of (whole s) →
+pub share_said : (s : Job) (at : ImageAt) → IsPlan s → KeepsShare (whole s) at → at.index < segments_of (whole s) →
     CanBeSaid (whole s) (share (whole s) at.index at.used)
 share_said s at range keeps lt = elim (cases_lt 0 s.setting.total) [
   | inl some ↦

@@ -5,10 +5,9 @@ use Rattle.std.specs.List.{count_by, range_with_len}
 use Rattle.std.proofs.lemmas.Bool.Decides.{nat_tests}
 use Rattle.std.proofs.lemmas.List.Sums.{sum_by-cons}
 use Rattle.std.proofs.lemmas.Nat.{le-div}
-use Rattle.strip_coder.specs.Plans.{IsPlan, MoreMayArrive, whole}
+use Rattle.strip_coder.specs.Plans.{Job, IsPlan, MoreMayArrive, whole}
 use Rattle.strip_coder.proofs.PlanLaws.{open_last}
 use Rattle.base_122.specs.Sizes.{block_count, total_blocks, segment_blocks}
-use Rattle.strip_coder.specs.declared.plan.Plan.{Plan}
 use Rattle.base_122.proofs.SizeBounds.{three-le-block_count, one-le-segment_blocks}
 use Rattle.wave_strip.specs.Strip.{rows_of}
 use Rattle.wave_strip.specs.Counts.{settled as block_rows_in}
@@ -43,13 +42,13 @@ count_first p (suc n) a (suc m) le holds fails =
     one true e = (omega arith, omega arith)
     one false e = absurd cc
 
-pub settled_so : (s : Plan) (k i : ℕ) → 8 * last_block_row (whole s) i + 28 < k → is_settled (reports_last s.setting) (whole s) k i ≡ true
+pub settled_so : (s : Job) (k i : ℕ) → 8 * last_block_row (whole s) i + 28 < k → is_settled (reports_last s.setting) (whole s) k i ≡ true
 settled_so s k i near = grind (arith, nat_tests)
 
-unsettled_so : (s : Plan) (k i : ℕ) → MoreMayArrive s k → k ≤ 8 * last_block_row (whole s) i + 28 → is_settled (reports_last s.setting) (whole s) k i ≡ false
+unsettled_so : (s : Job) (k i : ℕ) → MoreMayArrive s k → k ≤ 8 * last_block_row (whole s) i + 28 → is_settled (reports_last s.setting) (whole s) k i ≡ false
 unsettled_so s k i more far = grind (arith, nat_tests, open_last)
 
-module _ (s : Plan) (range : IsPlan s) (k : ℕ) (w : Work) (running : IsRunning s w) (rows : rows_of w.strip ≡ k) (least : k ≤ s.rows) where
+module _ (s : Job) (range : IsPlan s) (k : ℕ) (w : Work) (running : IsRunning s w) (rows : rows_of w.strip ≡ k) (least : k ≤ s.rows) where
   some_columns : 0 < block_count s.setting.width
   some_columns = let three = three-le-block_count s.setting.width range.in_range.width.0 in omega (arith, three)
 

@@ -2,20 +2,18 @@
 use Rattle.std.proofs.Common.{◌*◌, ◌≡◌, ℕ, ◌+◌, ◌-◌, ℤ, [], refl, ap, ◌∙◌, arith, min, Result, Ok, Err, IsErr, append-nil}
 use Rattle.port_122.specs.Outside.{Outside, NoRead}
 use Rattle.port_122.proofs.Stretches.{since_start, rose_since}
-use Rattle.strip_coder.specs.declared.plan.Plan.{Plan}
-use Rattle.strip_coder.specs.Plans.{IsPlan, whole}
+use Rattle.strip_coder.specs.Plans.{Job, IsPlan, whole}
 use Rattle.base_122.specs.Sizes.{block_count, total_blocks}
 use Rattle.wave_strip.specs.Counts.{settled}
-use Rattle.packet_defs.specs.Packets.{joined}
 use Rattle.wave_defs.specs.Held.{signal}
 use Rattle.wave_strip.specs.Strip.{rows_of}
-use Rattle.stream_defs.specs.Output.{image_blocks, packets_of, reports_last}
+use Rattle.stream_defs.specs.Output.{image_blocks}
 use Rattle.strip_coder.specs.declared.work.Work.{Work}
 use Rattle.strip_coder.specs.Works.{IsRunning}
-use Rattle.strip_coder.specs.Steps.{HasPushed, HasNotPushed, NextRowIs, LastRowIs, HasPushedOn, PushesOn}
+use Rattle.strip_coder.specs.Steps.{octets_at, HasPushed, HasNotPushed, NextRowIs, LastRowIs, HasPushedOn, PushesOn}
 use Rattle.strip_coder.proofs.PacketStretches.{goes_then, breaks_then, breaks_whole}
 
-pub none_pushed : {p : Outside} (s : Plan) (w : Work) → IsRunning s w → HasPushedOn s 0 p p w w
+pub none_pushed : {p : Outside} (s : Job) (w : Work) → IsRunning s w → HasPushedOn s 0 p p w w
 none_pushed {p = p} s w running = record {
   running = running;
   strip_rows = omega arith;
@@ -25,13 +23,12 @@ none_pushed {p = p} s w running = record {
   goes = λ x f is. record {
     gave = [];
     out = since_start p NoRead;
-    then_are =
-        append-nil (joined (packets_of (reports_last s.setting) (whole s) (image_blocks (whole s) x) w.at.index));
+    then_are = append-nil (octets_at s (image_blocks (whole s) x) w.at.index);
   };
 }
 
 -- below the last row the padded image repeats it
-next_is : {p q : Outside} (s : Plan) (n : ℕ) (old mid : Work) (x : ℕ → ℕ → ℤ) → rows_of old.strip ≡ s.rows → HasPushedOn s n p q old mid →
+next_is : {p q : Outside} (s : Job) (n : ℕ) (old mid : Work) (x : ℕ → ℕ → ℤ) → rows_of old.strip ≡ s.rows → HasPushedOn s n p q old mid →
     LastRowIs s x old → NextRowIs s x mid
 next_is s n old mid x rows so_far is = record {
   at = λ j lt.
@@ -40,7 +37,7 @@ next_is s n old mid x rows so_far is = record {
       ap (λ v. signal v.items j) so_far.row ∙ is.at j lt ∙ ap (λ k. x k (min j (s.setting.width - 1))) e;
 }
 
-pub then_pushed : {p q r : Outside} (s : Plan) (n : ℕ) (old mid new : Work) → rows_of old.strip ≡ s.rows → HasPushedOn s n p q old mid →
+pub then_pushed : {p q r : Outside} (s : Job) (n : ℕ) (old mid new : Work) → rows_of old.strip ≡ s.rows → HasPushedOn s n p q old mid →
     HasPushed s q r mid new → HasPushedOn s (n + 1) p r old new
 then_pushed {p = p} {q = q} s n old mid new rows so_far here =
     let a = so_far.strip_rows in
@@ -57,7 +54,7 @@ then_pushed {p = p} {q = q} s n old mid new rows so_far here =
           (here.goes x (so_far.follows x f is) (next_is {p = p} {q = q} s n old mid x rows so_far is));
     }
 
-pub then_unpushed : {T E : Type 0} (p q r : Outside) (result : Result T E) (s : Plan) (n all : ℕ) (old mid new : Work) → IsPlan s → IsErr result →
+pub then_unpushed : {T E : Type 0} (p q r : Outside) (result : Result T E) (s : Job) (n all : ℕ) (old mid new : Work) → IsPlan s → IsErr result →
     rows_of old.strip ≡ s.rows →
     HasPushedOn s n p q old mid → HasNotPushed s q r mid new → PushesOn result s all p r old new
 then_unpushed p q r (Ok x) s n all old mid new range h rows so_far here = absurd cc

@@ -1,3 +1,4 @@
+pub mod Forms
 pub mod Plans
 pub mod Rasters
 pub mod Answers

@@ -6,21 +6,18 @@ use Rattle.base_122.specs.Sizes.{block_count, padded_size, total_blocks, first_b
 use Rattle.base_122.specs.Ranges.{IsWithin, rows_range}
 use Rattle.base_122.specs.Setting.{sized}
 use Rattle.base_122.specs.declared.setting.Setting.{Setting}
-use Rattle.strip_coder.specs.declared.plan.Plan.{Plan}
-use Rattle.strip_coder.specs.Plans.{plan_of, whole, tallest}
-use Rattle.packet_defs.specs.Packets.{joined}
+use Rattle.strip_coder.specs.Plans.{Job, plan_of, whole, tallest}
 use Rattle.wave_defs.specs.Held.{block_at, signal, Agrees}
 use Rattle.wave_defs.specs.Pyramid.{padded}
 use Rattle.wave_defs.specs.Within.{AllWithin}
 use Rattle.wave_strip.specs.Strip.{rows_of, answered_of}
 use Rattle.wave_strip.specs.Counts.{settled}
 use Rattle.raster_rows.specs.Pixels.{IsPixel}
-use Rattle.stream_defs.specs.Output.{image_blocks, packets_of, segments_of, reports_last}
+use Rattle.stream_defs.specs.Output.{image_blocks, segments_of}
 use Rattle.strip_coder.specs.declared.work.Work.{Work}
 use Rattle.strip_coder.specs.Works.{IsMadeFor, HasGathered, IsRunning, HasTaken, HoldsBlocks, StripFollows, FollowsImage, FollowsRows, gathered_in}
 use Rattle.strip_coder.specs.declared.encode.EncodeDone.{EncodeDone}
 use Rattle.strip_coder.specs.Answers.{DoneFor}
-use Rattle.strip_coder.specs.SegmentsOut.{progress_at}
 
 -- one block was added at a place, and those before it are unchanged
 pub record PutsBlock (place : ℕ) (old new numbers : List ℤ) : Type 0 where
@@ -41,34 +38,37 @@ pub record Stays (old new : Work) : Type 0 where
   pub rows : new.at.rows ≡ old.at.rows
 
 -- an image has room for this number of further blocks
-abbrev pub HasRoom : Plan → ℕ → Work → Type 0
+abbrev pub HasRoom : Job → ℕ → Work → Type 0
 HasRoom s n w = gathered_in s w.at + n ≤ total_blocks s.setting.width s.rows
 
--- The packets of these blocks are written, after the segments before the first index, up to those before the second.
-pub record Continues (s : Plan) (all : List (List ℤ)) (from to : ℕ) (p q : Outside) : Type 0 where
+-- the octets of the first n segments of an image with these blocks
+abbrev pub octets_at : Job → List (List ℤ) → (n : ℕ) → List ℕ
+octets_at s all n = s.form.octets s.setting s.rows all n
+
+-- The segments of these blocks are given, after those before the first index, up to those before the second.
+pub record Continues (s : Job) (all : List (List ℤ)) (from to : ℕ) (p q : Outside) : Type 0 where
   pub gave : List ℕ
   pub out : Exchange p q [] gave [] NoRead
-  pub then_are : joined (packets_of (reports_last s.setting) (whole s) all from) ++ gave ≡ joined (packets_of (reports_last s.setting) (whole s) all to)
+  pub then_are : octets_at s all from ++ gave ≡ octets_at s all to
 
--- A write failed in the packets of one segment, with those of the segments before an index written: a prefix of them is written. This
--- number of blocks of the image were gathered, those of that segment among them.
-pub record StopsEarly (s : Plan) (all : List (List ℤ)) (from gathered : ℕ) (p q : Outside) : Type 0 where
+-- A write failed in one segment, with the segments before an index given: a prefix of their octets is written. This number of blocks of the
+-- image were gathered, those of that segment among them.
+pub record StopsEarly (s : Job) (all : List (List ℤ)) (from gathered : ℕ) (p q : Outside) : Type 0 where
   pub gave : List ℕ
   pub out : Exchange p q [] gave [] NoRead
   pub index : ℕ
   pub inside : index < segments_of (whole s)
   pub there : first_block s.setting.segment index + segment_blocks (total_blocks s.setting.width s.rows) s.setting.segment index ≤ gathered
   pub some : ℕ
-  pub prefix : joined (packets_of (reports_last s.setting) (whole s) all from) ++ gave
-      ≡ take some (joined (packets_of (reports_last s.setting) (whole s) all (index + 1)))
+  pub prefix : octets_at s all from ++ gave ≡ take some (octets_at s all (index + 1))
 
 -- these blocks are those of an image, and the next n of them after those gathered are these
-pub record NextAre (s : Plan) (w : Work) (n : ℕ) (numbers : ℕ → List ℤ) (all : List (List ℤ)) : Type 0 where
+pub record NextAre (s : Job) (w : Work) (n : ℕ) (numbers : ℕ → List ℤ) (all : List (List ℤ)) : Type 0 where
   pub whole : length all ≡ total_blocks s.setting.width s.rows
   pub next : (i : ℕ) → i < n → slice_index_or all (gathered_in s w.at + i) [] ≡ numbers i
 
 -- n blocks were gathered, and each segment that became full was written
-pub record HasGone (s : Plan) (numbers : ℕ → List ℤ) (n : ℕ) (p q : Outside) (old new : Work) : Type 0 where
+pub record HasGone (s : Job) (numbers : ℕ → List ℤ) (n : ℕ) (p q : Outside) (old new : Work) : Type 0 where
   pub stays : Stays old new
   pub gathered : HasGathered s new
   pub count : gathered_in s new.at ≡ gathered_in s old.at + n
@@ -77,24 +77,24 @@ pub record HasGone (s : Plan) (numbers : ℕ → List ℤ) (n : ℕ) (p q : Outs
   pub goes : (all : List (List ℤ)) → NextAre s old n numbers all → HoldsBlocks s all old → Continues s all old.at.index new.at.index p q
 
 -- a write failed meanwhile
-pub record HasBroken (s : Plan) (numbers : ℕ → List ℤ) (n : ℕ) (p q : Outside) (old new : Work) : Type 0 where
+pub record HasBroken (s : Job) (numbers : ℕ → List ℤ) (n : ℕ) (p q : Outside) (old new : Work) : Type 0 where
   pub made : IsMadeFor s.setting new
   pub rose : Rose p.write_faults q.write_faults
   pub breaks : (all : List (List ℤ)) → NextAre s old n numbers all → HoldsBlocks s all old → StopsEarly s all old.at.index (gathered_in s old.at + n) p q
 
-abbrev pub Gathers : {T E : Type 0} → Result T E → Plan → (ℕ → List ℤ) → ℕ → Outside → Outside → Work → Work → Type 0
+abbrev pub Gathers : {T E : Type 0} → Result T E → Job → (ℕ → List ℤ) → ℕ → Outside → Outside → Work → Work → Type 0
 Gathers result s numbers n p q old new = MatchResult result
     (λ _. HasGone s numbers n p q old new)
     (λ _. HasBroken s numbers n p q old new)
 
 -- some of the next blocks were gathered, at least one and at most this number
-abbrev pub GathersSome : {E : Type 0} → Result ℕ E → Plan → (ℕ → List ℤ) → ℕ → Outside → Outside → Work → Work → Type 0
+abbrev pub GathersSome : {E : Type 0} → Result ℕ E → Job → (ℕ → List ℤ) → ℕ → Outside → Outside → Work → Work → Type 0
 GathersSome result s numbers most p q old new = MatchResult result
     (λ n. (1 ≤ n) × (n ≤ most) × HasGone s numbers n p q old new)
     (λ _. HasBroken s numbers most p q old new)
 
 -- the present segment was written, and none of the next is there yet
-pub record PresentOut (s : Plan) (p q : Outside) (old new : Work) : Type 0 where
+pub record PresentOut (s : Job) (p q : Outside) (old new : Work) : Type 0 where
   pub stays : Stays old new
   pub gathered : HasGathered s new
   pub index : new.at.index ≡ old.at.index + 1
@@ -103,27 +103,27 @@ pub record PresentOut (s : Plan) (p q : Outside) (old new : Work) : Type 0 where
   pub holds : (all : List (List ℤ)) → length all ≡ total_blocks s.setting.width s.rows → HoldsBlocks s all old → HoldsBlocks s all new
   pub goes : (all : List (List ℤ)) → length all ≡ total_blocks s.setting.width s.rows → HoldsBlocks s all old → Continues s all old.at.index new.at.index p q
 
-pub record PresentCut (s : Plan) (p q : Outside) (old new : Work) : Type 0 where
+pub record PresentCut (s : Job) (p q : Outside) (old new : Work) : Type 0 where
   pub made : IsMadeFor s.setting new
   pub rose : Rose p.write_faults q.write_faults
   pub breaks : (all : List (List ℤ)) → length all ≡ total_blocks s.setting.width s.rows → HoldsBlocks s all old →
       StopsEarly s all old.at.index (gathered_in s old.at) p q
 
-abbrev pub WritesPresent : {T E : Type 0} → Result T E → Plan → Outside → Outside → Work → Work → Type 0
+abbrev pub WritesPresent : {T E : Type 0} → Result T E → Job → Outside → Outside → Work → Work → Type 0
 WritesPresent result s p q old new = MatchResult result (λ _. PresentOut s p q old new) (λ _. PresentCut s p q old new)
 
 -- ---- rows
 
 -- each number of the row is at most 2 ^ 16 in magnitude
-abbrev pub IsRowSmall : Plan → Work → Type 0
+abbrev pub IsRowSmall : Job → Work → Type 0
 IsRowSmall s w = AllWithin (2 ^ 16) (padded_size s.setting.width) (signal w.row.items)
 
 -- the row is the next one that the strip takes of this image
-abbrev pub NextRowIs : Plan → (ℕ → ℕ → ℤ) → Work → Type 0
+abbrev pub NextRowIs : Job → (ℕ → ℕ → ℤ) → Work → Type 0
 NextRowIs s x w = Agrees (padded_size s.setting.width) (signal w.row.items) (padded x s.rows s.setting.width (rows_of w.strip))
 
 -- the row was pushed, and the block row that it completes was gathered
-pub record HasPushed (s : Plan) (p q : Outside) (old new : Work) : Type 0 where
+pub record HasPushed (s : Job) (p q : Outside) (old new : Work) : Type 0 where
   pub running : IsRunning s new
   pub strip_rows : rows_of new.strip ≡ rows_of old.strip + 1
   pub row : new.row ≡ old.row
@@ -136,13 +136,13 @@ pub record HasPushed (s : Plan) (p q : Outside) (old new : Work) : Type 0 where
   pub goes : (x : ℕ → ℕ → ℤ) → FollowsImage s x old → NextRowIs s x old → Continues s (image_blocks (whole s) x) old.at.index new.at.index p q
 
 -- a write failed meanwhile
-pub record HasNotPushed (s : Plan) (p q : Outside) (old new : Work) : Type 0 where
+pub record HasNotPushed (s : Job) (p q : Outside) (old new : Work) : Type 0 where
   pub made : IsMadeFor s.setting new
   pub rose : Rose p.write_faults q.write_faults
   pub breaks : (x : ℕ → ℕ → ℤ) → FollowsImage s x old → NextRowIs s x old →
       StopsEarly s (image_blocks (whole s) x) old.at.index (block_count s.setting.width * settled (rows_of old.strip + 1)) p q
 
-abbrev pub Pushes : {T E : Type 0} → Result T E → Plan → Outside → Outside → Work → Work → Type 0
+abbrev pub Pushes : {T E : Type 0} → Result T E → Job → Outside → Outside → Work → Work → Type 0
 Pushes result s p q old new = MatchResult result (λ _. HasPushed s p q old new) (λ _. HasNotPushed s p q old new)
 
 -- ---- the engine
@@ -192,11 +192,11 @@ pub record EndBreaks (s : Setting) (rows : ℕ) (p q : Outside) (old new : Work)
 -- ---- the end of an image
 
 -- the row is the last one of this image
-abbrev pub LastRowIs : Plan → (ℕ → ℕ → ℤ) → Work → Type 0
+abbrev pub LastRowIs : Job → (ℕ → ℕ → ℤ) → Work → Type 0
 LastRowIs s x w = Agrees (padded_size s.setting.width) (signal w.row.items) (padded x s.rows s.setting.width (s.rows - 1))
 
 -- the last row was pushed n times more
-pub record HasPushedOn (s : Plan) (n : ℕ) (p q : Outside) (old new : Work) : Type 0 where
+pub record HasPushedOn (s : Job) (n : ℕ) (p q : Outside) (old new : Work) : Type 0 where
   pub running : IsRunning s new
   pub strip_rows : rows_of new.strip ≡ rows_of old.strip + n
   pub row : new.row ≡ old.row
@@ -205,24 +205,32 @@ pub record HasPushedOn (s : Plan) (n : ℕ) (p q : Outside) (old new : Work) : T
   pub goes : (x : ℕ → ℕ → ℤ) → FollowsImage s x old → LastRowIs s x old → Continues s (image_blocks (whole s) x) old.at.index new.at.index p q
 
 -- a write failed meanwhile
-pub record HasNotPushedOn (s : Plan) (p q : Outside) (old new : Work) : Type 0 where
+pub record HasNotPushedOn (s : Job) (p q : Outside) (old new : Work) : Type 0 where
   pub made : IsMadeFor s.setting new
   pub rose : Rose p.write_faults q.write_faults
   pub breaks : (x : ℕ → ℕ → ℤ) → FollowsImage s x old → LastRowIs s x old →
       StopsEarly s (image_blocks (whole s) x) old.at.index (total_blocks s.setting.width s.rows) p q
 
-abbrev pub PushesOn : {T E : Type 0} → Result T E → Plan → ℕ → Outside → Outside → Work → Work → Type 0
+-- all segments are given of an image of which all rows were pushed
+pub record HasEnded (s : Job) (p q : Outside) (old new : Work) : Type 0 where
+  pub made : IsMadeFor s.setting new
+  pub faults : p.write_faults ≤ q.write_faults
+  pub given : (x : ℕ → ℕ → ℤ) → FollowsImage s x old → LastRowIs s x old →
+      s.form.holds s.setting s.rows (image_blocks (whole s) x) new.packets (segments_of (whole s)) new.at.used
+  pub goes : (x : ℕ → ℕ → ℤ) → FollowsImage s x old → LastRowIs s x old → Continues s (image_blocks (whole s) x) old.at.index (segments_of (whole s)) p q
+
+abbrev pub PushesOn : {T E : Type 0} → Result T E → Job → ℕ → Outside → Outside → Work → Work → Type 0
 PushesOn result s n p q old new = MatchResult result (λ _. HasPushedOn s n p q old new) (λ _. HasNotPushedOn s p q old new)
 
 -- all rows of the padded image were pushed, and the first block rows of it were gathered
-pub record IsEnding (s : Plan) (w : Work) : Type 0 where
+pub record IsEnding (s : Job) (w : Work) : Type 0 where
   pub gathered : HasGathered s w
   pub count : gathered_in s w.at ≡ block_count s.setting.width * answered_of w.strip
   pub rows : rows_of w.strip ≡ padded_size s.rows
   pub most : answered_of w.strip ≤ block_count s.rows
 
 -- the next of these was gathered
-pub record HasFinished (s : Plan) (p q : Outside) (old new : Work) : Type 0 where
+pub record HasFinished (s : Job) (p q : Outside) (old new : Work) : Type 0 where
   pub ending : IsEnding s new
   pub answered : answered_of new.strip ≡ answered_of old.strip + 1
   pub faults : p.write_faults ≤ q.write_faults
@@ -230,7 +238,7 @@ pub record HasFinished (s : Plan) (p q : Outside) (old new : Work) : Type 0 wher
   pub goes : (x : ℕ → ℕ → ℤ) → FollowsImage s x old → Continues s (image_blocks (whole s) x) old.at.index new.at.index p q
 
 -- there is none
-pub record HasNoMore (s : Plan) (p q : Outside) (old new : Work) : Type 0 where
+pub record HasNoMore (s : Job) (p q : Outside) (old new : Work) : Type 0 where
   pub all : answered_of old.strip ≡ block_count s.rows
   pub still : q ≡ p
   pub at : new.at ≡ old.at
@@ -238,26 +246,27 @@ pub record HasNoMore (s : Plan) (p q : Outside) (old new : Work) : Type 0 where
   pub made : IsMadeFor s.setting new
 
 -- a write failed meanwhile
-pub record HasNotFinished (s : Plan) (p q : Outside) (old new : Work) : Type 0 where
+pub record HasNotFinished (s : Job) (p q : Outside) (old new : Work) : Type 0 where
   pub made : IsMadeFor s.setting new
   pub rose : Rose p.write_faults q.write_faults
   pub breaks : (x : ℕ → ℕ → ℤ) → FollowsImage s x old → StopsEarly s (image_blocks (whole s) x) old.at.index (total_blocks s.setting.width s.rows) p q
 
-abbrev pub Finishes : {E : Type 0} → Result Bool E → Plan → Outside → Outside → Work → Work → Type 0
+abbrev pub Finishes : {E : Type 0} → Result Bool E → Job → Outside → Outside → Work → Work → Type 0
 Finishes (Ok true) s p q old new = HasFinished s p q old new
 Finishes (Ok false) s p q old new = HasNoMore s p q old new
 Finishes (Err e) s p q old new = HasNotFinished s p q old new
 
 -- some of these were gathered
-pub record HasFinishedOn (s : Plan) (p q : Outside) (old new : Work) : Type 0 where
+pub record HasFinishedOn (s : Job) (p q : Outside) (old new : Work) : Type 0 where
   pub ending : IsEnding s new
   pub faults : p.write_faults ≤ q.write_faults
   pub follows : (x : ℕ → ℕ → ℤ) → FollowsImage s x old → FollowsImage s x new
   pub goes : (x : ℕ → ℕ → ℤ) → FollowsImage s x old → Continues s (image_blocks (whole s) x) old.at.index new.at.index p q
 
--- all of them were, and all packets are written
-pub record AllOut (s : Plan) (p q : Outside) (old new : Work) : Type 0 where
+-- all of them were, and all segments are given
+pub record AllOut (s : Job) (p q : Outside) (old new : Work) : Type 0 where
   pub made : IsMadeFor s.setting new
   pub faults : p.write_faults ≤ q.write_faults
-  pub valid : (x : ℕ → ℕ → ℤ) → FollowsImage s x old → new.packets ≡ progress_at s (image_blocks (whole s) x) (segments_of (whole s))
+  pub valid : (x : ℕ → ℕ → ℤ) → FollowsImage s x old →
+      s.form.holds s.setting s.rows (image_blocks (whole s) x) new.packets (segments_of (whole s)) new.at.used
   pub goes : (x : ℕ → ℕ → ℤ) → FollowsImage s x old → Continues s (image_blocks (whole s) x) old.at.index (segments_of (whole s)) p q

@@ -2,21 +2,19 @@
 use Rattle.std.specs.Prelude.{◌≡◌, ◌≢◌, ◌<◌, ◌≤◌, ◌+◌, ◌-◌, ◌*◌, ◌==◌, if◌then◌else◌, ℕ, ℤ, min, List, [], false, length, vec_len, slice_index_or}
 use Rattle.base_122.specs.Sizes.{block_count, padded_size, total_blocks, first_block, segment_blocks, sample_need}
 use Rattle.base_122.specs.declared.setting.Setting.{Setting}
-use Rattle.strip_coder.specs.declared.plan.Plan.{Plan}
 use Rattle.wave_defs.specs.Pyramid.{padded}
 use Rattle.wave_defs.specs.Held.{SameWithin, block_at}
-use Rattle.wave_strip.specs.Strip.{rows_of, answered_of, columns_of, has_ended, Follows}
+use Rattle.space_packets.specs.Progress.{fresh}
+use Rattle.wave_strip.specs.Strip.{rows_of, answered_of, columns_of, has_ended, Follows, IsAtStart}
 use Rattle.wave_strip.specs.Counts.{settled}
 use Rattle.wave_strip.specs.Samples.{samples_of as strip_samples}
 use Rattle.segment_code.specs.HeldBlocks.{samples_for}
-use Rattle.space_packets.specs.declared.stage.PacketiserState.TheVariants.{Idle}
 use Rattle.stream_defs.specs.Output.{image_blocks, segments_of, used_before, reports_last}
 use Rattle.stream_defs.specs.Settled.{settled as settled_segments}
 use Rattle.strip_coder.specs.declared.work.Work.{Work}
 use Rattle.strip_coder.specs.declared.work.ImageAt.{ImageAt}
 use Rattle.base_122.specs.Setting.{IsHeight}
-use Rattle.strip_coder.specs.Plans.{MoreMayArrive, plan_of, tallest, whole}
-use Rattle.strip_coder.specs.SegmentsOut.{progress_at}
+use Rattle.strip_coder.specs.Plans.{Job, MoreMayArrive, plan_of, tallest, whole}
 
 -- the blocks that a segment has at most
 abbrev pub most_blocks : Setting → ℕ
@@ -39,42 +37,47 @@ pub record IsMadeFor (s : Setting) (w : Work) : Type 0 where
 pub record KeepsShare (s : Setting) (at : ImageAt) : Type 0 where
   pub left : s.total ≢ 0 → at.used + 36 * (segments_of s - at.index) ≤ s.total
 
+-- nothing was taken, gathered or given
+pub record IsFresh (s : Setting) (w : Work) : Type 0 where
+  pub strip : IsAtStart w.strip
+  pub packets : w.packets ≡ fresh s.packet
+  pub none : w.blocks.numbers ≡ []
+  pub at : w.at ≡ record { rows = 0; filled = 0; index = 0; used = 0 }
+
 -- ---- the progress of the work
 
 -- the blocks gathered so far, which are the first ones
-abbrev pub gathered_in : Plan → ImageAt → ℕ
+abbrev pub gathered_in : Job → ImageAt → ℕ
 gathered_in s at = min (first_block s.setting.segment at.index) (total_blocks s.setting.width s.rows) + at.filled
 
 -- Some blocks of an image were gathered: the present segment isn't full, and no text is begun.
-pub record HasGathered (s : Plan) (w : Work) : Type 0 where
+pub record HasGathered (s : Job) (w : Work) : Type 0 where
   pub made : IsMadeFor s.setting w
   pub share : KeepsShare (whole s) w.at
   pub index : w.at.index ≤ segments_of (whole s)
   pub present : w.at.index < segments_of (whole s) → w.at.filled < segment_blocks (total_blocks s.setting.width s.rows) s.setting.segment w.at.index
   pub none : w.at.index ≡ segments_of (whole s) → w.at.filled ≡ 0
   pub held : length w.blocks.numbers ≡ 64 * w.at.filled
-  pub idle : w.packets.stage ≡ Idle
-  pub texts : w.packets.texts ≡ w.at.index
+  pub ready : s.form.ready s.setting w.packets w.at.index w.at.used
 
 -- The present segment is full, and no text is begun.
-pub record IsFull (s : Plan) (w : Work) : Type 0 where
+pub record IsFull (s : Job) (w : Work) : Type 0 where
   pub made : IsMadeFor s.setting w
   pub share : KeepsShare (whole s) w.at
   pub index : w.at.index < segments_of (whole s)
   pub full : w.at.filled ≡ segment_blocks (total_blocks s.setting.width s.rows) s.setting.segment w.at.index
   pub held : length w.blocks.numbers ≡ 64 * w.at.filled
-  pub idle : w.packets.stage ≡ Idle
-  pub texts : w.packets.texts ≡ w.at.index
+  pub ready : s.form.ready s.setting w.packets w.at.index w.at.used
 
 -- The block rows that the rows pushed so far complete were gathered, and the strip takes more.
-pub record IsRunning (s : Plan) (w : Work) : Type 0 where
+pub record IsRunning (s : Job) (w : Work) : Type 0 where
   pub gathered : HasGathered s w
   pub count : gathered_in s w.at ≡ block_count s.setting.width * settled (rows_of w.strip)
   pub answered : answered_of w.strip ≡ settled (rows_of w.strip)
   pub running : has_ended w.strip ≡ false
 
 -- This number of rows was taken. While more may follow, the segments before the present one are exactly those that these rows settle.
-pub record HasTaken (s : Plan) (k : ℕ) (w : Work) : Type 0 where
+pub record HasTaken (s : Job) (k : ℕ) (w : Work) : Type 0 where
   pub running : IsRunning s w
   pub rows : w.at.rows ≡ k
   pub strip_rows : rows_of w.strip ≡ k
@@ -82,19 +85,19 @@ pub record HasTaken (s : Plan) (k : ℕ) (w : Work) : Type 0 where
 
 -- ---- and for which images
 
--- The present segment has its first blocks of these, and the packets of all segments before it were written, and nothing else. If
--- there is a bound on all coded segments, the octets of these are counted.
-pub record HoldsBlocks (s : Plan) (all : List (List ℤ)) (w : Work) : Type 0 where
+-- The present segment has its first blocks of these, and all segments before it were given, and nothing else. If there is a bound on all
+-- coded segments, the octets of these are counted.
+pub record HoldsBlocks (s : Job) (all : List (List ℤ)) (w : Work) : Type 0 where
   pub blocks : (i : ℕ) → i < w.at.filled → block_at w.blocks.numbers i ≡ slice_index_or all (first_block s.setting.segment w.at.index + i) []
-  pub packets : w.packets ≡ progress_at s all w.at.index
+  pub given : s.form.holds s.setting s.rows all w.packets w.at.index w.at.used
   pub used : s.setting.total ≢ 0 → w.at.used ≡ used_before (whole s) all w.at.index
 
 -- the strip is as after the first rows of this image
-abbrev pub StripFollows : Plan → (ℕ → ℕ → ℤ) → Work → Type 0
+abbrev pub StripFollows : Job → (ℕ → ℕ → ℤ) → Work → Type 0
 StripFollows s x w = Follows (padded x s.rows s.setting.width) (block_count s.rows) w.strip
 
 -- a work follows an image, part by part
-pub record FollowsImage (s : Plan) (x : ℕ → ℕ → ℤ) (w : Work) : Type 0 where
+pub record FollowsImage (s : Job) (x : ℕ → ℕ → ℤ) (w : Work) : Type 0 where
   pub strip : StripFollows s x w
   pub holds : HoldsBlocks s (image_blocks (whole s) x) w
 

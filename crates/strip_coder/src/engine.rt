@@ -2,15 +2,16 @@
 ghost use Rattle.std.specs.Prelude.{◌≡◌, ◌<◌, ◌-◌, ◌*◌, MatchResult};
 ghost use Rattle.base_122.specs.Ranges.{IsInRange};
 ghost use Rattle.base_122.specs.Setting.{IsHeight};
-ghost use Rattle.strip_coder.specs.Plans.{IsPlan, plan_of, whole, tallest};
+ghost use Rattle.strip_coder.specs.Plans.{IsPlan, job_of, packed, plan_of, whole, tallest};
 ghost use Rattle.base_122.specs.Sizes.{padded_size};
 ghost use Rattle.wave_strip.specs.Strip.{rows_of};
-ghost use Rattle.strip_coder.specs.Works.{IsMadeFor, IsRunning, HasTaken, RepresentsNone};
+ghost use Rattle.strip_coder.specs.Works.{IsFresh, IsMadeFor, IsRunning, HasTaken, RepresentsNone};
 ghost use Rattle.strip_coder.specs.Steps.{IsRowSmall, IsRowInRange, Pushes, PushesOn, IsEnding, Finishes, AllOut, HasNotFinished, TakesRow, BreaksAt};
-ghost use Rattle.strip_coder.specs.Steps.{EndsImage, EndBreaks};
+ghost use Rattle.strip_coder.specs.Steps.{HasEnded, HasNotPushedOn, EndsImage, EndBreaks};
 ghost use Rattle.stream_defs.specs.Output.{segments_of};
 
 use crate::encode::EncodeDone;
+use crate::form::{AsPackets, SegmentOut};
 use crate::gather::gather_row;
 use crate::plan::Plan;
 use crate::work::{ImageAt, Work};
@@ -25,6 +26,7 @@ pub fn start_image(setting: &Setting, work: &mut Work)
     requires made { IsMadeFor setting.now work.old }
     ensures made { IsMadeFor setting.now work.new }
     ensures start { RepresentsNone setting.now work.new }
+    ensures fresh { IsFresh setting.now work.new }
 {
     work.strip.reset();
     work.packets.reset();
@@ -37,59 +39,94 @@ pub fn start_image(setting: &Setting, work: &mut Work)
     };
 }
 
-// Pushes the row into the strip, and gathers the block row that it completes.
-fn push<X: Port>(port: &mut X, plan: &Plan, work: &mut Work) -> Result<(), Failed>
-    requires in_range { IsPlan plan.now }
-    requires running { IsRunning plan.now work.old }
+/// Pushes the row into the strip, gathers the block row that it completes, and writes each segment that becomes full. The row was padded.
+pub fn push<S: SegmentOut, X: Port>(
+    port: &mut X,
+    plan: &Plan,
+    work: &mut Work,
+) -> Result<(), Failed>
+    requires in_range { IsPlan (job_of S.form plan.now) }
+    requires running { IsRunning (job_of S.form plan.now) work.old }
     requires few { rows_of work.old.strip < padded_size plan.now.rows }
-    requires small { IsRowSmall plan.now work.old }
-    ensures { Pushes result plan.now (X.outside port.old) (X.outside port.new) work.old work.new }
+    requires small { IsRowSmall (job_of S.form plan.now) work.old }
+    ensures { Pushes result (job_of S.form plan.now) (X.outside port.old) (X.outside port.new) work.old work.new }
 {
     let came = work.strip.push_row(&work.row);
     if came.is_none() {
         return Ok(());
     }
-    gather_row(port, plan, work)
+    gather_row::<S, X>(port, plan, work)
 }
 
 // Pushes the last row once more for each row that pads the image.
-fn push_tail<X: Port>(port: &mut X, plan: &Plan, work: &mut Work) -> Result<(), Failed>
-    requires in_range { IsPlan plan.now }
-    requires running { IsRunning plan.now work.old }
+fn push_tail<S: SegmentOut, X: Port>(
+    port: &mut X,
+    plan: &Plan,
+    work: &mut Work,
+) -> Result<(), Failed>
+    requires in_range { IsPlan (job_of S.form plan.now) }
+    requires running { IsRunning (job_of S.form plan.now) work.old }
     requires rows { rows_of work.old.strip ≡ plan.now.rows }
-    requires small { IsRowSmall plan.now work.old }
-    ensures { PushesOn result plan.now (padded_size plan.now.rows - plan.now.rows) (X.outside port.old) (X.outside port.new) work.old work.new }
+    requires small { IsRowSmall (job_of S.form plan.now) work.old }
+    ensures { PushesOn result (job_of S.form plan.now) (padded_size plan.now.rows - plan.now.rows) (X.outside port.old) (X.outside port.new) work.old work.new }
 {
     let more = plan.setting.geometry_for(plan.rows).padded_rows() - plan.rows;
     for _ in 0..more {
-        push(port, plan, work)?;
+        push::<S, X>(port, plan, work)?;
     }
     Ok(())
 }
 
 // Gathers the next of the block rows that are left at the end. Returns whether there was one.
-fn finish_one<X: Port>(port: &mut X, plan: &Plan, work: &mut Work) -> Result<bool, Failed>
-    requires in_range { IsPlan plan.now }
-    requires ending { IsEnding plan.now work.old }
-    ensures { Finishes result plan.now (X.outside port.old) (X.outside port.new) work.old work.new }
+fn finish_one<S: SegmentOut, X: Port>(
+    port: &mut X,
+    plan: &Plan,
+    work: &mut Work,
+) -> Result<bool, Failed>
+    requires in_range { IsPlan (job_of S.form plan.now) }
+    requires ending { IsEnding (job_of S.form plan.now) work.old }
+    ensures { Finishes result (job_of S.form plan.now) (X.outside port.old) (X.outside port.new) work.old work.new }
 {
     let came = work.strip.finish_row();
     if came.is_none() {
         return Ok(false);
     }
-    gather_row(port, plan, work)?;
+    gather_row::<S, X>(port, plan, work)?;
     Ok(true)
 }
 
 // Gathers all block rows that are left at the end.
-fn finish<X: Port>(port: &mut X, plan: &Plan, work: &mut Work) -> Result<(), Failed>
-    requires in_range { IsPlan plan.now }
-    requires ending { IsEnding plan.now work.old }
+fn finish<S: SegmentOut, X: Port>(port: &mut X, plan: &Plan, work: &mut Work) -> Result<(), Failed>
+    requires in_range { IsPlan (job_of S.form plan.now) }
+    requires ending { IsEnding (job_of S.form plan.now) work.old }
     ensures { MatchResult result
-        (λ _. AllOut plan.now (X.outside port.old) (X.outside port.new) work.old work.new)
-        (λ _. HasNotFinished plan.now (X.outside port.old) (X.outside port.new) work.old work.new) }
+        (λ _. AllOut (job_of S.form plan.now) (X.outside port.old) (X.outside port.new) work.old work.new)
+        (λ _. HasNotFinished (job_of S.form plan.now) (X.outside port.old) (X.outside port.new) work.old work.new) }
 {
-    while finish_one(port, plan, work)? {}
+    while finish_one::<S, X>(port, plan, work)? {}
+    Ok(())
+}
+
+/// Writes the segments that are left of an image of which all rows were pushed. The last of them is still there, padded.
+pub fn write_rest<S: SegmentOut, X: Port>(
+    port: &mut X,
+    plan: &Plan,
+    work: &mut Work,
+) -> Result<(), Failed>
+    requires in_range { IsPlan (job_of S.form plan.now) }
+    requires running { IsRunning (job_of S.form plan.now) work.old }
+    requires rows { rows_of work.old.strip ≡ plan.now.rows }
+    requires small { IsRowSmall (job_of S.form plan.now) work.old }
+    ensures { MatchResult result
+        (λ _. HasEnded (job_of S.form plan.now) (X.outside port.old) (X.outside port.new) work.old work.new)
+        (λ _. HasNotPushedOn (job_of S.form plan.now) (X.outside port.old) (X.outside port.new) work.old work.new) }
+{
+    let Ok(()) = push_tail::<S, X>(port, plan, work) else {
+        return Err(Failed);
+    };
+    let Ok(()) = finish::<S, X>(port, plan, work) else {
+        return Err(Failed);
+    };
     Ok(())
 }
 
@@ -107,7 +144,7 @@ pub fn row_in<X: Port>(port: &mut X, setting: &Setting, work: &mut Work) -> Resu
 {
     let plan = Plan::tallest(setting);
     pad_row(setting.width, &mut work.row);
-    let Ok(()) = push(port, &plan, work) else {
+    let Ok(()) = push::<AsPackets, X>(port, &plan, work) else {
         return Err(Failed);
     };
     work.at.rows += 1;
@@ -132,10 +169,7 @@ pub fn image_end<X: Port>(
 {
     let plan = Plan::new(setting, work.at.rows);
     pad_row(setting.width, &mut work.row);
-    let Ok(()) = push_tail(port, &plan, work) else {
-        return Err(Failed);
-    };
-    let Ok(()) = finish(port, &plan, work) else {
+    let Ok(()) = write_rest::<AsPackets, X>(port, &plan, work) else {
         return Err(Failed);
     };
     Ok(done_so_far(&plan, &work.packets))
@@ -143,8 +177,8 @@ pub fn image_end<X: Port>(
 
 /// Returns what a packetiser has done that wrote all segments.
 pub fn done_so_far(plan: &Plan, packets: &Packetiser) -> EncodeDone
-    requires { IsPlan plan.now }
-    ensures { result ≡ record { segments = segments_of (whole plan.now); packets = packets.now.packets; octets = packets.now.octets } }
+    requires { IsPlan (packed plan.now) }
+    ensures { result ≡ record { segments = segments_of (whole (packed plan.now)); packets = packets.now.packets; octets = packets.now.octets } }
 {
     EncodeDone {
         segments: plan.setting.geometry_for(plan.rows).segments(),

@@ -1,19 +1,19 @@
 // Gathers the blocks of a block row into segments, which are written as they become full.
 ghost use Rattle.std.specs.Prelude.{◌≡◌, ◌<◌, ◌≤◌, ◌+◌, ◌*◌, ℕ, All, length, true};
-ghost use Rattle.strip_coder.specs.Plans.{IsPlan, whole};
+ghost use Rattle.strip_coder.specs.Plans.{IsPlan, job_of, whole};
 ghost use Rattle.base_122.specs.Sizes.{block_count};
 ghost use Rattle.base_122.specs.Weights.{IsShift};
 ghost use Rattle.block_families.specs.Places.{gathered};
 ghost use Rattle.wave_strip.specs.Strip.{columns_of, is_current, number_in};
 ghost use Rattle.stream_defs.specs.Output.{segments_of};
-ghost use Rattle.strip_coder.specs.Works.{HasGathered, IsFull};
-ghost use Rattle.strip_coder.specs.Steps.{PutsBlock, PutsBlocks, Gathers, GathersSome, HasRoom, WritesPresent};
+ghost use Rattle.strip_coder.specs.Works.{HasGathered};
+ghost use Rattle.strip_coder.specs.Steps.{PutsBlocks, Gathers, GathersSome, HasRoom};
 
+use crate::form::SegmentOut;
 use crate::plan::Plan;
-use crate::segments::{Present, write_segment};
 use crate::work::Work;
 use base_122::Weights;
-use block_families::{gather, gather_run};
+use block_families::gather_run;
 use port_122::{Failed, Port};
 use segment_code::SegmentBlocks;
 use wave_strip::StripWave;
@@ -24,22 +24,7 @@ const RUN: u32 = 16;
 // The numbers of these blocks.
 const RUN_NUMBERS: usize = 1024;
 
-/// Adds the block of this column of the block row that is in the strip to the blocks of a segment (docs/formats.md, "Blocks").
-pub fn gather_block(strip: &StripWave, weights: &Weights, column: u32, blocks: &mut SegmentBlocks)
-    requires valid { is_current strip.now ≡ true }
-    requires column { column < columns_of strip.now }
-    requires weights { All IsShift weights.now.shifts }
-    requires room { length blocks.old.numbers < 64 * blocks.old.most }
-    ensures puts { (place : ℕ) → length blocks.old.numbers ≡ 64 * place →
-        PutsBlock place blocks.old.numbers blocks.new.numbers (gathered (number_in strip.now) weights.now.shifts column) }
-    ensures most { blocks.new.most ≡ blocks.old.most }
-{
-    let mut block = [0; 64];
-    gather(strip, column, weights, &mut block);
-    blocks.push(&block);
-}
-
-// Adds some blocks of the block row that is in the strip, from this column on, to the blocks of a segment, as `gather_block` adds one.
+// Adds some blocks of the block row that is in the strip, from this column on, to the blocks of a segment (docs/formats.md, "Blocks").
 fn gather_blocks(
     strip: &StripWave,
     weights: &Weights,
@@ -64,46 +49,22 @@ fn gather_blocks(
     }
 }
 
-// Writes the present segment, which is full, and advances to the next.
-fn write_present<X: Port>(port: &mut X, plan: &Plan, work: &mut Work) -> Result<(), Failed>
-    requires in_range { IsPlan plan.now }
-    requires full { IsFull plan.now work.old }
-    ensures { WritesPresent result plan.now (X.outside port.old) (X.outside port.new) work.old work.new }
-{
-    let present = Present { plan, at: &work.at };
-    let Ok(octets) = write_segment(
-        port,
-        &present,
-        &mut work.blocks,
-        &mut work.packets,
-        &work.writer,
-    ) else {
-        return Err(Failed);
-    };
-    work.blocks.clear();
-    work.at.index += 1;
-    work.at.filled = 0;
-    // A bound on all texts is at most 2^40, so what is counted for it never reaches 2^64.
-    work.at.used = work.at.used.saturating_add(octets);
-    Ok(())
-}
-
 // Gathers the next blocks of the block row in the strip, from this column on, and writes the present segment if they make it full. Returns
 // how many they are: at least one and at most `most`.
-fn gather_next<X: Port>(
+fn gather_next<S: SegmentOut, X: Port>(
     port: &mut X,
     plan: &Plan,
     work: &mut Work,
     column: u32,
     most: u32,
 ) -> Result<u32, Failed>
-    requires in_range { IsPlan plan.now }
-    requires gathered { HasGathered plan.now work.old }
-    requires more { work.old.at.index < segments_of (whole plan.now) }
+    requires in_range { IsPlan (job_of S.form plan.now) }
+    requires gathered { HasGathered (job_of S.form plan.now) work.old }
+    requires more { work.old.at.index < segments_of (whole (job_of S.form plan.now)) }
     requires valid { is_current work.old.strip ≡ true }
     requires some { 1 ≤ most }
     requires columns { column + most ≤ block_count plan.now.setting.width }
-    ensures { GathersSome result plan.now (λ k. gathered (number_in work.old.strip) plan.now.setting.weights.shifts (column + k)) most
+    ensures { GathersSome result (job_of S.form plan.now) (λ k. gathered (number_in work.old.strip) plan.now.setting.weights.shifts (column + k)) most
         (X.outside port.old) (X.outside port.new) work.old work.new }
 {
     let size = plan
@@ -122,23 +83,27 @@ fn gather_next<X: Port>(
     if work.at.filled < size {
         return Ok(count);
     }
-    write_present(port, plan, work)?;
+    S::write_present(port, plan, work)?;
     Ok(count)
 }
 
 /// Gathers the block row in the strip, some blocks at a time, and writes each segment that becomes full.
-pub fn gather_row<X: Port>(port: &mut X, plan: &Plan, work: &mut Work) -> Result<(), Failed>
-    requires in_range { IsPlan plan.now }
-    requires gathered { HasGathered plan.now work.old }
-    requires room { HasRoom plan.now (block_count plan.now.setting.width) work.old }
+pub fn gather_row<S: SegmentOut, X: Port>(
+    port: &mut X,
+    plan: &Plan,
+    work: &mut Work,
+) -> Result<(), Failed>
+    requires in_range { IsPlan (job_of S.form plan.now) }
+    requires gathered { HasGathered (job_of S.form plan.now) work.old }
+    requires room { HasRoom (job_of S.form plan.now) (block_count plan.now.setting.width) work.old }
     requires valid { is_current work.old.strip ≡ true }
-    ensures { Gathers result plan.now (gathered (number_in work.old.strip) plan.now.setting.weights.shifts) (block_count plan.now.setting.width)
+    ensures { Gathers result (job_of S.form plan.now) (gathered (number_in work.old.strip) plan.now.setting.weights.shifts) (block_count plan.now.setting.width)
         (X.outside port.old) (X.outside port.new) work.old work.new }
 {
     let columns = plan.setting.geometry_for(plan.rows).padded_width() / 8;
     let mut column = 0;
     while column < columns {
-        column += gather_next(port, plan, work, column, columns - column)?;
+        column += gather_next::<S, X>(port, plan, work, column, columns - column)?;
     }
     Ok(())
 }

@@ -20,6 +20,7 @@
 
 mod encode;
 mod engine;
+mod form;
 mod gather;
 mod laws;
 mod plan;
@@ -29,8 +30,8 @@ mod segments;
 mod work;
 
 pub use encode::{EncodeDone, EncodeFault};
-pub use engine::{image_end, row_in, start_image};
-pub use gather::gather_block;
+pub use engine::{image_end, push, row_in, start_image, write_rest};
+pub use form::{AsPackets, SegmentOut};
 pub use laws::last_row_settles_all;
 pub use plan::Plan;
 pub use rows::{encode_rows, row_fault};

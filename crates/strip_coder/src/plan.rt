@@ -1,6 +1,6 @@
 // The image that is coded.
 ghost use Rattle.std.specs.Prelude.{◌≡◌};
-ghost use Rattle.strip_coder.specs.Plans.{plan_of, tallest};
+ghost use Rattle.strip_coder.specs.Plans.{tallest};
 
 use base_122::{FieldRange, Setting};
 
@@ -14,7 +14,7 @@ pub struct Plan {
 impl Plan {
     /// Returns the plan of an image of this height.
     pub fn new(setting: &Setting, rows: u32) -> Plan
-        ensures { result ≡ plan_of setting.now rows }
+        ensures { result ≡ record { setting = setting.now; rows = rows } }
     {
         Plan {
             setting: *setting,
@@ -24,7 +24,7 @@ impl Plan {
 
     /// Returns the plan of the tallest image of a setting: while the rows are open, no row is known to be the last.
     pub fn tallest(setting: &Setting) -> Plan
-        ensures { result ≡ plan_of setting.now (tallest setting.now) }
+        ensures { result ≡ record { setting = setting.now; rows = tallest setting.now } }
     {
         if setting.rows == 0 {
             return Plan::new(setting, FieldRange::ROWS.most as u32);

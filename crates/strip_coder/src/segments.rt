@@ -5,7 +5,7 @@ ghost use Rattle.space_packets.specs.Writes.{TextOut, TextCut};
 ghost use Rattle.space_packets.specs.declared.stage.PacketiserState.TheVariants.{Idle};
 ghost use Rattle.strip_coder.specs.SegmentsOut.{text_of, text_for};
 ghost use Rattle.base_122.specs.Sizes.{padded_size};
-ghost use Rattle.strip_coder.specs.Plans.{IsPlan, whole};
+ghost use Rattle.strip_coder.specs.Plans.{IsPlan, packed, whole};
 ghost use Rattle.strip_coder.specs.Works.{KeepsShare};
 ghost use Rattle.stream_defs.specs.Output.{ancillary_of, head_with, image_part, segments_of, share, reports_last, written_stop};
 
@@ -32,21 +32,21 @@ pub fn write_segment<X: Port>(
     packets: &mut Packetiser,
     writer: &SegmentWriter,
 ) -> Result<u64, Failed>
-    requires in_range { IsPlan present.now.plan.now }
+    requires in_range { IsPlan (packed present.now.plan.now) }
     requires book { writer.now.tables.book ≡ present.now.plan.now.setting.book }
-    requires index { present.now.at.now.index < segments_of (whole present.now.plan.now) }
-    requires share { KeepsShare (whole present.now.plan.now) present.now.at.now }
+    requires index { present.now.at.now.index < segments_of (whole (packed present.now.plan.now)) }
+    requires share { KeepsShare (whole (packed present.now.plan.now)) present.now.at.now }
     requires some { 64 ≤ length blocks.old.numbers }
     requires most { length blocks.old.numbers ≤ 64 * 1048575 }
     requires packet { packets.old.packet ≡ present.now.plan.now.setting.packet }
     requires idle { packets.old.stage ≡ Idle }
     requires texts { packets.old.texts < 2 ^ 28 }
     ensures text { MatchResult result
-        (λ octets. TextOut (text_of present.now.plan.now present.now.at.now.index) (X.outside port.old) (X.outside port.new) packets.old packets.new
-        (text_for present.now.plan.now present.now.at.now.index present.now.at.now.used (blocks_in blocks.old.numbers))
-        × (octets ≡ length (text_for present.now.plan.now present.now.at.now.index present.now.at.now.used (blocks_in blocks.old.numbers))))
-        (λ _. TextCut (text_of present.now.plan.now present.now.at.now.index) (X.outside port.old) (X.outside port.new) packets.old packets.new
-        (text_for present.now.plan.now present.now.at.now.index present.now.at.now.used (blocks_in blocks.old.numbers))) }
+        (λ octets. TextOut (text_of (packed present.now.plan.now) present.now.at.now.index) (X.outside port.old) (X.outside port.new) packets.old packets.new
+        (text_for (packed present.now.plan.now) present.now.at.now.index present.now.at.now.used (blocks_in blocks.old.numbers))
+        × (octets ≡ length (text_for (packed present.now.plan.now) present.now.at.now.index present.now.at.now.used (blocks_in blocks.old.numbers))))
+        (λ _. TextCut (text_of (packed present.now.plan.now) present.now.at.now.index) (X.outside port.old) (X.outside port.new) packets.old packets.new
+        (text_for (packed present.now.plan.now) present.now.at.now.index present.now.at.now.used (blocks_in blocks.old.numbers))) }
     ensures most { blocks.new.most ≡ blocks.old.most }
 {
     let depths = blocks.depths();
@@ -67,10 +67,10 @@ pub fn write_segment<X: Port>(
 // Returns the greatest number of octets of the text of the present segment; 0 is no bound. Of a bound on all texts it is an even share of
 // what is left, in whole code words.
 fn share(plan: &Plan, at: &ImageAt) -> u32
-    requires in_range { IsPlan plan.now }
-    requires index { at.now.index < segments_of (whole plan.now) }
-    requires left { KeepsShare (whole plan.now) at.now }
-    ensures { result ≡ share (whole plan.now) at.now.index at.now.used }
+    requires in_range { IsPlan (packed plan.now) }
+    requires index { at.now.index < segments_of (whole (packed plan.now)) }
+    requires left { KeepsShare (whole (packed plan.now)) at.now }
+    ensures { result ≡ share (whole (packed plan.now)) at.now.index at.now.used }
 {
     let setting = &plan.setting;
     if setting.total == 0 {
@@ -98,7 +98,7 @@ fn image_part(setting: &Setting) -> ImagePart
 
 // Returns the number of padding rows of the image.
 fn pad_rows(plan: &Plan) -> u8
-    requires { IsPlan plan.now }
+    requires { IsPlan (packed plan.now) }
     ensures { result ≡ padded_size plan.now.rows - plan.now.rows }
 {
     (plan.setting.geometry_for(plan.rows).padded_rows() - plan.rows) as u8
@@ -122,9 +122,9 @@ fn written_stop(stop: Stop) -> Stop
 /// Returns the head of the segment of this index, with this limit and this number of blocks, which have these depths of DC and AC numbers
 /// (docs/formats.md, "The head").
 pub fn make_head(plan: &Plan, index: u32, limit: u32, count: u32, depths: (u8, u8)) -> SegmentHead
-    requires in_range { IsPlan plan.now }
-    requires index { index < segments_of (whole plan.now) }
-    ensures { result ≡ head_with (whole plan.now) index limit count depths.0 depths.1 }
+    requires in_range { IsPlan (packed plan.now) }
+    requires index { index < segments_of (whole (packed plan.now)) }
+    ensures { result ≡ head_with (whole (packed plan.now)) index limit count depths.0 depths.1 }
 {
     let setting = &plan.setting;
     let last = index + 1 == setting.geometry_for(plan.rows).segments();
@@ -149,9 +149,9 @@ pub fn make_head(plan: &Plan, index: u32, limit: u32, count: u32, depths: (u8, u
 
 // Returns the ancillary data of a segment's packets.
 fn ancillary(plan: &Plan, index: u32) -> Ancillary
-    requires in_range { IsPlan plan.now }
-    requires index { index < segments_of (whole plan.now) }
-    ensures { result ≡ ancillary_of (reports_last plan.now.setting) (whole plan.now) index }
+    requires in_range { IsPlan (packed plan.now) }
+    requires index { index < segments_of (whole (packed plan.now)) }
+    ensures { result ≡ ancillary_of (reports_last plan.now.setting) (whole (packed plan.now)) index }
 {
     let setting = &plan.setting;
     Ancillary {

@@ -1,6 +1,14 @@
 use Rattle.std.proofs.Common.{refl}
+use Rattle.base_122.proofs.GeometryRanges.{in_range-image_geometry}
+use Rattle.bare_stream.proofs.Counts.{rows_in}
 use Rattle.bare_stream.proofs.Runs.{run_done, run_long, run_unread}
 use Rattle.bare_stream.proofs.encode.encode_bare.Goals as goal
+
+pub segments-requires : goal.segments-requires
+segments-requires g c =
+    let s = c.args.setting.now in
+    rw c.geometry_for.ensures (in_range-image_geometry s s.rows c.requires.in_range
+    (rows_in s (record { in_range = c.requires.in_range; known = c.requires.known; no_total = c.requires.no_total })))
 
 pub returns-in-Ok-true-clause-encodes : goal.returns-in-Ok-true-clause-encodes
 returns-in-Ok-true-clause-encodes g c =

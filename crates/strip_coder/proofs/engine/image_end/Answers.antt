@@ -3,14 +3,14 @@ use Rattle.base_122.specs.Sizes.{padded_size}
 use Rattle.strip_coder.specs.Plans.{plan_of}
 use Rattle.strip_coder.proofs.RowTakes.{padded_small, row_running}
 use Rattle.strip_coder.proofs.PaddedRows.{pads, long_as}
-use Rattle.strip_coder.proofs.ImageEnds.{all_running, all_follows, all_pushed, image_ends, tail_breaks, finish_breaks}
+use Rattle.strip_coder.proofs.ImageEnds.{all_running, all_follows, image_ends, image_breaks}
 use Rattle.strip_coder.proofs.engine.image_end.Goals as goal
 
-pub push_tail-requires-clause-in_range : goal.push_tail-requires-clause-in_range
-push_tail-requires-clause-in_range g c = rw c.new-plan.ensures (record { in_range = c.requires.in_range; height = c.requires.height })
+pub write_rest-requires-clause-in_range : goal.write_rest-requires-clause-in_range
+write_rest-requires-clause-in_range g c = rw c.new-plan.ensures (record { in_range = c.requires.in_range; height = c.requires.height })
 
-pub push_tail-requires-clause-running : goal.push_tail-requires-clause-running
-push_tail-requires-clause-running g c =
+pub write_rest-requires-clause-running : goal.write_rest-requires-clause-running
+write_rest-requires-clause-running g c =
     rw c.new-plan.ensures (row_running _ c.args.work.now _ (record {
       row = refl;
       strip = refl;
@@ -22,11 +22,11 @@ push_tail-requires-clause-running g c =
       at = refl;
     }) (all_running c.args.setting.now c.args.work.now.at.rows c.args.work.now c.requires.in_range c.requires.height c.requires.taken))
 
-pub push_tail-requires-clause-rows : goal.push_tail-requires-clause-rows
-push_tail-requires-clause-rows g c = rw c.new-plan.ensures c.requires.taken.strip_rows
+pub write_rest-requires-clause-rows : goal.write_rest-requires-clause-rows
+write_rest-requires-clause-rows g c = rw c.new-plan.ensures c.requires.taken.strip_rows
 
-pub push_tail-requires-clause-small : goal.push_tail-requires-clause-small
-push_tail-requires-clause-small g c =
+pub write_rest-requires-clause-small : goal.write_rest-requires-clause-small
+write_rest-requires-clause-small g c =
     let s = c.args.setting.now in
     let w = c.args.work.now in
     let long = c.pad_row.auto.row ∙ c.deref_mut.ensures.len in
@@ -34,15 +34,6 @@ push_tail-requires-clause-small g c =
     (padded_small (plan_of s w.at.rows) (record { in_range = c.requires.in_range; height = c.requires.height }) w.row.items _
     (pads s.width w.row _ c.pad_row.new.row c.deref_mut.ensures.value long c.pad_row.ensures)
     (long_as w.row c.pad_row.new.row (padded_size s.width) long c.requires.taken.running.gathered.made.row) c.requires.values)
-
-pub finish-requires-clause-in_range : goal.finish-requires-clause-in_range
-finish-requires-clause-in_range g c = rw c.new-plan.ensures (record { in_range = c.requires.in_range; height = c.requires.height })
-
-pub finish-requires-clause-ending : goal.finish-requires-clause-ending
-finish-requires-clause-ending g c =
-    let s = c.args.setting.now in
-    let w = c.args.work.now in
-    rw c.new-plan.ensures (all_pushed (plan_of s w.at.rows) _ c.push_tail.new.work c.requires.taken.strip_rows (rw c.new-plan.ensures at c.in-Ok.ensures))
 
 pub done_so_far-requires : goal.done_so_far-requires
 done_so_far-requires g c = rw c.new-plan.ensures (record { in_range = c.requires.in_range; height = c.requires.height })
@@ -52,23 +43,11 @@ returns-in_default g c =
     let s = c.args.setting.now in
     let w = c.args.work.now in
     let long = c.pad_row.auto.row ∙ c.deref_mut.ensures.len in
-    tail_breaks s w.at.rows (record { in_range = c.requires.in_range; height = c.requires.height }) w _
+    image_breaks s w.at.rows (record { in_range = c.requires.in_range; height = c.requires.height }) w _
     (record { row = refl; strip = refl; blocks = refl; packets = refl; writer = refl; room = refl; at = refl })
     (pads s.width w.row _ c.pad_row.new.row c.deref_mut.ensures.value long c.pad_row.ensures)
     (long_as w.row c.pad_row.new.row (padded_size s.width) long c.requires.taken.running.gathered.made.row)
-    (all_follows s w.at.rows w c.requires.in_range c.requires.height c.requires.taken) c.push_tail.new.work (rw c.new-plan.ensures at c.in_default.ensures)
-
-pub returns-in_default-finish : goal.returns-in_default-finish
-returns-in_default-finish g c =
-    let s = c.args.setting.now in
-    let w = c.args.work.now in
-    let long = c.pad_row.auto.row ∙ c.deref_mut.ensures.len in
-    finish_breaks s w.at.rows (record { in_range = c.requires.in_range; height = c.requires.height }) w _
-    (record { row = refl; strip = refl; blocks = refl; packets = refl; writer = refl; room = refl; at = refl })
-    (pads s.width w.row _ c.pad_row.new.row c.deref_mut.ensures.value long c.pad_row.ensures)
-    (long_as w.row c.pad_row.new.row (padded_size s.width) long c.requires.taken.running.gathered.made.row)
-    (all_follows s w.at.rows w c.requires.in_range c.requires.height c.requires.taken) _ c.push_tail.new.work c.finish.new.work
-    (rw c.new-plan.ensures at c.in-Ok.ensures) (rw c.new-plan.ensures at c.in_default-finish.ensures)
+    (all_follows s w.at.rows w c.requires.in_range c.requires.height c.requires.taken) c.write_rest.new.work (rw c.new-plan.ensures at c.in_default.ensures)
 
 pub returns : goal.returns
 returns g c =
@@ -79,5 +58,5 @@ returns g c =
     (record { row = refl; strip = refl; blocks = refl; packets = refl; writer = refl; room = refl; at = refl })
     (pads s.width w.row _ c.pad_row.new.row c.deref_mut.ensures.value long c.pad_row.ensures)
     (long_as w.row c.pad_row.new.row (padded_size s.width) long c.requires.taken.running.gathered.made.row)
-    (all_follows s w.at.rows w c.requires.in_range c.requires.height c.requires.taken) _ c.push_tail.new.work c.finish.new.work c.done_so_far.result
-    (rw c.new-plan.ensures at c.in-Ok.ensures) (rw c.new-plan.ensures at c.in-Ok-finish.ensures) (rw c.new-plan.ensures at c.done_so_far.ensures)
+    (all_follows s w.at.rows w c.requires.in_range c.requires.height c.requires.taken) c.write_rest.new.work c.done_so_far.result
+    (rw c.new-plan.ensures at c.in-Ok.ensures) (rw c.new-plan.ensures at c.done_so_far.ensures)

@@ -3,12 +3,13 @@ use Rattle.base_122.specs.Sizes.{padded_size}
 use Rattle.wave_defs.specs.Held.{signal}
 use Rattle.wave_defs.specs.Within.{AllWithin}
 use Rattle.wave_strip.specs.Strip.{rows_of, columns_of, answered_of}
+use Rattle.strip_coder.specs.Plans.{job_of}
 use Rattle.strip_coder.proofs.RowPushes.{it_came, none_came, pushed_none, pushed_some}
 use Rattle.strip_coder.proofs.engine.push.Goals as goal
 
 pub push_row-came-requires-clause-bounded : goal.push_row-came-requires-clause-bounded
 push_row-came-requires-clause-bounded g c =
-    let s = c.args.plan.now in
+    let s = job_of g.S.SegmentOut.form c.args.plan.now in
     let w = c.args.work.now in
     let columns : padded_size s.setting.width ≡ 8 * columns_of w.strip = (let made = c.requires.running.gathered.made.strip in omega (arith, made)) in
     rw c.deref.ensures.value (subst (λ n. AllWithin (2 ^ 16) n (signal w.row.items)) columns c.requires.small)
@@ -20,7 +21,7 @@ gather_row-requires-clause-valid g c =
 
 pub returns-then-is_none : goal.returns-then-is_none
 returns-then-is_none g c =
-    let s = c.args.plan.now in
+    let s = job_of g.S.SegmentOut.form c.args.plan.now in
     let w = c.args.work.now in
     let e = c.push_row-came.ensures in
     pushed_none s c.requires.in_range w _ c.requires.running c.requires.few
@@ -38,7 +39,7 @@ returns-then-is_none g c =
 
 pub returns : goal.returns
 returns g c =
-    let s = c.args.plan.now in
+    let s = job_of g.S.SegmentOut.form c.args.plan.now in
     let w = c.args.work.now in
     let e = c.push_row-came.ensures in
     pushed_some s c.requires.in_range w _ c.requires.running c.requires.few

@@ -15,4 +15,12 @@ returns-clause-start c =
       writer = made.writer;
       room = made.room;
     })
-    c.reset.ensures.start (c.reset-2.ensures ∙ ap fresh made.packet) c.clear.ensures.numbers refl
+    (record { strip = c.reset.ensures.start; packets = c.reset-2.ensures ∙ ap fresh made.packet; none = c.clear.ensures.numbers; at = refl })
+
+pub returns-clause-fresh : goal.returns-clause-fresh
+returns-clause-fresh c = record {
+  strip = c.reset.ensures.start;
+  packets = c.reset-2.ensures ∙ ap fresh c.requires.made.packet;
+  none = c.clear.ensures.numbers;
+  at = refl;
+}

@@ -3,19 +3,21 @@ use Rattle.base_122.specs.Sizes.{block_count}
 use Rattle.base_122.proofs.GeometryRanges.{in_range-image_geometry}
 use Rattle.block_families.specs.Places.{gathered}
 use Rattle.wave_strip.specs.Strip.{number_in, is_current}
+use Rattle.strip_coder.specs.Plans.{job_of}
 use Rattle.strip_coder.specs.Steps.{HasGone, HasBroken}
 use Rattle.strip_coder.proofs.GatherSteps.{none_gone, then_gone, then_broken, failed_gathers, more_segments}
 use Rattle.strip_coder.proofs.gather.gather_row.Goals as goal
 
 pub padded_width-columns-requires : goal.padded_width-columns-requires
 padded_width-columns-requires g c =
-    let s = c.args.plan.now in
+    let s = job_of g.S.SegmentOut.form c.args.plan.now in
     rw c.geometry_for.ensures (in_range-image_geometry s.setting s.rows c.requires.in_range.in_range c.requires.in_range.height.0)
 
 pub loop-column-init : goal.loop-column-init
 loop-column-init g c = record {
   few = omega arith;
-  gone = none_gone c.args.plan.now c.args.work.now (gathered (number_in c.args.work.now.strip) c.args.plan.now.setting.weights.shifts) c.requires.gathered;
+  gone = none_gone (job_of g.S.SegmentOut.form c.args.plan.now) c.args.work.now
+      (gathered (number_in c.args.work.now.strip) c.args.plan.now.setting.weights.shifts) c.requires.gathered;
 }
 
 pub gather_next-requires-clause-gathered : goal.gather_next-requires-clause-gathered
@@ -23,7 +25,7 @@ gather_next-requires-clause-gathered g c = c.loop-column.invariant.gone.gathered
 
 pub gather_next-requires-clause-more : goal.gather_next-requires-clause-more
 gather_next-requires-clause-more g c =
-    let s = c.args.plan.now in
+    let s = job_of g.S.SegmentOut.form c.args.plan.now in
     let columns = rw c.geometry_for.ensures at c.padded_width-columns.ensures in
     let so_far = c.loop-column.invariant.gone in
     more_segments s c.requires.in_range c.loop-column.work so_far.gathered (omega (arith, columns, so_far.count, c.requires.room, c.loop-column-test.true))
@@ -38,7 +40,7 @@ gather_next-requires-clause-columns g c =
 
 pub returns-in_err-column : goal.returns-in_err-column
 returns-in_err-column g c =
-    let s = c.args.plan.now in
+    let s = job_of g.S.SegmentOut.form c.args.plan.now in
     let now = c.args.work.now.strip in
     let column = c.loop-column.column in
     let all = block_count s.setting.width in
@@ -57,7 +59,7 @@ returns-in_err-column g c =
 
 pub loop-column-preserved : goal.loop-column-preserved
 loop-column-preserved g c =
-    let s = c.args.plan.now in
+    let s = job_of g.S.SegmentOut.form c.args.plan.now in
     let now = c.args.work.now.strip in
     let column = c.loop-column.column in
     let n = c.in_ok-column.field-0 in
@@ -78,7 +80,7 @@ loop-column-smaller g c =
 
 pub returns : goal.returns
 returns g c =
-    let s = c.args.plan.now in
+    let s = job_of g.S.SegmentOut.form c.args.plan.now in
     let columns = rw c.geometry_for.ensures at c.padded_width-columns.ensures in
     let all : c.loop-column.column ≡ block_count s.setting.width = omega (arith, columns, c.loop-column-test.false, c.loop-column.invariant.few) in
     rw all at c.loop-column.invariant.gone

@@ -2,8 +2,7 @@ use Rattle.std.proofs.Common.{rules, Ok, Err, ◌≡◌, ◌<◌, ◌≤◌, ◌
 use Rattle.std.proofs.lemmas.Grind.{common_steps}
 use Rattle.port_122.specs.Outside.{Outside}
 use Rattle.base_122.specs.declared.book.Book.{Book}
-use Rattle.strip_coder.specs.Plans.{IsPlan, whole}
-use Rattle.strip_coder.specs.declared.plan.Plan.{Plan}
+use Rattle.strip_coder.specs.Plans.{Job, IsPlan, whole, packed}
 use Rattle.segment_defs.specs.declared.head.SegmentHead.{SegmentHead}
 use Rattle.wave_defs.specs.Held.{blocks_in}
 use Rattle.segment_defs.specs.Depths.{depth_dc_of, depth_ac_of}
@@ -35,7 +34,7 @@ cut_to outside x y w u {t = t} {p = p} {v = v} {text = text} e f cut = grind (ar
 begun_valid : (stage : PacketiserState) (t : Text) → stage ≡ Begun t → IsBegun stage
 begun_valid stage t e = subst IsBegun (sym e) tt
 
-begun_with : (s : Plan) (index : ℕ) (v : Progress) (a : Ancillary) → a ≡ ancillary_of (reports_last s.setting) (whole s) index →
+begun_with : (s : Job) (index : ℕ) (v : Progress) (a : Ancillary) → a ≡ ancillary_of (reports_last s.setting) (whole s) index →
     begun v (record { apid = s.setting.apid; ancillary = a }) ≡ begun v (text_of s index)
 begun_with s index v a e = ap (λ a. begun v (record { apid = s.setting.apid; ancillary = a })) e
 
@@ -43,20 +42,20 @@ begun_to : (a b : PacketiserState) → a ≡ b → IsBegun b → IsBegun a
 begun_to a b e begun = subst IsBegun (sym e) begun
 
 -- the text of the head that was made
-made : (book : Book) (s : Plan) → book ≡ s.setting.book → (index used limit count depth_dc depth_ac : ℕ) (head : SegmentHead) (cells : List ℤ) →
+made : (book : Book) (s : Job) → book ≡ s.setting.book → (index used limit count depth_dc depth_ac : ℕ) (head : SegmentHead) (cells : List ℤ) →
     head ≡ head_with (whole s) index limit count depth_dc depth_ac →
     limit ≡ share (whole s) index used → length cells ≡ 64 * count → depth_dc ≡ depth_dc_of (blocks_in cells) → depth_ac ≡ depth_ac_of (blocks_in cells) →
     coded book head (blocks_in cells) ≡ text_for s index used (blocks_in cells)
 made book s own index used limit count depth_dc depth_ac head cells e l f dc ac = grind (arith, common_steps, text_same, length-blocks_in)
 
 -- and it isn't empty
-some_text : (s : Plan) (index used : ℕ) (cells : List ℤ) → IsPlan s → 0 < length (text_for s index used (blocks_in cells))
+some_text : (s : Job) (index used : ℕ) (cells : List ℤ) → IsPlan s → 0 < length (text_for s index used (blocks_in cells))
 some_text s index used cells range = grind (arith, common_steps, coded_some)
 
 -- it can be written
 pub encode-requires-clause-fits : goal.encode-requires-clause-fits
 encode-requires-clause-fits g c =
-    let s = c.args.present.now.plan.now in
+    let s = packed c.args.present.now.plan.now in
     let image = c.args.present.now.at.now in
     let depths = c.depths-depths in
     let long = c.len.ensures in
@@ -69,7 +68,7 @@ encode-requires-clause-fits g c =
 
 pub returns-in_default : goal.returns-in_default
 returns-in_default g c =
-    let s = c.args.present.now.plan.now in
+    let s = packed c.args.present.now.plan.now in
     let image = c.args.present.now.at.now in
     let cells = c.args.blocks.now.numbers in
     let least : 64 ≤ c.args.packets.now.packet = omega (arith, c.requires.packet, c.requires.in_range.in_range.packet) in
@@ -94,7 +93,7 @@ returns-in_default g c =
 
 pub close-requires-clause-begun : goal.close-requires-clause-begun
 close-requires-clause-begun g c =
-    let s = c.args.present.now.plan.now in
+    let s = packed c.args.present.now.plan.now in
     let image = c.args.present.now.at.now in
     let least : 64 ≤ c.args.packets.now.packet = omega (arith, c.requires.packet, c.requires.in_range.in_range.packet) in
     let begins = c.sink-sink.ensures.same_packets ∙ c.begin.ensures.begun ∙ begun_with s image.index c.args.packets.now c.ancillary.result
@@ -106,7 +105,7 @@ close-requires-clause-begun g c =
 
 pub close-requires-clause-some : goal.close-requires-clause-some
 close-requires-clause-some g c =
-    let s = c.args.present.now.plan.now in
+    let s = packed c.args.present.now.plan.now in
     let image = c.args.present.now.at.now in
     let cells = c.args.blocks.now.numbers in
     let least : 64 ≤ c.args.packets.now.packet = omega (arith, c.requires.packet, c.requires.in_range.in_range.packet) in
@@ -127,7 +126,7 @@ close-requires-clause-some g c =
 
 pub returns-in_default-close : goal.returns-in_default-close
 returns-in_default-close g c =
-    let s = c.args.present.now.plan.now in
+    let s = packed c.args.present.now.plan.now in
     let image = c.args.present.now.at.now in
     let cells = c.args.blocks.now.numbers in
     let index = image.index in
@@ -153,7 +152,7 @@ returns-in_default-close g c =
 
 pub returns : goal.returns
 returns g c =
-    let s = c.args.present.now.plan.now in
+    let s = packed c.args.present.now.plan.now in
     let image = c.args.present.now.at.now in
     let cells = c.args.blocks.now.numbers in
     let index = image.index in

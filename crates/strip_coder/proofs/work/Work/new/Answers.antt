@@ -40,4 +40,4 @@ returns-clause-start c =
       writer = c.new-4.ensures.book;
       room = c.need.ensures;
     })
-    c.in_ok-strip.ensures.start c.in_ok-packets.ensures c.in_ok-blocks.ensures.numbers refl
+    (record { strip = c.in_ok-strip.ensures.start; packets = c.in_ok-packets.ensures; none = c.in_ok-blocks.ensures.numbers; at = refl })
