@@ -54,11 +54,15 @@ are_octets high low j lt =
     ap (λ n. 16 * n + bit_and low firsts / 2 ^ (8 * j) % 2 ^ 8) (fours_at high j lt) ∙
     ap (λ n. 16 * (high / 2 ^ (8 * j) % 2 ^ 4) + n) (fours_at low j lt)
 
+-- four positions of a mask
+pub shows_some : {mask start whole : ℕ} {f : ℕ → Bool} (at : ℕ) → at + 4 ≤ whole → Shows mask f start whole → Shows (mask / 2 ^ at % 2 ^ 4) f (start + at) 4
+shows_some {mask} {start} {whole} {f} at within p =
+    subst (λ m. Shows m f (start + at) 4) (part_is mask at 4 (omega arith)) (shows_part at 4 (omega arith) p within)
+
 -- the four positions of an octet
 pub shows_four : {mask : ℕ} {f : ℕ → Bool} (at shift : ℕ) → shift ≡ at → at + 4 ≤ 64 → Shows mask f 0 64 → Shows (mask / 2 ^ shift % 2 ^ 4) f at 4
 shows_four {mask} {f} at shift same within p =
-    subst (λ n. Shows (mask / 2 ^ n % 2 ^ 4) f at 4) (sym same)
-    (subst (λ m. Shows m f at 4) (part_is mask at 4 (omega arith)) (from_zero at (shows_part at 4 (omega arith) p within)))
+    subst (λ n. Shows (mask / 2 ^ n % 2 ^ 4) f at 4) (sym same) (from_zero at (shows_some at within p))
 
 pub shows_octet : {due bits : ℕ} {f g : ℕ → Bool} (octet k shift : ℕ) → shift ≡ 4 * k → k < 16 →
     octet ≡ 16 * (due / 2 ^ shift % 2 ^ 4) + bits / 2 ^ shift % 2 ^ 4 → Shows due g 0 64 → Shows bits f 0 64 →

@@ -38,6 +38,17 @@ impl PairedFours {
         }
     }
 
+    /// Returns the octet of four positions from 4k on: what is due is sixteen times as much in it.
+    #[inline(always)]
+    pub fn octet(&self, k: u8) -> u64
+        requires { k < 16 }
+        ensures value { (due bits : ℕ) → ArePaired due bits self.now → result ≡ 16 * (due / 2 ^ (4 * k) % 2 ^ 4) + bits / 2 ^ (4 * k) % 2 ^ 4 }
+        ensures within { result < 256 }
+    {
+        let octets = if k % 2 == 0 { self.even } else { self.odd };
+        (octets >> (8 * (k / 2))) % 0x100
+    }
+
     /// Returns the bits at the due ones of four positions from 4k on, as `pick` does.
     #[inline(always)]
     pub fn pick(&self, k: u8) -> u8
@@ -47,7 +58,6 @@ impl PairedFours {
         ensures within { result < 80 }
         ensures fits { result % 16 < 2 ^ (result / 16) }
     {
-        let octets = if k % 2 == 0 { self.even } else { self.odd };
-        pick_octet((octets >> (8 * (k / 2))) % 0x100)
+        pick_octet(self.octet(k))
     }
 }

@@ -128,9 +128,9 @@ impl<'a> PlaneMasks<'a> {
         let due = both(part(self.due, at, count), among);
         let ones = both(due, part(self.reached, at, count));
         let minus = both(ones, part(self.negative, at, count));
+        let plain = except(minus, due);
         Fours {
-            plain: except(minus, due),
-            ones,
+            pairs: PairedFours::of(plain, ones),
         }
     }
 
