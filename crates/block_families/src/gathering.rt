@@ -38,10 +38,15 @@ fn put_square(upper: &[i32], lower: &[i32], place: SquarePlace, into: &mut [i32]
     ensures { Fills (λ i. square upper.now lower.now place.start (i - place.at) *ℤ pos (2 ^ place.shift)) place.at 4 into.old into.new }
 {
     let SquarePlace { start, shift, at } = place;
-    into[at] = times(upper[start], shift);
-    into[at + 1] = times(upper[start + 1], shift);
-    into[at + 2] = times(lower[start], shift);
-    into[at + 3] = times(lower[start + 1], shift);
+    // All four are read before any is put, so that the compiler can move them together.
+    let first = times(upper[start], shift);
+    let second = times(upper[start + 1], shift);
+    let third = times(lower[start], shift);
+    let fourth = times(lower[start + 1], shift);
+    into[at] = first;
+    into[at + 1] = second;
+    into[at + 2] = third;
+    into[at + 3] = fourth;
 }
 
 // Where the squares of some blocks are in two rows, the weight of their band, and where their numbers go in a block.

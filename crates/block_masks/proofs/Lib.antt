@@ -3,6 +3,7 @@ pub mod LaneMasks
 pub mod SizeLanes
 pub mod Maskings
 pub mod Picking
+pub mod Pairing
 pub mod Viewing
 pub mod MarkParts
 pub mod Marking

@@ -16,7 +16,7 @@ use Rattle.block_masks.specs.Picks.{packed, AreSpread}
 use Rattle.block_masks.specs.declared.picks.TheConstants.{PICKS, SPREADS, FIRST_SPREADS}
 
 abbrev entry : ℕ → ℕ → ℕ
-entry due bits = slice_index_or (slice_index_or PICKS due []) bits 0
+entry due bits = slice_index_or PICKS (16 * due + bits) 0
 
 small_entries : list_all (λ i. list_all (λ j. nat_lt (entry i j) 80) (span 0 16)) (span 0 16) ≡ true
 unfolding span
@@ -395,3 +395,7 @@ first_spread due bits four low =
     let test = list_all-span-zero (λ j. is_first due j) 16 bits row low in
     subst (AreSpread due (bits / 2 ^ (4 - count_ones due))) (eqb-true _ _ (and-left _ _ test))
     (are_spread due (bits / 2 ^ (4 - count_ones due)) four (ltb-true _ _ (and-right _ _ test)))
+
+-- an octet has what is due as its high digits, and the bits as its low ones
+pub octet_entry : (octet : ℕ) → slice_index_or PICKS octet 0 ≡ entry (octet / 16) (octet % 16)
+octet_entry octet = let whole : octet ≡ 16 * (octet / 16) + octet % 16 = omega arith in ap (λ n. slice_index_or PICKS n 0) whole

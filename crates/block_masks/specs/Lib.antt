@@ -1,5 +1,6 @@
 pub mod Masks
 pub mod Picks
+pub mod Paired
 pub mod SetMasks
 pub mod Gaggles
 pub mod Stored

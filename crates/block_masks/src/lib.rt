@@ -6,16 +6,17 @@
 //!
 //! Bit k of a mask is for the k-th position. `plan` makes a `CodedPlane` of a `PlanePlan`, once for all blocks. `masks` and
 //! `bytes` read a block, `mask_sets` makes masks of masks, `sets` finds the sets of positions that have a member of a mask, and `picks`
-//! collects the bits of up to four positions. `walk` goes over the positions of a mask. `segment_masks` has the masks of a segment that
-//! is written, which are made block by block. `slices` has those of a segment that is read, in the
-//! place of its numbers. From one stage to the next `gaggle` keeps in the
-//! states of blocks which options and words the gaggles have, and which families of a block are significant.
+//! collects the bits of up to four positions. `paired` has two masks beside each other, of which it picks like `picks`. `walk` goes over
+//! the positions of a mask. `segment_masks` has the masks of a segment that is written, which are made block by block. `slices` has those of
+//! a segment that is read, in the place of its numbers. From one stage to the next `gaggle` keeps in the states of blocks which options and
+//! words the gaggles have, and which families of a block are significant.
 #![tactic(auto)]
 
 mod bytes;
 mod gaggle;
 mod mask_sets;
 mod masks;
+mod paired;
 mod picks;
 mod plan;
 mod segment_masks;
@@ -25,6 +26,7 @@ mod walk;
 
 pub use gaggle::{Gaggle, depth_of, families_of, gaggle_in, load, mark_of, store, with_families};
 pub use mask_sets::{both, either, except, four, has, is_any, joined, masked, one, part, three};
+pub use paired::PairedFours;
 pub use picks::{pick, spread, spread_first};
 pub use plan::{CodedPlane, PlanePlan};
 pub use segment_masks::SegmentMasks;

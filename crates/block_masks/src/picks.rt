@@ -5,55 +5,20 @@ ghost use Rattle.plane_defs.specs.Spans.{span};
 ghost use Rattle.block_masks.specs.Masks.{Shows};
 ghost use Rattle.block_masks.specs.Picks.{packed, AreSpread};
 
-// The entry for each mask of what is due, and each mask of bits: sixteen times the number of bits that are
+// The entry for sixteen times a mask of what is due, plus a mask of bits: sixteen times the number of bits that are
 // due, plus the number that they make, the first position highest.
-const PICKS: [[u8; 16]; 16] = [
-    [0, 0, 0, 0, 0, 0, 0, 0, 0, 0, 0, 0, 0, 0, 0, 0],
-    [
-        16, 17, 16, 17, 16, 17, 16, 17, 16, 17, 16, 17, 16, 17, 16, 17,
-    ],
-    [
-        16, 16, 17, 17, 16, 16, 17, 17, 16, 16, 17, 17, 16, 16, 17, 17,
-    ],
-    [
-        32, 34, 33, 35, 32, 34, 33, 35, 32, 34, 33, 35, 32, 34, 33, 35,
-    ],
-    [
-        16, 16, 16, 16, 17, 17, 17, 17, 16, 16, 16, 16, 17, 17, 17, 17,
-    ],
-    [
-        32, 34, 32, 34, 33, 35, 33, 35, 32, 34, 32, 34, 33, 35, 33, 35,
-    ],
-    [
-        32, 32, 34, 34, 33, 33, 35, 35, 32, 32, 34, 34, 33, 33, 35, 35,
-    ],
-    [
-        48, 52, 50, 54, 49, 53, 51, 55, 48, 52, 50, 54, 49, 53, 51, 55,
-    ],
-    [
-        16, 16, 16, 16, 16, 16, 16, 16, 17, 17, 17, 17, 17, 17, 17, 17,
-    ],
-    [
-        32, 34, 32, 34, 32, 34, 32, 34, 33, 35, 33, 35, 33, 35, 33, 35,
-    ],
-    [
-        32, 32, 34, 34, 32, 32, 34, 34, 33, 33, 35, 35, 33, 33, 35, 35,
-    ],
-    [
-        48, 52, 50, 54, 48, 52, 50, 54, 49, 53, 51, 55, 49, 53, 51, 55,
-    ],
-    [
-        32, 32, 32, 32, 34, 34, 34, 34, 33, 33, 33, 33, 35, 35, 35, 35,
-    ],
-    [
-        48, 52, 48, 52, 50, 54, 50, 54, 49, 53, 49, 53, 51, 55, 51, 55,
-    ],
-    [
-        48, 48, 52, 52, 50, 50, 54, 54, 49, 49, 53, 53, 51, 51, 55, 55,
-    ],
-    [
-        64, 72, 68, 76, 66, 74, 70, 78, 65, 73, 69, 77, 67, 75, 71, 79,
-    ],
+const PICKS: [u8; 256] = [
+    0, 0, 0, 0, 0, 0, 0, 0, 0, 0, 0, 0, 0, 0, 0, 0, 16, 17, 16, 17, 16, 17, 16, 17, 16, 17, 16, 17,
+    16, 17, 16, 17, 16, 16, 17, 17, 16, 16, 17, 17, 16, 16, 17, 17, 16, 16, 17, 17, 32, 34, 33, 35,
+    32, 34, 33, 35, 32, 34, 33, 35, 32, 34, 33, 35, 16, 16, 16, 16, 17, 17, 17, 17, 16, 16, 16, 16,
+    17, 17, 17, 17, 32, 34, 32, 34, 33, 35, 33, 35, 32, 34, 32, 34, 33, 35, 33, 35, 32, 32, 34, 34,
+    33, 33, 35, 35, 32, 32, 34, 34, 33, 33, 35, 35, 48, 52, 50, 54, 49, 53, 51, 55, 48, 52, 50, 54,
+    49, 53, 51, 55, 16, 16, 16, 16, 16, 16, 16, 16, 17, 17, 17, 17, 17, 17, 17, 17, 32, 34, 32, 34,
+    32, 34, 32, 34, 33, 35, 33, 35, 33, 35, 33, 35, 32, 32, 34, 34, 32, 32, 34, 34, 33, 33, 35, 35,
+    33, 33, 35, 35, 48, 52, 50, 54, 48, 52, 50, 54, 49, 53, 51, 55, 49, 53, 51, 55, 32, 32, 32, 32,
+    34, 34, 34, 34, 33, 33, 33, 33, 35, 35, 35, 35, 48, 52, 48, 52, 50, 54, 50, 54, 49, 53, 49, 53,
+    51, 55, 51, 55, 48, 48, 52, 52, 50, 50, 54, 54, 49, 49, 53, 53, 51, 51, 55, 55, 64, 72, 68, 76,
+    66, 74, 70, 78, 65, 73, 69, 77, 67, 75, 71, 79,
 ];
 
 /// Returns the bits at the due ones of up to four positions, in order: sixteen times their number, plus the
@@ -67,7 +32,19 @@ pub fn pick(due: u64, bits: u64) -> u8
     ensures within { result < 80 }
     ensures fits { result % 16 < 2 ^ (result / 16) }
 {
-    PICKS[due as usize][bits as usize]
+    PICKS[(16 * due + bits) as usize]
+}
+
+// Returns the bits at the due ones of four positions, as `pick` does: the high digits of an octet are what is due, and the low ones the bits.
+#[inline(always)]
+pub(crate) fn pick_octet(octet: u64) -> u8
+    requires octet { octet < 256 }
+    ensures picked { (f g : ℕ → Bool) (start : ℕ) → Shows (octet / 16) g start 4 → Shows (octet % 16) f start 4 →
+        result ≡ packed (map f (filter g (span start 4))) }
+    ensures within { result < 80 }
+    ensures fits { result % 16 < 2 ^ (result / 16) }
+{
+    PICKS[octet as usize]
 }
 
 // The entry for each mask of what is due, and each number that the bits of the due positions make, the first highest: the

@@ -27,8 +27,8 @@ use Rattle.item_defs.proofs.Equations.{value_of-is}
 
 -- ---- the tables
 
-abbrev pub entry : List (List ℕ) → ℕ → ℕ → ℕ
-entry table row column = slice_index_or (slice_index_or table row []) column 0
+abbrev pub entry : List ℕ → ℕ → ℕ → ℕ
+entry table row column = slice_index_or table (16 * row + column) 0
 
 abbrev is_packed_number : ℕ → Bool
 is_packed_number n = nat_lt n 80 && nat_lt (n % 16) (2 ^ (n / 16))

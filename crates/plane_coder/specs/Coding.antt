@@ -1,5 +1,5 @@
 -- The codes of words in the tables.
-use Rattle.std.specs.Prelude.{◌≡◌, ◌<◌, ◌≤◌, ℕ, ◌+◌, ◌^◌, ◌==◌, Bool, false, List, [], if◌then◌else◌, nat_lt, slice_index_or}
+use Rattle.std.specs.Prelude.{◌≡◌, ◌<◌, ◌≤◌, ℕ, ◌+◌, ◌/◌, ◌%◌, ◌^◌, ◌==◌, Bool, false, List, [], if◌then◌else◌, nat_lt, slice_index_or}
 use lib.ListN.{get_or}
 use Rattle.item_defs.specs.Bits.{bits_of}
 use Rattle.item_defs.specs.Items.{item_bits}
@@ -8,6 +8,7 @@ use Rattle.base_122.specs.declared.book.Book.{Book}
 use Rattle.base_122.specs.Profile.{no_code}
 use Rattle.plane_defs.specs.Codes.{code_bits, word_item}
 use Rattle.plane_defs.specs.Spelled.{option_of}
+use Rattle.plane_coder.specs.Picked.{IsPacked}
 
 -- a word of up to four bits, and an option of its length
 pub record IsWordOf (length option value : ℕ) : Type 0 where
@@ -39,6 +40,11 @@ AreCodes book rows = (n option v : ℕ) → IsWordOf n option v → IsCodeOf boo
 -- the option of a word of this length, if there is a choice
 abbrev pub option_for : List ℕ → ℕ → ℕ
 option_for options length = if nat_lt length 2 then 0 else option_of options length
+
+-- the code of each word as it is picked, under the option of its length
+abbrev pub AreCodesUnder : Book → List ℕ → List Code → Type 0
+AreCodesUnder book options codes = (word : ℕ) → IsPacked word → IsCodeOf book (word / 16) (option_for options (word / 16)) (word % 16)
+    (slice_index_or codes word no_code)
 
 -- the number of bits of the identifiers that were not put yet
 abbrev pub unopened : List Bool → ℕ

@@ -6,6 +6,7 @@ pub mod Sends
 pub mod Viewed
 pub mod Picked
 pub mod Refining
+pub mod Refined
 pub mod Coding
 pub mod Appends
 pub mod Fours

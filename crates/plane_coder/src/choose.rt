@@ -17,9 +17,9 @@ ghost use Rattle.plane_coder.specs.Views.{plane_in, plane_at};
 use crate::collect::{ALL, GaggleWords, collect_gaggle};
 use crate::costs::{Costs, least};
 use crate::kept::{FREE, keep};
-use crate::option_codes::OptionCodes;
+use crate::option_codes::{OptionCodes, put_codes};
 use crate::room::GaggleRoom;
-use crate::tables::CodeTables;
+use crate::tables::{CodeTables, NOTHING};
 use crate::view::View;
 use block_masks::{CodedPlane, Gaggle, SegmentMasks, store};
 
@@ -71,7 +71,9 @@ fn keep_gaggle(kept: &mut [u64], tables: &CodeTables, gaggle: Gaggle, words: &Ga
     if kept.len() / FREE <= g {
         return;
     }
-    let option_codes = OptionCodes::new(tables, gaggle.options);
+    let mut codes = [NOTHING; 80];
+    put_codes(&mut codes, tables, gaggle.options);
+    let option_codes = OptionCodes::new(tables, gaggle.options, &codes);
     keep(
         &mut kept[FREE * g..FREE * g + FREE],
         &option_codes,

@@ -56,7 +56,7 @@ fn add_children_types(words: &mut Words<80>, plane_masks: &PlaneMasks, sets: Set
 {
     let types = plane_masks.types_of_children(sets);
     for i in 0..3u8 {
-        words.push(types.four(4 * i));
+        words.push(types.four(i));
     }
 }
 
@@ -83,7 +83,7 @@ fn add_quads_types(words: &mut Words<256>, plane_masks: &PlaneMasks, i: u8)
 {
     let types = plane_masks.types_of_quads(i);
     for j in 0..4u8 {
-        words.push(types.four(4 * j));
+        words.push(types.four(j));
     }
 }
 

@@ -3,10 +3,10 @@
 ghost use Rattle.std.specs.Prelude.{◌≡◌, ◌<◌, ◌≤◌, ◌/◌, ◌%◌, ℕ, [], slice_index_or};
 ghost use Rattle.block_masks.specs.Gaggles.{AreOptions};
 ghost use Rattle.base_122.specs.Profile.{no_code};
-ghost use Rattle.plane_coder.specs.Coding.{IsCodeOf, row_of, option_for};
+ghost use Rattle.plane_coder.specs.Coding.{IsCodeOf, AreCodesUnder, row_of, option_for};
 ghost use Rattle.plane_coder.specs.Picked.{IsPacked};
 
-use crate::tables::{CodeTables, NOTHING};
+use crate::tables::CodeTables;
 use base_122::Code;
 
 // Returns the index of the codes of each length of words from 0 on, each under one of its options.
@@ -19,19 +19,16 @@ fn rows_of(options: [u8; 3]) -> [u8; 5]
     [0, 1, 2 + options[0], 4 + options[1], 7 + options[2]]
 }
 
-// The code of each word as it is picked, under the option of its length.
+// Puts the code of each word as it is picked, under the option of its length.
 #[inline(always)]
-fn codes_of(tables: &CodeTables, options: [u8; 3]) -> [Code; 80]
+pub(crate) fn put_codes(codes: &mut [Code; 80], tables: &CodeTables, options: [u8; 3])
     requires { AreOptions options }
-    ensures { (word : ℕ) → IsPacked word → IsCodeOf tables.now.book (word / 16) (option_for options (word / 16)) (word % 16)
-        (slice_index_or result word no_code) }
+    ensures { AreCodesUnder tables.now.book options codes.new }
 {
     let rows = rows_of(options);
-    let mut codes = [NOTHING; 80];
     for n in 0..5usize {
         codes[16 * n..16 * n + 16].copy_from_slice(&tables.rows[rows[n] as usize]);
     }
-    codes
 }
 
 // The tables with the options of a gaggle, and the codes under them: each word has its place, as it is picked.
@@ -39,23 +36,23 @@ fn codes_of(tables: &CodeTables, options: [u8; 3]) -> [Code; 80]
 pub(crate) struct OptionCodes<'a> {
     pub tables: &'a CodeTables,
     pub options: [u8; 3],
-    codes: [Code; 80],
+    codes: &'a [Code; 80],
     ghost known: { AreOptions options },
-    ghost coded: { (word : ℕ) → IsPacked word → IsCodeOf tables.now.book (word / 16) (option_for options (word / 16)) (word % 16)
-        (slice_index_or codes word no_code) },
+    ghost coded: { AreCodesUnder tables.now.book options codes.now },
 }
 
 impl<'a> OptionCodes<'a> {
     #[inline(always)]
-    pub fn new(tables: &'a CodeTables, options: [u8; 3]) -> OptionCodes<'a>
-        requires { AreOptions options }
+    pub fn new(tables: &'a CodeTables, options: [u8; 3], codes: &'a [Code; 80]) -> OptionCodes<'a>
+        requires known { AreOptions options }
+        requires coded { AreCodesUnder tables.now.book options codes.now }
         ensures tables { result.tables.now ≡ tables.now }
         ensures options { result.options ≡ options }
     {
         OptionCodes {
             tables,
             options,
-            codes: codes_of(tables, options),
+            codes,
         }
     }
 

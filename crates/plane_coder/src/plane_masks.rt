@@ -12,7 +12,9 @@ ghost use Rattle.block_masks.specs.Masks.{Shows};
 
 use crate::fours::{Fours, filled, four_sets};
 use crate::masks::Masks;
-use block_masks::{CodedPlane, SegmentMasks, Sets, both, either, except, masked, one, part, pick};
+use block_masks::{
+    CodedPlane, PairedFours, SegmentMasks, Sets, both, either, except, masked, one, part, pick,
+};
 
 // The word of the types of some positions in the low octet, and the signs after it in the high one, each as it is picked.
 #[derive(Clone, Copy)]
@@ -72,6 +74,7 @@ impl<'a> PlaneMasks<'a> {
     ghost use Rattle.plane_coder.specs.Fours.{AreFours};
     ghost use Rattle.plane_coder.specs.Viewed.{IsView, block_in};
     ghost use Rattle.plane_coder.specs.Refining.{refining};
+    ghost use Rattle.plane_coder.specs.Refined.{IsRefined};
     ghost use Rattle.plane_coder.specs.Picked.{IsPacked, ArePacked, word_of, raws_of, entries_of};
 
     #[inline(always)]
@@ -125,9 +128,9 @@ impl<'a> PlaneMasks<'a> {
         let due = both(part(self.due, at, count), among);
         let ones = both(due, part(self.reached, at, count));
         let minus = both(ones, part(self.negative, at, count));
+        let plain = except(minus, due);
         Fours {
-            plain: except(minus, due),
-            ones,
+            pairs: PairedFours::of(plain, ones),
         }
     }
 
@@ -230,6 +233,25 @@ impl<'a> PlaneMasks<'a> {
         ensures { Shows result (is_refined (block_in self.now) self.now.plan.now.weights.shifts self.now.plan.now.plane) 0 64 }
     {
         both(self.above, self.plan.coded)
+    }
+
+    // Returns these positions beside their bits.
+    #[inline(always)]
+    pub fn refined_fours(&self) -> PairedFours
+        ensures { IsRefined self.now result }
+    {
+        PairedFours::of(self.refined(), self.bits)
+    }
+
+    // Returns the bits of four of these positions, from 4k on.
+    #[inline(always)]
+    pub fn refinement_four(&self, fours: &PairedFours, k: u8) -> u8
+        requires within { k < 16 }
+        requires fours { IsRefined self.now fours.now }
+        ensures bits { raws_of result ≡ refining (block_in self.now) self.now.plan.now.weights.shifts self.now.plan.now.plane (4 * k) 4 }
+        ensures packed { IsPacked result }
+    {
+        fours.pick(k)
     }
 
     // Returns their bits, of which up to four are picked.

@@ -16,7 +16,7 @@ ghost use Rattle.block_masks.specs.declared.gaggle.Gaggle.{Gaggle as GaggleValue
 use crate::option_codes::OptionCodes;
 use crate::pending::PendingBits;
 use crate::plane_masks::PlaneMasks;
-use crate::pushes::push_refinement;
+use crate::pushes::{Refined, push_refinement};
 use crate::view::View;
 use crate::words::Words;
 use bit_pipe::{BitOut, OctetOut, PutFault};
@@ -103,12 +103,17 @@ fn put_refinement<O: OctetOut>(
     if !is_any_of(refined, 1, 63) {
         return Ok(());
     }
+    let fours = plane_masks.refined_fours();
+    let paired = Refined {
+        mask: refined,
+        fours,
+    };
     pending.raws(plane_masks.refinement(refined, 1, 3));
-    push_refinement(pending, plane_masks, refined, 1, 4);
-    push_refinement(pending, plane_masks, refined, 4, 8);
+    push_refinement(pending, plane_masks, &paired, 1, 4);
+    push_refinement(pending, plane_masks, &paired, 4, 8);
     pending.put(out)?;
-    push_refinement(pending, plane_masks, refined, 8, 12);
-    push_refinement(pending, plane_masks, refined, 12, 16);
+    push_refinement(pending, plane_masks, &paired, 8, 12);
+    push_refinement(pending, plane_masks, &paired, 12, 16);
     pending.put(out)
 }
 

@@ -16,10 +16,10 @@ ghost use Rattle.plane_coder.specs.Views.{plane_in};
 
 use crate::collect::{GaggleWords, collect_gaggle};
 use crate::kept::{kept_stage, put_kept};
-use crate::option_codes::OptionCodes;
+use crate::option_codes::{OptionCodes, put_codes};
 use crate::pending::PendingBits;
 use crate::put::{is_quiet, put_block_stage, put_words};
-use crate::tables::CodeTables;
+use crate::tables::{CodeTables, NOTHING};
 use crate::view::View;
 use bit_pipe::{BitOut, OctetOut, PutFault};
 use block_masks::{Gaggle, depth_of, load, store};
@@ -84,7 +84,9 @@ fn put_stage_words<O: OctetOut, const STAGE: u8>(
         Spells O.sink tables.now.book pending.old.gaggle pending.new.gaggle result (sink_state O.sink out.old) (sink_state O.sink out.new)
         (sent (stage_number STAGE)) }
 {
-    let option_codes = OptionCodes::new(tables, pending.gaggle.options);
+    let mut codes = [NOTHING; 80];
+    put_codes(&mut codes, tables, pending.gaggle.options);
+    let option_codes = OptionCodes::new(tables, pending.gaggle.options, &codes);
     match STAGE {
         1 => put_words(out, pending, &option_codes, &words.parents),
         2 => put_words(out, pending, &option_codes, &words.children),

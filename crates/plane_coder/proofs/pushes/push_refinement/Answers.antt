@@ -27,7 +27,7 @@ loop-k-init c = record {
 pub raws-requires : goal.raws-requires
 raws-requires c =
     let load = (c.loop-k.invariant.says profile).load in
-    record { packed = c.refinement.ensures.packed; room = omega (arith, load, c.requires.room) }
+    record { packed = c.refinement_four.ensures.packed; room = omega (arith, load, c.requires.room) }
 
 pub loop-k-preserved : goal.loop-k-preserved
 loop-k-preserved c = record {
@@ -39,7 +39,7 @@ loop-k-preserved c = record {
       let k = c.loop-k.k in
       let from = c.args.from in
       let most : 4 * (k - from) + 4 ≡ 4 * ((k + 1) - from) = omega (arith, c.loop-k.auto.k) in
-      let next = subst (λ l. Appends book c.loop-k.pending c.raws.new.self l 4) c.refinement.ensures.bits (c.raws.ensures.raws book) in
+      let next = subst (λ l. Appends book c.loop-k.pending c.raws.new.self l 4) c.refinement_four.ensures.bits (c.raws.ensures.raws book) in
       let both = appends_both (4 * (k - from)) 4 (c.loop-k.invariant.says book) next in
       subst (Appends book c.args.pending.now c.raws.new.self (refining block weights plane (4 * from) (4 * ((k + 1) - from)))) most
       (subst (λ l. Appends book c.args.pending.now c.raws.new.self l (4 * (k - from) + 4)) (refining_more block weights plane from k c.loop-k.auto.k) both);

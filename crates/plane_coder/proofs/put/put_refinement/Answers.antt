@@ -36,6 +36,7 @@ push_refinement-requires g c = record {
   start = omega arith;
   within = omega arith;
   shown = c.refined-refined.ensures;
+  fours = c.refined_fours-fours.ensures;
   room = omega (arith, silent_load c.args.pending.now c.requires.silent, (c.raws.ensures.raws profile).load);
 }
 
@@ -45,6 +46,7 @@ push_refinement-requires-2 g c = record {
   start = omega arith;
   within = omega arith;
   shown = c.refined-refined.ensures;
+  fours = c.refined_fours-fours.ensures;
   room = omega (arith, silent_load c.args.pending.now c.requires.silent, (c.raws.ensures.raws profile).load, (c.push_refinement.ensures profile).load);
 }
 
@@ -57,6 +59,7 @@ push_refinement-requires-4 g c = record {
   start = omega arith;
   within = omega arith;
   shown = c.refined-refined.ensures;
+  fours = c.refined_fours-fours.ensures;
   room = omega (arith, silent_load c.put.new.self c.in_ok-put.ensures.silent, (c.push_refinement-3.ensures profile).load);
 }
 

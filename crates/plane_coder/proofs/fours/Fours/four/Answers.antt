@@ -1,11 +1,18 @@
-use Rattle.std.proofs.Common.{◌+◌, refl, arith}
+use Rattle.std.proofs.Common.{◌≡◌, ◌+◌, ◌*◌, ◌/◌, ◌%◌, ◌^◌, ap, arith, slice_index_or}
+use Rattle.block_masks.proofs.Pairing.{shows_some}
+use Rattle.plane_coder.specs.declared.fours.TheConstants.{TYPED}
 use Rattle.plane_coder.proofs.FourTypes.{picked, are_packed}
 use Rattle.plane_coder.proofs.fours.Fours.four.Goals as goal
 
 pub returns : goal.returns
-returns c = record {
-  picked = λ d f n start count p within.
-      picked d f n (start + c.args.at) _ _ _ refl (c.part-plain.ensures.if_known _ start count p.plain within)
-      (c.part-ones.ensures.if_known _ start count p.ones within);
-  packed = are_packed _ _ _ (omega arith) (omega arith) refl;
-}
+returns c =
+    let k = c.args.k in
+    let octet = c.octet.result in
+    let whole : octet ≡ 16 * (octet / 16) + octet % 16 = omega arith in
+    record {
+      picked = λ d f n start count p within.
+          picked d f n (start + 4 * k) (p.plain / 2 ^ (4 * k) % 2 ^ 4) (p.ones / 2 ^ (4 * k) % 2 ^ 4) _
+          (ap (λ o. slice_index_or TYPED o 0) (c.octet.ensures.value p.plain p.ones p.paired))
+          (shows_some (4 * k) within p.plain_shown) (shows_some (4 * k) within p.ones_shown);
+      packed = are_packed (octet / 16) (octet % 16) _ (omega (arith, c.octet.ensures.within)) (omega arith) (ap (λ o. slice_index_or TYPED o 0) whole);
+    }

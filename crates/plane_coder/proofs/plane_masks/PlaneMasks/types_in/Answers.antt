@@ -20,4 +20,10 @@ returns c g among =
     let ones = c.both-ones.ensures.if_known (λ p. type p && g p) one at count due (from_zero at (c.part-2.ensures.if_known one 0 64 s.reached_shown within)) in
     let less = c.both-minus.ensures.if_known (λ p. (type p && g p) && one p) minus at count ones
     (from_zero at (c.part-3.ensures.if_known minus 0 64 s.negative_shown within)) in
-    record { plain = c.except.ensures.if_known (λ p. ((type p && g p) && one p) && minus p) (λ p. type p && g p) at count less due; ones = ones }
+    record {
+      plain = c.except-plain.result;
+      ones = c.both-ones.result;
+      plain_shown = c.except-plain.ensures.if_known (λ p. ((type p && g p) && one p) && minus p) (λ p. type p && g p) at count less due;
+      ones_shown = ones;
+      paired = c.of.ensures;
+    }

@@ -1,7 +1,7 @@
 use Rattle.std.proofs.Common.{◌≡◌, ◌+◌, ◌*◌, ◌<◌, ℕ, length, get_or}
 use Rattle.base_122.specs.Profile.{no_code}
 use Rattle.plane_coder.specs.Coding.{code_in}
-use Rattle.plane_coder.proofs.option_codes.codes_of.Given as goal
+use Rattle.plane_coder.proofs.option_codes.put_codes.Given as goal
 
 abbrev pub invariant-loop-n : goal.invariant-loop-n
 invariant-loop-n l = record {
