@@ -1,5 +1,5 @@
 -- What a block sends of its grandchildren, as it is read from a window that is held.
-use Rattle.std.proofs.Common.{◌≡◌, ℕ, suc, ◌+◌, ◌-◌, ◌<◌, ◌≤◌, Bool, true, false, not, ◌&&◌, ◌||◌, if◌then◌else◌, ℤ, List, [], map, filter, refl, ap, sym, ◌∙◌}
+use Rattle.std.proofs.Common.{◌≡◌, ℕ, ◌+◌, ◌<◌, Bool, true, false, not, ◌&&◌, ◌||◌, if◌then◌else◌, ℤ, List, [], map, filter, refl, ap, sym, ◌∙◌}
 use Rattle.std.proofs.Common.{subst, arith, Ok, Err, Some, None, Result, Option}
 use Rattle.std.specs.List.{list_any}
 use Rattle.item_defs.specs.Bits.{bit}
@@ -14,7 +14,6 @@ use Rattle.block_masks.specs.declared.gaggle.Gaggle.{Gaggle}
 use Rattle.block_masks.specs.Masks.{Shows}
 use Rattle.bit_pipe.specs.declared.fault.TextFault.{TextFault}
 use Rattle.bit_pipe.specs.Sources.{SourceOf}
-use Rattle.bit_pipe.specs.SourceState.{IsIn}
 use Rattle.item_defs.specs.Scripts.{Script, done, then_ask, in_turn, run}
 use Rattle.bit_pipe.specs.ScriptSources.{Gets, by_done}
 use Rattle.plane_defs.specs.States.{State, with_options}
@@ -22,7 +21,7 @@ use Rattle.plane_defs.specs.WordScripts.{due_script, group_script}
 use Rattle.plane_defs.specs.StageScripts.{Terms, above, is_due, is_childless, quads_script}
 use Rattle.plane_reader.specs.declared.found.Found.{Found}
 use Rattle.plane_reader.specs.Takes.{IsState}
-use Rattle.plane_reader.specs.Held.{Point, ReadsFrom, LeadsTo}
+use Rattle.plane_reader.specs.Held.{Point}
 use Rattle.plane_reader.specs.HeldTakes.{HeldState, HeldOnes}
 use Rattle.plane_reader.specs.Blocks.{IsAbove}
 use Rattle.plane_reader.specs.Grandchildren.{sixteen_script}

@@ -1,11 +1,11 @@
 -- Options of four bits in one number.
-use Rattle.std.proofs.Common.{◌≡◌, ℕ, zero, suc, ◌+◌, ◌-◌, ◌*◌, ◌/◌, ◌%◌, ◌<◌, ◌≤◌, ◌^◌, ◌==◌, List, [], ◌∷◌, Bool, true, false, get_or, sym, ap, subst, ◌∙◌, arith}
-use Rattle.std.proofs.Common.{count_ones, refl, if◌then◌else◌, nat_lt}
+use Rattle.std.proofs.Common.{◌≡◌, ℕ, zero, suc, ◌+◌, ◌-◌, ◌*◌, ◌/◌, ◌%◌, ◌<◌, ◌≤◌, ◌^◌, ◌==◌, List, [], ◌∷◌, Bool, true, false, get_or, sym, arith}
+use Rattle.std.proofs.Common.{ap, subst, ◌∙◌, count_ones, refl, if◌then◌else◌}
 use Rattle.std.proofs.lemmas.Bool.Decides.{nat_tests}
 use Rattle.std.proofs.Common.{map, Option, Some, None}
 use Rattle.std.specs.Prelude.{is_some}
-use Rattle.plane_defs.specs.Spans.{span}
-use Rattle.plane_defs.proofs.SpanLists.{get_or-map-span}
+use Rattle.std.specs.List.{range_with_len}
+use Rattle.std.proofs.lemmas.List.FromFn.{get_or-map-range_with_len}
 use Rattle.block_masks.specs.Gaggles.{AreOptions}
 use Rattle.std.proofs.Math.Nat.{div-div-eq-div-mul, div-one, zero-div}
 use Rattle.std.proofs.lemmas.Nat.{pow-add}
@@ -46,8 +46,8 @@ module _ (two three four : ℕ) where
   abbrev by_count : ℕ → ℕ
   by_count count = get_or (0 ∷ 0 ∷ two ∷ three ∷ four ∷ []) count 0
 
-  by_masks : map (λ d. by_count (count_ones d)) (span 0 16) ≡ digits
-  unfolding lib.Count.ones span
+  by_masks : map (λ d. by_count (count_ones d)) (range_with_len 0 16) ≡ digits
+  unfolding lib.Count.ones
   by_masks = refl
 
   are_digits : two < 16 → three < 16 → four < 16 → AreDigits digits
@@ -62,15 +62,16 @@ module _ (two three four : ℕ) where
   pub option_there : two < 16 → three < 16 → four < 16 → (due : ℕ) → due < 16 →
       (0x0001_0110_0110_1000 * two + 0x0110_1000_1000_0000 * three + 0x1000_0000_0000_0000 * four) / 2 ^ (4 * due) % 16 ≡ by_count (count_ones due)
   option_there x y z due lt =
+      let same : 0 + due ≡ due = omega arith in
       ap (λ n. n / 2 ^ (4 * due) % 16) number_is ∙ digit_of (are_digits x y z) due ∙
-      ap (λ l. get_or l due 0) (sym by_masks) ∙ get_or-map-span (λ d. by_count (count_ones d)) 16 due 0 lt
+      ap (λ l. get_or l due 0) (sym by_masks) ∙ get_or-map-range_with_len (λ d. by_count (count_ones d)) 0 16 due due 0 lt same
 
 -- all bits are 1 if there are no tables
 fifteens : List ℕ
-fifteens = map (λ d. 15) (span 0 16)
+fifteens = map (λ d. 15) (range_with_len 0 16)
 
 all_ones : (2 ^ 64 - 1 ≡ number_of fifteens) × AreDigits fifteens
-unfolding fifteens span
+unfolding fifteens
 all_ones =
     let o : 15 < 16 = omega arith in (
       refl,
@@ -79,7 +80,9 @@ all_ones =
 
 missing_there : (due : ℕ) → due < 16 → (2 ^ 64 - 1) / 2 ^ (4 * due) % 16 ≡ 15
 unfolding fifteens
-missing_there due lt = ap (λ n. n / 2 ^ (4 * due) % 16) all_ones.0 ∙ digit_of all_ones.1 due ∙ get_or-map-span (λ d. 15) 16 due 0 lt
+missing_there due lt =
+    let same : 0 + due ≡ due = omega arith in
+    ap (λ n. n / 2 ^ (4 * due) % 16) all_ones.0 ∙ digit_of all_ones.1 due ∙ get_or-map-range_with_len (λ d. 15) 0 16 due due 0 lt same
 
 -- the option of a length, or what is in its place
 abbrev pub option_in : Gaggle → ℕ → ℕ

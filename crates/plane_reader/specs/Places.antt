@@ -1,6 +1,6 @@
 -- The word of up to four due positions that is first in a window, by tables. (This project's own.)
-use Rattle.std.specs.Prelude.{◌≡◌, ◌≤◌, ◌<◌, ℕ, ◌+◌, ◌-◌, ◌*◌, ◌/◌, ◌%◌, ◌^◌, ◌==◌, false, if◌then◌else◌, nat_lt, List, [], max, count_ones, slice_index_or, map}
-use Rattle.std.specs.Prelude.{filter, length, Option, Some, None}
+use Rattle.std.specs.Prelude.{◌≡◌, ◌≤◌, ◌<◌, ℕ, ◌+◌, ◌-◌, ◌*◌, ◌/◌, ◌%◌, ◌^◌, ◌==◌, false, if◌then◌else◌, nat_lt, List, [], max, count_ones, slice_index_or}
+use Rattle.std.specs.Prelude.{map, filter, length, Option, Some, None}
 use lib.ListN.{get_or}
 use Rattle.item_defs.specs.Bits.{bit, value_of}
 use Rattle.item_defs.specs.Items.{item_bits}

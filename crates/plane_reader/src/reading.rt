@@ -51,7 +51,8 @@ fn is_missing(places: u64, is_wanted: bool) -> bool
     places | u64::from(!is_wanted) == 0
 }
 
-// What the words of a gaggle are read with in a stage, and what was found of the block that is read.
+// What the words of a gaggle are read with in a stage, and what was found of the block that is read. Calls that read without the window are
+// not inlined: they are passed a copy, so that the fields of this one can be in registers.
 #[derive(Clone, Copy)]
 pub(crate) struct Reading<'a> {
     pub tables: &'a PlaceTables,

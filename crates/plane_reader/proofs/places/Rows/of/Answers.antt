@@ -1,4 +1,4 @@
-use Rattle.std.proofs.Common.{rules, ◌≡◌, ◌∙◌, ap, not}
+use Rattle.std.proofs.Common.{◌∙◌, ap, not}
 use Rattle.plane_reader.proofs.RowDigits.{missing_rows, known_rows}
 use Rattle.plane_reader.proofs.places.Rows.of.Goals as goal
 
