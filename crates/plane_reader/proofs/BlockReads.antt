@@ -1,7 +1,6 @@
 -- Blocks, as a stage reads them.
 use Rattle.std.proofs.Common.{◌≡◌, ℕ, ◌+◌, ◌*◌, ◌<◌, ◌≤◌, ◌^◌, ◌==◌, ◌&&◌, ◌||◌, not, List, ◌++◌, Bool, true, false, length, refl, sym, ap, subst, ◌∙◌}
 use Rattle.std.proofs.Common.{arith, Option, Some, None, Result, Ok, Err, ℤ, pos, get_or, pow_pos, if◌then◌else◌}
-use Rattle.std.proofs.Math.Bool.{or-false}
 use Rattle.std.proofs.lemmas.Nat.Bits.{bit_at_above}
 use Rattle.item_defs.specs.Bits.{bit}
 use Rattle.plane_defs.specs.Sets.{significant, coded, type_due}
@@ -99,18 +98,6 @@ raw_put {old = old} {new} put bits = record {
   slots = put.other_slots;
   others = put.other_blocks;
 }
-
-pub raw_none : {r raw : ℕ} (cells : List ℤ) → raw ≡ 0 → AddsRaw r raw cells cells
-raw_none {r} {raw} cells none = record {
-  long = refl;
-  bits = λ p lt. sym (ap (λ m. bit (mask_in cells r raw_slot) p || bit m p) none ∙ ap (λ b. bit (mask_in cells r raw_slot) p || b) (zero_at p) ∙ or-false
-      (bit (mask_in cells r raw_slot) p));
-  slots = λ slot lt apart. refl;
-  others = λ q slot inside lt apart. refl;
-}
-  where
-    zero_at : (p : ℕ) → bit 0 p ≡ false
-    zero_at p = ap (λ x. x == 1) (bit_at_above 0 0 p (omega arith) (omega arith))
 
 pub masks_put : {r plane bits minus : ℕ} {found : Found} {old given mid new : List ℤ} → plane < 27 → AddsRaw r found.raw old given →
     PutsMask r minus_slot minus given mid → PutsMask r plane bits mid new → 64 * r < length old →

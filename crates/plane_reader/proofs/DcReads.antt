@@ -1,4 +1,5 @@
 -- The bits of the DC numbers, as stage 0 reads them.
+use mir.Val.{bool_byte}
 use Rattle.std.proofs.Common.{◌≡◌, ℕ, zero, suc, ◌+◌, ◌*◌, ◌%◌, ◌^◌, ◌<◌, ◌≤◌, ◌==◌, ◌&&◌, ◌||◌, min, nat_lt, Bool, true, false, if◌then◌else◌, List, []}
 use Rattle.std.proofs.Common.{length, refl, ap, sym, ◌∙◌, subst, arith, ℤ, pos, ◌+ℤ◌, Option, Some, None, Result, Ok, Err, get_or, of_z, w32}
 use Rattle.std.specs.Int.{cast_signed}
@@ -38,19 +39,33 @@ use Rattle.plane_reader.proofs.PlaneStates.{has_put, dcs_put, families_put, opti
 fits_cast : (n : ℕ) → n < 2 ^ 32 → SFits w32 (cast_signed w32 n)
 fits_cast n small = omega (arith, ints)
 
-pub dc_adds : {plane r mask : ℕ} {old new : List ℤ} → plane < 27 → PutsMask r dc_slot mask old new → mask ≡ (mask_in
-    old r dc_slot % 2 ^ 32 + 1 * 2 ^ plane % 4294967296) % 4294967296 → AddsDc plane r old new
-dc_adds {plane} {r} {mask} {old} {new} low put is = record {
+plus_none : (z : ℤ) → z +ℤ pos 0 ≡ z
+plus_none z = omega (arith, ints)
+
+pub dc_adds : {plane r mask : ℕ} {old new : List ℤ} (is_one : Bool) → plane < 27 → PutsMask r dc_slot mask old new → mask ≡ (mask_in
+    old r dc_slot % 2 ^ 32 + bool_byte is_one * 2 ^ plane % 4294967296) % 4294967296 → AddsDc plane r is_one old new
+dc_adds {plane} {r} {mask} {old} {new} is_one low put is = record {
   long = put.long;
-  dc = λ cleared.
-      let dc = mask_in old r dc_slot % 2 ^ 32 in
-      let small : dc < 2 ^ 32 = omega arith in
-      let back : of_z w32 (cast_signed w32 dc) ≡ dc = of_z-to_z w32 dc small in
-      let once : mask % 2 ^ 32 ≡ (of_z w32 (cast_signed w32 dc) + 1 * 2 ^ plane % 4294967296) % 4294967296 = omega (arith, is, back) in
-      ap (λ m. cast_signed w32 (m % 2 ^ 32)) put.here ∙ ap (cast_signed w32) once ∙ dc_added (cast_signed w32 dc) plane (fits_cast dc small) low cleared;
+  dc = λ cleared. ap (λ m. cast_signed w32 (m % 2 ^ 32)) put.here ∙ by_bit is_one is cleared;
   slots = put.other_slots;
   others = put.other_blocks;
 }
+  where
+    by_bit : (b : Bool) → mask ≡ (mask_in old r dc_slot % 2 ^ 32 + bool_byte b * 2 ^ plane % 4294967296) % 4294967296 → HasNoneBelow (plane + 1)
+        (cast_signed w32 (mask_in old r dc_slot % 2 ^ 32)) →
+        cast_signed w32 (mask % 2 ^ 32) ≡ cast_signed w32 (mask_in old r dc_slot % 2 ^ 32) +ℤ pos (if b then 2 ^ plane else 0)
+    by_bit true is cleared =
+        let dc = mask_in old r dc_slot % 2 ^ 32 in
+        let small : dc < 2 ^ 32 = omega arith in
+        let back : of_z w32 (cast_signed w32 dc) ≡ dc = of_z-to_z w32 dc small in
+        let once : mask % 2 ^ 32 ≡ (of_z w32 (cast_signed w32 dc) + 1 * 2 ^ plane % 4294967296) % 4294967296 = omega (arith, is, back) in
+        ap (cast_signed w32) once ∙ dc_added (cast_signed w32 dc) plane (fits_cast dc small) low cleared
+    by_bit false is cleared =
+        let same : mask % 2 ^ 32 ≡ mask_in old r dc_slot % 2 ^ 32 = omega (arith, is, no_bit (2 ^ plane)) in
+        ap (cast_signed w32) same ∙ sym (plus_none (cast_signed w32 (mask_in old r dc_slot % 2 ^ 32)))
+      where
+        no_bit : (n : ℕ) → 0 * n % 4294967296 ≡ 0
+        no_bit n = omega arith
 
 pub others_kept : (cells : List ℤ) → KeepOthers cells cells
 others_kept cells = record { long = refl; slots = λ r slot lt low apart no_raw. refl }
@@ -72,9 +87,6 @@ first_only (suc p) =
 
 abbrev pub read_bit : State → Bool → State
 read_bit s b = with_bit 0 s b
-
-plus_none : (z : ℤ) → z +ℤ pos 0 ≡ z
-plus_none z = omega (arith, ints)
 
 pub has_others : {plane r : ℕ} {old new : List ℤ} {block : List ℤ} {s : State} → plane < 27 → KeepOthers old new → 64 * r < length old →
     mask_in new r raw_slot ≡ mask_in old r raw_slot → HasRead plane r old block s → HasRead plane r new block s

@@ -1,16 +1,15 @@
 -- Tables of the words of due positions.
-use Rattle.std.proofs.Common.{◌≡◌, ℕ, zero, suc, ◌+◌, ◌-◌, ◌*◌, ◌/◌, ◌%◌, ◌<◌, ◌≤◌, ◌^◌, [], ◌∷◌, Bool, true, false, get_or, sym, ap, subst, ◌∙◌, arith}
-use Rattle.std.proofs.Common.{count_ones, cond}
+use Rattle.std.proofs.Common.{◌≡◌, ℕ, ◌+◌, ◌-◌, ◌*◌, ◌/◌, ◌%◌, ◌<◌, ◌≤◌, ◌^◌, sym, ap, subst, ◌∙◌, arith}
+use Rattle.std.proofs.Common.{count_ones}
 use Rattle.std.proofs.lemmas.Nat.{shr-shr}
 use Rattle.item_defs.specs.Bits.{bit, bits_of}
 use Rattle.item_defs.specs.Items.{item_bits}
 use Rattle.plane_defs.specs.Codes.{word_item}
 use Rattle.base_122.specs.declared.book.Book.{Book}
-use Rattle.block_masks.specs.declared.gaggle.Gaggle.{Gaggle}
 use Rattle.block_masks.specs.Picks.{AreSpread}
 use Rattle.block_masks.proofs.Viewing.{shows_own}
 use Rattle.bit_pipe.specs.Windows.{first_of}
-use Rattle.plane_reader.specs.Places.{word_at, IsFirst, row_by}
+use Rattle.plane_reader.specs.Places.{word_at, IsFirst}
 
 -- the first bits of a window are those of its highest octet
 pub same_octet : (n a b : ℕ) → n ≤ 8 → a / 2 ^ 56 ≡ b / 2 ^ 56 → first_of n a ≡ first_of n b
@@ -42,28 +41,3 @@ module _ (book : Book) (due option window number places len signed : ℕ) (small
         places = subst (λ n. AreSpread due n places) (sym w) spread;
         signed = signed_is ∙ ap (λ n. len + n) (sym (spread.ones fits));
       }
-
--- ---- rows
-
-module _ (g : Gaggle) (due : ℕ) where
-  abbrev pub known_in : ℕ → Bool
-  known_in count = get_or (true ∷ true ∷ get_or g.sent 0 false ∷ get_or g.sent 1 false ∷ get_or g.sent 2 false ∷ []) count false
-
-  abbrev pub option_at : ℕ → ℕ
-  option_at count = get_or (0 ∷ 0 ∷ get_or g.options 0 0 ∷ get_or g.options 1 0 ∷ get_or g.options 2 0 ∷ []) count 0
-
-  pub row_known : (count : ℕ) → count ≤ 4 → known_in count ≡ true → 4 * due + option_at count ≡ row_by g due count
-  row_known zero few e = omega arith
-  row_known (suc zero) few e = omega arith
-  row_known (suc (suc zero)) few e = sym (ap (λ (b : Bool). cond b (4 * due + get_or g.options 0 0) 255) e)
-  row_known (suc (suc (suc zero))) few e = sym (ap (λ (b : Bool). cond b (4 * due + get_or g.options 1 0) 255) e)
-  row_known (suc (suc (suc (suc zero)))) few e = sym (ap (λ (b : Bool). cond b (4 * due + get_or g.options 2 0) 255) e)
-  row_known (suc (suc (suc (suc (suc n))))) few e = absurd (omega (arith, few))
-
-  pub row_unknown : (count : ℕ) → count ≤ 4 → known_in count ≡ false → 255 ≡ row_by g due count
-  row_unknown zero few e = absurd cc
-  row_unknown (suc zero) few e = absurd cc
-  row_unknown (suc (suc zero)) few e = sym (ap (λ (b : Bool). cond b (4 * due + get_or g.options 0 0) 255) e)
-  row_unknown (suc (suc (suc zero))) few e = sym (ap (λ (b : Bool). cond b (4 * due + get_or g.options 1 0) 255) e)
-  row_unknown (suc (suc (suc (suc zero)))) few e = sym (ap (λ (b : Bool). cond b (4 * due + get_or g.options 2 0) 255) e)
-  row_unknown (suc (suc (suc (suc (suc n))))) few e = absurd (omega (arith, few))

@@ -1,5 +1,5 @@
 -- What a block sends of its grandchildren, as it is read from a window that is held.
-use Rattle.std.proofs.Common.{◌≡◌, ℕ, suc, ◌+◌, ◌-◌, ◌<◌, ◌≤◌, Bool, true, false, not, ◌&&◌, ◌||◌, if◌then◌else◌, ℤ, List, map, filter, refl, ap, sym, ◌∙◌}
+use Rattle.std.proofs.Common.{◌≡◌, ℕ, ◌+◌, ◌<◌, Bool, true, false, not, ◌&&◌, ◌||◌, if◌then◌else◌, ℤ, List, [], map, filter, refl, ap, sym, ◌∙◌}
 use Rattle.std.proofs.Common.{subst, arith, Ok, Err, Some, None, Result, Option}
 use Rattle.std.specs.List.{list_any}
 use Rattle.item_defs.specs.Bits.{bit}
@@ -14,20 +14,19 @@ use Rattle.block_masks.specs.declared.gaggle.Gaggle.{Gaggle}
 use Rattle.block_masks.specs.Masks.{Shows}
 use Rattle.bit_pipe.specs.declared.fault.TextFault.{TextFault}
 use Rattle.bit_pipe.specs.Sources.{SourceOf}
-use Rattle.bit_pipe.specs.SourceState.{IsIn}
-use Rattle.item_defs.specs.Scripts.{Script, done, then_ask, in_turn}
-use Rattle.bit_pipe.specs.ScriptSources.{got, by_done}
+use Rattle.item_defs.specs.Scripts.{Script, done, then_ask, in_turn, run}
+use Rattle.bit_pipe.specs.ScriptSources.{Gets, by_done}
 use Rattle.plane_defs.specs.States.{State, with_options}
 use Rattle.plane_defs.specs.WordScripts.{due_script, group_script}
 use Rattle.plane_defs.specs.StageScripts.{Terms, above, is_due, is_childless, quads_script}
 use Rattle.plane_reader.specs.declared.found.Found.{Found}
 use Rattle.plane_reader.specs.Takes.{IsState}
-use Rattle.plane_reader.specs.Held.{Point, ReadsFrom, LeadsTo}
+use Rattle.plane_reader.specs.Held.{Point}
 use Rattle.plane_reader.specs.HeldTakes.{HeldState, HeldOnes}
 use Rattle.plane_reader.specs.Blocks.{IsAbove}
 use Rattle.plane_reader.specs.Grandchildren.{sixteen_script}
-use Rattle.plane_reader.proofs.HeldReads.{leads_start, reads_then, reads_done, reads_cut, reads_fault}
-use Rattle.plane_reader.proofs.HeldGroups.{turn_all, turn_more, turn_fault, turn_cut}
+use Rattle.plane_reader.proofs.HeldReads.{reads_then, reads_cut, reads_fault}
+use Rattle.plane_reader.proofs.HeldGroups.{GroupsLeft}
 use Rattle.plane_reader.proofs.TypeReads.{on}
 use Rattle.plane_reader.proofs.SetMarks.{shows_range, was_set, due_set, is_set}
 
@@ -78,78 +77,28 @@ pub groups_at : {I X : Type 0} {k : SourceOf I} (book : Book) (due now wanted : 
 groups_at {k = k} book due now wanted n s result e {h} {f} {x} {y} q = subst (λ c. HeldState k (in_turn
     (group_script book due c now wanted) 0 n s) result h f x y) e q
 
--- ---- the sets of sixteen, one after another
+-- ---- the sets of sixteen of a mask, one after another
 
--- the things before the j-th were read, and m more are left
-pub record TurnsLeft {I : Type 0} (k : SourceOf I) (all : Script State State) (item : ℕ → State → Script State State) (j m : ℕ) (h : Gaggle) (f : Found)
-    (old now : Point I) : Type 0 where
-  pub state : State
-  pub is : IsState h f state
-  pub left : LeadsTo k all (in_turn item j m state) old now
-
-module _ {I : Type 0} {k : SourceOf I} (item : ℕ → State → Script State State) where
-  pub turns_start : (count : ℕ) (s : State) {h : Gaggle} {f : Found} {x : Point I} → IsIn x.input → IsState h f s →
-      TurnsLeft k (in_turn item 0 count s) item 0 (count - 0) h f x x
-  turns_start count s {x = x} i is =
-      let e : count ≡ count - 0 = omega arith in
-      record { state = s; is = is; left = subst (λ c. LeadsTo k (in_turn item 0 count s) (in_turn item 0 c s) x x) e (leads_start (in_turn item 0 count s) i) }
-
-  module _ {all : Script State State} {j count : ℕ} (lt : j < count) {h : Gaggle} {f : Found} {x y : Point I} (l : TurnsLeft k all item j
-      (count - j) h f x y) where
-    fewer : count - j ≡ suc (count - (j + 1))
-    fewer = omega (arith, lt)
-
-    pub turns_more : {h' : Gaggle} {f' : Found} {z : Point I} → HeldState {X = Unit {0}} k (item j l.state) (Ok (Some tt)) h' f' y z →
-        TurnsLeft k all item (j + 1) (count - (j + 1)) h' f' x z
-    turns_more {z = z} q =
-        let more : suc j ≡ j + 1 = omega arith in
-        record {
-          state = q.now;
-          is = q.is;
-          left = subst (λ a. LeadsTo k all (in_turn item a (count - (j + 1)) q.now) x z) more (turn_more all item j
-              (count - j) l.state l.left (count - (j + 1)) fewer q.now q.read);
-        }
-
-    pub turns_fault : (fault : TextFault) {h' : Gaggle} {f' : Found} {z : Point I} → HeldState {X = Unit {0}} k (item j l.state) (Err fault) h' f' y z →
-        HeldState {X = Unit {0}} k all (Err fault) h' f' x z
-    turns_fault fault q = record { now = q.now; is = q.is; read = turn_fault all item j (count - j) l.state l.left (count - (j + 1)) fewer fault q.now q.read }
-
-    pub turns_cut : {h' : Gaggle} {f' : Found} {z : Point I} → HeldState {X = Unit {0}} k (item j l.state) (Ok None) h' f' y z → HeldState {X =
-        Unit {0}} k all (Ok None) h' f' x z
-    turns_cut q = record { now = q.now; is = q.is; read = turn_cut all item j (count - j) l.state l.left (count - (j + 1)) fewer q.now q.read }
-
-  pub turns_done : {all : Script State State} {j count : ℕ} → count ≤ j → {h : Gaggle} {f : Found} {x y : Point I} →
-      TurnsLeft k all item j (count - j) h f x y → HeldState {X = Unit {0}} k all (Ok (Some tt)) h f x y
-  turns_done {all} {j} {count} ge l = let none : count - j ≡ 0 = omega (arith, ge) in record {
-    now = l.state;
-    is = l.is;
-    read =
-        turn_all all item j (count - j) l.state l.left none;
-  }
-
-module _ (t : Terms) (block : List ℤ) (now new : ℕ → Bool) (i : ℕ) (u : State) where
-  abbrev item : Script State State
-  item = sixteen_script t block now new i u
+module _ (t : Terms) (block : List ℤ) (now new : ℕ → Bool) {sent : ℕ} (shown : Shows sent now 0 3) where
+  is_sent : (i : ℕ) → i < 3 → bit sent i ≡ now i
+  is_sent i lt = let z : 0 + i ≡ i = omega arith in shown.at i lt ∙ ap now z
 
   -- a set that is not significant sends nothing
-  pub sixteen_skipped : {I : Type 0} {k : SourceOf I} → now i ≡ false → {h : Gaggle} {f : Found} → IsState h f u → {x : Point I} → IsIn x.input →
-      HeldState {X = Unit {0}} k item (Ok (Some tt)) h f x x
-  sixteen_skipped {k = k} e is {x} in_it =
-      let none : Script State State = done u in
-      record {
-        now = u;
-        is = is;
-        read = subst (λ b. ReadsFrom k (if b then quads_script t block i (new i) u else none) (got u) x x) (sym e) (reads_done none u
-            (leads_start none in_it));
-      }
+  pub sixteen_skipped : {h : Gaggle} {f : Found} (i : ℕ) → i < 3 → bit sent i ≡ false → (s : State) → IsState h f s →
+      (u : State) × IsState h f u × Gets (sixteen_script t block now new i s) [] u
+  sixteen_skipped i lt off s is = (s, is, λ more. ap (λ b. run (if b then quads_script t block i (new i) s else done s) more) (sym (is_sent i lt) ∙ off))
 
-  pub sixteen_sent : {I : Type 0} {k : SourceOf I} (is_new : Bool) → now i ≡ true → is_new ≡ new i → (result : Result (Option
-      (Unit {0})) TextFault) {h : Gaggle} {f : Found} {x y : Point I} → HeldState k (quads_script t block i is_new u) result h f x y →
-      HeldState k item result h f x y
-  sixteen_sent {k = k} is_new e flag result {h} {f} {x} {y} q =
-      let none : Script State State = done u in
-      subst (λ b. HeldState k (if b then quads_script t block i (new i) u else none) result h f x y) (sym e) (subst (λ b. HeldState k
-      (quads_script t block i b u) result h f x y) flag q)
+  -- the call for a set of the mask
+  module _ {I : Type 0} {k : SourceOf I} {all : Script State State} {left : ℕ} {h : Gaggle} {f : Found} {old here : Point I} (m : GroupsLeft k all
+      (sixteen_script t block now new) 3 sent left h f old here) (i : ℕ) (e : m.n ≡ i) (lt : i < 3) (on : bit left i ≡ true) (is_new : Bool)
+      (flag : is_new ≡ new i) {result : Result (Option (Unit {0})) TextFault} {h' : Gaggle} {f' : Found} {last : Point I} where
+    pub sixteen_called : HeldState k (quads_script t block i is_new m.state) result h' f' here last →
+        HeldState k (sixteen_script t block now new m.n m.state) result h' f' here last
+    sixteen_called q =
+        let is_now : now i ≡ true = sym (is_sent i lt) ∙ sym (m.kept i (omega (arith, e)) (omega (arith, lt))) ∙ on in
+        subst (λ n. HeldState k (sixteen_script t block now new n m.state) result h' f' here last) (sym e)
+        (subst (λ b. HeldState k (if b then quads_script t block i (new i) m.state else done m.state) result h' f' here last) (sym is_now)
+        (subst (λ b. HeldState k (quads_script t block i b m.state) result h' f' here last) flag q))
 
 -- ---- the flags of the sets of sixteen
 

@@ -37,7 +37,7 @@ use Rattle.plane_reader.specs.declared.places.FirstPlaces.{FirstPlaces}
 use Rattle.plane_reader.specs.declared.reading.Reading.{Reading}
 use Rattle.plane_reader.specs.HeldTakes.{IsReading}
 use Rattle.plane_reader.specs.Takes.{AreIn, IsState, AreOnes, unless_bad}
-use Rattle.plane_reader.specs.Places.{word_at, IsFirst, row_of, row_in}
+use Rattle.plane_reader.specs.Places.{word_at, IsFirst, row_of, row_in, table_in}
 use Rattle.plane_reader.proofs.CodeReads.{word_shape, word_sound, word_is_said, word_said_is}
 use Rattle.plane_reader.proofs.WordReads.{known_option, long_is}
 use Rattle.plane_reader.proofs.PlaceReads.{word_ones, ones_shown, ones_inside, has_filter, due_count}
@@ -172,7 +172,7 @@ by_tables (Some tables) g due table known few e not_none = row_known g due table
 by_tables None g due table known few e not_none = absurd (not_none e)
 
 pub row_option : {I : Type 0} {k : SourceOf I} {s : SourceState I} {r : Reading} (due table : ℕ) → IsReading k s r → due < 16 →
-    table ≡ get_or r.rows.tables due 0 → (table ≡ 255 → ⊥) → RowOption r.gaggle due table
+    table ≡ table_in r.rows due → (table ≡ 255 → ⊥) → RowOption r.gaggle due table
 row_option {r = r} due table reading small e not_none =
     by_tables r.tables.now.entries r.gaggle due table reading.options (few_ones due small) (e ∙ reading.rows.at due small) not_none
 
@@ -182,7 +182,7 @@ some_tables (Some tables) g due table e not_none = refl
 some_tables None g due table e not_none = absurd (not_none e)
 
 pub rows_there : {I : Type 0} {k : SourceOf I} {s : SourceState I} {r : Reading} (due table : ℕ) → IsReading k s r → due < 16 →
-    table ≡ get_or r.rows.tables due 0 → (table ≡ 255 → ⊥) → IsSome r.tables.now.entries
+    table ≡ table_in r.rows due → (table ≡ 255 → ⊥) → IsSome r.tables.now.entries
 rows_there {r = r} due table reading small e not_none = some_tables r.tables.now.entries r.gaggle due table (e ∙ reading.rows.at due small) not_none
 
 pub row_small : {g : Gaggle} {due table : ℕ} → due < 16 → count_ones due ≤ 4 → RowOption g due table → table < 64

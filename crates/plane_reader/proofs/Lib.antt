@@ -18,6 +18,7 @@ pub mod HeldWords
 pub mod NothingDue
 pub mod PlaceReads
 pub mod RefineReads
+pub mod RowDigits
 pub mod EntryTables
 pub mod SignLoop
 pub mod SignReads

@@ -125,7 +125,7 @@ no_half weights low e = by (nat_lt (shift weights 0) low) refl e
     by false t e = let le : low ≤ shift weights 0 = grind (arith, nat_tests) in le
 
 pub adds_half : {weights : List ℕ} {q plane r half : ℕ} {old new : List ℤ} → half_plane weights (dc_reach q plane old r) ≡ Some half →
-    AddsDc half r old new → AddsHalf weights q plane r old new
+    AddsDc half r true old new → AddsHalf weights q plane r old new
 adds_half {weights} {q} {plane} {r} {half} {old} {new} is adds =
     let low = dc_reach q plane old r in
     let k = some_half weights low half is in

@@ -17,13 +17,6 @@ pub not_zero : (w : Bool) (n : ℕ) → (n ≡ 0 → ⊥) → (w && (n == 0)) �
 not_zero true n h = grind (arith, nat_tests)
 not_zero false n h = refl
 
-pub both_true : (w b : Bool) → w ≡ true → b ≡ true → (w && b) ≡ true
-both_true true b e f = f
-both_true false b e f = cc
-
 pub not_wanted : (w b : Bool) → w ≡ false → (w && b) ≡ false
 not_wanted true b e = cc
 not_wanted false b e = refl
-
-pub zero_is : {n : ℕ} → n ≡ 0 → (n == 0) ≡ true
-zero_is {n} e = grind (arith, nat_tests)

@@ -1,6 +1,6 @@
 -- The word of up to four due positions that is first in a window, by tables. (This project's own.)
-use Rattle.std.specs.Prelude.{◌≡◌, ◌≤◌, ◌<◌, ℕ, ◌+◌, ◌-◌, ◌*◌, ◌/◌, ◌^◌, false, if◌then◌else◌, nat_lt, List, [], max, count_ones, slice_index_or, map}
-use Rattle.std.specs.Prelude.{filter, length, Option, Some, None}
+use Rattle.std.specs.Prelude.{◌≡◌, ◌≤◌, ◌<◌, ℕ, ◌+◌, ◌-◌, ◌*◌, ◌/◌, ◌%◌, ◌^◌, ◌==◌, false, if◌then◌else◌, nat_lt, List, [], max, count_ones, slice_index_or}
+use Rattle.std.specs.Prelude.{map, filter, length, Option, Some, None}
 use lib.ListN.{get_or}
 use Rattle.item_defs.specs.Bits.{bit, value_of}
 use Rattle.item_defs.specs.Items.{item_bits}
@@ -52,5 +52,12 @@ abbrev pub row_in : {X : Type 0} → Option X → Gaggle → ℕ → ℕ
 row_in (Some tables) gaggle due = row_of gaggle due
 row_in None gaggle due = 255
 
+-- the table of a mask by the four bits of its option: none if they are all 1
+abbrev pub table_by : (due option : ℕ) → ℕ
+table_by due option = if option == 15 then 255 else 4 * due + option
+
+abbrev pub table_in : Rows → ℕ → ℕ
+table_in rows due = table_by due (rows.options / 2 ^ (4 * due) % 16)
+
 pub record AreRows {X : Type 0} (tables : Option X) (gaggle : Gaggle) (rows : Rows) : Type 0 where
-  pub at : (due : ℕ) → due < 16 → get_or rows.tables due 0 ≡ row_in tables gaggle due
+  pub at : (due : ℕ) → due < 16 → table_in rows due ≡ row_in tables gaggle due

@@ -19,10 +19,10 @@ use Rattle.plane_reader.specs.Held.{Point, ReadsFrom}
 use Rattle.plane_reader.specs.Gaggles.{dc_in, HavePlane, HaveDcs, HaveFamilies, HaveOptions}
 use Rattle.plane_reader.specs.declared.planes.SentPlanes.{SentPlanes}
 
--- block r has the plane's bit in its DC, if that had no bit of the plane or below it
-pub record AddsDc (plane r : ℕ) (old new : List ℤ) : Type 0 where
+-- block r has this bit of the plane in its DC, if that had no bit of the plane or below it
+pub record AddsDc (plane r : ℕ) (is_one : Bool) (old new : List ℤ) : Type 0 where
   pub long : length new ≡ length old
-  pub dc : HasNoneBelow (plane + 1) (dc_in old r) → dc_in new r ≡ dc_in old r +ℤ pos (2 ^ plane)
+  pub dc : HasNoneBelow (plane + 1) (dc_in old r) → dc_in new r ≡ dc_in old r +ℤ pos (if is_one then 2 ^ plane else 0)
   pub slots : (slot : ℕ) → slot < 32 → (slot ≡ dc_slot → ⊥) → mask_in new r slot ≡ mask_in old r slot
   pub others : (q slot : ℕ) → 64 * q < length old → slot < 32 → (q ≡ r → ⊥) → mask_in new q slot ≡ mask_in old q slot
 

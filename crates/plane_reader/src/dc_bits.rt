@@ -27,16 +27,17 @@ fn is_due(plan: &CodedPlane) -> bool
     has(plan.coded, 0) && plan.plane < plan.q
 }
 
-// Adds the plane's bit to the DC of a block.
+// Adds the plane's bit, 1 or 0, to the DC of a block. There is no branch: a raw bit is as often 1 as 0.
 #[inline(always)]
-pub(crate) fn add_dc(plane: u8, cells: &mut [i32], column: Column)
+pub(crate) fn add_dc(is_one: bool, plane: u8, cells: &mut [i32], column: Column)
     requires whole { length cells.old % 64 ≡ 0 }
     requires column { IsColumn cells.old column }
     requires low { plane < 27 }
-    ensures { AddsDc plane column.block cells.old cells.new }
+    ensures { AddsDc plane column.block is_one cells.old cells.new }
 {
     let dc = (mask_of(cells, column, DC) % 0x1_0000_0000) as u32;
-    put_mask(cells, column, DC, u64::from(dc.wrapping_add(1 << plane)));
+    let sum = dc.wrapping_add(u32::from(is_one) << plane);
+    put_mask(cells, column, DC, u64::from(sum));
 }
 
 // Puts the plane's bit of a block's DC, a raw bit.
@@ -48,9 +49,7 @@ fn give_dc(is_one: bool, plane: u8, cells: &mut [i32], column: Column)
     ensures { GivesDc plane column.block is_one cells.old cells.new }
 {
     put_mask(cells, column, RAW, 1);
-    if is_one {
-        add_dc(plane, cells, column);
-    }
+    add_dc(is_one, plane, cells, column);
 }
 
 // Reads the plane's bit of each block's DC.

@@ -22,7 +22,10 @@ ghost use Rattle.plane_reader.specs.Grandchildren.{MayBeNew, sixteen_script, gra
 use crate::groups::{Groups, take_groups};
 use crate::reading::Reading;
 use bit_pipe::{BitIn, OctetIn, TextFault};
-use block_masks::{CodedPlane, Sets, both, either, except, has, is_any_of, quads_of, three};
+use block_masks::{
+    CodedPlane, Sets, both, either, except, first_in, has, is_any_of, part, quads_of, three,
+    without,
+};
 
 // A significant set of sixteen grandchildren in a family: it is new in the plane, or was significant above it.
 #[derive(Clone, Copy)]
@@ -97,10 +100,10 @@ fn take_sixteens<I: OctetIn>(
     ensures holds { Holds I.source (source_state input.new) reading.new.cursor }
     ensures is_in { IsIn (source_state input.new) }
 {
-    for i in 0..3 {
-        if !has(sets.now, i) {
-            continue;
-        }
+    let sent = part(sets.now, 0, 3);
+    let mut left = sent;
+    while left != 0 {
+        let i = first_in(left);
         let set = Sixteen {
             family: i,
             is_new: has(sets.new, i),
@@ -108,6 +111,7 @@ fn take_sixteens<I: OctetIn>(
         let Some(()) = take_quads(input, plan, reading, above, set)? else {
             return Ok(None);
         };
+        left = without(left, i);
     }
     Ok(Some(()))
 }

@@ -1,6 +1,6 @@
 // The word of up to four due positions that is first in a window, as the positions whose bit is 1.
 
-ghost use Rattle.std.specs.Prelude.{◌≡◌, ◌+◌, ◌*◌, ◌<◌, ◌≤◌, ℕ, count_ones, max, slice_index, IsTrue, IfOk, IsSome, IsNone};
+ghost use Rattle.std.specs.Prelude.{◌≡◌, ◌+◌, ◌*◌, ◌<◌, ◌≤◌, ℕ, count_ones, max, if◌then◌else◌, IsTrue, IfOk, IsSome, IsNone};
 ghost use Rattle.std.specs.Option.{ForSome};
 ghost use Rattle.block_masks.specs.Gaggles.{AreOptions};
 ghost use Rattle.plane_defs.specs.Codes.{is_book_sound};
@@ -127,47 +127,61 @@ impl PlaceTables {
 // The table of a mask whose words have an option that is not known yet.
 pub(crate) const UNKNOWN: u8 = 255;
 
-// The table of each mask of what is due, by the options of a gaggle.
+// What is in the place of an option that is not known yet: four bits of 1.
+const MISSING: u64 = 15;
+
+// The lowest of the four bits of each mask of two, three and four places.
+const TWOS: u64 = 0x0001_0110_0110_1000;
+
+const THREES: u64 = 0x0110_1000_1000_0000;
+
+const FOURS: u64 = 0x1000_0000_0000_0000;
+
+// Returns the option of a length that is known, or what is in its place.
+#[inline(always)]
+fn option_of(option: u8, is_known: bool) -> u64
+    ensures { result ≡ (if is_known then option else 15) }
+{
+    if is_known { u64::from(option) } else { MISSING }
+}
+
+// The options of the words of each mask of what is due, by the options of a gaggle: four bits for each mask, the lowest for mask 0. They are
+// in one number, so that it can be in a register while words are read.
 #[derive(Clone, Copy)]
 pub(crate) struct Rows {
-    tables: [u8; 16],
+    options: u64,
 }
 
 impl Rows {
-    ghost use Rattle.plane_reader.specs.Places.{AreRows};
+    ghost use Rattle.plane_reader.specs.Places.{AreRows, table_in};
 
-    // Returns the tables by the options of a gaggle that are known, if there are tables.
+    // Returns the options of a gaggle that are known, if there are tables.
+    #[inline(always)]
     pub fn of(tables: &PlaceTables, gaggle: &Gaggle) -> Rows
         requires known { AreOptions gaggle.now.options }
         ensures { AreRows tables.now.entries gaggle.now result }
     {
-        let mut rows = [UNKNOWN; 16];
         if tables.entries.is_none() {
-            return Rows { tables: rows };
+            return Rows { options: u64::MAX };
         }
-        let by_count = [
-            0,
-            0,
-            gaggle.options[0],
-            gaggle.options[1],
-            gaggle.options[2],
-        ];
-        let is_known = [true, true, gaggle.sent[0], gaggle.sent[1], gaggle.sent[2]];
-        for due in 0..16u8 {
-            let count = count_of(u64::from(due)) as usize;
-            if is_known[count] {
-                rows[due as usize] = OPTIONS * due + by_count[count];
-            }
+        let two = option_of(gaggle.options[0], gaggle.sent[0]);
+        let three = option_of(gaggle.options[1], gaggle.sent[1]);
+        let four = option_of(gaggle.options[2], gaggle.sent[2]);
+        Rows {
+            options: TWOS * two + THREES * three + FOURS * four,
         }
-        Rows { tables: rows }
     }
 
-    // Returns the table of a mask.
+    // Returns the table of a mask, if its option is known.
     #[inline(always)]
     pub fn table_of(&self, due: u64) -> u8
         requires { due < 16 }
-        ensures { result ≡ slice_index self.now.tables due }
+        ensures { result ≡ table_in self.now due }
     {
-        self.tables[due as usize]
+        let option = (self.options >> (4 * due)) & 15;
+        if option == MISSING {
+            return UNKNOWN;
+        }
+        (4 * due + option) as u8
     }
 }

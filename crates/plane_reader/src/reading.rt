@@ -1,6 +1,6 @@
 // The reader of the words of a gaggle in a stage, from a window of the text that is held while it lasts.
 
-ghost use Rattle.std.specs.Prelude.{◌≡◌, ◌≤◌, ◌<◌, ◌+◌, ◌^◌, ◌&&◌, ℕ, Bool, true, false, [], map, filter, Some, Ok};
+ghost use Rattle.std.specs.Prelude.{◌≡◌, ◌≤◌, ◌<◌, ◌+◌, ◌^◌, ◌&&◌, ◌==◌, ℕ, Bool, true, false, [], map, filter, Some, Ok};
 ghost use Rattle.item_defs.specs.Scripts.{in_turn};
 ghost use Rattle.bit_pipe.specs.SourceState.{source_state, IsIn};
 ghost use Rattle.block_masks.specs.Masks.{Shows};
@@ -42,7 +42,17 @@ fn is_ready<I: OctetIn>(cursor: &mut Cursor, input: &mut BitIn<I>, table: u8) ->
     table != UNKNOWN && cursor.need(input, MOST)
 }
 
-// What the words of a gaggle are read with in a stage, and what was found of the block that is read.
+// Returns whether a word of which at least one place must be 1, if that is wanted, has none. There is one test for both, which is never true of
+// a valid text.
+#[inline(always)]
+fn is_missing(places: u64, is_wanted: bool) -> bool
+    ensures { result ≡ (is_wanted && (places == 0)) }
+{
+    places | u64::from(!is_wanted) == 0
+}
+
+// What the words of a gaggle are read with in a stage, and what was found of the block that is read. Calls that read without the window are
+// not inlined: they are passed a copy, so that the fields of this one can be in registers.
 #[derive(Clone, Copy)]
 pub(crate) struct Reading<'a> {
     pub tables: &'a PlaceTables,
@@ -59,6 +69,7 @@ impl<'a> Reading<'a> {
     ghost use Rattle.plane_reader.specs.HeldTakes.{IsReading, HeldFlag, HeldState, HeldPlaces, HeldOnes, AreAmong, marked_script};
 
     // Returns what words are read with from here on, by the options of a gaggle that are known.
+    #[inline(always)]
     pub fn open<I: OctetIn>(
         input: &BitIn<I>,
         tables: &'a PlaceTables,
@@ -81,6 +92,7 @@ impl<'a> Reading<'a> {
     }
 
     // Takes from the input what was read of the window.
+    #[inline(always)]
     pub fn close<I: OctetIn>(&mut self, input: &mut BitIn<I>)
         requires is_in { IsIn (source_state input.old) }
         requires holds { Holds I.source (source_state input.old) self.old.cursor }
@@ -126,7 +138,10 @@ impl<'a> Reading<'a> {
         ensures is_in { IsIn (source_state input.new) }
     {
         if !self.cursor.need(input, 1) {
-            return self.flag_singly(input);
+            let mut singly = *self;
+            let read = singly.flag_singly(input);
+            *self = singly;
+            return read;
         }
         let flag = self.cursor.rest >> 63 == 1;
         self.cursor.pass(1);
@@ -183,7 +198,10 @@ impl<'a> Reading<'a> {
     {
         let table = self.rows.table_of(due);
         if !is_ready(&mut self.cursor, input, table) {
-            return self.places_singly(input, due);
+            let mut singly = *self;
+            let read = singly.places_singly(input, due);
+            *self = singly;
+            return read;
         }
         let first = self.tables.first(table, self.cursor.rest);
         self.cursor.pass(first.len);
@@ -214,7 +232,7 @@ impl<'a> Reading<'a> {
         let Some(places) = self.places(input, due)? else {
             return Ok(None);
         };
-        if is_wanted && places == 0 {
+        if is_missing(places, is_wanted) {
             return Err(TextFault::FalseFlag);
         }
         Ok(Some(places))
@@ -263,6 +281,7 @@ impl<'a> Reading<'a> {
             (source_state input.old) self.old.cursor) (point (source_state input.new) self.new.cursor) }
         ensures stays { result ≡ false → Stays I.source (point (source_state input.old) self.old.cursor) (point (source_state input.new) self.new.cursor) }
         ensures kept { result ≡ false → self.new.found ≡ self.old.found }
+        ensures ready { has_left 32 self.old.cursor → result ≡ true }
         ensures gaggle { self.new.gaggle ≡ self.old.gaggle }
         ensures tables { self.new.tables ≡ self.old.tables }
         ensures reading { IsReading I.source (source_state input.new) self.new }
@@ -353,14 +372,22 @@ impl<'a> Reading<'a> {
         let here = part(due, group.start, group.count);
         let table = self.rows.table_of(here);
         if !is_ready(&mut self.cursor, input, table) {
-            return self.types_singly(input, here, group);
+            let mut singly = *self;
+            let again = Group {
+                start: group.start,
+                count: group.count,
+                is_wanted: group.is_wanted,
+            };
+            let read = singly.types_singly(input, here, again);
+            *self = singly;
+            return read;
         }
         let first = self.tables.first(table, self.cursor.rest);
-        if group.is_wanted && first.places == 0 {
+        let places = u64::from(first.places);
+        if is_missing(places, group.is_wanted) {
             self.cursor.pass(first.len);
             return Err(TextFault::FalseFlag);
         }
-        let places = u64::from(first.places);
         let signs = ((self.cursor.rest << first.len) >> 60) as u8;
         self.found.add_bits(places, group.start);
         self.found

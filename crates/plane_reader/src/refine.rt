@@ -72,7 +72,10 @@ fn take_half<I: OctetIn>(
     if reading.deal(input, here, start) {
         return Ok(Some(()));
     }
-    take_bits(input, reading, here, start)
+    let mut singly = *reading;
+    let read = take_bits(input, &mut singly, here, start);
+    *reading = singly;
+    read
 }
 
 // Reads the bits that refine the AC numbers that are significant above the plane.

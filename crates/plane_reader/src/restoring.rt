@@ -113,7 +113,7 @@ fn restore_dc(cells: &mut [i32], column: Column, rest: &Rest)
 {
     let is_given = has(mask_of(cells, column, RAW), 0);
     if let Some(plane) = rest.half(is_given) {
-        add_dc(plane, cells, column);
+        add_dc(true, plane, cells, column);
     }
 }
 

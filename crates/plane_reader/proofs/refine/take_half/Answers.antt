@@ -18,6 +18,5 @@ returns-then-deal-clause-bits g c = λ s f is shown.
 pub returns-clause-bits : goal.returns-clause-bits
 returns-clause-bits g c = λ s f is shown.
     let no = c.if-deal.false in
-    held_later _ _ (c.deal.ensures.stays no)
-    (c.take_bits.ensures.bits s f (rw (c.deal.ensures.gaggle, c.deal.ensures.kept no) is) (from_zero c.args.start (c.part-here.ensures.if_known f 0 64 shown
-    (omega (arith, c.requires.start)))))
+    let here = from_zero c.args.start (c.part-here.ensures.if_known f 0 64 shown (omega (arith, c.requires.start))) in
+    held_later _ _ (c.deal.ensures.stays no) (c.take_bits-read.ensures.bits s f (rw (c.deal.ensures.gaggle, c.deal.ensures.kept no) is) here)

@@ -4,7 +4,7 @@ use Rattle.plane_reader.proofs.HeldWords.{flag_later, flag_passed}
 use Rattle.plane_reader.proofs.reading.Reading.flag.Goals as goal
 
 pub returns-then-not-need-clause-flag : goal.returns-then-not-need-clause-flag
-returns-then-not-need-clause-flag g c = flag_later _ c.need.ensures.stays c.flag_singly.ensures.flag
+returns-then-not-need-clause-flag g c = flag_later _ c.need.ensures.stays c.flag_singly-read.ensures.flag
 
 pub returns-clause-flag : goal.returns-clause-flag
 returns-clause-flag g c =

@@ -10,7 +10,7 @@ use Rattle.plane_reader.proofs.reading.Reading.places.Goals as goal
 pub returns-then-not-is_ready-clause-places : goal.returns-then-not-is_ready-clause-places
 returns-then-not-is_ready-clause-places g c = λ s f start count are few shown.
     places_later c.args.self.now.tables.now.words.book c.args.due f start count s _ c.is_ready.ensures.stays
-    (c.places_singly.ensures.places s f start count are few shown)
+    (c.places_singly-read.ensures.places s f start count are few shown)
 
 pub first-first-requires : goal.first-first-requires
 first-first-requires g c =

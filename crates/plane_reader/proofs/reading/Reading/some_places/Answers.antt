@@ -1,14 +1,12 @@
-use Rattle.std.proofs.Common.{◌≡◌, ◌&&◌, ◌==◌, false, refl, ◌∙◌, arith}
+use Rattle.std.proofs.Common.{refl, sym, ◌∙◌, arith}
 use Rattle.std.proofs.lemmas.Result.{err_from_is_err_and}
 use Rattle.item_defs.specs.Bits.{bit}
 use Rattle.plane_defs.specs.Steps.{some_one_where}
 use Rattle.block_masks.proofs.Viewing.{shows_own}
 use Rattle.plane_reader.proofs.PlaceReads.{any_state}
 use Rattle.plane_reader.proofs.TypeReads.{free_if_empty, refused_is}
-use Rattle.plane_reader.proofs.SmallTests.{both_true, not_zero, not_wanted, zero_is}
 use Rattle.plane_reader.proofs.HeldWords.{among, ones_fault, ones_missing, ones_false, ones_given}
 use Rattle.plane_reader.proofs.reading.Reading.some_places.Goals as goal
-use Rattle.plane_reader.proofs.reading.Reading.some_places.Goals.{else-is_wanted-via-then-is_wanted+else-places-eq0, else-is_wanted-via-else-is_wanted}
 
 pub returns-in_err-places-clause-places : goal.returns-in_err-places-clause-places
 returns-in_err-places-clause-places g c = λ s f start count are few shown.
@@ -23,12 +21,12 @@ returns-in_default-clause-places g c = λ s f start count are few shown.
     let free = free_if_empty c.args.is_wanted f start count c.args.due few shown c.requires.some in
     ones_missing c.args.self.now.tables.now.words.book (some_one_where c.args.is_wanted) f start count s free (t.places s f start count are few shown)
 
-pub returns-then-places-eq0-clause-places : goal.returns-then-places-eq0-clause-places
-returns-then-places-eq0-clause-places g c = λ s f start count are few shown.
+pub returns-then-is_missing-clause-places : goal.returns-then-is_missing-clause-places
+returns-then-is_missing-clause-places g c = λ s f start count are few shown.
     let t = rw c.in-Some.is at c.in_ok-places.ensures in
     let p = t.places s f start count are few shown in
     let free = free_if_empty c.args.is_wanted f start count c.args.due few shown c.requires.some in
-    let bad = both_true c.args.is_wanted (c.in-Some.places == 0) c.if-is_wanted.true (zero_is c.if-places-eq0.true) in
+    let bad = sym c.is_missing.ensures ∙ c.if-is_missing.true in
     ones_false c.args.self.now.tables.now.words.book (some_one_where c.args.is_wanted) f start count s free p (refused_is c.args.is_wanted p.are ∙ bad)
 
 pub returns-clause-places : goal.returns-clause-places
@@ -36,10 +34,7 @@ returns-clause-places g c = λ s f start count are few shown.
     let t = rw c.in-Some.is at c.in_ok-places.ensures in
     let p = t.places s f start count are few shown in
     let free = free_if_empty c.args.is_wanted f start count c.args.due few shown c.requires.some in
-    let good : (c.args.is_wanted && (c.in-Some.places == 0)) ≡ false = elim c.else-is_wanted.branch [
-      | else-is_wanted-via-then-is_wanted+else-places-eq0 w ↦ not_zero c.args.is_wanted c.in-Some.places w.if-places-eq0.false
-      | else-is_wanted-via-else-is_wanted w ↦ not_wanted c.args.is_wanted (c.in-Some.places == 0) w.if-is_wanted.false
-    ] in
+    let good = sym c.is_missing.ensures ∙ c.if-is_missing.false in
     ones_given c.args.self.now.tables.now.words.book (some_one_where c.args.is_wanted) f start count s free p (refused_is c.args.is_wanted p.are ∙ good)
 
 pub returns-clause-among : goal.returns-clause-among

@@ -1,4 +1,4 @@
-use Rattle.std.proofs.Common.{◌≡◌, ◌≤◌, ◌+◌, ◌-◌, ◌*◌, ◌/◌, ◌%◌, ◌^◌, ◌&&◌, ◌||◌, ◌==◌, true, false, ℕ, Bool, subst, ◌∙◌, arith, rules, count_ones}
+use Rattle.std.proofs.Common.{◌≡◌, ◌≤◌, ◌+◌, ◌-◌, ◌*◌, ◌/◌, ◌%◌, ◌^◌, ◌&&◌, ◌||◌, ◌==◌, true, false, ℕ, Bool, subst, sym, ap, ◌∙◌, arith, rules, count_ones}
 use Rattle.bit_pipe.specs.Windows.{first_of}
 use Rattle.plane_defs.specs.Spans.{span}
 use Rattle.block_masks.specs.Masks.{Shows}
@@ -12,7 +12,6 @@ use Rattle.plane_defs.specs.WordScripts.{due_script}
 use Rattle.plane_reader.specs.Takes.{unless_bad}
 use Rattle.plane_reader.specs.Places.{IsFirst, word_at}
 use Rattle.plane_reader.proofs.FoundMasks.{room_four}
-use Rattle.plane_reader.proofs.SmallTests.{not_zero, not_wanted, both_true, zero_is}
 use Rattle.plane_reader.proofs.TypeReads.{part_marks, free_if_empty, refused_is}
 use Rattle.plane_reader.proofs.PlaceReads.{word_ones}
 use Rattle.plane_reader.proofs.WindowWords.{few_ones}
@@ -20,13 +19,12 @@ use Rattle.plane_reader.proofs.HeldReads.{moves_passed, holds_passed}
 use Rattle.plane_reader.proofs.HeldStates.{held_later, held_false, held_types}
 use Rattle.plane_reader.proofs.HeldTypes.{RowOption, row_option, rows_there, row_small, first_ones, places_say, types_gets, types_is, some_here, signs_word}
 use Rattle.plane_reader.proofs.reading.Reading.types.Goals as goal
-use Rattle.plane_reader.proofs.reading.Reading.types.Goals.{else-group-via-then-group+else-first-eq0, else-group-via-else-group}
 
 pub table_of-table-requires : goal.table_of-table-requires
 table_of-table-requires g c = nibble_small c.part-here.result c.args.group.count c.requires.few c.part-here.ensures.within
 
-pub types_singly-requires-clause-some : goal.types_singly-requires-clause-some
-types_singly-requires-clause-some g c = λ wanted.
+pub types_singly-read-requires-clause-some : goal.types_singly-read-requires-clause-some
+types_singly-read-requires-clause-some g c = λ wanted.
     let group = c.args.group in
     let within : group.start + group.count ≤ 64 = omega (arith, c.requires.start, c.requires.few) in
     let own = from_zero group.start (c.part-here.ensures.if_known _ 0 64 (shows_own c.args.due 64 (search rules)) within) in
@@ -37,7 +35,7 @@ returns-then-not-is_ready-clause-types g c = λ s f is marks.
     let group = c.args.group in
     let within : group.start + group.count ≤ 64 = omega (arith, c.requires.start, c.requires.few) in
     let own = from_zero group.start (c.part-here.ensures.if_known _ 0 64 (shows_own c.args.due 64 (search rules)) within) in
-    held_later _ _ c.is_ready.ensures.stays (c.types_singly.ensures.types s f is (part_marks c.args.due f marks own))
+    held_later _ _ c.is_ready.ensures.stays (c.types_singly-read.ensures.types s f is (part_marks c.args.due f marks own))
 
 pub first-first-requires : goal.first-first-requires
 first-first-requires g c =
@@ -77,8 +75,8 @@ pass-requires-clause-left g c =
     c.first-first.ensures here row.option small row.fits row.at in
     omega (arith, is.few, c.is_ready.ensures.has c.if-not-is_ready.false)
 
-pub returns-then-first-eq0-clause-types : goal.returns-then-first-eq0-clause-types
-returns-then-first-eq0-clause-types g c = λ s f is_state marks.
+pub returns-then-is_missing-clause-types : goal.returns-then-is_missing-clause-types
+returns-then-is_missing-clause-types g c = λ s f is_state marks.
     let group = c.args.group in
     let reading = c.args.self.now in
     let here = c.part-here.result in
@@ -94,8 +92,8 @@ returns-then-first-eq0-clause-types g c = λ s f is_state marks.
     let sound = reading.tables.now.words.sound in
     let cursor = c.is_ready.new.cursor in
     let left = c.is_ready.ensures.has c.if-not-is_ready.false in
-    let e : (group.is_wanted && (c.first-first.result.places == 0)) ≡ true = both_true group.is_wanted (c.first-first.result.places ==
-    0) c.if-group.true (zero_is c.if-first-eq0.true) in
+    let e : (group.is_wanted && (c.first-first.result.places == 0)) ≡ true =
+    sym (c.is_missing.ensures ∙ ap (λ n. group.is_wanted && (n == 0)) c.from-places.ensures) ∙ c.if-is_missing.true in
     let ones = word_ones f group.start group.count (word_at here c.first-first.result.places) in
     let free = free_if_empty group.is_wanted f group.start group.count here c.requires.few shows (λ wanted. some_here (search rules) own
     (c.requires.some wanted)) in
@@ -112,8 +110,8 @@ returns-then-first-eq0-clause-types g c = λ s f is_state marks.
       left,
     )) c.pass.ensures.used c.pass.ensures.window c.pass.ensures.rest c.is_ready.ensures.is_in) says
 
-pub returns-then-first-eq0-clause-holds : goal.returns-then-first-eq0-clause-holds
-returns-then-first-eq0-clause-holds g c =
+pub returns-then-is_missing-clause-holds : goal.returns-then-is_missing-clause-holds
+returns-then-is_missing-clause-holds g c =
     let group = c.args.group in
     let reading = c.args.self.now in
     let here = c.part-here.result in
@@ -209,10 +207,8 @@ returns-clause-types g c = λ s f is_state marks.
     let cursor = c.is_ready.new.cursor in
     let first = c.first-first.result in
     let left = c.is_ready.ensures.has c.if-not-is_ready.false in
-    let e : (group.is_wanted && (first.places == 0)) ≡ false = elim c.else-group.branch [
-      | else-group-via-then-group+else-first-eq0 w ↦ not_zero group.is_wanted first.places w.if-first-eq0.false
-      | else-group-via-else-group w ↦ not_wanted group.is_wanted (first.places == 0) w.if-group.false
-    ] in
+    let e : (group.is_wanted && (first.places == 0)) ≡ false =
+    sym (c.is_missing.ensures ∙ ap (λ n. group.is_wanted && (n == 0)) c.from-places.ensures) ∙ c.if-is_missing.false in
     let free = free_if_empty group.is_wanted f group.start group.count here c.requires.few shows (λ wanted. some_here (search rules) own
     (c.requires.some wanted)) in
     let few = few_ones first.places is.places.small in
