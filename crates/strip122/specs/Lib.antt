@@ -14,5 +14,6 @@ pub mod Closed
 pub mod Picks
 pub mod Trials
 pub mod Run
+pub mod Outcomes
 pub mod Answers
 pub mod Endless
