@@ -159,8 +159,7 @@ module _ {D F : Type 0} (r : Reader D F) (engine : IsReader r) where
       Exchange old new took gave wrote Q → length took ≤ r.cap → (done : D) →
       r.causes old new took gave (Ok done) → (reads_packets r).accepts input
   accepted old new {took = took} {gave = gave} input if_known since within done k =
-      let read = engine.done old new took gave done k in
-      (
+      let read = engine.done old new took gave done k in (
         ends_within r.cap old new since input if_known within read.0,
         engine.same took input (sym (all_read r.cap old new since input if_known read.0)) read.1,
       )

@@ -1,4 +1,4 @@
--- What follows for each status of a command, from its effect, by the law `outcomes_follow`. This project's own.
+-- What follows for each status of a command. This project's own.
 use Rattle.std.specs.Prelude.{◌≡◌, ◌≢◌, ◌⊎◌, ◌≤◌, ◌++◌, ℕ, zero, suc, true, false, List, [], length, None, Some, Ok, Err}
 use Rattle.port_122.specs.Outside.{Outside, Exchange, NoRead, Rose, AtEnd}
 use Rattle.base_122.specs.declared.book.Book.{Book}
@@ -44,7 +44,6 @@ use Rattle.strip122.specs.Muxing.{MuxedWhole, camera_settings}
 use Rattle.strip122.specs.BareStreams.{EncodedBare, BareCauses, IsStreamOf}
 use Rattle.strip122.specs.Listing.{Reader, reader_asks, lister, picker, informer}
 use Rattle.strip122.specs.Decoding.{Causes, AsksFound}
-use Rattle.strip122.specs.Run.{behaviour}
 
 -- What is valid of the outside before a run and after it: at status 0 the whole output is given, at 1 a part, at 3 the input is refused, and
 -- at 6 there was too little memory.
@@ -297,8 +296,3 @@ outcomes (BareEncode setting) = bare_encode_outcomes setting
 outcomes (BareDecode wish) = bare_outcomes wish
 outcomes (Make made) = make_outcomes made
 outcomes (Trial setting seed) = trial_outcomes setting seed
-
--- The effect of a command has one of these outcomes, which its status decides.
-abbrev pub OutcomesFollow : Type 0
-OutcomesFollow = (command : Command) (old new : Outside) (status : ℕ) → (behaviour command).performs old new status →
-    AtStatus (outcomes command) old new status

@@ -18,9 +18,8 @@ ghost use Rattle.strip122.specs.Muxing.{camera_settings};
 ghost use Rattle.strip122.specs.Picks.{GavePicked};
 ghost use Rattle.strip122.specs.Closed.{BareClosed, ClosedBy, MuxClosed};
 ghost use Rattle.strip122.specs.Behaviours.{IsSteady};
+ghost use Rattle.strip122.specs.Outcomes.{AtStatus, outcomes};
 ghost use Rattle.strip122.specs.Run.{Refuses, Makes, Tries, Runs, behaviour};
-
-mod laws;
 
 use crate::bare::bare_decode;
 use crate::books::{encode_with_book, read_with_book};
@@ -120,7 +119,9 @@ pub fn run<X: Port>(alloc: Global, words: &[String], port: &mut X) -> u8
     ensures runs { (said : Result Command WordFault) × Says (texts words.now) said
         × Runs (texts words.now) said (X.outside port.old) (X.outside port.new) result }
 
-    // What follows for some statuses. What is given, noted and missing at each other one follows from `runs` by the law `outcomes_follow`.
+    // What follows for each status: the whole output, a part of it, an input that is refused, or too little memory.
+    ensures follows { (command : Command) → Says (texts words.now) (Ok command) →
+        AtStatus (outcomes command) (X.outside port.old) (X.outside port.new) result }
     ensures refused { (result ≡ 2) ↔ ((fault : WordFault) × Says (texts words.now) (Err fault)) }
     ensures read_fault { result ≡ 4 → Rose (X.outside port.old).read_faults (X.outside port.new).read_faults }
     ensures write_fault { result ≡ 5 → Rose (X.outside port.old).write_faults (X.outside port.new).write_faults }

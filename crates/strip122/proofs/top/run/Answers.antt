@@ -13,6 +13,17 @@ use Rattle.strip122.proofs.GavePictures.{gave_look, gave_picture}
 use Rattle.strip122.proofs.Laws.{law, ends_at}
 use Rattle.strip122.proofs.top.run.Goals as goal
 
+pub returns-in-Ok-clause-follows : goal.returns-in-Ok-clause-follows
+returns-in-Ok-clause-follows g c command says =
+    let same : command ≡ c.in-Ok.command = let e = c.read_words.ensures.only (Ok command) says in let f = c.in-Ok.is in cc in
+    (law c.bare_streams_are_read.ensures command).ends _ _ c.perform.result
+    (subst (λ k. (behaviour k).performs (g.X.Port.outside c.args.port.now) (g.X.Port.outside c.perform.new.port) c.perform.result) (sym same)
+    c.perform.ensures.performs)
+
+pub returns-in-Err-clause-follows : goal.returns-in-Err-clause-follows
+returns-in-Err-clause-follows g c command says =
+    absurd (let e = c.read_words.ensures.only (Ok command) says in let f = c.in-Err.is in cc)
+
 pub returns-in-Ok-clause-refused : goal.returns-in-Ok-clause-refused
 returns-in-Ok-clause-refused g c = (
   λ two. absurd (ends_at c.bare_streams_are_read.ensures c.in-Ok.command _ _ c.perform.result 2 c.perform.ensures.performs two),
