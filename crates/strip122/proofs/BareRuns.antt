@@ -1,5 +1,5 @@
 -- The effect of a run of `bare-encode` and `bare-decode` after its note, and what follows for each status.
-use Rattle.std.proofs.Common.{◌≡◌, ℕ, List, [], refl, sym, ◌∙◌, subst, arith, inl, inr, Result, Ok, Err}
+use Rattle.std.proofs.Common.{◌≡◌, ℕ, List, [], refl, sym, ◌∙◌, subst, arith, inl, inr, Result, Ok, Err, Some}
 use Rattle.port_122.specs.Outside.{Outside, Exchange, NoRead}
 use Rattle.port_122.proofs.Stretches.{at_end_later}
 use Rattle.port_122.proofs.IfKnown.{end_known}
@@ -18,14 +18,16 @@ use Rattle.bare_stream.specs.Answers.{BareAnswers, EncodesBare as EncodesOver}
 use Rattle.bare_stream.specs.StreamRead.{answer_for}
 use Rattle.bare_stream.specs.Decoded.{Answers, EndsSo, AsksBare, DecodesBare}
 use Rattle.bare_stream.specs.RoundTrip.{StreamsAreRead, BareRoundTrip}
-use Rattle.strip122.specs.Notes.{IsNoted, Notes, fault_status, fault_line, memory_line, bare_fault_status, bare_fault_line}
+use Rattle.strip122.specs.Notes.{IsNoted, Notes}
 use Rattle.strip122.specs.Ran.{CausedWithin}
 use Rattle.strip122.specs.Encoding.{AsksRaster}
-use Rattle.strip122.specs.BareStreams.{EncodesBare, EncodedBare, encodes_bare, bare_status, bare_line, BareCauses, DecodesStream, IsStreamOf, GivesPicture}
-use Rattle.strip122.specs.BareStreams.{BareRefuses, decodes_bare, GaveBare}
+use Rattle.strip122.specs.BareStreams.{EncodesBare, EncodedBare, encodes_bare, BareCauses, DecodesStream, IsStreamOf}
+use Rattle.strip122.specs.BareStreams.{decodes_bare, GaveBare}
+use Rattle.strip122.specs.Outcomes.{AtStatus, GivesPicture, BareRefuses, bare_outcomes, bare_encode_outcomes}
 use Rattle.port_122.proofs.BothAsked.{since_both}
+use Rattle.strip122.proofs.Reports.{fault_status, fault_line, memory_line, bare_fault_status, bare_fault_line, bare_status, bare_line}
 use Rattle.strip122.proofs.NoteLines.{ran_on, nothing_noted}
-use Rattle.strip122.proofs.Behaviours.{AtStatus, Law}
+use Rattle.strip122.proofs.Behaviours.{Law}
 use Rattle.strip122.proofs.Encoded.{EncoderSays, IsEncoder, encoder_law}
 
 -- ---- `bare-encode`
@@ -64,7 +66,7 @@ bare_engine s = record {
 pub bare_image_encoded : (s : Setting) (old new : Outside) (done : EncodeDone) → EncodesOver s old new (Ok done) → EncodedBare s old new
 bare_image_encoded s old new done run = (bare_engine s).done old new run.took run.gave done run.answer (since_both run.since run.asks)
 
-pub bare_encode_law : (s : Setting) → Law (encodes_bare s)
+pub bare_encode_law : (s : Setting) → Law (encodes_bare s) (bare_encode_outcomes s)
 bare_encode_law s = encoder_law s (BareAnswers s) (texts_for s) (EncodedBare s) (bare_engine s)
 
 -- there is too little memory, and this is noted
@@ -99,8 +101,8 @@ bare_decode_failed wish a b c fault status run n is =
 -- ---- each status
 
 stream_ends : StreamsAreRead → (wish : DecodeWish) (old new : Outside) (status : ℕ) → DecodesStream wish old new status →
-    AtStatus (decodes_bare wish) old new status
-stream_ends law wish old new status run = subst (AtStatus (decodes_bare wish) old new) (sym run.status_is) (by run.answer run.noted run.cause)
+    AtStatus (bare_outcomes wish) old new status
+stream_ends law wish old new status run = subst (AtStatus (bare_outcomes wish) old new) (sym run.status_is) (by run.answer run.noted run.cause)
   where
     refuses : (fault : BareFault) → bare_fault_status fault ≡ 3 → IsNoted old new run.wrote (bare_fault_line fault) →
         CausedWithin wish.octets (BareCauses wish) old new run.took run.gave (Err fault) → BareRefuses wish old new
@@ -117,7 +119,7 @@ stream_ends law wish old new status run = subst (AtStatus (decodes_bare wish) ol
     }
 
     by : (r : Result Geometry BareFault) → IsNoted old new run.wrote (bare_line r) → CausedWithin wish.octets (BareCauses wish) old new run.took run.gave
-        r → AtStatus (decodes_bare wish) old new (bare_status r)
+        r → AtStatus (bare_outcomes wish) old new (bare_status r)
     by (Ok g) noted k = record {
       g = g;
       took = run.took;
@@ -145,28 +147,29 @@ stream_ends law wish old new status run = subst (AtStatus (decodes_bare wish) ol
 -- ---- the input that is left
 
 -- a bare stream within the caps isn't refused
-right_stream : (wish : DecodeWish) (old new : Outside) → (decodes_bare wish).right old → BareRefuses wish old new → ⊥
-right_stream wish old new has r = by r.fault r.input (r.cause.answers has.0 has.1)
+right_stream : (wish : DecodeWish) (old new : Outside) (input : List ℕ) → old.rest ≡ Some input → (decodes_bare wish).accepts input →
+    BareRefuses wish old new → ⊥
+right_stream wish old new input if_known has r = by r.fault r.input (r.cause.answers input if_known)
   where
     wrong : (fault : BareFault) (g : Geometry) (o : Result Geometry BareFault) → Err fault ≡ o → o ≡ Ok g → ⊥
     wrong fault g o e f = cc
 
-    by : (fault : BareFault) → bare_fault_status fault ≡ 3 → Answers wish has.0 r.took r.gave (Err fault) → ⊥
-    by (Refused index cause) three k = wrong (Refused index cause) has.2 (answer_for wish has.0) k.answer has.3
-    by (TooManyPixels pixels) three k = wrong (TooManyPixels pixels) has.2 (answer_for wish has.0) k.answer has.3
-    by LongInput three k = wrong LongInput has.2 (answer_for wish has.0) k.answer has.3
+    by : (fault : BareFault) → bare_fault_status fault ≡ 3 → Answers wish input r.took r.gave (Err fault) → ⊥
+    by (Refused index cause) three k = wrong (Refused index cause) has.0 (answer_for wish input) k.answer has.1
+    by (TooManyPixels pixels) three k = wrong (TooManyPixels pixels) has.0 (answer_for wish input) k.answer has.1
+    by LongInput three k = wrong LongInput has.0 (answer_for wish input) k.answer has.1
     by read_failed three k = omega (arith, three)
     by write_failed three k = omega (arith, three)
     by Memory three k = omega (arith, three)
 
-pub bare_decode_law : StreamsAreRead → (wish : DecodeWish) → Law (decodes_bare wish)
+pub bare_decode_law : StreamsAreRead → (wish : DecodeWish) → Law (decodes_bare wish) (bare_outcomes wish)
 bare_decode_law law wish = record {
   ends = stream_ends law wish;
   right = right_stream wish;
-  wrong_whole = λ old new wrong w.
-      let p = w.picture wrong.0 wrong.1 in
-      wrong.2 w.g (subst (λ octets. IsStreamOf wish octets w.g) (end_known wrong.0 w.since wrong.1 w.ended) p.stream);
-  wrong_part = λ old new wrong never. never;
+  whole = λ old new input if_known w.
+      let p = w.picture input if_known in
+      (w.g, subst (λ octets. IsStreamOf wish octets w.g) (end_known input w.since if_known w.ended) p.stream);
+  part = λ old new input if_known never. absurd never;
 }
 
 -- ---- the round trip

@@ -10,8 +10,10 @@ use Rattle.code_book.specs.declared.fault.BookFault.{BookFault}
 use Rattle.code_book.specs.declared.fault.BookFault.TheVariants.{ReadFault, Short, BadMark, BadLength, BadBits, Clash, Incomplete}
 use Rattle.code_book.specs.Reading.{ReadsBook, book_read}
 use Rattle.strip122.specs.Behaviours.{Behaviour}
-use Rattle.strip122.specs.Books.{AfterBook, LacksBook, BeginsWithBook, BeginsWithNone, ByBook, book_status, by_book, with_book}
-use Rattle.strip122.proofs.Behaviours.{AtStatus, Law}
+use Rattle.strip122.specs.Books.{AfterBook, LacksBook, ByBook, by_book, with_book}
+use Rattle.strip122.specs.Outcomes.{Outcomes, AtStatus, book_outcomes}
+use Rattle.strip122.proofs.Reports.{book_status}
+use Rattle.strip122.proofs.Behaviours.{Law}
 
 -- no fault has status 0
 pub book_fault_fails : (fault : BookFault) → book_status fault ≡ 0 → ⊥
@@ -50,13 +52,6 @@ read_parts {old = old} {after = after} {book = book} octets rest read if_known l
     let same = same_parts read.took octets left.0 rest (read.answer.0 ∙ sym long) (sym left.2) in
     (subst (λ xs. Ok book ≡ book_read xs) same.0 read.answer.1, left.1 ∙ ap Some same.1)
 
--- a book was read, so the input begins with its octets
-begins : {old after : Outside} {book : Book} (input : List ℕ) → ReadsBook old after (Ok book) → old.rest ≡ Some input →
-    (octets rest : List ℕ) × (input ≡ octets ++ rest) × (length octets ≡ 138) × (book_read octets ≡ Ok book)
-begins {old = old} {after = after} input read if_known =
-    let left = left_over old.rest after.rest input read.took if_known read.since.rest in
-    (read.took, left.0, left.2, read.answer.0, sym read.answer.1)
-
 other : {old after : Outside} (octets rest : List ℕ) (book : Book) (fault : BookFault) {took : List ℕ} →
     (length took ≡ 138) × (Err fault ≡ book_read took) → (read : ReadsBook old after (Err fault)) →
     took ≡ read.took → old.rest ≡ Some (octets ++ rest) → length octets ≡ 138 → book_read octets ≡ Ok book → ⊥
@@ -87,8 +82,8 @@ not_refused {old = old} {after = after} octets rest book (Incomplete t) read if_
 
 -- ---- the law
 
-module _ (b : Book → Behaviour) (each : (book : Book) → Law (b book)) where
-  ended : (old new : Outside) (fault : BookFault) → LacksBook old new fault → AtStatus (with_book b) old new (book_status fault)
+module _ (b : Book → Behaviour) (o : Book → Outcomes) (each : (book : Book) → Law (b book) (o book)) where
+  ended : (old new : Outside) (fault : BookFault) → LacksBook old new fault → AtStatus (book_outcomes o) old new (book_status fault)
   ended old new ReadFault lacks = omega (arith, lacks.read.answer.0, lacks.noted.1.faults.reads)
   ended old new (Short octets) lacks = inl (record { fault = Short octets; lacks = lacks; input = refl })
   ended old new BadMark lacks = inl (record { fault = BadMark; lacks = lacks; input = refl })
@@ -97,8 +92,8 @@ module _ (b : Book → Behaviour) (each : (book : Book) → Law (b book)) where
   ended old new (Clash t x y) lacks = inl (record { fault = Clash t x y; lacks = lacks; input = refl })
   ended old new (Incomplete t) lacks = inl (record { fault = Incomplete t; lacks = lacks; input = refl })
 
-  later : (old new : Outside) (status : ℕ) (book : Book) (after : Outside) → ReadsBook old after (Ok book) → AtStatus (b book) after new status →
-      AtStatus (with_book b) old new status
+  later : (old new : Outside) (status : ℕ) (book : Book) (after : Outside) → ReadsBook old after (Ok book) → AtStatus (o book) after new status →
+      AtStatus (book_outcomes o) old new status
   later old new zero book after read at = record { book = book; after = after; read = read; holds = at }
   later old new (suc zero) book after read at = record { book = book; after = after; read = read; holds = at }
   later old new (suc (suc zero)) book after read at = at
@@ -108,41 +103,41 @@ module _ (b : Book → Behaviour) (each : (book : Book) → Law (b book)) where
   later old new (suc (suc (suc (suc (suc (suc zero)))))) book after read at = record { book = book; after = after; read = read; holds = at }
   later old new (suc (suc (suc (suc (suc (suc (suc status))))))) book after read at = at
 
-  ends : (old new : Outside) (status : ℕ) → (with_book b).performs old new status → AtStatus (with_book b) old new status
-  ends old new status (inl run) = subst (AtStatus (with_book b) old new) (sym run.status_is) (ended old new run.fault run.lacks)
+  ends : (old new : Outside) (status : ℕ) → (with_book b).performs old new status → AtStatus (book_outcomes o) old new status
+  ends old new status (inl run) = subst (AtStatus (book_outcomes o) old new) (sym run.status_is) (ended old new run.fault run.lacks)
   ends old new status (inr run) = later old new status run.book run.after run.read ((each run.book).ends run.after new status run.holds)
 
-  -- the book that was read is that of the input, and what follows for the rest
-  at_rest : (P : Book → Outside → Type 0) (Q : Book → Outside → Outside → Type 0) (old new : Outside) →
-      ((book : Book) (after : Outside) → P book after → Q book after new → ⊥) →
-      BeginsWithBook P old → AfterBook Q old new → ⊥
-  at_rest P Q old new never input run =
-      let parts = read_parts input.octets input.rest run.read input.if_known input.long in
-      let same : run.book ≡ input.book = let e : Ok run.book ≡ Ok input.book = parts.0 ∙ input.read in cc in
-      never run.book run.after (subst (λ book. P book run.after) (sym same) (input.holds run.after parts.1)) run.holds
+  right : (old new : Outside) (input : List ℕ) → old.rest ≡ Some input → (with_book b).accepts input → (book_outcomes o).refuses old new → ⊥
+  right old new input if_known has (inl refused) =
+      not_refused has.octets has.rest has.book refused.fault refused.lacks.read (if_known ∙ ap Some has.input_is) has.long has.read refused.input
+  right old new input if_known has (inr run) =
+      let parts = read_parts has.octets has.rest run.read (if_known ∙ ap Some has.input_is) has.long in
+      let same : run.book ≡ has.book = let e : Ok run.book ≡ Ok has.book = parts.0 ∙ has.read in cc in
+      (each run.book).right run.after new has.rest parts.1 (subst (λ book. (b book).accepts has.rest) (sym same) has.holds) run.holds
 
-  not_begun : (Q : Book → Outside → Outside → Type 0) (old new : Outside) → BeginsWithNone old → AfterBook Q old new → ⊥
-  not_begun Q old new input run =
-      let begun = begins input.input run.read input.if_known in
-      input.none begun.0 begun.1 run.book begun.2 begun.3 begun.4
-
-  right : (old new : Outside) → (with_book b).right old → (with_book b).refuses old new → ⊥
-  right old new input (inl refused) = not_refused input.octets input.rest input.book refused.fault refused.lacks.read input.if_known input.long input.read
-      refused.input
-  right old new input (inr run) = at_rest (λ book. (b book).right) (λ book. (b book).refuses) old new (λ book after. (each book).right after new) input run
-
-  wrong : (whole : Behaviour → Outside → Outside → Type 0) → ((book : Book) (after new : Outside) → (b book).wrong after → whole (b book) after new → ⊥) →
-      (old new : Outside) → (with_book b).wrong old → AfterBook (λ book. whole (b book)) old new → ⊥
-  wrong whole never old new (inl none) run = not_begun (λ book. whole (b book)) old new none run
-  wrong whole never old new (inr input) run = at_rest (λ book. (b book).wrong) (λ book. whole (b book)) old new (λ book after. never book after new) input run
+  -- a book was read, so the input begins with its octets, and the rest is accepted
+  accepted : (whole : Outcomes → Outside → Outside → Type 0) →
+      ((book : Book) (after new : Outside) (rest : List ℕ) → after.rest ≡ Some rest → whole (o book) after new → (b book).accepts rest) →
+      (old new : Outside) (input : List ℕ) → old.rest ≡ Some input → AfterBook (λ book. whole (o book)) old new → (with_book b).accepts input
+  accepted whole takes old new input if_known run =
+      let left = left_over old.rest run.after.rest input run.read.took if_known run.read.since.rest in
+      record {
+        octets = run.read.took;
+        rest = left.0;
+        input_is = left.2;
+        long = run.read.answer.0;
+        book = run.book;
+        read = sym run.read.answer.1;
+        holds = takes run.book run.after new left.0 left.1 run.holds;
+      }
 
   -- a command whose input begins with a book has the law, if it has it with each book
-  pub with_book_law : Law (with_book b)
+  pub with_book_law : Law (with_book b) (book_outcomes o)
   with_book_law = record {
     ends = ends;
     right = right;
-    wrong_whole = wrong (λ c. c.whole) (λ book. (each book).wrong_whole);
-    wrong_part = wrong (λ c. c.part) (λ book. (each book).wrong_part);
+    whole = accepted (λ c. c.whole) (λ book. (each book).whole);
+    part = accepted (λ c. c.part) (λ book. (each book).part);
   }
 
 -- ---- a run with a book, or without one

@@ -31,8 +31,8 @@ use Rattle.camera_mux.proofs.CameraAlone.{none_left}
 use Rattle.camera_mux.proofs.RecordLaws.{count_own, raster_own, records_other}
 use Rattle.command_words.specs.Commands.{AreCameras}
 use Rattle.strip122.specs.Closed.{MuxClosed}
-use Rattle.strip122.specs.Muxing.{MuxedWhole, Muxes, camera_settings, muxes}
-use Rattle.strip122.proofs.Behaviours.{AtStatus}
+use Rattle.strip122.specs.Muxing.{MuxedWhole, Muxes, camera_settings}
+use Rattle.strip122.specs.Outcomes.{AtStatus, mux_outcomes}
 use Rattle.strip122.proofs.CameraWorks.{are_settings, setting_is, size_is, sound_cameras}
 use Rattle.strip122.proofs.Muxed.{mux_law}
 use Rattle.strip122.proofs.ClosedRasters.{Carries, is_returned, image_for}
@@ -150,4 +150,4 @@ cameras_closed law short heights trip s cameras range height are sound ten old n
     let settings = camera_settings s cameras in
     mux_closed law short heights trip settings (are_settings s cameras range height are) (sound_cameras s cameras sound)
     (λ camera lt. ap (λ (t : Setting). length t.weights.shifts) (setting_is s cameras camera (omega (arith, lt, size_is s cameras))) ∙ ten) old new
-    (subst (AtStatus (muxes settings) old new) done ((mux_law settings).ends old new status run))
+    (subst (AtStatus (mux_outcomes settings) old new) done ((mux_law settings).ends old new status run))

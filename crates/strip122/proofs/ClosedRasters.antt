@@ -32,11 +32,12 @@ use Rattle.segment_walk.specs.declared.ending.DecodeDone.{DecodeDone}
 use Rattle.segment_walk.proofs.WholeImages.{none_left, geometry_reported}
 use Rattle.strip_decoder.specs.Answers.{Answers, Asks}
 use Rattle.strip_decoder.specs.RoundTrip.{RoundTrip}
-use Rattle.strip122.specs.Behaviours.{IsSteady, Completes}
+use Rattle.strip122.specs.Behaviours.{IsSteady}
 use Rattle.strip122.specs.Closed.{Admits, GivesRaster, IsReturned, EncodedClosed}
-use Rattle.strip122.specs.Decoding.{Decodes, DecodedWhole, DecodedPart, DecodeCauses, HasPicture, reads_picture}
+use Rattle.strip122.specs.Decoding.{Decodes, DecodeCauses, reads_picture}
+use Rattle.strip122.specs.Outcomes.{DecodedWhole, DecodedPart, picture_outcomes}
 use Rattle.strip122.specs.Encoding.{EncodedWhole}
-use Rattle.strip122.proofs.Behaviours.{completes}
+use Rattle.strip122.proofs.Behaviours.{Completes, completes}
 use Rattle.strip122.proofs.Decoded.{decode_says}
 use Rattle.strip122.proofs.GavePictures.{none_damaged}
 use Rattle.strip122.proofs.PacketInputs.{picture_law}
@@ -77,14 +78,8 @@ module _ (heights : KnownHeights) (trip : RoundTrip) (s : Setting) (rows : ℕ) 
         let width : g.width ≡ s.width = ap (λ (g : Geometry). g.width) same in
         subst (λ n. g.width * n ≤ wish.pixels) (sym reached) (subst (λ w. w * rows ≤ wish.pixels) (sym width) admits.pixels)
 
-    has : HasPicture wish old
-    has = record {
-      packets = record { input = stream; if_known = if_known; ends = inl admits.octets };
-      geometry = size;
-      geometry_is = geometry_there;
-      few =
-          few;
-    }
+    has : (reads_picture wish (Answers wish) (Asks wish)).accepts stream
+    has = (inl admits.octets, (size, geometry_there, few))
 
     -- a picture that is given for it
     module _ {took gave wrote : List ℕ} (done : DecodeDone) (since : Exchange old new took gave wrote (Asks wish old took gave))
@@ -140,15 +135,15 @@ module _ (heights : KnownHeights) (trip : RoundTrip) (s : Setting) (rows : ℕ) 
           p.lacks (none_damaged p.done.damage (none_missing p.done p.since p.cause.cause)) (height_known p.done p.since p.cause.cause)
           (framed p.done p.since p.cause.cause)
 
-      ends : (status : ℕ) → Completes (reads_picture wish (Answers wish) (Asks wish)) old new status → GivesRaster wish raster stream old new status
+      ends : (status : ℕ) → Completes (picture_outcomes wish (Answers wish) (Asks wish)) old new status → GivesRaster wish raster stream old new status
       ends status (inl w) = inl (w.0, by_whole w.1)
       ends status (inr (inl p)) = absurd (not_part p.1)
-      ends status (inr (inr n)) = inr n
+      ends status (inr (inr n)) = inr n.0
 
       arrives : (status : ℕ) → IsSteady old new → Decodes wish old new status → GivesRaster wish raster stream old new status
       arrives status steady run =
           let law = picture_law wish (Answers wish) (Asks wish) (decode_says wish) in
-          ends status (completes (reads_picture wish (Answers wish) (Asks wish)) old new status (law.ends old new status run) (law.right old new has) steady)
+          ends status (completes (picture_outcomes wish (Answers wish) (Asks wish)) old new status (law.ends old new status run) (law.right old new stream if_known has) steady)
 
 -- the octets of a raster are decoded from a stream that carries its image
 pub is_returned : KnownHeights → RoundTrip → (s : Setting) (rows : ℕ) (raster stream : List ℕ) → IsImageFor s rows (image_of s raster) →

@@ -20,11 +20,12 @@ use Rattle.bare_stream.specs.Pictures.{all_rows}
 use Rattle.bare_stream.specs.StreamRead.{reading, answer_for}
 use Rattle.bare_stream.specs.declared.fault.BareFault.{BareFault}
 use Rattle.plane_defs.specs.Codes.{is_book_sound}
-use Rattle.strip122.specs.BareStreams.{DecodesStream, DecodedBare, GivesPicture, IsStreamOf, EncodedBare, decodes_bare}
-use Rattle.strip122.specs.Behaviours.{IsSteady, Completes}
+use Rattle.strip122.specs.BareStreams.{DecodesStream, IsStreamOf, EncodedBare, decodes_bare}
+use Rattle.strip122.specs.Outcomes.{DecodedBare, GivesPicture, bare_outcomes}
+use Rattle.strip122.specs.Behaviours.{IsSteady}
 use Rattle.strip122.specs.Closed.{AdmitsBare, GivesBareRaster, BareClosed}
 use Rattle.strip122.proofs.BareRuns.{bare_decode_law}
-use Rattle.strip122.proofs.Behaviours.{completes}
+use Rattle.strip122.proofs.Behaviours.{Completes, completes}
 use Rattle.strip122.proofs.TrialsDone.{raster_pixels}
 
 module _ (streams : StreamsAreRead) (images : ImagesAreBareStreams) (trip : BareRoundTrip) (s : Setting) (raster : List ℕ)
@@ -46,8 +47,8 @@ module _ (streams : StreamsAreRead) (images : ImagesAreBareStreams) (trip : Bare
     right : IsStreamOf wish stream (bare_geometry s)
     right = streams.answer wish stream (bare_geometry s) says.0 found caps
 
-    has : (decodes_bare wish).right old
-    has = (stream, if_known, bare_geometry s, right)
+    has : (decodes_bare wish).accepts stream
+    has = (bare_geometry s, right)
 
     -- the picture of a stream that was taken whole
     shown : (all : SendsAll s) (gave : List ℕ) (g : Geometry) → GivesPicture wish stream gave g →
@@ -70,15 +71,15 @@ module _ (streams : StreamsAreRead) (images : ImagesAreBareStreams) (trip : Bare
           subst (λ g. Exchange old new stream g [] (AsksBare wish old stream g)) gave
           (subst (λ t. Exchange old new t w.gave [] (AsksBare wish old t w.gave)) took w.since)
 
-      ends : (status : ℕ) → Completes (decodes_bare wish) old new status → GivesBareRaster wish raster stream old new status
+      ends : (status : ℕ) → Completes (bare_outcomes wish) old new status → GivesBareRaster wish raster stream old new status
       ends status (inl w) = inl (w.0, by_whole w.1)
       ends status (inr (inl p)) = absurd p.1
-      ends status (inr (inr n)) = inr n
+      ends status (inr (inr n)) = inr n.0
 
       arrives : (status : ℕ) → IsSteady old new → DecodesStream wish old new status → GivesBareRaster wish raster stream old new status
       arrives status steady run =
           let law = bare_decode_law streams wish in
-          ends status (completes (decodes_bare wish) old new status (law.ends old new status run) (law.right old new has) steady)
+          ends status (completes (bare_outcomes wish) old new status (law.ends old new status run) (law.right old new stream if_known has) steady)
 
 pub bare_closed : StreamsAreRead → ImagesAreBareStreams → BareRoundTrip → (s : Setting) (old new : Outside) → IsBare s → is_book_sound s.book ≡ true →
     length s.weights.shifts ≡ 10 →

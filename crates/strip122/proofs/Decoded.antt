@@ -33,12 +33,13 @@ use Rattle.segment_walk.specs.Runs.{ReportsMany}
 use Rattle.segment_walk.proofs.Endings.{height_known}
 use Rattle.quick_look.specs.Looks.{LookAnswers, LookAsks, Looks}
 use Rattle.damage_rects.specs.Listing.{AreLines, GivesSome as GivesSomeLines, RectAnswers, ListsRects}
-use Rattle.strip122.specs.Notes.{IsNoted, Notes, decoder_fault_status, decoder_fault_line}
-use Rattle.strip122.specs.DamageNotes.{damaged, is_known, damage_line, done_status, done_line, ReportsDone}
+use Rattle.strip122.specs.Notes.{IsNoted, Notes}
+use Rattle.strip122.specs.DamageNotes.{damaged, is_known, damage_line, ReportsDone}
 use Rattle.strip122.specs.Ran.{Asking, CausedWithin}
-use Rattle.strip122.specs.Decoding.{Causes, decode_line, decode_status, RunsDecoder, AsksFound, Decodes, FindsDamage, LooksAt, FindsRects, reads_picture}
+use Rattle.strip122.specs.Decoding.{Causes, RunsDecoder, AsksFound, Decodes, FindsDamage, LooksAt, FindsRects}
+use Rattle.strip122.specs.Outcomes.{AtStatus, picture_outcomes}
+use Rattle.strip122.proofs.Reports.{decoder_fault_status, decoder_fault_line, done_status, done_line, decode_line, decode_status}
 use Rattle.strip122.proofs.NoteLines.{ran_on, nothing_noted}
-use Rattle.strip122.proofs.Behaviours.{AtStatus}
 use Rattle.stream_defs.proofs.Equations.{missing_below-is}
 
 -- ---- after the note
@@ -371,18 +372,18 @@ whole_line ranges known framing none if_known good = rw (none, if_known, good) r
 
 -- a run of an engine, and what follows for its status
 pub picture_ends : (wish : DecodeWish) (answers : Causes) (asks : Asking) → AllSay wish answers → (old new : Outside) (status : ℕ) →
-    RunsDecoder (CausedWithin wish.octets answers) asks old new status → AtStatus (reads_picture wish answers asks) old new status
-picture_ends wish answers asks say old new status run = subst (AtStatus (reads_picture wish answers asks) old new) (sym run.status_is)
+    RunsDecoder (CausedWithin wish.octets answers) asks old new status → AtStatus (picture_outcomes wish answers asks) old new status
+picture_ends wish answers asks say old new status run = subst (AtStatus (picture_outcomes wish answers asks) old new) (sym run.status_is)
     (by run.answer run.noted run.cause)
   where
     done_ends : (done : DecodeDone) → IsNoted old new run.wrote (done_line (damaged done.damage) (is_known done.geometry) done.framing) →
         CausedWithin wish.octets answers old new run.took run.gave (Ok done) →
-        AtStatus (reads_picture wish answers asks) old new (done_status (damaged done.damage) (is_known done.geometry) done.framing)
+        AtStatus (picture_outcomes wish answers asks) old new (done_status (damaged done.damage) (is_known done.geometry) done.framing)
     done_ends done noted k = elim (status_small (damaged done.damage) (is_known done.geometry) done.framing) [
       | inl none ↦
           let fine = undamaged_status (damaged done.damage) (is_known done.geometry) done.framing none in
           let silent = nothing_noted old new run.wrote _ (whole_line (damaged done.damage) (is_known done.geometry) done.framing fine.0 fine.1 fine.2) noted in
-          subst (AtStatus (reads_picture wish answers asks) old new) (sym none) record {
+          subst (AtStatus (picture_outcomes wish answers asks) old new) (sym none) record {
             done = done;
             took = run.took;
             gave = run.gave;
@@ -395,7 +396,7 @@ picture_ends wish answers asks say old new status run = subst (AtStatus (reads_p
           }
       | inr some ↦
           let lacks = damaged_status (damaged done.damage) (is_known done.geometry) done.framing some in
-          subst (AtStatus (reads_picture wish answers asks) old new) (sym some) record {
+          subst (AtStatus (picture_outcomes wish answers asks) old new) (sym some) record {
             done = done;
             took = run.took;
             gave = run.gave;
@@ -408,12 +409,12 @@ picture_ends wish answers asks say old new status run = subst (AtStatus (reads_p
     ]
 
     refuses : (fault : DecodeFault) → decoder_fault_status fault ≡ 3 → IsNoted old new run.wrote (decoder_fault_line fault) →
-        CausedWithin wish.octets answers old new run.took run.gave (Err fault) → AtStatus (reads_picture wish answers asks) old new 3
+        CausedWithin wish.octets answers old new run.took run.gave (Err fault) → AtStatus (picture_outcomes wish answers asks) old new 3
     refuses fault three noted k =
         record { fault = fault; took = run.took; gave = run.gave; wrote = run.wrote; since = run.since; input = three; cause = k; noted = noted }
 
     by : (r : Result DecodeDone DecodeFault) → IsNoted old new run.wrote (decode_line r) → CausedWithin wish.octets answers old new run.took run.gave r →
-        AtStatus (reads_picture wish answers asks) old new (decode_status r)
+        AtStatus (picture_outcomes wish answers asks) old new (decode_status r)
     by (Ok done) noted k = done_ends done noted k
     by (Err NoSegment) noted k = refuses NoSegment refl noted k
     by (Err (TooManyPixels pixels)) noted k = refuses (TooManyPixels pixels) refl noted k

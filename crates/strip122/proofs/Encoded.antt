@@ -10,15 +10,17 @@ use Rattle.strip_coder.specs.declared.encode.EncodeFault.{EncodeFault}
 use Rattle.strip_coder.specs.declared.encode.EncodeFault.TheVariants.{ReadFault, WriteFault, Short, Long, BadPixel}
 use Rattle.strip_coder.specs.Rasters.{most_length, LacksRows, given_for}
 use Rattle.strip_coder.specs.Answers.{Answers, AllInRange, AsksInRange, FirstBad, TookRaster, EncodesImage}
-use Rattle.strip122.specs.Notes.{IsNoted, Notes, fault_status, fault_line, memory_line}
-use Rattle.strip122.specs.Encoding.{EncoderCauses, AsksRaster, encode_status, encode_line, RunsRaster, EncodedWhole, EncoderRefuses, takes_raster, encoder}
+use Rattle.strip122.specs.Notes.{IsNoted, Notes}
+use Rattle.strip122.specs.Encoding.{EncoderCauses, AsksRaster, RunsRaster, EncodedWhole, takes_raster, encoder}
 use Rattle.strip122.specs.Encoding.{encodes_raster, encodes, encodes_with_book}
 use Rattle.strip122.specs.Books.{with_book}
 use Rattle.strip122.specs.Ran.{LacksMemory}
+use Rattle.strip122.proofs.Reports.{fault_status, fault_line, memory_line, encode_status, encode_line}
 use Rattle.strip122.proofs.BookRuns.{with_book_law}
 use Rattle.port_122.proofs.BothAsked.{since_both}
 use Rattle.strip122.proofs.NoteLines.{ran_on, nothing_noted}
-use Rattle.strip122.proofs.Behaviours.{AtStatus, Law, memory_first_law}
+use Rattle.strip122.specs.Outcomes.{AtStatus, EncoderRefuses, memory_outcomes, raster_outcomes, encode_outcomes, book_outcomes}
+use Rattle.strip122.proofs.Behaviours.{Law, memory_first_law}
 use Rattle.strip122.proofs.Inputs.{not_in_range, none_lacking, few_octets}
 use Rattle.strip122.proofs.ReadOut.{took_prefix}
 
@@ -45,8 +47,8 @@ pub record IsEncoder (s : Setting) (answers : EncoderCauses) (given : List ℕ �
 module _ (s : Setting) (answers : EncoderCauses) (given : List ℕ → List ℕ) (whole : Outside → Outside → Type 0) (engine : IsEncoder s answers given whole) where
   -- ---- each status
 
-  raster_ends : (old new : Outside) (status : ℕ) → RunsRaster s answers given old new status → AtStatus (takes_raster s answers given whole) old new status
-  raster_ends old new status run = subst (AtStatus (takes_raster s answers given whole) old new) (sym run.status_is) (by run.answer run.noted run.cause)
+  raster_ends : (old new : Outside) (status : ℕ) → RunsRaster s answers given old new status → AtStatus (raster_outcomes s answers given whole) old new status
+  raster_ends old new status run = subst (AtStatus (raster_outcomes s answers given whole) old new) (sym run.status_is) (by run.answer run.noted run.cause)
     where
       refuses : (fault : EncodeFault) → fault_status fault ≡ 3 → IsNoted old new run.wrote (fault_line fault) →
           answers old new run.took run.gave (Err fault) → EncoderRefuses s answers given old new
@@ -54,7 +56,7 @@ module _ (s : Setting) (answers : EncoderCauses) (given : List ℕ → List ℕ)
           record { fault = fault; took = run.took; gave = run.gave; wrote = run.wrote; since = run.since; input = three; cause = k; noted = noted }
 
       by : (r : Result EncodeDone EncodeFault) → IsNoted old new run.wrote (encode_line r) → answers old new run.took run.gave r →
-          AtStatus (takes_raster s answers given whole) old new (encode_status r)
+          AtStatus (raster_outcomes s answers given whole) old new (encode_status r)
       by (Ok done) noted k =
           engine.done old new run.took run.gave done k (subst (λ w. Exchange old new run.took run.gave w (AsksRaster s given run.took))
           (nothing_noted old new run.wrote [] refl noted) run.since)
@@ -65,33 +67,34 @@ module _ (s : Setting) (answers : EncoderCauses) (given : List ℕ → List ℕ)
       by (Err WriteFault) noted k = engine.say old new run.took run.gave WriteFault k
 
   -- a raster of all rows in range isn't refused
-  right_raster : (old new : Outside) → (takes_raster s answers given whole).right old → EncoderRefuses s answers given old new → ⊥
-  right_raster old new input r = by r.fault (engine.say old new r.took r.gave r.fault r.cause) r.input
+  right_raster : (old new : Outside) (input : List ℕ) → old.rest ≡ Some input → (takes_raster s answers given).accepts input →
+      EncoderRefuses s answers given old new → ⊥
+  right_raster old new input if_known has r = by r.fault (engine.say old new r.took r.gave r.fault r.cause) r.input
     where
-      prefix : (rest : List ℕ) × (input.0 ≡ r.took ++ rest)
-      prefix = took_prefix input.0 r.took old.rest new.rest input.1 r.since.rest
+      prefix : (rest : List ℕ) × (input ≡ r.took ++ rest)
+      prefix = took_prefix input r.took old.rest new.rest if_known r.since.rest
 
       by : (fault : EncodeFault) → EncoderSays s old new r.took fault → fault_status fault ≡ 3 → ⊥
       by (Short octets) k three =
-          let took : r.took ≡ input.0 = end_known input.0 r.since input.1 k.1 in
-          none_lacking s input.2 (length r.took) input.3.height (ap length took ∙ input.3.whole) k.0
-      by Long k three = omega (arith, ap length prefix.1, length-append r.took prefix.0, k, input.3.whole, few_octets s input.2 input.3.height)
+          let took : r.took ≡ input = end_known input r.since if_known k.1 in
+          none_lacking s has.0 (length r.took) has.1.height (ap length took ∙ has.1.whole) k.0
+      by Long k three = omega (arith, ap length prefix.1, length-append r.took prefix.0, k, has.1.whole, few_octets s has.0 has.1.height)
       by (BadPixel row column value) k three = not_in_range s.depth s.signed r.took prefix.0 (row * s.width + column) value k.first
-          (subst (AllInRange s) prefix.1 input.3.in_range)
+          (subst (AllInRange s) prefix.1 has.1.in_range)
       by ReadFault k three = omega (arith, three)
       by WriteFault k three = omega (arith, three)
 
   -- and nothing else is encoded
-  pub raster_law : Law (takes_raster s answers given whole)
+  pub raster_law : Law (takes_raster s answers given) (raster_outcomes s answers given whole)
   raster_law = record {
     ends = raster_ends;
     right = right_raster;
-    wrong_whole = λ old new input w. let t = engine.takes old new input.0 input.1 w in input.2 t.0 t.1;
-    wrong_part = λ old new wrong never. never;
+    whole = engine.takes;
+    part = λ old new input if_known never. absurd never;
   }
 
-  pub encoder_law : Law (encoder s answers given whole)
-  encoder_law = memory_first_law (takes_raster s answers given whole) raster_law (λ old new never. never)
+  pub encoder_law : Law (encoder s answers given) (memory_outcomes (raster_outcomes s answers given whole))
+  encoder_law = memory_first_law (takes_raster s answers given) (raster_outcomes s answers given whole) raster_law (λ old new never. never)
 
 -- a run without a fault
 pub raster_done : (s : Setting) (answers : EncoderCauses) (given : List ℕ → List ℕ) (old new : Outside) (took gave : List ℕ) (done : EncodeDone) →
@@ -160,7 +163,7 @@ encode_engine s = record {
     say old new took gave ReadFault k = k.0
     say old new took gave WriteFault k = k.0
 
-pub encode_law : (s : Setting) → Law (encodes s)
+pub encode_law : (s : Setting) → Law (encodes s) (memory_outcomes (encode_outcomes s))
 encode_law s = encoder_law s (Answers s) (given_for s) (EncodedWhole s) (encode_engine s)
 
 -- an image that was encoded
@@ -175,11 +178,12 @@ fault_fails (Short octets) zero = omega (arith, zero)
 fault_fails Long zero = omega (arith, zero)
 fault_fails (BadPixel row column value) zero = omega (arith, zero)
 
-pub encode_book_law : (s : Setting) → Law (encodes_with_book s)
+pub encode_book_law : (s : Setting) → Law (encodes_with_book s) (memory_outcomes (book_outcomes (λ book. encode_outcomes (record s { book = book }))))
 encode_book_law s =
     let b = λ (book : Book). encodes_raster (record s { book = book }) in
-    memory_first_law (with_book b)
-    (with_book_law b (λ book. let t = record s { book = book } in raster_law t (Answers t) (given_for t) (EncodedWhole t) (encode_engine t)))
+    let o = λ (book : Book). encode_outcomes (record s { book = book }) in
+    memory_first_law (with_book b) (book_outcomes o)
+    (with_book_law b o (λ book. let t = record s { book = book } in raster_law t (Answers t) (given_for t) (EncodedWhole t) (encode_engine t)))
     (λ old new run. run.holds)
 
 -- there is too little memory, and this is noted

@@ -9,9 +9,9 @@ use Rattle.packet_list.specs.declared.list.ListFault.TheVariants.{ReadFault, Wri
 use Rattle.stream_defs.specs.Fates.{fresh, kept, after_all, kept_in, state_after}
 use Rattle.camera_defs.specs.Picked.{picked, picked_of}
 use Rattle.camera_defs.specs.PickLaws.{PickingKeeps}
-use Rattle.strip122.specs.Notes.{list_fault_status}
-use Rattle.strip122.specs.Listing.{Reads, WithMemory, picker, reader_status}
+use Rattle.strip122.specs.Listing.{Reads, WithMemory, picker}
 use Rattle.strip122.specs.Picks.{GavePicked}
+use Rattle.strip122.proofs.Reports.{list_fault_status, reader_status}
 
 fault_statuses : (fault : ListFault) → 3 ≤ list_fault_status fault
 fault_statuses LongInput = omega arith

@@ -36,9 +36,10 @@ use Rattle.quick_look.specs.LookLaws.{LooksOfImages}
 use Rattle.strip_decoder.specs.Containment.{DecodedContained}
 use Rattle.segment_walk.specs.Images.{IsImageFor}
 use Rattle.strip_decoder.specs.RoundTrip.{RoundTrip, GivesBack}
-use Rattle.strip122.specs.DamageNotes.{damaged, is_known, done_status}
-use Rattle.strip122.specs.Decoding.{Decodes, LooksAt, decode_status}
+use Rattle.strip122.specs.DamageNotes.{damaged, is_known}
+use Rattle.strip122.specs.Decoding.{Decodes, LooksAt}
 use Rattle.strip122.specs.Pictures.{GaveLook, GavePicture, GivesOwn}
+use Rattle.strip122.proofs.Reports.{done_status, decode_status}
 use Rattle.strip122.proofs.Decoded.{fault_statuses, some_known}
 
 -- ---- if nothing is missing, nothing is damaged

@@ -1,4 +1,5 @@
 pub mod MadeParts
+pub mod Reports
 pub mod NoteLines
 pub mod Decoded
 pub mod Listed

@@ -1,6 +1,6 @@
 -- The effect of a run of `list`, `pick` and `info` after its note, and what follows for each status.
 use Rattle.std.proofs.Common.{◌≡◌, ◌≤◌, ℕ, List, [], ◌+◌, ◌++◌, length, refl, sym, ◌∙◌, subst, arith, ap, length-append, inl, inr, true, false, ◌⊎◌, Option}
-use Rattle.std.proofs.Common.{Result, Ok, Err}
+use Rattle.std.proofs.Common.{Result, Ok, Err, Some}
 use Rattle.port_122.specs.Outside.{Outside, Exchange, NoRead, Rose}
 use Rattle.base_122.specs.declared.wish.DecodeWish.{DecodeWish}
 use Rattle.packet_defs.specs.Streams.{whole_packets, left_over, has_bad_version}
@@ -20,14 +20,16 @@ use Rattle.image_info.specs.Images.{images as images_of}
 use Rattle.image_info.proofs.ImageLists.{images-prefix}
 use Rattle.segment_walk.proofs.Asking.{leading_packets}
 use Rattle.port_122.proofs.BothAsked.{since_both}
-use Rattle.strip122.specs.Notes.{IsNoted, Notes, list_fault_status, list_fault_line, memory_line}
-use Rattle.strip122.specs.DamageNotes.{done_status, done_line, ReportsDone}
-use Rattle.strip122.specs.Listing.{Reader, WithMemory, reader_asks, reader_status, reader_line, Reads, HasFew, HasTooMany, HasMany, reads_packets, lister}
+use Rattle.strip122.specs.Notes.{IsNoted, Notes}
+use Rattle.strip122.specs.DamageNotes.{ReportsDone}
+use Rattle.strip122.specs.Listing.{Reader, WithMemory, reader_asks, Reads, reads_packets, lister}
 use Rattle.strip122.specs.Listing.{picker, informer, info_fault_of}
+use Rattle.strip122.proofs.Reports.{list_fault_status, list_fault_line, memory_line, done_status, done_line, reader_status, reader_line}
 use Rattle.strip122.proofs.NoteLines.{ran_on, nothing_noted}
-use Rattle.strip122.proofs.Behaviours.{AtStatus, Law}
-use Rattle.strip122.proofs.ReadOut.{took_prefix, not_read_out}
-use Rattle.strip122.proofs.PacketInputs.{not_full, all_read}
+use Rattle.strip122.specs.Outcomes.{AtStatus, ReadRefuses, reader_outcomes}
+use Rattle.strip122.proofs.Behaviours.{Law}
+use Rattle.strip122.proofs.ReadOut.{took_prefix}
+use Rattle.strip122.proofs.PacketInputs.{not_full, all_read, ends_within}
 use Rattle.strip122.proofs.Decoded.{out_later, undamaged_status, damaged_status, status_small, whole_line, lacking_line}
 
 -- ---- what follows from the answers
@@ -86,17 +88,17 @@ module _ {D F : Type 0} (r : Reader D F) (engine : IsReader r) where
 
   -- ---- each status
 
-  reader_ends : (old new : Outside) (status : ℕ) → Reads r old new status → AtStatus (reads_packets r) old new status
-  reader_ends old new status (inl none) = subst (AtStatus (reads_packets r) old new) (sym none.status_is) (none.wrote, none.since)
-  reader_ends old new status (inr run) = subst (AtStatus (reads_packets r) old new) (sym run.status_is) (by run.answer run.noted run.cause.cause)
+  reader_ends : (old new : Outside) (status : ℕ) → Reads r old new status → AtStatus (reader_outcomes r) old new status
+  reader_ends old new status (inl none) = subst (AtStatus (reader_outcomes r) old new) (sym none.status_is) (none.wrote, none.since)
+  reader_ends old new status (inr run) = subst (AtStatus (reader_outcomes r) old new) (sym run.status_is) (by run.answer run.noted run.cause.cause)
     where
       done_ends : (done : D) → IsNoted old new run.wrote (done_line [] true (r.framing_of done)) → r.causes old new run.took run.gave (Ok done) →
-          AtStatus (reads_packets r) old new (done_status [] true (r.framing_of done))
+          AtStatus (reader_outcomes r) old new (done_status [] true (r.framing_of done))
       done_ends done noted k = elim (status_small [] true (r.framing_of done)) [
         | inl none ↦
             let good = (undamaged_status [] true (r.framing_of done) none).2 in
             let silent = nothing_noted old new run.wrote _ (whole_line [] true (r.framing_of done) refl refl good) noted in
-            subst (AtStatus (reads_packets r) old new) (sym none) record {
+            subst (AtStatus (reader_outcomes r) old new) (sym none) record {
               done = done;
               took = run.took;
               gave = run.gave;
@@ -107,7 +109,7 @@ module _ {D F : Type 0} (r : Reader D F) (engine : IsReader r) where
             }
         | inr some ↦
             let lacks = damaged_status [] true (r.framing_of done) some in
-            subst (AtStatus (reads_packets r) old new) (sym some) record {
+            subst (AtStatus (reader_outcomes r) old new) (sym some) record {
               done = done;
               took = run.took;
               gave = run.gave;
@@ -122,7 +124,7 @@ module _ {D F : Type 0} (r : Reader D F) (engine : IsReader r) where
 
       fault_ends : (fault : F) → IsNoted old new run.wrote (list_fault_line (r.fault_of fault)) → WithMemory r old new run.took run.gave (Err fault) →
           (kind : ListFault) → r.fault_of fault ≡ kind →
-          AtStatus (reads_packets r) old new (list_fault_status kind)
+          AtStatus (reader_outcomes r) old new (list_fault_status kind)
       fault_ends fault noted k LongInput e = record {
         fault = fault;
         long = e;
@@ -138,35 +140,36 @@ module _ {D F : Type 0} (r : Reader D F) (engine : IsReader r) where
       fault_ends fault noted k Memory e = absurd (k.0 e)
 
       by : (answer : Result D F) → IsNoted old new run.wrote (reader_line r answer) → WithMemory r old new run.took run.gave answer →
-          AtStatus (reads_packets r) old new (reader_status r answer)
+          AtStatus (reader_outcomes r) old new (reader_status r answer)
       by (Ok done) noted k = done_ends done noted k
       by (Err fault) noted k = fault_ends fault noted k (r.fault_of fault) refl
 
-  -- the right input isn't too long
-  few_packets : (old new : Outside) → HasFew r.cap r.Few old → (reads_packets r).refuses old new → ⊥
-  few_packets old new has f = elim (subst (FaultSays r.cap r.Few old new f.took f.gave) f.long (engine.say old new f.took f.gave f.fault f.cause)) [
-    | inl full ↦ not_full r.cap old new f.took f.since.rest has.packets full.0 full.1
-    | inr many ↦
-        let prefix = took_prefix has.packets.input f.took old.rest new.rest has.packets.if_known f.since.rest in
-        many (engine.fewer f.took prefix.0 (subst r.Few prefix.1 has.few))
-  ]
+  -- an input that is accepted isn't too long
+  few_packets : (old new : Outside) (input : List ℕ) → old.rest ≡ Some input → (reads_packets r).accepts input → ReadRefuses r old new → ⊥
+  few_packets old new input if_known has f =
+      elim (subst (FaultSays r.cap r.Few old new f.took f.gave) f.long (engine.say old new f.took f.gave f.fault f.cause)) [
+        | inl full ↦ not_full r.cap old new f.took f.since.rest input if_known has.0 full.0 full.1
+        | inr many ↦
+            let prefix = took_prefix input f.took old.rest new.rest if_known f.since.rest in
+            many (engine.fewer f.took prefix.0 (subst r.Few prefix.1 has.1))
+      ]
 
-  -- and what was read to its end isn't too long
-  not_long : (old new : Outside) {took gave wrote : List ℕ} {Q : ℕ → ℕ → Type 0} → HasTooMany r.cap old ⊎ HasMany r.cap r.Few old →
+  -- and what was read to its end is accepted
+  accepted : (old new : Outside) {took gave wrote : List ℕ} {Q : ℕ → ℕ → Type 0} (input : List ℕ) → old.rest ≡ Some input →
       Exchange old new took gave wrote Q → length took ≤ r.cap → (done : D) →
-      r.causes old new took gave (Ok done) → ⊥
-  not_long old new {took = took} {gave = gave} (inl has) since within done k =
-      not_read_out r.cap took has.input old new since has.if_known within has.long has.good (engine.done old new took gave done k).0
-  not_long old new {took = took} {gave = gave} (inr has) since within done k =
-      let read = engine.done old new took gave done k in
-      has.many (engine.same took has.packets.input (sym (all_read r.cap old new since has.packets read.0)) read.1)
+      r.causes old new took gave (Ok done) → (reads_packets r).accepts input
+  accepted old new {took = took} {gave = gave} input if_known since within done k =
+      let read = engine.done old new took gave done k in (
+        ends_within r.cap old new since input if_known within read.0,
+        engine.same took input (sym (all_read r.cap old new since input if_known read.0)) read.1,
+      )
 
-  pub reader_law : Law (reads_packets r)
+  pub reader_law : Law (reads_packets r) (reader_outcomes r)
   reader_law = record {
     ends = reader_ends;
     right = few_packets;
-    wrong_whole = λ old new wrong w. not_long old new wrong w.since w.within w.done w.cause;
-    wrong_part = λ old new wrong p. not_long old new wrong p.since p.within p.done p.cause;
+    whole = λ old new input if_known w. accepted old new input if_known w.since w.within w.done w.cause;
+    part = λ old new input if_known p. accepted old new input if_known p.since p.within p.done p.cause;
   }
 
 -- ---- each engine

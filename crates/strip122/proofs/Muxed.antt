@@ -1,6 +1,7 @@
 -- The effect of a run of `mux` after its note, and what follows for each status.
 use Rattle.std.proofs.Common.{◌≡◌, ◌<◌, ◌≤◌, ◌*◌, ℕ, ℤ, suc, Bool, List, [], ◌∷◌, ◌++◌, length, take, refl, sym, ◌∙◌, ap, subst, arith, append_assoc}
-use Rattle.std.proofs.Common.{length-append, inl, inr, Result, Ok, Err, append-nil}
+use Rattle.std.proofs.Common.{length-append, inl, inr, Result, Ok, Err, Some, append-nil}
+use Rattle.strip122.proofs.Reports.{mux_fault_status, mux_fault_line, mux_status, mux_line}
 use Rattle.strip122.proofs.BookRuns.{same_parts}
 use Rattle.port_122.specs.Outside.{Outside, Exchange, NoRead}
 use Rattle.port_122.proofs.Stretches.{since_note, at_end_later}
@@ -17,10 +18,11 @@ use Rattle.camera_mux.specs.Records.{CameraRow, setting_at, record_at, octets_of
 use Rattle.camera_mux.specs.MuxProgress.{AreSettings, AsksMux}
 use Rattle.camera_mux.specs.MuxAnswers.{Answers, HasBadPixel, Muxes as MuxesOver}
 use Rattle.camera_mux.specs.MuxLaws.{CamerasAreKept}
-use Rattle.strip122.specs.Notes.{IsNoted, Notes, mux_fault_status, mux_fault_line}
-use Rattle.strip122.specs.Muxing.{mux_status, mux_line, Muxes, MuxedWhole, MuxRefuses, AreRecords, muxes}
+use Rattle.strip122.specs.Notes.{IsNoted, Notes}
+use Rattle.strip122.specs.Muxing.{Muxes, MuxedWhole, AreRecords, muxes}
+use Rattle.strip122.specs.Outcomes.{AtStatus, MuxRefuses, mux_outcomes}
 use Rattle.strip122.proofs.NoteLines.{noted_since, nothing_noted}
-use Rattle.strip122.proofs.Behaviours.{AtStatus, Law}
+use Rattle.strip122.proofs.Behaviours.{Law}
 use Rattle.strip122.proofs.Inputs.{not_in_range}
 use Rattle.strip122.proofs.ReadOut.{took_prefix}
 
@@ -207,31 +209,32 @@ module _ (settings : List Setting) (input : List ℕ) (all : AreRecords settings
           no_bad_pixel s.depth s.signed s.width r.row b.got parts.0 column value parts.1 size
           (subst (λ c. FirstInRange (setting_at settings c).depth (setting_at settings c).signed r.row (setting_at settings c).width) same own.in_range) b.bad
 
-right_records : (settings : List Setting) (old new : Outside) → (muxes settings).right old → MuxRefuses settings old new → ⊥
-right_records settings old new input r = by r.fault r.cause r.input
+right_records : (settings : List Setting) (old new : Outside) (input : List ℕ) → old.rest ≡ Some input → AreRecords settings input →
+    MuxRefuses settings old new → ⊥
+right_records settings old new input if_known has r = by r.fault r.cause r.input
   where
     took : List ℕ
     took = octets_of r.records ++ r.rest
 
-    prefix : (rest : List ℕ) × (input.0 ≡ took ++ rest)
-    prefix = took_prefix input.0 took old.rest new.rest input.1 r.since.rest
+    prefix : (rest : List ℕ) × (input ≡ took ++ rest)
+    prefix = took_prefix input took old.rest new.rest if_known r.since.rest
 
     by : (fault : MuxFault) → Answers settings old new r.records r.rest r.gave (Err fault) → mux_fault_status fault ≡ 3 → ⊥
     by (Short octets) k three =
-        let all : took ≡ input.0 = end_known input.0 r.since input.1 k.2 in
-        not_short settings input.0 input.2 r.records r.accepted r.rest [] (sym all ∙ sym (append-nil took)) refl k.1 k.3
-    by Long k three = not_long settings input.0 input.2 r.records r.accepted r.rest prefix.0 prefix.1 k.0 k.1
-    by (BadCamera place camera) k three = not_bad_camera settings input.0 input.2 r.records r.accepted r.rest prefix.0 prefix.1 camera k.2 k.3
-    by (BadPixel camera row column value) k three = not_bad_pixel settings input.0 input.2 r.records r.accepted r.rest prefix.0 prefix.1 camera row column
+        let all : took ≡ input = end_known input r.since if_known k.2 in
+        not_short settings input has r.records r.accepted r.rest [] (sym all ∙ sym (append-nil took)) refl k.1 k.3
+    by Long k three = not_long settings input has r.records r.accepted r.rest prefix.0 prefix.1 k.0 k.1
+    by (BadCamera place camera) k three = not_bad_camera settings input has r.records r.accepted r.rest prefix.0 prefix.1 camera k.2 k.3
+    by (BadPixel camera row column value) k three = not_bad_pixel settings input has r.records r.accepted r.rest prefix.0 prefix.1 camera row column
         value k.0
     by ReadFault k three = omega (arith, three)
     by WriteFault k three = omega (arith, three)
 
 -- ---- each status
 
-mux_ends : (settings : List Setting) (old new : Outside) (status : ℕ) → Muxes settings old new status → AtStatus (muxes settings) old new status
-mux_ends settings old new status (inl none) = subst (AtStatus (muxes settings) old new) (sym none.status_is) (none.wrote, none.since)
-mux_ends settings old new status (inr run) = subst (AtStatus (muxes settings) old new) (sym run.status_is) (by run.answer run.noted run.cause)
+mux_ends : (settings : List Setting) (old new : Outside) (status : ℕ) → Muxes settings old new status → AtStatus (mux_outcomes settings) old new status
+mux_ends settings old new status (inl none) = subst (AtStatus (mux_outcomes settings) old new) (sym none.status_is) (none.wrote, none.since)
+mux_ends settings old new status (inr run) = subst (AtStatus (mux_outcomes settings) old new) (sym run.status_is) (by run.answer run.noted run.cause)
   where
     refuses : (fault : MuxFault) → mux_fault_status fault ≡ 3 → IsNoted old new run.wrote (mux_fault_line fault) →
         Answers settings old new run.records run.rest run.gave (Err fault) → MuxRefuses settings old new
@@ -267,7 +270,7 @@ mux_ends settings old new status (inr run) = subst (AtStatus (muxes settings) ol
         }
 
     by : (r : Result MuxDone MuxFault) → IsNoted old new run.wrote (mux_line r) → Answers settings old new run.records run.rest run.gave r →
-        AtStatus (muxes settings) old new (mux_status r)
+        AtStatus (mux_outcomes settings) old new (mux_status r)
     by (Ok done) noted k = whole done noted k
     by (Err (Short octets)) noted k = refuses (Short octets) refl noted k
     by (Err Long) noted k = refuses Long refl noted k
@@ -276,16 +279,11 @@ mux_ends settings old new status (inr run) = subst (AtStatus (muxes settings) ol
     by (Err ReadFault) noted k = k.0
     by (Err WriteFault) noted k = k.0
 
-pub mux_law : (settings : List Setting) → Law (muxes settings)
+pub mux_law : (settings : List Setting) → Law (muxes settings) (mux_outcomes settings)
 mux_law settings = record {
   ends = mux_ends settings;
   right = right_records settings;
-  wrong_whole = λ old new input w. input.2 (record {
-    records = w.records;
-    accepted = w.accepted;
-    full = w.full;
-    octets_are =
-        sym (end_known input.0 w.since input.1 w.ended);
-  });
-  wrong_part = λ old new wrong never. never;
+  whole = λ old new input if_known w.
+      record { records = w.records; accepted = w.accepted; full = w.full; octets_are = sym (end_known input w.since if_known w.ended) };
+  part = λ old new input if_known never. absurd never;
 }

@@ -7,7 +7,7 @@ use Rattle.std.proofs.Math.Seq.{take-append-add, take-nil}
 use Rattle.port_122.specs.Outside.{Outside, Exchange, NoRead, Rose, NotesAll}
 use Rattle.port_122.proofs.Stretches.{since_out, since_note, rose_since}
 use Rattle.command_words.specs.Words.{texts}
-use Rattle.strip122.specs.Notes.{IsNoted, Notes, word_at}
+use Rattle.strip122.specs.Notes.{IsNoted, Notes, Report, word_at}
 use Rattle.strip122.specs.Ran.{Ran}
 
 -- a part, and then the rest of the line
@@ -58,11 +58,10 @@ word_is (w ∷ words) zero word lt is = ap string_bytes is
 word_is (w ∷ words) (suc place) word lt is = word_is words place word (omega arith) is
 
 -- a run of an engine, and then its note
-pub ran_on : {R : Type 0} {causes : Outside → Outside → List ℕ → List ℕ → R → Type 0} {asks : Outside → List ℕ → List ℕ → ℕ → ℕ → Type 0} {status_of : R →
-    ℕ} {line_of : R → List ℕ} →
+pub ran_on : {R : Type 0} {causes : Outside → Outside → List ℕ → List ℕ → R → Type 0} {asks : Outside → List ℕ → List ℕ → ℕ → ℕ → Type 0} {report_of : R → Report} →
     (a b c : Outside) (answer : R) (took gave wrote : List ℕ) (status : ℕ) → Exchange a b took gave [] (asks a took gave) → causes a c took gave answer →
     Exchange b c [] [] wrote NoRead →
-    status ≡ status_of answer → IsNoted b c wrote (line_of answer) → Ran causes asks status_of line_of a c status
+    status ≡ (report_of answer).status → IsNoted b c wrote (report_of answer).line → Ran causes asks report_of a c status
 ran_on a b c answer took gave wrote status run cause note is noted = record {
   answer = answer;
   took = took;

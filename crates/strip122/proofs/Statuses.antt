@@ -9,10 +9,10 @@ use Rattle.strip122.specs.declared.trial.TrialDone.{TrialDone}
 use Rattle.strip122.specs.MadeRasters.{made_raster}
 use Rattle.strip122.specs.Notes.{Notes}
 use Rattle.strip122.specs.Trials.{made_with, trial_line, IsTried}
-use Rattle.strip122.specs.Behaviours.{Behaviour}
+use Rattle.strip122.specs.Outcomes.{Outcomes, AtStatus, make_outcomes, trial_outcomes}
 use Rattle.strip122.specs.Run.{Gives, Tries, makes, tries}
 use Rattle.strip122.proofs.NoteLines.{noted_since}
-use Rattle.strip122.proofs.Behaviours.{AtStatus, Law}
+use Rattle.strip122.proofs.Behaviours.{Law}
 
 -- ---- after the note
 
@@ -39,31 +39,31 @@ tried_cut s seed done a b c tried f n = inr (record { done = done; tried = tried
 -- ---- each status
 
 -- a run that only gives octets has status 0 or 5
-gives_ends : (octets : List ℕ) (b : Behaviour) (old new : Outside) (status : ℕ) → Gives octets old new status →
-    (Exchange old new [] octets [] NoRead → b.whole old new) → AtStatus b old new status
-gives_ends octets b old new status run given = elim run.ending [
-  | inl whole ↦ subst (AtStatus b old new) (sym whole.status_is)
+gives_ends : (octets : List ℕ) (o : Outcomes) (old new : Outside) (status : ℕ) → Gives octets old new status →
+    (Exchange old new [] octets [] NoRead → o.whole old new) → AtStatus o old new status
+gives_ends octets o old new status run given = elim run.ending [
+  | inl whole ↦ subst (AtStatus o old new) (sym whole.status_is)
       (given (subst (λ w. Exchange old new [] octets w NoRead) whole.silent (subst (λ g. Exchange old new [] g run.wrote NoRead) whole.whole run.since)))
-  | inr cut ↦ subst (AtStatus b old new) (sym cut.status_is) cut.rose
+  | inr cut ↦ subst (AtStatus o old new) (sym cut.status_is) cut.rose
 ]
 
-try_ends : (s : Setting) (seed : ℕ) (old new : Outside) (status : ℕ) → Tries s seed old new status → AtStatus (tries s seed) old new status
-try_ends s seed old new status (inl none) = subst (AtStatus (tries s seed) old new) (sym none.status_is) (none.wrote, none.since)
+try_ends : (s : Setting) (seed : ℕ) (old new : Outside) (status : ℕ) → Tries s seed old new status → AtStatus (trial_outcomes s seed) old new status
+try_ends s seed old new status (inl none) = subst (AtStatus (trial_outcomes s seed) old new) (sym none.status_is) (none.wrote, none.since)
 try_ends s seed old new status (inr ran) =
-    gives_ends (trial_line s ran.done) (tries s seed) old new status ran.gives (λ since. record { done = ran.done; tried = ran.tried; since = since })
+    gives_ends (trial_line s ran.done) (trial_outcomes s seed) old new status ran.gives (λ since. record { done = ran.done; tried = ran.tried; since = since })
 
-pub make_law : (made : MadeImage) → Law (makes made)
+pub make_law : (made : MadeImage) → Law (makes made) (make_outcomes made)
 make_law made = record {
-  ends = λ old new status run. gives_ends (made_raster made) (makes made) old new status run (λ since. since);
-  right = λ old new right never. never;
-  wrong_whole = λ old new wrong whole. wrong;
-  wrong_part = λ old new wrong part. wrong;
+  ends = λ old new status run. gives_ends (made_raster made) (make_outcomes made) old new status run (λ since. since);
+  right = λ old new input if_known accepts never. never;
+  whole = λ old new input if_known whole. tt;
+  part = λ old new input if_known part. tt;
 }
 
-pub try_law : (s : Setting) (seed : ℕ) → Law (tries s seed)
+pub try_law : (s : Setting) (seed : ℕ) → Law (tries s seed) (trial_outcomes s seed)
 try_law s seed = record {
   ends = try_ends s seed;
-  right = λ old new right never. never;
-  wrong_whole = λ old new wrong whole. wrong;
-  wrong_part = λ old new wrong part. wrong;
+  right = λ old new input if_known accepts never. never;
+  whole = λ old new input if_known whole. tt;
+  part = λ old new input if_known part. tt;
 }

@@ -11,10 +11,10 @@ use Rattle.camera_mux.specs.MuxOut.{mux_out}
 use Rattle.camera_mux.specs.Records.{raster_of, setting_at}
 use Rattle.bare_stream.specs.Bare.{bare}
 use Rattle.bare_stream.specs.Decoded.{AsksBare}
-use Rattle.strip122.specs.BareStreams.{DecodesStream, BareLacksMemory, EncodedBare}
+use Rattle.strip122.specs.BareStreams.{DecodesStream, EncodedBare}
 use Rattle.strip122.specs.Behaviours.{IsSteady}
 use Rattle.strip122.specs.Books.{AfterBook}
-use Rattle.strip122.specs.Decoding.{Decodes, DecoderLacksMemory}
+use Rattle.strip122.specs.Decoding.{Decodes}
 use Rattle.strip122.specs.Encoding.{EncodedWhole}
 use Rattle.strip122.specs.Muxing.{MuxedWhole}
 
@@ -28,10 +28,10 @@ pub record Admits (wish : DecodeWish) (s : Setting) (rows size : ℕ) : Type 0 w
   pub pixels : s.width * rows ≤ wish.pixels
   pub octets : size < wish.octets
 
--- the raster is given for these packets, with status 0 and without a note; or there is too little memory, and nothing is given
+-- the raster is given for these packets, with status 0 and without a note; or there is too little memory
 abbrev pub GivesRaster : DecodeWish → (raster packets : List ℕ) → (old new : Outside) (status : ℕ) → Type 0
 GivesRaster wish raster packets old new status =
-    ((status ≡ 0) × Exchange old new packets raster [] (Asks wish old packets raster)) ⊎ ((status ≡ 6) × DecoderLacksMemory wish (Asks wish) old new)
+    ((status ≡ 0) × Exchange old new packets raster [] (Asks wish old packets raster)) ⊎ (status ≡ 6)
 
 -- Each run of `decode` that reads exactly these packets, with such a wish and without a failed call, gives the raster.
 pub record IsReturned (s : Setting) (rows : ℕ) (raster packets : List ℕ) : Type 0 where
@@ -65,10 +65,10 @@ pub record AdmitsBare (wish : DecodeWish) (s : Setting) (size : ℕ) : Type 0 wh
   pub pixels : s.width * s.rows ≤ wish.pixels
   pub octets : size < wish.octets
 
--- the raster is given for this stream, with status 0 and without a note; or there is too little memory, and nothing is given
+-- the raster is given for this stream, with status 0 and without a note; or there is too little memory
 abbrev pub GivesBareRaster : DecodeWish → (raster stream : List ℕ) → (old new : Outside) (status : ℕ) → Type 0
 GivesBareRaster wish raster stream old new status =
-    ((status ≡ 0) × Exchange old new stream raster [] (AsksBare wish old stream raster)) ⊎ ((status ≡ 6) × BareLacksMemory wish old new)
+    ((status ≡ 0) × Exchange old new stream raster [] (AsksBare wish old stream raster)) ⊎ (status ≡ 6)
 
 -- each run of `bare-decode` that reads exactly this stream, with such a wish and without a failed call, gives the raster
 pub record BareIsReturned (s : Setting) (raster stream : List ℕ) : Type 0 where

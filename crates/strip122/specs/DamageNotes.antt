@@ -8,7 +8,7 @@ use Rattle.packet_defs.specs.declared.packet.Framing.TheVariants.{BadVersion, Cu
 use Rattle.stream_defs.specs.declared.range.RowRange.{RowRange}
 use Rattle.stream_defs.specs.Damage.{ranges}
 use Rattle.stream_defs.specs.Marks.{Marks}
-use Rattle.strip122.specs.Notes.{IsNoted}
+use Rattle.strip122.specs.Notes.{IsNoted, Report, silent}
 
 -- the rows that missing block rows damage
 abbrev pub damaged : Marks → List RowRange
@@ -47,23 +47,16 @@ damage_line ranges known framing = codes "strip122: damaged rows" ++ ranges_text
 
 -- ---- of packets that were read to their end, or can't be read on
 
--- 0 if no row is damaged, the height is known and the packets could be read to their end
-abbrev pub done_status : List RowRange → (known : Bool) → Option Framing → ℕ
-done_status [] true None = 0
-done_status [] true (Some framing) = 1
-done_status [] false framing = 1
-done_status (range ∷ ranges) known framing = 1
-
--- then nothing is noted
-abbrev pub done_line : List RowRange → (known : Bool) → Option Framing → List ℕ
-done_line [] true None = []
-done_line [] true (Some framing) = damage_line [] true (Some framing)
-done_line [] false framing = damage_line [] false framing
-done_line (range ∷ ranges) known framing = damage_line (range ∷ ranges) known framing
+-- status 0 and no note if no row is damaged, the height is known and the packets could be read to their end
+abbrev pub done_report : List RowRange → (known : Bool) → Option Framing → Report
+done_report [] true None = silent
+done_report [] true (Some framing) = record { status = 1; line = damage_line [] true (Some framing) }
+done_report [] false framing = record { status = 1; line = damage_line [] false framing }
+done_report (range ∷ ranges) known framing = record { status = 1; line = damage_line (range ∷ ranges) known framing }
 
 -- Of packets that were read, with this status, the note is given: nothing if nothing is wrong.
 pub record ReportsDone (ranges : List RowRange) (known : Bool) (framing : Option Framing) (old new : Outside) (status : ℕ) : Type 0 where
   pub wrote : List ℕ
   pub since : Exchange old new [] [] wrote NoRead
-  pub status_is : status ≡ done_status ranges known framing
-  pub noted : IsNoted old new wrote (done_line ranges known framing)
+  pub status_is : status ≡ (done_report ranges known framing).status
+  pub noted : IsNoted old new wrote (done_report ranges known framing).line

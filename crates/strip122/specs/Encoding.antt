@@ -1,5 +1,5 @@
 -- The effect of a run of `encode`. This project's own.
-use Rattle.std.specs.Prelude.{◌≡◌, ◌≢◌, ◌⊎◌, ◌≤◌, ℕ, List, [], Result, Ok, Err, Some}
+use Rattle.std.specs.Prelude.{◌≢◌, ◌⊎◌, ◌≤◌, ℕ, List, [], Result}
 use Rattle.port_122.specs.Outside.{Outside, GivenBy, Exchange, AtEnd}
 use Rattle.base_122.specs.declared.setting.Setting.{Setting}
 use Rattle.stream_defs.specs.Output.{output}
@@ -7,21 +7,16 @@ use Rattle.strip_coder.specs.declared.encode.EncodeDone.{EncodeDone}
 use Rattle.strip_coder.specs.declared.encode.EncodeFault.{EncodeFault}
 use Rattle.strip_coder.specs.Rasters.{image_of, given_for}
 use Rattle.strip_coder.specs.Answers.{Answers, AsksInRange, TookRaster, coded_octets}
-use Rattle.strip122.specs.Notes.{IsNoted, fault_status, fault_line}
+use Rattle.strip122.specs.Notes.{Report, silent, answer_report, fault_report}
 use Rattle.strip122.specs.Ran.{Ran, LacksMemory}
-use Rattle.strip122.specs.Behaviours.{Behaviour, Never, memory_first}
+use Rattle.strip122.specs.Behaviours.{Behaviour, memory_first}
 use Rattle.strip122.specs.Books.{with_book}
 
 -- ---- the whole effect of a run
 
--- the status and the note for each answer of an encoder
-abbrev pub encode_status : Result EncodeDone EncodeFault → ℕ
-encode_status (Ok done) = 0
-encode_status (Err fault) = fault_status fault
-
-abbrev pub encode_line : Result EncodeDone EncodeFault → List ℕ
-encode_line (Ok done) = []
-encode_line (Err fault) = fault_line fault
+-- the report on each answer of an encoder
+abbrev pub encode_report : Result EncodeDone EncodeFault → Report
+encode_report = answer_report (λ done. silent) fault_report
 
 -- what causes an answer of an encoder
 abbrev pub EncoderCauses : Type 1
@@ -34,7 +29,7 @@ AsksRaster setting given took i j = GivenBy given took i j × AsksInRange settin
 
 -- one run of an encoder that has its memory
 abbrev pub RunsRaster : Setting → EncoderCauses → (given : List ℕ → List ℕ) → (old new : Outside) (status : ℕ) → Type 0
-RunsRaster setting answers given = Ran answers (λ old took gave. AsksRaster setting given took) encode_status encode_line
+RunsRaster setting answers given = Ran answers (λ old took gave. AsksRaster setting given took) encode_report
 
 -- one run of a command that encodes
 abbrev pub RunsEncoder : Setting → EncoderCauses → (given : List ℕ → List ℕ) → (old new : Outside) (status : ℕ) → Type 0
@@ -56,37 +51,18 @@ pub record EncodedWhole (setting : Setting) (old new : Outside) : Type 0 where
   pub total : setting.total ≢ 0 → coded_octets setting rows (image_of setting took) ≤ setting.total
   pub ended : AtEnd new
 
--- The encoder refused its input: the cause and the note name the same fault.
-pub record EncoderRefuses (setting : Setting) (answers : EncoderCauses) (given : List ℕ → List ℕ) (old new : Outside) : Type 0 where
-  pub fault : EncodeFault
-  pub took : List ℕ
-  pub gave : List ℕ
-  pub wrote : List ℕ
-  pub since : Exchange old new took gave wrote (AsksRaster setting given took)
-  pub input : fault_status fault ≡ 3
-  pub cause : answers old new took gave (Err fault)
-  pub noted : IsNoted old new wrote (fault_line fault)
-
 -- ---- the behaviour of each command
 
 -- an encoder that has its memory takes a raster of all its rows with all values in range
-abbrev pub takes_raster : Setting → EncoderCauses → (given : List ℕ → List ℕ) → (whole : Outside → Outside → Type 0) → Behaviour
-takes_raster setting answers given whole = record {
-  performs = RunsRaster setting answers given;
-  whole = whole;
-  part = Never;
-  refuses = EncoderRefuses setting answers given;
-  nothing = Never;
-  right = λ old. (input : List ℕ) × (old.rest ≡ Some input) × (rows : ℕ) × TookRaster setting rows input;
-  wrong = λ old. (input : List ℕ) × (old.rest ≡ Some input) × ((rows : ℕ) → TookRaster setting rows input → ⊥);
-}
+abbrev pub takes_raster : Setting → EncoderCauses → (given : List ℕ → List ℕ) → Behaviour
+takes_raster setting answers given = record { performs = RunsRaster setting answers given; accepts = λ input. (rows : ℕ) × TookRaster setting rows input }
 
-abbrev pub encoder : Setting → EncoderCauses → (given : List ℕ → List ℕ) → (whole : Outside → Outside → Type 0) → Behaviour
-encoder setting answers given whole = memory_first (takes_raster setting answers given whole)
+abbrev pub encoder : Setting → EncoderCauses → (given : List ℕ → List ℕ) → Behaviour
+encoder setting answers given = memory_first (takes_raster setting answers given)
 
 -- `encode`, once it has its memory
 abbrev pub encodes_raster : Setting → Behaviour
-encodes_raster setting = takes_raster setting (Answers setting) (given_for setting) (EncodedWhole setting)
+encodes_raster setting = takes_raster setting (Answers setting) (given_for setting)
 
 -- `encode`, without a book and with one; the memory is taken before the book is read
 abbrev pub encodes : Setting → Behaviour

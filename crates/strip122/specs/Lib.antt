@@ -14,4 +14,5 @@ pub mod Closed
 pub mod Picks
 pub mod Trials
 pub mod Run
+pub mod Outcomes
 pub mod Answers

@@ -1,6 +1,6 @@
 -- The effect of a run of `list`, `pick` and `info`. This project's own.
-use Rattle.std.specs.Prelude.{◌≡◌, ◌⊎◌, ◌<◌, ◌≤◌, ℕ, List, [], length, take, true, false, Option, None, Some, Result, Ok, Err}
-use Rattle.port_122.specs.Outside.{Outside, Exchange}
+use Rattle.std.specs.Prelude.{◌≡◌, ◌⊎◌, ◌<◌, ◌≤◌, ℕ, List, [], length, take, true, Option, Result, Ok, Err}
+use Rattle.port_122.specs.Outside.{Outside}
 use Rattle.base_122.specs.declared.wish.DecodeWish.{DecodeWish}
 use Rattle.packet_defs.specs.declared.packet.Framing.{Framing}
 use Rattle.packet_defs.specs.Streams.{left_over, has_bad_version}
@@ -19,10 +19,10 @@ use Rattle.image_info.specs.declared.info.InfoFault.TheVariants.{TooManyImages, 
 use Rattle.image_info.specs.declared.info.InfoWish.{InfoWish}
 use Rattle.image_info.specs.Answers.{Answers as InfoAnswers, AsksFew, image_count}
 use Rattle.image_info.specs.Images.{most_images}
-use Rattle.strip122.specs.Notes.{IsNoted, list_fault_status, list_fault_line}
-use Rattle.strip122.specs.DamageNotes.{damage_line, done_status, done_line}
+use Rattle.strip122.specs.Notes.{Report, answer_report, list_report}
+use Rattle.strip122.specs.DamageNotes.{done_report}
 use Rattle.strip122.specs.Ran.{Asking, Ran, CausedWithin, LacksMemory}
-use Rattle.strip122.specs.Behaviours.{Behaviour, OnlyNotes}
+use Rattle.strip122.specs.Behaviours.{Behaviour}
 
 -- ---- a reader of packets that aren't decoded
 
@@ -36,14 +36,9 @@ pub record Reader (D F : Type 0) : Type 1 where
   pub framing_of : D → Option Framing
   pub fault_of : F → ListFault
 
--- the status and the note for each answer
-abbrev pub reader_status : {D F : Type 0} → Reader D F → Result D F → ℕ
-reader_status r (Ok done) = done_status [] true (r.framing_of done)
-reader_status r (Err fault) = list_fault_status (r.fault_of fault)
-
-abbrev pub reader_line : {D F : Type 0} → Reader D F → Result D F → List ℕ
-reader_line r (Ok done) = done_line [] true (r.framing_of done)
-reader_line r (Err fault) = list_fault_line (r.fault_of fault)
+-- the report on each answer
+abbrev pub reader_report : {D F : Type 0} → Reader D F → Result D F → Report
+reader_report r = answer_report (λ done. done_report [] true (r.framing_of done)) (λ fault. list_report (r.fault_of fault))
 
 -- what causes an answer if there was memory
 abbrev pub WithMemory : {D F : Type 0} → (r : Reader D F) → Outside → Outside → List ℕ → List ℕ → Result D F → Type 0
@@ -59,80 +54,18 @@ reader_asks r old took gave i j = r.asks old took gave i j × AsksReadable r.cap
 -- one run of a command with such an engine
 abbrev pub Reads : {D F : Type 0} → Reader D F → (old new : Outside) (status : ℕ) → Type 0
 Reads r old new status =
-    LacksMemory old new status ⊎ Ran (CausedWithin r.cap (WithMemory r)) (reader_asks r) (reader_status r) (reader_line r) old new status
-
--- ---- what follows for one status
-
--- All is given and nothing noted: the packets were read to their end.
-pub record ReadWhole {D F : Type 0} (r : Reader D F) (old new : Outside) : Type 0 where
-  pub done : D
-  pub took : List ℕ
-  pub gave : List ℕ
-  pub since : Exchange old new took gave [] (reader_asks r old took gave)
-  pub within : length took ≤ r.cap
-  pub cause : r.causes old new took gave (Ok done)
-  pub framing : r.framing_of done ≡ None
-
--- All is given, and the note says why the packets could not be read on.
-pub record ReadPart {D F : Type 0} (r : Reader D F) (old new : Outside) : Type 0 where
-  pub done : D
-  pub took : List ℕ
-  pub gave : List ℕ
-  pub wrote : List ℕ
-  pub since : Exchange old new took gave wrote (reader_asks r old took gave)
-  pub within : length took ≤ r.cap
-  pub cause : r.causes old new took gave (Ok done)
-  pub lacks : r.framing_of done ≡ None → ⊥
-  pub noted : IsNoted old new wrote (damage_line [] true (r.framing_of done))
-
--- The input was refused, which is too long.
-pub record ReadRefuses {D F : Type 0} (r : Reader D F) (old new : Outside) : Type 0 where
-  pub fault : F
-  pub long : r.fault_of fault ≡ LongInput
-  pub took : List ℕ
-  pub gave : List ℕ
-  pub wrote : List ℕ
-  pub since : Exchange old new took gave wrote (reader_asks r old took gave)
-  pub cause : r.causes old new took gave (Err fault)
-  pub noted : IsNoted old new wrote (list_fault_line LongInput)
+    LacksMemory old new status ⊎ Ran (CausedWithin r.cap (WithMemory r)) (reader_asks r) (reader_report r) old new status
 
 -- ---- the input that is left
 
--- Its end, or what can't be read on, is within the octets that may be taken.
-pub record HasPackets (cap : ℕ) (old : Outside) : Type 0 where
-  pub input : List ℕ
-  pub if_known : old.rest ≡ Some input
-  pub ends : (length input < cap) ⊎ (has_bad_version (left_over (take cap input)) ≡ true)
-
--- It has at least the number of octets that may be taken, and these can be read on.
-pub record HasTooMany (cap : ℕ) (old : Outside) : Type 0 where
-  pub input : List ℕ
-  pub if_known : old.rest ≡ Some input
-  pub long : cap ≤ length input
-  pub good : has_bad_version (left_over (take cap input)) ≡ false
-
--- It has packets, and no more in them than can be listed.
-pub record HasFew (cap : ℕ) (Few : List ℕ → Type 0) (old : Outside) : Type 0 where
-  pub packets : HasPackets cap old
-  pub few : Few packets.input
-
--- It has packets, and more in them than can be listed.
-pub record HasMany (cap : ℕ) (Few : List ℕ → Type 0) (old : Outside) : Type 0 where
-  pub packets : HasPackets cap old
-  pub many : Few packets.input → ⊥
+-- the end of these octets, or what can't be read on, is within those that may be taken
+abbrev pub EndsWithin : (cap : ℕ) → List ℕ → Type 0
+EndsWithin cap input = (length input < cap) ⊎ (has_bad_version (left_over (take cap input)) ≡ true)
 
 -- ---- the behaviour of each command
 
 abbrev pub reads_packets : {D F : Type 0} → Reader D F → Behaviour
-reads_packets r = record {
-  performs = Reads r;
-  whole = ReadWhole r;
-  part = ReadPart r;
-  refuses = ReadRefuses r;
-  nothing = OnlyNotes;
-  right = HasFew r.cap r.Few;
-  wrong = λ old. HasTooMany r.cap old ⊎ HasMany r.cap r.Few old;
-}
+reads_packets r = record { performs = Reads r; accepts = λ input. EndsWithin r.cap input × r.Few input }
 
 -- `list`: at a read call exactly the lines of the packets that are whole by then are given
 abbrev pub lister : DecodeWish → Reader ListDone ListFault

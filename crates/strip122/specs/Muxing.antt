@@ -1,5 +1,5 @@
 -- The effect of a run of `mux`. This project's own.
-use Rattle.std.specs.Prelude.{◌≡◌, ◌⊎◌, ◌<◌, ◌+◌, ℕ, List, [], ◌++◌, length, map, Result, Ok, Err, Some}
+use Rattle.std.specs.Prelude.{◌≡◌, ◌⊎◌, ◌<◌, ◌+◌, ℕ, List, [], ◌++◌, length, map, Result}
 use Rattle.std.specs.List.{range_with_len}
 use Rattle.port_122.specs.Outside.{Outside, Exchange, AtEnd}
 use Rattle.base_122.specs.declared.setting.Setting.{Setting}
@@ -10,9 +10,9 @@ use Rattle.camera_mux.specs.MuxOut.{mux_out}
 use Rattle.camera_mux.specs.MuxProgress.{AsksMux}
 use Rattle.camera_mux.specs.MuxAnswers.{Answers}
 use Rattle.camera_mux.specs.MuxLaws.{KeepsCamera}
-use Rattle.strip122.specs.Notes.{IsNoted, mux_fault_status, mux_fault_line}
+use Rattle.strip122.specs.Notes.{IsNoted, Report, silent, answer_report, mux_report}
 use Rattle.strip122.specs.Ran.{LacksMemory}
-use Rattle.strip122.specs.Behaviours.{Behaviour, Never, OnlyNotes}
+use Rattle.strip122.specs.Behaviours.{Behaviour}
 
 -- the settings of some cameras, whose APIDs follow one another
 abbrev pub camera_settings : Setting → (cameras : ℕ) → List Setting
@@ -20,14 +20,9 @@ camera_settings setting cameras = map (λ camera. record setting { apid = settin
 
 -- ---- the whole effect of a run
 
--- the status and the note for each answer
-abbrev pub mux_status : Result MuxDone MuxFault → ℕ
-mux_status (Ok done) = 0
-mux_status (Err fault) = mux_fault_status fault
-
-abbrev pub mux_line : Result MuxDone MuxFault → List ℕ
-mux_line (Ok done) = []
-mux_line (Err fault) = mux_fault_line fault
+-- the report on each answer
+abbrev pub mux_answer_report : Result MuxDone MuxFault → Report
+mux_answer_report = answer_report (λ done. silent) mux_report
 
 -- One run for which there was memory: the records that were accepted, what was taken after them, given and noted, when, and the answer
 -- with its cause. Of all that these records settle, each camera's packets are those that it gives alone.
@@ -41,8 +36,8 @@ pub record MuxesRecords (settings : List Setting) (old new : Outside) (status : 
   pub since : Exchange old new (octets_of records ++ rest) gave wrote (AsksMux settings records (octets_of records ++ rest))
   pub cause : Answers settings old new records rest gave answer
   pub keeps : (camera : ℕ) → camera < length settings → KeepsCamera settings records camera
-  pub status_is : status ≡ mux_status answer
-  pub noted : IsNoted old new wrote (mux_line answer)
+  pub status_is : status ≡ (mux_answer_report answer).status
+  pub noted : IsNoted old new wrote (mux_answer_report answer).line
 
 -- one run of `mux`
 abbrev pub Muxes : List Setting → (old new : Outside) (status : ℕ) → Type 0
@@ -60,19 +55,6 @@ pub record MuxedWhole (settings : List Setting) (old new : Outside) : Type 0 whe
   pub keeps : (camera : ℕ) → camera < length settings → KeepsCamera settings records camera
   pub ended : AtEnd new
 
--- The records were refused: the cause and the note name the same fault.
-pub record MuxRefuses (settings : List Setting) (old new : Outside) : Type 0 where
-  pub fault : MuxFault
-  pub records : List CameraRow
-  pub rest : List ℕ
-  pub gave : List ℕ
-  pub wrote : List ℕ
-  pub accepted : AreAccepted settings records
-  pub since : Exchange old new (octets_of records ++ rest) gave wrote (AsksMux settings records (octets_of records ++ rest))
-  pub input : mux_fault_status fault ≡ 3
-  pub cause : Answers settings old new records rest gave (Err fault)
-  pub noted : IsNoted old new wrote (mux_fault_line fault)
-
 -- ---- the behaviour
 
 -- these octets are records with all rows of all cameras and values in range
@@ -83,12 +65,4 @@ pub record AreRecords (settings : List Setting) (octets : List ℕ) : Type 0 whe
   pub octets_are : octets ≡ octets_of records
 
 abbrev pub muxes : List Setting → Behaviour
-muxes settings = record {
-  performs = Muxes settings;
-  whole = MuxedWhole settings;
-  part = Never;
-  refuses = MuxRefuses settings;
-  nothing = OnlyNotes;
-  right = λ old. (input : List ℕ) × (old.rest ≡ Some input) × AreRecords settings input;
-  wrong = λ old. (input : List ℕ) × (old.rest ≡ Some input) × (AreRecords settings input → ⊥);
-}
+muxes settings = record { performs = Muxes settings; accepts = AreRecords settings }

@@ -1,5 +1,5 @@
 -- The notes: one line for each status except 0. This project's own.
-use Rattle.std.specs.Prelude.{◌≡◌, ◌⊎◌, ◌≤◌, ℕ, zero, suc, List, [], ◌∷◌, ◌++◌, length, take, decimal, codes}
+use Rattle.std.specs.Prelude.{◌≡◌, ◌⊎◌, ◌≤◌, ℕ, zero, suc, List, [], ◌∷◌, ◌++◌, length, take, decimal, codes, Result, Ok, Err}
 use Rattle.std.specs.Fmt.{signed_decimal}
 use Rattle.port_122.specs.Outside.{Outside, Exchange, NoRead, Rose}
 use Rattle.base_122.specs.declared.field.Field.{Field}
@@ -63,91 +63,90 @@ word_line words (BadWord place) = codes "strip122: bad word: " ++ word_at words 
 word_line words (MissingKey field) = codes "strip122: missing: " ++ field_text field ++ codes "\n"
 word_line words (OutOfRange field) = codes "strip122: out of range: " ++ field_text field ++ codes "\n"
 
--- the status and the note for each fault of the encoder
-abbrev pub fault_status : EncodeFault → ℕ
-fault_status (Short octets) = 3
-fault_status Long = 3
-fault_status (BadPixel row column value) = 3
-fault_status ReadFault = 4
-fault_status WriteFault = 5
+-- ---- a status and its note
 
-abbrev pub short_line : (octets : ℕ) → List ℕ
-short_line octets = codes "strip122: input short, " ++ decimal octets ++ codes " octets taken\n"
+pub record Report : Type 0 where
+  pub status : ℕ
+  pub line : List ℕ
 
-abbrev pub fault_line : EncodeFault → List ℕ
-fault_line (Short octets) = short_line octets
-fault_line Long = codes "strip122: input long\n"
-fault_line (BadPixel row column value) =
-    codes "strip122: bad pixel " ++ signed_decimal value ++ codes " at row " ++ decimal row ++ codes " column " ++ decimal column ++ codes "\n"
-fault_line ReadFault = codes "strip122: read fault\n"
-fault_line WriteFault = codes "strip122: write fault\n"
+-- all is done
+abbrev pub silent : Report
+silent = record { status = 0; line = [] }
 
--- the status and the note for each fault of a mux
-abbrev pub mux_fault_status : MuxFault → ℕ
-mux_fault_status (mux_short octets) = 3
-mux_fault_status mux_long = 3
-mux_fault_status (BadCamera place camera) = 3
-mux_fault_status (bad_camera_pixel camera row column value) = 3
-mux_fault_status mux_read_failed = 4
-mux_fault_status mux_write_failed = 5
+-- the input is refused
+abbrev pub refusal : (line : List ℕ) → Report
+refusal line = record { status = 3; line = line }
 
-abbrev pub mux_fault_line : MuxFault → List ℕ
-mux_fault_line (mux_short octets) = short_line octets
-mux_fault_line mux_long = codes "strip122: input long\n"
-mux_fault_line (BadCamera place camera) = codes "strip122: bad camera " ++ decimal camera ++ codes " at record " ++ decimal place ++ codes "\n"
-mux_fault_line (bad_camera_pixel camera row column value) =
-    codes "strip122: bad pixel " ++ signed_decimal value ++ codes " of camera " ++ decimal camera ++ codes " at row " ++ decimal row ++ codes " column "
-    ++ decimal column ++ codes "\n"
-mux_fault_line mux_read_failed = codes "strip122: read fault\n"
-mux_fault_line mux_write_failed = codes "strip122: write fault\n"
+-- the input is longer than may be taken
+abbrev pub long_report : Report
+long_report = refusal (codes "strip122: input too long\n")
 
--- the note on a lack of memory
-abbrev pub memory_line : List ℕ
-memory_line = codes "strip122: no memory\n"
+-- a read failed
+abbrev pub read_report : Report
+read_report = record { status = 4; line = codes "strip122: read fault\n" }
 
--- the status and the note for each fault of the decoder
-abbrev pub decoder_fault_status : DecodeFault → ℕ
-decoder_fault_status NoSegment = 3
-decoder_fault_status (TooManyPixels pixels) = 3
-decoder_fault_status LongInput = 3
-decoder_fault_status read_failed = 4
-decoder_fault_status write_failed = 5
-decoder_fault_status Memory = 6
+-- a write failed
+abbrev pub write_report : Report
+write_report = record { status = 5; line = codes "strip122: write fault\n" }
 
-abbrev pub decoder_fault_line : DecodeFault → List ℕ
-decoder_fault_line NoSegment = codes "strip122: no segment\n"
-decoder_fault_line (TooManyPixels pixels) = codes "strip122: too many pixels, " ++ decimal pixels ++ codes "\n"
-decoder_fault_line LongInput = codes "strip122: input too long\n"
-decoder_fault_line read_failed = codes "strip122: read fault\n"
-decoder_fault_line write_failed = codes "strip122: write fault\n"
-decoder_fault_line Memory = memory_line
+-- there is too little memory
+abbrev pub memory_report : Report
+memory_report = record { status = 6; line = codes "strip122: no memory\n" }
 
--- the status and the note for each fault of the decoder of bare streams
-abbrev pub bare_fault_status : BareFault → ℕ
-bare_fault_status (Refused index cause) = 3
-bare_fault_status (bare_many_pixels pixels) = 3
-bare_fault_status bare_long = 3
-bare_fault_status bare_read_failed = 4
-bare_fault_status bare_write_failed = 5
-bare_fault_status bare_memory = 6
+-- the report on an engine's answer, from those on its results and its faults
+abbrev pub answer_report : {D F : Type 0} → (D → Report) → (F → Report) → Result D F → Report
+answer_report of_done of_fault (Ok done) = of_done done
+answer_report of_done of_fault (Err fault) = of_fault fault
 
-abbrev pub bare_fault_line : BareFault → List ℕ
-bare_fault_line (Refused index cause) = codes "strip122: segment " ++ decimal index ++ codes " refused\n"
-bare_fault_line (bare_many_pixels pixels) = codes "strip122: too many pixels, " ++ decimal pixels ++ codes "\n"
-bare_fault_line bare_long = codes "strip122: input too long\n"
-bare_fault_line bare_read_failed = codes "strip122: read fault\n"
-bare_fault_line bare_write_failed = codes "strip122: write fault\n"
-bare_fault_line bare_memory = memory_line
+-- ---- each fault
 
--- the status and the note for each fault of a list
-abbrev pub list_fault_status : ListFault → ℕ
-list_fault_status list_long = 3
-list_fault_status list_read_failed = 4
-list_fault_status list_write_failed = 5
-list_fault_status list_memory = 6
+-- of an encoder
+abbrev pub short_report : (octets : ℕ) → Report
+short_report octets = refusal (codes "strip122: input short, " ++ decimal octets ++ codes " octets taken\n")
 
-abbrev pub list_fault_line : ListFault → List ℕ
-list_fault_line list_long = codes "strip122: input too long\n"
-list_fault_line list_read_failed = codes "strip122: read fault\n"
-list_fault_line list_write_failed = codes "strip122: write fault\n"
-list_fault_line list_memory = memory_line
+abbrev pub fault_report : EncodeFault → Report
+fault_report (Short octets) = short_report octets
+fault_report Long = refusal (codes "strip122: input long\n")
+fault_report (BadPixel row column value) = refusal
+    (codes "strip122: bad pixel " ++ signed_decimal value ++ codes " at row " ++ decimal row ++ codes " column " ++ decimal column ++ codes "\n")
+fault_report ReadFault = read_report
+fault_report WriteFault = write_report
+
+-- of a mux
+abbrev pub mux_report : MuxFault → Report
+mux_report (mux_short octets) = short_report octets
+mux_report mux_long = refusal (codes "strip122: input long\n")
+mux_report (BadCamera place camera) = refusal (codes "strip122: bad camera " ++ decimal camera ++ codes " at record " ++ decimal place ++ codes "\n")
+mux_report (bad_camera_pixel camera row column value) = refusal
+    (codes "strip122: bad pixel " ++ signed_decimal value ++ codes " of camera " ++ decimal camera ++ codes " at row " ++ decimal row ++ codes " column "
+    ++ decimal column ++ codes "\n")
+mux_report mux_read_failed = read_report
+mux_report mux_write_failed = write_report
+
+-- of a decoder
+abbrev pub pixels_report : (pixels : ℕ) → Report
+pixels_report pixels = refusal (codes "strip122: too many pixels, " ++ decimal pixels ++ codes "\n")
+
+abbrev pub decoder_report : DecodeFault → Report
+decoder_report NoSegment = refusal (codes "strip122: no segment\n")
+decoder_report (TooManyPixels pixels) = pixels_report pixels
+decoder_report LongInput = long_report
+decoder_report read_failed = read_report
+decoder_report write_failed = write_report
+decoder_report Memory = memory_report
+
+-- of a decoder of bare streams
+abbrev pub bare_report : BareFault → Report
+bare_report (Refused index cause) = refusal (codes "strip122: segment " ++ decimal index ++ codes " refused\n")
+bare_report (bare_many_pixels pixels) = pixels_report pixels
+bare_report bare_long = long_report
+bare_report bare_read_failed = read_report
+bare_report bare_write_failed = write_report
+bare_report bare_memory = memory_report
+
+-- of a list
+abbrev pub list_report : ListFault → Report
+list_report list_long = long_report
+list_report list_read_failed = read_report
+list_report list_write_failed = write_report
+list_report list_memory = memory_report

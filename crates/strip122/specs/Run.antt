@@ -1,5 +1,5 @@
 -- The effect of a run of the program, for each command. This project's own.
-use Rattle.std.specs.Prelude.{◌≡◌, ◌⊎◌, ◌≤◌, ℕ, true, false, List, [], length, take, codes, Result, Ok, Err}
+use Rattle.std.specs.Prelude.{◌≡◌, ◌⊎◌, ◌≤◌, ℕ, true, false, List, [], length, take, Result, Ok, Err}
 use Rattle.port_122.specs.Outside.{Outside, Exchange, NoRead, Rose}
 use Rattle.base_122.specs.declared.setting.Setting.{Setting}
 use Rattle.raster_rows.specs.declared.made.MadeImage.{MadeImage}
@@ -11,14 +11,14 @@ use Rattle.strip122.specs.declared.trial.TrialDone.{TrialDone}
 use Rattle.strip122.specs.MadeRasters.{made_raster}
 use Rattle.strip122.specs.Trials.{made_with, trial_line, IsTried}
 use Rattle.strip122.specs.Ran.{LacksMemory}
-use Rattle.strip122.specs.Behaviours.{Behaviour, Never, OnlyNotes}
+use Rattle.strip122.specs.Behaviours.{Behaviour}
 use Rattle.strip122.specs.Decoding.{reads}
 use Rattle.strip122.specs.Encoding.{encodes, encodes_with_book}
 use Rattle.strip122.specs.Books.{by_book}
 use Rattle.strip122.specs.BareStreams.{encodes_bare, decodes_bare}
 use Rattle.strip122.specs.Listing.{reads_packets, picker, informer}
 use Rattle.strip122.specs.Muxing.{muxes, camera_settings}
-use Rattle.strip122.specs.Notes.{IsNoted, word_line}
+use Rattle.strip122.specs.Notes.{IsNoted, word_line, write_report}
 
 -- ---- the whole effect of a run
 
@@ -37,10 +37,10 @@ pub record AllGiven (octets gave wrote : List ℕ) (status : ℕ) : Type 0 where
 
 -- a write failed: a prefix of the octets is given
 pub record PartGiven (octets : List ℕ) (old new : Outside) (gave wrote : List ℕ) (status : ℕ) : Type 0 where
-  pub status_is : status ≡ 5
+  pub status_is : status ≡ write_report.status
   pub rose : Rose old.write_faults new.write_faults
   pub prefix : (k : ℕ) × (k ≤ length octets) × (gave ≡ take k octets)
-  pub noted : IsNoted old new wrote (codes "strip122: write fault\n")
+  pub noted : IsNoted old new wrote write_report.line
 
 -- One run that gives octets and reads nothing.
 pub record Gives (octets : List ℕ) (old new : Outside) (status : ℕ) : Type 0 where
@@ -63,39 +63,15 @@ pub record TriedImage (setting : Setting) (seed : ℕ) (old new : Outside) (stat
 abbrev pub Tries : Setting → ℕ → Outside → Outside → ℕ → Type 0
 Tries setting seed old new status = LacksMemory old new status ⊎ TriedImage setting seed old new status
 
--- ---- what follows for one status
-
--- the line of a trial is given, and nothing else
-pub record TriedWhole (setting : Setting) (seed : ℕ) (old new : Outside) : Type 0 where
-  pub done : TrialDone
-  pub tried : IsTried setting (made_value (made_with setting seed)) done
-  pub since : Exchange old new [] (trial_line setting done) [] NoRead
-
 -- ---- the behaviour of each command
 
 -- `make` takes no input and no memory
 abbrev pub makes : MadeImage → Behaviour
-makes made = record {
-  performs = Makes made;
-  whole = λ old new. Exchange old new [] (made_raster made) [] NoRead;
-  part = Never;
-  refuses = Never;
-  nothing = Never;
-  right = λ old. Unit {0};
-  wrong = λ old. ⊥;
-}
+makes made = record { performs = Makes made; accepts = λ input. Unit {0} }
 
 -- `trial` takes no input
 abbrev pub tries : Setting → ℕ → Behaviour
-tries setting seed = record {
-  performs = Tries setting seed;
-  whole = TriedWhole setting seed;
-  part = Never;
-  refuses = Never;
-  nothing = OnlyNotes;
-  right = λ old. Unit {0};
-  wrong = λ old. ⊥;
-}
+tries setting seed = record { performs = Tries setting seed; accepts = λ input. Unit {0} }
 
 abbrev pub behaviour : Command → Behaviour
 behaviour (Encode setting false) = encodes setting

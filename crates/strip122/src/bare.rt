@@ -1,7 +1,7 @@
 // Runs the command that reads a bare stream.
 ghost use Rattle.std.specs.Prelude.{◌≡◌, IsTrue};
 ghost use Rattle.plane_defs.specs.Codes.{is_book_sound};
-ghost use Rattle.strip122.specs.Notes.{bare_fault_status};
+ghost use Rattle.strip122.specs.Notes.{bare_report};
 ghost use Rattle.strip122.specs.BareStreams.{DecodesStream};
 
 use crate::notes::note_bare_fault;
@@ -11,7 +11,7 @@ use port_122::Port;
 use std::alloc::Global;
 
 fn bare_fault_status(fault: BareFault) -> u8
-    ensures { result ≡ bare_fault_status fault }
+    ensures { result ≡ (bare_report fault).status }
 {
     match fault {
         BareFault::LongInput | BareFault::TooManyPixels { .. } | BareFault::Refused { .. } => 3,

@@ -2,7 +2,7 @@
 ghost use Rattle.std.specs.Prelude.{◌≡◌, ◌++◌, IsTrue, codes, decimal, true};
 ghost use Rattle.plane_defs.specs.Codes.{is_book_sound};
 ghost use Rattle.base_122.specs.Ranges.{IsInRange};
-ghost use Rattle.strip122.specs.Books.{book_line, book_status, clash_line, code_line, with_book};
+ghost use Rattle.strip122.specs.Books.{book_report, clash_line, code_line, with_book};
 ghost use Rattle.strip122.specs.Closed.{ClosedBy};
 ghost use Rattle.strip122.specs.Decoding.{reads};
 ghost use Rattle.strip122.specs.Encoding.{encodes_with_book};
@@ -69,7 +69,7 @@ fn incomplete_line(table: u8) -> NoteLine
 
 // Notes why the input doesn't begin with a book.
 fn note_book_fault<X: Port>(port: &mut X, fault: BookFault)
-    ensures { Notes (X.outside port.old) (X.outside port.new) (book_line fault) }
+    ensures { Notes (X.outside port.old) (X.outside port.new) (book_report fault).line }
 {
     match fault {
         BookFault::ReadFault => note_line(port, "strip122: read fault\n"),
@@ -91,7 +91,7 @@ fn note_book_fault<X: Port>(port: &mut X, fault: BookFault)
 }
 
 fn book_status(fault: BookFault) -> u8
-    ensures { result ≡ book_status fault }
+    ensures { result ≡ (book_report fault).status }
 {
     match fault {
         BookFault::ReadFault => 4,

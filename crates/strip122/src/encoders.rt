@@ -6,7 +6,7 @@ ghost use Rattle.plane_defs.specs.Codes.{is_book_sound};
 ghost use Rattle.strip_coder.specs.Works.{IsMadeFor};
 ghost use Rattle.camera_mux.specs.MuxProgress.{AreSettings, CanMux};
 ghost use Rattle.command_words.specs.Commands.{AreCameras};
-ghost use Rattle.strip122.specs.Notes.{fault_status, mux_fault_status};
+ghost use Rattle.strip122.specs.Notes.{fault_report, mux_report};
 ghost use Rattle.strip122.specs.Encoding.{Encodes, encodes_raster};
 ghost use Rattle.strip122.specs.BareStreams.{EncodesBare};
 ghost use Rattle.strip122.specs.Closed.{BareClosed, EncodedClosed, MuxClosed};
@@ -25,7 +25,7 @@ use strip_coder::{EncodeFault, Work, encode_rows};
 use strip_decoder::round_trip;
 
 fn fault_status(fault: EncodeFault) -> u8
-    ensures { result ≡ fault_status fault }
+    ensures { result ≡ (fault_report fault).status }
 {
     match fault {
         EncodeFault::Short { .. } | EncodeFault::Long | EncodeFault::BadPixel { .. } => 3,
@@ -35,7 +35,7 @@ fn fault_status(fault: EncodeFault) -> u8
 }
 
 fn mux_fault_status(fault: MuxFault) -> u8
-    ensures { result ≡ mux_fault_status fault }
+    ensures { result ≡ (mux_report fault).status }
 {
     match fault {
         MuxFault::Short { .. }

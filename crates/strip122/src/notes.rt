@@ -2,8 +2,8 @@
 ghost use Rattle.std.specs.Prelude.{◌≡◌, ◌<◌, ◌++◌, length, codes, decimal};
 ghost use Rattle.std.specs.Fmt.{signed_decimal};
 ghost use Rattle.command_words.specs.Words.{texts, IsPlaced};
-ghost use Rattle.strip122.specs.Notes.{Notes, word_at, field_text, word_line, short_line, fault_line, mux_fault_line, decoder_fault_line, bare_fault_line};
-ghost use Rattle.strip122.specs.Notes.{list_fault_line};
+ghost use Rattle.strip122.specs.Notes.{Notes, word_at, field_text, word_line, short_report, fault_report, mux_report, decoder_report, bare_report};
+ghost use Rattle.strip122.specs.Notes.{list_report};
 
 use arrayvec::ArrayString;
 use bare_stream::BareFault;
@@ -90,7 +90,7 @@ pub fn note_refusal<X: Port>(port: &mut X, words: &[String], fault: WordFault)
 pub type NoteLine = ArrayString<160>;
 
 fn short_line(octets: u64) -> NoteLine
-    ensures { result.bytes ≡ short_line octets }
+    ensures { result.bytes ≡ (short_report octets).line }
 {
     let mut line = ArrayString::new();
     line.push_str("strip122: input short, ");
@@ -116,7 +116,7 @@ fn bad_pixel_line(row: u32, column: u32, value: i32) -> NoteLine
 
 /// Notes a fault of the encoder.
 pub fn note_fault<X: Port>(port: &mut X, fault: EncodeFault)
-    ensures { Notes (X.outside port.old) (X.outside port.new) (fault_line fault) }
+    ensures { Notes (X.outside port.old) (X.outside port.new) (fault_report fault).line }
 {
     match fault {
         EncodeFault::Short { octets } => note_line(port, short_line(octets).as_str()),
@@ -160,7 +160,7 @@ fn camera_pixel_line(camera: u8, row: u32, column: u32, value: i32) -> NoteLine
 
 /// Notes a fault of a mux.
 pub fn note_mux_fault<X: Port>(port: &mut X, fault: MuxFault)
-    ensures { Notes (X.outside port.old) (X.outside port.new) (mux_fault_line fault) }
+    ensures { Notes (X.outside port.old) (X.outside port.new) (mux_report fault).line }
 {
     match fault {
         MuxFault::Short { octets } => note_line(port, short_line(octets).as_str()),
@@ -191,7 +191,7 @@ fn pixels_line(pixels: u64) -> NoteLine
 
 /// Notes a fault of the decoder.
 pub fn note_decoder_fault<X: Port>(port: &mut X, fault: DecodeFault)
-    ensures { Notes (X.outside port.old) (X.outside port.new) (decoder_fault_line fault) }
+    ensures { Notes (X.outside port.old) (X.outside port.new) (decoder_report fault).line }
 {
     match fault {
         DecodeFault::NoSegment => note_line(port, "strip122: no segment\n"),
@@ -215,7 +215,7 @@ fn segment_line(index: u32) -> NoteLine
 
 /// Notes a fault of the decoder of bare streams.
 pub fn note_bare_fault<X: Port>(port: &mut X, fault: BareFault)
-    ensures { Notes (X.outside port.old) (X.outside port.new) (bare_fault_line fault) }
+    ensures { Notes (X.outside port.old) (X.outside port.new) (bare_report fault).line }
 {
     match fault {
         BareFault::Refused { index, .. } => note_line(port, segment_line(index).as_str()),
@@ -229,7 +229,7 @@ pub fn note_bare_fault<X: Port>(port: &mut X, fault: BareFault)
 
 /// Notes a fault of a list of packets.
 pub fn note_list_fault<X: Port>(port: &mut X, fault: ListFault)
-    ensures { Notes (X.outside port.old) (X.outside port.new) (list_fault_line fault) }
+    ensures { Notes (X.outside port.old) (X.outside port.new) (list_report fault).line }
 {
     match fault {
         ListFault::LongInput => note_line(port, "strip122: input too long\n"),

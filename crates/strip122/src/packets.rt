@@ -1,7 +1,7 @@
 // Runs the commands that read packets.
 ghost use Rattle.std.specs.Prelude.{◌≡◌, [], true, IsTrue};
 ghost use Rattle.plane_defs.specs.Codes.{is_book_sound};
-ghost use Rattle.strip122.specs.Notes.{decoder_fault_status, list_fault_status};
+ghost use Rattle.strip122.specs.Notes.{decoder_report, list_report};
 ghost use Rattle.strip122.specs.DamageNotes.{damaged, is_known, ReportsDone};
 ghost use Rattle.strip122.specs.Decoding.{Decodes, FindsDamage, FindsRects, LooksAt, reads};
 ghost use Rattle.strip122.specs.Listing.{Reads, info_fault_of, informer, lister, picker};
@@ -21,7 +21,7 @@ use std::alloc::Global;
 use strip_decoder::{DecodeDone, DecodeFault, decode_packets, find_damage};
 
 fn decoder_fault_status(fault: DecodeFault) -> u8
-    ensures { result ≡ decoder_fault_status fault }
+    ensures { result ≡ (decoder_report fault).status }
 {
     match fault {
         DecodeFault::NoSegment | DecodeFault::TooManyPixels { .. } | DecodeFault::LongInput => 3,
@@ -32,7 +32,7 @@ fn decoder_fault_status(fault: DecodeFault) -> u8
 }
 
 fn list_fault_status(fault: ListFault) -> u8
-    ensures { result ≡ list_fault_status fault }
+    ensures { result ≡ (list_report fault).status }
 {
     match fault {
         ListFault::LongInput => 3,

@@ -1,5 +1,5 @@
 // Defines the entry point of the program.
-ghost use Rattle.std.specs.Prelude.{◌≡◌, ◌≤◌, ◌*◌, ◌⊎◌, ◌↔◌, ℕ, length, Bool, IsTrue, Option, Result, Ok, Err};
+ghost use Rattle.std.specs.Prelude.{◌≡◌, ◌≤◌, ◌*◌, ◌⊎◌, ◌↔◌, ℕ, length, Bool, IsTrue, List, Option, Some, Result, Ok, Err};
 ghost use Rattle.plane_defs.specs.Codes.{is_book_sound};
 ghost use Rattle.port_122.specs.Outside.{Rose};
 ghost use Rattle.base_122.specs.Ranges.{IsInRange as IsSettingInRange, IsWithin, rows_range};
@@ -17,7 +17,8 @@ ghost use Rattle.strip122.specs.Books.{ByBook};
 ghost use Rattle.strip122.specs.Muxing.{camera_settings};
 ghost use Rattle.strip122.specs.Picks.{GavePicked};
 ghost use Rattle.strip122.specs.Closed.{BareClosed, ClosedBy, MuxClosed};
-ghost use Rattle.strip122.specs.Behaviours.{IsSteady, Completes};
+ghost use Rattle.strip122.specs.Behaviours.{IsSteady};
+ghost use Rattle.strip122.specs.Outcomes.{AtStatus, outcomes};
 ghost use Rattle.strip122.specs.Run.{Refuses, Makes, Tries, Runs, behaviour};
 
 use crate::bare::bare_decode;
@@ -118,24 +119,19 @@ pub fn run<X: Port>(alloc: Global, words: &[String], port: &mut X) -> u8
     ensures runs { (said : Result Command WordFault) × Says (texts words.now) said
         × Runs (texts words.now) said (X.outside port.old) (X.outside port.new) result }
 
-    // What follows for each status.
-    ensures done { result ≡ 0 → (command : Command) × Says (texts words.now) (Ok command)
-        × (behaviour command).whole (X.outside port.old) (X.outside port.new) }
+    // What follows for each status: the whole output, a part of it, an input that is refused, or too little memory.
+    ensures follows { (command : Command) → Says (texts words.now) (Ok command) →
+        AtStatus (outcomes command) (X.outside port.old) (X.outside port.new) result }
     ensures refused { (result ≡ 2) ↔ ((fault : WordFault) × Says (texts words.now) (Err fault)) }
-    ensures part { result ≡ 1 → (command : Command) × Says (texts words.now) (Ok command)
-        × (behaviour command).part (X.outside port.old) (X.outside port.new) }
-    ensures input_refused { result ≡ 3 → (command : Command) × Says (texts words.now) (Ok command)
-        × (behaviour command).refuses (X.outside port.old) (X.outside port.new) }
     ensures read_fault { result ≡ 4 → Rose (X.outside port.old).read_faults (X.outside port.new).read_faults }
     ensures write_fault { result ≡ 5 → Rose (X.outside port.old).write_faults (X.outside port.new).write_faults }
-    ensures no_memory { result ≡ 6 → (command : Command) × Says (texts words.now) (Ok command)
-        × (behaviour command).nothing (X.outside port.old) (X.outside port.new) }
 
-    // If the arguments are valid and there is no fault, the command is done for the right input, and another input is refused.
-    ensures complete { (command : Command) → Says (texts words.now) (Ok command) → (behaviour command).right (X.outside port.old) →
-        IsSteady (X.outside port.old) (X.outside port.new) → Completes (behaviour command) (X.outside port.old) (X.outside port.new) result }
-    ensures wrong_input { (command : Command) → Says (texts words.now) (Ok command) → (behaviour command).wrong (X.outside port.old) →
-        IsSteady (X.outside port.old) (X.outside port.new) → (result ≡ 3) ⊎ (result ≡ 6) }
+    // If the arguments are valid and there is no fault, the command is done for an input that it accepts, wholly or in part, unless memory is
+    // missing, and another input is refused.
+    ensures complete { (command : Command) (input : List ℕ) → Says (texts words.now) (Ok command) → (X.outside port.old).rest ≡ Some input →
+        (behaviour command).accepts input → IsSteady (X.outside port.old) (X.outside port.new) → (result ≡ 0) ⊎ ((result ≡ 1) ⊎ (result ≡ 6)) }
+    ensures wrong_input { (command : Command) (input : List ℕ) → Says (texts words.now) (Ok command) → (X.outside port.old).rest ≡ Some input →
+        ((behaviour command).accepts input → ⊥) → IsSteady (X.outside port.old) (X.outside port.new) → (result ≡ 3) ⊎ (result ≡ 6) }
 
     // No pixel of a picture outside the damaged rows, or outside the damaged rectangles, depends on what was lost, packets of other APIDs
     // change nothing, all packets of an image give it whole, and restored numbers change no damage. If the input has a book, the wish has it,

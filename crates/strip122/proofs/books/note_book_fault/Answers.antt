@@ -1,5 +1,5 @@
-use Rattle.std.proofs.Common.{rules}
-use Rattle.strip122.specs.Books.{book_line}
+use Rattle.std.proofs.Common.{rules, refl}
+use Rattle.strip122.proofs.Reports.{book_line}
 use Rattle.strip122.proofs.NoteLines.{notes_as}
 use Rattle.strip122.proofs.books.note_book_fault.Goals as goal
 
@@ -14,3 +14,10 @@ returns-in-BadLength g c = notes_as (book_line c.args.fault) c.note_line-in-BadL
 pub returns-in-BadBits : goal.returns-in-BadBits
 returns-in-BadBits g c = notes_as (book_line c.args.fault) c.note_line-in-BadBits.ensures
     (rw (c.in-BadBits.is, c.as_str-in-BadBits.ensures.value, c.code_line-in-BadBits.ensures) (search rules))
+
+pub returns-in-Short : goal.returns-in-Short
+returns-in-Short g c = notes_as (book_line c.args.fault) c.note_line-in-Short.ensures
+    (rw (c.in-Short.is, c.as_str.ensures.value, c.short_line.ensures) (search rules))
+
+pub returns-in-BadMark : goal.returns-in-BadMark
+returns-in-BadMark g c = notes_as (book_line c.args.fault) c.note_line-in-BadMark.ensures (rw c.in-BadMark.is refl)

@@ -1,5 +1,5 @@
 use Rattle.std.proofs.Common.{rules, refl}
-use Rattle.strip122.specs.Notes.{fault_line}
+use Rattle.strip122.proofs.Reports.{fault_line}
 use Rattle.strip122.proofs.NoteLines.{notes_as}
 use Rattle.strip122.proofs.notes.note_fault.Goals as goal
 

@@ -1,7 +1,8 @@
 use Rattle.std.proofs.Common.{◌∙◌, ap, subst}
 use Rattle.image_info.specs.declared.info.InfoWish.{InfoWish}
-use Rattle.strip122.specs.Notes.{Notes, list_fault_status, list_fault_line}
+use Rattle.strip122.specs.Notes.{Notes}
 use Rattle.strip122.specs.Listing.{informer}
+use Rattle.strip122.proofs.Reports.{list_fault_status, list_fault_line}
 use Rattle.strip122.proofs.Listed.{if_known, failed, info_reads}
 use Rattle.strip122.proofs.packets.info.Goals as goal
 

@@ -1,46 +1,33 @@
 use Rattle.std.proofs.Common.{◌≡◌, sym, subst, Ok}
 use Rattle.command_words.specs.declared.command.Command.TheVariants.{Encode, Mux, Read, Pick, BareEncode, BareDecode}
 use Rattle.command_words.specs.declared.tables.Reading.TheVariants.{Decode, Look}
-use Rattle.command_words.specs.Words.{texts, Says}
 use Rattle.strip122.specs.Decoding.{reads}
 use Rattle.strip122.specs.Pictures.{GaveLook, GavePicture}
 use Rattle.strip122.specs.Run.{behaviour}
+use Rattle.strip122.specs.Outcomes.{outcomes}
 use Rattle.strip122.proofs.BookRuns.{by_book_gives}
 use Rattle.strip122.proofs.BareRuns.{gave_bare}
-use Rattle.strip122.proofs.Behaviours.{completes, refused}
+use Rattle.strip122.proofs.Behaviours.{completed, completes, refused}
 use Rattle.strip122.proofs.GavePicks.{gave_picked}
 use Rattle.strip122.proofs.GavePictures.{gave_look, gave_picture}
 use Rattle.strip122.proofs.Laws.{law, ends_at}
 use Rattle.strip122.proofs.top.run.Goals as goal
 
-pub returns-in-Ok-clause-done : goal.returns-in-Ok-clause-done
-returns-in-Ok-clause-done g c zero = (
-  c.in-Ok.command,
-  subst (Says (texts c.args.words.now)) c.in-Ok.is c.read_words.ensures.says,
-  ends_at c.bare_streams_are_read.ensures c.in-Ok.command _
-      _ c.perform.result 0 c.perform.ensures.performs zero,
-)
+pub returns-in-Ok-clause-follows : goal.returns-in-Ok-clause-follows
+returns-in-Ok-clause-follows g c command says =
+    let same : command ≡ c.in-Ok.command = let e = c.read_words.ensures.only (Ok command) says in let f = c.in-Ok.is in cc in
+    (law c.bare_streams_are_read.ensures command).ends _ _ c.perform.result
+    (subst (λ k. (behaviour k).performs (g.X.Port.outside c.args.port.now) (g.X.Port.outside c.perform.new.port) c.perform.result) (sym same)
+    c.perform.ensures.performs)
+
+pub returns-in-Err-clause-follows : goal.returns-in-Err-clause-follows
+returns-in-Err-clause-follows g c command says =
+    absurd (let e = c.read_words.ensures.only (Ok command) says in let f = c.in-Err.is in cc)
 
 pub returns-in-Ok-clause-refused : goal.returns-in-Ok-clause-refused
 returns-in-Ok-clause-refused g c = (
   λ two. absurd (ends_at c.bare_streams_are_read.ensures c.in-Ok.command _ _ c.perform.result 2 c.perform.ensures.performs two),
   λ (fault, says). absurd (let e = c.read_words.ensures.only _ says in let f = c.in-Ok.is in cc),
-)
-
-pub returns-in-Ok-clause-part : goal.returns-in-Ok-clause-part
-returns-in-Ok-clause-part g c one = (
-  c.in-Ok.command,
-  subst (Says (texts c.args.words.now)) c.in-Ok.is c.read_words.ensures.says,
-  ends_at c.bare_streams_are_read.ensures c.in-Ok.command _
-      _ c.perform.result 1 c.perform.ensures.performs one,
-)
-
-pub returns-in-Ok-clause-input_refused : goal.returns-in-Ok-clause-input_refused
-returns-in-Ok-clause-input_refused g c three = (
-  c.in-Ok.command,
-  subst (Says (texts c.args.words.now)) c.in-Ok.is c.read_words.ensures.says,
-  ends_at c.bare_streams_are_read.ensures c.in-Ok.command _
-      _ c.perform.result 3 c.perform.ensures.performs three,
 )
 
 pub returns-in-Ok-clause-read_fault : goal.returns-in-Ok-clause-read_fault
@@ -49,38 +36,32 @@ returns-in-Ok-clause-read_fault g c four = ends_at c.bare_streams_are_read.ensur
 pub returns-in-Ok-clause-write_fault : goal.returns-in-Ok-clause-write_fault
 returns-in-Ok-clause-write_fault g c five = ends_at c.bare_streams_are_read.ensures c.in-Ok.command _ _ c.perform.result 5 c.perform.ensures.performs five
 
-pub returns-in-Ok-clause-no_memory : goal.returns-in-Ok-clause-no_memory
-returns-in-Ok-clause-no_memory g c six = (
-  c.in-Ok.command,
-  subst (Says (texts c.args.words.now)) c.in-Ok.is c.read_words.ensures.says,
-  ends_at c.bare_streams_are_read.ensures c.in-Ok.command _
-      _ c.perform.result 6 c.perform.ensures.performs six,
-)
-
 pub returns-in-Ok-clause-complete : goal.returns-in-Ok-clause-complete
-returns-in-Ok-clause-complete g c command says input steady =
+returns-in-Ok-clause-complete g c command input says if_known accepted steady =
     let same : command ≡ c.in-Ok.command = let e = c.read_words.ensures.only (Ok command) says in let f = c.in-Ok.is in cc in
-    completes (behaviour command) _ _ c.perform.result
+    completed (outcomes command) _ _ c.perform.result
+    (completes (outcomes command) _ _ c.perform.result
     ((law c.bare_streams_are_read.ensures command).ends _ _ c.perform.result
     (subst (λ k. (behaviour k).performs (g.X.Port.outside c.args.port.now) (g.X.Port.outside c.perform.new.port) c.perform.result) (sym same)
     c.perform.ensures.performs))
-    ((law c.bare_streams_are_read.ensures command).right _ _ input) steady
+    ((law c.bare_streams_are_read.ensures command).right _ _ input if_known accepted) steady)
 
 pub returns-in-Ok-clause-wrong_input : goal.returns-in-Ok-clause-wrong_input
-returns-in-Ok-clause-wrong_input g c command says input steady =
+returns-in-Ok-clause-wrong_input g c command input says if_known not_accepted steady =
     let same : command ≡ c.in-Ok.command = let e = c.read_words.ensures.only (Ok command) says in let f = c.in-Ok.is in cc in
-    refused (behaviour command) _ _ c.perform.result
+    refused (outcomes command) _ _ c.perform.result
     ((law c.bare_streams_are_read.ensures command).ends _ _ c.perform.result
     (subst (λ k. (behaviour k).performs (g.X.Port.outside c.args.port.now) (g.X.Port.outside c.perform.new.port) c.perform.result) (sym same)
     c.perform.ensures.performs))
-    ((law c.bare_streams_are_read.ensures command).wrong_whole _ _ input) ((law c.bare_streams_are_read.ensures command).wrong_part _ _ input) steady
+    (λ whole. not_accepted ((law c.bare_streams_are_read.ensures command).whole _ _ input if_known whole))
+    (λ part. not_accepted ((law c.bare_streams_are_read.ensures command).part _ _ input if_known part)) steady
 
 pub returns-in-Err-clause-complete : goal.returns-in-Err-clause-complete
-returns-in-Err-clause-complete g c command says input steady =
+returns-in-Err-clause-complete g c command input says if_known accepted steady =
     absurd (let e = c.read_words.ensures.only (Ok command) says in let f = c.in-Err.is in cc)
 
 pub returns-in-Err-clause-wrong_input : goal.returns-in-Err-clause-wrong_input
-returns-in-Err-clause-wrong_input g c command says input steady =
+returns-in-Err-clause-wrong_input g c command input says if_known not_accepted steady =
     absurd (let e = c.read_words.ensures.only (Ok command) says in let f = c.in-Err.is in cc)
 
 pub returns-in-Ok-clause-picture : goal.returns-in-Ok-clause-picture
