@@ -5,7 +5,7 @@ PREFIX = /usr/local
 demo:                   ## draws a picture, encodes it, loses a packet, and decodes the others (two minutes)
 	@tools/lose_a_packet.sh
 
-test:                   ## compares 1,500 runs with what the rules say (two minutes)
+test:                   ## compares 1,700 runs with what the rules say (two minutes)
 	@tools/test.sh
 
 build:                  ## proves and builds the program and the library for C (one to two hours the first time)

@@ -1,10 +1,12 @@
 #!/usr/bin/env python3
 """Runs `rt ci`, and prints the processor seconds that each crate took in it.
 
-Usage: tools/gate.py [--interval SECONDS]. The lines of `rt ci` pass through, and its status is the status. The seconds, user and
-system, are sampled from /proc: of a process the last sample counts, so that a short one may be missing. The total is exact.
+Usage: tools/gate.py [--interval SECONDS] [CRATE ..]. With crates, it runs `rt ci` for these and those below them, which is not the gate. The
+lines of `rt ci` pass through, and its status is the status. The seconds, user and system, are sampled from /proc: of a process the last
+sample counts, so that a short one may be missing. The total is exact.
 """
 
+import argparse
 import os
 import re
 import resource
@@ -89,11 +91,14 @@ def table(samples: dict, total: float, elapsed: float) -> None:
 
 
 def main() -> int:
-    interval = float(sys.argv[2]) if sys.argv[1:2] == ["--interval"] else 0.5
+    parser = argparse.ArgumentParser(usage="tools/gate.py [--interval SECONDS] [CRATE ..]")
+    parser.add_argument("--interval", type=float, default=0.5)
+    parser.add_argument("crates", nargs="*")
+    given = parser.parse_args()
     samples: dict = {}
     start = time.monotonic()
-    run = subprocess.Popen(["rt", "ci"])
-    watcher = threading.Thread(target=watch, args=(run, interval, samples))
+    run = subprocess.Popen(["rt", "ci", *given.crates])
+    watcher = threading.Thread(target=watch, args=(run, given.interval, samples))
     watcher.start()
     watcher.join()
     used = resource.getrusage(resource.RUSAGE_CHILDREN)

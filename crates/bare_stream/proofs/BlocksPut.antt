@@ -8,12 +8,12 @@ use Rattle.base_122.specs.declared.geometry.Geometry.{Geometry}
 use Rattle.wave_defs.specs.Held.{block_at}
 use Rattle.stream_defs.specs.Settled.{rows_through, block_rows_before}
 use Rattle.picture_rows.specs.Prefixes.{rows_of}
-use Rattle.picture_rows.specs.Pictures.{PictureState, IsCurrent, passed_in, total_in}
-use Rattle.picture_rows.specs.Steps.{StopsEarly, HasPassed, HasNextNumbers}
+use Rattle.picture_rows.specs.Pictures.{PictureState, IsPictureCurrent, passed_in, total_in}
+use Rattle.picture_rows.specs.Steps.{RowsStop, HasPutBlock, HasNextNumbers}
 use Rattle.picture_rows.proofs.RowsOut.{prefix_within, rows_through-rises}
 use Rattle.bare_stream.specs.Blocks.{HasNextBlocks, HasPutBlocks, PutsBlocks}
 
-pub none_put : (cells : List ℤ) (p : PictureState) (a : Outside) → IsCurrent p → HasPutBlocks cells 0 a a p p
+pub none_put : (cells : List ℤ) (p : PictureState) (a : Outside) → IsPictureCurrent p → HasPutBlocks cells 0 a a p p
 none_put cells p a current = record {
   current = current;
   geometry = refl;
@@ -28,7 +28,7 @@ none_put cells p a current = record {
 }
 
 pub puts_failed : {T E : Type 0} {a b : Outside} {p : PictureState} (r : Result T E) (cells : List ℤ) (n : ℕ) (z : PictureState) → IsErr r →
-    StopsEarly (HasNextBlocks cells n p) (block_rows_before p.geometry (passed_in p + n)) a b p → PutsBlocks r cells n a b p z
+    RowsStop (HasNextBlocks cells n p) (block_rows_before p.geometry (passed_in p + n)) a b p → PutsBlocks r cells n a b p z
 puts_failed (Ok x) cells n z is broken = absurd (false≢true is)
 puts_failed (Err e) cells n z is broken = broken
 
@@ -47,7 +47,7 @@ module _ (cells : List ℤ) (i : ℕ) {a b : Outside} (p x : PictureState) (put 
       ≡ rows_of p.geometry numbers x.at.next
   so_far n numbers lt next = put.goes.given numbers (first_ones n numbers (omega (arith, lt)) next)
 
-  pub put_then : {c : Outside} (z : PictureState) → HasPassed (HasNextNumbers (block_at cells i) x) b c x z → HasPutBlocks cells (i + 1) a c p z
+  pub put_then : {c : Outside} (z : PictureState) → HasPutBlock (HasNextNumbers (block_at cells i) x) b c x z → HasPutBlocks cells (i + 1) a c p z
   put_then z one = record {
     current = one.current;
     geometry = one.geometry ∙ put.geometry;
@@ -65,9 +65,9 @@ module _ (cells : List ℤ) (i : ℕ) {a b : Outside} (p x : PictureState) (put 
   }
 
   -- a write failed at the next
-  pub broke_then : {c : Outside} (n : ℕ) → i < n → IsCurrent p → passed_in p + n ≤ total_in p →
-      StopsEarly (HasNextNumbers (block_at cells i) x) (block_rows_before x.geometry (passed_in x + 1)) b c x →
-      StopsEarly (HasNextBlocks cells n p) (block_rows_before p.geometry (passed_in p + n)) a c p
+  pub broke_then : {c : Outside} (n : ℕ) → i < n → IsPictureCurrent p → passed_in p + n ≤ total_in p →
+      RowsStop (HasNextNumbers (block_at cells i) x) (block_rows_before x.geometry (passed_in x + 1)) b c x →
+      RowsStop (HasNextBlocks cells n p) (block_rows_before p.geometry (passed_in p + n)) a c p
   broke_then n lt current room broken = record {
     gave = put.goes.gave ++ broken.gave;
     out = since_out put.goes.out broken.out;

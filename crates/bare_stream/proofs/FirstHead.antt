@@ -5,7 +5,7 @@ use Rattle.port_122.proofs.Stretches.{since_start}
 use Rattle.base_122.specs.Sizes.{block_count}
 use Rattle.base_122.specs.declared.wish.DecodeWish.{DecodeWish}
 use Rattle.segment_defs.specs.TextWish.{text_wish}
-use Rattle.picture_rows.specs.Pictures.{picture_state, IsFresh}
+use Rattle.picture_rows.specs.Pictures.{picture_state, IsPictureFresh}
 use Rattle.picture_rows.proofs.RowsOut.{no_rows}
 use Rattle.segment_defs.specs.Reading.{head_in}
 use Rattle.segment_defs.specs.declared.head.SegmentHead.{SegmentHead}
@@ -109,7 +109,7 @@ module _ {X : Type 0} (outside : X → Outside) (wish : DecodeWish) (laws : HasL
     }
 
     pub first_reading : (w : Walk) → w.first ≡ read.head → w.parts ≡ after → w.index ≡ 0 → w.pixels ≡ wish.pixels → wish_in w ≡ text_wish wish →
-        IsFresh (shape_with read.head 262144) (picture_state w.picture) → IsReading outside wish start t w read
+        IsPictureFresh (shape_with read.head 262144) (picture_state w.picture) → IsReading outside wish start t w read
     first_reading w first parts index pixels wished new = record {
       r = r;
       prefix = prefix;

@@ -7,7 +7,7 @@ use Rattle.base_122.specs.declared.geometry.Geometry.{Geometry}
 use Rattle.base_122.specs.declared.setting.Setting.{Setting}
 use Rattle.base_122.specs.declared.wish.DecodeWish.{DecodeWish}
 use Rattle.segment_defs.specs.TextWish.{TextWish, text_wish}
-use Rattle.segment_walk.specs.Images.{texts_for as bare_wish}
+use Rattle.strip_decoder.specs.Images.{texts_for as bare_wish}
 use Rattle.bare_stream.specs.declared.fault.BareFault.{BareFault}
 use Rattle.bare_stream.specs.declared.fault.BareFault.TheVariants.{LongInput, TooManyPixels, Refused}
 use Rattle.bare_stream.specs.Bare.{bare}

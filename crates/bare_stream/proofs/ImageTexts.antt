@@ -17,8 +17,8 @@ use Rattle.segment_defs.specs.TextWish.{TextWish}
 use Rattle.segment_code.specs.Laws.{TextsEndThere}
 use Rattle.stream_defs.specs.Output.{head_for, image_blocks, segment_of, segments_of}
 use Rattle.stream_defs.proofs.ShareLaws.{share_none}
-use Rattle.segment_walk.specs.Images.{SendsAll, texts_for as bare_wish}
-use Rattle.segment_walk.proofs.SpelledImages.{head_fits, spells, length-segment}
+use Rattle.strip_decoder.specs.Images.{SendsAll, texts_for as bare_wish}
+use Rattle.strip_decoder.proofs.SpelledImages.{head_fits, spells, length-segment}
 use Rattle.bare_text.specs.declared.parts.PartsInForce.{PartsInForce}
 use Rattle.bare_text.specs.InForce.{none_in_force, parts_after}
 use Rattle.bare_text.specs.Laws.{BareHeadsUndo, BareHeadsEndThere, BareTextsHold, HoldsText, in_force, bare_head}

@@ -18,7 +18,7 @@ use Rattle.stream_defs.specs.Settled.{rows_through, block_rows_before}
 use Rattle.picture_rows.specs.Prefixes.{rows_of}
 use Rattle.picture_rows.specs.Pictures.{PictureState, picture_state, passed_in, total_in}
 use Rattle.picture_rows.specs.declared.picture.PictureAt.{PictureAt}
-use Rattle.picture_rows.specs.Steps.{StopsEarly, HasEnded as EndsAt}
+use Rattle.picture_rows.specs.Steps.{RowsStop, HasHeight as EndsAt}
 use Rattle.bare_text.specs.Agreement.{blocks_before, height_at}
 use Rattle.bare_text.specs.declared.parts.PartsInForce.{PartsInForce}
 use Rattle.bare_text.specs.declared.read.BareHead.{BareHead}
@@ -189,7 +189,7 @@ module _ (w : Walk) (read : BareHead) (sound : IsSound w) (next : IsNext w read)
             reaches = later;
           }
 
-      pub last_broken : StopsEarly (HasNextBlocks cells read.head.blocks e) (block_rows_before e.geometry (passed_in e + read.head.blocks))
+      pub last_broken : RowsStop (HasNextBlocks cells read.head.blocks e) (block_rows_before e.geometry (passed_in e + read.head.blocks))
           (outside t.port.now) (outside u.port.now) e → DecodesBare wish start (outside u.port.now) (Err WriteFault)
       last_broken broken =
           let rows = rows_broken shape r text held (Some g) at.read.gave cells read.head.blocks e shows last_long some few refl

@@ -14,7 +14,7 @@ use Rattle.wave_defs.specs.Held.{blocks_in}
 use Rattle.segment_defs.specs.declared.head.SegmentHead.{SegmentHead}
 use Rattle.stream_defs.specs.Picture.{number_at}
 use Rattle.picture_rows.specs.Pictures.{picture_state, passed_in, total_in}
-use Rattle.picture_rows.specs.Steps.{StopsEarly}
+use Rattle.picture_rows.specs.Steps.{RowsStop}
 use Rattle.stream_defs.specs.Settled.{block_rows_before}
 use Rattle.bare_text.specs.declared.parts.PartsInForce.{PartsInForce}
 use Rattle.bare_text.specs.declared.read.BareHead.{BareHead}
@@ -197,7 +197,7 @@ module _ (w : Walk) (read : BareHead) (sound : IsSound w) (next : IsNext w read)
               wide some long is room_is);
         }
 
-    pub next_broken : (broken : StopsEarly (HasNextBlocks cells read.head.blocks (picture_state w.picture))
+    pub next_broken : (broken : RowsStop (HasNextBlocks cells read.head.blocks (picture_state w.picture))
         (block_rows_before w.picture.geometry (passed_in (picture_state w.picture) + read.head.blocks)) (outside t.port.now) (outside u.port.now)
         (picture_state w.picture)) →
         DecodesBare wish start (outside u.port.now) (Err WriteFault)

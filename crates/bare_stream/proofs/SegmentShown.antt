@@ -12,14 +12,14 @@ use Rattle.wave_defs.specs.Held.{block_at, blocks_in}
 use Rattle.stream_defs.specs.Settled.{rows_through, block_rows_before}
 use Rattle.picture_rows.specs.Prefixes.{rows_of}
 use Rattle.picture_rows.specs.Pictures.{PictureState, passed_in}
-use Rattle.picture_rows.specs.Steps.{StopsEarly}
+use Rattle.picture_rows.specs.Steps.{RowsStop}
 use Rattle.picture_rows.proofs.RowsOut.{rows_out}
 use Rattle.bare_stream.specs.Pictures.{open_geometry}
 use Rattle.bare_stream.specs.Reads.{SegmentsRead, AreNumbersOf, ShowsRead}
 use Rattle.bare_stream.specs.Blocks.{HasNextBlocks, HasPutBlocks}
 use Rattle.bare_stream.proofs.RowsShown.{number_is}
 use Rattle.bare_stream.proofs.SegmentMore.{with_more}
-use Rattle.segment_walk.proofs.Showing.{block_in, prefix_block}
+use Rattle.strip_decoder.proofs.Showing.{block_in, prefix_block}
 
 -- ---- the blocks of a slice
 
@@ -104,7 +104,7 @@ module _ (g : Geometry) (r : SegmentsRead) (text : List ℕ) (w : List (List ℤ
 
   -- a write failed
   pub rows_broken : {a b : Outside} (numbers : ℕ → ℕ → ℤ) (n : ℕ) → passed_in p + count ≡ n → AreNumbersOf (with_more r text w ended) numbers →
-      (broken : StopsEarly (HasNextBlocks cells count p) (block_rows_before p.geometry (passed_in p + count)) a b p) →
+      (broken : RowsStop (HasNextBlocks cells count p) (block_rows_before p.geometry (passed_in p + count)) a b p) →
       (some : ℕ) × (gave ++ broken.gave ≡ take some (rows_of g numbers (rows_through g (block_rows_before g n))))
   rows_broken numbers n at are broken =
       let there = broken.given numbers (next_blocks numbers are) in (

@@ -4,8 +4,8 @@ use Rattle.port_122.specs.Outside.{Outside}
 use Rattle.wave_defs.specs.Held.{block_at}
 use Rattle.block_families.specs.Places.{AreWeighted}
 use Rattle.stream_defs.specs.Settled.{block_rows_before}
-use Rattle.picture_rows.specs.Pictures.{PictureState, IsCurrent, Represents, passed_in}
-use Rattle.picture_rows.specs.Steps.{Continues, StopsEarly}
+use Rattle.picture_rows.specs.Pictures.{PictureState, IsPictureCurrent, Represents, passed_in}
+use Rattle.picture_rows.specs.Steps.{RowsContinue, RowsStop}
 
 -- the next n blocks have these numbers, 64 each
 pub record HasNextBlocks (cells : List ℤ) (n : ℕ) (p : PictureState) (numbers : ℕ → ℕ → ℤ) : Type 0 where
@@ -18,12 +18,12 @@ pub record AreParts (cells : List ℤ) (n : ℕ) (weights : List ℕ) : Type 0 w
 
 -- the next n blocks were passed, and the rows that they complete are given
 pub record HasPutBlocks (cells : List ℤ) (n : ℕ) (p q : Outside) (old new : PictureState) : Type 0 where
-  pub current : IsCurrent new
+  pub current : IsPictureCurrent new
   pub geometry : new.geometry ≡ old.geometry
   pub count : passed_in new ≡ passed_in old + n
-  pub goes : Continues (HasNextBlocks cells n old) p q old new
+  pub goes : RowsContinue (HasNextBlocks cells n old) p q old new
 
 abbrev pub PutsBlocks : {T E : Type 0} → Result T E → (cells : List ℤ) → (n : ℕ) → (p q : Outside) (old new : PictureState) → Type 0
 PutsBlocks result cells n p q old new = MatchResult result
     (λ _. HasPutBlocks cells n p q old new)
-    (λ _. StopsEarly (HasNextBlocks cells n old) (block_rows_before old.geometry (passed_in old + n)) p q old)
+    (λ _. RowsStop (HasNextBlocks cells n old) (block_rows_before old.geometry (passed_in old + n)) p q old)

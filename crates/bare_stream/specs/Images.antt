@@ -8,7 +8,7 @@ use Rattle.base_122.specs.declared.setting.Setting.{Setting}
 use Rattle.plane_defs.specs.Codes.{is_book_sound}
 use Rattle.stream_defs.specs.Output.{head_for, image_blocks, segment_of, segments_of}
 use Rattle.segment_code.specs.TextAnswers.{gives, Decides}
-use Rattle.segment_walk.specs.Images.{ArePixels, SendsAll, texts_for as bare_wish}
+use Rattle.strip_decoder.specs.Images.{ArePixels, SendsAll, texts_for as bare_wish}
 use Rattle.bit_pipe.specs.declared.fault.Part.{Part}
 use Rattle.bare_text.specs.Laws.{bare_head}
 use Rattle.bare_stream.specs.Bare.{bare, head_before, segment_octets}

@@ -11,7 +11,7 @@ use Rattle.segment_defs.specs.declared.head.SegmentHead.{SegmentHead}
 use Rattle.segment_code.specs.Laws.{TextsEndThere}
 use Rattle.stream_defs.specs.Picture.{number_at}
 use Rattle.picture_rows.specs.Prefixes.{rows_of}
-use Rattle.picture_rows.specs.Pictures.{PictureState, IsCurrent, Represents, passed_in}
+use Rattle.picture_rows.specs.Pictures.{PictureState, IsPictureCurrent, Represents, passed_in}
 use Rattle.bare_text.specs.declared.parts.PartsInForce.{PartsInForce}
 use Rattle.bare_text.specs.Laws.{BareHeadsEndThere}
 use Rattle.bare_stream.specs.declared.input.PortIn.{PortIn}
@@ -96,7 +96,7 @@ pub record AreNumbersOf (r : SegmentsRead) (numbers : ℕ → ℕ → ℤ) : Typ
 
 -- a picture of this geometry has passed the blocks of these segments, and these octets are given
 pub record ShowsRead (g : Geometry) (r : SegmentsRead) (gave : List ℕ) (p : PictureState) : Type 0 where
-  pub current : IsCurrent p
+  pub current : IsPictureCurrent p
   pub geometry : p.geometry ≡ g
   pub passed : passed_in p ≡ first_block r.first.blocks (length r.blocks)
   pub valid : (numbers : ℕ → ℕ → ℤ) → AreNumbersOf r numbers → Represents numbers p

@@ -6,7 +6,7 @@ use Rattle.base_122.specs.declared.setting.Setting.{Setting}
 use Rattle.base_122.specs.declared.wish.DecodeWish.{DecodeWish}
 use Rattle.segment_defs.specs.TextWish.{text_wish}
 use Rattle.raster_rows.specs.Pixels.{raster_octets}
-use Rattle.segment_walk.specs.Images.{SendsAll}
+use Rattle.strip_decoder.specs.Images.{SendsAll}
 use Rattle.bare_stream.specs.declared.fault.BareFault.{BareFault}
 use Rattle.bare_stream.specs.declared.fault.BareFault.TheVariants.{ReadFault, WriteFault, Memory}
 use Rattle.bare_stream.specs.Bare.{bare}

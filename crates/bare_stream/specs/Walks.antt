@@ -12,7 +12,7 @@ use Rattle.bare_text.specs.declared.read.BareHead.{BareHead}
 use Rattle.bare_text.specs.InForce.{parts_after}
 use Rattle.bare_text.specs.Taken.{DecidesHead}
 use Rattle.wave_defs.specs.Held.{blocks_in}
-use Rattle.picture_rows.specs.Pictures.{picture_state, IsCurrent, passed_in}
+use Rattle.picture_rows.specs.Pictures.{picture_state, IsPictureCurrent, passed_in}
 use Rattle.bare_stream.specs.declared.input.PortIn.{PortIn}
 use Rattle.bare_stream.specs.declared.walk.Walk.{Walk}
 use Rattle.bare_stream.specs.Pictures.{geometry_at, shape_with, pixels_at}
@@ -30,7 +30,7 @@ pub record IsSound (w : Walk) : Type 0 where
   pub first : IsHead w.first
   pub ten : length w.first.image.weights.shifts ≡ 10
   pub room : IsRoom w.first.blocks (vec_len w.room.blocks) (vec_len w.room.marks)
-  pub current : IsCurrent (picture_state w.picture)
+  pub current : IsPictureCurrent (picture_state w.picture)
   pub geometry : w.picture.geometry ≡ shape_with w.first 262144
   pub passed : passed_in (picture_state w.picture) ≡ first_block w.first.blocks w.index
   pub left : first_block w.first.blocks w.index < total_blocks w.first.image.width 262144

@@ -1,6 +1,6 @@
 // Puts the blocks of a segment into a picture.
 ghost use Rattle.std.specs.Prelude.{◌≤◌, ◌+◌, ◌*◌, length};
-ghost use Rattle.picture_rows.specs.Pictures.{picture_state, passed_in, total_in, IsCurrent};
+ghost use Rattle.picture_rows.specs.Pictures.{picture_state, passed_in, total_in, IsPictureCurrent};
 ghost use Rattle.bare_stream.specs.Blocks.{AreParts, PutsBlocks};
 
 use picture_rows::{Picture, put_block};
@@ -13,7 +13,7 @@ pub fn put_blocks<X: Port>(
     blocks: &[i32],
     count: usize,
 ) -> Result<(), Failed>
-    requires current { IsCurrent (picture_state picture.old) }
+    requires current { IsPictureCurrent (picture_state picture.old) }
     requires room { passed_in (picture_state picture.old) + count ≤ total_in (picture_state picture.old) }
     requires whole { 64 * count ≤ length blocks.now }
     requires parts { AreParts blocks.now count picture.old.geometry.weights.shifts }

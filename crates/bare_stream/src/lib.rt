@@ -2,7 +2,7 @@
 //! "Bare texts").
 //!
 //! Layer: packets and pictures. It uses `base_122`, `port_122`, `raster_rows`, `item_defs`, `number_defs`, `wave_defs`, `plane_defs` and 11
-//! more. It is used by `strip122` and `bare_tests`.
+//! more. It is used by `strip122` and `port_tests`.
 #![tactic(auto)]
 
 ghost use Rattle.bare_stream.specs.BareStream.{BareStreamsEndThere, BareStreamsStopThere};

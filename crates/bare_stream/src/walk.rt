@@ -11,7 +11,7 @@ ghost use Rattle.bare_stream.specs.Heads.{ExpectsEnd};
 ghost use Rattle.bare_stream.specs.Inputs.{source_of};
 ghost use Rattle.bare_stream.specs.Pictures.{geometry_at, shape_with};
 ghost use Rattle.bare_stream.specs.Reads.{SegmentsRead, InForceAfter};
-ghost use Rattle.picture_rows.specs.Pictures.{picture_state, IsFresh};
+ghost use Rattle.picture_rows.specs.Pictures.{picture_state, IsPictureFresh};
 ghost use Rattle.bare_stream.specs.Walks.{wish_in, IsSound, IsNext, IsAt, IsHeadOf, IsNextText, IsReading, HasEnded};
 ghost use Rattle.bare_stream.specs.Blocks.{AreParts};
 
@@ -55,7 +55,7 @@ impl Walk {
         ensures sound { IfOk result (λ w. IsSound w) }
         ensures begins { IfOk result (λ w. (w.first ≡ first.now) × (w.parts ≡ parts) × (w.index ≡ 0) × (w.pixels ≡ wish.now.pixels) ×
             (wish_in w ≡ text_wish wish.now)) }
-        ensures fresh { IfOk result (λ w. IsFresh (shape_with first.now 262144) (picture_state w.picture)) }
+        ensures fresh { IfOk result (λ w. IsPictureFresh (shape_with first.now 262144) (picture_state w.picture)) }
     {
         let room = Room::new(alloc, first.blocks, wish)?;
         let rows = FieldRange::ROWS.most as u32;

@@ -1,7 +1,7 @@
 //! This crate has the settings of the coder, the wishes of a decoder, code books, the geometry of an image and the weights of its subbands.
 //!
-//! Layer: settings and the outside. It is used by `raster_rows`, `plane_defs`, `segment_defs`, `stream_defs`, `rect_defs`,
-//! `block_families`, `wave_strip` and 32 more.
+//! Layer: settings and the outside. It is used by `raster_rows`, `plane_defs`, `segment_defs`, `stream_defs`, `block_families`,
+//! `wave_strip`, `inverse_strip` and 27 more.
 //!
 //! A setting is made, checked and measured so (`a_setting_is_checked` of `crate_examples`):
 //!

@@ -1,7 +1,7 @@
 //! This crate writes and reads bits over octets, for texts up to a bound (docs/formats.md, "Stops, cut and fill").
 //!
 //! Layer: bits and the parts of a segment. It uses `item_defs`. It is used by `gaggle_codes`, `dc_depths`, `word_codes`, `plane_coder`,
-//! `plane_reader`, `segment_head`, `segment_code` and 12 more.
+//! `plane_reader`, `segment_head`, `segment_code` and 10 more.
 //!
 //! Bits are taken from octets so (`bits_are_taken_from_octets` of `crate_examples`):
 //!

@@ -26,7 +26,7 @@ use Rattle.strip_coder.specs.Plans.{tallest}
 use Rattle.strip_coder.specs.Rasters.{row_length, image_of, settled_octets}
 use Rattle.strip_coder.proofs.PlanLaws.{tall_height, known_tallest}
 use Rattle.strip_coder.proofs.RowsGiven.{same_rows, settled_same, rows_whole}
-use Rattle.camera_defs.specs.Picked.{is_picked, picked_of, picked}
+use Rattle.camera_mux.specs.Picked.{is_picked, picked_of, picked}
 use Rattle.camera_mux.specs.Records.{CameraRow, setting_at, record_at, count_of, raster_of, CanFollow, AreAccepted}
 use Rattle.camera_mux.specs.MuxOut.{settled_by, mux_out}
 use Rattle.camera_mux.specs.MuxProgress.{AreSettings}

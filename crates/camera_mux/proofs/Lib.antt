@@ -10,3 +10,17 @@ pub mod MuxTaken
 pub mod MuxEnds
 pub mod OwnPackets
 pub mod CameraAlone
+pub mod PickedPackets
+pub mod PickedFates
+pub mod OneImage
+pub mod ChainLaws
+pub mod ImageLists
+pub mod EntryLists
+pub mod Passed
+pub mod LineLists
+pub mod ImageBounds
+pub mod ImageRuns
+pub mod ImageEndings
+pub mod PacketReads
+pub mod Completes
+pub mod ImageSizes

@@ -16,7 +16,7 @@ use Rattle.packet_defs.proofs.Prefixes.{if_known-append, version-append}
 use Rattle.packet_defs.proofs.ReadBack.{reads_back}
 use Rattle.stream_defs.specs.Output.{ancillary_of, packets_before, segment_packets, segment_text}
 use Rattle.stream_defs.proofs.OutPackets.{flags_few}
-use Rattle.camera_defs.specs.Picked.{picked_of}
+use Rattle.camera_mux.specs.Picked.{picked_of}
 use Rattle.camera_mux.proofs.LeadingPackets.{packets_from}
 use Rattle.packet_defs.proofs.Equations.{text_packets-is}
 

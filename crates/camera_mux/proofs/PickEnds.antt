@@ -16,9 +16,9 @@ use Rattle.space_packets.proofs.StreamReads.{undecided_none}
 use Rattle.packet_assembly.specs.PacketSteps.{FindsEnd, FindsCap}
 use Rattle.packet_assembly.proofs.PacketSteps.{whole_past, taken_by, read_found}
 use Rattle.packet_assembly.proofs.Readings.{read_within, whole_so, ended_packets, ended_framing, ended_out, long_packets, long_good, long_full}
-use Rattle.camera_defs.specs.Picked.{picked_of, picked}
-use Rattle.packet_list.specs.declared.list.ListFault.{ListFault}
-use Rattle.packet_list.specs.declared.list.ListFault.TheVariants.{ReadFault, WriteFault, LongInput, Memory}
+use Rattle.camera_mux.specs.Picked.{picked_of, picked}
+use Rattle.strip_decoder.specs.declared.list.ListFault.{ListFault}
+use Rattle.strip_decoder.specs.declared.list.ListFault.TheVariants.{ReadFault, WriteFault, LongInput, Memory}
 use Rattle.camera_mux.specs.PickProgress.{HasPicked}
 use Rattle.camera_mux.specs.PickSteps.{FailsToGive, PicksNext}
 use Rattle.camera_mux.specs.PickAnswers.{Picks}

@@ -19,7 +19,7 @@ use Rattle.packet_assembly.specs.Readings.{AsksReadable}
 use Rattle.packet_assembly.specs.PacketSteps.{reading}
 use Rattle.packet_assembly.proofs.PacketSteps.{unread_so, unended_so, whole_so_far, read_more, readable_fed, end_more, read_past, end_past, octets_left}
 use Rattle.packet_assembly.proofs.PacketSteps.{less_left}
-use Rattle.camera_defs.specs.Picked.{is_picked, picked_of, picked}
+use Rattle.camera_mux.specs.Picked.{is_picked, picked_of, picked}
 use Rattle.camera_mux.specs.PickProgress.{AsksPicked, HasPicked}
 use Rattle.camera_mux.specs.PickSteps.{GivesNext, PassesOther}
 

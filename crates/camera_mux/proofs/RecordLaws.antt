@@ -13,7 +13,7 @@ use Rattle.base_122.specs.declared.setting.Setting.{Setting}
 use Rattle.stream_defs.proofs.Outputs.{range_with_len-more}
 use Rattle.camera_mux.specs.Records.{CameraRow, record_at, octets_of, records_of, count_of, raster_of, CanFollow, AreAccepted}
 use Rattle.camera_mux.specs.MuxOut.{settled_by, settled_at, mux_out, of_whole, sum_of}
-use Rattle.packet_list.proofs.LineLaws.{same_parts}
+use Rattle.strip_decoder.proofs.LineLaws.{same_parts}
 
 -- ---- lists
 

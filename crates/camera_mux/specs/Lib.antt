@@ -7,3 +7,12 @@ pub mod RowSteps
 pub mod MuxProgress
 pub mod MuxAnswers
 pub mod MuxLaws
+pub mod Picked
+pub mod PickLaws
+pub mod Images
+pub mod ImageLines
+pub mod Tables
+pub mod Chains
+pub mod ImageSteps
+pub mod InfoAnswers
+pub mod ImageLaws

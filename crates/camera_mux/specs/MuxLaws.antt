@@ -3,7 +3,7 @@ use Rattle.std.specs.Prelude.{◌≡◌, ◌<◌, ℕ, List, length, None}
 use Rattle.base_122.specs.declared.setting.Setting.{Setting}
 use Rattle.stream_defs.specs.Output.{output}
 use Rattle.strip_coder.specs.Rasters.{image_of}
-use Rattle.camera_defs.specs.Picked.{picked}
+use Rattle.camera_mux.specs.Picked.{picked}
 use Rattle.camera_mux.specs.Records.{CameraRow, setting_at, count_of, raster_of, AreAccepted}
 use Rattle.camera_mux.specs.MuxOut.{settled_by, mux_out}
 use Rattle.camera_mux.specs.MuxProgress.{AreSettings}

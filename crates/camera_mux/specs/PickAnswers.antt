@@ -4,10 +4,10 @@ use Rattle.port_122.specs.Outside.{Outside, Exchange, Rose}
 use Rattle.base_122.specs.declared.wish.DecodeWish.{DecodeWish}
 use Rattle.packet_defs.specs.Streams.{whole_packets, left_over, has_bad_version, framing}
 use Rattle.packet_assembly.specs.Readings.{IsReadOut, AsksReadable}
-use Rattle.camera_defs.specs.Picked.{picked_of, picked}
-use Rattle.packet_list.specs.declared.list.ListDone.{ListDone}
-use Rattle.packet_list.specs.declared.list.ListFault.{ListFault}
-use Rattle.packet_list.specs.declared.list.ListFault.TheVariants.{ReadFault, WriteFault, LongInput, Memory}
+use Rattle.camera_mux.specs.Picked.{picked_of, picked}
+use Rattle.strip_decoder.specs.declared.list.ListDone.{ListDone}
+use Rattle.strip_decoder.specs.declared.list.ListFault.{ListFault}
+use Rattle.strip_decoder.specs.declared.list.ListFault.TheVariants.{ReadFault, WriteFault, LongInput, Memory}
 use Rattle.camera_mux.specs.PickProgress.{AsksPicked}
 
 -- What is given is the picked packets of the octets that were taken, and these were read to the end, or can't be read on for this reason.

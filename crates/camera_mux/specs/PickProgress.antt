@@ -6,7 +6,7 @@ use Rattle.packet_defs.specs.Packets.{joined}
 use Rattle.space_packets.specs.Intake.{Intake}
 use Rattle.packet_assembly.specs.Readings.{HasRead, SawEnd, AsksReadable}
 use Rattle.packet_assembly.specs.PacketSteps.{reading}
-use Rattle.camera_defs.specs.Picked.{picked_of, picked}
+use Rattle.camera_mux.specs.Picked.{picked_of, picked}
 
 -- a read call with i octets taken and j given: what is given is the picked packets of those that are whole by then
 abbrev pub AsksPicked : (apid : ℕ) (image : Option ℕ) → (took gave : List ℕ) → ℕ → ℕ → Type 0

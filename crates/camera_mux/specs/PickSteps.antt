@@ -6,9 +6,9 @@ use Rattle.packet_defs.specs.Streams.{begins_packet, first_packet}
 use Rattle.space_packets.specs.Intake.{Intake, answered}
 use Rattle.space_packets.specs.PacketReads.{ReadsPacket, TakenSoFar}
 use Rattle.packet_assembly.specs.PacketSteps.{FindsEnd, FindsCap}
-use Rattle.camera_defs.specs.Picked.{is_picked}
-use Rattle.packet_list.specs.declared.list.ListFault.{ListFault}
-use Rattle.packet_list.specs.declared.list.ListFault.TheVariants.{ReadFault, WriteFault, LongInput, Memory}
+use Rattle.camera_mux.specs.Picked.{is_picked}
+use Rattle.strip_decoder.specs.declared.list.ListFault.{ListFault}
+use Rattle.strip_decoder.specs.declared.list.ListFault.TheVariants.{ReadFault, WriteFault, LongInput, Memory}
 use Rattle.camera_mux.specs.declared.picking.Step.{Step}
 use Rattle.camera_mux.specs.declared.picking.Step.TheVariants.{Given, Passed, Over}
 

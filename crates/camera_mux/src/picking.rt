@@ -1,17 +1,17 @@
 // Picks the packets of one APID, or of one image of it, from a stream.
 ghost use Rattle.std.specs.Prelude.{◌≡◌};
 ghost use Rattle.packet_defs.specs.Streams.{IsPacket};
-ghost use Rattle.camera_defs.specs.Picked.{is_picked};
+ghost use Rattle.camera_mux.specs.Picked.{is_picked};
 ghost use Rattle.camera_mux.specs.PickSteps.{PicksNext};
 ghost use Rattle.camera_mux.specs.PickAnswers.{Picks};
 
 use base_122::DecodeWish;
 use byteorder::{BigEndian, ByteOrder};
 use packet_assembly::{Framing, framing_in};
-use packet_list::{ListDone, ListFault};
 use port_122::{Port, write_all};
 use space_packets::{PacketReader, skip_of};
 use std::alloc::Global;
+use strip_decoder::{ListDone, ListFault};
 
 /// Reads the packets of a stream and writes those with the wish's APID, octet for octet, each before the next read call (docs/formats.md,
 /// "Packets"). If the number of an image is given, it writes only packets of an image with this APID whose ancillary data, of either mark,

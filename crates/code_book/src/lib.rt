@@ -1,7 +1,7 @@
 //! Which code books are sound, and how one is read from a port (docs/formats.md, "Words and codes").
 //!
 //! Layer: bits and the parts of a segment. It uses `base_122`, `port_122`, `item_defs` and `plane_defs`. It is used by `strip122`,
-//! `strip122_c`, `layer_tests` and `bare_tests`.
+//! `strip122_c`, `port_tests` and `layer_tests`.
 #![tactic(auto)]
 
 mod check;

@@ -3,11 +3,11 @@ use Rattle.std.proofs.Common.{◌≡◌, ◌∙◌, ℕ, List, [], ◌++◌, sym
 use Rattle.port_122.specs.Outside.{Outside, Loses, Grows, IsUsedUp}
 use Rattle.base_122.specs.declared.wish.DecodeWish.{DecodeWish}
 use Rattle.packet_defs.specs.Streams.{whole_packets}
-use Rattle.packet_list.specs.declared.list.ListDone.{ListDone}
-use Rattle.packet_list.specs.Lines.{lines_of, listing}
+use Rattle.strip_decoder.specs.declared.list.ListDone.{ListDone}
+use Rattle.strip_decoder.specs.PacketLines.{lines_of, listing}
 use Rattle.packet_assembly.specs.Readings.{IsReadOut}
 use Rattle.packet_assembly.proofs.BadVersions.{bad_stays}
-use Rattle.packet_list.specs.Answers.{Lists}
+use Rattle.strip_decoder.specs.ListAnswers.{Lists}
 
 -- what was taken of these octets, and what is left of them
 left_of : (octets took : List ℕ) (now : Option (List ℕ)) → Loses (Some octets) now took → (rest : List ℕ) × (octets ≡ took ++ rest) × (IsUsedUp now → rest ≡ [])

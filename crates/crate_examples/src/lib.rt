@@ -2,7 +2,7 @@
 //! It is not part of the program.
 //!
 //! Layer: tests and examples, no part of the program. It uses `base_122`, `port_122`, `raster_rows`, `item_defs`, `wave_defs`,
-//! `plane_defs`, `segment_defs` and 10 more.
+//! `plane_defs`, `segment_defs` and 9 more.
 #![tactic(auto)]
 
 mod lists;

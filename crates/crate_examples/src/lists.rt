@@ -1,12 +1,12 @@
 // Lists the packets of some octets.
 ghost use Rattle.std.specs.Prelude.{◌≡◌, ◌≢◌, MatchResult};
-ghost use Rattle.packet_list.specs.Lines.{listing};
-ghost use Rattle.packet_list.specs.declared.list.ListFault.TheVariants.{LongInput};
+ghost use Rattle.strip_decoder.specs.PacketLines.{listing};
+ghost use Rattle.strip_decoder.specs.declared.list.ListFault.TheVariants.{LongInput};
 
 use base_122::DecodeWish;
-use packet_list::{ListFault, list_packets};
 use port_122::MemoryPort;
 use std::alloc::Global;
+use strip_decoder::{ListFault, list_packets};
 
 /// Returns the lines of all packets in these octets, up to what can't be read on. Each error is that there is too little memory, for the
 /// list or for the port.

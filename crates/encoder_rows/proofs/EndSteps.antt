@@ -10,7 +10,7 @@ use Rattle.base_122.specs.Setting.{IsHeight, sized}
 use Rattle.base_122.specs.Sizes.{block_count, total_blocks}
 use Rattle.base_122.specs.declared.setting.Setting.{Setting}
 use Rattle.packet_defs.specs.Packets.{joined}
-use Rattle.segment_walk.specs.Images.{ArePixels}
+use Rattle.strip_decoder.specs.Images.{ArePixels}
 use Rattle.stream_defs.specs.Output.{image_blocks, output, segments_of, reports_last}
 use Rattle.stream_defs.specs.SettledImages.{leading_packets, settled_in}
 use Rattle.stream_defs.proofs.HeightLaws.{images_settle, settled_alike}

@@ -7,7 +7,7 @@ use Rattle.std.proofs.lemmas.Int.{ints}
 use Rattle.std.proofs.lemmas.List.{get_or_past}
 use Rattle.base_122.specs.declared.setting.Setting.{Setting}
 use Rattle.raster_rows.specs.Pixels.{IsPixel, number_at, pixel_at, pixel_size, value_of}
-use Rattle.segment_walk.specs.Images.{ArePixels}
+use Rattle.strip_decoder.specs.Images.{ArePixels}
 use Rattle.strip_coder.specs.Rasters.{row_length, image_of, AreInRange}
 use Rattle.strip_coder.proofs.RowsTakenLaws.{row_pixels}
 

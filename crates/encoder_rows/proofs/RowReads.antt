@@ -10,7 +10,7 @@ use Rattle.raster_rows.specs.Pixels.{IsPixel, pixel_at, pixel_size, whole_pixels
 use Rattle.raster_rows.specs.RowReads.{FirstInRange, IsFirstBad, RowRead}
 use Rattle.raster_rows.specs.declared.reading.RowFault.TheVariants as faults
 use Rattle.raster_rows.proofs.PixelPlaces.{pixel_at-append_left, whole_before, whole_pixels-above}
-use Rattle.segment_walk.proofs.TextReads.{left_after}
+use Rattle.strip_decoder.proofs.TextReads.{left_after}
 use Rattle.strip_coder.specs.Rasters.{row_length}
 use Rattle.strip_coder.proofs.RowArrives.{row_holds}
 use Rattle.encoder_rows.specs.Rows.{ShowsRow}

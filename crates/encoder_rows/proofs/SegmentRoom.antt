@@ -11,8 +11,8 @@ use Rattle.base_122.specs.declared.setting.Setting.{Setting}
 use Rattle.base_122.proofs.GeometryRanges.{in_range-sized}
 use Rattle.packet_defs.specs.Packets.{joined}
 use Rattle.segment_code.proofs.CodedChoices.{words_are}
-use Rattle.segment_walk.specs.Images.{ArePixels}
-use Rattle.segment_walk.proofs.SpelledImages.{head_fits, spells}
+use Rattle.strip_decoder.specs.Images.{ArePixels}
+use Rattle.strip_decoder.proofs.SpelledImages.{head_fits, spells}
 use Rattle.stream_defs.specs.Output.{head_for, image_blocks, output, packets_of, segment_of, segment_text, segments_of, reports_last, used_before}
 use Rattle.stream_defs.proofs.Outputs.{packets_of-none}
 use Rattle.stream_defs.proofs.SettledLaws.{rows_rise}

@@ -8,7 +8,7 @@ use Rattle.base_122.specs.declared.setting.Setting.{Setting}
 use Rattle.packet_defs.specs.Packets.{joined}
 use Rattle.plane_defs.specs.Codes.{is_book_sound}
 use Rattle.raster_rows.specs.Pixels.{pixel_at}
-use Rattle.segment_walk.specs.Images.{ArePixels}
+use Rattle.strip_decoder.specs.Images.{ArePixels}
 use Rattle.stream_defs.specs.Output.{output}
 use Rattle.stream_defs.specs.SettledImages.{leading_packets}
 use Rattle.strip_coder.specs.Plans.{MoreMayArrive, plan_of, tallest}

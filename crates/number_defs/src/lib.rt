@@ -3,7 +3,7 @@
 //! depths").
 //!
 //! Layer: definitions and their laws, no code. It uses `item_defs`. It is used by `segment_defs`, `gaggle_codes`, `dc_depths`,
-//! `segment_code`, `segment_walk`, `encoder_rows`, `bare_stream` and `layer_tests`.
+//! `segment_code`, `strip_decoder`, `encoder_rows`, `bare_stream` and `layer_tests`.
 #![tactic(auto)]
 
 mod scripts;

@@ -1,8 +1,8 @@
 //! The fate of each packet of a stream, and the texts of the segments that the kept ones carry. The rules are in docs/formats.md, "Fates".
 //!
 //! Layer: packets and pictures. It uses `base_122`, `port_122`, `segment_defs`, `packet_defs`, `stream_defs`, `bit_pipe`, `segment_head`
-//! and `space_packets`. It is used by `segment_walk`, `strip_decoder`, `quick_look`, `damage_rects`, `packet_list`, `image_info`,
-//! `camera_mux` and 4 more.
+//! and `space_packets`. It is used by `strip_decoder`, `quick_look`, `camera_mux`, `strip122`, `strip122_c`, `port_tests` and
+//! `crate_examples`.
 //!
 //! A segment is found, and its text is taken after its header, so (`the_text_of_a_segment_is_assembled` of `crate_examples`):
 //!

@@ -1,7 +1,7 @@
 //! The definitions of packets: their octets, and how a stream of octets is read as packets.
 //!
-//! Layer: definitions and their laws, no code. It is used by `stream_defs`, `camera_defs`, `space_packets`, `packet_assembly`,
-//! `strip_coder`, `segment_walk`, `encoder_rows` and 10 more.
+//! Layer: definitions and their laws, no code. It is used by `stream_defs`, `space_packets`, `packet_assembly`, `strip_coder`,
+//! `strip_decoder`, `encoder_rows`, `quick_look` and 5 more.
 #![tactic(auto)]
 
 ghost use Rattle.packet_defs.specs.Laws.{PacketsReadBack, StreamsSplit};

@@ -18,8 +18,8 @@ use Rattle.inverse_strip.specs.Strip.{columns_of, height_of, taken_of, next_of, 
 use Rattle.inverse_strip.proofs.NextLemmas.{IsNext-blocks}
 use Rattle.picture_rows.specs.declared.picture.PictureAt.{PictureAt}
 use Rattle.picture_rows.specs.Prefixes.{bands_of, rows_of}
-use Rattle.picture_rows.specs.Pictures.{PictureState, IsSized, IsCurrent, Represents, HasRoom, passed_in}
-use Rattle.picture_rows.specs.Steps.{Continues, StopsEarly, Represented, HasNone, HasNextSet, HasNextNumbers, HasPassed, PassesBlock, GivesRows}
+use Rattle.picture_rows.specs.Pictures.{PictureState, IsSized, IsPictureCurrent, Represents, HasRoom, passed_in}
+use Rattle.picture_rows.specs.Steps.{RowsContinue, RowsStop, Represented, HasNone, HasNextSet, HasNextNumbers, HasPutBlock, PassesBlock, GivesRows}
 use Rattle.picture_rows.proofs.BandBlocks.{part_is, zero_is}
 use Rattle.stream_defs.proofs.BandPlaces.{coefficient_with}
 use Rattle.picture_rows.proofs.RowGives.{completes_before, goes_then, breaks_then}
@@ -49,8 +49,8 @@ pub columns_end : (g : Geometry) (n : ℕ) → n ≡ padded_size g.width → {k 
 columns_end g n e le = omega (arith, e, le)
 
 -- within its block row
-pub column_passed : (p : PictureState) (a : Outside) → IsCurrent p → HasRoom p → p.at.column + 1 < block_count p.geometry.width →
-    HasPassed (HasNextSet p) a a p (at_column p (p.at.column + 1))
+pub column_passed : (p : PictureState) (a : Outside) → IsPictureCurrent p → HasRoom p → p.at.column + 1 < block_count p.geometry.width →
+    HasPutBlock (HasNextSet p) a a p (at_column p (p.at.column + 1))
 column_passed p a current room lt =
     let sized = current.sized in
     let inside = row_there p sized room in
@@ -95,7 +95,7 @@ pub record RowTaken (s t : StripInverse) : Type 0 where
 abbrev pub past_row : PictureState → StripInverse → PictureState
 past_row p strip = record p { strip = strip; at = record p.at { column = 0; row = p.at.row + 1 } }
 
-module _ (p : PictureState) (t : StripInverse) (current : IsCurrent p) (room : HasRoom p) (last : block_count p.geometry.width ≤ p.at.column + 1)
+module _ (p : PictureState) (t : StripInverse) (current : IsPictureCurrent p) (room : HasRoom p) (last : block_count p.geometry.width ≤ p.at.column + 1)
     (pushed : RowTaken p.strip t) where
   full : p.at.column + 1 ≡ block_count p.geometry.width
   full = let column = current.sized.column in omega (arith, column, last)
@@ -120,7 +120,7 @@ module _ (p : PictureState) (t : StripInverse) (current : IsCurrent p) (room : H
         unset = λ column i le lt small. pushed.zero _;
       }
 
-  row_goes : (a : Outside) → Continues (HasNextSet p) a a p (past_row p t)
+  row_goes : (a : Outside) → RowsContinue (HasNextSet p) a a p (past_row p t)
   row_goes a = record {
     gave = [];
     out = since_start a NoRead;
@@ -129,7 +129,7 @@ module _ (p : PictureState) (t : StripInverse) (current : IsCurrent p) (room : H
   }
 
   -- and the rows were given that its block row determines
-  pub row_passed : (a b : Outside) (z : PictureState) → HasNone a b (past_row p t) z → HasPassed (HasNextSet p) a b p z
+  pub row_passed : (a b : Outside) (z : PictureState) → HasNone a b (past_row p t) z → HasPutBlock (HasNextSet p) a b p z
   row_passed a b z rows =
       let same = rows.same in
       let geometry = same.geometry in
@@ -153,9 +153,9 @@ module _ (p : PictureState) (t : StripInverse) (current : IsCurrent p) (room : H
       let column = current.sized.column in
       sym (div-mul-add (p.at.row + 1) c 0 (omega (arith, column))) ∙ ap (λ n. n / c) count
 
-  pub row_broke : (a b : Outside) → StopsEarly (Represented (past_row p t)) (p.at.row + 1) a b (past_row p t) →
-      StopsEarly (HasNextSet p) (block_rows_before p.geometry (passed_in p + 1)) a b p
-  row_broke a b broken = subst (λ r. StopsEarly (HasNextSet p) r a b p) rows_whole (breaks_then refl (λ numbers before valid. valid) (row_goes a) broken)
+  pub row_broke : (a b : Outside) → RowsStop (Represented (past_row p t)) (p.at.row + 1) a b (past_row p t) →
+      RowsStop (HasNextSet p) (block_rows_before p.geometry (passed_in p + 1)) a b p
+  row_broke a b broken = subst (λ r. RowsStop (HasNextSet p) r a b p) rows_whole (breaks_then refl (λ numbers before valid. valid) (row_goes a) broken)
 
   pub rows_passed : {T E : Type 0} (r : Result T E) (a b : Outside) (z : PictureState) → GivesRows r a b (past_row p t) z → PassesBlock r (HasNextSet p) a b p z
   rows_passed (Ok x) a b z rows = row_passed a b z rows
@@ -199,7 +199,7 @@ passes_set {B = B} {C = C} (Err e) p q z a b same at f broken = record {
 -- ---- a lost block
 
 -- a block whose numbers are 0 was set
-pub zero_set : (p : PictureState) → IsCurrent p → (numbers : ℕ → ℕ → ℤ) → HasNextNumbers [] p numbers → HasNextSet p numbers
+pub zero_set : (p : PictureState) → IsPictureCurrent p → (numbers : ℕ → ℕ → ℤ) → HasNextNumbers [] p numbers → HasNextSet p numbers
 zero_set p current numbers lost =
     let g = p.geometry in
     let valid = lost.valid in
@@ -218,7 +218,7 @@ zero_set p current numbers lost =
       unset = λ column i le lt small. valid.unset column i (omega (arith, le)) lt small;
     }
 
-pub block_loses : {T E : Type 0} (r : Result T E) (p z : PictureState) (a b : Outside) → IsCurrent p → PassesBlock r (HasNextSet p) a b p z →
+pub block_loses : {T E : Type 0} (r : Result T E) (p z : PictureState) (a b : Outside) → IsPictureCurrent p → PassesBlock r (HasNextSet p) a b p z →
     PassesBlock r (HasNextNumbers [] p) a b p z
 block_loses r p z a b current passed = passes_set r p p z a b refl refl (zero_set p current) passed
 
@@ -244,7 +244,7 @@ apart c d i j hi hj same =
 abbrev pub with_strip : PictureState → StripInverse → PictureState
 with_strip p strip = record p { strip = strip }
 
-module _ (p : PictureState) (t : StripInverse) (xs : List ℤ) (current : IsCurrent p) (room : HasRoom p) (keeps : Keeps p.strip t)
+module _ (p : PictureState) (t : StripInverse) (xs : List ℤ) (current : IsPictureCurrent p) (room : HasRoom p) (keeps : Keeps p.strip t)
     (scattered : Scatters (numbers_of p.strip) (numbers_of t) p.geometry.weights.shifts p.at.column xs) where
   -- another block has the numbers that it had
   stays : (column i : ℕ) → i < 64 → (column ≡ p.at.column → ⊥) → numbers_of t (place_in column i) ≡ numbers_of p.strip (place_in column i)

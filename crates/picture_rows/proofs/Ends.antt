@@ -8,8 +8,8 @@ use Rattle.wave_defs.specs.Blocks.{Place}
 use Rattle.inverse_strip.specs.declared.strip.StripInverse.{StripInverse}
 use Rattle.inverse_strip.specs.Kept.{IsCompletion}
 use Rattle.inverse_strip.specs.Strip.{columns_of, height_of, taken_of, next_of, numbers_of, FollowStrip}
-use Rattle.picture_rows.specs.Pictures.{PictureState, IsSized, IsCurrent, passed_in}
-use Rattle.picture_rows.specs.Steps.{HasEnded}
+use Rattle.picture_rows.specs.Pictures.{PictureState, IsSized, IsPictureCurrent, passed_in}
+use Rattle.picture_rows.specs.Steps.{HasHeight}
 use Rattle.picture_rows.proofs.Heights.{rows_of_shorter}
 
 -- a strip has this number of rows now, and all else is unchanged
@@ -36,7 +36,8 @@ row_before p rows room = elim (cases_lt p.at.row (block_count rows)) [
       omega (arith, all, turned, room))
 ]
 
-module _ (p : PictureState) (rows padded : ℕ) (t : StripInverse) (current : IsCurrent p) (range : IsWithin rows_range rows) (fewer : rows ≤ p.geometry.rows)
+module _ (p : PictureState) (rows padded : ℕ) (t : StripInverse) (current : IsPictureCurrent p) (range : IsWithin rows_range rows)
+    (fewer : rows ≤ p.geometry.rows)
     (more : passed_in p < total_blocks p.geometry.width rows) (whole : padded ≡ padded_size rows) (strip : StripEnded padded p.strip t) where
   open_row : p.at.row < block_count rows
   open_row = row_before p rows more
@@ -76,7 +77,7 @@ module _ (p : PictureState) (rows padded : ℕ) (t : StripInverse) (current : Is
       let least = is.more in
       record { more = omega (arith, least, strip.taken); whole = λ e. absurd (omega (arith, e, sized.taken, sized.height, open_before)) }
 
-  pub has_ended : HasEnded rows p (ended p rows t)
+  pub has_ended : HasHeight rows p (ended p rows t)
   has_ended = record {
     current = record { sized = sized_end; next_settled = λ lt. current.next_settled open_before; all_made = λ e. absurd (omega (arith, e, open_row)) };
     geometry = refl;

@@ -26,7 +26,7 @@ use Rattle.inverse_strip.specs.Kept.{IsCompletion, HasNext, IsIdle}
 use Rattle.picture_rows.specs.Prefixes.{bands_of, rows_of}
 use Rattle.picture_rows.specs.Pictures.{PictureState, IsSized, RepresentsTo, Represents}
 use Rattle.raster_rows.specs.Gathered.{Adds, GivesPart}
-use Rattle.picture_rows.specs.Steps.{Continues, StopsEarly, Represented, SameBut, HasGathered, HasNoneLeft, StopsInRow, GivesRow, GivesRows}
+use Rattle.picture_rows.specs.Steps.{RowsContinue, RowsStop, Represented, SameBut, HasGatheredRow, HasNoneLeft, StopsInRow, GivesRow, GivesRows}
 
 -- ---- the first rows as octets
 
@@ -205,7 +205,7 @@ module _ (p : PictureState) (t : StripInverse) (sized : IsSized p) (made : RowMa
   -- a row of the picture was added
   pub row_added : length (row_of t) ≡ 8 * columns_of t → (a b : Outside) (before after : List ℕ) → p.at.next < p.geometry.rows →
       Adds a b before after (pixel_octets p.geometry.depth (map (clamped p.geometry.depth p.geometry.signed) (take p.geometry.width (row_of t)))) →
-      HasGathered a b before after p (stepped p t (p.at.next + 1))
+      HasGatheredRow a b before after p (stepped p t (p.at.next + 1))
   row_added long a b before after lt adds = record {
     sized = sized_next;
     same = same_but p t (p.at.next + 1);
@@ -221,7 +221,7 @@ module _ (p : PictureState) (t : StripInverse) (sized : IsSized p) (made : RowMa
   }
 
   -- a padding row of the picture wasn't
-  pub row_made : (a : Outside) (before : List ℕ) → p.geometry.rows ≤ p.at.next → HasGathered a a before before p (stepped p t (p.at.next + 1))
+  pub row_made : (a : Outside) (before : List ℕ) → p.geometry.rows ≤ p.at.next → HasGatheredRow a a before before p (stepped p t (p.at.next + 1))
   row_made a before le = record {
     sized = sized_next;
     same = same_but p t (p.at.next + 1);
@@ -258,7 +258,7 @@ row_failed after q (Ok x) is broken = absurd (false≢true is)
 row_failed after q (Err e) is broken = broken
 
 pub rows_failed : {T E : Type 0} {a b : Outside} {p : PictureState} (q : PictureState) (r : Result T E) → IsErr r →
-    StopsEarly (Represented p) p.at.row a b p → GivesRows r a b p q
+    RowsStop (Represented p) p.at.row a b p → GivesRows r a b p q
 rows_failed q (Ok x) is broken = absurd (false≢true is)
 rows_failed q (Err e) is broken = broken
 
@@ -287,7 +287,7 @@ row_none p t sized none = record {
 -- the rows are continued by rows, and then by more of them
 pub goes_then : {B C : (ℕ → ℕ → ℤ) → Type 0} {a b c : Outside} {x y z : PictureState} → y.geometry ≡ x.geometry →
     ((numbers : ℕ → ℕ → ℤ) → B numbers → Represents numbers y → C numbers) →
-    Continues B a b x y → Continues C b c y z → Continues B a c x z
+    RowsContinue B a b x y → RowsContinue C b c y z → RowsContinue B a c x z
 goes_then {B = B} {C = C} {a = a} {b = b} {c = c} {x = x} {y = y} {z = z} same f u v = record {
   gave = u.gave ++ v.gave;
   out = since_out u.out v.out;
@@ -302,7 +302,7 @@ goes_then {B = B} {C = C} {a = a} {b = b} {c = c} {x = x} {y = y} {z = z} same f
 -- the rows are continued by rows, and then a write fails
 pub breaks_then : {B C : (ℕ → ℕ → ℤ) → Type 0} {r : ℕ} {a b c : Outside} {x y : PictureState} → y.geometry ≡ x.geometry →
     ((numbers : ℕ → ℕ → ℤ) → B numbers → Represents numbers y → C numbers) →
-    Continues B a b x y → StopsEarly C r b c y → StopsEarly B r a c x
+    RowsContinue B a b x y → RowsStop C r b c y → RowsStop B r a c x
 breaks_then {B = B} {C = C} {r = r} {a = a} {b = b} {c = c} {x = x} {y = y} same f u v = record {
   gave = u.gave ++ v.gave;
   out = since_out u.out v.out;

@@ -11,7 +11,7 @@ use Rattle.raster_rows.specs.Gathered.{depth_of, is_signed, width_of, Adds, Give
 use Rattle.stream_defs.specs.Settled.{rows_through}
 use Rattle.picture_rows.specs.Prefixes.{rows_of}
 use Rattle.picture_rows.specs.Pictures.{PictureState, IsSized}
-use Rattle.picture_rows.specs.Steps.{StopsEarly, Represented, HasGathered, HasGatheredSome, HasNoneLeft, StopsInRow, GivesRows, IsFor}
+use Rattle.picture_rows.specs.Steps.{RowsStop, Represented, HasGatheredRow, HasGatheredSome, HasNoneLeft, StopsInRow, GivesRows, IsFor}
 use Rattle.picture_rows.proofs.RowGives.{prefix-part, same_then}
 use Rattle.picture_rows.proofs.RowsOut.{next_rows}
 
@@ -25,7 +25,7 @@ form_of g rows row form =
     ∙ ap (λ w. pixel_octets g.depth (map (clamped g.depth g.signed) (take w row))) form.width
 
 -- each row leaves fewer
-pub row_less : {a b : Outside} {v w : List ℕ} {x y : PictureState} → HasGathered a b v w x y → 8 * y.at.row - y.at.next < 8 * x.at.row - x.at.next
+pub row_less : {a b : Outside} {v w : List ℕ} {x y : PictureState} → HasGatheredRow a b v w x y → 8 * y.at.row - y.at.next < 8 * x.at.row - x.at.next
 row_less given =
     let next = given.next in
     let row = given.same.row in
@@ -53,7 +53,7 @@ adds_then {u = u} {v = v} {w = w} {x = x} {y = y} p q = record {
 }
 
 -- one row more
-pub gathered_then : {a b c : Outside} {v w : List ℕ} {x y z : PictureState} → HasGatheredSome a b v x y → HasGathered b c v w y z → HasGatheredSome a c w x z
+pub gathered_then : {a b c : Outside} {v w : List ℕ} {x y z : PictureState} → HasGatheredSome a b v x y → HasGatheredRow b c v w y z → HasGatheredSome a c w x z
 gathered_then {x = x} {y = y} {z = z} u v = record {
   sized = v.sized;
   same = same_then u.same v.same;
@@ -74,7 +74,7 @@ gathered_then {x = x} {y = y} {z = z} u v = record {
 broken_of : {a b c : Outside} {w : List ℕ} {x y : PictureState} (more : List ℕ) → HasGatheredSome a b w x y → GivesPart b c (w ++ more) →
     ((numbers : ℕ → ℕ → ℤ) → Represented y numbers → (rest : List ℕ) × (rows_of y.geometry numbers (rows_through y.geometry y.at.row) ≡ rows_of y.geometry
     numbers y.at.next ++ (more ++ rest))) →
-    StopsEarly (Represented x) x.at.row a c x
+    RowsStop (Represented x) x.at.row a c x
 broken_of {w = w} {x = x} {y = y} more u part goes =
     let gave = u.goes.adds.gave in
     let octets = u.goes.octets in
@@ -102,7 +102,7 @@ broken_of {w = w} {x = x} {y = y} more u part goes =
 
 -- a row could not be added
 pub gathered_broken : {a b c : Outside} {w : List ℕ} {x y : PictureState} → HasGatheredSome a b w x y → StopsInRow (Represented y) y.at.row b c w y →
-    StopsEarly (Represented x) x.at.row a c x
+    RowsStop (Represented x) x.at.row a c x
 gathered_broken u v = broken_of v.octets u v.gives v.given
 
 -- what waited was given, or a prefix of it

@@ -11,7 +11,7 @@ use Rattle.stream_defs.specs.Picture.{whole_with}
 use Rattle.stream_defs.specs.Settled.{rows_through, block_rows_before}
 use Rattle.stream_defs.proofs.SettledLaws.{rows_rise}
 use Rattle.picture_rows.specs.Prefixes.{rows_of}
-use Rattle.picture_rows.specs.Pictures.{PictureState, IsCurrent, passed_in}
+use Rattle.picture_rows.specs.Pictures.{PictureState, IsPictureCurrent, passed_in}
 use Rattle.picture_rows.proofs.RowGives.{prefix-begins}
 
 -- padding rows of the picture give nothing
@@ -65,12 +65,12 @@ rows_through-rises g m n wide less le = through-rises g.rows (block_rows_before 
     (rows_before-most g n wide le)
 
 -- a picture that has passed some blocks has passed their whole block rows
-row_is : (p : PictureState) (n : ℕ) → IsCurrent p → passed_in p ≡ n → block_rows_before p.geometry n ≡ p.at.row
+row_is : (p : PictureState) (n : ℕ) → IsPictureCurrent p → passed_in p ≡ n → block_rows_before p.geometry n ≡ p.at.row
 row_is p n current passed =
     sym (ap (λ m. m / block_count p.geometry.width) passed) ∙ div-mul-add p.at.row (block_count p.geometry.width) p.at.column current.sized.column
 
 -- and has given exactly the rows that these determine
-pub next_rows : (p : PictureState) (numbers : ℕ → ℕ → ℤ) → IsCurrent p → rows_of p.geometry numbers p.at.next ≡ rows_of p.geometry numbers
+pub next_rows : (p : PictureState) (numbers : ℕ → ℕ → ℤ) → IsPictureCurrent p → rows_of p.geometry numbers p.at.next ≡ rows_of p.geometry numbers
     (rows_through p.geometry p.at.row)
 next_rows p numbers current = by (p.at.row == block_count p.geometry.rows) refl
   where
@@ -87,7 +87,7 @@ next_rows p numbers current = by (p.at.row == block_count p.geometry.rows) refl
         ap (rows_of p.geometry numbers) (current.next_settled (omega (arith, other, current.sized.rows)))
 
 -- what is given after n blocks
-pub rows_out : (p : PictureState) (g : Geometry) (n : ℕ) (numbers : ℕ → ℕ → ℤ) (gave : List ℕ) → IsCurrent p → p.geometry ≡ g → passed_in p ≡ n →
+pub rows_out : (p : PictureState) (g : Geometry) (n : ℕ) (numbers : ℕ → ℕ → ℤ) (gave : List ℕ) → IsPictureCurrent p → p.geometry ≡ g → passed_in p ≡ n →
     gave ≡ rows_of g numbers p.at.next →
     gave ≡ rows_of g numbers (rows_through g (block_rows_before g n))
 rows_out p g n numbers gave current same passed is =

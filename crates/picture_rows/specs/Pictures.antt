@@ -51,7 +51,7 @@ pub record IsSized (p : PictureState) : Type 0 where
   pub next_most : p.at.row < block_count p.geometry.rows → p.at.next ≤ 8 * p.at.row - 21
 
 -- Exactly the rows were made that the r block rows so far determine: the first 8 * r - 21, or all if these are all block rows.
-pub record IsCurrent (p : PictureState) : Type 0 where
+pub record IsPictureCurrent (p : PictureState) : Type 0 where
   pub sized : IsSized p
   pub next_settled : p.at.row < block_count p.geometry.rows → p.at.next ≡ 8 * p.at.row - 21
   pub all_made : p.at.row ≡ block_count p.geometry.rows → p.at.next ≡ 8 * p.at.row
@@ -72,9 +72,9 @@ abbrev pub Represents : (ℕ → ℕ → ℤ) → PictureState → Type 0
 Represents numbers p = RepresentsTo p.at.column numbers p
 
 -- no block was taken yet of a picture of this geometry
-pub record IsFresh (g : Geometry) (p : PictureState) : Type 0 where
+pub record IsPictureFresh (g : Geometry) (p : PictureState) : Type 0 where
   pub geometry : p.geometry ≡ g
-  pub current : IsCurrent p
+  pub current : IsPictureCurrent p
   pub row : p.at.row ≡ 0
   pub column : p.at.column ≡ 0
   pub next : p.at.next ≡ 0

@@ -8,20 +8,20 @@ use Rattle.raster_rows.specs.declared.gathered.GatheredRows.{GatheredRows}
 use Rattle.stream_defs.specs.Settled.{rows_through, block_rows_before}
 use Rattle.inverse_strip.specs.Kept.{HasNext}
 use Rattle.picture_rows.specs.Prefixes.{rows_of}
-use Rattle.picture_rows.specs.Pictures.{PictureState, IsSized, IsCurrent, RepresentsTo, Represents, passed_in}
+use Rattle.picture_rows.specs.Pictures.{PictureState, IsSized, IsPictureCurrent, RepresentsTo, Represents, passed_in}
 
 -- ---- rows
 
 -- Some rows were given: for all blocks such that this was so before, the picture represents them, and what was given continues the first
 -- rows of their picture to more of them.
-pub record Continues (Before : (ℕ → ℕ → ℤ) → Type 0) (p q : Outside) (old new : PictureState) : Type 0 where
+pub record RowsContinue (Before : (ℕ → ℕ → ℤ) → Type 0) (p q : Outside) (old new : PictureState) : Type 0 where
   pub gave : List ℕ
   pub out : Exchange p q [] gave [] NoRead
   pub follows : (numbers : ℕ → ℕ → ℤ) → Before numbers → Represents numbers new
   pub given : (numbers : ℕ → ℕ → ℤ) → Before numbers → rows_of old.geometry numbers old.at.next ++ gave ≡ rows_of old.geometry numbers new.at.next
 
 -- a write failed meanwhile, and a prefix is given of the rows of the picture that r whole block rows determine
-pub record StopsEarly (Before : (ℕ → ℕ → ℤ) → Type 0) (r : ℕ) (p q : Outside) (old : PictureState) : Type 0 where
+pub record RowsStop (Before : (ℕ → ℕ → ℤ) → Type 0) (r : ℕ) (p q : Outside) (old : PictureState) : Type 0 where
   pub gave : List ℕ
   pub out : Exchange p q [] gave [] NoRead
   pub rose : Rose p.write_faults q.write_faults
@@ -39,7 +39,7 @@ pub record SameBut (old new : PictureState) : Type 0 where
 
 -- Some rows were made, and their octets were added to those that waited: for all blocks such that this was so before, the picture
 -- represents them, and the octets continue the first rows of their picture to more of them.
-pub record Gathers (Before : (ℕ → ℕ → ℤ) → Type 0) (p q : Outside) (before after : List ℕ) (old new : PictureState) : Type 0 where
+pub record GathersRows (Before : (ℕ → ℕ → ℤ) → Type 0) (p q : Outside) (before after : List ℕ) (old new : PictureState) : Type 0 where
   pub octets : List ℕ
   pub adds : Adds p q before after octets
   pub follows : (numbers : ℕ → ℕ → ℤ) → Before numbers → Represents numbers new
@@ -52,16 +52,16 @@ pub record IsFor (g : Geometry) (rows : GatheredRows) : Type 0 where
   pub width : width_of rows ≡ g.width
 
 -- the next row was made
-pub record HasGathered (p q : Outside) (before after : List ℕ) (old new : PictureState) : Type 0 where
+pub record HasGatheredRow (p q : Outside) (before after : List ℕ) (old new : PictureState) : Type 0 where
   pub sized : IsSized new
   pub same : SameBut old new
   pub could : HasNext old.at.row old.at.next (block_count old.geometry.rows)
   pub next : new.at.next ≡ old.at.next + 1
-  pub goes : Gathers (Represented old) p q before after old new
+  pub goes : GathersRows (Represented old) p q before after old new
 
 -- none is left to make before the next block row
 pub record HasNoneLeft (old new : PictureState) : Type 0 where
-  pub current : IsCurrent new
+  pub current : IsPictureCurrent new
   pub same : SameBut old new
   pub next : new.at.next ≡ old.at.next
   pub follows : (numbers : ℕ → ℕ → ℤ) → Represents numbers old → Represents numbers new
@@ -74,7 +74,7 @@ pub record StopsInRow (Before : (ℕ → ℕ → ℤ) → Type 0) (r : ℕ) (p q
       (more : List ℕ) × (rows_of old.geometry numbers (rows_through old.geometry r) ≡ rows_of old.geometry numbers old.at.next ++ (octets ++ more))
 
 abbrev pub GivesRow : {E : Type 0} → Result Bool E → (p q : Outside) (before after : List ℕ) (old new : PictureState) → Type 0
-GivesRow (Ok true) p q before after old new = HasGathered p q before after old new
+GivesRow (Ok true) p q before after old new = HasGatheredRow p q before after old new
 GivesRow (Ok false) p q before after old new = (q ≡ p) × (after ≡ before) × HasNoneLeft old new
 GivesRow (Err e) p q before after old new = StopsInRow (Represented old) old.at.row p q before old
 
@@ -82,16 +82,16 @@ GivesRow (Err e) p q before after old new = StopsInRow (Represented old) old.at.
 pub record HasGatheredSome (p q : Outside) (waiting : List ℕ) (old new : PictureState) : Type 0 where
   pub sized : IsSized new
   pub same : SameBut old new
-  pub goes : Gathers (Represented old) p q [] waiting old new
+  pub goes : GathersRows (Represented old) p q [] waiting old new
 
 -- all rows were given that can be made before the next block row
 pub record HasNone (p q : Outside) (old new : PictureState) : Type 0 where
-  pub current : IsCurrent new
+  pub current : IsPictureCurrent new
   pub same : SameBut old new
-  pub goes : Continues (Represented old) p q old new
+  pub goes : RowsContinue (Represented old) p q old new
 
 abbrev pub GivesRows : {T E : Type 0} → Result T E → (p q : Outside) (old new : PictureState) → Type 0
-GivesRows result p q old new = MatchResult result (λ _. HasNone p q old new) (λ _. StopsEarly (Represented old) old.at.row p q old)
+GivesRows result p q old new = MatchResult result (λ _. HasNone p q old new) (λ _. RowsStop (Represented old) old.at.row p q old)
 
 -- ---- blocks
 
@@ -105,22 +105,22 @@ pub record HasNextNumbers (xs : List ℤ) (p : PictureState) (numbers : ℕ → 
   pub next : (i : ℕ) → i < 64 → numbers (passed_in p) i ≡ slice_index_or xs i (pos 0)
 
 -- the next block was passed, and the rows that it completes were given
-pub record HasPassed (Before : (ℕ → ℕ → ℤ) → Type 0) (p q : Outside) (old new : PictureState) : Type 0 where
-  pub current : IsCurrent new
+pub record HasPutBlock (Before : (ℕ → ℕ → ℤ) → Type 0) (p q : Outside) (old new : PictureState) : Type 0 where
+  pub current : IsPictureCurrent new
   pub geometry : new.geometry ≡ old.geometry
   pub count : passed_in new ≡ passed_in old + 1
-  pub goes : Continues Before p q old new
+  pub goes : RowsContinue Before p q old new
 
 abbrev pub PassesBlock : {T E : Type 0} → Result T E → ((ℕ → ℕ → ℤ) → Type 0) → (p q : Outside) (old new : PictureState) → Type 0
-PassesBlock result Before p q old new = MatchResult result (λ _. HasPassed Before p q old new)
-    (λ _. StopsEarly Before (block_rows_before old.geometry (passed_in old + 1)) p q old)
+PassesBlock result Before p q old new = MatchResult result (λ _. HasPutBlock Before p q old new)
+    (λ _. RowsStop Before (block_rows_before old.geometry (passed_in old + 1)) p q old)
 
 -- ---- the height
 
 -- The image has this number of rows now, and all else is unchanged: the rows that were given are the first ones of the image of either
 -- height.
-pub record HasEnded (rows : ℕ) (old new : PictureState) : Type 0 where
-  pub current : IsCurrent new
+pub record HasHeight (rows : ℕ) (old new : PictureState) : Type 0 where
+  pub current : IsPictureCurrent new
   pub geometry : new.geometry ≡ record old.geometry { rows = rows }
   pub at : new.at ≡ old.at
   pub follows : (numbers : ℕ → ℕ → ℤ) → Represents numbers old → Represents numbers new

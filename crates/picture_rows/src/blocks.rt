@@ -1,7 +1,7 @@
 // Passes the blocks of a picture, one after another in raster order, and gives the rows that each whole block row determines.
 ghost use Rattle.std.specs.Prelude.{◌≡◌, [], length};
 ghost use Rattle.block_families.specs.Places.{AreWeighted};
-ghost use Rattle.picture_rows.specs.Pictures.{picture_state, IsCurrent, HasRoom};
+ghost use Rattle.picture_rows.specs.Pictures.{picture_state, IsPictureCurrent, HasRoom};
 ghost use Rattle.picture_rows.specs.Steps.{PassesBlock, HasNextSet, HasNextNumbers};
 
 use crate::picture::Picture;
@@ -13,7 +13,7 @@ use port_122::{Failed, Port};
 
 // Advances past the next block, whose numbers are set, and gives the rows that its block row determines if it is whole.
 fn pass_block<X: Port>(port: &mut X, picture: &mut Picture) -> Result<(), Failed>
-    requires current { IsCurrent (picture_state picture.old) }
+    requires current { IsPictureCurrent (picture_state picture.old) }
     requires room { HasRoom (picture_state picture.old) }
     ensures { PassesBlock result (HasNextSet (picture_state picture.old)) (X.outside port.old) (X.outside port.new) (picture_state picture.old)
         (picture_state picture.new) }
@@ -31,7 +31,7 @@ fn pass_block<X: Port>(port: &mut X, picture: &mut Picture) -> Result<(), Failed
 
 /// Passes the next block as lost: its numbers are 0.
 pub fn put_missing<X: Port>(port: &mut X, picture: &mut Picture) -> Result<(), Failed>
-    requires current { IsCurrent (picture_state picture.old) }
+    requires current { IsPictureCurrent (picture_state picture.old) }
     requires room { HasRoom (picture_state picture.old) }
     ensures { PassesBlock result (HasNextNumbers [] (picture_state picture.old)) (X.outside port.old) (X.outside port.new) (picture_state picture.old)
         (picture_state picture.new) }
@@ -45,7 +45,7 @@ pub fn put_block<X: Port>(
     picture: &mut Picture,
     numbers: &[i32],
 ) -> Result<(), Failed>
-    requires current { IsCurrent (picture_state picture.old) }
+    requires current { IsPictureCurrent (picture_state picture.old) }
     requires room { HasRoom (picture_state picture.old) }
     requires whole { length numbers.now ≡ 64 }
     requires parts { AreWeighted numbers.now picture.old.geometry.weights.shifts }

@@ -32,15 +32,15 @@ impl Picture {
     ghost use Rattle.std.specs.Prelude.{◌≡◌, ◌≤◌, ◌<◌, ◌*◌, IfOk};
     ghost use Rattle.base_122.specs.Ranges.{IsGeometryInRange, IsWithin, rows_range};
     ghost use Rattle.base_122.specs.Sizes.{total_blocks};
-    ghost use Rattle.picture_rows.specs.Pictures.{picture_state, samples_of, passed_in, IsFresh, IsCurrent};
-    ghost use Rattle.picture_rows.specs.Steps.{HasEnded};
+    ghost use Rattle.picture_rows.specs.Pictures.{picture_state, samples_of, passed_in, IsPictureFresh, IsPictureCurrent};
+    ghost use Rattle.picture_rows.specs.Steps.{HasHeight};
 
     /// Takes all memory that a picture of this geometry needs (docs/architecture.md, "The decoder"). If its height is reported last, it has
     /// the greatest height until `end_at` is called. It fails only if there is too little memory.
     pub fn new(alloc: Global, geometry: &Geometry) -> Result<Picture, AllocError>
         requires range { IsGeometryInRange geometry.now }
         requires height { IsWithin rows_range geometry.now.rows }
-        ensures { IfOk result (λ p. IsFresh geometry.now (picture_state p)) }
+        ensures { IfOk result (λ p. IsPictureFresh geometry.now (picture_state p)) }
     {
         let strip = StripInverse::new(alloc, geometry.padded_width(), geometry.padded_rows())?;
         Ok(Picture {
@@ -58,11 +58,11 @@ impl Picture {
     /// Sets the number of rows of the image, 17 to 262,144 and at most the number that it had (docs/formats.md, "Levels and padding").
     /// At least one block of an image of this height is still to be passed. The rows that were given are its first rows too.
     pub fn end_at(&mut self, rows: u32)
-        requires current { IsCurrent (picture_state self.old) }
+        requires current { IsPictureCurrent (picture_state self.old) }
         requires range { IsWithin rows_range rows }
         requires fewer { rows ≤ self.old.geometry.rows }
         requires more { passed_in (picture_state self.old) < total_blocks self.old.geometry.width rows }
-        ensures { HasEnded rows (picture_state self.old) (picture_state self.new) }
+        ensures { HasHeight rows (picture_state self.old) (picture_state self.new) }
     {
         self.geometry.rows = rows;
         self.strip.end_at(self.geometry.padded_rows());

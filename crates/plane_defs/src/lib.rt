@@ -2,7 +2,7 @@
 //! the codes of words, and how planes are read, as scripts (docs/formats.md, "Bit planes" and "Words and codes").
 //!
 //! Layer: definitions and their laws, no code. It uses `base_122`, `item_defs` and `wave_defs`. It is used by `segment_defs`,
-//! `stream_defs`, `block_masks`, `word_codes`, `code_book`, `plane_coder`, `plane_reader` and 14 more.
+//! `stream_defs`, `block_masks`, `word_codes`, `code_book`, `plane_coder`, `plane_reader` and 12 more.
 #![tactic(auto)]
 
 mod entries;

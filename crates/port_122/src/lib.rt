@@ -2,7 +2,7 @@
 //! fault counted. The rules are in docs/architecture.md, "The outside".
 //!
 //! Layer: settings and the outside. It is used by `raster_rows`, `code_book`, `space_packets`, `packet_assembly`, `picture_rows`,
-//! `strip_coder`, `segment_walk` and 15 more.
+//! `strip_coder`, `strip_decoder` and 9 more.
 #![tactic(auto)]
 
 mod answers;

@@ -19,12 +19,12 @@ use Rattle.stream_defs.specs.Received.{ReceivedIn}
 use Rattle.stream_defs.proofs.HeightPictures.{raster_same}
 use Rattle.stream_defs.proofs.PlacedLaws.{is_not_open, within_not}
 use Rattle.wave_defs.specs.Pyramid.{Pyramid, padded, pyramid}
-use Rattle.segment_walk.specs.declared.ending.DecodeDone.{DecodeDone}
-use Rattle.segment_walk.specs.Images.{texts_for, IsImageFor, SendsAll}
-use Rattle.segment_walk.specs.Runs.{Numbers, holds_after}
+use Rattle.strip_decoder.specs.declared.ending.DecodeDone.{DecodeDone}
+use Rattle.strip_decoder.specs.Images.{texts_for, IsImageFor, SendsAll}
+use Rattle.strip_decoder.specs.Runs.{Numbers, holds_after}
 use Rattle.picture_rows.proofs.SameImages.{block_same}
-use Rattle.segment_walk.proofs.SublistPictures.{sized_range}
-use Rattle.segment_walk.proofs.WholeImages.{geometry_reported, number_is}
+use Rattle.strip_decoder.proofs.SublistPictures.{sized_range}
+use Rattle.strip_decoder.proofs.WholeImages.{geometry_reported, number_is}
 use Rattle.quick_look.specs.Look.{look, look_octets}
 use Rattle.quick_look.specs.Looks.{IsLook}
 use Rattle.quick_look.specs.LookLaws.{low_image}

@@ -20,17 +20,17 @@ use Rattle.stream_defs.proofs.PlacedLaws.{is_open, is_not_open}
 use Rattle.stream_defs.proofs.SettledLaws.{rows_rise}
 use Rattle.packet_assembly.proofs.Images.{image_wide}
 use Rattle.segment_defs.specs.TextWish.{TextWish, text_wish}
-use Rattle.segment_walk.specs.declared.engine.Walked.{Walked}
-use Rattle.segment_walk.specs.declared.ending.DecodeFault.{DecodeFault}
-use Rattle.segment_walk.specs.declared.ending.DecodeFault.TheVariants.{ReadFault, WriteFault, NoSegment, TooManyPixels, LongInput, Memory}
-use Rattle.segment_walk.specs.Sinks.{Numbers, blocks_with}
-use Rattle.segment_walk.specs.Runs.{AsksPassed, PassedBy, PartBy, blocks_passed}
-use Rattle.segment_walk.specs.Walks.{IsWalked, WalkAnswers, Walks, run_of}
-use Rattle.segment_walk.proofs.Asking.{both_report}
-use Rattle.segment_walk.proofs.Showing.{numbers_same}
-use Rattle.segment_walk.proofs.Endings.{passed_open, passed_known, found_as}
-use Rattle.segment_walk.proofs.Staying.{known_or_not}
-use Rattle.segment_walk.specs.declared.ending.DecodeDone.{DecodeDone}
+use Rattle.strip_decoder.specs.declared.engine.Walked.{Walked}
+use Rattle.strip_decoder.specs.declared.ending.DecodeFault.{DecodeFault}
+use Rattle.strip_decoder.specs.declared.ending.DecodeFault.TheVariants.{ReadFault, WriteFault, NoSegment, TooManyPixels, LongInput, Memory}
+use Rattle.strip_decoder.specs.Sinks.{Numbers, blocks_with}
+use Rattle.strip_decoder.specs.Runs.{AsksPassed, PassedBy, PartBy, blocks_passed}
+use Rattle.strip_decoder.specs.Walks.{IsWalked, WalkAnswers, Walks, run_of}
+use Rattle.strip_decoder.proofs.Asking.{both_report}
+use Rattle.strip_decoder.proofs.Showing.{numbers_same}
+use Rattle.strip_decoder.proofs.Endings.{passed_open, passed_known, found_as}
+use Rattle.strip_decoder.proofs.Staying.{known_or_not}
+use Rattle.strip_decoder.specs.declared.ending.DecodeDone.{DecodeDone}
 use Rattle.quick_look.specs.declared.row.LookRow.{LookRow}
 use Rattle.quick_look.specs.Look.{low_with, look_with, rows_with, look_rows, look_octets}
 use Rattle.quick_look.specs.LookSinks.{first_rows, look_sink}

@@ -15,7 +15,7 @@ use Rattle.wave_defs.proofs.BlockLaws.{table_of}
 use Rattle.raster_rows.specs.Pixels.{IsDepth, clamped, pixel_octets}
 use Rattle.raster_rows.proofs.RasterLaws.{row_pixels}
 use Rattle.raster_rows.proofs.MadeLaws.{raster_octets-more}
-use Rattle.segment_walk.specs.Sinks.{Blocks, Takes, Fails, EndsImage, numbers_in}
+use Rattle.strip_decoder.specs.Sinks.{Blocks, Takes, Fails, EndsImage, numbers_in}
 use Rattle.quick_look.specs.declared.row.LookRow.{LookRow}
 use Rattle.quick_look.specs.Look.{low_with, look_with}
 use Rattle.quick_look.specs.LookSinks.{IsValidAt, ShowsLook, first_rows, look_sink, low_of}

@@ -2,3 +2,12 @@ pub mod Look
 pub mod LookSinks
 pub mod Looks
 pub mod LookLaws
+pub mod GapSinks
+pub mod Sizes
+pub mod Listing
+pub mod Containment
+pub mod Rects
+pub mod RectLines
+pub mod RectLaws
+pub mod Gaps
+pub mod Worked

@@ -8,7 +8,7 @@ use Rattle.wave_defs.specs.Line.{floor_div}
 use Rattle.raster_rows.specs.Pixels.{clamped, raster_octets}
 use Rattle.stream_defs.specs.Begun.{block_rows}
 use Rattle.stream_defs.specs.Picture.{number_at, pyramid_with}
-use Rattle.segment_walk.specs.Runs.{Numbers}
+use Rattle.strip_decoder.specs.Runs.{Numbers}
 
 -- the coefficient of LL3 at block row r and block column s: number 0 of that block, divided by two to the weight of LL3
 unfoldable pub low_with : Geometry → (ℕ → ℕ → ℤ) → (r s : ℕ) → ℤ

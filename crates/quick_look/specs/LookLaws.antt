@@ -9,9 +9,9 @@ use Rattle.raster_rows.specs.Pixels.{clamped, raster_octets}
 use Rattle.wave_defs.specs.Pyramid.{padded, pyramid}
 use Rattle.stream_defs.specs.Output.{output}
 use Rattle.stream_defs.specs.Received.{ReceivedIn}
-use Rattle.segment_walk.specs.declared.ending.DecodeDone.{DecodeDone}
-use Rattle.segment_walk.specs.Images.{texts_for, IsImageFor, SendsAll}
-use Rattle.segment_walk.specs.Runs.{Numbers, holds_after}
+use Rattle.strip_decoder.specs.declared.ending.DecodeDone.{DecodeDone}
+use Rattle.strip_decoder.specs.Images.{texts_for, IsImageFor, SendsAll}
+use Rattle.strip_decoder.specs.Runs.{Numbers, holds_after}
 use Rattle.quick_look.specs.Look.{look}
 use Rattle.quick_look.specs.Looks.{IsLook}
 

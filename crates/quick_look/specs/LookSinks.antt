@@ -9,7 +9,7 @@ use Rattle.base_122.specs.declared.geometry.Geometry.{Geometry}
 use Rattle.base_122.specs.declared.weights.Band.TheVariants.{Ll3}
 use Rattle.wave_defs.specs.Line.{floor_div}
 use Rattle.raster_rows.specs.Pixels.{IsDepth}
-use Rattle.segment_walk.specs.Sinks.{Blocks, SinkOf, EndsAt, TakesBlock, numbers_in}
+use Rattle.strip_decoder.specs.Sinks.{Blocks, SinkOf, EndsAt, TakesBlock, numbers_in}
 use Rattle.quick_look.specs.declared.row.LookRow.{LookRow}
 use Rattle.quick_look.specs.Look.{low_with, rows_with}
 

@@ -10,12 +10,12 @@ use Rattle.stream_defs.specs.Fates.{geometry_in, state_after}
 use Rattle.stream_defs.specs.Received.{ReceivedIn}
 use Rattle.stream_defs.specs.Settled.{block_rows_before}
 use Rattle.packet_assembly.specs.Readings.{IsReadOut}
-use Rattle.segment_walk.specs.declared.ending.DecodeDone.{DecodeDone}
-use Rattle.segment_walk.specs.declared.ending.DecodeFault.{DecodeFault}
-use Rattle.segment_walk.specs.declared.ending.DecodeFault.TheVariants.{ReadFault, WriteFault, NoSegment, TooManyPixels, LongInput, Memory}
-use Rattle.segment_walk.specs.Answers.{PictureBy}
-use Rattle.segment_walk.specs.Runs.{Numbers, holds_after, HasFewKnown, AsksUnanswered, settled_blocks}
-use Rattle.segment_walk.specs.Walks.{HasTooMany}
+use Rattle.strip_decoder.specs.declared.ending.DecodeDone.{DecodeDone}
+use Rattle.strip_decoder.specs.declared.ending.DecodeFault.{DecodeFault}
+use Rattle.strip_decoder.specs.declared.ending.DecodeFault.TheVariants.{ReadFault, WriteFault, NoSegment, TooManyPixels, LongInput, Memory}
+use Rattle.strip_decoder.specs.WalkAnswers.{PictureBy}
+use Rattle.strip_decoder.specs.Runs.{Numbers, holds_after, HasFewKnown, AsksUnanswered, settled_blocks}
+use Rattle.strip_decoder.specs.Walks.{HasTooMany}
 use Rattle.quick_look.specs.Look.{look_rows, look_octets}
 
 -- ---- what is given

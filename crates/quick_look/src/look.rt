@@ -6,8 +6,8 @@ ghost use Rattle.quick_look.specs.Looks.{Looks};
 use crate::row::LookRow;
 use base_122::DecodeWish;
 use port_122::Port;
-use segment_walk::{DecodeDone, DecodeFault, walk_segments};
 use std::alloc::Global;
+use strip_decoder::{DecodeDone, DecodeFault, walk_segments};
 
 /// Takes the packets of an APID as `decode_packets` does and returns what it returns. It gives the look at the segments that are received
 /// (docs/formats.md, "Packets", "Fates" and "Raster and made image"). The look is a raster with a row for each block row and a value for

@@ -6,8 +6,8 @@ ghost use Rattle.quick_look.specs.LookSinks.{IsOpen, TakesValue};
 use base_122::{Band, Geometry};
 use port_122::{Failed, Port};
 use raster_rows::write_row;
-use segment_walk::BlockSink;
 use std::alloc::{AllocError, Global};
+use strip_decoder::BlockSink;
 
 /// One row of a look: a value for each block of a block row. Those of the first `column` blocks are set. It holds P/8 values.
 #[derive(Drop)]

@@ -1,7 +1,7 @@
 //! This crate reads and writes rows of a raster, and makes the made image (docs/formats.md, "Raster and made image").
 //!
-//! Layer: settings and the outside. It uses `base_122` and `port_122`. It is used by `stream_defs`, `rect_defs`, `picture_rows`,
-//! `strip_coder`, `segment_walk`, `encoder_rows`, `strip_decoder` and 8 more.
+//! Layer: settings and the outside. It uses `base_122` and `port_122`. It is used by `stream_defs`, `picture_rows`, `strip_coder`,
+//! `strip_decoder`, `encoder_rows`, `quick_look`, `camera_mux` and 6 more.
 #![tactic(auto)]
 
 mod end;

@@ -2,8 +2,8 @@
 //! fill" and "Reading a segment").
 //!
 //! Layer: bits and the parts of a segment. It uses `base_122`, `item_defs`, `number_defs`, `wave_defs`, `plane_defs`, `segment_defs`,
-//! `block_masks` and 6 more. It is used by `bare_text`, `strip_coder`, `segment_walk`, `encoder_rows`, `strip_decoder`, `quick_look`,
-//! `damage_rects` and 4 more.
+//! `block_masks` and 6 more. It is used by `bare_text`, `strip_coder`, `strip_decoder`, `encoder_rows`, `quick_look`, `bare_stream`,
+//! `strip122` and 2 more.
 //!
 //! A segment's blocks are decoded from the octets after its header so (`read_text` of `crate_examples`):
 //!

@@ -2,7 +2,7 @@
 //! which it is refused (docs/formats.md, "Reading a segment"). A text is read as values exactly if it holds some.
 //!
 //! Layer: definitions and their laws, no code. It uses `base_122`, `item_defs`, `number_defs`, `wave_defs` and `plane_defs`. It is used by
-//! `stream_defs`, `segment_head`, `segment_code`, `bare_text`, `packet_assembly`, `strip_coder`, `segment_walk` and 10 more.
+//! `stream_defs`, `segment_head`, `segment_code`, `bare_text`, `packet_assembly`, `strip_coder`, `strip_decoder` and 8 more.
 #![tactic(auto)]
 
 ghost use Rattle.segment_defs.specs.Laws.{SizeIsLeast, DepthsAreLeast, StopsAtDc};

@@ -1,7 +1,7 @@
 //! This crate writes and reads the head of a segment as octets (docs/formats.md, "The head").
 //!
 //! Layer: bits and the parts of a segment. It uses `base_122`, `item_defs`, `segment_defs` and `bit_pipe`. It is used by `segment_code`,
-//! `bare_text`, `packet_assembly`, `strip_coder`, `segment_walk`, `encoder_rows`, `bare_stream` and 2 more.
+//! `bare_text`, `packet_assembly`, `strip_coder`, `strip_decoder`, `encoder_rows`, `bare_stream` and 2 more.
 #![tactic(auto)]
 
 ghost use Rattle.segment_head.specs.Laws.{HeadsUndo};

@@ -1,7 +1,7 @@
 //! Packets that carry the texts of segments. The rules are in docs/formats.md, "Packets".
 //!
 //! Layer: packets and pictures. It uses `port_122`, `item_defs`, `packet_defs` and `bit_pipe`. It is used by `packet_assembly`,
-//! `strip_coder`, `packet_list`, `image_info`, `camera_mux` and `packet_tests`.
+//! `strip_coder`, `strip_decoder`, `camera_mux` and `port_tests`.
 #![tactic(auto)]
 
 mod header;

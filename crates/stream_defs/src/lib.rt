@@ -1,8 +1,8 @@
 //! The definitions of the stream of packets: all packets of an image, and what a reader takes from any packets.
 //!
 //! Layer: definitions and their laws, no code. It uses `base_122`, `raster_rows`, `wave_defs`, `plane_defs`, `segment_defs` and
-//! `packet_defs`. It is used by `rect_defs`, `camera_defs`, `packet_assembly`, `damage_rows`, `picture_rows`, `strip_coder`, `segment_walk`
-//! and 11 more.
+//! `packet_defs`. It is used by `packet_assembly`, `damage_rows`, `picture_rows`, `strip_coder`, `strip_decoder`, `encoder_rows`,
+//! `quick_look` and 5 more.
 #![tactic(auto)]
 
 mod fate;

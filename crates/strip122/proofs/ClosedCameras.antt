@@ -11,7 +11,7 @@ use Rattle.base_122.specs.Setting.{IsHeight}
 use Rattle.base_122.specs.declared.setting.Setting.{Setting}
 use Rattle.raster_rows.specs.RowReads.{FirstInRange}
 use Rattle.segment_code.specs.ShortTexts.{TextsAreShort}
-use Rattle.segment_walk.proofs.WholeImages.{geometry_reported}
+use Rattle.strip_decoder.proofs.WholeImages.{geometry_reported}
 use Rattle.stream_defs.specs.declared.fate.FateState.{FateState}
 use Rattle.stream_defs.specs.Fates.{geometry_in, kept_in}
 use Rattle.stream_defs.specs.KnownHeights.{KnownHeights}
@@ -19,10 +19,10 @@ use Rattle.stream_defs.specs.Output.{output}
 use Rattle.strip_coder.specs.Answers.{TookRaster}
 use Rattle.strip_coder.specs.Rasters.{image_of, row_length, AreInRange}
 use Rattle.strip_coder.proofs.RowsTakenLaws.{all_whole, in_range-more}
-use Rattle.segment_walk.specs.Images.{IsImageFor}
+use Rattle.strip_decoder.specs.Images.{IsImageFor}
 use Rattle.strip_decoder.specs.RoundTrip.{RoundTrip}
-use Rattle.camera_defs.specs.Picked.{picked}
-use Rattle.camera_defs.specs.PickLaws.{PickingKeeps}
+use Rattle.camera_mux.specs.Picked.{picked}
+use Rattle.camera_mux.specs.PickLaws.{PickingKeeps}
 use Rattle.camera_mux.specs.Records.{CameraRow, setting_at, record_at, count_of, raster_of, CanFollow, AreAccepted, AreFull}
 use Rattle.camera_mux.specs.MuxLaws.{KeepsCamera}
 use Rattle.camera_mux.specs.MuxOut.{mux_out}

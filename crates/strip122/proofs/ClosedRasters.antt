@@ -25,11 +25,11 @@ use Rattle.stream_defs.specs.Received.{AreReceived, ReceivedIn}
 use Rattle.stream_defs.proofs.PlacedLaws.{within_not}
 use Rattle.strip_coder.specs.Answers.{TookRaster}
 use Rattle.strip_coder.specs.Rasters.{image_of}
-use Rattle.segment_walk.specs.Answers.{IsPicture}
-use Rattle.segment_walk.specs.Images.{texts_for, IsImageFor, SendsAll}
-use Rattle.segment_walk.specs.Runs.{Numbers, holds_after}
-use Rattle.segment_walk.specs.declared.ending.DecodeDone.{DecodeDone}
-use Rattle.segment_walk.proofs.WholeImages.{none_left, geometry_reported}
+use Rattle.strip_decoder.specs.WalkAnswers.{IsPicture}
+use Rattle.strip_decoder.specs.Images.{texts_for, IsImageFor, SendsAll}
+use Rattle.strip_decoder.specs.Runs.{Numbers, holds_after}
+use Rattle.strip_decoder.specs.declared.ending.DecodeDone.{DecodeDone}
+use Rattle.strip_decoder.proofs.WholeImages.{none_left, geometry_reported}
 use Rattle.strip_decoder.specs.Answers.{Answers, Asks}
 use Rattle.strip_decoder.specs.RoundTrip.{RoundTrip}
 use Rattle.strip122.specs.Behaviours.{IsSteady}
@@ -143,7 +143,8 @@ module _ (heights : KnownHeights) (trip : RoundTrip) (s : Setting) (rows : ℕ) 
       arrives : (status : ℕ) → IsSteady old new → Decodes wish old new status → GivesRaster wish raster stream old new status
       arrives status steady run =
           let law = picture_law wish (Answers wish) (Asks wish) (decode_says wish) in
-          ends status (completes (picture_outcomes wish (Answers wish) (Asks wish)) old new status (law.ends old new status run) (law.right old new stream if_known has) steady)
+          ends status (completes (picture_outcomes wish (Answers wish) (Asks wish)) old new status (law.ends old new status run)
+          (law.right old new stream if_known has) steady)
 
 -- the octets of a raster are decoded from a stream that carries its image
 pub is_returned : KnownHeights → RoundTrip → (s : Setting) (rows : ℕ) (raster stream : List ℕ) → IsImageFor s rows (image_of s raster) →

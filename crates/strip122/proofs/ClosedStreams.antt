@@ -9,7 +9,7 @@ use Rattle.strip_decoder.proofs.RasterAgain.{raster-again}
 use Rattle.strip_coder.specs.Answers.{TookRaster}
 use Rattle.strip_coder.specs.Rasters.{image_of}
 use Rattle.segment_defs.specs.TextWish.{text_wish}
-use Rattle.segment_walk.specs.Images.{SendsAll}
+use Rattle.strip_decoder.specs.Images.{SendsAll}
 use Rattle.bare_stream.specs.Bare.{bare}
 use Rattle.bare_stream.specs.BareStream.{BareStream}
 use Rattle.bare_stream.specs.Decoded.{AsksBare}

@@ -22,17 +22,17 @@ use Rattle.stream_defs.proofs.PlacedLaws.{is_open, is_not_open}
 use Rattle.damage_rows.specs.Table.{is_missing}
 use Rattle.damage_rows.proofs.RangeLaws.{damaged_by}
 use Rattle.segment_defs.specs.TextWish.{TextWish}
-use Rattle.segment_walk.specs.declared.ending.DecodeDone.{DecodeDone}
-use Rattle.segment_walk.specs.declared.ending.DecodeFault.{DecodeFault}
-use Rattle.segment_walk.specs.declared.ending.DecodeFault.TheVariants.{ReadFault, WriteFault, NoSegment, TooManyPixels, LongInput, Memory}
+use Rattle.strip_decoder.specs.declared.ending.DecodeDone.{DecodeDone}
+use Rattle.strip_decoder.specs.declared.ending.DecodeFault.{DecodeFault}
+use Rattle.strip_decoder.specs.declared.ending.DecodeFault.TheVariants.{ReadFault, WriteFault, NoSegment, TooManyPixels, LongInput, Memory}
 use Rattle.packet_assembly.specs.Readings.{IsReadOut}
-use Rattle.segment_walk.specs.Answers.{PictureBy}
+use Rattle.strip_decoder.specs.WalkAnswers.{PictureBy}
 use Rattle.strip_decoder.specs.Answers.{Answers, Asks, Decodes as DecodesOver}
 use Rattle.strip_decoder.specs.Finding.{GivesSome, FindAnswers, Finds}
-use Rattle.segment_walk.specs.Runs.{ReportsMany}
-use Rattle.segment_walk.proofs.Endings.{height_known}
+use Rattle.strip_decoder.specs.Runs.{ReportsMany}
+use Rattle.strip_decoder.proofs.Endings.{height_known}
 use Rattle.quick_look.specs.Looks.{LookAnswers, LookAsks, Looks}
-use Rattle.damage_rects.specs.Listing.{AreLines, GivesSome as GivesSomeLines, RectAnswers, ListsRects}
+use Rattle.quick_look.specs.Listing.{AreLines, GivesSome as GivesSomeLines, RectAnswers, ListsRects}
 use Rattle.strip122.specs.Notes.{IsNoted, Notes}
 use Rattle.strip122.specs.DamageNotes.{damaged, is_known, damage_line, ReportsDone}
 use Rattle.strip122.specs.Ran.{Asking, CausedWithin}

@@ -3,12 +3,12 @@ use Rattle.std.proofs.Common.{◌≡◌, ◌⊎◌, ◌≤◌, ◌∙◌, ℕ, a
 use Rattle.port_122.specs.Outside.{Outside}
 use Rattle.base_122.specs.declared.wish.DecodeWish.{DecodeWish}
 use Rattle.packet_defs.specs.Streams.{whole_packets}
-use Rattle.packet_list.specs.declared.list.ListDone.{ListDone}
-use Rattle.packet_list.specs.declared.list.ListFault.{ListFault}
-use Rattle.packet_list.specs.declared.list.ListFault.TheVariants.{ReadFault, WriteFault, LongInput, Memory}
+use Rattle.strip_decoder.specs.declared.list.ListDone.{ListDone}
+use Rattle.strip_decoder.specs.declared.list.ListFault.{ListFault}
+use Rattle.strip_decoder.specs.declared.list.ListFault.TheVariants.{ReadFault, WriteFault, LongInput, Memory}
 use Rattle.stream_defs.specs.Fates.{fresh, kept, after_all, kept_in, state_after}
-use Rattle.camera_defs.specs.Picked.{picked, picked_of}
-use Rattle.camera_defs.specs.PickLaws.{PickingKeeps}
+use Rattle.camera_mux.specs.Picked.{picked, picked_of}
+use Rattle.camera_mux.specs.PickLaws.{PickingKeeps}
 use Rattle.strip122.specs.Listing.{Reads, WithMemory, picker}
 use Rattle.strip122.specs.Picks.{GavePicked}
 use Rattle.strip122.proofs.Reports.{list_fault_status, reader_status}

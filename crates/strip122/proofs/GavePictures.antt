@@ -21,20 +21,20 @@ use Rattle.stream_defs.specs.Received.{AreReceived}
 use Rattle.stream_defs.proofs.DamageLaws.{whole_damage}
 use Rattle.stream_defs.proofs.PlacedLaws.{within_not}
 use Rattle.segment_defs.specs.TextWish.{text_wish}
-use Rattle.segment_walk.specs.declared.ending.DecodeDone.{DecodeDone}
-use Rattle.segment_walk.specs.declared.ending.DecodeFault.{DecodeFault}
+use Rattle.strip_decoder.specs.declared.ending.DecodeDone.{DecodeDone}
+use Rattle.strip_decoder.specs.declared.ending.DecodeFault.{DecodeFault}
 use Rattle.strip_decoder.specs.Answers.{Answers}
-use Rattle.segment_walk.specs.Answers.{IsPicture}
-use Rattle.segment_walk.specs.Laws.{ReceivedIsKnown}
-use Rattle.segment_walk.specs.Runs.{holds_after}
-use Rattle.segment_walk.specs.Walks.{IsDamageOf}
-use Rattle.camera_defs.specs.Picked.{picked}
-use Rattle.camera_defs.specs.PickLaws.{PickingKeeps}
-use Rattle.damage_rects.specs.Containment.{LossesStay}
+use Rattle.strip_decoder.specs.WalkAnswers.{IsPicture}
+use Rattle.strip_decoder.specs.Laws.{ReceivedIsKnown}
+use Rattle.strip_decoder.specs.Runs.{holds_after}
+use Rattle.strip_decoder.specs.Walks.{IsDamageOf}
+use Rattle.camera_mux.specs.Picked.{picked}
+use Rattle.camera_mux.specs.PickLaws.{PickingKeeps}
+use Rattle.quick_look.specs.Containment.{LossesStay}
 use Rattle.quick_look.specs.Looks.{LookAnswers}
 use Rattle.quick_look.specs.LookLaws.{LooksOfImages}
 use Rattle.strip_decoder.specs.Containment.{DecodedContained}
-use Rattle.segment_walk.specs.Images.{IsImageFor}
+use Rattle.strip_decoder.specs.Images.{IsImageFor}
 use Rattle.strip_decoder.specs.RoundTrip.{RoundTrip, GivesBack}
 use Rattle.strip122.specs.DamageNotes.{damaged, is_known}
 use Rattle.strip122.specs.Decoding.{Decodes, LooksAt}

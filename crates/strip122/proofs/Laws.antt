@@ -4,7 +4,7 @@ use Rattle.port_122.specs.Outside.{Outside}
 use Rattle.strip_decoder.specs.Answers.{Answers, Asks}
 use Rattle.strip_decoder.specs.Finding.{FindAnswers}
 use Rattle.quick_look.specs.Looks.{LookAnswers, LookAsks}
-use Rattle.damage_rects.specs.Listing.{RectAnswers}
+use Rattle.quick_look.specs.Listing.{RectAnswers}
 use Rattle.base_122.specs.declared.wish.DecodeWish.{DecodeWish}
 use Rattle.command_words.specs.declared.tables.Reading.{Reading}
 use Rattle.command_words.specs.declared.tables.Reading.TheVariants.{Decode, Damage, Look, Rects, List}
@@ -16,7 +16,7 @@ use Rattle.strip122.specs.Run.{behaviour}
 use Rattle.strip122.specs.Outcomes.{AtStatus, outcomes, reads_outcomes}
 use Rattle.strip122.proofs.Behaviours.{Law}
 use Rattle.strip122.proofs.Decoded.{decode_says, find_says, look_says, rects_say}
-use Rattle.image_info.specs.declared.info.InfoWish.{InfoWish}
+use Rattle.camera_mux.specs.declared.info.InfoWish.{InfoWish}
 use Rattle.strip122.specs.Listing.{lister, picker, informer}
 use Rattle.strip122.proofs.Listed.{reader_law, list_reads, pick_reads, info_reads}
 use Rattle.strip122.proofs.PacketInputs.{picture_law}
@@ -39,7 +39,8 @@ law streams (Encode setting false) = encode_law setting
 law streams (Encode setting true) = encode_book_law setting
 law streams (Mux setting cameras) = mux_law (camera_settings setting cameras)
 law streams (Read reading wish false) = reads_law reading wish
-law streams (Read reading wish true) = with_book_law (λ book. reads reading (record wish { book = book })) (λ book. reads_outcomes reading (record wish { book = book }))
+law streams (Read reading wish true) = with_book_law (λ book. reads reading (record wish { book = book }))
+    (λ book. reads_outcomes reading (record wish { book = book }))
     (λ book. reads_law reading (record wish { book = book }))
 law streams (Info apid octets) = let wish : InfoWish = record { apid = apid; octets = octets } in reader_law (informer wish) (info_reads wish)
 law streams (Pick wish image) = reader_law (picker wish image) (pick_reads wish image)

@@ -58,7 +58,8 @@ word_is (w ∷ words) zero word lt is = ap string_bytes is
 word_is (w ∷ words) (suc place) word lt is = word_is words place word (omega arith) is
 
 -- a run of an engine, and then its note
-pub ran_on : {R : Type 0} {causes : Outside → Outside → List ℕ → List ℕ → R → Type 0} {asks : Outside → List ℕ → List ℕ → ℕ → ℕ → Type 0} {report_of : R → Report} →
+pub ran_on : {R : Type 0} {causes : Outside → Outside → List ℕ → List ℕ → R → Type 0} {asks : Outside → List ℕ → List ℕ → ℕ → ℕ → Type 0} {report_of
+    : R → Report} →
     (a b c : Outside) (answer : R) (took gave wrote : List ℕ) (status : ℕ) → Exchange a b took gave [] (asks a took gave) → causes a c took gave answer →
     Exchange b c [] [] wrote NoRead →
     status ≡ (report_of answer).status → IsNoted b c wrote (report_of answer).line → Ran causes asks report_of a c status

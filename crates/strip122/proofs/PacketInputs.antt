@@ -11,13 +11,13 @@ use Rattle.stream_defs.specs.Begun.{HasFewPixels, end_of, rows_reached}
 use Rattle.stream_defs.specs.Fates.{fresh, after_all, geometry_in, kept}
 use Rattle.stream_defs.specs.declared.fate.FateState.{FateState}
 use Rattle.stream_defs.proofs.ChosenLaws.{after_all-append}
-use Rattle.segment_walk.specs.declared.ending.DecodeDone.{DecodeDone}
-use Rattle.segment_walk.specs.declared.ending.DecodeFault.{DecodeFault}
-use Rattle.segment_walk.specs.declared.ending.DecodeFault.TheVariants.{ReadFault, WriteFault, NoSegment, TooManyPixels, LongInput, Memory}
+use Rattle.strip_decoder.specs.declared.ending.DecodeDone.{DecodeDone}
+use Rattle.strip_decoder.specs.declared.ending.DecodeFault.{DecodeFault}
+use Rattle.strip_decoder.specs.declared.ending.DecodeFault.TheVariants.{ReadFault, WriteFault, NoSegment, TooManyPixels, LongInput, Memory}
 use Rattle.packet_assembly.specs.Readings.{IsReadOut}
 use Rattle.packet_assembly.proofs.ReachedRows.{geometry_more, reached_more}
-use Rattle.segment_walk.specs.Runs.{ReportsMany, HasFew}
-use Rattle.segment_walk.proofs.Asking.{leading_packets}
+use Rattle.strip_decoder.specs.Runs.{ReportsMany, HasFew}
+use Rattle.strip_decoder.proofs.Asking.{leading_packets}
 use Rattle.strip122.specs.Listing.{EndsWithin}
 use Rattle.strip122.specs.Decoding.{Causes, reads_picture}
 use Rattle.strip122.specs.Outcomes.{DecoderRefuses, picture_outcomes}
@@ -105,7 +105,8 @@ module _ (wish : DecodeWish) (answers : Causes) (asks : Asking) (say : AllSay wi
       subst (HasFew wish.pixels wish.apid) (sym (all_read wish.octets old new since input if_known k.out)) k.few in
       (ends_within wish.octets old new since input if_known cause.within k.out, (done.geometry, geometry, few))
 
-pub picture_law : (wish : DecodeWish) (answers : Causes) (asks : Asking) → AllSay wish answers → Law (reads_picture wish answers asks) (picture_outcomes wish answers asks)
+pub picture_law : (wish : DecodeWish) (answers : Causes) (asks : Asking) → AllSay wish answers → Law (reads_picture wish answers asks)
+    (picture_outcomes wish answers asks)
 picture_law wish answers asks say = record {
   ends = picture_ends wish answers asks say;
   right = right_packets wish answers asks say;

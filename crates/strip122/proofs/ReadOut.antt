@@ -7,7 +7,7 @@ use Rattle.port_122.proofs.IfKnown.{end_known}
 use Rattle.packet_defs.specs.Streams.{has_bad_version, left_over}
 use Rattle.packet_assembly.specs.Readings.{IsReadOut}
 use Rattle.packet_assembly.proofs.BadVersions.{bad_later, left_stays}
-use Rattle.segment_walk.proofs.TextReads.{left_after}
+use Rattle.strip_decoder.proofs.TextReads.{left_after}
 
 -- what was taken of an input, and the rest of it
 pub took_prefix : (input took : List ℕ) (old new : Option (List ℕ)) → old ≡ Some input → Loses old new took → (rest : List ℕ) × (input ≡ took ++ rest)

@@ -5,10 +5,10 @@ use Rattle.strip_coder.specs.declared.encode.EncodeDone.{EncodeDone}
 use Rattle.strip_coder.specs.declared.encode.EncodeFault.{EncodeFault}
 use Rattle.camera_mux.specs.declared.mux.MuxDone.{MuxDone}
 use Rattle.camera_mux.specs.declared.mux.MuxFault.{MuxFault}
-use Rattle.segment_walk.specs.declared.ending.DecodeDone.{DecodeDone}
-use Rattle.segment_walk.specs.declared.ending.DecodeFault.{DecodeFault}
+use Rattle.strip_decoder.specs.declared.ending.DecodeDone.{DecodeDone}
+use Rattle.strip_decoder.specs.declared.ending.DecodeFault.{DecodeFault}
 use Rattle.bare_stream.specs.declared.fault.BareFault.{BareFault}
-use Rattle.packet_list.specs.declared.list.ListFault.{ListFault}
+use Rattle.strip_decoder.specs.declared.list.ListFault.{ListFault}
 use Rattle.packet_defs.specs.declared.packet.Framing.{Framing}
 use Rattle.stream_defs.specs.declared.range.RowRange.{RowRange}
 use Rattle.code_book.specs.declared.fault.BookFault.{BookFault}

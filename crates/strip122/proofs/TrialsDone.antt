@@ -35,9 +35,9 @@ use Rattle.strip_coder.specs.declared.encode.EncodeDone.{EncodeDone}
 use Rattle.strip_coder.specs.Answers.{EncodesImage, DoneFor, TookRaster}
 use Rattle.strip_coder.specs.Rasters.{image_of}
 use Rattle.segment_defs.specs.TextWish.{unrestored}
-use Rattle.segment_walk.specs.Images.{ArePixels, IsImageFor}
-use Rattle.segment_walk.specs.Runs.{Numbers, holds_after}
-use Rattle.segment_walk.proofs.WholeImages.{none_left, geometry_reported}
+use Rattle.strip_decoder.specs.Images.{ArePixels, IsImageFor}
+use Rattle.strip_decoder.specs.Runs.{Numbers, holds_after}
+use Rattle.strip_decoder.proofs.WholeImages.{none_left, geometry_reported}
 use Rattle.strip122.specs.declared.trial.TrialDone.{TrialDone}
 use Rattle.strip122.specs.MadeRasters.{made_raster}
 use Rattle.strip122.specs.Trials.{made_with, raster_length, equal_places, HasDecoded, AreEqualIn, IsTried}

@@ -3,7 +3,7 @@ use Rattle.std.specs.Prelude.{◌≡◌, ◌⊎◌, ◌<◌, ◌≤◌, ◌*◌,
 use Rattle.port_122.specs.Outside.{Outside, Exchange}
 use Rattle.base_122.specs.declared.setting.Setting.{Setting}
 use Rattle.base_122.specs.declared.wish.DecodeWish.{DecodeWish}
-use Rattle.segment_walk.specs.Images.{SendsAll}
+use Rattle.strip_decoder.specs.Images.{SendsAll}
 use Rattle.stream_defs.specs.Output.{output}
 use Rattle.strip_coder.specs.Rasters.{image_of}
 use Rattle.strip_decoder.specs.Answers.{Asks}

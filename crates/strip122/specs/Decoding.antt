@@ -5,13 +5,13 @@ use Rattle.base_122.specs.declared.geometry.Geometry.{Geometry}
 use Rattle.base_122.specs.declared.wish.DecodeWish.{DecodeWish}
 use Rattle.stream_defs.specs.Begun.{HasFewPixels}
 use Rattle.stream_defs.specs.Fates.{geometry_in}
-use Rattle.segment_walk.specs.declared.ending.DecodeDone.{DecodeDone}
-use Rattle.segment_walk.specs.declared.ending.DecodeFault.{DecodeFault}
+use Rattle.strip_decoder.specs.declared.ending.DecodeDone.{DecodeDone}
+use Rattle.strip_decoder.specs.declared.ending.DecodeFault.{DecodeFault}
 use Rattle.strip_decoder.specs.Answers.{Answers, Asks}
 use Rattle.strip_decoder.specs.Finding.{FindAnswers}
-use Rattle.segment_walk.specs.Answers.{AsksSilent}
+use Rattle.strip_decoder.specs.WalkAnswers.{AsksSilent}
 use Rattle.quick_look.specs.Looks.{LookAnswers, LookAsks}
-use Rattle.damage_rects.specs.Listing.{RectAnswers}
+use Rattle.quick_look.specs.Listing.{RectAnswers}
 use Rattle.strip122.specs.Notes.{Report, answer_report, decoder_report}
 use Rattle.strip122.specs.DamageNotes.{damaged, is_known, done_report}
 use Rattle.strip122.specs.Ran.{Asking, Ran, CausedWithin}

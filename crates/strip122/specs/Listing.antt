@@ -5,20 +5,20 @@ use Rattle.base_122.specs.declared.wish.DecodeWish.{DecodeWish}
 use Rattle.packet_defs.specs.declared.packet.Framing.{Framing}
 use Rattle.packet_defs.specs.Streams.{left_over, has_bad_version}
 use Rattle.packet_assembly.specs.Readings.{AsksReadable}
-use Rattle.packet_list.specs.declared.list.ListDone.{ListDone}
-use Rattle.packet_list.specs.declared.list.ListFault.{ListFault}
-use Rattle.packet_list.specs.declared.list.ListFault.TheVariants.{ReadFault, WriteFault, LongInput, Memory}
-use Rattle.packet_list.specs.Answers.{Answers}
-use Rattle.packet_list.specs.Progress.{AsksListed}
+use Rattle.strip_decoder.specs.declared.list.ListDone.{ListDone}
+use Rattle.strip_decoder.specs.declared.list.ListFault.{ListFault}
+use Rattle.strip_decoder.specs.declared.list.ListFault.TheVariants.{ReadFault, WriteFault, LongInput, Memory}
+use Rattle.strip_decoder.specs.ListAnswers.{Answers}
+use Rattle.strip_decoder.specs.ListProgress.{AsksListed}
 use Rattle.camera_mux.specs.PickAnswers.{Answers as PickAnswers}
 use Rattle.camera_mux.specs.PickProgress.{AsksPicked}
-use Rattle.image_info.specs.declared.info.InfoDone.{InfoDone}
-use Rattle.image_info.specs.declared.info.InfoFault.{InfoFault}
-use Rattle.image_info.specs.declared.info.InfoFault.TheVariants.{ReadFault as info_read_failed, WriteFault as info_write_failed, LongInput as info_long}
-use Rattle.image_info.specs.declared.info.InfoFault.TheVariants.{TooManyImages, Memory as info_memory}
-use Rattle.image_info.specs.declared.info.InfoWish.{InfoWish}
-use Rattle.image_info.specs.Answers.{Answers as InfoAnswers, AsksFew, image_count}
-use Rattle.image_info.specs.Images.{most_images}
+use Rattle.camera_mux.specs.declared.info.InfoDone.{InfoDone}
+use Rattle.camera_mux.specs.declared.info.InfoFault.{InfoFault}
+use Rattle.camera_mux.specs.declared.info.InfoFault.TheVariants.{ReadFault as info_read_failed, WriteFault as info_write_failed, LongInput as info_long}
+use Rattle.camera_mux.specs.declared.info.InfoFault.TheVariants.{TooManyImages, Memory as info_memory}
+use Rattle.camera_mux.specs.declared.info.InfoWish.{InfoWish}
+use Rattle.camera_mux.specs.InfoAnswers.{Answers as InfoAnswers, AsksFew, image_count}
+use Rattle.camera_mux.specs.Images.{most_images}
 use Rattle.strip122.specs.Notes.{Report, answer_report, list_report}
 use Rattle.strip122.specs.DamageNotes.{done_report}
 use Rattle.strip122.specs.Ran.{Asking, Ran, CausedWithin, LacksMemory}

@@ -10,16 +10,16 @@ use Rattle.strip_coder.specs.declared.encode.EncodeFault.TheVariants.{ReadFault,
 use Rattle.camera_mux.specs.declared.mux.MuxFault.{MuxFault}
 use Rattle.camera_mux.specs.declared.mux.MuxFault.TheVariants.{ReadFault as mux_read_failed, WriteFault as mux_write_failed, Short as mux_short}
 use Rattle.camera_mux.specs.declared.mux.MuxFault.TheVariants.{Long as mux_long, BadCamera, BadPixel as bad_camera_pixel}
-use Rattle.segment_walk.specs.declared.ending.DecodeFault.{DecodeFault}
-use Rattle.segment_walk.specs.declared.ending.DecodeFault.TheVariants.{ReadFault as read_failed, WriteFault as write_failed, NoSegment, TooManyPixels}
-use Rattle.segment_walk.specs.declared.ending.DecodeFault.TheVariants.{LongInput, Memory}
+use Rattle.strip_decoder.specs.declared.ending.DecodeFault.{DecodeFault}
+use Rattle.strip_decoder.specs.declared.ending.DecodeFault.TheVariants.{ReadFault as read_failed, WriteFault as write_failed, NoSegment, TooManyPixels}
+use Rattle.strip_decoder.specs.declared.ending.DecodeFault.TheVariants.{LongInput, Memory}
 use Rattle.bare_stream.specs.declared.fault.BareFault.{BareFault}
 use Rattle.bare_stream.specs.declared.fault.BareFault.TheVariants.{ReadFault as bare_read_failed, WriteFault as bare_write_failed}
 use Rattle.bare_stream.specs.declared.fault.BareFault.TheVariants.{TooManyPixels as bare_many_pixels, LongInput as bare_long, Refused}
 use Rattle.bare_stream.specs.declared.fault.BareFault.TheVariants.{Memory as bare_memory}
-use Rattle.packet_list.specs.declared.list.ListFault.{ListFault}
-use Rattle.packet_list.specs.declared.list.ListFault.TheVariants.{ReadFault as list_read_failed, WriteFault as list_write_failed, LongInput as list_long}
-use Rattle.packet_list.specs.declared.list.ListFault.TheVariants.{Memory as list_memory}
+use Rattle.strip_decoder.specs.declared.list.ListFault.{ListFault}
+use Rattle.strip_decoder.specs.declared.list.ListFault.TheVariants.{ReadFault as list_read_failed, WriteFault as list_write_failed, LongInput as list_long}
+use Rattle.strip_decoder.specs.declared.list.ListFault.TheVariants.{Memory as list_memory}
 use Rattle.command_words.specs.declared.command.WordFault.{WordFault}
 use Rattle.command_words.specs.declared.command.WordFault.TheVariants.{MissingCommand, BadWord, MissingKey, OutOfRange}
 

@@ -25,13 +25,13 @@ use Rattle.bare_stream.specs.Decoded.{IfKnown, AsksBare}
 use Rattle.bare_stream.specs.Pictures.{all_rows}
 use Rattle.bare_stream.specs.Rasters.{texts_for}
 use Rattle.bare_stream.specs.StreamRead.{reading}
-use Rattle.segment_walk.specs.declared.ending.DecodeDone.{DecodeDone}
-use Rattle.segment_walk.specs.declared.ending.DecodeFault.{DecodeFault}
+use Rattle.strip_decoder.specs.declared.ending.DecodeDone.{DecodeDone}
+use Rattle.strip_decoder.specs.declared.ending.DecodeFault.{DecodeFault}
 use Rattle.strip_decoder.specs.Answers.{Answers, Asks}
 use Rattle.strip_decoder.specs.Finding.{FindAnswers}
 use Rattle.quick_look.specs.Looks.{LookAnswers, LookAsks}
-use Rattle.damage_rects.specs.Listing.{RectAnswers}
-use Rattle.packet_list.specs.declared.list.ListFault.TheVariants.{LongInput as list_long}
+use Rattle.quick_look.specs.Listing.{RectAnswers}
+use Rattle.strip_decoder.specs.declared.list.ListFault.TheVariants.{LongInput as list_long}
 use Rattle.strip122.specs.declared.trial.TrialDone.{TrialDone}
 use Rattle.strip122.specs.Notes.{IsNoted, fault_report, mux_report, decoder_report, bare_report, long_report}
 use Rattle.strip122.specs.DamageNotes.{damaged, is_known, damage_line}

@@ -4,7 +4,7 @@ use Rattle.port_122.specs.Outside.{Outside, Exchange}
 use Rattle.base_122.specs.declared.wish.DecodeWish.{DecodeWish}
 use Rattle.packet_defs.specs.Streams.{whole_packets}
 use Rattle.stream_defs.specs.Fates.{fresh, kept, after_all, kept_in, state_after}
-use Rattle.camera_defs.specs.Picked.{picked, picked_of}
+use Rattle.camera_mux.specs.Picked.{picked, picked_of}
 use Rattle.strip122.specs.Listing.{picker, reader_asks}
 
 -- Packets were picked. A reader for the APID keeps the same packets of them, and has the same state after them, as of those packets of the

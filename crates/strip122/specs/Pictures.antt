@@ -11,15 +11,15 @@ use Rattle.stream_defs.specs.Fates.{geometry_in}
 use Rattle.stream_defs.specs.Output.{output}
 use Rattle.stream_defs.specs.Picture.{picture_octets}
 use Rattle.stream_defs.specs.Received.{ReceivedIn}
-use Rattle.segment_walk.specs.declared.ending.DecodeDone.{DecodeDone}
+use Rattle.strip_decoder.specs.declared.ending.DecodeDone.{DecodeDone}
 use Rattle.strip_decoder.specs.Answers.{Asks}
-use Rattle.segment_walk.specs.Runs.{Numbers, holds_after}
-use Rattle.segment_walk.specs.Walks.{IsDamageOf}
-use Rattle.camera_defs.specs.Picked.{picked}
-use Rattle.segment_walk.specs.Images.{some_output, IsImageFor, AreSome, BeginsOne, SendsAll}
+use Rattle.strip_decoder.specs.Runs.{Numbers, holds_after}
+use Rattle.strip_decoder.specs.Walks.{IsDamageOf}
+use Rattle.camera_mux.specs.Picked.{picked}
+use Rattle.strip_decoder.specs.Images.{some_output, IsImageFor, AreSome, BeginsOne, SendsAll}
 use Rattle.strip_decoder.specs.Containment.{GivesContained, GivesAlike}
 use Rattle.strip_decoder.specs.RoundTrip.{GivesBack}
-use Rattle.damage_rects.specs.Containment.{GivesInRects, GivesAlikeInRects}
+use Rattle.quick_look.specs.Containment.{GivesInRects, GivesAlikeInRects}
 use Rattle.quick_look.specs.Looks.{LookAsks, IsLook}
 use Rattle.quick_look.specs.LookLaws.{low_image}
 

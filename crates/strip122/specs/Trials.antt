@@ -12,9 +12,9 @@ use Rattle.stream_defs.specs.Output.{image_packets, output, segments_of, reports
 use Rattle.stream_defs.specs.Picture.{whole_picture}
 use Rattle.stream_defs.specs.Received.{ReceivedIn}
 use Rattle.strip_coder.specs.Rasters.{row_length}
-use Rattle.segment_walk.specs.declared.ending.DecodeDone.{DecodeDone}
+use Rattle.strip_decoder.specs.declared.ending.DecodeDone.{DecodeDone}
 use Rattle.strip_decoder.specs.Answers.{Decodes}
-use Rattle.segment_walk.specs.Runs.{Numbers, holds_after}
+use Rattle.strip_decoder.specs.Runs.{Numbers, holds_after}
 use Rattle.strip122.specs.declared.trial.TrialDone.{TrialDone}
 
 -- the image that is made for a setting

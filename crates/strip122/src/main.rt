@@ -1,7 +1,7 @@
 //! This crate is the program: it connects standard input, output and error, the arguments of the command line and the status.
 //!
 //! Layer: the program and the library for C. It uses `base_122`, `port_122`, `raster_rows`, `wave_defs`, `plane_defs`, `segment_defs`,
-//! `packet_defs` and 16 more.
+//! `packet_defs` and 11 more.
 #![tactic(auto)]
 
 ghost use Rattle.std.specs.Prelude.{◌≡◌, drop};

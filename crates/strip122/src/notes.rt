@@ -11,10 +11,9 @@ use base_122::Field;
 use camera_mux::MuxFault;
 use command_words::WordFault;
 use itoa::Buffer;
-use packet_list::ListFault;
 use port_122::{Port, note_all};
 use strip_coder::EncodeFault;
-use strip_decoder::DecodeFault;
+use strip_decoder::{DecodeFault, ListFault};
 
 // Notes three parts of a line.
 fn note_parts<X: Port>(port: &mut X, first: &str, middle: &str, last: &str)

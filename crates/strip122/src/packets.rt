@@ -9,16 +9,15 @@ ghost use Rattle.strip122.specs.Listing.{Reads, info_fault_of, informer, lister,
 use crate::damage_notes::{note_damage, note_framing};
 use crate::notes::{note_decoder_fault, note_list_fault};
 use base_122::DecodeWish;
-use camera_mux::pick_packets;
+use camera_mux::{InfoFault, InfoWish, list_images, pick_packets};
 use command_words::Reading;
-use damage_rects::list_rects;
-use image_info::{InfoFault, InfoWish, list_images};
 use packet_defs::Framing;
-use packet_list::{ListFault, list_packets};
 use port_122::Port;
-use quick_look::look_packets;
+use quick_look::{list_rects, look_packets};
 use std::alloc::Global;
-use strip_decoder::{DecodeDone, DecodeFault, decode_packets, find_damage};
+use strip_decoder::{
+    DecodeDone, DecodeFault, ListFault, decode_packets, find_damage, list_packets,
+};
 
 fn decoder_fault_status(fault: DecodeFault) -> u8
     ensures { result ≡ (decoder_report fault).status }

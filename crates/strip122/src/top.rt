@@ -30,15 +30,13 @@ use crate::packets::{info, pick, read};
 use crate::trial::{give_trial, run_trial};
 use bare_stream::{bare_round_trip, bare_streams_are_read};
 use base_122::Setting;
-use camera_defs::picking_keeps;
+use camera_mux::picking_keeps;
 use command_words::{Command, WordFault, read_words};
-use damage_rects::decoding_stays_in_rects;
 use port_122::Port;
-use quick_look::looks_are_of_images;
+use quick_look::{decoding_stays_in_rects, looks_are_of_images};
 use raster_rows::MadeImage;
-use segment_walk::received_is_known;
 use std::alloc::Global;
-use strip_decoder::{decoding_contains, round_trip};
+use strip_decoder::{decoding_contains, received_is_known, round_trip};
 
 // Refuses the arguments.
 fn refuse<X: Port>(words: &[String], fault: WordFault, port: &mut X) -> u8

@@ -13,10 +13,10 @@ use Rattle.stream_defs.proofs.ChosenLaws.{after_all-append}
 use Rattle.stream_defs.proofs.PlacedLaws.{reached_known}
 use Rattle.packet_assembly.proofs.BadVersions.{bad_later, left_stays}
 use Rattle.packet_assembly.proofs.ReachedRows.{geometry_more, reached_more}
-use Rattle.segment_walk.specs.Laws.{ReceivedIsKnown}
-use Rattle.segment_walk.specs.Runs.{Numbers, ReportsMany, holds_after}
-use Rattle.segment_walk.proofs.Asking.{leading_packets}
-use Rattle.rect_defs.specs.RectLines.{rect_lines}
+use Rattle.strip_decoder.specs.Laws.{ReceivedIsKnown}
+use Rattle.strip_decoder.specs.Runs.{Numbers, ReportsMany, holds_after}
+use Rattle.strip_decoder.proofs.Asking.{leading_packets}
+use Rattle.quick_look.specs.RectLines.{rect_lines}
 use Rattle.strip122_c.specs.Excluding.{kind_of}
 use Rattle.strip122_c.specs.Products.{product_octets, product_length, product_texts}
 use Rattle.segment_defs.specs.TextWish.{unrestored}

@@ -7,7 +7,7 @@ use Rattle.stream_defs.specs.Fates.{fresh, after_all, geometry_in}
 use Rattle.stream_defs.proofs.ChosenLaws.{after_all-append}
 use Rattle.packet_assembly.proofs.Images.{geometry_known}
 use Rattle.packet_assembly.proofs.ReachedRows.{geometry_more}
-use Rattle.segment_walk.proofs.Asking.{leading_packets}
+use Rattle.strip_decoder.proofs.Asking.{leading_packets}
 use Rattle.strip122_c.specs.WholeDecoding.{IsFirstHead, ReportsFirst}
 
 abbrev geometry_after : (apid : ℕ) → List (List ℕ) → Option Geometry

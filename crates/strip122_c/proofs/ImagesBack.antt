@@ -18,11 +18,11 @@ use Rattle.stream_defs.specs.Received.{ReceivedIn}
 use Rattle.stream_defs.proofs.ChosenLaws.{after_all-append}
 use Rattle.stream_defs.proofs.PlacedLaws.{reached_known}
 use Rattle.packet_assembly.proofs.ReachedRows.{geometry_more, reached_more}
-use Rattle.segment_walk.specs.Images.{texts_for, IsImageFor}
-use Rattle.segment_walk.specs.Laws.{ReceivedIsKnown}
-use Rattle.segment_walk.specs.Runs.{ReportsMany, holds_after}
-use Rattle.segment_walk.proofs.Asking.{leading_packets}
-use Rattle.segment_walk.proofs.Endings.{height_known}
+use Rattle.strip_decoder.specs.Images.{texts_for, IsImageFor}
+use Rattle.strip_decoder.specs.Laws.{ReceivedIsKnown}
+use Rattle.strip_decoder.specs.Runs.{ReportsMany, holds_after}
+use Rattle.strip_decoder.proofs.Asking.{leading_packets}
+use Rattle.strip_decoder.proofs.Endings.{height_known}
 use Rattle.strip_decoder.specs.RoundTrip.{RoundTrip}
 use Rattle.strip122_c.specs.WholeDecoding.{HasTooMany, Makes, BringsImage, BringsBack}
 use Rattle.strip122_c.specs.declared.decode.DecodeRefusal.{DecodeRefusal}

@@ -27,8 +27,8 @@ use Rattle.packet_assembly.specs.Segments.{FindsSegment, FoundNone, IsValidEnded
 use Rattle.packet_assembly.proofs.Images.{begun_by, end_begun, end_few, end_none, geometry_known, geometry_none}
 use Rattle.packet_assembly.proofs.PacketSteps.{octets_left}
 use Rattle.packet_assembly.proofs.Readings.{ended_out, ended_packets, end_on, long_full, long_good, long_packets, none_read, read_on, read_within}
-use Rattle.segment_walk.specs.Runs.{HasFew, ReportsMany}
-use Rattle.segment_walk.proofs.TextReads.{left_after}
+use Rattle.strip_decoder.specs.Runs.{HasFew, ReportsMany}
+use Rattle.strip_decoder.proofs.TextReads.{left_after}
 use Rattle.strip122_c.specs.Measuring.{FindsHead, FoundHead, FoundMany, FoundNothing, HasLong, HasSize, IsMeasurable, IsMeasured, end_after}
 use Rattle.strip122_c.specs.WholeDecoding.{HasNoSegment, HasTooMany, IsFirstHead, IsReadToEnd}
 use Rattle.strip122_c.specs.declared.decode.DecodeRefusal.{DecodeRefusal}

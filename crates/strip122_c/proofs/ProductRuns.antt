@@ -10,16 +10,16 @@ use Rattle.stream_defs.specs.Begun.{HasFewPixels, begun_in, block_rows, height}
 use Rattle.stream_defs.specs.Fates.{geometry_in}
 use Rattle.stream_defs.specs.Received.{ReceivedIn}
 use Rattle.packet_assembly.specs.Readings.{IsReadOut}
-use Rattle.rect_defs.specs.RectLines.{rect_lines}
-use Rattle.rect_defs.specs.Rects.{is_lost, rects}
-use Rattle.rect_defs.proofs.SameLost.{rects_same}
+use Rattle.quick_look.specs.RectLines.{rect_lines}
+use Rattle.quick_look.specs.Rects.{is_lost, rects}
+use Rattle.quick_look.proofs.SameLost.{rects_same}
 use Rattle.segment_defs.specs.TextWish.{TextWish, unrestored}
-use Rattle.segment_walk.specs.declared.ending.DecodeDone.{DecodeDone}
-use Rattle.segment_walk.specs.declared.ending.DecodeFault.TheVariants as faults
-use Rattle.segment_walk.specs.Answers.{PictureBy}
-use Rattle.segment_walk.specs.Laws.{ReceivedIsKnown}
-use Rattle.segment_walk.specs.Runs.{Numbers, ReportsMany, holds_after}
-use Rattle.segment_walk.specs.Walks.{IsDamageOf}
+use Rattle.strip_decoder.specs.declared.ending.DecodeDone.{DecodeDone}
+use Rattle.strip_decoder.specs.declared.ending.DecodeFault.TheVariants as faults
+use Rattle.strip_decoder.specs.WalkAnswers.{PictureBy}
+use Rattle.strip_decoder.specs.Laws.{ReceivedIsKnown}
+use Rattle.strip_decoder.specs.Runs.{Numbers, ReportsMany, holds_after}
+use Rattle.strip_decoder.specs.Walks.{IsDamageOf}
 use Rattle.strip122_c.specs.Products.{product_octets, product_texts}
 use Rattle.strip122_c.specs.Runs.{RunsAs}
 use Rattle.strip122_c.specs.declared.product.Product.{Product}

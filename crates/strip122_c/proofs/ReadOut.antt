@@ -7,7 +7,7 @@ use Rattle.packet_defs.specs.Streams.{has_bad_version, left_over, place_after, w
 use Rattle.packet_defs.specs.declared.packet.Framing.TheVariants.{BadVersion}
 use Rattle.packet_assembly.specs.Readings.{IsReadOut}
 use Rattle.packet_assembly.proofs.BadVersions.{bad_later, bad_stays, left_stays}
-use Rattle.segment_walk.proofs.TextReads.{left_after}
+use Rattle.strip_decoder.proofs.TextReads.{left_after}
 use Rattle.packet_defs.proofs.Equations.{framing_at-is}
 
 framing_bad : (place : ℕ) (left : List ℕ) → has_bad_version left ≡ true → framing_at place left ≡ Some (BadVersion place)

@@ -15,12 +15,12 @@ use Rattle.stream_defs.specs.Picture.{picture}
 use Rattle.stream_defs.specs.Received.{AreReceived}
 use Rattle.stream_defs.proofs.PlacedLaws.{is_not_open}
 use Rattle.quick_look.specs.Look.{look}
-use Rattle.segment_walk.specs.declared.ending.DecodeDone.{DecodeDone}
-use Rattle.segment_walk.specs.Laws.{ReceivedIsKnown}
-use Rattle.segment_walk.specs.Runs.{HasFew, Numbers, holds_after}
-use Rattle.segment_walk.specs.Walks.{IsDamageOf}
-use Rattle.segment_walk.proofs.Endings.{height_known}
-use Rattle.segment_walk.proofs.TextReads.{left_after}
+use Rattle.strip_decoder.specs.declared.ending.DecodeDone.{DecodeDone}
+use Rattle.strip_decoder.specs.Laws.{ReceivedIsKnown}
+use Rattle.strip_decoder.specs.Runs.{HasFew, Numbers, holds_after}
+use Rattle.strip_decoder.specs.Walks.{IsDamageOf}
+use Rattle.strip_decoder.proofs.Endings.{height_known}
+use Rattle.strip_decoder.proofs.TextReads.{left_after}
 use Rattle.packet_assembly.specs.Readings.{IsReadOut}
 use Rattle.strip122_c.specs.Products.{product_octets, product_length, product_texts}
 use Rattle.strip122_c.specs.Runs.{HasRun, RunsAs}

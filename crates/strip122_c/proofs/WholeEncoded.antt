@@ -19,12 +19,12 @@ use Rattle.strip_coder.specs.declared.encode.EncodeDone.{EncodeDone}
 use Rattle.strip_coder.specs.declared.encode.EncodeFault.TheVariants as faults
 use Rattle.strip_coder.specs.Answers.{EncodesImage, AllInRange, DoneFor, TookRaster, FirstBad}
 use Rattle.strip_coder.specs.Rasters.{image_of, most_length}
-use Rattle.segment_walk.specs.Images.{IsImageFor, ArePixels}
+use Rattle.strip_decoder.specs.Images.{IsImageFor, ArePixels}
 use Rattle.strip122_c.specs.declared.encode.EncodeRefusal.{EncodeRefusal}
 use Rattle.strip122_c.specs.declared.encode.EncodeRefusal.TheVariants.{OutOfRange as Refused, Short, Long, BadPixel, SmallRoom, Memory}
 use Rattle.strip122_c.specs.WholeEncoding.{IsAdmitted, first_refused, raster_length, HasRun, HasBadPixel, Encodes, Accepts}
 use Rattle.strip122_c.proofs.Admitted.{own_height, only_height, own_most, own_lacks, none_refused}
-use Rattle.segment_walk.proofs.TextReads.{left_after}
+use Rattle.strip_decoder.proofs.TextReads.{left_after}
 
 -- ---- the setting
 

@@ -3,12 +3,12 @@ use Rattle.std.proofs.Common.{◌≡◌, ◌≤◌, ◌∙◌, ℕ, List, [], �
 use Rattle.port_122.specs.Outside.{Outside}
 use Rattle.port_122.proofs.IfKnown.{given_known}
 use Rattle.packet_defs.specs.Streams.{framing}
-use Rattle.image_info.specs.declared.info.InfoDone.{InfoDone}
-use Rattle.image_info.specs.declared.info.InfoWish.{InfoWish}
-use Rattle.image_info.specs.Answers.{Informs, image_count}
-use Rattle.image_info.specs.Images.{entries, images, most_images}
-use Rattle.image_info.specs.Lines.{lines_of}
-use Rattle.segment_walk.proofs.TextReads.{left_after}
+use Rattle.camera_mux.specs.declared.info.InfoDone.{InfoDone}
+use Rattle.camera_mux.specs.declared.info.InfoWish.{InfoWish}
+use Rattle.camera_mux.specs.InfoAnswers.{Informs, image_count}
+use Rattle.camera_mux.specs.Images.{entries, images, most_images}
+use Rattle.camera_mux.specs.ImageLines.{lines_of}
+use Rattle.strip_decoder.proofs.TextReads.{left_after}
 use Rattle.strip122_c.specs.declared.info.InfoRefusal.{InfoRefusal}
 use Rattle.strip122_c.specs.declared.info.InfoRefusal.TheVariants.{SmallRoom, LongInput, TooManyImages, Memory}
 use Rattle.strip122_c.specs.WholeListing.{AreLines, HasRun, Lists}

@@ -10,7 +10,7 @@ use Rattle.stream_defs.specs.Begun.{begun, begun_in, end_of, height}
 use Rattle.stream_defs.specs.Fates.{fresh, kept, kept_in, geometry_in}
 use Rattle.stream_defs.proofs.PlacedLaws.{is_open, blocks_open}
 use Rattle.packet_assembly.proofs.Images.{end_few}
-use Rattle.segment_walk.proofs.Endings.{height_known}
+use Rattle.strip_decoder.proofs.Endings.{height_known}
 use Rattle.strip122_c.proofs.ReadOut.{ReadsAll}
 
 pub begun_is : (apid : ℕ) (octets : List ℕ) (g : Geometry) → geometry_in apid octets ≡ Some g → begun_in apid octets ≡ begun g (kept_in apid octets)

@@ -3,7 +3,7 @@ use Rattle.std.specs.Prelude.{◌≡◌, ◌≢◌, ℕ, ◌==◌, if◌then◌e
 use Rattle.base_122.specs.declared.wish.DecodeWish.{DecodeWish}
 use Rattle.packet_defs.specs.declared.packet.Framing.{Framing}
 use Rattle.packet_defs.specs.declared.packet.Framing.TheVariants.{BadVersion, CutPacket}
-use Rattle.image_info.specs.declared.info.InfoWish.{InfoWish}
+use Rattle.camera_mux.specs.declared.info.InfoWish.{InfoWish}
 use Rattle.strip122_c.specs.declared.info.Listed.{Listed}
 use Rattle.strip122_c.specs.declared.info.InfoRefusal.{InfoRefusal}
 use Rattle.strip122_c.specs.declared.info.InfoRefusal.TheVariants.{SmallRoom, LongInput, TooManyImages, Memory}

@@ -7,10 +7,10 @@ use Rattle.raster_rows.specs.Pixels.{pixel_size}
 use Rattle.segment_defs.specs.TextWish.{TextWish, text_wish, unrestored}
 use Rattle.stream_defs.specs.Begun.{block_rows, height}
 use Rattle.stream_defs.specs.Picture.{picture_octets}
-use Rattle.segment_walk.specs.Runs.{Numbers}
+use Rattle.strip_decoder.specs.Runs.{Numbers}
 use Rattle.quick_look.specs.Look.{look_octets}
-use Rattle.rect_defs.specs.RectLines.{rect_lines}
-use Rattle.rect_defs.specs.Rects.{rects}
+use Rattle.quick_look.specs.RectLines.{rect_lines}
+use Rattle.quick_look.specs.Rects.{rects}
 use Rattle.strip122_c.specs.declared.product.Product.{Product}
 use Rattle.strip122_c.specs.declared.product.Product.TheVariants.{Picture, Look, Rects}
 

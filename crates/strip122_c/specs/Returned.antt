@@ -4,7 +4,7 @@ use Rattle.base_122.specs.Setting.{geometry_of}
 use Rattle.base_122.specs.declared.setting.Setting.{Setting}
 use Rattle.base_122.specs.declared.wish.DecodeWish.{DecodeWish}
 use Rattle.strip_coder.specs.declared.encode.EncodeDone.{EncodeDone}
-use Rattle.segment_walk.specs.Images.{SendsAll}
+use Rattle.strip_decoder.specs.Images.{SendsAll}
 use Rattle.strip122_c.specs.declared.decode.Made.{Made}
 use Rattle.strip122_c.specs.declared.decode.DecodeRefusal.{DecodeRefusal}
 use Rattle.strip122_c.specs.declared.decode.DecodeRefusal.TheVariants.{NoSegment, SmallRoom, TooManyPixels, LongInput, Memory}

@@ -2,12 +2,12 @@
 use Rattle.std.specs.Prelude.{Result, Ok, Err, ⊤}
 use Rattle.port_122.specs.Outside.{Outside}
 use Rattle.base_122.specs.declared.wish.DecodeWish.{DecodeWish}
-use Rattle.segment_walk.specs.declared.ending.DecodeDone.{DecodeDone}
-use Rattle.segment_walk.specs.declared.ending.DecodeFault.{DecodeFault}
-use Rattle.segment_walk.specs.declared.ending.DecodeFault.TheVariants as faults
+use Rattle.strip_decoder.specs.declared.ending.DecodeDone.{DecodeDone}
+use Rattle.strip_decoder.specs.declared.ending.DecodeFault.{DecodeFault}
+use Rattle.strip_decoder.specs.declared.ending.DecodeFault.TheVariants as faults
 use Rattle.strip_decoder.specs.Answers.{Decodes}
 use Rattle.quick_look.specs.Looks.{Looks}
-use Rattle.damage_rects.specs.Listing.{ListsRects}
+use Rattle.quick_look.specs.Listing.{ListsRects}
 use Rattle.strip122_c.specs.declared.decode.DecodeRefusal.{DecodeRefusal}
 use Rattle.strip122_c.specs.declared.decode.DecodeRefusal.TheVariants.{NoSegment, SmallRoom, TooManyPixels, LongInput, Memory}
 use Rattle.strip122_c.specs.declared.product.Product.{Product}

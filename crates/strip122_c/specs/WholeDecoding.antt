@@ -11,10 +11,10 @@ use Rattle.stream_defs.specs.Begun.{HasFewPixels, begun_in, height}
 use Rattle.stream_defs.specs.Fates.{fresh, after_all, geometry_in}
 use Rattle.stream_defs.specs.Output.{output}
 use Rattle.stream_defs.specs.Received.{ReceivedIn}
-use Rattle.segment_walk.specs.declared.ending.DecodeDone.{DecodeDone}
-use Rattle.segment_walk.specs.Images.{IsImageFor}
-use Rattle.segment_walk.specs.Runs.{Numbers, ReportsMany, holds_after}
-use Rattle.segment_walk.specs.Walks.{IsDamageOf}
+use Rattle.strip_decoder.specs.declared.ending.DecodeDone.{DecodeDone}
+use Rattle.strip_decoder.specs.Images.{IsImageFor}
+use Rattle.strip_decoder.specs.Runs.{Numbers, ReportsMany, holds_after}
+use Rattle.strip_decoder.specs.Walks.{IsDamageOf}
 use Rattle.strip_decoder.specs.RoundTrip.{GivesBack}
 use Rattle.strip122_c.specs.Products.{product_octets, product_length, product_texts}
 use Rattle.strip122_c.specs.declared.decode.DecodeRefusal.{DecodeRefusal}

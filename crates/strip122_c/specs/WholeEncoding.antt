@@ -10,7 +10,7 @@ use Rattle.strip_coder.specs.declared.encode.EncodeDone.{EncodeDone}
 use Rattle.strip_coder.specs.declared.encode.EncodeFault.TheVariants as faults
 use Rattle.strip_coder.specs.Answers.{EncodesImage, AllInRange, DoneFor, TookRaster, FirstBad}
 use Rattle.strip_coder.specs.Rasters.{image_of, row_length}
-use Rattle.segment_walk.specs.Images.{IsImageFor}
+use Rattle.strip_decoder.specs.Images.{IsImageFor}
 use Rattle.strip122_c.specs.declared.encode.EncodeRefusal.{EncodeRefusal}
 use Rattle.strip122_c.specs.declared.encode.EncodeRefusal.TheVariants.{OutOfRange, Short, Long, BadPixel, SmallRoom, Memory}
 

@@ -2,12 +2,12 @@
 use Rattle.std.specs.Prelude.{◌≡◌, ◌≤◌, ◌<◌, ◌++◌, ℕ, false, List, length, drop, Result, Ok, Err, ⊤}
 use Rattle.port_122.specs.Outside.{Outside}
 use Rattle.packet_defs.specs.Streams.{framing, has_bad_version, left_over}
-use Rattle.image_info.specs.declared.info.InfoWish.{InfoWish}
-use Rattle.image_info.specs.declared.info.InfoDone.{InfoDone}
-use Rattle.image_info.specs.declared.info.InfoFault.TheVariants as faults
-use Rattle.image_info.specs.Answers.{Informs, image_count}
-use Rattle.image_info.specs.Images.{most_images}
-use Rattle.image_info.specs.Lines.{listing}
+use Rattle.camera_mux.specs.declared.info.InfoWish.{InfoWish}
+use Rattle.camera_mux.specs.declared.info.InfoDone.{InfoDone}
+use Rattle.camera_mux.specs.declared.info.InfoFault.TheVariants as faults
+use Rattle.camera_mux.specs.InfoAnswers.{Informs, image_count}
+use Rattle.camera_mux.specs.Images.{most_images}
+use Rattle.camera_mux.specs.ImageLines.{listing}
 use Rattle.strip122_c.specs.declared.info.Listed.{Listed}
 use Rattle.strip122_c.specs.declared.info.InfoRefusal.{InfoRefusal}
 use Rattle.strip122_c.specs.declared.info.InfoRefusal.TheVariants.{SmallRoom, LongInput, TooManyImages, Memory}

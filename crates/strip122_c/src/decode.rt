@@ -11,12 +11,10 @@ use crate::measure::{measure, product_length, rows_of};
 use crate::port::LentPort;
 use crate::product::Product;
 use base_122::{DecodeWish, Geometry};
-use damage_rects::list_rects;
-use quick_look::look_packets;
-use segment_walk::received_is_known;
+use quick_look::{list_rects, look_packets};
 use std::alloc::Global;
 use stream_defs::heights_are_known;
-use strip_decoder::{DecodeDone, DecodeFault, decode_packets, round_trip};
+use strip_decoder::{DecodeDone, DecodeFault, decode_packets, received_is_known, round_trip};
 
 /// What was read, and the number of octets of what was made of it.
 #[derive(Drop)]

@@ -10,7 +10,7 @@ use crate::port::LentPort;
 use crate::setting::refusal_answer;
 use crate::wish::{Strip122Wish, read_wish};
 use base_122::DecodeWish;
-use image_info::{InfoDone, InfoFault, InfoWish, list_images};
+use camera_mux::{InfoDone, InfoFault, InfoWish, list_images};
 use packet_defs::Framing;
 use std::alloc::Global;
 

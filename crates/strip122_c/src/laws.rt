@@ -2,7 +2,7 @@
 ghost use Rattle.strip122_c.specs.Returned.{RastersAreReturned};
 ghost use Rattle.strip122_c.specs.Excluding.{CausesExclude};
 
-use segment_walk::received_is_known;
+use strip_decoder::received_is_known;
 
 /// `make_whole` gives the raster of which `encode_whole` gave the packets: no row is missing, and if nothing was omitted, each octet is
 /// the same.

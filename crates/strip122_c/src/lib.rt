@@ -2,7 +2,7 @@
 //! back (docs/c.md; c/strip122.h has its declarations for C).
 //!
 //! Layer: the program and the library for C. It uses `base_122`, `port_122`, `raster_rows`, `plane_defs`, `segment_defs`, `packet_defs`,
-//! `stream_defs` and 12 more.
+//! `stream_defs` and 9 more.
 #![tactic(auto)]
 
 mod decode;

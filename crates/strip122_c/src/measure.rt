@@ -16,8 +16,8 @@ use crate::product::Product;
 use base_122::{DecodeWish, Geometry};
 use bit_pipe::InFault;
 use packet_assembly::{Assembly, SegmentStart};
-use segment_walk::least_pixels;
 use std::alloc::Global;
+use strip_decoder::least_pixels;
 
 /// What the headers of an image's packets report of its size.
 #[derive(Clone, Copy, Debug, PartialEq, Eq)]

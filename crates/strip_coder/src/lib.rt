@@ -1,7 +1,7 @@
 //! The encoder: from a raster's octets to space packets, row by row and in the memory of a strip.
 //!
 //! Layer: packets and pictures. It uses `base_122`, `port_122`, `raster_rows`, `item_defs`, `wave_defs`, `plane_defs`, `segment_defs` and 7
-//! more. It is used by `encoder_rows`, `camera_mux`, `bare_stream`, `strip122`, `strip122_c`, `bare_tests` and `crate_examples`.
+//! more. It is used by `encoder_rows`, `camera_mux`, `bare_stream`, `strip122`, `strip122_c`, `port_tests` and `crate_examples`.
 //!
 //! A frame in memory is encoded so (`encode_frame` of `crate_examples`, whose `hand_in` puts a row into `work.row` and calls `row_in`):
 //!

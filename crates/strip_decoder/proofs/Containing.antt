@@ -20,11 +20,11 @@ use Rattle.stream_defs.proofs.OpenContaining.{contained_open, any_chosen}
 use Rattle.stream_defs.proofs.PlacedLaws.{is_open, is_not_open, within_not}
 use Rattle.stream_defs.proofs.DamageLaws.{whole_damage as damage_whole}
 use Rattle.picture_rows.specs.Prefixes.{bands_of}
-use Rattle.segment_walk.specs.Runs.{Numbers}
-use Rattle.segment_walk.specs.Images.{AreWith}
+use Rattle.strip_decoder.specs.Runs.{Numbers}
+use Rattle.strip_decoder.specs.Images.{AreWith}
 use Rattle.strip_decoder.specs.Containment.{SameOutside}
 use Rattle.stream_defs.proofs.BandPlaces.{coefficient_with}
-use Rattle.segment_walk.proofs.RunEnds.{any_at}
+use Rattle.strip_decoder.proofs.RunEnds.{any_at}
 use Rattle.stream_defs.proofs.Equations.{missing_below-is}
 
 -- the block rows of an image whose height is known

@@ -15,14 +15,14 @@ use Rattle.stream_defs.specs.Damage.{damage}
 use Rattle.stream_defs.specs.Fates.{geometry_in}
 use Rattle.stream_defs.specs.Picture.{picture, picture_octets, picture_with, whole_picture, number_at}
 use Rattle.stream_defs.specs.Received.{ReceivedIn}
-use Rattle.segment_walk.specs.declared.ending.DecodeDone.{DecodeDone}
-use Rattle.segment_walk.specs.Answers.{IsPicture}
-use Rattle.segment_walk.specs.Runs.{holds_after, Numbers}
+use Rattle.strip_decoder.specs.declared.ending.DecodeDone.{DecodeDone}
+use Rattle.strip_decoder.specs.WalkAnswers.{IsPicture}
+use Rattle.strip_decoder.specs.Runs.{holds_after, Numbers}
 use Rattle.strip_decoder.specs.Containment.{SameOutside, known_damage, GivesContained, GivesAlike}
-use Rattle.segment_walk.specs.Images.{texts_for, some_output, BeginsOne, reported, AreSome, reported_rows}
+use Rattle.strip_decoder.specs.Images.{texts_for, some_output, BeginsOne, reported, AreSome, reported_rows}
 use Rattle.strip_decoder.proofs.Containing.{contained}
-use Rattle.segment_walk.proofs.SublistPictures.{begun_few, geometry_there, reported_is, with_all, geometry_range, few_blocks, all_shows}
-use Rattle.segment_walk.proofs.SublistSegments.{receives_those}
+use Rattle.strip_decoder.proofs.SublistPictures.{begun_few, geometry_there, reported_is, with_all, geometry_range, few_blocks, all_shows}
+use Rattle.strip_decoder.proofs.SublistSegments.{receives_those}
 use Rattle.base_122.specs.Sizes.{block_count}
 use Rattle.stream_defs.specs.Output.{output}
 

@@ -5,15 +5,15 @@ use Rattle.port_122.specs.Outside.{Outside, WritesAll}
 use Rattle.port_122.proofs.Stretches.{since_out, rose_since}
 use Rattle.base_122.specs.declared.wish.DecodeWish.{DecodeWish}
 use Rattle.packet_assembly.proofs.Readings.{out_later}
-use Rattle.segment_walk.specs.declared.engine.Walked.{Walked}
-use Rattle.segment_walk.specs.declared.ending.DecodeFault.{DecodeFault}
-use Rattle.segment_walk.specs.declared.ending.DecodeFault.TheVariants.{ReadFault, WriteFault, NoSegment, TooManyPixels, LongInput, Memory}
+use Rattle.strip_decoder.specs.declared.engine.Walked.{Walked}
+use Rattle.strip_decoder.specs.declared.ending.DecodeFault.{DecodeFault}
+use Rattle.strip_decoder.specs.declared.ending.DecodeFault.TheVariants.{ReadFault, WriteFault, NoSegment, TooManyPixels, LongInput, Memory}
 use Rattle.strip_decoder.specs.declared.find.NoPicture.{NoPicture}
-use Rattle.segment_walk.specs.Walks.{WalkAnswers, Walks}
+use Rattle.strip_decoder.specs.Walks.{WalkAnswers, Walks}
 use Rattle.strip_decoder.specs.Lines.{damage_lines}
 use Rattle.strip_decoder.specs.PictureSinks.{no_picture}
 use Rattle.strip_decoder.specs.Finding.{FindAnswers, Finds}
-use Rattle.segment_walk.proofs.Endings.{as_they_are, found_as, silent_since}
+use Rattle.strip_decoder.proofs.Endings.{as_they_are, found_as, silent_since}
 
 -- a fault ended it
 pub find_fails : (wish : DecodeWish) (old new : Outside) (fault : DecodeFault) → Walks no_picture (as_they_are wish) old new (Err fault) →

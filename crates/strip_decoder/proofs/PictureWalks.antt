@@ -25,24 +25,24 @@ use Rattle.packet_assembly.proofs.Images.{end_room, image_wide}
 use Rattle.picture_rows.specs.declared.picture.Picture.{Picture}
 use Rattle.picture_rows.specs.declared.picture.PictureAt.{PictureAt}
 use Rattle.picture_rows.specs.Prefixes.{rows_of}
-use Rattle.picture_rows.specs.Pictures.{picture_state, IsFresh}
-use Rattle.picture_rows.specs.Steps.{HasEnded, HasNextNumbers, PassesBlock}
+use Rattle.picture_rows.specs.Pictures.{picture_state, IsPictureFresh}
+use Rattle.picture_rows.specs.Steps.{HasHeight, HasNextNumbers, PassesBlock}
 use Rattle.picture_rows.proofs.RowsOut.{prefix_within, no_rows, rows_through-most, rows_through-rises}
 use Rattle.segment_defs.specs.TextWish.{TextWish, text_wish}
-use Rattle.segment_walk.specs.declared.engine.Walked.{Walked}
-use Rattle.segment_walk.specs.declared.ending.DecodeFault.{DecodeFault}
-use Rattle.segment_walk.specs.declared.ending.DecodeFault.TheVariants.{ReadFault, WriteFault, NoSegment, TooManyPixels, LongInput, Memory}
-use Rattle.segment_walk.specs.Sinks.{Numbers, Blocks, Begins, Takes, Fails, EndsImage, blocks_with, numbers_in}
-use Rattle.segment_walk.specs.Runs.{AsksPassed, PassedBy, PartBy, blocks_passed, settled_blocks}
-use Rattle.segment_walk.specs.Walks.{IsWalked, WalkAnswers, Walks, run_of}
+use Rattle.strip_decoder.specs.declared.engine.Walked.{Walked}
+use Rattle.strip_decoder.specs.declared.ending.DecodeFault.{DecodeFault}
+use Rattle.strip_decoder.specs.declared.ending.DecodeFault.TheVariants.{ReadFault, WriteFault, NoSegment, TooManyPixels, LongInput, Memory}
+use Rattle.strip_decoder.specs.Sinks.{Numbers, Blocks, Begins, Takes, Fails, EndsImage, blocks_with, numbers_in}
+use Rattle.strip_decoder.specs.Runs.{AsksPassed, PassedBy, PartBy, blocks_passed, settled_blocks}
+use Rattle.strip_decoder.specs.Walks.{IsWalked, WalkAnswers, Walks, run_of}
 use Rattle.strip_decoder.specs.Answers.{PromptBy, PrefixBy, Asks, Answers, Decodes}
-use Rattle.segment_walk.specs.Answers.{IsPicture}
+use Rattle.strip_decoder.specs.WalkAnswers.{IsPicture}
 use Rattle.strip_decoder.specs.declared.pictures.PictureSink.{PictureSink}
 use Rattle.strip_decoder.specs.PictureSinks.{IsValidAt, ShowsBlocks, GivesRows, picture_sink, rows_given}
-use Rattle.segment_walk.proofs.Endings.{found_as, height_open, height_known, passed_open, passed_known}
-use Rattle.segment_walk.proofs.Staying.{known_or_not}
-use Rattle.segment_walk.specs.declared.ending.DecodeDone.{DecodeDone}
-use Rattle.segment_walk.proofs.Showing.{numbers_same}
+use Rattle.strip_decoder.proofs.Endings.{found_as, height_open, height_known, passed_open, passed_known}
+use Rattle.strip_decoder.proofs.Staying.{known_or_not}
+use Rattle.strip_decoder.specs.declared.ending.DecodeDone.{DecodeDone}
+use Rattle.strip_decoder.proofs.Showing.{numbers_same}
 
 -- ---- a block
 
@@ -89,7 +89,7 @@ picture_takes (Err e) s t v a b broken g n at = record {
 }
 
 -- a picture that begins
-pub picture_begins : (s : PictureSink) (g : Geometry) → IsFresh g (picture_state s.picture) → Begins picture_sink g s
+pub picture_begins : (s : PictureSink) (g : Geometry) → IsPictureFresh g (picture_state s.picture) → Begins picture_sink g s
 picture_begins s g fresh = record {
   valid = record {
     current = fresh.current;
@@ -101,7 +101,7 @@ picture_begins s g fresh = record {
 }
 
 -- a picture whose height becomes known
-pub picture_ends : (s t : PictureSink) (h : Geometry) → HasEnded h.rows (picture_state s.picture) (picture_state t.picture) → EndsImage picture_sink h s t
+pub picture_ends : (s t : PictureSink) (h : Geometry) → HasHeight h.rows (picture_state s.picture) (picture_state t.picture) → EndsImage picture_sink h s t
 picture_ends s t h ended g n at ends =
     let rows : record s.picture.geometry { rows = h.rows } ≡ h = (λ i. record (at.geometry i) { rows = h.rows }) ∙ sym ends.same in
     let geometry : t.picture.geometry ≡ h = ended.geometry ∙ rows in

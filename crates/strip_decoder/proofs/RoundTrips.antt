@@ -19,14 +19,14 @@ use Rattle.stream_defs.specs.Output.{output}
 use Rattle.stream_defs.specs.Picture.{number_at, whole_picture, whole_octets}
 use Rattle.stream_defs.specs.Received.{ReceivedIn}
 use Rattle.stream_defs.proofs.HeightPictures.{raster_same}
-use Rattle.segment_walk.specs.declared.ending.DecodeDone.{DecodeDone}
-use Rattle.segment_walk.specs.Answers.{IsPicture}
-use Rattle.segment_walk.specs.Images.{texts_for, IsImageFor, SendsAll}
-use Rattle.segment_walk.specs.Runs.{Numbers, holds_after}
+use Rattle.strip_decoder.specs.declared.ending.DecodeDone.{DecodeDone}
+use Rattle.strip_decoder.specs.WalkAnswers.{IsPicture}
+use Rattle.strip_decoder.specs.Images.{texts_for, IsImageFor, SendsAll}
+use Rattle.strip_decoder.specs.Runs.{Numbers, holds_after}
 use Rattle.strip_decoder.specs.RoundTrip.{ArrivesSame, GivesBack}
 use Rattle.picture_rows.proofs.SameImages as images
-use Rattle.segment_walk.proofs.SublistPictures.{sized_range}
-use Rattle.segment_walk.proofs.WholeImages.{arrives_whole, geometry_reported, number_is}
+use Rattle.strip_decoder.proofs.SublistPictures.{sized_range}
+use Rattle.strip_decoder.proofs.WholeImages.{arrives_whole, geometry_reported, number_is}
 
 module _ (short : TextsAreShort) (read : CodedTextsAreRead) (s : Setting) (rows : ℕ) (x : ℕ → ℕ → ℤ) (is : IsImageFor s rows x) (restore : Bool)
     (received : Numbers) (received_is : ReceivedIn (holds_after (texts_for s restore)) s.apid (output s rows x) received) (sends : SendsAll s) where

@@ -11,12 +11,12 @@ use Rattle.stream_defs.specs.Received.{ReceivedIn}
 use Rattle.stream_defs.specs.Picture.{first_rows, picture_octets}
 use Rattle.stream_defs.specs.Settled.{ready}
 use Rattle.packet_assembly.specs.Readings.{IsReadOut}
-use Rattle.segment_walk.specs.declared.ending.DecodeDone.{DecodeDone}
-use Rattle.segment_walk.specs.declared.ending.DecodeFault.{DecodeFault}
-use Rattle.segment_walk.specs.declared.ending.DecodeFault.TheVariants.{ReadFault, WriteFault, NoSegment, TooManyPixels, LongInput, Memory}
-use Rattle.segment_walk.specs.Runs.{Numbers, holds_after, HasFewKnown, AsksUnanswered}
-use Rattle.segment_walk.specs.Walks.{HasTooMany}
-use Rattle.segment_walk.specs.Answers.{IsPicture}
+use Rattle.strip_decoder.specs.declared.ending.DecodeDone.{DecodeDone}
+use Rattle.strip_decoder.specs.declared.ending.DecodeFault.{DecodeFault}
+use Rattle.strip_decoder.specs.declared.ending.DecodeFault.TheVariants.{ReadFault, WriteFault, NoSegment, TooManyPixels, LongInput, Memory}
+use Rattle.strip_decoder.specs.Runs.{Numbers, holds_after, HasFewKnown, AsksUnanswered}
+use Rattle.strip_decoder.specs.Walks.{HasTooMany}
+use Rattle.strip_decoder.specs.WalkAnswers.{IsPicture}
 
 -- ---- what is given
 

@@ -15,10 +15,10 @@ use Rattle.stream_defs.specs.Fates.{geometry_in}
 use Rattle.stream_defs.specs.Output.{output}
 use Rattle.stream_defs.specs.Picture.{picture, picture_octets, picture_with, whole_picture}
 use Rattle.stream_defs.specs.Received.{ReceivedIn}
-use Rattle.segment_walk.specs.declared.ending.DecodeDone.{DecodeDone}
-use Rattle.segment_walk.specs.Answers.{IsPicture}
-use Rattle.segment_walk.specs.Runs.{Numbers, holds_after}
-use Rattle.segment_walk.specs.Images.{AreWith, AreSome, BeginsOne, ReceivesThose, reported, some_output, texts_for}
+use Rattle.strip_decoder.specs.declared.ending.DecodeDone.{DecodeDone}
+use Rattle.strip_decoder.specs.WalkAnswers.{IsPicture}
+use Rattle.strip_decoder.specs.Runs.{Numbers, holds_after}
+use Rattle.strip_decoder.specs.Images.{AreWith, AreSome, BeginsOne, ReceivesThose, reported, some_output, texts_for}
 
 -- Two images with this number of rows and columns have the same pixels in each row that is in none of these ranges.
 pub record SameOutside (rows width : ℕ) (ranges : List RowRange) (a b : ℕ → ℕ → ℤ) : Type 0 where

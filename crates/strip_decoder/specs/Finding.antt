@@ -6,13 +6,13 @@ use Rattle.segment_defs.specs.TextWish.{unrestored}
 use Rattle.packet_defs.specs.Streams.{left_over, has_bad_version}
 use Rattle.stream_defs.specs.Begun.{HasFewPixels}
 use Rattle.stream_defs.specs.Fates.{geometry_in}
-use Rattle.segment_walk.specs.declared.ending.DecodeDone.{DecodeDone}
-use Rattle.segment_walk.specs.declared.ending.DecodeFault.{DecodeFault}
-use Rattle.segment_walk.specs.declared.ending.DecodeFault.TheVariants.{ReadFault, WriteFault, NoSegment, TooManyPixels, LongInput, Memory}
+use Rattle.strip_decoder.specs.declared.ending.DecodeDone.{DecodeDone}
+use Rattle.strip_decoder.specs.declared.ending.DecodeFault.{DecodeFault}
+use Rattle.strip_decoder.specs.declared.ending.DecodeFault.TheVariants.{ReadFault, WriteFault, NoSegment, TooManyPixels, LongInput, Memory}
 use Rattle.packet_assembly.specs.Readings.{IsReadOut}
-use Rattle.segment_walk.specs.Runs.{HasFewKnown}
-use Rattle.segment_walk.specs.Walks.{HasTooMany}
-use Rattle.segment_walk.specs.Answers.{PictureBy, AsksSilent}
+use Rattle.strip_decoder.specs.Runs.{HasFewKnown}
+use Rattle.strip_decoder.specs.Walks.{HasTooMany}
+use Rattle.strip_decoder.specs.WalkAnswers.{PictureBy, AsksSilent}
 use Rattle.strip_decoder.specs.Lines.{damage_lines}
 
 -- For the octets that were taken the answer is a decoder's, and what is given is the lines of the damage.

@@ -4,3 +4,16 @@ pub mod Lines
 pub mod Finding
 pub mod Containment
 pub mod RoundTrip
+pub mod Sinks
+pub mod WalkSteps
+pub mod Rooms
+pub mod Segments
+pub mod Runs
+pub mod Walks
+pub mod WalkAnswers
+pub mod Laws
+pub mod Images
+pub mod PacketLines
+pub mod ListProgress
+pub mod ListSteps
+pub mod ListAnswers

@@ -12,13 +12,13 @@ use Rattle.picture_rows.proofs.RowsOut.{rows_out}
 use Rattle.picture_rows.proofs.Heights.{rows_of_ended}
 use Rattle.strip_decoder.specs.declared.find.NoPicture.{NoPicture}
 use Rattle.strip_decoder.specs.declared.pictures.PictureSink.{PictureSink}
-use Rattle.segment_walk.specs.Sinks.{Blocks, SinkOf, EndsAt, numbers_in}
+use Rattle.strip_decoder.specs.Sinks.{Blocks, SinkOf, EndsAt, numbers_in}
 
 -- ---- a picture
 
 -- a picture of this geometry that has passed n blocks
 pub record IsValidAt (p : Picture) (g : Geometry) (n : ℕ) : Type 0 where
-  pub current : pictures.IsCurrent (picture_state p)
+  pub current : pictures.IsPictureCurrent (picture_state p)
   pub geometry : p.geometry ≡ g
   pub passed : passed_in (picture_state p) ≡ n
 

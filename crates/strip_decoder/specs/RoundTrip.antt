@@ -8,10 +8,10 @@ use Rattle.raster_rows.specs.Pixels.{raster_octets}
 use Rattle.stream_defs.specs.Output.{output}
 use Rattle.stream_defs.specs.Picture.{whole_picture, whole_octets}
 use Rattle.stream_defs.specs.Received.{ReceivedIn}
-use Rattle.segment_walk.specs.declared.ending.DecodeDone.{DecodeDone}
-use Rattle.segment_walk.specs.Answers.{IsPicture}
-use Rattle.segment_walk.specs.Images.{texts_for, IsImageFor, ArrivesWhole, SendsAll}
-use Rattle.segment_walk.specs.Runs.{Numbers, holds_after}
+use Rattle.strip_decoder.specs.declared.ending.DecodeDone.{DecodeDone}
+use Rattle.strip_decoder.specs.WalkAnswers.{IsPicture}
+use Rattle.strip_decoder.specs.Images.{texts_for, IsImageFor, ArrivesWhole, SendsAll}
+use Rattle.strip_decoder.specs.Runs.{Numbers, holds_after}
 
 -- the picture of these segments is the image
 pub record ArrivesSame (s : Setting) (rows : ℕ) (x : ℕ → ℕ → ℤ) (received : Numbers) : Type 0 where

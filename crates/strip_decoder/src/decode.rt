@@ -4,9 +4,9 @@ ghost use Rattle.plane_defs.specs.Codes.{is_book_sound};
 ghost use Rattle.strip_decoder.specs.Answers.{Decodes};
 
 use crate::pictures::PictureSink;
+use crate::{DecodeDone, DecodeFault, walk_segments};
 use base_122::DecodeWish;
 use port_122::Port;
-use segment_walk::{DecodeDone, DecodeFault, walk_segments};
 use std::alloc::Global;
 
 /// Takes the packets of an APID and gives the picture of the segments that are received, each row as soon as the packets so far

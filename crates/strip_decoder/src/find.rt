@@ -5,12 +5,12 @@ ghost use Rattle.plane_defs.specs.Codes.{is_book_sound};
 ghost use Rattle.strip_decoder.specs.Lines.{range_line, damage_lines};
 ghost use Rattle.strip_decoder.specs.Finding.{Finds};
 
+use crate::{BlockSink, DecodeDone, DecodeFault, walk_segments};
 use arrayvec::ArrayString;
 use base_122::{DecodeWish, Geometry};
 use damage_rows::Damage;
 use itoa::Buffer;
 use port_122::{Failed, Port, write_all};
-use segment_walk::{BlockSink, DecodeDone, DecodeFault, walk_segments};
 use std::alloc::{AllocError, Global};
 use stream_defs::RowRange;
 

@@ -1,8 +1,8 @@
 // A picture is a sink of blocks.
+use crate::BlockSink;
 use base_122::Geometry;
 use picture_rows::{Picture, put_block, put_missing};
 use port_122::{Failed, Port};
-use segment_walk::BlockSink;
 use std::alloc::{AllocError, Global};
 
 /// A sink that gives the rows of a picture, each as soon as the blocks so far determine it.

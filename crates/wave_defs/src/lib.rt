@@ -1,8 +1,8 @@
 //! This crate defines the wavelet transform, with its laws: a line, a level, the ten bands of three levels,
 //! padding, and the numbers of a block.
 //!
-//! Layer: definitions and their laws, no code. It is used by `plane_defs`, `segment_defs`, `stream_defs`, `rect_defs`, `lift_lanes`,
-//! `lift_rows`, `block_families` and 21 more.
+//! Layer: definitions and their laws, no code. It is used by `plane_defs`, `segment_defs`, `stream_defs`, `lift_lanes`, `lift_rows`,
+//! `block_families`, `wave_strip` and 19 more.
 #![tactic(auto)]
 
 ghost use Rattle.wave_defs.specs.Settled.{RowsSettle};

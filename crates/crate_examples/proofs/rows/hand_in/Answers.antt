@@ -26,7 +26,7 @@ returns-clause-given g c image start given is =
     let holds = tall.holds in
     let follows : FollowsRows s image _ =
     record {
-      tall = record { strip = tall.strip; holds = record { blocks = holds.blocks; packets = holds.packets; used = holds.used } };
+      tall = record { strip = tall.strip; holds = record { blocks = holds.blocks; given = holds.given; used = holds.used } };
       any =
           given.follows.any;
     } in

@@ -1,5 +1,5 @@
 use Rattle.std.proofs.Common.{◌∙◌, ap, subst}
-use Rattle.image_info.specs.declared.info.InfoWish.{InfoWish}
+use Rattle.camera_mux.specs.declared.info.InfoWish.{InfoWish}
 use Rattle.strip122.specs.Notes.{Notes}
 use Rattle.strip122.specs.Listing.{informer}
 use Rattle.strip122.proofs.Reports.{list_fault_status, list_fault_line}

@@ -1,7 +1,7 @@
 use Rattle.strip_decoder.proofs.Containing.{contained}
-use Rattle.segment_walk.proofs.SublistPictures.{begun_few, geometry_there}
+use Rattle.strip_decoder.proofs.SublistPictures.{begun_few, geometry_there}
 use Rattle.strip_decoder.proofs.DecodedSublists.{sublist_same}
-use Rattle.segment_walk.proofs.SublistSegments.{receives_those}
+use Rattle.strip_decoder.proofs.SublistSegments.{receives_those}
 use Rattle.strip_decoder.proofs.laws.losses_are_contained.Goals as goal
 
 pub returns : goal.returns

@@ -1,5 +1,5 @@
 use Rattle.strip_decoder.proofs.RoundTrips.{arrives_same, decoded_back}
-use Rattle.segment_walk.proofs.WholeImages.{arrives_whole}
+use Rattle.strip_decoder.proofs.WholeImages.{arrives_whole}
 use Rattle.strip_decoder.proofs.laws.round_trip.Goals as goal
 
 pub returns : goal.returns

@@ -1,6 +1,0 @@
-use Rattle.std.proofs.Common.{refl}
-use Rattle.damage_rects.proofs.Keeping.{begins}
-use Rattle.damage_rects.proofs.gaps.GapsBlockSink.begin.Goals as goal
-
-pub returns : goal.returns
-returns c = begins _ c.args._geometry.now c.requires.range c.requires.height c.new.ensures.items refl refl

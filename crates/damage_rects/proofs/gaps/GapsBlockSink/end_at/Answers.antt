@@ -1,5 +1,0 @@
-use Rattle.damage_rects.proofs.Keeping.{ends}
-use Rattle.damage_rects.proofs.gaps.GapsBlockSink.end_at.Goals as goal
-
-pub returns : goal.returns
-returns c g n at later = ends c.args.self.now g c.args._geometry.now n at later

@@ -1,5 +1,0 @@
-use Rattle.damage_rects.proofs.Keeping.{gaps_of_all}
-use Rattle.damage_rects.proofs.gaps.into_gaps.Goals as goal
-
-pub returns : goal.returns
-returns c = gaps_of_all c.args.sink c.end_gap.new.gaps c.end_gap.ensures.ended (c.if-sink.false)

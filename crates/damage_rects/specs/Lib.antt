@@ -1,4 +1,0 @@
-pub mod GapSinks
-pub mod Sizes
-pub mod Listing
-pub mod Containment

@@ -1,7 +1,0 @@
-use Rattle.std.proofs.Common.{arith}
-use Rattle.std.proofs.lemmas.Grind.{common_steps}
-use Rattle.packet_list.proofs.Readings.{read_fault}
-use Rattle.packet_list.proofs.engine.list_next.Goals as goal
-
-pub returns-in-Err : goal.returns-in-Err
-returns-in-Err g c = grind (arith, common_steps, read_fault)

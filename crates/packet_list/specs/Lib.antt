@@ -1,4 +1,0 @@
-pub mod Lines
-pub mod Progress
-pub mod Steps
-pub mod Answers

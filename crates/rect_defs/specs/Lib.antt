@@ -1,5 +1,0 @@
-pub mod Rects
-pub mod RectLines
-pub mod RectLaws
-pub mod Gaps
-pub mod Worked

@@ -1,9 +1,0 @@
-pub mod Sinks
-pub mod Steps
-pub mod Rooms
-pub mod Segments
-pub mod Runs
-pub mod Walks
-pub mod Answers
-pub mod Laws
-pub mod Images
