@@ -1,21 +1,18 @@
 -- How a look ends, by what it took and gave. This project's own.
-use Rattle.std.specs.Prelude.{◌≡◌, ◌≤◌, ℕ, List, [], length, take, false, None, Some, Result, Ok, Err}
-use Rattle.port_122.specs.Outside.{Outside, Exchange, Rose}
+use Rattle.std.specs.Prelude.{◌≡◌, ◌≤◌, ℕ, List, [], length, take, false, None, Some, Result}
+use Rattle.port_122.specs.Outside.{Outside, Exchange}
 use Rattle.base_122.specs.declared.geometry.Geometry.{Geometry}
 use Rattle.base_122.specs.declared.wish.DecodeWish.{DecodeWish}
 use Rattle.segment_defs.specs.TextWish.{TextWish, text_wish}
-use Rattle.packet_defs.specs.Streams.{left_over, has_bad_version}
-use Rattle.stream_defs.specs.Begun.{HasFewPixels, begun_in, block_rows}
+use Rattle.stream_defs.specs.Begun.{begun_in, block_rows}
 use Rattle.stream_defs.specs.Fates.{geometry_in, state_after}
 use Rattle.stream_defs.specs.Received.{ReceivedIn}
 use Rattle.stream_defs.specs.Settled.{block_rows_before}
-use Rattle.packet_assembly.specs.Readings.{IsReadOut}
 use Rattle.strip_decoder.specs.declared.ending.DecodeDone.{DecodeDone}
 use Rattle.strip_decoder.specs.declared.ending.DecodeFault.{DecodeFault}
-use Rattle.strip_decoder.specs.declared.ending.DecodeFault.TheVariants.{ReadFault, WriteFault, NoSegment, TooManyPixels, LongInput, Memory}
 use Rattle.strip_decoder.specs.WalkAnswers.{PictureBy}
-use Rattle.strip_decoder.specs.Runs.{Numbers, holds_after, HasFewKnown, AsksUnanswered, settled_blocks}
-use Rattle.strip_decoder.specs.Walks.{HasTooMany}
+use Rattle.strip_decoder.specs.Endings.{EndsBy}
+use Rattle.strip_decoder.specs.Runs.{Numbers, holds_after, AsksUnanswered, settled_blocks}
 use Rattle.quick_look.specs.Look.{look_rows, look_octets}
 
 -- ---- what is given
@@ -44,17 +41,9 @@ pub record IsLook (wish : DecodeWish) (start new : Outside) (took gave : List �
 abbrev pub GivesPrefix : DecodeWish → Outside → (took gave : List ℕ) → Type 0
 GivesPrefix wish start took gave = (all : List ℕ) → start.rest ≡ Some all → PrefixLook (text_wish wish) wish.apid took gave
 
--- Why the call ended so. The answers exclude each other by what was taken, the end and the counts, except for faults of the port.
+-- why the call ended so: all of the look is given, or a prefix of it
 abbrev pub LookAnswers : DecodeWish → (old new : Outside) (took gave : List ℕ) → Result DecodeDone DecodeFault → Type 0
-LookAnswers wish old new took gave (Ok done) = IsLook wish old new took gave done
-LookAnswers wish old new took gave (Err NoSegment) = (geometry_in wish.apid took ≡ None) × IsReadOut wish.octets new took × (gave ≡ [])
-LookAnswers wish old new took gave (Err (TooManyPixels pixels)) = HasTooMany wish took gave pixels × GivesPrefix wish old took gave
-LookAnswers wish old new took gave (Err LongInput) = (length took ≡ wish.octets) × (has_bad_version (left_over took) ≡ false)
-    × HasFewPixels wish.pixels wish.apid took × GivesPrefix wish old took gave
-LookAnswers wish old new took gave (Err ReadFault) = Rose old.read_faults new.read_faults × GivesPrefix wish old took gave
-LookAnswers wish old new took gave (Err WriteFault) = Rose old.write_faults new.write_faults × HasFewKnown wish.pixels wish.apid took
-    × GivesPrefix wish old took gave
-LookAnswers wish old new took gave (Err Memory) = gave ≡ []
+LookAnswers wish = EndsBy (IsLook wish) (GivesPrefix wish) (λ old new. GivesPrefix wish old) wish
 
 -- A read call with i octets taken, which do not decide the answer, and j given, if the port reports what is left.
 abbrev pub LookAsks : DecodeWish → Outside → (took gave : List ℕ) → ℕ → ℕ → Type 0

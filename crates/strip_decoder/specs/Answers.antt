@@ -1,22 +1,19 @@
 -- How a decoder ends, by what it took and gave. This project's own.
-use Rattle.std.specs.Prelude.{◌≡◌, ◌≤◌, ℕ, List, [], length, take, false, None, Some, Result, Ok, Err}
-use Rattle.port_122.specs.Outside.{Outside, Exchange, Rose}
+use Rattle.std.specs.Prelude.{◌≡◌, ◌≤◌, ℕ, List, [], length, take, None, Some, Result}
+use Rattle.port_122.specs.Outside.{Outside, Exchange}
 use Rattle.base_122.specs.declared.geometry.Geometry.{Geometry}
 use Rattle.base_122.specs.declared.wish.DecodeWish.{DecodeWish}
 use Rattle.segment_defs.specs.TextWish.{TextWish, text_wish}
-use Rattle.packet_defs.specs.Streams.{left_over, has_bad_version}
-use Rattle.stream_defs.specs.Begun.{HasFewPixels, begun_in, height}
+use Rattle.stream_defs.specs.Begun.{begun_in, height}
 use Rattle.stream_defs.specs.Fates.{geometry_in, state_after}
 use Rattle.stream_defs.specs.Received.{ReceivedIn}
 use Rattle.stream_defs.specs.Picture.{first_rows, picture_octets}
 use Rattle.stream_defs.specs.Settled.{ready}
-use Rattle.packet_assembly.specs.Readings.{IsReadOut}
 use Rattle.strip_decoder.specs.declared.ending.DecodeDone.{DecodeDone}
 use Rattle.strip_decoder.specs.declared.ending.DecodeFault.{DecodeFault}
-use Rattle.strip_decoder.specs.declared.ending.DecodeFault.TheVariants.{ReadFault, WriteFault, NoSegment, TooManyPixels, LongInput, Memory}
-use Rattle.strip_decoder.specs.Runs.{Numbers, holds_after, HasFewKnown, AsksUnanswered}
-use Rattle.strip_decoder.specs.Walks.{HasTooMany}
+use Rattle.strip_decoder.specs.Runs.{Numbers, holds_after, AsksUnanswered}
 use Rattle.strip_decoder.specs.WalkAnswers.{IsPicture}
+use Rattle.strip_decoder.specs.Endings.{EndsBy}
 
 -- ---- what is given
 
@@ -39,17 +36,9 @@ pub record PrefixBy (texts : TextWish) (apid : ℕ) (taken given : List ℕ) : T
 abbrev pub GivesPrefix : DecodeWish → Outside → (took gave : List ℕ) → Type 0
 GivesPrefix wish start took gave = (all : List ℕ) → start.rest ≡ Some all → PrefixBy (text_wish wish) wish.apid took gave
 
--- Why the call ended so. The answers exclude each other by what was taken, the end and the counts, except for faults of the port.
+-- why the call ended so: all of the picture is given, or a prefix of it
 abbrev pub Answers : DecodeWish → (old new : Outside) (took gave : List ℕ) → Result DecodeDone DecodeFault → Type 0
-Answers wish old new took gave (Ok done) = IsPicture wish old new took gave done
-Answers wish old new took gave (Err NoSegment) = (geometry_in wish.apid took ≡ None) × IsReadOut wish.octets new took × (gave ≡ [])
-Answers wish old new took gave (Err (TooManyPixels pixels)) = HasTooMany wish took gave pixels × GivesPrefix wish old took gave
-Answers wish old new took gave (Err LongInput) = (length took ≡ wish.octets) × (has_bad_version (left_over took) ≡ false)
-    × HasFewPixels wish.pixels wish.apid took × GivesPrefix wish old took gave
-Answers wish old new took gave (Err ReadFault) = Rose old.read_faults new.read_faults × GivesPrefix wish old took gave
-Answers wish old new took gave (Err WriteFault) = Rose old.write_faults new.write_faults × HasFewKnown wish.pixels wish.apid took
-    × GivesPrefix wish old took gave
-Answers wish old new took gave (Err Memory) = gave ≡ []
+Answers wish = EndsBy (IsPicture wish) (GivesPrefix wish) (λ old new. GivesPrefix wish old) wish
 
 -- A read call with i octets taken, which do not decide the answer, and j given, if the port reports what is left.
 abbrev pub Asks : DecodeWish → Outside → (took gave : List ℕ) → ℕ → ℕ → Type 0

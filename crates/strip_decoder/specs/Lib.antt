@@ -10,6 +10,7 @@ pub mod Rooms
 pub mod Segments
 pub mod Runs
 pub mod Walks
+pub mod Endings
 pub mod WalkAnswers
 pub mod Laws
 pub mod Images

@@ -5,7 +5,7 @@ use Rattle.base_122.specs.Ranges.{IsGeometryInRange}
 use Rattle.base_122.specs.declared.geometry.Geometry.{Geometry}
 use Rattle.base_122.specs.declared.wish.DecodeWish.{DecodeWish}
 use Rattle.packet_defs.specs.declared.packet.Framing.{Framing}
-use Rattle.packet_defs.specs.Streams.{left_over, has_bad_version, framing}
+use Rattle.packet_defs.specs.Streams.{framing}
 use Rattle.stream_defs.specs.Begun.{HasFewPixels, begun_in, end_of, height, placed}
 use Rattle.stream_defs.specs.Fates.{geometry_in, kept_in}
 use Rattle.stream_defs.specs.Received.{ReceivedIn}
@@ -21,7 +21,8 @@ use Rattle.strip_decoder.specs.declared.ending.DecodeFault.TheVariants.{ReadFaul
 use Rattle.strip_decoder.specs.Sinks.{SinkOf, Numbers, blocks_with}
 use Rattle.strip_decoder.specs.WalkSteps.{Walking, IsCurrent, Follows, passed_in, total_in}
 use Rattle.strip_decoder.specs.Segments.{HasImage}
-use Rattle.strip_decoder.specs.Runs.{holds_after, blocks_passed, HasFewKnown, ReportsMany, reports_last, AsksPassed, PartBy, IsPartOfSome, Run, BreaksRun}
+use Rattle.strip_decoder.specs.Endings.{EndsBy}
+use Rattle.strip_decoder.specs.Runs.{holds_after, blocks_passed, AsksPassed, PartBy, IsPartOfSome, Run, BreaksRun}
 
 -- ---- the steps
 
@@ -114,23 +115,9 @@ pub record IsWalked {S : Type 0} (k : SinkOf S) (wish : DecodeWish) (start new :
 abbrev pub GivesPart : {S : Type 0} → SinkOf S → DecodeWish → Outside → (took gave : List ℕ) → Type 0
 GivesPart k wish start took gave = (all : List ℕ) → start.rest ≡ Some all → PartBy k (text_wish wish) wish.apid took gave
 
--- The first head that reports too many pixels reports this number, and if the packets report the height from the first head on, nothing
--- is given.
-pub record HasTooMany (wish : DecodeWish) (took gave : List ℕ) (pixels : ℕ) : Type 0 where
-  pub many : ReportsMany wish.pixels wish.apid pixels took
-  pub nothing : reports_last many ≡ false → gave ≡ []
-
--- Why the walk ended so. The answers exclude each other by what was taken, the end and the counts, except for faults of the port.
+-- why the walk ended so: all that the sink gives is given, or a part of it
 abbrev pub WalkAnswers : {S : Type 0} → SinkOf S → DecodeWish → (old new : Outside) (took gave : List ℕ) → Result (Walked S) DecodeFault → Type 0
-WalkAnswers k wish old new took gave (Ok walked) = IsWalked k wish old new took gave walked
-WalkAnswers k wish old new took gave (Err NoSegment) = (geometry_in wish.apid took ≡ None) × IsReadOut wish.octets new took × (gave ≡ [])
-WalkAnswers k wish old new took gave (Err (TooManyPixels pixels)) = HasTooMany wish took gave pixels × GivesPart k wish old took gave
-WalkAnswers k wish old new took gave (Err LongInput) = (length took ≡ wish.octets) × (has_bad_version (left_over took) ≡ false)
-    × HasFewPixels wish.pixels wish.apid took × GivesPart k wish old took gave
-WalkAnswers k wish old new took gave (Err ReadFault) = Rose old.read_faults new.read_faults × GivesPart k wish old took gave
-WalkAnswers k wish old new took gave (Err WriteFault) = Rose old.write_faults new.write_faults × HasFewKnown wish.pixels wish.apid took
-    × GivesPart k wish old took gave
-WalkAnswers k wish old new took gave (Err Memory) = gave ≡ []
+WalkAnswers k wish = EndsBy (IsWalked k wish) (GivesPart k wish) (λ old new. GivesPart k wish old) wish
 
 -- the run that a wish asks for, if it begins here
 abbrev pub run_of : DecodeWish → Outside → Run
