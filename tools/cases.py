@@ -13,8 +13,9 @@ import subprocess
 import sys
 import tempfile
 from collections.abc import Iterator
-from concurrent.futures import ThreadPoolExecutor
+from concurrent.futures import ProcessPoolExecutor
 from dataclasses import dataclass, replace
+from functools import partial
 from pathlib import Path
 
 import runs
@@ -458,7 +459,7 @@ def faults(program: str, case: Case, library: str) -> list[str]:
     return [f"{name}: {it}" for name, left in lefts(program, case, octets) for it in differences(left, case)]
 
 
-def tried(program: str, case: Case, library: str) -> list[str]:
+def tried(program: str, library: str, case: Case) -> list[str]:
     try:
         return faults(program, case, library)
     except subprocess.TimeoutExpired:
@@ -468,10 +469,11 @@ def tried(program: str, case: Case, library: str) -> list[str]:
 def report(program: str, cases: list[Case]) -> tuple[int, int]:
     """Runs cases, prints what they show that isn't as it should be, and returns how many passed and failed."""
     passed = failed = 0
-    with tempfile.TemporaryDirectory() as folder, ThreadPoolExecutor(os.cpu_count()) as pool:
+    with tempfile.TemporaryDirectory() as folder, ProcessPoolExecutor(os.cpu_count()) as pool:
         library = runs.call_library(folder) if any(it.counted for it in cases) else None
         ready = [it for it in cases if library or not it.counted]
-        for case, found in zip(ready, pool.map(lambda case: tried(program, case, library or ""), ready)):
+        ready.sort(key=lambda case: not (case.counted and case.counted.in_turn))  # the longest first
+        for case, found in zip(ready, pool.map(partial(tried, program, library or ""), ready)):
             for it in found:
                 print(f"{case.name}: {it}")
             if found:
