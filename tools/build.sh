@@ -12,19 +12,7 @@ cd "$top" || exit
 start=$(date +%s)
 
 # The crates that the program and the library for C are made of, each after those that it uses.
-order='
-{ sub(/#.*/, "") }
-/:/ { split($0, parts, ":"); split(parts[1], head, " "); uses[head[1]] = parts[2] }
-function visit(name,    used, i, n) {
-    if (!(name in uses) || name in seen) return
-    seen[name] = 1
-    n = split(uses[name], used, " ")
-    for (i = 1; i <= n; i++) visit(used[i])
-    print name
-}
-END { visit("strip122"); visit("strip122_c") }'
-
-crates=$(awk "$order" crates.txt)
+crates=$(crates_below strip122 strip122_c) || exit
 count=$(echo "$crates" | wc -l)
 at=0
 for crate in $crates; do

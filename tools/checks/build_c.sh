@@ -8,37 +8,15 @@ find_compilers
 kit=$(dirname "$(dirname "$(realpath "$(command -v rt)")")")
 crate=strip122_c
 
-# Of the crate: `use NAME` for each crate that it names, and `below NAME` for each crate of this repository below it.
-order='
-{ sub(/#.*/, "") }
-/:/ { split($0, parts, ":"); split(parts[1], head, " "); uses[head[1]] = parts[2] }
-function visit(name,    used, i, n) {
-    if (!(name in uses) || name in seen) return
-    seen[name] = 1
-    n = split(uses[name], used, " ")
-    for (i = 1; i <= n; i++) visit(used[i])
-    if (name != crate) print "below", name
-}
-END {
-    visit(crate)
-    n = split(uses[crate], used, " ")
-    for (i = 1; i <= n; i++) print "use", used[i]
-}'
-names=$(awk -v crate="$crate" "$order" "$top/crates.txt") || exit
-
 set -- --extern std="$kit/rlibs/std.rlib" -L dependency="$kit/rlibs"
-while read -r what name; do
+for name in $(crates_below "$crate"); do
+    [ "$name" = "$crate" ] || set -- "$@" -L dependency="../$name/out/rlib"
+done
+for name in $(sed -n "s/^$crate [^:]*://p" "$top/crates.txt"); do
     library=../$name/out/rlib/$name.rlib
-    case $what in
-        below) set -- "$@" -L dependency="${library%/*}" ;;
-        use)
-            [ -d "$top/crates/$name" ] || library=$kit/rlibs/$name.rlib
-            set -- "$@" --extern "$name=$library"
-            ;;
-    esac
-done <<END
-$names
-END
+    [ -d "$top/crates/$name" ] || library=$kit/rlibs/$name.rlib
+    set -- "$@" --extern "$name=$library"
+done
 make_folder
 cd "$top/crates/$crate" && mkdir -p out || exit
 if ! "$kit/bin/rattle" build --crate-name "$crate" --crate-type staticlib src/lib.rt "$@" --antt-project "$kit/rattle/logic/antt-project.json" \
